@@ -1,0 +1,21 @@
+//! The mutex as a state that is stepped by hand: one atomic step at a time, by any schedule.
+#![tactic(auto)]
+
+pub mod after;
+pub mod answers;
+pub mod carrying;
+pub mod kinds;
+pub mod limits;
+pub mod points;
+pub mod running;
+pub mod schedule;
+pub mod seats;
+pub mod stepped;
+pub mod stores;
+
+pub use answers::{Answer, Call, Turn, Why};
+pub use limits::{Limits, MAX_BUDGET, MAX_SEATS};
+pub use running::run;
+pub use schedule::{Act, Line};
+pub use seats::SeatState;
+pub use stepped::State;

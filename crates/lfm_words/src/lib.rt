@@ -1,0 +1,14 @@
+//! What the words of a mutex hold and how it is packed into 64 bits, and the list of popped wait records.
+//! No step and no rule of the protocol lives here.
+#![tactic(auto)]
+
+pub mod handoffs;
+pub mod links;
+pub mod packing_laws;
+pub mod pop_lists;
+pub mod wakes;
+
+pub use handoffs::{Handoff, pack_handoff, unpack_handoff};
+pub use links::{Link, pack_link, unpack_link};
+pub use pop_lists::{PopList, Record};
+pub use wakes::Wake;

@@ -20,9 +20,6 @@ impl Limits {
     pub fn are_allowed(self) -> bool
         ensures { result ≡ are_in_limits self.seats self.budget }
     {
-        1 <= self.seats
-            && self.seats <= MAX_SEATS
-            && 1 <= self.budget
-            && self.budget <= MAX_BUDGET
+        1 <= self.seats && self.seats <= MAX_SEATS && 1 <= self.budget && self.budget <= MAX_BUDGET
     }
 }

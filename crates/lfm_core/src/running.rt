@@ -1,11 +1,10 @@
 //! Lines of a schedule, run on a state.
-ghost use Rattle.std.specs.Prelude.{◌≡◌, IfOk, OnErr};
+ghost use Rattle.std.specs.Prelude.{◌≡◌, length, IfOk, OnErr};
 ghost use Rattle.lfm_core.specs.Lines.{is_open, steps, longest_call, line_moved, lines_core, lines_turns};
 
 use crate::answers::Turn;
 use crate::schedule::{Act, Line};
 use crate::stepped::State;
-use lfm_model::{Asked, How, Locked, Refusal, Unlocked};
 use std::alloc::{AllocError, Global};
 
 impl Turn {
@@ -49,6 +48,17 @@ impl State {
     }
 }
 
+/// Runs the lines in their order and writes the last turn of each.
+fn follow_all(state: &mut State, lines: &[Line], turns: &mut [Turn])
+    requires { length turns.old ≡ length lines.now }
+    ensures core { state.new ≡ lines_core state.old lines.now }
+    ensures turns { turns.new ≡ lines_turns state.old lines.now }
+{
+    for (index, line) in lines.iter().enumerate() {
+        turns[index] = state.follow(line);
+    }
+}
+
 /// Runs the lines in their order and gives the last turn of each. It makes one request for memory, of just the size that
 /// is needed, before the first line is run: after want of memory the state is unchanged.
 pub fn run(alloc: Global, state: &mut State, lines: &[Line]) -> Result<Vec<Turn>, AllocError>
@@ -56,10 +66,7 @@ pub fn run(alloc: Global, state: &mut State, lines: &[Line]) -> Result<Vec<Turn>
     ensures turns { IfOk result (λ turns. turns.items ≡ lines_turns state.old lines.now) }
     ensures unchanged { OnErr result (state.new ≡ state.old) }
 {
-    let mut turns = Vec::with_capacity(alloc, lines.len())?;
-    for line in lines {
-        let turn = state.follow(line);
-        turns.push_reserved(turn);
-    }
+    let mut turns = vec![in alloc; Turn::Open; lines.len()]?;
+    follow_all(state, lines, turns.as_mut_slice());
     Ok(turns)
 }

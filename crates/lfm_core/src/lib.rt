@@ -4,6 +4,7 @@
 pub mod after;
 pub mod answers;
 pub mod carrying;
+mod chains;
 pub mod kinds;
 pub mod limits;
 pub mod points;

@@ -1,3 +1,10 @@
+pub mod Cutting
+pub mod Decoding
+pub mod LineCount
 pub mod Lines
+pub mod Numbers
+pub mod Plans
+pub mod Reading
 pub mod SeatLaws
+pub mod Spelled
 pub mod Walks

@@ -11,3 +11,6 @@ pub mod Whole
 pub mod Lines
 pub mod Queue
 pub mod Place
+pub mod Text
+pub mod Grammar
+pub mod Spelling

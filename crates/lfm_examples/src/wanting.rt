@@ -4,7 +4,7 @@ use lfm_core::{Call, ReplayFault, State, Turn, read_schedule, replay, run};
 use lfm_model::NewFault;
 use lfm_words::PopList;
 
-const SCHEDULE: &[u8; 47] = b"seats 2\n1 lock\n1 *\n2 lock\n2 .\n1 unlock\n1 *\n2 *";
+const SCHEDULE: &[u8; 46] = b"seats 2\n1 lock\n1 *\n2 lock\n2 .\n1 unlock\n1 *\n2 *";
 
 #[test]
 fn pop_list_and_memory(rt: HostRuntime) {

@@ -1,0 +1,166 @@
+//! Readers and writers that fail, and what a replay makes of them.
+use lfm_core::{ReplayFault, replay};
+use std::io;
+use std::io::{ErrorKind, Read, Write};
+
+/// The schedule of a post that the locker takes.
+const INPUT: &[u8; 46] = b"seats 2\n1 lock\n1 *\n2 lock\n2 .\n1 unlock\n1 *\n2 *";
+
+/// Its trace.
+const OUTPUT: &[u8; 252] = b"1 seats 2 | 0 0 0 free -\n2 1 begins | 0 0 0 free -\n3 1 ends Held Free | 1 1 0 owner.1 -\n4 2 begins | 1 1 0 owner.1 -\n5 2 goes on | 2 1 0 owner.1 -\n6 1 begins | 2 1 0 owner.1 -\n7 1 ends Posted | 1 0 1.1 posted -\n8 2 ends Held Queued 1 | 1 2 0 owner.2 -\n";
+
+/// Gives its bytes one at a time, and fails at the read that comes after `reads` others.
+#[derive(Drop)]
+struct FailingReader<'a> {
+    bytes: &'a [u8],
+    reads: u64,
+}
+
+impl Read for FailingReader<'_> {
+    fn read(&mut self, buf: &mut [u8]) -> io::Result<usize> {
+        if self.reads == 0 {
+            return Err(io::Error::from(ErrorKind::Interrupted));
+        }
+        self.reads -= 1;
+        match (self.bytes.split_first(), buf.first_mut()) {
+            (Some((byte, rest)), Some(place)) => {
+                *place = *byte;
+                self.bytes = rest;
+                Ok(1)
+            }
+            _ => Ok(0),
+        }
+    }
+}
+
+/// Gives this byte without end.
+#[derive(Drop)]
+struct EndlessReader {
+    byte: u8,
+}
+
+impl Read for EndlessReader {
+    fn read(&mut self, buf: &mut [u8]) -> io::Result<usize> {
+        buf.fill(self.byte);
+        Ok(buf.len())
+    }
+}
+
+/// Gives line feeds, and fails after so many reads.
+#[derive(Drop)]
+struct LineFeeds {
+    reads: u64,
+}
+
+impl Read for LineFeeds {
+    fn read(&mut self, buf: &mut [u8]) -> io::Result<usize> {
+        if self.reads == 0 {
+            return Err(io::Error::from(ErrorKind::Other));
+        }
+        self.reads -= 1;
+        buf.fill(b'\n');
+        Ok(buf.len())
+    }
+}
+
+/// How a writer fails that has no room left.
+#[derive(Clone, Copy)]
+enum Failure {
+    Error,
+    TakesNothing,
+}
+
+/// Takes three bytes at a time, and fails once it has `room` bytes.
+#[derive(Drop)]
+struct FailingWriter {
+    bytes: Vec<u8>,
+    room: usize,
+    failure: Failure,
+}
+
+impl Write for FailingWriter {
+    fn write(&mut self, buf: &[u8]) -> io::Result<usize> {
+        let left = self.room.saturating_sub(self.bytes.len());
+        let count = buf.len().min(3).min(left);
+        if count == 0 {
+            return match self.failure {
+                Failure::Error => Err(io::Error::from(ErrorKind::Other)),
+                Failure::TakesNothing => Ok(0),
+            };
+        }
+        self.bytes.extend_from_slice(&buf[..count])?;
+        Ok(count)
+    }
+
+    fn flush(&mut self) -> io::Result<()> {
+        Ok(())
+    }
+}
+
+#[test]
+fn replays_with_ample_room(rt: HostRuntime) {
+    let mut reader = INPUT.as_slice();
+    let mut written = Vec::new(rt.alloc());
+    assert_eq!(rt; replay(rt.alloc(), &mut reader, &mut written), Ok(true));
+    assert_eq!(rt; written.as_slice(), OUTPUT.as_slice());
+}
+
+#[test]
+fn tells_of_a_refused_line(rt: HostRuntime) {
+    let mut reader = b"seats 1\n1 unlock\n1 .".as_slice();
+    let mut written = Vec::new(rt.alloc());
+    assert_eq!(rt; replay(rt.alloc(), &mut reader, &mut written), Ok(false));
+    let trace = b"1 seats 1 | 0 0 0 free -\n2 1 refused NotOwner | 0 0 0 free -\n3 1 refused Idle | 0 0 0 free -\n";
+    assert_eq!(rt; written.as_slice(), trace.as_slice());
+}
+
+#[test]
+fn fails_at_each_read(rt: HostRuntime) {
+    for reads in 0..=INPUT.len() as u64 {
+        let mut reader = FailingReader {
+            bytes: INPUT.as_slice(),
+            reads,
+        };
+        let mut written = Vec::new(rt.alloc());
+        let outcome = replay(rt.alloc(), &mut reader, &mut written);
+        assert_eq!(rt; outcome, Err(ReplayFault::Read));
+        assert!(rt; written.is_empty());
+    }
+}
+
+#[test]
+fn fails_after_each_written_byte(rt: HostRuntime) {
+    for failure in [Failure::Error, Failure::TakesNothing] {
+        for room in 0..OUTPUT.len() {
+            let mut reader = INPUT.as_slice();
+            let mut writer = FailingWriter {
+                bytes: Vec::new(rt.alloc()),
+                room,
+                failure,
+            };
+            let outcome = replay(rt.alloc(), &mut reader, &mut writer);
+            assert_eq!(rt; outcome, Err(ReplayFault::Write));
+            assert_eq!(rt; writer.bytes.as_slice(), &OUTPUT[..room]);
+        }
+    }
+}
+
+#[test]
+fn ends_an_endless_input(rt: HostRuntime) {
+    for byte in [0, b'\n', b'1'] {
+        let mut written = Vec::new(rt.alloc());
+        let outcome = replay(rt.alloc(), &mut EndlessReader { byte }, &mut written);
+        assert_eq!(rt; outcome, Err(ReplayFault::Limit));
+        assert_eq!(rt; written.as_slice(), b"fault Limit\n".as_slice());
+    }
+}
+
+#[test]
+fn stops_at_the_first_byte_of_a_line_too_many(rt: HostRuntime) {
+    // 16 reads of 4,096 line feeds are 65,536 lines; the 17th read has a byte of one line more
+    let mut written = Vec::new(rt.alloc());
+    let outcome = replay(rt.alloc(), &mut LineFeeds { reads: 17 }, &mut written);
+    assert_eq!(rt; outcome, Err(ReplayFault::Limit));
+    let outcome = replay(rt.alloc(), &mut LineFeeds { reads: 16 }, &mut written);
+    assert_eq!(rt; outcome, Err(ReplayFault::Read));
+}

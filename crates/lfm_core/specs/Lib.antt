@@ -11,3 +11,7 @@ pub mod Whole
 pub mod Lines
 pub mod Queue
 pub mod Place
+pub mod Text
+pub mod Grammar
+pub mod Taking
+pub mod Writing

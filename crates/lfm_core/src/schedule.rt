@@ -1,20 +1,226 @@
-//! What a schedule is.
-use crate::answers::Call;
+//! What a schedule is, and how it is read from its bytes.
 
-/// What a line of a schedule asks of its seat.
+ghost use Rattle.std.specs.Prelude.{◌≡◌, ◌≤◌, ◌<◌, length, All, IfOk};
+ghost use Rattle.lfm_core.specs.Text.{lines_of, words_of, max_lines};
+ghost use Rattle.lfm_core.specs.Grammar.{plain_act_of, act_of, send_of, line_of, header_of, lines_from, are_in_limits, max_seats, max_budget, plan_of, plan_in, Gives, HasFewSteps};
+
+use crate::answers::Call;
+use crate::parsing::{Words, count_lines, first_line, read_number, split_words};
+use std::alloc::Global;
+use thiserror::Error;
+
+/// The most bytes that a schedule may have.
+pub const MAX_BYTES: usize = 1_048_576;
+
+/// The most lines that a schedule may have, the first one among them.
+pub const MAX_LINES: usize = 65_536;
+
+/// The most seats.
+pub const MAX_SEATS: u64 = 4_095;
+
+/// The largest budget of a seat, and the one that is taken where the first line names none.
+pub const MAX_BUDGET: u64 = 68_719_476_736;
+
+/// What a line of a schedule has its seat do.
 #[derive(Clone, Copy, Debug, PartialEq, Eq)]
 pub enum Act {
-    /// Begins a call.
+    /// The seat begins this call.
     Begin(Call),
-    /// Makes up to this many steps, 1 to 999, stopping where the call ends.
+    /// The seat makes up to this number of steps, from 1 to 999, and stops where its call ends.
     Steps(u64),
-    /// Makes steps until the call ends.
+    /// The seat makes steps until its call ends.
     ToEnd,
 }
 
-/// A line of a schedule: a seat's number as it stands there, and what the seat does.
+/// A line of a schedule after the first.
 #[derive(Clone, Copy, Debug, PartialEq, Eq)]
 pub struct Line {
+    /// The number of the seat as it was written, below 10^18: there may be no such seat.
     pub seat: u64,
+    /// What the seat does.
     pub act: Act,
+}
+
+/// A schedule: how many seats there are, and what they do in turn.
+#[derive(Debug, Drop)]
+pub struct Schedule {
+    /// The number of seats: 1 to 4,095 in a schedule that was read.
+    pub seats: u64,
+    /// The budget of each seat: 1 to 2^36 in a schedule that was read.
+    pub budget: u64,
+    /// The lines after the first, in order: fewer than 65,536 in a schedule that was read.
+    pub lines: Vec<Line>,
+}
+
+/// Why no schedule was read or replayed to its end.
+#[derive(Clone, Copy, Debug, PartialEq, Eq, Drop, Error)]
+pub enum ReplayFault {
+    /// The line of this number, counted from 1, is none that a schedule may have there.
+    #[error("line {0} is not a line of a schedule")]
+    Syntax(u64),
+    /// The input has too many bytes or lines, or the first line names a number that is out of range.
+    #[error("the schedule is past a limit")]
+    Limit,
+    /// The reader failed.
+    #[error("read fault")]
+    Read,
+    /// The writer failed, or took no byte.
+    #[error("write fault")]
+    Write,
+    /// A request for memory was refused.
+    #[error("out of memory")]
+    Memory,
+}
+
+/// What one word says that is no number of steps.
+fn read_plain_act(word: &[u8]) -> Option<Act>
+    ensures { result ≡ plain_act_of word.now }
+{
+    if word == b".".as_slice() {
+        Some(Act::Steps(1))
+    } else if word == b"*".as_slice() {
+        Some(Act::ToEnd)
+    } else if word == b"lock".as_slice() {
+        Some(Act::Begin(Call::Lock))
+    } else if word == b"try_lock".as_slice() {
+        Some(Act::Begin(Call::TryLock))
+    } else if word == b"unlock".as_slice() {
+        Some(Act::Begin(Call::Unlock))
+    } else if word == b"start_wait".as_slice() {
+        Some(Act::Begin(Call::StartWait))
+    } else if word == b"receive".as_slice() {
+        Some(Act::Begin(Call::Receive))
+    } else {
+        None
+    }
+}
+
+/// What one word after the seat says.
+fn read_act(word: &[u8]) -> Option<Act>
+    ensures { result ≡ act_of word.now }
+{
+    match word {
+        [b'+', digits @ ..] => match read_number(digits) {
+            Some(count) if 1 <= count && count <= 999 => Some(Act::Steps(count)),
+            _ => None,
+        },
+        _ => read_plain_act(word),
+    }
+}
+
+/// What three words say: a seat's `send_lock` and its target.
+fn read_send(seat: &[u8], call: &[u8], target: &[u8]) -> Option<Line>
+    ensures { result ≡ send_of seat.now call.now target.now }
+{
+    if call != b"send_lock".as_slice() {
+        return None;
+    }
+    let seat = read_number(seat)?;
+    let target = read_number(target)?;
+    Some(Line {
+        seat,
+        act: Act::Begin(Call::SendLock(target)),
+    })
+}
+
+/// What a line after the first says. `None` where it is no line of a schedule.
+fn read_line(text: &[u8]) -> Option<Line>
+    ensures { result ≡ line_of (words_of text.now) }
+{
+    match split_words(text) {
+        Words::Two(seat, act) => {
+            let seat = read_number(seat)?;
+            let act = read_act(act)?;
+            Some(Line { seat, act })
+        }
+        Words::Three(seat, call, target) => read_send(seat, call, target),
+        Words::Other => None,
+    }
+}
+
+/// The number of seats and the budget that the first line names. `None` where it is no such line.
+fn read_header(text: &[u8]) -> Option<(u64, u64)>
+    ensures { result ≡ header_of (words_of text.now) }
+{
+    let (word, seats, budget) = match split_words(text) {
+        Words::Two(word, seats) => (word, seats, None),
+        Words::Three(word, seats, budget) => (word, seats, Some(budget)),
+        Words::Other => return None,
+    };
+    if word != b"seats".as_slice() {
+        return None;
+    }
+    let seats = read_number(seats)?;
+    match budget {
+        Some(budget) => Some((seats, read_number(budget)?)),
+        None => Some((seats, MAX_BUDGET)),
+    }
+}
+
+/// What the lines of a text say, the first of which has number 2, or the fault of the first that says nothing.
+/// Asks for memory once, for `count` lines.
+fn read_lines(alloc: Global, text: &[u8], count: usize) -> Result<Vec<Line>, ReplayFault>
+    requires counted { length (lines_of text.now) ≡ count }
+    requires few { count < max_lines }
+    ensures said { Gives (λ v. v.items) result (lines_from 2 (lines_of text.now)) }
+    ensures all { IfOk result (λ v. length v.items ≡ count) }
+{
+    let mut lines = Vec::with_capacity(alloc, count).map_err(|_| ReplayFault::Memory)?;
+    let mut rest = text;
+    let mut number = 2;
+    'reading: while let Some((line, after)) = first_line(rest) {
+        match read_line(line) {
+            Some(line) => lines.push_reserved(line),
+            None => return Err(ReplayFault::Syntax(number)),
+        }
+        rest = after;
+        number += 1;
+    }
+    Ok(lines)
+}
+
+/// Whether there may be so many seats with such a budget.
+fn are_in_limits(seats: u64, budget: u64) -> bool
+    ensures { result ≡ are_in_limits seats budget }
+{
+    1 <= seats && seats <= MAX_SEATS && 1 <= budget && budget <= MAX_BUDGET
+}
+
+/// Reads a schedule from its bytes.
+///
+/// Limit where there are more than 1,048,576 bytes or more than 65,536 lines. Then Syntax with the number, from 1, of
+/// the first line that is no line of a schedule; a text without lines is Syntax 1. Then Limit where the number of seats
+/// is outside 1 to 4,095 or the budget outside 1 to 2^36.
+///
+/// Asks for memory at most once, for the lines: Memory where that is refused. Never Read or Write.
+pub fn read_schedule(alloc: Global, text: &[u8]) -> Result<Schedule, ReplayFault>
+    ensures exact { Gives plan_of result (plan_in text.now) }
+    ensures few { IfOk result (λ s. length s.lines.items < max_lines) }
+    ensures seats { IfOk result (λ s. (1 ≤ s.seats) × (s.seats ≤ max_seats)) }
+    ensures budget { IfOk result (λ s. (1 ≤ s.budget) × (s.budget ≤ max_budget)) }
+    ensures steps { IfOk result (λ s. All (λ l. HasFewSteps l.act) s.lines.items) }
+{
+    if text.len() > MAX_BYTES {
+        return Err(ReplayFault::Limit);
+    }
+    let count = count_lines(text);
+    if count > MAX_LINES {
+        return Err(ReplayFault::Limit);
+    }
+    let Some((first, rest)) = first_line(text) else {
+        return Err(ReplayFault::Syntax(1));
+    };
+    let Some((seats, budget)) = read_header(first) else {
+        return Err(ReplayFault::Syntax(1));
+    };
+    let lines = read_lines(alloc, rest, count - 1)?;
+    if are_in_limits(seats, budget) {
+        Ok(Schedule {
+            seats,
+            budget,
+            lines,
+        })
+    } else {
+        Err(ReplayFault::Limit)
+    }
 }

@@ -5,3 +5,4 @@ pub mod Reading
 pub mod SeatLaws
 pub mod Taking
 pub mod Writes
+pub mod Walks

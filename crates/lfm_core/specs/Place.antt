@@ -3,7 +3,6 @@ use Rattle.std.specs.Prelude.{ℕ, Bool, true, false, ◌+◌, Option, Some, Non
 use Rattle.std.specs.List.{zip}
 use Rattle.lfm_core.specs.declared.points.Point.{Point}
 use Rattle.lfm_core.specs.declared.points.Point.TheVariants.{TryCountAdd, SendWakeStore, ReleaseCountSubtract, ReleaseHandoffStore, TakeClearHead, TakeLinkLoad, GrantWakeStore, EnterOwnerStore, ReceiveWakeStore}
-use Rattle.lfm_core.specs.declared.seats.SeatState.{SeatState}
 use Rattle.lfm_model.specs.declared.answers.Place.{Place}
 use Rattle.lfm_model.specs.declared.answers.Place.TheVariants.{Free, Owner, Passed, Posted, Carried}
 use Rattle.lfm_words.specs.declared.wakes.Wake.{Wake}

@@ -1,6 +1,6 @@
 -- The numbers of a seat's next step fit their words, and its seats are there. So that no state that was not reached by
 -- calls and steps can make a number wrap, a step tests this before it is made.
-use Rattle.std.specs.Prelude.{ℕ, Bool, true, ◌≡◌, ◌+◌, ◌^◌, ◌<◌, ◌≤◌, ◌&&◌, Option, Some, length, nat_lt}
+use Rattle.std.specs.Prelude.{ℕ, Bool, true, ◌+◌, ◌^◌, ◌<◌, ◌≤◌, ◌&&◌, Option, Some, length, nat_lt}
 use Rattle.lfm_core.specs.declared.kinds.Kind.{Kind}
 use Rattle.lfm_core.specs.declared.kinds.Kind.TheVariants.{CountAdd, CountSubtract, LinkLoad}
 use Rattle.lfm_core.specs.declared.points.Point.{Point}

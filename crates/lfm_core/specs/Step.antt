@@ -1,5 +1,5 @@
 -- The turns of a whole state: the operation of the kind on its word, then the seat's own step.
-use Rattle.std.specs.Prelude.{ℕ, ◌+◌, ◌-◌, Bool, ◌&&◌, Option, Some, None, [], length, replicate, nat_eq, nat_lt, if◌then◌else◌}
+use Rattle.std.specs.Prelude.{ℕ, ◌+◌, ◌-◌, Option, Some, None, [], replicate, nat_eq, if◌then◌else◌}
 use Rattle.lfm_core.specs.declared.answers.Call.{Call}
 use Rattle.lfm_core.specs.declared.answers.Why.TheVariants.{NoSuchSeat, Idle}
 use Rattle.lfm_core.specs.declared.kinds.Kind.{Kind}

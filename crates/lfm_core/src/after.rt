@@ -106,6 +106,7 @@ impl SeatState {
 
 /// How each kind of step moves the seat on.
 impl SeatState {
+    /// Has exchanged the count word from 0 to 1, or found another count.
     pub fn after_count_exchange(&mut self, found: u64) -> Turn
         ensures seat { self.new ≡ (after_count_exchange self.old found).seat }
         ensures turn { result ≡ (after_count_exchange self.old found).turn }
@@ -120,6 +121,7 @@ impl SeatState {
         }
     }
 
+    /// Has added 1 to the count word, which held this before.
     pub fn after_count_add(&mut self, found: u64) -> Turn
         ensures seat { self.new ≡ (after_count_add self.old found).seat }
         ensures turn { result ≡ (after_count_add self.old found).turn }
@@ -137,6 +139,7 @@ impl SeatState {
         }
     }
 
+    /// Has subtracted 1 from the count word, which held this before. `oldest` is the pop list's oldest record.
     pub fn after_count_subtract(&mut self, s: u64, found: u64, oldest: Option<Record>) -> Turn
         requires { HasNumbers self.old self.old.point }
         ensures seat { self.new ≡ (after_count_subtract self.old s found oldest).seat }
@@ -155,6 +158,7 @@ impl SeatState {
         }
     }
 
+    /// Has found this seat in the owner word.
     pub fn after_owner_load(&mut self, s: u64, found: u64) -> Turn
         requires { HasNumbers self.old self.old.point }
         ensures seat { self.new ≡ (after_owner_load self.old s found).seat }
@@ -171,6 +175,7 @@ impl SeatState {
         }
     }
 
+    /// Has stored `stored_owner` in the owner word.
     pub fn after_owner_store(&mut self) -> Turn
         ensures seat { self.new ≡ (after_owner_store self.old).seat }
         ensures turn { result ≡ (after_owner_store self.old).turn }
@@ -188,6 +193,7 @@ impl SeatState {
         }
     }
 
+    /// Has found this in the push word.
     pub fn after_push_load(&mut self, found: Link) -> Turn
         ensures seat { self.new ≡ (after_push_load self.old found).seat }
         ensures turn { result ≡ (after_push_load self.old found).turn }
@@ -210,6 +216,7 @@ impl SeatState {
         }
     }
 
+    /// Has exchanged the push word from `expected_push` to `exchanged_push`, or found something else.
     pub fn after_push_exchange(&mut self, found: Link) -> Turn
         ensures seat { self.new ≡ (after_push_exchange self.old found).seat }
         ensures turn { result ≡ (after_push_exchange self.old found).turn }
@@ -226,6 +233,7 @@ impl SeatState {
         }
     }
 
+    /// Has cleared the head of the push word, which held this before.
     pub fn after_clear_head(&mut self, found: Link) -> Turn
         ensures seat { self.new ≡ (after_clear_head self.old found).seat }
         ensures turn { result ≡ (after_clear_head self.old found).turn }
@@ -236,6 +244,7 @@ impl SeatState {
         }
     }
 
+    /// Has found this in the link word of the seat at its point, whose record joins the pop list as the oldest.
     pub fn after_link_load(&mut self, s: u64, found: Link) -> Turn
         requires { HasNumbers self.old self.old.point }
         ensures seat { self.new ≡ (after_link_load self.old s found).seat }
@@ -252,6 +261,7 @@ impl SeatState {
         }
     }
 
+    /// Has stored `stored_link` in the link word of the seat that it pushes.
     pub fn after_link_store(&mut self) -> Turn
         ensures seat { self.new ≡ (after_link_store self.old).seat }
         ensures turn { result ≡ (after_link_store self.old).turn }
@@ -262,6 +272,7 @@ impl SeatState {
         }
     }
 
+    /// Has found this in the handoff word.
     pub fn after_handoff_load(&mut self, found: Handoff) -> Turn
         requires { HasNumbers self.old self.old.point }
         ensures seat { self.new ≡ (after_handoff_load self.old found).seat }
@@ -276,6 +287,7 @@ impl SeatState {
         }
     }
 
+    /// Has stored `stored_handoff` in the handoff word.
     pub fn after_handoff_store(&mut self) -> Turn
         requires { HasNumbers self.old self.old.point }
         ensures seat { self.new ≡ (after_handoff_store self.old).seat }
@@ -290,6 +302,8 @@ impl SeatState {
         }
     }
 
+    /// Has exchanged the handoff word from `expected_handoff` to none, or found something else. `oldest` is the pop
+    /// list's oldest record, which is asked for only where the exchange succeeded.
     pub fn after_handoff_exchange(&mut self, s: u64, found: Handoff, oldest: Option<Record>) -> Turn
         requires { HasNumbers self.old self.old.point }
         ensures seat { self.new ≡ (after_handoff_exchange self.old s found oldest).seat }
@@ -311,6 +325,7 @@ impl SeatState {
         }
     }
 
+    /// Has found this in its own wake word.
     pub fn after_wake_load(&mut self, found: Wake) -> Turn
         ensures seat { self.new ≡ (after_wake_load self.old found).seat }
         ensures turn { result ≡ (after_wake_load self.old found).turn }
@@ -327,6 +342,7 @@ impl SeatState {
         }
     }
 
+    /// Has stored `stored_wake` in the wake word of the seat that its point names.
     pub fn after_wake_store(&mut self) -> Turn
         ensures seat { self.new ≡ (after_wake_store self.old).seat }
         ensures turn { result ≡ (after_wake_store self.old).turn }
@@ -345,6 +361,7 @@ impl SeatState {
         }
     }
 
+    /// Has exchanged its target's wake word from WAITING to CLAIMED, or found another state.
     pub fn after_wake_exchange(&mut self, found: Wake) -> Turn
         ensures seat { self.new ≡ (after_wake_exchange self.old found).seat }
         ensures turn { result ≡ (after_wake_exchange self.old found).turn }

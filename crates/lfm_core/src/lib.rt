@@ -4,6 +4,7 @@
 pub mod after;
 pub mod answers;
 pub mod carrying;
+mod chains;
 mod input;
 pub mod kinds;
 pub mod limits;

@@ -1,5 +1,4 @@
-use Rattle.std.proofs.Common.{rules, tests, ◌≡◌, ◌∙◌, ◌-◌, sym, ap, arith}
-use Rattle.lfm_core.specs.Core.{Moved}
+use Rattle.std.proofs.Common.{rules, tests, ◌∙◌, ◌-◌, sym, ap, arith}
 use Rattle.lfm_core.proofs.Lines.{steps-stop, steps-on}
 use Rattle.lfm_core.proofs.stepped.State.steps.Goals as goal
 

@@ -1,0 +1,76 @@
+//! What the program does with its arguments. What it reads goes to the core, and what the core answers to the shell.
+use lfm_core::{ReplayFault, replay};
+use lfm_program::replay_status;
+use std::alloc::Global;
+use std::io::{BufWriter, ErrorKind, Input};
+use std::rt::Env;
+use std::{env, io};
+
+/// The status of a command line that asks for nothing the program does.
+const USAGE: u8 = 2;
+
+/// What the command line asks for.
+enum Request {
+    /// The replay of a schedule.
+    Replay,
+    /// Something else.
+    Other,
+    /// Nothing can be told: the arguments themselves found no memory.
+    Unread,
+}
+
+/// Does what the command line asks for, and gives the exit status. Messages go to standard error.
+pub fn run<R: Env + AllocGlobal + Input + Print + Eprint>(rt: &R) -> u8 {
+    match requested(rt) {
+        Request::Replay => {
+            let outcome = replay_streams(rt);
+            explain(rt, &outcome);
+            replay_status(&outcome)
+        }
+        Request::Other => {
+            let _ = rt.eprintln("usage: lfm replay | lfm work");
+            USAGE
+        }
+        Request::Unread => {
+            let outcome = Err(ReplayFault::Memory);
+            explain(rt, &outcome);
+            replay_status(&outcome)
+        }
+    }
+}
+
+/// Replays standard input into standard output.
+fn replay_streams<R: AllocGlobal + Input + Print>(rt: &R) -> Result<bool, ReplayFault> {
+    let alloc: Global = rt.alloc();
+    let Ok(mut writer) = BufWriter::new(alloc, io::writer(rt)) else {
+        return Err(ReplayFault::Memory);
+    };
+    replay(alloc, &mut rt.reader(), &mut writer)
+}
+
+fn requested<R: Env + AllocGlobal>(rt: &R) -> Request {
+    let mut words = match env::args(rt) {
+        Ok(words) => words,
+        Err(error) if error.kind() == ErrorKind::OutOfMemory => return Request::Unread,
+        Err(_) => return Request::Other,
+    };
+    let _name = words.next();
+    let (Some(word), None) = (words.next(), words.next()) else {
+        return Request::Other;
+    };
+    match word.as_str() {
+        "replay" => Request::Replay,
+        _ => Request::Other,
+    }
+}
+
+/// Says on standard error what kept a replay from its end.
+fn explain<R: Eprint>(rt: &R, outcome: &Result<bool, ReplayFault>) {
+    let message = match outcome {
+        Err(ReplayFault::Read) => "lfm: read fault",
+        Err(ReplayFault::Write) => "lfm: write fault",
+        Err(ReplayFault::Memory) => "lfm: out of memory",
+        _ => return,
+    };
+    let _ = rt.eprintln(message);
+}

@@ -1,0 +1,14 @@
+-- The exit statuses of the program.
+use Rattle.std.specs.Prelude.{ℕ, Bool, true, false, Result, Ok, Err}
+use Rattle.lfm_core.specs.declared.schedule.ReplayFault.{ReplayFault}
+use Rattle.lfm_core.specs.declared.schedule.ReplayFault.TheVariants.{Syntax, Limit, Read, Write, Memory}
+
+-- what a replay tells the shell
+abbrev pub replay_status : Result Bool ReplayFault → ℕ
+replay_status (Ok true) = 0
+replay_status (Ok false) = 1
+replay_status (Err (Syntax n)) = 1
+replay_status (Err Limit) = 1
+replay_status (Err Read) = 3
+replay_status (Err Write) = 3
+replay_status (Err Memory) = 4

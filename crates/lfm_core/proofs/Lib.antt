@@ -1,6 +1,7 @@
 pub mod Cutting
 pub mod LineCount
 pub mod Lines
+pub mod Queued
 pub mod Reading
 pub mod SeatLaws
 pub mod Taking

@@ -15,3 +15,4 @@ pub mod Text
 pub mod Grammar
 pub mod Taking
 pub mod Writing
+pub mod Trace

@@ -4,7 +4,7 @@ use Rattle.std.specs.Io.KnownBytes.{Appends}
 use Rattle.lfm_core.specs.declared.schedule.ReplayFault.{ReplayFault}
 use Rattle.lfm_core.specs.declared.schedule.ReplayFault.TheVariants.{Write}
 
--- the text of parts, one after another; it stays closed in proofs, so that the parts stay apart there
+-- The text of parts, one after another. Proofs see its body only where they ask for it, so the parts stay apart in goals.
 unfoldable pub joined : List (List ℕ) → List ℕ
 joined [] = []
 joined (part ∷ parts) = part ++ joined parts
@@ -17,10 +17,10 @@ pub record AppendsFront (old new : Option (List ℕ)) (text : List ℕ) : Type 0
   pub appended : Appends old new front
 
 -- all of a text is written, or a front of it where the writer fails
-abbrev pub Outcome : Option (List ℕ) → Option (List ℕ) → List ℕ → Result (Unit {0}) ReplayFault → Type 0
-Outcome old new text (Ok x) = Appends old new text
+abbrev pub Outcome : {T : Type 0} → Option (List ℕ) → Option (List ℕ) → List ℕ → Result T ReplayFault → Type 0
+Outcome old new text (Ok answer) = Appends old new text
 Outcome old new text (Err fault) = (fault ≡ Write) × AppendsFront old new text
 
 -- what came of writing a text
-pub record Writes (old new : Option (List ℕ)) (text : List ℕ) (result : Result (Unit {0}) ReplayFault) : Type 0 where
+pub record Writes {T : Type 0} (old new : Option (List ℕ)) (text : List ℕ) (result : Result T ReplayFault) : Type 0 where
   pub outcome : Outcome old new text result

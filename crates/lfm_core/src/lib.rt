@@ -16,6 +16,7 @@ pub mod schedule;
 pub mod seats;
 pub mod stepped;
 pub mod stores;
+mod trace;
 
 pub use answers::{Answer, Call, Turn, Why};
 pub use limits::{Limits, MAX_BUDGET, MAX_SEATS};

@@ -1,9 +1,13 @@
 pub mod Cutting
+pub mod Decoding
 pub mod LineCount
 pub mod Lines
+pub mod Numbers
+pub mod Plans
 pub mod Queued
 pub mod Reading
 pub mod SeatLaws
+pub mod Spelled
 pub mod Taking
-pub mod Writes
 pub mod Walks
+pub mod Writes

@@ -1,20 +1,20 @@
 -- The number of lines, and that a text past a limit stays past it however it goes on.
-use Rattle.std.proofs.Common.{◌≡◌, ◌≢◌, ◌≤◌, ◌<◌, ◌+◌, ◌-◌, ◌==◌, ◌||◌, ℕ, Bool, true, false, cond, nat_lt, List, [], ◌∷◌, ◌++◌, length, count_by, refl, sym, ◌∙◌, ap, arith, tests, length-append}
+use Rattle.std.proofs.Common.{◌≡◌, ◌≢◌, ◌≤◌, ◌<◌, ◌+◌, ◌-◌, ◌==◌, ◌||◌, ℕ, Bool, true, false, cond, nat_lt, List, [], ◌∷◌, ◌++◌, length, refl, sym, ◌∙◌, ap, arith, tests, length-append}
 use Rattle.std.specs.List.{onto_first}
 use Rattle.std.proofs.lemmas.List.Splits.{length-slice_split}
-use Rattle.std.proofs.lemmas.List.Sums.{sum_by-cons}
-use Rattle.lfm_core.specs.Text.{parts_at, without_empty_last, lines_of, line_count, is_past_limit}
+use Rattle.std.proofs.lemmas.List.Sums.{sum_by-cons, sum_by-append}
+use Rattle.lfm_core.specs.Text.{parts_at, without_empty_last, lines_of, line_count, is_past_limit, line_feeds, max_bytes, max_lines}
 
 -- 1 for a line feed
 abbrev feed : ℕ → ℕ
 feed c = cond (c == 10) 1 0
 
-count_by-cons : (c : ℕ) (cs : List ℕ) → count_by (λ b. b == 10) (c ∷ cs) ≡ feed c + count_by (λ b. b == 10) cs
-count_by-cons c cs = sum_by-cons (λ b. cond (b == 10) 1 0) c cs
+line_feeds-cons : (c : ℕ) (cs : List ℕ) → line_feeds (c ∷ cs) ≡ feed c + line_feeds cs
+line_feeds-cons c cs = sum_by-cons (λ b. cond (b == 10) 1 0) c cs
 
 -- a byte in front of another is a line of its own only where it is a line feed
 line_count-cons : (c d : ℕ) (ds : List ℕ) → line_count (c ∷ d ∷ ds) ≡ feed c + line_count (d ∷ ds)
-line_count-cons c d ds = omega (arith, count_by-cons c (d ∷ ds))
+line_count-cons c d ds = omega (arith, line_feeds-cons c (d ∷ ds))
 
 line_count_one : (c : ℕ) (t : Bool) → (c == 10) ≡ t → line_count (c ∷ []) ≡ 1
 line_count_one c true e = rw e refl
@@ -31,7 +31,33 @@ line_count-append [] ys = omega arith
 line_count-append (c ∷ []) ys = omega (arith, line_count_one c (c == 10) refl, some_line c ys)
 line_count-append (c ∷ d ∷ ds) ys = omega (arith, line_count-cons c d ds, line_count-cons c d (ds ++ ys), line_count-append (d ∷ ds) ys)
 
-either_past : (a b c d : ℕ) → a ≤ c → b ≤ d → (nat_lt 1048576 a || nat_lt 65536 b) ≡ true → (nat_lt 1048576 c || nat_lt 65536 d) ≡ true
+-- the line feeds of a text are those of its parts
+pub line_feeds-append : (xs ys : List ℕ) → line_feeds (xs ++ ys) ≡ line_feeds xs + line_feeds ys
+line_feeds-append xs ys = sum_by-append (λ b. cond (b == 10) 1 0) xs ys
+
+-- the lines of a text with a byte, behind another text
+line_count_behind : (xs : List ℕ) (c : ℕ) (cs : List ℕ) → line_count (xs ++ c ∷ cs) ≡ line_feeds xs + line_count (c ∷ cs)
+line_count_behind [] c cs = omega arith
+line_count_behind (x ∷ []) c cs = omega (arith, line_count-cons x c cs, line_feeds-cons x [])
+line_count_behind (x ∷ y ∷ ys) c cs = omega (arith, line_count-cons x y (ys ++ c ∷ cs), line_count_behind (y ∷ ys) c cs, line_feeds-cons x (y ∷ ys))
+
+-- a byte after the most line feeds that a text may have is past the limit
+pub is_past_limit-after_feeds : (xs ys : List ℕ) → max_lines ≤ line_feeds xs → 0 < length ys → is_past_limit (xs ++ ys) ≡ true
+is_past_limit-after_feeds xs [] full some = absurd (omega (arith, some))
+is_past_limit-after_feeds xs (c ∷ cs) full some =
+    too_many (length (xs ++ c ∷ cs)) (line_count (xs ++ c ∷ cs)) (omega (arith, full, line_count_behind xs c cs, some_line c cs))
+  where
+    too_many : (bytes lines : ℕ) → max_lines < lines → (nat_lt max_bytes bytes || nat_lt max_lines lines) ≡ true
+    too_many bytes lines more = grind (arith, tests)
+
+-- too many bytes are past the limit
+pub is_past_limit-long : (xs : List ℕ) → max_bytes < length xs → is_past_limit xs ≡ true
+is_past_limit-long xs long = too_long (length xs) (line_count xs) long
+  where
+    too_long : (bytes lines : ℕ) → max_bytes < bytes → (nat_lt max_bytes bytes || nat_lt max_lines lines) ≡ true
+    too_long bytes lines more = grind (arith, tests)
+
+either_past : (a b c d : ℕ) → a ≤ c → b ≤ d → (nat_lt max_bytes a || nat_lt max_lines b) ≡ true → (nat_lt max_bytes c || nat_lt max_lines d) ≡ true
 either_past a b c d more_bytes more_lines past = grind (arith, tests)
 
 -- a text past a limit stays past it

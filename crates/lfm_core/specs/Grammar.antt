@@ -1,5 +1,5 @@
 -- What the bytes of a schedule spell.
-use Rattle.std.specs.Prelude.{ℕ, Bool, ◌≡◌, ◌+◌, ◌≤◌, ◌==◌, ◌&&◌, nat_lt, nat_le, if◌then◌else◌, ⊤, List, [], ◌∷◌, Option, Some, None, Result, Ok, Err, codes}
+use Rattle.std.specs.Prelude.{ℕ, Bool, ◌≡◌, ◌+◌, ◌≤◌, ◌==◌, ◌&&◌, nat_lt, nat_le, if◌then◌else◌, ⊤, List, [], ◌∷◌, Option, Some, None, Result, Ok, Err, codes, ◌<◌, zero, suc, true, false, is_some, slice_index_or}
 use Rattle.std.specs.Str.{bytes_eq}
 use Rattle.lfm_core.specs.declared.answers.Call.TheVariants.{Lock, TryLock, Unlock, StartWait, SendLock, Receive}
 use Rattle.lfm_core.specs.declared.schedule.Act.{Act}
@@ -8,14 +8,8 @@ use Rattle.lfm_core.specs.declared.schedule.Line.{Line}
 use Rattle.lfm_core.specs.declared.schedule.Schedule.{Schedule}
 use Rattle.lfm_core.specs.declared.schedule.ReplayFault.{ReplayFault}
 use Rattle.lfm_core.specs.declared.schedule.ReplayFault.TheVariants.{Syntax, Limit, Read, Write, Memory}
+use Rattle.lfm_core.specs.Limits.{max_budget, are_in_limits}
 use Rattle.lfm_core.specs.Text.{number_of, words_of, lines_of, is_past_limit}
-
--- the most seats, and the largest budget of a seat
-abbrev pub max_seats : ℕ
-max_seats = 4095
-
-abbrev pub max_budget : ℕ
-max_budget = 68719476736
 
 -- from 1 to 999 steps
 abbrev pub steps_of : Option ℕ → Option Act
@@ -90,10 +84,6 @@ pub record Plan : Type 0 where
 abbrev pub plan_of : Schedule → Plan
 plan_of s = record { seats = s.seats; budget = s.budget; lines = s.lines.items }
 
--- whether there may be so many seats with such a budget
-abbrev pub are_in_limits : ℕ → ℕ → Bool
-are_in_limits seats budget = nat_le 1 seats && nat_le seats max_seats && nat_le 1 budget && nat_le budget max_budget
-
 abbrev pub in_limits : ℕ → ℕ → List Line → Result Plan ReplayFault
 in_limits n b ls = if are_in_limits n b then Ok (record { seats = n; budget = b; lines = ls }) else Err Limit
 
@@ -125,3 +115,15 @@ abbrev pub HasFewSteps : Act → Type 0
 HasFewSteps (Begin call) = ⊤
 HasFewSteps (Steps k) = (1 ≤ k) × (k ≤ 999)
 HasFewSteps ToEnd = ⊤
+
+-- whether a text says a line where it stands at this index
+abbrev pub is_line_at : ℕ → List ℕ → Bool
+is_line_at zero text = is_some (header_of (words_of text))
+is_line_at (suc k) text = is_some (line_of (words_of text))
+
+-- the line of this number, counted from 1, is the first that says nothing; past the last line stands the empty text
+pub record IsFirstFault (texts : List (List ℕ)) (number : ℕ) : Type 0 where
+  pub index : ℕ
+  pub counted : number ≡ index + 1
+  pub fails : is_line_at index (slice_index_or texts index []) ≡ false
+  pub before : (k : ℕ) → k < index → is_line_at k (slice_index_or texts k []) ≡ true

@@ -13,6 +13,7 @@ pub mod Queue
 pub mod Place
 pub mod Text
 pub mod Grammar
+pub mod Spelling
 pub mod Taking
 pub mod Writing
 pub mod Trace

@@ -1,6 +1,14 @@
 -- How many seats a mutex may have, and how many takes each may charge.
 use Rattle.std.specs.Prelude.{ℕ, Bool, ◌&&◌, nat_le}
 
+-- the most seats
+abbrev pub max_seats : ℕ
+max_seats = 4095
+
+-- the largest budget of a seat: 2^36 takes
+abbrev pub max_budget : ℕ
+max_budget = 68719476736
+
 -- 1 to 4,095 seats, with a budget of 1 to 2^36
 abbrev pub are_in_limits : ℕ → ℕ → Bool
-are_in_limits seats budget = nat_le 1 seats && nat_le seats 4095 && nat_le 1 budget && nat_le budget 68719476736
+are_in_limits seats budget = nat_le 1 seats && nat_le seats max_seats && nat_le 1 budget && nat_le budget max_budget

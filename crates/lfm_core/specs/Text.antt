@@ -3,8 +3,8 @@ use Rattle.std.specs.Prelude.{ℕ, Bool, false, not, ◌≡◌, ◌≢◌, ◌+�
 use Rattle.std.specs.List.{slice_split}
 use Rattle.std.specs.Str.{all_ascii_digits}
 use Rattle.std.specs.Str.Parse.{digits_value}
-use Rattle.lfm_core.specs.declared.parsing.Words.{Words}
-use Rattle.lfm_core.specs.declared.parsing.Words.TheVariants.{Two, Three, Other}
+use Rattle.lfm_core.specs.declared.parsing.LineWords.{LineWords}
+use Rattle.lfm_core.specs.declared.parsing.LineWords.TheVariants.{Two, Three, Other}
 
 -- the parts of a text between the bytes that equal b
 abbrev pub parts_at : ℕ → List ℕ → List (List ℕ)
@@ -25,7 +25,7 @@ abbrev pub words_of : List ℕ → List (List ℕ)
 words_of line = parts_at 32 line
 
 -- what the words are, where there are two or three of them
-abbrev pub AreWords : Words → List (List ℕ) → Type 0
+abbrev pub AreWords : LineWords → List (List ℕ) → Type 0
 AreWords (Two first second) words = words ≡ first.now ∷ second.now ∷ []
 AreWords (Three first second third) words = words ≡ first.now ∷ second.now ∷ third.now ∷ []
 AreWords Other words = (length words ≢ 2) × (length words ≢ 3)
@@ -40,6 +40,10 @@ number_of [] = None
 number_of (c ∷ []) = digits_number (c ∷ [])
 number_of (c ∷ d ∷ cs) = if c == 48 || nat_lt 18 (length (c ∷ d ∷ cs)) then None else digits_number (c ∷ d ∷ cs)
 
+-- the number of line feeds
+abbrev pub line_feeds : List ℕ → ℕ
+line_feeds text = count_by (λ b. b == 10) text
+
 -- whether a text ends in the middle of a line
 abbrev pub is_unfinished : List ℕ → Bool
 is_unfinished [] = false
@@ -47,7 +51,7 @@ is_unfinished (c ∷ cs) = not (slice_index (c ∷ cs) (length cs) == 10)
 
 -- the number of line feeds, and one more for an unfinished last line
 abbrev pub line_count : List ℕ → ℕ
-line_count text = count_by (λ b. b == 10) text + (if is_unfinished text then 1 else 0)
+line_count text = line_feeds text + (if is_unfinished text then 1 else 0)
 
 -- the most bytes and the most lines of a text
 abbrev pub max_bytes : ℕ

@@ -1,15 +1,24 @@
-//! Cuts a text into lines, and lines into words, without taking memory, and reads numbers.
+//! Cuts a text into lines, and lines into words, and reads numbers. Nothing here asks for memory.
 //!
-//! Lines end with a line feed, which the last one may lack. Words are separated by one space.
+//! A line ends with a line feed, which the last one may lack. Words are separated by one space.
 
 ghost use Rattle.std.specs.Prelude.{◌≡◌, ◌+◌, ◌≤◌, ◌<◌, ◌∷◌, [], length, IfNone, IfSome};
 ghost use Rattle.lfm_core.specs.Text.{parts_at, lines_of, words_of, AreWords, digits_number, number_of, line_count, max_bytes};
 
+/// The most bytes that a text may have.
+pub const MAX_BYTES: usize = 1_048_576;
+
+/// The most lines that a text may have.
+pub const MAX_LINES: usize = 65_536;
+
 /// The words of a line, where there are two or three of them.
 #[derive(Clone, Copy, Debug)]
-pub enum Words<'a> {
+pub enum LineWords<'a> {
+    /// Two words.
     Two(&'a [u8], &'a [u8]),
+    /// Three words.
     Three(&'a [u8], &'a [u8], &'a [u8]),
+    /// Any other number of words, so that it is no line of a schedule.
     Other,
 }
 
@@ -24,7 +33,8 @@ fn cut(text: &[u8], separator: u8) -> Option<(&[u8], &[u8])>
     Some((&text[..at], &text[at + 1..]))
 }
 
-/// The first line of a text, without its line feed, and what follows it. An empty text has none.
+/// The first line of a text, without its line feed, and what follows that. `None` where the text is
+/// empty.
 pub fn first_line(text: &[u8]) -> Option<(&[u8], &[u8])>
     ensures none { IfNone result (text.now ≡ []) }
     ensures first { IfSome result (λ x. lines_of text.now ≡ x.0.now ∷ lines_of x.1.now) }
@@ -39,7 +49,8 @@ pub fn first_line(text: &[u8]) -> Option<(&[u8], &[u8])>
     }
 }
 
-/// The number of lines of a text of at most 1,048,576 bytes.
+/// The number of lines of a text of at most 1,048,576 bytes: that of its line feeds, and one more for
+/// an unfinished last line.
 pub fn count_lines(text: &[u8]) -> usize
     requires { length text.now ≤ max_bytes }
     ensures { result ≡ line_count text.now }
@@ -51,19 +62,19 @@ pub fn count_lines(text: &[u8]) -> usize
     }
 }
 
-/// The words of a line.
-pub fn split_words(line: &[u8]) -> Words<'_>
+/// The words of a line. Two spaces in a row have an empty word between them.
+pub fn split_words(line: &[u8]) -> LineWords<'_>
     ensures { AreWords result (words_of line.now) }
 {
     let Some((first, rest)) = cut(line, b' ') else {
-        return Words::Other;
+        return LineWords::Other;
     };
     let Some((second, rest)) = cut(rest, b' ') else {
-        return Words::Two(first, rest);
+        return LineWords::Two(first, rest);
     };
     match cut(rest, b' ') {
-        None => Words::Three(first, second, rest),
-        Some(_) => Words::Other,
+        None => LineWords::Three(first, second, rest),
+        Some(_) => LineWords::Other,
     }
 }
 
@@ -82,8 +93,8 @@ fn read_digits(word: &[u8]) -> Option<u64>
     Some(number)
 }
 
-/// The number that a word spells: `0`, or at most 18 digits of which the first is not 0, so that it is below 10^18.
-/// `None` for any other word.
+/// The number that a word spells: `0`, or at most 18 digits of which the first is not 0, so that it
+/// is below 10^18. `None` for any other word.
 pub fn read_number(word: &[u8]) -> Option<u64>
     ensures { result ≡ number_of word.now }
 {

@@ -1,25 +1,17 @@
 //! What a schedule is, and how it is read from its bytes.
 
-ghost use Rattle.std.specs.Prelude.{◌≡◌, ◌≤◌, ◌<◌, length, All, IfOk};
-ghost use Rattle.lfm_core.specs.Text.{lines_of, words_of, max_lines};
-ghost use Rattle.lfm_core.specs.Grammar.{plain_act_of, act_of, send_of, line_of, header_of, lines_from, are_in_limits, max_seats, max_budget, plan_of, plan_in, Gives, HasFewSteps};
+ghost use Rattle.std.specs.Prelude.{◌≡◌, ◌≤◌, ◌<◌, length, All, IfOk, IsErrOf};
+ghost use Rattle.lfm_core.specs.Text.{lines_of, words_of, line_count, max_lines};
+ghost use Rattle.lfm_core.specs.Limits.{max_seats, max_budget};
+ghost use Rattle.lfm_core.specs.Grammar.{plain_act_of, act_of, send_of, line_of, header_of, lines_from, plan_of, plan_in, Gives, HasFewSteps};
 
 use crate::answers::Call;
-use crate::parsing::{Words, count_lines, first_line, read_number, split_words};
+use crate::limits::{Limits, MAX_BUDGET};
+use crate::parsing::{
+    LineWords, MAX_BYTES, MAX_LINES, count_lines, first_line, read_number, split_words,
+};
 use std::alloc::Global;
 use thiserror::Error;
-
-/// The most bytes that a schedule may have.
-pub const MAX_BYTES: usize = 1_048_576;
-
-/// The most lines that a schedule may have, the first one among them.
-pub const MAX_LINES: usize = 65_536;
-
-/// The most seats.
-pub const MAX_SEATS: u64 = 4_095;
-
-/// The largest budget of a seat, and the one that is taken where the first line names none.
-pub const MAX_BUDGET: u64 = 68_719_476_736;
 
 /// What a line of a schedule has its seat do.
 #[derive(Clone, Copy, Debug, PartialEq, Eq)]
@@ -128,13 +120,13 @@ fn read_line(text: &[u8]) -> Option<Line>
     ensures { result ≡ line_of (words_of text.now) }
 {
     match split_words(text) {
-        Words::Two(seat, act) => {
+        LineWords::Two(seat, act) => {
             let seat = read_number(seat)?;
             let act = read_act(act)?;
             Some(Line { seat, act })
         }
-        Words::Three(seat, call, target) => read_send(seat, call, target),
-        Words::Other => None,
+        LineWords::Three(seat, call, target) => read_send(seat, call, target),
+        LineWords::Other => None,
     }
 }
 
@@ -143,9 +135,9 @@ fn read_header(text: &[u8]) -> Option<(u64, u64)>
     ensures { result ≡ header_of (words_of text.now) }
 {
     let (word, seats, budget) = match split_words(text) {
-        Words::Two(word, seats) => (word, seats, None),
-        Words::Three(word, seats, budget) => (word, seats, Some(budget)),
-        Words::Other => return None,
+        LineWords::Two(word, seats) => (word, seats, None),
+        LineWords::Three(word, seats, budget) => (word, seats, Some(budget)),
+        LineWords::Other => return None,
     };
     if word != b"seats".as_slice() {
         return None;
@@ -157,13 +149,14 @@ fn read_header(text: &[u8]) -> Option<(u64, u64)>
     }
 }
 
-/// What the lines of a text say, the first of which has number 2, or the fault of the first that says nothing.
-/// Asks for memory once, for `count` lines.
+/// What the lines of a text say, the first of which has number 2, or the fault of the first that
+/// says nothing. Asks for memory once, for `count` lines, before it reads them.
 fn read_lines(alloc: Global, text: &[u8], count: usize) -> Result<Vec<Line>, ReplayFault>
     requires counted { length (lines_of text.now) ≡ count }
     requires few { count < max_lines }
     ensures said { Gives (λ v. v.items) result (lines_from 2 (lines_of text.now)) }
     ensures all { IfOk result (λ v. length v.items ≡ count) }
+    ensures memory { IsErrOf result ReplayFault.Memory → 0 < count }
 {
     let mut lines = Vec::with_capacity(alloc, count).map_err(|_| ReplayFault::Memory)?;
     let mut rest = text;
@@ -179,22 +172,19 @@ fn read_lines(alloc: Global, text: &[u8], count: usize) -> Result<Vec<Line>, Rep
     Ok(lines)
 }
 
-/// Whether there may be so many seats with such a budget.
-fn are_in_limits(seats: u64, budget: u64) -> bool
-    ensures { result ≡ are_in_limits seats budget }
-{
-    1 <= seats && seats <= MAX_SEATS && 1 <= budget && budget <= MAX_BUDGET
-}
-
 /// Reads a schedule from its bytes.
 ///
-/// Limit where there are more than 1,048,576 bytes or more than 65,536 lines. Then Syntax with the number, from 1, of
-/// the first line that is no line of a schedule; a text without lines is Syntax 1. Then Limit where the number of seats
-/// is outside 1 to 4,095 or the budget outside 1 to 2^36.
+/// Limit where there are more than 1,048,576 bytes or more than 65,536 lines. Then Syntax with the
+/// number, from 1, of the first line that is no line of a schedule; a text without lines is Syntax 1.
+/// Then Limit where the number of seats is outside 1 to 4,095 or the budget outside 1 to 2^36.
 ///
-/// Asks for memory at most once, for the lines: Memory where that is refused. Never Read or Write.
+/// Asks for memory once, for the lines after the first, before it reads those, and not at all where
+/// there are none: Memory where that is refused. Never Read or Write.
 pub fn read_schedule(alloc: Global, text: &[u8]) -> Result<Schedule, ReplayFault>
     ensures exact { Gives plan_of result (plan_in text.now) }
+    // Memory comes only where there are lines to be kept.
+    ensures memory { IsErrOf result ReplayFault.Memory → 1 < line_count text.now }
+
     ensures few { IfOk result (λ s. length s.lines.items < max_lines) }
     ensures seats { IfOk result (λ s. (1 ≤ s.seats) × (s.seats ≤ max_seats)) }
     ensures budget { IfOk result (λ s. (1 ≤ s.budget) × (s.budget ≤ max_budget)) }
@@ -214,7 +204,7 @@ pub fn read_schedule(alloc: Global, text: &[u8]) -> Result<Schedule, ReplayFault
         return Err(ReplayFault::Syntax(1));
     };
     let lines = read_lines(alloc, rest, count - 1)?;
-    if are_in_limits(seats, budget) {
+    if (Limits { seats, budget }).are_allowed() {
         Ok(Schedule {
             seats,
             budget,

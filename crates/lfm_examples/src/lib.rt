@@ -1,13 +1,10 @@
-// A library with one function.
+//! Tests that cross crates: worked examples on the public calls, devices that fail, and want of memory. Schedules with
+//! their traces are data, in the folder of examples.
 #![tactic(auto)]
 
-ghost use Rattle.std.specs.Prelude.{◌≡◌};
-ghost use Rattle.lfm_examples.specs.Echo.{echo_of};
-
-// The `ensures` clause is the contract: what `echo` returns is `echo_of` of its argument, a definition
-// in `specs/Echo.antt`, which a caller's clause can cite too.
-pub fn echo(x: usize) -> usize
-    ensures { result ≡ echo_of x }
-{
-    x
-}
+#[cfg(test)]
+mod packing;
+#[cfg(test)]
+mod stepping;
+#[cfg(test)]
+mod wanting;

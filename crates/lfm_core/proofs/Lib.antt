@@ -6,6 +6,9 @@ pub mod Numbers
 pub mod Plans
 pub mod Queued
 pub mod Reading
+pub mod Replays
+pub mod Runs
+pub mod SameSeats
 pub mod SeatLaws
 pub mod Spelled
 pub mod Taking

@@ -30,6 +30,11 @@ Keeps-from_none None b n t e p = tt
 Keeps-from_none (Some x) None n t e p = absurd p
 Keeps-from_none (Some x) (Some y) n t e p = (rw e at p) ∙ append-nil x
 
+-- nothing was written, and nothing was to be
+pub written_nothing : {T : Type 0} (a : Option (List ℕ)) (answer : T) → Writes a a [] (Ok answer)
+written_nothing None answer = record { outcome = tt }
+written_nothing (Some x) answer = record { outcome = sym (append-nil x) }
+
 -- ---- one text
 
 -- a text of which a front was written, and then n more bytes
@@ -45,12 +50,15 @@ appends_on old mid new t a n h first more =
 pub stopped : {T : Type 0} (old mid new : Option (List ℕ)) (t : List ℕ) (a : ℕ) → Appends old mid (take a t) → Keeps mid new
     → Writes {T = T} old new t (Err Write)
 stopped old mid new t a p q = record {
-  outcome = (refl, record {
-    front = take a t;
-    rest = drop a t;
-    whole = sym (take-append-drop a t);
-    appended = Appends-kept old mid new (take a t) p q;
-  });
+  outcome = (
+    refl,
+    record {
+      front = take a t;
+      rest = drop a t;
+      whole = sym (take-append-drop a t);
+      appended = Appends-kept old mid new (take a t) p q;
+    },
+  );
 }
 
 -- ---- a text after another
@@ -58,30 +66,49 @@ stopped old mid new t a p q = record {
 Outcome-then : {T : Type 0} (a b c : Option (List ℕ)) (s t : List ℕ) (r : Result T ReplayFault)
     → Appends a b s → Outcome b c t r → Outcome a c (s ++ t) r
 Outcome-then a b c s t (Ok x) p q = Appends-then a b c s t p q
-Outcome-then a b c s t (Err e) p q = (q.0, record {
-  front = s ++ q.1.front;
-  rest = q.1.rest;
-  whole = ap (λ l. s ++ l) q.1.whole ∙ sym (append_assoc s q.1.front q.1.rest);
-  appended = Appends-then a b c s q.1.front p q.1.appended;
-})
+Outcome-then a b c s t (Err e) p q = (
+  q.0,
+  record {
+    front = s ++ q.1.front;
+    rest = q.1.rest;
+    whole = ap (λ l. s ++ l) q.1.whole ∙ sym (append_assoc s q.1.front q.1.rest);
+    appended = Appends-then a b c s q.1.front p q.1.appended;
+  },
+)
 
 -- a text was written, and then another, or a front of it
-pub wrote_then : {T : Type 0} (a b c : Option (List ℕ)) (s t : List ℕ) (r : Result T ReplayFault)
-    → Writes {T = Unit {0}} a b s (Ok tt) → Writes b c t r → Writes a c (s ++ t) r
-wrote_then a b c s t r p q = record { outcome = Outcome-then a b c s t r p.outcome q.outcome }
+pub wrote_then : {T U : Type 0} (a b c : Option (List ℕ)) (s t : List ℕ) (u : U) (r : Result T ReplayFault)
+    → Writes a b s (Ok u) → Writes b c t r → Writes a c (s ++ t) r
+wrote_then a b c s t u r p q = record { outcome = Outcome-then a b c s t r p.outcome q.outcome }
 
 -- the writer failed within a text, so what should follow is missing too; r is what `?` makes of the fault
 pub failed_within : {T U : Type 0} (a b : Option (List ℕ)) (s t : List ℕ) (fault : ReplayFault) (r : Result T ReplayFault)
     → Writes {T = U} a b s (Err fault) → IsErrAnd r (λ y. y ≡ fault) → Writes a b (s ++ t) r
 failed_within a b s t fault (Ok x) p e = absurd e
 failed_within a b s t fault (Err y) p e = record {
-  outcome = (e ∙ p.outcome.0, record {
-    front = p.outcome.1.front;
-    rest = p.outcome.1.rest ++ t;
-    whole = ap (λ l. l ++ t) p.outcome.1.whole ∙ append_assoc p.outcome.1.front p.outcome.1.rest t;
-    appended = p.outcome.1.appended;
-  });
+  outcome = (
+    e ∙ p.outcome.0,
+    record {
+      front = p.outcome.1.front;
+      rest = p.outcome.1.rest ++ t;
+      whole = ap (λ l. l ++ t) p.outcome.1.whole ∙ append_assoc p.outcome.1.front p.outcome.1.rest t;
+      appended = p.outcome.1.appended;
+    },
+  );
 }
+
+-- what `?` makes of a fault tells of the same text
+pub failed_on : {T U : Type 0} (a b : Option (List ℕ)) (s : List ℕ) (fault : ReplayFault) (r : Result T ReplayFault)
+    → Writes {T = U} a b s (Err fault) → IsErrAnd r (λ y. y ≡ fault) → Writes a b s r
+failed_on a b s fault (Ok x) p e = absurd e
+failed_on a b s fault (Err y) p e = record { outcome = (e ∙ p.outcome.0, p.outcome.1) }
+
+-- a text was written, and then the writer failed to pass it on
+pub failed_after : {T U : Type 0} (a b c : Option (List ℕ)) (s : List ℕ) (u : U) (fault : ReplayFault) (r : Result T ReplayFault)
+    → Writes a b s (Ok u) → Writes {T = Unit {0}} b c [] (Err fault) → IsErrAnd r (λ y. y ≡ fault) → Writes a c s r
+failed_after a b c s u fault r p q e =
+    let P : List ℕ → Type 0 = λ l. Writes a c l r in
+    subst P (append-nil s) (wrote_then a b c s [] u r p (failed_on b c [] fault r q e))
 
 -- ---- the parts of a text
 
@@ -101,7 +128,7 @@ part_one a b s parts (Err fault) r p e = failed_within a b s (joined parts) faul
 part_then : (a b c : Option (List ℕ)) (s : List ℕ) (parts : List (List ℕ)) (r : Result (Unit {0}) ReplayFault)
     → Writes {T = Unit {0}} a b s (Ok tt) → Writes b c (joined parts) r → Writes a c (joined (s ∷ parts)) r
 unfolding joined
-part_then a b c s parts r p q = wrote_then a b c s (joined parts) r p q
+part_then a b c s parts r p q = wrote_then a b c s (joined parts) tt r p q
 
 -- The same after parts that were written. `grind` takes a lemma once, so each number of parts has a lemma of its own.
 module _ (parts : List (List ℕ)) (q r : Result (Unit {0}) ReplayFault) where

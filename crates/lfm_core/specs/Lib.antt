@@ -17,3 +17,4 @@ pub mod Spelling
 pub mod Taking
 pub mod Writing
 pub mod Trace
+pub mod Replay

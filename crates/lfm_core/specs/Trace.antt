@@ -1,5 +1,5 @@
 -- The text of a run: a line for the start, and a line for each line of the schedule with the state after it.
-use Rattle.std.specs.Prelude.{ℕ, Bool, true, false, ◌+◌, ◌++◌, ◌&&◌, List, [], ◌∷◌, Option, Some, None, Result, Ok, Err, codes, decimal, nat_eq, if◌then◌else◌}
+use Rattle.std.specs.Prelude.{ℕ, Bool, true, false, ◌+◌, ◌++◌, ◌&&◌, not, List, [], ◌∷◌, Option, Some, None, Result, Ok, Err, codes, decimal, nat_eq, if◌then◌else◌}
 use Rattle.lfm_core.specs.declared.answers.Answer.{Answer}
 use Rattle.lfm_core.specs.declared.answers.Answer.TheVariants.{Asked, Locked, Unlocked, Waiting, Got, Sent}
 use Rattle.lfm_core.specs.declared.answers.Turn.{Turn}
@@ -143,15 +143,15 @@ lines_text number c [] = []
 lines_text number c (line ∷ lines) =
     line_text number line (line_moved c line).turn (line_moved c line).core ++ lines_text (number + 1) (line_moved c line).core lines
 
-abbrev pub is_done : Turn → Bool
-is_done Open = true
-is_done (Ended answer) = true
-is_done (Refused why) = false
+abbrev pub is_refused : Turn → Bool
+is_refused Open = false
+is_refused (Ended answer) = false
+is_refused (Refused why) = true
 
 -- no line is refused
-abbrev pub are_done : Core → List Line → Bool
-are_done c [] = true
-are_done c (line ∷ lines) = is_done (line_moved c line).turn && are_done (line_moved c line).core lines
+abbrev pub none_refused : Core → List Line → Bool
+none_refused c [] = true
+none_refused c (line ∷ lines) = not (is_refused (line_moved c line).turn) && none_refused (line_moved c line).core lines
 
 -- ---- an input
 
@@ -171,7 +171,7 @@ text_of (Ok p) = plan_text p
 text_of (Err fault) = fault_text fault
 
 abbrev pub answer_of : Result Plan ReplayFault → Result Bool ReplayFault
-answer_of (Ok p) = Ok (are_done (opening p) p.lines)
+answer_of (Ok p) = Ok (none_refused (opening p) p.lines)
 answer_of (Err fault) = Err fault
 
 -- what is written for an input

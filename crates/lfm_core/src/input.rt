@@ -4,7 +4,8 @@ ghost use Rattle.std.specs.Prelude.{◌≡◌, ◌+◌, ◌++◌, ◌==◌, ◌�
 ghost use Rattle.lfm_core.specs.Taking.{Takes};
 ghost use Rattle.lfm_core.specs.Text.{is_past_limit};
 
-use crate::schedule::{MAX_BYTES, MAX_LINES, ReplayFault};
+use crate::parsing::{MAX_BYTES, MAX_LINES};
+use crate::schedule::ReplayFault;
 use std::alloc::Global;
 use std::io::Read;
 
@@ -47,8 +48,7 @@ pub fn read_input<R: Read>(alloc: Global, reader: &mut R) -> Result<Vec<u8>, Rep
     ensures ok { IfOk result (λ v. Takes (R.remaining reader.old) (R.remaining reader.new) v.items) }
     ensures err { IfErr result (λ e. (e ≡ ReplayFault.Read) ⊎ (e ≡ ReplayFault.Memory)) }
 {
-    let mut input =
-        Vec::with_capacity(alloc, MAX_BYTES + 1).map_err(|_| ReplayFault::Memory)?;
+    let mut input = Vec::with_capacity(alloc, MAX_BYTES + 1).map_err(|_| ReplayFault::Memory)?;
     let mut buffer = [0u8; READ_SIZE];
     let mut line_feeds = 0;
     'reading: while !is_past_limit(&input, line_feeds) {

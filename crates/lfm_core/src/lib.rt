@@ -12,6 +12,7 @@ pub mod limits;
 mod output;
 mod parsing;
 pub mod points;
+mod replaying;
 pub mod running;
 pub mod schedule;
 pub mod seats;
@@ -21,6 +22,7 @@ mod trace;
 
 pub use answers::{Answer, Call, Turn, Why};
 pub use limits::{Limits, MAX_BUDGET, MAX_SEATS};
+pub use replaying::replay;
 pub use running::run;
 pub use schedule::{Act, Line, ReplayFault, Schedule, read_schedule};
 pub use seats::SeatState;

@@ -213,7 +213,11 @@ fn write_words<W: Write>(writer: &mut W, state: &State) -> Result<(), ReplayFaul
 }
 
 /// Writes a state; the room, which is for three records of each seat, serves to gather its queue.
-fn write_state<W: Write>(writer: &mut W, state: &State, room: &mut Vec<Record>) -> Result<(), ReplayFault>
+fn write_state<W: Write>(
+    writer: &mut W,
+    state: &State,
+    room: &mut Vec<Record>,
+) -> Result<(), ReplayFault>
     requires { 3 * length state.now.seats ≤ vec_capacity room.old }
     ensures text { Writes (W.contents writer.old) (W.contents writer.new) (state_text state.now) result }
     ensures room { vec_capacity room.new ≡ vec_capacity room.old }
@@ -228,7 +232,12 @@ fn write_state<W: Write>(writer: &mut W, state: &State, room: &mut Vec<Record>) 
 }
 
 /// Writes the first line: the number of seats and the state.
-pub fn write_opening<W: Write>(writer: &mut W, seats: u64, state: &State, room: &mut Vec<Record>) -> Result<(), ReplayFault>
+pub fn write_opening<W: Write>(
+    writer: &mut W,
+    seats: u64,
+    state: &State,
+    room: &mut Vec<Record>,
+) -> Result<(), ReplayFault>
     requires { 3 * length state.now.seats ≤ vec_capacity room.old }
     ensures text { Writes (W.contents writer.old) (W.contents writer.new) (opening_text seats state.now) result }
     ensures room { vec_capacity room.new ≡ vec_capacity room.old }
@@ -241,7 +250,12 @@ pub fn write_opening<W: Write>(writer: &mut W, seats: u64, state: &State, room: 
     Ok(())
 }
 
-fn write_outcome<W: Write>(writer: &mut W, number: u64, line: &Line, turn: Turn) -> Result<(), ReplayFault>
+fn write_outcome<W: Write>(
+    writer: &mut W,
+    number: u64,
+    line: &Line,
+    turn: Turn,
+) -> Result<(), ReplayFault>
     ensures { Writes (W.contents writer.old) (W.contents writer.new) (outcome_text number line.now turn) result }
 {
     write_number(writer, number)?;
@@ -253,7 +267,14 @@ fn write_outcome<W: Write>(writer: &mut W, number: u64, line: &Line, turn: Turn)
 }
 
 /// Writes what came of the line with this number, and the state after it.
-pub fn write_line<W: Write>(writer: &mut W, number: u64, line: &Line, turn: Turn, state: &State, room: &mut Vec<Record>) -> Result<(), ReplayFault>
+pub fn write_line<W: Write>(
+    writer: &mut W,
+    number: u64,
+    line: &Line,
+    turn: Turn,
+    state: &State,
+    room: &mut Vec<Record>,
+) -> Result<(), ReplayFault>
     requires { 3 * length state.now.seats ≤ vec_capacity room.old }
     ensures text { Writes (W.contents writer.old) (W.contents writer.new) (line_text number line.now turn state.now) result }
     ensures room { vec_capacity room.new ≡ vec_capacity room.old }
@@ -266,7 +287,7 @@ pub fn write_line<W: Write>(writer: &mut W, number: u64, line: &Line, turn: Turn
 }
 
 /// Writes the line of a fault of the input.
-pub fn write_fault<W: Write>(writer: &mut W, fault: ReplayFault) -> Result<(), ReplayFault>
+pub fn write_fault_line<W: Write>(writer: &mut W, fault: ReplayFault) -> Result<(), ReplayFault>
     ensures { Writes (W.contents writer.old) (W.contents writer.new) (fault_text fault) result }
 {
     match fault {

@@ -4,7 +4,13 @@ pub mod LineCount
 pub mod Lines
 pub mod Numbers
 pub mod Plans
+pub mod Queued
 pub mod Reading
+pub mod Replays
+pub mod Runs
+pub mod SameSeats
 pub mod SeatLaws
 pub mod Spelled
+pub mod Taking
 pub mod Walks
+pub mod Writes

@@ -14,3 +14,7 @@ pub mod Place
 pub mod Text
 pub mod Grammar
 pub mod Spelling
+pub mod Taking
+pub mod Writing
+pub mod Trace
+pub mod Replay

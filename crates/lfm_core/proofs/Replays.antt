@@ -1,5 +1,5 @@
 -- What was written and answered is what the input says.
-use Rattle.std.proofs.Common.{◌≡◌, ◌+◌, ◌++◌, ℕ, Bool, true, false, List, Option, Some, None, Result, Ok, Err, IfOk, IfSome, inl, inr, refl, sym, ◌∙◌, ap, subst, append-nil}
+use Rattle.std.proofs.Common.{◌≡◌, ◌++◌, ℕ, Bool, true, List, Option, Some, None, Result, Ok, Err, IfOk, IfSome, inl, inr, refl, sym, ◌∙◌, ap, subst, append-nil}
 use Rattle.std.proofs.lemmas.Bool.{cases_Bool}
 use Rattle.lfm_core.specs.declared.schedule.ReplayFault.{ReplayFault}
 use Rattle.lfm_core.specs.declared.schedule.ReplayFault.TheVariants.{Syntax, Limit, Memory, Read, Write}
@@ -9,7 +9,7 @@ use Rattle.lfm_core.specs.Grammar.{Plan, plan_in}
 use Rattle.lfm_core.specs.Replay.{Tells, Replays}
 use Rattle.lfm_core.specs.Taking.{Takes}
 use Rattle.lfm_core.specs.Text.{is_past_limit}
-use Rattle.lfm_core.specs.Trace.{text_of, answer_of, opening_text, lines_text, none_refused, opening, plan_text}
+use Rattle.lfm_core.specs.Trace.{opening_text, lines_text, none_refused, opening, plan_text}
 use Rattle.lfm_core.specs.Writing.{Writes}
 use Rattle.lfm_core.proofs.LineCount.{is_past_limit-append}
 

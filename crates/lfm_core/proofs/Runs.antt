@@ -1,7 +1,6 @@
 -- The text of a run, line by line.
-use Rattle.std.proofs.Common.{◌≡◌, ◌≤◌, ◌<◌, ◌+◌, ◌&&◌, ℕ, Bool, true, false, not, List, [], ◌∷◌, ◌++◌, length, get_or, drop, Option, Some, None, Result, Ok, Err, refl, sym, ◌∙◌, ap, arith, append-nil, drop-cons, add-one}
+use Rattle.std.proofs.Common.{◌≡◌, ◌≤◌, ◌<◌, ◌+◌, ◌&&◌, ℕ, Bool, true, false, not, List, ◌++◌, length, get_or, drop, Option, Result, Ok, Err, refl, sym, ◌∙◌, ap, arith, drop-cons, add-one}
 use Rattle.std.specs.Prelude.{IsErrAnd}
-use Rattle.std.specs.Io.KnownBytes.{Appends}
 use Rattle.std.proofs.lemmas.List.{drop_all}
 use Rattle.lfm_core.specs.declared.answers.Turn.{Turn}
 use Rattle.lfm_core.specs.declared.schedule.Line.{Line}

@@ -1,10 +1,10 @@
 -- How the writes of one text after another join to the write of all of them.
-use Rattle.std.proofs.Common.{◌≡◌, ◌≤◌, ◌<◌, ◌+◌, ◌-◌, ℕ, List, [], ◌∷◌, ◌++◌, length, take, drop, Option, Some, None, Result, Ok, Err, refl, sym, ◌∙◌, ap, subst, append_assoc, append-nil, length-drop, arith, take_all, take-add, take-append-drop}
+use Rattle.std.proofs.Common.{◌≡◌, ◌≤◌, ◌+◌, ◌-◌, ℕ, List, [], ◌∷◌, ◌++◌, length, take, drop, Option, Some, None, Result, Ok, Err, refl, sym, ◌∙◌, ap, subst, append_assoc, append-nil, length-drop, arith, take_all, take-add, take-append-drop}
 use Rattle.std.specs.Prelude.{IsErrAnd}
 use Rattle.std.specs.Io.KnownBytes.{Appends, Keeps}
 use Rattle.lfm_core.specs.declared.schedule.ReplayFault.{ReplayFault}
 use Rattle.lfm_core.specs.declared.schedule.ReplayFault.TheVariants.{Write}
-use Rattle.lfm_core.specs.Writing.{AppendsFront, Outcome, Writes, joined}
+use Rattle.lfm_core.specs.Writing.{Outcome, Writes, joined}
 
 -- a text, and then another
 pub Appends-then : (a b c : Option (List ℕ)) (s t : List ℕ) → Appends a b s → Appends b c t → Appends a c (s ++ t)

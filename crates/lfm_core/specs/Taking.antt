@@ -1,9 +1,10 @@
 -- What is taken from a reader as the text of a schedule.
-use Rattle.std.specs.Prelude.{ℕ, Bool, false, ◌≡◌, ◌-◌, ◌≤◌, List, take, length, Option}
+use Rattle.std.specs.Prelude.{ℕ, false, ◌≡◌, ◌-◌, ◌≤◌, List, take, length, Option}
 use Rattle.std.specs.Io.KnownBytes.{Consumes, IsAtEnd}
 use Rattle.lfm_core.specs.Text.{is_past_limit}
 
--- known bytes begin with the text and lose it: all there are, or some 4,096 more at most than a schedule may have
+-- Known bytes begin with the text and lose it: all there are, or so many that the text is past a limit, and then at most
+-- 4,096 more than are within it.
 pub record Takes (old new : Option (List ℕ)) (text : List ℕ) : Type 0 where
   pub taken : Consumes old new text
   pub most : length text ≤ 1048577

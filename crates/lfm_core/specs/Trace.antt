@@ -19,7 +19,6 @@ use Rattle.lfm_core.specs.Queue.{queue_of}
 use Rattle.lfm_core.specs.Step.{start}
 use Rattle.lfm_core.specs.Writing.{joined}
 use Rattle.lfm_model.specs.declared.answers.How.{How}
-use Rattle.lfm_model.specs.declared.answers.How.TheVariants as How
 use Rattle.lfm_model.specs.declared.answers.Asked.{Asked as AskedAnswer}
 use Rattle.lfm_model.specs.declared.answers.Asked.TheVariants as Asked
 use Rattle.lfm_model.specs.declared.answers.Locked.{Locked as LockedAnswer}
@@ -27,7 +26,6 @@ use Rattle.lfm_model.specs.declared.answers.Locked.TheVariants as Locked
 use Rattle.lfm_model.specs.declared.answers.Unlocked.{Unlocked as UnlockedAnswer}
 use Rattle.lfm_model.specs.declared.answers.Unlocked.TheVariants as Unlocked
 use Rattle.lfm_model.specs.declared.answers.Place.{Place}
-use Rattle.lfm_model.specs.declared.answers.Place.TheVariants as Place
 use Rattle.lfm_model.specs.Refusals.{name_of}
 use Rattle.lfm_words.specs.declared.handoffs.Handoff.{Handoff}
 use Rattle.lfm_words.specs.declared.pop_lists.Record.{Record}

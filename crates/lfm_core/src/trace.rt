@@ -13,9 +13,17 @@ use lfm_model::{Asked, How, Locked, Place, Unlocked};
 use lfm_words::{Handoff, Record};
 use std::io::Write;
 
+/// Ends a line.
+fn write_line_feed<W: Write>(writer: &mut W) -> Result<(), ReplayFault>
+    ensures { Writes (W.contents writer.old) (W.contents writer.new) (codes "\n") result }
+{
+    write_text(writer, b"\n")
+}
+
 /// Writes a word, and a number behind it.
 fn write_labelled<W: Write>(writer: &mut W, label: &[u8], number: u64) -> Result<(), ReplayFault>
-    ensures { Writes (W.contents writer.old) (W.contents writer.new) (joined (label.now ∷ decimal number ∷ [])) result }
+    ensures { Writes (W.contents writer.old) (W.contents writer.new)
+        (joined (label.now ∷ decimal number ∷ [])) result }
 {
     write_text(writer, label)?;
     write_number(writer, number)?;
@@ -77,7 +85,8 @@ fn write_unlocked<W: Write>(writer: &mut W, answer: Unlocked) -> Result<(), Repl
 }
 
 fn write_waiting<W: Write>(writer: &mut W, answer: Unlocked) -> Result<(), ReplayFault>
-    ensures { Writes (W.contents writer.old) (W.contents writer.new) (answer_text (Answer.Waiting answer)) result }
+    ensures { Writes (W.contents writer.old) (W.contents writer.new)
+        (answer_text (Answer.Waiting answer)) result }
 {
     write_text(writer, b"Waiting ")?;
     write_unlocked(writer, answer)?;
@@ -119,7 +128,8 @@ fn write_open<W: Write>(writer: &mut W, act: Act) -> Result<(), ReplayFault>
 }
 
 fn write_ended<W: Write>(writer: &mut W, answer: Answer) -> Result<(), ReplayFault>
-    ensures { Writes (W.contents writer.old) (W.contents writer.new) (joined (codes "ends " ∷ answer_text answer ∷ [])) result }
+    ensures { Writes (W.contents writer.old) (W.contents writer.new)
+        (joined (codes "ends " ∷ answer_text answer ∷ [])) result }
 {
     write_text(writer, b"ends ")?;
     write_answer(writer, answer)?;
@@ -127,7 +137,8 @@ fn write_ended<W: Write>(writer: &mut W, answer: Answer) -> Result<(), ReplayFau
 }
 
 fn write_refused<W: Write>(writer: &mut W, why: Why) -> Result<(), ReplayFault>
-    ensures { Writes (W.contents writer.old) (W.contents writer.new) (joined (codes "refused " ∷ why_text why ∷ [])) result }
+    ensures { Writes (W.contents writer.old) (W.contents writer.new)
+        (joined (codes "refused " ∷ why_text why ∷ [])) result }
 {
     write_text(writer, b"refused ")?;
     write_why(writer, why)?;
@@ -179,7 +190,8 @@ fn write_record<W: Write>(writer: &mut W, queued: Record) -> Result<(), ReplayFa
 
 /// Writes a record behind a comma.
 fn write_further<W: Write>(writer: &mut W, queued: Record) -> Result<(), ReplayFault>
-    ensures { Writes (W.contents writer.old) (W.contents writer.new) (joined (codes "," ∷ record_text queued ∷ [])) result }
+    ensures { Writes (W.contents writer.old) (W.contents writer.new)
+        (joined (codes "," ∷ record_text queued ∷ [])) result }
 {
     write_text(writer, b",")?;
     write_record(writer, queued)?;
@@ -188,7 +200,8 @@ fn write_further<W: Write>(writer: &mut W, queued: Record) -> Result<(), ReplayF
 
 /// Writes records, the last first, and takes them out.
 fn write_queue<W: Write>(writer: &mut W, records: &mut Vec<Record>) -> Result<(), ReplayFault>
-    ensures text { Writes (W.contents writer.old) (W.contents writer.new) (queue_text (reverse records.old.items)) result }
+    ensures text { Writes (W.contents writer.old) (W.contents writer.new)
+        (queue_text (reverse records.old.items)) result }
     ensures room { vec_capacity records.new ≡ vec_capacity records.old }
 {
     let Some(oldest) = records.pop() else {
@@ -219,7 +232,8 @@ fn write_state<W: Write>(
     room: &mut Vec<Record>,
 ) -> Result<(), ReplayFault>
     requires { 3 * length state.now.seats ≤ vec_capacity room.old }
-    ensures text { Writes (W.contents writer.old) (W.contents writer.new) (state_text state.now) result }
+    ensures text { Writes (W.contents writer.old) (W.contents writer.new)
+        (state_text state.now) result }
     ensures room { vec_capacity room.new ≡ vec_capacity room.old }
 {
     state.gather(room);
@@ -239,14 +253,15 @@ pub fn write_opening<W: Write>(
     room: &mut Vec<Record>,
 ) -> Result<(), ReplayFault>
     requires { 3 * length state.now.seats ≤ vec_capacity room.old }
-    ensures text { Writes (W.contents writer.old) (W.contents writer.new) (opening_text seats state.now) result }
+    ensures text { Writes (W.contents writer.old) (W.contents writer.new)
+        (opening_text seats state.now) result }
     ensures room { vec_capacity room.new ≡ vec_capacity room.old }
 {
     write_text(writer, b"1 seats ")?;
     write_number(writer, seats)?;
     write_text(writer, b" | ")?;
     write_state(writer, state, room)?;
-    write_text(writer, b"\n")?;
+    write_line_feed(writer)?;
     Ok(())
 }
 
@@ -256,7 +271,8 @@ fn write_outcome<W: Write>(
     line: &Line,
     turn: Turn,
 ) -> Result<(), ReplayFault>
-    ensures { Writes (W.contents writer.old) (W.contents writer.new) (outcome_text number line.now turn) result }
+    ensures { Writes (W.contents writer.old) (W.contents writer.new)
+        (outcome_text number line.now turn) result }
 {
     write_number(writer, number)?;
     write_text(writer, b" ")?;
@@ -276,13 +292,14 @@ pub fn write_line<W: Write>(
     room: &mut Vec<Record>,
 ) -> Result<(), ReplayFault>
     requires { 3 * length state.now.seats ≤ vec_capacity room.old }
-    ensures text { Writes (W.contents writer.old) (W.contents writer.new) (line_text number line.now turn state.now) result }
+    ensures text { Writes (W.contents writer.old) (W.contents writer.new)
+        (line_text number line.now turn state.now) result }
     ensures room { vec_capacity room.new ≡ vec_capacity room.old }
 {
     write_outcome(writer, number, line, turn)?;
     write_text(writer, b" | ")?;
     write_state(writer, state, room)?;
-    write_text(writer, b"\n")?;
+    write_line_feed(writer)?;
     Ok(())
 }
 
@@ -297,10 +314,11 @@ pub fn write_fault_line<W: Write>(writer: &mut W, fault: ReplayFault) -> Result<
 }
 
 fn write_syntax<W: Write>(writer: &mut W, number: u64) -> Result<(), ReplayFault>
-    ensures { Writes (W.contents writer.old) (W.contents writer.new) (joined (codes "fault Syntax " ∷ decimal number ∷ codes "\n" ∷ [])) result }
+    ensures { Writes (W.contents writer.old) (W.contents writer.new)
+        (joined (codes "fault Syntax " ∷ decimal number ∷ codes "\n" ∷ [])) result }
 {
     write_text(writer, b"fault Syntax ")?;
     write_number(writer, number)?;
-    write_text(writer, b"\n")?;
+    write_line_feed(writer)?;
     Ok(())
 }

@@ -1,4 +1,4 @@
-use Rattle.std.proofs.Common.{rules, arith, sym, ◌∙◌, ap}
+use Rattle.std.proofs.Common.{arith, sym, ◌∙◌, ap}
 use Rattle.std.proofs.lemmas.Grind.{common_steps}
 use Rattle.lfm_core.specs.Text.{is_past_limit}
 use Rattle.lfm_core.proofs.Taking.{taken_more, soon_more}

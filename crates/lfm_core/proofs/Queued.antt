@@ -1,5 +1,6 @@
 -- The text of a queue, of which the oldest record is written first.
-use Rattle.std.proofs.Common.{◌≡◌, ℕ, List, [], ◌∷◌, ◌++◌, length, Option, Result, Ok, Err, reverse, codes, ◌∙◌, ap, arith}
+use Rattle.std.proofs.Common.{◌≡◌, ◌+◌, ◌<◌, ◌≤◌, ◌^◌, ℕ, List, [], ◌∷◌, ◌++◌, length, Option, Result, Ok, Err, reverse, codes, decimal, sym, ◌∙◌, ap, append-nil, arith}
+use Rattle.std.proofs.lemmas.Fmt.{length-decimal-le}
 use Rattle.std.proofs.lemmas.List.{reverse-append}
 use Rattle.std.specs.Prelude.{IsErrAnd}
 use Rattle.lfm_core.specs.declared.schedule.ReplayFault.{ReplayFault}
@@ -35,3 +36,18 @@ module _ (old mid : Option (List ℕ)) (items rest : List Record) (x : Record) (
 pub none_left : (a : Option (List ℕ)) (items : List Record) → length items ≡ 0 → Writes {T = Unit {0}} a a (further_text (reverse items)) (Ok tt)
 none_left a [] e = written_nothing a tt
 none_left a (x ∷ items) e = absurd (omega (arith, e))
+
+-- a number has at most 20 digits
+pub length-decimal : (n : ℕ) → n < 2 ^ 64 → length (decimal n) ≤ 20
+length-decimal n fits = length-decimal-le 20 n (omega arith) (omega (arith, fits)) fits
+
+-- a record's text, written from its end
+pub record_put : (r : Record) (end separator start : List ℕ) → end ≡ decimal r.stamp ++ [] → separator ≡ 35 ∷ end → start ≡ decimal r.seat ++ separator
+    → start ≡ record_text r
+unfolding joined
+record_put r end separator start e s t = t ∙ ap (λ l. decimal r.seat ++ l) (s ∙ ap (λ l. 35 ∷ l) e)
+
+-- and that of a record behind a comma
+pub further_put : (r : Record) (later start : List ℕ) → later ≡ record_text r → start ≡ 44 ∷ later → start ≡ joined (codes "," ∷ record_text r ∷ [])
+unfolding joined
+further_put r later start e s = s ∙ ap (λ l. 44 ∷ l) (e ∙ sym (append-nil (record_text r)))

@@ -1,7 +1,7 @@
 //! The text of a run, written line by line.
 #![tactic(auto, using(crate::proofs::Writes::writings))]
 
-ghost use Rattle.std.specs.Prelude.{◌≡◌, ◌*◌, ◌≤◌, [], ◌∷◌, codes, decimal, length, reverse, vec_capacity};
+ghost use Rattle.std.specs.Prelude.{◌≡◌, ◌+◌, ◌*◌, ◌<◌, ◌≤◌, [], ◌∷◌, ◌++◌, codes, decimal, drop, length, reverse, vec_capacity};
 ghost use Rattle.lfm_core.specs.Trace.{how_text, held_text, again_text, asked_text, locked_text, unlocked_text, got_text, answer_text, why_text, open_text, turn_text, handoff_text, place_text, record_text, queue_text, words_text, state_text, opening_text, outcome_text, line_text, fault_text};
 ghost use Rattle.lfm_core.specs.Writing.{Writes, joined};
 
@@ -9,6 +9,7 @@ use crate::answers::{Answer, Turn, Why};
 use crate::output::{write_number, write_text};
 use crate::schedule::{Act, Line, ReplayFault};
 use crate::stepped::State;
+use itoa::write_digits;
 use lfm_model::{Asked, How, Locked, Place, Unlocked};
 use lfm_words::{Handoff, Record};
 use std::io::Write;
@@ -179,13 +180,46 @@ fn write_place<W: Write>(writer: &mut W, place: Place) -> Result<(), ReplayFault
     }
 }
 
+/// How many bytes a record's text has at most, with a comma in front: two numbers of 20 digits and what separates them.
+const RECORD_SIZE: usize = 42;
+
+/// Puts a number's digits into a buffer, so that they end at `end`, and tells where they start.
+fn put_number(buffer: &mut [u8; RECORD_SIZE], number: u64, end: usize) -> usize
+    requires { (20 ≤ end) × (end ≤ RECORD_SIZE) }
+    ensures room { (end ≤ result + 20) × (result ≤ end) }
+    ensures text { drop result buffer.new ≡ decimal number ++ drop end buffer.old }
+{
+    write_digits(number, buffer, end)
+}
+
+/// Puts a byte in front of a text that ends a buffer, and tells where it stands.
+fn put_byte(buffer: &mut [u8; RECORD_SIZE], byte: u8, end: usize) -> usize
+    requires { (1 ≤ end) × (end ≤ RECORD_SIZE) }
+    ensures place { result + 1 ≡ end }
+    ensures text { drop result buffer.new ≡ byte ∷ drop end buffer.old }
+{
+    let start = end - 1;
+    buffer[start] = byte;
+    start
+}
+
+/// Puts a record's text at the end of a buffer, with room in front for a comma, and tells where it starts.
+fn put_record(buffer: &mut [u8; RECORD_SIZE], queued: Record) -> usize
+    ensures start { (1 ≤ result) × (result ≤ RECORD_SIZE) }
+    ensures text { drop result buffer.new ≡ record_text queued }
+{
+    let stamp = put_number(buffer, queued.stamp, RECORD_SIZE);
+    let separator = put_byte(buffer, b'#', stamp);
+    put_number(buffer, queued.seat.get(), separator)
+}
+
+/// Writes a record in one piece, since a queue may have many.
 fn write_record<W: Write>(writer: &mut W, queued: Record) -> Result<(), ReplayFault>
     ensures { Writes (W.contents writer.old) (W.contents writer.new) (record_text queued) result }
 {
-    write_number(writer, queued.seat.get())?;
-    write_text(writer, b"#")?;
-    write_number(writer, queued.stamp)?;
-    Ok(())
+    let mut buffer = [0; RECORD_SIZE];
+    let start = put_record(&mut buffer, queued);
+    write_text(writer, &buffer[start..])
 }
 
 /// Writes a record behind a comma.
@@ -193,9 +227,10 @@ fn write_further<W: Write>(writer: &mut W, queued: Record) -> Result<(), ReplayF
     ensures { Writes (W.contents writer.old) (W.contents writer.new)
         (joined (codes "," ∷ record_text queued ∷ [])) result }
 {
-    write_text(writer, b",")?;
-    write_record(writer, queued)?;
-    Ok(())
+    let mut buffer = [0; RECORD_SIZE];
+    let record = put_record(&mut buffer, queued);
+    let start = put_byte(&mut buffer, b',', record);
+    write_text(writer, &buffer[start..])
 }
 
 /// Writes records, the last first, and takes them out.

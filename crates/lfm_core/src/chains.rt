@@ -1,6 +1,6 @@
 //! The walk along the links of queued seats, newest first.
 ghost use Rattle.std.specs.Prelude.{◌≡◌, ◌≤◌, drop, length};
-ghost use Rattle.lfm_core.specs.Queue.{chain, is_linked};
+ghost use Rattle.lfm_core.specs.Queue.{chain};
 ghost use Rattle.lfm_core.specs.Seats.{link};
 ghost use Rattle.lfm_words.specs.Popped.{oldest};
 

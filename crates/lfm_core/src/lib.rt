@@ -1,9 +1,9 @@
 //! The mutex as a state that is stepped by hand: one atomic step at a time, by any schedule.
 #![tactic(auto)]
 
-pub mod after;
+mod after;
 pub mod answers;
-pub mod carrying;
+mod carrying;
 mod chains;
 pub mod grammar_laws;
 mod input;
@@ -13,11 +13,11 @@ mod output;
 mod parsing;
 pub mod points;
 mod replaying;
-pub mod running;
+mod running;
 pub mod schedule;
 pub mod seats;
 pub mod stepped;
-pub mod stores;
+mod stores;
 mod trace;
 
 pub use answers::{Answer, Call, Turn, Why};

@@ -1,6 +1,6 @@
 //! Texts and numbers, written straight to a writer.
 
-ghost use Rattle.std.specs.Prelude.{◌≡◌, [], ◌∷◌, decimal};
+ghost use Rattle.std.specs.Prelude.{[], decimal};
 ghost use Rattle.lfm_core.specs.Writing.{Writes};
 
 use crate::schedule::ReplayFault;

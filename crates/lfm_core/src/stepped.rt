@@ -28,7 +28,7 @@ ghost use Rattle.lfm_core.specs.Step.{
   start,
 };
 
-pub mod readers;
+mod readers;
 
 use crate::answers::{Call, Turn, Why};
 use crate::kinds::Kind;
@@ -36,7 +36,7 @@ use crate::limits::Limits;
 use crate::points::Point;
 use crate::seats::SeatState;
 use lfm_model::{NewFault, SeatNo};
-use lfm_words::{Handoff, Link, PopList, Record, Wake};
+use lfm_words::{Handoff, Link, PopList, Wake};
 use std::alloc::{AllocError, Global};
 use std::marker::Model;
 

@@ -2,7 +2,7 @@
 #![tactic(auto, using(crate::proofs::Writes::writings))]
 
 ghost use Rattle.std.specs.Prelude.{◌≡◌, ◌+◌, ◌*◌, ◌<◌, ◌≤◌, [], ◌∷◌, ◌++◌, codes, decimal, drop, length, reverse, vec_capacity};
-ghost use Rattle.lfm_core.specs.Trace.{how_text, held_text, again_text, asked_text, locked_text, unlocked_text, got_text, answer_text, why_text, open_text, turn_text, handoff_text, place_text, record_text, queue_text, words_text, state_text, opening_text, outcome_text, line_text, fault_text};
+ghost use Rattle.lfm_core.specs.Trace.{how_text, held_text, again_text, asked_text, locked_text, unlocked_text, answer_text, why_text, open_text, turn_text, handoff_text, place_text, record_text, queue_text, words_text, state_text, opening_text, outcome_text, line_text, fault_text};
 ghost use Rattle.lfm_core.specs.Writing.{Writes, joined};
 
 use crate::answers::{Answer, Turn, Why};

@@ -1,1 +1,4 @@
+pub mod Abstract
+pub mod AbstractLaws
+pub mod AbstractRuns
 pub mod Refusals

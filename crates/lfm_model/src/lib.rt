@@ -1,7 +1,8 @@
-//! What the crates above agree on: seat numbers, answers, places, refusals and faults.
-//! Plain data and its names; no word, no step and no state of a mutex lives here.
+//! What the crates above agree on: seat numbers, answers, places, refusals and faults, and the abstract mutex, which says
+//! what a mutex does without saying how. Plain data and its names: no word and no step of the protocol lives here.
 #![tactic(auto)]
 
+pub mod abstract_laws;
 pub mod answers;
 pub mod refusals;
 pub mod seat_numbers;

@@ -1,5 +1,5 @@
 //! The state of a sleeper: what the wake word of a seat holds.
-ghost use Rattle.std.specs.Prelude.{◌≡◌, ◌<◌, ◌^◌, IsTrue};
+ghost use Rattle.std.specs.Prelude.{◌≡◌, IsTrue};
 ghost use Rattle.lfm_words.specs.Words.{wake_word, is_wake_word, IsSmallWake};
 
 /// The state of a sleeper.

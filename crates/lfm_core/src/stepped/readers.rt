@@ -1,10 +1,10 @@
 //! What a state tells of itself: words, place, queue and seats. No reader changes anything or takes memory.
-ghost use Rattle.std.specs.Prelude.{◌≡◌, ◌+◌, ◌++◌, ◌*◌, ◌<◌, ◌≤◌, [], length, position, reverse, slice_get, vec_capacity, IfSome};
+ghost use Rattle.std.specs.Prelude.{◌≡◌, ◌+◌, ◌++◌, ◌*◌, ◌<◌, ◌≤◌, length, position, reverse, slice_get, vec_capacity, IfSome};
 ghost use Rattle.std.specs.List.{zip};
 ghost use Rattle.std.specs.Option.{option_map};
 ghost use Rattle.lfm_core.specs.Lines.{longest_call};
 ghost use Rattle.lfm_core.specs.Place.{carries, is_passed, place_of};
-ghost use Rattle.lfm_core.specs.Queue.{chain, unwalked, unwalked_at, queue_of};
+ghost use Rattle.lfm_core.specs.Queue.{chain, unwalked, queue_of};
 ghost use Rattle.lfm_core.specs.Seats.{seat};
 ghost use Rattle.lfm_words.specs.Popped.{pair_of};
 
@@ -186,7 +186,7 @@ impl State {
     }
 
     /// Gathers the queue's records, newest first, into room that was reserved for three records of each seat.
-    pub fn gather(&self, room: &mut Vec<Record>)
+    pub(crate) fn gather(&self, room: &mut Vec<Record>)
         requires { 3 * length self.now.seats ≤ vec_capacity room.old }
         ensures gathered { reverse room.new.items ≡ queue_of self.now }
         ensures room { vec_capacity room.new ≡ vec_capacity room.old }

@@ -1,0 +1,4 @@
+mod Once
+mod RunLaws
+mod StepLaws
+mod Wanted

@@ -7,7 +7,8 @@ use std::io::{ErrorKind, Read, Write};
 const INPUT: &[u8; 46] = b"seats 2\n1 lock\n1 *\n2 lock\n2 .\n1 unlock\n1 *\n2 *";
 
 /// Its trace.
-const OUTPUT: &[u8; 252] = b"1 seats 2 | 0 0 0 free -\n2 1 begins | 0 0 0 free -\n3 1 ends Held Free | 1 1 0 owner.1 -\n4 2 begins | 1 1 0 owner.1 -\n5 2 goes on | 2 1 0 owner.1 -\n6 1 begins | 2 1 0 owner.1 -\n7 1 ends Posted | 1 0 1.1 posted -\n8 2 ends Held Queued 1 | 1 2 0 owner.2 -\n";
+const OUTPUT: &[u8; 252] =
+    b"1 seats 2 | 0 0 0 free -\n2 1 begins | 0 0 0 free -\n3 1 ends Held Free | 1 1 0 owner.1 -\n4 2 begins | 1 1 0 owner.1 -\n5 2 goes on | 2 1 0 owner.1 -\n6 1 begins | 2 1 0 owner.1 -\n7 1 ends Posted | 1 0 1.1 posted -\n8 2 ends Held Queued 1 | 1 2 0 owner.2 -\n";
 
 /// Gives its bytes one at a time, and fails at the read that comes after `reads` others.
 #[derive(Drop)]
@@ -110,7 +111,8 @@ fn tells_of_a_refused_line(rt: HostRuntime) {
     let mut reader = b"seats 1\n1 unlock\n1 .".as_slice();
     let mut written = Vec::new(rt.alloc());
     assert_eq!(rt; replay(rt.alloc(), &mut reader, &mut written), Ok(false));
-    let trace = b"1 seats 1 | 0 0 0 free -\n2 1 refused NotOwner | 0 0 0 free -\n3 1 refused Idle | 0 0 0 free -\n";
+    let trace =
+        b"1 seats 1 | 0 0 0 free -\n2 1 refused NotOwner | 0 0 0 free -\n3 1 refused Idle | 0 0 0 free -\n";
     assert_eq!(rt; written.as_slice(), trace.as_slice());
 }
 

@@ -18,7 +18,10 @@ fn packing(rt: HostRuntime) {
 
 #[test]
 fn packing_of_the_largest(rt: HostRuntime) {
-    assert_eq!(rt; pack_link(281_474_976_710_655, 65_535), 18_446_744_073_709_551_615);
+    assert_eq!(rt;
+        pack_link(281_474_976_710_655, 65_535),
+        18_446_744_073_709_551_615
+    );
     let link = unpack_link(18_446_744_073_709_551_615);
     assert_eq!(rt; (link.stamp, link.next), (281_474_976_710_655, 65_535));
     assert_eq!(rt; pack_handoff(4_095, 68_719_476_736), 4_503_599_627_374_591);

@@ -16,7 +16,10 @@ fn first_run(rt: HostRuntime) -> Result<(), Fail> {
     let turns = run(rt.alloc(), &mut state, schedule.lines.as_slice())?;
     let held = Turn::Ended(Answer::Asked(Asked::Held(How::Free)));
     assert_eq!(rt; turns.as_slice(), [Turn::Open, held].as_slice());
-    assert_eq!(rt; (state.count(), state.owner(), state.handoff().seat), (1, 1, 0));
+    assert_eq!(rt;
+        (state.count(), state.owner(), state.handoff().seat),
+        (1, 1, 0)
+    );
     assert_eq!(rt; state.place(), Place::Owner(SeatNo::known(1)));
     assert_eq!(rt; (state.depth(1), state.takes(1), state.posts(1)), (1, 1, 0));
     assert_eq!(rt; (state.queue_len(), state.queued(0)), (0, None));
@@ -25,14 +28,13 @@ fn first_run(rt: HostRuntime) -> Result<(), Fail> {
 
 #[test]
 fn limits(rt: HostRuntime) {
-    for (seats, budget) in [
-        (0, 1),
-        (MAX_SEATS + 1, 1),
-        (1, 0),
-        (1, MAX_BUDGET + 1),
-    ] {
+    for (seats, budget) in [(0, 1), (MAX_SEATS + 1, 1), (1, 0), (1, MAX_BUDGET + 1)] {
         let fault = State::new(rt.alloc(), seats, budget).err();
-        assert_eq!(rt; fault, Some(NewFault::Limit), "{seats} seats, budget {budget}");
+        assert_eq!(rt;
+            fault,
+            Some(NewFault::Limit),
+            "{seats} seats, budget {budget}"
+        );
     }
     assert!(rt; State::new(rt.alloc(), MAX_SEATS, MAX_BUDGET).is_ok());
 }
@@ -60,7 +62,10 @@ fn a_queue(rt: HostRuntime) -> Result<(), Fail> {
 fn depth_full(rt: HostRuntime) -> Result<(), Fail> {
     let mut state = State::new(rt.alloc(), 1, 1)?;
     assert_eq!(rt; state.begin(1, Call::Lock), Turn::Open);
-    assert_eq!(rt; state.steps(1, 9), Turn::Ended(Answer::Asked(Asked::Held(How::Free))));
+    assert_eq!(rt;
+        state.steps(1, 9),
+        Turn::Ended(Answer::Asked(Asked::Held(How::Free)))
+    );
     for depth in 2..=65_535 {
         assert_eq!(rt; state.begin(1, Call::Lock), Turn::Open);
         assert_eq!(rt; state.steps(1, 9), again(depth));
@@ -68,6 +73,9 @@ fn depth_full(rt: HostRuntime) -> Result<(), Fail> {
     let full = Turn::Refused(Why::By(Refusal::DepthFull));
     assert_eq!(rt; state.begin(1, Call::Lock), full);
     assert_eq!(rt; state.begin(1, Call::TryLock), full);
-    assert_eq!(rt; (state.depth(1), state.takes(1), state.count()), (65_535, 1, 1));
+    assert_eq!(rt;
+        (state.depth(1), state.takes(1), state.count()),
+        (65_535, 1, 1)
+    );
     Ok(())
 }

@@ -41,7 +41,10 @@ fn run_and_memory(rt: HostRuntime) {
     match run(rt.alloc(), &mut state, schedule.lines.as_slice()) {
         Ok(turns) => assert_eq!(rt; turns.len(), 7),
         Err(_) => {
-            assert_eq!(rt; (state.count(), state.owner(), state.handoff().seat), (0, 0, 0));
+            assert_eq!(rt;
+                (state.count(), state.owner(), state.handoff().seat),
+                (0, 0, 0)
+            );
             assert_eq!(rt; (state.depth(1), state.takes(1), state.posts(1)), (0, 1, 0));
             assert_eq!(rt; state.queue_len(), 0);
             assert_eq!(rt; state.step(1), Turn::Open);

@@ -18,3 +18,9 @@ pub mod Taking
 pub mod Writing
 pub mod Trace
 pub mod Replay
+pub mod Numbered
+pub mod Ghost
+pub mod Views
+pub mod Steady
+pub mod Events
+pub mod Outcome

@@ -203,8 +203,6 @@ pub record SeatFits (c : Core) (g : Ghost) (s : ℕ) (x : SeatState) (w : Wake) 
   pub granted : is_some (grant_at g.place s) ≡ true → (awaits_grant x.point ≡ true) × (g.standing s ≡ apart)
   pub entered : is_entered g.place s ≡ true → held_by g.place s ≡ nobody → (sleeps_as_waiter x.point ≡ true) × (g.standing s ≡ apart)
   pub listed : (stamp : ℕ) → g.standing s ≡ queued stamp → QueuedFits g s stamp
-  pub asked : (agent : ℕ) → g.standing s ≡ asks agent → asks_for (seat c.seats agent) agent ≡ s
-  pub sent : (agent : ℕ) → g.standing s ≡ claimed agent → claims_for (seat c.seats agent) ≡ s
   pub stands : StandsAt g.place x.depth s (g.standing s) x.point
   pub depth : DepthAt x.depth x.point
   pub knows : KnowsAt c g s x.posts x.point
@@ -213,6 +211,11 @@ pub record SeatFits (c : Core) (g : Ghost) (s : ℕ) (x : SeatState) (w : Wake) 
   pub posts : x.posts + due_posts x ≤ x.takes
   pub pushes : g.pushes s + due_pushes x w (g.standing s) ≤ x.takes
   pub watches : g.place ≡ posted → g.watcher ≡ s → WatchesAt c g s x x.point
+
+-- the call that has counted a seat, or claimed it, is at that errand
+pub record AgentFits (seats : List SeatState) (standing : Standing) (s : ℕ) : Type 0 where
+  pub asked : (agent : ℕ) → standing ≡ asks agent → asks_for (seat seats agent) agent ≡ s
+  pub sent : (agent : ℕ) → standing ≡ claimed agent → claims_for (seat seats agent) ≡ s
 
 -- The facts of the words
 
@@ -256,13 +259,13 @@ CarriedFits posted walk popped = (walk ≡ 0) × (popped ≡ [])
 CarriedFits _ walk popped = walk ≡ 0
 
 -- a grant that is not free is that of the record popped last
-abbrev pub GrantFits : Ghost → ℕ → ℕ → Type 0
-GrantFits g s stamp = 0 < stamp → (stamp ≡ g.popped) × (g.pushed_at stamp ≡ s)
+abbrev pub GrantFits : ℕ → (ℕ → ℕ) → ℕ → ℕ → Type 0
+GrantFits popped pushed_at s stamp = 0 < stamp → (stamp ≡ popped) × (pushed_at stamp ≡ s)
 
-abbrev pub LastFits : Ghost → Responsibility → Type 0
-LastFits g (granted s stamp) = GrantFits g s stamp
-LastFits g (entering s into stamp) = GrantFits g into stamp
-LastFits g _ = ⊤
+abbrev pub LastFits : ℕ → (ℕ → ℕ) → Responsibility → Type 0
+LastFits popped pushed_at (granted s stamp) = GrantFits popped pushed_at s stamp
+LastFits popped pushed_at (entering s into stamp) = GrantFits popped pushed_at into stamp
+LastFits popped pushed_at _ = ⊤
 
 -- a record was popped whose seat does not yet hold
 abbrev pub unanswered : Responsibility → ℕ
@@ -287,7 +290,7 @@ pub record WordsFit (c : Core) (g : Ghost) : Type 0 where
   pub count : c.count + g.popped ≡ g.asking + g.pushed + own_unit g.place + again_unit g.place
   pub work : WorkFits g.place g.asking g.pushed g.popped
   pub carried : CarriedFits g.place g.walk c.popped
-  pub last : LastFits g g.place
+  pub last : LastFits g.popped g.pushed_at g.place
   pub answers : g.answered + unanswered g.place ≡ g.popped
   pub listed : c.popped ≡ records g.pushed_at (g.popped + g.walk) (length c.popped)
 
@@ -321,6 +324,7 @@ pub record Fits (c : Core) (g : Ghost) : Type 0 where
   pub words : WordsFit c g
   pub stamps : (stamp : ℕ) → g.popped < stamp → stamp ≤ g.pushed → StampFits c g stamp
   pub each : (s : ℕ) → SeatFits c g s (seat c.seats s) (wake c.wakes s)
+  pub agents : (s : ℕ) → AgentFits c.seats (g.standing s) s
   pub sums : SumsFit (length c.seats) g
   pub sizes : SizesFit c
 

@@ -1,0 +1,5 @@
+pub mod Entries
+pub mod Sums
+pub mod Frames
+pub mod Histories
+pub mod Abstracts

@@ -1,0 +1,1 @@
+//! Lemmas under way.

@@ -1,6 +1,7 @@
 -- What a step of one seat leaves to the others, and the steps that change no more than the acting seat, its own wake word,
 -- the count and owner words and the place.
 use Rattle.std.proofs.Common.{◌≡◌, ◌≢◌, ℕ, Bool, true, ◌+◌, ◌≤◌, ◌<◌, List, refl, sym, ap, ◌∙◌, arith, length}
+use Rattle.std.specs.Prelude.{⊤}
 use Rattle.lfm_core.specs.declared.seats.SeatState.{SeatState}
 use Rattle.lfm_words.specs.declared.handoffs.Handoff.{Handoff}
 use Rattle.lfm_words.specs.declared.links.Link.{Link}

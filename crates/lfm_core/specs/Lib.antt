@@ -24,3 +24,10 @@ pub mod Views
 pub mod Steady
 pub mod Events
 pub mod Outcome
+pub mod Errands
+pub mod Schedules
+pub mod Reading
+pub mod Watched
+pub mod Lawful
+pub mod Cases
+pub mod Laws

@@ -5,6 +5,7 @@ use Rattle.lfm_model.specs.Abstract.{AbstractMutex, AbstractPlace, AbstractStep,
 use Rattle.lfm_model.specs.Abstract as Abstract
 use Rattle.lfm_model.specs.AbstractRuns.{Case, IsSame, case_of}
 use Rattle.lfm_words.specs.declared.pop_lists.Record.{Record}
+pub use Rattle.lfm_core.specs.Cases.{GoesBy}
 use Rattle.lfm_core.specs.Core.{Core}
 use Rattle.lfm_core.specs.Events.{case_of_step, pushed_by, popped_by, answered_by}
 use Rattle.lfm_core.specs.Ghost.{Responsibility, nobody, owned, granted, posted, entering, accepting, leaving, serving, Ghost}
@@ -36,11 +37,6 @@ abstract g =
       asking = λ x. is_asking (g.standing x);
       waiting = map (λ r. r.seat) (queue_of_ghost g);
     }
-
--- one abstract state follows from another by the step of this name, or is the same where there is none
-abbrev pub GoesBy : Option Case → AbstractMutex → AbstractMutex → Type 0
-GoesBy None a b = IsSame a b
-GoesBy (Some case) a b = (step : AbstractStep a b) × (case_of step ≡ case)
 
 -- the records of a run's pushes, pops and answers go on by these
 pub record GoesOn (g h : Ghost) (pushes pops answers : List Record) : Type 0 where

@@ -18,7 +18,7 @@ use Rattle.lfm_core.specs.declared.seats.SeatState.{SeatState}
 use Rattle.lfm_words.specs.declared.wakes.Wake.{Wake}
 use Rattle.lfm_words.specs.declared.wakes.Wake.TheVariants.{Quiet, Waiting, Claimed, Grant}
 use Rattle.lfm_core.specs.Ghost.{Responsibility, nobody, owned, granted, posted, entering, accepting, leaving, serving, Standing, apart, claimed, asks, queued}
-use Rattle.lfm_core.specs.Points.{pushed_seat}
+pub use Rattle.lfm_core.specs.Errands.{asks_for_at, asks_for, claims_for_at, claims_for}
 
 -- The responsibility
 
@@ -100,27 +100,6 @@ grant_at _ s = None
 abbrev pub is_entered : Responsibility → ℕ → Bool
 is_entered (entering t into stamp) s = nat_eq into s
 is_entered _ s = false
-
--- Errands
-
--- the seat that seat s has counted and is to push, 0 for none
-abbrev pub asks_for_at : ℕ → ℕ → Point → ℕ
-asks_for_at depth s LockOwnerLoad = if nat_eq depth 0 then s else 0
-asks_for_at depth s (PushLoad pusher) = pushed_seat pusher s
-asks_for_at depth s (LinkStore pusher seen) = pushed_seat pusher s
-asks_for_at depth s (PushExchange pusher seen) = pushed_seat pusher s
-asks_for_at depth s _ = 0
-
-abbrev pub asks_for : SeatState → ℕ → ℕ
-asks_for x s = asks_for_at x.depth s x.point
-
--- the seat that a send has claimed and is to count, 0 for none
-abbrev pub claims_for_at : Point → ℕ
-claims_for_at (SendCountAdd t) = t
-claims_for_at _ = 0
-
-abbrev pub claims_for : SeatState → ℕ
-claims_for x = claims_for_at x.point
 
 -- The queue
 

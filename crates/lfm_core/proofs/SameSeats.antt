@@ -8,7 +8,6 @@ use Rattle.lfm_core.specs.declared.schedule.Act.TheVariants.{Begin, Steps, ToEnd
 use Rattle.lfm_core.specs.declared.schedule.Line.{Line}
 use Rattle.lfm_core.specs.Core.{Core, Moved}
 use Rattle.lfm_core.specs.Lines.{is_open, steps, longest_call, act_moved, line_moved}
-use Rattle.lfm_core.specs.Room.{has_room}
 use Rattle.lfm_core.specs.Seats.{is_seat, with_entry, wake}
 use Rattle.lfm_core.specs.Step.{claims_word, step_of, step, begin}
 use Rattle.lfm_words.specs.declared.wakes.Wake.{Wake}
@@ -50,8 +49,7 @@ seats_of_two c true x y p q = p
 seats_of_two c false x y p q = q
 
 seats-step : (c : Core) (s : ℕ) → length (step c s).core.seats ≡ length c.seats
-seats-step c s =
-    seats_of_two c (is_seat c.seats s) _ _ (seats_of_two c (has_room c s) _ _ (seats-step_of c s _ _) refl) refl
+seats-step c s = seats_of_two c (is_seat c.seats s) _ _ (seats-step_of c s _ _) refl
 
 seats-begin : (c : Core) (s : ℕ) (call : Call) → length (begin c s call).core.seats ≡ length c.seats
 seats-begin c s call = seats_of_two c (is_seat c.seats s) _ _ (length-with_entry c.seats s _) refl

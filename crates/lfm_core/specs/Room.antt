@@ -1,6 +1,5 @@
--- The numbers of a seat's next step fit their words, and its seats are there. So that no state that was not reached by
--- calls and steps can make a number wrap, a step tests this before it is made.
-use Rattle.std.specs.Prelude.{ℕ, Bool, true, ◌+◌, ◌^◌, ◌<◌, ◌≤◌, ◌&&◌, Option, Some, length, nat_lt}
+-- The numbers of a seat's next step fit their words, and its seats are there. Every steady state has room for each step.
+use Rattle.std.specs.Prelude.{ℕ, ◌+◌, ◌^◌, ◌<◌, ◌≤◌, Option, Some, length}
 use Rattle.lfm_core.specs.declared.kinds.Kind.{Kind}
 use Rattle.lfm_core.specs.declared.kinds.Kind.TheVariants.{CountAdd, CountSubtract, LinkLoad}
 use Rattle.lfm_core.specs.declared.points.Point.{Point}
@@ -8,7 +7,7 @@ use Rattle.lfm_core.specs.declared.points.Point.TheVariants.{LockCountSubtract, 
 use Rattle.lfm_core.specs.declared.seats.SeatState.{SeatState}
 use Rattle.lfm_core.specs.Core.{Core}
 use Rattle.lfm_core.specs.Points.{kind, target}
-use Rattle.lfm_core.specs.Seats.{seat, IsSeat, is_seat}
+use Rattle.lfm_core.specs.Seats.{seat, IsSeat}
 
 -- the numbers of the seat alone
 abbrev pub HasNumbers : SeatState → Point → Type 0
@@ -39,31 +38,3 @@ pub record HasRoom (c : Core) (s : ℕ) : Type 0 where
   pub counts : CountFits c.count (kind (seat c.seats s).point)
   pub pops : PopFits (length c.popped) (length c.seats) (kind (seat c.seats s).point)
   pub touches : IsSeat c.seats (target (seat c.seats s).point s)
-
--- The same as tests
-
-abbrev pub has_numbers : SeatState → Point → Bool
-has_numbers x LockCountSubtract = nat_lt x.depth 4294967295
-has_numbers x TryOwnerLoad = nat_lt x.depth 4294967295
-has_numbers x TryHandoffLoad = nat_lt 0 x.takes
-has_numbers x (TryHandoffExchange seen) = nat_lt 0 x.takes
-has_numbers x (LinkStore pusher seen) = nat_lt seen.stamp 18446744073709551615
-has_numbers x (PushExchange pusher seen) = nat_lt seen.stamp 18446744073709551615
-has_numbers x (ReleaseHandoffStore releaser) = nat_lt x.posts 18446744073709551615
-has_numbers x (TakeLinkLoad carrier next) = nat_lt 0 next && nat_lt next 65536
-has_numbers x _ = true
-
-abbrev pub count_fits : ℕ → Option Kind → Bool
-count_fits count (Some CountAdd) = nat_lt count 18446744073709551615
-count_fits count (Some CountSubtract) = nat_lt 0 count
-count_fits count _ = true
-
-abbrev pub pop_fits : ℕ → ℕ → Option Kind → Bool
-pop_fits popped seats (Some LinkLoad) = nat_lt popped seats
-pop_fits popped seats _ = true
-
-abbrev pub has_room : Core → ℕ → Bool
-has_room c s =
-    has_numbers (seat c.seats s) (seat c.seats s).point && count_fits c.count (kind (seat c.seats s).point)
-    && pop_fits (length c.popped) (length c.seats) (kind (seat c.seats s).point)
-    && is_seat c.seats (target (seat c.seats s).point s)

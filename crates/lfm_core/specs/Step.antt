@@ -11,7 +11,6 @@ use Rattle.lfm_core.specs.Begin as Begin
 use Rattle.lfm_core.specs.Core.{Core, Moved, limits, put_link, put_wake, refused, moves, adds_older, drops_if}
 use Rattle.lfm_core.specs.Points.{kind, target}
 use Rattle.lfm_words.specs.Popped.{oldest}
-use Rattle.lfm_core.specs.Room.{has_room}
 use Rattle.lfm_core.specs.Seats.{seat, link, wake, absent, no_link, unposted, is_seat}
 use Rattle.lfm_core.specs.Stores.{stored_owner, stored_link, expected_push, exchanged_push, stored_handoff, expected_handoff, stored_wake}
 
@@ -106,10 +105,9 @@ step_of c s t (Some Kind.WakeExchange) = wake_exchange_of c s t
 abbrev pub made : Core → ℕ → Moved
 made c s = step_of c s (target (seat c.seats s).point s) (kind (seat c.seats s).point)
 
--- the turn of seat s, which makes the step at its point if there is room for it
+-- the turn of seat s
 abbrev pub step : Core → ℕ → Moved
-step c s =
-    if is_seat c.seats s then (if has_room c s then made c s else refused c Idle) else refused c NoSuchSeat
+step c s = if is_seat c.seats s then made c s else refused c NoSuchSeat
 
 -- seat s begins a call
 abbrev pub begin : Core → ℕ → Call → Moved

@@ -9,6 +9,7 @@ pub mod grammar_laws;
 mod input;
 pub mod kinds;
 pub mod limits;
+mod machine;
 mod output;
 mod parsing;
 pub mod points;

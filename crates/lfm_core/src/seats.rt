@@ -12,7 +12,6 @@ ghost use Rattle.lfm_core.specs.Begin.{
   begin_awake,
   begin,
 };
-ghost use Rattle.lfm_core.specs.Room.{has_numbers};
 
 use crate::answers::{Answer, Call, Turn, Why};
 use crate::limits::Limits;
@@ -141,23 +140,6 @@ impl SeatState {
             )),
             (Point::Asleep(_), _) => Turn::refused(Refusal::Asleep),
             _ => Turn::Refused(Why::InCall),
-        }
-    }
-}
-
-/// What the next step needs.
-impl SeatState {
-    /// Whether the numbers of the seat's next step fit their words.
-    pub fn has_numbers(&self) -> bool
-        ensures { result ≡ has_numbers self.now self.now.point }
-    {
-        match self.point {
-            Point::LockCountSubtract | Point::TryOwnerLoad => self.depth < u32::MAX,
-            Point::TryHandoffLoad | Point::TryHandoffExchange(_) => 0 < self.takes,
-            Point::LinkStore(_, seen) | Point::PushExchange(_, seen) => seen.stamp < u64::MAX,
-            Point::ReleaseHandoffStore(_) => self.posts < u64::MAX,
-            Point::TakeLinkLoad(_, next) => 0 < next && next < 65_536,
-            _ => true,
         }
     }
 }

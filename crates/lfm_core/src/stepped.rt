@@ -1,370 +1,38 @@
-//! The mutex as a state that is stepped by hand: the words, the pop list and the seats. A turn begins a call or makes
-//! one atomic step: the operation of the step's kind on its word, and then the seat's own method.
-ghost use Rattle.std.specs.Prelude.{◌≡◌, ◌+◌, ◌^◌, ◌<◌, ◌≤◌, true, false, length, IfOk, IfErr};
-ghost use Rattle.lfm_core.specs.Core.{put, put_link, put_wake, drops_if};
+//! The mutex as a state that is stepped by hand. Every state that a caller has is steady: nothing else can be built, and
+//! each turn keeps it so. The turns and readers themselves are the machine's.
+ghost use Rattle.std.specs.Prelude.{◌≡◌, ◌*◌, ◌≤◌, true, false, length, reverse, slice_get, vec_capacity, IfOk, IfErr};
+ghost use Rattle.std.specs.Option.{option_map};
 ghost use Rattle.lfm_core.specs.Limits.{are_in_limits};
-ghost use Rattle.lfm_core.specs.Room.{HasNumbers, HasRoom, has_numbers, count_fits, pop_fits, has_room};
-ghost use Rattle.lfm_core.specs.Seats.{seat, link, wake, IsSeat, is_seat};
-ghost use Rattle.lfm_core.specs.Step.{
-  count_exchange,
-  count_add,
-  count_subtract,
-  owner_load,
-  owner_store,
-  push_load,
-  push_exchange,
-  clear_head,
-  link_load_of,
-  link_store_to,
-  handoff_load,
-  handoff_store,
-  handoff_exchange,
-  wake_load_of,
-  wake_store_to,
-  wake_exchange_of,
-  made,
-  step,
-  begin,
-  start,
-};
-
-mod readers;
+ghost use Rattle.lfm_core.specs.Lines.{longest_call};
+ghost use Rattle.lfm_core.specs.Place.{place_of};
+ghost use Rattle.lfm_core.specs.Queue.{queue_of};
+ghost use Rattle.lfm_core.specs.Seats.{seat, is_seat};
+ghost use Rattle.lfm_core.specs.Step.{begin, step, start};
+ghost use Rattle.lfm_words.specs.Popped.{pair_of};
 
 use crate::answers::{Call, Turn, Why};
-use crate::kinds::Kind;
 use crate::limits::Limits;
-use crate::points::Point;
-use crate::seats::SeatState;
-use lfm_model::{NewFault, SeatNo};
-use lfm_words::{Handoff, Link, PopList, Wake};
-use std::alloc::{AllocError, Global};
+use crate::machine::Machine;
+use lfm_model::{NewFault, Place, SeatNo};
+use lfm_words::{Handoff, Record};
+use std::alloc::Global;
 use std::marker::Model;
 
-/// A mutex of some seats, word for word. It starts with nobody holding and nothing queued.
+/// A mutex of some seats, word for word, as calls and steps have led it from its start.
 #[derive(Drop)]
 pub struct State {
-    budget: u64,
-    count: u64,
-    owner: u64,
-    handoff: Handoff,
-    push: Link,
-    popped: PopList,
-    links: Vec<Link>,
-    wakes: Vec<Wake>,
-    seats: Vec<SeatState>,
+    machine: Machine,
 }
 
 impl Model for State {
     ghost use Rattle.lfm_core.specs.Core.{Core};
-    ghost use Rattle.lfm_core.specs.Whole.{IsWhole};
+    ghost use Rattle.lfm_core.specs.Steady.{Steady};
 
     ghost Value = { Core };
 
-    ghost invariant = { λ m. IsWhole m.popped m.owner m.links.items m.wakes.items m.seats.items };
+    ghost invariant = { λ m. Steady m.machine };
 
-    ghost view = { λ m. record {
-      budget = m.budget;
-      count = m.count;
-      owner = m.owner;
-      handoff = m.handoff;
-      push = m.push;
-      popped = m.popped.records;
-      links = m.links.items;
-      wakes = m.wakes.items;
-      seats = m.seats.items;
-    } };
-}
-
-/// Entries by the seat's number.
-impl State {
-    /// The seat with this number.
-    fn seat(&self, s: u64) -> SeatState
-        requires { IsSeat self.now.seats s }
-        ensures { result ≡ seat self.now.seats s }
-    {
-        self.seats[(s - 1) as usize]
-    }
-
-    /// The link of this seat.
-    fn link(&self, t: u64) -> Link
-        requires { IsSeat self.now.seats t }
-        ensures { result ≡ link self.now.links t }
-    {
-        self.links[(t - 1) as usize]
-    }
-
-    /// The wake word of this seat.
-    fn wake(&self, t: u64) -> Wake
-        requires { IsSeat self.now.seats t }
-        ensures { result ≡ wake self.now.wakes t }
-    {
-        self.wakes[(t - 1) as usize]
-    }
-
-    fn put(&mut self, s: u64, x: SeatState)
-        requires { IsSeat self.old.seats s }
-        ensures { self.new ≡ put self.old s x }
-    {
-        self.seats[(s - 1) as usize] = x;
-    }
-
-    fn put_link(&mut self, t: u64, x: Link)
-        requires { IsSeat self.old.seats t }
-        ensures { self.new ≡ put_link self.old t x }
-    {
-        self.links[(t - 1) as usize] = x;
-    }
-
-    fn put_wake(&mut self, t: u64, x: Wake)
-        requires { IsSeat self.old.seats t }
-        ensures { self.new ≡ put_wake self.old t x }
-    {
-        self.wakes[(t - 1) as usize] = x;
-    }
-
-    /// A seat has this number.
-    pub fn is_seat(&self, s: u64) -> bool
-        ensures { result ≡ is_seat self.now.seats s }
-    {
-        0 < s && s <= self.seats.len() as u64
-    }
-}
-
-/// The pop list.
-impl State {
-    /// Takes the oldest record out of the pop list, if it leaves.
-    fn drops_if(&mut self, leaves: bool)
-        ensures { self.new ≡ drops_if self.old leaves }
-    {
-        if leaves {
-            let _ = self.popped.take_oldest();
-        }
-    }
-}
-
-/// One atomic step of each kind: the operation on the word, then the seat's own step.
-impl State {
-    fn count_exchange(&mut self, s: u64) -> Turn
-        requires seat { IsSeat self.old.seats s }
-        ensures core { self.new ≡ (count_exchange self.old s).core }
-        ensures turn { result ≡ (count_exchange self.old s).turn }
-    {
-        let mut seat = self.seat(s);
-        let found = self.count;
-        if found == 0 {
-            self.count = 1;
-        }
-        let turn = seat.after_count_exchange(found);
-        self.put(s, seat);
-        turn
-    }
-
-    fn count_add(&mut self, s: u64) -> Turn
-        requires seat { IsSeat self.old.seats s }
-        requires counts { self.old.count + 1 < 2 ^ 64 }
-        ensures core { self.new ≡ (count_add self.old s).core }
-        ensures turn { result ≡ (count_add self.old s).turn }
-    {
-        let mut seat = self.seat(s);
-        let found = self.count;
-        self.count = found + 1;
-        let turn = seat.after_count_add(found);
-        self.put(s, seat);
-        turn
-    }
-
-    fn count_subtract(&mut self, s: u64) -> Turn
-        requires seat { IsSeat self.old.seats s }
-        requires numbers { HasNumbers (seat self.old.seats s) (seat self.old.seats s).point }
-        requires counts { 0 < self.old.count }
-        ensures core { self.new ≡ (count_subtract self.old s).core }
-        ensures turn { result ≡ (count_subtract self.old s).turn }
-    {
-        let mut seat = self.seat(s);
-        let found = self.count;
-        self.count = found - 1;
-        let turn = seat.after_count_subtract(s, found, self.popped.oldest());
-        self.put(s, seat);
-        turn
-    }
-
-    fn owner_load(&mut self, s: u64) -> Turn
-        requires seat { IsSeat self.old.seats s }
-        requires numbers { HasNumbers (seat self.old.seats s) (seat self.old.seats s).point }
-        ensures core { self.new ≡ (owner_load self.old s).core }
-        ensures turn { result ≡ (owner_load self.old s).turn }
-    {
-        let mut seat = self.seat(s);
-        let turn = seat.after_owner_load(s, self.owner);
-        self.put(s, seat);
-        turn
-    }
-
-    fn owner_store(&mut self, s: u64) -> Turn
-        requires seat { IsSeat self.old.seats s }
-        ensures core { self.new ≡ (owner_store self.old s).core }
-        ensures turn { result ≡ (owner_store self.old s).turn }
-    {
-        let mut seat = self.seat(s);
-        self.owner = seat.stored_owner(s);
-        self.drops_if(seat.drops_oldest());
-        let turn = seat.after_owner_store();
-        self.put(s, seat);
-        turn
-    }
-
-    fn push_load(&mut self, s: u64) -> Turn
-        requires seat { IsSeat self.old.seats s }
-        ensures core { self.new ≡ (push_load self.old s).core }
-        ensures turn { result ≡ (push_load self.old s).turn }
-    {
-        let mut seat = self.seat(s);
-        let turn = seat.after_push_load(self.push);
-        self.put(s, seat);
-        turn
-    }
-
-    fn push_exchange(&mut self, s: u64) -> Turn
-        requires seat { IsSeat self.old.seats s }
-        requires numbers { HasNumbers (seat self.old.seats s) (seat self.old.seats s).point }
-        ensures core { self.new ≡ (push_exchange self.old s).core }
-        ensures turn { result ≡ (push_exchange self.old s).turn }
-    {
-        let mut seat = self.seat(s);
-        let found = self.push;
-        if found == seat.expected_push() {
-            self.push = seat.exchanged_push(s);
-        }
-        let turn = seat.after_push_exchange(found);
-        self.put(s, seat);
-        turn
-    }
-
-    fn clear_head(&mut self, s: u64) -> Turn
-        requires seat { IsSeat self.old.seats s }
-        ensures core { self.new ≡ (clear_head self.old s).core }
-        ensures turn { result ≡ (clear_head self.old s).turn }
-    {
-        let mut seat = self.seat(s);
-        let found = self.push;
-        self.push.next = 0;
-        let turn = seat.after_clear_head(found);
-        self.put(s, seat);
-        turn
-    }
-
-    fn link_load_of(&mut self, s: u64, t: u64) -> Turn
-        requires seat { IsSeat self.old.seats s }
-        requires touches { IsSeat self.old.seats t }
-        requires numbers { HasNumbers (seat self.old.seats s) (seat self.old.seats s).point }
-        requires pops { length self.old.popped < length self.old.seats }
-        ensures core { self.new ≡ (link_load_of self.old s t).core }
-        ensures turn { result ≡ (link_load_of self.old s t).turn }
-    {
-        let mut seat = self.seat(s);
-        let found = self.link(t);
-        self.popped.add_older(SeatNo::known(t), found.stamp);
-        let turn = seat.after_link_load(s, found);
-        self.put(s, seat);
-        turn
-    }
-
-    fn link_store_to(&mut self, s: u64, t: u64) -> Turn
-        requires seat { IsSeat self.old.seats s }
-        requires numbers { HasNumbers (seat self.old.seats s) (seat self.old.seats s).point }
-        requires touches { IsSeat self.old.seats t }
-        ensures core { self.new ≡ (link_store_to self.old s t).core }
-        ensures turn { result ≡ (link_store_to self.old s t).turn }
-    {
-        let mut seat = self.seat(s);
-        self.put_link(t, seat.stored_link());
-        let turn = seat.after_link_store();
-        self.put(s, seat);
-        turn
-    }
-
-    fn handoff_load(&mut self, s: u64) -> Turn
-        requires seat { IsSeat self.old.seats s }
-        requires numbers { HasNumbers (seat self.old.seats s) (seat self.old.seats s).point }
-        ensures core { self.new ≡ (handoff_load self.old s).core }
-        ensures turn { result ≡ (handoff_load self.old s).turn }
-    {
-        let mut seat = self.seat(s);
-        let turn = seat.after_handoff_load(self.handoff);
-        self.put(s, seat);
-        turn
-    }
-
-    fn handoff_store(&mut self, s: u64) -> Turn
-        requires seat { IsSeat self.old.seats s }
-        requires numbers { HasNumbers (seat self.old.seats s) (seat self.old.seats s).point }
-        ensures core { self.new ≡ (handoff_store self.old s).core }
-        ensures turn { result ≡ (handoff_store self.old s).turn }
-    {
-        let mut seat = self.seat(s);
-        self.handoff = seat.stored_handoff(s);
-        let turn = seat.after_handoff_store();
-        self.put(s, seat);
-        turn
-    }
-
-    fn handoff_exchange(&mut self, s: u64) -> Turn
-        requires seat { IsSeat self.old.seats s }
-        requires numbers { HasNumbers (seat self.old.seats s) (seat self.old.seats s).point }
-        ensures core { self.new ≡ (handoff_exchange self.old s).core }
-        ensures turn { result ≡ (handoff_exchange self.old s).turn }
-    {
-        let mut seat = self.seat(s);
-        let found = self.handoff;
-        if found == seat.expected_handoff(s) {
-            self.handoff = Handoff { seat: 0, post: 0 };
-        }
-        let turn = seat.after_handoff_exchange(s, found, self.popped.oldest());
-        self.put(s, seat);
-        turn
-    }
-
-    fn wake_load_of(&mut self, s: u64, t: u64) -> Turn
-        requires seat { IsSeat self.old.seats s }
-        requires touches { IsSeat self.old.seats t }
-        ensures core { self.new ≡ (wake_load_of self.old s t).core }
-        ensures turn { result ≡ (wake_load_of self.old s t).turn }
-    {
-        let mut seat = self.seat(s);
-        let turn = seat.after_wake_load(self.wake(t));
-        self.put(s, seat);
-        turn
-    }
-
-    fn wake_store_to(&mut self, s: u64, t: u64) -> Turn
-        requires seat { IsSeat self.old.seats s }
-        requires touches { IsSeat self.old.seats t }
-        ensures core { self.new ≡ (wake_store_to self.old s t).core }
-        ensures turn { result ≡ (wake_store_to self.old s t).turn }
-    {
-        let mut seat = self.seat(s);
-        self.put_wake(t, seat.stored_wake());
-        self.drops_if(seat.drops_oldest());
-        let turn = seat.after_wake_store();
-        self.put(s, seat);
-        turn
-    }
-
-    fn wake_exchange_of(&mut self, s: u64, t: u64) -> Turn
-        requires seat { IsSeat self.old.seats s }
-        requires touches { IsSeat self.old.seats t }
-        ensures core { self.new ≡ (wake_exchange_of self.old s t).core }
-        ensures turn { result ≡ (wake_exchange_of self.old s t).turn }
-    {
-        let mut seat = self.seat(s);
-        let found = self.wake(t);
-        if let Wake::Waiting = found {
-            self.put_wake(t, Wake::Claimed);
-        }
-        let turn = seat.after_wake_exchange(found);
-        self.put(s, seat);
-        turn
-    }
+    ghost view = { λ m. m.machine };
 }
 
 /// The turns.
@@ -381,31 +49,10 @@ impl State {
         if !limits.are_allowed() {
             return Err(NewFault::Limit);
         }
-        State::at_start(alloc, limits).map_err(|_| NewFault::Memory)
-    }
-
-    fn at_start(alloc: Global, limits: Limits) -> Result<State, AllocError>
-        requires { limits.seats ≤ 4095 }
-        ensures { IfOk result (λ m. m ≡ start limits) }
-    {
-        let seats = limits.seats as usize;
-        let resting = SeatState {
-            depth: 0,
-            takes: 0,
-            posts: 0,
-            point: Point::Rest,
-        };
-        Ok(State {
-            budget: limits.budget,
-            count: 0,
-            owner: 0,
-            handoff: Handoff { seat: 0, post: 0 },
-            push: Link { stamp: 0, next: 0 },
-            popped: PopList::new(alloc, limits.seats)?,
-            links: vec![in alloc; Link { stamp: 0, next: 0 }; seats]?,
-            wakes: vec![in alloc; Wake::Quiet; seats]?,
-            seats: vec![in alloc; resting; seats]?,
-        })
+        match Machine::new(alloc, limits) {
+            Ok(machine) => Ok(State { machine }),
+            Err(_) => Err(NewFault::Memory),
+        }
     }
 
     /// Seat s begins a call: the checks in the order of the refusals, the charge of a take, and the first point. It is
@@ -415,17 +62,7 @@ impl State {
         ensures core { self.new ≡ (begin self.old s call).core }
         ensures turn { result ≡ (begin self.old s call).turn }
     {
-        if !self.is_seat(s) {
-            return Turn::Refused(Why::NoSuchSeat);
-        }
-        let limits = Limits {
-            seats: self.seats.len() as u64,
-            budget: self.budget,
-        };
-        let mut seat = self.seat(s);
-        let turn = seat.begin(limits, call);
-        self.put(s, seat);
-        turn
+        self.machine.begin(s, call)
     }
 
     /// Seat s makes the one atomic step at its point. It is refused as NoSuchSeat where no seat has this number, then as
@@ -435,72 +72,100 @@ impl State {
         ensures core { self.new ≡ (step self.old s).core }
         ensures turn { result ≡ (step self.old s).turn }
     {
-        if !self.is_seat(s) {
+        if !self.machine.is_seat(s) {
             return Turn::Refused(Why::NoSuchSeat);
         }
-        if !self.has_room(s) {
-            return Turn::Refused(Why::Idle);
-        }
-        self.make(s)
+        self.machine.make(s)
+    }
+}
+
+/// What a state tells of itself. No reader changes anything or takes memory.
+impl State {
+    /// A seat has this number.
+    pub fn is_seat(&self, s: u64) -> bool
+        ensures { result ≡ is_seat self.now.seats s }
+    {
+        self.machine.is_seat(s)
     }
 
-    /// Whether the numbers and seats of the next step of seat s fit.
-    fn has_room(&self, s: u64) -> bool
-        requires { IsSeat self.now.seats s }
-        ensures { result ≡ has_room self.now s }
+    /// How many hold the mutex or want it.
+    pub fn count(&self) -> u64
+        ensures { result ≡ self.now.count }
     {
-        let seat = self.seat(s);
-        let kind = seat.point.kind();
-        let t = seat.point.target(s);
-        seat.has_numbers() && self.count_fits(kind) && self.pop_fits(kind) && self.is_seat(t)
+        self.machine.count()
     }
 
-    fn count_fits(&self, kind: Option<Kind>) -> bool
-        ensures { result ≡ count_fits self.now.count kind }
+    /// The number of the owning seat; 0 where the owner word is empty.
+    pub fn owner(&self) -> u64
+        ensures { result ≡ self.now.owner }
     {
-        match kind {
-            Some(Kind::CountAdd) => self.count < u64::MAX,
-            Some(Kind::CountSubtract) => 0 < self.count,
-            _ => true,
-        }
+        self.machine.owner()
     }
 
-    fn pop_fits(&self, kind: Option<Kind>) -> bool
-        ensures { result ≡ pop_fits (length self.now.popped) (length self.now.seats) kind }
+    /// The posted handoff; its seat is 0 where none is posted.
+    pub fn handoff(&self) -> Handoff
+        ensures { result ≡ self.now.handoff }
     {
-        match kind {
-            Some(Kind::LinkLoad) => self.popped.len() < self.seats.len() as u64,
-            _ => true,
-        }
+        self.machine.handoff()
     }
 
-    /// Makes the step of seat s, for which there is room.
-    fn make(&mut self, s: u64) -> Turn
-        requires seat { IsSeat self.old.seats s }
-        requires room { HasRoom self.old s }
-        ensures core { self.new ≡ (made self.old s).core }
-        ensures turn { result ≡ (made self.old s).turn }
+    /// More steps than any call makes that runs alone.
+    pub fn longest_call(&self) -> u64
+        ensures { result ≡ longest_call self.now }
     {
-        let seat = self.seat(s);
-        let t = seat.point.target(s);
-        match seat.point.kind() {
-            None => Turn::Refused(Why::Idle),
-            Some(Kind::CountExchange) => self.count_exchange(s),
-            Some(Kind::CountAdd) => self.count_add(s),
-            Some(Kind::CountSubtract) => self.count_subtract(s),
-            Some(Kind::OwnerLoad) => self.owner_load(s),
-            Some(Kind::OwnerStore) => self.owner_store(s),
-            Some(Kind::PushLoad) => self.push_load(s),
-            Some(Kind::PushExchange) => self.push_exchange(s),
-            Some(Kind::ClearHead) => self.clear_head(s),
-            Some(Kind::LinkLoad) => self.link_load_of(s, t),
-            Some(Kind::LinkStore) => self.link_store_to(s, t),
-            Some(Kind::HandoffLoad) => self.handoff_load(s),
-            Some(Kind::HandoffStore) => self.handoff_store(s),
-            Some(Kind::HandoffExchange) => self.handoff_exchange(s),
-            Some(Kind::WakeLoad) => self.wake_load_of(s, t),
-            Some(Kind::WakeStore) => self.wake_store_to(s, t),
-            Some(Kind::WakeExchange) => self.wake_exchange_of(s, t),
-        }
+        self.machine.longest_call()
+    }
+
+    /// How many times seat s holds the mutex: 0 to 65,535. A seat that isn't there reads as one at rest that did nothing.
+    pub fn depth(&self, s: u64) -> u32
+        ensures { result ≡ (seat self.now.seats s).depth }
+    {
+        self.machine.depth(s)
+    }
+
+    /// How many takes seat s has charged.
+    pub fn takes(&self, s: u64) -> u64
+        ensures { result ≡ (seat self.now.seats s).takes }
+    {
+        self.machine.takes(s)
+    }
+
+    /// How many handoffs seat s has posted.
+    pub fn posts(&self, s: u64) -> u64
+        ensures { result ≡ (seat self.now.seats s).posts }
+    {
+        self.machine.posts(s)
+    }
+
+    /// Where the responsibility lies, read from the words and the points: with the owner, in the posted handoff, with a
+    /// seat whose grant isn't loaded, or with a call that carries it. It looks at each seat at most twice.
+    pub fn place(&self) -> Place
+        ensures { result ≡ place_of self.now }
+    {
+        self.machine.place()
+    }
+
+    /// How many records are queued. It walks the links of those that are in no pop list.
+    pub fn queue_len(&self) -> u64
+        ensures { result ≡ length (queue_of self.now) }
+    {
+        self.machine.queue_len()
+    }
+
+    /// The seat and stamp of the record that i others are older than: 0 is the oldest. None past the newest. It walks the
+    /// links of those that are in no pop list.
+    pub fn queued(&self, i: u64) -> Option<(SeatNo, u64)>
+        ensures { result ≡ option_map pair_of (slice_get (queue_of self.now) i) }
+    {
+        self.machine.queued(i)
+    }
+
+    /// Gathers the queue's records, newest first, into room that was reserved for three records of each seat.
+    pub(crate) fn gather(&self, room: &mut Vec<Record>)
+        requires { 3 * length self.now.seats ≤ vec_capacity room.old }
+        ensures gathered { reverse room.new.items ≡ queue_of self.now }
+        ensures room { vec_capacity room.new ≡ vec_capacity room.old }
+    {
+        self.machine.gather(room);
     }
 }

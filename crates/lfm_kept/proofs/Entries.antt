@@ -1,5 +1,6 @@
 -- Reads of a list of entries by number after one of them was written.
-use Rattle.std.proofs.Common.{◌≡◌, ◌≢◌, ℕ, zero, suc, ◌+◌, ◌<◌, ◌≤◌, List, length, refl, arith}
+use Rattle.std.proofs.Common.{◌≡◌, ◌≢◌, ◌⊎◌, ℕ, zero, suc, ◌<◌, ◌≤◌, List, length, refl, inl, inr, arith}
+use Rattle.std.proofs.lemmas.Bool.{cases_lt}
 use Rattle.std.proofs.lemmas.List.{get_or-set_same, get_or-set_other, length-set, get_or_past}
 use Rattle.lfm_core.specs.declared.seats.SeatState.{SeatState}
 use Rattle.lfm_core.specs.Seats.{seat, entry, with_entry, absent, IsSeat}
@@ -31,3 +32,13 @@ pub entry_past : {A : Type 0} (d : A) (xs : List A) (s : ℕ) → length xs < s 
 unfolding entry
 entry_past d xs zero past = refl
 entry_past d xs (suc n) past = get_or_past xs n d (omega arith)
+
+-- a number is that of a seat, or reads as absent
+pub seat_or_absent : (seats : List SeatState) (s : ℕ) → IsSeat seats s ⊎ (seat seats s ≡ absent)
+unfolding entry
+seat_or_absent seats zero = inr refl
+seat_or_absent seats (suc n) =
+    elim (cases_lt n (length seats)) [
+      | inl within ↦ inl (record { above = omega arith; within = omega arith })
+      | inr past ↦ inr (get_or_past seats n absent past)
+    ]

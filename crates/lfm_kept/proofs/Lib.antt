@@ -3,3 +3,4 @@ pub mod Sums
 pub mod Frames
 pub mod Histories
 pub mod Abstracts
+pub mod Start

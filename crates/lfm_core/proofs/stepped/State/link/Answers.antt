@@ -1,9 +1,0 @@
-use Rattle.lfm_core.specs.Seats.{no_link}
-use Rattle.std.proofs.Common.{arith}
-use Rattle.lfm_core.proofs.SeatLaws.{entry_read}
-use Rattle.lfm_core.proofs.stepped.State.link.Goals as goal
-
-pub returns : goal.returns
-returns c =
-    let is = rw (← c.self.view_is) at c.requires in
-    rw (← c.self.view_is) (entry_read no_link c.self.inside.links.items c.args.t c.index.result.now is.above (omega (arith, is.within, c.self.invariant)) c.index.ensures)

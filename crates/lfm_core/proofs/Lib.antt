@@ -14,3 +14,4 @@ pub mod Spelled
 pub mod Taking
 pub mod Walks
 pub mod Writes
+pub mod steady

@@ -14,9 +14,9 @@ use Rattle.lfm_core.specs.Outcome.{abstract, abstract_place, queue_of_ghost}
 use Rattle.lfm_core.specs.Seats.{seat, absent}
 use Rattle.lfm_core.specs.Steady.{Fits, asking_unit}
 use Rattle.lfm_core.specs.Views.{is_asking, is_queued, held_by, grant_at, is_entered}
-use Rattle.lfm_kept.proofs.Entries.{seat_or_absent}
-use Rattle.lfm_kept.proofs.Histories.{records_agree, records_snoc}
-use Rattle.lfm_kept.proofs.Sums.{changed_same, changed_other, sum_member, sum_witness}
+use Rattle.lfm_core.proofs.steady.Entries.{seat_or_absent}
+use Rattle.lfm_core.proofs.steady.Histories.{records_agree, records_snoc}
+use Rattle.lfm_core.proofs.steady.Sums.{changed_same, changed_other, sum_member, sum_witness}
 
 pub stays_same : (g h : Ghost) → abstract_place h.place ≡ abstract_place g.place → ((x : ℕ) → is_asking (h.standing x) ≡ is_asking (g.standing x))
     → queue_of_ghost h ≡ queue_of_ghost g → IsSame (abstract g) (abstract h)

@@ -21,7 +21,7 @@ use Rattle.lfm_core.specs.Points.{pushed_seat}
 use Rattle.lfm_core.specs.Seats.{seat, link, wake, with_entry, unposted, IsSeat}
 use Rattle.lfm_core.specs.Steady.{IsSeen, IsOld, HasQueue, HeadStays, QueuedFits, ErrandFits, PushedFits, KnowsRecord, EntersFits, KnowsAt, StandsAsPusher, AwaitsAsPusher, StandsAt, SeatFits, AgentFits, WatchesAsPusher, WatchesAt, HandoffFits, owner_of, own_unit, again_unit, WorkFits, CarriedFits, LastFits, unanswered, WordsFit, SizesFit, Fits}
 use Rattle.lfm_core.specs.Views.{held_by, grant_at, is_entered, asks_for, claims_for, is_queued, wake_at, wake_by, expected_wake, claim_to_enter, claim_at}
-use Rattle.lfm_kept.proofs.Entries.{entry-with_same, entry-with_other, seat-with_same, seat-with_other, length-with_entry}
+use Rattle.lfm_core.proofs.steady.Entries.{entry-with_same, entry-with_other, seat-with_same, seat-with_other, length-with_entry}
 
 -- what the carrier reads of the queue
 pub record SeesCarried (c d : Core) (g h : Ghost) : Type 0 where

@@ -5,7 +5,7 @@ use Rattle.lfm_words.specs.declared.pop_lists.Record.{Record}
 use Rattle.lfm_core.specs.Ghost.{Ghost}
 use Rattle.lfm_core.specs.Numbered.{records, changed}
 use Rattle.lfm_core.specs.Outcome.{GoesOn}
-use Rattle.lfm_kept.proofs.Sums.{changed_same, changed_other}
+use Rattle.lfm_core.proofs.steady.Sums.{changed_same, changed_other}
 
 -- functions that agree on these stamps make the same records
 pub records_agree : (f f' : ℕ → ℕ) (k n : ℕ) → ((x : ℕ) → k < x → x ≤ k + n → f' x ≡ f x) → records f' k n ≡ records f k n

@@ -7,7 +7,7 @@ use Rattle.lfm_core.specs.Ghost.{nobody, apart, Ghost}
 use Rattle.lfm_core.specs.Seats.{entry, absent, no_link}
 use Rattle.lfm_core.specs.Steady.{SeatFits, asking_unit, queued_unit, Steady}
 use Rattle.lfm_core.specs.Step.{start}
-use Rattle.lfm_kept.proofs.Sums.{sum_none}
+use Rattle.lfm_core.proofs.steady.Sums.{sum_none}
 
 -- entries that are all d read as d, at every number
 same_entry : {A : Type 0} (d : A) (n s : ℕ) → entry d (replicate n d) s ≡ d

@@ -1,0 +1,18 @@
+-- A step of a seat that is there leads from a steady state to a steady state.
+use Rattle.std.proofs.Common.{◌≡◌, ◌<◌, ◌≤◌, ◌+◌, ◌&&◌, ℕ, Bool, true, List, length, arith, tests}
+use Rattle.lfm_core.specs.declared.seats.SeatState.{SeatState}
+use Rattle.lfm_core.specs.Core.{Core}
+use Rattle.lfm_core.specs.Seats.{IsSeat, is_seat}
+use Rattle.lfm_core.specs.Steady.{Steady}
+use Rattle.lfm_core.specs.Step.{made}
+use Rattle.lfm_core.proofs.steady.StepsKept.{made_keeps}
+
+-- a seat has this number where the test says so
+pub seat_of_test : (seats : List SeatState) (s : ℕ) → is_seat seats s ≡ true → IsSeat seats s
+seat_of_test seats s is =
+    record { above = search (tests, arith, is); within = search (tests, arith, is) }
+
+pub made_steady : (c : Core) (s : ℕ) → is_seat c.seats s ≡ true → Steady c → Steady (made c s).core
+made_steady c s is steady =
+    let kept = made_keeps c steady.ghost_state s (seat_of_test c.seats s is) steady.fits in
+    record { ghost_state = kept.to; fits = kept.fits }

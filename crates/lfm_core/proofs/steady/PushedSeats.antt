@@ -1,0 +1,180 @@
+-- The two seats that a push changes: the pushed one, which sleeps since its start_wait where another seat pushes it, and the
+-- one that pushes.
+use Rattle.std.proofs.Common.{◌≡◌, ◌≢◌, ℕ, true, ◌+◌, ◌≤◌, refl, sym, ◌∙◌, arith, inl, inr, Option, None, Some, nat_eq, if◌then◌else◌}
+use Rattle.std.proofs.lemmas.Bool.{cases_eq, eq-eqb, ne_eqb}
+use Rattle.lfm_model.specs.declared.answers.How.{How}
+use Rattle.lfm_core.specs.declared.points.Carrier.{Carrier}
+use Rattle.lfm_core.specs.declared.points.Entrant.{Entrant}
+use Rattle.lfm_core.specs.declared.points.Point.{Point}
+use Rattle.lfm_core.specs.declared.points.Point.TheVariants.{Asleep, LockOwnerLoad, PushLoad, LinkStore, PushExchange, PushedHandoffLoad, PushedHandoffExchange, TakeClearHead, TakeLinkLoad, GrantWakeStore, EnterOwnerStore, ReceiveWakeLoad}
+use Rattle.lfm_core.specs.declared.points.Pusher.{Pusher}
+use Rattle.lfm_core.specs.declared.points.Sleeper.TheVariants as Sleeper
+use Rattle.lfm_core.specs.declared.seats.SeatState.{SeatState}
+use Rattle.lfm_words.specs.declared.links.Link.{Link}
+use Rattle.lfm_words.specs.declared.wakes.Wake.{Wake}
+use Rattle.lfm_words.specs.declared.wakes.Wake.TheVariants.{Claimed}
+use Rattle.lfm_core.specs.Core.{Core, put}
+use Rattle.lfm_core.specs.Ghost.{Responsibility, apart, asks, queued, Ghost}
+use Rattle.lfm_core.specs.Steady.{QueuedFits, SeatFits, StandsAt, StandsAsPusher, AwaitsAsPusher, StandsAsCarrier, StandsAsEntrant, sleeps_as_waiter}
+use Rattle.lfm_core.specs.Views.{grant_at, is_some}
+use Rattle.lfm_core.proofs.steady.Pushers.{woken_same}
+use Rattle.lfm_core.proofs.steady.Pushing.{with_pushed, exchanged}
+use Rattle.lfm_core.proofs.steady.Sums.{changed_same, changed_other}
+
+-- A seat that asks by another seat's send sleeps since a start_wait
+
+no_pusher : (s u : ℕ) (pusher : Pusher) → u ≢ s → StandsAsPusher u (asks s) pusher → ⊥
+no_pusher s u Pusher.Locker other stands = other cc
+no_pusher s u (Pusher.Sender t) other stands = cc
+
+no_waiter_of_push : (place : Responsibility) (s u : ℕ) (pusher : Pusher) → grant_at place u ≡ None → AwaitsAsPusher place u (asks s) pusher → ⊥
+no_waiter_of_push place s u Pusher.Locker none stands = let h = rw none at stands in cc
+no_waiter_of_push place s u (Pusher.Sender t) none stands = cc
+
+no_carrier : (s : ℕ) (carrier : Carrier) → StandsAsCarrier (asks s) carrier → ⊥
+no_carrier s Carrier.Locker stands = cc
+no_carrier s _ stands = cc
+
+no_entrant : (s : ℕ) (entrant : Entrant) (how : How) → StandsAsEntrant (asks s) entrant how → ⊥
+no_entrant s Entrant.Locker (How.Queued stamp) stands = cc
+no_entrant s _ how stands = cc
+
+no_owner_load : (depth s u : ℕ) → u ≢ s → asks s ≡ (if nat_eq depth 0 then asks u else apart) → ⊥
+no_owner_load depth s u other stands =
+    elim (cases_eq depth 0) [
+      | inl e ↦ let h = rw (eq-eqb depth 0 e) at stands in other cc
+      | inr some ↦ let h = rw (ne_eqb depth 0 some) at stands in cc
+    ]
+
+asked_sleeps : (place : Responsibility) (depth s u : ℕ) (p : Point) → u ≢ s → grant_at place u ≡ None → StandsAt place depth u (asks s) p → sleeps_as_waiter p ≡ true
+asked_sleeps place depth s u (Asleep Sleeper.Waiter) other none stands = refl
+asked_sleeps place depth s u (Asleep Sleeper.Locker) other none stands = let h = rw none at stands in absurd (cc)
+asked_sleeps place depth s u (ReceiveWakeLoad Sleeper.Waiter) other none stands = refl
+asked_sleeps place depth s u (ReceiveWakeLoad Sleeper.Locker) other none stands = let h = rw none at stands in absurd (cc)
+asked_sleeps place depth s u LockOwnerLoad other none stands = absurd (no_owner_load depth s u other stands)
+asked_sleeps place depth s u (PushLoad pusher) other none stands = absurd (no_pusher s u pusher other stands)
+asked_sleeps place depth s u (LinkStore pusher seen) other none stands = absurd (no_pusher s u pusher other stands)
+asked_sleeps place depth s u (PushExchange pusher seen) other none stands = absurd (no_pusher s u pusher other stands)
+asked_sleeps place depth s u (PushedHandoffLoad pusher) other none stands = absurd (no_waiter_of_push place s u pusher none stands)
+asked_sleeps place depth s u (PushedHandoffExchange pusher seen) other none stands = absurd (no_waiter_of_push place s u pusher none stands)
+asked_sleeps place depth s u (TakeClearHead carrier) other none stands = absurd (no_carrier s carrier stands)
+asked_sleeps place depth s u (TakeLinkLoad carrier next) other none stands = absurd (no_carrier s carrier stands)
+asked_sleeps place depth s u (GrantWakeStore carrier oldest) other none stands = absurd (no_carrier s carrier stands)
+asked_sleeps place depth s u (EnterOwnerStore entrant how) other none stands = absurd (no_entrant s entrant how stands)
+asked_sleeps place depth s u _ other none stands = absurd (cc)
+
+-- it was not granted
+no_grant : (o : Option ℕ) → (is_some o ≡ true → ⊥) → o ≡ None
+no_grant None none = refl
+no_grant (Some stamp) none = absurd (none refl)
+
+-- its standing after the push tells its record
+listed_pushed : (g : Ghost) (u stamp : ℕ) → g.popped ≤ g.pushed → queued (g.pushed + 1) ≡ queued stamp → QueuedFits (with_pushed g u) u stamp
+listed_pushed g u stamp most e =
+    let same : g.pushed + 1 ≡ stamp = cc in
+    record { above = omega arith; within = omega arith; here = rw (← same) (changed_same g.pushed_at (g.pushed + 1) u) }
+
+sleeper_pushed : (c : Core) (g : Ghost) (s u : ℕ) (seen : Link) (y x : SeatState) (w : Wake) (p : Point) → sleeps_as_waiter p ≡ true → g.popped ≤ g.pushed
+    → g.standing u ≡ asks s → grant_at g.place u ≡ None → SeatFits c g u (record x { point = p }) w
+    → SeatFits (put (exchanged c seen u) s y) (with_pushed g u) u (record x { point = p }) w
+sleeper_pushed c g s u seen y x w (Asleep Sleeper.Waiter) sleeps most asked none fits =
+    let n = g.pushed + 1 in
+    let here : (with_pushed g u).standing u ≡ queued n = changed_same g.standing u (queued n) in
+    let pushes : (with_pushed g u).pushes u ≡ g.pushes u + 1 = changed_same g.pushes u (g.pushes u + 1) in
+    let woken : w ≡ Claimed = fits.woken ∙ rw (none, asked) in
+    let due = rw (woken, asked) at fits.pushes in
+    record {
+      claims = fits.claims;
+      woken = woken ∙ rw (none, here);
+      granted = λ some. let f = sym asked ∙ (fits.granted some).1 in absurd (cc);
+      entered = λ is held. let f = sym asked ∙ (fits.entered is held).1 in absurd (cc);
+      listed = λ stamp e. listed_pushed g u stamp most (sym here ∙ e);
+      stands = tt;
+      depth = fits.depth;
+      knows = tt;
+      number = fits.number;
+      takes = fits.takes;
+      posts = fits.posts;
+      pushes = rw (woken, here) (omega (arith, pushes, due));
+      watches = fits.watches;
+    }
+sleeper_pushed c g s u seen y x w (ReceiveWakeLoad Sleeper.Waiter) sleeps most asked none fits =
+    let n = g.pushed + 1 in
+    let here : (with_pushed g u).standing u ≡ queued n = changed_same g.standing u (queued n) in
+    let pushes : (with_pushed g u).pushes u ≡ g.pushes u + 1 = changed_same g.pushes u (g.pushes u + 1) in
+    let woken : w ≡ Claimed = fits.woken ∙ rw (none, asked) in
+    let due = rw (woken, asked) at fits.pushes in
+    record {
+      claims = fits.claims;
+      woken = woken ∙ rw (none, here);
+      granted = λ some. let f = sym asked ∙ (fits.granted some).1 in absurd (cc);
+      entered = λ is held. let f = sym asked ∙ (fits.entered is held).1 in absurd (cc);
+      listed = λ stamp e. listed_pushed g u stamp most (sym here ∙ e);
+      stands = tt;
+      depth = fits.depth;
+      knows = tt;
+      number = fits.number;
+      takes = fits.takes;
+      posts = fits.posts;
+      pushes = rw (woken, here) (omega (arith, pushes, due));
+      watches = fits.watches;
+    }
+sleeper_pushed c g s u seen y x w _ sleeps most asked none fits = absurd (cc)
+
+-- the seat that another pushes fits
+pub pushed_fits : (c : Core) (g : Ghost) (s u : ℕ) (seen : Link) (y x : SeatState) (w : Wake) → u ≢ s → g.popped ≤ g.pushed → g.standing u ≡ asks s
+    → SeatFits c g u x w → SeatFits (put (exchanged c seen u) s y) (with_pushed g u) u x w
+pushed_fits c g s u seen y x w other most asked fits =
+    let none = no_grant (grant_at g.place u) (λ some. let f = sym asked ∙ (fits.granted some).1 in cc) in
+    sleeper_pushed c g s u seen y x w x.point (asked_sleeps g.place x.depth s u x.point other none (rw asked at fits.stands)) most asked none fits
+
+-- The seat that pushes
+
+-- a locker is queued itself
+pub own_pushes : (c : Core) (g : Ghost) (s : ℕ) (x : SeatState) (w : Wake) (seen : Link) → g.popped ≤ g.pushed
+    → SeatFits c g s (record x { point = PushExchange Pusher.Locker seen }) w
+    → SeatFits (exchanged c seen s) (with_pushed g s) s (record x { point = PushedHandoffLoad Pusher.Locker }) w
+own_pushes c g s x w seen most fits =
+    let n = g.pushed + 1 in
+    let here : (with_pushed g s).standing s ≡ queued n = changed_same g.standing s (queued n) in
+    let pushes : (with_pushed g s).pushes s ≡ g.pushes s + 1 = changed_same g.pushes s (g.pushes s + 1) in
+    record {
+      claims = fits.claims;
+      woken = fits.woken ∙ woken_same (grant_at g.place s) g.place (g.standing s) ((with_pushed g s).standing s) s (PushExchange Pusher.Locker seen) (PushedHandoffLoad Pusher.Locker) refl;
+      granted = λ some. let f = (fits.granted some).0 in absurd (cc);
+      entered = λ is held. let f = (fits.entered is held).0 in absurd (cc);
+      listed = λ stamp e. listed_pushed g s stamp most (sym here ∙ e);
+      stands = rw here;
+      depth = fits.depth;
+      knows = tt;
+      number = fits.number;
+      takes = fits.takes;
+      posts = fits.posts;
+      pushes = omega (arith, pushes, fits.pushes);
+      watches = λ is watcher. tt;
+    }
+
+-- a sender stays apart, and watches for its target
+pub own_sends : (c : Core) (g : Ghost) (s t : ℕ) (x : SeatState) (w : Wake) (seen : Link)
+    → SeatFits c g s (record x { point = PushExchange (Pusher.Sender t) seen }) w
+    → SeatFits (exchanged c seen t) (with_pushed g t) s (record x { point = PushedHandoffLoad (Pusher.Sender t) }) w
+own_sends c g s t x w seen fits =
+    let n = g.pushed + 1 in
+    let other : s ≢ t = λ e. fits.knows.0.0 (sym e) in
+    let here : (with_pushed g t).standing s ≡ apart = changed_other g.standing t s (queued n) other ∙ fits.stands in
+    let pushes : (with_pushed g t).pushes s ≡ g.pushes s = changed_other g.pushes t s (g.pushes t + 1) other in
+    record {
+      claims = fits.claims;
+      woken = fits.woken ∙ woken_same (grant_at g.place s) g.place (g.standing s) ((with_pushed g t).standing s) s (PushExchange (Pusher.Sender t) seen) (PushedHandoffLoad (Pusher.Sender t)) refl;
+      granted = λ some. let f = (fits.granted some).0 in absurd (cc);
+      entered = λ is held. let f = (fits.entered is held).0 in absurd (cc);
+      listed = λ stamp e. let f = sym here ∙ e in absurd (cc);
+      stands = here;
+      depth = fits.depth;
+      knows = tt;
+      number = fits.number;
+      takes = fits.takes;
+      posts = fits.posts;
+      pushes = omega (arith, pushes, fits.pushes);
+      watches = λ is watcher. rw (changed_same g.standing t (queued n));
+    }

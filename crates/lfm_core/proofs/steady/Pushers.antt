@@ -1,0 +1,117 @@
+-- What a pusher and the seat that it pushes know, and what the words tell of a queue and of a posted handoff.
+use Rattle.std.proofs.Common.{◌≡◌, ◌≢◌, ℕ, Bool, true, ◌<◌, [], length, refl, sym, ap, subst, ◌∙◌, arith, inl, inr, Option, None, Some, nat_eq}
+use Rattle.std.proofs.lemmas.Bool.{cases_eq, eq-eqb, ne_eqb, eqb-true, and_parts}
+use Rattle.lfm_core.specs.declared.points.Point.{Point}
+use Rattle.lfm_core.specs.declared.seats.SeatState.{SeatState}
+use Rattle.lfm_words.specs.declared.links.Link.{Link}
+use Rattle.lfm_words.specs.declared.wakes.Wake.{Wake}
+use Rattle.lfm_core.specs.After.{same_link}
+use Rattle.lfm_core.specs.Core.{Core, put}
+use Rattle.lfm_core.specs.Ghost.{Responsibility, nobody, posted, Standing, apart, claimed, asks, queued, Ghost}
+use Rattle.lfm_core.specs.Outcome.{Outcome}
+use Rattle.lfm_core.specs.Seats.{wake, IsSeat}
+use Rattle.lfm_core.specs.Steady.{IsSeen, IsOld, HasQueue, HandoffFits, SeatFits, Fits, cleared}
+use Rattle.lfm_core.specs.Views.{by_depth, is_queued, wake_at, wake_by}
+use Rattle.lfm_core.proofs.steady.Abstracts.{stays_same, absent_stands_apart}
+use Rattle.lfm_core.proofs.steady.Entries.{seat_or_absent}
+use Rattle.lfm_core.proofs.steady.Frames.{Errands, view_moves}
+use Rattle.lfm_core.proofs.steady.Histories.{history_stays}
+
+-- the facts of a seat, its point being known
+pub fits_at : (c : Core) (g : Ghost) (s : ℕ) (x : SeatState) (w : Wake) (p : Point) → x.point ≡ p → SeatFits c g s x w
+    → SeatFits c g s (record x { point = p }) w
+fits_at c g s x w p at fits = subst (λ q. SeatFits c g s (record x { point = q }) w) at fits
+
+-- seat s moves on, and no word changes
+pub view_kept : (c : Core) (g : Ghost) (s : ℕ) (y : SeatState) → IsSeat c.seats s → Fits c g → Errands c s y
+    → SeatFits c g s y (wake c.wakes s) → Outcome g (put c s y) None [] [] []
+view_kept c g s y is fits errands own =
+    record {
+      to = g;
+      fits = view_moves c g s y is fits errands own;
+      goes = stays_same g g refl (λ t. refl) refl;
+      history = history_stays g g refl refl refl refl;
+    }
+
+-- the wake word of a seat stays as expected where another point and standing expect the same without a grant
+pub woken_same : (o : Option ℕ) (place : Responsibility) (standing standing' : Standing) (s : ℕ) (p p' : Point)
+    → wake_at place standing s p ≡ wake_at place standing' s p' → wake_by o place standing s p ≡ wake_by o place standing' s p'
+woken_same None place standing standing' s p p' same = same
+woken_same (Some stamp) place standing standing' s p p' same = refl
+
+-- the push word has not gone on from itself
+pub sees_itself : (l : Link) → IsSeen l l
+sees_itself l = record { older = omega arith; same = λ e. inl refl }
+
+pub same_link_true : (a b : Link) → same_link a b ≡ true → a ≡ b
+same_link_true a b e =
+    let h = and_parts (nat_eq a.stamp b.stamp) (nat_eq a.next b.next) e in
+    λ i. record { stamp = eqb-true a.stamp b.stamp h.0 i; next = eqb-true a.next b.next h.1 i }
+
+-- a seat that owns nothing has no depth
+pub no_depth : (depth s : ℕ) (again : Bool) → by_depth depth s again ≡ nobody → depth ≡ 0
+no_depth depth s again none =
+    elim (cases_eq depth 0) [
+      | inl e ↦ e
+      | inr some ↦ let h = rw (ne_eqb depth 0 some) at none in absurd (cc)
+    ]
+
+pub stamp_of_queued : (standing : Standing) → is_queued standing ≡ true → (stamp : ℕ) × (standing ≡ queued stamp)
+stamp_of_queued apart is = absurd (cc)
+stamp_of_queued (claimed agent) is = absurd (cc)
+stamp_of_queued (asks agent) is = absurd (cc)
+stamp_of_queued (queued stamp) is = (stamp, refl)
+
+-- numbers that no seat has stand apart
+pub is_seat_of : (c : Core) (g : Ghost) (u : ℕ) → Fits c g → g.standing u ≢ apart → IsSeat c.seats u
+is_seat_of c g u fits some =
+    elim (seat_or_absent c.seats u) [
+      | inl is ↦ is
+      | inr none ↦ absurd (some (absent_stands_apart c g fits u none))
+    ]
+
+-- The handoff word
+
+pub posted_of : (c : Core) (place : Responsibility) → HandoffFits c.seats place c.handoff → c.handoff.seat ≢ 0 → place ≡ posted
+posted_of c posted fits some = refl
+posted_of c _ fits some = absurd (some (ap (λ n. n.seat) fits))
+
+pub not_posted : (c : Core) (place : Responsibility) → HandoffFits c.seats place c.handoff → c.handoff.seat ≡ 0 → place ≢ posted
+not_posted c place fits none is =
+    let at : IsSeat c.seats c.handoff.seat = rw is at fits in
+    absurd (omega (arith, at.above))
+
+-- the number that stands posted is that of its seat's last post
+pub stands_old : (c : Core) (g : Ghost) → Fits c g → c.handoff.seat ≢ 0 → IsOld c.seats c.handoff
+stands_old c g fits some =
+    let above : 0 < c.handoff.seat = omega arith in
+    record { above = above; before = omega (arith, (fits.each c.handoff.seat).number refl above) }
+
+-- The head of the push word
+
+-- a head is that of a record in the queue
+pub head_has_queue : (c : Core) (g : Ghost) → Fits c g → c.push.next ≢ 0 → HasQueue g
+head_has_queue c g fits some =
+    elim (cases_eq (cleared c g) g.pushed) [
+      | inl e ↦ absurd (some (fits.words.head ∙ rw (eq-eqb (cleared c g) g.pushed e)))
+      | inr differ ↦ omega (arith, fits.words.parts)
+    ]
+
+-- above the cleared records there is a head
+pub newest_is : (c : Core) (g : Ghost) → Fits c g → cleared c g ≢ g.pushed → c.push.next ≡ g.pushed_at g.pushed
+newest_is c g fits differ = fits.words.head ∙ rw (ne_eqb (cleared c g) g.pushed differ)
+
+-- so while a handoff is posted, with no head nobody is queued
+pub none_queued : (c : Core) (g : Ghost) (t : ℕ) → Fits c g → c.push.next ≡ 0 → g.place ≡ posted → is_queued (g.standing t) ≢ true
+none_queued c g t fits none is waits =
+    let carried = rw is at fits.words.carried in
+    let at = stamp_of_queued (g.standing t) waits in
+    let listed = (fits.each t).listed at.0 at.1 in
+    let more : g.popped < g.pushed = omega (arith, listed.above, listed.within) in
+    let up_to : cleared c g ≡ g.popped = omega (arith, carried.0, ap length carried.1) in
+    let last = newest_is c g fits (omega arith) in
+    let stands = (fits.stamps g.pushed more (omega arith)).stands in
+    let first : g.pushed_at g.pushed ≡ 0 = sym last ∙ none in
+    let stood : g.standing 0 ≡ queued g.pushed = rw first at stands in
+    let is_seat = is_seat_of c g 0 fits (λ e. let f = sym e ∙ stood in absurd (cc)) in
+    absurd (omega (arith, is_seat.above))

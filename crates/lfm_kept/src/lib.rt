@@ -1,1 +1,0 @@
-//! Lemmas under way.

@@ -15,3 +15,4 @@ pub mod Taking
 pub mod Walks
 pub mod Writes
 pub mod steady
+pub mod lawful

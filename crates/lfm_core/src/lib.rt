@@ -8,6 +8,7 @@ mod chains;
 pub mod grammar_laws;
 mod input;
 pub mod kinds;
+pub mod laws;
 pub mod limits;
 mod machine;
 mod output;

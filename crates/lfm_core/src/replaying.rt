@@ -1,6 +1,6 @@
 //! The replay of a reader's schedule into a writer.
 
-ghost use Rattle.std.specs.Prelude.{◌≡◌, ◌++◌, ◌+◌, ◌*◌, ◌<◌, ◌≤◌, length, vec_capacity, true, Err, Ok, IfOk, IfSome, IsErrOf};
+ghost use Rattle.std.specs.Prelude.{◌≡◌, ◌++◌, ◌+◌, ◌<◌, ◌≤◌, length, vec_capacity, true, Err, Ok, IfOk, IfSome, IsErrOf};
 ghost use Rattle.std.specs.Io.KnownBytes.{Keeps};
 ghost use Rattle.lfm_core.specs.Grammar.{plan_of};
 ghost use Rattle.lfm_core.specs.Limits.{are_in_limits};
@@ -36,7 +36,7 @@ fn write_lines<W: Write>(
     lines: &[Line],
     room: &mut Vec<Record>,
 ) -> Result<bool, ReplayFault>
-    requires room { 3 * length state.old.seats ≤ vec_capacity room.old }
+    requires room { length state.old.seats ≤ vec_capacity room.old }
     requires few { length lines.now < max_lines }
     ensures text { Writes (W.contents writer.old) (W.contents writer.new)
         (lines_text 2 state.old lines.now) result }
@@ -59,7 +59,7 @@ fn write_run<W: Write>(
     lines: &[Line],
     room: &mut Vec<Record>,
 ) -> Result<bool, ReplayFault>
-    requires room { 3 * length state.old.seats ≤ vec_capacity room.old }
+    requires room { length state.old.seats ≤ vec_capacity room.old }
     requires few { length lines.now < max_lines }
     ensures text { Writes (W.contents writer.old) (W.contents writer.new)
         (opening_text seats state.old ++ lines_text 2 state.old lines.now) result }
@@ -86,7 +86,7 @@ fn replay_schedule<W: Write>(
     let mut state = State::new(alloc, schedule.seats, schedule.budget).map_err(
         |_| ReplayFault::Memory,
     )?;
-    let mut room = Vec::with_capacity(alloc, 3 * schedule.seats as usize).map_err(
+    let mut room = Vec::with_capacity(alloc, schedule.seats as usize).map_err(
         |_| ReplayFault::Memory,
     )?;
     write_run(

@@ -1,6 +1,6 @@
 //! The mutex as a state that is stepped by hand. Every state that a caller has is steady: nothing else can be built, and
 //! each turn keeps it so. The turns and readers themselves are the machine's.
-ghost use Rattle.std.specs.Prelude.{◌≡◌, ◌*◌, ◌≤◌, true, false, length, reverse, slice_get, vec_capacity, IfOk, IfErr};
+ghost use Rattle.std.specs.Prelude.{◌≡◌, ◌≤◌, true, false, length, reverse, slice_get, vec_capacity, IfOk, IfErr};
 ghost use Rattle.std.specs.Option.{option_map};
 ghost use Rattle.lfm_core.specs.Limits.{are_in_limits};
 ghost use Rattle.lfm_core.specs.Lines.{longest_call};
@@ -160,9 +160,9 @@ impl State {
         self.machine.queued(i)
     }
 
-    /// Gathers the queue's records, newest first, into room that was reserved for three records of each seat.
+    /// Gathers the queue's records, newest first, into room that was reserved for a record of each seat.
     pub(crate) fn gather(&self, room: &mut Vec<Record>)
-        requires { 3 * length self.now.seats ≤ vec_capacity room.old }
+        requires { length self.now.seats ≤ vec_capacity room.old }
         ensures gathered { reverse room.new.items ≡ queue_of self.now }
         ensures room { vec_capacity room.new ≡ vec_capacity room.old }
     {

@@ -1,7 +1,7 @@
 //! The text of a run, written line by line.
 #![tactic(auto, using(crate::proofs::Writes::writings))]
 
-ghost use Rattle.std.specs.Prelude.{◌≡◌, ◌+◌, ◌*◌, ◌<◌, ◌≤◌, [], ◌∷◌, ◌++◌, codes, decimal, drop, length, reverse, vec_capacity};
+ghost use Rattle.std.specs.Prelude.{◌≡◌, ◌+◌, ◌<◌, ◌≤◌, [], ◌∷◌, ◌++◌, codes, decimal, drop, length, reverse, vec_capacity};
 ghost use Rattle.lfm_core.specs.Trace.{how_text, held_text, again_text, asked_text, locked_text, unlocked_text, answer_text, why_text, open_text, turn_text, handoff_text, place_text, record_text, queue_text, words_text, state_text, opening_text, outcome_text, line_text, fault_text};
 ghost use Rattle.lfm_core.specs.Writing.{Writes, joined};
 
@@ -260,13 +260,13 @@ fn write_words<W: Write>(writer: &mut W, state: &State) -> Result<(), ReplayFaul
     Ok(())
 }
 
-/// Writes a state; the room, which is for three records of each seat, serves to gather its queue.
+/// Writes a state; the room, which is for a record of each seat, serves to gather its queue.
 fn write_state<W: Write>(
     writer: &mut W,
     state: &State,
     room: &mut Vec<Record>,
 ) -> Result<(), ReplayFault>
-    requires { 3 * length state.now.seats ≤ vec_capacity room.old }
+    requires { length state.now.seats ≤ vec_capacity room.old }
     ensures text { Writes (W.contents writer.old) (W.contents writer.new)
         (state_text state.now) result }
     ensures room { vec_capacity room.new ≡ vec_capacity room.old }
@@ -287,7 +287,7 @@ pub fn write_opening<W: Write>(
     state: &State,
     room: &mut Vec<Record>,
 ) -> Result<(), ReplayFault>
-    requires { 3 * length state.now.seats ≤ vec_capacity room.old }
+    requires { length state.now.seats ≤ vec_capacity room.old }
     ensures text { Writes (W.contents writer.old) (W.contents writer.new)
         (opening_text seats state.now) result }
     ensures room { vec_capacity room.new ≡ vec_capacity room.old }
@@ -326,7 +326,7 @@ pub fn write_line<W: Write>(
     state: &State,
     room: &mut Vec<Record>,
 ) -> Result<(), ReplayFault>
-    requires { 3 * length state.now.seats ≤ vec_capacity room.old }
+    requires { length state.now.seats ≤ vec_capacity room.old }
     ensures text { Writes (W.contents writer.old) (W.contents writer.new)
         (line_text number line.now turn state.now) result }
     ensures room { vec_capacity room.new ≡ vec_capacity room.old }

@@ -1,9 +1,10 @@
 -- The state at the start is steady: nobody holds the mutex, and every seat stands apart.
-use Rattle.std.proofs.Common.{◌≡◌, ℕ, zero, suc, ◌^◌, ◌≤◌, length, replicate, refl, sym, ◌∙◌, arith}
+use Rattle.std.proofs.Common.{◌≡◌, ℕ, zero, suc, ◌^◌, ◌≤◌, true, length, replicate, refl, sym, ◌∙◌, arith, tests}
 use Rattle.std.proofs.lemmas.List.{length-replicate}
 use Rattle.lfm_core.specs.declared.limits.Limits.{Limits}
 use Rattle.lfm_words.specs.declared.wakes.Wake.TheVariants.{Quiet}
 use Rattle.lfm_core.specs.Ghost.{nobody, apart, Ghost}
+use Rattle.lfm_core.specs.Limits.{are_in_limits}
 use Rattle.lfm_core.specs.Seats.{entry, absent, no_link}
 use Rattle.lfm_core.specs.Steady.{SeatFits, asking_unit, queued_unit, Steady}
 use Rattle.lfm_core.specs.Step.{start}
@@ -87,3 +88,11 @@ start_steady limits few small =
         };
       };
     }
+
+-- the limits that the test allows are those of a steady state
+
+pub few_seats : (seats budget : ℕ) → are_in_limits seats budget ≡ true → seats ≤ 4095
+few_seats seats budget allowed = search (tests, arith, allowed)
+
+pub small_budget : (seats budget : ℕ) → are_in_limits seats budget ≡ true → budget ≤ 2 ^ 36
+small_budget seats budget allowed = search (tests, arith, allowed)

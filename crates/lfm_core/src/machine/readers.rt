@@ -1,5 +1,5 @@
 //! What a state tells of itself: words, place, queue and seats. No reader changes anything or takes memory.
-ghost use Rattle.std.specs.Prelude.{◌≡◌, ◌+◌, ◌++◌, ◌*◌, ◌<◌, ◌≤◌, length, position, reverse, slice_get, vec_capacity, IfSome};
+ghost use Rattle.std.specs.Prelude.{◌≡◌, ◌+◌, ◌++◌, ◌<◌, ◌≤◌, length, position, reverse, slice_get, vec_capacity, IfSome};
 ghost use Rattle.std.specs.List.{zip};
 ghost use Rattle.std.specs.Option.{option_map};
 ghost use Rattle.lfm_core.specs.Lines.{longest_call};
@@ -185,9 +185,9 @@ impl Machine {
         }
     }
 
-    /// Gathers the queue's records, newest first, into room that was reserved for three records of each seat.
+    /// Gathers the queue's records, newest first, into room that was reserved for them.
     pub(crate) fn gather(&self, room: &mut Vec<Record>)
-        requires { 3 * length self.now.seats ≤ vec_capacity room.old }
+        requires { length (queue_of self.now) ≤ vec_capacity room.old }
         ensures gathered { reverse room.new.items ≡ queue_of self.now }
         ensures room { vec_capacity room.new ≡ vec_capacity room.old }
     {

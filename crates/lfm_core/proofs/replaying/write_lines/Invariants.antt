@@ -1,4 +1,4 @@
-use Rattle.std.proofs.Common.{◌≡◌, ◌≤◌, ◌+◌, ◌*◌, ◌&&◌, ℕ, Bool, List, Option, Result, drop, length, vec_capacity}
+use Rattle.std.proofs.Common.{◌≡◌, ◌≤◌, ◌+◌, ◌&&◌, ℕ, Bool, List, Option, Result, drop, length, vec_capacity}
 use Rattle.lfm_core.specs.declared.schedule.ReplayFault.{ReplayFault}
 use Rattle.lfm_core.specs.Trace.{lines_text, none_refused}
 use Rattle.lfm_core.specs.Writing.{Writes}
@@ -10,5 +10,5 @@ invariant-running g l = record {
   finishes : (new : Option (List ℕ)) (r : Result Bool ReplayFault) → Writes (g.W.Write.contents l.writer) new (lines_text (l.index + 2) l.state (drop l.index l.lines)) r
       → Writes (g.W.Write.contents l.fn.writer) new (lines_text 2 l.fn.state l.lines) r;
   verdict : (l.none_refused && none_refused l.state (drop l.index l.lines)) ≡ none_refused l.fn.state l.lines;
-  room : 3 * length l.state.seats ≤ vec_capacity l.room;
+  room : length l.state.seats ≤ vec_capacity l.room;
 }

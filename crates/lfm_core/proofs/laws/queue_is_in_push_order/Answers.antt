@@ -1,0 +1,5 @@
+use Rattle.lfm_core.proofs.lawful.PushOrder.{queue_is_in_push_order}
+use Rattle.lfm_core.proofs.laws.queue_is_in_push_order.Goals as goal
+
+pub returns : goal.returns
+returns c = queue_is_in_push_order

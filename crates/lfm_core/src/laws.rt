@@ -1,0 +1,116 @@
+//! The laws of every schedule: of every list of calls that begin and single steps, by any seats in any order, for every
+//! number of seats and every budget in their limits. Each function here does nothing; its contract is the law, which stands
+//! in `specs/Laws.antt` over the same definitions that `begin`, `step` and `run` are proved to be.
+ghost use Rattle.lfm_core.specs.Laws.{
+  LinesAreEvents,
+  StatesAreLawful,
+  RunsAreAbstractRuns,
+  EventsAreTheirCases,
+  PlacesAreRead,
+  CountIsZeroWhereFree,
+  QueueIsInPushOrder,
+  StampsAreConsecutive,
+  AnswersAreTheRecords,
+  HandoffsAreWatched,
+  QuiescentStatesRest,
+  TakesFindARecord,
+  FailedPushesSeeChange,
+  CallsPostOnce,
+  UnlocksAreBounded,
+  StartWaitsAreBounded,
+  CallsEndAlone,
+  PushesAloneFailOnce,
+};
+
+/// What lines of a schedule do to a state, some list of calls and single steps does. So each law here is one of `run`.
+pub fn lines_are_events()
+    ensures { LinesAreEvents }
+{}
+
+/// Every state that is reached is lawful: it has a reading as an abstract mutex, the owner word is the owning seat, the seats
+/// of the queue are distinct, their stamps are consecutive and end at the push word's, the count equation holds, a posted
+/// handoff is watched and is its poster's last, and wake words stand only where they may.
+pub fn states_are_lawful()
+    ensures { StatesAreLawful }
+{}
+
+/// The readings of a run are a run of the abstract mutex, which starts with nobody holding it. So at most one seat owns it,
+/// and it is handed on only as the abstract mutex does.
+pub fn runs_are_abstract_runs()
+    ensures { RunsAreAbstractRuns }
+{}
+
+/// Step by step: the reading changes by the one abstract case that the table of kinds names for the step, or not at all.
+pub fn events_are_their_cases()
+    ensures { EventsAreTheirCases }
+{}
+
+/// The place that a state tells is that of its reading.
+pub fn places_are_read()
+    ensures { PlacesAreRead }
+{}
+
+/// The count is 0 exactly where nobody has the responsibility.
+pub fn count_is_zero_where_free()
+    ensures { CountIsZeroWhereFree }
+{}
+
+/// The queue and then what is pushed is what leaves it and then the queue: seats are served in push order, each once.
+pub fn queue_is_in_push_order()
+    ensures { QueueIsInPushOrder }
+{}
+
+/// The stamps of the pushes are consecutive, and from the start they begin at 1.
+pub fn stamps_are_consecutive()
+    ensures { StampsAreConsecutive }
+{}
+
+/// The answers `Held(Queued)` of a run are the records that left the queue, in order, or these without the last.
+pub fn answers_are_the_records()
+    ensures { AnswersAreTheRecords }
+{}
+
+/// A posted handoff is watched: some call will see it, or has seen it and not yet tried to take it.
+pub fn handoffs_are_watched()
+    ensures { HandoffsAreWatched }
+{}
+
+/// Without an open call nothing is posted, and if the count is above 0 a seat owns or a grant waits to be loaded.
+pub fn quiescent_states_rest()
+    ensures { QuiescentStatesRest }
+{}
+
+/// A take after a successful handoff exchange, in `lock`, `unlock` or `send_lock`, finds a record.
+pub fn takes_find_a_record()
+    ensures { TakesFindARecord }
+{}
+
+/// A push exchange that fails has seen a higher stamp, or the same stamp with the head emptied.
+pub fn failed_pushes_see_change()
+    ensures { FailedPushesSeeChange }
+{}
+
+/// A call posts at most once, whatever the other seats do in between.
+pub fn calls_post_once()
+    ensures { CallsPostOnce }
+{}
+
+/// An `unlock` among N seats makes at most N + 7 atomic steps, whatever the other seats do in between.
+pub fn unlocks_are_bounded()
+    ensures { UnlocksAreBounded }
+{}
+
+/// A `start_wait` among N seats makes at most N + 8 atomic steps, whatever the other seats do in between.
+pub fn start_waits_are_bounded()
+    ensures { StartWaitsAreBounded }
+{}
+
+/// An open call ends where its seat alone makes steps, within as many as `*` makes.
+pub fn calls_end_alone()
+    ensures { CallsEndAlone }
+{}
+
+/// Alone, a push fails at most once.
+pub fn pushes_alone_fail_once()
+    ensures { PushesAloneFailOnce }
+{}

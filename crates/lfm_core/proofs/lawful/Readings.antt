@@ -1,28 +1,71 @@
 -- A state that a ghost fits reads as the ghost's abstract mutex, and as no other.
-use Rattle.std.proofs.Common.{◌≡◌, ◌≢◌, ℕ, ◌<◌, ◌≤◌, true, List, refl, arith}
-use Rattle.lfm_model.specs.Abstract.{AbstractMutex}
+use Rattle.std.proofs.Common.{◌≡◌, ◌≢◌, ◌⊎◌, Bool, true, false, refl, sym, ap, ◌∙◌, inl, inr}
+use Rattle.lfm_model.specs.Abstract.{AbstractMutex, AbstractPlace, free, owner, passed, posted, carried}
 use Rattle.lfm_model.specs.AbstractRuns.{IsSame}
 use Rattle.lfm_core.specs.Core.{Core}
-use Rattle.lfm_core.specs.Ghost.{Ghost}
+use Rattle.lfm_core.specs.Ghost.{Responsibility, owned, Ghost}
 use Rattle.lfm_core.specs.Laws.{printed}
 use Rattle.lfm_core.specs.Lawful.{owning_seat}
 use Rattle.lfm_core.specs.Outcome.{abstract, abstract_place}
 use Rattle.lfm_core.specs.Place.{place_of}
-use Rattle.lfm_core.specs.Reading.{Reads, IsCounted}
-use Rattle.lfm_core.specs.Steady.{Fits}
+use Rattle.lfm_core.specs.Reading.{ReadsPlace, seats_of, Reads, IsCounted}
+use Rattle.lfm_core.specs.Steady.{owner_of, Fits}
+use Rattle.lfm_core.proofs.lawful.AskingRead.{asks_read, asked_read}
+use Rattle.lfm_core.proofs.lawful.ClaimsRead.{reads_place}
+use Rattle.lfm_core.proofs.lawful.CountRead.{counted_read}
+use Rattle.lfm_core.proofs.lawful.PlacesRead.{place_told}
+use Rattle.lfm_core.proofs.lawful.QueueRead.{queue_read}
 
 pub reads_ghost : (c : Core) (g : Ghost) → Fits c g → Reads c (abstract g)
-reads_ghost c g fits = ?
+reads_ghost c g fits =
+    record {
+      place = reads_place c g fits;
+      asks = asks_read c g fits;
+      asked = asked_read c g fits;
+      waiting = sym (ap seats_of (queue_read c g fits));
+    }
+
+free_or : (p : AbstractPlace) → (p ≡ free) ⊎ (p ≢ free)
+free_or free = inl refl
+free_or (owner s) = inr (λ e. cc)
+free_or (passed s) = inr (λ e. cc)
+free_or posted = inr (λ e. cc)
+free_or (carried s how) = inr (λ e. cc)
+
+-- a state claims one place, or none and is free
+one_place : (c : Core) (p q : AbstractPlace) → ReadsPlace c p → ReadsPlace c q → q ≡ p
+one_place c p q first second =
+    elim (free_or q) [
+      | inl none ↦ elim (free_or p) [
+        | inl none_either ↦ none ∙ sym none_either
+        | inr some ↦ sym (second.only p (first.some some))
+      ]
+      | inr some ↦ first.only q (second.some some)
+    ]
+
+same_truth : (a b : Bool) → (a ≡ true → b ≡ true) → (b ≡ true → a ≡ true) → b ≡ a
+same_truth a true forth back = sym (back refl)
+same_truth true false forth back = forth refl
+same_truth false false forth back = refl
 
 -- two readings of one state are the same
 pub reads_once : (c : Core) (a b : AbstractMutex) → Reads c a → Reads c b → IsSame a b
-reads_once c a b first second = ?
+reads_once c a b first second =
+    record {
+      place = one_place c a.place b.place first.place second.place;
+      asking = λ x. same_truth (a.asking x) (b.asking x) (λ e. second.asked x (first.asks x e)) (λ e. first.asked x (second.asks x e));
+      waiting = second.waiting ∙ sym first.waiting;
+    }
 
 pub counted_ghost : (c : Core) (g : Ghost) → Fits c g → IsCounted c (abstract g)
-counted_ghost c g fits = ?
+counted_ghost c g fits = counted_read c g fits
+
+owner_told : (place : Responsibility) → owner_of place ≡ owning_seat (abstract_place place)
+owner_told (owned s again) = refl
+owner_told _ = refl
 
 pub owner_read : (c : Core) (g : Ghost) → Fits c g → c.owner ≡ owning_seat (abstract_place g.place)
-owner_read c g fits = ?
+owner_read c g fits = fits.words.owner ∙ owner_told g.place
 
 pub place_read : (c : Core) (g : Ghost) → Fits c g → place_of c ≡ printed (abstract_place g.place)
-place_read c g fits = ?
+place_read c g fits = place_told c g fits

@@ -1,5 +1,5 @@
 -- The abstract case of each event, and how one reading follows from another by it.
-use Rattle.std.specs.Prelude.{◌≡◌, ℕ, ⊤, Option, Some, None, List, [], ◌∷◌}
+use Rattle.std.specs.Prelude.{◌≡◌, ⊤, Option, Some, None, List, [], ◌∷◌}
 use Rattle.lfm_model.specs.Abstract.{AbstractMutex, AbstractStep}
 use Rattle.lfm_model.specs.AbstractRuns.{Case, IsSame, case_of}
 use Rattle.lfm_core.specs.Core.{Core}

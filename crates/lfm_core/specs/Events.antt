@@ -1,24 +1,17 @@
 -- What an atomic step does to the abstract mutex, told by the seat's point and what the step finds: its case, the record
 -- that it pushes, the record that leaves the queue with it, and the queued record by which it answers that the seat holds.
-use Rattle.std.specs.Prelude.{ℕ, Bool, ◌+◌, Option, Some, None, List, [], ◌∷◌, nat_eq, if◌then◌else◌}
+use Rattle.std.specs.Prelude.{ℕ, ◌+◌, Option, Some, None, List, [], ◌∷◌, nat_eq, if◌then◌else◌}
 use Rattle.lfm_model.specs.AbstractRuns.{Case, ask, queue, serve, post, take, accept, take_up, enter, release, leave}
 use Rattle.lfm_model.specs.declared.answers.Asked.{Asked}
-use Rattle.lfm_model.specs.declared.answers.Asked.TheVariants as Asked
 use Rattle.lfm_model.specs.declared.answers.How.{How}
-use Rattle.lfm_model.specs.declared.answers.How.TheVariants as How
 use Rattle.lfm_model.specs.declared.answers.Locked.{Locked}
-use Rattle.lfm_model.specs.declared.answers.Locked.TheVariants as Locked
 use Rattle.lfm_core.specs.declared.answers.Answer.{Answer}
-use Rattle.lfm_core.specs.declared.answers.Answer.TheVariants as Answer
 use Rattle.lfm_core.specs.declared.answers.Turn.{Turn}
 use Rattle.lfm_core.specs.declared.answers.Turn.TheVariants.{Ended}
 use Rattle.lfm_core.specs.declared.points.Entrant.{Entrant}
-use Rattle.lfm_core.specs.declared.points.Entrant.TheVariants as Entrant
 use Rattle.lfm_core.specs.declared.points.Point.{Point}
 use Rattle.lfm_core.specs.declared.points.Point.TheVariants.{LockCountAdd, TryCountExchange, SendCountAdd, ReleaseCountSubtract, EnterOwnerStore, ReleaseOwnerStore, PushExchange, PushedHandoffExchange, ReleaseHandoffExchange, TryHandoffExchange, ReleaseHandoffStore, ReceiveWakeLoad, GrantWakeStore, SendWakeStore}
 use Rattle.lfm_core.specs.declared.seats.SeatState.{SeatState}
-use Rattle.lfm_words.specs.declared.handoffs.Handoff.{Handoff}
-use Rattle.lfm_words.specs.declared.links.Link.{Link}
 use Rattle.lfm_words.specs.declared.pop_lists.Record.{Record}
 use Rattle.lfm_words.specs.declared.wakes.Wake.{Wake}
 use Rattle.lfm_words.specs.declared.wakes.Wake.TheVariants.{Grant}

@@ -1,5 +1,5 @@
 -- What holds of every state that a schedule reaches, said of its words and points.
-use Rattle.std.specs.Prelude.{◌≡◌, ◌≢◌, ◌⊎◌, ⊤, ℕ, true, ◌+◌, ◌<◌, ◌≤◌, List, length, AllPairs, slice_index_or}
+use Rattle.std.specs.Prelude.{◌≡◌, ◌≢◌, ◌⊎◌, ⊤, ℕ, ◌+◌, ◌<◌, ◌≤◌, List, length, AllPairs, slice_index_or}
 use Rattle.lfm_model.specs.Abstract.{AbstractMutex, AbstractPlace, owner}
 use Rattle.lfm_core.specs.declared.points.Point.{Point}
 use Rattle.lfm_core.specs.declared.points.Point.TheVariants.{Asleep, ReceiveWakeLoad, SendWakeStore, SendPushLook, PushedHandoffExchange, TryHandoffExchange}

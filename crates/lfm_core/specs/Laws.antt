@@ -1,20 +1,16 @@
 -- The laws of every schedule: of every list of calls that begin and single steps, for every number of seats and budget in
 -- their limits. Each is the contract of a public function of `laws`.
-use Rattle.std.specs.Prelude.{◌≡◌, ◌≢◌, ◌⊎◌, ℕ, Bool, true, false, ◌+◌, ◌<◌, ◌≤◌, ◌++◌, Option, None, List, [], ◌∷◌, length, slice_index_or}
-use Rattle.lfm_model.specs.Abstract.{AbstractMutex, AbstractPlace, Carrying, free, owner, passed, posted, carried}
+use Rattle.std.specs.Prelude.{◌≡◌, ◌⊎◌, ℕ, Bool, true, false, ◌+◌, ◌<◌, ◌≤◌, ◌++◌, List, [], ◌∷◌, length, slice_index_or}
+use Rattle.lfm_model.specs.Abstract.{AbstractMutex, AbstractPlace, free, owner, passed, posted, carried}
 use Rattle.lfm_model.specs.AbstractRuns.{IsRun}
 use Rattle.lfm_model.specs.declared.answers.Place.{Place}
-use Rattle.lfm_model.specs.declared.answers.Place.TheVariants as Place
 use Rattle.lfm_core.specs.declared.answers.Call.TheVariants.{Unlock, StartWait}
 use Rattle.lfm_core.specs.declared.limits.Limits.{Limits}
 use Rattle.lfm_core.specs.declared.points.Carrier.{Carrier}
-use Rattle.lfm_core.specs.declared.points.Carrier.TheVariants as Carrier
 use Rattle.lfm_core.specs.declared.points.Point.{Point}
-use Rattle.lfm_core.specs.declared.points.Point.TheVariants.{PushExchange, PushedHandoffLoad, PushedHandoffExchange, ReleaseHandoffStore, ReleaseHandoffExchange, TakeClearHead}
+use Rattle.lfm_core.specs.declared.points.Point.TheVariants.{PushExchange, PushedHandoffLoad, ReleaseHandoffStore, TakeClearHead}
 use Rattle.lfm_core.specs.declared.points.Pusher.{Pusher}
-use Rattle.lfm_core.specs.declared.points.Releaser.{Releaser}
 use Rattle.lfm_core.specs.declared.schedule.Line.{Line}
-use Rattle.lfm_words.specs.declared.handoffs.Handoff.{Handoff}
 use Rattle.lfm_words.specs.declared.links.Link.{Link}
 use Rattle.lfm_words.specs.declared.pop_lists.Record.{Record}
 use Rattle.lfm_words.specs.declared.wakes.Wake.TheVariants.{Grant}
@@ -28,7 +24,7 @@ use Rattle.lfm_core.specs.Place.{place_of}
 use Rattle.lfm_core.specs.Queue.{queue_of}
 use Rattle.lfm_core.specs.Reading.{Reads}
 use Rattle.lfm_core.specs.Schedules.{Event, makes, happens, run_of, reached, push_record, popped_record, answer_record, is_call, weight_of_call, steps_of_call}
-use Rattle.lfm_core.specs.Seats.{seat, wake, IsSeat}
+use Rattle.lfm_core.specs.Seats.{seat, wake}
 use Rattle.lfm_core.specs.Step.{begin, start}
 use Rattle.lfm_core.specs.Watched.{Watched}
 

@@ -1,9 +1,9 @@
 -- What a step of a steady state leads to: the ghost after it, which fits again; the abstract case between both; and how the
 -- records of pushes, pops and answers grow.
-use Rattle.std.specs.Prelude.{◌≡◌, ℕ, Bool, ◌-◌, ◌++◌, Option, Some, None, List, map}
+use Rattle.std.specs.Prelude.{◌≡◌, ℕ, ◌-◌, ◌++◌, Option, List, map}
 use Rattle.lfm_model.specs.Abstract.{AbstractMutex, AbstractPlace, AbstractStep, free, owner, passed, carried}
 use Rattle.lfm_model.specs.Abstract as Abstract
-use Rattle.lfm_model.specs.AbstractRuns.{Case, IsSame, case_of}
+use Rattle.lfm_model.specs.AbstractRuns.{Case}
 use Rattle.lfm_words.specs.declared.pop_lists.Record.{Record}
 pub use Rattle.lfm_core.specs.Cases.{GoesBy}
 use Rattle.lfm_core.specs.Core.{Core}

@@ -1,10 +1,8 @@
 -- What a state says to be the abstract mutex: its claims, the seats that ask, and the seats of the queue.
-use Rattle.std.specs.Prelude.{◌≡◌, ◌≢◌, ℕ, Bool, true, false, ◌+◌, ◌<◌, Option, Some, None, List, map, length, if◌then◌else◌}
+use Rattle.std.specs.Prelude.{◌≡◌, ◌≢◌, ℕ, true, false, ◌+◌, ◌<◌, Option, Some, None, List, map, length, if◌then◌else◌}
 use Rattle.lfm_model.specs.Abstract.{AbstractMutex, AbstractPlace, Carrying, free, owner, passed, posted, carried, entering, leaving, serving}
 use Rattle.lfm_model.specs.declared.answers.How.{How}
-use Rattle.lfm_model.specs.declared.answers.How.TheVariants as How
 use Rattle.lfm_core.specs.declared.points.Entrant.{Entrant}
-use Rattle.lfm_core.specs.declared.points.Entrant.TheVariants as Entrant
 use Rattle.lfm_core.specs.declared.points.Point.{Point}
 use Rattle.lfm_core.specs.declared.points.Point.TheVariants.{LockOwnerLoad, LockCountSubtract, TryCountAdd, SendWakeStore, ReleaseCountSubtract, ReleaseHandoffStore, TakeClearHead, TakeLinkLoad, GrantWakeStore, EnterOwnerStore, ReceiveWakeStore}
 use Rattle.lfm_words.specs.declared.pop_lists.Record.{Record}

@@ -2,15 +2,11 @@
 -- seat, some facts of the words and the queue, and three sums. No fact speaks of two arbitrary seats.
 use Rattle.std.specs.Prelude.{◌≡◌, ◌≢◌, ◌⊎◌, ⊤, ℕ, Bool, true, false, ◌+◌, ◌-◌, ◌^◌, ◌<◌, ◌≤◌, List, [], ◌∷◌, length, nat_eq, if◌then◌else◌}
 use Rattle.lfm_model.specs.declared.answers.How.{How}
-use Rattle.lfm_model.specs.declared.answers.How.TheVariants as How
 use Rattle.lfm_core.specs.declared.points.Carrier.{Carrier}
-use Rattle.lfm_core.specs.declared.points.Carrier.TheVariants as Carrier
 use Rattle.lfm_core.specs.declared.points.Entrant.{Entrant}
-use Rattle.lfm_core.specs.declared.points.Entrant.TheVariants as Entrant
 use Rattle.lfm_core.specs.declared.points.Point.{Point}
 use Rattle.lfm_core.specs.declared.points.Point.TheVariants.{Rest, Asleep, LockCountAdd, LockOwnerLoad, LockCountSubtract, TryCountExchange, TryOwnerLoad, TryHandoffExchange, SendWakeExchange, SendCountAdd, SendPushLook, SendWakeStore, PushLoad, LinkStore, PushExchange, PushedHandoffLoad, PushedHandoffExchange, ReleaseOwnerStore, ReleaseHandoffStore, ReleasePushLook, ReleaseHandoffExchange, TakeClearHead, TakeLinkLoad, GrantWakeStore, EnterOwnerStore, ReceiveWakeLoad}
 use Rattle.lfm_core.specs.declared.points.Pusher.{Pusher}
-use Rattle.lfm_core.specs.declared.points.Pusher.TheVariants as Pusher
 use Rattle.lfm_core.specs.declared.points.Sleeper.TheVariants as Sleeper
 use Rattle.lfm_core.specs.declared.seats.SeatState.{SeatState}
 use Rattle.lfm_words.specs.declared.handoffs.Handoff.{Handoff}
@@ -22,7 +18,7 @@ use Rattle.lfm_core.specs.Ghost.{Responsibility, nobody, owned, granted, posted,
 use Rattle.lfm_core.specs.Numbered.{sum_to, records}
 use Rattle.lfm_core.specs.Points.{pushed_seat}
 use Rattle.lfm_core.specs.Seats.{seat, link, wake, unposted, IsSeat}
-use Rattle.lfm_core.specs.Views.{claim, held_by, grant_at, is_entered, asks_for, asks_for_at, claims_for, is_queued, is_asking, is_some, is_awaiting, expected_wake, due_posts, due_pushes}
+use Rattle.lfm_core.specs.Views.{claim, held_by, grant_at, is_entered, asks_for, claims_for, is_queued, is_asking, is_some, is_awaiting, expected_wake, due_posts, due_pushes}
 
 -- Words and numbers that a seat has seen
 

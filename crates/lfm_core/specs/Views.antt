@@ -2,22 +2,18 @@
 -- posts and pushes that its charged takes still allow.
 use Rattle.std.specs.Prelude.{ℕ, Bool, true, false, ◌+◌, ◌&&◌, ◌||◌, Option, Some, None, nat_eq, if◌then◌else◌}
 use Rattle.lfm_model.specs.declared.answers.How.{How}
-use Rattle.lfm_model.specs.declared.answers.How.TheVariants as How
 use Rattle.lfm_core.specs.declared.points.Carrier.{Carrier}
-use Rattle.lfm_core.specs.declared.points.Carrier.TheVariants as Carrier
 use Rattle.lfm_core.specs.declared.points.Entrant.{Entrant}
-use Rattle.lfm_core.specs.declared.points.Entrant.TheVariants as Entrant
 use Rattle.lfm_core.specs.declared.points.Point.{Point}
 use Rattle.lfm_core.specs.declared.points.Point.TheVariants.{Rest, Asleep, LockCountAdd, LockOwnerLoad, LockCountSubtract, TryCountExchange, TryOwnerLoad, TryHandoffLoad, TryHandoffExchange, TryCountAdd, SendWakeExchange, SendCountAdd, SendPushLook, SendWakeStore, PushLoad, LinkStore, PushExchange, PushedHandoffLoad, PushedHandoffExchange, ReleaseOwnerStore, ReleaseCountSubtract, ReleaseHandoffStore, ReleasePushLook, ReleaseHandoffExchange, WaitWakeStore, TakeClearHead, TakeLinkLoad, GrantWakeStore, EnterOwnerStore, ReceiveWakeLoad, ReceiveWakeStore}
 use Rattle.lfm_core.specs.declared.points.Pusher.{Pusher}
-use Rattle.lfm_core.specs.declared.points.Pusher.TheVariants as Pusher
 use Rattle.lfm_core.specs.declared.points.Releaser.{Releaser}
 use Rattle.lfm_core.specs.declared.points.Releaser.TheVariants.{Unlocker, Waiter}
 use Rattle.lfm_core.specs.declared.points.Sleeper.TheVariants as Sleeper
 use Rattle.lfm_core.specs.declared.seats.SeatState.{SeatState}
 use Rattle.lfm_words.specs.declared.wakes.Wake.{Wake}
 use Rattle.lfm_words.specs.declared.wakes.Wake.TheVariants.{Quiet, Waiting, Claimed, Grant}
-use Rattle.lfm_core.specs.Ghost.{Responsibility, nobody, owned, granted, posted, entering, accepting, leaving, serving, Standing, apart, claimed, asks, queued}
+use Rattle.lfm_core.specs.Ghost.{Responsibility, nobody, owned, granted, posted, entering, accepting, leaving, serving, Standing, apart, asks, queued}
 pub use Rattle.lfm_core.specs.Errands.{asks_for_at, asks_for, claims_for_at, claims_for}
 
 -- The responsibility

@@ -1,6 +1,6 @@
 -- What the steps of a call weigh together, where a measure of the seat's point falls by as much with each of its own steps: no
 -- more than that measure, whatever the others do in between.
-use Rattle.std.proofs.Common.{◌≡◌, ◌≢◌, ℕ, Bool, true, false, ◌+◌, ◌-◌, ◌≤◌, List, [], ◌∷◌, length, refl, sym, ◌∙◌, inl, inr, arith}
+use Rattle.std.proofs.Common.{◌≡◌, ℕ, Bool, true, false, ◌+◌, ◌-◌, ◌≤◌, List, [], ◌∷◌, length, refl, sym, ◌∙◌, inl, inr, arith}
 use Rattle.std.proofs.lemmas.Bool.{cases_Bool, cases_eq, eq-eqb, ne_eqb, false≢true}
 use Rattle.lfm_core.specs.declared.points.Point.{Point}
 use Rattle.lfm_core.specs.declared.points.Point.TheVariants.{TakeLinkLoad}
@@ -9,7 +9,7 @@ use Rattle.lfm_core.specs.Ghost.{serving, Ghost}
 use Rattle.lfm_core.specs.Schedules.{Event, begins, makes, happens, is_call, weight_of, weight_of_call}
 use Rattle.lfm_core.specs.Seats.{seat, is_seat, IsSeat}
 use Rattle.lfm_core.specs.Steady.{Fits, Steady}
-use Rattle.lfm_core.specs.Step.{made, begin, step}
+use Rattle.lfm_core.specs.Step.{made, begin}
 use Rattle.lfm_core.specs.Views.{claim_at}
 use Rattle.lfm_core.proofs.lawful.Leaving.{stepped, own_made, size_made, is_seat_from, is_seat_of, seat_of_call, Leaves, leaves_all, begin_leaves, step_leaves}
 use Rattle.lfm_core.proofs.lawful.Reached.{made_keeps, begin_keeps}

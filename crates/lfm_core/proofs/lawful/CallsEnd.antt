@@ -3,10 +3,8 @@
 use Rattle.std.proofs.Common.{◌≡◌, ℕ, zero, suc, true, false, ◌+◌, ◌-◌, ◌<◌, Option, Some, None, List, length, nat_eq, nat_lt, if◌then◌else◌, inl, inr, arith}
 use Rattle.std.proofs.lemmas.Bool.{cases_Bool, false≢true, and_parts, ltb-true}
 use Rattle.lfm_core.specs.declared.kinds.Kind.{Kind}
-use Rattle.lfm_core.specs.declared.kinds.Kind.TheVariants as Kind
 use Rattle.lfm_core.specs.declared.seats.SeatState.{SeatState}
 use Rattle.lfm_words.specs.declared.wakes.Wake.{Wake}
-use Rattle.lfm_words.specs.declared.wakes.Wake.TheVariants as Wake
 use Rattle.lfm_words.specs.Popped.{oldest}
 use Rattle.lfm_core.specs.After.{same_link, same_handoff, loaded, drops_oldest, after_wake_exchange}
 use Rattle.lfm_core.specs.Begin.{Stepped}

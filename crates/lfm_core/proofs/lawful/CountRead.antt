@@ -8,7 +8,6 @@ use Rattle.lfm_core.specs.declared.points.Entrant.TheVariants as Entrant
 use Rattle.lfm_core.specs.declared.points.Point.{Point}
 use Rattle.lfm_core.specs.declared.points.Point.TheVariants.{Rest, LockCountAdd, LockOwnerLoad, LockCountSubtract, TryCountExchange, TryOwnerLoad, TryCountAdd, SendWakeExchange, SendCountAdd, SendWakeStore, PushLoad, LinkStore, PushExchange, PushedHandoffLoad, ReleaseOwnerStore, EnterOwnerStore, ReceiveWakeStore}
 use Rattle.lfm_core.specs.declared.points.Pusher.{Pusher}
-use Rattle.lfm_core.specs.declared.points.Pusher.TheVariants as Pusher
 use Rattle.lfm_words.specs.declared.pop_lists.Record.{Record}
 use Rattle.lfm_core.specs.Core.{Core}
 use Rattle.lfm_core.specs.Ghost.{Responsibility, nobody, owned, posted, entering, accepting, serving, Ghost}

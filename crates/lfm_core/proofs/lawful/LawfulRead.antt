@@ -2,13 +2,10 @@
 use Rattle.std.proofs.Common.{◌≡◌, ◌≢◌, ◌⊎◌, ℕ, zero, suc, Bool, true, false, Option, Some, None, refl, sym, ◌∙◌, inl, inr, arith}
 use Rattle.std.proofs.lemmas.Bool.{cases_Bool, eqb-true, eq-eqb, ne_eqb}
 use Rattle.lfm_model.specs.declared.answers.How.{How}
-use Rattle.lfm_model.specs.declared.answers.How.TheVariants as How
 use Rattle.lfm_core.specs.declared.points.Entrant.{Entrant}
-use Rattle.lfm_core.specs.declared.points.Entrant.TheVariants as Entrant
 use Rattle.lfm_core.specs.declared.points.Point.{Point}
 use Rattle.lfm_core.specs.declared.points.Point.TheVariants.{Rest, Asleep, LockCountAdd, LockOwnerLoad, TryCountExchange, TryOwnerLoad, TryHandoffExchange, SendWakeExchange, SendCountAdd, SendPushLook, SendWakeStore, PushLoad, LinkStore, PushExchange, PushedHandoffLoad, PushedHandoffExchange, EnterOwnerStore, ReceiveWakeLoad, ReceiveWakeStore}
 use Rattle.lfm_core.specs.declared.points.Pusher.{Pusher}
-use Rattle.lfm_core.specs.declared.points.Pusher.TheVariants as Pusher
 use Rattle.lfm_core.specs.declared.points.Sleeper.TheVariants as Sleeper
 use Rattle.lfm_words.specs.declared.wakes.Wake.{Wake}
 use Rattle.lfm_words.specs.declared.wakes.Wake.TheVariants.{Waiting, Claimed}

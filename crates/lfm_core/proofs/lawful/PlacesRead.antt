@@ -7,7 +7,6 @@ use Rattle.std.specs.List.{zip}
 use Rattle.lfm_model.specs.Abstract.{AbstractPlace, Carrying, free, owner, passed, carried}
 use Rattle.lfm_model.specs.Abstract as Abstract
 use Rattle.lfm_model.specs.declared.answers.Place.{Place}
-use Rattle.lfm_model.specs.declared.answers.Place.TheVariants as Place
 use Rattle.lfm_core.specs.declared.points.Point.{Point}
 use Rattle.lfm_core.specs.declared.points.Point.TheVariants.{TryCountAdd, SendWakeStore, ReleaseCountSubtract, ReleaseHandoffStore, TakeClearHead, TakeLinkLoad, GrantWakeStore, EnterOwnerStore, ReceiveWakeStore}
 use Rattle.lfm_core.specs.declared.seats.SeatState.{SeatState}

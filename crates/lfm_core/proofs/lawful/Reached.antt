@@ -1,18 +1,16 @@
 -- Every state that a schedule reaches is steady, and each event goes from one ghost to the next.
-use Rattle.std.proofs.Common.{◌≡◌, ℕ, ◌^◌, ◌≤◌, true, false, List, [], ◌∷◌, refl, sym, inl, inr, arith, tests}
+use Rattle.std.proofs.Common.{◌≡◌, ℕ, false, List, [], ◌∷◌, refl, sym, inl, inr}
 use Rattle.std.proofs.lemmas.Bool.{cases_Bool}
-use Rattle.lfm_core.specs.declared.answers.Call.{Call}
 use Rattle.lfm_core.specs.declared.seats.SeatState.{SeatState}
 use Rattle.lfm_core.specs.Cases.{case_of_event}
 use Rattle.lfm_core.specs.Core.{Core}
 use Rattle.lfm_core.specs.Ghost.{Ghost}
 use Rattle.lfm_core.specs.Laws.{IsReached}
-use Rattle.lfm_core.specs.Limits.{are_in_limits}
-use Rattle.lfm_core.specs.Outcome.{Outcome, Kept}
+use Rattle.lfm_core.specs.Outcome.{Outcome}
 use Rattle.lfm_core.specs.Schedules.{Event, begins, makes, happens, run_of, pushed_in, popped_in, answered_in}
-use Rattle.lfm_core.specs.Seats.{seat, absent, is_seat, IsSeat}
+use Rattle.lfm_core.specs.Seats.{seat, absent, is_seat}
 use Rattle.lfm_core.specs.Steady.{Fits, Steady}
-use Rattle.lfm_core.specs.Step.{begin, step, start}
+use Rattle.lfm_core.specs.Step.{start}
 use Rattle.lfm_core.proofs.SeatLaws.{entry_absent}
 use Rattle.lfm_core.proofs.steady.Histories.{history_stays}
 pub use Rattle.lfm_core.proofs.steady.Begins.{begin_keeps}

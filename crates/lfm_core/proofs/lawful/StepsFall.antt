@@ -2,23 +2,19 @@
 use Rattle.std.proofs.Common.{◌≡◌, ℕ, suc, Bool, true, false, ◌+◌, ◌-◌, ◌≤◌, ◌<◌, Option, Some, None, nat_eq, if◌then◌else◌, refl, arith}
 use Rattle.std.proofs.lemmas.Bool.{false≢true, eq-eqb}
 use Rattle.lfm_core.specs.declared.points.Carrier.{Carrier}
-use Rattle.lfm_core.specs.declared.points.Carrier.TheVariants as Carrier
 use Rattle.lfm_core.specs.declared.points.Point.{Point}
 use Rattle.lfm_core.specs.declared.points.Point.TheVariants.{LockCountAdd, LockOwnerLoad, TryCountExchange, TryOwnerLoad, TryHandoffLoad, TryHandoffExchange, TryCountAdd, SendWakeExchange, SendCountAdd, SendPushLook, PushLoad, LinkStore, PushExchange, PushedHandoffLoad, PushedHandoffExchange, ReleaseOwnerStore, ReleaseCountSubtract, ReleaseHandoffStore, ReleasePushLook, ReleaseHandoffExchange, TakeClearHead, TakeLinkLoad, GrantWakeStore, ReceiveWakeLoad, ReceiveWakeStore}
 use Rattle.lfm_core.specs.declared.points.Pusher.{Pusher}
-use Rattle.lfm_core.specs.declared.points.Pusher.TheVariants as Pusher
 use Rattle.lfm_core.specs.declared.points.Releaser.{Releaser}
 use Rattle.lfm_core.specs.declared.points.Releaser.TheVariants.{Unlocker, Waiter}
 use Rattle.lfm_core.specs.declared.points.Sleeper.{Sleeper}
 use Rattle.lfm_core.specs.declared.seats.SeatState.{SeatState}
 use Rattle.lfm_model.specs.declared.answers.Unlocked.{Unlocked}
-use Rattle.lfm_model.specs.declared.answers.Unlocked.TheVariants as Unlocked
 use Rattle.lfm_words.specs.declared.handoffs.Handoff.{Handoff}
 use Rattle.lfm_words.specs.declared.links.Link.{Link}
 use Rattle.lfm_words.specs.declared.pop_lists.Record.{Record}
 use Rattle.lfm_words.specs.declared.wakes.Wake.{Wake}
 use Rattle.lfm_words.specs.declared.wakes.Wake.TheVariants.{Grant}
-use Rattle.lfm_words.specs.declared.wakes.Wake.TheVariants as Wake
 use Rattle.lfm_core.specs.After.{same_link, releases, pushed, granted, looks, carrier_of, serves, take, cleared, receives, claims, loaded, drops_oldest_at, after_count_exchange_at, after_count_add_at, after_count_subtract_at, after_owner_load_at, after_owner_store_at, after_push_load_at, after_push_exchange_at, after_clear_head_at, after_link_load_at, after_link_store_at, after_handoff_load_at, after_handoff_store_at, after_handoff_exchange_at, after_wake_load_at, after_wake_store_at, after_wake_exchange_at}
 use Rattle.lfm_core.specs.Stores.{expected_push_at}
 use Rattle.lfm_core.specs.Begin.{Stepped}

@@ -5,7 +5,6 @@ use Rattle.std.proofs.Math.Bool.{or-false}
 use Rattle.lfm_core.specs.declared.points.Point.{Point}
 use Rattle.lfm_core.specs.declared.points.Point.TheVariants.{SendPushLook, PushedHandoffLoad, ReleasePushLook}
 use Rattle.lfm_core.specs.declared.points.Pusher.{Pusher}
-use Rattle.lfm_core.specs.declared.points.Pusher.TheVariants as Pusher
 use Rattle.lfm_core.specs.declared.seats.SeatState.{SeatState}
 use Rattle.lfm_words.specs.declared.handoffs.Handoff.{Handoff}
 use Rattle.lfm_words.specs.declared.pop_lists.Record.{Record}

@@ -1,5 +1,5 @@
 -- A step of a seat that is there leads from a steady state to a steady state.
-use Rattle.std.proofs.Common.{◌≡◌, ◌<◌, ◌≤◌, ◌+◌, ◌&&◌, ℕ, Bool, true, List, length, arith, tests}
+use Rattle.std.proofs.Common.{◌≡◌, ℕ, true, List, arith, tests}
 use Rattle.lfm_core.specs.declared.seats.SeatState.{SeatState}
 use Rattle.lfm_core.specs.Core.{Core}
 use Rattle.lfm_core.specs.Seats.{IsSeat, is_seat}

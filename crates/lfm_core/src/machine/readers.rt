@@ -9,9 +9,9 @@ ghost use Rattle.lfm_core.specs.Seats.{seat};
 ghost use Rattle.lfm_words.specs.Popped.{pair_of};
 
 use crate::chains::Chain;
+use crate::machine::Machine;
 use crate::points::Point;
 use crate::seats::SeatState;
-use crate::machine::Machine;
 use lfm_model::{Place, SeatNo};
 use lfm_words::{Handoff, Record, Wake};
 

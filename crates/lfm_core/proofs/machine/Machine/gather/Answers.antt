@@ -1,4 +1,4 @@
-use Rattle.std.proofs.Common.{◌≡◌, ◌≤◌, ◌+◌, ◌++◌, ap, arith, length, reverse, length-append}
+use Rattle.std.proofs.Common.{◌≡◌, ◌+◌, ◌++◌, ap, arith, length, reverse, length-append}
 use Rattle.std.proofs.lemmas.List.{length-reverse}
 use Rattle.lfm_core.specs.Core.{Core}
 use Rattle.lfm_core.specs.Queue.{chain, unwalked, queue_of}

@@ -1,4 +1,3 @@
-use Rattle.lfm_core.specs.Steady.{Steady}
 use Rattle.lfm_core.proofs.steady.Begins.{begin_keeps}
 use Rattle.lfm_core.proofs.stepped.State.begin.Goals as goal
 

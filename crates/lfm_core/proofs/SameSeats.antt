@@ -12,11 +12,7 @@ use Rattle.lfm_core.specs.Seats.{is_seat, with_entry, wake}
 use Rattle.lfm_core.specs.Step.{claims_word, step_of, step, begin}
 use Rattle.lfm_words.specs.declared.wakes.Wake.{Wake}
 use Rattle.lfm_words.specs.declared.wakes.Wake.TheVariants.{Waiting}
-
-length-with_entry : {A : Type 0} (xs : List A) (s : ℕ) (x : A) → length (with_entry xs s x) ≡ length xs
-unfolding with_entry
-length-with_entry xs zero x = refl
-length-with_entry xs (suc n) x = length-set xs n x
+use Rattle.lfm_core.proofs.steady.Entries.{length-with_entry}
 
 seats-claims_word : (c : Core) (t : ℕ) (w : Wake) → (claims_word c t w).seats ≡ c.seats
 seats-claims_word c t Waiting = refl

@@ -11,7 +11,8 @@ use Rattle.lfm_core.specs.Points.{pushed_seat}
 use Rattle.lfm_core.specs.Seats.{seat}
 use Rattle.lfm_core.specs.Steady.{ErrandFits, KnowsAt, StandsAsPusher, StandsAt, Fits}
 use Rattle.lfm_core.specs.Views.{asks_for_at, is_asking}
-use Rattle.lfm_core.proofs.steady.Seated.{seat_of_standing}
+use Rattle.lfm_core.proofs.steady.Seated.{seat_of_asking}
+use Rattle.lfm_core.proofs.steady.Linking.{pushed_asks}
 
 -- the agent of a seat that asks
 agent_of : (standing : Standing) → is_asking standing ≡ true → (agent : ℕ) × (standing ≡ asks agent)
@@ -20,21 +21,13 @@ agent_of (claimed agent) e = absurd (false≢true e)
 agent_of (asks agent) e = (agent, refl)
 agent_of (queued stamp) e = absurd (false≢true e)
 
-asks_seated : (agent : ℕ) → asks agent ≢ apart
-asks_seated agent e = cc
-
 asks_by : (c : Core) (g : Ghost) (x agent : ℕ) → Fits c g → g.standing x ≡ asks agent → Asks c x
 asks_by c g x agent fits stands =
-    let is = seat_of_standing c g x fits (λ none. asks_seated agent (sym stands ∙ none)) in
+    let is = seat_of_asking c g x agent fits stands in
     record { agent = agent; some = is.above; counts = (fits.agents x).asked agent stands }
 
 pub asks_read : (c : Core) (g : Ghost) → Fits c g → (x : ℕ) → is_asking (g.standing x) ≡ true → Asks c x
 asks_read c g fits x e = let by = agent_of (g.standing x) e in asks_by c g x by.0 fits by.1
-
--- the seat that a call is to push stands asking
-pushed_asks : (g : Ghost) (s : ℕ) (pusher : Pusher) → StandsAsPusher s (g.standing s) pusher → ErrandFits g s pusher → g.standing (pushed_seat pusher s) ≡ asks s
-pushed_asks g s Pusher.Locker stands errand = stands
-pushed_asks g s (Pusher.Sender t) stands errand = errand.1
 
 locker_asks : (g : Ghost) (depth s x : ℕ) (place : Responsibility) → 0 < x → asks_for_at depth s LockOwnerLoad ≡ x → StandsAt place depth s (g.standing s) LockOwnerLoad → g.standing x ≡ asks s
 locker_asks g zero s x place some counts stands = rw (sym counts) stands

@@ -11,8 +11,9 @@ use Rattle.lfm_core.specs.Seats.{seat, is_seat, IsSeat}
 use Rattle.lfm_core.specs.Steady.{Fits, Steady}
 use Rattle.lfm_core.specs.Step.{made, begin}
 use Rattle.lfm_core.specs.Views.{claim_at}
-use Rattle.lfm_core.proofs.lawful.Leaving.{stepped, own_made, size_made, is_seat_from, is_seat_of, seat_of_call, Leaves, leaves_all, begin_leaves, step_leaves}
+use Rattle.lfm_core.proofs.lawful.Leaving.{stepped, own_made, size_made, seat_of_call, Leaves, leaves_all, begin_leaves, step_leaves}
 use Rattle.lfm_core.proofs.lawful.Reached.{made_keeps, begin_keeps}
+use Rattle.lfm_core.proofs.steady.Seated.{seat_of_test, test_of_seat}
 
 -- a carrier at this point walks the queue
 abbrev pub is_walking : Point → Bool
@@ -89,7 +90,7 @@ module _ (weight : Point → ℕ) (most : ℕ → ℕ → Point → ℕ) (among 
       → Goes c c s (weight_of weight c s (makes t))
   goes_refused c t s steady inside within none =
       elim (cases_eq t s) [
-        | inl own ↦ absurd (false≢true (sym none ∙ rw own (is_seat_of c.seats s (seat_of_call c s inside))))
+        | inl own ↦ absurd (false≢true (sym none ∙ rw own (test_of_seat c.seats s (seat_of_call c s inside))))
         | inr other ↦ rw (ne_eqb t s other) (goes_left c c s steady within (leaves_all c s))
       ]
 
@@ -100,7 +101,7 @@ module _ (weight : Point → ℕ) (most : ℕ → ℕ → Point → ℕ) (among 
       goes_left c (begin c t call).core s (record { ghost_state = steady.ghost_state; fits = fits }) within (begin_leaves c t s call inside)
   goes_event c (makes t) s steady inside within =
       elim (cases_Bool (is_seat c.seats t)) [
-        | inl is ↦ rw is (goes_on_made c t s steady inside within (is_seat_from c.seats t is))
+        | inl is ↦ rw is (goes_on_made c t s steady inside within (seat_of_test c.seats t is))
         | inr none ↦ rw none (goes_refused c t s steady inside within none)
       ]
 

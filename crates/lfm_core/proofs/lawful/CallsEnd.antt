@@ -22,6 +22,7 @@ use Rattle.lfm_core.proofs.lawful.Reached.{made_keeps, steady_reached}
 use Rattle.lfm_core.proofs.steady.Room.{steady_has_room}
 use Rattle.lfm_core.proofs.lawful.StepsFall.{Lower, count_exchange_lower, count_add_lower, count_subtract_lower, owner_load_lower, owner_store_lower, push_load_lower, push_exchange_lower, clear_head_lower, link_load_lower, link_store_lower, handoff_load_lower, handoff_store_lower, handoff_exchange_lower, wake_load_lower, wake_store_lower, wake_exchange_lower}
 use Rattle.lfm_core.proofs.lawful.StepsLeft.{room_of, left, left-le}
+use Rattle.lfm_core.proofs.steady.Seated.{seat_of_test}
 
 -- a turn after which the call of seat s goes on leaves it fewer steps than this
 abbrev Falls : ℕ → ℕ → Moved → Type 0
@@ -70,18 +71,12 @@ falls_of c s t (Some Kind.WakeStore) is pops =
 falls_of c s t (Some Kind.WakeExchange) is pops =
     wake_falls c s t (wake c.wakes t) is (wake_exchange_lower c.push (room_of c) (seat c.seats s) (wake c.wakes t) (seat c.seats s).point)
 
-is_seat_true : (seats : List SeatState) (s : ℕ) → is_seat seats s ≡ true → IsSeat seats s
-is_seat_true seats s e =
-    let both = and_parts (nat_lt 0 s) (nat_lt s (length seats + 1)) e in
-    let within = ltb-true s (length seats + 1) both.1 in
-    record { above = ltb-true 0 s both.0; within = omega (arith, within) }
-
 -- a step of a number that no seat has is refused
 pub step_falls : (c : Core) (s : ℕ) → Steady c → Falls s (left c s) (step c s)
 step_falls c s steady =
     elim (cases_Bool (is_seat c.seats s)) [
       | inl known ↦
-          let is = is_seat_true c.seats s known in
+          let is = seat_of_test c.seats s known in
           rw known (falls_of c s (target (seat c.seats s).point s) (kind (seat c.seats s).point) is (steady_has_room c s steady is).pops)
       | inr none ↦ rw none (λ goes. absurd (false≢true goes))
     ]
@@ -91,7 +86,7 @@ pub steady_step : (c : Core) (s : ℕ) → Steady c → Steady (step c s).core
 steady_step c s steady =
     elim (cases_Bool (is_seat c.seats s)) [
       | inl known ↦
-          let kept = made_keeps c steady.ghost_state s (is_seat_true c.seats s known) steady.fits in
+          let kept = made_keeps c steady.ghost_state s (seat_of_test c.seats s known) steady.fits in
           rw known (record { ghost_state = kept.to; fits = kept.fits })
       | inr none ↦ rw none steady
     ]

@@ -18,6 +18,7 @@ use Rattle.lfm_core.specs.Seats.{seat}
 use Rattle.lfm_core.specs.Steady.{own_unit, again_unit, WorkFits, Fits}
 use Rattle.lfm_core.specs.Views.{by_depth, claim_at, held_by}
 use Rattle.lfm_core.proofs.lawful.ClaimsRead.{held_self, self_claims}
+use Rattle.lfm_core.proofs.lawful.RecordsRead.{length-records}
 
 -- the units of a place, by the point of its seat
 
@@ -117,10 +118,6 @@ again_read c g (owned s again) fits here =
     let unit = ap recursion_unit (self_claims c g s (owned s again) fits here (held_self s _)) in
     recursion_at (seat c.seats s).depth s (seat c.seats s).point (omega (arith, unit, recursion_unit-le s again)) ∙ unit
 again_read c g _ fits here = refl
-
-length-records : (pushed_at : ℕ → ℕ) (last n : ℕ) → length (records pushed_at last n) ≡ n
-length-records pushed_at last zero = refl
-length-records pushed_at last (suc n) = ap suc (length-records pushed_at (last + 1) n)
 
 -- as many wait as were pushed and not popped
 waiting_read : (g : Ghost) → length (abstract g).waiting ≡ g.pushed - g.popped

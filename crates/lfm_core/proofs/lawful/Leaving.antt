@@ -27,6 +27,7 @@ use Rattle.lfm_core.specs.Views.{claim_at, claim_to_enter, held_by}
 use Rattle.lfm_core.proofs.steady.Entries.{length-with_entry, seat-with_same, seat-with_other}
 use Rattle.lfm_core.proofs.steady.Frames.{place_of_claim}
 use Rattle.lfm_core.proofs.steady.Seated.{seat_of_point}
+use Rattle.lfm_core.proofs.steady.Popping.{nobody_serves}
 
 -- The acting seat
 
@@ -140,9 +141,6 @@ drops_by_server depth s (GrantWakeStore carrier granted) idles = absurd (idles r
 drops_by_server depth s (EnterOwnerStore entrant how) idles = drops_by_entrant s entrant how idles
 drops_by_server depth s _ idles = refl
 
-serves_or_not : (s : ℕ) → nobody ≢ serving s
-serves_or_not s e = cc
-
 -- a step of a seat leaves the pop list to another seat that serves
 pub popped_made : (c : Core) (g : Ghost) (s u : ℕ) → Fits c g → claim_at (seat c.seats u).depth u (seat c.seats u).point ≡ serving u → u ≢ s
     → (made c s).core.popped ≡ c.popped
@@ -150,7 +148,7 @@ popped_made c g s u fits serves other =
     let place = place_of_claim g.place (serving u) u (λ e. cc) (sym serves ∙ (fits.each u).claims) in
     let none : held_by g.place s ≡ nobody = rw place (rw (ne_eqb u s other) refl) in
     let idles : claim_at (seat c.seats s).depth s (seat c.seats s).point ≢ serving s =
-    λ e. serves_or_not s (sym none ∙ sym (fits.each s).claims ∙ e) in
+    λ e. nobody_serves s (sym none ∙ sym (fits.each s).claims ∙ e) in
     popped_by c s (target (seat c.seats s).point s) (kind (seat c.seats s).point) (loads_by_server _ s (seat c.seats s).point idles)
     (drops_by_server _ s (seat c.seats s).point idles)
 
@@ -161,14 +159,6 @@ begins_nothing : (x : SeatState) (limits : Limits) (call : Call) (p : Point) →
 begins_nothing x limits call Rest inside = absurd (false≢true inside)
 begins_nothing x limits call (Asleep sleeper) inside = absurd (false≢true inside)
 begins_nothing x limits call _ inside = refl
-
-pub is_seat_from : (seats : List SeatState) (s : ℕ) → is_seat seats s ≡ true → IsSeat seats s
-is_seat_from seats s e =
-    let parts = and_parts _ _ e in
-    record { above = ltb-true 0 s parts.0; within = let most = ltb-true s (length seats + 1) parts.1 in omega (arith, most) }
-
-pub is_seat_of : (seats : List SeatState) (s : ℕ) → IsSeat seats s → is_seat seats s ≡ true
-is_seat_of seats s is = and_from _ _ (lt-ltb 0 s is.above) (lt-ltb s (length seats + 1) (let most = is.within in omega (arith, most)))
 
 pub seat_of_call : (c : Core) (s : ℕ) → is_call (seat c.seats s).point ≡ true → IsSeat c.seats s
 seat_of_call c s inside = seat_of_point c.seats s (λ e. false≢true (rw e at inside))

@@ -22,7 +22,8 @@ use Rattle.lfm_core.specs.Seats.{entry, seat, wake, absent, unposted, IsSeat}
 use Rattle.lfm_core.specs.Steady.{owner_of, Fits}
 use Rattle.lfm_core.specs.Views.{grant_at, is_some}
 use Rattle.lfm_core.proofs.lawful.ClaimsRead.{carried_some, claims_place, place_claims}
-use Rattle.lfm_core.proofs.steady.Seated.{seat_or_absent, seat_of_point}
+use Rattle.lfm_core.proofs.steady.Seated.{seat_of_point}
+use Rattle.lfm_core.proofs.steady.Entries.{seat_or_absent}
 
 -- The first place of a list that passes
 
@@ -144,8 +145,8 @@ passed_some s e = cc
 seat_of_depth : (seats : List SeatState) (s : ℕ) → 0 < (seat seats s).depth → IsSeat seats s
 seat_of_depth seats s above =
     elim (seat_or_absent seats s) [
-      | inl none ↦ let flat : (seat seats s).depth ≡ 0 = ap (λ x. x.depth) none in absurd (omega arith)
-      | inr is ↦ is
+      | inl is ↦ is
+      | inr none ↦ let flat : (seat seats s).depth ≡ 0 = ap (λ x. x.depth) none in absurd (omega arith)
     ]
 
 below : (s k : ℕ) → 0 < s → k < s - 1 → k + 1 ≢ s

@@ -15,12 +15,9 @@ use Rattle.lfm_core.proofs.steady.Histories.{records_append, records_snoc}
 use Rattle.lfm_core.proofs.lawful.QueueRead.{queue_read}
 use Rattle.lfm_core.proofs.lawful.Reached.{steady_reached}
 use Rattle.lfm_core.proofs.lawful.RunLaws.{run_goes}
+use Rattle.lfm_core.proofs.lawful.RecordsRead.{length-records}
 
 -- Records by stamp
-
-length-records : (f : ℕ → ℕ) (last n : ℕ) → length (records f last n) ≡ n
-length-records f last zero = refl
-length-records f last (suc n) = ap suc (length-records f (last + 1) n)
 
 stamp_of_record : (f : ℕ → ℕ) (last n i : ℕ) (d : Record) → i < n → (get_or (records f last n) i d).stamp ≡ last + i + 1
 stamp_of_record f last zero i d within = absurd (omega arith)

@@ -13,11 +13,8 @@ use Rattle.lfm_core.specs.Points.{pushed_seat}
 use Rattle.lfm_core.specs.Seats.{seat, is_seat, IsSeat}
 use Rattle.lfm_core.specs.Step.{step}
 use Rattle.lfm_core.proofs.steady.Entries.{seat-with_same, length-with_entry}
-use Rattle.lfm_core.proofs.steady.Seated.{seat_of_point}
+use Rattle.lfm_core.proofs.steady.Seated.{seat_of_point, test_of_seat}
 use Rattle.lfm_core.proofs.lawful.StepsFall.{same_link_self}
-
-is_seat_yes : (seats : List SeatState) (s : ℕ) → IsSeat seats s → is_seat seats s ≡ true
-is_seat_yes seats s is = rw (lt-ltb 0 s is.above, lt-ltb s (length seats + 1) (omega (arith, is.within))) refl
 
 -- seat s is at this point, and this is the push word
 record Stands (c : Core) (s : ℕ) (push : Link) (p : Point) : Type 0 where
@@ -36,19 +33,19 @@ stands_put d s y is =
 fails : (c : Core) (s : ℕ) (pusher : Pusher) (seen : Link) → IsSeat c.seats s → (seat c.seats s).point ≡ PushExchange pusher seen → same_link c.push seen ≡ false
     → Stands (step c s).core s c.push (LinkStore pusher c.push)
 fails c s pusher seen is at other =
-    rw (is_seat_yes c.seats s is, at, at, other) (stands_put c s (record (seat c.seats s) { point = LinkStore pusher c.push }) is)
+    rw (test_of_seat c.seats s is, at, at, other) (stands_put c s (record (seat c.seats s) { point = LinkStore pusher c.push }) is)
 
 stores : (c : Core) (s : ℕ) (pusher : Pusher) (seen : Link) → IsSeat c.seats s → (seat c.seats s).point ≡ LinkStore pusher seen
     → Stands (step c s).core s c.push (PushExchange pusher seen)
 stores c s pusher seen is at =
-    rw (is_seat_yes c.seats s is, at, at)
+    rw (test_of_seat c.seats s is, at, at)
     (stands_put (put_link c (pushed_seat pusher s) (record { stamp = seen.stamp + 1; next = seen.next })) s (record (seat c.seats s) { point = PushExchange pusher seen }) is)
 
 succeeds : (c : Core) (s : ℕ) (pusher : Pusher) (seen : Link) → IsSeat c.seats s → (seat c.seats s).point ≡ PushExchange pusher seen → c.push ≡ seen
     → (seat (step c s).core.seats s).point ≡ PushedHandoffLoad pusher
 succeeds c s pusher seen is at found =
     let same : same_link c.push seen ≡ true = rw found (same_link_self seen) in
-    rw (is_seat_yes c.seats s is, at, at, same) (ap (λ x. x.point) (seat-with_same c.seats s (record (seat c.seats s) { point = PushedHandoffLoad pusher }) is))
+    rw (test_of_seat c.seats s is, at, at, same) (ap (λ x. x.point) (seat-with_same c.seats s (record (seat c.seats s) { point = PushedHandoffLoad pusher }) is))
 
 pub pushes_alone_fail_once : PushesAloneFailOnce
 pushes_alone_fail_once c s pusher seen is at other =

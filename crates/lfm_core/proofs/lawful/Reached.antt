@@ -14,8 +14,8 @@ use Rattle.lfm_core.specs.Step.{start}
 use Rattle.lfm_core.proofs.SeatLaws.{entry_absent}
 use Rattle.lfm_core.proofs.steady.Histories.{history_stays}
 pub use Rattle.lfm_core.proofs.steady.Begins.{begin_keeps}
-use Rattle.lfm_core.proofs.steady.MadeSteady.{seat_of_test}
 use Rattle.lfm_core.proofs.steady.Start.{start_steady, few_seats, small_budget}
+use Rattle.lfm_core.proofs.steady.Seated.{seat_of_test}
 pub use Rattle.lfm_core.proofs.steady.StepsKept.{made_keeps}
 
 -- a number of which the test of a step says that no seat has it

@@ -16,9 +16,10 @@ use Rattle.lfm_core.specs.Seats.{seat, is_seat}
 use Rattle.lfm_core.specs.Step.{begin}
 use Rattle.lfm_core.proofs.lawful.CallWeights.{room_left, weight_le}
 use Rattle.lfm_core.proofs.steady.Entries.{seat-with_same}
-use Rattle.lfm_core.proofs.lawful.Leaving.{is_seat_from, begun_size}
+use Rattle.lfm_core.proofs.lawful.Leaving.{begun_size}
 use Rattle.lfm_core.proofs.lawful.Reached.{begin_keeps, steady_reached}
-use Rattle.lfm_core.proofs.lawful.ReleaseFalls.{among_release, steps_left, Within, steps_fall}
+use Rattle.lfm_core.proofs.lawful.ReleaseFalls.{among_release, steps_left, Within, steps_fall, of_turns}
+use Rattle.lfm_core.proofs.steady.Seated.{seat_of_test}
 
 -- Where no call is open, none of these steps are left
 
@@ -28,11 +29,6 @@ at_rest seats room steps (Asleep sleeper) closed = (refl, omega arith)
 at_rest seats room steps _ closed = absurd (false≢true (sym closed))
 
 -- Where an unlock and a start_wait begin
-
-of_turns : (seats room steps : ℕ) (b : Bool) (x y : Stepped) → Within seats room steps x.seat.point → Within seats room steps y.seat.point
-    → Within seats room steps (if b then x else y).seat.point
-of_turns seats room steps true x y first second = first
-of_turns seats room steps false x y first second = second
 
 unlock_awake : (seats room : ℕ) (x : SeatState) → Within seats room (seats + 7) x.point → Within seats room (seats + 7) (begin_unlock x).seat.point
 unlock_awake seats room x here =
@@ -61,7 +57,7 @@ begun : (c : Core) (s seats room steps : ℕ) (call : Call) → Within seats roo
     → Within seats room steps (Begin.begin (seat c.seats s) (limits c) call).seat.point → Within seats room steps (seat (begin c s call).core.seats s).point
 begun c s seats room steps call before after =
     elim (cases_Bool (is_seat c.seats s)) [
-      | inl is ↦ rw (is, seat-with_same c.seats s (Begin.begin (seat c.seats s) (limits c) call).seat (is_seat_from c.seats s is)) after
+      | inl is ↦ rw (is, seat-with_same c.seats s (Begin.begin (seat c.seats s) (limits c) call).seat (seat_of_test c.seats s is)) after
       | inr none ↦ rw none before
     ]
 

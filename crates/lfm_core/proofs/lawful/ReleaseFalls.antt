@@ -24,6 +24,7 @@ use Rattle.lfm_core.specs.Views.{waits_on}
 use Rattle.lfm_core.proofs.lawful.CallWeights.{is_walking, Falls}
 use Rattle.lfm_core.proofs.lawful.Leaving.{stepped, seat_of_call}
 use Rattle.lfm_core.proofs.steady.Sums.{sum_bound_less}
+use Rattle.lfm_core.proofs.steady.Room.{queued_unit-le}
 
 -- The points of a release
 
@@ -85,7 +86,7 @@ of_points : (seats room steps : ℕ) (b : Bool) (p q : Point) → Within seats r
 of_points seats room steps true p q first second = first
 of_points seats room steps false p q first second = second
 
-of_turns : (seats room steps : ℕ) (b : Bool) (x y : Stepped) → Within seats room steps x.seat.point → Within seats room steps y.seat.point
+pub of_turns : (seats room steps : ℕ) (b : Bool) (x y : Stepped) → Within seats room steps x.seat.point → Within seats room steps y.seat.point
     → Within seats room steps (if b then x else y).seat.point
 of_turns seats room steps true x y first second = first
 of_turns seats room steps false x y first second = second
@@ -184,15 +185,11 @@ at_point c s room before _ at among inside walks few = absurd (false≢true amon
 
 -- The walk
 
-unit-le : (standing : Standing) → queued_unit standing ≤ 1
-unit-le (queued stamp) = omega arith
-unit-le _ = omega arith
-
 -- a releaser that walks stands apart from the queue, so two records less than there are seats are in the pop list at most
 walk_room : (c : Core) (g : Ghost) (s : ℕ) → Fits c g → IsSeat c.seats s → g.standing s ≡ apart → 0 < g.walk → length c.popped + 2 ≤ length c.seats
 walk_room c g s fits is stands some =
     let none : queued_unit (g.standing s) + 1 ≤ 1 = rw stands (omega arith) in
-    let most = sum_bound_less (length c.seats) 1 s (λ t. queued_unit (g.standing t)) is.above is.within (λ t. unit-le (g.standing t)) none in
+    let most = sum_bound_less (length c.seats) 1 s (λ t. queued_unit (g.standing t)) is.above is.within (λ t. queued_unit-le (g.standing t)) none in
     omega (arith, most, fits.sums.queued, fits.words.parts, some)
 
 stands_apart : (standing : Standing) (carrier : Carrier) → is_releasing carrier ≡ true → StandsAsCarrier standing carrier → standing ≡ apart

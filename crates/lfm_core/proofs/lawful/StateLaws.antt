@@ -18,7 +18,8 @@ use Rattle.lfm_core.specs.Views.{by_depth, claim_at, claim, held_by}
 use Rattle.lfm_core.specs.Watched.{Watches}
 use Rattle.lfm_core.proofs.lawful.LawfulRead.{lawful_read}
 use Rattle.lfm_core.proofs.lawful.Reached.{steady_reached}
-use Rattle.lfm_core.proofs.lawful.WatchedRead.{queue_of_seat, head_some, watched_read}
+use Rattle.lfm_core.proofs.lawful.WatchedRead.{head_some, watched_read}
+use Rattle.lfm_core.proofs.steady.Serving.{queue_of_queued}
 
 pub states_are_lawful : StatesAreLawful
 states_are_lawful c is =
@@ -109,7 +110,7 @@ quiescent_states_rest c is quiet =
 
 carrier_knows : (c : Core) (g : Ghost) (s : ℕ) (carrier : Carrier) → Fits c g → has_won carrier ≡ true → StandsAsCarrier (g.standing s) carrier
     → KnowsRecord g carrier → HasQueue g
-carrier_knows c g s Carrier.Locker fits won stands knows = queue_of_seat c g s fits stands
+carrier_knows c g s Carrier.Locker fits won stands knows = queue_of_queued c g s fits stands
 carrier_knows c g s (Carrier.Releaser releaser) fits won stands knows = absurd (cc)
 carrier_knows c g s (Carrier.Reclaimer releaser) fits won stands knows = knows
 carrier_knows c g s Carrier.Sender fits won stands knows = knows

@@ -16,6 +16,7 @@ use Rattle.lfm_core.specs.Steady.{EntersFits, KnowsAt, CarriedFits, newest, Fits
 use Rattle.lfm_core.specs.Views.{by_depth, claim_to_enter, claim_of_pusher, claim_at, held_by}
 use Rattle.lfm_core.proofs.steady.Frames.{held_by-other}
 use Rattle.lfm_core.proofs.steady.Seated.{seat_of_stamp}
+use Rattle.lfm_core.proofs.steady.Popping.{nobody_serves}
 
 -- no seat walks
 unwalked_none : (seats : List SeatState) → ((n : ℕ) → unwalked_at (get_or seats n absent).point ≡ 0) → unwalked seats ≡ 0
@@ -46,10 +47,6 @@ unwalked_by seats (suc n) next some here idle = unwalked_one seats n next some h
 serves_not : (depth s : ℕ) (p : Point) → claim_at depth s p ≢ serving s → unwalked_at p ≡ 0
 serves_not depth s (TakeLinkLoad carrier next) other = absurd (other refl)
 serves_not depth s _ other = refl
-
--- a claim that is none, or one of an owner, is not that of a call that serves
-nobody_serves : (t : ℕ) → nobody ≢ serving t
-nobody_serves t e = cc
 
 owned_serves : (s t : ℕ) (again : Bool) → owned s again ≢ serving t
 owned_serves s t again e = cc

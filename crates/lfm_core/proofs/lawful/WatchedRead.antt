@@ -18,19 +18,8 @@ use Rattle.lfm_core.specs.Watched.{Waits, Watches, Watched}
 use Rattle.lfm_core.proofs.steady.Abstracts.{queued_or}
 use Rattle.lfm_core.proofs.lawful.QueueRead.{waits_told}
 use Rattle.lfm_core.proofs.steady.Seated.{seat_of_stamp}
-
--- a number that stands posted tells the place
-pub posted_of : (seats : List SeatState) (p : Responsibility) (n : Handoff) → HandoffFits seats p n → 0 < n.seat → p ≡ posted
-posted_of seats posted n fits some = refl
-posted_of seats _ n fits some = let none = ap (λ h. h.seat) fits in absurd (omega (arith, none, some))
-
--- a seat that stands queued has a record in the queue
-pub queue_of_seat : (c : Core) (g : Ghost) (t : ℕ) → Fits c g → is_queued (g.standing t) ≡ true → HasQueue g
-queue_of_seat c g t fits stands =
-    elim (queued_or (g.standing t)) [
-      | inl by ↦ let listed = (fits.each t).listed by.0 by.1 in omega (arith, listed.above, listed.within)
-      | inr away ↦ absurd (cc)
-    ]
+use Rattle.lfm_core.proofs.steady.Serving.{queue_of_queued}
+use Rattle.lfm_core.proofs.steady.Handoffs.{posted_of}
 
 -- nothing being cleared or popped, the push word leads to the queue
 pub head_some : (c : Core) (g : Ghost) → Fits c g → g.walk ≡ 0 → c.popped ≡ [] → HasQueue g → 0 < c.push.next
@@ -61,13 +50,13 @@ pusher_waits c g s (Pusher.Sender t) fits place awaits watches = waits_told c g 
 watches_told : (c : Core) (g : Ghost) (s : ℕ) (x : SeatState) (p : Point) → Fits c g → g.place ≡ posted → StandsAt g.place x.depth s (g.standing s) p
     → WatchesAt c g s x p → Watches c s x p
 watches_told c g s x (PushedHandoffLoad pusher) fits place stands watches = pusher_waits c g s pusher fits place stands watches
-watches_told c g s x (SendPushLook t seen) fits place stands watches = (watches.0, head_posted c g fits place (queue_of_seat c g t fits watches.1))
+watches_told c g s x (SendPushLook t seen) fits place stands watches = (watches.0, head_posted c g fits place (queue_of_queued c g t fits watches.1))
 watches_told c g s x (ReleasePushLook releaser) fits place stands watches = (watches.0, head_posted c g fits place watches.1)
 watches_told c g s x _ fits place stands watches = watches
 
 pub watched_read : (c : Core) (g : Ghost) → Fits c g → Watched c
 watched_read c g fits some =
-    let place = posted_of c.seats g.place c.handoff fits.words.handoff some in
+    let place = posted_of c.seats g.place c.handoff some fits.words.handoff in
     let here = fits.each g.watcher in
     record {
       who = g.watcher;

@@ -150,3 +150,9 @@ nothing_of c g fits x asking waiting held grant entered =
       asking = asking;
       waiting = waits_of c g fits x ∙ waiting;
     }
+
+pub stamp_of_queued : (standing : Standing) → is_queued standing ≡ true → (stamp : ℕ) × (standing ≡ queued stamp)
+stamp_of_queued apart is = absurd (cc)
+stamp_of_queued (claimed agent) is = absurd (cc)
+stamp_of_queued (asks agent) is = absurd (cc)
+stamp_of_queued (queued stamp) is = (stamp, refl)

@@ -15,17 +15,6 @@ use Rattle.lfm_core.specs.Ghost.{Responsibility, nobody, Standing, apart, claime
 use Rattle.lfm_core.specs.Seats.{IsSeat}
 use Rattle.lfm_core.specs.Steady.{KnowsAt, StandsAsPusher, AwaitsAsPusher, StandsAsCarrier, StandsAsEntrant, StandsAt, WatchesAt, awaits_grant, sleeps_as_waiter, SeatFits, Fits}
 use Rattle.lfm_core.specs.Views.{claim_at, held_by, grant_at, is_entered, is_some, wake_at, wake_by, due_to_waiter, due_pushes_at}
-use Rattle.lfm_core.proofs.steady.Abstracts.{absent_stands_apart}
-use Rattle.lfm_core.proofs.steady.Entries.{seat_or_absent}
-
--- Who stands to the queue otherwise than apart is a seat
-
-pub stands_a_seat : (c : Core) (g : Ghost) (t : ℕ) → Fits c g → g.standing t ≢ apart → IsSeat c.seats t
-stands_a_seat c g t fits some =
-    elim (seat_or_absent c.seats t) [
-      | inl is ↦ is
-      | inr none ↦ absurd (some (absent_stands_apart c g fits t none))
-    ]
 
 -- What its point is
 

@@ -12,6 +12,7 @@ use Rattle.lfm_core.specs.Steady.{HasQueue, cleared, StampFits, Fits}
 use Rattle.lfm_core.proofs.steady.Carrying.{carried_core, walking, carries_on}
 use Rattle.lfm_core.proofs.steady.Frames.{place_of_claim}
 use Rattle.lfm_core.proofs.steady.Serving.{goes_own, queue_of_queued, same_outcome}
+use Rattle.lfm_core.proofs.steady.Pushers.{head_has_queue}
 
 -- nothing is to be walked and the pop list is empty before the clear
 cleared_so_far : (c : Core) (g : Ghost) → g.walk ≡ 0 → c.popped ≡ [] → cleared c g ≡ g.popped
@@ -22,15 +23,6 @@ newest_of_queue : (c : Core) (g : Ghost) → Fits c g → g.walk ≡ 0 → c.pop
 newest_of_queue c g fits walked empty some =
     let so_far = cleared_so_far c g walked empty in
     rw (ne_eqb (cleared c g) g.pushed (λ e. absurd (omega (arith, so_far, e, some)))) at fits.words.head
-
--- a head tells that somebody is queued
-queue_of_head : (c : Core) (g : Ghost) → Fits c g → g.walk ≡ 0 → c.popped ≡ [] → c.push.next ≢ 0 → HasQueue g
-queue_of_head c g fits walked empty some =
-    let so_far = cleared_so_far c g walked empty in
-    elim (cases_eq (cleared c g) g.pushed) [
-      | inl none ↦ absurd (some (rw (eq-eqb (cleared c g) g.pushed none) at fits.words.head))
-      | inr differ ↦ omega (arith, so_far, differ, fits.words.parts)
-    ]
 
 -- the records of the queue were fresh, and are now to be walked
 cleared_stamps : (c : Core) (g : Ghost) → Fits c g → g.walk ≡ 0 → c.popped ≡ [] → (stamp : ℕ) → g.popped < stamp → stamp ≤ g.pushed
@@ -125,7 +117,7 @@ clears_as_releaser c g s releaser is at fits =
       | inl none ↦ rw (at, at, eq-eqb c.push.next 0 none) (same_outcome g _ g.walk (finds_none c g s releaser is at fits none))
       | inr some ↦
           rw (at, at, ne_eqb c.push.next 0 some)
-          (same_outcome g _ (g.pushed - g.popped) (clears c g s (Carrier.Releaser releaser) is at fits (queue_of_head c g fits knows.0 knows.1 some)))
+          (same_outcome g _ (g.pushed - g.popped) (clears c g s (Carrier.Releaser releaser) is at fits (head_has_queue c g fits some)))
     ]
 
 pub at_TakeClearHead : (c : Core) (g : Ghost) (s : ℕ) (carrier : Carrier) → IsSeat c.seats s → (seat c.seats s).point ≡ TakeClearHead carrier → Fits c g → Kept c g s

@@ -42,3 +42,8 @@ seat_or_absent seats (suc n) =
       | inl within ↦ inl (record { above = omega arith; within = omega arith })
       | inr past ↦ inr (get_or_past seats n absent past)
     ]
+
+-- no seat has the number 0
+pub seat_zero : (seats : List SeatState) → seat seats 0 ≡ absent
+unfolding entry
+seat_zero seats = refl

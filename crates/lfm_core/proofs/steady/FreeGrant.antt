@@ -10,11 +10,11 @@ use Rattle.lfm_core.specs.Ghost.{nobody, granted, posted, entering, serving, Gho
 use Rattle.lfm_core.specs.Seats.{seat, wake, absent, with_entry, IsSeat}
 use Rattle.lfm_core.specs.Steady.{awaits_grant, WordsFit, SumsFit, Fits}
 use Rattle.lfm_core.specs.Views.{held_by, grant_at, is_entered}
-use Rattle.lfm_core.proofs.steady.Entries.{entry-with_same, entry-with_other, length-with_entry, entry_past}
+use Rattle.lfm_core.proofs.steady.Entries.{entry-with_same, entry-with_other, length-with_entry, entry_past, seat_zero}
 use Rattle.lfm_core.proofs.steady.Frames.{Sees, Errands, agents_after, IsSeat_after, IsOld_after}
 use Rattle.lfm_core.proofs.steady.Granted.{awaits_waiter, granted_seat}
 use Rattle.lfm_core.proofs.steady.Granting.{Rests, granter, grant_of_other}
-use Rattle.lfm_core.proofs.steady.Handing.{handed, seat_zero, each_after_two}
+use Rattle.lfm_core.proofs.steady.Handing.{handed, each_after_two}
 
 -- Who awaits a grant is a seat
 

@@ -25,9 +25,9 @@ use Rattle.lfm_core.specs.Views.{due_posts_of_granter, due_pushes_of_carrier, wa
 use Rattle.lfm_core.proofs.steady.Abstracts.{queue_pops}
 use Rattle.lfm_core.proofs.steady.Frames.{Errands, place_of_claim}
 use Rattle.lfm_core.proofs.steady.Granting.{Rests, granted_to, grant_fits}
-use Rattle.lfm_core.proofs.steady.Handing.{queued_seat}
 use Rattle.lfm_core.proofs.steady.Histories.{history_pops}
 use Rattle.lfm_core.proofs.steady.Popping.{IsFirst, first_of, first_record_is, asking_stays}
+use Rattle.lfm_core.proofs.steady.Seated.{seat_of_queued}
 
 -- A grant of the oldest record
 
@@ -122,7 +122,7 @@ grants c g s carrier r rest is at fits serves walked popped gives =
     let x : SeatState = seat c.seats s in
     let here = rw at at (fits.each s) in
     let first = first_of c g r rest fits walked popped in
-    let there = queued_seat c g r.seat (g.popped + 1) fits first.stands in
+    let there = seat_of_queued c g r.seat (g.popped + 1) fits first.stands in
     let other = gives_to_other g s (g.popped + 1) r carrier first.stands gives here.stands in
     let quiet : wake c.wakes s ≡ Quiet = rw serves at here.woken in
     let rests = rests_after g s r.seat r.stamp x (wake c.wakes s) carrier here.depth quiet here.stands here.posts here.pushes in

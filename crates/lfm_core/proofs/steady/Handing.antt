@@ -59,24 +59,3 @@ each_after_two c g h s u y owner popped wakes is fits posts unposted woken sees 
       ])
     ]
 
--- Who stands queued is a seat
-
-pub seat_zero : (seats : List SeatState) → seat seats 0 ≡ absent
-unfolding entry
-seat_zero seats = refl
-
-absent_not_queued : (c : Core) (g : Ghost) (u stamp : ℕ) → seat c.seats u ≡ absent → Fits c g → g.standing u ≡ queued stamp → ⊥
-absent_not_queued c g u stamp none fits at =
-    let stands : g.standing u ≡ apart = rw none at (fits.each u).stands in
-    let clash : apart ≡ queued stamp = sym stands ∙ at in
-    cc
-
-pub queued_seat : (c : Core) (g : Ghost) (u stamp : ℕ) → Fits c g → g.standing u ≡ queued stamp → IsSeat c.seats u
-queued_seat c g u stamp fits at =
-    elim (cases_lt (length c.seats) u) [
-      | inl past ↦ absurd (absent_not_queued c g u stamp (entry_past absent c.seats u past) fits at)
-      | inr within ↦ elim (cases_eq u 0) [
-        | inl none ↦ absurd (absent_not_queued c g u stamp (rw none (seat_zero c.seats)) fits at)
-        | inr some ↦ record { above = omega arith; within = omega arith }
-      ]
-    ]

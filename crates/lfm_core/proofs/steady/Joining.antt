@@ -15,10 +15,11 @@ use Rattle.lfm_core.specs.Seats.{seat, wake, with_entry, IsSeat}
 use Rattle.lfm_core.specs.Steady.{SeatFits, AgentFits, WordsFit, WorkFits, asking_unit, queued_unit, SumsFit, StampFits, Fits}
 use Rattle.lfm_core.specs.Views.{asks_for, claims_for, is_asking, is_queued, held_by, grant_at, is_entered}
 use Rattle.lfm_core.proofs.steady.Abstracts.{nothing_of}
-use Rattle.lfm_core.proofs.steady.Claimed.{stands_a_seat, wake_by_claimed, due_claimed, stands_asking, knows_asleep, watches_asleep, claim_asleep, claimed_ungranted, claimed_unentered, claimed_sleeps, not_apart, ungranted_at, unentered_at}
+use Rattle.lfm_core.proofs.steady.Claimed.{wake_by_claimed, due_claimed, stands_asking, knows_asleep, watches_asleep, claim_asleep, claimed_ungranted, claimed_unentered, claimed_sleeps, not_apart, ungranted_at, unentered_at}
 use Rattle.lfm_core.proofs.steady.Entries.{seat-with_same, seat-with_other, length-with_entry}
 use Rattle.lfm_core.proofs.steady.Frames.{Sees, SeatFits_seen, moved, sees_moved, IsSeat_after, IsOld_after, HandoffFits_after, WatchesAt_seen}
 use Rattle.lfm_core.proofs.steady.Sums.{changed_same, changed_other, sum_update, sum_agrees}
+use Rattle.lfm_core.proofs.steady.Seated.{seat_of_standing, seat_of_asking}
 
 -- seat s has counted seat u
 abbrev pub joined : Ghost → ℕ → ℕ → Ghost
@@ -172,17 +173,14 @@ sees_join c g s u t y x is more unasked away other =
       watches = λ watches place here. WatchesAt_seen c (moved c s y (c.count + 1) c.owner c.wakes) g (joined g s u) t x x.point refl (λ queue. queue) (λ v waits. still_queued g s u v unasked waits) (watches place here);
     }
 
-asks_not_apart : (s : ℕ) → asks s ≡ apart → ⊥
-asks_not_apart s e = cc
-
 asks_agent : (s agent : ℕ) → asks s ≡ asks agent → agent ≡ s
 asks_agent s agent e = cc
 
 asks_a_seat : (c : Core) (g : Ghost) (s t : ℕ) → Fits c g → g.standing t ≡ asks s → t ≡ 0 → ⊥
-asks_a_seat c g s t fits asked e = absurd (omega (arith, e, (stands_a_seat c g t fits (λ f. asks_not_apart s (sym asked ∙ f))).above))
+asks_a_seat c g s t fits asked e = absurd (omega (arith, e, (seat_of_asking c g t s fits asked).above))
 
 claims_a_seat : (c : Core) (g : Ghost) (s t : ℕ) → Fits c g → g.standing t ≡ claimed s → t ≡ 0 → ⊥
-claims_a_seat c g s t fits claims e = absurd (omega (arith, e, (stands_a_seat c g t fits (not_apart s (g.standing t) claims)).above))
+claims_a_seat c g s t fits claims e = absurd (omega (arith, e, (seat_of_standing c g t fits (not_apart s (g.standing t) claims)).above))
 
 agents_join : (c : Core) (g : Ghost) (s u : ℕ) (y : SeatState) → IsSeat c.seats s → Fits c g → Joins c g s u y
     → ((t : ℕ) → claims_for (seat c.seats s) ≡ t → t ≢ u → t ≡ 0) → (t : ℕ) → AgentFits (with_entry c.seats s y) ((joined g s u).standing t) t
@@ -251,7 +249,7 @@ joins_itself c g s y is fits stands claims joins =
 pub joins_another : (c : Core) (g : Ghost) (s u : ℕ) (y : SeatState) → IsSeat c.seats s → Fits c g → u ≢ s → g.standing u ≡ claimed s
     → Joins c g s u y → Fits (put (record c { count = c.count + 1 }) s y) (joined g s u)
 joins_another c g s u y is fits other stands joins =
-    fits_join c g s u y is (stands_a_seat c g u fits (not_apart s (g.standing u) stands)) fits (unasked_claimed g s u stands) joins
+    fits_join c g s u y is (seat_of_standing c g u fits (not_apart s (g.standing u) stands)) fits (unasked_claimed g s u stands) joins
     (λ t e differs. absurd (differs (sym e ∙ (fits.agents u).sent s stands))) (λ differs. claimed_joins c g s u (seat c.seats u) (wake c.wakes u) stands (fits.each u))
 
 -- The abstract case

@@ -17,7 +17,8 @@ use Rattle.lfm_core.proofs.steady.Abstracts.{stays_same}
 use Rattle.lfm_core.proofs.steady.Entries.{entry-with_same, entry-with_other, length-with_entry}
 use Rattle.lfm_core.proofs.steady.Frames.{Sees, SeatFits_seen, Errands, each_after, agents_after, IsSeat_after, IsOld_after, HandoffFits_after, WatchesAt_seen, sees_moved}
 use Rattle.lfm_core.proofs.steady.Histories.{history_stays}
-use Rattle.lfm_core.proofs.steady.Pushers.{fits_at, woken_same, is_seat_of}
+use Rattle.lfm_core.proofs.steady.Pushers.{fits_at, woken_same}
+use Rattle.lfm_core.proofs.steady.Seated.{seat_of_standing}
 
 -- the seat that a pusher is to push asks by it
 pub pushed_asks : (g : Ghost) (s : ℕ) (pusher : Pusher) → StandsAsPusher s (g.standing s) pusher → ErrandFits g s pusher
@@ -139,7 +140,7 @@ at_LinkStore c g s pusher seen is at fits =
     let u = pushed_seat pusher s in
     let here = fits_at c g s x w (LinkStore pusher seen) at (fits.each s) in
     let asked = pushed_asks g s pusher here.stands here.knows.0 in
-    let there = is_seat_of c g u fits (λ e. let f = sym asked ∙ e in absurd (cc)) in
+    let there = seat_of_standing c g u fits (λ e. let f = sym asked ∙ e in absurd (cc)) in
     rw (at, at) (record {
       to = g;
       fits =

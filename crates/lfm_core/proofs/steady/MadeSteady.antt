@@ -6,11 +6,7 @@ use Rattle.lfm_core.specs.Seats.{IsSeat, is_seat}
 use Rattle.lfm_core.specs.Steady.{Steady}
 use Rattle.lfm_core.specs.Step.{made}
 use Rattle.lfm_core.proofs.steady.StepsKept.{made_keeps}
-
--- a seat has this number where the test says so
-pub seat_of_test : (seats : List SeatState) (s : ℕ) → is_seat seats s ≡ true → IsSeat seats s
-seat_of_test seats s is =
-    record { above = search (tests, arith, is); within = search (tests, arith, is) }
+use Rattle.lfm_core.proofs.steady.Seated.{seat_of_test}
 
 pub made_steady : (c : Core) (s : ℕ) → is_seat c.seats s ≡ true → Steady c → Steady (made c s).core
 made_steady c s is steady =

@@ -13,8 +13,9 @@ use Rattle.lfm_core.specs.Steady.{HandoffFits, QueuedFits, SeatFits, AgentFits, 
 use Rattle.lfm_core.specs.Views.{held_by, grant_at, is_entered, is_asking}
 use Rattle.lfm_core.proofs.steady.Entries.{length-with_entry}
 use Rattle.lfm_core.proofs.steady.Frames.{Sees, Errands, agents_after, held_by-other, IsSeat_after, IsOld_after}
-use Rattle.lfm_core.proofs.steady.Handing.{handed, each_after_two, queued_seat}
+use Rattle.lfm_core.proofs.steady.Handing.{handed, each_after_two}
 use Rattle.lfm_core.proofs.steady.Sums.{changed_same, changed_other, sum_agrees, sum_update}
+use Rattle.lfm_core.proofs.steady.Seated.{seat_of_queued}
 
 -- The queue's first record
 
@@ -211,7 +212,7 @@ pub pops_fit : (c : Core) (g : Ghost) (s : ℕ) (y : SeatState) (r : Record) (ow
     → Fits (put (handed c owner rest wakes) s y) (popped_to g r.seat place answered)
 pops_fit c g s y r owner rest wakes place answered is fits pops =
     let first = first_of c g r rest fits pops.walked pops.first in
-    let there = queued_seat c g r.seat (g.popped + 1) fits first.stands in
+    let there = seat_of_queued c g r.seat (g.popped + 1) fits first.stands in
     let size : length (with_entry c.seats s y) ≡ length c.seats = length-with_entry c.seats s y in
     record {
       words = words_popped c g s y r owner rest wakes place answered fits pops first;

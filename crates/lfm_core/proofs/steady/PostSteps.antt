@@ -21,6 +21,7 @@ use Rattle.lfm_core.proofs.steady.Handoffs.{seat_at, listed_same, posted_of, wak
 use Rattle.lfm_core.proofs.steady.Histories.{history_stays}
 use Rattle.lfm_core.proofs.steady.Posting.{asker, posts_handoff}
 use Rattle.lfm_core.proofs.steady.Released.{released, released_own, released_errands, released_history}
+use Rattle.lfm_core.proofs.steady.Pushers.{head_has_queue}
 
 -- The post
 
@@ -110,16 +111,6 @@ head_of_queue c g fits at some zero =
     let stands : g.standing (g.pushed_at g.pushed) ≡ queued g.pushed = (fits.stamps g.pushed some (omega arith)).stands in
     nobody_queued c g g.pushed fits (rw newest at stands)
 
-queue_of_head : (c : Core) (g : Ghost) → Fits c g → g.place ≡ posted → c.push.next ≢ 0 → HasQueue g
-queue_of_head c g fits at some =
-    let carried = rw at at fits.words.carried in
-    let none = ap length carried.1 in
-    let parts : cleared c g ≤ g.pushed = fits.words.parts in
-    elim (cases_eq (cleared c g) g.pushed) [
-      | inl all ↦ absurd (some (fits.words.head ∙ cond-true (eqb (cleared c g) g.pushed) 0 (g.pushed_at g.pushed) (eq-eqb (cleared c g) g.pushed all)))
-      | inr fewer ↦ omega (arith, carried.0)
-    ]
-
 -- nobody was pushed: whoever watches is another seat
 look_finds_none : (c : Core) (g : Ghost) (s : ℕ) (releaser : Releaser) (takes posts : ℕ) → IsSeat c.seats s
     → seat c.seats s ≡ record { depth = 0; takes = takes; posts = posts; point = ReleasePushLook releaser } → c.push.next ≡ 0 → Fits c g → Kept c g s
@@ -143,7 +134,7 @@ look_finds_some c g s releaser takes posts is at some fits =
     let here = rw at at (fits.each s) in
     let own : Handoff = record { seat = s; post = posts } in
     let y : SeatState = record { depth = 0; takes = takes; posts = posts; point = ReleaseHandoffExchange releaser } in
-    let stays : HeadStays c g own = λ same above. queue_of_head c g fits (posted_of c.seats g.place c.handoff (rw same above) fits.words.handoff) some in
+    let stays : HeadStays c g own = λ same above. head_has_queue c g fits some in
     rw (at, at, ne_eqb c.push.next 0 some) (record {
       to = g;
       fits = view_moves c g s y is fits (record { asks_same = rw at; claims_same = rw at; posts_same = rw at }) (record {

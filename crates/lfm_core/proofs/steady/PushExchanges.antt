@@ -23,10 +23,11 @@ use Rattle.lfm_core.proofs.steady.Entries.{seat-with_same, seat-with_other, leng
 use Rattle.lfm_core.proofs.steady.Frames.{SeatFits_seen, sees_moved}
 use Rattle.lfm_core.proofs.steady.Histories.{history_pushes}
 use Rattle.lfm_core.proofs.steady.Linking.{pushed_asks, sizes_with}
-use Rattle.lfm_core.proofs.steady.Pushers.{fits_at, view_kept, woken_same, sees_itself, same_link_true, is_seat_of}
+use Rattle.lfm_core.proofs.steady.Pushers.{fits_at, view_kept, woken_same, sees_itself, same_link_true}
 use Rattle.lfm_core.proofs.steady.PushedSeats.{pushed_fits, own_pushes, own_sends}
 use Rattle.lfm_core.proofs.steady.Pushing.{with_pushed, exchanged, words_pushed, stamp_pushed, sums_pushed, sees_push, agents_pushed}
 use Rattle.lfm_core.proofs.steady.Sums.{sum_member}
+use Rattle.lfm_core.proofs.steady.Seated.{seat_of_standing}
 
 -- what seat s, which goes on with the view y, needs to push seat u
 pub record Pushes (c : Core) (g : Ghost) (s u : ℕ) (seen : Link) (y : SeatState) : Type 0 where
@@ -57,7 +58,7 @@ each_pushed c g s u seen y is fits step t =
 pub pushes : (c : Core) (g : Ghost) (s u : ℕ) (seen : Link) (y : SeatState) → IsSeat c.seats s → Fits c g → Pushes c g s u seen y
     → Fits (put (exchanged c seen u) s y) (with_pushed g u)
 pushes c g s u seen y is fits step =
-    let there = is_seat_of c g u fits (λ e. let f = sym step.asked ∙ e in absurd (cc)) in
+    let there = seat_of_standing c g u fits (λ e. let f = sym step.asked ∙ e in absurd (cc)) in
     let unit : asking_unit (g.standing u) ≡ 1 = rw step.asked in
     let member = sum_member (length c.seats) u (λ t. asking_unit (g.standing t)) there.above there.within in
     let some : 0 < g.asking = omega (arith, fits.sums.asking, unit, member) in

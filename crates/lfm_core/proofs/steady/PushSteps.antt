@@ -13,7 +13,8 @@ use Rattle.lfm_core.specs.Outcome.{Kept}
 use Rattle.lfm_core.specs.Seats.{seat, wake, IsSeat}
 use Rattle.lfm_core.specs.Steady.{IsOld, HasQueue, SeatFits, Fits}
 use Rattle.lfm_core.specs.Views.{grant_at, is_queued}
-use Rattle.lfm_core.proofs.steady.Pushers.{fits_at, view_kept, woken_same, sees_itself, no_depth, posted_of, not_posted, stands_old, head_has_queue, none_queued}
+use Rattle.lfm_core.proofs.steady.Pushers.{fits_at, view_kept, woken_same, sees_itself, no_depth, not_posted, stands_old, head_has_queue, none_queued}
+use Rattle.lfm_core.proofs.steady.Handoffs.{posted_of}
 
 -- The load of the push word
 
@@ -156,7 +157,7 @@ at_PushedHandoffLoad c g s (Pusher.Sender t) is at fits =
       | inr some ↦ rw (at, at, ne_eqb c.handoff.seat 0 some)
           (view_kept c g s (record x { point = SendPushLook t c.handoff }) is fits
           (record { asks_same = rw at; claims_same = rw at; posts_same = refl })
-          (own_looks c g s t x w (stands_old c g fits some) (posted_of c g.place fits.words.handoff some) here))
+          (own_looks c g s t x w (stands_old c g fits some) (posted_of c.seats g.place c.handoff (omega (arith, some)) fits.words.handoff) here))
     ]
 
 -- A sender's look at the push word

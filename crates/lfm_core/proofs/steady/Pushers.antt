@@ -12,10 +12,10 @@ use Rattle.lfm_core.specs.Outcome.{Outcome}
 use Rattle.lfm_core.specs.Seats.{wake, IsSeat}
 use Rattle.lfm_core.specs.Steady.{IsSeen, IsOld, HasQueue, HandoffFits, SeatFits, Fits, cleared}
 use Rattle.lfm_core.specs.Views.{by_depth, is_queued, wake_at, wake_by}
-use Rattle.lfm_core.proofs.steady.Abstracts.{stays_same, absent_stands_apart}
-use Rattle.lfm_core.proofs.steady.Entries.{seat_or_absent}
+use Rattle.lfm_core.proofs.steady.Abstracts.{stays_same, absent_stands_apart, stamp_of_queued}
 use Rattle.lfm_core.proofs.steady.Frames.{Errands, view_moves}
 use Rattle.lfm_core.proofs.steady.Histories.{history_stays}
+use Rattle.lfm_core.proofs.steady.Seated.{seat_of_standing, seat_of_queued}
 
 -- the facts of a seat, its point being known
 pub fits_at : (c : Core) (g : Ghost) (s : ℕ) (x : SeatState) (w : Wake) (p : Point) → x.point ≡ p → SeatFits c g s x w
@@ -56,25 +56,7 @@ no_depth depth s again none =
       | inr some ↦ let h = rw (ne_eqb depth 0 some) at none in absurd (cc)
     ]
 
-pub stamp_of_queued : (standing : Standing) → is_queued standing ≡ true → (stamp : ℕ) × (standing ≡ queued stamp)
-stamp_of_queued apart is = absurd (cc)
-stamp_of_queued (claimed agent) is = absurd (cc)
-stamp_of_queued (asks agent) is = absurd (cc)
-stamp_of_queued (queued stamp) is = (stamp, refl)
-
--- numbers that no seat has stand apart
-pub is_seat_of : (c : Core) (g : Ghost) (u : ℕ) → Fits c g → g.standing u ≢ apart → IsSeat c.seats u
-is_seat_of c g u fits some =
-    elim (seat_or_absent c.seats u) [
-      | inl is ↦ is
-      | inr none ↦ absurd (some (absent_stands_apart c g fits u none))
-    ]
-
 -- The handoff word
-
-pub posted_of : (c : Core) (place : Responsibility) → HandoffFits c.seats place c.handoff → c.handoff.seat ≢ 0 → place ≡ posted
-posted_of c posted fits some = refl
-posted_of c _ fits some = absurd (some (ap (λ n. n.seat) fits))
 
 pub not_posted : (c : Core) (place : Responsibility) → HandoffFits c.seats place c.handoff → c.handoff.seat ≡ 0 → place ≢ posted
 not_posted c place fits none is =
@@ -113,5 +95,5 @@ none_queued c g t fits none is waits =
     let stands = (fits.stamps g.pushed more (omega arith)).stands in
     let first : g.pushed_at g.pushed ≡ 0 = sym last ∙ none in
     let stood : g.standing 0 ≡ queued g.pushed = rw first at stands in
-    let is_seat = is_seat_of c g 0 fits (λ e. let f = sym e ∙ stood in absurd (cc)) in
+    let is_seat = seat_of_queued c g 0 g.pushed fits stood in
     absurd (omega (arith, is_seat.above))

@@ -17,7 +17,7 @@ use Rattle.lfm_core.specs.Seats.{seat, IsSeat}
 use Rattle.lfm_core.specs.Steady.{ErrandFits, own_unit, again_unit, asking_unit, queued_unit, Fits, Steady}
 use Rattle.lfm_core.specs.Views.{is_entered, held_by}
 use Rattle.lfm_core.proofs.steady.Frames.{place_of_claim}
-use Rattle.lfm_core.proofs.steady.Seated.{seat_of_standing, seat_of_point, seat_of_stamp}
+use Rattle.lfm_core.proofs.steady.Seated.{seat_of_point, seat_of_stamp, seat_of_asking}
 use Rattle.lfm_core.proofs.steady.Sums.{sum_bound}
 
 -- The bounds
@@ -38,7 +38,7 @@ asking_unit-le : (standing : Standing) → asking_unit standing ≤ 1
 asking_unit-le (asks agent) = omega arith
 asking_unit-le _ = omega arith
 
-queued_unit-le : (standing : Standing) → queued_unit standing ≤ 1
+pub queued_unit-le : (standing : Standing) → queued_unit standing ≤ 1
 queued_unit-le (queued stamp) = omega arith
 queued_unit-le _ = omega arith
 
@@ -128,13 +128,10 @@ pops_at c g s _ at fits = tt
 
 -- The seat that is touched
 
-asks_not_apart : (s : ℕ) → asks s ≢ apart
-asks_not_apart s e = cc
-
 pushed_one : (c : Core) (g : Ghost) (s : ℕ) (pusher : Pusher) → IsSeat c.seats s → Fits c g → ErrandFits g s pusher → IsSeat c.seats (pushed_seat pusher s)
 pushed_one c g s Pusher.Locker is fits errand = is
 pushed_one c g s (Pusher.Sender t) is fits errand =
-    seat_of_standing c g t fits (λ e. let here = errand.1 in let f : asks s ≡ apart = sym here ∙ e in absurd (asks_not_apart s f))
+    seat_of_asking c g t s fits errand.1
 
 abbrev first_or : Record → List Record → Record
 first_or r [] = r

@@ -19,6 +19,7 @@ use Rattle.lfm_core.proofs.steady.Joining.{joined, joins_another, joining_anothe
 use Rattle.lfm_core.proofs.steady.Standings.{standing_anew}
 use Rattle.lfm_core.proofs.steady.Sums.{changed_same, changed_other}
 use Rattle.lfm_core.proofs.steady.Wakings.{none_from, waiting_of}
+use Rattle.lfm_core.proofs.steady.Pushers.{no_depth}
 
 -- The wake exchange
 
@@ -122,13 +123,6 @@ at_SendWakeExchange c g s t is at fits = wake_exchange_by c g s t (wake c.wakes 
 
 -- The count add
 
-no_depth : (depth s : ℕ) → by_depth depth s false ≡ nobody → depth ≡ 0
-no_depth depth s e =
-    elim (cases_eq depth 0) [
-      | inl none ↦ none
-      | inr held ↦ let f = rw (ne_eqb depth 0 held) at e in cc
-    ]
-
 -- the count was 0
 bringing_own : (c : Core) (g : Ghost) (s t depth takes posts : ℕ) (w : Wake) → g.place ≡ nobody
     → SeatFits c g s (record { depth = depth; takes = takes; posts = posts; point = SendCountAdd t }) w
@@ -144,7 +138,7 @@ bringing_own c g s t depth takes posts w place here =
       entered = λ is held. let f = own ∙ held in cc;
       listed = λ n e. let f = sym e ∙ same ∙ here.stands in cc;
       stands = same ∙ here.stands;
-      depth = no_depth depth s (rw place at here.claims);
+      depth = no_depth depth s false (rw place at here.claims);
       knows = other;
       number = here.number;
       takes = here.takes;

@@ -11,7 +11,7 @@ use Rattle.lfm_core.specs.Ghost.{serving, Standing, apart, claimed, asks, queued
 use Rattle.lfm_core.specs.Outcome.{Outcome}
 use Rattle.lfm_core.specs.Steady.{HasQueue, KnowsAt, DepthAt, StandsAt, SeatFits, Fits}
 use Rattle.lfm_core.specs.Views.{claim_at, wake_at, is_queued, due_posts_at, due_pushes_at}
-use Rattle.lfm_core.proofs.steady.Abstracts.{stays_same}
+use Rattle.lfm_core.proofs.steady.Abstracts.{stays_same, stamp_of_queued}
 use Rattle.lfm_core.proofs.steady.Carrying.{carried_core, walking, serving_unposted}
 use Rattle.lfm_core.proofs.steady.Histories.{history_stays}
 
@@ -57,15 +57,9 @@ goes_own c g s x w p head walk popped place claim quiet fits goes =
       watches = rw place (λ e. absurd (serving_unposted s e));
     }
 
-queued_stamp : (standing : Standing) → is_queued standing ≡ true → (stamp : ℕ) × (standing ≡ queued stamp)
-queued_stamp apart e = absurd (false≢true e)
-queued_stamp (claimed agent) e = absurd (false≢true e)
-queued_stamp (asks agent) e = absurd (false≢true e)
-queued_stamp (queued stamp) e = (stamp, refl)
-
 -- a queued seat is in the queue
 pub queue_of_queued : (c : Core) (g : Ghost) (s : ℕ) → Fits c g → is_queued (g.standing s) ≡ true → HasQueue g
 queue_of_queued c g s fits e =
-    let there = queued_stamp (g.standing s) e in
+    let there = stamp_of_queued (g.standing s) e in
     let here = (fits.each s).listed there.0 there.1 in
     omega (arith, here.above, here.within)

@@ -13,7 +13,7 @@ use Rattle.lfm_core.specs.Numbered.{changed}
 use Rattle.lfm_core.specs.Seats.{seat, wake, entry, absent, with_entry, IsSeat}
 use Rattle.lfm_core.specs.Steady.{IsOld, HasQueue, HandoffFits, SeatFits, AgentFits, SumsFit, SizesFit, StampFits, WatchesAt, WatchesAsPusher, asking_unit, queued_unit, Fits}
 use Rattle.lfm_core.specs.Views.{asks_for, claims_for, is_queued}
-use Rattle.lfm_core.proofs.steady.Entries.{length-with_entry, seat-with_same, seat-with_other}
+use Rattle.lfm_core.proofs.steady.Entries.{length-with_entry, seat-with_same, seat-with_other, seat_zero}
 use Rattle.lfm_core.proofs.steady.Frames.{Sees, SeatFits_seen}
 use Rattle.lfm_core.proofs.steady.Sums.{changed_same, changed_other, sum_agrees}
 
@@ -85,11 +85,6 @@ moved c h s y count wakes t x w is same posts fits =
       pushes = refl;
       watches = λ before here watcher. WatchesAt_kept c d h h t x x.point refl (λ u e. e) (λ q. q) (before here watcher);
     }) fits
-
--- no seat has the number 0
-seat_zero : (seats : List SeatState) → seat seats 0 ≡ absent
-unfolding entry
-seat_zero seats = refl
 
 pub zero_apart : (c : Core) (g : Ghost) → Fits c g → g.standing 0 ≡ apart
 zero_apart c g fits = rw (seat_zero c.seats) at (fits.each 0).stands

@@ -15,49 +15,7 @@ use Rattle.lfm_core.specs.Ghost.{Responsibility, nobody, Standing, apart, claime
 use Rattle.lfm_core.specs.Seats.{IsSeat}
 use Rattle.lfm_core.specs.Steady.{KnowsAt, StandsAsPusher, AwaitsAsPusher, StandsAsCarrier, StandsAsEntrant, StandsAt, WatchesAt, awaits_grant, sleeps_as_waiter, SeatFits, Fits}
 use Rattle.lfm_core.specs.Views.{claim_at, held_by, grant_at, is_entered, is_some, wake_at, wake_by, due_to_waiter, due_pushes_at}
-
--- What its point is
-
-pusher_not_claimed : (u s : ℕ) (pusher : Pusher) → StandsAsPusher u (claimed s) pusher → ⊥
-pusher_not_claimed u s Pusher.Locker stands = cc
-pusher_not_claimed u s (Pusher.Sender t) stands = cc
-
-pushed_not_claimed : (place : Responsibility) (u s : ℕ) (pusher : Pusher) → is_some (grant_at place u) ≡ false → AwaitsAsPusher place u (claimed s) pusher → ⊥
-pushed_not_claimed place u s Pusher.Locker none stands = cc
-pushed_not_claimed place u s (Pusher.Sender t) none stands = cc
-
-carrier_not_claimed : (s : ℕ) (carrier : Carrier) → StandsAsCarrier (claimed s) carrier → ⊥
-carrier_not_claimed s Carrier.Locker stands = cc
-carrier_not_claimed s (Carrier.Releaser releaser) stands = cc
-carrier_not_claimed s (Carrier.Reclaimer releaser) stands = cc
-carrier_not_claimed s Carrier.Sender stands = cc
-
-entrant_not_claimed : (s : ℕ) (entrant : Entrant) (how : How) → StandsAsEntrant (claimed s) entrant how → ⊥
-entrant_not_claimed s Entrant.Locker How.Free stands = cc
-entrant_not_claimed s Entrant.Locker (How.Queued stamp) stands = cc
-entrant_not_claimed s Entrant.Trier how stands = cc
-entrant_not_claimed s Entrant.Receiver how stands = cc
-
-locker_not_claimed : (u s : ℕ) (none : Bool) → claimed s ≡ cond none (asks u) apart → ⊥
-locker_not_claimed u s true stands = cc
-locker_not_claimed u s false stands = cc
-
-claimed_sleeps_at : (place : Responsibility) (depth u s : ℕ) (p : Point) → is_some (grant_at place u) ≡ false → StandsAt place depth u (claimed s) p → sleeps_as_waiter p ≡ true
-claimed_sleeps_at place depth u s (Asleep Sleeper.Locker) none stands = absurd (pushed_not_claimed place u s Pusher.Locker none stands)
-claimed_sleeps_at place depth u s (Asleep Sleeper.Waiter) none stands = refl
-claimed_sleeps_at place depth u s (ReceiveWakeLoad Sleeper.Locker) none stands = absurd (pushed_not_claimed place u s Pusher.Locker none stands)
-claimed_sleeps_at place depth u s (ReceiveWakeLoad Sleeper.Waiter) none stands = refl
-claimed_sleeps_at place depth u s LockOwnerLoad none stands = absurd (locker_not_claimed u s (nat_eq depth 0) stands)
-claimed_sleeps_at place depth u s (PushLoad pusher) none stands = absurd (pusher_not_claimed u s pusher stands)
-claimed_sleeps_at place depth u s (LinkStore pusher seen) none stands = absurd (pusher_not_claimed u s pusher stands)
-claimed_sleeps_at place depth u s (PushExchange pusher seen) none stands = absurd (pusher_not_claimed u s pusher stands)
-claimed_sleeps_at place depth u s (PushedHandoffLoad pusher) none stands = absurd (pushed_not_claimed place u s pusher none stands)
-claimed_sleeps_at place depth u s (PushedHandoffExchange pusher seen) none stands = absurd (pushed_not_claimed place u s pusher none stands)
-claimed_sleeps_at place depth u s (TakeClearHead carrier) none stands = absurd (carrier_not_claimed s carrier stands)
-claimed_sleeps_at place depth u s (TakeLinkLoad carrier next) none stands = absurd (carrier_not_claimed s carrier stands)
-claimed_sleeps_at place depth u s (GrantWakeStore carrier oldest) none stands = absurd (carrier_not_claimed s carrier stands)
-claimed_sleeps_at place depth u s (EnterOwnerStore entrant how) none stands = absurd (entrant_not_claimed s entrant how stands)
-claimed_sleeps_at place depth u s _ none stands = absurd (cc stands)
+use Rattle.lfm_core.proofs.steady.Wakings.{none_from, false_from, claimed_sleeps_at}
 
 -- What it reads is the same once it is counted
 
@@ -105,31 +63,23 @@ claim_asleep depth u _ sleeps = absurd (cc sleeps)
 pub not_apart : (s : ℕ) (standing : Standing) → standing ≡ claimed s → standing ≡ apart → ⊥
 not_apart s standing e f = cc
 
-none_of : (grant : Option ℕ) → (is_some grant ≡ true → ⊥) → grant ≡ None
-none_of (Some stamp) none = absurd (none refl)
-none_of None none = refl
-
-true_or_not : (b : Bool) → (b ≡ true → ⊥) → b ≡ false
-true_or_not true none = absurd (none refl)
-true_or_not false none = refl
-
 -- nothing is granted to a seat at a point where it doesn't wait for a grant
 pub ungranted_at : (c : Core) (g : Ghost) (s : ℕ) (x : SeatState) (w : Wake) → awaits_grant x.point ≡ false → SeatFits c g s x w → grant_at g.place s ≡ None
-ungranted_at c g s x w awake fits = none_of (grant_at g.place s) (λ some. absurd (cc (fits.granted some).0))
+ungranted_at c g s x w awake fits = none_from (grant_at g.place s) (λ some. absurd (cc (fits.granted some).0))
 
 -- and no other call brings it in
 pub unentered_at : (c : Core) (g : Ghost) (s : ℕ) (x : SeatState) (w : Wake) → sleeps_as_waiter x.point ≡ false → held_by g.place s ≡ nobody → SeatFits c g s x w
     → is_entered g.place s ≡ false
-unentered_at c g s x w awake held fits = true_or_not (is_entered g.place s) (λ into. absurd (cc (fits.entered into held).0))
+unentered_at c g s x w awake held fits = false_from (is_entered g.place s) (λ into. absurd (cc (fits.entered into held).0))
 
 pub claimed_unentered : (c : Core) (g : Ghost) (s u : ℕ) (x : SeatState) (w : Wake) → g.standing u ≡ claimed s → held_by g.place u ≡ nobody → SeatFits c g u x w
     → is_entered g.place u ≡ false
-claimed_unentered c g s u x w stands held fits = true_or_not (is_entered g.place u) (λ into. not_apart s (g.standing u) stands (fits.entered into held).1)
+claimed_unentered c g s u x w stands held fits = false_from (is_entered g.place u) (λ into. not_apart s (g.standing u) stands (fits.entered into held).1)
 
 -- nothing is granted to a claimed seat
 pub claimed_ungranted : (c : Core) (g : Ghost) (s u : ℕ) (x : SeatState) (w : Wake) → g.standing u ≡ claimed s → SeatFits c g u x w → grant_at g.place u ≡ None
-claimed_ungranted c g s u x w stands fits = none_of (grant_at g.place u) (λ some. not_apart s (g.standing u) stands (fits.granted some).1)
+claimed_ungranted c g s u x w stands fits = none_from (grant_at g.place u) (λ some. not_apart s (g.standing u) stands (fits.granted some).1)
 
 pub claimed_sleeps : (c : Core) (g : Ghost) (s u : ℕ) (x : SeatState) (w : Wake) → g.standing u ≡ claimed s → SeatFits c g u x w → sleeps_as_waiter x.point ≡ true
 claimed_sleeps c g s u x w stands fits =
-    claimed_sleeps_at g.place x.depth u s x.point (rw (claimed_ungranted c g s u x w stands fits) refl) (rw stands at fits.stands)
+    claimed_sleeps_at g.place x.depth u s x.point (claimed_ungranted c g s u x w stands fits) (rw stands at fits.stands)

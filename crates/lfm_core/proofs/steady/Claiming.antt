@@ -15,10 +15,11 @@ use Rattle.lfm_core.specs.Seats.{seat, wake, with_entry, IsSeat}
 use Rattle.lfm_core.specs.Steady.{own_unit, WorkFits, SeatFits, WordsFit, Fits, sleeps_as_waiter}
 use Rattle.lfm_core.specs.Views.{asks_for, claims_for, is_queued}
 use Rattle.lfm_core.proofs.steady.Entries.{entry-with_same, entry-with_other, length-with_entry, seat-with_same}
-use Rattle.lfm_core.proofs.steady.Frames.{Sees}
-use Rattle.lfm_core.proofs.steady.Standings.{IsOld_after, IsSeat_after, HandoffFits_after, WatchesAt_kept, zero_apart, agents_anew, sums_anew, stamps_anew, SizesFit_after, each_after_two}
+use Rattle.lfm_core.proofs.steady.Frames.{Sees, WatchesAt_seen, HandoffFits_after, IsSeat_after, IsOld_after}
+use Rattle.lfm_core.proofs.steady.Standings.{zero_apart, agents_anew, sums_anew, stamps_anew, SizesFit_after}
 use Rattle.lfm_core.proofs.steady.Sums.{changed_same, changed_other}
-use Rattle.lfm_core.proofs.steady.Wakings.{IsWaiting, waiting_of, claimed_sleeps}
+use Rattle.lfm_core.proofs.steady.Wakings.{IsWaiting, waiting_of, claimed_sleeps_at}
+use Rattle.lfm_core.proofs.steady.Handing.{each_after_two}
 
 -- The claim
 
@@ -99,15 +100,15 @@ sees_claim c g s u y count wakes is posts stands t away aside =
       errand = λ v e. changed_other g.standing u v (claimed s) (λ same. let f = sym e ∙ ap g.standing same ∙ stands in cc) ∙ e;
       errand_link = λ v e. refl;
       claim = λ v e. changed_other g.standing u v (claimed s) (λ same. let f = sym e ∙ ap g.standing same ∙ stands in cc) ∙ e;
-      seats = λ v v_is. IsSeat_after c.seats s v y v_is;
-      old = λ n old. IsOld_after c.seats s y n is posts old;
+      seats = λ v v_is. IsSeat_after c s v y v_is;
+      old = λ n old. IsOld_after c s y n is (omega (arith, posts)) old;
       number = λ e some. refl;
       head = λ n before stays. stays;
       seen = λ l seen. seen;
       carrier = λ e. record { walk = refl; popped = refl; next = refl; queue = λ q. q };
       budget = refl;
       pushes = refl;
-      watches = λ before here watcher. WatchesAt_kept c d g (claiming g s u) t x x.point refl (queued_on g u (claimed s) unqueued) (λ q. q) (before here watcher);
+      watches = λ before here watcher. WatchesAt_seen c d g (claiming g s u) t x x.point refl (λ q. q) (queued_on g u (claimed s) unqueued) (before here watcher);
     }
 
 words_claim : (c : Core) (g : Ghost) (s u : ℕ) (y : SeatState) (wakes : List Wake) → WordsFit c g
@@ -115,7 +116,7 @@ words_claim : (c : Core) (g : Ghost) (s u : ℕ) (y : SeatState) (wakes : List W
 words_claim c g s u y wakes words =
     record {
       owner = words.owner;
-      handoff = HandoffFits_after c.seats s y g.place c.handoff words.handoff;
+      handoff = HandoffFits_after c s y g.place c.handoff words.handoff;
       stamp = words.stamp;
       head = words.head;
       parts = words.parts;
@@ -145,9 +146,10 @@ claim_moves c g s u y is fits claims =
     record {
       words = words_claim c g s u y wakes fits.words;
       stamps = stamps_anew c g s u y c.count wakes g.place (claimed s) (rw waits.stands) fits;
-      each = each_after_two c g (claiming g s u) s u y c.count wakes is claims.other fits (λ t aside. entry-with_other Quiet c.wakes u t Claimed aside)
-          (sees_claim c g s u y c.count wakes is claims.posts_same waits.stands) claims.posts_same
-          (rw now (claimed_fits c g s u x.depth x.takes x.posts x.point waits (rw claims.found at (fits.each u)))) claims.own;
+      each = each_after_two c c g (claiming g s u) s u y c.count c.owner wakes is refl fits claims.posts_same
+          (λ t away aside. entry-with_other Quiet c.wakes u t Claimed aside) (sees_claim c g s u y c.count wakes is claims.posts_same waits.stands)
+          (rw (entry-with_other Quiet c.wakes u s Claimed (λ e. claims.other (sym e))) claims.own)
+          (λ far. rw now (claimed_fits c g s u x.depth x.takes x.posts x.point waits (rw claims.found at (fits.each u))));
       agents = agents_anew c g s u y (claimed s) is fits claims.asks_same (λ t other stands. absurd (unsent c g s fits claims.claims_before t stands)) (record {
         asked = λ agent e. cc;
         sent = λ agent e. let same : agent ≡ s = cc in rw (same, seat-with_same c.seats s y is) claims.claims_now;
@@ -243,8 +245,8 @@ sees_bringing c g s u y count wakes is posts place stands t away aside =
       errand = λ v e. changed_other g.standing u v apart (λ same. let f = sym e ∙ ap g.standing same ∙ stands in cc) ∙ e;
       errand_link = λ v e. refl;
       claim = λ v e. changed_other g.standing u v apart (λ same. let f = sym e ∙ ap g.standing same ∙ stands in away (cc)) ∙ e;
-      seats = λ v v_is. IsSeat_after c.seats s v y v_is;
-      old = λ n old. IsOld_after c.seats s y n is posts old;
+      seats = λ v v_is. IsSeat_after c s v y v_is;
+      old = λ n old. IsOld_after c s y n is (omega (arith, posts)) old;
       number = λ e some. refl;
       head = λ n before stays. stays;
       seen = λ l seen. seen;
@@ -278,13 +280,13 @@ pub bring_moves : (c : Core) (g : Ghost) (s u : ℕ) (y : SeatState) → IsSeat 
 bring_moves c g s u y is fits brings =
     let x = seat c.seats u in
     let place = free_place c g fits.words brings.free in
-    let sleeps = claimed_sleeps g.place x.depth u s x.point (rw place) (rw brings.stands at (fits.each u).stands) in
+    let sleeps = claimed_sleeps_at g.place x.depth u s x.point (rw place) (rw brings.stands at (fits.each u).stands) in
     record {
       words = words_bringing c g s u y fits.words brings.free place;
       stamps = stamps_anew c g s u y (c.count + 1) c.wakes (entering s u 0) apart (rw brings.stands) fits;
-      each = each_after_two c g (bringing g s u) s u y (c.count + 1) c.wakes is brings.other fits (λ t aside. refl)
-          (sees_bringing c g s u y (c.count + 1) c.wakes is brings.posts_same place brings.stands) brings.posts_same
-          (brought_fits c g s u x.depth x.takes x.posts x.point (wake c.wakes u) place brings.stands brings.other sleeps (fits.each u)) brings.own;
+      each = each_after_two c c g (bringing g s u) s u y (c.count + 1) c.owner c.wakes is refl fits brings.posts_same (λ t away aside. refl)
+          (sees_bringing c g s u y (c.count + 1) c.wakes is brings.posts_same place brings.stands) brings.own
+          (λ far. brought_fits c g s u x.depth x.takes x.posts x.point (wake c.wakes u) place brings.stands brings.other sleeps (fits.each u));
       agents = agents_anew c g s u y apart is fits brings.asks_same
           (λ t other stands. absurd (other (sym ((fits.agents t).sent s stands) ∙ (fits.agents u).sent s brings.stands))) (record {
             asked = λ agent e. cc;

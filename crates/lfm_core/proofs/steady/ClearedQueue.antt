@@ -11,8 +11,9 @@ use Rattle.lfm_core.specs.Seats.{seat, wake, IsSeat}
 use Rattle.lfm_core.specs.Steady.{HasQueue, cleared, StampFits, Fits}
 use Rattle.lfm_core.proofs.steady.Carrying.{carried_core, walking, carries_on}
 use Rattle.lfm_core.proofs.steady.Frames.{place_of_claim}
-use Rattle.lfm_core.proofs.steady.Serving.{goes_own, queue_of_queued, same_outcome}
+use Rattle.lfm_core.proofs.steady.Serving.{goes_own, queue_of_queued}
 use Rattle.lfm_core.proofs.steady.Pushers.{head_has_queue}
+use Rattle.lfm_core.proofs.steady.Quiet.{walk_kept}
 
 -- nothing is to be walked and the pop list is empty before the clear
 cleared_so_far : (c : Core) (g : Ghost) → g.walk ≡ 0 → c.popped ≡ [] → cleared c g ≡ g.popped
@@ -98,26 +99,26 @@ finds_none c g s releaser is at fits none =
 
 clears_as_locker : (c : Core) (g : Ghost) (s : ℕ) → IsSeat c.seats s → (seat c.seats s).point ≡ TakeClearHead Carrier.Locker → Fits c g → Kept c g s
 clears_as_locker c g s is at fits =
-    rw (at, at) (same_outcome g _ (g.pushed - g.popped) (clears c g s Carrier.Locker is at fits (queue_of_queued c g s fits (rw at at (fits.each s).stands))))
+    rw (at, at) (walk_kept g _ (g.pushed - g.popped) (clears c g s Carrier.Locker is at fits (queue_of_queued c g s fits (rw at at (fits.each s).stands))))
 
 clears_as_reclaimer : (c : Core) (g : Ghost) (s : ℕ) (releaser : Releaser) → IsSeat c.seats s → (seat c.seats s).point ≡ TakeClearHead (Carrier.Reclaimer releaser) → Fits c g → Kept c g s
 clears_as_reclaimer c g s releaser is at fits =
     let knows = rw at at (fits.each s).knows in
-    rw (at, at) (same_outcome g _ (g.pushed - g.popped) (clears c g s (Carrier.Reclaimer releaser) is at fits knows.2))
+    rw (at, at) (walk_kept g _ (g.pushed - g.popped) (clears c g s (Carrier.Reclaimer releaser) is at fits knows.2))
 
 clears_as_sender : (c : Core) (g : Ghost) (s : ℕ) → IsSeat c.seats s → (seat c.seats s).point ≡ TakeClearHead Carrier.Sender → Fits c g → Kept c g s
 clears_as_sender c g s is at fits =
     let knows = rw at at (fits.each s).knows in
-    rw (at, at) (same_outcome g _ (g.pushed - g.popped) (clears c g s Carrier.Sender is at fits knows.2))
+    rw (at, at) (walk_kept g _ (g.pushed - g.popped) (clears c g s Carrier.Sender is at fits knows.2))
 
 clears_as_releaser : (c : Core) (g : Ghost) (s : ℕ) (releaser : Releaser) → IsSeat c.seats s → (seat c.seats s).point ≡ TakeClearHead (Carrier.Releaser releaser) → Fits c g → Kept c g s
 clears_as_releaser c g s releaser is at fits =
     let knows = rw at at (fits.each s).knows in
     elim (cases_eq c.push.next 0) [
-      | inl none ↦ rw (at, at, eq-eqb c.push.next 0 none) (same_outcome g _ g.walk (finds_none c g s releaser is at fits none))
+      | inl none ↦ rw (at, at, eq-eqb c.push.next 0 none) (walk_kept g _ g.walk (finds_none c g s releaser is at fits none))
       | inr some ↦
           rw (at, at, ne_eqb c.push.next 0 some)
-          (same_outcome g _ (g.pushed - g.popped) (clears c g s (Carrier.Releaser releaser) is at fits (head_has_queue c g fits some)))
+          (walk_kept g _ (g.pushed - g.popped) (clears c g s (Carrier.Releaser releaser) is at fits (head_has_queue c g fits some)))
     ]
 
 pub at_TakeClearHead : (c : Core) (g : Ghost) (s : ℕ) (carrier : Carrier) → IsSeat c.seats s → (seat c.seats s).point ≡ TakeClearHead carrier → Fits c g → Kept c g s

@@ -272,6 +272,12 @@ sees_moved c g s y count owner wakes t x is more =
       watches = λ watches place here. WatchesAt_seen c (moved c s y count owner wakes) g g t x x.point refl (λ queue. queue) (λ u waiting. waiting) (watches place here);
     }
 
+-- and the facts of each seat stay
+pub fits_moved : (c : Core) (g : Ghost) (s : ℕ) (y : SeatState) (count owner : ℕ) (wakes : List Wake) (t : ℕ) (x : SeatState) (w : Wake) → IsSeat c.seats s
+    → (seat c.seats s).posts ≤ y.posts → x.posts ≤ (seat c.seats t).posts → SeatFits c g t x w → SeatFits (moved c s y count owner wakes) g t x w
+fits_moved c g s y count owner wakes t x w is more posts fits =
+    SeatFits_seen c (moved c s y count owner wakes) g g t x w posts (sees_moved c g s y count owner wakes t x is more) fits
+
 -- what is left to show of such a move
 pub moves_on : (c : Core) (g : Ghost) (s : ℕ) (y : SeatState) (count owner : ℕ) (wakes : List Wake) (place : Responsibility) (answered : ℕ) → IsSeat c.seats s → Fits c g
     → Errands c s y → length wakes ≡ length c.wakes → ((t : ℕ) → t ≢ s → wake wakes t ≡ wake c.wakes t)
@@ -287,7 +293,7 @@ moves_on c g s y count owner wakes place answered is fits errands sized woken se
       words = words;
       stamps = λ stamp above within. let f = fits.stamps stamp above within in record { stands = f.stands; fresh = f.fresh; walked = f.walked };
       each = each_after c (record c { count = count; owner = owner; wakes = wakes }) g h s y is refl fits more woken sees
-          (SeatFits_seen c (moved c s y count owner wakes) h h s y (wake wakes s) (omega (arith, errands.posts_same)) (sees_moved c h s y count owner wakes s y is more) own);
+          (fits_moved c h s y count owner wakes s y (wake wakes s) is more (omega (arith, errands.posts_same)) own);
       agents = agents_after c g.standing s y is errands fits.agents;
       sums = rw same (record { asking = fits.sums.asking; queued = fits.sums.queued; pushed = fits.sums.pushed });
       sizes = record {

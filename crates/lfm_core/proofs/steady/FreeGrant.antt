@@ -107,7 +107,7 @@ free_fits c g s t p is fits errands place other rests =
     record {
       words = words_freed c g s t y (free_wakes c t) fits.words place;
       stamps = λ stamp above within. (let was = fits.stamps stamp above within in record { stands = was.stands; fresh = was.fresh; walked = was.walked });
-      each = each_after_two c g (freed_to g t) s t y c.owner c.popped (free_wakes c t) is fits refl (λ e. cc)
+      each = each_after_two c (handed c c.owner c.popped (free_wakes c t)) g (freed_to g t) s t y c.count c.owner (free_wakes c t) is refl fits refl
           (λ v differs apart. entry-with_other Quiet c.wakes t v (Grant 0) apart)
           (λ v differs apart. sees_freed c g s t y (free_wakes c t) is fits (omega arith) place v differs apart (seat c.seats v))
           (rw none (granter c g (freed_to g t) s t 0 c.owner c.popped (free_wakes c t) x (wake c.wakes s) p (fits.each s) other refl refl refl (λ k was. record { above = was.above; within = was.within; here = was.here }) rests))

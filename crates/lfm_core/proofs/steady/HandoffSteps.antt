@@ -21,10 +21,11 @@ use Rattle.lfm_core.specs.Seats.{seat, wake, IsSeat}
 use Rattle.lfm_core.specs.Steady.{Fits, KnowsRecord, StandsAsCarrier, AwaitsAsPusher, PushedFits}
 use Rattle.lfm_core.specs.Views.{is_queued, grant_at, due_posts_of_pusher, due_posts_of_carrier, due_pushes_of_carrier}
 use Rattle.lfm_core.proofs.steady.Frames.{view_moves}
-use Rattle.lfm_core.proofs.steady.Handoffs.{seat_at, held_own, listed_same, posted_of, same_handoff_true, same_handoff_false, wake_by_same}
+use Rattle.lfm_core.proofs.steady.Handoffs.{seat_at, held_own, listed_same, posted_of, same_handoff_true, same_handoff_false}
 use Rattle.lfm_core.proofs.steady.Histories.{history_stays}
 use Rattle.lfm_core.proofs.steady.Released.{released, released_own, released_errands, released_history}
 use Rattle.lfm_core.proofs.steady.WonHandoff.{handoff_wins}
+use Rattle.lfm_core.proofs.steady.Quiet.{wake_by_same}
 
 takes_by : (a b : AbstractMutex) (s : ℕ) → Moves a b Abstract.posted (carried s Abstract.serving) → GoesBy (Some Case.take) a b
 takes_by a b s moves = (Abstract.take s moves, refl)
@@ -103,7 +104,7 @@ locker_sleeps c g s seen takes posts is at lost fits =
       to = g;
       fits = view_moves c g s y is fits (record { asks_same = rw at; claims_same = rw at; posts_same = rw at }) (record {
         claims = here.claims;
-        woken = here.woken ∙ wake_by_same (grant_at g.place s) g.place (g.standing s) s (Asleep Sleeper.Locker) (PushedHandoffExchange Pusher.Locker seen) refl;
+        woken = here.woken ∙ wake_by_same (grant_at g.place s) g.place (g.standing s) (g.standing s) s (PushedHandoffExchange Pusher.Locker seen) (Asleep Sleeper.Locker) refl;
         granted = here.granted;
         entered = here.entered;
         listed = here.listed;
@@ -130,7 +131,7 @@ sender_ends c g s t seen takes posts is at lost fits =
       to = g;
       fits = view_moves c g s y is fits (record { asks_same = rw at; claims_same = rw at; posts_same = rw at }) (record {
         claims = here.claims;
-        woken = here.woken ∙ wake_by_same (grant_at g.place s) g.place (g.standing s) s Rest (PushedHandoffExchange (Pusher.Sender t) seen) refl;
+        woken = here.woken ∙ wake_by_same (grant_at g.place s) g.place (g.standing s) (g.standing s) s (PushedHandoffExchange (Pusher.Sender t) seen) Rest refl;
         granted = here.granted;
         entered = here.entered;
         listed = here.listed;
@@ -209,7 +210,7 @@ try_is_busy c g s seen takes posts is at lost fits =
       to = g;
       fits = view_moves c g s y is fits (record { asks_same = rw at; claims_same = rw at; posts_same = rw at }) (record {
         claims = here.claims;
-        woken = here.woken ∙ wake_by_same (grant_at g.place s) g.place (g.standing s) s Rest (TryHandoffExchange seen) refl;
+        woken = here.woken ∙ wake_by_same (grant_at g.place s) g.place (g.standing s) (g.standing s) s (TryHandoffExchange seen) Rest refl;
         granted = here.granted;
         entered = here.entered;
         listed = here.listed;
@@ -291,7 +292,7 @@ poster_loses c g s releaser takes posts is at lost fits =
           (released_errands c s takes posts (ReleaseHandoffExchange releaser) releaser TakenOver (rw at) (rw at) (rw at))
           (released_own c g s takes posts (wake c.wakes s) (ReleaseHandoffExchange releaser) releaser TakenOver (record {
             claims = here.claims;
-            woken = here.woken ∙ wake_by_same (grant_at g.place s) g.place (g.standing s) s (ReleasePushLook releaser) (ReleaseHandoffExchange releaser) refl;
+            woken = here.woken ∙ wake_by_same (grant_at g.place s) g.place (g.standing s) (g.standing s) s (ReleaseHandoffExchange releaser) (ReleasePushLook releaser) refl;
             granted = here.granted;
             entered = here.entered;
             listed = here.listed;

@@ -42,12 +42,6 @@ same_handoff_false a b e same =
     let here = and_from (eqb a.seat b.seat) (eqb a.post b.post) (eq-eqb a.seat b.seat (ap (λ h. h.seat) same)) (eq-eqb a.post b.post (ap (λ h. h.post) same)) in
     cc
 
--- the wake word of a seat that does not sleep since a start_wait and has loaded no grant
-pub wake_by_same : (grant : Option ℕ) (place : Responsibility) (standing : Standing) (s : ℕ) (p q : Point) → wake_at place standing s q ≡ wake_at place standing s p
-    → wake_by grant place standing s q ≡ wake_by grant place standing s p
-wake_by_same (Some stamp) place standing s p q same = refl
-wake_by_same None place standing s p q same = same
-
 -- What a move of the acting seat leaves
 
 -- the calls that have counted a seat or claimed it are at their errands, whatever was posted
@@ -66,8 +60,3 @@ agents_with seats standing s t y is asked sent fits =
         | inr other ↦ rw (seat-with_other seats s agent y other) (fits.sent agent e)
       ];
     }
-
--- the own facts of a seat, in the state that has its new view
-pub own_with : (e : Core) (h : Ghost) (s : ℕ) (y : SeatState) (w : Wake) → IsSeat e.seats s → y.posts ≡ (seat e.seats s).posts → SeatFits e h s y w → SeatFits (put e s y) h s y w
-own_with e h s y w is posts fits =
-    SeatFits_seen e (put e s y) h h s y w (omega arith) (sees_moved e h s y e.count e.owner e.wakes s y is (omega arith)) fits

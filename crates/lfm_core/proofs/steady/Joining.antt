@@ -20,6 +20,7 @@ use Rattle.lfm_core.proofs.steady.Entries.{seat-with_same, seat-with_other, leng
 use Rattle.lfm_core.proofs.steady.Frames.{Sees, SeatFits_seen, moved, sees_moved, IsSeat_after, IsOld_after, HandoffFits_after, WatchesAt_seen}
 use Rattle.lfm_core.proofs.steady.Sums.{changed_same, changed_other, sum_update, sum_agrees}
 use Rattle.lfm_core.proofs.steady.Seated.{seat_of_standing, seat_of_asking}
+use Rattle.lfm_core.proofs.steady.Handing.{each_after_two}
 
 -- seat s has counted seat u
 abbrev pub joined : Ghost → ℕ → ℕ → Ghost
@@ -206,22 +207,14 @@ fits_join : (c : Core) (g : Ghost) (s u : ℕ) (y : SeatState) → IsSeat c.seat
     → ((t : ℕ) → claims_for (seat c.seats s) ≡ t → t ≢ u → t ≡ 0) → (u ≢ s → SeatFits c (joined g s u) u (seat c.seats u) (wake c.wakes u))
     → Fits (put (record c { count = c.count + 1 }) s y) (joined g s u)
 fits_join c g s u y is other_is fits unasked joins idle other_fits =
-    let d = moved c s y (c.count + 1) c.owner c.wakes in
     let h = joined g s u in
     let more : (seat c.seats s).posts ≤ y.posts = omega (arith, joins.posts_same) in
     let same : length (with_entry c.seats s y) ≡ length c.seats = length-with_entry c.seats s y in
     record {
       words = words_join c g s u y fits joins.some;
       stamps = λ stamp above within. stamps_join c g s u y stamp unasked (fits.stamps stamp above within);
-      each = λ t. elim (cases_eq t s) [
-        | inl here ↦ rw (here, seat-with_same c.seats s y is)
-            (SeatFits_seen c d h h s y (wake c.wakes s) (omega (arith, joins.posts_same)) (sees_moved c h s y (c.count + 1) c.owner c.wakes s y is more) joins.own)
-        | inr away ↦ rw (seat-with_other c.seats s t y away) (elim (cases_eq t u) [
-          | inl e ↦ rw e
-              (SeatFits_seen c d h h u (seat c.seats u) (wake c.wakes u) (omega arith) (sees_moved c h s y (c.count + 1) c.owner c.wakes u (seat c.seats u) is more) (other_fits (λ f. away (e ∙ f))))
-          | inr differs ↦ SeatFits_seen c d g h t (seat c.seats t) (wake c.wakes t) (omega arith) (sees_join c g s u t y (seat c.seats t) is more unasked away differs) (fits.each t)
-        ])
-      ];
+      each = each_after_two c c g h s u y (c.count + 1) c.owner c.wakes is refl fits joins.posts_same (λ t away differs. refl)
+          (λ t away differs. sees_join c g s u t y (seat c.seats t) is more unasked away differs) joins.own other_fits;
       agents = agents_join c g s u y is fits joins idle;
       sums = rw same (sums_join (length c.seats) g s u other_is.above other_is.within unasked fits.sums);
       sizes = record {

@@ -15,10 +15,11 @@ use Rattle.lfm_core.specs.Steady.{ErrandFits, StandsAsPusher, SeatFits, StampFit
 use Rattle.lfm_core.specs.Views.{grant_at}
 use Rattle.lfm_core.proofs.steady.Abstracts.{stays_same}
 use Rattle.lfm_core.proofs.steady.Entries.{entry-with_same, entry-with_other, length-with_entry}
-use Rattle.lfm_core.proofs.steady.Frames.{Sees, SeatFits_seen, Errands, each_after, agents_after, IsSeat_after, IsOld_after, HandoffFits_after, WatchesAt_seen, sees_moved}
+use Rattle.lfm_core.proofs.steady.Frames.{Sees, SeatFits_seen, Errands, each_after, agents_after, IsSeat_after, IsOld_after, HandoffFits_after, WatchesAt_seen, sees_moved, fits_moved}
 use Rattle.lfm_core.proofs.steady.Histories.{history_stays}
-use Rattle.lfm_core.proofs.steady.Pushers.{fits_at, woken_same}
+use Rattle.lfm_core.proofs.steady.Pushers.{fits_at}
 use Rattle.lfm_core.proofs.steady.Seated.{seat_of_standing}
+use Rattle.lfm_core.proofs.steady.Quiet.{wake_by_same}
 
 -- the seat that a pusher is to push asks by it
 pub pushed_asks : (g : Ghost) (s : ℕ) (pusher : Pusher) → StandsAsPusher s (g.standing s) pusher → ErrandFits g s pusher
@@ -90,7 +91,7 @@ link_stores c g s u y l is fits errands asked own =
     let words = fits.words in
     let posts : (seat c.seats s).posts ≤ y.posts = omega (arith, errands.posts_same) in
     let fewer : y.posts ≤ (seat c.seats s).posts = omega (arith, errands.posts_same) in
-    let own_after = SeatFits_seen (put_link c u l) (put (put_link c u l) s y) g g s y (wake c.wakes s) fewer (sees_moved (put_link c u l) g s y c.count c.owner c.wakes s y is posts) own in
+    let own_after = fits_moved (put_link c u l) g s y c.count c.owner c.wakes s y (wake c.wakes s) is posts fewer own in
     record {
       words = record {
         owner = words.owner;
@@ -119,7 +120,7 @@ own_link_store : (c : Core) (g : Ghost) (s : ℕ) (x : SeatState) (w : Wake) (pu
 own_link_store c g s x w pusher seen above within fits =
     record {
       claims = fits.claims;
-      woken = fits.woken ∙ woken_same (grant_at g.place s) g.place (g.standing s) (g.standing s) s (LinkStore pusher seen) (PushExchange pusher seen) refl;
+      woken = fits.woken ∙ wake_by_same (grant_at g.place s) g.place (g.standing s) (g.standing s) s (LinkStore pusher seen) (PushExchange pusher seen) refl;
       granted = fits.granted;
       entered = fits.entered;
       listed = fits.listed;

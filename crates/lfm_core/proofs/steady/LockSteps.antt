@@ -73,12 +73,12 @@ owner_load_at : (c : Core) (g : Ghost) (s depth takes posts : ℕ) → IsSeat c.
 owner_load_at c g s zero takes posts is at fits =
     let here = rw at at (fits.each s) in
     let other : nat_eq c.owner s ≡ false = ne_eqb c.owner s (λ e. owner_of-held g.place s is.above (sym fits.words.owner ∙ e) (sym here.claims)) in
-    rw (at, at, other) (view_kept c g _ (owner_missed c g s takes posts is at fits))
+    rw (at, at, other) (view_kept g _ (owner_missed c g s takes posts is at fits))
 owner_load_at c g s (suc d) takes posts is at fits =
     let here = rw at at (fits.each s) in
     let place : g.place ≡ owned s true = place_of_claim g.place (owned s true) s (λ e. cc) (rw (eqb-suc-zero d) at here.claims) in
     let same : nat_eq c.owner s ≡ true = eq-eqb c.owner s (fits.words.owner ∙ rw place refl) in
-    rw (at, at, same) (view_kept c g _ (owner_found c g s d takes posts is at fits))
+    rw (at, at, same) (view_kept g _ (owner_found c g s d takes posts is at fits))
 
 pub at_LockOwnerLoad : (c : Core) (g : Ghost) (s : ℕ) → IsSeat c.seats s → (seat c.seats s).point ≡ LockOwnerLoad → Fits c g → Kept c g s
 at_LockOwnerLoad c g s is at fits =

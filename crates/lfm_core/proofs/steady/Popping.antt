@@ -217,7 +217,7 @@ pops_fit c g s y r owner rest wakes place answered is fits pops =
     record {
       words = words_popped c g s y r owner rest wakes place answered fits pops first;
       stamps = stamps_popped c g s y r owner rest wakes place answered fits pops.walked first;
-      each = each_after_two c g (popped_to g r.seat place answered) s r.seat y owner rest wakes is fits pops.errands.posts_same pops.unposted_after pops.woken
+      each = each_after_two c (handed c owner rest wakes) g (popped_to g r.seat place answered) s r.seat y c.count owner wakes is refl fits pops.errands.posts_same pops.woken
           (λ t other away. sees_popped c g s y r owner rest wakes place answered is fits pops first t other away (seat c.seats t)) pops.own pops.second;
       agents = agents_after c (changed g.standing r.seat apart) s y is pops.errands (agents_apart c g r.seat fits.agents);
       sums = rw size (sums_popped (length c.seats) g r.seat place answered there.above there.within first.stands fits.sums);

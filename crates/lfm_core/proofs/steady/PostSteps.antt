@@ -17,11 +17,12 @@ use Rattle.lfm_core.specs.Steady.{Fits, HasQueue, HeadStays, cleared}
 use Rattle.lfm_core.specs.Views.{grant_at, asks_for}
 use Rattle.lfm_core.proofs.steady.Abstracts.{somebody}
 use Rattle.lfm_core.proofs.steady.Frames.{view_moves, place_of_claim}
-use Rattle.lfm_core.proofs.steady.Handoffs.{seat_at, listed_same, posted_of, wake_by_same}
+use Rattle.lfm_core.proofs.steady.Handoffs.{seat_at, listed_same, posted_of}
 use Rattle.lfm_core.proofs.steady.Histories.{history_stays}
 use Rattle.lfm_core.proofs.steady.Posting.{asker, posts_handoff}
 use Rattle.lfm_core.proofs.steady.Released.{released, released_own, released_errands, released_history}
 use Rattle.lfm_core.proofs.steady.Pushers.{head_has_queue}
+use Rattle.lfm_core.proofs.steady.Quiet.{wake_by_same}
 
 -- The post
 
@@ -139,7 +140,7 @@ look_finds_some c g s releaser takes posts is at some fits =
       to = g;
       fits = view_moves c g s y is fits (record { asks_same = rw at; claims_same = rw at; posts_same = rw at }) (record {
         claims = here.claims;
-        woken = here.woken ∙ wake_by_same (grant_at g.place s) g.place (g.standing s) s (ReleaseHandoffExchange releaser) (ReleasePushLook releaser) refl;
+        woken = here.woken ∙ wake_by_same (grant_at g.place s) g.place (g.standing s) (g.standing s) s (ReleasePushLook releaser) (ReleaseHandoffExchange releaser) refl;
         granted = here.granted;
         entered = here.entered;
         listed = here.listed;

@@ -23,11 +23,12 @@ use Rattle.lfm_core.proofs.steady.Entries.{seat-with_same, seat-with_other, leng
 use Rattle.lfm_core.proofs.steady.Frames.{SeatFits_seen, sees_moved}
 use Rattle.lfm_core.proofs.steady.Histories.{history_pushes}
 use Rattle.lfm_core.proofs.steady.Linking.{pushed_asks, sizes_with}
-use Rattle.lfm_core.proofs.steady.Pushers.{fits_at, view_kept, woken_same, sees_itself, same_link_true}
+use Rattle.lfm_core.proofs.steady.Pushers.{fits_at, sees_itself, same_link_true}
 use Rattle.lfm_core.proofs.steady.PushedSeats.{pushed_fits, own_pushes, own_sends}
 use Rattle.lfm_core.proofs.steady.Pushing.{with_pushed, exchanged, words_pushed, stamp_pushed, sums_pushed, sees_push, agents_pushed}
 use Rattle.lfm_core.proofs.steady.Sums.{sum_member}
 use Rattle.lfm_core.proofs.steady.Seated.{seat_of_standing}
+use Rattle.lfm_core.proofs.steady.Quiet.{wake_by_same, moves_quietly}
 
 -- what seat s, which goes on with the view y, needs to push seat u
 pub record Pushes (c : Core) (g : Ghost) (s u : ℕ) (seen : Link) (y : SeatState) : Type 0 where
@@ -111,7 +112,7 @@ own_goes_back : (c : Core) (g : Ghost) (s : ℕ) (x : SeatState) (w : Wake) (pus
 own_goes_back c g s x w pusher seen fits =
     record {
       claims = fits.claims;
-      woken = fits.woken ∙ woken_same (grant_at g.place s) g.place (g.standing s) (g.standing s) s (PushExchange pusher seen) (LinkStore pusher c.push) refl;
+      woken = fits.woken ∙ wake_by_same (grant_at g.place s) g.place (g.standing s) (g.standing s) s (PushExchange pusher seen) (LinkStore pusher c.push) refl;
       granted = fits.granted;
       entered = fits.entered;
       listed = fits.listed;
@@ -150,7 +151,7 @@ at_PushExchange c g s pusher seen is at fits =
             own = own_exchange c g s x w pusher seen (omega (arith, fits.words.parts)) here;
           }))
       | inr other ↦ rw (at, at, other)
-          (view_kept c g s (record x { point = LinkStore pusher c.push }) is fits
+          (moves_quietly c g s (record x { point = LinkStore pusher c.push }) is fits
           (record { asks_same = rw at; claims_same = rw at; posts_same = refl })
           (own_goes_back c g s x w pusher seen here))
     ]

@@ -13,8 +13,9 @@ use Rattle.lfm_core.specs.Outcome.{Kept}
 use Rattle.lfm_core.specs.Seats.{seat, wake, IsSeat}
 use Rattle.lfm_core.specs.Steady.{IsOld, HasQueue, SeatFits, Fits}
 use Rattle.lfm_core.specs.Views.{grant_at, is_queued}
-use Rattle.lfm_core.proofs.steady.Pushers.{fits_at, view_kept, woken_same, sees_itself, no_depth, not_posted, stands_old, head_has_queue, none_queued}
+use Rattle.lfm_core.proofs.steady.Pushers.{fits_at, sees_itself, no_depth, not_posted, stands_old, head_has_queue, none_queued}
 use Rattle.lfm_core.proofs.steady.Handoffs.{posted_of}
+use Rattle.lfm_core.proofs.steady.Quiet.{wake_by_same, moves_quietly}
 
 -- The load of the push word
 
@@ -24,7 +25,7 @@ own_push_load : (c : Core) (g : Ghost) (s : ℕ) (x : SeatState) (w : Wake) (pus
 own_push_load c g s x w pusher fits =
     record {
       claims = fits.claims;
-      woken = fits.woken ∙ woken_same (grant_at g.place s) g.place (g.standing s) (g.standing s) s (PushLoad pusher) (LinkStore pusher c.push) refl;
+      woken = fits.woken ∙ wake_by_same (grant_at g.place s) g.place (g.standing s) (g.standing s) s (PushLoad pusher) (LinkStore pusher c.push) refl;
       granted = fits.granted;
       entered = fits.entered;
       listed = fits.listed;
@@ -42,7 +43,7 @@ pub at_PushLoad : (c : Core) (g : Ghost) (s : ℕ) (pusher : Pusher) → IsSeat 
 at_PushLoad c g s pusher is at fits =
     let x = seat c.seats s in
     let w = wake c.wakes s in
-    rw (at, at) (view_kept c g s (record x { point = LinkStore pusher c.push }) is fits
+    rw (at, at) (moves_quietly c g s (record x { point = LinkStore pusher c.push }) is fits
     (record { asks_same = rw at; claims_same = rw at; posts_same = refl })
     (own_push_load c g s x w pusher (fits_at c g s x w (PushLoad pusher) at (fits.each s))))
 
@@ -54,7 +55,7 @@ own_sleeps : (c : Core) (g : Ghost) (s : ℕ) (x : SeatState) (w : Wake) → g.p
 own_sleeps c g s x w away fits =
     record {
       claims = fits.claims;
-      woken = fits.woken ∙ woken_same (grant_at g.place s) g.place (g.standing s) (g.standing s) s (PushedHandoffLoad Pusher.Locker) (Asleep Sleeper.Locker) refl;
+      woken = fits.woken ∙ wake_by_same (grant_at g.place s) g.place (g.standing s) (g.standing s) s (PushedHandoffLoad Pusher.Locker) (Asleep Sleeper.Locker) refl;
       granted = fits.granted;
       entered = fits.entered;
       listed = fits.listed;
@@ -74,7 +75,7 @@ own_ends : (c : Core) (g : Ghost) (s t : ℕ) (x : SeatState) (w : Wake) → g.p
 own_ends c g s t x w away fits =
     record {
       claims = fits.claims;
-      woken = fits.woken ∙ woken_same (grant_at g.place s) g.place (g.standing s) (g.standing s) s (PushedHandoffLoad (Pusher.Sender t)) Rest refl;
+      woken = fits.woken ∙ wake_by_same (grant_at g.place s) g.place (g.standing s) (g.standing s) s (PushedHandoffLoad (Pusher.Sender t)) Rest refl;
       granted = fits.granted;
       entered = fits.entered;
       listed = fits.listed;
@@ -95,7 +96,7 @@ own_finds : (c : Core) (g : Ghost) (s : ℕ) (x : SeatState) (w : Wake) → IsOl
 own_finds c g s x w old fits =
     record {
       claims = fits.claims;
-      woken = fits.woken ∙ woken_same (grant_at g.place s) g.place (g.standing s) (g.standing s) s (PushedHandoffLoad Pusher.Locker) (PushedHandoffExchange Pusher.Locker c.handoff) refl;
+      woken = fits.woken ∙ wake_by_same (grant_at g.place s) g.place (g.standing s) (g.standing s) s (PushedHandoffLoad Pusher.Locker) (PushedHandoffExchange Pusher.Locker c.handoff) refl;
       granted = fits.granted;
       entered = fits.entered;
       listed = fits.listed;
@@ -116,7 +117,7 @@ own_looks : (c : Core) (g : Ghost) (s t : ℕ) (x : SeatState) (w : Wake) → Is
 own_looks c g s t x w old is fits =
     record {
       claims = rw is;
-      woken = fits.woken ∙ woken_same (grant_at g.place s) g.place (g.standing s) (g.standing s) s (PushedHandoffLoad (Pusher.Sender t)) (SendPushLook t c.handoff) refl;
+      woken = fits.woken ∙ wake_by_same (grant_at g.place s) g.place (g.standing s) (g.standing s) s (PushedHandoffLoad (Pusher.Sender t)) (SendPushLook t c.handoff) refl;
       granted = fits.granted;
       entered = fits.entered;
       listed = fits.listed;
@@ -137,11 +138,11 @@ at_PushedHandoffLoad c g s Pusher.Locker is at fits =
     let here = fits_at c g s x w (PushedHandoffLoad Pusher.Locker) at (fits.each s) in
     elim (cases_eq c.handoff.seat 0) [
       | inl none ↦ rw (at, at, eq-eqb c.handoff.seat 0 none)
-          (view_kept c g s (record x { point = Asleep Sleeper.Locker }) is fits
+          (moves_quietly c g s (record x { point = Asleep Sleeper.Locker }) is fits
           (record { asks_same = rw at; claims_same = rw at; posts_same = refl })
           (own_sleeps c g s x w (not_posted c g.place fits.words.handoff none) here))
       | inr some ↦ rw (at, at, ne_eqb c.handoff.seat 0 some)
-          (view_kept c g s (record x { point = PushedHandoffExchange Pusher.Locker c.handoff }) is fits
+          (moves_quietly c g s (record x { point = PushedHandoffExchange Pusher.Locker c.handoff }) is fits
           (record { asks_same = rw at; claims_same = rw at; posts_same = refl })
           (own_finds c g s x w (stands_old c g fits some) here))
     ]
@@ -151,11 +152,11 @@ at_PushedHandoffLoad c g s (Pusher.Sender t) is at fits =
     let here = fits_at c g s x w (PushedHandoffLoad (Pusher.Sender t)) at (fits.each s) in
     elim (cases_eq c.handoff.seat 0) [
       | inl none ↦ rw (at, at, eq-eqb c.handoff.seat 0 none)
-          (view_kept c g s (record x { point = Rest }) is fits
+          (moves_quietly c g s (record x { point = Rest }) is fits
           (record { asks_same = rw at; claims_same = rw at; posts_same = refl })
           (own_ends c g s t x w (not_posted c g.place fits.words.handoff none) here))
       | inr some ↦ rw (at, at, ne_eqb c.handoff.seat 0 some)
-          (view_kept c g s (record x { point = SendPushLook t c.handoff }) is fits
+          (moves_quietly c g s (record x { point = SendPushLook t c.handoff }) is fits
           (record { asks_same = rw at; claims_same = rw at; posts_same = refl })
           (own_looks c g s t x w (stands_old c g fits some) (posted_of c.seats g.place c.handoff (omega (arith, some)) fits.words.handoff) here))
     ]
@@ -168,7 +169,7 @@ own_looked : (c : Core) (g : Ghost) (s t : ℕ) (seen : Handoff) (x : SeatState)
 own_looked c g s t seen x w none fits =
     record {
       claims = rw fits.depth fits.claims;
-      woken = fits.woken ∙ woken_same (grant_at g.place s) g.place (g.standing s) (g.standing s) s (SendPushLook t seen) Rest refl;
+      woken = fits.woken ∙ wake_by_same (grant_at g.place s) g.place (g.standing s) (g.standing s) s (SendPushLook t seen) Rest refl;
       granted = fits.granted;
       entered = fits.entered;
       listed = fits.listed;
@@ -189,7 +190,7 @@ own_tries : (c : Core) (g : Ghost) (s t : ℕ) (seen : Handoff) (x : SeatState) 
 own_tries c g s t seen x w some fits =
     record {
       claims = fits.claims;
-      woken = fits.woken ∙ woken_same (grant_at g.place s) g.place (g.standing s) (g.standing s) s (SendPushLook t seen) (PushedHandoffExchange (Pusher.Sender t) seen) refl;
+      woken = fits.woken ∙ wake_by_same (grant_at g.place s) g.place (g.standing s) (g.standing s) s (SendPushLook t seen) (PushedHandoffExchange (Pusher.Sender t) seen) refl;
       granted = fits.granted;
       entered = fits.entered;
       listed = fits.listed;
@@ -210,11 +211,11 @@ at_SendPushLook c g s t seen is at fits =
     let here = fits_at c g s x w (SendPushLook t seen) at (fits.each s) in
     elim (cases_eq c.push.next 0) [
       | inl none ↦ rw (at, at, eq-eqb c.push.next 0 none)
-          (view_kept c g s (record x { point = Rest }) is fits
+          (moves_quietly c g s (record x { point = Rest }) is fits
           (record { asks_same = rw at; claims_same = rw at; posts_same = refl })
           (own_looked c g s t seen x w (none_queued c g t fits none) here))
       | inr some ↦ rw (at, at, ne_eqb c.push.next 0 some)
-          (view_kept c g s (record x { point = PushedHandoffExchange (Pusher.Sender t) seen }) is fits
+          (moves_quietly c g s (record x { point = PushedHandoffExchange (Pusher.Sender t) seen }) is fits
           (record { asks_same = rw at; claims_same = rw at; posts_same = refl })
           (own_tries c g s t seen x w (head_has_queue c g fits some) here))
     ]

@@ -17,56 +17,10 @@ use Rattle.lfm_core.specs.Core.{Core, put}
 use Rattle.lfm_core.specs.Ghost.{Responsibility, apart, asks, queued, Ghost}
 use Rattle.lfm_core.specs.Steady.{QueuedFits, SeatFits, StandsAt, StandsAsPusher, AwaitsAsPusher, StandsAsCarrier, StandsAsEntrant, sleeps_as_waiter}
 use Rattle.lfm_core.specs.Views.{grant_at, is_some}
-use Rattle.lfm_core.proofs.steady.Pushers.{woken_same}
 use Rattle.lfm_core.proofs.steady.Pushing.{with_pushed, exchanged}
 use Rattle.lfm_core.proofs.steady.Sums.{changed_same, changed_other}
-
--- A seat that asks by another seat's send sleeps since a start_wait
-
-no_pusher : (s u : ℕ) (pusher : Pusher) → u ≢ s → StandsAsPusher u (asks s) pusher → ⊥
-no_pusher s u Pusher.Locker other stands = other cc
-no_pusher s u (Pusher.Sender t) other stands = cc
-
-no_waiter_of_push : (place : Responsibility) (s u : ℕ) (pusher : Pusher) → grant_at place u ≡ None → AwaitsAsPusher place u (asks s) pusher → ⊥
-no_waiter_of_push place s u Pusher.Locker none stands = let h = rw none at stands in cc
-no_waiter_of_push place s u (Pusher.Sender t) none stands = cc
-
-no_carrier : (s : ℕ) (carrier : Carrier) → StandsAsCarrier (asks s) carrier → ⊥
-no_carrier s Carrier.Locker stands = cc
-no_carrier s _ stands = cc
-
-no_entrant : (s : ℕ) (entrant : Entrant) (how : How) → StandsAsEntrant (asks s) entrant how → ⊥
-no_entrant s Entrant.Locker (How.Queued stamp) stands = cc
-no_entrant s _ how stands = cc
-
-no_owner_load : (depth s u : ℕ) → u ≢ s → asks s ≡ (if nat_eq depth 0 then asks u else apart) → ⊥
-no_owner_load depth s u other stands =
-    elim (cases_eq depth 0) [
-      | inl e ↦ let h = rw (eq-eqb depth 0 e) at stands in other cc
-      | inr some ↦ let h = rw (ne_eqb depth 0 some) at stands in cc
-    ]
-
-asked_sleeps : (place : Responsibility) (depth s u : ℕ) (p : Point) → u ≢ s → grant_at place u ≡ None → StandsAt place depth u (asks s) p → sleeps_as_waiter p ≡ true
-asked_sleeps place depth s u (Asleep Sleeper.Waiter) other none stands = refl
-asked_sleeps place depth s u (Asleep Sleeper.Locker) other none stands = let h = rw none at stands in absurd (cc)
-asked_sleeps place depth s u (ReceiveWakeLoad Sleeper.Waiter) other none stands = refl
-asked_sleeps place depth s u (ReceiveWakeLoad Sleeper.Locker) other none stands = let h = rw none at stands in absurd (cc)
-asked_sleeps place depth s u LockOwnerLoad other none stands = absurd (no_owner_load depth s u other stands)
-asked_sleeps place depth s u (PushLoad pusher) other none stands = absurd (no_pusher s u pusher other stands)
-asked_sleeps place depth s u (LinkStore pusher seen) other none stands = absurd (no_pusher s u pusher other stands)
-asked_sleeps place depth s u (PushExchange pusher seen) other none stands = absurd (no_pusher s u pusher other stands)
-asked_sleeps place depth s u (PushedHandoffLoad pusher) other none stands = absurd (no_waiter_of_push place s u pusher none stands)
-asked_sleeps place depth s u (PushedHandoffExchange pusher seen) other none stands = absurd (no_waiter_of_push place s u pusher none stands)
-asked_sleeps place depth s u (TakeClearHead carrier) other none stands = absurd (no_carrier s carrier stands)
-asked_sleeps place depth s u (TakeLinkLoad carrier next) other none stands = absurd (no_carrier s carrier stands)
-asked_sleeps place depth s u (GrantWakeStore carrier oldest) other none stands = absurd (no_carrier s carrier stands)
-asked_sleeps place depth s u (EnterOwnerStore entrant how) other none stands = absurd (no_entrant s entrant how stands)
-asked_sleeps place depth s u _ other none stands = absurd (cc)
-
--- it was not granted
-no_grant : (o : Option ℕ) → (is_some o ≡ true → ⊥) → o ≡ None
-no_grant None none = refl
-no_grant (Some stamp) none = absurd (none refl)
+use Rattle.lfm_core.proofs.steady.Quiet.{wake_by_same}
+use Rattle.lfm_core.proofs.steady.Wakings.{none_from, asked_sleeps_at}
 
 -- its standing after the push tells its record
 listed_pushed : (g : Ghost) (u stamp : ℕ) → g.popped ≤ g.pushed → queued (g.pushed + 1) ≡ queued stamp → QueuedFits (with_pushed g u) u stamp
@@ -125,8 +79,8 @@ sleeper_pushed c g s u seen y x w _ sleeps most asked none fits = absurd (cc)
 pub pushed_fits : (c : Core) (g : Ghost) (s u : ℕ) (seen : Link) (y x : SeatState) (w : Wake) → u ≢ s → g.popped ≤ g.pushed → g.standing u ≡ asks s
     → SeatFits c g u x w → SeatFits (put (exchanged c seen u) s y) (with_pushed g u) u x w
 pushed_fits c g s u seen y x w other most asked fits =
-    let none = no_grant (grant_at g.place u) (λ some. let f = sym asked ∙ (fits.granted some).1 in cc) in
-    sleeper_pushed c g s u seen y x w x.point (asked_sleeps g.place x.depth s u x.point other none (rw asked at fits.stands)) most asked none fits
+    let none = none_from (grant_at g.place u) (λ some. let f = sym asked ∙ (fits.granted some).1 in cc) in
+    sleeper_pushed c g s u seen y x w x.point (asked_sleeps_at g.place x.depth u s x.point other none (rw asked at fits.stands)) most asked none fits
 
 -- The seat that pushes
 
@@ -140,7 +94,7 @@ own_pushes c g s x w seen most fits =
     let pushes : (with_pushed g s).pushes s ≡ g.pushes s + 1 = changed_same g.pushes s (g.pushes s + 1) in
     record {
       claims = fits.claims;
-      woken = fits.woken ∙ woken_same (grant_at g.place s) g.place (g.standing s) ((with_pushed g s).standing s) s (PushExchange Pusher.Locker seen) (PushedHandoffLoad Pusher.Locker) refl;
+      woken = fits.woken ∙ wake_by_same (grant_at g.place s) g.place (g.standing s) ((with_pushed g s).standing s) s (PushExchange Pusher.Locker seen) (PushedHandoffLoad Pusher.Locker) refl;
       granted = λ some. let f = (fits.granted some).0 in absurd (cc);
       entered = λ is held. let f = (fits.entered is held).0 in absurd (cc);
       listed = λ stamp e. listed_pushed g s stamp most (sym here ∙ e);
@@ -165,7 +119,7 @@ own_sends c g s t x w seen fits =
     let pushes : (with_pushed g t).pushes s ≡ g.pushes s = changed_other g.pushes t s (g.pushes t + 1) other in
     record {
       claims = fits.claims;
-      woken = fits.woken ∙ woken_same (grant_at g.place s) g.place (g.standing s) ((with_pushed g t).standing s) s (PushExchange (Pusher.Sender t) seen) (PushedHandoffLoad (Pusher.Sender t)) refl;
+      woken = fits.woken ∙ wake_by_same (grant_at g.place s) g.place (g.standing s) ((with_pushed g t).standing s) s (PushExchange (Pusher.Sender t) seen) (PushedHandoffLoad (Pusher.Sender t)) refl;
       granted = λ some. let f = (fits.granted some).0 in absurd (cc);
       entered = λ is held. let f = (fits.entered is held).0 in absurd (cc);
       listed = λ stamp e. let f = sym here ∙ e in absurd (cc);

@@ -22,23 +22,6 @@ pub fits_at : (c : Core) (g : Ghost) (s : ℕ) (x : SeatState) (w : Wake) (p : P
     → SeatFits c g s (record x { point = p }) w
 fits_at c g s x w p at fits = subst (λ q. SeatFits c g s (record x { point = q }) w) at fits
 
--- seat s moves on, and no word changes
-pub view_kept : (c : Core) (g : Ghost) (s : ℕ) (y : SeatState) → IsSeat c.seats s → Fits c g → Errands c s y
-    → SeatFits c g s y (wake c.wakes s) → Outcome g (put c s y) None [] [] []
-view_kept c g s y is fits errands own =
-    record {
-      to = g;
-      fits = view_moves c g s y is fits errands own;
-      goes = stays_same g g refl (λ t. refl) refl;
-      history = history_stays g g refl refl refl refl;
-    }
-
--- the wake word of a seat stays as expected where another point and standing expect the same without a grant
-pub woken_same : (o : Option ℕ) (place : Responsibility) (standing standing' : Standing) (s : ℕ) (p p' : Point)
-    → wake_at place standing s p ≡ wake_at place standing' s p' → wake_by o place standing s p ≡ wake_by o place standing' s p'
-woken_same None place standing standing' s p p' same = same
-woken_same (Some stamp) place standing standing' s p p' same = refl
-
 -- the push word has not gone on from itself
 pub sees_itself : (l : Link) → IsSeen l l
 sees_itself l = record { older = omega arith; same = λ e. inl refl }

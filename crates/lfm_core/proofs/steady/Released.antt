@@ -16,7 +16,7 @@ use Rattle.lfm_core.specs.Seats.{seat}
 use Rattle.lfm_core.specs.Steady.{SeatFits}
 use Rattle.lfm_core.specs.Views.{grant_at, asks_for, claims_for}
 use Rattle.lfm_core.proofs.steady.Frames.{Errands}
-use Rattle.lfm_core.proofs.steady.Handoffs.{wake_by_same}
+use Rattle.lfm_core.proofs.steady.Quiet.{wake_by_same}
 
 -- the view of a release that posted, or that has given the mutex back, once its call ends or goes on to wait
 abbrev pub released : ℕ → ℕ → Point → Releaser → Unlocked → SeatState
@@ -29,7 +29,7 @@ pub released_own : (c : Core) (h : Ghost) (s takes posts : ℕ) (w : Wake) (p : 
 released_own c h s takes posts w p Unlocker answer fits unwatched =
     record {
       claims = fits.claims;
-      woken = fits.woken ∙ wake_by_same (grant_at h.place s) h.place (h.standing s) s Rest (ReleasePushLook Unlocker) refl;
+      woken = fits.woken ∙ wake_by_same (grant_at h.place s) h.place (h.standing s) (h.standing s) s (ReleasePushLook Unlocker) Rest refl;
       granted = fits.granted;
       entered = fits.entered;
       listed = fits.listed;
@@ -45,7 +45,7 @@ released_own c h s takes posts w p Unlocker answer fits unwatched =
 released_own c h s takes posts w p Waiter answer fits unwatched =
     record {
       claims = fits.claims;
-      woken = fits.woken ∙ wake_by_same (grant_at h.place s) h.place (h.standing s) s (WaitWakeStore answer) (ReleasePushLook Waiter) refl;
+      woken = fits.woken ∙ wake_by_same (grant_at h.place s) h.place (h.standing s) (h.standing s) s (ReleasePushLook Waiter) (WaitWakeStore answer) refl;
       granted = fits.granted;
       entered = fits.entered;
       listed = fits.listed;

@@ -15,16 +15,6 @@ use Rattle.lfm_core.proofs.steady.Abstracts.{stays_same, stamp_of_queued}
 use Rattle.lfm_core.proofs.steady.Carrying.{carried_core, walking, serving_unposted}
 use Rattle.lfm_core.proofs.steady.Histories.{history_stays}
 
--- nothing that the abstract mutex or the records of a run tell changes
-pub same_outcome : (g : Ghost) (d : Core) (walk : ℕ) → Fits d (walking g walk) → Outcome g d None [] [] []
-same_outcome g d walk fits =
-    record {
-      to = walking g walk;
-      fits = fits;
-      goes = stays_same g (walking g walk) refl (λ x. refl) refl;
-      history = history_stays g (walking g walk) refl refl refl refl;
-    }
-
 -- what seat s of view x, which serves, has to tell at its next point
 pub record Goes (c : Core) (g : Ghost) (s : ℕ) (x : SeatState) (w : Wake) (p : Point) : Type 0 where
   pub claims : claim_at x.depth s p ≡ serving s

@@ -17,75 +17,6 @@ use Rattle.lfm_core.proofs.steady.Entries.{length-with_entry, seat-with_same, se
 use Rattle.lfm_core.proofs.steady.Frames.{Sees, SeatFits_seen}
 use Rattle.lfm_core.proofs.steady.Sums.{changed_same, changed_other, sum_agrees}
 
--- What a seat that moves on with the same posts leaves as it is
-
-pub posts_after : (seats : List SeatState) (s t : ℕ) (y : SeatState) → IsSeat seats s → y.posts ≡ (seat seats s).posts
-    → (seat (with_entry seats s y) t).posts ≡ (seat seats t).posts
-posts_after seats s t y is same =
-    elim (cases_eq t s) [
-      | inl e ↦ rw (e, seat-with_same seats s y is) same
-      | inr other ↦ rw (seat-with_other seats s t y other)
-    ]
-
-pub IsOld_after : (seats : List SeatState) (s : ℕ) (y : SeatState) (n : Handoff) → IsSeat seats s → y.posts ≡ (seat seats s).posts
-    → IsOld seats n → IsOld (with_entry seats s y) n
-IsOld_after seats s y n is same old =
-    record { above = old.above; before = omega (arith, old.before, posts_after seats s n.seat y is same) }
-
-pub IsSeat_after : (seats : List SeatState) (s t : ℕ) (y : SeatState) → IsSeat seats t → IsSeat (with_entry seats s y) t
-IsSeat_after seats s t y is = record { above = is.above; within = omega (arith, is.within, length-with_entry seats s y) }
-
-pub HandoffFits_after : (seats : List SeatState) (s : ℕ) (y : SeatState) (place : Responsibility) (n : Handoff) → HandoffFits seats place n
-    → HandoffFits (with_entry seats s y) place n
-HandoffFits_after seats s y posted n fits = IsSeat_after seats s n.seat y fits
-HandoffFits_after seats s y _ n fits = fits
-
-WatchesAsPusher_kept : (g h : Ghost) (pusher : Pusher) → ((t : ℕ) → is_queued (g.standing t) ≡ true → is_queued (h.standing t) ≡ true)
-    → WatchesAsPusher g pusher → WatchesAsPusher h pusher
-WatchesAsPusher_kept g h Pusher.Locker kept watches = tt
-WatchesAsPusher_kept g h (Pusher.Sender t) kept watches = kept t watches
-
--- a seat watches on where the handoff stays and no queued seat goes
-pub WatchesAt_kept : (c d : Core) (g h : Ghost) (s : ℕ) (x : SeatState) (p : Point) → d.handoff ≡ c.handoff
-    → ((t : ℕ) → is_queued (g.standing t) ≡ true → is_queued (h.standing t) ≡ true) → (HasQueue g → HasQueue h)
-    → WatchesAt c g s x p → WatchesAt d h s x p
-WatchesAt_kept c d g h s x LockOwnerLoad handoff kept more watches = watches
-WatchesAt_kept c d g h s x (PushLoad pusher) handoff kept more watches = watches
-WatchesAt_kept c d g h s x (LinkStore pusher seen) handoff kept more watches = watches
-WatchesAt_kept c d g h s x (PushExchange pusher seen) handoff kept more watches = watches
-WatchesAt_kept c d g h s x (PushedHandoffLoad pusher) handoff kept more watches = WatchesAsPusher_kept g h pusher kept watches
-WatchesAt_kept c d g h s x (SendPushLook t seen) handoff kept more watches = (handoff ∙ watches.0, kept t watches.1)
-WatchesAt_kept c d g h s x (PushedHandoffExchange pusher seen) handoff kept more watches = handoff ∙ watches
-WatchesAt_kept c d g h s x (ReleasePushLook releaser) handoff kept more watches = (handoff ∙ watches.0, more watches.1)
-WatchesAt_kept c d g h s x (ReleaseHandoffExchange releaser) handoff kept more watches = handoff ∙ watches
-WatchesAt_kept c d g h s x _ handoff kept more watches = watches
-
--- the facts of a seat stay while another view, the count and wake words change
-pub moved : (c : Core) (h : Ghost) (s : ℕ) (y : SeatState) (count : ℕ) (wakes : List Wake) (t : ℕ) (x : SeatState) (w : Wake) → IsSeat c.seats s
-    → y.posts ≡ (seat c.seats s).posts → x.posts ≤ (seat c.seats t).posts → SeatFits c h t x w
-    → SeatFits (put (record c { count = count; wakes = wakes }) s y) h t x w
-moved c h s y count wakes t x w is same posts fits =
-    let d = put (record c { count = count; wakes = wakes }) s y in
-    SeatFits_seen c d h h t x w posts (record {
-      held = refl;
-      grant = refl;
-      entered = refl;
-      standing = refl;
-      listed = λ n e q. q;
-      errand = λ v e. e;
-      errand_link = λ v e. refl;
-      claim = λ v e. e;
-      seats = λ v v_is. IsSeat_after c.seats s v y v_is;
-      old = λ n old. IsOld_after c.seats s y n is same old;
-      number = λ e some. refl;
-      head = λ n before stays. stays;
-      seen = λ l seen. seen;
-      carrier = λ e. record { walk = refl; popped = refl; next = refl; queue = λ q. q };
-      budget = refl;
-      pushes = refl;
-      watches = λ before here watcher. WatchesAt_kept c d h h t x x.point refl (λ u e. e) (λ q. q) (before here watcher);
-    }) fits
-
 pub zero_apart : (c : Core) (g : Ghost) → Fits c g → g.standing 0 ≡ apart
 zero_apart c g fits = rw (seat_zero c.seats) at (fits.each 0).stands
 
@@ -150,19 +81,3 @@ stamps_anew c g s u y count wakes place standing unqueued fits stamp above withi
       fresh = at.fresh;
       walked = at.walked;
     }
-
--- every seat fits once s and the seat u that stands anew do, and each other sees nothing new
-pub each_after_two : (c : Core) (g h : Ghost) (s u : ℕ) (y : SeatState) (count : ℕ) (wakes : List Wake) → IsSeat c.seats s → u ≢ s → Fits c g
-    → ((t : ℕ) → t ≢ u → wake wakes t ≡ wake c.wakes t)
-    → ((t : ℕ) → t ≢ s → t ≢ u → Sees c (put (record c { count = count; wakes = wakes }) s y) g h t (seat c.seats t))
-    → y.posts ≡ (seat c.seats s).posts → SeatFits c h u (seat c.seats u) (wake wakes u) → SeatFits c h s y (wake c.wakes s) → (t : ℕ)
-    → SeatFits (put (record c { count = count; wakes = wakes }) s y) h t (seat (with_entry c.seats s y) t) (wake wakes t)
-each_after_two c g h s u y count wakes is apart_from fits woken sees posts other_fits own t =
-    elim (cases_eq t s) [
-      | inl e ↦ rw (e, seat-with_same c.seats s y is, woken s (λ same. apart_from (sym same)))
-          (moved c h s y count wakes s y (wake c.wakes s) is posts (omega (arith, posts)) own)
-      | inr away ↦ rw (seat-with_other c.seats s t y away) (elim (cases_eq t u) [
-        | inl e ↦ rw e (moved c h s y count wakes u (seat c.seats u) (wake wakes u) is posts (omega arith) other_fits)
-        | inr aside ↦ rw (woken t aside) (SeatFits_seen c (put (record c { count = count; wakes = wakes }) s y) g h t (seat c.seats t) (wake c.wakes t) (omega arith) (sees t away aside) (fits.each t))
-      ])
-    ]

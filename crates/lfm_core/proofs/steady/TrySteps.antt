@@ -60,7 +60,7 @@ count_exchange_at c g s (suc d) takes posts is at fits (inl none) =
     absurd (cc (rw (nobody_of_none c g fits none, eqb-suc-zero d) at here.claims))
 count_exchange_at c g s depth takes posts is at fits (inr some) =
     let counted : nat_eq c.count 0 ≡ false = ne_eqb c.count 0 some in
-    rw (at, at, counted) (view_kept c g _ (exchange_fails c g s depth takes posts is at fits))
+    rw (at, at, counted) (view_kept g _ (exchange_fails c g s depth takes posts is at fits))
 
 pub at_TryCountExchange : (c : Core) (g : Ghost) (s : ℕ) → IsSeat c.seats s → (seat c.seats s).point ≡ TryCountExchange → Fits c g → Kept c g s
 at_TryCountExchange c g s is at fits =
@@ -121,12 +121,12 @@ try_owner_load_at : (c : Core) (g : Ghost) (s depth takes posts : ℕ) → IsSea
 try_owner_load_at c g s zero takes posts is at fits =
     let here = rw at at (fits.each s) in
     let other : nat_eq c.owner s ≡ false = ne_eqb c.owner s (λ e. owner_of-held g.place s is.above (sym fits.words.owner ∙ e) (sym here.claims)) in
-    rw (at, at, other) (view_kept c g _ (try_looks c g s takes posts is at fits))
+    rw (at, at, other) (view_kept g _ (try_looks c g s takes posts is at fits))
 try_owner_load_at c g s (suc d) takes posts is at fits =
     let here = rw at at (fits.each s) in
     let place : g.place ≡ owned s false = place_of_claim g.place (owned s false) s (λ e. cc) (rw (eqb-suc-zero d) at here.claims) in
     let same : nat_eq c.owner s ≡ true = eq-eqb c.owner s (fits.words.owner ∙ rw place refl) in
-    rw (at, at, same) (view_kept c g _ (try_deepens c g s d takes posts is at fits))
+    rw (at, at, same) (view_kept g _ (try_deepens c g s d takes posts is at fits))
 
 pub at_TryOwnerLoad : (c : Core) (g : Ghost) (s : ℕ) → IsSeat c.seats s → (seat c.seats s).point ≡ TryOwnerLoad → Fits c g → Kept c g s
 at_TryOwnerLoad c g s is at fits =
@@ -186,10 +186,10 @@ try_handoff_load_at : (c : Core) (g : Ghost) (s takes posts : ℕ) → IsSeat c.
     → seat c.seats s ≡ record { depth = 0; takes = takes; posts = posts; point = TryHandoffLoad } → Fits c g → (c.handoff.seat ≡ 0) ⊎ (c.handoff.seat ≢ 0) → Kept c g s
 try_handoff_load_at c g s takes posts is at fits (inl none) =
     let unposted : nat_eq c.handoff.seat 0 ≡ true = eq-eqb c.handoff.seat 0 none in
-    rw (at, at, unposted) (view_kept c g _ (gives_back c g s takes posts is at fits))
+    rw (at, at, unposted) (view_kept g _ (gives_back c g s takes posts is at fits))
 try_handoff_load_at c g s takes posts is at fits (inr some) =
     let found : nat_eq c.handoff.seat 0 ≡ false = ne_eqb c.handoff.seat 0 some in
-    rw (at, at, found) (view_kept c g _ (sees_post c g s takes posts is at (omega (arith, some)) fits))
+    rw (at, at, found) (view_kept g _ (sees_post c g s takes posts is at (omega (arith, some)) fits))
 
 pub at_TryHandoffLoad : (c : Core) (g : Ghost) (s : ℕ) → IsSeat c.seats s → (seat c.seats s).point ≡ TryHandoffLoad → Fits c g → Kept c g s
 at_TryHandoffLoad c g s is at fits =

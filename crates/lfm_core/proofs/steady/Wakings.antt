@@ -11,7 +11,7 @@ use Rattle.lfm_core.specs.declared.points.Sleeper.{Sleeper}
 use Rattle.lfm_words.specs.declared.wakes.Wake.TheVariants.{Waiting, Claimed, Grant}
 use Rattle.lfm_core.specs.Ghost.{Responsibility, granted, Standing, apart, claimed, asks}
 use Rattle.lfm_core.specs.Steady.{StandsAt, StandsAsPusher, AwaitsAsPusher, StandsAsCarrier, StandsAsEntrant, sleeps_as_waiter}
-use Rattle.lfm_core.specs.Views.{grant_at, is_entered, is_some, is_apart, wake_by, wake_of_waiter, expected_wake}
+use Rattle.lfm_core.specs.Views.{grant_at, is_entered, is_some, is_apart, wake_by, wake_of_waiter, expected_wake, is_queued}
 
 pub none_from : (o : Option ℕ) → is_some o ≢ true → o ≡ None
 none_from None no_grant = refl
@@ -83,40 +83,52 @@ waiting_of place standing s p e =
     let f = apart_by standing (is_entered place s) h.2 in
     record { sleeps = h.0; ungranted = h.1; stands = f.0; unentered = f.1 }
 
-unclaimed_if : (asked : Bool) (s z : ℕ) → claimed z ≢ cond asked (asks s) apart
-unclaimed_if true s z e = cc
-unclaimed_if false s z e = cc
+-- A seat that neither stands apart nor is queued, and doesn't ask by its own call
 
-unclaimed_pusher : (s z : ℕ) (pusher : Pusher) → StandsAsPusher s (claimed z) pusher → ⊥
-unclaimed_pusher s z Pusher.Locker stands = cc
-unclaimed_pusher s z (Pusher.Sender t) stands = cc
+no_owner_load : (asked : Bool) (s : ℕ) (standing : Standing) → standing ≢ apart → standing ≢ asks s → standing ≡ cond asked (asks s) apart → ⊥
+no_owner_load true s standing away own stands = own stands
+no_owner_load false s standing away own stands = away stands
 
-unclaimed_awaiting : (place : Responsibility) (s z : ℕ) (pusher : Pusher) → grant_at place s ≡ None → AwaitsAsPusher place s (claimed z) pusher → ⊥
-unclaimed_awaiting place s z Pusher.Locker none stands = let f = rw none at stands in cc
-unclaimed_awaiting place s z (Pusher.Sender t) none stands = cc
+no_pusher : (s : ℕ) (standing : Standing) (pusher : Pusher) → standing ≢ apart → standing ≢ asks s → StandsAsPusher s standing pusher → ⊥
+no_pusher s standing Pusher.Locker away own stands = own stands
+no_pusher s standing (Pusher.Sender t) away own stands = away stands
 
-unclaimed_carrier : (z : ℕ) (carrier : Carrier) → StandsAsCarrier (claimed z) carrier → ⊥
-unclaimed_carrier z Carrier.Locker stands = cc
-unclaimed_carrier z _ stands = cc
+no_awaiting : (place : Responsibility) (s : ℕ) (standing : Standing) (pusher : Pusher) → grant_at place s ≡ None → standing ≢ apart → is_queued standing ≡ false
+    → AwaitsAsPusher place s standing pusher → ⊥
+no_awaiting place s standing Pusher.Locker none away unqueued stands = let f = rw (none, unqueued) at stands in cc
+no_awaiting place s standing (Pusher.Sender t) none away unqueued stands = away stands
 
-unclaimed_entrant : (z : ℕ) (entrant : Entrant) (how : How) → StandsAsEntrant (claimed z) entrant how → ⊥
-unclaimed_entrant z Entrant.Locker (How.Queued stamp) stands = cc
-unclaimed_entrant z _ how stands = cc
+no_carrier : (standing : Standing) (carrier : Carrier) → standing ≢ apart → is_queued standing ≡ false → StandsAsCarrier standing carrier → ⊥
+no_carrier standing Carrier.Locker away unqueued stands = let f = rw unqueued at stands in cc
+no_carrier standing _ away unqueued stands = away stands
 
--- a seat that a send has claimed sleeps since a start_wait
-pub claimed_sleeps : (place : Responsibility) (depth s z : ℕ) (p : Point) → grant_at place s ≡ None → StandsAt place depth s (claimed z) p → sleeps_as_waiter p ≡ true
-claimed_sleeps place depth s z (Asleep Sleeper.Waiter) none stands = refl
-claimed_sleeps place depth s z (ReceiveWakeLoad Sleeper.Waiter) none stands = refl
-claimed_sleeps place depth s z (Asleep Sleeper.Locker) none stands = let f = rw none at stands in cc
-claimed_sleeps place depth s z (ReceiveWakeLoad Sleeper.Locker) none stands = let f = rw none at stands in cc
-claimed_sleeps place depth s z LockOwnerLoad none stands = absurd (unclaimed_if (eqb depth 0) s z stands)
-claimed_sleeps place depth s z (PushLoad pusher) none stands = absurd (unclaimed_pusher s z pusher stands)
-claimed_sleeps place depth s z (LinkStore pusher seen) none stands = absurd (unclaimed_pusher s z pusher stands)
-claimed_sleeps place depth s z (PushExchange pusher seen) none stands = absurd (unclaimed_pusher s z pusher stands)
-claimed_sleeps place depth s z (PushedHandoffLoad pusher) none stands = absurd (unclaimed_awaiting place s z pusher none stands)
-claimed_sleeps place depth s z (PushedHandoffExchange pusher seen) none stands = absurd (unclaimed_awaiting place s z pusher none stands)
-claimed_sleeps place depth s z (TakeClearHead carrier) none stands = absurd (unclaimed_carrier z carrier stands)
-claimed_sleeps place depth s z (TakeLinkLoad carrier next) none stands = absurd (unclaimed_carrier z carrier stands)
-claimed_sleeps place depth s z (GrantWakeStore carrier oldest) none stands = absurd (unclaimed_carrier z carrier stands)
-claimed_sleeps place depth s z (EnterOwnerStore entrant how) none stands = absurd (unclaimed_entrant z entrant how stands)
-claimed_sleeps place depth s z _ none stands = cc
+no_entrant : (standing : Standing) (entrant : Entrant) (how : How) → standing ≢ apart → is_queued standing ≡ false → StandsAsEntrant standing entrant how → ⊥
+no_entrant standing Entrant.Locker (How.Queued stamp) away unqueued stands = let f = rw unqueued at stands in cc
+no_entrant standing _ how away unqueued stands = away stands
+
+-- sleeps since a start_wait
+sleeps_at : (place : Responsibility) (depth s : ℕ) (standing : Standing) (p : Point) → grant_at place s ≡ None → standing ≢ apart → standing ≢ asks s
+    → is_queued standing ≡ false → StandsAt place depth s standing p → sleeps_as_waiter p ≡ true
+sleeps_at place depth s standing (Asleep Sleeper.Waiter) none away own unqueued stands = refl
+sleeps_at place depth s standing (ReceiveWakeLoad Sleeper.Waiter) none away own unqueued stands = refl
+sleeps_at place depth s standing (Asleep Sleeper.Locker) none away own unqueued stands = let f = rw (none, unqueued) at stands in cc
+sleeps_at place depth s standing (ReceiveWakeLoad Sleeper.Locker) none away own unqueued stands = let f = rw (none, unqueued) at stands in cc
+sleeps_at place depth s standing LockOwnerLoad none away own unqueued stands = absurd (no_owner_load (eqb depth 0) s standing away own stands)
+sleeps_at place depth s standing (PushLoad pusher) none away own unqueued stands = absurd (no_pusher s standing pusher away own stands)
+sleeps_at place depth s standing (LinkStore pusher seen) none away own unqueued stands = absurd (no_pusher s standing pusher away own stands)
+sleeps_at place depth s standing (PushExchange pusher seen) none away own unqueued stands = absurd (no_pusher s standing pusher away own stands)
+sleeps_at place depth s standing (PushedHandoffLoad pusher) none away own unqueued stands = absurd (no_awaiting place s standing pusher none away unqueued stands)
+sleeps_at place depth s standing (PushedHandoffExchange pusher seen) none away own unqueued stands = absurd (no_awaiting place s standing pusher none away unqueued stands)
+sleeps_at place depth s standing (TakeClearHead carrier) none away own unqueued stands = absurd (no_carrier standing carrier away unqueued stands)
+sleeps_at place depth s standing (TakeLinkLoad carrier next) none away own unqueued stands = absurd (no_carrier standing carrier away unqueued stands)
+sleeps_at place depth s standing (GrantWakeStore carrier oldest) none away own unqueued stands = absurd (no_carrier standing carrier away unqueued stands)
+sleeps_at place depth s standing (EnterOwnerStore entrant how) none away own unqueued stands = absurd (no_entrant standing entrant how away unqueued stands)
+sleeps_at place depth s standing _ none away own unqueued stands = absurd (away stands)
+
+-- so a seat does that a send has claimed
+pub claimed_sleeps_at : (place : Responsibility) (depth s z : ℕ) (p : Point) → grant_at place s ≡ None → StandsAt place depth s (claimed z) p → sleeps_as_waiter p ≡ true
+claimed_sleeps_at place depth s z p none stands = sleeps_at place depth s (claimed z) p none (λ e. cc) (λ e. cc) refl stands
+
+-- and one that asks by another seat's send
+pub asked_sleeps_at : (place : Responsibility) (depth s z : ℕ) (p : Point) → s ≢ z → grant_at place s ≡ None → StandsAt place depth s (asks z) p → sleeps_as_waiter p ≡ true
+asked_sleeps_at place depth s z p other none stands = sleeps_at place depth s (asks z) p none (λ e. cc) (λ e. other cc) refl stands

@@ -14,8 +14,8 @@ use Rattle.lfm_core.specs.Steady.{GivesAway, Fits}
 use Rattle.lfm_core.specs.Views.{due_posts_of_carrier, due_posts_of_granter}
 use Rattle.lfm_core.proofs.steady.Carrying.{walking}
 use Rattle.lfm_core.proofs.steady.Seated.{seat_of_stamp}
-use Rattle.lfm_core.proofs.steady.Serving.{same_outcome}
 use Rattle.lfm_core.proofs.steady.Walking.{Finds, finds, walked_record, walked_on, walks}
+use Rattle.lfm_core.proofs.steady.Quiet.{walk_kept}
 
 -- a grant has no more posts to come than the take before it
 granter_posts : (carrier : Carrier) → due_posts_of_granter carrier ≤ due_posts_of_carrier carrier
@@ -93,29 +93,29 @@ takes_own c g s t is at fits found last own =
 
 leads : (c : Core) (g : Ghost) (s t : ℕ) (carrier : Carrier) → IsSeat c.seats s → (seat c.seats s).point ≡ TakeLinkLoad carrier t → Fits c g → Finds c g t → g.walk ≢ 1 → Kept c g s
 leads c g s t carrier is at fits found more =
-    rw (at, at, ne_eqb (link c.links t).next 0 (leads_to_some c g t fits found more)) (same_outcome g _ (g.walk - 1) (walks_on c g s t carrier is at fits found more))
+    rw (at, at, ne_eqb (link c.links t).next 0 (leads_to_some c g t fits found more)) (walk_kept g _ (g.walk - 1) (walks_on c g s t carrier is at fits found more))
 
 ends_as_locker : (c : Core) (g : Ghost) (s t : ℕ) → IsSeat c.seats s → (seat c.seats s).point ≡ TakeLinkLoad Carrier.Locker t → Fits c g → Finds c g t → g.walk ≡ 1 → Kept c g s
 ends_as_locker c g s t is at fits found last =
     let ends = eq-eqb (link c.links t).next 0 (ends_there c g t found last) in
     elim (cases_eq t s) [
-      | inl own ↦ rw (at, at, ends, eq-eqb t s own) (same_outcome g _ (g.walk - 1) (takes_own c g s t is at fits found last own))
-      | inr other ↦ rw (at, at, ends, ne_eqb t s other) (same_outcome g _ (g.walk - 1) (gives c g s t Carrier.Locker is at fits found last other))
+      | inl own ↦ rw (at, at, ends, eq-eqb t s own) (walk_kept g _ (g.walk - 1) (takes_own c g s t is at fits found last own))
+      | inr other ↦ rw (at, at, ends, ne_eqb t s other) (walk_kept g _ (g.walk - 1) (gives c g s t Carrier.Locker is at fits found last other))
     ]
 
 ends_as_releaser : (c : Core) (g : Ghost) (s t : ℕ) (releaser : Releaser) → IsSeat c.seats s → (seat c.seats s).point ≡ TakeLinkLoad (Carrier.Releaser releaser) t → Fits c g → Finds c g t → g.walk ≡ 1
     → Kept c g s
 ends_as_releaser c g s t releaser is at fits found last =
-    rw (at, at, eq-eqb (link c.links t).next 0 (ends_there c g t found last)) (same_outcome g _ (g.walk - 1) (gives c g s t (Carrier.Releaser releaser) is at fits found last tt))
+    rw (at, at, eq-eqb (link c.links t).next 0 (ends_there c g t found last)) (walk_kept g _ (g.walk - 1) (gives c g s t (Carrier.Releaser releaser) is at fits found last tt))
 
 ends_as_reclaimer : (c : Core) (g : Ghost) (s t : ℕ) (releaser : Releaser) → IsSeat c.seats s → (seat c.seats s).point ≡ TakeLinkLoad (Carrier.Reclaimer releaser) t → Fits c g → Finds c g t → g.walk ≡ 1
     → Kept c g s
 ends_as_reclaimer c g s t releaser is at fits found last =
-    rw (at, at, eq-eqb (link c.links t).next 0 (ends_there c g t found last)) (same_outcome g _ (g.walk - 1) (gives c g s t (Carrier.Reclaimer releaser) is at fits found last tt))
+    rw (at, at, eq-eqb (link c.links t).next 0 (ends_there c g t found last)) (walk_kept g _ (g.walk - 1) (gives c g s t (Carrier.Reclaimer releaser) is at fits found last tt))
 
 ends_as_sender : (c : Core) (g : Ghost) (s t : ℕ) → IsSeat c.seats s → (seat c.seats s).point ≡ TakeLinkLoad Carrier.Sender t → Fits c g → Finds c g t → g.walk ≡ 1 → Kept c g s
 ends_as_sender c g s t is at fits found last =
-    rw (at, at, eq-eqb (link c.links t).next 0 (ends_there c g t found last)) (same_outcome g _ (g.walk - 1) (gives c g s t Carrier.Sender is at fits found last tt))
+    rw (at, at, eq-eqb (link c.links t).next 0 (ends_there c g t found last)) (walk_kept g _ (g.walk - 1) (gives c g s t Carrier.Sender is at fits found last tt))
 
 ends : (c : Core) (g : Ghost) (s t : ℕ) (carrier : Carrier) → IsSeat c.seats s → (seat c.seats s).point ≡ TakeLinkLoad carrier t → Fits c g → Finds c g t → g.walk ≡ 1 → Kept c g s
 ends c g s t Carrier.Locker is at fits found last = ends_as_locker c g s t is at fits found last

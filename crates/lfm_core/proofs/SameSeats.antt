@@ -14,11 +14,11 @@ use Rattle.lfm_words.specs.declared.wakes.Wake.{Wake}
 use Rattle.lfm_words.specs.declared.wakes.Wake.TheVariants.{Waiting}
 use Rattle.lfm_core.proofs.steady.Entries.{length-with_entry}
 
-seats-claims_word : (c : Core) (t : ℕ) (w : Wake) → (claims_word c t w).seats ≡ c.seats
+pub seats-claims_word : (c : Core) (t : ℕ) (w : Wake) → (claims_word c t w).seats ≡ c.seats
 seats-claims_word c t Waiting = refl
 seats-claims_word c t _ = refl
 
-seats-step_of : (c : Core) (s t : ℕ) (k : Option Kind) → length (step_of c s t k).core.seats ≡ length c.seats
+pub seats-step_of : (c : Core) (s t : ℕ) (k : Option Kind) → length (step_of c s t k).core.seats ≡ length c.seats
 seats-step_of c s t None = refl
 seats-step_of c s t (Some Kind.CountExchange) = length-with_entry c.seats s _
 seats-step_of c s t (Some Kind.CountAdd) = length-with_entry c.seats s _
@@ -47,7 +47,7 @@ seats_of_two c false x y p q = q
 seats-step : (c : Core) (s : ℕ) → length (step c s).core.seats ≡ length c.seats
 seats-step c s = seats_of_two c (is_seat c.seats s) _ _ (seats-step_of c s _ _) refl
 
-seats-begin : (c : Core) (s : ℕ) (call : Call) → length (begin c s call).core.seats ≡ length c.seats
+pub seats-begin : (c : Core) (s : ℕ) (call : Call) → length (begin c s call).core.seats ≡ length c.seats
 seats-begin c s call = seats_of_two c (is_seat c.seats s) _ _ (length-with_entry c.seats s _) refl
 
 seats-steps : (most : ℕ) (c : Core) (s : ℕ) → length (steps most c s).core.seats ≡ length c.seats

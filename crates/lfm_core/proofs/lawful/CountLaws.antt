@@ -9,7 +9,8 @@ use Rattle.lfm_core.specs.Reading.{Reads}
 use Rattle.lfm_core.specs.Steady.{Steady}
 use Rattle.lfm_core.proofs.lawful.CountRead.{zero_count_is_free, free_counts_zero}
 use Rattle.lfm_core.proofs.lawful.Reached.{steady_reached}
-use Rattle.lfm_core.proofs.lawful.Readings.{reads_ghost, reads_once, place_read}
+use Rattle.lfm_core.proofs.lawful.Readings.{reads_ghost, reads_once}
+use Rattle.lfm_core.proofs.lawful.PlacesRead.{place_told}
 
 -- a reading of a steady state has the place of its ghost
 place_of_reading : (c : Core) (a : AbstractMutex) (steady : Steady c) → Reads c a → a.place ≡ abstract_place steady.ghost_state.place
@@ -24,4 +25,4 @@ count_is_zero_where_free c a is reads =
 pub places_are_read : PlacesAreRead
 places_are_read c a is reads =
     let steady = steady_reached c is in
-    place_read c steady.ghost_state steady.fits ∙ ap printed (sym (place_of_reading c a steady reads))
+    place_told c steady.ghost_state steady.fits ∙ ap printed (sym (place_of_reading c a steady reads))

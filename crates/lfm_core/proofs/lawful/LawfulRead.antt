@@ -17,9 +17,10 @@ use Rattle.lfm_core.specs.Seats.{seat, wake}
 use Rattle.lfm_core.specs.Steady.{KnowsAt, Fits}
 use Rattle.lfm_core.specs.Views.{by_depth, claim_of_pusher, claim_to_enter, claim_at, claim, grant_at, is_entered, wake_of_waiter, wake_at, wake_by}
 use Rattle.lfm_core.proofs.lawful.QueueRead.{waits_told, queue_distinct, queue_ends}
-use Rattle.lfm_core.proofs.lawful.Readings.{reads_ghost, counted_ghost, owner_read}
+use Rattle.lfm_core.proofs.lawful.Readings.{reads_ghost, owner_read}
 use Rattle.lfm_core.proofs.steady.Seated.{seat_of_standing}
 use Rattle.lfm_core.proofs.lawful.WatchedRead.{watched_read}
+use Rattle.lfm_core.proofs.lawful.CountRead.{counted_read}
 
 -- each number that was read was posted
 numbers_known : (c : Core) (g : Ghost) (s posts : ℕ) (p : Point) → KnowsAt c g s posts p → ReadBefore c.seats p
@@ -136,7 +137,7 @@ lawful_read c g fits =
       owner_word = owner_read c g fits;
       distinct = queue_distinct c g fits;
       stamps = queue_ends c g fits;
-      count = counted_ghost c g fits;
+      count = counted_read c g fits;
       watched = watched_read c g fits;
       number = λ some. (fits.each c.handoff.seat).number refl some;
       numbers = λ s. numbers_known c g s (seat c.seats s).posts (seat c.seats s).point (fits.each s).knows;

@@ -27,7 +27,8 @@ use Rattle.lfm_core.specs.Views.{claim_at, claim_to_enter, held_by}
 use Rattle.lfm_core.proofs.steady.Entries.{length-with_entry, seat-with_same, seat-with_other}
 use Rattle.lfm_core.proofs.steady.Frames.{place_of_claim}
 use Rattle.lfm_core.proofs.steady.Seated.{seat_of_point}
-use Rattle.lfm_core.proofs.steady.Popping.{nobody_serves}
+use Rattle.lfm_core.proofs.SameSeats.{seats-claims_word, seats-step_of, seats-begin}
+use Rattle.lfm_core.proofs.steady.Carrying.{nobody_serves}
 
 -- The acting seat
 
@@ -55,10 +56,6 @@ stepped_by c s t (Some Kind.WakeExchange) = after_wake_exchange (seat c.seats s)
 abbrev pub stepped : Core → ℕ → Stepped
 stepped c s = stepped_by c s (target (seat c.seats s).point s) (kind (seat c.seats s).point)
 
-seats_claimed : (c : Core) (t : ℕ) (w : Wake) → (claims_word c t w).seats ≡ c.seats
-seats_claimed c t Waiting = refl
-seats_claimed c t _ = refl
-
 -- the seats after a step, which of a kind that there is changes one entry
 data SeatsAfter (c : Core) (s : ℕ) (x : SeatState) (seats : List SeatState) : Type 0 where
   same : seats ≡ c.seats → x ≡ seat c.seats s → SeatsAfter c s x seats
@@ -82,7 +79,7 @@ seats_after c s t (Some Kind.HandoffExchange) = moved refl
 seats_after c s t (Some Kind.WakeLoad) = moved refl
 seats_after c s t (Some Kind.WakeStore) = moved refl
 seats_after c s t (Some Kind.WakeExchange) =
-    moved (ap (λ seats. with_entry seats s (after_wake_exchange (seat c.seats s) (wake c.wakes t)).seat) (seats_claimed c t (wake c.wakes t)))
+    moved (ap (λ seats. with_entry seats s (after_wake_exchange (seat c.seats s) (wake c.wakes t)).seat) (seats-claims_word c t (wake c.wakes t)))
 
 own_after : (c : Core) (s : ℕ) (x : SeatState) (seats : List SeatState) → IsSeat c.seats s → SeatsAfter c s x seats → seat seats s ≡ x
 own_after c s x seats is (same all here) = rw all (sym here)
@@ -92,10 +89,6 @@ other_after : (c : Core) (s u : ℕ) (x : SeatState) (seats : List SeatState) �
 other_after c s u x seats other (same all here) = rw all refl
 other_after c s u x seats other (moved all) = rw all (seat-with_other c.seats s u x other)
 
-size_after : (c : Core) (s : ℕ) (x : SeatState) (seats : List SeatState) → SeatsAfter c s x seats → length seats ≡ length c.seats
-size_after c s x seats (same all here) = ap length all
-size_after c s x seats (moved all) = ap length all ∙ length-with_entry c.seats s x
-
 pub own_made : (c : Core) (s : ℕ) → IsSeat c.seats s → seat (made c s).core.seats s ≡ (stepped c s).seat
 own_made c s is = own_after c s _ _ is (seats_after c s (target (seat c.seats s).point s) (kind (seat c.seats s).point))
 
@@ -103,7 +96,7 @@ pub other_made : (c : Core) (s u : ℕ) → u ≢ s → seat (made c s).core.sea
 other_made c s u other = other_after c s u _ _ other (seats_after c s (target (seat c.seats s).point s) (kind (seat c.seats s).point))
 
 pub size_made : (c : Core) (s : ℕ) → length (made c s).core.seats ≡ length c.seats
-size_made c s = size_after c s _ _ (seats_after c s (target (seat c.seats s).point s) (kind (seat c.seats s).point))
+size_made c s = seats-step_of c s (target (seat c.seats s).point s) (kind (seat c.seats s).point)
 
 -- The pop list
 
@@ -178,13 +171,6 @@ begun_self c s call inside =
       | inr none ↦ rw none refl
     ]
 
-pub begun_size : (c : Core) (t : ℕ) (call : Call) → length (begin c t call).core.seats ≡ length c.seats
-begun_size c t call =
-    elim (cases_Bool (is_seat c.seats t)) [
-      | inl is ↦ rw is (length-with_entry c.seats t _)
-      | inr none ↦ rw none refl
-    ]
-
 begun_popped : (c : Core) (t : ℕ) (call : Call) → (begin c t call).core.popped ≡ c.popped
 begun_popped c t call =
     elim (cases_Bool (is_seat c.seats t)) [
@@ -211,7 +197,7 @@ begin_leaves c t s call inside =
         | inl own ↦ rw own (begun_self c t call (rw own at inside))
         | inr other ↦ begun_other c t s call other
       ];
-      size = begun_size c t call;
+      size = seats-begin c t call;
       popped = λ e. begun_popped c t call;
     }
 

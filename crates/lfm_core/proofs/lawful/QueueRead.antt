@@ -19,6 +19,7 @@ use Rattle.lfm_core.proofs.lawful.RecordsRead.{length-records, get_or-records}
 use Rattle.lfm_core.proofs.steady.Room.{queue_fits}
 use Rattle.lfm_core.proofs.steady.Seated.{seat_of_stamp}
 use Rattle.lfm_core.proofs.lawful.Unwalked.{unwalked_read}
+use Rattle.lfm_core.proofs.steady.Popping.{queued_injective}
 
 -- The parts of the queue
 
@@ -109,9 +110,6 @@ told_as c g t (queued stamp) fits stands listed = let here = listed stamp refl i
 pub waits_told : (c : Core) (g : Ghost) → Fits c g → (t : ℕ) → is_queued (g.standing t) ≡ true → Waits c t
 waits_told c g fits t stands = told_as c g t (g.standing t) fits stands (fits.each t).listed
 
-queued_once : (x y : ℕ) → queued x ≡ queued y → x ≡ y
-queued_once x y e = cc
-
 pub queue_distinct : (c : Core) (g : Ghost) → Fits c g → AllPairs (λ r q. r.seat ≢ q.seat) (queue_of c)
 queue_distinct c g fits i j d before within same =
     let last : j < g.pushed - g.popped = omega (arith, within, queue_length c g fits) in
@@ -119,7 +117,7 @@ queue_distinct c g fits i j d before within same =
     let one = queue_at c g fits i d first in
     let other = queue_at c g fits j d last in
     let seats : g.pushed_at (g.popped + i + 1) ≡ g.pushed_at (g.popped + j + 1) = ap (λ r. r.seat) (sym one) ∙ same ∙ ap (λ r. r.seat) other in
-    let stamps = queued_once (g.popped + i + 1) (g.popped + j + 1) (sym (stands_queued c g fits i first) ∙ ap g.standing seats ∙ stands_queued c g fits j last) in
+    let stamps = queued_injective (g.popped + i + 1) (g.popped + j + 1) (sym (stands_queued c g fits i first) ∙ ap g.standing seats ∙ stands_queued c g fits j last) in
     absurd (omega (arith, stamps, before))
 
 pub queue_ends : (c : Core) (g : Ghost) → Fits c g → EndsAt c.push.stamp (queue_of c)

@@ -12,8 +12,6 @@ use Rattle.lfm_core.specs.Reading.{ReadsPlace, seats_of, Reads, IsCounted}
 use Rattle.lfm_core.specs.Steady.{owner_of, Fits}
 use Rattle.lfm_core.proofs.lawful.AskingRead.{asks_read, asked_read}
 use Rattle.lfm_core.proofs.lawful.ClaimsRead.{reads_place}
-use Rattle.lfm_core.proofs.lawful.CountRead.{counted_read}
-use Rattle.lfm_core.proofs.lawful.PlacesRead.{place_told}
 use Rattle.lfm_core.proofs.lawful.QueueRead.{queue_read}
 
 pub reads_ghost : (c : Core) (g : Ghost) → Fits c g → Reads c (abstract g)
@@ -57,15 +55,9 @@ reads_once c a b first second =
       waiting = second.waiting ∙ sym first.waiting;
     }
 
-pub counted_ghost : (c : Core) (g : Ghost) → Fits c g → IsCounted c (abstract g)
-counted_ghost c g fits = counted_read c g fits
-
 owner_told : (place : Responsibility) → owner_of place ≡ owning_seat (abstract_place place)
 owner_told (owned s again) = refl
 owner_told _ = refl
 
 pub owner_read : (c : Core) (g : Ghost) → Fits c g → c.owner ≡ owning_seat (abstract_place g.place)
 owner_read c g fits = fits.words.owner ∙ owner_told g.place
-
-pub place_read : (c : Core) (g : Ghost) → Fits c g → place_of c ≡ printed (abstract_place g.place)
-place_read c g fits = place_told c g fits

@@ -16,10 +16,10 @@ use Rattle.lfm_core.specs.Seats.{seat, is_seat}
 use Rattle.lfm_core.specs.Step.{begin}
 use Rattle.lfm_core.proofs.lawful.CallWeights.{room_left, weight_le}
 use Rattle.lfm_core.proofs.steady.Entries.{seat-with_same}
-use Rattle.lfm_core.proofs.lawful.Leaving.{begun_size}
 use Rattle.lfm_core.proofs.lawful.Reached.{begin_keeps, steady_reached}
 use Rattle.lfm_core.proofs.lawful.ReleaseFalls.{among_release, steps_left, Within, steps_fall, of_turns}
 use Rattle.lfm_core.proofs.steady.Seated.{seat_of_test}
+use Rattle.lfm_core.proofs.SameSeats.{seats-begin}
 
 -- Where no call is open, none of these steps are left
 
@@ -71,7 +71,7 @@ bounded c s more call events is within =
     let fits = begin_keeps c steady.ghost_state s call steady.fits in
     let most = weight_le (λ p. 1) steps_left among_release steps_fall (begin c s call).core s events (record { ghost_state = steady.ghost_state; fits = fits }) within.0 in
     let few = within.1 in
-    let size = begun_size c s call in
+    let size = seats-begin c s call in
     omega (arith, most, few, size)
 
 pub unlocks_are_bounded : UnlocksAreBounded

@@ -20,7 +20,8 @@ use Rattle.lfm_core.specs.Stores.{expected_push_at}
 use Rattle.lfm_core.specs.Begin.{Stepped}
 use Rattle.lfm_core.specs.Core.{Core, drops_if}
 use Rattle.lfm_core.specs.Lines.{is_open}
-use Rattle.lfm_core.proofs.lawful.StepsLeft.{again_unless, left_of_carrier, left_at, room_of}
+use Rattle.lfm_core.proofs.lawful.StepsLeft.{again_unless, left_of_carrier, left_at}
+use Rattle.lfm_core.proofs.lawful.CallWeights.{room_left}
 
 -- a step after which the seat's call goes on leaves it fewer steps than this
 abbrev pub Lower : Link → ℕ → ℕ → Stepped → Type 0
@@ -92,7 +93,7 @@ owner_load_lower push room x s found TryOwnerLoad goes =
     either push room 5 (nat_eq found s) _ _ (λ own. absurd (false≢true own)) (λ other. omega arith) goes
 owner_load_lower push room x s found _ goes = absurd (false≢true goes)
 
-pub owner_store_lower : (c : Core) (x : SeatState) (p : Point) → Lower c.push (room_of (drops_if c (drops_oldest_at p))) (left_at c.push (room_of c) p) (after_owner_store_at x p)
+pub owner_store_lower : (c : Core) (x : SeatState) (p : Point) → Lower c.push (room_left (drops_if c (drops_oldest_at p))) (left_at c.push (room_left c) p) (after_owner_store_at x p)
 owner_store_lower c x (ReleaseOwnerStore releaser) goes = omega arith
 owner_store_lower c x _ goes = absurd (false≢true goes)
 

@@ -8,6 +8,7 @@ use Rattle.lfm_words.specs.declared.links.Link.{Link}
 use Rattle.lfm_core.specs.After.{same_link}
 use Rattle.lfm_core.specs.Core.{Core}
 use Rattle.lfm_core.specs.Seats.{seat}
+use Rattle.lfm_core.proofs.lawful.CallWeights.{room_left}
 
 -- a push exchange that has seen another word fails, and its link is stored once more
 abbrev pub again_unless : Bool → ℕ
@@ -51,12 +52,8 @@ left_at push room (EnterOwnerStore entrant how) = 1
 left_at push room (ReceiveWakeLoad sleeper) = 3
 left_at push room (ReceiveWakeStore stamp) = 2
 
--- how many records the pop list still has room for
-abbrev pub room_of : Core → ℕ
-room_of c = length c.seats - length c.popped
-
 abbrev pub left : Core → ℕ → ℕ
-left c s = left_at c.push (room_of c) (seat c.seats s).point
+left c s = left_at c.push (room_left c) (seat c.seats s).point
 
 again_unless-le : (same : Bool) → again_unless same ≤ 2
 again_unless-le true = omega arith
@@ -74,4 +71,4 @@ left_at-le push room _ = omega arith
 
 -- the longest call clears and walks the records of all seats
 pub left-le : (c : Core) (s : ℕ) → left c s ≤ length c.seats + 11
-left-le c s = omega (arith, left_at-le c.push (room_of c) (seat c.seats s).point)
+left-le c s = omega (arith, left_at-le c.push (room_left c) (seat c.seats s).point)

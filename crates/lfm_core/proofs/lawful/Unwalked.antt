@@ -16,7 +16,7 @@ use Rattle.lfm_core.specs.Steady.{EntersFits, KnowsAt, CarriedFits, newest, Fits
 use Rattle.lfm_core.specs.Views.{by_depth, claim_to_enter, claim_of_pusher, claim_at, held_by}
 use Rattle.lfm_core.proofs.steady.Frames.{held_by-other}
 use Rattle.lfm_core.proofs.steady.Seated.{seat_of_stamp}
-use Rattle.lfm_core.proofs.steady.Popping.{nobody_serves}
+use Rattle.lfm_core.proofs.steady.Carrying.{nobody_serves}
 
 -- no seat walks
 unwalked_none : (seats : List SeatState) → ((n : ℕ) → unwalked_at (get_or seats n absent).point ≡ 0) → unwalked seats ≡ 0

@@ -20,13 +20,14 @@ use Rattle.lfm_core.proofs.lawful.QueueRead.{waits_told}
 use Rattle.lfm_core.proofs.steady.Seated.{seat_of_stamp}
 use Rattle.lfm_core.proofs.steady.Serving.{queue_of_queued}
 use Rattle.lfm_core.proofs.steady.Handoffs.{posted_of}
+use Rattle.lfm_core.proofs.steady.Pushers.{newest_is}
 
 -- nothing being cleared or popped, the push word leads to the queue
 pub head_some : (c : Core) (g : Ghost) → Fits c g → g.walk ≡ 0 → c.popped ≡ [] → HasQueue g → 0 < c.push.next
 head_some c g fits walked empty some =
     let none : length c.popped ≡ 0 = ap length empty in
     let away : cleared c g ≢ g.pushed = λ e. omega arith in
-    let head = rw (ne_eqb (cleared c g) g.pushed away) at fits.words.head in
+    let head = newest_is c g fits away in
     let is = seat_of_stamp c g g.pushed fits some (omega arith) in
     omega (arith, is.above, head)
 

@@ -21,6 +21,7 @@ use Rattle.lfm_core.specs.Views.{is_some, grant_at, claim_at, by_depth, wake_at,
 use Rattle.lfm_core.proofs.steady.Frames.{view_moves}
 use Rattle.lfm_core.proofs.steady.Histories.{history_stays}
 use Rattle.lfm_core.proofs.steady.Wakings.{none_from, wake_to_load}
+use Rattle.lfm_core.proofs.steady.Seated.{seat_of_test}
 
 -- Refused and idle steps
 
@@ -43,11 +44,6 @@ at_Asleep c g s sleeper is at fits =
     })
 
 -- A seat that leaves its rest
-
-seat_from : (seats : List SeatState) (s : ℕ) → is_seat seats s ≡ true → IsSeat seats s
-seat_from seats s e =
-    let h = and_parts (ltb 0 s) (ltb s (length seats + 1)) e in
-    record { above = ltb-true 0 s h.0; within = omega (arith, ltb-true s (length seats + 1) h.1) }
 
 -- what the point and the depth at which it goes on have to meet
 pub record Leaves (c : Core) (g : Ghost) (s depth depth' takes' posts : ℕ) (p : Point) (w : Wake) : Type 0 where
@@ -231,7 +227,7 @@ begin_send_keeps c g s t is at fits =
         woken = refl;
         stands = λ e. e;
         deep = here.depth;
-        knows = seat_from c.seats t known;
+        knows = seat_of_test c.seats t known;
         within = here.takes;
         post_room = here.posts;
         push_room = here.pushes;
@@ -304,6 +300,6 @@ begin_at_keeps c g s call _ is at fits = stays c g s is fits
 pub begin_keeps : (c : Core) (g : Ghost) (s : ℕ) (call : Call) → Fits c g → Fits (begin c s call).core g
 begin_keeps c g s call fits =
     elim (cases_Bool (is_seat c.seats s)) [
-      | inl known ↦ rw known (begin_at_keeps c g s call (seat c.seats s).point (seat_from c.seats s known) refl fits)
+      | inl known ↦ rw known (begin_at_keeps c g s call (seat c.seats s).point (seat_of_test c.seats s known) refl fits)
       | inr unknown ↦ rw unknown fits
     ]

@@ -43,8 +43,8 @@ seen_after stamp next head here l seen =
       ];
     }
 
-serving_some : (t : ℕ) → nobody ≢ serving t
-serving_some t e = cc
+pub nobody_serves : (t : ℕ) → nobody ≢ serving t
+nobody_serves t e = cc
 
 pub serving_unposted : (s : ℕ) → serving s ≢ posted
 serving_unposted s e = cc
@@ -68,7 +68,7 @@ carries_unseen c g s y head walk popped t x is posts serves here other =
       number = λ e above. refl;
       head = λ n within stays. stays;
       seen = seen_after c.push.stamp c.push.next head here;
-      carrier = λ e. let none = held_by-other g.place s t (rw serves refl) other in let f : nobody ≡ serving t = sym none ∙ e in absurd (serving_some t f);
+      carrier = λ e. let none = held_by-other g.place s t (rw serves refl) other in let f : nobody ≡ serving t = sym none ∙ e in absurd (nobody_serves t f);
       budget = refl;
       pushes = refl;
       watches = λ before e. absurd (serving_unposted s (sym serves ∙ e));

@@ -12,7 +12,7 @@ use Rattle.lfm_core.specs.Steady.{HasQueue, cleared, StampFits, Fits}
 use Rattle.lfm_core.proofs.steady.Carrying.{carried_core, walking, carries_on}
 use Rattle.lfm_core.proofs.steady.Frames.{place_of_claim}
 use Rattle.lfm_core.proofs.steady.Serving.{goes_own, queue_of_queued}
-use Rattle.lfm_core.proofs.steady.Pushers.{head_has_queue}
+use Rattle.lfm_core.proofs.steady.Pushers.{head_has_queue, newest_is}
 use Rattle.lfm_core.proofs.steady.Quiet.{walk_kept}
 
 -- nothing is to be walked and the pop list is empty before the clear
@@ -23,7 +23,7 @@ cleared_so_far c g walked empty = let short : length c.popped ≡ 0 = rw empty r
 newest_of_queue : (c : Core) (g : Ghost) → Fits c g → g.walk ≡ 0 → c.popped ≡ [] → HasQueue g → c.push.next ≡ g.pushed_at g.pushed
 newest_of_queue c g fits walked empty some =
     let so_far = cleared_so_far c g walked empty in
-    rw (ne_eqb (cleared c g) g.pushed (λ e. absurd (omega (arith, so_far, e, some)))) at fits.words.head
+    newest_is c g fits (λ e. absurd (omega (arith, so_far, e, some)))
 
 -- the records of the queue were fresh, and are now to be walked
 cleared_stamps : (c : Core) (g : Ghost) → Fits c g → g.walk ≡ 0 → c.popped ≡ [] → (stamp : ℕ) → g.popped < stamp → stamp ≤ g.pushed

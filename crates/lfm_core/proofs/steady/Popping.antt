@@ -16,6 +16,7 @@ use Rattle.lfm_core.proofs.steady.Frames.{Sees, Errands, agents_after, held_by-o
 use Rattle.lfm_core.proofs.steady.Handing.{handed, each_after_two}
 use Rattle.lfm_core.proofs.steady.Sums.{changed_same, changed_other, sum_agrees, sum_update}
 use Rattle.lfm_core.proofs.steady.Seated.{seat_of_queued}
+use Rattle.lfm_core.proofs.steady.Carrying.{nobody_serves}
 
 -- The queue's first record
 
@@ -55,7 +56,7 @@ first_record_is g r stamp here = λ i. record { seat = sym here i; stamp = stamp
 
 -- What stays of the rest of the queue
 
-queued_injective : (m n : ℕ) → queued m ≡ queued n → m ≡ n
+pub queued_injective : (m n : ℕ) → queued m ≡ queued n → m ≡ n
 queued_injective m n e = cc
 
 -- the ghost once the record of seat u has left the queue, the responsibility lying here, and so many having answered
@@ -129,9 +130,6 @@ pub listed_popped : (g : Ghost) (u : ℕ) (place : Responsibility) (answered t s
 listed_popped g u place answered t stamp first away was =
     let differ : stamp ≢ g.popped + 1 = λ e. away (sym was.here ∙ ap g.pushed_at e ∙ first) in
     record { above = omega (arith, was.above, differ); within = was.within; here = was.here }
-
-pub nobody_serves : (t : ℕ) → nobody ≢ serving t
-nobody_serves t e = cc
 
 -- The whole state
 

@@ -1,5 +1,5 @@
--- A seat that a send has claimed sleeps since its start_wait, and goes on as it does when it is counted.
-use Rattle.std.proofs.Common.{◌≡◌, ◌≢◌, ℕ, Bool, true, false, cond, Option, Some, None, inl, inr, refl, nat_eq}
+-- A seat that sleeps since its start_wait fits however it stands, and a seat that a send has claimed sleeps so.
+use Rattle.std.proofs.Common.{◌≡◌, ◌≢◌, ℕ, Bool, true, false, cond, Option, Some, None, inl, inr, refl, nat_eq, ◌+◌, ◌≤◌, sym, ◌∙◌}
 use Rattle.lfm_model.specs.declared.answers.How.{How}
 use Rattle.lfm_core.specs.declared.points.Carrier.{Carrier}
 use Rattle.lfm_core.specs.declared.points.Entrant.{Entrant}
@@ -11,45 +11,48 @@ use Rattle.lfm_core.specs.declared.seats.SeatState.{SeatState}
 use Rattle.lfm_words.specs.declared.wakes.Wake.{Wake}
 use Rattle.lfm_words.specs.declared.wakes.Wake.TheVariants.{Waiting, Claimed}
 use Rattle.lfm_core.specs.Core.{Core}
-use Rattle.lfm_core.specs.Ghost.{Responsibility, nobody, Standing, apart, claimed, asks, Ghost}
+use Rattle.lfm_core.specs.Ghost.{Responsibility, nobody, Standing, apart, claimed, asks, Ghost, queued, posted}
 use Rattle.lfm_core.specs.Seats.{IsSeat}
-use Rattle.lfm_core.specs.Steady.{KnowsAt, StandsAsPusher, AwaitsAsPusher, StandsAsCarrier, StandsAsEntrant, StandsAt, WatchesAt, awaits_grant, sleeps_as_waiter, SeatFits, Fits}
-use Rattle.lfm_core.specs.Views.{claim_at, held_by, grant_at, is_entered, is_some, wake_at, wake_by, due_to_waiter, due_pushes_at}
+use Rattle.lfm_core.specs.Steady.{KnowsAt, StandsAsPusher, AwaitsAsPusher, StandsAsCarrier, StandsAsEntrant, StandsAt, WatchesAt, awaits_grant, sleeps_as_waiter, SeatFits, Fits, QueuedFits}
+use Rattle.lfm_core.specs.Views.{claim_at, held_by, grant_at, is_entered, is_some, wake_at, wake_by, due_to_waiter, due_pushes_at, wake_of_waiter}
 use Rattle.lfm_core.proofs.steady.Wakings.{none_from, false_from, claimed_sleeps_at}
+use Rattle.std.proofs.lemmas.Bool.{false≢true}
 
--- What it reads is the same once it is counted
+-- What a seat that sleeps since a start_wait reads
 
-wake_at_claimed : (place : Responsibility) (u s : ℕ) (p : Point) → wake_at place (claimed s) u p ≡ wake_at place (asks s) u p
-wake_at_claimed place u s (Asleep Sleeper.Waiter) = refl
-wake_at_claimed place u s (ReceiveWakeLoad Sleeper.Waiter) = refl
-wake_at_claimed place u s _ = refl
+woken_asleep : (place : Responsibility) (standing : Standing) (u : ℕ) (p : Point) → sleeps_as_waiter p ≡ true → wake_at place standing u p ≡ wake_of_waiter place standing u
+woken_asleep place standing u (Asleep Sleeper.Waiter) sleeps = refl
+woken_asleep place standing u (ReceiveWakeLoad Sleeper.Waiter) sleeps = refl
+woken_asleep place standing u _ sleeps = absurd (cc sleeps)
 
-pub wake_by_claimed : (grant : Option ℕ) (place : Responsibility) (u s : ℕ) (p : Point) → wake_by grant place (claimed s) u p ≡ wake_by grant place (asks s) u p
-wake_by_claimed (Some stamp) place u s p = refl
-wake_by_claimed None place u s p = wake_at_claimed place u s p
+-- its wake word where nothing is granted to it
+pub wake_asleep : (c : Core) (g : Ghost) (u : ℕ) (x : SeatState) (w : Wake) → sleeps_as_waiter x.point ≡ true → grant_at g.place u ≡ None → SeatFits c g u x w
+    → w ≡ wake_of_waiter g.place (g.standing u) u
+wake_asleep c g u x w sleeps none fits = fits.woken ∙ rw none (woken_asleep g.place (g.standing u) u x.point sleeps)
 
-due_to_claimed : (w : Wake) (s : ℕ) → due_to_waiter w (asks s) ≡ due_to_waiter w (claimed s)
-due_to_claimed Waiting s = refl
-due_to_claimed Claimed s = refl
-due_to_claimed _ s = refl
+-- what it still pays for pushes
+due_asleep : (depth : ℕ) (w : Wake) (standing : Standing) (p : Point) → sleeps_as_waiter p ≡ true → due_pushes_at depth w standing p ≡ due_to_waiter w standing
+due_asleep depth w standing (Asleep Sleeper.Waiter) sleeps = refl
+due_asleep depth w standing (ReceiveWakeLoad Sleeper.Waiter) sleeps = refl
+due_asleep depth w standing _ sleeps = absurd (cc sleeps)
 
-pub due_claimed : (depth s : ℕ) (w : Wake) (p : Point) → due_pushes_at depth w (asks s) p ≡ due_pushes_at depth w (claimed s) p
-due_claimed depth s w (Asleep Sleeper.Waiter) = due_to_claimed w s
-due_claimed depth s w (ReceiveWakeLoad Sleeper.Waiter) = due_to_claimed w s
-due_claimed depth s w _ = refl
+pub pays_asleep : (c : Core) (g : Ghost) (u : ℕ) (x : SeatState) (w : Wake) → sleeps_as_waiter x.point ≡ true → SeatFits c g u x w
+    → g.pushes u + due_to_waiter w (g.standing u) ≤ x.takes
+pays_asleep c g u x w sleeps fits = rw (due_asleep x.depth w (g.standing u) x.point sleeps) at fits.pushes
 
-pub stands_asking : (place : Responsibility) (depth u s : ℕ) (p : Point) → sleeps_as_waiter p ≡ true → StandsAt place depth u (asks s) p
-stands_asking place depth u s (Asleep Sleeper.Waiter) sleeps = tt
-stands_asking place depth u s (ReceiveWakeLoad Sleeper.Waiter) sleeps = tt
-stands_asking place depth u s _ sleeps = absurd (cc sleeps)
+-- it may stand anyhow
+stands_asleep : (place : Responsibility) (depth u : ℕ) (standing : Standing) (p : Point) → sleeps_as_waiter p ≡ true → StandsAt place depth u standing p
+stands_asleep place depth u standing (Asleep Sleeper.Waiter) sleeps = tt
+stands_asleep place depth u standing (ReceiveWakeLoad Sleeper.Waiter) sleeps = tt
+stands_asleep place depth u standing _ sleeps = absurd (cc sleeps)
 
 -- a sleeping waiter knows of nothing and watches nothing
-pub knows_asleep : (c : Core) (g : Ghost) (u posts : ℕ) (p : Point) → sleeps_as_waiter p ≡ true → KnowsAt c g u posts p
+knows_asleep : (c : Core) (g : Ghost) (u posts : ℕ) (p : Point) → sleeps_as_waiter p ≡ true → KnowsAt c g u posts p
 knows_asleep c g u posts (Asleep Sleeper.Waiter) sleeps = tt
 knows_asleep c g u posts (ReceiveWakeLoad Sleeper.Waiter) sleeps = tt
 knows_asleep c g u posts _ sleeps = absurd (cc sleeps)
 
-pub watches_asleep : (c : Core) (g : Ghost) (u : ℕ) (x : SeatState) (p : Point) → sleeps_as_waiter p ≡ true → WatchesAt c g u x p → ⊥
+watches_asleep : (c : Core) (g : Ghost) (u : ℕ) (x : SeatState) (p : Point) → sleeps_as_waiter p ≡ true → WatchesAt c g u x p → ⊥
 watches_asleep c g u x (Asleep Sleeper.Waiter) sleeps watches = watches
 watches_asleep c g u x (ReceiveWakeLoad Sleeper.Waiter) sleeps watches = watches
 watches_asleep c g u x _ sleeps watches = absurd (cc sleeps)
@@ -59,6 +62,30 @@ pub claim_asleep : (depth u : ℕ) (p : Point) → sleeps_as_waiter p ≡ true �
 claim_asleep depth u (Asleep Sleeper.Waiter) sleeps = refl
 claim_asleep depth u (ReceiveWakeLoad Sleeper.Waiter) sleeps = refl
 claim_asleep depth u _ sleeps = absurd (cc sleeps)
+
+-- so it fits where it stands anew, as long as nothing is granted to it: its wake word, its record in the queue and what it pays
+-- are to be told
+pub sleeper_fits : (c d : Core) (g h : Ghost) (u : ℕ) (x : SeatState) (w v : Wake) → sleeps_as_waiter x.point ≡ true → SeatFits c g u x w
+    → d.handoff ≡ c.handoff → d.budget ≡ c.budget → held_by h.place u ≡ held_by g.place u → grant_at h.place u ≡ None
+    → v ≡ wake_of_waiter h.place (h.standing u) u → (is_entered h.place u ≡ true → held_by h.place u ≡ nobody → h.standing u ≡ apart)
+    → ((stamp : ℕ) → h.standing u ≡ queued stamp → QueuedFits h u stamp) → h.pushes u + due_to_waiter v (h.standing u) ≤ x.takes
+    → (h.place ≡ posted → h.watcher ≡ u → WatchesAt c g u x x.point) → SeatFits d h u x v
+sleeper_fits c d g h u x w v sleeps fits handoff budget held none woken entered listed pays watches =
+    record {
+      claims = fits.claims ∙ sym held;
+      woken = rw none (woken ∙ sym (woken_asleep h.place (h.standing u) u x.point sleeps));
+      granted = λ some. absurd (false≢true (rw none at some));
+      entered = λ into unheld. (sleeps, entered into unheld);
+      listed = listed;
+      stands = stands_asleep h.place x.depth u (h.standing u) x.point sleeps;
+      depth = fits.depth;
+      knows = knows_asleep d h u x.posts x.point sleeps;
+      number = rw handoff fits.number;
+      takes = rw budget fits.takes;
+      posts = fits.posts;
+      pushes = rw (due_asleep x.depth v (h.standing u) x.point sleeps) pays;
+      watches = λ place here. absurd (watches_asleep c g u x x.point sleeps (watches place here));
+    }
 
 pub not_apart : (s : ℕ) (standing : Standing) → standing ≡ claimed s → standing ≡ apart → ⊥
 not_apart s standing e f = cc

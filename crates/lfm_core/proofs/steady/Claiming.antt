@@ -20,6 +20,7 @@ use Rattle.lfm_core.proofs.steady.Standings.{zero_apart, agents_anew, sums_anew,
 use Rattle.lfm_core.proofs.steady.Sums.{changed_same, changed_other}
 use Rattle.lfm_core.proofs.steady.Wakings.{IsWaiting, waiting_of, claimed_sleeps_at}
 use Rattle.lfm_core.proofs.steady.Handing.{each_after_two}
+use Rattle.lfm_core.proofs.steady.Claimed.{sleeper_fits, wake_asleep, pays_asleep}
 
 -- The claim
 
@@ -39,44 +40,13 @@ pub record Claims (c : Core) (g : Ghost) (s u : ℕ) (y : SeatState) : Type 0 wh
   pub own : SeatFits c (claiming g s u) s y (wake c.wakes s)
 
 -- the seat that is claimed
-claimed_fits : (c : Core) (g : Ghost) (s u depth takes posts : ℕ) (p : Point) → IsWaiting g.place (g.standing u) u p
-    → SeatFits c g u (record { depth = depth; takes = takes; posts = posts; point = p }) Waiting
-    → SeatFits c (claiming g s u) u (record { depth = depth; takes = takes; posts = posts; point = p }) Claimed
-claimed_fits c g s u depth takes posts (Asleep Sleeper.Waiter) waits here =
+claimed_fits : (c : Core) (g : Ghost) (s u : ℕ) (x : SeatState) → IsWaiting g.place (g.standing u) u x.point → SeatFits c g u x Waiting
+    → SeatFits c (claiming g s u) u x Claimed
+claimed_fits c g s u x waits here =
     let now = changed_same g.standing u (claimed s) in
-    record {
-      claims = here.claims;
-      woken = rw (now, waits.ungranted);
-      granted = λ some. let f = rw waits.ungranted at some in cc;
-      entered = λ is held. let f = sym is ∙ waits.unentered in cc;
-      listed = λ n e. let f = sym now ∙ e in cc;
-      stands = tt;
-      depth = here.depth;
-      knows = tt;
-      number = here.number;
-      takes = here.takes;
-      posts = here.posts;
-      pushes = rw now here.pushes;
-      watches = here.watches;
-    }
-claimed_fits c g s u depth takes posts (ReceiveWakeLoad Sleeper.Waiter) waits here =
-    let now = changed_same g.standing u (claimed s) in
-    record {
-      claims = here.claims;
-      woken = rw (now, waits.ungranted);
-      granted = λ some. let f = rw waits.ungranted at some in cc;
-      entered = λ is held. let f = sym is ∙ waits.unentered in cc;
-      listed = λ n e. let f = sym now ∙ e in cc;
-      stands = tt;
-      depth = here.depth;
-      knows = tt;
-      number = here.number;
-      takes = here.takes;
-      posts = here.posts;
-      pushes = rw now here.pushes;
-      watches = here.watches;
-    }
-claimed_fits c g s u depth takes posts _ waits here = absurd (let f = waits.sleeps in cc)
+    let due = pays_asleep c g u x Waiting waits.sleeps here in
+    sleeper_fits c c g (claiming g s u) u x Waiting Claimed waits.sleeps here refl refl refl waits.ungranted (rw now refl)
+    (λ into none. let f = sym into ∙ waits.unentered in absurd (cc)) (λ stamp e. let f = sym now ∙ e in absurd (cc)) (rw now due) here.watches
 
 -- a queued seat stays queued where one stands anew that was not
 queued_on : (g : Ghost) (u : ℕ) (standing : Standing) → is_queued (g.standing u) ≡ false → (t : ℕ) → is_queued (g.standing t) ≡ true
@@ -149,7 +119,7 @@ claim_moves c g s u y is fits claims =
       each = each_after_two c c g (claiming g s u) s u y c.count c.owner wakes is refl fits claims.posts_same
           (λ t away aside. entry-with_other Quiet c.wakes u t Claimed aside) (sees_claim c g s u y c.count wakes is claims.posts_same waits.stands)
           (rw (entry-with_other Quiet c.wakes u s Claimed (λ e. claims.other (sym e))) claims.own)
-          (λ far. rw now (claimed_fits c g s u x.depth x.takes x.posts x.point waits (rw claims.found at (fits.each u))));
+          (λ far. rw now (claimed_fits c g s u x waits (rw claims.found at (fits.each u))));
       agents = agents_anew c g s u y (claimed s) is fits claims.asks_same (λ t other stands. absurd (unsent c g s fits claims.claims_before t stands)) (record {
         asked = λ agent e. cc;
         sent = λ agent e. let same : agent ≡ s = cc in rw (same, seat-with_same c.seats s y is) claims.claims_now;
@@ -191,46 +161,14 @@ free_place c g words free =
     nobody_from g.place g.asking g.pushed g.popped none few words.work
 
 -- the seat that is brought in
-brought_fits : (c : Core) (g : Ghost) (s u depth takes posts : ℕ) (p : Point) (w : Wake) → g.place ≡ nobody → g.standing u ≡ claimed s → u ≢ s → sleeps_as_waiter p ≡ true
-    → SeatFits c g u (record { depth = depth; takes = takes; posts = posts; point = p }) w
-    → SeatFits c (bringing g s u) u (record { depth = depth; takes = takes; posts = posts; point = p }) w
-brought_fits c g s u depth takes posts (Asleep Sleeper.Waiter) w place stands other sleeps here =
+brought_fits : (c : Core) (g : Ghost) (s u : ℕ) (x : SeatState) (w : Wake) → g.place ≡ nobody → g.standing u ≡ claimed s → u ≢ s → sleeps_as_waiter x.point ≡ true
+    → SeatFits c g u x w → SeatFits c (bringing g s u) u x w
+brought_fits c g s u x w place stands other sleeps here =
     let now = changed_same g.standing u apart in
-    let woken : w ≡ Claimed = rw (place, stands) at here.woken in
-    record {
-      claims = rw (ne_eqb s u (λ e. other (sym e)));
-      woken = rw (now, eq-eqb u u refl) woken;
-      granted = λ some. cc;
-      entered = λ is held. (refl, now);
-      listed = λ n e. let f = sym now ∙ e in cc;
-      stands = tt;
-      depth = here.depth;
-      knows = tt;
-      number = here.number;
-      takes = here.takes;
-      posts = here.posts;
-      pushes = rw (woken, now) (rw (woken, stands) at here.pushes);
-      watches = λ e watcher. cc;
-    }
-brought_fits c g s u depth takes posts (ReceiveWakeLoad Sleeper.Waiter) w place stands other sleeps here =
-    let now = changed_same g.standing u apart in
-    let woken : w ≡ Claimed = rw (place, stands) at here.woken in
-    record {
-      claims = rw (ne_eqb s u (λ e. other (sym e)));
-      woken = rw (now, eq-eqb u u refl) woken;
-      granted = λ some. cc;
-      entered = λ is held. (refl, now);
-      listed = λ n e. let f = sym now ∙ e in cc;
-      stands = tt;
-      depth = here.depth;
-      knows = tt;
-      number = here.number;
-      takes = here.takes;
-      posts = here.posts;
-      pushes = rw (woken, now) (rw (woken, stands) at here.pushes);
-      watches = λ e watcher. cc;
-    }
-brought_fits c g s u depth takes posts _ w place stands other sleeps here = cc
+    let woken : w ≡ Claimed = rw (place, stands) at (wake_asleep c g u x w sleeps (rw place refl) here) in
+    let due = rw (woken, stands) at (pays_asleep c g u x w sleeps here) in
+    sleeper_fits c c g (bringing g s u) u x w w sleeps here refl refl (rw (place, ne_eqb s u (λ e. other (sym e))) refl) refl (rw (now, eq-eqb u u refl) woken)
+    (λ into none. now) (λ stamp e. let f = sym now ∙ e in absurd (cc)) (rw (woken, now) due) (λ e watcher. absurd (cc))
 
 sees_bringing : (c : Core) (g : Ghost) (s u : ℕ) (y : SeatState) (count : ℕ) (wakes : List Wake) → IsSeat c.seats s → y.posts ≡ (seat c.seats s).posts
     → g.place ≡ nobody → g.standing u ≡ claimed s → (t : ℕ) → t ≢ s → t ≢ u
@@ -286,7 +224,7 @@ bring_moves c g s u y is fits brings =
       stamps = stamps_anew c g s u y (c.count + 1) c.wakes (entering s u 0) apart (rw brings.stands) fits;
       each = each_after_two c c g (bringing g s u) s u y (c.count + 1) c.owner c.wakes is refl fits brings.posts_same (λ t away aside. refl)
           (sees_bringing c g s u y (c.count + 1) c.wakes is brings.posts_same place brings.stands) brings.own
-          (λ far. brought_fits c g s u x.depth x.takes x.posts x.point (wake c.wakes u) place brings.stands brings.other sleeps (fits.each u));
+          (λ far. brought_fits c g s u x (wake c.wakes u) place brings.stands brings.other sleeps (fits.each u));
       agents = agents_anew c g s u y apart is fits brings.asks_same
           (λ t other stands. absurd (other (sym ((fits.agents t).sent s stands) ∙ (fits.agents u).sent s brings.stands))) (record {
             asked = λ agent e. cc;

@@ -15,12 +15,13 @@ use Rattle.lfm_core.specs.Seats.{seat, wake, with_entry, IsSeat}
 use Rattle.lfm_core.specs.Steady.{SeatFits, AgentFits, WordsFit, WorkFits, asking_unit, queued_unit, SumsFit, StampFits, Fits}
 use Rattle.lfm_core.specs.Views.{asks_for, claims_for, is_asking, is_queued, held_by, grant_at, is_entered}
 use Rattle.lfm_core.proofs.steady.Abstracts.{nothing_of}
-use Rattle.lfm_core.proofs.steady.Claimed.{wake_by_claimed, due_claimed, stands_asking, knows_asleep, watches_asleep, claim_asleep, claimed_ungranted, claimed_unentered, claimed_sleeps, not_apart, ungranted_at, unentered_at}
+use Rattle.lfm_core.proofs.steady.Claimed.{claim_asleep, claimed_ungranted, claimed_unentered, claimed_sleeps, not_apart, ungranted_at, unentered_at, sleeper_fits, wake_asleep, pays_asleep}
 use Rattle.lfm_core.proofs.steady.Entries.{seat-with_same, seat-with_other, length-with_entry}
 use Rattle.lfm_core.proofs.steady.Frames.{Sees, SeatFits_seen, moved, sees_moved, IsSeat_after, IsOld_after, HandoffFits_after, WatchesAt_seen}
 use Rattle.lfm_core.proofs.steady.Sums.{changed_same, changed_other, sum_update, sum_agrees}
 use Rattle.lfm_core.proofs.steady.Seated.{seat_of_standing, seat_of_asking}
 use Rattle.lfm_core.proofs.steady.Handing.{each_after_two}
+use Rattle.lfm_words.specs.declared.wakes.Wake.TheVariants.{Claimed}
 
 -- seat s has counted seat u
 abbrev pub joined : Ghost → ℕ → ℕ → Ghost
@@ -45,21 +46,12 @@ claimed_joins : (c : Core) (g : Ghost) (s u : ℕ) (x : SeatState) (w : Wake) �
 claimed_joins c g s u x w stands fits =
     let now : (joined g s u).standing u ≡ asks s = changed_same g.standing u (asks s) in
     let sleeps = claimed_sleeps c g s u x w stands fits in
-    record {
-      claims = fits.claims;
-      woken = rw now (rw stands at fits.woken ∙ wake_by_claimed (grant_at g.place u) g.place u s x.point);
-      granted = λ some. absurd (not_apart s (g.standing u) stands (fits.granted some).1);
-      entered = λ into none. absurd (not_apart s (g.standing u) stands (fits.entered into none).1);
-      listed = λ stamp waits. absurd (asks_not_queued s stamp (sym now ∙ waits));
-      stands = rw now (stands_asking g.place x.depth u s x.point sleeps);
-      depth = fits.depth;
-      knows = knows_asleep c (joined g s u) u x.posts x.point sleeps;
-      number = fits.number;
-      takes = fits.takes;
-      posts = fits.posts;
-      pushes = rw (now, due_claimed x.depth s w x.point) (rw stands at fits.pushes);
-      watches = λ place here. absurd (watches_asleep c g u x x.point sleeps (fits.watches place here));
-    }
+    let none = claimed_ungranted c g s u x w stands fits in
+    let woken : w ≡ Claimed = rw stands at (wake_asleep c g u x w sleeps none fits) in
+    let due = rw (woken, stands) at (pays_asleep c g u x w sleeps fits) in
+    sleeper_fits c c g (joined g s u) u x w w sleeps fits refl refl refl none (rw now woken)
+    (λ into unheld. absurd (not_apart s (g.standing u) stands (fits.entered into unheld).1)) (λ stamp waits. absurd (asks_not_queued s stamp (sym now ∙ waits)))
+    (rw (woken, now) due) fits.watches
 
 -- The words, the sums and the agents
 

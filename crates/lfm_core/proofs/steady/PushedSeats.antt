@@ -21,6 +21,7 @@ use Rattle.lfm_core.proofs.steady.Pushing.{with_pushed, exchanged}
 use Rattle.lfm_core.proofs.steady.Sums.{changed_same, changed_other}
 use Rattle.lfm_core.proofs.steady.Quiet.{wake_by_same}
 use Rattle.lfm_core.proofs.steady.Wakings.{none_from, asked_sleeps_at}
+use Rattle.lfm_core.proofs.steady.Claimed.{sleeper_fits, wake_asleep, pays_asleep}
 
 -- its standing after the push tells its record
 listed_pushed : (g : Ghost) (u stamp : ℕ) → g.popped ≤ g.pushed → queued (g.pushed + 1) ≡ queued stamp → QueuedFits (with_pushed g u) u stamp
@@ -28,59 +29,19 @@ listed_pushed g u stamp most e =
     let same : g.pushed + 1 ≡ stamp = cc in
     record { above = omega arith; within = omega arith; here = rw (← same) (changed_same g.pushed_at (g.pushed + 1) u) }
 
-sleeper_pushed : (c : Core) (g : Ghost) (s u : ℕ) (seen : Link) (y x : SeatState) (w : Wake) (p : Point) → sleeps_as_waiter p ≡ true → g.popped ≤ g.pushed
-    → g.standing u ≡ asks s → grant_at g.place u ≡ None → SeatFits c g u (record x { point = p }) w
-    → SeatFits (put (exchanged c seen u) s y) (with_pushed g u) u (record x { point = p }) w
-sleeper_pushed c g s u seen y x w (Asleep Sleeper.Waiter) sleeps most asked none fits =
-    let n = g.pushed + 1 in
-    let here : (with_pushed g u).standing u ≡ queued n = changed_same g.standing u (queued n) in
-    let pushes : (with_pushed g u).pushes u ≡ g.pushes u + 1 = changed_same g.pushes u (g.pushes u + 1) in
-    let woken : w ≡ Claimed = fits.woken ∙ rw (none, asked) in
-    let due = rw (woken, asked) at fits.pushes in
-    record {
-      claims = fits.claims;
-      woken = woken ∙ rw (none, here);
-      granted = λ some. let f = sym asked ∙ (fits.granted some).1 in absurd (cc);
-      entered = λ is held. let f = sym asked ∙ (fits.entered is held).1 in absurd (cc);
-      listed = λ stamp e. listed_pushed g u stamp most (sym here ∙ e);
-      stands = tt;
-      depth = fits.depth;
-      knows = tt;
-      number = fits.number;
-      takes = fits.takes;
-      posts = fits.posts;
-      pushes = rw (woken, here) (omega (arith, pushes, due));
-      watches = fits.watches;
-    }
-sleeper_pushed c g s u seen y x w (ReceiveWakeLoad Sleeper.Waiter) sleeps most asked none fits =
-    let n = g.pushed + 1 in
-    let here : (with_pushed g u).standing u ≡ queued n = changed_same g.standing u (queued n) in
-    let pushes : (with_pushed g u).pushes u ≡ g.pushes u + 1 = changed_same g.pushes u (g.pushes u + 1) in
-    let woken : w ≡ Claimed = fits.woken ∙ rw (none, asked) in
-    let due = rw (woken, asked) at fits.pushes in
-    record {
-      claims = fits.claims;
-      woken = woken ∙ rw (none, here);
-      granted = λ some. let f = sym asked ∙ (fits.granted some).1 in absurd (cc);
-      entered = λ is held. let f = sym asked ∙ (fits.entered is held).1 in absurd (cc);
-      listed = λ stamp e. listed_pushed g u stamp most (sym here ∙ e);
-      stands = tt;
-      depth = fits.depth;
-      knows = tt;
-      number = fits.number;
-      takes = fits.takes;
-      posts = fits.posts;
-      pushes = rw (woken, here) (omega (arith, pushes, due));
-      watches = fits.watches;
-    }
-sleeper_pushed c g s u seen y x w _ sleeps most asked none fits = absurd (cc)
-
--- the seat that another pushes fits
+-- the seat that another pushes sleeps since a start_wait, and fits
 pub pushed_fits : (c : Core) (g : Ghost) (s u : ℕ) (seen : Link) (y x : SeatState) (w : Wake) → u ≢ s → g.popped ≤ g.pushed → g.standing u ≡ asks s
     → SeatFits c g u x w → SeatFits (put (exchanged c seen u) s y) (with_pushed g u) u x w
 pushed_fits c g s u seen y x w other most asked fits =
     let none = none_from (grant_at g.place u) (λ some. let f = sym asked ∙ (fits.granted some).1 in cc) in
-    sleeper_pushed c g s u seen y x w x.point (asked_sleeps_at g.place x.depth u s x.point other none (rw asked at fits.stands)) most asked none fits
+    let sleeps = asked_sleeps_at g.place x.depth u s x.point other none (rw asked at fits.stands) in
+    let here : (with_pushed g u).standing u ≡ queued (g.pushed + 1) = changed_same g.standing u (queued (g.pushed + 1)) in
+    let pushes : (with_pushed g u).pushes u ≡ g.pushes u + 1 = changed_same g.pushes u (g.pushes u + 1) in
+    let woken : w ≡ Claimed = rw asked at (wake_asleep c g u x w sleeps none fits) in
+    let due = rw (woken, asked) at (pays_asleep c g u x w sleeps fits) in
+    sleeper_fits c (put (exchanged c seen u) s y) g (with_pushed g u) u x w w sleeps fits refl refl refl none (rw here woken)
+    (λ into unheld. let f = sym asked ∙ (fits.entered into unheld).1 in absurd (cc)) (λ stamp e. listed_pushed g u stamp most (sym here ∙ e))
+    (rw (woken, here) (omega (arith, pushes, due))) fits.watches
 
 -- The seat that pushes
 

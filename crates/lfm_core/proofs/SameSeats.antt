@@ -1,6 +1,5 @@
 -- No line of a schedule changes the number of seats.
-use Rattle.std.proofs.Common.{◌≡◌, ℕ, zero, suc, Bool, true, false, List, Option, Some, None, length, refl, ap, if◌then◌else◌, ◌∙◌}
-use Rattle.std.proofs.Math.ListN.{length-set}
+use Rattle.std.proofs.Common.{◌≡◌, ℕ, zero, suc, Bool, true, false, Option, Some, None, length, refl, ap, if◌then◌else◌, ◌∙◌}
 use Rattle.lfm_core.specs.declared.answers.Call.{Call}
 use Rattle.lfm_core.specs.declared.kinds.Kind.{Kind}
 use Rattle.lfm_core.specs.declared.schedule.Act.{Act}
@@ -8,7 +7,7 @@ use Rattle.lfm_core.specs.declared.schedule.Act.TheVariants.{Begin, Steps, ToEnd
 use Rattle.lfm_core.specs.declared.schedule.Line.{Line}
 use Rattle.lfm_core.specs.Core.{Core, Moved}
 use Rattle.lfm_core.specs.Lines.{is_open, steps, longest_call, act_moved, line_moved}
-use Rattle.lfm_core.specs.Seats.{is_seat, with_entry, wake}
+use Rattle.lfm_core.specs.Seats.{is_seat, wake}
 use Rattle.lfm_core.specs.Step.{claims_word, step_of, step, begin}
 use Rattle.lfm_words.specs.declared.wakes.Wake.{Wake}
 use Rattle.lfm_words.specs.declared.wakes.Wake.TheVariants.{Waiting}

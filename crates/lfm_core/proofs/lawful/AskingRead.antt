@@ -1,15 +1,13 @@
 -- A state has a call that asks for a seat just where the seat stands asking.
-use Rattle.std.proofs.Common.{◌≡◌, ◌≢◌, ℕ, zero, suc, true, ◌<◌, refl, sym, ap, ◌∙◌, arith}
+use Rattle.std.proofs.Common.{◌≡◌, ℕ, zero, suc, true, ◌<◌, refl, sym, ap, arith}
 use Rattle.std.proofs.lemmas.Bool.{false≢true, ne_eqb}
 use Rattle.lfm_core.specs.declared.points.Point.{Point}
 use Rattle.lfm_core.specs.declared.points.Point.TheVariants.{LockOwnerLoad, PushLoad, LinkStore, PushExchange}
-use Rattle.lfm_core.specs.declared.points.Pusher.{Pusher}
 use Rattle.lfm_core.specs.Core.{Core}
 use Rattle.lfm_core.specs.Errands.{Asks}
 use Rattle.lfm_core.specs.Ghost.{Responsibility, Standing, apart, claimed, asks, queued, Ghost}
-use Rattle.lfm_core.specs.Points.{pushed_seat}
 use Rattle.lfm_core.specs.Seats.{seat}
-use Rattle.lfm_core.specs.Steady.{ErrandFits, KnowsAt, StandsAsPusher, StandsAt, Fits}
+use Rattle.lfm_core.specs.Steady.{KnowsAt, StandsAt, Fits}
 use Rattle.lfm_core.specs.Views.{asks_for_at, is_asking}
 use Rattle.lfm_core.proofs.steady.Seated.{seat_of_asking}
 use Rattle.lfm_core.proofs.steady.Linking.{pushed_asks}

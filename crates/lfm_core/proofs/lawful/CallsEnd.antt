@@ -1,9 +1,8 @@
 -- A call whose seat alone makes steps ends: each step ends it or leaves it fewer steps to make, and at the start these are
 -- fewer than the longest call has.
-use Rattle.std.proofs.Common.{◌≡◌, ℕ, zero, suc, true, false, ◌+◌, ◌-◌, ◌<◌, Option, Some, None, List, length, nat_eq, nat_lt, if◌then◌else◌, inl, inr, arith}
-use Rattle.std.proofs.lemmas.Bool.{cases_Bool, false≢true, and_parts, ltb-true}
+use Rattle.std.proofs.Common.{◌≡◌, ℕ, zero, suc, true, false, ◌+◌, ◌-◌, ◌<◌, Option, Some, None, length, nat_eq, if◌then◌else◌, inl, inr, arith}
+use Rattle.std.proofs.lemmas.Bool.{cases_Bool, false≢true}
 use Rattle.lfm_core.specs.declared.kinds.Kind.{Kind}
-use Rattle.lfm_core.specs.declared.seats.SeatState.{SeatState}
 use Rattle.lfm_words.specs.declared.wakes.Wake.{Wake}
 use Rattle.lfm_words.specs.Popped.{oldest}
 use Rattle.lfm_core.specs.After.{same_link, same_handoff, loaded, drops_oldest, after_wake_exchange}

@@ -11,7 +11,6 @@ use Rattle.lfm_core.specs.declared.points.Pusher.{Pusher}
 use Rattle.lfm_words.specs.declared.pop_lists.Record.{Record}
 use Rattle.lfm_core.specs.Core.{Core}
 use Rattle.lfm_core.specs.Ghost.{Responsibility, nobody, owned, posted, entering, accepting, serving, Ghost}
-use Rattle.lfm_core.specs.Numbered.{records}
 use Rattle.lfm_core.specs.Outcome.{abstract, abstract_place, queue_of_ghost}
 use Rattle.lfm_core.specs.Reading.{unit_of_entering, unit_of_recursion, own_count, again_count, IsCounted}
 use Rattle.lfm_core.specs.Seats.{seat}

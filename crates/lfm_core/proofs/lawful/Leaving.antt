@@ -1,7 +1,7 @@
 -- What an event leaves: the number of seats, the views of all other seats, and the pop list while another seat serves; and the
 -- view that the acting seat has after it.
-use Rattle.std.proofs.Common.{◌≡◌, ◌≢◌, ℕ, Bool, true, false, ◌+◌, Option, Some, None, List, length, refl, sym, ap, ◌∙◌, inl, inr, arith}
-use Rattle.std.proofs.lemmas.Bool.{cases_Bool, cases_eq, and_parts, and_from, ltb-true, lt-ltb, ne_eqb, false≢true}
+use Rattle.std.proofs.Common.{◌≡◌, ◌≢◌, ℕ, Bool, true, false, Option, Some, None, List, length, refl, sym, ap, ◌∙◌, inl, inr}
+use Rattle.std.proofs.lemmas.Bool.{cases_Bool, cases_eq, ne_eqb, false≢true}
 use Rattle.lfm_model.specs.declared.answers.How.{How}
 use Rattle.lfm_core.specs.declared.answers.Call.{Call}
 use Rattle.lfm_core.specs.declared.kinds.Kind.{Kind}
@@ -24,7 +24,7 @@ use Rattle.lfm_core.specs.Seats.{seat, link, wake, with_entry, is_seat, IsSeat}
 use Rattle.lfm_core.specs.Steady.{Fits}
 use Rattle.lfm_core.specs.Step.{claims_word, step_of, made, begin}
 use Rattle.lfm_core.specs.Views.{claim_at, claim_to_enter, held_by}
-use Rattle.lfm_core.proofs.steady.Entries.{length-with_entry, seat-with_same, seat-with_other}
+use Rattle.lfm_core.proofs.steady.Entries.{seat-with_same, seat-with_other}
 use Rattle.lfm_core.proofs.steady.Frames.{place_of_claim}
 use Rattle.lfm_core.proofs.steady.Seated.{seat_of_point}
 use Rattle.lfm_core.proofs.SameSeats.{seats-claims_word, seats-step_of, seats-begin}

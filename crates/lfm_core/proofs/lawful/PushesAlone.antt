@@ -1,6 +1,5 @@
 -- A push exchange that fails goes on with the word that it found: alone, the seat stores its link for it and succeeds.
-use Rattle.std.proofs.Common.{◌≡◌, ℕ, true, false, ◌+◌, List, length, refl, sym, ap, ◌∙◌, arith}
-use Rattle.std.proofs.lemmas.Bool.{lt-ltb}
+use Rattle.std.proofs.Common.{◌≡◌, ℕ, true, false, ◌+◌, refl, sym, ap, ◌∙◌, arith}
 use Rattle.lfm_core.specs.declared.points.Point.{Point}
 use Rattle.lfm_core.specs.declared.points.Point.TheVariants.{LinkStore, PushExchange, PushedHandoffLoad}
 use Rattle.lfm_core.specs.declared.points.Pusher.{Pusher}
@@ -10,7 +9,7 @@ use Rattle.lfm_core.specs.After.{same_link}
 use Rattle.lfm_core.specs.Core.{Core, put, put_link}
 use Rattle.lfm_core.specs.Laws.{PushesAloneFailOnce}
 use Rattle.lfm_core.specs.Points.{pushed_seat}
-use Rattle.lfm_core.specs.Seats.{seat, is_seat, IsSeat}
+use Rattle.lfm_core.specs.Seats.{seat, IsSeat}
 use Rattle.lfm_core.specs.Step.{step}
 use Rattle.lfm_core.proofs.steady.Entries.{seat-with_same, length-with_entry}
 use Rattle.lfm_core.proofs.steady.Seated.{seat_of_point, test_of_seat}

@@ -4,11 +4,9 @@ use Rattle.lfm_model.specs.Abstract.{AbstractMutex, AbstractPlace, free, owner, 
 use Rattle.lfm_model.specs.AbstractRuns.{IsSame}
 use Rattle.lfm_core.specs.Core.{Core}
 use Rattle.lfm_core.specs.Ghost.{Responsibility, owned, Ghost}
-use Rattle.lfm_core.specs.Laws.{printed}
 use Rattle.lfm_core.specs.Lawful.{owning_seat}
 use Rattle.lfm_core.specs.Outcome.{abstract, abstract_place}
-use Rattle.lfm_core.specs.Place.{place_of}
-use Rattle.lfm_core.specs.Reading.{ReadsPlace, seats_of, Reads, IsCounted}
+use Rattle.lfm_core.specs.Reading.{ReadsPlace, seats_of, Reads}
 use Rattle.lfm_core.specs.Steady.{owner_of, Fits}
 use Rattle.lfm_core.proofs.lawful.AskingRead.{asks_read, asked_read}
 use Rattle.lfm_core.proofs.lawful.ClaimsRead.{reads_place}

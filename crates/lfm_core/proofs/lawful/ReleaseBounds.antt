@@ -1,5 +1,5 @@
 -- An unlock among N seats makes at most N + 7 steps, and a start_wait one more, whatever the others do in between.
-use Rattle.std.proofs.Common.{◌≡◌, ℕ, Bool, true, false, ◌+◌, ◌≤◌, List, length, nat_eq, nat_lt, refl, sym, inl, inr, arith, if◌then◌else◌}
+use Rattle.std.proofs.Common.{◌≡◌, ℕ, false, ◌+◌, ◌≤◌, List, length, nat_eq, nat_lt, refl, sym, inl, inr, arith}
 use Rattle.std.proofs.lemmas.Bool.{cases_Bool, false≢true}
 use Rattle.lfm_core.specs.declared.answers.Call.{Call}
 use Rattle.lfm_core.specs.declared.answers.Call.TheVariants.{Unlock, StartWait}

@@ -15,7 +15,7 @@ use Rattle.lfm_words.specs.Popped.{oldest}
 use Rattle.lfm_core.specs.After.{releases, granted, take, loaded, same_handoff, cleared, serves}
 use Rattle.lfm_core.specs.Begin.{Stepped, goes_on}
 use Rattle.lfm_core.specs.Core.{Core}
-use Rattle.lfm_core.specs.Ghost.{Standing, apart, queued, Ghost}
+use Rattle.lfm_core.specs.Ghost.{Standing, apart, Ghost}
 use Rattle.lfm_core.specs.Schedules.{is_call}
 use Rattle.lfm_core.specs.Seats.{seat, link, IsSeat}
 use Rattle.lfm_core.specs.Steady.{StandsAsCarrier, queued_unit, Fits}

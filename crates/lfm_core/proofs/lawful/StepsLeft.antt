@@ -1,6 +1,6 @@
 -- How many steps an open call makes at most while its seat alone makes steps: told by the seat's point, by the push word and
 -- by how many records the pop list still has room for.
-use Rattle.std.proofs.Common.{ℕ, Bool, true, false, ◌+◌, ◌-◌, ◌≤◌, length, if◌then◌else◌, arith}
+use Rattle.std.proofs.Common.{ℕ, Bool, true, false, ◌+◌, ◌≤◌, length, if◌then◌else◌, arith}
 use Rattle.lfm_core.specs.declared.points.Carrier.{Carrier}
 use Rattle.lfm_core.specs.declared.points.Point.{Point}
 use Rattle.lfm_core.specs.declared.points.Point.TheVariants.{Rest, Asleep, LockCountAdd, LockOwnerLoad, LockCountSubtract, TryCountExchange, TryOwnerLoad, TryHandoffLoad, TryHandoffExchange, TryCountAdd, SendWakeExchange, SendCountAdd, SendPushLook, SendWakeStore, PushLoad, LinkStore, PushExchange, PushedHandoffLoad, PushedHandoffExchange, ReleaseOwnerStore, ReleaseCountSubtract, ReleaseHandoffStore, ReleasePushLook, ReleaseHandoffExchange, WaitWakeStore, TakeClearHead, TakeLinkLoad, GrantWakeStore, EnterOwnerStore, ReceiveWakeLoad, ReceiveWakeStore}

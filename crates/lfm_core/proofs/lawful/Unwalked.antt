@@ -9,7 +9,7 @@ use Rattle.lfm_core.specs.declared.points.Pusher.{Pusher}
 use Rattle.lfm_core.specs.declared.seats.SeatState.{SeatState}
 use Rattle.lfm_words.specs.declared.pop_lists.Record.{Record}
 use Rattle.lfm_core.specs.Core.{Core}
-use Rattle.lfm_core.specs.Ghost.{Responsibility, nobody, owned, posted, serving, Ghost}
+use Rattle.lfm_core.specs.Ghost.{Responsibility, owned, posted, serving, Ghost}
 use Rattle.lfm_core.specs.Queue.{unwalked_at, unwalked}
 use Rattle.lfm_core.specs.Seats.{entry, seat, absent}
 use Rattle.lfm_core.specs.Steady.{EntersFits, KnowsAt, CarriedFits, newest, Fits}

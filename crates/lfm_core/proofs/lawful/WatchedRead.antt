@@ -1,21 +1,18 @@
 -- A posted handoff is watched: the ghost's watcher stands at one of the points from which it will be seen.
-use Rattle.std.proofs.Common.{◌≡◌, ◌≢◌, ℕ, true, ◌<◌, List, [], length, refl, sym, ap, ◌∙◌, inl, inr, arith}
-use Rattle.std.proofs.lemmas.Bool.{ne_eqb}
+use Rattle.std.proofs.Common.{◌≡◌, ◌≢◌, ℕ, ◌<◌, List, [], length, refl, sym, ap, ◌∙◌, arith}
 use Rattle.std.proofs.Math.Bool.{or-false}
 use Rattle.lfm_core.specs.declared.points.Point.{Point}
 use Rattle.lfm_core.specs.declared.points.Point.TheVariants.{SendPushLook, PushedHandoffLoad, ReleasePushLook}
 use Rattle.lfm_core.specs.declared.points.Pusher.{Pusher}
 use Rattle.lfm_core.specs.declared.seats.SeatState.{SeatState}
-use Rattle.lfm_words.specs.declared.handoffs.Handoff.{Handoff}
 use Rattle.lfm_words.specs.declared.pop_lists.Record.{Record}
 use Rattle.lfm_core.specs.Core.{Core}
 use Rattle.lfm_core.specs.Ghost.{Responsibility, posted, Ghost}
 use Rattle.lfm_core.specs.Points.{pushed_seat}
 use Rattle.lfm_core.specs.Seats.{seat}
-use Rattle.lfm_core.specs.Steady.{HasQueue, AwaitsAsPusher, StandsAt, WatchesAsPusher, WatchesAt, HandoffFits, CarriedFits, cleared, Fits}
+use Rattle.lfm_core.specs.Steady.{HasQueue, AwaitsAsPusher, StandsAt, WatchesAsPusher, WatchesAt, CarriedFits, cleared, Fits}
 use Rattle.lfm_core.specs.Views.{is_queued}
 use Rattle.lfm_core.specs.Watched.{Waits, Watches, Watched}
-use Rattle.lfm_core.proofs.steady.Abstracts.{queued_or}
 use Rattle.lfm_core.proofs.lawful.QueueRead.{waits_told}
 use Rattle.lfm_core.proofs.steady.Seated.{seat_of_stamp}
 use Rattle.lfm_core.proofs.steady.Serving.{queue_of_queued}

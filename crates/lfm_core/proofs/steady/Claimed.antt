@@ -1,20 +1,14 @@
 -- A seat that sleeps since its start_wait fits however it stands, and a seat that a send has claimed sleeps so.
-use Rattle.std.proofs.Common.{◌≡◌, ◌≢◌, ℕ, Bool, true, false, cond, Option, Some, None, inl, inr, refl, nat_eq, ◌+◌, ◌≤◌, sym, ◌∙◌}
-use Rattle.lfm_model.specs.declared.answers.How.{How}
-use Rattle.lfm_core.specs.declared.points.Carrier.{Carrier}
-use Rattle.lfm_core.specs.declared.points.Entrant.{Entrant}
+use Rattle.std.proofs.Common.{◌≡◌, ℕ, true, false, None, refl, ◌+◌, ◌≤◌, sym, ◌∙◌}
 use Rattle.lfm_core.specs.declared.points.Point.{Point}
-use Rattle.lfm_core.specs.declared.points.Point.TheVariants.{Asleep, LockOwnerLoad, PushLoad, LinkStore, PushExchange, PushedHandoffLoad, PushedHandoffExchange, TakeClearHead, TakeLinkLoad, GrantWakeStore, EnterOwnerStore, ReceiveWakeLoad}
-use Rattle.lfm_core.specs.declared.points.Pusher.{Pusher}
+use Rattle.lfm_core.specs.declared.points.Point.TheVariants.{Asleep, ReceiveWakeLoad}
 use Rattle.lfm_core.specs.declared.points.Sleeper.TheVariants as Sleeper
 use Rattle.lfm_core.specs.declared.seats.SeatState.{SeatState}
 use Rattle.lfm_words.specs.declared.wakes.Wake.{Wake}
-use Rattle.lfm_words.specs.declared.wakes.Wake.TheVariants.{Waiting, Claimed}
 use Rattle.lfm_core.specs.Core.{Core}
-use Rattle.lfm_core.specs.Ghost.{Responsibility, nobody, Standing, apart, claimed, asks, Ghost, queued, posted}
-use Rattle.lfm_core.specs.Seats.{IsSeat}
-use Rattle.lfm_core.specs.Steady.{KnowsAt, StandsAsPusher, AwaitsAsPusher, StandsAsCarrier, StandsAsEntrant, StandsAt, WatchesAt, awaits_grant, sleeps_as_waiter, SeatFits, Fits, QueuedFits}
-use Rattle.lfm_core.specs.Views.{claim_at, held_by, grant_at, is_entered, is_some, wake_at, wake_by, due_to_waiter, due_pushes_at, wake_of_waiter}
+use Rattle.lfm_core.specs.Ghost.{Responsibility, nobody, Standing, apart, claimed, Ghost, queued, posted}
+use Rattle.lfm_core.specs.Steady.{KnowsAt, StandsAt, WatchesAt, awaits_grant, sleeps_as_waiter, SeatFits, QueuedFits}
+use Rattle.lfm_core.specs.Views.{claim_at, held_by, grant_at, is_entered, wake_at, due_to_waiter, due_pushes_at, wake_of_waiter}
 use Rattle.lfm_core.proofs.steady.Wakings.{none_from, false_from, claimed_sleeps_at}
 use Rattle.std.proofs.lemmas.Bool.{false≢true}
 

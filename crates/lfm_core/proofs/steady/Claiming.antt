@@ -2,9 +2,6 @@
 -- has claimed in where the count was 0.
 use Rattle.std.proofs.Common.{◌≡◌, ◌≢◌, ℕ, true, false, ◌+◌, ◌≤◌, List, refl, sym, ap, ◌∙◌, arith}
 use Rattle.std.proofs.lemmas.Bool.{eq-eqb, ne_eqb}
-use Rattle.lfm_core.specs.declared.points.Point.{Point}
-use Rattle.lfm_core.specs.declared.points.Point.TheVariants.{Asleep, ReceiveWakeLoad}
-use Rattle.lfm_core.specs.declared.points.Sleeper.TheVariants as Sleeper
 use Rattle.lfm_core.specs.declared.seats.SeatState.{SeatState}
 use Rattle.lfm_words.specs.declared.wakes.Wake.{Wake}
 use Rattle.lfm_words.specs.declared.wakes.Wake.TheVariants.{Quiet, Waiting, Claimed}

@@ -1,5 +1,5 @@
 -- A carrier clears the head of the push list: the records that hung on it are now those to walk.
-use Rattle.std.proofs.Common.{◌≡◌, ◌≢◌, ℕ, ◌+◌, ◌-◌, ◌≤◌, ◌<◌, [], length, refl, sym, ◌∙◌, inl, inr, arith}
+use Rattle.std.proofs.Common.{◌≡◌, ℕ, ◌+◌, ◌-◌, ◌≤◌, ◌<◌, [], length, refl, sym, ◌∙◌, inl, inr, arith}
 use Rattle.std.proofs.lemmas.Bool.{cases_eq, eq-eqb, ne_eqb}
 use Rattle.lfm_core.specs.declared.points.Carrier.{Carrier}
 use Rattle.lfm_core.specs.declared.points.Point.TheVariants.{TakeClearHead, TakeLinkLoad, ReleaseHandoffStore}

@@ -1,14 +1,14 @@
 -- Steps by which seat s moves on and one other seat u reads something new: what every seat reads then.
-use Rattle.std.proofs.Common.{◌≡◌, ◌≢◌, ℕ, ◌≤◌, List, length, refl, sym, ◌∙◌, inl, inr, arith}
-use Rattle.std.proofs.lemmas.Bool.{cases_eq, cases_lt}
+use Rattle.std.proofs.Common.{◌≡◌, ◌≢◌, ℕ, ◌≤◌, List, ◌∙◌, inl, inr, arith}
+use Rattle.std.proofs.lemmas.Bool.{cases_eq}
 use Rattle.lfm_core.specs.declared.seats.SeatState.{SeatState}
 use Rattle.lfm_words.specs.declared.pop_lists.Record.{Record}
 use Rattle.lfm_words.specs.declared.wakes.Wake.{Wake}
-use Rattle.lfm_core.specs.Core.{Core, put}
-use Rattle.lfm_core.specs.Ghost.{apart, queued, posted, Ghost}
-use Rattle.lfm_core.specs.Seats.{seat, wake, entry, absent, with_entry, IsSeat}
+use Rattle.lfm_core.specs.Core.{Core}
+use Rattle.lfm_core.specs.Ghost.{Ghost}
+use Rattle.lfm_core.specs.Seats.{seat, wake, with_entry, IsSeat}
 use Rattle.lfm_core.specs.Steady.{SeatFits, Fits}
-use Rattle.lfm_core.proofs.steady.Entries.{seat-with_same, seat-with_other, entry_past}
+use Rattle.lfm_core.proofs.steady.Entries.{seat-with_same, seat-with_other}
 use Rattle.lfm_core.proofs.steady.Frames.{Sees, SeatFits_seen, moved, fits_moved}
 
 -- the state once the owner word, the pop list and the wake words are these

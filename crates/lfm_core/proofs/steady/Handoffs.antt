@@ -1,18 +1,15 @@
 -- Facts of one seat and of the posted handoff that the steps of a release and of a handoff share.
-use Rattle.std.proofs.Common.{◌≡◌, ◌≢◌, ℕ, true, false, ◌<◌, Option, Some, None, List, refl, sym, ap, subst, ◌∙◌, cond, eqb, inl, inr, arith}
+use Rattle.std.proofs.Common.{◌≡◌, ◌≢◌, ℕ, true, false, ◌<◌, List, refl, sym, ap, subst, ◌∙◌, cond, eqb, inl, inr, arith}
 use Rattle.std.proofs.lemmas.Bool.{cases_eq, eq-eqb, eqb-true, cond-true, and_parts, and_from}
 use Rattle.lfm_words.specs.declared.handoffs.Handoff.{Handoff}
-use Rattle.lfm_words.specs.declared.wakes.Wake.{Wake}
 use Rattle.lfm_core.specs.declared.points.Point.{Point}
 use Rattle.lfm_core.specs.declared.seats.SeatState.{SeatState}
 use Rattle.lfm_core.specs.After.{same_handoff}
-use Rattle.lfm_core.specs.Core.{Core, put}
 use Rattle.lfm_core.specs.Ghost.{Responsibility, posted, Standing, claimed, asks, Ghost}
 use Rattle.lfm_core.specs.Seats.{seat, with_entry, IsSeat}
-use Rattle.lfm_core.specs.Steady.{HandoffFits, QueuedFits, SeatFits, AgentFits}
-use Rattle.lfm_core.specs.Views.{wake_by, wake_at, asks_for, claims_for}
+use Rattle.lfm_core.specs.Steady.{HandoffFits, QueuedFits, AgentFits}
+use Rattle.lfm_core.specs.Views.{asks_for, claims_for}
 use Rattle.lfm_core.proofs.steady.Entries.{seat-with_same, seat-with_other}
-use Rattle.lfm_core.proofs.steady.Frames.{SeatFits_seen, sees_moved}
 
 -- a seat of this depth at this point, written out
 pub seat_at : (x : SeatState) (depth : ℕ) (p : Point) → x.depth ≡ depth → x.point ≡ p → x ≡ record { depth = depth; takes = x.takes; posts = x.posts; point = p }

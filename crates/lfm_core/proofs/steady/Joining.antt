@@ -17,7 +17,7 @@ use Rattle.lfm_core.specs.Views.{asks_for, claims_for, is_asking, is_queued, hel
 use Rattle.lfm_core.proofs.steady.Abstracts.{nothing_of}
 use Rattle.lfm_core.proofs.steady.Claimed.{claim_asleep, claimed_ungranted, claimed_unentered, claimed_sleeps, not_apart, ungranted_at, unentered_at, sleeper_fits, wake_asleep, pays_asleep}
 use Rattle.lfm_core.proofs.steady.Entries.{seat-with_same, seat-with_other, length-with_entry}
-use Rattle.lfm_core.proofs.steady.Frames.{Sees, SeatFits_seen, moved, sees_moved, IsSeat_after, IsOld_after, HandoffFits_after, WatchesAt_seen}
+use Rattle.lfm_core.proofs.steady.Frames.{Sees, moved, IsSeat_after, IsOld_after, HandoffFits_after, WatchesAt_seen}
 use Rattle.lfm_core.proofs.steady.Sums.{changed_same, changed_other, sum_update, sum_agrees}
 use Rattle.lfm_core.proofs.steady.Seated.{seat_of_standing, seat_of_asking}
 use Rattle.lfm_core.proofs.steady.Handing.{each_after_two}

@@ -15,7 +15,7 @@ use Rattle.lfm_core.specs.Steady.{ErrandFits, StandsAsPusher, SeatFits, StampFit
 use Rattle.lfm_core.specs.Views.{grant_at}
 use Rattle.lfm_core.proofs.steady.Abstracts.{stays_same}
 use Rattle.lfm_core.proofs.steady.Entries.{entry-with_same, entry-with_other, length-with_entry}
-use Rattle.lfm_core.proofs.steady.Frames.{Sees, SeatFits_seen, Errands, each_after, agents_after, IsSeat_after, IsOld_after, HandoffFits_after, WatchesAt_seen, sees_moved, fits_moved}
+use Rattle.lfm_core.proofs.steady.Frames.{Sees, Errands, each_after, agents_after, IsSeat_after, IsOld_after, HandoffFits_after, WatchesAt_seen, fits_moved}
 use Rattle.lfm_core.proofs.steady.Histories.{history_stays}
 use Rattle.lfm_core.proofs.steady.Pushers.{fits_at}
 use Rattle.lfm_core.proofs.steady.Seated.{seat_of_standing}

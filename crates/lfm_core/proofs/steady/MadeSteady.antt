@@ -1,8 +1,7 @@
 -- A step of a seat that is there leads from a steady state to a steady state.
-use Rattle.std.proofs.Common.{◌≡◌, ℕ, true, List, arith, tests}
-use Rattle.lfm_core.specs.declared.seats.SeatState.{SeatState}
+use Rattle.std.proofs.Common.{◌≡◌, ℕ, true}
 use Rattle.lfm_core.specs.Core.{Core}
-use Rattle.lfm_core.specs.Seats.{IsSeat, is_seat}
+use Rattle.lfm_core.specs.Seats.{is_seat}
 use Rattle.lfm_core.specs.Steady.{Steady}
 use Rattle.lfm_core.specs.Step.{made}
 use Rattle.lfm_core.proofs.steady.StepsKept.{made_keeps}

@@ -1,6 +1,6 @@
 -- The steps of a release that posts the responsibility and then looks whether somebody was pushed.
-use Rattle.std.proofs.Common.{◌≡◌, ◌≢◌, ℕ, ◌+◌, ◌<◌, ◌≤◌, Some, refl, sym, ap, subst, ◌∙◌, eqb, length, ◌⊎◌, inl, inr, arith}
-use Rattle.std.proofs.lemmas.Bool.{cases_eq, cases_lt, eq-eqb, ne_eqb, cond-true, cond-false}
+use Rattle.std.proofs.Common.{◌≡◌, ◌≢◌, ℕ, ◌+◌, ◌<◌, Some, refl, sym, ap, subst, ◌∙◌, eqb, length, ◌⊎◌, inl, inr, arith}
+use Rattle.std.proofs.lemmas.Bool.{cases_eq, cases_lt, eq-eqb, ne_eqb, cond-false}
 use Rattle.lfm_model.specs.Abstract.{AbstractMutex, HasSomebody, Moves, carried}
 use Rattle.lfm_model.specs.Abstract as Abstract
 use Rattle.lfm_model.specs.AbstractRuns as Case
@@ -17,7 +17,7 @@ use Rattle.lfm_core.specs.Steady.{Fits, HasQueue, HeadStays, cleared}
 use Rattle.lfm_core.specs.Views.{grant_at, asks_for}
 use Rattle.lfm_core.proofs.steady.Abstracts.{somebody}
 use Rattle.lfm_core.proofs.steady.Frames.{view_moves, place_of_claim}
-use Rattle.lfm_core.proofs.steady.Handoffs.{seat_at, listed_same, posted_of}
+use Rattle.lfm_core.proofs.steady.Handoffs.{seat_at, listed_same}
 use Rattle.lfm_core.proofs.steady.Histories.{history_stays}
 use Rattle.lfm_core.proofs.steady.Posting.{asker, posts_handoff}
 use Rattle.lfm_core.proofs.steady.Released.{released, released_own, released_errands, released_history}

@@ -1,22 +1,16 @@
 -- The two seats that a push changes: the pushed one, which sleeps since its start_wait where another seat pushes it, and the
 -- one that pushes.
-use Rattle.std.proofs.Common.{◌≡◌, ◌≢◌, ℕ, true, ◌+◌, ◌≤◌, refl, sym, ◌∙◌, arith, inl, inr, Option, None, Some, nat_eq, if◌then◌else◌}
-use Rattle.std.proofs.lemmas.Bool.{cases_eq, eq-eqb, ne_eqb}
-use Rattle.lfm_model.specs.declared.answers.How.{How}
-use Rattle.lfm_core.specs.declared.points.Carrier.{Carrier}
-use Rattle.lfm_core.specs.declared.points.Entrant.{Entrant}
-use Rattle.lfm_core.specs.declared.points.Point.{Point}
-use Rattle.lfm_core.specs.declared.points.Point.TheVariants.{Asleep, LockOwnerLoad, PushLoad, LinkStore, PushExchange, PushedHandoffLoad, PushedHandoffExchange, TakeClearHead, TakeLinkLoad, GrantWakeStore, EnterOwnerStore, ReceiveWakeLoad}
+use Rattle.std.proofs.Common.{◌≡◌, ◌≢◌, ℕ, ◌+◌, ◌≤◌, refl, sym, ◌∙◌, arith}
+use Rattle.lfm_core.specs.declared.points.Point.TheVariants.{PushExchange, PushedHandoffLoad}
 use Rattle.lfm_core.specs.declared.points.Pusher.{Pusher}
-use Rattle.lfm_core.specs.declared.points.Sleeper.TheVariants as Sleeper
 use Rattle.lfm_core.specs.declared.seats.SeatState.{SeatState}
 use Rattle.lfm_words.specs.declared.links.Link.{Link}
 use Rattle.lfm_words.specs.declared.wakes.Wake.{Wake}
 use Rattle.lfm_words.specs.declared.wakes.Wake.TheVariants.{Claimed}
 use Rattle.lfm_core.specs.Core.{Core, put}
-use Rattle.lfm_core.specs.Ghost.{Responsibility, apart, asks, queued, Ghost}
-use Rattle.lfm_core.specs.Steady.{QueuedFits, SeatFits, StandsAt, StandsAsPusher, AwaitsAsPusher, StandsAsCarrier, StandsAsEntrant, sleeps_as_waiter}
-use Rattle.lfm_core.specs.Views.{grant_at, is_some}
+use Rattle.lfm_core.specs.Ghost.{apart, asks, queued, Ghost}
+use Rattle.lfm_core.specs.Steady.{QueuedFits, SeatFits}
+use Rattle.lfm_core.specs.Views.{grant_at}
 use Rattle.lfm_core.proofs.steady.Pushing.{with_pushed, exchanged}
 use Rattle.lfm_core.proofs.steady.Sums.{changed_same, changed_other}
 use Rattle.lfm_core.proofs.steady.Quiet.{wake_by_same}

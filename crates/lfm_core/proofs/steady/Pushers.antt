@@ -1,21 +1,18 @@
 -- What a pusher and the seat that it pushes know, and what the words tell of a queue and of a posted handoff.
-use Rattle.std.proofs.Common.{◌≡◌, ◌≢◌, ℕ, Bool, true, ◌<◌, [], length, refl, sym, ap, subst, ◌∙◌, arith, inl, inr, Option, None, Some, nat_eq}
+use Rattle.std.proofs.Common.{◌≡◌, ◌≢◌, ℕ, Bool, true, ◌<◌, length, refl, sym, ap, subst, ◌∙◌, arith, inl, inr, nat_eq}
 use Rattle.std.proofs.lemmas.Bool.{cases_eq, eq-eqb, ne_eqb, eqb-true, and_parts}
 use Rattle.lfm_core.specs.declared.points.Point.{Point}
 use Rattle.lfm_core.specs.declared.seats.SeatState.{SeatState}
 use Rattle.lfm_words.specs.declared.links.Link.{Link}
 use Rattle.lfm_words.specs.declared.wakes.Wake.{Wake}
 use Rattle.lfm_core.specs.After.{same_link}
-use Rattle.lfm_core.specs.Core.{Core, put}
-use Rattle.lfm_core.specs.Ghost.{Responsibility, nobody, posted, Standing, apart, claimed, asks, queued, Ghost}
-use Rattle.lfm_core.specs.Outcome.{Outcome}
-use Rattle.lfm_core.specs.Seats.{wake, IsSeat}
+use Rattle.lfm_core.specs.Core.{Core}
+use Rattle.lfm_core.specs.Ghost.{Responsibility, nobody, posted, queued, Ghost}
+use Rattle.lfm_core.specs.Seats.{IsSeat}
 use Rattle.lfm_core.specs.Steady.{IsSeen, IsOld, HasQueue, HandoffFits, SeatFits, Fits, cleared}
-use Rattle.lfm_core.specs.Views.{by_depth, is_queued, wake_at, wake_by}
-use Rattle.lfm_core.proofs.steady.Abstracts.{stays_same, absent_stands_apart, stamp_of_queued}
-use Rattle.lfm_core.proofs.steady.Frames.{Errands, view_moves}
-use Rattle.lfm_core.proofs.steady.Histories.{history_stays}
-use Rattle.lfm_core.proofs.steady.Seated.{seat_of_standing, seat_of_queued}
+use Rattle.lfm_core.specs.Views.{by_depth, is_queued}
+use Rattle.lfm_core.proofs.steady.Abstracts.{stamp_of_queued}
+use Rattle.lfm_core.proofs.steady.Seated.{seat_of_queued}
 
 -- the facts of a seat, its point being known
 pub fits_at : (c : Core) (g : Ghost) (s : ℕ) (x : SeatState) (w : Wake) (p : Point) → x.point ≡ p → SeatFits c g s x w

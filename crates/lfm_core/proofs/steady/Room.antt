@@ -1,5 +1,5 @@
 -- In a steady state each seat's next step has room: its numbers fit their words, and the seats that it touches are there.
-use Rattle.std.proofs.Common.{◌≡◌, ◌≢◌, ℕ, true, false, ◌+◌, ◌*◌, ◌^◌, ◌≤◌, ◌<◌, List, [], ◌∷◌, length, refl, sym, ap, ◌∙◌, arith}
+use Rattle.std.proofs.Common.{◌≡◌, ℕ, true, false, ◌+◌, ◌*◌, ◌^◌, ◌≤◌, ◌<◌, List, [], ◌∷◌, length, refl, sym, ap, arith}
 use Rattle.std.proofs.lemmas.Bool.{false≢true, eq-eqb, ne_eqb}
 use Rattle.std.proofs.Math.Nat.{mul-le-mul_left}
 use Rattle.lfm_core.specs.declared.points.Carrier.{Carrier}
@@ -10,7 +10,7 @@ use Rattle.lfm_core.specs.declared.points.Releaser.{Releaser}
 use Rattle.lfm_words.specs.declared.links.Link.{Link}
 use Rattle.lfm_words.specs.declared.pop_lists.Record.{Record}
 use Rattle.lfm_core.specs.Core.{Core}
-use Rattle.lfm_core.specs.Ghost.{Responsibility, nobody, owned, granted, entering, leaving, Standing, apart, asks, queued, Ghost}
+use Rattle.lfm_core.specs.Ghost.{Responsibility, nobody, owned, granted, entering, leaving, Standing, asks, queued, Ghost}
 use Rattle.lfm_core.specs.Points.{kind, target, pushed_seat}
 use Rattle.lfm_core.specs.Room.{HasNumbers, CountFits, PopFits, HasRoom}
 use Rattle.lfm_core.specs.Seats.{seat, IsSeat}

@@ -11,7 +11,7 @@ use Rattle.lfm_core.specs.Ghost.{nobody, entering, apart, claimed, asks, Ghost}
 use Rattle.lfm_core.specs.Outcome.{Kept}
 use Rattle.lfm_core.specs.Seats.{seat, wake, IsSeat}
 use Rattle.lfm_core.specs.Steady.{SeatFits, Fits}
-use Rattle.lfm_core.specs.Views.{is_some, is_asking, grant_at, held_by, by_depth}
+use Rattle.lfm_core.specs.Views.{is_some, is_asking, grant_at, held_by}
 use Rattle.lfm_core.proofs.steady.Claiming.{claiming, bringing, claim_moves, bring_moves, free_place}
 use Rattle.lfm_core.proofs.steady.Frames.{view_moves}
 use Rattle.lfm_core.proofs.steady.Histories.{history_stays}

@@ -1,5 +1,5 @@
 -- A seat that serves: what its next point has to tell while it clears and walks the queue, and that somebody is queued.
-use Rattle.std.proofs.Common.{◌≡◌, ℕ, true, ◌+◌, ◌≤◌, List, None, [], refl, sym, ◌∙◌, arith}
+use Rattle.std.proofs.Common.{◌≡◌, ℕ, true, ◌+◌, ◌≤◌, List, sym, ◌∙◌, arith}
 use Rattle.std.proofs.lemmas.Bool.{false≢true}
 use Rattle.lfm_core.specs.declared.points.Point.{Point}
 use Rattle.lfm_core.specs.declared.seats.SeatState.{SeatState}
@@ -7,13 +7,11 @@ use Rattle.lfm_words.specs.declared.pop_lists.Record.{Record}
 use Rattle.lfm_words.specs.declared.wakes.Wake.{Wake}
 use Rattle.lfm_words.specs.declared.wakes.Wake.TheVariants.{Quiet}
 use Rattle.lfm_core.specs.Core.{Core}
-use Rattle.lfm_core.specs.Ghost.{serving, Standing, apart, claimed, asks, queued, Ghost}
-use Rattle.lfm_core.specs.Outcome.{Outcome}
+use Rattle.lfm_core.specs.Ghost.{serving, Ghost}
 use Rattle.lfm_core.specs.Steady.{HasQueue, KnowsAt, DepthAt, StandsAt, SeatFits, Fits}
 use Rattle.lfm_core.specs.Views.{claim_at, wake_at, is_queued, due_posts_at, due_pushes_at}
-use Rattle.lfm_core.proofs.steady.Abstracts.{stays_same, stamp_of_queued}
+use Rattle.lfm_core.proofs.steady.Abstracts.{stamp_of_queued}
 use Rattle.lfm_core.proofs.steady.Carrying.{carried_core, walking, serving_unposted}
-use Rattle.lfm_core.proofs.steady.Histories.{history_stays}
 
 -- what seat s of view x, which serves, has to tell at its next point
 pub record Goes (c : Core) (g : Ghost) (s : ℕ) (x : SeatState) (w : Wake) (p : Point) : Type 0 where

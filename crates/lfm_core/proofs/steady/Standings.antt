@@ -1,20 +1,15 @@
 -- What stays where one seat moves on with its posts and one seat stands anew.
-use Rattle.std.proofs.Common.{◌≡◌, ◌≢◌, ℕ, true, false, ◌+◌, ◌<◌, ◌≤◌, List, length, refl, sym, ap, ◌∙◌, inl, inr, arith}
+use Rattle.std.proofs.Common.{◌≡◌, ◌≢◌, ℕ, false, ◌+◌, ◌<◌, ◌≤◌, List, length, sym, ap, ◌∙◌, inl, inr, arith}
 use Rattle.std.proofs.lemmas.Bool.{cases_eq}
-use Rattle.lfm_core.specs.declared.points.Point.{Point}
-use Rattle.lfm_core.specs.declared.points.Point.TheVariants.{LockOwnerLoad, PushLoad, LinkStore, PushExchange, PushedHandoffLoad, SendPushLook, PushedHandoffExchange, ReleasePushLook, ReleaseHandoffExchange}
-use Rattle.lfm_core.specs.declared.points.Pusher.{Pusher}
 use Rattle.lfm_core.specs.declared.seats.SeatState.{SeatState}
-use Rattle.lfm_words.specs.declared.handoffs.Handoff.{Handoff}
 use Rattle.lfm_words.specs.declared.wakes.Wake.{Wake}
 use Rattle.lfm_core.specs.Core.{Core, put}
-use Rattle.lfm_core.specs.Ghost.{Responsibility, posted, Standing, apart, claimed, asks, Ghost}
+use Rattle.lfm_core.specs.Ghost.{Responsibility, Standing, apart, claimed, asks, Ghost}
 use Rattle.lfm_core.specs.Numbered.{changed}
-use Rattle.lfm_core.specs.Seats.{seat, wake, entry, absent, with_entry, IsSeat}
-use Rattle.lfm_core.specs.Steady.{IsOld, HasQueue, HandoffFits, SeatFits, AgentFits, SumsFit, SizesFit, StampFits, WatchesAt, WatchesAsPusher, asking_unit, queued_unit, Fits}
+use Rattle.lfm_core.specs.Seats.{seat, with_entry, IsSeat}
+use Rattle.lfm_core.specs.Steady.{AgentFits, SumsFit, SizesFit, StampFits, asking_unit, queued_unit, Fits}
 use Rattle.lfm_core.specs.Views.{asks_for, claims_for, is_queued}
 use Rattle.lfm_core.proofs.steady.Entries.{length-with_entry, seat-with_same, seat-with_other, seat_zero}
-use Rattle.lfm_core.proofs.steady.Frames.{Sees, SeatFits_seen}
 use Rattle.lfm_core.proofs.steady.Sums.{changed_same, changed_other, sum_agrees}
 
 pub zero_apart : (c : Core) (g : Ghost) → Fits c g → g.standing 0 ≡ apart

@@ -1,4 +1,4 @@
--- What is written is what is read.
+-- A line, a first line or a whole schedule that is written is read back as itself.
 use Rattle.std.proofs.Common.{◌≡◌, ◌+◌, ◌≤◌, ◌<◌, ◌^◌, ◌==◌, ◌&&◌, nat_lt, not, suc, ℕ, true, false, List, [], ◌∷◌, ◌++◌, Option, Some, Result, Ok, All, refl, sym, ◌∙◌, ap, append_assoc, arith, tests, codes, decimal, get_or, ne_eqb, inl, inr}
 use Rattle.std.specs.Int.{IsInRange}
 use Rattle.std.specs.List.{flat_map, list_all}

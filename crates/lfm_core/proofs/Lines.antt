@@ -1,4 +1,4 @@
--- Several steps of one seat, one after another.
+-- Where several steps of one seat, one after another, stop and where they go on.
 use Rattle.std.proofs.Common.{◌≡◌, ◌+◌, ◌-◌, ◌<◌, ℕ, zero, suc, true, false, refl, arith}
 use Rattle.lfm_core.specs.Core.{Core}
 use Rattle.lfm_core.specs.Lines.{is_open, steps}

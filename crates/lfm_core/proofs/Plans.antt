@@ -1,4 +1,4 @@
--- A whole text, its plan, and its first fault.
+-- A whole text is read as a schedule just where it spells it, and else its first fault is named.
 use Rattle.std.proofs.Common.{◌≡◌, ◌+◌, ◌≤◌, ◌<◌, ◌^◌, zero, suc, ℕ, Bool, true, false, cond, is_some, List, [], ◌∷◌, Option, Some, None, Result, Ok, Err, get_or, refl, ◌∙◌, ap, arith, tests}
 use Rattle.lfm_core.specs.declared.schedule.Line.{Line}
 use Rattle.lfm_core.specs.declared.schedule.ReplayFault.{ReplayFault}

@@ -1,5 +1,5 @@
--- Each step of a release lowers a measure of its point: how many more it makes at most. A walk has no more records than there
--- are seats other than the releaser's own, which stands apart from the queue.
+-- Each step of a release lowers a measure of its point, which is how many more it makes at most: a walk has no more records
+-- than there are seats other than the releaser's own, which stands apart from the queue.
 use Rattle.std.proofs.Common.{◌≡◌, ℕ, Bool, true, false, ◌+◌, ◌-◌, ◌≤◌, ◌<◌, Option, Some, None, ◌∷◌, length, nat_eq, refl, sym, arith, inl, inr, if◌then◌else◌}
 use Rattle.std.proofs.lemmas.Bool.{cases_Bool, false≢true}
 use Rattle.lfm_model.specs.declared.answers.Unlocked.{Unlocked}

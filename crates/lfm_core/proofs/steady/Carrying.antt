@@ -11,7 +11,7 @@ use Rattle.lfm_core.specs.Numbered.{records}
 use Rattle.lfm_core.specs.Seats.{seat, wake, IsSeat}
 use Rattle.lfm_core.specs.Steady.{IsSeen, SeatFits, newest, StampFits, Fits}
 use Rattle.lfm_core.proofs.steady.Entries.{length-with_entry}
-use Rattle.lfm_core.proofs.steady.Frames.{Sees, SeatFits_seen, Errands, each_after, agents_after, IsSeat_after, IsOld_after, held_by-other}
+use Rattle.lfm_core.proofs.steady.Frames.{Sees, SeatFits_seen, Errands, each_after, agents_after, IsSeat_after, IsOld_after, held_by-other, sizes_after}
 
 -- the state with this head of the push list and this pop list
 abbrev pub carried_core : Core → ℕ → List Record → Core
@@ -124,10 +124,5 @@ carries_on c g s y head walk popped is fits step =
           (carries_own (carried_core c head popped) (walking g walk) s y (wake c.wakes s) is posts step.serves step.own);
       agents = agents_after c g.standing s y is step.errands fits.agents;
       sums = rw long (record { asking = fits.sums.asking; queued = fits.sums.queued; pushed = fits.sums.pushed });
-      sizes = record {
-        links = omega (arith, long, fits.sizes.links);
-        wakes = omega (arith, long, fits.sizes.wakes);
-        seats = omega (arith, long, fits.sizes.seats);
-        budget = fits.sizes.budget;
-      };
+      sizes = sizes_after c _ s y refl refl refl refl fits.sizes;
     }

@@ -12,8 +12,8 @@ use Rattle.lfm_core.specs.Seats.{seat, wake, with_entry, IsSeat}
 use Rattle.lfm_core.specs.Steady.{own_unit, WorkFits, SeatFits, WordsFit, Fits, sleeps_as_waiter}
 use Rattle.lfm_core.specs.Views.{asks_for, claims_for, is_queued}
 use Rattle.lfm_core.proofs.steady.Entries.{entry-with_same, entry-with_other, length-with_entry, seat-with_same}
-use Rattle.lfm_core.proofs.steady.Frames.{Sees, WatchesAt_seen, HandoffFits_after, IsSeat_after, IsOld_after}
-use Rattle.lfm_core.proofs.steady.Standings.{zero_apart, agents_anew, sums_anew, stamps_anew, SizesFit_after}
+use Rattle.lfm_core.proofs.steady.Frames.{Sees, WatchesAt_seen, HandoffFits_after, IsSeat_after, IsOld_after, sizes_after}
+use Rattle.lfm_core.proofs.steady.Standings.{zero_apart, agents_anew, sums_anew, stamps_anew}
 use Rattle.lfm_core.proofs.steady.Sums.{changed_same, changed_other}
 use Rattle.lfm_core.proofs.steady.Wakings.{IsWaiting, waiting_of, claimed_sleeps_at}
 use Rattle.lfm_core.proofs.steady.Handing.{each_after_two}
@@ -122,7 +122,7 @@ claim_moves c g s u y is fits claims =
         sent = λ agent e. let same : agent ≡ s = cc in rw (same, seat-with_same c.seats s y is) claims.claims_now;
       });
       sums = sums_anew c.seats g s u y g.place (claimed s) (rw waits.stands) (rw waits.stands) fits.sums;
-      sizes = SizesFit_after c s y c.count wakes (length-with_entry c.wakes u Claimed) fits.sizes;
+      sizes = sizes_after c _ s y refl refl (length-with_entry c.wakes u Claimed) refl fits.sizes;
     }
 
 -- The count of a claimed seat where the count was 0
@@ -228,5 +228,5 @@ bring_moves c g s u y is fits brings =
             sent = λ agent e. cc;
           });
       sums = sums_anew c.seats g s u y (entering s u 0) apart (rw brings.stands) (rw brings.stands) fits.sums;
-      sizes = SizesFit_after c s y (c.count + 1) c.wakes refl fits.sizes;
+      sizes = sizes_after c _ s y refl refl refl refl fits.sizes;
     }

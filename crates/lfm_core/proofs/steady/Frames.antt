@@ -1,6 +1,6 @@
 -- What a step of one seat leaves to the others, and the steps that change no more than the acting seat, its own wake word,
 -- the count and owner words and the place.
-use Rattle.std.proofs.Common.{◌≡◌, ◌≢◌, ℕ, true, false, cond, eqb, ◌+◌, ◌≤◌, ◌<◌, Option, Some, None, List, refl, sym, ◌∙◌, inl, inr, arith, length}
+use Rattle.std.proofs.Common.{◌≡◌, ◌≢◌, ℕ, true, false, cond, eqb, ◌+◌, ◌≤◌, ◌<◌, Option, Some, None, List, refl, sym, ◌∙◌, inl, inr, arith, length, ap}
 use Rattle.std.proofs.lemmas.Bool.{cases_eq, ne_eqb, eq-eqb, cond-true, cond-false}
 use Rattle.std.specs.Prelude.{⊤}
 use Rattle.lfm_model.specs.declared.answers.How.{How}
@@ -278,6 +278,18 @@ pub fits_moved : (c : Core) (g : Ghost) (s : ℕ) (y : SeatState) (count owner :
 fits_moved c g s y count owner wakes t x w is more posts fits =
     SeatFits_seen c (moved c s y count owner wakes) g g t x w posts (sees_moved c g s y count owner wakes t x is more) fits
 
+-- as many words and seats as before
+pub sizes_after : (c d : Core) (s : ℕ) (y : SeatState) → d.seats ≡ with_entry c.seats s y → length d.links ≡ length c.links → length d.wakes ≡ length c.wakes
+    → d.budget ≡ c.budget → SizesFit c → SizesFit d
+sizes_after c d s y seats links wakes budget sizes =
+    let same : length d.seats ≡ length c.seats = ap length seats ∙ length-with_entry c.seats s y in
+    record {
+      links = omega (arith, sizes.links, links, same);
+      wakes = omega (arith, sizes.wakes, wakes, same);
+      seats = omega (arith, sizes.seats, same);
+      budget = omega (arith, sizes.budget, budget);
+    }
+
 -- what is left to show of such a move
 pub moves_on : (c : Core) (g : Ghost) (s : ℕ) (y : SeatState) (count owner : ℕ) (wakes : List Wake) (place : Responsibility) (answered : ℕ) → IsSeat c.seats s → Fits c g
     → Errands c s y → length wakes ≡ length c.wakes → ((t : ℕ) → t ≢ s → wake wakes t ≡ wake c.wakes t)
@@ -296,12 +308,7 @@ moves_on c g s y count owner wakes place answered is fits errands sized woken se
           (fits_moved c h s y count owner wakes s y (wake wakes s) is more (omega (arith, errands.posts_same)) own);
       agents = agents_after c g.standing s y is errands fits.agents;
       sums = rw same (record { asking = fits.sums.asking; queued = fits.sums.queued; pushed = fits.sums.pushed });
-      sizes = record {
-        links = fits.sizes.links ∙ sym same;
-        wakes = sized ∙ fits.sizes.wakes ∙ sym same;
-        seats = omega (arith, fits.sizes.seats, same);
-        budget = fits.sizes.budget;
-      };
+      sizes = sizes_after c _ s y refl refl sized refl fits.sizes;
     }
 
 -- the words fit as they did, where the count, the owner and the place stay

@@ -11,7 +11,7 @@ use Rattle.lfm_core.specs.Seats.{seat, wake, absent, with_entry, IsSeat}
 use Rattle.lfm_core.specs.Steady.{awaits_grant, WordsFit, SumsFit, Fits}
 use Rattle.lfm_core.specs.Views.{held_by, grant_at, is_entered}
 use Rattle.lfm_core.proofs.steady.Entries.{entry-with_same, entry-with_other, length-with_entry, entry_past, seat_zero}
-use Rattle.lfm_core.proofs.steady.Frames.{Sees, Errands, agents_after, IsSeat_after, IsOld_after}
+use Rattle.lfm_core.proofs.steady.Frames.{Sees, Errands, agents_after, IsSeat_after, IsOld_after, sizes_after}
 use Rattle.lfm_core.proofs.steady.Granted.{awaits_waiter, granted_seat}
 use Rattle.lfm_core.proofs.steady.Granting.{Rests, granter, grant_of_other}
 use Rattle.lfm_core.proofs.steady.Handing.{handed, each_after_two}
@@ -114,10 +114,5 @@ free_fits c g s t p is fits errands place other rests =
           (λ far. rw gives (granted_seat c g (freed_to g t) t 0 c.owner c.popped (free_wakes c t) (seat c.seats t) (wake c.wakes t) (fits.each t) parts.0 awaits refl waits.1 refl));
       agents = agents_after c g.standing s y is errands fits.agents;
       sums = rw size sums;
-      sizes = record {
-        links = fits.sizes.links ∙ sym size;
-        wakes = length-with_entry c.wakes t (Grant 0) ∙ fits.sizes.wakes ∙ sym size;
-        seats = rw size fits.sizes.seats;
-        budget = fits.sizes.budget;
-      };
+      sizes = sizes_after c _ s y refl refl (length-with_entry c.wakes t (Grant 0)) refl fits.sizes;
     }

@@ -17,7 +17,7 @@ use Rattle.lfm_core.specs.Views.{asks_for, claims_for, is_asking, is_queued, hel
 use Rattle.lfm_core.proofs.steady.Abstracts.{nothing_of}
 use Rattle.lfm_core.proofs.steady.Claimed.{claim_asleep, claimed_ungranted, claimed_unentered, claimed_sleeps, not_apart, ungranted_at, unentered_at, sleeper_fits, wake_asleep, pays_asleep}
 use Rattle.lfm_core.proofs.steady.Entries.{seat-with_same, seat-with_other, length-with_entry}
-use Rattle.lfm_core.proofs.steady.Frames.{Sees, moved, IsSeat_after, IsOld_after, HandoffFits_after, WatchesAt_seen}
+use Rattle.lfm_core.proofs.steady.Frames.{Sees, moved, IsSeat_after, IsOld_after, HandoffFits_after, WatchesAt_seen, sizes_after}
 use Rattle.lfm_core.proofs.steady.Sums.{changed_same, changed_other, sum_update, sum_agrees}
 use Rattle.lfm_core.proofs.steady.Seated.{seat_of_standing, seat_of_asking}
 use Rattle.lfm_core.proofs.steady.Handing.{each_after_two}
@@ -209,12 +209,7 @@ fits_join c g s u y is other_is fits unasked joins idle other_fits =
           (λ t away differs. sees_join c g s u t y (seat c.seats t) is more unasked away differs) joins.own other_fits;
       agents = agents_join c g s u y is fits joins idle;
       sums = rw same (sums_join (length c.seats) g s u other_is.above other_is.within unasked fits.sums);
-      sizes = record {
-        links = fits.sizes.links ∙ sym same;
-        wakes = fits.sizes.wakes ∙ sym same;
-        seats = omega (arith, fits.sizes.seats, same);
-        budget = fits.sizes.budget;
-      };
+      sizes = sizes_after c _ s y refl refl refl refl fits.sizes;
     }
 
 claims_seat : (s t : ℕ) (standing : Standing) → standing ≡ claimed s → standing ≡ claimed t → t ≡ s

@@ -1,5 +1,5 @@
--- A pusher stores into the link of the seat that it is to push. The link is that of no record in the queue, since the seat
--- still asks; so what the others see stays as it is.
+-- A pusher stores into the link of the seat that it is to push, which is that of no record in the queue since the seat still
+-- asks: what the others see stays as it is.
 use Rattle.std.proofs.Common.{◌≡◌, ◌≢◌, ℕ, ◌+◌, ◌≤◌, ◌<◌, length, refl, sym, ap, ◌∙◌, arith}
 use Rattle.lfm_core.specs.declared.points.Point.TheVariants.{LinkStore, PushExchange}
 use Rattle.lfm_core.specs.declared.points.Pusher.{Pusher}
@@ -15,7 +15,7 @@ use Rattle.lfm_core.specs.Steady.{ErrandFits, StandsAsPusher, SeatFits, StampFit
 use Rattle.lfm_core.specs.Views.{grant_at}
 use Rattle.lfm_core.proofs.steady.Abstracts.{stays_same}
 use Rattle.lfm_core.proofs.steady.Entries.{entry-with_same, entry-with_other, length-with_entry}
-use Rattle.lfm_core.proofs.steady.Frames.{Sees, Errands, each_after, agents_after, IsSeat_after, IsOld_after, HandoffFits_after, WatchesAt_seen, fits_moved}
+use Rattle.lfm_core.proofs.steady.Frames.{Sees, Errands, each_after, agents_after, IsSeat_after, IsOld_after, HandoffFits_after, WatchesAt_seen, fits_moved, sizes_after}
 use Rattle.lfm_core.proofs.steady.Histories.{history_stays}
 use Rattle.lfm_core.proofs.steady.Pushers.{fits_at}
 use Rattle.lfm_core.proofs.steady.Seated.{seat_of_standing}
@@ -26,26 +26,6 @@ pub pushed_asks : (g : Ghost) (s : ℕ) (pusher : Pusher) → StandsAsPusher s (
     → g.standing (pushed_seat pusher s) ≡ asks s
 pushed_asks g s Pusher.Locker stands errand = stands
 pushed_asks g s (Pusher.Sender t) stands errand = errand.1
-
--- as many words and seats as before
-pub sizes_with : (c : Core) (s : ℕ) (y : SeatState) → SizesFit c → SizesFit (put c s y)
-sizes_with c s y sizes =
-    let same = length-with_entry c.seats s y in
-    record {
-      links = omega (arith, sizes.links, same);
-      wakes = omega (arith, sizes.wakes, same);
-      seats = omega (arith, sizes.seats, same);
-      budget = sizes.budget;
-    }
-
-sizes_with_link : (c : Core) (u : ℕ) (l : Link) → SizesFit c → SizesFit (put_link c u l)
-sizes_with_link c u l sizes =
-    record {
-      links = length-with_entry c.links u l ∙ sizes.links;
-      wakes = sizes.wakes;
-      seats = sizes.seats;
-      budget = sizes.budget;
-    }
 
 -- The store
 
@@ -110,7 +90,7 @@ link_stores c g s u y l is fits errands asked own =
       each = each_after c (put_link c u l) g g s y is refl fits posts (λ t other. refl) (λ t other. sees_link c g s u t y (seat c.seats t) l is posts asked other) own_after;
       agents = agents_after c g.standing s y is errands fits.agents;
       sums = rw (length-with_entry c.seats s y) fits.sums;
-      sizes = sizes_with (put_link c u l) s y (sizes_with_link c u l fits.sizes);
+      sizes = sizes_after c _ s y refl (length-with_entry c.links u l) refl refl fits.sizes;
     }
 
 -- what the pusher knows has its link at the end

@@ -12,7 +12,7 @@ use Rattle.lfm_core.specs.Seats.{seat, wake, with_entry, unposted, IsSeat}
 use Rattle.lfm_core.specs.Steady.{HandoffFits, QueuedFits, SeatFits, AgentFits, owner_of, newest, own_unit, again_unit, WorkFits, CarriedFits, LastFits, unanswered, before, cleared, WordsFit, StampFits, asking_unit, queued_unit, SumsFit, Fits}
 use Rattle.lfm_core.specs.Views.{held_by, grant_at, is_entered, is_asking}
 use Rattle.lfm_core.proofs.steady.Entries.{length-with_entry}
-use Rattle.lfm_core.proofs.steady.Frames.{Sees, Errands, agents_after, held_by-other, IsSeat_after, IsOld_after}
+use Rattle.lfm_core.proofs.steady.Frames.{Sees, Errands, agents_after, held_by-other, IsSeat_after, IsOld_after, sizes_after}
 use Rattle.lfm_core.proofs.steady.Handing.{handed, each_after_two}
 use Rattle.lfm_core.proofs.steady.Sums.{changed_same, changed_other, sum_agrees, sum_update}
 use Rattle.lfm_core.proofs.steady.Seated.{seat_of_queued}
@@ -219,10 +219,5 @@ pops_fit c g s y r owner rest wakes place answered is fits pops =
           (λ t other away. sees_popped c g s y r owner rest wakes place answered is fits pops first t other away (seat c.seats t)) pops.own pops.second;
       agents = agents_after c (changed g.standing r.seat apart) s y is pops.errands (agents_apart c g r.seat fits.agents);
       sums = rw size (sums_popped (length c.seats) g r.seat place answered there.above there.within first.stands fits.sums);
-      sizes = record {
-        links = fits.sizes.links ∙ sym size;
-        wakes = pops.woken_all ∙ fits.sizes.wakes ∙ sym size;
-        seats = rw size fits.sizes.seats;
-        budget = fits.sizes.budget;
-      };
+      sizes = sizes_after c _ s y refl refl pops.woken_all refl fits.sizes;
     }

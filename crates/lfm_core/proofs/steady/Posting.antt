@@ -11,7 +11,7 @@ use Rattle.lfm_core.specs.Seats.{seat, wake, IsSeat}
 use Rattle.lfm_core.specs.Steady.{asking_unit, SeatFits, Fits, WatchesAt}
 use Rattle.lfm_core.specs.Views.{asks_for, asks_for_at, claims_for, held_by}
 use Rattle.lfm_core.proofs.steady.Entries.{length-with_entry}
-use Rattle.lfm_core.proofs.steady.Frames.{each_after, IsSeat_after, IsOld_after, held_by-other}
+use Rattle.lfm_core.proofs.steady.Frames.{each_after, IsSeat_after, IsOld_after, held_by-other, sizes_after}
 use Rattle.lfm_core.proofs.steady.Handoffs.{agents_with, listed_same}
 use Rattle.lfm_core.proofs.steady.Sums.{sum_witness}
 
@@ -116,10 +116,5 @@ posts_handoff c g s y watcher is fits step =
       }) step.own;
       agents = λ t. agents_with c.seats (g.standing t) s t y is step.asks_same step.claims_same (fits.agents t);
       sums = rw size (record { asking = fits.sums.asking; queued = fits.sums.queued; pushed = fits.sums.pushed });
-      sizes = record {
-        links = fits.sizes.links ∙ sym size;
-        wakes = fits.sizes.wakes ∙ sym size;
-        seats = omega (arith, fits.sizes.seats);
-        budget = fits.sizes.budget;
-      };
+      sizes = sizes_after c _ s y refl refl refl refl fits.sizes;
     }

@@ -20,9 +20,9 @@ use Rattle.lfm_core.specs.Steady.{SeatFits, Fits, asking_unit}
 use Rattle.lfm_core.specs.Views.{asks_for, claims_for, grant_at, is_asking}
 use Rattle.lfm_core.proofs.steady.Abstracts.{queue_pushes}
 use Rattle.lfm_core.proofs.steady.Entries.{seat-with_same, seat-with_other, length-with_entry}
-use Rattle.lfm_core.proofs.steady.Frames.{SeatFits_seen, sees_moved}
+use Rattle.lfm_core.proofs.steady.Frames.{SeatFits_seen, sees_moved, sizes_after}
 use Rattle.lfm_core.proofs.steady.Histories.{history_pushes}
-use Rattle.lfm_core.proofs.steady.Linking.{pushed_asks, sizes_with}
+use Rattle.lfm_core.proofs.steady.Linking.{pushed_asks}
 use Rattle.lfm_core.proofs.steady.Pushers.{fits_at, sees_itself, same_link_true}
 use Rattle.lfm_core.proofs.steady.PushedSeats.{pushed_fits, own_pushes, own_sends}
 use Rattle.lfm_core.proofs.steady.Pushing.{with_pushed, exchanged, words_pushed, stamp_pushed, sums_pushed, sees_push, agents_pushed}
@@ -69,7 +69,7 @@ pushes c g s u seen y is fits step =
       each = each_pushed c g s u seen y is fits step;
       agents = agents_pushed c g s u y is step.errand step.claims fits.agents;
       sums = rw (length-with_entry c.seats s y) (sums_pushed (length c.seats) s u g there.above there.within step.asked fits.sums);
-      sizes = sizes_with (exchanged c seen u) s y (record { links = fits.sizes.links; wakes = fits.sizes.wakes; seats = fits.sizes.seats; budget = fits.sizes.budget });
+      sizes = sizes_after c _ s y refl refl refl refl fits.sizes;
     }
 
 -- the abstract mutex queues the seat

@@ -1,4 +1,4 @@
--- Steps that leave the abstract mutex as it is, and what they find: their outcome, the wake word and the owner.
+-- Steps that leave the abstract mutex as it is: their outcome, and what the wake words and the owner word tell of them.
 use Rattle.std.proofs.Common.{◌≡◌, ◌≢◌, ℕ, ◌<◌, Option, Some, None, [], refl, arith}
 use Rattle.std.proofs.lemmas.Bool.{eq-eqb}
 use Rattle.lfm_core.specs.declared.points.Point.{Point}

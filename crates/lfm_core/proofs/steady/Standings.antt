@@ -53,17 +53,6 @@ sums_anew seats g s u y place standing same_asking same_queued sums =
       pushed = sums.pushed;
     })
 
-pub SizesFit_after : (c : Core) (s : ℕ) (y : SeatState) (count : ℕ) (wakes : List Wake) → length wakes ≡ length c.wakes → SizesFit c
-    → SizesFit (put (record c { count = count; wakes = wakes }) s y)
-SizesFit_after c s y count wakes same sizes =
-    let seats = length-with_entry c.seats s y in
-    record {
-      links = sizes.links ∙ sym seats;
-      wakes = same ∙ sizes.wakes ∙ sym seats;
-      seats = omega (arith, sizes.seats, seats);
-      budget = sizes.budget;
-    }
-
 -- the records of the queue keep their standings
 pub stamps_anew : (c : Core) (g : Ghost) (s u : ℕ) (y : SeatState) (count : ℕ) (wakes : List Wake) (place : Responsibility) (standing : Standing)
     → is_queued (g.standing u) ≡ false → Fits c g → (stamp : ℕ) → g.popped < stamp → stamp ≤ g.pushed

@@ -1,4 +1,4 @@
--- What the wake word of a seat tells of its grant and of its sleep.
+-- What the wake word of a seat tells of its grant and of its sleep, and which seats sleep since a start_wait.
 use Rattle.std.proofs.Common.{◌≡◌, ◌≢◌, ℕ, Bool, true, false, ◌&&◌, cond, eqb, Option, Some, None, refl, inl, inr}
 use Rattle.std.proofs.lemmas.Bool.{cases_eq, eq-eqb, ne_eqb}
 use Rattle.lfm_core.specs.declared.points.Point.{Point}

@@ -7,7 +7,7 @@ use Rattle.lfm_core.specs.Seats.{wake, unposted, IsSeat}
 use Rattle.lfm_core.specs.Steady.{HandoffFits, SeatFits, Fits, owner_of, own_unit, again_unit, WorkFits, CarriedFits, LastFits, unanswered}
 use Rattle.lfm_core.specs.Views.{grant_at, is_entered}
 use Rattle.lfm_core.proofs.steady.Entries.{length-with_entry}
-use Rattle.lfm_core.proofs.steady.Frames.{Errands, IsOf, each_after, IsSeat_after, IsOld_after, agents_after, held_by-other, fits_moved}
+use Rattle.lfm_core.proofs.steady.Frames.{Errands, IsOf, each_after, IsSeat_after, IsOld_after, agents_after, held_by-other, fits_moved, sizes_after}
 use Rattle.lfm_core.proofs.steady.Handoffs.{listed_same}
 
 -- seat s serves, or accepts the responsibility
@@ -97,10 +97,5 @@ handoff_wins c g s y place is fits wins =
       }) (fits_moved e h s y e.count e.owner e.wakes s y (wake c.wakes s) is (omega (arith, posts)) (omega (arith, posts)) wins.own);
       agents = agents_after c g.standing s y is wins.errands fits.agents;
       sums = rw size (record { asking = fits.sums.asking; queued = fits.sums.queued; pushed = fits.sums.pushed });
-      sizes = record {
-        links = fits.sizes.links ∙ sym size;
-        wakes = fits.sizes.wakes ∙ sym size;
-        seats = omega (arith, fits.sizes.seats);
-        budget = fits.sizes.budget;
-      };
+      sizes = sizes_after c _ s y refl refl refl refl fits.sizes;
     }

@@ -11,7 +11,7 @@ use Rattle.lfm_core.specs.Ghost.{asks, Ghost}
 use Rattle.lfm_core.specs.Outcome.{Kept}
 use Rattle.lfm_core.specs.Points.{pushed_seat}
 use Rattle.lfm_core.specs.Seats.{seat, wake, no_link, IsSeat}
-use Rattle.lfm_core.specs.Steady.{ErrandFits, StandsAsPusher, SeatFits, StampFits, SizesFit, Fits}
+use Rattle.lfm_core.specs.Steady.{ErrandFits, StandsAsPusher, SeatFits, StampFits, Fits}
 use Rattle.lfm_core.specs.Views.{grant_at}
 use Rattle.lfm_core.proofs.steady.Abstracts.{stays_same}
 use Rattle.lfm_core.proofs.steady.Entries.{entry-with_same, entry-with_other, length-with_entry}

@@ -1,5 +1,5 @@
 -- What stays where one seat moves on with its posts and one seat stands anew.
-use Rattle.std.proofs.Common.{◌≡◌, ◌≢◌, ℕ, false, ◌+◌, ◌<◌, ◌≤◌, List, length, sym, ap, ◌∙◌, inl, inr, arith}
+use Rattle.std.proofs.Common.{◌≡◌, ◌≢◌, ℕ, false, ◌+◌, ◌<◌, ◌≤◌, List, length, sym, ap, ◌∙◌, inl, inr}
 use Rattle.std.proofs.lemmas.Bool.{cases_eq}
 use Rattle.lfm_core.specs.declared.seats.SeatState.{SeatState}
 use Rattle.lfm_words.specs.declared.wakes.Wake.{Wake}
@@ -7,7 +7,7 @@ use Rattle.lfm_core.specs.Core.{Core, put}
 use Rattle.lfm_core.specs.Ghost.{Responsibility, Standing, apart, claimed, asks, Ghost}
 use Rattle.lfm_core.specs.Numbered.{changed}
 use Rattle.lfm_core.specs.Seats.{seat, with_entry, IsSeat}
-use Rattle.lfm_core.specs.Steady.{AgentFits, SumsFit, SizesFit, StampFits, asking_unit, queued_unit, Fits}
+use Rattle.lfm_core.specs.Steady.{AgentFits, SumsFit, StampFits, asking_unit, queued_unit, Fits}
 use Rattle.lfm_core.specs.Views.{asks_for, claims_for, is_queued}
 use Rattle.lfm_core.proofs.steady.Entries.{length-with_entry, seat-with_same, seat-with_other, seat_zero}
 use Rattle.lfm_core.proofs.steady.Sums.{changed_same, changed_other, sum_agrees}

@@ -16,3 +16,4 @@ pub mod Walks
 pub mod Writes
 pub mod steady
 pub mod lawful
+pub mod words

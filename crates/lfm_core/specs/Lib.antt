@@ -31,3 +31,7 @@ pub mod Watched
 pub mod Lawful
 pub mod Cases
 pub mod Laws
+pub mod Words
+pub mod Settles
+pub mod Ready
+pub mod Carried

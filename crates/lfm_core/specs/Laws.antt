@@ -1,7 +1,7 @@
 -- The laws of every schedule: of every list of calls that begin and single steps, for every number of seats and budget in
 -- their limits. Each is the contract of a public function of `laws`.
 use Rattle.std.specs.Prelude.{◌≡◌, ◌⊎◌, ℕ, Bool, true, false, ◌+◌, ◌<◌, ◌≤◌, ◌++◌, List, [], ◌∷◌, length, slice_index_or}
-use Rattle.lfm_model.specs.Abstract.{AbstractMutex, AbstractPlace, free, owner, passed, posted, carried}
+use Rattle.lfm_model.specs.Abstract.{AbstractMutex, AbstractPlace, all_free, free, owner, passed, posted, carried}
 use Rattle.lfm_model.specs.AbstractRuns.{IsRun}
 use Rattle.lfm_model.specs.declared.answers.Place.{Place}
 use Rattle.lfm_core.specs.declared.answers.Call.TheVariants.{Unlock, StartWait}
@@ -44,13 +44,13 @@ LinesAreEvents = (c : Core) (lines : List Line) → (events : List Event) × (li
 abbrev pub StatesAreLawful : Type 0
 StatesAreLawful = (c : Core) → IsReached c → Lawful c
 
--- the readings of a run are a run of the abstract mutex, which starts with nobody holding
+-- the readings of a run are a run of the abstract mutex, which starts with nobody holding, asking or waiting
 abbrev pub RunsAreAbstractRuns : Type 0
 RunsAreAbstractRuns =
     (limits : Limits) (events : List Event) → are_in_limits limits.seats limits.budget ≡ true
-    → (a : AbstractMutex) × (later : List AbstractMutex) × (a.place ≡ free) × Reads (start limits) a × ReadsRun (start limits) events later × IsRun (a ∷ later)
+    → Reads (start limits) all_free × ((later : List AbstractMutex) × ReadsRun (start limits) events later × IsRun (all_free ∷ later))
 
--- step by step, the readings before and after an event go by the case that the table of kinds names
+-- step by step, the readings before and after an event go by its case, which is that of `case_of_step` where it is a step
 abbrev pub EventsAreTheirCases : Type 0
 EventsAreTheirCases =
     (c : Core) (e : Event) (a b : AbstractMutex) → IsReached c → Reads c a → Reads (happens c e).core b → GoesBy (case_of_event c e) a b

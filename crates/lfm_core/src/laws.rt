@@ -34,13 +34,14 @@ pub fn states_are_lawful()
     ensures { StatesAreLawful }
 {}
 
-/// The readings of a run are a run of the abstract mutex, which starts with nobody holding it. So at most one seat owns it,
-/// and it is handed on only as the abstract mutex does.
+/// The readings of a run are a run of the abstract mutex from its start, where nobody holds, asks or waits. So at most one
+/// seat owns it, it is handed on only as the abstract mutex does, and the laws of abstract runs hold of its readings.
 pub fn runs_are_abstract_runs()
     ensures { RunsAreAbstractRuns }
 {}
 
-/// Step by step: the reading changes by the one abstract case that the table of kinds names for the step, or not at all.
+/// Step by step: the reading changes by the one abstract case that `case_of_step` names for the step, or not at all where it
+/// names none. A call that begins leaves the reading as it was.
 pub fn events_are_their_cases()
     ensures { EventsAreTheirCases }
 {}

@@ -23,7 +23,7 @@ use Rattle.lfm_core.specs.Lines.{is_open, steps, longest_call, lines_core}
 use Rattle.lfm_core.specs.Place.{place_of}
 use Rattle.lfm_core.specs.Queue.{queue_of}
 use Rattle.lfm_core.specs.Reading.{Reads}
-use Rattle.lfm_core.specs.Schedules.{Event, makes, happens, run_of, reached, push_record, popped_record, answer_record, is_call, weight_of_call, steps_of_call}
+use Rattle.lfm_core.specs.Schedules.{Event, makes, happens, run_of, reached, push_record, popped_record, answer_record, answer_record_of_lines, is_call, weight_of_call, steps_of_call}
 use Rattle.lfm_core.specs.Seats.{seat, wake}
 use Rattle.lfm_core.specs.Step.{begin, start}
 use Rattle.lfm_core.specs.Watched.{Watched}
@@ -35,9 +35,12 @@ pub record IsReached (c : Core) : Type 0 where
   pub allowed : are_in_limits limits.seats limits.budget ≡ true
   pub here : c ≡ reached limits events
 
--- what lines do to a state, a schedule of events does, so that every law of events is one of lines
+-- what lines do to a state, a schedule of events does, and both answer the same Held(Queued), so that every law of events is
+-- one of lines
 abbrev pub LinesAreEvents : Type 0
-LinesAreEvents = (c : Core) (lines : List Line) → (events : List Event) × (lines_core c lines ≡ run_of c events)
+LinesAreEvents =
+    (c : Core) (lines : List Line)
+    → (events : List Event) × (lines_core c lines ≡ run_of c events) × (answer_record_of_lines c lines ≡ answer_record c events)
 
 -- The abstract mutex
 

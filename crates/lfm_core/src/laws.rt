@@ -22,7 +22,8 @@ ghost use Rattle.lfm_core.specs.Laws.{
   PushesAloneFailOnce,
 };
 
-/// What lines of a schedule do to a state, some list of calls and single steps does. So each law here is one of `run`.
+/// What lines of a schedule do to a state, some list of calls and single steps does, and the answers `Held(Queued)` of those
+/// lines are the answers of that list, in the same order. So each law here is one of `run`.
 pub fn lines_are_events()
     ensures { LinesAreEvents }
 {}

@@ -8,25 +8,26 @@ use Rattle.lfm_core.specs.declared.answers.Call.TheVariants.{Unlock, StartWait}
 use Rattle.lfm_core.specs.declared.limits.Limits.{Limits}
 use Rattle.lfm_core.specs.declared.points.Carrier.{Carrier}
 use Rattle.lfm_core.specs.declared.points.Point.{Point}
-use Rattle.lfm_core.specs.declared.points.Point.TheVariants.{PushExchange, PushedHandoffLoad, ReleaseHandoffStore, TakeClearHead}
+use Rattle.lfm_core.specs.declared.points.Point.TheVariants.{Asleep, PushExchange, PushedHandoffLoad, ReleaseHandoffStore, TakeClearHead}
 use Rattle.lfm_core.specs.declared.points.Pusher.{Pusher}
+use Rattle.lfm_core.specs.declared.points.Sleeper.{Sleeper}
 use Rattle.lfm_core.specs.declared.schedule.Line.{Line}
 use Rattle.lfm_words.specs.declared.links.Link.{Link}
 use Rattle.lfm_words.specs.declared.pop_lists.Record.{Record}
-use Rattle.lfm_words.specs.declared.wakes.Wake.TheVariants.{Grant}
+use Rattle.lfm_words.specs.declared.wakes.Wake.TheVariants.{Waiting, Grant}
 use Rattle.lfm_core.specs.After.{same_link}
 use Rattle.lfm_core.specs.Cases.{GoesBy, case_of_event, ReadsRun}
 use Rattle.lfm_core.specs.Core.{Core}
-use Rattle.lfm_core.specs.Lawful.{Lawful}
+use Rattle.lfm_core.specs.Lawful.{IsSent, Lawful}
 use Rattle.lfm_core.specs.Limits.{are_in_limits}
 use Rattle.lfm_core.specs.Lines.{is_open, steps, longest_call, lines_core}
 use Rattle.lfm_core.specs.Place.{place_of}
 use Rattle.lfm_core.specs.Queue.{queue_of}
 use Rattle.lfm_core.specs.Reading.{Reads}
 use Rattle.lfm_core.specs.Schedules.{Event, makes, happens, run_of, reached, push_record, popped_record, answer_record, answer_record_of_lines, is_call, weight_of_call, steps_of_call}
-use Rattle.lfm_core.specs.Seats.{seat, wake}
+use Rattle.lfm_core.specs.Seats.{seat, wake, unposted}
 use Rattle.lfm_core.specs.Step.{begin, start}
-use Rattle.lfm_core.specs.Watched.{Watched}
+use Rattle.lfm_core.specs.Watched.{Waits, Watched}
 
 -- a state that some schedule reaches
 pub record IsReached (c : Core) : Type 0 where
@@ -108,16 +109,24 @@ pub record IsHeld (c : Core) : Type 0 where
   pub owner : ℕ
   pub depth : 0 < (seat c.seats owner).depth
 
--- a grant waits to be loaded
+-- a grant waits to be loaded by a seat that sleeps
 pub record IsGranted (c : Core) : Type 0 where
   pub sleeper : ℕ
+  pub since : Sleeper
   pub stamp : ℕ
   pub word : wake c.wakes sleeper ≡ Grant stamp
+  pub sleeps : (seat c.seats sleeper).point ≡ Asleep since
 
 -- without an open call nothing is posted, and if the count is above 0 a seat owns or a grant waits
 abbrev pub QuiescentStatesRest : Type 0
 QuiescentStatesRest =
-    (c : Core) → IsReached c → IsQuiet c → (c.handoff.seat ≡ 0) × (0 < c.count → IsHeld c ⊎ IsGranted c)
+    (c : Core) → IsReached c → IsQuiet c → (c.handoff ≡ unposted) × (0 < c.count → IsHeld c ⊎ IsGranted c)
+
+-- no seat sleeps where no grant can come: it is queued, granted, WAITING for a send, or on the way by one
+abbrev pub SleepersAreReachable : Type 0
+SleepersAreReachable =
+    (c : Core) (t : ℕ) (since : Sleeper) → IsReached c → (seat c.seats t).point ≡ Asleep since
+    → Waits c t ⊎ (((stamp : ℕ) × (wake c.wakes t ≡ Grant stamp)) ⊎ ((wake c.wakes t ≡ Waiting) ⊎ IsSent c t))
 
 -- the carriers that have won a handoff exchange
 abbrev pub has_won : Carrier → Bool

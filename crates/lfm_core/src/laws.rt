@@ -13,6 +13,7 @@ ghost use Rattle.lfm_core.specs.Laws.{
   AnswersAreTheRecords,
   HandoffsAreWatched,
   QuiescentStatesRest,
+  SleepersAreReachable,
   TakesFindARecord,
   FailedPushesSeeChange,
   CallsPostOnce,
@@ -30,7 +31,8 @@ pub fn lines_are_events()
 
 /// Every state that is reached is lawful: it has a reading as an abstract mutex, the owner word is the owning seat, the seats
 /// of the queue are distinct, their stamps are consecutive and end at the push word's, the count equation holds, a posted
-/// handoff is watched and is its poster's last, and wake words stand only where they may.
+/// handoff is watched and is the last of its poster, which is a seat, a handoff word without a seat is 0, and wake words stand
+/// only where they may: who is granted has loaded its grant, or will load it before it begins any other call.
 pub fn states_are_lawful()
     ensures { StatesAreLawful }
 {}
@@ -77,9 +79,16 @@ pub fn handoffs_are_watched()
     ensures { HandoffsAreWatched }
 {}
 
-/// Without an open call nothing is posted, and if the count is above 0 a seat owns or a grant waits to be loaded.
+/// Without an open call nothing is posted, and if the count is above 0 a seat owns or a grant waits to be loaded by a seat
+/// that sleeps.
 pub fn quiescent_states_rest()
     ensures { QuiescentStatesRest }
+{}
+
+/// No seat sleeps where no grant can come: a seat that sleeps is queued, or granted, or its wake word is WAITING so that a
+/// send may claim it, or a send has claimed it and is on the way to its grant.
+pub fn sleepers_are_reachable()
+    ensures { SleepersAreReachable }
 {}
 
 /// A take after a successful handoff exchange, in `lock`, `unlock` or `send_lock`, finds a record.

@@ -2,7 +2,6 @@
 use Rattle.std.proofs.Common.{Option, Some, None, List, [], ◌∷◌}
 use Rattle.lfm_model.specs.Abstract.{AbstractMutex}
 use Rattle.lfm_model.specs.AbstractRuns.{Case, Follows, stepped, stayed, IsRunFrom}
-use Rattle.lfm_core.specs.declared.limits.Limits.{Limits}
 use Rattle.lfm_core.specs.Cases.{GoesBy, case_of_event, ReadsRun}
 use Rattle.lfm_core.specs.Core.{Core}
 use Rattle.lfm_core.specs.Ghost.{Ghost}

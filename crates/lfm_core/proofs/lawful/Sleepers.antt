@@ -4,15 +4,13 @@ use Rattle.std.proofs.lemmas.Bool.{cases_Bool}
 use Rattle.std.proofs.Math.Bool.{or-false}
 use Rattle.lfm_core.specs.declared.points.Point.TheVariants.{Asleep}
 use Rattle.lfm_core.specs.declared.points.Sleeper.{Sleeper}
-use Rattle.lfm_core.specs.declared.points.Sleeper.TheVariants as Sleeper
-use Rattle.lfm_words.specs.declared.wakes.Wake.{Wake}
 use Rattle.lfm_words.specs.declared.wakes.Wake.TheVariants.{Waiting, Claimed, Grant}
 use Rattle.lfm_core.specs.Core.{Core}
 use Rattle.lfm_core.specs.Ghost.{Responsibility, Standing, Ghost}
 use Rattle.lfm_core.specs.Lawful.{IsSent}
 use Rattle.lfm_core.specs.Laws.{SleepersAreReachable}
 use Rattle.lfm_core.specs.Seats.{seat, wake}
-use Rattle.lfm_core.specs.Steady.{StandsAt, Fits}
+use Rattle.lfm_core.specs.Steady.{Fits}
 use Rattle.lfm_core.specs.Views.{grant_at, is_queued, is_some, is_entered, is_apart, wake_of_waiter, wake_by}
 use Rattle.lfm_core.specs.Watched.{Waits}
 use Rattle.lfm_core.proofs.lawful.LawfulRead.{lawful_read}

@@ -22,6 +22,7 @@ pub mod ReleaseBounds
 pub mod ReleaseFalls
 pub mod RunLaws
 pub mod SameSteps
+pub mod Sleepers
 pub mod StateLaws
 pub mod StepsFall
 pub mod StepsLeft

@@ -2,17 +2,18 @@
 use Rattle.std.specs.Prelude.{◌≡◌, ◌≢◌, ◌⊎◌, ⊤, ℕ, ◌+◌, ◌<◌, ◌≤◌, List, length, AllPairs, slice_index_or}
 use Rattle.lfm_model.specs.Abstract.{AbstractMutex, AbstractPlace, owner}
 use Rattle.lfm_core.specs.declared.points.Point.{Point}
-use Rattle.lfm_core.specs.declared.points.Point.TheVariants.{Asleep, ReceiveWakeLoad, SendWakeStore, SendPushLook, PushedHandoffExchange, TryHandoffExchange}
+use Rattle.lfm_core.specs.declared.points.Point.TheVariants.{Asleep, ReceiveWakeLoad, ReceiveWakeStore, SendWakeStore, SendPushLook, PushedHandoffLoad, PushedHandoffExchange, TryHandoffExchange}
+use Rattle.lfm_core.specs.declared.points.Pusher.TheVariants as Pusher
 use Rattle.lfm_core.specs.declared.points.Sleeper.TheVariants as Sleeper
 use Rattle.lfm_core.specs.declared.seats.SeatState.{SeatState}
 use Rattle.lfm_words.specs.declared.handoffs.Handoff.{Handoff}
 use Rattle.lfm_words.specs.declared.pop_lists.Record.{Record}
-use Rattle.lfm_words.specs.declared.wakes.Wake.TheVariants.{Waiting, Claimed}
+use Rattle.lfm_words.specs.declared.wakes.Wake.TheVariants.{Waiting, Claimed, Grant}
 use Rattle.lfm_core.specs.Core.{Core}
 use Rattle.lfm_core.specs.Errands.{Asks, IsClaimedFor}
 use Rattle.lfm_core.specs.Queue.{queue_of}
 use Rattle.lfm_core.specs.Reading.{Reads, IsCounted}
-use Rattle.lfm_core.specs.Seats.{seat, wake}
+use Rattle.lfm_core.specs.Seats.{seat, wake, unposted, IsSeat}
 use Rattle.lfm_core.specs.Watched.{Waits, Watched}
 
 abbrev pub owning_seat : AbstractPlace → ℕ
@@ -40,6 +41,16 @@ SleepsAsWaiter (Asleep Sleeper.Waiter) = ⊤
 SleepsAsWaiter (ReceiveWakeLoad Sleeper.Waiter) = ⊤
 SleepsAsWaiter _ = ⊥
 
+-- a seat at this point has loaded the grant in its wake word, or will load it before it begins any other call: it sleeps, receives,
+-- or is a locker that has pushed its record
+abbrev pub LoadsItsGrant : Point → Type 0
+LoadsItsGrant (Asleep sleeper) = ⊤
+LoadsItsGrant (ReceiveWakeLoad sleeper) = ⊤
+LoadsItsGrant (ReceiveWakeStore stamp) = ⊤
+LoadsItsGrant (PushedHandoffLoad Pusher.Locker) = ⊤
+LoadsItsGrant (PushedHandoffExchange Pusher.Locker seen) = ⊤
+LoadsItsGrant _ = ⊥
+
 -- a send is about to store the free grant of seat t
 pub record IsBroughtIn (c : Core) (t : ℕ) : Type 0 where
   pub sender : ℕ
@@ -56,10 +67,13 @@ pub record IsLawful (c : Core) (a : AbstractMutex) : Type 0 where
   pub stamps : EndsAt c.push.stamp (queue_of c)
   pub count : IsCounted c a
   pub watched : Watched c
+  pub unposted_word : c.handoff.seat ≡ 0 → c.handoff ≡ unposted
+  pub poster : 0 < c.handoff.seat → IsSeat c.seats c.handoff.seat
   pub number : 0 < c.handoff.seat → c.handoff.post ≡ (seat c.seats c.handoff.seat).posts
   pub numbers : (s : ℕ) → ReadBefore c.seats (seat c.seats s).point
   pub waiting_words : (t : ℕ) → wake c.wakes t ≡ Waiting → SleepsAsWaiter (seat c.seats t).point
   pub claimed_words : (t : ℕ) → wake c.wakes t ≡ Claimed → SleepsAsWaiter (seat c.seats t).point × IsSent c t
+  pub granted_words : (t stamp : ℕ) → wake c.wakes t ≡ Grant stamp → LoadsItsGrant (seat c.seats t).point
 
 -- a state has a reading, and is lawful as that
 pub record Lawful (c : Core) : Type 0 where

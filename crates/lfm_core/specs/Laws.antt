@@ -1,32 +1,33 @@
 -- The laws of every schedule: of every list of calls that begin and single steps, for every number of seats and budget in
 -- their limits. Each is the contract of a public function of `laws`.
 use Rattle.std.specs.Prelude.{◌≡◌, ◌⊎◌, ℕ, Bool, true, false, ◌+◌, ◌<◌, ◌≤◌, ◌++◌, List, [], ◌∷◌, length, slice_index_or}
-use Rattle.lfm_model.specs.Abstract.{AbstractMutex, AbstractPlace, free, owner, passed, posted, carried}
+use Rattle.lfm_model.specs.Abstract.{AbstractMutex, AbstractPlace, all_free, free, owner, passed, posted, carried}
 use Rattle.lfm_model.specs.AbstractRuns.{IsRun}
 use Rattle.lfm_model.specs.declared.answers.Place.{Place}
 use Rattle.lfm_core.specs.declared.answers.Call.TheVariants.{Unlock, StartWait}
 use Rattle.lfm_core.specs.declared.limits.Limits.{Limits}
 use Rattle.lfm_core.specs.declared.points.Carrier.{Carrier}
 use Rattle.lfm_core.specs.declared.points.Point.{Point}
-use Rattle.lfm_core.specs.declared.points.Point.TheVariants.{PushExchange, PushedHandoffLoad, ReleaseHandoffStore, TakeClearHead}
+use Rattle.lfm_core.specs.declared.points.Point.TheVariants.{Asleep, PushExchange, PushedHandoffLoad, ReleaseHandoffStore, TakeClearHead}
 use Rattle.lfm_core.specs.declared.points.Pusher.{Pusher}
+use Rattle.lfm_core.specs.declared.points.Sleeper.{Sleeper}
 use Rattle.lfm_core.specs.declared.schedule.Line.{Line}
 use Rattle.lfm_words.specs.declared.links.Link.{Link}
 use Rattle.lfm_words.specs.declared.pop_lists.Record.{Record}
-use Rattle.lfm_words.specs.declared.wakes.Wake.TheVariants.{Grant}
+use Rattle.lfm_words.specs.declared.wakes.Wake.TheVariants.{Waiting, Grant}
 use Rattle.lfm_core.specs.After.{same_link}
 use Rattle.lfm_core.specs.Cases.{GoesBy, case_of_event, ReadsRun}
 use Rattle.lfm_core.specs.Core.{Core}
-use Rattle.lfm_core.specs.Lawful.{Lawful}
+use Rattle.lfm_core.specs.Lawful.{IsSent, Lawful}
 use Rattle.lfm_core.specs.Limits.{are_in_limits}
 use Rattle.lfm_core.specs.Lines.{is_open, steps, longest_call, lines_core}
 use Rattle.lfm_core.specs.Place.{place_of}
 use Rattle.lfm_core.specs.Queue.{queue_of}
 use Rattle.lfm_core.specs.Reading.{Reads}
-use Rattle.lfm_core.specs.Schedules.{Event, makes, happens, run_of, reached, push_record, popped_record, answer_record, is_call, weight_of_call, steps_of_call}
-use Rattle.lfm_core.specs.Seats.{seat, wake}
+use Rattle.lfm_core.specs.Schedules.{Event, makes, happens, run_of, reached, push_record, popped_record, answer_record, answer_record_of_lines, is_call, weight_of_call, steps_of_call}
+use Rattle.lfm_core.specs.Seats.{seat, wake, unposted}
 use Rattle.lfm_core.specs.Step.{begin, start}
-use Rattle.lfm_core.specs.Watched.{Watched}
+use Rattle.lfm_core.specs.Watched.{Waits, Watched}
 
 -- a state that some schedule reaches
 pub record IsReached (c : Core) : Type 0 where
@@ -35,22 +36,25 @@ pub record IsReached (c : Core) : Type 0 where
   pub allowed : are_in_limits limits.seats limits.budget ≡ true
   pub here : c ≡ reached limits events
 
--- what lines do to a state, a schedule of events does, so that every law of events is one of lines
+-- what lines do to a state, a schedule of events does, and both answer the same Held(Queued), so that every law of events is
+-- one of lines
 abbrev pub LinesAreEvents : Type 0
-LinesAreEvents = (c : Core) (lines : List Line) → (events : List Event) × (lines_core c lines ≡ run_of c events)
+LinesAreEvents =
+    (c : Core) (lines : List Line)
+    → (events : List Event) × (lines_core c lines ≡ run_of c events) × (answer_record_of_lines c lines ≡ answer_record c events)
 
 -- The abstract mutex
 
 abbrev pub StatesAreLawful : Type 0
 StatesAreLawful = (c : Core) → IsReached c → Lawful c
 
--- the readings of a run are a run of the abstract mutex, which starts with nobody holding
+-- the readings of a run are a run of the abstract mutex, which starts with nobody holding, asking or waiting
 abbrev pub RunsAreAbstractRuns : Type 0
 RunsAreAbstractRuns =
     (limits : Limits) (events : List Event) → are_in_limits limits.seats limits.budget ≡ true
-    → (a : AbstractMutex) × (later : List AbstractMutex) × (a.place ≡ free) × Reads (start limits) a × ReadsRun (start limits) events later × IsRun (a ∷ later)
+    → Reads (start limits) all_free × ((later : List AbstractMutex) × ReadsRun (start limits) events later × IsRun (all_free ∷ later))
 
--- step by step, the readings before and after an event go by the case that the table of kinds names
+-- step by step, the readings before and after an event go by its case, which is that of `case_of_step` where it is a step
 abbrev pub EventsAreTheirCases : Type 0
 EventsAreTheirCases =
     (c : Core) (e : Event) (a b : AbstractMutex) → IsReached c → Reads c a → Reads (happens c e).core b → GoesBy (case_of_event c e) a b
@@ -105,16 +109,24 @@ pub record IsHeld (c : Core) : Type 0 where
   pub owner : ℕ
   pub depth : 0 < (seat c.seats owner).depth
 
--- a grant waits to be loaded
+-- a grant waits to be loaded by a seat that sleeps
 pub record IsGranted (c : Core) : Type 0 where
   pub sleeper : ℕ
+  pub since : Sleeper
   pub stamp : ℕ
   pub word : wake c.wakes sleeper ≡ Grant stamp
+  pub sleeps : (seat c.seats sleeper).point ≡ Asleep since
 
 -- without an open call nothing is posted, and if the count is above 0 a seat owns or a grant waits
 abbrev pub QuiescentStatesRest : Type 0
 QuiescentStatesRest =
-    (c : Core) → IsReached c → IsQuiet c → (c.handoff.seat ≡ 0) × (0 < c.count → IsHeld c ⊎ IsGranted c)
+    (c : Core) → IsReached c → IsQuiet c → (c.handoff ≡ unposted) × (0 < c.count → IsHeld c ⊎ IsGranted c)
+
+-- no seat sleeps where no grant can come: it is queued, granted, WAITING for a send, or on the way by one
+abbrev pub SleepersAreReachable : Type 0
+SleepersAreReachable =
+    (c : Core) (t : ℕ) (since : Sleeper) → IsReached c → (seat c.seats t).point ≡ Asleep since
+    → Waits c t ⊎ (((stamp : ℕ) × (wake c.wakes t ≡ Grant stamp)) ⊎ ((wake c.wakes t ≡ Waiting) ⊎ IsSent c t))
 
 -- the carriers that have won a handoff exchange
 abbrev pub has_won : Carrier → Bool

@@ -4,9 +4,11 @@ use Rattle.lfm_core.specs.declared.answers.Call.{Call}
 use Rattle.lfm_core.specs.declared.limits.Limits.{Limits}
 use Rattle.lfm_core.specs.declared.points.Point.{Point}
 use Rattle.lfm_core.specs.declared.points.Point.TheVariants.{Rest, Asleep}
+use Rattle.lfm_core.specs.declared.schedule.Line.{Line}
 use Rattle.lfm_words.specs.declared.pop_lists.Record.{Record}
 use Rattle.lfm_core.specs.Core.{Core, Moved}
 use Rattle.lfm_core.specs.Events.{pushed_by, popped_by, answered_by}
+use Rattle.lfm_core.specs.Lines.{line_moved}
 use Rattle.lfm_core.specs.Seats.{seat}
 use Rattle.lfm_core.specs.Step.{begin, step, start}
 
@@ -56,6 +58,12 @@ popped_record c (e ∷ later) = popped_in c e ++ popped_record (happens c e).cor
 abbrev pub answer_record : Core → List Event → List Record
 answer_record c [] = []
 answer_record c (e ∷ later) = answered_in c e ++ answer_record (happens c e).core later
+
+-- the same of some lines: of all steps of a line only the last one's turn can answer
+abbrev pub answer_record_of_lines : Core → List Line → List Record
+answer_record_of_lines c [] = []
+answer_record_of_lines c (line ∷ lines) =
+    answered_by line.seat (line_moved c line).turn ++ answer_record_of_lines (line_moved c line).core lines
 
 -- The steps of one call
 

@@ -13,6 +13,7 @@ ghost use Rattle.lfm_core.specs.Laws.{
   AnswersAreTheRecords,
   HandoffsAreWatched,
   QuiescentStatesRest,
+  SleepersAreReachable,
   TakesFindARecord,
   FailedPushesSeeChange,
   CallsPostOnce,
@@ -22,25 +23,28 @@ ghost use Rattle.lfm_core.specs.Laws.{
   PushesAloneFailOnce,
 };
 
-/// What lines of a schedule do to a state, some list of calls and single steps does. So each law here is one of `run`.
+/// What lines of a schedule do to a state, some list of calls and single steps does, and the answers `Held(Queued)` of those
+/// lines are the answers of that list, in the same order. So each law here is one of `run`.
 pub fn lines_are_events()
     ensures { LinesAreEvents }
 {}
 
 /// Every state that is reached is lawful: it has a reading as an abstract mutex, the owner word is the owning seat, the seats
 /// of the queue are distinct, their stamps are consecutive and end at the push word's, the count equation holds, a posted
-/// handoff is watched and is its poster's last, and wake words stand only where they may.
+/// handoff is watched and is the last of its poster, which is a seat, a handoff word without a seat is 0, and wake words stand
+/// only where they may: who is granted has loaded its grant, or will load it before it begins any other call.
 pub fn states_are_lawful()
     ensures { StatesAreLawful }
 {}
 
-/// The readings of a run are a run of the abstract mutex, which starts with nobody holding it. So at most one seat owns it,
-/// and it is handed on only as the abstract mutex does.
+/// The readings of a run are a run of the abstract mutex from its start, where nobody holds, asks or waits. So at most one
+/// seat owns it, it is handed on only as the abstract mutex does, and the laws of abstract runs hold of its readings.
 pub fn runs_are_abstract_runs()
     ensures { RunsAreAbstractRuns }
 {}
 
-/// Step by step: the reading changes by the one abstract case that the table of kinds names for the step, or not at all.
+/// Step by step: the reading changes by the one abstract case that `case_of_step` names for the step, or not at all where it
+/// names none. A call that begins leaves the reading as it was.
 pub fn events_are_their_cases()
     ensures { EventsAreTheirCases }
 {}
@@ -75,9 +79,16 @@ pub fn handoffs_are_watched()
     ensures { HandoffsAreWatched }
 {}
 
-/// Without an open call nothing is posted, and if the count is above 0 a seat owns or a grant waits to be loaded.
+/// Without an open call nothing is posted, and if the count is above 0 a seat owns or a grant waits to be loaded by a seat
+/// that sleeps.
 pub fn quiescent_states_rest()
     ensures { QuiescentStatesRest }
+{}
+
+/// No seat sleeps where no grant can come: a seat that sleeps is queued, or granted, or its wake word is WAITING so that a
+/// send may claim it, or a send has claimed it and is on the way to its grant.
+pub fn sleepers_are_reachable()
+    ensures { SleepersAreReachable }
 {}
 
 /// A take after a successful handoff exchange, in `lock`, `unlock` or `send_lock`, finds a record.

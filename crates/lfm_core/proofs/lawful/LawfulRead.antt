@@ -1,5 +1,5 @@
 -- A state that a ghost fits is lawful, as the ghost's abstract mutex.
-use Rattle.std.proofs.Common.{◌≡◌, ◌≢◌, ◌⊎◌, ℕ, zero, suc, Bool, true, false, Option, Some, None, refl, sym, ◌∙◌, inl, inr, arith}
+use Rattle.std.proofs.Common.{◌≡◌, ◌≢◌, ◌⊎◌, ℕ, zero, suc, ◌<◌, Bool, true, false, Option, Some, None, List, refl, sym, ap, ◌∙◌, inl, inr, arith}
 use Rattle.std.proofs.lemmas.Bool.{cases_Bool, eqb-true, eq-eqb, ne_eqb}
 use Rattle.lfm_model.specs.declared.answers.How.{How}
 use Rattle.lfm_core.specs.declared.points.Entrant.{Entrant}
@@ -7,15 +7,17 @@ use Rattle.lfm_core.specs.declared.points.Point.{Point}
 use Rattle.lfm_core.specs.declared.points.Point.TheVariants.{Rest, Asleep, LockCountAdd, LockOwnerLoad, TryCountExchange, TryOwnerLoad, TryHandoffExchange, SendWakeExchange, SendCountAdd, SendPushLook, SendWakeStore, PushLoad, LinkStore, PushExchange, PushedHandoffLoad, PushedHandoffExchange, EnterOwnerStore, ReceiveWakeLoad, ReceiveWakeStore}
 use Rattle.lfm_core.specs.declared.points.Pusher.{Pusher}
 use Rattle.lfm_core.specs.declared.points.Sleeper.TheVariants as Sleeper
+use Rattle.lfm_core.specs.declared.seats.SeatState.{SeatState}
+use Rattle.lfm_words.specs.declared.handoffs.Handoff.{Handoff}
 use Rattle.lfm_words.specs.declared.wakes.Wake.{Wake}
-use Rattle.lfm_words.specs.declared.wakes.Wake.TheVariants.{Waiting, Claimed}
+use Rattle.lfm_words.specs.declared.wakes.Wake.TheVariants.{Waiting, Claimed, Grant}
 use Rattle.lfm_core.specs.Core.{Core}
-use Rattle.lfm_core.specs.Ghost.{Responsibility, nobody, owned, entering, Standing, apart, claimed, asks, queued, Ghost}
-use Rattle.lfm_core.specs.Lawful.{ReadBefore, SleepsAsWaiter, IsSent, IsBroughtIn, IsLawful}
+use Rattle.lfm_core.specs.Ghost.{Responsibility, nobody, owned, posted, entering, Standing, apart, claimed, asks, queued, Ghost}
+use Rattle.lfm_core.specs.Lawful.{ReadBefore, SleepsAsWaiter, LoadsItsGrant, IsSent, IsBroughtIn, IsLawful}
 use Rattle.lfm_core.specs.Outcome.{abstract}
-use Rattle.lfm_core.specs.Seats.{seat, wake}
-use Rattle.lfm_core.specs.Steady.{KnowsAt, Fits}
-use Rattle.lfm_core.specs.Views.{by_depth, claim_of_pusher, claim_to_enter, claim_at, claim, grant_at, is_entered, wake_of_waiter, wake_at, wake_by}
+use Rattle.lfm_core.specs.Seats.{seat, wake, unposted, IsSeat}
+use Rattle.lfm_core.specs.Steady.{KnowsAt, awaits_grant, HandoffFits, Fits}
+use Rattle.lfm_core.specs.Views.{by_depth, claim_of_pusher, claim_to_enter, claim_at, claim, grant_at, is_entered, is_some, wake_of_waiter, wake_at, wake_by}
 use Rattle.lfm_core.proofs.lawful.QueueRead.{waits_told, queue_distinct, queue_ends}
 use Rattle.lfm_core.proofs.lawful.Readings.{reads_ghost, owner_read}
 use Rattle.lfm_core.proofs.steady.Seated.{seat_of_standing}
@@ -130,6 +132,37 @@ sent_of c g t (asks z) fits stands sleeps word =
     inr (inl (record { agent = z; some = is.above; counts = (fits.agents t).asked z stands }))
 sent_of c g t (queued stamp) fits stands sleeps word = inr (inr (inl (waits_told c g fits t (rw stands))))
 
+-- a grant that is loaded is that of a receive, and one that isn't is that of a seat that will load it
+wake_granted : (place : Responsibility) (standing : Standing) (s stamp : ℕ) (p : Point) → wake_at place standing s p ≡ Grant stamp → LoadsItsGrant p
+wake_granted place standing s stamp (ReceiveWakeStore x) e = tt
+wake_granted place standing s stamp (Asleep sleeper) e = tt
+wake_granted place standing s stamp (ReceiveWakeLoad sleeper) e = tt
+wake_granted place standing s stamp _ e = absurd (cc)
+
+will_load : (p : Point) → awaits_grant p ≡ true → LoadsItsGrant p
+will_load (Asleep sleeper) e = tt
+will_load (ReceiveWakeLoad sleeper) e = tt
+will_load (PushedHandoffLoad Pusher.Locker) e = tt
+will_load (PushedHandoffLoad (Pusher.Sender t)) e = absurd (cc)
+will_load (PushedHandoffExchange Pusher.Locker seen) e = tt
+will_load (PushedHandoffExchange (Pusher.Sender t) seen) e = absurd (cc)
+will_load _ e = absurd (cc)
+
+loads_grant : (grant : Option ℕ) (place : Responsibility) (standing : Standing) (s stamp : ℕ) (p : Point) → (is_some grant ≡ true → awaits_grant p ≡ true)
+    → wake_by grant place standing s p ≡ Grant stamp → LoadsItsGrant p
+loads_grant (Some x) place standing s stamp p awaits e = will_load p (awaits refl)
+loads_grant None place standing s stamp p awaits e = wake_granted place standing s stamp p e
+
+-- The handoff word
+
+handoff_unposted : (seats : List SeatState) (p : Responsibility) (n : Handoff) → HandoffFits seats p n → n.seat ≡ 0 → n ≡ unposted
+handoff_unposted seats posted n fits none = absurd (omega (arith, fits.above, none))
+handoff_unposted seats _ n fits none = fits
+
+handoff_poster : (seats : List SeatState) (p : Responsibility) (n : Handoff) → HandoffFits seats p n → 0 < n.seat → IsSeat seats n.seat
+handoff_poster seats posted n fits some = fits
+handoff_poster seats _ n fits some = let none = ap (λ h. h.seat) fits in absurd (omega (arith, none, some))
+
 pub lawful_read : (c : Core) (g : Ghost) → Fits c g → IsLawful c (abstract g)
 lawful_read c g fits =
     record {
@@ -139,10 +172,15 @@ lawful_read c g fits =
       stamps = queue_ends c g fits;
       count = counted_read c g fits;
       watched = watched_read c g fits;
+      unposted_word = λ none. handoff_unposted c.seats g.place c.handoff fits.words.handoff none;
+      poster = λ some. handoff_poster c.seats g.place c.handoff fits.words.handoff some;
       number = λ some. (fits.each c.handoff.seat).number refl some;
       numbers = λ s. numbers_known c g s (seat c.seats s).posts (seat c.seats s).point (fits.each s).knows;
       waiting_words = λ t is. (sleeps_of c g t fits (inl is)).0;
       claimed_words = λ t is.
           let sleeps = sleeps_of c g t fits (inr is) in
           (sleeps.0, sent_of c g t (g.standing t) fits refl sleeps.0 (sym sleeps.1 ∙ is));
+      granted_words = λ t stamp is.
+          loads_grant (grant_at g.place t) g.place (g.standing t) t stamp (seat c.seats t).point
+          (λ some. ((fits.each t).granted some).0) (sym (fits.each t).woken ∙ is);
     }

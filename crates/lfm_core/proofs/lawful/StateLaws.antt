@@ -1,18 +1,21 @@
 -- The laws of one state that a schedule reaches, each from the ghost that fits it.
-use Rattle.std.proofs.Common.{◌≡◌, ◌≢◌, ◌⊎◌, ℕ, zero, suc, Bool, true, false, ◌<◌, refl, sym, ◌∙◌, inl, inr, arith}
+use Rattle.std.proofs.Common.{◌≡◌, ◌≢◌, ◌⊎◌, ℕ, zero, suc, Bool, true, false, ◌<◌, refl, sym, ap, ◌∙◌, inl, inr, arith}
 use Rattle.std.proofs.lemmas.Bool.{cases_eq, cases_lt, eq-eqb, ne_eqb, and_from, false≢true}
 use Rattle.lfm_core.specs.declared.points.Carrier.{Carrier}
 use Rattle.lfm_core.specs.declared.points.Point.{Point}
 use Rattle.lfm_core.specs.declared.points.Point.TheVariants.{Rest, Asleep}
+use Rattle.lfm_core.specs.declared.points.Sleeper.{Sleeper}
 use Rattle.lfm_core.specs.declared.seats.SeatState.{SeatState}
 use Rattle.lfm_words.specs.declared.links.Link.{Link}
+use Rattle.lfm_words.specs.declared.wakes.Wake.TheVariants.{Grant}
 use Rattle.lfm_core.specs.After.{same_link}
 use Rattle.lfm_core.specs.Core.{Core}
 use Rattle.lfm_core.specs.Ghost.{Responsibility, nobody, owned, granted, posted, entering, accepting, leaving, serving, Ghost}
+use Rattle.lfm_core.specs.Lawful.{LoadsItsGrant}
 use Rattle.lfm_core.specs.Laws.{StatesAreLawful, HandoffsAreWatched, IsQuiet, IsHeld, IsGranted, QuiescentStatesRest, has_won, TakesFindARecord, FailedPushesSeeChange}
 use Rattle.lfm_core.specs.Outcome.{abstract}
 use Rattle.lfm_core.specs.Schedules.{is_call}
-use Rattle.lfm_core.specs.Seats.{seat}
+use Rattle.lfm_core.specs.Seats.{seat, wake, unposted}
 use Rattle.lfm_core.specs.Steady.{IsSeen, HasQueue, StandsAsCarrier, KnowsRecord, own_unit, again_unit, Fits}
 use Rattle.lfm_core.specs.Views.{by_depth, claim_at, claim, held_by}
 use Rattle.lfm_core.specs.Watched.{Watches}
@@ -36,10 +39,10 @@ quiet_watch c s x Rest quiet watches = watches
 quiet_watch c s x (Asleep sleeper) quiet watches = watches
 quiet_watch c s x _ quiet watches = cc
 
-quiet_posts : (c : Core) (g : Ghost) → Fits c g → IsQuiet c → c.handoff.seat ≡ 0
+quiet_posts : (c : Core) (g : Ghost) → Fits c g → IsQuiet c → c.handoff ≡ unposted
 quiet_posts c g fits quiet =
     elim (cases_eq c.handoff.seat 0) [
-      | inl none ↦ none
+      | inl none ↦ (lawful_read c g fits).unposted_word none
       | inr some ↦
           let watcher = watched_read c g fits (omega arith) in
           absurd (quiet_watch c watcher.who (seat c.seats watcher.who) (seat c.seats watcher.who).point (quiet watcher.who) watcher.watches)
@@ -81,6 +84,17 @@ not_carried c g s p fits quiet place own carried =
     let none : is_carried p ≡ false = rw claims at none in
     false≢true (sym none ∙ carried)
 
+-- without an open call, who is to load a grant sleeps
+quiet_sleeps : (p : Point) → is_call p ≡ false → LoadsItsGrant p → (since : Sleeper) × (p ≡ Asleep since)
+quiet_sleeps (Asleep since) quiet loads = (since, refl)
+quiet_sleeps Rest quiet loads = absurd loads
+quiet_sleeps _ quiet loads = absurd (cc)
+
+quiet_grant : (c : Core) (g : Ghost) (t stamp : ℕ) → Fits c g → IsQuiet c → wake c.wakes t ≡ Grant stamp → IsGranted c
+quiet_grant c g t stamp fits quiet word =
+    let sleeps = quiet_sleeps (seat c.seats t).point (quiet t) ((lawful_read c g fits).granted_words t stamp word) in
+    record { sleeper = t; since = sleeps.0; stamp = stamp; word = word; sleeps = sleeps.1 }
+
 quiet_count : (c : Core) (g : Ghost) (p : Responsibility) → Fits c g → IsQuiet c → g.place ≡ p → 0 < c.count → IsHeld c ⊎ IsGranted c
 quiet_count c g nobody fits quiet place some =
     let work = rw place at fits.words.work in
@@ -91,10 +105,11 @@ quiet_count c g (owned s again) fits quiet place some =
     let claims : claim (seat c.seats s) s ≡ owned s again = (fits.each s).claims ∙ rw (place, eq-eqb s s refl) refl in
     inl (record { owner = s; depth = quiet_owns (seat c.seats s).depth s again (seat c.seats s).point (quiet s) claims })
 quiet_count c g (granted s stamp) fits quiet place some =
-    inr (record { sleeper = s; stamp = stamp; word = (fits.each s).woken ∙ rw (place, eq-eqb s s refl) refl })
+    inr (quiet_grant c g s stamp fits quiet ((fits.each s).woken ∙ rw (place, eq-eqb s s refl) refl))
 quiet_count c g posted fits quiet place some =
     let is = rw place at fits.words.handoff in
-    absurd (omega (arith, is.above, quiet_posts c g fits quiet))
+    let none = ap (λ h. h.seat) (quiet_posts c g fits quiet) in
+    absurd (omega (arith, is.above, none))
 quiet_count c g (entering s into stamp) fits quiet place some = absurd (not_carried c g s _ fits quiet place (rw (eq-eqb s s refl) refl) refl)
 quiet_count c g (accepting s) fits quiet place some = absurd (not_carried c g s _ fits quiet place (rw (eq-eqb s s refl) refl) refl)
 quiet_count c g (leaving s) fits quiet place some = absurd (not_carried c g s _ fits quiet place (rw (eq-eqb s s refl) refl) refl)

@@ -6,7 +6,7 @@ use Rattle.lfm_words.specs.declared.wakes.Wake.TheVariants.{Quiet}
 use Rattle.lfm_core.specs.Ghost.{nobody, apart, Ghost}
 use Rattle.lfm_core.specs.Limits.{are_in_limits}
 use Rattle.lfm_core.specs.Seats.{entry, absent, no_link}
-use Rattle.lfm_core.specs.Steady.{SeatFits, asking_unit, queued_unit, Steady}
+use Rattle.lfm_core.specs.Steady.{SeatFits, asking_unit, queued_unit, Fits, Steady}
 use Rattle.lfm_core.specs.Step.{start}
 use Rattle.lfm_core.proofs.steady.Sums.{sum_none}
 
@@ -53,41 +53,41 @@ fits_at_start limits s =
       watches = λ place here. absurd (cc);
     }
 
-pub start_steady : (limits : Limits) → limits.seats ≤ 4095 → limits.budget ≤ 2 ^ 36 → Steady (start limits)
-start_steady limits few small =
+pub start_fits : (limits : Limits) → limits.seats ≤ 4095 → limits.budget ≤ 2 ^ 36 → Fits (start limits) at_start
+start_fits limits few small =
     let seats = length-replicate limits.seats absent in
     record {
-      ghost_state = at_start;
-      fits = record {
-        words = record {
-          owner = refl;
-          handoff = refl;
-          stamp = refl;
-          head = refl;
-          parts = omega arith;
-          count = refl;
-          work = (refl, refl);
-          carried = refl;
-          last = tt;
-          answers = refl;
-          listed = refl;
-        };
-        stamps = λ stamp above within. absurd (omega arith);
-        each = λ s. rw (same_entry absent limits.seats s, same_entry Quiet limits.seats s) (fits_at_start limits s);
-        agents = λ s. record { asked = λ agent asking. absurd (cc); sent = λ agent claiming. absurd (cc) };
-        sums = record {
-          asking = sym (sum_none (length (start limits).seats) (λ s. asking_unit apart) (λ s. refl));
-          queued = let none = sum_none (length (start limits).seats) (λ s. queued_unit apart) (λ s. refl) in omega arith;
-          pushed = sym (sum_none (length (start limits).seats) (λ s. 0) (λ s. refl));
-        };
-        sizes = record {
-          links = length-replicate limits.seats no_link ∙ sym seats;
-          wakes = length-replicate limits.seats Quiet ∙ sym seats;
-          seats = omega (arith, seats);
-          budget = small;
-        };
+      words = record {
+        owner = refl;
+        handoff = refl;
+        stamp = refl;
+        head = refl;
+        parts = omega arith;
+        count = refl;
+        work = (refl, refl);
+        carried = refl;
+        last = tt;
+        answers = refl;
+        listed = refl;
+      };
+      stamps = λ stamp above within. absurd (omega arith);
+      each = λ s. rw (same_entry absent limits.seats s, same_entry Quiet limits.seats s) (fits_at_start limits s);
+      agents = λ s. record { asked = λ agent asking. absurd (cc); sent = λ agent claiming. absurd (cc) };
+      sums = record {
+        asking = sym (sum_none (length (start limits).seats) (λ s. asking_unit apart) (λ s. refl));
+        queued = let none = sum_none (length (start limits).seats) (λ s. queued_unit apart) (λ s. refl) in omega arith;
+        pushed = sym (sum_none (length (start limits).seats) (λ s. 0) (λ s. refl));
+      };
+      sizes = record {
+        links = length-replicate limits.seats no_link ∙ sym seats;
+        wakes = length-replicate limits.seats Quiet ∙ sym seats;
+        seats = omega (arith, seats);
+        budget = small;
       };
     }
+
+pub start_steady : (limits : Limits) → limits.seats ≤ 4095 → limits.budget ≤ 2 ^ 36 → Steady (start limits)
+start_steady limits few small = record { ghost_state = at_start; fits = start_fits limits few small }
 
 -- the limits that the test allows are those of a steady state
 

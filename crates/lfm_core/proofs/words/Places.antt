@@ -1,7 +1,6 @@
 -- The word of each step has its place in the list of words.
 use Rattle.std.proofs.Common.{ℕ, ◌+◌, ◌*◌, ◌<◌, ◌≤◌, Option, Some, None, arith}
 use Rattle.lfm_core.specs.declared.kinds.Kind.{Kind}
-use Rattle.lfm_core.specs.declared.kinds.Word.{Word}
 use Rattle.lfm_core.specs.declared.seats.SeatState.{SeatState}
 use Rattle.lfm_core.specs.Points.{kind, target, word}
 use Rattle.lfm_core.specs.Ready.{IsReady}

@@ -1,4 +1,4 @@
--- The ranges in which the numbers of every state stay that a schedule reaches: no word and no number of a seat ever wraps.
+-- The ranges in which the numbers of every state stay that a schedule reaches, so that no step wraps any.
 use Rattle.std.specs.Prelude.{◌≡◌, ℕ, true, ◌+◌, ◌*◌, ◌≤◌, List, length}
 use Rattle.lfm_core.specs.declared.limits.Limits.{Limits}
 use Rattle.lfm_core.specs.Core.{Core, limits}

@@ -34,8 +34,8 @@ pub fn one_seat_owns()
     ensures { OneSeatOwns }
 {}
 
-/// The headline, that the mutex is never lost: where anybody holds it or wants it, exactly one owner, grant, posted handoff
-/// or call has the responsibility to own it or to hand it on. So never two have it, and never none.
+/// The headline, that the mutex is never lost: while the count is above 0, so while anybody holds it or wants it, exactly one
+/// owner, grant, posted handoff or call has the responsibility to own it or to hand it on. Never two have it, and never none.
 pub fn one_has_the_responsibility()
     ensures { OneHasTheResponsibility }
 {}

@@ -1,7 +1,6 @@
 -- Mutual exclusion, from the one reading of a lawful state: every claim is its place, and where the count is above 0 there is one.
-use Rattle.std.proofs.Common.{◌≡◌, ◌≢◌, ℕ, ◌<◌, refl, sym, ap, ◌∙◌, arith}
-use Rattle.lfm_model.specs.Abstract.{AbstractPlace, free, owner}
-use Rattle.lfm_core.specs.Core.{Core}
+use Rattle.std.proofs.Common.{◌≢◌, refl, sym, ap, ◌∙◌, arith}
+use Rattle.lfm_model.specs.Abstract.{free, owner}
 use Rattle.lfm_core.specs.Lawful.{owning_seat}
 use Rattle.lfm_core.specs.Laws.{OneSeatOwns, OneHasTheResponsibility}
 use Rattle.lfm_core.specs.Reading.{by_owner}
@@ -18,6 +17,6 @@ one_has_the_responsibility c is some =
     let lawful = states_are_lawful c is in
     let place = lawful.lawful.reads.place in
     let taken : lawful.reading.place ≢ free =
-        λ none. let zero = (count_is_zero_where_free c lawful.reading is lawful.lawful.reads).1 none in absurd (omega (arith, zero, some))
+    λ none. let zero = (count_is_zero_where_free c lawful.reading is lawful.lawful.reads).1 none in absurd (omega (arith, zero, some))
     in
     (lawful.reading.place, place.some taken, place.only)

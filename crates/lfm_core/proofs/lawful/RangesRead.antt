@@ -1,5 +1,5 @@
 -- The numbers of a steady state stay in their ranges, and its next steps have room.
-use Rattle.std.proofs.Common.{◌≡◌, ◌≢◌, ℕ, zero, suc, Bool, true, false, ◌+◌, ◌*◌, ◌<◌, ◌≤◌, length, nat_eq, if◌then◌else◌, refl, sym, ap, ◌∙◌, arith}
+use Rattle.std.proofs.Common.{◌≡◌, ◌≢◌, ℕ, zero, suc, true, false, ◌+◌, ◌*◌, ◌≤◌, length, refl, ap, arith}
 use Rattle.std.proofs.lemmas.Bool.{ne_eqb}
 use Rattle.lfm_core.specs.declared.points.Point.{Point}
 use Rattle.lfm_core.specs.declared.points.Point.TheVariants.{Rest, LockCountAdd, LockOwnerLoad, LockCountSubtract, TryCountExchange, TryOwnerLoad, SendWakeExchange, SendCountAdd, PushLoad, LinkStore, PushExchange, PushedHandoffLoad}
@@ -7,10 +7,10 @@ use Rattle.lfm_core.specs.declared.points.Pusher.{Pusher}
 use Rattle.lfm_core.specs.Core.{Core}
 use Rattle.lfm_core.specs.Ghost.{Responsibility, owned, Standing, apart, asks, queued, Ghost}
 use Rattle.lfm_core.specs.Numbered.{sum_to}
-use Rattle.lfm_core.specs.Ranges.{IsInRange, NumbersStayInRange, StepsHaveRoom}
+use Rattle.lfm_core.specs.Ranges.{NumbersStayInRange, StepsHaveRoom}
 use Rattle.lfm_core.specs.Reading.{unit_of_recursion}
 use Rattle.lfm_core.specs.Seats.{seat, IsSeat}
-use Rattle.lfm_core.specs.Steady.{StandsAt, DepthOfPusher, DepthAt, own_unit, again_unit, asking_unit, queued_unit, Fits, Steady}
+use Rattle.lfm_core.specs.Steady.{StandsAt, DepthOfPusher, DepthAt, own_unit, again_unit, asking_unit, queued_unit, Fits}
 use Rattle.lfm_core.specs.Views.{claim_at}
 use Rattle.lfm_core.proofs.lawful.ClaimsRead.{held_self, self_claims}
 use Rattle.lfm_core.proofs.lawful.CountRead.{again_read}
@@ -52,7 +52,7 @@ work_beside : (c : Core) (g : Ghost) (s : ℕ) → Fits c g → IsSeat c.seats s
 work_beside c g s fits is away =
     let none : work_unit (g.standing s) ≡ 0 = ap work_unit away in
     let most =
-        sum_bound_less (length c.seats) 1 s (λ t. work_unit (g.standing t)) is.above is.within (λ t. work_unit-le (g.standing t)) (omega (arith, none))
+    sum_bound_less (length c.seats) 1 s (λ t. work_unit (g.standing t)) is.above is.within (λ t. work_unit-le (g.standing t)) (omega (arith, none))
     in
     omega (arith, work_of c g fits, most)
 

@@ -1,5 +1,5 @@
 -- At the exchange that takes a posted handoff somebody's record hangs on the push word, and the pop list is empty.
-use Rattle.std.proofs.Common.{◌≡◌, ℕ, Bool, true, false, ◌<◌, Option, Some, None, [], nat_eq, if◌then◌else◌, refl, sym, ap, ◌∙◌, inl, inr, arith}
+use Rattle.std.proofs.Common.{◌≡◌, ℕ, Bool, true, false, ◌<◌, Option, Some, [], nat_eq, if◌then◌else◌, refl, sym, ap, ◌∙◌, inl, inr, arith}
 use Rattle.std.proofs.lemmas.Bool.{cases_Bool, false≢true}
 use Rattle.std.proofs.Math.Bool.{or-false}
 use Rattle.lfm_model.specs.AbstractRuns.{Case, take}

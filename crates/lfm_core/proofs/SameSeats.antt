@@ -43,7 +43,7 @@ seats_of_two : (c : Core) (b : Bool) (x y : Moved) → length x.core.seats ≡ l
 seats_of_two c true x y p q = p
 seats_of_two c false x y p q = q
 
-seats-step : (c : Core) (s : ℕ) → length (step c s).core.seats ≡ length c.seats
+pub seats-step : (c : Core) (s : ℕ) → length (step c s).core.seats ≡ length c.seats
 seats-step c s = seats_of_two c (is_seat c.seats s) _ _ (seats-step_of c s _ _) refl
 
 pub seats-begin : (c : Core) (s : ℕ) (call : Call) → length (begin c s call).core.seats ≡ length c.seats

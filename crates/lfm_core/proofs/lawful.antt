@@ -9,12 +9,15 @@ pub mod CountLaws
 pub mod CountRead
 pub mod LawfulRead
 pub mod Leaving
+pub mod LimitsKept
 pub mod LineEvents
+pub mod Owning
 pub mod PlacesRead
 pub mod PostsOnce
 pub mod PushOrder
 pub mod PushesAlone
 pub mod QueueRead
+pub mod RangesRead
 pub mod Reached
 pub mod Readings
 pub mod RecordsRead
@@ -28,3 +31,4 @@ pub mod StepsFall
 pub mod StepsLeft
 pub mod Unwalked
 pub mod WatchedRead
+pub mod WonPosts

@@ -1,8 +1,8 @@
 -- The laws of every schedule: of every list of calls that begin and single steps, for every number of seats and budget in
 -- their limits. Each is the contract of a public function of `laws`.
-use Rattle.std.specs.Prelude.{◌≡◌, ◌⊎◌, ℕ, Bool, true, false, ◌+◌, ◌<◌, ◌≤◌, ◌++◌, List, [], ◌∷◌, length, slice_index_or}
+use Rattle.std.specs.Prelude.{◌≡◌, ◌⊎◌, ℕ, Bool, true, false, ◌+◌, ◌<◌, ◌≤◌, ◌++◌, Some, List, [], ◌∷◌, length, slice_index_or}
 use Rattle.lfm_model.specs.Abstract.{AbstractMutex, AbstractPlace, all_free, free, owner, passed, posted, carried}
-use Rattle.lfm_model.specs.AbstractRuns.{IsRun}
+use Rattle.lfm_model.specs.AbstractRuns.{IsRun, take}
 use Rattle.lfm_model.specs.declared.answers.Place.{Place}
 use Rattle.lfm_core.specs.declared.answers.Call.TheVariants.{Unlock, StartWait}
 use Rattle.lfm_core.specs.declared.limits.Limits.{Limits}
@@ -18,12 +18,13 @@ use Rattle.lfm_words.specs.declared.wakes.Wake.TheVariants.{Waiting, Grant}
 use Rattle.lfm_core.specs.After.{same_link}
 use Rattle.lfm_core.specs.Cases.{GoesBy, case_of_event, ReadsRun}
 use Rattle.lfm_core.specs.Core.{Core}
+use Rattle.lfm_core.specs.Events.{case_of_step}
 use Rattle.lfm_core.specs.Lawful.{IsSent, Lawful}
 use Rattle.lfm_core.specs.Limits.{are_in_limits}
 use Rattle.lfm_core.specs.Lines.{is_open, steps, longest_call, lines_core}
 use Rattle.lfm_core.specs.Place.{place_of}
 use Rattle.lfm_core.specs.Queue.{queue_of}
-use Rattle.lfm_core.specs.Reading.{Reads}
+use Rattle.lfm_core.specs.Reading.{Claims, Reads}
 use Rattle.lfm_core.specs.Schedules.{Event, makes, happens, run_of, reached, push_record, popped_record, answer_record, answer_record_of_lines, is_call, weight_of_call, steps_of_call}
 use Rattle.lfm_core.specs.Seats.{seat, wake, unposted}
 use Rattle.lfm_core.specs.Step.{begin, start}
@@ -42,6 +43,17 @@ abbrev pub LinesAreEvents : Type 0
 LinesAreEvents =
     (c : Core) (lines : List Line)
     → (events : List Event) × (lines_core c lines ≡ run_of c events) × (answer_record_of_lines c lines ≡ answer_record c events)
+
+-- Mutual exclusion
+
+-- at most one seat owns
+abbrev pub OneSeatOwns : Type 0
+OneSeatOwns = (c : Core) (s t : ℕ) → IsReached c → 0 < (seat c.seats s).depth → 0 < (seat c.seats t).depth → s ≡ t
+
+-- with a count above 0 exactly one owner, grant, posted handoff or call has the responsibility
+abbrev pub OneHasTheResponsibility : Type 0
+OneHasTheResponsibility =
+    (c : Core) → IsReached c → 0 < c.count → (p : AbstractPlace) × Claims c p × ((q : AbstractPlace) → Claims c q → q ≡ p)
 
 -- The abstract mutex
 
@@ -140,6 +152,10 @@ abbrev pub TakesFindARecord : Type 0
 TakesFindARecord =
     (c : Core) (s : ℕ) (carrier : Carrier) → IsReached c → (seat c.seats s).point ≡ TakeClearHead carrier → has_won carrier ≡ true
     → (0 < c.push.next) × (c.popped ≡ [])
+
+-- at the exchange that takes a posted handoff, in lock, unlock and send_lock, the push list has a record and the pop list none
+abbrev pub WonPostsHaveARecord : Type 0
+WonPostsHaveARecord = (c : Core) (s : ℕ) → IsReached c → case_of_step c s ≡ Some take → (0 < c.push.next) × (c.popped ≡ [])
 
 -- a push exchange that fails has seen a higher stamp, or the same with the head emptied
 abbrev pub FailedPushesSeeChange : Type 0

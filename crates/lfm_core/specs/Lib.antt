@@ -35,3 +35,4 @@ pub mod Words
 pub mod Settles
 pub mod Ready
 pub mod Carried
+pub mod Ranges

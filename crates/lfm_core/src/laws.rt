@@ -1,7 +1,9 @@
 //! The laws of every schedule: of every list of calls that begin and single steps, by any seats in any order, for every
 //! number of seats and every budget in their limits. Each function here does nothing; its contract is the law, which stands
-//! in `specs/Laws.antt` over the same definitions that `begin`, `step` and `run` are proved to be.
+//! in `specs/Laws.antt` or `specs/Ranges.antt` over the same definitions that `begin`, `step` and `run` are proved to be.
 ghost use Rattle.lfm_core.specs.Laws.{
+  OneSeatOwns,
+  OneHasTheResponsibility,
   LinesAreEvents,
   StatesAreLawful,
   RunsAreAbstractRuns,
@@ -15,6 +17,7 @@ ghost use Rattle.lfm_core.specs.Laws.{
   QuiescentStatesRest,
   SleepersAreReachable,
   TakesFindARecord,
+  WonPostsHaveARecord,
   FailedPushesSeeChange,
   CallsPostOnce,
   UnlocksAreBounded,
@@ -22,6 +25,21 @@ ghost use Rattle.lfm_core.specs.Laws.{
   CallsEndAlone,
   PushesAloneFailOnce,
 };
+ghost use Rattle.lfm_core.specs.Lawful.{Lawful};
+ghost use Rattle.lfm_core.specs.Ranges.{NumbersStayInRange, StepsHaveRoom, LimitsStay};
+
+use crate::stepped::State;
+
+/// The headline, mutual exclusion: in every state that any interleaving reaches, at most one seat owns the mutex.
+pub fn one_seat_owns()
+    ensures { OneSeatOwns }
+{}
+
+/// The headline, that the mutex is never lost: while the count is above 0, so while anybody holds it or wants it, exactly one
+/// owner, grant, posted handoff or call has the responsibility to own it or to hand it on. Never two have it, and never none.
+pub fn one_has_the_responsibility()
+    ensures { OneHasTheResponsibility }
+{}
 
 /// What lines of a schedule do to a state, some list of calls and single steps does, and the answers `Held(Queued)` of those
 /// lines are the answers of that list, in the same order. So each law here is one of `run`.
@@ -36,6 +54,13 @@ pub fn lines_are_events()
 pub fn states_are_lawful()
     ensures { StatesAreLawful }
 {}
+
+/// The same of every `State` that a caller has, however it was made and stepped: it is lawful.
+pub fn every_state_is_lawful(state: &State)
+    ensures { Lawful state.now }
+{
+    state.law();
+}
 
 /// The readings of a run are a run of the abstract mutex from its start, where nobody holds, asks or waits. So at most one
 /// seat owns it, it is handed on only as the abstract mutex does, and the laws of abstract runs hold of its readings.
@@ -96,6 +121,12 @@ pub fn takes_find_a_record()
     ensures { TakesFindARecord }
 {}
 
+/// The exchange that takes a posted handoff, in `lock`, `unlock` or `send_lock`, is made only while the push list has a record
+/// and the pop list has none. So the new carrier has somebody to serve.
+pub fn won_posts_have_a_record()
+    ensures { WonPostsHaveARecord }
+{}
+
 /// A push exchange that fails has seen a higher stamp, or the same stamp with the head emptied.
 pub fn failed_pushes_see_change()
     ensures { FailedPushesSeeChange }
@@ -124,4 +155,20 @@ pub fn calls_end_alone()
 /// Alone, a push fails at most once.
 pub fn pushes_alone_fail_once()
     ensures { PushesAloneFailOnce }
+{}
+
+/// Among N seats with a budget of B takes each, the push stamp is at most N * B, and the count is at most N + 1. Each seat holds
+/// the mutex at most 65,535 times, has charged at most B takes, and has posted at most as often as it has charged one.
+pub fn numbers_stay_in_range()
+    ensures { NumbersStayInRange }
+{}
+
+/// The next step of each seat has room: no number that it changes wraps, and the seats that it touches are there.
+pub fn steps_have_room()
+    ensures { StepsHaveRoom }
+{}
+
+/// No event changes the number of seats or the budget.
+pub fn limits_stay()
+    ensures { LimitsStay }
 {}

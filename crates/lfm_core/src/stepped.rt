@@ -2,6 +2,7 @@
 //! each turn keeps it so. The turns and readers themselves are the machine's.
 ghost use Rattle.std.specs.Prelude.{◌≡◌, ◌≤◌, true, false, length, reverse, slice_get, vec_capacity, IfOk, IfErr};
 ghost use Rattle.std.specs.Option.{option_map};
+ghost use Rattle.lfm_core.specs.Lawful.{Lawful};
 ghost use Rattle.lfm_core.specs.Limits.{are_in_limits};
 ghost use Rattle.lfm_core.specs.Lines.{longest_call};
 ghost use Rattle.lfm_core.specs.Place.{place_of};
@@ -76,6 +77,16 @@ impl State {
             return Turn::Refused(Why::NoSuchSeat);
         }
         self.machine.make(s)
+    }
+}
+
+/// What the invariant says, told in words and points.
+impl State {
+    /// Every state is lawful, since it is steady. `laws::every_state_is_lawful` tells it to callers.
+    pub(crate) fn law(&self)
+        ensures { Lawful self.now }
+    {
+        let _ = &self.machine;
     }
 }
 

@@ -112,7 +112,7 @@ recursion_unit-le : (s : ℕ) (again : Bool) → recursion_unit (owned s again) 
 recursion_unit-le s true = omega arith
 recursion_unit-le s false = omega arith
 
-again_read : (c : Core) (g : Ghost) (place : Responsibility) → Fits c g → g.place ≡ place → again_count c (abstract_place place) ≡ again_unit place
+pub again_read : (c : Core) (g : Ghost) (place : Responsibility) → Fits c g → g.place ≡ place → again_count c (abstract_place place) ≡ again_unit place
 again_read c g (owned s again) fits here =
     let unit = ap recursion_unit (self_claims c g s (owned s again) fits here (held_self s _)) in
     recursion_at (seat c.seats s).depth s (seat c.seats s).point (omega (arith, unit, recursion_unit-le s again)) ∙ unit

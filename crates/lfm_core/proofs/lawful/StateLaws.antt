@@ -11,12 +11,12 @@ use Rattle.lfm_words.specs.declared.wakes.Wake.TheVariants.{Grant}
 use Rattle.lfm_core.specs.After.{same_link}
 use Rattle.lfm_core.specs.Core.{Core}
 use Rattle.lfm_core.specs.Ghost.{Responsibility, nobody, owned, granted, posted, entering, accepting, leaving, serving, Ghost}
-use Rattle.lfm_core.specs.Lawful.{LoadsItsGrant}
+use Rattle.lfm_core.specs.Lawful.{LoadsItsGrant, Lawful}
 use Rattle.lfm_core.specs.Laws.{StatesAreLawful, HandoffsAreWatched, IsQuiet, IsHeld, IsGranted, QuiescentStatesRest, has_won, TakesFindARecord, FailedPushesSeeChange}
 use Rattle.lfm_core.specs.Outcome.{abstract}
 use Rattle.lfm_core.specs.Schedules.{is_call}
 use Rattle.lfm_core.specs.Seats.{seat, wake, unposted}
-use Rattle.lfm_core.specs.Steady.{IsSeen, HasQueue, StandsAsCarrier, KnowsRecord, own_unit, again_unit, Fits}
+use Rattle.lfm_core.specs.Steady.{IsSeen, HasQueue, StandsAsCarrier, KnowsRecord, own_unit, again_unit, Fits, Steady}
 use Rattle.lfm_core.specs.Views.{by_depth, claim_at, claim, held_by}
 use Rattle.lfm_core.specs.Watched.{Watches}
 use Rattle.lfm_core.proofs.lawful.LawfulRead.{lawful_read}
@@ -24,10 +24,11 @@ use Rattle.lfm_core.proofs.lawful.Reached.{steady_reached}
 use Rattle.lfm_core.proofs.lawful.WatchedRead.{head_some, watched_read}
 use Rattle.lfm_core.proofs.steady.Serving.{queue_of_queued}
 
+pub steady_is_lawful : (c : Core) → Steady c → Lawful c
+steady_is_lawful c steady = record { reading = abstract steady.ghost_state; lawful = lawful_read c steady.ghost_state steady.fits }
+
 pub states_are_lawful : StatesAreLawful
-states_are_lawful c is =
-    let steady = steady_reached c is in
-    record { reading = abstract steady.ghost_state; lawful = lawful_read c steady.ghost_state steady.fits }
+states_are_lawful c is = steady_is_lawful c (steady_reached c is)
 
 pub handoffs_are_watched : HandoffsAreWatched
 handoffs_are_watched c is = let steady = steady_reached c is in watched_read c steady.ghost_state steady.fits

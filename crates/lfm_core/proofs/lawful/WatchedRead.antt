@@ -28,11 +28,11 @@ head_some c g fits walked empty some =
     let is = seat_of_stamp c g g.pushed fits some (omega arith) in
     omega (arith, is.above, head)
 
-carried_posted : (p : Responsibility) (walk : ℕ) (popped : List Record) → p ≡ posted → CarriedFits p walk popped → (walk ≡ 0) × (popped ≡ [])
+pub carried_posted : (p : Responsibility) (walk : ℕ) (popped : List Record) → p ≡ posted → CarriedFits p walk popped → (walk ≡ 0) × (popped ≡ [])
 carried_posted p walk popped place fits = rw place at fits
 
 -- while a handoff is posted, somebody's record hangs on the push word
-head_posted : (c : Core) (g : Ghost) → Fits c g → g.place ≡ posted → HasQueue g → 0 < c.push.next
+pub head_posted : (c : Core) (g : Ghost) → Fits c g → g.place ≡ posted → HasQueue g → 0 < c.push.next
 head_posted c g fits place some =
     let carried = carried_posted g.place g.walk c.popped place fits.words.carried in
     head_some c g fits carried.0 carried.1 some

@@ -22,7 +22,7 @@ use Rattle.lfm_core.proofs.steady.Sums.{sum_bound}
 
 -- The bounds
 
-own_unit-le : (place : Responsibility) → own_unit place ≤ 1
+pub own_unit-le : (place : Responsibility) → own_unit place ≤ 1
 own_unit-le (owned s again) = omega arith
 own_unit-le (granted s stamp) = omega arith
 own_unit-le (entering s into stamp) = omega arith

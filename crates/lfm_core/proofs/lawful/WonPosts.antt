@@ -21,9 +21,10 @@ use Rattle.lfm_core.specs.Seats.{seat, wake}
 use Rattle.lfm_core.specs.Steady.{HasQueue, AwaitsAsPusher, PushedFits, Fits}
 use Rattle.lfm_core.specs.Views.{is_queued}
 use Rattle.lfm_core.proofs.lawful.Reached.{steady_reached}
-use Rattle.lfm_core.proofs.lawful.WatchedRead.{posted_of, queue_of_seat, head_posted, carried_posted}
-use Rattle.lfm_core.proofs.steady.Handoffs.{same_handoff_true}
+use Rattle.lfm_core.proofs.lawful.WatchedRead.{head_posted, carried_posted}
+use Rattle.lfm_core.proofs.steady.Handoffs.{posted_of, same_handoff_true}
 use Rattle.lfm_core.proofs.steady.Seated.{seat_of_point}
+use Rattle.lfm_core.proofs.steady.Serving.{queue_of_queued}
 
 -- what the exchange finds, while somebody is queued
 abbrev Finds : Core → Type 0
@@ -37,12 +38,12 @@ finds_record c g fits place some =
 pusher_queue : (c : Core) (g : Ghost) (s : ℕ) (pusher : Pusher) (seen : Handoff) → Fits c g → g.place ≡ posted → c.handoff ≡ seen → 0 < seen.seat
     → AwaitsAsPusher g.place s (g.standing s) pusher → PushedFits c g seen pusher → HasQueue g
 pusher_queue c g s Pusher.Locker seen fits place same above awaits knows =
-    let awaits = rw place at awaits in queue_of_seat c g s fits (sym (or-false (is_queued (g.standing s))) ∙ awaits)
+    let awaits = rw place at awaits in queue_of_queued c g s fits (sym (or-false (is_queued (g.standing s))) ∙ awaits)
 pusher_queue c g s (Pusher.Sender t) seen fits place same above awaits knows = knows same above
 
 -- a posted handoff that is this one
 place_of_won : (c : Core) (g : Ghost) (seen : Handoff) → Fits c g → c.handoff ≡ seen → 0 < seen.seat → g.place ≡ posted
-place_of_won c g seen fits same above = posted_of c.seats g.place c.handoff fits.words.handoff (omega (arith, ap (λ h. h.seat) same, above))
+place_of_won c g seen fits same above = posted_of c.seats g.place c.handoff (omega (arith, ap (λ h. h.seat) same, above)) fits.words.handoff
 
 pusher_wins : (c : Core) (g : Ghost) (s : ℕ) (pusher : Pusher) (seen : Handoff) → Fits c g → (seat c.seats s).point ≡ PushedHandoffExchange pusher seen
     → same_handoff c.handoff seen ≡ true → Finds c

@@ -25,5 +25,6 @@ pub mod SameSteps
 pub mod StateLaws
 pub mod StepsFall
 pub mod StepsLeft
+pub mod TriesAlone
 pub mod Unwalked
 pub mod WatchedRead

@@ -20,6 +20,7 @@ ghost use Rattle.lfm_core.specs.Laws.{
   StartWaitsAreBounded,
   CallsEndAlone,
   PushesAloneFailOnce,
+  TriesAloneHold,
 };
 
 /// What lines of a schedule do to a state, some list of calls and single steps does. So each law here is one of `run`.
@@ -113,4 +114,10 @@ pub fn calls_end_alone()
 /// Alone, a push fails at most once.
 pub fn pushes_alone_fail_once()
     ensures { PushesAloneFailOnce }
+{}
+
+/// A `try_lock` of a seat that rests, does not hold and has a take left holds a mutex whose count is 0 or whose handoff is
+/// posted, if its seat alone makes steps: so it is not Busy without a cause.
+pub fn tries_alone_hold()
+    ensures { TriesAloneHold }
 {}

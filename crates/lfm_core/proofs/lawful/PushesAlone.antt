@@ -16,7 +16,7 @@ use Rattle.lfm_core.proofs.steady.Entries.{seat-with_same, length-with_entry}
 use Rattle.lfm_core.proofs.steady.Seated.{seat_of_point}
 use Rattle.lfm_core.proofs.lawful.StepsFall.{same_link_self}
 
-is_seat_yes : (seats : List SeatState) (s : ℕ) → IsSeat seats s → is_seat seats s ≡ true
+pub is_seat_yes : (seats : List SeatState) (s : ℕ) → IsSeat seats s → is_seat seats s ≡ true
 is_seat_yes seats s is = rw (lt-ltb 0 s is.above, lt-ltb s (length seats + 1) (omega (arith, is.within))) refl
 
 -- seat s is at this point, and this is the push word

@@ -29,6 +29,7 @@ pub mod Sleepers
 pub mod StateLaws
 pub mod StepsFall
 pub mod StepsLeft
+pub mod TriesAlone
 pub mod Unwalked
 pub mod WatchedRead
 pub mod WonPosts

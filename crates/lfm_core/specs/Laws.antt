@@ -3,12 +3,16 @@
 use Rattle.std.specs.Prelude.{◌≡◌, ◌⊎◌, ℕ, Bool, true, false, ◌+◌, ◌<◌, ◌≤◌, ◌++◌, Some, List, [], ◌∷◌, length, slice_index_or}
 use Rattle.lfm_model.specs.Abstract.{AbstractMutex, AbstractPlace, all_free, free, owner, passed, posted, carried}
 use Rattle.lfm_model.specs.AbstractRuns.{IsRun, take}
+use Rattle.lfm_model.specs.declared.answers.How.TheVariants as How
+use Rattle.lfm_model.specs.declared.answers.Locked.TheVariants as Locked
 use Rattle.lfm_model.specs.declared.answers.Place.{Place}
-use Rattle.lfm_core.specs.declared.answers.Call.TheVariants.{Unlock, StartWait}
+use Rattle.lfm_core.specs.declared.answers.Answer.TheVariants as Answer
+use Rattle.lfm_core.specs.declared.answers.Turn.TheVariants.{Ended}
+use Rattle.lfm_core.specs.declared.answers.Call.TheVariants.{Unlock, StartWait, TryLock}
 use Rattle.lfm_core.specs.declared.limits.Limits.{Limits}
 use Rattle.lfm_core.specs.declared.points.Carrier.{Carrier}
 use Rattle.lfm_core.specs.declared.points.Point.{Point}
-use Rattle.lfm_core.specs.declared.points.Point.TheVariants.{Asleep, PushExchange, PushedHandoffLoad, ReleaseHandoffStore, TakeClearHead}
+use Rattle.lfm_core.specs.declared.points.Point.TheVariants.{Rest, Asleep, PushExchange, PushedHandoffLoad, ReleaseHandoffStore, TakeClearHead}
 use Rattle.lfm_core.specs.declared.points.Pusher.{Pusher}
 use Rattle.lfm_core.specs.declared.points.Sleeper.{Sleeper}
 use Rattle.lfm_core.specs.declared.schedule.Line.{Line}
@@ -26,7 +30,7 @@ use Rattle.lfm_core.specs.Place.{place_of}
 use Rattle.lfm_core.specs.Queue.{queue_of}
 use Rattle.lfm_core.specs.Reading.{Claims, Reads}
 use Rattle.lfm_core.specs.Schedules.{Event, makes, happens, run_of, reached, push_record, popped_record, answer_record, answer_record_of_lines, is_call, weight_of_call, steps_of_call}
-use Rattle.lfm_core.specs.Seats.{seat, wake, unposted}
+use Rattle.lfm_core.specs.Seats.{seat, wake, unposted, IsSeat}
 use Rattle.lfm_core.specs.Step.{begin, start}
 use Rattle.lfm_core.specs.Watched.{Waits, Watched}
 
@@ -197,3 +201,13 @@ abbrev pub PushesAloneFailOnce : Type 0
 PushesAloneFailOnce =
     (c : Core) (s : ℕ) (pusher : Pusher) (seen : Link) → IsReached c → (seat c.seats s).point ≡ PushExchange pusher seen
     → same_link c.push seen ≡ false → (seat (run_of c (makes s ∷ makes s ∷ makes s ∷ [])).seats s).point ≡ PushedHandoffLoad pusher
+
+-- Availability
+
+-- a try_lock of a seat that rests, does not hold and has a take left holds where the count is 0 or a handoff is posted, if its
+-- seat alone makes steps
+abbrev pub TriesAloneHold : Type 0
+TriesAloneHold =
+    (c : Core) (s : ℕ) → IsReached c → IsSeat c.seats s → (seat c.seats s).point ≡ Rest → (seat c.seats s).depth ≡ 0 → (seat c.seats s).takes < c.budget
+    → (c.count ≡ 0 → (steps 2 (begin c s TryLock).core s).turn ≡ Ended (Answer.Locked (Locked.Held How.Free)))
+    × (0 < c.handoff.seat → (steps 6 (begin c s TryLock).core s).turn ≡ Ended (Answer.Locked (Locked.Held How.Free)))

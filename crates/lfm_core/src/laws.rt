@@ -24,6 +24,7 @@ ghost use Rattle.lfm_core.specs.Laws.{
   StartWaitsAreBounded,
   CallsEndAlone,
   PushesAloneFailOnce,
+  TriesAloneHold,
 };
 ghost use Rattle.lfm_core.specs.Lawful.{Lawful};
 ghost use Rattle.lfm_core.specs.Ranges.{NumbersStayInRange, StepsHaveRoom, LimitsStay};
@@ -171,4 +172,10 @@ pub fn steps_have_room()
 /// No event changes the number of seats or the budget.
 pub fn limits_stay()
     ensures { LimitsStay }
+{}
+
+/// A `try_lock` of a seat that rests, does not hold and has a take left holds a mutex whose count is 0 or whose handoff is
+/// posted, if its seat alone makes steps: so it is not Busy without a cause.
+pub fn tries_alone_hold()
+    ensures { TriesAloneHold }
 {}

@@ -1,6 +1,8 @@
 -- What a steady state says on its words and points alone, and the laws of every schedule.
 pub mod AbstractBridge
 pub mod AskingRead
+pub mod Beginnings
+pub mod BusyTries
 pub mod CallWeights
 pub mod CallsEnd
 pub mod Chains
@@ -11,6 +13,7 @@ pub mod LawfulRead
 pub mod Leaving
 pub mod LineEvents
 pub mod PlacesRead
+pub mod PlainSteps
 pub mod PostsOnce
 pub mod PushOrder
 pub mod PushesAlone
@@ -18,6 +21,9 @@ pub mod QueueRead
 pub mod Reached
 pub mod Readings
 pub mod RecordsRead
+pub mod RefusedCalls
+pub mod RefusedSteps
+pub mod RefusedTurns
 pub mod ReleaseBounds
 pub mod ReleaseFalls
 pub mod RunLaws

@@ -31,3 +31,4 @@ pub mod Watched
 pub mod Lawful
 pub mod Cases
 pub mod Laws
+pub mod Refusals

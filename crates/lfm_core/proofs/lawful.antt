@@ -1,6 +1,8 @@
 -- What a steady state says on its words and points alone, and the laws of every schedule.
 pub mod AbstractBridge
 pub mod AskingRead
+pub mod Beginnings
+pub mod BusyTries
 pub mod CallWeights
 pub mod CallsEnd
 pub mod Chains
@@ -13,6 +15,7 @@ pub mod LimitsKept
 pub mod LineEvents
 pub mod Owning
 pub mod PlacesRead
+pub mod PlainSteps
 pub mod PostsOnce
 pub mod PushOrder
 pub mod PushesAlone
@@ -21,6 +24,9 @@ pub mod RangesRead
 pub mod Reached
 pub mod Readings
 pub mod RecordsRead
+pub mod RefusedCalls
+pub mod RefusedSteps
+pub mod RefusedTurns
 pub mod ReleaseBounds
 pub mod ReleaseFalls
 pub mod RunLaws

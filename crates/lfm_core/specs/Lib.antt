@@ -36,3 +36,4 @@ pub mod Settles
 pub mod Ready
 pub mod Carried
 pub mod Ranges
+pub mod Refusals

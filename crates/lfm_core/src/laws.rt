@@ -28,6 +28,13 @@ ghost use Rattle.lfm_core.specs.Laws.{
 };
 ghost use Rattle.lfm_core.specs.Lawful.{Lawful};
 ghost use Rattle.lfm_core.specs.Ranges.{NumbersStayInRange, StepsHaveRoom, LimitsStay};
+ghost use Rattle.lfm_core.specs.Refusals.{
+  RefusedBeginsChangeNothing,
+  BeginsAreRefusedForCause,
+  StepsAreRefusedForCause,
+  TurnsAreRefusedForCause,
+  TriesSeeAHolder,
+};
 
 use crate::stepped::State;
 
@@ -178,4 +185,34 @@ pub fn limits_stay()
 /// posted, if its seat alone makes steps: so it is not Busy without a cause.
 pub fn tries_alone_hold()
     ensures { TriesAloneHold }
+{}
+
+/// A call that is refused changes nothing, in every state and for whatever cause.
+pub fn refused_begins_change_nothing()
+    ensures { RefusedBeginsChangeNothing }
+{}
+
+/// The mutex refuses a call exactly where it has the cause: for each call and refusal one condition on the seat and the state,
+/// of which at most one holds.
+pub fn begins_are_refused_for_cause()
+    ensures { BeginsAreRefusedForCause }
+{}
+
+/// The mutex refuses a step exactly where it has the cause: a `try_lock` that finds nothing posted or loses what it found, as
+/// Busy; a send whose target does not wait, as NotWaiting. Then the call has ended, Busy has given the charge back, and nothing
+/// but the seat has changed.
+pub fn steps_are_refused_for_cause()
+    ensures { StepsAreRefusedForCause }
+{}
+
+/// Every begin and step is refused exactly where there is the cause: NoSuchSeat where no seat has the number, InCall where a
+/// call would begin inside another, Idle where a step would be made outside of a call, and otherwise the cause of the mutex.
+pub fn turns_are_refused_for_cause()
+    ensures { TurnsAreRefusedForCause }
+{}
+
+/// A `try_lock` goes on to Busy only by steps of its own that saw a count above 0, then an owner other than its seat, which
+/// has no hold, and then a posted handoff.
+pub fn tries_see_a_holder()
+    ensures { TriesSeeAHolder }
 {}

@@ -98,6 +98,23 @@ impl Write for FailingWriter {
     }
 }
 
+/// Takes all bytes, and fails when it is to pass them on.
+#[derive(Drop)]
+struct UnflushedWriter {
+    bytes: Vec<u8>,
+}
+
+impl Write for UnflushedWriter {
+    fn write(&mut self, buf: &[u8]) -> io::Result<usize> {
+        self.bytes.extend_from_slice(buf)?;
+        Ok(buf.len())
+    }
+
+    fn flush(&mut self) -> io::Result<()> {
+        Err(io::Error::from(ErrorKind::Other))
+    }
+}
+
 #[test]
 fn replays_with_ample_room(rt: HostRuntime) {
     let mut reader = INPUT.as_slice();
@@ -144,6 +161,23 @@ fn fails_after_each_written_byte(rt: HostRuntime) {
             assert_eq!(rt; outcome, Err(ReplayFault::Write));
             assert_eq!(rt; writer.bytes.as_slice(), &OUTPUT[..room]);
         }
+    }
+}
+
+// No contract can say that a writer was flushed: one that holds its bytes back has them either way.
+#[test]
+fn fails_at_the_flush(rt: HostRuntime) {
+    for (input, output) in [
+        (INPUT.as_slice(), OUTPUT.as_slice()),
+        (b"seats 0".as_slice(), b"fault Limit\n".as_slice()),
+    ] {
+        let mut reader = input;
+        let mut writer = UnflushedWriter {
+            bytes: Vec::new(rt.alloc()),
+        };
+        let outcome = replay(rt.alloc(), &mut reader, &mut writer);
+        assert_eq!(rt; outcome, Err(ReplayFault::Write));
+        assert_eq!(rt; writer.bytes.as_slice(), output);
     }
 }
 

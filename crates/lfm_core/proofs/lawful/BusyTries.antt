@@ -28,7 +28,8 @@ use Rattle.lfm_core.specs.Steady.{Fits}
 use Rattle.lfm_core.specs.Step.{begin, step}
 use Rattle.lfm_core.specs.Views.{held_by}
 use Rattle.lfm_core.proofs.lawful.Beginnings.{begun_awake, begun_asleep}
-use Rattle.lfm_core.proofs.lawful.Leaving.{stepped_by, stepped, own_made, other_made, is_seat_from}
+use Rattle.lfm_core.proofs.lawful.Leaving.{stepped_by, stepped, own_made, other_made}
+use Rattle.lfm_core.proofs.steady.Seated.{seat_of_test}
 use Rattle.lfm_core.proofs.lawful.PlainSteps.{tries, plain_at}
 use Rattle.lfm_core.proofs.lawful.Reached.{steady_reached}
 use Rattle.lfm_core.proofs.steady.Entries.{seat-with_same, seat-with_other}
@@ -115,7 +116,7 @@ begin_leads c t s call =
       | inl is ↦ elim (cases_eq s t) [
         | inl own ↦
             let here = begin_tries c s (begins t call) (seat c.seats t) (limits c) call (seat c.seats t).point refl in
-            rw (is, own, seat-with_same c.seats t (Begin.begin (seat c.seats t) (limits c) call).seat (is_seat_from c.seats t is)) (rw own at here)
+            rw (is, own, seat-with_same c.seats t (Begin.begin (seat c.seats t) (limits c) call).seat (seat_of_test c.seats t is)) (rw own at here)
         | inr other ↦ inl (rw is (seat-with_other c.seats t s _ other))
       ]
       | inr none ↦ inl (rw none refl)
@@ -124,7 +125,7 @@ begin_leads c t s call =
 own_leads : (c : Core) (g : Ghost) (s : ℕ) → Fits c g → Leads c (makes s) s
 own_leads c g s fits =
     elim (cases_Bool (is_seat c.seats s)) [
-      | inl is ↦ rw (is, own_made c s (is_seat_from c.seats s is)) (own_tries c g s (seat c.seats s).point refl fits)
+      | inl is ↦ rw (is, own_made c s (seat_of_test c.seats s is)) (own_tries c g s (seat c.seats s).point refl fits)
       | inr none ↦ inl (rw none refl)
     ]
 

@@ -24,7 +24,7 @@ use Rattle.lfm_core.specs.Seats.{entry, with_entry, seat, is_seat, IsSeat}
 use Rattle.lfm_core.specs.Steady.{DepthAt, Fits}
 use Rattle.lfm_core.specs.Step.{begin}
 use Rattle.lfm_core.proofs.lawful.Beginnings.{begun_awake, begun_asleep}
-use Rattle.lfm_core.proofs.lawful.Leaving.{is_seat_of}
+use Rattle.lfm_core.proofs.steady.Seated.{test_of_seat}
 use Rattle.lfm_core.proofs.lawful.Reached.{steady_reached}
 
 -- A refused call changes nothing
@@ -203,7 +203,7 @@ pub begins_are_refused_for_cause : BeginsAreRefusedForCause
 begins_are_refused_for_cause c s call refusal reached is =
     let fits = (steady_reached c reached).fits in
     let x : SeatState = seat c.seats s in
-    let test = is_seat_of c.seats s is in
+    let test = test_of_seat c.seats s is in
     (
       λ turn. begin_refused c (seat c.seats s) call refusal (seat c.seats s).point refl (fits.each s).depth (fits.each s).takes (rw test at turn),
       λ cause. rw test (begin_refuses c (seat c.seats s) call refusal cause)

@@ -20,7 +20,7 @@ use Rattle.lfm_core.specs.Refusals.{CauseOfStep, ended_by, WasCharged, StepsAreR
 use Rattle.lfm_core.specs.Seats.{seat, wake, is_seat, IsSeat}
 use Rattle.lfm_core.specs.Steady.{Fits}
 use Rattle.lfm_core.specs.Step.{made, step}
-use Rattle.lfm_core.proofs.lawful.Leaving.{is_seat_of}
+use Rattle.lfm_core.proofs.steady.Seated.{test_of_seat}
 use Rattle.lfm_core.proofs.lawful.PlainSteps.{plain_at, turn_made}
 use Rattle.lfm_core.proofs.lawful.Reached.{steady_reached}
 use Rattle.lfm_core.proofs.lawful.RefusedCalls.{same_refusal, open_refused}
@@ -116,7 +116,7 @@ step_refused c s refusal reached turn =
 step_refuses : (c : Core) (s : ℕ) (refusal : Refusal) → CauseOfStep c (seat c.seats s).point refusal → (step c s).turn ≡ Refused (By refusal)
 step_refuses c s refusal cause =
     let is = seat_of_point c.seats s (cause_moves c (seat c.seats s).point refusal cause) in
-    rw (is_seat_of c.seats s is) (made_refuses c s (seat c.seats s).point refusal refl cause)
+    rw (test_of_seat c.seats s is) (made_refuses c s (seat c.seats s).point refusal refl cause)
 
 pub steps_are_refused_for_cause : StepsAreRefusedForCause
 steps_are_refused_for_cause c s refusal reached = (step_refused c s refusal reached, step_refuses c s refusal)

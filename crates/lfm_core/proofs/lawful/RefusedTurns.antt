@@ -30,7 +30,8 @@ use Rattle.lfm_core.specs.Seats.{seat, wake, is_seat, IsSeat}
 use Rattle.lfm_core.specs.Step.{step_of, made, step, begin}
 use Rattle.std.specs.Prelude.{⊤}
 use Rattle.lfm_core.proofs.lawful.Beginnings.{IsByMutex, begun_awake, begun_asleep}
-use Rattle.lfm_core.proofs.lawful.Leaving.{is_seat_from, is_seat_of, seat_of_call}
+use Rattle.lfm_core.proofs.lawful.Leaving.{seat_of_call}
+use Rattle.lfm_core.proofs.steady.Seated.{seat_of_test, test_of_seat}
 use Rattle.lfm_core.proofs.lawful.PlainSteps.{plain_at, turn_made}
 use Rattle.lfm_core.proofs.lawful.RefusedCalls.{begins_are_refused_for_cause}
 use Rattle.lfm_core.proofs.lawful.RefusedSteps.{steps_are_refused_for_cause}
@@ -81,7 +82,7 @@ begins_forth c s call why reached turn =
     elim (cases_Bool (is_seat c.seats s)) [
       | inl is ↦
           let asked = begin_why (seat c.seats s) (limits c) call (seat c.seats s).point why (rw is at turn) in
-          begins_known c s call why reached (is_seat_from c.seats s is) turn asked
+          begins_known c s call why reached (seat_of_test c.seats s is) turn asked
       | inr none ↦
           let e = no_seat_why why (rw none at turn) in
           rw e none
@@ -90,7 +91,7 @@ begins_forth c s call why reached turn =
 begins_back : (c : Core) (s : ℕ) (call : Call) (why : Why) → IsReached c → CauseToRefuse c (begins s call) why → (begin c s call).turn ≡ Refused why
 begins_back c s call Why.NoSuchSeat reached cause = rw cause refl
 begins_back c s call Why.InCall reached cause =
-    rw (is_seat_of c.seats s (seat_of_call c s cause)) (in_call (seat c.seats s) (limits c) call (seat c.seats s).point cause)
+    rw (test_of_seat c.seats s (seat_of_call c s cause)) (in_call (seat c.seats s) (limits c) call (seat c.seats s).point cause)
 begins_back c s call Why.Idle reached cause = absurd cause
 begins_back c s call (By refusal) reached cause = (begins_are_refused_for_cause c s call refusal reached cause.0).1 cause.1
 
@@ -160,7 +161,7 @@ makes_forth c s why reached turn =
     elim (cases_Bool (is_seat c.seats s)) [
       | inl is ↦
           let asked = step_why c s why (seat c.seats s).point refl (rw is at turn) in
-          makes_known c s why reached (is_seat_from c.seats s is) turn asked
+          makes_known c s why reached (seat_of_test c.seats s is) turn asked
       | inr none ↦
           let e = no_seat_why why (rw none at turn) in
           rw e none
@@ -178,7 +179,7 @@ makes_back : (c : Core) (s : ℕ) (why : Why) → IsReached c → CauseToRefuse 
 makes_back c s Why.NoSuchSeat reached cause = rw cause refl
 makes_back c s Why.InCall reached cause = absurd cause
 makes_back c s Why.Idle reached cause =
-    rw (is_seat_of c.seats s cause.0) (idle_turn c s (target (seat c.seats s).point s) (kind (seat c.seats s).point) (idle_kind (seat c.seats s).point cause.1))
+    rw (test_of_seat c.seats s cause.0) (idle_turn c s (target (seat c.seats s).point s) (kind (seat c.seats s).point) (idle_kind (seat c.seats s).point cause.1))
 makes_back c s (By refusal) reached cause = (steps_are_refused_for_cause c s refusal reached).1 cause
 
 pub turns_are_refused_for_cause : TurnsAreRefusedForCause

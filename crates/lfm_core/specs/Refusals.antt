@@ -130,15 +130,15 @@ TurnsAreRefusedForCause =
 
 -- Busy
 
--- how an event brings seat s to a point on the way to Busy: by its own step at the point before, which saw a count above 0,
--- an owner that is not s, which has no hold, and a posted handoff
+-- how an event brings seat s to a point from which Busy may follow: by its own step at the point before, which saw a count
+-- above 0; or then an owner that is not s, which has no hold; or then the posted handoff that it will expect
 abbrev pub TriesBy : Core → ℕ → Event → Point → Type 0
 TriesBy c s e TryOwnerLoad = (e ≡ makes s) × ((seat c.seats s).point ≡ TryCountExchange) × (0 < c.count)
 TriesBy c s e TryHandoffLoad = (e ≡ makes s) × ((seat c.seats s).point ≡ TryOwnerLoad) × (c.owner ≢ s) × ((seat c.seats s).depth ≡ 0)
 TriesBy c s e (TryHandoffExchange seen) = (e ≡ makes s) × ((seat c.seats s).point ≡ TryHandoffLoad) × (c.handoff ≡ seen) × (0 < seen.seat)
 TriesBy c s e _ = ⊤
 
--- only so does a seat come to a point from which a step can be refused as Busy
+-- an event leaves a seat as it is, or brings it to such a point only so
 abbrev pub TriesSeeAHolder : Type 0
 TriesSeeAHolder =
     (c : Core) (e : Event) (s : ℕ) → IsReached c

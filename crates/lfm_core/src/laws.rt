@@ -1,6 +1,7 @@
 //! The laws of every schedule: of every list of calls that begin and single steps, by any seats in any order, for every
 //! number of seats and every budget in their limits. Each function here does nothing; its contract is the law, which stands
-//! in `specs/Laws.antt` or `specs/Ranges.antt` over the same definitions that `begin`, `step` and `run` are proved to be.
+//! in `specs/Laws.antt`, of refusals in `specs/Refusals.antt` and of ranges in `specs/Ranges.antt`, over the same definitions
+//! that `begin`, `step` and `run` are proved to be.
 ghost use Rattle.lfm_core.specs.Laws.{
   OneSeatOwns,
   OneHasTheResponsibility,
@@ -211,8 +212,9 @@ pub fn turns_are_refused_for_cause()
     ensures { TurnsAreRefusedForCause }
 {}
 
-/// A `try_lock` goes on to Busy only by steps of its own that saw a count above 0, then an owner other than its seat, which
-/// has no hold, and then a posted handoff.
+/// A seat comes to each point of a `try_lock` from which Busy may follow only by its own step before: to the owner load by a
+/// count exchange that saw a count above 0, to the handoff load by an owner load that saw an owner other than its seat, which has
+/// no hold, and to the handoff exchange by a handoff load that saw this number posted.
 pub fn tries_see_a_holder()
     ensures { TriesSeeAHolder }
 {}

@@ -1,6 +1,6 @@
 -- What each call of a seat outside of a call has in common: a refused one leaves the seat as it is, none leads on the way to
 -- Busy, and only the mutex refuses one.
-use Rattle.std.proofs.Common.{◌≡◌, ◌≢◌, ℕ, Bool, true, false, ◌+◌, ◌-◌, ◌&&◌, nat_eq, nat_lt, refl, if◌then◌else◌}
+use Rattle.std.proofs.Common.{◌≡◌, ℕ, Bool, true, false, ◌+◌, ◌-◌, ◌&&◌, nat_eq, nat_lt, refl, if◌then◌else◌}
 use Rattle.std.specs.Prelude.{⊤}
 use Rattle.lfm_model.specs.declared.answers.Unlocked.TheVariants.{Still}
 use Rattle.lfm_model.specs.declared.refusals.Refusal.{Refusal}

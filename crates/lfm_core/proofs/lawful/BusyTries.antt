@@ -1,31 +1,24 @@
--- A try_lock goes on to Busy only where its steps saw a count above 0, an owner other than itself and a posted handoff.
-use Rattle.std.proofs.Common.{◌≡◌, ◌≢◌, ◌⊎◌, ℕ, Bool, true, false, ◌<◌, refl, sym, ap, ◌∙◌, inl, inr, arith, if◌then◌else◌}
-use Rattle.std.proofs.lemmas.Bool.{cases_Bool, cases_eq, eq-eqb, ne_eqb, false≢true}
+-- A try_lock comes to each point from which Busy may follow only by its own step before, and by what that step saw.
+use Rattle.std.proofs.Common.{◌≡◌, ◌≢◌, ◌⊎◌, ℕ, false, refl, ap, ◌∙◌, inl, inr, arith}
+use Rattle.std.proofs.lemmas.Bool.{cases_Bool, cases_eq, eq-eqb, ne_eqb}
 use Rattle.lfm_core.specs.declared.answers.Call.{Call}
-use Rattle.lfm_core.specs.declared.answers.Call.TheVariants.{Lock, TryLock, Unlock, StartWait, SendLock, Receive}
 use Rattle.lfm_core.specs.declared.limits.Limits.{Limits}
 use Rattle.lfm_core.specs.declared.points.Point.{Point}
-use Rattle.lfm_core.specs.declared.points.Point.TheVariants.{Rest, Asleep, LockCountAdd, TryCountExchange, TryOwnerLoad, TryHandoffLoad, TryHandoffExchange, SendWakeExchange, ReleaseOwnerStore, ReceiveWakeLoad}
-use Rattle.lfm_core.specs.declared.points.Releaser.TheVariants.{Unlocker, Waiter}
-use Rattle.lfm_core.specs.declared.answers.Turn.{Turn}
+use Rattle.lfm_core.specs.declared.points.Point.TheVariants.{Rest, Asleep, TryCountExchange, TryOwnerLoad, TryHandoffLoad, TryHandoffExchange, SendWakeExchange}
 use Rattle.lfm_core.specs.declared.kinds.Kind.{Kind}
-use Rattle.std.specs.Prelude.{Option, Some, None}
+use Rattle.std.specs.Prelude.{Option, None}
 use Rattle.lfm_core.specs.Points.{kind, target}
-use Rattle.lfm_core.specs.declared.points.Sleeper.{Sleeper}
 use Rattle.lfm_core.specs.declared.seats.SeatState.{SeatState}
 use Rattle.lfm_words.specs.declared.wakes.Wake.{Wake}
-use Rattle.lfm_words.specs.declared.wakes.Wake.TheVariants as Wake
 use Rattle.lfm_core.specs.After.{same_handoff}
 use Rattle.lfm_core.specs.Begin as Begin
 use Rattle.lfm_core.specs.Begin.{Stepped}
 use Rattle.lfm_core.specs.Core.{Core, limits}
 use Rattle.lfm_core.specs.Ghost.{owned, Ghost}
-use Rattle.lfm_core.specs.Laws.{IsReached}
 use Rattle.lfm_core.specs.Refusals.{TriesBy, TriesSeeAHolder}
 use Rattle.lfm_core.specs.Schedules.{Event, begins, makes, happens}
 use Rattle.lfm_core.specs.Seats.{seat, wake, is_seat}
 use Rattle.lfm_core.specs.Steady.{Fits}
-use Rattle.lfm_core.specs.Step.{begin, step}
 use Rattle.lfm_core.specs.Views.{held_by}
 use Rattle.lfm_core.proofs.lawful.Beginnings.{begun_awake, begun_asleep}
 use Rattle.lfm_core.proofs.lawful.Leaving.{stepped_by, stepped, own_made, other_made}

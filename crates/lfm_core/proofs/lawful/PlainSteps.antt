@@ -1,12 +1,8 @@
 -- Steps that are never refused and bring no seat on the way to Busy: one walk over the points.
-use Rattle.std.proofs.Common.{◌≡◌, ◌≢◌, ◌⊎◌, ℕ, Bool, true, false, ◌<◌, refl, sym, ap, ◌∙◌, inl, inr, arith, if◌then◌else◌}
-use Rattle.std.proofs.lemmas.Bool.{cases_Bool, cases_eq, eq-eqb, ne_eqb, false≢true}
-use Rattle.lfm_model.specs.declared.refusals.Refusal.{Refusal}
+use Rattle.std.proofs.Common.{◌≡◌, ◌≢◌, ℕ, Bool, true, false, refl, if◌then◌else◌}
 use Rattle.lfm_model.specs.declared.answers.Unlocked.{Unlocked}
-use Rattle.lfm_core.specs.declared.answers.Turn.{Turn}
-use Rattle.lfm_core.specs.declared.answers.Turn.TheVariants.{Open, Ended, Refused}
+use Rattle.lfm_core.specs.declared.answers.Turn.TheVariants.{Refused}
 use Rattle.lfm_core.specs.declared.answers.Why.{Why}
-use Rattle.lfm_core.specs.declared.answers.Why.TheVariants.{By}
 use Rattle.lfm_core.specs.declared.kinds.Kind.{Kind}
 use Rattle.lfm_core.specs.declared.points.Carrier.{Carrier}
 use Rattle.lfm_core.specs.declared.points.Entrant.{Entrant}
@@ -20,7 +16,6 @@ use Rattle.lfm_core.specs.declared.seats.SeatState.{SeatState}
 use Rattle.lfm_words.specs.declared.handoffs.Handoff.{Handoff}
 use Rattle.lfm_words.specs.declared.pop_lists.Record.{Record}
 use Rattle.lfm_words.specs.declared.wakes.Wake.{Wake}
-use Rattle.lfm_words.specs.declared.wakes.Wake.TheVariants as Wake
 use Rattle.lfm_words.specs.Popped.{oldest}
 use Rattle.std.specs.Prelude.{Option, Some, None, nat_eq}
 use Rattle.lfm_model.specs.declared.answers.How.{How}

@@ -1,13 +1,11 @@
 -- A call is refused just for its cause, and a call that is refused changes nothing.
-use Rattle.std.proofs.Common.{◌≡◌, ◌≢◌, ℕ, zero, suc, Bool, true, false, ◌<◌, ◌≤◌, List, length, refl, sym, ap, ◌∙◌, inl, inr, arith, if◌then◌else◌}
-use Rattle.std.proofs.lemmas.Bool.{cases_Bool, cases_eq, cases_lt, eq-eqb, ne_eqb, lt-ltb, le-ltb, false≢true}
+use Rattle.std.proofs.Common.{◌≡◌, ℕ, zero, suc, ◌≤◌, List, length, refl, sym, ap, ◌∙◌, inl, inr, arith}
+use Rattle.std.proofs.lemmas.Bool.{cases_Bool, cases_eq, cases_lt, eq-eqb, ne_eqb, lt-ltb, le-ltb}
 use Rattle.std.proofs.lemmas.List.{set-get_or}
 use Rattle.lfm_model.specs.declared.refusals.Refusal.{Refusal}
-use Rattle.lfm_core.specs.declared.answers.Answer.{Answer}
 use Rattle.lfm_core.specs.declared.answers.Call.{Call}
 use Rattle.lfm_core.specs.declared.answers.Call.TheVariants.{Lock, TryLock, Unlock, StartWait, SendLock, Receive}
-use Rattle.lfm_core.specs.declared.answers.Turn.{Turn}
-use Rattle.lfm_core.specs.declared.answers.Turn.TheVariants.{Open, Ended, Refused}
+use Rattle.lfm_core.specs.declared.answers.Turn.TheVariants.{Open, Refused}
 use Rattle.lfm_core.specs.declared.answers.Why.{Why}
 use Rattle.lfm_core.specs.declared.answers.Why.TheVariants.{By}
 use Rattle.lfm_core.specs.declared.limits.Limits.{Limits}
@@ -18,11 +16,9 @@ use Rattle.lfm_core.specs.declared.seats.SeatState.{SeatState}
 use Rattle.lfm_core.specs.Begin as Begin
 use Rattle.lfm_core.specs.Begin.{Stepped}
 use Rattle.lfm_core.specs.Core.{Core, put, limits}
-use Rattle.lfm_core.specs.Laws.{IsReached}
-use Rattle.lfm_core.specs.Refusals.{Sleeps, CauseToEnter, CauseToUnlock, CauseToWait, CauseToSend, CauseToReceive, CauseToBegin, RefusedBeginsChangeNothing, BeginsAreRefusedForCause}
-use Rattle.lfm_core.specs.Seats.{entry, with_entry, seat, is_seat, IsSeat}
-use Rattle.lfm_core.specs.Steady.{DepthAt, Fits}
-use Rattle.lfm_core.specs.Step.{begin}
+use Rattle.lfm_core.specs.Refusals.{CauseToEnter, CauseToUnlock, CauseToWait, CauseToSend, CauseToReceive, CauseToBegin, RefusedBeginsChangeNothing, BeginsAreRefusedForCause}
+use Rattle.lfm_core.specs.Seats.{entry, with_entry, seat, is_seat}
+use Rattle.lfm_core.specs.Steady.{DepthAt}
 use Rattle.lfm_core.proofs.lawful.Beginnings.{begun_awake, begun_asleep}
 use Rattle.lfm_core.proofs.steady.Seated.{test_of_seat}
 use Rattle.lfm_core.proofs.lawful.Reached.{steady_reached}
@@ -203,8 +199,7 @@ pub begins_are_refused_for_cause : BeginsAreRefusedForCause
 begins_are_refused_for_cause c s call refusal reached is =
     let fits = (steady_reached c reached).fits in
     let x : SeatState = seat c.seats s in
-    let test = test_of_seat c.seats s is in
-    (
+    let test = test_of_seat c.seats s is in (
       λ turn. begin_refused c (seat c.seats s) call refusal (seat c.seats s).point refl (fits.each s).depth (fits.each s).takes (rw test at turn),
-      λ cause. rw test (begin_refuses c (seat c.seats s) call refusal cause)
+      λ cause. rw test (begin_refuses c (seat c.seats s) call refusal cause),
     )

@@ -1,23 +1,20 @@
 -- A step is refused just for its cause; then its call has ended, and nothing but its seat has changed.
-use Rattle.std.proofs.Common.{◌≡◌, ◌≢◌, ℕ, Bool, true, false, ◌<◌, refl, sym, ap, ◌∙◌, inl, inr, arith}
+use Rattle.std.proofs.Common.{◌≡◌, ◌≢◌, ℕ, refl, sym, ◌∙◌, inl, inr, arith}
 use Rattle.std.proofs.lemmas.Bool.{cases_Bool, cases_eq, eq-eqb, ne_eqb}
 use Rattle.lfm_model.specs.declared.refusals.Refusal.{Refusal}
-use Rattle.lfm_core.specs.declared.answers.Turn.{Turn}
-use Rattle.lfm_core.specs.declared.answers.Turn.TheVariants.{Open, Ended, Refused}
+use Rattle.lfm_core.specs.declared.answers.Turn.TheVariants.{Refused}
 use Rattle.lfm_core.specs.declared.answers.Why.{Why}
 use Rattle.lfm_core.specs.declared.answers.Why.TheVariants.{By}
 use Rattle.lfm_core.specs.declared.points.Point.{Point}
 use Rattle.lfm_core.specs.declared.points.Point.TheVariants.{Rest, Asleep, TryCountExchange, TryOwnerLoad, TryHandoffLoad, TryHandoffExchange, SendWakeExchange}
-use Rattle.lfm_core.specs.declared.seats.SeatState.{SeatState}
 use Rattle.lfm_words.specs.declared.handoffs.Handoff.{Handoff}
 use Rattle.lfm_words.specs.declared.wakes.Wake.{Wake}
-use Rattle.lfm_words.specs.declared.wakes.Wake.TheVariants as Wake
 use Rattle.lfm_core.specs.After.{same_handoff}
 use Rattle.lfm_core.specs.Core.{Core, put}
 use Rattle.lfm_core.specs.Ghost.{Ghost}
 use Rattle.lfm_core.specs.Laws.{IsReached}
 use Rattle.lfm_core.specs.Refusals.{CauseOfStep, ended_by, WasCharged, StepsAreRefusedForCause}
-use Rattle.lfm_core.specs.Seats.{seat, wake, is_seat, IsSeat}
+use Rattle.lfm_core.specs.Seats.{seat, wake, is_seat}
 use Rattle.lfm_core.specs.Steady.{Fits}
 use Rattle.lfm_core.specs.Step.{made, step}
 use Rattle.lfm_core.proofs.steady.Seated.{test_of_seat}

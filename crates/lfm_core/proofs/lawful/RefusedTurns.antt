@@ -1,23 +1,18 @@
 -- Every event is refused just for its cause: beside the mutex's own, a number that no seat has, a call inside a call, and a step
 -- outside of one.
-use Rattle.std.proofs.Common.{◌≡◌, ◌≢◌, ℕ, Bool, true, false, Option, Some, None, refl, sym, ap, ◌∙◌, inl, inr, if◌then◌else◌}
+use Rattle.std.proofs.Common.{◌≡◌, ℕ, true, false, Option, None, refl, sym, ◌∙◌, inl, inr}
 use Rattle.std.proofs.lemmas.Bool.{cases_Bool, cases_eq, eq-eqb, ne_eqb, false≢true}
-use Rattle.lfm_model.specs.declared.refusals.Refusal.{Refusal}
-use Rattle.lfm_core.specs.declared.answers.Answer.{Answer}
 use Rattle.lfm_core.specs.declared.answers.Call.{Call}
-use Rattle.lfm_core.specs.declared.answers.Call.TheVariants.{Lock, TryLock, Unlock, StartWait, SendLock, Receive}
 use Rattle.lfm_core.specs.declared.answers.Turn.{Turn}
-use Rattle.lfm_core.specs.declared.answers.Turn.TheVariants.{Open, Ended, Refused}
+use Rattle.lfm_core.specs.declared.answers.Turn.TheVariants.{Refused}
 use Rattle.lfm_core.specs.declared.answers.Why.{Why}
 use Rattle.lfm_core.specs.declared.answers.Why.TheVariants.{By}
 use Rattle.lfm_core.specs.declared.kinds.Kind.{Kind}
 use Rattle.lfm_core.specs.declared.limits.Limits.{Limits}
 use Rattle.lfm_core.specs.declared.points.Point.{Point}
 use Rattle.lfm_core.specs.declared.points.Point.TheVariants.{Rest, Asleep, TryCountExchange, TryOwnerLoad, TryHandoffLoad, TryHandoffExchange, SendWakeExchange}
-use Rattle.lfm_core.specs.declared.points.Sleeper.{Sleeper}
 use Rattle.lfm_core.specs.declared.seats.SeatState.{SeatState}
 use Rattle.lfm_words.specs.declared.wakes.Wake.{Wake}
-use Rattle.lfm_words.specs.declared.wakes.Wake.TheVariants as Wake
 use Rattle.lfm_core.specs.After.{same_handoff}
 use Rattle.lfm_core.specs.Begin as Begin
 use Rattle.lfm_core.specs.Begin.{Stepped}
@@ -25,7 +20,7 @@ use Rattle.lfm_core.specs.Core.{Core, limits}
 use Rattle.lfm_core.specs.Laws.{IsReached}
 use Rattle.lfm_core.specs.Points.{kind, target}
 use Rattle.lfm_core.specs.Refusals.{CauseToRefuse, TurnsAreRefusedForCause}
-use Rattle.lfm_core.specs.Schedules.{Event, begins, makes, happens, is_call}
+use Rattle.lfm_core.specs.Schedules.{begins, makes, is_call}
 use Rattle.lfm_core.specs.Seats.{seat, wake, is_seat, IsSeat}
 use Rattle.lfm_core.specs.Step.{step_of, made, step, begin}
 use Rattle.std.specs.Prelude.{⊤}

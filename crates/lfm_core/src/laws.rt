@@ -2,7 +2,7 @@
 //! number of seats and every budget in their limits. Each function here does nothing; its contract is the law, which stands
 //! in `specs/Laws.antt`, of refusals in `specs/Refusals.antt` and of ranges in `specs/Ranges.antt`, over the same definitions
 //! that `begin`, `step` and `run` are proved to be.
-ghost use Rattle.lfm_core.specs.Laws.{
+ghost use Rattle.lfm_core.specs.laws.Laws.{
   OneSeatOwns,
   OneHasTheResponsibility,
   LinesAreEvents,
@@ -27,9 +27,9 @@ ghost use Rattle.lfm_core.specs.Laws.{
   PushesAloneFailOnce,
   TriesAloneHold,
 };
-ghost use Rattle.lfm_core.specs.Lawful.{Lawful};
-ghost use Rattle.lfm_core.specs.Ranges.{NumbersStayInRange, StepsHaveRoom, LimitsStay};
-ghost use Rattle.lfm_core.specs.Refusals.{
+ghost use Rattle.lfm_core.specs.laws.Lawful.{Lawful};
+ghost use Rattle.lfm_core.specs.laws.Ranges.{NumbersStayInRange, StepsHaveRoom, LimitsStay};
+ghost use Rattle.lfm_core.specs.laws.Refusals.{
   RefusedBeginsChangeNothing,
   BeginsAreRefusedForCause,
   StepsAreRefusedForCause,

@@ -2,19 +2,17 @@
 //! each turn keeps it so. The turns and readers themselves are the machine's.
 ghost use Rattle.std.specs.Prelude.{◌≡◌, ◌≤◌, true, false, length, reverse, slice_get, vec_capacity, IfOk, IfErr};
 ghost use Rattle.std.specs.Option.{option_map};
-ghost use Rattle.lfm_core.specs.Lawful.{Lawful};
-ghost use Rattle.lfm_core.specs.Limits.{are_in_limits};
-ghost use Rattle.lfm_core.specs.Lines.{longest_call};
-ghost use Rattle.lfm_core.specs.Place.{place_of};
-ghost use Rattle.lfm_core.specs.Queue.{queue_of};
-ghost use Rattle.lfm_core.specs.Seats.{seat, is_seat};
-ghost use Rattle.lfm_core.specs.Step.{begin, step, start};
+ghost use Rattle.lfm_core.specs.laws.Lawful.{Lawful};
+ghost use Rattle.lfm_protocol.specs.Limits.{are_in_limits};
+ghost use Rattle.lfm_protocol.specs.Turns.{longest_call};
+ghost use Rattle.lfm_protocol.specs.Place.{place_of};
+ghost use Rattle.lfm_protocol.specs.Queue.{queue_of};
+ghost use Rattle.lfm_protocol.specs.Seats.{seat, is_seat};
+ghost use Rattle.lfm_protocol.specs.Step.{begin, step, start};
 ghost use Rattle.lfm_words.specs.Popped.{pair_of};
 
-use crate::answers::{Call, Turn, Why};
-use crate::limits::Limits;
-use crate::machine::Machine;
 use lfm_model::{NewFault, Place, SeatNo};
+use lfm_protocol::{Call, Limits, Machine, Turn, Why};
 use lfm_words::{Handoff, Record};
 use std::alloc::Global;
 use std::marker::Model;
@@ -26,8 +24,8 @@ pub struct State {
 }
 
 impl Model for State {
-    ghost use Rattle.lfm_core.specs.Core.{Core};
-    ghost use Rattle.lfm_core.specs.Steady.{Steady};
+    ghost use Rattle.lfm_protocol.specs.Core.{Core};
+    ghost use Rattle.lfm_core.specs.steady.Steady.{Steady};
 
     ghost Value = { Core };
 

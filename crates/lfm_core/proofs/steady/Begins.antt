@@ -1,26 +1,26 @@
 -- Each begin of a call keeps a state steady, with the ghost as it is, and so does a step that is refused.
 use Rattle.std.proofs.Common.{◌≡◌, ◌≢◌, ℕ, true, false, ◌+◌, ◌-◌, ◌<◌, ◌≤◌, length, refl, sym, ◌∙◌, inl, inr, arith}
 use Rattle.std.proofs.lemmas.Bool.{cases_eq, cases_lt, cases_Bool, ne_eqb, eq-eqb, lt-ltb, le-ltb}
-use Rattle.lfm_core.specs.declared.answers.Call.{Call}
-use Rattle.lfm_core.specs.declared.answers.Call.TheVariants.{Lock, TryLock, Unlock, StartWait, SendLock, Receive}
-use Rattle.lfm_core.specs.declared.points.Point.{Point}
-use Rattle.lfm_core.specs.declared.points.Point.TheVariants.{Rest, Asleep, LockCountAdd, TryCountExchange, SendWakeExchange, ReleaseOwnerStore, ReceiveWakeLoad}
-use Rattle.lfm_core.specs.declared.points.Releaser.TheVariants.{Unlocker, Waiter}
-use Rattle.lfm_core.specs.declared.points.Sleeper.{Sleeper}
+use Rattle.lfm_protocol.specs.declared.answers.Call.{Call}
+use Rattle.lfm_protocol.specs.declared.answers.Call.TheVariants.{Lock, TryLock, Unlock, StartWait, SendLock, Receive}
+use Rattle.lfm_protocol.specs.declared.points.Point.{Point}
+use Rattle.lfm_protocol.specs.declared.points.Point.TheVariants.{Rest, Asleep, LockCountAdd, TryCountExchange, SendWakeExchange, ReleaseOwnerStore, ReceiveWakeLoad}
+use Rattle.lfm_protocol.specs.declared.points.Releaser.TheVariants.{Unlocker, Waiter}
+use Rattle.lfm_protocol.specs.declared.points.Sleeper.{Sleeper}
 use Rattle.lfm_words.specs.declared.wakes.Wake.{Wake}
 use Rattle.lfm_words.specs.declared.wakes.Wake.TheVariants.{Quiet}
-use Rattle.lfm_core.specs.Begin as Begin
-use Rattle.lfm_core.specs.Core.{Core, put, limits}
-use Rattle.lfm_core.specs.Ghost.{apart, Ghost}
-use Rattle.lfm_core.specs.Outcome.{Kept}
-use Rattle.lfm_core.specs.Seats.{seat, wake, is_seat, IsSeat}
-use Rattle.lfm_core.specs.Steady.{StandsAt, DepthAt, KnowsAt, SeatFits, Fits}
-use Rattle.lfm_core.specs.Step.{begin}
-use Rattle.lfm_core.specs.Views.{is_some, grant_at, claim_at, by_depth, wake_at, asks_for_at, claims_for_at, due_posts_at, due_pushes_at, due_unless_held, due_by_depth}
-use Rattle.lfm_core.proofs.steady.Frames.{view_moves}
-use Rattle.lfm_core.proofs.steady.Histories.{history_stays}
-use Rattle.lfm_core.proofs.steady.Wakings.{none_from, wake_to_load}
-use Rattle.lfm_core.proofs.steady.Seated.{seat_of_test}
+use Rattle.lfm_protocol.specs.Begin as Begin
+use Rattle.lfm_protocol.specs.Core.{Core, put, limits}
+use Rattle.lfm_core.specs.steady.Ghost.{apart, Ghost}
+use Rattle.lfm_core.specs.steady.Outcome.{Kept}
+use Rattle.lfm_protocol.specs.Seats.{seat, wake, is_seat, IsSeat}
+use Rattle.lfm_core.specs.steady.Steady.{StandsAt, DepthAt, KnowsAt, SeatFits, Fits}
+use Rattle.lfm_protocol.specs.Step.{begin}
+use Rattle.lfm_core.specs.steady.Views.{is_some, grant_at, claim_at, by_depth, wake_at, asks_for_at, claims_for_at, due_posts_at, due_pushes_at, due_unless_held, due_by_depth}
+use Rattle.lfm_core.proofs.steady.frames.Frames.{view_moves}
+use Rattle.lfm_core.proofs.steady.frames.Histories.{history_stays}
+use Rattle.lfm_core.proofs.steady.grant.Wakings.{none_from, wake_to_load}
+use Rattle.lfm_core.proofs.steady.frames.Seated.{seat_of_test}
 
 -- Refused and idle steps
 

@@ -2,23 +2,23 @@
 use Rattle.std.proofs.Common.{◌≡◌, ℕ, true, false, ◌+◌, ◌*◌, ◌^◌, ◌≤◌, ◌<◌, List, [], ◌∷◌, length, refl, sym, ap, arith}
 use Rattle.std.proofs.lemmas.Bool.{false≢true, eq-eqb, ne_eqb}
 use Rattle.std.proofs.Math.Nat.{mul-le-mul_left}
-use Rattle.lfm_core.specs.declared.points.Carrier.{Carrier}
-use Rattle.lfm_core.specs.declared.points.Point.{Point}
-use Rattle.lfm_core.specs.declared.points.Point.TheVariants.{LockCountAdd, LockCountSubtract, TryOwnerLoad, TryHandoffLoad, TryHandoffExchange, TryCountAdd, SendWakeExchange, SendCountAdd, SendWakeStore, LinkStore, PushExchange, ReleaseCountSubtract, ReleaseHandoffStore, TakeLinkLoad, GrantWakeStore}
-use Rattle.lfm_core.specs.declared.points.Pusher.{Pusher}
-use Rattle.lfm_core.specs.declared.points.Releaser.{Releaser}
+use Rattle.lfm_protocol.specs.declared.points.Carrier.{Carrier}
+use Rattle.lfm_protocol.specs.declared.points.Point.{Point}
+use Rattle.lfm_protocol.specs.declared.points.Point.TheVariants.{LockCountAdd, LockCountSubtract, TryOwnerLoad, TryHandoffLoad, TryHandoffExchange, TryCountAdd, SendWakeExchange, SendCountAdd, SendWakeStore, LinkStore, PushExchange, ReleaseCountSubtract, ReleaseHandoffStore, TakeLinkLoad, GrantWakeStore}
+use Rattle.lfm_protocol.specs.declared.points.Pusher.{Pusher}
+use Rattle.lfm_protocol.specs.declared.points.Releaser.{Releaser}
 use Rattle.lfm_words.specs.declared.links.Link.{Link}
 use Rattle.lfm_words.specs.declared.pop_lists.Record.{Record}
-use Rattle.lfm_core.specs.Core.{Core}
-use Rattle.lfm_core.specs.Ghost.{Responsibility, nobody, owned, granted, entering, leaving, Standing, asks, queued, Ghost}
-use Rattle.lfm_core.specs.Points.{kind, target, pushed_seat}
-use Rattle.lfm_core.specs.Room.{HasNumbers, CountFits, PopFits, HasRoom}
-use Rattle.lfm_core.specs.Seats.{seat, IsSeat}
-use Rattle.lfm_core.specs.Steady.{ErrandFits, own_unit, again_unit, asking_unit, queued_unit, Fits, Steady}
-use Rattle.lfm_core.specs.Views.{is_entered, held_by}
-use Rattle.lfm_core.proofs.steady.Frames.{place_of_claim}
-use Rattle.lfm_core.proofs.steady.Seated.{seat_of_point, seat_of_stamp, seat_of_asking}
-use Rattle.lfm_core.proofs.steady.Sums.{sum_bound}
+use Rattle.lfm_protocol.specs.Core.{Core}
+use Rattle.lfm_core.specs.steady.Ghost.{Responsibility, nobody, owned, granted, entering, leaving, Standing, asks, queued, Ghost}
+use Rattle.lfm_protocol.specs.Points.{kind, target, pushed_seat}
+use Rattle.lfm_protocol.specs.Room.{HasNumbers, CountFits, PopFits, HasRoom}
+use Rattle.lfm_protocol.specs.Seats.{seat, IsSeat}
+use Rattle.lfm_core.specs.steady.Steady.{ErrandFits, own_unit, again_unit, asking_unit, queued_unit, Fits, Steady}
+use Rattle.lfm_core.specs.steady.Views.{is_entered, held_by}
+use Rattle.lfm_core.proofs.steady.frames.Frames.{place_of_claim}
+use Rattle.lfm_core.proofs.steady.frames.Seated.{seat_of_point, seat_of_stamp, seat_of_asking}
+use Rattle.lfm_core.proofs.steady.frames.Sums.{sum_bound}
 
 -- The bounds
 

@@ -1,14 +1,14 @@
 -- The state at the start is steady: nobody holds the mutex, and every seat stands apart.
 use Rattle.std.proofs.Common.{◌≡◌, ℕ, zero, suc, ◌^◌, ◌≤◌, true, length, replicate, refl, sym, ◌∙◌, arith, tests}
 use Rattle.std.proofs.lemmas.List.{length-replicate}
-use Rattle.lfm_core.specs.declared.limits.Limits.{Limits}
+use Rattle.lfm_protocol.specs.declared.limits.Limits.{Limits}
 use Rattle.lfm_words.specs.declared.wakes.Wake.TheVariants.{Quiet}
-use Rattle.lfm_core.specs.Ghost.{nobody, apart, Ghost}
-use Rattle.lfm_core.specs.Limits.{are_in_limits}
-use Rattle.lfm_core.specs.Seats.{entry, absent, no_link}
-use Rattle.lfm_core.specs.Steady.{SeatFits, asking_unit, queued_unit, Fits, Steady}
-use Rattle.lfm_core.specs.Step.{start}
-use Rattle.lfm_core.proofs.steady.Sums.{sum_none}
+use Rattle.lfm_core.specs.steady.Ghost.{nobody, apart, Ghost}
+use Rattle.lfm_protocol.specs.Limits.{are_in_limits}
+use Rattle.lfm_protocol.specs.Seats.{entry, absent, no_link}
+use Rattle.lfm_core.specs.steady.Steady.{SeatFits, asking_unit, queued_unit, Fits, Steady}
+use Rattle.lfm_protocol.specs.Step.{start}
+use Rattle.lfm_core.proofs.steady.frames.Sums.{sum_none}
 
 -- entries that are all d read as d, at every number
 same_entry : {A : Type 0} (d : A) (n s : ℕ) → entry d (replicate n d) s ≡ d

@@ -1,30 +1,30 @@
 -- The step that a seat makes next keeps a state steady, at whatever point the seat is.
 use Rattle.std.proofs.Common.{◌≡◌, ℕ, refl}
 use Rattle.lfm_model.specs.declared.answers.How.{How}
-use Rattle.lfm_core.specs.declared.points.Entrant.{Entrant}
-use Rattle.lfm_core.specs.declared.points.Point.{Point}
-use Rattle.lfm_core.specs.declared.points.Point.TheVariants.{Rest, Asleep, LockCountAdd, LockOwnerLoad, LockCountSubtract, TryCountExchange, TryOwnerLoad, TryHandoffLoad, TryHandoffExchange, TryCountAdd, SendWakeExchange, SendCountAdd, SendPushLook, SendWakeStore, PushLoad, LinkStore, PushExchange, PushedHandoffLoad, PushedHandoffExchange, ReleaseOwnerStore, ReleaseCountSubtract, ReleaseHandoffStore, ReleasePushLook, ReleaseHandoffExchange, WaitWakeStore, TakeClearHead, TakeLinkLoad, GrantWakeStore, EnterOwnerStore, ReceiveWakeLoad, ReceiveWakeStore}
-use Rattle.lfm_core.specs.Core.{Core}
-use Rattle.lfm_core.specs.Ghost.{Ghost}
-use Rattle.lfm_core.specs.Outcome.{Kept}
-use Rattle.lfm_core.specs.Seats.{seat, IsSeat}
-use Rattle.lfm_core.specs.Steady.{Fits}
+use Rattle.lfm_protocol.specs.declared.points.Entrant.{Entrant}
+use Rattle.lfm_protocol.specs.declared.points.Point.{Point}
+use Rattle.lfm_protocol.specs.declared.points.Point.TheVariants.{Rest, Asleep, LockCountAdd, LockOwnerLoad, LockCountSubtract, TryCountExchange, TryOwnerLoad, TryHandoffLoad, TryHandoffExchange, TryCountAdd, SendWakeExchange, SendCountAdd, SendPushLook, SendWakeStore, PushLoad, LinkStore, PushExchange, PushedHandoffLoad, PushedHandoffExchange, ReleaseOwnerStore, ReleaseCountSubtract, ReleaseHandoffStore, ReleasePushLook, ReleaseHandoffExchange, WaitWakeStore, TakeClearHead, TakeLinkLoad, GrantWakeStore, EnterOwnerStore, ReceiveWakeLoad, ReceiveWakeStore}
+use Rattle.lfm_protocol.specs.Core.{Core}
+use Rattle.lfm_core.specs.steady.Ghost.{Ghost}
+use Rattle.lfm_core.specs.steady.Outcome.{Kept}
+use Rattle.lfm_protocol.specs.Seats.{seat, IsSeat}
+use Rattle.lfm_core.specs.steady.Steady.{Fits}
 use Rattle.lfm_core.proofs.steady.Begins.{at_Rest, at_Asleep}
-use Rattle.lfm_core.proofs.steady.ClearedQueue.{at_TakeClearHead}
-use Rattle.lfm_core.proofs.steady.EnterSteps.{at_EnterOwnerStore_Locker, at_EnterOwnerStore_Trier, at_EnterOwnerStore_Receiver}
-use Rattle.lfm_core.proofs.steady.GrantSteps.{at_GrantWakeStore}
-use Rattle.lfm_core.proofs.steady.HandoffSteps.{at_PushedHandoffExchange, at_TryHandoffExchange, at_ReleaseHandoffExchange}
-use Rattle.lfm_core.proofs.steady.Linking.{at_LinkStore}
-use Rattle.lfm_core.proofs.steady.LockSteps.{at_LockOwnerLoad, at_LockCountAdd, at_LockCountSubtract}
-use Rattle.lfm_core.proofs.steady.PostSteps.{at_ReleaseHandoffStore, at_ReleasePushLook}
-use Rattle.lfm_core.proofs.steady.PushExchanges.{at_PushExchange}
-use Rattle.lfm_core.proofs.steady.PushSteps.{at_PushLoad, at_PushedHandoffLoad, at_SendPushLook}
-use Rattle.lfm_core.proofs.steady.ReceiveSteps.{at_WaitWakeStore, at_ReceiveWakeStore, at_ReceiveWakeLoad}
-use Rattle.lfm_core.proofs.steady.ReleaseSteps.{at_ReleaseOwnerStore, at_ReleaseCountSubtract}
-use Rattle.lfm_core.proofs.steady.SendSteps.{at_SendWakeExchange, at_SendCountAdd}
-use Rattle.lfm_core.proofs.steady.ServeSteps.{at_EnterOwnerStore_taken, at_SendWakeStore}
-use Rattle.lfm_core.proofs.steady.TrySteps.{at_TryCountExchange, at_TryOwnerLoad, at_TryHandoffLoad, at_TryCountAdd}
-use Rattle.lfm_core.proofs.steady.Walked.{at_TakeLinkLoad}
+use Rattle.lfm_core.proofs.steady.queue.ClearedQueue.{at_TakeClearHead}
+use Rattle.lfm_core.proofs.steady.points.EnterSteps.{at_EnterOwnerStore_Locker, at_EnterOwnerStore_Trier, at_EnterOwnerStore_Receiver}
+use Rattle.lfm_core.proofs.steady.points.GrantSteps.{at_GrantWakeStore}
+use Rattle.lfm_core.proofs.steady.points.HandoffSteps.{at_PushedHandoffExchange, at_TryHandoffExchange, at_ReleaseHandoffExchange}
+use Rattle.lfm_core.proofs.steady.queue.Linking.{at_LinkStore}
+use Rattle.lfm_core.proofs.steady.points.LockSteps.{at_LockOwnerLoad, at_LockCountAdd, at_LockCountSubtract}
+use Rattle.lfm_core.proofs.steady.points.PostSteps.{at_ReleaseHandoffStore, at_ReleasePushLook}
+use Rattle.lfm_core.proofs.steady.points.PushExchanges.{at_PushExchange}
+use Rattle.lfm_core.proofs.steady.points.PushSteps.{at_PushLoad, at_PushedHandoffLoad, at_SendPushLook}
+use Rattle.lfm_core.proofs.steady.points.ReceiveSteps.{at_WaitWakeStore, at_ReceiveWakeStore, at_ReceiveWakeLoad}
+use Rattle.lfm_core.proofs.steady.points.ReleaseSteps.{at_ReleaseOwnerStore, at_ReleaseCountSubtract}
+use Rattle.lfm_core.proofs.steady.points.SendSteps.{at_SendWakeExchange, at_SendCountAdd}
+use Rattle.lfm_core.proofs.steady.points.ServeSteps.{at_EnterOwnerStore_taken, at_SendWakeStore}
+use Rattle.lfm_core.proofs.steady.points.TrySteps.{at_TryCountExchange, at_TryOwnerLoad, at_TryHandoffLoad, at_TryCountAdd}
+use Rattle.lfm_core.proofs.steady.queue.Walked.{at_TakeLinkLoad}
 
 enters : (c : Core) (g : Ghost) (s : ℕ) (entrant : Entrant) (how : How) → IsSeat c.seats s → (seat c.seats s).point ≡ EnterOwnerStore entrant how → Fits c g → Kept c g s
 enters c g s Entrant.Locker How.Free is at fits = at_EnterOwnerStore_Locker c g s is at fits

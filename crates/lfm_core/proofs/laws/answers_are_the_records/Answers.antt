@@ -1,4 +1,4 @@
-use Rattle.lfm_core.proofs.lawful.PushOrder.{answers_are_the_records}
+use Rattle.lfm_core.proofs.lawful.runs.PushOrder.{answers_are_the_records}
 use Rattle.lfm_core.proofs.laws.answers_are_the_records.Goals as goal
 
 pub returns : goal.returns

@@ -1,4 +1,4 @@
-use Rattle.lfm_core.proofs.lawful.RefusedCalls.{begins_are_refused_for_cause}
+use Rattle.lfm_core.proofs.lawful.refusals.RefusedCalls.{begins_are_refused_for_cause}
 use Rattle.lfm_core.proofs.laws.begins_are_refused_for_cause.Goals as goal
 
 pub returns : goal.returns

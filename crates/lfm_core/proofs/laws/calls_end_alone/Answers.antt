@@ -1,4 +1,4 @@
-use Rattle.lfm_core.proofs.lawful.CallsEnd.{calls_end_alone}
+use Rattle.lfm_core.proofs.lawful.bounds.CallsEnd.{calls_end_alone}
 use Rattle.lfm_core.proofs.laws.calls_end_alone.Goals as goal
 
 pub returns : goal.returns

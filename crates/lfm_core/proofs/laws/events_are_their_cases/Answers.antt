@@ -1,4 +1,4 @@
-use Rattle.lfm_core.proofs.lawful.AbstractBridge.{events_are_their_cases}
+use Rattle.lfm_core.proofs.lawful.runs.AbstractBridge.{events_are_their_cases}
 use Rattle.lfm_core.proofs.laws.events_are_their_cases.Goals as goal
 
 pub returns : goal.returns

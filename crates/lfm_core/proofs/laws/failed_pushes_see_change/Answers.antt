@@ -1,4 +1,4 @@
-use Rattle.lfm_core.proofs.lawful.StateLaws.{failed_pushes_see_change}
+use Rattle.lfm_core.proofs.lawful.states.StateLaws.{failed_pushes_see_change}
 use Rattle.lfm_core.proofs.laws.failed_pushes_see_change.Goals as goal
 
 pub returns : goal.returns

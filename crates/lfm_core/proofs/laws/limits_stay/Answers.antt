@@ -1,4 +1,4 @@
-use Rattle.lfm_core.proofs.lawful.LimitsKept.{limits_stay}
+use Rattle.lfm_core.proofs.lawful.runs.LimitsKept.{limits_stay}
 use Rattle.lfm_core.proofs.laws.limits_stay.Goals as goal
 
 pub returns : goal.returns

@@ -1,4 +1,4 @@
-use Rattle.lfm_core.proofs.lawful.RangesRead.{numbers_stay_in_range}
+use Rattle.lfm_core.proofs.lawful.states.RangesRead.{numbers_stay_in_range}
 use Rattle.lfm_core.proofs.laws.numbers_stay_in_range.Goals as goal
 
 pub returns : goal.returns

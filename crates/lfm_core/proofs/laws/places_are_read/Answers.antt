@@ -1,4 +1,4 @@
-use Rattle.lfm_core.proofs.lawful.CountLaws.{places_are_read}
+use Rattle.lfm_core.proofs.lawful.states.CountLaws.{places_are_read}
 use Rattle.lfm_core.proofs.laws.places_are_read.Goals as goal
 
 pub returns : goal.returns

@@ -1,4 +1,4 @@
-use Rattle.lfm_core.proofs.lawful.PushesAlone.{pushes_alone_fail_once}
+use Rattle.lfm_core.proofs.lawful.bounds.PushesAlone.{pushes_alone_fail_once}
 use Rattle.lfm_core.proofs.laws.pushes_alone_fail_once.Goals as goal
 
 pub returns : goal.returns

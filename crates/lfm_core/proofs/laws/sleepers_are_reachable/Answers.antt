@@ -1,4 +1,4 @@
-use Rattle.lfm_core.proofs.lawful.Sleepers.{sleepers_are_reachable}
+use Rattle.lfm_core.proofs.lawful.states.Sleepers.{sleepers_are_reachable}
 use Rattle.lfm_core.proofs.laws.sleepers_are_reachable.Goals as goal
 
 pub returns : goal.returns

@@ -1,4 +1,4 @@
-use Rattle.lfm_core.proofs.lawful.RangesRead.{steps_have_room}
+use Rattle.lfm_core.proofs.lawful.states.RangesRead.{steps_have_room}
 use Rattle.lfm_core.proofs.laws.steps_have_room.Goals as goal
 
 pub returns : goal.returns

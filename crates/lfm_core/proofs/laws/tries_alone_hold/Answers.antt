@@ -1,4 +1,4 @@
-use Rattle.lfm_core.proofs.lawful.TriesAlone.{tries_alone_hold}
+use Rattle.lfm_core.proofs.lawful.bounds.TriesAlone.{tries_alone_hold}
 use Rattle.lfm_core.proofs.laws.tries_alone_hold.Goals as goal
 
 pub returns : goal.returns

@@ -1,4 +1,4 @@
-use Rattle.lfm_core.proofs.lawful.BusyTries.{tries_see_a_holder}
+use Rattle.lfm_core.proofs.lawful.refusals.BusyTries.{tries_see_a_holder}
 use Rattle.lfm_core.proofs.laws.tries_see_a_holder.Goals as goal
 
 pub returns : goal.returns

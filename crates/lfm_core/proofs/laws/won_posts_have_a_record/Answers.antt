@@ -1,4 +1,4 @@
-use Rattle.lfm_core.proofs.lawful.WonPosts.{won_posts_have_a_record}
+use Rattle.lfm_core.proofs.lawful.states.WonPosts.{won_posts_have_a_record}
 use Rattle.lfm_core.proofs.laws.won_posts_have_a_record.Goals as goal
 
 pub returns : goal.returns

@@ -1,5 +1,5 @@
 use Rattle.std.proofs.Common.{◌≡◌, true, sym}
-use Rattle.lfm_core.specs.Limits.{are_in_limits}
+use Rattle.lfm_protocol.specs.Limits.{are_in_limits}
 use Rattle.lfm_core.proofs.steady.Start.{start_steady, few_seats, small_budget}
 use Rattle.lfm_core.proofs.stepped.State.new.Goals as goal
 

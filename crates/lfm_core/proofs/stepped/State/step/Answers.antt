@@ -2,7 +2,7 @@ use Rattle.std.proofs.Common.{sym}
 use Rattle.lfm_core.proofs.steady.MadeSteady.{made_steady}
 use Rattle.lfm_core.proofs.steady.Room.{steady_has_room}
 use Rattle.lfm_core.proofs.stepped.State.step.Goals as goal
-use Rattle.lfm_core.proofs.steady.Seated.{seat_of_test}
+use Rattle.lfm_core.proofs.steady.frames.Seated.{seat_of_test}
 
 pub make-requires-clause-room : goal.make-requires-clause-room
 make-requires-clause-room c =

@@ -1,5 +1,5 @@
 use Rattle.std.proofs.Common.{rules, tests, ◌∙◌, ◌-◌, sym, ap, arith}
-use Rattle.lfm_core.proofs.Lines.{steps-stop, steps-on}
+use Rattle.lfm_core.proofs.texts.Lines.{steps-stop, steps-on}
 use Rattle.lfm_core.proofs.stepped.State.steps.Goals as goal
 
 pub returns-then-not-is_open-clause-turn : goal.returns-then-not-is_open-clause-turn

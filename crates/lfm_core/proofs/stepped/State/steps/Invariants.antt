@@ -1,5 +1,5 @@
 use Rattle.std.proofs.Common.{◌≡◌, ◌-◌}
-use Rattle.lfm_core.specs.Lines.{steps}
+use Rattle.lfm_core.specs.text.Lines.{steps}
 use Rattle.lfm_core.proofs.stepped.State.steps.Given as goal
 
 abbrev pub invariant-loop : goal.invariant-loop

@@ -1,9 +1,0 @@
-use Rattle.lfm_core.proofs.Decoding.{spelled_decodes}
-use Rattle.lfm_core.proofs.Spelled.{line_only}
-use Rattle.lfm_core.proofs.grammar_laws.lines_are_spelled.Goals as goal
-
-pub returns-clause-only : goal.returns-clause-only
-returns-clause-only c = line_only
-
-pub returns-clause-all : goal.returns-clause-all
-returns-clause-all c = spelled_decodes

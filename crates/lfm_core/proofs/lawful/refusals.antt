@@ -1,0 +1,7 @@
+-- The laws of refusals.
+pub mod Beginnings
+pub mod BusyTries
+pub mod PlainSteps
+pub mod RefusedCalls
+pub mod RefusedSteps
+pub mod RefusedTurns

@@ -1,0 +1,8 @@
+-- The laws of whole runs.
+pub mod AbstractBridge
+pub mod LimitsKept
+pub mod LineEvents
+pub mod PushOrder
+pub mod Reached
+pub mod RunLaws
+pub mod SameSteps

@@ -1,5 +1,0 @@
-use Rattle.lfm_core.proofs.Replays.{exact}
-use Rattle.lfm_core.proofs.replaying.replay.Goals as goal
-
-pub returns-clause-exact : goal.returns-clause-exact
-returns-clause-exact g c = exact _ _ _ _ _ _ c.in_ok-input.ensures.ok (rw c.deref.ensures.value at c.replay_input.ensures)

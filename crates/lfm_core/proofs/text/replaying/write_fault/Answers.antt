@@ -1,0 +1,5 @@
+use Rattle.lfm_core.proofs.texts.Writes.{failed_after}
+use Rattle.lfm_core.proofs.text.replaying.write_fault.Goals as goal
+
+pub returns-in_err-flush : goal.returns-in_err-flush
+returns-in_err-flush g c = failed_after _ _ _ _ _ _ _ c.in_ok-write_fault_line.ensures c.in_err-flush.ensures c.from_residual-in_err-flush.ensures.1

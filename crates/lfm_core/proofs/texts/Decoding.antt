@@ -1,0 +1,178 @@
+-- A line, a first line or a whole schedule that is written is read back as itself.
+use Rattle.std.proofs.Common.{◌≡◌, ◌+◌, ◌≤◌, ◌<◌, ◌^◌, ◌==◌, ◌&&◌, nat_lt, not, suc, ℕ, true, false, List, [], ◌∷◌, ◌++◌, Option, Some, Result, Ok, All, refl, sym, ◌∙◌, ap, append_assoc, arith, tests, codes, decimal, get_or, ne_eqb, inl, inr}
+use Rattle.std.specs.Int.{IsInRange}
+use Rattle.std.specs.List.{flat_map, list_all}
+use Rattle.std.proofs.lemmas.Fmt.{digits_decimal}
+use Rattle.std.proofs.lemmas.Bool.{not-true}
+use Rattle.std.proofs.lemmas.List.Elements.{All-from_get_or, All-append}
+use Rattle.std.proofs.lemmas.List.Sums.{AllPass-from_list_all}
+use Rattle.std.proofs.lemmas.List.Splits.{slice_split_at, slice_split_none}
+use Rattle.std.proofs.lemmas.Str.Parse.{not_in_digits}
+use Rattle.lfm_protocol.specs.declared.answers.Call.{Call}
+use Rattle.lfm_protocol.specs.declared.answers.Call.TheVariants.{Lock, TryLock, Unlock, StartWait, SendLock, Receive}
+use Rattle.lfm_core.specs.declared.text.schedule.Act.{Act}
+use Rattle.lfm_core.specs.declared.text.schedule.Act.TheVariants.{Begin, Steps, ToEnd}
+use Rattle.lfm_core.specs.declared.text.schedule.Line.{Line}
+use Rattle.lfm_core.specs.declared.text.schedule.ReplayFault.{ReplayFault}
+use Rattle.lfm_core.specs.text.Text.{parts_at, words_of, lines_of, is_past_limit}
+use Rattle.lfm_core.specs.text.Grammar.{act_of, line_of, header_of, lines_from, Plan, plan_in, plan_of_lines, plan_from}
+use Rattle.lfm_protocol.specs.Limits.{max_budget, are_in_limits}
+use Rattle.lfm_core.specs.text.Spelling.{act_spelling, call_spelling, line_spelling, one_step_spelling, header_spelling, short_header_spelling, plan_spelling, IsWritableAct, IsWritable, IsWritablePlan, Spells, SpellsHeader, HasShortTarget}
+use Rattle.lfm_core.proofs.texts.Cutting.{line_first}
+use Rattle.lfm_core.proofs.texts.Numbers.{decimal_digits, every}
+
+-- no byte of the text equals b
+abbrev Lacks : ℕ → List ℕ → Type 0
+Lacks b text = All (λ c. (c == b) ≡ false) text
+
+-- a decimal text has only digits
+decimal_lacks : (b n : ℕ) → (IsInRange 48 57 b → ⊥) → n < 10 ^ 18 → Lacks b (decimal n)
+decimal_lacks b n no_digit small =
+    All-from_get_or (λ c. (c == b) ≡ false) (decimal n) 0
+    (λ i h. ne_eqb (get_or (decimal n) i 0) b (not_in_digits decimal_digits (decimal n) b (digits_decimal decimal_digits n (omega (arith, small))) no_digit i h))
+
+-- a text without b, and then b
+first_part : (b : ℕ) (xs ys : List ℕ) → Lacks b xs → parts_at b (xs ++ b ∷ ys) ≡ xs ∷ parts_at b ys
+first_part b xs ys lacks = slice_split_at (λ c. c == b) xs b ys lacks (search (tests, arith))
+
+only_part : (b : ℕ) (xs : List ℕ) → Lacks b xs → parts_at b xs ≡ xs ∷ []
+only_part b xs lacks = slice_split_none (λ c. c == b) xs lacks
+
+no_space : (n : ℕ) → n < 10 ^ 18 → Lacks 32 (decimal n)
+no_space n small = decimal_lacks 32 n (λ r. absurd (omega (arith, r))) small
+
+-- a seat and one word
+one_word : (s : ℕ) (word : List ℕ) (a : Act) → s < 10 ^ 18 → parts_at 32 word ≡ word ∷ [] → act_of word ≡ Some a
+    → line_of (words_of (decimal s ++ 32 ∷ word)) ≡ Some (record { seat = s; act = a })
+one_word s word a small whole says = rw (first_part 32 (decimal s) word (no_space s small), whole, every s small, says) refl
+
+-- a seat, its call and a target
+send_words : (s t : ℕ) → s < 10 ^ 18 → t < 10 ^ 18
+    → line_of (words_of (decimal s ++ 32 ∷ (codes "send_lock " ++ decimal t))) ≡ Some (record { seat = s; act = Begin (SendLock t) })
+send_words s t small short =
+    rw (first_part 32 (decimal s) (codes "send_lock " ++ decimal t) (no_space s small), only_part 32 (decimal t) (no_space t short), every s small, every t short) refl
+
+steps_word : (k : ℕ) → k < 10 ^ 18 → parts_at 32 (codes "+" ++ decimal k) ≡ (codes "+" ++ decimal k) ∷ []
+steps_word k small = rw (only_part 32 (decimal k) (no_space k small)) refl
+
+steps_said : (k : ℕ) → 1 ≤ k → k ≤ 999 → act_of (codes "+" ++ decimal k) ≡ Some (Steps k)
+steps_said k low high =
+    let few : (nat_lt 0 k && nat_lt k 1000) ≡ true = search (tests, arith, low, high) in
+    rw (every k (omega (arith, high)), few) refl
+
+call_decodes : (s : ℕ) (call : Call) → s < 10 ^ 18 → HasShortTarget call → line_of (words_of (decimal s ++ 32 ∷ call_spelling call)) ≡ Some (record { seat = s; act = Begin call })
+call_decodes s Lock small short = one_word s (codes "lock") (Begin Lock) small refl refl
+call_decodes s TryLock small short = one_word s (codes "try_lock") (Begin TryLock) small refl refl
+call_decodes s Unlock small short = one_word s (codes "unlock") (Begin Unlock) small refl refl
+call_decodes s StartWait small short = one_word s (codes "start_wait") (Begin StartWait) small refl refl
+call_decodes s (SendLock t) small short = send_words s t small short
+call_decodes s Receive small short = one_word s (codes "receive") (Begin Receive) small refl refl
+
+act_decodes : (s : ℕ) (a : Act) → s < 10 ^ 18 → IsWritableAct a → line_of (words_of (decimal s ++ 32 ∷ act_spelling a)) ≡ Some (record { seat = s; act = a })
+act_decodes s (Begin call) small writable = call_decodes s call small writable
+act_decodes s (Steps k) small writable =
+    one_word s (codes "+" ++ decimal k) (Steps k) small (steps_word k (omega (arith, writable.1))) (steps_said k writable.0 writable.1)
+act_decodes s ToEnd small writable = one_word s (codes "*") ToEnd small refl refl
+
+-- a line that is written in full
+pub line_decodes : (l : Line) → IsWritable l → line_of (words_of (line_spelling l)) ≡ Some l
+line_decodes l writable = act_decodes l.seat l.act writable.seat writable.act
+
+-- the other form of one step
+pub one_step_decodes : (s : ℕ) → s < 10 ^ 18 → line_of (words_of (one_step_spelling s)) ≡ Some (record { seat = s; act = Steps 1 })
+one_step_decodes s small = one_word s (codes ".") (Steps 1) small refl refl
+
+pub header_decodes : (n b : ℕ) → n < 10 ^ 18 → b < 10 ^ 18 → header_of (words_of (header_spelling n b)) ≡ Some (n, b)
+header_decodes n b small short =
+    rw (first_part 32 (decimal n) (decimal b) (no_space n small), only_part 32 (decimal b) (no_space b short), every n small, every b short) refl
+
+pub short_header_decodes : (n : ℕ) → n < 10 ^ 18 → header_of (words_of (short_header_spelling n)) ≡ Some (n, max_budget)
+short_header_decodes n small = rw (only_part 32 (decimal n) (no_space n small), every n small) refl
+
+-- a first line, in either form
+pub spelled_header_decodes : (text : List ℕ) (n b : ℕ) → SpellsHeader text n b → n < 10 ^ 18 → b < 10 ^ 18 → header_of (words_of text) ≡ Some (n, b)
+spelled_header_decodes text n b spells small short =
+    elim spells [
+      | inl full ↦ ap (λ t. header_of (words_of t)) full ∙ header_decodes n b small short
+      | inr largest ↦ ap (λ t. header_of (words_of t)) largest.1 ∙ short_header_decodes n small ∙ ap (λ m. Some (n, m)) (sym largest.0)
+    ]
+
+-- a line, in either form
+pub spelled_decodes : (text : List ℕ) (l : Line) → Spells text l → IsWritable l → line_of (words_of text) ≡ Some l
+spelled_decodes text l spells writable =
+    elim spells [
+      | inl full ↦ ap (λ t. line_of (words_of t)) full ∙ line_decodes l writable
+      | inr short ↦ ap (λ t. line_of (words_of t)) short.1 ∙ one_step_decodes l.seat writable.seat
+          ∙ ap (λ a. Some (record { seat = l.seat; act = a })) (sym short.0)
+    ]
+
+-- a literal text without b
+literal_lacks : (b : ℕ) (text : List ℕ) → list_all (λ c. not (c == b)) text ≡ true → Lacks b text
+literal_lacks b text none = λ k d within. not-true _ (AllPass-from_list_all (λ c. not (c == b)) text none k d within)
+
+no_feed : (n : ℕ) → n < 10 ^ 18 → Lacks 10 (decimal n)
+no_feed n small = decimal_lacks 10 n (λ r. absurd (omega (arith, r))) small
+
+both_lack : (xs ys : List ℕ) → Lacks 10 xs → Lacks 10 ys → Lacks 10 (xs ++ ys)
+both_lack xs ys first second = All-append (λ c. (c == 10) ≡ false) xs ys first second
+
+no_feed_in_call : (call : Call) → HasShortTarget call → Lacks 10 (call_spelling call)
+no_feed_in_call Lock short = literal_lacks 10 (codes "lock") refl
+no_feed_in_call TryLock short = literal_lacks 10 (codes "try_lock") refl
+no_feed_in_call Unlock short = literal_lacks 10 (codes "unlock") refl
+no_feed_in_call StartWait short = literal_lacks 10 (codes "start_wait") refl
+no_feed_in_call (SendLock t) short = both_lack (codes "send_lock ") (decimal t) (literal_lacks 10 (codes "send_lock ") refl) (no_feed t short)
+no_feed_in_call Receive short = literal_lacks 10 (codes "receive") refl
+
+no_feed_in_act : (a : Act) → IsWritableAct a → Lacks 10 (act_spelling a)
+no_feed_in_act (Begin call) writable = no_feed_in_call call writable
+no_feed_in_act (Steps k) writable = both_lack (codes "+") (decimal k) (literal_lacks 10 (codes "+") refl) (no_feed k (omega (arith, writable.1)))
+no_feed_in_act ToEnd writable = literal_lacks 10 (codes "*") refl
+
+no_feed_in_line : (l : Line) → IsWritable l → Lacks 10 (line_spelling l)
+no_feed_in_line l writable =
+    both_lack (decimal l.seat) (codes " " ++ act_spelling l.act) (no_feed l.seat writable.seat)
+    (both_lack (codes " ") (act_spelling l.act) (literal_lacks 10 (codes " ") refl) (no_feed_in_act l.act writable.act))
+
+no_feed_in_header : (n b : ℕ) → n < 10 ^ 18 → b < 10 ^ 18 → Lacks 10 (header_spelling n b)
+no_feed_in_header n b small short =
+    both_lack (codes "seats ") (decimal n ++ (codes " " ++ decimal b)) (literal_lacks 10 (codes "seats ") refl)
+    (both_lack (decimal n) (codes " " ++ decimal b) (no_feed n small) (both_lack (codes " ") (decimal b) (literal_lacks 10 (codes " ") refl) (no_feed b short)))
+
+-- a line that is ended by a line feed
+one_line : (line rest : List ℕ) → Lacks 10 line → lines_of (line ++ 10 ∷ rest) ≡ line ∷ lines_of rest
+one_line line rest lacks = line_first (line ++ 10 ∷ rest) line rest (first_part 10 line rest lacks)
+
+abbrev lines_text : List Line → List ℕ
+lines_text ls = flat_map (λ l. line_spelling l ++ codes "\n") ls
+
+lines_text-cons : (l : Line) (ls : List Line) → lines_text (l ∷ ls) ≡ line_spelling l ++ 10 ∷ lines_text ls
+lines_text-cons l ls = append_assoc (line_spelling l) (codes "\n") (lines_text ls)
+
+lines_decode : (ls : List Line) → All IsWritable ls → (n : ℕ) → lines_from n (lines_of (lines_text ls)) ≡ Ok ls
+lines_decode [] writable n = refl
+lines_decode (l ∷ ls) writable n =
+    let first : IsWritable l = writable 0 l (omega arith) in
+    let others : All IsWritable ls = λ k d within. writable (suc k) d (omega (arith, within)) in
+    let cut : lines_of (lines_text (l ∷ ls)) ≡ line_spelling l ∷ lines_of (lines_text ls) = ap lines_of (lines_text-cons l ls) ∙ one_line (line_spelling l) (lines_text ls) (no_feed_in_line l first) in
+    ap (λ texts. lines_from n texts) cut ∙ rw (line_decodes l first, lines_decode ls others (n + 1)) refl
+
+-- what a first line and the lines after it say together
+pub joined : (n b : ℕ) (ls : List Line) (h : Option (ℕ × ℕ)) (r : Result (List Line) ReplayFault) → h ≡ Some (n, b) → r ≡ Ok ls → are_in_limits n b ≡ true
+    → plan_from h r ≡ Ok (record { seats = n; budget = b; lines = ls })
+joined n b ls h r first others within = rw (first, others, within) refl
+
+-- a whole plan that is written in full
+pub plan_decodes : (p : Plan) → IsWritablePlan p → plan_in (plan_spelling p) ≡ Ok p
+plan_decodes p writable =
+    let small : p.seats < 10 ^ 18 = omega (arith, writable.seats.1) in
+    let short : p.budget < 10 ^ 18 = omega (arith, writable.budget.1) in
+    let first = header_spelling p.seats p.budget in
+    let cut : lines_of (plan_spelling p) ≡ first ∷ lines_of (lines_text p.lines) = one_line first (lines_text p.lines) (no_feed_in_header p.seats p.budget small short) in
+    let within : are_in_limits p.seats p.budget ≡ true = search (tests, arith, writable.seats.0, writable.seats.1, writable.budget.0, writable.budget.1) in
+    within_limit (plan_spelling p) writable.short ∙ ap plan_of_lines cut
+    ∙ joined p.seats p.budget p.lines (header_of (words_of first)) (lines_from 2 (lines_of (lines_text p.lines)))
+    (header_decodes p.seats p.budget small short) (lines_decode p.lines writable.lines 2) within
+  where
+    within_limit : (text : List ℕ) → is_past_limit text ≡ false → plan_in text ≡ plan_of_lines (lines_of text)
+    within_limit text short = rw short refl

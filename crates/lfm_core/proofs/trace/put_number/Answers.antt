@@ -1,9 +1,0 @@
-use Rattle.std.proofs.Common.{arith}
-use Rattle.lfm_core.proofs.Queued.{length-decimal}
-use Rattle.lfm_core.proofs.trace.put_number.Goals as goal
-
-pub write_digits-requires : goal.write_digits-requires
-write_digits-requires c = omega (arith, length-decimal c.args.number c.ranges.number.fits)
-
-pub returns-clause-room : goal.returns-clause-room
-returns-clause-room c = omega (arith, length-decimal c.args.number c.ranges.number.fits, c.write_digits.ensures.start)

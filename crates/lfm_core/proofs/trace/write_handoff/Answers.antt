@@ -1,6 +1,0 @@
-use Rattle.std.proofs.Common.{arith}
-use Rattle.lfm_core.proofs.Writes.{part_three}
-use Rattle.lfm_core.proofs.trace.write_handoff.Goals as goal
-
-pub returns-in_err-write_number-2 : goal.returns-in_err-write_number-2
-returns-in_err-write_number-2 g c = grind (arith, part_three)

@@ -1,0 +1,11 @@
+-- What the laws say: of one state, of steps and of runs.
+pub mod Events
+pub mod Errands
+pub mod Schedules
+pub mod Reading
+pub mod Watched
+pub mod Lawful
+pub mod Cases
+pub mod Laws
+pub mod Ranges
+pub mod Refusals

@@ -1,0 +1,5 @@
+-- The step at a table of packed words.
+pub mod Words
+pub mod Settles
+pub mod Ready
+pub mod Carried

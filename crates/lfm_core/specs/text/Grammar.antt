@@ -1,0 +1,129 @@
+-- What the bytes of a schedule spell.
+use Rattle.std.specs.Prelude.{ℕ, Bool, ◌≡◌, ◌+◌, ◌≤◌, ◌==◌, ◌&&◌, nat_lt, if◌then◌else◌, ⊤, List, [], ◌∷◌, Option, Some, None, Result, Ok, Err, codes, ◌<◌, zero, suc, true, false, is_some, slice_index_or}
+use Rattle.std.specs.Str.{bytes_eq}
+use Rattle.lfm_protocol.specs.declared.answers.Call.TheVariants.{Lock, TryLock, Unlock, StartWait, SendLock, Receive}
+use Rattle.lfm_core.specs.declared.text.schedule.Act.{Act}
+use Rattle.lfm_core.specs.declared.text.schedule.Act.TheVariants.{Begin, Steps, ToEnd}
+use Rattle.lfm_core.specs.declared.text.schedule.Line.{Line}
+use Rattle.lfm_core.specs.declared.text.schedule.Schedule.{Schedule}
+use Rattle.lfm_core.specs.declared.text.schedule.ReplayFault.{ReplayFault}
+use Rattle.lfm_core.specs.declared.text.schedule.ReplayFault.TheVariants.{Syntax, Limit, Read, Write, Memory}
+use Rattle.lfm_protocol.specs.Limits.{max_budget, are_in_limits}
+use Rattle.lfm_core.specs.text.Text.{number_of, words_of, lines_of, is_past_limit}
+
+-- from 1 to 999 steps
+abbrev pub steps_of : Option ℕ → Option Act
+steps_of None = None
+steps_of (Some k) = if nat_lt 0 k && nat_lt k 1000 then Some (Steps k) else None
+
+-- what one word says that is no number of steps
+abbrev pub plain_act_of : List ℕ → Option Act
+plain_act_of word =
+    if bytes_eq word (codes ".") then Some (Steps 1)
+    else if bytes_eq word (codes "*") then Some ToEnd
+    else if bytes_eq word (codes "lock") then Some (Begin Lock)
+    else if bytes_eq word (codes "try_lock") then Some (Begin TryLock)
+    else if bytes_eq word (codes "unlock") then Some (Begin Unlock)
+    else if bytes_eq word (codes "start_wait") then Some (Begin StartWait)
+    else if bytes_eq word (codes "receive") then Some (Begin Receive)
+    else None
+
+-- what one word after the seat says; a plus sign is in front of a number of steps
+abbrev pub act_of : List ℕ → Option Act
+act_of [] = plain_act_of []
+act_of (c ∷ cs) = if c == 43 then steps_of (number_of cs) else plain_act_of (c ∷ cs)
+
+-- a seat and what it does, where both are spelled
+abbrev pub seat_line : Option ℕ → Option Act → Option Line
+seat_line None act = None
+seat_line (Some s) None = None
+seat_line (Some s) (Some a) = Some (record { seat = s; act = a })
+
+abbrev pub send_act : Option ℕ → Option Act
+send_act None = None
+send_act (Some t) = Some (Begin (SendLock t))
+
+abbrev pub send_of : List ℕ → List ℕ → List ℕ → Option Line
+send_of seat call target = if bytes_eq call (codes "send_lock") then seat_line (number_of seat) (send_act (number_of target)) else None
+
+-- what the words of a line after the first say
+abbrev pub line_of : List (List ℕ) → Option Line
+line_of (seat ∷ act ∷ []) = seat_line (number_of seat) (act_of act)
+line_of (seat ∷ call ∷ target ∷ []) = send_of seat call target
+line_of _ = None
+
+-- a number of seats and a budget, where both are spelled
+abbrev pub header : Option ℕ → Option ℕ → Option (ℕ × ℕ)
+header None budget = None
+header (Some n) None = None
+header (Some n) (Some b) = Some (n, b)
+
+-- what the words of the first line say: the largest budget where it names none
+abbrev pub header_of : List (List ℕ) → Option (ℕ × ℕ)
+header_of (word ∷ seats ∷ []) = if bytes_eq word (codes "seats") then header (number_of seats) (Some max_budget) else None
+header_of (word ∷ seats ∷ budget ∷ []) = if bytes_eq word (codes "seats") then header (number_of seats) (number_of budget) else None
+header_of _ = None
+
+-- a line in front of those after it; its fault comes first
+abbrev pub in_front : ℕ → Option Line → Result (List Line) ReplayFault → Result (List Line) ReplayFault
+in_front number None rest = Err (Syntax number)
+in_front number (Some line) (Ok lines) = Ok (line ∷ lines)
+in_front number (Some line) (Err fault) = Err fault
+
+-- what the lines from the given number on say, or the fault of the first that says nothing
+abbrev pub lines_from : ℕ → List (List ℕ) → Result (List Line) ReplayFault
+lines_from number [] = Ok []
+lines_from number (text ∷ texts) = in_front number (line_of (words_of text)) (lines_from (number + 1) texts)
+
+-- a schedule without where its lines lie in memory
+pub record Plan : Type 0 where
+  pub seats : ℕ
+  pub budget : ℕ
+  pub lines : List Line
+
+abbrev pub plan_of : Schedule → Plan
+plan_of s = record { seats = s.seats; budget = s.budget; lines = s.lines.items }
+
+abbrev pub in_limits : ℕ → ℕ → List Line → Result Plan ReplayFault
+in_limits n b ls = if are_in_limits n b then Ok (record { seats = n; budget = b; lines = ls }) else Err Limit
+
+-- what the first line and those after it say; a fault of the limits comes last
+abbrev pub plan_from : Option (ℕ × ℕ) → Result (List Line) ReplayFault → Result Plan ReplayFault
+plan_from None rest = Err (Syntax 1)
+plan_from (Some h) (Err fault) = Err fault
+plan_from (Some h) (Ok lines) = in_limits h.0 h.1 lines
+
+abbrev pub plan_of_lines : List (List ℕ) → Result Plan ReplayFault
+plan_of_lines [] = Err (Syntax 1)
+plan_of_lines (first ∷ rest) = plan_from (header_of (words_of first)) (lines_from 2 rest)
+
+-- the schedule that a text spells, or its first fault
+abbrev pub plan_in : List ℕ → Result Plan ReplayFault
+plan_in text = if is_past_limit text then Err Limit else plan_of_lines (lines_of text)
+
+-- the result, seen by view, is what the text says, unless memory was refused
+abbrev pub Gives : {X Y : Type 0} → (X → Y) → Result X ReplayFault → Result Y ReplayFault → Type 0
+Gives view (Ok x) said = said ≡ Ok (view x)
+Gives view (Err (Syntax n)) said = said ≡ Err (Syntax n)
+Gives view (Err Limit) said = said ≡ Err Limit
+Gives view (Err Read) said = ⊥
+Gives view (Err Write) said = ⊥
+Gives view (Err Memory) said = ⊤
+
+-- steps that an act asks for are 1 to 999
+abbrev pub HasFewSteps : Act → Type 0
+HasFewSteps (Begin call) = ⊤
+HasFewSteps (Steps k) = (1 ≤ k) × (k ≤ 999)
+HasFewSteps ToEnd = ⊤
+
+-- whether a text says a line where it stands at this index
+abbrev pub is_line_at : ℕ → List ℕ → Bool
+is_line_at zero text = is_some (header_of (words_of text))
+is_line_at (suc k) text = is_some (line_of (words_of text))
+
+-- the line of this number, counted from 1, is the first that says nothing; past the last line stands the empty text
+pub record IsFirstFault (texts : List (List ℕ)) (number : ℕ) : Type 0 where
+  pub index : ℕ
+  pub counted : number ≡ index + 1
+  pub fails : is_line_at index (slice_index_or texts index []) ≡ false
+  pub before : (k : ℕ) → k < index → is_line_at k (slice_index_or texts k []) ≡ true

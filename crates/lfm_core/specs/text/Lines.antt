@@ -1,0 +1,34 @@
+-- What a line of a schedule does to a state, and what a list of lines does.
+use Rattle.std.specs.Prelude.{ℕ, zero, suc, List, [], ◌∷◌, if◌then◌else◌}
+use Rattle.lfm_protocol.specs.declared.answers.Turn.{Turn}
+use Rattle.lfm_protocol.specs.declared.answers.Turn.TheVariants.{Open}
+use Rattle.lfm_core.specs.declared.text.schedule.Act.{Act}
+use Rattle.lfm_core.specs.declared.text.schedule.Act.TheVariants.{Begin, Steps, ToEnd}
+use Rattle.lfm_core.specs.declared.text.schedule.Line.{Line}
+use Rattle.lfm_protocol.specs.Core.{Core, Moved}
+use Rattle.lfm_protocol.specs.Step.{begin, step}
+use Rattle.lfm_protocol.specs.Turns.{is_open, longest_call}
+
+-- up to so many steps of seat s, which stop where its call ends or a step is refused
+abbrev pub steps : ℕ → Core → ℕ → Moved
+steps zero c s = record { core = c; turn = Open }
+steps (suc most) c s = if is_open (step c s).turn then steps most (step c s).core s else step c s
+
+abbrev pub act_moved : Core → ℕ → Act → Moved
+act_moved c s (Begin call) = begin c s call
+act_moved c s (Steps most) = steps most c s
+act_moved c s ToEnd = steps (longest_call c) c s
+
+-- the state after a line, and the line's last turn
+abbrev pub line_moved : Core → Line → Moved
+line_moved c line = act_moved c line.seat line.act
+
+-- the state after some lines
+abbrev pub lines_core : Core → List Line → Core
+lines_core c [] = c
+lines_core c (line ∷ lines) = lines_core (line_moved c line).core lines
+
+-- the last turn of each of some lines
+abbrev pub lines_turns : Core → List Line → List Turn
+lines_turns c [] = []
+lines_turns c (line ∷ lines) = (line_moved c line).turn ∷ lines_turns (line_moved c line).core lines

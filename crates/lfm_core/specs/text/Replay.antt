@@ -1,0 +1,37 @@
+-- What a replay of an input writes and answers.
+use Rattle.std.specs.Prelude.{ℕ, Bool, ◌≡◌, List, Option, Result, Ok, Err}
+use Rattle.std.specs.Io.KnownBytes.{Appends, Keeps}
+use Rattle.lfm_core.specs.declared.text.schedule.ReplayFault.{ReplayFault}
+use Rattle.lfm_core.specs.declared.text.schedule.ReplayFault.TheVariants.{Syntax, Limit, Read, Write, Memory}
+use Rattle.lfm_core.specs.text.Taking.{Takes}
+use Rattle.lfm_core.specs.text.Trace.{trace_of, verdict_of}
+use Rattle.lfm_core.specs.text.Writing.{AppendsFront}
+
+-- The verdict was answered after its text was written. After `Write` a front of the text was written; after `Read` and
+-- `Memory` nothing.
+abbrev pub Tells : Result Bool ReplayFault → List ℕ → Result Bool ReplayFault → Option (List ℕ) → Option (List ℕ) → Type 0
+Tells (Ok b) text verdict old new = Appends old new text × (verdict ≡ Ok b)
+Tells (Err (Syntax n)) text verdict old new = Appends old new text × (verdict ≡ Err (Syntax n))
+Tells (Err Limit) text verdict old new = Appends old new text × (verdict ≡ Err Limit)
+Tells (Err Read) text verdict old new = Keeps old new
+Tells (Err Write) text verdict old new = AppendsFront old new text
+Tells (Err Memory) text verdict old new = Keeps old new
+
+-- the input's verdict, after its trace
+abbrev pub Replays : Result Bool ReplayFault → List ℕ → Option (List ℕ) → Option (List ℕ) → Type 0
+Replays result input old new = Tells result (trace_of input) (verdict_of input) old new
+
+-- an input was taken of which this is the replay
+pub record ReplaysTaken (result : Result Bool ReplayFault) (before after old new : Option (List ℕ)) : Type 0 where
+  pub input : List ℕ
+  pub takes : Takes before after input
+  pub replays : Replays result input old new
+
+-- an input was taken of which this is the replay, unless a read failed or memory was refused, and then nothing was written
+abbrev pub SomeReplay : Result Bool ReplayFault → Option (List ℕ) → Option (List ℕ) → Option (List ℕ) → Option (List ℕ) → Type 0
+SomeReplay (Ok b) before after old new = ReplaysTaken (Ok b) before after old new
+SomeReplay (Err (Syntax n)) before after old new = ReplaysTaken (Err (Syntax n)) before after old new
+SomeReplay (Err Limit) before after old new = ReplaysTaken (Err Limit) before after old new
+SomeReplay (Err Write) before after old new = ReplaysTaken (Err Write) before after old new
+SomeReplay (Err Read) before after old new = Keeps old new
+SomeReplay (Err Memory) before after old new = Keeps old new

@@ -1,0 +1,95 @@
+-- How schedules are written: a text for each line, and for a whole plan.
+use Rattle.std.specs.Prelude.{ℕ, ◌≡◌, ◌≤◌, ◌<◌, ◌^◌, false, ⊤, ◌⊎◌, List, [], ◌∷◌, ◌++◌, All, codes, decimal}
+use Rattle.std.specs.List.{flat_map}
+use Rattle.lfm_protocol.specs.declared.answers.Call.{Call}
+use Rattle.lfm_protocol.specs.declared.answers.Call.TheVariants.{Lock, TryLock, Unlock, StartWait, SendLock, Receive}
+use Rattle.lfm_core.specs.declared.text.schedule.Act.{Act}
+use Rattle.lfm_core.specs.declared.text.schedule.Act.TheVariants.{Begin, Steps, ToEnd}
+use Rattle.lfm_core.specs.declared.text.schedule.Line.{Line}
+use Rattle.lfm_core.specs.text.Text.{lines_of, is_past_limit}
+use Rattle.lfm_core.specs.text.Grammar.{Plan}
+use Rattle.lfm_protocol.specs.Limits.{max_seats, max_budget}
+
+abbrev pub call_spelling : Call → List ℕ
+call_spelling Lock = codes "lock"
+call_spelling TryLock = codes "try_lock"
+call_spelling Unlock = codes "unlock"
+call_spelling StartWait = codes "start_wait"
+call_spelling (SendLock target) = codes "send_lock " ++ decimal target
+call_spelling Receive = codes "receive"
+
+abbrev pub act_spelling : Act → List ℕ
+act_spelling (Begin call) = call_spelling call
+act_spelling (Steps k) = codes "+" ++ decimal k
+act_spelling ToEnd = codes "*"
+
+-- a line after the first
+abbrev pub line_spelling : Line → List ℕ
+line_spelling l = decimal l.seat ++ (codes " " ++ act_spelling l.act)
+
+-- the other form of a line with one step
+abbrev pub one_step_spelling : ℕ → List ℕ
+one_step_spelling seat = decimal seat ++ codes " ."
+
+-- the text is a line, in one of its forms
+abbrev pub Spells : List ℕ → Line → Type 0
+Spells text l = (text ≡ line_spelling l) ⊎ ((l.act ≡ Steps 1) × (text ≡ one_step_spelling l.seat))
+
+-- a first line, with a budget and without one
+abbrev pub header_spelling : ℕ → ℕ → List ℕ
+header_spelling seats budget = codes "seats " ++ (decimal seats ++ (codes " " ++ decimal budget))
+
+abbrev pub short_header_spelling : ℕ → List ℕ
+short_header_spelling seats = codes "seats " ++ decimal seats
+
+-- the text is a first line with this number of seats and this budget, in one of its forms
+abbrev pub SpellsHeader : List ℕ → ℕ → ℕ → Type 0
+SpellsHeader text seats budget = (text ≡ header_spelling seats budget) ⊎ ((budget ≡ max_budget) × (text ≡ short_header_spelling seats))
+
+-- a call whose target, if it has one, has at most 18 digits
+abbrev pub HasShortTarget : Call → Type 0
+HasShortTarget Lock = ⊤
+HasShortTarget TryLock = ⊤
+HasShortTarget Unlock = ⊤
+HasShortTarget StartWait = ⊤
+HasShortTarget (SendLock target) = target < 10 ^ 18
+HasShortTarget Receive = ⊤
+
+abbrev pub IsWritableAct : Act → Type 0
+IsWritableAct (Begin call) = HasShortTarget call
+IsWritableAct (Steps k) = (1 ≤ k) × (k ≤ 999)
+IsWritableAct ToEnd = ⊤
+
+-- a line whose numbers a schedule may name
+pub record IsWritable (l : Line) : Type 0 where
+  pub seat : l.seat < 10 ^ 18
+  pub act : IsWritableAct l.act
+
+-- a whole plan: each line is ended by a line feed
+abbrev pub plan_spelling : Plan → List ℕ
+plan_spelling p = header_spelling p.seats p.budget ++ (codes "\n" ++ flat_map (λ l. line_spelling l ++ codes "\n") p.lines)
+
+-- a plan whose numbers are in range and whose text is not too long
+pub record IsWritablePlan (p : Plan) : Type 0 where
+  pub seats : (1 ≤ p.seats) × (p.seats ≤ max_seats)
+  pub budget : (1 ≤ p.budget) × (p.budget ≤ max_budget)
+  pub lines : All IsWritable p.lines
+  pub short : is_past_limit (plan_spelling p) ≡ false
+
+-- each text is a line in one of its forms, and the lines are these
+abbrev pub EachSpells : List (List ℕ) → List Line → Type 0
+EachSpells [] [] = ⊤
+EachSpells [] (l ∷ ls) = ⊥
+EachSpells (t ∷ ts) [] = ⊥
+EachSpells (t ∷ ts) (l ∷ ls) = Spells t l × IsWritable l × EachSpells ts ls
+
+-- a text that is not too long, whose lines are those of a plan within the limits
+pub record SpellsPlan (text : List ℕ) (p : Plan) : Type 0 where
+  pub first : List ℕ
+  pub others : List (List ℕ)
+  pub lines : lines_of text ≡ first ∷ others
+  pub header : SpellsHeader first p.seats p.budget
+  pub each : EachSpells others p.lines
+  pub seats : (1 ≤ p.seats) × (p.seats ≤ max_seats)
+  pub budget : (1 ≤ p.budget) × (p.budget ≤ max_budget)
+  pub short : is_past_limit text ≡ false

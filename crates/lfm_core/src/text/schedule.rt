@@ -1,0 +1,215 @@
+//! What a schedule is, and how it is read from its bytes.
+
+ghost use Rattle.std.specs.Prelude.{◌≡◌, ◌≤◌, ◌<◌, length, All, IfOk, IsErrOf};
+ghost use Rattle.lfm_core.specs.text.Text.{lines_of, words_of, line_count, max_lines};
+ghost use Rattle.lfm_protocol.specs.Limits.{max_seats, max_budget};
+ghost use Rattle.lfm_core.specs.text.Grammar.{plain_act_of, act_of, send_of, line_of, header_of, lines_from, plan_of, plan_in, Gives, HasFewSteps};
+
+use crate::text::parsing::{
+    LineWords, MAX_BYTES, MAX_LINES, count_lines, first_line, read_number, split_words,
+};
+use lfm_protocol::{Call, Limits, MAX_BUDGET};
+use std::alloc::Global;
+use thiserror::Error;
+
+/// What a line of a schedule has its seat do.
+#[derive(Clone, Copy, Debug, PartialEq, Eq)]
+pub enum Act {
+    /// The seat begins this call.
+    Begin(Call),
+    /// The seat makes up to this number of steps, from 1 to 999, and stops where its call ends.
+    Steps(u64),
+    /// The seat makes steps until its call ends.
+    ToEnd,
+}
+
+/// A line of a schedule after the first.
+#[derive(Clone, Copy, Debug, PartialEq, Eq)]
+pub struct Line {
+    /// The number of the seat as it was written, below 10^18: there may be no such seat.
+    pub seat: u64,
+    /// What the seat does.
+    pub act: Act,
+}
+
+/// A schedule: how many seats there are, and what they do in turn.
+#[derive(Debug, Drop)]
+pub struct Schedule {
+    /// The number of seats: 1 to 4,095 in a schedule that was read.
+    pub seats: u64,
+    /// The budget of each seat: 1 to 2^36 in a schedule that was read.
+    pub budget: u64,
+    /// The lines after the first, in order: fewer than 65,536 in a schedule that was read.
+    pub lines: Vec<Line>,
+}
+
+/// Why no schedule was read or replayed to its end.
+#[derive(Clone, Copy, Debug, PartialEq, Eq, Drop, Error)]
+pub enum ReplayFault {
+    /// The line of this number, counted from 1, is none that a schedule may have there.
+    #[error("line {0} is not a line of a schedule")]
+    Syntax(u64),
+    /// The input has too many bytes or lines, or the first line names a number that is out of range.
+    #[error("the schedule is past a limit")]
+    Limit,
+    /// The reader failed.
+    #[error("read fault")]
+    Read,
+    /// The writer failed, or took no byte.
+    #[error("write fault")]
+    Write,
+    /// A request for memory was refused.
+    #[error("out of memory")]
+    Memory,
+}
+
+/// What one word says that is no number of steps.
+fn read_plain_act(word: &[u8]) -> Option<Act>
+    ensures { result ≡ plain_act_of word.now }
+{
+    if word == b".".as_slice() {
+        Some(Act::Steps(1))
+    } else if word == b"*".as_slice() {
+        Some(Act::ToEnd)
+    } else if word == b"lock".as_slice() {
+        Some(Act::Begin(Call::Lock))
+    } else if word == b"try_lock".as_slice() {
+        Some(Act::Begin(Call::TryLock))
+    } else if word == b"unlock".as_slice() {
+        Some(Act::Begin(Call::Unlock))
+    } else if word == b"start_wait".as_slice() {
+        Some(Act::Begin(Call::StartWait))
+    } else if word == b"receive".as_slice() {
+        Some(Act::Begin(Call::Receive))
+    } else {
+        None
+    }
+}
+
+/// What one word after the seat says.
+fn read_act(word: &[u8]) -> Option<Act>
+    ensures { result ≡ act_of word.now }
+{
+    match word {
+        [b'+', digits @ ..] => match read_number(digits) {
+            Some(count) if 1 <= count && count <= 999 => Some(Act::Steps(count)),
+            _ => None,
+        },
+        _ => read_plain_act(word),
+    }
+}
+
+/// What three words say: a seat's `send_lock` and its target.
+fn read_send(seat: &[u8], call: &[u8], target: &[u8]) -> Option<Line>
+    ensures { result ≡ send_of seat.now call.now target.now }
+{
+    if call != b"send_lock".as_slice() {
+        return None;
+    }
+    let seat = read_number(seat)?;
+    let target = read_number(target)?;
+    Some(Line {
+        seat,
+        act: Act::Begin(Call::SendLock(target)),
+    })
+}
+
+/// What a line after the first says. `None` where it is no line of a schedule.
+fn read_line(text: &[u8]) -> Option<Line>
+    ensures { result ≡ line_of (words_of text.now) }
+{
+    match split_words(text) {
+        LineWords::Two(seat, act) => {
+            let seat = read_number(seat)?;
+            let act = read_act(act)?;
+            Some(Line { seat, act })
+        }
+        LineWords::Three(seat, call, target) => read_send(seat, call, target),
+        LineWords::Other => None,
+    }
+}
+
+/// The number of seats and the budget that the first line names. `None` where it is no such line.
+fn read_header(text: &[u8]) -> Option<(u64, u64)>
+    ensures { result ≡ header_of (words_of text.now) }
+{
+    let (word, seats, budget) = match split_words(text) {
+        LineWords::Two(word, seats) => (word, seats, None),
+        LineWords::Three(word, seats, budget) => (word, seats, Some(budget)),
+        LineWords::Other => return None,
+    };
+    if word != b"seats".as_slice() {
+        return None;
+    }
+    let seats = read_number(seats)?;
+    match budget {
+        Some(budget) => Some((seats, read_number(budget)?)),
+        None => Some((seats, MAX_BUDGET)),
+    }
+}
+
+/// What the lines of a text say, the first of which has number 2, or the fault of the first that
+/// says nothing. Asks for memory once, for `count` lines, before it reads them.
+fn read_lines(alloc: Global, text: &[u8], count: usize) -> Result<Vec<Line>, ReplayFault>
+    requires counted { length (lines_of text.now) ≡ count }
+    requires few { count < max_lines }
+    ensures said { Gives (λ v. v.items) result (lines_from 2 (lines_of text.now)) }
+    ensures all { IfOk result (λ v. length v.items ≡ count) }
+    ensures memory { IsErrOf result ReplayFault.Memory → 0 < count }
+{
+    let mut lines = Vec::with_capacity(alloc, count).map_err(|_| ReplayFault::Memory)?;
+    let mut rest = text;
+    let mut number = 2;
+    'reading: while let Some((line, after)) = first_line(rest) {
+        match read_line(line) {
+            Some(line) => lines.push_reserved(line),
+            None => return Err(ReplayFault::Syntax(number)),
+        }
+        rest = after;
+        number += 1;
+    }
+    Ok(lines)
+}
+
+/// Reads a schedule from its bytes.
+///
+/// Limit where there are more than 1,048,576 bytes or more than 65,536 lines. Then Syntax with the
+/// number, from 1, of the first line that is no line of a schedule; a text without lines is Syntax 1.
+/// Then Limit where the number of seats is outside 1 to 4,095 or the budget outside 1 to 2^36.
+///
+/// Asks for memory once, for the lines after the first, before it reads those, and not at all where
+/// there are none: Memory where that is refused. Never Read or Write.
+pub fn read_schedule(alloc: Global, text: &[u8]) -> Result<Schedule, ReplayFault>
+    ensures exact { Gives plan_of result (plan_in text.now) }
+    // Memory comes only where there are lines to be kept.
+    ensures memory { IsErrOf result ReplayFault.Memory → 1 < line_count text.now }
+
+    ensures few { IfOk result (λ s. length s.lines.items < max_lines) }
+    ensures seats { IfOk result (λ s. (1 ≤ s.seats) × (s.seats ≤ max_seats)) }
+    ensures budget { IfOk result (λ s. (1 ≤ s.budget) × (s.budget ≤ max_budget)) }
+    ensures steps { IfOk result (λ s. All (λ l. HasFewSteps l.act) s.lines.items) }
+{
+    if text.len() > MAX_BYTES {
+        return Err(ReplayFault::Limit);
+    }
+    let count = count_lines(text);
+    if count > MAX_LINES {
+        return Err(ReplayFault::Limit);
+    }
+    let Some((first, rest)) = first_line(text) else {
+        return Err(ReplayFault::Syntax(1));
+    };
+    let Some((seats, budget)) = read_header(first) else {
+        return Err(ReplayFault::Syntax(1));
+    };
+    let lines = read_lines(alloc, rest, count - 1)?;
+    if (Limits { seats, budget }).are_allowed() {
+        Ok(Schedule {
+            seats,
+            budget,
+            lines,
+        })
+    } else {
+        Err(ReplayFault::Limit)
+    }
+}

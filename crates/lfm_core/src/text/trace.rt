@@ -1,0 +1,359 @@
+//! The text of a run, written line by line.
+#![tactic(auto, using(crate::proofs::texts::Writes::writings))]
+
+ghost use Rattle.std.specs.Prelude.{◌≡◌, ◌+◌, ◌<◌, ◌≤◌, [], ◌∷◌, ◌++◌, codes, decimal, drop, length, reverse, vec_capacity};
+ghost use Rattle.lfm_core.specs.text.Trace.{how_text, held_text, again_text, asked_text, locked_text, unlocked_text, answer_text, why_text, open_text, turn_text, handoff_text, place_text, record_text, queue_text, words_text, state_text, opening_text, outcome_text, line_text, fault_text};
+ghost use Rattle.lfm_core.specs.text.Writing.{Writes, joined};
+
+use crate::stepped::State;
+use crate::text::output::{write_number, write_text};
+use crate::text::schedule::{Act, Line, ReplayFault};
+use itoa::write_digits;
+use lfm_model::{Asked, How, Locked, Place, Unlocked};
+use lfm_protocol::{Answer, Turn, Why};
+use lfm_words::{Handoff, Record};
+use std::io::Write;
+
+/// Ends a line.
+fn write_line_feed<W: Write>(writer: &mut W) -> Result<(), ReplayFault>
+    ensures { Writes (W.contents writer.old) (W.contents writer.new) (codes "\n") result }
+{
+    write_text(writer, b"\n")
+}
+
+/// Writes a word, and a number behind it.
+fn write_labelled<W: Write>(writer: &mut W, label: &[u8], number: u64) -> Result<(), ReplayFault>
+    ensures { Writes (W.contents writer.old) (W.contents writer.new)
+        (joined (label.now ∷ decimal number ∷ [])) result }
+{
+    write_text(writer, label)?;
+    write_number(writer, number)?;
+    Ok(())
+}
+
+fn write_how<W: Write>(writer: &mut W, how: How) -> Result<(), ReplayFault>
+    ensures { Writes (W.contents writer.old) (W.contents writer.new) (how_text how) result }
+{
+    match how {
+        How::Free => write_text(writer, b"Free"),
+        How::Queued(stamp) => write_labelled(writer, b"Queued ", stamp),
+    }
+}
+
+fn write_held<W: Write>(writer: &mut W, how: How) -> Result<(), ReplayFault>
+    ensures { Writes (W.contents writer.old) (W.contents writer.new) (held_text how) result }
+{
+    write_text(writer, b"Held ")?;
+    write_how(writer, how)?;
+    Ok(())
+}
+
+fn write_again<W: Write>(writer: &mut W, depth: u32) -> Result<(), ReplayFault>
+    ensures { Writes (W.contents writer.old) (W.contents writer.new) (again_text depth) result }
+{
+    write_labelled(writer, b"Again ", u64::from(depth))
+}
+
+fn write_asked<W: Write>(writer: &mut W, answer: Asked) -> Result<(), ReplayFault>
+    ensures { Writes (W.contents writer.old) (W.contents writer.new) (asked_text answer) result }
+{
+    match answer {
+        Asked::Held(how) => write_held(writer, how),
+        Asked::Again(depth) => write_again(writer, depth),
+        Asked::Asleep => write_text(writer, b"Asleep"),
+    }
+}
+
+fn write_locked<W: Write>(writer: &mut W, answer: Locked) -> Result<(), ReplayFault>
+    ensures { Writes (W.contents writer.old) (W.contents writer.new) (locked_text answer) result }
+{
+    match answer {
+        Locked::Held(how) => write_held(writer, how),
+        Locked::Again(depth) => write_again(writer, depth),
+    }
+}
+
+fn write_unlocked<W: Write>(writer: &mut W, answer: Unlocked) -> Result<(), ReplayFault>
+    ensures { Writes (W.contents writer.old) (W.contents writer.new) (unlocked_text answer) result }
+{
+    match answer {
+        Unlocked::Still(depth) => write_labelled(writer, b"Still ", u64::from(depth)),
+        Unlocked::Free => write_text(writer, b"Free"),
+        Unlocked::Granted(seat) => write_labelled(writer, b"Granted ", seat.get()),
+        Unlocked::Posted => write_text(writer, b"Posted"),
+        Unlocked::TakenOver => write_text(writer, b"TakenOver"),
+    }
+}
+
+fn write_waiting<W: Write>(writer: &mut W, answer: Unlocked) -> Result<(), ReplayFault>
+    ensures { Writes (W.contents writer.old) (W.contents writer.new)
+        (answer_text (Answer.Waiting answer)) result }
+{
+    write_text(writer, b"Waiting ")?;
+    write_unlocked(writer, answer)?;
+    Ok(())
+}
+
+fn write_answer<W: Write>(writer: &mut W, answer: Answer) -> Result<(), ReplayFault>
+    ensures { Writes (W.contents writer.old) (W.contents writer.new) (answer_text answer) result }
+{
+    match answer {
+        Answer::Asked(answer) => write_asked(writer, answer),
+        Answer::Locked(answer) => write_locked(writer, answer),
+        Answer::Unlocked(answer) => write_unlocked(writer, answer),
+        Answer::Waiting(answer) => write_waiting(writer, answer),
+        Answer::Got(None) => write_text(writer, b"None"),
+        Answer::Got(Some(how)) => write_held(writer, how),
+        Answer::Sent => write_text(writer, b"Sent"),
+    }
+}
+
+fn write_why<W: Write>(writer: &mut W, why: Why) -> Result<(), ReplayFault>
+    ensures { Writes (W.contents writer.old) (W.contents writer.new) (why_text why) result }
+{
+    match why {
+        Why::NoSuchSeat => write_text(writer, b"NoSuchSeat"),
+        Why::InCall => write_text(writer, b"InCall"),
+        Why::Idle => write_text(writer, b"Idle"),
+        Why::By(refusal) => write_text(writer, refusal.name().as_bytes()),
+    }
+}
+
+fn write_open<W: Write>(writer: &mut W, act: Act) -> Result<(), ReplayFault>
+    ensures { Writes (W.contents writer.old) (W.contents writer.new) (open_text act) result }
+{
+    match act {
+        Act::Begin(_) => write_text(writer, b"begins"),
+        Act::Steps(_) | Act::ToEnd => write_text(writer, b"goes on"),
+    }
+}
+
+fn write_ended<W: Write>(writer: &mut W, answer: Answer) -> Result<(), ReplayFault>
+    ensures { Writes (W.contents writer.old) (W.contents writer.new)
+        (joined (codes "ends " ∷ answer_text answer ∷ [])) result }
+{
+    write_text(writer, b"ends ")?;
+    write_answer(writer, answer)?;
+    Ok(())
+}
+
+fn write_refused<W: Write>(writer: &mut W, why: Why) -> Result<(), ReplayFault>
+    ensures { Writes (W.contents writer.old) (W.contents writer.new)
+        (joined (codes "refused " ∷ why_text why ∷ [])) result }
+{
+    write_text(writer, b"refused ")?;
+    write_why(writer, why)?;
+    Ok(())
+}
+
+fn write_turn<W: Write>(writer: &mut W, act: Act, turn: Turn) -> Result<(), ReplayFault>
+    ensures { Writes (W.contents writer.old) (W.contents writer.new) (turn_text act turn) result }
+{
+    match turn {
+        Turn::Open => write_open(writer, act),
+        Turn::Ended(answer) => write_ended(writer, answer),
+        Turn::Refused(why) => write_refused(writer, why),
+    }
+}
+
+fn write_handoff<W: Write>(writer: &mut W, handoff: Handoff) -> Result<(), ReplayFault>
+    ensures { Writes (W.contents writer.old) (W.contents writer.new) (handoff_text handoff) result }
+{
+    if handoff.seat == 0 {
+        return write_text(writer, b"0");
+    }
+    write_number(writer, handoff.seat)?;
+    write_text(writer, b".")?;
+    write_number(writer, handoff.post)?;
+    Ok(())
+}
+
+fn write_place<W: Write>(writer: &mut W, place: Place) -> Result<(), ReplayFault>
+    ensures { Writes (W.contents writer.old) (W.contents writer.new) (place_text place) result }
+{
+    match place {
+        Place::Free => write_text(writer, b"free"),
+        Place::Owner(seat) => write_labelled(writer, b"owner.", seat.get()),
+        Place::Passed(seat) => write_labelled(writer, b"passed.", seat.get()),
+        Place::Posted => write_text(writer, b"posted"),
+        Place::Carried(seat) => write_labelled(writer, b"carried.", seat.get()),
+    }
+}
+
+/// How many bytes a record's text has at most, with a comma in front: two numbers of 20 digits and what separates them.
+const RECORD_SIZE: usize = 42;
+
+/// Puts a number's digits into a buffer, so that they end at `end`, and tells where they start.
+fn put_number(buffer: &mut [u8; RECORD_SIZE], number: u64, end: usize) -> usize
+    requires { (20 ≤ end) × (end ≤ RECORD_SIZE) }
+    ensures room { (end ≤ result + 20) × (result ≤ end) }
+    ensures text { drop result buffer.new ≡ decimal number ++ drop end buffer.old }
+{
+    write_digits(number, buffer, end)
+}
+
+/// Puts a byte in front of a text that ends a buffer, and tells where it stands.
+fn put_byte(buffer: &mut [u8; RECORD_SIZE], byte: u8, end: usize) -> usize
+    requires { (1 ≤ end) × (end ≤ RECORD_SIZE) }
+    ensures place { result + 1 ≡ end }
+    ensures text { drop result buffer.new ≡ byte ∷ drop end buffer.old }
+{
+    let start = end - 1;
+    buffer[start] = byte;
+    start
+}
+
+/// Puts a record's text at the end of a buffer, with room in front for a comma, and tells where it starts.
+fn put_record(buffer: &mut [u8; RECORD_SIZE], queued: Record) -> usize
+    ensures start { (1 ≤ result) × (result ≤ RECORD_SIZE) }
+    ensures text { drop result buffer.new ≡ record_text queued }
+{
+    let stamp = put_number(buffer, queued.stamp, RECORD_SIZE);
+    let separator = put_byte(buffer, b'#', stamp);
+    put_number(buffer, queued.seat.get(), separator)
+}
+
+/// Writes a record in one piece, since a queue may have many.
+fn write_record<W: Write>(writer: &mut W, queued: Record) -> Result<(), ReplayFault>
+    ensures { Writes (W.contents writer.old) (W.contents writer.new) (record_text queued) result }
+{
+    let mut buffer = [0; RECORD_SIZE];
+    let start = put_record(&mut buffer, queued);
+    write_text(writer, &buffer[start..])
+}
+
+/// Writes a record behind a comma.
+fn write_further<W: Write>(writer: &mut W, queued: Record) -> Result<(), ReplayFault>
+    ensures { Writes (W.contents writer.old) (W.contents writer.new)
+        (joined (codes "," ∷ record_text queued ∷ [])) result }
+{
+    let mut buffer = [0; RECORD_SIZE];
+    let record = put_record(&mut buffer, queued);
+    let start = put_byte(&mut buffer, b',', record);
+    write_text(writer, &buffer[start..])
+}
+
+/// Writes records, the last first, and takes them out.
+fn write_queue<W: Write>(writer: &mut W, records: &mut Vec<Record>) -> Result<(), ReplayFault>
+    ensures text { Writes (W.contents writer.old) (W.contents writer.new)
+        (queue_text (reverse records.old.items)) result }
+    ensures room { vec_capacity records.new ≡ vec_capacity records.old }
+{
+    let Some(oldest) = records.pop() else {
+        return write_text(writer, b"-");
+    };
+    write_record(writer, oldest)?;
+    'writing: while let Some(queued) = records.pop() {
+        write_further(writer, queued)?;
+    }
+    Ok(())
+}
+
+fn write_words<W: Write>(writer: &mut W, state: &State) -> Result<(), ReplayFault>
+    ensures { Writes (W.contents writer.old) (W.contents writer.new) (words_text state.now) result }
+{
+    write_number(writer, state.count())?;
+    write_text(writer, b" ")?;
+    write_number(writer, state.owner())?;
+    write_text(writer, b" ")?;
+    write_handoff(writer, state.handoff())?;
+    Ok(())
+}
+
+/// Writes a state; the room, which is for a record of each seat, serves to gather its queue.
+fn write_state<W: Write>(
+    writer: &mut W,
+    state: &State,
+    room: &mut Vec<Record>,
+) -> Result<(), ReplayFault>
+    requires { length state.now.seats ≤ vec_capacity room.old }
+    ensures text { Writes (W.contents writer.old) (W.contents writer.new)
+        (state_text state.now) result }
+    ensures room { vec_capacity room.new ≡ vec_capacity room.old }
+{
+    state.gather(room);
+    write_words(writer, state)?;
+    write_text(writer, b" ")?;
+    write_place(writer, state.place())?;
+    write_text(writer, b" ")?;
+    write_queue(writer, room)?;
+    Ok(())
+}
+
+/// Writes the first line: the number of seats and the state.
+pub fn write_opening<W: Write>(
+    writer: &mut W,
+    seats: u64,
+    state: &State,
+    room: &mut Vec<Record>,
+) -> Result<(), ReplayFault>
+    requires { length state.now.seats ≤ vec_capacity room.old }
+    ensures text { Writes (W.contents writer.old) (W.contents writer.new)
+        (opening_text seats state.now) result }
+    ensures room { vec_capacity room.new ≡ vec_capacity room.old }
+{
+    write_text(writer, b"1 seats ")?;
+    write_number(writer, seats)?;
+    write_text(writer, b" | ")?;
+    write_state(writer, state, room)?;
+    write_line_feed(writer)?;
+    Ok(())
+}
+
+fn write_outcome<W: Write>(
+    writer: &mut W,
+    number: u64,
+    line: &Line,
+    turn: Turn,
+) -> Result<(), ReplayFault>
+    ensures { Writes (W.contents writer.old) (W.contents writer.new)
+        (outcome_text number line.now turn) result }
+{
+    write_number(writer, number)?;
+    write_text(writer, b" ")?;
+    write_number(writer, line.seat)?;
+    write_text(writer, b" ")?;
+    write_turn(writer, line.act, turn)?;
+    Ok(())
+}
+
+/// Writes what came of the line with this number, and the state after it.
+pub fn write_line<W: Write>(
+    writer: &mut W,
+    number: u64,
+    line: &Line,
+    turn: Turn,
+    state: &State,
+    room: &mut Vec<Record>,
+) -> Result<(), ReplayFault>
+    requires { length state.now.seats ≤ vec_capacity room.old }
+    ensures text { Writes (W.contents writer.old) (W.contents writer.new)
+        (line_text number line.now turn state.now) result }
+    ensures room { vec_capacity room.new ≡ vec_capacity room.old }
+{
+    write_outcome(writer, number, line, turn)?;
+    write_text(writer, b" | ")?;
+    write_state(writer, state, room)?;
+    write_line_feed(writer)?;
+    Ok(())
+}
+
+/// Writes the line of a fault of the input.
+pub fn write_fault_line<W: Write>(writer: &mut W, fault: ReplayFault) -> Result<(), ReplayFault>
+    ensures { Writes (W.contents writer.old) (W.contents writer.new) (fault_text fault) result }
+{
+    match fault {
+        ReplayFault::Syntax(number) => write_syntax(writer, number),
+        _ => write_text(writer, b"fault Limit\n"),
+    }
+}
+
+fn write_syntax<W: Write>(writer: &mut W, number: u64) -> Result<(), ReplayFault>
+    ensures { Writes (W.contents writer.old) (W.contents writer.new)
+        (joined (codes "fault Syntax " ∷ decimal number ∷ codes "\n" ∷ [])) result }
+{
+    write_text(writer, b"fault Syntax ")?;
+    write_number(writer, number)?;
+    write_line_feed(writer)?;
+    Ok(())
+}

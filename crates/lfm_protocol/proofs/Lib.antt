@@ -1,0 +1,2 @@
+pub mod SeatLaws
+pub mod Walks

@@ -1,0 +1,9 @@
+use Rattle.lfm_protocol.specs.Seats.{no_link}
+use Rattle.std.proofs.Common.{arith}
+use Rattle.lfm_protocol.proofs.SeatLaws.{entry_read}
+use Rattle.lfm_protocol.proofs.machine.Machine.link.Goals as goal
+
+pub returns : goal.returns
+returns c =
+    let is = rw (← c.self.view_is) at c.requires in
+    rw (← c.self.view_is) (entry_read no_link c.self.inside.links.items c.args.t c.index.result.now is.above (omega (arith, is.within, c.self.invariant)) c.index.ensures)

@@ -1,0 +1,13 @@
+pub mod Limits
+pub mod Points
+pub mod Seats
+pub mod Begin
+pub mod Stores
+pub mod After
+pub mod Core
+pub mod Turns
+pub mod Room
+pub mod Step
+pub mod Whole
+pub mod Queue
+pub mod Place

@@ -1,0 +1,21 @@
+-- What a turn tells of its call, and how many steps a call may make.
+use Rattle.std.specs.Prelude.{ℕ, Bool, true, false, ◌+◌, length}
+use Rattle.lfm_protocol.specs.declared.answers.Turn.{Turn}
+use Rattle.lfm_protocol.specs.declared.answers.Turn.TheVariants.{Open, Ended, Refused}
+use Rattle.lfm_protocol.specs.Core.{Core}
+
+-- the call goes on
+abbrev pub is_open : Turn → Bool
+is_open Open = true
+is_open (Ended answer) = false
+is_open (Refused why) = false
+
+-- the call or the step was refused
+abbrev pub is_refused : Turn → Bool
+is_refused Open = false
+is_refused (Ended answer) = false
+is_refused (Refused why) = true
+
+-- more steps than any call makes that runs alone: the longest walks over the records of all seats
+abbrev pub longest_call : Core → ℕ
+longest_call c = length c.seats + 16

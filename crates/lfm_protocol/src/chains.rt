@@ -1,0 +1,63 @@
+//! The walk along the links of queued seats, newest first.
+ghost use Rattle.std.specs.Prelude.{◌≡◌, ◌≤◌, drop, length};
+ghost use Rattle.lfm_protocol.specs.Queue.{chain};
+ghost use Rattle.lfm_protocol.specs.Seats.{link};
+ghost use Rattle.lfm_words.specs.Popped.{oldest};
+
+use lfm_model::SeatNo;
+use lfm_words::{Link, Record};
+use std::marker::Model;
+
+/// What is left of a walk along the links: it ends at a number that no seat has, and after as many records as there are
+/// seats. A contract sees the records that are left, the next first.
+#[derive(Drop)]
+pub(crate) struct Chain<'a> {
+    links: &'a [Link],
+    at: u64,
+    left: usize,
+}
+
+impl<'a> Model for Chain<'a> {
+    ghost use Rattle.std.specs.Prelude.{List, ◌≤◌, length};
+    ghost use Rattle.lfm_protocol.specs.Queue.{chain_of};
+    ghost use Rattle.lfm_words.specs.declared.pop_lists.Record.{Record};
+
+    ghost Value = { List Record };
+
+    ghost view = { λ c. chain_of c.left c.links.now c.at };
+
+    ghost invariant = { λ c. length c.links.now ≤ 4095 };
+}
+
+impl<'a> Chain<'a> {
+    /// The walk from this seat on; 0 is none.
+    pub(crate) fn new(links: &'a [Link], from: u64) -> Chain<'a>
+        requires { length links.now ≤ 4095 }
+        ensures { result ≡ chain links.now from }
+    {
+        Chain {
+            links,
+            at: from,
+            left: links.len(),
+        }
+    }
+
+    /// The next record, one older than the one before.
+    pub(crate) fn next(&mut self) -> Option<Record>
+        ensures record { result ≡ oldest self.old }
+        ensures left { self.new ≡ drop 1 self.old }
+    {
+        if self.left == 0 || self.at == 0 || self.at > self.links.len() as u64 {
+            self.left = 0;
+            return None;
+        }
+        let link = self.links[(self.at - 1) as usize];
+        let record = Record {
+            seat: SeatNo::known(self.at),
+            stamp: link.stamp,
+        };
+        self.at = link.next;
+        self.left -= 1;
+        Some(record)
+    }
+}

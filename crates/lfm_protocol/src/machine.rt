@@ -1,0 +1,445 @@
+//! The words, the pop list and the seats, and what a turn does to them: it begins a call or makes one atomic step, which
+//! is the operation of the step's kind on its word and then the seat's own method. Nothing here says that the parts belong
+//! together: that is the steady state's part.
+ghost use Rattle.std.specs.Prelude.{◌≡◌, ◌+◌, ◌^◌, ◌<◌, ◌≤◌, true, false, length, IfOk, IfErr};
+ghost use Rattle.lfm_protocol.specs.Core.{put, put_link, put_wake, drops_if};
+ghost use Rattle.lfm_protocol.specs.Room.{HasNumbers, HasRoom};
+ghost use Rattle.lfm_protocol.specs.Seats.{seat, link, wake, IsSeat, is_seat};
+ghost use Rattle.lfm_protocol.specs.Step.{
+  count_exchange,
+  count_add,
+  count_subtract,
+  owner_load,
+  owner_store,
+  push_load,
+  push_exchange,
+  clear_head,
+  link_load_of,
+  link_store_to,
+  handoff_load,
+  handoff_store,
+  handoff_exchange,
+  wake_load_of,
+  wake_store_to,
+  wake_exchange_of,
+  made,
+  begin,
+  start,
+};
+
+mod readers;
+
+use crate::answers::{Call, Turn, Why};
+use crate::kinds::Kind;
+use crate::limits::Limits;
+use crate::points::Point;
+use crate::seats::SeatState;
+use lfm_model::SeatNo;
+use lfm_words::{Handoff, Link, PopList, Wake};
+use std::alloc::{AllocError, Global};
+use std::marker::Model;
+
+/// A mutex of some seats, word for word.
+#[derive(Drop)]
+pub struct Machine {
+    budget: u64,
+    count: u64,
+    owner: u64,
+    handoff: Handoff,
+    push: Link,
+    popped: PopList,
+    links: Vec<Link>,
+    wakes: Vec<Wake>,
+    seats: Vec<SeatState>,
+}
+
+impl Model for Machine {
+    ghost use Rattle.lfm_protocol.specs.Core.{Core};
+    ghost use Rattle.lfm_protocol.specs.Whole.{IsWhole};
+
+    ghost Value = { Core };
+
+    ghost invariant = { λ m. IsWhole m.popped m.owner m.links.items m.wakes.items m.seats.items };
+
+    ghost view = { λ m. record {
+      budget = m.budget;
+      count = m.count;
+      owner = m.owner;
+      handoff = m.handoff;
+      push = m.push;
+      popped = m.popped.records;
+      links = m.links.items;
+      wakes = m.wakes.items;
+      seats = m.seats.items;
+    } };
+}
+
+/// Entries by the seat's number.
+impl Machine {
+    /// The seat with this number.
+    fn seat(&self, s: u64) -> SeatState
+        requires { IsSeat self.now.seats s }
+        ensures { result ≡ seat self.now.seats s }
+    {
+        self.seats[(s - 1) as usize]
+    }
+
+    /// The link of this seat.
+    fn link(&self, t: u64) -> Link
+        requires { IsSeat self.now.seats t }
+        ensures { result ≡ link self.now.links t }
+    {
+        self.links[(t - 1) as usize]
+    }
+
+    /// The wake word of this seat.
+    fn wake(&self, t: u64) -> Wake
+        requires { IsSeat self.now.seats t }
+        ensures { result ≡ wake self.now.wakes t }
+    {
+        self.wakes[(t - 1) as usize]
+    }
+
+    fn put(&mut self, s: u64, x: SeatState)
+        requires { IsSeat self.old.seats s }
+        ensures { self.new ≡ put self.old s x }
+    {
+        self.seats[(s - 1) as usize] = x;
+    }
+
+    fn put_link(&mut self, t: u64, x: Link)
+        requires { IsSeat self.old.seats t }
+        ensures { self.new ≡ put_link self.old t x }
+    {
+        self.links[(t - 1) as usize] = x;
+    }
+
+    fn put_wake(&mut self, t: u64, x: Wake)
+        requires { IsSeat self.old.seats t }
+        ensures { self.new ≡ put_wake self.old t x }
+    {
+        self.wakes[(t - 1) as usize] = x;
+    }
+
+    /// A seat has this number.
+    pub fn is_seat(&self, s: u64) -> bool
+        ensures { result ≡ is_seat self.now.seats s }
+    {
+        0 < s && s <= self.seats.len() as u64
+    }
+}
+
+/// The pop list.
+impl Machine {
+    /// Takes the oldest record out of the pop list, if it leaves.
+    fn drops_if(&mut self, leaves: bool)
+        ensures { self.new ≡ drops_if self.old leaves }
+    {
+        if leaves {
+            let _ = self.popped.take_oldest();
+        }
+    }
+}
+
+/// One atomic step of each kind: the operation on the word, then the seat's own step.
+impl Machine {
+    fn count_exchange(&mut self, s: u64) -> Turn
+        requires seat { IsSeat self.old.seats s }
+        ensures core { self.new ≡ (count_exchange self.old s).core }
+        ensures turn { result ≡ (count_exchange self.old s).turn }
+    {
+        let mut seat = self.seat(s);
+        let found = self.count;
+        if found == 0 {
+            self.count = 1;
+        }
+        let turn = seat.after_count_exchange(found);
+        self.put(s, seat);
+        turn
+    }
+
+    fn count_add(&mut self, s: u64) -> Turn
+        requires seat { IsSeat self.old.seats s }
+        requires counts { self.old.count + 1 < 2 ^ 64 }
+        ensures core { self.new ≡ (count_add self.old s).core }
+        ensures turn { result ≡ (count_add self.old s).turn }
+    {
+        let mut seat = self.seat(s);
+        let found = self.count;
+        self.count = found + 1;
+        let turn = seat.after_count_add(found);
+        self.put(s, seat);
+        turn
+    }
+
+    fn count_subtract(&mut self, s: u64) -> Turn
+        requires seat { IsSeat self.old.seats s }
+        requires numbers { HasNumbers (seat self.old.seats s) (seat self.old.seats s).point }
+        requires counts { 0 < self.old.count }
+        ensures core { self.new ≡ (count_subtract self.old s).core }
+        ensures turn { result ≡ (count_subtract self.old s).turn }
+    {
+        let mut seat = self.seat(s);
+        let found = self.count;
+        self.count = found - 1;
+        let turn = seat.after_count_subtract(s, found, self.popped.oldest());
+        self.put(s, seat);
+        turn
+    }
+
+    fn owner_load(&mut self, s: u64) -> Turn
+        requires seat { IsSeat self.old.seats s }
+        requires numbers { HasNumbers (seat self.old.seats s) (seat self.old.seats s).point }
+        ensures core { self.new ≡ (owner_load self.old s).core }
+        ensures turn { result ≡ (owner_load self.old s).turn }
+    {
+        let mut seat = self.seat(s);
+        let turn = seat.after_owner_load(s, self.owner);
+        self.put(s, seat);
+        turn
+    }
+
+    fn owner_store(&mut self, s: u64) -> Turn
+        requires seat { IsSeat self.old.seats s }
+        ensures core { self.new ≡ (owner_store self.old s).core }
+        ensures turn { result ≡ (owner_store self.old s).turn }
+    {
+        let mut seat = self.seat(s);
+        self.owner = seat.stored_owner(s);
+        self.drops_if(seat.drops_oldest());
+        let turn = seat.after_owner_store();
+        self.put(s, seat);
+        turn
+    }
+
+    fn push_load(&mut self, s: u64) -> Turn
+        requires seat { IsSeat self.old.seats s }
+        ensures core { self.new ≡ (push_load self.old s).core }
+        ensures turn { result ≡ (push_load self.old s).turn }
+    {
+        let mut seat = self.seat(s);
+        let turn = seat.after_push_load(self.push);
+        self.put(s, seat);
+        turn
+    }
+
+    fn push_exchange(&mut self, s: u64) -> Turn
+        requires seat { IsSeat self.old.seats s }
+        requires numbers { HasNumbers (seat self.old.seats s) (seat self.old.seats s).point }
+        ensures core { self.new ≡ (push_exchange self.old s).core }
+        ensures turn { result ≡ (push_exchange self.old s).turn }
+    {
+        let mut seat = self.seat(s);
+        let found = self.push;
+        if found == seat.expected_push() {
+            self.push = seat.exchanged_push(s);
+        }
+        let turn = seat.after_push_exchange(found);
+        self.put(s, seat);
+        turn
+    }
+
+    fn clear_head(&mut self, s: u64) -> Turn
+        requires seat { IsSeat self.old.seats s }
+        ensures core { self.new ≡ (clear_head self.old s).core }
+        ensures turn { result ≡ (clear_head self.old s).turn }
+    {
+        let mut seat = self.seat(s);
+        let found = self.push;
+        self.push.next = 0;
+        let turn = seat.after_clear_head(found);
+        self.put(s, seat);
+        turn
+    }
+
+    fn link_load_of(&mut self, s: u64, t: u64) -> Turn
+        requires seat { IsSeat self.old.seats s }
+        requires touches { IsSeat self.old.seats t }
+        requires numbers { HasNumbers (seat self.old.seats s) (seat self.old.seats s).point }
+        requires pops { length self.old.popped < length self.old.seats }
+        ensures core { self.new ≡ (link_load_of self.old s t).core }
+        ensures turn { result ≡ (link_load_of self.old s t).turn }
+    {
+        let mut seat = self.seat(s);
+        let found = self.link(t);
+        self.popped.add_older(SeatNo::known(t), found.stamp);
+        let turn = seat.after_link_load(s, found);
+        self.put(s, seat);
+        turn
+    }
+
+    fn link_store_to(&mut self, s: u64, t: u64) -> Turn
+        requires seat { IsSeat self.old.seats s }
+        requires numbers { HasNumbers (seat self.old.seats s) (seat self.old.seats s).point }
+        requires touches { IsSeat self.old.seats t }
+        ensures core { self.new ≡ (link_store_to self.old s t).core }
+        ensures turn { result ≡ (link_store_to self.old s t).turn }
+    {
+        let mut seat = self.seat(s);
+        self.put_link(t, seat.stored_link());
+        let turn = seat.after_link_store();
+        self.put(s, seat);
+        turn
+    }
+
+    fn handoff_load(&mut self, s: u64) -> Turn
+        requires seat { IsSeat self.old.seats s }
+        requires numbers { HasNumbers (seat self.old.seats s) (seat self.old.seats s).point }
+        ensures core { self.new ≡ (handoff_load self.old s).core }
+        ensures turn { result ≡ (handoff_load self.old s).turn }
+    {
+        let mut seat = self.seat(s);
+        let turn = seat.after_handoff_load(self.handoff);
+        self.put(s, seat);
+        turn
+    }
+
+    fn handoff_store(&mut self, s: u64) -> Turn
+        requires seat { IsSeat self.old.seats s }
+        requires numbers { HasNumbers (seat self.old.seats s) (seat self.old.seats s).point }
+        ensures core { self.new ≡ (handoff_store self.old s).core }
+        ensures turn { result ≡ (handoff_store self.old s).turn }
+    {
+        let mut seat = self.seat(s);
+        self.handoff = seat.stored_handoff(s);
+        let turn = seat.after_handoff_store();
+        self.put(s, seat);
+        turn
+    }
+
+    fn handoff_exchange(&mut self, s: u64) -> Turn
+        requires seat { IsSeat self.old.seats s }
+        requires numbers { HasNumbers (seat self.old.seats s) (seat self.old.seats s).point }
+        ensures core { self.new ≡ (handoff_exchange self.old s).core }
+        ensures turn { result ≡ (handoff_exchange self.old s).turn }
+    {
+        let mut seat = self.seat(s);
+        let found = self.handoff;
+        if found == seat.expected_handoff(s) {
+            self.handoff = Handoff { seat: 0, post: 0 };
+        }
+        let turn = seat.after_handoff_exchange(s, found, self.popped.oldest());
+        self.put(s, seat);
+        turn
+    }
+
+    fn wake_load_of(&mut self, s: u64, t: u64) -> Turn
+        requires seat { IsSeat self.old.seats s }
+        requires touches { IsSeat self.old.seats t }
+        ensures core { self.new ≡ (wake_load_of self.old s t).core }
+        ensures turn { result ≡ (wake_load_of self.old s t).turn }
+    {
+        let mut seat = self.seat(s);
+        let turn = seat.after_wake_load(self.wake(t));
+        self.put(s, seat);
+        turn
+    }
+
+    fn wake_store_to(&mut self, s: u64, t: u64) -> Turn
+        requires seat { IsSeat self.old.seats s }
+        requires touches { IsSeat self.old.seats t }
+        ensures core { self.new ≡ (wake_store_to self.old s t).core }
+        ensures turn { result ≡ (wake_store_to self.old s t).turn }
+    {
+        let mut seat = self.seat(s);
+        self.put_wake(t, seat.stored_wake());
+        self.drops_if(seat.drops_oldest());
+        let turn = seat.after_wake_store();
+        self.put(s, seat);
+        turn
+    }
+
+    fn wake_exchange_of(&mut self, s: u64, t: u64) -> Turn
+        requires seat { IsSeat self.old.seats s }
+        requires touches { IsSeat self.old.seats t }
+        ensures core { self.new ≡ (wake_exchange_of self.old s t).core }
+        ensures turn { result ≡ (wake_exchange_of self.old s t).turn }
+    {
+        let mut seat = self.seat(s);
+        let found = self.wake(t);
+        if let Wake::Waiting = found {
+            self.put_wake(t, Wake::Claimed);
+        }
+        let turn = seat.after_wake_exchange(found);
+        self.put(s, seat);
+        turn
+    }
+}
+
+/// The turns.
+impl Machine {
+    /// A mutex at its start: nobody holds and nothing is queued. It makes four requests for memory, each of the size that
+    /// is needed.
+    pub fn new(alloc: Global, limits: Limits) -> Result<Machine, AllocError>
+        requires { limits.seats ≤ 4095 }
+        ensures { IfOk result (λ m. m ≡ start limits) }
+    {
+        let seats = limits.seats as usize;
+        let resting = SeatState {
+            depth: 0,
+            takes: 0,
+            posts: 0,
+            point: Point::Rest,
+        };
+        Ok(Machine {
+            budget: limits.budget,
+            count: 0,
+            owner: 0,
+            handoff: Handoff { seat: 0, post: 0 },
+            push: Link { stamp: 0, next: 0 },
+            popped: PopList::new(alloc, limits.seats)?,
+            links: vec![in alloc; Link { stamp: 0, next: 0 }; seats]?,
+            wakes: vec![in alloc; Wake::Quiet; seats]?,
+            seats: vec![in alloc; resting; seats]?,
+        })
+    }
+
+    /// Seat s begins a call.
+    pub fn begin(&mut self, s: u64, call: Call) -> Turn
+        ensures core { self.new ≡ (begin self.old s call).core }
+        ensures turn { result ≡ (begin self.old s call).turn }
+    {
+        if !self.is_seat(s) {
+            return Turn::Refused(Why::NoSuchSeat);
+        }
+        let limits = Limits {
+            seats: self.seats.len() as u64,
+            budget: self.budget,
+        };
+        let mut seat = self.seat(s);
+        let turn = seat.begin(limits, call);
+        self.put(s, seat);
+        turn
+    }
+
+    /// Seat s makes the step at its point, for which there is room. It is refused as Idle where no call of the seat is
+    /// open.
+    pub fn make(&mut self, s: u64) -> Turn
+        requires seat { IsSeat self.old.seats s }
+        requires room { HasRoom self.old s }
+        ensures core { self.new ≡ (made self.old s).core }
+        ensures turn { result ≡ (made self.old s).turn }
+    {
+        let seat = self.seat(s);
+        let t = seat.point.target(s);
+        match seat.point.kind() {
+            None => Turn::Refused(Why::Idle),
+            Some(Kind::CountExchange) => self.count_exchange(s),
+            Some(Kind::CountAdd) => self.count_add(s),
+            Some(Kind::CountSubtract) => self.count_subtract(s),
+            Some(Kind::OwnerLoad) => self.owner_load(s),
+            Some(Kind::OwnerStore) => self.owner_store(s),
+            Some(Kind::PushLoad) => self.push_load(s),
+            Some(Kind::PushExchange) => self.push_exchange(s),
+            Some(Kind::ClearHead) => self.clear_head(s),
+            Some(Kind::LinkLoad) => self.link_load_of(s, t),
+            Some(Kind::LinkStore) => self.link_store_to(s, t),
+            Some(Kind::HandoffLoad) => self.handoff_load(s),
+            Some(Kind::HandoffStore) => self.handoff_store(s),
+            Some(Kind::HandoffExchange) => self.handoff_exchange(s),
+            Some(Kind::WakeLoad) => self.wake_load_of(s, t),
+            Some(Kind::WakeStore) => self.wake_store_to(s, t),
+            Some(Kind::WakeExchange) => self.wake_exchange_of(s, t),
+        }
+    }
+}

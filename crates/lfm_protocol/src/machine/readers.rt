@@ -1,0 +1,263 @@
+//! What a state tells of itself: words, place, queue and seats. No reader changes anything or takes memory.
+ghost use Rattle.std.specs.Prelude.{◌≡◌, ◌+◌, ◌++◌, ◌<◌, ◌≤◌, length, position, reverse, slice_get, vec_capacity, IfSome};
+ghost use Rattle.std.specs.List.{zip};
+ghost use Rattle.std.specs.Option.{option_map};
+ghost use Rattle.lfm_protocol.specs.Turns.{longest_call};
+ghost use Rattle.lfm_protocol.specs.Place.{carries, is_passed, place_of};
+ghost use Rattle.lfm_protocol.specs.Queue.{chain, unwalked, queue_of};
+ghost use Rattle.lfm_protocol.specs.Seats.{seat};
+ghost use Rattle.lfm_words.specs.Popped.{pair_of};
+
+use crate::chains::Chain;
+use crate::machine::Machine;
+use crate::points::Point;
+use crate::seats::SeatState;
+use lfm_model::{Place, SeatNo};
+use lfm_words::{Handoff, Record, Wake};
+
+/// The words.
+impl Machine {
+    /// How many hold the mutex or want it.
+    pub fn count(&self) -> u64
+        ensures { result ≡ self.now.count }
+    {
+        self.count
+    }
+
+    /// The number of the owning seat; 0 where the owner word is empty.
+    pub fn owner(&self) -> u64
+        ensures { result ≡ self.now.owner }
+    {
+        self.owner
+    }
+
+    /// The posted handoff; its seat is 0 where none is posted.
+    pub fn handoff(&self) -> Handoff
+        ensures { result ≡ self.now.handoff }
+    {
+        self.handoff
+    }
+
+    /// More steps than any call makes that runs alone.
+    pub fn longest_call(&self) -> u64
+        ensures { result ≡ longest_call self.now }
+    {
+        self.seats.len() as u64 + 16
+    }
+}
+
+/// The seats. A seat that isn't there reads as one at rest that did nothing.
+impl Machine {
+    /// How many times seat s holds the mutex: 0 to 65,535.
+    pub fn depth(&self, s: u64) -> u32
+        ensures { result ≡ (seat self.now.seats s).depth }
+    {
+        self.seat_or_absent(s).depth
+    }
+
+    /// How many takes seat s has charged.
+    pub fn takes(&self, s: u64) -> u64
+        ensures { result ≡ (seat self.now.seats s).takes }
+    {
+        self.seat_or_absent(s).takes
+    }
+
+    /// How many handoffs seat s has posted.
+    pub fn posts(&self, s: u64) -> u64
+        ensures { result ≡ (seat self.now.seats s).posts }
+    {
+        self.seat_or_absent(s).posts
+    }
+
+    fn seat_or_absent(&self, s: u64) -> SeatState
+        ensures { result ≡ seat self.now.seats s }
+    {
+        if self.is_seat(s) {
+            self.seat(s)
+        } else {
+            SeatState {
+                depth: 0,
+                takes: 0,
+                posts: 0,
+                point: Point::Rest,
+            }
+        }
+    }
+}
+
+impl Point {
+    /// Whether a call at this point has gained the responsibility and not given it away.
+    pub fn carries(self) -> bool
+        ensures { result ≡ carries self }
+    {
+        matches!(
+            self,
+            Point::TryCountAdd
+                | Point::SendWakeStore(_)
+                | Point::ReleaseCountSubtract(_)
+                | Point::ReleaseHandoffStore(_)
+                | Point::TakeClearHead(_)
+                | Point::TakeLinkLoad(_, _)
+                | Point::GrantWakeStore(_, _)
+                | Point::EnterOwnerStore(_, _)
+                | Point::ReceiveWakeStore(_)
+        )
+    }
+}
+
+/// Whether a wake word holds a grant that a seat at this point has not yet loaded.
+fn is_passed(wake: Wake, point: Point) -> bool
+    ensures { result ≡ is_passed wake point }
+{
+    matches!(wake, Wake::Grant(_)) && !matches!(point, Point::ReceiveWakeStore(_))
+}
+
+/// Where the responsibility lies.
+impl Machine {
+    /// Where the responsibility lies, read from the words and the points: with the owner, in the posted handoff, with a
+    /// seat whose grant isn't loaded, or with a call that carries it. It looks at each seat at most twice.
+    pub fn place(&self) -> Place
+        ensures { result ≡ place_of self.now }
+    {
+        if self.owner != 0 {
+            return Place::Owner(SeatNo::known(self.owner));
+        }
+        if self.handoff.seat != 0 {
+            return Place::Posted;
+        }
+        if let Some(i) = self.passed() {
+            return Place::Passed(SeatNo::known(i as u64 + 1));
+        }
+        match self.carried() {
+            Some(i) => Place::Carried(SeatNo::known(i as u64 + 1)),
+            None => Place::Free,
+        }
+    }
+
+    /// The place, counted from 0, of the first seat with a grant that it hasn't loaded.
+    fn passed(&self) -> Option<usize>
+        ensures index { result ≡ position (λ w. is_passed w.0 w.1.point) (zip self.now.wakes self.now.seats) }
+        ensures few { IfSome result (λ i. i < 4095) }
+    {
+        self.wakes
+            .iter()
+            .zip(self.seats.iter())
+            .position(|(wake, seat)| is_passed(*wake, seat.point))
+    }
+
+    /// The place, counted from 0, of the first seat whose call carries the responsibility.
+    fn carried(&self) -> Option<usize>
+        ensures index { result ≡ position (λ x. carries x.point) self.now.seats }
+        ensures few { IfSome result (λ i. i < 4095) }
+    {
+        self.seats.iter().position(|seat| seat.point.carries())
+    }
+}
+
+/// The queue.
+impl Machine {
+    /// How many records are queued. It walks the links of those that are in no pop list.
+    pub fn queue_len(&self) -> u64
+        ensures { result ≡ length (queue_of self.now) }
+    {
+        self.chain_len(self.unwalked()) + self.popped.len() + self.chain_len(self.push.next)
+    }
+
+    /// The seat and stamp of the record that i others are older than: 0 is the oldest. None past the newest. It walks the
+    /// links of those that are in no pop list.
+    pub fn queued(&self, i: u64) -> Option<(SeatNo, u64)>
+        ensures { result ≡ option_map pair_of (slice_get (queue_of self.now) i) }
+    {
+        let walked = self.chain_len(self.unwalked());
+        if i < walked {
+            return self.chained(self.unwalked(), walked - 1 - i);
+        }
+        let i = i - walked;
+        if i < self.popped.len() {
+            return self.popped.get(i);
+        }
+        let i = i - self.popped.len();
+        let pushed = self.chain_len(self.push.next);
+        if i < pushed {
+            self.chained(self.push.next, pushed - 1 - i)
+        } else {
+            None
+        }
+    }
+
+    /// Gathers the queue's records, newest first, into room that was reserved for them.
+    pub fn gather(&self, room: &mut Vec<Record>)
+        requires { length (queue_of self.now) ≤ vec_capacity room.old }
+        ensures gathered { reverse room.new.items ≡ queue_of self.now }
+        ensures room { vec_capacity room.new ≡ vec_capacity room.old }
+    {
+        room.clear();
+        gather_chain(room, Chain::new(&self.links, self.push.next));
+        gather_popped(room, self.popped.newest_first());
+        gather_chain(room, Chain::new(&self.links, self.unwalked()));
+    }
+
+    /// The seat whose link a carrier loads next; 0 where none walks a cleared list.
+    fn unwalked(&self) -> u64
+        ensures { result ≡ unwalked self.now.seats }
+    {
+        for seat in &self.seats {
+            if let Point::TakeLinkLoad(_, next) = seat.point {
+                if next != 0 {
+                    return next;
+                }
+            }
+        }
+        0
+    }
+
+    /// How many records a walk from this seat meets.
+    fn chain_len(&self, from: u64) -> u64
+        ensures length { result ≡ length (chain self.now.links from) }
+        ensures few { result ≤ 4095 }
+    {
+        let mut chain = Chain::new(&self.links, from);
+        let mut length = 0;
+        'walking: while let Some(_) = chain.next() {
+            length += 1;
+        }
+        length
+    }
+
+    /// The seat and stamp of the record that a walk from this seat meets after i others.
+    fn chained(&self, from: u64, i: u64) -> Option<(SeatNo, u64)>
+        ensures { result ≡ option_map pair_of (slice_get (chain self.now.links from) i) }
+    {
+        let mut chain = Chain::new(&self.links, from);
+        for _ in 0..i {
+            let _ = chain.next();
+        }
+        match chain.next() {
+            Some(record) => Some((record.seat, record.stamp)),
+            None => None,
+        }
+    }
+}
+
+/// Adds what is left of a walk, within the room.
+fn gather_chain(room: &mut Vec<Record>, chain: Chain<'_>)
+    requires { length room.old.items + length chain ≤ vec_capacity room.old }
+    ensures gathered { room.new.items ≡ room.old.items ++ chain.entry }
+    ensures room { vec_capacity room.new ≡ vec_capacity room.old }
+{
+    let mut chain = chain;
+    'walking: while let Some(record) = chain.next() {
+        room.push_reserved(record);
+    }
+}
+
+/// Adds some records, within the room.
+fn gather_popped(room: &mut Vec<Record>, records: &[Record])
+    requires { length room.old.items + length records.now ≤ vec_capacity room.old }
+    ensures gathered { room.new.items ≡ room.old.items ++ records.now }
+    ensures room { vec_capacity room.new ≡ vec_capacity room.old }
+{
+    for record in records {
+        room.push_reserved(*record);
+    }
+}

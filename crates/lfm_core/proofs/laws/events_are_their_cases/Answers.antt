@@ -1,5 +1,0 @@
-use Rattle.lfm_core.proofs.lawful.runs.AbstractBridge.{events_are_their_cases}
-use Rattle.lfm_core.proofs.laws.events_are_their_cases.Goals as goal
-
-pub returns : goal.returns
-returns c = events_are_their_cases

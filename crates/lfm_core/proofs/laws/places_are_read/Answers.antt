@@ -1,5 +1,0 @@
-use Rattle.lfm_core.proofs.lawful.states.CountLaws.{places_are_read}
-use Rattle.lfm_core.proofs.laws.places_are_read.Goals as goal
-
-pub returns : goal.returns
-returns c = places_are_read

@@ -1,5 +1,0 @@
-use Rattle.lfm_core.proofs.lawful.states.Sleepers.{sleepers_are_reachable}
-use Rattle.lfm_core.proofs.laws.sleepers_are_reachable.Goals as goal
-
-pub returns : goal.returns
-returns c = sleepers_are_reachable

@@ -1,5 +1,0 @@
-use Rattle.lfm_core.proofs.lawful.bounds.ReleaseBounds.{unlocks_are_bounded}
-use Rattle.lfm_core.proofs.laws.unlocks_are_bounded.Goals as goal
-
-pub returns : goal.returns
-returns c = unlocks_are_bounded

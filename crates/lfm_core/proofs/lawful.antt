@@ -2,5 +2,6 @@
 pub mod read
 pub mod states
 pub mod runs
+pub mod touched
 pub mod refusals
 pub mod bounds

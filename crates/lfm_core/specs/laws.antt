@@ -9,3 +9,5 @@ pub mod Cases
 pub mod Laws
 pub mod Ranges
 pub mod Refusals
+pub mod Touched
+pub mod Steadiness

@@ -11,6 +11,7 @@ pub mod queue_order;
 pub mod ranges;
 pub mod refusals;
 pub mod schedules;
+pub mod steadiness;
 
 pub use abstract_mutex::{
     events_are_their_cases, every_state_is_lawful, runs_are_abstract_runs, states_are_lawful,
@@ -33,3 +34,7 @@ pub use refusals::{
     tries_see_a_holder, turns_are_refused_for_cause,
 };
 pub use schedules::lines_are_events;
+pub use steadiness::{
+    begins_touch_one_seat, every_state_is_steady, states_are_steady, steps_at_a_table,
+    steps_keep_steady, steps_touch_one_word_and_one_seat,
+};

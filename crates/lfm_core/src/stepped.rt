@@ -78,8 +78,17 @@ impl State {
     }
 }
 
-/// What the invariant says, told in words and points.
+/// What the invariant says, and what it says in words and points.
 impl State {
+    ghost use Rattle.lfm_core.specs.steady.Steady.{Steady};
+
+    /// Every state is steady. `laws::every_state_is_steady` tells it to callers.
+    pub(crate) fn steady(&self)
+        ensures { Steady self.now }
+    {
+        let _ = &self.machine;
+    }
+
     /// Every state is lawful, since it is steady. `laws::every_state_is_lawful` tells it to callers.
     pub(crate) fn law(&self)
         ensures { Lawful self.now }

@@ -5,3 +5,4 @@ pub mod runs
 pub mod touched
 pub mod refusals
 pub mod bounds
+pub mod calls

@@ -11,3 +11,5 @@ pub mod Ranges
 pub mod Refusals
 pub mod Touched
 pub mod Steadiness
+pub mod Charges
+pub mod Depths

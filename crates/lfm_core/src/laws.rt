@@ -5,6 +5,7 @@
 
 pub mod abstract_mutex;
 pub mod bounds;
+pub mod calls;
 pub mod handoffs;
 pub mod mutual_exclusion;
 pub mod queue_order;
@@ -20,6 +21,7 @@ pub use bounds::{
     calls_end_alone, pushes_alone_fail_once, start_waits_are_bounded, tries_alone_hold,
     unlocks_are_bounded,
 };
+pub use calls::{depth_counts_holds, takes_change_by_charges, takes_count_charges};
 pub use handoffs::{
     calls_post_once, failed_pushes_see_change, handoffs_are_watched, quiescent_states_rest,
     sleepers_are_reachable, takes_find_a_record, won_posts_have_a_record,

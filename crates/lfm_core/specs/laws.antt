@@ -9,6 +9,7 @@ pub mod Cases
 pub mod Laws
 pub mod Ranges
 pub mod Refusals
+pub mod LineEvents
 pub mod Touched
 pub mod Steadiness
 pub mod Charges

@@ -1,4 +1,4 @@
--- What holds of every state that a schedule reaches, said of its words and points.
+-- What holds of every steady state, said of its words and points.
 use Rattle.std.specs.Prelude.{◌≡◌, ◌≢◌, ◌⊎◌, ⊤, ℕ, ◌+◌, ◌<◌, ◌≤◌, List, length, AllPairs, slice_index_or}
 use Rattle.lfm_model.specs.Abstract.{AbstractMutex, AbstractPlace, owner}
 use Rattle.lfm_protocol.specs.declared.points.Point.{Point}

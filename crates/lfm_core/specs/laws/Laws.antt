@@ -1,5 +1,5 @@
--- The laws of every schedule: of every list of calls that begin and single steps, for every number of seats and budget in
--- their limits. Each is the contract of a public function of `laws`.
+-- The laws of every steady state, and of all that calls and single steps make of it. A state that a schedule reaches is steady,
+-- for every number of seats and budget in their limits. Each law is the contract of a public function of `laws`.
 use Rattle.std.specs.Prelude.{◌≡◌, ◌⊎◌, ℕ, Bool, true, false, ◌+◌, ◌<◌, ◌≤◌, ◌++◌, Some, List, [], ◌∷◌, length, slice_index_or}
 use Rattle.lfm_model.specs.Abstract.{AbstractMutex, AbstractPlace, all_free, free, owner, passed, posted, carried}
 use Rattle.lfm_model.specs.AbstractRuns.{IsRun, take}
@@ -15,7 +15,6 @@ use Rattle.lfm_protocol.specs.declared.points.Point.{Point}
 use Rattle.lfm_protocol.specs.declared.points.Point.TheVariants.{Rest, Asleep, PushExchange, PushedHandoffLoad, ReleaseHandoffStore, TakeClearHead}
 use Rattle.lfm_protocol.specs.declared.points.Pusher.{Pusher}
 use Rattle.lfm_protocol.specs.declared.points.Sleeper.{Sleeper}
-use Rattle.lfm_core.specs.declared.text.schedule.Line.{Line}
 use Rattle.lfm_words.specs.declared.links.Link.{Link}
 use Rattle.lfm_words.specs.declared.pop_lists.Record.{Record}
 use Rattle.lfm_words.specs.declared.wakes.Wake.TheVariants.{Waiting, Grant}
@@ -25,13 +24,13 @@ use Rattle.lfm_protocol.specs.Core.{Core}
 use Rattle.lfm_core.specs.laws.Events.{case_of_step}
 use Rattle.lfm_core.specs.laws.Lawful.{IsSent, Lawful}
 use Rattle.lfm_protocol.specs.Limits.{are_in_limits}
-use Rattle.lfm_core.specs.text.Lines.{steps, lines_core}
 use Rattle.lfm_protocol.specs.Turns.{is_open, longest_call}
 use Rattle.lfm_protocol.specs.Place.{place_of}
 use Rattle.lfm_protocol.specs.Queue.{queue_of}
 use Rattle.lfm_core.specs.laws.Reading.{Claims, Reads}
-use Rattle.lfm_core.specs.laws.Schedules.{Event, makes, happens, run_of, reached, push_record, popped_record, answer_record, answer_record_of_lines, is_call, weight_of_call, steps_of_call}
+use Rattle.lfm_core.specs.laws.Schedules.{Event, makes, happens, run_of, reached, steps, push_record, popped_record, answer_record, is_call, weight_of_call, steps_of_call}
 use Rattle.lfm_protocol.specs.Seats.{seat, wake, unposted, IsSeat}
+use Rattle.lfm_core.specs.steady.Steady.{Steady}
 use Rattle.lfm_protocol.specs.Step.{begin, start}
 use Rattle.lfm_core.specs.laws.Watched.{Waits, Watched}
 
@@ -42,28 +41,33 @@ pub record IsReached (c : Core) : Type 0 where
   pub allowed : are_in_limits limits.seats limits.budget ≡ true
   pub here : c ≡ reached limits events
 
--- what lines do to a state, a schedule of events does, and both answer the same Held(Queued), so that every law of events is
--- one of lines
-abbrev pub LinesAreEvents : Type 0
-LinesAreEvents =
-    (c : Core) (lines : List Line)
-    → (events : List Event) × (lines_core c lines ≡ run_of c events) × (answer_record_of_lines c lines ≡ answer_record c events)
-
 -- Mutual exclusion
 
 -- at most one seat owns
 abbrev pub OneSeatOwns : Type 0
-OneSeatOwns = (c : Core) (s t : ℕ) → IsReached c → 0 < (seat c.seats s).depth → 0 < (seat c.seats t).depth → s ≡ t
+OneSeatOwns = (c : Core) (s t : ℕ) → Steady c → 0 < (seat c.seats s).depth → 0 < (seat c.seats t).depth → s ≡ t
+
+-- so it is after every schedule
+abbrev pub OneSeatOwnsInSchedules : Type 0
+OneSeatOwnsInSchedules =
+    (limits : Limits) (events : List Event) (s t : ℕ) → are_in_limits limits.seats limits.budget ≡ true
+    → 0 < (seat (reached limits events).seats s).depth → 0 < (seat (reached limits events).seats t).depth → s ≡ t
 
 -- with a count above 0 exactly one owner, grant, posted handoff or call has the responsibility
 abbrev pub OneHasTheResponsibility : Type 0
 OneHasTheResponsibility =
-    (c : Core) → IsReached c → 0 < c.count → (p : AbstractPlace) × Claims c p × ((q : AbstractPlace) → Claims c q → q ≡ p)
+    (c : Core) → Steady c → 0 < c.count → (p : AbstractPlace) × Claims c p × ((q : AbstractPlace) → Claims c q → q ≡ p)
+
+-- so it is after every schedule
+abbrev pub OneHasTheResponsibilityInSchedules : Type 0
+OneHasTheResponsibilityInSchedules =
+    (limits : Limits) (events : List Event) → are_in_limits limits.seats limits.budget ≡ true → 0 < (reached limits events).count
+    → (p : AbstractPlace) × Claims (reached limits events) p × ((q : AbstractPlace) → Claims (reached limits events) q → q ≡ p)
 
 -- The abstract mutex
 
 abbrev pub StatesAreLawful : Type 0
-StatesAreLawful = (c : Core) → IsReached c → Lawful c
+StatesAreLawful = (c : Core) → Steady c → Lawful c
 
 -- the readings of a run are a run of the abstract mutex, which starts with nobody holding, asking or waiting
 abbrev pub RunsAreAbstractRuns : Type 0
@@ -74,7 +78,7 @@ RunsAreAbstractRuns =
 -- step by step, the readings before and after an event go by its case, which is that of `case_of_step` where it is a step
 abbrev pub EventsAreTheirCases : Type 0
 EventsAreTheirCases =
-    (c : Core) (e : Event) (a b : AbstractMutex) → IsReached c → Reads c a → Reads (happens c e).core b → GoesBy (case_of_event c e) a b
+    (c : Core) (e : Event) (a b : AbstractMutex) → Steady c → Reads c a → Reads (happens c e).core b → GoesBy (case_of_event c e) a b
 
 -- the place that is printed
 abbrev pub printed : AbstractPlace → Place
@@ -86,23 +90,23 @@ printed (carried s how) = Place.Carried s
 
 -- what the state tells as its place is that of its reading
 abbrev pub PlacesAreRead : Type 0
-PlacesAreRead = (c : Core) (a : AbstractMutex) → IsReached c → Reads c a → place_of c ≡ printed a.place
+PlacesAreRead = (c : Core) (a : AbstractMutex) → Steady c → Reads c a → place_of c ≡ printed a.place
 
 -- the count is 0 just where nobody has the responsibility
 abbrev pub CountIsZeroWhereFree : Type 0
-CountIsZeroWhereFree = (c : Core) (a : AbstractMutex) → IsReached c → Reads c a → (c.count ≡ 0 → a.place ≡ free) × (a.place ≡ free → c.count ≡ 0)
+CountIsZeroWhereFree = (c : Core) (a : AbstractMutex) → Steady c → Reads c a → (c.count ≡ 0 → a.place ≡ free) × (a.place ≡ free → c.count ≡ 0)
 
 -- The order of the queue
 
 abbrev pub QueueIsInPushOrder : Type 0
 QueueIsInPushOrder =
-    (c : Core) (events : List Event) → IsReached c
+    (c : Core) (events : List Event) → Steady c
     → queue_of c ++ push_record c events ≡ popped_record c events ++ queue_of (run_of c events)
 
 -- the stamps of the pushes follow the push word's; at the start this is 0
 abbrev pub StampsAreConsecutive : Type 0
 StampsAreConsecutive =
-    (c : Core) (events : List Event) → IsReached c
+    (c : Core) (events : List Event) → Steady c
     → (k : ℕ) (d : Record) → k < length (push_record c events) → (slice_index_or (push_record c events) k d).stamp ≡ c.push.stamp + (k + 1)
 
 -- the answers Held(Queued) are the popped records, or these without the last
@@ -115,7 +119,7 @@ AnswersAreTheRecords =
 -- No lost hand-off
 
 abbrev pub HandoffsAreWatched : Type 0
-HandoffsAreWatched = (c : Core) → IsReached c → Watched c
+HandoffsAreWatched = (c : Core) → Steady c → Watched c
 
 -- no call is open
 abbrev pub IsQuiet : Core → Type 0
@@ -137,12 +141,12 @@ pub record IsGranted (c : Core) : Type 0 where
 -- without an open call nothing is posted, and if the count is above 0 a seat owns or a grant waits
 abbrev pub QuiescentStatesRest : Type 0
 QuiescentStatesRest =
-    (c : Core) → IsReached c → IsQuiet c → (c.handoff ≡ unposted) × (0 < c.count → IsHeld c ⊎ IsGranted c)
+    (c : Core) → Steady c → IsQuiet c → (c.handoff ≡ unposted) × (0 < c.count → IsHeld c ⊎ IsGranted c)
 
 -- no seat sleeps where no grant can come: it is queued, granted, WAITING for a send, or on the way by one
 abbrev pub SleepersAreReachable : Type 0
 SleepersAreReachable =
-    (c : Core) (t : ℕ) (since : Sleeper) → IsReached c → (seat c.seats t).point ≡ Asleep since
+    (c : Core) (t : ℕ) (since : Sleeper) → Steady c → (seat c.seats t).point ≡ Asleep since
     → Waits c t ⊎ (((stamp : ℕ) × (wake c.wakes t ≡ Grant stamp)) ⊎ ((wake c.wakes t ≡ Waiting) ⊎ IsSent c t))
 
 -- the carriers that have won a handoff exchange
@@ -155,17 +159,17 @@ has_won Carrier.Sender = true
 -- after a successful handoff exchange, in lock, unlock or send_lock, the push list that the take clears has a record
 abbrev pub TakesFindARecord : Type 0
 TakesFindARecord =
-    (c : Core) (s : ℕ) (carrier : Carrier) → IsReached c → (seat c.seats s).point ≡ TakeClearHead carrier → has_won carrier ≡ true
+    (c : Core) (s : ℕ) (carrier : Carrier) → Steady c → (seat c.seats s).point ≡ TakeClearHead carrier → has_won carrier ≡ true
     → (0 < c.push.next) × (c.popped ≡ [])
 
 -- at the exchange that takes a posted handoff, in lock, unlock and send_lock, the push list has a record and the pop list none
 abbrev pub WonPostsHaveARecord : Type 0
-WonPostsHaveARecord = (c : Core) (s : ℕ) → IsReached c → case_of_step c s ≡ Some take → (0 < c.push.next) × (c.popped ≡ [])
+WonPostsHaveARecord = (c : Core) (s : ℕ) → Steady c → case_of_step c s ≡ Some take → (0 < c.push.next) × (c.popped ≡ [])
 
 -- a push exchange that fails has seen a higher stamp, or the same with the head emptied
 abbrev pub FailedPushesSeeChange : Type 0
 FailedPushesSeeChange =
-    (c : Core) (s : ℕ) (pusher : Pusher) (seen : Link) → IsReached c → (seat c.seats s).point ≡ PushExchange pusher seen
+    (c : Core) (s : ℕ) (pusher : Pusher) (seen : Link) → Steady c → (seat c.seats s).point ≡ PushExchange pusher seen
     → same_link c.push seen ≡ false → (seen.stamp < c.push.stamp) ⊎ ((c.push.stamp ≡ seen.stamp) × (c.push.next ≡ 0) × (0 < seen.next))
 
 -- Bounds
@@ -176,18 +180,18 @@ post_weight _ = 0
 
 -- a call posts at most once, whatever the others do in between
 abbrev pub CallsPostOnce : Type 0
-CallsPostOnce = (c : Core) (s : ℕ) (events : List Event) → IsReached c → weight_of_call post_weight c s events ≤ 1
+CallsPostOnce = (c : Core) (s : ℕ) (events : List Event) → Steady c → weight_of_call post_weight c s events ≤ 1
 
 -- an unlock among N seats makes at most N + 7 steps, whatever the others do in between
 abbrev pub UnlocksAreBounded : Type 0
 UnlocksAreBounded =
-    (c : Core) (s : ℕ) (events : List Event) → IsReached c → is_call (seat c.seats s).point ≡ false
+    (c : Core) (s : ℕ) (events : List Event) → Steady c → is_call (seat c.seats s).point ≡ false
     → steps_of_call (begin c s Unlock).core s events ≤ length c.seats + 7
 
 -- a start_wait at most N + 8
 abbrev pub StartWaitsAreBounded : Type 0
 StartWaitsAreBounded =
-    (c : Core) (s : ℕ) (events : List Event) → IsReached c → is_call (seat c.seats s).point ≡ false
+    (c : Core) (s : ℕ) (events : List Event) → Steady c → is_call (seat c.seats s).point ≡ false
     → steps_of_call (begin c s StartWait).core s events ≤ length c.seats + 8
 
 -- Termination
@@ -195,12 +199,12 @@ StartWaitsAreBounded =
 -- an open call whose seat alone makes steps ends within as many as `*` makes
 abbrev pub CallsEndAlone : Type 0
 CallsEndAlone =
-    (c : Core) (s : ℕ) → IsReached c → is_call (seat c.seats s).point ≡ true → is_open (steps (longest_call c) c s).turn ≡ false
+    (c : Core) (s : ℕ) → Steady c → is_call (seat c.seats s).point ≡ true → is_open (steps (longest_call c) c s).turn ≡ false
 
 -- alone, a push fails at most once: after a failed exchange the next one succeeds
 abbrev pub PushesAloneFailOnce : Type 0
 PushesAloneFailOnce =
-    (c : Core) (s : ℕ) (pusher : Pusher) (seen : Link) → IsReached c → (seat c.seats s).point ≡ PushExchange pusher seen
+    (c : Core) (s : ℕ) (pusher : Pusher) (seen : Link) → Steady c → (seat c.seats s).point ≡ PushExchange pusher seen
     → same_link c.push seen ≡ false → (seat (run_of c (makes s ∷ makes s ∷ makes s ∷ [])).seats s).point ≡ PushedHandoffLoad pusher
 
 -- Availability
@@ -209,6 +213,6 @@ PushesAloneFailOnce =
 -- seat alone makes steps
 abbrev pub TriesAloneHold : Type 0
 TriesAloneHold =
-    (c : Core) (s : ℕ) → IsReached c → IsSeat c.seats s → (seat c.seats s).point ≡ Rest → (seat c.seats s).depth ≡ 0 → (seat c.seats s).takes < c.budget
+    (c : Core) (s : ℕ) → Steady c → IsSeat c.seats s → (seat c.seats s).point ≡ Rest → (seat c.seats s).depth ≡ 0 → (seat c.seats s).takes < c.budget
     → (c.count ≡ 0 → (steps 2 (begin c s TryLock).core s).turn ≡ Ended (Answer.Locked (Locked.Held How.Free)))
     × (0 < c.handoff.seat → (steps 6 (begin c s TryLock).core s).turn ≡ Ended (Answer.Locked (Locked.Held How.Free)))

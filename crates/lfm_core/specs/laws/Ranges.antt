@@ -1,11 +1,11 @@
--- The ranges in which the numbers of every state stay that a schedule reaches, so that no step wraps any.
+-- The ranges in which the numbers of every steady state lie, so that no step wraps any.
 use Rattle.std.specs.Prelude.{◌≡◌, ℕ, true, ◌+◌, ◌*◌, ◌≤◌, List, length}
 use Rattle.lfm_protocol.specs.declared.limits.Limits.{Limits}
 use Rattle.lfm_protocol.specs.Core.{Core, limits}
-use Rattle.lfm_core.specs.laws.Laws.{IsReached}
 use Rattle.lfm_protocol.specs.Limits.{are_in_limits}
 use Rattle.lfm_protocol.specs.Room.{HasRoom}
 use Rattle.lfm_core.specs.laws.Schedules.{Event, reached}
+use Rattle.lfm_core.specs.steady.Steady.{Steady}
 use Rattle.lfm_protocol.specs.Seats.{seat, IsSeat}
 
 -- among N seats of budget B the stamp is at most N * B and the count at most N + 1; each seat holds at most 65,535 times, has
@@ -18,11 +18,11 @@ pub record IsInRange (c : Core) : Type 0 where
   pub posts : (s : ℕ) → (seat c.seats s).posts ≤ (seat c.seats s).takes
 
 abbrev pub NumbersStayInRange : Type 0
-NumbersStayInRange = (c : Core) → IsReached c → IsInRange c
+NumbersStayInRange = (c : Core) → Steady c → IsInRange c
 
 -- the next step of each seat wraps no number, and the seats that it touches are there
 abbrev pub StepsHaveRoom : Type 0
-StepsHaveRoom = (c : Core) (s : ℕ) → IsReached c → IsSeat c.seats s → HasRoom c s
+StepsHaveRoom = (c : Core) (s : ℕ) → Steady c → IsSeat c.seats s → HasRoom c s
 
 -- the number of seats and the budget stay those of the start
 abbrev pub LimitsStay : Type 0

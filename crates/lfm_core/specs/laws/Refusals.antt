@@ -14,8 +14,8 @@ use Rattle.lfm_protocol.specs.declared.seats.SeatState.{SeatState}
 use Rattle.lfm_words.specs.declared.wakes.Wake.TheVariants.{Waiting}
 use Rattle.lfm_protocol.specs.After.{same_handoff}
 use Rattle.lfm_protocol.specs.Core.{Core, put}
-use Rattle.lfm_core.specs.laws.Laws.{IsReached}
 use Rattle.lfm_core.specs.laws.Schedules.{Event, begins, makes, happens, is_call}
+use Rattle.lfm_core.specs.steady.Steady.{Steady}
 use Rattle.lfm_protocol.specs.Seats.{seat, wake, is_seat, IsSeat}
 use Rattle.lfm_protocol.specs.Step.{begin, step}
 
@@ -74,7 +74,7 @@ RefusedBeginsChangeNothing = (c : Core) (s : ℕ) (call : Call) (why : Why) → 
 -- the mutex refuses a call just where it has the cause
 abbrev pub BeginsAreRefusedForCause : Type 0
 BeginsAreRefusedForCause =
-    (c : Core) (s : ℕ) (call : Call) (refusal : Refusal) → IsReached c → IsSeat c.seats s
+    (c : Core) (s : ℕ) (call : Call) (refusal : Refusal) → Steady c → IsSeat c.seats s
     → ((begin c s call).turn ≡ Refused (By refusal) → CauseToBegin c (seat c.seats s) call refusal)
     × (CauseToBegin c (seat c.seats s) call refusal → (begin c s call).turn ≡ Refused (By refusal))
 
@@ -101,7 +101,7 @@ WasCharged _ x = ⊤
 -- the mutex refuses a step just where it has the cause; then the call has ended, and nothing but its seat has changed
 abbrev pub StepsAreRefusedForCause : Type 0
 StepsAreRefusedForCause =
-    (c : Core) (s : ℕ) (refusal : Refusal) → IsReached c
+    (c : Core) (s : ℕ) (refusal : Refusal) → Steady c
     → ((step c s).turn ≡ Refused (By refusal)
     → CauseOfStep c (seat c.seats s).point refusal
     × WasCharged refusal (seat c.seats s)
@@ -125,7 +125,7 @@ CauseToRefuse c (makes s) (By refusal) = CauseOfStep c (seat c.seats s).point re
 -- every event is refused just where there is the cause
 abbrev pub TurnsAreRefusedForCause : Type 0
 TurnsAreRefusedForCause =
-    (c : Core) (e : Event) (why : Why) → IsReached c
+    (c : Core) (e : Event) (why : Why) → Steady c
     → ((happens c e).turn ≡ Refused why → CauseToRefuse c e why) × (CauseToRefuse c e why → (happens c e).turn ≡ Refused why)
 
 -- Busy
@@ -141,5 +141,5 @@ TriesBy c s e _ = ⊤
 -- an event leaves a seat as it is, or brings it to such a point only so
 abbrev pub TriesSeeAHolder : Type 0
 TriesSeeAHolder =
-    (c : Core) (e : Event) (s : ℕ) → IsReached c
+    (c : Core) (e : Event) (s : ℕ) → Steady c
     → (seat (happens c e).core.seats s ≡ seat c.seats s) ⊎ TriesBy c s e (seat (happens c e).core.seats s).point

@@ -1,16 +1,16 @@
 -- Schedules as the laws have them: every list of calls that begin and single steps, in any order and by any seats.
-use Rattle.std.specs.Prelude.{ℕ, ◌++◌, Bool, true, false, ◌+◌, nat_eq, List, [], ◌∷◌, if◌then◌else◌}
+use Rattle.std.specs.Prelude.{ℕ, zero, suc, ◌++◌, Bool, true, false, ◌+◌, nat_eq, List, [], ◌∷◌, if◌then◌else◌}
 use Rattle.lfm_protocol.specs.declared.answers.Call.{Call}
+use Rattle.lfm_protocol.specs.declared.answers.Turn.TheVariants.{Open}
 use Rattle.lfm_protocol.specs.declared.limits.Limits.{Limits}
 use Rattle.lfm_protocol.specs.declared.points.Point.{Point}
 use Rattle.lfm_protocol.specs.declared.points.Point.TheVariants.{Rest, Asleep}
-use Rattle.lfm_core.specs.declared.text.schedule.Line.{Line}
 use Rattle.lfm_words.specs.declared.pop_lists.Record.{Record}
 use Rattle.lfm_protocol.specs.Core.{Core, Moved}
 use Rattle.lfm_core.specs.laws.Events.{pushed_by, popped_by, answered_by}
-use Rattle.lfm_core.specs.text.Lines.{line_moved}
 use Rattle.lfm_protocol.specs.Seats.{seat}
 use Rattle.lfm_protocol.specs.Step.{begin, step, start}
+use Rattle.lfm_protocol.specs.Turns.{is_open}
 
 -- seat s begins a call, or makes the step at its point
 pub data Event : Type 0 where
@@ -29,6 +29,11 @@ run_of c (e ∷ later) = run_of (happens c e).core later
 -- the state that a mutex of these limits has reached after some events
 abbrev pub reached : Limits → List Event → Core
 reached limits events = run_of (start limits) events
+
+-- up to so many steps of seat s, which stop where its call ends or a step is refused
+abbrev pub steps : ℕ → Core → ℕ → Moved
+steps zero c s = record { core = c; turn = Open }
+steps (suc most) c s = if is_open (step c s).turn then steps most (step c s).core s else step c s
 
 -- The records of a run
 
@@ -58,12 +63,6 @@ popped_record c (e ∷ later) = popped_in c e ++ popped_record (happens c e).cor
 abbrev pub answer_record : Core → List Event → List Record
 answer_record c [] = []
 answer_record c (e ∷ later) = answered_in c e ++ answer_record (happens c e).core later
-
--- the same of some lines: of all steps of a line only the last one's turn can answer
-abbrev pub answer_record_of_lines : Core → List Line → List Record
-answer_record_of_lines c [] = []
-answer_record_of_lines c (line ∷ lines) =
-    answered_by line.seat (line_moved c line).turn ++ answer_record_of_lines (line_moved c line).core lines
 
 -- The steps of one call
 

@@ -1,18 +1,13 @@
 -- What a line of a schedule does to a state, and what a list of lines does.
-use Rattle.std.specs.Prelude.{ℕ, zero, suc, List, [], ◌∷◌, if◌then◌else◌}
+use Rattle.std.specs.Prelude.{ℕ, List, [], ◌∷◌}
 use Rattle.lfm_protocol.specs.declared.answers.Turn.{Turn}
-use Rattle.lfm_protocol.specs.declared.answers.Turn.TheVariants.{Open}
 use Rattle.lfm_core.specs.declared.text.schedule.Act.{Act}
 use Rattle.lfm_core.specs.declared.text.schedule.Act.TheVariants.{Begin, Steps, ToEnd}
 use Rattle.lfm_core.specs.declared.text.schedule.Line.{Line}
 use Rattle.lfm_protocol.specs.Core.{Core, Moved}
-use Rattle.lfm_protocol.specs.Step.{begin, step}
-use Rattle.lfm_protocol.specs.Turns.{is_open, longest_call}
-
--- up to so many steps of seat s, which stop where its call ends or a step is refused
-abbrev pub steps : ℕ → Core → ℕ → Moved
-steps zero c s = record { core = c; turn = Open }
-steps (suc most) c s = if is_open (step c s).turn then steps most (step c s).core s else step c s
+use Rattle.lfm_protocol.specs.Step.{begin}
+use Rattle.lfm_protocol.specs.Turns.{longest_call}
+pub use Rattle.lfm_core.specs.laws.Schedules.{steps}
 
 abbrev pub act_moved : Core → ℕ → Act → Moved
 act_moved c s (Begin call) = begin c s call

@@ -1,8 +1,8 @@
 //! The ranges of all numbers: nothing wraps.
 ghost use Rattle.lfm_core.specs.laws.Ranges.{NumbersStayInRange, StepsHaveRoom, LimitsStay};
 
-/// Among N seats with a budget of B takes each, the push stamp is at most N * B and the count at most N + 1. A seat holds at most
-/// 65,535 times, charges at most B takes, and posts at most as often as it has charged one.
+/// Among N seats with a budget of B takes each, the push stamp is at most N * B and the count at most N + 1. A seat holds at
+/// most 65,535 times, charges at most B takes, and posts at most as often as it has charged one.
 ///
 /// Definition: `NumbersStayInRange` in `specs/laws/Ranges.antt`. Proof: `proofs/lawful/states/RangesRead.antt`.
 pub fn numbers_stay_in_range()

@@ -13,8 +13,8 @@ ghost use Rattle.lfm_core.specs.steady.Steady.{Steady};
 
 use crate::stepped::State;
 
-/// Every state that a schedule reaches satisfies the invariant of the protocol. Other laws take the invariant as their premise, so
-/// each of them holds of every schedule.
+/// Every state that a schedule reaches satisfies the invariant of the protocol. Other laws take the invariant as their
+/// premise, so each of them holds of every schedule.
 ///
 /// Definition: `StatesAreSteady` in `specs/laws/Steadiness.antt`, with the invariant in `specs/steady/Steady.antt`. Proof:
 /// `proofs/lawful/runs/KeptSteady.antt`.
@@ -31,8 +31,9 @@ pub fn every_state_is_steady(state: &State)
     state.steady();
 }
 
-/// Each call that begins and each atomic step keeps the invariant, whatever ghost state fits it before. It does the one abstract
-/// action that the table of steps names, and adds to the records of pushes, pops and answers just what it tells of itself.
+/// Each call that begins and each atomic step keeps the invariant, whatever ghost state fits it before. It does the one
+/// abstract action that the table of steps names, and adds to the records of pushes, pops and answers just what it tells of
+/// itself.
 ///
 /// Definition: `StepsKeepSteady` in `specs/laws/Steadiness.antt`. Proof: `proofs/lawful/runs/KeptSteady.antt`, which goes by
 /// point in `proofs/steady/StepsKept.antt`.
@@ -40,8 +41,9 @@ pub fn steps_keep_steady()
     ensures { StepsKeepSteady }
 {}
 
-/// An atomic step changes no word but the one that the table of kinds names, none at all where its kind is a load, and no seat but
-/// its own. What it answers and where its seat goes on follow from that word, the seat, and the oldest popped record alone.
+/// An atomic step changes no word but the one that the table of kinds names, none at all where its kind is a load, and no
+/// seat but its own. What it answers and where its seat goes on follow from that word, the seat, and the oldest popped record
+/// alone.
 ///
 /// Definitions: `StepsTouchOneWordAndOneSeat` and `StepsSeeOneWordAndOneSeat` in `specs/laws/Steadiness.antt`. Proofs:
 /// `proofs/lawful/touched/OneWord.antt` and `proofs/lawful/touched/OneSeat.antt`.
@@ -57,9 +59,9 @@ pub fn begins_touch_one_seat()
     ensures { BeginsTouchOneSeat }
 {}
 
-/// A step at a table of packed words is one of these steps: a seat that knows its own data, and finds one number at the place of
-/// its word, writes what these say, and the state after it is steady again. The value that the mutex guards moves as the step
-/// says. The premise, that seat numbers read from words are narrow, holds of every state that a schedule reaches.
+/// A step at a table of packed words is one of these steps: a seat that knows its own data, and finds one number at the place
+/// of its word, writes what these say, and the state after it is steady again. The value that the mutex guards moves as the
+/// step says. The premise, that seat numbers read from words are narrow, holds of every state that a schedule reaches.
 ///
 /// Definitions: `StepsAtATable` and `ReachedAreNarrow` in `specs/laws/Steadiness.antt`, with `TableStep` in
 /// `specs/table/Carried.antt`. Proofs: `proofs/table/TableSteps.antt` and `proofs/lawful/runs/KeptSteady.antt`.

@@ -18,7 +18,7 @@ use Rattle.lfm_core.specs.steady.Steady.{Steady}
 use Rattle.lfm_protocol.specs.Step.{step_of, step, claims_word}
 use Rattle.lfm_protocol.specs.Stores.{stored_owner, stored_link, expected_push, exchanged_push, stored_handoff, expected_handoff, stored_wake}
 use Rattle.lfm_core.proofs.steady.frames.Entries.{seat-with_same, length-with_entry}
-use Rattle.lfm_core.proofs.lawful.runs.Reached.{made_keeps, steady_reached}
+use Rattle.lfm_core.proofs.lawful.runs.Reached.{made_keeps}
 use Rattle.lfm_core.proofs.steady.Room.{steady_has_room}
 use Rattle.lfm_core.proofs.lawful.bounds.StepsFall.{Lower, count_exchange_lower, count_add_lower, count_subtract_lower, owner_load_lower, owner_store_lower, push_load_lower, push_exchange_lower, clear_head_lower, link_load_lower, link_store_lower, handoff_load_lower, handoff_store_lower, handoff_exchange_lower, wake_load_lower, wake_store_lower, wake_exchange_lower}
 use Rattle.lfm_core.proofs.lawful.bounds.StepsLeft.{left, left-le}
@@ -104,4 +104,4 @@ ends_within (suc most) c s steady few =
     ]
 
 pub calls_end_alone : CallsEndAlone
-calls_end_alone c s is open_call = ends_within (longest_call c) c s (steady_reached c is) (omega (arith, left-le c s))
+calls_end_alone c s is open_call = ends_within (longest_call c) c s is (omega (arith, left-le c s))

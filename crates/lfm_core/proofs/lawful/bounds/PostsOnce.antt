@@ -21,7 +21,6 @@ use Rattle.lfm_core.specs.laws.Laws.{post_weight, CallsPostOnce}
 use Rattle.lfm_protocol.specs.Seats.{seat, link, wake}
 use Rattle.lfm_core.proofs.lawful.bounds.CallWeights.{Falls, weight_le}
 use Rattle.lfm_core.proofs.lawful.bounds.Leaving.{stepped}
-use Rattle.lfm_core.proofs.lawful.runs.Reached.{steady_reached}
 
 -- how many posts a call at this point can still make
 abbrev pub posts_left : Point → ℕ
@@ -150,6 +149,6 @@ falls =
 
 pub calls_post_once : CallsPostOnce
 calls_post_once c s events is =
-    let most = weight_le post_weight posts_left_among (λ p. true) falls c s events (steady_reached c is) refl in
+    let most = weight_le post_weight posts_left_among (λ p. true) falls c s events is refl in
     let one = posts_left-le (seat c.seats s).point in
     omega (arith, most, one)

@@ -10,13 +10,14 @@ use Rattle.lfm_protocol.specs.declared.seats.SeatState.{SeatState}
 use Rattle.lfm_protocol.specs.Begin as Begin
 use Rattle.lfm_protocol.specs.Begin.{Stepped, begin_unlock, begin_wait}
 use Rattle.lfm_protocol.specs.Core.{Core, limits}
-use Rattle.lfm_core.specs.laws.Laws.{IsReached, UnlocksAreBounded, StartWaitsAreBounded}
+use Rattle.lfm_core.specs.laws.Laws.{UnlocksAreBounded, StartWaitsAreBounded}
 use Rattle.lfm_core.specs.laws.Schedules.{Event, is_call, steps_of_call}
+use Rattle.lfm_core.specs.steady.Steady.{Steady}
 use Rattle.lfm_protocol.specs.Seats.{seat, is_seat}
 use Rattle.lfm_protocol.specs.Step.{begin}
 use Rattle.lfm_core.proofs.lawful.bounds.CallWeights.{room_left, weight_le}
 use Rattle.lfm_core.proofs.steady.frames.Entries.{seat-with_same}
-use Rattle.lfm_core.proofs.lawful.runs.Reached.{begin_keeps, steady_reached}
+use Rattle.lfm_core.proofs.lawful.runs.Reached.{begin_keeps}
 use Rattle.lfm_core.proofs.lawful.bounds.ReleaseFalls.{among_release, steps_left, Within, steps_fall, of_turns}
 use Rattle.lfm_core.proofs.steady.frames.Seated.{seat_of_test}
 use Rattle.lfm_core.proofs.texts.SameSeats.{seats-begin}
@@ -63,11 +64,11 @@ begun c s seats room steps call before after =
 
 -- The laws
 
-bounded : (c : Core) (s more : ℕ) (call : Call) (events : List Event) → IsReached c
+bounded : (c : Core) (s more : ℕ) (call : Call) (events : List Event) → Steady c
     → Within (length (begin c s call).core.seats) (room_left (begin c s call).core) (length (begin c s call).core.seats + more) (seat (begin c s call).core.seats s).point
     → steps_of_call (begin c s call).core s events ≤ length c.seats + more
 bounded c s more call events is within =
-    let steady = steady_reached c is in
+    let steady = is in
     let fits = begin_keeps c steady.ghost_state s call steady.fits in
     let most = weight_le (λ p. 1) steps_left among_release steps_fall (begin c s call).core s events (record { ghost_state = steady.ghost_state; fits = fits }) within.0 in
     let few = within.1 in

@@ -20,7 +20,6 @@ use Rattle.lfm_core.specs.steady.Steady.{Fits}
 use Rattle.lfm_core.proofs.steady.frames.Entries.{seat-with_same, length-with_entry}
 use Rattle.lfm_core.proofs.steady.handoff.Handoffs.{posted_of}
 use Rattle.lfm_core.proofs.steady.frames.Seated.{test_of_seat}
-use Rattle.lfm_core.proofs.lawful.runs.Reached.{steady_reached}
 
 -- seat s is at this point
 record Stands (c : Core) (s : ℕ) (p : Point) : Type 0 where
@@ -97,6 +96,6 @@ tries_alone_hold c s reached is rests apart left =
     let here = stands_put c s y is in (
       λ free. rw (test_of_seat c.seats s is, rests, apart, begun) (exchanges (put c s y) s here free),
       λ above.
-          let facts = posted_facts c (steady_reached c reached).ghost_state (steady_reached c reached).fits above in
+          let facts = posted_facts c reached.ghost_state reached.fits above in
           rw (test_of_seat c.seats s is, rests, apart, begun) (finds_count (put c s y) s here above facts.0 facts.1),
     )

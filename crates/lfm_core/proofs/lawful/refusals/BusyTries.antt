@@ -24,7 +24,6 @@ use Rattle.lfm_core.proofs.lawful.refusals.Beginnings.{begun_awake, begun_asleep
 use Rattle.lfm_core.proofs.lawful.bounds.Leaving.{stepped_by, stepped, own_made, other_made}
 use Rattle.lfm_core.proofs.steady.frames.Seated.{seat_of_test}
 use Rattle.lfm_core.proofs.lawful.refusals.PlainSteps.{tries, plain_at}
-use Rattle.lfm_core.proofs.lawful.runs.Reached.{steady_reached}
 use Rattle.lfm_core.proofs.steady.frames.Entries.{seat-with_same, seat-with_other}
 use Rattle.lfm_core.proofs.steady.frames.Frames.{place_of_claim}
 
@@ -132,7 +131,7 @@ other_leads c t s other =
 pub tries_see_a_holder : TriesSeeAHolder
 tries_see_a_holder c (begins t call) s reached = begin_leads c t s call
 tries_see_a_holder c (makes t) s reached =
-    let steady = steady_reached c reached in
+    let steady = reached in
     elim (cases_eq s t) [
       | inl own ↦ rw own (own_leads c steady.ghost_state t steady.fits)
       | inr other ↦ other_leads c t s other

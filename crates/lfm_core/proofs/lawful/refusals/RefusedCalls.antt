@@ -21,7 +21,6 @@ use Rattle.lfm_protocol.specs.Seats.{entry, with_entry, seat, is_seat}
 use Rattle.lfm_core.specs.steady.Steady.{DepthAt}
 use Rattle.lfm_core.proofs.lawful.refusals.Beginnings.{begun_awake, begun_asleep}
 use Rattle.lfm_core.proofs.steady.frames.Seated.{test_of_seat}
-use Rattle.lfm_core.proofs.lawful.runs.Reached.{steady_reached}
 
 -- A refused call changes nothing
 
@@ -197,7 +196,7 @@ begin_refuses c x Receive refusal cause = receive_refuses x (limits c) refusal c
 
 pub begins_are_refused_for_cause : BeginsAreRefusedForCause
 begins_are_refused_for_cause c s call refusal reached is =
-    let fits = (steady_reached c reached).fits in
+    let fits = reached.fits in
     let x : SeatState = seat c.seats s in
     let test = test_of_seat c.seats s is in (
       λ turn. begin_refused c (seat c.seats s) call refusal (seat c.seats s).point refl (fits.each s).depth (fits.each s).takes (rw test at turn),

@@ -12,14 +12,12 @@ use Rattle.lfm_words.specs.declared.wakes.Wake.{Wake}
 use Rattle.lfm_protocol.specs.After.{same_handoff}
 use Rattle.lfm_protocol.specs.Core.{Core, put}
 use Rattle.lfm_core.specs.steady.Ghost.{Ghost}
-use Rattle.lfm_core.specs.laws.Laws.{IsReached}
 use Rattle.lfm_core.specs.laws.Refusals.{CauseOfStep, ended_by, WasCharged, StepsAreRefusedForCause}
 use Rattle.lfm_protocol.specs.Seats.{seat, wake, is_seat}
-use Rattle.lfm_core.specs.steady.Steady.{Fits}
+use Rattle.lfm_core.specs.steady.Steady.{Fits, Steady}
 use Rattle.lfm_protocol.specs.Step.{made, step}
 use Rattle.lfm_core.proofs.steady.frames.Seated.{test_of_seat}
 use Rattle.lfm_core.proofs.lawful.refusals.PlainSteps.{plain_at, turn_made}
-use Rattle.lfm_core.proofs.lawful.runs.Reached.{steady_reached}
 use Rattle.lfm_core.proofs.lawful.refusals.RefusedCalls.{same_refusal, open_refused}
 use Rattle.lfm_core.proofs.steady.frames.Seated.{seat_of_point}
 
@@ -101,10 +99,10 @@ made_refuses c s _ _ at cause = absurd cause
 cause_moves : (c : Core) (p : Point) (refusal : Refusal) → CauseOfStep c p refusal → p ≢ Rest
 cause_moves c p refusal cause e = rw e at cause
 
-step_refused : (c : Core) (s : ℕ) (refusal : Refusal) → IsReached c → (step c s).turn ≡ Refused (By refusal)
+step_refused : (c : Core) (s : ℕ) (refusal : Refusal) → Steady c → (step c s).turn ≡ Refused (By refusal)
     → CauseOfStep c (seat c.seats s).point refusal × WasCharged refusal (seat c.seats s) × ((step c s).core ≡ put c s (ended_by refusal (seat c.seats s)))
 step_refused c s refusal reached turn =
-    let steady = steady_reached c reached in
+    let steady = reached in
     elim (cases_Bool (is_seat c.seats s)) [
       | inl is ↦ rw is (made_refused c steady.ghost_state s refusal (seat c.seats s).point refl steady.fits (rw is at turn))
       | inr none ↦ let f = rw none at turn in absurd (cc)

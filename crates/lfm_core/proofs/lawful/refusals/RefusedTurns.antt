@@ -17,10 +17,10 @@ use Rattle.lfm_protocol.specs.After.{same_handoff}
 use Rattle.lfm_protocol.specs.Begin as Begin
 use Rattle.lfm_protocol.specs.Begin.{Stepped}
 use Rattle.lfm_protocol.specs.Core.{Core, limits}
-use Rattle.lfm_core.specs.laws.Laws.{IsReached}
 use Rattle.lfm_protocol.specs.Points.{kind, target}
 use Rattle.lfm_core.specs.laws.Refusals.{CauseToRefuse, TurnsAreRefusedForCause}
 use Rattle.lfm_core.specs.laws.Schedules.{begins, makes, is_call}
+use Rattle.lfm_core.specs.steady.Steady.{Steady}
 use Rattle.lfm_protocol.specs.Seats.{seat, wake, is_seat, IsSeat}
 use Rattle.lfm_protocol.specs.Step.{step_of, made, step, begin}
 use Rattle.std.specs.Prelude.{⊤}
@@ -65,14 +65,14 @@ in_call x bounds call _ inside = refl
 no_seat_why : (why : Why) → Refused Why.NoSuchSeat ≡ Refused why → why ≡ Why.NoSuchSeat
 no_seat_why why e = cc
 
-begins_known : (c : Core) (s : ℕ) (call : Call) (why : Why) → IsReached c → IsSeat c.seats s → (begin c s call).turn ≡ Refused why
+begins_known : (c : Core) (s : ℕ) (call : Call) (why : Why) → Steady c → IsSeat c.seats s → (begin c s call).turn ≡ Refused why
     → WhyAtBegin (seat c.seats s).point why → CauseToRefuse c (begins s call) why
 begins_known c s call Why.NoSuchSeat reached is turn asked = absurd asked
 begins_known c s call Why.InCall reached is turn asked = asked
 begins_known c s call Why.Idle reached is turn asked = absurd asked
 begins_known c s call (By refusal) reached is turn asked = (is, (begins_are_refused_for_cause c s call refusal reached is).0 turn)
 
-begins_forth : (c : Core) (s : ℕ) (call : Call) (why : Why) → IsReached c → (begin c s call).turn ≡ Refused why → CauseToRefuse c (begins s call) why
+begins_forth : (c : Core) (s : ℕ) (call : Call) (why : Why) → Steady c → (begin c s call).turn ≡ Refused why → CauseToRefuse c (begins s call) why
 begins_forth c s call why reached turn =
     elim (cases_Bool (is_seat c.seats s)) [
       | inl is ↦
@@ -83,7 +83,7 @@ begins_forth c s call why reached turn =
           rw e none
     ]
 
-begins_back : (c : Core) (s : ℕ) (call : Call) (why : Why) → IsReached c → CauseToRefuse c (begins s call) why → (begin c s call).turn ≡ Refused why
+begins_back : (c : Core) (s : ℕ) (call : Call) (why : Why) → Steady c → CauseToRefuse c (begins s call) why → (begin c s call).turn ≡ Refused why
 begins_back c s call Why.NoSuchSeat reached cause = rw cause refl
 begins_back c s call Why.InCall reached cause =
     rw (test_of_seat c.seats s (seat_of_call c s cause)) (in_call (seat c.seats s) (limits c) call (seat c.seats s).point cause)
@@ -144,14 +144,14 @@ step_why c s why (SendWakeExchange t) at turn =
     step_by_why (SendWakeExchange t) why (made c s).turn (send_by c s t (wake c.wakes t) at refl) turn
 step_why c s why _ at turn = absurd ((plain_at c s _ at refl).made_so why (sym (turn_made c s) ∙ turn))
 
-makes_known : (c : Core) (s : ℕ) (why : Why) → IsReached c → IsSeat c.seats s → (step c s).turn ≡ Refused why
+makes_known : (c : Core) (s : ℕ) (why : Why) → Steady c → IsSeat c.seats s → (step c s).turn ≡ Refused why
     → WhyAtStep (seat c.seats s).point why → CauseToRefuse c (makes s) why
 makes_known c s Why.NoSuchSeat reached is turn asked = absurd asked
 makes_known c s Why.InCall reached is turn asked = absurd asked
 makes_known c s Why.Idle reached is turn asked = (is, asked)
 makes_known c s (By refusal) reached is turn asked = ((steps_are_refused_for_cause c s refusal reached).0 turn).0
 
-makes_forth : (c : Core) (s : ℕ) (why : Why) → IsReached c → (step c s).turn ≡ Refused why → CauseToRefuse c (makes s) why
+makes_forth : (c : Core) (s : ℕ) (why : Why) → Steady c → (step c s).turn ≡ Refused why → CauseToRefuse c (makes s) why
 makes_forth c s why reached turn =
     elim (cases_Bool (is_seat c.seats s)) [
       | inl is ↦
@@ -170,7 +170,7 @@ idle_kind _ outside = absurd (false≢true (sym outside))
 idle_turn : (c : Core) (s t : ℕ) (k : Option Kind) → k ≡ None → (step_of c s t k).turn ≡ Refused Why.Idle
 idle_turn c s t k none = rw none refl
 
-makes_back : (c : Core) (s : ℕ) (why : Why) → IsReached c → CauseToRefuse c (makes s) why → (step c s).turn ≡ Refused why
+makes_back : (c : Core) (s : ℕ) (why : Why) → Steady c → CauseToRefuse c (makes s) why → (step c s).turn ≡ Refused why
 makes_back c s Why.NoSuchSeat reached cause = rw cause refl
 makes_back c s Why.InCall reached cause = absurd cause
 makes_back c s Why.Idle reached cause =

@@ -10,7 +10,7 @@ use Rattle.lfm_core.specs.steady.Outcome.{abstract}
 use Rattle.lfm_core.specs.laws.Schedules.{Event, happens}
 use Rattle.lfm_core.specs.steady.Steady.{Fits}
 use Rattle.lfm_protocol.specs.Step.{start}
-use Rattle.lfm_core.proofs.lawful.runs.Reached.{event_goes, steady_reached}
+use Rattle.lfm_core.proofs.lawful.runs.Reached.{event_goes}
 use Rattle.lfm_core.proofs.lawful.read.Readings.{reads_ghost, reads_once}
 use Rattle.lfm_core.proofs.lawful.runs.SameSteps.{same_goes}
 use Rattle.lfm_core.proofs.steady.Start.{at_start, start_fits, few_seats, small_budget}
@@ -19,7 +19,7 @@ use Rattle.lfm_core.proofs.steady.Start.{at_start, start_fits, few_seats, small_
 
 pub events_are_their_cases : EventsAreTheirCases
 events_are_their_cases c e a b is first later =
-    let steady = steady_reached c is in
+    let steady = is in
     let g : Ghost = steady.ghost_state in
     let goes = event_goes c g e steady.fits in
     same_goes (abstract g) (abstract goes.to) a b (reads_once c (abstract g) a (reads_ghost c g steady.fits) first)

@@ -1,5 +1,5 @@
 -- What lines do to a state, a schedule of events does, and with the same answers.
-use Rattle.std.proofs.Common.{◌≡◌, ℕ, zero, suc, Bool, true, false, ◌+◌, ◌&&◌, nat_eq, nat_lt, List, [], ◌∷◌, ◌++◌, cond, if◌then◌else◌, refl, sym, ap, ◌∙◌, inl, inr}
+use Rattle.std.proofs.Common.{◌≡◌, ℕ, zero, suc, Bool, true, false, ◌+◌, ◌&&◌, nat_eq, nat_lt, List, [], ◌∷◌, ◌++◌, if◌then◌else◌, refl, sym, ap, ◌∙◌, inl, inr}
 use Rattle.std.proofs.lemmas.Bool.{cases_Bool}
 use Rattle.std.proofs.lemmas.List.{append_assoc, append-nil}
 use Rattle.lfm_protocol.specs.declared.answers.Call.{Call}
@@ -19,26 +19,12 @@ use Rattle.lfm_protocol.specs.Begin as Begin
 use Rattle.lfm_protocol.specs.Begin.{Stepped}
 use Rattle.lfm_protocol.specs.Core.{Core, limits}
 use Rattle.lfm_core.specs.laws.Events.{answered_by}
-use Rattle.lfm_core.specs.laws.Laws.{LinesAreEvents}
-use Rattle.lfm_core.specs.text.Lines.{steps, act_moved, line_moved, lines_core}
+use Rattle.lfm_core.specs.laws.LineEvents.{events_of_steps, events_of_act, events_of_line, events_of_lines, last_turn, last_turns, answer_record_of_lines, LinesAreEvents}
+use Rattle.lfm_core.specs.text.Lines.{steps, act_moved, line_moved, lines_core, lines_turns}
 use Rattle.lfm_protocol.specs.Turns.{is_open, longest_call}
-use Rattle.lfm_core.specs.laws.Schedules.{Event, begins, makes, happens, run_of, answered_in, answer_record, answer_record_of_lines}
+use Rattle.lfm_core.specs.laws.Schedules.{Event, happens, run_of, answered_in, answer_record}
 use Rattle.lfm_protocol.specs.Seats.{seat, is_seat}
 use Rattle.lfm_protocol.specs.Step.{begin, step}
-
--- the steps that are made until the call ends
-abbrev pub events_of_steps : ℕ → Core → ℕ → List Event
-events_of_steps zero c s = []
-events_of_steps (suc most) c s = makes s ∷ cond (is_open (step c s).turn) (events_of_steps most (step c s).core s) []
-
-abbrev pub events_of_act : Core → ℕ → Act → List Event
-events_of_act c s (Begin call) = begins s call ∷ []
-events_of_act c s (Steps most) = events_of_steps most c s
-events_of_act c s ToEnd = events_of_steps (longest_call c) c s
-
-abbrev pub events_of_lines : Core → List Line → List Event
-events_of_lines c [] = []
-events_of_lines c (line ∷ lines) = events_of_act c line.seat line.act ++ events_of_lines (line_moved c line).core lines
 
 pub run_of-append : (c : Core) (early late : List Event) → run_of c (early ++ late) ≡ run_of (run_of c early) late
 run_of-append c [] late = refl
@@ -57,14 +43,43 @@ act_is_events c s (Begin call) = refl
 act_is_events c s (Steps most) = steps_are_events most c s
 act_is_events c s ToEnd = steps_are_events (longest_call c) c s
 
+line_is_events : (c : Core) (line : Line) → (line_moved c line).core ≡ run_of c (events_of_line c line)
+line_is_events c line = act_is_events c line.seat line.act
+
 lines_are_their_events : (c : Core) (lines : List Line) → lines_core c lines ≡ run_of c (events_of_lines c lines)
 lines_are_their_events c [] = refl
 lines_are_their_events c (line ∷ lines) =
-    let now : List Event = events_of_act c line.seat line.act in
-    let later : List Event = events_of_lines (line_moved c line).core lines in
+    let now : List Event = events_of_line c line in
     lines_are_their_events (line_moved c line).core lines
-    ∙ ap (λ d. run_of d later) (act_is_events c line.seat line.act)
-    ∙ sym (run_of-append c now later)
+    ∙ ap (λ d. run_of d (events_of_lines d lines)) (line_is_events c line)
+    ∙ sym (run_of-append c now (events_of_lines (run_of c now) lines))
+
+-- The turns
+
+open_turn : (turn : Turn) → is_open turn ≡ true → Open ≡ turn
+open_turn Open on = refl
+open_turn (Ended answer) on = absurd (cc)
+open_turn (Refused why) on = absurd (cc)
+
+steps_turn : (most : ℕ) (c : Core) (s : ℕ) (before : Turn) → is_open before ≡ true → (steps most c s).turn ≡ last_turn c (events_of_steps most c s) before
+steps_turn zero c s before on = open_turn before on
+steps_turn (suc most) c s before on =
+    elim (cases_Bool (is_open (step c s).turn)) [
+      | inl still ↦ rw still (steps_turn most (step c s).core s (step c s).turn still)
+      | inr closed ↦ rw closed refl
+    ]
+
+act_turn : (c : Core) (s : ℕ) (act : Act) → (act_moved c s act).turn ≡ last_turn c (events_of_act c s act) Open
+act_turn c s (Begin call) = refl
+act_turn c s (Steps most) = steps_turn most c s Open refl
+act_turn c s ToEnd = steps_turn (longest_call c) c s Open refl
+
+lines_turn : (c : Core) (lines : List Line) → lines_turns c lines ≡ last_turns c lines
+lines_turn c [] = refl
+lines_turn c (line ∷ lines) =
+    ap (λ turns. (line_moved c line).turn ∷ turns) (lines_turn (line_moved c line).core lines)
+    ∙ ap (λ d. (line_moved c line).turn ∷ last_turns d lines) (line_is_events c line)
+    ∙ ap (λ turn. turn ∷ last_turns (run_of c (events_of_line c line)) lines) (act_turn c line.seat line.act)
 
 -- The answers
 
@@ -137,13 +152,13 @@ act_answers c s ToEnd = steps_answer (longest_call c) c s
 lines_answer : (c : Core) (lines : List Line) → answer_record_of_lines c lines ≡ answer_record c (events_of_lines c lines)
 lines_answer c [] = refl
 lines_answer c (line ∷ lines) =
-    let now : List Event = events_of_act c line.seat line.act in
+    let now : List Event = events_of_line c line in
     let d : Core = (line_moved c line).core in
-    let later : List Event = events_of_lines d lines in
     ap (λ l. l ++ answer_record_of_lines d lines) (act_answers c line.seat line.act)
     ∙ ap (λ l. answer_record c now ++ l) (lines_answer d lines)
-    ∙ ap (λ e. answer_record c now ++ answer_record e later) (act_is_events c line.seat line.act)
-    ∙ sym (answers-append c now later)
+    ∙ ap (λ e. answer_record c now ++ answer_record e (events_of_lines e lines)) (line_is_events c line)
+    ∙ sym (answers-append c now (events_of_lines (run_of c now) lines))
 
 pub lines_are_events : LinesAreEvents
-lines_are_events c lines = (events_of_lines c lines, lines_are_their_events c lines, lines_answer c lines)
+lines_are_events c lines =
+    record { core = lines_are_their_events c lines; turns = lines_turn c lines; answers = lines_answer c lines }

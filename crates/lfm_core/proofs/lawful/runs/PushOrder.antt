@@ -54,7 +54,7 @@ queue_goes c g events fits =
     (omega (arith, fits.words.parts)) (omega (arith, run.fits.words.parts)))
 
 pub queue_is_in_push_order : QueueIsInPushOrder
-queue_is_in_push_order c events is = let steady = steady_reached c is in queue_goes c steady.ghost_state events steady.fits
+queue_is_in_push_order c events is = let steady = is in queue_goes c steady.ghost_state events steady.fits
 
 -- The stamps
 
@@ -73,7 +73,7 @@ stamps_go g h pushes pops answers on k d within =
 
 pub stamps_are_consecutive : StampsAreConsecutive
 stamps_are_consecutive c events is k d within =
-    let steady = steady_reached c is in
+    let steady = is in
     let run = run_goes c steady.ghost_state events steady.fits in
     let stamp = stamps_go steady.ghost_state run.to (push_record c events) (popped_record c events) (answer_record c events) run.history k d within in
     omega (arith, stamp, steady.fits.words.stamp)

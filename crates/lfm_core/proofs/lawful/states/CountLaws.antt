@@ -8,7 +8,6 @@ use Rattle.lfm_core.specs.steady.Outcome.{abstract, abstract_place}
 use Rattle.lfm_core.specs.laws.Reading.{Reads}
 use Rattle.lfm_core.specs.steady.Steady.{Steady}
 use Rattle.lfm_core.proofs.lawful.read.CountRead.{zero_count_is_free, free_counts_zero}
-use Rattle.lfm_core.proofs.lawful.runs.Reached.{steady_reached}
 use Rattle.lfm_core.proofs.lawful.read.Readings.{reads_ghost, reads_once}
 use Rattle.lfm_core.proofs.lawful.read.PlacesRead.{place_told}
 
@@ -18,11 +17,11 @@ place_of_reading c a steady reads = (reads_once c (abstract steady.ghost_state) 
 
 pub count_is_zero_where_free : CountIsZeroWhereFree
 count_is_zero_where_free c a is reads =
-    let steady = steady_reached c is in
+    let steady = is in
     let same = place_of_reading c a steady reads in
     (λ none. same ∙ zero_count_is_free c steady.ghost_state steady.fits none, λ here. free_counts_zero c steady.ghost_state steady.fits (sym same ∙ here))
 
 pub places_are_read : PlacesAreRead
 places_are_read c a is reads =
-    let steady = steady_reached c is in
+    let steady = is in
     place_told c steady.ghost_state steady.fits ∙ ap printed (sym (place_of_reading c a steady reads))

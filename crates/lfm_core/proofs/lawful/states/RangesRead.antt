@@ -14,7 +14,6 @@ use Rattle.lfm_core.specs.steady.Steady.{StandsAt, DepthOfPusher, DepthAt, own_u
 use Rattle.lfm_core.specs.steady.Views.{claim_at}
 use Rattle.lfm_core.proofs.lawful.read.ClaimsRead.{held_self, self_claims}
 use Rattle.lfm_core.proofs.lawful.read.CountRead.{again_read}
-use Rattle.lfm_core.proofs.lawful.runs.Reached.{steady_reached}
 use Rattle.lfm_core.proofs.steady.Room.{own_unit-le, steady_has_room}
 use Rattle.lfm_core.proofs.steady.frames.Seated.{seat_of_point}
 use Rattle.lfm_core.proofs.steady.frames.Sums.{sum_add, sum_bound, sum_bound_less}
@@ -109,7 +108,7 @@ depth_most depth _ fits = omega (arith, fits)
 
 pub numbers_stay_in_range : NumbersStayInRange
 numbers_stay_in_range c is =
-    let steady = steady_reached c is in
+    let steady = is in
     let g : Ghost = steady.ghost_state in
     let fits = steady.fits in
     record {
@@ -121,4 +120,4 @@ numbers_stay_in_range c is =
     }
 
 pub steps_have_room : StepsHaveRoom
-steps_have_room c s is seat_is = steady_has_room c s (steady_reached c is) seat_is
+steps_have_room c s is seat_is = steady_has_room c s is seat_is

@@ -15,7 +15,6 @@ use Rattle.lfm_core.specs.steady.Views.{grant_at, is_queued, is_some, is_entered
 use Rattle.lfm_core.specs.laws.Watched.{Waits}
 use Rattle.lfm_core.proofs.lawful.read.LawfulRead.{lawful_read}
 use Rattle.lfm_core.proofs.lawful.read.QueueRead.{waits_told}
-use Rattle.lfm_core.proofs.lawful.runs.Reached.{steady_reached}
 
 -- where a sleeper finds its grant
 abbrev IsReachable : Core → ℕ → Type 0
@@ -51,4 +50,4 @@ sleeper_reached c g t Sleeper.Locker fits at =
 sleeper_reached c g t Sleeper.Waiter fits at = waiter_reached c g t (grant_at g.place t) fits (rw at at (fits.each t).woken)
 
 pub sleepers_are_reachable : SleepersAreReachable
-sleepers_are_reachable c t since is at = let steady = steady_reached c is in sleeper_reached c steady.ghost_state t since steady.fits at
+sleepers_are_reachable c t since is at = let steady = is in sleeper_reached c steady.ghost_state t since steady.fits at

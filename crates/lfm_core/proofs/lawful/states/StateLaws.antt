@@ -1,4 +1,4 @@
--- The laws of one state that a schedule reaches, each from the ghost that fits it.
+-- The laws of one steady state, each from the ghost that fits it.
 use Rattle.std.proofs.Common.{◌≡◌, ◌≢◌, ◌⊎◌, ℕ, zero, suc, Bool, true, false, ◌<◌, refl, sym, ap, ◌∙◌, inl, inr, arith}
 use Rattle.std.proofs.lemmas.Bool.{cases_eq, cases_lt, eq-eqb, ne_eqb, and_from, false≢true}
 use Rattle.lfm_protocol.specs.declared.points.Carrier.{Carrier}
@@ -20,7 +20,6 @@ use Rattle.lfm_core.specs.steady.Steady.{IsSeen, HasQueue, StandsAsCarrier, Know
 use Rattle.lfm_core.specs.steady.Views.{by_depth, claim_at, claim, held_by}
 use Rattle.lfm_core.specs.laws.Watched.{Watches}
 use Rattle.lfm_core.proofs.lawful.read.LawfulRead.{lawful_read}
-use Rattle.lfm_core.proofs.lawful.runs.Reached.{steady_reached}
 use Rattle.lfm_core.proofs.lawful.read.WatchedRead.{head_some, watched_read}
 use Rattle.lfm_core.proofs.steady.queue.Serving.{queue_of_queued}
 
@@ -28,10 +27,10 @@ pub steady_is_lawful : (c : Core) → Steady c → Lawful c
 steady_is_lawful c steady = record { reading = abstract steady.ghost_state; lawful = lawful_read c steady.ghost_state steady.fits }
 
 pub states_are_lawful : StatesAreLawful
-states_are_lawful c is = steady_is_lawful c (steady_reached c is)
+states_are_lawful c is = steady_is_lawful c is
 
 pub handoffs_are_watched : HandoffsAreWatched
-handoffs_are_watched c is = let steady = steady_reached c is in watched_read c steady.ghost_state steady.fits
+handoffs_are_watched c is = let steady = is in watched_read c steady.ghost_state steady.fits
 
 -- Without an open call
 
@@ -118,7 +117,7 @@ quiet_count c g (serving s) fits quiet place some = absurd (not_carried c g s _ 
 
 pub quiescent_states_rest : QuiescentStatesRest
 quiescent_states_rest c is quiet =
-    let steady = steady_reached c is in
+    let steady = is in
     let g : Ghost = steady.ghost_state in
     (quiet_posts c g steady.fits quiet, quiet_count c g g.place steady.fits quiet refl)
 
@@ -133,7 +132,7 @@ carrier_knows c g s Carrier.Sender fits won stands knows = knows
 
 pub takes_find_a_record : TakesFindARecord
 takes_find_a_record c s carrier is at won =
-    let steady = steady_reached c is in
+    let steady = is in
     let g : Ghost = steady.ghost_state in
     let fits = steady.fits in
     let knows = rw at at (fits.each s).knows in
@@ -161,6 +160,6 @@ sees_change push seen is fails =
 
 pub failed_pushes_see_change : FailedPushesSeeChange
 failed_pushes_see_change c s pusher seen is at fails =
-    let steady = steady_reached c is in
+    let steady = is in
     let knows = rw at at (steady.fits.each s).knows in
     sees_change c.push seen knows.1 fails

@@ -20,7 +20,6 @@ use Rattle.lfm_core.specs.laws.Laws.{WonPostsHaveARecord}
 use Rattle.lfm_protocol.specs.Seats.{seat, wake}
 use Rattle.lfm_core.specs.steady.Steady.{HasQueue, AwaitsAsPusher, PushedFits, Fits}
 use Rattle.lfm_core.specs.steady.Views.{is_queued}
-use Rattle.lfm_core.proofs.lawful.runs.Reached.{steady_reached}
 use Rattle.lfm_core.proofs.lawful.read.WatchedRead.{head_posted, carried_posted}
 use Rattle.lfm_core.proofs.steady.handoff.Handoffs.{posted_of, same_handoff_true}
 use Rattle.lfm_core.proofs.steady.frames.Seated.{seat_of_point}
@@ -108,5 +107,5 @@ wins_at c g s _ fits at takes = absurd (not_taken _ refl takes)
 
 pub won_posts_have_a_record : WonPostsHaveARecord
 won_posts_have_a_record c s is takes =
-    let steady = steady_reached c is in
+    let steady = is in
     wins_at c steady.ghost_state s (seat c.seats s).point steady.fits refl takes

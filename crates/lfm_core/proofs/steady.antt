@@ -6,7 +6,6 @@ pub mod handoff
 pub mod grant
 pub mod points
 pub mod Begins
-pub mod MadeSteady
 pub mod Room
 pub mod Start
 pub mod StepsKept

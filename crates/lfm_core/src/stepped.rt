@@ -12,7 +12,7 @@ ghost use Rattle.lfm_protocol.specs.Step.{begin, step, start};
 ghost use Rattle.lfm_words.specs.Popped.{pair_of};
 
 use lfm_model::{NewFault, Place, SeatNo};
-use lfm_protocol::{Call, Limits, Machine, Turn, Why};
+use lfm_protocol::{Call, Limits, Machine, Turn};
 use lfm_words::{Handoff, Record};
 use std::alloc::Global;
 use std::marker::Model;
@@ -71,10 +71,7 @@ impl State {
         ensures core { self.new ≡ (step self.old s).core }
         ensures turn { result ≡ (step self.old s).turn }
     {
-        if !self.machine.is_seat(s) {
-            return Turn::Refused(Why::NoSuchSeat);
-        }
-        self.machine.make(s)
+        self.machine.step(s)
     }
 }
 
@@ -135,7 +132,7 @@ impl State {
     }
 
     /// How many times seat s holds the mutex: 0 to 65,535. A seat that isn't there reads as one at rest that did nothing.
-    pub fn depth(&self, s: u64) -> u32
+    pub fn depth(&self, s: u64) -> u64
         ensures { result ≡ (seat self.now.seats s).depth }
     {
         self.machine.depth(s)

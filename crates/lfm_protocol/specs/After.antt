@@ -33,9 +33,11 @@ use Rattle.lfm_protocol.specs.Stores.{expected_handoff}
 abbrev pub idle : SeatState → Stepped
 idle x = record { seat = x; turn = Refused Idle }
 
+-- whether an exchange finds the link that it expects
 abbrev pub same_link : Link → Link → Bool
 same_link a b = nat_eq a.stamp b.stamp && nat_eq a.next b.next
 
+-- whether an exchange finds the handoff number that it expects
 abbrev pub same_handoff : Handoff → Handoff → Bool
 same_handoff a b = nat_eq a.seat b.seat && nat_eq a.post b.post
 
@@ -116,6 +118,7 @@ drops_oldest_at (EnterOwnerStore Entrant.Locker (Queued stamp)) = true
 drops_oldest_at (GrantWakeStore carrier oldest) = true
 drops_oldest_at _ = false
 
+-- the same of a seat
 abbrev pub drops_oldest : SeatState → Bool
 drops_oldest x = drops_oldest_at x.point
 
@@ -123,8 +126,9 @@ drops_oldest x = drops_oldest_at x.point
 abbrev pub how_granted : ℕ → How
 how_granted stamp = if nat_eq stamp 0 then How.Free else Queued stamp
 
--- The kinds
+-- The kinds: the seat after the step that is named. Each has a form over the point, and at a point of another kind it is idle.
 
+-- the count word was exchanged from 0 to 1, or another count was found
 abbrev pub after_count_exchange_at : SeatState → ℕ → Point → Stepped
 after_count_exchange_at x found TryCountExchange =
     goes_on x (if nat_eq found 0 then EnterOwnerStore Trier How.Free else TryOwnerLoad)
@@ -133,6 +137,7 @@ after_count_exchange_at x found _ = idle x
 abbrev pub after_count_exchange : SeatState → ℕ → Stepped
 after_count_exchange x found = after_count_exchange_at x found x.point
 
+-- 1 was added to the count word, which held what was found
 abbrev pub after_count_add_at : SeatState → ℕ → Point → Stepped
 after_count_add_at x found LockCountAdd =
     goes_on x (if nat_eq found 0 then EnterOwnerStore Entrant.Locker How.Free else LockOwnerLoad)
@@ -144,6 +149,7 @@ after_count_add_at x found _ = idle x
 abbrev pub after_count_add : SeatState → ℕ → Stepped
 after_count_add x found = after_count_add_at x found x.point
 
+-- 1 was subtracted from the count word, which held what was found; oldest is the first record of the pop list
 abbrev pub after_count_subtract_at : SeatState → ℕ → ℕ → Option Record → Point → Stepped
 after_count_subtract_at x s found oldest LockCountSubtract =
     record { seat = deepens x; turn = Ended (Answer.Asked (Asked.Again (x.depth + 1))) }
@@ -154,6 +160,7 @@ after_count_subtract_at x s found oldest _ = idle x
 abbrev pub after_count_subtract : SeatState → ℕ → ℕ → Option Record → Stepped
 after_count_subtract x s found oldest = after_count_subtract_at x s found oldest x.point
 
+-- the owner word was loaded
 abbrev pub after_owner_load_at : SeatState → ℕ → ℕ → Point → Stepped
 after_owner_load_at x s found LockOwnerLoad =
     goes_on x (if nat_eq found s then LockCountSubtract else PushLoad Pusher.Locker)
@@ -169,6 +176,7 @@ after_owner_load_at x s found _ = idle x
 abbrev pub after_owner_load : SeatState → ℕ → ℕ → Stepped
 after_owner_load x s found = after_owner_load_at x s found x.point
 
+-- the owner word was stored
 abbrev pub after_owner_store_at : SeatState → Point → Stepped
 after_owner_store_at x (EnterOwnerStore entrant how) =
     record { seat = record x { point = Rest; depth = 1 }; turn = Ended (held entrant how) }
@@ -179,6 +187,7 @@ after_owner_store_at x _ = idle x
 abbrev pub after_owner_store : SeatState → Stepped
 after_owner_store x = after_owner_store_at x x.point
 
+-- the push word was loaded
 abbrev pub after_push_load_at : SeatState → Link → Point → Stepped
 after_push_load_at x found (PushLoad pusher) = goes_on x (LinkStore pusher found)
 after_push_load_at x found (SendPushLook t seen) =
@@ -190,6 +199,7 @@ after_push_load_at x found _ = idle x
 abbrev pub after_push_load : SeatState → Link → Stepped
 after_push_load x found = after_push_load_at x found x.point
 
+-- the push word was exchanged, or was found to differ
 abbrev pub after_push_exchange_at : SeatState → Link → Point → Stepped
 after_push_exchange_at x found (PushExchange pusher seen) =
     goes_on x (if same_link found seen then PushedHandoffLoad pusher else LinkStore pusher found)
@@ -198,6 +208,7 @@ after_push_exchange_at x found _ = idle x
 abbrev pub after_push_exchange : SeatState → Link → Stepped
 after_push_exchange x found = after_push_exchange_at x found x.point
 
+-- the head of the push word was cleared
 abbrev pub after_clear_head_at : SeatState → Link → Point → Stepped
 after_clear_head_at x found (TakeClearHead carrier) = goes_on x (cleared carrier found.next)
 after_clear_head_at x found _ = idle x
@@ -209,6 +220,7 @@ after_clear_head x found = after_clear_head_at x found x.point
 abbrev pub loaded : ℕ → Link → Record
 loaded t found = record { seat = t; stamp = found.stamp }
 
+-- the link word of the target was loaded
 abbrev pub after_link_load_at : SeatState → ℕ → Link → Point → Stepped
 after_link_load_at x s found (TakeLinkLoad carrier next) =
     goes_on x (if nat_eq found.next 0 then serves carrier s (loaded next found) else TakeLinkLoad carrier found.next)
@@ -217,6 +229,7 @@ after_link_load_at x s found _ = idle x
 abbrev pub after_link_load : SeatState → ℕ → Link → Stepped
 after_link_load x s found = after_link_load_at x s found x.point
 
+-- the link word of the target was stored
 abbrev pub after_link_store_at : SeatState → Point → Stepped
 after_link_store_at x (LinkStore pusher seen) = goes_on x (PushExchange pusher seen)
 after_link_store_at x _ = idle x
@@ -224,6 +237,7 @@ after_link_store_at x _ = idle x
 abbrev pub after_link_store : SeatState → Stepped
 after_link_store x = after_link_store_at x x.point
 
+-- the handoff word was loaded
 abbrev pub after_handoff_load_at : SeatState → Handoff → Point → Stepped
 after_handoff_load_at x found (PushedHandoffLoad pusher) =
     if nat_eq found.seat 0 then pushed x pusher else goes_on x (looks pusher found)
@@ -234,6 +248,7 @@ after_handoff_load_at x found _ = idle x
 abbrev pub after_handoff_load : SeatState → Handoff → Stepped
 after_handoff_load x found = after_handoff_load_at x found x.point
 
+-- the handoff word was stored
 abbrev pub after_handoff_store_at : SeatState → Point → Stepped
 after_handoff_store_at x (ReleaseHandoffStore releaser) =
     record { seat = record x { point = ReleasePushLook releaser; posts = x.posts + 1 }; turn = Open }
@@ -242,6 +257,7 @@ after_handoff_store_at x _ = idle x
 abbrev pub after_handoff_store : SeatState → Stepped
 after_handoff_store x = after_handoff_store_at x x.point
 
+-- the handoff word was exchanged to 0, or was found to differ; oldest is the first record of the pop list
 abbrev pub after_handoff_exchange_at : SeatState → ℕ → Bool → Option Record → Point → Stepped
 after_handoff_exchange_at x s succeeded oldest (PushedHandoffExchange pusher seen) =
     if succeeded then goes_on x (take (carrier_of pusher) s oldest) else pushed x pusher
@@ -260,6 +276,7 @@ abbrev pub receives : SeatState → Sleeper → Wake → Stepped
 receives x sleeper (Grant stamp) = goes_on x (ReceiveWakeStore stamp)
 receives x sleeper _ = record { seat = record x { point = Asleep sleeper }; turn = Ended (Got None) }
 
+-- the wake word of the seat was loaded
 abbrev pub after_wake_load_at : SeatState → Wake → Point → Stepped
 after_wake_load_at x found (ReceiveWakeLoad sleeper) = receives x sleeper found
 after_wake_load_at x found _ = idle x
@@ -267,6 +284,7 @@ after_wake_load_at x found _ = idle x
 abbrev pub after_wake_load : SeatState → Wake → Stepped
 after_wake_load x found = after_wake_load_at x found x.point
 
+-- the wake word of the target was stored
 abbrev pub after_wake_store_at : SeatState → Point → Stepped
 after_wake_store_at x (GrantWakeStore carrier oldest) = granted x carrier oldest
 after_wake_store_at x (SendWakeStore t) = ends x Sent
@@ -283,6 +301,7 @@ abbrev pub claims : SeatState → ℕ → Wake → Stepped
 claims x t Wake.Waiting = goes_on x (SendCountAdd t)
 claims x t _ = record { seat = record x { point = Rest }; turn = Refused (By NotWaiting) }
 
+-- the wake word of the target was exchanged from WAITING to CLAIMED, or was found to differ
 abbrev pub after_wake_exchange_at : SeatState → Wake → Point → Stepped
 after_wake_exchange_at x found (SendWakeExchange t) = claims x t found
 after_wake_exchange_at x found _ = idle x

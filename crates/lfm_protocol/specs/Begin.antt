@@ -16,7 +16,8 @@ use Rattle.lfm_protocol.specs.declared.points.Sleeper.{Sleeper}
 use Rattle.lfm_protocol.specs.declared.limits.Limits.{Limits}
 use Rattle.lfm_protocol.specs.declared.seats.SeatState.{SeatState}
 
--- a seat, and what the turn that led to it answered
+-- seat: the data of a seat after a turn
+-- turn: what the turn answered
 pub record Stepped : Type 0 where
   pub seat : SeatState
   pub turn : Turn
@@ -43,13 +44,14 @@ charges x budget p =
     }
     else refuses x Refusal.Spent
 
--- a call that comes to hold or deepens the hold
+-- a lock or a try_lock, whose first point this is: refused at the greatest depth, 65,535; charged at depth 0 alone
 abbrev pub begin_entry : SeatState → ℕ → Point → Stepped
 begin_entry x budget p =
     if nat_lt 65534 x.depth
     then refuses x Refusal.DepthFull
     else (if nat_eq x.depth 0 then charges x budget p else goes_on x p)
 
+-- an unlock: at a depth above 1 the depth falls and the call has ended
 abbrev pub begin_unlock : SeatState → Stepped
 begin_unlock x =
     if nat_eq x.depth 0
@@ -61,6 +63,7 @@ begin_unlock x =
       turn = Ended (Unlocked (Still (x.depth - 1)));
     })
 
+-- a start_wait: at depth 1 alone, and charged
 abbrev pub begin_wait : SeatState → ℕ → Stepped
 begin_wait x budget =
     if nat_eq x.depth 0
@@ -69,6 +72,7 @@ begin_wait x budget =
     then refuses x Refusal.Nested
     else charges x budget (ReleaseOwnerStore Waiter))
 
+-- a send to seat t, of so many seats: not charged
 abbrev pub begin_send : SeatState → ℕ → ℕ → Stepped
 begin_send x seats t =
     if nat_lt 0 t && nat_lt t (seats + 1) then goes_on x (SendWakeExchange t) else refuses x Refusal.NoSuchSeat
@@ -87,10 +91,12 @@ abbrev pub begin_asleep : SeatState → Sleeper → Call → Stepped
 begin_asleep x sleeper Receive = goes_on x (ReceiveWakeLoad sleeper)
 begin_asleep x sleeper _ = refuses x Refusal.Asleep
 
+-- a call of a seat at this point
 abbrev pub begin_at : SeatState → Limits → Call → Point → Stepped
 begin_at x limits call Rest = begin_awake x limits call
 begin_at x limits call (Asleep sleeper) = begin_asleep x sleeper call
 begin_at x limits call _ = record { seat = x; turn = Refused InCall }
 
+-- a call of a seat
 abbrev pub begin : SeatState → Limits → Call → Stepped
 begin x limits call = begin_at x limits call x.point

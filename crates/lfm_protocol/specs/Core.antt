@@ -1,4 +1,4 @@
--- The mutex as data: the words, the pop list and the seats.
+-- The mutex as data: the words, the pop list and the seats. What a step does to them is in Step.
 use Rattle.std.specs.Prelude.{ℕ, Bool, List, ◌∷◌, drop, length, if◌then◌else◌}
 use Rattle.lfm_protocol.specs.declared.answers.Turn.{Turn}
 use Rattle.lfm_protocol.specs.declared.answers.Turn.TheVariants.{Refused}
@@ -12,6 +12,13 @@ use Rattle.lfm_words.specs.declared.wakes.Wake.{Wake}
 use Rattle.lfm_protocol.specs.Begin.{Stepped}
 use Rattle.lfm_protocol.specs.Seats.{with_entry}
 
+-- budget: how many takes each seat may charge
+-- count: the count word, how many hold the mutex or want it
+-- owner: the owner word, the number of the owning seat or 0
+-- handoff: the handoff word, the posted number or that of seat 0
+-- push: the push word, the newest stamp and the newest seat of the push list
+-- popped: the pop list, oldest first
+-- links, wakes, seats: the link word, the wake word and the data of each seat, that of seat 1 first
 pub record Core : Type 0 where
   pub budget : ℕ
   pub count : ℕ
@@ -23,7 +30,8 @@ pub record Core : Type 0 where
   pub wakes : List Wake
   pub seats : List SeatState
 
--- a state, and what the turn that led to it answered
+-- core: the mutex after a turn
+-- turn: what the turn answered
 pub record Moved : Type 0 where
   pub core : Core
   pub turn : Turn

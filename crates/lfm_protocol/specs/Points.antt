@@ -1,4 +1,4 @@
--- The table of points: the kind of each step, and the word that it touches.
+-- The table of points: the kind of each step, the seat whose word it touches, and the word of each kind.
 use Rattle.std.specs.Prelude.{ℕ, Option, Some, None}
 use Rattle.lfm_protocol.specs.declared.kinds.Kind.{Kind}
 use Rattle.lfm_protocol.specs.declared.kinds.Kind.TheVariants.{CountExchange, CountAdd, CountSubtract, OwnerLoad, OwnerStore, ClearHead, LinkLoad, HandoffLoad, HandoffStore, HandoffExchange, WakeLoad, WakeStore, WakeExchange}

@@ -26,12 +26,12 @@ chain_of (suc most) links t =
 abbrev pub chain : List Link → ℕ → List Record
 chain links t = chain_of (length links) links t
 
--- the seat whose link a carrier loads next; 0 where it walks no list
+-- the seat whose link a carrier at this point loads next; 0 where it loads none
 abbrev pub unwalked_at : Point → ℕ
 unwalked_at (TakeLinkLoad carrier next) = next
 unwalked_at _ = 0
 
--- the same of the first seat that walks a cleared list
+-- the same of the first seat that loads a link next; 0 where none does
 abbrev pub unwalked : List SeatState → ℕ
 unwalked [] = 0
 unwalked (x ∷ seats) = if nat_eq (unwalked_at x.point) 0 then unwalked seats else unwalked_at x.point

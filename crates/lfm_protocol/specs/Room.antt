@@ -33,6 +33,10 @@ PopFits popped seats (Some LinkLoad) = popped < seats
 PopFits popped seats _ = Unit {0}
 
 -- what the next step of seat s needs
+-- numbers: its own numbers fit
+-- counts: the count fits
+-- pops: the pop list has room for a record that joins it
+-- touches: the seat whose word is touched is there
 pub record HasRoom (c : Core) (s : ℕ) : Type 0 where
   pub numbers : HasNumbers (seat c.seats s) (seat c.seats s).point
   pub counts : CountFits c.count (kind (seat c.seats s).point)

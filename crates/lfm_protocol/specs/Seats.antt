@@ -17,7 +17,7 @@ unfoldable pub with_entry : {A : Type 0} → List A → ℕ → A → List A
 with_entry entries zero x = entries
 with_entry entries (suc n) x = slice_set entries n x
 
--- no seat: what is read at a number that no seat has
+-- a seat at the start, and what is read at a number that no seat has
 abbrev pub absent : SeatState
 absent = record { depth = 0; takes = 0; posts = 0; point = Rest }
 
@@ -33,15 +33,16 @@ unposted = record { seat = 0; post = 0 }
 abbrev pub seat : List SeatState → ℕ → SeatState
 seat seats s = entry absent seats s
 
--- its link word
+-- the link word of the seat with this number
 abbrev pub link : List Link → ℕ → Link
 link links s = entry no_link links s
 
--- its wake word
+-- the wake word of the seat with this number
 abbrev pub wake : List Wake → ℕ → Wake
 wake wakes s = entry Quiet wakes s
 
 -- a seat has this number
+-- above, within: the number is 1 to the number of seats
 pub record IsSeat (seats : List SeatState) (s : ℕ) : Type 0 where
   pub above : 0 < s
   pub within : s ≤ length seats

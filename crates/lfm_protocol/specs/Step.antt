@@ -14,6 +14,8 @@ use Rattle.lfm_words.specs.Popped.{oldest}
 use Rattle.lfm_protocol.specs.Seats.{seat, link, wake, absent, no_link, unposted, is_seat}
 use Rattle.lfm_protocol.specs.Stores.{stored_owner, stored_link, expected_push, exchanged_push, stored_handoff, expected_handoff, stored_wake}
 
+-- The kinds: one step of seat s, t being the seat whose link or wake word is touched
+
 abbrev pub count_exchange : Core → ℕ → Moved
 count_exchange c s =
     moves (record c { count = if nat_eq c.count 0 then 1 else c.count }) s (after_count_exchange (seat c.seats s) c.count)

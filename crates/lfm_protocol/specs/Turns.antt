@@ -1,4 +1,4 @@
--- What a turn tells of its call, and how many steps a call may make.
+-- Whether a turn leaves its call open or refuses it, and how many steps a call may make.
 use Rattle.std.specs.Prelude.{ℕ, Bool, true, false, ◌+◌, length}
 use Rattle.lfm_protocol.specs.declared.answers.Turn.{Turn}
 use Rattle.lfm_protocol.specs.declared.answers.Turn.TheVariants.{Open, Ended, Refused}
@@ -16,6 +16,6 @@ is_refused Open = false
 is_refused (Ended answer) = false
 is_refused (Refused why) = true
 
--- more steps than any call makes that runs alone: the longest walks over the records of all seats
+-- as many steps as a call may need while no other seat makes a step: the longest follows the links of all seats
 abbrev pub longest_call : Core → ℕ
 longest_call c = length c.seats + 16

@@ -1,5 +1,6 @@
-//! How each kind of atomic step moves a seat on, by what the step found. There is one method for each kind, and the
-//! stepped state and the running mutex call the same ones. A step that the seat isn't at is refused as Idle.
+//! How each kind of atomic step moves a seat on, by what the step found in its word. There is one method for each kind, for
+//! stepped and running mutexes alike; the word itself is the caller's. At a point of another kind each method refuses as Idle
+//! and leaves the seat as it is.
 ghost use Rattle.std.specs.Prelude.{◌≡◌, ◌+◌, ◌^◌, ◌<◌};
 ghost use Rattle.lfm_protocol.specs.After.{
   after_count_exchange,
@@ -34,10 +35,10 @@ use crate::seats::SeatState;
 use lfm_model::{Asked, How, Locked, Refusal, SeatNo, Unlocked};
 use lfm_words::{Handoff, Link, Record, Wake};
 
-/// What several steps share.
+/// The ends that several steps share.
 impl SeatState {
-    /// Ends with one hold more.
-    fn deepens(&mut self) -> u32
+    /// Deepens the hold by one, comes to rest, and returns the depth.
+    fn deepen(&mut self) -> u32
         requires { self.old.depth + 1 < 2 ^ 32 }
         ensures seat { self.new ≡ deepens self.old }
         ensures depth { result ≡ self.new.depth }
@@ -47,8 +48,8 @@ impl SeatState {
         self.depth
     }
 
-    /// Goes to sleep with its record queued or granted.
-    fn sleeps(&mut self) -> Turn
+    /// Ends a lock whose record is queued, or was granted meanwhile: the seat sleeps.
+    fn fall_asleep(&mut self) -> Turn
         ensures seat { self.new ≡ (sleeps self.old).seat }
         ensures turn { result ≡ (sleeps self.old).turn }
     {
@@ -56,8 +57,8 @@ impl SeatState {
         Turn::Ended(Answer::Asked(Asked::Asleep))
     }
 
-    /// Gives the charge back and is refused.
-    fn busy(&mut self) -> Turn
+    /// Ends a `try_lock` as Busy: the charged take is given back.
+    fn refuse_busy(&mut self) -> Turn
         requires { 0 < self.old.takes }
         ensures seat { self.new ≡ (busy self.old).seat }
         ensures turn { result ≡ (busy self.old).turn }
@@ -67,39 +68,39 @@ impl SeatState {
         Turn::refused(Refusal::Busy)
     }
 
-    /// Has released.
-    fn releases(&mut self, releaser: Releaser, answer: Unlocked) -> Turn
+    /// Ends the release with this answer. An `unlock` has ended; a `start_wait` has its last step before it.
+    fn finish_release(&mut self, releaser: Releaser, answer: Unlocked) -> Turn
         ensures seat { self.new ≡ (releases self.old releaser answer).seat }
         ensures turn { result ≡ (releases self.old releaser answer).turn }
     {
         match releaser {
-            Releaser::Unlocker => self.ends(Answer::Unlocked(answer)),
-            Releaser::Waiter => self.goes_on(Point::WaitWakeStore(answer)),
+            Releaser::Unlocker => self.end(Answer::Unlocked(answer)),
+            Releaser::Waiter => self.go_on(Point::WaitWakeStore(answer)),
         }
     }
 
-    /// Has pushed a record, and somebody else has the responsibility.
-    fn pushed(&mut self, pusher: Pusher) -> Turn
+    /// Ends a push after which the responsibility lies with somebody else. A locker sleeps; a sender has sent.
+    fn finish_push(&mut self, pusher: Pusher) -> Turn
         ensures seat { self.new ≡ (pushed self.old pusher).seat }
         ensures turn { result ≡ (pushed self.old pusher).turn }
     {
         match pusher {
-            Pusher::Locker => self.sleeps(),
-            Pusher::Sender(_) => self.ends(Answer::Sent),
+            Pusher::Locker => self.fall_asleep(),
+            Pusher::Sender(_) => self.end(Answer::Sent),
         }
     }
 
-    /// Has granted the oldest record.
-    fn granted(&mut self, carrier: Carrier, oldest: Record) -> Turn
+    /// Ends the grant of the oldest record, by what the carrier's call has still to do.
+    fn finish_grant(&mut self, carrier: Carrier, oldest: Record) -> Turn
         ensures seat { self.new ≡ (granted self.old carrier oldest).seat }
         ensures turn { result ≡ (granted self.old carrier oldest).turn }
     {
         match carrier {
-            Carrier::Locker => self.sleeps(),
+            Carrier::Locker => self.fall_asleep(),
             Carrier::Releaser(releaser) | Carrier::Reclaimer(releaser) => {
-                self.releases(releaser, Unlocked::Granted(oldest.seat))
+                self.finish_release(releaser, Unlocked::Granted(oldest.seat))
             }
-            Carrier::Sender => self.ends(Answer::Sent),
+            Carrier::Sender => self.end(Answer::Sent),
         }
     }
 }
@@ -112,11 +113,11 @@ impl SeatState {
         ensures turn { result ≡ (after_count_exchange self.old found).turn }
     {
         match self.point {
-            Point::TryCountExchange if found == 0 => self.goes_on(Point::EnterOwnerStore(
+            Point::TryCountExchange if found == 0 => self.go_on(Point::EnterOwnerStore(
                 Entrant::Trier,
                 How::Free,
             )),
-            Point::TryCountExchange => self.goes_on(Point::TryOwnerLoad),
+            Point::TryCountExchange => self.go_on(Point::TryOwnerLoad),
             _ => Turn::Refused(Why::Idle),
         }
     }
@@ -127,14 +128,14 @@ impl SeatState {
         ensures turn { result ≡ (after_count_add self.old found).turn }
     {
         match self.point {
-            Point::LockCountAdd if found == 0 => self.goes_on(Point::EnterOwnerStore(
+            Point::LockCountAdd if found == 0 => self.go_on(Point::EnterOwnerStore(
                 Entrant::Locker,
                 How::Free,
             )),
-            Point::LockCountAdd => self.goes_on(Point::LockOwnerLoad),
-            Point::TryCountAdd => self.goes_on(Point::EnterOwnerStore(Entrant::Trier, How::Free)),
-            Point::SendCountAdd(t) if found == 0 => self.goes_on(Point::SendWakeStore(t)),
-            Point::SendCountAdd(t) => self.goes_on(Point::PushLoad(Pusher::Sender(t))),
+            Point::LockCountAdd => self.go_on(Point::LockOwnerLoad),
+            Point::TryCountAdd => self.go_on(Point::EnterOwnerStore(Entrant::Trier, How::Free)),
+            Point::SendCountAdd(t) if found == 0 => self.go_on(Point::SendWakeStore(t)),
+            Point::SendCountAdd(t) => self.go_on(Point::PushLoad(Pusher::Sender(t))),
             _ => Turn::Refused(Why::Idle),
         }
     }
@@ -146,14 +147,14 @@ impl SeatState {
         ensures turn { result ≡ (after_count_subtract self.old s found oldest).turn }
     {
         match self.point {
-            Point::LockCountSubtract => Turn::Ended(Answer::Asked(Asked::Again(self.deepens()))),
-            Point::ReleaseCountSubtract(releaser) if found == 1 => self.releases(
+            Point::LockCountSubtract => Turn::Ended(Answer::Asked(Asked::Again(self.deepen()))),
+            Point::ReleaseCountSubtract(releaser) if found == 1 => self.finish_release(
                 releaser,
                 Unlocked::Free,
             ),
-            Point::ReleaseCountSubtract(releaser) => self.goes_on(Carrier::Releaser(releaser).take(
-                s, oldest,
-            )),
+            Point::ReleaseCountSubtract(releaser) => self.go_on(Carrier::Releaser(
+                releaser,
+            ).point_to_take(s, oldest)),
             _ => Turn::Refused(Why::Idle),
         }
     }
@@ -165,12 +166,12 @@ impl SeatState {
         ensures turn { result ≡ (after_owner_load self.old s found).turn }
     {
         match self.point {
-            Point::LockOwnerLoad if found == s => self.goes_on(Point::LockCountSubtract),
-            Point::LockOwnerLoad => self.goes_on(Point::PushLoad(Pusher::Locker)),
+            Point::LockOwnerLoad if found == s => self.go_on(Point::LockCountSubtract),
+            Point::LockOwnerLoad => self.go_on(Point::PushLoad(Pusher::Locker)),
             Point::TryOwnerLoad if found == s => Turn::Ended(Answer::Locked(Locked::Again(
-                self.deepens(),
+                self.deepen(),
             ))),
-            Point::TryOwnerLoad => self.goes_on(Point::TryHandoffLoad),
+            Point::TryOwnerLoad => self.go_on(Point::TryHandoffLoad),
             _ => Turn::Refused(Why::Idle),
         }
     }
@@ -183,11 +184,11 @@ impl SeatState {
         match self.point {
             Point::EnterOwnerStore(entrant, how) => {
                 self.depth = 1;
-                self.ends(entrant.held(how))
+                self.end(entrant.held(how))
             }
             Point::ReleaseOwnerStore(releaser) => {
                 self.depth = 0;
-                self.goes_on(Point::ReleaseCountSubtract(releaser))
+                self.go_on(Point::ReleaseCountSubtract(releaser))
             }
             _ => Turn::Refused(Why::Idle),
         }
@@ -199,19 +200,17 @@ impl SeatState {
         ensures turn { result ≡ (after_push_load self.old found).turn }
     {
         match self.point {
-            Point::PushLoad(pusher) => self.goes_on(Point::LinkStore(pusher, found)),
-            Point::SendPushLook(_, _) if found.next == 0 => self.ends(Answer::Sent),
-            Point::SendPushLook(t, seen) => self.goes_on(Point::PushedHandoffExchange(
+            Point::PushLoad(pusher) => self.go_on(Point::LinkStore(pusher, found)),
+            Point::SendPushLook(_, _) if found.next == 0 => self.end(Answer::Sent),
+            Point::SendPushLook(t, seen) => self.go_on(Point::PushedHandoffExchange(
                 Pusher::Sender(t),
                 seen,
             )),
-            Point::ReleasePushLook(releaser) if found.next == 0 => self.releases(
+            Point::ReleasePushLook(releaser) if found.next == 0 => self.finish_release(
                 releaser,
                 Unlocked::Posted,
             ),
-            Point::ReleasePushLook(releaser) => self.goes_on(Point::ReleaseHandoffExchange(
-                releaser,
-            )),
+            Point::ReleasePushLook(releaser) => self.go_on(Point::ReleaseHandoffExchange(releaser)),
             _ => Turn::Refused(Why::Idle),
         }
     }
@@ -224,9 +223,9 @@ impl SeatState {
         match self.point {
             Point::PushExchange(pusher, seen) => {
                 if found == seen {
-                    self.goes_on(Point::PushedHandoffLoad(pusher))
+                    self.go_on(Point::PushedHandoffLoad(pusher))
                 } else {
-                    self.goes_on(Point::LinkStore(pusher, found))
+                    self.go_on(Point::LinkStore(pusher, found))
                 }
             }
             _ => Turn::Refused(Why::Idle),
@@ -239,7 +238,7 @@ impl SeatState {
         ensures turn { result ≡ (after_clear_head self.old found).turn }
     {
         match self.point {
-            Point::TakeClearHead(carrier) => self.goes_on(carrier.cleared(found.next)),
+            Point::TakeClearHead(carrier) => self.go_on(carrier.point_after_clear(found.next)),
             _ => Turn::Refused(Why::Idle),
         }
     }
@@ -252,11 +251,9 @@ impl SeatState {
     {
         match self.point {
             Point::TakeLinkLoad(carrier, next) if found.next == 0 => {
-                self.goes_on(carrier.serves(s, loaded(SeatNo::known(next), found)))
+                self.go_on(carrier.point_to_serve(s, loaded(SeatNo::known(next), found)))
             }
-            Point::TakeLinkLoad(carrier, _) => self.goes_on(Point::TakeLinkLoad(
-                carrier, found.next,
-            )),
+            Point::TakeLinkLoad(carrier, _) => self.go_on(Point::TakeLinkLoad(carrier, found.next)),
             _ => Turn::Refused(Why::Idle),
         }
     }
@@ -267,7 +264,7 @@ impl SeatState {
         ensures turn { result ≡ (after_link_store self.old).turn }
     {
         match self.point {
-            Point::LinkStore(pusher, seen) => self.goes_on(Point::PushExchange(pusher, seen)),
+            Point::LinkStore(pusher, seen) => self.go_on(Point::PushExchange(pusher, seen)),
             _ => Turn::Refused(Why::Idle),
         }
     }
@@ -279,10 +276,10 @@ impl SeatState {
         ensures turn { result ≡ (after_handoff_load self.old found).turn }
     {
         match self.point {
-            Point::PushedHandoffLoad(pusher) if found.seat == 0 => self.pushed(pusher),
-            Point::PushedHandoffLoad(pusher) => self.goes_on(pusher.looks(found)),
-            Point::TryHandoffLoad if found.seat == 0 => self.busy(),
-            Point::TryHandoffLoad => self.goes_on(Point::TryHandoffExchange(found)),
+            Point::PushedHandoffLoad(pusher) if found.seat == 0 => self.finish_push(pusher),
+            Point::PushedHandoffLoad(pusher) => self.go_on(pusher.point_at_post(found)),
+            Point::TryHandoffLoad if found.seat == 0 => self.refuse_busy(),
+            Point::TryHandoffLoad => self.go_on(Point::TryHandoffExchange(found)),
             _ => Turn::Refused(Why::Idle),
         }
     }
@@ -296,7 +293,7 @@ impl SeatState {
         match self.point {
             Point::ReleaseHandoffStore(releaser) => {
                 self.posts += 1;
-                self.goes_on(Point::ReleasePushLook(releaser))
+                self.go_on(Point::ReleasePushLook(releaser))
             }
             _ => Turn::Refused(Why::Idle),
         }
@@ -311,16 +308,19 @@ impl SeatState {
     {
         let succeeded = found == self.expected_handoff(s);
         match self.point {
-            Point::PushedHandoffExchange(pusher, _) if succeeded => self.goes_on(
-                pusher.carrier().take(s, oldest),
+            Point::PushedHandoffExchange(pusher, _) if succeeded => self.go_on(
+                pusher.carrier().point_to_take(s, oldest),
             ),
-            Point::PushedHandoffExchange(pusher, _) => self.pushed(pusher),
-            Point::TryHandoffExchange(_) if succeeded => self.goes_on(Point::TryCountAdd),
-            Point::TryHandoffExchange(_) => self.busy(),
+            Point::PushedHandoffExchange(pusher, _) => self.finish_push(pusher),
+            Point::TryHandoffExchange(_) if succeeded => self.go_on(Point::TryCountAdd),
+            Point::TryHandoffExchange(_) => self.refuse_busy(),
             Point::ReleaseHandoffExchange(releaser) if succeeded => {
-                self.goes_on(Carrier::Reclaimer(releaser).take(s, oldest))
+                self.go_on(Carrier::Reclaimer(releaser).point_to_take(s, oldest))
             }
-            Point::ReleaseHandoffExchange(releaser) => self.releases(releaser, Unlocked::TakenOver),
+            Point::ReleaseHandoffExchange(releaser) => self.finish_release(
+                releaser,
+                Unlocked::TakenOver,
+            ),
             _ => Turn::Refused(Why::Idle),
         }
     }
@@ -331,7 +331,7 @@ impl SeatState {
         ensures turn { result ≡ (after_wake_load self.old found).turn }
     {
         match (self.point, found) {
-            (Point::ReceiveWakeLoad(_), Wake::Grant(stamp)) => self.goes_on(Point::ReceiveWakeStore(
+            (Point::ReceiveWakeLoad(_), Wake::Grant(stamp)) => self.go_on(Point::ReceiveWakeStore(
                 stamp,
             )),
             (Point::ReceiveWakeLoad(sleeper), _) => {
@@ -348,14 +348,14 @@ impl SeatState {
         ensures turn { result ≡ (after_wake_store self.old).turn }
     {
         match self.point {
-            Point::GrantWakeStore(carrier, oldest) => self.granted(carrier, oldest),
-            Point::SendWakeStore(_) => self.ends(Answer::Sent),
+            Point::GrantWakeStore(carrier, oldest) => self.finish_grant(carrier, oldest),
+            Point::SendWakeStore(_) => self.end(Answer::Sent),
             Point::WaitWakeStore(released) => {
                 self.point = Point::Asleep(Sleeper::Waiter);
                 Turn::Ended(Answer::Waiting(released))
             }
             Point::ReceiveWakeStore(stamp) => {
-                self.goes_on(Point::EnterOwnerStore(Entrant::Receiver, how_granted(stamp)))
+                self.go_on(Point::EnterOwnerStore(Entrant::Receiver, how_granted(stamp)))
             }
             _ => Turn::Refused(Why::Idle),
         }
@@ -367,7 +367,7 @@ impl SeatState {
         ensures turn { result ≡ (after_wake_exchange self.old found).turn }
     {
         match (self.point, found) {
-            (Point::SendWakeExchange(t), Wake::Waiting) => self.goes_on(Point::SendCountAdd(t)),
+            (Point::SendWakeExchange(t), Wake::Waiting) => self.go_on(Point::SendCountAdd(t)),
             (Point::SendWakeExchange(_), _) => {
                 self.point = Point::Rest;
                 Turn::refused(Refusal::NotWaiting)

@@ -1,4 +1,5 @@
-//! Where a call goes on that carries the responsibility or has just gained it.
+//! The points of a call that carries the responsibility or is about to gain it: which record it serves, and what it does
+//! where there is none. Nothing here changes a seat.
 ghost use Rattle.std.specs.Prelude.{◌≡◌};
 ghost use Rattle.lfm_protocol.specs.After.{loaded, looks, carrier_of, cleared, take, serves, held, how_granted};
 
@@ -8,18 +9,19 @@ use lfm_model::{Asked, How, Locked, SeatNo};
 use lfm_words::{Handoff, Link, Record};
 
 impl Carrier {
-    /// Where the carrier s goes on to take the oldest record, if the pop list has one.
-    pub(crate) fn take(self, s: u64, oldest: Option<Record>) -> Point
+    /// The point at which carrier s takes the oldest record: it serves that of the pop list, or clears the push list where
+    /// the pop list has none.
+    pub(crate) fn point_to_take(self, s: u64, oldest: Option<Record>) -> Point
         ensures { result ≡ take self s oldest }
     {
         match oldest {
-            Some(oldest) => self.serves(s, oldest),
+            Some(oldest) => self.point_to_serve(s, oldest),
             None => Point::TakeClearHead(self),
         }
     }
 
-    /// Where the carrier s goes on to serve the oldest record.
-    pub(crate) fn serves(self, s: u64, oldest: Record) -> Point
+    /// The point at which carrier s serves the oldest record: a locker enters by its own, and any other record is granted.
+    pub(crate) fn point_to_serve(self, s: u64, oldest: Record) -> Point
         ensures { result ≡ serves self s oldest }
     {
         match self {
@@ -31,9 +33,8 @@ impl Carrier {
         }
     }
 
-    /// Where the carrier goes on, having cleared a push list of this head.
-    /// A releaser alone may find none: it posts.
-    pub(crate) fn cleared(self, head: u64) -> Point
+    /// The point after a clear of the push list, which had this head. A releaser alone may find none, and then posts.
+    pub(crate) fn point_after_clear(self, head: u64) -> Point
         ensures { result ≡ cleared self head }
     {
         match self {
@@ -54,8 +55,8 @@ pub(crate) fn loaded(seat: SeatNo, link: Link) -> Record
 }
 
 impl Pusher {
-    /// Where a pusher goes on that has found this handoff posted. A sender looks at the push word first.
-    pub(crate) fn looks(self, found: Handoff) -> Point
+    /// The point of a pusher that has found this handoff posted. A sender looks at the push word before it takes it over.
+    pub(crate) fn point_at_post(self, found: Handoff) -> Point
         ensures { result ≡ looks self found }
     {
         match self {
@@ -64,7 +65,7 @@ impl Pusher {
         }
     }
 
-    /// What a pusher carries the responsibility as.
+    /// The carrier that a pusher becomes when it takes a posted handoff over.
     pub(crate) fn carrier(self) -> Carrier
         ensures { result ≡ carrier_of self }
     {
@@ -76,7 +77,7 @@ impl Pusher {
 }
 
 impl Entrant {
-    /// The answer of a call that has come to hold.
+    /// The answer of a call that holds now.
     pub(crate) fn held(self, how: How) -> Answer
         ensures { result ≡ held self how }
     {

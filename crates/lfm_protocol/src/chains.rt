@@ -1,5 +1,6 @@
-//! The walk along the links of queued seats, newest first.
+//! A walk along the link words of queued seats, newest first. It only reads.
 ghost use Rattle.std.specs.Prelude.{◌≡◌, ◌≤◌, drop, length};
+ghost use Rattle.lfm_protocol.specs.Limits.{max_seats};
 ghost use Rattle.lfm_protocol.specs.Queue.{chain};
 ghost use Rattle.lfm_protocol.specs.Seats.{link};
 ghost use Rattle.lfm_words.specs.Popped.{oldest};
@@ -19,6 +20,7 @@ pub(crate) struct Chain<'a> {
 
 impl<'a> Model for Chain<'a> {
     ghost use Rattle.std.specs.Prelude.{List, ◌≤◌, length};
+    ghost use Rattle.lfm_protocol.specs.Limits.{max_seats};
     ghost use Rattle.lfm_protocol.specs.Queue.{chain_of};
     ghost use Rattle.lfm_words.specs.declared.pop_lists.Record.{Record};
 
@@ -26,13 +28,13 @@ impl<'a> Model for Chain<'a> {
 
     ghost view = { λ c. chain_of c.left c.links.now c.at };
 
-    ghost invariant = { λ c. length c.links.now ≤ 4095 };
+    ghost invariant = { λ c. length c.links.now ≤ max_seats };
 }
 
 impl<'a> Chain<'a> {
     /// The walk from this seat on; 0 is none.
     pub(crate) fn new(links: &'a [Link], from: u64) -> Chain<'a>
-        requires { length links.now ≤ 4095 }
+        requires { length links.now ≤ max_seats }
         ensures { result ≡ chain links.now from }
     {
         Chain {

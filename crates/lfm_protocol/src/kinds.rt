@@ -1,41 +1,75 @@
-//! The kinds of atomic step, and the word that each touches.
+//! The kinds of atomic step, and the word that each touches. The splitting and joining of seats of a running mutex are not
+//! among them, since no call makes them.
 ghost use Rattle.std.specs.Prelude.{◌≡◌};
 ghost use Rattle.lfm_protocol.specs.Points.{word};
 
-/// The kinds of atomic step.
+/// The kinds of atomic step of the calls. An exchange is a compare-and-exchange, and fails only where the word differs.
 #[derive(Clone, Copy, Debug, PartialEq, Eq)]
 pub enum Kind {
+    // Of the count word.
+    /// Exchanges 0 for 1.
     CountExchange,
+    /// Adds 1 and gives the count before.
     CountAdd,
+    /// Subtracts 1 and gives the count before.
     CountSubtract,
+
+    // Of the owner word.
+    /// Loads the owning seat.
     OwnerLoad,
+    /// Stores the seat's own number, or 0 at a release.
     OwnerStore,
+
+    // Of the push word.
+    /// Loads the newest stamp and the head.
     PushLoad,
+    /// Exchanges what was seen for one stamp more, with the pushed seat as head.
     PushExchange,
+    /// Sets the head to 0, keeps the stamp, and gives the word before.
     ClearHead,
+
+    // Of the link word of a seat.
+    /// Loads the stamp of the target's record and the next older seat.
     LinkLoad,
+    /// Stores them for the record that is to be pushed.
     LinkStore,
+
+    // Of the handoff word.
+    /// Loads the posted handoff number.
     HandoffLoad,
+    /// Stores the seat's next handoff number.
     HandoffStore,
+    /// Exchanges an expected handoff number for 0.
     HandoffExchange,
+
+    // Of the wake word of a seat.
+    /// Loads the state of the seat itself.
     WakeLoad,
+    /// Stores a grant, WAITING or QUIET.
     WakeStore,
+    /// Exchanges WAITING for CLAIMED.
     WakeExchange,
 }
 
-/// One word of the table.
+/// One of the 4 + 2N words of a mutex of N seats.
 #[derive(Clone, Copy, Debug, PartialEq, Eq)]
 pub enum Word {
+    /// How many hold the mutex or want it.
     Count,
+    /// The owning seat; 0 for none.
     Owner,
+    /// The posted handoff number; 0 for none.
     Handoff,
+    /// The newest stamp, and the head of the push list.
     Push,
+    /// The link of the seat with this number.
     Link(u64),
+    /// The sleeper's state of the seat with this number.
     Wake(u64),
 }
 
 impl Kind {
-    /// The word that a step of this kind touches, t being its target.
+    /// The word that a step of this kind touches, t being the seat that the point names as its target.
     pub fn word(self, t: u64) -> Word
         ensures { result ≡ word self t }
     {

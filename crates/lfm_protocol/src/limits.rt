@@ -1,4 +1,5 @@
-//! How many seats a mutex may have, and how many takes each may charge.
+//! The limits of a mutex: how many seats it may have, how many takes each may charge, and how deep it may hold. Each
+//! number stands here and nowhere else in the code.
 ghost use Rattle.std.specs.Prelude.{◌≡◌};
 ghost use Rattle.lfm_protocol.specs.Limits.{are_in_limits};
 
@@ -8,10 +9,15 @@ pub const MAX_SEATS: u64 = 4_095;
 /// The largest budget of a seat: 2^36 takes.
 pub const MAX_BUDGET: u64 = 68_719_476_736;
 
-/// How many seats there are, and how many takes each may charge.
+/// How many times a seat may hold the mutex at once.
+pub const MAX_DEPTH: u32 = 65_535;
+
+/// The size of one mutex.
 #[derive(Clone, Copy, Debug, PartialEq, Eq)]
 pub struct Limits {
+    /// How many seats there are. They are numbered from 1.
     pub seats: u64,
+    /// How many takes each seat may charge.
     pub budget: u64,
 }
 

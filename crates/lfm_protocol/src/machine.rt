@@ -1,8 +1,9 @@
 //! The words, the pop list and the seats, and what a turn does to them: it begins a call or makes one atomic step, which
-//! is the operation of the step's kind on its word and then the seat's own method. Nothing here says that the parts belong
-//! together: that is the steady state's part.
+//! is the operation of the step's kind on its word and then the seat's own method. Nothing here says which words and points
+//! go together: the contracts of turns repeat their definitions, and the invariant belongs to the crates above.
 ghost use Rattle.std.specs.Prelude.{◌≡◌, ◌+◌, ◌^◌, ◌<◌, ◌≤◌, true, false, length, IfOk, IfErr};
 ghost use Rattle.lfm_protocol.specs.Core.{put, put_link, put_wake, drops_if};
+ghost use Rattle.lfm_protocol.specs.Limits.{max_seats};
 ghost use Rattle.lfm_protocol.specs.Room.{HasNumbers, HasRoom};
 ghost use Rattle.lfm_protocol.specs.Seats.{seat, link, wake, IsSeat, is_seat};
 ghost use Rattle.lfm_protocol.specs.Step.{
@@ -24,6 +25,7 @@ ghost use Rattle.lfm_protocol.specs.Step.{
   wake_exchange_of,
   made,
   begin,
+  step,
   start,
 };
 
@@ -32,24 +34,32 @@ mod readers;
 use crate::answers::{Call, Turn, Why};
 use crate::kinds::Kind;
 use crate::limits::Limits;
-use crate::points::Point;
 use crate::seats::SeatState;
 use lfm_model::SeatNo;
 use lfm_words::{Handoff, Link, PopList, Wake};
 use std::alloc::{AllocError, Global};
 use std::marker::Model;
 
-/// A mutex of some seats, word for word.
+/// The words of a mutex, its pop list, and the data of its seats, as the turns of seats leave them.
 #[derive(Drop)]
 pub struct Machine {
+    /// How many takes each seat may charge.
     budget: u64,
+    /// The count word: how many hold the mutex or want it.
     count: u64,
+    /// The owner word: the number of the owning seat; 0 for none.
     owner: u64,
+    /// The handoff word: the posted handoff number.
     handoff: Handoff,
+    /// The push word: the newest stamp, and the newest seat of the push list.
     push: Link,
+    /// The pop list, which belongs to whoever carries the responsibility.
     popped: PopList,
+    /// The link word of each seat, that of seat 1 first.
     links: Vec<Link>,
+    /// The wake word of each seat, that of seat 1 first.
     wakes: Vec<Wake>,
+    /// The data of each seat, that of seat 1 first.
     seats: Vec<SeatState>,
 }
 
@@ -74,9 +84,9 @@ impl Model for Machine {
     } };
 }
 
-/// Entries by the seat's number.
+/// The entries of a seat, by its number.
 impl Machine {
-    /// The seat with this number.
+    /// The data of this seat.
     fn seat(&self, s: u64) -> SeatState
         requires { IsSeat self.now.seats s }
         ensures { result ≡ seat self.now.seats s }
@@ -84,7 +94,7 @@ impl Machine {
         self.seats[(s - 1) as usize]
     }
 
-    /// The link of this seat.
+    /// The link word of this seat.
     fn link(&self, t: u64) -> Link
         requires { IsSeat self.now.seats t }
         ensures { result ≡ link self.now.links t }
@@ -100,6 +110,7 @@ impl Machine {
         self.wakes[(t - 1) as usize]
     }
 
+    /// Replaces the data of this seat.
     fn put(&mut self, s: u64, x: SeatState)
         requires { IsSeat self.old.seats s }
         ensures { self.new ≡ put self.old s x }
@@ -107,6 +118,7 @@ impl Machine {
         self.seats[(s - 1) as usize] = x;
     }
 
+    /// Replaces the link word of this seat.
     fn put_link(&mut self, t: u64, x: Link)
         requires { IsSeat self.old.seats t }
         ensures { self.new ≡ put_link self.old t x }
@@ -114,6 +126,7 @@ impl Machine {
         self.links[(t - 1) as usize] = x;
     }
 
+    /// Replaces the wake word of this seat.
     fn put_wake(&mut self, t: u64, x: Wake)
         requires { IsSeat self.old.seats t }
         ensures { self.new ≡ put_wake self.old t x }
@@ -121,18 +134,18 @@ impl Machine {
         self.wakes[(t - 1) as usize] = x;
     }
 
-    /// A seat has this number.
+    /// Whether a seat has this number: 1 to the number of seats.
     pub fn is_seat(&self, s: u64) -> bool
         ensures { result ≡ is_seat self.now.seats s }
     {
-        0 < s && s <= self.seats.len() as u64
+        0 < s && s <= self.seats()
     }
 }
 
 /// The pop list.
 impl Machine {
-    /// Takes the oldest record out of the pop list, if it leaves.
-    fn drops_if(&mut self, leaves: bool)
+    /// Takes the oldest record out of the pop list if it leaves.
+    fn drop_if(&mut self, leaves: bool)
         ensures { self.new ≡ drops_if self.old leaves }
     {
         if leaves {
@@ -141,7 +154,8 @@ impl Machine {
     }
 }
 
-/// One atomic step of each kind: the operation on the word, then the seat's own step.
+/// One atomic step of each kind by seat s: the operation on the word, then the seat's own method. t is the seat whose link
+/// or wake word is touched.
 impl Machine {
     fn count_exchange(&mut self, s: u64) -> Turn
         requires seat { IsSeat self.old.seats s }
@@ -206,7 +220,7 @@ impl Machine {
     {
         let mut seat = self.seat(s);
         self.owner = seat.stored_owner(s);
-        self.drops_if(seat.drops_oldest());
+        self.drop_if(seat.drops_oldest());
         let turn = seat.after_owner_store();
         self.put(s, seat);
         turn
@@ -316,7 +330,7 @@ impl Machine {
         let mut seat = self.seat(s);
         let found = self.handoff;
         if found == seat.expected_handoff(s) {
-            self.handoff = Handoff { seat: 0, post: 0 };
+            self.handoff = Handoff::NONE;
         }
         let turn = seat.after_handoff_exchange(s, found, self.popped.oldest());
         self.put(s, seat);
@@ -343,7 +357,7 @@ impl Machine {
     {
         let mut seat = self.seat(s);
         self.put_wake(t, seat.stored_wake());
-        self.drops_if(seat.drops_oldest());
+        self.drop_if(seat.drops_oldest());
         let turn = seat.after_wake_store();
         self.put(s, seat);
         turn
@@ -368,33 +382,28 @@ impl Machine {
 
 /// The turns.
 impl Machine {
-    /// A mutex at its start: nobody holds and nothing is queued. It makes four requests for memory, each of the size that
-    /// is needed.
+    /// A mutex at its start: nobody holds and nothing is queued. It allocates the pop list and the three lists of entries,
+    /// each at the size that it keeps, and answers AllocError where one of these requests is refused.
     pub fn new(alloc: Global, limits: Limits) -> Result<Machine, AllocError>
-        requires { limits.seats ≤ 4095 }
+        requires { limits.seats ≤ max_seats }
         ensures { IfOk result (λ m. m ≡ start limits) }
     {
         let seats = limits.seats as usize;
-        let resting = SeatState {
-            depth: 0,
-            takes: 0,
-            posts: 0,
-            point: Point::Rest,
-        };
         Ok(Machine {
             budget: limits.budget,
             count: 0,
             owner: 0,
-            handoff: Handoff { seat: 0, post: 0 },
-            push: Link { stamp: 0, next: 0 },
+            handoff: Handoff::NONE,
+            push: Link::NONE,
             popped: PopList::new(alloc, limits.seats)?,
-            links: vec![in alloc; Link { stamp: 0, next: 0 }; seats]?,
+            links: vec![in alloc; Link::NONE; seats]?,
             wakes: vec![in alloc; Wake::Quiet; seats]?,
-            seats: vec![in alloc; resting; seats]?,
+            seats: vec![in alloc; SeatState::REST; seats]?,
         })
     }
 
-    /// Seat s begins a call.
+    /// Seat s begins a call. Refused as NoSuchSeat where no seat has this number, and then as `SeatState::begin` refuses it.
+    /// A refused call changes nothing.
     pub fn begin(&mut self, s: u64, call: Call) -> Turn
         ensures core { self.new ≡ (begin self.old s call).core }
         ensures turn { result ≡ (begin self.old s call).turn }
@@ -403,7 +412,7 @@ impl Machine {
             return Turn::Refused(Why::NoSuchSeat);
         }
         let limits = Limits {
-            seats: self.seats.len() as u64,
+            seats: self.seats(),
             budget: self.budget,
         };
         let mut seat = self.seat(s);
@@ -412,9 +421,22 @@ impl Machine {
         turn
     }
 
-    /// Seat s makes the step at its point, for which there is room. It is refused as Idle where no call of the seat is
-    /// open.
-    pub fn make(&mut self, s: u64) -> Turn
+    /// Seat s makes the one atomic step at its point, for which its numbers have room. Refused as NoSuchSeat where no seat has
+    /// this number, and then as Idle where no call of the seat is open; both change nothing. Busy and NotWaiting from a step
+    /// end the call.
+    pub fn step(&mut self, s: u64) -> Turn
+        requires { IsSeat self.old.seats s → HasRoom self.old s }
+        ensures core { self.new ≡ (step self.old s).core }
+        ensures turn { result ≡ (step self.old s).turn }
+    {
+        if !self.is_seat(s) {
+            return Turn::Refused(Why::NoSuchSeat);
+        }
+        self.make(s)
+    }
+
+    /// Makes the step at the point of seat s, by its kind.
+    fn make(&mut self, s: u64) -> Turn
         requires seat { IsSeat self.old.seats s }
         requires room { HasRoom self.old s }
         ensures core { self.new ≡ (made self.old s).core }

@@ -1,97 +1,151 @@
-//! Where the call of a seat stands: the atomic step that it makes next, with what the call has read so far.
-//! The table of points is here: the kind of each step and the seat whose word it touches.
+//! Where the call of a seat stands: the atomic step that it makes next, with what the call has read so far. Here is also
+//! what a point tells by itself: its kind, the seat whose word it touches, and whether its call carries the responsibility.
+//! How a step moves the seat on is in `after`.
 ghost use Rattle.std.specs.Prelude.{◌≡◌};
+ghost use Rattle.lfm_protocol.specs.Place.{carries};
 ghost use Rattle.lfm_protocol.specs.Points.{kind, target, pushed_seat};
 
 use crate::kinds::Kind;
 use lfm_model::{How, Unlocked};
 use lfm_words::{Handoff, Link, Record};
 
-/// For whom a record is pushed: for the locker itself, or for the target of a send.
+/// For whom a record is pushed.
 #[derive(Clone, Copy, Debug, PartialEq, Eq)]
 pub enum Pusher {
+    /// A `lock` pushes the record of its own seat.
     Locker,
+    /// A `send_lock` pushes the record of this seat, its target.
     Sender(u64),
 }
 
-/// Whose release this is: that of `unlock`, or that of `start_wait`, which goes on to wait.
+/// Which call releases the mutex.
 #[derive(Clone, Copy, Debug, PartialEq, Eq)]
 pub enum Releaser {
+    /// An `unlock`, which ends with the release.
     Unlocker,
+    /// A `start_wait`, which puts its seat to sleep after the release.
     Waiter,
 }
 
-/// Who carries the responsibility and takes the oldest record. A reclaimer is a releaser that has taken its post back.
+/// Which call carries the responsibility while it looks for the oldest record.
 #[derive(Clone, Copy, Debug, PartialEq, Eq)]
 pub enum Carrier {
+    /// A `lock` that has taken a posted handoff over.
     Locker,
+    /// A release that found the count above 1.
     Releaser(Releaser),
+    /// A release that has posted its handoff and taken it back.
     Reclaimer(Releaser),
+    /// A `send_lock` that has taken a posted handoff over.
     Sender,
 }
 
-/// By which call a seat comes to hold.
+/// Which call brings its own seat to hold.
 #[derive(Clone, Copy, Debug, PartialEq, Eq)]
 pub enum Entrant {
+    /// A `lock` that found a count of 0, or its own record as the oldest.
     Locker,
+    /// A `try_lock` that raised the count from 0, or accepted a posted handoff.
     Trier,
+    /// A `receive` that found a grant.
     Receiver,
 }
 
-/// By which call a seat fell asleep.
+/// Which call put the seat to sleep.
 #[derive(Clone, Copy, Debug, PartialEq, Eq)]
 pub enum Sleeper {
+    /// A `lock`: the seat's record is queued, or was granted already.
     Locker,
+    /// A `start_wait`: no record stands in the queue until a send claims the seat.
     Waiter,
 }
 
-/// The atomic step that a seat makes next, with what its call has read.
+/// The atomic step that a seat makes next, with what its call has read. The number is that of the step within its call.
 #[derive(Clone, Copy, Debug, PartialEq, Eq)]
 pub enum Point {
+    // Between calls: no step.
     /// No call is open, and the seat is awake.
     Rest,
-    /// No call is open, and the seat sleeps.
+    /// No call is open, and the seat sleeps until a receive finds a grant.
     Asleep(Sleeper),
 
+    // A `lock` until it pushes.
+    /// `lock` 1: add 1 to the count word.
     LockCountAdd,
+    /// `lock` 2: load the owner word, to learn whether this seat holds already.
     LockOwnerLoad,
+    /// `lock` 3: subtract 1 from the count word again, since the seat holds already.
     LockCountSubtract,
 
+    // A `try_lock` until it enters.
+    /// `try_lock` 1: exchange the count word from 0 to 1.
     TryCountExchange,
+    /// `try_lock` 2: load the owner word, to learn whether this seat holds already.
     TryOwnerLoad,
+    /// `try_lock` 4: load the handoff word, as a last chance before Busy.
     TryHandoffLoad,
+    /// `try_lock` 5: exchange the handoff word from the number that was loaded to 0.
     TryHandoffExchange(Handoff),
+    /// `try_lock` 6: add 1 to the count word, the posted handoff being accepted.
     TryCountAdd,
 
+    // A `send_lock` on its own: the number is its target's.
+    /// `send_lock` 1: exchange the target's wake word from WAITING to CLAIMED.
     SendWakeExchange(u64),
+    /// `send_lock` 2: add 1 to the count word, for the target.
     SendCountAdd(u64),
+    /// `send_lock` 7: load the push word again, to see whether somebody is queued. The handoff number is that of step 6.
     SendPushLook(u64, Handoff),
+    /// `send_lock` 9 after a count of 0: store GRANT(0) in the target's wake word.
     SendWakeStore(u64),
 
+    // The push of a record, by `lock` for its own seat or by `send_lock` for its target.
+    /// `lock` 4, `send_lock` 3: load the push word.
     PushLoad(Pusher),
+    /// `lock` 5, `send_lock` 4: store in the pushed seat's link word one stamp more than the push word that was seen, and
+    /// that word's head.
     LinkStore(Pusher, Link),
+    /// `lock` 6, `send_lock` 5: exchange the push word from what was seen to one stamp more and the pushed seat.
     PushExchange(Pusher, Link),
+    /// `lock` 7, `send_lock` 6: load the handoff word, the record being pushed.
     PushedHandoffLoad(Pusher),
+    /// `lock` 8, `send_lock` 8: exchange the handoff word from the number that was loaded to 0.
     PushedHandoffExchange(Pusher, Handoff),
 
+    // A release, by `unlock` or `start_wait`.
+    /// `unlock` 1: store 0 in the owner word.
     ReleaseOwnerStore(Releaser),
+    /// `unlock` 2: subtract 1 from the count word.
     ReleaseCountSubtract(Releaser),
+    /// `unlock` 3: store the seat's next handoff number in the handoff word, which posts the responsibility.
     ReleaseHandoffStore(Releaser),
+    /// `unlock` 4: load the push word again, to see whether somebody has pushed meanwhile.
     ReleasePushLook(Releaser),
+    /// `unlock` 5: exchange the handoff word from the seat's own number to 0, which takes the post back.
     ReleaseHandoffExchange(Releaser),
+    /// The last step of `start_wait`: store WAITING in the seat's own wake word. The payload says how it released.
     WaitWakeStore(Unlocked),
 
+    // The take of the oldest record and what follows it, by whichever call carries the responsibility.
+    /// First step of a take from an empty pop list: clear the head of the push word.
     TakeClearHead(Carrier),
+    /// Further steps of a take: load the link word of the seat with this number, whose record joins the pop list.
     TakeLinkLoad(Carrier, u64),
+    /// `lock` 10, `unlock` 6, `send_lock` 9: store in the wake word of the record's seat a grant of the record's stamp.
     GrantWakeStore(Carrier, Record),
+    /// `lock` 9, `try_lock` 3, `receive` 3: store the seat's number in the owner word. The payload says how it gained
+    /// the mutex.
     EnterOwnerStore(Entrant, How),
 
+    // A `receive` of a seat that sleeps.
+    /// `receive` 1: load the seat's own wake word. The payload says by which call it fell asleep.
     ReceiveWakeLoad(Sleeper),
+    /// `receive` 2: store QUIET in the seat's own wake word. The number is the stamp of the grant, 0 without a record.
     ReceiveWakeStore(u64),
 }
 
 impl Point {
-    /// The kind of the step; none where no call is open.
+    /// The kind of the step. None where no call is open.
     pub fn kind(self) -> Option<Kind>
         ensures { result ≡ kind self }
     {
@@ -125,7 +179,7 @@ impl Point {
         }
     }
 
-    /// The seat whose link or wake word the step touches; s itself where it touches neither.
+    /// The seat whose link or wake word a step of seat s touches; s itself where it touches neither.
     pub fn target(self, s: u64) -> u64
         ensures { result ≡ target self s }
     {
@@ -137,10 +191,28 @@ impl Point {
             _ => s,
         }
     }
+
+    /// Whether a call at this point has gained the responsibility and not given it away.
+    pub fn carries(self) -> bool
+        ensures { result ≡ carries self }
+    {
+        matches!(
+            self,
+            Point::TryCountAdd
+                | Point::SendWakeStore(_)
+                | Point::ReleaseCountSubtract(_)
+                | Point::ReleaseHandoffStore(_)
+                | Point::TakeClearHead(_)
+                | Point::TakeLinkLoad(_, _)
+                | Point::GrantWakeStore(_, _)
+                | Point::EnterOwnerStore(_, _)
+                | Point::ReceiveWakeStore(_)
+        )
+    }
 }
 
 impl Pusher {
-    /// The seat whose record is pushed.
+    /// The seat whose record is pushed, s being the seat whose call it is.
     pub fn seat(self, s: u64) -> u64
         ensures { result ≡ pushed_seat self s }
     {

@@ -1,5 +1,5 @@
 //! The plain data of a seat, and how a call begins: the checks in their order, the charge of a take, and the first
-//! point. The stepped state and the running mutex begin their calls by the same function.
+//! point. Every mutex, stepped or running, begins its calls by `begin` of this file. What a step does is in `after`.
 ghost use Rattle.std.specs.Prelude.{◌≡◌};
 ghost use Rattle.lfm_protocol.specs.Begin.{
   goes_on,
@@ -14,23 +14,37 @@ ghost use Rattle.lfm_protocol.specs.Begin.{
 };
 
 use crate::answers::{Answer, Call, Turn, Why};
-use crate::limits::Limits;
+use crate::limits::{Limits, MAX_DEPTH};
 use crate::points::{Point, Releaser};
 use lfm_model::{Refusal, Unlocked};
 
-/// What a seat has of its own beside the words.
+/// What a seat has of its own beside the words. No other seat reads it.
 #[derive(Clone, Copy, Debug, PartialEq, Eq)]
 pub struct SeatState {
+    /// How many times the seat holds the mutex: 0 to 65,535.
     pub depth: u32,
+    /// How many takes the seat has charged and not got back: 0 to the budget.
     pub takes: u64,
+    /// How many handoffs the seat has posted. The next one is numbered by one more.
     pub posts: u64,
+    /// The atomic step that the seat makes next, or that no call of it is open.
     pub point: Point,
 }
 
-/// What begins a call.
 impl SeatState {
-    /// Goes on from this point.
-    pub(crate) fn goes_on(&mut self, point: Point) -> Turn
+    /// A seat at the start: at rest and awake, without a hold, a take or a post.
+    pub const REST: SeatState = SeatState {
+        depth: 0,
+        takes: 0,
+        posts: 0,
+        point: Point::Rest,
+    };
+}
+
+/// The ends of a turn that several calls share.
+impl SeatState {
+    /// Sets the point, so that the call is open.
+    pub(crate) fn go_on(&mut self, point: Point) -> Turn
         ensures seat { self.new ≡ (goes_on self.old point).seat }
         ensures turn { result ≡ (goes_on self.old point).turn }
     {
@@ -38,8 +52,8 @@ impl SeatState {
         Turn::Open
     }
 
-    /// Ends the call.
-    pub(crate) fn ends(&mut self, answer: Answer) -> Turn
+    /// Ends the call with this answer; the seat is at rest.
+    pub(crate) fn end(&mut self, answer: Answer) -> Turn
         ensures seat { self.new ≡ (ends self.old answer).seat }
         ensures turn { result ≡ (ends self.old answer).turn }
     {
@@ -47,8 +61,8 @@ impl SeatState {
         Turn::Ended(answer)
     }
 
-    /// Charges a take and goes on from this point.
-    pub(crate) fn charges(&mut self, budget: u64, point: Point) -> Turn
+    /// Charges a take and sets the point. Refused as Spent where no take is left.
+    pub(crate) fn charge(&mut self, budget: u64, point: Point) -> Turn
         ensures seat { self.new ≡ (charges self.old budget point).seat }
         ensures turn { result ≡ (charges self.old budget point).turn }
     {
@@ -59,22 +73,27 @@ impl SeatState {
         self.point = point;
         Turn::Open
     }
+}
 
-    /// Begins a call that comes to hold or deepens the hold.
+/// How a call begins.
+impl SeatState {
+    /// Begins a `lock` or a `try_lock` at its first point. Refused as DepthFull at the greatest depth, and then as Spent at
+    /// depth 0 with no take left. A take is charged at depth 0 alone.
     pub(crate) fn begin_entry(&mut self, budget: u64, point: Point) -> Turn
         ensures seat { self.new ≡ (begin_entry self.old budget point).seat }
         ensures turn { result ≡ (begin_entry self.old budget point).turn }
     {
-        if self.depth > 65_534 {
+        if self.depth >= MAX_DEPTH {
             return Turn::refused(Refusal::DepthFull);
         }
         if self.depth == 0 {
-            self.charges(budget, point)
+            self.charge(budget, point)
         } else {
-            self.goes_on(point)
+            self.go_on(point)
         }
     }
 
+    /// Begins an `unlock`. Refused as NotOwner at depth 0. At a depth above 1 the depth falls and the call has ended.
     pub(crate) fn begin_unlock(&mut self) -> Turn
         ensures seat { self.new ≡ (begin_unlock self.old).seat }
         ensures turn { result ≡ (begin_unlock self.old).turn }
@@ -83,12 +102,14 @@ impl SeatState {
             return Turn::refused(Refusal::NotOwner);
         }
         if self.depth == 1 {
-            return self.goes_on(Point::ReleaseOwnerStore(Releaser::Unlocker));
+            return self.go_on(Point::ReleaseOwnerStore(Releaser::Unlocker));
         }
         self.depth -= 1;
         Turn::Ended(Answer::Unlocked(Unlocked::Still(self.depth)))
     }
 
+    /// Begins a `start_wait`. Refused as NotOwner at depth 0, as Nested above 1, and then as Spent with no take left. The
+    /// take that it charges pays for the receive that ends the wait.
     pub(crate) fn begin_wait(&mut self, budget: u64) -> Turn
         ensures seat { self.new ≡ (begin_wait self.old budget).seat }
         ensures turn { result ≡ (begin_wait self.old budget).turn }
@@ -99,21 +120,22 @@ impl SeatState {
         if self.depth > 1 {
             return Turn::refused(Refusal::Nested);
         }
-        self.charges(budget, Point::ReleaseOwnerStore(Releaser::Waiter))
+        self.charge(budget, Point::ReleaseOwnerStore(Releaser::Waiter))
     }
 
+    /// Begins a `send_lock` for seat t, of this many seats. Refused as NoSuchSeat where t is none of them. It charges nothing.
     pub(crate) fn begin_send(&mut self, seats: u64, t: u64) -> Turn
         ensures seat { self.new ≡ (begin_send self.old seats t).seat }
         ensures turn { result ≡ (begin_send self.old seats t).turn }
     {
         if 0 < t && t <= seats {
-            self.goes_on(Point::SendWakeExchange(t))
+            self.go_on(Point::SendWakeExchange(t))
         } else {
             Turn::refused(Refusal::NoSuchSeat)
         }
     }
 
-    /// Begins a call of a seat that is awake.
+    /// Begins a call of a seat that is awake and at rest. A receive is refused as NotWaiting.
     pub(crate) fn begin_awake(&mut self, limits: Limits, call: Call) -> Turn
         ensures seat { self.new ≡ (begin_awake self.old limits call).seat }
         ensures turn { result ≡ (begin_awake self.old limits call).turn }
@@ -128,16 +150,16 @@ impl SeatState {
         }
     }
 
-    /// Begins a call: the checks in their order, the charge, and the first point.
+    /// Begins a call: the checks in the order of the refusals, the charge of a take, and the first point. Refused as InCall
+    /// where a call of the seat is open, and as Asleep where the seat sleeps and the call is no receive. A refused call
+    /// leaves the seat as it is.
     pub fn begin(&mut self, limits: Limits, call: Call) -> Turn
         ensures seat { self.new ≡ (begin self.old limits call).seat }
         ensures turn { result ≡ (begin self.old limits call).turn }
     {
         match (self.point, call) {
             (Point::Rest, _) => self.begin_awake(limits, call),
-            (Point::Asleep(sleeper), Call::Receive) => self.goes_on(Point::ReceiveWakeLoad(
-                sleeper,
-            )),
+            (Point::Asleep(sleeper), Call::Receive) => self.go_on(Point::ReceiveWakeLoad(sleeper)),
             (Point::Asleep(_), _) => Turn::refused(Refusal::Asleep),
             _ => Turn::Refused(Why::InCall),
         }

@@ -1,4 +1,5 @@
-//! What the storing steps of a seat write, and what its exchanges expect: functions of the seat alone.
+//! What the storing steps of a seat write, and what its exchanges expect: functions of the seat's data and number alone.
+//! At a point of another kind they return what means none.
 ghost use Rattle.std.specs.Prelude.{◌≡◌};
 ghost use Rattle.lfm_protocol.specs.After.{drops_oldest};
 ghost use Rattle.lfm_protocol.specs.Room.{HasNumbers};
@@ -19,7 +20,7 @@ use lfm_words::{Handoff, Link, Wake};
 
 /// What a storing step writes, and what an exchange expects.
 impl SeatState {
-    /// What an owner store of seat s writes.
+    /// What an owner store of seat s writes: s as it enters, 0 as it releases.
     pub fn stored_owner(&self, s: u64) -> u64
         ensures { result ≡ stored_owner self.now s }
     {
@@ -29,7 +30,7 @@ impl SeatState {
         }
     }
 
-    /// What a link store writes.
+    /// What a link store writes: one stamp more than the push word that was seen, and that word's head.
     pub fn stored_link(&self) -> Link
         requires { HasNumbers self.now self.now.point }
         ensures { result ≡ stored_link self.now }
@@ -39,21 +40,21 @@ impl SeatState {
                 stamp: seen.stamp + 1,
                 next: seen.next,
             },
-            _ => Link { stamp: 0, next: 0 },
+            _ => Link::NONE,
         }
     }
 
-    /// What a push exchange expects.
+    /// What a push exchange expects: the push word that was seen.
     pub fn expected_push(&self) -> Link
         ensures { result ≡ expected_push self.now }
     {
         match self.point {
             Point::PushExchange(_, seen) => seen,
-            _ => Link { stamp: 0, next: 0 },
+            _ => Link::NONE,
         }
     }
 
-    /// What a push exchange of seat s writes.
+    /// What a push exchange of seat s writes: one stamp more than was seen, and the pushed seat as head.
     pub fn exchanged_push(&self, s: u64) -> Link
         requires { HasNumbers self.now self.now.point }
         ensures { result ≡ exchanged_push self.now s }
@@ -63,11 +64,11 @@ impl SeatState {
                 stamp: seen.stamp + 1,
                 next: pusher.seat(s),
             },
-            _ => Link { stamp: 0, next: 0 },
+            _ => Link::NONE,
         }
     }
 
-    /// What a handoff store of seat s writes.
+    /// What a handoff store of seat s writes: the number after those that it has posted.
     pub fn stored_handoff(&self, s: u64) -> Handoff
         requires { HasNumbers self.now self.now.point }
         ensures { result ≡ stored_handoff self.now s }
@@ -77,11 +78,11 @@ impl SeatState {
                 seat: s,
                 post: self.posts + 1,
             },
-            _ => Handoff { seat: 0, post: 0 },
+            _ => Handoff::NONE,
         }
     }
 
-    /// What a handoff exchange of seat s expects.
+    /// What a handoff exchange of seat s expects: the number that was loaded, or the seat's own last post.
     pub fn expected_handoff(&self, s: u64) -> Handoff
         ensures { result ≡ expected_handoff self.now s }
     {
@@ -91,11 +92,12 @@ impl SeatState {
                 seat: s,
                 post: self.posts,
             },
-            _ => Handoff { seat: 0, post: 0 },
+            _ => Handoff::NONE,
         }
     }
 
-    /// What a wake store writes.
+    /// What a wake store writes: a grant of the record's stamp, a grant of 0 for a target without a record, WAITING as a
+    /// wait begins, or QUIET as a grant is taken up.
     pub fn stored_wake(&self) -> Wake
         ensures { result ≡ stored_wake self.now }
     {
@@ -107,8 +109,8 @@ impl SeatState {
         }
     }
 
-    /// A store at this point takes the oldest record out of the pop list:
-    /// a locker's own, or the one that is granted.
+    /// Whether the store at this point takes the oldest record out of the pop list: the locker's own record, by which it
+    /// enters, or the record that is granted.
     pub fn drops_oldest(&self) -> bool
         ensures { result ≡ drops_oldest self.now }
     {

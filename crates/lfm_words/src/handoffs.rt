@@ -1,18 +1,26 @@
-//! A posted handoff: what the handoff word holds.
+//! A handoff number: what the handoff word holds, and how it is packed.
 ghost use Rattle.std.specs.Prelude.{◌≡◌, ◌<◌, ◌^◌};
 ghost use Rattle.lfm_words.specs.Words.{handoff_word};
 
 use crate::links::UPPER;
 
-/// A posted handoff number: the seat that posted it, and that seat's own post count, which is 1 or more and below 2^48.
-/// Seat 0 with post 0 is none.
+/// A handoff number: which seat posted the responsibility, and with which of its posts. A seat numbers its posts from 1, so
+/// no number is used twice.
 #[derive(Clone, Copy, Debug, PartialEq, Eq)]
 pub struct Handoff {
+    /// The seat that posted: below 65,536, and 0 where nothing is posted.
     pub seat: u64,
+    /// How many posts that seat had made with this one: below 2^48, and 0 where nothing is posted.
     pub post: u64,
 }
 
-/// The word that holds this handoff number (seat below 65,536, post below 2^48).
+impl Handoff {
+    /// What a word of 0 holds: nothing is posted.
+    pub const NONE: Handoff = Handoff { seat: 0, post: 0 };
+}
+
+/// The word that holds this post in its upper 48 bits and this seat in its lower 16. The seat is below 65,536 and the post
+/// below 2^48.
 pub fn pack_handoff(seat: u64, post: u64) -> u64
     requires seat { seat < 65536 }
     requires post { post < 2 ^ 48 }
@@ -21,7 +29,7 @@ pub fn pack_handoff(seat: u64, post: u64) -> u64
     post * UPPER + seat
 }
 
-/// What a word holds as a handoff number. Every word holds one.
+/// The handoff number that a word holds. Every word holds one, and no two words the same.
 pub fn unpack_handoff(word: u64) -> Handoff
     ensures packs { handoff_word result ≡ word }
     ensures seat { result.seat < 65536 }

@@ -1,19 +1,26 @@
-//! A stamp beside a seat: what the push word and each link word hold.
+//! A stamp beside a seat: what the push word and each link word hold, and how it is packed.
 ghost use Rattle.std.specs.Prelude.{◌≡◌, ◌<◌, ◌^◌};
 ghost use Rattle.lfm_words.specs.Words.{link_word};
 
-/// The factor by which the upper part of a packed word stands above its lower 16 bits.
+/// What 1 counts in the upper 48 bits of a packed word, above its lower 16.
 pub(crate) const UPPER: u64 = 65_536;
 
-/// A stamp beside a seat. In the push word it is the newest stamp and the newest waiter; in the link word of a seat,
-/// that seat's stamp and the next older waiter. A stamp is below 2^48. Seat 0 is none.
+/// A stamp and a seat, as the push word and the link words hold them.
 #[derive(Clone, Copy, Debug, PartialEq, Eq)]
 pub struct Link {
+    /// In the push word the newest stamp that was given out, in a link word the stamp of that seat's record: below 2^48.
     pub stamp: u64,
+    /// In the push word the newest queued seat, in a link word the next older one: below 65,536, and 0 for none.
     pub next: u64,
 }
 
-/// The word that holds this stamp (below 2^48) and this seat (below 65,536; 0 is none).
+impl Link {
+    /// What a word of 0 holds: no stamp was given out and no seat is named.
+    pub const NONE: Link = Link { stamp: 0, next: 0 };
+}
+
+/// The word that holds this stamp in its upper 48 bits and this seat in its lower 16. The stamp is below 2^48 and the seat
+/// below 65,536; 0 is no seat.
 pub fn pack_link(stamp: u64, next: u64) -> u64
     requires stamp { stamp < 2 ^ 48 }
     requires next { next < 65536 }
@@ -22,7 +29,7 @@ pub fn pack_link(stamp: u64, next: u64) -> u64
     stamp * UPPER + next
 }
 
-/// What a word holds as a link. Every word holds one.
+/// The stamp and the seat that a word holds. Every word holds one link, and no two words the same.
 pub fn unpack_link(word: u64) -> Link
     ensures packs { link_word result ≡ word }
     ensures stamp { result.stamp < 2 ^ 48 }

@@ -1,7 +1,8 @@
-//! What a state tells of itself: words, place, queue and seats. No reader changes anything or takes memory.
+//! The readers of a machine: words, seats, place and queue. No reader changes anything, allocates, sleeps or wakes.
 ghost use Rattle.std.specs.Prelude.{◌≡◌, ◌+◌, ◌++◌, ◌<◌, ◌≤◌, length, position, reverse, slice_get, vec_capacity, IfSome};
 ghost use Rattle.std.specs.List.{zip};
 ghost use Rattle.std.specs.Option.{option_map};
+ghost use Rattle.lfm_protocol.specs.Limits.{max_seats};
 ghost use Rattle.lfm_protocol.specs.Turns.{longest_call};
 ghost use Rattle.lfm_protocol.specs.Place.{carries, is_passed, place_of};
 ghost use Rattle.lfm_protocol.specs.Queue.{chain, unwalked, queue_of};
@@ -15,47 +16,55 @@ use crate::seats::SeatState;
 use lfm_model::{Place, SeatNo};
 use lfm_words::{Handoff, Record, Wake};
 
-/// The words.
+/// Its size and its words.
 impl Machine {
-    /// How many hold the mutex or want it.
+    /// How many seats there are: at most 4,095. They are numbered from 1.
+    pub fn seats(&self) -> u64
+        ensures number { result ≡ length self.now.seats }
+        ensures few { result ≤ max_seats }
+    {
+        self.seats.len() as u64
+    }
+
+    /// The count word: how many hold the mutex or want it.
     pub fn count(&self) -> u64
         ensures { result ≡ self.now.count }
     {
         self.count
     }
 
-    /// The number of the owning seat; 0 where the owner word is empty.
+    /// The owner word: the number of the owning seat, or 0 for none.
     pub fn owner(&self) -> u64
         ensures { result ≡ self.now.owner }
     {
         self.owner
     }
 
-    /// The posted handoff; its seat is 0 where none is posted.
+    /// The handoff word: the posted number, whose seat is 0 where nothing is posted.
     pub fn handoff(&self) -> Handoff
         ensures { result ≡ self.now.handoff }
     {
         self.handoff
     }
 
-    /// More steps than any call makes that runs alone.
+    /// A number of steps that a call does not exceed while no other seat makes a step: 16 more than there are seats.
     pub fn longest_call(&self) -> u64
         ensures { result ≡ longest_call self.now }
     {
-        self.seats.len() as u64 + 16
+        self.seats() + 16
     }
 }
 
-/// The seats. A seat that isn't there reads as one at rest that did nothing.
+/// The seats. A number that no seat has reads as a seat at rest, with 0 for each number.
 impl Machine {
     /// How many times seat s holds the mutex: 0 to 65,535.
-    pub fn depth(&self, s: u64) -> u32
+    pub fn depth(&self, s: u64) -> u64
         ensures { result ≡ (seat self.now.seats s).depth }
     {
-        self.seat_or_absent(s).depth
+        u64::from(self.seat_or_absent(s).depth)
     }
 
-    /// How many takes seat s has charged.
+    /// How many takes seat s has charged and not got back: 0 to the budget.
     pub fn takes(&self, s: u64) -> u64
         ensures { result ≡ (seat self.now.seats s).takes }
     {
@@ -69,39 +78,15 @@ impl Machine {
         self.seat_or_absent(s).posts
     }
 
+    /// The data of seat s, or a seat at rest where no seat has this number.
     fn seat_or_absent(&self, s: u64) -> SeatState
         ensures { result ≡ seat self.now.seats s }
     {
         if self.is_seat(s) {
             self.seat(s)
         } else {
-            SeatState {
-                depth: 0,
-                takes: 0,
-                posts: 0,
-                point: Point::Rest,
-            }
+            SeatState::REST
         }
-    }
-}
-
-impl Point {
-    /// Whether a call at this point has gained the responsibility and not given it away.
-    pub fn carries(self) -> bool
-        ensures { result ≡ carries self }
-    {
-        matches!(
-            self,
-            Point::TryCountAdd
-                | Point::SendWakeStore(_)
-                | Point::ReleaseCountSubtract(_)
-                | Point::ReleaseHandoffStore(_)
-                | Point::TakeClearHead(_)
-                | Point::TakeLinkLoad(_, _)
-                | Point::GrantWakeStore(_, _)
-                | Point::EnterOwnerStore(_, _)
-                | Point::ReceiveWakeStore(_)
-        )
     }
 }
 
@@ -114,8 +99,9 @@ fn is_passed(wake: Wake, point: Point) -> bool
 
 /// Where the responsibility lies.
 impl Machine {
-    /// Where the responsibility lies, read from the words and the points: with the owner, in the posted handoff, with a
-    /// seat whose grant isn't loaded, or with a call that carries it. It looks at each seat at most twice.
+    /// Where the responsibility to own the mutex or to pass it on lies. The first that is found is returned: an owner, a
+    /// posted handoff, a seat whose grant is not loaded yet, a call that carries it, and else Free. It reads each seat at
+    /// most twice.
     pub fn place(&self) -> Place
         ensures { result ≡ place_of self.now }
     {
@@ -125,19 +111,19 @@ impl Machine {
         if self.handoff.seat != 0 {
             return Place::Posted;
         }
-        if let Some(i) = self.passed() {
+        if let Some(i) = self.first_passed() {
             return Place::Passed(SeatNo::known(i as u64 + 1));
         }
-        match self.carried() {
+        match self.first_carried() {
             Some(i) => Place::Carried(SeatNo::known(i as u64 + 1)),
             None => Place::Free,
         }
     }
 
-    /// The place, counted from 0, of the first seat with a grant that it hasn't loaded.
-    fn passed(&self) -> Option<usize>
+    /// The index, from 0, of the first seat whose wake word holds a grant that the seat has not loaded yet.
+    fn first_passed(&self) -> Option<usize>
         ensures index { result ≡ position (λ w. is_passed w.0 w.1.point) (zip self.now.wakes self.now.seats) }
-        ensures few { IfSome result (λ i. i < 4095) }
+        ensures few { IfSome result (λ i. i < max_seats) }
     {
         self.wakes
             .iter()
@@ -145,10 +131,10 @@ impl Machine {
             .position(|(wake, seat)| is_passed(*wake, seat.point))
     }
 
-    /// The place, counted from 0, of the first seat whose call carries the responsibility.
-    fn carried(&self) -> Option<usize>
+    /// The index, from 0, of the first seat whose call carries the responsibility.
+    fn first_carried(&self) -> Option<usize>
         ensures index { result ≡ position (λ x. carries x.point) self.now.seats }
-        ensures few { IfSome result (λ i. i < 4095) }
+        ensures few { IfSome result (λ i. i < max_seats) }
     {
         self.seats.iter().position(|seat| seat.point.carries())
     }
@@ -156,15 +142,15 @@ impl Machine {
 
 /// The queue.
 impl Machine {
-    /// How many records are queued. It walks the links of those that are in no pop list.
+    /// How many records are queued. It follows the links of those that the pop list does not hold.
     pub fn queue_len(&self) -> u64
         ensures { result ≡ length (queue_of self.now) }
     {
         self.chain_len(self.unwalked()) + self.popped.len() + self.chain_len(self.push.next)
     }
 
-    /// The seat and stamp of the record that i others are older than: 0 is the oldest. None past the newest. It walks the
-    /// links of those that are in no pop list.
+    /// The seat and the stamp of the queued record number i: 0 is the oldest. None past the newest. It follows the links of
+    /// those that the pop list does not hold.
     pub fn queued(&self, i: u64) -> Option<(SeatNo, u64)>
         ensures { result ≡ option_map pair_of (slice_get (queue_of self.now) i) }
     {
@@ -185,7 +171,7 @@ impl Machine {
         }
     }
 
-    /// Gathers the queue's records, newest first, into room that was reserved for them.
+    /// Replaces what `room` holds by the queued records, newest first. Its capacity is enough for all of them, and stays.
     pub fn gather(&self, room: &mut Vec<Record>)
         requires { length (queue_of self.now) ≤ vec_capacity room.old }
         ensures gathered { reverse room.new.items ≡ queue_of self.now }
@@ -197,7 +183,7 @@ impl Machine {
         gather_chain(room, Chain::new(&self.links, self.unwalked()));
     }
 
-    /// The seat whose link a carrier loads next; 0 where none walks a cleared list.
+    /// The seat whose link a carrier loads next, or 0 where no carrier follows the links of a cleared list.
     fn unwalked(&self) -> u64
         ensures { result ≡ unwalked self.now.seats }
     {
@@ -214,7 +200,7 @@ impl Machine {
     /// How many records a walk from this seat meets.
     fn chain_len(&self, from: u64) -> u64
         ensures length { result ≡ length (chain self.now.links from) }
-        ensures few { result ≤ 4095 }
+        ensures few { result ≤ max_seats }
     {
         let mut chain = Chain::new(&self.links, from);
         let mut length = 0;
@@ -239,7 +225,7 @@ impl Machine {
     }
 }
 
-/// Adds what is left of a walk, within the room.
+/// Appends what is left of a walk. The capacity is enough for it.
 fn gather_chain(room: &mut Vec<Record>, chain: Chain<'_>)
     requires { length room.old.items + length chain ≤ vec_capacity room.old }
     ensures gathered { room.new.items ≡ room.old.items ++ chain.entry }
@@ -251,7 +237,7 @@ fn gather_chain(room: &mut Vec<Record>, chain: Chain<'_>)
     }
 }
 
-/// Adds some records, within the room.
+/// Appends these records. The capacity is enough for them.
 fn gather_popped(room: &mut Vec<Record>, records: &[Record])
     requires { length room.old.items + length records.now ≤ vec_capacity room.old }
     ensures gathered { room.new.items ≡ room.old.items ++ records.now }

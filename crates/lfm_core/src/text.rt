@@ -1,13 +1,13 @@
 //! Schedules and traces as text, and the replay from the one to the other.
 
 pub mod grammar_laws;
-mod input;
-mod output;
+pub mod input;
+pub mod output;
 mod parsing;
 mod replaying;
 mod running;
 pub mod schedule;
-mod trace;
+pub mod trace;
 
 pub use replaying::replay;
 pub use running::run;

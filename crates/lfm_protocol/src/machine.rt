@@ -30,6 +30,7 @@ ghost use Rattle.lfm_protocol.specs.Step.{
 };
 
 mod readers;
+mod words;
 
 use crate::answers::{Call, Turn, Why};
 use crate::kinds::Kind;

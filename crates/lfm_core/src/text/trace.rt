@@ -94,7 +94,8 @@ fn write_waiting<W: Write>(writer: &mut W, answer: Unlocked) -> Result<(), Repla
     Ok(())
 }
 
-fn write_answer<W: Write>(writer: &mut W, answer: Answer) -> Result<(), ReplayFault>
+/// Writes an answer: `Held Queued 1`, `Asleep` and the others.
+pub fn write_answer<W: Write>(writer: &mut W, answer: Answer) -> Result<(), ReplayFault>
     ensures { Writes (W.contents writer.old) (W.contents writer.new) (answer_text answer) result }
 {
     match answer {
@@ -108,7 +109,8 @@ fn write_answer<W: Write>(writer: &mut W, answer: Answer) -> Result<(), ReplayFa
     }
 }
 
-fn write_why<W: Write>(writer: &mut W, why: Why) -> Result<(), ReplayFault>
+/// Writes the name of a refusal.
+pub fn write_why<W: Write>(writer: &mut W, why: Why) -> Result<(), ReplayFault>
     ensures { Writes (W.contents writer.old) (W.contents writer.new) (why_text why) result }
 {
     match why {
@@ -156,7 +158,8 @@ fn write_turn<W: Write>(writer: &mut W, act: Act, turn: Turn) -> Result<(), Repl
     }
 }
 
-fn write_handoff<W: Write>(writer: &mut W, handoff: Handoff) -> Result<(), ReplayFault>
+/// Writes a handoff: 0, or the seat and its post number, as in `1.1`.
+pub fn write_handoff<W: Write>(writer: &mut W, handoff: Handoff) -> Result<(), ReplayFault>
     ensures { Writes (W.contents writer.old) (W.contents writer.new) (handoff_text handoff) result }
 {
     if handoff.seat == 0 {
@@ -168,7 +171,8 @@ fn write_handoff<W: Write>(writer: &mut W, handoff: Handoff) -> Result<(), Repla
     Ok(())
 }
 
-fn write_place<W: Write>(writer: &mut W, place: Place) -> Result<(), ReplayFault>
+/// Writes where the responsibility lies: `owner.1`, `posted` and the others.
+pub fn write_place<W: Write>(writer: &mut W, place: Place) -> Result<(), ReplayFault>
     ensures { Writes (W.contents writer.old) (W.contents writer.new) (place_text place) result }
 {
     match place {

@@ -1,0 +1,3 @@
+pub mod tables
+pub mod runs
+pub mod ends

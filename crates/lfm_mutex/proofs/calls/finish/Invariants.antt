@@ -1,0 +1,22 @@
+use Rattle.std.proofs.Common.{◌≡◌, length}
+use Rattle.std.specs.Prelude.{false}
+use Rattle.lfm_protocol.specs.declared.answers.Turn.TheVariants.{Open}
+use Rattle.lfm_mutex.specs.calls.Runs.{errand, is_release, Ran, opens, weight}
+use Rattle.lfm_mutex.specs.table.Rule.{value_in}
+use Rattle.lfm_mutex.specs.calls.Sight.{Concludes, Stays}
+use Rattle.lfm_mutex.proofs.calls.finish.Given as goal
+
+abbrev pub invariant-loop-ended : goal.invariant-loop-ended
+invariant-loop-ended g l = record {
+  belongs : l.seat.place.table_id ≡ l.mutex.table.shared.table_id;
+  same : (l.seat.number ≡ l.fn.seat.number) × (l.seat.limits ≡ l.fn.seat.limits) × (l.seat.place.table_id ≡ l.fn.seat.place.table_id);
+  call : errand l.seat.standing.point ≡ errand l.fn.seat.standing.point;
+  keeps : is_release l.seat.standing.point ≡ false;
+  last : l.seat.place.me.0.last ≡ l.fn.seat.place.me.0.last;
+  ran : Ran l.fn.seat.number (opens l.fn.seat.standing) l.fn.seat.place.me.0 Open l.seat.standing l.seat.place.me.0;
+  concludes : Concludes l.fn.seat.standing Open l.seat.standing;
+  stays : Stays l.fn.seat.standing.depth l.fn.seat.place.me.0 (value_in l.fn.seat.moving) l.seat.place.me.0 (value_in l.seat.moving);
+}
+
+abbrev pub decreases-loop-ended : goal.decreases-loop-ended
+decreases-loop-ended g l = weight l.seat.limits.seats (length l.seat.place.me.0.popped) l.seat.standing.point

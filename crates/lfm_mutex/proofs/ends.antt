@@ -1,0 +1,3 @@
+-- How seats are split off and joined, and what is known when all are back.
+pub mod Ends
+pub mod Seats

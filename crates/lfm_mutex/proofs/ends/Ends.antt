@@ -1,0 +1,216 @@
+-- Lists of seats as they come back, and the end of a table.
+use Rattle.std.specs.List.{remove}
+use Rattle.std.specs.Prelude.{Bool, false}
+use Rattle.std.proofs.Common.{◌≡◌, ◌≢◌, ℕ, zero, suc, eqb, eq-eqb, ne_eqb, if◌then◌else◌, ◌+◌, ◌<◌, ◌≤◌, List, [], ◌∷◌, ◌++◌, length, get_or, sym, refl, ap, ◌∙◌, subst, ◌⊎◌, ⊎_elim, inl, inr, arith, Option, Some}
+use mathlib.Core.Option.{some, some-injective, some-ne-none}
+use lib.ListN.{get_elem?}
+use mathlib.Core.Logic.{dite}
+use native.Mathlib.Decide.{ℕ_discrete}
+use Rattle.atomic_table.specs.Table.{State, Me, Final, Seen}
+use Rattle.atomic_table.proofs.Lists.{at_last, at_longer, at_index}
+use Rattle.lfm_protocol.specs.declared.answers.Call.{Call}
+use Rattle.lfm_protocol.specs.declared.answers.Call.TheVariants.{Receive}
+use Rattle.lfm_protocol.specs.declared.limits.Limits.{Limits}
+use Rattle.lfm_protocol.specs.declared.points.Point.{Point}
+use Rattle.lfm_protocol.specs.declared.points.Point.TheVariants.{Rest, Asleep}
+use Rattle.lfm_protocol.specs.declared.points.Sleeper.{Sleeper}
+use Rattle.lfm_protocol.specs.declared.seats.SeatState.{SeatState}
+use Rattle.lfm_protocol.specs.Begin as Begin
+use Rattle.lfm_core.specs.table.Carried.{carries_value}
+use Rattle.lfm_protocol.specs.Seats.{seat}
+use Rattle.lfm_core.specs.table.Settles.{begun}
+use Rattle.lfm_core.proofs.steady.frames.Entries.{seat_zero}
+use Rattle.lfm_mutex.specs.declared.closing.Missing.{Missing}
+use Rattle.lfm_mutex.specs.declared.closing.Missing.TheVariants.{NotBack, Holding, Asleep as Sleeping}
+use Rattle.lfm_mutex.specs.declared.table.seat_view.Role.{Role}
+use Rattle.lfm_mutex.specs.declared.table.seat_view.Role.TheVariants.{User, Retired}
+use Rattle.lfm_mutex.specs.declared.table.seat_view.Joined.{Joined}
+use Rattle.lfm_mutex.specs.declared.table.seat_view.View.{View}
+use Rattle.lfm_mutex.specs.declared.table.rule.Moving.{Moving}
+use Rattle.lfm_mutex.specs.Closing.{Hinders, Hindered, named}
+use Rattle.lfm_mutex.specs.Reach.{Reached}
+use Rattle.lfm_mutex.specs.table.Rule.{total, retired, retired_at, in_hand, Held}
+use Rattle.lfm_mutex.specs.table.Seats.{Seated}
+use Rattle.lfm_mutex.specs.table.Settled.{Became, calls_to}
+use Rattle.lfm_mutex.proofs.tables.RuleKept.{length_at}
+use Rattle.lfm_mutex.proofs.tables.StepFacts.{became_depth}
+
+total_at : {A : Type 0} (f : A → ℕ) (l : List A) (i : ℕ) (a : A) → get_elem? l i ≡ some a → f a ≤ total f l
+total_at f [] i a e = absurd (some-ne-none a (sym e))
+total_at f (x ∷ xs) zero a e = let q : f x ≡ f a = ap f (some-injective x a e) in omega arith
+total_at f (x ∷ xs) (suc i) a e = let h = total_at f xs i a e in omega arith
+
+total_two : {A : Type 0} (f : A → ℕ) (l : List A) (i j : ℕ) (a b : A) → get_elem? l i ≡ some a → get_elem? l j ≡ some b → j ≢ i → f a + f b ≤ total f l
+total_two f [] i j a b e h n = absurd (some-ne-none a (sym e))
+total_two f (x ∷ xs) zero zero a b e h n = absurd (n refl)
+total_two f (x ∷ xs) zero (suc j) a b e h n = let q : f x ≡ f a = ap f (some-injective x a e) in let t = total_at f xs j b h in omega arith
+total_two f (x ∷ xs) (suc i) zero a b e h n = let q : f x ≡ f b = ap f (some-injective x b h) in let t = total_at f xs i a e in omega arith
+total_two f (x ∷ xs) (suc i) (suc j) a b e h n = let t = total_two f xs i j a b e h (λ q. n (ap suc q)) in omega arith
+
+-- A seat that rests after a begin rested before it
+
+asleep_rests : (x : SeatState) (sleeper : Sleeper) (call : Call) → x.point ≡ Asleep sleeper → (Begin.begin_asleep x sleeper call).seat.point ≡ Rest → x.point ≡ Rest
+asleep_rests x sleeper Receive at e = absurd (cc)
+asleep_rests x sleeper _ at e = e
+
+begin_rests : (x : SeatState) (l : Limits) (call : Call) (q : Point) → x.point ≡ q → (Begin.begin_at x l call q).seat.point ≡ Rest → x.point ≡ Rest
+begin_rests x l call Rest at e = at
+begin_rests x l call (Asleep sleeper) at e = asleep_rests x sleeper call at e
+begin_rests x l call _ at e = e
+
+begun_rests : (x : SeatState) (l : Limits) (calls : List Call) → (begun x l calls).point ≡ Rest → x.point ≡ Rest
+begun_rests x l [] e = e
+begun_rests x l (call ∷ calls) e = begun_rests x l calls (begin_rests (begun x l calls) l call (begun x l calls).point refl e)
+
+pub became_rests : (x : SeatState) (l : Limits) (p : SeatState) → Became x l p → p.point ≡ Rest → x.point ≡ Rest
+became_rests x l p b e = begun_rests x l (calls_to x p) (ap (λ y. y.point) (sym b.leads) ∙ e)
+
+resting : (x : SeatState) → x.point ≡ Rest → x.depth ≡ 0 → carries_value x ≡ false
+resting x rests flat = rw (rests, flat) refl
+
+-- a seat that may be joined: it carries nothing
+pub free_seat : {T : Type 0} (number : ℕ) (l : Limits) (p : SeatState) (m : Me (Option (Moving T)) (View T)) (a : Option (Moving T)) → Seated number l p m a → Became m.0.standing l p → p.depth ≡ 0 → p.point ≡ Rest
+    → (m.0.role ≡ User) × (m.1 ≡ []) × (m.0.standing.point ≡ Rest) × (m.0.standing.depth ≡ 0)
+free_seat number l p m a s b shallow rests = (s.user, s.hand ∙ ap in_hand (resting p rests shallow), became_rests m.0.standing l p b rests, became_depth m.0.standing l p b shallow)
+
+is_user : (r : Role) → (r ≡ User) ⊎ (r ≡ Retired)
+is_user User = inl refl
+is_user Retired = inr refl
+
+abbrev used_at : Role → ℕ
+used_at User = 1
+used_at _ = 0
+
+one_role : (r : Role) → retired_at r + used_at r ≡ 1
+one_role User = refl
+one_role Retired = refl
+
+module _ {T : Type 0} where
+  abbrev used : View T → ℕ
+  used v = used_at v.role
+
+  roles : (vs : List (View T)) → total retired vs + total used vs ≡ length vs
+  roles [] = refl
+  roles (v ∷ vs) = let a = roles vs in let b = one_role v.role in omega arith
+
+there_or_past : {A : Type 0} (l : List A) (j : ℕ) → ((x : A) × (get_elem? l j ≡ some x)) ⊎ (length l ≤ j)
+there_or_past [] j = inr (omega arith)
+there_or_past (x ∷ xs) zero = inl (x, refl)
+there_or_past (x ∷ xs) (suc j) = ⊎_elim (λ t. inl (t.0, t.1)) (λ h. inr (omega (arith, h))) (there_or_past xs j)
+
+module _ {T : Type 0} (follows : ℕ → T → T → Type 0) (suits : T → ℕ → Type 0) where
+  abbrev St : Type 0
+  St = State (Option (Moving T)) (View T)
+
+  -- where all seats are back, nobody carries
+  nobody : (s : St) (h : Held follows suits s) (v : View T) → get_elem? s.views 0 ≡ some v → v.made ≤ length v.joined → v.standing.point ≡ Rest → v.standing.depth ≡ 0 → (t : ℕ) → carries_value (seat h.core.seats t) ≡ false
+  nobody s h v at back rests flat zero = ap carries_value (seat_zero h.core.seats)
+  nobody s h v at back rests flat (suc j) =
+      let k = h.root v at in let r = roles s.views in let one : used v ≡ 1 = ap used_at k.user in let e0 = k.made in let e1 = k.back in
+      let next : suc j ≡ j + 1 = omega arith in
+      ap (λ n. carries_value (seat h.core.seats n)) next ∙ ⊎_elim
+      (λ (z : (x : View T) × (get_elem? s.views j ≡ some x)). ap carries_value (h.each j z.0 z.1).standing ∙ ⊎_elim
+      (λ (u : z.0.role ≡ User). dite (ℕ_discrete j 0)
+      (λ zero_j. let same : v ≡ z.0 = some-injective v z.0 (sym at ∙ subst (λ (i : ℕ). get_elem? s.views i ≡ some z.0) zero_j z.1) in subst (λ (y : View T). carries_value y.standing ≡ false) same (resting v.standing rests flat))
+      (λ other. absurd (let one' : used z.0 ≡ 1 = ap used_at u in let b = total_two used s.views 0 j v z.0 at z.1 other in omega arith)))
+      (λ (u : z.0.role ≡ Retired). let o = h.others j z.0 z.1 u in resting z.0.standing o.0 o.1) (is_user z.0.role))
+      (λ far. ap carries_value (h.later j far)) (there_or_past s.views j)
+
+  -- the value at the end is reached from what each seat left last
+  abbrev pub Reaches_all : View T → T → Type 0
+  Reaches_all v w = ((l : T) → v.last ≡ Some l → Reached follows v.number l w) × ((i : ℕ) (g : Joined T) (l : T) → get_elem? v.joined i ≡ some g → g.last ≡ Some l → Reached follows g.number l w)
+
+  pub ends : (v : View T) (ws : List ℕ) (xs : List (Option (Moving T))) → v.made ≤ length v.joined → v.standing.point ≡ Rest → v.standing.depth ≡ 0 → Final (Seen (Held follows suits) 0 v) ws xs
+      → (x : Moving T) × (get_elem? xs 0 ≡ some (Some x)) × Reaches_all v x.value × (length v.joined ≤ v.made)
+  ends v ws xs back rests flat end = let s = end.0 in let h = end.1.0 in let at = end.1.1 in let x = h.home (nobody s h v at back rests flat) in let k = h.root v at in
+      let each : (j : ℕ) (z : View T) (l : T) → get_elem? s.views j ≡ some z → z.last ≡ Some l → Reached follows z.number l x.value.value =
+      (λ j z l e is. subst (λ (n : ℕ). Reached follows n l x.value.value) (sym (h.each j z e).number) (x.leads j z l e tt is)) in (
+        x.value,
+        end.4 0 (Some x.value) x.here,
+        (λ l is. each 0 v l at is, λ i g l e is. let a = k.kept i g e in subst (λ (n : ℕ). Reached follows n l x.value.value) a.4 (each a.0 a.1 l a.2 (a.5 ∙ is))),
+        let r = roles s.views in let one : used v ≡ 1 = ap used_at k.user in let here = total_at used s.views 0 v at in let e0 = k.made in let e1 = k.back in omega arith,
+      )
+
+-- an item that was taken from the end of a list
+pub was_last : {A : Type 0} (old l : List A) (x : A) → old ≡ l ++ x ∷ [] → get_elem? old (length l) ≡ some x
+was_last old l x e = ap (λ z. get_elem? z (length l)) e ∙ at_last l x (length l) refl
+
+pub was_there : {A : Type 0} (old l : List A) (x y : A) (j : ℕ) → old ≡ l ++ x ∷ [] → get_elem? l j ≡ some y → get_elem? old j ≡ some y
+was_there old l x y j e at = ap (λ z. get_elem? z j) e ∙ at_longer l (x ∷ []) j y at
+
+-- a fact on each index below i, and on the item at i
+pub up_to : {A : Type 0} (P : A → Type 0) (l : List A) (i : ℕ) (x : A) → i < length l → x ≡ get_or l i x → P x → ((j : ℕ) (y : A) → j < i → get_elem? l j ≡ some y → P y) → (j : ℕ) (y : A) → j < i + 1 → get_elem? l j ≡ some y → P y
+up_to P l i x here is p below j y lt e = dite (ℕ_discrete j i) (λ q. subst P (some-injective x y (sym (at_index l i x here is) ∙ (ap (get_elem? l) (sym q) ∙ e))) p) (λ n. below j y (omega arith) e)
+
+-- the item that a loop over a list is at
+pub item_at : {A : Type 0} (l m : List A) (i : ℕ) (x : A) → i < length l → x ≡ get_or m i x → m ≡ l → get_elem? l i ≡ some x
+item_at l m i x here is same = at_index l i x here (is ∙ ap (λ z. get_or z i x) same)
+
+pub each_of : {A : Type 0} (P : A → Type 0) (l : List A) (i : ℕ) → length l ≤ i → ((j : ℕ) (y : A) → j < i → get_elem? l j ≡ some y → P y) → (j : ℕ) (y : A) → get_elem? l j ≡ some y → P y
+each_of P l i far below j y e = let r = length_at l j y e in below j y (omega arith) e
+
+-- what is left where one item is taken out
+pub in_removed : {A : Type 0} (xs : List A) (i j : ℕ) (y : A) → get_elem? (remove xs i) j ≡ some y → (k : ℕ) × (get_elem? xs k ≡ some y)
+in_removed [] zero j y e = absurd (some-ne-none y (sym e))
+in_removed [] (suc i) j y e = absurd (some-ne-none y (sym e))
+in_removed (x ∷ xs) zero j y e = (suc j, e)
+in_removed (x ∷ xs) (suc i) zero y e = (0, e)
+in_removed (x ∷ xs) (suc i) (suc j) y e = let a = in_removed xs i j y e in (suc a.0, a.1)
+
+pub not_removed : {A : Type 0} (xs : List A) (i k : ℕ) (y : A) → get_elem? xs k ≡ some y → (k ≡ i) ⊎ ((j : ℕ) × (get_elem? (remove xs i) j ≡ some y))
+not_removed [] i k y e = absurd (some-ne-none y (sym e))
+not_removed (x ∷ xs) zero zero y e = inl refl
+not_removed (x ∷ xs) zero (suc k) y e = inr (k, e)
+not_removed (x ∷ xs) (suc i) zero y e = inr (0, e)
+not_removed (x ∷ xs) (suc i) (suc k) y e = ⊎_elim (λ t. inl (ap suc t)) (λ t. inr (suc t.0, t.1)) (not_removed xs i k y e)
+
+-- a list in which each number from 1 to n is found has n items
+abbrev at_number : ℕ → ℕ → ℕ
+at_number k x = if eqb x k then 1 else 0
+
+abbrev up_to_number : ℕ → ℕ → ℕ
+up_to_number zero x = 0
+up_to_number (suc n) x = up_to_number n x + at_number (suc n) x
+
+at_else : (k x : ℕ) → x ≢ k → at_number k x ≡ 0
+at_else k x n = ap (λ (b : Bool). (if b then 1 else 0)) (ne_eqb x k n)
+
+at_same : (k x : ℕ) → x ≡ k → at_number k x ≡ 1
+at_same k x e = ap (λ (b : Bool). (if b then 1 else 0)) (eq-eqb x k e)
+
+above : (n x : ℕ) → n < x → up_to_number n x ≡ 0
+above zero x h = refl
+above (suc n) x h = let a = above n x (omega arith) in let b = at_else (suc n) x (λ e. omega arith) in omega arith
+
+once : (n x : ℕ) → up_to_number n x ≤ 1
+once zero x = omega arith
+once (suc n) x = dite (ℕ_discrete x (suc n)) (λ e. let a = above n x (omega arith) in let b = at_same (suc n) x e in omega arith) (λ ne. let a = once n x in let b = at_else (suc n) x ne in omega arith)
+
+total_once : {A : Type 0} (f : A → ℕ) (l : List A) → ((a : A) → f a ≤ 1) → total f l ≤ length l
+total_once f [] h = omega arith
+total_once f (x ∷ xs) h = let a = h x in let b = total_once f xs h in omega arith
+
+total_sum : {A : Type 0} (f g : A → ℕ) (l : List A) → total (λ a. f a + g a) l ≡ total f l + total g l
+total_sum f g [] = refl
+total_sum f g (x ∷ xs) = let a = total_sum f g xs in omega arith
+
+found_all : {A : Type 0} (number : A → ℕ) (l : List A) (n : ℕ) → ((k : ℕ) → 0 < k → k ≤ n → (i : ℕ) × (s : A) × (get_elem? l i ≡ some s) × (number s ≡ k)) → n ≤ total (λ s. up_to_number n (number s)) l
+found_all number l zero h = omega arith
+found_all number l (suc n) h = let a = found_all number l n (λ k p q. h k p (omega arith)) in let s = h (suc n) (omega arith) (omega arith) in
+    let b = total_at (λ s. at_number (suc n) (number s)) l s.0 s.1 s.2 in let c = at_same (suc n) (number s.1) s.3 in
+    let d = total_sum (λ s. up_to_number n (number s)) (λ s. at_number (suc n) (number s)) l in omega arith
+
+pub pigeons : {A : Type 0} (number : A → ℕ) (l : List A) (n : ℕ) → ((k : ℕ) → 0 < k → k ≤ n → (i : ℕ) × (s : A) × (get_elem? l i ≡ some s) × (number s ≡ k)) → n ≤ length l
+pigeons number l n h = let a = found_all number l n h in let b = total_once (λ s. up_to_number n (number s)) l (λ s. once n (number s)) in omega arith
+
+-- what hinders a seat of the list
+pub hindered_at : {A : Type 0} (number : A → ℕ) (f : A → SeatState) (l : List A) (i : ℕ) (s : A) (k : ℕ) (m : Missing) → get_elem? l i ≡ some s → number s ≡ k → Hinders m (number s) (f s) → (named m ≡ k) × Hindered number f l m
+hindered_at number f l i s k (NotBack n) at e h = absurd h
+hindered_at number f l i s k (Holding n) at e h = (sym h.0 ∙ e, (i, s, at, h))
+hindered_at number f l i s k (Sleeping n) at e h = (sym h.0 ∙ e, (i, s, at, h))
+
+pub at_end_of : {A : Type 0} (l : List A) (a : A) → get_elem? (l ++ a ∷ []) (length l) ≡ some a
+at_end_of l a = at_last l a (length l) refl
+
+pub longer : {A : Type 0} (l : List A) (a : A) (j : ℕ) (y : A) → get_elem? l j ≡ some y → get_elem? (l ++ a ∷ []) j ≡ some y
+longer l a j y e = at_longer l (a ∷ []) j y e

@@ -1,0 +1,24 @@
+use Rattle.std.proofs.Common.{◌≡◌, ◌+◌, ◌≤◌, ◌⊎◌, ℕ, [], vec_len, length}
+use mathlib.Core.Option.{some}
+use lib.ListN.{get_elem?}
+use Rattle.lfm_protocol.specs.declared.points.Point.TheVariants.{Rest}
+use Rattle.lfm_mutex.specs.declared.table.seat_view.Role.TheVariants.{User}
+use Rattle.lfm_mutex.specs.table.Rule.{joined_of}
+use Rattle.lfm_mutex.proofs.mutex.Mutex.close.Given as goal
+
+abbrev pub invariant-loop-seat : goal.invariant-loop-seat
+invariant-loop-seat g l = record {
+  table : l.root.table_id ≡ l.table.shared.table_id;
+  root : (l.root.id ≡ 0) × (l.root.me.0.role ≡ User) × (l.root.me.1 ≡ []) × (l.root.me.0.standing.point ≡ Rest) × (l.root.me.0.standing.depth ≡ 0);
+  counts : l.root.me.0.made ≤ length l.root.me.0.joined + vec_len l.seats;
+  all : (l.root.me.0.made + 1 ≡ l.fn.self.limits.seats) × (length l.root.me.0.joined + vec_len l.seats + 1 ≡ vec_len l.fn.seats);
+  seats : (j : ℕ) (s : _) → get_elem? l.seats.items j ≡ some s → ((g.P.Holder.seat_of s).place.table_id ≡ l.table.shared.table_id) × ((g.P.Holder.seat_of s).standing.depth ≡ 0) × ((g.P.Holder.seat_of s).standing.point ≡ Rest);
+  each : (j : ℕ) (s : _) → get_elem? l.fn.seats.items j ≡ some s →
+      ((i : ℕ) × (get_elem? l.seats.items i ≡ some s)) ⊎ (((i : ℕ) × (get_elem? l.root.me.0.joined i ≡ some (joined_of (g.P.Holder.seat_of s).place.me.0))) ⊎ ((l.root.me.0.last ≡ (g.P.Holder.seat_of s).place.me.0.last) × (l.root.me.0.number ≡ (g.P.Holder.seat_of s).place.me.0.number)));
+}
+
+abbrev pub decreases-loop-seat : goal.decreases-loop-seat
+decreases-loop-seat g l = goal.left-loop-seat g l
+
+abbrev pub ghosts-retire : goal.ghosts-retire
+ghosts-retire g a = record { view = a.place.me.0 }

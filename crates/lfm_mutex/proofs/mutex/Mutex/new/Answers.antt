@@ -1,0 +1,92 @@
+use Rattle.std.proofs.Common.{rules, ◌≡◌, ℕ, [], ◌∷◌, ◌+◌, ◌*◌, List, replicate, ap, ◌∙◌, sym, refl, subst, arith, length, Some, Option}
+use Rattle.std.specs.Prelude.{true}
+use Rattle.atomic_table.specs.Table.{Splits, opening}
+use Rattle.lfm_protocol.specs.declared.limits.Limits.{Limits}
+use Rattle.lfm_protocol.specs.Limits.{are_in_limits}
+use Rattle.lfm_mutex.specs.declared.table.rule.Moving.{Moving}
+use Rattle.lfm_mutex.specs.Fresh.{Fresh}
+use Rattle.lfm_mutex.specs.table.Rule.{Held, with_split, split_view, first_view}
+use Rattle.lfm_mutex.proofs.ends.Seats.{starts, splits, and_last, and_first, fresh_seated, fresh_became, fresh_ready, limit_facts}
+use Rattle.lfm_mutex.proofs.mutex.Mutex.new.Goals as goal
+
+pub new-requires-2 : goal.new-requires-2
+new-requires-2 g c = let ws = c.as_slice.result.now in let l : Limits = record { seats = c.args.seats; budget = c.args.budget } in
+    let x : Moving g.row.T.Denot = record { popped = c.in-Ok.popped; value = c.args.value } in let e : c.push.new.self.items ≡ Some x ∷ [] = search rules in let v : c.of.result.value ≡ c.args.value = search rules in
+    let are : ws ≡ replicate (4 + 2 * c.args.seats) 0 = c.as_slice.ensures.value ∙ c.in-Ok-from_elem.ensures.items_if_clones_equal (λ y q. q) in
+    let allowed : are_in_limits c.args.seats c.args.budget ≡ true = search rules in
+    let made = c.in-Ok.ensures in
+    subst (λ (t : List (Option (Moving g.row.T.Denot)) × g.row.T.Denot). Held g.T.Kept.follows g.T.Kept.fits (opening ws t.0 (first_view l t.1))) (λ i. (sym e i, sym v i))
+    (starts g.T.Kept.follows g.T.Kept.fits l ws x allowed are (ap (λ p. p.records) made) (ap (λ p. p.room) made) c.requires.fits)
+
+pub split_seat-place-requires : goal.split_seat-place-requires
+split_seat-place-requires g c = let k = c.loop-i.invariant in let v = c.loop-i.root.me.0 in let t = c.loop-i-test.true in let m = k.made in let s = ap (λ l. l.seats) k.limits_are in
+    (search rules, search rules, subst (λ i. Splits (Held g.T.Kept.follows g.T.Kept.fits) i v (with_split v) (split_view v)) (sym k.id) (splits g.T.Kept.follows g.T.Kept.fits v k.role (omega arith)))
+
+pub invariant_of-push_reserved : goal.invariant_of-push_reserved
+invariant_of-push_reserved g c = let k = c.loop-i.invariant in let r = c.split_seat-place.result in let l : Limits = record { seats = c.args.seats; budget = c.args.budget } in
+    let cut = c.split_seat-place.ensures in let me = cut.4 in let t = c.loop-i-test.true in let m = k.made in
+    let allowed : are_in_limits c.args.seats c.args.budget ≡ true = search rules in
+    let facts = limit_facts c.args.seats c.args.budget allowed in
+    let named : r.me.0.number ≡ c.loop-i.i + 1 = (let e = ap (λ z. z.0.number) me in omega arith) in
+    let sized : r.me.0.limits ≡ l = ap (λ z. z.0.limits) me ∙ k.limits_are in
+    record {
+      seated = fresh_seated r.table_id.words r.id (c.loop-i.i + 1) l c.at_rest.result r.me c.at_rest.ensures (ap (λ z. z.0.role) me) named sized (ap (λ z. z.1) me) (ap (λ z. z.0.standing) me);
+      became = fresh_became r.table_id.words r.id (c.loop-i.i + 1) l c.at_rest.result r.me c.at_rest.ensures (ap (λ z. z.0.role) me) named sized (ap (λ z. z.1) me) (ap (λ z. z.0.standing) me);
+      ready = fresh_ready r.table_id.words r.id (c.loop-i.i + 1) l c.at_rest.result r.me c.at_rest.ensures (ap (λ z. z.0.role) me) named sized (ap (λ z. z.1) me) (ap (λ z. z.0.standing) me) (omega arith) (omega arith);
+      rooted = record {
+        low = omega arith;
+        high = omega arith;
+        few = facts.1;
+        wide = search rules;
+        first = λ e. absurd (omega arith);
+        made = λ e. absurd (omega arith);
+        back = λ e. absurd (omega arith);
+      };
+    }
+
+pub loop-i-preserved : goal.loop-i-preserved
+loop-i-preserved g c = let v = c.loop-i.invariant in let cut = c.split_seat-place.ensures in let me = cut.2 in let n = v.made in let m = v.room.0 in let l : Limits = record { seats = c.args.seats; budget = c.args.budget } in record {
+  table = cut.0 ∙ v.table;
+  id = cut.1 ∙ v.id;
+  role = ap (λ m. m.0.role) me ∙ v.role;
+  number = ap (λ m. m.0.number) me ∙ v.number;
+  limits_are = ap (λ m. m.0.limits) me ∙ v.limits_are;
+  hand = ap (λ m. m.1) me ∙ v.hand;
+  made = let a = ap (λ m. m.0.made) me in omega arith;
+  joined = ap (λ m. length m.0.joined) me ∙ v.joined;
+  opening = ap (λ m. m.0.opening) me ∙ v.opening;
+  last = ap (λ m. m.0.last) me ∙ v.last;
+  trail = ap (λ m. m.0.trail) me ∙ v.trail;
+  standing = ap (λ m. m.0.standing) me ∙ v.standing;
+  room = search rules;
+  fresh = and_last (λ j s. (s.place.table_id ≡ c.in-Ok-new.table.shared.table_id) × Fresh c.args.value (j + 2) s.number s.limits s.standing s.place.me s.moving l) c.loop-i.all.items c.push_reserved.new.self.items _ c.push_reserved.ensures.items
+      (cut.3 ∙ v.table, ((let q : c.loop-i.i + 1 ≡ length c.loop-i.all.items + 2 = omega arith in q), refl, c.at_rest.ensures, refl, ap (λ m. m.0.trail) cut.4, ap (λ m. m.0.last) cut.4 ∙ v.opening)) v.fresh;
+}
+
+pub invariant_of-first : goal.invariant_of-first
+invariant_of-first g c = let k = c.loop-i.invariant in let r = c.loop-i.root in let l : Limits = record { seats = c.args.seats; budget = c.args.budget } in
+    let allowed : are_in_limits c.args.seats c.args.budget ≡ true = search rules in
+    let facts = limit_facts c.args.seats c.args.budget allowed in
+    let t = c.loop-i-test.false in let m = k.made in let some = facts.0 in
+    record {
+      seated = fresh_seated r.table_id.words r.id 1 l c.at_rest-2.result r.me c.at_rest-2.ensures k.role k.number k.limits_are k.hand k.standing;
+      became = fresh_became r.table_id.words r.id 1 l c.at_rest-2.result r.me c.at_rest-2.ensures k.role k.number k.limits_are k.hand k.standing;
+      ready = fresh_ready r.table_id.words r.id 1 l c.at_rest-2.result r.me c.at_rest-2.ensures k.role k.number k.limits_are k.hand k.standing (omega arith) (omega arith);
+      rooted = record {
+        low = omega arith;
+        high = omega arith;
+        few = facts.1;
+        wide = search rules;
+        first = λ e. k.id;
+        made = λ e. search rules;
+        back = λ e. k.joined;
+      };
+    }
+
+pub returns : goal.returns
+returns g c = let v = c.loop-i.invariant in let l : Limits = record { seats = c.args.seats; budget = c.args.budget } in (
+  refl,
+  search rules,
+  and_first (λ j s. (s.place.table_id ≡ c.in-Ok-new.table.shared.table_id) × Fresh c.args.value (j + 1) s.number s.limits s.standing s.place.me s.moving l) c.loop-i.all.items _ _ c.in-Ok-insert.ensures.items
+      (v.table, (refl, refl, c.at_rest-2.ensures, refl, v.trail, v.last)) (λ j y e. subst (λ (n : ℕ). (y.place.table_id ≡ c.in-Ok-new.table.shared.table_id) × Fresh c.args.value n y.number y.limits y.standing y.place.me y.moving l) (let q : j + 2 ≡ j + 1 + 1 = omega arith in q) (v.fresh j y e)),
+)

@@ -1,0 +1,25 @@
+use Rattle.std.proofs.Common.{length, ◌≡◌, ◌≤◌, ◌+◌, ℕ, [], vec_len, vec_capacity, Some}
+use mathlib.Core.Option.{some}
+use lib.ListN.{get_elem?}
+use Rattle.lfm_protocol.specs.Seats.{absent}
+use Rattle.lfm_mutex.specs.declared.table.seat_view.Role.TheVariants.{User}
+use Rattle.lfm_mutex.specs.Fresh.{Fresh}
+use Rattle.lfm_mutex.proofs.mutex.Mutex.new.Given as goal
+
+abbrev pub invariant-loop-i : goal.invariant-loop-i
+invariant-loop-i g l = record {
+  table : l.root.table_id ≡ l.table.shared.table_id;
+  id : l.root.id ≡ 0;
+  role : l.root.me.0.role ≡ User;
+  number : l.root.me.0.number ≡ 1;
+  limits_are : l.root.me.0.limits ≡ l.limits;
+  hand : l.root.me.1 ≡ [];
+  made : l.root.me.0.made + 1 ≡ l.i;
+  joined : length l.root.me.0.joined ≡ 0;
+  opening : l.root.me.0.opening ≡ Some l.fn.value;
+  last : l.root.me.0.last ≡ Some l.fn.value;
+  trail : l.root.me.0.trail ≡ [];
+  standing : l.root.me.0.standing ≡ absent;
+  room : (length l.all.items + 1 ≡ l.i) × (vec_len l.all + 1 ≡ l.i) × (l.seats ≤ vec_capacity l.all);
+  fresh : (j : ℕ) (s : _) → get_elem? l.all.items j ≡ some s → (s.place.table_id ≡ l.table.shared.table_id) × Fresh l.fn.value (j + 2) s.number s.limits s.standing s.place.me s.moving l.limits;
+}

@@ -1,0 +1,425 @@
+-- A run of a call, one step longer.
+use Rattle.std.proofs.Common.{◌≡◌, ◌≢◌, ◌⊎◌, ℕ, ◌+◌, ◌-◌, ◌<◌, nat_eq, if◌then◌else◌, Bool, true, false, Option, Some, None, List, [], ◌∷◌, ◌++◌, length, refl, sym, ap, subst, ◌∙◌, arith, inl, inr, append_assoc, append-nil}
+use Rattle.std.specs.Prelude.{⊤, nat_lt, ◌&&◌, Result, Ok}
+use Rattle.std.proofs.lemmas.Bool.{false≢true}
+use Rattle.lfm_model.specs.declared.answers.Unlocked.{Unlocked}
+use Rattle.lfm_model.specs.declared.refusals.Refusal.{Refusal}
+use Rattle.lfm_protocol.specs.declared.answers.Answer.{Answer}
+use Rattle.lfm_protocol.specs.declared.answers.Call.{Call}
+use Rattle.lfm_protocol.specs.declared.limits.Limits.{Limits}
+use Rattle.lfm_protocol.specs.declared.points.Releaser.{Releaser}
+use Rattle.lfm_protocol.specs.declared.points.Releaser.TheVariants.{Unlocker, Waiter}
+use Rattle.lfm_protocol.specs.declared.points.Sleeper.{Sleeper}
+use Rattle.lfm_protocol.specs.Begin as Begin
+use Rattle.atomic_table.specs.Table.{Me}
+use Rattle.lfm_words.specs.declared.pop_lists.Record.{Record}
+use Rattle.lfm_words.specs.Popped.{oldest}
+use Rattle.lfm_protocol.specs.declared.answers.Turn.{Turn}
+use Rattle.lfm_protocol.specs.declared.answers.Turn.TheVariants.{Open, Ended, Refused}
+use Rattle.lfm_protocol.specs.declared.kinds.Kind.{Kind}
+use Rattle.lfm_protocol.specs.declared.points.Point.{Point}
+use Rattle.lfm_protocol.specs.declared.points.Point.TheVariants.{Rest, Asleep, LockCountAdd, TryCountExchange, SendWakeExchange, ReleaseOwnerStore, EnterOwnerStore, TakeLinkLoad}
+use Rattle.lfm_protocol.specs.declared.seats.SeatState.{SeatState}
+use Rattle.lfm_protocol.specs.Begin.{Stepped, goes_on, refuses, charges}
+use Rattle.lfm_core.specs.table.Carried.{carries_value}
+use Rattle.lfm_protocol.specs.Place.{carries}
+use Rattle.lfm_protocol.specs.Points.{kind, target}
+use Rattle.lfm_core.specs.table.Ready.{IsReady, PacksLink}
+use Rattle.lfm_protocol.specs.Room.{PopFits}
+use Rattle.lfm_core.specs.steady.Steady.{DepthAt}
+use Rattle.lfm_core.specs.laws.Events.{answered, answered_by}
+use Rattle.lfm_protocol.specs.After.{held}
+use Rattle.lfm_model.specs.declared.answers.How.{How}
+use Rattle.lfm_protocol.specs.declared.points.Entrant.{Entrant}
+use Rattle.lfm_protocol.specs.Stores.{expected_push_at}
+use Rattle.lfm_core.specs.table.Words.{stepped_by, popped_of}
+use Rattle.lfm_mutex.specs.declared.table.seat_view.Seen.{Seen}
+use Rattle.lfm_mutex.specs.declared.table.seat_view.View.{View}
+use Rattle.lfm_mutex.specs.declared.table.rule.Moving.{Moving}
+use Rattle.lfm_mutex.specs.table.Rule.{seen, value_in, is_carried, Hands}
+use Rattle.lfm_mutex.specs.calls.Runs.{Errand, nothing, errand, Is_turn, Ends, weight, end_of, trail_of, Ran, opens, is_release, locking, trying, releasing, sending, answers_for, errand_of, is_releasing, Answers, Called_by, Called, how_held, Counts, Holds}
+use Rattle.lfm_mutex.specs.Reach.{Reached}
+use Rattle.lfm_mutex.specs.table.Seats.{Seated}
+use Rattle.lfm_mutex.specs.table.Steps.{Event, Goes_on, Value_goes}
+use Rattle.lfm_mutex.proofs.tables.RuleKept.{some_same}
+use Rattle.lfm_mutex.proofs.runs.RunFacts.{turns_step, falls, no_release, no_leaves, how_enters}
+use Rattle.lfm_mutex.proofs.tables.StepFacts.{left_same, left_new, carrying}
+
+end_more : (s : ℕ) (st : Stepped) (finds : List (ℕ × Option Record)) (n : ℕ) (o : Option Record) → end_of s st (finds ++ (n, o) ∷ []) ≡ stepped_by (end_of s st finds).seat s n o
+end_more s st [] n o = refl
+end_more s st (f ∷ finds) n o = end_more s (stepped_by st.seat s f.0 f.1) finds n o
+
+trail_more : (s : ℕ) (st : Stepped) (finds : List (ℕ × Option Record)) (n : ℕ) (o : Option Record) → trail_of s st.seat (finds ++ (n, o) ∷ []) ≡ trail_of s st.seat finds ++ seen (end_of s st finds).seat.point n ∷ []
+trail_more s st [] n o = refl
+trail_more s st (f ∷ finds) n o = ap (λ (l : List Seen). seen st.seat.point f.0 ∷ l) (trail_more s (stepped_by st.seat s f.0 f.1) finds n o)
+
+pub event_of : {T : Type 0} (follows : ℕ → T → T → Type 0) (suits : T → ℕ → Type 0) (k : Option Kind) (p p' : SeatState) (m m' : Me (Option (Moving T)) (View T)) (a a' : Option (Moving T)) (turn : Turn) → k ≢ None
+    → Goes_on k follows suits p a m turn p' a' m' → Event follows suits p a m.0 turn p' a' m'.0
+event_of follows suits None p p' m m' a a' turn some event = absurd (some refl)
+event_of follows suits (Some k) p p' m m' a a' turn some event = event
+
+pub ran_none : {T : Type 0} (s : ℕ) (p : SeatState) (v : View T) → Ran s (opens p) v Open p v
+ran_none s p v = record { finds = []; ends = refl; trail = sym (append-nil v.trail); root = record { number = refl; limits_are = refl; opening = refl; made = refl; joined_are = refl } }
+
+module _ {T : Type 0} (follows : ℕ → T → T → Type 0) (suits : T → ℕ → Type 0) (s : ℕ) (p0 : SeatState) (v0 : View T) (p q : SeatState) (v w : View T) (a b : Option (Moving T)) (turn : Turn) (ran : Ran s (opens p0) v0 Open p v) (named : v.number ≡ s)
+    (e : Event follows suits p a v turn q b w) where
+  abbrev o : Option Record
+  o = oldest e.did.popped
+
+  step_is : record { seat = q; turn = turn } ≡ stepped_by p s e.found o
+  step_is = (λ i. record { seat = e.seat_is i; turn = e.turn_is i }) ∙ ap (λ (k : ℕ). stepped_by p k e.found o) named
+
+  pub ran_more : Ran s (opens p0) v0 turn q w
+  ran_more = record {
+    finds = ran.finds ++ (e.found, o) ∷ [];
+    ends = end_more s (opens p0) ran.finds e.found o ∙ (ap (λ (z : Stepped). stepped_by z.seat s e.found o) ran.ends ∙ sym step_is);
+    trail = e.did.trail ∙ (ap (λ (l : List Seen). l ++ seen p.point e.found ∷ []) ran.trail ∙ (append_assoc v0.trail (trail_of s p0 ran.finds) (seen p.point e.found ∷ [])
+        ∙ ap (λ (l : List Seen). v0.trail ++ l) (sym (trail_more s (opens p0) ran.finds e.found o ∙ ap (λ (z : Stepped). trail_of s p0 ran.finds ++ seen z.seat.point e.found ∷ []) ran.ends))));
+    root = record {
+      number = e.did.root.number ∙ ran.root.number;
+      limits_are = e.did.root.limits_are ∙ ran.root.limits_are;
+      opening = e.did.root.opening ∙ ran.root.opening;
+      made = e.did.root.made ∙ ran.root.made;
+      joined_are = e.did.root.joined_are ∙ ran.root.joined_are;
+    };
+  }
+
+  pub last_more : is_release p.point ≡ false → w.last ≡ v.last
+  last_more keeps = e.did.last ∙ left_same p.point e.hand v.last (no_leaves p.point keeps)
+
+  pub turn_more : kind p.point ≢ None → Is_turn (errand p.point) turn q.point
+  turn_more some = subst (λ (z : Stepped). Is_turn (errand p.point) z.turn z.seat.point) (sym step_is) (turns_step p s e.found o some)
+
+  pub release_more : is_release p.point ≡ false → is_release q.point ≡ false
+  release_more keeps = ap (λ (z : Stepped). is_release z.seat.point) step_is ∙ no_release p s e.found o keeps
+
+link_grows : (x : SeatState) (t n : ℕ) (l : List Record) (k : Option Kind) → ((k ≡ Some Kind.LinkLoad) × (length (popped_of x t n l k) ≡ length l + 1)) ⊎ (k ≢ Some Kind.LinkLoad)
+link_grows x t n l (Some Kind.LinkLoad) = inl (refl, omega arith)
+link_grows x t n l None = inr (λ e. cc)
+link_grows x t n l (Some Kind.CountExchange) = inr (λ e. cc)
+link_grows x t n l (Some Kind.CountAdd) = inr (λ e. cc)
+link_grows x t n l (Some Kind.CountSubtract) = inr (λ e. cc)
+link_grows x t n l (Some Kind.OwnerLoad) = inr (λ e. cc)
+link_grows x t n l (Some Kind.OwnerStore) = inr (λ e. cc)
+link_grows x t n l (Some Kind.PushLoad) = inr (λ e. cc)
+link_grows x t n l (Some Kind.PushExchange) = inr (λ e. cc)
+link_grows x t n l (Some Kind.ClearHead) = inr (λ e. cc)
+link_grows x t n l (Some Kind.LinkStore) = inr (λ e. cc)
+link_grows x t n l (Some Kind.HandoffLoad) = inr (λ e. cc)
+link_grows x t n l (Some Kind.HandoffStore) = inr (λ e. cc)
+link_grows x t n l (Some Kind.HandoffExchange) = inr (λ e. cc)
+link_grows x t n l (Some Kind.WakeLoad) = inr (λ e. cc)
+link_grows x t n l (Some Kind.WakeStore) = inr (λ e. cc)
+link_grows x t n l (Some Kind.WakeExchange) = inr (λ e. cc)
+
+loads_carry : (q : Point) → kind q ≡ Some Kind.LinkLoad → carries q ≡ true
+loads_carry (TakeLinkLoad carrier next) e = refl
+loads_carry _ e = absurd (cc)
+
+fits_same : (k j n : ℕ) (b : Option Kind) → (b ≡ Some Kind.LinkLoad → k ≡ j) → PopFits k n b → PopFits j n b
+fits_same k j n (Some Kind.LinkLoad) same fits = let e = same refl in omega (arith, e, fits)
+fits_same k j n _ same fits = fits
+
+-- the number of steps that are left falls with each
+pub steps_left : {T : Type 0} (follows : ℕ → T → T → Type 0) (suits : T → ℕ → Type 0) (seats s : ℕ) (p q : SeatState) (v w : View T) (a b : Option (Moving T)) (turn : Turn) → kind p.point ≢ None → v.limits.seats ≡ seats → IsReady seats s p
+    → Event follows suits p a v turn q b w → weight seats (length w.popped) q.point < weight seats (length v.popped) p.point
+steps_left follows suits seats s p q v w a b turn some sized ready e =
+    let same : kind p.point ≡ Some Kind.LinkLoad → length e.did.popped ≡ length v.popped = (λ is. ap (λ (l : List Record). length l) (e.did.had (carrying p (loads_carry p.point is)))) in
+    let room : PopFits (length v.popped) seats (kind p.point) = fits_same (length e.did.popped) (length v.popped) seats (kind p.point) same (subst (λ (n : ℕ). PopFits (length e.did.popped) n (kind p.point)) sized e.did.room) in
+    let long : length w.popped ≡ length (popped_of p (target p.point v.number) e.found e.did.popped (kind p.point)) = ap (λ (l : List Record). length l) e.did.listed in
+    let grows : (length w.popped ≡ length v.popped + 1) ⊎ (kind p.point ≢ Some Kind.LinkLoad) =
+    elim (link_grows p (target p.point v.number) e.found e.did.popped (kind p.point)) [
+      | inl t ↦ inl (let z = same t.0 in let y = t.1 in omega (arith, long, z, y))
+      | inr other ↦ inr other
+    ]
+    in
+    subst (λ (x : SeatState). weight seats (length w.popped) x.point < weight seats (length v.popped) p.point) (sym e.seat_is)
+    (falls p v.number e.found (oldest e.did.popped) seats (length v.popped) (length w.popped) some room grows
+    (λ pusher old at. (e.did.sees pusher old at, (subst (λ (x : Point). PacksLink (expected_push_at x)) at ready.expected_push).stamp)))
+
+pub ends_of : (e d : Errand) (t : Turn) (q : Point) → t ≢ Open → e ≡ d → Is_turn e t q → Ends d t
+ends_of e d Open q some same is = absurd (some refl)
+ends_of e d (Ended answer) q some same is = is ∙ same
+ends_of e d (Refused why) q some same is = is.0 ∙ same
+
+-- Begins
+
+abbrev pub Begin_told : Errand → Turn → Point → Type 0
+Begin_told e Open q = errand q ≡ e
+Begin_told e (Ended answer) q = answers_for answer ≡ e
+Begin_told e (Refused why) q = ⊤
+
+abbrev Begins : Errand → Stepped → Type 0
+Begins e st = Begin_told e st.turn st.seat.point
+
+begins_if : (e : Errand) (b : Bool) (u v : Stepped) → Begins e u → Begins e v → Begins e (if b then u else v)
+begins_if e true u v first second = first
+begins_if e false u v first second = second
+
+begins_charges : (e : Errand) (p : SeatState) (budget : ℕ) (q : Point) → errand q ≡ e → Begins e (charges p budget q)
+begins_charges e p budget q is = begins_if e (nat_lt p.takes budget) (record { seat = record p { point = q; takes = p.takes + 1 }; turn = Open }) (refuses p Refusal.Spent) is tt
+
+begins_entry : (e : Errand) (p : SeatState) (budget : ℕ) (q : Point) → errand q ≡ e → Begins e (Begin.begin_entry p budget q)
+begins_entry e p budget q is =
+    begins_if e (nat_lt 65534 p.depth) (refuses p Refusal.DepthFull) (if nat_eq p.depth 0 then charges p budget q else goes_on p q) tt
+    (begins_if e (nat_eq p.depth 0) (charges p budget q) (goes_on p q) (begins_charges e p budget q is) is)
+
+begins_awake : (p : SeatState) (l : Limits) (call : Call) → Begins (errand_of call) (Begin.begin_awake p l call)
+begins_awake p l Call.Lock = begins_entry locking p l.budget LockCountAdd refl
+begins_awake p l Call.TryLock = begins_entry trying p l.budget TryCountExchange refl
+begins_awake p l Call.Unlock =
+    begins_if (releasing Unlocker) (nat_eq p.depth 0) (refuses p Refusal.NotOwner) _ tt
+    (begins_if (releasing Unlocker) (nat_eq p.depth 1) (goes_on p (ReleaseOwnerStore Unlocker)) (record { seat = record p { depth = p.depth - 1 }; turn = Ended (Answer.Unlocked (Unlocked.Still (p.depth - 1))) }) refl refl)
+begins_awake p l Call.StartWait =
+    begins_if (releasing Waiter) (nat_eq p.depth 0) (refuses p Refusal.NotOwner) _ tt
+    (begins_if (releasing Waiter) (nat_lt 1 p.depth) (refuses p Refusal.Nested) (charges p l.budget (ReleaseOwnerStore Waiter)) tt (begins_charges (releasing Waiter) p l.budget (ReleaseOwnerStore Waiter) refl))
+begins_awake p l (Call.SendLock t) = begins_if sending (nat_lt 0 t && nat_lt t (l.seats + 1)) (goes_on p (SendWakeExchange t)) (refuses p Refusal.NoSuchSeat) refl tt
+begins_awake p l Call.Receive = tt
+
+begins_asleep : (p : SeatState) (sleeper : Sleeper) (call : Call) → Begins (errand_of call) (Begin.begin_asleep p sleeper call)
+begins_asleep p sleeper Call.Receive = refl
+begins_asleep p sleeper _ = tt
+
+begins_at : (p : SeatState) (l : Limits) (call : Call) (q : Point) → Begins (errand_of call) (Begin.begin_at p l call q)
+begins_at p l call Rest = begins_awake p l call
+begins_at p l call (Asleep sleeper) = begins_asleep p sleeper call
+begins_at p l call _ = tt
+
+pub begin_told : (p : SeatState) (l : Limits) (call : Call) → Begin_told (errand_of call) (Begin.begin p l call).turn (Begin.begin p l call).seat.point
+begin_told p l call = begins_at p l call p.point
+
+some_errand : (call : Call) → errand_of call ≢ nothing
+some_errand Call.Lock e = cc
+some_errand Call.TryLock e = cc
+some_errand Call.Unlock e = cc
+some_errand Call.StartWait e = cc
+some_errand (Call.SendLock t) e = cc
+some_errand Call.Receive e = cc
+
+not_releasing : (e : Errand) (q : Point) → errand q ≡ e → is_releasing e ≡ false → is_release q ≡ false
+not_releasing e (ReleaseOwnerStore r) is other = absurd (false≢true (sym other ∙ ap is_releasing (sym is)))
+not_releasing e _ is other = refl
+
+-- a call that is open after its begin
+pub begun_open : (p : SeatState) (l : Limits) (call : Call) → (Begin.begin p l call).turn ≡ Open → errand (Begin.begin p l call).seat.point ≡ errand_of call
+begun_open p l call is = subst (λ (t : Turn). Begin_told (errand_of call) t (Begin.begin p l call).seat.point) is (begin_told p l call)
+
+pub begun_some : (q : Point) (call : Call) → errand q ≡ errand_of call → errand q ≢ nothing
+begun_some q call is e = some_errand call (sym is ∙ e)
+
+pub begun_keeps : (q : Point) (call : Call) → errand q ≡ errand_of call → is_releasing (errand_of call) ≡ false → is_release q ≡ false
+begun_keeps q call is other = not_releasing (errand_of call) q is other
+
+ends_answers : (e : Errand) (t : Turn) → Ends e t → Answers e t
+ends_answers e (Ended answer) is = is
+ends_answers e (Refused why) is = tt
+ends_answers e Open is = absurd is
+
+told_answers : (e : Errand) (t : Turn) (q : Point) → t ≢ Open → Begin_told e t q → Answers e t
+told_answers e Open q some is = absurd (some refl)
+told_answers e (Ended answer) q some is = is
+told_answers e (Refused why) q some is = tt
+
+-- a call that made steps
+pub called_steps : {T : Type 0} (s : ℕ) (l : Limits) (call : Call) (p p1 p' : SeatState) (v v' : View T) (turn : Turn) → (Begin.begin p l call).turn ≡ Open → p1 ≡ (Begin.begin p l call).seat → Ends (errand p1.point) turn → Ran s (opens p1) v turn p' v'
+    → Called s l call p v turn p' v' × Answers (errand_of call) turn
+called_steps s l call p p1 p' v v' turn is_open is_p1 ends ran =
+    let same : errand p1.point ≡ errand_of call = ap (λ (x : SeatState). errand x.point) is_p1 ∙ begun_open p l call is_open in
+    let e : Ends (errand_of call) turn = subst (λ (z : Errand). Ends z turn) same ends in (
+      subst (λ (t : Turn). Called_by t s (errand_of call) (Begin.begin p l call).seat v turn p' v') (sym is_open) (e, subst (λ (x : SeatState). Ran s (opens x) v turn p' v') is_p1 ran),
+      ends_answers (errand_of call) turn e,
+    )
+
+-- a call that ended at once
+at_once : {T : Type 0} (t : Turn) (s : ℕ) (e : Errand) (q p' : SeatState) (v : View T) → t ≢ Open → p' ≡ q → Called_by t s e q v t p' v
+at_once Open s e q p' v some is = absurd (some refl)
+at_once (Ended answer) s e q p' v some is = (refl, is, refl)
+at_once (Refused why) s e q p' v some is = (refl, is, refl)
+
+pub called_at_once : {T : Type 0} (s : ℕ) (l : Limits) (call : Call) (p p' : SeatState) (v v' : View T) (turn : Turn) → turn ≢ Open → turn ≡ (Begin.begin p l call).turn → p' ≡ (Begin.begin p l call).seat → v' ≡ v
+    → Called s l call p v turn p' v' × Answers (errand_of call) turn
+called_at_once {T} s l call p p' v v' turn some is_turn is_p same =
+    let t = (Begin.begin p l call).turn in
+    let some_t : (Begin.begin p l call).turn ≢ Open = (λ e. some (is_turn ∙ e)) in (
+      subst (λ (z : Turn × View T). Called_by (Begin.begin p l call).turn s (errand_of call) (Begin.begin p l call).seat v z.0 p' z.1) (λ i. (sym is_turn i, sym same i))
+          (at_once (Begin.begin p l call).turn s (errand_of call) (Begin.begin p l call).seat p' v some_t is_p),
+      subst (λ (z : Turn). Answers (errand_of call) z) (sym is_turn) (told_answers (errand_of call) (Begin.begin p l call).turn (Begin.begin p l call).seat.point some_t (begin_told p l call)),
+    )
+
+-- Two runs, one after the other
+
+end_join : (s : ℕ) (st : Stepped) (xs ys : List (ℕ × Option Record)) → end_of s st (xs ++ ys) ≡ end_of s (end_of s st xs) ys
+end_join s st [] ys = refl
+end_join s st (f ∷ xs) ys = end_join s (stepped_by st.seat s f.0 f.1) xs ys
+
+trail_join : (s : ℕ) (st : Stepped) (xs ys : List (ℕ × Option Record)) → trail_of s st.seat (xs ++ ys) ≡ trail_of s st.seat xs ++ trail_of s (end_of s st xs).seat ys
+trail_join s st [] ys = refl
+trail_join s st (f ∷ xs) ys = ap (λ (l : List Seen). seen st.seat.point f.0 ∷ l) (trail_join s (stepped_by st.seat s f.0 f.1) xs ys)
+
+pub ran_join : {T : Type 0} (s : ℕ) (p q r : SeatState) (u v w : View T) (turn : Turn) → Ran s (opens p) u Open q v → Ran s (opens q) v turn r w → Ran s (opens p) u turn r w
+ran_join s p q r u v w turn first second = record {
+  finds = first.finds ++ second.finds;
+  ends = end_join s (opens p) first.finds second.finds ∙ (ap (λ (z : Stepped). end_of s z second.finds) first.ends ∙ second.ends);
+  trail = second.trail ∙ (ap (λ (l : List Seen). l ++ trail_of s q second.finds) first.trail ∙ (append_assoc u.trail (trail_of s p first.finds) (trail_of s q second.finds)
+      ∙ ap (λ (l : List Seen). u.trail ++ l) (sym (trail_join s (opens p) first.finds second.finds ∙ ap (λ (z : Stepped). trail_of s p first.finds ++ trail_of s z.seat second.finds) first.ends))));
+  root = record {
+    number = second.root.number ∙ first.root.number;
+    limits_are = second.root.limits_are ∙ first.root.limits_are;
+    opening = second.root.opening ∙ first.root.opening;
+    made = second.root.made ∙ first.root.made;
+    joined_are = second.root.joined_are ∙ first.root.joined_are;
+  };
+}
+
+-- the first step of a release
+module _ {T : Type 0} (follows : ℕ → T → T → Type 0) (suits : T → ℕ → Type 0) (s : ℕ) (p q : SeatState) (v w : View T) (a b : Option (Moving T)) (turn : Turn) (named : v.number ≡ s) (e : Event follows suits p a v turn q b w) where
+  pub ran_one : Ran s (opens p) v turn q w
+  ran_one = ran_more follows suits s p v p q v w a b turn (ran_none s p v) named e
+
+  pub turn_one : kind p.point ≢ None → Is_turn (errand p.point) turn q.point
+  turn_one some = turn_more follows suits s p v p q v w a b turn (ran_none s p v) named e some
+
+  pub last_one : (r : Releaser) → p.point ≡ ReleaseOwnerStore r → w.last ≡ value_in a
+  last_one r at = e.did.last ∙ (left_new p.point r e.hand v.last at ∙ e.in_hand r at)
+
+  pub keeps_one : (r : Releaser) → p.point ≡ ReleaseOwnerStore r → is_release q.point ≡ false
+  keeps_one r at = ap (λ (x : SeatState). is_release x.point) e.seat_is ∙ (rw at refl)
+
+pub release_some : (q : Point) (r : Releaser) → q ≡ ReleaseOwnerStore r → kind q ≢ None
+release_some q r at e = let f : Some Kind.OwnerStore ≡ None = sym (ap kind at) ∙ e in absurd (cc)
+
+-- a release that is open after its begin stands at the store that ends the hold
+abbrev Told_release : Turn → Point → Type 0
+Told_release Open q = (r : Releaser) × (q ≡ ReleaseOwnerStore r)
+Told_release _ q = ⊤
+
+told_if : (b : Bool) (u v : Stepped) → Told_release u.turn u.seat.point → Told_release v.turn v.seat.point → Told_release (if b then u else v).turn (if b then u else v).seat.point
+told_if true u v first second = first
+told_if false u v first second = second
+
+told_awake : (p : SeatState) (l : Limits) (call : Call) → is_releasing (errand_of call) ≡ true → Told_release (Begin.begin_awake p l call).turn (Begin.begin_awake p l call).seat.point
+told_awake p l Call.Unlock is =
+    told_if (nat_eq p.depth 0) (refuses p Refusal.NotOwner) (if nat_eq p.depth 1 then goes_on p (ReleaseOwnerStore Unlocker) else record { seat = record p { depth = p.depth - 1 }; turn = Ended (Answer.Unlocked (Unlocked.Still (p.depth - 1))) }) tt
+    (told_if (nat_eq p.depth 1) (goes_on p (ReleaseOwnerStore Unlocker)) (record { seat = record p { depth = p.depth - 1 }; turn = Ended (Answer.Unlocked (Unlocked.Still (p.depth - 1))) }) (Unlocker, refl) tt)
+told_awake p l Call.StartWait is =
+    told_if (nat_eq p.depth 0) (refuses p Refusal.NotOwner) (if nat_lt 1 p.depth then refuses p Refusal.Nested else charges p l.budget (ReleaseOwnerStore Waiter)) tt
+    (told_if (nat_lt 1 p.depth) (refuses p Refusal.Nested) (charges p l.budget (ReleaseOwnerStore Waiter)) tt
+    (told_if (nat_lt p.takes l.budget) (record { seat = record p { point = ReleaseOwnerStore Waiter; takes = p.takes + 1 }; turn = Open }) (refuses p Refusal.Spent) (Waiter, refl) tt))
+told_awake p l Call.Lock is = absurd (false≢true is)
+told_awake p l Call.TryLock is = absurd (false≢true is)
+told_awake p l (Call.SendLock t) is = absurd (false≢true is)
+told_awake p l Call.Receive is = absurd (false≢true is)
+
+told_asleep : (p : SeatState) (sleeper : Sleeper) (call : Call) → is_releasing (errand_of call) ≡ true → Told_release (Begin.begin_asleep p sleeper call).turn (Begin.begin_asleep p sleeper call).seat.point
+told_asleep p sleeper Call.Receive is = absurd (false≢true is)
+told_asleep p sleeper _ is = tt
+
+told_at : (p : SeatState) (l : Limits) (call : Call) (q : Point) → is_releasing (errand_of call) ≡ true → Told_release (Begin.begin_at p l call q).turn (Begin.begin_at p l call q).seat.point
+told_at p l call Rest is = told_awake p l call is
+told_at p l call (Asleep sleeper) is = told_asleep p sleeper call is
+told_at p l call _ is = tt
+
+pub begun_release : (p q : SeatState) (l : Limits) (call : Call) → is_releasing (errand_of call) ≡ true → (Begin.begin p l call).turn ≡ Open → q ≡ (Begin.begin p l call).seat → (r : Releaser) × (q.point ≡ ReleaseOwnerStore r)
+begun_release p q l call is is_open is_q =
+    let told = subst (λ (t : Turn). Told_release t (Begin.begin p l call).seat.point) is_open (told_at p l call p.point is) in
+    (told.0, ap (λ (x : SeatState). x.point) is_q ∙ told.1)
+
+-- The hold that a call ends with
+
+is_some : {A : Type 0} (a : Option A) → is_carried a ≡ true → (x : A) × (a ≡ Some x)
+is_some (Some x) e = (x, refl)
+is_some None e = absurd (false≢true e)
+
+deep_carries : (d : ℕ) (q : Point) → d ≡ 1 → (if nat_eq d 0 then carries q else true) ≡ true
+deep_carries d q one = rw one refl
+
+free_counts : (s : ℕ) (entrant : Entrant) → length (answered s (held entrant How.Free)) ≡ 0
+free_counts s Entrant.Locker = refl
+free_counts s Entrant.Trier = refl
+free_counts s Entrant.Receiver = refl
+
+queued_counts : (s stamp : ℕ) (entrant : Entrant) → length (answered s (held entrant (How.Queued stamp))) ≡ 1
+queued_counts s stamp Entrant.Locker = refl
+queued_counts s stamp Entrant.Trier = refl
+queued_counts s stamp Entrant.Receiver = refl
+
+enter_turn : (x : SeatState) (s n : ℕ) (o : Option Record) (entrant : Entrant) (how : How) → x.point ≡ EnterOwnerStore entrant how → (stepped_by x s n o).turn ≡ Ended (held entrant how)
+enter_turn x s n o entrant how at = rw at refl
+
+counts_by : (how : How) (k j : ℕ) → ((stamp : ℕ) → how ≡ How.Queued stamp → (k + 1 ≡ stamp) × (j ≡ stamp)) → (how ≡ How.Free → k ≡ j) → Counts how k j
+counts_by How.Free k j queued free = free refl
+counts_by (How.Queued stamp) k j queued free = queued stamp refl
+
+module _ {T : Type 0} (follows : ℕ → T → T → Type 0) (suits : T → ℕ → Type 0) (s : ℕ) (l : Limits) (p q : SeatState) (m : Me (Option (Moving T)) (View T)) (w : View T) (a b : Option (Moving T)) (turn : Turn) (before : Option T) (was : Seated s l p m a) (same_last : m.0.last ≡ before)
+    (e : Event follows suits p a m.0 turn q b w) where
+  pub holds_now : (how : How) → how_held turn ≡ Some how → Holds follows suits s before how q b w
+  holds_now how is =
+      let o = oldest e.did.popped in
+      let by = how_enters p m.0.number e.found o how (ap how_held (sym e.turn_is) ∙ is) in
+      let at = by.1 in
+      let carries_p : carries_value p ≡ true = carrying p (ap carries at) in
+      let flat : p.depth ≡ 0 = subst (λ (x : Point). DepthAt p.depth x) at e.did.deep in
+      let some = is_some a (was.moved ∙ carries_p) in
+      let knows = e.did.shallow carries_p flat some.0.value (was.kept flat some.0 some.1) in
+      let deep : q.depth ≡ 1 = ap (λ (x : SeatState). x.depth) e.seat_is ∙ (rw at refl) in
+      let rests : q.point ≡ Rest = ap (λ (x : SeatState). x.point) e.seat_is ∙ (rw at refl) in
+      let carries_q : carries_value q ≡ true = deep_carries q.depth q.point deep in
+      let goes = subst (λ (t : Bool × Bool). Value_goes t.0 t.1 a b w) (λ i. (carries_p i, carries_q i)) e.value in
+      let x = goes.0 in
+      let same : some.0.value ≡ x.value = some_same some.0.value x.value (sym (ap value_in some.1) ∙ goes.1) in
+      let hands = subst (λ (t : Bool × Bool). Hands follows suits t.0 t.1 p.point e.hand e.did.popped (m.0, e.slots) (w, e.slots_after)) (λ i. (carries_p i, (ap carries_value (sym e.seat_is) ∙ carries_q) i)) e.did.hands in
+      let other : (r : Releaser) → p.point ≢ ReleaseOwnerStore r = (λ r z. let f : EnterOwnerStore by.0 how ≡ ReleaseOwnerStore r = sym at ∙ z in absurd (cc)) in
+      let turn_at : (stepped_by p m.0.number e.found o).turn ≡ Ended (held by.0 how) = enter_turn p m.0.number e.found o by.0 how at in
+      record {
+        depth = deep;
+        rests = rests;
+        moving = x;
+        in_hand = goes.2;
+        found = hands.1 ∙ (left_same p.point e.hand m.0.found other ∙ (was.kept flat some.0 some.1 ∙ ap Some same));
+        reached = λ y is_last. subst (λ (t : ℕ × T). Reached follows t.0 y t.1) (λ i. (was.named i, same i)) (knows.1 y (same_last ∙ is_last));
+        count = m.0.answered;
+        counts = counts_by how m.0.answered w.answered (λ stamp z. let f = e.did.stamped by.0 stamp (at ∙ ap (λ (h : How). EnterOwnerStore by.0 h) z) in let t = e.did.answered carries_p in let u : length (answered_by m.0.number (stepped_by p m.0.number e.found o).turn) ≡ 1 = ap (λ (y : Turn). length (answered_by m.0.number y)) (turn_at ∙ ap (λ (h : How). Ended (held by.0 h)) z) ∙ queued_counts m.0.number stamp by.0 in (f, omega (arith, f, t, u)))
+            (λ z. let t = e.did.answered carries_p in let u : length (answered_by m.0.number (stepped_by p m.0.number e.found o).turn) ≡ 0 = ap (λ (y : Turn). length (answered_by m.0.number y)) (turn_at ∙ ap (λ (h : How). Ended (held by.0 h)) z) ∙ free_counts m.0.number by.0 in omega (arith, t, u));
+        fits = subst (λ (y : T). suits y m.0.answered) same knows.0;
+      }
+
+-- no call holds by its begin
+
+unheld_if : (b : Bool) (u v : Stepped) → how_held u.turn ≡ None → how_held v.turn ≡ None → how_held (if b then u else v).turn ≡ None
+unheld_if true u v first second = first
+unheld_if false u v first second = second
+
+unheld_charges : (p : SeatState) (budget : ℕ) (q : Point) → how_held (charges p budget q).turn ≡ None
+unheld_charges p budget q = unheld_if (nat_lt p.takes budget) (record { seat = record p { point = q; takes = p.takes + 1 }; turn = Open }) (refuses p Refusal.Spent) refl refl
+
+unheld_entry : (p : SeatState) (budget : ℕ) (q : Point) → how_held (Begin.begin_entry p budget q).turn ≡ None
+unheld_entry p budget q =
+    unheld_if (nat_lt 65534 p.depth) (refuses p Refusal.DepthFull) (if nat_eq p.depth 0 then charges p budget q else goes_on p q) refl
+    (unheld_if (nat_eq p.depth 0) (charges p budget q) (goes_on p q) (unheld_charges p budget q) refl)
+
+unheld_awake : (p : SeatState) (l : Limits) (call : Call) → how_held (Begin.begin_awake p l call).turn ≡ None
+unheld_awake p l Call.Lock = unheld_entry p l.budget LockCountAdd
+unheld_awake p l Call.TryLock = unheld_entry p l.budget TryCountExchange
+unheld_awake p l Call.Unlock =
+    unheld_if (nat_eq p.depth 0) (refuses p Refusal.NotOwner) _ refl
+    (unheld_if (nat_eq p.depth 1) (goes_on p (ReleaseOwnerStore Unlocker)) (record { seat = record p { depth = p.depth - 1 }; turn = Ended (Answer.Unlocked (Unlocked.Still (p.depth - 1))) }) refl refl)
+unheld_awake p l Call.StartWait =
+    unheld_if (nat_eq p.depth 0) (refuses p Refusal.NotOwner) _ refl
+    (unheld_if (nat_lt 1 p.depth) (refuses p Refusal.Nested) (charges p l.budget (ReleaseOwnerStore Waiter)) refl (unheld_charges p l.budget (ReleaseOwnerStore Waiter)))
+unheld_awake p l (Call.SendLock t) = unheld_if (nat_lt 0 t && nat_lt t (l.seats + 1)) (goes_on p (SendWakeExchange t)) (refuses p Refusal.NoSuchSeat) refl refl
+unheld_awake p l Call.Receive = refl
+
+unheld_asleep : (p : SeatState) (sleeper : Sleeper) (call : Call) → how_held (Begin.begin_asleep p sleeper call).turn ≡ None
+unheld_asleep p sleeper Call.Receive = refl
+unheld_asleep p sleeper _ = refl
+
+unheld_at : (p : SeatState) (l : Limits) (call : Call) (q : Point) → how_held (Begin.begin_at p l call q).turn ≡ None
+unheld_at p l call Rest = unheld_awake p l call
+unheld_at p l call (Asleep sleeper) = unheld_asleep p sleeper call
+unheld_at p l call _ = refl
+
+pub begun_unheld : (p : SeatState) (l : Limits) (call : Call) (turn : Turn) (how : How) → turn ≡ (Begin.begin p l call).turn → how_held turn ≡ Some how → ⊥
+begun_unheld p l call turn how is e = let f : None ≡ Some how = sym (ap how_held is ∙ unheld_at p l call p.point) ∙ e in absurd (cc)
+
+pub ok_same : {A E : Type 0} (x y : A) → ◌≡◌ {A = Result A E} (Ok x) (Ok y) → x ≡ y
+ok_same x y e = cc

@@ -1,0 +1,520 @@
+-- What a call makes of what is seen of its seat.
+use Rattle.std.proofs.Common.{◌≡◌, ◌≢◌, ◌⊎◌, ℕ, zero, suc, ◌+◌, ◌-◌, ◌<◌, ◌≤◌, Bool, true, false, Option, Some, None, List, [], ◌∷◌, ◌++◌, length, nat_eq, nat_lt, ◌&&◌, refl, sym, ap, subst, ◌∙◌, arith, tests, inl, inr, if◌then◌else◌, append_assoc, append-nil}
+use Rattle.std.specs.Prelude.{⊤, Result, Ok, Err}
+use Rattle.std.proofs.lemmas.Bool.{cases_eq, ne_eqb, eq-eqb, false≢true}
+use Rattle.atomic_table.specs.Table.{Me}
+use Rattle.lfm_model.specs.declared.answers.Asked.{Asked}
+use Rattle.lfm_model.specs.declared.answers.How.{How}
+use Rattle.lfm_model.specs.declared.answers.Locked.{Locked}
+use Rattle.lfm_model.specs.declared.answers.Unlocked.{Unlocked}
+use Rattle.lfm_model.specs.declared.refusals.Refusal.{Refusal}
+use Rattle.lfm_words.specs.declared.pop_lists.Record.{Record}
+use Rattle.lfm_words.specs.Popped.{oldest}
+use Rattle.lfm_protocol.specs.declared.answers.Answer.{Answer}
+use Rattle.lfm_protocol.specs.declared.answers.Call.{Call}
+use Rattle.lfm_protocol.specs.declared.answers.Turn.{Turn}
+use Rattle.lfm_protocol.specs.declared.answers.Turn.TheVariants.{Open, Ended, Refused}
+use Rattle.lfm_protocol.specs.declared.answers.Why.{Why}
+use Rattle.lfm_protocol.specs.declared.limits.Limits.{Limits}
+use Rattle.lfm_protocol.specs.declared.points.Point.{Point}
+use Rattle.lfm_protocol.specs.declared.points.Point.TheVariants.{Rest, Asleep, LockCountAdd, TryCountExchange, SendWakeExchange, ReleaseOwnerStore, ReceiveWakeLoad}
+use Rattle.lfm_protocol.specs.declared.points.Releaser.{Releaser}
+use Rattle.lfm_protocol.specs.declared.points.Releaser.TheVariants.{Unlocker, Waiter}
+use Rattle.lfm_protocol.specs.declared.points.Sleeper.{Sleeper}
+use Rattle.lfm_protocol.specs.declared.seats.SeatState.{SeatState}
+use Rattle.lfm_protocol.specs.Begin as Begin
+use Rattle.lfm_protocol.specs.Begin.{Stepped, goes_on, refuses, charges}
+use Rattle.lfm_core.specs.table.Carried.{carries_value}
+use Rattle.lfm_core.specs.laws.Events.{answered_by}
+use Rattle.lfm_protocol.specs.Place.{carries}
+use Rattle.lfm_protocol.specs.Points.{kind}
+use Rattle.lfm_core.specs.table.Words.{stepped_by, wake_of}
+use Rattle.lfm_mutex.specs.declared.table.seat_view.View.{View}
+use Rattle.lfm_mutex.specs.declared.table.rule.Moving.{Moving}
+use Rattle.lfm_mutex.specs.declared.table.seat_view.Seen.{Seen}
+use Rattle.lfm_mutex.specs.table.Rule.{value_in, left_by, Hands, seen}
+use Rattle.lfm_mutex.specs.calls.Runs.{Errand, locking, trying, releasing, sending, receiving, refuses_for, errand, is_release, Ends, Ran, opens, trail_of, Counts, Holds, how_held, errand_of, is_releasing}
+use Rattle.lfm_mutex.specs.table.Steps.{Event, Value_goes, Leaves}
+use Rattle.lfm_mutex.specs.calls.Sight.{Sight, sight_of, by_depth, is_asleep, is_in_call, sends_of, Concludes, Answered_by, Refused_by, Still_at, Is_left, Suits, Finds, May_leave, Gains, Deepens, Wakes, Leaves_off, Turned, claimed, Stays, Busy_seen}
+use Rattle.lfm_mutex.proofs.runs.RunFacts.{no_leaves}
+use Rattle.lfm_mutex.proofs.runs.Running.{begun_open}
+use Rattle.lfm_mutex.proofs.tables.StepFacts.{made_of, left_same}
+use Rattle.lfm_mutex.proofs.runs.SightFacts.{concludes}
+use Rattle.lfm_mutex.proofs.runs.SendFacts.{is_send, no_sends, sends_join, sent_path, refused_path}
+use Rattle.lfm_mutex.proofs.runs.BusyFacts.{busy_path}
+
+-- One step
+
+deep_after : (x p : SeatState) (turn : Turn) → Concludes x turn p → 0 < x.depth → 0 < p.depth
+deep_after x p Open c deep = let e = c.0 in omega (arith, e, deep)
+deep_after x p (Ended (Answer.Asked (Asked.Held how))) c deep = let e = c.0 in omega (arith, e, deep)
+deep_after x p (Ended (Answer.Asked (Asked.Again d))) c deep = let e = c.1 in let f = c.2 in omega (arith, e, f)
+deep_after x p (Ended (Answer.Asked Asked.Asleep)) c deep = let e = c.0 in omega (arith, e, deep)
+deep_after x p (Ended (Answer.Locked (Locked.Held how))) c deep = let e = c.0 in omega (arith, e, deep)
+deep_after x p (Ended (Answer.Locked (Locked.Again d))) c deep = let e = c.1 in let f = c.2 in omega (arith, e, f)
+deep_after x p (Ended (Answer.Unlocked u)) c deep = let e = c.0 in omega (arith, e, deep)
+deep_after x p (Ended (Answer.Waiting u)) c deep = let e = c.0 in omega (arith, e, deep)
+deep_after x p (Ended (Answer.Got (Some how))) c deep = let e = c.0 in omega (arith, e, deep)
+deep_after x p (Ended (Answer.Got None)) c deep = let e = c.0 in omega (arith, e, deep)
+deep_after x p (Ended Answer.Sent) c deep = let e = c.0 in omega (arith, e, deep)
+deep_after x p (Refused (Why.By Refusal.Busy)) c deep = let e = c.0 in omega (arith, e, deep)
+deep_after x p (Refused (Why.By Refusal.NotWaiting)) c deep = let e = c.0 in omega (arith, e, deep)
+deep_after x p (Refused _) c deep = absurd c
+
+none_answered : (s : ℕ) (x p : SeatState) (turn : Turn) → Concludes x turn p → 0 < x.depth → length (answered_by s turn) ≡ 0
+none_answered s x p (Ended (Answer.Asked (Asked.Held how))) c deep = absurd (let e = c.0 in omega (arith, e, deep))
+none_answered s x p (Ended (Answer.Asked (Asked.Again d))) c deep = refl
+none_answered s x p (Ended (Answer.Asked Asked.Asleep)) c deep = refl
+none_answered s x p (Ended (Answer.Locked (Locked.Held how))) c deep = absurd (let e = c.0 in omega (arith, e, deep))
+none_answered s x p (Ended (Answer.Locked (Locked.Again d))) c deep = refl
+none_answered s x p (Ended (Answer.Got (Some how))) c deep = absurd (let e = c.0 in omega (arith, e, deep))
+none_answered s x p (Ended (Answer.Got None)) c deep = refl
+none_answered s x p (Ended _) c deep = refl
+none_answered s x p Open c deep = refl
+none_answered s x p (Refused why) c deep = refl
+
+carries_deep : (d : ℕ) (q : Point) → 0 < d → (if nat_eq d 0 then carries q else true) ≡ true
+carries_deep d q deep = let z = ne_eqb d 0 (λ e. omega (arith, e, deep)) in rw z refl
+
+module _ {T : Type 0} (follows : ℕ → T → T → Type 0) (suits : T → ℕ → Type 0) (s : ℕ) (p q : SeatState) (v w : View T) (a b : Option (Moving T)) (turn : Turn) (named : v.number ≡ s) (e : Event follows suits p a v turn q b w) where
+  pub concludes_now : kind p.point ≢ None → is_release p.point ≡ false → Concludes p turn q
+  concludes_now some keeps =
+      let o = oldest e.did.popped in
+      subst (λ (z : Stepped). Concludes p z.turn z.seat) (λ i. record { seat = sym e.seat_is i; turn = sym e.turn_is i })
+      (concludes p v.number e.found o some keeps e.did.deep e.did.owner)
+
+  pub stays_now : is_release p.point ≡ false → Concludes p turn q → Stays p.depth v (value_in a) w (value_in b)
+  stays_now keeps c deep =
+      let o = oldest e.did.popped in
+      let carries_p : carries_value p ≡ true = carries_deep p.depth p.point deep in
+      let carries_q : carries_value q ≡ true = carries_deep q.depth q.point (deep_after p q turn c deep) in
+      let goes = subst (λ (t : Bool × Bool). Value_goes t.0 t.1 a b w) (λ i. (carries_p i, carries_q i)) e.value in
+      let hands = subst (λ (t : Bool × Bool). Hands follows suits t.0 t.1 p.point e.hand e.did.popped (v, e.slots) (w, e.slots_after)) (λ i. (carries_p i, (ap carries_value (sym e.seat_is) ∙ carries_q) i)) e.did.hands in
+      let more = e.did.answered carries_p in
+      let none : length (answered_by v.number (stepped_by p v.number e.found o).turn) ≡ 0 = ap (λ (t : Turn). length (answered_by v.number t)) (sym e.turn_is) ∙ none_answered v.number p q turn c deep in
+      (ap value_in goes.2 ∙ sym goes.1, hands.1 ∙ left_same p.point e.hand v.found (no_leaves p.point keeps), omega (arith, more, none))
+
+-- Two runs
+
+pub concludes_join : (x y p : SeatState) (turn : Turn) → Concludes x Open y → Concludes y turn p → Concludes x turn p
+concludes_join x y p Open c d = (d.0 ∙ c.0, d.1 ∙ c.1, λ still. d.2 (c.2 still))
+concludes_join x y p (Ended (Answer.Asked (Asked.Held how))) c d = (sym c.0 ∙ d.0, d.1, d.2 ∙ c.1, d.3)
+concludes_join x y p (Ended (Answer.Asked (Asked.Again k))) c d = (subst (λ (n : ℕ). 0 < n) c.0 d.0, d.1 ∙ ap (λ (n : ℕ). n + 1) c.0, d.2, d.3 ∙ c.1, d.4)
+concludes_join x y p (Ended (Answer.Asked Asked.Asleep)) c d = (sym c.0 ∙ d.0, d.1, d.2 ∙ c.1, d.3, d.4)
+concludes_join x y p (Ended (Answer.Locked (Locked.Held how))) c d = (sym c.0 ∙ d.0, d.1, d.2 ∙ c.1, d.3)
+concludes_join x y p (Ended (Answer.Locked (Locked.Again k))) c d = (subst (λ (n : ℕ). 0 < n) c.0 d.0, d.1 ∙ ap (λ (n : ℕ). n + 1) c.0, d.2, d.3 ∙ c.1, d.4)
+concludes_join x y p (Ended (Answer.Unlocked u)) c d = (d.0 ∙ c.0, d.1 ∙ c.1, d.2, d.3)
+concludes_join x y p (Ended (Answer.Waiting u)) c d = (d.0 ∙ c.0, d.1 ∙ c.1, d.2, d.3, λ still. d.4 (c.2 still))
+concludes_join x y p (Ended (Answer.Got (Some how))) c d = (sym c.0 ∙ d.0, d.1, d.2 ∙ c.1, d.3)
+concludes_join x y p (Ended (Answer.Got None)) c d = (d.0 ∙ c.0, d.1 ∙ c.1, d.2, d.3)
+concludes_join x y p (Ended Answer.Sent) c d = (d.0 ∙ c.0, d.1 ∙ c.1, d.2)
+concludes_join x y p (Refused (Why.By Refusal.Busy)) c d =
+    (sym c.0 ∙ d.0, d.1, elim d.2 [ inl e ↦ inl (e ∙ c.1) | inr e ↦ inr (sym c.1 ∙ e) ], d.3)
+concludes_join x y p (Refused (Why.By Refusal.NotWaiting)) c d = (d.0 ∙ c.0, d.1 ∙ c.1, d.2)
+concludes_join x y p (Refused _) c d = absurd d
+
+pub stays_join : {T : Type 0} (x y : ℕ) (u v w : View T) (a b c : Option T) → y ≡ x → Stays x u a v b → Stays y v b w c → Stays x u a w c
+stays_join x y u v w a b c same first second deep =
+    let f = first deep in let g = second (subst (λ (n : ℕ). 0 < n) (sym same) deep) in (g.0 ∙ f.0, g.1 ∙ f.1, g.2 ∙ f.2)
+
+pub stays_none : {T : Type 0} (x : ℕ) (v : View T) (a : Option T) → Stays x v a v a
+stays_none x v a deep = (refl, refl, refl)
+
+-- The store that ends a hold
+
+first_turn : (x : SeatState) (s n : ℕ) (o : Option Record) (r : Releaser) → x.point ≡ ReleaseOwnerStore r → (stepped_by x s n o).turn ≡ Open
+first_turn x s n o r at = rw at refl
+
+first_seat : (x : SeatState) (s n : ℕ) (o : Option Record) (r : Releaser) → x.point ≡ ReleaseOwnerStore r → Concludes (record x { depth = 0 }) Open (stepped_by x s n o).seat
+first_seat x s n o r at = rw at (refl, refl, λ still. tt)
+
+module _ {T : Type 0} (follows : ℕ → T → T → Type 0) (suits : T → ℕ → Type 0) (p q : SeatState) (v w : View T) (a b : Option (Moving T)) (turn : Turn) (e : Event follows suits p a v turn q b w) (r : Releaser) (at : p.point ≡ ReleaseOwnerStore r) where
+  pub first_opens : turn ≡ Open
+  first_opens = e.turn_is ∙ first_turn p v.number e.found (oldest e.did.popped) r at
+
+  pub first_concludes : Concludes (record p { depth = 0 }) Open q
+  first_concludes = subst (λ (x : SeatState). Concludes (record p { depth = 0 }) Open x) (sym e.seat_is) (first_seat p v.number e.found (oldest e.did.popped) r at)
+
+-- What is seen
+
+deep_by : {A : Type 0} (d : ℕ) (x y : A) → 0 < d → by_depth d x y ≡ y
+deep_by zero x y deep = absurd (omega (arith, deep))
+deep_by (suc d) x y deep = refl
+
+flat_by : {A : Type 0} (d : ℕ) (x y : A) → d ≡ 0 → by_depth d x y ≡ x
+flat_by zero x y flat = refl
+flat_by (suc d) x y flat = absurd (omega (arith, flat))
+
+module _ {T : Type 0} (n n' : ℕ) (p p' : SeatState) (v v' : View T) (a a' : Option T) where
+  abbrev Level : Type 0
+  Level = ((p.depth ≡ 0) × (p'.depth ≡ 0)) ⊎ ((0 < p.depth) × (0 < p'.depth))
+
+  -- a call that neither gains nor gives up the mutex
+  pub same_but : (d k : ℕ) (asleep in_call : Bool) (sends : List ℕ) → n' ≡ n → p'.depth ≡ d → p'.takes ≡ k → is_asleep p'.point ≡ asleep → is_in_call p'.point ≡ in_call → sends_of v'.trail ≡ sends
+      → v'.last ≡ v.last → Stays p.depth v a v' a' → Level
+      → sight_of n' p' v' a' ≡ record (sight_of n p v a) { depth = d; takes = k; asleep = asleep; in_call = in_call; trail = v'.trail; sends = sends }
+  same_but d k asleep in_call sends number depth takes asleep_is in_call_is sends_are last stays level =
+      let lasts : by_depth p'.depth v'.last v'.found ≡ by_depth p.depth v.last v.found =
+      elim level [
+        | inl f ↦ flat_by p'.depth v'.last v'.found f.1 ∙ (last ∙ sym (flat_by p.depth v.last v.found f.0))
+        | inr f ↦ deep_by p'.depth v'.last v'.found f.1 ∙ ((stays f.0).1 ∙ sym (deep_by p.depth v.last v.found f.0))
+      ]
+      in
+      let values : by_depth p'.depth None a' ≡ by_depth p.depth None a =
+      elim level [
+        | inl f ↦ flat_by p'.depth None a' f.1 ∙ sym (flat_by p.depth None a f.0)
+        | inr f ↦ deep_by p'.depth None a' f.1 ∙ ((stays f.0).0 ∙ sym (deep_by p.depth None a f.0))
+      ]
+      in
+      let queued : by_depth p'.depth 0 v'.answered ≡ by_depth p.depth 0 v.answered =
+      elim level [
+        | inl f ↦ flat_by p'.depth 0 v'.answered f.1 ∙ sym (flat_by p.depth 0 v.answered f.0)
+        | inr f ↦ deep_by p'.depth 0 v'.answered f.1 ∙ ((stays f.0).2 ∙ sym (deep_by p.depth 0 v.answered f.0))
+      ]
+      in
+      λ i. record { number = number i; depth = depth i; takes = takes i; asleep = asleep_is i; in_call = in_call_is i; last = lasts i; value = values i; queued = queued i; trail = v'.trail; sends = sends_are i }
+
+-- Begins
+
+abbrev pub Begun_entry : ℕ → SeatState → SeatState → Type 0
+Begun_entry budget p q =
+    (p.point ≡ Rest) × (p.depth < 65535) × (q.depth ≡ p.depth) × (((p.depth ≡ 0) × (p.takes < budget) × (q.takes ≡ p.takes + 1)) ⊎ ((0 < p.depth) × (q.takes ≡ p.takes)))
+
+-- a call that is open after its begin
+abbrev pub Begun : Limits → Call → SeatState → SeatState → Type 0
+Begun l Call.Lock p q = Begun_entry l.budget p q × (q.point ≡ LockCountAdd)
+Begun l Call.TryLock p q = Begun_entry l.budget p q × (q.point ≡ TryCountExchange)
+Begun l Call.Unlock p q = (p.point ≡ Rest) × (p.depth ≡ 1) × (q.takes ≡ p.takes) × (q.point ≡ ReleaseOwnerStore Unlocker)
+Begun l Call.StartWait p q = (p.point ≡ Rest) × (p.depth ≡ 1) × (p.takes < l.budget) × (q.takes ≡ p.takes + 1) × (q.point ≡ ReleaseOwnerStore Waiter)
+Begun l (Call.SendLock t) p q = (p.point ≡ Rest) × (0 < t) × (t ≤ l.seats) × (q.depth ≡ p.depth) × (q.takes ≡ p.takes) × (q.point ≡ SendWakeExchange t)
+Begun l Call.Receive p q = (is_asleep p.point ≡ true) × (is_in_call p.point ≡ false) × (q.depth ≡ p.depth) × (q.takes ≡ p.takes) × ((sleeper : Sleeper) × (q.point ≡ ReceiveWakeLoad sleeper))
+
+module _ {T : Type 0} (follows : ℕ → T → T → Type 0) (fits : T → ℕ → Type 0) (n : ℕ) (l : Limits) (v : View T) (a : Option T) where
+  abbrev Starts_by : Call → SeatState → SeatState → Turn → Type 0
+  Starts_by call p q Open = Begun l call p q
+  Starts_by call p q turn = Turned follows fits l call (sight_of n p v a) (sight_of n q v a) turn
+
+  abbrev Starts : Call → SeatState → Stepped → Type 0
+  Starts call p st = Starts_by call p st.seat st.turn
+
+  starts_if : (call : Call) (p : SeatState) (b : Bool) (x y : Stepped) → (b ≡ true → Starts call p x) → (b ≡ false → Starts call p y) → Starts call p (if b then x else y)
+  starts_if call p true x y first second = first refl
+  starts_if call p false x y first second = second refl
+
+  starts_lock : (d t ps : ℕ) → Starts Call.Lock (made_of d t ps Rest) (Begin.begin_entry (made_of d t ps Rest) l.budget LockCountAdd)
+  starts_lock d t ps = let x = made_of d t ps Rest in
+      starts_if Call.Lock x (nat_lt 65534 d) (refuses x Refusal.DepthFull) (if nat_eq d 0 then charges x l.budget LockCountAdd else goes_on x LockCountAdd) (λ e. ((refl, search (tests, arith, e)), refl))
+      (λ e. starts_if Call.Lock x (nat_eq d 0) (charges x l.budget LockCountAdd) (goes_on x LockCountAdd)
+      (λ f. starts_if Call.Lock x (nat_lt t l.budget) (record { seat = record x { point = LockCountAdd; takes = t + 1 }; turn = Open }) (refuses x Refusal.Spent)
+      (λ h. ((refl, search (tests, arith, e), refl, inl (search (tests, arith, f), search (tests, arith, h), refl)), refl))
+      (λ h. ((refl, search (tests, arith, f), search (tests, arith, h)), refl)))
+      (λ f. ((refl, search (tests, arith, e), refl, inr (search (tests, arith, f), refl)), refl)))
+
+  starts_try : (d t ps : ℕ) → Starts Call.TryLock (made_of d t ps Rest) (Begin.begin_entry (made_of d t ps Rest) l.budget TryCountExchange)
+  starts_try d t ps = let x = made_of d t ps Rest in
+      starts_if Call.TryLock x (nat_lt 65534 d) (refuses x Refusal.DepthFull) (if nat_eq d 0 then charges x l.budget TryCountExchange else goes_on x TryCountExchange) (λ e. ((refl, search (tests, arith, e)), refl))
+      (λ e. starts_if Call.TryLock x (nat_eq d 0) (charges x l.budget TryCountExchange) (goes_on x TryCountExchange)
+      (λ f. starts_if Call.TryLock x (nat_lt t l.budget) (record { seat = record x { point = TryCountExchange; takes = t + 1 }; turn = Open }) (refuses x Refusal.Spent)
+      (λ h. ((refl, search (tests, arith, e), refl, inl (search (tests, arith, f), search (tests, arith, h), refl)), refl))
+      (λ h. ((refl, search (tests, arith, f), search (tests, arith, h)), refl)))
+      (λ f. ((refl, search (tests, arith, e), refl, inr (search (tests, arith, f), refl)), refl)))
+
+  starts_unlock : (d t ps : ℕ) → Starts Call.Unlock (made_of d t ps Rest) (Begin.begin_unlock (made_of d t ps Rest))
+  starts_unlock d t ps = let x = made_of d t ps Rest in
+      starts_if Call.Unlock x (nat_eq d 0) (refuses x Refusal.NotOwner) _ (λ e. ((refl, search (tests, arith, e)), refl))
+      (λ e. starts_if Call.Unlock x (nat_eq d 1) (goes_on x (ReleaseOwnerStore Unlocker)) (record { seat = record x { depth = d - 1 }; turn = Ended (Answer.Unlocked (Unlocked.Still (d - 1))) })
+      (λ f. (refl, search (tests, arith, f), refl, refl))
+      (λ f. let more : 0 < d - 1 = search (tests, arith, e, f) in let one : d ≡ (d - 1) + 1 = omega (arith, more) in
+      (refl, more, one, same_but n n x (made_of (d - 1) t ps Rest) v v a a (d - 1) t false false (sends_of v.trail) refl refl refl refl refl refl refl (stays_none d v a) (inr (omega (arith, more), more)))))
+
+  starts_wait : (d t ps : ℕ) → Starts Call.StartWait (made_of d t ps Rest) (Begin.begin_wait (made_of d t ps Rest) l.budget)
+  starts_wait d t ps = let x = made_of d t ps Rest in
+      starts_if Call.StartWait x (nat_eq d 0) (refuses x Refusal.NotOwner) _ (λ e. ((refl, search (tests, arith, e)), refl))
+      (λ e. starts_if Call.StartWait x (nat_lt 1 d) (refuses x Refusal.Nested) _ (λ f. ((refl, search (tests, arith, f)), refl))
+      (λ f. let one : d ≡ 1 = search (tests, arith, e, f) in
+      starts_if Call.StartWait x (nat_lt t l.budget) (record { seat = record x { point = ReleaseOwnerStore Waiter; takes = t + 1 }; turn = Open }) (refuses x Refusal.Spent)
+      (λ h. (refl, one, search (tests, arith, h), refl, refl))
+      (λ h. ((refl, one, search (tests, arith, h)), refl))))
+
+  starts_send : (d t ps u : ℕ) → Starts (Call.SendLock u) (made_of d t ps Rest) (Begin.begin_send (made_of d t ps Rest) l.seats u)
+  starts_send d t ps u = let x = made_of d t ps Rest in
+      starts_if (Call.SendLock u) x (nat_lt 0 u && nat_lt u (l.seats + 1)) (goes_on x (SendWakeExchange u)) (refuses x Refusal.NoSuchSeat)
+      (λ e. (refl, search (tests, arith, e), search (tests, arith, e), refl, refl, refl))
+      (λ e. ((refl, λ some. search (tests, arith, e, some)), refl))
+
+  starts_asleep : (d t ps : ℕ) (sleeper : Sleeper) (call : Call) → Starts call (made_of d t ps (Asleep sleeper)) (Begin.begin_asleep (made_of d t ps (Asleep sleeper)) sleeper call)
+  starts_asleep d t ps sleeper Call.Receive = (refl, refl, refl, refl, (sleeper, refl))
+  starts_asleep d t ps sleeper Call.Lock = (refl, refl)
+  starts_asleep d t ps sleeper Call.TryLock = (refl, refl)
+  starts_asleep d t ps sleeper Call.Unlock = (refl, refl)
+  starts_asleep d t ps sleeper Call.StartWait = (refl, refl)
+  starts_asleep d t ps sleeper (Call.SendLock u) = (refl, refl)
+
+  starts_awake : (d t ps : ℕ) (call : Call) → Starts call (made_of d t ps Rest) (Begin.begin_awake (made_of d t ps Rest) l call)
+  starts_awake d t ps Call.Lock = starts_lock d t ps
+  starts_awake d t ps Call.TryLock = starts_try d t ps
+  starts_awake d t ps Call.Unlock = starts_unlock d t ps
+  starts_awake d t ps Call.StartWait = starts_wait d t ps
+  starts_awake d t ps (Call.SendLock u) = starts_send d t ps u
+  starts_awake d t ps Call.Receive = (inl refl, refl)
+
+  -- a call that comes in the midst of another
+  starts_busy : (x : SeatState) (call : Call) → is_asleep x.point ≡ true → is_in_call x.point ≡ true → Starts call x (record { seat = x; turn = Refused Why.InCall })
+  starts_busy x Call.Receive asleep busy = (inr busy, refl)
+  starts_busy x Call.Lock asleep busy = (asleep, refl)
+  starts_busy x Call.TryLock asleep busy = (asleep, refl)
+  starts_busy x Call.Unlock asleep busy = (asleep, refl)
+  starts_busy x Call.StartWait asleep busy = (asleep, refl)
+  starts_busy x (Call.SendLock u) asleep busy = (asleep, refl)
+
+  starts_at : (d t ps : ℕ) (q : Point) (call : Call) → Starts call (made_of d t ps q) (Begin.begin_at (made_of d t ps q) l call q)
+  starts_at d t ps Rest call = starts_awake d t ps call
+  starts_at d t ps (Asleep sleeper) call = starts_asleep d t ps sleeper call
+  starts_at d t ps q call = starts_busy (made_of d t ps q) call refl refl
+
+  starts : (p : SeatState) (call : Call) → Starts call p (Begin.begin p l call)
+  starts p call = starts_at p.depth p.takes p.posts p.point call
+
+  pub begun : (p q : SeatState) (call : Call) → Open ≡ (Begin.begin p l call).turn → q ≡ (Begin.begin p l call).seat → Begun l call p q
+  begun p q call is seat_is = subst (λ (z : Stepped). Starts_by call p z.seat z.turn) (λ i. record { seat = sym seat_is i; turn = sym is i }) (starts p call)
+
+  told_turn : (p q : SeatState) (call : Call) (turn : Turn) → turn ≢ Open → Starts_by call p q turn → Turned follows fits l call (sight_of n p v a) (sight_of n q v a) turn
+  told_turn p q call Open some is = absurd (some refl)
+  told_turn p q call (Ended answer) some is = is
+  told_turn p q call (Refused why) some is = is
+
+  -- a call that ends by its begin
+  pub turned_at_once : (p q : SeatState) (call : Call) (turn : Turn) → turn ≢ Open → turn ≡ (Begin.begin p l call).turn → q ≡ (Begin.begin p l call).seat → Turned follows fits l call (sight_of n p v a) (sight_of n q v a) turn
+  turned_at_once p q call turn some is seat_is = told_turn p q call turn some (subst (λ (z : Stepped). Starts_by call p z.seat z.turn) (λ i. record { seat = sym seat_is i; turn = sym is i }) (starts p call))
+
+-- Calls that make steps
+
+pub called_ends : (l : Limits) (call : Call) (p q : SeatState) (turn : Turn) → Open ≡ (Begin.begin p l call).turn → q ≡ (Begin.begin p l call).seat → Ends (errand q.point) turn → Ends (errand_of call) turn
+called_ends l call p q turn is seat_is ends = subst (λ (e : Errand). Ends e turn) (ap (λ (x : SeatState). errand x.point) seat_is ∙ begun_open p l call (sym is)) ends
+
+no_busy_asks : (e : Errand) (why : Why) → e ≡ locking → refuses_for why ≡ e → (x p : SeatState) → Refused_by x p why → ⊥
+no_busy_asks e (Why.By Refusal.Busy) is told x p by = let z : trying ≡ locking = told ∙ is in absurd (cc)
+no_busy_asks e (Why.By Refusal.NotWaiting) is told x p by = let z : sending ≡ locking = told ∙ is in absurd (cc)
+no_busy_asks e _ is told x p by = by
+
+no_trying_asks : (e : Errand) (r : Releaser) (why : Why) → e ≡ releasing r → refuses_for why ≡ e → (x p : SeatState) → Refused_by x p why → ⊥
+no_trying_asks e r (Why.By Refusal.Busy) is told x p by = let z : trying ≡ releasing r = told ∙ is in absurd (cc)
+no_trying_asks e r (Why.By Refusal.NotWaiting) is told x p by = let z : sending ≡ releasing r = told ∙ is in absurd (cc)
+no_trying_asks e r _ is told x p by = by
+
+no_busy_receives : (e : Errand) (why : Why) → e ≡ receiving → refuses_for why ≡ e → (x p : SeatState) → Refused_by x p why → ⊥
+no_busy_receives e (Why.By Refusal.Busy) is told x p by = let z : trying ≡ receiving = told ∙ is in absurd (cc)
+no_busy_receives e (Why.By Refusal.NotWaiting) is told x p by = let z : sending ≡ receiving = told ∙ is in absurd (cc)
+no_busy_receives e _ is told x p by = by
+
+module _ {T : Type 0} (follows : ℕ → T → T → Type 0) (fits : T → ℕ → Type 0) (n n' : ℕ) (l : Limits) (p q p' : SeatState) (v v' : View T) (a a' : Option (Moving T)) (number : n' ≡ n) where
+  abbrev S : Sight T
+  S = sight_of n p v (value_in a)
+
+  abbrev S' : Sight T
+  S' = sight_of n' p' v' (value_in a')
+
+  suits_of : (how : How) (w : T) (k j : ℕ) → Counts how k j → fits w k → Suits follows fits how w j
+  suits_of How.Free w k j counts is = subst (λ (i : ℕ). fits w i) counts is
+  suits_of (How.Queued stamp) w k j counts is = (k, sym counts.0, counts.1, is)
+
+  -- what a hold finds
+  finds : (how : How) → p.depth ≡ 0 → Holds follows fits n v.last how p' a' v' → Finds follows fits how S S'
+  finds how flat h =
+      let deep : 0 < p'.depth = let e = h.depth in omega (arith, e) in (
+        h.moving.value,
+        deep_by p'.depth None (value_in a') deep ∙ ap value_in h.in_hand,
+        deep_by p'.depth v'.last v'.found deep ∙ h.found,
+        λ y is. h.reached y (sym (flat_by p.depth v.last v.found flat) ∙ is),
+        subst (λ (k : ℕ). Suits follows fits how h.moving.value k) (sym (deep_by p'.depth 0 v'.answered deep)) (suits_of how h.moving.value h.count v'.answered h.counts h.fits),
+      )
+
+  unsent : (turn : Turn) → Ran n (opens q) v turn p' v' → is_send q.point ≡ false → sends_of v'.trail ≡ sends_of v.trail
+  unsent turn ran other =
+      ap sends_of ran.trail ∙ (sends_join v.trail (trail_of n q ran.finds) ∙ (ap (λ (xs : List ℕ). sends_of v.trail ++ xs) (no_sends n q ran.finds other) ∙ append-nil (sends_of v.trail)))
+
+  awake : (x : Point) → x ≡ Rest → is_asleep x ≡ false
+  awake x at = ap is_asleep at
+
+  idle : (x : Point) → x ≡ Rest → is_in_call x ≡ false
+  idle x at = ap is_in_call at
+
+  -- a hold, by either call that charges at once
+  gains : (budget : ℕ) (how : How) → Begun_entry budget p q → q.depth ≡ 0 → p'.depth ≡ 1 → p'.takes ≡ q.takes → p'.point ≡ Rest → sends_of v'.trail ≡ sends_of v.trail → Holds follows fits n v.last how p' a' v' → Gains follows fits budget how S S'
+  gains budget how b flat deep takes rests sends h =
+      let flat_p : p.depth ≡ 0 = sym b.2 ∙ flat in
+      let charged : (p.takes < budget) × (q.takes ≡ p.takes + 1) = elim b.3 [ inl c ↦ (c.1, c.2) | inr c ↦ absurd (let z = c.0 in omega (arith, z, flat_p)) ] in
+      (awake p.point b.0, flat_p, charged.0, number, deep, takes ∙ charged.1, awake p'.point rests, sends, finds how flat_p h)
+
+  deepens_now : (budget d : ℕ) → Begun_entry budget p q → 0 < q.depth → d ≡ q.depth + 1 → p'.depth ≡ d → p'.takes ≡ q.takes → p'.point ≡ Rest → sends_of v'.trail ≡ sends_of v.trail → v'.last ≡ v.last
+      → Stays q.depth v (value_in a) v' (value_in a') → Deepens S S' d
+  deepens_now budget d b deep is depth takes rests sends last stays =
+      let deep_p : 0 < p.depth = subst (λ (k : ℕ). 0 < k) b.2 deep in
+      let kept : q.takes ≡ p.takes = elim b.3 [ inl c ↦ absurd (let z = c.0 in omega (arith, z, deep_p)) | inr c ↦ c.1 ] in
+      let same = b.2 in (
+        awake p.point b.0,
+        deep_p,
+        b.1,
+        is ∙ ap (λ (k : ℕ). k + 1) b.2,
+        same_but n n' p p' v v' (value_in a) (value_in a') d p.takes (is_asleep p.point) (is_in_call p.point) (sends_of v.trail) number depth (takes ∙ kept) (awake p'.point rests ∙ sym (awake p.point b.0))
+            (idle p'.point rests ∙ sym (idle p.point b.0)) sends last (subst (λ (k : ℕ). Stays k v (value_in a) v' (value_in a')) b.2 stays) (inr (deep_p, omega (arith, is, depth))),
+      )
+
+  lock_turned : (turn : Turn) → Begun l Call.Lock p q → Ends locking turn → Concludes q turn p' → ((how : How) → how_held turn ≡ Some how → Holds follows fits n v.last how p' a' v') → Stays q.depth v (value_in a) v' (value_in a') → v'.last ≡ v.last
+      → sends_of v'.trail ≡ sends_of v.trail → Turned follows fits l Call.Lock S S' turn
+  lock_turned (Ended (Answer.Asked (Asked.Held how))) b ends c held stays last sends = gains l.budget how b.0 c.0 c.1 c.2 c.3 sends (held how refl)
+  lock_turned (Ended (Answer.Asked (Asked.Again d))) b ends c held stays last sends = deepens_now l.budget d b.0 c.0 c.1 c.2 c.3 c.4 sends last stays
+  lock_turned (Ended (Answer.Asked Asked.Asleep)) b ends c held stays last sends =
+      let flat_p : p.depth ≡ 0 = sym b.0.2 ∙ c.0 in
+      let charged : (p.takes < l.budget) × (q.takes ≡ p.takes + 1) = elim b.0.3 [ inl k ↦ (k.1, k.2) | inr k ↦ absurd (let z = k.0 in omega (arith, z, flat_p)) ] in (
+        awake p.point b.0.0,
+        flat_p,
+        charged.0,
+        same_but n n' p p' v v' (value_in a) (value_in a') p.depth (p.takes + 1) true false (sends_of v.trail) number (c.1 ∙ sym flat_p) (c.2 ∙ charged.1) c.3 c.4 sends last
+            (λ deep. absurd (omega (arith, deep, flat_p))) (inl (flat_p, c.1)),
+      )
+  lock_turned (Refused why) b ends c held stays last sends = absurd (no_busy_asks locking why refl ends q p' c)
+  lock_turned (Ended _) b ends c held stays last sends = tt
+  lock_turned Open b ends c held stays last sends = tt
+
+  not_waiting_tries : sending ≡ trying → ⊥
+  not_waiting_tries e = cc
+
+  try_turned : (turn : Turn) → Begun l Call.TryLock p q → Ends trying turn → Concludes q turn p' → ((how : How) → how_held turn ≡ Some how → Holds follows fits n v.last how p' a' v') → Stays q.depth v (value_in a) v' (value_in a') → v'.last ≡ v.last
+      → sends_of v'.trail ≡ sends_of v.trail → (turn ≡ Refused (Why.By Refusal.Busy) → (new : List Seen) × (v'.trail ≡ v.trail ++ new) × Busy_seen n new) → Turned follows fits l Call.TryLock S S' turn
+  try_turned (Ended (Answer.Locked (Locked.Held how))) b ends c held stays last sends busy = gains l.budget how b.0 c.0 c.1 c.2 c.3 sends (held how refl)
+  try_turned (Ended (Answer.Locked (Locked.Again d))) b ends c held stays last sends busy = deepens_now l.budget d b.0 c.0 c.1 c.2 c.3 c.4 sends last stays
+  try_turned (Refused (Why.By Refusal.Busy)) b ends c held stays last sends busy =
+      let flat_p : p.depth ≡ 0 = sym b.0.2 ∙ c.0 in
+      let charged : (p.takes < l.budget) × (q.takes ≡ p.takes + 1) = elim b.0.3 [ inl k ↦ (k.1, k.2) | inr k ↦ absurd (let z = k.0 in omega (arith, z, flat_p)) ] in
+      let back : p'.takes ≡ p.takes = let more = charged.1 in elim c.2 [ inl z ↦ omega (arith, z, more) | inr z ↦ absurd (omega (arith, z, more)) ] in (
+        awake p.point b.0.0,
+        flat_p,
+        charged.0,
+        same_but n n' p p' v v' (value_in a) (value_in a') p.depth p.takes (is_asleep p.point) (is_in_call p.point) (sends_of v.trail) number (c.1 ∙ sym flat_p) back (awake p'.point c.3 ∙ sym (awake p.point b.0.0))
+            (idle p'.point c.3 ∙ sym (idle p.point b.0.0)) sends last (λ deep. absurd (omega (arith, deep, flat_p))) (inl (flat_p, c.1)),
+        busy refl,
+      )
+  try_turned (Refused (Why.By Refusal.NotWaiting)) b ends c held stays last sends busy = absurd (not_waiting_tries ends)
+  try_turned (Refused _) b ends c held stays last sends busy = absurd c
+  try_turned (Ended _) b ends c held stays last sends busy = tt
+  try_turned Open b ends c held stays last sends busy = tt
+
+  receive_turned : (turn : Turn) → Begun l Call.Receive p q → Ends receiving turn → Concludes q turn p' → ((how : How) → how_held turn ≡ Some how → Holds follows fits n v.last how p' a' v') → Stays q.depth v (value_in a) v' (value_in a') → v'.last ≡ v.last
+      → sends_of v'.trail ≡ sends_of v.trail → Turned follows fits l Call.Receive S S' turn
+  receive_turned (Ended (Answer.Got (Some how))) b ends c held stays last sends =
+      (b.0, b.1, awake p'.point c.3, number, c.1, c.2 ∙ b.3, sends, finds how (sym b.2 ∙ c.0) (held how refl))
+  receive_turned (Ended (Answer.Got None)) b ends c held stays last sends =
+      let level : ((p.depth ≡ 0) × (p'.depth ≡ 0)) ⊎ ((0 < p.depth) × (0 < p'.depth)) =
+      let one = c.0 in let two = b.2 in elim (cases_eq p.depth 0) [ inl z ↦ inl (z, omega (arith, one, two, z)) | inr some ↦ inr (omega (arith, some), omega (arith, some, one, two)) ]
+      in (
+        b.0,
+        b.1,
+        same_but n n' p p' v v' (value_in a) (value_in a') p.depth p.takes (is_asleep p.point) (is_in_call p.point) (sends_of v.trail) number (c.0 ∙ b.2) (c.1 ∙ b.3) (c.2 ∙ sym b.0) (c.3 ∙ sym b.1) sends last
+            (subst (λ (k : ℕ). Stays k v (value_in a) v' (value_in a')) b.2 stays) level,
+      )
+  receive_turned (Refused why) b ends c held stays last sends = absurd (no_busy_receives receiving why refl ends q p' c)
+  receive_turned (Ended _) b ends c held stays last sends = tt
+  receive_turned Open b ends c held stays last sends = tt
+
+  -- a release, from the store that ends the hold on
+  leaves_off : p.point ≡ Rest → p.depth ≡ 1 → p'.depth ≡ 0 → v'.last ≡ value_in a → sends_of v'.trail ≡ sends_of v.trail → Leaves_off S S'
+  leaves_off rests deep flat last sends =
+      let some : 0 < p.depth = omega (arith, deep) in (
+        awake p.point rests,
+        deep,
+        number,
+        flat,
+        flat_by p'.depth None (value_in a') flat,
+        λ x is. flat_by p'.depth v'.last v'.found flat ∙ (last ∙ (sym (deep_by p.depth None (value_in a) some) ∙ is)),
+        sends,
+      )
+
+  unlocked : (u : Unlocked) → Is_left u → Leaves_off S S' → S'.takes ≡ S.takes → S'.asleep ≡ false → Turned follows fits l Call.Unlock S S' (Ended (Answer.Unlocked u))
+  unlocked (Unlocked.Still d) is off takes awake_now = absurd is
+  unlocked Unlocked.Free is off takes awake_now = (off, takes, awake_now)
+  unlocked (Unlocked.Granted t) is off takes awake_now = (off, takes, awake_now)
+  unlocked Unlocked.Posted is off takes awake_now = (off, takes, awake_now)
+  unlocked Unlocked.TakenOver is off takes awake_now = (off, takes, awake_now)
+
+  unlock_turned : (turn : Turn) → Begun l Call.Unlock p q → Ends (releasing Unlocker) turn → Concludes (record q { depth = 0 }) turn p' → v'.last ≡ value_in a → sends_of v'.trail ≡ sends_of v.trail → Turned follows fits l Call.Unlock S S' turn
+  unlock_turned (Ended (Answer.Unlocked u)) b ends c last sends = unlocked u c.3 (leaves_off b.0 b.1 c.0 last sends) (c.1 ∙ b.2) (awake p'.point c.2)
+  unlock_turned (Refused why) b ends c last sends = absurd (no_trying_asks (releasing Unlocker) Unlocker why refl ends (record q { depth = 0 }) p' c)
+  unlock_turned (Ended _) b ends c last sends = tt
+  unlock_turned Open b ends c last sends = tt
+
+  wait_turned : (turn : Turn) → Begun l Call.StartWait p q → Ends (releasing Waiter) turn → Concludes (record q { depth = 0 }) turn p' → v'.last ≡ value_in a → sends_of v'.trail ≡ sends_of v.trail → Turned follows fits l Call.StartWait S S' turn
+  wait_turned (Ended (Answer.Waiting u)) b ends c last sends = (c.4 (subst (λ (x : Point). Still_at x) (sym b.4) tt), leaves_off b.0 b.1 c.0 last sends, b.2, c.1 ∙ b.3, c.2, c.3)
+  wait_turned (Refused why) b ends c last sends = absurd (no_trying_asks (releasing Waiter) Waiter why refl ends (record q { depth = 0 }) p' c)
+  wait_turned (Ended _) b ends c last sends = tt
+  wait_turned Open b ends c last sends = tt
+
+  not_trying_sends : trying ≡ sending → ⊥
+  not_trying_sends e = cc
+
+  send_level : (u : ℕ) → Begun l (Call.SendLock u) p q → p'.depth ≡ q.depth → ((p.depth ≡ 0) × (p'.depth ≡ 0)) ⊎ ((0 < p.depth) × (0 < p'.depth))
+  send_level u b one = let two = b.3 in elim (cases_eq p.depth 0) [ inl z ↦ inl (z, omega (arith, one, two, z)) | inr some ↦ inr (omega (arith, some), omega (arith, some, one, two)) ]
+
+  send_turned : (u : ℕ) (turn : Turn) → Begun l (Call.SendLock u) p q → Ends sending turn → Concludes q turn p' → Stays q.depth v (value_in a) v' (value_in a') → v'.last ≡ v.last → Ran n (opens q) v turn p' v'
+      → Turned follows fits l (Call.SendLock u) S S' turn
+  send_turned u (Ended Answer.Sent) b ends c stays last ran =
+      let sent = sent_path n q u ran.finds b.5 (ap (λ (z : Stepped). z.turn) ran.ends) in
+      let sends : sends_of v'.trail ≡ sends_of v.trail ++ u ∷ [] = ap sends_of ran.trail ∙ (sends_join v.trail (trail_of n q ran.finds) ∙ ap (λ (xs : List ℕ). sends_of v.trail ++ xs) sent) in (
+        awake p.point b.0,
+        b.1,
+        b.2,
+        same_but n n' p p' v v' (value_in a) (value_in a') p.depth p.takes (is_asleep p.point) (is_in_call p.point) (sends_of v.trail ++ u ∷ []) number (c.0 ∙ b.3) (c.1 ∙ b.4) (awake p'.point c.2 ∙ sym (awake p.point b.0))
+            (idle p'.point c.2 ∙ sym (idle p.point b.0)) sends last (subst (λ (k : ℕ). Stays k v (value_in a) v' (value_in a')) b.3 stays) (send_level u b c.0),
+      )
+  send_turned u (Refused (Why.By Refusal.NotWaiting)) b ends c stays last ran =
+      let refused = refused_path n q u ran.finds b.5 (ap (λ (z : Stepped). z.turn) ran.ends) in
+      let trail : v'.trail ≡ v.trail ++ seen (SendWakeExchange u) refused.0 ∷ [] = ran.trail ∙ ap (λ (xs : List Seen). v.trail ++ xs) refused.2 in
+      let none : sends_of (seen (SendWakeExchange u) refused.0 ∷ []) ≡ [] = append-nil (claimed u (wake_of refused.0)) ∙ refused.1 in
+      let sends : sends_of v'.trail ≡ sends_of v.trail = ap sends_of trail ∙ (sends_join v.trail (seen (SendWakeExchange u) refused.0 ∷ []) ∙ (ap (λ (xs : List ℕ). sends_of v.trail ++ xs) none ∙ append-nil (sends_of v.trail))) in (
+        awake p.point b.0,
+        b.1,
+        b.2,
+        same_but n n' p p' v v' (value_in a) (value_in a') p.depth p.takes (is_asleep p.point) (is_in_call p.point) (sends_of v.trail) number (c.0 ∙ b.3) (c.1 ∙ b.4) (awake p'.point c.2 ∙ sym (awake p.point b.0))
+            (idle p'.point c.2 ∙ sym (idle p.point b.0)) sends last (subst (λ (k : ℕ). Stays k v (value_in a) v' (value_in a')) b.3 stays) (send_level u b c.0),
+        (refused.0, refused.1, trail),
+      )
+  send_turned u (Refused (Why.By Refusal.Busy)) b ends c stays last ran = absurd (not_trying_sends ends)
+  send_turned u (Refused _) b ends c stays last ran = absurd c
+  send_turned u (Ended _) b ends c stays last ran = tt
+  send_turned u Open b ends c stays last ran = tt
+
+  -- the end of a call that makes steps
+  pub turned_by_steps : (call : Call) (turn : Turn) → is_releasing (errand_of call) ≡ false → Begun l call p q → Ends (errand_of call) turn → Concludes q turn p'
+      → ((how : How) → how_held turn ≡ Some how → Holds follows fits n v.last how p' a' v') → Stays q.depth v (value_in a) v' (value_in a') → v'.last ≡ v.last → Ran n (opens q) v turn p' v' → Turned follows fits l call S S' turn
+  turned_by_steps Call.Lock turn keeps b ends c held stays last ran = lock_turned turn b ends c held stays last (unsent turn ran (ap is_send b.1))
+  turned_by_steps Call.TryLock turn keeps b ends c held stays last ran =
+      try_turned turn b ends c held stays last (unsent turn ran (ap is_send b.1)) (λ is. (trail_of n q ran.finds, ran.trail, busy_path n q ran.finds b.1 (ap (λ (z : Stepped). z.turn) ran.ends ∙ is)))
+  turned_by_steps Call.Receive turn keeps b ends c held stays last ran = receive_turned turn b ends c held stays last (unsent turn ran (ap is_send b.4.1))
+  turned_by_steps (Call.SendLock t) turn keeps b ends c held stays last ran = send_turned t turn b ends c stays last ran
+  turned_by_steps Call.Unlock turn keeps b ends c held stays last ran = absurd (false≢true (sym keeps))
+  turned_by_steps Call.StartWait turn keeps b ends c held stays last ran = absurd (false≢true (sym keeps))
+
+  pub turned_by_release : (call : Call) (turn : Turn) → is_releasing (errand_of call) ≡ true → Begun l call p q → Ends (errand_of call) turn → Concludes (record q { depth = 0 }) turn p' → v'.last ≡ value_in a → Ran n (opens q) v turn p' v' → Turned follows fits l call S S' turn
+  turned_by_release Call.Unlock turn gives b ends c last ran = unlock_turned turn b ends c last (unsent turn ran (ap is_send b.3))
+  turned_by_release Call.StartWait turn gives b ends c last ran = wait_turned turn b ends c last (unsent turn ran (ap is_send b.4))
+  turned_by_release Call.Lock turn gives b ends c last ran = absurd (false≢true gives)
+  turned_by_release Call.TryLock turn gives b ends c last ran = absurd (false≢true gives)
+  turned_by_release (Call.SendLock t) turn gives b ends c last ran = absurd (false≢true gives)
+  turned_by_release Call.Receive turn gives b ends c last ran = absurd (false≢true gives)
+
+-- What may be left
+
+pub release_deep : (l : Limits) (call : Call) (p q : SeatState) → is_releasing (errand_of call) ≡ true → Begun l call p q → 0 < p.depth
+release_deep l Call.Unlock p q gives b = let e = b.1 in omega (arith, e)
+release_deep l Call.StartWait p q gives b = let e = b.1 in omega (arith, e)
+release_deep l Call.Lock p q gives b = absurd (false≢true gives)
+release_deep l Call.TryLock p q gives b = absurd (false≢true gives)
+release_deep l (Call.SendLock t) p q gives b = absurd (false≢true gives)
+release_deep l Call.Receive p q gives b = absurd (false≢true gives)
+
+pub may_leave : {T : Type 0} (follows : ℕ → T → T → Type 0) (fits : T → ℕ → Type 0) (n : ℕ) (p : SeatState) (v : View T) (a : Option (Moving T)) → v.number ≡ n → 0 < p.depth → May_leave follows fits (sight_of n p v (value_in a)) → Leaves follows fits a v
+may_leave {T} follows fits n p v a named deep may x is =
+    let m = may x.value (deep_by p.depth None (value_in a) deep ∙ ap value_in is) in (
+      subst (λ (k : ℕ). fits x.value k) (deep_by p.depth 0 v.answered deep) m.0,
+      λ y found. subst (λ (k : ℕ). follows k y x.value) (sym named) (m.1 y (deep_by p.depth v.last v.found deep ∙ found)),
+    )

@@ -1,0 +1,8 @@
+-- One atomic step: what it does to a seat's own data, and that it keeps the rule of the table and what a seat knows.
+pub mod ByKind
+pub mod CoreFacts
+pub mod RuleKept
+pub mod SeatKept
+pub mod SettledKept
+pub mod Started
+pub mod StepFacts

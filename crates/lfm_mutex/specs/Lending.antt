@@ -1,0 +1,16 @@
+-- What a seat is once a borrow of its value ends.
+use Rattle.std.specs.Prelude.{◌≡◌, OnSome, Option, Some}
+use Rattle.std.specs.Borrow.{LendsSo, MutBor, Fml, RattleType}
+use Rattle.lfm_mutex.specs.declared.seat.Seat.{Seat}
+use Rattle.lfm_mutex.specs.contracts.seat.Seat.{the_row}
+use Rattle.lfm_mutex.specs.table.Rule.{put_value}
+use Rattle.lfm_mutex.specs.calls.Sight.{sight}
+
+-- a value was written, and nothing else of the seat is other than it was
+abbrev pub Written : {T : Type 0} → Seat T → T → Seat T → Type 0
+Written s w n = (sight n ≡ record (sight s) { value = Some w }) × (n.place ≡ s.place) × (n.standing ≡ s.standing) × (n.limits ≡ s.limits) × (n.moving ≡ put_value s.moving w)
+
+abbrev pub LendsValue : (R : RattleType) → MutBor (Seat R.Denot) → Option (MutBor R.Denot) → Fml
+LendsValue R s r =
+    LendsSo (the_row R) R s r (λ n w. OnSome r (Written s.now w n))
+    (λ n. (n.standing ≡ s.now.standing) × (n.number ≡ s.now.number) × (n.limits ≡ s.now.limits) × (n.place ≡ s.now.place) × (n.moving ≡ s.now.moving))

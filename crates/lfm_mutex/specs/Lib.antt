@@ -1,0 +1,6 @@
+pub mod table
+pub mod calls
+pub mod Closing
+pub mod Fresh
+pub mod Lending
+pub mod Reach

@@ -1,0 +1,3 @@
+-- Runs of a seat's own steps, and calls between two sights of a seat.
+pub mod Runs
+pub mod Sight

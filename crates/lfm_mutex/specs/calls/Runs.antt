@@ -1,0 +1,253 @@
+-- A run of a seat's own steps: what each found, in order, and what they lead to; which call a point belongs to, and how
+-- that call can end; and a number that falls with each step.
+use Rattle.std.specs.Prelude.{◌≡◌, ⊤, ℕ, ◌+◌, ◌-◌, ◌*◌, ◌^◌, List, [], ◌∷◌, ◌++◌, Option, Some, None, Bool, true, false, nat_eq, if◌then◌else◌}
+use Rattle.lfm_model.specs.declared.answers.Asked.{Asked}
+use Rattle.lfm_model.specs.declared.answers.How.{How}
+use Rattle.lfm_model.specs.declared.answers.Locked.{Locked}
+use Rattle.lfm_model.specs.declared.refusals.Refusal.{Refusal}
+use Rattle.lfm_words.specs.declared.links.Link.{Link}
+use Rattle.lfm_words.specs.declared.pop_lists.Record.{Record}
+use Rattle.lfm_protocol.specs.declared.answers.Answer.{Answer}
+use Rattle.lfm_protocol.specs.declared.answers.Call.{Call}
+use Rattle.lfm_protocol.specs.declared.limits.Limits.{Limits}
+use Rattle.lfm_protocol.specs.Begin as Begin
+use Rattle.lfm_protocol.specs.declared.answers.Turn.{Turn}
+use Rattle.lfm_protocol.specs.declared.answers.Turn.TheVariants.{Open, Ended, Refused}
+use Rattle.lfm_protocol.specs.declared.answers.Why.{Why}
+use Rattle.lfm_protocol.specs.declared.answers.Why.TheVariants.{By}
+use Rattle.lfm_protocol.specs.declared.points.Carrier.{Carrier}
+use Rattle.lfm_protocol.specs.declared.points.Entrant.{Entrant}
+use Rattle.lfm_protocol.specs.declared.points.Point.{Point}
+use Rattle.lfm_protocol.specs.declared.points.Point.TheVariants.{Rest, Asleep, LockCountAdd, LockOwnerLoad, LockCountSubtract, TryCountExchange, TryOwnerLoad, TryHandoffLoad, TryHandoffExchange, TryCountAdd, SendWakeExchange, SendCountAdd, SendPushLook, SendWakeStore, PushLoad, LinkStore, PushExchange, PushedHandoffLoad, PushedHandoffExchange, ReleaseOwnerStore, ReleaseCountSubtract, ReleaseHandoffStore, ReleasePushLook, ReleaseHandoffExchange, WaitWakeStore, TakeClearHead, TakeLinkLoad, GrantWakeStore, EnterOwnerStore, ReceiveWakeLoad, ReceiveWakeStore}
+use Rattle.lfm_protocol.specs.declared.points.Pusher.{Pusher}
+use Rattle.lfm_protocol.specs.declared.points.Releaser.{Releaser}
+use Rattle.lfm_protocol.specs.declared.points.Releaser.TheVariants.{Unlocker, Waiter}
+use Rattle.lfm_protocol.specs.declared.seats.SeatState.{SeatState}
+use Rattle.lfm_protocol.specs.Begin.{Stepped}
+use Rattle.lfm_core.specs.table.Words.{stepped_by}
+use Rattle.lfm_mutex.specs.declared.table.seat_view.Seen.{Seen}
+use Rattle.lfm_mutex.specs.declared.table.seat_view.View.{View}
+use Rattle.lfm_mutex.specs.declared.table.rule.Moving.{Moving}
+use Rattle.lfm_mutex.specs.Reach.{Reached}
+use Rattle.lfm_mutex.specs.table.Rule.{Same_root, seen}
+
+-- Which call
+
+pub data Errand : Type 0 where
+  locking : Errand
+  trying : Errand
+  releasing : Releaser → Errand
+  sending : Errand
+  receiving : Errand
+  nothing : Errand
+
+abbrev pub pushes : Pusher → Errand
+pushes Pusher.Locker = locking
+pushes (Pusher.Sender t) = sending
+
+abbrev pub carries_for : Carrier → Errand
+carries_for Carrier.Locker = locking
+carries_for (Carrier.Releaser releaser) = releasing releaser
+carries_for (Carrier.Reclaimer releaser) = releasing releaser
+carries_for Carrier.Sender = sending
+
+abbrev pub enters : Entrant → Errand
+enters Entrant.Locker = locking
+enters Entrant.Trier = trying
+enters Entrant.Receiver = receiving
+
+-- the call that stands open at this point
+abbrev pub errand : Point → Errand
+errand Rest = nothing
+errand (Asleep sleeper) = nothing
+errand LockCountAdd = locking
+errand LockOwnerLoad = locking
+errand LockCountSubtract = locking
+errand TryCountExchange = trying
+errand TryOwnerLoad = trying
+errand TryHandoffLoad = trying
+errand (TryHandoffExchange old) = trying
+errand TryCountAdd = trying
+errand (SendWakeExchange t) = sending
+errand (SendCountAdd t) = sending
+errand (SendPushLook t old) = sending
+errand (SendWakeStore t) = sending
+errand (PushLoad pusher) = pushes pusher
+errand (LinkStore pusher old) = pushes pusher
+errand (PushExchange pusher old) = pushes pusher
+errand (PushedHandoffLoad pusher) = pushes pusher
+errand (PushedHandoffExchange pusher old) = pushes pusher
+errand (ReleaseOwnerStore releaser) = releasing releaser
+errand (ReleaseCountSubtract releaser) = releasing releaser
+errand (ReleaseHandoffStore releaser) = releasing releaser
+errand (ReleasePushLook releaser) = releasing releaser
+errand (ReleaseHandoffExchange releaser) = releasing releaser
+errand (WaitWakeStore released) = releasing Waiter
+errand (TakeClearHead carrier) = carries_for carrier
+errand (TakeLinkLoad carrier next) = carries_for carrier
+errand (GrantWakeStore carrier oldest) = carries_for carrier
+errand (EnterOwnerStore entrant how) = enters entrant
+errand (ReceiveWakeLoad sleeper) = receiving
+errand (ReceiveWakeStore stamp) = receiving
+
+-- the call that answers so
+abbrev pub answers_for : Answer → Errand
+answers_for (Answer.Asked asked) = locking
+answers_for (Answer.Locked locked) = trying
+answers_for (Answer.Unlocked unlocked) = releasing Unlocker
+answers_for (Answer.Waiting unlocked) = releasing Waiter
+answers_for (Answer.Got got) = receiving
+answers_for Answer.Sent = sending
+
+abbrev pub refuses_for : Why → Errand
+refuses_for (By Refusal.Busy) = trying
+refuses_for (By Refusal.NotWaiting) = sending
+refuses_for _ = nothing
+
+-- a turn of this call, which has come to this point
+abbrev pub Is_turn : Errand → Turn → Point → Type 0
+Is_turn e Open q = errand q ≡ e
+Is_turn e (Ended answer) q = answers_for answer ≡ e
+Is_turn e (Refused why) q = (refuses_for why ≡ e) × (q ≡ Rest)
+
+-- How many steps are left, at most
+
+abbrev pub left : Link → ℕ
+left l = 2 * (2 ^ 48 - l.stamp) + (if nat_eq l.next 0 then 0 else 1)
+
+abbrev pub clearing : ℕ → Carrier → ℕ
+clearing n (Carrier.Releaser releaser) = n + 8
+clearing n _ = n + 4
+
+-- at this point, where there are n seats and the pop list has k records
+abbrev pub weight : ℕ → ℕ → Point → ℕ
+weight n k Rest = 0
+weight n k (Asleep sleeper) = 0
+weight n k LockCountAdd = n + 2 ^ 51 + 12
+weight n k LockOwnerLoad = n + 2 ^ 51 + 11
+weight n k LockCountSubtract = 1
+weight n k TryCountExchange = 6
+weight n k TryOwnerLoad = 5
+weight n k TryHandoffLoad = 4
+weight n k (TryHandoffExchange old) = 3
+weight n k TryCountAdd = 2
+weight n k (SendWakeExchange t) = n + 2 ^ 51 + 13
+weight n k (SendCountAdd t) = n + 2 ^ 51 + 12
+weight n k (SendPushLook t old) = n + 6
+weight n k (SendWakeStore t) = 1
+weight n k (PushLoad pusher) = n + 2 ^ 51 + 10
+weight n k (LinkStore pusher old) = n + 2 * left old + 9
+weight n k (PushExchange pusher old) = n + 2 * left old + 8
+weight n k (PushedHandoffLoad pusher) = n + 7
+weight n k (PushedHandoffExchange pusher old) = n + 5
+weight n k (ReleaseOwnerStore releaser) = n + 10
+weight n k (ReleaseCountSubtract releaser) = n + 9
+weight n k (ReleaseHandoffStore releaser) = n + 7
+weight n k (ReleasePushLook releaser) = n + 6
+weight n k (ReleaseHandoffExchange releaser) = n + 5
+weight n k (WaitWakeStore released) = 1
+weight n k (TakeClearHead carrier) = clearing n carrier
+weight n k (TakeLinkLoad carrier next) = (n - k) + 3
+weight n k (GrantWakeStore carrier oldest) = 2
+weight n k (EnterOwnerStore entrant how) = 1
+weight n k (ReceiveWakeLoad sleeper) = 3
+weight n k (ReceiveWakeStore stamp) = 2
+
+-- Runs
+
+-- where these finds lead to, each with the oldest record that the pop list had
+abbrev pub end_of : ℕ → Stepped → List (ℕ × Option Record) → Stepped
+end_of s st [] = st
+end_of s st (f ∷ finds) = end_of s (stepped_by st.seat s f.0 f.1) finds
+
+-- the steps, each the one that those before it ask for
+abbrev pub trail_of : ℕ → SeatState → List (ℕ × Option Record) → List Seen
+trail_of s x [] = []
+trail_of s x (f ∷ finds) = seen x.point f.0 ∷ trail_of s (stepped_by x s f.0 f.1).seat finds
+
+-- the seat has made some steps of its call, which began with st
+pub record Ran {T : Type 0} (s : ℕ) (st : Stepped) (v : View T) (turn : Turn) (p : SeatState) (v' : View T) : Type 0 where
+  pub finds : List (ℕ × Option Record)
+  pub ends : end_of s st finds ≡ record { seat = p; turn = turn }
+  pub trail : v'.trail ≡ v.trail ++ trail_of s st.seat finds
+  pub root : Same_root v v'
+
+-- Answers
+
+-- how a turn says that its seat holds
+abbrev pub how_asked : Asked → Option How
+how_asked (Asked.Held how) = Some how
+how_asked _ = None
+
+abbrev pub how_locked : Locked → Option How
+how_locked (Locked.Held how) = Some how
+how_locked _ = None
+
+abbrev pub how_answered : Answer → Option How
+how_answered (Answer.Asked asked) = how_asked asked
+how_answered (Answer.Locked locked) = how_locked locked
+how_answered (Answer.Got got) = got
+how_answered _ = None
+
+abbrev pub how_held : Turn → Option How
+how_held (Ended answer) = how_answered answer
+how_held _ = None
+
+-- this turn ends the call
+abbrev pub Ends : Errand → Turn → Type 0
+Ends e Open = ⊥
+Ends e (Ended answer) = answers_for answer ≡ e
+Ends e (Refused why) = refuses_for why ≡ e
+
+abbrev pub is_release : Point → Bool
+is_release (ReleaseOwnerStore releaser) = true
+is_release _ = false
+
+-- a seat that has begun, before its first step
+abbrev pub opens : SeatState → Stepped
+opens p = record { seat = p; turn = Open }
+
+-- The calls
+
+abbrev pub errand_of : Call → Errand
+errand_of Call.Lock = locking
+errand_of Call.TryLock = trying
+errand_of Call.Unlock = releasing Unlocker
+errand_of Call.StartWait = releasing Waiter
+errand_of (Call.SendLock t) = sending
+errand_of Call.Receive = receiving
+
+abbrev pub is_releasing : Errand → Bool
+is_releasing (releasing releaser) = true
+is_releasing _ = false
+
+-- a call of this errand can answer so
+abbrev pub Answers : Errand → Turn → Type 0
+Answers e Open = ⊥
+Answers e (Ended answer) = answers_for answer ≡ e
+Answers e (Refused why) = ⊤
+
+-- a call that began so has ended with this turn: at once, or by steps
+abbrev pub Called_by : {T : Type 0} → Turn → ℕ → Errand → SeatState → View T → Turn → SeatState → View T → Type 0
+Called_by Open s e q v turn p' v' = Ends e turn × Ran s (opens q) v turn p' v'
+Called_by t s e q v turn p' v' = (turn ≡ t) × (p' ≡ q) × (v' ≡ v)
+
+abbrev pub Called : {T : Type 0} → ℕ → Limits → Call → SeatState → View T → Turn → SeatState → View T → Type 0
+Called s l call p v turn p' v' = Called_by (Begin.begin p l call).turn s (errand_of call) (Begin.begin p l call).seat v turn p' v'
+
+-- the number of seats that had come to hold by a queued record when a seat did so, and that number afterwards
+abbrev pub Counts : How → ℕ → ℕ → Type 0
+Counts How.Free k answered = k ≡ answered
+Counts (How.Queued stamp) k answered = (k + 1 ≡ stamp) × (answered ≡ stamp)
+
+-- the seat has come to hold, having left what `before` says: what it has in hand was reached from that, and suits
+pub record Holds {T : Type 0} (follows : ℕ → T → T → Type 0) (suits : T → ℕ → Type 0) (s : ℕ) (before : Option T) (how : How) (p : SeatState) (a : Option (Moving T)) (v : View T) : Type 0 where
+  pub depth : p.depth ≡ 1
+  pub rests : p.point ≡ Rest
+  pub moving : Moving T
+  pub in_hand : a ≡ Some moving
+  pub found : v.found ≡ Some moving.value
+  pub reached : (l : T) → before ≡ Some l → Reached follows s l moving.value
+  pub count : ℕ
+  pub counts : Counts how count v.answered
+  pub fits : suits moving.value count

@@ -1,0 +1,289 @@
+-- What the crates above see of a seat, and what a call makes of it.
+use Rattle.std.specs.Prelude.{◌≡◌, ◌≢◌, ◌⊎◌, ⊤, ℕ, zero, suc, ◌+◌, ◌<◌, ◌≤◌, List, [], ◌∷◌, ◌++◌, Bool, true, false, Option, Some, None, Result, Ok, Err}
+use Rattle.lfm_model.specs.declared.answers.Asked.{Asked}
+use Rattle.lfm_model.specs.declared.answers.How.{How}
+use Rattle.lfm_model.specs.declared.answers.Locked.{Locked}
+use Rattle.lfm_model.specs.declared.answers.Unlocked.{Unlocked}
+use Rattle.lfm_model.specs.declared.refusals.Refusal.{Refusal}
+use Rattle.lfm_words.specs.declared.wakes.Wake.{Wake}
+use Rattle.lfm_protocol.specs.declared.answers.Answer.{Answer}
+use Rattle.lfm_protocol.specs.declared.answers.Call.{Call}
+use Rattle.lfm_protocol.specs.declared.answers.Turn.{Turn}
+use Rattle.lfm_protocol.specs.declared.answers.Turn.TheVariants.{Open, Ended, Refused}
+use Rattle.lfm_protocol.specs.declared.answers.Why.{Why}
+use Rattle.lfm_protocol.specs.declared.limits.Limits.{Limits}
+use Rattle.lfm_protocol.specs.declared.points.Point.{Point}
+use Rattle.lfm_protocol.specs.declared.points.Point.TheVariants.{Rest, Asleep, SendWakeExchange, TryCountExchange, TryOwnerLoad, TryHandoffLoad, TryHandoffExchange, WaitWakeStore}
+use Rattle.lfm_protocol.specs.declared.seats.SeatState.{SeatState}
+use Rattle.lfm_protocol.specs.After.{same_handoff}
+use Rattle.lfm_core.specs.table.Words.{handoff_of, wake_of}
+use Rattle.lfm_mutex.specs.declared.seat.Seat.{Seat}
+use Rattle.lfm_mutex.specs.declared.table.seat_view.Seen.{Seen}
+use Rattle.lfm_mutex.specs.declared.table.seat_view.View.{View}
+use Rattle.lfm_mutex.specs.table.Rule.{value_in, seen}
+use Rattle.lfm_mutex.specs.Reach.{Reached}
+
+-- a seat as the crates above see it
+pub record Sight (T : Type 0) : Type 0 where
+  pub number : ℕ
+  pub depth : ℕ
+  pub takes : ℕ
+  -- it sleeps, or a call of it is open
+  pub asleep : Bool
+  -- a call of it is open
+  pub in_call : Bool
+  -- the value that it found, while it holds; else the value that it left last, and the opening value before that
+  pub last : Option T
+  -- the value that it has in hand while it holds
+  pub value : Option T
+  -- while it holds, how many seats have come to hold by a queued record
+  pub queued : ℕ
+  -- its steps so far
+  pub trail : List Seen
+  -- the seats that it has sent
+  pub sends : List ℕ
+
+-- what is seen of a seat that doesn't hold, and of one that does
+abbrev pub by_depth : {A : Type 0} → ℕ → A → A → A
+by_depth zero out deep = out
+by_depth (suc d) out deep = deep
+
+abbrev pub is_asleep : Point → Bool
+is_asleep Rest = false
+is_asleep _ = true
+
+abbrev pub is_in_call : Point → Bool
+is_in_call Rest = false
+is_in_call (Asleep sleeper) = false
+is_in_call _ = true
+
+-- the seat that an exchange of its wake word has claimed
+abbrev pub claimed : ℕ → Wake → List ℕ
+claimed t Wake.Waiting = t ∷ []
+claimed t _ = []
+
+abbrev pub send_at : Point → ℕ → List ℕ
+send_at (SendWakeExchange t) n = claimed t (wake_of n)
+send_at _ n = []
+
+abbrev pub sends_of : List Seen → List ℕ
+sends_of [] = []
+sends_of (x ∷ xs) = send_at x.point x.found ++ sends_of xs
+
+abbrev pub sight_of : {T : Type 0} → ℕ → SeatState → View T → Option T → Sight T
+sight_of n p v a =
+    record {
+      number = n;
+      depth = p.depth;
+      takes = p.takes;
+      asleep = is_asleep p.point;
+      in_call = is_in_call p.point;
+      last = by_depth p.depth v.last v.found;
+      value = by_depth p.depth None a;
+      queued = by_depth p.depth 0 v.answered;
+      trail = v.trail;
+      sends = sends_of v.trail;
+    }
+
+abbrev pub sight : {T : Type 0} → Seat T → Sight T
+sight s = sight_of s.number s.standing s.place.me.0 (value_in s.moving)
+
+-- The steps of a call that was refused as Busy: the count was not 0, the owner was another seat, and no handoff was posted, or the
+-- one that was seen was joined
+abbrev pub Busy_seen : ℕ → List Seen → Type 0
+Busy_seen s new =
+    (n m h : ℕ) × (n ≢ 0) × (m ≢ s) × (
+    (((handoff_of h).seat ≡ 0) × (new ≡ seen TryCountExchange n ∷ seen TryOwnerLoad m ∷ seen TryHandoffLoad h ∷ []))
+    ⊎ ((k : ℕ) × ((handoff_of h).seat ≢ 0) × (same_handoff (handoff_of k) (handoff_of h) ≡ false) × (new ≡ seen TryCountExchange n ∷ seen TryOwnerLoad m ∷ seen TryHandoffLoad h ∷ seen (TryHandoffExchange (handoff_of h)) k ∷ [])))
+
+-- an answer of a seat that gave up the mutex
+abbrev pub Is_left : Unlocked → Type 0
+Is_left (Unlocked.Still d) = ⊥
+Is_left _ = ⊤
+
+-- why a call is refused: a turn out of order comes from a seat in the midst of another call
+abbrev pub refusal_of : Why → Refusal
+refusal_of (Why.By r) = r
+refusal_of _ = Refusal.Asleep
+
+module _ {T : Type 0} where
+  -- a call that came too early: the seat sleeps, or another call of it is open
+  abbrev pub Lock_refused : ℕ → Sight T → Refusal → Type 0
+  Lock_refused budget s Refusal.Asleep = s.asleep ≡ true
+  Lock_refused budget s Refusal.DepthFull = (s.asleep ≡ false) × (65535 ≤ s.depth)
+  Lock_refused budget s Refusal.Spent = (s.asleep ≡ false) × (s.depth ≡ 0) × (budget ≤ s.takes)
+  Lock_refused budget s _ = ⊥
+
+  abbrev pub Unlock_refused : Sight T → Refusal → Type 0
+  Unlock_refused s Refusal.Asleep = s.asleep ≡ true
+  Unlock_refused s Refusal.NotOwner = (s.asleep ≡ false) × (s.depth ≡ 0)
+  Unlock_refused s _ = ⊥
+
+  abbrev pub Wait_refused : ℕ → Sight T → Refusal → Type 0
+  Wait_refused budget s Refusal.Asleep = s.asleep ≡ true
+  Wait_refused budget s Refusal.NotOwner = (s.asleep ≡ false) × (s.depth ≡ 0)
+  Wait_refused budget s Refusal.Nested = (s.asleep ≡ false) × (1 < s.depth)
+  Wait_refused budget s Refusal.Spent = (s.asleep ≡ false) × (s.depth ≡ 1) × (budget ≤ s.takes)
+  Wait_refused budget s _ = ⊥
+
+  -- how a call deepens a hold
+  abbrev pub Deepens : Sight T → Sight T → ℕ → Type 0
+  Deepens s t d = (s.asleep ≡ false) × (0 < s.depth) × (s.depth < 65535) × (d ≡ s.depth + 1) × (t ≡ record s { depth = d; trail = t.trail })
+
+  -- the seat has given up the mutex: what was in hand is what it left last
+  abbrev pub Leaves_off : Sight T → Sight T → Type 0
+  Leaves_off s t = (s.asleep ≡ false) × (s.depth ≡ 1) × (t.number ≡ s.number) × (t.depth ≡ 0) × (t.value ≡ None) × ((x : T) → s.value ≡ Some x → t.last ≡ Some x) × (t.sends ≡ s.sends)
+
+  -- how unlock ends
+  abbrev pub Unlocks : Sight T → Sight T → Result Unlocked Refusal → Type 0
+  Unlocks s t (Ok (Unlocked.Still d)) = (s.asleep ≡ false) × (0 < d) × (s.depth ≡ d + 1) × (t ≡ record s { depth = d })
+  Unlocks s t (Ok u) = Leaves_off s t × (t.takes ≡ s.takes) × (t.asleep ≡ false)
+  Unlocks s t (Err r) = Unlock_refused s r × (t ≡ s)
+
+  -- how start_wait ends
+  abbrev pub Waits : ℕ → Sight T → Sight T → Result Unlocked Refusal → Type 0
+  Waits budget s t (Ok u) = Is_left u × Leaves_off s t × (s.takes < budget) × (t.takes ≡ s.takes + 1) × (t.asleep ≡ true) × (t.in_call ≡ false)
+  Waits budget s t (Err r) = Wait_refused budget s r × (t ≡ s)
+
+  abbrev pub Send_refused : ℕ → Sight T → ℕ → Refusal → Type 0
+  Send_refused n s target Refusal.Asleep = s.asleep ≡ true
+  Send_refused n s target Refusal.NoSuchSeat = (s.asleep ≡ false) × (0 < target → n < target)
+  Send_refused n s target _ = ⊥
+
+  -- how send_lock ends, of n seats
+  abbrev pub Sends : ℕ → Sight T → ℕ → Sight T → Result ⊤ Refusal → Type 0
+  Sends n s target t (Ok u) = (s.asleep ≡ false) × (0 < target) × (target ≤ n) × (t ≡ record s { trail = t.trail; sends = s.sends ++ target ∷ [] })
+  Sends n s target t (Err Refusal.NotWaiting) =
+      (s.asleep ≡ false) × (0 < target) × (target ≤ n) × (t ≡ record s { trail = t.trail }) × ((k : ℕ) × (claimed target (wake_of k) ≡ []) × (t.trail ≡ s.trail ++ seen (SendWakeExchange target) k ∷ []))
+  Sends n s target t (Err r) = Send_refused n s target r × (t ≡ s)
+
+module _ {T : Type 0} (follows : ℕ → T → T → Type 0) (fits : T → ℕ → Type 0) where
+  -- a value that was found by such a take, which must suit k queued takes when it is left
+  abbrev pub Suits : How → T → ℕ → Type 0
+  Suits How.Free w k = fits w k
+  Suits (How.Queued x) w k = (j : ℕ) × (x ≡ j + 1) × (k ≡ x) × fits w j
+
+  -- the seat has come to hold, and found a value that what it left last leads to
+  abbrev pub Finds : How → Sight T → Sight T → Type 0
+  Finds how s t = (w : T) × (t.value ≡ Some w) × (t.last ≡ Some w) × ((l : T) → s.last ≡ Some l → Reached follows s.number l w) × Suits how w t.queued
+
+  -- what the seat has in hand may be left
+  abbrev pub May_leave : Sight T → Type 0
+  May_leave s = (x : T) → s.value ≡ Some x → fits x s.queued × ((l : T) → s.last ≡ Some l → follows s.number l x)
+
+  -- a seat that doesn't hold comes to hold at once
+  abbrev pub Gains : ℕ → How → Sight T → Sight T → Type 0
+  Gains budget how s t =
+      (s.asleep ≡ false) × (s.depth ≡ 0) × (s.takes < budget) × (t.number ≡ s.number) × (t.depth ≡ 1) × (t.takes ≡ s.takes + 1) × (t.asleep ≡ false) × (t.sends ≡ s.sends) × Finds how s t
+
+  -- how try_lock ends
+  abbrev pub Locks : ℕ → Sight T → Sight T → Result Locked Refusal → Type 0
+  Locks budget s t (Ok (Locked.Held how)) = Gains budget how s t
+  Locks budget s t (Ok (Locked.Again d)) = Deepens s t d
+  Locks budget s t (Err Refusal.Busy) =
+      (s.asleep ≡ false) × (s.depth ≡ 0) × (s.takes < budget) × (t ≡ record s { trail = t.trail }) × ((new : List Seen) × (t.trail ≡ s.trail ++ new) × Busy_seen s.number new)
+  Locks budget s t (Err r) = Lock_refused budget s r × (t ≡ s)
+
+  -- how ask ends
+  abbrev pub Asks : ℕ → Sight T → Sight T → Result Asked Refusal → Type 0
+  Asks budget s t (Ok (Asked.Held how)) = Gains budget how s t
+  Asks budget s t (Ok (Asked.Again d)) = Deepens s t d
+  Asks budget s t (Ok Asked.Asleep) = (s.asleep ≡ false) × (s.depth ≡ 0) × (s.takes < budget) × (t ≡ record s { takes = s.takes + 1; asleep = true; in_call = false; trail = t.trail })
+  Asks budget s t (Err r) = Lock_refused budget s r × (t ≡ s)
+
+  -- how lock ends
+  abbrev pub Locks_waiting : ℕ → Sight T → Sight T → Result Locked Refusal → Type 0
+  Locks_waiting budget s t (Ok (Locked.Held how)) = Gains budget how s t
+  Locks_waiting budget s t (Ok (Locked.Again d)) = Deepens s t d
+  Locks_waiting budget s t (Err r) = Lock_refused budget s r × (t ≡ s)
+
+  abbrev pub Wakes : How → Sight T → Sight T → Type 0
+  Wakes how s t =
+      (s.asleep ≡ true) × (s.in_call ≡ false) × (t.asleep ≡ false) × (t.number ≡ s.number) × (t.depth ≡ 1) × (t.takes ≡ s.takes) × (t.sends ≡ s.sends) × Finds how s t
+
+  -- how try_receive ends
+  abbrev pub Receives : Sight T → Sight T → Result (Option How) Refusal → Type 0
+  Receives s t (Ok (Some how)) = Wakes how s t
+  Receives s t (Ok None) = (s.asleep ≡ true) × (s.in_call ≡ false) × (t ≡ record s { trail = t.trail })
+  Receives s t (Err Refusal.NotWaiting) = (s.asleep ≡ false ⊎ (s.in_call ≡ true)) × (t ≡ s)
+  Receives s t (Err r) = ⊥
+
+  -- how receive_lock ends
+  abbrev pub Receives_lock : Sight T → Sight T → Result How Refusal → Type 0
+  Receives_lock s t (Ok how) = Wakes how s t
+  Receives_lock s t (Err Refusal.NotWaiting) = (s.asleep ≡ false ⊎ (s.in_call ≡ true)) × (t ≡ record s { trail = t.trail })
+  Receives_lock s t (Err r) = ⊥
+
+  -- The same by the turn that ends the call
+
+  abbrev pub Lock_turn : ℕ → Sight T → Sight T → Turn → Type 0
+  Lock_turn budget s t (Ended (Answer.Asked asked)) = Asks budget s t (Ok asked)
+  Lock_turn budget s t (Refused why) = Asks budget s t (Err (refusal_of why))
+  Lock_turn budget s t _ = ⊤
+
+  abbrev pub Try_turn : ℕ → Sight T → Sight T → Turn → Type 0
+  Try_turn budget s t (Ended (Answer.Locked locked)) = Locks budget s t (Ok locked)
+  Try_turn budget s t (Refused why) = Locks budget s t (Err (refusal_of why))
+  Try_turn budget s t _ = ⊤
+
+  abbrev pub Unlock_turn : Sight T → Sight T → Turn → Type 0
+  Unlock_turn s t (Ended (Answer.Unlocked u)) = Unlocks s t (Ok u)
+  Unlock_turn s t (Refused why) = Unlocks s t (Err (refusal_of why))
+  Unlock_turn s t _ = ⊤
+
+  abbrev pub Wait_turn : ℕ → Sight T → Sight T → Turn → Type 0
+  Wait_turn budget s t (Ended (Answer.Waiting u)) = Waits budget s t (Ok u)
+  Wait_turn budget s t (Refused why) = Waits budget s t (Err (refusal_of why))
+  Wait_turn budget s t _ = ⊤
+
+  abbrev pub Send_turn : ℕ → Sight T → ℕ → Sight T → Turn → Type 0
+  Send_turn n s target t (Ended Answer.Sent) = Sends n s target t (Ok tt)
+  Send_turn n s target t (Refused why) = Sends n s target t (Err (refusal_of why))
+  Send_turn n s target t _ = ⊤
+
+  abbrev pub Receive_turn : Sight T → Sight T → Turn → Type 0
+  Receive_turn s t (Ended (Answer.Got got)) = Receives s t (Ok got)
+  Receive_turn s t (Refused why) = Receives s t (Err Refusal.NotWaiting)
+  Receive_turn s t _ = ⊤
+
+  -- what a call makes of a seat
+  abbrev pub Turned : Limits → Call → Sight T → Sight T → Turn → Type 0
+  Turned l Call.Lock s t turn = Lock_turn l.budget s t turn
+  Turned l Call.TryLock s t turn = Try_turn l.budget s t turn
+  Turned l Call.Unlock s t turn = Unlock_turn s t turn
+  Turned l Call.StartWait s t turn = Wait_turn l.budget s t turn
+  Turned l (Call.SendLock k) s t turn = Send_turn l.seats s k t turn
+  Turned l Call.Receive s t turn = Receive_turn s t turn
+
+-- How the last step of a call moves a seat's own data on
+
+abbrev pub Still_at : Point → Type 0
+Still_at (WaitWakeStore released) = Is_left released
+Still_at _ = ⊤
+
+-- at this point, or by this answer, a seat that was x when its call's steps began
+abbrev pub Answered_by : SeatState → SeatState → Answer → Type 0
+Answered_by x p (Answer.Asked (Asked.Held how)) = (x.depth ≡ 0) × (p.depth ≡ 1) × (p.takes ≡ x.takes) × (p.point ≡ Rest)
+Answered_by x p (Answer.Asked (Asked.Again d)) = (0 < x.depth) × (d ≡ x.depth + 1) × (p.depth ≡ d) × (p.takes ≡ x.takes) × (p.point ≡ Rest)
+Answered_by x p (Answer.Asked Asked.Asleep) = (x.depth ≡ 0) × (p.depth ≡ 0) × (p.takes ≡ x.takes) × (is_asleep p.point ≡ true) × (is_in_call p.point ≡ false)
+Answered_by x p (Answer.Locked (Locked.Held how)) = (x.depth ≡ 0) × (p.depth ≡ 1) × (p.takes ≡ x.takes) × (p.point ≡ Rest)
+Answered_by x p (Answer.Locked (Locked.Again d)) = (0 < x.depth) × (d ≡ x.depth + 1) × (p.depth ≡ d) × (p.takes ≡ x.takes) × (p.point ≡ Rest)
+Answered_by x p (Answer.Unlocked u) = (p.depth ≡ x.depth) × (p.takes ≡ x.takes) × (p.point ≡ Rest) × Is_left u
+Answered_by x p (Answer.Waiting u) = (p.depth ≡ x.depth) × (p.takes ≡ x.takes) × (is_asleep p.point ≡ true) × (is_in_call p.point ≡ false) × (Still_at x.point → Is_left u)
+Answered_by x p (Answer.Got (Some how)) = (x.depth ≡ 0) × (p.depth ≡ 1) × (p.takes ≡ x.takes) × (p.point ≡ Rest)
+Answered_by x p (Answer.Got None) = (p.depth ≡ x.depth) × (p.takes ≡ x.takes) × (is_asleep p.point ≡ true) × (is_in_call p.point ≡ false)
+Answered_by x p Answer.Sent = (p.depth ≡ x.depth) × (p.takes ≡ x.takes) × (p.point ≡ Rest)
+
+abbrev pub Refused_by : SeatState → SeatState → Why → Type 0
+Refused_by x p (Why.By Refusal.Busy) = (x.depth ≡ 0) × (p.depth ≡ 0) × (p.takes + 1 ≡ x.takes ⊎ (x.takes ≡ 0)) × (p.point ≡ Rest)
+Refused_by x p (Why.By Refusal.NotWaiting) = (p.depth ≡ x.depth) × (p.takes ≡ x.takes) × (p.point ≡ Rest)
+Refused_by x p _ = ⊥
+
+abbrev pub Concludes : SeatState → Turn → SeatState → Type 0
+Concludes x Open p = (p.depth ≡ x.depth) × (p.takes ≡ x.takes) × (Still_at x.point → Still_at p.point)
+Concludes x (Ended answer) p = Answered_by x p answer
+Concludes x (Refused why) p = Refused_by x p why
+
+-- what a seat has in hand while it holds, and what it knows of it, is as it was
+abbrev pub Stays : {T : Type 0} → ℕ → View T → Option T → View T → Option T → Type 0
+Stays d v a v' a' = 0 < d → (a' ≡ a) × (v'.found ≡ v.found) × (v'.answered ≡ v.answered)

@@ -1,0 +1,25 @@
+//! The running mutex: a verified lock-free, sleeping, recursive mutex over a table of atomic words. Its words and seats
+//! are a steady state of the core at every moment, and each holder finds the value that was last left.
+#![tactic(auto)]
+
+mod calls;
+mod closing;
+pub mod holders;
+pub mod kept;
+mod lending;
+pub mod mutex;
+mod opening;
+mod owner;
+pub mod seat;
+pub mod steps;
+mod table;
+#[cfg(test)]
+mod tests;
+mod waiting;
+
+pub use closing::Missing;
+pub use holders::Holder;
+pub use kept::Kept;
+pub use mutex::Mutex;
+pub use seat::Seat;
+pub use waiting::LOOKS;

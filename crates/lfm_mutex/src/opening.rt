@@ -1,0 +1,90 @@
+//! How a mutex is made.
+ghost use Rattle.std.specs.Prelude.{◌≡◌, ◌+◌, ℕ, IfOk, IfErr, Some, None, vec_len, true, false};
+ghost use mathlib.Core.Option.{some};
+ghost use lib.ListN.{get_elem?};
+ghost use Rattle.lfm_protocol.specs.Seats.{absent};
+ghost use Rattle.lfm_mutex.specs.Fresh.{Fresh};
+
+use crate::kept::Kept;
+use crate::mutex::Mutex;
+use crate::seat::Seat;
+use crate::table::rule::{Key, Moving, SeatSplit};
+use atomic_table::Table;
+use lfm_model::NewFault;
+use lfm_protocol::points::Point;
+use lfm_protocol::{Limits, SeatState};
+use lfm_words::PopList;
+use std::alloc::Global;
+use std::snapshot::Snapshot;
+
+// A seat that has done nothing.
+fn at_rest() -> SeatState
+    ensures { result ≡ absent }
+{
+    SeatState {
+        depth: 0,
+        takes: 0,
+        posts: 0,
+        point: Point::Rest,
+    }
+}
+
+impl<T: Kept> Mutex<T> {
+    /// A mutex round this value, and its seats, 1 to `seats` in order. On a fault the value is dropped.
+    pub fn new(
+        alloc: Global,
+        seats: u64,
+        budget: u64,
+        value: T,
+    ) -> Result<(Mutex<T>, Vec<Seat<T>>), NewFault>
+        requires fits { T.fits value 0 }
+        ensures { IfOk result (λ r. (r.0.limits ≡ record { seats = seats; budget = budget }) × (vec_len r.1 ≡ seats) × ((j : ℕ) (s : _) → get_elem? r.1.items j ≡ some s → (s.place.table_id ≡ r.0.table.shared.table_id) × Fresh value (j + 1) s.number s.limits s.standing s.place.me s.moving r.0.limits)) }
+    {
+        let limits = Limits { seats, budget };
+        if !limits.are_allowed() {
+            return Err(NewFault::Limit);
+        }
+        let about = Key {
+            limits,
+            opening: Snapshot::of(&value),
+        };
+        let Ok(popped) = PopList::new(alloc, seats) else {
+            return Err(NewFault::Memory);
+        };
+        let mut slots = Vec::new(alloc);
+        let Ok(()) = slots.push(Some(Moving { popped, value })) else {
+            return Err(NewFault::Memory);
+        };
+        let Ok(words) = Vec::from_elem(alloc, 0u64, 4 + 2 * seats as usize) else {
+            return Err(NewFault::Memory);
+        };
+        let Ok(mut all) = Vec::with_capacity(alloc, seats as usize) else {
+            return Err(NewFault::Memory);
+        };
+        let Ok((table, mut root)) = Table::new(alloc, words.as_slice(), slots, &about) else {
+            return Err(NewFault::Memory);
+        };
+        for i in 1..seats {
+            let place = table.shared.split_seat::<SeatSplit>(&mut root);
+            all.push_reserved(Seat {
+                place,
+                number: i + 1,
+                limits,
+                standing: at_rest(),
+                moving: None,
+            });
+        }
+        let first = Seat {
+            place: root,
+            number: 1,
+            limits,
+            standing: at_rest(),
+            moving: None,
+        };
+        let Ok(()) = all.insert(0, first) else {
+            unreachable!()
+        };
+        let mutex = Mutex { table, limits };
+        Ok((mutex, all))
+    }
+}

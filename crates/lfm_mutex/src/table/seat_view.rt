@@ -1,0 +1,48 @@
+//! What a seat knows at the table: its view, which stands in contracts and proofs alone. No code reads it.
+use lfm_protocol::points::Point;
+use lfm_protocol::{Limits, SeatState};
+use lfm_words::Record;
+use std::collections::LinkedList;
+
+/// Whether a view is that of a seat, or of one that was joined into seat 1.
+pub enum Role {
+    User,
+    Retired,
+}
+
+/// One atomic step, with the number that it found, or that it stored where it finds nothing.
+pub struct Seen {
+    pub point: Point,
+    pub found: u64,
+}
+
+/// A seat that was joined, with the value that it left last.
+pub struct Joined<T> {
+    pub number: u64,
+    pub last: Option<T>,
+}
+
+/// What a seat of the table knows. No value of it is ever made: it is for proofs alone.
+pub struct View<T> {
+    pub role: Role,
+    pub number: u64,
+    pub limits: Limits,
+    /// The seat's plain data after its last step.
+    pub standing: SeatState,
+    /// Its steps so far.
+    pub trail: LinkedList<Seen>,
+    /// The value that the seat left last; the opening value before that.
+    pub last: Option<T>,
+    /// While the seat carries the responsibility: the value that it found, or the one that it is about to leave.
+    pub found: Option<T>,
+    /// The pop list after the seat's last step.
+    pub popped: LinkedList<Record>,
+    /// How many seats had come to hold by a queued record, at the seat's last step.
+    pub answered: u64,
+    /// The value that the mutex began with.
+    pub opening: Option<T>,
+    /// Of seat 1: the number of seats that it has split off.
+    pub made: u64,
+    /// Of seat 1: the seats that it has joined.
+    pub joined: LinkedList<Joined<T>>,
+}

@@ -7,6 +7,8 @@ mod devices;
 #[cfg(test)]
 mod packing;
 #[cfg(test)]
+mod running;
+#[cfg(test)]
 mod stepping;
 #[cfg(test)]
 mod wanting;

@@ -1,9 +1,6 @@
--- Lemmas of schedules and traces: cutting, decoding and spelling, taking input and writing output.
-pub mod Cutting
+-- Lemmas of schedules and traces: reading and spelling lines, and writing what came of them.
 pub mod Decoding
-pub mod LineCount
 pub mod Lines
-pub mod Numbers
 pub mod Plans
 pub mod Queued
 pub mod Reading
@@ -11,5 +8,3 @@ pub mod Replays
 pub mod Runs
 pub mod SameSeats
 pub mod Spelled
-pub mod Taking
-pub mod Writes

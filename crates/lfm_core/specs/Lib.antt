@@ -11,6 +11,9 @@ pub use Rattle.lfm_protocol.specs.Step
 pub use Rattle.lfm_protocol.specs.Whole
 pub use Rattle.lfm_protocol.specs.Queue
 pub use Rattle.lfm_protocol.specs.Place
+pub use Rattle.lfm_text.specs.Text
+pub use Rattle.lfm_text.specs.Taking
+pub use Rattle.lfm_text.specs.Writing
 pub mod steady
 pub mod laws
 pub mod text

@@ -11,5 +11,5 @@ pub use lfm_protocol::{
 };
 pub use stepped::State;
 pub use text::{
-    Act, Line, ReplayFault, Schedule, grammar_laws, read_schedule, replay, run, schedule,
+    Act, Line, ReplayFault, Schedule, faults, grammar_laws, read_schedule, replay, run, schedule,
 };

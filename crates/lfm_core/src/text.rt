@@ -1,14 +1,13 @@
 //! Schedules and traces as text, and the replay from the one to the other.
 
+pub mod faults;
 pub mod grammar_laws;
-pub mod input;
-pub mod output;
-mod parsing;
 mod replaying;
-mod running;
 pub mod schedule;
+mod schedule_runs;
 pub mod trace;
 
+pub use faults::ReplayFault;
 pub use replaying::replay;
-pub use running::run;
-pub use schedule::{Act, Line, ReplayFault, Schedule, read_schedule};
+pub use schedule::{Act, Line, Schedule, read_schedule};
+pub use schedule_runs::run;

@@ -47,20 +47,25 @@ impl Read for EndlessReader {
     }
 }
 
-/// Gives line feeds, and fails after so many reads.
+/// Gives one byte a read: so many line feeds, and then zeros. Fails at the read that comes after `reads` others.
 #[derive(Drop)]
-struct LineFeeds {
+struct SingleBytes {
+    line_feeds: u64,
     reads: u64,
 }
 
-impl Read for LineFeeds {
+impl Read for SingleBytes {
     fn read(&mut self, buf: &mut [u8]) -> io::Result<usize> {
         if self.reads == 0 {
             return Err(io::Error::from(ErrorKind::Other));
         }
         self.reads -= 1;
-        buf.fill(b'\n');
-        Ok(buf.len())
+        let Some(place) = buf.first_mut() else {
+            return Ok(0);
+        };
+        *place = if self.line_feeds > 0 { b'\n' } else { 0 };
+        self.line_feeds = self.line_feeds.saturating_sub(1);
+        Ok(1)
     }
 }
 
@@ -124,7 +129,7 @@ fn replays_with_ample_room(rt: HostRuntime) {
 }
 
 #[test]
-fn tells_of_a_refused_line(rt: HostRuntime) {
+fn reports_a_refused_line(rt: HostRuntime) {
     let mut reader = b"seats 1\n1 unlock\n1 .".as_slice();
     let mut written = Vec::new(rt.alloc());
     assert_eq!(rt; replay(rt.alloc(), &mut reader, &mut written), Ok(false));
@@ -191,12 +196,22 @@ fn ends_an_endless_input(rt: HostRuntime) {
     }
 }
 
+// The reader fails at the read after the first byte that is past a limit, so no such read may be made.
 #[test]
-fn stops_at_the_first_byte_of_a_line_too_many(rt: HostRuntime) {
-    // 16 reads of 4,096 line feeds are 65,536 lines; the 17th read has a byte of one line more
-    let mut written = Vec::new(rt.alloc());
-    let outcome = replay(rt.alloc(), &mut LineFeeds { reads: 17 }, &mut written);
-    assert_eq!(rt; outcome, Err(ReplayFault::Limit));
-    let outcome = replay(rt.alloc(), &mut LineFeeds { reads: 16 }, &mut written);
-    assert_eq!(rt; outcome, Err(ReplayFault::Read));
+fn reads_no_byte_after_the_first_past_a_limit(rt: HostRuntime) {
+    // 65,536 lines and one line feed more, the same and a byte of a line more, and a byte too many
+    for (line_feeds, reads) in [(65_537, 65_537), (65_536, 65_537), (0, 1_048_577)] {
+        let mut written = Vec::new(rt.alloc());
+        let mut reader = SingleBytes { line_feeds, reads };
+        let outcome = replay(rt.alloc(), &mut reader, &mut written);
+        assert_eq!(rt; outcome, Err(ReplayFault::Limit));
+        assert_eq!(rt; reader.reads, 0);
+        // one byte less is within the limits, so the next read is made, and it fails
+        let mut reader = SingleBytes {
+            line_feeds,
+            reads: reads - 1,
+        };
+        let outcome = replay(rt.alloc(), &mut reader, &mut written);
+        assert_eq!(rt; outcome, Err(ReplayFault::Read));
+    }
 }

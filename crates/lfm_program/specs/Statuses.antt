@@ -1,7 +1,7 @@
 -- The exit statuses of the program.
 use Rattle.std.specs.Prelude.{ℕ, Bool, true, false, Result, Ok, Err}
-use Rattle.lfm_core.specs.declared.text.schedule.ReplayFault.{ReplayFault}
-use Rattle.lfm_core.specs.declared.text.schedule.ReplayFault.TheVariants.{Syntax, Limit, Read, Write, Memory}
+use Rattle.lfm_core.specs.declared.text.faults.ReplayFault.{ReplayFault}
+use Rattle.lfm_core.specs.declared.text.faults.ReplayFault.TheVariants.{Syntax, Limit, Read, Write, Memory}
 
 -- what a replay tells the shell
 abbrev pub replay_status : Result Bool ReplayFault → ℕ

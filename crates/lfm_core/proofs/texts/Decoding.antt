@@ -13,13 +13,13 @@ use Rattle.lfm_protocol.specs.declared.answers.Call.TheVariants.{Lock, TryLock, 
 use Rattle.lfm_core.specs.declared.text.schedule.Act.{Act}
 use Rattle.lfm_core.specs.declared.text.schedule.Act.TheVariants.{Begin, Steps, ToEnd}
 use Rattle.lfm_core.specs.declared.text.schedule.Line.{Line}
-use Rattle.lfm_core.specs.declared.text.schedule.ReplayFault.{ReplayFault}
-use Rattle.lfm_core.specs.text.Text.{parts_at, words_of, lines_of, is_past_limit}
+use Rattle.lfm_core.specs.declared.text.faults.ReplayFault.{ReplayFault}
+use Rattle.lfm_text.specs.Text.{parts_at, words_of, lines_of, is_past_limit}
 use Rattle.lfm_core.specs.text.Grammar.{act_of, line_of, header_of, lines_from, Plan, plan_in, plan_of_lines, plan_from}
 use Rattle.lfm_protocol.specs.Limits.{max_budget, are_in_limits}
 use Rattle.lfm_core.specs.text.Spelling.{act_spelling, call_spelling, line_spelling, one_step_spelling, header_spelling, short_header_spelling, plan_spelling, IsWritableAct, IsWritable, IsWritablePlan, Spells, SpellsHeader, HasShortTarget}
-use Rattle.lfm_core.proofs.texts.Cutting.{line_first}
-use Rattle.lfm_core.proofs.texts.Numbers.{decimal_digits, every}
+use Rattle.lfm_text.proofs.Cutting.{line_first}
+use Rattle.lfm_text.proofs.Numbers.{decimal_digits, every}
 
 -- no byte of the text equals b
 abbrev Lacks : ℕ → List ℕ → Type 0

@@ -3,10 +3,10 @@ use Rattle.std.proofs.Common.{◌≡◌, ◌<◌, ◌≤◌, ◌^◌, ℕ, List,
 use Rattle.std.proofs.lemmas.Fmt.{length-decimal-le}
 use Rattle.std.proofs.lemmas.List.{reverse-append}
 use Rattle.std.specs.Prelude.{IsErrAnd}
-use Rattle.lfm_core.specs.declared.text.schedule.ReplayFault.{ReplayFault}
+use Rattle.lfm_text.specs.declared.faults.WriteFault.{WriteFault}
 use Rattle.lfm_core.specs.text.Trace.{record_text, further_text, queue_text}
-use Rattle.lfm_core.specs.text.Writing.{Writes, joined}
-use Rattle.lfm_core.proofs.texts.Writes.{wrote_then, failed_within, written_nothing}
+use Rattle.lfm_text.specs.Writing.{Writes, joined}
+use Rattle.lfm_text.proofs.Writes.{wrote_then, failed_within, written_nothing}
 use Rattle.lfm_words.specs.declared.pop_lists.Record.{Record}
 
 -- the record at the end is the oldest
@@ -15,20 +15,20 @@ oldest_first items rest x is = ap reverse is ∙ reverse-append rest (x ∷ [])
 
 module _ (old mid : Option (List ℕ)) (items rest : List Record) (x : Record) (is : items ≡ rest ++ x ∷ []) where
   -- the oldest was written, so what writes the others writes all
-  pub oldest_written : Writes {T = Unit {0}} old mid (record_text x) (Ok tt) → (new : Option (List ℕ)) (r : Result (Unit {0}) ReplayFault)
+  pub oldest_written : Writes {T = Unit {0}} old mid (record_text x) (Ok tt) → (new : Option (List ℕ)) (r : Result (Unit {0}) WriteFault)
       → Writes mid new (further_text (reverse rest)) r → Writes old new (queue_text (reverse items)) r
   oldest_written p new r q = rw (oldest_first items rest x is) (wrote_then old mid new (record_text x) (further_text (reverse rest)) tt r p q)
 
-  pub oldest_failed : (fault : ReplayFault) (r : Result (Unit {0}) ReplayFault) → Writes {T = Unit {0}} old mid (record_text x) (Err fault) → IsErrAnd r (λ y. y ≡ fault)
+  pub oldest_failed : (fault : WriteFault) (r : Result (Unit {0}) WriteFault) → Writes {T = Unit {0}} old mid (record_text x) (Err fault) → IsErrAnd r (λ y. y ≡ fault)
       → Writes old mid (queue_text (reverse items)) r
   oldest_failed fault r p e = rw (oldest_first items rest x is) (failed_within old mid (record_text x) (further_text (reverse rest)) fault r p e)
 
   -- the same of one of the others, which stands behind a comma
-  pub further_written : Writes {T = Unit {0}} old mid (joined (codes "," ∷ record_text x ∷ [])) (Ok tt) → (new : Option (List ℕ)) (r : Result (Unit {0}) ReplayFault)
+  pub further_written : Writes {T = Unit {0}} old mid (joined (codes "," ∷ record_text x ∷ [])) (Ok tt) → (new : Option (List ℕ)) (r : Result (Unit {0}) WriteFault)
       → Writes mid new (further_text (reverse rest)) r → Writes old new (further_text (reverse items)) r
   further_written p new r q = rw (oldest_first items rest x is) (wrote_then old mid new _ (further_text (reverse rest)) tt r p q)
 
-  pub further_failed : (fault : ReplayFault) (r : Result (Unit {0}) ReplayFault) → Writes {T = Unit {0}} old mid (joined (codes "," ∷ record_text x ∷ [])) (Err fault)
+  pub further_failed : (fault : WriteFault) (r : Result (Unit {0}) WriteFault) → Writes {T = Unit {0}} old mid (joined (codes "," ∷ record_text x ∷ [])) (Err fault)
       → IsErrAnd r (λ y. y ≡ fault) → Writes old mid (further_text (reverse items)) r
   further_failed fault r p e = rw (oldest_first items rest x is) (failed_within old mid _ (further_text (reverse rest)) fault r p e)
 

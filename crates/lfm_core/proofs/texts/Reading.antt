@@ -6,9 +6,9 @@ use Rattle.lfm_protocol.specs.declared.answers.Call.TheVariants.{Lock, TryLock, 
 use Rattle.lfm_core.specs.declared.text.schedule.Act.{Act}
 use Rattle.lfm_core.specs.declared.text.schedule.Act.TheVariants.{Begin, Steps, ToEnd}
 use Rattle.lfm_core.specs.declared.text.schedule.Line.{Line}
-use Rattle.lfm_core.specs.declared.text.schedule.ReplayFault.{ReplayFault}
-use Rattle.lfm_core.specs.declared.text.schedule.ReplayFault.TheVariants.{Syntax}
-use Rattle.lfm_core.specs.text.Text.{number_of, words_of}
+use Rattle.lfm_core.specs.declared.text.faults.ReplayFault.{ReplayFault}
+use Rattle.lfm_core.specs.declared.text.faults.ReplayFault.TheVariants.{Syntax}
+use Rattle.lfm_text.specs.Text.{number_of, words_of}
 use Rattle.lfm_core.specs.text.Grammar.{steps_of, plain_act_of, act_of, seat_line, send_act, line_of, in_front, lines_from, HasFewSteps}
 
 -- lines in front of those that a result has

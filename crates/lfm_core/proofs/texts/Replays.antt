@@ -1,37 +1,46 @@
 -- What was written and answered is what the input says.
-use Rattle.std.proofs.Common.{◌≡◌, ◌++◌, ℕ, Bool, true, List, Option, Some, None, Result, Ok, Err, IfOk, IfSome, inl, inr, refl, sym, ◌∙◌, ap, subst, append-nil}
+use Rattle.std.proofs.Common.{◌≡◌, ◌≢◌, ◌++◌, ℕ, Bool, true, List, Option, Some, None, Result, Ok, Err, IfOk, IfSome, inl, inr, refl, sym, ◌∙◌, ap, subst, append-nil}
+use Rattle.std.specs.Prelude.{IsErrAnd}
 use Rattle.std.proofs.lemmas.Bool.{cases_Bool}
-use Rattle.lfm_core.specs.declared.text.schedule.ReplayFault.{ReplayFault}
-use Rattle.lfm_core.specs.declared.text.schedule.ReplayFault.TheVariants.{Syntax, Limit, Memory, Read, Write}
+use Rattle.lfm_core.specs.declared.text.faults.ReplayFault.{ReplayFault}
+use Rattle.lfm_core.specs.declared.text.faults.ReplayFault.TheVariants.{Syntax, Limit, Read, Write, Memory}
+use Rattle.lfm_text.specs.declared.faults.WriteFault.{WriteFault}
 use Rattle.lfm_core.specs.declared.text.schedule.Line.{Line}
 use Rattle.lfm_protocol.specs.Core.{Core}
 use Rattle.lfm_core.specs.text.Grammar.{Plan, plan_in}
-use Rattle.lfm_core.specs.text.Replay.{Tells, Replays}
-use Rattle.lfm_core.specs.text.Taking.{Takes}
-use Rattle.lfm_core.specs.text.Text.{is_past_limit}
+use Rattle.lfm_core.specs.text.Replay.{Tells, Replays, SomeReplay}
+use Rattle.lfm_text.specs.Taking.{Takes}
+use Rattle.lfm_text.specs.Text.{is_past_limit}
 use Rattle.lfm_core.specs.text.Trace.{opening_text, lines_text, none_refused, opening, plan_text}
-use Rattle.lfm_core.specs.text.Writing.{Writes}
-use Rattle.lfm_core.proofs.texts.LineCount.{is_past_limit-append}
+use Rattle.lfm_text.specs.Writing.{AppendsPrefix, Writes}
+use Rattle.lfm_text.proofs.LineCount.{is_past_limit-append}
 
--- the verdict after its text, or a front of the text
-pub told : (r : Result Bool ReplayFault) (text : List ℕ) (b : Bool) (old new : Option (List ℕ)) → Writes old new text r → IfOk r (λ x. x ≡ b) → Tells r text (Ok b) old new
+-- what a replay answers that ends as a run did
+abbrev pub ended : Result Bool WriteFault → Result Bool ReplayFault
+ended (Ok b) = Ok b
+ended (Err fault) = Err Write
+
+-- the verdict after its text, or a prefix of the text
+told : (r : Result Bool WriteFault) (text : List ℕ) (b : Bool) (old new : Option (List ℕ)) → Writes old new text r → IfOk r (λ x. x ≡ b) → Tells (ended r) text (Ok b) old new
 told (Ok x) text b old new p e = (p.outcome, ap Ok (sym e))
-told (Err Write) text b old new p e = p.outcome.1
-told (Err (Syntax n)) text b old new p e = absurd (cc (p.outcome.0))
-told (Err Limit) text b old new p e = absurd (cc (p.outcome.0))
-told (Err Read) text b old new p e = absurd (cc (p.outcome.0))
-told (Err Memory) text b old new p e = absurd (cc (p.outcome.0))
+told (Err fault) text b old new p e = p.outcome
 
 -- the run of a plan from its opening state
-pub run_told : (r : Result Bool ReplayFault) (p : Plan) (state : Core) (lines : List Line) (old new : Option (List ℕ)) → state ≡ opening p → lines ≡ p.lines
+pub run_told : (r : Result Bool WriteFault) (p : Plan) (state : Core) (lines : List Line) (old new : Option (List ℕ)) → state ≡ opening p → lines ≡ p.lines
     → Writes old new (opening_text p.seats state ++ lines_text 2 state lines) r → IfOk r (λ x. x ≡ none_refused state lines)
-    → Tells r (plan_text p) (Ok (none_refused (opening p) p.lines)) old new
+    → Tells (ended r) (plan_text p) (Ok (none_refused (opening p) p.lines)) old new
 run_told r p state lines old new opens same writes verdict =
     let Text : Core → List Line → Type 0 = λ c ls. Writes old new (opening_text p.seats c ++ lines_text 2 c ls) r in
     let Verdict : Core → List Line → Type 0 = λ c ls. IfOk r (λ x. x ≡ none_refused c ls) in
     told r (plan_text p) (none_refused (opening p) p.lines) old new
     (subst (Text (opening p)) same (subst (λ c. Text c lines) opens writes))
     (subst (Verdict (opening p)) same (subst (λ c. Verdict c lines) opens verdict))
+
+-- the fault that `?` makes of a writer's, after a prefix of the text
+pub write_failed : (r : Result Bool ReplayFault) (text : List ℕ) (verdict : Result Bool ReplayFault) (old new : Option (List ℕ)) → IsErrAnd r (λ y. y ≡ Write)
+    → AppendsPrefix old new text → Tells r text verdict old new
+write_failed (Ok b) text verdict old new e p = absurd e
+write_failed (Err y) text verdict old new e p = subst (λ x. Tells (Err x) text verdict old new) (sym e) p
 
 -- past the limit a text says one thing
 past_limit : (xs : List ℕ) → is_past_limit xs ≡ true → plan_in xs ≡ Err Limit
@@ -45,6 +54,16 @@ same_plan xs (Some ys) taken takes =
       | inl past ↦ past_limit xs (rw takes.taken (is_past_limit-append taken ys past)) ∙ sym (past_limit taken past)
       | inr fits ↦ ap plan_in (takes.taken ∙ ap (λ l. taken ++ l) (takes.whole fits) ∙ append-nil taken)
     ]
+
+-- what was answered of an input that was taken, where no read failed
+pub some : (r : Result Bool ReplayFault) (input : List ℕ) (before after old new : Option (List ℕ)) → r ≢ Err Read
+    → Takes before after input → Replays r input old new → SomeReplay r before after old new
+some (Ok b) input before after old new no_read takes p = record { input = input; takes = takes; replays = p }
+some (Err (Syntax n)) input before after old new no_read takes p = record { input = input; takes = takes; replays = p }
+some (Err Limit) input before after old new no_read takes p = record { input = input; takes = takes; replays = p }
+some (Err Read) input before after old new no_read takes p = absurd (no_read refl)
+some (Err Write) input before after old new no_read takes p = record { input = input; takes = takes; replays = p }
+some (Err Memory) input before after old new no_read takes p = p
 
 -- the same of the bytes that were taken, for all the bytes
 pub exact : (before after : Option (List ℕ)) (taken : List ℕ) (r : Result Bool ReplayFault) (old new : Option (List ℕ))

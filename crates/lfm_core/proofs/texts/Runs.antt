@@ -4,13 +4,13 @@ use Rattle.std.specs.Prelude.{IsErrAnd}
 use Rattle.std.proofs.lemmas.List.{drop_all}
 use Rattle.lfm_protocol.specs.declared.answers.Turn.{Turn}
 use Rattle.lfm_core.specs.declared.text.schedule.Line.{Line}
-use Rattle.lfm_core.specs.declared.text.schedule.ReplayFault.{ReplayFault}
+use Rattle.lfm_text.specs.declared.faults.WriteFault.{WriteFault}
 use Rattle.lfm_protocol.specs.Core.{Core}
 use Rattle.lfm_core.specs.text.Lines.{line_moved}
 use Rattle.lfm_core.specs.text.Trace.{line_text, lines_text, none_refused}
 use Rattle.lfm_protocol.specs.Turns.{is_refused}
-use Rattle.lfm_core.specs.text.Writing.{Writes}
-use Rattle.lfm_core.proofs.texts.Writes.{wrote_then, failed_within, written_nothing}
+use Rattle.lfm_text.specs.Writing.{Writes}
+use Rattle.lfm_text.proofs.Writes.{wrote_then, failed_within, written_nothing}
 
 -- the text of the lines that are left begins with that of the first of them
 lines_text-drop : (n i : ℕ) (c : Core) (lines : List Line) (d : Line) → i < length lines
@@ -36,11 +36,11 @@ module _ (i : ℕ) (c after : Core) (turn : Turn) (lines : List Line) (d : Line)
       rw (at_core, at_turn, next) (lines_text-drop (i + 2) i c lines d more)
 
   -- the line was written, so what writes the text of those after it writes the text from it on
-  pub line_written : (old mid new : Option (List ℕ)) (r : Result Bool ReplayFault) → Writes {T = Unit {0}} old mid (line_text (i + 2) (get_or lines i d) turn after) (Ok tt)
+  pub line_written : (old mid new : Option (List ℕ)) (r : Result Bool WriteFault) → Writes {T = Unit {0}} old mid (line_text (i + 2) (get_or lines i d) turn after) (Ok tt)
       → Writes mid new (lines_text (i + 1 + 2) after (drop (i + 1) lines)) r → Writes old new (lines_text (i + 2) c (drop i lines)) r
   line_written old mid new r p q = rw begins (wrote_then old mid new _ _ tt r p q)
 
-  pub line_failed : (old mid : Option (List ℕ)) (fault : ReplayFault) (r : Result Bool ReplayFault)
+  pub line_failed : (old mid : Option (List ℕ)) (fault : WriteFault) (r : Result Bool WriteFault)
       → Writes {T = Unit {0}} old mid (line_text (i + 2) (get_or lines i d) turn after) (Err fault)
       → IsErrAnd r (λ y. y ≡ fault) → Writes old mid (lines_text (i + 2) c (drop i lines)) r
   line_failed old mid fault r p e = rw begins (failed_within old mid _ _ fault r p e)

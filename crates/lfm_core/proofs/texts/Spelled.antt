@@ -8,11 +8,11 @@ use Rattle.lfm_protocol.specs.declared.answers.Call.TheVariants.{Lock, TryLock, 
 use Rattle.lfm_core.specs.declared.text.schedule.Act.{Act}
 use Rattle.lfm_core.specs.declared.text.schedule.Act.TheVariants.{Begin, Steps, ToEnd}
 use Rattle.lfm_core.specs.declared.text.schedule.Line.{Line}
-use Rattle.lfm_core.specs.text.Text.{words_of, number_of}
+use Rattle.lfm_text.specs.Text.{words_of, number_of}
 use Rattle.lfm_core.specs.text.Grammar.{steps_of, plain_act_of, act_of, seat_line, send_act, line_of, header, header_of}
 use Rattle.lfm_protocol.specs.Limits.{max_budget}
 use Rattle.lfm_core.specs.text.Spelling.{act_spelling, IsWritableAct, IsWritable, Spells, SpellsHeader}
-use Rattle.lfm_core.proofs.texts.Numbers.{only}
+use Rattle.lfm_text.proofs.Numbers.{only}
 
 -- the word is an act, in one of its forms
 record IsForm (word : List ℕ) (a : Act) : Type 0 where

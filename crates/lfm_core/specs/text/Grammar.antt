@@ -6,10 +6,10 @@ use Rattle.lfm_core.specs.declared.text.schedule.Act.{Act}
 use Rattle.lfm_core.specs.declared.text.schedule.Act.TheVariants.{Begin, Steps, ToEnd}
 use Rattle.lfm_core.specs.declared.text.schedule.Line.{Line}
 use Rattle.lfm_core.specs.declared.text.schedule.Schedule.{Schedule}
-use Rattle.lfm_core.specs.declared.text.schedule.ReplayFault.{ReplayFault}
-use Rattle.lfm_core.specs.declared.text.schedule.ReplayFault.TheVariants.{Syntax, Limit, Read, Write, Memory}
+use Rattle.lfm_core.specs.declared.text.faults.ReplayFault.{ReplayFault}
+use Rattle.lfm_core.specs.declared.text.faults.ReplayFault.TheVariants.{Syntax, Limit, Read, Write, Memory}
 use Rattle.lfm_protocol.specs.Limits.{max_budget, are_in_limits}
-use Rattle.lfm_core.specs.text.Text.{number_of, words_of, lines_of, is_past_limit}
+use Rattle.lfm_text.specs.Text.{number_of, words_of, lines_of, is_past_limit}
 
 -- from 1 to 999 steps
 abbrev pub steps_of : Option ℕ → Option Act

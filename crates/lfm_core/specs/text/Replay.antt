@@ -1,20 +1,20 @@
 -- What a replay of an input writes and answers.
 use Rattle.std.specs.Prelude.{ℕ, Bool, ◌≡◌, List, Option, Result, Ok, Err}
 use Rattle.std.specs.Io.KnownBytes.{Appends, Keeps}
-use Rattle.lfm_core.specs.declared.text.schedule.ReplayFault.{ReplayFault}
-use Rattle.lfm_core.specs.declared.text.schedule.ReplayFault.TheVariants.{Syntax, Limit, Read, Write, Memory}
-use Rattle.lfm_core.specs.text.Taking.{Takes}
+use Rattle.lfm_core.specs.declared.text.faults.ReplayFault.{ReplayFault}
+use Rattle.lfm_core.specs.declared.text.faults.ReplayFault.TheVariants.{Syntax, Limit, Read, Write, Memory}
+use Rattle.lfm_text.specs.Taking.{Takes, TakesWithin}
 use Rattle.lfm_core.specs.text.Trace.{trace_of, verdict_of}
-use Rattle.lfm_core.specs.text.Writing.{AppendsFront}
+use Rattle.lfm_text.specs.Writing.{AppendsPrefix}
 
--- The verdict was answered after its text was written. After `Write` a front of the text was written; after `Read` and
+-- The verdict was answered after its text was written. After `Write` a prefix of the text was written; after `Read` and
 -- `Memory` nothing.
 abbrev pub Tells : Result Bool ReplayFault → List ℕ → Result Bool ReplayFault → Option (List ℕ) → Option (List ℕ) → Type 0
 Tells (Ok b) text verdict old new = Appends old new text × (verdict ≡ Ok b)
 Tells (Err (Syntax n)) text verdict old new = Appends old new text × (verdict ≡ Err (Syntax n))
 Tells (Err Limit) text verdict old new = Appends old new text × (verdict ≡ Err Limit)
 Tells (Err Read) text verdict old new = Keeps old new
-Tells (Err Write) text verdict old new = AppendsFront old new text
+Tells (Err Write) text verdict old new = AppendsPrefix old new text
 Tells (Err Memory) text verdict old new = Keeps old new
 
 -- the input's verdict, after its trace
@@ -27,11 +27,12 @@ pub record ReplaysTaken (result : Result Bool ReplayFault) (before after old new
   pub takes : Takes before after input
   pub replays : Replays result input old new
 
--- an input was taken of which this is the replay, unless a read failed or memory was refused, and then nothing was written
+-- An input was taken of which this is the replay, unless a read failed or memory was refused, and then nothing was written.
+-- The reader failed before what it gave was past a limit.
 abbrev pub SomeReplay : Result Bool ReplayFault → Option (List ℕ) → Option (List ℕ) → Option (List ℕ) → Option (List ℕ) → Type 0
 SomeReplay (Ok b) before after old new = ReplaysTaken (Ok b) before after old new
 SomeReplay (Err (Syntax n)) before after old new = ReplaysTaken (Err (Syntax n)) before after old new
 SomeReplay (Err Limit) before after old new = ReplaysTaken (Err Limit) before after old new
 SomeReplay (Err Write) before after old new = ReplaysTaken (Err Write) before after old new
-SomeReplay (Err Read) before after old new = Keeps old new
+SomeReplay (Err Read) before after old new = TakesWithin before after × Keeps old new
 SomeReplay (Err Memory) before after old new = Keeps old new

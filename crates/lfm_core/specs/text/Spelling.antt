@@ -6,7 +6,7 @@ use Rattle.lfm_protocol.specs.declared.answers.Call.TheVariants.{Lock, TryLock, 
 use Rattle.lfm_core.specs.declared.text.schedule.Act.{Act}
 use Rattle.lfm_core.specs.declared.text.schedule.Act.TheVariants.{Begin, Steps, ToEnd}
 use Rattle.lfm_core.specs.declared.text.schedule.Line.{Line}
-use Rattle.lfm_core.specs.text.Text.{lines_of, is_past_limit}
+use Rattle.lfm_text.specs.Text.{lines_of, is_past_limit}
 use Rattle.lfm_core.specs.text.Grammar.{Plan}
 use Rattle.lfm_protocol.specs.Limits.{max_seats, max_budget}
 

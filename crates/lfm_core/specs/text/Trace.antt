@@ -9,8 +9,8 @@ use Rattle.lfm_protocol.specs.declared.answers.Why.TheVariants.{NoSuchSeat, InCa
 use Rattle.lfm_core.specs.declared.text.schedule.Act.{Act}
 use Rattle.lfm_core.specs.declared.text.schedule.Act.TheVariants.{Begin, Steps, ToEnd}
 use Rattle.lfm_core.specs.declared.text.schedule.Line.{Line}
-use Rattle.lfm_core.specs.declared.text.schedule.ReplayFault.{ReplayFault}
-use Rattle.lfm_core.specs.declared.text.schedule.ReplayFault.TheVariants.{Syntax}
+use Rattle.lfm_core.specs.declared.text.faults.ReplayFault.{ReplayFault}
+use Rattle.lfm_core.specs.declared.text.faults.ReplayFault.TheVariants.{Syntax}
 use Rattle.lfm_protocol.specs.Core.{Core}
 use Rattle.lfm_core.specs.text.Grammar.{Plan, plan_in}
 use Rattle.lfm_core.specs.text.Lines.{line_moved}
@@ -18,7 +18,7 @@ use Rattle.lfm_protocol.specs.Place.{place_of}
 use Rattle.lfm_protocol.specs.Queue.{queue_of}
 use Rattle.lfm_protocol.specs.Step.{start}
 use Rattle.lfm_protocol.specs.Turns.{is_refused}
-use Rattle.lfm_core.specs.text.Writing.{joined}
+use Rattle.lfm_text.specs.Writing.{joined}
 use Rattle.lfm_model.specs.declared.answers.How.{How}
 use Rattle.lfm_model.specs.declared.answers.Asked.{Asked as AskedAnswer}
 use Rattle.lfm_model.specs.declared.answers.Asked.TheVariants as Asked

@@ -1,29 +1,12 @@
 //! Laws of the grammar of schedules, in the subject's own words.
 
-ghost use Rattle.std.specs.Prelude.{◌≡◌, ◌≤◌, ◌<◌, ◌^◌, ◌++◌, ℕ, true, length, List, Ok, Err, Some, decimal};
-ghost use Rattle.lfm_core.specs.text.Text.{number_of, words_of, lines_of, line_feeds, line_count, max_lines, is_past_limit};
+ghost use Rattle.std.specs.Prelude.{◌≡◌, ◌<◌, ◌^◌, ℕ, List, Ok, Err, Some};
+ghost use Rattle.lfm_text.specs.Text.{words_of, lines_of};
 ghost use Rattle.lfm_core.specs.text.Grammar.{Plan, line_of, header_of, plan_in, IsFirstFault};
 ghost use Rattle.lfm_core.specs.text.Spelling.{Spells, IsWritable, SpellsHeader, plan_spelling, IsWritablePlan, SpellsPlan};
 ghost use Rattle.lfm_core.specs.declared.text.schedule.Line.{Line};
 
-use crate::text::schedule::ReplayFault;
-
-/// A word is a number exactly where it is the number's decimal text, below 10^18.
-pub fn numbers_are_decimals()
-    ensures only { (w : List ℕ) (n : ℕ) → number_of w ≡ Some n → (w ≡ decimal n) × (n < 10 ^ 18) }
-    ensures all { (n : ℕ) → n < 10 ^ 18 → number_of (decimal n) ≡ Some n }
-{}
-
-/// A text has as many lines as `line_count` says. A byte after 65,536 line feeds is past the limit,
-/// and a text past a limit stays past it however it goes on.
-pub fn lines_are_counted()
-    ensures count { (text : List ℕ) → length (lines_of text) ≡ line_count text }
-    ensures more { (xs : List ℕ) (ys : List ℕ) → line_count xs ≤ line_count (xs ++ ys) }
-    ensures feeds { (xs : List ℕ) (ys : List ℕ) → max_lines ≤ line_feeds xs → 0 < length ys →
-        is_past_limit (xs ++ ys) ≡ true }
-    ensures past { (xs : List ℕ) (ys : List ℕ) →
-        is_past_limit xs ≡ true → is_past_limit (xs ++ ys) ≡ true }
-{}
+use crate::text::faults::ReplayFault;
 
 /// A text says a line after the first exactly where it is that line, in one of its forms.
 pub fn lines_are_spelled()

@@ -1,20 +1,20 @@
 //! The replay of a reader's schedule into a writer.
 
-ghost use Rattle.std.specs.Prelude.{◌≡◌, ◌++◌, ◌+◌, ◌<◌, ◌≤◌, length, vec_capacity, true, Err, Ok, IfOk, IfSome, IsErrOf};
+ghost use Rattle.std.specs.Prelude.{◌≡◌, ◌≢◌, ◌++◌, ◌+◌, ◌<◌, ◌≤◌, length, vec_capacity, true, Err, Ok, IfOk, IfSome, IsErrOf};
 ghost use Rattle.std.specs.Io.KnownBytes.{Keeps};
 ghost use Rattle.lfm_core.specs.text.Grammar.{plan_of};
 ghost use Rattle.lfm_protocol.specs.Limits.{are_in_limits};
-ghost use Rattle.lfm_core.specs.text.Text.{max_lines};
+ghost use Rattle.lfm_text.specs.Text.{max_lines};
 ghost use Rattle.lfm_core.specs.text.Trace.{none_refused, opening_text, lines_text, plan_text, opening, fault_text};
 ghost use Rattle.lfm_protocol.specs.Turns.{is_refused};
-ghost use Rattle.lfm_core.specs.text.Writing.{Writes};
+ghost use Rattle.lfm_text.specs.Writing.{Writes};
 ghost use Rattle.lfm_core.specs.text.Replay.{Tells, Replays, SomeReplay};
 
 use crate::stepped::State;
-use crate::text::input::read_input;
-use crate::text::output::flush;
-use crate::text::schedule::{Line, ReplayFault, Schedule, read_schedule};
+use crate::text::faults::ReplayFault;
+use crate::text::schedule::{Line, Schedule, read_schedule};
 use crate::text::trace::{write_fault_line, write_line, write_opening};
+use lfm_text::{WriteFault, flush, read_input};
 use lfm_words::Record;
 use std::alloc::Global;
 use std::io::{Read, Write};
@@ -26,7 +26,7 @@ fn write_lines<W: Write>(
     state: &mut State,
     lines: &[Line],
     room: &mut Vec<Record>,
-) -> Result<bool, ReplayFault>
+) -> Result<bool, WriteFault>
     requires room { length state.old.seats ≤ vec_capacity room.old }
     requires few { length lines.now < max_lines }
     ensures text { Writes (W.contents writer.old) (W.contents writer.new)
@@ -49,7 +49,7 @@ fn write_run<W: Write>(
     state: &mut State,
     lines: &[Line],
     room: &mut Vec<Record>,
-) -> Result<bool, ReplayFault>
+) -> Result<bool, WriteFault>
     requires room { length state.old.seats ≤ vec_capacity room.old }
     requires few { length lines.now < max_lines }
     ensures text { Writes (W.contents writer.old) (W.contents writer.new)
@@ -70,9 +70,10 @@ fn replay_schedule<W: Write>(
 ) -> Result<bool, ReplayFault>
     requires limits { are_in_limits schedule.now.seats schedule.now.budget ≡ true }
     requires few { length schedule.now.lines.items < max_lines }
-    ensures { let plan = plan_of schedule.now in
+    ensures told { let plan = plan_of schedule.now in
         Tells result (plan_text plan) (Ok (none_refused (opening plan) plan.lines))
         (W.contents writer.old) (W.contents writer.new) }
+    ensures no_read { result ≢ Err ReplayFault.Read }
 {
     let mut state = State::new(alloc, schedule.seats, schedule.budget).map_err(
         |_| ReplayFault::Memory,
@@ -80,17 +81,12 @@ fn replay_schedule<W: Write>(
     let mut room = Vec::with_capacity(alloc, schedule.seats as usize).map_err(
         |_| ReplayFault::Memory,
     )?;
-    write_run(
-        writer,
-        schedule.seats,
-        &mut state,
-        &schedule.lines,
-        &mut room,
-    )
+    let seats = schedule.seats;
+    Ok(write_run(writer, seats, &mut state, &schedule.lines, &mut room)?)
 }
 
 /// Writes the line of a fault of the input, and has the writer pass it on.
-fn write_fault<W: Write>(writer: &mut W, fault: ReplayFault) -> Result<(), ReplayFault>
+fn write_fault<W: Write>(writer: &mut W, fault: ReplayFault) -> Result<(), WriteFault>
     ensures { Writes (W.contents writer.old) (W.contents writer.new) (fault_text fault) result }
 {
     write_fault_line(writer, fault)?;
@@ -100,7 +96,8 @@ fn write_fault<W: Write>(writer: &mut W, fault: ReplayFault) -> Result<(), Repla
 
 /// Replays an input that was read.
 fn replay_input<W: Write>(alloc: Global, input: &[u8], writer: &mut W) -> Result<bool, ReplayFault>
-    ensures { Replays result input.now (W.contents writer.old) (W.contents writer.new) }
+    ensures told { Replays result input.now (W.contents writer.old) (W.contents writer.new) }
+    ensures no_read { result ≢ Err ReplayFault.Read }
 {
     match read_schedule(alloc, input) {
         Ok(schedule) => replay_schedule(alloc, &schedule, writer),

@@ -1,16 +1,14 @@
 //! What a schedule is, and how it is read from its bytes.
 
 ghost use Rattle.std.specs.Prelude.{◌≡◌, ◌≤◌, ◌<◌, length, All, IfOk, IsErrOf};
-ghost use Rattle.lfm_core.specs.text.Text.{lines_of, words_of, line_count, max_lines};
+ghost use Rattle.lfm_text.specs.Text.{lines_of, words_of, line_count, max_lines};
 ghost use Rattle.lfm_protocol.specs.Limits.{max_seats, max_budget};
 ghost use Rattle.lfm_core.specs.text.Grammar.{plain_act_of, act_of, send_of, line_of, header_of, lines_from, plan_of, plan_in, Gives, HasFewSteps};
 
-use crate::text::parsing::{
-    LineWords, MAX_BYTES, MAX_LINES, count_lines, first_line, read_number, split_words,
-};
+use crate::text::faults::ReplayFault;
 use lfm_protocol::{Call, Limits, MAX_BUDGET};
+use lfm_text::{LineWords, count_lines, first_line, read_number, split_words};
 use std::alloc::Global;
-use thiserror::Error;
 
 /// What a line of a schedule has its seat do.
 #[derive(Clone, Copy, Debug, PartialEq, Eq)]
@@ -43,25 +41,8 @@ pub struct Schedule {
     pub lines: Vec<Line>,
 }
 
-/// Why no schedule was read or replayed to its end.
-#[derive(Clone, Copy, Debug, PartialEq, Eq, Drop, Error)]
-pub enum ReplayFault {
-    /// The line of this number, counted from 1, is none that a schedule may have there.
-    #[error("line {0} is not a line of a schedule")]
-    Syntax(u64),
-    /// The input has too many bytes or lines, or the first line names a number that is out of range.
-    #[error("the schedule is past a limit")]
-    Limit,
-    /// The reader failed.
-    #[error("read fault")]
-    Read,
-    /// The writer failed, or took no byte.
-    #[error("write fault")]
-    Write,
-    /// A request for memory was refused.
-    #[error("out of memory")]
-    Memory,
-}
+/// The most steps that one line may ask for.
+pub const MAX_STEPS: u64 = 999;
 
 /// What one word says that is no number of steps.
 fn read_plain_act(word: &[u8]) -> Option<Act>
@@ -92,7 +73,7 @@ fn read_act(word: &[u8]) -> Option<Act>
 {
     match word {
         [b'+', digits @ ..] => match read_number(digits) {
-            Some(count) if 1 <= count && count <= 999 => Some(Act::Steps(count)),
+            Some(count) if 1 <= count && count <= MAX_STEPS => Some(Act::Steps(count)),
             _ => None,
         },
         _ => read_plain_act(word),
@@ -125,7 +106,7 @@ fn read_line(text: &[u8]) -> Option<Line>
             Some(Line { seat, act })
         }
         LineWords::Three(seat, call, target) => read_send(seat, call, target),
-        LineWords::Other => None,
+        LineWords::Four(..) | LineWords::Other => None,
     }
 }
 
@@ -136,7 +117,7 @@ fn read_header(text: &[u8]) -> Option<(u64, u64)>
     let (word, seats, budget) = match split_words(text) {
         LineWords::Two(word, seats) => (word, seats, None),
         LineWords::Three(word, seats, budget) => (word, seats, Some(budget)),
-        LineWords::Other => return None,
+        LineWords::Four(..) | LineWords::Other => return None,
     };
     if word != b"seats".as_slice() {
         return None;
@@ -189,13 +170,9 @@ pub fn read_schedule(alloc: Global, text: &[u8]) -> Result<Schedule, ReplayFault
     ensures budget { IfOk result (λ s. (1 ≤ s.budget) × (s.budget ≤ max_budget)) }
     ensures steps { IfOk result (λ s. All (λ l. HasFewSteps l.act) s.lines.items) }
 {
-    if text.len() > MAX_BYTES {
+    let Some(count) = count_lines(text) else {
         return Err(ReplayFault::Limit);
-    }
-    let count = count_lines(text);
-    if count > MAX_LINES {
-        return Err(ReplayFault::Limit);
-    }
+    };
     let Some((first, rest)) = first_line(text) else {
         return Err(ReplayFault::Syntax(1));
     };

@@ -1,28 +1,29 @@
 //! The text of a run, written line by line.
-#![tactic(auto, using(crate::proofs::texts::Writes::writings))]
+#![tactic(auto, using(lfm_text::proofs::Writes::writings))]
 
 ghost use Rattle.std.specs.Prelude.{◌≡◌, ◌+◌, ◌<◌, ◌≤◌, [], ◌∷◌, ◌++◌, codes, decimal, drop, length, reverse, vec_capacity};
 ghost use Rattle.lfm_core.specs.text.Trace.{how_text, held_text, again_text, asked_text, locked_text, unlocked_text, answer_text, why_text, open_text, turn_text, handoff_text, place_text, record_text, queue_text, words_text, state_text, opening_text, outcome_text, line_text, fault_text};
-ghost use Rattle.lfm_core.specs.text.Writing.{Writes, joined};
+ghost use Rattle.lfm_text.specs.Writing.{Writes, joined};
 
 use crate::stepped::State;
-use crate::text::output::{write_number, write_text};
-use crate::text::schedule::{Act, Line, ReplayFault};
+use crate::text::faults::ReplayFault;
+use crate::text::schedule::{Act, Line};
 use itoa::write_digits;
 use lfm_model::{Asked, How, Locked, Place, Unlocked};
 use lfm_protocol::{Answer, Turn, Why};
+use lfm_text::{WriteFault, write_number, write_text};
 use lfm_words::{Handoff, Record};
 use std::io::Write;
 
 /// Ends a line.
-fn write_line_feed<W: Write>(writer: &mut W) -> Result<(), ReplayFault>
+fn write_line_feed<W: Write>(writer: &mut W) -> Result<(), WriteFault>
     ensures { Writes (W.contents writer.old) (W.contents writer.new) (codes "\n") result }
 {
     write_text(writer, b"\n")
 }
 
 /// Writes a word, and a number behind it.
-fn write_labelled<W: Write>(writer: &mut W, label: &[u8], number: u64) -> Result<(), ReplayFault>
+fn write_labelled<W: Write>(writer: &mut W, label: &[u8], number: u64) -> Result<(), WriteFault>
     ensures { Writes (W.contents writer.old) (W.contents writer.new)
         (joined (label.now ∷ decimal number ∷ [])) result }
 {
@@ -31,7 +32,7 @@ fn write_labelled<W: Write>(writer: &mut W, label: &[u8], number: u64) -> Result
     Ok(())
 }
 
-fn write_how<W: Write>(writer: &mut W, how: How) -> Result<(), ReplayFault>
+fn write_how<W: Write>(writer: &mut W, how: How) -> Result<(), WriteFault>
     ensures { Writes (W.contents writer.old) (W.contents writer.new) (how_text how) result }
 {
     match how {
@@ -40,7 +41,7 @@ fn write_how<W: Write>(writer: &mut W, how: How) -> Result<(), ReplayFault>
     }
 }
 
-fn write_held<W: Write>(writer: &mut W, how: How) -> Result<(), ReplayFault>
+fn write_held<W: Write>(writer: &mut W, how: How) -> Result<(), WriteFault>
     ensures { Writes (W.contents writer.old) (W.contents writer.new) (held_text how) result }
 {
     write_text(writer, b"Held ")?;
@@ -48,13 +49,13 @@ fn write_held<W: Write>(writer: &mut W, how: How) -> Result<(), ReplayFault>
     Ok(())
 }
 
-fn write_again<W: Write>(writer: &mut W, depth: u32) -> Result<(), ReplayFault>
+fn write_again<W: Write>(writer: &mut W, depth: u32) -> Result<(), WriteFault>
     ensures { Writes (W.contents writer.old) (W.contents writer.new) (again_text depth) result }
 {
     write_labelled(writer, b"Again ", u64::from(depth))
 }
 
-fn write_asked<W: Write>(writer: &mut W, answer: Asked) -> Result<(), ReplayFault>
+fn write_asked<W: Write>(writer: &mut W, answer: Asked) -> Result<(), WriteFault>
     ensures { Writes (W.contents writer.old) (W.contents writer.new) (asked_text answer) result }
 {
     match answer {
@@ -64,7 +65,7 @@ fn write_asked<W: Write>(writer: &mut W, answer: Asked) -> Result<(), ReplayFaul
     }
 }
 
-fn write_locked<W: Write>(writer: &mut W, answer: Locked) -> Result<(), ReplayFault>
+fn write_locked<W: Write>(writer: &mut W, answer: Locked) -> Result<(), WriteFault>
     ensures { Writes (W.contents writer.old) (W.contents writer.new) (locked_text answer) result }
 {
     match answer {
@@ -73,7 +74,7 @@ fn write_locked<W: Write>(writer: &mut W, answer: Locked) -> Result<(), ReplayFa
     }
 }
 
-fn write_unlocked<W: Write>(writer: &mut W, answer: Unlocked) -> Result<(), ReplayFault>
+fn write_unlocked<W: Write>(writer: &mut W, answer: Unlocked) -> Result<(), WriteFault>
     ensures { Writes (W.contents writer.old) (W.contents writer.new) (unlocked_text answer) result }
 {
     match answer {
@@ -85,7 +86,7 @@ fn write_unlocked<W: Write>(writer: &mut W, answer: Unlocked) -> Result<(), Repl
     }
 }
 
-fn write_waiting<W: Write>(writer: &mut W, answer: Unlocked) -> Result<(), ReplayFault>
+fn write_waiting<W: Write>(writer: &mut W, answer: Unlocked) -> Result<(), WriteFault>
     ensures { Writes (W.contents writer.old) (W.contents writer.new)
         (answer_text (Answer.Waiting answer)) result }
 {
@@ -95,7 +96,7 @@ fn write_waiting<W: Write>(writer: &mut W, answer: Unlocked) -> Result<(), Repla
 }
 
 /// Writes an answer: `Held Queued 1`, `Asleep` and the others.
-pub fn write_answer<W: Write>(writer: &mut W, answer: Answer) -> Result<(), ReplayFault>
+pub fn write_answer<W: Write>(writer: &mut W, answer: Answer) -> Result<(), WriteFault>
     ensures { Writes (W.contents writer.old) (W.contents writer.new) (answer_text answer) result }
 {
     match answer {
@@ -110,7 +111,7 @@ pub fn write_answer<W: Write>(writer: &mut W, answer: Answer) -> Result<(), Repl
 }
 
 /// Writes the name of a refusal.
-pub fn write_why<W: Write>(writer: &mut W, why: Why) -> Result<(), ReplayFault>
+pub fn write_why<W: Write>(writer: &mut W, why: Why) -> Result<(), WriteFault>
     ensures { Writes (W.contents writer.old) (W.contents writer.new) (why_text why) result }
 {
     match why {
@@ -121,7 +122,7 @@ pub fn write_why<W: Write>(writer: &mut W, why: Why) -> Result<(), ReplayFault>
     }
 }
 
-fn write_open<W: Write>(writer: &mut W, act: Act) -> Result<(), ReplayFault>
+fn write_open<W: Write>(writer: &mut W, act: Act) -> Result<(), WriteFault>
     ensures { Writes (W.contents writer.old) (W.contents writer.new) (open_text act) result }
 {
     match act {
@@ -130,7 +131,7 @@ fn write_open<W: Write>(writer: &mut W, act: Act) -> Result<(), ReplayFault>
     }
 }
 
-fn write_ended<W: Write>(writer: &mut W, answer: Answer) -> Result<(), ReplayFault>
+fn write_ended<W: Write>(writer: &mut W, answer: Answer) -> Result<(), WriteFault>
     ensures { Writes (W.contents writer.old) (W.contents writer.new)
         (joined (codes "ends " ∷ answer_text answer ∷ [])) result }
 {
@@ -139,7 +140,7 @@ fn write_ended<W: Write>(writer: &mut W, answer: Answer) -> Result<(), ReplayFau
     Ok(())
 }
 
-fn write_refused<W: Write>(writer: &mut W, why: Why) -> Result<(), ReplayFault>
+fn write_refused<W: Write>(writer: &mut W, why: Why) -> Result<(), WriteFault>
     ensures { Writes (W.contents writer.old) (W.contents writer.new)
         (joined (codes "refused " ∷ why_text why ∷ [])) result }
 {
@@ -148,7 +149,7 @@ fn write_refused<W: Write>(writer: &mut W, why: Why) -> Result<(), ReplayFault>
     Ok(())
 }
 
-fn write_turn<W: Write>(writer: &mut W, act: Act, turn: Turn) -> Result<(), ReplayFault>
+fn write_turn<W: Write>(writer: &mut W, act: Act, turn: Turn) -> Result<(), WriteFault>
     ensures { Writes (W.contents writer.old) (W.contents writer.new) (turn_text act turn) result }
 {
     match turn {
@@ -159,7 +160,7 @@ fn write_turn<W: Write>(writer: &mut W, act: Act, turn: Turn) -> Result<(), Repl
 }
 
 /// Writes a handoff: 0, or the seat and its post number, as in `1.1`.
-pub fn write_handoff<W: Write>(writer: &mut W, handoff: Handoff) -> Result<(), ReplayFault>
+pub fn write_handoff<W: Write>(writer: &mut W, handoff: Handoff) -> Result<(), WriteFault>
     ensures { Writes (W.contents writer.old) (W.contents writer.new) (handoff_text handoff) result }
 {
     if handoff.seat == 0 {
@@ -172,7 +173,7 @@ pub fn write_handoff<W: Write>(writer: &mut W, handoff: Handoff) -> Result<(), R
 }
 
 /// Writes where the responsibility lies: `owner.1`, `posted` and the others.
-pub fn write_place<W: Write>(writer: &mut W, place: Place) -> Result<(), ReplayFault>
+pub fn write_place<W: Write>(writer: &mut W, place: Place) -> Result<(), WriteFault>
     ensures { Writes (W.contents writer.old) (W.contents writer.new) (place_text place) result }
 {
     match place {
@@ -218,7 +219,7 @@ fn put_record(buffer: &mut [u8; RECORD_SIZE], queued: Record) -> usize
 }
 
 /// Writes a record in one piece, since a queue may have many.
-fn write_record<W: Write>(writer: &mut W, queued: Record) -> Result<(), ReplayFault>
+fn write_record<W: Write>(writer: &mut W, queued: Record) -> Result<(), WriteFault>
     ensures { Writes (W.contents writer.old) (W.contents writer.new) (record_text queued) result }
 {
     let mut buffer = [0; RECORD_SIZE];
@@ -227,7 +228,7 @@ fn write_record<W: Write>(writer: &mut W, queued: Record) -> Result<(), ReplayFa
 }
 
 /// Writes a record behind a comma.
-fn write_further<W: Write>(writer: &mut W, queued: Record) -> Result<(), ReplayFault>
+fn write_further<W: Write>(writer: &mut W, queued: Record) -> Result<(), WriteFault>
     ensures { Writes (W.contents writer.old) (W.contents writer.new)
         (joined (codes "," ∷ record_text queued ∷ [])) result }
 {
@@ -238,7 +239,7 @@ fn write_further<W: Write>(writer: &mut W, queued: Record) -> Result<(), ReplayF
 }
 
 /// Writes records, the last first, and takes them out.
-fn write_queue<W: Write>(writer: &mut W, records: &mut Vec<Record>) -> Result<(), ReplayFault>
+fn write_queue<W: Write>(writer: &mut W, records: &mut Vec<Record>) -> Result<(), WriteFault>
     ensures text { Writes (W.contents writer.old) (W.contents writer.new)
         (queue_text (reverse records.old.items)) result }
     ensures room { vec_capacity records.new ≡ vec_capacity records.old }
@@ -253,7 +254,7 @@ fn write_queue<W: Write>(writer: &mut W, records: &mut Vec<Record>) -> Result<()
     Ok(())
 }
 
-fn write_words<W: Write>(writer: &mut W, state: &State) -> Result<(), ReplayFault>
+fn write_words<W: Write>(writer: &mut W, state: &State) -> Result<(), WriteFault>
     ensures { Writes (W.contents writer.old) (W.contents writer.new) (words_text state.now) result }
 {
     write_number(writer, state.count())?;
@@ -269,7 +270,7 @@ fn write_state<W: Write>(
     writer: &mut W,
     state: &State,
     room: &mut Vec<Record>,
-) -> Result<(), ReplayFault>
+) -> Result<(), WriteFault>
     requires { length state.now.seats ≤ vec_capacity room.old }
     ensures text { Writes (W.contents writer.old) (W.contents writer.new)
         (state_text state.now) result }
@@ -290,7 +291,7 @@ pub fn write_opening<W: Write>(
     seats: u64,
     state: &State,
     room: &mut Vec<Record>,
-) -> Result<(), ReplayFault>
+) -> Result<(), WriteFault>
     requires { length state.now.seats ≤ vec_capacity room.old }
     ensures text { Writes (W.contents writer.old) (W.contents writer.new)
         (opening_text seats state.now) result }
@@ -309,7 +310,7 @@ fn write_outcome<W: Write>(
     number: u64,
     line: &Line,
     turn: Turn,
-) -> Result<(), ReplayFault>
+) -> Result<(), WriteFault>
     ensures { Writes (W.contents writer.old) (W.contents writer.new)
         (outcome_text number line.now turn) result }
 {
@@ -329,7 +330,7 @@ pub fn write_line<W: Write>(
     turn: Turn,
     state: &State,
     room: &mut Vec<Record>,
-) -> Result<(), ReplayFault>
+) -> Result<(), WriteFault>
     requires { length state.now.seats ≤ vec_capacity room.old }
     ensures text { Writes (W.contents writer.old) (W.contents writer.new)
         (line_text number line.now turn state.now) result }
@@ -343,7 +344,7 @@ pub fn write_line<W: Write>(
 }
 
 /// Writes the line of a fault of the input.
-pub fn write_fault_line<W: Write>(writer: &mut W, fault: ReplayFault) -> Result<(), ReplayFault>
+pub fn write_fault_line<W: Write>(writer: &mut W, fault: ReplayFault) -> Result<(), WriteFault>
     ensures { Writes (W.contents writer.old) (W.contents writer.new) (fault_text fault) result }
 {
     match fault {
@@ -352,7 +353,7 @@ pub fn write_fault_line<W: Write>(writer: &mut W, fault: ReplayFault) -> Result<
     }
 }
 
-fn write_syntax<W: Write>(writer: &mut W, number: u64) -> Result<(), ReplayFault>
+fn write_syntax<W: Write>(writer: &mut W, number: u64) -> Result<(), WriteFault>
     ensures { Writes (W.contents writer.old) (W.contents writer.new)
         (joined (codes "fault Syntax " ∷ decimal number ∷ codes "\n" ∷ [])) result }
 {

@@ -1,4 +1,4 @@
-use Rattle.lfm_core.proofs.texts.Writes.{failed_after}
+use Rattle.lfm_text.proofs.Writes.{failed_after}
 use Rattle.lfm_core.proofs.text.replaying.write_fault.Goals as goal
 
 pub returns-in_err-flush : goal.returns-in_err-flush

@@ -1,4 +1,4 @@
-use Rattle.lfm_core.proofs.texts.Writes.{wrote_then, failed_within, failed_on, failed_after}
+use Rattle.lfm_text.proofs.Writes.{wrote_then, failed_within, failed_on, failed_after}
 use Rattle.lfm_core.proofs.text.replaying.write_run.Goals as goal
 
 pub returns-in_err-write_opening-clause-text : goal.returns-in_err-write_opening-clause-text

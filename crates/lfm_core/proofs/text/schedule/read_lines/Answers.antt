@@ -1,5 +1,5 @@
 use Rattle.std.proofs.Common.{◌∙◌, ◌∷◌, [], length, sym, arith, ap, length-append}
-use Rattle.lfm_core.specs.text.Text.{lines_of}
+use Rattle.lfm_text.specs.Text.{lines_of}
 use Rattle.lfm_core.proofs.texts.Reading.{goes_on}
 use Rattle.lfm_core.proofs.text.schedule.read_lines.Goals as goal
 

@@ -1,5 +1,5 @@
 use Rattle.std.proofs.Common.{◌≡◌, ◌+◌, length, vec_capacity}
-use Rattle.lfm_core.specs.text.Text.{lines_of}
+use Rattle.lfm_text.specs.Text.{lines_of}
 use Rattle.lfm_core.specs.text.Grammar.{lines_from}
 use Rattle.lfm_core.proofs.texts.Reading.{after_front}
 use Rattle.lfm_core.proofs.text.schedule.read_lines.Given as goal

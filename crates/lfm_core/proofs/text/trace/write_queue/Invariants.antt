@@ -1,14 +1,14 @@
 use Rattle.std.proofs.Common.{◌≡◌, ℕ, List, Option, Result, vec_capacity, vec_len}
 use Rattle.std.specs.Prelude.{reverse}
-use Rattle.lfm_core.specs.declared.text.schedule.ReplayFault.{ReplayFault}
+use Rattle.lfm_text.specs.declared.faults.WriteFault.{WriteFault}
 use Rattle.lfm_core.specs.text.Trace.{queue_text, further_text}
-use Rattle.lfm_core.specs.text.Writing.{Writes}
+use Rattle.lfm_text.specs.Writing.{Writes}
 use Rattle.lfm_core.proofs.text.trace.write_queue.Given as goal
 
 -- What writes the text of the records that are left also writes, with what came before, the text of all.
 abbrev pub invariant-writing : goal.invariant-writing
 invariant-writing g l = record {
-  finishes : (new : Option (List ℕ)) (r : Result (Unit {0}) ReplayFault) → Writes (g.W.Write.contents l.writer) new (further_text (reverse l.records.items)) r
+  finishes : (new : Option (List ℕ)) (r : Result (Unit {0}) WriteFault) → Writes (g.W.Write.contents l.writer) new (further_text (reverse l.records.items)) r
       → Writes (g.W.Write.contents l.fn.writer) new (queue_text (reverse l.fn.records.items)) r;
   room : vec_capacity l.records ≡ vec_capacity l.fn.records;
 }

@@ -1,4 +1,4 @@
-use Rattle.lfm_core.proofs.texts.Writes.{part_one, part_two, part_three, wrote_three}
+use Rattle.lfm_text.proofs.Writes.{part_one, part_two, part_three, wrote_three}
 use Rattle.lfm_core.proofs.text.trace.write_syntax.Goals as goal
 
 pub returns-in_err-write_text : goal.returns-in_err-write_text

@@ -1,8 +1,0 @@
-use Rattle.lfm_core.proofs.texts.Numbers.{only, every}
-use Rattle.lfm_core.proofs.text.grammar_laws.numbers_are_decimals.Goals as goal
-
-pub returns-clause-only : goal.returns-clause-only
-returns-clause-only c = only
-
-pub returns-clause-all : goal.returns-clause-all
-returns-clause-all c = every

@@ -1,0 +1,55 @@
+//! Reads the bytes of a text from a reader, within the limits of a text.
+
+ghost use Rattle.std.specs.Prelude.{◌≡◌, ◌+◌, ◌++◌, ◌≤◌, length, IfOk, IsErrOf, vec_capacity, vec_len};
+ghost use Rattle.std.specs.Io.KnownBytes.{Keeps};
+ghost use Rattle.lfm_text.specs.Taking.{Takes, TakesWithin};
+
+use crate::faults::InputFault;
+use crate::limits::{MAX_BYTES, MAX_LINES, count_line_feeds, is_past_limit};
+use std::alloc::Global;
+use std::io::Read;
+
+/// The most bytes that one read asks for.
+const READ_SIZE: usize = 4_096;
+
+/// Appends bytes within the capacity, so that no memory is asked for.
+fn append_reserved(input: &mut Vec<u8>, given: &[u8])
+    requires { vec_len input.old + length given.now ≤ vec_capacity input.old }
+    ensures items { input.new.items ≡ input.old.items ++ given.now }
+    ensures room { vec_capacity input.old ≤ vec_capacity input.new }
+{
+    input.extend_from_slice(given).unwrap();
+}
+
+/// Reads all bytes of the reader, and no byte after the first that is past a limit: byte 1,048,577, or the first byte
+/// after 65,536 line feeds.
+///
+/// Asks for memory once, for 1,048,577 bytes: Memory where that is refused, and then nothing was read. Read where the
+/// reader fails before the text is past a limit. Any error of the reader counts, also an interruption.
+///
+/// No read asks for more bytes than could be read without passing a limit, and one. So the reads get short where few lines are left.
+pub fn read_input<R: Read>(alloc: Global, reader: &mut R) -> Result<Vec<u8>, InputFault>
+    ensures ok { IfOk result (λ v. Takes (R.remaining reader.old) (R.remaining reader.new) v.items) }
+    ensures read { IsErrOf result InputFault.Read →
+        TakesWithin (R.remaining reader.old) (R.remaining reader.new) }
+    ensures memory { IsErrOf result InputFault.Memory →
+        Keeps (R.remaining reader.old) (R.remaining reader.new) }
+{
+    let mut input = Vec::with_capacity(alloc, MAX_BYTES + 1).map_err(|_| InputFault::Memory)?;
+    let mut buffer = [0u8; READ_SIZE];
+    let mut line_feeds = 0;
+    'reading: while !is_past_limit(&input, line_feeds) {
+        let bytes_left = MAX_BYTES + 1 - input.len();
+        let lines_left = MAX_LINES + 1 - line_feeds;
+        let room = bytes_left.min(lines_left).min(READ_SIZE);
+        let count = match reader.read(&mut buffer[..room]) {
+            Ok(0) => return Ok(input),
+            Ok(count) => count,
+            Err(_) => return Err(InputFault::Read),
+        };
+        let given = &buffer[..count];
+        line_feeds += count_line_feeds(given);
+        append_reserved(&mut input, given);
+    }
+    Ok(input)
+}

@@ -1,0 +1,39 @@
+//! Writes texts and numbers straight to a writer. Nothing here asks for memory.
+
+ghost use Rattle.std.specs.Prelude.{[], decimal};
+ghost use Rattle.lfm_text.specs.Writing.{Writes};
+
+use crate::faults::WriteFault;
+use itoa::Buffer;
+use std::io::Write;
+
+/// Writes all of a text. A fault where the writer fails or takes no byte, after a prefix of the text. Any error of the
+/// writer counts, also an interruption.
+pub fn write_text<W: Write>(writer: &mut W, text: &[u8]) -> Result<(), WriteFault>
+    ensures { Writes (W.contents writer.old) (W.contents writer.new) text.now result }
+{
+    let mut at = 0;
+    'writing: while at < text.len() {
+        match writer.write(&text[at..]) {
+            Ok(0) => return Err(WriteFault),
+            Ok(count) => at += count,
+            Err(_) => return Err(WriteFault),
+        }
+    }
+    Ok(())
+}
+
+/// Writes a number in decimal digits. A fault where the writer fails, after a prefix of them.
+pub fn write_number<W: Write>(writer: &mut W, number: u64) -> Result<(), WriteFault>
+    ensures { Writes (W.contents writer.old) (W.contents writer.new) (decimal number) result }
+{
+    let mut buffer = Buffer::new();
+    write_text(writer, buffer.format(number).as_bytes())
+}
+
+/// Flushes the writer. A fault where that fails.
+pub fn flush<W: Write>(writer: &mut W) -> Result<(), WriteFault>
+    ensures { Writes (W.contents writer.old) (W.contents writer.new) [] result }
+{
+    writer.flush().map_err(|_| WriteFault)
+}

@@ -1,5 +1,5 @@
 -- A line, a first line or a whole schedule that is written is read back as itself.
-use Rattle.std.proofs.Common.{◌≡◌, ◌+◌, ◌≤◌, ◌<◌, ◌^◌, ◌==◌, ◌&&◌, nat_lt, not, suc, ℕ, true, false, List, [], ◌∷◌, ◌++◌, Option, Some, Result, Ok, All, refl, sym, ◌∙◌, ap, append_assoc, arith, tests, codes, decimal, get_or, ne_eqb, inl, inr}
+use Rattle.std.proofs.Common.{◌≡◌, ◌+◌, ◌≤◌, ◌<◌, ◌^◌, ◌==◌, ◌&&◌, nat_le, not, suc, ℕ, true, false, List, [], ◌∷◌, ◌++◌, Option, Some, Result, Ok, All, refl, sym, ◌∙◌, ap, append_assoc, arith, tests, codes, decimal, get_or, ne_eqb, inl, inr}
 use Rattle.std.specs.Int.{IsInRange}
 use Rattle.std.specs.List.{flat_map, list_all}
 use Rattle.std.proofs.lemmas.Fmt.{digits_decimal}
@@ -15,7 +15,8 @@ use Rattle.lfm_core.specs.declared.text.schedule.Act.TheVariants.{Begin, Steps, 
 use Rattle.lfm_core.specs.declared.text.schedule.Line.{Line}
 use Rattle.lfm_core.specs.declared.text.faults.ReplayFault.{ReplayFault}
 use Rattle.lfm_text.specs.Text.{parts_at, words_of, lines_of, is_past_limit}
-use Rattle.lfm_core.specs.text.Grammar.{act_of, line_of, header_of, lines_from, Plan, plan_in, plan_of_lines, plan_from}
+use Rattle.lfm_core.specs.text.Grammar.{max_steps, act_of, line_of, header_of, lines_from, Plan, plan_in, plan_of_lines, plan_from}
+use Rattle.lfm_protocol.specs.declared.limits.Limits.{Limits}
 use Rattle.lfm_protocol.specs.Limits.{max_budget, are_in_limits}
 use Rattle.lfm_core.specs.text.Spelling.{act_spelling, call_spelling, line_spelling, one_step_spelling, header_spelling, short_header_spelling, plan_spelling, IsWritableAct, IsWritable, IsWritablePlan, Spells, SpellsHeader, HasShortTarget}
 use Rattle.lfm_text.proofs.Cutting.{line_first}
@@ -55,9 +56,9 @@ send_words s t small short =
 steps_word : (k : ℕ) → k < 10 ^ 18 → parts_at 32 (codes "+" ++ decimal k) ≡ (codes "+" ++ decimal k) ∷ []
 steps_word k small = rw (only_part 32 (decimal k) (no_space k small)) refl
 
-steps_said : (k : ℕ) → 1 ≤ k → k ≤ 999 → act_of (codes "+" ++ decimal k) ≡ Some (Steps k)
+steps_said : (k : ℕ) → 1 ≤ k → k ≤ max_steps → act_of (codes "+" ++ decimal k) ≡ Some (Steps k)
 steps_said k low high =
-    let few : (nat_lt 0 k && nat_lt k 1000) ≡ true = search (tests, arith, low, high) in
+    let few : (nat_le 1 k && nat_le k max_steps) ≡ true = search (tests, arith, low, high) in
     rw (every k (omega (arith, high)), few) refl
 
 call_decodes : (s : ℕ) (call : Call) → s < 10 ^ 18 → HasShortTarget call → line_of (words_of (decimal s ++ 32 ∷ call_spelling call)) ≡ Some (record { seat = s; act = Begin call })
@@ -82,19 +83,19 @@ line_decodes l writable = act_decodes l.seat l.act writable.seat writable.act
 pub one_step_decodes : (s : ℕ) → s < 10 ^ 18 → line_of (words_of (one_step_spelling s)) ≡ Some (record { seat = s; act = Steps 1 })
 one_step_decodes s small = one_word s (codes ".") (Steps 1) small refl refl
 
-pub header_decodes : (n b : ℕ) → n < 10 ^ 18 → b < 10 ^ 18 → header_of (words_of (header_spelling n b)) ≡ Some (n, b)
+pub header_decodes : (n b : ℕ) → n < 10 ^ 18 → b < 10 ^ 18 → header_of (words_of (header_spelling n b)) ≡ Some (record { seats = n; budget = b })
 header_decodes n b small short =
     rw (first_part 32 (decimal n) (decimal b) (no_space n small), only_part 32 (decimal b) (no_space b short), every n small, every b short) refl
 
-pub short_header_decodes : (n : ℕ) → n < 10 ^ 18 → header_of (words_of (short_header_spelling n)) ≡ Some (n, max_budget)
+pub short_header_decodes : (n : ℕ) → n < 10 ^ 18 → header_of (words_of (short_header_spelling n)) ≡ Some (record { seats = n; budget = max_budget })
 short_header_decodes n small = rw (only_part 32 (decimal n) (no_space n small), every n small) refl
 
 -- a first line, in either form
-pub spelled_header_decodes : (text : List ℕ) (n b : ℕ) → SpellsHeader text n b → n < 10 ^ 18 → b < 10 ^ 18 → header_of (words_of text) ≡ Some (n, b)
+pub spelled_header_decodes : (text : List ℕ) (n b : ℕ) → SpellsHeader text n b → n < 10 ^ 18 → b < 10 ^ 18 → header_of (words_of text) ≡ Some (record { seats = n; budget = b })
 spelled_header_decodes text n b spells small short =
     elim spells [
       | inl full ↦ ap (λ t. header_of (words_of t)) full ∙ header_decodes n b small short
-      | inr largest ↦ ap (λ t. header_of (words_of t)) largest.1 ∙ short_header_decodes n small ∙ ap (λ m. Some (n, m)) (sym largest.0)
+      | inr largest ↦ ap (λ t. header_of (words_of t)) largest.1 ∙ short_header_decodes n small ∙ ap (λ m. Some (record { seats = n; budget = m })) (sym largest.0)
     ]
 
 -- a line, in either form
@@ -158,7 +159,7 @@ lines_decode (l ∷ ls) writable n =
     ap (λ texts. lines_from n texts) cut ∙ rw (line_decodes l first, lines_decode ls others (n + 1)) refl
 
 -- what a first line and the lines after it say together
-pub joined : (n b : ℕ) (ls : List Line) (h : Option (ℕ × ℕ)) (r : Result (List Line) ReplayFault) → h ≡ Some (n, b) → r ≡ Ok ls → are_in_limits n b ≡ true
+pub joined : (n b : ℕ) (ls : List Line) (h : Option Limits) (r : Result (List Line) ReplayFault) → h ≡ Some (record { seats = n; budget = b }) → r ≡ Ok ls → are_in_limits n b ≡ true
     → plan_from h r ≡ Ok (record { seats = n; budget = b; lines = ls })
 joined n b ls h r first others within = rw (first, others, within) refl
 

@@ -1,5 +1,5 @@
 -- The lines that were read in front of those to come, and what is known of the lines that a text spells.
-use Rattle.std.proofs.Common.{◌≡◌, ◌+◌, ◌==◌, ◌&&◌, nat_lt, ℕ, Bool, true, false, cond, List, [], ◌∷◌, ◌++◌, Option, Some, None, Result, Ok, Err, IfSome, IfOk, All, refl, ap, append_assoc, arith, tests, codes}
+use Rattle.std.proofs.Common.{◌≡◌, ◌+◌, ◌==◌, ◌&&◌, nat_le, ℕ, Bool, true, false, cond, List, [], ◌∷◌, ◌++◌, Option, Some, None, Result, Ok, Err, IfSome, IfOk, All, refl, ap, append_assoc, arith, tests, codes}
 use Rattle.std.proofs.lemmas.List.Elements.{All-nil, All-cons}
 use Rattle.std.specs.Str.{bytes_eq}
 use Rattle.lfm_protocol.specs.declared.answers.Call.TheVariants.{Lock, TryLock, Unlock, StartWait, Receive}
@@ -9,7 +9,7 @@ use Rattle.lfm_core.specs.declared.text.schedule.Line.{Line}
 use Rattle.lfm_core.specs.declared.text.faults.ReplayFault.{ReplayFault}
 use Rattle.lfm_core.specs.declared.text.faults.ReplayFault.TheVariants.{Syntax}
 use Rattle.lfm_text.specs.Text.{number_of, words_of}
-use Rattle.lfm_core.specs.text.Grammar.{steps_of, plain_act_of, act_of, seat_line, send_act, line_of, in_front, lines_from, HasFewSteps}
+use Rattle.lfm_core.specs.text.Grammar.{max_steps, steps_of, plain_act_of, act_of, seat_line, send_act, line_of, in_front, lines_from, HasFewSteps}
 
 -- lines in front of those that a result has
 abbrev pub after_front : List Line → Result (List Line) ReplayFault → Result (List Line) ReplayFault
@@ -44,9 +44,9 @@ either false a b first second = second
 
 few_steps_of : (n : Option ℕ) → FewSteps (steps_of n)
 few_steps_of None = record { few = tt }
-few_steps_of (Some k) = within (nat_lt 0 k && nat_lt k 1000) refl
+few_steps_of (Some k) = within (nat_le 1 k && nat_le k max_steps) refl
   where
-    within : (t : Bool) → (nat_lt 0 k && nat_lt k 1000) ≡ t → FewSteps (cond t (Some (Steps k)) None)
+    within : (t : Bool) → (nat_le 1 k && nat_le k max_steps) ≡ t → FewSteps (cond t (Some (Steps k)) None)
     within true e = record { few = grind (arith, tests) }
     within false e = record { few = tt }
 

@@ -1,5 +1,5 @@
 -- A text that is read as a line or as a first line is one of its spellings.
-use Rattle.std.proofs.Common.{ap, ◌≡◌, ◌≤◌, ◌<◌, ◌^◌, ◌==◌, ◌&&◌, nat_lt, ℕ, Bool, true, false, cond, List, [], ◌∷◌, ◌++◌, Option, Some, None, ◌⊎◌, refl, arith, tests, codes, decimal, inl, inr}
+use Rattle.std.proofs.Common.{ap, ◌≡◌, ◌≤◌, ◌<◌, ◌^◌, ◌==◌, ◌&&◌, nat_le, ℕ, Bool, true, false, cond, List, [], ◌∷◌, ◌++◌, Option, Some, None, ◌⊎◌, refl, arith, tests, codes, decimal, inl, inr}
 use Rattle.std.specs.Str.{bytes_eq}
 use Rattle.std.specs.List.{join_with_byte}
 use Rattle.std.proofs.lemmas.List.Splits.{join_with_byte-slice_split}
@@ -9,7 +9,8 @@ use Rattle.lfm_core.specs.declared.text.schedule.Act.{Act}
 use Rattle.lfm_core.specs.declared.text.schedule.Act.TheVariants.{Begin, Steps, ToEnd}
 use Rattle.lfm_core.specs.declared.text.schedule.Line.{Line}
 use Rattle.lfm_text.specs.Text.{words_of, number_of}
-use Rattle.lfm_core.specs.text.Grammar.{steps_of, plain_act_of, act_of, seat_line, send_act, line_of, header, header_of}
+use Rattle.lfm_core.specs.text.Grammar.{max_steps, steps_of, plain_act_of, act_of, seat_line, send_act, line_of, header, header_of}
+use Rattle.lfm_protocol.specs.declared.limits.Limits.{Limits}
 use Rattle.lfm_protocol.specs.Limits.{max_budget}
 use Rattle.lfm_core.specs.text.Spelling.{act_spelling, IsWritableAct, IsWritable, Spells, SpellsHeader}
 use Rattle.lfm_text.proofs.Numbers.{only}
@@ -46,9 +47,9 @@ plain_only word a =
 
 steps_only : (digits : List ℕ) (n : Option ℕ) (a : Act) → number_of digits ≡ n → steps_of n ≡ Some a → IsForm (43 ∷ digits) a
 steps_only digits None a number e = absurd (cc)
-steps_only digits (Some k) a number e = by_test (nat_lt 0 k && nat_lt k 1000) refl e
+steps_only digits (Some k) a number e = by_test (nat_le 1 k && nat_le k max_steps) refl e
   where
-    by_test : (t : Bool) → (nat_lt 0 k && nat_lt k 1000) ≡ t → cond t (Some (Steps k)) None ≡ Some a → IsForm (43 ∷ digits) a
+    by_test : (t : Bool) → (nat_le 1 k && nat_le k max_steps) ≡ t → cond t (Some (Steps k)) None ≡ Some a → IsForm (43 ∷ digits) a
     by_test true few e =
         let is_steps : Steps k ≡ a = cc in
         let spelled : digits ≡ decimal k = (only digits k number).0 in
@@ -113,43 +114,43 @@ record IsHeader (text : List ℕ) (n b : ℕ) : Type 0 where
   small : n < 10 ^ 18
   short : b < 10 ^ 18
 
-short_header_only : (w s : List ℕ) (o : Option ℕ) (n b : ℕ) → w ≡ codes "seats" → number_of s ≡ o → header o (Some max_budget) ≡ Some (n, b) → IsHeader (w ++ 32 ∷ s) n b
+short_header_only : (w s : List ℕ) (o : Option ℕ) (n b : ℕ) → w ≡ codes "seats" → number_of s ≡ o → header o (Some max_budget) ≡ Some (record { seats = n; budget = b }) → IsHeader (w ++ 32 ∷ s) n b
 short_header_only w s None n b word number e = absurd (cc)
 short_header_only w s (Some k) n b word number e =
-    let same : ◌≡◌ {A = ℕ × ℕ} (k, max_budget) (n, b) = cc in
-    let seats : k ≡ n = ap (λ p. p.0) same in
-    let budget : max_budget ≡ b = ap (λ p. p.1) same in
+    let same : ◌≡◌ {A = Limits} (record { seats = k; budget = max_budget }) (record { seats = n; budget = b }) = cc in
+    let seats : k ≡ n = ap (λ p. p.seats) same in
+    let budget : max_budget ≡ b = ap (λ p. p.budget) same in
     let spelled : (s ≡ decimal k) × (k < 10 ^ 18) = only s k number in
     rw (word, spelled.0, ← seats, ← budget) (record { spells = inr (refl, refl); small = spelled.1; short = omega arith })
 
-full_header_only : (w s t : List ℕ) (o m : Option ℕ) (n b : ℕ) → w ≡ codes "seats" → number_of s ≡ o → number_of t ≡ m → header o m ≡ Some (n, b) → IsHeader (w ++ 32 ∷ (s ++ 32 ∷ t)) n b
+full_header_only : (w s t : List ℕ) (o m : Option ℕ) (n b : ℕ) → w ≡ codes "seats" → number_of s ≡ o → number_of t ≡ m → header o m ≡ Some (record { seats = n; budget = b }) → IsHeader (w ++ 32 ∷ (s ++ 32 ∷ t)) n b
 full_header_only w s t None m n b word number budget e = absurd (cc)
 full_header_only w s t (Some k) None n b word number budget e = absurd (cc)
 full_header_only w s t (Some k) (Some j) n b word number budget e =
-    let same : ◌≡◌ {A = ℕ × ℕ} (k, j) (n, b) = cc in
-    let seats : k ≡ n = ap (λ p. p.0) same in
-    let largest : j ≡ b = ap (λ p. p.1) same in
+    let same : ◌≡◌ {A = Limits} (record { seats = k; budget = j }) (record { seats = n; budget = b }) = cc in
+    let seats : k ≡ n = ap (λ p. p.seats) same in
+    let largest : j ≡ b = ap (λ p. p.budget) same in
     let first : (s ≡ decimal k) × (k < 10 ^ 18) = only s k number in
     let second : (t ≡ decimal j) × (j < 10 ^ 18) = only t j budget in
     rw (word, first.0, second.0, ← seats, ← largest) (record { spells = inl refl; small = first.1; short = second.1 })
 
-header_words_only : (words : List (List ℕ)) (n b : ℕ) → header_of words ≡ Some (n, b) → IsHeader (join_with_byte 32 words) n b
+header_words_only : (words : List (List ℕ)) (n b : ℕ) → header_of words ≡ Some (record { seats = n; budget = b }) → IsHeader (join_with_byte 32 words) n b
 header_words_only [] n b e = absurd (cc)
 header_words_only (a ∷ []) n b e = absurd (cc)
 header_words_only (w ∷ s ∷ []) n b e = by_test (bytes_eq w (codes "seats")) refl e
   where
-    by_test : (t : Bool) → bytes_eq w (codes "seats") ≡ t → cond t (header (number_of s) (Some max_budget)) None ≡ Some (n, b) → IsHeader (w ++ 32 ∷ s) n b
+    by_test : (t : Bool) → bytes_eq w (codes "seats") ≡ t → cond t (header (number_of s) (Some max_budget)) None ≡ Some (record { seats = n; budget = b }) → IsHeader (w ++ 32 ∷ s) n b
     by_test true same e = short_header_only w s (number_of s) n b ((bytes_eq-Decides w (codes "seats")).0 same) refl e
     by_test false same e = absurd (cc)
 header_words_only (w ∷ s ∷ m ∷ []) n b e = by_test (bytes_eq w (codes "seats")) refl e
   where
-    by_test : (t : Bool) → bytes_eq w (codes "seats") ≡ t → cond t (header (number_of s) (number_of m)) None ≡ Some (n, b) → IsHeader (w ++ 32 ∷ (s ++ 32 ∷ m)) n b
+    by_test : (t : Bool) → bytes_eq w (codes "seats") ≡ t → cond t (header (number_of s) (number_of m)) None ≡ Some (record { seats = n; budget = b }) → IsHeader (w ++ 32 ∷ (s ++ 32 ∷ m)) n b
     by_test true same e = full_header_only w s m (number_of s) (number_of m) n b ((bytes_eq-Decides w (codes "seats")).0 same) refl refl e
     by_test false same e = absurd (cc)
 header_words_only (a ∷ w ∷ c ∷ d ∷ more) n b e = absurd (cc)
 
 -- a text that says a first line is that line, in one of its forms
-pub header_only : (text : List ℕ) (n b : ℕ) → header_of (words_of text) ≡ Some (n, b) → SpellsHeader text n b × (n < 10 ^ 18) × (b < 10 ^ 18)
+pub header_only : (text : List ℕ) (n b : ℕ) → header_of (words_of text) ≡ Some (record { seats = n; budget = b }) → SpellsHeader text n b × (n < 10 ^ 18) × (b < 10 ^ 18)
 header_only text n b e =
     let line : IsHeader text n b = rw (join_with_byte-slice_split 32 text) at (header_words_only (words_of text) n b e) in
     (line.spells, line.small, line.short)

@@ -1,5 +1,5 @@
 -- What the bytes of a schedule spell.
-use Rattle.std.specs.Prelude.{ℕ, Bool, ◌≡◌, ◌+◌, ◌≤◌, ◌==◌, ◌&&◌, nat_lt, if◌then◌else◌, ⊤, List, [], ◌∷◌, Option, Some, None, Result, Ok, Err, codes, ◌<◌, zero, suc, true, false, is_some, slice_index_or}
+use Rattle.std.specs.Prelude.{ℕ, ◌⊎◌, length, Bool, ◌≡◌, ◌+◌, ◌≤◌, ◌==◌, ◌&&◌, nat_le, if◌then◌else◌, ⊤, List, [], ◌∷◌, Option, Some, None, Result, Ok, Err, codes, ◌<◌, zero, suc, true, false, is_some, slice_index_or}
 use Rattle.std.specs.Str.{bytes_eq}
 use Rattle.lfm_protocol.specs.declared.answers.Call.TheVariants.{Lock, TryLock, Unlock, StartWait, SendLock, Receive}
 use Rattle.lfm_core.specs.declared.text.schedule.Act.{Act}
@@ -8,13 +8,18 @@ use Rattle.lfm_core.specs.declared.text.schedule.Line.{Line}
 use Rattle.lfm_core.specs.declared.text.schedule.Schedule.{Schedule}
 use Rattle.lfm_core.specs.declared.text.faults.ReplayFault.{ReplayFault}
 use Rattle.lfm_core.specs.declared.text.faults.ReplayFault.TheVariants.{Syntax, Limit, Read, Write, Memory}
+use Rattle.lfm_protocol.specs.declared.limits.Limits.{Limits}
 use Rattle.lfm_protocol.specs.Limits.{max_budget, are_in_limits}
 use Rattle.lfm_text.specs.Text.{number_of, words_of, lines_of, is_past_limit}
+
+-- the most steps that one line may ask for
+abbrev pub max_steps : ℕ
+max_steps = 999
 
 -- from 1 to 999 steps
 abbrev pub steps_of : Option ℕ → Option Act
 steps_of None = None
-steps_of (Some k) = if nat_lt 0 k && nat_lt k 1000 then Some (Steps k) else None
+steps_of (Some k) = if nat_le 1 k && nat_le k max_steps then Some (Steps k) else None
 
 -- what one word says that is no number of steps
 abbrev pub plain_act_of : List ℕ → Option Act
@@ -53,13 +58,13 @@ line_of (seat ∷ call ∷ target ∷ []) = send_of seat call target
 line_of _ = None
 
 -- a number of seats and a budget, where both are spelled
-abbrev pub header : Option ℕ → Option ℕ → Option (ℕ × ℕ)
+abbrev pub header : Option ℕ → Option ℕ → Option Limits
 header None budget = None
 header (Some n) None = None
-header (Some n) (Some b) = Some (n, b)
+header (Some n) (Some b) = Some (record { seats = n; budget = b })
 
 -- what the words of the first line say: the largest budget where it names none
-abbrev pub header_of : List (List ℕ) → Option (ℕ × ℕ)
+abbrev pub header_of : List (List ℕ) → Option Limits
 header_of (word ∷ seats ∷ []) = if bytes_eq word (codes "seats") then header (number_of seats) (Some max_budget) else None
 header_of (word ∷ seats ∷ budget ∷ []) = if bytes_eq word (codes "seats") then header (number_of seats) (number_of budget) else None
 header_of _ = None
@@ -88,10 +93,10 @@ abbrev pub in_limits : ℕ → ℕ → List Line → Result Plan ReplayFault
 in_limits n b ls = if are_in_limits n b then Ok (record { seats = n; budget = b; lines = ls }) else Err Limit
 
 -- what the first line and those after it say; a fault of the limits comes last
-abbrev pub plan_from : Option (ℕ × ℕ) → Result (List Line) ReplayFault → Result Plan ReplayFault
+abbrev pub plan_from : Option Limits → Result (List Line) ReplayFault → Result Plan ReplayFault
 plan_from None rest = Err (Syntax 1)
-plan_from (Some h) (Err fault) = Err fault
-plan_from (Some h) (Ok lines) = in_limits h.0 h.1 lines
+plan_from (Some limits) (Err fault) = Err fault
+plan_from (Some limits) (Ok lines) = in_limits limits.seats limits.budget lines
 
 abbrev pub plan_of_lines : List (List ℕ) → Result Plan ReplayFault
 plan_of_lines [] = Err (Syntax 1)
@@ -113,7 +118,7 @@ Gives view (Err Memory) said = ⊤
 -- steps that an act asks for are 1 to 999
 abbrev pub HasFewSteps : Act → Type 0
 HasFewSteps (Begin call) = ⊤
-HasFewSteps (Steps k) = (1 ≤ k) × (k ≤ 999)
+HasFewSteps (Steps k) = (1 ≤ k) × (k ≤ max_steps)
 HasFewSteps ToEnd = ⊤
 
 -- whether a text says a line where it stands at this index
@@ -121,9 +126,10 @@ abbrev pub is_line_at : ℕ → List ℕ → Bool
 is_line_at zero text = is_some (header_of (words_of text))
 is_line_at (suc k) text = is_some (line_of (words_of text))
 
--- the line of this number, counted from 1, is the first that says nothing; past the last line stands the empty text
+-- the line of this number, counted from 1, is the first that says nothing; a text without lines lacks its first line
 pub record IsFirstFault (texts : List (List ℕ)) (number : ℕ) : Type 0 where
   pub index : ℕ
   pub counted : number ≡ index + 1
+  pub there : (index < length texts) ⊎ ((texts ≡ []) × (index ≡ 0))
   pub fails : is_line_at index (slice_index_or texts index []) ≡ false
   pub before : (k : ℕ) → k < index → is_line_at k (slice_index_or texts k []) ≡ true

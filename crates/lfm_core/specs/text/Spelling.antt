@@ -7,8 +7,8 @@ use Rattle.lfm_core.specs.declared.text.schedule.Act.{Act}
 use Rattle.lfm_core.specs.declared.text.schedule.Act.TheVariants.{Begin, Steps, ToEnd}
 use Rattle.lfm_core.specs.declared.text.schedule.Line.{Line}
 use Rattle.lfm_text.specs.Text.{lines_of, is_past_limit}
-use Rattle.lfm_core.specs.text.Grammar.{Plan}
-use Rattle.lfm_protocol.specs.Limits.{max_seats, max_budget}
+use Rattle.lfm_core.specs.text.Grammar.{Plan, max_steps}
+use Rattle.lfm_protocol.specs.Limits.{max_seats, max_budget, are_in_limits}
 
 abbrev pub call_spelling : Call → List ℕ
 call_spelling Lock = codes "lock"
@@ -57,7 +57,7 @@ HasShortTarget Receive = ⊤
 
 abbrev pub IsWritableAct : Act → Type 0
 IsWritableAct (Begin call) = HasShortTarget call
-IsWritableAct (Steps k) = (1 ≤ k) × (k ≤ 999)
+IsWritableAct (Steps k) = (1 ≤ k) × (k ≤ max_steps)
 IsWritableAct ToEnd = ⊤
 
 -- a line whose numbers a schedule may name
@@ -92,4 +92,18 @@ pub record SpellsPlan (text : List ℕ) (p : Plan) : Type 0 where
   pub each : EachSpells others p.lines
   pub seats : (1 ≤ p.seats) × (p.seats ≤ max_seats)
   pub budget : (1 ≤ p.budget) × (p.budget ≤ max_budget)
+  pub short : is_past_limit text ≡ false
+
+-- a text that is not too long, whose lines are those of a schedule, with a number of seats or a budget that no mutex may have
+pub record SpellsOutOfRange (text : List ℕ) : Type 0 where
+  pub seats : ℕ
+  pub budget : ℕ
+  pub first : List ℕ
+  pub others : List (List ℕ)
+  pub lines : List Line
+  pub cut : lines_of text ≡ first ∷ others
+  pub header : SpellsHeader first seats budget
+  pub each : EachSpells others lines
+  pub small : (seats < 10 ^ 18) × (budget < 10 ^ 18)
+  pub outside : are_in_limits seats budget ≡ false
   pub short : is_past_limit text ≡ false

@@ -1,9 +1,9 @@
-//! Laws of the grammar of schedules, in the subject's own words.
+//! Laws of the grammar of schedules, in the subject's own words. Each is the contract of a function that does nothing.
 
-ghost use Rattle.std.specs.Prelude.{◌≡◌, ◌<◌, ◌^◌, ℕ, List, Ok, Err, Some};
-ghost use Rattle.lfm_text.specs.Text.{words_of, lines_of};
+ghost use Rattle.std.specs.Prelude.{◌≡◌, ◌<◌, ◌^◌, ◌⊎◌, ℕ, true, false, List, Ok, Err, Some};
+ghost use Rattle.lfm_text.specs.Text.{words_of, lines_of, is_past_limit};
 ghost use Rattle.lfm_core.specs.text.Grammar.{Plan, line_of, header_of, plan_in, IsFirstFault};
-ghost use Rattle.lfm_core.specs.text.Spelling.{Spells, IsWritable, SpellsHeader, plan_spelling, IsWritablePlan, SpellsPlan};
+ghost use Rattle.lfm_core.specs.text.Spelling.{Spells, IsWritable, SpellsHeader, plan_spelling, IsWritablePlan, SpellsPlan, SpellsOutOfRange};
 ghost use Rattle.lfm_core.specs.declared.text.schedule.Line.{Line};
 
 use crate::text::faults::ReplayFault;
@@ -19,10 +19,12 @@ pub fn lines_are_spelled()
 /// A text says a first line exactly where it is that line, in one of its forms: the one without a
 /// budget has the largest.
 pub fn headers_are_spelled()
-    ensures only { (text : List ℕ) (n : ℕ) (b : ℕ) → header_of (words_of text) ≡ Some (n, b) →
+    ensures only { (text : List ℕ) (n : ℕ) (b : ℕ) →
+        header_of (words_of text) ≡ Some (record { seats = n; budget = b }) →
         SpellsHeader text n b × (n < 10 ^ 18) × (b < 10 ^ 18) }
     ensures all { (text : List ℕ) (n : ℕ) (b : ℕ) →
-        SpellsHeader text n b → n < 10 ^ 18 → b < 10 ^ 18 → header_of (words_of text) ≡ Some (n, b) }
+        SpellsHeader text n b → n < 10 ^ 18 → b < 10 ^ 18 →
+        header_of (words_of text) ≡ Some (record { seats = n; budget = b }) }
 {}
 
 /// A text says a plan exactly where its lines are those of the plan, one by one. So does the text
@@ -33,8 +35,22 @@ pub fn plans_are_spelled()
     ensures written { (p : Plan) → IsWritablePlan p → plan_in (plan_spelling p) ≡ Ok p }
 {}
 
-/// A Syntax fault names the first line that says nothing.
+/// Syntax is answered exactly where a text is not too long and has a line that says nothing, and it
+/// names the first such line. So it comes after the limits of length, and before those of the numbers.
 pub fn first_faults_are_named()
-    ensures { (text : List ℕ) (n : ℕ) →
-        plan_in text ≡ Err (ReplayFault.Syntax n) → IsFirstFault (lines_of text) n }
+    ensures only { (text : List ℕ) (n : ℕ) → plan_in text ≡ Err (ReplayFault.Syntax n) →
+        (is_past_limit text ≡ false) × IsFirstFault (lines_of text) n }
+    ensures all { (text : List ℕ) (n : ℕ) →
+        is_past_limit text ≡ false → IsFirstFault (lines_of text) n →
+        plan_in text ≡ Err (ReplayFault.Syntax n) }
+{}
+
+/// Limit is answered exactly where a text is too long, or where all its lines are those of a schedule
+/// and the number of seats or the budget is out of range.
+pub fn limits_are_answered()
+    ensures only { (text : List ℕ) → plan_in text ≡ Err ReplayFault.Limit →
+        (is_past_limit text ≡ true) ⊎ SpellsOutOfRange text }
+    ensures past { (text : List ℕ) →
+        is_past_limit text ≡ true → plan_in text ≡ Err ReplayFault.Limit }
+    ensures range { (text : List ℕ) → SpellsOutOfRange text → plan_in text ≡ Err ReplayFault.Limit }
 {}

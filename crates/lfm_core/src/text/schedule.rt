@@ -111,7 +111,7 @@ fn read_line(text: &[u8]) -> Option<Line>
 }
 
 /// The number of seats and the budget that the first line names. `None` where it is no such line.
-fn read_header(text: &[u8]) -> Option<(u64, u64)>
+fn read_header(text: &[u8]) -> Option<Limits>
     ensures { result ≡ header_of (words_of text.now) }
 {
     let (word, seats, budget) = match split_words(text) {
@@ -123,10 +123,11 @@ fn read_header(text: &[u8]) -> Option<(u64, u64)>
         return None;
     }
     let seats = read_number(seats)?;
-    match budget {
-        Some(budget) => Some((seats, read_number(budget)?)),
-        None => Some((seats, MAX_BUDGET)),
-    }
+    let budget = match budget {
+        Some(budget) => read_number(budget)?,
+        None => MAX_BUDGET,
+    };
+    Some(Limits { seats, budget })
 }
 
 /// What the lines of a text say, the first of which has number 2, or the fault of the first that
@@ -176,17 +177,17 @@ pub fn read_schedule(alloc: Global, text: &[u8]) -> Result<Schedule, ReplayFault
     let Some((first, rest)) = first_line(text) else {
         return Err(ReplayFault::Syntax(1));
     };
-    let Some((seats, budget)) = read_header(first) else {
+    let Some(limits) = read_header(first) else {
         return Err(ReplayFault::Syntax(1));
     };
     let lines = read_lines(alloc, rest, count - 1)?;
-    if (Limits { seats, budget }).are_allowed() {
-        Ok(Schedule {
-            seats,
-            budget,
-            lines,
-        })
-    } else {
-        Err(ReplayFault::Limit)
+    if !limits.are_allowed() {
+        return Err(ReplayFault::Limit);
     }
+    let Limits { seats, budget } = limits;
+    Ok(Schedule {
+        seats,
+        budget,
+        lines,
+    })
 }

@@ -1,5 +1,8 @@
-use Rattle.lfm_core.proofs.texts.Plans.{first_fault}
+use Rattle.lfm_core.proofs.texts.GrammarFaults.{first_fault_only, first_fault_all}
 use Rattle.lfm_core.proofs.text.grammar_laws.first_faults_are_named.Goals as goal
 
-pub returns : goal.returns
-returns c = first_fault
+pub returns-clause-only : goal.returns-clause-only
+returns-clause-only c = first_fault_only
+
+pub returns-clause-all : goal.returns-clause-all
+returns-clause-all c = first_fault_all

@@ -12,6 +12,6 @@ pub read_lines-requires-clause-counted : goal.read_lines-requires-clause-counted
 read_lines-requires-clause-counted c =
     omega (arith, c.in-Some.ensures.lines, (rest_counted c.args.text.now c.in-Some-first_line.first.now c.in-Some-first_line.rest.now c.in-Some-first_line.ensures.first).1)
 
-pub returns-then-are_allowed-clause-steps : goal.returns-then-are_allowed-clause-steps
-returns-then-are_allowed-clause-steps c =
+pub returns-clause-steps : goal.returns-clause-steps
+returns-clause-steps c =
     few_steps 2 (lines_of c.in-Some-first_line.rest.now) c.in_ok-lines.lines.items c.in_ok-lines.ensures.said

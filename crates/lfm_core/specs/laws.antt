@@ -14,3 +14,5 @@ pub mod Touched
 pub mod Steadiness
 pub mod Charges
 pub mod Depths
+pub mod Releases
+pub mod Endings

@@ -3,3 +3,8 @@ pub mod SeatSteps
 pub mod SeatBegins
 pub mod TakesCounted
 pub mod DepthsCounted
+pub mod CallSteps
+pub mod CallsEnded
+pub mod QueueSteps
+pub mod ReleasesTold
+pub mod WaitsTold

@@ -46,7 +46,7 @@ in_order g h pushes pops answers on most within =
     ∙ ap (λ l. l ++ queue_of_ghost h) on.popped
     ∙ append_assoc out pops (queue_of_ghost h))
 
-queue_goes : (c : Core) (g : Ghost) (events : List Event) → Fits c g → queue_of c ++ push_record c events ≡ popped_record c events ++ queue_of (run_of c events)
+pub queue_goes : (c : Core) (g : Ghost) (events : List Event) → Fits c g → queue_of c ++ push_record c events ≡ popped_record c events ++ queue_of (run_of c events)
 queue_goes c g events fits =
     let run = run_goes c g events fits in
     rw (queue_read c g fits, queue_read (run_of c events) run.to run.fits)

@@ -1,5 +1,6 @@
-//! What the crates above agree on: seat numbers, answers, places, refusals and faults, and the abstract mutex, which says
-//! what a mutex does without saying how. Plain data and its names: no word and no step of the protocol lives here.
+//! What all other crates share: seat numbers, answers, places, refusals and faults, and the abstract mutex, which says
+//! what a mutex does and not how. This crate holds data and names. No word and no atomic step of the protocol lives
+//! here.
 #![tactic(auto)]
 
 pub mod abstract_laws;

@@ -1,4 +1,4 @@
--- How each kind of atomic step moves a seat on, by what the step found.
+-- What a seat becomes by one atomic step: one function for each kind, of the seat and of what the step found.
 use Rattle.std.specs.Prelude.{ℕ, ◌+◌, ◌-◌, Bool, true, false, ◌&&◌, Option, Some, None, nat_eq, if◌then◌else◌}
 use Rattle.lfm_protocol.specs.declared.answers.Answer.{Answer}
 use Rattle.lfm_protocol.specs.declared.answers.Answer.TheVariants.{Sent, Waiting, Got}
@@ -126,7 +126,8 @@ drops_oldest x = drops_oldest_at x.point
 abbrev pub how_granted : ℕ → How
 how_granted stamp = if nat_eq stamp 0 then How.Free else Queued stamp
 
--- The kinds: the seat after the step that is named. Each has a form over the point, and at a point of another kind it is idle.
+-- The kinds: the seat after the step that is named. Each has a form over the point, and at a point of another kind it
+-- is idle.
 
 -- the count word was exchanged from 0 to 1, or another count was found
 abbrev pub after_count_exchange_at : SeatState → ℕ → Point → Stepped

@@ -1,4 +1,4 @@
--- How a seat begins a call: the checks in their order, the charge, and the first point.
+-- What a seat becomes by beginning a call: what is tested, in order, what is charged, and where the call starts.
 use Rattle.std.specs.Prelude.{ℕ, ◌+◌, ◌-◌, ◌&&◌, nat_eq, nat_lt, if◌then◌else◌}
 use Rattle.lfm_protocol.specs.declared.answers.Answer.{Answer}
 use Rattle.lfm_protocol.specs.declared.answers.Answer.TheVariants.{Unlocked}

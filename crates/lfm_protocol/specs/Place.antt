@@ -1,4 +1,4 @@
--- Where the responsibility lies, read from the words and the points.
+-- The place of the responsibility, as the words and the points of a state show it.
 use Rattle.std.specs.Prelude.{ℕ, Bool, true, false, ◌+◌, Option, Some, None, nat_eq, position, if◌then◌else◌}
 use Rattle.std.specs.List.{zip}
 use Rattle.lfm_protocol.specs.declared.points.Point.{Point}
@@ -9,7 +9,7 @@ use Rattle.lfm_words.specs.declared.wakes.Wake.{Wake}
 use Rattle.lfm_words.specs.declared.wakes.Wake.TheVariants.{Grant}
 use Rattle.lfm_protocol.specs.Core.{Core}
 
--- a call at this point has gained the responsibility and not given it away
+-- a call at this point carries the responsibility
 abbrev pub carries : Point → Bool
 carries TryCountAdd = true
 carries (SendWakeStore t) = true
@@ -22,7 +22,7 @@ carries (EnterOwnerStore entrant how) = true
 carries (ReceiveWakeStore stamp) = true
 carries _ = false
 
--- a call at this point has loaded the grant that its wake word holds
+-- a receive at this point has loaded the grant of its wake word
 abbrev pub has_loaded : Point → Bool
 has_loaded (ReceiveWakeStore stamp) = true
 has_loaded _ = false
@@ -40,7 +40,7 @@ abbrev pub passed_place : Core → Option ℕ → Place
 passed_place c (Some i) = Passed (i + 1)
 passed_place c None = carried_place (position (λ x. carries x.point) c.seats)
 
--- the first case that holds: an owner, a posted handoff, a grant not yet loaded, a call that carries
+-- tested in this order: the owner word, the handoff word, grants that are not loaded, calls that carry
 abbrev pub place_of : Core → Place
 place_of c =
     if nat_eq c.owner 0

@@ -36,6 +36,6 @@ abbrev pub unwalked : List SeatState → ℕ
 unwalked [] = 0
 unwalked (x ∷ seats) = if nat_eq (unwalked_at x.point) 0 then unwalked seats else unwalked_at x.point
 
--- the part of a cleared list that a carrier has still to walk, then the pop list, then the push list
+-- three parts, the older first: records whose links a carrier has not loaded yet, popped records, pushed records
 abbrev pub queue_of : Core → List Record
 queue_of c = reverse (chain c.links (unwalked c.seats)) ++ (c.popped ++ reverse (chain c.links c.push.next))

@@ -1,6 +1,6 @@
-//! How each kind of atomic step moves a seat on, by what the step found in its word. There is one method for each kind, for
-//! stepped and running mutexes alike; the word itself is the caller's. At a point of another kind each method refuses as Idle
-//! and leaves the seat as it is.
+//! How each kind of atomic step moves a seat on, by what the step found in its word. There is one method for each kind,
+//! for stepped and running mutexes alike; the word itself is the caller's. At a point of another kind each method
+//! refuses as Idle and leaves the seat as it is.
 ghost use Rattle.std.specs.Prelude.{◌≡◌, ◌+◌, ◌^◌, ◌<◌};
 ghost use Rattle.lfm_protocol.specs.After.{
   after_count_exchange,

@@ -1,9 +1,10 @@
-//! The kinds of atomic step, and the word that each touches. The splitting and joining of seats of a running mutex are not
-//! among them, since no call makes them.
+//! Atomic operations by kind, each with the word that it touches. A running mutex also splits its seats off and joins them
+//! again. No call of a seat does that, so it has no kind here.
 ghost use Rattle.std.specs.Prelude.{◌≡◌};
 ghost use Rattle.lfm_protocol.specs.Points.{word};
 
-/// The kinds of atomic step of the calls. An exchange is a compare-and-exchange, and fails only where the word differs.
+/// What an atomic step does to its word. An exchange compares first: it writes where the word holds what is expected, and
+/// returns what it found in either case.
 #[derive(Clone, Copy, Debug, PartialEq, Eq)]
 pub enum Kind {
     // Of the count word.

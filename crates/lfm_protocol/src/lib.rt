@@ -1,5 +1,6 @@
-//! The protocol: the calls, their points, how each step moves a seat on, and the words of a mutex with its seats as a
-//! machine that is stepped by hand. Nothing here says which states are reached: that is the steady state's part.
+//! The protocol: the calls, their points, how each step moves a seat on, and a machine of words and seats that begins
+//! one call or makes one atomic step at a time. Contracts here repeat the definitions of a step. Which states can be
+//! reached, and what holds in them, belongs to the crates above.
 #![tactic(auto)]
 
 mod after;
@@ -14,6 +15,6 @@ pub mod seats;
 mod stores;
 
 pub use answers::{Answer, Call, Turn, Why};
-pub use limits::{Limits, MAX_BUDGET, MAX_SEATS};
+pub use limits::{Limits, MAX_BUDGET, MAX_DEPTH, MAX_SEATS};
 pub use machine::Machine;
 pub use seats::SeatState;

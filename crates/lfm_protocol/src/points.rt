@@ -1,6 +1,6 @@
-//! Where the call of a seat stands: the atomic step that it makes next, with what the call has read so far. Here is also
-//! what a point tells by itself: its kind, the seat whose word it touches, and whether its call carries the responsibility.
-//! How a step moves the seat on is in `after`.
+//! Where a call stands between two atomic steps. A point names the step to come and keeps what earlier steps have read.
+//! Here is also what follows from a point alone: its kind, the seat whose word it touches, and whether the call carries
+//! the responsibility. How a step moves the seat on is in `after`.
 ghost use Rattle.std.specs.Prelude.{◌≡◌};
 ghost use Rattle.lfm_protocol.specs.Place.{carries};
 ghost use Rattle.lfm_protocol.specs.Points.{kind, target, pushed_seat};
@@ -60,7 +60,8 @@ pub enum Sleeper {
     Waiter,
 }
 
-/// The atomic step that a seat makes next, with what its call has read. The number is that of the step within its call.
+/// Where a seat stands: the atomic step to come. The payload is what the call has to remember. A number behind the name
+/// of a call counts the steps of that call.
 #[derive(Clone, Copy, Debug, PartialEq, Eq)]
 pub enum Point {
     // Between calls: no step.
@@ -82,7 +83,7 @@ pub enum Point {
     TryCountExchange,
     /// `try_lock` 2: load the owner word, to learn whether this seat holds already.
     TryOwnerLoad,
-    /// `try_lock` 4: load the handoff word, as a last chance before Busy.
+    /// `try_lock` 4: load the handoff word, to accept a post in place of Busy.
     TryHandoffLoad,
     /// `try_lock` 5: exchange the handoff word from the number that was loaded to 0.
     TryHandoffExchange(Handoff),
@@ -123,7 +124,7 @@ pub enum Point {
     ReleasePushLook(Releaser),
     /// `unlock` 5: exchange the handoff word from the seat's own number to 0, which takes the post back.
     ReleaseHandoffExchange(Releaser),
-    /// The last step of `start_wait`: store WAITING in the seat's own wake word. The payload says how it released.
+    /// `start_wait` at its end: store WAITING in the seat's own wake word. The payload says how it released.
     WaitWakeStore(Unlocked),
 
     // The take of the oldest record and what follows it, by whichever call carries the responsibility.
@@ -192,7 +193,8 @@ impl Point {
         }
     }
 
-    /// Whether a call at this point has gained the responsibility and not given it away.
+    /// Whether a call at this point carries the responsibility: an earlier step has gained it, and a later one gives it
+    /// away.
     pub fn carries(self) -> bool
         ensures { result ≡ carries self }
     {

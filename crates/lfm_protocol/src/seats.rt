@@ -1,5 +1,5 @@
-//! The plain data of a seat, and how a call begins: the checks in their order, the charge of a take, and the first
-//! point. Every mutex, stepped or running, begins its calls by `begin` of this file. What a step does is in `after`.
+//! The data that a seat keeps beside the words, and how it begins a call: what is checked, what is charged, and where it
+//! starts. Every mutex, stepped or running, begins its calls by `begin` of this file. What a step does is in `after`.
 ghost use Rattle.std.specs.Prelude.{◌≡◌};
 ghost use Rattle.lfm_protocol.specs.Begin.{
   goes_on,
@@ -123,7 +123,8 @@ impl SeatState {
         self.charge(budget, Point::ReleaseOwnerStore(Releaser::Waiter))
     }
 
-    /// Begins a `send_lock` for seat t, of this many seats. Refused as NoSuchSeat where t is none of them. It charges nothing.
+    /// Begins a `send_lock` for seat t, of this many seats. Refused as NoSuchSeat where t is none of them. It charges
+    /// nothing.
     pub(crate) fn begin_send(&mut self, seats: u64, t: u64) -> Turn
         ensures seat { self.new ≡ (begin_send self.old seats t).seat }
         ensures turn { result ≡ (begin_send self.old seats t).turn }
@@ -150,9 +151,10 @@ impl SeatState {
         }
     }
 
-    /// Begins a call: the checks in the order of the refusals, the charge of a take, and the first point. Refused as InCall
-    /// where a call of the seat is open, and as Asleep where the seat sleeps and the call is no receive. A refused call
-    /// leaves the seat as it is.
+    /// Begins a call, by the seat's data alone: where nothing forbids it, it charges what the call costs and sets its
+    /// first point. Refused as InCall where an earlier call is still open; then as Asleep where the seat sleeps and the
+    /// call is no receive; then by the call's own causes, in the order of `Refusal`. A refused call leaves the seat as
+    /// it is.
     pub fn begin(&mut self, limits: Limits, call: Call) -> Turn
         ensures seat { self.new ≡ (begin self.old limits call).seat }
         ensures turn { result ≡ (begin self.old limits call).turn }

@@ -1,12 +1,14 @@
--- The pop list: its records, oldest first, and how many it has room for.
+-- The pop list as a list of records.
 use Rattle.std.specs.Prelude.{ℕ, List, [], ◌∷◌, Option, Some, None}
 use Rattle.lfm_words.specs.declared.pop_lists.Record.{Record}
 
+-- records: the popped records, oldest first
+-- room: how many records fit
 pub record Popped : Type 0 where
   pub records : List Record
   pub room : ℕ
 
--- the oldest record
+-- the oldest record, if there is one
 abbrev pub oldest : List Record → Option Record
 oldest [] = None
 oldest (r ∷ rest) = Some r

@@ -1,5 +1,5 @@
-//! What the words of a mutex hold and how it is packed into 64 bits, and the list of popped wait records.
-//! No step and no rule of the protocol lives here.
+//! The values that the words of a mutex hold, their packing into 64 bits, and the list of popped wait records. No step
+//! and no rule of the protocol lives here.
 #![tactic(auto)]
 
 pub mod handoffs;

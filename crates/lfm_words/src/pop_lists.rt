@@ -1,4 +1,4 @@
-//! The wait records that a carrier of the responsibility has taken over from the push list.
+//! Wait records, and the pop list: the records that were collected from a cleared push list and are not served yet.
 ghost use Rattle.std.specs.Prelude.{◌≡◌, [], ◌∷◌, ◌<◌, drop, length, reverse, slice_get, IfOk, IsTrue, ◌↔◌};
 ghost use Rattle.std.specs.Option.{option_map};
 ghost use Rattle.lfm_words.specs.Popped.{oldest, pair_of};
@@ -7,17 +7,20 @@ use lfm_model::SeatNo;
 use std::alloc::{AllocError, Global};
 use std::marker::Model;
 
-/// The wait record of a queued seat: the seat, and the stamp of its push.
+/// The wait record of a queued seat.
 #[derive(Clone, Copy, Debug, PartialEq, Eq)]
 pub struct Record {
+    /// The seat that waits.
     pub seat: SeatNo,
+    /// The stamp of the push that queued it: 1 for the first push of a mutex, and one more for each further push.
     pub stamp: u64,
 }
 
-/// The popped records, with room for one record of each seat. A contract sees them oldest first, beside the room.
+/// The popped records in their order, with memory for one record of each seat. A contract sees the records, oldest first,
+/// and `room`, how many of them fit.
 #[derive(Drop)]
 pub struct PopList {
-    // The oldest is the last, so that it is taken and older ones are added at the end.
+    // The oldest comes last, so that records are added and taken at the end.
     records: Vec<Record>,
     room: usize,
 }
@@ -35,7 +38,8 @@ impl Model for PopList {
 }
 
 impl PopList {
-    /// An empty list with room for this many records. It makes one request for memory, of just that size.
+    /// An empty list with memory for this many records, which it allocates here and nowhere later. Answers AllocError where
+    /// the allocator refuses it.
     pub fn new(alloc: Global, seats: u64) -> Result<PopList, AllocError>
         ensures { IfOk result (λ p. p ≡ record { records = []; room = seats }) }
     {
@@ -45,21 +49,21 @@ impl PopList {
         })
     }
 
-    /// How many records there are.
+    /// How many records the list holds.
     pub fn len(&self) -> u64
         ensures { result ≡ length self.now.records }
     {
         self.records.len() as u64
     }
 
-    /// Whether there is no record.
+    /// Whether the list holds no record.
     pub fn is_empty(&self) -> bool
         ensures { IsTrue result ↔ (length self.now.records ≡ 0) }
     {
         self.records.is_empty()
     }
 
-    /// The seat and stamp of the record that i others are older than: 0 is the oldest. None past the newest.
+    /// The seat and the stamp of record number i, 0 being the oldest. None past the newest.
     pub fn get(&self, i: u64) -> Option<(SeatNo, u64)>
         ensures { result ≡ option_map pair_of (slice_get self.now.records i) }
     {
@@ -71,21 +75,22 @@ impl PopList {
         }
     }
 
-    /// The oldest record.
+    /// The oldest record. None where the list is empty.
     pub fn oldest(&self) -> Option<Record>
         ensures { result ≡ oldest self.now.records }
     {
         self.records.last().copied()
     }
 
-    /// The records, oldest last.
+    /// All records, from the newest to the oldest.
     pub fn newest_first(&self) -> &[Record]
         ensures { reverse result.now ≡ self.now.records }
     {
         &self.records
     }
 
-    /// Adds the record of a seat that is older than all that are there, into the room that is reserved.
+    /// Adds the record of this seat and stamp as the oldest. The list holds fewer records than it has room for, so
+    /// nothing is allocated.
     pub fn add_older(&mut self, seat: SeatNo, stamp: u64)
         requires { length self.old.records < self.old.room }
         ensures records { self.new.records ≡ record { seat = seat; stamp = stamp } ∷ self.old.records }
@@ -94,7 +99,7 @@ impl PopList {
         self.records.push_reserved(Record { seat, stamp });
     }
 
-    /// Takes the oldest record away: its seat and stamp.
+    /// Removes the oldest record and returns its seat and stamp. None where the list is empty.
     pub fn take_oldest(&mut self) -> Option<(SeatNo, u64)>
         ensures taken { result ≡ option_map pair_of (oldest self.old.records) }
         ensures records { self.new.records ≡ drop 1 self.old.records }

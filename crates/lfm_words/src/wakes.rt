@@ -1,22 +1,23 @@
-//! The state of a sleeper: what the wake word of a seat holds.
+//! Wake states: what the wake word of a seat holds, and how it is packed.
 ghost use Rattle.std.specs.Prelude.{◌≡◌, IsTrue};
 ghost use Rattle.lfm_words.specs.Words.{wake_word, is_wake_word, IsSmallWake};
 
-/// The state of a sleeper.
+/// What the wake word says of its seat.
 #[derive(Clone, Copy, Debug, PartialEq, Eq)]
 pub enum Wake {
-    /// Nothing is under way.
+    /// No wait was begun and no grant was stored. A locker that sleeps in the queue is Quiet too.
     Quiet,
-    /// The seat sleeps after `start_wait` and waits to be sent.
+    /// A `start_wait` put the seat to sleep, and no send has claimed it.
     Waiting,
-    /// A sender has claimed the seat and is about to make it a locker.
+    /// One send has claimed the seat; no other can.
     Claimed,
-    /// The seat is granted the mutex: by its queued record with this stamp (below 2^48), or by 0 without one.
+    /// The mutex is the seat's to receive. The number is the stamp of its queued record, below 2^48, or 0 where it had
+    /// none.
     Grant(u64),
 }
 
 impl Wake {
-    /// The word that holds this state. A grant's stamp is below 2^48.
+    /// The word that holds this state: 0, 1, 2, or 3 + 4 × stamp for a grant, whose stamp is below 2^48.
     pub fn to_word(self) -> u64
         requires { IsSmallWake self }
         ensures { result ≡ wake_word self }
@@ -29,14 +30,14 @@ impl Wake {
         }
     }
 
-    /// Whether a word is one that a state packs to: 0, 1, 2, or 3 more than a multiple of 4.
+    /// Whether a word holds a state: 0, 1, 2, or any number that leaves 3 when divided by 4.
     pub fn is_word(word: u64) -> bool
         ensures { result ≡ is_wake_word word }
     {
         word < 3 || word % 4 == 3
     }
 
-    /// The state that a word of the wake coding holds.
+    /// The state that a word holds. The word is one for which `is_word` returns true.
     pub fn from_word(word: u64) -> Wake
         requires { IsTrue (is_wake_word word) }
         ensures { wake_word result ≡ word }

@@ -99,9 +99,9 @@ fn is_passed(wake: Wake, point: Point) -> bool
 
 /// Where the responsibility lies.
 impl Machine {
-    /// Where the responsibility to own the mutex or to pass it on lies. The first that is found is returned: an owner, a
-    /// posted handoff, a seat whose grant is not loaded yet, a call that carries it, and else Free. It reads each seat at
-    /// most twice.
+    /// Where the responsibility lies. Owner where the owner word names a seat, else Posted where a handoff stands. Else
+    /// Passed for the first seat with a grant that it has not loaded. Else Carried for the first seat whose call
+    /// carries it, and Free where there is none. It reads each seat at most twice.
     pub fn place(&self) -> Place
         ensures { result ≡ place_of self.now }
     {

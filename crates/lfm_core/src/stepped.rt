@@ -3,7 +3,7 @@
 ghost use Rattle.std.specs.Prelude.{◌≡◌, ◌≤◌, true, false, length, reverse, slice_get, vec_capacity, IfOk, IfErr};
 ghost use Rattle.std.specs.Option.{option_map};
 ghost use Rattle.lfm_core.specs.laws.Lawful.{Lawful};
-ghost use Rattle.lfm_protocol.specs.Limits.{are_in_limits};
+ghost use Rattle.lfm_protocol.specs.Limits.{are_in_limits, max_seats};
 ghost use Rattle.lfm_protocol.specs.Turns.{longest_call};
 ghost use Rattle.lfm_protocol.specs.Place.{place_of};
 ghost use Rattle.lfm_protocol.specs.Queue.{queue_of};
@@ -98,7 +98,15 @@ impl State {
 
 /// What a state tells of itself. No reader changes anything or takes memory.
 impl State {
-    /// A seat has this number.
+    /// The number of seats, at most 4,095. Seats are numbered from 1.
+    pub fn seats(&self) -> u64
+        ensures number { result ≡ length self.now.seats }
+        ensures few { result ≤ max_seats }
+    {
+        self.machine.seats()
+    }
+
+    /// Whether a seat has this number.
     pub fn is_seat(&self, s: u64) -> bool
         ensures { result ≡ is_seat self.now.seats s }
     {

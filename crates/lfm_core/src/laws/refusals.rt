@@ -1,4 +1,4 @@
-//! When a call or step is refused: exactly for its cause, and without a trace.
+//! Refusals: a call or step is refused exactly where there is the cause, and a call that is refused changes nothing.
 ghost use Rattle.lfm_core.specs.laws.Refusals.{RefusedBeginsChangeNothing, BeginsAreRefusedForCause, StepsAreRefusedForCause, TurnsAreRefusedForCause, TriesSeeAHolder};
 
 /// A call that is refused as it begins leaves everything as it was.

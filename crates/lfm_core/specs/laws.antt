@@ -16,3 +16,4 @@ pub mod Charges
 pub mod Depths
 pub mod Releases
 pub mod Endings
+pub mod Entries

@@ -21,7 +21,12 @@ pub use bounds::{
     calls_end_alone, pushes_alone_fail_once, start_waits_are_bounded, tries_alone_hold,
     unlocks_are_bounded,
 };
-pub use calls::{depth_counts_holds, takes_change_by_charges, takes_count_charges};
+pub use calls::{
+    calls_end_in_their_kind, depth_counts_holds, holders_took_their_record,
+    receivers_loaded_their_grant, recursive_calls_load_the_owner, releases_answer_what_they_did,
+    served_records_are_told, takes_change_by_charges, takes_count_charges,
+    waits_answer_their_release,
+};
 pub use handoffs::{
     calls_post_once, failed_pushes_see_change, handoffs_are_watched, quiescent_states_rest,
     sleepers_are_reachable, takes_find_a_record, won_posts_have_a_record,

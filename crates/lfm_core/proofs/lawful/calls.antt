@@ -8,3 +8,6 @@ pub mod CallsEnded
 pub mod QueueSteps
 pub mod ReleasesTold
 pub mod WaitsTold
+pub mod HeldTold
+pub mod RecursiveCalls
+pub mod ReceivesTold

@@ -3,6 +3,7 @@
 use Rattle.std.proofs.Common.{◌≡◌, ℕ, Bool, true, false, ◌+◌, nat_eq, refl, sym, if◌then◌else◌}
 use Rattle.std.proofs.lemmas.Bool.{false≢true}
 use Rattle.std.specs.Prelude.{Option, Some, None}
+use Rattle.lfm_model.specs.declared.answers.Asked.{Asked}
 use Rattle.lfm_model.specs.declared.answers.How.{How}
 use Rattle.lfm_model.specs.declared.answers.Locked.{Locked}
 use Rattle.lfm_model.specs.declared.answers.Unlocked.{Unlocked}
@@ -35,21 +36,21 @@ use Rattle.lfm_core.proofs.lawful.bounds.Leaving.{stepped}
 
 -- The call of a point; a send stands for those to every target
 
-abbrev call_of_pusher : Pusher → Call
+abbrev pub call_of_pusher : Pusher → Call
 call_of_pusher Pusher.Locker = Lock
 call_of_pusher (Pusher.Sender t) = SendLock 0
 
-abbrev call_of_releaser : Releaser → Call
+abbrev pub call_of_releaser : Releaser → Call
 call_of_releaser Unlocker = Unlock
 call_of_releaser Waiter = StartWait
 
-abbrev call_of_carrier : Carrier → Call
+abbrev pub call_of_carrier : Carrier → Call
 call_of_carrier Carrier.Locker = Lock
 call_of_carrier (Carrier.Releaser releaser) = call_of_releaser releaser
 call_of_carrier (Carrier.Reclaimer releaser) = call_of_releaser releaser
 call_of_carrier Carrier.Sender = SendLock 0
 
-abbrev call_of_entrant : Entrant → Call
+abbrev pub call_of_entrant : Entrant → Call
 call_of_entrant Entrant.Locker = Lock
 call_of_entrant Entrant.Trier = TryLock
 call_of_entrant Entrant.Receiver = Receive
@@ -95,19 +96,27 @@ StaysOrEnds call Open p = call_at p ≡ call
 StaysOrEnds call (Ended answer) p = IsAnswerOf call answer × (is_call p ≡ false)
 StaysOrEnds call (Refused why) p = is_call p ≡ false
 
--- the release that a turn answers for a start_wait, and the one that its last point keeps
-abbrev pub wait_told : Turn → Option Unlocked
-wait_told (Ended (Answer.Waiting answer)) = Some answer
-wait_told _ = None
+-- the answers that a point keeps for the last step of its call: that of a start_wait, and that of a call that comes to hold
+abbrev pub kept_answer : Answer → Option Answer
+kept_answer (Answer.Waiting answer) = Some (Answer.Waiting answer)
+kept_answer (Answer.Asked (Asked.Held how)) = Some (Answer.Asked (Asked.Held how))
+kept_answer (Answer.Locked (Locked.Held how)) = Some (Answer.Locked (Locked.Held how))
+kept_answer (Answer.Got (Some how)) = Some (Answer.Got (Some how))
+kept_answer _ = None
 
-abbrev pub wait_at : Point → Option Unlocked
-wait_at (WaitWakeStore answer) = Some answer
-wait_at _ = None
+abbrev pub kept_told : Turn → Option Answer
+kept_told (Ended answer) = kept_answer answer
+kept_told _ = None
 
--- the step stays in this call or ends it, answers Waiting as its point says, and ends no release unless it may
-pub record Follows (call : Call) (wait : Option Unlocked) (may_end : Bool) (m : Stepped) : Type 0 where
+abbrev pub kept_at : Point → Option Answer
+kept_at (WaitWakeStore answer) = Some (Answer.Waiting answer)
+kept_at (EnterOwnerStore entrant how) = Some (held entrant how)
+kept_at _ = None
+
+-- the step stays in this call or ends it, answers what its point keeps, and ends no release unless it may
+pub record Follows (call : Call) (keeps : Option Answer) (may_end : Bool) (m : Stepped) : Type 0 where
   pub follows : StaysOrEnds call m.turn m.seat.point
-  pub waits : wait_told m.turn ≡ wait
+  pub told : kept_told m.turn ≡ keeps
   pub silent : may_end ≡ false → release_ended m.turn m.seat.point ≡ None
 
 follows_if : (call : Call) (may_end b : Bool) (m n : Stepped) → Follows call None may_end m → Follows call None may_end n → Follows call None may_end (if b then m else n)
@@ -124,7 +133,7 @@ next_if call true p q first second = first
 next_if call false p q first second = second
 
 goes : (x : SeatState) (call : Call) (may_end : Bool) (p : Point) → IsNext call p → Follows call None may_end (goes_on x p)
-goes x call may_end p next = record { follows = next.here; silent = λ e. next.silent; waits = refl }
+goes x call may_end p next = record { follows = next.here; silent = λ e. next.silent; told = refl }
 
 either : (x : SeatState) (call : Call) (may_end b : Bool) (p q : Point) → IsNext call p → IsNext call q → Follows call None may_end (goes_on x (if b then p else q))
 either x call may_end b p q first second = goes x call may_end _ (next_if call b p q first second)
@@ -162,41 +171,41 @@ next_cleared Carrier.Sender head = record { here = refl; silent = refl }
 -- Calls that end
 
 sent : (x : SeatState) (may_end : Bool) → Follows (SendLock 0) None may_end (ends x Answer.Sent)
-sent x may_end = record { follows = (tt, refl); silent = λ e. refl; waits = refl }
+sent x may_end = record { follows = (tt, refl); silent = λ e. refl; told = refl }
 
 pushes : (x : SeatState) (pusher : Pusher) → Follows (call_of_pusher pusher) None false (pushed x pusher)
-pushes x Pusher.Locker = record { follows = (tt, refl); silent = λ e. refl; waits = refl }
+pushes x Pusher.Locker = record { follows = (tt, refl); silent = λ e. refl; told = refl }
 pushes x (Pusher.Sender t) = sent x false
 
 released : (x : SeatState) (releaser : Releaser) (answer : Unlocked) → Follows (call_of_releaser releaser) None true (releases x releaser answer)
-released x Unlocker answer = record { follows = (tt, refl); silent = λ e. absurd (false≢true (sym e)); waits = refl }
-released x Waiter answer = record { follows = refl; silent = λ e. absurd (false≢true (sym e)); waits = refl }
+released x Unlocker answer = record { follows = (tt, refl); silent = λ e. absurd (false≢true (sym e)); told = refl }
+released x Waiter answer = record { follows = refl; silent = λ e. absurd (false≢true (sym e)); told = refl }
 
 grants : (x : SeatState) (carrier : Carrier) (r : Record) → Follows (call_of_carrier carrier) None true (granted x carrier r)
-grants x Carrier.Locker r = record { follows = (tt, refl); silent = λ e. refl; waits = refl }
+grants x Carrier.Locker r = record { follows = (tt, refl); silent = λ e. refl; told = refl }
 grants x (Carrier.Releaser releaser) r = released x releaser (Unlocked.Granted r.seat)
 grants x (Carrier.Reclaimer releaser) r = released x releaser (Unlocked.Granted r.seat)
 grants x Carrier.Sender r = sent x true
 
 enters : (x : SeatState) (entrant : Entrant) (how : How)
-    → Follows (call_of_entrant entrant) None false (record { seat = record x { point = Rest; depth = 1 }; turn = Ended (held entrant how) })
-enters x Entrant.Locker how = record { follows = (tt, refl); silent = λ e. refl; waits = refl }
-enters x Entrant.Trier how = record { follows = (tt, refl); silent = λ e. refl; waits = refl }
-enters x Entrant.Receiver how = record { follows = (tt, refl); silent = λ e. refl; waits = refl }
+    → Follows (call_of_entrant entrant) (Some (held entrant how)) false (record { seat = record x { point = Rest; depth = 1 }; turn = Ended (held entrant how) })
+enters x Entrant.Locker how = record { follows = (tt, refl); silent = λ e. refl; told = refl }
+enters x Entrant.Trier how = record { follows = (tt, refl); silent = λ e. refl; told = refl }
+enters x Entrant.Receiver how = record { follows = (tt, refl); silent = λ e. refl; told = refl }
 
 loads : (x : SeatState) (sleeper : Sleeper) (w : Wake) → Follows Receive None false (receives x sleeper w)
-loads x sleeper (Wake.Grant stamp) = record { follows = refl; silent = λ e. refl; waits = refl }
-loads x sleeper _ = record { follows = (tt, refl); silent = λ e. refl; waits = refl }
+loads x sleeper (Wake.Grant stamp) = record { follows = refl; silent = λ e. refl; told = refl }
+loads x sleeper _ = record { follows = (tt, refl); silent = λ e. refl; told = refl }
 
 refunds : (x : SeatState) → Follows TryLock None false (busy x)
-refunds x = record { follows = refl; silent = λ e. refl; waits = refl }
+refunds x = record { follows = refl; silent = λ e. refl; told = refl }
 
 claims_target : (x : SeatState) (t : ℕ) (w : Wake) → Follows (SendLock 0) None false (claims x t w)
-claims_target x t Wake.Waiting = record { follows = refl; silent = λ e. refl; waits = refl }
-claims_target x t _ = record { follows = refl; silent = λ e. refl; waits = refl }
+claims_target x t Wake.Waiting = record { follows = refl; silent = λ e. refl; told = refl }
+claims_target x t _ = record { follows = refl; silent = λ e. refl; told = refl }
 
 again : (x : SeatState) → Follows TryLock None false (record { seat = deepens x; turn = Ended (Answer.Locked (Locked.Again (x.depth + 1))) })
-again x = record { follows = (tt, refl); silent = λ e. refl; waits = refl }
+again x = record { follows = (tt, refl); silent = λ e. refl; told = refl }
 
 -- The walk
 
@@ -211,14 +220,14 @@ may_end_at _ = false
 here : (call : Call) (p : Point) → call_at p ≡ call → release_ended Open p ≡ None → IsNext call p
 here call p same silent = record { here = same; silent = silent }
 
-pub step_follows : (c : Core) (s : ℕ) (p : Point) → (seat c.seats s).point ≡ p → is_call p ≡ true → Follows (call_at p) (wait_at p) (may_end_at p) (stepped c s)
+pub step_follows : (c : Core) (s : ℕ) (p : Point) → (seat c.seats s).point ≡ p → is_call p ≡ true → Follows (call_at p) (kept_at p) (may_end_at p) (stepped c s)
 step_follows c s Rest at inside = absurd (false≢true inside)
 step_follows c s (Asleep sleeper) at inside = absurd (false≢true inside)
 step_follows c s LockCountAdd at inside =
     rw (at, at) (either (seat c.seats s) Lock false (nat_eq c.count 0) (EnterOwnerStore Entrant.Locker How.Free) LockOwnerLoad (here Lock _ refl refl) (here Lock _ refl refl))
 step_follows c s LockOwnerLoad at inside =
     rw (at, at) (either (seat c.seats s) Lock false (nat_eq c.owner s) LockCountSubtract (PushLoad Pusher.Locker) (here Lock _ refl refl) (here Lock _ refl refl))
-step_follows c s LockCountSubtract at inside = rw (at, at) (record { follows = (tt, refl); silent = λ e. refl; waits = refl })
+step_follows c s LockCountSubtract at inside = rw (at, at) (record { follows = (tt, refl); silent = λ e. refl; told = refl })
 step_follows c s TryCountExchange at inside =
     rw (at, at) (either (seat c.seats s) TryLock false (nat_eq c.count 0) (EnterOwnerStore Entrant.Trier How.Free) TryOwnerLoad (here TryLock _ refl refl) (here TryLock _ refl refl))
 step_follows c s TryOwnerLoad at inside =
@@ -251,12 +260,12 @@ step_follows c s (PushedHandoffExchange pusher seen) at inside =
     let next : Point = take (carrier_of pusher) s (oldest c.popped) in
     rw (at, at) (follows_if (call_of_pusher pusher) false (same_handoff c.handoff seen) (goes_on (seat c.seats s) next) (pushed (seat c.seats s) pusher)
     (goes (seat c.seats s) (call_of_pusher pusher) false next (next_takes pusher s (oldest c.popped))) (pushes (seat c.seats s) pusher))
-step_follows c s (ReleaseOwnerStore releaser) at inside = rw (at, at) (record { follows = refl; silent = λ e. refl; waits = refl })
+step_follows c s (ReleaseOwnerStore releaser) at inside = rw (at, at) (record { follows = refl; silent = λ e. refl; told = refl })
 step_follows c s (ReleaseCountSubtract releaser) at inside =
     let next : Point = take (Carrier.Releaser releaser) s (oldest c.popped) in
     rw (at, at) (follows_if (call_of_releaser releaser) true (nat_eq c.count 1) (releases (seat c.seats s) releaser Unlocked.Free) (goes_on (seat c.seats s) next)
     (released (seat c.seats s) releaser Unlocked.Free) (goes (seat c.seats s) (call_of_releaser releaser) true next (next_take (Carrier.Releaser releaser) s (oldest c.popped))))
-step_follows c s (ReleaseHandoffStore releaser) at inside = rw (at, at) (record { follows = refl; silent = λ e. refl; waits = refl })
+step_follows c s (ReleaseHandoffStore releaser) at inside = rw (at, at) (record { follows = refl; silent = λ e. refl; told = refl })
 step_follows c s (ReleasePushLook releaser) at inside =
     rw (at, at) (follows_if (call_of_releaser releaser) true (nat_eq c.push.next 0) (releases (seat c.seats s) releaser Unlocked.Posted) (goes_on (seat c.seats s) (ReleaseHandoffExchange releaser))
     (released (seat c.seats s) releaser Unlocked.Posted) (goes (seat c.seats s) (call_of_releaser releaser) true (ReleaseHandoffExchange releaser) (here _ _ refl refl)))
@@ -265,7 +274,7 @@ step_follows c s (ReleaseHandoffExchange releaser) at inside =
     rw (at, at) (follows_if (call_of_releaser releaser) true (same_handoff c.handoff (record { seat = s; post = (seat c.seats s).posts })) (goes_on (seat c.seats s) next)
     (releases (seat c.seats s) releaser Unlocked.TakenOver) (goes (seat c.seats s) (call_of_releaser releaser) true next (next_take (Carrier.Reclaimer releaser) s (oldest c.popped)))
     (released (seat c.seats s) releaser Unlocked.TakenOver))
-step_follows c s (WaitWakeStore answer) at inside = rw (at, at) (record { follows = (tt, refl); silent = λ e. refl; waits = refl })
+step_follows c s (WaitWakeStore answer) at inside = rw (at, at) (record { follows = (tt, refl); silent = λ e. refl; told = refl })
 step_follows c s (TakeClearHead carrier) at inside =
     rw (at, at) (goes (seat c.seats s) (call_of_carrier carrier) false (cleared carrier c.push.next) (next_cleared carrier c.push.next))
 step_follows c s (TakeLinkLoad carrier next) at inside =

@@ -79,7 +79,7 @@ step_ends c s answer inside turn =
 -- Calls that begin
 
 -- sends to every target are one call
-abbrev kind_of : Call → Call
+abbrev pub kind_of : Call → Call
 kind_of (SendLock t) = SendLock 0
 kind_of call = call
 
@@ -88,7 +88,7 @@ answer_of (SendLock t) Answer.Sent is = tt
 answer_of (SendLock t) _ is = absurd is
 answer_of call answer is = is
 
-abbrev BeginsOrEnds : Call → Turn → Point → Type 0
+abbrev pub BeginsOrEnds : Call → Turn → Point → Type 0
 BeginsOrEnds call Open p = call_at p ≡ kind_of call
 BeginsOrEnds call (Ended answer) p = IsAnswerOf call answer
 BeginsOrEnds call (Refused why) p = ⊤

@@ -12,8 +12,9 @@ use Rattle.lfm_protocol.specs.declared.answers.Turn.TheVariants.{Open, Ended, Re
 use Rattle.lfm_protocol.specs.declared.answers.Why.{Why}
 use Rattle.lfm_protocol.specs.declared.answers.Why.TheVariants.{By}
 use Rattle.lfm_protocol.specs.declared.limits.Limits.{Limits}
+use Rattle.lfm_protocol.specs.declared.points.Entrant.{Entrant}
 use Rattle.lfm_protocol.specs.declared.points.Point.{Point}
-use Rattle.lfm_protocol.specs.declared.points.Point.TheVariants.{Rest, Asleep, ReleaseOwnerStore, WaitWakeStore}
+use Rattle.lfm_protocol.specs.declared.points.Point.TheVariants.{Rest, Asleep, ReleaseOwnerStore, WaitWakeStore, EnterOwnerStore}
 use Rattle.lfm_protocol.specs.declared.points.Releaser.TheVariants.{Waiter}
 use Rattle.lfm_protocol.specs.declared.points.Sleeper.{Sleeper}
 use Rattle.lfm_protocol.specs.declared.seats.SeatState.{SeatState}
@@ -25,7 +26,7 @@ use Rattle.lfm_core.specs.laws.Releases.{Released, release_of_step, StaysInCall,
 use Rattle.lfm_core.specs.laws.Schedules.{Event, begins, makes, happens, run_of, is_call}
 use Rattle.lfm_core.specs.steady.Steady.{Steady}
 use Rattle.lfm_core.proofs.lawful.bounds.Leaving.{stepped, own_made, other_made, seat_of_call, begin_leaves}
-use Rattle.lfm_core.proofs.lawful.calls.CallSteps.{StaysOrEnds, wait_told, wait_at, step_follows}
+use Rattle.lfm_core.proofs.lawful.calls.CallSteps.{StaysOrEnds, kept_told, kept_at, step_follows}
 use Rattle.lfm_core.proofs.lawful.calls.CallsEnded.{first_inside, run_stays}
 use Rattle.lfm_core.proofs.lawful.calls.ReleasesTold.{releases_answer_what_they_did}
 use Rattle.lfm_core.proofs.lawful.refusals.PlainSteps.{turn_made}
@@ -34,6 +35,11 @@ use Rattle.lfm_core.proofs.steady.frames.Entries.{seat-with_same}
 use Rattle.lfm_core.proofs.steady.frames.Seated.{seat_of_test, test_of_seat}
 
 -- What a seat keeps for its last step
+
+-- the answer that the last point of a start_wait keeps
+abbrev wait_at : Point → Option Unlocked
+wait_at (WaitWakeStore answer) = Some answer
+wait_at _ = None
 
 abbrev kept : Core → ℕ → Option Unlocked
 kept c s = wait_at (seat c.seats s).point
@@ -46,7 +52,7 @@ keeps_as _ answer e = absurd (cc)
 told_once : (a b : Unlocked) → WaitWakeStore a ≡ WaitWakeStore b → a ≡ b
 told_once a b e = cc
 
-not_open : (why : Why) → Refused why ≡ Open → ⊥
+pub not_open : (why : Why) → Refused why ≡ Open → ⊥
 not_open why e = cc
 
 open_turn : (call : Call) (turn : Turn) (p : Point) → is_call p ≡ true → StaysOrEnds call turn p → turn ≡ Open
@@ -54,10 +60,10 @@ open_turn call Open p inside goes = refl
 open_turn call (Ended answer) p inside goes = absurd (false≢true (sym goes.1 ∙ inside))
 open_turn call (Refused why) p inside goes = absurd (false≢true (sym goes ∙ inside))
 
-own_after : (c : Core) (s : ℕ) → IsSeat c.seats s → seat (step c s).core.seats s ≡ (stepped c s).seat
+pub own_after : (c : Core) (s : ℕ) → IsSeat c.seats s → seat (step c s).core.seats s ≡ (stepped c s).seat
 own_after c s is = rw (test_of_seat c.seats s is) (own_made c s is)
 
-own_turn : (c : Core) (s : ℕ) → IsSeat c.seats s → (step c s).turn ≡ (stepped c s).turn
+pub own_turn : (c : Core) (s : ℕ) → IsSeat c.seats s → (step c s).turn ≡ (stepped c s).turn
 own_turn c s is = rw (test_of_seat c.seats s is) (turn_made c s)
 
 -- a step of the seat after which its call is open
@@ -69,7 +75,7 @@ stays_open c s inside still =
 
 -- Events
 
-other_step : (c : Core) (t s : ℕ) → s ≢ t → seat (step c t).core.seats s ≡ seat c.seats s
+pub other_step : (c : Core) (t s : ℕ) → s ≢ t → seat (step c t).core.seats s ≡ seat c.seats s
 other_step c t s other =
     elim (cases_Bool (is_seat c.seats t)) [
       | inl is ↦ rw is (other_made c t s other)
@@ -164,13 +170,20 @@ begins_unkept c s opens =
       | inr none ↦ absurd (not_open Why.NoSuchSeat (rw none at opens))
     ]
 
+waits_as : (p : Point) (answer : Unlocked) → kept_at p ≡ Some (Waiting answer) → p ≡ WaitWakeStore answer
+waits_as (WaitWakeStore kept) answer e = cc
+waits_as (EnterOwnerStore Entrant.Locker how) answer e = absurd (cc)
+waits_as (EnterOwnerStore Entrant.Trier how) answer e = absurd (cc)
+waits_as (EnterOwnerStore Entrant.Receiver how) answer e = absurd (cc)
+waits_as _ answer e = absurd (cc)
+
 -- who answers Waiting is at the last point of a start_wait
 answers_kept : (c : Core) (s : ℕ) (answer : Unlocked) → is_call (seat c.seats s).point ≡ true → (step c s).turn ≡ Ended (Waiting answer) → (seat c.seats s).point ≡ WaitWakeStore answer
 answers_kept c s answer inside turn =
     let is = seat_of_call c s inside in
     let told : (stepped c s).turn ≡ Ended (Waiting answer) = sym (own_turn c s is) ∙ turn in
-    let keeps = (step_follows c s (seat c.seats s).point refl inside).waits in
-    keeps_as (seat c.seats s).point answer (sym keeps ∙ ap wait_told told)
+    let keeps = (step_follows c s (seat c.seats s).point refl inside).told in
+    waits_as (seat c.seats s).point answer (sym keeps ∙ ap kept_told told)
 
 pub waits_answer_their_release : WaitsAnswerTheirRelease
 waits_answer_their_release c s events answer steady opens stays turn =

@@ -1,5 +1,5 @@
--- How what a word holds is packed into a number.
-use Rattle.std.specs.Prelude.{ℕ, Bool, ◌+◌, ◌*◌, ◌%◌, ◌^◌, ◌<◌, ◌||◌, nat_eq, nat_lt}
+-- How what a word holds is packed into a number, and what a number holds.
+use Rattle.std.specs.Prelude.{ℕ, Bool, ◌+◌, ◌-◌, ◌*◌, ◌/◌, ◌%◌, ◌^◌, ◌<◌, ◌||◌, nat_eq, nat_lt, if◌then◌else◌}
 use Rattle.lfm_words.specs.declared.handoffs.Handoff.{Handoff}
 use Rattle.lfm_words.specs.declared.links.Link.{Link}
 use Rattle.lfm_words.specs.declared.wakes.Wake.{Wake}
@@ -28,3 +28,16 @@ is_wake_word n = nat_lt n 3 || nat_eq (n % 4) 3
 abbrev pub IsSmallWake : Wake → Type 0
 IsSmallWake (Grant stamp) = stamp < 2 ^ 48
 IsSmallWake _ = Unit {0}
+
+-- What a word holds
+
+abbrev pub link_of : ℕ → Link
+link_of n = record { stamp = n / 65536; next = n % 65536 }
+
+abbrev pub handoff_of : ℕ → Handoff
+handoff_of n = record { seat = n % 65536; post = n / 65536 }
+
+-- of a word that is one of the coding
+abbrev pub wake_of : ℕ → Wake
+wake_of n =
+    if nat_eq n 0 then Quiet else (if nat_eq n 1 then Waiting else (if nat_eq n 2 then Claimed else Grant ((n - 3) / 4)))

@@ -1,6 +1,6 @@
 //! A handoff number: what the handoff word holds, and how it is packed.
 ghost use Rattle.std.specs.Prelude.{◌≡◌, ◌<◌, ◌^◌};
-ghost use Rattle.lfm_words.specs.Words.{handoff_word};
+ghost use Rattle.lfm_words.specs.Words.{handoff_word, handoff_of};
 
 use crate::links::UPPER;
 
@@ -31,6 +31,7 @@ pub fn pack_handoff(seat: u64, post: u64) -> u64
 
 /// The handoff number that a word holds. Every word holds one, and no two words the same.
 pub fn unpack_handoff(word: u64) -> Handoff
+    ensures holds { result ≡ handoff_of word }
     ensures packs { handoff_word result ≡ word }
     ensures seat { result.seat < 65536 }
     ensures post { result.post < 2 ^ 48 }

@@ -1,6 +1,6 @@
 //! A stamp beside a seat: what the push word and each link word hold, and how it is packed.
 ghost use Rattle.std.specs.Prelude.{◌≡◌, ◌<◌, ◌^◌};
-ghost use Rattle.lfm_words.specs.Words.{link_word};
+ghost use Rattle.lfm_words.specs.Words.{link_word, link_of};
 
 /// What 1 counts in the upper 48 bits of a packed word, above its lower 16.
 pub(crate) const UPPER: u64 = 65_536;
@@ -31,6 +31,7 @@ pub fn pack_link(stamp: u64, next: u64) -> u64
 
 /// The stamp and the seat that a word holds. Every word holds one link, and no two words the same.
 pub fn unpack_link(word: u64) -> Link
+    ensures holds { result ≡ link_of word }
     ensures packs { link_word result ≡ word }
     ensures stamp { result.stamp < 2 ^ 48 }
     ensures next { result.next < 65536 }

@@ -1,6 +1,6 @@
 //! Wake states: what the wake word of a seat holds, and how it is packed.
 ghost use Rattle.std.specs.Prelude.{◌≡◌, IsTrue};
-ghost use Rattle.lfm_words.specs.Words.{wake_word, is_wake_word, IsSmallWake};
+ghost use Rattle.lfm_words.specs.Words.{wake_word, is_wake_word, IsSmallWake, wake_of};
 
 /// What the wake word says of its seat.
 #[derive(Clone, Copy, Debug, PartialEq, Eq)]
@@ -40,7 +40,8 @@ impl Wake {
     /// The state that a word holds. The word is one for which `is_word` returns true.
     pub fn from_word(word: u64) -> Wake
         requires { IsTrue (is_wake_word word) }
-        ensures { wake_word result ≡ word }
+        ensures holds { result ≡ wake_of word }
+        ensures packs { wake_word result ≡ word }
     {
         match word {
             0 => Wake::Quiet,

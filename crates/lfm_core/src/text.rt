@@ -9,5 +9,5 @@ pub mod trace;
 
 pub use faults::ReplayFault;
 pub use replaying::replay;
-pub use schedule::{Act, Line, Schedule, read_schedule};
+pub use schedule::{Act, Line, MAX_STEPS, Schedule, read_schedule};
 pub use schedule_runs::run;

@@ -103,7 +103,7 @@ impl Write for FailingWriter {
     }
 }
 
-/// Takes all bytes, and fails when it is to pass them on.
+/// Takes all bytes, and fails where it is flushed.
 #[derive(Drop)]
 struct UnflushedWriter {
     bytes: Vec<u8>,

@@ -3,7 +3,7 @@ use Rattle.std.specs.Prelude.{ℕ, Bool, true, false, Result, Ok, Err}
 use Rattle.lfm_core.specs.declared.text.faults.ReplayFault.{ReplayFault}
 use Rattle.lfm_core.specs.declared.text.faults.ReplayFault.TheVariants.{Syntax, Limit, Read, Write, Memory}
 
--- what a replay tells the shell
+-- the exit status of a replay
 abbrev pub replay_status : Result Bool ReplayFault → ℕ
 replay_status (Ok true) = 0
 replay_status (Ok false) = 1

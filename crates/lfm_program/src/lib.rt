@@ -1,4 +1,4 @@
-//! What the program `lfm` does beside the core: how its outcomes are told to the shell.
+//! What the program `lfm` does beside the core: its exit statuses.
 #![tactic(auto)]
 
 pub mod statuses;

@@ -4,7 +4,7 @@ ghost use Rattle.lfm_program.specs.Statuses.{replay_status};
 
 use lfm_core::ReplayFault;
 
-/// The exit status that tells how a replay went: 0 where no line was refused; 1 where a line was refused, or the input
+/// The exit status of a replay: 0 where no line was refused; 1 where a line was refused, or the input
 /// had a fault of syntax or was past a limit; 3 where the reader or the writer failed; 4 where memory was refused.
 pub fn replay_status(outcome: &Result<bool, ReplayFault>) -> u8
     ensures { result ≡ replay_status outcome.now }

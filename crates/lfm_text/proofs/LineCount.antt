@@ -12,7 +12,7 @@ feed c = cond (c == 10) 1 0
 line_feeds-cons : (c : ℕ) (cs : List ℕ) → line_feeds (c ∷ cs) ≡ feed c + line_feeds cs
 line_feeds-cons c cs = sum_by-cons (λ b. cond (b == 10) 1 0) c cs
 
--- a byte in front of another is a line of its own only where it is a line feed
+-- a byte before another is a line of its own only where it is a line feed
 line_count-cons : (c d : ℕ) (ds : List ℕ) → line_count (c ∷ d ∷ ds) ≡ feed c + line_count (d ∷ ds)
 line_count-cons c d ds = omega (arith, line_feeds-cons c (d ∷ ds))
 
@@ -45,7 +45,7 @@ line_count-append (c ∷ d ∷ ds) ys = omega (arith, line_count-cons c d ds, li
 pub line_feeds-append : (xs ys : List ℕ) → line_feeds (xs ++ ys) ≡ line_feeds xs + line_feeds ys
 line_feeds-append xs ys = sum_by-append (λ b. cond (b == 10) 1 0) xs ys
 
--- the lines of a text with a byte, behind another text
+-- the lines of a text with a byte, after another text
 line_count_behind : (xs : List ℕ) (c : ℕ) (cs : List ℕ) → line_count (xs ++ c ∷ cs) ≡ line_feeds xs + line_count (c ∷ cs)
 line_count_behind [] c cs = omega arith
 line_count_behind (x ∷ []) c cs = omega (arith, line_count-cons x c cs, line_feeds-cons x [])

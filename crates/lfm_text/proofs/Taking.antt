@@ -12,7 +12,7 @@ Consumes-then (Some u) None c xs ys p q = absurd p
 Consumes-then (Some u) (Some v) None xs ys p q = absurd q
 Consumes-then (Some u) (Some v) (Some w) xs ys p q = p ∙ ap (λ l. xs ++ l) q ∙ sym (append_assoc xs ys w)
 
--- a read gave n bytes at the front of a buffer, and they were put behind what was there
+-- a read gave n bytes into a buffer, and they were appended to what was there
 pub taken_more : (a b c : Option (List ℕ)) (before given rest after : List ℕ) (n : ℕ) → n ≤ length given
     → Consumes a b before → Consumes b c (take n given) → after ≡ before ++ take n (given ++ rest) → Consumes a c after
 taken_more a b c before given rest after n within p q is =

@@ -24,10 +24,11 @@ fn append_reserved(input: &mut Vec<u8>, given: &[u8])
 /// Reads all bytes of the reader, and no byte after the first that is past a limit: byte 1,048,577, or the first byte
 /// after 65,536 line feeds.
 ///
-/// Asks for memory once, for 1,048,577 bytes: Memory where that is refused, and then nothing was read. Read where the
+/// Makes one request for memory, of 1,048,577 bytes: Memory where it is refused, and then nothing was read. Read where the
 /// reader fails before the text is past a limit. Any error of the reader counts, also an interruption.
 ///
-/// No read asks for more bytes than could be read without passing a limit, and one. So the reads get short where few lines are left.
+/// Each byte may be a line feed. So a read asks for at most as many bytes as there may be lines yet, and one more: near
+/// the last line the reads get short.
 pub fn read_input<R: Read>(alloc: Global, reader: &mut R) -> Result<Vec<u8>, InputFault>
     ensures ok { IfOk result (λ v. Takes (R.remaining reader.old) (R.remaining reader.new) v.items) }
     ensures read { IsErrOf result InputFault.Read →

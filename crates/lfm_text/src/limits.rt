@@ -16,7 +16,7 @@ pub fn count_line_feeds(text: &[u8]) -> usize
     text.iter().filter(|byte| **byte == b'\n').count()
 }
 
-/// The number of lines of a text with this many line feeds: one more where the last line is unfinished.
+/// The number of lines of a text with this many line feeds.
 fn lines_with(text: &[u8], line_feeds: usize) -> usize
     requires { line_feeds ≡ count_by (λ b. b == 10) text.now }
     ensures { result ≡ line_count text.now }
@@ -35,8 +35,8 @@ pub fn is_past_limit(text: &[u8], line_feeds: usize) -> bool
     text.len() > MAX_BYTES || lines_with(text, line_feeds) > MAX_LINES
 }
 
-/// The number of lines of a text: that of its line feeds, and one more for an unfinished last line. `None` where the
-/// text has more than 1,048,576 bytes or more than 65,536 lines.
+/// The number of lines of a text: each line feed ends one, and bytes after the last line feed are one more. `None` where
+/// the text has more than 1,048,576 bytes or more than 65,536 lines.
 pub fn count_lines(text: &[u8]) -> Option<usize>
     ensures within { IfSome result (λ _. is_past_limit text.now ≡ false) }
     ensures lines { IfSome result (λ lines. lines ≡ line_count text.now) }

@@ -1,10 +1,10 @@
 -- A whole text is read as a schedule just where it spells it.
-use Rattle.std.proofs.Common.{◌≡◌, ◌+◌, ◌≤◌, ◌<◌, ◌^◌, zero, suc, ℕ, Bool, true, false, cond, is_some, List, [], ◌∷◌, Option, Some, None, Result, Ok, Err, get_or, refl, ◌∙◌, ap, arith, tests}
+use Rattle.std.proofs.Common.{◌≡◌, ◌+◌, ◌≤◌, ◌<◌, ◌^◌, ℕ, Bool, true, false, cond, List, [], ◌∷◌, Option, Some, None, Result, Ok, Err, refl, ◌∙◌, ap, arith, tests}
 use Rattle.lfm_core.specs.declared.text.schedule.Line.{Line}
 use Rattle.lfm_core.specs.declared.text.faults.ReplayFault.{ReplayFault}
-use Rattle.lfm_core.specs.declared.text.faults.ReplayFault.TheVariants.{Syntax, Limit}
+use Rattle.lfm_core.specs.declared.text.faults.ReplayFault.TheVariants.{Limit}
 use Rattle.lfm_text.specs.Text.{words_of, lines_of, is_past_limit}
-use Rattle.lfm_core.specs.text.Grammar.{line_of, header_of, in_front, lines_from, Plan, plan_from, plan_of_lines, plan_in, is_line_at, IsFirstFault}
+use Rattle.lfm_core.specs.text.Grammar.{line_of, header_of, in_front, lines_from, Plan, plan_from, plan_of_lines, plan_in}
 use Rattle.lfm_protocol.specs.declared.limits.Limits.{Limits}
 use Rattle.lfm_protocol.specs.Limits.{max_seats, max_budget, are_in_limits}
 use Rattle.lfm_core.specs.text.Spelling.{Spells, IsWritable, EachSpells, SpellsPlan}

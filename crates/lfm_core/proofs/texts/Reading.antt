@@ -1,4 +1,4 @@
--- The lines that were read in front of those to come, and what is known of the lines that a text spells.
+-- The lines that were read before those to come, and what is known of the lines that a text spells.
 use Rattle.std.proofs.Common.{◌≡◌, ◌+◌, ◌==◌, ◌&&◌, nat_le, ℕ, Bool, true, false, cond, List, [], ◌∷◌, ◌++◌, Option, Some, None, Result, Ok, Err, IfSome, IfOk, All, refl, ap, append_assoc, arith, tests, codes}
 use Rattle.std.proofs.lemmas.List.Elements.{All-nil, All-cons}
 use Rattle.std.specs.Str.{bytes_eq}
@@ -11,28 +11,28 @@ use Rattle.lfm_core.specs.declared.text.faults.ReplayFault.TheVariants.{Syntax}
 use Rattle.lfm_text.specs.Text.{number_of, words_of}
 use Rattle.lfm_core.specs.text.Grammar.{max_steps, steps_of, plain_act_of, act_of, seat_line, send_act, line_of, in_front, lines_from, HasFewSteps}
 
--- lines in front of those that a result has
-abbrev pub after_front : List Line → Result (List Line) ReplayFault → Result (List Line) ReplayFault
-after_front front (Ok lines) = Ok (front ++ lines)
-after_front front (Err fault) = Err fault
+-- lines before those that a result has
+abbrev pub after_prefix : List Line → Result (List Line) ReplayFault → Result (List Line) ReplayFault
+after_prefix prefix (Ok lines) = Ok (prefix ++ lines)
+after_prefix prefix (Err fault) = Err fault
 
-after_nothing : (r : Result (List Line) ReplayFault) → after_front [] r ≡ r
+after_nothing : (r : Result (List Line) ReplayFault) → after_prefix [] r ≡ r
 after_nothing (Ok lines) = refl
 after_nothing (Err fault) = refl
 
-one_more : (front : List Line) (line : Line) (r : Result (List Line) ReplayFault) (number : ℕ) → after_front (front ++ line ∷ []) r ≡ after_front front (in_front number (Some line) r)
-one_more front line (Ok lines) number = ap Ok (append_assoc front (line ∷ []) lines)
-one_more front line (Err fault) number = refl
+one_more : (prefix : List Line) (line : Line) (r : Result (List Line) ReplayFault) (number : ℕ) → after_prefix (prefix ++ line ∷ []) r ≡ after_prefix prefix (in_front number (Some line) r)
+one_more prefix line (Ok lines) number = ap Ok (append_assoc prefix (line ∷ []) lines)
+one_more prefix line (Err fault) number = refl
 
 -- a line that says nothing ends the reading
-pub stops : (number : ℕ) (front : List Line) (texts rest : List (List ℕ)) (text : List ℕ) → texts ≡ text ∷ rest → line_of (words_of text) ≡ None
-    → after_front front (lines_from number texts) ≡ Err (Syntax number)
-stops number front texts rest text e none = rw (e, none) refl
+pub stops : (number : ℕ) (prefix : List Line) (texts rest : List (List ℕ)) (text : List ℕ) → texts ≡ text ∷ rest → line_of (words_of text) ≡ None
+    → after_prefix prefix (lines_from number texts) ≡ Err (Syntax number)
+stops number prefix texts rest text e none = rw (e, none) refl
 
--- a line that says something goes to those in front
-pub goes_on : (number : ℕ) (front : List Line) (texts rest : List (List ℕ)) (text : List ℕ) (line : Line) → texts ≡ text ∷ rest → line_of (words_of text) ≡ Some line
-    → after_front (front ++ line ∷ []) (lines_from (number + 1) rest) ≡ after_front front (lines_from number texts)
-goes_on number front texts rest text line e some = rw (e, some) (one_more front line (lines_from (number + 1) rest) number)
+-- a line that says something goes to the prefix
+pub goes_on : (number : ℕ) (prefix : List Line) (texts rest : List (List ℕ)) (text : List ℕ) (line : Line) → texts ≡ text ∷ rest → line_of (words_of text) ≡ Some line
+    → after_prefix (prefix ++ line ∷ []) (lines_from (number + 1) rest) ≡ after_prefix prefix (lines_from number texts)
+goes_on number prefix texts rest text line e some = rw (e, some) (one_more prefix line (lines_from (number + 1) rest) number)
 
 -- an act that asks for few steps, if any
 record FewSteps (act : Option Act) : Type 0 where

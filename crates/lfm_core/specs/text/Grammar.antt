@@ -33,7 +33,7 @@ plain_act_of word =
     else if bytes_eq word (codes "receive") then Some (Begin Receive)
     else None
 
--- what one word after the seat says; a plus sign is in front of a number of steps
+-- what one word after the seat says; a number of steps has a plus sign before it
 abbrev pub act_of : List ℕ → Option Act
 act_of [] = plain_act_of []
 act_of (c ∷ cs) = if c == 43 then steps_of (number_of cs) else plain_act_of (c ∷ cs)
@@ -69,7 +69,7 @@ header_of (word ∷ seats ∷ []) = if bytes_eq word (codes "seats") then header
 header_of (word ∷ seats ∷ budget ∷ []) = if bytes_eq word (codes "seats") then header (number_of seats) (number_of budget) else None
 header_of _ = None
 
--- a line in front of those after it; its fault comes first
+-- a line, and those after it; its fault comes first
 abbrev pub in_front : ℕ → Option Line → Result (List Line) ReplayFault → Result (List Line) ReplayFault
 in_front number None rest = Err (Syntax number)
 in_front number (Some line) (Ok lines) = Ok (line ∷ lines)

@@ -1,8 +1,8 @@
 //! The replay of a reader's schedule into a writer.
 
-ghost use Rattle.std.specs.Prelude.{◌≡◌, ◌≢◌, ◌++◌, ◌+◌, ◌<◌, ◌≤◌, length, vec_capacity, true, Err, Ok, IfOk, IfSome, IsErrOf};
+ghost use Rattle.std.specs.Prelude.{All, ◌≡◌, ◌≢◌, ◌++◌, ◌+◌, ◌<◌, ◌≤◌, length, vec_capacity, true, Err, Ok, IfOk, IfSome, IsErrOf};
 ghost use Rattle.std.specs.Io.KnownBytes.{Keeps};
-ghost use Rattle.lfm_core.specs.text.Grammar.{plan_of};
+ghost use Rattle.lfm_core.specs.text.Grammar.{HasFewSteps, plan_of};
 ghost use Rattle.lfm_protocol.specs.Limits.{are_in_limits};
 ghost use Rattle.lfm_text.specs.Text.{max_lines};
 ghost use Rattle.lfm_core.specs.text.Trace.{none_refused, opening_text, lines_text, plan_text, opening, fault_text};
@@ -19,16 +19,16 @@ use lfm_words::Record;
 use std::alloc::Global;
 use std::io::{Read, Write};
 
-/// Runs the lines in their order, and writes what came of each before the next one runs. It answers whether none was
-/// refused.
+/// For each line in turn: runs it, and writes its line of the trace. Returns whether none was refused.
 fn write_lines<W: Write>(
     writer: &mut W,
     state: &mut State,
     lines: &[Line],
-    room: &mut Vec<Record>,
+    records: &mut Vec<Record>,
 ) -> Result<bool, WriteFault>
-    requires room { length state.old.seats ≤ vec_capacity room.old }
+    requires capacity { length state.old.seats ≤ vec_capacity records.old }
     requires few { length lines.now < max_lines }
+    requires steps { All (λ l. HasFewSteps l.act) lines.now }
     ensures text { Writes (W.contents writer.old) (W.contents writer.new)
         (lines_text 2 state.old lines.now) result }
     ensures verdict { IfOk result (λ b. b ≡ none_refused state.old lines.now) }
@@ -37,32 +37,33 @@ fn write_lines<W: Write>(
     'running: for (index, line) in lines.iter().enumerate() {
         let turn = state.follow(line);
         none_refused &= !turn.is_refused();
-        write_line(writer, index as u64 + 2, line, turn, state, room)?;
+        write_line(writer, index as u64 + 2, line, turn, state, records)?;
     }
     Ok(none_refused)
 }
 
-/// Writes the state, then runs the lines, and has the writer pass everything on.
+/// Writes the state, then runs the lines, and at the end flushes the writer. Returns whether no line was refused.
 fn write_run<W: Write>(
     writer: &mut W,
     seats: u64,
     state: &mut State,
     lines: &[Line],
-    room: &mut Vec<Record>,
+    records: &mut Vec<Record>,
 ) -> Result<bool, WriteFault>
-    requires room { length state.old.seats ≤ vec_capacity room.old }
+    requires capacity { length state.old.seats ≤ vec_capacity records.old }
     requires few { length lines.now < max_lines }
+    requires steps { All (λ l. HasFewSteps l.act) lines.now }
     ensures text { Writes (W.contents writer.old) (W.contents writer.new)
         (opening_text seats state.old ++ lines_text 2 state.old lines.now) result }
     ensures verdict { IfOk result (λ b. b ≡ none_refused state.old lines.now) }
 {
-    write_opening(writer, seats, state, room)?;
-    let none_refused = write_lines(writer, state, lines, room)?;
+    write_opening(writer, seats, state, records)?;
+    let none_refused = write_lines(writer, state, lines, records)?;
     flush(writer)?;
     Ok(none_refused)
 }
 
-/// Runs a schedule. All memory is asked for before the first byte is written.
+/// Runs a schedule from a new state. Every request for memory precedes the first write.
 fn replay_schedule<W: Write>(
     alloc: Global,
     schedule: &Schedule,
@@ -70,6 +71,7 @@ fn replay_schedule<W: Write>(
 ) -> Result<bool, ReplayFault>
     requires limits { are_in_limits schedule.now.seats schedule.now.budget ≡ true }
     requires few { length schedule.now.lines.items < max_lines }
+    requires steps { All (λ l. HasFewSteps l.act) schedule.now.lines.items }
     ensures told { let plan = plan_of schedule.now in
         Tells result (plan_text plan) (Ok (none_refused (opening plan) plan.lines))
         (W.contents writer.old) (W.contents writer.new) }
@@ -78,14 +80,14 @@ fn replay_schedule<W: Write>(
     let mut state = State::new(alloc, schedule.seats, schedule.budget).map_err(
         |_| ReplayFault::Memory,
     )?;
-    let mut room = Vec::with_capacity(alloc, schedule.seats as usize).map_err(
+    let mut records = Vec::with_capacity(alloc, schedule.seats as usize).map_err(
         |_| ReplayFault::Memory,
     )?;
     let seats = schedule.seats;
-    Ok(write_run(writer, seats, &mut state, &schedule.lines, &mut room)?)
+    Ok(write_run(writer, seats, &mut state, &schedule.lines, &mut records)?)
 }
 
-/// Writes the line of a fault of the input, and has the writer pass it on.
+/// Writes the line of an input's fault, and flushes the writer.
 fn write_fault<W: Write>(writer: &mut W, fault: ReplayFault) -> Result<(), WriteFault>
     ensures { Writes (W.contents writer.old) (W.contents writer.new) (fault_text fault) result }
 {
@@ -94,7 +96,7 @@ fn write_fault<W: Write>(writer: &mut W, fault: ReplayFault) -> Result<(), Write
     Ok(())
 }
 
-/// Replays an input that was read.
+/// Replays bytes already read.
 fn replay_input<W: Write>(alloc: Global, input: &[u8], writer: &mut W) -> Result<bool, ReplayFault>
     ensures told { Replays result input.now (W.contents writer.old) (W.contents writer.new) }
     ensures no_read { result ≢ Err ReplayFault.Read }
@@ -109,28 +111,30 @@ fn replay_input<W: Write>(alloc: Global, input: &[u8], writer: &mut W) -> Result
     }
 }
 
-/// Reads a schedule, runs it on a mutex at its start, and writes a line for each of its lines: what came of it, and the
-/// state after it. It answers whether no line was refused.
+/// Replays the schedule that a reader gives: runs its lines from a new state, and writes a trace with one line for each.
+/// Returns whether no line was refused.
 ///
-/// Reading ends as soon as the input is past a limit. Syntax and Limit, the faults of an input, are written as a line of
-/// their own and then answered; nothing else is written then. Read and Memory come before anything is written, Write
-/// after a front of the text. Any error of the reader or the writer counts, also an interruption, and so does a write
-/// that takes no byte. At the end the writer is flushed.
+/// The faults, and what is written before each of them:
+/// - Memory and Read: nothing. Read is a failure of the reader, before the input was past a limit.
+/// - Limit and Syntax: the line of the fault, and nothing else. `read_schedule` says which comes when. No byte is read
+///   after the first that is past a limit of length.
+/// - Write: a prefix of the text. The writer failed, took no byte, or failed to flush.
 ///
-/// All memory is asked for before the first byte is written, by requests of just the sizes that are needed: for the
-/// input, the schedule's lines, the state and one queue.
+/// Any error of the reader or the writer is a failure, also an interruption. After the last line the writer is flushed.
+/// Makes 7 requests for memory, each of them before the first write: one for the input, one for the lines, 4 for the
+/// state, and one for its queue.
 pub fn replay<R: Read, W: Write>(
     alloc: Global,
     reader: &mut R,
     writer: &mut W,
 ) -> Result<bool, ReplayFault>
-    // Whatever the reader gave and the writer holds: some input was taken, and this is its replay.
+    // Some input was read, and this is its replay. It says nothing of a reader's or a writer's bytes that are not known.
     ensures some { SomeReplay result (R.remaining reader.old) (R.remaining reader.new)
         (W.contents writer.old) (W.contents writer.new) }
-    // What is written and answered is the function of what the reader has, where that is known.
+    // Where it is known what the reader has: this is the replay of just that.
     ensures exact { IfSome (R.remaining reader.old) (λ input.
         Replays result input (W.contents writer.old) (W.contents writer.new)) }
-    // Whatever was read, nothing is written after these two faults.
+    // After these two faults nothing was written, whatever was read.
     ensures read { IsErrOf result ReplayFault.Read → Keeps (W.contents writer.old) (W.contents writer.new) }
     ensures memory { IsErrOf result ReplayFault.Memory → Keeps (W.contents writer.old) (W.contents writer.new) }
 {

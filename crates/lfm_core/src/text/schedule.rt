@@ -1,4 +1,4 @@
-//! What a schedule is, and how it is read from its bytes.
+//! What a schedule is, and how it is read from its bytes. What its lines do stands beside the runs.
 
 ghost use Rattle.std.specs.Prelude.{◌≡◌, ◌≤◌, ◌<◌, length, All, IfOk, IsErrOf};
 ghost use Rattle.lfm_text.specs.Text.{lines_of, words_of, line_count, max_lines};
@@ -15,7 +15,7 @@ use std::alloc::Global;
 pub enum Act {
     /// The seat begins this call.
     Begin(Call),
-    /// The seat makes up to this number of steps, from 1 to 999, and stops where its call ends.
+    /// The seat makes up to this number of steps, 1 to `MAX_STEPS`, and stops where its call ends.
     Steps(u64),
     /// The seat makes steps until its call ends.
     ToEnd,
@@ -44,7 +44,7 @@ pub struct Schedule {
 /// The most steps that one line may ask for.
 pub const MAX_STEPS: u64 = 999;
 
-/// What one word says that is no number of steps.
+/// What a word after the seat says, unless it is a number of steps.
 fn read_plain_act(word: &[u8]) -> Option<Act>
     ensures { result ≡ plain_act_of word.now }
 {
@@ -67,7 +67,7 @@ fn read_plain_act(word: &[u8]) -> Option<Act>
     }
 }
 
-/// What one word after the seat says.
+/// What a word after the seat says.
 fn read_act(word: &[u8]) -> Option<Act>
     ensures { result ≡ act_of word.now }
 {
@@ -130,8 +130,8 @@ fn read_header(text: &[u8]) -> Option<Limits>
     Some(Limits { seats, budget })
 }
 
-/// What the lines of a text say, the first of which has number 2, or the fault of the first that
-/// says nothing. Asks for memory once, for `count` lines, before it reads them.
+/// What the `count` lines of a text say, of which the first has number 2, or the fault of the first that says nothing.
+/// Makes one request for memory, for all of them, before it reads them.
 fn read_lines(alloc: Global, text: &[u8], count: usize) -> Result<Vec<Line>, ReplayFault>
     requires counted { length (lines_of text.now) ≡ count }
     requires few { count < max_lines }
@@ -155,12 +155,14 @@ fn read_lines(alloc: Global, text: &[u8], count: usize) -> Result<Vec<Line>, Rep
 
 /// Reads a schedule from its bytes.
 ///
-/// Limit where there are more than 1,048,576 bytes or more than 65,536 lines. Then Syntax with the
-/// number, from 1, of the first line that is no line of a schedule; a text without lines is Syntax 1.
-/// Then Limit where the number of seats is outside 1 to 4,095 or the budget outside 1 to 2^36.
+/// A text may have several faults. This one is returned:
+/// 1. Limit, where it is longer than 1,048,576 bytes or has more than 65,536 lines;
+/// 2. Syntax, where some line is none of a schedule, with the number of the first such line. The numbers begin at 1, and
+///    a text without lines has this fault in line 1;
+/// 3. Limit, where the number of seats or the budget is none that a mutex may have.
 ///
-/// Asks for memory once, for the lines after the first, before it reads those, and not at all where
-/// there are none: Memory where that is refused. Never Read or Write.
+/// Makes one request for memory, for the lines after the first, and none where there are no such lines: Memory where it
+/// is refused, before those lines are read. Never Read or Write.
 pub fn read_schedule(alloc: Global, text: &[u8]) -> Result<Schedule, ReplayFault>
     ensures exact { Gives plan_of result (plan_in text.now) }
     // Memory comes only where there are lines to be kept.

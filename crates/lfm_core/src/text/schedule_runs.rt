@@ -1,5 +1,7 @@
-//! Lines of a schedule, run on a state.
-ghost use Rattle.std.specs.Prelude.{◌≡◌, length, IfOk, OnErr};
+//! Runs the lines of a schedule on a state. Nothing is read or written here.
+
+ghost use Rattle.std.specs.Prelude.{◌≡◌, length, All, IfOk, OnErr};
+ghost use Rattle.lfm_core.specs.text.Grammar.{HasFewSteps};
 ghost use Rattle.lfm_core.specs.text.Lines.{steps, line_moved, lines_core, lines_turns};
 ghost use Rattle.lfm_protocol.specs.Turns.{is_open, longest_call};
 
@@ -9,8 +11,8 @@ use lfm_protocol::Turn;
 use std::alloc::{AllocError, Global};
 
 impl State {
-    /// Seat s makes up to this many steps, and stops where its call ends or a step is refused. The last turn is
-    /// answered.
+    /// Makes up to this many steps of seat s, and stops where its call ends or a step is refused. Returns the last turn;
+    /// without a step that is Open.
     pub fn steps(&mut self, s: u64, most: u64) -> Turn
         ensures core { self.new ≡ (steps most self.old s).core }
         ensures turn { result ≡ (steps most self.old s).turn }
@@ -24,8 +26,9 @@ impl State {
         Turn::Open
     }
 
-    /// Does what a line says, and answers its last turn.
+    /// Does what a line says, and returns its last turn. A line that asks for steps asks for 1 to 999.
     pub fn follow(&mut self, line: &Line) -> Turn
+        requires { HasFewSteps line.now.act }
         ensures core { self.new ≡ (line_moved self.old line.now).core }
         ensures turn { result ≡ (line_moved self.old line.now).turn }
     {
@@ -40,9 +43,10 @@ impl State {
     }
 }
 
-/// Runs the lines in their order and writes the last turn of each.
+/// Follows each line in turn, and stores its last turn at the line's index.
 fn follow_all(state: &mut State, lines: &[Line], turns: &mut [Turn])
-    requires { length turns.old ≡ length lines.now }
+    requires length { length turns.old ≡ length lines.now }
+    requires steps { All (λ l. HasFewSteps l.act) lines.now }
     ensures core { state.new ≡ lines_core state.old lines.now }
     ensures turns { turns.new ≡ lines_turns state.old lines.now }
 {
@@ -51,9 +55,12 @@ fn follow_all(state: &mut State, lines: &[Line], turns: &mut [Turn])
     }
 }
 
-/// Runs the lines in their order and gives the last turn of each. It makes one request for memory, of just the size that
-/// is needed, before the first line is run: after want of memory the state is unchanged.
+/// Follows each line in turn, and returns the last turn of each, in their order. A line that asks for steps asks for 1 to
+/// 999.
+///
+/// Makes one request for memory, for the turns, before the first line: where it is refused, the state is unchanged.
 pub fn run(alloc: Global, state: &mut State, lines: &[Line]) -> Result<Vec<Turn>, AllocError>
+    requires steps { All (λ l. HasFewSteps l.act) lines.now }
     ensures core { IfOk result (λ _. state.new ≡ lines_core state.old lines.now) }
     ensures turns { IfOk result (λ turns. turns.items ≡ lines_turns state.old lines.now) }
     ensures unchanged { OnErr result (state.new ≡ state.old) }

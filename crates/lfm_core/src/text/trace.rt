@@ -22,7 +22,7 @@ fn write_line_feed<W: Write>(writer: &mut W) -> Result<(), WriteFault>
     write_text(writer, b"\n")
 }
 
-/// Writes a word, and a number behind it.
+/// Writes a word, and a number after it.
 fn write_labelled<W: Write>(writer: &mut W, label: &[u8], number: u64) -> Result<(), WriteFault>
     ensures { Writes (W.contents writer.old) (W.contents writer.new)
         (joined (label.now ∷ decimal number ∷ [])) result }
@@ -185,19 +185,19 @@ pub fn write_place<W: Write>(writer: &mut W, place: Place) -> Result<(), WriteFa
     }
 }
 
-/// How many bytes a record's text has at most, with a comma in front: two numbers of 20 digits and what separates them.
+/// The most bytes of a record's text with a comma before it: two numbers of 20 digits, and two separators.
 const RECORD_SIZE: usize = 42;
 
-/// Puts a number's digits into a buffer, so that they end at `end`, and tells where they start.
+/// Puts a number's digits into a buffer, so that they end at `end`, and returns where they start.
 fn put_number(buffer: &mut [u8; RECORD_SIZE], number: u64, end: usize) -> usize
     requires { (20 ≤ end) × (end ≤ RECORD_SIZE) }
-    ensures room { (end ≤ result + 20) × (result ≤ end) }
+    ensures start { (end ≤ result + 20) × (result ≤ end) }
     ensures text { drop result buffer.new ≡ decimal number ++ drop end buffer.old }
 {
     write_digits(number, buffer, end)
 }
 
-/// Puts a byte in front of a text that ends a buffer, and tells where it stands.
+/// Puts a byte before a text that ends a buffer, and returns where it stands.
 fn put_byte(buffer: &mut [u8; RECORD_SIZE], byte: u8, end: usize) -> usize
     requires { (1 ≤ end) × (end ≤ RECORD_SIZE) }
     ensures place { result + 1 ≡ end }
@@ -208,7 +208,7 @@ fn put_byte(buffer: &mut [u8; RECORD_SIZE], byte: u8, end: usize) -> usize
     start
 }
 
-/// Puts a record's text at the end of a buffer, with room in front for a comma, and tells where it starts.
+/// Puts a record's text at the end of a buffer, so that a comma fits before it, and returns where it starts.
 fn put_record(buffer: &mut [u8; RECORD_SIZE], queued: Record) -> usize
     ensures start { (1 ≤ result) × (result ≤ RECORD_SIZE) }
     ensures text { drop result buffer.new ≡ record_text queued }
@@ -227,7 +227,7 @@ fn write_record<W: Write>(writer: &mut W, queued: Record) -> Result<(), WriteFau
     write_text(writer, &buffer[start..])
 }
 
-/// Writes a record behind a comma.
+/// Writes a comma and a record.
 fn write_further<W: Write>(writer: &mut W, queued: Record) -> Result<(), WriteFault>
     ensures { Writes (W.contents writer.old) (W.contents writer.new)
         (joined (codes "," ∷ record_text queued ∷ [])) result }
@@ -238,11 +238,11 @@ fn write_further<W: Write>(writer: &mut W, queued: Record) -> Result<(), WriteFa
     write_text(writer, &buffer[start..])
 }
 
-/// Writes records, the last first, and takes them out.
+/// Writes records, the last first, and removes them.
 fn write_queue<W: Write>(writer: &mut W, records: &mut Vec<Record>) -> Result<(), WriteFault>
     ensures text { Writes (W.contents writer.old) (W.contents writer.new)
         (queue_text (reverse records.old.items)) result }
-    ensures room { vec_capacity records.new ≡ vec_capacity records.old }
+    ensures capacity { vec_capacity records.new ≡ vec_capacity records.old }
 {
     let Some(oldest) = records.pop() else {
         return write_text(writer, b"-");
@@ -265,23 +265,23 @@ fn write_words<W: Write>(writer: &mut W, state: &State) -> Result<(), WriteFault
     Ok(())
 }
 
-/// Writes a state; the room, which is for a record of each seat, serves to gather its queue.
+/// Writes a state. Its queue is gathered in `records`, which has capacity for a record of each seat.
 fn write_state<W: Write>(
     writer: &mut W,
     state: &State,
-    room: &mut Vec<Record>,
+    records: &mut Vec<Record>,
 ) -> Result<(), WriteFault>
-    requires { length state.now.seats ≤ vec_capacity room.old }
+    requires { length state.now.seats ≤ vec_capacity records.old }
     ensures text { Writes (W.contents writer.old) (W.contents writer.new)
         (state_text state.now) result }
-    ensures room { vec_capacity room.new ≡ vec_capacity room.old }
+    ensures capacity { vec_capacity records.new ≡ vec_capacity records.old }
 {
-    state.gather(room);
+    state.gather(records);
     write_words(writer, state)?;
     write_text(writer, b" ")?;
     write_place(writer, state.place())?;
     write_text(writer, b" ")?;
-    write_queue(writer, room)?;
+    write_queue(writer, records)?;
     Ok(())
 }
 
@@ -290,17 +290,17 @@ pub fn write_opening<W: Write>(
     writer: &mut W,
     seats: u64,
     state: &State,
-    room: &mut Vec<Record>,
+    records: &mut Vec<Record>,
 ) -> Result<(), WriteFault>
-    requires { length state.now.seats ≤ vec_capacity room.old }
+    requires { length state.now.seats ≤ vec_capacity records.old }
     ensures text { Writes (W.contents writer.old) (W.contents writer.new)
         (opening_text seats state.now) result }
-    ensures room { vec_capacity room.new ≡ vec_capacity room.old }
+    ensures capacity { vec_capacity records.new ≡ vec_capacity records.old }
 {
     write_text(writer, b"1 seats ")?;
     write_number(writer, seats)?;
     write_text(writer, b" | ")?;
-    write_state(writer, state, room)?;
+    write_state(writer, state, records)?;
     write_line_feed(writer)?;
     Ok(())
 }
@@ -329,16 +329,16 @@ pub fn write_line<W: Write>(
     line: &Line,
     turn: Turn,
     state: &State,
-    room: &mut Vec<Record>,
+    records: &mut Vec<Record>,
 ) -> Result<(), WriteFault>
-    requires { length state.now.seats ≤ vec_capacity room.old }
+    requires { length state.now.seats ≤ vec_capacity records.old }
     ensures text { Writes (W.contents writer.old) (W.contents writer.new)
         (line_text number line.now turn state.now) result }
-    ensures room { vec_capacity room.new ≡ vec_capacity room.old }
+    ensures capacity { vec_capacity records.new ≡ vec_capacity records.old }
 {
     write_outcome(writer, number, line, turn)?;
     write_text(writer, b" | ")?;
-    write_state(writer, state, room)?;
+    write_state(writer, state, records)?;
     write_line_feed(writer)?;
     Ok(())
 }

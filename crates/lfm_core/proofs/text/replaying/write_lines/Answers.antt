@@ -13,7 +13,7 @@ read lines i = get_or lines i (record { seat = 0; act = Begin Lock })
 pub write_line-requires : goal.write_line-requires
 write_line-requires g c =
     let same : length c.follow-turn.new.self.seats ≡ length c.running.state.seats = seats_kept c.running.state _ (read c.args.lines.now c.running.index) c.follow-turn.ensures.core in
-    omega (arith, c.running.invariant.room)
+    omega (arith, c.running.invariant.capacity)
 
 pub returns-in_err-write_line-clause-text : goal.returns-in_err-write_line-clause-text
 returns-in_err-write_line-clause-text g c =
@@ -28,9 +28,9 @@ running-preserved g c = record {
       c.in_ok-write_line.ensures.text rest);
   verdict = verdict_next c.running.index c.running.state _ _ _ _ c.running-test.true c.follow-turn.ensures.core c.follow-turn.ensures.turn _ _ c.is_refused.ensures
       ∙ c.running.invariant.verdict;
-  room =
+  capacity =
       let same : length c.follow-turn.new.self.seats ≡ length c.running.state.seats = seats_kept c.running.state _ (read c.args.lines.now c.running.index) c.follow-turn.ensures.core in
-      omega (arith, c.running.invariant.room, c.in_ok-write_line.ensures.room);
+      omega (arith, c.running.invariant.capacity, c.in_ok-write_line.ensures.capacity);
 }
 
 pub returns-clause-text : goal.returns-clause-text

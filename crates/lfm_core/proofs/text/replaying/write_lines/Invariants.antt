@@ -10,5 +10,5 @@ invariant-running g l = record {
   finishes : (new : Option (List ℕ)) (r : Result Bool WriteFault) → Writes (g.W.Write.contents l.writer) new (lines_text (l.index + 2) l.state (drop l.index l.lines)) r
       → Writes (g.W.Write.contents l.fn.writer) new (lines_text 2 l.fn.state l.lines) r;
   verdict : (l.none_refused && none_refused l.state (drop l.index l.lines)) ≡ none_refused l.fn.state l.lines;
-  room : length l.state.seats ≤ vec_capacity l.room;
+  capacity : length l.state.seats ≤ vec_capacity l.records;
 }

@@ -5,5 +5,5 @@ use Rattle.lfm_core.proofs.text.trace.put_number.Goals as goal
 pub write_digits-requires : goal.write_digits-requires
 write_digits-requires c = omega (arith, length-decimal c.args.number c.ranges.number.fits)
 
-pub returns-clause-room : goal.returns-clause-room
-returns-clause-room c = omega (arith, length-decimal c.args.number c.ranges.number.fits, c.write_digits.ensures.start)
+pub returns-clause-start : goal.returns-clause-start
+returns-clause-start c = omega (arith, length-decimal c.args.number c.ranges.number.fits, c.write_digits.ensures.start)

@@ -8,13 +8,13 @@ returns-in_err-write_record-clause-text g c = oldest_failed _ _ _ _ _ c.in-Some.
 pub writing-init : goal.writing-init
 writing-init g c = record {
   finishes = oldest_written _ _ _ _ _ c.in-Some.ensures.items c.in_ok-write_record.ensures;
-  room = c.pop.ensures.capacity;
+  capacity = c.pop.ensures.capacity;
 }
 
 pub writing-preserved : goal.writing-preserved
 writing-preserved g c = record {
   finishes = λ new r rest. c.writing.invariant.finishes new r (further_written _ _ _ _ _ c.in-Some-pop.ensures.items c.in_ok-write_further.ensures new r rest);
-  room = c.pop-in-writing.ensures.capacity ∙ c.writing.invariant.room;
+  capacity = c.pop-in-writing.ensures.capacity ∙ c.writing.invariant.capacity;
 }
 
 pub returns-in_err-write_further-clause-text : goal.returns-in_err-write_further-clause-text

@@ -10,7 +10,7 @@ abbrev pub invariant-writing : goal.invariant-writing
 invariant-writing g l = record {
   finishes : (new : Option (List ℕ)) (r : Result (Unit {0}) WriteFault) → Writes (g.W.Write.contents l.writer) new (further_text (reverse l.records.items)) r
       → Writes (g.W.Write.contents l.fn.writer) new (queue_text (reverse l.fn.records.items)) r;
-  room : vec_capacity l.records ≡ vec_capacity l.fn.records;
+  capacity : vec_capacity l.records ≡ vec_capacity l.fn.records;
 }
 
 abbrev pub decreases-writing : goal.decreases-writing

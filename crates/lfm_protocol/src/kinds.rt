@@ -36,11 +36,11 @@ pub enum Kind {
     LinkStore,
 
     // Of the handoff word.
-    /// Loads the posted handoff number.
+    /// Loads the post that stands, or 0.
     HandoffLoad,
-    /// Stores the seat's next handoff number.
+    /// Stores the seat's next post.
     HandoffStore,
-    /// Exchanges an expected handoff number for 0.
+    /// Exchanges an expected post for 0.
     HandoffExchange,
 
     // Of the wake word of a seat.
@@ -59,7 +59,7 @@ pub enum Word {
     Count,
     /// The owning seat; 0 for none.
     Owner,
-    /// The posted handoff number; 0 for none.
+    /// The post that stands; 0 for none.
     Handoff,
     /// The newest stamp, and the head of the push list.
     Push,

@@ -50,7 +50,7 @@ pub struct Machine {
     count: u64,
     /// The owner word: the number of the owning seat; 0 for none.
     owner: u64,
-    /// The handoff word: the posted handoff number.
+    /// The handoff word: the post that stands, or none.
     handoff: Handoff,
     /// The push word: the newest stamp, and the newest seat of the push list.
     push: Link,

@@ -27,16 +27,16 @@ pub enum Releaser {
     Waiter,
 }
 
-/// Which call carries the responsibility while it looks for the oldest record.
+/// Which call carries the responsibility while it collects and serves the oldest record.
 #[derive(Clone, Copy, Debug, PartialEq, Eq)]
 pub enum Carrier {
-    /// A `lock` that has taken a posted handoff over.
+    /// A `lock` that has taken a post over.
     Locker,
     /// A release that found the count above 1.
     Releaser(Releaser),
-    /// A release that has posted its handoff and taken it back.
+    /// A release that has posted, and has taken its post back.
     Reclaimer(Releaser),
-    /// A `send_lock` that has taken a posted handoff over.
+    /// A `send_lock` that has taken a post over.
     Sender,
 }
 
@@ -45,7 +45,7 @@ pub enum Carrier {
 pub enum Entrant {
     /// A `lock` that found a count of 0, or its own record as the oldest.
     Locker,
-    /// A `try_lock` that raised the count from 0, or accepted a posted handoff.
+    /// A `try_lock` that raised the count from 0, or accepted a post.
     Trier,
     /// A `receive` that found a grant.
     Receiver,
@@ -85,9 +85,9 @@ pub enum Point {
     TryOwnerLoad,
     /// `try_lock` 4: load the handoff word, to accept a post in place of Busy.
     TryHandoffLoad,
-    /// `try_lock` 5: exchange the handoff word from the number that was loaded to 0.
+    /// `try_lock` 5: exchange the handoff word from the post that was loaded to 0.
     TryHandoffExchange(Handoff),
-    /// `try_lock` 6: add 1 to the count word, the posted handoff being accepted.
+    /// `try_lock` 6: add 1 to the count word, the post being accepted.
     TryCountAdd,
 
     // A `send_lock` on its own: the number is its target's.
@@ -95,7 +95,7 @@ pub enum Point {
     SendWakeExchange(u64),
     /// `send_lock` 2: add 1 to the count word, for the target.
     SendCountAdd(u64),
-    /// `send_lock` 7: load the push word again, to see whether somebody is queued. The handoff number is that of step 6.
+    /// `send_lock` 7: load the push word again, to see whether a record stands there. The post is that of step 6.
     SendPushLook(u64, Handoff),
     /// `send_lock` 9 after a count of 0: store GRANT(0) in the target's wake word.
     SendWakeStore(u64),
@@ -110,27 +110,27 @@ pub enum Point {
     PushExchange(Pusher, Link),
     /// `lock` 7, `send_lock` 6: load the handoff word, the record being pushed.
     PushedHandoffLoad(Pusher),
-    /// `lock` 8, `send_lock` 8: exchange the handoff word from the number that was loaded to 0.
+    /// `lock` 8, `send_lock` 8: exchange the handoff word from the post that was loaded to 0, which takes it over.
     PushedHandoffExchange(Pusher, Handoff),
 
-    // A release, by `unlock` or `start_wait`.
+    // A release, by `unlock`, or by `start_wait` with the same numbers.
     /// `unlock` 1: store 0 in the owner word.
     ReleaseOwnerStore(Releaser),
     /// `unlock` 2: subtract 1 from the count word.
     ReleaseCountSubtract(Releaser),
-    /// `unlock` 3: store the seat's next handoff number in the handoff word, which posts the responsibility.
+    /// `unlock` 3: store the seat's next post in the handoff word.
     ReleaseHandoffStore(Releaser),
     /// `unlock` 4: load the push word again, to see whether somebody has pushed meanwhile.
     ReleasePushLook(Releaser),
-    /// `unlock` 5: exchange the handoff word from the seat's own number to 0, which takes the post back.
+    /// `unlock` 5: exchange the handoff word from the seat's own post to 0, which takes it back.
     ReleaseHandoffExchange(Releaser),
-    /// `start_wait` at its end: store WAITING in the seat's own wake word. The payload says how it released.
+    /// `start_wait` 7: store WAITING in the seat's own wake word. The payload says how it released.
     WaitWakeStore(Unlocked),
 
-    // The take of the oldest record and what follows it, by whichever call carries the responsibility.
-    /// First step of a take from an empty pop list: clear the head of the push word.
+    // A carrier collects the oldest record, and serves it.
+    /// `take` 1, where the pop list is empty: clear the head of the push word.
     TakeClearHead(Carrier),
-    /// Further steps of a take: load the link word of the seat with this number, whose record joins the pop list.
+    /// `take` 2: load the link word of the seat with this number, and put its record on the pop list as the oldest.
     TakeLinkLoad(Carrier, u64),
     /// `lock` 10, `unlock` 6, `send_lock` 9: store in the wake word of the record's seat a grant of the record's stamp.
     GrantWakeStore(Carrier, Record),

@@ -1,4 +1,4 @@
-//! The readers of single words and points: what a seat's next step would find, and where its call stands.
+//! The readers of single words and points. No reader changes anything, allocates, sleeps or wakes.
 ghost use Rattle.std.specs.Prelude.{◌≡◌};
 ghost use Rattle.lfm_protocol.specs.Seats.{seat, link, wake};
 
@@ -6,7 +6,8 @@ use crate::machine::Machine;
 use crate::points::Point;
 use lfm_words::{Link, Wake};
 
-/// The push word, and the words and points of the seats. A seat that isn't there reads as one at rest with empty words.
+/// The push word, and the words and points of the seats. A number that no seat has reads as a seat at rest whose words
+/// are 0.
 impl Machine {
     /// The push word: the newest stamp, and the head of the push list.
     pub fn push_word(&self) -> Link
@@ -23,7 +24,7 @@ impl Machine {
         if self.is_seat(t) {
             self.link(t)
         } else {
-            Link { stamp: 0, next: 0 }
+            Link::NONE
         }
     }
 
@@ -39,7 +40,7 @@ impl Machine {
         }
     }
 
-    /// The point of seat s: the atomic step that it makes next, with what its call has read.
+    /// Where seat s stands: the atomic step to come, or that no call of it is open.
     pub fn point(&self, s: u64) -> Point
         ensures { result ≡ (seat self.now.seats s).point }
     {

@@ -9,5 +9,5 @@ pub mod refusals;
 pub mod seat_numbers;
 
 pub use answers::{Asked, How, Locked, Place, Unlocked};
-pub use refusals::{NewFault, Refusal};
+pub use refusals::{Missing, NewFault, Refusal};
 pub use seat_numbers::SeatNo;

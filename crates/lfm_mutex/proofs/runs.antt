@@ -1,5 +1,7 @@
 -- The steps of a call, one after another: that they end, what they add to the trail, and what a call makes of the sight of its seat.
 pub mod BusyFacts
+pub mod MadeCalls
+pub mod OneStep
 pub mod RunFacts
 pub mod Running
 pub mod SendFacts

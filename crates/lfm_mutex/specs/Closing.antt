@@ -1,14 +1,10 @@
--- What keeps a mutex from being closed.
-use Rattle.std.specs.Prelude.{◌≡◌, ◌≢◌, ℕ, ◌<◌, ◌≤◌, List}
+-- What keeps a mutex from being closed. A seat lies in something of type A, and `look` says how it is seen.
+use Rattle.std.specs.Prelude.{◌≡◌, ◌≢◌, ℕ, ◌<◌, ◌≤◌, List, true, false}
 use mathlib.Core.Option.{some}
 use lib.ListN.{get_elem?}
-use Rattle.lfm_protocol.specs.declared.points.Point.TheVariants.{Rest}
-use Rattle.lfm_protocol.specs.declared.seats.SeatState.{SeatState}
-use Rattle.lfm_mutex.specs.declared.closing.Missing.{Missing}
-use Rattle.lfm_mutex.specs.declared.closing.Missing.TheVariants.{NotBack, Holding, Asleep}
-
-abbrev pub Idle : SeatState → Type 0
-Idle x = (x.depth ≡ 0) × (x.point ≡ Rest)
+use Rattle.lfm_model.specs.declared.refusals.Missing.{Missing}
+use Rattle.lfm_model.specs.declared.refusals.Missing.TheVariants.{NotBack, Holding, Asleep}
+use Rattle.lfm_mutex.specs.calls.Sight.{Sight}
 
 -- the seat that is named
 abbrev pub named : Missing → ℕ
@@ -16,27 +12,31 @@ named (NotBack k) = k
 named (Holding k) = k
 named (Asleep k) = k
 
--- the first thing of three that is true of a seat
-abbrev pub Hinders : Missing → ℕ → SeatState → Type 0
-Hinders (NotBack k) n x = ⊥
-Hinders (Holding k) n x = (n ≡ k) × (0 < x.depth)
-Hinders (Asleep k) n x = (n ≡ k) × (x.depth ≡ 0) × (x.point ≢ Rest)
+-- a seat that neither holds nor sleeps, and has no call open
+abbrev pub Idle : {T : Type 0} → Sight T → Type 0
+Idle s = (s.depth ≡ 0) × (s.asleep ≡ false)
 
-module _ {A : Type 0} (number : A → ℕ) (state : A → SeatState) (seats : List A) where
+-- the first thing of three that is true of a seat
+abbrev pub Hinders : {T : Type 0} → Missing → Sight T → Type 0
+Hinders (NotBack k) s = ⊥
+Hinders (Holding k) s = (s.number ≡ k) × (0 < s.depth)
+Hinders (Asleep k) s = (s.number ≡ k) × (s.depth ≡ 0) × (s.asleep ≡ true)
+
+module _ {A : Type 0} {T : Type 0} (look : A → Sight T) (seats : List A) where
   abbrev pub Lacks : ℕ → Type 0
-  Lacks k = (i : ℕ) (s : A) → get_elem? seats i ≡ some s → number s ≢ k
+  Lacks k = (i : ℕ) (s : A) → get_elem? seats i ≡ some s → (look s).number ≢ k
 
   abbrev pub Has : ℕ → Type 0
-  Has k = (i : ℕ) × (s : A) × (get_elem? seats i ≡ some s) × (number s ≡ k)
+  Has k = (i : ℕ) × (s : A) × (get_elem? seats i ≡ some s) × ((look s).number ≡ k)
 
   -- the seat k is back, and neither holds nor sleeps
   abbrev pub Stands : ℕ → Type 0
-  Stands k = Has k × ((i : ℕ) (s : A) → get_elem? seats i ≡ some s → number s ≡ k → Idle (state s))
+  Stands k = Has k × ((i : ℕ) (s : A) → get_elem? seats i ≡ some s → (look s).number ≡ k → Idle (look s))
 
   abbrev pub Hindered : Missing → Type 0
   Hindered (NotBack k) = Lacks k
-  Hindered (Holding k) = (i : ℕ) × (s : A) × (get_elem? seats i ≡ some s) × Hinders (Holding k) (number s) (state s)
-  Hindered (Asleep k) = (i : ℕ) × (s : A) × (get_elem? seats i ≡ some s) × Hinders (Asleep k) (number s) (state s)
+  Hindered (Holding k) = (i : ℕ) × (s : A) × (get_elem? seats i ≡ some s) × Hinders (Holding k) (look s)
+  Hindered (Asleep k) = (i : ℕ) × (s : A) × (get_elem? seats i ≡ some s) × Hinders (Asleep k) (look s)
 
   -- the first of the seats 1 to n that is not back, holds or sleeps
   abbrev pub First_missing : ℕ → Missing → Type 0

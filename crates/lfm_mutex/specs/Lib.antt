@@ -1,5 +1,6 @@
 pub mod table
 pub mod calls
+pub mod Belongs
 pub mod Closing
 pub mod Fresh
 pub mod Lending

@@ -1,3 +1,5 @@
 -- Runs of a seat's own steps, and calls between two sights of a seat.
 pub mod Runs
+pub mod SeatSteps
 pub mod Sight
+pub mod Trails

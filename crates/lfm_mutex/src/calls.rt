@@ -1,4 +1,5 @@
-//! The calls of a mutex that do not wait: each begins, and makes its steps to the end.
+//! The calls of a mutex that do not wait: each begins, and makes its steps to the end. They take no memory, and they wake a
+//! sleeping seat where they grant it the mutex.
 ghost use Rattle.std.specs.Prelude.{◌≡◌, ◌≢◌, false, true, Ok, Some, IfOk};
 ghost use Rattle.lfm_model.specs.declared.answers.Asked.TheVariants as AskedNow;
 ghost use Rattle.lfm_model.specs.declared.answers.How.{How as HowNow};
@@ -11,13 +12,15 @@ ghost use Rattle.lfm_protocol.specs.declared.points.Releaser.{Releaser};
 ghost use Rattle.lfm_protocol.specs.Begin.{begin};
 ghost use Rattle.lfm_mutex.specs.table.Rule.{value_in};
 ghost use Rattle.lfm_mutex.specs.calls.Runs.{nothing, errand, errand_of, is_releasing, is_release, Ends, Answers, Ran, Called, Holds, how_held, opens};
+ghost use Rattle.lfm_mutex.specs.Belongs.{Beside, Of_mutex, limits_of};
+ghost use Rattle.lfm_mutex.specs.calls.Trails.{Made, Makes_call};
 ghost use Rattle.lfm_mutex.specs.calls.Sight.{sight, Concludes, May_leave, Stays, Turned, Asks, Locks, Receives, Sends, Unlocks, Waits};
 ghost use Rattle.lfm_mutex.specs.table.Steps.{Leaves};
 
 use crate::kept::Kept;
 use crate::mutex::Mutex;
 use crate::seat::Seat;
-use crate::steps::{next, start};
+use crate::steps::{begin_call, make_next};
 use lfm_model::{Asked, How, Locked, Refusal, SeatNo, Unlocked};
 use lfm_protocol::{Answer, Call, Turn, Why};
 
@@ -36,7 +39,7 @@ fn finish<T: Kept>(mutex: &Mutex<T>, seat: &mut Seat<T>) -> Turn
     ensures stays { Stays seat.old.standing.depth seat.old.place.me.0 (value_in seat.old.moving) seat.new.place.me.0 (value_in seat.new.moving) }
 {
     loop {
-        match next(mutex, seat) {
+        match make_next(mutex, seat) {
             Turn::Open => {}
             ended => return ended,
         }
@@ -45,17 +48,14 @@ fn finish<T: Kept>(mutex: &Mutex<T>, seat: &mut Seat<T>) -> Turn
 
 /// Makes a call that releases nothing.
 fn run<T: Kept>(mutex: &Mutex<T>, seat: &mut Seat<T>, call: Call) -> Turn
-    requires belongs { seat.old.place.table_id ≡ mutex.now.table.shared.table_id }
+    requires belongs { Of_mutex seat.old mutex.now }
     requires keeps { is_releasing (errand_of call) ≡ false }
-    ensures belongs { seat.new.place.table_id ≡ seat.old.place.table_id }
-    ensures same { (seat.new.number ≡ seat.old.number) × (seat.new.limits ≡ seat.old.limits) }
+    ensures belongs { Beside seat.old seat.new }
     ensures answers { Answers (errand_of call) result }
-    ensures last { seat.new.place.me.0.last ≡ seat.old.place.me.0.last }
-    ensures held { (how : HowNow) → how_held result ≡ Some how → Holds T.follows T.fits seat.old.number seat.old.place.me.0.last how seat.new.standing seat.new.moving seat.new.place.me.0 }
-    ensures called { Called seat.old.number seat.old.limits call seat.old.standing seat.old.place.me.0 result seat.new.standing seat.new.place.me.0 }
-    ensures turned { Turned T.follows T.fits seat.old.limits call (sight seat.old) (sight seat.new) result }
+    ensures turned { Turned T.follows T.fits mutex.now.limits call (sight seat.old) (sight seat.new) result }
+    ensures made { Made mutex.now.limits call (sight seat.old) (sight seat.new) result }
 {
-    match start(mutex, seat, call) {
+    match begin_call(mutex, seat, call) {
         Turn::Open => finish(mutex, seat),
         told => told,
     }
@@ -63,17 +63,15 @@ fn run<T: Kept>(mutex: &Mutex<T>, seat: &mut Seat<T>, call: Call) -> Turn
 
 /// Makes a call that releases what is in hand.
 fn release<T: Kept>(mutex: &Mutex<T>, seat: &mut Seat<T>, call: Call) -> Turn
-    requires belongs { seat.old.place.table_id ≡ mutex.now.table.shared.table_id }
+    requires belongs { Of_mutex seat.old mutex.now }
     requires gives { is_releasing (errand_of call) ≡ true }
     requires leaves { May_leave T.follows T.fits (sight seat.old) }
-    ensures belongs { seat.new.place.table_id ≡ seat.old.place.table_id }
-    ensures same { (seat.new.number ≡ seat.old.number) × (seat.new.limits ≡ seat.old.limits) }
+    ensures belongs { Beside seat.old seat.new }
     ensures answers { Answers (errand_of call) result }
-    ensures last { (begin seat.old.standing seat.old.limits call).turn ≡ Open → seat.new.place.me.0.last ≡ value_in seat.old.moving }
-    ensures called { Called seat.old.number seat.old.limits call seat.old.standing seat.old.place.me.0 result seat.new.standing seat.new.place.me.0 }
-    ensures turned { Turned T.follows T.fits seat.old.limits call (sight seat.old) (sight seat.new) result }
+    ensures turned { Turned T.follows T.fits mutex.now.limits call (sight seat.old) (sight seat.new) result }
+    ensures made { Made mutex.now.limits call (sight seat.old) (sight seat.new) result }
 {
-    match start(mutex, seat, call) {
+    match begin_call(mutex, seat, call) {
         Turn::Open => finish_release(mutex, seat),
         told => told,
     }
@@ -91,22 +89,23 @@ fn finish_release<T: Kept>(mutex: &Mutex<T>, seat: &mut Seat<T>) -> Turn
     ensures ran { Ran seat.old.number (opens seat.old.standing) seat.old.place.me.0 result seat.new.standing seat.new.place.me.0 }
     ensures concludes { Concludes (record seat.old.standing { depth = 0 }) result seat.new.standing }
 {
-    match next(mutex, seat) {
+    match make_next(mutex, seat) {
         Turn::Open => finish(mutex, seat),
         ended => ended,
     }
 }
 
 impl<T: Kept> Mutex<T> {
-    /// `lock` up to the point where it would sleep.
+    /// `lock` up to the point where it would sleep: gains the mutex, deepens the hold, or queues the seat, which then
+    /// sleeps until a receive tells it that it holds. A seat that gains the mutex or queues is charged one take.
+    ///
+    /// Refuses, in this order: Asleep (the seat sleeps, or a call of it is open), DepthFull (it holds at depth 65,535),
+    /// Spent (it doesn't hold, and has no take left). It never waits. As `lock` of LFthreads' mutex and of OSv's lfmutex.
     pub fn ask(&self, seat: &mut Seat<T>) -> Result<Asked, Refusal>
-        requires belongs { seat.old.place.table_id ≡ self.now.table.shared.table_id }
-        ensures belongs { seat.new.place.table_id ≡ seat.old.place.table_id }
-        ensures same { (seat.new.number ≡ seat.old.number) × (seat.new.limits ≡ seat.old.limits) }
-        ensures last { seat.new.place.me.0.last ≡ seat.old.place.me.0.last }
-        ensures held { (how : HowNow) → result ≡ Ok (AskedNow.Held how) → Holds T.follows T.fits seat.old.number seat.old.place.me.0.last how seat.new.standing seat.new.moving seat.new.place.me.0 }
-        ensures ok { IfOk result (λ asked. Called seat.old.number seat.old.limits CallNow.Lock seat.old.standing seat.old.place.me.0 (Ended (Answered.Asked asked)) seat.new.standing seat.new.place.me.0) }
-        ensures asks { Asks T.follows T.fits seat.old.limits.budget (sight seat.old) (sight seat.new) result }
+        requires belongs { Of_mutex seat.old self.now }
+        ensures belongs { Beside seat.old seat.new }
+        ensures asks { Asks T.follows T.fits (limits_of self.now).budget (sight seat.old) (sight seat.new) result }
+        ensures steps { Makes_call (limits_of self.now) (λ x. Answered.Asked x) CallNow.Lock (sight seat.old) (sight seat.new) result }
     {
         match run(self, seat, Call::Lock) {
             Turn::Ended(Answer::Asked(asked)) => Ok(asked),
@@ -116,15 +115,17 @@ impl<T: Kept> Mutex<T> {
         }
     }
 
-    /// Holds without queueing, or is refused as Busy.
+    /// Gains the mutex or deepens the hold without queueing. A gain is charged one take. A post that no one has accepted
+    /// is accepted.
+    ///
+    /// Refuses, in this order: Asleep, DepthFull and Spent as `ask`, and Busy, where the count was not 0, another seat
+    /// was the owner, and no post stood there or another call was faster to accept it; Busy gives its charge back. It
+    /// never waits and wakes nobody. As `trylock` of OSv's lfmutex.
     pub fn try_lock(&self, seat: &mut Seat<T>) -> Result<Locked, Refusal>
-        requires belongs { seat.old.place.table_id ≡ self.now.table.shared.table_id }
-        ensures belongs { seat.new.place.table_id ≡ seat.old.place.table_id }
-        ensures same { (seat.new.number ≡ seat.old.number) × (seat.new.limits ≡ seat.old.limits) }
-        ensures last { seat.new.place.me.0.last ≡ seat.old.place.me.0.last }
-        ensures held { (how : HowNow) → result ≡ Ok (LockedNow.Held how) → Holds T.follows T.fits seat.old.number seat.old.place.me.0.last how seat.new.standing seat.new.moving seat.new.place.me.0 }
-        ensures ok { IfOk result (λ locked. Called seat.old.number seat.old.limits CallNow.TryLock seat.old.standing seat.old.place.me.0 (Ended (Answered.Locked locked)) seat.new.standing seat.new.place.me.0) }
-        ensures locks { Locks T.follows T.fits seat.old.limits.budget (sight seat.old) (sight seat.new) result }
+        requires belongs { Of_mutex seat.old self.now }
+        ensures belongs { Beside seat.old seat.new }
+        ensures locks { Locks T.follows T.fits (limits_of self.now).budget (sight seat.old) (sight seat.new) result }
+        ensures steps { Makes_call (limits_of self.now) (λ x. Answered.Locked x) CallNow.TryLock (sight seat.old) (sight seat.new) result }
     {
         match run(self, seat, Call::TryLock) {
             Turn::Ended(Answer::Locked(locked)) => Ok(locked),
@@ -134,15 +135,15 @@ impl<T: Kept> Mutex<T> {
         }
     }
 
-    /// One look at the wake word of a seat that sleeps.
+    /// One look at the wake word of a seat that sleeps: how it came to hold, or None where it was not granted the mutex
+    /// and sleeps on.
+    ///
+    /// Refuses with NotWaiting where the seat doesn't sleep, or a call of it is open. It never waits.
     pub fn try_receive(&self, seat: &mut Seat<T>) -> Result<Option<How>, Refusal>
-        requires belongs { seat.old.place.table_id ≡ self.now.table.shared.table_id }
-        ensures belongs { seat.new.place.table_id ≡ seat.old.place.table_id }
-        ensures same { (seat.new.number ≡ seat.old.number) × (seat.new.limits ≡ seat.old.limits) }
-        ensures last { seat.new.place.me.0.last ≡ seat.old.place.me.0.last }
-        ensures held { (how : HowNow) → result ≡ Ok (Some how) → Holds T.follows T.fits seat.old.number seat.old.place.me.0.last how seat.new.standing seat.new.moving seat.new.place.me.0 }
-        ensures ok { IfOk result (λ got. Called seat.old.number seat.old.limits CallNow.Receive seat.old.standing seat.old.place.me.0 (Ended (Answered.Got got)) seat.new.standing seat.new.place.me.0) }
+        requires belongs { Of_mutex seat.old self.now }
+        ensures belongs { Beside seat.old seat.new }
         ensures receives { Receives T.follows T.fits (sight seat.old) (sight seat.new) result }
+        ensures steps { Makes_call (limits_of self.now) (λ x. Answered.Got x) CallNow.Receive (sight seat.old) (sight seat.new) result }
     {
         match run(self, seat, Call::Receive) {
             Turn::Ended(Answer::Got(got)) => Ok(got),
@@ -151,14 +152,16 @@ impl<T: Kept> Mutex<T> {
         }
     }
 
-    /// Makes a sleeper of `start_wait` a locker, on its behalf.
+    /// Makes a seat that waits since its `start_wait` a locker, on its behalf: it gains the mutex or queues. The caller
+    /// may hold the mutex or not, and is charged nothing.
+    ///
+    /// Refuses, in this order: Asleep, NoSuchSeat (the target is above the mutex's seats), NotWaiting (the target
+    /// doesn't wait, or was sent before). It never waits, and wakes the seat that it grants the mutex, if any.
     pub fn send_lock(&self, seat: &mut Seat<T>, target: SeatNo) -> Result<(), Refusal>
-        requires belongs { seat.old.place.table_id ≡ self.now.table.shared.table_id }
-        ensures belongs { seat.new.place.table_id ≡ seat.old.place.table_id }
-        ensures same { (seat.new.number ≡ seat.old.number) × (seat.new.limits ≡ seat.old.limits) }
-        ensures last { seat.new.place.me.0.last ≡ seat.old.place.me.0.last }
-        ensures ok { IfOk result (λ _. Called seat.old.number seat.old.limits (CallNow.SendLock target) seat.old.standing seat.old.place.me.0 (Ended Answered.Sent) seat.new.standing seat.new.place.me.0) }
-        ensures sends { Sends seat.old.limits.seats (sight seat.old) target (sight seat.new) result }
+        requires belongs { Of_mutex seat.old self.now }
+        ensures belongs { Beside seat.old seat.new }
+        ensures sends { Sends (limits_of self.now).seats (sight seat.old) target (sight seat.new) result }
+        ensures steps { Makes_call (limits_of self.now) (λ x. Answered.Sent) (CallNow.SendLock target) (sight seat.old) (sight seat.new) result }
     {
         match run(self, seat, Call::SendLock(target.get())) {
             Turn::Ended(Answer::Sent) => Ok(()),
@@ -168,15 +171,17 @@ impl<T: Kept> Mutex<T> {
         }
     }
 
-    /// Gives up one hold, and at depth 1 the mutex. What is left follows what was found.
+    /// Gives up one hold, and at depth 1 the mutex: to the oldest queued seat, by a post to a locker that is not yet
+    /// queued, or to nobody. What is in hand then has to follow what was found.
+    ///
+    /// Refuses, in this order: Asleep, NotOwner (the seat doesn't hold). It never waits, and wakes the seat that it grants
+    /// the mutex, if any. As `unlock` of LFthreads' mutex and of OSv's lfmutex.
     pub fn unlock(&self, seat: &mut Seat<T>) -> Result<Unlocked, Refusal>
-        requires belongs { seat.old.place.table_id ≡ self.now.table.shared.table_id }
+        requires belongs { Of_mutex seat.old self.now }
         requires leaves { May_leave T.follows T.fits (sight seat.old) }
-        ensures belongs { seat.new.place.table_id ≡ seat.old.place.table_id }
-        ensures same { (seat.new.number ≡ seat.old.number) × (seat.new.limits ≡ seat.old.limits) }
-        ensures last { (begin seat.old.standing seat.old.limits CallNow.Unlock).turn ≡ Open → seat.new.place.me.0.last ≡ value_in seat.old.moving }
-        ensures ok { IfOk result (λ unlocked. Called seat.old.number seat.old.limits CallNow.Unlock seat.old.standing seat.old.place.me.0 (Ended (Answered.Unlocked unlocked)) seat.new.standing seat.new.place.me.0) }
+        ensures belongs { Beside seat.old seat.new }
         ensures unlocks { Unlocks (sight seat.old) (sight seat.new) result }
+        ensures steps { Makes_call (limits_of self.now) (λ x. Answered.Unlocked x) CallNow.Unlock (sight seat.old) (sight seat.new) result }
     {
         match release(self, seat, Call::Unlock) {
             Turn::Ended(Answer::Unlocked(unlocked)) => Ok(unlocked),
@@ -186,15 +191,17 @@ impl<T: Kept> Mutex<T> {
         }
     }
 
-    /// Gives up the mutex and falls asleep until it is sent.
+    /// Gives up the mutex as `unlock` does, and falls asleep until another seat sends this one. It charges the take
+    /// that ends the wait. It never answers Still.
+    ///
+    /// Refuses, in this order: Asleep, NotOwner, Nested (the seat holds above depth 1), Spent (it has no take left). It
+    /// never waits: a receive does. As the first half of `wait` of OSv's condition variable.
     pub fn start_wait(&self, seat: &mut Seat<T>) -> Result<Unlocked, Refusal>
-        requires belongs { seat.old.place.table_id ≡ self.now.table.shared.table_id }
+        requires belongs { Of_mutex seat.old self.now }
         requires leaves { May_leave T.follows T.fits (sight seat.old) }
-        ensures belongs { seat.new.place.table_id ≡ seat.old.place.table_id }
-        ensures same { (seat.new.number ≡ seat.old.number) × (seat.new.limits ≡ seat.old.limits) }
-        ensures last { (begin seat.old.standing seat.old.limits CallNow.StartWait).turn ≡ Open → seat.new.place.me.0.last ≡ value_in seat.old.moving }
-        ensures ok { IfOk result (λ released. Called seat.old.number seat.old.limits CallNow.StartWait seat.old.standing seat.old.place.me.0 (Ended (Answered.Waiting released)) seat.new.standing seat.new.place.me.0) }
-        ensures waits { Waits seat.old.limits.budget (sight seat.old) (sight seat.new) result }
+        ensures belongs { Beside seat.old seat.new }
+        ensures waits { Waits (limits_of self.now).budget (sight seat.old) (sight seat.new) result }
+        ensures steps { Makes_call (limits_of self.now) (λ x. Answered.Waiting x) CallNow.StartWait (sight seat.old) (sight seat.new) result }
     {
         match release(self, seat, Call::StartWait) {
             Turn::Ended(Answer::Waiting(released)) => Ok(released),

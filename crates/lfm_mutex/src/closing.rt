@@ -1,11 +1,13 @@
-//! How a mutex is closed.
-ghost use Rattle.std.specs.Prelude.{◌≡◌, ◌<◌, ℕ, [], Some, IfErr, IfOk, MatchOption, vec_len};
+//! How a mutex is closed: all seats are joined into seat 1, and the value is taken out of the table.
+ghost use Rattle.std.specs.Prelude.{◌≡◌, ◌<◌, ◌≤◌, ℕ, [], Some, IfErr, IfOk, MatchOption, vec_len};
 ghost use mathlib.Core.Option.{some};
 ghost use lib.ListN.{get_elem?};
 ghost use Rattle.lfm_protocol.specs.declared.points.Point.TheVariants.{Rest};
 ghost use Rattle.lfm_mutex.specs.declared.table.seat_view.Role.TheVariants.{User};
+ghost use Rattle.lfm_mutex.specs.Belongs.{Of_mutex, limits_of};
 ghost use Rattle.lfm_mutex.specs.Closing.{Idle, Hinders, named, Lacks, Stands, Hindered, First_missing, All_stand};
 ghost use Rattle.lfm_mutex.specs.Reach.{Reached};
+ghost use Rattle.lfm_mutex.specs.calls.Sight.{sight};
 ghost use Rattle.lfm_mutex.specs.table.Rule.{with_joined};
 
 use crate::holders::Holder;
@@ -14,47 +16,38 @@ use crate::mutex::Mutex;
 use crate::seat::{Place, Seat};
 use crate::table::rule::{JoinedView, Moving, SeatJoin};
 use crate::table::table_steps::SharedTable;
-use lfm_protocol::SeatState;
-use lfm_protocol::points::Point;
+use lfm_model::{Missing, SeatNo};
 use std::marker::Brand;
 
-/// Why a mutex can't be closed: the first seat that hinders it, and how.
-#[derive(Clone, Copy, Debug, PartialEq, Eq)]
-pub enum Missing {
-    NotBack(u64),
-    Holding(u64),
-    Asleep(u64),
-}
-
-// Why a seat with these plain data can't be joined.
-fn hinders(standing: &SeatState, number: u64) -> Option<Missing>
-    ensures { MatchOption result (Idle standing.now) (λ m. Hinders m number standing.now) }
+// Why this seat can't be joined.
+fn hinders<T: Kept>(seat: &Seat<T>) -> Option<Missing>
+    ensures { MatchOption result (Idle (sight seat.now)) (λ m. Hinders m (sight seat.now)) }
 {
-    if standing.depth != 0 {
-        return Some(Missing::Holding(number));
+    if seat.depth() != 0 {
+        return Some(Missing::Holding(seat.number()));
     }
-    match standing.point {
-        Point::Rest => None,
-        _ => Some(Missing::Asleep(number)),
+    if seat.asleep() {
+        return Some(Missing::Asleep(seat.number()));
     }
+    None
 }
 
 fn number_of<T: Kept, P: Holder<T>>(holder: &P) -> u64
-    ensures { result ≡ (P.seat_of holder.now).number }
+    ensures { result ≡ (sight (P.seat_of holder.now)).number }
 {
     holder.seat().number
 }
 
 fn hinders_one<T: Kept, P: Holder<T>>(holder: &P) -> Option<Missing>
-    ensures { MatchOption result (Idle (P.seat_of holder.now).standing) (λ m. Hinders m (P.seat_of holder.now).number (P.seat_of holder.now).standing) }
+    ensures { MatchOption result (Idle (sight (P.seat_of holder.now))) (λ m. Hinders m (sight (P.seat_of holder.now))) }
 {
-    let seat = holder.seat();
-    hinders(&seat.standing, seat.number)
+    hinders(holder.seat())
 }
 
 // What keeps the seat with this number from being joined.
 fn hinders_at<T: Kept, P: Holder<T>>(seats: &Vec<P>, number: u64) -> Option<Missing>
-    ensures { MatchOption result (Stands (λ p. (P.seat_of p).number) (λ p. (P.seat_of p).standing) seats.now.items number) (λ m. (named m ≡ number) × Hindered (λ p. (P.seat_of p).number) (λ p. (P.seat_of p).standing) seats.now.items m) }
+    requires number { (0 < number) × (number ≤ 65535) }
+    ensures { MatchOption result (Stands (λ p. sight (P.seat_of p)) seats.now.items number) (λ m. (named m ≡ number) × Hindered (λ p. sight (P.seat_of p)) seats.now.items m) }
 {
     let mut found = false;
     for seat in seats {
@@ -69,7 +62,7 @@ fn hinders_at<T: Kept, P: Holder<T>>(seats: &Vec<P>, number: u64) -> Option<Miss
     if found {
         None
     } else {
-        Some(Missing::NotBack(number))
+        Some(Missing::NotBack(SeatNo::known(number)))
     }
 }
 
@@ -89,7 +82,7 @@ fn into_place<T: Kept, P: Holder<T>>(holder: P) -> Place<T>
 
 // Where seat 1 lies.
 fn first_place<T: Kept, P: Holder<T>>(seats: &Vec<P>) -> Option<usize>
-    ensures { MatchOption result (Lacks (λ p. (P.seat_of p).number) (λ p. (P.seat_of p).standing) seats.now.items 1) (λ i. (s : _) × (get_elem? seats.now.items i ≡ some s) × ((P.seat_of s).number ≡ 1)) }
+    ensures { MatchOption result (Lacks (λ p. sight (P.seat_of p)) seats.now.items 1) (λ i. (s : _) × (get_elem? seats.now.items i ≡ some s) × ((P.seat_of s).number ≡ 1)) }
 {
     let mut place = 0usize;
     for seat in seats {
@@ -116,7 +109,7 @@ fn retire<T: Kept, B: JoinedView<T>>(table: &SharedTable<T>, root: &mut Place<T>
 impl<T: Kept> Mutex<T> {
     // The first thing that keeps the mutex from being closed.
     fn missing<P: Holder<T>>(&self, seats: &Vec<P>) -> Option<Missing>
-        ensures { MatchOption result (All_stand (λ p. (P.seat_of p).number) (λ p. (P.seat_of p).standing) seats.now.items self.now.limits.seats) (First_missing (λ p. (P.seat_of p).number) (λ p. (P.seat_of p).standing) seats.now.items self.now.limits.seats) }
+        ensures { MatchOption result (All_stand (λ p. sight (P.seat_of p)) seats.now.items (limits_of self.now).seats) (First_missing (λ p. sight (P.seat_of p)) seats.now.items (limits_of self.now).seats) }
     {
         for i in 0..self.limits.seats {
             if let Some(missing) = hinders_at::<T, P>(seats, i + 1) {
@@ -126,13 +119,15 @@ impl<T: Kept> Mutex<T> {
         None
     }
 
-    /// Gives the value back where all seats are there, none holds and none is asleep.
+    /// Gives the guarded value back, and ends the mutex, where all seats are there, none holds, none sleeps and none is
+    /// in a call. Otherwise it hands back the mutex and the seats, and names the first seat that hinders it, and how.
+    /// It compares each of the seats' numbers with each handed in, takes no memory and never waits.
     pub fn close<P: Holder<T>>(self, seats: Vec<P>) -> Result<T, (Mutex<T>, Vec<P>, Missing)>
-        requires belongs { (j : ℕ) (s : _) → get_elem? seats.items j ≡ some s → (P.seat_of s).place.table_id ≡ self.table.shared.table_id }
-        ensures missing { IfErr result (λ e. (e.0 ≡ self) × (e.1 ≡ seats) × First_missing (λ p. (P.seat_of p).number) (λ p. (P.seat_of p).standing) seats.items self.limits.seats e.2) }
-        ensures all { IfOk result (λ _. All_stand (λ p. (P.seat_of p).number) (λ p. (P.seat_of p).standing) seats.items self.limits.seats) }
-        ensures sized { IfOk result (λ _. vec_len seats ≡ self.limits.seats) }
-        ensures reached { IfOk result (λ v. (j : ℕ) (s : _) (l : T) → get_elem? seats.items j ≡ some s → (P.seat_of s).place.me.0.last ≡ Some l → Reached T.follows (P.seat_of s).number l v) }
+        requires belongs { (j : ℕ) (s : _) → get_elem? seats.items j ≡ some s → Of_mutex (P.seat_of s) self }
+        ensures missing { IfErr result (λ e. (e.0 ≡ self) × (e.1 ≡ seats) × First_missing (λ p. sight (P.seat_of p)) seats.items (limits_of self).seats e.2) }
+        ensures all { IfOk result (λ _. All_stand (λ p. sight (P.seat_of p)) seats.items (limits_of self).seats) }
+        ensures sized { IfOk result (λ _. vec_len seats ≡ (limits_of self).seats) }
+        ensures reached { IfOk result (λ v. (j : ℕ) (s : _) (l : T) → get_elem? seats.items j ≡ some s → (sight (P.seat_of s)).last ≡ Some l → Reached T.follows (sight (P.seat_of s)).number l v) }
     {
         if let Some(missing) = self.missing(&seats) {
             return Err((self, seats, missing));

@@ -17,9 +17,8 @@ mod table;
 mod tests;
 mod waiting;
 
-pub use closing::Missing;
 pub use holders::Holder;
 pub use kept::Kept;
 pub use mutex::Mutex;
 pub use seat::Seat;
-pub use waiting::LOOKS;
+pub use waiting::LOOKS_BEFORE_SLEEP;

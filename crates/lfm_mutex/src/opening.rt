@@ -1,9 +1,12 @@
-//! How a mutex is made.
+//! How a mutex is made: one table of words, whose first seat is seat 1, and the other seats split off it.
 ghost use Rattle.std.specs.Prelude.{◌≡◌, ◌+◌, ℕ, IfOk, IfErr, Some, None, vec_len, true, false};
 ghost use mathlib.Core.Option.{some};
 ghost use lib.ListN.{get_elem?};
 ghost use Rattle.lfm_protocol.specs.Seats.{absent};
-ghost use Rattle.lfm_mutex.specs.Fresh.{Fresh};
+ghost use Rattle.lfm_model.specs.declared.refusals.NewFault.{NewFault};
+ghost use Rattle.lfm_protocol.specs.Limits.{are_in_limits};
+ghost use Rattle.lfm_mutex.specs.Belongs.{Of_mutex, limits_of};
+ghost use Rattle.lfm_mutex.specs.calls.Sight.{sight, new_sight};
 
 use crate::kept::Kept;
 use crate::mutex::Mutex;
@@ -30,7 +33,11 @@ fn at_rest() -> SeatState
 }
 
 impl<T: Kept> Mutex<T> {
-    /// A mutex round this value, and its seats, 1 to `seats` in order. On a fault the value is dropped.
+    /// A mutex round this value, and its seats in order, numbered from 1. `seats` is 1 to 4,095, and `budget`, how many
+    /// takes each seat may make, 1 to 2^36. The value has to suit a mutex that has had no queued take.
+    ///
+    /// Outside these limits it answers Limit, and asks for no memory. It makes five requests for memory, and answers Memory
+    /// where one was refused. On a fault the value is dropped. No other call of a mutex takes memory.
     pub fn new(
         alloc: Global,
         seats: u64,
@@ -38,7 +45,10 @@ impl<T: Kept> Mutex<T> {
         value: T,
     ) -> Result<(Mutex<T>, Vec<Seat<T>>), NewFault>
         requires fits { T.fits value 0 }
-        ensures { IfOk result (λ r. (r.0.limits ≡ record { seats = seats; budget = budget }) × (vec_len r.1 ≡ seats) × ((j : ℕ) (s : _) → get_elem? r.1.items j ≡ some s → (s.place.table_id ≡ r.0.table.shared.table_id) × Fresh value (j + 1) s.number s.limits s.standing s.place.me s.moving r.0.limits)) }
+        ensures limits { IfOk result (λ r. (limits_of r.0 ≡ record { seats = seats; budget = budget }) × (are_in_limits seats budget ≡ true)) }
+        ensures seats { IfOk result (λ r. (vec_len r.1 ≡ seats) × ((j : ℕ) (s : _) → get_elem? r.1.items j ≡ some s → Of_mutex s r.0 × (sight s ≡ new_sight value (j + 1)))) }
+        ensures limit { are_in_limits seats budget ≡ false → IfErr result (λ e. e ≡ NewFault.Limit) × IfOk result (λ _. ⊥) }
+        ensures memory { are_in_limits seats budget ≡ true → IfErr result (λ e. e ≡ NewFault.Memory) }
     {
         let limits = Limits { seats, budget };
         if !limits.are_allowed() {

@@ -1,5 +1,7 @@
-//! The call that tells whether a seat owns.
-ghost use Rattle.std.specs.Prelude.{◌≡◌, ◌<◌, Some};
+//! The call that tells which seat owns the mutex.
+ghost use Rattle.std.specs.Prelude.{◌≡◌};
+ghost use Rattle.lfm_mutex.specs.Belongs.{Beside, Of_mutex};
+ghost use Rattle.lfm_mutex.specs.calls.Sight.{sight, Looks_at_owner};
 
 use crate::kept::Kept;
 use crate::mutex::Mutex;
@@ -8,14 +10,13 @@ use crate::table::rule::OwnerLook;
 use lfm_model::SeatNo;
 
 impl<T: Kept> Mutex<T> {
-    /// The seat that the owner word names: one load. Mine refuses nothing.
+    /// The seat that the owner word names, by one load; None where no seat owns the mutex. It answers the caller's own
+    /// number exactly where the caller holds the mutex; another seat's number may be out of date when it is read.
+    /// It refuses nothing, also for a seat that sleeps or is in a call, and never waits.
     pub fn owner(&self, seat: &mut Seat<T>) -> Option<SeatNo>
-        requires belongs { seat.old.place.table_id ≡ self.now.table.shared.table_id }
-        ensures belongs { seat.new.place.table_id ≡ seat.old.place.table_id }
-        ensures same { (seat.new.number ≡ seat.old.number) × (seat.new.limits ≡ seat.old.limits) × (seat.new.standing ≡ seat.old.standing) × (seat.new.moving ≡ seat.old.moving) }
-        ensures last { seat.new.place.me.0.last ≡ seat.old.place.me.0.last }
-        ensures mine { 0 < seat.old.standing.depth → result ≡ Some seat.old.number }
-        ensures only_mine { result ≡ Some seat.old.number → 0 < seat.old.standing.depth }
+        requires belongs { Of_mutex seat.old self.now }
+        ensures belongs { Beside seat.old seat.new }
+        ensures looks { Looks_at_owner (sight seat.old) (sight seat.new) result }
     {
         let found = self.table.shared.load::<OwnerLook>(&mut seat.place, 1);
         SeatNo::new(found)

@@ -1,5 +1,6 @@
-//! A seat of the mutex.
-ghost use Rattle.std.specs.Prelude.{◌≡◌, ◌<◌, MatchOption};
+//! A seat of the mutex: what one thread uses it with. Its fields are the crate's own; callers see a seat by its readers, and
+//! contracts by `sight`.
+ghost use Rattle.std.specs.Prelude.{◌≡◌, ◌<◌, ◌-◌, Some, None, MatchOption};
 ghost use Rattle.lfm_mutex.specs.table.Props.{IsReady-prop, Became-prop};
 ghost use Rattle.lfm_core.specs.table.Ready.{IsReady};
 ghost use Rattle.lfm_mutex.specs.table.Rule.{value_in, put_value};
@@ -9,19 +10,22 @@ ghost use Rattle.lfm_mutex.specs.table.Settled.{Became};
 use crate::kept::Kept;
 use crate::table::rule::Moving;
 use crate::table::seat_view::View;
+use lfm_model::SeatNo;
+use lfm_protocol::points::Point;
 use lfm_protocol::{Limits, SeatState};
 
 /// The seat of the table, which has no bytes.
 pub(crate) type Place<T> = atomic_table::Seat<Option<Moving<T>>, View<T>>;
 
-/// What one thread uses the mutex with.
+/// What one thread uses the mutex with. A seat may move between threads, and each call borrows it for its whole length.
+/// Dropped while it holds or sleeps, it keeps what it holds: nobody else gains that.
 #[derive(Drop)]
 pub struct Seat<T: Drop> {
     pub(crate) place: Place<T>,
     pub(crate) number: u64,
     pub(crate) limits: Limits,
     pub(crate) standing: SeatState,
-    /// Here exactly while the seat carries the responsibility.
+    /// The pop list and the guarded value: here exactly while the seat carries the responsibility.
     pub(crate) moving: Option<Moving<T>>,
     pub ghost seated: { Seated number limits standing place.me moving },
     pub ghost became: { Became place.me.0.standing limits standing } by { Became-prop place.me.0.standing limits standing },
@@ -29,17 +33,49 @@ pub struct Seat<T: Drop> {
     pub ghost rooted: { Rooted place.table_id.words place.id number limits place.me.0 },
 }
 
+/// What a seat tells of itself. None of these touches a word of the mutex, allocates or waits.
 impl<T: Kept> Seat<T> {
-    /// How often the seat holds the mutex.
+    ghost use Rattle.lfm_mutex.specs.calls.Sight.{sight};
+    ghost use Rattle.lfm_mutex.specs.Belongs.{budget_of};
+
+    /// The seat's number: 1 to 4,095.
+    pub fn number(&self) -> SeatNo
+        ensures { result ≡ (sight self.now).number }
+    {
+        SeatNo::known(self.number)
+    }
+
+    /// How often the seat holds the mutex: 0 to 65,535.
     pub fn depth(&self) -> u32
-        ensures { result ≡ self.now.standing.depth }
+        ensures { result ≡ (sight self.now).depth }
     {
         self.standing.depth
     }
 
+    /// How many takes the seat has made.
+    pub fn takes(&self) -> u64
+        ensures { result ≡ (sight self.now).takes }
+    {
+        self.standing.takes
+    }
+
+    /// How many takes are left: the budget less the takes.
+    pub fn left(&self) -> u64
+        ensures { result ≡ budget_of self.now - (sight self.now).takes }
+    {
+        self.limits.budget.saturating_sub(self.standing.takes)
+    }
+
+    /// Whether the seat sleeps, or a call of it is open.
+    pub fn asleep(&self) -> bool
+        ensures { result ≡ (sight self.now).asleep }
+    {
+        !matches!(self.standing.point, Point::Rest)
+    }
+
     /// The guarded value, Some exactly where the depth is 1 or more.
     pub fn value(&self) -> Option<&T>
-        ensures { MatchOption result (self.now.standing.depth ≡ 0) (λ x. (0 < self.now.standing.depth) × (value_in self.now.moving ≡ Some x.now)) }
+        ensures { MatchOption result ((sight self.now).depth ≡ 0) (λ x. (0 < (sight self.now).depth) × ((sight self.now).value ≡ Some x.now)) }
     {
         if self.standing.depth == 0 {
             return None;

@@ -1,9 +1,8 @@
-//! The calls that may sleep.
-ghost use Rattle.std.specs.Prelude.{◌≡◌, ◌<◌, Ok};
-ghost use Rattle.lfm_model.specs.declared.answers.How.{How as HowNow};
-ghost use Rattle.lfm_model.specs.declared.answers.Locked.TheVariants as LockedNow;
-ghost use Rattle.lfm_mutex.specs.calls.Runs.{Holds};
+//! The calls that may sleep: nothing is held while they wait, and how often they look before they sleep is bounded.
+ghost use Rattle.std.specs.Prelude.{◌≡◌, ◌<◌};
+ghost use Rattle.lfm_mutex.specs.Belongs.{Beside, Of_mutex, limits_of};
 ghost use Rattle.lfm_mutex.specs.calls.Sight.{sight, Receives_lock, Locks_waiting};
+ghost use Rattle.lfm_mutex.specs.calls.Trails.{Locks_by, Receives_by};
 
 use crate::kept::Kept;
 use crate::mutex::Mutex;
@@ -12,56 +11,76 @@ use lfm_model::{Asked, How, Locked, Refusal};
 use std::hint::spin_loop;
 use std::sync::Wait;
 
-/// How often a seat looks at its wake word before it sleeps.
-pub const LOOKS: u32 = 2_000;
+/// How often `receive_lock` and `lock` look at the wake word before they sleep. A grant mostly comes within this time; a
+/// sleep and a wake-up cost far more than the looks.
+pub const LOOKS_BEFORE_SLEEP: u32 = 2_000;
+
+// Words below this are no grant: quiet, waiting, claimed.
+const FIRST_GRANT: u64 = 3;
 
 impl<T: Kept> Mutex<T> {
-    /// OwnerLook at the wake word until the seat is granted the mutex: some times in a row, and then each time that it was
-    /// woken.
+    /// Waits until the seat, which sleeps, is granted the mutex, and answers how it came to hold. It looks at the wake
+    /// word up to `LOOKS_BEFORE_SLEEP` times, and then sleeps until it is woken.
+    ///
+    /// Refuses with NotWaiting where the seat doesn't sleep, or a call of it is open.
     pub fn receive_lock<R: Wait>(&self, rt: &R, seat: &mut Seat<T>) -> Result<How, Refusal>
-        requires belongs { seat.old.place.table_id ≡ self.now.table.shared.table_id }
-        ensures belongs { seat.new.place.table_id ≡ seat.old.place.table_id }
-        ensures same { (seat.new.number ≡ seat.old.number) × (seat.new.limits ≡ seat.old.limits) }
-        ensures last { seat.new.place.me.0.last ≡ seat.old.place.me.0.last }
-        ensures held { (how : HowNow) → result ≡ Ok how → Holds T.follows T.fits seat.old.number seat.old.place.me.0.last how seat.new.standing seat.new.moving seat.new.place.me.0 }
+        requires belongs { Of_mutex seat.old self.now }
+        ensures belongs { Beside seat.old seat.new }
         ensures receives { Receives_lock T.follows T.fits (sight seat.old) (sight seat.new) result }
+        ensures steps { Receives_by (limits_of self.now) (sight seat.old) (sight seat.new) result }
+    {
+        self.receive_lock_within(rt, seat, LOOKS_BEFORE_SLEEP)
+    }
+
+    /// `receive_lock` with so many looks before it sleeps. With none it sleeps after its first look, as suits a seat
+    /// whose grant is not expected soon.
+    pub fn receive_lock_within<R: Wait>(
+        &self,
+        rt: &R,
+        seat: &mut Seat<T>,
+        looks: u32,
+    ) -> Result<How, Refusal>
+        requires belongs { Of_mutex seat.old self.now }
+        ensures belongs { Beside seat.old seat.new }
+        ensures receives { Receives_lock T.follows T.fits (sight seat.old) (sight seat.new) result }
+        ensures steps { Receives_by (limits_of self.now) (sight seat.old) (sight seat.new) result }
     {
         let wake = 3 + seat.limits.seats as usize + seat.number as usize;
-        let mut looks = 0u32;
+        let mut left = looks;
         for _ in rt.forever() {
             match self.try_receive(seat) {
                 Ok(Some(how)) => return Ok(how),
                 Err(refusal) => return Err(refusal),
                 Ok(None) => {}
             }
-            looks = self.pause(rt, wake, looks);
+            left = self.pause(rt, wake, left);
         }
         unreachable!()
     }
 
-    // Between two looks: spins at first, and then sleeps while the word is no grant.
-    fn pause<R: Wait>(&self, rt: &R, wake: usize, looks: u32) -> u32
+    // Between two looks: spins while some are left, and then sleeps while the word is no grant.
+    fn pause<R: Wait>(&self, rt: &R, wake: usize, left: u32) -> u32
         requires { wake < self.now.table.shared.table_id.words }
     {
-        if looks < LOOKS {
+        if left > 0 {
             spin_loop();
-            return looks + 1;
+            return left - 1;
         }
         let seen = self.table.shared.peek(wake);
-        if seen < 3 {
+        if seen < FIRST_GRANT {
             self.table.shared.park(rt, wake, seen as u32);
         }
-        looks
+        left
     }
 
-    /// `ask`, and then `receive_lock` where it answered Asleep.
+    /// Gains the mutex, or deepens the hold: `ask`, and then `receive_lock` where it answered Asleep.
+    ///
+    /// Refuses as `ask`: Asleep, DepthFull, Spent, in this order.
     pub fn lock<R: Wait>(&self, rt: &R, seat: &mut Seat<T>) -> Result<Locked, Refusal>
-        requires belongs { seat.old.place.table_id ≡ self.now.table.shared.table_id }
-        ensures belongs { seat.new.place.table_id ≡ seat.old.place.table_id }
-        ensures same { (seat.new.number ≡ seat.old.number) × (seat.new.limits ≡ seat.old.limits) }
-        ensures last { seat.new.place.me.0.last ≡ seat.old.place.me.0.last }
-        ensures held { (how : HowNow) → result ≡ Ok (LockedNow.Held how) → Holds T.follows T.fits seat.old.number seat.old.place.me.0.last how seat.new.standing seat.new.moving seat.new.place.me.0 }
-        ensures locks { Locks_waiting T.follows T.fits seat.old.limits.budget (sight seat.old) (sight seat.new) result }
+        requires belongs { Of_mutex seat.old self.now }
+        ensures belongs { Beside seat.old seat.new }
+        ensures locks { Locks_waiting T.follows T.fits (limits_of self.now).budget (sight seat.old) (sight seat.new) result }
+        ensures steps { Locks_by (limits_of self.now) (sight seat.old) (sight seat.new) result }
     {
         match self.ask(seat)? {
             Asked::Held(how) => Ok(Locked::Held(how)),

@@ -1,6 +1,7 @@
 -- Lists of seats as they come back, and the end of a table.
 use Rattle.std.specs.List.{remove}
 use Rattle.std.specs.Prelude.{Bool, false}
+use Rattle.std.proofs.lemmas.Bool.{false≢true}
 use Rattle.std.proofs.Common.{◌≡◌, ◌≢◌, ℕ, zero, suc, eqb, eq-eqb, ne_eqb, if◌then◌else◌, ◌+◌, ◌<◌, ◌≤◌, List, [], ◌∷◌, ◌++◌, length, get_or, sym, refl, ap, ◌∙◌, subst, ◌⊎◌, ⊎_elim, inl, inr, arith, Option, Some}
 use mathlib.Core.Option.{some, some-injective, some-ne-none}
 use lib.ListN.{get_elem?}
@@ -20,8 +21,8 @@ use Rattle.lfm_core.specs.table.Carried.{carries_value}
 use Rattle.lfm_protocol.specs.Seats.{seat}
 use Rattle.lfm_core.specs.table.Settles.{begun}
 use Rattle.lfm_core.proofs.steady.frames.Entries.{seat_zero}
-use Rattle.lfm_mutex.specs.declared.closing.Missing.{Missing}
-use Rattle.lfm_mutex.specs.declared.closing.Missing.TheVariants.{NotBack, Holding, Asleep as Sleeping}
+use Rattle.lfm_model.specs.declared.refusals.Missing.{Missing}
+use Rattle.lfm_model.specs.declared.refusals.Missing.TheVariants.{NotBack, Holding, Asleep as Sleeping}
 use Rattle.lfm_mutex.specs.declared.table.seat_view.Role.{Role}
 use Rattle.lfm_mutex.specs.declared.table.seat_view.Role.TheVariants.{User, Retired}
 use Rattle.lfm_mutex.specs.declared.table.seat_view.Joined.{Joined}
@@ -29,6 +30,7 @@ use Rattle.lfm_mutex.specs.declared.table.seat_view.View.{View}
 use Rattle.lfm_mutex.specs.declared.table.rule.Moving.{Moving}
 use Rattle.lfm_mutex.specs.Closing.{Hinders, Hindered, named}
 use Rattle.lfm_mutex.specs.Reach.{Reached}
+use Rattle.lfm_mutex.specs.calls.Sight.{Sight, is_asleep, by_depth}
 use Rattle.lfm_mutex.specs.table.Rule.{total, retired, retired_at, in_hand, Held}
 use Rattle.lfm_mutex.specs.table.Seats.{Seated}
 use Rattle.lfm_mutex.specs.table.Settled.{Became, calls_to}
@@ -204,10 +206,20 @@ pub pigeons : {A : Type 0} (number : A → ℕ) (l : List A) (n : ℕ) → ((k :
 pigeons number l n h = let a = found_all number l n h in let b = total_once (λ s. up_to_number n (number s)) l (λ s. once n (number s)) in omega arith
 
 -- what hinders a seat of the list
-pub hindered_at : {A : Type 0} (number : A → ℕ) (f : A → SeatState) (l : List A) (i : ℕ) (s : A) (k : ℕ) (m : Missing) → get_elem? l i ≡ some s → number s ≡ k → Hinders m (number s) (f s) → (named m ≡ k) × Hindered number f l m
-hindered_at number f l i s k (NotBack n) at e h = absurd h
-hindered_at number f l i s k (Holding n) at e h = (sym h.0 ∙ e, (i, s, at, h))
-hindered_at number f l i s k (Sleeping n) at e h = (sym h.0 ∙ e, (i, s, at, h))
+pub hindered_at : {A : Type 0} {T : Type 0} (look : A → Sight T) (l : List A) (i : ℕ) (s : A) (k : ℕ) (m : Missing) → get_elem? l i ≡ some s → (look s).number ≡ k → Hinders m (look s) → (named m ≡ k) × Hindered look l m
+hindered_at look l i s k (NotBack n) at e h = absurd h
+hindered_at look l i s k (Holding n) at e h = (sym h.0 ∙ e, (i, s, at, h))
+hindered_at look l i s k (Sleeping n) at e h = (sym h.0 ∙ e, (i, s, at, h))
+
+-- what a seat that doesn't hold left last
+pub seen_last : {A : Type 0} (d : ℕ) (x y z : A) → d ≡ 0 → by_depth d x y ≡ z → x ≡ z
+seen_last zero x y z flat e = e
+seen_last (suc d) x y z flat e = absurd (omega (arith, flat))
+
+-- a seat that isn't asleep is at rest
+pub rest_of : (q : Point) → is_asleep q ≡ false → q ≡ Rest
+rest_of Rest e = refl
+rest_of _ e = absurd (false≢true (sym e))
 
 pub at_end_of : {A : Type 0} (l : List A) (a : A) → get_elem? (l ++ a ∷ []) (length l) ≡ some a
 at_end_of l a = at_last l a (length l) refl

@@ -1,6 +1,6 @@
 -- What a call makes of what is seen of its seat.
 use Rattle.std.proofs.Common.{◌≡◌, ◌≢◌, ◌⊎◌, ℕ, zero, suc, ◌+◌, ◌-◌, ◌<◌, ◌≤◌, Bool, true, false, Option, Some, None, List, [], ◌∷◌, ◌++◌, length, nat_eq, nat_lt, ◌&&◌, refl, sym, ap, subst, ◌∙◌, arith, tests, inl, inr, if◌then◌else◌, append_assoc, append-nil}
-use Rattle.std.specs.Prelude.{⊤, Result, Ok, Err}
+use Rattle.std.specs.Prelude.{⊤, Result, Ok, Err, ◌↔◌, IsSome, IfSome}
 use Rattle.std.proofs.lemmas.Bool.{cases_eq, ne_eqb, eq-eqb, false≢true}
 use Rattle.atomic_table.specs.Table.{Me}
 use Rattle.lfm_model.specs.declared.answers.Asked.{Asked}
@@ -17,7 +17,7 @@ use Rattle.lfm_protocol.specs.declared.answers.Turn.TheVariants.{Open, Ended, Re
 use Rattle.lfm_protocol.specs.declared.answers.Why.{Why}
 use Rattle.lfm_protocol.specs.declared.limits.Limits.{Limits}
 use Rattle.lfm_protocol.specs.declared.points.Point.{Point}
-use Rattle.lfm_protocol.specs.declared.points.Point.TheVariants.{Rest, Asleep, LockCountAdd, TryCountExchange, SendWakeExchange, ReleaseOwnerStore, ReceiveWakeLoad}
+use Rattle.lfm_protocol.specs.declared.points.Point.TheVariants.{Rest, Asleep, TryOwnerLoad, LockCountAdd, TryCountExchange, SendWakeExchange, ReleaseOwnerStore, ReceiveWakeLoad}
 use Rattle.lfm_protocol.specs.declared.points.Releaser.{Releaser}
 use Rattle.lfm_protocol.specs.declared.points.Releaser.TheVariants.{Unlocker, Waiter}
 use Rattle.lfm_protocol.specs.declared.points.Sleeper.{Sleeper}
@@ -35,7 +35,8 @@ use Rattle.lfm_mutex.specs.declared.table.seat_view.Seen.{Seen}
 use Rattle.lfm_mutex.specs.table.Rule.{value_in, left_by, Hands, seen}
 use Rattle.lfm_mutex.specs.calls.Runs.{Errand, locking, trying, releasing, sending, receiving, refuses_for, errand, is_release, Ends, Ran, opens, trail_of, Counts, Holds, how_held, errand_of, is_releasing}
 use Rattle.lfm_mutex.specs.table.Steps.{Event, Value_goes, Leaves}
-use Rattle.lfm_mutex.specs.calls.Sight.{Sight, sight_of, by_depth, is_asleep, is_in_call, sends_of, Concludes, Answered_by, Refused_by, Still_at, Is_left, Suits, Finds, May_leave, Gains, Deepens, Wakes, Leaves_off, Turned, claimed, Stays, Busy_seen}
+use Rattle.lfm_mutex.specs.calls.Sight.{Sight, sight_of, by_depth, is_asleep, is_in_call, sends_of, Concludes, Answered_by, Refused_by, Still_at, Is_left, Suits, Finds, May_leave, Gains, Deepens, Wakes, Leaves_off, Turned, claimed, Stays, Busy_seen, new_sight, Names}
+use Rattle.lfm_mutex.specs.Fresh.{Fresh}
 use Rattle.lfm_mutex.proofs.runs.RunFacts.{no_leaves}
 use Rattle.lfm_mutex.proofs.runs.Running.{begun_open}
 use Rattle.lfm_mutex.proofs.tables.StepFacts.{made_of, left_same}
@@ -137,11 +138,11 @@ module _ {T : Type 0} (follows : ℕ → T → T → Type 0) (suits : T → ℕ 
 
 -- What is seen
 
-deep_by : {A : Type 0} (d : ℕ) (x y : A) → 0 < d → by_depth d x y ≡ y
+pub deep_by : {A : Type 0} (d : ℕ) (x y : A) → 0 < d → by_depth d x y ≡ y
 deep_by zero x y deep = absurd (omega (arith, deep))
 deep_by (suc d) x y deep = refl
 
-flat_by : {A : Type 0} (d : ℕ) (x y : A) → d ≡ 0 → by_depth d x y ≡ x
+pub flat_by : {A : Type 0} (d : ℕ) (x y : A) → d ≡ 0 → by_depth d x y ≡ x
 flat_by zero x y flat = refl
 flat_by (suc d) x y flat = absurd (omega (arith, flat))
 
@@ -319,7 +320,7 @@ module _ {T : Type 0} (follows : ℕ → T → T → Type 0) (fits : T → ℕ �
   suits_of (How.Queued stamp) w k j counts is = (k, sym counts.0, counts.1, is)
 
   -- what a hold finds
-  finds : (how : How) → p.depth ≡ 0 → Holds follows fits n v.last how p' a' v' → Finds follows fits how S S'
+  pub finds : (how : How) → p.depth ≡ 0 → Holds follows fits n v.last how p' a' v' → Finds follows fits how S S'
   finds how flat h =
       let deep : 0 < p'.depth = let e = h.depth in omega (arith, e) in (
         h.moving.value,
@@ -518,3 +519,25 @@ may_leave {T} follows fits n p v a named deep may x is =
       subst (λ (k : ℕ). fits x.value k) (deep_by p.depth 0 v.answered deep) m.0,
       λ y found. subst (λ (k : ℕ). follows k y x.value) (sym named) (m.1 y (deep_by p.depth v.last v.found deep ∙ found)),
     )
+
+-- A seat as it is made, and a look at the owner
+
+pub fresh_sight : {T : Type 0} (x : T) (k n : ℕ) (l : Limits) (p : SeatState) (m : Me (Option (Moving T)) (View T)) (a : Option (Moving T)) (all : Limits) → Fresh x k n l p m a all → sight_of n p m.0 (value_in a) ≡ new_sight x k
+fresh_sight {T} x k n l p m a all f =
+    ap (λ (t : ℕ × SeatState × Option (Moving T)). sight_of t.0 t.1 m.0 (value_in t.2)) (λ i. (f.0 i, f.2 i, f.3 i))
+    ∙ (λ i. record { number = k; depth = 0; takes = 0; asleep = false; in_call = false; last = f.5 i; value = None; queued = 0; trail = f.4 i; sends = sends_of (f.4 i) })
+
+pub looked_sight : {T : Type 0} (n k : ℕ) (p : SeatState) (v w : View T) (a : Option T) → w ≡ record v { trail = v.trail ++ seen TryOwnerLoad k ∷ [] } → sight_of n p w a ≡ record (sight_of n p v a) { trail = v.trail ++ seen TryOwnerLoad k ∷ [] }
+looked_sight {T} n k p v w a is =
+    let sends : sends_of (v.trail ++ seen TryOwnerLoad k ∷ []) ≡ sends_of v.trail = sends_join v.trail (seen TryOwnerLoad k ∷ []) ∙ append-nil (sends_of v.trail) in
+    ap (λ (z : View T). sight_of n p z a) is ∙ (λ i. record (sight_of n p v a) { trail = v.trail ++ seen TryOwnerLoad k ∷ []; sends = sends i })
+
+some_number : (k n : ℕ) → Some k ≡ Some n → k ≡ n
+some_number k n e = cc
+
+pub owner_told : (r : Option ℕ) (n number d : ℕ) → IsSome r ↔ ((0 < n) × (n ≤ 65535)) → IfSome r (λ s. s ≡ n) → 0 < number → number ≤ 65535 → (n ≡ number → 0 < d) → (0 < d → n ≡ number)
+    → Names r n × (r ≡ Some number → 0 < d) × (0 < d → r ≡ Some number)
+owner_told None n number d valid value low high mine only =
+    (λ h. false≢true (valid.1 h), λ e. absurd (cc), λ deep. let is = only deep in absurd (false≢true (valid.1 (omega (arith, is, low), omega (arith, is, high)))))
+owner_told (Some k) n number d valid value low high mine only =
+    (value, λ e. mine (sym value ∙ some_number k number e), λ deep. ap Some (value ∙ only deep))

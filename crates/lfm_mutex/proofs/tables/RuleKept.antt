@@ -96,7 +96,7 @@ module _ {T : Type 0} (follows : ℕ → T → T → Type 0) (suits : T → ℕ 
     same_total : total retired vs ≡ total retired s.views
     same_total = let t = total_set retired s.views id v w at in let eq : retired w ≡ retired v = ap retired_at same in omega arith
 
-    -- a seat that has joined stays as it was
+    -- a seat that was joined stays as it was
     stay_gone : (j : ℕ) (z : View T) → get_elem? s.views j ≡ some z → z.role ≡ Retired → get_elem? vs j ≡ some z
     stay_gone j z e is = set_else s.views id j w (λ q. not_both v.role user (ap (λ (y : View T). y.role) (some-injective v z (sym at ∙ subst (λ (i : ℕ). get_elem? s.views i ≡ some z) q e)) ∙ is)) ∙ e
 
@@ -374,7 +374,7 @@ module _ {T : Type 0} (follows : ℕ → T → T → Type 0) (suits : T → ℕ 
                 )),
           )
 
-      -- Mine goes home
+      -- it goes home
 
       give : carries_value p ≡ true → carries_value st.seat ≡ false → Moved_by true false → Done
       give before after did =
@@ -422,7 +422,7 @@ module _ {T : Type 0} (follows : ℕ → T → T → Type 0) (suits : T → ℕ 
             tells me.0.found (rest me.1) (subst (λ (t : Bool × Bool). Hands follows suits t.0 t.1 p.point a c.popped me (w, rest me.1)) (λ q. (sym before q, sym after q)) (ap rest ld.1)),
           )
 
-      -- Mine stays at home, or with another seat
+      -- it stays at home, or with another seat
 
       leaves_be : carries_value p ≡ false → carries_value st.seat ≡ false → Moved_by false false → Done
       leaves_be before after did =
@@ -473,7 +473,7 @@ module _ {T : Type 0} (follows : ℕ → T → T → Type 0) (suits : T → ℕ 
             tells me.0.found me.1 (subst (λ (t : Bool × Bool). Hands follows suits t.0 t.1 p.point a c.popped me (w, me.1)) (λ q. (sym before q, sym after q)) refl),
           )
 
-      -- Mine stays with this seat
+      -- it stays with this seat
 
       -- the facts of the value that this seat goes on carrying
       goes_on : carries_value p ≡ true → (w : View T) → w ≡ next_view (left_by p.point a me.0.found) → Same_root me.0 w → w.role ≡ me.0.role

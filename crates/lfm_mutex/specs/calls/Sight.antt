@@ -88,8 +88,34 @@ sight_of n p v a =
 abbrev pub sight : {T : Type 0} → Seat T → Sight T
 sight s = sight_of s.number s.standing s.place.me.0 (value_in s.moving)
 
+-- a seat as it is made
+abbrev pub new_sight : {T : Type 0} → T → ℕ → Sight T
+new_sight x n =
+    record {
+      number = n;
+      depth = 0;
+      takes = 0;
+      asleep = false;
+      in_call = false;
+      last = Some x;
+      value = None;
+      queued = 0;
+      trail = [];
+      sends = [];
+    }
+
+-- the seat that a number found in the owner word names, if it can be one
+abbrev pub Names : Option ℕ → ℕ → Type 0
+Names (Some k) n = k ≡ n
+Names None n = (0 < n) × (n ≤ 65535) → ⊥
+
+-- a look at the owner word: one load, which tells the caller whether it holds
+abbrev pub Looks_at_owner : {T : Type 0} → Sight T → Sight T → Option ℕ → Type 0
+Looks_at_owner s t r =
+    (n : ℕ) × (t ≡ record s { trail = s.trail ++ seen TryOwnerLoad n ∷ [] }) × Names r n × (r ≡ Some s.number → 0 < s.depth) × (0 < s.depth → r ≡ Some s.number)
+
 -- The steps of a call that was refused as Busy: the count was not 0, the owner was another seat, and no handoff was posted, or the
--- one that was seen was joined
+-- one that was seen had gone
 abbrev pub Busy_seen : ℕ → List Seen → Type 0
 Busy_seen s new =
     (n m h : ℕ) × (n ≢ 0) × (m ≢ s) × (
@@ -211,7 +237,7 @@ module _ {T : Type 0} (follows : ℕ → T → T → Type 0) (fits : T → ℕ �
   -- how receive_lock ends
   abbrev pub Receives_lock : Sight T → Sight T → Result How Refusal → Type 0
   Receives_lock s t (Ok how) = Wakes how s t
-  Receives_lock s t (Err Refusal.NotWaiting) = (s.asleep ≡ false ⊎ (s.in_call ≡ true)) × (t ≡ record s { trail = t.trail })
+  Receives_lock s t (Err Refusal.NotWaiting) = (s.asleep ≡ false ⊎ (s.in_call ≡ true)) × (t ≡ s)
   Receives_lock s t (Err r) = ⊥
 
   -- The same by the turn that ends the call

@@ -3,43 +3,56 @@ use Rattle.lfm_mutex.specs.declared.table.seat_view.View.{View}
 use Rattle.lfm_mutex.specs.declared.table.rule.Moving.{Moving}
 use Rattle.lfm_mutex.specs.calls.Runs.{Ran, opens}
 use Rattle.lfm_mutex.specs.table.Steps.{Leaves}
-use Rattle.lfm_mutex.proofs.runs.Running.{begun_release, called_steps}
+use Rattle.lfm_mutex.proofs.runs.Running.{begun_release, called_steps, called_at_once}
+use Rattle.lfm_mutex.specs.calls.Sight.{sight}
 use Rattle.lfm_protocol.specs.declared.answers.Turn.TheVariants.{Open}
 use Rattle.lfm_mutex.specs.table.Rule.{value_in}
 use Rattle.lfm_mutex.specs.calls.Sight.{sight_of, Turned}
 use Rattle.lfm_mutex.proofs.runs.Sights.{begun, turned_by_release, turned_at_once, called_ends, may_leave, release_deep}
+use Rattle.lfm_protocol.specs.declared.limits.Limits.{Limits}
+use Rattle.lfm_mutex.specs.calls.Trails.{Made}
+use Rattle.lfm_mutex.proofs.runs.MadeCalls.{makes}
 use Rattle.lfm_mutex.proofs.calls.release.Goals as goal
 
 pub finish_release-requires-clause-gives : goal.finish_release-requires-clause-gives
 finish_release-requires-clause-gives g c κs within = let s = c.args.seat.now in
-    begun_release s.standing c.start.new.seat.standing s.limits c.args.call c.requires.gives (sym c.in-Open.ensures.turn) c.in-Open.ensures.seat
+    begun_release s.standing c.begin_call.new.seat.standing s.limits c.args.call c.requires.gives (sym c.in-Open.ensures.turn) c.in-Open.ensures.seat
 
 pub finish_release-requires-clause-leaves : goal.finish_release-requires-clause-leaves
-finish_release-requires-clause-leaves g c κs within = let s = c.args.seat.now in let b = c.start.new.seat in
+finish_release-requires-clause-leaves g c κs within = let s = c.args.seat.now in let b = c.begin_call.new.seat in
     let began = begun g.T.Kept.follows g.T.Kept.fits s.number s.limits s.place.me.0 (value_in s.moving) s.standing b.standing c.args.call c.in-Open.ensures.turn c.in-Open.ensures.seat in
     let may = may_leave g.T.Kept.follows g.T.Kept.fits s.number s.standing s.place.me.0 s.moving s.seated.named (release_deep s.limits c.args.call s.standing b.standing c.requires.gives began) c.requires.leaves in
-    subst (λ (t : Option (Moving g.row.T.Denot) × View g.row.T.Denot). Leaves g.T.Kept.follows g.T.Kept.fits t.0 t.1) (λ i. (sym c.start.ensures.same.3 i, ap (λ p. p.me.0) (sym c.start.ensures.same.0) i)) may
+    subst (λ (t : Option (Moving g.row.T.Denot) × View g.row.T.Denot). Leaves g.T.Kept.follows g.T.Kept.fits t.0 t.1) (λ i. (sym c.begin_call.ensures.same.3 i, ap (λ p. p.me.0) (sym c.begin_call.ensures.same.0) i)) may
 
 pub returns-in-Open-clause-answers : goal.returns-in-Open-clause-answers
-returns-in-Open-clause-answers g c = let s = c.args.seat.now in let b = c.start.new.seat in let f = c.finish_release.new.seat in
+returns-in-Open-clause-answers g c = let s = c.args.seat.now in let b = c.begin_call.new.seat in let f = c.finish_release.new.seat in
     (called_steps s.number s.limits c.args.call s.standing b.standing f.standing s.place.me.0 f.place.me.0 c.finish_release.result (sym c.in-Open.ensures.turn) c.in-Open.ensures.seat c.finish_release.ensures.ends
-    (subst (λ (t : ℕ × View g.row.T.Denot). Ran t.0 (opens b.standing) t.1 c.finish_release.result f.standing f.place.me.0) (λ i. (c.start.ensures.same.1 i, ap (λ p. p.me.0) c.start.ensures.same.0 i)) c.finish_release.ensures.ran)).1
-
-pub returns-in-Open-clause-called : goal.returns-in-Open-clause-called
-returns-in-Open-clause-called g c = let s = c.args.seat.now in let b = c.start.new.seat in let f = c.finish_release.new.seat in
-    (called_steps s.number s.limits c.args.call s.standing b.standing f.standing s.place.me.0 f.place.me.0 c.finish_release.result (sym c.in-Open.ensures.turn) c.in-Open.ensures.seat c.finish_release.ensures.ends
-    (subst (λ (t : ℕ × View g.row.T.Denot). Ran t.0 (opens b.standing) t.1 c.finish_release.result f.standing f.place.me.0) (λ i. (c.start.ensures.same.1 i, ap (λ p. p.me.0) c.start.ensures.same.0 i)) c.finish_release.ensures.ran)).0
+    (subst (λ (t : ℕ × View g.row.T.Denot). Ran t.0 (opens b.standing) t.1 c.finish_release.result f.standing f.place.me.0) (λ i. (c.begin_call.ensures.same.1 i, ap (λ p. p.me.0) c.begin_call.ensures.same.0 i)) c.finish_release.ensures.ran)).1
 
 pub returns-in-Open-clause-turned : goal.returns-in-Open-clause-turned
-returns-in-Open-clause-turned g c = let s = c.args.seat.now in let b = c.start.new.seat in let f = c.finish_release.new.seat in
+returns-in-Open-clause-turned g c = let s = c.args.seat.now in let b = c.begin_call.new.seat in let f = c.finish_release.new.seat in
     let began = begun g.T.Kept.follows g.T.Kept.fits s.number s.limits s.place.me.0 (value_in s.moving) s.standing b.standing c.args.call c.in-Open.ensures.turn c.in-Open.ensures.seat in
-    turned_by_release g.T.Kept.follows g.T.Kept.fits s.number f.number s.limits s.standing b.standing f.standing s.place.me.0 f.place.me.0 s.moving f.moving (c.finish_release.ensures.same.0 ∙ c.start.ensures.same.1) c.args.call c.finish_release.result
+    subst (λ (l : Limits). Turned g.T.Kept.follows g.T.Kept.fits l c.args.call (sight_of s.number s.standing s.place.me.0 (value_in s.moving)) (sight_of f.number f.standing f.place.me.0 (value_in f.moving)) c.finish_release.result) c.requires.belongs.1
+    (turned_by_release g.T.Kept.follows g.T.Kept.fits s.number f.number s.limits s.standing b.standing f.standing s.place.me.0 f.place.me.0 s.moving f.moving (c.finish_release.ensures.same.0 ∙ c.begin_call.ensures.same.1) c.args.call c.finish_release.result
     c.requires.gives began (called_ends s.limits c.args.call s.standing b.standing c.finish_release.result c.in-Open.ensures.turn c.in-Open.ensures.seat c.finish_release.ensures.ends) c.finish_release.ensures.concludes
-    (c.finish_release.ensures.last ∙ ap value_in c.start.ensures.same.3)
-    (subst (λ (t : ℕ × View g.row.T.Denot). Ran t.0 (opens b.standing) t.1 c.finish_release.result f.standing f.place.me.0) (λ i. (c.start.ensures.same.1 i, ap (λ p. p.me.0) c.start.ensures.same.0 i)) c.finish_release.ensures.ran)
+    (c.finish_release.ensures.last ∙ ap value_in c.begin_call.ensures.same.3)
+    (subst (λ (t : ℕ × View g.row.T.Denot). Ran t.0 (opens b.standing) t.1 c.finish_release.result f.standing f.place.me.0) (λ i. (c.begin_call.ensures.same.1 i, ap (λ p. p.me.0) c.begin_call.ensures.same.0 i)) c.finish_release.ensures.ran))
 
 pub returns-in_default-clause-turned : goal.returns-in_default-clause-turned
-returns-in_default-clause-turned g c = let s = c.args.seat.now in let b = c.start.new.seat in
-    subst (λ (t : ℕ × View g.row.T.Denot × Option g.row.T.Denot). Turned g.T.Kept.follows g.T.Kept.fits s.limits c.args.call (sight_of s.number s.standing s.place.me.0 (value_in s.moving)) (sight_of t.0 b.standing t.1 t.2) c.start.result)
-    (λ i. (sym c.start.ensures.same.1 i, ap (λ p. p.me.0) (sym c.start.ensures.same.0) i, ap value_in (sym c.start.ensures.same.3) i))
-    (turned_at_once g.T.Kept.follows g.T.Kept.fits s.number s.limits s.place.me.0 (value_in s.moving) s.standing b.standing c.args.call c.start.result (λ z. c.in_default.not-Open z) c.start.ensures.turn c.start.ensures.seat)
+returns-in_default-clause-turned g c = let s = c.args.seat.now in let b = c.begin_call.new.seat in
+    subst (λ (t : ℕ × View g.row.T.Denot × Option g.row.T.Denot × Limits). Turned g.T.Kept.follows g.T.Kept.fits t.3 c.args.call (sight_of s.number s.standing s.place.me.0 (value_in s.moving)) (sight_of t.0 b.standing t.1 t.2) c.begin_call.result)
+    (λ i. (sym c.begin_call.ensures.same.1 i, ap (λ p. p.me.0) (sym c.begin_call.ensures.same.0) i, ap value_in (sym c.begin_call.ensures.same.3) i, c.requires.belongs.1 i))
+    (turned_at_once g.T.Kept.follows g.T.Kept.fits s.number s.limits s.place.me.0 (value_in s.moving) s.standing b.standing c.args.call c.begin_call.result (λ z. c.in_default.not-Open z) c.begin_call.ensures.turn c.begin_call.ensures.seat)
+
+pub returns-in-Open-clause-made : goal.returns-in-Open-clause-made
+returns-in-Open-clause-made g c = let s = c.args.seat.now in let b = c.begin_call.new.seat in let f = c.finish_release.new.seat in
+    subst (λ (l : Limits). Made l c.args.call (sight_of s.number s.standing s.place.me.0 (value_in s.moving)) (sight_of f.number f.standing f.place.me.0 (value_in f.moving)) c.finish_release.result) c.requires.belongs.1
+    (makes s.limits c.args.call s.number f.number s.standing f.standing s.place.me.0 f.place.me.0 (value_in s.moving) (value_in f.moving) c.finish_release.result (c.finish_release.ensures.same.0 ∙ c.begin_call.ensures.same.1)
+    ((called_steps s.number s.limits c.args.call s.standing b.standing f.standing s.place.me.0 f.place.me.0 c.finish_release.result (sym c.in-Open.ensures.turn) c.in-Open.ensures.seat c.finish_release.ensures.ends
+    (subst (λ (t : ℕ × View g.row.T.Denot). Ran t.0 (opens b.standing) t.1 c.finish_release.result f.standing f.place.me.0) (λ i. (c.begin_call.ensures.same.1 i, ap (λ p. p.me.0) c.begin_call.ensures.same.0 i)) c.finish_release.ensures.ran)).0))
+
+pub returns-in_default-clause-made : goal.returns-in_default-clause-made
+returns-in_default-clause-made g c = let s = c.args.seat.now in let b = c.begin_call.new.seat in
+    subst (λ (l : Limits). Made l c.args.call (sight_of s.number s.standing s.place.me.0 (value_in s.moving)) (sight_of b.number b.standing b.place.me.0 (value_in b.moving)) c.begin_call.result) c.requires.belongs.1
+    (makes s.limits c.args.call s.number b.number s.standing b.standing s.place.me.0 b.place.me.0 (value_in s.moving) (value_in b.moving) c.begin_call.result c.begin_call.ensures.same.1
+    (called_at_once s.number s.limits c.args.call s.standing b.standing s.place.me.0 b.place.me.0 c.begin_call.result (λ z. c.in_default.not-Open z) c.begin_call.ensures.turn c.begin_call.ensures.seat (ap (λ p. p.me.0) c.begin_call.ensures.same.0)).0)

@@ -1,43 +1,48 @@
 use Rattle.std.proofs.Common.{Option, ℕ, sym, ap, subst, ◌∙◌}
 use Rattle.lfm_mutex.specs.declared.table.seat_view.View.{View}
 use Rattle.lfm_mutex.specs.calls.Runs.{Ran, Holds, opens}
-use Rattle.lfm_mutex.proofs.runs.Running.{called_steps, begun_unheld}
+use Rattle.lfm_mutex.proofs.runs.Running.{called_steps, called_at_once}
 use Rattle.lfm_protocol.specs.declared.answers.Turn.TheVariants.{Open}
 use Rattle.lfm_mutex.specs.table.Rule.{value_in}
 use Rattle.lfm_mutex.specs.calls.Runs.{Ends, errand_of}
 use Rattle.lfm_mutex.specs.calls.Sight.{sight_of, Stays, Turned}
 use Rattle.lfm_mutex.proofs.runs.Sights.{begun, turned_by_steps, turned_at_once, called_ends}
+use Rattle.lfm_protocol.specs.declared.limits.Limits.{Limits}
+use Rattle.lfm_mutex.specs.calls.Trails.{Made}
+use Rattle.lfm_mutex.proofs.runs.MadeCalls.{makes}
 use Rattle.lfm_mutex.proofs.calls.run.Goals as goal
 
 pub returns-in-Open-clause-answers : goal.returns-in-Open-clause-answers
-returns-in-Open-clause-answers g c = let s = c.args.seat.now in let b = c.start.new.seat in let f = c.finish.new.seat in
+returns-in-Open-clause-answers g c = let s = c.args.seat.now in let b = c.begin_call.new.seat in let f = c.finish.new.seat in
     (called_steps s.number s.limits c.args.call s.standing b.standing f.standing s.place.me.0 f.place.me.0 c.finish.result (sym c.in-Open.ensures.turn) c.in-Open.ensures.seat c.finish.ensures.ends
-    (subst (λ (t : ℕ × View g.row.T.Denot). Ran t.0 (opens b.standing) t.1 c.finish.result f.standing f.place.me.0) (λ i. (c.start.ensures.same.1 i, ap (λ p. p.me.0) c.start.ensures.same.0 i)) c.finish.ensures.ran)).1
-
-pub returns-in-Open-clause-called : goal.returns-in-Open-clause-called
-returns-in-Open-clause-called g c = let s = c.args.seat.now in let b = c.start.new.seat in let f = c.finish.new.seat in
-    (called_steps s.number s.limits c.args.call s.standing b.standing f.standing s.place.me.0 f.place.me.0 c.finish.result (sym c.in-Open.ensures.turn) c.in-Open.ensures.seat c.finish.ensures.ends
-    (subst (λ (t : ℕ × View g.row.T.Denot). Ran t.0 (opens b.standing) t.1 c.finish.result f.standing f.place.me.0) (λ i. (c.start.ensures.same.1 i, ap (λ p. p.me.0) c.start.ensures.same.0 i)) c.finish.ensures.ran)).0
-
-pub returns-in-Open-clause-held : goal.returns-in-Open-clause-held
-returns-in-Open-clause-held g c how is = let f = c.finish.new.seat in
-    subst (λ (t : ℕ × Option g.row.T.Denot). Holds g.T.Kept.follows g.T.Kept.fits t.0 t.1 how f.standing f.moving f.place.me.0) (λ i. (c.start.ensures.same.1 i, ap (λ p. p.me.0.last) c.start.ensures.same.0 i)) (c.finish.ensures.held how is)
-
-pub returns-in_default-clause-held : goal.returns-in_default-clause-held
-returns-in_default-clause-held g c how is = let s = c.args.seat.now in absurd (begun_unheld s.standing s.limits c.args.call c.start.result how c.start.ensures.turn is)
+    (subst (λ (t : ℕ × View g.row.T.Denot). Ran t.0 (opens b.standing) t.1 c.finish.result f.standing f.place.me.0) (λ i. (c.begin_call.ensures.same.1 i, ap (λ p. p.me.0) c.begin_call.ensures.same.0 i)) c.finish.ensures.ran)).1
 
 pub returns-in-Open-clause-turned : goal.returns-in-Open-clause-turned
-returns-in-Open-clause-turned g c = let s = c.args.seat.now in let b = c.start.new.seat in let f = c.finish.new.seat in
+returns-in-Open-clause-turned g c = let s = c.args.seat.now in let b = c.begin_call.new.seat in let f = c.finish.new.seat in
     let began = begun g.T.Kept.follows g.T.Kept.fits s.number s.limits s.place.me.0 (value_in s.moving) s.standing b.standing c.args.call c.in-Open.ensures.turn c.in-Open.ensures.seat in
-    turned_by_steps g.T.Kept.follows g.T.Kept.fits s.number f.number s.limits s.standing b.standing f.standing s.place.me.0 f.place.me.0 s.moving f.moving (c.finish.ensures.same.0 ∙ c.start.ensures.same.1) c.args.call c.finish.result
+    subst (λ (l : Limits). Turned g.T.Kept.follows g.T.Kept.fits l c.args.call (sight_of s.number s.standing s.place.me.0 (value_in s.moving)) (sight_of f.number f.standing f.place.me.0 (value_in f.moving)) c.finish.result) c.requires.belongs.1
+    (turned_by_steps g.T.Kept.follows g.T.Kept.fits s.number f.number s.limits s.standing b.standing f.standing s.place.me.0 f.place.me.0 s.moving f.moving (c.finish.ensures.same.0 ∙ c.begin_call.ensures.same.1) c.args.call c.finish.result
     c.requires.keeps began (called_ends s.limits c.args.call s.standing b.standing c.finish.result c.in-Open.ensures.turn c.in-Open.ensures.seat c.finish.ensures.ends) c.finish.ensures.concludes
-    (λ how is. subst (λ (t : ℕ × Option g.row.T.Denot). Holds g.T.Kept.follows g.T.Kept.fits t.0 t.1 how f.standing f.moving f.place.me.0) (λ i. (c.start.ensures.same.1 i, ap (λ p. p.me.0.last) c.start.ensures.same.0 i)) (c.finish.ensures.held how is))
-    (subst (λ (t : View g.row.T.Denot × Option g.row.T.Denot). Stays b.standing.depth t.0 t.1 f.place.me.0 (value_in f.moving)) (λ i. (ap (λ p. p.me.0) c.start.ensures.same.0 i, ap value_in c.start.ensures.same.3 i)) c.finish.ensures.stays)
-    (c.finish.ensures.last ∙ ap (λ p. p.me.0.last) c.start.ensures.same.0)
-    (subst (λ (t : ℕ × View g.row.T.Denot). Ran t.0 (opens b.standing) t.1 c.finish.result f.standing f.place.me.0) (λ i. (c.start.ensures.same.1 i, ap (λ p. p.me.0) c.start.ensures.same.0 i)) c.finish.ensures.ran)
+    (λ how is. subst (λ (t : ℕ × Option g.row.T.Denot). Holds g.T.Kept.follows g.T.Kept.fits t.0 t.1 how f.standing f.moving f.place.me.0) (λ i. (c.begin_call.ensures.same.1 i, ap (λ p. p.me.0.last) c.begin_call.ensures.same.0 i)) (c.finish.ensures.held how is))
+    (subst (λ (t : View g.row.T.Denot × Option g.row.T.Denot). Stays b.standing.depth t.0 t.1 f.place.me.0 (value_in f.moving)) (λ i. (ap (λ p. p.me.0) c.begin_call.ensures.same.0 i, ap value_in c.begin_call.ensures.same.3 i)) c.finish.ensures.stays)
+    (c.finish.ensures.last ∙ ap (λ p. p.me.0.last) c.begin_call.ensures.same.0)
+    (subst (λ (t : ℕ × View g.row.T.Denot). Ran t.0 (opens b.standing) t.1 c.finish.result f.standing f.place.me.0) (λ i. (c.begin_call.ensures.same.1 i, ap (λ p. p.me.0) c.begin_call.ensures.same.0 i)) c.finish.ensures.ran))
 
 pub returns-in_default-clause-turned : goal.returns-in_default-clause-turned
-returns-in_default-clause-turned g c = let s = c.args.seat.now in let b = c.start.new.seat in
-    subst (λ (t : ℕ × View g.row.T.Denot × Option g.row.T.Denot). Turned g.T.Kept.follows g.T.Kept.fits s.limits c.args.call (sight_of s.number s.standing s.place.me.0 (value_in s.moving)) (sight_of t.0 b.standing t.1 t.2) c.start.result)
-    (λ i. (sym c.start.ensures.same.1 i, ap (λ p. p.me.0) (sym c.start.ensures.same.0) i, ap value_in (sym c.start.ensures.same.3) i))
-    (turned_at_once g.T.Kept.follows g.T.Kept.fits s.number s.limits s.place.me.0 (value_in s.moving) s.standing b.standing c.args.call c.start.result (λ z. c.in_default.not-Open z) c.start.ensures.turn c.start.ensures.seat)
+returns-in_default-clause-turned g c = let s = c.args.seat.now in let b = c.begin_call.new.seat in
+    subst (λ (t : ℕ × View g.row.T.Denot × Option g.row.T.Denot × Limits). Turned g.T.Kept.follows g.T.Kept.fits t.3 c.args.call (sight_of s.number s.standing s.place.me.0 (value_in s.moving)) (sight_of t.0 b.standing t.1 t.2) c.begin_call.result)
+    (λ i. (sym c.begin_call.ensures.same.1 i, ap (λ p. p.me.0) (sym c.begin_call.ensures.same.0) i, ap value_in (sym c.begin_call.ensures.same.3) i, c.requires.belongs.1 i))
+    (turned_at_once g.T.Kept.follows g.T.Kept.fits s.number s.limits s.place.me.0 (value_in s.moving) s.standing b.standing c.args.call c.begin_call.result (λ z. c.in_default.not-Open z) c.begin_call.ensures.turn c.begin_call.ensures.seat)
+
+pub returns-in-Open-clause-made : goal.returns-in-Open-clause-made
+returns-in-Open-clause-made g c = let s = c.args.seat.now in let b = c.begin_call.new.seat in let f = c.finish.new.seat in
+    subst (λ (l : Limits). Made l c.args.call (sight_of s.number s.standing s.place.me.0 (value_in s.moving)) (sight_of f.number f.standing f.place.me.0 (value_in f.moving)) c.finish.result) c.requires.belongs.1
+    (makes s.limits c.args.call s.number f.number s.standing f.standing s.place.me.0 f.place.me.0 (value_in s.moving) (value_in f.moving) c.finish.result (c.finish.ensures.same.0 ∙ c.begin_call.ensures.same.1)
+    ((called_steps s.number s.limits c.args.call s.standing b.standing f.standing s.place.me.0 f.place.me.0 c.finish.result (sym c.in-Open.ensures.turn) c.in-Open.ensures.seat c.finish.ensures.ends
+    (subst (λ (t : ℕ × View g.row.T.Denot). Ran t.0 (opens b.standing) t.1 c.finish.result f.standing f.place.me.0) (λ i. (c.begin_call.ensures.same.1 i, ap (λ p. p.me.0) c.begin_call.ensures.same.0 i)) c.finish.ensures.ran)).0))
+
+pub returns-in_default-clause-made : goal.returns-in_default-clause-made
+returns-in_default-clause-made g c = let s = c.args.seat.now in let b = c.begin_call.new.seat in
+    subst (λ (l : Limits). Made l c.args.call (sight_of s.number s.standing s.place.me.0 (value_in s.moving)) (sight_of b.number b.standing b.place.me.0 (value_in b.moving)) c.begin_call.result) c.requires.belongs.1
+    (makes s.limits c.args.call s.number b.number s.standing b.standing s.place.me.0 b.place.me.0 (value_in s.moving) (value_in b.moving) c.begin_call.result c.begin_call.ensures.same.1
+    (called_at_once s.number s.limits c.args.call s.standing b.standing s.place.me.0 b.place.me.0 c.begin_call.result (λ z. c.in_default.not-Open z) c.begin_call.ensures.turn c.begin_call.ensures.seat (ap (λ p. p.me.0) c.begin_call.ensures.same.0)).0)

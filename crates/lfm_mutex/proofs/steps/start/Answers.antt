@@ -1,6 +1,15 @@
-use Rattle.lfm_mutex.proofs.tables.Started.{begun}
+use Rattle.std.proofs.Common.{sym, ap, subst, ◌∙◌}
+use Rattle.lfm_protocol.specs.declared.limits.Limits.{Limits}
+use Rattle.lfm_mutex.specs.table.Settled.{Became}
+use Rattle.lfm_mutex.specs.table.Rule.{value_in}
+use Rattle.lfm_mutex.specs.calls.SeatSteps.{Begins}
+use Rattle.lfm_mutex.specs.calls.Sight.{sight}
+use Rattle.lfm_mutex.specs.declared.table.seat_view.View.{View}
+use Rattle.lfm_mutex.proofs.runs.OneStep.{begins_seen}
 use Rattle.lfm_mutex.proofs.steps.start.Goals as goal
 
-pub invariant_of-seat : goal.invariant_of-seat
-invariant_of-seat g c = let s = c.args.seat.now in let b = begun s.number s.place.table_id.words s.place.id s.limits s.standing c.begin.new.self s.place.me s.moving s.seated s.became s.ready s.rooted c.args.call c.begin.ensures.seat in
-    record { seated = b.seated; became = b.became; ready = b.ready; rooted = s.rooted }
+pub returns-clause-begins : goal.returns-clause-begins
+returns-clause-begins g c = let s = c.args.seat.now in let b = c.begin_call.new.seat in let same = c.begin_call.ensures.same in
+    let became : Became s.place.me.0.standing s.limits b.standing = subst (λ (t : View g.row.T.Denot × Limits). Became t.0.standing t.1 b.standing) (λ i. (ap (λ p. p.me.0) same.0 i, same.2 i)) b.became in
+    subst (λ (l : Limits). Begins l c.args.call s.standing (sight s) c.begin_call.result b.standing (sight b)) c.requires.belongs.1
+    (c.begin_call.ensures.turn, c.begin_call.ensures.seat, begins_seen s.number b.number s.limits s.standing b.standing s.place.me.0 b.place.me.0 s.moving b.moving s.became became same.1 (ap (λ p. p.me.0) same.0) same.3)

@@ -1,4 +1,5 @@
-use Rattle.std.proofs.Common.{rules, ◌≡◌, ◌<◌, ℕ, [], ◌∷◌, ◌++◌, length-append, arith, ap, ◌∙◌, sym, refl, subst, length, vec_len, inl, inr, ⊎_elim}
+use Rattle.lfm_mutex.specs.calls.Sight.{sight}
+use Rattle.std.proofs.Common.{Some, rules, ◌≡◌, ◌<◌, ℕ, [], ◌∷◌, ◌++◌, length-append, arith, ap, ◌∙◌, sym, refl, subst, length, vec_len, inl, inr, ⊎_elim}
 use mathlib.Core.Option.{some, some-injective}
 use lib.ListN.{get_elem?}
 use Rattle.std.specs.List.{remove}
@@ -10,7 +11,8 @@ use Rattle.lfm_mutex.specs.Reach.{Reached}
 use Rattle.lfm_mutex.specs.table.Rule.{Held, joined_of}
 use Rattle.lfm_mutex.proofs.tables.RuleKept.{length_at}
 use Rattle.lfm_mutex.proofs.ends.Seats.{at_end}
-use Rattle.lfm_mutex.proofs.ends.Ends.{was_last, was_there, at_end_of, longer, free_seat, ends, item_at, in_removed, not_removed, pigeons}
+use Rattle.lfm_protocol.specs.declared.points.Point.TheVariants.{Rest}
+use Rattle.lfm_mutex.proofs.ends.Ends.{rest_of, seen_last, was_last, was_there, at_end_of, longer, free_seat, ends, item_at, in_removed, not_removed, pigeons}
 use Rattle.lfm_mutex.proofs.mutex.Mutex.close.Goals as goal
 
 pub remove-requires : goal.remove-requires
@@ -23,8 +25,8 @@ pub loop-seat-init : goal.loop-seat-init
 loop-seat-init g c = let f = c.in-Some-first_place.ensures in let xs = c.args.seats.items in let at = c.in-Some-first_place.at in let p = c.remove.result in let s = g.P.Holder.seat_of p in let here = length_at xs at f.0 f.1 in
     let item : get_elem? xs at ≡ some p = item_at xs xs at p here c.remove.ensures.value refl in let same : f.0 ≡ p = some-injective f.0 p (sym f.1 ∙ item) in
     let first : s.number ≡ 1 = ap (λ z. (g.P.Holder.seat_of z).number) (sym same) ∙ f.2 in let stand = c.in_default.ensures in let lim = c.args.self.some in
-    let idle : Idle s.standing = (stand 1 (omega arith) (omega arith)).1 at p item first in let free = free_seat s.number s.limits s.standing s.place.me s.moving s.seated s.became idle.0 idle.1 in
-    let viewed : s.number ≡ 1 = first in let e = c.into_place-root.ensures in let belongs = c.requires.belongs at p item in record {
+    let idle0 : Idle (sight s) = (stand 1 (omega arith) (omega arith)).1 at p item first in let idle : (s.standing.depth ≡ 0) × (s.standing.point ≡ Rest) = (idle0.0, rest_of s.standing.point idle0.1) in let free = free_seat s.number s.limits s.standing s.place.me s.moving s.seated s.became idle.0 idle.1 in
+    let viewed : s.number ≡ 1 = first in let e = c.into_place-root.ensures in let belongs = (c.requires.belongs at p item).0 in record {
       table = ap (λ p. p.table_id) e ∙ belongs;
       root = (ap (λ p. p.id) e ∙ s.rooted.first viewed, ap (λ p. p.me.0.role) e ∙ free.0, ap (λ p. p.me.1) e ∙ free.1, ap (λ p. p.me.0.standing.point) e ∙ free.2, ap (λ p. p.me.0.standing.depth) e ∙ free.3);
       counts = let m = s.rooted.made viewed in let wide = s.rooted.wide in let b = ap (λ p. p.me.0.made) e in let t = ap (λ t. t.words) belongs in let w = c.args.self.words in let l = c.remove.ensures.len in let n : vec_len c.args.seats ≡ length xs = search rules in
@@ -32,9 +34,9 @@ loop-seat-init g c = let f = c.in-Some-first_place.ensures in let xs = c.args.se
       all = let m = s.rooted.made viewed in let wide = s.rooted.wide in let b = ap (λ p. p.me.0.made) e in let t = ap (λ t. t.words) belongs in let w = c.args.self.words in let l = c.remove.ensures.len in let n : vec_len c.args.seats ≡ length xs = search rules in
           let k = s.rooted.back viewed in let gl = ap (λ p. length p.me.0.joined) e in (omega arith, omega arith);
       seats = λ j z q. let y = g.P.Holder.seat_of z in let old = in_removed xs at j z (ap (λ l. get_elem? l j) (sym c.remove.ensures.items) ∙ q) in (
-        c.requires.belongs old.0 z old.1,
-        (let h = (let lo = y.rooted.low in let hi = y.rooted.high in let wide = y.rooted.wide in let t = ap (λ t. t.words) (c.requires.belongs old.0 z old.1) in let w = c.args.self.words in (stand y.number (omega arith) (omega arith)).1 old.0 z old.1 refl) in h.0),
-        (let h = (let lo = y.rooted.low in let hi = y.rooted.high in let wide = y.rooted.wide in let t = ap (λ t. t.words) (c.requires.belongs old.0 z old.1) in let w = c.args.self.words in (stand y.number (omega arith) (omega arith)).1 old.0 z old.1 refl) in h.1),
+        (c.requires.belongs old.0 z old.1).0,
+        (let h = (let lo = y.rooted.low in let hi = y.rooted.high in let wide = y.rooted.wide in let t = ap (λ t. t.words) (c.requires.belongs old.0 z old.1).0 in let w = c.args.self.words in (stand y.number (omega arith) (omega arith)).1 old.0 z old.1 refl) in h.0),
+        (let h = (let lo = y.rooted.low in let hi = y.rooted.high in let wide = y.rooted.wide in let t = ap (λ t. t.words) (c.requires.belongs old.0 z old.1).0 in let w = c.args.self.words in (stand y.number (omega arith) (omega arith)).1 old.0 z old.1 refl) in rest_of y.standing.point h.1),
       );
       each = λ j z q. ⊎_elim
           (λ (u : j ≡ at). let is : p ≡ z = some-injective p z (sym item ∙ (ap (get_elem? xs) (sym u) ∙ q)) in inr (inr (ap (λ p. p.me.0.last) e ∙ ap (λ z. (g.P.Holder.seat_of z).place.me.0.last) is, ap (λ p. p.me.0.number) e ∙ ap (λ z. (g.P.Holder.seat_of z).place.me.0.number) is)))
@@ -78,10 +80,14 @@ returns-clause-sized g c = let i = c.loop-seat.invariant in let v = c.loop-seat.
     let few = e.3 in let all = i.all in let xs = c.args.seats.items in let m : vec_len c.args.seats ≡ length xs = search rules in let p = pigeons (λ s. (g.P.Holder.seat_of s).number) xs c.args.self.limits.seats (λ k p q. (c.in_default.ensures k p q).0) in omega arith
 
 pub returns-clause-reached : goal.returns-clause-reached
-returns-clause-reached g c j s l at is = let i = c.loop-seat.invariant in let v = c.loop-seat.root.me.0 in let n = c.in_default-pop.ensures.cases in let a = i.counts in let z = n.0 in
+returns-clause-reached g c j s l at seen =
+    let y = g.P.Holder.seat_of s in let b = c.requires.belongs j s at in
+    let idle = (let lo = y.rooted.low in let hi = y.rooted.high in let same = ap (λ x. x.seats) b.1 in (c.in_default.ensures y.number lo (omega (arith, hi, same))).1 j s at refl) in
+    let is : y.place.me.0.last ≡ Some l = seen_last y.standing.depth y.place.me.0.last y.place.me.0.found (Some l) idle.0 seen in
+    let i = c.loop-seat.invariant in let v = c.loop-seat.root.me.0 in let n = c.in_default-pop.ensures.cases in let a = i.counts in let z = n.0 in
     let end : Final (Seen (Held g.T.Kept.follows g.T.Kept.fits) 0 v) (slots_items c.close_with-closed.result.words) (slots_items c.close_with-closed.result.slots) = subst (λ k. Final (Seen (Held g.T.Kept.follows g.T.Kept.fits) k v) (slots_items c.close_with-closed.result.words) (slots_items c.close_with-closed.result.slots)) i.root.0 c.close_with-closed.ensures.values.2 in
     let e = ends g.T.Kept.follows g.T.Kept.fits v (slots_items c.close_with-closed.result.words) (slots_items c.close_with-closed.result.slots) (omega arith) i.root.3 i.root.4 end in
-    let was = e.1 in let got = c.take-slot.ensures.value in let some_it = c.in-Some-slot.is in let whole : e.0 ≡ c.in-Some-slot.field-0 = cc in let same : e.0.value ≡ c.in-Some-slot.field-0.value = ap (λ (x : Moving g.row.T.Denot). x.value) whole in let y = g.P.Holder.seat_of s in let named = y.seated.named in
+    let was = e.1 in let got = c.take-slot.ensures.value in let some_it = c.in-Some-slot.is in let whole : e.0 ≡ c.in-Some-slot.field-0 = cc in let same : e.0.value ≡ c.in-Some-slot.field-0.value = ap (λ (x : Moving g.row.T.Denot). x.value) whole in let named = y.seated.named in
     subst (λ (t : ℕ × g.row.T.Denot). Reached g.T.Kept.follows t.0 l t.1) (λ i. (named i, same i)) (⊎_elim
     (λ u. absurd (let r = length_at c.loop-seat.seats.items u.0 s u.1 in let k : vec_len c.loop-seat.seats ≡ length c.loop-seat.seats.items = search rules in omega arith))
     (λ u. ⊎_elim (λ t. e.2.1 t.0 (joined_of (g.P.Holder.seat_of s).place.me.0) l t.1 is) (λ t. subst (λ (n : ℕ). Reached g.T.Kept.follows n l e.0.value) t.1 (e.2.0 l (t.0 ∙ is))) u) (i.each j s at))

@@ -1,19 +1,15 @@
-use Rattle.std.proofs.Common.{◌≡◌, ℕ, Option, Some, Ok, ap, ◌∙◌, sym, subst}
-use Rattle.lfm_model.specs.declared.answers.Asked.TheVariants as AskedNow
-use Rattle.lfm_model.specs.declared.answers.How.{How as HowNow}
-use Rattle.lfm_model.specs.declared.answers.Locked.{Locked as LockedNow}
-use Rattle.lfm_mutex.specs.calls.Runs.{Holds}
-use Rattle.lfm_mutex.proofs.runs.Running.{ok_same}
+use Rattle.std.proofs.Common.{rules, ◌≡◌, Err, inl, inr}
+use Rattle.lfm_mutex.specs.calls.Sight.{sight}
 use Rattle.lfm_mutex.proofs.mutex.Mutex.lock.Goals as goal
 
-held_same : (x y : HowNow) → LockedNow.Held x ≡ LockedNow.Held y → x ≡ y
-held_same x y e = cc
+pub returns-in_err-how-clause-steps : goal.returns-in_err-how-clause-steps
+returns-in_err-how-clause-steps g c = let e : c.from_residual.result ≡ Err c.in_err-how.field-0.0 = search rules in rw e c.in_err-how.ensures.steps
 
-pub returns-in-Held-clause-held : goal.returns-in-Held-clause-held
-returns-in-Held-clause-held g c how e =
-    let p : c.in_ok-how.field-0 ≡ AskedNow.Held how = c.in-Held.is ∙ ap (λ (h : HowNow). AskedNow.Held h) (held_same _ _ (ok_same _ _ e)) in c.in_ok-how.ensures.held how (λ j. Ok (p j))
+pub returns-in-Held-clause-steps : goal.returns-in-Held-clause-steps
+returns-in-Held-clause-steps g c = inl (rw c.in-Held.is at c.in_ok-how.ensures.steps)
 
-pub returns-in_ok-how-in-Asleep-clause-held : goal.returns-in_ok-how-in-Asleep-clause-held
-returns-in_ok-how-in-Asleep-clause-held g c how e = let s = c.receive_lock.new.seat in
-    let p : c.in_ok-how-in-Asleep.how ≡ how = held_same _ _ (ok_same _ _ e) in
-    subst (λ (t : ℕ × Option g.row.T.Denot). Holds g.T.Kept.follows g.T.Kept.fits t.0 t.1 how s.standing s.moving s.place.me.0) (λ j. (c.in_ok-how.ensures.same.0 j, c.in_ok-how.ensures.last j)) (c.in_ok-how-in-Asleep.ensures.held how (λ j. Ok (p j)))
+pub returns-in-Again-clause-steps : goal.returns-in-Again-clause-steps
+returns-in-Again-clause-steps g c = rw c.in-Again.is at c.in_ok-how.ensures.steps
+
+pub returns-in_ok-how-in-Asleep-clause-steps : goal.returns-in_ok-how-in-Asleep-clause-steps
+returns-in_ok-how-in-Asleep-clause-steps g c = inr (sight c.ask.new.seat, rw c.in-Asleep.is at c.in_ok-how.ensures.steps, c.in_ok-how-in-Asleep.ensures.steps)

@@ -7,6 +7,7 @@ use Rattle.lfm_mutex.specs.declared.table.rule.Moving.{Moving}
 use Rattle.lfm_mutex.specs.Fresh.{Fresh}
 use Rattle.lfm_mutex.specs.table.Rule.{Held, with_split, split_view, first_view}
 use Rattle.lfm_mutex.proofs.ends.Seats.{starts, splits, and_last, and_first, fresh_seated, fresh_became, fresh_ready, limit_facts}
+use Rattle.lfm_mutex.proofs.runs.Sights.{fresh_sight}
 use Rattle.lfm_mutex.proofs.mutex.Mutex.new.Goals as goal
 
 pub new-requires-2 : goal.new-requires-2
@@ -83,10 +84,10 @@ invariant_of-first g c = let k = c.loop-i.invariant in let r = c.loop-i.root in 
       };
     }
 
-pub returns : goal.returns
-returns g c = let v = c.loop-i.invariant in let l : Limits = record { seats = c.args.seats; budget = c.args.budget } in (
-  refl,
+pub returns-clause-seats : goal.returns-clause-seats
+returns-clause-seats g c = let v = c.loop-i.invariant in let l : Limits = record { seats = c.args.seats; budget = c.args.budget } in (
   search rules,
-  and_first (λ j s. (s.place.table_id ≡ c.in-Ok-new.table.shared.table_id) × Fresh c.args.value (j + 1) s.number s.limits s.standing s.place.me s.moving l) c.loop-i.all.items _ _ c.in-Ok-insert.ensures.items
-      (v.table, (refl, refl, c.at_rest-2.ensures, refl, v.trail, v.last)) (λ j y e. subst (λ (n : ℕ). (y.place.table_id ≡ c.in-Ok-new.table.shared.table_id) × Fresh c.args.value n y.number y.limits y.standing y.place.me y.moving l) (let q : j + 2 ≡ j + 1 + 1 = omega arith in q) (v.fresh j y e)),
+  λ j s e. let f = (and_first (λ j s. (s.place.table_id ≡ c.in-Ok-new.table.shared.table_id) × Fresh c.args.value (j + 1) s.number s.limits s.standing s.place.me s.moving l) c.loop-i.all.items _ _ c.in-Ok-insert.ensures.items
+      (v.table, (refl, refl, c.at_rest-2.ensures, refl, v.trail, v.last)) (λ j y e. subst (λ (n : ℕ). (y.place.table_id ≡ c.in-Ok-new.table.shared.table_id) × Fresh c.args.value n y.number y.limits y.standing y.place.me y.moving l) (let q : j + 2 ≡ j + 1 + 1 = omega arith in q) (v.fresh j y e))) j s e in
+      ((f.0, f.1.1), fresh_sight c.args.value (j + 1) s.number s.limits s.standing s.place.me s.moving l f.1),
 )

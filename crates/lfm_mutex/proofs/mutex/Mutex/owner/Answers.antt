@@ -1,12 +1,16 @@
-use Rattle.std.proofs.Common.{rules, ◌≡◌, ℕ, Option, sym, subst, ◌∙◌}
-use Rattle.std.specs.Prelude.{IfSome}
+use Rattle.std.proofs.Common.{rules, ◌≡◌, ◌<◌, ◌≤◌, ℕ, Option, Some, sym, ap, subst, ◌∙◌, arith}
+use Rattle.lfm_mutex.specs.table.Rule.{value_in}
+use Rattle.lfm_mutex.specs.calls.Sight.{Names}
 use Rattle.lfm_mutex.proofs.ends.Seats.{looks, depth_seen}
+use Rattle.lfm_mutex.proofs.runs.Sights.{looked_sight, owner_told}
 use Rattle.lfm_mutex.proofs.mutex.Mutex.owner.Goals as goal
 
 pub load-found-requires : goal.load-found-requires
 load-found-requires g c = (search rules, search rules, looks g.T.Kept.follows g.T.Kept.fits _ _ _ c.args.seat.now.seated.user)
 
-pub returns-clause-only_mine : goal.returns-clause-only_mine
-returns-clause-only_mine g c = λ e. let s = c.args.seat.now in
-    let same : s.number ≡ c.load-found.result = subst (λ (r : Option ℕ). IfSome r (λ k. k ≡ c.load-found.result)) e c.new.ensures.value in
-    (depth_seen s.place.me.0.standing s.limits s.standing s.became).1 (c.load-found.ensures.2.2 (sym same ∙ sym s.seated.named))
+pub returns-clause-looks : goal.returns-clause-looks
+returns-clause-looks g c = let s = c.args.seat.now in let n = c.load-found.result in let told = c.load-found.ensures.2 in
+    let deep = depth_seen s.place.me.0.standing s.limits s.standing s.became in
+    let low = s.rooted.low in let high = s.rooted.high in let few = s.rooted.few in
+    let own = owner_told c.new.result n s.number s.standing.depth c.new.ensures.valid c.new.ensures.value low (omega (arith, high, few)) (λ is. deep.1 (told.2 (is ∙ sym s.seated.named))) (λ d. told.3 (deep.0 d) ∙ s.seated.named) in
+    (n, looked_sight s.number n s.standing s.place.me.0 c.load-found.new.seat.me.0 (value_in s.moving) (ap (λ m. m.0) told.0), own.0, own.1, own.2)

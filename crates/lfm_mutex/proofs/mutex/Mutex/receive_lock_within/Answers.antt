@@ -1,0 +1,27 @@
+use Rattle.std.proofs.Common.{rules, ◌≡◌, ◌∷◌, ◌++◌, [], refl, sym, ap, subst, ◌∙◌, inl, inr}
+use Rattle.lfm_protocol.specs.declared.answers.Call.{Call}
+use Rattle.lfm_protocol.specs.declared.answers.Turn.TheVariants.{Refused}
+use Rattle.lfm_protocol.specs.declared.answers.Why.{Why}
+use Rattle.lfm_mutex.specs.calls.Sight.{Sight, sight}
+use Rattle.lfm_mutex.specs.calls.Trails.{Makes}
+use Rattle.lfm_mutex.proofs.runs.MadeCalls.{looks_more, refused_receive, first_look}
+use Rattle.lfm_mutex.proofs.mutex.Mutex.receive_lock_within.Goals as goal
+
+pub loop-preserved : goal.loop-preserved
+loop-preserved g c = let i = c.loop.invariant in let s = c.try_receive.new.seat in
+    let told = rw c.in-Ok-None.field-0-is at c.in-Ok-None.ensures.receives in
+    let made = rw c.in-Ok-None.field-0-is at c.in-Ok-None.ensures.steps in
+    record {
+      belongs = search rules;
+      beside = search rules;
+      seen = search rules;
+      looked = (i.looked.0 ++ sight s ∷ [], looks_more c.args.self.now.limits (sight c.args.seat.now) i.looked.0 (sight c.loop.seat) (sight s) i.looked.1 made);
+      first = inr (ap (λ (z : Sight g.row.T.Denot). z.asleep) (sym i.seen) ∙ told.0, ap (λ (z : Sight g.row.T.Denot). z.in_call) (sym i.seen) ∙ told.1);
+      wake = search rules;
+    }
+
+pub returns-in-Err-clause-steps : goal.returns-in-Err-clause-steps
+returns-in-Err-clause-steps g c = let i = c.loop.invariant in let s = c.try_receive.new.seat in
+    let told = refused_receive g.T.Kept.follows g.T.Kept.fits (sight c.loop.seat) (sight s) c.in-Err.refusal c.in-Err.ensures.receives in
+    let same = first_look (sight c.args.seat.now) (sight c.loop.seat) c.loop.seat.place.me.0.trail i.first i.seen told.0 in
+    subst (λ (z : Sight g.row.T.Denot). (cause : Why) × Makes c.args.self.now.limits Call.Receive z (sight s) (Refused cause)) same c.in-Err.ensures.steps

@@ -1,0 +1,135 @@
+-- One turn of a seat by hand, between two sights of it.
+use Rattle.std.proofs.Common.{◌≡◌, ◌≢◌, ◌⊎◌, ℕ, zero, suc, ◌+◌, ◌<◌, Bool, true, false, Option, Some, None, List, refl, sym, ap, subst, ◌∙◌, arith, inl, inr}
+use Rattle.std.proofs.lemmas.Bool.{cases_eq, false≢true}
+use Rattle.atomic_table.specs.Table.{Me}
+use Rattle.lfm_model.specs.declared.answers.Asked.{Asked}
+use Rattle.lfm_model.specs.declared.answers.How.{How}
+use Rattle.lfm_model.specs.declared.answers.Locked.{Locked}
+use Rattle.lfm_model.specs.declared.refusals.Refusal.{Refusal}
+use Rattle.lfm_words.specs.Popped.{oldest}
+use Rattle.lfm_protocol.specs.declared.answers.Answer.{Answer}
+use Rattle.lfm_protocol.specs.declared.answers.Turn.{Turn}
+use Rattle.lfm_protocol.specs.declared.answers.Turn.TheVariants.{Open, Ended, Refused}
+use Rattle.lfm_protocol.specs.declared.answers.Why.{Why}
+use Rattle.lfm_protocol.specs.declared.kinds.Kind.{Kind}
+use Rattle.lfm_protocol.specs.declared.limits.Limits.{Limits}
+use Rattle.lfm_protocol.specs.declared.points.Point.{Point}
+use Rattle.lfm_protocol.specs.declared.points.Point.TheVariants.{ReleaseOwnerStore, EnterOwnerStore}
+use Rattle.lfm_protocol.specs.declared.points.Releaser.{Releaser}
+use Rattle.lfm_protocol.specs.declared.seats.SeatState.{SeatState}
+use Rattle.lfm_protocol.specs.Points.{kind}
+use Rattle.lfm_core.specs.steady.Steady.{DepthAt}
+use Rattle.lfm_core.specs.table.Carried.{carries_value}
+use Rattle.lfm_core.specs.table.Words.{stepped_by}
+use Rattle.lfm_mutex.specs.declared.table.seat_view.View.{View}
+use Rattle.lfm_mutex.specs.declared.table.seat_view.Seen.{Seen}
+use Rattle.lfm_mutex.specs.declared.table.rule.Moving.{Moving}
+use Rattle.lfm_mutex.specs.table.Rule.{value_in, is_carried, seen}
+use Rattle.lfm_mutex.specs.table.Seats.{Seated}
+use Rattle.lfm_mutex.specs.table.Settled.{Became}
+use Rattle.lfm_mutex.specs.table.Steps.{Event, Goes_on, Leaves}
+use Rattle.lfm_mutex.specs.calls.Runs.{how_held, is_release, Holds}
+use Rattle.lfm_mutex.specs.calls.Sight.{Sight, sight_of, is_asleep, is_in_call, sends_of, by_depth, Concludes, Stays, Finds, May_leave}
+use Rattle.lfm_mutex.specs.calls.SeatSteps.{Steps, Keeps_value, Steps_on}
+use Rattle.lfm_mutex.proofs.ends.Seats.{depth_seen}
+use Rattle.lfm_mutex.proofs.runs.RunFacts.{no_leaves, how_enters}
+use Rattle.lfm_mutex.proofs.runs.Running.{holds_now, last_one}
+use Rattle.lfm_mutex.proofs.runs.Sights.{concludes_now, stays_now, stays_none, same_but, finds, first_concludes, deep_by, flat_by, may_leave}
+use Rattle.lfm_mutex.proofs.tables.StepFacts.{left_same}
+
+abbrev Both : ℕ → ℕ → Type 0
+Both d k = ((d ≡ 0) × (k ≡ 0)) ⊎ ((0 < d) × (0 < k))
+
+both_same : (d k : ℕ) → k ≡ d → Both d k
+both_same d k same = elim (cases_eq d 0) [ inl z ↦ inl (z, same ∙ z) | inr some ↦ inr (omega (arith, some), omega (arith, some, same)) ]
+
+-- a step that gains nothing holds afterwards exactly where it did before
+both : (x p : SeatState) (turn : Turn) → Concludes x turn p → how_held turn ≡ None → Both x.depth p.depth
+both x p Open c none = both_same x.depth p.depth c.0
+both x p (Ended (Answer.Asked (Asked.Held how))) c none = absurd (cc)
+both x p (Ended (Answer.Asked (Asked.Again d))) c none = let e = c.0 in let f = c.1 in let g = c.2 in inr (e, omega (arith, e, f, g))
+both x p (Ended (Answer.Asked Asked.Asleep)) c none = inl (c.0, c.1)
+both x p (Ended (Answer.Locked (Locked.Held how))) c none = absurd (cc)
+both x p (Ended (Answer.Locked (Locked.Again d))) c none = let e = c.0 in let f = c.1 in let g = c.2 in inr (e, omega (arith, e, f, g))
+both x p (Ended (Answer.Unlocked u)) c none = both_same x.depth p.depth c.0
+both x p (Ended (Answer.Waiting u)) c none = both_same x.depth p.depth c.0
+both x p (Ended (Answer.Got (Some how))) c none = absurd (cc)
+both x p (Ended (Answer.Got None)) c none = both_same x.depth p.depth c.0
+both x p (Ended Answer.Sent) c none = both_same x.depth p.depth c.0
+both x p (Refused (Why.By Refusal.Busy)) c none = inl (c.0, c.1)
+both x p (Refused (Why.By Refusal.NotWaiting)) c none = both_same x.depth p.depth c.0
+both x p (Refused _) c none = absurd c
+
+release_of : (q : Point) → is_release q ≡ true → (r : Releaser) × (q ≡ ReleaseOwnerStore r)
+release_of (ReleaseOwnerStore r) e = (r, refl)
+release_of _ e = absurd (false≢true e)
+
+module _ {T : Type 0} (follows : ℕ → T → T → Type 0) (fits : T → ℕ → Type 0) (n n' : ℕ) (l : Limits) (p q : SeatState) (m : Me (Option (Moving T)) (View T)) (w : View T) (a b : Option (Moving T)) (turn : Turn) (was : Seated n l p m a) (number : n' ≡ n) (e : Event follows fits p a m.0 turn q b w) where
+  abbrev S : Sight T
+  S = sight_of n p m.0 (value_in a)
+
+  abbrev S' : Sight T
+  S' = sight_of n' q w (value_in b)
+
+  steps : Steps p S turn q S'
+  steps = let o = oldest e.did.popped in (
+    e.found,
+    o,
+    e.turn_is ∙ ap (λ (k : ℕ). (stepped_by p k e.found o).turn) was.named,
+    e.seat_is ∙ ap (λ (k : ℕ). (stepped_by p k e.found o).seat) was.named,
+    number,
+    refl,
+    refl,
+    e.did.trail,
+  )
+
+  gains : (how : How) → how_held turn ≡ Some how → Finds follows fits how S S'
+  gains how is =
+      let o = oldest e.did.popped in
+      let by = how_enters p m.0.number e.found o how (ap how_held (sym e.turn_is) ∙ is) in
+      let flat : p.depth ≡ 0 = subst (λ (x : Point). DepthAt p.depth x) by.1 e.did.deep in
+      finds follows fits n n' l p p q m.0 w a b number how flat (holds_now follows fits n l p q m w a b turn m.0.last was refl e how is)
+
+  leaves : is_release p.point ≡ true → S'.last ≡ S.value
+  leaves is =
+      let r = release_of p.point is in
+      let deep : p.depth ≡ 1 = subst (λ (x : Point). DepthAt p.depth x) r.1 e.did.deep in
+      let after = first_concludes follows fits p q m.0 w a b turn e r.0 r.1 in
+      flat_by q.depth w.last w.found after.0 ∙ (last_one follows fits n p q m.0 w a b turn was.named e r.0 r.1 ∙ sym (deep_by p.depth None (value_in a) (omega (arith, deep))))
+
+  keeps : kind p.point ≢ None → is_release p.point ≡ false → how_held turn ≡ None → S' ≡ record S { depth = S'.depth; takes = S'.takes; asleep = S'.asleep; in_call = S'.in_call; trail = S'.trail; sends = S'.sends }
+  keeps some stays none =
+      let told = concludes_now follows fits n p q m.0 w a b turn was.named e some stays in
+      same_but n n' p q m.0 w (value_in a) (value_in b) q.depth q.takes (is_asleep q.point) (is_in_call q.point) (sends_of w.trail) number refl refl refl refl refl
+      (e.did.last ∙ left_same p.point e.hand m.0.last (no_leaves p.point stays)) (stays_now follows fits n p q m.0 w a b turn was.named e stays told) (both p q turn told none)
+
+  pub told : kind p.point ≢ None → Steps p S turn q S' × Keeps_value follows fits p S turn S'
+  told some = (steps, record { gains = gains; leaves = leaves; keeps = keeps some })
+
+pub steps_on : {T : Type 0} (follows : ℕ → T → T → Type 0) (fits : T → ℕ → Type 0) (k : Option Kind) (n n' : ℕ) (l : Limits) (p q : SeatState) (m m' : Me (Option (Moving T)) (View T)) (a b : Option (Moving T)) (turn : Turn) → Seated n l p m a → n' ≡ n → kind p.point ≡ k
+    → Goes_on k follows fits p a m turn q b m' → Steps_on follows fits k p (sight_of n p m.0 (value_in a)) turn q (sight_of n' q m'.0 (value_in b))
+steps_on follows fits None n n' l p q m m' a b turn was number is event =
+    (event.0, event.1, λ i. sight_of (number i) (event.1 i) (event.3 i).0 (value_in (event.2 i)))
+steps_on follows fits (Some k) n n' l p q m m' a b turn was number is event =
+    told follows fits n n' l p q m m'.0 a b turn was number event (λ z. let f : Some k ≡ None = sym is ∙ z in absurd (cc))
+
+-- what may be left is told of what is seen, and asked of what the seat has
+pub leaves_at : {T : Type 0} (follows : ℕ → T → T → Type 0) (fits : T → ℕ → Type 0) (n : ℕ) (l : Limits) (p : SeatState) (m : Me (Option (Moving T)) (View T)) (a : Option (Moving T)) → Seated n l p m a
+    → (is_release p.point ≡ true → May_leave follows fits (sight_of n p m.0 (value_in a))) → (r : Releaser) → p.point ≡ ReleaseOwnerStore r → Leaves follows fits a m.0
+leaves_at follows fits n l p m a was may r at = elim (cases_eq p.depth 0) [
+  | inl flat ↦ λ x is. let none : carries_value p ≡ false = rw (at, flat) refl in absurd (false≢true (sym none ∙ (sym was.moved ∙ ap is_carried is)))
+  | inr some ↦ may_leave follows fits n p m.0 a was.named (omega (arith, some)) (may (ap is_release at))
+]
+
+-- a begin touches neither view nor value
+pub begins_seen : {T : Type 0} (n n' : ℕ) (l : Limits) (p q : SeatState) (v v' : View T) (a a' : Option (Moving T)) → Became v.standing l p → Became v.standing l q → n' ≡ n → v' ≡ v → a' ≡ a
+    → sight_of n' q v' (value_in a') ≡ record (sight_of n p v (value_in a)) { depth = q.depth; takes = q.takes; asleep = is_asleep q.point; in_call = is_in_call q.point }
+begins_seen {T} n n' l p q v v' a a' was is number view value =
+    let before = depth_seen v.standing l p was in let after = depth_seen v.standing l q is in
+    let level : Both p.depth q.depth = elim (cases_eq p.depth 0) [
+      | inl z ↦ inl (z, elim (cases_eq q.depth 0) [ inl y ↦ y | inr some ↦ absurd (let h = before.1 (after.0 (omega (arith, some))) in omega (arith, h, z)) ])
+      | inr some ↦ inr (omega (arith, some), after.1 (before.0 (omega (arith, some))))
+    ]
+    in
+    ap (λ (t : View T × Option (Moving T)). sight_of n' q t.0 (value_in t.1)) (λ i. (view i, value i))
+    ∙ same_but n n' p q v v (value_in a) (value_in a) q.depth q.takes (is_asleep q.point) (is_in_call q.point) (sends_of v.trail) number refl refl refl refl refl refl (stays_none p.depth v (value_in a)) level

@@ -1,0 +1,48 @@
+use Rattle.std.proofs.Common.{rules, ◌≢◌, ℕ, sym, ap, ◌∙◌, subst, None}
+use Rattle.lfm_protocol.specs.Points.{kind}
+use Rattle.lfm_mutex.specs.table.Rule.{value_in}
+use Rattle.lfm_mutex.specs.table.Seats.{Rooted}
+use Rattle.lfm_mutex.specs.table.Steps.{kept_out, put_in, CanMake}
+use Rattle.lfm_mutex.proofs.tables.SeatKept.{can_make, slot_there, made_next, open_event}
+use Rattle.lfm_mutex.proofs.steps.make_next.Goals as goal
+
+pub make-found-requires-clause-can : goal.make-found-requires-clause-can
+make-found-requires-clause-can g c κs within = let s = c.args.seat.now in
+    subst (λ (w : ℕ). CanMake g.T.Kept.follows g.T.Kept.fits s.standing (value_in c.prepare.new.moving) s.number s.limits.seats w c.prepare.new.place.me) (ap (λ t. t.words) c.requires.belongs)
+    (can_make g.T.Kept.follows g.T.Kept.fits s.number s.place.table_id.words s.place.id s.limits s.standing s.place.me s.moving s.seated s.became s.ready s.rooted c.prepare.new.moving c.prepare.new.place.me
+    (c.prepare.ensures.moving ∙ (λ i. kept_out (c.gives-may_give.ensures i) (c.drop_oldest.ensures i)))
+    (c.prepare.ensures.slot ∙ (λ i. (s.place.me.0, put_in (c.gives-may_give.ensures i) (c.drop_oldest.ensures i) s.place.me.1)))
+    c.requires.leaves)
+
+pub settle-requires-clause-slot : goal.settle-requires-clause-slot
+settle-requires-clause-slot g c κs within = λ none carries. let s = c.args.seat.now in
+    slot_there g.T.Kept.follows g.T.Kept.fits s.number s.place.table_id.words s.place.id s.limits s.standing s.place.me s.moving s.seated s.became s.ready s.rooted c.make-found.result c.prepare.new.moving c.add_loaded.new.moving c.prepare.new.place.me c.make-found.new.place.me c.advance.new.standing
+    (c.prepare.ensures.moving ∙ (λ i. kept_out (c.gives-may_give.ensures i) (c.drop_oldest.ensures i)))
+    (c.prepare.ensures.slot ∙ (λ i. (s.place.me.0, put_in (c.gives-may_give.ensures i) (c.drop_oldest.ensures i) s.place.me.1)))
+    c.make-found.ensures.step c.add_loaded.ensures c.advance.ensures.seat none (sym c.seat_carries-carries.ensures ∙ carries)
+
+pub invariant_of-seat : goal.invariant_of-seat
+invariant_of-seat g c = let s = c.args.seat.now in
+    let m = made_next g.T.Kept.follows g.T.Kept.fits s.number s.place.table_id.words s.place.id s.limits s.standing s.place.me s.moving s.seated s.became s.ready s.rooted c.make-found.result c.gives-may_give.result c.seat_carries-carries.result c.drop_oldest.new.moving c.prepare.new.moving c.add_loaded.new.moving
+    c.settle.new.moving c.prepare.new.place.me c.make-found.new.place.me c.settle.new.place.me c.advance.new.standing c.advance-2.new.standing c.advance-2.result c.oldest_of-oldest.result
+    c.gives-may_give.ensures c.drop_oldest.ensures c.prepare.ensures.moving c.prepare.ensures.slot c.make-found.ensures.step c.add_loaded.ensures c.advance.ensures.seat c.seat_carries-carries.ensures c.settle.ensures.took c.oldest_of-oldest.ensures
+    c.advance-2.ensures.seat c.advance-2.ensures.turn
+    in
+    let t = c.settle.ensures.table.0 ∙ (c.make-found.ensures.table.0 ∙ c.prepare.ensures.table.0) in
+    let d = c.settle.ensures.table.1 ∙ (c.make-found.ensures.table.1 ∙ c.prepare.ensures.table.1) in
+    record {
+      seated = m.seated;
+      became = m.became_now;
+      ready = m.ready_now;
+      rooted = subst (λ (z : ℕ × ℕ). Rooted z.0 z.1 s.number s.limits c.settle.new.place.me.0) (λ i. (ap (λ t. t.words) (sym t) i, sym d i)) m.rooted_now;
+    }
+
+pub returns-clause-event : goal.returns-clause-event
+returns-clause-event g c = let s = c.args.seat.now in
+    let m = made_next g.T.Kept.follows g.T.Kept.fits s.number s.place.table_id.words s.place.id s.limits s.standing s.place.me s.moving s.seated s.became s.ready s.rooted c.make-found.result c.gives-may_give.result c.seat_carries-carries.result c.drop_oldest.new.moving c.prepare.new.moving c.add_loaded.new.moving
+    c.settle.new.moving c.prepare.new.place.me c.make-found.new.place.me c.settle.new.place.me c.advance.new.standing c.advance-2.new.standing c.advance-2.result c.oldest_of-oldest.result
+    c.gives-may_give.ensures c.drop_oldest.ensures c.prepare.ensures.moving c.prepare.ensures.slot c.make-found.ensures.step c.add_loaded.ensures c.advance.ensures.seat c.seat_carries-carries.ensures c.settle.ensures.took c.oldest_of-oldest.ensures
+    c.advance-2.ensures.seat c.advance-2.ensures.turn
+    in
+    let some : kind s.standing.point ≢ None = search rules in
+    open_event g.T.Kept.follows g.T.Kept.fits (kind s.standing.point) s.standing c.advance-2.new.standing s.place.me c.settle.new.place.me s.moving c.settle.new.moving c.advance-2.result some m.event

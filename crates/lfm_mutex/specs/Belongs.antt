@@ -1,0 +1,26 @@
+-- What belongs to a mutex, and what its own data are. Contracts name a mutex and its seats by these words alone.
+use Rattle.std.specs.Prelude.{◌≡◌, ℕ}
+use Rattle.lfm_protocol.specs.declared.limits.Limits.{Limits}
+use Rattle.lfm_protocol.specs.declared.seats.SeatState.{SeatState}
+use Rattle.lfm_mutex.specs.declared.seat.Seat.{Seat}
+use Rattle.lfm_mutex.specs.declared.mutex.Mutex.{Mutex}
+
+-- how many seats the mutex has, and how many takes each of them may make
+abbrev pub limits_of : {T : Type 0} → Mutex T → Limits
+limits_of m = m.limits
+
+-- the seat is one of the mutex's
+abbrev pub Of_mutex : {T : Type 0} → Seat T → Mutex T → Type 0
+Of_mutex s m = (s.place.table_id ≡ m.table.shared.table_id) × (s.limits ≡ m.limits)
+
+-- both are seats of one mutex
+abbrev pub Beside : {T : Type 0} → Seat T → Seat T → Type 0
+Beside s t = (t.place.table_id ≡ s.place.table_id) × (t.limits ≡ s.limits)
+
+-- how many takes the seat may make
+abbrev pub budget_of : {T : Type 0} → Seat T → ℕ
+budget_of s = s.limits.budget
+
+-- the seat's own data, as the core has them
+abbrev pub state_of : {T : Type 0} → Seat T → SeatState
+state_of s = s.standing

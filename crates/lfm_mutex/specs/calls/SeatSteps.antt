@@ -1,0 +1,39 @@
+-- One turn of a seat by hand: a call that begins, or one atomic step, each as the core has it for that seat.
+use Rattle.std.specs.Prelude.{◌≡◌, ℕ, List, [], ◌∷◌, ◌++◌, Bool, false, true, Option, Some, None}
+use Rattle.lfm_model.specs.declared.answers.How.{How}
+use Rattle.lfm_words.specs.declared.pop_lists.Record.{Record}
+use Rattle.lfm_protocol.specs.declared.answers.Call.{Call}
+use Rattle.lfm_protocol.specs.declared.answers.Turn.{Turn}
+use Rattle.lfm_protocol.specs.declared.answers.Turn.TheVariants.{Refused}
+use Rattle.lfm_protocol.specs.declared.answers.Why.TheVariants.{Idle}
+use Rattle.lfm_protocol.specs.declared.kinds.Kind.{Kind}
+use Rattle.lfm_protocol.specs.declared.limits.Limits.{Limits}
+use Rattle.lfm_protocol.specs.declared.seats.SeatState.{SeatState}
+use Rattle.lfm_protocol.specs.Begin.{begin}
+use Rattle.lfm_core.specs.table.Words.{stepped_by}
+use Rattle.lfm_mutex.specs.table.Rule.{seen}
+use Rattle.lfm_mutex.specs.calls.Runs.{how_held, is_release}
+use Rattle.lfm_mutex.specs.calls.Sight.{Sight, is_asleep, is_in_call, Finds}
+
+-- a seat with the data x, which is seen as s, begins a call
+abbrev pub Begins : {T : Type 0} → Limits → Call → SeatState → Sight T → Turn → SeatState → Sight T → Type 0
+Begins l call x s turn y t =
+    (turn ≡ (begin x l call).turn) × (y ≡ (begin x l call).seat) × (t ≡ record s { depth = y.depth; takes = y.takes; asleep = is_asleep y.point; in_call = is_in_call y.point })
+
+-- a seat with the data x makes the step at its point: it found n, and the oldest record of the pop list was o
+abbrev pub Steps : {T : Type 0} → SeatState → Sight T → Turn → SeatState → Sight T → Type 0
+Steps x s turn y t =
+    (n : ℕ) × (o : Option Record) × (turn ≡ (stepped_by x s.number n o).turn) × (y ≡ (stepped_by x s.number n o).seat) × (t.number ≡ s.number) × (t.depth ≡ y.depth) × (t.takes ≡ y.takes)
+    × (t.trail ≡ s.trail ++ seen x.point n ∷ [])
+
+-- what becomes of the value at a step: a seat that comes to hold finds what was left last, the store that ends a hold leaves what
+-- was in hand, and every other step keeps both
+pub record Keeps_value {T : Type 0} (follows : ℕ → T → T → Type 0) (fits : T → ℕ → Type 0) (x : SeatState) (s : Sight T) (turn : Turn) (t : Sight T) : Type 0 where
+  pub gains : (how : How) → how_held turn ≡ Some how → Finds follows fits how s t
+  pub leaves : is_release x.point ≡ true → t.last ≡ s.value
+  pub keeps : is_release x.point ≡ false → how_held turn ≡ None → t ≡ record s { depth = t.depth; takes = t.takes; asleep = t.asleep; in_call = t.in_call; trail = t.trail; sends = t.sends }
+
+-- a seat with the data x makes the step at its point; without an open call nothing changes
+abbrev pub Steps_on : {T : Type 0} → (ℕ → T → T → Type 0) → (T → ℕ → Type 0) → Option Kind → SeatState → Sight T → Turn → SeatState → Sight T → Type 0
+Steps_on follows fits None x s turn y t = (turn ≡ Refused Idle) × (y ≡ x) × (t ≡ s)
+Steps_on follows fits (Some k) x s turn y t = Steps x s turn y t × Keeps_value follows fits x s turn t

@@ -1,0 +1,69 @@
+-- The steps of a call: the ones that the protocol asks for, each after those before it, and the answer that the last one gives.
+use Rattle.std.specs.Prelude.{◌≡◌, ◌⊎◌, ⊤, ℕ, List, [], ◌∷◌, ◌++◌, Bool, Option, Some, None, Result, Ok, Err}
+use Rattle.lfm_model.specs.declared.answers.Asked.{Asked}
+use Rattle.lfm_model.specs.declared.answers.How.{How}
+use Rattle.lfm_model.specs.declared.answers.Locked.{Locked}
+use Rattle.lfm_model.specs.declared.refusals.Refusal.{Refusal}
+use Rattle.lfm_words.specs.declared.pop_lists.Record.{Record}
+use Rattle.lfm_protocol.specs.declared.answers.Answer.{Answer}
+use Rattle.lfm_protocol.specs.declared.answers.Call.{Call}
+use Rattle.lfm_protocol.specs.declared.answers.Turn.{Turn}
+use Rattle.lfm_protocol.specs.declared.answers.Turn.TheVariants.{Open, Ended, Refused}
+use Rattle.lfm_protocol.specs.declared.answers.Why.{Why}
+use Rattle.lfm_protocol.specs.declared.limits.Limits.{Limits}
+use Rattle.lfm_protocol.specs.declared.seats.SeatState.{SeatState}
+use Rattle.lfm_protocol.specs.Begin.{begin}
+use Rattle.lfm_mutex.specs.declared.table.seat_view.Seen.{Seen}
+use Rattle.lfm_mutex.specs.calls.Runs.{end_of, trail_of, opens}
+use Rattle.lfm_mutex.specs.calls.Sight.{Sight, is_asleep, is_in_call}
+
+-- a seat with these data of the core is seen so
+pub record Shows {T : Type 0} (x : SeatState) (s : Sight T) : Type 0 where
+  pub depth : s.depth ≡ x.depth
+  pub takes : s.takes ≡ x.takes
+  pub asleep : s.asleep ≡ is_asleep x.point
+  pub in_call : s.in_call ≡ is_in_call x.point
+
+-- a call whose begin gave the first turn and the data q, and which ended with `turn` and the data y: at once, or by steps, each of
+-- them the one that those before it ask for
+abbrev pub Leads : Turn → ℕ → SeatState → List Seen → Turn → SeatState → List Seen → Type 0
+Leads Open n q trail turn y trail' =
+    (finds : List (ℕ × Option Record)) × (end_of n (opens q) finds ≡ record { seat = y; turn = turn }) × (trail' ≡ trail ++ trail_of n q finds)
+Leads first n q trail turn y trail' = (turn ≡ first) × (y ≡ q) × (trail' ≡ trail)
+
+module _ {T : Type 0} (l : Limits) where
+  -- the call of a seat seen as s ends with this turn, and the seat is then seen as t
+  abbrev pub Makes : Call → Sight T → Sight T → Turn → Type 0
+  Makes call s t turn =
+      (x : SeatState) × (y : SeatState) × Shows x s × Shows y t × Leads (begin x l call).turn s.number (begin x l call).seat s.trail turn y t.trail
+
+  abbrev pub Made : Call → Sight T → Sight T → Turn → Type 0
+  Made call s t Open = ⊤
+  Made call s t (Ended answer) = Makes call s t (Ended answer)
+  Made call s t (Refused why) = (cause : Why) × Makes call s t (Refused cause)
+
+  -- the call has made its steps, and the answer is what the last of them says
+  abbrev pub Makes_call : {A : Type 0} → (A → Answer) → Call → Sight T → Sight T → Result A Refusal → Type 0
+  Makes_call answer call s t (Ok a) = Makes call s t (Ended (answer a))
+  Makes_call answer call s t (Err refusal) = (cause : Why) × Makes call s t (Refused cause)
+
+  -- looks at the wake word that found no grant, one after another
+  abbrev pub Looks : Sight T → List (Sight T) → Sight T → Type 0
+  Looks s [] t = t ≡ s
+  Looks s (m ∷ ms) t = Makes Call.Receive s m (Ended (Answer.Got None)) × Looks m ms t
+
+  -- some looks that found none, and one that found the grant
+  abbrev pub Waits_for : How → Sight T → Sight T → Type 0
+  Waits_for how s t = (ms : List (Sight T)) × (m : Sight T) × Looks s ms m × Makes Call.Receive m t (Ended (Answer.Got (Some how)))
+
+  -- the steps of receive_lock: those of one or more receives
+  abbrev pub Receives_by : Sight T → Sight T → Result How Refusal → Type 0
+  Receives_by s t (Ok how) = Waits_for how s t
+  Receives_by s t (Err refusal) = (cause : Why) × Makes Call.Receive s t (Refused cause)
+
+  -- the steps of lock: those of ask, and where that fell asleep those of receive_lock
+  abbrev pub Locks_by : Sight T → Sight T → Result Locked Refusal → Type 0
+  Locks_by s t (Ok (Locked.Held how)) =
+      Makes Call.Lock s t (Ended (Answer.Asked (Asked.Held how))) ⊎ ((m : Sight T) × Makes Call.Lock s m (Ended (Answer.Asked Asked.Asleep)) × Waits_for how m t)
+  Locks_by s t (Ok (Locked.Again d)) = Makes Call.Lock s t (Ended (Answer.Asked (Asked.Again d)))
+  Locks_by s t (Err refusal) = (cause : Why) × Makes Call.Lock s t (Refused cause)

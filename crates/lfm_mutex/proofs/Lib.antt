@@ -1,3 +1,4 @@
 pub mod tables
 pub mod runs
 pub mod ends
+pub mod LawsHeld

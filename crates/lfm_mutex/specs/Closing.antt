@@ -1,9 +1,12 @@
 -- What keeps a mutex from being closed. A seat lies in something of type A, and `look` says how it is seen.
-use Rattle.std.specs.Prelude.{◌≡◌, ◌≢◌, ℕ, ◌<◌, ◌≤◌, List, true, false}
+use Rattle.std.specs.Prelude.{◌≡◌, ◌≢◌, ℕ, ◌<◌, ◌≤◌, List, [], true, false}
 use mathlib.Core.Option.{some}
 use lib.ListN.{get_elem?}
 use Rattle.lfm_model.specs.declared.refusals.Missing.{Missing}
 use Rattle.lfm_model.specs.declared.refusals.Missing.TheVariants.{NotBack, Holding, Asleep}
+use Rattle.lfm_protocol.specs.Core.{Core}
+use Rattle.lfm_protocol.specs.Seats.{unposted}
+use Rattle.lfm_core.specs.table.Words.{words}
 use Rattle.lfm_mutex.specs.calls.Sight.{Sight}
 
 -- the seat that is named
@@ -44,3 +47,14 @@ module _ {A : Type 0} {T : Type 0} (look : A → Sight T) (seats : List A) where
 
   abbrev pub All_stand : ℕ → Type 0
   All_stand n = (k : ℕ) → 0 < k → k ≤ n → Stands k
+
+-- nobody counts, nothing is posted and nobody is queued
+pub record Is_free (c : Core) : Type 0 where
+  pub count : c.count ≡ 0
+  pub handoff : c.handoff ≡ unposted
+  pub pushed : c.push.next ≡ 0
+  pub popped : c.popped ≡ []
+
+-- these are the words of a mutex that is free
+abbrev pub Are_free : List ℕ → Type 0
+Are_free ws = (c : Core) × (ws ≡ words c) × Is_free c

@@ -2,10 +2,11 @@
 ghost use Rattle.std.specs.Prelude.{◌≡◌, ◌<◌, ◌≤◌, ℕ, [], Some, IfErr, IfOk, MatchOption, vec_len};
 ghost use mathlib.Core.Option.{some};
 ghost use lib.ListN.{get_elem?};
+ghost use Rattle.std.specs.Slots.{IsFull, slots_items, slots_len};
 ghost use Rattle.lfm_protocol.specs.declared.points.Point.TheVariants.{Rest};
 ghost use Rattle.lfm_mutex.specs.declared.table.seat_view.Role.TheVariants.{User};
 ghost use Rattle.lfm_mutex.specs.Belongs.{Of_mutex, limits_of};
-ghost use Rattle.lfm_mutex.specs.Closing.{Idle, Hinders, named, Lacks, Stands, Hindered, First_missing, All_stand};
+ghost use Rattle.lfm_mutex.specs.Closing.{Are_free, Idle, Hinders, named, Lacks, Stands, Hindered, First_missing, All_stand};
 ghost use Rattle.lfm_mutex.specs.Reach.{Reached};
 ghost use Rattle.lfm_mutex.specs.calls.Sight.{sight};
 ghost use Rattle.lfm_mutex.specs.table.Rule.{with_joined};
@@ -16,7 +17,9 @@ use crate::mutex::Mutex;
 use crate::seat::{Place, Seat};
 use crate::table::rule::{JoinedView, Moving, SeatJoin};
 use crate::table::table_steps::SharedTable;
+use atomic_table::Closed;
 use lfm_model::{Missing, SeatNo};
+use std::alloc::Global;
 use std::marker::Brand;
 
 // Why this seat can't be joined.
@@ -106,6 +109,18 @@ fn retire<T: Kept, B: JoinedView<T>>(table: &SharedTable<T>, root: &mut Place<T>
     table.join_seat::<SeatJoin<B>>(root, place);
 }
 
+// Takes what lies in the slot of a table, which is closed while nobody counts, nothing is posted and nobody is queued.
+fn take_slot<T: Kept>(closed: Closed<Option<Moving<T>>, Global>) -> Option<Moving<T>>
+    requires free { Are_free (slots_items closed.words) }
+    requires slot { (slots_len closed.slots ≡ 1) × IsFull closed.slots }
+    ensures { get_elem? (slots_items closed.slots) 0 ≡ some result }
+{
+    let mut closed = closed;
+    let slot = closed.take(0);
+    closed.free();
+    slot
+}
+
 impl<T: Kept> Mutex<T> {
     // The first thing that keeps the mutex from being closed.
     fn missing<P: Holder<T>>(&self, seats: &Vec<P>) -> Option<Missing>
@@ -142,10 +157,7 @@ impl<T: Kept> Mutex<T> {
             let place = into_place::<T, P>(seat);
             retire::<T, Brand>(&table.shared, &mut root, place);
         }
-        let mut closed = table.close_with(root);
-        let slot = closed.take(0);
-        closed.free();
-        let Some(Moving { popped: _, value }) = slot else {
+        let Some(Moving { popped: _, value }) = take_slot(table.close_with(root)) else {
             unreachable!()
         };
         Ok(value)

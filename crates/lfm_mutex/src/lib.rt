@@ -6,6 +6,7 @@ mod calls;
 mod closing;
 pub mod holders;
 pub mod kept;
+pub mod laws;
 mod lending;
 pub mod mutex;
 mod opening;

@@ -1,4 +1,4 @@
-//! The mutex.
+//! The mutex: its words, and how many seats and takes it allows. Its calls are in `calls`, `waiting` and `owner`.
 ghost use Rattle.std.specs.Prelude.{◌≡◌, ◌+◌, ◌*◌, ◌<◌, ◌≤◌};
 
 use crate::kept::Kept;
@@ -8,10 +8,14 @@ use atomic_table::Table;
 use lfm_protocol::Limits;
 use std::alloc::Global;
 
-/// A mutex round a value of type T.
+/// The words of a mutex, with the rule that they and its seats keep.
+pub(crate) type WordTable<T> = Table<Option<Moving<T>>, View<T>, Key<T>, Lawful, Global>;
+
+/// A mutex round a value of type T: at most one seat at a time holds it, and reaches the value. Its calls are made through a
+/// shared reference and one of its seats. A call with the seat of another mutex breaks the condition that every call has.
 #[derive(Drop)]
 pub struct Mutex<T: Kept> {
-    pub(crate) table: Table<Option<Moving<T>>, View<T>, Key<T>, Lawful, Global>,
+    pub(crate) table: WordTable<T>,
     pub(crate) limits: Limits,
     pub ghost words: { table.shared.table_id.words ≡ 4 + 2 * limits.seats },
     pub ghost slots: { table.shared.table_id.slots ≡ 1 },

@@ -1,5 +1,5 @@
 //! How a mutex is made: one table of words, whose first seat is seat 1, and the other seats split off it.
-ghost use Rattle.std.specs.Prelude.{◌≡◌, ◌+◌, ℕ, IfOk, IfErr, Some, None, vec_len, true, false};
+ghost use Rattle.std.specs.Prelude.{◌≡◌, ◌+◌, ◌*◌, ℕ, [], IfOk, IfErr, vec_len, true, false};
 ghost use mathlib.Core.Option.{some};
 ghost use lib.ListN.{get_elem?};
 ghost use Rattle.lfm_protocol.specs.Seats.{absent};
@@ -7,10 +7,11 @@ ghost use Rattle.lfm_model.specs.declared.refusals.NewFault.{NewFault};
 ghost use Rattle.lfm_protocol.specs.Limits.{are_in_limits};
 ghost use Rattle.lfm_mutex.specs.Belongs.{Of_mutex, limits_of};
 ghost use Rattle.lfm_mutex.specs.calls.Sight.{sight, new_sight};
+ghost use Rattle.lfm_mutex.specs.table.Rule.{first_view};
 
 use crate::kept::Kept;
-use crate::mutex::Mutex;
-use crate::seat::Seat;
+use crate::mutex::{Mutex, WordTable};
+use crate::seat::{Place, Seat};
 use crate::table::rule::{Key, Moving, SeatSplit};
 use atomic_table::Table;
 use lfm_model::NewFault;
@@ -32,12 +33,43 @@ fn at_rest() -> SeatState
     }
 }
 
+// The table of a mutex that nobody holds or wants, and its first seat.
+fn laid_out<T: Kept>(
+    alloc: Global,
+    limits: Limits,
+    value: T,
+) -> Result<(WordTable<T>, Place<T>), NewFault>
+    requires allowed { are_in_limits limits.seats limits.budget ≡ true }
+    requires fits { T.fits value 0 }
+    ensures ok { IfOk result (λ r. (r.0.shared.table_id.words ≡ 4 + 2 * limits.seats) × (r.0.shared.table_id.slots ≡ 1) × (r.1.table_id ≡ r.0.shared.table_id) × (r.1.id ≡ 0) × (r.1.me ≡ (first_view limits value, []))) }
+    ensures err { IfErr result (λ e. e ≡ NewFault.Memory) }
+{
+    let about = Key {
+        limits,
+        opening: Snapshot::of(&value),
+    };
+    let Ok(popped) = PopList::new(alloc, limits.seats) else {
+        return Err(NewFault::Memory);
+    };
+    let mut slots = Vec::new(alloc);
+    let Ok(()) = slots.push(Some(Moving { popped, value })) else {
+        return Err(NewFault::Memory);
+    };
+    let Ok(words) = Vec::from_elem(alloc, 0u64, 4 + 2 * limits.seats as usize) else {
+        return Err(NewFault::Memory);
+    };
+    let Ok(laid) = Table::new(alloc, words.as_slice(), slots, &about) else {
+        return Err(NewFault::Memory);
+    };
+    Ok(laid)
+}
+
 impl<T: Kept> Mutex<T> {
     /// A mutex round this value, and its seats in order, numbered from 1. `seats` is 1 to 4,095, and `budget`, how many
     /// takes each seat may make, 1 to 2^36. The value has to suit a mutex that has had no queued take.
     ///
-    /// Outside these limits it answers Limit, and asks for no memory. It makes five requests for memory, and answers Memory
-    /// where one was refused. On a fault the value is dropped. No other call of a mutex takes memory.
+    /// Outside these limits it answers Limit, and asks for no memory. It answers Memory where a request for memory was
+    /// refused. On a fault the value is dropped. No other call of a mutex takes memory.
     pub fn new(
         alloc: Global,
         seats: u64,
@@ -54,25 +86,12 @@ impl<T: Kept> Mutex<T> {
         if !limits.are_allowed() {
             return Err(NewFault::Limit);
         }
-        let about = Key {
-            limits,
-            opening: Snapshot::of(&value),
-        };
-        let Ok(popped) = PopList::new(alloc, seats) else {
-            return Err(NewFault::Memory);
-        };
-        let mut slots = Vec::new(alloc);
-        let Ok(()) = slots.push(Some(Moving { popped, value })) else {
-            return Err(NewFault::Memory);
-        };
-        let Ok(words) = Vec::from_elem(alloc, 0u64, 4 + 2 * seats as usize) else {
-            return Err(NewFault::Memory);
-        };
         let Ok(mut all) = Vec::with_capacity(alloc, seats as usize) else {
             return Err(NewFault::Memory);
         };
-        let Ok((table, mut root)) = Table::new(alloc, words.as_slice(), slots, &about) else {
-            return Err(NewFault::Memory);
+        let (table, mut root) = match laid_out(alloc, limits, value) {
+            Ok(laid) => laid,
+            Err(fault) => return Err(fault),
         };
         for i in 1..seats {
             let place = table.shared.split_seat::<SeatSplit>(&mut root);

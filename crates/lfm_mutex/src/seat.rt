@@ -1,6 +1,7 @@
 //! A seat of the mutex: what one thread uses it with. Its fields are the crate's own; callers see a seat by its readers, and
 //! contracts by `sight`.
 ghost use Rattle.std.specs.Prelude.{◌≡◌, ◌<◌, ◌-◌, Some, None, MatchOption};
+ghost use Rattle.std.specs.Coded.{Coded-set};
 ghost use Rattle.lfm_mutex.specs.table.Props.{IsReady-prop, Became-prop};
 ghost use Rattle.lfm_core.specs.table.Ready.{IsReady};
 ghost use Rattle.lfm_mutex.specs.table.Rule.{value_in, put_value};
@@ -28,7 +29,7 @@ pub struct Seat<T: Drop> {
     /// The pop list and the guarded value: here exactly while the seat carries the responsibility.
     pub(crate) moving: Option<Moving<T>>,
     pub ghost seated: { Seated number limits standing place.me moving },
-    pub ghost became: { Became place.me.0.standing limits standing } by { Became-prop place.me.0.standing limits standing },
+    pub ghost became: { Became place.me.0.standing limits standing } by { Became-prop (Coded-set standing-code) place.me.0.standing limits standing },
     pub ghost ready: { IsReady limits.seats number standing } by { IsReady-prop limits.seats number standing },
     pub ghost rooted: { Rooted place.table_id.words place.id number limits place.me.0 },
 }
@@ -63,7 +64,7 @@ impl<T: Kept> Seat<T> {
     pub fn left(&self) -> u64
         ensures { result ≡ budget_of self.now - (sight self.now).takes }
     {
-        self.limits.budget.saturating_sub(self.standing.takes)
+        self.limits.budget.saturating_sub(self.takes())
     }
 
     /// Whether the seat sleeps, or a call of it is open.
@@ -77,7 +78,7 @@ impl<T: Kept> Seat<T> {
     pub fn value(&self) -> Option<&T>
         ensures { MatchOption result ((sight self.now).depth ≡ 0) (λ x. (0 < (sight self.now).depth) × ((sight self.now).value ≡ Some x.now)) }
     {
-        if self.standing.depth == 0 {
+        if self.depth() == 0 {
             return None;
         }
         match &self.moving {

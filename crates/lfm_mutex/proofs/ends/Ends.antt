@@ -28,7 +28,8 @@ use Rattle.lfm_mutex.specs.declared.table.seat_view.Role.TheVariants.{User, Reti
 use Rattle.lfm_mutex.specs.declared.table.seat_view.Joined.{Joined}
 use Rattle.lfm_mutex.specs.declared.table.seat_view.View.{View}
 use Rattle.lfm_mutex.specs.declared.table.rule.Moving.{Moving}
-use Rattle.lfm_mutex.specs.Closing.{Hinders, Hindered, named}
+use Rattle.lfm_mutex.specs.Closing.{Hinders, Hindered, named, Are_free}
+use Rattle.lfm_mutex.proofs.ends.FreeWords.{free_core}
 use Rattle.lfm_mutex.specs.Reach.{Reached}
 use Rattle.lfm_mutex.specs.calls.Sight.{Sight, is_asleep, by_depth}
 use Rattle.lfm_mutex.specs.table.Rule.{total, retired, retired_at, in_hand, Held}
@@ -104,33 +105,38 @@ module _ {T : Type 0} (follows : ℕ → T → T → Type 0) (suits : T → ℕ 
   abbrev St : Type 0
   St = State (Option (Moving T)) (View T)
 
-  -- where all seats are back, nobody carries
-  nobody : (s : St) (h : Held follows suits s) (v : View T) → get_elem? s.views 0 ≡ some v → v.made ≤ length v.joined → v.standing.point ≡ Rest → v.standing.depth ≡ 0 → (t : ℕ) → carries_value (seat h.core.seats t) ≡ false
-  nobody s h v at back rests flat zero = ap carries_value (seat_zero h.core.seats)
-  nobody s h v at back rests flat (suc j) =
+  abbrev Is_resting : SeatState → Type 0
+  Is_resting x = (x.point ≡ Rest) × (x.depth ≡ 0)
+
+  -- where all seats are back, all of them rest
+  all_rest : (s : St) (h : Held follows suits s) (v : View T) → get_elem? s.views 0 ≡ some v → v.made ≤ length v.joined → v.standing.point ≡ Rest → v.standing.depth ≡ 0 → (t : ℕ) → Is_resting (seat h.core.seats t)
+  all_rest s h v at back rests flat zero = subst Is_resting (sym (seat_zero h.core.seats)) (refl, refl)
+  all_rest s h v at back rests flat (suc j) =
       let k = h.root v at in let r = roles s.views in let one : used v ≡ 1 = ap used_at k.user in let e0 = k.made in let e1 = k.back in
       let next : suc j ≡ j + 1 = omega arith in
-      ap (λ n. carries_value (seat h.core.seats n)) next ∙ ⊎_elim
-      (λ (z : (x : View T) × (get_elem? s.views j ≡ some x)). ap carries_value (h.each j z.0 z.1).standing ∙ ⊎_elim
+      subst (λ (n : ℕ). Is_resting (seat h.core.seats n)) (sym next) (⊎_elim
+      (λ (z : (x : View T) × (get_elem? s.views j ≡ some x)). subst Is_resting (sym (h.each j z.0 z.1).standing) (⊎_elim
       (λ (u : z.0.role ≡ User). dite (ℕ_discrete j 0)
-      (λ zero_j. let same : v ≡ z.0 = some-injective v z.0 (sym at ∙ subst (λ (i : ℕ). get_elem? s.views i ≡ some z.0) zero_j z.1) in subst (λ (y : View T). carries_value y.standing ≡ false) same (resting v.standing rests flat))
+      (λ zero_j. let same : v ≡ z.0 = some-injective v z.0 (sym at ∙ subst (λ (i : ℕ). get_elem? s.views i ≡ some z.0) zero_j z.1) in subst (λ (y : View T). Is_resting y.standing) same (rests, flat))
       (λ other. absurd (let one' : used z.0 ≡ 1 = ap used_at u in let b = total_two used s.views 0 j v z.0 at z.1 other in omega arith)))
-      (λ (u : z.0.role ≡ Retired). let o = h.others j z.0 z.1 u in resting z.0.standing o.0 o.1) (is_user z.0.role))
-      (λ far. ap carries_value (h.later j far)) (there_or_past s.views j)
+      (λ (u : z.0.role ≡ Retired). h.others j z.0 z.1 u) (is_user z.0.role)))
+      (λ far. subst Is_resting (sym (h.later j far)) (refl, refl)) (there_or_past s.views j))
 
   -- the value at the end is reached from what each seat left last
   abbrev pub Reaches_all : View T → T → Type 0
   Reaches_all v w = ((l : T) → v.last ≡ Some l → Reached follows v.number l w) × ((i : ℕ) (g : Joined T) (l : T) → get_elem? v.joined i ≡ some g → g.last ≡ Some l → Reached follows g.number l w)
 
   pub ends : (v : View T) (ws : List ℕ) (xs : List (Option (Moving T))) → v.made ≤ length v.joined → v.standing.point ≡ Rest → v.standing.depth ≡ 0 → Final (Seen (Held follows suits) 0 v) ws xs
-      → (x : Moving T) × (get_elem? xs 0 ≡ some (Some x)) × Reaches_all v x.value × (length v.joined ≤ v.made)
-  ends v ws xs back rests flat end = let s = end.0 in let h = end.1.0 in let at = end.1.1 in let x = h.home (nobody s h v at back rests flat) in let k = h.root v at in
+      → (x : Moving T) × (get_elem? xs 0 ≡ some (Some x)) × Reaches_all v x.value × (length v.joined ≤ v.made) × Are_free ws × (x.popped.records ≡ [])
+  ends v ws xs back rests flat end = let s = end.0 in let h = end.1.0 in let at = end.1.1 in let all = all_rest s h v at back rests flat in let free = free_core h.core h.ghost_state h.fits all in let x = h.home (λ t. resting (seat h.core.seats t) (all t).0 (all t).1) in let k = h.root v at in
       let each : (j : ℕ) (z : View T) (l : T) → get_elem? s.views j ≡ some z → z.last ≡ Some l → Reached follows z.number l x.value.value =
       (λ j z l e is. subst (λ (n : ℕ). Reached follows n l x.value.value) (sym (h.each j z e).number) (x.leads j z l e tt is)) in (
         x.value,
         end.4 0 (Some x.value) x.here,
         (λ l is. each 0 v l at is, λ i g l e is. let a = k.kept i g e in subst (λ (n : ℕ). Reached follows n l x.value.value) a.4 (each a.0 a.1 l a.2 (a.5 ∙ is))),
         let r = roles s.views in let one : used v ≡ 1 = ap used_at k.user in let here = total_at used s.views 0 v at in let e0 = k.made in let e1 = k.back in omega arith,
+        (h.core, sym end.2 ∙ h.words_are, free),
+        x.records ∙ free.popped,
       )
 
 -- an item that was taken from the end of a list

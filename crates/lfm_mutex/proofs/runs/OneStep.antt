@@ -1,5 +1,5 @@
 -- One turn of a seat by hand, between two sights of it.
-use Rattle.std.proofs.Common.{◌≡◌, ◌≢◌, ◌⊎◌, ℕ, zero, suc, ◌+◌, ◌<◌, Bool, true, false, Option, Some, None, List, refl, sym, ap, subst, ◌∙◌, arith, inl, inr}
+use Rattle.std.proofs.Common.{◌≡◌, ◌≢◌, ◌⊎◌, ℕ, ◌<◌, true, false, Option, Some, None, refl, sym, ap, subst, ◌∙◌, arith, inl, inr}
 use Rattle.std.proofs.lemmas.Bool.{cases_eq, false≢true}
 use Rattle.atomic_table.specs.Table.{Me}
 use Rattle.lfm_model.specs.declared.answers.Asked.{Asked}
@@ -14,7 +14,7 @@ use Rattle.lfm_protocol.specs.declared.answers.Why.{Why}
 use Rattle.lfm_protocol.specs.declared.kinds.Kind.{Kind}
 use Rattle.lfm_protocol.specs.declared.limits.Limits.{Limits}
 use Rattle.lfm_protocol.specs.declared.points.Point.{Point}
-use Rattle.lfm_protocol.specs.declared.points.Point.TheVariants.{ReleaseOwnerStore, EnterOwnerStore}
+use Rattle.lfm_protocol.specs.declared.points.Point.TheVariants.{ReleaseOwnerStore}
 use Rattle.lfm_protocol.specs.declared.points.Releaser.{Releaser}
 use Rattle.lfm_protocol.specs.declared.seats.SeatState.{SeatState}
 use Rattle.lfm_protocol.specs.Points.{kind}
@@ -22,14 +22,13 @@ use Rattle.lfm_core.specs.steady.Steady.{DepthAt}
 use Rattle.lfm_core.specs.table.Carried.{carries_value}
 use Rattle.lfm_core.specs.table.Words.{stepped_by}
 use Rattle.lfm_mutex.specs.declared.table.seat_view.View.{View}
-use Rattle.lfm_mutex.specs.declared.table.seat_view.Seen.{Seen}
 use Rattle.lfm_mutex.specs.declared.table.rule.Moving.{Moving}
-use Rattle.lfm_mutex.specs.table.Rule.{value_in, is_carried, seen}
+use Rattle.lfm_mutex.specs.table.Rule.{value_in, is_carried}
 use Rattle.lfm_mutex.specs.table.Seats.{Seated}
 use Rattle.lfm_mutex.specs.table.Settled.{Became}
 use Rattle.lfm_mutex.specs.table.Steps.{Event, Goes_on, Leaves}
-use Rattle.lfm_mutex.specs.calls.Runs.{how_held, is_release, Holds}
-use Rattle.lfm_mutex.specs.calls.Sight.{Sight, sight_of, is_asleep, is_in_call, sends_of, by_depth, Concludes, Stays, Finds, May_leave}
+use Rattle.lfm_mutex.specs.calls.Runs.{how_held, is_release}
+use Rattle.lfm_mutex.specs.calls.Sight.{Sight, sight_of, is_asleep, is_in_call, sends_of, Concludes, Finds, May_leave}
 use Rattle.lfm_mutex.specs.calls.SeatSteps.{Steps, Keeps_value, Steps_on}
 use Rattle.lfm_mutex.proofs.ends.Seats.{depth_seen}
 use Rattle.lfm_mutex.proofs.runs.RunFacts.{no_leaves, how_enters}

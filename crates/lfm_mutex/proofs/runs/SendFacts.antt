@@ -1,17 +1,13 @@
 -- Which steps a send makes: its exchange is the first step of its call.
-use Rattle.std.proofs.Common.{◌≡◌, ◌≢◌, ◌⊎◌, ℕ, ◌+◌, ◌-◌, ◌*◌, ◌/◌, ◌%◌, ◌^◌, ◌<◌, ◌≤◌, Bool, true, false, Option, Some, None, nat_eq, refl, sym, ap, ◌∙◌, arith, inl, inr, if◌then◌else◌, List, [], ◌∷◌, ◌++◌, subst, append_assoc}
-use Rattle.std.proofs.lemmas.Bool.{cases_eq, ne_eqb, eq-eqb, false≢true}
-use Rattle.lfm_model.specs.declared.answers.How.{How}
+use Rattle.std.proofs.Common.{◌≡◌, ◌≢◌, ℕ, ◌/◌, ◌%◌, Bool, true, false, Option, Some, None, nat_eq, refl, sym, ap, ◌∙◌, if◌then◌else◌, List, [], ◌∷◌, ◌++◌, subst, append_assoc}
+use Rattle.std.proofs.lemmas.Bool.{false≢true}
 use Rattle.lfm_model.specs.declared.answers.Unlocked.{Unlocked}
-use Rattle.lfm_words.specs.declared.links.Link.{Link}
 use Rattle.lfm_words.specs.declared.pop_lists.Record.{Record}
 use Rattle.lfm_words.specs.declared.wakes.Wake.{Wake}
 use Rattle.lfm_words.specs.declared.wakes.Wake.TheVariants.{Waiting, Grant}
-use Rattle.lfm_protocol.specs.declared.kinds.Kind.{Kind}
 use Rattle.lfm_protocol.specs.declared.points.Carrier.{Carrier}
-use Rattle.lfm_protocol.specs.declared.points.Entrant.{Entrant}
 use Rattle.lfm_protocol.specs.declared.points.Point.{Point}
-use Rattle.lfm_protocol.specs.declared.points.Point.TheVariants.{Rest, Asleep, LockCountAdd, LockOwnerLoad, LockCountSubtract, TryCountExchange, TryOwnerLoad, TryHandoffLoad, TryHandoffExchange, TryCountAdd, SendWakeExchange, SendCountAdd, SendPushLook, SendWakeStore, PushLoad, LinkStore, PushExchange, PushedHandoffLoad, PushedHandoffExchange, ReleaseOwnerStore, ReleaseCountSubtract, ReleaseHandoffStore, ReleasePushLook, ReleaseHandoffExchange, WaitWakeStore, TakeClearHead, TakeLinkLoad, GrantWakeStore, EnterOwnerStore, ReceiveWakeLoad, ReceiveWakeStore}
+use Rattle.lfm_protocol.specs.declared.points.Point.TheVariants.{LockCountAdd, LockOwnerLoad, TryCountExchange, TryOwnerLoad, TryHandoffLoad, TryHandoffExchange, SendWakeExchange, SendCountAdd, SendPushLook, PushExchange, PushedHandoffLoad, PushedHandoffExchange, ReleaseOwnerStore, ReleaseCountSubtract, ReleasePushLook, ReleaseHandoffExchange, TakeClearHead, TakeLinkLoad, GrantWakeStore, ReceiveWakeLoad}
 use Rattle.lfm_protocol.specs.declared.points.Pusher.{Pusher}
 use Rattle.lfm_protocol.specs.declared.points.Releaser.{Releaser}
 use Rattle.lfm_protocol.specs.declared.points.Releaser.TheVariants.{Unlocker, Waiter}
@@ -19,9 +15,6 @@ use Rattle.lfm_protocol.specs.declared.points.Sleeper.{Sleeper}
 use Rattle.lfm_protocol.specs.declared.seats.SeatState.{SeatState}
 use Rattle.lfm_protocol.specs.After.{same_link, same_handoff, releases, pushed, granted, receives, claims, carrier_of, take, serves, cleared, busy, looks, loaded}
 use Rattle.lfm_protocol.specs.Begin.{Stepped, goes_on}
-use Rattle.lfm_protocol.specs.Points.{kind}
-use Rattle.lfm_protocol.specs.Room.{PopFits}
-use Rattle.lfm_core.specs.steady.Steady.{IsSeen}
 use Rattle.lfm_core.specs.table.Words.{stepped_by, handoff_of, wake_of, link_of}
 use Rattle.lfm_mutex.specs.calls.Runs.{end_of, trail_of}
 use Rattle.lfm_mutex.specs.table.Rule.{seen}

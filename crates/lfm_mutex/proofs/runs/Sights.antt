@@ -1,7 +1,7 @@
 -- What a call makes of what is seen of its seat.
-use Rattle.std.proofs.Common.{◌≡◌, ◌≢◌, ◌⊎◌, ℕ, zero, suc, ◌+◌, ◌-◌, ◌<◌, ◌≤◌, Bool, true, false, Option, Some, None, List, [], ◌∷◌, ◌++◌, length, nat_eq, nat_lt, ◌&&◌, refl, sym, ap, subst, ◌∙◌, arith, tests, inl, inr, if◌then◌else◌, append_assoc, append-nil}
-use Rattle.std.specs.Prelude.{⊤, Result, Ok, Err, ◌↔◌, IsSome, IfSome}
-use Rattle.std.proofs.lemmas.Bool.{cases_eq, ne_eqb, eq-eqb, false≢true}
+use Rattle.std.proofs.Common.{◌≡◌, ◌≢◌, ◌⊎◌, ℕ, zero, suc, ◌+◌, ◌-◌, ◌<◌, ◌≤◌, Bool, true, false, Option, Some, None, List, [], ◌∷◌, ◌++◌, length, nat_eq, nat_lt, ◌&&◌, refl, sym, ap, subst, ◌∙◌, arith, tests, inl, inr, if◌then◌else◌, append-nil}
+use Rattle.std.specs.Prelude.{◌↔◌, IsSome, IfSome}
+use Rattle.std.proofs.lemmas.Bool.{cases_eq, ne_eqb, false≢true}
 use Rattle.atomic_table.specs.Table.{Me}
 use Rattle.lfm_model.specs.declared.answers.Asked.{Asked}
 use Rattle.lfm_model.specs.declared.answers.How.{How}
@@ -32,10 +32,10 @@ use Rattle.lfm_core.specs.table.Words.{stepped_by, wake_of}
 use Rattle.lfm_mutex.specs.declared.table.seat_view.View.{View}
 use Rattle.lfm_mutex.specs.declared.table.rule.Moving.{Moving}
 use Rattle.lfm_mutex.specs.declared.table.seat_view.Seen.{Seen}
-use Rattle.lfm_mutex.specs.table.Rule.{value_in, left_by, Hands, seen}
+use Rattle.lfm_mutex.specs.table.Rule.{value_in, Hands, seen}
 use Rattle.lfm_mutex.specs.calls.Runs.{Errand, locking, trying, releasing, sending, receiving, refuses_for, errand, is_release, Ends, Ran, opens, trail_of, Counts, Holds, how_held, errand_of, is_releasing}
 use Rattle.lfm_mutex.specs.table.Steps.{Event, Value_goes, Leaves}
-use Rattle.lfm_mutex.specs.calls.Sight.{Sight, sight_of, by_depth, is_asleep, is_in_call, sends_of, Concludes, Answered_by, Refused_by, Still_at, Is_left, Suits, Finds, May_leave, Gains, Deepens, Wakes, Leaves_off, Turned, claimed, Stays, Busy_seen, new_sight, Names}
+use Rattle.lfm_mutex.specs.calls.Sight.{Sight, sight_of, by_depth, is_asleep, is_in_call, sends_of, Concludes, Refused_by, Still_at, Is_left, Suits, Finds, May_leave, Gains, Deepens, Leaves_off, Turned, claimed, Stays, Busy_seen, new_sight, Names}
 use Rattle.lfm_mutex.specs.Fresh.{Fresh}
 use Rattle.lfm_mutex.proofs.runs.RunFacts.{no_leaves}
 use Rattle.lfm_mutex.proofs.runs.Running.{begun_open}

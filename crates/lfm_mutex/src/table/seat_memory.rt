@@ -4,7 +4,6 @@ ghost use Rattle.std.specs.Prelude.{◌≡◌, ◌<◌, ◌≤◌, ◌∷◌, �
 ghost use Rattle.atomic_table.specs.Table.{rest};
 ghost use Rattle.lfm_protocol.specs.declared.kinds.Kind.{Kind};
 ghost use Rattle.lfm_core.specs.table.Carried.{carries_value};
-ghost use Rattle.lfm_protocol.specs.Place.{carries};
 ghost use Rattle.lfm_protocol.specs.Points.{kind, target};
 ghost use Rattle.lfm_protocol.specs.Room.{HasNumbers};
 ghost use Rattle.lfm_core.specs.table.Words.{stepped_by, link_of, wake_of};
@@ -35,30 +34,12 @@ pub fn gives(point: Point) -> bool
     )
 }
 
-/// A call at this point has gained the responsibility and not given it away.
-pub fn point_carries(point: Point) -> bool
-    ensures { result ≡ carries point }
-{
-    matches!(
-        point,
-        Point::TryCountAdd
-            | Point::SendWakeStore(_)
-            | Point::ReleaseCountSubtract(_)
-            | Point::ReleaseHandoffStore(_)
-            | Point::TakeClearHead(_)
-            | Point::TakeLinkLoad(_, _)
-            | Point::GrantWakeStore(_, _)
-            | Point::EnterOwnerStore(_, _)
-            | Point::ReceiveWakeStore(_)
-    )
-}
-
 /// The value is out with a seat of these data.
 pub fn seat_carries(standing: &SeatState) -> bool
     ensures { result ≡ carries_value standing.now }
 {
     if standing.depth == 0 {
-        point_carries(standing.point)
+        standing.point.carries()
     } else {
         true
     }

@@ -4,8 +4,6 @@ use Rattle.lfm_mutex.specs.declared.table.rule.Moving.{Moving}
 use Rattle.lfm_mutex.specs.calls.Runs.{Ran, opens}
 use Rattle.lfm_mutex.specs.table.Steps.{Leaves}
 use Rattle.lfm_mutex.proofs.runs.Running.{begun_release, called_steps, called_at_once}
-use Rattle.lfm_mutex.specs.calls.Sight.{sight}
-use Rattle.lfm_protocol.specs.declared.answers.Turn.TheVariants.{Open}
 use Rattle.lfm_mutex.specs.table.Rule.{value_in}
 use Rattle.lfm_mutex.specs.calls.Sight.{sight_of, Turned}
 use Rattle.lfm_mutex.proofs.runs.Sights.{begun, turned_by_release, turned_at_once, called_ends, may_leave, release_deep}

@@ -1,5 +1,4 @@
-use Rattle.std.proofs.Common.{rules, ap, ◌∙◌, sym, get_or, ◌≢◌, ◌≡◌, arith, subst, ◌+◌, ℕ}
-use mathlib.Core.Option.{some}
+use Rattle.std.proofs.Common.{rules, ap, ◌∙◌, sym, get_or, ◌≢◌, ◌+◌, ℕ}
 use lib.ListN.{get_elem?}
 use Rattle.lfm_mutex.proofs.ends.Ends.{up_to, each_of, item_at}
 use Rattle.lfm_mutex.proofs.closing.first_place.Goals as goal

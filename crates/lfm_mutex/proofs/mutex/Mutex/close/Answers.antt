@@ -1,9 +1,9 @@
 use Rattle.lfm_mutex.specs.calls.Sight.{sight}
-use Rattle.std.proofs.Common.{Some, rules, ◌≡◌, ◌<◌, ℕ, [], ◌∷◌, ◌++◌, length-append, arith, ap, ◌∙◌, sym, refl, subst, length, vec_len, inl, inr, ⊎_elim}
+use Rattle.std.proofs.Common.{Some, rules, ◌≡◌, ℕ, [], ◌∷◌, ◌++◌, length-append, arith, ap, ◌∙◌, sym, refl, subst, length, vec_len, inl, inr, ⊎_elim}
 use mathlib.Core.Option.{some, some-injective}
 use lib.ListN.{get_elem?}
 use Rattle.std.specs.List.{remove}
-use Rattle.std.specs.Slots.{slots_len, slots_items}
+use Rattle.std.specs.Slots.{slots_items}
 use Rattle.atomic_table.specs.Table.{Final, Seen}
 use Rattle.lfm_mutex.specs.declared.table.rule.Moving.{Moving}
 use Rattle.lfm_mutex.specs.Closing.{Idle}
@@ -64,19 +64,25 @@ loop-seat-preserved g c = let i = c.loop-seat.invariant in let r = c.retire.ensu
           (λ u. ⊎_elim (λ t. inr (inl (t.0, ap (λ l. get_elem? l t.0) joined ∙ longer old (joined_of (g.P.Holder.seat_of s).place.me.0) t.0 (joined_of (g.P.Holder.seat_of z).place.me.0) t.1))) (λ t. inr (inr (ap (λ m. m.0.last) r.joined ∙ t.0, ap (λ m. m.0.number) r.joined ∙ t.1))) u) (i.each j z q);
     }
 
-pub take-slot-requires : goal.take-slot-requires
-take-slot-requires g c = let n : slots_len c.close_with-closed.result.slots ≡ 1 = c.close_with-closed.ensures.counts.1 ∙ c.args.self.slots in let lt : 0 < slots_len c.close_with-closed.result.slots = omega arith in (lt, search (rules, c.close_with-closed.ensures.values.1))
+pub take_slot-requires-clause-free : goal.take_slot-requires-clause-free
+take_slot-requires-clause-free g c κs within = let i = c.loop-seat.invariant in let v = c.loop-seat.root.me.0 in let n = c.in_default-pop.ensures.cases in let a = i.counts in let z = n.0 in
+    let end : Final (Seen (Held g.T.Kept.follows g.T.Kept.fits) 0 v) (slots_items c.close_with.result.words) (slots_items c.close_with.result.slots) = subst (λ k. Final (Seen (Held g.T.Kept.follows g.T.Kept.fits) k v) (slots_items c.close_with.result.words) (slots_items c.close_with.result.slots)) i.root.0 c.close_with.ensures.values.2 in
+    let e = ends g.T.Kept.follows g.T.Kept.fits v (slots_items c.close_with.result.words) (slots_items c.close_with.result.slots) (omega arith) i.root.3 i.root.4 end in
+    e.4
 
-pub unreachable-requires-in_default-slot : goal.unreachable-requires-in_default-slot
-unreachable-requires-in_default-slot g c = let i = c.loop-seat.invariant in let v = c.loop-seat.root.me.0 in let n = c.in_default-pop.ensures.cases in let a = i.counts in let z = n.0 in
-    let end : Final (Seen (Held g.T.Kept.follows g.T.Kept.fits) 0 v) (slots_items c.close_with-closed.result.words) (slots_items c.close_with-closed.result.slots) = subst (λ k. Final (Seen (Held g.T.Kept.follows g.T.Kept.fits) k v) (slots_items c.close_with-closed.result.words) (slots_items c.close_with-closed.result.slots)) i.root.0 c.close_with-closed.ensures.values.2 in
-    let e = ends g.T.Kept.follows g.T.Kept.fits v (slots_items c.close_with-closed.result.words) (slots_items c.close_with-closed.result.slots) (omega arith) i.root.3 i.root.4 end in
-    let was = e.1 in let got = c.take-slot.ensures.value in let none = c.in_default-slot.is in cc
+pub take_slot-requires-clause-slot : goal.take_slot-requires-clause-slot
+take_slot-requires-clause-slot g c κs within = (c.close_with.ensures.counts.1 ∙ c.args.self.slots, c.close_with.ensures.values.1)
+
+pub unreachable-requires-in_default-take_slot : goal.unreachable-requires-in_default-take_slot
+unreachable-requires-in_default-take_slot g c = let i = c.loop-seat.invariant in let v = c.loop-seat.root.me.0 in let n = c.in_default-pop.ensures.cases in let a = i.counts in let z = n.0 in
+    let end : Final (Seen (Held g.T.Kept.follows g.T.Kept.fits) 0 v) (slots_items c.close_with.result.words) (slots_items c.close_with.result.slots) = subst (λ k. Final (Seen (Held g.T.Kept.follows g.T.Kept.fits) k v) (slots_items c.close_with.result.words) (slots_items c.close_with.result.slots)) i.root.0 c.close_with.ensures.values.2 in
+    let e = ends g.T.Kept.follows g.T.Kept.fits v (slots_items c.close_with.result.words) (slots_items c.close_with.result.slots) (omega arith) i.root.3 i.root.4 end in
+    let was = e.1 in let got = c.take_slot.ensures in let none = c.in_default-take_slot.is in cc
 
 pub returns-clause-sized : goal.returns-clause-sized
 returns-clause-sized g c = let i = c.loop-seat.invariant in let v = c.loop-seat.root.me.0 in let n = c.in_default-pop.ensures.cases in let a = i.counts in let z = n.0 in
-    let end : Final (Seen (Held g.T.Kept.follows g.T.Kept.fits) 0 v) (slots_items c.close_with-closed.result.words) (slots_items c.close_with-closed.result.slots) = subst (λ k. Final (Seen (Held g.T.Kept.follows g.T.Kept.fits) k v) (slots_items c.close_with-closed.result.words) (slots_items c.close_with-closed.result.slots)) i.root.0 c.close_with-closed.ensures.values.2 in
-    let e = ends g.T.Kept.follows g.T.Kept.fits v (slots_items c.close_with-closed.result.words) (slots_items c.close_with-closed.result.slots) (omega arith) i.root.3 i.root.4 end in
+    let end : Final (Seen (Held g.T.Kept.follows g.T.Kept.fits) 0 v) (slots_items c.close_with.result.words) (slots_items c.close_with.result.slots) = subst (λ k. Final (Seen (Held g.T.Kept.follows g.T.Kept.fits) k v) (slots_items c.close_with.result.words) (slots_items c.close_with.result.slots)) i.root.0 c.close_with.ensures.values.2 in
+    let e = ends g.T.Kept.follows g.T.Kept.fits v (slots_items c.close_with.result.words) (slots_items c.close_with.result.slots) (omega arith) i.root.3 i.root.4 end in
     let few = e.3 in let all = i.all in let xs = c.args.seats.items in let m : vec_len c.args.seats ≡ length xs = search rules in let p = pigeons (λ s. (g.P.Holder.seat_of s).number) xs c.args.self.limits.seats (λ k p q. (c.in_default.ensures k p q).0) in omega arith
 
 pub returns-clause-reached : goal.returns-clause-reached
@@ -85,9 +91,9 @@ returns-clause-reached g c j s l at seen =
     let idle = (let lo = y.rooted.low in let hi = y.rooted.high in let same = ap (λ x. x.seats) b.1 in (c.in_default.ensures y.number lo (omega (arith, hi, same))).1 j s at refl) in
     let is : y.place.me.0.last ≡ Some l = seen_last y.standing.depth y.place.me.0.last y.place.me.0.found (Some l) idle.0 seen in
     let i = c.loop-seat.invariant in let v = c.loop-seat.root.me.0 in let n = c.in_default-pop.ensures.cases in let a = i.counts in let z = n.0 in
-    let end : Final (Seen (Held g.T.Kept.follows g.T.Kept.fits) 0 v) (slots_items c.close_with-closed.result.words) (slots_items c.close_with-closed.result.slots) = subst (λ k. Final (Seen (Held g.T.Kept.follows g.T.Kept.fits) k v) (slots_items c.close_with-closed.result.words) (slots_items c.close_with-closed.result.slots)) i.root.0 c.close_with-closed.ensures.values.2 in
-    let e = ends g.T.Kept.follows g.T.Kept.fits v (slots_items c.close_with-closed.result.words) (slots_items c.close_with-closed.result.slots) (omega arith) i.root.3 i.root.4 end in
-    let was = e.1 in let got = c.take-slot.ensures.value in let some_it = c.in-Some-slot.is in let whole : e.0 ≡ c.in-Some-slot.field-0 = cc in let same : e.0.value ≡ c.in-Some-slot.field-0.value = ap (λ (x : Moving g.row.T.Denot). x.value) whole in let named = y.seated.named in
+    let end : Final (Seen (Held g.T.Kept.follows g.T.Kept.fits) 0 v) (slots_items c.close_with.result.words) (slots_items c.close_with.result.slots) = subst (λ k. Final (Seen (Held g.T.Kept.follows g.T.Kept.fits) k v) (slots_items c.close_with.result.words) (slots_items c.close_with.result.slots)) i.root.0 c.close_with.ensures.values.2 in
+    let e = ends g.T.Kept.follows g.T.Kept.fits v (slots_items c.close_with.result.words) (slots_items c.close_with.result.slots) (omega arith) i.root.3 i.root.4 end in
+    let was = e.1 in let got = c.take_slot.ensures in let some_it = c.in-Some-take_slot.is in let whole : e.0 ≡ c.in-Some-take_slot.field-0 = cc in let same : e.0.value ≡ c.in-Some-take_slot.field-0.value = ap (λ (x : Moving g.row.T.Denot). x.value) whole in let named = y.seated.named in
     subst (λ (t : ℕ × g.row.T.Denot). Reached g.T.Kept.follows t.0 l t.1) (λ i. (named i, same i)) (⊎_elim
     (λ u. absurd (let r = length_at c.loop-seat.seats.items u.0 s u.1 in let k : vec_len c.loop-seat.seats ≡ length c.loop-seat.seats.items = search rules in omega arith))
     (λ u. ⊎_elim (λ t. e.2.1 t.0 (joined_of (g.P.Holder.seat_of s).place.me.0) l t.1 is) (λ t. subst (λ (n : ℕ). Reached g.T.Kept.follows n l e.0.value) t.1 (e.2.0 l (t.0 ∙ is))) u) (i.each j s at))

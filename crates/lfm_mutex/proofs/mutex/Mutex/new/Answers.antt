@@ -1,23 +1,13 @@
-use Rattle.std.proofs.Common.{rules, ◌≡◌, ℕ, [], ◌∷◌, ◌+◌, ◌*◌, List, replicate, ap, ◌∙◌, sym, refl, subst, arith, length, Some, Option}
+use Rattle.std.proofs.Common.{rules, ◌≡◌, ℕ, ◌+◌, ap, ◌∙◌, sym, refl, subst, arith, length}
 use Rattle.std.specs.Prelude.{true}
-use Rattle.atomic_table.specs.Table.{Splits, opening}
+use Rattle.atomic_table.specs.Table.{Splits}
 use Rattle.lfm_protocol.specs.declared.limits.Limits.{Limits}
 use Rattle.lfm_protocol.specs.Limits.{are_in_limits}
-use Rattle.lfm_mutex.specs.declared.table.rule.Moving.{Moving}
 use Rattle.lfm_mutex.specs.Fresh.{Fresh}
-use Rattle.lfm_mutex.specs.table.Rule.{Held, with_split, split_view, first_view}
-use Rattle.lfm_mutex.proofs.ends.Seats.{starts, splits, and_last, and_first, fresh_seated, fresh_became, fresh_ready, limit_facts}
+use Rattle.lfm_mutex.specs.table.Rule.{Held, with_split, split_view}
+use Rattle.lfm_mutex.proofs.ends.Seats.{splits, and_last, and_first, fresh_seated, fresh_became, fresh_ready, limit_facts}
 use Rattle.lfm_mutex.proofs.runs.Sights.{fresh_sight}
 use Rattle.lfm_mutex.proofs.mutex.Mutex.new.Goals as goal
-
-pub new-requires-2 : goal.new-requires-2
-new-requires-2 g c = let ws = c.as_slice.result.now in let l : Limits = record { seats = c.args.seats; budget = c.args.budget } in
-    let x : Moving g.row.T.Denot = record { popped = c.in-Ok.popped; value = c.args.value } in let e : c.push.new.self.items ≡ Some x ∷ [] = search rules in let v : c.of.result.value ≡ c.args.value = search rules in
-    let are : ws ≡ replicate (4 + 2 * c.args.seats) 0 = c.as_slice.ensures.value ∙ c.in-Ok-from_elem.ensures.items_if_clones_equal (λ y q. q) in
-    let allowed : are_in_limits c.args.seats c.args.budget ≡ true = search rules in
-    let made = c.in-Ok.ensures in
-    subst (λ (t : List (Option (Moving g.row.T.Denot)) × g.row.T.Denot). Held g.T.Kept.follows g.T.Kept.fits (opening ws t.0 (first_view l t.1))) (λ i. (sym e i, sym v i))
-    (starts g.T.Kept.follows g.T.Kept.fits l ws x allowed are (ap (λ p. p.records) made) (ap (λ p. p.room) made) c.requires.fits)
 
 pub split_seat-place-requires : goal.split_seat-place-requires
 split_seat-place-requires g c = let k = c.loop-i.invariant in let v = c.loop-i.root.me.0 in let t = c.loop-i-test.true in let m = k.made in let s = ap (λ l. l.seats) k.limits_are in
@@ -60,7 +50,7 @@ loop-i-preserved g c = let v = c.loop-i.invariant in let cut = c.split_seat-plac
   trail = ap (λ m. m.0.trail) me ∙ v.trail;
   standing = ap (λ m. m.0.standing) me ∙ v.standing;
   room = search rules;
-  fresh = and_last (λ j s. (s.place.table_id ≡ c.in-Ok-new.table.shared.table_id) × Fresh c.args.value (j + 2) s.number s.limits s.standing s.place.me s.moving l) c.loop-i.all.items c.push_reserved.new.self.items _ c.push_reserved.ensures.items
+  fresh = and_last (λ j s. (s.place.table_id ≡ c.in-Ok-laid_out.laid.0.shared.table_id) × Fresh c.args.value (j + 2) s.number s.limits s.standing s.place.me s.moving l) c.loop-i.all.items c.push_reserved.new.self.items _ c.push_reserved.ensures.items
       (cut.3 ∙ v.table, ((let q : c.loop-i.i + 1 ≡ length c.loop-i.all.items + 2 = omega arith in q), refl, c.at_rest.ensures, refl, ap (λ m. m.0.trail) cut.4, ap (λ m. m.0.last) cut.4 ∙ v.opening)) v.fresh;
 }
 
@@ -79,7 +69,7 @@ invariant_of-first g c = let k = c.loop-i.invariant in let r = c.loop-i.root in 
         few = facts.1;
         wide = search rules;
         first = λ e. k.id;
-        made = λ e. search rules;
+        made = λ e. let n = c.loop-i.auto.i-end (omega (arith, some)) in omega (arith, m, t, n);
         back = λ e. k.joined;
       };
     }
@@ -87,7 +77,7 @@ invariant_of-first g c = let k = c.loop-i.invariant in let r = c.loop-i.root in 
 pub returns-clause-seats : goal.returns-clause-seats
 returns-clause-seats g c = let v = c.loop-i.invariant in let l : Limits = record { seats = c.args.seats; budget = c.args.budget } in (
   search rules,
-  λ j s e. let f = (and_first (λ j s. (s.place.table_id ≡ c.in-Ok-new.table.shared.table_id) × Fresh c.args.value (j + 1) s.number s.limits s.standing s.place.me s.moving l) c.loop-i.all.items _ _ c.in-Ok-insert.ensures.items
-      (v.table, (refl, refl, c.at_rest-2.ensures, refl, v.trail, v.last)) (λ j y e. subst (λ (n : ℕ). (y.place.table_id ≡ c.in-Ok-new.table.shared.table_id) × Fresh c.args.value n y.number y.limits y.standing y.place.me y.moving l) (let q : j + 2 ≡ j + 1 + 1 = omega arith in q) (v.fresh j y e))) j s e in
+  λ j s e. let f = (and_first (λ j s. (s.place.table_id ≡ c.in-Ok-laid_out.laid.0.shared.table_id) × Fresh c.args.value (j + 1) s.number s.limits s.standing s.place.me s.moving l) c.loop-i.all.items _ _ c.in-Ok-insert.ensures.items
+      (v.table, (refl, refl, c.at_rest-2.ensures, refl, v.trail, v.last)) (λ j y e. subst (λ (n : ℕ). (y.place.table_id ≡ c.in-Ok-laid_out.laid.0.shared.table_id) × Fresh c.args.value n y.number y.limits y.standing y.place.me y.moving l) (let q : j + 2 ≡ j + 1 + 1 = omega arith in q) (v.fresh j y e))) j s e in
       ((f.0, f.1.1), fresh_sight c.args.value (j + 1) s.number s.limits s.standing s.place.me s.moving l f.1),
 )

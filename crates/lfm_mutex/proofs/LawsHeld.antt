@@ -1,0 +1,28 @@
+-- What the rule of the table says of a running mutex, from the laws of the core.
+use Rattle.std.proofs.Common.{ℕ, Option}
+use Rattle.atomic_table.specs.Table.{State}
+use Rattle.lfm_core.specs.steady.Steady.{Steady}
+use Rattle.lfm_core.proofs.lawful.states.StateLaws.{states_are_lawful, handoffs_are_watched, quiescent_states_rest, takes_find_a_record}
+use Rattle.lfm_mutex.specs.declared.table.rule.Moving.{Moving}
+use Rattle.lfm_mutex.specs.declared.table.seat_view.View.{View}
+use Rattle.lfm_mutex.specs.Laws.{Is_core, TablesAreSteady, PostsAreWatched, QuietTablesRest, TakesFindARecord}
+use Rattle.lfm_mutex.specs.table.Rule.{Held}
+
+module _ {T : Type 0} (follows : ℕ → T → T → Type 0) (fits : T → ℕ → Type 0) where
+  core_of : (s : State (Option (Moving T)) (View T)) (h : Held follows fits s) → Is_core s h.core
+  core_of s h = record { words_are = h.words_are; seats_are = λ j v at. (h.each j v at).standing }
+
+  steady_of : (s : State (Option (Moving T)) (View T)) (h : Held follows fits s) → Steady h.core
+  steady_of s h = record { ghost_state = h.ghost_state; fits = h.fits }
+
+  pub tables_are_steady : TablesAreSteady follows fits
+  tables_are_steady s h = (h.core, core_of s h, steady_of s h, states_are_lawful h.core (steady_of s h))
+
+  pub posts_are_watched : PostsAreWatched follows fits
+  posts_are_watched s h = (h.core, core_of s h, handoffs_are_watched h.core (steady_of s h))
+
+  pub quiet_tables_rest : QuietTablesRest follows fits
+  quiet_tables_rest s h = (h.core, core_of s h, quiescent_states_rest h.core (steady_of s h))
+
+  pub wins_find_a_record : TakesFindARecord follows fits
+  wins_find_a_record s h = (h.core, core_of s h, λ k carrier. takes_find_a_record h.core k carrier (steady_of s h))

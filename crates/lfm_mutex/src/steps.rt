@@ -17,7 +17,7 @@ use crate::seat::Seat;
 use crate::table::seat_memory::{
     add_loaded, advance, drop_oldest, gives, oldest_of, prepare, seat_carries, settle,
 };
-use crate::table::table_steps::make;
+use crate::table::table_steps::make_step;
 use lfm_protocol::{Call, Turn, Why};
 use std::marker::Brand;
 
@@ -73,7 +73,7 @@ pub(crate) fn make_next<T: Kept>(mutex: &Mutex<T>, seat: &mut Seat<T>) -> Turn
     let may_give = gives(seat.standing.point);
     drop_oldest(&mut seat.moving, &seat.standing);
     prepare(table, &mut seat.place, &mut seat.moving, may_give);
-    let found = make::<T, Brand>(
+    let found = make_step::<T, Brand>(
         table,
         &mut seat.place,
         &seat.standing,

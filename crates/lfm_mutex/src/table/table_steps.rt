@@ -1,5 +1,8 @@
-//! The atomic step of each kind, at the packed word. B tells the proof what the seat's plain data are, and what it has in
-//! its own memory.
+//! The atomic step of each kind, at the packed word: one operation of the table, which answers the number that it found, or
+//! that it stored. Nothing here moves the seat on.
+//!
+//! `plain` is the seat's plain data before the step and `hand` what the seat has in its own memory: contracts speak of both,
+//! and B tells them to the play of the step.
 ghost use Rattle.std.specs.Prelude.{◌≡◌, ◌≢◌, ◌<◌, Some, None};
 ghost use Rattle.lfm_protocol.specs.declared.kinds.Kind.{Kind as KindNow};
 ghost use Rattle.lfm_protocol.specs.Points.{kind};
@@ -381,7 +384,7 @@ pub fn exchange_wake<T: Kept, B: Plain<T>>(
 }
 
 /// The atomic step at the seat's point, of whatever kind it is: the number that it found, or stored.
-pub fn make<T: Kept, B: Plain<T>>(
+pub fn make_step<T: Kept, B: Plain<T>>(
     table: &SharedTable<T>,
     place: &mut Place<T>,
     plain: &SeatState,

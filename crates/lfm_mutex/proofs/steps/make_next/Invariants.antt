@@ -1,5 +1,5 @@
 use Rattle.lfm_mutex.specs.table.Rule.{value_in}
 use Rattle.lfm_mutex.proofs.steps.make_next.Given as goal
 
-abbrev pub ghosts-make : goal.ghosts-make
-ghosts-make g a = record { standing = a.plain.now; hand = value_in a.hand.now }
+abbrev pub ghosts-make_step : goal.ghosts-make_step
+ghosts-make_step g a = record { standing = a.plain.now; hand = value_in a.hand.now }

@@ -1,0 +1,2 @@
+pub mod StepsLeft
+pub mod Verdicts

@@ -1,0 +1,23 @@
+-- The program's names of the abstract cases stand for those of the laws.
+use Rattle.std.specs.Prelude.{Option, Some, None}
+use Rattle.lfm_model.specs.AbstractRuns as Abstract
+use Rattle.lfm_explain.specs.declared.cases.Case.{Case}
+use Rattle.lfm_explain.specs.declared.cases.Case.TheVariants.{Ask, Queue, Serve, Post, Take, Accept, TakeUp, Enter, Release, Leave}
+
+-- the abstract case that has this name
+abbrev pub named_case : Case → Abstract.Case
+named_case Ask = Abstract.ask
+named_case Queue = Abstract.queue
+named_case Serve = Abstract.serve
+named_case Post = Abstract.post
+named_case Take = Abstract.take
+named_case Accept = Abstract.accept
+named_case TakeUp = Abstract.take_up
+named_case Enter = Abstract.enter
+named_case Release = Abstract.release
+named_case Leave = Abstract.leave
+
+-- the same where there is one
+abbrev pub abstract_case : Option Case → Option Abstract.Case
+abstract_case None = None
+abstract_case (Some case) = Some (named_case case)

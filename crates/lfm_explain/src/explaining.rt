@@ -1,0 +1,159 @@
+//! The explanation of a schedule: the lines of `lfm replay`, and before each the begins and steps that led to it.
+ghost use Rattle.std.specs.Prelude.{◌≡◌, ◌<◌, ◌≤◌, length, vec_capacity, true, Ok, IfOk, IfSome, IsErrOf};
+ghost use Rattle.std.specs.Io.KnownBytes.{Keeps};
+ghost use Rattle.lfm_core.specs.text.Grammar.{plan_of};
+ghost use Rattle.lfm_core.specs.text.Lines.{steps, line_moved};
+ghost use Rattle.lfm_core.specs.text.Trace.{none_refused, opening};
+ghost use Rattle.lfm_text.specs.Text.{max_lines};
+ghost use Rattle.lfm_protocol.specs.Limits.{are_in_limits};
+ghost use Rattle.lfm_explain.specs.Verdicts.{Ends, Judges};
+
+use crate::shown::{begin_shown, step_shown};
+use lfm_core::text::trace::{write_fault_line, write_line, write_opening};
+use lfm_core::{Act, Line, ReplayFault, Schedule, State, Turn, read_schedule};
+use lfm_text::{WriteFault, flush, read_input};
+use lfm_words::Record;
+use std::alloc::Global;
+use std::io::{Read, Write};
+
+/// Seat s makes up to this many steps, each with its line, and stops where its call ends or a step is refused. The last
+/// turn is answered.
+fn steps_shown<W: Write>(
+    writer: &mut W,
+    number: u64,
+    s: u64,
+    most: u64,
+    state: &mut State,
+) -> Result<Turn, WriteFault>
+    ensures core { IfOk result (λ _. state.new ≡ (steps most state.old s).core) }
+    ensures turn { IfOk result (λ turn. turn ≡ (steps most state.old s).turn) }
+{
+    for _ in 0..most {
+        let turn = step_shown(writer, number, s, state)?;
+        if !turn.is_open() {
+            return Ok(turn);
+        }
+    }
+    Ok(Turn::Open)
+}
+
+/// Does what a line says, with a line for each begin and step, and answers its last turn.
+fn line_shown<W: Write>(
+    writer: &mut W,
+    number: u64,
+    line: &Line,
+    state: &mut State,
+) -> Result<Turn, WriteFault>
+    ensures core { IfOk result (λ _. state.new ≡ (line_moved state.old line.now).core) }
+    ensures turn { IfOk result (λ turn. turn ≡ (line_moved state.old line.now).turn) }
+{
+    match line.act {
+        Act::Begin(call) => begin_shown(writer, number, line.seat, call, state),
+        Act::Steps(most) => steps_shown(writer, number, line.seat, most, state),
+        Act::ToEnd => {
+            let most = state.longest_call();
+            steps_shown(writer, number, line.seat, most, state)
+        }
+    }
+}
+
+/// Explains the lines in their order, and answers whether none was refused.
+fn explain_lines<W: Write>(
+    writer: &mut W,
+    state: &mut State,
+    lines: &[Line],
+    records: &mut Vec<Record>,
+) -> Result<bool, WriteFault>
+    requires capacity { length state.old.seats ≤ vec_capacity records.old }
+    requires few { length lines.now < max_lines }
+    ensures verdict { IfOk result (λ b. b ≡ none_refused state.old lines.now) }
+{
+    let mut none_refused = true;
+    'running: for (index, line) in lines.iter().enumerate() {
+        let number = index as u64 + 2;
+        let turn = line_shown(writer, number, line, state)?;
+        none_refused &= !turn.is_refused();
+        write_line(writer, number, line, turn, state, records)?;
+    }
+    Ok(none_refused)
+}
+
+/// Writes the state at the start, explains the lines, and has the writer pass everything on.
+fn explain_run<W: Write>(
+    writer: &mut W,
+    seats: u64,
+    state: &mut State,
+    lines: &[Line],
+    records: &mut Vec<Record>,
+) -> Result<bool, WriteFault>
+    requires capacity { length state.old.seats ≤ vec_capacity records.old }
+    requires few { length lines.now < max_lines }
+    ensures verdict { IfOk result (λ b. b ≡ none_refused state.old lines.now) }
+{
+    write_opening(writer, seats, state, records)?;
+    let none_refused = explain_lines(writer, state, lines, records)?;
+    flush(writer)?;
+    Ok(none_refused)
+}
+
+/// Explains a schedule. All memory is asked for before the first byte is written.
+fn explain_schedule<W: Write>(
+    alloc: Global,
+    schedule: &Schedule,
+    writer: &mut W,
+) -> Result<bool, ReplayFault>
+    requires limits { are_in_limits schedule.now.seats schedule.now.budget ≡ true }
+    requires few { length schedule.now.lines.items < max_lines }
+    ensures { let plan = plan_of schedule.now in
+        Ends result (Ok (none_refused (opening plan) plan.lines)) (W.contents writer.old) (W.contents writer.new) }
+{
+    let mut state = State::new(alloc, schedule.seats, schedule.budget).map_err(
+        |_| ReplayFault::Memory,
+    )?;
+    let mut records = Vec::with_capacity(alloc, schedule.seats as usize).map_err(
+        |_| ReplayFault::Memory,
+    )?;
+    let seats = schedule.seats;
+    Ok(explain_run(writer, seats, &mut state, &schedule.lines, &mut records)?)
+}
+
+/// Writes the line of a fault of the input, and has the writer pass it on.
+fn explain_fault<W: Write>(writer: &mut W, fault: ReplayFault) -> Result<(), WriteFault> {
+    write_fault_line(writer, fault)?;
+    flush(writer)
+}
+
+/// Explains an input that was read.
+fn explain_input<W: Write>(alloc: Global, input: &[u8], writer: &mut W) -> Result<bool, ReplayFault>
+    ensures { Judges result input.now (W.contents writer.old) (W.contents writer.new) }
+{
+    match read_schedule(alloc, input) {
+        Ok(schedule) => explain_schedule(alloc, &schedule, writer),
+        Err(ReplayFault::Memory) => Err(ReplayFault::Memory),
+        Err(fault) => {
+            explain_fault(writer, fault)?;
+            Err(fault)
+        }
+    }
+}
+
+/// Reads a schedule, runs it on a mutex at its start, and writes what `replay` writes, and before each line of that a line
+/// for each begin and step that the schedule's line makes. It answers whether no line was refused.
+///
+/// Grammar, limits and faults are those of `replay`, in the same order. All memory is asked for before the first byte is
+/// written, by the same requests as in `replay`. At the end the writer is flushed.
+pub fn explain<R: Read, W: Write>(
+    alloc: Global,
+    reader: &mut R,
+    writer: &mut W,
+) -> Result<bool, ReplayFault>
+    // What is answered is what `replay` answers to the same bytes, unless reading, writing or memory fails.
+    ensures verdict { IfSome (R.remaining reader.old) (λ input.
+        Judges result input (W.contents writer.old) (W.contents writer.new)) }
+    // Whatever was read, nothing is written after these two faults.
+    ensures read { IsErrOf result ReplayFault.Read → Keeps (W.contents writer.old) (W.contents writer.new) }
+    ensures memory { IsErrOf result ReplayFault.Memory → Keeps (W.contents writer.old) (W.contents writer.new) }
+{
+    let input = read_input(alloc, reader)?;
+    explain_input(alloc, &input, writer)
+}

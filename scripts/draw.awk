@@ -1,0 +1,364 @@
+# Turns what `lfm_explain` prints into a picture: see scripts/draw. `title` is what stands above it, and `schedule` the
+# file whose lines stand at its left.
+
+# ---- reading: one row for each begin, step and answer
+
+function add_row(seat, kind, name, detail) {
+  rows++
+  row_seat[rows] = seat
+  row_kind[rows] = kind
+  row_name[rows] = name
+  row_detail[rows] = detail
+  if (line != shown_line) {
+    row_line[rows] = line
+    shown_line = line
+  }
+}
+
+# the values at the side after this row
+function set_side() {
+  side_count[rows] = count
+  side_owner[rows] = owner
+  side_handoff[rows] = handoff
+  side_queue[rows] = queue
+}
+
+# the responsibility leaves where it was, and is at a place from this row on
+function go_to(place, seat,    parts) {
+  if (at == "owner" || at == "carried") add_bar(at, at_seat, at_row, rows)
+  if (at == "posted" && place ~ /^carried/) add_arrow("post", at_seat, at_row, seat, rows)
+  if (at == "passed" && place ~ /^carried/) add_arrow("grant", at_seat, at_row, seat, rows)
+  split(place, parts, ".")
+  at = parts[1]
+  at_seat = (at == "owner" || at == "carried") ? parts[2] : seat
+  at_target = parts[2]
+  at_row = rows
+}
+
+function add_bar(kind, seat, from, to) {
+  bars++
+  bar_kind[bars] = kind
+  bar_seat[bars] = seat
+  bar_from[bars] = from
+  bar_to[bars] = to
+}
+
+function add_arrow(kind, from_seat, from, to_seat, to) {
+  arrows++
+  arrow_kind[arrows] = kind
+  arrow_from_seat[arrows] = from_seat
+  arrow_from[arrows] = from
+  arrow_to_seat[arrows] = to_seat
+  arrow_to[arrows] = to
+  # the head of an arrow from the right stands before the label of its row
+  if (from_seat > to_seat) shifted[to] = 14
+}
+
+# a pair such as (1, 2) without its space, so that a comma with a space ends a part of the line
+function close_pairs(text) {
+  while (match(text, /\([0-9]+, /)) text = substr(text, 1, RSTART + RLENGTH - 2) substr(text, RSTART + RLENGTH)
+  return text
+}
+
+function open_pairs(text) {
+  gsub(/,/, ", ", text)
+  return text
+}
+
+# the queue after a record was pushed, or after the oldest one left
+function push_record(pair,    parts) {
+  gsub(/[()]/, "", pair)
+  split(pair, parts, ",")
+  queue = (queue == "-" ? "" : queue ",") parts[2] "#" parts[1]
+}
+
+function serve_record() {
+  if (index(queue, ",")) sub(/^[^,]*,/, "", queue)
+  else queue = "-"
+}
+
+function read_step(seat, name, rest,    parts, many, i, words, fails, found, holds, detail, place) {
+  many = split(close_pairs(rest), parts, ", ")
+  fails = sub(/ fails /, " ", parts[1])
+  split(parts[1], words, " ")
+  found = words[3]
+  holds = words[4] == "->" ? words[5] : found
+  if (fails) detail = words[1] " is " found ", fails"
+  else if (words[4] == "->") detail = words[1] " \342\206\222 " holds
+  else detail = words[1] " is " found
+  add_row(seat, "step", name, open_pairs(detail))
+  if (words[1] == "count") count = holds
+  if (words[1] == "owner") owner = holds
+  if (words[1] == "handoff") handoff = holds
+  for (i = 2; i <= many; i++) {
+    if (parts[i] == "queue") push_record(holds)
+    if (parts[i] ~ /^serve/) serve_record()
+    if (parts[i] ~ / to /) {
+      place = parts[i]
+      sub(/.* to /, "", place)
+      go_to(place, seat)
+    }
+  }
+  set_side()
+}
+
+function read_answer(seat, text, state,    words) {
+  split(state, words, " ")
+  count = words[1]
+  owner = words[2]
+  handoff = words[3]
+  queue = words[5]
+  if (text ~ /^(begins|goes on)$/) return
+  if (text ~ /^refused/ && refused_at == line) return
+  if (seat < 1 || seat > seats) return
+  if (answered_at == line) return
+  add_row(seat, text ~ /^refused/ ? "refused" : "answer", text, "")
+  if (text !~ /^refused/ || text ~ /(Busy|NotWaiting)$/) {
+    end_call(seat)
+  }
+  if (text ~ /^ends (Asleep|None|Waiting)/) sleeps_from[seat] = rows
+  set_side()
+}
+
+function end_call(seat) {
+  if (opened[seat]) {
+    calls++
+    call_seat[calls] = seat
+    call_from[calls] = opened[seat]
+    call_to[calls] = rows
+    opened[seat] = 0
+  }
+}
+
+function wake(seat) {
+  if (sleeps_from[seat]) {
+    add_bar("asleep", seat, sleeps_from[seat], rows)
+    sleeps_from[seat] = 0
+  }
+}
+
+function read_begin(seat, name, rest) {
+  if (seat < 1 || seat > seats) return
+  sub(/,.*/, "", rest)
+  if (rest == "begins") {
+    add_row(seat, "begin", name, "")
+    wake(seat)
+    opened[seat] = rows
+  } else {
+    add_row(seat, rest ~ /^refused/ ? "refused" : "answer", name, rest)
+    if (rest ~ /^refused/) refused_at = line
+    else answered_at = line
+  }
+  set_side()
+}
+
+BEGIN {
+  while ((getline text < schedule) > 0) schedule_line[++schedule_lines] = text
+  at = "free"
+}
+
+/^fault / {
+  failed = 1
+  exit
+}
+
+/ \| / {
+  bar_at = index($0, " | ")
+  line = $1
+  seat = $2
+  text = substr($0, 1, bar_at - 1)
+  state = substr($0, bar_at + 3)
+  if (line == 1) {
+    seats = $3
+    rows = 0
+    shown_line = 1
+    first_state = state
+    read_answer(0, "begins", state)
+    next
+  }
+  sub(/^[0-9]+ [0-9]+ /, "", text)
+  read_answer(seat, text, state)
+  next
+}
+
+{
+  line = $1
+  seat = $2
+  colon = index($0, ": ")
+  name = substr($0, 1, colon - 1)
+  sub(/^[0-9]+ [0-9]+ /, "", name)
+  rest = substr($0, colon + 2)
+  if (name ~ / /) read_step(seat, name, rest)
+  else read_begin(seat, name, rest)
+}
+
+# ---- drawing
+
+function escape(text) {
+  gsub(/&/, "\\&amp;", text)
+  gsub(/</, "\\&lt;", text)
+  gsub(/>/, "\\&gt;", text)
+  return text
+}
+
+function x_of(seat) { return gutter + (seat - 1) * lane + 26 }
+function y_of(row) { return head + row * pitch }
+
+# two sets of colours: the second for readers who want a dark page
+function colours(back, ink, soft, faint, own, carry, sleep, post, grant) {
+  printf ".back{fill:%s}.ink{fill:%s}.soft{fill:%s}.halo{stroke:%s}", back, ink, soft, back
+  printf ".lane{stroke:%s}.rule{stroke:%s}.call{stroke:%s}", faint, faint, soft
+  printf ".own{fill:%s}.stripe{stroke:%s}.edge{stroke:%s}.asleep{stroke:%s}", own, carry, carry, sleep
+  printf ".post{stroke:%s}.grant{stroke:%s}.posthead{fill:%s}.granthead{fill:%s}", post, grant, post, grant
+  printf ".mark{fill:%s;stroke:%s}.hollow{fill:%s;stroke:%s}.cross{stroke:%s}", ink, back, back, ink, post
+}
+
+function label(x, y, class, anchor, text) {
+  printf "<text x=\"%d\" y=\"%d\" class=\"%s\"%s>%s</text>\n", x, y, class, anchor == "" ? "" : " text-anchor=\"" anchor "\"", text
+}
+
+function draw_bar(kind, seat, from, to,    x, y, height) {
+  x = x_of(seat)
+  y = y_of(from)
+  height = y_of(to) - y
+  if (kind == "asleep") printf "<path d=\"M%d %dV%d\" class=\"asleep\"/>\n", x, y, y + height
+  else if (kind == "owner") printf "<rect x=\"%d\" y=\"%d\" width=\"12\" height=\"%d\" class=\"own\"/>\n", x - 6, y, height
+  else {
+    printf "<rect x=\"%d\" y=\"%d\" width=\"12\" height=\"%d\" class=\"back\"/>\n", x - 6, y, height
+    printf "<rect x=\"%d\" y=\"%d\" width=\"12\" height=\"%d\" fill=\"url(#stripes)\" class=\"edge\"/>\n", x - 6, y, height
+  }
+}
+
+function draw_arrow(kind, from_seat, from, to_seat, to,    x1, y1, x2, y2, side) {
+  x1 = x_of(from_seat)
+  y1 = y_of(from)
+  x2 = x_of(to_seat)
+  y2 = y_of(to)
+  if (x1 == x2) {
+    printf "<path d=\"M%d %dC%d %d %d %d %d %d\" class=\"arrow %s\" marker-end=\"url(#%shead)\"/>\n", x1 - 6, y1, x1 - 34, y1, x1 - 34, y2, x2 - 8, y2, kind, kind
+  } else {
+    side = x2 > x1 ? 1 : -1
+    printf "<path d=\"M%d %dL%d %d\" class=\"arrow %s\" marker-end=\"url(#%shead)\"/>\n", x1 + 6 * side, y1, x2 - 8 * side, y2, kind, kind
+  }
+}
+
+function draw_row(row,    x, y, kind, text_x) {
+  x = x_of(row_seat[row])
+  y = y_of(row)
+  kind = row_kind[row]
+  text_x = x + 12 + shifted[row]
+  if (kind == "step") printf "<circle cx=\"%d\" cy=\"%d\" r=\"3.5\" class=\"mark\"/>\n", x, y
+  if (kind == "begin") printf "<circle cx=\"%d\" cy=\"%d\" r=\"4\" class=\"hollow\"/>\n", x, y
+  if (kind == "refused") printf "<path d=\"M%d %dl8 8m0 -8l-8 8\" class=\"cross\"/>\n", x - 4, y - 4
+  if (kind == "begin") label(text_x, y + 4, "ink halo bold", "", escape(row_name[row]))
+  else if (kind == "step") {
+    label(text_x, y + 4, "ink halo", "", escape(row_name[row]) (wide && row_detail[row] != "" ? "<tspan class=\"soft\" dx=\"7\">" escape(row_detail[row]) "</tspan>" : ""))
+  } else label(text_x, y + 4, "ink halo slant", "", escape(row_name[row] (row_detail[row] == "" ? "" : " " row_detail[row])))
+}
+
+# a value at the side: dark where it has changed, light where it has not
+function draw_value(x, y, now, before) {
+  label(x, y + 4, now == before ? "soft" : "ink", "", escape(now))
+}
+
+function draw_side(row, before,    y) {
+  if (side_count[row] == side_count[before] && side_owner[row] == side_owner[before] && side_handoff[row] == side_handoff[before] && side_queue[row] == side_queue[before]) return
+  y = y_of(row)
+  draw_value(side, y, side_count[row], side_count[before])
+  draw_value(side + 46, y, side_owner[row], side_owner[before])
+  draw_value(side + 94, y, side_handoff[row], side_handoff[before])
+  draw_value(side + 152, y, side_queue[row], side_queue[before])
+}
+
+function draw_legend(y,    x) {
+  x = gutter + 20
+  printf "<rect x=\"%d\" y=\"%d\" width=\"12\" height=\"16\" class=\"own\"/>\n", x, y - 8
+  label(x + 20, y + 4, "soft", "", "owns")
+  x += 74
+  printf "<rect x=\"%d\" y=\"%d\" width=\"12\" height=\"16\" fill=\"url(#stripes)\" class=\"edge\"/>\n", x, y - 8
+  label(x + 20, y + 4, "soft", "", "carries")
+  x += 86
+  printf "<path d=\"M%d %dv16\" class=\"asleep\"/>\n", x + 6, y - 8
+  label(x + 20, y + 4, "soft", "", "sleeps")
+  x = gutter + 20
+  y += 22
+  printf "<path d=\"M%d %dh26\" class=\"arrow post\" marker-end=\"url(#posthead)\"/>\n", x, y
+  label(x + 38, y + 4, "soft", "", "post to take")
+  x += 140
+  printf "<path d=\"M%d %dh26\" class=\"arrow grant\" marker-end=\"url(#granthead)\"/>\n", x, y
+  label(x + 38, y + 4, "soft", "", "grant to take-up")
+}
+
+END {
+  if (failed || seats == 0) exit 1
+  if (at == "owner" || at == "carried") add_bar(at, at_seat, at_row, rows + 1)
+  for (s = 1; s <= seats; s++) if (sleeps_from[s]) add_bar("asleep", s, sleeps_from[s], rows + 1)
+  for (s = 1; s <= seats; s++) if (opened[s]) {
+    calls++
+    call_seat[calls] = s
+    call_from[calls] = opened[s]
+    call_to[calls] = rows + 1
+  }
+
+  longest_queue = 5
+  for (r = 1; r <= rows; r++) if (length(side_queue[r]) > longest_queue) longest_queue = length(side_queue[r])
+  longest_line = 9
+  for (l = 1; l <= schedule_lines; l++) if (length(schedule_line[l]) > longest_line) longest_line = length(schedule_line[l])
+  wide = seats <= 3
+  lane = wide ? 262 : 168
+  gutter = 44 + longest_line * 7
+  pitch = 19
+  head = 66
+  side = gutter + seats * lane + 20
+  width = side + 172 + longest_queue * 7.5
+  foot = head + (rows + 1) * pitch + 26
+  height = foot + 44
+
+  printf "<svg xmlns=\"http://www.w3.org/2000/svg\" viewBox=\"0 0 %d %d\" width=\"%d\" height=\"%d\" role=\"img\">\n", width, height, width, height
+  printf "<title>%s</title>\n<style>\n", escape(title)
+  print "text{font:12px 'DejaVu Sans',Verdana,Helvetica,Arial,sans-serif}"
+  print ".title{font-size:15px;font-weight:bold}.bold{font-weight:bold}.slant{font-style:italic}"
+  print ".halo{stroke-width:4px;stroke-linejoin:round;paint-order:stroke}"
+  print ".lane{stroke-width:1}.rule{stroke-width:1}.call{stroke-width:2}.edge{stroke-width:1}"
+  print ".asleep{stroke-width:2.5;stroke-dasharray:4 4;fill:none}.stripe{stroke-width:4}"
+  print ".arrow{stroke-width:2;fill:none}.cross{stroke-width:2;fill:none}.mark,.hollow{stroke-width:1.5}"
+  colours("#ffffff", "#1f2328", "#59636e", "#d1d9e0", "#2f6fdb", "#c25a00", "#8250df", "#c2255c", "#1a7f37")
+  printf "\n@media (prefers-color-scheme:dark){"
+  colours("#0d1117", "#f0f6fc", "#9aa4af", "#3d444d", "#4493f8", "#f0883e", "#b690ff", "#ff7b9c", "#3fb950")
+  print "}\n</style>"
+  print "<defs><pattern id=\"stripes\" width=\"8\" height=\"8\" patternUnits=\"userSpaceOnUse\" patternTransform=\"rotate(45)\"><path d=\"M0 0V8\" class=\"stripe\"/></pattern>"
+  print "<marker id=\"posthead\" viewBox=\"0 0 8 8\" refX=\"7\" refY=\"4\" markerWidth=\"9\" markerHeight=\"9\" markerUnits=\"userSpaceOnUse\" orient=\"auto\"><path d=\"M0 0L8 4L0 8z\" class=\"posthead\"/></marker>"
+  print "<marker id=\"granthead\" viewBox=\"0 0 8 8\" refX=\"7\" refY=\"4\" markerWidth=\"9\" markerHeight=\"9\" markerUnits=\"userSpaceOnUse\" orient=\"auto\"><path d=\"M0 0L8 4L0 8z\" class=\"granthead\"/></marker></defs>"
+  printf "<rect width=\"%d\" height=\"%d\" class=\"back\"/>\n", width, height
+  label(16, 26, "ink title", "", escape(title))
+  for (s = 1; s <= seats; s++) label(x_of(s), head - 14, "ink bold", "middle", "seat " s)
+  label(16, head - 14, "soft", "", "line")
+  label(side, head - 14, "soft", "", "count")
+  label(side + 46, head - 14, "soft", "", "owner")
+  label(side + 94, head - 14, "soft", "", "handoff")
+  label(side + 152, head - 14, "soft", "", "queue")
+
+  for (r = 1; r <= rows; r++) if (row_line[r]) {
+    printf "<path d=\"M16 %.1fH%d\" class=\"rule\"/>\n", y_of(r) - pitch / 2, width - 16
+    label(16, y_of(r) + 4, "soft", "", row_line[r])
+    label(40, y_of(r) + 4, "ink", "", escape(schedule_line[row_line[r]]))
+  }
+  for (s = 1; s <= seats; s++) printf "<path d=\"M%d %dV%d\" class=\"lane\"/>\n", x_of(s), head, y_of(rows + 1)
+  for (i = 1; i <= calls; i++) printf "<path d=\"M%d %dV%d\" class=\"call\"/>\n", x_of(call_seat[i]), y_of(call_from[i]), y_of(call_to[i])
+  for (i = 1; i <= bars; i++) draw_bar(bar_kind[i], bar_seat[i], bar_from[i], bar_to[i])
+  for (i = 1; i <= arrows; i++) draw_arrow(arrow_kind[i], arrow_from_seat[i], arrow_from[i], arrow_to_seat[i], arrow_to[i])
+  for (r = 1; r <= rows; r++) draw_row(r)
+
+  split(first_state, words, " ")
+  side_count[0] = words[1]
+  side_owner[0] = words[2]
+  side_handoff[0] = words[3]
+  side_queue[0] = words[5]
+  label(side, head + 2, "soft", "", words[1])
+  label(side + 46, head + 2, "soft", "", words[2])
+  label(side + 94, head + 2, "soft", "", words[3])
+  label(side + 152, head + 2, "soft", "", words[5])
+  for (r = 1; r <= rows; r++) draw_side(r, r - 1)
+  draw_legend(foot)
+  print "</svg>"
+}

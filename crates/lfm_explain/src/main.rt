@@ -6,6 +6,8 @@ mod commands;
 mod explaining;
 mod shown;
 mod step_names;
+#[cfg(test)]
+mod tests;
 mod values;
 
 use std::process::ExitCode;

@@ -1,5 +1,6 @@
 -- The steps of a call, one after another: that they end, what they add to the trail, and what a call makes of the sight of its seat.
 pub mod BusyFacts
+pub mod Courses
 pub mod MadeCalls
 pub mod OneStep
 pub mod RunFacts
@@ -7,3 +8,4 @@ pub mod Running
 pub mod SendFacts
 pub mod SightFacts
 pub mod Sights
+pub mod StraightPoints

@@ -6,3 +6,4 @@ pub mod SeatKept
 pub mod SettledKept
 pub mod Started
 pub mod StepFacts
+pub mod StraightSteps

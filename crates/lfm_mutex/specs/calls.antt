@@ -3,3 +3,4 @@ pub mod Runs
 pub mod SeatSteps
 pub mod Sight
 pub mod Trails
+pub mod Straight

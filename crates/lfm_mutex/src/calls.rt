@@ -14,18 +14,23 @@ ghost use Rattle.lfm_mutex.specs.table.Rule.{value_in};
 ghost use Rattle.lfm_mutex.specs.calls.Runs.{nothing, errand, errand_of, is_releasing, is_release, Ends, Answers, Ran, Called, Holds, how_held, opens};
 ghost use Rattle.lfm_mutex.specs.Belongs.{Beside, Of_mutex, limits_of};
 ghost use Rattle.lfm_mutex.specs.calls.Trails.{Made, Makes_call};
-ghost use Rattle.lfm_mutex.specs.calls.Sight.{sight, Concludes, May_leave, Stays, Turned, Asks, Locks, Receives, Sends, Unlocks, Waits};
+ghost use Rattle.lfm_mutex.specs.calls.Sight.{sight, is_asleep, Concludes, May_leave, Stays, Turned, Asks, Locks, Receives, Sends, Unlocks, Waits};
 ghost use Rattle.lfm_mutex.specs.table.Steps.{Leaves};
 
+use crate::asking::{ask_again, ask_free};
 use crate::kept::Kept;
 use crate::mutex::Mutex;
 use crate::seat::Seat;
 use crate::steps::{begin_call, make_next};
+use crate::trying::{try_again, try_free};
+use crate::unlocking::{unlock_last, unlock_once};
 use lfm_model::{Asked, How, Locked, Refusal, SeatNo, Unlocked};
-use lfm_protocol::{Answer, Call, Turn, Why};
+use lfm_protocol::points::Point;
+use lfm_protocol::{Answer, Call, SeatState, Turn, Why};
 
 /// Makes the steps of the open call to its end.
-fn finish<T: Kept>(mutex: &Mutex<T>, seat: &mut Seat<T>) -> Turn
+#[inline(never)]
+pub fn finish<T: Kept>(mutex: &Mutex<T>, seat: &mut Seat<T>) -> Turn
     requires belongs { seat.old.place.table_id ≡ mutex.now.table.shared.table_id }
     requires open { errand seat.old.standing.point ≢ nothing }
     requires keeps { is_release seat.old.standing.point ≡ false }
@@ -47,6 +52,7 @@ fn finish<T: Kept>(mutex: &Mutex<T>, seat: &mut Seat<T>) -> Turn
 }
 
 /// Makes a call that releases nothing.
+#[inline(never)]
 fn run<T: Kept>(mutex: &Mutex<T>, seat: &mut Seat<T>, call: Call) -> Turn
     requires belongs { Of_mutex seat.old mutex.now }
     requires keeps { is_releasing (errand_of call) ≡ false }
@@ -62,6 +68,7 @@ fn run<T: Kept>(mutex: &Mutex<T>, seat: &mut Seat<T>, call: Call) -> Turn
 }
 
 /// Makes a call that releases what is in hand.
+#[inline(never)]
 fn release<T: Kept>(mutex: &Mutex<T>, seat: &mut Seat<T>, call: Call) -> Turn
     requires belongs { Of_mutex seat.old mutex.now }
     requires gives { is_releasing (errand_of call) ≡ true }
@@ -95,24 +102,93 @@ fn finish_release<T: Kept>(mutex: &Mutex<T>, seat: &mut Seat<T>) -> Turn
     }
 }
 
+/// `ask` by the generic run of its steps.
+#[inline(always)]
+fn ask_any<T: Kept>(mutex: &Mutex<T>, seat: &mut Seat<T>) -> Result<Asked, Refusal>
+    requires belongs { Of_mutex seat.old mutex.now }
+    ensures belongs { Beside seat.old seat.new }
+    ensures asks { Asks T.follows T.fits (limits_of mutex.now).budget (sight seat.old) (sight seat.new) result }
+    ensures steps { Makes_call (limits_of mutex.now) (λ x. Answered.Asked x) CallNow.Lock (sight seat.old) (sight seat.new) result }
+{
+    match run(mutex, seat, Call::Lock) {
+        Turn::Ended(Answer::Asked(asked)) => Ok(asked),
+        Turn::Refused(Why::By(refusal)) => Err(refusal),
+        Turn::Refused(_) => Err(Refusal::Asleep),
+        _ => unreachable!(),
+    }
+}
+
+/// `try_lock` by the generic run of its steps.
+#[inline(always)]
+fn try_lock_any<T: Kept>(mutex: &Mutex<T>, seat: &mut Seat<T>) -> Result<Locked, Refusal>
+    requires belongs { Of_mutex seat.old mutex.now }
+    ensures belongs { Beside seat.old seat.new }
+    ensures locks { Locks T.follows T.fits (limits_of mutex.now).budget (sight seat.old) (sight seat.new) result }
+    ensures steps { Makes_call (limits_of mutex.now) (λ x. Answered.Locked x) CallNow.TryLock (sight seat.old) (sight seat.new) result }
+{
+    match run(mutex, seat, Call::TryLock) {
+        Turn::Ended(Answer::Locked(locked)) => Ok(locked),
+        Turn::Refused(Why::By(refusal)) => Err(refusal),
+        Turn::Refused(_) => Err(Refusal::Asleep),
+        _ => unreachable!(),
+    }
+}
+
+/// `unlock` by the generic run of its steps.
+#[inline(always)]
+fn unlock_any<T: Kept>(mutex: &Mutex<T>, seat: &mut Seat<T>) -> Result<Unlocked, Refusal>
+    requires belongs { Of_mutex seat.old mutex.now }
+    requires leaves { May_leave T.follows T.fits (sight seat.old) }
+    ensures belongs { Beside seat.old seat.new }
+    ensures unlocks { Unlocks (sight seat.old) (sight seat.new) result }
+    ensures steps { Makes_call (limits_of mutex.now) (λ x. Answered.Unlocked x) CallNow.Unlock (sight seat.old) (sight seat.new) result }
+{
+    match release(mutex, seat, Call::Unlock) {
+        Turn::Ended(Answer::Unlocked(unlocked)) => Ok(unlocked),
+        Turn::Refused(Why::By(refusal)) => Err(refusal),
+        Turn::Refused(_) => Err(Refusal::Asleep),
+        _ => unreachable!(),
+    }
+}
+
+/// The seat sleeps, or a call of it is open.
+#[inline(always)]
+fn asleep(standing: &SeatState) -> bool
+    ensures { result ≡ is_asleep standing.now.point }
+{
+    match standing.point {
+        Point::Rest => false,
+        _ => true,
+    }
+}
+
 impl<T: Kept> Mutex<T> {
     /// `lock` up to the point where it would sleep: gains the mutex, deepens the hold, or queues the seat, which then
     /// sleeps until a receive tells it that it holds. A seat that gains the mutex or queues is charged one take.
     ///
     /// Refuses, in this order: Asleep (the seat sleeps, or a call of it is open), DepthFull (it holds at depth 65,535),
     /// Spent (it doesn't hold, and has no take left). It never waits. As `lock` of LFthreads' mutex and of OSv's lfmutex.
+    #[inline(always)]
     pub fn ask(&self, seat: &mut Seat<T>) -> Result<Asked, Refusal>
         requires belongs { Of_mutex seat.old self.now }
         ensures belongs { Beside seat.old seat.new }
         ensures asks { Asks T.follows T.fits (limits_of self.now).budget (sight seat.old) (sight seat.new) result }
         ensures steps { Makes_call (limits_of self.now) (λ x. Answered.Asked x) CallNow.Lock (sight seat.old) (sight seat.new) result }
     {
-        match run(self, seat, Call::Lock) {
-            Turn::Ended(Answer::Asked(asked)) => Ok(asked),
-            Turn::Refused(Why::By(refusal)) => Err(refusal),
-            Turn::Refused(_) => Err(Refusal::Asleep),
-            _ => unreachable!(),
+        if asleep(&seat.standing) {
+            return ask_any(self, seat);
         }
+        if seat.standing.depth == 0 {
+            let budget = seat.limits.budget;
+            if seat.standing.takes < budget {
+                return Ok(ask_free(self, seat, budget));
+            }
+            return ask_any(self, seat);
+        }
+        if seat.standing.depth < 65_535 {
+            return Ok(ask_again(self, seat));
+        }
+        ask_any(self, seat)
     }
 
     /// Gains the mutex or deepens the hold without queueing. A gain is charged one take. A post that no one has accepted
@@ -121,18 +197,27 @@ impl<T: Kept> Mutex<T> {
     /// Refuses, in this order: Asleep, DepthFull and Spent as `ask`, and Busy, where the count was not 0, another seat
     /// was the owner, and no post stood there or another call was faster to accept it; Busy gives its charge back. It
     /// never waits and wakes nobody. As `trylock` of OSv's lfmutex.
+    #[inline(always)]
     pub fn try_lock(&self, seat: &mut Seat<T>) -> Result<Locked, Refusal>
         requires belongs { Of_mutex seat.old self.now }
         ensures belongs { Beside seat.old seat.new }
         ensures locks { Locks T.follows T.fits (limits_of self.now).budget (sight seat.old) (sight seat.new) result }
         ensures steps { Makes_call (limits_of self.now) (λ x. Answered.Locked x) CallNow.TryLock (sight seat.old) (sight seat.new) result }
     {
-        match run(self, seat, Call::TryLock) {
-            Turn::Ended(Answer::Locked(locked)) => Ok(locked),
-            Turn::Refused(Why::By(refusal)) => Err(refusal),
-            Turn::Refused(_) => Err(Refusal::Asleep),
-            _ => unreachable!(),
+        if asleep(&seat.standing) {
+            return try_lock_any(self, seat);
         }
+        if seat.standing.depth == 0 {
+            let budget = seat.limits.budget;
+            if seat.standing.takes < budget {
+                return try_free(self, seat, budget);
+            }
+            return try_lock_any(self, seat);
+        }
+        if seat.standing.depth < 65_535 {
+            return try_again(self, seat);
+        }
+        try_lock_any(self, seat)
     }
 
     /// One look at the wake word of a seat that sleeps: how it came to hold, or None where it was not granted the mutex
@@ -176,6 +261,7 @@ impl<T: Kept> Mutex<T> {
     ///
     /// Refuses, in this order: Asleep, NotOwner (the seat doesn't hold). It never waits, and wakes the seat that it grants
     /// the mutex, if any. As `unlock` of LFthreads' mutex and of OSv's lfmutex.
+    #[inline(always)]
     pub fn unlock(&self, seat: &mut Seat<T>) -> Result<Unlocked, Refusal>
         requires belongs { Of_mutex seat.old self.now }
         requires leaves { May_leave T.follows T.fits (sight seat.old) }
@@ -183,12 +269,16 @@ impl<T: Kept> Mutex<T> {
         ensures unlocks { Unlocks (sight seat.old) (sight seat.new) result }
         ensures steps { Makes_call (limits_of self.now) (λ x. Answered.Unlocked x) CallNow.Unlock (sight seat.old) (sight seat.new) result }
     {
-        match release(self, seat, Call::Unlock) {
-            Turn::Ended(Answer::Unlocked(unlocked)) => Ok(unlocked),
-            Turn::Refused(Why::By(refusal)) => Err(refusal),
-            Turn::Refused(_) => Err(Refusal::Asleep),
-            _ => unreachable!(),
+        if asleep(&seat.standing) {
+            return unlock_any(self, seat);
         }
+        if seat.standing.depth == 1 {
+            return Ok(unlock_last(self, seat));
+        }
+        if seat.standing.depth > 1 {
+            return Ok(unlock_once(self, seat));
+        }
+        unlock_any(self, seat)
     }
 
     /// Gives up the mutex as `unlock` does, and falls asleep until another seat sends this one. It charges the take

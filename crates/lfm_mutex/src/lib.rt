@@ -2,6 +2,7 @@
 //! are a steady state of the core at every moment, and each holder finds the value that was last left.
 #![tactic(auto)]
 
+mod asking;
 mod calls;
 mod closing;
 pub mod holders;
@@ -16,6 +17,8 @@ pub mod steps;
 mod table;
 #[cfg(test)]
 mod tests;
+mod trying;
+mod unlocking;
 mod waiting;
 
 pub use holders::Holder;

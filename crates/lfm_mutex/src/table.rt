@@ -4,4 +4,5 @@
 pub(crate) mod rule;
 pub(crate) mod seat_memory;
 pub(crate) mod seat_view;
+pub(crate) mod straight_steps;
 pub(crate) mod table_steps;

@@ -34,6 +34,7 @@ impl<T: Kept> Mutex<T> {
 
     /// `receive_lock` with so many looks before it sleeps. With none it sleeps after its first look, as suits a seat
     /// whose grant is not expected soon.
+    #[inline(never)]
     pub fn receive_lock_within<R: Wait>(
         &self,
         rt: &R,
@@ -76,6 +77,7 @@ impl<T: Kept> Mutex<T> {
     /// Gains the mutex, or deepens the hold: `ask`, and then `receive_lock` where it answered Asleep.
     ///
     /// Refuses as `ask`: Asleep, DepthFull, Spent, in this order.
+    #[inline(always)]
     pub fn lock<R: Wait>(&self, rt: &R, seat: &mut Seat<T>) -> Result<Locked, Refusal>
         requires belongs { Of_mutex seat.old self.now }
         ensures belongs { Beside seat.old seat.new }

@@ -1,6 +1,6 @@
 //! The parts of a step in plain memory: what the pop list loses and gains, and how the value goes into its slot and out of
 //! it.
-ghost use Rattle.std.specs.Prelude.{◌≡◌, ◌<◌, ◌≤◌, ◌∷◌, ⊤, Option, Some, true, false, length};
+ghost use Rattle.std.specs.Prelude.{◌≡◌, ◌<◌, ◌≤◌, ◌∷◌, ⊤, Option, Some, None, true, false, length};
 ghost use Rattle.atomic_table.specs.Table.{rest};
 ghost use Rattle.lfm_protocol.specs.declared.kinds.Kind.{Kind};
 ghost use Rattle.lfm_core.specs.table.Carried.{carries_value};
@@ -97,6 +97,39 @@ pub fn put_back<T: Kept>(table: &SharedTable<T>, place: &mut Place<T>, moving: O
     ensures slot { place.new.me ≡ (place.old.me.0, (0, moving) ∷ rest place.old.me.1) }
 {
     table.exchange(place, 0, moving);
+}
+
+/// Puts the value in hand into the slot.
+#[inline(always)]
+pub fn put_out<T: Kept>(
+    table: &SharedTable<T>,
+    place: &mut Place<T>,
+    moving: &mut Option<Moving<T>>,
+)
+    requires table { place.old.table_id ≡ table.now.table_id }
+    requires slot { (x : Option (Moving T)) × (place.old.me.1 ≡ (0, x) ∷ rest place.old.me.1) }
+    ensures table { (place.new.table_id ≡ place.old.table_id) × (place.new.id ≡ place.old.id) }
+    ensures moving { moving.new ≡ None }
+    ensures slot { place.new.me ≡ (place.old.me.0, (0, moving.old) ∷ rest place.old.me.1) }
+{
+    let value = moving.take();
+    put_back(table, place, value);
+}
+
+/// Takes the value out of the slot, for a seat that has none in hand.
+#[inline(always)]
+pub fn take_out<T: Kept>(
+    table: &SharedTable<T>,
+    place: &mut Place<T>,
+    moving: &mut Option<Moving<T>>,
+)
+    requires table { place.old.table_id ≡ table.now.table_id }
+    requires slot { (x : Option (Moving T)) × (place.old.me.1 ≡ (0, x) ∷ rest place.old.me.1) }
+    ensures table { (place.new.table_id ≡ place.old.table_id) × (place.new.id ≡ place.old.id) }
+    ensures took { (place.old.me.1 ≡ (0, moving.new) ∷ rest place.old.me.1) × (place.new.me ≡ (place.old.me.0, (0, None) ∷ rest place.old.me.1)) }
+{
+    let taken = table.exchange(place, 0, None);
+    put(moving, taken);
 }
 
 /// Puts the value into the slot where the step may give it away.

@@ -1,0 +1,122 @@
+//! `unlock` where nobody waits, made straight on: with its atomic steps and the few fields that change, and with no copy of
+//! the seat's data. Where a step finds more, the seat goes on from its point as any call does.
+ghost use Rattle.std.specs.Prelude.{◌≡◌, ◌<◌, false};
+ghost use Rattle.lfm_protocol.specs.declared.answers.Answer.TheVariants as Answered;
+ghost use Rattle.lfm_protocol.specs.declared.answers.Call.{Call as CallNow};
+ghost use Rattle.lfm_protocol.specs.declared.answers.Turn.TheVariants.{Ended};
+ghost use Rattle.lfm_protocol.specs.declared.points.Point.TheVariants.{Rest, ReleaseCountSubtract};
+ghost use Rattle.lfm_protocol.specs.declared.points.Releaser.TheVariants.{Unlocker as UnlockerNow};
+ghost use Rattle.lfm_core.specs.table.Words.{stepped_by};
+ghost use Rattle.lfm_mutex.specs.table.Steps.{oldest_in};
+ghost use Rattle.lfm_mutex.specs.Belongs.{Beside, Of_mutex, limits_of};
+ghost use Rattle.lfm_mutex.specs.calls.Runs.{errand, is_release, releasing, Called};
+ghost use Rattle.lfm_mutex.specs.calls.Sight.{sight, May_leave, Turned};
+ghost use Rattle.lfm_mutex.specs.calls.Straight.{Course, Comes_to};
+
+use crate::calls::finish;
+use crate::kept::Kept;
+use crate::mutex::Mutex;
+use crate::seat::Seat;
+use crate::table::rule::Moving;
+use crate::table::seat_memory::oldest_of;
+use crate::table::straight_steps::{store_held, subtract_last};
+use lfm_model::Unlocked;
+use lfm_protocol::points::{Point, Releaser};
+use lfm_protocol::{Answer, SeatState, Turn};
+
+/// Makes the steps of the open call of unlock to its end, once its seat has given up the owner word.
+#[inline(always)]
+fn unlock_on<T: Kept>(mutex: &Mutex<T>, seat: &mut Seat<T>) -> Unlocked
+    requires belongs { seat.old.place.table_id ≡ mutex.now.table.shared.table_id }
+    requires unlocks { errand seat.old.standing.point ≡ releasing UnlockerNow }
+    requires keeps { is_release seat.old.standing.point ≡ false }
+    ensures belongs { seat.new.place.table_id ≡ seat.old.place.table_id }
+    ensures same { (seat.new.number ≡ seat.old.number) × (seat.new.limits ≡ seat.old.limits) }
+    ensures made { Course T.follows T.fits seat.old.number seat.old.standing seat.old.moving seat.old.place.me.0 (Ended (Answered.Unlocked result)) seat.new.standing seat.new.moving seat.new.place.me.0 }
+{
+    match finish(mutex, seat) {
+        Turn::Ended(Answer::Unlocked(unlocked)) => unlocked,
+        _ => unreachable!(),
+    }
+}
+
+// Moves the seat's own data on by a count that was more than 1, out of line.
+#[inline(never)]
+fn stand_carrying<T: Kept>(
+    standing: &mut SeatState,
+    moving: &Option<Moving<T>>,
+    number: u64,
+    found: u64,
+)
+    ensures { standing.new ≡ (stepped_by (record standing.old { depth = 0; point = ReleaseCountSubtract UnlockerNow }) number found (oldest_in moving.now)).seat }
+{
+    let oldest = oldest_of(moving);
+    standing.depth = 0;
+    standing.point = Point::ReleaseCountSubtract(Releaser::Unlocker);
+    standing.after_count_subtract(number, found, oldest);
+}
+
+/// `unlock` of a seat that is awake and holds once.
+#[inline(always)]
+pub fn unlock_last<T: Kept>(mutex: &Mutex<T>, seat: &mut Seat<T>) -> Unlocked
+    requires belongs { Of_mutex seat.old mutex.now }
+    requires rests { seat.old.standing.point ≡ Rest }
+    requires one { seat.old.standing.depth ≡ 1 }
+    requires leaves { May_leave T.follows T.fits (sight seat.old) }
+    ensures belongs { Beside seat.old seat.new }
+    ensures made { Comes_to T.follows T.fits (limits_of mutex.now) CallNow.Unlock (sight seat.old) (sight seat.new) (Ended (Answered.Unlocked result)) }
+{
+    let table = &mutex.table.shared;
+    let limits = seat.limits;
+    let number = seat.number;
+    let takes = seat.standing.takes;
+    let posts = seat.standing.posts;
+    let ending = SeatState {
+        depth: 1,
+        takes,
+        posts,
+        point: Point::ReleaseOwnerStore(Releaser::Unlocker),
+    };
+    store_held(
+        table,
+        &mut seat.place,
+        &seat.moving,
+        number,
+        limits,
+        &ending,
+    );
+    let ended = SeatState {
+        depth: 0,
+        takes,
+        posts,
+        point: Point::ReleaseCountSubtract(Releaser::Unlocker),
+    };
+    let found = subtract_last(
+        table,
+        &mut seat.place,
+        &mut seat.moving,
+        number,
+        limits,
+        &ended,
+    );
+    if found != 1 {
+        stand_carrying(&mut seat.standing, &seat.moving, number, found);
+        return unlock_on(mutex, seat);
+    }
+    seat.standing.depth = 0;
+    Unlocked::Free
+}
+
+/// `unlock` of a seat that is awake and holds more than once.
+#[inline(always)]
+pub fn unlock_once<T: Kept>(mutex: &Mutex<T>, seat: &mut Seat<T>) -> Unlocked
+    requires belongs { Of_mutex seat.old mutex.now }
+    requires rests { seat.old.standing.point ≡ Rest }
+    requires deep { 1 < seat.old.standing.depth }
+    ensures belongs { Beside seat.old seat.new }
+    ensures made { Comes_to T.follows T.fits (limits_of mutex.now) CallNow.Unlock (sight seat.old) (sight seat.new) (Ended (Answered.Unlocked result)) }
+{
+    let _mutex = mutex;
+    seat.standing.depth -= 1;
+    Unlocked::Still(seat.standing.depth)
+}

@@ -16,9 +16,9 @@ use Rattle.lfm_protocol.specs.Points.{kind}
 use Rattle.lfm_mutex.specs.declared.table.seat_view.View.{View}
 use Rattle.lfm_mutex.specs.declared.table.rule.Moving.{Moving}
 use Rattle.lfm_mutex.specs.table.Rule.{value_in}
-use Rattle.lfm_mutex.specs.calls.Runs.{errand, errand_of, is_releasing, is_release, Ends, Ran, Called, Called_by, Holds, how_held, opens}
+use Rattle.lfm_mutex.specs.calls.Runs.{errand_of, is_releasing, is_release, Ends, Ran, Called_by, Holds, opens}
 use Rattle.lfm_mutex.specs.table.Seats.{Seated}
-use Rattle.lfm_mutex.specs.calls.Sight.{Concludes, Stays, Turned, sight_of}
+use Rattle.lfm_mutex.specs.calls.Sight.{Concludes, sight_of}
 use Rattle.lfm_core.specs.table.Words.{stepped_by}
 use Rattle.lfm_mutex.specs.table.Steps.{Event, oldest_in}
 use Rattle.lfm_mutex.specs.calls.Straight.{Fit, Made_step, Course, Comes_to}

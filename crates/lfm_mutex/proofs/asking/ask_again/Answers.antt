@@ -1,13 +1,12 @@
-use Rattle.std.proofs.Common.{◌≡◌, ℕ, ◌+◌, ◌<◌, refl, sym, ap, subst, ◌∙◌, arith, None}
+use Rattle.std.proofs.Common.{◌+◌, refl, sym, subst}
 use Rattle.lfm_model.specs.declared.answers.Asked.{Asked}
 use Rattle.lfm_model.specs.declared.answers.How.{How}
 use Rattle.lfm_protocol.specs.declared.answers.Answer.{Answer}
 use Rattle.lfm_protocol.specs.declared.answers.Call.{Call}
-use Rattle.lfm_protocol.specs.declared.answers.Turn.TheVariants.{Open, Ended}
+use Rattle.lfm_protocol.specs.declared.answers.Turn.TheVariants.{Ended}
 use Rattle.lfm_protocol.specs.declared.points.Entrant.{Entrant}
 use Rattle.lfm_protocol.specs.declared.points.Point.TheVariants.{Rest, LockCountAdd, LockOwnerLoad, LockCountSubtract, EnterOwnerStore}
 use Rattle.lfm_protocol.specs.declared.seats.SeatState.{SeatState}
-use Rattle.lfm_protocol.specs.Begin.{Stepped}
 use Rattle.lfm_core.specs.table.Words.{stepped_by}
 use Rattle.lfm_mutex.specs.table.Rule.{value_in}
 use Rattle.lfm_mutex.specs.calls.Runs.{opens}

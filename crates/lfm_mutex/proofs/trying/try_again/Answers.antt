@@ -1,17 +1,12 @@
-use Rattle.std.specs.Prelude.{Ok, Err}
-use Rattle.std.proofs.Common.{◌-◌, ◌≡◌, ℕ, ◌+◌, ◌<◌, refl, sym, ap, subst, ◌∙◌, arith, None}
+use Rattle.std.proofs.Common.{◌+◌, refl, sym, subst}
 use Rattle.lfm_model.specs.declared.answers.Locked.{Locked}
-use Rattle.lfm_model.specs.declared.refusals.Refusal.{Refusal}
 use Rattle.lfm_model.specs.declared.answers.How.{How}
 use Rattle.lfm_protocol.specs.declared.answers.Answer.{Answer}
 use Rattle.lfm_protocol.specs.declared.answers.Call.{Call}
-use Rattle.lfm_protocol.specs.declared.answers.Turn.TheVariants.{Open, Ended, Refused}
-use Rattle.lfm_protocol.specs.declared.answers.Why.{Why}
+use Rattle.lfm_protocol.specs.declared.answers.Turn.TheVariants.{Ended}
 use Rattle.lfm_protocol.specs.declared.points.Entrant.{Entrant}
-use Rattle.lfm_protocol.specs.declared.points.Point.TheVariants.{Rest, TryCountExchange, TryOwnerLoad, TryHandoffLoad, TryHandoffExchange, EnterOwnerStore}
+use Rattle.lfm_protocol.specs.declared.points.Point.TheVariants.{Rest, TryCountExchange, TryOwnerLoad, EnterOwnerStore}
 use Rattle.lfm_protocol.specs.declared.seats.SeatState.{SeatState}
-use Rattle.lfm_protocol.specs.Begin.{Stepped}
-use Rattle.lfm_core.specs.table.Words.{stepped_by, handoff_of}
 use Rattle.lfm_mutex.specs.table.Rule.{value_in}
 use Rattle.lfm_mutex.specs.calls.Runs.{opens}
 use Rattle.lfm_mutex.specs.calls.Sight.{sight_of}
@@ -19,7 +14,7 @@ use Rattle.lfm_mutex.specs.table.Steps.{oldest_in}
 use Rattle.lfm_mutex.specs.calls.Straight.{Course, Comes_to, try_turn}
 use Rattle.lfm_mutex.proofs.runs.Courses.{course_none, course_next, course_join, comes}
 use Rattle.lfm_mutex.proofs.tables.StepFacts.{made_of}
-use Rattle.lfm_mutex.proofs.runs.StraightPoints.{begins_try_again, fit_begun, exchanged_none, exchanged_some, try_owned, try_not_owned, fit_after}
+use Rattle.lfm_mutex.proofs.runs.StraightPoints.{begins_try_again, fit_begun, exchanged_none, exchanged_some, try_owned, fit_after}
 use Rattle.lfm_mutex.proofs.trying.try_again.Goals as goal
 
 pub returns-then-found-eq0-clause-made : goal.returns-then-found-eq0-clause-made

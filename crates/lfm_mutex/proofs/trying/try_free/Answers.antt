@@ -1,11 +1,10 @@
-use Rattle.std.specs.Prelude.{Ok, Err}
 use Rattle.std.proofs.Common.{◌-◌, ◌≡◌, ℕ, ◌+◌, ◌<◌, refl, sym, ap, subst, ◌∙◌, arith, None}
 use Rattle.lfm_model.specs.declared.answers.Locked.{Locked}
 use Rattle.lfm_model.specs.declared.refusals.Refusal.{Refusal}
 use Rattle.lfm_model.specs.declared.answers.How.{How}
 use Rattle.lfm_protocol.specs.declared.answers.Answer.{Answer}
 use Rattle.lfm_protocol.specs.declared.answers.Call.{Call}
-use Rattle.lfm_protocol.specs.declared.answers.Turn.TheVariants.{Open, Ended, Refused}
+use Rattle.lfm_protocol.specs.declared.answers.Turn.TheVariants.{Ended, Refused}
 use Rattle.lfm_protocol.specs.declared.answers.Why.{Why}
 use Rattle.lfm_protocol.specs.declared.points.Entrant.{Entrant}
 use Rattle.lfm_protocol.specs.declared.points.Point.TheVariants.{Rest, TryCountExchange, TryOwnerLoad, TryHandoffLoad, TryHandoffExchange, EnterOwnerStore}

@@ -1,12 +1,11 @@
-use Rattle.std.proofs.Common.{◌≡◌, ℕ, refl, sym, ap, subst, ◌∙◌, arith, Option}
+use Rattle.std.proofs.Common.{◌≡◌, refl, sym, subst, arith}
 use Rattle.lfm_model.specs.declared.answers.Unlocked.{Unlocked}
 use Rattle.lfm_protocol.specs.declared.answers.Answer.{Answer}
 use Rattle.lfm_protocol.specs.declared.answers.Call.{Call}
-use Rattle.lfm_protocol.specs.declared.answers.Turn.TheVariants.{Open, Ended}
+use Rattle.lfm_protocol.specs.declared.answers.Turn.TheVariants.{Ended}
 use Rattle.lfm_protocol.specs.declared.points.Point.TheVariants.{Rest, ReleaseOwnerStore, ReleaseCountSubtract}
 use Rattle.lfm_protocol.specs.declared.points.Releaser.TheVariants.{Unlocker}
 use Rattle.lfm_protocol.specs.declared.seats.SeatState.{SeatState}
-use Rattle.lfm_protocol.specs.Begin.{Stepped}
 use Rattle.lfm_core.specs.table.Words.{stepped_by}
 use Rattle.lfm_mutex.specs.table.Rule.{value_in}
 use Rattle.lfm_mutex.specs.table.Steps.{Event, oldest_in}

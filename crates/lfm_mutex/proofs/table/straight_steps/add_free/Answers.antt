@@ -1,13 +1,10 @@
-use Rattle.std.proofs.Common.{◌≡◌, ℕ, refl, sym, ap, subst, ◌∙◌, Option, Some, None, ◌∷◌}
-use Rattle.std.specs.Prelude.{Bool, true, false}
+use Rattle.std.proofs.Common.{◌≡◌, ℕ, refl, sym, ap, subst, ◌∙◌, None}
+use Rattle.std.specs.Prelude.{true}
 use Rattle.lfm_protocol.specs.declared.kinds.Kind.{Kind}
-use Rattle.atomic_table.specs.Table.{rest}
 use Rattle.lfm_core.specs.table.Carried.{carries_value}
 use Rattle.lfm_core.specs.table.Words.{stepped_by}
-use Rattle.lfm_mutex.specs.declared.table.rule.Moving.{Moving}
 use Rattle.lfm_mutex.specs.table.Rule.{value_in, Advanced}
-use Rattle.lfm_mutex.specs.table.Steps.{CanMake}
-use Rattle.lfm_mutex.proofs.tables.StraightSteps.{drops_by, gives_by, leaves_by, gained_slot, gained, idled}
+use Rattle.lfm_mutex.proofs.tables.StraightSteps.{drops_by, gives_by, gained_slot, gained, idled}
 use Rattle.lfm_mutex.proofs.table.straight_steps.add_free.Goals as goal
 
 pub returns-then-found-ne0-clause-step : goal.returns-then-found-ne0-clause-step

@@ -1,8 +1,6 @@
-use Rattle.std.proofs.Common.{◌≡◌, ℕ, refl, sym, ap, subst, Some}
+use Rattle.std.proofs.Common.{refl, ap}
 use Rattle.lfm_protocol.specs.declared.kinds.Kind.{Kind}
-use Rattle.lfm_mutex.specs.table.Rule.{value_in}
-use Rattle.lfm_mutex.specs.table.Steps.{CanMake}
-use Rattle.lfm_mutex.proofs.tables.StraightSteps.{drops_by, gives_by, leaves_by, can_keep, kept}
+use Rattle.lfm_mutex.proofs.tables.StraightSteps.{drops_by, gives_by, kept}
 use Rattle.lfm_mutex.proofs.table.straight_steps.exchange_held.Goals as goal
 
 pub returns-clause-step : goal.returns-clause-step

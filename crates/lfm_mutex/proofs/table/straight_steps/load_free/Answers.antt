@@ -1,4 +1,4 @@
-use Rattle.std.proofs.Common.{◌≡◌, ◌≢◌, ℕ, ◌<◌, refl, sym, ap, subst, ◌∙◌, arith}
+use Rattle.std.proofs.Common.{◌≢◌, refl, sym, ap, ◌∙◌, arith}
 use Rattle.lfm_protocol.specs.declared.kinds.Kind.{Kind}
 use Rattle.lfm_mutex.proofs.tables.StraightSteps.{drops_by, gives_by, idled}
 use Rattle.lfm_mutex.proofs.table.straight_steps.load_free.Goals as goal

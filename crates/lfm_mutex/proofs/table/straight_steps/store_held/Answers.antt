@@ -1,8 +1,8 @@
-use Rattle.std.proofs.Common.{◌≡◌, ℕ, refl, sym, ap, subst, Some}
+use Rattle.std.proofs.Common.{ℕ, refl, ap, subst}
 use Rattle.lfm_protocol.specs.declared.kinds.Kind.{Kind}
 use Rattle.lfm_mutex.specs.table.Rule.{value_in}
 use Rattle.lfm_mutex.specs.table.Steps.{CanMake}
-use Rattle.lfm_mutex.proofs.tables.StraightSteps.{drops_by, gives_by, leaves_by, can_keep, kept}
+use Rattle.lfm_mutex.proofs.tables.StraightSteps.{gives_by, can_keep, kept}
 use Rattle.lfm_mutex.proofs.table.straight_steps.store_held.Goals as goal
 
 pub store_owner-requires-clause-can : goal.store_owner-requires-clause-can

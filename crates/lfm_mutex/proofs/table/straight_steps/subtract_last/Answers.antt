@@ -1,11 +1,7 @@
-use Rattle.std.proofs.Common.{◌≡◌, ℕ, refl, sym, ap, subst, ◌∙◌, Option, Some, None, ◌∷◌}
-use Rattle.std.specs.Prelude.{true, false}
-use Rattle.atomic_table.specs.Table.{rest}
+use Rattle.std.proofs.Common.{ℕ, refl, sym, ap, subst, ◌∙◌, Option, None}
 use Rattle.lfm_protocol.specs.declared.kinds.Kind.{Kind}
-use Rattle.lfm_core.specs.table.Carried.{carries_value}
-use Rattle.lfm_core.specs.table.Words.{stepped_by}
 use Rattle.lfm_mutex.specs.declared.table.rule.Moving.{Moving}
-use Rattle.lfm_mutex.specs.table.Rule.{value_in, Advanced}
+use Rattle.lfm_mutex.specs.table.Rule.{Advanced}
 use Rattle.lfm_mutex.specs.table.Steps.{CanMake}
 use Rattle.lfm_mutex.specs.calls.Straight.{Made_step}
 use Rattle.lfm_mutex.proofs.tables.StraightSteps.{drops_by, leaves_by, can_give, given_slot, given, taken_back}

@@ -16,7 +16,7 @@ use lfm_words::{Handoff, Record};
 use std::io::Write;
 
 /// Ends a line.
-fn write_line_feed<W: Write>(writer: &mut W) -> Result<(), WriteFault>
+pub fn write_line_feed<W: Write>(writer: &mut W) -> Result<(), WriteFault>
     ensures { Writes (W.contents writer.old) (W.contents writer.new) (codes "\n") result }
 {
     write_text(writer, b"\n")
@@ -305,7 +305,8 @@ pub fn write_opening<W: Write>(
     Ok(())
 }
 
-fn write_outcome<W: Write>(
+/// Writes what came of the line with this number, without the state after it.
+pub fn write_outcome<W: Write>(
     writer: &mut W,
     number: u64,
     line: &Line,

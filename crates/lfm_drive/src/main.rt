@@ -1,0 +1,11 @@
+//! The program `lfm_drive`: it reads a schedule of atomic steps, drives a running mutex through it, and shows what came of
+//! each line.
+#![tactic(auto)]
+
+mod commands;
+
+use std::process::ExitCode;
+
+fn main(rt: HostRuntime) -> ExitCode {
+    ExitCode::from(commands::run(&rt))
+}

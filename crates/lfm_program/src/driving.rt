@@ -1,0 +1,120 @@
+//! The driver: a schedule that is driven through a running mutex by `start` and `next`, one thread holding all its seats.
+//!
+//! What it writes are the lines of a replay without the states, so that the words of a running mutex can be compared with
+//! those of the state that is stepped by hand.
+ghost use Rattle.lfm_mutex.specs.Belongs.{Beside, Of_mutex};
+ghost use Rattle.std.specs.Prelude.{◌≡◌, All, length};
+
+use lfm_core::text::trace::{write_fault_line, write_line_feed, write_outcome};
+use lfm_core::{Act, Line, ReplayFault, Schedule, Turn, Why, read_schedule};
+use lfm_model::NewFault;
+use lfm_mutex::steps::{next, start};
+use lfm_mutex::{Mutex, Seat};
+use lfm_text::{flush, read_input, write_number, write_text};
+use std::alloc::Global;
+use std::io::{Read, Write};
+
+/// More steps than any call makes that runs alone, beside one for each seat.
+const LONGEST_CALL: u64 = 16;
+
+/// The seat makes up to this number of steps, and stops where its call ends or a step is refused.
+fn make_steps(mutex: &Mutex<u64>, seat: &mut Seat<u64>, most: u64) -> Turn
+    requires belongs { Of_mutex seat.old mutex.now }
+    ensures belongs { Beside seat.old seat.new }
+{
+    'stepping: for _ in 0..most {
+        let turn = next(mutex, seat);
+        if !turn.is_open() {
+            return turn;
+        }
+    }
+    Turn::Open
+}
+
+/// The seat does what a line says. Returns the last turn.
+fn follow_seat(mutex: &Mutex<u64>, seat: &mut Seat<u64>, act: Act, longest: u64) -> Turn
+    requires belongs { Of_mutex seat.old mutex.now }
+    ensures belongs { Beside seat.old seat.new }
+{
+    match act {
+        Act::Begin(call) => start(mutex, seat, call),
+        Act::Steps(most) => make_steps(mutex, seat, most),
+        Act::ToEnd => make_steps(mutex, seat, longest),
+    }
+}
+
+/// Does what a line says on a running mutex of which these are all the seats, in order. Returns the last turn: NoSuchSeat
+/// where no seat has the line's number.
+pub fn follow(mutex: &Mutex<u64>, seats: &mut [Seat<u64>], line: &Line) -> Turn
+    requires belong { All (λ s. Of_mutex s mutex.now) seats.old }
+    ensures belong { All (λ s. Of_mutex s mutex.now) seats.new }
+    ensures all { length seats.new ≡ length seats.old }
+{
+    let many = seats.len() as u64;
+    if line.seat == 0 || line.seat > many {
+        return Turn::Refused(Why::NoSuchSeat);
+    }
+    let longest = many + LONGEST_CALL;
+    let at = (line.seat - 1) as usize;
+    follow_seat(mutex, &mut seats[at], line.act, longest)
+}
+
+/// Writes what came of each line as it is done. Returns whether none was refused.
+fn drive_lines<W: Write>(
+    writer: &mut W,
+    mutex: &Mutex<u64>,
+    seats: &mut [Seat<u64>],
+    lines: &[Line],
+) -> Result<bool, ReplayFault>
+    requires belong { All (λ s. Of_mutex s mutex.now) seats.old }
+{
+    let mut none_refused = true;
+    'driving: for (index, line) in lines.iter().enumerate() {
+        let turn = follow(mutex, seats, line);
+        none_refused &= !turn.is_refused();
+        write_outcome(writer, (index as u64).wrapping_add(2), line, turn)?;
+        write_line_feed(writer)?;
+    }
+    Ok(none_refused)
+}
+
+/// Drives a schedule. All memory is asked for before the first byte is written.
+fn drive_schedule<W: Write>(
+    alloc: Global,
+    schedule: &Schedule,
+    writer: &mut W,
+) -> Result<bool, ReplayFault> {
+    let (mutex, mut seats) = match Mutex::new(alloc, schedule.seats, schedule.budget, 0u64) {
+        Ok(made) => made,
+        Err(NewFault::Limit) => return Err(ReplayFault::Limit),
+        Err(NewFault::Memory) => return Err(ReplayFault::Memory),
+    };
+    write_text(writer, b"1 seats ")?;
+    write_number(writer, schedule.seats)?;
+    write_line_feed(writer)?;
+    let none_refused = drive_lines(writer, &mutex, seats.as_mut_slice(), &schedule.lines)?;
+    flush(writer)?;
+    Ok(none_refused)
+}
+
+/// Reads a schedule, drives it through a running mutex at its start, and writes a line for each of its lines: what came of
+/// it, as a replay has it, without the state. Returns whether no line was refused.
+///
+/// Faults, their order, the requests for memory and the flush are those of a replay: Syntax and Limit are written as a line of
+/// their own and then answered; Read and Memory come before anything is written, Write after a prefix of the text.
+pub fn drive<R: Read, W: Write>(
+    alloc: Global,
+    reader: &mut R,
+    writer: &mut W,
+) -> Result<bool, ReplayFault> {
+    let input = read_input(alloc, reader)?;
+    match read_schedule(alloc, &input) {
+        Ok(schedule) => drive_schedule(alloc, &schedule, writer),
+        Err(ReplayFault::Memory) => Err(ReplayFault::Memory),
+        Err(fault) => {
+            write_fault_line(writer, fault)?;
+            flush(writer)?;
+            Err(fault)
+        }
+    }
+}

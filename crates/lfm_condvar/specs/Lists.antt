@@ -1,0 +1,31 @@
+-- The list of those that wait: tickets in order, seats of the condvar, each once.
+use Rattle.std.specs.Prelude.{◌≡◌, ℕ, ◌+◌, ◌<◌, ◌≤◌, List, [], ◌∷◌, ◌==◌, if◌then◌else◌}
+use Rattle.std.specs.Coded.{×_prop, Unit-prop, le_prop, Coded-set, coded_ℕ}
+use Rattle.lfm_condvar.specs.declared.waiters.Waiter.{Waiter}
+
+-- the tickets go on from there, one after another
+abbrev pub Go_on_from : ℕ → List Waiter → Type 0
+Go_on_from k [] = Unit {0}
+Go_on_from k (w ∷ ws) = (w.ticket ≡ k + 1) × Go_on_from (k + 1) ws
+
+pub Go_on-prop : (k : ℕ) (ws : List Waiter) → IsProp (Go_on_from k ws)
+Go_on-prop k [] = Unit-prop
+Go_on-prop k (w ∷ ws) = ×_prop (Coded-set coded_ℕ w.ticket (k + 1)) (Go_on-prop (k + 1) ws)
+
+-- how often the seat stands in the list
+abbrev pub times : ℕ → List Waiter → ℕ
+times s [] = 0
+times s (w ∷ ws) = (if w.seat == s then 1 else 0) + times s ws
+
+-- each is one of the seats 1 to n
+abbrev pub Among : ℕ → List Waiter → Type 0
+Among n [] = Unit {0}
+Among n (w ∷ ws) = (0 < w.seat) × ((w.seat ≤ n) × Among n ws)
+
+pub Among-prop : (n : ℕ) (ws : List Waiter) → IsProp (Among n ws)
+Among-prop n [] = Unit-prop
+Among-prop n (w ∷ ws) = ×_prop le_prop (×_prop le_prop (Among-prop n ws))
+
+-- the user seat s with ticket t
+abbrev pub waiter : ℕ → ℕ → Waiter
+waiter s t = record { seat = s; ticket = t }

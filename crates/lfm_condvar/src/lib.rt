@@ -1,0 +1,7 @@
+//! The condition variable: a list of user seats that wait, guarded by a mutex of its own. A wait appends its seat and falls
+//! asleep under that mutex; a wake makes the oldest a locker of the user mutex in its place.
+#![tactic(auto)]
+
+mod waiters;
+
+pub use waiters::Waiters;

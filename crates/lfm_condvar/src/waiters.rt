@@ -1,0 +1,115 @@
+//! The list of those that wait, with its tickets. Only `enlist` and `send_oldest` change it.
+ghost use Rattle.std.specs.Prelude.{All, ◌≡◌, ℕ, ◌+◌, ◌<◌, ◌≤◌, ◌++◌, [], ◌∷◌, Some, IfOk, MatchBool, MatchOption, length, slice_index, sum, vec_len};
+ghost use Rattle.std.specs.VecDeque.{deque_capacity, deque_len};
+ghost use Rattle.lfm_condvar.specs.Lists.{Among, Among-prop, Go_on_from, Go_on-prop, times, waiter};
+
+use lfm_model::SeatNo;
+use std::alloc::{AllocError, Global};
+use std::collections::VecDeque;
+
+/// A seat of the user mutex that waits, and its ticket.
+#[derive(Clone, Copy, Debug, PartialEq, Eq)]
+pub(crate) struct Waiter {
+    pub(crate) seat: SeatNo,
+    pub(crate) ticket: u64,
+}
+
+/// Those that wait, the oldest first, and how many tickets each cond seat added. A cond seat's number is its place among
+/// the counts; nobody is at place 0. Its fields are this module's own.
+#[derive(Drop)]
+pub struct Waiters {
+    list: VecDeque<Waiter>,
+    counts: Vec<u64>,
+    sent: u64,
+    added: u64,
+    seats: u64,
+    budget: u64,
+    pub ghost tickets: { Go_on_from sent list.items } by { Go_on-prop sent list.items },
+    pub ghost length: { sent + deque_len list ≡ added },
+    pub ghost once: { (s : ℕ) → times s list.items ≤ 1 },
+    pub ghost among: { Among seats list.items } by { Among-prop seats list.items },
+    pub ghost room: { seats ≤ deque_capacity list },
+    pub ghost counted: { (vec_len counts ≡ seats + 1) × (sum counts.items ≡ added) },
+    pub ghost within: { All (λ x. x ≤ budget) counts.items },
+    pub ghost limits: { (seats < 4096) × (budget ≤ 68719476736) },
+}
+
+impl Waiters {
+    ghost use Rattle.lfm_condvar.specs.Keeping.{Appended, Follows, Is_new, Taken};
+
+    /// A list of nobody, with room for each of the seats. It asks for memory twice.
+    pub(crate) fn empty(alloc: Global, seats: u64, budget: u64) -> Result<Waiters, AllocError>
+        requires { (seats < 4096) × (budget ≤ 68719476736) }
+        ensures { IfOk result (λ v. Is_new v × (v.seats ≡ seats) × (v.budget ≡ budget)) }
+    {
+        let list = VecDeque::with_capacity(alloc, seats as usize)?;
+        let counts = Vec::from_elem(alloc, 0u64, seats as usize + 1)?;
+        Ok(Waiters {
+            list,
+            counts,
+            sent: 0,
+            added: 0,
+            seats,
+            budget,
+        })
+    }
+
+    /// The greatest number that a user seat in the list may have.
+    pub(crate) fn seats(&self) -> u64
+        ensures { result ≡ self.now.seats }
+    {
+        self.seats
+    }
+
+    /// The tickets sent and the tickets added.
+    pub(crate) fn numbers(&self) -> (u64, u64)
+        ensures { (result.0 ≡ self.now.sent) × (result.1 ≡ self.now.added) }
+    {
+        (self.sent, self.added)
+    }
+
+    // Whether the user seat stands in the list.
+    fn has(&self, seat: SeatNo) -> bool
+        ensures { MatchBool result (0 < times seat self.now.list.items) (times seat self.now.list.items ≡ 0) }
+    {
+        for i in 0..self.list.len() {
+            if self.list[i].seat == seat {
+                return true;
+            }
+        }
+        false
+    }
+
+    // The one that has waited longest.
+    fn oldest(&self) -> Option<Waiter>
+        ensures { MatchOption result (self.now.list.items ≡ []) (λ w. (rest : _) × (self.now.list.items ≡ w ∷ rest)) }
+    {
+        self.list.front().copied()
+    }
+
+    // Puts a user seat that isn't there at the end with the next ticket, and counts it for the cond seat `by`.
+    fn append(&mut self, by: SeatNo, seat: SeatNo) -> u64
+        requires by { (by ≤ self.old.seats) × (slice_index self.old.counts.items by < self.old.budget) }
+        requires seat { (0 < seat) × (seat ≤ self.old.seats) × (times seat self.old.list.items ≡ 0) }
+        ensures appended { Appended by seat self.old self.new }
+        ensures ticket { result ≡ self.new.added }
+        ensures follows { Follows by self.old self.new }
+    {
+        let ticket = self.added + 1;
+        let place = by.get() as usize;
+        self.list.push_back_reserved(Waiter { seat, ticket });
+        self.counts[place] += 1;
+        self.added = ticket;
+        ticket
+    }
+
+    // Takes the oldest out.
+    fn take_oldest(&mut self) -> Option<Waiter>
+        ensures taken { MatchOption result (self.old.list.items ≡ []) (λ w. Taken (w ∷ []) self.old self.new × (w.ticket ≡ self.old.sent + 1)) }
+        ensures follows { (s : ℕ) → Follows s self.old self.new }
+    {
+        let oldest = self.list.pop_front()?;
+        self.sent += 1;
+        Some(oldest)
+    }
+}

@@ -1,2 +1,6 @@
-pub mod Lists
+pub mod Belongs
+pub mod Holds
 pub mod Keeping
+pub mod Lists
+pub mod Waits
+pub mod Wakes

@@ -2,6 +2,11 @@
 //! asleep under that mutex; a wake makes the oldest a locker of the user mutex in its place.
 #![tactic(auto)]
 
-mod waiters;
+pub mod condvars;
+mod keeping;
+pub mod seats;
+pub mod waiters;
 
-pub use waiters::Waiters;
+pub use condvars::Condvar;
+pub use seats::CondSeat;
+pub use waiters::{enlist, send_oldest, Waiters};

@@ -3,6 +3,12 @@ ghost use Rattle.std.specs.Prelude.{All, ◌≡◌, ℕ, ◌+◌, ◌<◌, ◌�
 ghost use Rattle.std.specs.VecDeque.{deque_capacity, deque_len};
 ghost use Rattle.lfm_condvar.specs.Lists.{Among, Among-prop, Go_on_from, Go_on-prop, times, waiter};
 
+mod enlisting;
+mod sending;
+
+pub use enlisting::enlist;
+pub use sending::send_oldest;
+
 use lfm_model::SeatNo;
 use std::alloc::{AllocError, Global};
 use std::collections::VecDeque;

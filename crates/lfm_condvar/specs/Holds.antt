@@ -1,0 +1,32 @@
+-- What a cond seat knows of the list, and what a hold of the inner mutex makes of it.
+use Rattle.std.specs.Prelude.{◌≡◌, ℕ, ◌+◌, ◌<◌, ◌≤◌, Option, Some, is_some, true, false, slice_index}
+use Rattle.lfm_protocol.specs.declared.limits.Limits.{Limits}
+use Rattle.lfm_mutex.specs.calls.Sight.{Sight}
+use Rattle.lfm_condvar.specs.declared.waiters.Waiters.{Waiters}
+use Rattle.lfm_condvar.specs.Keeping.{Since}
+
+-- the cond seat is one of those that the list counts for, and has added no more tickets than it has made takes
+pub record Counts_known (s : Sight Waiters) (l : Waiters) : Type 0 where
+  pub low : 0 < s.number
+  pub high : s.number ≤ l.seats
+  pub few : slice_index l.counts.items s.number ≤ s.takes
+
+-- what is true of each cond seat between its calls: it doesn't hold, is awake, and knows the list that it left last
+pub record Cond_kept (s : Sight Waiters) : Type 0 where
+  pub out : s.depth ≡ 0
+  pub awake : s.asleep ≡ false
+  pub there : is_some s.last ≡ true
+  pub known : (l : Waiters) → s.last ≡ Some l → Counts_known s l
+
+-- the list that it left last is of a condvar with these limits
+abbrev pub Made_for : Limits → Sight Waiters → Type 0
+Made_for limits s = (l : Waiters) → s.last ≡ Some l → (l.seats ≡ limits.seats) × (l.budget ≡ limits.budget)
+
+-- One hold of the inner mutex, for one take: the cond seat that was seen as s found the list v and left the list w, and is seen
+-- as t. Since the list that it left before, neither sent nor added has fallen, and nobody else counted tickets for it
+pub record Held_once (budget : ℕ) (s t : Sight Waiters) (v w : Waiters) : Type 0 where
+  pub finds : (l : Waiters) → s.last ≡ Some l → Since s.number l v
+  pub leaves : t.last ≡ Some w
+  pub spare : s.takes < budget
+  pub takes : t.takes ≡ s.takes + 1
+  pub number : t.number ≡ s.number

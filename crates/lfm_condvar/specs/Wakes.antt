@@ -1,0 +1,51 @@
+-- How `send_oldest`, `wake_one` and `wake_all` end. A user seat is seen as s before and as t after, and its mutex has n seats.
+use Rattle.std.specs.Prelude.{◌≡◌, ⊤, ℕ, ◌<◌, ◌≤◌, List, [], ◌∷◌, ◌++◌, Bool, true, false, Option, Some, None, Result, Ok, Err, length, map}
+use Rattle.lfm_model.specs.declared.refusals.Refusal.{Refusal}
+use Rattle.lfm_protocol.specs.declared.limits.Limits.{Limits}
+use Rattle.lfm_mutex.specs.calls.Sight.{Sight, Sends}
+use Rattle.lfm_condvar.specs.declared.waiters.Waiter.{Waiter}
+use Rattle.lfm_condvar.specs.declared.waiters.Waiters.{Waiters}
+use Rattle.lfm_condvar.specs.Holds.{Held_once}
+use Rattle.lfm_condvar.specs.Keeping.{Taken}
+use Rattle.lfm_condvar.specs.Lists.{waiter}
+
+module _ {T : Type 0} where
+  -- the oldest of the list was not waiting to be sent
+  abbrev pub Oldest_not_waiting : ℕ → Sight T → Sight T → Waiters → Type 0
+  Oldest_not_waiting n s t v = (x : Waiter) × (rest : List Waiter) × (v.list.items ≡ x ∷ rest) × Sends n s x.seat t (Err Refusal.NotWaiting)
+
+  -- how send_oldest ends, by which the list v became w
+  abbrev pub Sends_oldest : ℕ → Sight T → Sight T → Waiters → Waiters → Result (Option (ℕ × ℕ)) Refusal → Type 0
+  Sends_oldest n s t v w (Ok None) = (s.asleep ≡ false) × (v.list.items ≡ []) × (w ≡ v) × (t ≡ s)
+  Sends_oldest n s t v w (Ok (Some p)) = Taken (waiter p.0 p.1 ∷ []) v w × (p.1 ≡ w.sent) × Sends n s p.0 t (Ok tt)
+  Sends_oldest n s t v w (Err Refusal.Asleep) = (s.asleep ≡ true) × (w ≡ v) × (t ≡ s)
+  Sends_oldest n s t v w (Err Refusal.NotWaiting) = (w ≡ v) × Oldest_not_waiting n s t v
+  Sends_oldest n s t v w (Err r) = ⊥
+
+  -- the seat has sent the seats of these, in order, and done nothing else
+  abbrev pub Sent_each : List Waiter → Sight T → Sight T → Type 0
+  Sent_each gone s t = t ≡ record s { trail = t.trail; sends = s.sends ++ map (λ (x : Waiter). x.seat) gone }
+
+  -- how it ends to send all that wait, by which the list v became w
+  abbrev pub Sends_all : ℕ → Sight T → Sight T → Waiters → Waiters → Result ℕ Refusal → Type 0
+  Sends_all n s t v w (Ok k) = (k ≡ length v.list.items) × (w.list.items ≡ []) × Taken v.list.items v w × Sent_each v.list.items s t
+  Sends_all n s t v w (Err Refusal.NotWaiting) = (gone : List Waiter) × (m : Sight T) × Taken gone v w × Sent_each gone s m × Oldest_not_waiting n m t w
+  Sends_all n s t v w (Err r) = ⊥
+
+  -- How the wakes end, with a cond seat that is seen as c before and as d after, of a condvar with the limits `own`
+
+  -- before the inner mutex was locked
+  abbrev pub Wake_refused : Limits → Sight Waiters → Sight Waiters → Sight T → Sight T → Refusal → Type 0
+  Wake_refused own c d s t Refusal.Asleep = (s.asleep ≡ true) × (d ≡ c) × (t ≡ s)
+  Wake_refused own c d s t Refusal.Spent = (s.asleep ≡ false) × (own.budget ≤ c.takes) × (d ≡ c) × (t ≡ s)
+  Wake_refused own c d s t r = ⊥
+
+  abbrev pub Wake_one_ends : ℕ → Limits → Sight Waiters → Sight Waiters → Sight T → Sight T → Result (Option (ℕ × ℕ)) Refusal → Type 0
+  Wake_one_ends n own c d s t (Err Refusal.Asleep) = Wake_refused own c d s t Refusal.Asleep
+  Wake_one_ends n own c d s t (Err Refusal.Spent) = Wake_refused own c d s t Refusal.Spent
+  Wake_one_ends n own c d s t r = (v : Waiters) × (w : Waiters) × Held_once own.budget c d v w × Sends_oldest n s t v w r
+
+  abbrev pub Wake_all_ends : ℕ → Limits → Sight Waiters → Sight Waiters → Sight T → Sight T → Result ℕ Refusal → Type 0
+  Wake_all_ends n own c d s t (Err Refusal.Asleep) = Wake_refused own c d s t Refusal.Asleep
+  Wake_all_ends n own c d s t (Err Refusal.Spent) = Wake_refused own c d s t Refusal.Spent
+  Wake_all_ends n own c d s t r = (v : Waiters) × (w : Waiters) × Held_once own.budget c d v w × Sends_all n s t v w r

@@ -1,0 +1,66 @@
+//! How a user seat gets into the list: it is appended and falls asleep, or neither.
+ghost use Rattle.std.specs.Prelude.{◌≡◌, ◌<◌, ◌≤◌, MatchOption, slice_index};
+ghost use Rattle.lfm_mutex.specs.Belongs.{Beside, Of_mutex, budget_of, limits_of};
+ghost use Rattle.lfm_mutex.specs.calls.Sight.{sight, May_leave, Wait_refused};
+ghost use Rattle.lfm_condvar.specs.Keeping.{Follows};
+ghost use Rattle.lfm_condvar.specs.Waits.{Enlists, May_wait};
+
+use crate::waiters::Waiters;
+use lfm_model::{Refusal, SeatNo};
+use lfm_mutex::{Kept, Mutex, Seat};
+
+/// Why the seat can't make `start_wait`, if it can't.
+pub(crate) fn bars_wait<T: Kept>(seat: &Seat<T>) -> Option<Refusal>
+    ensures { MatchOption result (May_wait (budget_of seat.now) (sight seat.now)) (λ r. Wait_refused (budget_of seat.now) (sight seat.now) r) }
+{
+    if seat.asleep() {
+        return Some(Refusal::Asleep);
+    }
+    if seat.depth() == 0 {
+        return Some(Refusal::NotOwner);
+    }
+    if seat.depth() > 1 {
+        return Some(Refusal::Nested);
+    }
+    if seat.left() == 0 {
+        return Some(Refusal::Spent);
+    }
+    None
+}
+
+/// Puts the user seat, which holds its mutex, at the end of the list with the next ticket, counts the ticket for the cond
+/// seat `by`, and makes `start_wait`: both or, where it refuses, neither. It answers the ticket. The list is lent to it while
+/// the inner mutex is held.
+///
+/// Refuses, in this order: Asleep, NotOwner, Nested and Spent as `start_wait`, NoSuchSeat (the condvar has fewer seats than
+/// the user seat's number) and Busy (the user seat stands in the list). It takes no memory and never waits, and wakes the
+/// seat that it grants the user mutex, if any.
+pub fn enlist<T: Kept>(
+    waiters: &mut Waiters,
+    by: SeatNo,
+    mutex: &Mutex<T>,
+    seat: &mut Seat<T>,
+) -> Result<u64, Refusal>
+    requires belongs { Of_mutex seat.old mutex.now }
+    requires by { (by ≤ waiters.old.seats) × (slice_index waiters.old.counts.items by < waiters.old.budget) }
+    requires leaves { May_leave T.follows T.fits (sight seat.old) }
+    ensures belongs { Beside seat.old seat.new }
+    ensures enlists { Enlists (limits_of mutex.now) by (sight seat.old) (sight seat.new) waiters.old waiters.new result }
+    ensures follows { Follows by waiters.old waiters.new }
+{
+    if let Some(refusal) = bars_wait(seat) {
+        return Err(refusal);
+    }
+    let number = seat.number();
+    if number.get() > waiters.seats() {
+        return Err(Refusal::NoSuchSeat);
+    }
+    if waiters.has(number) {
+        return Err(Refusal::Busy);
+    }
+    let ticket = waiters.append(by, number);
+    match mutex.start_wait(seat) {
+        Ok(_) => Ok(ticket),
+        Err(_) => unreachable!(),
+    }
+}

@@ -1,0 +1,43 @@
+//! How a user seat leaves the list: it is sent and removed, or neither.
+ghost use Rattle.std.specs.Prelude.{◌≡◌, ◌≤◌, ℕ};
+ghost use Rattle.lfm_mutex.specs.Belongs.{Beside, Of_mutex, limits_of};
+ghost use Rattle.lfm_mutex.specs.calls.Sight.{sight};
+ghost use Rattle.lfm_condvar.specs.Keeping.{Follows};
+ghost use Rattle.lfm_condvar.specs.Wakes.{Sends_oldest};
+
+use crate::waiters::Waiters;
+use lfm_model::{Refusal, SeatNo};
+use lfm_mutex::{Kept, Mutex, Seat};
+
+/// Makes `send_lock` for the seat that has waited longest, and removes it from the list: both or, where it refuses, neither.
+/// It answers that seat and its ticket, and None where the list is empty. The list is lent to it while the inner mutex is
+/// held.
+///
+/// Refuses, in this order: Asleep (the caller's seat sleeps, or a call of it is open) and NotWaiting (the oldest doesn't wait
+/// to be sent; that was one step). It takes no memory and never waits, and wakes the seat that it grants the user mutex, if
+/// any.
+pub fn send_oldest<T: Kept>(
+    waiters: &mut Waiters,
+    mutex: &Mutex<T>,
+    seat: &mut Seat<T>,
+) -> Result<Option<(SeatNo, u64)>, Refusal>
+    requires belongs { Of_mutex seat.old mutex.now }
+    requires wide { waiters.old.seats ≤ (limits_of mutex.now).seats }
+    ensures belongs { Beside seat.old seat.new }
+    ensures sends { Sends_oldest (limits_of mutex.now).seats (sight seat.old) (sight seat.new) waiters.old waiters.new result }
+    ensures follows { (s : ℕ) → Follows s waiters.old waiters.new }
+{
+    if seat.asleep() {
+        return Err(Refusal::Asleep);
+    }
+    let Some(oldest) = waiters.oldest() else {
+        return Ok(None);
+    };
+    match mutex.send_lock(seat, oldest.seat) {
+        Ok(()) => {
+            let _ = waiters.take_oldest();
+            Ok(Some((oldest.seat, oldest.ticket)))
+        }
+        Err(refusal) => Err(refusal),
+    }
+}

@@ -1,2 +1,5 @@
+pub mod Enlisted
+pub mod Followed
 pub mod ListFacts
 pub mod NumberSums
+pub mod OneHold

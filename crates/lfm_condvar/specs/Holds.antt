@@ -3,7 +3,7 @@ use Rattle.std.specs.Prelude.{◌≡◌, ℕ, ◌+◌, ◌<◌, ◌≤◌, Optio
 use Rattle.lfm_protocol.specs.declared.limits.Limits.{Limits}
 use Rattle.lfm_mutex.specs.calls.Sight.{Sight}
 use Rattle.lfm_condvar.specs.declared.waiters.Waiters.{Waiters}
-use Rattle.lfm_condvar.specs.Keeping.{Since}
+use Rattle.lfm_condvar.specs.Keeping.{Follows, Since}
 
 -- the cond seat is one of those that the list counts for, and has added no more tickets than it has made takes
 pub record Counts_known (s : Sight Waiters) (l : Waiters) : Type 0 where
@@ -30,3 +30,23 @@ pub record Held_once (budget : ℕ) (s t : Sight Waiters) (v w : Waiters) : Type
   pub spare : s.takes < budget
   pub takes : t.takes ≡ s.takes + 1
   pub number : t.number ≡ s.number
+
+-- The cond seat that was seen as s when it locked the inner mutex is seen as t: it found the list v, and has w in hand
+pub record In_hand (limits : Limits) (s t : Sight Waiters) (v w : Waiters) : Type 0 where
+  pub value : t.value ≡ Some w
+  pub found : t.last ≡ Some v
+  pub finds : (l : Waiters) → s.last ≡ Some l → Since s.number l v
+  pub seats : v.seats ≡ limits.seats
+  pub budget : v.budget ≡ limits.budget
+  pub low : 0 < s.number
+  pub high : s.number ≤ v.seats
+  pub few : slice_index v.counts.items s.number ≤ s.takes
+  pub number : t.number ≡ s.number
+  pub depth : t.depth ≡ 1
+  pub awake : t.asleep ≡ false
+  pub takes : t.takes ≡ s.takes + 1
+  pub spare : s.takes < limits.budget
+
+-- what a cond seat that holds may have made of the list that it found: no more than one ticket was counted for it
+abbrev pub Rewrites : Sight Waiters → Sight Waiters → Waiters → Waiters → Type 0
+Rewrites s t v w = (s.value ≡ Some v) × (t ≡ record s { value = Some w }) × Follows s.number v w × (slice_index w.counts.items s.number ≤ slice_index v.counts.items s.number + 1)

@@ -3,9 +3,11 @@
 #![tactic(auto)]
 
 pub mod condvars;
+mod holding;
 mod keeping;
 pub mod seats;
 pub mod waiters;
+mod waiting;
 
 pub use condvars::Condvar;
 pub use seats::CondSeat;

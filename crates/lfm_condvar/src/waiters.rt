@@ -6,6 +6,7 @@ ghost use Rattle.lfm_condvar.specs.Lists.{Among, Among-prop, Go_on_from, Go_on-p
 mod enlisting;
 mod sending;
 
+pub(crate) use enlisting::bars_wait;
 pub use enlisting::enlist;
 pub use sending::send_oldest;
 

@@ -1,0 +1,35 @@
+-- What is so once a seat was enlisted, or refused.
+use Rattle.std.proofs.Common.{◌≡◌, ℕ, ◌+◌, ◌<◌, ◌≤◌, List, Result, Ok, Err, refl, sym, ap, ◌∙◌, subst, arith, length, get_or, get_or-set_same, slice_index}
+use Rattle.lfm_model.specs.declared.answers.How.{How}
+use Rattle.lfm_model.specs.declared.refusals.Refusal.{Refusal}
+use Rattle.lfm_model.specs.declared.refusals.Refusal.TheVariants.{Asleep, NotOwner, Nested, DepthFull, Spent, NoSuchSeat, NotWaiting, Busy}
+use Rattle.lfm_protocol.specs.declared.limits.Limits.{Limits}
+use Rattle.lfm_mutex.specs.calls.Sight.{Sight}
+use Rattle.lfm_condvar.specs.declared.waiters.Waiters.{Waiters}
+use Rattle.lfm_condvar.specs.Holds.{Held_once}
+use Rattle.lfm_condvar.specs.Waits.{Enlists, Wait_ends}
+
+same_count : (v w : Waiters) (by : ℕ) → w ≡ v → slice_index w.counts.items by ≤ slice_index v.counts.items by + 1
+same_count v w by e = let q = ap (λ (y : Waiters). slice_index y.counts.items by) e in omega arith
+
+module _ {T : Type 0} where
+  -- no more than one ticket was counted for the cond seat
+  pub counted_once : (user : Limits) (by : ℕ) (s t : Sight T) (v w : Waiters) (r : Result ℕ Refusal) → by ≤ v.seats → Enlists user by s t v w r → slice_index w.counts.items by ≤ slice_index v.counts.items by + 1
+  counted_once user by s t v w (Ok k) b e = let a = e.0 in let o = v.counts.ok in let n = v.counted in let lt : by < length v.counts.items = omega arith in
+      let q : slice_index w.counts.items by ≡ slice_index v.counts.items by + 1 = ap (λ (xs : List ℕ). get_or xs by 0) a.counts ∙ (rw get_or-set_same) in omega arith
+  counted_once user by s t v w (Err Asleep) b e = same_count v w by e.1
+  counted_once user by s t v w (Err NotOwner) b e = same_count v w by e.1
+  counted_once user by s t v w (Err Nested) b e = same_count v w by e.1
+  counted_once user by s t v w (Err DepthFull) b e = same_count v w by e.1
+  counted_once user by s t v w (Err Spent) b e = same_count v w by e.1
+  counted_once user by s t v w (Err NoSuchSeat) b e = same_count v w by e.2
+  counted_once user by s t v w (Err NotWaiting) b e = same_count v w by e.1
+  counted_once user by s t v w (Err Busy) b e = same_count v w by e.3
+
+  busy_ends : (follows : ℕ → T → T → Type 0) (fits : T → ℕ → Type 0) (user own : Limits) (c d : Sight Waiters) (s t : Sight T) → (v : Waiters) × (w : Waiters) × Held_once own.budget c d v w × Enlists user c.number s t v w (Err Busy) → Wait_ends follows fits user own c d s t (Err Busy)
+  busy_ends follows fits user own c d s t h = h
+
+  -- a wait that was refused under the inner mutex was refused as Busy
+  pub ends_busy : (follows : ℕ → T → T → Type 0) (fits : T → ℕ → Type 0) (user own : Limits) (c d : Sight Waiters) (s t : Sight T) (r : Refusal) → r ≡ Busy
+      → (v : Waiters) × (w : Waiters) × Held_once own.budget c d v w × Enlists user c.number s t v w (Err r) → Wait_ends follows fits user own c d s t (Err r)
+  ends_busy follows fits user own c d s t r e = subst (λ (x : Refusal). (v : Waiters) × (w : Waiters) × Held_once own.budget c d v w × Enlists user c.number s t v w (Err x) → Wait_ends follows fits user own c d s t (Err x)) (sym e) (busy_ends follows fits user own c d s t)

@@ -1,0 +1,9 @@
+use Rattle.std.proofs.Common.{rules}
+use Rattle.lfm_mutex.specs.Belongs.{limits_of}
+use Rattle.lfm_mutex.specs.calls.Sight.{sight}
+use Rattle.lfm_condvar.specs.Belongs.{cond_limits, cond_sight}
+use Rattle.lfm_condvar.proofs.Enlisted.{ends_busy}
+use Rattle.lfm_condvar.proofs.condvars.Condvar.wait.Goals as goal
+
+pub returns-in-Err-clause-waits : goal.returns-in-Err-clause-waits
+returns-in-Err-clause-waits g c = ends_busy g.T.Kept.follows g.T.Kept.fits (limits_of c.args.mutex.now) (cond_limits c.args.self.now) (cond_sight c.args.cond.now) _ (sight c.args.seat.now) _ c.in-Err.refusal c.in-Err.ensures.busy c.in-Err.ensures.enlists

@@ -3,3 +3,4 @@ pub mod Followed
 pub mod ListFacts
 pub mod NumberSums
 pub mod OneHold
+pub mod Sent

@@ -8,6 +8,7 @@ mod keeping;
 pub mod seats;
 pub mod waiters;
 mod waiting;
+mod waking;
 
 pub use condvars::Condvar;
 pub use seats::CondSeat;

@@ -1,0 +1,102 @@
+-- What is so once waiters were sent, or one of them was not waiting.
+use Rattle.std.proofs.Common.{◌≡◌, ℕ, ◌+◌, ◌<◌, ◌≤◌, List, [], ◌∷◌, ◌++◌, Bool, true, false, Option, Some, None, Result, Ok, Err, refl, sym, ap, ◌∙◌, subst, arith, length, slice_index, append_assoc, length-append}
+use Rattle.std.specs.Prelude.{map}
+use Rattle.lfm_model.specs.declared.refusals.Refusal.{Refusal}
+use Rattle.lfm_model.specs.declared.refusals.Refusal.TheVariants.{Asleep, NotOwner, Nested, DepthFull, Spent, NoSuchSeat, NotWaiting, Busy}
+use Rattle.lfm_protocol.specs.declared.limits.Limits.{Limits}
+use Rattle.lfm_mutex.specs.calls.Sight.{Sight, Sends}
+use Rattle.lfm_condvar.specs.declared.waiters.Waiter.{Waiter}
+use Rattle.lfm_condvar.specs.declared.waiters.Waiters.{Waiters}
+use Rattle.lfm_condvar.specs.Holds.{Held_once}
+use Rattle.lfm_condvar.specs.Keeping.{Follows, Taken}
+use Rattle.lfm_condvar.specs.Lists.{waiter}
+use Rattle.lfm_condvar.specs.Wakes.{Oldest_not_waiting, Sends_all, Sends_oldest, Sent_each, Wake_all_ends, Wake_one_ends}
+
+pub taken_none : (v : Waiters) → Taken [] v v
+taken_none v = record { list = refl; sent = omega arith; added = refl; counts = refl; seats = refl; budget = refl }
+
+pub taken_more : (gone : List Waiter) (x : Waiter) (u v w : Waiters) → Taken gone u v → Taken (x ∷ []) v w → Taken (gone ++ x ∷ []) u w
+taken_more gone x u v w a b = record {
+  list = a.list ∙ (ap (λ (ys : List Waiter). gone ++ ys) b.list ∙ sym (append_assoc gone (x ∷ []) w.list.items));
+  sent = (let p = a.sent in let q = b.sent in let l = length-append gone (x ∷ []) in omega arith);
+  added = b.added ∙ a.added;
+  counts = b.counts ∙ a.counts;
+  seats = b.seats ∙ a.seats;
+  budget = b.budget ∙ a.budget;
+}
+
+pub follows_none : (s : ℕ) (v : Waiters) → Follows s v v
+follows_none s v = (refl, refl, omega arith, omega arith, λ k ne. refl)
+
+pub follows_more : (s : ℕ) (u v w : Waiters) → Follows s u v → Follows s v w → Follows s u w
+follows_more s u v w a b = let p = a.2 in let q = a.3 in let x = b.2 in let y = b.3 in (b.0 ∙ a.0, b.1 ∙ a.1, omega arith, omega arith, λ k ne. b.4 k ne ∙ a.4 k ne)
+
+-- who counts nothing for anybody keeps every count
+pub same_count : (v w : Waiters) (k : ℕ) → ((s : ℕ) → Follows s v w) → slice_index w.counts.items k ≤ slice_index v.counts.items k + 1
+same_count v w k f = let same = (f (k + 1)).4 k (λ q. omega arith) in omega arith
+
+seats_more : (xs : List Waiter) (x : Waiter) → map (λ (y : Waiter). y.seat) (xs ++ x ∷ []) ≡ map (λ (y : Waiter). y.seat) xs ++ x.seat ∷ []
+seats_more [] x = refl
+seats_more (y ∷ xs) x = ap (λ zs. y.seat ∷ zs) (seats_more xs x)
+
+append_none : (xs : List Waiter) → xs ++ [] ≡ xs
+append_none [] = refl
+append_none (x ∷ xs) = ap (λ zs. x ∷ zs) (append_none xs)
+
+no_sends : (xs : List ℕ) → xs ≡ xs ++ []
+no_sends [] = refl
+no_sends (x ∷ xs) = ap (λ zs. x ∷ zs) (no_sends xs)
+
+module _ {T : Type 0} where
+  pub sent_none : (s : Sight T) → Sent_each [] s s
+  sent_none s = ap (λ (xs : List ℕ). record s { sends = xs }) (no_sends s.sends)
+
+  pub sent_more : (n : ℕ) (gone : List Waiter) (x : Waiter) (s m t : Sight T) → Sent_each gone s m → Sends n m x.seat t (Ok tt) → Sent_each (gone ++ x ∷ []) s t
+  sent_more n gone x s m t a b = let names = seats_more gone x in
+      let joined : m.sends ++ x.seat ∷ [] ≡ s.sends ++ map (λ (y : Waiter). y.seat) (gone ++ x ∷ []) = ap (λ (z : Sight T). z.sends ++ x.seat ∷ []) a ∙ (append_assoc s.sends (map (λ (y : Waiter). y.seat) gone) (x.seat ∷ []) ∙ ap (λ ys. s.sends ++ ys) (sym names)) in
+      b.3 ∙ (ap (λ (z : Sight T). record z { trail = t.trail; sends = m.sends ++ x.seat ∷ [] }) a ∙ ap (λ (ys : List ℕ). record s { trail = t.trail; sends = ys }) joined)
+
+  pub awake_still : (gone : List Waiter) (s m : Sight T) → s.asleep ≡ false → Sent_each gone s m → m.asleep ≡ false
+  awake_still gone s m a e = ap (λ (z : Sight T). z.asleep) e ∙ a
+
+  -- all were sent
+  pub all_sent : (n k : ℕ) (gone : List Waiter) (s m t : Sight T) (u v w : Waiters) → Taken gone u v → Sent_each gone s m → k ≡ length gone → Sends_oldest n m t v w (Ok None) → Sends_all n s t u w (Ok k)
+  all_sent n k gone s m t u v w a b e o =
+      let whole : u.list.items ≡ gone = a.list ∙ (ap (λ ys. gone ++ ys) o.1 ∙ append_none gone) in
+      let q = sym o.2 in
+      (e ∙ ap length (sym whole), subst (λ (y : Waiters). y.list.items ≡ []) q o.1, subst (λ (ys : List Waiter). Taken ys u w) (sym whole) (subst (λ (y : Waiters). Taken gone u y) q a),
+        subst (λ (ys : List Waiter). Sent_each ys s t) (sym whole) (subst (λ (z : Sight T). Sent_each gone s z) (sym o.3) b))
+
+  -- some were sent, and the next was not waiting
+  pub some_sent : (n : ℕ) (gone : List Waiter) (s m t : Sight T) (u v w : Waiters) (r : Refusal) → Taken gone u v → Sent_each gone s m → s.asleep ≡ false → Sends_oldest n m t v w (Err r) → Sends_all n s t u w (Err r)
+  some_sent n gone s m t u v w Asleep a b aw o = let no = sym (awake_still gone s m aw b) ∙ o.0 in cc
+  some_sent n gone s m t u v w NotWaiting a b aw o = let q = sym o.0 in (gone, m, subst (λ (y : Waiters). Taken gone u y) q a, b, subst (λ (y : Waiters). Oldest_not_waiting n m t y) q o.1)
+  some_sent n gone s m t u v w NotOwner a b aw o = absurd o
+  some_sent n gone s m t u v w Nested a b aw o = absurd o
+  some_sent n gone s m t u v w DepthFull a b aw o = absurd o
+  some_sent n gone s m t u v w Spent a b aw o = absurd o
+  some_sent n gone s m t u v w NoSuchSeat a b aw o = absurd o
+  some_sent n gone s m t u v w Busy a b aw o = absurd o
+
+  -- a wake whose hold of the inner mutex came
+  pub one_ends : (n : ℕ) (own : Limits) (c d : Sight Waiters) (s t : Sight T) (v w : Waiters) (r : Result (Option (ℕ × ℕ)) Refusal) → s.asleep ≡ false → Held_once own.budget c d v w → Sends_oldest n s t v w r → Wake_one_ends n own c d s t r
+  one_ends n own c d s t v w (Ok p) aw h o = (v, w, h, o)
+  one_ends n own c d s t v w (Err Asleep) aw h o = let no = sym aw ∙ o.0 in cc
+  one_ends n own c d s t v w (Err NotWaiting) aw h o = (v, w, h, o)
+  one_ends n own c d s t v w (Err NotOwner) aw h o = absurd o
+  one_ends n own c d s t v w (Err Nested) aw h o = absurd o
+  one_ends n own c d s t v w (Err DepthFull) aw h o = absurd o
+  one_ends n own c d s t v w (Err Spent) aw h o = absurd o
+  one_ends n own c d s t v w (Err NoSuchSeat) aw h o = absurd o
+  one_ends n own c d s t v w (Err Busy) aw h o = absurd o
+
+  pub all_end : (n : ℕ) (own : Limits) (c d : Sight Waiters) (s t : Sight T) (v w : Waiters) (r : Result ℕ Refusal) → Held_once own.budget c d v w → Sends_all n s t v w r → Wake_all_ends n own c d s t r
+  all_end n own c d s t v w (Ok p) h o = (v, w, h, o)
+  all_end n own c d s t v w (Err NotWaiting) h o = (v, w, h, o)
+  all_end n own c d s t v w (Err Asleep) h o = absurd o
+  all_end n own c d s t v w (Err NotOwner) h o = absurd o
+  all_end n own c d s t v w (Err Nested) h o = absurd o
+  all_end n own c d s t v w (Err DepthFull) h o = absurd o
+  all_end n own c d s t v w (Err Spent) h o = absurd o
+  all_end n own c d s t v w (Err NoSuchSeat) h o = absurd o
+  all_end n own c d s t v w (Err Busy) h o = absurd o

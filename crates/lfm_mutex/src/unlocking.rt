@@ -88,6 +88,8 @@ pub fn unlock_last<T: Kept>(mutex: &Mutex<T>, seat: &mut Seat<T>) -> Unlocked
         limits,
         &ending,
     );
+    // Written here, where the value is about to be moved: each stretch between two atomic steps that has writes costs time.
+    seat.standing.depth = 0;
     let ended = SeatState {
         depth: 0,
         takes,
@@ -106,7 +108,6 @@ pub fn unlock_last<T: Kept>(mutex: &Mutex<T>, seat: &mut Seat<T>) -> Unlocked
         stand_carrying(&mut seat.standing, &seat.moving, number, found);
         return unlock_on(mutex, seat);
     }
-    seat.standing.depth = 0;
     Unlocked::Free
 }
 

@@ -1,6 +1,6 @@
 //! What the program does with its arguments. What it reads goes to the core, and what the core answers to the shell.
 use lfm_core::{ReplayFault, replay};
-use lfm_program::replay_status;
+use lfm_program::report;
 use std::alloc::Global;
 use std::io::{BufWriter, ErrorKind, Input};
 use std::rt::Env;
@@ -21,22 +21,15 @@ enum Request {
 
 /// Does what the command line asks for, and gives the exit status. Messages go to standard error.
 pub fn run<R: Env + AllocGlobal + Input + Print + Eprint>(rt: &R) -> u8 {
-    match requested(rt) {
-        Request::Replay => {
-            let outcome = replay_streams(rt);
-            explain(rt, &outcome);
-            replay_status(&outcome)
-        }
+    let outcome = match requested(rt) {
+        Request::Replay => replay_streams(rt),
+        Request::Unread => Err(ReplayFault::Memory),
         Request::Other => {
             let _ = rt.eprintln("usage: lfm replay | lfm work");
-            USAGE
+            return USAGE;
         }
-        Request::Unread => {
-            let outcome = Err(ReplayFault::Memory);
-            explain(rt, &outcome);
-            replay_status(&outcome)
-        }
-    }
+    };
+    report(rt, "lfm", &outcome)
 }
 
 /// Replays standard input into standard output.
@@ -62,15 +55,4 @@ fn requested<R: Env + AllocGlobal>(rt: &R) -> Request {
         "replay" => Request::Replay,
         _ => Request::Other,
     }
-}
-
-/// Says on standard error what kept a replay from its end.
-fn explain<R: Eprint>(rt: &R, outcome: &Result<bool, ReplayFault>) {
-    let message = match outcome {
-        Err(ReplayFault::Read) => "lfm: read fault",
-        Err(ReplayFault::Write) => "lfm: write fault",
-        Err(ReplayFault::Memory) => "lfm: out of memory",
-        _ => return,
-    };
-    let _ = rt.eprintln(message);
 }

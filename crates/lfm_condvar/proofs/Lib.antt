@@ -4,3 +4,4 @@ pub mod ListFacts
 pub mod NumberSums
 pub mod OneHold
 pub mod Sent
+pub mod lawful

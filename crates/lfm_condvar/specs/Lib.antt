@@ -4,3 +4,4 @@ pub mod Keeping
 pub mod Lists
 pub mod Waits
 pub mod Wakes
+pub mod laws

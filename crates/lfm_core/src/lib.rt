@@ -1,4 +1,4 @@
-//! The mutex as a state that is stepped by hand: one atomic step at a time, by any schedule.
+//! The mutex as a state that makes one atomic step at a time, in the order that a schedule gives.
 #![tactic(auto)]
 
 pub mod laws;

@@ -1,4 +1,4 @@
-//! The mutex as a state that is stepped by hand. Every state that a caller has is steady: nothing else can be built, and
+//! The mutex as a state that makes one atomic step at a time. Every state that a caller has is steady: nothing else can be built, and
 //! each turn keeps it so. The turns and readers themselves are the machine's.
 ghost use Rattle.std.specs.Prelude.{◌≡◌, ◌≤◌, true, false, length, reverse, slice_get, vec_capacity, IfOk, IfErr};
 ghost use Rattle.std.specs.Option.{option_map};

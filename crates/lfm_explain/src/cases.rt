@@ -18,11 +18,11 @@ pub enum Case {
     Queue,
     /// The oldest record leaves the queue, and its seat is brought in.
     Serve,
-    /// The duty is posted.
+    /// The responsibility is posted.
     Post,
-    /// A posted duty is taken over, or taken back.
+    /// A posted handoff is taken over, or taken back.
     Take,
-    /// A `try_lock` accepts a posted duty and comes in by it.
+    /// A `try_lock` accepts a posted handoff and comes in by it.
     Accept,
     /// A seat loads its grant.
     TakeUp,

@@ -1,7 +1,7 @@
 //! What the program does with its arguments: it wants none. Its messages and statuses are those of `lfm replay`.
 use crate::explaining::explain;
 use lfm_core::ReplayFault;
-use lfm_program::replay_status;
+use lfm_program::report;
 use std::alloc::Global;
 use std::io::{BufWriter, ErrorKind, Input};
 use std::rt::Env;
@@ -22,22 +22,15 @@ enum Request {
 
 /// Does what the command line asks for, and gives the exit status. Messages go to standard error.
 pub fn run<R: Env + AllocGlobal + Input + Print + Eprint>(rt: &R) -> u8 {
-    match requested(rt) {
-        Request::Explain => {
-            let outcome = explain_streams(rt);
-            report(rt, &outcome);
-            replay_status(&outcome)
-        }
+    let outcome = match requested(rt) {
+        Request::Explain => explain_streams(rt),
+        Request::Unread => Err(ReplayFault::Memory),
         Request::Other => {
             let _ = rt.eprintln("usage: lfm_explain");
-            USAGE
+            return USAGE;
         }
-        Request::Unread => {
-            let outcome = Err(ReplayFault::Memory);
-            report(rt, &outcome);
-            replay_status(&outcome)
-        }
-    }
+    };
+    report(rt, "lfm_explain", &outcome)
 }
 
 /// Explains standard input on standard output.
@@ -60,15 +53,4 @@ fn requested<R: Env + AllocGlobal>(rt: &R) -> Request {
         None => Request::Explain,
         Some(_) => Request::Other,
     }
-}
-
-/// Says on standard error what kept an explanation from its end.
-fn report<R: Eprint>(rt: &R, outcome: &Result<bool, ReplayFault>) {
-    let message = match outcome {
-        Err(ReplayFault::Read) => "lfm_explain: read fault",
-        Err(ReplayFault::Write) => "lfm_explain: write fault",
-        Err(ReplayFault::Memory) => "lfm_explain: out of memory",
-        _ => return,
-    };
-    let _ = rt.eprintln(message);
 }

@@ -1,4 +1,10 @@
+pub mod JournalLists
+pub mod JournalSteps
+mod LawfulJournals
+pub mod Numbers
 mod Once
+mod ReplayedOps
 mod RunLaws
 mod StepLaws
+pub mod Sums
 mod Wanted

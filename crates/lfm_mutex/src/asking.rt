@@ -96,6 +96,9 @@ pub fn ask_free<T: Kept>(mutex: &Mutex<T>, seat: &mut Seat<T>, budget: u64) -> A
         stand_loading(&mut seat.standing, takes);
         return ask_on(mutex, seat);
     }
+    // Written here, where the value has just been moved: each stretch between two atomic steps that has writes costs time.
+    seat.standing.depth = 1;
+    seat.standing.takes = takes;
     let entering = SeatState {
         depth: 0,
         takes,
@@ -110,8 +113,6 @@ pub fn ask_free<T: Kept>(mutex: &Mutex<T>, seat: &mut Seat<T>, budget: u64) -> A
         limits,
         &entering,
     );
-    seat.standing.depth = 1;
-    seat.standing.takes = takes;
     Asked::Held(How::Free)
 }
 

@@ -1,6 +1,6 @@
 //! The calls of a mutex that do not wait: each begins, and makes its steps to the end. They take no memory, and they wake a
 //! sleeping seat where they grant it the mutex.
-ghost use Rattle.std.specs.Prelude.{◌≡◌, ◌≢◌, false, true, Ok, Some, IfOk};
+ghost use Rattle.std.specs.Prelude.{◌≡◌, ◌≢◌, ◌+◌, ◌≤◌, length, false, true, Ok, Some, IfOk};
 ghost use Rattle.lfm_model.specs.declared.answers.Asked.TheVariants as AskedNow;
 ghost use Rattle.lfm_model.specs.declared.answers.How.{How as HowNow};
 ghost use Rattle.lfm_model.specs.declared.answers.Locked.TheVariants as LockedNow;
@@ -11,9 +11,9 @@ ghost use Rattle.lfm_protocol.specs.declared.points.Point.TheVariants.{ReleaseOw
 ghost use Rattle.lfm_protocol.specs.declared.points.Releaser.{Releaser};
 ghost use Rattle.lfm_protocol.specs.Begin.{begin};
 ghost use Rattle.lfm_mutex.specs.table.Rule.{value_in};
-ghost use Rattle.lfm_mutex.specs.calls.Runs.{nothing, errand, errand_of, is_releasing, is_release, Ends, Answers, Ran, Called, Holds, how_held, opens};
+ghost use Rattle.lfm_mutex.specs.calls.Runs.{nothing, errand, errand_of, is_releasing, is_release, release_steps, weight, Ends, Answers, Ran, Called, Holds, how_held, opens};
 ghost use Rattle.lfm_mutex.specs.Belongs.{Beside, Of_mutex, limits_of};
-ghost use Rattle.lfm_mutex.specs.calls.Trails.{Made, Makes_call};
+ghost use Rattle.lfm_mutex.specs.calls.Trails.{Made, Makes_call, Makes_at_most};
 ghost use Rattle.lfm_mutex.specs.calls.Sight.{sight, is_asleep, Concludes, May_leave, Stays, Turned, Asks, Locks, Receives, Sends, Unlocks, Waits};
 ghost use Rattle.lfm_mutex.specs.table.Steps.{Leaves};
 
@@ -42,6 +42,7 @@ pub fn finish<T: Kept>(mutex: &Mutex<T>, seat: &mut Seat<T>) -> Turn
     ensures ran { Ran seat.old.number (opens seat.old.standing) seat.old.place.me.0 result seat.new.standing seat.new.place.me.0 }
     ensures concludes { Concludes seat.old.standing result seat.new.standing }
     ensures stays { Stays seat.old.standing.depth seat.old.place.me.0 (value_in seat.old.moving) seat.new.place.me.0 (value_in seat.new.moving) }
+    ensures bounded { length seat.new.place.me.0.trail ≤ length seat.old.place.me.0.trail + weight seat.old.limits.seats (length seat.old.place.me.0.popped) seat.old.standing.point }
 {
     loop {
         match make_next(mutex, seat) {
@@ -77,6 +78,7 @@ fn release<T: Kept>(mutex: &Mutex<T>, seat: &mut Seat<T>, call: Call) -> Turn
     ensures answers { Answers (errand_of call) result }
     ensures turned { Turned T.follows T.fits mutex.now.limits call (sight seat.old) (sight seat.new) result }
     ensures made { Made mutex.now.limits call (sight seat.old) (sight seat.new) result }
+    ensures bounded { Makes_at_most (release_steps mutex.now.limits.seats call) (sight seat.old) (sight seat.new) }
 {
     match begin_call(mutex, seat, call) {
         Turn::Open => finish_release(mutex, seat),
@@ -95,6 +97,7 @@ fn finish_release<T: Kept>(mutex: &Mutex<T>, seat: &mut Seat<T>) -> Turn
     ensures last { seat.new.place.me.0.last ≡ value_in seat.old.moving }
     ensures ran { Ran seat.old.number (opens seat.old.standing) seat.old.place.me.0 result seat.new.standing seat.new.place.me.0 }
     ensures concludes { Concludes (record seat.old.standing { depth = 0 }) result seat.new.standing }
+    ensures bounded { length seat.new.place.me.0.trail ≤ length seat.old.place.me.0.trail + weight seat.old.limits.seats (length seat.old.place.me.0.popped) seat.old.standing.point }
 {
     match make_next(mutex, seat) {
         Turn::Open => finish(mutex, seat),
@@ -142,6 +145,7 @@ fn unlock_any<T: Kept>(mutex: &Mutex<T>, seat: &mut Seat<T>) -> Result<Unlocked,
     ensures belongs { Beside seat.old seat.new }
     ensures unlocks { Unlocks (sight seat.old) (sight seat.new) result }
     ensures steps { Makes_call (limits_of mutex.now) (λ x. Answered.Unlocked x) CallNow.Unlock (sight seat.old) (sight seat.new) result }
+    ensures bounded { Makes_at_most ((limits_of mutex.now).seats + 7) (sight seat.old) (sight seat.new) }
 {
     match release(mutex, seat, Call::Unlock) {
         Turn::Ended(Answer::Unlocked(unlocked)) => Ok(unlocked),
@@ -260,7 +264,8 @@ impl<T: Kept> Mutex<T> {
     /// queued, or to nobody. What is in hand then has to follow what was found.
     ///
     /// Refuses, in this order: Asleep, NotOwner (the seat doesn't hold). It never waits, and wakes the seat that it grants
-    /// the mutex, if any. As `unlock` of LFthreads' mutex and of OSv's lfmutex.
+    /// the mutex, if any. Whatever others do, it makes at most 7 atomic steps more than the mutex has seats. As `unlock`
+    /// of LFthreads' mutex and of OSv's lfmutex.
     #[inline(always)]
     pub fn unlock(&self, seat: &mut Seat<T>) -> Result<Unlocked, Refusal>
         requires belongs { Of_mutex seat.old self.now }
@@ -268,6 +273,7 @@ impl<T: Kept> Mutex<T> {
         ensures belongs { Beside seat.old seat.new }
         ensures unlocks { Unlocks (sight seat.old) (sight seat.new) result }
         ensures steps { Makes_call (limits_of self.now) (λ x. Answered.Unlocked x) CallNow.Unlock (sight seat.old) (sight seat.new) result }
+        ensures bounded { Makes_at_most ((limits_of self.now).seats + 7) (sight seat.old) (sight seat.new) }
     {
         if asleep(&seat.standing) {
             return unlock_any(self, seat);
@@ -285,13 +291,15 @@ impl<T: Kept> Mutex<T> {
     /// that ends the wait. It never answers Still.
     ///
     /// Refuses, in this order: Asleep, NotOwner, Nested (the seat holds above depth 1), Spent (it has no take left). It
-    /// never waits: a receive does. As the first half of `wait` of OSv's condition variable.
+    /// never waits: a receive does. Whatever others do, it makes at most 8 atomic steps more than the mutex has seats. As
+    /// the first half of `wait` of OSv's condition variable.
     pub fn start_wait(&self, seat: &mut Seat<T>) -> Result<Unlocked, Refusal>
         requires belongs { Of_mutex seat.old self.now }
         requires leaves { May_leave T.follows T.fits (sight seat.old) }
         ensures belongs { Beside seat.old seat.new }
         ensures waits { Waits (limits_of self.now).budget (sight seat.old) (sight seat.new) result }
         ensures steps { Makes_call (limits_of self.now) (λ x. Answered.Waiting x) CallNow.StartWait (sight seat.old) (sight seat.new) result }
+        ensures bounded { Makes_at_most ((limits_of self.now).seats + 8) (sight seat.old) (sight seat.new) }
     {
         match release(self, seat, Call::StartWait) {
             Turn::Ended(Answer::Waiting(released)) => Ok(released),

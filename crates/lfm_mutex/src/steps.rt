@@ -1,5 +1,5 @@
-//! The steps of a seat by hand: `start` begins a call, and `next` makes the one atomic step at the seat's point. Every call of
-//! a mutex is a run of these.
+//! Single turns of a seat: `start` begins a call, and `next` makes the one atomic step at the seat's point. Every call of a
+//! mutex is a run of these. A caller that knows the kind of the step may call the function of that kind.
 ghost use Rattle.std.specs.Prelude.{◌≡◌, true};
 ghost use Rattle.lfm_protocol.specs.declared.points.Point.TheVariants.{ReleaseOwnerStore};
 ghost use Rattle.lfm_protocol.specs.declared.points.Releaser.{Releaser};
@@ -14,12 +14,17 @@ ghost use Rattle.lfm_mutex.specs.table.Steps.{Leaves, Goes_on};
 use crate::kept::Kept;
 use crate::mutex::Mutex;
 use crate::seat::Seat;
-use crate::table::seat_memory::{
-    add_loaded, advance, drop_oldest, gives, oldest_of, prepare, seat_carries, settle,
-};
-use crate::table::table_steps::make_step;
+use crate::steps::kinds::make_of;
+use lfm_protocol::kinds::Kind;
 use lfm_protocol::{Call, Turn, Why};
-use std::marker::Brand;
+
+mod kinds;
+
+pub use crate::steps::kinds::{
+    add_count, clear_head, exchange_count, exchange_handoff, exchange_push, exchange_wake,
+    load_handoff, load_link, load_owner, load_push, load_wake, store_handoff, store_link,
+    store_owner, store_wake, subtract_count,
+};
 
 /// Begins a call: makes the checks in the order of the refusals, charges the take, and sets the first point. It answers
 /// what the core's `begin` answers for these data of the seat: Open where steps follow, the answer where none does, the
@@ -43,7 +48,25 @@ pub fn next<T: Kept>(mutex: &Mutex<T>, seat: &mut Seat<T>) -> Turn
     ensures belongs { Beside seat.old seat.new }
     ensures steps { Steps_on T.follows T.fits (kind (state_of seat.old).point) (state_of seat.old) (sight seat.old) result (state_of seat.new) (sight seat.new) }
 {
-    make_next(mutex, seat)
+    match seat.standing.point.kind() {
+        None => Turn::Refused(Why::Idle),
+        Some(Kind::CountExchange) => exchange_count(mutex, seat),
+        Some(Kind::CountAdd) => add_count(mutex, seat),
+        Some(Kind::CountSubtract) => subtract_count(mutex, seat),
+        Some(Kind::OwnerLoad) => load_owner(mutex, seat),
+        Some(Kind::OwnerStore) => store_owner(mutex, seat),
+        Some(Kind::PushLoad) => load_push(mutex, seat),
+        Some(Kind::PushExchange) => exchange_push(mutex, seat),
+        Some(Kind::ClearHead) => clear_head(mutex, seat),
+        Some(Kind::LinkLoad) => load_link(mutex, seat),
+        Some(Kind::LinkStore) => store_link(mutex, seat),
+        Some(Kind::HandoffLoad) => load_handoff(mutex, seat),
+        Some(Kind::HandoffStore) => store_handoff(mutex, seat),
+        Some(Kind::HandoffExchange) => exchange_handoff(mutex, seat),
+        Some(Kind::WakeLoad) => load_wake(mutex, seat),
+        Some(Kind::WakeStore) => store_wake(mutex, seat),
+        Some(Kind::WakeExchange) => exchange_wake(mutex, seat),
+    }
 }
 
 /// `start`, with all that the proofs of the calls need of it.
@@ -66,26 +89,8 @@ pub(crate) fn make_next<T: Kept>(mutex: &Mutex<T>, seat: &mut Seat<T>) -> Turn
     ensures same { (seat.new.number ≡ seat.old.number) × (seat.new.limits ≡ seat.old.limits) }
     ensures event { Goes_on (kind seat.old.standing.point) T.follows T.fits seat.old.standing seat.old.moving seat.old.place.me result seat.new.standing seat.new.moving seat.new.place.me }
 {
-    if seat.standing.point.kind().is_none() {
-        return Turn::Refused(Why::Idle);
+    match seat.standing.point.kind() {
+        None => Turn::Refused(Why::Idle),
+        Some(kind) => make_of(mutex, seat, kind),
     }
-    let table = &mutex.table.shared;
-    let may_give = gives(seat.standing.point);
-    drop_oldest(&mut seat.moving, &seat.standing);
-    prepare(table, &mut seat.place, &mut seat.moving, may_give);
-    let found = make_step::<T, Brand>(
-        table,
-        &mut seat.place,
-        &seat.standing,
-        &seat.moving,
-        seat.number,
-        seat.limits.seats,
-    );
-    add_loaded(&mut seat.moving, &seat.standing, seat.number, found);
-    let mut tried = seat.standing;
-    advance(&mut tried, seat.number, found, None);
-    let carries = seat_carries(&tried);
-    settle(table, &mut seat.place, &mut seat.moving, carries);
-    let oldest = oldest_of(&seat.moving);
-    advance(&mut seat.standing, seat.number, found, oldest)
 }

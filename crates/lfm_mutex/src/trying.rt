@@ -103,6 +103,9 @@ pub fn try_free<T: Kept>(
         &begun,
     );
     if found == 0 {
+        // Written here, where the value has just been moved: each stretch between two atomic steps that has writes costs time.
+        seat.standing.depth = 1;
+        seat.standing.takes = takes;
         let entering = SeatState {
             depth: 0,
             takes,
@@ -117,8 +120,6 @@ pub fn try_free<T: Kept>(
             limits,
             &entering,
         );
-        seat.standing.depth = 1;
-        seat.standing.takes = takes;
         return Ok(Locked::Held(How::Free));
     }
     let counted = SeatState {

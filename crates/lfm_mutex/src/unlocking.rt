@@ -1,6 +1,6 @@
 //! `unlock` where nobody waits, made straight on: with its atomic steps and the few fields that change, and with no copy of
 //! the seat's data. Where a step finds more, the seat goes on from its point as any call does.
-ghost use Rattle.std.specs.Prelude.{◌≡◌, ◌<◌, false};
+ghost use Rattle.std.specs.Prelude.{◌≡◌, ◌+◌, ◌<◌, ◌≤◌, length, false};
 ghost use Rattle.lfm_protocol.specs.declared.answers.Answer.TheVariants as Answered;
 ghost use Rattle.lfm_protocol.specs.declared.answers.Call.{Call as CallNow};
 ghost use Rattle.lfm_protocol.specs.declared.answers.Turn.TheVariants.{Ended};
@@ -9,9 +9,10 @@ ghost use Rattle.lfm_protocol.specs.declared.points.Releaser.TheVariants.{Unlock
 ghost use Rattle.lfm_core.specs.table.Words.{stepped_by};
 ghost use Rattle.lfm_mutex.specs.table.Steps.{oldest_in};
 ghost use Rattle.lfm_mutex.specs.Belongs.{Beside, Of_mutex, limits_of};
-ghost use Rattle.lfm_mutex.specs.calls.Runs.{errand, is_release, releasing, Called};
+ghost use Rattle.lfm_mutex.specs.calls.Runs.{errand, is_release, releasing, weight, Called};
 ghost use Rattle.lfm_mutex.specs.calls.Sight.{sight, May_leave, Turned};
 ghost use Rattle.lfm_mutex.specs.calls.Straight.{Course, Comes_to};
+ghost use Rattle.lfm_mutex.specs.calls.Trails.{Makes_at_most};
 
 use crate::calls::finish;
 use crate::kept::Kept;
@@ -33,6 +34,7 @@ fn unlock_on<T: Kept>(mutex: &Mutex<T>, seat: &mut Seat<T>) -> Unlocked
     ensures belongs { seat.new.place.table_id ≡ seat.old.place.table_id }
     ensures same { (seat.new.number ≡ seat.old.number) × (seat.new.limits ≡ seat.old.limits) }
     ensures made { Course T.follows T.fits seat.old.number seat.old.standing seat.old.moving seat.old.place.me.0 (Ended (Answered.Unlocked result)) seat.new.standing seat.new.moving seat.new.place.me.0 }
+    ensures bounded { length seat.new.place.me.0.trail ≤ length seat.old.place.me.0.trail + weight seat.old.limits.seats (length seat.old.place.me.0.popped) seat.old.standing.point }
 {
     match finish(mutex, seat) {
         Turn::Ended(Answer::Unlocked(unlocked)) => unlocked,
@@ -65,6 +67,7 @@ pub fn unlock_last<T: Kept>(mutex: &Mutex<T>, seat: &mut Seat<T>) -> Unlocked
     requires leaves { May_leave T.follows T.fits (sight seat.old) }
     ensures belongs { Beside seat.old seat.new }
     ensures made { Comes_to T.follows T.fits (limits_of mutex.now) CallNow.Unlock (sight seat.old) (sight seat.new) (Ended (Answered.Unlocked result)) }
+    ensures bounded { Makes_at_most ((limits_of mutex.now).seats + 7) (sight seat.old) (sight seat.new) }
 {
     let table = &mutex.table.shared;
     let limits = seat.limits;
@@ -85,6 +88,8 @@ pub fn unlock_last<T: Kept>(mutex: &Mutex<T>, seat: &mut Seat<T>) -> Unlocked
         limits,
         &ending,
     );
+    // Written here, where the value is about to be moved: each stretch between two atomic steps that has writes costs time.
+    seat.standing.depth = 0;
     let ended = SeatState {
         depth: 0,
         takes,
@@ -103,7 +108,6 @@ pub fn unlock_last<T: Kept>(mutex: &Mutex<T>, seat: &mut Seat<T>) -> Unlocked
         stand_carrying(&mut seat.standing, &seat.moving, number, found);
         return unlock_on(mutex, seat);
     }
-    seat.standing.depth = 0;
     Unlocked::Free
 }
 
@@ -115,6 +119,7 @@ pub fn unlock_once<T: Kept>(mutex: &Mutex<T>, seat: &mut Seat<T>) -> Unlocked
     requires deep { 1 < seat.old.standing.depth }
     ensures belongs { Beside seat.old seat.new }
     ensures made { Comes_to T.follows T.fits (limits_of mutex.now) CallNow.Unlock (sight seat.old) (sight seat.new) (Ended (Answered.Unlocked result)) }
+    ensures bounded { Makes_at_most ((limits_of mutex.now).seats + 7) (sight seat.old) (sight seat.new) }
 {
     let _mutex = mutex;
     seat.standing.depth -= 1;

@@ -1,7 +1,7 @@
 //! The driver: a schedule that is driven through a running mutex by `start` and `next`, one thread holding all its seats.
 //!
 //! What it writes are the lines of a replay without the states, so that the words of a running mutex can be compared with
-//! those of the state that is stepped by hand.
+//! those of the core's state.
 ghost use Rattle.lfm_mutex.specs.Belongs.{Beside, Of_mutex};
 ghost use Rattle.std.specs.Prelude.{◌≡◌, All, length};
 
@@ -100,8 +100,9 @@ fn drive_schedule<W: Write>(
 /// Reads a schedule, drives it through a running mutex at its start, and writes a line for each of its lines: what came of
 /// it, as a replay has it, without the state. Returns whether no line was refused.
 ///
-/// Faults, their order, the requests for memory and the flush are those of a replay: Syntax and Limit are written as a line of
-/// their own and then answered; Read and Memory come before anything is written, Write after a prefix of the text.
+/// Faults, their order and the flush are those of a replay: Syntax and Limit are written as a line of their own and then
+/// answered; Read and Memory come before anything is written, Write after a prefix of the text. Memory is asked for for the
+/// input, the lines of the schedule and the mutex, and before the first byte is written.
 pub fn drive<R: Read, W: Write>(
     alloc: Global,
     reader: &mut R,

@@ -29,7 +29,7 @@ use Rattle.lfm_mutex.specs.table.Settled.{Became}
 use Rattle.lfm_mutex.specs.table.Steps.{Event, Goes_on, Leaves}
 use Rattle.lfm_mutex.specs.calls.Runs.{how_held, is_release}
 use Rattle.lfm_mutex.specs.calls.Sight.{Sight, sight_of, is_asleep, is_in_call, sends_of, Concludes, Finds, May_leave}
-use Rattle.lfm_mutex.specs.calls.SeatSteps.{Steps, Keeps_value, Steps_on}
+use Rattle.lfm_mutex.specs.calls.SeatSteps.{Steps, Keeps_value, Steps_on, stores_owner}
 use Rattle.lfm_mutex.proofs.ends.Seats.{depth_seen}
 use Rattle.lfm_mutex.proofs.runs.RunFacts.{no_leaves, how_enters}
 use Rattle.lfm_mutex.proofs.runs.Running.{holds_now, last_one}
@@ -111,6 +111,11 @@ steps_on follows fits None n n' l p q m m' a b turn was number is event =
     (event.0, event.1, λ i. sight_of (number i) (event.1 i) (event.3 i).0 (value_in (event.2 i)))
 steps_on follows fits (Some k) n n' l p q m m' a b turn was number is event =
     told follows fits n n' l p q m m'.0 a b turn was number event (λ z. let f : Some k ≡ None = sym is ∙ z in absurd (cc))
+
+-- a step of another kind than a store of the owner word ends no hold
+pub keeps_at : (k : Kind) (q : Point) → kind q ≡ Some k → stores_owner k ≡ false → is_release q ≡ false
+keeps_at k (ReleaseOwnerStore r) is keeps = let same : Kind.OwnerStore ≡ k = cc in absurd (false≢true (sym keeps ∙ ap stores_owner (sym same)))
+keeps_at k _ is keeps = refl
 
 -- what may be left is told of what is seen, and asked of what the seat has
 pub leaves_at : {T : Type 0} (follows : ℕ → T → T → Type 0) (fits : T → ℕ → Type 0) (n : ℕ) (l : Limits) (p : SeatState) (m : Me (Option (Moving T)) (View T)) (a : Option (Moving T)) → Seated n l p m a

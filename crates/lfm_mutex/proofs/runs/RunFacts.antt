@@ -1,5 +1,5 @@
 -- A call goes on as the same call to its end, each of its steps makes a number fall, and it holds by its last step.
-use Rattle.std.proofs.Common.{◌≡◌, ◌≢◌, ◌⊎◌, ℕ, ◌+◌, ◌-◌, ◌*◌, ◌/◌, ◌%◌, ◌^◌, ◌<◌, ◌≤◌, Bool, true, false, Option, Some, None, nat_eq, refl, sym, ap, ◌∙◌, arith, inl, inr, if◌then◌else◌}
+use Rattle.std.proofs.Common.{◌≡◌, ◌≢◌, ◌⊎◌, ℕ, ◌+◌, ◌-◌, ◌*◌, ◌/◌, ◌%◌, ◌^◌, ◌<◌, ◌≤◌, Bool, true, false, Option, Some, None, nat_eq, refl, sym, ap, subst, ◌∙◌, arith, inl, inr, if◌then◌else◌}
 use Rattle.std.proofs.lemmas.Bool.{cases_eq, ne_eqb, eq-eqb, false≢true}
 use Rattle.lfm_model.specs.declared.answers.How.{How}
 use Rattle.lfm_model.specs.declared.answers.Unlocked.{Unlocked}
@@ -22,8 +22,10 @@ use Rattle.lfm_protocol.specs.Begin.{Stepped, goes_on}
 use Rattle.lfm_protocol.specs.Points.{kind}
 use Rattle.lfm_protocol.specs.Room.{PopFits}
 use Rattle.lfm_core.specs.steady.Steady.{IsSeen}
+use Rattle.lfm_core.specs.steady.Views.{waits_on}
 use Rattle.lfm_core.specs.table.Words.{stepped_by, handoff_of, wake_of, link_of}
-use Rattle.lfm_mutex.specs.calls.Runs.{Errand, locking, trying, releasing, sending, receiving, nothing, pushes, carries_for, errand, Is_turn, left, clearing, weight, how_held, is_release}
+use Rattle.lfm_mutex.specs.calls.Runs.{Errand, locking, trying, releasing, sending, receiving, nothing, pushes, carries_for, errand, Is_turn, left, clearing, collecting, granting, weight, how_held, is_release}
+use Rattle.lfm_mutex.specs.table.Rule.{Collects_within}
 use Rattle.lfm_mutex.proofs.tables.StepFacts.{made_of}
 
 -- The same call
@@ -149,32 +151,36 @@ weight_if : (n k w : ℕ) (b : Bool) (p q : Point) → weight n k p < w → (b �
 weight_if n k w true p q first second = first
 weight_if n k w false p q first second = second refl
 
-falls_releases : (n k : ℕ) (x : SeatState) (r : Releaser) (answer : Unlocked) → Falls n k 2 (releases x r answer)
+falls_releases : (n k : ℕ) (x : SeatState) (r : Releaser) (answer : Unlocked) → Falls n k (1 + waits_on r) (releases x r answer)
 falls_releases n k x Unlocker answer = omega arith
 falls_releases n k x Waiter answer = omega arith
+
+at_most_if : (n k w : ℕ) (b : Bool) (p q : Point) → weight n k p ≤ w → weight n k q ≤ w → weight n k (if b then p else q) ≤ w
+at_most_if n k w true p q first second = first
+at_most_if n k w false p q first second = second
 
 falls_pushed : (n k : ℕ) (x : SeatState) (pusher : Pusher) → Falls n k 1 (pushed x pusher)
 falls_pushed n k x Pusher.Locker = omega arith
 falls_pushed n k x (Pusher.Sender t) = omega arith
 
-falls_granted : (n k : ℕ) (x : SeatState) (carrier : Carrier) (oldest : Record) → Falls n k 2 (granted x carrier oldest)
+falls_granted : (n k : ℕ) (x : SeatState) (carrier : Carrier) (oldest : Record) → Falls n k (granting carrier) (granted x carrier oldest)
 falls_granted n k x Carrier.Locker oldest = omega arith
 falls_granted n k x (Carrier.Releaser r) oldest = falls_releases n k x r (Unlocked.Granted oldest.seat)
 falls_granted n k x (Carrier.Reclaimer r) oldest = falls_releases n k x r (Unlocked.Granted oldest.seat)
 falls_granted n k x Carrier.Sender oldest = omega arith
 
-weight_serves : (n k : ℕ) (carrier : Carrier) (s : ℕ) (r : Record) → weight n k (serves carrier s r) < 3
-weight_serves n k Carrier.Locker s r = weight_if n k 3 (nat_eq r.seat s) _ _ (omega arith) (λ e. omega arith)
+weight_serves : (n k : ℕ) (carrier : Carrier) (s : ℕ) (r : Record) → weight n k (serves carrier s r) ≤ granting carrier
+weight_serves n k Carrier.Locker s r = at_most_if n k 2 (nat_eq r.seat s) _ _ (omega arith) (omega arith)
 weight_serves n k (Carrier.Releaser u) s r = omega arith
 weight_serves n k (Carrier.Reclaimer u) s r = omega arith
 weight_serves n k Carrier.Sender s r = omega arith
 
-weight_take : (n k w : ℕ) (carrier : Carrier) (s : ℕ) (o : Option Record) → clearing n carrier < w → 3 ≤ w → weight n k (take carrier s o) < w
+weight_take : (n k w : ℕ) (carrier : Carrier) (s : ℕ) (o : Option Record) → clearing n carrier < w → granting carrier < w → weight n k (take carrier s o) < w
 weight_take n k w carrier s None less some = less
 weight_take n k w carrier s (Some r) less some = let h = weight_serves n k carrier s r in omega (arith, h, some)
 
 weight_cleared : (n k : ℕ) (carrier : Carrier) (head : ℕ) → weight n k (cleared carrier head) < clearing n carrier
-weight_cleared n k (Carrier.Releaser u) head = weight_if n k (n + 8) (nat_eq head 0) _ _ (omega arith) (λ e. omega arith)
+weight_cleared n k (Carrier.Releaser u) head = weight_if n k (n + 5 + waits_on u) (nat_eq head 0) _ _ (omega arith) (λ e. omega arith)
 weight_cleared n k Carrier.Locker head = omega arith
 weight_cleared n k (Carrier.Reclaimer u) head = omega arith
 weight_cleared n k Carrier.Sender head = omega arith
@@ -186,6 +192,10 @@ weight_looks n k (Pusher.Sender u) d t = omega arith
 carrier_clears : (n : ℕ) (pusher : Pusher) → clearing n (carrier_of pusher) < n + 5
 carrier_clears n Pusher.Locker = omega arith
 carrier_clears n (Pusher.Sender t) = omega arith
+
+carrier_grants : (n : ℕ) (pusher : Pusher) → granting (carrier_of pusher) < n + 5
+carrier_grants n Pusher.Locker = omega arith
+carrier_grants n (Pusher.Sender t) = omega arith
 
 falls_receives : (n k : ℕ) (x : SeatState) (sleeper : Sleeper) (w : Wake) → Falls n k 3 (receives x sleeper w)
 falls_receives n k x sleeper (Grant stamp) = omega arith
@@ -224,54 +234,62 @@ left_falls found old e is small =
       ]
     ]
 
-falls_at : (d t ps s m : ℕ) (o : Option Record) (n k k' : ℕ) (q : Point) → kind q ≢ None → PopFits k n (kind q) → (k' ≡ k + 1 ⊎ (kind q ≢ Some Kind.LinkLoad))
-    → ((pusher : Pusher) (old : Link) → q ≡ PushExchange pusher old → IsSeen (link_of m) old × (old.stamp < 2 ^ 48)) → weight n k' (stepped_by (made_of d t ps q) s m o).seat.point < weight n k q
-falls_at d t ps s m o n k k' Rest some room grows sees = absurd (some refl)
-falls_at d t ps s m o n k k' (Asleep sleeper) some room grows sees = absurd (some refl)
-falls_at d t ps s m o n k k' LockCountAdd some room grows sees = weight_if n k' _ (nat_eq m 0) _ _ (omega arith) (λ e. omega arith)
-falls_at d t ps s m o n k k' LockOwnerLoad some room grows sees = weight_if n k' _ (nat_eq m s) _ _ (omega arith) (λ e. omega arith)
-falls_at d t ps s m o n k k' LockCountSubtract some room grows sees = omega arith
-falls_at d t ps s m o n k k' TryCountExchange some room grows sees = weight_if n k' 6 (nat_eq m 0) _ _ (omega arith) (λ e. omega arith)
-falls_at d t ps s m o n k k' TryOwnerLoad some room grows sees = falls_if n k' 5 (nat_eq m s) _ (goes_on (made_of d t ps TryOwnerLoad) TryHandoffLoad) (omega arith) (λ e. omega arith)
-falls_at d t ps s m o n k k' TryHandoffLoad some room grows sees = falls_if n k' 4 (nat_eq (handoff_of m).seat 0) (busy (made_of d t ps TryHandoffLoad)) _ (omega arith) (λ e. omega arith)
-falls_at d t ps s m o n k k' (TryHandoffExchange old) some room grows sees = falls_if n k' 3 (same_handoff (handoff_of m) old) _ (busy (made_of d t ps (TryHandoffExchange old))) (omega arith) (λ e. omega arith)
-falls_at d t ps s m o n k k' TryCountAdd some room grows sees = omega arith
-falls_at d t ps s m o n k k' (SendWakeExchange u) some room grows sees = falls_claims n k' (made_of d t ps (SendWakeExchange u)) u (wake_of m)
-falls_at d t ps s m o n k k' (SendCountAdd u) some room grows sees = weight_if n k' _ (nat_eq m 0) _ _ (omega arith) (λ e. omega arith)
-falls_at d t ps s m o n k k' (SendPushLook u old) some room grows sees = falls_if n k' (n + 6) (nat_eq (link_of m).next 0) _ (goes_on (made_of d t ps (SendPushLook u old)) (PushedHandoffExchange (Pusher.Sender u) old)) (omega arith) (λ e. omega arith)
-falls_at d t ps s m o n k k' (SendWakeStore u) some room grows sees = omega arith
-falls_at d t ps s m o n k k' (PushLoad pusher) some room grows sees = let h = left_most (link_of m) in omega (arith, h)
-falls_at d t ps s m o n k k' (LinkStore pusher old) some room grows sees = omega arith
-falls_at d t ps s m o n k k' (PushExchange pusher old) some room grows sees =
-    weight_if n k' (n + 2 * left old + 8) (same_link (link_of m) old) _ _ (omega arith) (λ e. let is = sees pusher old refl in let h = left_falls (link_of m) old e is.0 is.1 in omega (arith, h))
-falls_at d t ps s m o n k k' (PushedHandoffLoad pusher) some room grows sees =
-    falls_if n k' (n + 7) (nat_eq (handoff_of m).seat 0) (pushed (made_of d t ps (PushedHandoffLoad pusher)) pusher) _ (let h = falls_pushed n k' (made_of d t ps (PushedHandoffLoad pusher)) pusher in omega (arith, h)) (λ e. weight_looks n k' pusher (m % 65536) (m / 65536))
-falls_at d t ps s m o n k k' (PushedHandoffExchange pusher old) some room grows sees =
-    falls_if n k' (n + 5) (same_handoff (handoff_of m) old) (goes_on (made_of d t ps (PushedHandoffExchange pusher old)) (take (carrier_of pusher) s o)) _
-    (weight_take n k' (n + 5) (carrier_of pusher) s o (carrier_clears n pusher) (omega arith)) (λ e. let h = falls_pushed n k' (made_of d t ps (PushedHandoffExchange pusher old)) pusher in omega (arith, h))
-falls_at d t ps s m o n k k' (ReleaseOwnerStore r) some room grows sees = omega arith
-falls_at d t ps s m o n k k' (ReleaseCountSubtract r) some room grows sees =
-    falls_if n k' (n + 9) (nat_eq m 1) _ (goes_on (made_of d t ps (ReleaseCountSubtract r)) (take (Carrier.Releaser r) s o)) (let h = falls_releases n k' (made_of d t ps (ReleaseCountSubtract r)) r Unlocked.Free in omega (arith, h))
-    (λ e. weight_take n k' (n + 9) (Carrier.Releaser r) s o (omega arith) (omega arith))
-falls_at d t ps s m o n k k' (ReleaseHandoffStore r) some room grows sees = omega arith
-falls_at d t ps s m o n k k' (ReleasePushLook r) some room grows sees =
-    falls_if n k' (n + 6) (nat_eq (link_of m).next 0) _ (goes_on (made_of d t ps (ReleasePushLook r)) (ReleaseHandoffExchange r)) (let h = falls_releases n k' (made_of d t ps (ReleasePushLook r)) r Unlocked.Posted in omega (arith, h)) (λ e. omega arith)
-falls_at d t ps s m o n k k' (ReleaseHandoffExchange r) some room grows sees =
-    falls_if n k' (n + 5) (same_handoff (handoff_of m) (record { seat = s; post = ps })) (goes_on (made_of d t ps (ReleaseHandoffExchange r)) (take (Carrier.Reclaimer r) s o)) _
-    (weight_take n k' (n + 5) (Carrier.Reclaimer r) s o (omega arith) (omega arith)) (λ e. let h = falls_releases n k' (made_of d t ps (ReleaseHandoffExchange r)) r Unlocked.TakenOver in omega (arith, h))
-falls_at d t ps s m o n k k' (WaitWakeStore released) some room grows sees = omega arith
-falls_at d t ps s m o n k k' (TakeClearHead carrier) some room grows sees = weight_cleared n k' carrier (link_of m).next
-falls_at d t ps s m o n k k' (TakeLinkLoad carrier next) some room grows sees =
-    weight_if n k' ((n - k) + 3) (nat_eq (link_of m).next 0) _ _ (let h = weight_serves n k' carrier s (loaded next (link_of m)) in omega (arith, h))
-    (λ e. elim grows [ inl more ↦ omega (arith, more, room) | inr none ↦ absurd (none refl) ])
-falls_at d t ps s m o n k k' (GrantWakeStore carrier oldest) some room grows sees = falls_granted n k' (made_of d t ps (GrantWakeStore carrier oldest)) carrier oldest
-falls_at d t ps s m o n k k' (EnterOwnerStore entrant how) some room grows sees = omega arith
-falls_at d t ps s m o n k k' (ReceiveWakeLoad sleeper) some room grows sees = falls_receives n k' (made_of d t ps (ReceiveWakeLoad sleeper)) sleeper (wake_of m)
-falls_at d t ps s m o n k k' (ReceiveWakeStore stamp) some room grows sees = omega arith
+-- where a record is collected, there is one step less to make than there was room
+weight_collects : (n k : ℕ) (carrier : Carrier) (next : ℕ) → k < n → Collects_within k n (TakeLinkLoad carrier next) → (collecting (n - (k + 1)) carrier < collecting (n - k) carrier) × (granting carrier < collecting (n - k) carrier)
+weight_collects n k Carrier.Locker next room within = (omega (arith, room), omega (arith, room))
+weight_collects n k (Carrier.Releaser u) next room within = (omega (arith, room), omega (arith, within))
+weight_collects n k (Carrier.Reclaimer u) next room within = (omega (arith, room), omega (arith, within))
+weight_collects n k Carrier.Sender next room within = (omega (arith, room), omega (arith, room))
 
-pub falls : (x : SeatState) (s m : ℕ) (o : Option Record) (n k k' : ℕ) → kind x.point ≢ None → PopFits k n (kind x.point) → (k' ≡ k + 1 ⊎ (kind x.point ≢ Some Kind.LinkLoad))
+falls_at : (d t ps s m : ℕ) (o : Option Record) (n k k' : ℕ) (q : Point) → kind q ≢ None → PopFits k n (kind q) → Collects_within k n q → (k' ≡ k + 1 ⊎ (kind q ≢ Some Kind.LinkLoad))
+    → ((pusher : Pusher) (old : Link) → q ≡ PushExchange pusher old → IsSeen (link_of m) old × (old.stamp < 2 ^ 48)) → weight n k' (stepped_by (made_of d t ps q) s m o).seat.point < weight n k q
+falls_at d t ps s m o n k k' Rest some room within grows sees = absurd (some refl)
+falls_at d t ps s m o n k k' (Asleep sleeper) some room within grows sees = absurd (some refl)
+falls_at d t ps s m o n k k' LockCountAdd some room within grows sees = weight_if n k' _ (nat_eq m 0) _ _ (omega arith) (λ e. omega arith)
+falls_at d t ps s m o n k k' LockOwnerLoad some room within grows sees = weight_if n k' _ (nat_eq m s) _ _ (omega arith) (λ e. omega arith)
+falls_at d t ps s m o n k k' LockCountSubtract some room within grows sees = omega arith
+falls_at d t ps s m o n k k' TryCountExchange some room within grows sees = weight_if n k' 6 (nat_eq m 0) _ _ (omega arith) (λ e. omega arith)
+falls_at d t ps s m o n k k' TryOwnerLoad some room within grows sees = falls_if n k' 5 (nat_eq m s) _ (goes_on (made_of d t ps TryOwnerLoad) TryHandoffLoad) (omega arith) (λ e. omega arith)
+falls_at d t ps s m o n k k' TryHandoffLoad some room within grows sees = falls_if n k' 4 (nat_eq (handoff_of m).seat 0) (busy (made_of d t ps TryHandoffLoad)) _ (omega arith) (λ e. omega arith)
+falls_at d t ps s m o n k k' (TryHandoffExchange old) some room within grows sees = falls_if n k' 3 (same_handoff (handoff_of m) old) _ (busy (made_of d t ps (TryHandoffExchange old))) (omega arith) (λ e. omega arith)
+falls_at d t ps s m o n k k' TryCountAdd some room within grows sees = omega arith
+falls_at d t ps s m o n k k' (SendWakeExchange u) some room within grows sees = falls_claims n k' (made_of d t ps (SendWakeExchange u)) u (wake_of m)
+falls_at d t ps s m o n k k' (SendCountAdd u) some room within grows sees = weight_if n k' _ (nat_eq m 0) _ _ (omega arith) (λ e. omega arith)
+falls_at d t ps s m o n k k' (SendPushLook u old) some room within grows sees = falls_if n k' (n + 6) (nat_eq (link_of m).next 0) _ (goes_on (made_of d t ps (SendPushLook u old)) (PushedHandoffExchange (Pusher.Sender u) old)) (omega arith) (λ e. omega arith)
+falls_at d t ps s m o n k k' (SendWakeStore u) some room within grows sees = omega arith
+falls_at d t ps s m o n k k' (PushLoad pusher) some room within grows sees = let h = left_most (link_of m) in omega (arith, h)
+falls_at d t ps s m o n k k' (LinkStore pusher old) some room within grows sees = omega arith
+falls_at d t ps s m o n k k' (PushExchange pusher old) some room within grows sees =
+    weight_if n k' (n + 2 * left old + 8) (same_link (link_of m) old) _ _ (omega arith) (λ e. let is = sees pusher old refl in let h = left_falls (link_of m) old e is.0 is.1 in omega (arith, h))
+falls_at d t ps s m o n k k' (PushedHandoffLoad pusher) some room within grows sees =
+    falls_if n k' (n + 7) (nat_eq (handoff_of m).seat 0) (pushed (made_of d t ps (PushedHandoffLoad pusher)) pusher) _ (let h = falls_pushed n k' (made_of d t ps (PushedHandoffLoad pusher)) pusher in omega (arith, h)) (λ e. weight_looks n k' pusher (m % 65536) (m / 65536))
+falls_at d t ps s m o n k k' (PushedHandoffExchange pusher old) some room within grows sees =
+    falls_if n k' (n + 5) (same_handoff (handoff_of m) old) (goes_on (made_of d t ps (PushedHandoffExchange pusher old)) (take (carrier_of pusher) s o)) _
+    (weight_take n k' (n + 5) (carrier_of pusher) s o (carrier_clears n pusher) (carrier_grants n pusher)) (λ e. let h = falls_pushed n k' (made_of d t ps (PushedHandoffExchange pusher old)) pusher in omega (arith, h))
+falls_at d t ps s m o n k k' (ReleaseOwnerStore r) some room within grows sees = omega arith
+falls_at d t ps s m o n k k' (ReleaseCountSubtract r) some room within grows sees =
+    falls_if n k' (n + 6 + waits_on r) (nat_eq m 1) _ (goes_on (made_of d t ps (ReleaseCountSubtract r)) (take (Carrier.Releaser r) s o)) (let h = falls_releases n k' (made_of d t ps (ReleaseCountSubtract r)) r Unlocked.Free in omega (arith, h))
+    (λ e. weight_take n k' (n + 6 + waits_on r) (Carrier.Releaser r) s o (omega arith) (omega arith))
+falls_at d t ps s m o n k k' (ReleaseHandoffStore r) some room within grows sees = omega arith
+falls_at d t ps s m o n k k' (ReleasePushLook r) some room within grows sees =
+    falls_if n k' (n + 3 + waits_on r) (nat_eq (link_of m).next 0) _ (goes_on (made_of d t ps (ReleasePushLook r)) (ReleaseHandoffExchange r)) (let h = falls_releases n k' (made_of d t ps (ReleasePushLook r)) r Unlocked.Posted in omega (arith, h)) (λ e. omega arith)
+falls_at d t ps s m o n k k' (ReleaseHandoffExchange r) some room within grows sees =
+    falls_if n k' (n + 2 + waits_on r) (same_handoff (handoff_of m) (record { seat = s; post = ps })) (goes_on (made_of d t ps (ReleaseHandoffExchange r)) (take (Carrier.Reclaimer r) s o)) _
+    (weight_take n k' (n + 2 + waits_on r) (Carrier.Reclaimer r) s o (omega arith) (omega arith)) (λ e. let h = falls_releases n k' (made_of d t ps (ReleaseHandoffExchange r)) r Unlocked.TakenOver in omega (arith, h))
+falls_at d t ps s m o n k k' (WaitWakeStore released) some room within grows sees = omega arith
+falls_at d t ps s m o n k k' (TakeClearHead carrier) some room within grows sees = weight_cleared n k' carrier (link_of m).next
+falls_at d t ps s m o n k k' (TakeLinkLoad carrier next) some room within grows sees =
+    let less = weight_collects n k carrier next room within in
+    weight_if n k' (collecting (n - k) carrier) (nat_eq (link_of m).next 0) _ _ (let h = weight_serves n k' carrier s (loaded next (link_of m)) in omega (arith, h, less.1))
+    (λ e. elim grows [ inl more ↦ subst (λ (j : ℕ). collecting (n - j) carrier < collecting (n - k) carrier) (sym more) less.0 | inr none ↦ absurd (none refl) ])
+falls_at d t ps s m o n k k' (GrantWakeStore carrier oldest) some room within grows sees = falls_granted n k' (made_of d t ps (GrantWakeStore carrier oldest)) carrier oldest
+falls_at d t ps s m o n k k' (EnterOwnerStore entrant how) some room within grows sees = omega arith
+falls_at d t ps s m o n k k' (ReceiveWakeLoad sleeper) some room within grows sees = falls_receives n k' (made_of d t ps (ReceiveWakeLoad sleeper)) sleeper (wake_of m)
+falls_at d t ps s m o n k k' (ReceiveWakeStore stamp) some room within grows sees = omega arith
+
+pub falls : (x : SeatState) (s m : ℕ) (o : Option Record) (n k k' : ℕ) → kind x.point ≢ None → PopFits k n (kind x.point) → Collects_within k n x.point → (k' ≡ k + 1 ⊎ (kind x.point ≢ Some Kind.LinkLoad))
     → ((pusher : Pusher) (old : Link) → x.point ≡ PushExchange pusher old → IsSeen (link_of m) old × (old.stamp < 2 ^ 48)) → weight n k' (stepped_by x s m o).seat.point < weight n k x.point
-falls x s m o n k k' some room grows sees = falls_at x.depth x.takes x.posts s m o n k k' x.point some room grows sees
+falls x s m o n k k' some room within grows sees = falls_at x.depth x.takes x.posts s m o n k k' x.point some room within grows sees
 
 -- No step leads to the store that ends a hold
 

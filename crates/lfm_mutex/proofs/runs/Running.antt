@@ -1,5 +1,5 @@
 -- A run of a call, one step longer.
-use Rattle.std.proofs.Common.{◌≡◌, ◌≢◌, ◌⊎◌, ℕ, ◌+◌, ◌-◌, ◌<◌, nat_eq, if◌then◌else◌, Bool, true, false, Option, Some, None, List, [], ◌∷◌, ◌++◌, length, refl, sym, ap, subst, ◌∙◌, arith, inl, inr, append_assoc, append-nil}
+use Rattle.std.proofs.Common.{◌≡◌, ◌≢◌, ◌⊎◌, ℕ, ◌+◌, ◌-◌, ◌<◌, ◌≤◌, nat_eq, if◌then◌else◌, Bool, true, false, Option, Some, None, List, [], ◌∷◌, ◌++◌, length, refl, sym, ap, subst, ◌∙◌, arith, inl, inr, append_assoc, append-nil, length-append}
 use Rattle.std.specs.Prelude.{⊤, nat_lt, ◌&&◌, Result, Ok}
 use Rattle.std.proofs.lemmas.Bool.{false≢true}
 use Rattle.lfm_model.specs.declared.answers.Unlocked.{Unlocked}
@@ -7,6 +7,7 @@ use Rattle.lfm_model.specs.declared.refusals.Refusal.{Refusal}
 use Rattle.lfm_protocol.specs.declared.answers.Answer.{Answer}
 use Rattle.lfm_protocol.specs.declared.answers.Call.{Call}
 use Rattle.lfm_protocol.specs.declared.limits.Limits.{Limits}
+use Rattle.lfm_protocol.specs.declared.points.Carrier.{Carrier}
 use Rattle.lfm_protocol.specs.declared.points.Releaser.{Releaser}
 use Rattle.lfm_protocol.specs.declared.points.Releaser.TheVariants.{Unlocker, Waiter}
 use Rattle.lfm_protocol.specs.declared.points.Sleeper.{Sleeper}
@@ -36,8 +37,8 @@ use Rattle.lfm_core.specs.table.Words.{stepped_by, popped_of}
 use Rattle.lfm_mutex.specs.declared.table.seat_view.Seen.{Seen}
 use Rattle.lfm_mutex.specs.declared.table.seat_view.View.{View}
 use Rattle.lfm_mutex.specs.declared.table.rule.Moving.{Moving}
-use Rattle.lfm_mutex.specs.table.Rule.{seen, value_in, is_carried, Hands}
-use Rattle.lfm_mutex.specs.calls.Runs.{Errand, nothing, errand, Is_turn, Ends, weight, end_of, trail_of, Ran, opens, is_release, locking, trying, releasing, sending, answers_for, errand_of, is_releasing, Answers, Called_by, Called, how_held, Counts, Holds}
+use Rattle.lfm_mutex.specs.table.Rule.{seen, value_in, is_carried, Hands, Collects_within}
+use Rattle.lfm_mutex.specs.calls.Runs.{Errand, nothing, errand, Is_turn, Ends, weight, end_of, trail_of, Ran, opens, is_release, locking, trying, releasing, sending, answers_for, errand_of, is_releasing, release_steps, Answers, Called_by, Called, how_held, Counts, Holds}
 use Rattle.lfm_mutex.specs.Reach.{Reached}
 use Rattle.lfm_mutex.specs.table.Seats.{Seated}
 use Rattle.lfm_mutex.specs.table.Steps.{Event, Goes_on, Value_goes}
@@ -120,11 +121,18 @@ fits_same : (k j n : ℕ) (b : Option Kind) → (b ≡ Some Kind.LinkLoad → k 
 fits_same k j n (Some Kind.LinkLoad) same fits = let e = same refl in omega (arith, e, fits)
 fits_same k j n _ same fits = fits
 
+collects_same : (k j n : ℕ) (q : Point) → (kind q ≡ Some Kind.LinkLoad → k ≡ j) → Collects_within k n q → Collects_within j n q
+collects_same k j n (TakeLinkLoad (Carrier.Releaser releaser) next) same within = let e = same refl in omega (arith, e, within)
+collects_same k j n (TakeLinkLoad (Carrier.Reclaimer releaser) next) same within = let e = same refl in omega (arith, e, within)
+collects_same k j n _ same within = tt
+
 -- the number of steps that are left falls with each
 pub steps_left : {T : Type 0} (follows : ℕ → T → T → Type 0) (suits : T → ℕ → Type 0) (seats s : ℕ) (p q : SeatState) (v w : View T) (a b : Option (Moving T)) (turn : Turn) → kind p.point ≢ None → v.limits.seats ≡ seats → IsReady seats s p
     → Event follows suits p a v turn q b w → weight seats (length w.popped) q.point < weight seats (length v.popped) p.point
 steps_left follows suits seats s p q v w a b turn some sized ready e =
     let same : kind p.point ≡ Some Kind.LinkLoad → length e.did.popped ≡ length v.popped = (λ is. ap (λ (l : List Record). length l) (e.did.had (carrying p (loads_carry p.point is)))) in
+    let within : Collects_within (length v.popped) seats p.point =
+    collects_same (length e.did.popped) (length v.popped) seats p.point same (subst (λ (n : ℕ). Collects_within (length e.did.popped) n p.point) sized e.did.collects) in
     let room : PopFits (length v.popped) seats (kind p.point) = fits_same (length e.did.popped) (length v.popped) seats (kind p.point) same (subst (λ (n : ℕ). PopFits (length e.did.popped) n (kind p.point)) sized e.did.room) in
     let long : length w.popped ≡ length (popped_of p (target p.point v.number) e.found e.did.popped (kind p.point)) = ap (λ (l : List Record). length l) e.did.listed in
     let grows : (length w.popped ≡ length v.popped + 1) ⊎ (kind p.point ≢ Some Kind.LinkLoad) =
@@ -134,8 +142,19 @@ steps_left follows suits seats s p q v w a b turn some sized ready e =
     ]
     in
     subst (λ (x : SeatState). weight seats (length w.popped) x.point < weight seats (length v.popped) p.point) (sym e.seat_is)
-    (falls p v.number e.found (oldest e.did.popped) seats (length v.popped) (length w.popped) some room grows
+    (falls p v.number e.found (oldest e.did.popped) seats (length v.popped) (length w.popped) some room within grows
     (λ pusher old at. (e.did.sees pusher old at, (subst (λ (x : Point). PacksLink (expected_push_at x)) at ready.expected_push).stamp)))
+
+pub trail_grows : {T : Type 0} (follows : ℕ → T → T → Type 0) (suits : T → ℕ → Type 0) (p q : SeatState) (v w : View T) (a b : Option (Moving T)) (turn : Turn) → Event follows suits p a v turn q b w → length w.trail ≡ length v.trail + 1
+trail_grows follows suits p q v w a b turn e = ap (λ (l : List Seen). length l) e.did.trail ∙ length-append v.trail (seen p.point e.found ∷ [])
+
+-- what has been made and what is left come to no more with each step
+pub bounded_more : {T : Type 0} (follows : ℕ → T → T → Type 0) (suits : T → ℕ → Type 0) (seats s : ℕ) (p q : SeatState) (v w : View T) (a b : Option (Moving T)) (turn : Turn) → kind p.point ≢ None → v.limits.seats ≡ seats → IsReady seats s p
+    → Event follows suits p a v turn q b w → length w.trail + weight seats (length w.popped) q.point ≤ length v.trail + weight seats (length v.popped) p.point
+bounded_more follows suits seats s p q v w a b turn some sized ready e =
+    let less = steps_left follows suits seats s p q v w a b turn some sized ready e in
+    let longer = trail_grows follows suits p q v w a b turn e in
+    omega (arith, less, longer)
 
 pub ends_of : (e d : Errand) (t : Turn) (q : Point) → t ≢ Open → e ≡ d → Is_turn e t q → Ends d t
 ends_of e d Open q some same is = absurd (some refl)
@@ -323,6 +342,19 @@ pub begun_release : (p q : SeatState) (l : Limits) (call : Call) → is_releasin
 begun_release p q l call is is_open is_q =
     let told = subst (λ (t : Turn). Told_release t (Begin.begin p l call).seat.point) is_open (told_at p l call p.point is) in
     (told.0, ap (λ (x : SeatState). x.point) is_q ∙ told.1)
+
+-- so many steps follow the begin of a release
+weight_released : (n k : ℕ) (call : Call) (r : Releaser) → releasing r ≡ errand_of call → weight n k (ReleaseOwnerStore r) ≡ release_steps n call
+weight_released n k Call.Unlock Unlocker is = omega arith
+weight_released n k Call.Unlock Waiter is = absurd (cc)
+weight_released n k Call.StartWait Unlocker is = absurd (cc)
+weight_released n k Call.StartWait Waiter is = omega arith
+weight_released n k _ r is = absurd (cc)
+
+pub weight_begun : (n k : ℕ) (p q : SeatState) (l : Limits) (call : Call) → is_releasing (errand_of call) ≡ true → (Begin.begin p l call).turn ≡ Open → q ≡ (Begin.begin p l call).seat → weight n k q.point ≡ release_steps n call
+weight_begun n k p q l call is is_open is_q =
+    let stands = begun_release p q l call is is_open is_q in
+    ap (weight n k) stands.1 ∙ weight_released n k call stands.0 (ap errand (sym stands.1) ∙ (ap (λ (x : SeatState). errand x.point) is_q ∙ begun_open p l call is_open))
 
 -- The hold that a call ends with
 

@@ -1,9 +1,10 @@
 -- What the facts of a steady state say of one seat's step, in the form that a table's rule needs.
-use Rattle.std.proofs.Common.{◌≡◌, ℕ, ◌+◌, ◌<◌, Bool, true, false, length, nat_eq, refl, sym, ap, subst, ◌∙◌, arith, inl, inr, if◌then◌else◌}
+use Rattle.std.proofs.Common.{◌≡◌, ℕ, ◌+◌, ◌<◌, ◌≤◌, Bool, true, false, length, nat_eq, refl, sym, ap, subst, ◌∙◌, arith, inl, inr, if◌then◌else◌}
 use Rattle.std.proofs.lemmas.Bool.{cases_eq, ne_eqb, eq-eqb}
 use Rattle.lfm_model.specs.declared.answers.How.{How}
 use Rattle.lfm_words.specs.declared.links.Link.{Link}
 use Rattle.lfm_words.specs.Words.{link_word}
+use Rattle.lfm_protocol.specs.declared.points.Carrier.{Carrier}
 use Rattle.lfm_protocol.specs.declared.points.Entrant.{Entrant}
 use Rattle.lfm_protocol.specs.declared.points.Point.{Point}
 use Rattle.lfm_protocol.specs.declared.points.Point.TheVariants.{Rest, Asleep, LockCountAdd, LockOwnerLoad, LockCountSubtract, TryCountExchange, TryOwnerLoad, TryHandoffLoad, TryHandoffExchange, TryCountAdd, SendWakeExchange, SendCountAdd, SendPushLook, SendWakeStore, PushLoad, LinkStore, PushExchange, PushedHandoffLoad, PushedHandoffExchange, ReleaseOwnerStore, ReleaseCountSubtract, ReleaseHandoffStore, ReleasePushLook, ReleaseHandoffExchange, WaitWakeStore, TakeClearHead, TakeLinkLoad, GrantWakeStore, EnterOwnerStore, ReceiveWakeLoad, ReceiveWakeStore}
@@ -11,21 +12,23 @@ use Rattle.lfm_protocol.specs.declared.points.Pusher.{Pusher}
 use Rattle.lfm_protocol.specs.declared.seats.SeatState.{SeatState}
 use Rattle.lfm_core.specs.table.Carried.{carries_value}
 use Rattle.lfm_protocol.specs.Core.{Core, put, limits}
-use Rattle.lfm_core.specs.steady.Ghost.{Responsibility, nobody, owned, granted, posted, entering, accepting, leaving, serving, Ghost}
+use Rattle.lfm_core.specs.steady.Ghost.{apart, Responsibility, nobody, owned, granted, posted, entering, accepting, leaving, serving, Ghost}
 use Rattle.lfm_protocol.specs.Points.{kind}
 use Rattle.lfm_protocol.specs.Room.{PopFits}
 use Rattle.lfm_protocol.specs.Seats.{seat, IsSeat}
 use Rattle.lfm_core.specs.table.Settles.{Settles}
-use Rattle.lfm_core.specs.steady.Steady.{DepthOfPusher, DepthAt, IsSeen, Fits, owner_of}
+use Rattle.lfm_core.specs.steady.Steady.{DepthOfPusher, DepthAt, IsSeen, Fits, owner_of, queued_unit}
 use Rattle.lfm_core.specs.steady.Views.{claim_at, claim_of_pusher, claim_to_enter, held_by}
 use Rattle.lfm_core.specs.table.Words.{link_of}
 use Rattle.lfm_core.proofs.steady.frames.Entries.{seat-with_same, length-with_entry}
-use Rattle.lfm_core.proofs.steady.Room.{has_room_of_fits}
+use Rattle.lfm_core.proofs.steady.frames.Sums.{sum_bound_less}
+use Rattle.lfm_core.proofs.steady.Room.{has_room_of_fits, queued_unit-le}
 use Rattle.lfm_core.proofs.table.Answered.{answered_at_hold}
 use Rattle.lfm_core.proofs.table.Exact.{push_narrow}
 use Rattle.lfm_core.proofs.table.Packing.{link_packed}
 use Rattle.lfm_core.proofs.table.Settled.{settles_keeps, is_seat-with}
 use Rattle.lfm_core.proofs.table.Values.{carried_as_held}
+use Rattle.lfm_mutex.specs.table.Rule.{Collects_within}
 
 -- The owner word
 
@@ -121,6 +124,15 @@ owner_told c g s is fits =
       (λ deep. fits.words.owner ∙ owner_of_held g.place s is.above (mine ∙ sym (deep_owner x.depth s deep))),
     )
 
+-- The pop list
+
+-- beside a seat that has no record, the pop list and what is collected come to no more than the other seats
+walk_room : (c : Core) (g : Ghost) (s : ℕ) → Fits c g → IsSeat c.seats s → g.standing s ≡ apart → 0 < g.walk → length c.popped + 2 ≤ length c.seats
+walk_room c g s fits is stands some =
+    let none : queued_unit (g.standing s) + 1 ≤ 1 = rw stands (omega arith) in
+    let most = sum_bound_less (length c.seats) 1 s (λ t. queued_unit (g.standing t)) is.above is.within (λ t. queued_unit-le (g.standing t)) none in
+    omega (arith, most, fits.sums.queued, fits.words.parts, some)
+
 -- A seat that has become p without a step
 
 module _ (c : Core) (g : Ghost) (s : ℕ) (p : SeatState) (is : IsSeat c.seats s) (fits : Fits c g) (settles : Settles (seat c.seats s) (limits c) p) where
@@ -154,6 +166,15 @@ module _ (c : Core) (g : Ghost) (s : ℕ) (p : SeatState) (is : IsSeat c.seats s
 
   pub push_seen : (pusher : Pusher) (old : Link) → p.point ≡ PushExchange pusher old → IsSeen c.push old
   push_seen pusher old at = let knows = rw (ap (λ (x : SeatState). x.point) here ∙ at) at (settled.each s).knows in knows.1
+
+  collects_at : (q : Point) → (seat d.seats s).point ≡ q → Collects_within (length d.popped) (length d.seats) q
+  collects_at (TakeLinkLoad (Carrier.Releaser releaser) next) at = walk_room d g s settled is_there (rw at at (settled.each s).stands) (rw at at (settled.each s).knows).0
+  collects_at (TakeLinkLoad (Carrier.Reclaimer releaser) next) at = walk_room d g s settled is_there (rw at at (settled.each s).stands) (rw at at (settled.each s).knows).0
+  collects_at _ at = tt
+
+  -- where a releaser collects, its own seat has no record
+  pub collects : Collects_within (length c.popped) (length c.seats) p.point
+  collects = subst (λ (n : ℕ). Collects_within (length c.popped) n p.point) (length-with_entry c.seats s p) (collects_at p.point (ap (λ (x : SeatState). x.point) here))
 
   pub push_found : link_of (link_word c.push) ≡ c.push
   push_found = link_packed c.push (push_narrow c g fits)

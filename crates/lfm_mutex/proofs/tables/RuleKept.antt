@@ -38,7 +38,7 @@ use Rattle.lfm_mutex.specs.declared.table.seat_view.Joined.{Joined}
 use Rattle.lfm_mutex.specs.declared.table.seat_view.View.{View}
 use Rattle.lfm_mutex.specs.declared.table.rule.Moving.{Moving}
 use Rattle.lfm_mutex.specs.Reach.{Leads, Reached}
-use Rattle.lfm_mutex.specs.table.Rule.{seen, retired, retired_at, total, Roots, left_by, Sits, Leads_to, Awaits, Same_root, With_seat, Held, Hands, Knows, Advanced}
+use Rattle.lfm_mutex.specs.table.Rule.{seen, retired, retired_at, total, Roots, left_by, Sits, Leads_to, Awaits, Same_root, With_seat, Held, Hands, Knows, Collects_within, Advanced}
 use Rattle.lfm_mutex.specs.table.Settled.{Became}
 use Rattle.lfm_mutex.specs.table.Steps.{stores, Ready}
 use Rattle.lfm_mutex.proofs.tables.CoreFacts as core
@@ -299,6 +299,7 @@ module _ {T : Type 0} (follows : ℕ → T → T → Type 0) (suits : T → ℕ 
         answered = λ carries. answers ∙ ap (λ m. m + length (answered_by num st.turn)) (sym (was carries).answered);
         ready = ready_after;
         room = subst (λ (m : ℕ). PopFits (length c.popped) m (kind p.point)) (sym seats_are) (core.room c g num p is h.fits settles);
+        collects = subst (λ (m : ℕ). Collects_within (length c.popped) m p.point) (sym seats_are) (core.collects c g num p is h.fits settles);
         shallow = knows;
         stamped = λ entrant stamp e. ap (λ m. m + 1) (was (carrying p (ap carries e))).answered ∙ core.stamp_told c g num p is h.fits settles entrant stamp e;
         owner = λ is_load. let o = owner_of_load is_load in let told = core.owner_found c g num p is h.fits settles in (

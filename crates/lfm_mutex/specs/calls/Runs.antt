@@ -24,6 +24,7 @@ use Rattle.lfm_protocol.specs.declared.points.Releaser.{Releaser}
 use Rattle.lfm_protocol.specs.declared.points.Releaser.TheVariants.{Unlocker, Waiter}
 use Rattle.lfm_protocol.specs.declared.seats.SeatState.{SeatState}
 use Rattle.lfm_protocol.specs.Begin.{Stepped}
+use Rattle.lfm_core.specs.steady.Views.{waits_on}
 use Rattle.lfm_core.specs.table.Words.{stepped_by}
 use Rattle.lfm_mutex.specs.declared.table.seat_view.Seen.{Seen}
 use Rattle.lfm_mutex.specs.declared.table.seat_view.View.{View}
@@ -116,8 +117,20 @@ abbrev pub left : Link → ℕ
 left l = 2 * (2 ^ 48 - l.stamp) + (if nat_eq l.next 0 then 0 else 1)
 
 abbrev pub clearing : ℕ → Carrier → ℕ
-clearing n (Carrier.Releaser releaser) = n + 8
+clearing n (Carrier.Releaser releaser) = n + 5 + waits_on releaser
+clearing n (Carrier.Reclaimer releaser) = n + 1 + waits_on releaser
 clearing n _ = n + 4
+
+-- where the pop list has room for so many records
+abbrev pub collecting : ℕ → Carrier → ℕ
+collecting room (Carrier.Releaser releaser) = room + waits_on releaser
+collecting room (Carrier.Reclaimer releaser) = room + waits_on releaser
+collecting room _ = room + 3
+
+abbrev pub granting : Carrier → ℕ
+granting (Carrier.Releaser releaser) = 1 + waits_on releaser
+granting (Carrier.Reclaimer releaser) = 1 + waits_on releaser
+granting _ = 2
 
 -- at this point, where there are n seats and the pop list has k records
 abbrev pub weight : ℕ → ℕ → Point → ℕ
@@ -140,18 +153,23 @@ weight n k (LinkStore pusher old) = n + 2 * left old + 9
 weight n k (PushExchange pusher old) = n + 2 * left old + 8
 weight n k (PushedHandoffLoad pusher) = n + 7
 weight n k (PushedHandoffExchange pusher old) = n + 5
-weight n k (ReleaseOwnerStore releaser) = n + 10
-weight n k (ReleaseCountSubtract releaser) = n + 9
-weight n k (ReleaseHandoffStore releaser) = n + 7
-weight n k (ReleasePushLook releaser) = n + 6
-weight n k (ReleaseHandoffExchange releaser) = n + 5
+weight n k (ReleaseOwnerStore releaser) = n + 7 + waits_on releaser
+weight n k (ReleaseCountSubtract releaser) = n + 6 + waits_on releaser
+weight n k (ReleaseHandoffStore releaser) = n + 4 + waits_on releaser
+weight n k (ReleasePushLook releaser) = n + 3 + waits_on releaser
+weight n k (ReleaseHandoffExchange releaser) = n + 2 + waits_on releaser
 weight n k (WaitWakeStore released) = 1
 weight n k (TakeClearHead carrier) = clearing n carrier
-weight n k (TakeLinkLoad carrier next) = (n - k) + 3
-weight n k (GrantWakeStore carrier oldest) = 2
+weight n k (TakeLinkLoad carrier next) = collecting (n - k) carrier
+weight n k (GrantWakeStore carrier oldest) = granting carrier
 weight n k (EnterOwnerStore entrant how) = 1
 weight n k (ReceiveWakeLoad sleeper) = 3
 weight n k (ReceiveWakeStore stamp) = 2
+
+-- what a call that releases makes at most, among n seats
+abbrev pub release_steps : ℕ → Call → ℕ
+release_steps n Call.StartWait = n + 8
+release_steps n _ = n + 7
 
 -- Runs
 

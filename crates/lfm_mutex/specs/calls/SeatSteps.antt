@@ -1,5 +1,5 @@
--- One turn of a seat by hand: a call that begins, or one atomic step, each as the core has it for that seat.
-use Rattle.std.specs.Prelude.{◌≡◌, ℕ, [], ◌∷◌, ◌++◌, false, true, Option, Some, None}
+-- One turn of a seat: a call that begins, or one atomic step, each as the core has it for that seat.
+use Rattle.std.specs.Prelude.{◌≡◌, ℕ, [], ◌∷◌, ◌++◌, Bool, false, true, Option, Some, None}
 use Rattle.lfm_model.specs.declared.answers.How.{How}
 use Rattle.lfm_words.specs.declared.pop_lists.Record.{Record}
 use Rattle.lfm_protocol.specs.declared.answers.Call.{Call}
@@ -14,6 +14,11 @@ use Rattle.lfm_core.specs.table.Words.{stepped_by}
 use Rattle.lfm_mutex.specs.table.Rule.{seen}
 use Rattle.lfm_mutex.specs.calls.Runs.{how_held, is_release}
 use Rattle.lfm_mutex.specs.calls.Sight.{Sight, is_asleep, is_in_call, Finds}
+
+-- only a store of the owner word can end a hold
+abbrev pub stores_owner : Kind → Bool
+stores_owner Kind.OwnerStore = true
+stores_owner _ = false
 
 -- a seat with the data x, which is seen as s, begins a call
 abbrev pub Begins : {T : Type 0} → Limits → Call → SeatState → Sight T → Turn → SeatState → Sight T → Type 0

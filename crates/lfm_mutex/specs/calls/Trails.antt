@@ -1,5 +1,5 @@
 -- The steps of a call: the ones that the protocol asks for, each after those before it, and the answer that the last one gives.
-use Rattle.std.specs.Prelude.{◌≡◌, ◌⊎◌, ⊤, ℕ, List, [], ◌∷◌, ◌++◌, Option, Some, None, Result, Ok, Err}
+use Rattle.std.specs.Prelude.{◌≡◌, ◌⊎◌, ⊤, ℕ, ◌+◌, ◌≤◌, List, [], ◌∷◌, ◌++◌, length, Option, Some, None, Result, Ok, Err}
 use Rattle.lfm_model.specs.declared.answers.Asked.{Asked}
 use Rattle.lfm_model.specs.declared.answers.How.{How}
 use Rattle.lfm_model.specs.declared.answers.Locked.{Locked}
@@ -30,6 +30,10 @@ abbrev pub Leads : Turn → ℕ → SeatState → List Seen → Turn → SeatSta
 Leads Open n q trail turn y trail' =
     (finds : List (ℕ × Option Record)) × (end_of n (opens q) finds ≡ record { seat = y; turn = turn }) × (trail' ≡ trail ++ trail_of n q finds)
 Leads first n q trail turn y trail' = (turn ≡ first) × (y ≡ q) × (trail' ≡ trail)
+
+-- the seat has made so many steps at most
+abbrev pub Makes_at_most : {T : Type 0} → ℕ → Sight T → Sight T → Type 0
+Makes_at_most k s t = length t.trail ≤ length s.trail + k
 
 module _ {T : Type 0} (l : Limits) where
   -- the call of a seat seen as s ends with this turn, and the seat is then seen as t

@@ -10,9 +10,10 @@ use Rattle.lfm_words.specs.declared.pop_lists.Record.{Record}
 use Rattle.lfm_words.specs.Popped.{oldest}
 use Rattle.lfm_protocol.specs.declared.kinds.Kind.{Kind}
 use Rattle.lfm_protocol.specs.declared.limits.Limits.{Limits}
+use Rattle.lfm_protocol.specs.declared.points.Carrier.{Carrier}
 use Rattle.lfm_protocol.specs.declared.points.Entrant.{Entrant}
 use Rattle.lfm_protocol.specs.declared.points.Point.{Point}
-use Rattle.lfm_protocol.specs.declared.points.Point.TheVariants.{Rest, TryOwnerLoad, PushExchange, ReleaseOwnerStore, EnterOwnerStore}
+use Rattle.lfm_protocol.specs.declared.points.Point.TheVariants.{Rest, TryOwnerLoad, PushExchange, ReleaseOwnerStore, TakeLinkLoad, EnterOwnerStore}
 use Rattle.lfm_protocol.specs.declared.points.Pusher.{Pusher}
 use Rattle.lfm_protocol.specs.declared.seats.SeatState.{SeatState}
 use Rattle.lfm_core.specs.table.Carried.{carries_value}
@@ -150,6 +151,12 @@ left_by _ new old = old
 
 -- The rule
 
+-- a seat that releases has no record of its own, so beside the record that it loads next the pop list has at most so many
+abbrev pub Collects_within : ℕ → ℕ → Point → Type 0
+Collects_within popped seats (TakeLinkLoad (Carrier.Releaser releaser) next) = popped + 2 ≤ seats
+Collects_within popped seats (TakeLinkLoad (Carrier.Reclaimer releaser) next) = popped + 2 ≤ seats
+Collects_within popped seats _ = ⊤
+
 -- what the view at place j has of the state
 pub record Sits {T : Type 0} (c : Core) (j : ℕ) (v : View T) : Type 0 where
   pub number : v.number ≡ j + 1
@@ -243,6 +250,7 @@ module _ {T : Type 0} (follows : ℕ → T → T → Type 0) (suits : T → ℕ 
     pub answered : carries_value p ≡ true → m'.0.answered ≡ m.0.answered + length (answered_by m.0.number (stepped_by p m.0.number n (oldest popped)).turn)
     pub ready : IsReady m.0.limits.seats m.0.number (stepped_by p m.0.number n (oldest popped)).seat
     pub room : PopFits (length popped) m.0.limits.seats (kind p.point)
+    pub collects : Collects_within (length popped) m.0.limits.seats p.point
     pub shallow : carries_value p ≡ true → p.depth ≡ 0 → Knows m.0
     pub stamped : (entrant : Entrant) (stamp : ℕ) → p.point ≡ EnterOwnerStore entrant (How.Queued stamp) → m.0.answered + 1 ≡ stamp
     pub owner : kind p.point ≡ Some Kind.OwnerLoad → (n ≡ m.0.number → 0 < p.depth) × (0 < p.depth → n ≡ m.0.number)

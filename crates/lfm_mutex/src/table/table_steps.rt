@@ -3,9 +3,9 @@
 //!
 //! `plain` is the seat's plain data before the step and `hand` what the seat has in its own memory: contracts speak of both,
 //! and B tells them to the play of the step.
-ghost use Rattle.std.specs.Prelude.{◌≡◌, ◌≢◌, ◌<◌, Some, None};
+ghost use Rattle.std.specs.Prelude.{◌≡◌, ◌<◌, Some};
 ghost use Rattle.lfm_protocol.specs.declared.kinds.Kind.{Kind as KindNow};
-ghost use Rattle.lfm_protocol.specs.Points.{kind};
+ghost use Rattle.lfm_protocol.specs.Points.{kind, kind as kind_of};
 ghost use Rattle.lfm_mutex.specs.table.Rule.{Advanced, value_in};
 ghost use Rattle.lfm_mutex.specs.table.Steps.{CanMake};
 
@@ -383,8 +383,9 @@ pub fn exchange_wake<T: Kept, B: Plain<T>>(
     table.compare_exchange::<Stepped<B>>(place, 3 + seats as usize + t as usize, 1, 2)
 }
 
-/// The atomic step at the seat's point, of whatever kind it is: the number that it found, or stored.
+/// The atomic step at the seat's point, which is of this kind: the number that it found, or stored.
 pub fn make_step<T: Kept, B: Plain<T>>(
+    kind: Kind,
     table: &SharedTable<T>,
     place: &mut Place<T>,
     plain: &SeatState,
@@ -395,33 +396,28 @@ pub fn make_step<T: Kept, B: Plain<T>>(
     requires plain { (B.standing ≡ plain.now) × (B.hand ≡ value_in hand.now) }
     requires table { place.old.table_id ≡ table.now.table_id }
     requires can { CanMake T.follows T.fits plain.now (value_in hand.now) number seats table.now.table_id.words place.old.me }
-    requires open { kind plain.now.point ≢ None }
+    requires is_next { kind_of plain.now.point ≡ Some kind }
     ensures table { (place.new.table_id ≡ place.old.table_id) × (place.new.id ≡ place.old.id) }
     ensures step { Advanced T.follows T.fits plain.now (value_in hand.now) place.old.me result place.new.me }
 {
-    match plain.point.kind() {
-        None => unreachable!(),
-        Some(Kind::CountExchange) => exchange_count::<T, B>(
-            table, place, plain, hand, number, seats,
-        ),
-        Some(Kind::CountAdd) => add_count::<T, B>(table, place, plain, hand, number, seats),
-        Some(Kind::CountSubtract) => subtract_count::<T, B>(
-            table, place, plain, hand, number, seats,
-        ),
-        Some(Kind::OwnerLoad) => load_owner::<T, B>(table, place, plain, hand, number, seats),
-        Some(Kind::OwnerStore) => store_owner::<T, B>(table, place, plain, hand, number, seats),
-        Some(Kind::PushLoad) => load_push::<T, B>(table, place, plain, hand, number, seats),
-        Some(Kind::PushExchange) => exchange_push::<T, B>(table, place, plain, hand, number, seats),
-        Some(Kind::ClearHead) => clear_head::<T, B>(table, place, plain, hand, number, seats),
-        Some(Kind::LinkLoad) => load_link::<T, B>(table, place, plain, hand, number, seats),
-        Some(Kind::LinkStore) => store_link::<T, B>(table, place, plain, hand, number, seats),
-        Some(Kind::HandoffLoad) => load_handoff::<T, B>(table, place, plain, hand, number, seats),
-        Some(Kind::HandoffStore) => store_handoff::<T, B>(table, place, plain, hand, number, seats),
-        Some(Kind::HandoffExchange) => {
+    match kind {
+        Kind::CountExchange => exchange_count::<T, B>(table, place, plain, hand, number, seats),
+        Kind::CountAdd => add_count::<T, B>(table, place, plain, hand, number, seats),
+        Kind::CountSubtract => subtract_count::<T, B>(table, place, plain, hand, number, seats),
+        Kind::OwnerLoad => load_owner::<T, B>(table, place, plain, hand, number, seats),
+        Kind::OwnerStore => store_owner::<T, B>(table, place, plain, hand, number, seats),
+        Kind::PushLoad => load_push::<T, B>(table, place, plain, hand, number, seats),
+        Kind::PushExchange => exchange_push::<T, B>(table, place, plain, hand, number, seats),
+        Kind::ClearHead => clear_head::<T, B>(table, place, plain, hand, number, seats),
+        Kind::LinkLoad => load_link::<T, B>(table, place, plain, hand, number, seats),
+        Kind::LinkStore => store_link::<T, B>(table, place, plain, hand, number, seats),
+        Kind::HandoffLoad => load_handoff::<T, B>(table, place, plain, hand, number, seats),
+        Kind::HandoffStore => store_handoff::<T, B>(table, place, plain, hand, number, seats),
+        Kind::HandoffExchange => {
             exchange_handoff::<T, B>(table, place, plain, hand, number, seats)
         }
-        Some(Kind::WakeLoad) => load_wake::<T, B>(table, place, plain, hand, number, seats),
-        Some(Kind::WakeStore) => store_wake::<T, B>(table, place, plain, hand, number, seats),
-        Some(Kind::WakeExchange) => exchange_wake::<T, B>(table, place, plain, hand, number, seats),
+        Kind::WakeLoad => load_wake::<T, B>(table, place, plain, hand, number, seats),
+        Kind::WakeStore => store_wake::<T, B>(table, place, plain, hand, number, seats),
+        Kind::WakeExchange => exchange_wake::<T, B>(table, place, plain, hand, number, seats),
     }
 }

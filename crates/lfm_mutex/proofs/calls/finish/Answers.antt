@@ -1,9 +1,9 @@
-use Rattle.std.proofs.Common.{◌≡◌, ◌≢◌, ℕ, ◌<◌, length, None, sym, ap, ◌∙◌, subst}
+use Rattle.std.proofs.Common.{◌≡◌, ◌≢◌, ℕ, ◌+◌, ◌<◌, ◌≤◌, length, None, sym, ap, ◌∙◌, subst, arith}
 use Rattle.lfm_protocol.specs.declared.answers.Turn.TheVariants.{Open}
 use Rattle.lfm_protocol.specs.Points.{kind}
 use Rattle.lfm_mutex.specs.calls.Runs.{weight, Holds}
 use Rattle.lfm_mutex.proofs.runs.RunFacts.{open_point}
-use Rattle.lfm_mutex.proofs.runs.Running.{event_of, ran_more, last_more, turn_more, release_more, steps_left, ends_of, holds_now}
+use Rattle.lfm_mutex.proofs.runs.Running.{event_of, bounded_more, ran_more, last_more, turn_more, release_more, steps_left, ends_of, holds_now}
 use Rattle.lfm_mutex.specs.table.Rule.{value_in}
 use Rattle.lfm_mutex.specs.calls.Sight.{Concludes}
 use Rattle.lfm_mutex.proofs.runs.Sights.{concludes_now, stays_now, concludes_join, stays_join}
@@ -22,7 +22,11 @@ loop-ended-preserved g c = let l = c.loop-ended.seat in let i = c.loop-ended.inv
     let e = event_of g.T.Kept.follows g.T.Kept.fits (kind l.standing.point) l.standing s.standing l.place.me s.place.me l.moving s.moving Open some c.in-Open.ensures.event in
     let named : l.place.me.0.number ≡ first.number = l.seated.named ∙ i.same.0 in
     let told : Concludes l.standing Open s.standing = concludes_now g.T.Kept.follows g.T.Kept.fits first.number l.standing s.standing l.place.me.0 s.place.me.0 l.moving s.moving Open named e some i.keeps in
+    let less = bounded_more g.T.Kept.follows g.T.Kept.fits l.limits.seats l.number l.standing s.standing l.place.me.0 s.place.me.0 l.moving s.moving Open some (ap (λ l. l.seats) l.seated.limits_are) l.ready e in
+    let kept = i.bounded in
     record {
+      bounded = subst (λ (n : ℕ). length s.place.me.0.trail + weight n (length s.place.me.0.popped) s.standing.point ≤ length first.place.me.0.trail + weight first.limits.seats (length first.place.me.0.popped) first.standing.point) (ap (λ l. l.seats) (sym c.make_next.ensures.same.1))
+          (omega (arith, less, kept));
       concludes = concludes_join first.standing l.standing s.standing Open i.concludes told;
       stays = stays_join first.standing.depth l.standing.depth first.place.me.0 l.place.me.0 s.place.me.0 (value_in first.moving) (value_in l.moving) (value_in s.moving) i.concludes.0 i.stays
           (stays_now g.T.Kept.follows g.T.Kept.fits first.number l.standing s.standing l.place.me.0 s.place.me.0 l.moving s.moving Open named e i.keeps told);
@@ -40,7 +44,10 @@ returns-in_default g c = let l = c.loop-ended.seat in let i = c.loop-ended.invar
     let e = event_of g.T.Kept.follows g.T.Kept.fits (kind l.standing.point) l.standing s.standing l.place.me s.place.me l.moving s.moving c.make_next.result some c.make_next.ensures.event in
     let named : l.place.me.0.number ≡ first.number = l.seated.named ∙ i.same.0 in
     let told : Concludes l.standing c.make_next.result s.standing = concludes_now g.T.Kept.follows g.T.Kept.fits first.number l.standing s.standing l.place.me.0 s.place.me.0 l.moving s.moving c.make_next.result named e some i.keeps in
+    let less = bounded_more g.T.Kept.follows g.T.Kept.fits l.limits.seats l.number l.standing s.standing l.place.me.0 s.place.me.0 l.moving s.moving c.make_next.result some (ap (λ l. l.seats) l.seated.limits_are) l.ready e in
+    let kept = i.bounded in
     record {
+      bounded = omega (arith, less, kept);
       concludes = concludes_join first.standing l.standing s.standing c.make_next.result i.concludes told;
       stays = stays_join first.standing.depth l.standing.depth first.place.me.0 l.place.me.0 s.place.me.0 (value_in first.moving) (value_in l.moving) (value_in s.moving) i.concludes.0 i.stays
           (stays_now g.T.Kept.follows g.T.Kept.fits first.number l.standing s.standing l.place.me.0 s.place.me.0 l.moving s.moving c.make_next.result named e i.keeps told);

@@ -1,9 +1,9 @@
-use Rattle.std.proofs.Common.{ℕ, Option, sym, ap, subst, ◌∙◌}
+use Rattle.std.proofs.Common.{ℕ, ◌+◌, ◌≤◌, Option, length, sym, ap, subst, ◌∙◌, arith}
 use Rattle.lfm_mutex.specs.declared.table.seat_view.View.{View}
 use Rattle.lfm_mutex.specs.declared.table.rule.Moving.{Moving}
-use Rattle.lfm_mutex.specs.calls.Runs.{Ran, opens}
+use Rattle.lfm_mutex.specs.calls.Runs.{Ran, opens, weight, release_steps}
 use Rattle.lfm_mutex.specs.table.Steps.{Leaves}
-use Rattle.lfm_mutex.proofs.runs.Running.{begun_release, called_steps, called_at_once}
+use Rattle.lfm_mutex.proofs.runs.Running.{begun_release, weight_begun, called_steps, called_at_once}
 use Rattle.lfm_mutex.specs.table.Rule.{value_in}
 use Rattle.lfm_mutex.specs.calls.Sight.{sight_of, Turned}
 use Rattle.lfm_mutex.proofs.runs.Sights.{begun, turned_by_release, turned_at_once, called_ends, may_leave, release_deep}
@@ -54,3 +54,14 @@ returns-in_default-clause-made g c = let s = c.args.seat.now in let b = c.begin_
     subst (λ (l : Limits). Made l c.args.call (sight_of s.number s.standing s.place.me.0 (value_in s.moving)) (sight_of b.number b.standing b.place.me.0 (value_in b.moving)) c.begin_call.result) c.requires.belongs.1
     (makes s.limits c.args.call s.number b.number s.standing b.standing s.place.me.0 b.place.me.0 (value_in s.moving) (value_in b.moving) c.begin_call.result c.begin_call.ensures.same.1
     (called_at_once s.number s.limits c.args.call s.standing b.standing s.place.me.0 b.place.me.0 c.begin_call.result (λ z. c.in_default.not-Open z) c.begin_call.ensures.turn c.begin_call.ensures.seat (ap (λ p. p.me.0) c.begin_call.ensures.same.0)).0)
+
+pub returns-in-Open-clause-bounded : goal.returns-in-Open-clause-bounded
+returns-in-Open-clause-bounded g c = let s = c.args.seat.now in let b = c.begin_call.new.seat in let f = c.finish_release.new.seat in
+    let most = weight_begun b.limits.seats (length b.place.me.0.popped) s.standing b.standing s.limits c.args.call c.requires.gives (sym c.in-Open.ensures.turn) c.in-Open.ensures.seat in
+    let made = subst (λ (n : ℕ). length f.place.me.0.trail ≤ length b.place.me.0.trail + n) most c.finish_release.ensures.bounded in
+    subst (λ (t : View g.row.T.Denot × Limits). length f.place.me.0.trail ≤ length t.0.trail + release_steps t.1.seats c.args.call)
+    (λ i. (ap (λ p. p.me.0) c.begin_call.ensures.same.0 i, (c.begin_call.ensures.same.2 ∙ c.requires.belongs.1) i)) made
+
+pub returns-in_default-clause-bounded : goal.returns-in_default-clause-bounded
+returns-in_default-clause-bounded g c = let s = c.args.seat.now in let b = c.begin_call.new.seat in
+    let same = ap (λ p. length p.me.0.trail) c.begin_call.ensures.same.0 in omega (arith, same)

@@ -1,4 +1,4 @@
-use Rattle.std.proofs.Common.{◌≡◌, refl, sym, subst, arith}
+use Rattle.std.proofs.Common.{◌≡◌, ◌+◌, ◌≤◌, length, refl, sym, ap, subst, arith}
 use Rattle.lfm_model.specs.declared.answers.Unlocked.{Unlocked}
 use Rattle.lfm_protocol.specs.declared.answers.Answer.{Answer}
 use Rattle.lfm_protocol.specs.declared.answers.Call.{Call}
@@ -9,10 +9,11 @@ use Rattle.lfm_protocol.specs.declared.seats.SeatState.{SeatState}
 use Rattle.lfm_core.specs.table.Words.{stepped_by}
 use Rattle.lfm_mutex.specs.table.Rule.{value_in}
 use Rattle.lfm_mutex.specs.table.Steps.{Event, oldest_in}
-use Rattle.lfm_mutex.specs.calls.Runs.{opens}
+use Rattle.lfm_mutex.specs.calls.Runs.{opens, weight}
 use Rattle.lfm_mutex.specs.calls.Sight.{sight_of}
 use Rattle.lfm_mutex.specs.calls.Straight.{Fit, Course, Comes_to}
 use Rattle.lfm_mutex.proofs.runs.Courses.{course_none, course_next, course_join, gives_up}
+use Rattle.lfm_mutex.proofs.runs.Running.{trail_grows, bounded_more}
 use Rattle.lfm_mutex.proofs.runs.Sights.{may_leave}
 use Rattle.lfm_mutex.proofs.runs.StraightPoints.{begins_last, fit_begun, freed, not_freed}
 use Rattle.lfm_mutex.proofs.tables.StepFacts.{made_of}
@@ -60,3 +61,28 @@ returns-clause-made g c =
     subst (λ (x : SeatState). Comes_to g.T.Kept.follows g.T.Kept.fits c.args.mutex.now.limits Call.Unlock (sight_of s.number s.standing s.place.me.0 (value_in s.moving)) (sight_of s.number x b.me.0 (value_in f.new.moving)) turn)
     (λ i. record { depth = 0; takes = t; posts = ps; point = sym c.requires.rests i })
     (gives_up g.T.Kept.follows g.T.Kept.fits s.number s.place.table_id.words s.place.id h.new.place.table_id.words h.new.place.id s.number h.result s.limits p0 p1 s.place.me h.new.place.me s.moving fit refl h.ensures.step refl c.args.mutex.now.limits s.standing (made_of 0 t ps Rest) turn f.new.moving b.me.0 c.requires.belongs.1 refl begins refl so)
+
+pub returns-then-found-ne1-clause-bounded : goal.returns-then-found-ne1-clause-bounded
+returns-then-found-ne1-clause-bounded g c =
+    let s = c.args.seat.now in let t = s.standing.takes in let ps = s.standing.posts in
+    let p0 = made_of 1 t ps (ReleaseOwnerStore Unlocker) in let p1 = made_of 0 t ps (ReleaseCountSubtract Unlocker) in
+    let h = c.store_held in let f = c.subtract_last-found in let b = f.new.place in let r = c.unlock_on.new.seat in
+    let st = stepped_by p1 s.number f.result (oldest_in f.new.moving) in
+    let first = stepped_by p0 s.number h.result (oldest_in s.moving) in
+    let fit1 : Fit s.number h.new.place.table_id.words h.new.place.id s.limits p1 h.new.place.me s.moving = h.ensures.step.fit in
+    let one = trail_grows g.T.Kept.follows g.T.Kept.fits p0 first.seat s.place.me.0 h.new.place.me.0 s.moving s.moving first.turn h.ensures.step.event in
+    let most = bounded_more g.T.Kept.follows g.T.Kept.fits s.limits.seats s.number p1 st.seat h.new.place.me.0 b.me.0 s.moving f.new.moving st.turn (λ e. cc) (ap (λ l. l.seats) fit1.seated.limits_are) fit1.ready f.ensures.step.event in
+    let then = subst (λ (x : SeatState). length r.place.me.0.trail ≤ length b.me.0.trail + weight s.limits.seats (length b.me.0.popped) x.point) c.stand_carrying.ensures c.unlock_on.ensures.bounded in
+    let same = ap (λ l. l.seats) c.requires.belongs.1 in
+    omega (arith, one, most, then, same)
+
+pub returns-clause-bounded : goal.returns-clause-bounded
+returns-clause-bounded g c =
+    let s = c.args.seat.now in let t = s.standing.takes in let ps = s.standing.posts in
+    let p0 = made_of 1 t ps (ReleaseOwnerStore Unlocker) in let p1 = made_of 0 t ps (ReleaseCountSubtract Unlocker) in
+    let h = c.store_held in let f = c.subtract_last-found in
+    let first = stepped_by p0 s.number h.result (oldest_in s.moving) in
+    let st = stepped_by p1 s.number f.result (oldest_in f.new.moving) in
+    let one = trail_grows g.T.Kept.follows g.T.Kept.fits p0 first.seat s.place.me.0 h.new.place.me.0 s.moving s.moving first.turn h.ensures.step.event in
+    let two = trail_grows g.T.Kept.follows g.T.Kept.fits p1 st.seat h.new.place.me.0 f.new.place.me.0 s.moving f.new.moving st.turn f.ensures.step.event in
+    omega (arith, one, two)

@@ -4,7 +4,7 @@ use Rattle.lfm_mutex.specs.table.Rule.{value_in}
 use Rattle.lfm_mutex.specs.table.Seats.{Rooted}
 use Rattle.lfm_mutex.specs.table.Steps.{kept_out, put_in, CanMake}
 use Rattle.lfm_mutex.proofs.tables.SeatKept.{can_make, slot_there, made_next, open_event}
-use Rattle.lfm_mutex.proofs.steps.make_next.Goals as goal
+use Rattle.lfm_mutex.proofs.steps.kinds.make_of.Goals as goal
 
 pub make_step-found-requires-clause-can : goal.make_step-found-requires-clause-can
 make_step-found-requires-clause-can g c κs within = let s = c.args.seat.now in
@@ -43,6 +43,4 @@ returns-clause-event g c = let s = c.args.seat.now in
     c.settle.new.moving c.prepare.new.place.me c.make_step-found.new.place.me c.settle.new.place.me c.advance.new.standing c.advance-2.new.standing c.advance-2.result c.oldest_of-oldest.result
     c.gives-may_give.ensures c.drop_oldest.ensures c.prepare.ensures.moving c.prepare.ensures.slot c.make_step-found.ensures.step c.add_loaded.ensures c.advance.ensures.seat c.seat_carries-carries.ensures c.settle.ensures.took c.oldest_of-oldest.ensures
     c.advance-2.ensures.seat c.advance-2.ensures.turn
-    in
-    let some : kind s.standing.point ≢ None = search rules in
-    open_event g.T.Kept.follows g.T.Kept.fits (kind s.standing.point) s.standing c.advance-2.new.standing s.place.me c.settle.new.place.me s.moving c.settle.new.moving c.advance-2.result some m.event
+    in m.event

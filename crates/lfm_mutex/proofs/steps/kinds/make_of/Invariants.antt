@@ -1,5 +1,5 @@
 use Rattle.lfm_mutex.specs.table.Rule.{value_in}
-use Rattle.lfm_mutex.proofs.steps.make_next.Given as goal
+use Rattle.lfm_mutex.proofs.steps.kinds.make_of.Given as goal
 
 abbrev pub ghosts-make_step : goal.ghosts-make_step
 ghosts-make_step g a = record { standing = a.plain.now; hand = value_in a.hand.now }

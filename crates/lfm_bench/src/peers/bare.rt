@@ -1,0 +1,138 @@
+//! The bare atomic steps of the mutex's calls, over a table whose rule says nothing: what the steps alone cost, with no
+//! mutex and no promise.
+ghost use Rattle.std.specs.Prelude.{◌≡◌, ◌≤◌, IfOk};
+
+use atomic_table::{Play, Seat, Shared, Table, TableRule};
+use std::alloc::{AllocError, Global};
+
+/// The rule that says nothing.
+pub struct Anything;
+
+impl<S> TableRule<S, (), ()> for Anything {
+    ghost holds = { λ _ _. Unit {0} };
+
+    ghost first = { λ _. tt };
+}
+
+impl<S> Play<S, ()> for Anything {
+    ghost then = { λ _ _ _ _. Unit {0} };
+}
+
+/// The words of no mutex.
+pub type BareTable = Table<u8, (), (), Anything, Global>;
+
+/// A seat of such a table.
+pub type BareSeat = Seat<u8, ()>;
+
+const COUNT: usize = 0;
+
+const OWNER: usize = 1;
+
+const HANDOFF: usize = 2;
+
+/// The number of the seat that makes the steps.
+const SELF: u64 = 1;
+
+/// The number of another seat.
+const OTHER: u64 = 2;
+
+/// As many words as a mutex of two seats has.
+const WORDS: [u64; 8] = [0; 8];
+
+/// A table of as many words as a mutex of two seats has, all 0, and its seat.
+pub fn bare_table(alloc: Global) -> Result<(BareTable, BareSeat), AllocError>
+    ensures { IfOk result (λ t. (t.1.table_id ≡ t.0.shared.table_id) × (3 ≤ t.0.shared.table_id.words)) }
+{
+    Table::of_words(alloc, &WORDS, &())
+}
+
+/// The steps of one seat.
+#[derive(Drop)]
+pub struct Steps<'a> {
+    table: &'a Shared<u8, (), (), Anything>,
+    seat: BareSeat,
+    ghost fits: { (seat.table_id ≡ table.now.table_id) × (3 ≤ table.now.table_id.words) },
+}
+
+impl<'a> Steps<'a> {
+    /// The steps of this seat over its table.
+    pub fn new(table: &'a Shared<u8, (), (), Anything>, seat: BareSeat) -> Steps<'a>
+        requires { (seat.table_id ≡ table.now.table_id) × (3 ≤ table.now.table_id.words) }
+    {
+        Steps { table, seat }
+    }
+
+    /// A lock and an unlock that meet nobody: add, store, store, subtract. Returns whether the count was as they leave it.
+    #[inline(always)]
+    pub fn pair(&mut self) -> bool {
+        if self.table.fetch_add::<Anything>(&mut self.seat, COUNT, 1) != 0 {
+            return false;
+        }
+        self.table.store::<Anything>(&mut self.seat, OWNER, SELF);
+        self.table.store::<Anything>(&mut self.seat, OWNER, 0);
+        self.table.fetch_sub::<Anything>(&mut self.seat, COUNT, 1) == 1
+    }
+
+    /// A try_lock that gains the mutex, and its unlock: compare-exchange, store, store, subtract. Returns whether the count
+    /// was as they leave it.
+    #[inline(always)]
+    pub fn hit(&mut self) -> bool {
+        if self
+            .table
+            .compare_exchange::<Anything>(&mut self.seat, COUNT, 0, 1)
+            != 0
+        {
+            return false;
+        }
+        self.table.store::<Anything>(&mut self.seat, OWNER, SELF);
+        self.table.store::<Anything>(&mut self.seat, OWNER, 0);
+        self.table.fetch_sub::<Anything>(&mut self.seat, COUNT, 1) == 1
+    }
+
+    /// A lock of a holder, whose unlock makes no step: add, load, subtract. Returns whether the seat was the owner.
+    #[inline(always)]
+    pub fn again(&mut self) -> bool {
+        if self.table.fetch_add::<Anything>(&mut self.seat, COUNT, 1) == 0 {
+            return false;
+        }
+        let owner = self.table.load::<Anything>(&mut self.seat, OWNER);
+        self.table.fetch_sub::<Anything>(&mut self.seat, COUNT, 1);
+        owner == SELF
+    }
+
+    /// A try_lock while another seat holds: a compare-exchange that fails, and two loads. Returns whether another seat was the
+    /// owner and no handoff was posted.
+    #[inline(always)]
+    pub fn miss(&mut self) -> bool {
+        if self
+            .table
+            .compare_exchange::<Anything>(&mut self.seat, COUNT, 0, 1)
+            == 0
+        {
+            return false;
+        }
+        let owner = self.table.load::<Anything>(&mut self.seat, OWNER);
+        let handoff = self.table.load::<Anything>(&mut self.seat, HANDOFF);
+        owner == OTHER && handoff == 0
+    }
+
+    /// Sets the words as they are while this seat holds.
+    pub fn hold(&mut self) {
+        self.set(1, SELF);
+    }
+
+    /// Sets the words as they are while another seat holds.
+    pub fn be_held(&mut self) {
+        self.set(1, OTHER);
+    }
+
+    /// Sets the words as they are while nobody holds.
+    pub fn be_free(&mut self) {
+        self.set(0, 0);
+    }
+
+    fn set(&mut self, count: u64, owner: u64) {
+        self.table.store::<Anything>(&mut self.seat, COUNT, count);
+        self.table.store::<Anything>(&mut self.seat, OWNER, owner);
+    }
+}

@@ -1,0 +1,82 @@
+//! Our mutex, as a thread uses it.
+ghost use Rattle.std.specs.Prelude.{◌≡◌, ℕ, IfSome};
+ghost use Rattle.lfm_mutex.specs.Belongs.{Of_mutex};
+ghost use mathlib.Core.Option.{some};
+ghost use lib.ListN.{get_elem?};
+
+use lfm_model::{Locked, Refusal, Unlocked};
+use lfm_mutex::{Mutex, Seat};
+use std::sync::Wait;
+
+/// A mutex and one of its seats.
+#[derive(Drop)]
+pub struct User<'a> {
+    mutex: &'a Mutex<u64>,
+    seat: Seat<u64>,
+    ghost belongs: { Of_mutex seat mutex.now },
+}
+
+impl<'a> User<'a> {
+    /// The user of this seat, which is one of the mutex's.
+    pub fn new(mutex: &'a Mutex<u64>, seat: Seat<u64>) -> User<'a>
+        requires { Of_mutex seat mutex.now }
+    {
+        User { mutex, seat }
+    }
+
+    /// `lock`. Returns whether the mutex was gained, and not held before.
+    #[inline(always)]
+    pub fn lock<R: Wait>(&mut self, rt: &R) -> bool {
+        let locked = self.mutex.lock(rt, &mut self.seat);
+        matches!(locked, Ok(Locked::Held(_)))
+    }
+
+    /// `lock` of a seat that is to hold already. Returns whether its hold was deepened.
+    #[inline(always)]
+    pub fn lock_again<R: Wait>(&mut self, rt: &R) -> bool {
+        let locked = self.mutex.lock(rt, &mut self.seat);
+        matches!(locked, Ok(Locked::Again(_)))
+    }
+
+    /// `try_lock`. Returns whether the mutex was gained, and not held before.
+    #[inline(always)]
+    pub fn try_lock(&mut self) -> bool {
+        let locked = self.mutex.try_lock(&mut self.seat);
+        matches!(locked, Ok(Locked::Held(_)))
+    }
+
+    /// `try_lock` while another seat is to hold. Returns whether it was refused for that.
+    #[inline(always)]
+    pub fn miss(&mut self) -> bool {
+        let locked = self.mutex.try_lock(&mut self.seat);
+        matches!(locked, Err(Refusal::Busy))
+    }
+
+    /// `unlock`. Returns whether the seat held.
+    #[inline(always)]
+    pub fn unlock(&mut self) -> bool {
+        self.mutex.unlock(&mut self.seat).is_ok()
+    }
+
+    /// Adds 1 to the value in hand.
+    #[inline(always)]
+    pub fn add_one(&mut self) {
+        if let Some(value) = self.seat.value_mut() {
+            *value = value.wrapping_add(1);
+        }
+    }
+
+    /// The value in hand, where the seat holds.
+    pub fn value(&self) -> Option<u64> {
+        self.seat.value().copied()
+    }
+}
+
+/// The user of the last of these seats, which are the mutex's. None where there is none.
+pub fn last_user<'a>(mutex: &'a Mutex<u64>, seats: &mut Vec<Seat<u64>>) -> Option<User<'a>>
+    requires { (j : ℕ) (s : _) → get_elem? seats.old.items j ≡ some s → Of_mutex s mutex.now }
+    ensures { (j : ℕ) (s : _) → get_elem? seats.new.items j ≡ some s → Of_mutex s mutex.now }
+{
+    let seat = seats.pop()?;
+    Some(User::new(mutex, seat))
+}

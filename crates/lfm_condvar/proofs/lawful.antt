@@ -1,0 +1,11 @@
+-- The laws of condition variables over the core: the invariant, what steps of the mutex keep of it, each event, and the laws
+-- of the states that runs reach.
+pub mod Tickets
+pub mod Invariant
+pub mod points
+pub mod mutex
+pub mod Frames
+pub mod Outcomes
+pub mod events
+pub mod Runs
+pub mod reached

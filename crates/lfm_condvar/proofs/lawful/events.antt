@@ -1,0 +1,5 @@
+-- That each event keeps the invariant.
+pub mod MutexEvents
+pub mod LockEvents
+pub mod AppendEvent
+pub mod ClaimEvent

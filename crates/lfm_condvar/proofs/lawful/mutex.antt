@@ -1,0 +1,5 @@
+-- What one begin or one step of the user mutex does to wake words, to other seats and to its own, and runs of them.
+pub mod WakeWords
+pub mod MutexMoves
+pub mod OwnSeat
+pub mod MutexRuns

@@ -1,0 +1,5 @@
+-- The laws, from the invariant of the state that a run reaches.
+pub mod ClaimsFound
+pub mod WaitsSent
+pub mod ListOrder
+pub mod OneWait

@@ -1,0 +1,111 @@
+-- What the laws of condition variables say, of every state that a run reaches.
+use Rattle.std.specs.Prelude.{◌≡◌, ◌≢◌, ◌⊎◌, ◌↔◌, ℕ, true, false, ◌+◌, ◌≤◌, List, [], ◌∷◌, length, map, Contains, AllPairs}
+use Rattle.std.specs.List.{range_with_len}
+use Rattle.lfm_protocol.specs.declared.limits.Limits.{Limits}
+use Rattle.lfm_protocol.specs.declared.points.Point.TheVariants.{Rest, SendWakeExchange}
+use Rattle.lfm_words.specs.declared.wakes.Wake.TheVariants.{Waiting}
+use Rattle.lfm_protocol.specs.Limits.{are_in_limits}
+use Rattle.lfm_protocol.specs.Seats.{seat, wake}
+use Rattle.lfm_protocol.specs.Step.{step}
+use Rattle.lfm_protocol.specs.Turns.{is_open}
+use Rattle.lfm_core.specs.laws.Laws.{IsReached}
+use Rattle.lfm_condvar.specs.laws.Claims.{claim_record, claims_on, seats_with}
+use Rattle.lfm_condvar.specs.laws.Condvars.{Waiter, Condvar, locking_to_wait, receiving, CondvarCore, point_of, is_listed, condvar_start}
+use Rattle.lfm_condvar.specs.laws.Events.{CondvarEvent, reached}
+
+-- a run of one user mutex and its condvars, for any number of seats and any budget in their limits
+pub record CondvarRun : Type 0 where
+  pub limits : Limits
+  pub events : List CondvarEvent
+  pub allowed : are_in_limits limits.seats limits.budget ≡ true
+
+-- the state that it reaches
+abbrev pub reached_by : CondvarRun → CondvarCore
+reached_by r = reached r.limits r.events
+
+-- the waiters of this condvar that its wakes claimed, in order
+abbrev pub claims_of : CondvarRun → ℕ → List Waiter
+claims_of r v = claims_on v (claim_record (condvar_start r.limits) r.events)
+
+-- the seats of the claims with this condvar and ticket
+abbrev pub claims_with : CondvarRun → ℕ → ℕ → List ℕ
+claims_with r v ticket = seats_with ticket (claims_of r v)
+
+-- The user mutex
+
+-- calls and single steps of the user mutex alone reach the same state of it, so all laws of schedules hold of it
+abbrev pub CoresAreReached : Type 0
+CoresAreReached = (r : CondvarRun) → IsReached (reached_by r).mutex
+
+-- Claims
+
+-- each seat that is about to make the exchange of a send_lock finds WAITING, so its claim succeeds
+abbrev pub ClaimsNeverFail : Type 0
+ClaimsNeverFail =
+    (r : CondvarRun) (s t : ℕ) → point_of (reached_by r) s ≡ SendWakeExchange t
+    → (wake (reached_by r).mutex.wakes t ≡ Waiting) × (is_open (step (reached_by r).mutex s).turn ≡ true)
+
+-- no ticket is claimed twice
+abbrev pub TicketsAreClaimedOnce : Type 0
+TicketsAreClaimedOnce = (r : CondvarRun) (v ticket : ℕ) → length (claims_with r v ticket) ≤ 1
+
+-- the claims of a condvar are of its tickets 1, 2, 3 and on, in order; where its lock is free, they are those that count as sent
+abbrev pub ClaimsAreInOrder : Type 0
+ClaimsAreInOrder =
+    (r : CondvarRun) (v : ℕ)
+    → (map (λ x. x.ticket) (claims_of r v) ≡ range_with_len 1 (length (claims_of r v)))
+    × (((reached_by r).condvar v).holder ≡ 0 → length (claims_of r v) ≡ ((reached_by r).condvar v).sent)
+
+-- Waits
+
+-- a wait that can take the lock of its condvar does not find its seat in the list
+abbrev pub WaitsAreNew : Type 0
+WaitsAreNew =
+    (r : CondvarRun) (s v : ℕ) → (reached_by r).stage s ≡ locking_to_wait v → ((reached_by r).condvar v).holder ≡ 0
+    → is_listed s ((reached_by r).condvar v).waiters ≡ false
+
+-- where a wait is about to end, just one claim was made with its ticket, and for its own seat
+abbrev pub WaitsAreSent : Type 0
+WaitsAreSent =
+    (r : CondvarRun) (s v ticket : ℕ) → (reached_by r).stage s ≡ receiving v ticket → point_of (reached_by r) s ≡ Rest
+    → claims_with r v ticket ≡ s ∷ []
+
+-- a wait that has given the lock back is WAITING until that claim: nothing else ends it
+abbrev pub WaitsSleepUntilSent : Type 0
+WaitsSleepUntilSent =
+    (r : CondvarRun) (s v ticket : ℕ) → (reached_by r).stage s ≡ receiving v ticket
+    → (((claims_with r v ticket ≡ []) × (wake (reached_by r).mutex.wakes s ≡ Waiting)) ⊎ (claims_with r v ticket ≡ s ∷ []))
+
+-- and where it is about to end, its seat holds the user mutex once
+abbrev pub WaitsEndHolding : Type 0
+WaitsEndHolding =
+    (r : CondvarRun) (s v ticket : ℕ) → (reached_by r).stage s ≡ receiving v ticket → point_of (reached_by r) s ≡ Rest
+    → (seat (reached_by r).mutex.seats s).depth ≡ 1
+
+-- these laws are not of nothing: in some run a wait is about to end
+pub record WaitsCanEnd : Type 0 where
+  pub run : CondvarRun
+  pub seat : ℕ
+  pub condvar : ℕ
+  pub ticket : ℕ
+  pub waits : (reached_by run).stage seat ≡ receiving condvar ticket
+  pub holds : point_of (reached_by run) seat ≡ Rest
+
+-- Lists
+
+-- the tickets of the waiters are sent + 1 .. added in order, and their seats are distinct
+pub record IsInOrder (x : Condvar) : Type 0 where
+  pub size : x.sent + length x.waiters ≡ x.added
+  pub tickets : map (λ w. w.ticket) x.waiters ≡ range_with_len (x.sent + 1) (length x.waiters)
+  pub distinct : AllPairs (λ first second. first.seat ≢ second.seat) x.waiters
+
+-- so is each condvar whose lock is free
+abbrev pub ListsAreInOrder : Type 0
+ListsAreInOrder = (r : CondvarRun) (v : ℕ) → ((reached_by r).condvar v).holder ≡ 0 → IsInOrder ((reached_by r).condvar v)
+
+-- where the lock of a condvar is free, its list has just the waits that no wake has claimed yet
+abbrev pub WaitersAreListed : Type 0
+WaitersAreListed =
+    (r : CondvarRun) (v : ℕ) (x : Waiter) → ((reached_by r).condvar v).holder ≡ 0
+    → Contains ((reached_by r).condvar v).waiters x
+    ↔ (((reached_by r).stage x.seat ≡ receiving v x.ticket) × (claims_with r v x.ticket ≡ []))

@@ -1,0 +1,107 @@
+//! The laws of condition variables over the core. Each function here does nothing: its contract is the law, and its comment
+//! names the definition of the law and the file that proves it.
+//!
+//! The laws speak of one user mutex under any number of condvars, and of every list of calls that begin and of single steps, by
+//! any seats in any order, for every number of seats and every budget in their limits. A `wait` takes the lock of its condvar,
+//! adds its seat to the list, makes the steps of `start_wait`, gives the lock back, and receives until it holds. A wake takes
+//! the lock, makes the steps of `send_lock` for the oldest waiter, takes it off the list, goes on to the next one if it wakes
+//! all, and gives the lock back. The lock is one atomic lock here. All other calls of the mutex may come between any two steps;
+//! but a `start_wait` comes from a `wait` alone and a `send_lock` from a wake alone, which is the premise. The definitions are
+//! those of `specs/laws/Condvars.antt`, `specs/laws/Events.antt` and `specs/laws/Claims.antt`.
+ghost use Rattle.lfm_condvar.specs.laws.Laws.{
+  ClaimsNeverFail,
+  TicketsAreClaimedOnce,
+  ClaimsAreInOrder,
+  WaitsAreNew,
+  WaitsAreSent,
+  WaitsSleepUntilSent,
+  WaitsEndHolding,
+  WaitsCanEnd,
+  ListsAreInOrder,
+  WaitersAreListed,
+  CoresAreReached,
+};
+
+/// The claim of a sender never fails: a seat that is about to make the exchange of a `send_lock` finds its target waiting. So no
+/// wake answers NotWaiting.
+///
+/// Definition: `ClaimsNeverFail` in `specs/laws/Laws.antt`. Proof: `proofs/lawful/reached/ClaimsFound.antt`.
+pub fn claims_never_fail()
+    ensures { ClaimsNeverFail }
+{}
+
+/// No ticket is claimed twice.
+///
+/// Definition: `TicketsAreClaimedOnce` in `specs/laws/Laws.antt`. Proof: `proofs/lawful/reached/WaitsSent.antt`.
+pub fn tickets_are_claimed_once()
+    ensures { TicketsAreClaimedOnce }
+{}
+
+/// First come, first served: wakes claim the tickets of a condvar in the order in which they were given, from 1 on and with none
+/// left out. Where the lock is free, as many were claimed as count as sent.
+///
+/// Definition: `ClaimsAreInOrder` in `specs/laws/Laws.antt`. Proof: `proofs/lawful/reached/WaitsSent.antt`.
+pub fn claims_are_in_order()
+    ensures { ClaimsAreInOrder }
+{}
+
+/// No `wait` finds its seat in the list when it has taken the lock. So none is refused as Busy.
+///
+/// Definition: `WaitsAreNew` in `specs/laws/Laws.antt`. Proof: `proofs/lawful/events/AppendEvent.antt`.
+pub fn waits_are_new()
+    ensures { WaitsAreNew }
+{}
+
+/// Each `wait` that ends was ended by the one send of its ticket: just one claim was made with this ticket, and for its own
+/// seat.
+///
+/// Definition: `WaitsAreSent` in `specs/laws/Laws.antt`. Proof: `proofs/lawful/reached/WaitsSent.antt`.
+pub fn waits_are_sent()
+    ensures { WaitsAreSent }
+{}
+
+/// Nothing else ends a `wait`: once it has given the lock back, its wake word is WAITING as long as no claim was made with its
+/// ticket.
+///
+/// Definition: `WaitsSleepUntilSent` in `specs/laws/Laws.antt`. Proof: `proofs/lawful/reached/WaitsSent.antt`.
+pub fn waits_sleep_until_sent()
+    ensures { WaitsSleepUntilSent }
+{}
+
+/// A `wait` that ends holds the user mutex, at depth 1.
+///
+/// Definition: `WaitsEndHolding` in `specs/laws/Laws.antt`. Proof: `proofs/lawful/reached/WaitsSent.antt`.
+pub fn waits_end_holding()
+    ensures { WaitsEndHolding }
+{}
+
+/// There is a run in which a `wait` is about to end. So the other laws are not of nothing.
+///
+/// Definition: `WaitsCanEnd` in `specs/laws/Laws.antt`. Proof: `proofs/lawful/reached/OneWait.antt`.
+pub fn waits_can_end()
+    ensures { WaitsCanEnd }
+{}
+
+/// Wherever the lock of a condvar is free, the tickets in its list are those after the sent ones and up to the added ones, in
+/// order, and its seats are distinct.
+///
+/// Definition: `ListsAreInOrder` in `specs/laws/Laws.antt`. Proof: `proofs/lawful/reached/ListOrder.antt`.
+pub fn lists_are_in_order()
+    ensures { ListsAreInOrder }
+{}
+
+/// No `wait` is lost: wherever the lock of a condvar is free, its list has just the seats whose `wait` no wake has claimed yet,
+/// each with its ticket. So a wake finds every one of them.
+///
+/// Definition: `WaitersAreListed` in `specs/laws/Laws.antt`. Proof: `proofs/lawful/reached/ListOrder.antt`.
+pub fn waiters_are_listed()
+    ensures { WaitersAreListed }
+{}
+
+/// The user mutex goes as a schedule of its own would: calls and single steps of it do what events on condvars do to it. So all
+/// laws of every schedule hold of it.
+///
+/// Definition: `CoresAreReached` in `specs/laws/Laws.antt`. Proof: `proofs/lawful/mutex/MutexRuns.antt`.
+pub fn cores_are_reached()
+    ensures { CoresAreReached }
+{}

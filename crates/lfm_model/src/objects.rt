@@ -1,0 +1,53 @@
+//! The object that a monitor guards, and one over a number.
+ghost use Rattle.lfm_model.specs.Totals.{total_after, total_reply};
+ghost use Rattle.std.specs.Prelude.{◌≡◌};
+
+/// An object that changes by one op at a time. An op is never refused and takes no memory.
+pub trait Object: Send + Drop {
+    /// What can be done to the object.
+    type Op: Send + Drop;
+    /// What the object replies to an op.
+    type Reply: Send + Drop;
+
+    // The object after an op.
+    ghost after: { Self → Self.Op → Self };
+
+    // What the object replies to an op, by what it was before.
+    ghost reply: { Self → Self.Op → Self.Reply };
+
+    /// Makes the op and returns the object's reply to it.
+    fn apply(&mut self, op: &Self::Op) -> Self::Reply
+        ensures changes { self.new ≡ after self.old op.now }
+        ensures replies { result ≡ reply self.old op.now };
+}
+
+/// What can be done to a total.
+#[derive(Clone, Copy, Debug, PartialEq, Eq)]
+pub enum TotalOp {
+    /// Adds this number. A sum above 2^64 - 1 becomes 2^64 - 1.
+    Add(u64),
+    /// Changes nothing.
+    Read,
+}
+
+/// A sum as an object. It replies to each op what the total is afterwards.
+#[derive(Clone, Copy, Debug, PartialEq, Eq)]
+pub struct Total(pub u64);
+
+impl Object for Total {
+    type Op = TotalOp;
+
+    type Reply = u64;
+
+    ghost after = { total_after };
+
+    ghost reply = { total_reply };
+
+    fn apply(&mut self, op: &TotalOp) -> u64 {
+        match op {
+            TotalOp::Add(number) => self.0 = self.0.saturating_add(*number),
+            TotalOp::Read => {}
+        }
+        self.0
+    }
+}

@@ -1,0 +1,24 @@
+//! What a program says of its end: a message on standard error, and the exit status.
+ghost use Rattle.std.specs.Prelude.{◌≡◌};
+ghost use Rattle.lfm_program.specs.Statuses.{replay_status as status_of};
+
+use crate::statuses::replay_status;
+use lfm_core::ReplayFault;
+
+/// Says on standard error what kept the program of this name from its end, where something did, and gives the exit status
+/// of what it came to. That a message can't be written changes no status.
+pub fn report<R: Eprint>(rt: &R, program: &'static str, outcome: &Result<bool, ReplayFault>) -> u8
+    ensures { result ≡ status_of outcome.now }
+{
+    let fault = match outcome {
+        Err(ReplayFault::Read) => Some(": read fault"),
+        Err(ReplayFault::Write) => Some(": write fault"),
+        Err(ReplayFault::Memory) => Some(": out of memory"),
+        _ => None,
+    };
+    if let Some(fault) = fault {
+        let _ = rt.eprint(program);
+        let _ = rt.eprintln(fault);
+    }
+    replay_status(outcome)
+}

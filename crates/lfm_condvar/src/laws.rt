@@ -19,6 +19,7 @@ ghost use Rattle.lfm_condvar.specs.laws.Laws.{
   WaitsCanEnd,
   ListsAreInOrder,
   WaitersAreListed,
+  SleepersAreListed,
   CoresAreReached,
 };
 
@@ -88,6 +89,14 @@ pub fn waits_can_end()
 /// Definition: `ListsAreInOrder` in `specs/laws/Laws.antt`. Proof: `proofs/lawful/reached/ListOrder.antt`.
 pub fn lists_are_in_order()
     ensures { ListsAreInOrder }
+{}
+
+/// No lost wake-up: at every moment, each seat whose wake word is WAITING stands in the list of a condvar. So from the step by
+/// which it falls asleep until a wake claims it, every wake that takes the lock finds it.
+///
+/// Definition: `SleepersAreListed` in `specs/laws/Laws.antt`. Proof: `proofs/lawful/reached/SleepersListed.antt`.
+pub fn sleepers_are_listed()
+    ensures { SleepersAreListed }
 {}
 
 /// No `wait` is lost: wherever the lock of a condvar is free, its list has just the seats whose `wait` no wake has claimed yet,

@@ -17,8 +17,8 @@ pub record SameCondvar (k l : CondvarCore) (g h : CondvarGhost) (v : ℕ) : Type
   pub claimed : h.claimed v ≡ g.claimed v
 
 -- what an event of seat s leaves: the views and calls of all other seats, each condvar whose lock another seat has, and which
--- seat each ticket was given to; tickets are only added, and claims too; and who waits for a claim that has not yet come goes
--- on waiting
+-- seat each ticket was given to; tickets are only added, and claims too; and who waits for a claim goes on waiting
+-- until it comes, and no longer
 pub record Frame (k l : CondvarCore) (g h : CondvarGhost) (s : ℕ) : Type 0 where
   pub leaves : Leaves k.mutex l.mutex s
   pub stage : (t : ℕ) → t ≢ s → l.stage t ≡ k.stage t
@@ -30,6 +30,8 @@ pub record Frame (k l : CondvarCore) (g h : CondvarGhost) (s : ℕ) : Type 0 whe
       → wake k.mutex.wakes t ≡ Waiting → wake l.mutex.wakes t ≡ Waiting
   pub receiving_waits : (t v ticket : ℕ) → k.stage t ≡ receiving v ticket → h.claimed v < ticket
       → wake k.mutex.wakes t ≡ Waiting → wake l.mutex.wakes t ≡ Waiting
+  pub sent : (t v ticket : ℕ) → t ≢ s → k.stage t ≡ receiving v ticket → ReceivingFits k g t v ticket → ticket ≤ h.claimed v
+      → wake l.mutex.wakes t ≢ Waiting
 
 -- Other seats
 
@@ -69,6 +71,7 @@ receiving_after k l g h s t v ticket frame other stage fits =
       within = omega (arith, fits.within, frame.added v);
       waits = λ unclaimed. frame.receiving_waits t v ticket stage unclaimed
           (fits.waits (omega (arith, unclaimed, frame.claimed v)));
+      sent = λ claimed. frame.sent t v ticket other stage fits claimed;
       at = rw (frame.leaves.others t other) fits.at;
     }
 
@@ -130,6 +133,7 @@ pending_after k l g h s t v ticket frame other unclaimed (inr waits) =
 -- what an event has to show of each condvar
 pub record CondvarAfter (k l : CondvarCore) (g h : CondvarGhost) (v : ℕ) : Type 0 where
   pub order : (l.condvar v).sent ≤ (l.condvar v).added
+  pub counted : (l.condvar v).sent ≤ h.claimed v
   pub waiters : (l.condvar v).waiters ≡ waiters_of (h.given v) (l.condvar v).sent ((l.condvar v).added - (l.condvar v).sent)
   pub free : (l.condvar v).holder ≡ 0 → h.claimed v ≡ (l.condvar v).sent
   pub late : (ticket : ℕ) → (k.condvar v).added < ticket → ticket ≤ (l.condvar v).added → IsPending l v ticket (h.given v ticket)
@@ -152,6 +156,7 @@ condvar_after : (k l : CondvarCore) (g h : CondvarGhost) (s v : ℕ) → CoreFit
 condvar_after k l g h s v fits frame own goes =
     record {
       order = goes.order;
+      counted = goes.counted;
       waiters = goes.waiters;
       free = goes.free;
       pending = λ ticket unclaimed within.

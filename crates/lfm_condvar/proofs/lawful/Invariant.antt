@@ -1,5 +1,5 @@
 -- What every state of a mutex and its condvars keeps, and the ghost that it speaks of.
-use Rattle.std.specs.Prelude.{◌≡◌, ◌⊎◌, ℕ, Bool, true, false, ◌+◌, ◌-◌, ◌<◌, ◌≤◌, List, nat_eq}
+use Rattle.std.specs.Prelude.{◌≡◌, ◌≢◌, ◌⊎◌, ℕ, Bool, true, false, ◌+◌, ◌-◌, ◌<◌, ◌≤◌, List, nat_eq}
 use Rattle.lfm_protocol.specs.declared.answers.Call.TheVariants.{StartWait}
 use Rattle.lfm_protocol.specs.declared.points.Carrier.{Carrier}
 use Rattle.lfm_protocol.specs.declared.points.Entrant.{Entrant}
@@ -74,6 +74,13 @@ waits_at (TakeLinkLoad carrier next) = carries_to_wait carrier
 waits_at (GrantWakeStore carrier oldest) = carries_to_wait carrier
 waits_at _ = false
 
+-- a point that calls on condvars alone come to: the claim of a send, a start_wait, and the sleep after it
+abbrev pub is_of_condvar : Point → Bool
+is_of_condvar (SendWakeExchange t) = true
+is_of_condvar (Asleep Sleeper.Waiter) = true
+is_of_condvar (ReceiveWakeLoad Sleeper.Waiter) = true
+is_of_condvar p = waits_at p
+
 -- a seat of this depth receives what a send gives it, or has received it and holds
 abbrev pub comes_to_hold_at : ℕ → Point → Bool
 comes_to_hold_at depth Rest = nat_eq depth 1
@@ -107,12 +114,13 @@ pub record StartingFits (k : CondvarCore) (g : CondvarGhost) (s v ticket : ℕ) 
   pub unclaimed : g.claimed v ≡ (k.condvar v).sent
   pub at : StartsAt k.mutex s
 
--- until its ticket is claimed it waits
+-- it waits until its ticket is claimed, and no longer
 pub record ReceivingFits (k : CondvarCore) (g : CondvarGhost) (s v ticket : ℕ) : Type 0 where
   pub given : g.given v ticket ≡ s
   pub some : 0 < ticket
   pub within : ticket ≤ (k.condvar v).added
   pub waits : g.claimed v < ticket → wake k.mutex.wakes s ≡ Waiting
+  pub sent : ticket ≤ g.claimed v → wake k.mutex.wakes s ≢ Waiting
   pub at : comes_to_hold (seat k.mutex.seats s) ≡ true
 
 pub record ClaimingFits (k : CondvarCore) (g : CondvarGhost) (s v : ℕ) (oldest : Waiter) : Type 0 where
@@ -139,7 +147,7 @@ pub record LockingToWakeFits (k : CondvarCore) (s : ℕ) : Type 0 where
   pub at : point_of k s ≡ Rest
 
 abbrev pub StageFits : CondvarCore → CondvarGhost → ℕ → Stage → Type 0
-StageFits k g s outside = claims_at (point_of k s) ≡ false
+StageFits k g s outside = is_of_condvar (point_of k s) ≡ false
 StageFits k g s (locking_to_wait v) = is_open (begin k.mutex s StartWait).turn ≡ true
 StageFits k g s (starting v ticket) = StartingFits k g s v ticket
 StageFits k g s (receiving v ticket) = ReceivingFits k g s v ticket
@@ -157,6 +165,7 @@ IsPending k v ticket t =
 
 pub record CondvarFits (k : CondvarCore) (g : CondvarGhost) (v : ℕ) : Type 0 where
   pub order : (k.condvar v).sent ≤ (k.condvar v).added
+  pub counted : (k.condvar v).sent ≤ g.claimed v
   pub waiters : (k.condvar v).waiters ≡ waiters_of (g.given v) (k.condvar v).sent ((k.condvar v).added - (k.condvar v).sent)
   pub free : (k.condvar v).holder ≡ 0 → g.claimed v ≡ (k.condvar v).sent
   pub pending : (ticket : ℕ) → g.claimed v < ticket → ticket ≤ (k.condvar v).added → IsPending k v ticket (g.given v ticket)

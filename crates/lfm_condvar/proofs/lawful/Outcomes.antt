@@ -38,6 +38,7 @@ pub condvar_stays : (k l : CondvarCore) (g h : CondvarGhost) (v : ℕ) → Condv
 condvar_stays k l g h v fits same claimed given =
     record {
       order = rw same fits.order;
+      counted = rw (same, claimed) fits.counted;
       waiters = rw (same, given) fits.waiters;
       free = rw (same, claimed) fits.free;
       late = λ ticket late within.
@@ -59,6 +60,7 @@ pub record CondvarMoves (k : CondvarCore) (g : CondvarGhost) (s v : ℕ) (x : Co
   pub before : ((k.condvar v).holder ≡ 0) ⊎ ((k.condvar v).holder ≡ s)
   pub added : x.added ≡ (k.condvar v).added
   pub order : x.sent ≤ x.added
+  pub counted : x.sent ≤ g.claimed v
   pub waiters : x.waiters ≡ waiters_of (g.given v) x.sent (x.added - x.sent)
   pub free : x.holder ≡ 0 → g.claimed v ≡ x.sent
 
@@ -77,6 +79,8 @@ moves_one k l g d s v x e fits m one moves own pending =
     let h = with_mutex g m.to in
     let leaves : Leaves k.mutex l.mutex s = rw one.mutex m.leaves in
     let waits : (t : ℕ) → wake k.mutex.wakes t ≡ Waiting → wake l.mutex.wakes t ≡ Waiting = rw one.mutex m.waits in
+    let waited : (t : ℕ) → t ≢ s → wake l.mutex.wakes t ≡ Waiting → wake k.mutex.wakes t ≡ Waiting =
+    rw one.mutex (λ t other word. m.waited t (inl other) word) in
     let mutex : Fits l.mutex m.to = rw one.mutex m.fits in
     fits_after k l g h s fits mutex (record {
       leaves = leaves;
@@ -96,11 +100,13 @@ moves_one k l g d s v x e fits m one moves own pending =
       claimed = λ w. omega arith;
       starting_waits = λ t w ticket stage word. waits t word;
       receiving_waits = λ t w ticket stage unclaimed word. waits t word;
+      sent = λ t w ticket other stage before claimed word. before.sent claimed (waited t other word);
     }) (record { stage = rw one.own own; pending = pending }) (λ w.
     elim (cases_eq w v) [
       | inl same ↦
           rw same (record {
             order = rw one.here moves.order;
+            counted = rw one.here moves.counted;
             waiters = rw one.here moves.waiters;
             free = rw one.here moves.free;
             late = λ ticket late within.
@@ -132,6 +138,7 @@ moves_mutex k g d s fits m own =
       claimed = λ w. omega arith;
       starting_waits = λ t w ticket stage word. m.waits t word;
       receiving_waits = λ t w ticket stage unclaimed word. m.waits t word;
+      sent = λ t w ticket other stage before claimed word. before.sent claimed (m.waited t (inl other) word);
     }) (record { stage = own; pending = λ w ticket unclaimed pending. mutex_pending k d g s w ticket m pending }) (λ w.
     condvar_stays k l g h w (fits.condvars w) refl refl refl)
 
@@ -152,5 +159,6 @@ moves_stage k g s e fits own pending =
       claimed = λ w. omega arith;
       starting_waits = λ t w ticket stage word. word;
       receiving_waits = λ t w ticket stage unclaimed word. word;
+      sent = λ t w ticket other stage before claimed word. before.sent claimed word;
     }) (record { stage = rw (changed_same k.stage s e) own; pending = pending })
     (λ w. condvar_stays k l g g w (fits.condvars w) refl refl refl)

@@ -15,7 +15,7 @@ use Rattle.lfm_condvar.proofs.lawful.events.AppendEvent.{at_locking_to_wait}
 use Rattle.lfm_condvar.proofs.lawful.Outcomes.{Outcome, append_none}
 use Rattle.lfm_condvar.proofs.lawful.events.ClaimEvent.{at_claiming}
 use Rattle.lfm_condvar.proofs.lawful.events.MutexEvents.{at_begins, at_waits, at_wakes, at_outside, starting_steps, sending_steps, at_receiving}
-use Rattle.lfm_condvar.proofs.lawful.Invariant.{CondvarGhost, claims_at, StartsAt, StartingFits, SendingFits, StageFits, CoreFits, claims_told}
+use Rattle.lfm_condvar.proofs.lawful.Invariant.{CondvarGhost, is_of_condvar, StartsAt, StartingFits, SendingFits, StageFits, CoreFits, claims_told}
 use Rattle.lfm_condvar.proofs.lawful.events.LockEvents.{wait_gives_back, at_unlocking, at_locking_to_wake, at_removes}
 use Rattle.lfm_condvar.proofs.lawful.mutex.OwnSeat.{waits_in_call}
 use Rattle.lfm_core.specs.laws.Schedules.{is_call}
@@ -103,12 +103,13 @@ start_fits limits m fits =
       mutex = fits;
       condvars = λ v. record {
         order = omega arith;
+        counted = omega arith;
         waiters = refl;
         free = λ e. refl;
         pending = λ ticket above within. absurd
             (omega (arith, above, within));
       };
-      stages = λ s. ap (λ x. claims_at x.point) (entry_replicate absent limits.seats s);
+      stages = λ s. ap (λ x. is_of_condvar x.point) (entry_replicate absent limits.seats s);
     }
 
 -- what a run reaches

@@ -3,3 +3,4 @@ pub mod ClaimsFound
 pub mod WaitsSent
 pub mod ListOrder
 pub mod OneWait
+pub mod SleepersListed

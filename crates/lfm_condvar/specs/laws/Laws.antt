@@ -109,3 +109,13 @@ WaitersAreListed =
     (r : CondvarRun) (v : ℕ) (x : Waiter) → ((reached_by r).condvar v).holder ≡ 0
     → Contains ((reached_by r).condvar v).waiters x
     ↔ (((reached_by r).stage x.seat ≡ receiving v x.ticket) × (claims_with r v x.ticket ≡ []))
+
+-- a waiter of some condvar is this seat
+pub record IsListed (k : CondvarCore) (s : ℕ) : Type 0 where
+  pub condvar : ℕ
+  pub ticket : ℕ
+  pub listed : Contains (k.condvar condvar).waiters (record { seat = s; ticket = ticket })
+
+-- at every moment, each seat whose wake word is WAITING stands in the list of a condvar
+abbrev pub SleepersAreListed : Type 0
+SleepersAreListed = (r : CondvarRun) (s : ℕ) → wake (reached_by r).mutex.wakes s ≡ Waiting → IsListed (reached_by r) s

@@ -53,8 +53,8 @@ appended_condvar : (k l : CondvarCore) (g h : CondvarGhost) (s v : ℕ) → Core
     → l.condvar v ≡ record (enlisted (k.condvar v) s) { holder = s }
     → l.stage s ≡ starting v ((k.condvar v).added + 1) → IsSeat k.mutex.seats s
     → ((n : ℕ) → n ≤ (k.condvar v).added → h.given v n ≡ g.given v n)
-    → h.given v ((k.condvar v).added + 1) ≡ s → CondvarAfter k l g h v
-appended_condvar k l g h s v fits at own is early now =
+    → h.given v ((k.condvar v).added + 1) ≡ s → (k.condvar v).sent ≤ h.claimed v → CondvarAfter k l g h v
+appended_condvar k l g h s v fits at own is early now counted =
     let x = k.condvar v in
     let here = fits.condvars v in
     let n = x.added - x.sent in
@@ -68,6 +68,7 @@ appended_condvar k l g h s v fits at own is early now =
     ∙ ap (λ those. those ++ waiter_with s (x.added + 1) ∷ []) (before ∙ sym here.waiters)) in
     record {
       order = rw at (omega (arith, here.order));
+      counted = rw at counted;
       waiters = rw at waiters;
       free = rw at (λ none. absurd (omega (arith, none, is.above)));
       late = λ ticket late within.
@@ -124,6 +125,7 @@ appended_outcome k g s v fits stage free f at_v at_others =
         claimed = λ w. omega arith;
         starting_waits = λ t w n stage word. m.waits t word;
         receiving_waits = λ t w n stage unclaimed word. m.waits t word;
+        sent = λ t w n other stage before claimed word. before.sent claimed (m.waited t (inl other) word);
       }) (record {
         stage = rw one.own (record {
           locks = record { is = seat_after k.mutex d s s m.leaves begun.is; holds = rw one.here refl };
@@ -136,7 +138,8 @@ appended_outcome k g s v fits stage free f at_v at_others =
         pending = λ w n unclaimed pending. absurd (not_pending k s w n (locking_to_wait v) stage refl pending);
       }) (λ w.
           elim (cases_eq w v) [
-            | inl same ↦ rw same (appended_condvar k l g h s v fits one.here one.own begun.is (early v) (given_now g v ticket s))
+            | inl same ↦ rw same (appended_condvar k l g h s v fits one.here one.own begun.is (early v)
+                (given_now g v ticket s) here.counted)
             | inr elsewhere ↦ condvar_stays k l g h w (fits.condvars w)
                 (one.elsewhere w elsewhere) refl (changed_other g.given v w (changed (g.given v) ticket s) elsewhere)
           ]);

@@ -1,7 +1,7 @@
 -- The claim of a send: it finds its target waiting, and is the one claim with the target's ticket.
-use Rattle.std.proofs.Common.{◌≡◌, ◌≢◌, ℕ, suc, Bool, ◌+◌, [], ◌∷◌, ◌++◌, refl, sym, ap, ◌∙◌, inl, inr, arith}
+use Rattle.std.proofs.Common.{◌≡◌, ◌≢◌, ◌≤◌, ℕ, suc, Bool, ◌+◌, [], ◌∷◌, ◌++◌, refl, sym, ap, ◌∙◌, inl, inr, arith}
 use Rattle.std.proofs.lemmas.Bool.{cases_eq, eq-eqb, ne_eqb}
-use Rattle.lfm_words.specs.declared.wakes.Wake.TheVariants.{Waiting}
+use Rattle.lfm_words.specs.declared.wakes.Wake.TheVariants.{Waiting, Claimed}
 use Rattle.lfm_core.specs.steady.Numbered.{changed}
 use Rattle.lfm_protocol.specs.Seats.{wake}
 use Rattle.lfm_protocol.specs.Step.{made}
@@ -10,7 +10,7 @@ use Rattle.lfm_core.proofs.steady.frames.Sums.{changed_same, changed_other}
 use Rattle.lfm_condvar.specs.laws.Condvars.{Waiter, starting, receiving, claiming, sending, CondvarCore, point_of, put_stage, put_mutex}
 use Rattle.lfm_condvar.specs.laws.Claims.{Claim, claim_of, claimed_at, claims_on}
 use Rattle.lfm_condvar.specs.laws.Events.{claims_waiter}
-use Rattle.lfm_condvar.proofs.lawful.Invariant.{CondvarGhost, ClaimingFits, CoreFits, claims_told}
+use Rattle.lfm_condvar.proofs.lawful.Invariant.{CondvarGhost, ReceivingFits, ClaimingFits, CoreFits, claims_told}
 use Rattle.lfm_condvar.proofs.lawful.Outcomes.{Outcome, append_none}
 use Rattle.lfm_condvar.proofs.lawful.events.MutexEvents.{not_pending}
 use Rattle.lfm_condvar.proofs.lawful.Tickets.{waiters_of, waiter_with, one_more}
@@ -18,7 +18,7 @@ use Rattle.lfm_condvar.proofs.lawful.mutex.MutexMoves.{made_leaves, step_is_made
 use Rattle.lfm_condvar.proofs.lawful.Frames.{fits_after}
 use Rattle.lfm_condvar.proofs.lawful.events.LockEvents.{target_waits}
 use Rattle.lfm_condvar.proofs.lawful.mutex.OwnSeat.{claim_turn, claim_at}
-use Rattle.lfm_condvar.proofs.lawful.mutex.WakeWords.{others_stay_waiting}
+use Rattle.lfm_condvar.proofs.lawful.mutex.WakeWords.{waiting_is_seat, others_stay_waiting, claimed_word, has_waited}
 
 -- The target
 
@@ -47,6 +47,37 @@ claimed_here v x = rw (eq-eqb v v refl) refl
 
 claimed_elsewhere : (v w : ℕ) (x : Waiter) → w ≢ v → claims_on w (claim_with v x ∷ []) ≡ []
 claimed_elsewhere v w x other = rw (ne_eqb v w (λ e. other (sym e))) refl
+
+-- Once the claim has come, its target does not wait
+
+target_wakes : (k : CondvarCore) (g : CondvarGhost) (s v t w n : ℕ) (oldest : Waiter) → CoreFits k g → ClaimingFits k g s v oldest
+    → Target k v oldest → ReceivingFits k g t w n → w ≡ v → n ≡ (k.condvar v).sent + 1 → wake (made k.mutex s).core.wakes t ≢ Waiting
+target_wakes k g s v t w n oldest fits own target before condvar ticket word =
+    let here : t ≡ oldest.seat = sym before.given ∙ ap (λ u. g.given u n) condvar ∙ ap (g.given v) ticket ∙ sym own.seat in
+    let is = waiting_is_seat k.mutex g.mutex oldest.seat fits.mutex target.word in
+    let claimed = claimed_word k.mutex g.mutex s oldest.seat own.at target.word is fits.mutex in
+    let clash : Claimed ≡ Waiting = sym claimed ∙ ap (wake (made k.mutex s).core.wakes) (sym here) ∙ word in
+    cc
+
+-- and who was claimed before does not either
+claimed_wakes : (k : CondvarCore) (g : CondvarGhost) (s v t w n : ℕ) (oldest : Waiter) → CoreFits k g → ClaimingFits k g s v oldest
+    → Target k v oldest → ReceivingFits k g t w n → t ≢ s → n ≤ changed g.claimed v ((k.condvar v).sent + 1) w
+    → wake (made k.mutex s).core.wakes t ≢ Waiting
+claimed_wakes k g s v t w n oldest fits own target before other within word =
+    let sent = (k.condvar v).sent in
+    elim (cases_eq w v) [
+      | inr elsewhere ↦
+          let same = changed_other g.claimed v w (sent + 1) elsewhere in
+          before.sent (omega (arith, within, same)) (has_waited k.mutex s t (inl other) word)
+      | inl same ↦
+          let now : changed g.claimed v (sent + 1) w ≡ sent + 1 = ap (changed g.claimed v (sent + 1)) same
+          ∙ changed_same g.claimed v (sent + 1) in
+          let count : g.claimed w ≡ sent = ap g.claimed same ∙ own.unclaimed in
+          elim (cases_eq n (sent + 1)) [
+            | inl last ↦ target_wakes k g s v t w n oldest fits own target before same last word
+            | inr earlier ↦ before.sent (omega (arith, within, now, count, earlier)) (has_waited k.mutex s t (inl other) word)
+          ]
+    ]
 
 -- The event
 
@@ -92,6 +123,8 @@ claimed_outcome k g s v all oldest fits stage own =
             let number : n ≡ x.sent + 1 = cc in
             let after : claimed w ≡ x.sent + 1 = ap claimed condvar ∙ now in
             omega (arith, after, number, unclaimed)) word;
+        sent = λ t w n other does before within word.
+            claimed_wakes k g s v t w n oldest fits own target before other within word;
       }) (record {
         stage = rw own_stage (record {
           locks = record { is = seat_after k.mutex d s s leaves own.locks.is; holds = own.locks.holds };
@@ -104,6 +137,15 @@ claimed_outcome k g s v all oldest fits stage own =
           let here = fits.condvars w in
           record {
             order = here.order;
+            counted =
+                elim (cases_eq w v) [
+                  | inl same ↦
+                      let after : claimed w ≡ x.sent + 1 = ap claimed same ∙ now in
+                      let sent = ap (λ u. (k.condvar u).sent) same in
+                      omega (arith, after, sent)
+                  | inr elsewhere ↦ let after = changed_other g.claimed v w (x.sent + 1) elsewhere in omega
+                      (arith, after, here.counted)
+                ];
             waiters = here.waiters;
             free = λ none.
                 elim (cases_eq w v) [

@@ -45,6 +45,7 @@ freed_moves k g s v fits holds unclaimed =
       before = inr holds;
       added = refl;
       order = (fits.condvars v).order;
+      counted = (fits.condvars v).counted;
       waiters = (fits.condvars v).waiters;
       free = λ e. unclaimed;
     }
@@ -75,6 +76,7 @@ wait_gives_back k g s v ticket fits stage own at word =
       some = omega (arith, own.pending);
       within = omega (arith, size, own.last);
       waits = λ unclaimed. word;
+      sent = λ claimed now. absurd (omega (arith, claimed, own.unclaimed, own.pending));
       at = rw at refl;
     }) (λ w y unclaimed pending. started_pending k (put_stage (gives_back k v) s
     (receiving v ticket)) s v ticket w y stage one.own word pending))
@@ -176,7 +178,7 @@ at_locking_to_wake k g s v all fits stage own =
             is = own.is;
             at = own.at;
             holder = refl;
-            moves = record { before = inl free; added = refl; order = here.order; waiters = here.waiters; free = λ e. here.free free };
+            moves = record { before = inl free; added = refl; order = here.order; counted = here.counted; waiters = here.waiters; free = λ e. here.free free };
             unclaimed = here.free free;
           }) refl)
     ]
@@ -196,6 +198,7 @@ removed_moves k g s v fits own =
       before = inr own.locks.holds;
       added = refl;
       order = omega (arith, own.pending);
+      counted = omega (arith, own.claimed);
       waiters = ap (drop 1) (here.waiters ∙ ap (waiters_of (g.given v) x.sent) size);
       free = λ e. own.claimed;
     }

@@ -12,11 +12,11 @@ use Rattle.lfm_protocol.specs.Step.{begin, step}
 use Rattle.lfm_core.proofs.steady.frames.Seated.{seat_of_test}
 use Rattle.lfm_condvar.specs.laws.Condvars.{Waiter, Stage, outside, locking_to_wait, starting, receiving, locking_to_wake, sending, CondvarCore, point_of, put_stage, put_mutex}
 use Rattle.lfm_condvar.specs.laws.Events.{mutex_steps, is_own_call, is_outside, is_rest, begins_call, begins_wait, begins_wake, receives_at}
-use Rattle.lfm_condvar.proofs.lawful.Invariant.{CondvarGhost, claims_at, comes_to_hold, waits_at, Locks, StartingFits, ReceivingFits, SendingFits, IsPending, CoreFits}
+use Rattle.lfm_condvar.proofs.lawful.Invariant.{CondvarGhost, is_of_condvar, comes_to_hold, waits_at, Locks, StartingFits, ReceivingFits, SendingFits, IsPending, CoreFits}
 use Rattle.lfm_condvar.proofs.lawful.Outcomes.{Outcome, quiet_outcome, with_mutex, append_none, moves_mutex, moves_stage}
 use Rattle.lfm_condvar.proofs.lawful.mutex.MutexMoves.{MutexMoves, step_moves, begin_moves, seat_after, step_is_made}
-use Rattle.lfm_condvar.proofs.lawful.mutex.OwnSeat.{sends_unclaimed, waits_unclaimed, at_rest, step_unclaimed, made_sending, begin_unclaimed}
-use Rattle.lfm_condvar.proofs.lawful.points.ReceivePoints.{receives_unclaimed, step_receives, begin_receives}
+use Rattle.lfm_condvar.proofs.lawful.mutex.OwnSeat.{outside_unclaimed, sends_unclaimed, waits_unclaimed, at_rest, step_outside, made_sending, begin_outside}
+use Rattle.lfm_condvar.proofs.lawful.points.ReceivePoints.{receives_unclaimed, receives_unstarted, step_receives, begin_receives}
 use Rattle.lfm_condvar.proofs.lawful.points.WaitPoints.{stays_starting}
 use Rattle.lfm_condvar.proofs.lawful.mutex.WakeWords.{rests_unwaiting}
 
@@ -49,17 +49,17 @@ at_begins k g s call fits =
       | inl both ↦
           let parts = and_parts _ _ both in
           let stage = is_none (k.stage s) parts.0 in
-          let own : claims_at (point_of k s) ≡ false = rw stage at (fits.stages s) in
+          let own : is_of_condvar (point_of k s) ≡ false = rw stage at (fits.stages s) in
           let m = begin_moves k.mutex g.mutex s call fits.mutex in
           rw both (quiet_outcome _ g m.to (moves_mutex k g (begin k.mutex s call).core s fits m
-          (rw stage (begin_unclaimed k.mutex s call parts.1 own))))
+          (rw stage (begin_outside k.mutex s call parts.1 own))))
     ]
 
 pub at_outside : (k : CondvarCore) (g : CondvarGhost) (s : ℕ) → CoreFits k g → k.stage s ≡ outside → Outcome (mutex_steps k s) g []
 at_outside k g s fits stage =
-    let own : claims_at (point_of k s) ≡ false = rw stage at (fits.stages s) in
-    let m = step_moves k.mutex g.mutex s own fits.mutex in
-    quiet_outcome _ g m.to (moves_mutex k g (step k.mutex s).core s fits m (rw stage (step_unclaimed k.mutex s own)))
+    let own : is_of_condvar (point_of k s) ≡ false = rw stage at (fits.stages s) in
+    let m = step_moves k.mutex g.mutex s (outside_unclaimed (point_of k s) own) fits.mutex in
+    quiet_outcome _ g m.to (moves_mutex k g (step k.mutex s).core s fits m (rw stage (step_outside k.mutex s own)))
 
 -- Calls on condvars begin
 
@@ -127,8 +127,9 @@ receiving_stays k g d s v ticket m own at =
       given = own.given;
       some = own.some;
       within = own.within;
-      waits = λ unclaimed. m.waits s
-          (own.waits unclaimed);
+      waits = λ unclaimed. m.waits s (own.waits unclaimed);
+      sent = λ claimed word.
+          own.sent claimed (m.waited s (inr (receives_unstarted (seat k.mutex.seats s).depth (point_of k s) own.at)) word);
       at = at;
     }
 
@@ -152,7 +153,7 @@ pub at_receiving : (k : CondvarCore) (g : CondvarGhost) (s v ticket : ℕ) (p : 
     → point_of k s ≡ p → Outcome (receives_at k s p) g []
 at_receiving k g s v ticket Rest fits stage own at =
     stays (put_stage k s outside) g (moves_stage k g s outside fits
-    (receives_unclaimed (seat k.mutex.seats s).depth (point_of k s) own.at)
+    (rw at refl)
     (λ w y unclaimed pending. absurd (rests_unpending k g s v ticket w y fits stage at pending)))
 at_receiving k g s v ticket (Asleep sleeper) fits stage own at =
     let m = begin_moves k.mutex g.mutex s Receive fits.mutex in

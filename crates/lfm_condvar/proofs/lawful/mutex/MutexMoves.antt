@@ -1,5 +1,5 @@
 -- What one begin or one step of the user mutex leaves to all other seats, and what it keeps.
-use Rattle.std.proofs.Common.{◌≡◌, ◌≢◌, ℕ, false, ◌+◌, ◌&&◌, nat_lt, length, refl, sym, ap, ◌∙◌, inl, inr, if◌then◌else◌}
+use Rattle.std.proofs.Common.{◌≡◌, ◌≢◌, ◌⊎◌, ℕ, false, ◌+◌, ◌&&◌, nat_lt, length, refl, sym, ap, ◌∙◌, inl, inr, if◌then◌else◌}
 use Rattle.std.proofs.lemmas.Bool.{cases_Bool}
 use Rattle.lfm_words.specs.declared.wakes.Wake.TheVariants.{Waiting}
 use Rattle.lfm_protocol.specs.declared.answers.Call.{Call}
@@ -16,8 +16,8 @@ use Rattle.lfm_core.proofs.lawful.touched.OneSeat.{steps_touch_one_word_and_one_
 use Rattle.lfm_core.proofs.steady.Begins.{begin_keeps}
 use Rattle.lfm_core.proofs.steady.StepsKept.{made_keeps}
 use Rattle.lfm_core.proofs.steady.frames.Seated.{seat_of_test, test_of_seat}
-use Rattle.lfm_condvar.proofs.lawful.Invariant.{claims_at}
-use Rattle.lfm_condvar.proofs.lawful.mutex.WakeWords.{stays_waiting}
+use Rattle.lfm_condvar.proofs.lawful.Invariant.{claims_at, waits_at}
+use Rattle.lfm_condvar.proofs.lawful.mutex.WakeWords.{stays_waiting, has_waited}
 
 -- the views of all seats but s, and the limits
 pub record Leaves (c d : Core) (s : ℕ) : Type 0 where
@@ -28,15 +28,17 @@ pub record Leaves (c d : Core) (s : ℕ) : Type 0 where
 leaves_all : (c : Core) (s : ℕ) → Leaves c c s
 leaves_all c s = record { others = λ t other. refl; size = refl; budget = refl }
 
--- a state that fits again, in which who waits still waits
+-- a state that fits again, in which who waits still waits, and no other seat begins to
 pub record MutexMoves (c d : Core) (s : ℕ) : Type 0 where
   pub to : Ghost
   pub fits : Fits d to
   pub leaves : Leaves c d s
   pub waits : (t : ℕ) → wake c.wakes t ≡ Waiting → wake d.wakes t ≡ Waiting
+  pub waited : (t : ℕ) → (t ≢ s) ⊎ (waits_at (seat c.seats s).point ≡ false) → wake d.wakes t ≡ Waiting → wake c.wakes t ≡ Waiting
 
 pub moves_not : (c : Core) (g : Ghost) (s : ℕ) → Fits c g → MutexMoves c c s
-moves_not c g s fits = record { to = g; fits = fits; leaves = leaves_all c s; waits = λ t word. word }
+moves_not c g s fits =
+    record { to = g; fits = fits; leaves = leaves_all c s; waits = λ t word. word; waited = λ t other word. word }
 
 -- Steps
 
@@ -58,6 +60,7 @@ made_moves c g s is before fits =
       fits = kept.fits;
       leaves = made_leaves c s is;
       waits = λ t word. stays_waiting c g s t before fits word;
+      waited = λ t other word. has_waited c s t other word;
     }
 
 pub step_moves : (c : Core) (g : Ghost) (s : ℕ) → claims_at (seat c.seats s).point ≡ false → Fits c g
@@ -78,6 +81,7 @@ begin_moves c g s call fits =
       fits = begin_keeps c g s call fits;
       leaves = record { others = touches.other_seats; size = touches.seats; budget = touches.budget };
       waits = λ t word. touches.words (Word.Wake t) ∙ word;
+      waited = λ t other word. sym (touches.words (Word.Wake t)) ∙ word;
     }
 
 -- What a begin of another seat would answer stays

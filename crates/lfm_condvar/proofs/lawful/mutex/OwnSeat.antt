@@ -6,7 +6,7 @@ use Rattle.lfm_protocol.specs.declared.answers.Call.{Call}
 use Rattle.lfm_protocol.specs.declared.answers.Call.TheVariants.{Lock, TryLock, Unlock, StartWait, SendLock, Receive}
 use Rattle.lfm_protocol.specs.declared.limits.Limits.{Limits}
 use Rattle.lfm_protocol.specs.declared.points.Point.{Point}
-use Rattle.lfm_protocol.specs.declared.points.Point.TheVariants.{Rest, Asleep, LockCountAdd, TryCountExchange, SendWakeExchange, SendCountAdd, ReleaseOwnerStore}
+use Rattle.lfm_protocol.specs.declared.points.Point.TheVariants.{Rest, Asleep, ReceiveWakeLoad, LockCountAdd, TryCountExchange, SendWakeExchange, SendCountAdd, ReleaseOwnerStore}
 use Rattle.lfm_protocol.specs.declared.points.Releaser.TheVariants.{Unlocker, Waiter}
 use Rattle.lfm_protocol.specs.declared.points.Sleeper.{Sleeper}
 use Rattle.lfm_protocol.specs.declared.seats.SeatState.{SeatState}
@@ -18,19 +18,35 @@ use Rattle.lfm_protocol.specs.Turns.{is_open}
 use Rattle.lfm_core.specs.laws.Schedules.{is_call}
 use Rattle.lfm_protocol.specs.Seats.{seat, wake, is_seat, IsSeat}
 use Rattle.lfm_protocol.specs.Step.{made, step, begin}
+use Rattle.lfm_core.specs.steady.Steady.{sleeps_as_waiter}
 use Rattle.lfm_core.proofs.lawful.bounds.Leaving.{own_made}
 use Rattle.lfm_core.proofs.steady.frames.Entries.{seat-with_same}
 use Rattle.lfm_core.proofs.steady.frames.Seated.{seat_of_test, test_of_seat}
 use Rattle.lfm_condvar.specs.laws.Events.{is_own_call, is_rest}
-use Rattle.lfm_condvar.proofs.lawful.Invariant.{claims_at, sends_at, waits_at}
+use Rattle.lfm_condvar.proofs.lawful.Invariant.{is_of_condvar, claims_at, sends_at, waits_at}
 use Rattle.lfm_condvar.proofs.lawful.points.SendPoints.{stays_sending}
-use Rattle.lfm_condvar.proofs.lawful.points.Unclaimed.{stays_unclaimed}
+use Rattle.lfm_condvar.proofs.lawful.points.Outside.{stays_outside}
 
 -- Points
 
 pub sends_unclaimed : (p : Point) → sends_at p ≡ true → claims_at p ≡ false
 sends_unclaimed (SendWakeExchange t) sends = absurd (false≢true sends)
 sends_unclaimed _ sends = refl
+
+pub outside_unclaimed : (p : Point) → is_of_condvar p ≡ false → claims_at p ≡ false
+outside_unclaimed (SendWakeExchange t) none = absurd (false≢true (sym none))
+outside_unclaimed _ none = refl
+
+pub outside_unstarted : (p : Point) → is_of_condvar p ≡ false → waits_at p ≡ false
+outside_unstarted (SendWakeExchange t) none = refl
+outside_unstarted (Asleep sleeper) none = refl
+outside_unstarted (ReceiveWakeLoad sleeper) none = refl
+outside_unstarted _ none = none
+
+pub outside_awake : (p : Point) → is_of_condvar p ≡ false → sleeps_as_waiter p ≡ false
+outside_awake (Asleep Sleeper.Waiter) none = absurd (false≢true (sym none))
+outside_awake (ReceiveWakeLoad Sleeper.Waiter) none = absurd (false≢true (sym none))
+outside_awake _ none = refl
 
 pub waits_unclaimed : (p : Point) → waits_at p ≡ true → claims_at p ≡ false
 waits_unclaimed (SendWakeExchange t) waits = absurd (false≢true waits)
@@ -54,11 +70,11 @@ at_rest _ rests = absurd (false≢true rests)
 
 -- Steps
 
-pub step_unclaimed : (c : Core) (s : ℕ) → claims_at (seat c.seats s).point ≡ false
-    → claims_at (seat (step c s).core.seats s).point ≡ false
-step_unclaimed c s before =
+pub step_outside : (c : Core) (s : ℕ) → is_of_condvar (seat c.seats s).point ≡ false
+    → is_of_condvar (seat (step c s).core.seats s).point ≡ false
+step_outside c s before =
     elim (cases_Bool (is_seat c.seats s)) [
-      | inl is ↦ rw is (ap (λ x. claims_at x.point) (own_made c s (seat_of_test c.seats s is)) ∙ stays_unclaimed c s before)
+      | inl is ↦ rw is (ap (λ x. is_of_condvar x.point) (own_made c s (seat_of_test c.seats s is)) ∙ stays_outside c s before)
       | inr none ↦ rw none before
     ]
 
@@ -68,52 +84,55 @@ made_sending c s is before = ap (λ x. sends_at x.point) (own_made c s is) ∙ s
 
 -- Beginnings
 
-begun_if : (b : Bool) (m n : Stepped) → claims_at m.seat.point ≡ false → claims_at n.seat.point ≡ false
-    → claims_at (if b then m else n).seat.point ≡ false
+begun_if : (b : Bool) (m n : Stepped) → is_of_condvar m.seat.point ≡ false → is_of_condvar n.seat.point ≡ false
+    → is_of_condvar (if b then m else n).seat.point ≡ false
 begun_if true m n first second = first
 begun_if false m n first second = second
 
-charged_unclaimed : (x : SeatState) (budget : ℕ) (p : Point) → claims_at x.point ≡ false → claims_at p ≡ false
-    → claims_at (charges x budget p).seat.point ≡ false
-charged_unclaimed x budget p before other = begun_if (nat_lt x.takes budget) _ (refuses x Refusal.Spent) other before
+charged_outside : (x : SeatState) (budget : ℕ) (p : Point) → is_of_condvar x.point ≡ false → is_of_condvar p ≡ false
+    → is_of_condvar (charges x budget p).seat.point ≡ false
+charged_outside x budget p before other = begun_if (nat_lt x.takes budget) _ (refuses x Refusal.Spent) other before
 
-entry_unclaimed : (x : SeatState) (budget : ℕ) (p : Point) → claims_at x.point ≡ false → claims_at p ≡ false
-    → claims_at (begin_entry x budget p).seat.point ≡ false
-entry_unclaimed x budget p before other =
+entry_outside : (x : SeatState) (budget : ℕ) (p : Point) → is_of_condvar x.point ≡ false → is_of_condvar p ≡ false
+    → is_of_condvar (begin_entry x budget p).seat.point ≡ false
+entry_outside x budget p before other =
     begun_if (nat_lt 65534 x.depth) (refuses x Refusal.DepthFull)
     (if nat_eq x.depth 0 then charges x budget p else goes_on x p) before
-    (begun_if (nat_eq x.depth 0) (charges x budget p) (goes_on x p) (charged_unclaimed x budget p before other) other)
+    (begun_if (nat_eq x.depth 0) (charges x budget p) (goes_on x p) (charged_outside x budget p before other) other)
 
-awake_unclaimed : (x : SeatState) (bounds : Limits) (call : Call) → is_own_call call ≡ true → claims_at x.point ≡ false
-    → claims_at (begin_awake x bounds call).seat.point ≡ false
-awake_unclaimed x bounds Lock own before = entry_unclaimed x bounds.budget LockCountAdd before refl
-awake_unclaimed x bounds TryLock own before = entry_unclaimed x bounds.budget TryCountExchange before refl
-awake_unclaimed x bounds Unlock own before =
+awake_outside : (x : SeatState) (bounds : Limits) (call : Call) → is_own_call call ≡ true → is_of_condvar x.point ≡ false
+    → is_of_condvar (begin_awake x bounds call).seat.point ≡ false
+awake_outside x bounds Lock own before = entry_outside x bounds.budget LockCountAdd before refl
+awake_outside x bounds TryLock own before = entry_outside x bounds.budget TryCountExchange before refl
+awake_outside x bounds Unlock own before =
     begun_if (nat_eq x.depth 0) (refuses x Refusal.NotOwner) _ before
     (begun_if (nat_eq x.depth 1) (goes_on x (ReleaseOwnerStore Unlocker)) _ refl before)
-awake_unclaimed x bounds StartWait own before = absurd (false≢true own)
-awake_unclaimed x bounds (SendLock t) own before = absurd (false≢true own)
-awake_unclaimed x bounds Receive own before = before
+awake_outside x bounds StartWait own before = absurd (false≢true own)
+awake_outside x bounds (SendLock t) own before = absurd (false≢true own)
+awake_outside x bounds Receive own before = before
 
-asleep_unclaimed : (x : SeatState) (sleeper : Sleeper) (call : Call) → claims_at x.point ≡ false
-    → claims_at (begin_asleep x sleeper call).seat.point ≡ false
-asleep_unclaimed x sleeper Receive before = refl
-asleep_unclaimed x sleeper _ before = before
+asleep_outside : (x : SeatState) (sleeper : Sleeper) (call : Call) → is_of_condvar x.point ≡ false
+    → is_of_condvar (Asleep sleeper) ≡ false
+    → is_of_condvar (begin_asleep x sleeper call).seat.point ≡ false
+asleep_outside x Sleeper.Waiter Receive before here = absurd (false≢true (sym here))
+asleep_outside x Sleeper.Locker Receive before here = refl
+asleep_outside x sleeper _ before here = before
 
-begun_unclaimed : (x : SeatState) (bounds : Limits) (call : Call) (p : Point) → is_own_call call ≡ true → claims_at x.point ≡ false
-    → claims_at (Begin.begin_at x bounds call p).seat.point ≡ false
-begun_unclaimed x bounds call Rest own before = awake_unclaimed x bounds call own before
-begun_unclaimed x bounds call (Asleep sleeper) own before = asleep_unclaimed x sleeper call before
-begun_unclaimed x bounds call _ own before = before
+begun_outside : (x : SeatState) (bounds : Limits) (call : Call) (p : Point) → is_own_call call ≡ true
+    → is_of_condvar x.point ≡ false
+    → is_of_condvar p ≡ false → is_of_condvar (Begin.begin_at x bounds call p).seat.point ≡ false
+begun_outside x bounds call Rest own before here = awake_outside x bounds call own before
+begun_outside x bounds call (Asleep sleeper) own before here = asleep_outside x sleeper call before here
+begun_outside x bounds call _ own before here = before
 
--- no call from outside of condvars leads to the claim of a send
-pub begin_unclaimed : (c : Core) (s : ℕ) (call : Call) → is_own_call call ≡ true → claims_at (seat c.seats s).point ≡ false
-    → claims_at (seat (begin c s call).core.seats s).point ≡ false
-begin_unclaimed c s call own before =
+-- no call from outside of condvars begins at a point that these alone come to
+pub begin_outside : (c : Core) (s : ℕ) (call : Call) → is_own_call call ≡ true → is_of_condvar (seat c.seats s).point ≡ false
+    → is_of_condvar (seat (begin c s call).core.seats s).point ≡ false
+begin_outside c s call own before =
     elim (cases_Bool (is_seat c.seats s)) [
       | inl is ↦
-          rw is (ap (λ x. claims_at x.point) (seat-with_same c.seats s _ (seat_of_test c.seats s is))
-          ∙ begun_unclaimed (seat c.seats s) (limits c) call (seat c.seats s).point own before)
+          rw is (ap (λ x. is_of_condvar x.point) (seat-with_same c.seats s _ (seat_of_test c.seats s is))
+          ∙ begun_outside (seat c.seats s) (limits c) call (seat c.seats s).point own before before)
       | inr none ↦ rw none before
     ]
 

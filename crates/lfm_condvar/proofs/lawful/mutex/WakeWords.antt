@@ -1,24 +1,24 @@
 -- A wake word that is WAITING stays so until a send claims its seat.
-use Rattle.std.proofs.Common.{◌≡◌, ◌≢◌, ℕ, true, false, ◌+◌, List, refl, sym, ap, ◌∙◌}
-use Rattle.std.proofs.lemmas.Bool.{eq-eqb, false≢true}
+use Rattle.std.proofs.Common.{◌≡◌, ◌≢◌, ◌⊎◌, ℕ, zero, suc, true, false, ◌+◌, List, length, refl, sym, ap, ◌∙◌, inl, inr, arith}
+use Rattle.std.proofs.lemmas.Bool.{cases_eq, cases_lt, eq-eqb, false≢true}
 use Rattle.lfm_protocol.specs.declared.points.Carrier.{Carrier}
 use Rattle.lfm_protocol.specs.declared.points.Point.{Point}
 use Rattle.lfm_protocol.specs.declared.points.Point.TheVariants.{Rest, SendWakeExchange, SendWakeStore, WaitWakeStore, GrantWakeStore, ReceiveWakeStore}
 use Rattle.lfm_words.specs.declared.pop_lists.Record.{Record}
 use Rattle.lfm_words.specs.declared.wakes.Wake.{Wake}
-use Rattle.lfm_words.specs.declared.wakes.Wake.TheVariants.{Quiet, Waiting, Claimed}
+use Rattle.lfm_words.specs.declared.wakes.Wake.TheVariants.{Quiet, Waiting, Claimed, Grant}
 use Rattle.lfm_protocol.specs.Core.{Core}
 use Rattle.lfm_core.specs.steady.Ghost.{entering, apart, queued, Ghost}
-use Rattle.lfm_protocol.specs.Seats.{seat, wake, with_entry, IsSeat}
+use Rattle.lfm_protocol.specs.Seats.{seat, wake, entry, with_entry, IsSeat}
 use Rattle.lfm_core.specs.steady.Steady.{Fits, sleeps_as_waiter}
-use Rattle.lfm_protocol.specs.Step.{made}
+use Rattle.lfm_protocol.specs.Step.{claims_word, made}
 use Rattle.lfm_core.specs.steady.Views.{claim, is_entered}
-use Rattle.lfm_core.proofs.steady.frames.Entries.{entry-with_same, entry-with_other}
+use Rattle.lfm_core.proofs.steady.frames.Entries.{entry-with_same, entry-with_other, length-with_entry, entry_past}
 use Rattle.lfm_core.proofs.steady.frames.Frames.{place_of_claim}
 use Rattle.lfm_core.proofs.steady.queue.Popping.{first_of}
 use Rattle.lfm_core.proofs.steady.frames.Seated.{seat_of_point}
 use Rattle.lfm_core.proofs.steady.grant.Wakings.{IsWaiting, waiting_of}
-use Rattle.lfm_condvar.proofs.lawful.Invariant.{claims_at}
+use Rattle.lfm_condvar.proofs.lawful.Invariant.{claims_at, waits_at}
 
 -- what a wake word that is WAITING tells of its seat
 pub waiting_tells : (c : Core) (g : Ghost) (t : ℕ) → Fits c g → wake c.wakes t ≡ Waiting
@@ -56,13 +56,6 @@ enters_other c g s t u at fits word same =
     let entered : is_entered g.place t ≡ true = rw place (eq-eqb u t (sym same)) in
     false≢true (sym is.unentered ∙ entered)
 
-receives_other : (c : Core) (g : Ghost) (s t stamp : ℕ) → (seat c.seats s).point ≡ ReceiveWakeStore stamp → Fits c g
-    → wake c.wakes t ≡ Waiting → t ≢ s
-receives_other c g s t stamp at fits word same =
-    let is = waiting_tells c g t fits word in
-    let point : (seat c.seats t).point ≡ ReceiveWakeStore stamp = rw same at in
-    false≢true (rw point at is.sleeps)
-
 waits_other : (c : Core) (g : Ghost) (s t : ℕ) (p : Point) → (seat c.seats s).point ≡ p → sleeps_as_waiter p ≡ false → Fits c g
     → wake c.wakes t ≡ Waiting → t ≢ s
 waits_other c g s t p at awake fits word same =
@@ -95,6 +88,60 @@ pub others_stay_waiting : (c : Core) (s t u : ℕ) → (seat c.seats s).point �
     → wake (made c s).core.wakes t ≡ Waiting
 others_stay_waiting c s t u at found other word = rw (at, found) (other_word c.wakes u t Claimed other word)
 
+-- which is then claimed
+pub claimed_word : (c : Core) (g : Ghost) (s u : ℕ) → (seat c.seats s).point ≡ SendWakeExchange u → wake c.wakes u ≡ Waiting
+    → IsSeat c.seats u → Fits c g → wake (made c s).core.wakes u ≡ Claimed
+claimed_word c g s u at found is fits =
+    rw (at, found) (entry-with_same Quiet c.wakes u Claimed is.above (rw fits.sizes.wakes is.within))
+
 -- the last step of start_wait stores WAITING
 pub ends_waiting : (c : Core) (g : Ghost) (s : ℕ) → IsSeat c.seats s → Fits c g → wake (with_entry c.wakes s Waiting) s ≡ Waiting
 ends_waiting c g s is fits = entry-with_same Quiet c.wakes s Waiting is.above (rw fits.sizes.wakes is.within)
+
+-- No word becomes WAITING but by the last step of start_wait
+
+written_or_left : {A : Type 0} (d : A) (xs : List A) (s : ℕ) (x : A)
+    → (entry d (with_entry xs s x) s ≡ x) ⊎ (entry d (with_entry xs s x) s ≡ entry d xs s)
+unfolding entry with_entry
+written_or_left d xs zero x = inr refl
+written_or_left d xs (suc n) x =
+    elim (cases_lt n (length xs)) [
+      | inl within ↦ inl (entry-with_same d xs (suc n) x (omega arith) (omega arith))
+      | inr past ↦
+          let size = length-with_entry xs (suc n) x in
+          inr (entry_past d (with_entry xs (suc n) x) (suc n) (omega (arith, size)) ∙ sym (entry_past d xs (suc n) (omega arith)))
+    ]
+
+was_waiting : (wakes : List Wake) (u t : ℕ) (w : Wake) → w ≢ Waiting → wake (with_entry wakes u w) t ≡ Waiting
+    → wake wakes t ≡ Waiting
+was_waiting wakes u t w other word =
+    elim (cases_eq t u) [
+      | inr elsewhere ↦ sym (entry-with_other Quiet wakes u t w elsewhere) ∙ word
+      | inl same ↦
+          let here : wake (with_entry wakes u w) u ≡ Waiting = rw same at word in
+          elim (written_or_left Quiet wakes u w) [
+            | inl written ↦ absurd (other (sym written ∙ here))
+            | inr left ↦ rw same (sym left ∙ here)
+          ]
+    ]
+
+was_exchanged : (c : Core) (u t : ℕ) (w : Wake) → wake (claims_word c u w).wakes t ≡ Waiting → wake c.wakes t ≡ Waiting
+was_exchanged c u t Waiting word = was_waiting c.wakes u t Claimed (λ e. cc) word
+was_exchanged c u t _ word = word
+
+waited_at : (c : Core) (s t : ℕ) (p : Point) → (seat c.seats s).point ≡ p → (t ≢ s) ⊎ (waits_at p ≡ false)
+    → wake (made c s).core.wakes t ≡ Waiting → wake c.wakes t ≡ Waiting
+waited_at c s t (SendWakeExchange u) at other word = was_exchanged c u t (wake c.wakes u) (rw at at word)
+waited_at c s t (GrantWakeStore carrier r) at other word =
+    was_waiting c.wakes r.seat t (Grant r.stamp) (λ e. cc) (rw (at, at) at word)
+waited_at c s t (SendWakeStore u) at other word = was_waiting c.wakes u t (Grant 0) (λ e. cc) (rw (at, at) at word)
+waited_at c s t (ReceiveWakeStore stamp) at other word = was_waiting c.wakes s t Quiet (λ e. cc) (rw (at, at) at word)
+waited_at c s t (WaitWakeStore released) at (inl other) word =
+    sym (entry-with_other Quiet c.wakes s t Waiting other) ∙ rw (at, at) at word
+waited_at c s t (WaitWakeStore released) at (inr none) word = absurd (false≢true (sym none))
+waited_at c s t _ at other word = rw at at word
+
+-- so where a word is WAITING after a step, it was before, but for a seat that ends its own start_wait
+pub has_waited : (c : Core) (s t : ℕ) → (t ≢ s) ⊎ (waits_at (seat c.seats s).point ≡ false)
+    → wake (made c s).core.wakes t ≡ Waiting → wake c.wakes t ≡ Waiting
+has_waited c s t other word = waited_at c s t (seat c.seats s).point refl other word

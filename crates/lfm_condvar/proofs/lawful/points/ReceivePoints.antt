@@ -15,11 +15,19 @@ use Rattle.lfm_protocol.specs.Step.{step, begin}
 use Rattle.lfm_core.proofs.lawful.bounds.Leaving.{stepped, own_made}
 use Rattle.lfm_core.proofs.steady.frames.Entries.{seat-with_same}
 use Rattle.lfm_core.proofs.steady.frames.Seated.{seat_of_point, seat_of_test, test_of_seat}
-use Rattle.lfm_condvar.proofs.lawful.Invariant.{claims_at, comes_to_hold_at, comes_to_hold}
+use Rattle.lfm_condvar.proofs.lawful.Invariant.{claims_at, waits_at, comes_to_hold_at, comes_to_hold}
 
 pub receives_unclaimed : (depth : ℕ) (p : Point) → comes_to_hold_at depth p ≡ true → claims_at p ≡ false
 receives_unclaimed depth (SendWakeExchange t) comes = absurd (false≢true comes)
 receives_unclaimed depth _ comes = refl
+
+pub receives_unstarted : (depth : ℕ) (p : Point) → comes_to_hold_at depth p ≡ true → waits_at p ≡ false
+receives_unstarted depth Rest comes = refl
+receives_unstarted depth (Asleep sleeper) comes = refl
+receives_unstarted depth (ReceiveWakeLoad sleeper) comes = refl
+receives_unstarted depth (ReceiveWakeStore stamp) comes = refl
+receives_unstarted depth (EnterOwnerStore entrant how) comes = refl
+receives_unstarted depth _ comes = absurd (false≢true comes)
 
 -- where it rests, it holds once
 pub holds_once : (x : SeatState) → x.point ≡ Rest → comes_to_hold x ≡ true → x.depth ≡ 1

@@ -15,7 +15,7 @@ use Rattle.lfm_condvar.specs.laws.Laws.{reached_by, ClaimsNeverFail}
 use Rattle.lfm_condvar.proofs.lawful.Invariant.{CondvarGhost, claims_at, StartsAt, StageFits, CoreFits}
 use Rattle.lfm_condvar.proofs.lawful.Runs.{run_reaches}
 use Rattle.lfm_condvar.proofs.lawful.events.ClaimEvent.{target_of}
-use Rattle.lfm_condvar.proofs.lawful.mutex.OwnSeat.{claim_turn, waits_unclaimed, sends_unclaimed}
+use Rattle.lfm_condvar.proofs.lawful.mutex.OwnSeat.{claim_turn, outside_unclaimed, waits_unclaimed, sends_unclaimed}
 use Rattle.lfm_condvar.proofs.lawful.points.ReceivePoints.{receives_unclaimed}
 
 -- a seat at the claim of a send is in a wake
@@ -35,7 +35,7 @@ starts_unclaimed c s (inr sleeps) = ap claims_at sleeps.0
 
 claim_finds : (k : CondvarCore) (g : CondvarGhost) (s t : ℕ) (d : Stage) → CoreFits k g → k.stage s ≡ d → StageFits k g s d
     → point_of k s ≡ SendWakeExchange t → wake k.mutex.wakes t ≡ Waiting
-claim_finds k g s t outside fits stage own at = absurd (unclaimed_but (point_of k s) t at own)
+claim_finds k g s t outside fits stage own at = absurd (unclaimed_but (point_of k s) t at (outside_unclaimed (point_of k s) own))
 claim_finds k g s t (locking_to_wait v) fits stage own at = absurd (waits_not_there k.mutex s t at own)
 claim_finds k g s t (starting v ticket) fits stage own at =
     absurd (unclaimed_but (point_of k s) t at (starts_unclaimed k.mutex s own.at))

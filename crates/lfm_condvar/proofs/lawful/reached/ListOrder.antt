@@ -1,5 +1,5 @@
 -- The list of a condvar whose lock is free: its tickets are in order, its seats are distinct, and they are those that wait.
-use Rattle.std.proofs.Common.{◌≡◌, ℕ, ◌+◌, ◌-◌, ◌<◌, length, map, get_or, [], ◌∷◌, sym, ap, ◌∙◌, inl, inr, arith}
+use Rattle.std.proofs.Common.{◌≡◌, ◌≤◌, ℕ, ◌+◌, ◌-◌, ◌<◌, length, map, get_or, [], ◌∷◌, sym, ap, ◌∙◌, inl, inr, arith}
 use Rattle.std.proofs.lemmas.Bool.{cases_lt}
 use Rattle.std.specs.Prelude.{Contains}
 use Rattle.std.specs.List.{range_with_len}
@@ -112,28 +112,30 @@ unclaimed_ticket r is s v ticket own none =
           cc
     ]
 
-waits_listed : (r : CondvarRun) (is : Reached r) (v : ℕ) (x : Waiter) → ((reached_by r).condvar v).holder ≡ 0
-    → (reached_by r).stage x.seat ≡ receiving v x.ticket → claims_with r v x.ticket ≡ []
-    → Contains ((reached_by r).condvar v).waiters x
-waits_listed r is v x free stage none =
-    let k = reached_by r in
-    let g = is.ghost_state in
-    let here = is.fits.condvars v in
+-- a ticket that was given and not sent stands in the list, with its seat
+pub given_listed : (k : CondvarCore) (g : CondvarGhost) (v ticket s : ℕ) → CoreFits k g → (k.condvar v).sent < ticket
+    → ticket ≤ (k.condvar v).added → g.given v ticket ≡ s → Contains (k.condvar v).waiters (waiter_with s ticket)
+given_listed k g v ticket s fits above within given =
     let sent = (k.condvar v).sent in
-    let own : ReceivingFits k g x.seat v x.ticket = rw stage at (is.fits.stages x.seat) in
-    let above = unclaimed_ticket r is x.seat v x.ticket own none in
-    let unclaimed = here.free free in
-    let size = list_size k g v is.fits in
-    let i = x.ticket - sent - 1 in
-    let number : sent + i + 1 ≡ x.ticket = omega (arith, above, unclaimed) in
-    let within : i < (k.condvar v).added - sent = omega (arith, above, unclaimed, own.within) in (
+    let size = list_size k g v fits in
+    let i = ticket - sent - 1 in
+    let number : sent + i + 1 ≡ ticket = omega (arith, above) in
+    let inside : i < (k.condvar v).added - sent = omega (arith, above, within) in (
       i,
-      omega (arith, within, size),
-      listed_at k g v i x is.fits within ∙ same_waiter _ _ _ _
-          (ap (g.given v) number ∙ own.given) number,
+      omega (arith, inside, size),
+      listed_at k g v i (waiter_with s ticket) fits inside ∙ same_waiter _ _ _ _ (ap (g.given v) number ∙ given) number,
     )
+
+waits_listed : (r : CondvarRun) (is : Reached r) (v : ℕ) (x : Waiter) → (reached_by r).stage x.seat ≡ receiving v x.ticket
+    → claims_with r v x.ticket ≡ [] → Contains ((reached_by r).condvar v).waiters x
+waits_listed r is v x stage none =
+    let k = reached_by r in
+    let own : ReceivingFits k is.ghost_state x.seat v x.ticket = rw stage at (is.fits.stages x.seat) in
+    let above = unclaimed_ticket r is x.seat v x.ticket own none in
+    let counted = (is.fits.condvars v).counted in
+    given_listed k is.ghost_state v x.ticket x.seat is.fits (omega (arith, above, counted)) own.within own.given
 
 pub waiters_are_listed : WaitersAreListed
 waiters_are_listed r v x free =
     let is = run_reaches r in
-    (λ listed. listed_waits r is v x free listed, λ waits. waits_listed r is v x free waits.0 waits.1)
+    (λ listed. listed_waits r is v x free listed, λ waits. waits_listed r is v x waits.0 waits.1)

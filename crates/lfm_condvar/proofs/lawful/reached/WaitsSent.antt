@@ -82,6 +82,7 @@ claims_are_in_order r v =
     let g = is.ghost_state in
     let size : length (claims_of r v) ≡ g.claimed v =
     ap length (sym (is.history v)) ∙ length-waiters (g.given v) 0 (g.claimed v) in (
-      ap (map (λ x. x.ticket)) (sym (is.history v)) ∙ tickets-waiters (g.given v) 0 (g.claimed v) ∙ ap (range_with_len 1) (sym size),
+      ap (map (λ x. x.ticket)) (sym (is.history v)) ∙ tickets-waiters (g.given v) 0 (g.claimed v) ∙ ap (range_with_len 1)
+          (sym size),
       λ free. size ∙ (is.fits.condvars v).free free,
     )

@@ -24,7 +24,7 @@ ghost use Rattle.lfm_condvar.specs.laws.Laws.{
 };
 
 /// The claim of a sender never fails: a seat that is about to make the exchange of a `send_lock` finds its target waiting. So no
-/// wake answers NotWaiting.
+/// wake is refused as NotWaiting.
 ///
 /// Definition: `ClaimsNeverFail` in `specs/laws/Laws.antt`. Proof: `proofs/lawful/reached/ClaimsFound.antt`.
 pub fn claims_never_fail()
@@ -92,7 +92,7 @@ pub fn lists_are_in_order()
 {}
 
 /// No lost wake-up: at every moment, each seat whose wake word is WAITING stands in the list of a condvar. So from the step by
-/// which it falls asleep until a wake claims it, every wake that takes the lock finds it.
+/// which it falls asleep until a wake claims it, every wake of this condvar that takes the lock finds it.
 ///
 /// Definition: `SleepersAreListed` in `specs/laws/Laws.antt`. Proof: `proofs/lawful/reached/SleepersListed.antt`.
 pub fn sleepers_are_listed()

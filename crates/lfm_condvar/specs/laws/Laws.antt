@@ -49,7 +49,7 @@ ClaimsNeverFail =
 abbrev pub TicketsAreClaimedOnce : Type 0
 TicketsAreClaimedOnce = (r : CondvarRun) (v ticket : ℕ) → length (claims_with r v ticket) ≤ 1
 
--- the claims of a condvar are of its tickets 1, 2, 3 and on, in order; where its lock is free, they are those that count as sent
+-- the claims of a condvar are of its tickets 1, 2, 3 and on, in order; where its lock is free, as many as count as sent
 abbrev pub ClaimsAreInOrder : Type 0
 ClaimsAreInOrder =
     (r : CondvarRun) (v : ℕ)
@@ -103,7 +103,7 @@ pub record IsInOrder (x : Condvar) : Type 0 where
 abbrev pub ListsAreInOrder : Type 0
 ListsAreInOrder = (r : CondvarRun) (v : ℕ) → ((reached_by r).condvar v).holder ≡ 0 → IsInOrder ((reached_by r).condvar v)
 
--- where the lock of a condvar is free, its list has just the waits that no wake has claimed yet
+-- where the lock of a condvar is free, a waiter is listed exactly while its wait receives and no claim was made with its ticket
 abbrev pub WaitersAreListed : Type 0
 WaitersAreListed =
     (r : CondvarRun) (v : ℕ) (x : Waiter) → ((reached_by r).condvar v).holder ≡ 0

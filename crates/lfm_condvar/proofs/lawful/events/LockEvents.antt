@@ -178,15 +178,19 @@ at_locking_to_wake k g s v all fits stage own =
             is = own.is;
             at = own.at;
             holder = refl;
-            moves = record { before = inl free; added = refl; order = here.order; counted = here.counted; waiters = here.waiters; free = λ e. here.free free };
+            moves = record {
+              before = inl free;
+              added = refl;
+              order = here.order;
+              counted = here.counted;
+              waiters = here.waiters;
+              free = λ e. here.free free;
+            };
             unclaimed = here.free free;
           }) refl)
     ]
 
 -- A waiter leaves the list
-
-rest_of_waiters : (f : ℕ → ℕ) (last n : ℕ) → drop 1 (waiters_of f last (suc n)) ≡ waiters_of f (last + 1) n
-rest_of_waiters f last n = refl
 
 removed_moves : (k : CondvarCore) (g : CondvarGhost) (s v : ℕ) → CoreFits k g → SendingFits k g s v
     → CondvarMoves k g s v (removed (k.condvar v))

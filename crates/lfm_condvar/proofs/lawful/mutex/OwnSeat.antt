@@ -37,12 +37,6 @@ pub outside_unclaimed : (p : Point) → is_of_condvar p ≡ false → claims_at 
 outside_unclaimed (SendWakeExchange t) none = absurd (false≢true (sym none))
 outside_unclaimed _ none = refl
 
-pub outside_unstarted : (p : Point) → is_of_condvar p ≡ false → waits_at p ≡ false
-outside_unstarted (SendWakeExchange t) none = refl
-outside_unstarted (Asleep sleeper) none = refl
-outside_unstarted (ReceiveWakeLoad sleeper) none = refl
-outside_unstarted _ none = none
-
 pub outside_awake : (p : Point) → is_of_condvar p ≡ false → sleeps_as_waiter p ≡ false
 outside_awake (Asleep Sleeper.Waiter) none = absurd (false≢true (sym none))
 outside_awake (ReceiveWakeLoad Sleeper.Waiter) none = absurd (false≢true (sym none))

@@ -1,3 +1,4 @@
+pub mod Begins
 pub mod Enlisted
 pub mod Followed
 pub mod ListFacts

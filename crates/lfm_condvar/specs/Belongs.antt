@@ -19,3 +19,7 @@ cond_sight c = sight c.seat
 -- the cond seat is one of the condvar's
 abbrev pub Of_condvar : CondSeat → Condvar → Type 0
 Of_condvar c v = Of_mutex c.seat v.inner × Made_for (limits_of v.inner) (sight c.seat)
+
+-- both are one condvar
+abbrev pub Same_condvar : Condvar → Condvar → Type 0
+Same_condvar u v = (v.inner ≡ u.inner) × (v.seats ≡ u.seats)

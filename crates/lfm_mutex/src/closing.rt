@@ -15,7 +15,8 @@ use crate::holders::Holder;
 use crate::kept::Kept;
 use crate::mutex::Mutex;
 use crate::seat::{Place, Seat};
-use crate::table::rule::{JoinedView, Moving, SeatJoin};
+use crate::table::moving_box::MovingBox;
+use crate::table::rule::{JoinedView, SeatJoin};
 use crate::table::table_steps::SharedTable;
 use atomic_table::Closed;
 use lfm_model::{Missing, SeatNo};
@@ -110,7 +111,7 @@ fn retire<T: Kept, B: JoinedView<T>>(table: &SharedTable<T>, root: &mut Place<T>
 }
 
 // Takes what lies in the slot of a table, which is closed while nobody counts, nothing is posted and nobody is queued.
-fn take_slot<T: Kept>(closed: Closed<Option<Moving<T>>, Global>) -> Option<Moving<T>>
+fn take_slot<T: Kept>(closed: Closed<Option<MovingBox<T>>, Global>) -> Option<MovingBox<T>>
     requires free { Are_free (slots_items closed.words) }
     requires slot { (slots_len closed.slots ≡ 1) × IsFull closed.slots }
     ensures { get_elem? (slots_items closed.slots) 0 ≡ some result }
@@ -157,9 +158,9 @@ impl<T: Kept> Mutex<T> {
             let place = into_place::<T, P>(seat);
             retire::<T, Brand>(&table.shared, &mut root, place);
         }
-        let Some(Moving { popped: _, value }) = take_slot(table.close_with(root)) else {
+        let Some(moving) = take_slot(table.close_with(root)) else {
             unreachable!()
         };
-        Ok(value)
+        Ok(moving.into_value())
     }
 }

@@ -18,7 +18,7 @@ impl<T: Kept> Seat<T> {
             return None;
         }
         match &mut self.moving {
-            Some(moving) => Some(&mut moving.value),
+            Some(moving) => Some(moving.value_mut()),
             None => None,
         }
     }

@@ -2,14 +2,15 @@
 ghost use Rattle.std.specs.Prelude.{◌≡◌, ◌+◌, ◌*◌, ◌<◌, ◌≤◌};
 
 use crate::kept::Kept;
-use crate::table::rule::{Key, Lawful, Moving};
+use crate::table::moving_box::MovingBox;
+use crate::table::rule::{Key, Lawful};
 use crate::table::seat_view::View;
 use atomic_table::Table;
 use lfm_protocol::Limits;
 use std::alloc::Global;
 
 /// The words of a mutex, with the rule that they and its seats keep.
-pub(crate) type WordTable<T> = Table<Option<Moving<T>>, View<T>, Key<T>, Lawful, Global>;
+pub(crate) type WordTable<T> = Table<Option<MovingBox<T>>, View<T>, Key<T>, Lawful, Global>;
 
 /// A mutex round a value of type T: at most one seat at a time holds it, and reaches the value. Its calls are made through a
 /// shared reference and one of its seats. A call with the seat of another mutex breaks the condition that every call has.

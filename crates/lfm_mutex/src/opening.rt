@@ -12,7 +12,8 @@ ghost use Rattle.lfm_mutex.specs.table.Rule.{first_view};
 use crate::kept::Kept;
 use crate::mutex::{Mutex, WordTable};
 use crate::seat::{Place, Seat};
-use crate::table::rule::{Key, Moving, SeatSplit};
+use crate::table::moving_box::MovingBox;
+use crate::table::rule::{Key, SeatSplit};
 use atomic_table::Table;
 use lfm_model::NewFault;
 use lfm_protocol::points::Point;
@@ -51,8 +52,11 @@ fn laid_out<T: Kept>(
     let Ok(popped) = PopList::new(alloc, limits.seats) else {
         return Err(NewFault::Memory);
     };
+    let Ok(moving) = MovingBox::new(alloc, popped, value) else {
+        return Err(NewFault::Memory);
+    };
     let mut slots = Vec::new(alloc);
-    let Ok(()) = slots.push(Some(Moving { popped, value })) else {
+    let Ok(()) = slots.push(Some(moving)) else {
         return Err(NewFault::Memory);
     };
     let Ok(words) = Vec::from_elem(alloc, 0u64, 4 + 2 * limits.seats as usize) else {

@@ -9,14 +9,14 @@ ghost use Rattle.lfm_mutex.specs.table.Seats.{Seated, Rooted};
 ghost use Rattle.lfm_mutex.specs.table.Settled.{Became};
 
 use crate::kept::Kept;
-use crate::table::rule::Moving;
+use crate::table::moving_box::MovingBox;
 use crate::table::seat_view::View;
 use lfm_model::SeatNo;
 use lfm_protocol::points::Point;
 use lfm_protocol::{Limits, SeatState};
 
 /// The seat of the table, which has no bytes.
-pub(crate) type Place<T> = atomic_table::Seat<Option<Moving<T>>, View<T>>;
+pub(crate) type Place<T> = atomic_table::Seat<Option<MovingBox<T>>, View<T>>;
 
 /// What one thread uses the mutex with. A seat may move between threads, and each call borrows it for its whole length.
 /// Dropped while it holds or sleeps, it keeps what it holds: nobody else gains that.
@@ -27,7 +27,7 @@ pub struct Seat<T: Drop> {
     pub(crate) limits: Limits,
     pub(crate) standing: SeatState,
     /// The pop list and the guarded value: here exactly while the seat carries the responsibility.
-    pub(crate) moving: Option<Moving<T>>,
+    pub(crate) moving: Option<MovingBox<T>>,
     pub ghost seated: { Seated number limits standing place.me moving },
     pub ghost became: { Became place.me.0.standing limits standing } by { Became-prop (Coded-set standing-code) place.me.0.standing limits standing },
     pub ghost ready: { IsReady limits.seats number standing } by { IsReady-prop limits.seats number standing },
@@ -82,7 +82,7 @@ impl<T: Kept> Seat<T> {
             return None;
         }
         match &self.moving {
-            Some(moving) => Some(&moving.value),
+            Some(moving) => Some(moving.value()),
             None => None,
         }
     }

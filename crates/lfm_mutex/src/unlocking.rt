@@ -18,7 +18,7 @@ use crate::calls::finish;
 use crate::kept::Kept;
 use crate::mutex::Mutex;
 use crate::seat::Seat;
-use crate::table::rule::Moving;
+use crate::table::moving_box::MovingBox;
 use crate::table::seat_memory::oldest_of;
 use crate::table::straight_steps::{store_held, subtract_last};
 use lfm_model::Unlocked;
@@ -46,7 +46,7 @@ fn unlock_on<T: Kept>(mutex: &Mutex<T>, seat: &mut Seat<T>) -> Unlocked
 #[inline(never)]
 fn stand_carrying<T: Kept>(
     standing: &mut SeatState,
-    moving: &Option<Moving<T>>,
+    moving: &Option<MovingBox<T>>,
     number: u64,
     found: u64,
 )

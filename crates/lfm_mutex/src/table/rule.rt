@@ -7,6 +7,7 @@ ghost use Rattle.lfm_mutex.specs.declared.table.seat_view.View.{View};
 ghost use Rattle.lfm_mutex.specs.table.Rule.{Held, Advanced, Looked, first_view, with_split, with_joined, joined, no_view, split_view};
 
 use crate::kept::Kept;
+use crate::table::moving_box::MovingBox;
 use crate::table::seat_view::View;
 use atomic_table::{Join, Play, Split, TableRule};
 use lfm_protocol::{Limits, SeatState};
@@ -31,7 +32,7 @@ pub struct Key<T: Drop> {
 /// The rule of the table.
 pub struct Lawful;
 
-impl<T: Kept> TableRule<Option<Moving<T>>, View<T>, Key<T>> for Lawful {
+impl<T: Kept> TableRule<Option<MovingBox<T>>, View<T>, Key<T>> for Lawful {
     ghost holds = { λ _. Held T.follows T.fits };
 
     ghost first = { λ key. first_view key.limits key.opening.value };
@@ -55,14 +56,14 @@ pub struct Stepped<B> {
     plain: PhantomData<B>,
 }
 
-impl<T: Kept, B: Plain<T>> Play<Option<Moving<T>>, View<T>> for Stepped<B> {
+impl<T: Kept, B: Plain<T>> Play<Option<MovingBox<T>>, View<T>> for Stepped<B> {
     ghost then = { λ _. Advanced T.follows T.fits B.standing B.hand };
 }
 
 /// A look at the owner.
 pub struct OwnerLook;
 
-impl<T: Kept> Play<Option<Moving<T>>, View<T>> for OwnerLook {
+impl<T: Kept> Play<Option<MovingBox<T>>, View<T>> for OwnerLook {
     ghost then = { λ _. Looked };
 }
 

@@ -13,7 +13,7 @@ ghost use Rattle.lfm_mutex.specs.table.Steps.{gives_at, dropped, kept_out, put_i
 
 use crate::kept::Kept;
 use crate::seat::Place;
-use crate::table::rule::Moving;
+use crate::table::moving_box::MovingBox;
 use crate::table::table_steps::SharedTable;
 use lfm_model::SeatNo;
 use lfm_protocol::kinds::Kind;
@@ -58,39 +58,37 @@ fn wake_found(word: u64) -> Wake
 }
 
 /// The oldest record of the pop list in hand.
-pub fn oldest_of<T: Drop>(moving: &Option<Moving<T>>) -> Option<Record>
+pub fn oldest_of<T: Drop>(moving: &Option<MovingBox<T>>) -> Option<Record>
     ensures { result ≡ oldest_in moving.now }
 {
     match moving {
-        Some(moving) => moving.popped.oldest(),
+        Some(moving) => moving.oldest(),
         None => None,
     }
 }
 
 // An assignment drops what was there, which splits a proof in two.
-pub fn put<T: Drop>(moving: &mut Option<Moving<T>>, new: Option<Moving<T>>)
+pub fn put<T: Drop>(moving: &mut Option<MovingBox<T>>, new: Option<MovingBox<T>>)
     ensures { moving.new ≡ new }
 {
     *moving = new;
 }
 
 /// Takes the oldest record out of the pop list, where the step at the seat's point takes it.
-pub fn drop_oldest<T: Drop>(moving: &mut Option<Moving<T>>, standing: &SeatState)
+pub fn drop_oldest<T: Drop>(moving: &mut Option<MovingBox<T>>, standing: &SeatState)
     ensures { moving.new ≡ dropped standing.now moving.old }
 {
     if !standing.drops_oldest() {
         return;
     }
     match moving {
-        Some(moving) => {
-            moving.popped.take_oldest();
-        }
+        Some(moving) => moving.drop_oldest(),
         None => {}
     }
 }
 
 /// Puts what is in hand into the slot.
-pub fn put_back<T: Kept>(table: &SharedTable<T>, place: &mut Place<T>, moving: Option<Moving<T>>)
+pub fn put_back<T: Kept>(table: &SharedTable<T>, place: &mut Place<T>, moving: Option<MovingBox<T>>)
     requires table { place.old.table_id ≡ table.now.table_id }
     requires slot { (x : Option (Moving T)) × (place.old.me.1 ≡ (0, x) ∷ rest place.old.me.1) }
     ensures table { (place.new.table_id ≡ place.old.table_id) × (place.new.id ≡ place.old.id) }
@@ -104,7 +102,7 @@ pub fn put_back<T: Kept>(table: &SharedTable<T>, place: &mut Place<T>, moving: O
 pub fn put_out<T: Kept>(
     table: &SharedTable<T>,
     place: &mut Place<T>,
-    moving: &mut Option<Moving<T>>,
+    moving: &mut Option<MovingBox<T>>,
 )
     requires table { place.old.table_id ≡ table.now.table_id }
     requires slot { (x : Option (Moving T)) × (place.old.me.1 ≡ (0, x) ∷ rest place.old.me.1) }
@@ -121,7 +119,7 @@ pub fn put_out<T: Kept>(
 pub fn take_out<T: Kept>(
     table: &SharedTable<T>,
     place: &mut Place<T>,
-    moving: &mut Option<Moving<T>>,
+    moving: &mut Option<MovingBox<T>>,
 )
     requires table { place.old.table_id ≡ table.now.table_id }
     requires slot { (x : Option (Moving T)) × (place.old.me.1 ≡ (0, x) ∷ rest place.old.me.1) }
@@ -136,7 +134,7 @@ pub fn take_out<T: Kept>(
 pub fn prepare<T: Kept>(
     table: &SharedTable<T>,
     place: &mut Place<T>,
-    moving: &mut Option<Moving<T>>,
+    moving: &mut Option<MovingBox<T>>,
     gives: bool,
 )
     requires table { place.old.table_id ≡ table.now.table_id }
@@ -154,7 +152,7 @@ pub fn prepare<T: Kept>(
 
 /// Puts the record of a link that was loaded into the pop list.
 pub fn add_loaded<T: Drop>(
-    moving: &mut Option<Moving<T>>,
+    moving: &mut Option<MovingBox<T>>,
     standing: &SeatState,
     number: u64,
     found: u64,
@@ -168,7 +166,7 @@ pub fn add_loaded<T: Drop>(
     }
     let seat = SeatNo::known(standing.point.target(number));
     match moving {
-        Some(moving) => moving.popped.add_older(seat, unpack_link(found).stamp),
+        Some(moving) => moving.add_older(seat, unpack_link(found).stamp),
         None => {}
     }
 }
@@ -177,7 +175,7 @@ pub fn add_loaded<T: Drop>(
 pub fn settle<T: Kept>(
     table: &SharedTable<T>,
     place: &mut Place<T>,
-    moving: &mut Option<Moving<T>>,
+    moving: &mut Option<MovingBox<T>>,
     carries: bool,
 )
     requires table { place.old.table_id ≡ table.now.table_id }

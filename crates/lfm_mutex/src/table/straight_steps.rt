@@ -14,7 +14,7 @@ ghost use Rattle.lfm_mutex.specs.calls.Straight.{Fit, Made_step};
 
 use crate::kept::Kept;
 use crate::seat::Place;
-use crate::table::rule::Moving;
+use crate::table::moving_box::MovingBox;
 use crate::table::seat_memory::{put_out, take_out};
 use crate::table::table_steps::{
     SharedTable, add_count, exchange_count, load_handoff, load_owner, store_owner, subtract_count,
@@ -27,7 +27,7 @@ use std::marker::Brand;
 pub fn add_free<T: Kept>(
     table: &SharedTable<T>,
     place: &mut Place<T>,
-    moving: &mut Option<Moving<T>>,
+    moving: &mut Option<MovingBox<T>>,
     number: u64,
     limits: Limits,
     plain: &SeatState,
@@ -54,7 +54,7 @@ pub fn add_free<T: Kept>(
 pub fn add_held<T: Kept>(
     table: &SharedTable<T>,
     place: &mut Place<T>,
-    moving: &Option<Moving<T>>,
+    moving: &Option<MovingBox<T>>,
     number: u64,
     limits: Limits,
     plain: &SeatState,
@@ -74,7 +74,7 @@ pub fn add_held<T: Kept>(
 pub fn store_held<T: Kept>(
     table: &SharedTable<T>,
     place: &mut Place<T>,
-    moving: &Option<Moving<T>>,
+    moving: &Option<MovingBox<T>>,
     number: u64,
     limits: Limits,
     plain: &SeatState,
@@ -96,7 +96,7 @@ pub fn store_held<T: Kept>(
 pub fn load_held<T: Kept>(
     table: &SharedTable<T>,
     place: &mut Place<T>,
-    moving: &Option<Moving<T>>,
+    moving: &Option<MovingBox<T>>,
     number: u64,
     limits: Limits,
     plain: &SeatState,
@@ -116,7 +116,7 @@ pub fn load_held<T: Kept>(
 pub fn subtract_held<T: Kept>(
     table: &SharedTable<T>,
     place: &mut Place<T>,
-    moving: &Option<Moving<T>>,
+    moving: &Option<MovingBox<T>>,
     number: u64,
     limits: Limits,
     plain: &SeatState,
@@ -138,7 +138,7 @@ pub fn subtract_held<T: Kept>(
 pub fn subtract_last<T: Kept>(
     table: &SharedTable<T>,
     place: &mut Place<T>,
-    moving: &mut Option<Moving<T>>,
+    moving: &mut Option<MovingBox<T>>,
     number: u64,
     limits: Limits,
     plain: &SeatState,
@@ -166,7 +166,7 @@ pub fn subtract_last<T: Kept>(
 pub fn exchange_free<T: Kept>(
     table: &SharedTable<T>,
     place: &mut Place<T>,
-    moving: &mut Option<Moving<T>>,
+    moving: &mut Option<MovingBox<T>>,
     number: u64,
     limits: Limits,
     plain: &SeatState,
@@ -193,7 +193,7 @@ pub fn exchange_free<T: Kept>(
 pub fn exchange_held<T: Kept>(
     table: &SharedTable<T>,
     place: &mut Place<T>,
-    moving: &Option<Moving<T>>,
+    moving: &Option<MovingBox<T>>,
     number: u64,
     limits: Limits,
     plain: &SeatState,
@@ -213,7 +213,7 @@ pub fn exchange_held<T: Kept>(
 pub fn load_free<T: Kept>(
     table: &SharedTable<T>,
     place: &mut Place<T>,
-    moving: &Option<Moving<T>>,
+    moving: &Option<MovingBox<T>>,
     number: u64,
     limits: Limits,
     plain: &SeatState,
@@ -236,7 +236,7 @@ pub fn load_free<T: Kept>(
 pub fn load_handoff_free<T: Kept>(
     table: &SharedTable<T>,
     place: &mut Place<T>,
-    moving: &Option<Moving<T>>,
+    moving: &Option<MovingBox<T>>,
     number: u64,
     limits: Limits,
     plain: &SeatState,

@@ -11,7 +11,8 @@ ghost use Rattle.lfm_mutex.specs.table.Steps.{CanMake};
 
 use crate::kept::Kept;
 use crate::seat::Place;
-use crate::table::rule::{Key, Lawful, Moving, Plain, Stepped};
+use crate::table::moving_box::MovingBox;
+use crate::table::rule::{Key, Lawful, Plain, Stepped};
 use crate::table::seat_view::View;
 use atomic_table::Shared;
 use lfm_protocol::SeatState;
@@ -19,7 +20,7 @@ use lfm_protocol::kinds::Kind;
 use lfm_words::{pack_handoff, pack_link};
 
 /// The table, as its steps need it.
-pub type SharedTable<T> = Shared<Option<Moving<T>>, View<T>, Key<T>, Lawful>;
+pub type SharedTable<T> = Shared<Option<MovingBox<T>>, View<T>, Key<T>, Lawful>;
 
 /// Wakes who sleeps on this word, where a grant was stored there.
 pub fn wake<T: Kept>(table: &SharedTable<T>, word: usize, stored: u64)
@@ -39,7 +40,7 @@ pub fn exchange_count<T: Kept, B: Plain<T>>(
     table: &SharedTable<T>,
     place: &mut Place<T>,
     plain: &SeatState,
-    hand: &Option<Moving<T>>,
+    hand: &Option<MovingBox<T>>,
     number: u64,
     seats: u64,
 ) -> u64
@@ -60,7 +61,7 @@ pub fn add_count<T: Kept, B: Plain<T>>(
     table: &SharedTable<T>,
     place: &mut Place<T>,
     plain: &SeatState,
-    hand: &Option<Moving<T>>,
+    hand: &Option<MovingBox<T>>,
     number: u64,
     seats: u64,
 ) -> u64
@@ -81,7 +82,7 @@ pub fn subtract_count<T: Kept, B: Plain<T>>(
     table: &SharedTable<T>,
     place: &mut Place<T>,
     plain: &SeatState,
-    hand: &Option<Moving<T>>,
+    hand: &Option<MovingBox<T>>,
     number: u64,
     seats: u64,
 ) -> u64
@@ -102,7 +103,7 @@ pub fn load_owner<T: Kept, B: Plain<T>>(
     table: &SharedTable<T>,
     place: &mut Place<T>,
     plain: &SeatState,
-    hand: &Option<Moving<T>>,
+    hand: &Option<MovingBox<T>>,
     number: u64,
     seats: u64,
 ) -> u64
@@ -123,7 +124,7 @@ pub fn store_owner<T: Kept, B: Plain<T>>(
     table: &SharedTable<T>,
     place: &mut Place<T>,
     plain: &SeatState,
-    hand: &Option<Moving<T>>,
+    hand: &Option<MovingBox<T>>,
     number: u64,
     seats: u64,
 ) -> u64
@@ -145,7 +146,7 @@ pub fn load_push<T: Kept, B: Plain<T>>(
     table: &SharedTable<T>,
     place: &mut Place<T>,
     plain: &SeatState,
-    hand: &Option<Moving<T>>,
+    hand: &Option<MovingBox<T>>,
     number: u64,
     seats: u64,
 ) -> u64
@@ -166,7 +167,7 @@ pub fn exchange_push<T: Kept, B: Plain<T>>(
     table: &SharedTable<T>,
     place: &mut Place<T>,
     plain: &SeatState,
-    hand: &Option<Moving<T>>,
+    hand: &Option<MovingBox<T>>,
     number: u64,
     seats: u64,
 ) -> u64
@@ -190,7 +191,7 @@ pub fn clear_head<T: Kept, B: Plain<T>>(
     table: &SharedTable<T>,
     place: &mut Place<T>,
     plain: &SeatState,
-    hand: &Option<Moving<T>>,
+    hand: &Option<MovingBox<T>>,
     number: u64,
     seats: u64,
 ) -> u64
@@ -211,7 +212,7 @@ pub fn load_link<T: Kept, B: Plain<T>>(
     table: &SharedTable<T>,
     place: &mut Place<T>,
     plain: &SeatState,
-    hand: &Option<Moving<T>>,
+    hand: &Option<MovingBox<T>>,
     number: u64,
     seats: u64,
 ) -> u64
@@ -232,7 +233,7 @@ pub fn store_link<T: Kept, B: Plain<T>>(
     table: &SharedTable<T>,
     place: &mut Place<T>,
     plain: &SeatState,
-    hand: &Option<Moving<T>>,
+    hand: &Option<MovingBox<T>>,
     number: u64,
     seats: u64,
 ) -> u64
@@ -256,7 +257,7 @@ pub fn load_handoff<T: Kept, B: Plain<T>>(
     table: &SharedTable<T>,
     place: &mut Place<T>,
     plain: &SeatState,
-    hand: &Option<Moving<T>>,
+    hand: &Option<MovingBox<T>>,
     number: u64,
     seats: u64,
 ) -> u64
@@ -277,7 +278,7 @@ pub fn store_handoff<T: Kept, B: Plain<T>>(
     table: &SharedTable<T>,
     place: &mut Place<T>,
     plain: &SeatState,
-    hand: &Option<Moving<T>>,
+    hand: &Option<MovingBox<T>>,
     number: u64,
     seats: u64,
 ) -> u64
@@ -300,7 +301,7 @@ pub fn exchange_handoff<T: Kept, B: Plain<T>>(
     table: &SharedTable<T>,
     place: &mut Place<T>,
     plain: &SeatState,
-    hand: &Option<Moving<T>>,
+    hand: &Option<MovingBox<T>>,
     number: u64,
     seats: u64,
 ) -> u64
@@ -322,7 +323,7 @@ pub fn load_wake<T: Kept, B: Plain<T>>(
     table: &SharedTable<T>,
     place: &mut Place<T>,
     plain: &SeatState,
-    hand: &Option<Moving<T>>,
+    hand: &Option<MovingBox<T>>,
     number: u64,
     seats: u64,
 ) -> u64
@@ -343,7 +344,7 @@ pub fn store_wake<T: Kept, B: Plain<T>>(
     table: &SharedTable<T>,
     place: &mut Place<T>,
     plain: &SeatState,
-    hand: &Option<Moving<T>>,
+    hand: &Option<MovingBox<T>>,
     number: u64,
     seats: u64,
 ) -> u64
@@ -367,7 +368,7 @@ pub fn exchange_wake<T: Kept, B: Plain<T>>(
     table: &SharedTable<T>,
     place: &mut Place<T>,
     plain: &SeatState,
-    hand: &Option<Moving<T>>,
+    hand: &Option<MovingBox<T>>,
     number: u64,
     seats: u64,
 ) -> u64
@@ -389,7 +390,7 @@ pub fn make_step<T: Kept, B: Plain<T>>(
     table: &SharedTable<T>,
     place: &mut Place<T>,
     plain: &SeatState,
-    hand: &Option<Moving<T>>,
+    hand: &Option<MovingBox<T>>,
     number: u64,
     seats: u64,
 ) -> u64

@@ -93,7 +93,7 @@ returns-clause-reached g c j s l at seen =
     let i = c.loop-seat.invariant in let v = c.loop-seat.root.me.0 in let n = c.in_default-pop.ensures.cases in let a = i.counts in let z = n.0 in
     let end : Final (Seen (Held g.T.Kept.follows g.T.Kept.fits) 0 v) (slots_items c.close_with.result.words) (slots_items c.close_with.result.slots) = subst (λ k. Final (Seen (Held g.T.Kept.follows g.T.Kept.fits) k v) (slots_items c.close_with.result.words) (slots_items c.close_with.result.slots)) i.root.0 c.close_with.ensures.values.2 in
     let e = ends g.T.Kept.follows g.T.Kept.fits v (slots_items c.close_with.result.words) (slots_items c.close_with.result.slots) (omega arith) i.root.3 i.root.4 end in
-    let was = e.1 in let got = c.take_slot.ensures in let some_it = c.in-Some-take_slot.is in let whole : e.0 ≡ c.in-Some-take_slot.field-0 = cc in let same : e.0.value ≡ c.in-Some-take_slot.field-0.value = ap (λ (x : Moving g.row.T.Denot). x.value) whole in let named = y.seated.named in
+    let was = e.1 in let got = c.take_slot.ensures in let some_it = c.in-Some-take_slot.is in let whole : e.0 ≡ c.in-Some-take_slot.moving = cc in let same : e.0.value ≡ c.into_value.result = ap (λ (x : Moving g.row.T.Denot). x.value) whole ∙ sym c.into_value.ensures in let named = y.seated.named in
     subst (λ (t : ℕ × g.row.T.Denot). Reached g.T.Kept.follows t.0 l t.1) (λ i. (named i, same i)) (⊎_elim
     (λ u. absurd (let r = length_at c.loop-seat.seats.items u.0 s u.1 in let k : vec_len c.loop-seat.seats ≡ length c.loop-seat.seats.items = search rules in omega arith))
     (λ u. ⊎_elim (λ t. e.2.1 t.0 (joined_of (g.P.Holder.seat_of s).place.me.0) l t.1 is) (λ t. subst (λ (n : ℕ). Reached g.T.Kept.follows n l e.0.value) t.1 (e.2.0 l (t.0 ∙ is))) u) (i.each j s at))

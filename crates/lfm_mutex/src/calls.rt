@@ -26,7 +26,7 @@ use crate::trying::{try_again, try_free};
 use crate::unlocking::{unlock_last, unlock_once};
 use lfm_model::{Asked, How, Locked, Refusal, SeatNo, Unlocked};
 use lfm_protocol::points::Point;
-use lfm_protocol::{Answer, Call, SeatState, Turn, Why};
+use lfm_protocol::{Answer, Call, MAX_DEPTH, SeatState, Turn, Why};
 
 /// Makes the steps of the open call to its end.
 #[inline(never)]
@@ -189,7 +189,7 @@ impl<T: Kept> Mutex<T> {
             }
             return ask_any(self, seat);
         }
-        if seat.standing.depth < 65_535 {
+        if seat.standing.depth < MAX_DEPTH {
             return Ok(ask_again(self, seat));
         }
         ask_any(self, seat)
@@ -218,7 +218,7 @@ impl<T: Kept> Mutex<T> {
             }
             return try_lock_any(self, seat);
         }
-        if seat.standing.depth < 65_535 {
+        if seat.standing.depth < MAX_DEPTH {
             return try_again(self, seat);
         }
         try_lock_any(self, seat)

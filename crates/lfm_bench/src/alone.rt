@@ -1,27 +1,42 @@
 //! The measurements of one thread.
+ghost use Rattle.std.specs.Prelude.{◌≡◌, ℕ};
+ghost use Rattle.lfm_mutex.specs.Belongs.{Of_mutex};
+ghost use mathlib.Core.Option.{some};
+ghost use lib.ListN.{get_elem?};
 
-use crate::peers::bare::Steps;
-use crate::peers::ours::User;
-use crate::plan::Mode;
+use crate::peers::bare::{Steps, bare_table};
+use crate::peers::ours::{BUDGET, User, last_user, no_seat};
+use crate::plan::{Mode, Plan};
 use crate::table::{Row, print_head};
 use crate::workloads::{hits, misses, pairs, recursive};
-use std::alloc::Global;
+use lfm_mutex::{Mutex, Seat};
+use std::alloc::{AllocError, Global};
 use std::io;
-use std::sync::{Mutex, Wait};
+use std::sync::Wait;
 use std::time::CpuClock;
+
+/// Measures the rows of one thread, and prints them.
+pub fn measure<R: Wait + CpuClock + AllocGlobal + Print>(rt: &R, plan: Plan) -> io::Result<()> {
+    let mut alone = Alone::new(rt.alloc());
+    match Mutex::new(rt.alloc(), 2, BUDGET, 0u64) {
+        Ok((mutex, seats)) => alone.rounds(rt, plan, &mutex, seats)?,
+        Err(_) => return Err(AllocError.into()),
+    }
+    alone.print(rt, plan.mode)
+}
 
 /// What one thread measures: two users of our mutex, the bare steps, and std's mutex.
 #[derive(Drop)]
-pub struct Peers<'a> {
-    pub user: User<'a>,
-    pub other: User<'a>,
-    pub steps: Steps<'a>,
-    pub standard: &'a Mutex<u64>,
+struct Peers<'a> {
+    user: User<'a>,
+    other: User<'a>,
+    steps: Steps<'a>,
+    standard: &'a std::sync::Mutex<u64>,
 }
 
 /// The rows of one thread.
 #[derive(Drop)]
-pub struct Alone {
+struct Alone {
     pairs: Row,
     recursive: Row,
     hits: Row,
@@ -30,7 +45,7 @@ pub struct Alone {
 
 impl Alone {
     /// Rows without a figure.
-    pub fn new(alloc: Global) -> Alone {
+    fn new(alloc: Global) -> Alone {
         Alone {
             pairs: Row::new(alloc, "lock and unlock"),
             recursive: Row::new(alloc, "recursive lock and unlock"),
@@ -39,8 +54,34 @@ impl Alone {
         }
     }
 
+    /// Makes all rounds, over a mutex of two seats.
+    fn rounds<R: Wait + CpuClock + AllocGlobal>(
+        &mut self,
+        rt: &R,
+        plan: Plan,
+        mutex: &Mutex<u64>,
+        mut seats: Vec<Seat<u64>>,
+    ) -> io::Result<()>
+        requires { (j : ℕ) (s : _) → get_elem? seats.items j ≡ some s → Of_mutex s mutex.now }
+    {
+        let (table, seat) = bare_table(rt.alloc())?;
+        let standard = std::sync::Mutex::new(0u64);
+        let other = last_user(mutex, &mut seats).ok_or(no_seat())?;
+        let user = last_user(mutex, &mut seats).ok_or(no_seat())?;
+        let mut peers = Peers {
+            user,
+            other,
+            steps: Steps::new(&table.shared, seat),
+            standard: &standard,
+        };
+        for _ in 0..plan.rounds {
+            self.round(rt, &mut peers, plan.calls)?;
+        }
+        Ok(())
+    }
+
     /// Measures each row once, with so many calls.
-    pub fn round<R: Wait + CpuClock>(
+    fn round<R: Wait + CpuClock>(
         &mut self,
         rt: &R,
         peers: &mut Peers,
@@ -53,7 +94,7 @@ impl Alone {
     }
 
     /// Prints the rows.
-    pub fn print<R: Print + AllocGlobal>(&mut self, rt: &R, mode: Mode) -> io::Result<()> {
+    fn print<R: Print + AllocGlobal>(&mut self, rt: &R, mode: Mode) -> io::Result<()> {
         match mode {
             Mode::Times => self.print_times(rt),
             Mode::Check => self.print_checks(rt),

@@ -46,17 +46,15 @@ impl Row {
     /// Prints the name, and whether each call did what it was to do.
     pub fn print_check<R: Print>(&self, rt: &R) -> io::Result<()> {
         let name = self.name;
-        let word = self.verdict();
+        let exact = self.ours.is_exact() && self.bare.is_exact() && self.standard.is_exact();
+        let word = verdict(exact);
         println!(rt; "{name}: {word}")
     }
+}
 
-    fn verdict(&self) -> &'static str {
-        if self.ours.is_exact() && self.bare.is_exact() && self.standard.is_exact() {
-            "exact"
-        } else {
-            "not exact"
-        }
-    }
+/// What is printed of calls that did, or didn't do, what they were to do.
+pub fn verdict(exact: bool) -> &'static str {
+    if exact { "exact" } else { "not exact" }
 }
 
 /// Prints what stands above the rows.
@@ -81,11 +79,11 @@ fn print_cells<R: Print>(
     standard: &str,
     to_standard: &str,
 ) -> io::Result<()> {
-    println!(rt; "{name:<24} {ours:>9} {bare:>9} {to_bare:>7} {standard:>9} {to_standard:>7}")
+    println!(rt; "{name:<26} {ours:>9} {bare:>9} {to_bare:>7} {standard:>9} {to_standard:>7}")
 }
 
 /// Picoseconds as nanoseconds with one decimal, rounded down.
-fn nanoseconds_text(alloc: Global, picoseconds: Option<u64>) -> Result<String, AllocError> {
+pub fn nanoseconds_text(alloc: Global, picoseconds: Option<u64>) -> Result<String, AllocError> {
     match picoseconds {
         Some(amount) => format!(in alloc; "{}.{}", amount / 1_000, amount % 1_000 / 100),
         None => String::from_str(alloc, "-"),
@@ -93,12 +91,21 @@ fn nanoseconds_text(alloc: Global, picoseconds: Option<u64>) -> Result<String, A
 }
 
 /// How many times the base the amount is, with two decimals, rounded down.
-fn ratio_text(alloc: Global, amount: Option<u64>, base: Option<u64>) -> Result<String, AllocError> {
-    match (amount, base) {
-        (Some(amount), Some(base)) => {
-            let ratio = hundredths(amount, base);
-            format!(in alloc; "{}.{:02}", ratio / 100, ratio % 100)
-        }
-        _ => String::from_str(alloc, "-"),
+pub fn ratio_text(
+    alloc: Global,
+    amount: Option<u64>,
+    base: Option<u64>,
+) -> Result<String, AllocError> {
+    let (Some(amount), Some(base)) = (amount, base) else {
+        return times_text(alloc, None);
+    };
+    times_text(alloc, Some(hundredths(amount, base)))
+}
+
+/// Hundredths as a number with two decimals.
+pub fn times_text(alloc: Global, hundredths: Option<u64>) -> Result<String, AllocError> {
+    match hundredths {
+        Some(amount) => format!(in alloc; "{}.{:02}", amount / 100, amount % 100),
+        None => String::from_str(alloc, "-"),
     }
 }

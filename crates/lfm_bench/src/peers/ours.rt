@@ -1,12 +1,16 @@
 //! Our mutex, as a thread uses it.
-ghost use Rattle.std.specs.Prelude.{◌≡◌, ℕ, IfSome};
+ghost use Rattle.std.specs.Prelude.{◌≡◌, ℕ};
 ghost use Rattle.lfm_mutex.specs.Belongs.{Of_mutex};
 ghost use mathlib.Core.Option.{some};
 ghost use lib.ListN.{get_elem?};
 
 use lfm_model::{Locked, Refusal, Unlocked};
 use lfm_mutex::{Mutex, Seat};
+use std::io;
 use std::sync::Wait;
+
+/// How many takes each seat may make: more than any run asks for.
+pub const BUDGET: u64 = 1 << 36;
 
 /// A mutex and one of its seats.
 #[derive(Drop)]
@@ -70,6 +74,11 @@ impl<'a> User<'a> {
     pub fn value(&self) -> Option<u64> {
         self.seat.value().copied()
     }
+}
+
+/// What a measurement ends with that finds fewer seats than it asked for.
+pub fn no_seat() -> io::Error {
+    io::ErrorKind::NotFound.into()
 }
 
 /// The user of the last of these seats, which are the mutex's. None where there is none.

@@ -1,0 +1,261 @@
+//! Several threads take turns at one mutex for a fixed time. In a turn a thread gains the mutex, adds 1 to the value under
+//! it, works for a while, unlocks, and works for a while outside.
+ghost use Rattle.std.specs.Prelude.{◌≡◌, ℕ};
+ghost use Rattle.lfm_mutex.specs.Belongs.{Of_mutex};
+ghost use mathlib.Core.Option.{some};
+ghost use lib.ListN.{get_elem?};
+
+use crate::busy::Busy;
+use crate::figures::{Sample, hundredths};
+use crate::gate::Gate;
+use crate::peers::ours::{BUDGET, User, last_user, no_seat};
+use lfm_mutex::{Mutex, Seat};
+use std::alloc::AllocError;
+use std::io;
+use std::sync::Wait;
+use std::thread::{Threads, join, map_indices, map_vec};
+use std::time::{Clock, Duration, Instant};
+
+/// The most turns that a thread takes.
+const MOST_TURNS: u64 = 1 << 32;
+
+/// What the threads do.
+#[derive(Clone, Copy)]
+pub struct Load {
+    /// How many threads there are.
+    pub threads: u64,
+    /// How many steps of work a thread makes while it holds the mutex.
+    pub inside: u64,
+    /// How many it makes between two holds.
+    pub outside: u64,
+    /// For how long turns are taken.
+    pub window: Duration,
+}
+
+/// What one thread did.
+#[derive(Clone, Copy)]
+pub struct Turns {
+    acquisitions: u64,
+    nanoseconds: u64,
+    worked: bool,
+}
+
+/// What came of a round.
+#[derive(Clone, Copy)]
+pub struct Contest {
+    /// A call is an acquisition by any thread. It is exact where the value under the mutex is how often it was acquired.
+    pub sample: Sample,
+    /// The most acquisitions of a thread, in hundredths of the fewest.
+    pub fairness: u64,
+}
+
+impl Contest {
+    /// What these threads did, where the value was 0 before and this after them.
+    fn of(turns: &[Turns], value: Option<u64>) -> Contest {
+        let mut calls = 0u64;
+        let mut nanoseconds = 0;
+        let mut most = 0;
+        let mut fewest = u64::MAX;
+        let mut worked = true;
+        for one in turns {
+            calls = calls.saturating_add(one.acquisitions);
+            nanoseconds = nanoseconds.max(one.nanoseconds);
+            most = most.max(one.acquisitions);
+            fewest = fewest.min(one.acquisitions);
+            worked &= one.worked;
+        }
+        let sample = Sample {
+            nanoseconds,
+            calls,
+            exact: worked && value == Some(calls),
+        };
+        Contest {
+            sample,
+            fairness: hundredths(most, fewest),
+        }
+    }
+}
+
+/// A round with our mutex.
+pub fn ours<R: Threads + Sync + Wait + Clock + AllocGlobal>(
+    rt: &R,
+    load: Load,
+) -> io::Result<Contest> {
+    match Mutex::new(rt.alloc(), load.threads.saturating_add(1), BUDGET, 0u64) {
+        Ok((mutex, seats)) => over_seats(rt, load, &mutex, seats),
+        Err(_) => Err(AllocError.into()),
+    }
+}
+
+/// A round with our mutex and all its seats. The last of them is the one that reads the value after all.
+fn over_seats<R: Threads + Sync + Wait + Clock>(
+    rt: &R,
+    load: Load,
+    mutex: &Mutex<u64>,
+    mut seats: Vec<Seat<u64>>,
+) -> io::Result<Contest>
+    requires { (j : ℕ) (s : _) → get_elem? seats.items j ≡ some s → Of_mutex s mutex.now }
+{
+    let mut reader = last_user(mutex, &mut seats).ok_or(no_seat())?;
+    let turns = our_turns(rt, load, mutex, seats)?;
+    let value = if reader.lock(rt) {
+        reader.value()
+    } else {
+        None
+    };
+    Ok(Contest::of(&turns, value))
+}
+
+/// The turns of these seats of our mutex, while the gate is open.
+fn our_turns<R: Threads + Sync + Wait + Clock>(
+    rt: &R,
+    load: Load,
+    mutex: &Mutex<u64>,
+    seats: Vec<Seat<u64>>,
+) -> Result<Vec<Turns>, AllocError>
+    requires { (j : ℕ) (s : _) → get_elem? seats.items j ≡ some s → Of_mutex s mutex.now }
+{
+    let gate = Gate::new(load.threads);
+    let shared = &gate;
+    let (_, turns) = join(
+        rt,
+        move || shared.shut_after(rt, load.window),
+        move || -> Result<Vec<Turns>, AllocError>
+            requires { (j : ℕ) (s : _) → get_elem? seats.items j ≡ some s → Of_mutex s mutex.now }
+        { our_parts(rt, load, shared, mutex, seats) },
+    );
+    turns
+}
+
+/// The turns of these seats of our mutex, a thread for each of them.
+fn our_parts<R: Threads + Sync + Wait + Clock>(
+    rt: &R,
+    load: Load,
+    gate: &Gate,
+    mutex: &Mutex<u64>,
+    seats: Vec<Seat<u64>>,
+) -> Result<Vec<Turns>, AllocError>
+    requires { (j : ℕ) (s : _) → get_elem? seats.items j ≡ some s → Of_mutex s mutex.now }
+{
+    map_vec(
+        rt,
+        seats,
+        &|seat: Seat<u64>| -> Turns
+            requires { Of_mutex seat mutex.now }
+        { our_part(rt, load, gate, mutex, seat) },
+    )
+}
+
+/// The turns of one seat of our mutex.
+fn our_part<R: Wait + Clock>(
+    rt: &R,
+    load: Load,
+    gate: &Gate,
+    mutex: &Mutex<u64>,
+    seat: Seat<u64>,
+) -> Turns
+    requires { Of_mutex seat mutex.now }
+{
+    take_turns(rt, load, gate, User::new(mutex, seat))
+}
+
+/// The turns of one user.
+fn take_turns<R: Wait + Clock>(rt: &R, load: Load, gate: &Gate, mut user: User) -> Turns {
+    let mut busy = Busy::new();
+    let mut acquisitions = 0u64;
+    gate.pass();
+    let start = now(rt);
+    for _ in 0..MOST_TURNS {
+        if gate.is_shut() {
+            break;
+        }
+        if user.lock(rt) {
+            user.add_one();
+            busy.work(load.inside);
+            acquisitions = acquisitions.wrapping_add(1);
+        }
+        user.unlock();
+        busy.work(load.outside);
+    }
+    Turns {
+        acquisitions,
+        nanoseconds: since(rt, start),
+        worked: busy.is_sound(),
+    }
+}
+
+/// A round with std's mutex.
+pub fn standard<R: Threads + Sync + Wait + Clock + AllocGlobal>(
+    rt: &R,
+    load: Load,
+) -> io::Result<Contest> {
+    let mutex = std::sync::Mutex::new(0u64);
+    let turns = standard_turns(rt, load, &mutex)?;
+    Ok(Contest::of(&turns, Some(mutex.into_inner())))
+}
+
+/// The turns of all threads at std's mutex.
+fn standard_turns<R: Threads + Sync + Wait + Clock + AllocGlobal>(
+    rt: &R,
+    load: Load,
+    mutex: &std::sync::Mutex<u64>,
+) -> io::Result<Vec<Turns>> {
+    let gate = Gate::new(load.threads);
+    let shared = &gate;
+    let alloc = rt.alloc();
+    let (_, turns) = join(
+        rt,
+        move || shared.shut_after(rt, load.window),
+        move || {
+            map_indices(
+                rt,
+                alloc,
+                load.threads as usize,
+                &|_| standard_part(rt, load, shared, mutex),
+            )
+        },
+    );
+    Ok(turns?)
+}
+
+/// The turns of one thread at std's mutex.
+fn standard_part<R: Wait + Clock>(
+    rt: &R,
+    load: Load,
+    gate: &Gate,
+    mutex: &std::sync::Mutex<u64>,
+) -> Turns {
+    let mut busy = Busy::new();
+    let mut acquisitions = 0u64;
+    gate.pass();
+    let start = now(rt);
+    for _ in 0..MOST_TURNS {
+        if gate.is_shut() {
+            break;
+        }
+        let mut guard = mutex.lock(rt);
+        *guard = guard.wrapping_add(1);
+        busy.work(load.inside);
+        drop(guard);
+        acquisitions = acquisitions.wrapping_add(1);
+        busy.work(load.outside);
+    }
+    Turns {
+        acquisitions,
+        nanoseconds: since(rt, start),
+        worked: busy.is_sound(),
+    }
+}
+
+/// The time now. None where the clock can't be read.
+fn now<R: Clock>(rt: &R) -> Option<Instant> {
+    Instant::now(rt).ok()
+}
+
+/// The nanoseconds since then. 0 where the clock couldn't be read.
+fn since<R: Clock>(rt: &R, start: Option<Instant>) -> u64 {
+    let (Some(start), Some(end)) = (start, now(rt)) else {
+        return 0;
+    };
+    u64::try_from(end.duration_since(start).as_nanos()).unwrap_or(u64::MAX)
+}

@@ -1,4 +1,4 @@
--- A wake word that is WAITING stays so until a send claims its seat.
+-- A wake word that is WAITING stays so until a send claims its seat, and none becomes so but by the end of a start_wait.
 use Rattle.std.proofs.Common.{◌≡◌, ◌≢◌, ◌⊎◌, ℕ, zero, suc, true, false, ◌+◌, List, length, refl, sym, ap, ◌∙◌, inl, inr, arith}
 use Rattle.std.proofs.lemmas.Bool.{cases_eq, cases_lt, eq-eqb, false≢true}
 use Rattle.lfm_protocol.specs.declared.points.Carrier.{Carrier}

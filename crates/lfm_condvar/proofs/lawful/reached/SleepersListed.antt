@@ -1,4 +1,4 @@
--- Each seat whose wake word is WAITING stands in the list of a condvar: told by the stage of its call.
+-- No seat that sleeps is lost: each whose wake word is WAITING stands in the list of a condvar. Told by the stage of its call.
 use Rattle.std.proofs.Common.{◌≡◌, ℕ, true, false, refl, sym, ap, ◌∙◌, inl, inr, arith}
 use Rattle.std.proofs.lemmas.Bool.{cases_Bool, cases_lt, false≢true}
 use Rattle.lfm_words.specs.declared.wakes.Wake.TheVariants.{Waiting}

@@ -1,5 +1,5 @@
 //! What is measured: samples, and the medians of their figures.
-ghost use Rattle.std.specs.Prelude.{◌≡◌, ◌*◌, ◌/◌, ◌<◌, ◌^◌, ◌++◌, ◌∷◌, [], vec_len, IfSome, IfNone, OnOk, true};
+ghost use Rattle.std.specs.Prelude.{◌≡◌, ◌*◌, ◌/◌, ◌<◌, ◌^◌, ◌++◌, ◌∷◌, ◌&&◌, ◌==◌, [], vec_len, IfSome, IfNone, IfOk, OnOk, true};
 ghost use Rattle.lfm_bench.specs.Medians.{IsMedian};
 
 use std::alloc::{AllocError, Global};
@@ -19,7 +19,9 @@ pub struct Sample {
 
 impl Sample {
     /// The same sample, exact only where this holds as well.
-    pub fn provided(self, holds: bool) -> Sample {
+    pub fn provided(self, holds: bool) -> Sample
+        ensures { result ≡ record self { exact = self.exact && holds } }
+    {
         Sample {
             exact: self.exact && holds,
             ..self
@@ -46,7 +48,10 @@ impl Stopwatch {
     }
 
     /// The sample that ends now: `calls` calls were to be made, and `done` of them did what they were to do.
-    pub fn stop<R: CpuClock>(self, rt: &R, calls: u64, done: u64) -> io::Result<Sample> {
+    pub fn stop<R: CpuClock>(self, rt: &R, calls: u64, done: u64) -> io::Result<Sample>
+        ensures calls { IfOk result (λ s. s.calls ≡ calls) }
+        ensures exact { IfOk result (λ s. s.exact ≡ (done == calls)) }
+    {
         let spent = rt.thread_cpu_time()?.saturating_sub(self.start);
         let nanoseconds = u64::try_from(spent.as_nanos()).unwrap_or(u64::MAX);
         Ok(Sample {
@@ -116,7 +121,9 @@ pub struct Figures {
 
 impl Figures {
     /// Figures of no round.
-    pub fn new(alloc: Global) -> Figures {
+    pub fn new(alloc: Global) -> Figures
+        ensures { result.exact ≡ true }
+    {
         Figures {
             costs: Series::new(alloc),
             exact: true,
@@ -124,8 +131,10 @@ impl Figures {
     }
 
     /// Adds the figures of a round.
-    pub fn add(&mut self, sample: Sample) -> Result<(), AllocError> {
-        self.exact &= sample.exact;
+    pub fn add(&mut self, sample: Sample) -> Result<(), AllocError>
+        ensures { self.new.exact ≡ (self.old.exact && sample.exact) }
+    {
+        self.exact = self.exact && sample.exact;
         self.costs.add(sample.cost())
     }
 

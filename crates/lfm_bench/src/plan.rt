@@ -28,9 +28,9 @@ impl Plan {
     /// What is measured where no argument says otherwise: about 20 seconds.
     const USUAL: Plan = Plan {
         mode: Mode::Times,
-        rounds: 15,
-        calls: 200_000,
-        milliseconds: 40,
+        rounds: 31,
+        calls: 100_000,
+        milliseconds: 50,
     };
 
     /// As little as shows that each measurement runs.

@@ -159,7 +159,7 @@ fn print_cells<R: Print>(
     standard_fairness: &str,
 ) -> io::Result<()> {
     println!(rt;
-        "{name:<26} {ours:>9} {standard:>9} {ratio:>7} {our_fairness:>9} {standard_fairness:>9}"
+        "{name:<26} {ours:>9} {standard:>9} {ratio:>7} {our_fairness:>11} {standard_fairness:>11}"
     )
 }
 
@@ -197,7 +197,15 @@ impl Together {
 
     fn print_times<R: Print + AllocGlobal>(&mut self, rt: &R) -> io::Result<()> {
         let title = "nanoseconds an acquisition";
-        print_cells(rt, title, "ours", "std", "ratio", "ours m/f", "std m/f")?;
+        print_cells(
+            rt,
+            title,
+            "ours",
+            "std",
+            "ratio",
+            "ours spread",
+            "std spread",
+        )?;
         for row in self.rows.iter_mut() {
             row.print(rt)?;
         }

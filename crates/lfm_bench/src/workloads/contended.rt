@@ -1,6 +1,6 @@
 //! Several threads take turns at one mutex for a fixed time. In a turn a thread gains the mutex, adds 1 to the value under
 //! it, works for a while, unlocks, and works for a while outside.
-ghost use Rattle.std.specs.Prelude.{◌≡◌, ℕ};
+ghost use Rattle.std.specs.Prelude.{◌≡◌, ℕ, Some, true};
 ghost use Rattle.lfm_mutex.specs.Belongs.{Of_mutex};
 ghost use mathlib.Core.Option.{some};
 ghost use lib.ListN.{get_elem?};
@@ -45,13 +45,15 @@ pub struct Turns {
 pub struct Contest {
     /// A call is an acquisition by any thread. It is exact where the value under the mutex is how often it was acquired.
     pub sample: Sample,
-    /// The most acquisitions of a thread, in hundredths of the fewest.
+    /// The most acquisitions of a thread, in hundredths of the fewest, or of 1 where those are 0.
     pub fairness: u64,
 }
 
 impl Contest {
     /// What these threads did, where the value was 0 before and this after them.
-    fn of(turns: &[Turns], value: Option<u64>) -> Contest {
+    fn of(turns: &[Turns], value: Option<u64>) -> Contest
+        ensures { result.sample.exact ≡ true → value ≡ Some result.sample.calls }
+    {
         let mut calls = 0u64;
         let mut nanoseconds = 0;
         let mut most = 0;
@@ -71,7 +73,7 @@ impl Contest {
         };
         Contest {
             sample,
-            fairness: hundredths(most, fewest),
+            fairness: hundredths(most, fewest.max(1)),
         }
     }
 }

@@ -2,3 +2,4 @@ pub mod tables
 pub mod runs
 pub mod ends
 pub mod LawsHeld
+pub mod Lists

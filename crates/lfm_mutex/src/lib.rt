@@ -15,8 +15,6 @@ mod owner;
 pub mod seat;
 pub mod steps;
 mod table;
-#[cfg(test)]
-mod tests;
 mod trying;
 mod unlocking;
 mod waiting;

@@ -1,0 +1,4 @@
+pub mod Ending
+pub mod Growth
+pub mod Knowing
+pub mod Starting

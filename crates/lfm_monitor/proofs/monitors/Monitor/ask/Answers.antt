@@ -1,0 +1,41 @@
+use Rattle.std.proofs.Common.{ap, ◌∙◌, ◌<◌, ◌+◌}
+use Rattle.lfm_mutex.specs.Belongs.{limits_of}
+use Rattle.lfm_mutex.specs.calls.Sight.{sight}
+use Rattle.lfm_monitor.specs.Belongs.{opening_of, passes_of, share_of}
+use Rattle.lfm_monitor.proofs.Knowing.{gained, may_all, room_left, arrived, again, asleep, of_next}
+use Rattle.lfm_monitor.proofs.monitors.Monitor.ask.Goals as goal
+
+pub write_took-requires-clause-may : goal.write_took-requires-clause-may
+write_took-requires-clause-may g c κs within v is = let p = c.args.pass.now in let m = c.args.self.now in let gains = rw c.in-Held.is at c.in_ok-asked.ensures.asks in let s = sight p.seat in let t = sight c.ask.new.seat in
+    let room : p.mine < m.share = room_left m.share p.mine (λ h. c.if-lacks_entry.ensures.1 (gains.0, gains.1, h)) in
+    may_all c.in-Held.how s t p.seen p.mine (opening_of m) (passes_of m) (share_of m) t.number v gains.3 p.kept c.requires.belongs.1 room (gained c.in-Held.how (limits_of m.mutex).budget s t gains) is
+
+pub invariant_of-pass-2 : goal.invariant_of-pass-2
+invariant_of-pass-2 g c = let p = c.args.pass.now in let m = c.args.self.now in let gains = rw c.in-Held.is at c.in_ok-asked.ensures.asks in
+    record {
+      kept = (arrived c.in-Held.how (sight p.seat) c.ask.new.seat c.write_took.new.seat p.seen p.mine (opening_of m) (passes_of m) (share_of m) p.kept c.requires.belongs.1
+          (gained c.in-Held.how (limits_of m.mutex).budget (sight p.seat) (sight c.ask.new.seat) gains) c.write_took.ensures).kept;
+    }
+
+pub returns-clause-belongs : goal.returns-clause-belongs
+returns-clause-belongs g c = let p = c.args.pass.now in let m = c.args.self.now in let gains = rw c.in-Held.is at c.in_ok-asked.ensures.asks in let w = c.write_took.ensures in (
+  of_next m.mutex c.ask.new.seat c.write_took.new.seat (of_next m.mutex p.seat c.ask.new.seat c.requires.belongs.0 c.ask.ensures.belongs) w.6,
+  (arrived c.in-Held.how (sight p.seat) c.ask.new.seat c.write_took.new.seat p.seen p.mine (opening_of m) (passes_of m) (share_of m) p.kept c.requires.belongs.1
+      (gained c.in-Held.how (limits_of m.mutex).budget (sight p.seat) (sight c.ask.new.seat) gains) w).still,
+)
+
+pub returns-clause-enters : goal.returns-clause-enters
+returns-clause-enters g c = let p = c.args.pass.now in let m = c.args.self.now in let gains = rw c.in-Held.is at c.in_ok-asked.ensures.asks in let w = c.write_took.ensures in (
+  gains.0,
+  ap (λ u. u.takes) w.3 ∙ gains.5,
+  (arrived c.in-Held.how (sight p.seat) c.ask.new.seat c.write_took.new.seat p.seen p.mine (opening_of m) (passes_of m) (share_of m) p.kept c.requires.belongs.1
+      (gained c.in-Held.how (limits_of m.mutex).budget (sight p.seat) (sight c.ask.new.seat) gains) w).comes,
+)
+
+pub invariant_of-pass-in-Again-1 : goal.invariant_of-pass-in-Again-1
+invariant_of-pass-in-Again-1 g c = let p = c.args.pass.now in let locks = rw c.in-Again.is at c.in_ok-asked.ensures.asks in
+    record { kept = again c.in-Again.depth (sight p.seat) (sight c.ask.new.seat) p.seen p.mine p.kept locks }
+
+pub invariant_of-pass-in-Asleep : goal.invariant_of-pass-in-Asleep
+invariant_of-pass-in-Asleep g c = let p = c.args.pass.now in let m = c.args.self.now in let a = rw c.in-Asleep.is at c.in_ok-asked.ensures.asks in let s = sight p.seat in
+    record { kept = asleep (opening_of m) (passes_of m) (share_of m) s (sight c.ask.new.seat) p.seen p.mine (s.takes + 1) p.kept c.requires.belongs.1 a.1 (room_left m.share p.mine (λ h. c.if-lacks_entry.ensures.1 (a.0, a.1, h))) a.3 }

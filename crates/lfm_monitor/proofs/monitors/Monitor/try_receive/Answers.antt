@@ -1,0 +1,36 @@
+use Rattle.std.proofs.Common.{arith, ap, ◌∙◌, ◌<◌}
+use Rattle.lfm_mutex.specs.calls.Sight.{sight}
+use Rattle.lfm_monitor.specs.Belongs.{opening_of, passes_of, share_of}
+use Rattle.lfm_monitor.proofs.Knowing.{some_of, woken, may_all, arrived, looked, of_next}
+use Rattle.lfm_monitor.proofs.monitors.Monitor.try_receive.Goals as goal
+
+pub write_took-requires-clause-may : goal.write_took-requires-clause-may
+write_took-requires-clause-may g c κs within v is = let p = c.args.pass.now in let m = c.args.self.now in let wakes = rw c.in-Some.is at c.in_ok-received.ensures.receives in let s = sight p.seat in let t = sight c.try_receive.new.seat in
+    let l = some_of s.last p.kept.there in let room : p.mine < m.share = (let r = (p.kept.sleeps wakes.0).room l.0 l.1 in let e = (c.requires.belongs.1 l.0 l.1).2 in omega arith) in
+    may_all c.in-Some.how s t p.seen p.mine (opening_of m) (passes_of m) (share_of m) t.number v wakes.3 p.kept c.requires.belongs.1 room (woken c.in-Some.how s t p.seen p.mine p.kept wakes) is
+
+pub invariant_of-pass-2 : goal.invariant_of-pass-2
+invariant_of-pass-2 g c = let p = c.args.pass.now in let m = c.args.self.now in let wakes = rw c.in-Some.is at c.in_ok-received.ensures.receives in
+    record {
+      kept = (arrived c.in-Some.how (sight p.seat) c.try_receive.new.seat c.write_took.new.seat p.seen p.mine (opening_of m) (passes_of m) (share_of m) p.kept c.requires.belongs.1
+          (woken c.in-Some.how (sight p.seat) (sight c.try_receive.new.seat) p.seen p.mine p.kept wakes) c.write_took.ensures).kept;
+    }
+
+pub returns-clause-belongs : goal.returns-clause-belongs
+returns-clause-belongs g c = let p = c.args.pass.now in let m = c.args.self.now in let wakes = rw c.in-Some.is at c.in_ok-received.ensures.receives in let w = c.write_took.ensures in (
+  of_next m.mutex c.try_receive.new.seat c.write_took.new.seat (of_next m.mutex p.seat c.try_receive.new.seat c.requires.belongs.0 c.try_receive.ensures.belongs) w.6,
+  (arrived c.in-Some.how (sight p.seat) c.try_receive.new.seat c.write_took.new.seat p.seen p.mine (opening_of m) (passes_of m) (share_of m) p.kept c.requires.belongs.1
+      (woken c.in-Some.how (sight p.seat) (sight c.try_receive.new.seat) p.seen p.mine p.kept wakes) w).still,
+)
+
+pub returns-clause-enters : goal.returns-clause-enters
+returns-clause-enters g c = let p = c.args.pass.now in let m = c.args.self.now in let wakes = rw c.in-Some.is at c.in_ok-received.ensures.receives in let w = c.write_took.ensures in (
+  wakes.0,
+  ap (λ u. u.takes) w.3 ∙ wakes.5,
+  (arrived c.in-Some.how (sight p.seat) c.try_receive.new.seat c.write_took.new.seat p.seen p.mine (opening_of m) (passes_of m) (share_of m) p.kept c.requires.belongs.1
+      (woken c.in-Some.how (sight p.seat) (sight c.try_receive.new.seat) p.seen p.mine p.kept wakes) w).comes,
+)
+
+pub invariant_of-pass-in-None : goal.invariant_of-pass-in-None
+invariant_of-pass-in-None g c = let p = c.args.pass.now in let r = rw c.in-None.is at c.in_ok-received.ensures.receives in
+    record { kept = looked (sight p.seat) (sight c.try_receive.new.seat) p.seen p.mine p.kept r.2 }

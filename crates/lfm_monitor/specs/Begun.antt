@@ -1,0 +1,27 @@
+-- A monitor and a pass as they begin.
+use Rattle.std.specs.Prelude.{◌≡◌, ℕ, ◌*◌, ◌<◌, ◌≤◌, []}
+use Rattle.lfm_mutex.specs.calls.Sight.{new_sight}
+use Rattle.lfm_monitor.specs.declared.journals.Journaled.{Journaled}
+use Rattle.lfm_monitor.specs.declared.monitors.Monitor.{Monitor}
+use Rattle.lfm_monitor.specs.declared.passes.Pass.{Pass}
+use Rattle.lfm_monitor.specs.Belongs.{Of_monitor, mine_of, pass_sight, seen_of}
+
+-- 1 to 4,095 passes, each with 1 entry or more, and at most 1,048,576 entries in all
+abbrev pub In_limits : ℕ → ℕ → Type 0
+In_limits seats share = (0 < seats) × (seats ≤ 4095) × (0 < share) × (seats * share ≤ 1048576)
+
+module _ {O A R : Type 0} {K : _} where
+  -- an object with an empty journal
+  pub record Is_empty (object : O) (seats share : ℕ) (v : Journaled O A R K) : Type 0 where
+    pub nothing : v.journal.items ≡ []
+    pub opening : v.opening.value ≡ object
+    pub seats_are : v.seats ≡ seats
+    pub share_is : v.share ≡ share
+
+  -- the pass with this number has done nothing and seen nothing
+  pub record New_pass (m : Monitor O A R K) (number : ℕ) (p : Pass O A R K) : Type 0 where
+    pub belongs : Of_monitor p m
+    pub empty : Journaled O A R K
+    pub nothing : empty.journal.items ≡ []
+    pub sees : pass_sight p ≡ new_sight empty number
+    pub counts : (seen_of p ≡ 0) × (mine_of p ≡ 0)

@@ -1,0 +1,41 @@
+-- What belongs to a monitor. Contracts name a monitor and its passes by these words alone.
+use Rattle.std.specs.Prelude.{◌≡◌, ℕ}
+use Rattle.lfm_mutex.specs.Belongs.{Of_mutex, limits_of}
+use Rattle.lfm_mutex.specs.calls.Sight.{Sight, sight}
+use Rattle.lfm_monitor.specs.declared.journals.Journaled.{Journaled}
+use Rattle.lfm_monitor.specs.declared.monitors.Monitor.{Monitor}
+use Rattle.lfm_monitor.specs.declared.passes.Pass.{Pass}
+use Rattle.lfm_monitor.specs.Passes.{Began}
+
+module _ {O A R : Type 0} {K : _} where
+  -- the object that the monitor began with
+  abbrev pub opening_of : Monitor O A R K → O
+  opening_of m = m.opening.value
+
+  -- how many passes the monitor has
+  abbrev pub passes_of : Monitor O A R K → ℕ
+  passes_of m = (limits_of m.mutex).seats
+
+  -- how many entries each pass may write
+  abbrev pub share_of : Monitor O A R K → ℕ
+  share_of m = m.share
+
+  -- the pass is one of the monitor's
+  abbrev pub Of_monitor : Pass O A R K → Monitor O A R K → Type 0
+  Of_monitor p m = Of_mutex p.seat m.mutex × Began (opening_of m) (passes_of m) (share_of m) (sight p.seat)
+
+  -- this is the same monitor
+  abbrev pub Is_same : Monitor O A R K → Monitor O A R K → Type 0
+  Is_same m n = (m.mutex ≡ n.mutex) × (m.opening ≡ n.opening) × (m.share ≡ n.share)
+
+  -- the pass's seat as the mutex shows it
+  abbrev pub pass_sight : Pass O A R K → Sight (Journaled O A R K)
+  pass_sight p = sight p.seat
+
+  -- the journal's length when the pass left last
+  abbrev pub seen_of : Pass O A R K → ℕ
+  seen_of p = p.seen
+
+  -- how many entries are the pass's own
+  abbrev pub mine_of : Pass O A R K → ℕ
+  mine_of p = p.mine

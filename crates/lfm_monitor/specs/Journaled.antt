@@ -1,0 +1,32 @@
+-- Which journals suit so many queued takes, and what one hold of a seat may add to a journal.
+use Rattle.std.specs.Prelude.{◌≡◌, ℕ, ◌==◌, ◌&&◌, Bool, true, false, not, List, [], ◌∷◌, ◌++◌, length, drop}
+use Rattle.lfm_model.specs.declared.journals.Entry.{Entry}
+use Rattle.lfm_model.specs.JournalLaws.{is_take}
+use Rattle.lfm_model.specs.Journals.{queued_from}
+use Rattle.lfm_monitor.specs.declared.journals.Journaled.{Journaled}
+
+module _ {A : Type 0} where
+  -- ops of seat s alone
+  abbrev pub are_ops : ℕ → List (Entry A) → Bool
+  are_ops s [] = true
+  are_ops s (e ∷ es) = (e.seat == s) && (not (is_take e.what) && are_ops s es)
+
+  -- one take of seat s, and then ops of it
+  abbrev pub is_hold : ℕ → List (Entry A) → Bool
+  is_hold s [] = false
+  is_hold s (e ∷ es) = (e.seat == s) && (is_take e.what && are_ops s es)
+
+  -- the journal js goes on as ks, by one hold of s
+  abbrev pub Goes_on : ℕ → List (Entry A) → List (Entry A) → Type 0
+  Goes_on s js ks = (js ++ drop (length js) ks ≡ ks) × (is_hold s (drop (length js) ks) ≡ true)
+
+module _ {O A R : Type 0} {K : _} where
+  -- both are of the same monitor
+  abbrev pub Same_monitor : Journaled O A R K → Journaled O A R K → Type 0
+  Same_monitor v w = (w.opening.value ≡ v.opening.value) × (w.seats ≡ v.seats) × (w.share ≡ v.share)
+
+  abbrev pub Fits : Journaled O A R K → ℕ → Type 0
+  Fits v k = queued_from 0 v.journal.items ≡ k
+
+  abbrev pub Follows : ℕ → Journaled O A R K → Journaled O A R K → Type 0
+  Follows s v w = Same_monitor v w × Goes_on s v.journal.items w.journal.items

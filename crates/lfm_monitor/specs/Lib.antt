@@ -1,0 +1,5 @@
+pub mod Begun
+pub mod Belongs
+pub mod Journaled
+pub mod Passes
+pub mod Writes

@@ -1,0 +1,103 @@
+//! The calls that come to hold. Each hold that begins is written down.
+ghost use Rattle.lfm_mutex.specs.calls.Sight.{sight};
+ghost use Rattle.lfm_monitor.specs.Belongs.{Of_monitor, mine_of, pass_sight, seen_of, share_of};
+ghost use Rattle.lfm_monitor.specs.Passes.{Ask_ends, Enter_ends, Receive_ends, Try_ends};
+ghost use Rattle.std.specs.Prelude.{◌≡◌};
+
+use crate::monitors::Monitor;
+use crate::passes::Pass;
+use crate::writing::write_took;
+use lfm_model::{Asked, How, Locked, Object, Refusal};
+use std::sync::Wait;
+
+impl<O: Object> Monitor<O> {
+    /// Gains the monitor or deepens the hold without queueing. A gain is written down as the pass's take.
+    ///
+    /// Refuses, in this order: Asleep, DepthFull (the pass holds at depth 65,535), Spent (it doesn't hold, and has no take or
+    /// no entry left) and Busy (as `try_lock` of the mutex). It never waits, takes no memory and wakes nobody.
+    pub fn try_enter(&self, pass: &mut Pass<O>) -> Result<Locked, Refusal>
+        requires belongs { Of_monitor pass.old self.now }
+        ensures belongs { Of_monitor pass.new self.now }
+        ensures enters { Try_ends (share_of self.now) (pass_sight pass.old) (pass_sight pass.new) (mine_of pass.old) (mine_of pass.new) result }
+        ensures seen { seen_of pass.new ≡ seen_of pass.old }
+    {
+        if pass.lacks_entry(self.share) {
+            return Err(Refusal::Spent);
+        }
+        let locked = self.mutex.try_lock(&mut pass.seat)?;
+        let how = match locked {
+            Locked::Again(depth) => return Ok(Locked::Again(depth)),
+            Locked::Held(how) => how,
+        };
+        write_took(&mut pass.seat, how);
+        pass.mine += 1;
+        Ok(Locked::Held(how))
+    }
+
+    /// `enter` up to the point where it would sleep: gains the monitor, deepens the hold, or queues the pass, which then sleeps
+    /// until a receive tells it that it holds. While it sleeps, one of its entries is kept for its take.
+    ///
+    /// Refuses, in this order: Asleep, DepthFull, Spent, each as `try_enter`. It never waits and takes no memory.
+    pub fn ask(&self, pass: &mut Pass<O>) -> Result<Asked, Refusal>
+        requires belongs { Of_monitor pass.old self.now }
+        ensures belongs { Of_monitor pass.new self.now }
+        ensures enters { Ask_ends (share_of self.now) (pass_sight pass.old) (pass_sight pass.new) (mine_of pass.old) (mine_of pass.new) result }
+        ensures seen { seen_of pass.new ≡ seen_of pass.old }
+    {
+        if pass.lacks_entry(self.share) {
+            return Err(Refusal::Spent);
+        }
+        let asked = self.mutex.ask(&mut pass.seat)?;
+        let how = match asked {
+            Asked::Again(depth) => return Ok(Asked::Again(depth)),
+            Asked::Asleep => return Ok(Asked::Asleep),
+            Asked::Held(how) => how,
+        };
+        write_took(&mut pass.seat, how);
+        pass.mine += 1;
+        Ok(Asked::Held(how))
+    }
+
+    /// Gains the monitor, or deepens the hold: sleeps until the pass holds, where another holds or asked before. A gain is
+    /// written down as the pass's take.
+    ///
+    /// Refuses, in this order: Asleep, DepthFull, Spent, each as `try_enter`. It takes no memory.
+    pub fn enter<R: Wait>(&self, rt: &R, pass: &mut Pass<O>) -> Result<Locked, Refusal>
+        requires belongs { Of_monitor pass.old self.now }
+        ensures belongs { Of_monitor pass.new self.now }
+        ensures enters { Enter_ends (share_of self.now) (pass_sight pass.old) (pass_sight pass.new) (mine_of pass.old) (mine_of pass.new) result }
+        ensures seen { seen_of pass.new ≡ seen_of pass.old }
+    {
+        if pass.lacks_entry(self.share) {
+            return Err(Refusal::Spent);
+        }
+        let locked = self.mutex.lock(rt, &mut pass.seat)?;
+        let how = match locked {
+            Locked::Again(depth) => return Ok(Locked::Again(depth)),
+            Locked::Held(how) => how,
+        };
+        write_took(&mut pass.seat, how);
+        pass.mine += 1;
+        Ok(Locked::Held(how))
+    }
+
+    /// One look of a pass that sleeps: how it came to hold, which is written down as its take, or None where it was not granted
+    /// the monitor and sleeps on.
+    ///
+    /// Refuses with NotWaiting where the pass doesn't sleep. It never waits and takes no memory.
+    pub fn try_receive(&self, pass: &mut Pass<O>) -> Result<Option<How>, Refusal>
+        requires belongs { Of_monitor pass.old self.now }
+        ensures belongs { Of_monitor pass.new self.now }
+        ensures enters { Receive_ends (pass_sight pass.old) (pass_sight pass.new) (mine_of pass.old) (mine_of pass.new) result }
+        ensures seen { seen_of pass.new ≡ seen_of pass.old }
+    {
+        let received = self.mutex.try_receive(&mut pass.seat)?;
+        let how = match received {
+            None => return Ok(None),
+            Some(how) => how,
+        };
+        write_took(&mut pass.seat, how);
+        pass.mine += 1;
+        Ok(Some(how))
+    }
+}

@@ -1,0 +1,24 @@
+//! A seat of the mutex lies in each pass.
+ghost use Rattle.lfm_monitor.specs.declared.passes.Pass.{Pass};
+
+use crate::journals::Journaled;
+use crate::passes::Pass;
+use lfm_model::Object;
+use lfm_mutex::{Holder, Seat};
+
+impl<O: Object> Holder<Journaled<O>> for Pass<O> {
+    ghost seat_of = { λ p. p.seat };
+
+    fn seat(&self) -> &Seat<Journaled<O>> {
+        &self.seat
+    }
+
+    fn into_seat(self) -> Seat<Journaled<O>> {
+        let Pass {
+            seat,
+            seen: _,
+            mine: _,
+        } = self;
+        seat
+    }
+}

@@ -1,0 +1,56 @@
+//! The calls of a pass that holds.
+ghost use Rattle.lfm_mutex.specs.calls.Sight.{sight};
+ghost use Rattle.lfm_monitor.specs.Belongs.{Of_monitor, mine_of, pass_sight, seen_of, share_of};
+ghost use Rattle.lfm_monitor.specs.Passes.{Apply_ends, Leave_ends};
+ghost use Rattle.std.specs.Prelude.{◌≡◌};
+
+use crate::monitors::Monitor;
+use crate::passes::Pass;
+use crate::writing::write_did;
+use lfm_model::{Object, Refusal, Unlocked};
+
+impl<O: Object> Monitor<O> {
+    /// Makes an op of the object and writes it down. The reply is the object's own.
+    ///
+    /// Refuses, in this order: Asleep, NotOwner (the pass doesn't hold), Spent (it has no entry left). A refusal drops the op.
+    /// It never waits and takes no memory.
+    pub fn apply(&self, pass: &mut Pass<O>, op: O::Op) -> Result<O::Reply, Refusal>
+        requires belongs { Of_monitor pass.old self.now }
+        ensures belongs { Of_monitor pass.new self.now }
+        ensures applies { Apply_ends O.after O.reply (share_of self.now) op (pass_sight pass.old) (pass_sight pass.new) (mine_of pass.old) (mine_of pass.new) result }
+        ensures seen { seen_of pass.new ≡ seen_of pass.old }
+    {
+        if pass.seat.asleep() {
+            return Err(Refusal::Asleep);
+        }
+        if pass.seat.depth() == 0 {
+            return Err(Refusal::NotOwner);
+        }
+        if pass.mine >= self.share {
+            return Err(Refusal::Spent);
+        }
+        let reply = write_did(&mut pass.seat, op);
+        pass.mine += 1;
+        Ok(reply)
+    }
+
+    /// Gives up one hold, and at depth 1 the monitor, as `unlock` of the mutex. What was in hand is then what the pass has seen.
+    ///
+    /// Refuses, in this order: Asleep, NotOwner. It never waits, takes no memory, and wakes the pass that it grants the
+    /// monitor, if any.
+    pub fn leave(&self, pass: &mut Pass<O>) -> Result<Unlocked, Refusal>
+        requires belongs { Of_monitor pass.old self.now }
+        ensures belongs { Of_monitor pass.new self.now }
+        ensures leaves { Leave_ends (pass_sight pass.old) (pass_sight pass.new) (seen_of pass.old) (seen_of pass.new) result }
+        ensures mine { mine_of pass.new ≡ mine_of pass.old }
+    {
+        let length = pass.journal_len();
+        let unlocked = self.mutex.unlock(&mut pass.seat)?;
+        match unlocked {
+            Unlocked::Still(depth) => return Ok(Unlocked::Still(depth)),
+            Unlocked::Free | Unlocked::Granted(_) | Unlocked::Posted | Unlocked::TakenOver => {}
+        }
+        pass.seen = length;
+        Ok(unlocked)
+    }
+}

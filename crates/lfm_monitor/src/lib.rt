@@ -1,0 +1,18 @@
+//! A guarded object with a journal of what its holders did, over the mutex. A call is made through the monitor and one of its
+//! passes. At every hold the journal is lawful, and its replay from the opening object is the object.
+#![tactic(auto)]
+
+mod closing;
+mod entering;
+mod guarding;
+mod holders;
+mod holding;
+pub mod journals;
+pub mod monitors;
+mod opening;
+pub mod passes;
+mod writing;
+
+pub use journals::Journaled;
+pub use monitors::Monitor;
+pub use passes::Pass;

@@ -1,0 +1,18 @@
+//! The monitor. Its calls are in `entering`, `holding` and `closing`.
+ghost use Rattle.std.specs.Prelude.{◌≡◌};
+ghost use Rattle.lfm_mutex.specs.Belongs.{limits_of};
+
+use crate::journals::Journaled;
+use lfm_model::Object;
+use lfm_mutex::Mutex;
+use std::snapshot::Snapshot;
+
+/// A guarded object with a journal: at most one pass at a time holds it, and applies ops to it. Its calls are made through a
+/// shared reference and one of its passes. A call with the pass of another monitor breaks the condition that every call has.
+#[derive(Drop)]
+pub struct Monitor<O: Object> {
+    pub(crate) mutex: Mutex<Journaled<O>>,
+    pub(crate) opening: Snapshot<O>,
+    pub(crate) share: u64,
+    pub ghost shared: { (limits_of mutex).budget ≡ share },
+}

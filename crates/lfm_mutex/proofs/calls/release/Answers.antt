@@ -1,7 +1,7 @@
 use Rattle.std.proofs.Common.{ℕ, ◌+◌, ◌≤◌, Option, length, sym, ap, subst, ◌∙◌, arith}
 use Rattle.lfm_mutex.specs.declared.table.seat_view.View.{View}
 use Rattle.lfm_mutex.specs.declared.table.rule.Moving.{Moving}
-use Rattle.lfm_mutex.specs.calls.Runs.{Ran, opens, weight, release_steps}
+use Rattle.lfm_mutex.specs.calls.Runs.{Ran, opens, release_steps}
 use Rattle.lfm_mutex.specs.table.Steps.{Leaves}
 use Rattle.lfm_mutex.proofs.runs.Running.{begun_release, weight_begun, called_steps, called_at_once}
 use Rattle.lfm_mutex.specs.table.Rule.{value_in}

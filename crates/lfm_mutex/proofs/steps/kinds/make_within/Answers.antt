@@ -1,4 +1,4 @@
-use Rattle.std.proofs.Common.{refl, sym, ◌∙◌, Some}
+use Rattle.std.proofs.Common.{sym, ◌∙◌, Some}
 use Rattle.std.proofs.lemmas.Bool.{false≢true}
 use Rattle.lfm_mutex.proofs.runs.OneStep.{steps_on, leaves_at, keeps_at}
 use Rattle.lfm_mutex.proofs.steps.kinds.make_within.Goals as goal

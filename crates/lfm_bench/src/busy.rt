@@ -1,14 +1,14 @@
 //! Work that takes time and does nothing else.
 
-use crate::figures::{Stopwatch, per};
+use crate::figures::{Series, Stopwatch, per};
 use std::io;
 use std::time::CpuClock;
 
 /// How many steps are timed to tell how long one takes.
-const TIMED_STEPS: u64 = 100_000;
+const TIMED_STEPS: u64 = 20_000;
 
 /// How often they are timed.
-const TIMINGS: u64 = 5;
+const TIMINGS: u64 = 25;
 
 /// A generator of numbers, by xorshift. Its steps are the work.
 #[derive(Clone, Copy)]
@@ -48,16 +48,16 @@ pub struct Pace {
 }
 
 impl Pace {
-    /// Times some steps a few times, and takes the fastest.
-    pub fn measure<R: CpuClock>(rt: &R) -> io::Result<Pace> {
+    /// Times some steps a few times, and takes the median. The clock of a thread's processor time may err now and then.
+    pub fn measure<R: CpuClock + AllocGlobal>(rt: &R) -> io::Result<Pace> {
         let mut busy = Busy::new();
-        let mut picoseconds = u64::MAX;
+        let mut costs = Series::new(rt.alloc());
         for _ in 0..TIMINGS {
             let watch = Stopwatch::start(rt)?;
             busy.work(TIMED_STEPS);
-            let sample = watch.stop(rt, TIMED_STEPS, TIMED_STEPS)?;
-            picoseconds = picoseconds.min(sample.cost());
+            costs.add(watch.stop(rt, TIMED_STEPS, TIMED_STEPS)?.cost())?;
         }
+        let picoseconds = costs.median().unwrap_or(0);
         Ok(Pace { picoseconds })
     }
 

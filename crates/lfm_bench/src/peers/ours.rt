@@ -4,7 +4,7 @@ ghost use Rattle.lfm_mutex.specs.Belongs.{Of_mutex};
 ghost use mathlib.Core.Option.{some};
 ghost use lib.ListN.{get_elem?};
 
-use lfm_model::{Locked, Refusal, Unlocked};
+use lfm_model::{Locked, Refusal};
 use lfm_mutex::{Mutex, Seat};
 use std::io;
 use std::sync::Wait;

@@ -1,11 +1,13 @@
 -- What the journal is once all passes are back.
-use Rattle.std.proofs.Common.{◌≡◌, ℕ, suc, ◌<◌, ◌≤◌, List, [], ◌∷◌, length, Some, refl, sym, ◌∙◌, ap, arith}
+use Rattle.std.proofs.Common.{subst, sym, ◌≡◌, ℕ, suc, ◌<◌, ◌≤◌, List, [], ◌∷◌, length, Some, refl, ◌∙◌, ap, arith}
 use mathlib.Core.Option.{some}
 use lib.ListN.{get_elem?}
 use Rattle.lfm_model.specs.Journals.{own, sum_to, total}
 use Rattle.lfm_model.proofs.Sums.{own_total}
 use Rattle.lfm_model.proofs.Numbers.{all_once}
 use Rattle.lfm_mutex.specs.calls.Sight.{Sight, sight}
+use Rattle.lfm_mutex.specs.declared.mutex.Mutex.{Mutex}
+use Rattle.lfm_mutex.specs.Belongs.{Of_mutex, limits_of}
 use Rattle.lfm_mutex.specs.Closing.{All_stand}
 use Rattle.lfm_mutex.specs.Reach.{Reached}
 use Rattle.lfm_monitor.specs.declared.journals.Journaled.{Journaled}
@@ -60,3 +62,8 @@ module _ {O A R : Type 0} {K : _} where
     leads = λ l is. reached j p l at is;
     belongs = of j p at;
   }
+
+  -- a pass of a monitor is one of the monitor with the same mutex
+  pub kept_of : (m n : Mutex (Journaled O A R K)) (opening : O) (share : ℕ) (p : Pass O A R K) → m ≡ n → Of_mutex p.seat m × Began opening (limits_of m).seats share (sight p.seat)
+      → Of_mutex p.seat n × Began opening (limits_of n).seats share (sight p.seat)
+  kept_of m n opening share p e h = subst (λ (x : Mutex (Journaled O A R K)). Of_mutex p.seat x × Began opening (limits_of x).seats share (sight p.seat)) e h

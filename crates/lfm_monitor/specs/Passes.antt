@@ -118,12 +118,13 @@ module _ {O A R : Type 0} {K : _} where
   Leave_ends s t seen seen' (Err Refusal.NotOwner) = (s.asleep ≡ false) × (s.depth ≡ 0) × (t ≡ s) × (seen' ≡ seen)
   Leave_ends s t seen seen' (Err _) = ⊥
 
-module _ {O A R : Type 0} {K : _} (after : O → A → O) (reply : O → A → R) where
+module _ {O A R : Type 0} {K : _} (after : O → A → O) where
   -- what the pass has in hand is legal: the journal is lawful, the object is its replay, and the stamps are those of all queued
   -- takes so far
   abbrev pub Is_legal : O → Sight (Journaled O A R K) → Type 0
   Is_legal opening s = (v : Journaled O A R K) → s.value ≡ Some v → (v.object ≡ after_all after opening v.journal.items) × Lawful v.journal.items × (stamps v.journal.items ≡ one_to s.queued)
 
+module _ {O A R : Type 0} {K : _} (after : O → A → O) (reply : O → A → R) where
   -- an op was made: the object replied and changed as it does by itself, and the entry was added
   abbrev pub Applies : A → Sight (Journaled O A R K) → Sight (Journaled O A R K) → R → Type 0
   Applies op s t r =

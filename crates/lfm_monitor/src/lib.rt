@@ -8,6 +8,7 @@ mod guarding;
 mod holders;
 mod holding;
 pub mod journals;
+pub mod laws;
 pub mod monitors;
 mod opening;
 pub mod passes;

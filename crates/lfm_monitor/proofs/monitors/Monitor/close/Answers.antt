@@ -1,9 +1,10 @@
-use Rattle.std.proofs.Common.{arith, ap, ◌∙◌}
+use Rattle.std.proofs.Common.{sym, arith, ap, ◌∙◌}
 use Rattle.lfm_mutex.specs.calls.Sight.{sight}
 use Rattle.lfm_model.specs.Journals.{after_all}
 use Rattle.lfm_monitor.specs.Belongs.{opening_of, passes_of, share_of}
 use Rattle.lfm_monitor.specs.declared.passes.Pass.{Pass}
-use Rattle.lfm_monitor.proofs.Ending.{backs, ends_as, own_ends, mine_ends, whole}
+use lib.ListN.{get_elem?}
+use Rattle.lfm_monitor.proofs.Ending.{backs, ends_as, kept_of, own_ends, mine_ends, whole}
 use Rattle.lfm_monitor.proofs.monitors.Monitor.close.Goals as goal
 
 pub close-requires-clause-belongs : goal.close-requires-clause-belongs
@@ -31,3 +32,7 @@ returns-in-Ok-clause-legal g c = let m = c.args.self in let v = c.in-Ok.journale
     let e = ends_as seat (λ p. p.seen) (λ p. p.mine) (λ p. p.kept) (opening_of m) (passes_of m) (share_of m) v one.1
     (backs c.args.passes.items (passes_of m) (opening_of m) (share_of m) v c.in-Ok.ensures.all (λ j p at. (c.requires.belongs j p at).1) (λ j p l at is. c.in-Ok.ensures.reached j p l at is) one.0 one.1 one.2) in
     (v.legal ∙ ap (λ s. after_all g.O.Object.after s v.journal.items) e.0, v.lawful)
+
+pub returns-in-Err-clause-back : goal.returns-in-Err-clause-back
+returns-in-Err-clause-back g c j p at = let m = c.in-Err.ensures.missing in
+    kept_of c.args.self.mutex c.in-Err.mutex (opening_of c.args.self) (share_of c.args.self) p (sym m.0) (c.requires.belongs j p (ap (λ (ps : _). get_elem? ps.items j) (sym m.1) ∙ at))

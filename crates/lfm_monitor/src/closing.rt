@@ -24,6 +24,7 @@ impl<O: Object> Monitor<O> {
         requires belongs { (j : ℕ) (p : _) → get_elem? passes.items j ≡ some p → Of_monitor p self }
         ensures missing { IfErr result (λ e. Is_same e.0 self × (e.1 ≡ passes) × First_missing (λ p. pass_sight p) passes.items (passes_of self) e.2) }
         ensures back { IfErr result (λ e. (j : ℕ) (p : _) → get_elem? e.1.items j ≡ some p → Of_monitor p e.0) }
+        ensures kept { IfErr result (λ e. (p : _) → Of_monitor p self → Of_monitor p e.0) }
         ensures all { IfOk result (λ _. All_stand (λ p. pass_sight p) passes.items (passes_of self)) }
         ensures legal { IfOk result (λ r. (r.0 ≡ after_all O.after (opening_of self) r.1.items) × Lawful r.1.items) }
         ensures mine { IfOk result (λ r. (j : ℕ) (p : _) → get_elem? passes.items j ≡ some p → (own (pass_sight p).number r.1.items ≡ own (pass_sight p).number (journal_of (pass_sight p))) × (mine_of p ≡ length (own (pass_sight p).number r.1.items))) }

@@ -36,3 +36,6 @@ returns-in-Ok-clause-legal g c = let m = c.args.self in let v = c.in-Ok.journale
 pub returns-in-Err-clause-back : goal.returns-in-Err-clause-back
 returns-in-Err-clause-back g c j p at = let m = c.in-Err.ensures.missing in
     kept_of c.args.self.mutex c.in-Err.mutex (opening_of c.args.self) (share_of c.args.self) p (sym m.0) (c.requires.belongs j p (ap (λ (ps : _). get_elem? ps.items j) (sym m.1) ∙ at))
+
+pub returns-in-Err-clause-kept : goal.returns-in-Err-clause-kept
+returns-in-Err-clause-kept g c p of = kept_of c.args.self.mutex c.in-Err.mutex (opening_of c.args.self) (share_of c.args.self) p (sym c.in-Err.ensures.missing.0) of

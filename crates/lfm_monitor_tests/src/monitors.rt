@@ -1,0 +1,186 @@
+//! The monitor, called by one thread that holds all its passes, and its limits.
+ghost use Rattle.lfm_monitor.specs.Belongs.{Of_monitor};
+ghost use Rattle.std.specs.Prelude.{◌≡◌, ℕ, [], IfSome};
+ghost use lib.ListN.{get_elem?};
+ghost use mathlib.Core.Option.{some};
+
+use lfm_model::{
+    Asked, Entry, How, Locked, Missing, NewFault, Refusal, SeatNo, Total, TotalOp, Unlocked, What,
+    lawful, replay,
+};
+use lfm_monitor::{Monitor, Pass};
+use std::test::Fail;
+
+/// The two passes of a monitor that has two.
+fn take_two(
+    monitor: &Monitor<Total>,
+    mut passes: Vec<Pass<Total>>,
+) -> Option<(Pass<Total>, Pass<Total>)>
+    requires { (j : ℕ) (p : _) → get_elem? passes.items j ≡ some p → Of_monitor p monitor.now }
+    ensures { IfSome result (λ r. Of_monitor r.0 monitor.now × Of_monitor r.1 monitor.now) }
+{
+    let _monitor = monitor;
+    let second = passes.pop()?;
+    let first = passes.pop()?;
+    Some((first, second))
+}
+
+/// The pass of a monitor that has one.
+fn take_one(monitor: &Monitor<Total>, mut passes: Vec<Pass<Total>>) -> Option<Pass<Total>>
+    requires { (j : ℕ) (p : _) → get_elem? passes.items j ≡ some p → Of_monitor p monitor.now }
+    ensures { IfSome result (λ p. Of_monitor p monitor.now) }
+{
+    let _monitor = monitor;
+    let pass = passes.pop()?;
+    Some(pass)
+}
+
+/// Hands the first of two passes back, which must not close the monitor yet: returns what is missing, and all three again.
+fn kept_alone(
+    monitor: Monitor<Total>,
+    first: Pass<Total>,
+    second: Pass<Total>,
+    mut room: Vec<Pass<Total>>,
+) -> Option<(Monitor<Total>, Pass<Total>, Pass<Total>, Missing)>
+    requires first { Of_monitor first monitor }
+    requires second { Of_monitor second monitor }
+    requires empty { room.items ≡ [] }
+    ensures { IfSome result (λ r. Of_monitor r.1 r.0 × Of_monitor r.2 r.0) }
+{
+    room.push(first).ok()?;
+    let Err((monitor, passes, missing)) = monitor.close(room) else {
+        return None;
+    };
+    let first = take_one(&monitor, passes)?;
+    Some((monitor, first, second, missing))
+}
+
+/// Hands both passes back, which must close the monitor: returns its object and its journal.
+fn closed(
+    monitor: Monitor<Total>,
+    first: Pass<Total>,
+    second: Pass<Total>,
+    mut room: Vec<Pass<Total>>,
+) -> Option<(Total, Vec<Entry<TotalOp>>)>
+    requires first { Of_monitor first monitor }
+    requires second { Of_monitor second monitor }
+    requires empty { room.items ≡ [] }
+{
+    room.push(first).ok()?;
+    room.push(second).ok()?;
+    monitor.close(room).ok()
+}
+
+/// What the two passes write down in `a_monitor_in_one_thread`.
+fn written() -> [Entry<TotalOp>; 6] {
+    let first = SeatNo::known(1);
+    let second = SeatNo::known(2);
+    [
+        Entry {
+            seat: first,
+            what: What::Took(How::Free),
+        },
+        Entry {
+            seat: first,
+            what: What::Did(TotalOp::Add(5)),
+        },
+        Entry {
+            seat: second,
+            what: What::Took(How::Queued(1)),
+        },
+        Entry {
+            seat: second,
+            what: What::Did(TotalOp::Add(7)),
+        },
+        Entry {
+            seat: first,
+            what: What::Took(How::Queued(2)),
+        },
+        Entry {
+            seat: first,
+            what: What::Did(TotalOp::Read),
+        },
+    ]
+}
+
+#[test]
+fn a_monitor_in_one_thread(rt: HostRuntime) -> Result<(), Fail> {
+    let (monitor, passes) = Monitor::new(rt.alloc(), 2, 8, Total(0))?;
+    let Some((mut first, mut second)) = take_two(&monitor, passes) else {
+        panic!(rt; "two passes")
+    };
+    assert_eq!(rt; first.number(), SeatNo::known(1));
+    assert_eq!(rt; monitor.ask(&mut first), Ok(Asked::Held(How::Free)));
+    assert_eq!(rt; monitor.ask(&mut second), Ok(Asked::Asleep));
+    assert_eq!(rt; monitor.apply(&mut first, TotalOp::Add(5)), Ok(5));
+    assert_eq!(rt;
+        monitor.leave(&mut first),
+        Ok(Unlocked::Granted(SeatNo::known(2)))
+    );
+    assert_eq!(rt; monitor.ask(&mut first), Ok(Asked::Asleep));
+    assert_eq!(rt; monitor.try_receive(&mut second), Ok(Some(How::Queued(1))));
+    assert_eq!(rt; monitor.apply(&mut second, TotalOp::Add(7)), Ok(12));
+    assert_eq!(rt;
+        monitor.leave(&mut second),
+        Ok(Unlocked::Granted(SeatNo::known(1)))
+    );
+    assert_eq!(rt; monitor.try_receive(&mut first), Ok(Some(How::Queued(2))));
+    assert_eq!(rt; first.depth(), 1);
+    assert_eq!(rt; monitor.apply(&mut first, TotalOp::Read), Ok(12));
+    assert_eq!(rt; monitor.leave(&mut first), Ok(Unlocked::Free));
+    assert_eq!(rt; (first.seen_len(), second.seen_len()), (6, 4));
+    assert_eq!(rt; (first.mine(), second.mine()), (4, 2));
+    let Some((monitor, first, second, missing)) = kept_alone(
+        monitor,
+        first,
+        second,
+        Vec::new(rt.alloc()),
+    ) else {
+        panic!(rt; "it was closed without pass 2")
+    };
+    assert_eq!(rt; missing, Missing::NotBack(SeatNo::known(2)));
+    let Some((total, journal)) = closed(monitor, first, second, Vec::new(rt.alloc())) else {
+        panic!(rt; "both passes were back")
+    };
+    assert_eq!(rt; total, Total(12));
+    assert_eq!(rt; journal.as_slice(), written().as_slice());
+    Ok(())
+}
+
+#[test]
+fn a_journal_is_replayed(rt: HostRuntime) -> Result<(), Fail> {
+    let journal = written();
+    assert!(rt; lawful(&journal));
+    let (total, replies) = replay(rt.alloc(), Total(0), &journal)?;
+    assert_eq!(rt; total, Total(12));
+    assert_eq!(rt; replies.as_slice(), [5, 12, 12].as_slice());
+    Ok(())
+}
+
+#[test]
+fn limits(rt: HostRuntime) {
+    for (passes, entries) in [(0, 1), (4_096, 1), (1, 0), (2, 524_289)] {
+        let fault = Monitor::new(rt.alloc(), passes, entries, Total(0)).err();
+        assert_eq!(rt;
+            fault,
+            Some(NewFault::Limit),
+            "{passes} passes, {entries} entries"
+        );
+    }
+}
+
+#[test]
+fn one_entry(rt: HostRuntime) -> Result<(), Fail> {
+    let (monitor, passes) = Monitor::new(rt.alloc(), 1, 1, Total(0))?;
+    let Some(mut pass) = take_one(&monitor, passes) else {
+        panic!(rt; "one pass")
+    };
+    assert_eq!(rt; monitor.try_enter(&mut pass), Ok(Locked::Held(How::Free)));
+    assert_eq!(rt;
+        monitor.apply(&mut pass, TotalOp::Read),
+        Err(Refusal::Spent)
+    );
+    assert_eq!(rt; monitor.leave(&mut pass), Ok(Unlocked::Free));
+    assert_eq!(rt; monitor.enter(&rt, &mut pass), Err(Refusal::Spent));
+    Ok(())
+}

@@ -178,6 +178,6 @@ fn lock_by_two_threads(rt: HostRuntime) -> Result<(), Fail> {
 
 #[test]
 fn lock_by_four_threads(rt: HostRuntime) -> Result<(), Fail> {
-    assert_eq!(rt; locked(&rt, rt.alloc(), 4, 25_000)?, (true, 100_000));
+    assert_eq!(rt; locked(&rt, rt.alloc(), 4, 250_000)?, (true, 1_000_000));
     Ok(())
 }

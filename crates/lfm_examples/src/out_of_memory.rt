@@ -2,9 +2,29 @@
 //! sees then that nothing was changed or written: a script lets each single request of these tests fail in turn.
 use lfm_core::{Call, ReplayFault, State, Turn, read_schedule, replay, run};
 use lfm_model::NewFault;
+use lfm_mutex::{Kept, Mutex};
 use lfm_words::PopList;
+use std::sync::atomic::{AtomicU64, Ordering};
 
 const SCHEDULE: &[u8; 46] = b"seats 2\n1 lock\n1 *\n2 lock\n2 .\n1 unlock\n1 *\n2 *";
+
+/// A value that counts how often such a value was dropped.
+struct Counted<'a> {
+    drops: &'a AtomicU64,
+}
+
+impl Drop for Counted<'_> {
+    fn drop(self) {
+        self.drops.fetch_add(1, Ordering::SeqCst);
+        let Counted { drops: _ } = self;
+    }
+}
+
+impl Kept for Counted<'_> {
+    ghost fits = { λ _ _. Unit {0} };
+
+    ghost follows = { λ _ _ _. Unit {0} };
+}
 
 #[test]
 fn pop_list_and_memory(rt: HostRuntime) {
@@ -62,6 +82,18 @@ fn replay_and_memory(rt: HostRuntime) {
         Err(fault) => {
             assert_eq!(rt; fault, ReplayFault::Memory);
             assert_eq!(rt; writer.len(), 512);
+        }
+    }
+}
+
+#[test]
+fn mutex_and_memory(rt: HostRuntime) {
+    let drops = AtomicU64::new(0);
+    match Mutex::new(rt.alloc(), 2, 1, Counted { drops: &drops }) {
+        Ok(_made) => assert_eq!(rt; drops.load(Ordering::SeqCst), 0),
+        Err(fault) => {
+            assert_eq!(rt; fault, NewFault::Memory);
+            assert_eq!(rt; drops.load(Ordering::SeqCst), 1);
         }
     }
 }

@@ -1,5 +1,5 @@
 -- Cond seats as they are made.
-use Rattle.std.proofs.Common.{◌≡◌, ℕ, zero, suc, ◌+◌, ◌<◌, ◌≤◌, List, [], ◌∷◌, Option, Some, None, is_some, refl, sym, ◌∙◌, ap, subst, arith, ◌++◌, ◌⊎◌, ⊎_elim, inl, inr, length, get_or, slice_index}
+use Rattle.std.proofs.Common.{◌≡◌, ℕ, zero, suc, ◌+◌, ◌<◌, List, [], ◌∷◌, Some, is_some, refl, sym, ◌∙◌, ap, subst, arith, ◌++◌, ◌⊎◌, ⊎_elim, inl, inr, length, get_or}
 use Rattle.std.proofs.lemmas.List.Sums.{get_or-le-sum_by}
 use mathlib.Core.Option.{some, some-ne-none, some-injective}
 use lib.ListN.{get_elem?}

@@ -1,6 +1,5 @@
 -- What is so once a seat was enlisted, or refused.
-use Rattle.std.proofs.Common.{◌≡◌, ℕ, ◌+◌, ◌<◌, ◌≤◌, List, Result, Ok, Err, refl, sym, ap, ◌∙◌, subst, arith, length, get_or, get_or-set_same, slice_index}
-use Rattle.lfm_model.specs.declared.answers.How.{How}
+use Rattle.std.proofs.Common.{◌≡◌, ℕ, ◌+◌, ◌<◌, ◌≤◌, List, Result, Ok, Err, sym, ap, ◌∙◌, subst, arith, length, get_or, get_or-set_same, slice_index}
 use Rattle.lfm_model.specs.declared.refusals.Refusal.{Refusal}
 use Rattle.lfm_model.specs.declared.refusals.Refusal.TheVariants.{Asleep, NotOwner, Nested, DepthFull, Spent, NoSuchSeat, NotWaiting, Busy}
 use Rattle.lfm_protocol.specs.declared.limits.Limits.{Limits}

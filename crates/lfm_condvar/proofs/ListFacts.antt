@@ -1,12 +1,12 @@
 -- One more that waits, and how many there may be.
-use Rattle.std.proofs.Common.{◌≡◌, ◌≢◌, ℕ, zero, suc, ◌+◌, ◌*◌, ◌<◌, ◌≤◌, List, [], ◌∷◌, ◌++◌, length, refl, sym, ◌∙◌, ap, arith, get_or}
+use Rattle.std.proofs.Common.{◌≡◌, ℕ, zero, suc, ◌+◌, ◌*◌, ◌<◌, ◌≤◌, List, [], ◌∷◌, ◌++◌, length, refl, sym, ◌∙◌, ap, arith, get_or}
 use Rattle.std.specs.Prelude.{All, sum}
 use Rattle.std.proofs.lemmas.List.Sums.{sum_by-le}
 use mathlib.Core.Logic.{dite}
 use native.Mathlib.Decide.{ℕ_discrete}
 use Rattle.lfm_condvar.proofs.NumberSums.{sum_to, one_at, one_most, one_other, one_within, sum_add, sum_none, sum_below}
 use Rattle.lfm_condvar.specs.declared.waiters.Waiter.{Waiter}
-use Rattle.lfm_condvar.specs.Lists.{Go_on_from, times, Among, waiter}
+use Rattle.lfm_condvar.specs.Lists.{Go_on_from, times, Among}
 
 pub go_on_more : (k : ℕ) (ws : List Waiter) (w : Waiter) → Go_on_from k ws → w.ticket ≡ k + length ws + 1 → Go_on_from k (ws ++ w ∷ [])
 go_on_more k [] w g e = (omega arith, tt)

@@ -1,11 +1,10 @@
 -- The inner mutex is locked, the list changed, and given back.
-use Rattle.std.proofs.Common.{◌≡◌, ℕ, ◌+◌, ◌<◌, ◌≤◌, Option, Some, None, is_some, true, refl, sym, ◌∙◌, ap, subst, arith, slice_index, Result, Ok, Err}
+use Rattle.std.proofs.Common.{◌≡◌, ℕ, ◌+◌, ◌≤◌, Option, Some, None, is_some, true, refl, sym, ◌∙◌, ap, subst, arith, slice_index}
 use Rattle.lfm_model.specs.declared.answers.How.{How}
-use Rattle.lfm_model.specs.declared.answers.Locked.TheVariants.{Held}
 use Rattle.lfm_protocol.specs.declared.limits.Limits.{Limits}
 use Rattle.lfm_mutex.specs.calls.Sight.{Sight, Gains, Leaves_off, May_leave}
 use Rattle.lfm_condvar.specs.declared.waiters.Waiters.{Waiters}
-use Rattle.lfm_condvar.specs.Keeping.{Follows, Since}
+use Rattle.lfm_condvar.specs.Keeping.{Follows}
 use Rattle.lfm_condvar.specs.Holds.{Counts_known, Cond_kept, Held_once, In_hand, Made_for, Rewrites}
 use Rattle.lfm_condvar.proofs.Followed.{since_reached}
 
@@ -20,21 +19,24 @@ pub one_some : {A : Type 0} (o : Option A) (x y : A) → o ≡ Some x → o ≡ 
 one_some o x y e f = let q : Some x ≡ Some y = sym e ∙ f in cc
 
 pub got : (how : How) (limits : Limits) (s t : Sight Waiters) → Cond_kept s → Made_for limits s → Gains Follows Fits limits.budget how s t → (v : Waiters) × In_hand limits s t v v
-got how limits s t kept made g = let f = g.8 in let l = some_of s.last kept.there in let o = since_reached s.number l.0 f.0 (f.3 l.0 l.1) in let m = made l.0 l.1 in let c = kept.known l.0 l.1 in (f.0, record {
-  value = f.1;
-  found = f.2;
-  finds = λ x is. since_reached s.number x f.0 (f.3 x is);
-  seats = o.seats ∙ m.0;
-  budget = o.budget ∙ m.1;
-  low = c.low;
-  high = (let b = c.high in let e = o.seats in omega arith);
-  few = (let a = c.few in let e = o.own in omega arith);
-  number = g.3;
-  depth = g.4;
-  awake = g.6;
-  takes = g.5;
-  spare = g.2;
-})
+got how limits s t kept made g = let f = g.8 in let l = some_of s.last kept.there in let o = since_reached s.number l.0 f.0 (f.3 l.0 l.1) in let m = made l.0 l.1 in let c = kept.known l.0 l.1 in (
+  f.0,
+  record {
+    value = f.1;
+    found = f.2;
+    finds = λ x is. since_reached s.number x f.0 (f.3 x is);
+    seats = o.seats ∙ m.0;
+    budget = o.budget ∙ m.1;
+    low = c.low;
+    high = (let b = c.high in let e = o.seats in omega arith);
+    few = (let a = c.few in let e = o.own in omega arith);
+    number = g.3;
+    depth = g.4;
+    awake = g.6;
+    takes = g.5;
+    spare = g.2;
+  },
+)
 
 -- the list in hand was written
 pub rewritten : (limits : Limits) (s t u : Sight Waiters) (v w : Waiters) → In_hand limits s t v v → u ≡ record t { value = Some w } → In_hand limits s u v w

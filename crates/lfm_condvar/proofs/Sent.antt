@@ -1,5 +1,5 @@
 -- What is so once waiters were sent, or one of them was not waiting.
-use Rattle.std.proofs.Common.{◌≡◌, ℕ, ◌+◌, ◌<◌, ◌≤◌, List, [], ◌∷◌, ◌++◌, Bool, true, false, Option, Some, None, Result, Ok, Err, refl, sym, ap, ◌∙◌, subst, arith, length, slice_index, append_assoc, length-append}
+use Rattle.std.proofs.Common.{◌≡◌, ℕ, ◌+◌, ◌≤◌, List, [], ◌∷◌, ◌++◌, false, Option, None, Result, Ok, Err, refl, sym, ap, ◌∙◌, subst, arith, length, slice_index, append_assoc, length-append}
 use Rattle.std.specs.Prelude.{map}
 use Rattle.lfm_model.specs.declared.refusals.Refusal.{Refusal}
 use Rattle.lfm_model.specs.declared.refusals.Refusal.TheVariants.{Asleep, NotOwner, Nested, DepthFull, Spent, NoSuchSeat, NotWaiting, Busy}
@@ -9,7 +9,6 @@ use Rattle.lfm_condvar.specs.declared.waiters.Waiter.{Waiter}
 use Rattle.lfm_condvar.specs.declared.waiters.Waiters.{Waiters}
 use Rattle.lfm_condvar.specs.Holds.{Held_once}
 use Rattle.lfm_condvar.specs.Keeping.{Follows, Taken}
-use Rattle.lfm_condvar.specs.Lists.{waiter}
 use Rattle.lfm_condvar.specs.Wakes.{Oldest_not_waiting, Sends_all, Sends_oldest, Sent_each, Wake_all_ends, Wake_one_ends}
 
 pub taken_none : (v : Waiters) → Taken [] v v
@@ -63,9 +62,12 @@ module _ {T : Type 0} where
   pub all_sent : (n k : ℕ) (gone : List Waiter) (s m t : Sight T) (u v w : Waiters) → Taken gone u v → Sent_each gone s m → k ≡ length gone → Sends_oldest n m t v w (Ok None) → Sends_all n s t u w (Ok k)
   all_sent n k gone s m t u v w a b e o =
       let whole : u.list.items ≡ gone = a.list ∙ (ap (λ ys. gone ++ ys) o.1 ∙ append_none gone) in
-      let q = sym o.2 in
-      (e ∙ ap length (sym whole), subst (λ (y : Waiters). y.list.items ≡ []) q o.1, subst (λ (ys : List Waiter). Taken ys u w) (sym whole) (subst (λ (y : Waiters). Taken gone u y) q a),
-        subst (λ (ys : List Waiter). Sent_each ys s t) (sym whole) (subst (λ (z : Sight T). Sent_each gone s z) (sym o.3) b))
+      let q = sym o.2 in (
+        e ∙ ap length (sym whole),
+        subst (λ (y : Waiters). y.list.items ≡ []) q o.1,
+        subst (λ (ys : List Waiter). Taken ys u w) (sym whole) (subst (λ (y : Waiters). Taken gone u y) q a),
+        subst (λ (ys : List Waiter). Sent_each ys s t) (sym whole) (subst (λ (z : Sight T). Sent_each gone s z) (sym o.3) b),
+      )
 
   -- some were sent, and the next was not waiting
   pub some_sent : (n : ℕ) (gone : List Waiter) (s m t : Sight T) (u v w : Waiters) (r : Refusal) → Taken gone u v → Sent_each gone s m → s.asleep ≡ false → Sends_oldest n m t v w (Err r) → Sends_all n s t u w (Err r)

@@ -1,5 +1,5 @@
 -- What a cond seat knows of the list, and what a hold of the inner mutex makes of it.
-use Rattle.std.specs.Prelude.{◌≡◌, ℕ, ◌+◌, ◌<◌, ◌≤◌, Option, Some, is_some, true, false, slice_index}
+use Rattle.std.specs.Prelude.{◌≡◌, ℕ, ◌+◌, ◌<◌, ◌≤◌, Some, is_some, true, false, slice_index}
 use Rattle.lfm_protocol.specs.declared.limits.Limits.{Limits}
 use Rattle.lfm_mutex.specs.calls.Sight.{Sight}
 use Rattle.lfm_condvar.specs.declared.waiters.Waiters.{Waiters}

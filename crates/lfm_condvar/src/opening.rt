@@ -38,11 +38,7 @@ impl Condvar {
     ///
     /// Outside these limits it answers Limit, and asks for no memory. It answers Memory where a request for memory was
     /// refused. No other call of a condvar takes memory.
-    pub fn new(
-        alloc: Global,
-        seats: u64,
-        budget: u64,
-    ) -> Result<(Condvar, Vec<CondSeat>), NewFault>
+    pub fn new(alloc: Global, seats: u64, budget: u64) -> Result<(Condvar, Vec<CondSeat>), NewFault>
         ensures limits { IfOk result (λ r. (cond_limits r.0 ≡ record { seats = seats; budget = budget }) × (are_in_limits seats budget ≡ true)) }
         ensures seats { IfOk result (λ r. (vec_len r.1 ≡ seats) × ((v : _) × Is_new v × ((j : ℕ) (s : _) → get_elem? r.1.items j ≡ some s → Of_condvar s r.0 × (cond_sight s ≡ new_sight v (j + 1))))) }
         ensures limit { are_in_limits seats budget ≡ false → IfErr result (λ e. e ≡ NewFault.Limit) × IfOk result (λ _. ⊥) }

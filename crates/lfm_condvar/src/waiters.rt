@@ -8,9 +8,8 @@ mod sending;
 
 pub(crate) use enlisting::bars_wait;
 pub use enlisting::enlist;
-pub use sending::send_oldest;
-
 use lfm_model::SeatNo;
+pub use sending::send_oldest;
 use std::alloc::{AllocError, Global};
 use std::collections::VecDeque;
 

@@ -10,7 +10,7 @@ ghost use Rattle.lfm_condvar.specs.Waits.{Enlists, May_wait, Wait_ends};
 use crate::condvars::Condvar;
 use crate::holding::{leave_list, lock_list};
 use crate::seats::CondSeat;
-use crate::waiters::{bars_wait, enlist, Waiters};
+use crate::waiters::{Waiters, bars_wait, enlist};
 use lfm_model::{How, Refusal};
 use lfm_mutex::{Kept, Mutex, Seat};
 use std::sync::Wait;

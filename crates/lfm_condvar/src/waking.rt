@@ -10,7 +10,7 @@ ghost use Rattle.lfm_condvar.specs.Wakes.{Sends_all, Sends_oldest, Wake_all_ends
 use crate::condvars::Condvar;
 use crate::holding::{leave_list, lock_list};
 use crate::seats::CondSeat;
-use crate::waiters::{send_oldest, Waiters};
+use crate::waiters::{Waiters, send_oldest};
 use lfm_model::{Refusal, SeatNo};
 use lfm_mutex::{Kept, Mutex, Seat};
 use std::sync::Wait;

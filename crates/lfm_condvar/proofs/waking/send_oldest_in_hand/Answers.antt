@@ -1,5 +1,3 @@
-use Rattle.std.proofs.Common.{rules}
-use Rattle.lfm_mutex.specs.Belongs.{limits_of}
 use Rattle.lfm_mutex.specs.calls.Sight.{sight}
 use Rattle.lfm_condvar.proofs.Sent.{same_count}
 use Rattle.lfm_condvar.proofs.waking.send_oldest_in_hand.Goals as goal

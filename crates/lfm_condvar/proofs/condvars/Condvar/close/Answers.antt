@@ -1,4 +1,3 @@
-use Rattle.std.proofs.Common.{rules, refl}
 use Rattle.lfm_condvar.specs.Belongs.{cond_sight}
 use Rattle.lfm_condvar.proofs.Followed.{since_reached}
 use Rattle.lfm_condvar.proofs.condvars.Condvar.close.Goals as goal

@@ -1,9 +1,9 @@
-use Rattle.std.proofs.Common.{rules, ◌≡◌, ℕ, subst}
+use Rattle.std.proofs.Common.{ℕ, subst}
 use Rattle.lfm_mutex.specs.Belongs.{limits_of}
 use Rattle.lfm_mutex.specs.calls.Sight.{sight}
 use Rattle.lfm_condvar.specs.Belongs.{cond_limits, cond_sight}
 use Rattle.lfm_condvar.specs.Waits.{Enlists}
-use Rattle.lfm_condvar.proofs.OneHold.{one_hold, may_leave_it}
+use Rattle.lfm_condvar.proofs.OneHold.{one_hold}
 use Rattle.lfm_condvar.proofs.condvars.Condvar.enlist_in_one_hold.Goals as goal
 
 pub returns-clause-enlists : goal.returns-clause-enlists

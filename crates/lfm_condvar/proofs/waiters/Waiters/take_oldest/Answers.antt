@@ -1,4 +1,4 @@
-use Rattle.std.proofs.Common.{rules, arith, subst, ◌≤◌}
+use Rattle.std.proofs.Common.{arith, subst, ◌≤◌}
 use Rattle.lfm_condvar.specs.Lists.{Go_on_from, times}
 use Rattle.lfm_condvar.proofs.waiters.Waiters.take_oldest.Goals as goal
 

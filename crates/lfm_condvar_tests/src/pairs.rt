@@ -9,10 +9,7 @@ use lfm_condvar::{CondSeat, Condvar};
 use lfm_mutex::{Kept, Mutex, Seat};
 
 /// The two seats of a mutex that has two.
-pub fn two_seats<T: Kept>(
-    mutex: &Mutex<T>,
-    mut seats: Vec<Seat<T>>,
-) -> Option<(Seat<T>, Seat<T>)>
+pub fn two_seats<T: Kept>(mutex: &Mutex<T>, mut seats: Vec<Seat<T>>) -> Option<(Seat<T>, Seat<T>)>
     requires { (j : ℕ) (s : _) → get_elem? seats.items j ≡ some s → Of_mutex s mutex.now }
     ensures { IfSome result (λ p. Of_mutex p.0 mutex.now × Of_mutex p.1 mutex.now) }
 {

@@ -47,7 +47,10 @@ fn wait_twice<R: Wait>(
         Ok((_, ticket)) => Some(ticket),
         Err(_) => None,
     };
-    let busy = matches!(condvar.wait(rt, &mut cond, mutex, &mut seat), Err(Refusal::Busy));
+    let busy = matches!(
+        condvar.wait(rt, &mut cond, mutex, &mut seat),
+        Err(Refusal::Busy)
+    );
     let _ = mutex.unlock(&mut seat);
     Waited {
         seat,

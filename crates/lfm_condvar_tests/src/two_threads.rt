@@ -101,9 +101,15 @@ fn read_and_wake<R: Wait>(
             break;
         }
     }
-    let first = condvar.wake_one(rt, &mut cond, mutex, &mut seat).ok().flatten();
+    let first = condvar
+        .wake_one(rt, &mut cond, mutex, &mut seat)
+        .ok()
+        .flatten();
     let none = matches!(condvar.wake_one(rt, &mut cond, mutex, &mut seat), Ok(None));
-    let spent = matches!(condvar.wake_one(rt, &mut cond, mutex, &mut seat), Err(Refusal::Spent));
+    let spent = matches!(
+        condvar.wake_one(rt, &mut cond, mutex, &mut seat),
+        Err(Refusal::Spent)
+    );
     Woke {
         seat,
         cond,

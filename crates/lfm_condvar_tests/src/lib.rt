@@ -1,8 +1,11 @@
-//! Tests of the running condvar: two threads of which one waits, a send past the condvar, and limits.
+//! Tests of the running condvar: two threads of which one waits, a send past the condvar, limits, and
+//! memory that runs out.
 #![tactic(auto)]
 
 #[cfg(test)]
 mod limits;
+#[cfg(test)]
+mod out_of_memory;
 #[cfg(test)]
 mod pairs;
 #[cfg(test)]

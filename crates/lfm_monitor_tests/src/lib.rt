@@ -3,3 +3,5 @@
 
 #[cfg(test)]
 mod monitors;
+#[cfg(test)]
+mod out_of_memory;

@@ -95,7 +95,9 @@ impl<O: Object> Monitor<O> {
         };
         let opening = Snapshot::of(&object);
         let empty = journaled(alloc, seats, entries_per_seat, object)?;
-        let (mutex, all) = Mutex::new(alloc, seats, entries_per_seat, empty)?;
+        let Ok((mutex, all)) = Mutex::new(alloc, seats, entries_per_seat, empty) else {
+            return Err(NewFault::Memory);
+        };
         let monitor = Monitor {
             mutex,
             opening,

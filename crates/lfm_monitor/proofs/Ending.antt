@@ -22,7 +22,7 @@ total_ext f g [] h = refl
 total_ext f g (p ∷ ps) h = let a = h 0 p refl in let b = total_ext f g ps (λ j q e. h (suc j) q e) in omega arith
 
 module _ {O A R : Type 0} {K : _} {P : Type 0} (seat : P → Sight (Journaled O A R K)) (seen mine : P → ℕ) (kept : (p : P) → Pass_kept (seat p) (seen p) (mine p)) where
-  -- what a pass left leads to the book at the end
+  -- what a pass left leads to what is there at the end
   pub record Back (opening : O) (seats share : ℕ) (v : Journaled O A R K) (p : P) : Type 0 where
     pub idle : (seat p).depth ≡ 0
     pub leads : (l : Journaled O A R K) → (seat p).last ≡ Some l → Reached Follows (seat p).number l v

@@ -1,3 +1,4 @@
-//! What is measured by one thread: our mutex, the bare steps of its calls, and std's mutex.
+//! Who is measured: our mutex, the bare steps of its calls, and our condvars.
 pub mod bare;
 pub mod ours;
+pub mod participants;

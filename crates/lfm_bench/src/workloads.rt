@@ -1,6 +1,8 @@
 //! The workloads. Each file has one, with a function for each of those who are measured.
+pub mod broadcast;
 pub mod contended;
 pub mod hits;
 pub mod misses;
 pub mod pairs;
+pub mod ping_pong;
 pub mod recursive;

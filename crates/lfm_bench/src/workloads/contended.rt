@@ -9,12 +9,13 @@ use crate::busy::Busy;
 use crate::figures::{Sample, hundredths};
 use crate::gate::Gate;
 use crate::peers::ours::{BUDGET, User, last_user, no_seat};
+use crate::wall_clock::{now, since};
 use lfm_mutex::{Mutex, Seat};
 use std::alloc::AllocError;
 use std::io;
 use std::sync::Wait;
 use std::thread::{Threads, join, map_indices, map_vec};
-use std::time::{Clock, Duration, Instant};
+use std::time::{Clock, Duration};
 
 /// The most turns that a thread takes.
 const MOST_TURNS: u64 = 1 << 32;
@@ -247,17 +248,4 @@ fn standard_part<R: Wait + Clock>(
         nanoseconds: since(rt, start),
         worked: busy.is_sound(),
     }
-}
-
-/// The time now. None where the clock can't be read.
-fn now<R: Clock>(rt: &R) -> Option<Instant> {
-    Instant::now(rt).ok()
-}
-
-/// The nanoseconds since then. 0 where the clock couldn't be read.
-fn since<R: Clock>(rt: &R, start: Option<Instant>) -> u64 {
-    let (Some(start), Some(end)) = (start, now(rt)) else {
-        return 0;
-    };
-    u64::try_from(end.duration_since(start).as_nanos()).unwrap_or(u64::MAX)
 }

@@ -1,0 +1,241 @@
+//! Our mutex with two condvars on it, as several threads use them. Each thread waits on one of the condvars, and wakes those
+//! who wait on the other.
+ghost use Rattle.std.specs.Prelude.{◌≡◌, ◌≤◌, ℕ, IfOk, IfSome};
+ghost use Rattle.lfm_mutex.specs.Belongs.{Of_mutex, limits_of};
+ghost use Rattle.lfm_condvar.specs.Belongs.{Of_condvar, cond_limits};
+ghost use mathlib.Core.Option.{some};
+ghost use lib.ListN.{get_elem?};
+
+use crate::peers::ours::BUDGET;
+use lfm_condvar::{CondSeat, Condvar};
+use lfm_model::Locked;
+use lfm_mutex::{Mutex, Seat};
+use std::alloc::{AllocError, Global};
+use std::sync::Wait;
+
+/// A mutex that guards a number, and two condvars on it.
+#[derive(Drop)]
+pub struct Shared {
+    mutex: Mutex<u64>,
+    first: Condvar,
+    second: Condvar,
+    ghost wide: { ((cond_limits first).seats ≤ (limits_of mutex).seats) × ((cond_limits second).seats ≤ (limits_of mutex).seats) },
+}
+
+/// The seats of a mutex and its two condvars that no thread has yet.
+#[derive(Drop)]
+pub struct FreeSeats {
+    seats: Vec<Seat<u64>>,
+    first_seats: Vec<CondSeat>,
+    second_seats: Vec<CondSeat>,
+}
+
+impl Shared {
+    /// A mutex round 0, and two condvars, for so many threads. It takes memory.
+    pub fn new(alloc: Global, threads: u64) -> Result<(Shared, FreeSeats), AllocError>
+        ensures seats { IfOk result (λ r. (j : ℕ) (s : _) → get_elem? r.1.seats.items j ≡ some s → Of_mutex s r.0.mutex) }
+        ensures first { IfOk result (λ r. (j : ℕ) (s : _) → get_elem? r.1.first_seats.items j ≡ some s → Of_condvar s r.0.first) }
+        ensures second { IfOk result (λ r. (j : ℕ) (s : _) → get_elem? r.1.second_seats.items j ≡ some s → Of_condvar s r.0.second) }
+    {
+        let Ok((mutex, seats)) = Mutex::new(alloc, threads, BUDGET, 0u64) else {
+            return Err(AllocError);
+        };
+        let Ok((first, first_seats)) = Condvar::new(alloc, threads, BUDGET) else {
+            return Err(AllocError);
+        };
+        let Ok((second, second_seats)) = Condvar::new(alloc, threads, BUDGET) else {
+            return Err(AllocError);
+        };
+        let shared = Shared {
+            mutex,
+            first,
+            second,
+        };
+        let free = FreeSeats {
+            seats,
+            first_seats,
+            second_seats,
+        };
+        Ok((shared, free))
+    }
+}
+
+/// A mutex and its two condvars, with the seats that no thread has yet.
+#[derive(Drop)]
+pub struct Places<'a> {
+    shared: &'a Shared,
+    seats: Vec<Seat<u64>>,
+    first_seats: Vec<CondSeat>,
+    second_seats: Vec<CondSeat>,
+    ghost of_mutex: { (j : ℕ) (s : _) → get_elem? seats.items j ≡ some s → Of_mutex s shared.now.mutex },
+    ghost of_first: { (j : ℕ) (s : _) → get_elem? first_seats.items j ≡ some s → Of_condvar s shared.now.first },
+    ghost of_second: { (j : ℕ) (s : _) → get_elem? second_seats.items j ≡ some s → Of_condvar s shared.now.second },
+}
+
+impl<'a> Places<'a> {
+    /// All the seats, which are those of the mutex and the condvars.
+    pub fn new(shared: &'a Shared, free: FreeSeats) -> Places<'a>
+        requires seats { (j : ℕ) (s : _) → get_elem? free.seats.items j ≡ some s → Of_mutex s shared.now.mutex }
+        requires first { (j : ℕ) (s : _) → get_elem? free.first_seats.items j ≡ some s → Of_condvar s shared.now.first }
+        requires second { (j : ℕ) (s : _) → get_elem? free.second_seats.items j ≡ some s → Of_condvar s shared.now.second }
+    {
+        let FreeSeats {
+            seats,
+            first_seats,
+            second_seats,
+        } = free;
+        Places {
+            shared,
+            seats,
+            first_seats,
+            second_seats,
+        }
+    }
+
+    /// One more thread, which waits on this condvar. None where there is no seat left.
+    pub fn next(&mut self, waits_on: Side) -> Option<Participant<'a>> {
+        let seat = last_seat(&self.shared.mutex, &mut self.seats);
+        let first_seat = last_cond_seat(&self.shared.first, &mut self.first_seats);
+        let second_seat = last_cond_seat(&self.shared.second, &mut self.second_seats);
+        Some(Participant {
+            shared: self.shared,
+            waits_on,
+            seat: seat?,
+            first_seat: first_seat?,
+            second_seat: second_seat?,
+        })
+    }
+}
+
+/// The last of these seats, which are the mutex's. None where there is none.
+fn last_seat(mutex: &Mutex<u64>, seats: &mut Vec<Seat<u64>>) -> Option<Seat<u64>>
+    requires { (j : ℕ) (s : _) → get_elem? seats.old.items j ≡ some s → Of_mutex s mutex.now }
+    ensures one { IfSome result (λ s. Of_mutex s mutex.now) }
+    ensures rest { (j : ℕ) (s : _) → get_elem? seats.new.items j ≡ some s → Of_mutex s mutex.now }
+{
+    let _mutex = mutex;
+    let seat = seats.pop()?;
+    Some(seat)
+}
+
+/// The last of these cond seats, which are the condvar's. None where there is none.
+fn last_cond_seat(condvar: &Condvar, seats: &mut Vec<CondSeat>) -> Option<CondSeat>
+    requires { (j : ℕ) (s : _) → get_elem? seats.old.items j ≡ some s → Of_condvar s condvar.now }
+    ensures one { IfSome result (λ s. Of_condvar s condvar.now) }
+    ensures rest { (j : ℕ) (s : _) → get_elem? seats.new.items j ≡ some s → Of_condvar s condvar.now }
+{
+    let _condvar = condvar;
+    let seat = seats.pop()?;
+    Some(seat)
+}
+
+/// One of the two condvars.
+#[derive(Clone, Copy)]
+pub enum Side {
+    First,
+    Second,
+}
+
+/// A thread's seats. It waits on one of the condvars, and wakes those who wait on the other.
+#[derive(Drop)]
+pub struct Participant<'a> {
+    shared: &'a Shared,
+    waits_on: Side,
+    seat: Seat<u64>,
+    first_seat: CondSeat,
+    second_seat: CondSeat,
+    ghost of_mutex: { Of_mutex seat shared.now.mutex },
+    ghost of_first: { Of_condvar first_seat shared.now.first },
+    ghost of_second: { Of_condvar second_seat shared.now.second },
+}
+
+impl<'a> Participant<'a> {
+    /// `lock`. Returns whether the mutex was gained, and not held before.
+    pub fn lock<R: Wait>(&mut self, rt: &R) -> bool {
+        let locked = self.shared.mutex.lock(rt, &mut self.seat);
+        matches!(locked, Ok(Locked::Held(_)))
+    }
+
+    /// `unlock`. Returns whether the seat held.
+    pub fn unlock(&mut self) -> bool {
+        self.shared.mutex.unlock(&mut self.seat).is_ok()
+    }
+
+    /// Waits, while it holds the mutex, until the number is at least this. Returns whether it is so.
+    pub fn wait_until<R: Wait>(&mut self, rt: &R, number: u64) -> bool {
+        for _ in rt.forever() {
+            match self.value() {
+                None => return false,
+                Some(value) if value >= number => return true,
+                Some(_) => {}
+            }
+            if !self.wait(rt) {
+                return false;
+            }
+        }
+        false
+    }
+
+    /// `wait`. Returns whether it was not refused.
+    fn wait<R: Wait>(&mut self, rt: &R) -> bool {
+        let mutex = &self.shared.mutex;
+        let seat = &mut self.seat;
+        let waited = match self.waits_on {
+            Side::First => self
+                .shared
+                .first
+                .wait(rt, &mut self.first_seat, mutex, seat),
+            Side::Second => self
+                .shared
+                .second
+                .wait(rt, &mut self.second_seat, mutex, seat),
+        };
+        waited.is_ok()
+    }
+
+    /// `wake_one` of the other condvar. Returns whether it was not refused.
+    pub fn wake_one<R: Wait>(&mut self, rt: &R) -> bool {
+        let mutex = &self.shared.mutex;
+        let seat = &mut self.seat;
+        let woken = match self.waits_on {
+            Side::First => self
+                .shared
+                .second
+                .wake_one(rt, &mut self.second_seat, mutex, seat),
+            Side::Second => self
+                .shared
+                .first
+                .wake_one(rt, &mut self.first_seat, mutex, seat),
+        };
+        woken.is_ok()
+    }
+
+    /// `wake_all` of the other condvar. Returns how many were woken, and 0 where it was refused.
+    pub fn wake_all<R: Wait>(&mut self, rt: &R) -> u64 {
+        let mutex = &self.shared.mutex;
+        let seat = &mut self.seat;
+        let woken = match self.waits_on {
+            Side::First => self
+                .shared
+                .second
+                .wake_all(rt, &mut self.second_seat, mutex, seat),
+            Side::Second => self
+                .shared
+                .first
+                .wake_all(rt, &mut self.first_seat, mutex, seat),
+        };
+        woken.unwrap_or(0)
+    }
+
+    /// Adds 1 to the number in hand.
+    pub fn add_one(&mut self) {
+        if let Some(value) = self.seat.value_mut() {
+            *value = value.wrapping_add(1);
+        }
+    }
+
+    /// The number in hand, where the seat holds.
+    pub fn value(&self) -> Option<u64> {
+        self.seat.value().copied()
+    }
+}

@@ -1,0 +1,288 @@
+//! Several threads wait on one condvar, and another wakes them all, again and again. Whoever holds the mutex and goes on adds 1
+//! to the number under it: the threads once as they come, then the caller before each broadcast, and each thread once it was
+//! woken. So with n threads broadcast b was made when the number is b (n + 1), and all have held since when it is n more. The
+//! last of them notes the time, and wakes the caller, who waits on a condvar of its own.
+ghost use Rattle.std.specs.Prelude.{◌≡◌, ◌*◌, ◌%◌, ◌^◌, Some, IfSome, true};
+ghost use Rattle.lfm_bench.specs.Broadcasts.{made, ended};
+
+use crate::figures::Sample;
+use crate::peers::ours::no_seat;
+use crate::peers::participants::{Participant, Places, Shared, Side};
+use crate::wall_clock::{now, since};
+use std::alloc::AllocError;
+use std::sync::atomic::{AtomicU64, Ordering};
+use std::sync::{Condvar, Mutex, Wait};
+use std::thread::{Threads, join, map_indices};
+use std::time::{Clock, Duration, Instant};
+use std::{io, thread};
+
+/// How long the caller sleeps before a broadcast, so that all who wait are asleep, in microseconds.
+const SETTLING: u64 = 50;
+
+/// How much is done.
+#[derive(Clone, Copy)]
+pub struct Load {
+    /// How many threads wait.
+    pub threads: u64,
+    /// How often they are woken.
+    pub broadcasts: u64,
+}
+
+impl Load {
+    /// The number when this broadcast was made. Threads that come are as if woken by broadcast 0.
+    fn made(self, broadcast: u64) -> u64
+        ensures { result ≡ made self broadcast }
+    {
+        broadcast.wrapping_mul(self.threads.wrapping_add(1))
+    }
+
+    /// The number when all have held since this broadcast.
+    fn ended(self, broadcast: u64) -> u64
+        ensures { result ≡ ended self broadcast }
+    {
+        self.made(broadcast).wrapping_add(self.threads)
+    }
+}
+
+/// The times of a measurement, in nanoseconds since it began.
+#[derive(Drop)]
+struct Times {
+    begin: Option<Instant>,
+    /// When all had held since the latest broadcast.
+    ended: AtomicU64,
+}
+
+impl Times {
+    /// Times that begin now.
+    fn new<R: Clock>(rt: &R) -> Times {
+        Times {
+            begin: now(rt),
+            ended: AtomicU64::new(0),
+        }
+    }
+
+    /// The time now.
+    fn now<R: Clock>(&self, rt: &R) -> u64 {
+        since(rt, self.begin)
+    }
+
+    /// All have held since a broadcast.
+    fn end<R: Clock>(&self, rt: &R) {
+        self.ended.store(self.now(rt), Ordering::SeqCst);
+    }
+
+    /// The time from the call of a broadcast until all had held, where they have.
+    fn taken(&self, called: u64) -> u64 {
+        self.ended.load(Ordering::SeqCst).saturating_sub(called)
+    }
+}
+
+/// What the caller did.
+#[derive(Clone, Copy)]
+struct Calls {
+    nanoseconds: u64,
+    /// How many were woken, where the condvar says so.
+    woken: Option<u64>,
+    /// The number after all.
+    number: Option<u64>,
+}
+
+/// What the caller and the threads did, of whom each says how often it held. It is exact where each held once for each
+/// broadcast and once before, the number is right, and as many were woken.
+fn sample(load: Load, calls: Calls, holds: &[u64]) -> Sample
+    ensures number { result.exact ≡ true → calls.number ≡ Some (ended load load.broadcasts) }
+    ensures woken { result.exact ≡ true → IfSome calls.woken (λ w. w ≡ load.broadcasts * load.threads % 2 ^ 64) }
+{
+    let all = load.broadcasts.wrapping_mul(load.threads);
+    let held = holds
+        .iter()
+        .all(|&held| held == load.broadcasts.wrapping_add(1));
+    let exact = held
+        && holds.len() as u64 == load.threads
+        && calls.number == Some(load.ended(load.broadcasts))
+        && calls.woken.unwrap_or(all) == all;
+    Sample {
+        nanoseconds: calls.nanoseconds,
+        calls: load.broadcasts,
+        exact,
+    }
+}
+
+/// Our mutex and condvars.
+pub fn ours<R: Threads + Sync + Wait + Clock + AllocGlobal>(
+    rt: &R,
+    load: Load,
+) -> io::Result<Sample> {
+    let (shared, free) = Shared::new(rt.alloc(), load.threads.saturating_add(1))?;
+    let mut places = Places::new(&shared, free);
+    let caller = places.next(Side::Second).ok_or(no_seat())?;
+    Ok(our_round(rt, load, caller, places)?)
+}
+
+/// The caller, and the threads that take the other places.
+fn our_round<R: Threads + Sync + Wait + Clock + AllocGlobal>(
+    rt: &R,
+    load: Load,
+    caller: Participant,
+    places: Places,
+) -> Result<Sample, AllocError> {
+    let rest = Mutex::new(places);
+    let times = Times::new(rt);
+    let (shared_rest, shared_times) = (&rest, &times);
+    let (calls, holds) = join(
+        rt,
+        move || our_calls(rt, load, shared_times, caller),
+        move || all_our_holds(rt, load, shared_times, shared_rest),
+    );
+    Ok(sample(load, calls, &holds?))
+}
+
+/// How often each thread held.
+fn all_our_holds<R: Threads + Sync + Wait + Clock + AllocGlobal>(
+    rt: &R,
+    load: Load,
+    times: &Times,
+    places: &Mutex<Places>,
+) -> Result<Vec<u64>, AllocError> {
+    map_indices(
+        rt,
+        rt.alloc(),
+        load.threads as usize,
+        &|_| our_part(rt, load, times, places),
+    )
+}
+
+/// How often one thread held, which takes its place first.
+fn our_part<R: Wait + Clock>(rt: &R, load: Load, times: &Times, places: &Mutex<Places>) -> u64 {
+    let taken = places.lock(rt).next(Side::First);
+    match taken {
+        Some(one) => our_holds(rt, load, times, one),
+        None => 0,
+    }
+}
+
+/// How often one thread held.
+fn our_holds<R: Wait + Clock>(rt: &R, load: Load, times: &Times, mut one: Participant) -> u64 {
+    let mut held = 0u64;
+    one.lock(rt);
+    for broadcast in 0..=load.broadcasts {
+        if !one.wait_until(rt, load.made(broadcast)) {
+            break;
+        }
+        one.add_one();
+        held = held.wrapping_add(1);
+        if one.value() == Some(load.ended(broadcast)) {
+            times.end(rt);
+            one.wake_one(rt);
+        }
+    }
+    one.unlock();
+    held
+}
+
+/// The caller's broadcasts.
+fn our_calls<R: Wait + Clock>(rt: &R, load: Load, times: &Times, mut caller: Participant) -> Calls {
+    let mut nanoseconds = 0u64;
+    let mut woken = 0u64;
+    caller.lock(rt);
+    caller.wait_until(rt, load.ended(0));
+    for broadcast in 0..load.broadcasts {
+        thread::sleep(rt, Duration::from_micros(SETTLING));
+        caller.add_one();
+        let called = times.now(rt);
+        woken = woken.wrapping_add(caller.wake_all(rt));
+        if !caller.wait_until(rt, load.ended(broadcast.wrapping_add(1))) {
+            break;
+        }
+        nanoseconds = nanoseconds.saturating_add(times.taken(called));
+    }
+    let number = caller.value();
+    caller.unlock();
+    Calls {
+        nanoseconds,
+        woken: Some(woken),
+        number,
+    }
+}
+
+/// Std's mutex and the condvars on it.
+#[derive(Drop)]
+struct StandardPeer {
+    mutex: Mutex<u64>,
+    threads: Condvar,
+    caller: Condvar,
+}
+
+/// Std's mutex and condvars.
+pub fn standard<R: Threads + Sync + Wait + Clock + AllocGlobal>(
+    rt: &R,
+    load: Load,
+) -> Result<Sample, AllocError> {
+    let alloc = rt.alloc();
+    let shared = StandardPeer {
+        mutex: Mutex::new(0),
+        threads: Condvar::new(),
+        caller: Condvar::new(),
+    };
+    let times = Times::new(rt);
+    let (peer, shared_times) = (&shared, &times);
+    let (calls, holds) = join(
+        rt,
+        move || standard_calls(rt, load, shared_times, peer),
+        move || {
+            map_indices(
+                rt,
+                alloc,
+                load.threads as usize,
+                &|_| standard_holds(rt, load, shared_times, peer),
+            )
+        },
+    );
+    Ok(sample(load, calls, &holds?))
+}
+
+/// How often one thread held std's mutex.
+fn standard_holds<R: Wait + Clock>(rt: &R, load: Load, times: &Times, peer: &StandardPeer) -> u64 {
+    let mut held = 0u64;
+    let mut number = peer.mutex.lock(rt);
+    for broadcast in 0..=load.broadcasts {
+        let due = load.made(broadcast);
+        number = peer.threads.wait_while(rt, number, |number| *number < due);
+        *number = number.wrapping_add(1);
+        held = held.wrapping_add(1);
+        if *number == load.ended(broadcast) {
+            times.end(rt);
+            peer.caller.notify_one();
+        }
+    }
+    drop(number);
+    held
+}
+
+/// The caller's broadcasts by std's condvar.
+fn standard_calls<R: Wait + Clock>(
+    rt: &R,
+    load: Load,
+    times: &Times,
+    peer: &StandardPeer,
+) -> Calls {
+    let mut nanoseconds = 0u64;
+    let ready = load.ended(0);
+    let mut number = peer
+        .caller
+        .wait_while(rt, peer.mutex.lock(rt), |number| *number < ready);
+    for broadcast in 0..load.broadcasts {
+        let due = load.ended(broadcast.wrapping_add(1));
+        thread::sleep(rt, Duration::from_micros(SETTLING));
+        *number = number.wrapping_add(1);
+        let called = times.now(rt);
+        peer.threads.notify_all();
+        number = peer.caller.wait_while(rt, number, |number| *number < due);
+        nanoseconds = nanoseconds.saturating_add(times.taken(called));
+    }
+    Calls {
+        nanoseconds,
+        woken: None,
+        number: Some(*number),
+    }
+}

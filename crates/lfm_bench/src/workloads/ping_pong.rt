@@ -1,0 +1,145 @@
+//! Two threads take turns at one mutex, each with a condvar of its own. In a turn a thread gains the mutex, waits until the
+//! other has had its turn, adds 1 to the number under the mutex, wakes the other, and unlocks.
+ghost use Rattle.std.specs.Prelude.{◌≡◌, ◌*◌, ◌%◌, ◌^◌, Some, true};
+
+use crate::figures::Sample;
+use crate::gate::Gate;
+use crate::peers::ours::no_seat;
+use crate::peers::participants::{Participant, Places, Shared, Side};
+use crate::wall_clock::{now, since};
+use std::io;
+use std::sync::{Condvar, Mutex, Wait};
+use std::thread::{Threads, join};
+use std::time::Clock;
+
+/// What one thread did.
+#[derive(Clone, Copy)]
+struct Turns {
+    made: u64,
+    nanoseconds: u64,
+}
+
+/// What two threads did that were each to take so many turns, where the number was 0 before and this after them. A call is a
+/// turn of each. It is exact where each took its turns, and the number is how many there were.
+fn sample(first: Turns, second: Turns, turns: u64, number: Option<u64>) -> Sample
+    ensures made { result.exact ≡ true → (first.made ≡ turns) × (second.made ≡ turns) }
+    ensures number { result.exact ≡ true → number ≡ Some (turns * 2 % 2 ^ 64) }
+{
+    Sample {
+        nanoseconds: first.nanoseconds.max(second.nanoseconds),
+        calls: turns,
+        exact: first.made == turns && second.made == turns && number == Some(turns.wrapping_mul(2)),
+    }
+}
+
+/// Our mutex and condvars, with so many turns of each thread.
+pub fn ours<R: Threads + Sync + Wait + Clock + AllocGlobal>(
+    rt: &R,
+    turns: u64,
+) -> io::Result<Sample> {
+    let (shared, free) = Shared::new(rt.alloc(), 3)?;
+    let mut places = Places::new(&shared, free);
+    let mut reader = places.next(Side::First).ok_or(no_seat())?;
+    let first = places.next(Side::First).ok_or(no_seat())?;
+    let second = places.next(Side::Second).ok_or(no_seat())?;
+    let (ping, pong) = our_pair(rt, turns, first, second);
+    let number = if reader.lock(rt) {
+        reader.value()
+    } else {
+        None
+    };
+    Ok(sample(ping, pong, turns, number))
+}
+
+/// The turns of two participants, of whom the first begins.
+fn our_pair<R: Threads + Sync + Wait + Clock>(
+    rt: &R,
+    turns: u64,
+    first: Participant,
+    second: Participant,
+) -> (Turns, Turns) {
+    let gate = Gate::new(2);
+    let start = &gate;
+    join(
+        rt,
+        move || our_turns(rt, start, turns, 0, first),
+        move || our_turns(rt, start, turns, 1, second),
+    )
+}
+
+/// The turns of one participant, the first of them when the number is this.
+fn our_turns<R: Wait + Clock>(
+    rt: &R,
+    gate: &Gate,
+    turns: u64,
+    first: u64,
+    mut participant: Participant,
+) -> Turns {
+    let mut made = 0u64;
+    gate.pass();
+    let start = now(rt);
+    for turn in 0..turns {
+        let due = turn.wrapping_mul(2).wrapping_add(first);
+        if participant.lock(rt) && participant.wait_until(rt, due) {
+            participant.add_one();
+            made = made.wrapping_add(1);
+        }
+        participant.wake_one(rt);
+        participant.unlock();
+    }
+    Turns {
+        made,
+        nanoseconds: since(rt, start),
+    }
+}
+
+/// Std's mutex and condvars, with so many turns of each thread.
+pub fn standard<R: Threads + Sync + Wait + Clock>(rt: &R, turns: u64) -> Sample {
+    let mutex = Mutex::new(0u64);
+    let (ping, pong) = standard_pair(rt, turns, &mutex);
+    sample(ping, pong, turns, Some(mutex.into_inner()))
+}
+
+/// The turns of two threads at std's mutex.
+fn standard_pair<R: Threads + Sync + Wait + Clock>(
+    rt: &R,
+    turns: u64,
+    mutex: &Mutex<u64>,
+) -> (Turns, Turns) {
+    let gate = Gate::new(2);
+    let conditions = (Condvar::new(), Condvar::new());
+    let start = &gate;
+    let (first, second) = (&conditions.0, &conditions.1);
+    join(
+        rt,
+        move || standard_turns(rt, start, turns, 0, mutex, first, second),
+        move || standard_turns(rt, start, turns, 1, mutex, second, first),
+    )
+}
+
+/// The turns of one thread at std's mutex, the first of them when the number is this. It waits on its own condvar.
+fn standard_turns<R: Wait + Clock>(
+    rt: &R,
+    gate: &Gate,
+    turns: u64,
+    first: u64,
+    mutex: &Mutex<u64>,
+    own: &Condvar,
+    other: &Condvar,
+) -> Turns {
+    let mut made = 0u64;
+    gate.pass();
+    let start = now(rt);
+    for turn in 0..turns {
+        let due = turn.wrapping_mul(2).wrapping_add(first);
+        let mut number = own.wait_while(rt, mutex.lock(rt), |number| *number < due);
+        *number = number.wrapping_add(1);
+        made = made.wrapping_add(1);
+        other.notify_one();
+        drop(number);
+    }
+    Turns {
+        made,
+        nanoseconds: since(rt, start),
+    }
+}

@@ -10,7 +10,7 @@ ghost use Rattle.lfm_protocol.specs.declared.answers.Turn.TheVariants.{Ended, Op
 ghost use Rattle.lfm_protocol.specs.declared.points.Point.TheVariants.{ReleaseOwnerStore};
 ghost use Rattle.lfm_protocol.specs.declared.points.Releaser.{Releaser};
 ghost use Rattle.lfm_protocol.specs.Begin.{begin};
-ghost use Rattle.lfm_mutex.specs.table.Rule.{value_in};
+ghost use Rattle.lfm_mutex.specs.table.Rule.{value_in, last_hold};
 ghost use Rattle.lfm_mutex.specs.calls.Runs.{nothing, errand, errand_of, is_releasing, is_release, release_steps, weight, Ends, Answers, Ran, Called, Holds, how_held, opens};
 ghost use Rattle.lfm_mutex.specs.Belongs.{Beside, Of_mutex, limits_of};
 ghost use Rattle.lfm_mutex.specs.calls.Trails.{Made, Makes_call, Makes_at_most};
@@ -37,7 +37,7 @@ pub fn finish<T: Kept>(mutex: &Mutex<T>, seat: &mut Seat<T>) -> Turn
     ensures belongs { seat.new.place.table_id ≡ seat.old.place.table_id }
     ensures same { (seat.new.number ≡ seat.old.number) × (seat.new.limits ≡ seat.old.limits) }
     ensures ends { Ends (errand seat.old.standing.point) result }
-    ensures last { seat.new.place.me.0.last ≡ seat.old.place.me.0.last }
+    ensures last { last_hold seat.new.place.me.0 ≡ last_hold seat.old.place.me.0 }
     ensures held { (how : HowNow) → how_held result ≡ Some how → Holds T.follows T.fits seat.old.number seat.old.place.me.0.last how seat.new.standing seat.new.moving seat.new.place.me.0 }
     ensures ran { Ran seat.old.number (opens seat.old.standing) seat.old.place.me.0 result seat.new.standing seat.new.place.me.0 }
     ensures concludes { Concludes seat.old.standing result seat.new.standing }
@@ -94,7 +94,7 @@ fn finish_release<T: Kept>(mutex: &Mutex<T>, seat: &mut Seat<T>) -> Turn
     ensures belongs { seat.new.place.table_id ≡ seat.old.place.table_id }
     ensures same { (seat.new.number ≡ seat.old.number) × (seat.new.limits ≡ seat.old.limits) }
     ensures ends { Ends (errand seat.old.standing.point) result }
-    ensures last { seat.new.place.me.0.last ≡ value_in seat.old.moving }
+    ensures last { last_hold seat.new.place.me.0 ≡ (value_in seat.old.moving, seat.old.place.me.0.found) }
     ensures ran { Ran seat.old.number (opens seat.old.standing) seat.old.place.me.0 result seat.new.standing seat.new.place.me.0 }
     ensures concludes { Concludes (record seat.old.standing { depth = 0 }) result seat.new.standing }
     ensures bounded { length seat.new.place.me.0.trail ≤ length seat.old.place.me.0.trail + weight seat.old.limits.seats (length seat.old.place.me.0.popped) seat.old.standing.point }

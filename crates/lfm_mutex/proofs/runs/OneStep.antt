@@ -31,10 +31,9 @@ use Rattle.lfm_mutex.specs.calls.Runs.{how_held, is_release}
 use Rattle.lfm_mutex.specs.calls.Sight.{Sight, sight_of, is_asleep, is_in_call, sends_of, Concludes, Finds, May_leave}
 use Rattle.lfm_mutex.specs.calls.SeatSteps.{Steps, Keeps_value, Steps_on, stores_owner}
 use Rattle.lfm_mutex.proofs.ends.Seats.{depth_seen}
-use Rattle.lfm_mutex.proofs.runs.RunFacts.{no_leaves, how_enters}
-use Rattle.lfm_mutex.proofs.runs.Running.{holds_now, last_one}
+use Rattle.lfm_mutex.proofs.runs.RunFacts.{how_enters}
+use Rattle.lfm_mutex.proofs.runs.Running.{holds_now, last_one, last_more, ran_none}
 use Rattle.lfm_mutex.proofs.runs.Sights.{concludes_now, stays_now, stays_none, same_but, finds, first_concludes, deep_by, flat_by, may_leave}
-use Rattle.lfm_mutex.proofs.tables.StepFacts.{left_same}
 
 abbrev Both : ℕ → ℕ → Type 0
 Both d k = ((d ≡ 0) × (k ≡ 0)) ⊎ ((0 < d) × (0 < k))
@@ -89,18 +88,22 @@ module _ {T : Type 0} (follows : ℕ → T → T → Type 0) (fits : T → ℕ �
       let flat : p.depth ≡ 0 = subst (λ (x : Point). DepthAt p.depth x) by.1 e.did.deep in
       finds follows fits n n' l p p q m.0 w a b number how flat (holds_now follows fits n l p q m w a b turn m.0.last was refl e how is)
 
-  leaves : is_release p.point ≡ true → S'.last ≡ S.value
+  leaves : is_release p.point ≡ true → (S'.last ≡ S.value) × (S'.found ≡ S.found)
   leaves is =
       let r = release_of p.point is in
       let deep : p.depth ≡ 1 = subst (λ (x : Point). DepthAt p.depth x) r.1 e.did.deep in
       let after = first_concludes follows fits p q m.0 w a b turn e r.0 r.1 in
-      flat_by q.depth w.last w.found after.0 ∙ (last_one follows fits n p q m.0 w a b turn was.named e r.0 r.1 ∙ sym (deep_by p.depth None (value_in a) (omega (arith, deep))))
+      let ends = last_one follows fits n p q m.0 w a b turn was.named e r.0 r.1 in
+      let some : 0 < p.depth = omega (arith, deep) in (
+        flat_by q.depth w.last w.found after.0 ∙ (ap (λ (t : Option T × Option T). t.0) ends ∙ sym (deep_by p.depth None (value_in a) some)),
+        flat_by q.depth w.last_found w.found after.0 ∙ (ap (λ (t : Option T × Option T). t.1) ends ∙ sym (deep_by p.depth m.0.last_found m.0.found some)),
+      )
 
   keeps : kind p.point ≢ None → is_release p.point ≡ false → how_held turn ≡ None → S' ≡ record S { depth = S'.depth; takes = S'.takes; asleep = S'.asleep; in_call = S'.in_call; trail = S'.trail; sends = S'.sends }
   keeps some stays none =
       let told = concludes_now follows fits n p q m.0 w a b turn was.named e some stays in
       same_but n n' p q m.0 w (value_in a) (value_in b) q.depth q.takes (is_asleep q.point) (is_in_call q.point) (sends_of w.trail) number refl refl refl refl refl
-      (e.did.last ∙ left_same p.point e.hand m.0.last (no_leaves p.point stays)) (stays_now follows fits n p q m.0 w a b turn was.named e stays told) (both p q turn told none)
+      (last_more follows fits n p m.0 p q m.0 w a b turn (ran_none n p m.0) was.named e stays) (stays_now follows fits n p q m.0 w a b turn was.named e stays told) (both p q turn told none)
 
   pub told : kind p.point ≢ None → Steps p S turn q S' × Keeps_value follows fits p S turn S'
   told some = (steps, record { gains = gains; leaves = leaves; keeps = keeps some })

@@ -37,7 +37,7 @@ use Rattle.lfm_core.specs.table.Words.{stepped_by, popped_of}
 use Rattle.lfm_mutex.specs.declared.table.seat_view.Seen.{Seen}
 use Rattle.lfm_mutex.specs.declared.table.seat_view.View.{View}
 use Rattle.lfm_mutex.specs.declared.table.rule.Moving.{Moving}
-use Rattle.lfm_mutex.specs.table.Rule.{seen, value_in, is_carried, Hands, Collects_within}
+use Rattle.lfm_mutex.specs.table.Rule.{seen, value_in, last_hold, is_carried, Hands, Collects_within}
 use Rattle.lfm_mutex.specs.calls.Runs.{Errand, nothing, errand, Is_turn, Ends, weight, end_of, trail_of, Ran, opens, is_release, locking, trying, releasing, sending, answers_for, errand_of, is_releasing, release_steps, Answers, Called_by, Called, how_held, Counts, Holds}
 use Rattle.lfm_mutex.specs.Reach.{Reached}
 use Rattle.lfm_mutex.specs.table.Seats.{Seated}
@@ -85,8 +85,10 @@ module _ {T : Type 0} (follows : ℕ → T → T → Type 0) (suits : T → ℕ 
     };
   }
 
-  pub last_more : is_release p.point ≡ false → w.last ≡ v.last
-  last_more keeps = e.did.last ∙ left_same p.point e.hand v.last (no_leaves p.point keeps)
+  pub last_more : is_release p.point ≡ false → last_hold w ≡ last_hold v
+  last_more keeps =
+      let other = no_leaves p.point keeps in
+      λ i. ((e.did.last ∙ left_same p.point e.hand v.last other) i, (e.did.last_found ∙ left_same p.point v.found v.last_found other) i)
 
   pub turn_more : kind p.point ≢ None → Is_turn (errand p.point) turn q.point
   turn_more some = subst (λ (z : Stepped). Is_turn (errand p.point) z.turn z.seat.point) (sym step_is) (turns_step p s e.found o some)
@@ -298,8 +300,8 @@ module _ {T : Type 0} (follows : ℕ → T → T → Type 0) (suits : T → ℕ 
   pub turn_one : kind p.point ≢ None → Is_turn (errand p.point) turn q.point
   turn_one some = turn_more follows suits s p v p q v w a b turn (ran_none s p v) named e some
 
-  pub last_one : (r : Releaser) → p.point ≡ ReleaseOwnerStore r → w.last ≡ value_in a
-  last_one r at = e.did.last ∙ (left_new p.point r e.hand v.last at ∙ e.in_hand r at)
+  pub last_one : (r : Releaser) → p.point ≡ ReleaseOwnerStore r → last_hold w ≡ (value_in a, v.found)
+  last_one r at = λ i. ((e.did.last ∙ (left_new p.point r e.hand v.last at ∙ e.in_hand r at)) i, (e.did.last_found ∙ left_new p.point r v.found v.last_found at) i)
 
   pub keeps_one : (r : Releaser) → p.point ≡ ReleaseOwnerStore r → is_release q.point ≡ false
   keeps_one r at = ap (λ (x : SeatState). is_release x.point) e.seat_is ∙ (rw at refl)

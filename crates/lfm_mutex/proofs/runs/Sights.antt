@@ -32,7 +32,7 @@ use Rattle.lfm_core.specs.table.Words.{stepped_by, wake_of}
 use Rattle.lfm_mutex.specs.declared.table.seat_view.View.{View}
 use Rattle.lfm_mutex.specs.declared.table.rule.Moving.{Moving}
 use Rattle.lfm_mutex.specs.declared.table.seat_view.Seen.{Seen}
-use Rattle.lfm_mutex.specs.table.Rule.{value_in, Hands, seen}
+use Rattle.lfm_mutex.specs.table.Rule.{value_in, last_hold, Hands, seen}
 use Rattle.lfm_mutex.specs.calls.Runs.{Errand, locking, trying, releasing, sending, receiving, refuses_for, errand, is_release, Ends, Ran, opens, trail_of, Counts, Holds, how_held, errand_of, is_releasing}
 use Rattle.lfm_mutex.specs.table.Steps.{Event, Value_goes, Leaves}
 use Rattle.lfm_mutex.specs.calls.Sight.{Sight, sight_of, by_depth, is_asleep, is_in_call, sends_of, Concludes, Refused_by, Still_at, Is_left, Suits, Finds, May_leave, Gains, Deepens, Leaves_off, Turned, claimed, Stays, Busy_seen, new_sight, Names}
@@ -152,13 +152,19 @@ module _ {T : Type 0} (n n' : ℕ) (p p' : SeatState) (v v' : View T) (a a' : Op
 
   -- a call that neither gains nor gives up the mutex
   pub same_but : (d k : ℕ) (asleep in_call : Bool) (sends : List ℕ) → n' ≡ n → p'.depth ≡ d → p'.takes ≡ k → is_asleep p'.point ≡ asleep → is_in_call p'.point ≡ in_call → sends_of v'.trail ≡ sends
-      → v'.last ≡ v.last → Stays p.depth v a v' a' → Level
+      → last_hold v' ≡ last_hold v → Stays p.depth v a v' a' → Level
       → sight_of n' p' v' a' ≡ record (sight_of n p v a) { depth = d; takes = k; asleep = asleep; in_call = in_call; trail = v'.trail; sends = sends }
   same_but d k asleep in_call sends number depth takes asleep_is in_call_is sends_are last stays level =
       let lasts : by_depth p'.depth v'.last v'.found ≡ by_depth p.depth v.last v.found =
       elim level [
-        | inl f ↦ flat_by p'.depth v'.last v'.found f.1 ∙ (last ∙ sym (flat_by p.depth v.last v.found f.0))
+        | inl f ↦ flat_by p'.depth v'.last v'.found f.1 ∙ (ap (λ (t : Option T × Option T). t.0) last ∙ sym (flat_by p.depth v.last v.found f.0))
         | inr f ↦ deep_by p'.depth v'.last v'.found f.1 ∙ ((stays f.0).1 ∙ sym (deep_by p.depth v.last v.found f.0))
+      ]
+      in
+      let founds : by_depth p'.depth v'.last_found v'.found ≡ by_depth p.depth v.last_found v.found =
+      elim level [
+        | inl f ↦ flat_by p'.depth v'.last_found v'.found f.1 ∙ (ap (λ (t : Option T × Option T). t.1) last ∙ sym (flat_by p.depth v.last_found v.found f.0))
+        | inr f ↦ deep_by p'.depth v'.last_found v'.found f.1 ∙ ((stays f.0).1 ∙ sym (deep_by p.depth v.last_found v.found f.0))
       ]
       in
       let values : by_depth p'.depth None a' ≡ by_depth p.depth None a =
@@ -173,7 +179,7 @@ module _ {T : Type 0} (n n' : ℕ) (p p' : SeatState) (v v' : View T) (a a' : Op
         | inr f ↦ deep_by p'.depth 0 v'.answered f.1 ∙ ((stays f.0).2 ∙ sym (deep_by p.depth 0 v.answered f.0))
       ]
       in
-      λ i. record { number = number i; depth = depth i; takes = takes i; asleep = asleep_is i; in_call = in_call_is i; last = lasts i; value = values i; queued = queued i; trail = v'.trail; sends = sends_are i }
+      λ i. record { number = number i; depth = depth i; takes = takes i; asleep = asleep_is i; in_call = in_call_is i; last = lasts i; found = founds i; value = values i; queued = queued i; trail = v'.trail; sends = sends_are i }
 
 -- Begins
 
@@ -328,6 +334,7 @@ module _ {T : Type 0} (follows : ℕ → T → T → Type 0) (fits : T → ℕ �
         deep_by p'.depth v'.last v'.found deep ∙ h.found,
         λ y is. h.reached y (sym (flat_by p.depth v.last v.found flat) ∙ is),
         subst (λ (k : ℕ). Suits follows fits how h.moving.value k) (sym (deep_by p'.depth 0 v'.answered deep)) (suits_of how h.moving.value h.count v'.answered h.counts h.fits),
+        deep_by p'.depth v'.last_found v'.found deep ∙ h.found,
       )
 
   unsent : (turn : Turn) → Ran n (opens q) v turn p' v' → is_send q.point ≡ false → sends_of v'.trail ≡ sends_of v.trail
@@ -347,7 +354,7 @@ module _ {T : Type 0} (follows : ℕ → T → T → Type 0) (fits : T → ℕ �
       let charged : (p.takes < budget) × (q.takes ≡ p.takes + 1) = elim b.3 [ inl c ↦ (c.1, c.2) | inr c ↦ absurd (let z = c.0 in omega (arith, z, flat_p)) ] in
       (awake p.point b.0, flat_p, charged.0, number, deep, takes ∙ charged.1, awake p'.point rests, sends, finds how flat_p h)
 
-  deepens_now : (budget d : ℕ) → Begun_entry budget p q → 0 < q.depth → d ≡ q.depth + 1 → p'.depth ≡ d → p'.takes ≡ q.takes → p'.point ≡ Rest → sends_of v'.trail ≡ sends_of v.trail → v'.last ≡ v.last
+  deepens_now : (budget d : ℕ) → Begun_entry budget p q → 0 < q.depth → d ≡ q.depth + 1 → p'.depth ≡ d → p'.takes ≡ q.takes → p'.point ≡ Rest → sends_of v'.trail ≡ sends_of v.trail → last_hold v' ≡ last_hold v
       → Stays q.depth v (value_in a) v' (value_in a') → Deepens S S' d
   deepens_now budget d b deep is depth takes rests sends last stays =
       let deep_p : 0 < p.depth = subst (λ (k : ℕ). 0 < k) b.2 deep in
@@ -361,7 +368,7 @@ module _ {T : Type 0} (follows : ℕ → T → T → Type 0) (fits : T → ℕ �
             (idle p'.point rests ∙ sym (idle p.point b.0)) sends last (subst (λ (k : ℕ). Stays k v (value_in a) v' (value_in a')) b.2 stays) (inr (deep_p, omega (arith, is, depth))),
       )
 
-  lock_turned : (turn : Turn) → Begun l Call.Lock p q → Ends locking turn → Concludes q turn p' → ((how : How) → how_held turn ≡ Some how → Holds follows fits n v.last how p' a' v') → Stays q.depth v (value_in a) v' (value_in a') → v'.last ≡ v.last
+  lock_turned : (turn : Turn) → Begun l Call.Lock p q → Ends locking turn → Concludes q turn p' → ((how : How) → how_held turn ≡ Some how → Holds follows fits n v.last how p' a' v') → Stays q.depth v (value_in a) v' (value_in a') → last_hold v' ≡ last_hold v
       → sends_of v'.trail ≡ sends_of v.trail → Turned follows fits l Call.Lock S S' turn
   lock_turned (Ended (Answer.Asked (Asked.Held how))) b ends c held stays last sends = gains l.budget how b.0 c.0 c.1 c.2 c.3 sends (held how refl)
   lock_turned (Ended (Answer.Asked (Asked.Again d))) b ends c held stays last sends = deepens_now l.budget d b.0 c.0 c.1 c.2 c.3 c.4 sends last stays
@@ -381,7 +388,7 @@ module _ {T : Type 0} (follows : ℕ → T → T → Type 0) (fits : T → ℕ �
   not_waiting_tries : sending ≡ trying → ⊥
   not_waiting_tries e = cc
 
-  try_turned : (turn : Turn) → Begun l Call.TryLock p q → Ends trying turn → Concludes q turn p' → ((how : How) → how_held turn ≡ Some how → Holds follows fits n v.last how p' a' v') → Stays q.depth v (value_in a) v' (value_in a') → v'.last ≡ v.last
+  try_turned : (turn : Turn) → Begun l Call.TryLock p q → Ends trying turn → Concludes q turn p' → ((how : How) → how_held turn ≡ Some how → Holds follows fits n v.last how p' a' v') → Stays q.depth v (value_in a) v' (value_in a') → last_hold v' ≡ last_hold v
       → sends_of v'.trail ≡ sends_of v.trail → (turn ≡ Refused (Why.By Refusal.Busy) → (new : List Seen) × (v'.trail ≡ v.trail ++ new) × Busy_seen n new) → Turned follows fits l Call.TryLock S S' turn
   try_turned (Ended (Answer.Locked (Locked.Held how))) b ends c held stays last sends busy = gains l.budget how b.0 c.0 c.1 c.2 c.3 sends (held how refl)
   try_turned (Ended (Answer.Locked (Locked.Again d))) b ends c held stays last sends busy = deepens_now l.budget d b.0 c.0 c.1 c.2 c.3 c.4 sends last stays
@@ -401,7 +408,7 @@ module _ {T : Type 0} (follows : ℕ → T → T → Type 0) (fits : T → ℕ �
   try_turned (Ended _) b ends c held stays last sends busy = tt
   try_turned Open b ends c held stays last sends busy = tt
 
-  receive_turned : (turn : Turn) → Begun l Call.Receive p q → Ends receiving turn → Concludes q turn p' → ((how : How) → how_held turn ≡ Some how → Holds follows fits n v.last how p' a' v') → Stays q.depth v (value_in a) v' (value_in a') → v'.last ≡ v.last
+  receive_turned : (turn : Turn) → Begun l Call.Receive p q → Ends receiving turn → Concludes q turn p' → ((how : How) → how_held turn ≡ Some how → Holds follows fits n v.last how p' a' v') → Stays q.depth v (value_in a) v' (value_in a') → last_hold v' ≡ last_hold v
       → sends_of v'.trail ≡ sends_of v.trail → Turned follows fits l Call.Receive S S' turn
   receive_turned (Ended (Answer.Got (Some how))) b ends c held stays last sends =
       (b.0, b.1, awake p'.point c.3, number, c.1, c.2 ∙ b.3, sends, finds how (sym b.2 ∙ c.0) (held how refl))
@@ -419,7 +426,7 @@ module _ {T : Type 0} (follows : ℕ → T → T → Type 0) (fits : T → ℕ �
   receive_turned Open b ends c held stays last sends = tt
 
   -- a release, from the store that ends the hold on
-  leaves_off : p.point ≡ Rest → p.depth ≡ 1 → p'.depth ≡ 0 → v'.last ≡ value_in a → sends_of v'.trail ≡ sends_of v.trail → Leaves_off S S'
+  leaves_off : p.point ≡ Rest → p.depth ≡ 1 → p'.depth ≡ 0 → last_hold v' ≡ (value_in a, v.found) → sends_of v'.trail ≡ sends_of v.trail → Leaves_off S S'
   leaves_off rests deep flat last sends =
       let some : 0 < p.depth = omega (arith, deep) in (
         awake p.point rests,
@@ -427,8 +434,9 @@ module _ {T : Type 0} (follows : ℕ → T → T → Type 0) (fits : T → ℕ �
         number,
         flat,
         flat_by p'.depth None (value_in a') flat,
-        λ x is. flat_by p'.depth v'.last v'.found flat ∙ (last ∙ (sym (deep_by p.depth None (value_in a) some) ∙ is)),
+        λ x is. flat_by p'.depth v'.last v'.found flat ∙ (ap (λ (t : Option T × Option T). t.0) last ∙ (sym (deep_by p.depth None (value_in a) some) ∙ is)),
         sends,
+        flat_by p'.depth v'.last_found v'.found flat ∙ (ap (λ (t : Option T × Option T). t.1) last ∙ sym (deep_by p.depth v.last_found v.found some)),
       )
 
   unlocked : (u : Unlocked) → Is_left u → Leaves_off S S' → S'.takes ≡ S.takes → S'.asleep ≡ false → Turned follows fits l Call.Unlock S S' (Ended (Answer.Unlocked u))
@@ -438,13 +446,13 @@ module _ {T : Type 0} (follows : ℕ → T → T → Type 0) (fits : T → ℕ �
   unlocked Unlocked.Posted is off takes awake_now = (off, takes, awake_now)
   unlocked Unlocked.TakenOver is off takes awake_now = (off, takes, awake_now)
 
-  unlock_turned : (turn : Turn) → Begun l Call.Unlock p q → Ends (releasing Unlocker) turn → Concludes (record q { depth = 0 }) turn p' → v'.last ≡ value_in a → sends_of v'.trail ≡ sends_of v.trail → Turned follows fits l Call.Unlock S S' turn
+  unlock_turned : (turn : Turn) → Begun l Call.Unlock p q → Ends (releasing Unlocker) turn → Concludes (record q { depth = 0 }) turn p' → last_hold v' ≡ (value_in a, v.found) → sends_of v'.trail ≡ sends_of v.trail → Turned follows fits l Call.Unlock S S' turn
   unlock_turned (Ended (Answer.Unlocked u)) b ends c last sends = unlocked u c.3 (leaves_off b.0 b.1 c.0 last sends) (c.1 ∙ b.2) (awake p'.point c.2)
   unlock_turned (Refused why) b ends c last sends = absurd (no_trying_asks (releasing Unlocker) Unlocker why refl ends (record q { depth = 0 }) p' c)
   unlock_turned (Ended _) b ends c last sends = tt
   unlock_turned Open b ends c last sends = tt
 
-  wait_turned : (turn : Turn) → Begun l Call.StartWait p q → Ends (releasing Waiter) turn → Concludes (record q { depth = 0 }) turn p' → v'.last ≡ value_in a → sends_of v'.trail ≡ sends_of v.trail → Turned follows fits l Call.StartWait S S' turn
+  wait_turned : (turn : Turn) → Begun l Call.StartWait p q → Ends (releasing Waiter) turn → Concludes (record q { depth = 0 }) turn p' → last_hold v' ≡ (value_in a, v.found) → sends_of v'.trail ≡ sends_of v.trail → Turned follows fits l Call.StartWait S S' turn
   wait_turned (Ended (Answer.Waiting u)) b ends c last sends = (c.4 (subst (λ (x : Point). Still_at x) (sym b.4) tt), leaves_off b.0 b.1 c.0 last sends, b.2, c.1 ∙ b.3, c.2, c.3)
   wait_turned (Refused why) b ends c last sends = absurd (no_trying_asks (releasing Waiter) Waiter why refl ends (record q { depth = 0 }) p' c)
   wait_turned (Ended _) b ends c last sends = tt
@@ -456,7 +464,7 @@ module _ {T : Type 0} (follows : ℕ → T → T → Type 0) (fits : T → ℕ �
   send_level : (u : ℕ) → Begun l (Call.SendLock u) p q → p'.depth ≡ q.depth → ((p.depth ≡ 0) × (p'.depth ≡ 0)) ⊎ ((0 < p.depth) × (0 < p'.depth))
   send_level u b one = let two = b.3 in elim (cases_eq p.depth 0) [ inl z ↦ inl (z, omega (arith, one, two, z)) | inr some ↦ inr (omega (arith, some), omega (arith, some, one, two)) ]
 
-  send_turned : (u : ℕ) (turn : Turn) → Begun l (Call.SendLock u) p q → Ends sending turn → Concludes q turn p' → Stays q.depth v (value_in a) v' (value_in a') → v'.last ≡ v.last → Ran n (opens q) v turn p' v'
+  send_turned : (u : ℕ) (turn : Turn) → Begun l (Call.SendLock u) p q → Ends sending turn → Concludes q turn p' → Stays q.depth v (value_in a) v' (value_in a') → last_hold v' ≡ last_hold v → Ran n (opens q) v turn p' v'
       → Turned follows fits l (Call.SendLock u) S S' turn
   send_turned u (Ended Answer.Sent) b ends c stays last ran =
       let sent = sent_path n q u ran.finds b.5 (ap (λ (z : Stepped). z.turn) ran.ends) in
@@ -486,7 +494,7 @@ module _ {T : Type 0} (follows : ℕ → T → T → Type 0) (fits : T → ℕ �
 
   -- the end of a call that makes steps
   pub turned_by_steps : (call : Call) (turn : Turn) → is_releasing (errand_of call) ≡ false → Begun l call p q → Ends (errand_of call) turn → Concludes q turn p'
-      → ((how : How) → how_held turn ≡ Some how → Holds follows fits n v.last how p' a' v') → Stays q.depth v (value_in a) v' (value_in a') → v'.last ≡ v.last → Ran n (opens q) v turn p' v' → Turned follows fits l call S S' turn
+      → ((how : How) → how_held turn ≡ Some how → Holds follows fits n v.last how p' a' v') → Stays q.depth v (value_in a) v' (value_in a') → last_hold v' ≡ last_hold v → Ran n (opens q) v turn p' v' → Turned follows fits l call S S' turn
   turned_by_steps Call.Lock turn keeps b ends c held stays last ran = lock_turned turn b ends c held stays last (unsent turn ran (ap is_send b.1))
   turned_by_steps Call.TryLock turn keeps b ends c held stays last ran =
       try_turned turn b ends c held stays last (unsent turn ran (ap is_send b.1)) (λ is. (trail_of n q ran.finds, ran.trail, busy_path n q ran.finds b.1 (ap (λ (z : Stepped). z.turn) ran.ends ∙ is)))
@@ -495,7 +503,7 @@ module _ {T : Type 0} (follows : ℕ → T → T → Type 0) (fits : T → ℕ �
   turned_by_steps Call.Unlock turn keeps b ends c held stays last ran = absurd (false≢true (sym keeps))
   turned_by_steps Call.StartWait turn keeps b ends c held stays last ran = absurd (false≢true (sym keeps))
 
-  pub turned_by_release : (call : Call) (turn : Turn) → is_releasing (errand_of call) ≡ true → Begun l call p q → Ends (errand_of call) turn → Concludes (record q { depth = 0 }) turn p' → v'.last ≡ value_in a → Ran n (opens q) v turn p' v' → Turned follows fits l call S S' turn
+  pub turned_by_release : (call : Call) (turn : Turn) → is_releasing (errand_of call) ≡ true → Begun l call p q → Ends (errand_of call) turn → Concludes (record q { depth = 0 }) turn p' → last_hold v' ≡ (value_in a, v.found) → Ran n (opens q) v turn p' v' → Turned follows fits l call S S' turn
   turned_by_release Call.Unlock turn gives b ends c last ran = unlock_turned turn b ends c last (unsent turn ran (ap is_send b.3))
   turned_by_release Call.StartWait turn gives b ends c last ran = wait_turned turn b ends c last (unsent turn ran (ap is_send b.4))
   turned_by_release Call.Lock turn gives b ends c last ran = absurd (false≢true gives)
@@ -525,7 +533,7 @@ may_leave {T} follows fits n p v a named deep may x is =
 pub fresh_sight : {T : Type 0} (x : T) (k n : ℕ) (l : Limits) (p : SeatState) (m : Me (Option (Moving T)) (View T)) (a : Option (Moving T)) (all : Limits) → Fresh x k n l p m a all → sight_of n p m.0 (value_in a) ≡ new_sight x k
 fresh_sight {T} x k n l p m a all f =
     ap (λ (t : ℕ × SeatState × Option (Moving T)). sight_of t.0 t.1 m.0 (value_in t.2)) (λ i. (f.0 i, f.2 i, f.3 i))
-    ∙ (λ i. record { number = k; depth = 0; takes = 0; asleep = false; in_call = false; last = f.5 i; value = None; queued = 0; trail = f.4 i; sends = sends_of (f.4 i) })
+    ∙ (λ i. record { number = k; depth = 0; takes = 0; asleep = false; in_call = false; last = f.5 i; found = f.6 i; value = None; queued = 0; trail = f.4 i; sends = sends_of (f.4 i) })
 
 pub looked_sight : {T : Type 0} (n k : ℕ) (p : SeatState) (v w : View T) (a : Option T) → w ≡ record v { trail = v.trail ++ seen TryOwnerLoad k ∷ [] } → sight_of n p w a ≡ record (sight_of n p v a) { trail = v.trail ++ seen TryOwnerLoad k ∷ [] }
 looked_sight {T} n k p v w a is =

@@ -249,7 +249,7 @@ module _ {T : Type 0} (follows : ℕ → T → T → Type 0) (suits : T → ℕ 
           (subst (λ (z : T). suits z me.0.answered) same k0.0, λ l is_last. subst (λ (z : T × ℕ). Reached follows z.1 l z.0) (λ j. (same j, sym placed j)) (k0.1 l is_last))
 
       abbrev next_view : Option T → View T
-      next_view found = record me.0 { standing = st.seat; trail = me.0.trail ++ seen p.point (k n) ∷ []; last = left_by p.point a me.0.last; found = found; popped = popped_after; answered = ts.ghost_after.answered }
+      next_view found = record me.0 { standing = st.seat; trail = me.0.trail ++ seen p.point (k n) ∷ []; last = left_by p.point a me.0.last; last_found = left_by p.point me.0.found me.0.last_found; found = found; popped = popped_after; answered = ts.ghost_after.answered }
 
       same_root : (found : Option T) → Same_root me.0 (next_view found)
       same_root found = record { number = refl; limits_are = refl; opening = refl; made = refl; joined_are = refl }
@@ -293,6 +293,7 @@ module _ {T : Type 0} (follows : ℕ → T → T → Type 0) (suits : T → ℕ 
         standing = refl;
         trail = refl;
         last = refl;
+        last_found = refl;
         listed = refl;
         had = λ carries. sym (was carries).popped;
         deep = core.depth_at c g num p is h.fits settles;

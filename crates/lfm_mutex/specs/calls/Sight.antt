@@ -34,6 +34,8 @@ pub record Sight (T : Type 0) : Type 0 where
   pub in_call : Bool
   -- the value that it found, while it holds; else the value that it left last, and the opening value before that
   pub last : Option T
+  -- the value that it found when it came to hold last: it stays when the hold ends, until the next gain; None before the first gain
+  pub found : Option T
   -- the value that it has in hand while it holds
   pub value : Option T
   -- while it holds, how many seats have come to hold by a queued record
@@ -79,6 +81,7 @@ sight_of n p v a =
       asleep = is_asleep p.point;
       in_call = is_in_call p.point;
       last = by_depth p.depth v.last v.found;
+      found = by_depth p.depth v.last_found v.found;
       value = by_depth p.depth None a;
       queued = by_depth p.depth 0 v.answered;
       trail = v.trail;
@@ -98,6 +101,7 @@ new_sight x n =
       asleep = false;
       in_call = false;
       last = Some x;
+      found = None;
       value = None;
       queued = 0;
       trail = [];
@@ -156,9 +160,9 @@ module _ {T : Type 0} where
   abbrev pub Deepens : Sight T → Sight T → ℕ → Type 0
   Deepens s t d = (s.asleep ≡ false) × (0 < s.depth) × (s.depth < 65535) × (d ≡ s.depth + 1) × (t ≡ record s { depth = d; trail = t.trail })
 
-  -- the seat has given up the mutex: what was in hand is what it left last
+  -- the seat has given up the mutex: what was in hand is what it left last, and what it had found is still known
   abbrev pub Leaves_off : Sight T → Sight T → Type 0
-  Leaves_off s t = (s.asleep ≡ false) × (s.depth ≡ 1) × (t.number ≡ s.number) × (t.depth ≡ 0) × (t.value ≡ None) × ((x : T) → s.value ≡ Some x → t.last ≡ Some x) × (t.sends ≡ s.sends)
+  Leaves_off s t = (s.asleep ≡ false) × (s.depth ≡ 1) × (t.number ≡ s.number) × (t.depth ≡ 0) × (t.value ≡ None) × ((x : T) → s.value ≡ Some x → t.last ≡ Some x) × (t.sends ≡ s.sends) × (t.found ≡ s.found)
 
   -- how unlock ends
   abbrev pub Unlocks : Sight T → Sight T → Result Unlocked Refusal → Type 0
@@ -191,7 +195,7 @@ module _ {T : Type 0} (follows : ℕ → T → T → Type 0) (fits : T → ℕ �
 
   -- the seat has come to hold, and found a value that what it left last leads to
   abbrev pub Finds : How → Sight T → Sight T → Type 0
-  Finds how s t = (w : T) × (t.value ≡ Some w) × (t.last ≡ Some w) × ((l : T) → s.last ≡ Some l → Reached follows s.number l w) × Suits how w t.queued
+  Finds how s t = (w : T) × (t.value ≡ Some w) × (t.last ≡ Some w) × ((l : T) → s.last ≡ Some l → Reached follows s.number l w) × Suits how w t.queued × (t.found ≡ Some w)
 
   -- what the seat has in hand may be left
   abbrev pub May_leave : Sight T → Type 0

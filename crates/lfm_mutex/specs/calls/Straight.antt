@@ -15,7 +15,7 @@ use Rattle.lfm_core.specs.table.Ready.{IsReady}
 use Rattle.lfm_core.specs.table.Words.{stepped_by}
 use Rattle.lfm_mutex.specs.declared.table.seat_view.View.{View}
 use Rattle.lfm_mutex.specs.declared.table.rule.Moving.{Moving}
-use Rattle.lfm_mutex.specs.table.Rule.{value_in}
+use Rattle.lfm_mutex.specs.table.Rule.{value_in, last_hold}
 use Rattle.lfm_mutex.specs.calls.Runs.{Ran, Holds, how_held, opens}
 use Rattle.lfm_mutex.specs.table.Seats.{Seated, Rooted}
 use Rattle.lfm_mutex.specs.table.Settled.{Became}
@@ -45,7 +45,7 @@ pub record Course {T : Type 0} (follows : ℕ → T → T → Type 0) (suits : T
   pub ran : Ran number (opens p0) v0 turn p v
   pub concludes : Concludes p0 turn p
   pub stays : Stays p0.depth v0 (value_in a0) v (value_in a)
-  pub last : v.last ≡ v0.last
+  pub last : last_hold v ≡ last_hold v0
   pub held : (how : How) → how_held turn ≡ Some how → Holds follows suits number v0.last how p a v
 
 -- the call of a seat that was seen as s has ended with this turn, and it is seen as t: all that is said of it

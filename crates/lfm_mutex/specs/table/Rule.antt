@@ -46,6 +46,7 @@ first_view l x =
       standing = absent;
       trail = [];
       last = Some x;
+      last_found = None;
       found = None;
       popped = [];
       answered = 0;
@@ -68,6 +69,7 @@ split_view v =
       standing = absent;
       trail = [];
       last = v.opening;
+      last_found = None;
       found = None;
       popped = [];
       answered = 0;
@@ -96,6 +98,7 @@ no_view =
       standing = absent;
       trail = [];
       last = None;
+      last_found = None;
       found = None;
       popped = [];
       answered = 0;
@@ -144,10 +147,14 @@ abbrev pub in_hand : {S : Type 0} → Bool → List (ℕ × Option S)
 in_hand true = (0, None) ∷ []
 in_hand false = []
 
--- what is noted as left, or as found, by a step at this point: the store that ends a hold leaves what is in hand
+-- what is noted of the value once a step was made at this point: only the store that ends a hold notes anew
 abbrev pub left_by : {T : Type 0} → Point → Option T → Option T → Option T
 left_by (ReleaseOwnerStore releaser) new old = new
 left_by _ new old = old
+
+-- of the hold that a seat ended last: the value that it left, and the value that it had found
+abbrev pub last_hold : {T : Type 0} → View T → Option T × Option T
+last_hold v = (v.last, v.last_found)
 
 -- The rule
 
@@ -244,6 +251,7 @@ module _ {T : Type 0} (follows : ℕ → T → T → Type 0) (suits : T → ℕ 
     pub standing : m'.0.standing ≡ (stepped_by p m.0.number n (oldest popped)).seat
     pub trail : m'.0.trail ≡ m.0.trail ++ seen p.point n ∷ []
     pub last : m'.0.last ≡ left_by p.point a m.0.last
+    pub last_found : m'.0.last_found ≡ left_by p.point m.0.found m.0.last_found
     pub listed : m'.0.popped ≡ popped_by_step p m.0.number n popped
     pub had : carries_value p ≡ true → popped ≡ m.0.popped
     pub deep : DepthAt p.depth p.point

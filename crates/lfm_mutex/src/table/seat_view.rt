@@ -33,6 +33,8 @@ pub struct View<T> {
     pub trail: LinkedList<Seen>,
     /// The value that the seat left last; the opening value before that.
     pub last: Option<T>,
+    /// The value that the seat had found when it came to the hold that it ended last; None before that.
+    pub last_found: Option<T>,
     /// While the seat carries the responsibility: the value that it found, or the one that it is about to leave.
     pub found: Option<T>,
     /// The pop list after the seat's last step.

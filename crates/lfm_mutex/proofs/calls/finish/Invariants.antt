@@ -2,7 +2,7 @@ use Rattle.std.proofs.Common.{◌≡◌, ◌+◌, ◌≤◌, length}
 use Rattle.std.specs.Prelude.{false}
 use Rattle.lfm_protocol.specs.declared.answers.Turn.TheVariants.{Open}
 use Rattle.lfm_mutex.specs.calls.Runs.{errand, is_release, Ran, opens, weight}
-use Rattle.lfm_mutex.specs.table.Rule.{value_in}
+use Rattle.lfm_mutex.specs.table.Rule.{value_in, last_hold}
 use Rattle.lfm_mutex.specs.calls.Sight.{Concludes, Stays}
 use Rattle.lfm_mutex.proofs.calls.finish.Given as goal
 
@@ -12,7 +12,7 @@ invariant-loop-ended g l = record {
   same : (l.seat.number ≡ l.fn.seat.number) × (l.seat.limits ≡ l.fn.seat.limits) × (l.seat.place.table_id ≡ l.fn.seat.place.table_id);
   call : errand l.seat.standing.point ≡ errand l.fn.seat.standing.point;
   keeps : is_release l.seat.standing.point ≡ false;
-  last : l.seat.place.me.0.last ≡ l.fn.seat.place.me.0.last;
+  last : last_hold l.seat.place.me.0 ≡ last_hold l.fn.seat.place.me.0;
   ran : Ran l.fn.seat.number (opens l.fn.seat.standing) l.fn.seat.place.me.0 Open l.seat.standing l.seat.place.me.0;
   concludes : Concludes l.fn.seat.standing Open l.seat.standing;
   bounded : length l.seat.place.me.0.trail + weight l.seat.limits.seats (length l.seat.place.me.0.popped) l.seat.standing.point ≤ length l.fn.seat.place.me.0.trail + weight l.fn.seat.limits.seats (length l.fn.seat.place.me.0.popped) l.fn.seat.standing.point;

@@ -1,8 +1,8 @@
-use Rattle.std.proofs.Common.{◌≢◌, ℕ, ◌+◌, ◌≤◌, length, None, ap, subst, arith}
+use Rattle.std.proofs.Common.{◌≢◌, ◌∙◌, ℕ, ◌+◌, ◌≤◌, length, None, ap, subst, arith}
 use Rattle.lfm_protocol.specs.declared.answers.Turn.TheVariants.{Open}
 use Rattle.lfm_protocol.specs.Points.{kind}
 use Rattle.lfm_mutex.specs.calls.Runs.{Ran, opens, weight}
-use Rattle.lfm_mutex.proofs.runs.Running.{event_of, bounded_more, ran_one, ran_join, release_some}
+use Rattle.lfm_mutex.proofs.runs.Running.{event_of, bounded_more, last_one, ran_one, ran_join, release_some}
 use Rattle.lfm_mutex.proofs.runs.Sights.{first_opens, first_concludes, concludes_join}
 use Rattle.lfm_mutex.proofs.calls.finish_release.Goals as goal
 
@@ -13,6 +13,12 @@ returns-in-Open-clause-ran g c = let s = c.args.seat.now in let b = c.make_next.
     ran_join s.number s.standing b.standing f.standing s.place.me.0 b.place.me.0 f.place.me.0 c.finish.result
     (ran_one g.T.Kept.follows g.T.Kept.fits s.number s.standing b.standing s.place.me.0 b.place.me.0 s.moving b.moving Open s.seated.named e)
     (subst (λ (n : ℕ). Ran n (opens b.standing) b.place.me.0 c.finish.result f.standing f.place.me.0) c.make_next.ensures.same.0 c.finish.ensures.ran)
+
+pub returns-in-Open-clause-last : goal.returns-in-Open-clause-last
+returns-in-Open-clause-last g c = let s = c.args.seat.now in let b = c.make_next.new.seat in
+    let some : kind s.standing.point ≢ None = release_some s.standing.point c.requires.gives.0 c.requires.gives.1 in
+    let e = event_of g.T.Kept.follows g.T.Kept.fits (kind s.standing.point) s.standing b.standing s.place.me b.place.me s.moving b.moving Open some c.in-Open.ensures.event in
+    c.finish.ensures.last ∙ last_one g.T.Kept.follows g.T.Kept.fits s.number s.standing b.standing s.place.me.0 b.place.me.0 s.moving b.moving Open s.seated.named e c.requires.gives.0 c.requires.gives.1
 
 pub returns-in-Open-clause-concludes : goal.returns-in-Open-clause-concludes
 returns-in-Open-clause-concludes g c = let s = c.args.seat.now in let b = c.make_next.new.seat in let f = c.finish.new.seat in

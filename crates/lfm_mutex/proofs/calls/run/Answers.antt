@@ -2,7 +2,7 @@ use Rattle.std.proofs.Common.{Option, ℕ, sym, ap, subst, ◌∙◌}
 use Rattle.lfm_mutex.specs.declared.table.seat_view.View.{View}
 use Rattle.lfm_mutex.specs.calls.Runs.{Ran, Holds, opens}
 use Rattle.lfm_mutex.proofs.runs.Running.{called_steps, called_at_once}
-use Rattle.lfm_mutex.specs.table.Rule.{value_in}
+use Rattle.lfm_mutex.specs.table.Rule.{value_in, last_hold}
 use Rattle.lfm_mutex.specs.calls.Sight.{sight_of, Stays, Turned}
 use Rattle.lfm_mutex.proofs.runs.Sights.{begun, turned_by_steps, turned_at_once, called_ends}
 use Rattle.lfm_protocol.specs.declared.limits.Limits.{Limits}
@@ -23,7 +23,7 @@ returns-in-Open-clause-turned g c = let s = c.args.seat.now in let b = c.begin_c
     c.requires.keeps began (called_ends s.limits c.args.call s.standing b.standing c.finish.result c.in-Open.ensures.turn c.in-Open.ensures.seat c.finish.ensures.ends) c.finish.ensures.concludes
     (λ how is. subst (λ (t : ℕ × Option g.row.T.Denot). Holds g.T.Kept.follows g.T.Kept.fits t.0 t.1 how f.standing f.moving f.place.me.0) (λ i. (c.begin_call.ensures.same.1 i, ap (λ p. p.me.0.last) c.begin_call.ensures.same.0 i)) (c.finish.ensures.held how is))
     (subst (λ (t : View g.row.T.Denot × Option g.row.T.Denot). Stays b.standing.depth t.0 t.1 f.place.me.0 (value_in f.moving)) (λ i. (ap (λ p. p.me.0) c.begin_call.ensures.same.0 i, ap value_in c.begin_call.ensures.same.3 i)) c.finish.ensures.stays)
-    (c.finish.ensures.last ∙ ap (λ p. p.me.0.last) c.begin_call.ensures.same.0)
+    (c.finish.ensures.last ∙ ap (λ p. last_hold p.me.0) c.begin_call.ensures.same.0)
     (subst (λ (t : ℕ × View g.row.T.Denot). Ran t.0 (opens b.standing) t.1 c.finish.result f.standing f.place.me.0) (λ i. (c.begin_call.ensures.same.1 i, ap (λ p. p.me.0) c.begin_call.ensures.same.0 i)) c.finish.ensures.ran))
 
 pub returns-in_default-clause-turned : goal.returns-in_default-clause-turned

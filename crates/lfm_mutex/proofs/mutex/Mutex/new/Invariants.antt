@@ -1,4 +1,4 @@
-use Rattle.std.proofs.Common.{length, ◌≡◌, ◌≤◌, ◌+◌, ℕ, [], vec_len, vec_capacity, Some}
+use Rattle.std.proofs.Common.{length, ◌≡◌, ◌≤◌, ◌+◌, ℕ, [], vec_len, vec_capacity, Some, None}
 use mathlib.Core.Option.{some}
 use lib.ListN.{get_elem?}
 use Rattle.lfm_protocol.specs.Seats.{absent}
@@ -18,6 +18,7 @@ invariant-loop-i g l = record {
   joined : length l.root.me.0.joined ≡ 0;
   opening : l.root.me.0.opening ≡ Some l.fn.value;
   last : l.root.me.0.last ≡ Some l.fn.value;
+  found : l.root.me.0.last_found ≡ None;
   trail : l.root.me.0.trail ≡ [];
   standing : l.root.me.0.standing ≡ absent;
   room : (length l.all.items + 1 ≡ l.i) × (vec_len l.all + 1 ≡ l.i) × (l.seats ≤ vec_capacity l.all);

@@ -5,7 +5,7 @@ use Rattle.lfm_protocol.specs.declared.limits.Limits.{Limits}
 use Rattle.lfm_mutex.specs.calls.Sight.{Sight, Gains, Leaves_off, May_leave}
 use Rattle.lfm_condvar.specs.declared.waiters.Waiters.{Waiters}
 use Rattle.lfm_condvar.specs.Keeping.{Follows}
-use Rattle.lfm_condvar.specs.Holds.{Counts_known, Cond_kept, Held_once, In_hand, Made_for, Rewrites}
+use Rattle.lfm_condvar.specs.Holds.{Counts_known, Cond_kept, Held_by, Held_once, In_hand, Leaves_list, Locks_list, Made_for, Rewrites}
 use Rattle.lfm_condvar.proofs.Followed.{since_reached}
 
 abbrev pub Fits : Waiters → ℕ → Type 0
@@ -94,3 +94,13 @@ pub may_leave_it : (limits : Limits) (s t u : Sight Waiters) (x v w : Waiters) �
 may_leave_it limits s t u x v w h r = let same : x ≡ v = one_some t.value x v h.value r.0 in
     let k = subst (λ (y : Waiters). In_hand limits s t y y) same h in let m = rewritten limits s t u v w k r.1 in
     may_leave limits s u v w m (subst (λ (i : ℕ). Follows i v w) (sym (ap (λ (y : Sight Waiters). y.number) r.1)) r.2)
+
+-- it took the steps of one lock and one unlock
+pub held_by : (own : Limits) (s t u z : Sight Waiters) (v w : Waiters) → Locks_list own s t → Rewrites t u v w → Leaves_list own u z → Held_by own s z
+held_by own s t u z v w l r k = record {
+  locked = t;
+  changed = u;
+  locks = l;
+  changes = r.1 ∙ ap (λ o. record t { value = o }) (sym (ap (λ (y : Sight Waiters). y.value) r.1));
+  leaves = k;
+}

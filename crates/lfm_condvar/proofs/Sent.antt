@@ -1,15 +1,18 @@
 -- What is so once waiters were sent, or one of them was not waiting.
 use Rattle.std.proofs.Common.{◌≡◌, ℕ, ◌+◌, ◌≤◌, List, [], ◌∷◌, ◌++◌, false, Option, None, Result, Ok, Err, refl, sym, ap, ◌∙◌, subst, arith, length, slice_index, append_assoc, length-append}
-use Rattle.std.specs.Prelude.{map}
+use Rattle.std.specs.Prelude.{⊤, map}
 use Rattle.lfm_model.specs.declared.refusals.Refusal.{Refusal}
 use Rattle.lfm_model.specs.declared.refusals.Refusal.TheVariants.{Asleep, NotOwner, Nested, DepthFull, Spent, NoSuchSeat, NotWaiting, Busy}
 use Rattle.lfm_protocol.specs.declared.limits.Limits.{Limits}
+use Rattle.lfm_protocol.specs.declared.answers.Answer.{Answer}
+use Rattle.lfm_protocol.specs.declared.answers.Call.{Call}
 use Rattle.lfm_mutex.specs.calls.Sight.{Sight, Sends}
+use Rattle.lfm_mutex.specs.calls.Trails.{Makes_call}
 use Rattle.lfm_condvar.specs.declared.waiters.Waiter.{Waiter}
 use Rattle.lfm_condvar.specs.declared.waiters.Waiters.{Waiters}
-use Rattle.lfm_condvar.specs.Holds.{Held_once}
+use Rattle.lfm_condvar.specs.Holds.{Held_by, Held_once}
 use Rattle.lfm_condvar.specs.Keeping.{Follows, Taken}
-use Rattle.lfm_condvar.specs.Wakes.{Oldest_not_waiting, Sends_all, Sends_oldest, Sent_each, Wake_all_ends, Wake_one_ends}
+use Rattle.lfm_condvar.specs.Wakes.{Oldest_not_waiting, Sends_all, Sends_by, Sends_in_turn, Sends_oldest, Sent_each, Wake_all_ends, Wake_one_ends}
 
 pub taken_none : (v : Waiters) → Taken [] v v
 taken_none v = record { list = refl; sent = omega arith; added = refl; counts = refl; seats = refl; budget = refl }
@@ -59,14 +62,15 @@ module _ {T : Type 0} where
   awake_still gone s m a e = ap (λ (z : Sight T). z.asleep) e ∙ a
 
   -- all were sent
-  pub all_sent : (n k : ℕ) (gone : List Waiter) (s m t : Sight T) (u v w : Waiters) → Taken gone u v → Sent_each gone s m → k ≡ length gone → Sends_oldest n m t v w (Ok None) → Sends_all n s t u w (Ok k)
-  all_sent n k gone s m t u v w a b e o =
+  pub all_sent : (n k : ℕ) (gone : List Waiter) (s m t : Sight T) (u v w : Waiters) → Taken gone u v → Sent_each gone s m → k ≡ length gone → s.asleep ≡ false → Sends_oldest n m t v w (Ok None) → Sends_all n s t u w (Ok k)
+  all_sent n k gone s m t u v w a b e aw o =
       let whole : u.list.items ≡ gone = a.list ∙ (ap (λ ys. gone ++ ys) o.1 ∙ append_none gone) in
       let q = sym o.2 in (
         e ∙ ap length (sym whole),
         subst (λ (y : Waiters). y.list.items ≡ []) q o.1,
         subst (λ (ys : List Waiter). Taken ys u w) (sym whole) (subst (λ (y : Waiters). Taken gone u y) q a),
         subst (λ (ys : List Waiter). Sent_each ys s t) (sym whole) (subst (λ (z : Sight T). Sent_each gone s z) (sym o.3) b),
+        aw,
       )
 
   -- some were sent, and the next was not waiting
@@ -80,25 +84,56 @@ module _ {T : Type 0} where
   some_sent n gone s m t u v w NoSuchSeat a b aw o = absurd o
   some_sent n gone s m t u v w Busy a b aw o = absurd o
 
-  -- a wake whose hold of the inner mutex came
-  pub one_ends : (n : ℕ) (own : Limits) (c d : Sight Waiters) (s t : Sight T) (v w : Waiters) (r : Result (Option (ℕ × ℕ)) Refusal) → s.asleep ≡ false → Held_once own.budget c d v w → Sends_oldest n s t v w r → Wake_one_ends n own c d s t r
-  one_ends n own c d s t v w (Ok p) aw h o = (v, w, h, o)
-  one_ends n own c d s t v w (Err Asleep) aw h o = let no = sym aw ∙ o.0 in cc
-  one_ends n own c d s t v w (Err NotWaiting) aw h o = (v, w, h, o)
-  one_ends n own c d s t v w (Err NotOwner) aw h o = absurd o
-  one_ends n own c d s t v w (Err Nested) aw h o = absurd o
-  one_ends n own c d s t v w (Err DepthFull) aw h o = absurd o
-  one_ends n own c d s t v w (Err Spent) aw h o = absurd o
-  one_ends n own c d s t v w (Err NoSuchSeat) aw h o = absurd o
-  one_ends n own c d s t v w (Err Busy) aw h o = absurd o
+  -- Steps
 
-  pub all_end : (n : ℕ) (own : Limits) (c d : Sight Waiters) (s t : Sight T) (v w : Waiters) (r : Result ℕ Refusal) → Held_once own.budget c d v w → Sends_all n s t v w r → Wake_all_ends n own c d s t r
-  all_end n own c d s t v w (Ok p) h o = (v, w, h, o)
-  all_end n own c d s t v w (Err NotWaiting) h o = (v, w, h, o)
-  all_end n own c d s t v w (Err Asleep) h o = absurd o
-  all_end n own c d s t v w (Err NotOwner) h o = absurd o
-  all_end n own c d s t v w (Err Nested) h o = absurd o
-  all_end n own c d s t v w (Err DepthFull) h o = absurd o
-  all_end n own c d s t v w (Err Spent) h o = absurd o
-  all_end n own c d s t v w (Err NoSuchSeat) h o = absurd o
-  all_end n own c d s t v w (Err Busy) h o = absurd o
+  -- some sends, and some more after them
+  pub in_turn : (user : Limits) (xs ys : List (ℕ × Sight T)) (s m t : Sight T) → Sends_in_turn user s xs m → Sends_in_turn user m ys t → Sends_in_turn user s (xs ++ ys) t
+  in_turn user [] ys s m t a b = subst (λ (z : Sight T). Sends_in_turn user z ys t) a b
+  in_turn user (x ∷ xs) ys s m t a b = (a.0, a.1, in_turn user xs ys x.1 m t a.2 b)
+
+  -- one send that was refused
+  pub refused_by : (A : Type 0) (user : Limits) (x : ℕ) (s t : Sight T) (r : Refusal) → Sends user.seats s x t (Err r)
+      → Makes_call user (λ (y : ⊤). Answer.Sent) (Call.SendLock x) s t (Err r) → Sends_by {A = A} user s t (Err r)
+  refused_by A user x s t NotWaiting a b = ([], s, x, b.0, refl, b.1)
+  refused_by A user x s t Asleep a b = a.1
+  refused_by A user x s t NotOwner a b = a.1
+  refused_by A user x s t Nested a b = a.1
+  refused_by A user x s t DepthFull a b = a.1
+  refused_by A user x s t Spent a b = a.1
+  refused_by A user x s t NoSuchSeat a b = a.1
+  refused_by A user x s t Busy a b = a.1
+
+  -- some sends, and one that was refused as NotWaiting
+  pub some_by : (A B : Type 0) (n : ℕ) (user : Limits) (xs : List (ℕ × Sight T)) (s m t : Sight T) (v w : Waiters) (r : Refusal) → m.asleep ≡ false → Sends_oldest n m t v w (Err r) → Sends_in_turn user s xs m
+      → Sends_by {A = A} user m t (Err r) → Sends_by {A = B} user s t (Err r)
+  some_by A B n user xs s m t v w NotWaiting aw o a b = (xs ++ b.0, b.1, b.2, b.3, in_turn user xs b.0 s m b.1 a b.4, b.5)
+  some_by A B n user xs s m t v w Asleep aw o a b = let no = sym aw ∙ o.0 in cc
+  some_by A B n user xs s m t v w NotOwner aw o a b = absurd o
+  some_by A B n user xs s m t v w Nested aw o a b = absurd o
+  some_by A B n user xs s m t v w DepthFull aw o a b = absurd o
+  some_by A B n user xs s m t v w Spent aw o a b = absurd o
+  some_by A B n user xs s m t v w NoSuchSeat aw o a b = absurd o
+  some_by A B n user xs s m t v w Busy aw o a b = absurd o
+
+  -- a wake whose hold of the inner mutex came
+  pub one_ends : (n : ℕ) (own : Limits) (c d : Sight Waiters) (s t : Sight T) (v w : Waiters) (r : Result (Option (ℕ × ℕ)) Refusal) → s.asleep ≡ false → Held_once own.budget c d v w → Held_by own c d → Sends_oldest n s t v w r → Wake_one_ends n own c d s t r
+  one_ends n own c d s t v w (Ok p) aw h k o = (v, w, h, o, k)
+  one_ends n own c d s t v w (Err Asleep) aw h k o = let no = sym aw ∙ o.0 in cc
+  one_ends n own c d s t v w (Err NotWaiting) aw h k o = (v, w, h, o, k)
+  one_ends n own c d s t v w (Err NotOwner) aw h k o = absurd o
+  one_ends n own c d s t v w (Err Nested) aw h k o = absurd o
+  one_ends n own c d s t v w (Err DepthFull) aw h k o = absurd o
+  one_ends n own c d s t v w (Err Spent) aw h k o = absurd o
+  one_ends n own c d s t v w (Err NoSuchSeat) aw h k o = absurd o
+  one_ends n own c d s t v w (Err Busy) aw h k o = absurd o
+
+  pub all_end : (n : ℕ) (own : Limits) (c d : Sight Waiters) (s t : Sight T) (v w : Waiters) (r : Result ℕ Refusal) → Held_once own.budget c d v w → Held_by own c d → Sends_all n s t v w r → Wake_all_ends n own c d s t r
+  all_end n own c d s t v w (Ok p) h k o = (v, w, h, o, k)
+  all_end n own c d s t v w (Err NotWaiting) h k o = (v, w, h, o, k)
+  all_end n own c d s t v w (Err Asleep) h k o = absurd o
+  all_end n own c d s t v w (Err NotOwner) h k o = absurd o
+  all_end n own c d s t v w (Err Nested) h k o = absurd o
+  all_end n own c d s t v w (Err DepthFull) h k o = absurd o
+  all_end n own c d s t v w (Err Spent) h k o = absurd o
+  all_end n own c d s t v w (Err NoSuchSeat) h k o = absurd o
+  all_end n own c d s t v w (Err Busy) h k o = absurd o

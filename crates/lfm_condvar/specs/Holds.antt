@@ -1,7 +1,14 @@
 -- What a cond seat knows of the list, and what a hold of the inner mutex makes of it.
-use Rattle.std.specs.Prelude.{◌≡◌, ℕ, ◌+◌, ◌<◌, ◌≤◌, Some, is_some, true, false, slice_index}
+use Rattle.std.specs.Prelude.{◌≡◌, ℕ, ◌+◌, ◌<◌, ◌≤◌, Ok, Some, is_some, true, false, slice_index}
+use Rattle.lfm_model.specs.declared.answers.How.{How}
+use Rattle.lfm_model.specs.declared.answers.Locked.{Locked}
+use Rattle.lfm_model.specs.declared.answers.Unlocked.{Unlocked}
+use Rattle.lfm_protocol.specs.declared.answers.Answer.{Answer}
+use Rattle.lfm_protocol.specs.declared.answers.Call.{Call}
+use Rattle.lfm_protocol.specs.declared.answers.Turn.TheVariants.{Ended}
 use Rattle.lfm_protocol.specs.declared.limits.Limits.{Limits}
 use Rattle.lfm_mutex.specs.calls.Sight.{Sight}
+use Rattle.lfm_mutex.specs.calls.Trails.{Locks_by, Makes, Makes_at_most}
 use Rattle.lfm_condvar.specs.declared.waiters.Waiters.{Waiters}
 use Rattle.lfm_condvar.specs.Keeping.{Follows, Since}
 
@@ -30,6 +37,23 @@ pub record Held_once (budget : ℕ) (s t : Sight Waiters) (v w : Waiters) : Type
   pub spare : s.takes < budget
   pub takes : t.takes ≡ s.takes + 1
   pub number : t.number ≡ s.number
+
+-- The cond seat locks the inner mutex, by the steps of lock alone
+abbrev pub Locks_list : Limits → Sight Waiters → Sight Waiters → Type 0
+Locks_list own s t = (how : How) × Locks_by own s t (Ok (Locked.Held how))
+
+-- and gives it back, by the steps of unlock alone
+abbrev pub Leaves_list : Limits → Sight Waiters → Sight Waiters → Type 0
+Leaves_list own s t = (u : Unlocked) × Makes own Call.Unlock s t (Ended (Answer.Unlocked u)) × Makes_at_most (own.seats + 7) s t
+
+-- The steps of the cond seat in one hold: it locks the inner mutex once, and gives it back once. In between it changes the list in
+-- hand, and nothing else of it is other than it was
+pub record Held_by (own : Limits) (s t : Sight Waiters) : Type 0 where
+  pub locked : Sight Waiters
+  pub changed : Sight Waiters
+  pub locks : Locks_list own s locked
+  pub changes : changed ≡ record locked { value = changed.value }
+  pub leaves : Leaves_list own changed t
 
 -- The cond seat that was seen as s when it locked the inner mutex is seen as t: it found the list v, and has w in hand
 pub record In_hand (limits : Limits) (s t : Sight Waiters) (v w : Waiters) : Type 0 where

@@ -1,5 +1,5 @@
 -- How `enlist` and `wait` end. A user seat is seen as s before and as t after, and its mutex has the limits `user`.
-use Rattle.std.specs.Prelude.{◌≡◌, ◌⊎◌, ℕ, ◌<◌, ◌≤◌, false, Result, Ok, Err}
+use Rattle.std.specs.Prelude.{◌≡◌, ◌⊎◌, ℕ, ◌+◌, ◌<◌, ◌≤◌, false, Result, Ok, Err}
 use Rattle.lfm_model.specs.declared.answers.How.{How}
 use Rattle.lfm_model.specs.declared.answers.Unlocked.{Unlocked}
 use Rattle.lfm_model.specs.declared.refusals.Refusal.{Refusal}
@@ -7,9 +7,9 @@ use Rattle.lfm_protocol.specs.declared.answers.Answer.{Answer}
 use Rattle.lfm_protocol.specs.declared.answers.Call.{Call}
 use Rattle.lfm_protocol.specs.declared.limits.Limits.{Limits}
 use Rattle.lfm_mutex.specs.calls.Sight.{Sight, Waits, Wait_refused, Wakes}
-use Rattle.lfm_mutex.specs.calls.Trails.{Makes_call, Receives_by}
+use Rattle.lfm_mutex.specs.calls.Trails.{Makes_at_most, Makes_call, Receives_by}
 use Rattle.lfm_condvar.specs.declared.waiters.Waiters.{Waiters}
-use Rattle.lfm_condvar.specs.Holds.{Held_once}
+use Rattle.lfm_condvar.specs.Holds.{Held_by, Held_once}
 use Rattle.lfm_condvar.specs.Keeping.{Appended}
 use Rattle.lfm_condvar.specs.Lists.{times}
 
@@ -20,7 +20,7 @@ module _ {T : Type 0} where
 
   -- the seat gave up its mutex and fell asleep, by the steps of start_wait alone
   abbrev pub Falls_asleep : Limits → Sight T → Sight T → Type 0
-  Falls_asleep user s t = (u : Unlocked) × Waits user.budget s t (Ok u) × Makes_call user (λ x. Answer.Waiting x) Call.StartWait s t (Ok u)
+  Falls_asleep user s t = (u : Unlocked) × Waits user.budget s t (Ok u) × Makes_call user (λ x. Answer.Waiting x) Call.StartWait s t (Ok u) × Makes_at_most (user.seats + 8) s t
 
   -- how enlist ends, in the name of the cond seat `by`, by which the list v became w
   abbrev pub Enlists : Limits → ℕ → Sight T → Sight T → Waiters → Waiters → Result ℕ Refusal → Type 0
@@ -37,8 +37,8 @@ module _ {T : Type 0} (follows : ℕ → T → T → Type 0) (fits : T → ℕ �
   -- How wait ends, with a cond seat that is seen as c before and as d after, of a condvar with the limits `own`. Between s and t the
   -- user seat is seen as m: asleep, put at the end of the list in the very hold in which it made start_wait
   abbrev pub Wait_ends : Limits → Limits → Sight Waiters → Sight Waiters → Sight T → Sight T → Result (How × ℕ) Refusal → Type 0
-  Wait_ends user own c d s t (Ok r) = (v : Waiters) × (w : Waiters) × (m : Sight T) × Held_once own.budget c d v w × Enlists user c.number s m v w (Ok r.1) × Comes_back user r.0 m t
+  Wait_ends user own c d s t (Ok r) = (v : Waiters) × (w : Waiters) × (m : Sight T) × Held_once own.budget c d v w × Enlists user c.number s m v w (Ok r.1) × Comes_back user r.0 m t × Held_by own c d
   Wait_ends user own c d s t (Err Refusal.Spent) = (s.asleep ≡ false) × (s.depth ≡ 1) × (user.budget ≤ s.takes ⊎ (own.budget ≤ c.takes)) × (d ≡ c) × (t ≡ s)
   Wait_ends user own c d s t (Err Refusal.NoSuchSeat) = May_wait user.budget s × (c.takes < own.budget) × (own.seats < s.number) × (d ≡ c) × (t ≡ s)
-  Wait_ends user own c d s t (Err Refusal.Busy) = (v : Waiters) × (w : Waiters) × Held_once own.budget c d v w × Enlists user c.number s t v w (Err Refusal.Busy)
+  Wait_ends user own c d s t (Err Refusal.Busy) = (v : Waiters) × (w : Waiters) × Held_once own.budget c d v w × Enlists user c.number s t v w (Err Refusal.Busy) × Held_by own c d
   Wait_ends user own c d s t (Err r) = Wait_refused user.budget s r × (d ≡ c) × (t ≡ s)

@@ -1,11 +1,16 @@
 -- How `send_oldest`, `wake_one` and `wake_all` end. A user seat is seen as s before and as t after, and its mutex has n seats.
 use Rattle.std.specs.Prelude.{◌≡◌, ℕ, ◌≤◌, List, [], ◌∷◌, ◌++◌, true, false, Option, Some, None, Result, Ok, Err, length, map}
 use Rattle.lfm_model.specs.declared.refusals.Refusal.{Refusal}
+use Rattle.lfm_protocol.specs.declared.answers.Answer.{Answer}
+use Rattle.lfm_protocol.specs.declared.answers.Call.{Call}
+use Rattle.lfm_protocol.specs.declared.answers.Turn.TheVariants.{Ended, Refused}
+use Rattle.lfm_protocol.specs.declared.answers.Why.{Why}
 use Rattle.lfm_protocol.specs.declared.limits.Limits.{Limits}
 use Rattle.lfm_mutex.specs.calls.Sight.{Sight, Sends}
+use Rattle.lfm_mutex.specs.calls.Trails.{Makes}
 use Rattle.lfm_condvar.specs.declared.waiters.Waiter.{Waiter}
 use Rattle.lfm_condvar.specs.declared.waiters.Waiters.{Waiters}
-use Rattle.lfm_condvar.specs.Holds.{Held_once}
+use Rattle.lfm_condvar.specs.Holds.{Held_by, Held_once}
 use Rattle.lfm_condvar.specs.Keeping.{Taken}
 use Rattle.lfm_condvar.specs.Lists.{waiter}
 
@@ -28,9 +33,21 @@ module _ {T : Type 0} where
 
   -- how it ends to send all that wait, by which the list v became w
   abbrev pub Sends_all : ℕ → Sight T → Sight T → Waiters → Waiters → Result ℕ Refusal → Type 0
-  Sends_all n s t v w (Ok k) = (k ≡ length v.list.items) × (w.list.items ≡ []) × Taken v.list.items v w × Sent_each v.list.items s t
+  Sends_all n s t v w (Ok k) = (k ≡ length v.list.items) × (w.list.items ≡ []) × Taken v.list.items v w × Sent_each v.list.items s t × (s.asleep ≡ false)
   Sends_all n s t v w (Err Refusal.NotWaiting) = (gone : List Waiter) × (m : Sight T) × Taken gone v w × Sent_each gone s m × Oldest_not_waiting n m t w
   Sends_all n s t v w (Err r) = ⊥
+
+  -- One send_lock after another, for these seats in order. With each stands how the sender was seen after it
+  abbrev pub Sends_in_turn : Limits → Sight T → List (ℕ × Sight T) → Sight T → Type 0
+  Sends_in_turn user s [] t = t ≡ s
+  Sends_in_turn user s (x ∷ xs) t = Sends user.seats s x.0 x.1 (Ok tt) × Makes user (Call.SendLock x.0) s x.1 (Ended Answer.Sent) × Sends_in_turn user x.1 xs t
+
+  -- The steps of a call that sends, and ends so: those of some sends, and where the last was refused as NotWaiting those of that one
+  abbrev pub Sends_by : {A : Type 0} → Limits → Sight T → Sight T → Result A Refusal → Type 0
+  Sends_by user s t (Ok a) = (sent : List (ℕ × Sight T)) × Sends_in_turn user s sent t
+  Sends_by user s t (Err Refusal.NotWaiting) =
+      (sent : List (ℕ × Sight T)) × (m : Sight T) × (x : ℕ) × (cause : Why) × Sends_in_turn user s sent m × Makes user (Call.SendLock x) m t (Refused cause)
+  Sends_by user s t (Err r) = t ≡ s
 
   -- How the wakes end, with a cond seat that is seen as c before and as d after, of a condvar with the limits `own`
 
@@ -43,9 +60,9 @@ module _ {T : Type 0} where
   abbrev pub Wake_one_ends : ℕ → Limits → Sight Waiters → Sight Waiters → Sight T → Sight T → Result (Option (ℕ × ℕ)) Refusal → Type 0
   Wake_one_ends n own c d s t (Err Refusal.Asleep) = Wake_refused own c d s t Refusal.Asleep
   Wake_one_ends n own c d s t (Err Refusal.Spent) = Wake_refused own c d s t Refusal.Spent
-  Wake_one_ends n own c d s t r = (v : Waiters) × (w : Waiters) × Held_once own.budget c d v w × Sends_oldest n s t v w r
+  Wake_one_ends n own c d s t r = (v : Waiters) × (w : Waiters) × Held_once own.budget c d v w × Sends_oldest n s t v w r × Held_by own c d
 
   abbrev pub Wake_all_ends : ℕ → Limits → Sight Waiters → Sight Waiters → Sight T → Sight T → Result ℕ Refusal → Type 0
   Wake_all_ends n own c d s t (Err Refusal.Asleep) = Wake_refused own c d s t Refusal.Asleep
   Wake_all_ends n own c d s t (Err Refusal.Spent) = Wake_refused own c d s t Refusal.Spent
-  Wake_all_ends n own c d s t r = (v : Waiters) × (w : Waiters) × Held_once own.budget c d v w × Sends_all n s t v w r
+  Wake_all_ends n own c d s t r = (v : Waiters) × (w : Waiters) × Held_once own.budget c d v w × Sends_all n s t v w r × Held_by own c d

@@ -3,7 +3,7 @@ ghost use Rattle.std.specs.Prelude.{◌≡◌, ◌≤◌, IfErr, IfOk, false};
 ghost use Rattle.lfm_model.specs.declared.refusals.Refusal.TheVariants.{Spent};
 ghost use Rattle.lfm_mutex.specs.Belongs.{Beside, Of_mutex, limits_of};
 ghost use Rattle.lfm_mutex.specs.calls.Sight.{sight, Leaves_off, May_leave};
-ghost use Rattle.lfm_condvar.specs.Holds.{Cond_kept, In_hand, Made_for};
+ghost use Rattle.lfm_condvar.specs.Holds.{Cond_kept, In_hand, Leaves_list, Locks_list, Made_for};
 ghost use Rattle.lfm_condvar.specs.Keeping.{Follows};
 
 use crate::waiters::Waiters;
@@ -22,6 +22,7 @@ pub fn lock_list<R: Wait>(
     requires kept { Cond_kept (sight cond.old) }
     ensures belongs { Beside cond.old cond.new }
     ensures held { IfOk result (λ _. (v : _) × In_hand (limits_of inner.now) (sight cond.old) (sight cond.new) v v) }
+    ensures steps { IfOk result (λ _. Locks_list (limits_of inner.now) (sight cond.old) (sight cond.new)) }
     ensures refused { IfErr result (λ r. (r ≡ Spent) × ((limits_of inner.now).budget ≤ (sight cond.old).takes) × (sight cond.new ≡ sight cond.old)) }
 {
     let locked = match inner.lock(rt, cond) {
@@ -41,6 +42,7 @@ pub fn leave_list(inner: &Mutex<Waiters>, cond: &mut Seat<Waiters>)
     requires leaves { May_leave Follows (λ _ _. Unit {0}) (sight cond.old) }
     ensures belongs { Beside cond.old cond.new }
     ensures leaves { Leaves_off (sight cond.old) (sight cond.new) }
+    ensures steps { Leaves_list (limits_of inner.now) (sight cond.old) (sight cond.new) }
     ensures keeps { ((sight cond.new).takes ≡ (sight cond.old).takes) × ((sight cond.new).asleep ≡ (sight cond.old).asleep) }
 {
     match inner.unlock(cond) {

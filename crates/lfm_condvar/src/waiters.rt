@@ -36,6 +36,7 @@ pub struct Waiters {
     pub ghost among: { Among seats list.items } by { Among-prop seats list.items },
     pub ghost room: { seats ≤ deque_capacity list },
     pub ghost counted: { (vec_len counts ≡ seats + 1) × (sum counts.items ≡ added) },
+    pub ghost nobody: { slice_index counts.items 0 ≡ 0 },
     pub ghost within: { All (λ x. x ≤ budget) counts.items },
     pub ghost limits: { (seats < 4096) × (budget ≤ 68719476736) },
 }

@@ -4,7 +4,7 @@ ghost use Rattle.lfm_model.specs.declared.refusals.Refusal.TheVariants.{Busy};
 ghost use Rattle.lfm_mutex.specs.Belongs.{Beside, Of_mutex, limits_of};
 ghost use Rattle.lfm_mutex.specs.calls.Sight.{sight, May_leave};
 ghost use Rattle.lfm_condvar.specs.Belongs.{Of_condvar, cond_limits, cond_sight};
-ghost use Rattle.lfm_condvar.specs.Holds.{Held_once, Rewrites};
+ghost use Rattle.lfm_condvar.specs.Holds.{Held_by, Held_once, Rewrites};
 ghost use Rattle.lfm_condvar.specs.Waits.{Enlists, May_wait, Wait_ends};
 
 use crate::condvars::Condvar;
@@ -54,6 +54,7 @@ impl Condvar {
         requires known { (sight seat.old).number ≤ (cond_limits self.now).seats }
         ensures belongs { Of_condvar cond.new self.now × Beside seat.old seat.new }
         ensures enlists { (v : _) × (w : _) × Held_once (cond_limits self.now).budget (cond_sight cond.old) (cond_sight cond.new) v w × Enlists (limits_of mutex.now) (cond_sight cond.old).number (sight seat.old) (sight seat.new) v w result }
+        ensures steps { Held_by (cond_limits self.now) (cond_sight cond.old) (cond_sight cond.new) }
         ensures busy { IfErr result (λ r. r ≡ Busy) }
     {
         match lock_list(&self.inner, rt, &mut cond.seat) {

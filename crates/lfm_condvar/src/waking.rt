@@ -5,7 +5,7 @@ ghost use Rattle.lfm_mutex.specs.calls.Sight.{sight};
 ghost use Rattle.lfm_condvar.specs.Belongs.{Of_condvar, cond_limits, cond_sight};
 ghost use Rattle.lfm_condvar.specs.Holds.{Rewrites};
 ghost use Rattle.lfm_condvar.specs.Keeping.{Follows};
-ghost use Rattle.lfm_condvar.specs.Wakes.{Sends_all, Sends_oldest, Wake_all_ends, Wake_one_ends};
+ghost use Rattle.lfm_condvar.specs.Wakes.{Sends_all, Sends_by, Sends_oldest, Wake_all_ends, Wake_one_ends};
 
 use crate::condvars::Condvar;
 use crate::holding::{leave_list, lock_list};
@@ -26,6 +26,7 @@ fn send_all<T: Kept>(
     requires awake { (sight seat.old).asleep ≡ false }
     ensures belongs { Beside seat.old seat.new }
     ensures sends { Sends_all (limits_of mutex.now).seats (sight seat.old) (sight seat.new) waiters.old waiters.new result }
+    ensures steps { Sends_by (limits_of mutex.now) (sight seat.old) (sight seat.new) result }
     ensures follows { (s : ℕ) → Follows s waiters.old waiters.new }
 {
     let mut sent = 0u64;
@@ -52,6 +53,7 @@ fn send_oldest_in_hand<T: Kept>(
     requires wide { (v : _) → (sight cond.old).value ≡ Some v → v.seats ≤ (limits_of mutex.now).seats }
     ensures belongs { Beside cond.old cond.new × Beside seat.old seat.new }
     ensures sends { (v : _) × (w : _) × Rewrites (sight cond.old) (sight cond.new) v w × Sends_oldest (limits_of mutex.now).seats (sight seat.old) (sight seat.new) v w result }
+    ensures steps { Sends_by (limits_of mutex.now) (sight seat.old) (sight seat.new) result }
 {
     let Some(waiters) = cond.value_mut() else {
         unreachable!()
@@ -71,6 +73,7 @@ fn send_all_in_hand<T: Kept>(
     requires awake { (sight seat.old).asleep ≡ false }
     ensures belongs { Beside cond.old cond.new × Beside seat.old seat.new }
     ensures sends { (v : _) × (w : _) × Rewrites (sight cond.old) (sight cond.new) v w × Sends_all (limits_of mutex.now).seats (sight seat.old) (sight seat.new) v w result }
+    ensures steps { Sends_by (limits_of mutex.now) (sight seat.old) (sight seat.new) result }
 {
     let Some(waiters) = cond.value_mut() else {
         unreachable!()
@@ -99,6 +102,7 @@ impl Condvar {
         requires wide { (cond_limits self.now).seats ≤ (limits_of mutex.now).seats }
         ensures belongs { Of_condvar cond.new self.now × Beside seat.old seat.new }
         ensures wakes { Wake_one_ends (limits_of mutex.now).seats (cond_limits self.now) (cond_sight cond.old) (cond_sight cond.new) (sight seat.old) (sight seat.new) result }
+        ensures steps { Sends_by (limits_of mutex.now) (sight seat.old) (sight seat.new) result }
     {
         if seat.asleep() {
             return Err(Refusal::Asleep);
@@ -131,6 +135,7 @@ impl Condvar {
         requires wide { (cond_limits self.now).seats ≤ (limits_of mutex.now).seats }
         ensures belongs { Of_condvar cond.new self.now × Beside seat.old seat.new }
         ensures wakes { Wake_all_ends (limits_of mutex.now).seats (cond_limits self.now) (cond_sight cond.old) (cond_sight cond.new) (sight seat.old) (sight seat.new) result }
+        ensures steps { Sends_by (limits_of mutex.now) (sight seat.old) (sight seat.new) result }
     {
         if seat.asleep() {
             return Err(Refusal::Asleep);

@@ -3,7 +3,7 @@ ghost use Rattle.std.specs.Prelude.{◌≡◌, ◌≤◌, ℕ};
 ghost use Rattle.lfm_mutex.specs.Belongs.{Beside, Of_mutex, limits_of};
 ghost use Rattle.lfm_mutex.specs.calls.Sight.{sight};
 ghost use Rattle.lfm_condvar.specs.Keeping.{Follows};
-ghost use Rattle.lfm_condvar.specs.Wakes.{Sends_oldest};
+ghost use Rattle.lfm_condvar.specs.Wakes.{Sends_by, Sends_oldest};
 
 use crate::waiters::Waiters;
 use lfm_model::{Refusal, SeatNo};
@@ -25,6 +25,7 @@ pub fn send_oldest<T: Kept>(
     requires wide { waiters.old.seats ≤ (limits_of mutex.now).seats }
     ensures belongs { Beside seat.old seat.new }
     ensures sends { Sends_oldest (limits_of mutex.now).seats (sight seat.old) (sight seat.new) waiters.old waiters.new result }
+    ensures steps { Sends_by (limits_of mutex.now) (sight seat.old) (sight seat.new) result }
     ensures follows { (s : ℕ) → Follows s waiters.old waiters.new }
 {
     if seat.asleep() {

@@ -1,7 +1,5 @@
 -- Seats and passes as they begin.
-use Rattle.std.proofs.Common.{◌≡◌, ℕ, zero, suc, ◌<◌, ◌≤◌, List, [], ◌∷◌, ◌++◌, length, Some, refl, sym, ◌∙◌, ap, subst, arith}
-use mathlib.Core.Option.{some, some-injective, some-ne-none}
-use lib.ListN.{get_elem?}
+use Rattle.std.proofs.Common.{◌≡◌, ℕ, ◌<◌, ◌≤◌, [], length, Some, refl, sym, ◌∙◌, ap, subst, arith}
 use Rattle.lfm_model.specs.Journals.{own}
 use Rattle.lfm_mutex.specs.declared.mutex.Mutex.{Mutex}
 use Rattle.lfm_mutex.specs.declared.seat.Seat.{Seat}
@@ -11,19 +9,6 @@ use Rattle.lfm_monitor.specs.declared.journals.Journaled.{Journaled}
 use Rattle.lfm_monitor.specs.Begun.{Is_empty}
 use Rattle.lfm_monitor.specs.Passes.{Pass_kept, Began}
 use Rattle.lfm_monitor.proofs.Knowing.{one_some}
-
--- what holds of each item, and of one more, holds of each of both
-pub each_more : {A : Type 0} (P : ℕ → A → Type 0) (xs : List A) (x : A) → ((j : ℕ) (y : A) → get_elem? xs j ≡ some y → P j y) → P (length xs) x
-    → (j : ℕ) (y : A) → get_elem? (xs ++ x ∷ []) j ≡ some y → P j y
-each_more P [] x h last zero y e = subst (λ (z : _). P 0 z) (some-injective x y e) last
-each_more P [] x h last (suc j) y e = absurd (some-ne-none y (sym e))
-each_more P (z ∷ xs) x h last zero y e = h 0 y e
-each_more P (z ∷ xs) x h last (suc j) y e = each_more (λ i a. P (suc i) a) xs x (λ i a q. h (suc i) a q) last j y e
-
-pub in_range : {A : Type 0} (xs : List A) (j : ℕ) (y : A) → get_elem? xs j ≡ some y → j < length xs
-in_range [] j y e = absurd (some-ne-none y (sym e))
-in_range (x ∷ xs) zero y e = omega arith
-in_range (x ∷ xs) (suc j) y e = let h = in_range xs j y e in omega arith
 
 module _ {O A R : Type 0} {K : _} where
   -- a seat of a new mutex round an object with an empty journal

@@ -1,14 +1,24 @@
 -- A monitor and a pass as they begin.
 use Rattle.std.specs.Prelude.{◌≡◌, ℕ, ◌*◌, ◌<◌, ◌≤◌, []}
+use Rattle.lfm_protocol.specs.Limits.{max_seats}
 use Rattle.lfm_mutex.specs.calls.Sight.{new_sight}
 use Rattle.lfm_monitor.specs.declared.journals.Journaled.{Journaled}
 use Rattle.lfm_monitor.specs.declared.monitors.Monitor.{Monitor}
 use Rattle.lfm_monitor.specs.declared.passes.Pass.{Pass}
-use Rattle.lfm_monitor.specs.Belongs.{Of_monitor, mine_of, pass_sight, seen_of}
+use Rattle.lfm_monitor.specs.Belongs.{Of_monitor, cond_seats_of, mine_of, pass_sight, seen_of}
+use Rattle.lfm_monitor.specs.CondSeats.{Are_new_seats}
 
--- 1 to 4,095 passes, each with 1 entry or more, and at most 1,048,576 entries in all
-abbrev pub In_limits : ℕ → ℕ → Type 0
-In_limits seats share = (0 < seats) × (seats ≤ 4095) × (0 < share) × (seats * share ≤ 1048576)
+-- the most entries of a journal
+abbrev pub max_entries : ℕ
+max_entries = 1048576
+
+-- the most conditions of a monitor
+abbrev pub max_conditions : ℕ
+max_conditions = 16
+
+-- 1 to 4,095 passes, each with 1 entry or more, at most 1,048,576 entries in all, and at most 16 conditions
+abbrev pub In_limits : ℕ → ℕ → ℕ → Type 0
+In_limits seats share conditions = (0 < seats) × (seats ≤ max_seats) × (0 < share) × (seats * share ≤ max_entries) × (conditions ≤ max_conditions)
 
 module _ {O A R : Type 0} {K : _} where
   -- an object with an empty journal
@@ -18,10 +28,11 @@ module _ {O A R : Type 0} {K : _} where
     pub seats_are : v.seats ≡ seats
     pub share_is : v.share ≡ share
 
-  -- the pass with this number has done nothing and seen nothing
+  -- the pass with this number has done nothing and seen nothing, and nobody has waited on the conditions
   pub record New_pass (m : Monitor O A R K) (number : ℕ) (p : Pass O A R K) : Type 0 where
     pub belongs : Of_monitor p m
     pub empty : Journaled O A R K
     pub nothing : empty.journal.items ≡ []
     pub sees : pass_sight p ≡ new_sight empty number
     pub counts : (seen_of p ≡ 0) × (mine_of p ≡ 0)
+    pub cond_seats : Are_new_seats number (cond_seats_of p)

@@ -1,10 +1,13 @@
 -- What belongs to a monitor. Contracts name a monitor and its passes by these words alone.
-use Rattle.std.specs.Prelude.{◌≡◌, ℕ}
+use Rattle.std.specs.Prelude.{◌≡◌, ℕ, List, length}
 use Rattle.lfm_mutex.specs.Belongs.{Of_mutex, limits_of}
 use Rattle.lfm_mutex.specs.calls.Sight.{Sight, sight}
+use Rattle.lfm_condvar.specs.declared.condvars.Condvar.{Condvar}
+use Rattle.lfm_condvar.specs.declared.seats.CondSeat.{CondSeat}
 use Rattle.lfm_monitor.specs.declared.journals.Journaled.{Journaled}
 use Rattle.lfm_monitor.specs.declared.monitors.Monitor.{Monitor}
 use Rattle.lfm_monitor.specs.declared.passes.Pass.{Pass}
+use Rattle.lfm_monitor.specs.CondSeats.{Of_conditions}
 use Rattle.lfm_monitor.specs.Passes.{Began}
 
 module _ {O A R : Type 0} {K : _} where
@@ -20,13 +23,25 @@ module _ {O A R : Type 0} {K : _} where
   abbrev pub share_of : Monitor O A R K → ℕ
   share_of m = m.share
 
+  -- the conditions of the monitor, in order
+  abbrev pub conditions_in : Monitor O A R K → List Condvar
+  conditions_in m = m.conditions.items
+
+  -- how many conditions the monitor has
+  abbrev pub conditions_of : Monitor O A R K → ℕ
+  conditions_of m = length (conditions_in m)
+
+  -- the pass's cond seats, one of each condition, in their order
+  abbrev pub cond_seats_of : Pass O A R K → List CondSeat
+  cond_seats_of p = p.cond_seats.items
+
   -- the pass is one of the monitor's
   abbrev pub Of_monitor : Pass O A R K → Monitor O A R K → Type 0
-  Of_monitor p m = Of_mutex p.seat m.mutex × Began (opening_of m) (passes_of m) (share_of m) (sight p.seat)
+  Of_monitor p m = Of_mutex p.seat m.mutex × Began (opening_of m) (passes_of m) (share_of m) (sight p.seat) × Of_conditions (cond_seats_of p) (conditions_in m)
 
   -- this is the same monitor
   abbrev pub Is_same : Monitor O A R K → Monitor O A R K → Type 0
-  Is_same m n = (m.mutex ≡ n.mutex) × (m.opening ≡ n.opening) × (m.share ≡ n.share)
+  Is_same m n = (m.mutex ≡ n.mutex) × (m.opening ≡ n.opening) × (m.share ≡ n.share) × (m.conditions ≡ n.conditions)
 
   -- the pass's seat as the mutex shows it
   abbrev pub pass_sight : Pass O A R K → Sight (Journaled O A R K)

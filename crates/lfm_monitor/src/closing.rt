@@ -34,6 +34,7 @@ impl<O: Object> Monitor<O> {
             mutex,
             opening,
             share,
+            conditions,
         } = self;
         match mutex.close(passes) {
             Err((mutex, passes, missing)) => Err((
@@ -41,6 +42,7 @@ impl<O: Object> Monitor<O> {
                     mutex,
                     opening,
                     share,
+                    conditions,
                 },
                 passes,
                 missing,

@@ -18,6 +18,7 @@ impl<O: Object> Holder<Journaled<O>> for Pass<O> {
             seat,
             seen: _,
             mine: _,
+            cond_seats: _,
         } = self;
         seat
     }

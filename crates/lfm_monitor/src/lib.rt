@@ -16,4 +16,5 @@ mod writing;
 
 pub use journals::Journaled;
 pub use monitors::Monitor;
+pub use opening::{MAX_CONDITIONS, MAX_ENTRIES};
 pub use passes::Pass;

@@ -4,6 +4,7 @@ ghost use Rattle.lfm_mutex.specs.calls.Sight.{sight};
 ghost use Rattle.lfm_monitor.specs.Passes.{Pass_kept};
 
 use crate::journals::Journaled;
+use lfm_condvar::CondSeat;
 use lfm_model::{Object, SeatNo};
 use lfm_mutex::Seat;
 
@@ -14,6 +15,7 @@ pub struct Pass<O: Object> {
     pub(crate) seat: Seat<Journaled<O>>,
     pub(crate) seen: u64,
     pub(crate) mine: u64,
+    pub(crate) cond_seats: Vec<CondSeat>,
     pub ghost kept: { Pass_kept (sight seat) seen mine },
 }
 

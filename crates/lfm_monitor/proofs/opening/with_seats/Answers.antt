@@ -1,40 +1,30 @@
-use Rattle.std.proofs.Common.{arith, ap, sym, ◌∙◌, refl, subst, ◌≡◌, ◌+◌, ◌∷◌, ℕ, suc, length}
-use mathlib.Core.Option.{some, some-ne-none}
+use Rattle.std.proofs.Common.{◌≡◌, ℕ, length, refl, ◌∙◌, ap, subst, arith}
+use mathlib.Core.Option.{some}
 use lib.ListN.{get_elem?}
-use Rattle.std.specs.Vec.Iter.{into_iter_items}
+use Rattle.std.proofs.lemmas.Iterator.{YieldsList-from_zip}
+use Rattle.std.proofs.lemmas.Iterator.Adapters.{YieldsList-from_vec}
+use Rattle.std.proofs.lemmas.Iterator.Consumers.{YieldsList-turn}
+use Rattle.std.proofs.lemmas.List.{length_push}
 use Rattle.lfm_monitor.specs.declared.passes.Pass.{Pass}
-use Rattle.lfm_monitor.proofs.Starting.{each_more}
+use Rattle.lfm_monitor.proofs.Places.{each_more, stand_both}
 use Rattle.lfm_monitor.proofs.opening.with_seats.Goals as goal
 
-pub loop-seat-init : goal.loop-seat-init
-loop-seat-init g c = let from = c.into_iter-seat-iterator.ensures.into_iter_gives.0 in let r = c.requires.room in let o = c.args.seats.ok in record {
-  long = (let l = c.into_iter-seat-iterator.ensures.into_iter_gives.1 in let a = ap length from in let q = o.0 in omega arith);
-  size = (let a = ap length from in let b = ap length r.0 in omega arith, let a = r.1 in omega arith);
-  rest = λ i s at. let e : length c.args.passes.items + i ≡ i = (let b = ap length r.0 in omega arith) in subst (λ (l : _). get_elem? l (length c.args.passes.items + i) ≡ some s) from (subst (λ (n : ℕ). get_elem? (into_iter_items c.into_iter-seat-iterator.result) n ≡ some s) (sym e) at);
-  passes = λ j p at. absurd (some-ne-none p (sym at ∙ ap (λ l. get_elem? l j) r.0));
-}
-
 pub invariant_of-push_reserved : goal.invariant_of-push_reserved
-invariant_of-push_reserved g c = let at = c.loop-seat in let x = c.in-Some.seat in let steps : into_iter_items at.seat-iterator ≡ x ∷ into_iter_items c.next.new.self = c.in-Some.ensures.steps.0 in
-    record { kept = c.requires.kept (length at.passes.items + 0) x (at.invariant.rest 0 x (ap (λ l. get_elem? l 0) steps)) }
+invariant_of-push_reserved g c = let s = c.into_iter-seat-iterator.result in let same = c.into_iter-seat-iterator.ensures.into_iter_gives in let z = c.zip-seat-items.ensures in let f = c.into_iter.ensures in let xs = c.args.seats.items in let ys = c.args.cond_seats.items in
+    let road = YieldsList-from_zip {s = s} (YieldsList-from_vec {s = s.a} xs (ap (λ z. z.a.rest.items) same ∙ (ap (λ i. i.rest.items) z.first ∙ f.rest)) (ap (λ z. z.a.rest.len) same ∙ (ap (λ i. i.rest.len) z.first ∙ (f.len ∙ c.args.seats.ok.0))))
+    (YieldsList-from_vec {s = s.b} ys (ap (λ z. z.b.rest.items) same ∙ z.second.0) (ap (λ z. z.b.rest.len) same ∙ (z.second.1 ∙ c.args.cond_seats.ok.0))) in
+    let t = YieldsList-turn road c.pairs.yielded c.pairs.seat-iterator c.pairs.yielded_by c.next.result c.next.new.self (c.in-Some.seat, c.in-Some.cond_seats) c.in-Some.is c.next.ensures.steps in
+    record { kept = c.requires.kept (length c.pairs.yielded) c.in-Some.seat (stand_both xs ys (length c.pairs.yielded) c.in-Some.seat c.in-Some.cond_seats t.0 t.1).0 }
 
-pub push_reserved-requires : goal.push_reserved-requires
-push_reserved-requires g c = let at = c.loop-seat in let x = c.in-Some.seat in let steps : into_iter_items at.seat-iterator ≡ x ∷ into_iter_items c.next.new.self = c.in-Some.ensures.steps.0 in
-    let a = ap length steps in let z = at.invariant.size in let y = at.passes.ok in omega arith
-
-pub loop-seat-preserved : goal.loop-seat-preserved
-loop-seat-preserved g c = let at = c.loop-seat in let x = c.in-Some.seat in let steps : into_iter_items at.seat-iterator ≡ x ∷ into_iter_items c.next.new.self = c.in-Some.ensures.steps.0 in
-    let i = at.invariant in let more = ap length c.push_reserved.ensures.items in let here = i.rest 0 x (ap (λ l. get_elem? l 0) steps) in record {
-      long = (let a = i.long in let b = c.in-Some.ensures.steps.1 in let d = ap length steps in omega arith);
-      size = (let a = ap length steps in let z = i.size in omega arith, c.push_reserved.ensures.capacity ∙ i.size.1);
-      rest = λ k s q. let was = i.rest (suc k) s (ap (λ l. get_elem? l (suc k)) steps ∙ q) in
-          let e : length at.passes.items + suc k ≡ length c.push_reserved.new.self.items + k = omega arith in subst (λ (n : ℕ). get_elem? c.args.seats.items n ≡ some s) e was;
-      passes = λ j p q. each_more (λ (j : ℕ) (p : Pass g.row.O.Denot g.row.O-Op.Denot g.row.O-Reply.Denot g.O.Object). (get_elem? c.args.seats.items j ≡ some p.seat) × (p.seen ≡ 0) × (p.mine ≡ 0)) at.passes.items _ i.passes
-          (let e : length at.passes.items + 0 ≡ length at.passes.items = omega arith in (subst (λ (n : ℕ). get_elem? c.args.seats.items n ≡ some x) e here, refl, refl)) j p (subst (λ l. get_elem? l j ≡ some p) c.push_reserved.ensures.items q);
+pub pairs-preserved : goal.pairs-preserved
+pairs-preserved g c = let s = c.into_iter-seat-iterator.result in let same = c.into_iter-seat-iterator.ensures.into_iter_gives in let z = c.zip-seat-items.ensures in let f = c.into_iter.ensures in let xs = c.args.seats.items in let ys = c.args.cond_seats.items in
+    let road = YieldsList-from_zip {s = s} (YieldsList-from_vec {s = s.a} xs (ap (λ z. z.a.rest.items) same ∙ (ap (λ i. i.rest.items) z.first ∙ f.rest)) (ap (λ z. z.a.rest.len) same ∙ (ap (λ i. i.rest.len) z.first ∙ (f.len ∙ c.args.seats.ok.0))))
+    (YieldsList-from_vec {s = s.b} ys (ap (λ z. z.b.rest.items) same ∙ z.second.0) (ap (λ z. z.b.rest.len) same ∙ (z.second.1 ∙ c.args.cond_seats.ok.0))) in
+    let t = YieldsList-turn road c.pairs.yielded c.pairs.seat-iterator c.pairs.yielded_by c.next.result c.next.new.self (c.in-Some.seat, c.in-Some.cond_seats) c.in-Some.is c.next.ensures.steps in
+    let both = stand_both xs ys (length c.pairs.yielded) c.in-Some.seat c.in-Some.cond_seats t.0 t.1 in let i = c.pairs.invariant in let p = c.push_reserved.ensures in
+    let long : length c.pairs.yielded ≡ length c.pairs.passes.items = (let a = i.size.0 in let o = c.pairs.passes.ok in omega arith) in
+    record {
+      size = (let n = length_push c.pairs.yielded (c.in-Some.seat, c.in-Some.cond_seats) in let a = i.size.0 in let l = p.len in omega arith, p.capacity ∙ i.size.1);
+      passes = each_more (λ (j : ℕ) (p : Pass g.row.O.Denot g.row.O-Op.Denot g.row.O-Reply.Denot g.O.Object). (get_elem? xs j ≡ some p.seat) × (get_elem? ys j ≡ some p.cond_seats) × (p.seen ≡ 0) × (p.mine ≡ 0)) c.pairs.passes.items c.push_reserved.new.self.items _ p.items i.passes
+          (subst (λ (n : ℕ). get_elem? xs n ≡ some c.in-Some.seat) long both.0, subst (λ (n : ℕ). get_elem? ys n ≡ some c.in-Some.cond_seats) long both.1, refl, refl);
     }
-
-pub returns : goal.returns
-returns g c = let i = c.loop-seat.invariant in record {
-  count = (let z = i.size in let l = i.long in let n = c.in-None.ensures.steps.0 in let a = c.loop-seat.passes.ok in let b = c.args.seats.ok in omega arith);
-  passes = i.passes;
-}

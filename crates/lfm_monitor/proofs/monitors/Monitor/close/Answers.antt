@@ -34,8 +34,8 @@ returns-in-Ok-clause-legal g c = let m = c.args.self in let v = c.in-Ok.journale
     (v.legal ∙ ap (λ s. after_all g.O.Object.after s v.journal.items) e.0, v.lawful)
 
 pub returns-in-Err-clause-back : goal.returns-in-Err-clause-back
-returns-in-Err-clause-back g c j p at = let m = c.in-Err.ensures.missing in
-    kept_of c.args.self.mutex c.in-Err.mutex (opening_of c.args.self) (share_of c.args.self) p (sym m.0) (c.requires.belongs j p (ap (λ (ps : _). get_elem? ps.items j) (sym m.1) ∙ at))
+returns-in-Err-clause-back g c j p at = let m = c.in-Err.ensures.missing in let o = c.requires.belongs j p (ap (λ (ps : _). get_elem? ps.items j) (sym m.1) ∙ at) in
+    let k = kept_of c.args.self.mutex c.in-Err.mutex (opening_of c.args.self) (share_of c.args.self) p (sym m.0) (o.0, o.1) in (k.0, k.1, o.2)
 
 pub returns-in-Err-clause-kept : goal.returns-in-Err-clause-kept
-returns-in-Err-clause-kept g c p of = kept_of c.args.self.mutex c.in-Err.mutex (opening_of c.args.self) (share_of c.args.self) p (sym c.in-Err.ensures.missing.0) of
+returns-in-Err-clause-kept g c p o = let k = kept_of c.args.self.mutex c.in-Err.mutex (opening_of c.args.self) (share_of c.args.self) p (sym c.in-Err.ensures.missing.0) (o.0, o.1) in (k.0, k.1, o.2)

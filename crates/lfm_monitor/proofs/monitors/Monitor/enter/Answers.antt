@@ -22,6 +22,7 @@ returns-clause-belongs g c = let p = c.args.pass.now in let m = c.args.self.now 
   of_next m.mutex c.lock.new.seat c.write_took.new.seat (of_next m.mutex p.seat c.lock.new.seat c.requires.belongs.0 c.lock.ensures.belongs) w.6,
   (arrived c.in-Held.how (sight p.seat) c.lock.new.seat c.write_took.new.seat p.seen p.mine (opening_of m) (passes_of m) (share_of m) p.kept c.requires.belongs.1
       (gained c.in-Held.how (limits_of m.mutex).budget (sight p.seat) (sight c.lock.new.seat) gains) w).still,
+  c.requires.belongs.2,
 )
 
 pub returns-clause-enters : goal.returns-clause-enters

@@ -1,6 +1,7 @@
 use Rattle.std.proofs.Common.{arith, ap, ◌∙◌, ◌+◌}
 use Rattle.lfm_mutex.specs.Belongs.{limits_of}
-use Rattle.lfm_monitor.proofs.Starting.{in_range, new_kept, new_of}
+use Rattle.lfm_monitor.proofs.Places.{in_range}
+use Rattle.lfm_monitor.proofs.Starting.{new_kept, new_of}
 use Rattle.lfm_monitor.proofs.monitors.Monitor.new.Goals as goal
 
 pub with_seats-requires-clause-kept : goal.with_seats-requires-clause-kept
@@ -13,15 +14,17 @@ pub returns-clause-passes : goal.returns-clause-passes
 returns-clause-passes g c = let e = c.in-Ok-new.ensures in let w = c.with_seats.ensures in (
   w.count ∙ e.seats.0,
   λ j p at.
-      let was = w.passes j p at in let one = e.seats.1 j p.seat was.0 in let empty = c.in_ok-empty.ensures.empty in record {
+      let was = w.passes j p at in let one = e.seats.1 j p.seat was.0 in let empty = c.in_ok-empty.ensures.empty in let of = c.in_ok-conditions.ensures.seats.1 j p.cond_seats was.1 in record {
         belongs = (
           one.0,
           new_of c.args.object c.of-opening.result.value c.args.seats (limits_of c.in-Ok-new.mutex).seats c.args.entries_per_seat (j + 1) c.in-Ok-new.mutex p.seat
               (record { of = one.0; empty = c.in_ok-empty.empty; is = empty; sees = one.1 }) c.of-opening.ensures (ap (λ l. l.seats) e.limits.0),
+          of.0,
         );
         empty = c.in_ok-empty.empty;
         nothing = empty.nothing;
         sees = one.1;
-        counts = (was.1, was.2);
+        counts = (was.2, was.3);
+        cond_seats = of.1;
       },
 )

@@ -21,6 +21,7 @@ returns-clause-belongs g c = let p = c.args.pass.now in let m = c.args.self.now 
   of_next m.mutex c.try_receive.new.seat c.write_took.new.seat (of_next m.mutex p.seat c.try_receive.new.seat c.requires.belongs.0 c.try_receive.ensures.belongs) w.6,
   (arrived c.in-Some.how (sight p.seat) c.try_receive.new.seat c.write_took.new.seat p.seen p.mine (opening_of m) (passes_of m) (share_of m) p.kept c.requires.belongs.1
       (woken c.in-Some.how (sight p.seat) (sight c.try_receive.new.seat) p.seen p.mine p.kept wakes) w).still,
+  c.requires.belongs.2,
 )
 
 pub returns-clause-enters : goal.returns-clause-enters

@@ -1,0 +1,57 @@
+-- Items by their place in a list.
+use Rattle.std.proofs.Common.{◌≡◌, ◌≢◌, ◌⊎◌, ⊎_elim, inl, inr, ℕ, zero, suc, ◌<◌, List, [], ◌∷◌, ◌++◌, length, get_or, set, refl, sym, ◌∙◌, ap, subst, arith}
+use Rattle.std.specs.List.{zip}
+use mathlib.Core.Option.{some, some-injective, some-ne-none}
+use lib.ListN.{get_elem?}
+
+-- what holds of each item, and of one more, holds of each of both
+pub each_more : {A : Type 0} (P : ℕ → A → Type 0) (xs ys : List A) (x : A) → ys ≡ xs ++ x ∷ [] → ((j : ℕ) (y : A) → get_elem? xs j ≡ some y → P j y) → P (length xs) x
+    → (j : ℕ) (y : A) → get_elem? ys j ≡ some y → P j y
+each_more P xs ys x is h last j y e = each P xs x h last j y (ap (λ l. get_elem? l j) (sym is) ∙ e) where
+  each : {A : Type 0} (P : ℕ → A → Type 0) (xs : List A) (x : A) → ((j : ℕ) (y : A) → get_elem? xs j ≡ some y → P j y) → P (length xs) x
+      → (j : ℕ) (y : A) → get_elem? (xs ++ x ∷ []) j ≡ some y → P j y
+  each P [] x h last zero y e = subst (λ (z : _). P 0 z) (some-injective x y e) last
+  each P [] x h last (suc j) y e = absurd (some-ne-none y (sym e))
+  each P (z ∷ xs) x h last zero y e = h 0 y e
+  each P (z ∷ xs) x h last (suc j) y e = each (λ i a. P (suc i) a) xs x (λ i a q. h (suc i) a q) last j y e
+
+pub in_range : {A : Type 0} (xs : List A) (j : ℕ) (y : A) → get_elem? xs j ≡ some y → j < length xs
+in_range [] j y e = absurd (some-ne-none y (sym e))
+in_range (x ∷ xs) zero y e = omega arith
+in_range (x ∷ xs) (suc j) y e = let h = in_range xs j y e in omega arith
+
+-- an item that is read at a place stands there
+pub stands : {A : Type 0} (xs : List A) (i : ℕ) (x : A) → i < length xs → x ≡ get_or xs i x → get_elem? xs i ≡ some x
+stands [] i x h e = absurd (omega arith)
+stands (y ∷ xs) zero x h e = ap some (sym e)
+stands (y ∷ xs) (suc i) x h e = stands xs i x (omega arith) e
+
+-- the last item, and those before it
+pub stands_last : {A : Type 0} (xs : List A) (x : A) → get_elem? (xs ++ x ∷ []) (length xs) ≡ some x
+stands_last [] x = refl
+stands_last (y ∷ xs) x = stands_last xs x
+
+pub stands_before : {A : Type 0} (xs ys : List A) (j : ℕ) (y : A) → get_elem? xs j ≡ some y → get_elem? (xs ++ ys) j ≡ some y
+stands_before [] ys j y e = absurd (some-ne-none y (sym e))
+stands_before (x ∷ xs) ys zero y e = e
+stands_before (x ∷ xs) ys (suc j) y e = stands_before xs ys j y e
+
+-- what stands at a place is what was put there, or else what stood there before
+pub stands_or_was : {A : Type 0} (xs : List A) (i : ℕ) (x : A) (j : ℕ) (y : A) → get_elem? (set xs i x) j ≡ some y → ((j ≡ i) × (y ≡ x)) ⊎ ((j ≢ i) × (get_elem? xs j ≡ some y))
+stands_or_was [] i x j y e = absurd (some-ne-none y (sym e))
+stands_or_was (z ∷ xs) zero x zero y e = inl (refl, sym (some-injective x y e))
+stands_or_was (z ∷ xs) zero x (suc j) y e = inr ((λ q. omega arith), e)
+stands_or_was (z ∷ xs) (suc i) x zero y e = inr ((λ q. omega arith), e)
+stands_or_was (z ∷ xs) (suc i) x (suc j) y e = ⊎_elim (λ u. inl (ap suc u.0, u.1)) (λ u. inr ((λ q. u.0 (omega arith)), u.1)) (stands_or_was xs i x j y e)
+
+pub stood_before : {A : Type 0} (xs ys : List A) (j : ℕ) (y : A) → j < length xs → get_elem? (xs ++ ys) j ≡ some y → get_elem? xs j ≡ some y
+stood_before [] ys j y h e = absurd (omega arith)
+stood_before (x ∷ xs) ys zero y h e = e
+stood_before (x ∷ xs) ys (suc j) y h e = stood_before xs ys j y (omega arith) e
+
+-- a pair of two lists has an item of each, from the same place
+pub stand_both : {A B : Type 0} (xs : List A) (ys : List B) (i : ℕ) (x : A) (y : B) → i < length (zip xs ys) → (x, y) ≡ get_or (zip xs ys) i (x, y) → (get_elem? xs i ≡ some x) × (get_elem? ys i ≡ some y)
+stand_both [] ys i x y h e = absurd (omega arith)
+stand_both (z ∷ xs) [] i x y h e = absurd (omega arith)
+stand_both (z ∷ xs) (w ∷ ys) zero x y h e = (ap (λ p. some p.0) (sym e), ap (λ p. some p.1) (sym e))
+stand_both (z ∷ xs) (w ∷ ys) (suc i) x y h e = stand_both xs ys i x y (omega arith) e

@@ -1,0 +1,37 @@
+-- The conditions of a monitor, and the cond seats that a pass has of them: one of each, in their order.
+use Rattle.std.specs.Prelude.{◌≡◌, ℕ, List, length}
+use mathlib.Core.Option.{some}
+use lib.ListN.{get_elem?}
+use Rattle.lfm_protocol.specs.declared.limits.Limits.{Limits}
+use Rattle.lfm_protocol.specs.Limits.{max_budget}
+use Rattle.lfm_mutex.specs.calls.Sight.{new_sight}
+use Rattle.lfm_condvar.specs.declared.condvars.Condvar.{Condvar}
+use Rattle.lfm_condvar.specs.declared.seats.CondSeat.{CondSeat}
+use Rattle.lfm_condvar.specs.declared.waiters.Waiters.{Waiters}
+use Rattle.lfm_condvar.specs.Belongs.{Of_condvar, cond_limits, cond_sight}
+use Rattle.lfm_condvar.specs.Keeping.{Is_new}
+
+-- what a condition of a monitor with so many passes allows: a seat for each, and as many waits and wakes as can be
+abbrev pub condition_limits : ℕ → Limits
+condition_limits seats = record { seats = seats; budget = max_budget }
+
+-- these are the conditions of a monitor with so many passes
+abbrev pub Are_conditions : ℕ → List Condvar → Type 0
+Are_conditions seats conditions = (i : ℕ) (v : Condvar) → get_elem? conditions i ≡ some v → cond_limits v ≡ condition_limits seats
+
+-- there is a cond seat for each condition, at the same place
+abbrev pub Of_conditions : List CondSeat → List Condvar → Type 0
+Of_conditions seats conditions =
+    (length seats ≡ length conditions) × ((i : ℕ) (c : CondSeat) (v : Condvar) → get_elem? seats i ≡ some c → get_elem? conditions i ≡ some v → Of_condvar c v)
+
+-- the cond seat with this number has done nothing, and nobody has waited on its condition
+abbrev pub Is_new_seat : ℕ → CondSeat → Type 0
+Is_new_seat number c = (nobody : Waiters) × Is_new nobody × (cond_sight c ≡ new_sight nobody number)
+
+-- all these cond seats are so
+abbrev pub Are_new_seats : ℕ → List CondSeat → Type 0
+Are_new_seats number seats = (i : ℕ) (c : CondSeat) → get_elem? seats i ≡ some c → Is_new_seat number c
+
+-- the cond seats of a new pass with this number
+abbrev pub Are_new_of : ℕ → List CondSeat → List Condvar → Type 0
+Are_new_of number seats conditions = Of_conditions seats conditions × Are_new_seats number seats

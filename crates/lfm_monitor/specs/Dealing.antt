@@ -1,0 +1,14 @@
+-- Items that are put at the end of lists.
+use Rattle.std.specs.Prelude.{◌≡◌, ℕ, List, [], ◌∷◌, ◌++◌, vec_capacity}
+use Rattle.std.specs.Global.{Vec}
+use mathlib.Core.Option.{some}
+use lib.ListN.{get_elem?}
+
+-- the list l is the one that stood at the place j, with the item of that place at its end
+pub record Dealt {A : Type 0} (lists : List (Vec A)) (items : List A) (j : ℕ) (l : Vec A) : Type 0 where
+  pub old : Vec A
+  pub item : A
+  pub was : get_elem? lists j ≡ some old
+  pub dealt : get_elem? items j ≡ some item
+  pub grown : l.items ≡ old.items ++ item ∷ []
+  pub room : vec_capacity l ≡ vec_capacity old

@@ -1,11 +1,15 @@
-//! What the programs do beside the core: how outcomes become messages and exit statuses, and how a schedule is driven
-//! through a running mutex.
+//! What the programs do beside the core: how outcomes become messages and exit statuses, how a schedule is driven through a
+//! running mutex, and what a script of workers is.
 #![tactic(auto)]
 
 pub mod driving;
+pub mod faults;
 pub mod reporting;
+pub mod script;
 pub mod statuses;
 
 pub use driving::{drive, follow};
+pub use faults::WorkFault;
 pub use reporting::report;
+pub use script::{Command, MAX_CONDITIONS, MAX_NUMBER, MAX_WORKERS, Script, ScriptLine};
 pub use statuses::replay_status;

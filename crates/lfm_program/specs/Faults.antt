@@ -1,0 +1,15 @@
+-- The faults of a run of workers that come from its reader or its writer.
+use Rattle.lfm_program.specs.declared.faults.WorkFault.{WorkFault}
+use Rattle.lfm_program.specs.declared.faults.WorkFault.TheVariants as Work
+use Rattle.lfm_text.specs.declared.faults.InputFault.{InputFault}
+use Rattle.lfm_text.specs.declared.faults.InputFault.TheVariants.{Read, Memory}
+use Rattle.lfm_text.specs.declared.faults.WriteFault.{WriteFault}
+
+-- why the input was not read
+abbrev pub input_fault : InputFault → WorkFault
+input_fault Read = Work.Read
+input_fault Memory = Work.Memory
+
+-- why the output was not written
+abbrev pub output_fault : WriteFault → WorkFault
+output_fault fault = Work.Write

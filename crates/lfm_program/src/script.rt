@@ -1,4 +1,11 @@
-//! What a script of workers is: how many workers and conditions there are, and what each worker does.
+//! What a script of workers is: how many workers and conditions there are, and what each worker does. How it is
+//! read, and the commands of each worker, stand in the modules below.
+
+pub mod grammar_laws;
+mod limits;
+mod reading;
+
+pub use reading::read_script;
 
 /// The most workers of a script.
 pub const MAX_WORKERS: u64 = 4_095;

@@ -1,4 +1,5 @@
--- The faults of a run of workers that come from its reader or its writer.
+-- The faults of a run of workers that come from its reader, its writer or a request for memory.
+use Rattle.std.specs.declared.alloc.AllocError.{AllocError}
 use Rattle.lfm_program.specs.declared.faults.WorkFault.{WorkFault}
 use Rattle.lfm_program.specs.declared.faults.WorkFault.TheVariants as Work
 use Rattle.lfm_text.specs.declared.faults.InputFault.{InputFault}
@@ -13,3 +14,7 @@ input_fault Memory = Work.Memory
 -- why the output was not written
 abbrev pub output_fault : WriteFault → WorkFault
 output_fault fault = Work.Write
+
+-- a request for memory was refused
+abbrev pub memory_fault : AllocError → WorkFault
+memory_fault refused = Work.Memory

@@ -1,9 +1,10 @@
 //! Why a script was not read, or not run to its end.
 
 ghost use Rattle.std.specs.Prelude.{◌≡◌};
-ghost use Rattle.lfm_program.specs.Faults.{input_fault, output_fault};
+ghost use Rattle.lfm_program.specs.Faults.{input_fault, memory_fault, output_fault};
 
 use lfm_text::{InputFault, WriteFault};
+use std::alloc::AllocError;
 use thiserror::Error;
 
 /// Why no script was read or run to its end.
@@ -45,5 +46,13 @@ impl From<WriteFault> for WorkFault {
 
     fn from(_fault: WriteFault) -> WorkFault {
         WorkFault::Write
+    }
+}
+
+impl From<AllocError> for WorkFault {
+    ghost from_gives = { λ e r. r ≡ memory_fault e };
+
+    fn from(_fault: AllocError) -> WorkFault {
+        WorkFault::Memory
     }
 }

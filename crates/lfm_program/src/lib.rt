@@ -11,5 +11,5 @@ pub mod statuses;
 pub use driving::{drive, follow};
 pub use faults::WorkFault;
 pub use reporting::report;
-pub use script::{Command, MAX_CONDITIONS, MAX_NUMBER, MAX_WORKERS, Script, ScriptLine, read_script};
+pub use script::{Command, MAX_CONDITIONS, MAX_NUMBER, MAX_WORKERS, Script, ScriptLine, commands_by_worker, read_script};
 pub use statuses::replay_status;

@@ -1,10 +1,12 @@
 //! What a script of workers is: how many workers and conditions there are, and what each worker does. How it is
 //! read, and the commands of each worker, stand in the modules below.
 
+mod commands;
 pub mod grammar_laws;
 mod limits;
 mod reading;
 
+pub use commands::commands_by_worker;
 pub use reading::read_script;
 
 /// The most workers of a script.

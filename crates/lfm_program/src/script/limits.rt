@@ -6,7 +6,7 @@ ghost use Rattle.lfm_program.specs.script.Limits.{is_there, command_allowed, lin
 use crate::script::{Command, MAX_CONDITIONS, MAX_NUMBER, MAX_WORKERS, ScriptLine};
 
 /// Whether there is one of this number, counted from 1, among so many.
-fn is_there(number: u64, count: u64) -> bool
+pub fn is_there(number: u64, count: u64) -> bool
     ensures { result ≡ is_there number count }
 {
     1 <= number && number <= count

@@ -84,7 +84,7 @@ fn read_lines(alloc: Global, text: &[u8], count: usize) -> Result<Vec<ScriptLine
     ensures all { IfOk result (λ v. length v.items ≡ count) }
     ensures memory { IsErrOf result WorkFault.Memory → 0 < count }
 {
-    let mut lines = Vec::with_capacity(alloc, count).map_err(|_| WorkFault::Memory)?;
+    let mut lines = Vec::with_capacity(alloc, count)?;
     let mut rest = text;
     let mut number = 2;
     'reading: while let Some((line, after)) = first_line(rest) {

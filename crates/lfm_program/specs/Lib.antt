@@ -1,3 +1,7 @@
+pub mod Adds
 pub mod Faults
+pub mod Report
+pub mod Rows
 pub mod Statuses
+pub mod Works
 pub mod script

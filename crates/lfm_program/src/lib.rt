@@ -1,15 +1,26 @@
 //! What the programs do beside the core: how outcomes become messages and exit statuses, how a schedule is driven through a
-//! running mutex, and what a script of workers is.
+//! running mutex, what a script of workers is, and what is reported of its run.
 #![tactic(auto)]
 
 pub mod driving;
 pub mod faults;
+pub mod gates;
 pub mod reporting;
+pub mod rows;
 pub mod script;
+pub mod starting_line;
 pub mod statuses;
+pub mod work_report;
 
 pub use driving::{drive, follow};
 pub use faults::WorkFault;
+pub use gates::{Gate, Meet, OpenGate};
 pub use reporting::report;
-pub use script::{Command, MAX_CONDITIONS, MAX_NUMBER, MAX_WORKERS, Script, ScriptLine, commands_by_worker, read_script};
-pub use statuses::replay_status;
+pub use rows::Row;
+pub use script::{
+    Command, MAX_CONDITIONS, MAX_NUMBER, MAX_WORKERS, Script, ScriptLine, commands_by_worker,
+    read_script,
+};
+pub use starting_line::{Start, StartingLine};
+pub use statuses::{replay_status, status};
+pub use work_report::{write_fault, write_report};

@@ -1,0 +1,95 @@
+//! Gates: they are asked before each command of a worker whether it goes on.
+
+ghost use Rattle.std.specs.Prelude.{◌≢◌, IsTrue};
+
+use crossbeam_utils::CachePadded;
+use std::sync::atomic::{AtomicU64, Ordering};
+
+/// Is asked before each command of each worker, by the threads of all workers.
+pub trait Gate: Sync {
+    /// Whether the worker of this number makes its command of this number. Both are counted from 1.
+    fn before(&self, worker: u64, command: u64) -> bool;
+}
+
+/// A gate that lets every worker go on.
+#[derive(Clone, Copy, Debug)]
+pub struct OpenGate;
+
+impl Gate for OpenGate {
+    fn before(&self, _worker: u64, _command: u64) -> bool
+        ensures { IsTrue result }
+    {
+        true
+    }
+}
+
+/// The mark of worker 1.
+const FIRST: u64 = 1;
+
+/// The mark of worker 2.
+const SECOND: u64 = 2;
+
+/// The marks of both.
+const BOTH: u64 = 3;
+
+/// One of them came alone and gave up. Marks of later arrivals may join it.
+const GIVEN_UP: u64 = 4;
+
+/// A gate that holds the first commands of workers 1 and 2 until both have arrived, for at most so many turns each.
+///
+/// It takes no runtime and never sleeps: each of the two looks at most so many times. A first command of worker 1 or 2 is
+/// answered true where both have arrived. It is answered false where its worker saw only its own mark in all its turns and
+/// gave up, or where the other had given up before. After one answer false no later arrival is answered true, also not of
+/// a worker that arrives again. All other commands and workers are answered true at once.
+#[derive(Drop)]
+pub struct Meet {
+    arrived: CachePadded<AtomicU64>,
+    limit: u64,
+}
+
+impl Meet {
+    /// A gate at which nobody has arrived yet. `limit` is the number of turns; at 0 the first to come gives up at once.
+    pub fn new(limit: u64) -> Meet {
+        Meet {
+            arrived: CachePadded::new(AtomicU64::new(0)),
+            limit,
+        }
+    }
+
+    /// Marks the arrival of one worker and looks for the other's. Returns whether both have arrived.
+    fn meet(&self, mark: u64) -> bool {
+        let arrived: &AtomicU64 = &self.arrived;
+        let before = arrived.fetch_or(mark, Ordering::SeqCst);
+        if before >= GIVEN_UP {
+            return false;
+        }
+        if (before | mark) == BOTH {
+            return true;
+        }
+        for _ in 0..self.limit {
+            if arrived.load(Ordering::SeqCst) == BOTH {
+                return true;
+            }
+        }
+        // Another thread of the same mark may have given up meanwhile, so a failed exchange alone doesn't tell that the
+        // other worker came.
+        match arrived.compare_exchange(mark, GIVEN_UP, Ordering::SeqCst, Ordering::SeqCst) {
+            Ok(_) => false,
+            Err(seen) => seen == BOTH,
+        }
+    }
+}
+
+impl Gate for Meet {
+    fn before(&self, worker: u64, command: u64) -> bool
+        // Later commands are not held, and no other worker is.
+        ensures later { (command ≢ 1) → IsTrue result }
+        ensures others { (worker ≢ 1) → (worker ≢ 2) → IsTrue result }
+    {
+        match (worker, command) {
+            (1, 1) => self.meet(FIRST),
+            (2, 1) => self.meet(SECOND),
+            _ => true,
+        }
+    }
+}

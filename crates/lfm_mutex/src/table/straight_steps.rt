@@ -78,7 +78,7 @@ pub fn store_held<T: Kept>(
     number: u64,
     limits: Limits,
     plain: &SeatState,
-) -> u64
+)
     requires table { place.old.table_id ≡ table.now.table_id }
     requires fit { Fit number place.old.table_id.words place.old.id limits plain.now place.old.me moving.now }
     requires kind { kind plain.now.point ≡ Some KindNow.OwnerStore }
@@ -86,9 +86,9 @@ pub fn store_held<T: Kept>(
     requires keeps { drops_oldest plain.now ≡ false }
     requires leaves { (r : Releaser) → plain.now.point ≡ ReleaseOwnerStore r → Leaves T.follows T.fits moving.now place.old.me.0 }
     ensures table { place.new.table_id ≡ place.old.table_id }
-    ensures step { Made_step T.follows T.fits number place.new.table_id.words place.new.id limits plain.now result place.old.me moving.now place.new.me moving.now }
+    ensures step { (n : ℕ) × Made_step T.follows T.fits number place.new.table_id.words place.new.id limits plain.now n place.old.me moving.now place.new.me moving.now }
 {
-    store_owner::<T, Brand>(table, place, plain, moving, number, limits.seats)
+    store_owner::<T, Brand>(table, place, plain, moving, number, limits.seats);
 }
 
 /// Loads the owner, for a seat that holds.
@@ -120,16 +120,16 @@ pub fn subtract_held<T: Kept>(
     number: u64,
     limits: Limits,
     plain: &SeatState,
-) -> u64
+)
     requires table { place.old.table_id ≡ table.now.table_id }
     requires fit { Fit number place.old.table_id.words place.old.id limits plain.now place.old.me moving.now }
     requires kind { kind plain.now.point ≡ Some KindNow.CountSubtract }
     requires held { carries_value plain.now ≡ true }
     requires keeps { gives_at plain.now.point ≡ false }
     ensures table { place.new.table_id ≡ place.old.table_id }
-    ensures step { Made_step T.follows T.fits number place.new.table_id.words place.new.id limits plain.now result place.old.me moving.now place.new.me moving.now }
+    ensures step { (n : ℕ) × Made_step T.follows T.fits number place.new.table_id.words place.new.id limits plain.now n place.old.me moving.now place.new.me moving.now }
 {
-    subtract_count::<T, Brand>(table, place, plain, moving, number, limits.seats)
+    subtract_count::<T, Brand>(table, place, plain, moving, number, limits.seats);
 }
 
 /// Subtracts 1 from the count with the value in its slot, for a seat that has given up the owner word. The seat takes the

@@ -32,7 +32,7 @@ returns-then-found-eq0-clause-made g c =
     let is = exchanged_none 0 t ps s.number f.result (oldest_in f.new.moving) c.if-found-eq0.true in
     let first = course_next g.T.Kept.follows g.T.Kept.fits s.number p0 s.moving s.place.me.0 s.place.table_id.words s.place.id s.limits p0 f.result s.place.me s.moving f.new.place.me f.new.moving f.new.place.table_id.words f.new.place.id (opens q) (course_none g.T.Kept.follows g.T.Kept.fits s.number p0 s.moving s.place.me.0) fit f.ensures.step is (λ e. cc) refl in
     let between = fit_after g.T.Kept.follows g.T.Kept.fits s.number f.new.place.table_id.words f.new.place.id s.limits p0 f.result s.place.me s.moving f.new.place.me f.new.moving f.ensures.step (opens q) is in
-    let last = course_next g.T.Kept.follows g.T.Kept.fits s.number p0 s.moving s.place.me.0 f.new.place.table_id.words f.new.place.id s.limits q h.result f.new.place.me f.new.moving h.new.place.me f.new.moving h.new.place.table_id.words h.new.place.id (stepped_by q s.number h.result (oldest_in f.new.moving)) first between h.ensures.step refl (λ e. cc) refl in
+    let last = course_next g.T.Kept.follows g.T.Kept.fits s.number p0 s.moving s.place.me.0 f.new.place.table_id.words f.new.place.id s.limits q h.ensures.step.0 f.new.place.me f.new.moving h.new.place.me f.new.moving h.new.place.table_id.words h.new.place.id (stepped_by q s.number h.ensures.step.0 (oldest_in f.new.moving)) first between h.ensures.step.1 refl (λ e. cc) refl in
     subst (λ (x : SeatState). Comes_to g.T.Kept.follows g.T.Kept.fits c.args.mutex.now.limits Call.TryLock (sight_of s.number s.standing s.place.me.0 (value_in s.moving)) (sight_of s.number x h.new.place.me.0 (value_in f.new.moving)) (Ended (Answer.Locked (Locked.Held How.Free))))
     (λ i. record { depth = 1; takes = t; posts = ps; point = sym c.requires.rests i })
     (comes g.T.Kept.follows g.T.Kept.fits s.number p0 s.moving s.place.me.0 s.number s.limits c.args.mutex.now.limits Call.TryLock s.standing (made_of 1 t ps Rest) (Ended (Answer.Locked (Locked.Held How.Free))) f.new.moving h.new.place.me.0 c.requires.belongs.1 refl refl begins refl last)

@@ -12,4 +12,4 @@ store_owner-requires-clause-can g c κs within =
 
 pub returns-clause-step : goal.returns-clause-step
 returns-clause-step g c =
-    kept g.T.Kept.follows g.T.Kept.fits c.args.number c.args.place.now.table_id.words c.args.place.now.id c.args.limits c.args.plain.now c.args.place.now.me c.args.moving.now c.requires.fit Kind.OwnerStore c.requires.kind refl c.requires.keeps (gives_by c.args.plain.now.point Kind.OwnerStore c.requires.kind refl (λ e. cc)) c.store_owner.result c.store_owner.new.place.me c.store_owner.ensures.step c.store_owner.new.place.table_id.words c.store_owner.new.place.id (ap (λ t. t.words) c.store_owner.ensures.table.0) c.store_owner.ensures.table.1 c.requires.held
+    (c.store_owner.result, kept g.T.Kept.follows g.T.Kept.fits c.args.number c.args.place.now.table_id.words c.args.place.now.id c.args.limits c.args.plain.now c.args.place.now.me c.args.moving.now c.requires.fit Kind.OwnerStore c.requires.kind refl c.requires.keeps (gives_by c.args.plain.now.point Kind.OwnerStore c.requires.kind refl (λ e. cc)) c.store_owner.result c.store_owner.new.place.me c.store_owner.ensures.step c.store_owner.new.place.table_id.words c.store_owner.new.place.id (ap (λ t. t.words) c.store_owner.ensures.table.0) c.store_owner.ensures.table.1 c.requires.held)

@@ -23,7 +23,8 @@ got how limits s t kept made g = let f = g.8 in let l = some_of s.last kept.ther
   f.0,
   record {
     value = f.1;
-    found = f.2;
+    last = f.2;
+    found = f.5;
     finds = λ x is. since_reached s.number x f.0 (f.3 x is);
     seats = o.seats ∙ m.0;
     budget = o.budget ∙ m.1;
@@ -42,7 +43,8 @@ got how limits s t kept made g = let f = g.8 in let l = some_of s.last kept.ther
 pub rewritten : (limits : Limits) (s t u : Sight Waiters) (v w : Waiters) → In_hand limits s t v v → u ≡ record t { value = Some w } → In_hand limits s u v w
 rewritten limits s t u v w h e = record {
   value = ap (λ z. z.value) e;
-  found = ap (λ z. z.last) e ∙ h.found;
+  last = ap (λ z. z.last) e ∙ h.last;
+  found = ap (λ z. z.found) e ∙ h.found;
   finds = h.finds;
   seats = h.seats;
   budget = h.budget;
@@ -57,7 +59,7 @@ rewritten limits s t u v w h e = record {
 }
 
 pub may_leave : (limits : Limits) (s t : Sight Waiters) (v w : Waiters) → In_hand limits s t v w → Follows t.number v w → May_leave Follows Fits t
-may_leave limits s t v w h f x is = (tt, λ l was. subst (λ (y : Waiters). Follows t.number l y) (one_some t.value w x h.value is) (subst (λ (y : Waiters). Follows t.number y w) (one_some t.last v l h.found was) f))
+may_leave limits s t v w h f x is = (tt, λ l was. subst (λ (y : Waiters). Follows t.number l y) (one_some t.value w x h.value is) (subst (λ (y : Waiters). Follows t.number y w) (one_some t.last v l h.last was) f))
 
 -- what is known once the inner mutex was given back
 pub record Done (limits : Limits) (s u : Sight Waiters) (v w : Waiters) : Type 0 where
@@ -68,7 +70,7 @@ pub record Done (limits : Limits) (s u : Sight Waiters) (v w : Waiters) : Type 0
 pub done : (limits : Limits) (s t u : Sight Waiters) (v w : Waiters) → In_hand limits s t v w → w.seats ≡ v.seats → w.budget ≡ v.budget → slice_index w.counts.items s.number ≤ slice_index v.counts.items s.number + 1
     → Leaves_off t u → u.takes ≡ t.takes → u.asleep ≡ t.asleep → Done limits s u v w
 done limits s t u v w h se bu few l tk aw = let last = l.5 w h.value in let named : u.number ≡ s.number = l.2 ∙ h.number in record {
-  held = record { finds = h.finds; leaves = last; spare = h.spare; takes = tk ∙ h.takes; number = named };
+  held = record { finds = h.finds; leaves = last; spare = h.spare; takes = tk ∙ h.takes; number = named; found = l.7 ∙ h.found };
   kept = record {
     out = l.3;
     awake = aw ∙ h.awake;

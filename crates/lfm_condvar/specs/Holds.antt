@@ -29,14 +29,16 @@ pub record Cond_kept (s : Sight Waiters) : Type 0 where
 abbrev pub Made_for : Limits → Sight Waiters → Type 0
 Made_for limits s = (l : Waiters) → s.last ≡ Some l → (l.seats ≡ limits.seats) × (l.budget ≡ limits.budget)
 
--- One hold of the inner mutex, for one take: the cond seat that was seen as s found the list v and left the list w, and is seen
--- as t. Since the list that it left before, neither sent nor added has fallen, and nobody else counted tickets for it
+-- One hold of the inner mutex, for one take: the cond seat that was seen as s found the list v and left the list w. It is seen as t
+-- after it, and still tells what it found. Since the list that it left before, neither sent nor added has fallen, and nobody else
+-- counted tickets for it
 pub record Held_once (budget : ℕ) (s t : Sight Waiters) (v w : Waiters) : Type 0 where
   pub finds : (l : Waiters) → s.last ≡ Some l → Since s.number l v
   pub leaves : t.last ≡ Some w
   pub spare : s.takes < budget
   pub takes : t.takes ≡ s.takes + 1
   pub number : t.number ≡ s.number
+  pub found : t.found ≡ Some v
 
 -- The cond seat locks the inner mutex, by the steps of lock alone
 abbrev pub Locks_list : Limits → Sight Waiters → Sight Waiters → Type 0
@@ -58,7 +60,8 @@ pub record Held_by (own : Limits) (s t : Sight Waiters) : Type 0 where
 -- The cond seat that was seen as s when it locked the inner mutex is seen as t: it found the list v, and has w in hand
 pub record In_hand (limits : Limits) (s t : Sight Waiters) (v w : Waiters) : Type 0 where
   pub value : t.value ≡ Some w
-  pub found : t.last ≡ Some v
+  pub last : t.last ≡ Some v
+  pub found : t.found ≡ Some v
   pub finds : (l : Waiters) → s.last ≡ Some l → Since s.number l v
   pub seats : v.seats ≡ limits.seats
   pub budget : v.budget ≡ limits.budget

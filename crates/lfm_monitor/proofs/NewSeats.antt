@@ -1,7 +1,7 @@
 -- The cond seats of a pass as they are made, one for each condition that is made.
-use Rattle.std.proofs.Common.{◌≡◌, ℕ, ◌+◌, List, [], ◌∷◌, ◌++◌, length, refl, sym, ◌∙◌, ap, subst, arith}
+use Rattle.std.proofs.Common.{◌≡◌, ℕ, ◌+◌, List, [], ◌∷◌, ◌++◌, length, sym, ◌∙◌, ap, subst, arith}
 use Rattle.std.proofs.lemmas.List.{length_push}
-use mathlib.Core.Option.{some, some-injective, some-ne-none}
+use mathlib.Core.Option.{some, some-injective}
 use lib.ListN.{get_elem?}
 use Rattle.lfm_condvar.specs.declared.condvars.Condvar.{Condvar}
 use Rattle.lfm_condvar.specs.declared.seats.CondSeat.{CondSeat}
@@ -9,18 +9,15 @@ use Rattle.lfm_condvar.specs.Belongs.{Of_condvar}
 use Rattle.lfm_monitor.specs.CondSeats.{Is_new_seat, Are_new_of}
 use Rattle.lfm_monitor.proofs.Places.{each_more, in_range, stands_last, stood_before}
 
-pub none_new : (number : ℕ) (seats : List CondSeat) → seats ≡ [] → Are_new_of number seats []
-none_new number seats e = subst (λ l. Are_new_of number l []) (sym e) ((refl, λ i c v at is. absurd (some-ne-none c (sym at))), λ i c at. absurd (some-ne-none c (sym at)))
-
 -- a cond seat more, of a condition more
 pub one_new : (number : ℕ) (seats seats' : List CondSeat) (conditions conditions' : List Condvar) (c : CondSeat) (v : Condvar) → seats' ≡ seats ++ c ∷ [] → conditions' ≡ conditions ++ v ∷ []
     → Are_new_of number seats conditions → Of_condvar c v → Is_new_seat number c → Are_new_of number seats' conditions'
-one_new number seats seats' conditions conditions' c v grown more old of new = let long = old.0.0 in (
-  (
-    ap length grown ∙ (length_push seats c ∙ (ap (λ n. n + 1) long ∙ sym (ap length more ∙ length_push conditions v))),
-    λ i x y at is. each_more (λ i x. (y : Condvar) → get_elem? conditions' i ≡ some y → Of_condvar x y) seats seats' c grown
-        (λ i x at y is. old.0.1 i x y at (stood_before conditions (v ∷ []) i y (let h = in_range seats i x at in omega arith) (ap (λ l. get_elem? l i) (sym more) ∙ is)))
-        (λ y is. subst (Of_condvar c) (some-injective v y (sym (stands_last conditions v) ∙ (ap (λ l. get_elem? l (length conditions)) (sym more) ∙ subst (λ n. get_elem? conditions' n ≡ some y) long is))) of) i x at y is,
-  ),
+one_new number seats seats' conditions conditions' c v grown more old of new = let long = old.0.long in (
+  record {
+    long = ap length grown ∙ (length_push seats c ∙ (ap (λ n. n + 1) long ∙ sym (ap length more ∙ length_push conditions v)));
+    each = λ i x y at is. each_more (λ i x. (y : Condvar) → get_elem? conditions' i ≡ some y → Of_condvar x y) seats seats' c grown
+        (λ i x at y is. old.0.each i x y at (stood_before conditions (v ∷ []) i y (let h = in_range seats i x at in omega arith) (ap (λ l. get_elem? l i) (sym more) ∙ is)))
+        (λ y is. subst (Of_condvar c) (some-injective v y (sym (stands_last conditions v) ∙ (ap (λ l. get_elem? l (length conditions)) (sym more) ∙ subst (λ n. get_elem? conditions' n ≡ some y) long is))) of) i x at y is;
+  },
   each_more (λ i x. Is_new_seat number x) seats seats' c grown old.1 new,
 )

@@ -20,9 +20,9 @@ abbrev pub Are_conditions : ℕ → List Condvar → Type 0
 Are_conditions seats conditions = (i : ℕ) (v : Condvar) → get_elem? conditions i ≡ some v → cond_limits v ≡ condition_limits seats
 
 -- there is a cond seat for each condition, at the same place
-abbrev pub Of_conditions : List CondSeat → List Condvar → Type 0
-Of_conditions seats conditions =
-    (length seats ≡ length conditions) × ((i : ℕ) (c : CondSeat) (v : Condvar) → get_elem? seats i ≡ some c → get_elem? conditions i ≡ some v → Of_condvar c v)
+pub record Of_conditions (seats : List CondSeat) (conditions : List Condvar) : Type 0 where
+  pub long : length seats ≡ length conditions
+  pub each : (i : ℕ) (c : CondSeat) (v : Condvar) → get_elem? seats i ≡ some c → get_elem? conditions i ≡ some v → Of_condvar c v
 
 -- the cond seat with this number has done nothing, and nobody has waited on its condition
 abbrev pub Is_new_seat : ℕ → CondSeat → Type 0

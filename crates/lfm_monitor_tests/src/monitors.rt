@@ -8,7 +8,7 @@ use lfm_model::{
     Asked, Entry, How, Locked, Missing, NewFault, Refusal, SeatNo, Total, TotalOp, Unlocked, What,
     lawful, replay,
 };
-use lfm_monitor::{Monitor, Pass};
+use lfm_monitor::{MAX_CONDITIONS, Monitor, Pass};
 use std::test::Fail;
 
 /// The two passes of a monitor that has two.
@@ -105,7 +105,7 @@ fn written() -> [Entry<TotalOp>; 6] {
 
 #[test]
 fn a_monitor_in_one_thread(rt: HostRuntime) -> Result<(), Fail> {
-    let (monitor, passes) = Monitor::new(rt.alloc(), 2, 8, Total(0))?;
+    let (monitor, passes) = Monitor::new(rt.alloc(), 2, 8, 0, Total(0))?;
     let Some((mut first, mut second)) = take_two(&monitor, passes) else {
         panic!(rt; "two passes")
     };
@@ -159,19 +159,27 @@ fn a_journal_is_replayed(rt: HostRuntime) -> Result<(), Fail> {
 
 #[test]
 fn limits(rt: HostRuntime) {
-    for (passes, entries) in [(0, 1), (4_096, 1), (1, 0), (2, 524_289)] {
-        let fault = Monitor::new(rt.alloc(), passes, entries, Total(0)).err();
+    for (passes, entries, conditions) in [
+        (0, 1, 0),
+        (4_096, 1, 0),
+        (1, 0, 0),
+        (2, 524_289, 0),
+        (1, 1, MAX_CONDITIONS + 1),
+    ] {
+        let fault = Monitor::new(rt.alloc(), passes, entries, conditions, Total(0)).err();
         assert_eq!(rt;
             fault,
             Some(NewFault::Limit),
-            "{passes} passes, {entries} entries"
+            "{passes} passes, {entries} entries, {conditions} conditions"
         );
     }
+    assert_eq!(rt; MAX_CONDITIONS, 16);
+    assert!(rt; Monitor::new(rt.alloc(), 3, 2, MAX_CONDITIONS, Total(0)).is_ok());
 }
 
 #[test]
 fn one_entry(rt: HostRuntime) -> Result<(), Fail> {
-    let (monitor, passes) = Monitor::new(rt.alloc(), 1, 1, Total(0))?;
+    let (monitor, passes) = Monitor::new(rt.alloc(), 1, 1, 0, Total(0))?;
     let Some(mut pass) = take_one(&monitor, passes) else {
         panic!(rt; "one pass")
     };

@@ -4,7 +4,7 @@ use lfm_monitor::Monitor;
 
 #[test]
 fn monitor_and_memory(rt: HostRuntime) {
-    match Monitor::new(rt.alloc(), 2, 1, Total(0)) {
+    match Monitor::new(rt.alloc(), 2, 1, 0, Total(0)) {
         Ok((_, passes)) => assert_eq!(rt; passes.len(), 2),
         Err(fault) => assert_eq!(rt; fault, NewFault::Memory),
     }

@@ -3,4 +3,7 @@ pub mod Growth
 pub mod Knowing
 pub mod NewSeats
 pub mod Places
+pub mod Returning
+pub mod Sending
 pub mod Starting
+pub mod UsedConditions

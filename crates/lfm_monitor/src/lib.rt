@@ -10,8 +10,11 @@ mod holding;
 pub mod journals;
 pub mod laws;
 pub mod monitors;
+mod numbering;
 mod opening;
 pub mod passes;
+mod waiting;
+mod waking;
 mod writing;
 
 pub use journals::Journaled;

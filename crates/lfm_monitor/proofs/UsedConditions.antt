@@ -1,0 +1,45 @@
+-- The cond seat of one condition is used, and those of the others stay as they are.
+use Rattle.std.proofs.Common.{◌≡◌, ⊎_elim, ℕ, ◌<◌, List, length, get_or, slice_set, sym, ◌∙◌, ap, subst, arith}
+use Rattle.std.proofs.lemmas.List.{length-set}
+use mathlib.Core.Option.{some, some-injective}
+use lib.ListN.{get_elem?}
+use Rattle.lfm_mutex.specs.Belongs.{limits_of}
+use Rattle.lfm_condvar.specs.declared.condvars.Condvar.{Condvar}
+use Rattle.lfm_condvar.specs.declared.seats.CondSeat.{CondSeat}
+use Rattle.lfm_condvar.specs.Belongs.{Of_condvar, cond_limits}
+use Rattle.lfm_monitor.specs.declared.monitors.Monitor.{Monitor}
+use Rattle.lfm_monitor.specs.declared.passes.Pass.{Pass}
+use Rattle.lfm_monitor.specs.Belongs.{Of_monitor, cond_seats_of, conditions_in, passes_of}
+use Rattle.lfm_monitor.specs.CondSeats.{Of_conditions, condition_limits}
+use Rattle.lfm_monitor.specs.Conditions.{mutex_limits}
+use Rattle.lfm_monitor.proofs.Places.{stands, stands_or_was}
+
+-- a cond seat of this condition stands in the place of the other
+pub still_of_conditions : (cs : List CondSeat) (vs : List Condvar) (n : ℕ) (d : CondSeat) (v : Condvar) → Of_conditions cs vs → get_elem? vs n ≡ some v → Of_condvar d v → Of_conditions (slice_set cs n d) vs
+still_of_conditions cs vs n d v of at belongs = (
+  length-set cs n d ∙ of.0,
+  λ i c u ac au. ⊎_elim
+      (λ q. let w : v ≡ u = some-injective v u (sym at ∙ (ap (get_elem? vs) (sym q.0) ∙ au)) in subst (λ (x : CondSeat). Of_condvar x u) (sym q.1) (subst (λ (y : Condvar). Of_condvar d y) w belongs))
+      (λ q. of.1 i c u q.1 au)
+      (stands_or_was cs n d i c ac),
+)
+
+module _ {O A R : Type 0} {K : _} where
+  -- the condvar of a condition, and the pass's cond seat of it
+  pub record At_place (p : Pass O A R K) (m : Monitor O A R K) (n : ℕ) (c : CondSeat) (v : Condvar) : Type 0 where
+    pub seat : get_elem? (cond_seats_of p) n ≡ some c
+    pub condition : get_elem? (conditions_in m) n ≡ some v
+    pub belongs : Of_condvar c v
+    pub limits : cond_limits v ≡ condition_limits (passes_of m)
+
+  pub at_place : (p : Pass O A R K) (m : Monitor O A R K) (n : ℕ) (c : CondSeat) (v : Condvar) → Of_monitor p m → n < length (conditions_in m) → c ≡ get_or (cond_seats_of p) n c → v ≡ get_or (conditions_in m) n v → At_place p m n c v
+  at_place p m n c v of low is_c is_v = let a = stands (cond_seats_of p) n c (let e = of.2.0 in omega arith) is_c in let b = stands (conditions_in m) n v low is_v in record {
+    seat = a;
+    condition = b;
+    belongs = of.2.1 n c v a b;
+    limits = m.wide n v b;
+  }
+
+  -- the limits of the mutex by the monitor's own words
+  pub limits_are : (m : Monitor O A R K) → limits_of m.mutex ≡ mutex_limits m
+  limits_are m = ap (λ (b : ℕ). record { seats = (limits_of m.mutex).seats; budget = b }) m.shared

@@ -16,13 +16,13 @@ use Rattle.lfm_monitor.proofs.Places.{stands, stands_or_was}
 
 -- a cond seat of this condition stands in the place of the other
 pub still_of_conditions : (cs : List CondSeat) (vs : List Condvar) (n : ℕ) (d : CondSeat) (v : Condvar) → Of_conditions cs vs → get_elem? vs n ≡ some v → Of_condvar d v → Of_conditions (slice_set cs n d) vs
-still_of_conditions cs vs n d v of at belongs = (
-  length-set cs n d ∙ of.0,
-  λ i c u ac au. ⊎_elim
+still_of_conditions cs vs n d v of at belongs = record {
+  long = length-set cs n d ∙ of.long;
+  each = λ i c u ac au. ⊎_elim
       (λ q. let w : v ≡ u = some-injective v u (sym at ∙ (ap (get_elem? vs) (sym q.0) ∙ au)) in subst (λ (x : CondSeat). Of_condvar x u) (sym q.1) (subst (λ (y : Condvar). Of_condvar d y) w belongs))
-      (λ q. of.1 i c u q.1 au)
-      (stands_or_was cs n d i c ac),
-)
+      (λ q. of.each i c u q.1 au)
+      (stands_or_was cs n d i c ac);
+}
 
 module _ {O A R : Type 0} {K : _} where
   -- the condvar of a condition, and the pass's cond seat of it
@@ -33,10 +33,10 @@ module _ {O A R : Type 0} {K : _} where
     pub limits : cond_limits v ≡ condition_limits (passes_of m)
 
   pub at_place : (p : Pass O A R K) (m : Monitor O A R K) (n : ℕ) (c : CondSeat) (v : Condvar) → Of_monitor p m → n < length (conditions_in m) → c ≡ get_or (cond_seats_of p) n c → v ≡ get_or (conditions_in m) n v → At_place p m n c v
-  at_place p m n c v of low is_c is_v = let a = stands (cond_seats_of p) n c (let e = of.2.0 in omega arith) is_c in let b = stands (conditions_in m) n v low is_v in record {
+  at_place p m n c v of low is_c is_v = let a = stands (cond_seats_of p) n c (let e = of.2.long in omega arith) is_c in let b = stands (conditions_in m) n v low is_v in record {
     seat = a;
     condition = b;
-    belongs = of.2.1 n c v a b;
+    belongs = of.2.each n c v a b;
     limits = m.wide n v b;
   }
 

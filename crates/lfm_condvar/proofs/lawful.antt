@@ -7,5 +7,6 @@ pub mod mutex
 pub mod Frames
 pub mod Outcomes
 pub mod events
+pub mod LockMoves
 pub mod Runs
 pub mod reached

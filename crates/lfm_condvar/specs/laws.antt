@@ -2,5 +2,6 @@
 -- wakes, and what the laws say of them.
 pub mod Condvars
 pub mod Events
+pub mod Stages
 pub mod Claims
 pub mod Laws

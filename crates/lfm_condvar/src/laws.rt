@@ -12,6 +12,8 @@ ghost use Rattle.lfm_condvar.specs.laws.Laws.{
   ClaimsNeverFail,
   TicketsAreClaimedOnce,
   ClaimsAreInOrder,
+  LocksAreGivenBack,
+  WakesEmptyTheList,
   WaitsAreNew,
   WaitsAreSent,
   WaitsSleepUntilSent,
@@ -21,6 +23,7 @@ ghost use Rattle.lfm_condvar.specs.laws.Laws.{
   WaitersAreListed,
   SleepersAreListed,
   CoresAreReached,
+  OwnCallsAreFree,
 };
 
 /// The claim of a sender never fails: a seat that is about to make the exchange of a `send_lock` finds its target waiting. So no
@@ -44,6 +47,21 @@ pub fn tickets_are_claimed_once()
 /// Definition: `ClaimsAreInOrder` in `specs/laws/Laws.antt`. Proof: `proofs/lawful/reached/WaitsSent.antt`.
 pub fn claims_are_in_order()
     ensures { ClaimsAreInOrder }
+{}
+
+/// The lock of a condvar is held by just the seat whose call has taken it and not yet given it back. Every wake gives it back:
+/// after its last event the lock is free.
+///
+/// Definition: `LocksAreGivenBack` in `specs/laws/Laws.antt`. Proof: `proofs/lawful/reached/LocksBack.antt`.
+pub fn locks_are_given_back()
+    ensures { LocksAreGivenBack }
+{}
+
+/// A wake of all goes on until nobody is left: where it sends no more, the list is empty, and it gives the lock back next.
+///
+/// Definition: `WakesEmptyTheList` in `specs/laws/Laws.antt`. Proof: `proofs/lawful/reached/ListsEmptied.antt`.
+pub fn wakes_empty_the_list()
+    ensures { WakesEmptyTheList }
 {}
 
 /// No `wait` finds its seat in the list when it has taken the lock. So none is refused as Busy.
@@ -91,8 +109,8 @@ pub fn lists_are_in_order()
     ensures { ListsAreInOrder }
 {}
 
-/// No lost wake-up: at every moment, each seat whose wake word is WAITING stands in the list of a condvar. So from the step by
-/// which it falls asleep until a wake claims it, every wake of this condvar that takes the lock finds it.
+/// No lost wake-up: at every moment, each seat whose wake word is WAITING stands in the list of some condvar. So from the step
+/// by which it falls asleep until a wake claims it, every wake of that condvar which takes the lock finds it.
 ///
 /// Definition: `SleepersAreListed` in `specs/laws/Laws.antt`. Proof: `proofs/lawful/reached/SleepersListed.antt`.
 pub fn sleepers_are_listed()
@@ -113,4 +131,12 @@ pub fn waiters_are_listed()
 /// Definition: `CoresAreReached` in `specs/laws/Laws.antt`. Proof: `proofs/lawful/mutex/MutexRuns.antt`.
 pub fn cores_are_reached()
     ensures { CoresAreReached }
+{}
+
+/// Calls on condvars hinder nothing else: every call but `start_wait` and `send_lock`, and every step, of seats that are in no
+/// call on a condvar does to the user mutex what it does in a schedule of the mutex alone, and changes no condvar.
+///
+/// Definition: `OwnCallsAreFree` in `specs/laws/Laws.antt`. Proof: `proofs/lawful/mutex/OwnCalls.antt`.
+pub fn own_calls_are_free()
+    ensures { OwnCallsAreFree }
 {}

@@ -3,3 +3,4 @@ pub mod WakeWords
 pub mod MutexMoves
 pub mod OwnSeat
 pub mod MutexRuns
+pub mod OwnCalls

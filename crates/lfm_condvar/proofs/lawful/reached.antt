@@ -4,3 +4,5 @@ pub mod WaitsSent
 pub mod ListOrder
 pub mod OneWait
 pub mod SleepersListed
+pub mod LocksBack
+pub mod ListsEmptied

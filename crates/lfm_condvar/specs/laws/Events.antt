@@ -9,6 +9,7 @@ use Rattle.lfm_protocol.specs.declared.points.Point.TheVariants.{Rest, Asleep}
 use Rattle.lfm_protocol.specs.Seats.{is_seat}
 use Rattle.lfm_protocol.specs.Step.{begin, step}
 use Rattle.lfm_protocol.specs.Turns.{is_open}
+use Rattle.lfm_core.specs.laws.Schedules as Schedules
 use Rattle.lfm_core.specs.laws.Schedules.{is_call}
 use Rattle.lfm_condvar.specs.laws.Condvars.{Waiter, Condvar, Stage, outside, locking_to_wait, starting, receiving, locking_to_wake, claiming, sending, unlocking, CondvarCore, point_of, put_stage, put_condvar, put_mutex, put_holder, is_listed, condvar_start}
 
@@ -145,3 +146,15 @@ run_of k (e ∷ later) = run_of (happens k e) later
 -- the state that a mutex of these limits and its condvars have reached after some events
 abbrev pub reached : Limits → List CondvarEvent → CondvarCore
 reached limits events = run_of (condvar_start limits) events
+
+-- Events of the user mutex
+
+-- an event of the user mutex as one of a run
+abbrev pub as_event : Schedules.Event → CondvarEvent
+as_event (Schedules.begins s call) = begins s call
+as_event (Schedules.makes s) = makes s
+
+-- by a seat outside of calls on condvars: a call of its own, or a step
+abbrev pub is_own_event : CondvarCore → Schedules.Event → Bool
+is_own_event k (Schedules.begins s call) = is_outside (k.stage s) && is_own_call call
+is_own_event k (Schedules.makes s) = is_outside (k.stage s)

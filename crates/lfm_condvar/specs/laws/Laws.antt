@@ -1,5 +1,5 @@
 -- What the laws of condition variables say, of every state that a run reaches.
-use Rattle.std.specs.Prelude.{◌≡◌, ◌≢◌, ◌⊎◌, ◌↔◌, ℕ, true, false, ◌+◌, ◌≤◌, List, [], ◌∷◌, length, map, Contains, AllPairs}
+use Rattle.std.specs.Prelude.{◌≡◌, ◌≢◌, ◌⊎◌, ◌↔◌, ℕ, true, false, ◌+◌, ◌<◌, ◌≤◌, List, [], ◌∷◌, length, map, All, Contains, AllPairs}
 use Rattle.std.specs.List.{range_with_len}
 use Rattle.lfm_protocol.specs.declared.limits.Limits.{Limits}
 use Rattle.lfm_protocol.specs.declared.points.Point.TheVariants.{Rest, SendWakeExchange}
@@ -9,9 +9,11 @@ use Rattle.lfm_protocol.specs.Seats.{seat, wake}
 use Rattle.lfm_protocol.specs.Step.{step}
 use Rattle.lfm_protocol.specs.Turns.{is_open}
 use Rattle.lfm_core.specs.laws.Laws.{IsReached}
+use Rattle.lfm_core.specs.laws.Schedules as Schedules
 use Rattle.lfm_condvar.specs.laws.Claims.{claim_record, claims_on, seats_with}
-use Rattle.lfm_condvar.specs.laws.Condvars.{Waiter, Condvar, locking_to_wait, receiving, CondvarCore, point_of, is_listed, condvar_start}
-use Rattle.lfm_condvar.specs.laws.Events.{CondvarEvent, reached}
+use Rattle.lfm_condvar.specs.laws.Condvars.{Waiter, Condvar, outside, locking_to_wait, receiving, unlocking, CondvarCore, point_of, put_mutex, is_listed, condvar_start}
+use Rattle.lfm_condvar.specs.laws.Events.{CondvarEvent, as_event, is_own_event, happens, run_of, reached}
+use Rattle.lfm_condvar.specs.laws.Stages.{has_lock, is_wake, sends_all}
 
 -- a run of one user mutex and its condvars, for any number of seats and any budget in their limits
 pub record CondvarRun : Type 0 where
@@ -37,6 +39,12 @@ claims_with r v ticket = seats_with ticket (claims_of r v)
 abbrev pub CoresAreReached : Type 0
 CoresAreReached = (r : CondvarRun) → IsReached (reached_by r).mutex
 
+-- own calls and steps of seats outside of calls on condvars do to the user mutex what they do in a schedule, and nothing else
+abbrev pub OwnCallsAreFree : Type 0
+OwnCallsAreFree =
+    (r : CondvarRun) (events : List Schedules.Event) → All (λ e. is_own_event (reached_by r) e ≡ true) events
+    → run_of (reached_by r) (map as_event events) ≡ put_mutex (reached_by r) (Schedules.run_of (reached_by r).mutex events)
+
 -- Claims
 
 -- each seat that is about to make the exchange of a send_lock finds WAITING, so its claim succeeds
@@ -55,6 +63,26 @@ ClaimsAreInOrder =
     (r : CondvarRun) (v : ℕ)
     → (map (λ x. x.ticket) (claims_of r v) ≡ range_with_len 1 (length (claims_of r v)))
     × (((reached_by r).condvar v).holder ≡ 0 → length (claims_of r v) ≡ ((reached_by r).condvar v).sent)
+
+-- Locks
+
+-- The lock of a condvar is that of the seat whose call has taken it and not given it back. Where a wake has made its last event,
+-- the lock is free
+abbrev pub LocksAreGivenBack : Type 0
+LocksAreGivenBack =
+    (r : CondvarRun) (s v : ℕ)
+    → (0 < s → (((reached_by r).condvar v).holder ≡ s) ↔ (has_lock v ((reached_by r).stage s) ≡ true))
+    × ((e : CondvarEvent) → is_wake v ((reached_by r).stage s) ≡ true → (happens (reached_by r) e).stage s ≡ outside
+        → ((happens (reached_by r) e).condvar v).holder ≡ 0)
+
+-- Wakes
+
+-- a wake of all goes on to send until nobody is in the list, and then gives the lock back
+abbrev pub WakesEmptyTheList : Type 0
+WakesEmptyTheList =
+    (r : CondvarRun) (s v : ℕ) (e : CondvarEvent) → sends_all v ((reached_by r).stage s) ≡ true
+    → sends_all v ((happens (reached_by r) e).stage s) ≡ false
+    → ((happens (reached_by r) e).stage s ≡ unlocking v) × (((happens (reached_by r) e).condvar v).waiters ≡ [])
 
 -- Waits
 

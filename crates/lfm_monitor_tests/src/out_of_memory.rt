@@ -9,3 +9,11 @@ fn monitor_and_memory(rt: HostRuntime) {
         Err(fault) => assert_eq!(rt; fault, NewFault::Memory),
     }
 }
+
+#[test]
+fn monitor_with_two_conditions_and_memory(rt: HostRuntime) {
+    match Monitor::new(rt.alloc(), 3, 1, 2, Total(0)) {
+        Ok((_, passes)) => assert_eq!(rt; passes.len(), 3),
+        Err(fault) => assert_eq!(rt; fault, NewFault::Memory),
+    }
+}

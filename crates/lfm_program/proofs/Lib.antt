@@ -1,3 +1,6 @@
+pub mod AddedSums
 pub mod Reports
+pub mod RowCounts
+pub mod RunReports
 pub mod Seats
 pub mod scripts

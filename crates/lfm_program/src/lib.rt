@@ -2,9 +2,11 @@
 //! running mutex, what a script of workers is, and what is reported of its run.
 #![tactic(auto)]
 
+pub mod counted_rows;
 pub mod driving;
 pub mod faults;
 pub mod gates;
+pub mod report_laws;
 pub mod reporting;
 pub mod rows;
 pub mod script;
@@ -12,6 +14,7 @@ pub mod starting_line;
 pub mod statuses;
 pub mod work_report;
 
+pub use counted_rows::{count_entries, rows_of};
 pub use driving::{drive, follow};
 pub use faults::WorkFault;
 pub use gates::{Gate, Meet, OpenGate};

@@ -32,20 +32,3 @@ pub fn status(outcome: &Result<bool, WorkFault>) -> u8
         Err(WorkFault::Stuck) => 5,
     }
 }
-
-#[cfg(test)]
-mod tests {
-    use super::*;
-
-    #[test]
-    fn each_outcome_has_its_status(rt: HostRuntime) {
-        assert_eq!(rt; status(&Ok(true)), 0);
-        assert_eq!(rt; status(&Ok(false)), 1);
-        assert_eq!(rt; status(&Err(WorkFault::Syntax(3))), 1);
-        assert_eq!(rt; status(&Err(WorkFault::Limit)), 1);
-        assert_eq!(rt; status(&Err(WorkFault::Read)), 3);
-        assert_eq!(rt; status(&Err(WorkFault::Write)), 3);
-        assert_eq!(rt; status(&Err(WorkFault::Memory)), 4);
-        assert_eq!(rt; status(&Err(WorkFault::Stuck)), 5);
-    }
-}

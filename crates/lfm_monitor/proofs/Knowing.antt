@@ -62,13 +62,14 @@ module _ {O A R : Type 0} {K : _} where
     pub number : t.number ≡ s.number
     pub deep : t.depth ≡ 1
     pub awake : t.asleep ≡ false
+    pub sends : t.sends ≡ s.sends
     pub finds : Finds Follows Fits how s t
 
   pub gained : (how : How) (budget : ℕ) (s t : Sight (Journaled O A R K)) → Gains Follows Fits budget how s t → Comes how s t
-  gained how budget s t g = record { start = g.1; number = g.3; deep = g.4; awake = g.6; finds = g.8 }
+  gained how budget s t g = record { start = g.1; number = g.3; deep = g.4; awake = g.6; sends = g.7; finds = g.8 }
 
   pub woken : (how : How) (s t : Sight (Journaled O A R K)) (seen mine : ℕ) → Pass_kept s seen mine → Wakes Follows Fits how s t → Comes how s t
-  woken how s t seen mine kept w = record { start = (kept.sleeps w.0).out; number = w.3; deep = w.4; awake = w.2; finds = w.7 }
+  woken how s t seen mine kept w = record { start = (kept.sleeps w.0).out; number = w.3; deep = w.4; awake = w.2; sends = w.6; finds = w.7 }
 
   stamp_next : (how : How) (w : Journaled O A R K) (k : ℕ) → Suits Follows Fits how w k → May_take (queued_from 0 w.journal.items) how
   stamp_next Free_take w k h = tt
@@ -160,7 +161,7 @@ module _ {O A R : Type 0} {K : _} where
       subst (λ (u : Sight (Journaled O A R K)). Came how s u seen mine opening seats share) (sym wrote) record {
         kept = entered how s t seen mine v w locks is f g same;
         still = still_of opening seats share s t mine v w of f;
-        comes = (locks.start, locks.deep, locks.number, locks.awake, refl, enters how s t mine v w (kept.free locks.start) f g);
+        comes = (locks.start, locks.deep, locks.number, locks.awake, locks.sends, refl, enters how s t mine v w (kept.free locks.start) f g);
       }
 
   -- the same by what was written into the seat's journal
@@ -219,8 +220,8 @@ module _ {O A R : Type 0} {K : _} where
 
   -- what leave says, once the monitor was given up
   leave_facts : (s t : Sight (Journaled O A R K)) (seen mine n : ℕ) → Pass_kept s seen mine → Leaves_off s t → t.takes ≡ s.takes → t.asleep ≡ false → ((v : Journaled O A R K) → s.value ≡ Some v → n ≡ length v.journal.items)
-      → (s.asleep ≡ false) × (s.depth ≡ 1) × (t.depth ≡ 0) × (t.number ≡ s.number) × (t.takes ≡ s.takes) × (t.asleep ≡ false) × (journal_of t ≡ journal_of s) × (n ≡ length (journal_of s))
-  leave_facts s t seen mine n kept u takes awake long = (u.0, u.1, u.3, u.2, takes, awake, left_journal s t seen mine kept u, left_length s seen mine n kept (let d = u.1 in omega arith) long)
+      → (s.asleep ≡ false) × (s.depth ≡ 1) × (t.depth ≡ 0) × (t.number ≡ s.number) × (t.takes ≡ s.takes) × (t.asleep ≡ false) × (t.sends ≡ s.sends) × (journal_of t ≡ journal_of s) × (n ≡ length (journal_of s))
+  leave_facts s t seen mine n kept u takes awake long = (u.0, u.1, u.3, u.2, takes, awake, u.6, left_journal s t seen mine kept u, left_length s seen mine n kept (let d = u.1 in omega arith) long)
 
   pub leave_ends : (u : Unlocked) (s t : Sight (Journaled O A R K)) (seen mine n : ℕ) → Is_left u → Pass_kept s seen mine → Unlocks s t (Ok u) → ((v : Journaled O A R K) → s.value ≡ Some v → n ≡ length v.journal.items) → Leave_ends s t seen n (Ok u)
   leave_ends (Unlocked.Still d) s t seen mine n left kept h long = absurd left

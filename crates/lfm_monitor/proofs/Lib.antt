@@ -6,4 +6,5 @@ pub mod Places
 pub mod Returning
 pub mod Sending
 pub mod Starting
+pub mod Trails
 pub mod UsedConditions

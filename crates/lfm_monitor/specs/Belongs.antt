@@ -1,5 +1,6 @@
 -- What belongs to a monitor. Contracts name a monitor and its passes by these words alone.
 use Rattle.std.specs.Prelude.{◌≡◌, ℕ, List, length}
+use Rattle.lfm_protocol.specs.declared.limits.Limits.{Limits}
 use Rattle.lfm_mutex.specs.Belongs.{Of_mutex, limits_of}
 use Rattle.lfm_mutex.specs.calls.Sight.{Sight, sight}
 use Rattle.lfm_condvar.specs.declared.condvars.Condvar.{Condvar}
@@ -14,6 +15,10 @@ module _ {O A R : Type 0} {K : _} where
   -- the object that the monitor began with
   abbrev pub opening_of : Monitor O A R K → O
   opening_of m = m.opening.value
+
+  -- how many seats its mutex has, and how many takes each may make
+  abbrev pub mutex_limits : Monitor O A R K → Limits
+  mutex_limits m = limits_of m.mutex
 
   -- how many passes the monitor has
   abbrev pub passes_of : Monitor O A R K → ℕ

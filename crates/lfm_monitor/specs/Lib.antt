@@ -5,4 +5,5 @@ pub mod Conditions
 pub mod Dealing
 pub mod Journaled
 pub mod Passes
+pub mod Steps
 pub mod Writes

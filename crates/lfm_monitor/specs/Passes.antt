@@ -9,7 +9,7 @@ use Rattle.lfm_model.specs.declared.journals.Entry.{Entry}
 use Rattle.lfm_model.specs.declared.refusals.Refusal.{Refusal}
 use Rattle.lfm_model.specs.Journals.{after_all, Lawful, one_to, own, entry, stamps, taker_from}
 use Rattle.lfm_mutex.specs.declared.table.seat_view.Seen.{Seen}
-use Rattle.lfm_mutex.specs.calls.Sight.{Sight, Busy_seen}
+use Rattle.lfm_mutex.specs.calls.Sight.{Sight, Busy_seen, Deepens}
 use Rattle.lfm_monitor.specs.declared.journals.Journaled.{Journaled}
 use Rattle.lfm_monitor.specs.Journaled.{Fits, Follows}
 
@@ -67,10 +67,7 @@ module _ {O A R : Type 0} {K : _} where
 
   -- it holds at depth 1 now, and one more entry is its own
   abbrev pub Comes_in : How → Sight (Journaled O A R K) → Sight (Journaled O A R K) → ℕ → ℕ → Type 0
-  Comes_in how s t mine mine' = (s.depth ≡ 0) × (t.depth ≡ 1) × (t.number ≡ s.number) × (t.asleep ≡ false) × (mine' ≡ mine + 1) × Enters how s t
-
-  abbrev pub Deepens : ℕ → Sight (Journaled O A R K) → Sight (Journaled O A R K) → ℕ → ℕ → Type 0
-  Deepens d s t mine mine' = (s.asleep ≡ false) × (0 < s.depth) × (s.depth < 65535) × (d ≡ s.depth + 1) × (t ≡ record s { depth = d; trail = t.trail }) × (mine' ≡ mine)
+  Comes_in how s t mine mine' = (s.depth ≡ 0) × (t.depth ≡ 1) × (t.number ≡ s.number) × (t.asleep ≡ false) × (t.sends ≡ s.sends) × (mine' ≡ mine + 1) × Enters how s t
 
   -- why a call is refused that is to hold
   abbrev pub Enter_refused : ℕ → Sight (Journaled O A R K) → ℕ → Refusal → Type 0
@@ -82,16 +79,16 @@ module _ {O A R : Type 0} {K : _} where
   -- how try_enter ends
   abbrev pub Try_ends : ℕ → Sight (Journaled O A R K) → Sight (Journaled O A R K) → ℕ → ℕ → Result Locked Refusal → Type 0
   Try_ends share s t mine mine' (Ok (Locked.Held how)) = (s.asleep ≡ false) × (t.takes ≡ s.takes + 1) × Comes_in how s t mine mine'
-  Try_ends share s t mine mine' (Ok (Locked.Again d)) = Deepens d s t mine mine'
+  Try_ends share s t mine mine' (Ok (Locked.Again d)) = Deepens s t d × (mine' ≡ mine)
   Try_ends share s t mine mine' (Err Refusal.Busy) =
-      (s.asleep ≡ false) × (s.depth ≡ 0) × (s.takes < share) × (t ≡ record s { trail = t.trail }) × (mine' ≡ mine)
+      (s.asleep ≡ false) × (s.depth ≡ 0) × (s.takes < share) × (mine < share) × (t ≡ record s { trail = t.trail }) × (mine' ≡ mine)
       × ((new : List Seen) × (t.trail ≡ s.trail ++ new) × Busy_seen s.number new)
   Try_ends share s t mine mine' (Err r) = Enter_refused share s mine r × (t ≡ s) × (mine' ≡ mine)
 
   -- how ask ends
   abbrev pub Ask_ends : ℕ → Sight (Journaled O A R K) → Sight (Journaled O A R K) → ℕ → ℕ → Result Asked Refusal → Type 0
   Ask_ends share s t mine mine' (Ok (Asked.Held how)) = (s.asleep ≡ false) × (t.takes ≡ s.takes + 1) × Comes_in how s t mine mine'
-  Ask_ends share s t mine mine' (Ok (Asked.Again d)) = Deepens d s t mine mine'
+  Ask_ends share s t mine mine' (Ok (Asked.Again d)) = Deepens s t d × (mine' ≡ mine)
   Ask_ends share s t mine mine' (Ok Asked.Asleep) =
       (s.asleep ≡ false) × (s.depth ≡ 0) × (t ≡ record s { takes = s.takes + 1; asleep = true; in_call = false; trail = t.trail }) × (mine' ≡ mine)
   Ask_ends share s t mine mine' (Err r) = Enter_refused share s mine r × (t ≡ s) × (mine' ≡ mine)
@@ -99,7 +96,7 @@ module _ {O A R : Type 0} {K : _} where
   -- how enter ends
   abbrev pub Enter_ends : ℕ → Sight (Journaled O A R K) → Sight (Journaled O A R K) → ℕ → ℕ → Result Locked Refusal → Type 0
   Enter_ends share s t mine mine' (Ok (Locked.Held how)) = (s.asleep ≡ false) × (t.takes ≡ s.takes + 1) × Comes_in how s t mine mine'
-  Enter_ends share s t mine mine' (Ok (Locked.Again d)) = Deepens d s t mine mine'
+  Enter_ends share s t mine mine' (Ok (Locked.Again d)) = Deepens s t d × (mine' ≡ mine)
   Enter_ends share s t mine mine' (Err r) = Enter_refused share s mine r × (t ≡ s) × (mine' ≡ mine)
 
   -- how try_receive ends
@@ -113,7 +110,8 @@ module _ {O A R : Type 0} {K : _} where
   abbrev pub Leave_ends : Sight (Journaled O A R K) → Sight (Journaled O A R K) → ℕ → ℕ → Result Unlocked Refusal → Type 0
   Leave_ends s t seen seen' (Ok (Unlocked.Still d)) = (s.asleep ≡ false) × (0 < d) × (s.depth ≡ d + 1) × (t ≡ record s { depth = d }) × (seen' ≡ seen)
   Leave_ends s t seen seen' (Ok u) =
-      (s.asleep ≡ false) × (s.depth ≡ 1) × (t.depth ≡ 0) × (t.number ≡ s.number) × (t.takes ≡ s.takes) × (t.asleep ≡ false) × (journal_of t ≡ journal_of s) × (seen' ≡ length (journal_of s))
+      (s.asleep ≡ false) × (s.depth ≡ 1) × (t.depth ≡ 0) × (t.number ≡ s.number) × (t.takes ≡ s.takes) × (t.asleep ≡ false) × (t.sends ≡ s.sends) × (journal_of t ≡ journal_of s)
+      × (seen' ≡ length (journal_of s))
   Leave_ends s t seen seen' (Err Refusal.Asleep) = (s.asleep ≡ true) × (t ≡ s) × (seen' ≡ seen)
   Leave_ends s t seen seen' (Err Refusal.NotOwner) = (s.asleep ≡ false) × (s.depth ≡ 0) × (t ≡ s) × (seen' ≡ seen)
   Leave_ends s t seen seen' (Err _) = ⊥

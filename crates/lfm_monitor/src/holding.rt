@@ -1,8 +1,11 @@
 //! The calls of a pass that holds.
-ghost use Rattle.lfm_mutex.specs.calls.Sight.{sight};
-ghost use Rattle.lfm_monitor.specs.Belongs.{Of_monitor, mine_of, pass_sight, seen_of, share_of};
+ghost use Rattle.lfm_protocol.specs.declared.answers.Answer.TheVariants as Answered;
+ghost use Rattle.lfm_protocol.specs.declared.answers.Call.{Call};
+ghost use Rattle.lfm_mutex.specs.calls.Trails.{Makes_at_most};
+ghost use Rattle.lfm_monitor.specs.Belongs.{Of_monitor, mine_of, mutex_limits, pass_sight, passes_of, seen_of, share_of};
 ghost use Rattle.lfm_monitor.specs.Passes.{Apply_ends, Leave_ends};
-ghost use Rattle.std.specs.Prelude.{◌≡◌};
+ghost use Rattle.lfm_monitor.specs.Steps.{By_steps};
+ghost use Rattle.std.specs.Prelude.{◌≡◌, ◌+◌};
 
 use crate::monitors::Monitor;
 use crate::passes::Pass;
@@ -37,12 +40,14 @@ impl<O: Object> Monitor<O> {
     /// Gives up one hold, and at depth 1 the monitor, as `unlock` of the mutex. What was in hand is then what the pass has seen.
     ///
     /// Refuses, in this order: Asleep, NotOwner. It never waits, takes no memory, and wakes the pass that it grants the
-    /// monitor, if any.
+    /// monitor, if any. Whatever others do, it makes at most 7 atomic steps more than the monitor has passes.
     pub fn leave(&self, pass: &mut Pass<O>) -> Result<Unlocked, Refusal>
         requires belongs { Of_monitor pass.old self.now }
         ensures belongs { Of_monitor pass.new self.now }
         ensures leaves { Leave_ends (pass_sight pass.old) (pass_sight pass.new) (seen_of pass.old) (seen_of pass.new) result }
         ensures mine { mine_of pass.new ≡ mine_of pass.old }
+        ensures steps { By_steps (mutex_limits self.now) (λ x. Answered.Unlocked x) Call.Unlock (pass_sight pass.old) (pass_sight pass.new) result }
+        ensures bounded { Makes_at_most (passes_of self.now + 7) (pass_sight pass.old) (pass_sight pass.new) }
     {
         let length = pass.journal_len();
         let unlocked = self.mutex.unlock(&mut pass.seat)?;

@@ -1,7 +1,9 @@
-use Rattle.std.proofs.Common.{ap, ◌∙◌, ◌<◌, ◌+◌}
+use Rattle.std.proofs.Common.{ap, ◌∙◌, ◌<◌, ◌+◌, Some}
 use Rattle.lfm_mutex.specs.Belongs.{limits_of}
+use Rattle.lfm_protocol.specs.declared.answers.Call.{Call}
 use Rattle.lfm_mutex.specs.calls.Sight.{sight}
-use Rattle.lfm_monitor.specs.Belongs.{opening_of, passes_of, share_of}
+use Rattle.lfm_monitor.specs.Belongs.{mutex_limits, opening_of, passes_of, share_of}
+use Rattle.lfm_monitor.proofs.Trails.{rewritten}
 use Rattle.lfm_monitor.proofs.Knowing.{gained, may_all, room_left, arrived, again, asleep, of_next}
 use Rattle.lfm_monitor.proofs.monitors.Monitor.ask.Goals as goal
 
@@ -40,3 +42,7 @@ invariant_of-pass-in-Again-1 g c = let p = c.args.pass.now in let locks = rw c.i
 pub invariant_of-pass-in-Asleep : goal.invariant_of-pass-in-Asleep
 invariant_of-pass-in-Asleep g c = let p = c.args.pass.now in let m = c.args.self.now in let a = rw c.in-Asleep.is at c.in_ok-asked.ensures.asks in let s = sight p.seat in
     record { kept = asleep (opening_of m) (passes_of m) (share_of m) s (sight c.ask.new.seat) p.seen p.mine (s.takes + 1) p.kept c.requires.belongs.1 a.1 (room_left m.share p.mine (λ h. c.if-lacks_entry.ensures.1 (a.0, a.1, h))) a.3 }
+
+pub returns-clause-steps : goal.returns-clause-steps
+returns-clause-steps g c = let w = c.write_took.ensures in
+    rewritten (mutex_limits c.args.self.now) Call.Lock (sight c.args.pass.now.seat) (sight c.ask.new.seat) (sight c.write_took.new.seat) _ (Some w.1) w.3 (rw c.in-Held.is at c.in_ok-asked.ensures.steps)

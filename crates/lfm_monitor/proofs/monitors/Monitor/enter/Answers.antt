@@ -1,7 +1,8 @@
-use Rattle.std.proofs.Common.{ap, ◌∙◌, ◌<◌}
+use Rattle.std.proofs.Common.{ap, ◌∙◌, ◌<◌, Some}
 use Rattle.lfm_mutex.specs.Belongs.{limits_of}
 use Rattle.lfm_mutex.specs.calls.Sight.{sight}
-use Rattle.lfm_monitor.specs.Belongs.{opening_of, passes_of, share_of}
+use Rattle.lfm_monitor.specs.Belongs.{mutex_limits, opening_of, passes_of, share_of}
+use Rattle.lfm_monitor.proofs.Trails.{locked_rewritten}
 use Rattle.lfm_monitor.proofs.Knowing.{gained, may_all, room_left, arrived, again, of_next}
 use Rattle.lfm_monitor.proofs.monitors.Monitor.enter.Goals as goal
 
@@ -36,3 +37,7 @@ returns-clause-enters g c = let p = c.args.pass.now in let m = c.args.self.now i
 pub invariant_of-pass-in-Again-1 : goal.invariant_of-pass-in-Again-1
 invariant_of-pass-in-Again-1 g c = let p = c.args.pass.now in let locks = rw c.in-Again.is at c.in_ok-locked.ensures.locks in
     record { kept = again c.in-Again.depth (sight p.seat) (sight c.lock.new.seat) p.seen p.mine p.kept locks }
+
+pub returns-clause-steps : goal.returns-clause-steps
+returns-clause-steps g c = let w = c.write_took.ensures in
+    locked_rewritten (mutex_limits c.args.self.now) c.in-Held.how (sight c.args.pass.now.seat) (sight c.lock.new.seat) (sight c.write_took.new.seat) (Some w.1) w.3 (rw c.in-Held.is at c.in_ok-locked.ensures.steps)

@@ -1,7 +1,9 @@
-use Rattle.std.proofs.Common.{ap, ◌∙◌, ◌<◌}
+use Rattle.std.proofs.Common.{ap, ◌∙◌, ◌<◌, Some}
 use Rattle.lfm_mutex.specs.Belongs.{limits_of}
+use Rattle.lfm_protocol.specs.declared.answers.Call.{Call}
 use Rattle.lfm_mutex.specs.calls.Sight.{sight}
-use Rattle.lfm_monitor.specs.Belongs.{opening_of, passes_of, share_of}
+use Rattle.lfm_monitor.specs.Belongs.{mutex_limits, opening_of, passes_of, share_of}
+use Rattle.lfm_monitor.proofs.Trails.{rewritten}
 use Rattle.lfm_monitor.proofs.Knowing.{gained, may_all, room_left, arrived, again, looked, of_next, try_refused}
 use Rattle.lfm_monitor.proofs.monitors.Monitor.try_enter.Goals as goal
 
@@ -40,3 +42,7 @@ invariant_of-pass-in-Again-1 g c = let p = c.args.pass.now in let locks = rw c.i
 pub invariant_of-pass : goal.invariant_of-pass
 invariant_of-pass g c = let p = c.args.pass.now in let e = c.in_err-locked in
     record { kept = looked (sight p.seat) (sight c.try_lock.new.seat) p.seen p.mine p.kept (try_refused _ (limits_of c.args.self.now.mutex).budget (sight p.seat) (sight c.try_lock.new.seat) e.ensures.locks) }
+
+pub returns-clause-steps : goal.returns-clause-steps
+returns-clause-steps g c = let w = c.write_took.ensures in
+    rewritten (mutex_limits c.args.self.now) Call.TryLock (sight c.args.pass.now.seat) (sight c.try_lock.new.seat) (sight c.write_took.new.seat) _ (Some w.1) w.3 (rw c.in-Held.is at c.in_ok-locked.ensures.steps)

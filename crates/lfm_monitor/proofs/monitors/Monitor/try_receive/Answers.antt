@@ -1,6 +1,8 @@
-use Rattle.std.proofs.Common.{arith, ap, ◌∙◌, ◌<◌}
+use Rattle.std.proofs.Common.{arith, ap, ◌∙◌, ◌<◌, Some}
+use Rattle.lfm_protocol.specs.declared.answers.Call.{Call}
 use Rattle.lfm_mutex.specs.calls.Sight.{sight}
-use Rattle.lfm_monitor.specs.Belongs.{opening_of, passes_of, share_of}
+use Rattle.lfm_monitor.specs.Belongs.{mutex_limits, opening_of, passes_of, share_of}
+use Rattle.lfm_monitor.proofs.Trails.{rewritten}
 use Rattle.lfm_monitor.proofs.Knowing.{some_of, woken, may_all, arrived, looked, of_next}
 use Rattle.lfm_monitor.proofs.monitors.Monitor.try_receive.Goals as goal
 
@@ -35,3 +37,7 @@ returns-clause-enters g c = let p = c.args.pass.now in let m = c.args.self.now i
 pub invariant_of-pass-in-None : goal.invariant_of-pass-in-None
 invariant_of-pass-in-None g c = let p = c.args.pass.now in let r = rw c.in-None.is at c.in_ok-received.ensures.receives in
     record { kept = looked (sight p.seat) (sight c.try_receive.new.seat) p.seen p.mine p.kept r.2 }
+
+pub returns-clause-steps : goal.returns-clause-steps
+returns-clause-steps g c = let w = c.write_took.ensures in
+    rewritten (mutex_limits c.args.self.now) Call.Receive (sight c.args.pass.now.seat) (sight c.try_receive.new.seat) (sight c.write_took.new.seat) _ (Some w.1) w.3 (rw c.in-Some.is at c.in_ok-received.ensures.steps)

@@ -1,0 +1,24 @@
+-- The atomic steps of a monitor's calls: each makes those of one call of the mutex, on the pass's seat.
+use Rattle.std.specs.Prelude.{◌≡◌, Result, Ok, Err}
+use Rattle.lfm_model.specs.declared.answers.Locked.{Locked}
+use Rattle.lfm_model.specs.declared.refusals.Refusal.{Refusal}
+use Rattle.lfm_protocol.specs.declared.answers.Answer.{Answer}
+use Rattle.lfm_protocol.specs.declared.answers.Call.{Call}
+use Rattle.lfm_protocol.specs.declared.answers.Turn.TheVariants.{Ended, Refused}
+use Rattle.lfm_protocol.specs.declared.answers.Why.{Why}
+use Rattle.lfm_protocol.specs.declared.limits.Limits.{Limits}
+use Rattle.lfm_mutex.specs.calls.Sight.{Sight}
+use Rattle.lfm_mutex.specs.calls.Trails.{Makes, Locks_by}
+
+module _ {T : Type 0} (l : Limits) where
+  -- the seat has made the steps of this call of the mutex, and the answer is what the last of them says; refused as Busy, it has
+  -- made them too, and refused otherwise it has made none
+  abbrev pub By_steps : {A : Type 0} → (A → Answer) → Call → Sight T → Sight T → Result A Refusal → Type 0
+  By_steps answer call s t (Ok a) = Makes l call s t (Ended (answer a))
+  By_steps answer call s t (Err Refusal.Busy) = (cause : Why) × Makes l call s t (Refused cause)
+  By_steps answer call s t (Err r) = t ≡ s
+
+  -- the same of lock, whose steps are those of ask and of the receives after it
+  abbrev pub By_locking : Sight T → Sight T → Result Locked Refusal → Type 0
+  By_locking s t (Ok locked) = Locks_by l s t (Ok locked)
+  By_locking s t (Err r) = t ≡ s

@@ -76,7 +76,7 @@ module _ {O A R : Type 0} {K : _} where
       ap (λ (x : Sight (Journaled O A R K)). x.takes) w.3 ∙ h.takes,
       left_length s seen mine n kept (omega arith) long,
       refl,
-      enters_since r.0 s m (sight u) h.number h.journal e.5,
+      enters_since r.0 s m (sight u) h.number h.journal e.6,
     );
   }
 

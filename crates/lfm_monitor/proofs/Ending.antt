@@ -1,5 +1,5 @@
 -- What the journal is once all passes are back.
-use Rattle.std.proofs.Common.{subst, sym, ◌≡◌, ℕ, suc, ◌<◌, ◌≤◌, List, [], ◌∷◌, length, Some, refl, ◌∙◌, ap, arith}
+use Rattle.std.proofs.Common.{subst, sym, ◌≡◌, ℕ, suc, ◌<◌, ◌≤◌, List, [], ◌∷◌, ◌++◌, length, Some, refl, ◌∙◌, ap, arith}
 use mathlib.Core.Option.{some}
 use lib.ListN.{get_elem?}
 use Rattle.lfm_model.specs.Journals.{own, sum_to, total}
@@ -13,7 +13,7 @@ use Rattle.lfm_mutex.specs.Reach.{Reached}
 use Rattle.lfm_monitor.specs.declared.journals.Journaled.{Journaled}
 use Rattle.lfm_monitor.specs.Journaled.{Follows}
 use Rattle.lfm_monitor.specs.declared.passes.Pass.{Pass}
-use Rattle.lfm_monitor.specs.Passes.{Pass_kept, Began, journal_of, journal_at}
+use Rattle.lfm_monitor.specs.Passes.{Pass_kept, Began, Goes_on_to, journal_of, journal_at}
 use Rattle.lfm_monitor.proofs.Growth.{found, own_kept}
 use Rattle.lfm_monitor.proofs.Knowing.{some_of, known_left}
 
@@ -34,6 +34,10 @@ module _ {O A R : Type 0} {K : _} {P : Type 0} (seat : P → Sight (Journaled O 
   pub own_ends : (opening : O) (seats share : ℕ) (v : Journaled O A R K) (p : P) → Back opening seats share v p → own (seat p).number v.journal.items ≡ own (seat p).number (journal_of (seat p))
   own_ends opening seats share v p b = let l = some_of (seat p).last (kept p).there in let f = (found (seat p).number l.0 v (b.leads l.0 l.1)).1 in
       own_kept (seat p).number l.0.journal.items v.journal.items f ∙ ap (own (seat p).number) (sym (ap journal_at (known_left (seat p) l.0 ((kept p).free b.idle) l.1)))
+
+  pub order_ends : (opening : O) (seats share : ℕ) (v : Journaled O A R K) (p : P) → Back opening seats share v p → Goes_on_to (seat p) v.journal.items
+  order_ends opening seats share v p b = let l = some_of (seat p).last (kept p).there in let f = (found (seat p).number l.0 v (b.leads l.0 l.1)).1 in
+      (f.between, f.none_own, f.grown ∙ ap (λ js. js ++ f.between) (sym (ap journal_at (known_left (seat p) l.0 ((kept p).free b.idle) l.1))))
 
   pub mine_ends : (opening : O) (seats share : ℕ) (v : Journaled O A R K) (p : P) → Back opening seats share v p → mine p ≡ length (own (seat p).number v.journal.items)
   mine_ends opening seats share v p b = let l = some_of (seat p).last (kept p).there in let f = (found (seat p).number l.0 v (b.leads l.0 l.1)).1 in

@@ -65,6 +65,10 @@ module _ {O A R : Type 0} {K : _} where
   abbrev pub Enters : How → Sight (Journaled O A R K) → Sight (Journaled O A R K) → Type 0
   Enters how s t = (between : List (Entry A)) × (own s.number between ≡ []) × (journal_of t ≡ (journal_of s ++ between) ++ entry s.number (Took how) ∷ [])
 
+  -- the journal js is the one that the pass has in hand or left last, followed by entries of others alone
+  abbrev pub Goes_on_to : Sight (Journaled O A R K) → List (Entry A) → Type 0
+  Goes_on_to s js = (between : List (Entry A)) × (own s.number between ≡ []) × (js ≡ journal_of s ++ between)
+
   -- it holds at depth 1 now, and one more entry is its own
   abbrev pub Comes_in : How → Sight (Journaled O A R K) → Sight (Journaled O A R K) → ℕ → ℕ → Type 0
   Comes_in how s t mine mine' = (s.depth ≡ 0) × (t.depth ≡ 1) × (t.number ≡ s.number) × (t.asleep ≡ false) × (t.sends ≡ s.sends) × (mine' ≡ mine + 1) × Enters how s t

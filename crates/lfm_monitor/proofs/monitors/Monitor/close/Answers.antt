@@ -4,7 +4,7 @@ use Rattle.lfm_model.specs.Journals.{after_all}
 use Rattle.lfm_monitor.specs.Belongs.{opening_of, passes_of, share_of}
 use Rattle.lfm_monitor.specs.declared.passes.Pass.{Pass}
 use lib.ListN.{get_elem?}
-use Rattle.lfm_monitor.proofs.Ending.{backs, ends_as, kept_of, own_ends, mine_ends, whole}
+use Rattle.lfm_monitor.proofs.Ending.{backs, ends_as, kept_of, own_ends, mine_ends, order_ends, whole}
 use Rattle.lfm_monitor.proofs.monitors.Monitor.close.Goals as goal
 
 pub close-requires-clause-belongs : goal.close-requires-clause-belongs
@@ -17,6 +17,11 @@ returns-in-Ok-clause-mine g c j p at = let m = c.args.self in let v = c.in-Ok.jo
       own_ends seat (λ p. p.seen) (λ p. p.mine) (λ p. p.kept) (opening_of m) (passes_of m) (share_of m) v p b,
       mine_ends seat (λ p. p.seen) (λ p. p.mine) (λ p. p.kept) (opening_of m) (passes_of m) (share_of m) v p b,
     )
+
+pub returns-in-Ok-clause-order : goal.returns-in-Ok-clause-order
+returns-in-Ok-clause-order g c j p at = let m = c.args.self in let v = c.in-Ok.journaled in
+    let b = backs c.args.passes.items (passes_of m) (opening_of m) (share_of m) v c.in-Ok.ensures.all (λ j p at. (c.requires.belongs j p at).1) (λ j p l at is. c.in-Ok.ensures.reached j p l at is) j p at in
+    order_ends (λ (p : Pass g.row.O.Denot g.row.O-Op.Denot g.row.O-Reply.Denot g.O.Object). sight p.seat) (λ p. p.seen) (λ p. p.mine) (λ p. p.kept) (opening_of m) (passes_of m) (share_of m) v p b
 
 pub returns-in-Ok-clause-whole : goal.returns-in-Ok-clause-whole
 returns-in-Ok-clause-whole g c = let m = c.args.self in let ps = c.args.passes.items in let v = c.in-Ok.journaled in

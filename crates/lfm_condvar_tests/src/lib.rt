@@ -1,14 +1,21 @@
-//! Tests of the running condvar: two threads of which one waits, a send past the condvar, limits, and
-//! memory that runs out.
+//! Tests of the running condvar: two threads of which one waits, a send past the condvar, 32 threads that are woken at once,
+//! two condvars of one mutex, refusals, limits, and memory that runs out.
 #![tactic(auto)]
 
 #[cfg(test)]
 mod limits;
+#[cfg(test)]
+mod many_waiters;
 #[cfg(test)]
 mod out_of_memory;
 #[cfg(test)]
 mod pairs;
 #[cfg(test)]
 mod past_the_condvar;
+pub mod places;
+#[cfg(test)]
+mod refusals;
+#[cfg(test)]
+mod two_condvars;
 #[cfg(test)]
 mod two_threads;

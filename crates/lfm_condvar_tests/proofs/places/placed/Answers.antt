@@ -1,0 +1,11 @@
+use Rattle.lfm_condvar_tests.proofs.Pushing.{all_and_last}
+use Rattle.lfm_condvar_tests.specs.Places.{Of_shared}
+use Rattle.lfm_condvar_tests.proofs.places.placed.Goals as goal
+
+pub placing-preserved : goal.placing-preserved
+placing-preserved c = record {
+  seats = c.last_seat.ensures.rest;
+  first = c.last_cond_seat.ensures.rest;
+  second = c.last_cond_seat-in-placing.ensures.rest;
+  places = all_and_last (λ p. Of_shared p c.args.shared.now) c.placing.places.items c.push.new.self.items _ c.in-Ok.ensures.items (c.in_ok-seat.ensures.one, c.in_ok-first.ensures.one, c.in_ok-second.ensures.one, c.requires.wide.0, c.requires.wide.1) c.placing.invariant.places;
+}

@@ -1,5 +1,5 @@
-//! Tests of the running condvar: two threads of which one waits, a send past the condvar, 32 threads that are woken at once,
-//! two condvars of one mutex, refusals, limits, and memory that runs out.
+//! Tests of the running condvar: two threads of which one waits, a send past the condvar, 32 threads that are woken at
+//! once, two condvars of one mutex, refusals, limits, and memory that runs out.
 #![tactic(auto)]
 
 #[cfg(test)]

@@ -1,5 +1,5 @@
-//! Two condvars on one mutex: four threads take turns, two for even numbers and two for odd ones. Who waits for its turn waits
-//! on the condvar of its side, and each turn wakes one of the other side.
+//! Two condvars on one mutex: four threads take turns, two for even numbers and two for odd ones. Who waits for its turn
+//! waits on the condvar of its side, and each turn wakes one of the other side.
 ghost use Rattle.std.specs.Prelude.{All, IfOk};
 ghost use Rattle.lfm_condvar_tests.specs.Places.{Of_shared};
 

@@ -12,7 +12,7 @@ use lfm_monitor::{MAX_CONDITIONS, Monitor, Pass};
 use std::test::Fail;
 
 /// The two passes of a monitor that has two.
-fn take_two(
+pub fn take_two(
     monitor: &Monitor<Total>,
     mut passes: Vec<Pass<Total>>,
 ) -> Option<(Pass<Total>, Pass<Total>)>
@@ -26,7 +26,7 @@ fn take_two(
 }
 
 /// The pass of a monitor that has one.
-fn take_one(monitor: &Monitor<Total>, mut passes: Vec<Pass<Total>>) -> Option<Pass<Total>>
+pub fn take_one(monitor: &Monitor<Total>, mut passes: Vec<Pass<Total>>) -> Option<Pass<Total>>
     requires { (j : ℕ) (p : _) → get_elem? passes.items j ≡ some p → Of_monitor p monitor.now }
     ensures { IfSome result (λ p. Of_monitor p monitor.now) }
 {

@@ -8,5 +8,6 @@ pub mod Frames
 pub mod Outcomes
 pub mod events
 pub mod LockMoves
+pub mod Pushed
 pub mod Runs
 pub mod reached

@@ -4,4 +4,5 @@ pub mod Condvars
 pub mod Events
 pub mod Stages
 pub mod Claims
+pub mod Pushes
 pub mod Laws

@@ -1,17 +1,19 @@
 //! The laws of condition variables over the core. Each function here does nothing: its contract is the law, and its comment
 //! names the definition of the law and the file that proves it.
 //!
-//! The laws speak of one user mutex under any number of condvars, and of every list of calls that begin and of single steps, by
-//! any seats in any order, for every number of seats and every budget in their limits. A `wait` takes the lock of its condvar,
-//! adds its seat to the list, makes the steps of `start_wait`, gives the lock back, and receives until it holds. A wake takes
-//! the lock, makes the steps of `send_lock` for the oldest waiter, takes it off the list, goes on to the next one if it wakes
-//! all, and gives the lock back. The lock is one atomic lock here. All other calls of the mutex may come between any two steps;
-//! but a `start_wait` comes from a `wait` alone and a `send_lock` from a wake alone, which is the premise. The definitions are
-//! those of `specs/laws/Condvars.antt`, `specs/laws/Events.antt` and `specs/laws/Claims.antt`.
+//! The laws speak of one user mutex under any number of condvars, and of every list of calls that begin and of single
+//! steps, by any seats in any order, for every number of seats and every budget in their limits. A `wait` takes the lock of
+//! its condvar, adds its seat to the list, makes the steps of `start_wait`, gives the lock back, and receives until it
+//! holds. A wake takes the lock, makes the steps of `send_lock` for the oldest waiter, takes it off the list, goes on to
+//! the next one if it wakes all, and gives the lock back. The lock is one atomic lock here. All other calls of the mutex
+//! may come between any two steps; but a `start_wait` comes from a `wait` alone and a `send_lock` from a wake alone, which
+//! is the premise. The definitions are those of `specs/laws/Condvars.antt`, `specs/laws/Events.antt` and
+//! `specs/laws/Claims.antt`.
 ghost use Rattle.lfm_condvar.specs.laws.Laws.{
   ClaimsNeverFail,
   TicketsAreClaimedOnce,
   ClaimsAreInOrder,
+  PushesAreInOrder,
   LocksAreGivenBack,
   WakesEmptyTheList,
   WaitsAreNew,
@@ -26,8 +28,8 @@ ghost use Rattle.lfm_condvar.specs.laws.Laws.{
   OwnCallsAreFree,
 };
 
-/// The claim of a sender never fails: a seat that is about to make the exchange of a `send_lock` finds its target waiting. So no
-/// wake is refused as NotWaiting.
+/// The claim of a sender never fails: a seat that is about to make the exchange of a `send_lock` finds its target waiting.
+/// So no wake is refused as NotWaiting.
 ///
 /// Definition: `ClaimsNeverFail` in `specs/laws/Laws.antt`. Proof: `proofs/lawful/reached/ClaimsFound.antt`.
 pub fn claims_never_fail()
@@ -41,16 +43,25 @@ pub fn tickets_are_claimed_once()
     ensures { TicketsAreClaimedOnce }
 {}
 
-/// First come, first served: wakes claim the tickets of a condvar in the order in which they were given, from 1 on and with none
-/// left out. Where the lock is free, as many were claimed as count as sent.
+/// First come, first served: wakes claim the tickets of a condvar in the order in which they were given, from 1 on and with
+/// none left out. Where the lock is free, as many were claimed as count as sent.
 ///
 /// Definition: `ClaimsAreInOrder` in `specs/laws/Laws.antt`. Proof: `proofs/lawful/reached/WaitsSent.antt`.
 pub fn claims_are_in_order()
     ensures { ClaimsAreInOrder }
 {}
 
-/// The lock of a condvar is held by just the seat whose call has taken it and not yet given it back. Every wake gives it back:
-/// after its last event the lock is free.
+/// The order goes on in the user mutex: the records that the wakes of a condvar push into its push list, for their targets,
+/// go up by ticket, each for a seat that was claimed with this ticket. A target that finds the mutex free gains it without
+/// one.
+///
+/// Definition: `PushesAreInOrder` in `specs/laws/Laws.antt`. Proof: `proofs/lawful/reached/PushOrder.antt`.
+pub fn pushes_are_in_order()
+    ensures { PushesAreInOrder }
+{}
+
+/// The lock of a condvar is held by just the seat whose call has taken it and not yet given it back. Every wake gives it
+/// back: after its last event the lock is free.
 ///
 /// Definition: `LocksAreGivenBack` in `specs/laws/Laws.antt`. Proof: `proofs/lawful/reached/LocksBack.antt`.
 pub fn locks_are_given_back()
@@ -79,8 +90,8 @@ pub fn waits_are_sent()
     ensures { WaitsAreSent }
 {}
 
-/// Nothing else ends a `wait`: once it has given the lock back, its wake word is WAITING as long as no claim was made with its
-/// ticket.
+/// Nothing else ends a `wait`: once it has given the lock back, its wake word is WAITING as long as no claim was made with
+/// its ticket.
 ///
 /// Definition: `WaitsSleepUntilSent` in `specs/laws/Laws.antt`. Proof: `proofs/lawful/reached/WaitsSent.antt`.
 pub fn waits_sleep_until_sent()
@@ -101,40 +112,40 @@ pub fn waits_can_end()
     ensures { WaitsCanEnd }
 {}
 
-/// Wherever the lock of a condvar is free, the tickets in its list are those after the sent ones and up to the added ones, in
-/// order, and its seats are distinct.
+/// Wherever the lock of a condvar is free, the tickets in its list are those after the sent ones and up to the added ones,
+/// in order, and its seats are distinct.
 ///
 /// Definition: `ListsAreInOrder` in `specs/laws/Laws.antt`. Proof: `proofs/lawful/reached/ListOrder.antt`.
 pub fn lists_are_in_order()
     ensures { ListsAreInOrder }
 {}
 
-/// No lost wake-up: at every moment, each seat whose wake word is WAITING stands in the list of some condvar. So from the step
-/// by which it falls asleep until a wake claims it, every wake of that condvar which takes the lock finds it.
+/// No lost wake-up: at every moment, each seat whose wake word is WAITING stands in the list of some condvar. So from the
+/// step by which it falls asleep until a wake claims it, every wake of that condvar which takes the lock finds it.
 ///
 /// Definition: `SleepersAreListed` in `specs/laws/Laws.antt`. Proof: `proofs/lawful/reached/SleepersListed.antt`.
 pub fn sleepers_are_listed()
     ensures { SleepersAreListed }
 {}
 
-/// No `wait` is lost: wherever the lock of a condvar is free, its list has just the seats whose `wait` no wake has claimed yet,
-/// each with its ticket. So a wake finds every one of them.
+/// No `wait` is lost: wherever the lock of a condvar is free, its list has just the seats whose `wait` no wake has claimed
+/// yet, each with its ticket. So a wake finds every one of them.
 ///
 /// Definition: `WaitersAreListed` in `specs/laws/Laws.antt`. Proof: `proofs/lawful/reached/ListOrder.antt`.
 pub fn waiters_are_listed()
     ensures { WaitersAreListed }
 {}
 
-/// The user mutex goes as a schedule of its own would: calls and single steps of it do what events on condvars do to it. So all
-/// laws of every schedule hold of it.
+/// The user mutex goes as a schedule of its own would: calls and single steps of it do what events on condvars do to it. So
+/// all laws of every schedule hold of it.
 ///
 /// Definition: `CoresAreReached` in `specs/laws/Laws.antt`. Proof: `proofs/lawful/mutex/MutexRuns.antt`.
 pub fn cores_are_reached()
     ensures { CoresAreReached }
 {}
 
-/// Calls on condvars hinder nothing else: every call but `start_wait` and `send_lock`, and every step, of seats that are in no
-/// call on a condvar does to the user mutex what it does in a schedule of the mutex alone, and changes no condvar.
+/// Calls on condvars hinder nothing else: every call but `start_wait` and `send_lock`, and every step, of seats that are in
+/// no call on a condvar does to the user mutex what it does in a schedule of the mutex alone, and changes no condvar.
 ///
 /// Definition: `OwnCallsAreFree` in `specs/laws/Laws.antt`. Proof: `proofs/lawful/mutex/OwnCalls.antt`.
 pub fn own_calls_are_free()

@@ -61,7 +61,7 @@ event_outcome k g (makes s) fits = step_outcome k g s (k.stage s) fits refl (fit
 
 -- Runs
 
-claims_on-append : (v : ℕ) (first later : List Claim) → claims_on v (first ++ later) ≡ claims_on v first ++ claims_on v later
+pub claims_on-append : (v : ℕ) (first later : List Claim) → claims_on v (first ++ later) ≡ claims_on v first ++ claims_on v later
 claims_on-append v [] later = refl
 claims_on-append v (x ∷ rest) later =
     elim (cases_Bool (nat_eq x.condvar v)) [
@@ -94,10 +94,10 @@ entry_replicate d zero (suc s) = refl
 entry_replicate d (suc n) (suc zero) = refl
 entry_replicate d (suc n) (suc (suc s)) = entry_replicate d n (suc s)
 
-abbrev start_ghost : Ghost → CondvarGhost
+abbrev pub start_ghost : Ghost → CondvarGhost
 start_ghost m = record { mutex = m; given = λ v ticket. 0; claimed = λ v. 0 }
 
-start_fits : (limits : Limits) (m : Ghost) → Fits (start limits) m → CoreFits (condvar_start limits) (start_ghost m)
+pub start_fits : (limits : Limits) (m : Ghost) → Fits (start limits) m → CoreFits (condvar_start limits) (start_ghost m)
 start_fits limits m fits =
     record {
       mutex = fits;

@@ -3,3 +3,4 @@ pub mod Outside
 pub mod SendPoints
 pub mod WaitPoints
 pub mod ReceivePoints
+pub mod PushPoints

@@ -6,3 +6,4 @@ pub mod OneWait
 pub mod SleepersListed
 pub mod LocksBack
 pub mod ListsEmptied
+pub mod PushOrder

@@ -13,6 +13,7 @@ use Rattle.lfm_core.specs.laws.Schedules as Schedules
 use Rattle.lfm_condvar.specs.laws.Claims.{claim_record, claims_on, seats_with}
 use Rattle.lfm_condvar.specs.laws.Condvars.{Waiter, Condvar, outside, locking_to_wait, receiving, unlocking, CondvarCore, point_of, put_mutex, is_listed, condvar_start}
 use Rattle.lfm_condvar.specs.laws.Events.{CondvarEvent, as_event, is_own_event, happens, run_of, reached}
+use Rattle.lfm_condvar.specs.laws.Pushes.{push_record}
 use Rattle.lfm_condvar.specs.laws.Stages.{has_lock, is_wake, sends_all}
 
 -- a run of one user mutex and its condvars, for any number of seats and any budget in their limits
@@ -32,6 +33,10 @@ claims_of r v = claims_on v (claim_record (condvar_start r.limits) r.events)
 -- the seats of the claims with this condvar and ticket
 abbrev pub claims_with : CondvarRun → ℕ → ℕ → List ℕ
 claims_with r v ticket = seats_with ticket (claims_of r v)
+
+-- the waiters of this condvar for whom its wakes pushed a record, in order
+abbrev pub pushes_of : CondvarRun → ℕ → List Waiter
+pushes_of r v = claims_on v (push_record (condvar_start r.limits) r.events)
 
 -- The user mutex
 
@@ -64,6 +69,12 @@ ClaimsAreInOrder =
     → (map (λ x. x.ticket) (claims_of r v) ≡ range_with_len 1 (length (claims_of r v)))
     × (((reached_by r).condvar v).holder ≡ 0 → length (claims_of r v) ≡ ((reached_by r).condvar v).sent)
 
+-- The records that the wakes of a condvar push are of claims of theirs, and go up by ticket
+abbrev pub PushesAreInOrder : Type 0
+PushesAreInOrder =
+    (r : CondvarRun) (v : ℕ)
+    → AllPairs (λ first second. first.ticket < second.ticket) (pushes_of r v) × All (Contains (claims_of r v)) (pushes_of r v)
+
 -- Locks
 
 -- The lock of a condvar is that of the seat whose call has taken it and not given it back. Where a wake has made its last event,
@@ -73,7 +84,7 @@ LocksAreGivenBack =
     (r : CondvarRun) (s v : ℕ)
     → (0 < s → (((reached_by r).condvar v).holder ≡ s) ↔ (has_lock v ((reached_by r).stage s) ≡ true))
     × ((e : CondvarEvent) → is_wake v ((reached_by r).stage s) ≡ true → (happens (reached_by r) e).stage s ≡ outside
-        → ((happens (reached_by r) e).condvar v).holder ≡ 0)
+    → ((happens (reached_by r) e).condvar v).holder ≡ 0)
 
 -- Wakes
 

@@ -10,10 +10,9 @@ use Rattle.lfm_condvar.specs.laws.Events.{CondvarEvent, makes, is_outside, sends
 use Rattle.lfm_condvar.specs.laws.Laws.{CondvarRun, reached_by, WakesEmptyTheList}
 use Rattle.lfm_condvar.specs.laws.Stages.{sends_all}
 use Rattle.lfm_condvar.proofs.lawful.Invariant.{StageFits}
-use Rattle.lfm_condvar.proofs.lawful.LockMoves.{stage_by}
+use Rattle.lfm_condvar.proofs.lawful.LockMoves.{same_condvar, stage_by}
 use Rattle.lfm_condvar.proofs.lawful.Runs.{run_reaches}
 use Rattle.lfm_condvar.proofs.lawful.reached.ClaimsFound.{claims_never_fail}
-use Rattle.lfm_condvar.proofs.lawful.reached.LocksBack.{same_condvar}
 
 -- it sends no more, and nobody is in the list
 abbrev IsEmptied : CondvarCore → ℕ → ℕ → Type 0

@@ -1,6 +1,6 @@
 -- Who has the lock of a condvar: the seat whose call has taken it and not given it back. A wake ends by giving it back.
 use Rattle.std.proofs.Common.{◌≡◌, ℕ, Bool, true, false, ◌<◌, List, [], ◌∷◌, nat_eq, refl, sym, ap, ◌∙◌, inl, inr, arith, if◌then◌else◌}
-use Rattle.std.proofs.lemmas.Bool.{cases_eq, ne_eqb, false≢true}
+use Rattle.std.proofs.lemmas.Bool.{cases_eq, false≢true}
 use Rattle.lfm_protocol.specs.declared.limits.Limits.{Limits}
 use Rattle.lfm_protocol.specs.Step.{step}
 use Rattle.lfm_protocol.specs.Turns.{is_open}
@@ -10,8 +10,7 @@ use Rattle.lfm_condvar.specs.laws.Condvars.{Waiter, Stage, outside, locking_to_w
 use Rattle.lfm_condvar.specs.laws.Events.{CondvarEvent, makes, is_outside, mutex_steps, sends_next, removed, goes_on, happens, run_of}
 use Rattle.lfm_condvar.specs.laws.Laws.{reached_by, LocksAreGivenBack}
 use Rattle.lfm_condvar.specs.laws.Stages.{has_lock, is_wake}
-use Rattle.lfm_condvar.proofs.lawful.Invariant.{CondvarGhost, StageFits}
-use Rattle.lfm_condvar.proofs.lawful.LockMoves.{SeatMoves, LockMoves, event_moves, stage_by}
+use Rattle.lfm_condvar.proofs.lawful.LockMoves.{SeatMoves, LockMoves, actor, event_moves, held_by, same_condvar, stage_by}
 use Rattle.lfm_condvar.proofs.lawful.Runs.{run_reaches}
 
 -- Who has it
@@ -39,29 +38,10 @@ after_moves k l s fits moves w t some holds = one_fits k l s w t fits moves some
 run_fits : (k : CondvarCore) (events : List CondvarEvent) → LocksFit k → LocksFit (run_of k events)
 run_fits k [] fits = fits
 run_fits k (e ∷ later) fits =
-    let m = event_moves k e in
-    run_fits (happens k e) later (after_moves k (happens k e) m.0 fits m.1)
+    run_fits (happens k e) later (after_moves k (happens k e) (actor e) fits (event_moves k e))
 
 start_fits : (limits : Limits) → LocksFit (condvar_start limits)
 start_fits limits w t some free = absurd (omega (arith, some, free))
-
--- a call that has the lock is by the seat that holds it
-pub same_condvar : (v w : ℕ) → nat_eq w v ≡ true → w ≡ v
-same_condvar v w is =
-    elim (cases_eq w v) [
-      | inl same ↦ same
-      | inr other ↦ absurd (false≢true (sym (ne_eqb w v other) ∙ is))
-    ]
-
-held_by : (k : CondvarCore) (g : CondvarGhost) (s v : ℕ) (d : Stage) → StageFits k g s d → has_lock v d ≡ true → (k.condvar v).holder ≡ s
-held_by k g s v outside own has = absurd (false≢true has)
-held_by k g s v (locking_to_wait w) own has = absurd (false≢true has)
-held_by k g s v (starting w ticket) own has = ap (λ u. (k.condvar u).holder) (sym (same_condvar v w has)) ∙ own.locks.holds
-held_by k g s v (receiving w ticket) own has = absurd (false≢true has)
-held_by k g s v (locking_to_wake w all) own has = absurd (false≢true has)
-held_by k g s v (claiming w all oldest) own has = ap (λ u. (k.condvar u).holder) (sym (same_condvar v w has)) ∙ own.locks.holds
-held_by k g s v (sending w all oldest) own has = ap (λ u. (k.condvar u).holder) (sym (same_condvar v w has)) ∙ own.locks.holds
-held_by k g s v (unlocking w) own has = ap (λ u. (k.condvar u).holder) (sym (same_condvar v w has)) ∙ own.locks.holds
 
 -- The last event of a wake
 

@@ -1,5 +1,5 @@
 -- The first line of a text that says nothing is the one that is named.
-use Rattle.std.proofs.Common.{◌≡◌, ◌≢◌, ◌+◌, ◌<◌, zero, suc, ℕ, Bool, true, false, cond, is_some, length, List, [], ◌∷◌, Option, Some, None, Result, Ok, Err, ◌⊎◌, inl, inr, get_or, refl, sym, ◌∙◌, ap, arith}
+use Rattle.std.proofs.Common.{◌≡◌, ◌+◌, ◌<◌, zero, suc, ℕ, Bool, true, false, cond, is_some, length, List, [], ◌∷◌, Option, Some, None, Result, Ok, Err, ◌⊎◌, inl, inr, get_or, refl, sym, ◌∙◌, ap, arith}
 use Rattle.lfm_program.specs.declared.script.ScriptLine.{ScriptLine}
 use Rattle.lfm_program.specs.declared.faults.WorkFault.{WorkFault}
 use Rattle.lfm_program.specs.declared.faults.WorkFault.TheVariants.{Syntax, Limit}

@@ -1,5 +1,5 @@
 -- The lines that were read before those to come.
-use Rattle.std.proofs.Common.{◌≡◌, ◌+◌, ℕ, List, [], ◌∷◌, ◌++◌, Option, Some, None, Result, Ok, Err, refl, ap, append_assoc}
+use Rattle.std.proofs.Common.{◌≡◌, ◌+◌, ℕ, List, [], ◌∷◌, ◌++◌, Some, None, Result, Ok, Err, refl, ap, append_assoc}
 use Rattle.lfm_program.specs.declared.script.ScriptLine.{ScriptLine}
 use Rattle.lfm_program.specs.declared.faults.WorkFault.{WorkFault}
 use Rattle.lfm_program.specs.declared.faults.WorkFault.TheVariants.{Syntax}

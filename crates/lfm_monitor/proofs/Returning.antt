@@ -92,16 +92,16 @@ module _ {O A R : Type 0} {K : _} where
   wait_refused user own c d s t Refusal.Busy h = h.3.4
 
   -- how wait ends where the pass may wait, and the condvar refused it
-  pub refused : (user own : Limits) (count condition : ℕ) (cs ds : List CondSeat) (s t : Sight (Journaled O A R K)) (mine : ℕ) (r : Refusal) → May_wait user.budget s mine → s.number ≤ own.seats
-      → On_condition condition cs ds (λ c d. Cond_wait_ends Follows Fits user own c d s t (Err r)) → Wait_ends user own count condition cs ds s t mine (Err r)
-  refused user own count condition cs ds s t mine Refusal.Asleep may named h = absurd (let a = may.0 in let b = h.6.0 in cc)
-  refused user own count condition cs ds s t mine Refusal.NotOwner may named h = absurd (let a = may.1 in let b = h.6.0.1 in omega arith)
-  refused user own count condition cs ds s t mine Refusal.Nested may named h = absurd (let a = may.1 in let b = h.6.0.1 in omega arith)
-  refused user own count condition cs ds s t mine Refusal.DepthFull may named h = absurd h.6.0
-  refused user own count condition cs ds s t mine Refusal.Spent may named h = (
-    inr (may, (h.0, h.1, h.2, h.3, h.4, h.5, ⊎_elim (λ q. absurd (let a = may.2 in omega arith)) (λ q. (q, h.6.3)) h.6.2)),
+  pub refused : (user own : Limits) (share count condition : ℕ) (cs ds : List CondSeat) (s t : Sight (Journaled O A R K)) (mine : ℕ) (r : Refusal) → user.budget ≡ share → May_wait share s mine → s.number ≤ own.seats
+      → On_condition condition cs ds (λ c d. Cond_wait_ends Follows Fits user own c d s t (Err r)) → Wait_ends user own share count condition cs ds s t mine (Err r)
+  refused user own share count condition cs ds s t mine Refusal.Asleep spent may named h = absurd (let a = may.0 in let b = h.6.0 in cc)
+  refused user own share count condition cs ds s t mine Refusal.NotOwner spent may named h = absurd (let a = may.1 in let b = h.6.0.1 in omega arith)
+  refused user own share count condition cs ds s t mine Refusal.Nested spent may named h = absurd (let a = may.1 in let b = h.6.0.1 in omega arith)
+  refused user own share count condition cs ds s t mine Refusal.DepthFull spent may named h = absurd h.6.0
+  refused user own share count condition cs ds s t mine Refusal.Spent spent may named h = (
+    inr (may, (h.0, h.1, h.2, h.3, h.4, h.5, ⊎_elim (λ q. absurd (let a = may.2 in let b = spent in omega arith)) (λ q. (q, h.6.3)) h.6.2)),
     h.6.4,
   )
-  refused user own count condition cs ds s t mine Refusal.NoSuchSeat may named h = absurd (let a = h.6.2 in omega arith)
-  refused user own count condition cs ds s t mine Refusal.NotWaiting may named h = absurd h.6.0
-  refused user own count condition cs ds s t mine Refusal.Busy may named h = (may, h)
+  refused user own share count condition cs ds s t mine Refusal.NoSuchSeat spent may named h = absurd (let a = h.6.2 in omega arith)
+  refused user own share count condition cs ds s t mine Refusal.NotWaiting spent may named h = absurd h.6.0
+  refused user own share count condition cs ds s t mine Refusal.Busy spent may named h = (may, h)

@@ -85,26 +85,26 @@ module _ {O A R : Type 0} {K : _} where
   sent_began opening seats share s t of is = subst (λ (u : Sight (Journaled O A R K)). Began opening seats share u) (sym is) of
 
   -- how a wake of the monitor ends that was made on the condvar of its condition
-  pub wakes_one : (user own : Limits) (count condition : ℕ) (cs ds : List CondSeat) (s t : Sight (Journaled O A R K)) (r : Result (Option (ℕ × ℕ)) Refusal) → s.asleep ≡ false
-      → On_condition condition cs ds (λ c d. Cond_wake_one_ends user.seats own c d s t r) → Wake_one_ends user own count condition cs ds s t r
-  wakes_one user own count condition cs ds s t (Ok x) awake h = h
-  wakes_one user own count condition cs ds s t (Err Refusal.Asleep) awake h = absurd (let q = h.6.0 in cc)
-  wakes_one user own count condition cs ds s t (Err Refusal.NotOwner) awake h = h
-  wakes_one user own count condition cs ds s t (Err Refusal.Nested) awake h = h
-  wakes_one user own count condition cs ds s t (Err Refusal.DepthFull) awake h = h
-  wakes_one user own count condition cs ds s t (Err Refusal.Spent) awake h = h
-  wakes_one user own count condition cs ds s t (Err Refusal.NoSuchSeat) awake h = absurd h.6.3
-  wakes_one user own count condition cs ds s t (Err Refusal.NotWaiting) awake h = h
-  wakes_one user own count condition cs ds s t (Err Refusal.Busy) awake h = h
+  pub wakes_one : (n : ℕ) (own : Limits) (count condition : ℕ) (cs ds : List CondSeat) (s t : Sight (Journaled O A R K)) (r : Result (Option (ℕ × ℕ)) Refusal) → s.asleep ≡ false
+      → On_condition condition cs ds (λ c d. Cond_wake_one_ends n own c d s t r) → Wake_one_ends n own count condition cs ds s t r
+  wakes_one n own count condition cs ds s t (Ok x) awake h = h
+  wakes_one n own count condition cs ds s t (Err Refusal.Asleep) awake h = absurd (let q = h.6.0 in cc)
+  wakes_one n own count condition cs ds s t (Err Refusal.NotOwner) awake h = h
+  wakes_one n own count condition cs ds s t (Err Refusal.Nested) awake h = h
+  wakes_one n own count condition cs ds s t (Err Refusal.DepthFull) awake h = h
+  wakes_one n own count condition cs ds s t (Err Refusal.Spent) awake h = h
+  wakes_one n own count condition cs ds s t (Err Refusal.NoSuchSeat) awake h = absurd h.6.3
+  wakes_one n own count condition cs ds s t (Err Refusal.NotWaiting) awake h = h
+  wakes_one n own count condition cs ds s t (Err Refusal.Busy) awake h = h
 
-  pub wakes_all : (user own : Limits) (count condition : ℕ) (cs ds : List CondSeat) (s t : Sight (Journaled O A R K)) (r : Result ℕ Refusal) → s.asleep ≡ false
-      → On_condition condition cs ds (λ c d. Cond_wake_all_ends user.seats own c d s t r) → Wake_all_ends user own count condition cs ds s t r
-  wakes_all user own count condition cs ds s t (Ok k) awake h = h
-  wakes_all user own count condition cs ds s t (Err Refusal.Asleep) awake h = absurd (let q = h.6.0 in cc)
-  wakes_all user own count condition cs ds s t (Err Refusal.NotOwner) awake h = h
-  wakes_all user own count condition cs ds s t (Err Refusal.Nested) awake h = h
-  wakes_all user own count condition cs ds s t (Err Refusal.DepthFull) awake h = h
-  wakes_all user own count condition cs ds s t (Err Refusal.Spent) awake h = h
-  wakes_all user own count condition cs ds s t (Err Refusal.NoSuchSeat) awake h = absurd h.6.3
-  wakes_all user own count condition cs ds s t (Err Refusal.NotWaiting) awake h = h
-  wakes_all user own count condition cs ds s t (Err Refusal.Busy) awake h = h
+  pub wakes_all : (n : ℕ) (own : Limits) (count condition : ℕ) (cs ds : List CondSeat) (s t : Sight (Journaled O A R K)) (r : Result ℕ Refusal) → s.asleep ≡ false
+      → On_condition condition cs ds (λ c d. Cond_wake_all_ends n own c d s t r) → Wake_all_ends n own count condition cs ds s t r
+  wakes_all n own count condition cs ds s t (Ok k) awake h = h
+  wakes_all n own count condition cs ds s t (Err Refusal.Asleep) awake h = absurd (let q = h.6.0 in cc)
+  wakes_all n own count condition cs ds s t (Err Refusal.NotOwner) awake h = h
+  wakes_all n own count condition cs ds s t (Err Refusal.Nested) awake h = h
+  wakes_all n own count condition cs ds s t (Err Refusal.DepthFull) awake h = h
+  wakes_all n own count condition cs ds s t (Err Refusal.Spent) awake h = h
+  wakes_all n own count condition cs ds s t (Err Refusal.NoSuchSeat) awake h = absurd h.6.3
+  wakes_all n own count condition cs ds s t (Err Refusal.NotWaiting) awake h = h
+  wakes_all n own count condition cs ds s t (Err Refusal.Busy) awake h = h

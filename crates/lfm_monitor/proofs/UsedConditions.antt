@@ -3,7 +3,6 @@ use Rattle.std.proofs.Common.{◌≡◌, ⊎_elim, ℕ, ◌<◌, List, length, g
 use Rattle.std.proofs.lemmas.List.{length-set}
 use mathlib.Core.Option.{some, some-injective}
 use lib.ListN.{get_elem?}
-use Rattle.lfm_mutex.specs.Belongs.{limits_of}
 use Rattle.lfm_condvar.specs.declared.condvars.Condvar.{Condvar}
 use Rattle.lfm_condvar.specs.declared.seats.CondSeat.{CondSeat}
 use Rattle.lfm_condvar.specs.Belongs.{Of_condvar, cond_limits}
@@ -11,7 +10,6 @@ use Rattle.lfm_monitor.specs.declared.monitors.Monitor.{Monitor}
 use Rattle.lfm_monitor.specs.declared.passes.Pass.{Pass}
 use Rattle.lfm_monitor.specs.Belongs.{Of_monitor, cond_seats_of, conditions_in, passes_of}
 use Rattle.lfm_monitor.specs.CondSeats.{Of_conditions, condition_limits}
-use Rattle.lfm_monitor.specs.Conditions.{mutex_limits}
 use Rattle.lfm_monitor.proofs.Places.{stands, stands_or_was}
 
 -- a cond seat of this condition stands in the place of the other
@@ -39,7 +37,3 @@ module _ {O A R : Type 0} {K : _} where
     belongs = of.2.each n c v a b;
     limits = m.wide n v b;
   }
-
-  -- the limits of the mutex by the monitor's own words
-  pub limits_are : (m : Monitor O A R K) → limits_of m.mutex ≡ mutex_limits m
-  limits_are m = ap (λ (b : ℕ). record { seats = (limits_of m.mutex).seats; budget = b }) m.shared

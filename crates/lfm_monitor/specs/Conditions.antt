@@ -1,5 +1,6 @@
 -- How `wait` and the wakes end, on a condition of the monitor. The pass's seat is seen as s before and as t after; its cond seats
--- are cs before and ds after. The mutex of the monitor has the limits `user`, and each of its conditions the limits `own`.
+-- are cs before and ds after. The mutex of the monitor has the limits `user`, and each of its conditions the limits `own`; a pass
+-- may write `share` entries, and take the monitor as often.
 use Rattle.std.specs.Prelude.{◌≡◌, ◌⊎◌, ℕ, ◌+◌, ◌<◌, ◌≤◌, List, [], ◌∷◌, ◌++◌, length, true, false, slice_set, Option, Some, Result, Ok, Err}
 use mathlib.Core.Option.{some}
 use lib.ListN.{get_elem?}
@@ -17,8 +18,6 @@ use Rattle.lfm_condvar.specs.Waits.{Wait_ends as Cond_wait_ends}
 use Rattle.lfm_condvar.specs.Wakes.{Wake_one_ends as Cond_wake_one_ends, Wake_all_ends as Cond_wake_all_ends}
 use Rattle.lfm_monitor.specs.declared.journals.Journaled.{Journaled}
 use Rattle.lfm_monitor.specs.Journaled.{Fits, Follows, Same_monitor}
-use Rattle.lfm_monitor.specs.declared.monitors.Monitor.{Monitor}
-use Rattle.lfm_monitor.specs.Belongs.{passes_of, share_of}
 use Rattle.lfm_monitor.specs.Passes.{Enters, journal_of}
 
 -- the conditions are 1 to count, and this is none of them
@@ -39,10 +38,6 @@ abbrev pub Only_sends : {T : Type 0} → Sight T → Sight T → Type 0
 Only_sends s t = t ≡ record s { trail = t.trail; sends = t.sends }
 
 module _ {O A R : Type 0} {K : _} where
-  -- how many seats the mutex of the monitor has, and how many takes each of them may make
-  abbrev pub mutex_limits : Monitor O A R K → Limits
-  mutex_limits m = record { seats = passes_of m; budget = share_of m }
-
   -- this entry of the pass was written, and nothing else of its seat is other than it was
   abbrev pub Adds : What A → Sight (Journaled O A R K) → Sight (Journaled O A R K) → Type 0
   Adds what s t =
@@ -63,15 +58,15 @@ module _ {O A R : Type 0} {K : _} where
 
   -- How wait ends, of a pass with so many entries. Between s and t it is seen as m: it waited as on a condvar, and then its take was
   -- written
-  abbrev pub Wait_ends : Limits → Limits → ℕ → ℕ → List CondSeat → List CondSeat → Sight (Journaled O A R K) → Sight (Journaled O A R K) → ℕ → Result (How × ℕ) Refusal → Type 0
-  Wait_ends user own count condition cs ds s t mine (Ok r) =
-      May_wait user.budget s mine × On_condition condition cs ds (λ c d. (m : Sight (Journaled O A R K)) × Cond_wait_ends Follows Fits user own c d s m (Ok r) × Adds (Took r.0) m t)
-  Wait_ends user own count condition cs ds s t mine (Err Refusal.NoSuchSeat) = May_wait user.budget s mine × Is_missing count condition × (ds ≡ cs) × (t ≡ s)
-  Wait_ends user own count condition cs ds s t mine (Err Refusal.Spent) =
-      (Wait_refused user.budget s mine Refusal.Spent × (ds ≡ cs) ⊎ (May_wait user.budget s mine × On_condition condition cs ds (Is_spent own))) × (t ≡ s)
-  Wait_ends user own count condition cs ds s t mine (Err Refusal.Busy) =
-      May_wait user.budget s mine × On_condition condition cs ds (λ c d. Cond_wait_ends Follows Fits user own c d s t (Err Refusal.Busy))
-  Wait_ends user own count condition cs ds s t mine (Err r) = Wait_refused user.budget s mine r × (ds ≡ cs) × (t ≡ s)
+  abbrev pub Wait_ends : Limits → Limits → ℕ → ℕ → ℕ → List CondSeat → List CondSeat → Sight (Journaled O A R K) → Sight (Journaled O A R K) → ℕ → Result (How × ℕ) Refusal → Type 0
+  Wait_ends user own share count condition cs ds s t mine (Ok r) =
+      May_wait share s mine × On_condition condition cs ds (λ c d. (m : Sight (Journaled O A R K)) × Cond_wait_ends Follows Fits user own c d s m (Ok r) × Adds (Took r.0) m t)
+  Wait_ends user own share count condition cs ds s t mine (Err Refusal.NoSuchSeat) = May_wait share s mine × Is_missing count condition × (ds ≡ cs) × (t ≡ s)
+  Wait_ends user own share count condition cs ds s t mine (Err Refusal.Spent) =
+      (Wait_refused share s mine Refusal.Spent × (ds ≡ cs) ⊎ (May_wait share s mine × On_condition condition cs ds (Is_spent own))) × (t ≡ s)
+  Wait_ends user own share count condition cs ds s t mine (Err Refusal.Busy) =
+      May_wait share s mine × On_condition condition cs ds (λ c d. Cond_wait_ends Follows Fits user own c d s t (Err Refusal.Busy))
+  Wait_ends user own share count condition cs ds s t mine (Err r) = Wait_refused share s mine r × (ds ≡ cs) × (t ≡ s)
 
   -- What a wait is to its pass: it leaves, and comes in again. A refusal leaves it as it was
   abbrev pub Wait_returns : Sight (Journaled O A R K) → Sight (Journaled O A R K) → ℕ → ℕ → ℕ → ℕ → Result (How × ℕ) Refusal → Type 0
@@ -86,14 +81,14 @@ module _ {O A R : Type 0} {K : _} where
   Wake_refused count condition s Refusal.NoSuchSeat = (s.asleep ≡ false) × Is_missing count condition
   Wake_refused count condition s _ = ⊥
 
-  -- how wake_one ends
-  abbrev pub Wake_one_ends : Limits → Limits → ℕ → ℕ → List CondSeat → List CondSeat → Sight (Journaled O A R K) → Sight (Journaled O A R K) → Result (Option (ℕ × ℕ)) Refusal → Type 0
-  Wake_one_ends user own count condition cs ds s t (Err Refusal.Asleep) = Wake_refused count condition s Refusal.Asleep × (ds ≡ cs) × (t ≡ s)
-  Wake_one_ends user own count condition cs ds s t (Err Refusal.NoSuchSeat) = Wake_refused count condition s Refusal.NoSuchSeat × (ds ≡ cs) × (t ≡ s)
-  Wake_one_ends user own count condition cs ds s t r = On_condition condition cs ds (λ c d. Cond_wake_one_ends user.seats own c d s t r)
+  -- how wake_one ends, of a monitor with n passes
+  abbrev pub Wake_one_ends : ℕ → Limits → ℕ → ℕ → List CondSeat → List CondSeat → Sight (Journaled O A R K) → Sight (Journaled O A R K) → Result (Option (ℕ × ℕ)) Refusal → Type 0
+  Wake_one_ends n own count condition cs ds s t (Err Refusal.Asleep) = Wake_refused count condition s Refusal.Asleep × (ds ≡ cs) × (t ≡ s)
+  Wake_one_ends n own count condition cs ds s t (Err Refusal.NoSuchSeat) = Wake_refused count condition s Refusal.NoSuchSeat × (ds ≡ cs) × (t ≡ s)
+  Wake_one_ends n own count condition cs ds s t r = On_condition condition cs ds (λ c d. Cond_wake_one_ends n own c d s t r)
 
-  -- how wake_all ends
-  abbrev pub Wake_all_ends : Limits → Limits → ℕ → ℕ → List CondSeat → List CondSeat → Sight (Journaled O A R K) → Sight (Journaled O A R K) → Result ℕ Refusal → Type 0
-  Wake_all_ends user own count condition cs ds s t (Err Refusal.Asleep) = Wake_refused count condition s Refusal.Asleep × (ds ≡ cs) × (t ≡ s)
-  Wake_all_ends user own count condition cs ds s t (Err Refusal.NoSuchSeat) = Wake_refused count condition s Refusal.NoSuchSeat × (ds ≡ cs) × (t ≡ s)
-  Wake_all_ends user own count condition cs ds s t r = On_condition condition cs ds (λ c d. Cond_wake_all_ends user.seats own c d s t r)
+  -- how wake_all ends, of a monitor with n passes
+  abbrev pub Wake_all_ends : ℕ → Limits → ℕ → ℕ → List CondSeat → List CondSeat → Sight (Journaled O A R K) → Sight (Journaled O A R K) → Result ℕ Refusal → Type 0
+  Wake_all_ends n own count condition cs ds s t (Err Refusal.Asleep) = Wake_refused count condition s Refusal.Asleep × (ds ≡ cs) × (t ≡ s)
+  Wake_all_ends n own count condition cs ds s t (Err Refusal.NoSuchSeat) = Wake_refused count condition s Refusal.NoSuchSeat × (ds ≡ cs) × (t ≡ s)
+  Wake_all_ends n own count condition cs ds s t r = On_condition condition cs ds (λ c d. Cond_wake_all_ends n own c d s t r)

@@ -1,7 +1,7 @@
 //! How a pass waits on a condition: it leaves, sleeps until it is sent, and comes in again, which is written down.
-ghost use Rattle.lfm_monitor.specs.Belongs.{Of_monitor, cond_seats_of, conditions_of, mine_of, pass_sight, passes_of, seen_of};
+ghost use Rattle.lfm_monitor.specs.Belongs.{Of_monitor, cond_seats_of, conditions_of, mine_of, mutex_limits, pass_sight, passes_of, seen_of, share_of};
 ghost use Rattle.lfm_monitor.specs.CondSeats.{condition_limits};
-ghost use Rattle.lfm_monitor.specs.Conditions.{May_wait, Wait_ends, Wait_refused, Wait_returns, mutex_limits};
+ghost use Rattle.lfm_monitor.specs.Conditions.{May_wait, Wait_ends, Wait_refused, Wait_returns};
 ghost use Rattle.lfm_mutex.specs.Belongs.{budget_of};
 ghost use Rattle.lfm_mutex.specs.calls.Sight.{sight};
 ghost use Rattle.std.specs.Prelude.{◌≡◌, MatchOption};
@@ -55,7 +55,7 @@ impl<O: Object> Monitor<O> {
     ) -> Result<(How, u64), Refusal>
         requires belongs { Of_monitor pass.old self.now }
         ensures belongs { Of_monitor pass.new self.now }
-        ensures waits { Wait_ends (mutex_limits self.now) (condition_limits (passes_of self.now)) (conditions_of self.now) condition (cond_seats_of pass.old) (cond_seats_of pass.new) (pass_sight pass.old) (pass_sight pass.new) (mine_of pass.old) result }
+        ensures waits { Wait_ends (mutex_limits self.now) (condition_limits (passes_of self.now)) (share_of self.now) (conditions_of self.now) condition (cond_seats_of pass.old) (cond_seats_of pass.new) (pass_sight pass.old) (pass_sight pass.new) (mine_of pass.old) result }
         ensures returns { Wait_returns (pass_sight pass.old) (pass_sight pass.new) (seen_of pass.old) (seen_of pass.new) (mine_of pass.old) (mine_of pass.new) result }
     {
         if let Some(refusal) = pass.bars_wait(self.share) {

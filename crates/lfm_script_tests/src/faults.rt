@@ -26,7 +26,11 @@ fn numbers_out_of_range(rt: HostRuntime) {
         b"workers 1 1\n999999999999999999 all 1",
     ];
     for (index, text) in texts.iter().enumerate() {
-        assert_eq!(rt; fault_of(rt.alloc(), text), Some(WorkFault::Limit), "text {index}");
+        assert_eq!(rt;
+            fault_of(rt.alloc(), text),
+            Some(WorkFault::Limit),
+            "text {index}"
+        );
     }
 }
 
@@ -64,7 +68,11 @@ fn first_lines(rt: HostRuntime) {
         b"1 add 1",
     ];
     for (index, text) in texts.iter().enumerate() {
-        assert_eq!(rt; fault_of(rt.alloc(), text), Some(WorkFault::Syntax(1)), "text {index}");
+        assert_eq!(rt;
+            fault_of(rt.alloc(), text),
+            Some(WorkFault::Syntax(1)),
+            "text {index}"
+        );
     }
 }
 
@@ -88,7 +96,11 @@ fn later_lines(rt: HostRuntime) {
         b"workers 0 99\n1 add\n1 ad 1\n",
     ];
     for (index, text) in texts.iter().enumerate() {
-        assert_eq!(rt; fault_of(rt.alloc(), text), Some(WorkFault::Syntax(2)), "text {index}");
+        assert_eq!(rt;
+            fault_of(rt.alloc(), text),
+            Some(WorkFault::Syntax(2)),
+            "text {index}"
+        );
     }
 }
 

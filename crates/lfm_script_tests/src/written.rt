@@ -4,6 +4,7 @@ use std::alloc::{AllocError, Global};
 use std::test::Fail;
 
 const WORKERS: u64 = 7;
+
 const CONDITIONS: u64 = 3;
 
 /// The number after this one in a sequence that looks like chance.
@@ -33,14 +34,20 @@ fn spelled(alloc: Global, line: &ScriptLine) -> Result<String, AllocError> {
     let worker = line.worker;
     match line.command {
         Command::Add(amount) => format!(in alloc; "{worker} add {amount}\n"),
-        Command::Until(condition, amount) => format!(in alloc; "{worker} until {condition} {amount}\n"),
+        Command::Until(condition, amount) => format!(in alloc;
+            "{worker} until {condition} {amount}\n"
+        ),
         Command::One(condition) => format!(in alloc; "{worker} one {condition}\n"),
         Command::All(condition) => format!(in alloc; "{worker} all {condition}\n"),
     }
 }
 
 /// So many lines by chance, and their text.
-fn script_by_chance(alloc: Global, seed: u64, many: u64) -> Result<(Vec<ScriptLine>, String), AllocError> {
+fn script_by_chance(
+    alloc: Global,
+    seed: u64,
+    many: u64,
+) -> Result<(Vec<ScriptLine>, String), AllocError> {
     let mut lines = Vec::new(alloc);
     let mut text = format!(in alloc; "workers {WORKERS} {CONDITIONS}\n")?;
     let mut number = after(seed);

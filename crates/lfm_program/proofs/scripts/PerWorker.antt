@@ -16,7 +16,6 @@ abbrev pub OthersKeep : {X : Type 0} → (ℕ → List ScriptLine → X → Type
 OthersKeep {X} P = (w : ℕ) (l : ScriptLine) (rest : List ScriptLine) (x : X) → (l.worker == w) ≡ false → P w (l ∷ rest) x → P w rest x
 
 module _ {X : Type 0} (P : ℕ → List ScriptLine → X → Type 0) (others : OthersKeep P) where
-
   -- the item of the worker of a line, where that is there
   pub own : (l : ScriptLine) (rest : List ScriptLine) (workers : ℕ) (xs : List X) (x : X) → is_there l.worker workers ≡ true → x ≡ get_or xs (l.worker - 1) x → Each P workers rest xs → P l.worker rest x
   own l rest workers xs x there is each =

@@ -10,7 +10,11 @@ use crate::script::{Command, ScriptLine};
 use std::alloc::{AllocError, Global};
 
 /// How many commands each worker has. Makes one request for memory.
-fn count_commands(alloc: Global, workers: u64, lines: &[ScriptLine]) -> Result<Vec<usize>, AllocError>
+fn count_commands(
+    alloc: Global,
+    workers: u64,
+    lines: &[ScriptLine],
+) -> Result<Vec<usize>, AllocError>
     ensures count { IfOk result (λ v. vec_len v ≡ workers) }
     ensures each { IfOk result (λ v. (i : ℕ) (d : ℕ) → i < workers →
         slice_index_or v.items i d ≡ length (commands_of (i + 1) lines.now)) }

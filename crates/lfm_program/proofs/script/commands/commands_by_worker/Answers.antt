@@ -31,7 +31,7 @@ handing_out-preserved c =
     let all = c.handing_out.invariant.count in
     let each : Each (Handed ls) c.args.workers (l ∷ rest) commands = rw (drop_more ls k none c.handing_out-test.true) at c.handing_out.invariant.each in
     elim c.if-is_there.branch [
-      then-is_there w ↦
+      | then-is_there w ↦
           let there : is_there l.worker c.args.workers ≡ true = sym c.is_there.ensures ∙ w.if-is_there.true in
           let v = w.index_mut.result.now in
           let its : Handed ls l.worker (l ∷ rest) v = own (Handed ls) (handed_others ls) l (l ∷ rest) c.args.workers commands v there w.index_mut.ensures.value each in
@@ -42,8 +42,9 @@ handing_out-preserved c =
             count = all;
             each = changed (Handed ls) (handed_others ls) l rest c.args.workers commands x there full one each;
           })
-    | else-is_there w ↦
+      | else-is_there w ↦
           rw w.commands-is (record {
             count = all;
             each = skipped (Handed ls) (handed_others ls) l rest c.args.workers commands (sym c.is_there.ensures ∙ w.if-is_there.false) each;
-          }) ]
+          })
+    ]

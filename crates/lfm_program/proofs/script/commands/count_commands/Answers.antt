@@ -33,7 +33,7 @@ counting-preserved c =
     let all = c.counting.invariant.count in
     let each : Each (Counted ls) c.args.workers (l ∷ rest) counts = rw (drop_more ls k none c.counting-test.true) at c.counting.invariant.each in
     elim c.if-is_there.branch [
-      then-is_there w ↦
+      | then-is_there w ↦
           let there : is_there l.worker c.args.workers ≡ true = sym c.is_there.ensures ∙ w.if-is_there.true in
           let n = w.index_mut.result.now in
           let its : Counted ls l.worker (l ∷ rest) n = own (Counted ls) (counted_others ls) l (l ∷ rest) c.args.workers counts n there w.index_mut.ensures.value each in
@@ -42,8 +42,9 @@ counting-preserved c =
             count = all;
             each = changed (Counted ls) (counted_others ls) l rest c.args.workers counts (n + 1) there full (counted_one ls l rest n its).0 each;
           })
-    | else-is_there w ↦
+      | else-is_there w ↦
           rw w.counts-is (record {
             count = all;
             each = skipped (Counted ls) (counted_others ls) l rest c.args.workers counts (sym c.is_there.ensures ∙ w.if-is_there.false) each;
-          }) ]
+          })
+    ]

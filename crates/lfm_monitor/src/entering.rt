@@ -1,7 +1,7 @@
 //! The calls that come to hold. Each hold that begins is written down.
 ghost use Rattle.lfm_protocol.specs.declared.answers.Answer.TheVariants as Answered;
 ghost use Rattle.lfm_protocol.specs.declared.answers.Call.{Call};
-ghost use Rattle.lfm_monitor.specs.Belongs.{Of_monitor, mine_of, mutex_limits, pass_sight, seen_of, share_of};
+ghost use Rattle.lfm_monitor.specs.Belongs.{Of_monitor, cond_seats_of, mine_of, mutex_limits, pass_sight, seen_of, share_of};
 ghost use Rattle.lfm_monitor.specs.Passes.{Ask_ends, Enter_ends, Receive_ends, Try_ends};
 ghost use Rattle.lfm_monitor.specs.Steps.{By_locking, By_steps};
 ghost use Rattle.std.specs.Prelude.{◌≡◌};
@@ -22,6 +22,7 @@ impl<O: Object> Monitor<O> {
         ensures belongs { Of_monitor pass.new self.now }
         ensures enters { Try_ends (share_of self.now) (pass_sight pass.old) (pass_sight pass.new) (mine_of pass.old) (mine_of pass.new) result }
         ensures seen { seen_of pass.new ≡ seen_of pass.old }
+        ensures conditions { cond_seats_of pass.new ≡ cond_seats_of pass.old }
         ensures steps { By_steps (mutex_limits self.now) (λ x. Answered.Locked x) Call.TryLock (pass_sight pass.old) (pass_sight pass.new) result }
     {
         if pass.lacks_entry(self.share) {
@@ -46,6 +47,7 @@ impl<O: Object> Monitor<O> {
         ensures belongs { Of_monitor pass.new self.now }
         ensures enters { Ask_ends (share_of self.now) (pass_sight pass.old) (pass_sight pass.new) (mine_of pass.old) (mine_of pass.new) result }
         ensures seen { seen_of pass.new ≡ seen_of pass.old }
+        ensures conditions { cond_seats_of pass.new ≡ cond_seats_of pass.old }
         ensures steps { By_steps (mutex_limits self.now) (λ x. Answered.Asked x) Call.Lock (pass_sight pass.old) (pass_sight pass.new) result }
     {
         if pass.lacks_entry(self.share) {
@@ -71,6 +73,7 @@ impl<O: Object> Monitor<O> {
         ensures belongs { Of_monitor pass.new self.now }
         ensures enters { Enter_ends (share_of self.now) (pass_sight pass.old) (pass_sight pass.new) (mine_of pass.old) (mine_of pass.new) result }
         ensures seen { seen_of pass.new ≡ seen_of pass.old }
+        ensures conditions { cond_seats_of pass.new ≡ cond_seats_of pass.old }
         ensures steps { By_locking (mutex_limits self.now) (pass_sight pass.old) (pass_sight pass.new) result }
     {
         if pass.lacks_entry(self.share) {
@@ -95,6 +98,7 @@ impl<O: Object> Monitor<O> {
         ensures belongs { Of_monitor pass.new self.now }
         ensures enters { Receive_ends (pass_sight pass.old) (pass_sight pass.new) (mine_of pass.old) (mine_of pass.new) result }
         ensures seen { seen_of pass.new ≡ seen_of pass.old }
+        ensures conditions { cond_seats_of pass.new ≡ cond_seats_of pass.old }
         ensures steps { By_steps (mutex_limits self.now) (λ x. Answered.Got x) Call.Receive (pass_sight pass.old) (pass_sight pass.new) result }
     {
         let received = self.mutex.try_receive(&mut pass.seat)?;

@@ -2,7 +2,7 @@
 ghost use Rattle.lfm_protocol.specs.declared.answers.Answer.TheVariants as Answered;
 ghost use Rattle.lfm_protocol.specs.declared.answers.Call.{Call};
 ghost use Rattle.lfm_mutex.specs.calls.Trails.{Makes_at_most};
-ghost use Rattle.lfm_monitor.specs.Belongs.{Of_monitor, mine_of, mutex_limits, pass_sight, passes_of, seen_of, share_of};
+ghost use Rattle.lfm_monitor.specs.Belongs.{Of_monitor, cond_seats_of, mine_of, mutex_limits, pass_sight, passes_of, seen_of, share_of};
 ghost use Rattle.lfm_monitor.specs.Passes.{Apply_ends, Leave_ends};
 ghost use Rattle.lfm_monitor.specs.Steps.{By_steps};
 ghost use Rattle.std.specs.Prelude.{◌≡◌, ◌+◌};
@@ -22,6 +22,7 @@ impl<O: Object> Monitor<O> {
         ensures belongs { Of_monitor pass.new self.now }
         ensures applies { Apply_ends O.after O.reply (share_of self.now) op (pass_sight pass.old) (pass_sight pass.new) (mine_of pass.old) (mine_of pass.new) result }
         ensures seen { seen_of pass.new ≡ seen_of pass.old }
+        ensures conditions { cond_seats_of pass.new ≡ cond_seats_of pass.old }
     {
         if pass.seat.asleep() {
             return Err(Refusal::Asleep);
@@ -46,6 +47,7 @@ impl<O: Object> Monitor<O> {
         ensures belongs { Of_monitor pass.new self.now }
         ensures leaves { Leave_ends (pass_sight pass.old) (pass_sight pass.new) (seen_of pass.old) (seen_of pass.new) result }
         ensures mine { mine_of pass.new ≡ mine_of pass.old }
+        ensures conditions { cond_seats_of pass.new ≡ cond_seats_of pass.old }
         ensures steps { By_steps (mutex_limits self.now) (λ x. Answered.Unlocked x) Call.Unlock (pass_sight pass.old) (pass_sight pass.new) result }
         ensures bounded { Makes_at_most (passes_of self.now + 7) (pass_sight pass.old) (pass_sight pass.new) }
     {

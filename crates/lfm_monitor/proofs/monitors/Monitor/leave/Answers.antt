@@ -22,6 +22,7 @@ returns g c = let p = c.args.pass.now in let m = c.args.self.now in let s = sigh
       belongs = (of_next m.mutex p.seat c.unlock.new.seat c.requires.belongs.0 c.unlock.ensures.belongs, left_of (opening_of m) (passes_of m) (share_of m) s t p.seen p.mine p.kept c.requires.belongs.1 u.0, c.requires.belongs.2);
       leaves = leave_ends c.in_ok-unlocked.unlocked s t p.seen p.mine c.journal_len-length.result left p.kept c.in_ok-unlocked.ensures.unlocks c.journal_len-length.ensures;
       mine = refl;
+      conditions = refl;
       steps = c.in_ok-unlocked.ensures.steps;
       bounded = c.in_ok-unlocked.ensures.bounded;
     }

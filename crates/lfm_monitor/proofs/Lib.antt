@@ -1,6 +1,7 @@
 pub mod Ending
 pub mod Growth
 pub mod Knowing
+pub mod Moving
 pub mod NewSeats
 pub mod Places
 pub mod Returning

@@ -1,0 +1,49 @@
+-- A pass may move to another thread, and the monitor may be used by several.
+use Rattle.lfm_condvar.specs.contracts.condvars.Condvar as Condvar
+use Rattle.lfm_condvar.specs.contracts.seats.CondSeat as CondSeat
+use Rattle.lfm_condvar.proofs.condvars.Condvar.TheSendSync as CondvarSend
+use Rattle.lfm_condvar.proofs.seats.CondSeat.TheSendSync as CondSeatSend
+use Rattle.lfm_model.specs.contracts.journals.Entry as Entry
+use Rattle.lfm_model.specs.declared.objects.Object.{Ghosts}
+use Rattle.lfm_model.proofs.journals.Entry.TheSendSync as EntrySend
+use Rattle.lfm_monitor.specs.contracts.guarding.JournaledKept.TheImpl as JournaledKept
+use Rattle.lfm_monitor.specs.contracts.journals.Journaled as Journaled
+use Rattle.lfm_monitor.specs.contracts.monitors.Monitor as Monitor
+use Rattle.lfm_monitor.specs.contracts.passes.Pass as Pass
+use Rattle.lfm_mutex.proofs.mutex.Mutex.TheSendSync as MutexSend
+use Rattle.lfm_mutex.proofs.seat.Seat.TheSendSync as SeatSend
+use Rattle.std.below.std_heap.proofs.GlobalAllocator.TheSendSync as GlobalFrees
+use Rattle.std.proofs.Crossing.{crosses}
+use Rattle.std.proofs.alloc.Global.TheSendSync as GlobalSend
+use Rattle.std.proofs.vec.Vec.TheSendSync as VecSend
+use Rattle.std.specs.contracts.alloc.Global as Global
+use Rattle.std.specs.contracts.impls.GlobalAllocator.TheImpl as GlobalImpl
+use denote.Param.Send as Send
+use denote.RattleType.{RattleType}
+use denote.Struct.Declared as Declared
+
+module _ (O A R : RattleType) (g : Ghosts O.Denot A.Denot R.Denot) where
+  pub journaled_send : Send.IsSend O → Send.IsSend A → Send.IsSend (Journaled.the_row O A R g)
+  journaled_send so sa = Send.recorded_send (Journaled.the_field O A R g).row _ _ (Journaled.the_type O A R g).to_one
+      (Send.struct_send (Declared.shape (Journaled.the_type O A R g)) (
+        so,
+        (VecSend.the_send (Entry.the_row A) Global.the_row GlobalImpl.ghosts (EntrySend.the_send A sa) GlobalSend.the_send GlobalFrees.the_frees,
+        (search crosses,
+        (Send.plain_send _ _ _ _ _,
+        (Send.plain_send _ _ _ _ _, tt))))))
+
+  pub pass_send : Send.IsSend O → Send.IsSend A → Send.IsSend (Pass.the_row O A R g)
+  pass_send so sa = Send.recorded_send (Pass.the_field O A R g).row _ _ (Pass.the_type O A R g).to_one
+      (Send.struct_send (Declared.shape (Pass.the_type O A R g)) (
+        SeatSend.the_field_send (Journaled.the_row O A R g) (journaled_send so sa),
+        (Send.plain_send _ _ _ _ _,
+        (Send.plain_send _ _ _ _ _,
+        (VecSend.the_send CondSeat.the_row Global.the_row GlobalImpl.ghosts CondSeatSend.the_send GlobalSend.the_send GlobalFrees.the_frees, tt)))))
+
+  pub monitor_sync : Send.IsSend O → Send.IsSend A → Send.IsSync (Monitor.the_row O A R g)
+  monitor_sync so sa = Send.recorded_sync (Monitor.the_field O A R g).row _ _ (Monitor.the_type O A R g).to_one
+      (Send.struct_sync (Declared.shape (Monitor.the_type O A R g)) (
+        MutexSend.the_field_sync (Journaled.the_row O A R g) (JournaledKept.ghosts O A R g JournaledKept.no_dict JournaledKept.no_dict JournaledKept.no_dict JournaledKept.no_dict) (journaled_send so sa),
+        (search crosses,
+        (Send.plain_sync _ _ _ _ _,
+        (VecSend.the_sync Condvar.the_row Global.the_row GlobalImpl.ghosts CondvarSend.the_sync GlobalSend.the_sync, tt)))))

@@ -1,7 +1,5 @@
-//! Tests of the monitor on its public calls: in one thread, where calls are refused, and in four threads that pass numbers on.
+//! Tests of the monitor on its public calls, in one thread and in several: takes, ops, waits and wakes, and what is refused.
 #![tactic(auto)]
-
-pub mod slot;
 
 #[cfg(test)]
 mod conditions;
@@ -9,5 +7,3 @@ mod conditions;
 mod monitors;
 #[cfg(test)]
 mod out_of_memory;
-#[cfg(test)]
-mod producers;

@@ -1,4 +1,4 @@
--- A pass may move to another thread, and the monitor may be used by several.
+-- A pass may move to another thread, and the monitor may be used by several, where the object and its ops may move.
 use Rattle.lfm_condvar.specs.contracts.condvars.Condvar as Condvar
 use Rattle.lfm_condvar.specs.contracts.seats.CondSeat as CondSeat
 use Rattle.lfm_condvar.proofs.condvars.Condvar.TheSendSync as CondvarSend
@@ -18,11 +18,18 @@ use Rattle.std.proofs.alloc.Global.TheSendSync as GlobalSend
 use Rattle.std.proofs.vec.Vec.TheSendSync as VecSend
 use Rattle.std.specs.contracts.alloc.Global as Global
 use Rattle.std.specs.contracts.impls.GlobalAllocator.TheImpl as GlobalImpl
+use Rattle.std.specs.Prelude.{ℕ, List, [], ◌∷◌}
+use denote.Param.{param}
 use denote.Param.Send as Send
 use denote.RattleType.{RattleType}
+use denote.Ref.{NamedLft}
 use denote.Struct.Declared as Declared
+use denote.Struct.Field as Field
+use denote.Struct.Struct as Struct
+use denote.Struct.Tuple as Tuple
 
 module _ (O A R : RattleType) (g : Ghosts O.Denot A.Denot R.Denot) where
+  -- what the monitor guards may move to another thread
   pub journaled_send : Send.IsSend O → Send.IsSend A → Send.IsSend (Journaled.the_row O A R g)
   journaled_send so sa = Send.recorded_send (Journaled.the_field O A R g).row _ _ (Journaled.the_type O A R g).to_one
       (Send.struct_send (Declared.shape (Journaled.the_type O A R g)) (
@@ -32,6 +39,7 @@ module _ (O A R : RattleType) (g : Ghosts O.Denot A.Denot R.Denot) where
         (Send.plain_send _ _ _ _ _,
         (Send.plain_send _ _ _ _ _, tt))))))
 
+  -- a pass may move to another thread
   pub pass_send : Send.IsSend O → Send.IsSend A → Send.IsSend (Pass.the_row O A R g)
   pass_send so sa = Send.recorded_send (Pass.the_field O A R g).row _ _ (Pass.the_type O A R g).to_one
       (Send.struct_send (Declared.shape (Pass.the_type O A R g)) (
@@ -40,6 +48,7 @@ module _ (O A R : RattleType) (g : Ghosts O.Denot A.Denot R.Denot) where
         (Send.plain_send _ _ _ _ _,
         (VecSend.the_send CondSeat.the_row Global.the_row GlobalImpl.ghosts CondSeatSend.the_send GlobalSend.the_send GlobalFrees.the_frees, tt)))))
 
+  -- several threads may use the monitor
   pub monitor_sync : Send.IsSend O → Send.IsSend A → Send.IsSync (Monitor.the_row O A R g)
   monitor_sync so sa = Send.recorded_sync (Monitor.the_field O A R g).row _ _ (Monitor.the_type O A R g).to_one
       (Send.struct_sync (Declared.shape (Monitor.the_type O A R g)) (
@@ -47,3 +56,14 @@ module _ (O A R : RattleType) (g : Ghosts O.Denot A.Denot R.Denot) where
         (search crosses,
         (Send.plain_sync _ _ _ _ _,
         (VecSend.the_sync Condvar.the_row Global.the_row GlobalImpl.ghosts CondvarSend.the_sync GlobalSend.the_sync, tt)))))
+
+  -- what a closure holds that works with the monitor in some thread: where it runs, and the monitor
+  abbrev pub captures : NamedLft → NamedLft → RattleType → List RattleType
+  captures runs lent T = (Field.shr_ref_field runs (param 0 T) tt).row ∷ (Field.shr_ref_field lent (Monitor.the_row O A R g) tt).row ∷ []
+
+  -- such a closure, of this name, may be used by several threads
+  pub closure_sync : (name : List ℕ) (runs lent : NamedLft) (T : RattleType) → Send.IsSync (param 0 T) → Send.IsSend O → Send.IsSend A → Send.IsSync (Tuple.TupleAt name (captures runs lent T))
+  closure_sync name runs lent T y so sa = let C = Tuple.type_at name (captures runs lent T) in Send.recorded_sync (Struct.Struct (Declared.shape C)) C.D C.to C.to_one
+      (Send.struct_sync (Declared.shape C) (
+        Send.shr_sync runs.mir runs.lft (param 0 T) y,
+        (Send.shr_sync lent.mir lent.lft (Monitor.the_row O A R g) (monitor_sync so sa), tt)))

@@ -34,28 +34,45 @@ module _ (O A R : RattleType) (g : Ghosts O.Denot A.Denot R.Denot) where
   journaled_send so sa = Send.recorded_send (Journaled.the_field O A R g).row _ _ (Journaled.the_type O A R g).to_one
       (Send.struct_send (Declared.shape (Journaled.the_type O A R g)) (
         so,
-        (VecSend.the_send (Entry.the_row A) Global.the_row GlobalImpl.ghosts (EntrySend.the_send A sa) GlobalSend.the_send GlobalFrees.the_frees,
-        (search crosses,
-        (Send.plain_send _ _ _ _ _,
-        (Send.plain_send _ _ _ _ _, tt))))))
+        (
+          VecSend.the_send (Entry.the_row A) Global.the_row GlobalImpl.ghosts (EntrySend.the_send A sa) GlobalSend.the_send GlobalFrees.the_frees,
+          (
+            search crosses,
+            (
+              Send.plain_send _ _ _ _ _,
+              (Send.plain_send _ _ _ _ _, tt),
+            ),
+          ),
+        ),
+      ))
 
   -- a pass may move to another thread
   pub pass_send : Send.IsSend O → Send.IsSend A → Send.IsSend (Pass.the_row O A R g)
   pass_send so sa = Send.recorded_send (Pass.the_field O A R g).row _ _ (Pass.the_type O A R g).to_one
       (Send.struct_send (Declared.shape (Pass.the_type O A R g)) (
         SeatSend.the_field_send (Journaled.the_row O A R g) (journaled_send so sa),
-        (Send.plain_send _ _ _ _ _,
-        (Send.plain_send _ _ _ _ _,
-        (VecSend.the_send CondSeat.the_row Global.the_row GlobalImpl.ghosts CondSeatSend.the_send GlobalSend.the_send GlobalFrees.the_frees, tt)))))
+        (
+          Send.plain_send _ _ _ _ _,
+          (
+            Send.plain_send _ _ _ _ _,
+            (VecSend.the_send CondSeat.the_row Global.the_row GlobalImpl.ghosts CondSeatSend.the_send GlobalSend.the_send GlobalFrees.the_frees, tt),
+          ),
+        ),
+      ))
 
   -- several threads may use the monitor
   pub monitor_sync : Send.IsSend O → Send.IsSend A → Send.IsSync (Monitor.the_row O A R g)
   monitor_sync so sa = Send.recorded_sync (Monitor.the_field O A R g).row _ _ (Monitor.the_type O A R g).to_one
       (Send.struct_sync (Declared.shape (Monitor.the_type O A R g)) (
         MutexSend.the_field_sync (Journaled.the_row O A R g) (JournaledKept.ghosts O A R g JournaledKept.no_dict JournaledKept.no_dict JournaledKept.no_dict JournaledKept.no_dict) (journaled_send so sa),
-        (search crosses,
-        (Send.plain_sync _ _ _ _ _,
-        (VecSend.the_sync Condvar.the_row Global.the_row GlobalImpl.ghosts CondvarSend.the_sync GlobalSend.the_sync, tt)))))
+        (
+          search crosses,
+          (
+            Send.plain_sync _ _ _ _ _,
+            (VecSend.the_sync Condvar.the_row Global.the_row GlobalImpl.ghosts CondvarSend.the_sync GlobalSend.the_sync, tt),
+          ),
+        ),
+      ))
 
   -- what a closure holds that works with the monitor in some thread: where it runs, and the monitor
   abbrev pub captures : NamedLft → NamedLft → RattleType → List RattleType
@@ -66,4 +83,5 @@ module _ (O A R : RattleType) (g : Ghosts O.Denot A.Denot R.Denot) where
   closure_sync name runs lent T y so sa = let C = Tuple.type_at name (captures runs lent T) in Send.recorded_sync (Struct.Struct (Declared.shape C)) C.D C.to C.to_one
       (Send.struct_sync (Declared.shape C) (
         Send.shr_sync runs.mir runs.lft (param 0 T) y,
-        (Send.shr_sync lent.mir lent.lft (Monitor.the_row O A R g) (monitor_sync so sa), tt)))
+        (Send.shr_sync lent.mir lent.lft (Monitor.the_row O A R g) (monitor_sync so sa), tt),
+      ))

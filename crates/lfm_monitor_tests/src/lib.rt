@@ -7,3 +7,6 @@ mod conditions;
 mod monitors;
 #[cfg(test)]
 mod out_of_memory;
+#[cfg(test)]
+mod producers;
+pub mod slot;

@@ -1,4 +1,5 @@
 pub mod AddedSums
+pub mod Commands
 pub mod Reports
 pub mod RowCounts
 pub mod RunReports

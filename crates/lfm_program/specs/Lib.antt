@@ -1,5 +1,6 @@
 pub mod Adds
 pub mod Faults
+pub mod Performs
 pub mod Report
 pub mod Rows
 pub mod Statuses

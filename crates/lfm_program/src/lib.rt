@@ -6,6 +6,7 @@ pub mod counted_rows;
 pub mod driving;
 pub mod faults;
 pub mod gates;
+pub mod performing;
 pub mod report_laws;
 pub mod reporting;
 pub mod rows;
@@ -18,6 +19,7 @@ pub use counted_rows::{count_entries, rows_of};
 pub use driving::{drive, follow};
 pub use faults::WorkFault;
 pub use gates::{Gate, Meet, OpenGate};
+pub use performing::{Performed, perform};
 pub use reporting::report;
 pub use rows::Row;
 pub use script::{

@@ -1,0 +1,11 @@
+use Rattle.std.proofs.Common.{◌∙◌}
+use Rattle.lfm_program.proofs.Commands.{one_more}
+use Rattle.lfm_program.proofs.performing.perform.Goals as goal
+
+pub performing-preserved : goal.performing-preserved
+performing-preserved g c = record {
+  belongs = c.in-Ok.ensures.belongs;
+  idle = c.in-Ok.ensures.idle;
+  number = c.in-Ok.ensures.number ∙ c.performing.invariant.number;
+  adds = one_more c.args.commands.now c.performing.index _ _ _ _ c.performing-test.true c.performing.invariant.adds c.in-Ok.ensures.adds;
+}

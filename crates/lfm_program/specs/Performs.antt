@@ -1,0 +1,34 @@
+-- What a worker's commands add, by its pass.
+use Rattle.std.specs.Prelude.{◌≡◌, ◌<◌, ⊤, ℕ, false, List, ◌++◌, length, take, Result, Ok, Err}
+use Rattle.lfm_model.specs.declared.objects.Total.{Total}
+use Rattle.lfm_model.specs.declared.objects.TotalOp.{TotalOp}
+use Rattle.lfm_model.specs.declared.refusals.Refusal.{Refusal}
+use Rattle.lfm_model.specs.Journals.{own}
+use Rattle.lfm_mutex.specs.calls.Sight.{Sight}
+use Rattle.lfm_monitor.specs.declared.journals.Journaled.{Journaled}
+use Rattle.lfm_monitor.specs.Passes.{journal_of}
+use Rattle.lfm_program.specs.declared.performing.Performed.{Performed}
+use Rattle.lfm_program.specs.declared.performing.Performed.TheVariants.{Done, Refused, Stuck}
+use Rattle.lfm_program.specs.declared.script.Command.{Command}
+use Rattle.lfm_program.specs.Adds.{adds, all_adds, command_adds}
+
+module _ {R : Type 0} {K : _} where
+  -- the numbers that the pass's own entries add
+  abbrev pub own_adds : Sight (Journaled Total TotalOp R K) → List ℕ
+  own_adds s = adds (own s.number (journal_of s))
+
+  -- the pass holds once, and doesn't sleep
+  pub record Holds_once (s : Sight (Journaled Total TotalOp R K)) : Type 0 where
+    pub depth : s.depth ≡ 1
+    pub awake : s.asleep ≡ false
+
+  -- how one command ends: its number is added, or nothing where it was refused
+  abbrev pub Command_ends : Command → Sight (Journaled Total TotalOp R K) → Sight (Journaled Total TotalOp R K) → Result ⊤ Refusal → Type 0
+  Command_ends m s t (Ok u) = own_adds t ≡ own_adds s ++ command_adds m
+  Command_ends m s t (Err r) = own_adds t ≡ own_adds s
+
+-- the adds of the commands, in order: all where it is done, and else those of the commands before the one that was not made
+abbrev pub All_performed : List Command → List ℕ → List ℕ → Performed → Type 0
+All_performed ms old new Done = new ≡ old ++ all_adds ms
+All_performed ms old new (Refused r) = (i : ℕ) × (i < length ms) × (new ≡ old ++ all_adds (take i ms))
+All_performed ms old new Stuck = (i : ℕ) × (i < length ms) × (new ≡ old ++ all_adds (take i ms))

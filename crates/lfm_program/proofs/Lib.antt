@@ -4,4 +4,6 @@ pub mod Reports
 pub mod RowCounts
 pub mod RunReports
 pub mod Seats
+pub mod Sending
+pub mod Threads
 pub mod scripts

@@ -4,5 +4,6 @@ pub mod Performs
 pub mod Report
 pub mod Rows
 pub mod Statuses
+pub mod Workers
 pub mod Works
 pub mod script

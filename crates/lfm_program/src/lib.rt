@@ -14,6 +14,7 @@ pub mod script;
 pub mod starting_line;
 pub mod statuses;
 pub mod work_report;
+pub mod workers;
 
 pub use counted_rows::{count_entries, rows_of};
 pub use driving::{drive, follow};
@@ -29,3 +30,4 @@ pub use script::{
 pub use starting_line::{Start, StartingLine};
 pub use statuses::{replay_status, status};
 pub use work_report::{write_fault, write_report};
+pub use workers::{Worked, run_workers};

@@ -1,0 +1,19 @@
+-- What comes back from threads, by its place.
+use Rattle.std.proofs.Common.{◌≡◌, ℕ, zero, suc, List, [], ◌∷◌, get_or, sym, Result, Ok, Err, IfOk}
+use mathlib.Core.Option.{some, some-injective, some-ne-none}
+use lib.ListN.{get_elem?}
+
+-- what stands at a place is what is read there
+pub read_here : {A : Type 0} (xs : List A) (i : ℕ) (x d : A) → get_elem? xs i ≡ some x → get_or xs i d ≡ x
+read_here [] i x d e = absurd (some-ne-none x (sym e))
+read_here (y ∷ xs) zero x d e = some-injective y x e
+read_here (y ∷ xs) (suc i) x d e = read_here xs i x d e
+
+-- what follows for what is there
+pub if_ok : {X E : Type 0} (P Q : X → Type 0) (r : Result X E) → ((x : X) → P x → Q x) → IfOk r P → IfOk r Q
+if_ok P Q (Ok x) f p = f x p
+if_ok P Q (Err e) f p = tt
+
+pub both_ok : {X E : Type 0} (P Q S : X → Type 0) (r : Result X E) → ((x : X) → P x → Q x → S x) → IfOk r P → IfOk r Q → IfOk r S
+both_ok P Q S (Ok x) f p q = f x p q
+both_ok P Q S (Err e) f p q = tt

@@ -1,0 +1,25 @@
+-- What a worker's thread gives back.
+use Rattle.std.specs.Prelude.{◌≡◌, ◌≢◌, List}
+use Rattle.lfm_model.specs.declared.objects.Total.{Total}
+use Rattle.lfm_model.specs.declared.objects.TotalOp.{TotalOp}
+use Rattle.lfm_mutex.specs.Closing.{Idle}
+use Rattle.lfm_monitor.specs.declared.monitors.Monitor.{Monitor}
+use Rattle.lfm_monitor.specs.declared.passes.Pass.{Pass}
+use Rattle.lfm_monitor.specs.Belongs.{Of_monitor, pass_sight}
+use Rattle.lfm_program.specs.declared.performing.Performed.{Performed}
+use Rattle.lfm_program.specs.declared.performing.Performed.TheVariants.{Stuck}
+use Rattle.lfm_program.specs.declared.script.Command.{Command}
+use Rattle.lfm_program.specs.Performs.{All_performed, own_adds}
+
+module _ {R : Type 0} {K : _} where
+  -- The pass p of the monitor has become q by the commands of a worker. Nothing is told of the adds of one that was stopped, which
+  -- may not have begun
+  pub record Works_as (m : Monitor Total TotalOp R K) (ms : List Command) (p q : Pass Total TotalOp R K) (r : Performed) : Type 0 where
+    pub belongs : Of_monitor q m
+    pub idle : Idle (pass_sight q)
+    pub number : (pass_sight q).number ≡ (pass_sight p).number
+    pub adds : r ≢ Stuck → All_performed ms (own_adds (pass_sight p)) (own_adds (pass_sight q)) r
+
+  -- the pass is one of the monitor's, and neither holds nor sleeps
+  abbrev pub Ready_for : Monitor Total TotalOp R K → Pass Total TotalOp R K → Type 0
+  Ready_for m p = Of_monitor p m × Idle (pass_sight p)

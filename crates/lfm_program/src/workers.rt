@@ -1,0 +1,145 @@
+//! Workers, each a thread with a pass of its own. All start from one line.
+ghost use Rattle.lfm_program.specs.Workers.{Ready_for, Works_as};
+ghost use Rattle.std.specs.Prelude.{◌≡◌, ℕ, IfOk, Vec, length, vec_len};
+ghost use lib.ListN.{get_elem?};
+ghost use mathlib.Core.Option.{some};
+
+use crate::faults::WorkFault;
+use crate::gates::Gate;
+use crate::performing::{Performed, perform};
+use crate::script::Command;
+use crate::starting_line::{Start, StartingLine};
+use lfm_model::Total;
+use lfm_monitor::{Monitor, Pass};
+use std::alloc::Global;
+use std::snapshot::Snapshot;
+use std::sync::Wait;
+use std::thread;
+use std::thread::{Promise, PromisedHandle, Threads};
+
+/// What comes back from a worker's thread.
+#[derive(Drop)]
+pub struct Worked {
+    /// The worker's pass. It neither holds nor sleeps.
+    pub pass: Pass<Total>,
+    /// How its commands ended.
+    pub performed: Performed,
+}
+
+/// What a worker's thread is to do, and with which pass.
+#[derive(Drop)]
+pub struct Assignment {
+    monitor: Snapshot<Monitor<Total>>,
+    pass: Snapshot<Pass<Total>>,
+    commands: Snapshot<Vec<Command>>,
+}
+
+impl Promise<Worked> for Assignment {
+    ghost kept_by = { λ a r. Works_as a.monitor.value a.commands.value.items a.pass.value r.pass r.performed };
+}
+
+// A worker's thread: it makes its commands once the line is opened, and none where the start is called off.
+fn run_worker<G: Gate, R: Wait>(
+    rt: &R,
+    line: &StartingLine,
+    monitor: &Monitor<Total>,
+    mut pass: Pass<Total>,
+    commands: &[Command],
+    gate: &G,
+) -> Worked
+    requires ready { Ready_for monitor.now pass }
+    ensures { Works_as monitor.now commands.now pass result.pass result.performed }
+{
+    if !line.wait(rt) {
+        return Worked {
+            pass,
+            performed: Performed::Stuck,
+        };
+    }
+    let performed = perform(rt, monitor, &mut pass, commands, gate);
+    Worked { pass, performed }
+}
+
+// Waits for the workers that were started, and gives what came back where all were.
+fn join_all<R: Threads>(
+    rt: &R,
+    handles: Vec<PromisedHandle<Worked, Assignment>>,
+    all: usize,
+) -> Result<Vec<Worked>, WorkFault>
+    ensures count { IfOk result (λ v. (vec_len v ≡ vec_len handles) × (vec_len handles ≡ all)) }
+    ensures each { IfOk result (λ v. (j : ℕ) (w : Worked) → get_elem? v.items j ≡ some w → (h : _) × (get_elem? handles.items j ≡ some h)
+        × Works_as h.promise.monitor.value h.promise.commands.value.items h.promise.pass.value w.pass w.performed) }
+{
+    match thread::join_promised(rt, handles) {
+        Ok(results) if results.len() == all => Ok(results),
+        Ok(_) => Err(WorkFault::Memory),
+        Err(failed) => {
+            for handle in failed.value {
+                handle.join(rt);
+            }
+            Err(WorkFault::Memory)
+        }
+    }
+}
+
+/// Runs the workers, each with the pass and the commands at its place, all from one starting line, and returns what came back
+/// from each, in order. It sleeps until all have ended.
+///
+/// Memory where a request for it was refused, or a worker could not be started; then those that were started made no command,
+/// or what they made is lost with their passes.
+pub fn run_workers<R: Threads + Wait + Sync, G: Gate>(
+    rt: &R,
+    alloc: Global,
+    monitor: &Monitor<Total>,
+    passes: Vec<Pass<Total>>,
+    scripts: &[Vec<Command>],
+    gate: &G,
+) -> Result<Vec<Worked>, WorkFault>
+    requires count { vec_len passes ≡ length scripts.now }
+    requires ready { (j : ℕ) (p : _) → get_elem? passes.items j ≡ some p → Ready_for monitor.now p }
+    ensures count { IfOk result (λ v. vec_len v ≡ length scripts.now) }
+    ensures each { IfOk result (λ v. (j : ℕ) (w : Worked) → get_elem? v.items j ≡ some w → (p : _) × (ms : Vec Command Global) × (get_elem? passes.items j ≡ some p)
+        × (get_elem? scripts.now j ≡ some ms) × Works_as monitor.now ms.items p w.pass w.performed) }
+{
+    let line = StartingLine::new();
+    let at_line = &line;
+    thread::scope(
+        thread::scope_env(),
+        rt,
+        move |scope| -> Result<Vec<Worked>, WorkFault>
+            requires count { vec_len passes ≡ length scripts.now }
+            requires ready { (j : ℕ) (p : _) → get_elem? passes.items j ≡ some p → Ready_for monitor.now p }
+            ensures count { IfOk result (λ v. vec_len v ≡ length scripts.entry.now) }
+            ensures each { IfOk result (λ v. (j : ℕ) (w : Worked) → get_elem? v.items j ≡ some w → (p : _) × (ms : Vec Command Global) × (get_elem? passes.items j ≡ some p)
+                × (get_elem? scripts.entry.now j ≡ some ms) × Works_as monitor.entry.now ms.items p w.pass w.performed) }
+        {
+            let Ok(mut handles) = Vec::with_capacity(alloc, scripts.len()) else {
+                return Err(WorkFault::Memory);
+            };
+            let mut start = Start::Go;
+            'starting: for pass in passes {
+                let commands = &scripts[handles.len()];
+                let assignment = Assignment {
+                    monitor: Snapshot::of(monitor),
+                    pass: Snapshot::of(&pass),
+                    commands: Snapshot::of(commands),
+                };
+                let commands = commands.as_slice();
+                let started = scope.spawn_with(
+                    assignment,
+                    move || -> Worked
+                        requires { Ready_for monitor.now pass }
+                        ensures { Works_as monitor.entry.now commands.entry.now pass result.pass result.performed }
+                    { run_worker(rt, at_line, monitor, pass, commands, gate) },
+                );
+                let Ok(handle) = started else {
+                    start = Start::CalledOff;
+                    break;
+                };
+                handles.push_reserved(handle);
+            }
+            at_line.open(rt, start);
+            join_all(rt, handles, scripts.len())
+        },
+    )
+}

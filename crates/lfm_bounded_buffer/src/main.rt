@@ -19,8 +19,8 @@ use std::thread::Threads;
 /// How many numbers go through the buffer.
 const NUMBERS: u64 = 100_000;
 
-/// How many entries of the journal a thread may write. A number costs it four at most: it comes in and tries, and if that was
-/// in vain it waits, comes in again and tries once more.
+/// How many entries of the journal a thread may write. A number costs it four at most: it comes in and tries, and if that
+/// was in vain it waits, comes in again and tries once more.
 const ENTRIES: u64 = 400_000;
 
 /// The conditions of the monitor: on the first one waits who found the buffer empty, on the second who found it full.

@@ -28,7 +28,7 @@ map_vec-requires-sync-F g c κs within = let runs : NamedLft = record { mir = na
     let name = codes "lfm_bounded_buffer::fn::work_all::map_vec+Self" in
     let holds = Tuple.TupleAt name (captures Buffer.the_row BufferOp.the_row BufferReply.the_row BufferObject.ghosts runs lent g.row.R) in
     Send.param_sync 4 (arg _ no holds) (Send.arg_sync _ no holds (
-      closure_sync Buffer.the_row BufferOp.the_row BufferReply.the_row BufferObject.ghosts name runs lent g.row.R c.type_bounds.sync-R BufferSend.the_send BufferOpSend.the_send))
+    closure_sync Buffer.the_row BufferOp.the_row BufferReply.the_row BufferObject.ghosts name runs lent g.row.R c.type_bounds.sync-R BufferSend.the_send BufferOpSend.the_send))
 
 -- each thread handed its pass back
 pub returns : goal.returns

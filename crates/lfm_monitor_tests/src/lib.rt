@@ -1,4 +1,4 @@
-//! Tests of the monitor on its public calls, in one thread and in several: takes, ops, waits and wakes, and what is refused.
+//! Tests of the monitor on its public calls, in one thread and in several: takes, ops, waits and wakes, and refusals.
 #![tactic(auto)]
 
 #[cfg(test)]

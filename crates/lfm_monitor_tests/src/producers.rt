@@ -1,5 +1,5 @@
-//! Two threads put 100,000 numbers into a slot, and two take them out. A monitor with two conditions guards the slot: who finds
-//! it full, or empty, waits on one of them. Each thread ends when it has moved its share.
+//! Two threads put 100,000 numbers into a slot, and two take them out. A monitor with two conditions guards the slot: who
+//! finds it full, or empty, waits on one of them. Each thread ends when it has moved its share.
 ghost use Rattle.std.specs.Prelude.{All, IfOk};
 ghost use Rattle.lfm_monitor.specs.Belongs.{Of_monitor};
 
@@ -19,8 +19,8 @@ const NUMBERS: u64 = 100_000;
 const PAIRS: u64 = 25_000;
 
 /// How many entries of the journal a thread may write. A pair costs it two, a take and an op, and so does each wait. A wait
-/// ends by a wake, and each condition has one wake for each pair, 50,000 in all. So a thread writes at most 150,000 entries,
-/// even where all the wakes of its condition are its own, and the four together fewer than 1,048,576.
+/// ends by a wake, and each condition has one wake for each pair, 50,000 in all. So a thread writes at most 150,000
+/// entries, even where it gets all the wakes of its condition. The journal has room for 1,048,576.
 const ENTRIES: u64 = 150_000;
 
 /// The condition of those that found the slot empty, and of those that found it full.
@@ -69,8 +69,8 @@ fn make_and_wake<R: Wait>(
     Ok(())
 }
 
-/// What this pass moves at its turn, which is 0 or more: passes 1 and 2 put in their next two numbers, and the others take a
-/// pair out.
+/// Moves one pair, at the pass's turn, which counts from 0: passes 1 and 2 put in their next two numbers, and the others
+/// take a pair out.
 fn move_pair<R: Wait>(
     rt: &R,
     monitor: &Monitor<Slot>,

@@ -1,4 +1,5 @@
-//! Memory that runs out while a monitor is made. A test whose name contains `memory` passes also where a request was refused.
+//! Memory that runs out while a monitor is made. A test whose name contains `memory` passes also where a request was
+//! refused.
 use lfm_model::{NewFault, Total};
 use lfm_monitor::Monitor;
 

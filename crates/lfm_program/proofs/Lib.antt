@@ -1,9 +1,12 @@
 pub mod AddedSums
 pub mod Commands
+pub mod JournalEnds
 pub mod Reports
 pub mod RowCounts
+pub mod RunEnds
 pub mod RunReports
 pub mod Seats
 pub mod Sending
+pub mod Telling
 pub mod Threads
 pub mod scripts

@@ -1,5 +1,5 @@
 -- What comes back from threads, by its place.
-use Rattle.std.proofs.Common.{◌≡◌, ℕ, zero, suc, List, [], ◌∷◌, get_or, sym, Result, Ok, Err, IfOk}
+use Rattle.std.proofs.Common.{◌+◌, arith, subst, ◌≡◌, ℕ, zero, suc, List, [], ◌∷◌, get_or, sym, Result, Ok, Err, IfOk}
 use mathlib.Core.Option.{some, some-injective, some-ne-none}
 use lib.ListN.{get_elem?}
 
@@ -17,3 +17,7 @@ if_ok P Q (Err e) f p = tt
 pub both_ok : {X E : Type 0} (P Q S : X → Type 0) (r : Result X E) → ((x : X) → P x → Q x → S x) → IfOk r P → IfOk r Q → IfOk r S
 both_ok P Q S (Ok x) f p q = f x p q
 both_ok P Q S (Err e) f p q = tt
+
+-- nothing past a place is the place itself
+pub in_place : {A : Type 0} (xs : List A) (n : ℕ) (x : A) → get_elem? xs (n + 0) ≡ some x → get_elem? xs n ≡ some x
+in_place xs n x at = let e : n + 0 ≡ n = omega arith in subst (λ (k : ℕ). get_elem? xs k ≡ some x) e at

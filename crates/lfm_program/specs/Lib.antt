@@ -3,6 +3,7 @@ pub mod Faults
 pub mod Performs
 pub mod Report
 pub mod Rows
+pub mod ScriptRuns
 pub mod Statuses
 pub mod Workers
 pub mod Works

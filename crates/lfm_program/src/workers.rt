@@ -1,6 +1,6 @@
 //! Workers, each a thread with a pass of its own. All start from one line.
 ghost use Rattle.lfm_program.specs.Workers.{Ready_for, Works_as};
-ghost use Rattle.std.specs.Prelude.{◌≡◌, ℕ, IfOk, Vec, length, vec_len};
+ghost use Rattle.std.specs.Prelude.{◌≡◌, ℕ, IfErr, IfOk, Vec, length, vec_len};
 ghost use lib.ListN.{get_elem?};
 ghost use mathlib.Core.Option.{some};
 
@@ -67,6 +67,7 @@ fn join_all<R: Threads>(
     all: usize,
 ) -> Result<Vec<Worked>, WorkFault>
     ensures count { IfOk result (λ v. (vec_len v ≡ vec_len handles) × (vec_len handles ≡ all)) }
+    ensures memory { IfErr result (λ e. e ≡ WorkFault.Memory) }
     ensures each { IfOk result (λ v. (j : ℕ) (w : Worked) → get_elem? v.items j ≡ some w → (h : _) × (get_elem? handles.items j ≡ some h)
         × Works_as h.promise.monitor.value h.promise.commands.value.items h.promise.pass.value w.pass w.performed) }
 {
@@ -98,6 +99,7 @@ pub fn run_workers<R: Threads + Wait + Sync, G: Gate>(
     requires count { vec_len passes ≡ length scripts.now }
     requires ready { (j : ℕ) (p : _) → get_elem? passes.items j ≡ some p → Ready_for monitor.now p }
     ensures count { IfOk result (λ v. vec_len v ≡ length scripts.now) }
+    ensures memory { IfErr result (λ e. e ≡ WorkFault.Memory) }
     ensures each { IfOk result (λ v. (j : ℕ) (w : Worked) → get_elem? v.items j ≡ some w → (p : _) × (ms : Vec Command Global) × (get_elem? passes.items j ≡ some p)
         × (get_elem? scripts.now j ≡ some ms) × Works_as monitor.now ms.items p w.pass w.performed) }
 {
@@ -110,6 +112,7 @@ pub fn run_workers<R: Threads + Wait + Sync, G: Gate>(
             requires count { vec_len passes ≡ length scripts.now }
             requires ready { (j : ℕ) (p : _) → get_elem? passes.items j ≡ some p → Ready_for monitor.now p }
             ensures count { IfOk result (λ v. vec_len v ≡ length scripts.entry.now) }
+            ensures memory { IfErr result (λ e. e ≡ WorkFault.Memory) }
             ensures each { IfOk result (λ v. (j : ℕ) (w : Worked) → get_elem? v.items j ≡ some w → (p : _) × (ms : Vec Command Global) × (get_elem? passes.items j ≡ some p)
                 × (get_elem? scripts.entry.now j ≡ some ms) × Works_as monitor.entry.now ms.items p w.pass w.performed) }
         {

@@ -82,6 +82,7 @@ starting-preserved g c = let i = c.starting.invariant in let p = c.in-Some.pass 
 
 pub returns : goal.returns
 returns g c = record {
+  memory = c.join_all.ensures.memory;
   count = if_ok _ _ c.join_all.result (λ v e. e.0 ∙ e.1) c.join_all.ensures.count;
   each = both_ok _ _ _ c.join_all.result (λ v _ each j w at. let e = each j w at in let h = e.0 in let k = c.starting.invariant.handles j h e.1 in let from = c.into_iter-pass-iterator.ensures.into_iter_gives.0 in (
     h.promise.pass.value,

@@ -1,0 +1,187 @@
+-- What the workers of a script's run gave back: their passes can close the monitor, and its journal is one of the commands that
+-- they made.
+use Rattle.std.proofs.Common.{◌≡◌, ◌≢◌, ◌≤◌, ◌<◌, ◌+◌, ◌-◌, ◌&&◌, zero, suc, ℕ, Bool, true, false, List, [], ◌∷◌, take, length, get_or, slice_index_or, Option, Some, None, is_some, refl, sym, ◌∙◌, ap, subst, arith, take_all, true≢false, Vec, Global}
+use mathlib.Core.Option.{some, some-injective}
+use lib.ListN.{get_elem?}
+use Rattle.lfm_model.specs.declared.objects.Total.{Total}
+use Rattle.lfm_model.specs.declared.objects.TotalOp.{TotalOp}
+use Rattle.lfm_model.specs.declared.journals.Entry.{Entry}
+use Rattle.lfm_model.specs.declared.refusals.Refusal.{Refusal}
+use Rattle.lfm_model.specs.Journals.{Within, own, sum_to, total}
+use Rattle.lfm_mutex.specs.Closing.{Idle}
+use Rattle.lfm_monitor.specs.declared.monitors.Monitor.{Monitor}
+use Rattle.lfm_monitor.specs.declared.passes.Pass.{Pass}
+use Rattle.lfm_monitor.specs.Begun.{New_pass}
+use Rattle.lfm_monitor.specs.Belongs.{Of_monitor, mine_of, pass_sight}
+use Rattle.lfm_monitor.specs.Passes.{journal_of}
+use Rattle.lfm_program.specs.declared.performing.Performed.{Performed}
+use Rattle.lfm_program.specs.declared.performing.Performed.TheVariants.{Done, Refused, Stuck}
+use Rattle.lfm_program.specs.declared.script.Command.{Command}
+use Rattle.lfm_program.specs.declared.script.ScriptLine.{ScriptLine}
+use Rattle.lfm_program.specs.Adds.{adds, all_adds}
+use Rattle.lfm_program.specs.script.Commands.{commands_of}
+use Rattle.lfm_program.specs.script.Grammar.{Plan}
+use Rattle.lfm_program.specs.Performs.{All_performed, own_adds}
+use Rattle.lfm_program.specs.Rows.{refusal_at}
+use Rattle.lfm_program.specs.ScriptRuns.{Ends_so, are_none}
+use Rattle.lfm_program.specs.Workers.{Works_as}
+use Rattle.lfm_program.specs.Works.{IsRunOfMade}
+use Rattle.lfm_model.specs.Journals.{after_all}
+use Rattle.lfm_model.specs.Totals.{total_after}
+use Rattle.lfm_monitor.proofs.Places.{in_range}
+use Rattle.lfm_program.specs.declared.rows.Row.{Row}
+use Rattle.lfm_program.specs.declared.workers.Worked.{Worked}
+use Rattle.lfm_program.specs.script.Grammar.{plan_allowed}
+use Rattle.lfm_program.specs.Report.{report_text, total_of}
+use Rattle.lfm_program.specs.Rows.{rows_from, run_row}
+use Rattle.lfm_program.specs.ScriptRuns.{Divides, Made_ready}
+use Rattle.lfm_program.specs.Works.{IsReport}
+use Rattle.lfm_program.proofs.RunReports.{made_text_told}
+use Rattle.lfm_program.proofs.JournalEnds.{Chosen, at_place, choose, total_is_sum, within_counted}
+use Rattle.lfm_program.proofs.Threads.{read_here}
+
+abbrev is_done : Performed → Bool
+is_done Done = true
+is_done (Refused r) = false
+is_done Stuck = false
+
+abbrev is_stuck : Performed → Bool
+is_stuck Done = false
+is_stuck (Refused r) = false
+is_stuck Stuck = true
+
+done_ends : Done ≢ Stuck
+done_ends e = true≢false (ap is_done e)
+
+refused_ends : (r : Refusal) → Refused r ≢ Stuck
+refused_ends r e = true≢false (sym (ap is_stuck e))
+
+-- the numbers are those that the first i commands add, which are all where none was refused
+abbrev pub Made_by : List Command → Option Refusal → List ℕ → ℕ → Type 0
+Made_by ms r ks i = (ks ≡ all_adds (take i ms)) × (r ≡ None → length ms ≤ i)
+
+made_from : (ms : List Command) (new : List ℕ) (x : Performed) (r : Option Refusal) → Ends_so x r → (x ≢ Stuck → All_performed ms [] new x) → (i : ℕ) × Made_by ms r new i
+made_from ms new x None e made = let all : new ≡ all_adds ms = (subst (λ y. y ≢ Stuck → All_performed ms [] new y) e made) done_ends in
+    (length ms, (all ∙ ap all_adds (sym (take_all (length ms) ms (omega arith))), λ _. omega arith))
+made_from ms new x (Some r) e made = let some_made : All_performed ms [] new (Refused r) = (subst (λ y. y ≢ Stuck → All_performed ms [] new y) e made) (refused_ends r) in
+    (some_made.0, (some_made.2, λ none. absurd (true≢false (ap is_some none))))
+
+pub none_at : (rs : List (Option Refusal)) → are_none rs ≡ true → (i : ℕ) → get_or rs i None ≡ None
+none_at [] e i = refl
+none_at (None ∷ rs) e zero = refl
+none_at (None ∷ rs) e (suc i) = none_at rs e i
+none_at (Some r ∷ rs) e i = absurd (true≢false (sym e))
+
+pub one_refused : (rs : List (Option Refusal)) → are_none rs ≡ false → (i : ℕ) × (i < length rs) × (is_some (get_or rs i None) ≡ true)
+one_refused [] e = absurd (true≢false e)
+one_refused (None ∷ rs) e = let rest = one_refused rs e in (suc rest.0, (let lt = rest.1 in omega arith), rest.2)
+one_refused (Some r ∷ rs) e = (0, omega arith, refl)
+
+pub refusal_is : (rs : List (Option Refusal)) (j : ℕ) (r : Option Refusal) → get_elem? rs j ≡ some r → refusal_at rs (j + 1) ≡ r
+refusal_is rs j r at = let e : j + 1 - 1 ≡ j = omega arith in subst (λ (k : ℕ). get_or rs k None ≡ r) (sym e) (read_here rs j r None at)
+
+-- the run of a script's commands, with as many of each worker as it made
+pub record Ran (p : Plan) (rs : List (Option Refusal)) (es : List (Entry TotalOp)) : Type 0 where
+  pub made : ℕ → ℕ
+  pub run : IsRunOfMade p made es
+  pub whole : (w : ℕ) → 0 < w → w ≤ p.workers → refusal_at rs w ≡ None → length (commands_of w p.lines) ≤ made w
+
+module _ {R : Type 0} {K : _} where
+  -- what is known of the pass at place j, and of its worker's refusal
+  pub record Gives_back (m : Monitor Total TotalOp R K) (ls : List ScriptLine) (rs : List (Option Refusal)) (j : ℕ) (q : Pass Total TotalOp R K) : Type 0 where
+    pub belongs : Of_monitor q m
+    pub idle : Idle (pass_sight q)
+    pub number : (pass_sight q).number ≡ j + 1
+    pub count : ℕ
+    pub made : Made_by (commands_of (j + 1) ls) (refusal_at rs (j + 1)) (own_adds (pass_sight q)) count
+
+  nothing_yet : (m : Monitor Total TotalOp R K) (n : ℕ) (p : Pass Total TotalOp R K) → New_pass m n p → own_adds (pass_sight p) ≡ []
+  nothing_yet m n p new = ap own_adds new.sees ∙ ap (λ es. adds (own n es)) new.nothing
+
+  pub gives_back : (m : Monitor Total TotalOp R K) (ls : List ScriptLine) (rs : List (Option Refusal)) (j : ℕ) (p q : Pass Total TotalOp R K) (ms : List Command) (x : Performed) (r : Option Refusal)
+      → New_pass m (j + 1) p → ms ≡ commands_of (j + 1) ls → Works_as m ms p q x → get_elem? rs j ≡ some r → Ends_so x r → Gives_back m ls rs j q
+  gives_back m ls rs j p q ms x r new is works at ends =
+      let from : x ≢ Stuck → All_performed ms [] (own_adds (pass_sight q)) x = λ free. subst (λ ks. All_performed ms ks (own_adds (pass_sight q)) x) (nothing_yet m (j + 1) p new) (works.adds free) in
+      let made = made_from ms (own_adds (pass_sight q)) x r ends from in record {
+        belongs = works.belongs;
+        idle = works.idle;
+        number = works.number ∙ ap (λ s. s.number) new.sees;
+        count = made.0;
+        made = subst (λ cs. Made_by cs (refusal_at rs (j + 1)) (own_adds (pass_sight q)) made.0) is (subst (λ o. Made_by ms o (own_adds (pass_sight q)) made.0) (sym (refusal_is rs j r at)) made.1);
+      }
+
+  -- all workers gave back their passes, in order
+  pub record All_back (m : Monitor Total TotalOp R K) (p : Plan) (rs : List (Option Refusal)) (ps : List (Pass Total TotalOp R K)) : Type 0 where
+    pub many : length ps ≡ p.workers
+    pub as_many : length rs ≡ p.workers
+    pub each : (j : ℕ) (q : Pass Total TotalOp R K) → get_elem? ps j ≡ some q → Gives_back m p.lines rs j q
+
+  -- a journal that is just what these passes wrote is by the workers alone
+  pub by_workers : (m : Monitor Total TotalOp R K) (p : Plan) (rs : List (Option Refusal)) (ps : List (Pass Total TotalOp R K)) (es : List (Entry TotalOp)) → All_back m p rs ps
+      → ((j : ℕ) (q : Pass Total TotalOp R K) → get_elem? ps j ≡ some q → mine_of q ≡ length (own (pass_sight q).number es)) → length es ≡ total (λ q. mine_of q) ps → Within p.workers es
+  by_workers m p rs ps es back mine whole =
+      let f : ℕ → ℕ = (λ s. length (own s es)) in
+      let all = total_is_sum (λ q. mine_of q) f ps 0 (λ j q at. mine j q at ∙ ap f ((back.each j q at).number ∙ omega arith)) in
+      let many = back.many in let e : 0 + length ps ≡ p.workers = omega arith in let a = ap (sum_to f) e in
+      within_counted p.workers es (omega arith)
+
+  pub ran : (m : Monitor Total TotalOp R K) (p : Plan) (rs : List (Option Refusal)) (ps : List (Pass Total TotalOp R K)) (es : List (Entry TotalOp)) → All_back m p rs ps
+      → ((j : ℕ) (q : Pass Total TotalOp R K) → get_elem? ps j ≡ some q → own (pass_sight q).number es ≡ own (pass_sight q).number (journal_of (pass_sight q))) → Ran p rs es
+  ran m p rs ps es back same =
+      let counts : Chosen (λ j q k. Made_by (commands_of (j + 1) p.lines) (refusal_at rs (j + 1)) (own_adds (pass_sight q)) k) ps =
+      choose (λ j q k. Made_by (commands_of (j + 1) p.lines) (refusal_at rs (j + 1)) (own_adds (pass_sight q)) k) ps (λ j q at. ((back.each j q at).count, (back.each j q at).made)) in record {
+        made = λ w. counts.at (w - 1);
+        run = λ w above low. let many = back.many in let there = at_place ps (w - 1) (omega arith) in let e : w - 1 + 1 ≡ w = omega arith in
+            let number : (pass_sight there.0).number ≡ w = (back.each (w - 1) there.0 there.1).number ∙ e in
+            ap adds (subst (λ (s : ℕ). own s es ≡ own s (journal_of (pass_sight there.0))) number (same (w - 1) there.0 there.1))
+            ∙ ap (λ s. adds (own s (journal_of (pass_sight there.0)))) (sym number)
+            ∙ (counts.each (w - 1) there.0 there.1).0
+            ∙ ap (λ s. all_adds (take (counts.at (w - 1)) (commands_of s p.lines))) e;
+        whole = λ w above low none. let many = back.many in let there = at_place ps (w - 1) (omega arith) in let e : w - 1 + 1 ≡ w = omega arith in
+            subst (λ (s : ℕ). refusal_at rs s ≡ None → length (commands_of s p.lines) ≤ counts.at (w - 1)) e (counts.each (w - 1) there.0 there.1).1 none;
+      }
+
+-- what comes from the threads, divided into passes and refusals
+pub collected : (m : Monitor Total TotalOp _ _) (p : Plan) (scripts commands : List (Vec Command Global)) (lines : List ScriptLine) (before : List (Pass Total TotalOp _ _)) (ws : List Worked)
+    (ps : List (Pass Total TotalOp _ _)) (rs : List (Option Refusal)) → Made_ready p.workers m before → scripts ≡ commands → lines ≡ p.lines → length scripts ≡ p.workers
+    → ((i : ℕ) (d : Vec Command Global) → i < p.workers → (slice_index_or commands i d).items ≡ commands_of (i + 1) lines)
+    → ((j : ℕ) (w : Worked) → get_elem? ws j ≡ some w → (q : Pass Total TotalOp _ _) × (ms : Vec Command Global) × (get_elem? before j ≡ some q) × (get_elem? scripts j ≡ some ms)
+    × Works_as m ms.items q w.pass w.performed)
+    → length ws ≡ length scripts → Divides ws ps rs → All_back m p rs ps
+collected m p scripts commands lines before ws ps rs ready same_scripts same_lines many each worked as_many divides = record {
+  many = divides.many ∙ (as_many ∙ many);
+  as_many = divides.as_many ∙ (as_many ∙ many);
+  each = λ j q at.
+      let lt : j < length ws = (let a = in_range ps j q at in let b = divides.many in omega arith) in
+      let w = at_place ws j lt in let told = divides.each j w.0 w.1 in let same : w.0.pass ≡ q = some-injective w.0.pass q (sym told.0 ∙ at) in
+      let t = worked j w.0 w.1 in let r = told.1 in
+      let is : t.1.items ≡ commands_of (j + 1) p.lines =
+      ap (λ v. v.items) (sym (read_here scripts j t.1 t.1 t.3) ∙ ap (λ cs. slice_index_or cs j t.1) same_scripts) ∙ each j t.1 (omega arith) ∙ ap (commands_of (j + 1)) same_lines in
+      subst (Gives_back m p.lines rs j) same (gives_back m p.lines rs j t.0 w.0.pass t.1.items w.0.performed r.0 (ready.passes j t.0 t.2) is t.4 r.1 r.2);
+}
+
+pub both_true : (a b : Bool) → a ≡ true → b ≡ true → (a && b) ≡ true
+both_true true b e f = f
+both_true false b e f = absurd (true≢false (sym e))
+
+pub and_true : (a b x : Bool) → a ≡ x → b ≡ true → (a && b) ≡ x
+and_true true b x e f = f ∙ e
+and_true false b x e f = e
+
+-- the report of a run that ended
+pub reported : (p : Plan) (rs : List (Option Refusal)) (es : List (Entry TotalOp)) (rows : List Row) (t o : Total) (lawful succeeded : Bool) → plan_allowed p ≡ true → length p.lines < 65536
+    → Within p.workers es → Ran p rs es → length rs ≡ p.workers → rows ≡ rows_from (run_row es (refusal_at rs)) 1 p.workers → t ≡ after_all total_after o es → o ≡ record { 0 = 0 } → lawful ≡ true
+    → succeeded ≡ are_none rs → IsReport p (report_text rows t.0 lawful) succeeded
+reported p rs es rows t o lawful succeeded is_allowed few within ran many rows_are total_is opening_is lawful_is succeeded_is = record {
+  made = ran.made;
+  refused = refusal_at rs;
+  whole = ran.whole;
+  none = λ v w above low. none_at rs (sym succeeded_is ∙ v) (w - 1);
+  some = λ v. let one = one_refused rs (sym succeeded_is ∙ v) in let lt = one.1 in let e : one.0 + 1 - 1 ≡ one.0 = omega arith in
+      (one.0 + 1, omega arith, omega arith, subst (λ (k : ℕ). is_some (get_or rs k None) ≡ true) (sym e) one.2);
+  text_is =
+      ap (λ x. report_text x t.0 lawful) rows_are
+      ∙ ap (λ (x : Total). report_text (rows_from (run_row es (refusal_at rs)) 1 p.workers) x.0 lawful) (total_is ∙ ap (λ x. after_all total_after x es) opening_is)
+      ∙ ap (λ b. report_text (rows_from (run_row es (refusal_at rs)) 1 p.workers) (total_of es) b) lawful_is
+      ∙ made_text_told p ran.made (refusal_at rs) es is_allowed few within ran.run;
+}

@@ -1,0 +1,39 @@
+-- The steps of a script's run, from the passes of a new monitor to what its workers gave back.
+use Rattle.std.specs.Prelude.{◌≡◌, ◌+◌, ℕ, Bool, true, false, List, [], ◌∷◌, length, Option, Some, None}
+use mathlib.Core.Option.{some}
+use lib.ListN.{get_elem?}
+use Rattle.lfm_model.specs.declared.objects.Total.{Total}
+use Rattle.lfm_model.specs.declared.objects.TotalOp.{TotalOp}
+use Rattle.lfm_model.specs.declared.refusals.Refusal.{Refusal}
+use Rattle.lfm_monitor.specs.declared.monitors.Monitor.{Monitor}
+use Rattle.lfm_monitor.specs.declared.passes.Pass.{Pass}
+use Rattle.lfm_monitor.specs.Begun.{New_pass}
+use Rattle.lfm_monitor.specs.Belongs.{opening_of, passes_of}
+use Rattle.lfm_program.specs.declared.performing.Performed.{Performed}
+use Rattle.lfm_program.specs.declared.performing.Performed.TheVariants.{Done, Refused}
+use Rattle.lfm_program.specs.declared.workers.Worked.{Worked}
+
+module _ {R : Type 0} {K : _} where
+  -- a new monitor over a total of 0, with these passes, one for each worker and in order
+  pub record Made_ready (workers : ℕ) (m : Monitor Total TotalOp R K) (ps : List (Pass Total TotalOp R K)) : Type 0 where
+    pub opening : opening_of m ≡ record { 0 = 0 }
+    pub monitor_has : passes_of m ≡ workers
+    pub count : length ps ≡ workers
+    pub passes : (j : ℕ) (p : Pass Total TotalOp R K) → get_elem? ps j ≡ some p → New_pass m (j + 1) p
+
+-- all were made, or one was refused for this cause
+abbrev pub Ends_so : Performed → Option Refusal → Type 0
+Ends_so performed None = performed ≡ Done
+Ends_so performed (Some r) = performed ≡ Refused r
+
+-- the refusals are those of the workers, none of whom was stopped
+pub record Divides (ws : List Worked) (passes : List _) (refusals : List (Option Refusal)) : Type 0 where
+  pub many : length passes ≡ length ws
+  pub as_many : length refusals ≡ length ws
+  pub each : (j : ℕ) (w : Worked) → get_elem? ws j ≡ some w → (get_elem? passes j ≡ some w.pass) × ((r : Option Refusal) × (get_elem? refusals j ≡ some r) × Ends_so w.performed r)
+
+-- whether no worker was refused
+abbrev pub are_none : List (Option Refusal) → Bool
+are_none [] = true
+are_none (None ∷ rs) = are_none rs
+are_none (Some r ∷ rs) = false

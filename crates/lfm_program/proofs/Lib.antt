@@ -5,7 +5,6 @@ pub mod Reports
 pub mod RowCounts
 pub mod RunEnds
 pub mod RunReports
-pub mod Seats
 pub mod Sending
 pub mod Telling
 pub mod Threads

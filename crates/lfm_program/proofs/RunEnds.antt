@@ -143,7 +143,7 @@ module _ {R : Type 0} {K : _} where
 
 -- what comes from the threads, divided into passes and refusals
 pub collected : (m : Monitor Total TotalOp _ _) (p : Plan) (scripts commands : List (Vec Command Global)) (lines : List ScriptLine) (before : List (Pass Total TotalOp _ _)) (ws : List Worked)
-    (ps : List (Pass Total TotalOp _ _)) (rs : List (Option Refusal)) → Made_ready p.workers m before → scripts ≡ commands → lines ≡ p.lines → length scripts ≡ p.workers
+    (ps : List (Pass Total TotalOp _ _)) (rs : List (Option Refusal)) → Made_ready p.workers p.conditions m before → scripts ≡ commands → lines ≡ p.lines → length scripts ≡ p.workers
     → ((i : ℕ) (d : Vec Command Global) → i < p.workers → (slice_index_or commands i d).items ≡ commands_of (i + 1) lines)
     → ((j : ℕ) (w : Worked) → get_elem? ws j ≡ some w → (q : Pass Total TotalOp _ _) × (ms : Vec Command Global) × (get_elem? before j ≡ some q) × (get_elem? scripts j ≡ some ms)
     × Works_as m ms.items q w.pass w.performed)

@@ -4,5 +4,4 @@ pub mod GrammarFaults
 pub mod PerWorker
 pub mod Plans
 pub mod Reading
-pub mod Separators
 pub mod Spelled

@@ -1,13 +1,6 @@
 -- A line, a first line or a whole schedule that is written is read back as itself.
-use Rattle.std.proofs.Common.{◌≡◌, ◌+◌, ◌≤◌, ◌<◌, ◌^◌, ◌==◌, ◌&&◌, nat_le, not, suc, ℕ, true, false, List, [], ◌∷◌, ◌++◌, Option, Some, Result, Ok, All, refl, sym, ◌∙◌, ap, append_assoc, arith, tests, codes, decimal, get_or, ne_eqb, inl, inr}
-use Rattle.std.specs.Int.{IsInRange}
-use Rattle.std.specs.List.{flat_map, list_all}
-use Rattle.std.proofs.lemmas.Fmt.{digits_decimal}
-use Rattle.std.proofs.lemmas.Bool.{not-true}
-use Rattle.std.proofs.lemmas.List.Elements.{All-from_get_or, All-append}
-use Rattle.std.proofs.lemmas.List.Sums.{AllPass-from_list_all}
-use Rattle.std.proofs.lemmas.List.Splits.{slice_split_at, slice_split_none}
-use Rattle.std.proofs.lemmas.Str.Parse.{not_in_digits}
+use Rattle.std.proofs.Common.{◌≡◌, ◌+◌, ◌≤◌, ◌<◌, ◌^◌, ◌&&◌, nat_le, suc, ℕ, true, false, List, [], ◌∷◌, ◌++◌, Option, Some, Result, Ok, All, refl, sym, ◌∙◌, ap, append_assoc, arith, tests, codes, decimal, inl, inr}
+use Rattle.std.specs.List.{flat_map}
 use Rattle.lfm_protocol.specs.declared.answers.Call.{Call}
 use Rattle.lfm_protocol.specs.declared.answers.Call.TheVariants.{Lock, TryLock, Unlock, StartWait, SendLock, Receive}
 use Rattle.lfm_core.specs.declared.text.schedule.Act.{Act}
@@ -19,28 +12,8 @@ use Rattle.lfm_core.specs.text.Grammar.{max_steps, act_of, line_of, header_of, l
 use Rattle.lfm_protocol.specs.declared.limits.Limits.{Limits}
 use Rattle.lfm_protocol.specs.Limits.{max_budget, are_in_limits}
 use Rattle.lfm_core.specs.text.Spelling.{act_spelling, call_spelling, line_spelling, one_step_spelling, header_spelling, short_header_spelling, plan_spelling, IsWritableAct, IsWritable, IsWritablePlan, Spells, SpellsHeader, HasShortTarget}
-use Rattle.lfm_text.proofs.Cutting.{line_first}
-use Rattle.lfm_text.proofs.Numbers.{decimal_digits, every}
-
--- no byte of the text equals b
-abbrev Lacks : ℕ → List ℕ → Type 0
-Lacks b text = All (λ c. (c == b) ≡ false) text
-
--- a decimal text has only digits
-decimal_lacks : (b n : ℕ) → (IsInRange 48 57 b → ⊥) → n < 10 ^ 18 → Lacks b (decimal n)
-decimal_lacks b n no_digit small =
-    All-from_get_or (λ c. (c == b) ≡ false) (decimal n) 0
-    (λ i h. ne_eqb (get_or (decimal n) i 0) b (not_in_digits decimal_digits (decimal n) b (digits_decimal decimal_digits n (omega (arith, small))) no_digit i h))
-
--- a text without b, and then b
-first_part : (b : ℕ) (xs ys : List ℕ) → Lacks b xs → parts_at b (xs ++ b ∷ ys) ≡ xs ∷ parts_at b ys
-first_part b xs ys lacks = slice_split_at (λ c. c == b) xs b ys lacks (search (tests, arith))
-
-only_part : (b : ℕ) (xs : List ℕ) → Lacks b xs → parts_at b xs ≡ xs ∷ []
-only_part b xs lacks = slice_split_none (λ c. c == b) xs lacks
-
-no_space : (n : ℕ) → n < 10 ^ 18 → Lacks 32 (decimal n)
-no_space n small = decimal_lacks 32 n (λ r. absurd (omega (arith, r))) small
+use Rattle.lfm_text.proofs.Numbers.{every}
+use Rattle.lfm_text.proofs.Separators.{Lacks, first_part, only_part, no_space, literal_lacks, no_feed, both_lack, one_line}
 
 -- a seat and one word
 one_word : (s : ℕ) (word : List ℕ) (a : Act) → s < 10 ^ 18 → parts_at 32 word ≡ word ∷ [] → act_of word ≡ Some a
@@ -107,16 +80,6 @@ spelled_decodes text l spells writable =
           ∙ ap (λ a. Some (record { seat = l.seat; act = a })) (sym short.0)
     ]
 
--- a literal text without b
-literal_lacks : (b : ℕ) (text : List ℕ) → list_all (λ c. not (c == b)) text ≡ true → Lacks b text
-literal_lacks b text none = λ k d within. not-true _ (AllPass-from_list_all (λ c. not (c == b)) text none k d within)
-
-no_feed : (n : ℕ) → n < 10 ^ 18 → Lacks 10 (decimal n)
-no_feed n small = decimal_lacks 10 n (λ r. absurd (omega (arith, r))) small
-
-both_lack : (xs ys : List ℕ) → Lacks 10 xs → Lacks 10 ys → Lacks 10 (xs ++ ys)
-both_lack xs ys first second = All-append (λ c. (c == 10) ≡ false) xs ys first second
-
 no_feed_in_call : (call : Call) → HasShortTarget call → Lacks 10 (call_spelling call)
 no_feed_in_call Lock short = literal_lacks 10 (codes "lock") refl
 no_feed_in_call TryLock short = literal_lacks 10 (codes "try_lock") refl
@@ -139,10 +102,6 @@ no_feed_in_header : (n b : ℕ) → n < 10 ^ 18 → b < 10 ^ 18 → Lacks 10 (he
 no_feed_in_header n b small short =
     both_lack (codes "seats ") (decimal n ++ (codes " " ++ decimal b)) (literal_lacks 10 (codes "seats ") refl)
     (both_lack (decimal n) (codes " " ++ decimal b) (no_feed n small) (both_lack (codes " ") (decimal b) (literal_lacks 10 (codes " ") refl) (no_feed b short)))
-
--- a line that is ended by a line feed
-one_line : (line rest : List ℕ) → Lacks 10 line → lines_of (line ++ 10 ∷ rest) ≡ line ∷ lines_of rest
-one_line line rest lacks = line_first (line ++ 10 ∷ rest) line rest (first_part 10 line rest lacks)
 
 abbrev lines_text : List Line → List ℕ
 lines_text ls = flat_map (λ l. line_spelling l ++ codes "\n") ls

@@ -8,7 +8,7 @@ use Rattle.lfm_program.specs.declared.script.Command.TheVariants.{Add, Until, On
 use Rattle.lfm_program.specs.declared.script.ScriptLine.{ScriptLine}
 use Rattle.lfm_program.specs.script.Grammar.{line_of, header_of, Plan}
 use Rattle.lfm_program.specs.script.Spelling.{command_spelling, line_spelling, lines_spelling, header_spelling, plan_spelling, IsWritableCommand, IsWritable, AreWritable, IsWritablePlan, SpellsPlan}
-use Rattle.lfm_program.proofs.scripts.Separators.{Lacks, first_part, only_part, no_space, literal_lacks, no_feed, both_lack, one_line}
+use Rattle.lfm_text.proofs.Separators.{Lacks, first_part, only_part, no_space, literal_lacks, no_feed, both_lack, one_line}
 
 -- a worker and a command
 command_decodes : (w : ℕ) (m : Command) → w < 10 ^ 18 → IsWritableCommand m

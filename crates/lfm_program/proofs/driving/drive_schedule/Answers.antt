@@ -1,6 +1,6 @@
 use Rattle.std.proofs.Common.{All, sym, subst}
 use Rattle.lfm_mutex.specs.Belongs.{Of_mutex}
-use Rattle.lfm_program.proofs.Seats.{all_by_place}
+use Rattle.lfm_mutex.proofs.Lists.{all_by_place}
 use Rattle.lfm_program.proofs.driving.drive_schedule.Goals as goal
 
 pub drive_lines-requires : goal.drive_lines-requires

@@ -1,5 +1,5 @@
 -- The steps of a script's run, from the passes of a new monitor to what its workers gave back.
-use Rattle.std.specs.Prelude.{◌≡◌, ◌+◌, ℕ, Bool, true, false, List, [], ◌∷◌, length, Option, Some, None}
+use Rattle.std.specs.Prelude.{◌≡◌, ◌+◌, ◌/◌, ℕ, Bool, true, false, List, [], ◌∷◌, length, Option, Some, None}
 use mathlib.Core.Option.{some}
 use lib.ListN.{get_elem?}
 use Rattle.lfm_model.specs.declared.objects.Total.{Total}
@@ -7,17 +7,19 @@ use Rattle.lfm_model.specs.declared.objects.TotalOp.{TotalOp}
 use Rattle.lfm_model.specs.declared.refusals.Refusal.{Refusal}
 use Rattle.lfm_monitor.specs.declared.monitors.Monitor.{Monitor}
 use Rattle.lfm_monitor.specs.declared.passes.Pass.{Pass}
-use Rattle.lfm_monitor.specs.Begun.{New_pass}
-use Rattle.lfm_monitor.specs.Belongs.{opening_of, passes_of}
+use Rattle.lfm_monitor.specs.Begun.{New_pass, max_entries}
+use Rattle.lfm_monitor.specs.Belongs.{conditions_of, opening_of, passes_of, share_of}
 use Rattle.lfm_program.specs.declared.performing.Performed.{Performed}
 use Rattle.lfm_program.specs.declared.performing.Performed.TheVariants.{Done, Refused}
 use Rattle.lfm_program.specs.declared.workers.Worked.{Worked}
 
 module _ {R : Type 0} {K : _} where
-  -- a new monitor over a total of 0, with these passes, one for each worker and in order
-  pub record Made_ready (workers : ℕ) (m : Monitor Total TotalOp R K) (ps : List (Pass Total TotalOp R K)) : Type 0 where
+  -- a new monitor over a total of 0, with these passes, one for each worker and in order; each has the same share of the entries
+  pub record Made_ready (workers conditions : ℕ) (m : Monitor Total TotalOp R K) (ps : List (Pass Total TotalOp R K)) : Type 0 where
     pub opening : opening_of m ≡ record { 0 = 0 }
     pub monitor_has : passes_of m ≡ workers
+    pub share : share_of m ≡ max_entries / workers
+    pub conditions_are : conditions_of m ≡ conditions
     pub count : length ps ≡ workers
     pub passes : (j : ℕ) (p : Pass Total TotalOp R K) → get_elem? ps j ≡ some p → New_pass m (j + 1) p
 

@@ -17,14 +17,11 @@ use crate::performing::Performed;
 use crate::rows::Row;
 use crate::script::{Script, commands_by_worker};
 use crate::workers::{Worked, run_workers};
-use lfm_model::{Entry, Refusal, Total, TotalOp, lawful, replay};
-use lfm_monitor::{Monitor, Pass};
+use lfm_model::{Entry, NewFault, Refusal, Total, TotalOp, lawful, replay};
+use lfm_monitor::{MAX_ENTRIES, Monitor, Pass};
 use std::alloc::{AllocError, Global};
 use std::sync::Wait;
 use std::thread::Threads;
-
-/// The most entries that all workers together may write.
-const MAX_ENTRIES: u64 = 1_048_576;
 
 /// What a script came to when all its workers had ended.
 #[derive(Drop)]
@@ -40,19 +37,21 @@ pub struct ScriptRun {
 }
 
 // A monitor over a total of 0 with the script's conditions, and a pass for each worker. Each pass has the same share of the
-// entries. Memory where a request for it was refused.
+// entries that a journal may have room for. Memory where a request for it was refused. A script is within a monitor's limits,
+// so there is no other fault.
 fn monitor_of(
     alloc: Global,
     script: &Script,
 ) -> Result<(Monitor<Total>, Vec<Pass<Total>>), WorkFault>
     requires header { header_allowed script.now.workers script.now.conditions ≡ true }
-    ensures ready { IfOk result (λ r. Made_ready script.now.workers r.0 r.1.items) }
+    ensures ready { IfOk result (λ r. Made_ready script.now.workers script.now.conditions r.0 r.1.items) }
     ensures memory { IfErr result (λ e. e ≡ Fault.Memory) }
 {
     let share = MAX_ENTRIES / script.workers;
     match Monitor::new(alloc, script.workers, share, script.conditions, Total(0)) {
         Ok(made) => Ok(made),
-        Err(_) => Err(WorkFault::Memory),
+        Err(NewFault::Memory) => Err(WorkFault::Memory),
+        Err(NewFault::Limit) => unreachable!(),
     }
 }
 

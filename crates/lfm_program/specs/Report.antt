@@ -9,7 +9,7 @@ use Rattle.lfm_model.specs.Totals.{total_after}
 use Rattle.lfm_text.specs.Writing.{joined}
 use Rattle.lfm_program.specs.declared.rows.Row.{Row}
 use Rattle.lfm_program.specs.declared.faults.WorkFault.{WorkFault}
-use Rattle.lfm_program.specs.declared.faults.WorkFault.TheVariants.{Syntax}
+use Rattle.lfm_program.specs.declared.faults.WorkFault.TheVariants.{Syntax, Limit}
 use Rattle.lfm_program.specs.script.Grammar.{Plan}
 use Rattle.lfm_program.specs.Adds.{adds, worker_adds, lines_adds}
 use Rattle.lfm_program.specs.Rows.{row_of, rows_from, run_row}
@@ -62,4 +62,5 @@ IsRunOf p journal = (w : ℕ) → 0 < w → w ≤ p.workers → adds (own w jour
 -- the line of a fault of the input
 abbrev pub fault_text : WorkFault → List ℕ
 fault_text (Syntax number) = joined (codes "fault Syntax " ∷ decimal number ∷ codes "\n" ∷ [])
-fault_text _ = codes "fault Limit\n"
+fault_text Limit = codes "fault Limit\n"
+fault_text _ = []

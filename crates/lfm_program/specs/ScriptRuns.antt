@@ -10,7 +10,7 @@ use Rattle.lfm_monitor.specs.declared.passes.Pass.{Pass}
 use Rattle.lfm_monitor.specs.Begun.{New_pass, max_entries}
 use Rattle.lfm_monitor.specs.Belongs.{conditions_of, opening_of, passes_of, share_of}
 use Rattle.lfm_program.specs.declared.performing.Performed.{Performed}
-use Rattle.lfm_program.specs.declared.performing.Performed.TheVariants.{Done, Refused}
+use Rattle.lfm_program.specs.declared.performing.Performed.TheVariants.{Done, Refused, Stuck}
 use Rattle.lfm_program.specs.declared.workers.Worked.{Worked}
 
 module _ {R : Type 0} {K : _} where
@@ -33,6 +33,10 @@ pub record Divides (ws : List Worked) (passes : List _) (refusals : List (Option
   pub many : length passes ≡ length ws
   pub as_many : length refusals ≡ length ws
   pub each : (j : ℕ) (w : Worked) → get_elem? ws j ≡ some w → (get_elem? passes j ≡ some w.pass) × ((r : Option Refusal) × (get_elem? refusals j ≡ some r) × Ends_so w.performed r)
+
+-- some worker was stopped
+abbrev pub Has_stopped : List Worked → Type 0
+Has_stopped ws = (j : ℕ) × (w : Worked) × (get_elem? ws j ≡ some w) × (w.performed ≡ Stuck)
 
 -- whether no worker was refused
 abbrev pub are_none : List (Option Refusal) → Bool

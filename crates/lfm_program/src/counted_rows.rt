@@ -27,7 +27,7 @@ impl Row {
 }
 
 /// Each row, the first of which is worker 1's, also counts what its worker's entries added. Takes no memory.
-pub fn count_entries(rows: &mut [Row], entries: &[Entry<TotalOp>])
+fn count_entries(rows: &mut [Row], entries: &[Entry<TotalOp>])
     requires within { Within (length rows.old) entries.now }
     requires fits { (i : ℕ) (d : Row) → i < length rows.old →
         FitsRow (row_plus (slice_index_or rows.old i d) (adds (own (i + 1) entries.now))) }

@@ -3,7 +3,7 @@
 //! What it writes are the lines of a replay without the states, so that the words of a running mutex can be compared with
 //! those of the core's state.
 ghost use Rattle.lfm_mutex.specs.Belongs.{Beside, Of_mutex};
-ghost use Rattle.std.specs.Prelude.{◌≡◌, All, length};
+ghost use Rattle.std.specs.Prelude.{◌≡◌, ◌<◌, ◌⊎◌, All, length};
 
 use lfm_core::text::trace::{write_fault_line, write_line_feed, write_outcome};
 use lfm_core::{Act, Line, ReplayFault, Schedule, Turn, Why, read_schedule};
@@ -49,12 +49,13 @@ pub fn follow(mutex: &Mutex<u64>, seats: &mut [Seat<u64>], line: &Line) -> Turn
     requires belong { All (λ s. Of_mutex s mutex.now) seats.old }
     ensures belong { All (λ s. Of_mutex s mutex.now) seats.new }
     ensures all { length seats.new ≡ length seats.old }
+    ensures missing { (line.now.seat ≡ 0) ⊎ (length seats.old < line.now.seat) → (result ≡ Turn.Refused Why.NoSuchSeat) × (seats.new ≡ seats.old) }
 {
-    let many = seats.len() as u64;
-    if line.seat == 0 || line.seat > many {
+    let seat_count = seats.len() as u64;
+    if line.seat == 0 || line.seat > seat_count {
         return Turn::Refused(Why::NoSuchSeat);
     }
-    let longest = many + LONGEST_CALL;
+    let longest = seat_count + LONGEST_CALL;
     let at = (line.seat - 1) as usize;
     follow_seat(mutex, &mut seats[at], line.act, longest)
 }

@@ -2,7 +2,7 @@
 //! running mutex, what a script of workers is, and what is reported of its run.
 #![tactic(auto)]
 
-pub mod counted_rows;
+mod counted_rows;
 pub mod driving;
 pub mod faults;
 pub mod gates;
@@ -11,14 +11,14 @@ pub mod report_laws;
 pub mod reporting;
 pub mod rows;
 pub mod script;
-pub mod script_runs;
+mod script_runs;
 pub mod starting_line;
 pub mod statuses;
 pub mod work_report;
-pub mod workers;
+mod workers;
 pub mod working;
 
-pub use counted_rows::{count_entries, rows_of};
+pub use counted_rows::rows_of;
 pub use driving::{drive, follow};
 pub use faults::WorkFault;
 pub use gates::{Gate, Meet, OpenGate};
@@ -29,9 +29,7 @@ pub use script::{
     Command, MAX_CONDITIONS, MAX_NUMBER, MAX_WORKERS, Script, ScriptLine, commands_by_worker,
     read_script,
 };
-pub use script_runs::{ScriptRun, run_script};
-pub use starting_line::{Start, StartingLine};
+pub use starting_line::StartingLine;
 pub use statuses::{replay_status, status};
 pub use work_report::{write_fault, write_report};
-pub use workers::{Worked, run_workers};
 pub use working::work;

@@ -1,6 +1,6 @@
 //! The run of a script: its workers on a monitor over a total, and what its journal tells once all have ended.
 ghost use Rattle.lfm_program.specs.Report.{report_text};
-ghost use Rattle.lfm_program.specs.ScriptRuns.{Divides, Ends_so, Made_ready, are_none};
+ghost use Rattle.lfm_program.specs.ScriptRuns.{Divides, Ends_so, Has_stopped, Made_ready, are_none};
 ghost use Rattle.lfm_program.specs.Works.{IsReport};
 ghost use Rattle.lfm_program.specs.declared.faults.WorkFault.TheVariants as Fault;
 ghost use Rattle.lfm_program.specs.script.Grammar.{script_of};
@@ -25,7 +25,7 @@ use std::thread::Threads;
 
 /// What a script came to when all its workers had ended.
 #[derive(Drop)]
-pub struct ScriptRun {
+pub(crate) struct ScriptRun {
     /// A row for each worker, in order.
     pub rows: Vec<Row>,
     /// The total at the end.
@@ -58,7 +58,7 @@ fn monitor_of(
 // Why a worker was refused, if it was. Stuck where the gate stopped it.
 fn refusal_in(performed: Performed) -> Result<Option<Refusal>, WorkFault>
     ensures refused { IfOk result (λ r. Ends_so performed r) }
-    ensures stopped { IfErr result (λ e. e ≡ Fault.Stuck) }
+    ensures stopped { IfErr result (λ e. (e ≡ Fault.Stuck) × (performed ≡ Performed.Stuck)) }
 {
     match performed {
         Performed::Done => Ok(None),
@@ -74,7 +74,7 @@ fn divide(
     worked: Vec<Worked>,
 ) -> Result<(Vec<Pass<Total>>, Vec<Option<Refusal>>), WorkFault>
     ensures divides { IfOk result (λ r. Divides worked.items r.0.items r.1.items) }
-    ensures fault { IfErr result (λ e. (e ≡ Fault.Memory) ⊎ (e ≡ Fault.Stuck)) }
+    ensures fault { IfErr result (λ e. (e ≡ Fault.Memory) ⊎ ((e ≡ Fault.Stuck) × Has_stopped worked.items)) }
 {
     let mut passes = Vec::with_capacity(alloc, worked.len())?;
     let mut refusals = Vec::with_capacity(alloc, worked.len())?;
@@ -101,7 +101,8 @@ fn none_refused(refusals: &[Option<Refusal>]) -> bool
 
 // Whether the journal is lawful, and its replay from 0 gives the total. Makes one request for memory, for the replies.
 fn is_lawful(alloc: Global, total: Total, journal: &[Entry<TotalOp>]) -> Result<bool, AllocError>
-    ensures { Lawful journal.now → total ≡ after_all total_after (record { 0 = 0 }) journal.now → IfOk result (λ b. b ≡ true) }
+    ensures complete { Lawful journal.now → total ≡ after_all total_after (record { 0 = 0 }) journal.now → IfOk result (λ b. b ≡ true) }
+    ensures sound { IfOk result (λ b. b ≡ true → Lawful journal.now × (total ≡ after_all total_after (record { 0 = 0 }) journal.now)) }
 {
     if !lawful(journal) {
         return Ok(false);
@@ -114,7 +115,7 @@ fn is_lawful(alloc: Global, total: Total, journal: &[Entry<TotalOp>]) -> Result<
 /// wait of the script is ended by nobody.
 ///
 /// Stuck where the gate stopped a worker. Memory where a request for memory was refused or a worker could not be started.
-pub fn run_script<R: Threads + Wait + Sync, G: Gate>(
+pub(crate) fn run_script<R: Threads + Wait + Sync, G: Gate>(
     rt: &R,
     alloc: Global,
     script: &Script,

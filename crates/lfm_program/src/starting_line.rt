@@ -2,9 +2,9 @@
 
 use std::sync::{Condvar, Mutex, Wait};
 
-/// Whether the workers at a starting line may go.
+// Whether the workers at a starting line may go.
 #[derive(Clone, Copy, Debug, PartialEq, Eq)]
-pub enum Start {
+enum Start {
     /// Not yet.
     Closed,
     /// All have been started.
@@ -13,7 +13,7 @@ pub enum Start {
     CalledOff,
 }
 
-/// A starting line. It is closed until it is opened. It takes no memory.
+/// A starting line. It is closed until it lets all go, or is called off. It takes no memory.
 #[derive(Drop)]
 pub struct StartingLine {
     start: Mutex<Start>,
@@ -29,7 +29,7 @@ impl StartingLine {
         }
     }
 
-    /// Sleeps while the line is closed. Returns whether there is something to do: true where it was opened by `Go`.
+    /// Sleeps while the line is closed. Returns whether there is something to do: false where the start was called off.
     pub fn wait<R: Wait>(&self, rt: &R) -> bool {
         let start = self
             .changed
@@ -37,9 +37,17 @@ impl StartingLine {
         *start == Start::Go
     }
 
-    /// Sets the line, and wakes those who sleep at it. With `Go` or `CalledOff`, they and all who come later go on; with
-    /// `Closed`, they go on sleeping.
-    pub fn open<R: Wait>(&self, rt: &R, start: Start) {
+    /// Lets all go, those who sleep here and those who come later. It wakes who sleeps here.
+    pub fn let_go<R: Wait>(&self, rt: &R) {
+        self.open(rt, Start::Go);
+    }
+
+    /// Calls the start off: who sleeps here, or comes later, has nothing to do. It wakes who sleeps here.
+    pub fn call_off<R: Wait>(&self, rt: &R) {
+        self.open(rt, Start::CalledOff);
+    }
+
+    fn open<R: Wait>(&self, rt: &R, start: Start) {
         *self.start.lock(rt) = start;
         self.changed.notify_all();
     }

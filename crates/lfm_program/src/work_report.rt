@@ -100,17 +100,17 @@ pub fn write_report<W: Write>(
     write_total(writer, total, lawful)
 }
 
-/// Writes the line of a fault of the input: of Syntax with its line's number, and of any other as of Limit. It flushes
-/// nothing. A fault where the writer fails or takes no byte, after a prefix of the line.
+/// Writes the line of a fault of the input: of Syntax with its line's number, or of Limit. Any other fault is none of the
+/// input and has no line: nothing is written. It flushes nothing. A fault where the writer fails or takes no byte, after a
+/// prefix of the line.
 pub fn write_fault<W: Write>(writer: &mut W, fault: WorkFault) -> Result<(), WriteFault>
     ensures { Writes (W.contents writer.old) (W.contents writer.new) (fault_text fault) result }
 {
     match fault {
         WorkFault::Syntax(number) => write_fault_line(writer, ReplayFault::Syntax(number)),
-        WorkFault::Limit
-        | WorkFault::Read
-        | WorkFault::Write
-        | WorkFault::Memory
-        | WorkFault::Stuck => write_fault_line(writer, ReplayFault::Limit),
+        WorkFault::Limit => write_fault_line(writer, ReplayFault::Limit),
+        WorkFault::Read | WorkFault::Write | WorkFault::Memory | WorkFault::Stuck => {
+            write_text(writer, b"")
+        }
     }
 }

@@ -8,7 +8,7 @@ use crate::faults::WorkFault;
 use crate::gates::Gate;
 use crate::performing::{Performed, perform};
 use crate::script::Command;
-use crate::starting_line::{Start, StartingLine};
+use crate::starting_line::StartingLine;
 use lfm_model::Total;
 use lfm_monitor::{Monitor, Pass};
 use std::alloc::Global;
@@ -19,7 +19,7 @@ use std::thread::{Promise, PromisedHandle, Threads};
 
 /// What comes back from a worker's thread.
 #[derive(Drop)]
-pub struct Worked {
+pub(crate) struct Worked {
     /// The worker's pass. It neither holds nor sleeps.
     pub pass: Pass<Total>,
     /// How its commands ended.
@@ -88,7 +88,7 @@ fn join_all<R: Threads>(
 ///
 /// Memory where a request for it was refused, or a worker could not be started; then those that were started made no command,
 /// or what they made is lost with their passes.
-pub fn run_workers<R: Threads + Wait + Sync, G: Gate>(
+pub(crate) fn run_workers<R: Threads + Wait + Sync, G: Gate>(
     rt: &R,
     alloc: Global,
     monitor: &Monitor<Total>,
@@ -119,7 +119,7 @@ pub fn run_workers<R: Threads + Wait + Sync, G: Gate>(
             let Ok(mut handles) = Vec::with_capacity(alloc, scripts.len()) else {
                 return Err(WorkFault::Memory);
             };
-            let mut start = Start::Go;
+            let mut all_started = true;
             'starting: for pass in passes {
                 let commands = &scripts[handles.len()];
                 let assignment = Assignment {
@@ -136,12 +136,16 @@ pub fn run_workers<R: Threads + Wait + Sync, G: Gate>(
                     { run_worker(rt, at_line, monitor, pass, commands, gate) },
                 );
                 let Ok(handle) = started else {
-                    start = Start::CalledOff;
+                    all_started = false;
                     break;
                 };
                 handles.push_reserved(handle);
             }
-            at_line.open(rt, start);
+            if all_started {
+                at_line.let_go(rt);
+            } else {
+                at_line.call_off(rt);
+            }
             join_all(rt, handles, scripts.len())
         },
     )

@@ -79,8 +79,9 @@ fn work_input<R: Threads + Wait + Sync, G: Gate, W: Write>(
     }
 }
 
-/// Reads a script, runs its workers, each a thread, round one monitor, and writes the report of the run. Returns whether no
-/// worker was refused. It sleeps until all workers have ended.
+/// Reads a script, runs its workers, each a thread, round one monitor, and writes the report of the run. Returns whether the
+/// journal is lawful, which it always is, and no worker was refused. Each of N workers may write 1,048,576 / N entries,
+/// rounded down. It sleeps until all workers have ended.
 ///
 /// The faults, and what is written before each of them:
 /// - Read and Memory: nothing. Read is a failure of the reader. Memory is a request that was refused, or a worker that could

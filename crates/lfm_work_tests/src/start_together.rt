@@ -1,6 +1,6 @@
 //! Threads that wait at a starting line.
 
-use lfm_program::{Start, StartingLine};
+use lfm_program::StartingLine;
 use std::thread::join;
 
 #[test]
@@ -11,7 +11,7 @@ fn go_lets_go(rt: HostRuntime) {
         &rt,
         move || at_line.wait(r),
         move || {
-            at_line.open(r, Start::Go);
+            at_line.let_go(r);
             true
         },
     );
@@ -28,7 +28,7 @@ fn called_off_there_is_nothing_to_do(rt: HostRuntime) {
         &rt,
         move || at_line.wait(r),
         move || {
-            at_line.open(r, Start::CalledOff);
+            at_line.call_off(r);
             true
         },
     );

@@ -1,5 +1,5 @@
 -- What comes back from threads, by its place.
-use Rattle.std.proofs.Common.{◌+◌, arith, subst, ◌≡◌, ℕ, zero, suc, List, [], ◌∷◌, get_or, sym, Result, Ok, Err, IfOk}
+use Rattle.std.proofs.Common.{◌+◌, arith, subst, ◌≡◌, ℕ, zero, suc, List, [], ◌∷◌, get_or, sym, Result, Ok, Err, IfErr, IfOk, IsErrAnd}
 use mathlib.Core.Option.{some, some-injective, some-ne-none}
 use lib.ListN.{get_elem?}
 
@@ -17,6 +17,11 @@ if_ok P Q (Err e) f p = tt
 pub both_ok : {X E : Type 0} (P Q S : X → Type 0) (r : Result X E) → ((x : X) → P x → Q x → S x) → IfOk r P → IfOk r Q → IfOk r S
 both_ok P Q S (Ok x) f p q = f x p q
 both_ok P Q S (Err e) f p q = tt
+
+-- what holds of the fault that was met holds of the one that is answered
+pub fault_is : {X E : Type 0} (P : E → Type 0) (r : Result X E) (e : E) → IsErrAnd r (λ f. f ≡ e) → P e → IfErr r P
+fault_is P (Ok x) e is p = tt
+fault_is P (Err f) e is p = subst P (sym is) p
 
 -- nothing past a place is the place itself
 pub in_place : {A : Type 0} (xs : List A) (n : ℕ) (x : A) → get_elem? xs (n + 0) ≡ some x → get_elem? xs n ≡ some x

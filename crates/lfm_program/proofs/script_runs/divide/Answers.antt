@@ -1,4 +1,4 @@
-use Rattle.std.proofs.Common.{arith, ap, sym, subst, ◌∙◌, ◌≡◌, ◌+◌, ◌++◌, ◌∷◌, [], ℕ, suc, Option, length}
+use Rattle.std.proofs.Common.{arith, ap, sym, subst, ◌∙◌, ◌≡◌, ◌⊎◌, inr, ◌+◌, ◌++◌, ◌∷◌, [], ℕ, suc, Option, length}
 use Rattle.std.specs.Vec.Iter.{into_iter_items}
 use mathlib.Core.Logic.{dite}
 use mathlib.Core.Option.{some, some-injective}
@@ -6,9 +6,10 @@ use lib.ListN.{get_elem?}
 use native.Mathlib.Decide.{ℕ_discrete}
 use Rattle.lfm_model.specs.declared.refusals.Refusal.{Refusal}
 use Rattle.lfm_monitor.proofs.Places.{in_range, stands_before, stands_last}
-use Rattle.lfm_program.specs.ScriptRuns.{Ends_so}
+use Rattle.lfm_program.specs.ScriptRuns.{Ends_so, Has_stopped}
+use Rattle.lfm_program.specs.declared.faults.WorkFault.TheVariants.{Memory, Stuck}
 use Rattle.lfm_program.specs.declared.workers.Worked.{Worked}
-use Rattle.lfm_program.proofs.Threads.{in_place}
+use Rattle.lfm_program.proofs.Threads.{fault_is, in_place}
 use Rattle.lfm_program.proofs.script_runs.divide.Goals as goal
 
 pub dividing-init : goal.dividing-init
@@ -69,3 +70,12 @@ returns c = let i = c.dividing.invariant in let none = c.in-None.ensures.steps.0
   };
   fault = tt;
 }
+
+-- the worker at which the loop ends was stopped
+pub returns-in_err-refused-clause-fault : goal.returns-in_err-refused-clause-fault
+returns-in_err-refused-clause-fault c =
+    let at : get_elem? c.args.worked.items (length c.dividing.passes.items) ≡ some c.in-Some.one =
+        in_place c.args.worked.items (length c.dividing.passes.items) c.in-Some.one (c.dividing.invariant.rest 0 c.in-Some.one (ap (λ l. get_elem? l 0) c.in-Some.ensures.steps.0)) in
+    let stopped = c.in_err-refused.ensures.stopped in
+    fault_is (λ e. (e ≡ Memory) ⊎ ((e ≡ Stuck) × Has_stopped c.args.worked.items)) c.from_residual-in_err-refused.result c.in_err-refused.field-0.0 c.from_residual-in_err-refused.ensures.1
+    (inr (stopped.0, (length c.dividing.passes.items, (c.in-Some.one, (at, stopped.1)))))

@@ -1,5 +1,5 @@
 -- What keeps a mutex from being closed. A seat lies in something of type A, and `look` says how it is seen.
-use Rattle.std.specs.Prelude.{◌≡◌, ◌≢◌, ℕ, ◌<◌, ◌≤◌, List, [], true, false}
+use Rattle.std.specs.Prelude.{◌≡◌, ◌≢◌, ℕ, ◌<◌, ◌≤◌, List, [], true, false, Some, None}
 use mathlib.Core.Option.{some}
 use lib.ListN.{get_elem?}
 use Rattle.lfm_model.specs.declared.refusals.Missing.{Missing}
@@ -26,6 +26,13 @@ Hinders (Holding k) s = (s.number ≡ k) × (0 < s.depth)
 Hinders (Asleep k) s = (s.number ≡ k) × (s.depth ≡ 0) × (s.asleep ≡ true)
 
 module _ {A : Type 0} {T : Type 0} (look : A → Sight T) (seats : List A) where
+  abbrev pub None_has_held : Type 0
+  None_has_held = (i : ℕ) (s : A) → get_elem? seats i ≡ some s → (look s).found ≡ None
+
+  -- A seat that has held left this value last. Where none has, it is the opening value, which each seat has as its last.
+  abbrev pub Left_last : T → Type 0
+  Left_last v = (i : ℕ) × (s : A) × (get_elem? seats i ≡ some s) × ((look s).last ≡ Some v) × ((look s).found ≡ None → None_has_held)
+
   abbrev pub Lacks : ℕ → Type 0
   Lacks k = (i : ℕ) (s : A) → get_elem? seats i ≡ some s → (look s).number ≢ k
 

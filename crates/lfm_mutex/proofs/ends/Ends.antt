@@ -2,7 +2,7 @@
 use Rattle.std.specs.List.{remove}
 use Rattle.std.specs.Prelude.{Bool, false}
 use Rattle.std.proofs.lemmas.Bool.{false≢true}
-use Rattle.std.proofs.Common.{◌≡◌, ◌≢◌, ℕ, zero, suc, eqb, eq-eqb, ne_eqb, if◌then◌else◌, ◌+◌, ◌<◌, ◌≤◌, List, [], ◌∷◌, ◌++◌, length, get_or, sym, refl, ap, ◌∙◌, subst, ◌⊎◌, ⊎_elim, inl, inr, arith, Option, Some}
+use Rattle.std.proofs.Common.{◌≡◌, ◌≢◌, ℕ, zero, suc, eqb, eq-eqb, ne_eqb, if◌then◌else◌, ◌+◌, ◌<◌, ◌≤◌, List, [], ◌∷◌, ◌++◌, length, get_or, sym, refl, ap, ◌∙◌, subst, ◌⊎◌, ⊎_elim, inl, inr, arith, Option, Some, None}
 use mathlib.Core.Option.{some, some-injective, some-ne-none}
 use lib.ListN.{get_elem?}
 use mathlib.Core.Logic.{dite}
@@ -32,7 +32,7 @@ use Rattle.lfm_mutex.specs.Closing.{Hinders, Hindered, named, Are_free}
 use Rattle.lfm_mutex.proofs.ends.FreeWords.{free_core}
 use Rattle.lfm_mutex.specs.Reach.{Reached}
 use Rattle.lfm_mutex.specs.calls.Sight.{Sight, is_asleep, by_depth}
-use Rattle.lfm_mutex.specs.table.Rule.{total, retired, retired_at, in_hand, Held}
+use Rattle.lfm_mutex.specs.table.Rule.{total, retired, retired_at, in_hand, Held, None_ended, Left_in, joined_of}
 use Rattle.lfm_mutex.specs.table.Seats.{Seated}
 use Rattle.lfm_mutex.specs.table.Settled.{Became, calls_to}
 use Rattle.lfm_mutex.proofs.tables.RuleKept.{length_at}
@@ -108,17 +108,22 @@ module _ {T : Type 0} (follows : ℕ → T → T → Type 0) (suits : T → ℕ 
   abbrev Is_resting : SeatState → Type 0
   Is_resting x = (x.point ≡ Rest) × (x.depth ≡ 0)
 
+  -- where all seats are back, the view of seat 1 is the only one that was not joined
+  last_user : (s : St) (h : Held follows suits s) (v : View T) → get_elem? s.views 0 ≡ some v → v.made ≤ length v.joined → (j : ℕ) (z : View T) → get_elem? s.views j ≡ some z → z.role ≡ User → v ≡ z
+  last_user s h v at back j z e u =
+      let k = h.root v at in let r = roles s.views in let one : used v ≡ 1 = ap used_at k.user in let e0 = k.made in let e1 = k.back in
+      dite (ℕ_discrete j 0)
+      (λ zero_j. some-injective v z (sym at ∙ subst (λ (i : ℕ). get_elem? s.views i ≡ some z) zero_j e))
+      (λ other. absurd (let one' : used z ≡ 1 = ap used_at u in let b = total_two used s.views 0 j v z at e other in omega arith))
+
   -- where all seats are back, all of them rest
   all_rest : (s : St) (h : Held follows suits s) (v : View T) → get_elem? s.views 0 ≡ some v → v.made ≤ length v.joined → v.standing.point ≡ Rest → v.standing.depth ≡ 0 → (t : ℕ) → Is_resting (seat h.core.seats t)
   all_rest s h v at back rests flat zero = subst Is_resting (sym (seat_zero h.core.seats)) (refl, refl)
   all_rest s h v at back rests flat (suc j) =
-      let k = h.root v at in let r = roles s.views in let one : used v ≡ 1 = ap used_at k.user in let e0 = k.made in let e1 = k.back in
       let next : suc j ≡ j + 1 = omega arith in
       subst (λ (n : ℕ). Is_resting (seat h.core.seats n)) (sym next) (⊎_elim
       (λ (z : (x : View T) × (get_elem? s.views j ≡ some x)). subst Is_resting (sym (h.each j z.0 z.1).standing) (⊎_elim
-      (λ (u : z.0.role ≡ User). dite (ℕ_discrete j 0)
-      (λ zero_j. let same : v ≡ z.0 = some-injective v z.0 (sym at ∙ subst (λ (i : ℕ). get_elem? s.views i ≡ some z.0) zero_j z.1) in subst (λ (y : View T). Is_resting y.standing) same (rests, flat))
-      (λ other. absurd (let one' : used z.0 ≡ 1 = ap used_at u in let b = total_two used s.views 0 j v z.0 at z.1 other in omega arith)))
+      (λ (u : z.0.role ≡ User). subst (λ (y : View T). Is_resting y.standing) (last_user s h v at back j z.0 z.1 u) (rests, flat))
       (λ (u : z.0.role ≡ Retired). h.others j z.0 z.1 u) (is_user z.0.role)))
       (λ far. subst Is_resting (sym (h.later j far)) (refl, refl)) (there_or_past s.views j))
 
@@ -126,8 +131,24 @@ module _ {T : Type 0} (follows : ℕ → T → T → Type 0) (suits : T → ℕ 
   abbrev pub Reaches_all : View T → T → Type 0
   Reaches_all v w = ((l : T) → v.last ≡ Some l → Reached follows v.number l w) × ((i : ℕ) (g : Joined T) (l : T) → get_elem? v.joined i ≡ some g → g.last ≡ Some l → Reached follows g.number l w)
 
+  -- no seat has ended a hold
+  abbrev pub None_at_end : View T → Type 0
+  None_at_end v = (v.last_found ≡ None) × ((i : ℕ) (g : Joined T) → get_elem? v.joined i ≡ some g → g.found ≡ None)
+
+  -- the value at the end is what seat 1 left last, or what a seat that was joined did
+  abbrev pub Left_at_end : View T → T → Type 0
+  Left_at_end v w = ((v.last ≡ Some w) × (v.last_found ≡ None → None_at_end v)) ⊎ ((i : ℕ) × (g : Joined T) × (get_elem? v.joined i ≡ some g) × (g.last ≡ Some w) × (g.found ≡ None → None_at_end v))
+
+  none_end : (s : St) (h : Held follows suits s) (v : View T) → get_elem? s.views 0 ≡ some v → None_ended s.views → None_at_end v
+  none_end s h v at all = (all 0 v at, λ i g e. let a = (h.root v at).kept i g e in sym a.6 ∙ all a.0 a.1 a.2)
+
+  left_last : (s : St) (h : Held follows suits s) (v : View T) → get_elem? s.views 0 ≡ some v → v.made ≤ length v.joined → (w : T) → Left_in s.views w → Left_at_end v w
+  left_last s h v at back w left = ⊎_elim
+      (λ (u : left.1.role ≡ User). let one = last_user s h v at back left.0 left.1 left.2 u in inl (ap (λ (z : View T). z.last) one ∙ left.3, λ none. none_end s h v at (left.4 (sym (ap (λ (z : View T). z.last_found) one) ∙ none))))
+      (λ (u : left.1.role ≡ Retired). let a = (h.root v at).gone left.0 left.1 left.2 u in inr (a.0, joined_of left.1, a.1, left.3, λ none. none_end s h v at (left.4 none))) (is_user left.1.role)
+
   pub ends : (v : View T) (ws : List ℕ) (xs : List (Option (Moving T))) → v.made ≤ length v.joined → v.standing.point ≡ Rest → v.standing.depth ≡ 0 → Final (Seen (Held follows suits) 0 v) ws xs
-      → (x : Moving T) × (get_elem? xs 0 ≡ some (Some x)) × Reaches_all v x.value × (length v.joined ≤ v.made) × Are_free ws × (x.popped.records ≡ [])
+      → (x : Moving T) × (get_elem? xs 0 ≡ some (Some x)) × Reaches_all v x.value × (length v.joined ≤ v.made) × Are_free ws × (x.popped.records ≡ []) × Left_at_end v x.value
   ends v ws xs back rests flat end = let s = end.0 in let h = end.1.0 in let at = end.1.1 in let all = all_rest s h v at back rests flat in let free = free_core h.core h.ghost_state h.fits all in let x = h.home (λ t. resting (seat h.core.seats t) (all t).0 (all t).1) in let k = h.root v at in
       let each : (j : ℕ) (z : View T) (l : T) → get_elem? s.views j ≡ some z → z.last ≡ Some l → Reached follows z.number l x.value.value =
       (λ j z l e is. subst (λ (n : ℕ). Reached follows n l x.value.value) (sym (h.each j z e).number) (x.leads j z l e tt is)) in (
@@ -137,6 +158,7 @@ module _ {T : Type 0} (follows : ℕ → T → T → Type 0) (suits : T → ℕ 
         let r = roles s.views in let one : used v ≡ 1 = ap used_at k.user in let here = total_at used s.views 0 v at in let e0 = k.made in let e1 = k.back in omega arith,
         (h.core, sym end.2 ∙ h.words_are, free),
         x.records ∙ free.popped,
+        left_last s h v at back x.value.value x.left,
       )
 
 -- an item that was taken from the end of a list
@@ -221,6 +243,10 @@ hindered_at look l i s k (Sleeping n) at e h = (sym h.0 ∙ e, (i, s, at, h))
 pub seen_last : {A : Type 0} (d : ℕ) (x y z : A) → d ≡ 0 → by_depth d x y ≡ z → x ≡ z
 seen_last zero x y z flat e = e
 seen_last (suc d) x y z flat e = absurd (omega (arith, flat))
+
+pub last_seen : {A : Type 0} (d : ℕ) (x y : A) → d ≡ 0 → by_depth d x y ≡ x
+last_seen zero x y flat = refl
+last_seen (suc d) x y flat = absurd (omega (arith, flat))
 
 -- a seat that isn't asleep is at rest
 pub rest_of : (q : Point) → is_asleep q ≡ false → q ≡ Rest

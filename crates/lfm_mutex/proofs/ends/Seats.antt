@@ -8,8 +8,10 @@ use mathlib.Core.Option.{some, some-injective, some-ne-none, none}
 use mathlib.Core.Option as maybe
 use lib.ListN.{get_elem?}
 use lib.Seq.{set-get_or}
+use mathlib.Core.Logic.{dite}
+use native.Mathlib.Decide.{ℕ_discrete}
 use Rattle.atomic_table.specs.Table.{State, Me, keeps, Allows, Splits, Joins, opening}
-use Rattle.atomic_table.proofs.Lists.{at_set, set_here, set_else}
+use Rattle.atomic_table.proofs.Lists.{at_set, set_here, set_else, at_last, at_longer}
 use Rattle.lfm_words.specs.declared.wakes.Wake.TheVariants.{Quiet}
 use Rattle.lfm_words.specs.Words.{link_word, wake_word}
 use Rattle.lfm_protocol.specs.declared.limits.Limits.{Limits}
@@ -33,7 +35,7 @@ use Rattle.lfm_mutex.specs.declared.table.seat_view.Joined.{Joined}
 use Rattle.lfm_mutex.specs.declared.table.seat_view.View.{View}
 use Rattle.lfm_mutex.specs.declared.table.rule.Moving.{Moving}
 use Rattle.lfm_mutex.specs.Reach.{Reached}
-use Rattle.lfm_mutex.specs.table.Rule.{total, retired, retired_at, split_view, with_split, with_joined, joined, joined_of, first_view, Leads_to, Awaits, Roots, Sits, At_home, With_seat, Held, Same_root, Looked, seen}
+use Rattle.lfm_mutex.specs.table.Rule.{total, retired, retired_at, split_view, with_split, with_joined, joined, joined_of, first_view, Leads_to, Awaits, None_ended, Left_in, Roots, Sits, At_home, With_seat, Held, Same_root, Looked, seen}
 use Rattle.lfm_mutex.specs.table.Seats.{Seated}
 use Rattle.lfm_mutex.specs.table.Settled.{Became}
 use Rattle.lfm_mutex.proofs.tables.CoreFacts.{owner_told}
@@ -70,7 +72,7 @@ module _ {T : Type 0} (follows : ℕ → T → T → Type 0) (suits : T → ℕ 
 
   -- one view becomes another that says the same
   module _ (views : List (View T)) (p : Parts views) (i : ℕ) (x y : View T) (at : get_elem? views i ≡ some x) (number : y.number ≡ x.number) (limits_are : y.limits ≡ x.limits) (stands : y.standing ≡ x.standing) (lasts : y.last ≡ x.last) (founds : y.found ≡ x.found)
-      (lists : y.popped ≡ x.popped) (holds : y.answered ≡ x.answered) (opens : y.opening ≡ x.opening) where
+      (lists : y.popped ≡ x.popped) (holds : y.answered ≡ x.answered) (opens : y.opening ≡ x.opening) (ended : y.last_found ≡ x.last_found) where
     leads_same : (which : ℕ → Type 0) (t : T) → Leads_to follows which views t → Leads_to follows which (set views i y) t
     leads_same which t old j z l e ok is = ⊎_elim
         (λ (u : (j ≡ i) × (y ≡ z)). old j x l (subst (λ (k : ℕ). get_elem? views k ≡ some x) (sym u.0) at) ok (sym lasts ∙ ap (λ (v : View T). v.last) u.1 ∙ is))
@@ -81,6 +83,22 @@ module _ {T : Type 0} (follows : ℕ → T → T → Type 0) (suits : T → ℕ 
         (λ (u : (0 ≡ i) × (y ≡ k)). old j x l far' (subst (λ (k : ℕ). get_elem? views k ≡ some x) (sym u.0) at) (sym opens ∙ ap (λ (v : View T). v.opening) u.1 ∙ is))
         (λ (u : (0 ≢ i) × (get_elem? views 0 ≡ some k)). old j k l far' u.1 is) (at_set views i 0 y k e)
 
+    none_same : None_ended views → None_ended (set views i y)
+    none_same all j z e = ⊎_elim
+        (λ (u : (j ≡ i) × (y ≡ z)). ap (λ (v : View T). v.last_found) (sym u.1) ∙ (ended ∙ all i x at))
+        (λ (u : (j ≢ i) × (get_elem? views j ≡ some z)). all j z u.1) (at_set views i j y z e)
+
+    left_same : (t : T) → Left_in views t → Left_in (set views i y) t
+    left_same t old = dite (ℕ_discrete old.0 i)
+        (λ q. let one : x ≡ old.1 = some-injective x old.1 (sym at ∙ subst (λ (k : ℕ). get_elem? views k ≡ some old.1) q old.2) in (
+          i,
+          y,
+          set_here views i y (length_at views i x at),
+          lasts ∙ (ap (λ (v : View T). v.last) one ∙ old.3),
+          λ none. none_same (old.4 (sym (ap (λ (v : View T). v.last_found) one) ∙ (sym ended ∙ none))),
+        ))
+        (λ n. (old.0, old.1, set_else views i old.0 y n ∙ old.2, old.3, λ none. none_same (old.4 none)))
+
     quiet : Parts (set views i y)
     quiet = record {
       few = let l = length-set views i y in omega (arith, l, p.few);
@@ -88,7 +106,7 @@ module _ {T : Type 0} (follows : ℕ → T → T → Type 0) (suits : T → ℕ 
           (λ (u : (j ≡ i) × (y ≡ z)). let old = p.each i x at in subst (λ (t : ℕ × View T). Sits c t.0 t.1) (λ k. (sym u.0 k, u.1 k)) (record { number = number ∙ old.number; limits_are = limits_are ∙ old.limits_are; standing = old.standing ∙ sym stands }))
           (λ (u : (j ≢ i) × (get_elem? views j ≡ some z)). p.each j z u.1) (at_set views i j y z e);
       later = λ j far. let l = length-set views i y in p.later j (omega (arith, far, l));
-      home = λ nobody. let h = p.home nobody in record { value = h.value; here = h.here; records = h.records; room = h.room; leads = leads_same (λ _. ⊤) h.value.value h.leads; awaits = awaits_same h.value.value h.awaits; fits = h.fits };
+      home = λ nobody. let h = p.home nobody in record { value = h.value; here = h.here; records = h.records; room = h.room; leads = leads_same (λ _. ⊤) h.value.value h.leads; awaits = awaits_same h.value.value h.awaits; left = left_same h.value.value h.left; fits = h.fits };
       outside = λ j z e one. ⊎_elim
           (λ (u : (j ≡ i) × (y ≡ z)). let o = p.outside i x at (ap carries_value (sym stands) ∙ (ap (λ (v : View T). carries_value v.standing) u.1 ∙ one)) in subst (λ (t : ℕ × View T). With_seat follows suits c g (set views i y) t.0 t.1) (λ k. (sym u.0 k, u.1 k)) (record {
             value = o.value;
@@ -98,6 +116,7 @@ module _ {T : Type 0} (follows : ℕ → T → T → Type 0) (suits : T → ℕ 
             leads = leads_same (λ j. j ≢ i) o.value o.leads;
             awaits = awaits_same o.value o.awaits;
             shallow = λ flat. let k = o.shallow (ap (λ (s : SeatState). s.depth) (sym stands) ∙ flat) in (subst (λ (n : ℕ). suits o.value n) (sym holds) k.0, λ l is. k.1 l (sym lasts ∙ is));
+            left = λ flat. left_same o.value (o.left (ap (λ (s : SeatState). s.depth) (sym stands) ∙ flat));
           }))
           (λ (u : (j ≢ i) × (get_elem? views j ≡ some z)). let o = p.outside j z u.1 one in record {
             value = o.value;
@@ -107,17 +126,27 @@ module _ {T : Type 0} (follows : ℕ → T → T → Type 0) (suits : T → ℕ 
             leads = leads_same (λ k. k ≢ j) o.value o.leads;
             awaits = awaits_same o.value o.awaits;
             shallow = o.shallow;
+            left = λ flat. left_same o.value (o.left flat);
           }) (at_set views i j y z e);
     }
 
   -- one more view, of a seat that has not stepped
-  module _ (views : List (View T)) (p : Parts views) (k r : View T) (at : get_elem? views 0 ≡ some k) (room : length views < length c.seats) (number : r.number ≡ length views + 1) (limits_are : r.limits ≡ limits c) (new : r.standing ≡ absent) (lasts : r.last ≡ k.opening) where
+  module _ (views : List (View T)) (p : Parts views) (k r : View T) (at : get_elem? views 0 ≡ some k) (room : length views < length c.seats) (number : r.number ≡ length views + 1) (limits_are : r.limits ≡ limits c) (new : r.standing ≡ absent) (lasts : r.last ≡ k.opening) (unheld : r.last_found ≡ None) where
     leads_end : (which : ℕ → Type 0) (t : T) → Leads_to follows which views t → Awaits follows views t → Leads_to follows which (views ++ r ∷ []) t
     leads_end which t old still j z l e ok is = ⊎_elim (λ u. old j z l u ok is)
         (λ (u : (j ≡ length views) × (r ≡ z)). let far : length views ≤ j = (let q = u.0 in omega arith) in still j k l far at (sym lasts ∙ (ap (λ (v : View T). v.last) u.1 ∙ is))) (at_end views r z j e)
 
     awaits_end : (t : T) → Awaits follows views t → Awaits follows (views ++ r ∷ []) t
     awaits_end t old j z l far e is = let here = length_at views 0 k at in let q = length-append views (r ∷ []) in old j z l (omega arith) (sym (get_end views r 0 here) ∙ e) is
+
+    left_end : (t : T) → Left_in views t → Left_in (views ++ r ∷ []) t
+    left_end t old = (
+      old.0,
+      old.1,
+      get_end views r old.0 (length_at views old.0 old.1 old.2) ∙ old.2,
+      old.3,
+      λ none j z e. ⊎_elim (λ u. old.4 none j z u) (λ (u : (j ≡ length views) × (r ≡ z)). ap (λ (v : View T). v.last_found) (sym u.1) ∙ unheld) (at_end views r z j e),
+    )
 
     none_carried : (z : View T) → r ≡ z → carries_value z.standing ≡ true → ⊥
     none_carried z same one = false≢true (sym (ap carries_value new) ∙ (ap (λ (v : View T). carries_value v.standing) same ∙ one))
@@ -128,9 +157,9 @@ module _ {T : Type 0} (follows : ℕ → T → T → Type 0) (suits : T → ℕ 
       each = λ j z e. ⊎_elim (λ u. p.each j z u)
           (λ (u : (j ≡ length views) × (r ≡ z)). subst (λ (t : ℕ × View T). Sits c t.0 t.1) (λ i. (sym u.0 i, u.1 i)) (record { number = number; limits_are = limits_are; standing = p.later (length views) (omega arith) ∙ sym new })) (at_end views r z j e);
       later = λ j far. let q = length-append views (r ∷ []) in p.later j (omega (arith, far, q));
-      home = λ nobody. let h = p.home nobody in record { value = h.value; here = h.here; records = h.records; room = h.room; leads = leads_end (λ _. ⊤) h.value.value h.leads h.awaits; awaits = awaits_end h.value.value h.awaits; fits = h.fits };
+      home = λ nobody. let h = p.home nobody in record { value = h.value; here = h.here; records = h.records; room = h.room; leads = leads_end (λ _. ⊤) h.value.value h.leads h.awaits; awaits = awaits_end h.value.value h.awaits; left = left_end h.value.value h.left; fits = h.fits };
       outside = λ j z e one. ⊎_elim
-          (λ u. let o = p.outside j z u one in record { value = o.value; found = o.found; popped = o.popped; answered = o.answered; leads = leads_end (λ k. k ≢ j) o.value o.leads o.awaits; awaits = awaits_end o.value o.awaits; shallow = o.shallow })
+          (λ u. let o = p.outside j z u one in record { value = o.value; found = o.found; popped = o.popped; answered = o.answered; leads = leads_end (λ k. k ≢ j) o.value o.leads o.awaits; awaits = awaits_end o.value o.awaits; shallow = o.shallow; left = λ flat. left_end o.value (o.left flat) })
           (λ (u : (j ≡ length views) × (r ≡ z)). absurd (none_carried z u.1 one)) (at_end views r z j e);
     }
 
@@ -144,11 +173,11 @@ module _ {T : Type 0} (follows : ℕ → T → T → Type 0) (suits : T → ℕ 
   pub splits : (v : View T) → v.role ≡ User → v.made + 2 ≤ v.limits.seats → Splits (Held follows suits) 0 v (with_split v) (split_view v)
   splits v user room s h at = let k = h.root v at in let l = with_split v in let r = split_view v in let vs = set s.views 0 l in let here = length_at s.views 0 v at in
       let long : length vs ≡ v.made + 1 = length-set s.views 0 l ∙ k.made in
-      let q = quiet follows suits h.core h.ghost_state s.homes s.views (parts s h) 0 v l at refl refl refl refl refl refl refl refl in
+      let q = quiet follows suits h.core h.ghost_state s.homes s.views (parts s h) 0 v l at refl refl refl refl refl refl refl refl refl in
       let at' : get_elem? vs 0 ≡ some l = set_here s.views 0 l here in
       let sits = h.each 0 v at in
       let sized : v.limits.seats ≡ length h.core.seats = ap (λ (x : Limits). x.seats) sits.limits_are in
-      let e = extends follows suits h.core h.ghost_state s.homes vs q l r at' (omega (arith, long, room, sized)) (let n = long in let m : v.made + 2 ≡ length vs + 1 = omega arith in m) sits.limits_are refl refl in
+      let e = extends follows suits h.core h.ghost_state s.homes vs q l r at' (omega (arith, long, room, sized)) (let n = long in let m : v.made + 2 ≡ length vs + 1 = omega arith in m) sits.limits_are refl refl refl in
       let t = total_set retired s.views 0 v l at in let t' = total_end retired vs r in let n = length-append vs (r ∷ []) in record {
         core = h.core;
         ghost_state = h.ghost_state;
@@ -166,7 +195,9 @@ module _ {T : Type 0} (follows : ℕ → T → T → Type 0) (suits : T → ℕ 
           made = omega arith;
           back = let m : total retired (vs ++ r ∷ []) ≡ total retired s.views = omega arith in m ∙ k.back;
           kept = λ i g is. let a = k.kept i g is in let apart : 0 ≢ a.0 = (λ z. not_both v.role user (ap (λ (y : View T). y.role) (some-injective v a.1 (sym at ∙ subst (λ (i : ℕ). get_elem? s.views i ≡ some a.1) (sym z) a.2)) ∙ a.3)) in
-              let low = length_at s.views a.0 a.1 a.2 in let len = length-set s.views 0 l in (a.0, a.1, get_end vs r a.0 (omega arith) ∙ (set_else s.views 0 a.0 l (λ z. apart (sym z)) ∙ a.2), a.3, a.4, a.5);
+              let low = length_at s.views a.0 a.1 a.2 in let len = length-set s.views 0 l in (a.0, a.1, get_end vs r a.0 (omega arith) ∙ (set_else s.views 0 a.0 l (λ z. apart (sym z)) ∙ a.2), a.3, a.4, a.5, a.6);
+          gone = λ j z e is. ⊎_elim (λ u. ⊎_elim (λ (w : (j ≡ 0) × (l ≡ z)). absurd (not_both z.role (ap (λ (y : View T). y.role) (sym w.1) ∙ user) is))
+              (λ (w : (j ≢ 0) × (get_elem? s.views j ≡ some z)). k.gone j z w.1 is) (at_set s.views 0 j l z u)) (λ (w : (j ≡ length vs) × (r ≡ z)). absurd (not_both z.role (ap (λ (y : View T). y.role) (sym w.1)) is)) (at_end vs r z j e);
         };
         others = λ j z e is. ⊎_elim (λ u. ⊎_elim (λ (w : (j ≡ 0) × (l ≡ z)). absurd (not_both z.role (ap (λ (y : View T). y.role) (sym w.1) ∙ user) is))
             (λ (w : (j ≢ 0) × (get_elem? s.views j ≡ some z)). h.others j z w.1 is) (at_set s.views 0 j l z u)) (λ (w : (j ≡ length vs) × (r ≡ z)). absurd (not_both z.role (ap (λ (y : View T). y.role) (sym w.1)) is)) (at_end vs r z j e);
@@ -174,8 +205,8 @@ module _ {T : Type 0} (follows : ℕ → T → T → Type 0) (suits : T → ℕ 
 
   pub joins : (v w : View T) (other : ℕ) → v.role ≡ User → w.role ≡ User → w.standing.point ≡ Rest → w.standing.depth ≡ 0 → Joins (Held follows suits) 0 v other w (with_joined v w) (joined w)
   joins v w other user uses rests flat s h at apart at2 = let k = h.root v at in let b = with_joined v w in let vs = set s.views 0 b in let here = length_at s.views 0 v at in
-      let q = quiet follows suits h.core h.ghost_state s.homes s.views (parts s h) 0 v b at refl refl refl refl refl refl refl refl in
-      let q2 = quiet follows suits h.core h.ghost_state s.homes vs q other w (joined w) at2 refl refl refl refl refl refl refl refl in
+      let q = quiet follows suits h.core h.ghost_state s.homes s.views (parts s h) 0 v b at refl refl refl refl refl refl refl refl refl in
+      let q2 = quiet follows suits h.core h.ghost_state s.homes vs q other w (joined w) at2 refl refl refl refl refl refl refl refl refl in
       let t = total_set retired s.views 0 v b at in let t2 = total_set retired vs other w (joined w) at2 in let z : retired w ≡ 0 = ap retired_at uses in let vs2 = set vs other (joined w) in
       let at' : get_elem? vs2 0 ≡ some b = set_else vs other 0 (joined w) (λ e. apart (sym e)) ∙ set_here s.views 0 b here in record {
         core = h.core;
@@ -198,9 +229,13 @@ module _ {T : Type 0} (follows : ℕ → T → T → Type 0) (suits : T → ℕ 
               let apart0 : 0 ≢ a.0 = (λ z. not_both v.role user (ap (λ (y : View T). y.role) (some-injective v a.1 (sym at ∙ subst (λ (i : ℕ). get_elem? s.views i ≡ some a.1) (sym z) a.2)) ∙ a.3)) in
               let in1 : get_elem? vs a.0 ≡ some a.1 = set_else s.views 0 a.0 b (λ z. apart0 (sym z)) ∙ a.2 in
               let apart2 : other ≢ a.0 = (λ z. not_both w.role uses (ap (λ (y : View T). y.role) (some-injective w a.1 (sym at2 ∙ subst (λ (i : ℕ). get_elem? vs i ≡ some a.1) (sym z) in1)) ∙ a.3)) in
-              (a.0, a.1, set_else vs other a.0 (joined w) (λ z. apart2 (sym z)) ∙ in1, a.3, a.4, a.5))
-              (λ (u : (i ≡ length v.joined) × (joined_of w ≡ g)). (other, joined w, set_here vs other (joined w) (length_at vs other w at2), refl, ap (λ (y : Joined T). y.number) u.1, ap (λ (y : Joined T). y.last) u.1))
+              (a.0, a.1, set_else vs other a.0 (joined w) (λ z. apart2 (sym z)) ∙ in1, a.3, a.4, a.5, a.6))
+              (λ (u : (i ≡ length v.joined) × (joined_of w ≡ g)). (other, joined w, set_here vs other (joined w) (length_at vs other w at2), refl, ap (λ (y : Joined T). y.number) u.1, ap (λ (y : Joined T). y.last) u.1, ap (λ (y : Joined T). y.found) u.1))
               (at_end v.joined (joined_of w) g i is);
+          gone = λ j z e is. ⊎_elim
+              (λ (u : (j ≡ other) × (joined w ≡ z)). (length v.joined, at_last v.joined (joined_of w) (length v.joined) refl ∙ ap (λ (y : View T). some (joined_of y)) u.1))
+              (λ (u : (j ≢ other) × (get_elem? vs j ≡ some z)). ⊎_elim (λ (x : (j ≡ 0) × (b ≡ z)). absurd (not_both z.role (ap (λ (y : View T). y.role) (sym x.1) ∙ user) is))
+              (λ (x : (j ≢ 0) × (get_elem? s.views j ≡ some z)). let a = k.gone j z x.1 is in (a.0, at_longer v.joined (joined_of w ∷ []) a.0 (joined_of z) a.1)) (at_set s.views 0 j b z u.1)) (at_set vs other j (joined w) z e);
         };
         others = λ j z e is. ⊎_elim (λ (u : (j ≡ other) × (joined w ≡ z)). subst (λ (y : View T). (y.standing.point ≡ Rest) × (y.standing.depth ≡ 0)) u.1 (rests, flat))
             (λ (u : (j ≢ other) × (get_elem? vs j ≡ some z)). ⊎_elim (λ (w : (j ≡ 0) × (b ≡ z)). absurd (not_both z.role (ap (λ (y : View T). y.role) (sym w.1) ∙ user) is))
@@ -209,7 +244,7 @@ module _ {T : Type 0} (follows : ℕ → T → T → Type 0) (suits : T → ℕ 
 
   pub looks : (slots id : ℕ) (me : Me (Option (Moving T)) (View T)) → me.0.role ≡ User → Allows (Held follows suits) slots id me 1 (λ n. n) (Looked me)
   looks slots id me user s h sized at small = let n = get_or s.words 1 0 in let w : View T = record me.0 { trail = me.0.trail ++ seen TryOwnerLoad n ∷ [] } in
-      let q = quiet follows suits h.core h.ghost_state s.homes s.views (parts s h) id me.0 w at refl refl refl refl refl refl refl refl in
+      let q = quiet follows suits h.core h.ghost_state s.homes s.views (parts s h) id me.0 w at refl refl refl refl refl refl refl refl refl in
       let sits = h.each id me.0 at in
       let l = length_at s.views id me.0 at in
       let is : IsSeat h.core.seats me.0.number = record { above = omega (arith, sits.number); within = omega (arith, sits.number, h.few, l) } in
@@ -312,10 +347,11 @@ starts {T} follows suits l ws x allowed are none_popped room fit =
         room = room ∙ sym long;
         leads = λ j v w e ok is. first_last follows x.value w k.last v.last (j + 1) refl (ap (λ (u : View T). u.last) (one_view k v j e).1) is;
         awaits = λ j v w far e is. first_last follows x.value w k.opening v.opening (j + 1) refl (ap (λ (u : View T). u.opening) (one_view k v 0 e).1) is;
+        left = (0, k, refl, refl, λ none j v e. ap (λ (u : View T). u.last_found) (sym (one_view k v j e).1));
         fits = subst (λ (n : ℕ). suits x.value n) (sym (none_answered (start l) st.ghost_state st.fits refl)) fit;
       };
       outside = λ j v e one. absurd (false≢true (sym none_carries ∙ (ap (λ (u : View T). carries_value u.standing) (one_view k v j e).1 ∙ one)));
-      root = λ v e. subst (Roots (k ∷ [])) (one_view k v 0 e).1 record { user = refl; made = refl; back = refl; kept = λ i g is. absurd (some-ne-none g (sym is)) };
+      root = λ v e. subst (Roots (k ∷ [])) (one_view k v 0 e).1 record { user = refl; made = refl; back = refl; kept = λ i g is. absurd (some-ne-none g (sym is)); gone = λ j z at is. absurd (not_both z.role (ap (λ (u : View T). u.role) (sym (one_view k z j at).1)) is) };
       others = λ j v e is. absurd (not_both v.role (ap (λ (u : View T). u.role) (sym (one_view k v j e).1)) is);
     }
 

@@ -1,9 +1,11 @@
 -- Each step of a seat keeps the rule of the table.
-use Rattle.std.proofs.Common.{◌≡◌, ◌≢◌, ℕ, zero, suc, ◌+◌, ◌<◌, ◌≤◌, List, [], ◌∷◌, ◌++◌, length, get_or, set, sym, refl, ap, ◌∙◌, subst, ⊎_elim, inl, inr, arith, Option, Some, length-set}
+use Rattle.std.proofs.Common.{◌≡◌, ◌≢◌, ℕ, zero, suc, ◌+◌, ◌<◌, ◌≤◌, List, [], ◌∷◌, ◌++◌, length, get_or, set, sym, refl, ap, ◌∙◌, subst, ⊎_elim, inl, inr, arith, Option, Some, None, length-set}
 use Rattle.std.specs.Prelude.{Bool, true, false, ⊤}
 use Rattle.std.proofs.lemmas.Bool.{false≢true}
 use mathlib.Core.Option.{some, some-injective, some-ne-none, none}
 use lib.ListN.{get_elem?}
+use mathlib.Core.Logic.{dite}
+use native.Mathlib.Decide.{ℕ_discrete}
 use Rattle.atomic_table.specs.Table.{State, Me, Act, keeps, takes, gives, stepped, carried_after, put_back, Valid, Allows, rest}
 use Rattle.atomic_table.proofs.Lists.{at_set, set_here, set_else}
 use Rattle.lfm_words.specs.declared.links.Link.{Link}
@@ -38,7 +40,7 @@ use Rattle.lfm_mutex.specs.declared.table.seat_view.Joined.{Joined}
 use Rattle.lfm_mutex.specs.declared.table.seat_view.View.{View}
 use Rattle.lfm_mutex.specs.declared.table.rule.Moving.{Moving}
 use Rattle.lfm_mutex.specs.Reach.{Leads, Reached}
-use Rattle.lfm_mutex.specs.table.Rule.{seen, retired, retired_at, total, Roots, left_by, Sits, Leads_to, Awaits, Same_root, With_seat, Held, Hands, Knows, Collects_within, Advanced}
+use Rattle.lfm_mutex.specs.table.Rule.{seen, retired, retired_at, total, Roots, left_by, Sits, Leads_to, Awaits, None_ended, Left_in, Same_root, With_seat, Held, Hands, Knows, Collects_within, Advanced}
 use Rattle.lfm_mutex.specs.table.Settled.{Became}
 use Rattle.lfm_mutex.specs.table.Steps.{stores, Ready}
 use Rattle.lfm_mutex.proofs.tables.CoreFacts as core
@@ -74,6 +76,9 @@ length_at (x ∷ xs) (suc i) a e = let h = length_at xs i a e in omega arith
 pub some_same : {A : Type 0} (x y : A) → Some x ≡ Some y → x ≡ y
 some_same x y e = cc
 
+not_none : {A : Type 0} (x : A) → Some x ≡ None → ⊥
+not_none x e = cc
+
 not_both : (r : Role) → r ≡ User → r ≡ Retired → ⊥
 not_both r u e = cc
 
@@ -100,11 +105,17 @@ module _ {T : Type 0} (follows : ℕ → T → T → Type 0) (suits : T → ℕ 
     stay_gone : (j : ℕ) (z : View T) → get_elem? s.views j ≡ some z → z.role ≡ Retired → get_elem? vs j ≡ some z
     stay_gone j z e is = set_else s.views id j w (λ q. not_both v.role user (ap (λ (y : View T). y.role) (some-injective v z (sym at ∙ subst (λ (i : ℕ). get_elem? s.views i ≡ some z) q e)) ∙ is)) ∙ e
 
+    -- nor is one joined by this
+    was_gone : (j : ℕ) (z : View T) → get_elem? vs j ≡ some z → z.role ≡ Retired → get_elem? s.views j ≡ some z
+    was_gone j z e is = ⊎_elim
+        (λ (t : (j ≡ id) × (w ≡ z)). absurd (not_both z.role (ap (λ (u : View T). u.role) (sym t.1) ∙ same ∙ user) is))
+        (λ (t : (j ≢ id) × (get_elem? s.views j ≡ some z)). t.1) (at_set s.views id j w z e)
+
     abbrev Are_kept : List (View T) → List (Joined T) → Type 0
-    Are_kept views joined = (i : ℕ) (g : Joined T) → get_elem? joined i ≡ some g → (j : ℕ) × (z : View T) × (get_elem? views j ≡ some z) × (z.role ≡ Retired) × (z.number ≡ g.number) × (z.last ≡ g.last)
+    Are_kept views joined = (i : ℕ) (g : Joined T) → get_elem? joined i ≡ some g → (j : ℕ) × (z : View T) × (get_elem? views j ≡ some z) × (z.role ≡ Retired) × (z.number ≡ g.number) × (z.last ≡ g.last) × (z.last_found ≡ g.found)
 
     kept_on : (g : List (Joined T)) → Are_kept s.views g → Are_kept vs g
-    kept_on g old i x e = let a = old i x e in (a.0, a.1, stay_gone a.0 a.1 a.2 a.3, a.3, a.4, a.5)
+    kept_on g old i x e = let a = old i x e in (a.0, a.1, stay_gone a.0 a.1 a.2 a.3, a.3, a.4, a.5, a.6)
 
     roots_on : (k z : View T) → Roots s.views k → z.role ≡ k.role → z.made ≡ k.made → z.joined ≡ k.joined → Roots vs z
     roots_on k z r role made joined = record {
@@ -112,6 +123,7 @@ module _ {T : Type 0} (follows : ℕ → T → T → Type 0) (suits : T → ℕ 
       made = length-set s.views id w ∙ (r.made ∙ ap (λ (n : ℕ). n + 1) (sym made));
       back = same_total ∙ (r.back ∙ ap (λ (g : List (Joined T)). length g) (sym joined));
       kept = subst (λ (g : List (Joined T)). Are_kept vs g) (sym joined) (kept_on k.joined r.kept);
+      gone = λ j y e is. let a = r.gone j y (was_gone j y e is) is in (a.0, ap (λ (g : List (Joined T)). get_elem? g a.0) joined ∙ a.1);
     }
 
     pub root_on : (k : View T) → get_elem? vs 0 ≡ some k → Roots vs k
@@ -143,6 +155,23 @@ module _ {T : Type 0} (follows : ℕ → T → T → Type 0) (suits : T → ℕ 
     -- what leads to one value leads to what this seat leaves after it
     pub leads_next : (y z : T) → follows (id + 1) y z → Leads_to follows (λ j. j ≢ id) s.views y → Leads_to follows (λ j. j ≢ id) vs z
     leads_next y z f old j u l e ok is = reached_on follows (j + 1) (id + 1) l y z (leads_off y old j u l e ok is) (λ q. ok (omega arith)) f
+
+    none_on : w.last_found ≡ v.last_found → None_ended s.views → None_ended vs
+    none_on same_found all j z e = ⊎_elim
+        (λ (t : (j ≡ id) × (w ≡ z)). ap (λ (u : View T). u.last_found) (sym t.1) ∙ (same_found ∙ all id v at))
+        (λ (t : (j ≢ id) × (get_elem? s.views j ≡ some z)). all j z t.1) (at_set s.views id j w z e)
+
+    -- that some seat left a value last, where what is noted of this seat's last hold is as before
+    pub left_on : (y : T) → w.last ≡ v.last → w.last_found ≡ v.last_found → Left_in s.views y → Left_in vs y
+    left_on y same_last same_found old = dite (ℕ_discrete old.0 id)
+        (λ q. let one : v ≡ old.1 = some-injective v old.1 (sym at ∙ subst (λ (i : ℕ). get_elem? s.views i ≡ some old.1) q old.2) in (
+          id,
+          w,
+          set_here s.views id w (length_at s.views id v at),
+          same_last ∙ (ap (λ (u : View T). u.last) one ∙ old.3),
+          λ none. none_on same_found (old.4 (sym (ap (λ (u : View T). u.last_found) one) ∙ (sym same_found ∙ none))),
+        ))
+        (λ n. (old.0, old.1, set_else s.views id old.0 w n ∙ old.2, old.3, λ none. none_on same_found (old.4 none)))
 
     pub awaits_on : (y : T) → Awaits follows s.views y → Awaits follows vs y
     awaits_on y old j k l far e is = let far' : length s.views ≤ j = subst (λ (n : ℕ). n ≤ j) (length-set s.views id w) far in ⊎_elim
@@ -325,6 +354,9 @@ module _ {T : Type 0} (follows : ℕ → T → T → Type 0) (suits : T → ℕ 
       same_answers : st.seat.depth ≡ 0 → ts.ghost_after.answered ≡ g.answered
       same_answers shallow = let z = no_answer p num (k n) (oldest c.popped) shallow in let l = ap (λ (r : List Record). length r) z in omega (arith, answers, l)
 
+      kept_found : ((r : Releaser) → p.point ≢ ReleaseOwnerStore r) → left_by p.point me.0.found me.0.last_found ≡ me.0.last_found
+      kept_found other = left_same p.point me.0.found me.0.last_found other
+
       -- The value leaves its home
 
       gains : carries_value p ≡ false → carries_value st.seat ≡ true → Moved_by false true → Done
@@ -360,6 +392,7 @@ module _ {T : Type 0} (follows : ℕ → T → T → Type 0) (suits : T → ℕ 
                       subst (λ (m : ℕ). suits x.value.value m) (sym (same_answers deep)) x.fits,
                       λ l is_last. x.leads id me.0 l at tt (sym kept ∙ is_last),
                     );
+                    left = λ deep. left_on s h id me.0 at user w refl root x.value.value kept (kept_found (not_release p.depth p.point (core.depth_at c g num p is h.fits settles) shallow)) x.left;
                   }))
                   (λ (t : (j ≢ id) × (get_elem? s.views j ≡ some z)). absurd (not_after (Some x.value.value) j z e (ap carries_value (other_after j t.0) ∙ did.0 (j + 1)) one))
                   (at_set s.views id j w z e);
@@ -415,6 +448,7 @@ module _ {T : Type 0} (follows : ℕ → T → T → Type 0) (suits : T → ℕ 
                     (λ l is_last. subst (λ (y : T). Reached follows (id + 1) l y) same (known.1 l (sym kept ∙ is_last)))
                     (subst (λ (y : T). Leads_to follows (λ j. j ≢ id) s.views y) same out.leads);
                 awaits = awaits_on s h id me.0 at user w refl root x.value (subst (λ (y : T). Awaits follows s.views y) same out.awaits);
+                left = left_on s h id me.0 at user w refl root x.value kept (kept_found other) (subst (λ (y : T). Left_in s.views y) same (out.left (became_depth me.0.standing me.0.limits p to shallow)));
                 fits = subst (λ (t : T × ℕ). suits t.0 t.1) (λ q. (same q, (out.answered ∙ sym (same_answers flat)) q)) known.0;
               };
               outside = λ j z e one. absurd (not_after me.0.found j z e (did.1 (j + 1)) one);
@@ -455,6 +489,7 @@ module _ {T : Type 0} (follows : ℕ → T → T → Type 0) (suits : T → ℕ 
                 room = x.room ∙ sym long;
                 leads = leads_on s h id me.0 at user w refl root (λ _. ⊤) x.value.value kept x.leads;
                 awaits = awaits_on s h id me.0 at user w refl root x.value.value x.awaits;
+                left = left_on s h id me.0 at user w refl root x.value.value kept (kept_found (not_release p.depth p.point (core.depth_at c g num p is h.fits settles) shallow)) x.left;
                 fits = subst (λ (m : ℕ). suits x.value.value m) (sym (same_answers flat)) x.fits;
               };
               outside = λ j z e one. ⊎_elim
@@ -467,6 +502,7 @@ module _ {T : Type 0} (follows : ℕ → T → T → Type 0) (suits : T → ℕ 
                     leads = leads_on s h id me.0 at user w refl root (λ q. q ≢ j) o.value kept o.leads;
                     awaits = awaits_on s h id me.0 at user w refl root o.value o.awaits;
                     shallow = o.shallow;
+                    left = λ low. left_on s h id me.0 at user w refl root o.value kept (kept_found (not_release p.depth p.point (core.depth_at c g num p is h.fits settles) shallow)) (o.left low);
                   })
                   (at_set s.views id j w z e);
               root = root_on s h id me.0 at user w refl root;
@@ -484,6 +520,7 @@ module _ {T : Type 0} (follows : ℕ → T → T → Type 0) (suits : T → ℕ 
           let out = was before in
           let found_is : w.found ≡ left_by p.point a me.0.found = ap (λ (v : View T). v.found) w_is in
           let last_is : w.last ≡ left_by p.point a me.0.last = ap (λ (v : View T). v.last) w_is in
+          let last_found_is : w.last_found ≡ left_by p.point me.0.found me.0.last_found = ap (λ (v : View T). v.last_found) w_is in
           let popped_w : w.popped ≡ ts.after.popped = ap (λ (v : View T). v.popped) w_is ∙ sym popped_is in
           let answered_w : w.answered ≡ ts.ghost_after.answered = ap (λ (v : View T). v.answered) w_is in
           elim (release_of p.point) [
@@ -505,6 +542,7 @@ module _ {T : Type 0} (follows : ℕ → T → T → Type 0) (suits : T → ℕ 
                     subst (λ (m : ℕ). suits x m) (sym (answered_w ∙ ans)) lv.2,
                     λ l is_last. subst (λ (y : T). Reached follows (id + 1) y x) (some_same x l (sym (last_is ∙ left_new p.point r.0 a me.0.last r.1 ∙ in_it) ∙ is_last)) (stays_reached follows (id + 1) x),
                   );
+                  left = λ deep. (id, w, set_here s.views id w (length_at s.views id me.0 at), last_is ∙ left_new p.point r.0 a me.0.last r.1 ∙ in_it, λ none. absurd (not_none out.value (sym (last_found_is ∙ (left_new p.point r.0 me.0.found me.0.last_found r.1 ∙ out.found)) ∙ none)));
                 }
             | inr other ↦
                 record {
@@ -520,6 +558,10 @@ module _ {T : Type 0} (follows : ℕ → T → T → Type 0) (suits : T → ℕ 
                         subst (λ (m : ℕ). suits out.value m) (out.answered ∙ sym (same_answers flat) ∙ sym answered_w) known.0,
                         λ l is_last. known.1 l (sym (last_is ∙ left_same p.point a me.0.last other) ∙ is_last),
                       );
+                  left = λ deep.
+                      let flat : st.seat.depth ≡ 0 = ap (λ (v : View T). v.standing.depth) (sym w_is) ∙ deep in
+                      let was_flat = became_depth me.0.standing me.0.limits p to ((shallow_step p num (k n) (oldest c.popped) other).0 flat) in
+                      left_on s h id me.0 at user w role root out.value (last_is ∙ left_same p.point a me.0.last other) (last_found_is ∙ kept_found other) (out.left was_flat);
                 }
           ]
 

@@ -79,7 +79,7 @@ split_view v =
     }
 
 abbrev pub joined_of : {T : Type 0} → View T → Joined T
-joined_of w = record { number = w.number; last = w.last }
+joined_of w = record { number = w.number; last = w.last; found = w.last_found }
 
 -- v once it has taken in w
 abbrev pub with_joined : {T : Type 0} → View T → View T → View T
@@ -126,7 +126,16 @@ pub record Roots {T : Type 0} (views : List (View T)) (k : View T) : Type 0 wher
   pub user : k.role ≡ User
   pub made : length views ≡ k.made + 1
   pub back : total retired views ≡ length k.joined
-  pub kept : (i : ℕ) (g : Joined T) → get_elem? k.joined i ≡ some g → (j : ℕ) × (z : View T) × (get_elem? views j ≡ some z) × (z.role ≡ Retired) × (z.number ≡ g.number) × (z.last ≡ g.last)
+  pub kept : (i : ℕ) (g : Joined T) → get_elem? k.joined i ≡ some g → (j : ℕ) × (z : View T) × (get_elem? views j ≡ some z) × (z.role ≡ Retired) × (z.number ≡ g.number) × (z.last ≡ g.last) × (z.last_found ≡ g.found)
+  pub gone : (j : ℕ) (z : View T) → get_elem? views j ≡ some z → z.role ≡ Retired → (i : ℕ) × (get_elem? k.joined i ≡ some (joined_of z))
+
+-- no seat has ended a hold
+abbrev pub None_ended : {T : Type 0} → List (View T) → Type 0
+None_ended {T} views = (j : ℕ) (v : View T) → get_elem? views j ≡ some v → v.last_found ≡ None
+
+-- A seat that has ended a hold left this value last. Where none has, it is the opening value, which each seat has as its last.
+abbrev pub Left_in : {T : Type 0} → List (View T) → T → Type 0
+Left_in {T} views w = (j : ℕ) × (v : View T) × (get_elem? views j ≡ some v) × (v.last ≡ Some w) × (v.last_found ≡ None → None_ended views)
 
 -- The moving value
 
@@ -199,6 +208,7 @@ module _ {T : Type 0} (follows : ℕ → T → T → Type 0) (suits : T → ℕ 
     pub room : value.popped.room ≡ length c.seats
     pub leads : Leads_to follows (λ _. ⊤) views value.value
     pub awaits : Awaits follows views value.value
+    pub left : Left_in views value.value
     pub fits : suits value.value g.answered
 
   -- the value that the seat at place j, whose view is v, carries
@@ -210,6 +220,7 @@ module _ {T : Type 0} (follows : ℕ → T → T → Type 0) (suits : T → ℕ 
     pub leads : Leads_to follows (λ i. i ≢ j) views value
     pub awaits : Awaits follows views value
     pub shallow : v.standing.depth ≡ 0 → suits value v.answered × ((l : T) → v.last ≡ Some l → Reached follows (j + 1) l value)
+    pub left : v.standing.depth ≡ 0 → Left_in views value
 
   -- words and views are a steady state of the core, and the value is where the core says
   pub record Held (s : State (Option (Moving T)) (View T)) : Type 0 where

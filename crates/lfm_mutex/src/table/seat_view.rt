@@ -16,10 +16,11 @@ pub struct Seen {
     pub found: u64,
 }
 
-/// A seat that was joined, with the value that it left last.
+/// A seat that was joined, with the value that it left last, and the one that it had found before that.
 pub struct Joined<T> {
     pub number: u64,
     pub last: Option<T>,
+    pub found: Option<T>,
 }
 
 /// What a seat of the table knows. No value of it is ever made: it is for proofs alone.

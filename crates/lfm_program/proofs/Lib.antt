@@ -1,6 +1,7 @@
 pub mod AddedSums
 pub mod Commands
 pub mod JournalEnds
+pub mod Refusing
 pub mod Reports
 pub mod RowCounts
 pub mod RunEnds

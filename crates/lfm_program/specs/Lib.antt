@@ -1,4 +1,5 @@
 pub mod Adds
+pub mod Causes
 pub mod Faults
 pub mod Performs
 pub mod Report

@@ -9,6 +9,7 @@ use Rattle.lfm_monitor.specs.Belongs.{Of_monitor, pass_sight}
 use Rattle.lfm_program.specs.declared.performing.Performed.{Performed}
 use Rattle.lfm_program.specs.declared.performing.Performed.TheVariants.{Stuck}
 use Rattle.lfm_program.specs.declared.script.Command.{Command}
+use Rattle.lfm_program.specs.Causes.{Refused_for_cause}
 use Rattle.lfm_program.specs.Performs.{All_performed, own_adds}
 
 module _ {R : Type 0} {K : _} where
@@ -19,6 +20,7 @@ module _ {R : Type 0} {K : _} where
     pub idle : Idle (pass_sight q)
     pub number : (pass_sight q).number ≡ (pass_sight p).number
     pub adds : r ≢ Stuck → All_performed ms (own_adds (pass_sight p)) (own_adds (pass_sight q)) r
+    pub refused : Refused_for_cause m ms (own_adds (pass_sight p)) q r
 
   -- the pass is one of the monitor's, and neither holds nor sleeps
   abbrev pub Ready_for : Monitor Total TotalOp R K → Pass Total TotalOp R K → Type 0

@@ -1,6 +1,7 @@
 //! What one worker does with its pass: its commands, one after another.
 ghost use Rattle.lfm_monitor.specs.Belongs.{Of_monitor, pass_sight};
 ghost use Rattle.lfm_mutex.specs.Closing.{Idle};
+ghost use Rattle.lfm_program.specs.Causes.{Refused_for_cause};
 ghost use Rattle.lfm_program.specs.Performs.{All_performed, own_adds};
 ghost use Rattle.std.specs.Prelude.{◌≡◌};
 
@@ -42,6 +43,7 @@ pub fn perform<G: Gate, R: Wait>(
     ensures idle { Idle (pass_sight pass.new) }
     ensures number { (pass_sight pass.new).number ≡ (pass_sight pass.old).number }
     ensures adds { All_performed commands.now (own_adds (pass_sight pass.old)) (own_adds (pass_sight pass.new)) result }
+    ensures refused { Refused_for_cause monitor.now commands.now (own_adds (pass_sight pass.old)) pass.new result }
 {
     let worker = pass.number().get();
     'performing: for (index, command) in commands.iter().enumerate() {

@@ -1,8 +1,9 @@
 //! How one command is made: by the calls of the monitor that it stands for.
 ghost use Rattle.lfm_monitor.specs.Belongs.{Of_monitor, pass_sight};
 ghost use Rattle.lfm_mutex.specs.Closing.{Idle};
+ghost use Rattle.lfm_program.specs.Causes.{Has_cause};
 ghost use Rattle.lfm_program.specs.Performs.{Command_ends, Holds_once, own_adds};
-ghost use Rattle.std.specs.Prelude.{◌≡◌};
+ghost use Rattle.std.specs.Prelude.{◌≡◌, IfErr};
 
 use crate::script::Command;
 use lfm_model::{Refusal, Total, TotalOp};
@@ -22,6 +23,7 @@ fn add<R: Wait>(
     ensures idle { Idle (pass_sight pass.new) }
     ensures number { (pass_sight pass.new).number ≡ (pass_sight pass.old).number }
     ensures adds { Command_ends (Command.Add number) (pass_sight pass.old) (pass_sight pass.new) result }
+    ensures refused { IfErr result (λ r. Has_cause (Command.Add number) monitor.now pass.new r) }
 {
     monitor.enter(rt, pass)?;
     let added = monitor.apply(pass, TotalOp::Add(number));
@@ -44,6 +46,7 @@ fn wait_for<R: Wait>(
     ensures holds { Holds_once (pass_sight pass.new) }
     ensures number { (pass_sight pass.new).number ≡ (pass_sight pass.old).number }
     ensures adds { own_adds (pass_sight pass.new) ≡ own_adds (pass_sight pass.old) }
+    ensures refused { IfErr result (λ r. Has_cause (Command.Until condition bound) monitor.now pass.new r) }
 {
     'waiting: for _ in rt.forever() {
         let total = monitor.apply(pass, TotalOp::Read)?;
@@ -69,6 +72,7 @@ fn until<R: Wait>(
     ensures idle { Idle (pass_sight pass.new) }
     ensures number { (pass_sight pass.new).number ≡ (pass_sight pass.old).number }
     ensures adds { Command_ends (Command.Until condition bound) (pass_sight pass.old) (pass_sight pass.new) result }
+    ensures refused { IfErr result (λ r. Has_cause (Command.Until condition bound) monitor.now pass.new r) }
 {
     monitor.enter(rt, pass)?;
     let waited = wait_for(rt, monitor, pass, condition, bound);
@@ -89,6 +93,7 @@ fn wake_one<R: Wait>(
     ensures idle { Idle (pass_sight pass.new) }
     ensures number { (pass_sight pass.new).number ≡ (pass_sight pass.old).number }
     ensures adds { Command_ends (Command.One condition) (pass_sight pass.old) (pass_sight pass.new) result }
+    ensures refused { IfErr result (λ r. Has_cause (Command.One condition) monitor.now pass.new r) }
 {
     monitor.wake_one(rt, pass, condition)?;
     Ok(())
@@ -107,6 +112,7 @@ fn wake_all<R: Wait>(
     ensures idle { Idle (pass_sight pass.new) }
     ensures number { (pass_sight pass.new).number ≡ (pass_sight pass.old).number }
     ensures adds { Command_ends (Command.All condition) (pass_sight pass.old) (pass_sight pass.new) result }
+    ensures refused { IfErr result (λ r. Has_cause (Command.All condition) monitor.now pass.new r) }
 {
     monitor.wake_all(rt, pass, condition)?;
     Ok(())
@@ -126,6 +132,7 @@ pub(crate) fn make<R: Wait>(
     ensures idle { Idle (pass_sight pass.new) }
     ensures number { (pass_sight pass.new).number ≡ (pass_sight pass.old).number }
     ensures adds { Command_ends command (pass_sight pass.old) (pass_sight pass.new) result }
+    ensures refused { IfErr result (λ r. Has_cause command monitor.now pass.new r) }
 {
     match command {
         Command::Add(number) => add(rt, monitor, pass, number),

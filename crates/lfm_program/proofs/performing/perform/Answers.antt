@@ -1,5 +1,6 @@
 use Rattle.std.proofs.Common.{◌∙◌}
 use Rattle.lfm_program.proofs.Commands.{one_more}
+use Rattle.lfm_program.proofs.Refusing.{refused_there}
 use Rattle.lfm_program.proofs.performing.perform.Goals as goal
 
 pub performing-preserved : goal.performing-preserved
@@ -9,3 +10,7 @@ performing-preserved g c = record {
   number = c.in-Ok.ensures.number ∙ c.performing.invariant.number;
   adds = one_more c.args.commands.now c.performing.index _ _ _ _ c.performing-test.true c.performing.invariant.adds c.in-Ok.ensures.adds;
 }
+
+pub returns-in-Err-clause-refused : goal.returns-in-Err-clause-refused
+returns-in-Err-clause-refused g c =
+    refused_there c.args.monitor.now c.args.commands.now c.performing.index _ _ _ _ _ c.performing-test.true c.performing.invariant.adds c.in-Err.ensures.adds c.in-Err.ensures.refused

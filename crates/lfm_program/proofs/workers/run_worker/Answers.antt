@@ -6,4 +6,5 @@ returns g c = record {
   idle = c.perform-performed.ensures.idle;
   number = c.perform-performed.ensures.number;
   adds = λ _. c.perform-performed.ensures.adds;
+  refused = c.perform-performed.ensures.refused;
 }

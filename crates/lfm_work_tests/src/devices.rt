@@ -106,19 +106,29 @@ fn fails_at_each_read(rt: HostRuntime) {
     }
 }
 
+/// Scripts with what is written of each: a report, and the line of a fault.
+fn written_texts() -> [(&'static [u8], &'static [u8]); 2] {
+    [
+        (WAITING.as_slice(), WAITED.as_slice()),
+        (b"workers 0 0".as_slice(), b"fault Limit\n".as_slice()),
+    ]
+}
+
 #[test]
 fn fails_after_each_written_byte(rt: HostRuntime) {
     for failure in [Failure::Error, Failure::TakesNothing] {
-        for room in 0..WAITED.len() {
-            let mut reader = WAITING.as_slice();
-            let mut writer = FailingWriter {
-                bytes: Vec::new(rt.alloc()),
-                room,
-                failure,
-            };
-            let outcome = work(&rt, rt.alloc(), &mut reader, &mut writer, &OpenGate);
-            assert_eq!(rt; outcome, Err(WorkFault::Write));
-            assert_eq!(rt; writer.bytes.as_slice(), &WAITED[..room]);
+        for (input, output) in written_texts() {
+            for room in 0..output.len() {
+                let mut reader = input;
+                let mut writer = FailingWriter {
+                    bytes: Vec::new(rt.alloc()),
+                    room,
+                    failure,
+                };
+                let outcome = work(&rt, rt.alloc(), &mut reader, &mut writer, &OpenGate);
+                assert_eq!(rt; outcome, Err(WorkFault::Write));
+                assert_eq!(rt; writer.bytes.as_slice(), &output[..room]);
+            }
         }
     }
 }
@@ -126,10 +136,7 @@ fn fails_after_each_written_byte(rt: HostRuntime) {
 // No contract can say that a writer was flushed: one that holds its bytes back has them either way.
 #[test]
 fn fails_at_the_flush(rt: HostRuntime) {
-    for (input, output) in [
-        (WAITING.as_slice(), WAITED.as_slice()),
-        (b"workers 0 0".as_slice(), b"fault Limit\n".as_slice()),
-    ] {
+    for (input, output) in written_texts() {
         let mut reader = input;
         let mut writer = UnflushedWriter {
             bytes: Vec::new(rt.alloc()),

@@ -75,7 +75,7 @@ returns c = let i = c.dividing.invariant in let none = c.in-None.ensures.steps.0
 pub returns-in_err-refused-clause-fault : goal.returns-in_err-refused-clause-fault
 returns-in_err-refused-clause-fault c =
     let at : get_elem? c.args.worked.items (length c.dividing.passes.items) ≡ some c.in-Some.one =
-        in_place c.args.worked.items (length c.dividing.passes.items) c.in-Some.one (c.dividing.invariant.rest 0 c.in-Some.one (ap (λ l. get_elem? l 0) c.in-Some.ensures.steps.0)) in
+    in_place c.args.worked.items (length c.dividing.passes.items) c.in-Some.one (c.dividing.invariant.rest 0 c.in-Some.one (ap (λ l. get_elem? l 0) c.in-Some.ensures.steps.0)) in
     let stopped = c.in_err-refused.ensures.stopped in
     fault_is (λ e. (e ≡ Memory) ⊎ ((e ≡ Stuck) × Has_stopped c.args.worked.items)) c.from_residual-in_err-refused.result c.in_err-refused.field-0.0 c.from_residual-in_err-refused.ensures.1
     (inr (stopped.0, (length c.dividing.passes.items, c.in-Some.one, at, stopped.1)))

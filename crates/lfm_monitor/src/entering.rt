@@ -41,7 +41,8 @@ impl<O: Object> Monitor<O> {
     /// `enter` up to the point where it would sleep: gains the monitor, deepens the hold, or queues the pass, which then sleeps
     /// until a receive tells it that it holds. While it sleeps, one of its entries is kept for its take.
     ///
-    /// Refuses, in this order: Asleep, DepthFull, Spent, each as `try_enter`. It never waits and takes no memory.
+    /// Refuses, in this order: Asleep, DepthFull, Spent, each as `try_enter`. It never waits and takes no memory. It may
+    /// wake a pass, as `ask` of the mutex may wake a seat.
     pub fn ask(&self, pass: &mut Pass<O>) -> Result<Asked, Refusal>
         requires belongs { Of_monitor pass.old self.now }
         ensures belongs { Of_monitor pass.new self.now }
@@ -67,7 +68,8 @@ impl<O: Object> Monitor<O> {
     /// Gains the monitor, or deepens the hold: sleeps until the pass holds, where another holds or asked before. A gain is
     /// written down as the pass's take.
     ///
-    /// Refuses, in this order: Asleep, DepthFull, Spent, each as `try_enter`. It takes no memory.
+    /// Refuses, in this order: Asleep, DepthFull, Spent, each as `try_enter`. It takes no memory. It may wake a pass, as
+    /// `ask` may.
     pub fn enter<R: Wait>(&self, rt: &R, pass: &mut Pass<O>) -> Result<Locked, Refusal>
         requires belongs { Of_monitor pass.old self.now }
         ensures belongs { Of_monitor pass.new self.now }

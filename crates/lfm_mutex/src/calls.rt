@@ -171,7 +171,9 @@ impl<T: Kept> Mutex<T> {
     /// sleeps until a receive tells it that it holds. A seat that gains the mutex or queues is charged one take.
     ///
     /// Refuses, in this order: Asleep (the seat sleeps, or a call of it is open), DepthFull (it holds at depth 65,535),
-    /// Spent (it doesn't hold, and has no take left). It never waits. As `lock` of LFthreads' mutex and of OSv's lfmutex.
+    /// Spent (it doesn't hold, and has no take left). It never waits. Where it takes a posted hand-off over and an older
+    /// record than its own is queued, it grants the mutex to the seat of that record, and wakes it. As `lock` of LFthreads'
+    /// mutex and of OSv's lfmutex.
     #[inline(always)]
     pub fn ask(&self, seat: &mut Seat<T>) -> Result<Asked, Refusal>
         requires belongs { Of_mutex seat.old self.now }

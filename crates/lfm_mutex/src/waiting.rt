@@ -11,8 +11,8 @@ use lfm_model::{Asked, How, Locked, Refusal};
 use std::hint::spin_loop;
 use std::sync::Wait;
 
-/// How often `receive_lock` and `lock` look at the wake word before they sleep. A grant mostly comes within this time; a
-/// sleep and a wake-up cost far more than the looks.
+/// How often `receive_lock` and `lock` look at the wake word again, after their first look, before they sleep. A grant
+/// mostly comes within this time; a sleep and a wake-up cost far more than the looks.
 pub const LOOKS_BEFORE_SLEEP: u32 = 2_000;
 
 // Words below this are no grant: quiet, waiting, claimed.
@@ -20,7 +20,7 @@ const FIRST_GRANT: u64 = 3;
 
 impl<T: Kept> Mutex<T> {
     /// Waits until the seat, which sleeps, is granted the mutex, and answers how it came to hold. It looks at the wake
-    /// word up to `LOOKS_BEFORE_SLEEP` times, and then sleeps until it is woken.
+    /// word once and up to `LOOKS_BEFORE_SLEEP` times more, and then sleeps until it is woken.
     ///
     /// Refuses with NotWaiting where the seat doesn't sleep, or a call of it is open.
     pub fn receive_lock<R: Wait>(&self, rt: &R, seat: &mut Seat<T>) -> Result<How, Refusal>
@@ -76,7 +76,7 @@ impl<T: Kept> Mutex<T> {
 
     /// Gains the mutex, or deepens the hold: `ask`, and then `receive_lock` where it answered Asleep.
     ///
-    /// Refuses as `ask`: Asleep, DepthFull, Spent, in this order.
+    /// Refuses as `ask`: Asleep, DepthFull, Spent, in this order. It may wake a seat, as `ask` may.
     #[inline(always)]
     pub fn lock<R: Wait>(&self, rt: &R, seat: &mut Seat<T>) -> Result<Locked, Refusal>
         requires belongs { Of_mutex seat.old self.now }

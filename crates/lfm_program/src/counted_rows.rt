@@ -1,4 +1,4 @@
-//! The rows of a report, counted from the journal in one pass.
+//! The rows of a report, counted from the journal, of which each entry is read once.
 
 ghost use Rattle.std.specs.Prelude.{◌≡◌, ◌+◌, ◌^◌, ◌<◌, ℕ, sum, length, IfOk, slice_index_or};
 ghost use Rattle.lfm_model.specs.Journals.{Within, own};

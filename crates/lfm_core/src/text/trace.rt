@@ -344,7 +344,8 @@ pub fn write_line<W: Write>(
     Ok(())
 }
 
-/// Writes the line of a fault of the input.
+/// Writes the line of a fault of the input: the number of a line that says nothing, or Limit for every other fault. The
+/// callers pass no other than these two.
 pub fn write_fault_line<W: Write>(writer: &mut W, fault: ReplayFault) -> Result<(), WriteFault>
     ensures { Writes (W.contents writer.old) (W.contents writer.new) (fault_text fault) result }
 {

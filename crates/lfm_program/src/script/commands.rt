@@ -1,5 +1,5 @@
-//! The commands of each worker of a script, in two passes over its lines: the first counts them, so that the second finds
-//! just the room that they need.
+//! The commands of each worker of a script. Its lines are read twice: first they are counted, so that then there is just
+//! the room that the commands need.
 
 ghost use Rattle.std.specs.Prelude.{◌≡◌, ◌<◌, ◌+◌, [], ℕ, length, IfOk, IfErr, Vec, vec_capacity, vec_len, slice_index_or};
 ghost use Rattle.lfm_program.specs.script.Commands.{commands_of};

@@ -4,11 +4,11 @@ ghost use Rattle.lfm_mutex.specs.Belongs.{Of_mutex};
 ghost use mathlib.Core.Option.{some};
 ghost use lib.ListN.{get_elem?};
 
-use crate::peers::bare::{Steps, bare_table};
 use crate::peers::ours::{BUDGET, User, last_user, no_seat};
 use crate::plan::{Mode, Plan};
 use crate::table::{Row, print_head};
 use crate::workloads::{hits, misses, pairs, recursive};
+use lfm_measure::{Steps, bare_table};
 use lfm_mutex::{Mutex, Seat};
 use std::alloc::{AllocError, Global};
 use std::io;

@@ -7,7 +7,6 @@
 mod alone;
 mod busy;
 mod conditions;
-mod figures;
 mod gate;
 mod peers;
 mod plan;

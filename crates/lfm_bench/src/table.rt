@@ -1,6 +1,6 @@
 //! Rows of figures, and how they are printed.
 
-use crate::figures::{Figures, hundredths};
+use lfm_measure::{Figures, hundredths};
 use std::alloc::{AllocError, Global};
 use std::io;
 

@@ -2,11 +2,11 @@
 //! other has had its turn, adds 1 to the number under the mutex, wakes the other, and unlocks.
 ghost use Rattle.std.specs.Prelude.{◌≡◌, ◌*◌, ◌%◌, ◌^◌, Some, true};
 
-use crate::figures::Sample;
 use crate::gate::Gate;
 use crate::peers::ours::no_seat;
 use crate::peers::participants::{Participant, Places, Shared, Side};
 use crate::wall_clock::{now, since};
+use lfm_measure::Sample;
 use std::io;
 use std::sync::{Condvar, Mutex, Wait};
 use std::thread::{Threads, join};

@@ -5,11 +5,9 @@ ghost use Rattle.lfm_mutex.specs.Belongs.{Of_mutex};
 ghost use mathlib.Core.Option.{some};
 ghost use lib.ListN.{get_elem?};
 
-use crate::busy::Busy;
-use crate::gate::Gate;
 use crate::peers::ours::{BUDGET, User, last_user, no_seat};
-use crate::wall_clock::{now, since};
-use lfm_measure::{Contest, Turns};
+use lfm_measure::wall_clock::{now, since};
+use lfm_measure::{Busy, Contest, Gate, Turns};
 use lfm_mutex::{Mutex, Seat};
 use std::alloc::AllocError;
 use std::io;

@@ -1,6 +1,6 @@
 //! Work that takes time and does nothing else.
 
-use lfm_measure::{Series, Stopwatch, per};
+use crate::figures::{Series, Stopwatch, per};
 use std::io;
 use std::time::CpuClock;
 

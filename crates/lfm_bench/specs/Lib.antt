@@ -1,2 +1,1 @@
 pub mod Broadcasts
-pub mod Medians

@@ -1,22 +1,16 @@
-//! The program `lfm_bench`: it measures the running mutex next to the bare atomic steps of its calls and to std's mutex, and the
-//! running condvar next to std's, and prints tables of medians.
+//! The program `lfm_bench`: it measures the running mutex next to the bare atomic steps of its calls and to std's mutex, and
+//! the running condvar next to std's, and prints tables of medians.
 //!
 //! It tells how fast they are on one machine. No proof says anything about time.
 #![tactic(auto)]
 
 mod alone;
-mod busy;
 mod conditions;
-mod figures;
-mod gate;
 mod peers;
-mod plan;
-mod table;
 mod together;
-mod wall_clock;
 mod workloads;
 
-use plan::Plan;
+use lfm_measure::Plan;
 use std::io;
 
 fn main(rt: HostRuntime) -> io::Result<()> {

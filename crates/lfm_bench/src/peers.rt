@@ -1,4 +1,3 @@
-//! Who is measured: our mutex, the bare steps of its calls, and our condvars.
-pub mod bare;
+//! Who of ours is measured: the mutex and the condvars.
 pub mod ours;
 pub mod participants;

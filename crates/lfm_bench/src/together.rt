@@ -1,10 +1,9 @@
 //! The measurements of several threads.
 
-use crate::busy::Pace;
-use crate::figures::{Figures, Series};
-use crate::plan::{Mode, Plan};
-use crate::table::{nanoseconds_text, ratio_text, times_text, verdict};
-use crate::workloads::contended::{Contest, Load, ours, standard};
+use crate::workloads::contended::{Load, ours, standard};
+use lfm_measure::{
+    Contest, Figures, Mode, Pace, Plan, Series, nanoseconds_text, ratio_text, times_text, verdict,
+};
 use std::alloc::{AllocError, Global};
 use std::io;
 use std::sync::Wait;

@@ -1,14 +1,14 @@
-//! Several threads wait on one condvar, and another wakes them all, again and again. Whoever holds the mutex and goes on adds 1
-//! to the number under it: the threads once as they come, then the caller before each broadcast, and each thread once it was
-//! woken. So with n threads broadcast b was made when the number is b (n + 1), and all have held since when it is n more. The
-//! last of them notes the time, and wakes the caller, who waits on a condvar of its own.
+//! Several threads wait on one condvar, and another wakes them all, again and again. Whoever holds the mutex and goes on adds
+//! 1 to the number under it: the threads once as they come, then the caller before each broadcast, and each thread once it
+//! was woken. So with n threads broadcast b was made when the number is b (n + 1), and all have held since when it is n more.
+//! The last of them notes the time, and wakes the caller, who waits on a condvar of its own.
 ghost use Rattle.std.specs.Prelude.{◌≡◌, ◌*◌, ◌%◌, ◌^◌, Some, IfSome, true};
 ghost use Rattle.lfm_bench.specs.Broadcasts.{made, ended};
 
-use crate::figures::Sample;
 use crate::peers::ours::no_seat;
 use crate::peers::participants::{Participant, Places, Shared, Side};
-use crate::wall_clock::{now, since};
+use lfm_measure::Sample;
+use lfm_measure::wall_clock::{now, since};
 use std::alloc::AllocError;
 use std::sync::atomic::{AtomicU64, Ordering};
 use std::sync::{Condvar, Mutex, Wait};

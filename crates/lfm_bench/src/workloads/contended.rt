@@ -1,15 +1,13 @@
 //! Several threads take turns at one mutex for a fixed time. In a turn a thread gains the mutex, adds 1 to the value under
 //! it, works for a while, unlocks, and works for a while outside.
-ghost use Rattle.std.specs.Prelude.{◌≡◌, ℕ, Some, true};
+ghost use Rattle.std.specs.Prelude.{◌≡◌, ℕ};
 ghost use Rattle.lfm_mutex.specs.Belongs.{Of_mutex};
 ghost use mathlib.Core.Option.{some};
 ghost use lib.ListN.{get_elem?};
 
-use crate::busy::Busy;
-use crate::figures::{Sample, hundredths};
-use crate::gate::Gate;
 use crate::peers::ours::{BUDGET, User, last_user, no_seat};
-use crate::wall_clock::{now, since};
+use lfm_measure::wall_clock::{now, since};
+use lfm_measure::{Busy, Contest, Gate, Turns};
 use lfm_mutex::{Mutex, Seat};
 use std::alloc::AllocError;
 use std::io;
@@ -31,52 +29,6 @@ pub struct Load {
     pub outside: u64,
     /// For how long turns are taken.
     pub window: Duration,
-}
-
-/// What one thread did.
-#[derive(Clone, Copy)]
-pub struct Turns {
-    acquisitions: u64,
-    nanoseconds: u64,
-    worked: bool,
-}
-
-/// What came of a round.
-#[derive(Clone, Copy)]
-pub struct Contest {
-    /// A call is an acquisition by any thread. It is exact where the value under the mutex is how often it was acquired.
-    pub sample: Sample,
-    /// The most acquisitions of a thread, in hundredths of the fewest, or of 1 where those are 0.
-    pub fairness: u64,
-}
-
-impl Contest {
-    /// What these threads did, where the value was 0 before and this after them.
-    fn of(turns: &[Turns], value: Option<u64>) -> Contest
-        ensures { result.sample.exact ≡ true → value ≡ Some result.sample.calls }
-    {
-        let mut calls = 0u64;
-        let mut nanoseconds = 0;
-        let mut most = 0;
-        let mut fewest = u64::MAX;
-        let mut worked = true;
-        for one in turns {
-            calls = calls.saturating_add(one.acquisitions);
-            nanoseconds = nanoseconds.max(one.nanoseconds);
-            most = most.max(one.acquisitions);
-            fewest = fewest.min(one.acquisitions);
-            worked &= one.worked;
-        }
-        let sample = Sample {
-            nanoseconds,
-            calls,
-            exact: worked && value == Some(calls),
-        };
-        Contest {
-            sample,
-            fairness: hundredths(most, fewest.max(1)),
-        }
-    }
 }
 
 /// A round with our mutex.

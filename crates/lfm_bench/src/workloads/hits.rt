@@ -1,8 +1,7 @@
 //! One thread gains a mutex that nobody else uses by try_lock, and unlocks it.
 
-use crate::figures::{Sample, Stopwatch};
-use crate::peers::bare::Steps;
 use crate::peers::ours::User;
+use lfm_measure::{Sample, Steps, Stopwatch};
 use std::io;
 use std::sync::Mutex;
 use std::time::CpuClock;

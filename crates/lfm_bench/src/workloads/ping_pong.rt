@@ -2,11 +2,10 @@
 //! other has had its turn, adds 1 to the number under the mutex, wakes the other, and unlocks.
 ghost use Rattle.std.specs.Prelude.{◌≡◌, ◌*◌, ◌%◌, ◌^◌, Some, true};
 
-use crate::figures::Sample;
-use crate::gate::Gate;
 use crate::peers::ours::no_seat;
 use crate::peers::participants::{Participant, Places, Shared, Side};
-use crate::wall_clock::{now, since};
+use lfm_measure::wall_clock::{now, since};
+use lfm_measure::{Gate, Sample};
 use std::io;
 use std::sync::{Condvar, Mutex, Wait};
 use std::thread::{Threads, join};
@@ -19,8 +18,8 @@ struct Turns {
     nanoseconds: u64,
 }
 
-/// What two threads did that were each to take so many turns, where the number was 0 before and this after them. A call is a
-/// turn of each. It is exact where each took its turns, and the number is how many there were.
+/// What two threads did that were each to take so many turns, where the number was 0 before and this after them. A call is
+/// a turn of each. It is exact where each took its turns, and the number is how many there were.
 fn sample(first: Turns, second: Turns, turns: u64, number: Option<u64>) -> Sample
     ensures made { result.exact ≡ true → (first.made ≡ turns) × (second.made ≡ turns) }
     ensures number { result.exact ≡ true → number ≡ Some (turns * 2 % 2 ^ 64) }

@@ -1,6 +1,7 @@
 //! What is measured: samples, and the medians of their figures.
-ghost use Rattle.std.specs.Prelude.{◌≡◌, ◌*◌, ◌/◌, ◌<◌, ◌^◌, ◌++◌, ◌∷◌, ◌&&◌, ◌==◌, [], vec_len, IfSome, IfNone, IfOk, OnOk, true};
-ghost use Rattle.lfm_bench.specs.Medians.{IsMedian};
+ghost use Rattle.std.specs.Prelude.{◌≡◌, ◌*◌, ◌/◌, ◌<◌, ◌^◌, ◌++◌, ◌∷◌, ◌&&◌, ◌==◌, [], vec_len, true};
+ghost use Rattle.std.specs.Prelude.{IfSome, IfNone, IfOk, OnOk};
+ghost use Rattle.lfm_measure.specs.Medians.{IsMedian};
 
 use std::alloc::{AllocError, Global};
 use std::io;

@@ -100,8 +100,8 @@ impl<'a> Steps<'a> {
         owner == SELF
     }
 
-    /// A try_lock while another seat holds: a compare-exchange that fails, and two loads. Returns whether another seat was the
-    /// owner and no handoff was posted.
+    /// A try_lock while another seat holds: a compare-exchange that fails, and two loads. Returns whether another seat was
+    /// the owner and no handoff was posted.
     #[inline(always)]
     pub fn miss(&mut self) -> bool {
         if self

@@ -9,8 +9,11 @@ use std::io;
 #[derive(Drop)]
 pub struct Row {
     name: &'static str,
+    /// What calls of our mutex took.
     pub ours: Figures,
+    /// What their bare steps took.
     pub bare: Figures,
+    /// What calls of std's mutex took.
     pub standard: Figures,
 }
 

@@ -1,4 +1,3 @@
-use Rattle.std.proofs.Common.{⊎_elim}
 use Rattle.lfm_program.proofs.work_report.write_fault.Goals as goal
 
 pub returns-in-Syntax : goal.returns-in-Syntax
@@ -6,7 +5,3 @@ returns-in-Syntax g c = rw c.in-Syntax.is c.write_fault_line.ensures
 
 pub returns-in-Limit : goal.returns-in-Limit
 returns-in-Limit g c = rw c.in-Limit.is c.write_fault_line-in-Limit.ensures
-
-pub returns-in-Read : goal.returns-in-Read
-returns-in-Read g c = let p = c.write_text.ensures in
-    ⊎_elim (λ e. rw e p) (⊎_elim (λ e. rw e p) (⊎_elim (λ e. rw e p) (λ e. rw e p))) c.in-Read.is

@@ -1,3 +1,4 @@
+mod AddRefused
 pub mod AddedSums
 pub mod Commands
 pub mod JournalEnds

@@ -4,6 +4,7 @@ pub mod Knowing
 pub mod Moving
 pub mod NewSeats
 pub mod Places
+pub mod Refusing
 pub mod Returning
 pub mod Sending
 pub mod Starting

@@ -1,3 +1,4 @@
+pub mod Asking
 pub mod Barring
 pub mod Ending
 pub mod Growth

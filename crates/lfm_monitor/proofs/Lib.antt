@@ -1,9 +1,12 @@
+pub mod Asking
+pub mod Barring
 pub mod Ending
 pub mod Growth
 pub mod Knowing
 pub mod Moving
 pub mod NewSeats
 pub mod Places
+pub mod Refusing
 pub mod Returning
 pub mod Sending
 pub mod Starting

@@ -1,9 +1,11 @@
-use Rattle.std.proofs.Common.{ap, ◌∙◌, ◌<◌, ◌+◌, Some}
+use Rattle.std.proofs.Common.{refl, ap, ◌∙◌, ◌<◌, ◌+◌, Some}
 use Rattle.lfm_mutex.specs.Belongs.{limits_of}
 use Rattle.lfm_protocol.specs.declared.answers.Call.{Call}
 use Rattle.lfm_mutex.specs.calls.Sight.{sight}
 use Rattle.lfm_monitor.specs.Belongs.{mutex_limits, opening_of, passes_of, share_of}
 use Rattle.lfm_monitor.proofs.Trails.{rewritten}
+use Rattle.lfm_monitor.proofs.Asking.{again_began, ask_refused, ask_steps}
+use Rattle.lfm_monitor.proofs.Refusing.{same_began, same_kept}
 use Rattle.lfm_monitor.proofs.Knowing.{gained, may_all, room_left, arrived, again, asleep, of_next}
 use Rattle.lfm_monitor.proofs.monitors.Monitor.ask.Goals as goal
 
@@ -46,3 +48,46 @@ invariant_of-pass-in-Asleep g c = let p = c.args.pass.now in let m = c.args.self
 pub returns-clause-steps : goal.returns-clause-steps
 returns-clause-steps g c = let w = c.write_took.ensures in
     rewritten (mutex_limits c.args.self.now) Call.Lock (sight c.args.pass.now.seat) (sight c.ask.new.seat) (sight c.write_took.new.seat) _ (Some w.1) w.3 (rw c.in-Held.is at c.in_ok-asked.ensures.steps)
+
+pub invariant_of-pass : goal.invariant_of-pass
+invariant_of-pass g c = let p = c.args.pass.now in record { kept = same_kept (sight p.seat) (sight c.ask.new.seat) p.seen p.mine c.in_err-asked.ensures.asks.1 p.kept }
+
+pub returns-in_err-asked-clause-belongs : goal.returns-in_err-asked-clause-belongs
+returns-in_err-asked-clause-belongs g c = let p = c.args.pass.now in let m = c.args.self.now in (
+  of_next m.mutex p.seat c.ask.new.seat c.requires.belongs.0 c.ask.ensures.belongs,
+  same_began (opening_of m) (passes_of m) (share_of m) (sight p.seat) (sight c.ask.new.seat) c.in_err-asked.ensures.asks.1 c.requires.belongs.1,
+  c.requires.belongs.2,
+)
+
+pub returns-in_err-asked-clause-enters : goal.returns-in_err-asked-clause-enters
+returns-in_err-asked-clause-enters g c = let p = c.args.pass.now in let m = c.args.self.now in
+    ask_refused (limits_of m.mutex).budget (share_of m) p.mine _ _ (sight p.seat) (sight c.ask.new.seat) m.shared c.in_err-asked.ensures.asks c.from_residual.ensures.1
+
+pub returns-in_err-asked-clause-seen : goal.returns-in_err-asked-clause-seen
+returns-in_err-asked-clause-seen g c = refl
+
+pub returns-in_err-asked-clause-conditions : goal.returns-in_err-asked-clause-conditions
+returns-in_err-asked-clause-conditions g c = refl
+
+pub returns-in_err-asked-clause-steps : goal.returns-in_err-asked-clause-steps
+returns-in_err-asked-clause-steps g c = let m = c.args.self.now in
+    ask_steps (mutex_limits m) (limits_of m.mutex).budget _ _ (sight c.args.pass.now.seat) (sight c.ask.new.seat) c.in_err-asked.ensures.asks c.from_residual.ensures.1
+
+pub returns-in-Again-clause-belongs : goal.returns-in-Again-clause-belongs
+returns-in-Again-clause-belongs g c = let p = c.args.pass.now in let m = c.args.self.now in let u = rw c.in-Again.is at c.in_ok-asked.ensures.asks in (
+  of_next m.mutex p.seat c.ask.new.seat c.requires.belongs.0 c.ask.ensures.belongs,
+  again_began (opening_of m) (passes_of m) (share_of m) c.in-Again.depth (sight p.seat) (sight c.ask.new.seat) u c.requires.belongs.1,
+  c.requires.belongs.2,
+)
+
+pub returns-in-Again-clause-enters : goal.returns-in-Again-clause-enters
+returns-in-Again-clause-enters g c = let u = rw c.in-Again.is at c.in_ok-asked.ensures.asks in (u, refl)
+
+pub returns-in-Again-clause-seen : goal.returns-in-Again-clause-seen
+returns-in-Again-clause-seen g c = refl
+
+pub returns-in-Again-clause-conditions : goal.returns-in-Again-clause-conditions
+returns-in-Again-clause-conditions g c = refl
+
+pub returns-in-Again-clause-steps : goal.returns-in-Again-clause-steps
+returns-in-Again-clause-steps g c = rw c.in-Again.is at c.in_ok-asked.ensures.steps

@@ -1,7 +1,8 @@
 use Rattle.std.proofs.Common.{refl}
 use Rattle.lfm_mutex.specs.calls.Sight.{sight}
-use Rattle.lfm_monitor.specs.Belongs.{opening_of, passes_of, share_of}
+use Rattle.lfm_monitor.specs.Belongs.{mutex_limits, opening_of, passes_of, share_of}
 use Rattle.lfm_monitor.proofs.Knowing.{may_leave, given_up, gave_up, leave_ends, left_it, left_of, still, of_next}
+use Rattle.lfm_monitor.proofs.Refusing.{leave_refused, refused_steps, same_began, same_kept, still_began}
 use Rattle.lfm_monitor.proofs.monitors.Monitor.leave.Goals as goal
 
 pub unlock-requires-clause-leaves : goal.unlock-requires-clause-leaves
@@ -26,3 +27,53 @@ returns g c = let p = c.args.pass.now in let m = c.args.self.now in let s = sigh
       steps = c.in_ok-unlocked.ensures.steps;
       bounded = c.in_ok-unlocked.ensures.bounded;
     }
+
+pub invariant_of-pass : goal.invariant_of-pass
+invariant_of-pass g c = let p = c.args.pass.now in
+    record { kept = same_kept (sight p.seat) (sight c.unlock.new.seat) p.seen p.mine c.in_err-unlocked.ensures.unlocks.1 p.kept }
+
+pub returns-in_err-unlocked-clause-belongs : goal.returns-in_err-unlocked-clause-belongs
+returns-in_err-unlocked-clause-belongs g c = let p = c.args.pass.now in let m = c.args.self.now in (
+  of_next m.mutex p.seat c.unlock.new.seat c.requires.belongs.0 c.unlock.ensures.belongs,
+  same_began (opening_of m) (passes_of m) (share_of m) (sight p.seat) (sight c.unlock.new.seat) c.in_err-unlocked.ensures.unlocks.1 c.requires.belongs.1,
+  c.requires.belongs.2,
+)
+
+pub returns-in_err-unlocked-clause-leaves : goal.returns-in_err-unlocked-clause-leaves
+returns-in_err-unlocked-clause-leaves g c = let p = c.args.pass.now in
+    leave_refused _ _ (sight p.seat) (sight c.unlock.new.seat) p.seen c.in_err-unlocked.ensures.unlocks c.from_residual.ensures.1
+
+pub returns-in_err-unlocked-clause-mine : goal.returns-in_err-unlocked-clause-mine
+returns-in_err-unlocked-clause-mine g c = refl
+
+pub returns-in_err-unlocked-clause-conditions : goal.returns-in_err-unlocked-clause-conditions
+returns-in_err-unlocked-clause-conditions g c = refl
+
+pub returns-in_err-unlocked-clause-steps : goal.returns-in_err-unlocked-clause-steps
+returns-in_err-unlocked-clause-steps g c =
+    refused_steps (mutex_limits c.args.self.now) _ _ (sight c.args.pass.now.seat) (sight c.unlock.new.seat) c.in_err-unlocked.ensures.unlocks c.from_residual.ensures.1
+
+pub returns-in_err-unlocked-clause-bounded : goal.returns-in_err-unlocked-clause-bounded
+returns-in_err-unlocked-clause-bounded g c = c.in_err-unlocked.ensures.bounded
+
+pub returns-in-Still-clause-belongs : goal.returns-in-Still-clause-belongs
+returns-in-Still-clause-belongs g c = let p = c.args.pass.now in let m = c.args.self.now in let u = rw c.in-Still.is at c.in_ok-unlocked.ensures.unlocks in (
+  of_next m.mutex p.seat c.unlock.new.seat c.requires.belongs.0 c.unlock.ensures.belongs,
+  still_began (opening_of m) (passes_of m) (share_of m) c.in-Still.depth (sight p.seat) (sight c.unlock.new.seat) u.3 c.requires.belongs.1,
+  c.requires.belongs.2,
+)
+
+pub returns-in-Still-clause-leaves : goal.returns-in-Still-clause-leaves
+returns-in-Still-clause-leaves g c = let u = rw c.in-Still.is at c.in_ok-unlocked.ensures.unlocks in (u.0, u.1, u.2, u.3, refl)
+
+pub returns-in-Still-clause-mine : goal.returns-in-Still-clause-mine
+returns-in-Still-clause-mine g c = refl
+
+pub returns-in-Still-clause-conditions : goal.returns-in-Still-clause-conditions
+returns-in-Still-clause-conditions g c = refl
+
+pub returns-in-Still-clause-steps : goal.returns-in-Still-clause-steps
+returns-in-Still-clause-steps g c = rw c.in-Still.is at c.in_ok-unlocked.ensures.steps
+
+pub returns-in-Still-clause-bounded : goal.returns-in-Still-clause-bounded
+returns-in-Still-clause-bounded g c = c.in_ok-unlocked.ensures.bounded

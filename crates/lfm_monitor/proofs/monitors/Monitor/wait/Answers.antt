@@ -7,6 +7,8 @@ use Rattle.lfm_monitor.specs.Journaled.{Fits, Follows}
 use Rattle.lfm_monitor.specs.Belongs.{cond_seats_of, conditions_in, conditions_of, mutex_limits, opening_of, passes_of, share_of}
 use Rattle.lfm_monitor.specs.CondSeats.{condition_limits}
 use Rattle.lfm_monitor.specs.Passes.{Began}
+use Rattle.lfm_monitor.proofs.Barring.{barred}
+use Rattle.lfm_monitor.proofs.Refusing.{same_kept}
 use Rattle.lfm_monitor.proofs.Knowing.{may_all, may_leave, of_next, some_of}
 use Rattle.lfm_monitor.proofs.Returning.{refused, returned, wait_refused, waited}
 use Rattle.lfm_monitor.proofs.UsedConditions.{at_place, still_of_conditions}
@@ -59,3 +61,19 @@ returns g c = let p = c.args.pass.now in let m = c.args.self.now in let k = c.in
       waits = (c.in_default.ensures, (k, x, y, c.in-Some-place_of.ensures.0, a.seat, refl, (t, ends, (w.0, w.1, w.2, w.3, w.4, w.5))));
       returns = back.waits;
     }
+
+pub returns-in-Some : goal.returns-in-Some
+returns-in-Some g c = let p = c.args.pass.now in let m = c.args.self.now in record {
+  belongs = c.requires.belongs;
+  waits = barred (mutex_limits m) (condition_limits (passes_of m)) (share_of m) (conditions_of m) c.args.condition (cond_seats_of p) (sight p.seat) p.mine _ c.in-Some.ensures;
+  returns = (refl, refl, refl);
+}
+
+pub returns-in_default-place_of : goal.returns-in_default-place_of
+returns-in_default-place_of g c = record { belongs = c.requires.belongs; waits = (c.in_default.ensures, c.in_default-place_of.ensures, refl, refl); returns = (refl, refl, refl) }
+
+pub invariant_of-pass : goal.invariant_of-pass
+invariant_of-pass g c = let p = c.args.pass.now in let m = c.args.self.now in let s = sight p.seat in let t = sight c.wait.new.seat in record {
+  kept = same_kept s t p.seen p.mine
+      (wait_refused (mutex_limits m) (cond_limits c.index.result.now) (cond_sight c.index_mut-cond.result.now) (cond_sight c.wait.new.cond) s t c.in-Err.refusal c.in-Err.ensures.waits) p.kept;
+}

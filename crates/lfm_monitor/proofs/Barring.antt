@@ -1,0 +1,19 @@
+-- A wait that the pass may not make.
+use Rattle.std.proofs.Common.{ℕ, List, Err, inl, refl}
+use Rattle.lfm_model.specs.declared.refusals.Refusal.{Refusal}
+use Rattle.lfm_protocol.specs.declared.limits.Limits.{Limits}
+use Rattle.lfm_mutex.specs.calls.Sight.{Sight}
+use Rattle.lfm_condvar.specs.declared.seats.CondSeat.{CondSeat}
+use Rattle.lfm_monitor.specs.declared.journals.Journaled.{Journaled}
+use Rattle.lfm_monitor.specs.Conditions.{Wait_ends, Wait_refused}
+
+module _ {O A R : Type 0} {K : _} where
+  pub barred : (user own : Limits) (share count condition : ℕ) (cs : List CondSeat) (s : Sight (Journaled O A R K)) (mine : ℕ) (r : Refusal) → Wait_refused share s mine r → Wait_ends user own share count condition cs cs s s mine (Err r)
+  barred user own share count condition cs s mine Refusal.Asleep h = (h, refl, refl)
+  barred user own share count condition cs s mine Refusal.NotOwner h = (h, refl, refl)
+  barred user own share count condition cs s mine Refusal.Nested h = (h, refl, refl)
+  barred user own share count condition cs s mine Refusal.DepthFull h = (h, refl, refl)
+  barred user own share count condition cs s mine Refusal.Spent h = (inl (h, refl), refl)
+  barred user own share count condition cs s mine Refusal.NoSuchSeat h = absurd h
+  barred user own share count condition cs s mine Refusal.NotWaiting h = (h, refl, refl)
+  barred user own share count condition cs s mine Refusal.Busy h = absurd h

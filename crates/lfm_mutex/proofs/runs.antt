@@ -9,3 +9,4 @@ pub mod SendFacts
 pub mod SightFacts
 pub mod Sights
 pub mod StraightPoints
+pub mod TryEnds

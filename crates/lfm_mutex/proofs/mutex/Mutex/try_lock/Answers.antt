@@ -1,0 +1,30 @@
+use Rattle.lfm_mutex.specs.calls.Sight.{sight}
+use Rattle.lfm_mutex.proofs.runs.TryEnds.{try_locks, try_makes}
+use Rattle.lfm_mutex.proofs.mutex.Mutex.try_lock.Goals as goal
+
+pub returns-then-seat-budget-clause-locks : goal.returns-then-seat-budget-clause-locks
+returns-then-seat-budget-clause-locks g c = try_locks g.T.Kept.follows g.T.Kept.fits c.args.self.now.limits (sight c.args.seat.now) (sight c.try_free.new.seat) c.try_free.result c.try_free.ensures.made
+
+pub returns-then-seat-budget-clause-steps : goal.returns-then-seat-budget-clause-steps
+returns-then-seat-budget-clause-steps g c = try_makes g.T.Kept.follows g.T.Kept.fits c.args.self.now.limits (sight c.args.seat.now) (sight c.try_free.new.seat) c.try_free.result c.try_free.ensures.made
+
+pub returns-then-seat-budget-clause-belongs : goal.returns-then-seat-budget-clause-belongs
+returns-then-seat-budget-clause-belongs g c = c.try_free.ensures.belongs
+
+pub returns-then-seat-lt-MAX_DEPTH-clause-locks : goal.returns-then-seat-lt-MAX_DEPTH-clause-locks
+returns-then-seat-lt-MAX_DEPTH-clause-locks g c = try_locks g.T.Kept.follows g.T.Kept.fits c.args.self.now.limits (sight c.args.seat.now) (sight c.try_again.new.seat) c.try_again.result c.try_again.ensures.made
+
+pub returns-then-seat-lt-MAX_DEPTH-clause-steps : goal.returns-then-seat-lt-MAX_DEPTH-clause-steps
+returns-then-seat-lt-MAX_DEPTH-clause-steps g c = try_makes g.T.Kept.follows g.T.Kept.fits c.args.self.now.limits (sight c.args.seat.now) (sight c.try_again.new.seat) c.try_again.result c.try_again.ensures.made
+
+pub returns-then-seat-lt-MAX_DEPTH-clause-belongs : goal.returns-then-seat-lt-MAX_DEPTH-clause-belongs
+returns-then-seat-lt-MAX_DEPTH-clause-belongs g c = c.try_again.ensures.belongs
+
+pub returns-then-asleep-clause-belongs : goal.returns-then-asleep-clause-belongs
+returns-then-asleep-clause-belongs g c = c.try_lock_any.ensures.belongs
+
+pub returns-then-asleep-clause-locks : goal.returns-then-asleep-clause-locks
+returns-then-asleep-clause-locks g c = c.try_lock_any.ensures.locks
+
+pub returns-then-asleep-clause-steps : goal.returns-then-asleep-clause-steps
+returns-then-asleep-clause-steps g c = c.try_lock_any.ensures.steps

@@ -1,6 +1,6 @@
 //! What the program does with its arguments: it wants none. Its messages and statuses are those of `lfm replay`.
-use crate::explaining::explain;
 use lfm_core::ReplayFault;
+use lfm_explanation::explain;
 use lfm_program::report;
 use std::alloc::Global;
 use std::io::{BufWriter, ErrorKind, Input};

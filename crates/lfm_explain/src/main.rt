@@ -1,14 +1,8 @@
-//! The program `lfm_explain`: it reads a schedule of atomic steps like `lfm replay`, and shows each step that is made.
+//! The program `lfm_explain`: it reads a schedule of atomic steps like `lfm replay`, and shows each step that is made. What it
+//! prints is made in `lfm_explanation`; here stand its arguments, messages and statuses alone.
 #![tactic(auto)]
 
-mod cases;
 mod commands;
-mod explaining;
-mod shown;
-mod step_names;
-#[cfg(test)]
-mod tests;
-mod values;
 
 use std::process::ExitCode;
 

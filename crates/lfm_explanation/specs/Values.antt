@@ -2,8 +2,8 @@
 use Rattle.lfm_protocol.specs.Core.{Core}
 use Rattle.lfm_protocol.specs.Seats.{link, wake}
 use Rattle.lfm_protocol.specs.declared.kinds.Word.{Word}
-use Rattle.lfm_explain.specs.declared.values.Value.{Value}
-use Rattle.lfm_explain.specs.declared.values.Value.TheVariants.{Number, Handoff, Link, Wake}
+use Rattle.lfm_explanation.specs.declared.values.Value.{Value}
+use Rattle.lfm_explanation.specs.declared.values.Value.TheVariants.{Number, Handoff, Link, Wake}
 
 -- what this word holds, in its own coding
 abbrev pub value_in : Core → Word → Value

@@ -1,8 +1,8 @@
 -- The program's names of the abstract cases stand for those of the laws.
 use Rattle.std.specs.Prelude.{Option, Some, None}
 use Rattle.lfm_model.specs.AbstractRuns as Abstract
-use Rattle.lfm_explain.specs.declared.cases.Case.{Case}
-use Rattle.lfm_explain.specs.declared.cases.Case.TheVariants.{Ask, Queue, Serve, Post, Take, Accept, TakeUp, Enter, Release, Leave}
+use Rattle.lfm_explanation.specs.declared.cases.Case.{Case}
+use Rattle.lfm_explanation.specs.declared.cases.Case.TheVariants.{Ask, Queue, Serve, Post, Take, Accept, TakeUp, Enter, Release, Leave}
 
 -- the abstract case that has this name
 abbrev pub named_case : Case → Abstract.Case

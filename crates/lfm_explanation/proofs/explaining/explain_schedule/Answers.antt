@@ -1,8 +1,8 @@
 use Rattle.std.proofs.Common.{◌≡◌, rules}
 use Rattle.lfm_core.specs.text.Grammar.{plan_of}
 use Rattle.lfm_core.specs.text.Trace.{opening}
-use Rattle.lfm_explain.proofs.Verdicts.{write_failed, run_judged}
-use Rattle.lfm_explain.proofs.explaining.explain_schedule.Goals as goal
+use Rattle.lfm_explanation.proofs.Verdicts.{write_failed, run_judged}
+use Rattle.lfm_explanation.proofs.explaining.explain_schedule.Goals as goal
 
 pub returns-in_err-explain_run : goal.returns-in_err-explain_run
 returns-in_err-explain_run g c = write_failed _ _ _ _ c.from_residual-in_err-explain_run.ensures.1

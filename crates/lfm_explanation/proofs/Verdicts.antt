@@ -9,7 +9,7 @@ use Rattle.lfm_core.specs.text.Grammar.{Plan}
 use Rattle.lfm_text.specs.Taking.{Takes}
 use Rattle.lfm_core.specs.text.Trace.{none_refused, opening}
 use Rattle.lfm_core.proofs.texts.Replays.{exact}
-use Rattle.lfm_explain.specs.Verdicts.{Ends, Judges}
+use Rattle.lfm_explanation.specs.Verdicts.{Ends, Judges}
 
 -- the fault that `?` makes of a writer's
 pub write_failed : (r verdict : Result Bool ReplayFault) (old new : Option (List ℕ)) → IsErrAnd r (λ y. y ≡ Write) → Ends r verdict old new

@@ -4,7 +4,7 @@ use Rattle.lfm_core.specs.declared.text.schedule.Act.TheVariants.{Begin}
 use Rattle.lfm_core.specs.declared.text.schedule.Line.{Line}
 use Rattle.lfm_core.proofs.texts.Runs.{verdict_next}
 use Rattle.lfm_core.proofs.texts.SameSeats.{seats_kept}
-use Rattle.lfm_explain.proofs.explaining.explain_lines.Goals as goal
+use Rattle.lfm_explanation.proofs.explaining.explain_lines.Goals as goal
 
 -- a line, as the loop reads it
 abbrev read : List Line → ℕ → Line

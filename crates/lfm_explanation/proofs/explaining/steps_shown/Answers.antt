@@ -1,8 +1,8 @@
 use Rattle.std.proofs.Common.{rules, ◌≡◌, ◌∙◌, true, false, sym, ap}
 use Rattle.lfm_protocol.specs.Step.{step}
 use Rattle.lfm_protocol.specs.Turns.{is_open}
-use Rattle.lfm_explain.proofs.StepsLeft.{stops, goes_on}
-use Rattle.lfm_explain.proofs.explaining.steps_shown.Goals as goal
+use Rattle.lfm_explanation.proofs.StepsLeft.{stops, goes_on}
+use Rattle.lfm_explanation.proofs.explaining.steps_shown.Goals as goal
 
 pub returns-then-not-is_open-clause-core : goal.returns-then-not-is_open-clause-core
 returns-then-not-is_open-clause-core g c =

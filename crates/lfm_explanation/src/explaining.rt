@@ -6,7 +6,7 @@ ghost use Rattle.lfm_core.specs.text.Lines.{steps, line_moved};
 ghost use Rattle.lfm_core.specs.text.Trace.{none_refused, opening};
 ghost use Rattle.lfm_text.specs.Text.{max_lines};
 ghost use Rattle.lfm_protocol.specs.Limits.{are_in_limits};
-ghost use Rattle.lfm_explain.specs.Verdicts.{Ends, Judges};
+ghost use Rattle.lfm_explanation.specs.Verdicts.{Ends, Judges};
 
 use crate::shown::{begin_shown, step_shown};
 use lfm_core::text::trace::{write_fault_line, write_line, write_opening};

@@ -1,6 +1,6 @@
 //! What a word holds, decoded, and how it is written.
 ghost use Rattle.std.specs.Prelude.{◌≡◌};
-ghost use Rattle.lfm_explain.specs.Values.{value_in};
+ghost use Rattle.lfm_explanation.specs.Values.{value_in};
 
 use lfm_core::State;
 use lfm_core::kinds::Word;

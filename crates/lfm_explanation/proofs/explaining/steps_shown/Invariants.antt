@@ -1,6 +1,6 @@
 use Rattle.std.proofs.Common.{◌≡◌, ◌-◌}
 use Rattle.lfm_core.specs.text.Lines.{steps}
-use Rattle.lfm_explain.proofs.explaining.steps_shown.Given as goal
+use Rattle.lfm_explanation.proofs.explaining.steps_shown.Given as goal
 
 -- the steps that are left lead to where all of them lead
 abbrev pub invariant-loop : goal.invariant-loop

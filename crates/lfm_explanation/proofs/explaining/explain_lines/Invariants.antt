@@ -1,6 +1,6 @@
 use Rattle.std.proofs.Common.{◌≡◌, ◌≤◌, ◌&&◌, drop, length, vec_capacity}
 use Rattle.lfm_core.specs.text.Trace.{none_refused}
-use Rattle.lfm_explain.proofs.explaining.explain_lines.Given as goal
+use Rattle.lfm_explanation.proofs.explaining.explain_lines.Given as goal
 
 -- What was answered so far and what the lines that are left will answer is what all of them answer.
 abbrev pub invariant-running : goal.invariant-running

@@ -11,7 +11,7 @@ use Rattle.lfm_monitor.specs.declared.monitors.Monitor.{Monitor}
 use Rattle.lfm_monitor.specs.declared.passes.Pass.{Pass}
 use Rattle.lfm_monitor.specs.Belongs.{mine_of, pass_sight, share_of}
 use Rattle.lfm_monitor.specs.Passes.{Apply_ends, Enter_ends}
-use Rattle.lfm_program.specs.declared.script.Command.TheVariants.{Add}
+use Rattle.lfm_script.specs.declared.script.Command.TheVariants.{Add}
 use Rattle.lfm_program.specs.Causes.{Has_cause}
 use Rattle.lfm_program.specs.Performs.{Holds_once}
 

@@ -21,8 +21,8 @@ use Rattle.lfm_mutex.specs.calls.Sight.{Sight}
 use Rattle.lfm_monitor.specs.declared.journals.Journaled.{Journaled}
 use Rattle.lfm_monitor.specs.Conditions.{Only_sends, Wait_returns}
 use Rattle.lfm_monitor.specs.Passes.{journal_of, journal_at, found_or, Enters, Comes_in, Enter_ends, Applies, Apply_ends, Leave_ends}
-use Rattle.lfm_program.specs.declared.script.Command.{Command}
-use Rattle.lfm_program.specs.Adds.{added, adds, all_adds, command_adds}
+use Rattle.lfm_script.specs.declared.script.Command.{Command}
+use Rattle.lfm_script.specs.Adds.{added, adds, all_adds, command_adds}
 use Rattle.lfm_program.specs.Performs.{Command_ends, Holds_once, own_adds}
 
 adds-append : (xs ys : List (Entry TotalOp)) → adds (xs ++ ys) ≡ adds xs ++ adds ys

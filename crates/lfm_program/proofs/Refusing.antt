@@ -26,9 +26,9 @@ use Rattle.lfm_monitor.specs.Conditions.{Is_spent, On_condition, Wait_ends, Wake
 use Rattle.lfm_monitor.specs.Journaled.{Fits, Follows}
 use Rattle.lfm_monitor.specs.Passes.{Leave_ends}
 use Rattle.lfm_program.specs.declared.performing.Performed.TheVariants.{Refused}
-use Rattle.lfm_program.specs.declared.script.Command.{Command}
-use Rattle.lfm_program.specs.declared.script.Command.TheVariants.{Until}
-use Rattle.lfm_program.specs.Adds.{all_adds}
+use Rattle.lfm_script.specs.declared.script.Command.{Command}
+use Rattle.lfm_script.specs.declared.script.Command.TheVariants.{Until}
+use Rattle.lfm_script.specs.Adds.{all_adds}
 use Rattle.lfm_program.specs.Causes.{At_condition, Found_listed, Found_not_waiting, Has_cause, Has_no_take, Refused_for_cause, Wake_has_cause}
 use Rattle.lfm_program.specs.Performs.{Holds_once, own_adds}
 

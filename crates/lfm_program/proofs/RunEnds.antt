@@ -16,27 +16,27 @@ use Rattle.lfm_monitor.specs.Belongs.{Of_monitor, mine_of, pass_sight}
 use Rattle.lfm_monitor.specs.Passes.{journal_of}
 use Rattle.lfm_program.specs.declared.performing.Performed.{Performed}
 use Rattle.lfm_program.specs.declared.performing.Performed.TheVariants.{Done, Refused, Stuck}
-use Rattle.lfm_program.specs.declared.script.Command.{Command}
-use Rattle.lfm_program.specs.declared.script.ScriptLine.{ScriptLine}
-use Rattle.lfm_program.specs.Adds.{adds, all_adds}
-use Rattle.lfm_program.specs.script.Commands.{commands_of}
-use Rattle.lfm_program.specs.script.Grammar.{Plan}
+use Rattle.lfm_script.specs.declared.script.Command.{Command}
+use Rattle.lfm_script.specs.declared.script.ScriptLine.{ScriptLine}
+use Rattle.lfm_script.specs.Adds.{adds, all_adds}
+use Rattle.lfm_script.specs.script.Commands.{commands_of}
+use Rattle.lfm_script.specs.script.Grammar.{Plan}
 use Rattle.lfm_program.specs.Performs.{All_performed, own_adds}
-use Rattle.lfm_program.specs.Rows.{refusal_at}
+use Rattle.lfm_script.specs.Rows.{refusal_at}
 use Rattle.lfm_program.specs.ScriptRuns.{Ends_so, are_none}
 use Rattle.lfm_program.specs.Workers.{Works_as}
-use Rattle.lfm_program.specs.Works.{IsRunOfMade}
+use Rattle.lfm_script.specs.Runs.{IsRunOfMade}
 use Rattle.lfm_model.specs.Journals.{after_all}
 use Rattle.lfm_model.specs.Totals.{total_after}
 use Rattle.lfm_monitor.proofs.Places.{in_range}
-use Rattle.lfm_program.specs.declared.rows.Row.{Row}
+use Rattle.lfm_script.specs.declared.rows.Row.{Row}
 use Rattle.lfm_program.specs.declared.workers.Worked.{Worked}
-use Rattle.lfm_program.specs.script.Grammar.{plan_allowed}
-use Rattle.lfm_program.specs.Report.{report_text, total_of}
-use Rattle.lfm_program.specs.Rows.{rows_from, run_row}
+use Rattle.lfm_script.specs.script.Grammar.{plan_allowed}
+use Rattle.lfm_script.specs.Report.{report_text, total_of}
+use Rattle.lfm_script.specs.Rows.{rows_from, run_row}
 use Rattle.lfm_program.specs.ScriptRuns.{Divides, Made_ready}
-use Rattle.lfm_program.specs.Works.{IsReport}
-use Rattle.lfm_program.proofs.RunReports.{made_text_told}
+use Rattle.lfm_script.specs.Runs.{IsReport}
+use Rattle.lfm_script.proofs.RunReports.{made_text_told}
 use Rattle.lfm_program.proofs.JournalEnds.{Chosen, at_place, choose, total_is_sum, within_counted}
 use Rattle.lfm_program.proofs.Threads.{read_here}
 

@@ -12,9 +12,9 @@ use Rattle.lfm_monitor.specs.contracts.passes.Pass as Pass
 use Rattle.lfm_monitor.proofs.Moving.{journaled_send, monitor_sync, pass_send}
 use Rattle.lfm_mutex.proofs.seat.Seat.TheSendSync as SeatSend
 use Rattle.lfm_program.proofs.performing.Performed.TheSendSync as PerformedSend
-use Rattle.lfm_program.proofs.script.Command.TheSendSync as CommandSend
+use Rattle.lfm_script.proofs.script.Command.TheSendSync as CommandSend
 use Rattle.lfm_program.proofs.starting_line.StartingLine.TheSendSync as LineSend
-use Rattle.lfm_program.specs.contracts.script.Command as Command
+use Rattle.lfm_script.specs.contracts.script.Command as Command
 use Rattle.lfm_program.specs.contracts.starting_line.StartingLine as StartingLine
 use Rattle.lfm_program.specs.contracts.workers.Worked as Worked
 use Rattle.std.below.std_heap.proofs.GlobalAllocator.TheSendSync as GlobalFrees

@@ -8,13 +8,14 @@ use Rattle.lfm_text.specs.Taking.{Takes}
 use Rattle.lfm_text.specs.Text.{is_past_limit}
 use Rattle.lfm_text.specs.Writing.{Writes}
 use Rattle.lfm_text.proofs.LineCount.{is_past_limit-append}
-use Rattle.lfm_program.specs.declared.faults.WorkFault.{WorkFault}
-use Rattle.lfm_program.specs.declared.faults.WorkFault.TheVariants.{Syntax, Limit, Read, Write, Memory, Stuck}
-use Rattle.lfm_program.specs.script.Grammar.{Plan, script_in}
-use Rattle.lfm_program.specs.Report.{script_text}
-use Rattle.lfm_program.specs.Works.{IsReport, SomeWork, TellsWork, Works}
-use Rattle.lfm_program.proofs.RunReports.{script_told}
-use Rattle.lfm_program.proofs.scripts.Plans.{plan_only}
+use Rattle.lfm_script.specs.declared.faults.WorkFault.{WorkFault}
+use Rattle.lfm_script.specs.declared.faults.WorkFault.TheVariants.{Syntax, Limit, Read, Write, Memory, Stuck}
+use Rattle.lfm_script.specs.script.Grammar.{Plan, script_in}
+use Rattle.lfm_script.specs.Report.{script_text}
+use Rattle.lfm_script.specs.Runs.{IsReport}
+use Rattle.lfm_program.specs.Works.{SomeWork, TellsWork, Works}
+use Rattle.lfm_script.proofs.RunReports.{script_told}
+use Rattle.lfm_script.proofs.scripts.Plans.{plan_only}
 
 -- known bytes stay
 pub keeps_same : (a : Option (List ℕ)) → Keeps a a

@@ -19,9 +19,9 @@ use Rattle.lfm_monitor.specs.Belongs.{cond_seats_of, conditions_of, mine_of, pas
 use Rattle.lfm_monitor.specs.Conditions.{Is_missing}
 use Rattle.lfm_program.specs.declared.performing.Performed.{Performed}
 use Rattle.lfm_program.specs.declared.performing.Performed.TheVariants.{Done, Refused, Stuck}
-use Rattle.lfm_program.specs.declared.script.Command.{Command}
-use Rattle.lfm_program.specs.declared.script.Command.TheVariants.{Add, Until, One, All}
-use Rattle.lfm_program.specs.Adds.{all_adds}
+use Rattle.lfm_script.specs.declared.script.Command.{Command}
+use Rattle.lfm_script.specs.declared.script.Command.TheVariants.{Add, Until, One, All}
+use Rattle.lfm_script.specs.Adds.{all_adds}
 use Rattle.lfm_program.specs.Performs.{own_adds}
 
 -- there is such a condition, and the cond seat of it among these is so

@@ -1,11 +1,5 @@
-pub mod Adds
 pub mod Causes
-pub mod Faults
 pub mod Performs
-pub mod Report
-pub mod Rows
 pub mod ScriptRuns
-pub mod Statuses
 pub mod Workers
 pub mod Works
-pub mod script

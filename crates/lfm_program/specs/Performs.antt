@@ -9,8 +9,8 @@ use Rattle.lfm_monitor.specs.declared.journals.Journaled.{Journaled}
 use Rattle.lfm_monitor.specs.Passes.{journal_of}
 use Rattle.lfm_program.specs.declared.performing.Performed.{Performed}
 use Rattle.lfm_program.specs.declared.performing.Performed.TheVariants.{Done, Refused, Stuck}
-use Rattle.lfm_program.specs.declared.script.Command.{Command}
-use Rattle.lfm_program.specs.Adds.{adds, all_adds, command_adds}
+use Rattle.lfm_script.specs.declared.script.Command.{Command}
+use Rattle.lfm_script.specs.Adds.{adds, all_adds, command_adds}
 
 module _ {R : Type 0} {K : _} where
   -- the numbers that the pass's own entries add

@@ -8,7 +8,7 @@ use Rattle.lfm_monitor.specs.declared.passes.Pass.{Pass}
 use Rattle.lfm_monitor.specs.Belongs.{Of_monitor, pass_sight}
 use Rattle.lfm_program.specs.declared.performing.Performed.{Performed}
 use Rattle.lfm_program.specs.declared.performing.Performed.TheVariants.{Stuck}
-use Rattle.lfm_program.specs.declared.script.Command.{Command}
+use Rattle.lfm_script.specs.declared.script.Command.{Command}
 use Rattle.lfm_program.specs.Causes.{Refused_for_cause}
 use Rattle.lfm_program.specs.Performs.{All_performed, own_adds}
 

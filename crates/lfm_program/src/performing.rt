@@ -8,9 +8,9 @@ ghost use Rattle.std.specs.Prelude.{◌≡◌};
 mod making;
 
 use crate::gates::Gate;
-use crate::script::Command;
 use lfm_model::{Refusal, Total};
 use lfm_monitor::{Monitor, Pass};
+use lfm_script::Command;
 use making::make;
 use std::sync::Wait;
 

@@ -1,24 +1,21 @@
 //! The run of a script: its workers on a monitor over a total, and what its journal tells once all have ended.
-ghost use Rattle.lfm_program.specs.Report.{report_text};
+ghost use Rattle.lfm_script.specs.Report.{report_text};
 ghost use Rattle.lfm_program.specs.ScriptRuns.{Divides, Ends_so, Has_stopped, Made_ready, are_none};
-ghost use Rattle.lfm_program.specs.Works.{IsReport};
-ghost use Rattle.lfm_program.specs.declared.faults.WorkFault.TheVariants as Fault;
-ghost use Rattle.lfm_program.specs.script.Grammar.{script_of};
-ghost use Rattle.lfm_program.specs.script.Limits.{header_allowed, lines_allowed};
+ghost use Rattle.lfm_script.specs.Runs.{IsReport};
+ghost use Rattle.lfm_script.specs.declared.faults.WorkFault.TheVariants as Fault;
+ghost use Rattle.lfm_script.specs.script.Grammar.{script_of};
+ghost use Rattle.lfm_script.specs.script.Limits.{header_allowed, lines_allowed};
 ghost use Rattle.lfm_text.specs.Text.{max_lines};
 ghost use Rattle.lfm_model.specs.Journals.{Lawful, after_all};
 ghost use Rattle.lfm_model.specs.Totals.{total_after};
 ghost use Rattle.std.specs.Prelude.{◌≡◌, ◌⊎◌, ◌<◌, IfErr, IfOk, length, true};
 
-use crate::counted_rows::rows_of;
-use crate::faults::WorkFault;
 use crate::gates::Gate;
 use crate::performing::Performed;
-use crate::rows::Row;
-use crate::script::{Script, commands_by_worker};
 use crate::workers::{Worked, run_workers};
 use lfm_model::{Entry, NewFault, Refusal, Total, TotalOp, lawful, replay};
 use lfm_monitor::{MAX_ENTRIES, Monitor, Pass};
+use lfm_script::{Row, Script, WorkFault, commands_by_worker, rows_of};
 use std::alloc::{AllocError, Global};
 use std::sync::Wait;
 use std::thread::Threads;

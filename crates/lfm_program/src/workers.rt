@@ -4,13 +4,12 @@ ghost use Rattle.std.specs.Prelude.{◌≡◌, ℕ, IfErr, IfOk, Vec, length, ve
 ghost use lib.ListN.{get_elem?};
 ghost use mathlib.Core.Option.{some};
 
-use crate::faults::WorkFault;
 use crate::gates::Gate;
 use crate::performing::{Performed, perform};
-use crate::script::Command;
 use crate::starting_line::StartingLine;
 use lfm_model::Total;
 use lfm_monitor::{Monitor, Pass};
+use lfm_script::{Command, WorkFault};
 use std::alloc::Global;
 use std::snapshot::Snapshot;
 use std::sync::Wait;

@@ -3,17 +3,15 @@
 ghost use Rattle.std.specs.Prelude.{◌≡◌, ◌≢◌, ◌<◌, true, length, Err, Ok, IfSome};
 ghost use Rattle.lfm_text.specs.Text.{max_lines};
 ghost use Rattle.lfm_text.specs.Writing.{Writes};
-ghost use Rattle.lfm_program.specs.Report.{fault_text, report_text, script_text};
+ghost use Rattle.lfm_script.specs.Report.{fault_text, report_text, script_text};
 ghost use Rattle.lfm_program.specs.Works.{SomeWork, TellsWork, Works};
-ghost use Rattle.lfm_program.specs.script.Grammar.{Plan, script_in, script_of};
-ghost use Rattle.lfm_program.specs.script.Limits.{header_allowed, lines_allowed};
+ghost use Rattle.lfm_script.specs.script.Grammar.{Plan, script_in, script_of};
+ghost use Rattle.lfm_script.specs.script.Limits.{header_allowed, lines_allowed};
 ghost use Rattle.std.specs.Io.KnownBytes.{Appends};
 
-use crate::faults::WorkFault;
 use crate::gates::Gate;
-use crate::script::{Script, read_script};
 use crate::script_runs::{ScriptRun, run_script};
-use crate::work_report::{write_fault, write_report};
+use lfm_script::{Script, WorkFault, read_script, write_fault, write_report};
 use lfm_text::{WriteFault, flush, read_input};
 use std::alloc::Global;
 use std::io::{Read, Write};

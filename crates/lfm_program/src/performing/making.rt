@@ -5,9 +5,9 @@ ghost use Rattle.lfm_program.specs.Causes.{Has_cause};
 ghost use Rattle.lfm_program.specs.Performs.{Command_ends, Holds_once, own_adds};
 ghost use Rattle.std.specs.Prelude.{◌≡◌, IfErr};
 
-use crate::script::Command;
 use lfm_model::{Refusal, Total, TotalOp};
 use lfm_monitor::{Monitor, Pass};
+use lfm_script::Command;
 use std::sync::Wait;
 
 // Enters, adds the number and leaves.

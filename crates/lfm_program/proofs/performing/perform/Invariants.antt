@@ -1,7 +1,7 @@
 use Rattle.std.proofs.Common.{◌≡◌, ◌++◌, take}
 use Rattle.lfm_mutex.specs.Closing.{Idle}
 use Rattle.lfm_monitor.specs.Belongs.{Of_monitor, pass_sight}
-use Rattle.lfm_program.specs.Adds.{all_adds}
+use Rattle.lfm_script.specs.Adds.{all_adds}
 use Rattle.lfm_program.specs.Performs.{own_adds}
 use Rattle.lfm_program.proofs.performing.perform.Given as goal
 

@@ -7,7 +7,7 @@ use native.Mathlib.Decide.{ℕ_discrete}
 use Rattle.lfm_model.specs.declared.refusals.Refusal.{Refusal}
 use Rattle.lfm_monitor.proofs.Places.{in_range, stands_before, stands_last}
 use Rattle.lfm_program.specs.ScriptRuns.{Ends_so, Has_stopped}
-use Rattle.lfm_program.specs.declared.faults.WorkFault.TheVariants.{Memory, Stuck}
+use Rattle.lfm_script.specs.declared.faults.WorkFault.TheVariants.{Memory, Stuck}
 use Rattle.lfm_program.specs.declared.workers.Worked.{Worked}
 use Rattle.lfm_program.proofs.Threads.{fault_is, in_place}
 use Rattle.lfm_program.proofs.script_runs.divide.Goals as goal

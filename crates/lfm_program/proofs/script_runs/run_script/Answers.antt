@@ -2,15 +2,15 @@ use Rattle.std.proofs.Common.{ap, arith, length, subst, sym, true, ◌∙◌, �
 use Rattle.lfm_model.specs.Journals.{Lawful, Within, after_all}
 use Rattle.lfm_model.specs.Totals.{total_after}
 use Rattle.lfm_monitor.specs.Belongs.{pass_sight, passes_of}
-use Rattle.lfm_program.specs.Adds.{adds}
-use Rattle.lfm_program.specs.Rows.{refusal_at, rows_from, run_row}
+use Rattle.lfm_script.specs.Adds.{adds}
+use Rattle.lfm_script.specs.Rows.{refusal_at, rows_from, run_row}
 use Rattle.lfm_program.specs.ScriptRuns.{are_none}
-use Rattle.lfm_program.specs.script.Grammar.{script_of}
-use Rattle.lfm_program.specs.script.Limits.{header_allowed, lines_allowed}
+use Rattle.lfm_script.specs.script.Grammar.{script_of}
+use Rattle.lfm_script.specs.script.Limits.{header_allowed, lines_allowed}
 use Rattle.std.specs.List.{sum}
 use Rattle.lfm_program.proofs.JournalEnds.{none_missing}
 use Rattle.lfm_program.proofs.RunEnds.{and_true, both_true, by_workers, collected, ran, reported}
-use Rattle.lfm_program.proofs.RunReports.{adds_made}
+use Rattle.lfm_script.proofs.RunReports.{adds_made}
 use Rattle.lfm_program.proofs.script_runs.run_script.Goals as goal
 
 pub run_workers-requires-clause-ready : goal.run_workers-requires-clause-ready

@@ -1,5 +1,5 @@
 use Rattle.std.proofs.Common.{None}
-use Rattle.lfm_program.specs.script.Grammar.{script_of}
+use Rattle.lfm_script.specs.script.Grammar.{script_of}
 use Rattle.lfm_program.proofs.Telling.{run_failed, run_told, report_failed}
 use Rattle.lfm_program.proofs.working.work_script.Goals as goal
 

@@ -2,7 +2,7 @@ use Rattle.std.proofs.Common.{ap, subst, sym, ◌∙◌}
 use Rattle.lfm_model.specs.declared.objects.TotalOp.TheVariants.{Add}
 use Rattle.lfm_model.specs.Totals.{total_after, total_reply}
 use Rattle.lfm_monitor.specs.Belongs.{mine_of, pass_sight, seen_of, share_of}
-use Rattle.lfm_program.specs.declared.script.Command.TheVariants.{Add as AddNumber}
+use Rattle.lfm_script.specs.declared.script.Command.TheVariants.{Add as AddNumber}
 use Rattle.lfm_mutex.specs.Closing.{Idle}
 use Rattle.lfm_program.specs.Causes.{Has_cause}
 use Rattle.lfm_program.specs.Performs.{Holds_once}

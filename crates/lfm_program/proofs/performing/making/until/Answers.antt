@@ -1,5 +1,5 @@
 use Rattle.std.proofs.Common.{[], append-nil, refl, sym, ◌∙◌}
-use Rattle.lfm_program.specs.declared.script.Command.TheVariants.{Until}
+use Rattle.lfm_script.specs.declared.script.Command.TheVariants.{Until}
 use Rattle.lfm_monitor.specs.Belongs.{mine_of, pass_sight, seen_of, share_of}
 use Rattle.lfm_program.specs.Performs.{own_adds}
 use Rattle.lfm_program.proofs.Commands.{added_nothing, entered, followed, left}

@@ -1,8 +1,0 @@
-use Rattle.lfm_program.proofs.RunReports.{made_text_told, script_told}
-use Rattle.lfm_program.proofs.report_laws.reports_are_of_commands.Goals as goal
-
-pub returns-clause-made : goal.returns-clause-made
-returns-clause-made c = made_text_told
-
-pub returns-clause-whole : goal.returns-clause-whole
-returns-clause-whole c = script_told

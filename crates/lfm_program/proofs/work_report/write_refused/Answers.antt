@@ -1,4 +1,0 @@
-use Rattle.lfm_program.proofs.work_report.write_refused.Goals as goal
-
-pub returns-in-None : goal.returns-in-None
-returns-in-None g c = rw c.in-None.is c.write_text.ensures

@@ -1,0 +1,5 @@
+mod AddedSums
+mod Reports
+mod RowCounts
+pub mod RunReports
+pub mod scripts

@@ -1,0 +1,11 @@
+use Rattle.lfm_script.proofs.scripts.Plans.{plan_limit, plan_past, plan_range}
+use Rattle.lfm_script.proofs.script.grammar_laws.script_limits_are_answered.Goals as goal
+
+pub returns-clause-only : goal.returns-clause-only
+returns-clause-only c = plan_limit
+
+pub returns-clause-past : goal.returns-clause-past
+returns-clause-past c = plan_past
+
+pub returns-clause-range : goal.returns-clause-range
+returns-clause-range c = plan_range

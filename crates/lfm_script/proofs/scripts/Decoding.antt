@@ -1,0 +1,83 @@
+-- A line, a first line or a whole script that is written is read back as itself.
+use Rattle.std.proofs.Common.{◌≡◌, ◌<◌, ◌^◌, ℕ, false, List, [], ◌∷◌, ◌++◌, Some, refl, ◌∙◌, ap, append_assoc, codes, decimal}
+use Rattle.std.specs.List.{flat_map}
+use Rattle.lfm_text.specs.Text.{words_of, lines_of, is_past_limit}
+use Rattle.lfm_text.proofs.Numbers.{every}
+use Rattle.lfm_script.specs.declared.script.Command.{Command}
+use Rattle.lfm_script.specs.declared.script.Command.TheVariants.{Add, Until, One, All}
+use Rattle.lfm_script.specs.declared.script.ScriptLine.{ScriptLine}
+use Rattle.lfm_script.specs.script.Grammar.{line_of, header_of, Plan}
+use Rattle.lfm_script.specs.script.Spelling.{command_spelling, line_spelling, lines_spelling, header_spelling, plan_spelling, IsWritableCommand, IsWritable, AreWritable, IsWritablePlan, SpellsPlan}
+use Rattle.lfm_text.proofs.Separators.{Lacks, first_part, only_part, no_space, literal_lacks, no_feed, both_lack, one_line}
+
+-- a worker and a command
+command_decodes : (w : ℕ) (m : Command) → w < 10 ^ 18 → IsWritableCommand m
+    → line_of (words_of (decimal w ++ 32 ∷ command_spelling m)) ≡ Some (record { worker = w; command = m })
+command_decodes w (Add k) small short =
+    rw (first_part 32 (decimal w) (codes "add " ++ decimal k) (no_space w small), only_part 32 (decimal k) (no_space k short), every w small, every k short) refl
+command_decodes w (Until c k) small short =
+    rw (
+      first_part 32 (decimal w) (codes "until " ++ (decimal c ++ 32 ∷ decimal k)) (no_space w small),
+      first_part 32 (decimal c) (decimal k) (no_space c short.0),
+      only_part 32 (decimal k) (no_space k short.1),
+      every w small,
+      every c short.0,
+      every k short.1,
+    ) refl
+command_decodes w (One c) small short =
+    rw (first_part 32 (decimal w) (codes "one " ++ decimal c) (no_space w small), only_part 32 (decimal c) (no_space c short), every w small, every c short) refl
+command_decodes w (All c) small short =
+    rw (first_part 32 (decimal w) (codes "all " ++ decimal c) (no_space w small), only_part 32 (decimal c) (no_space c short), every w small, every c short) refl
+
+-- a line as it is written
+pub line_decodes : (l : ScriptLine) → IsWritable l → line_of (words_of (line_spelling l)) ≡ Some l
+line_decodes l writable = command_decodes l.worker l.command writable.worker writable.command
+
+-- a first line as it is written
+pub header_decodes : (n c : ℕ) → n < 10 ^ 18 → c < 10 ^ 18 → header_of (words_of (header_spelling n c)) ≡ Some (n, c)
+header_decodes n c small short =
+    rw (first_part 32 (decimal n) (decimal c) (no_space n small), only_part 32 (decimal c) (no_space c short), every n small, every c short) refl
+
+-- ---- lines have no line feed
+
+two_numbers_lack : (c k : ℕ) → c < 10 ^ 18 → k < 10 ^ 18 → Lacks 10 (decimal c ++ (codes " " ++ decimal k))
+two_numbers_lack c k small short =
+    both_lack (decimal c) (codes " " ++ decimal k) (no_feed c small) (both_lack (codes " ") (decimal k) (literal_lacks 10 (codes " ") refl) (no_feed k short))
+
+no_feed_in_command : (m : Command) → IsWritableCommand m → Lacks 10 (command_spelling m)
+no_feed_in_command (Add k) short = both_lack (codes "add ") (decimal k) (literal_lacks 10 (codes "add ") refl) (no_feed k short)
+no_feed_in_command (Until c k) short = both_lack (codes "until ") (decimal c ++ (codes " " ++ decimal k)) (literal_lacks 10 (codes "until ") refl) (two_numbers_lack c k short.0 short.1)
+no_feed_in_command (One c) short = both_lack (codes "one ") (decimal c) (literal_lacks 10 (codes "one ") refl) (no_feed c short)
+no_feed_in_command (All c) short = both_lack (codes "all ") (decimal c) (literal_lacks 10 (codes "all ") refl) (no_feed c short)
+
+no_feed_in_line : (l : ScriptLine) → IsWritable l → Lacks 10 (line_spelling l)
+no_feed_in_line l writable =
+    both_lack (decimal l.worker) (codes " " ++ command_spelling l.command) (no_feed l.worker writable.worker)
+    (both_lack (codes " ") (command_spelling l.command) (literal_lacks 10 (codes " ") refl) (no_feed_in_command l.command writable.command))
+
+no_feed_in_header : (n c : ℕ) → n < 10 ^ 18 → c < 10 ^ 18 → Lacks 10 (header_spelling n c)
+no_feed_in_header n c small short =
+    both_lack (codes "workers ") (decimal n ++ (codes " " ++ decimal c)) (literal_lacks 10 (codes "workers ") refl) (two_numbers_lack n c small short)
+
+abbrev lines_text : List ScriptLine → List ℕ
+lines_text ls = flat_map (λ l. line_spelling l ++ codes "\n") ls
+
+lines_text-cons : (l : ScriptLine) (ls : List ScriptLine) → lines_text (l ∷ ls) ≡ line_spelling l ++ 10 ∷ lines_text ls
+lines_text-cons l ls = append_assoc (line_spelling l) (codes "\n") (lines_text ls)
+
+lines_are : (ls : List ScriptLine) → AreWritable ls → lines_of (lines_text ls) ≡ lines_spelling ls
+lines_are [] writable = refl
+lines_are (l ∷ ls) writable =
+    ap lines_of (lines_text-cons l ls) ∙ one_line (line_spelling l) (lines_text ls) (no_feed_in_line l writable.0)
+    ∙ ap (λ texts. line_spelling l ∷ texts) (lines_are ls writable.1)
+
+-- a whole script as it is written has its lines
+pub plan_is_spelled : (p : Plan) → IsWritablePlan p → is_past_limit (plan_spelling p) ≡ false → SpellsPlan (plan_spelling p) p
+plan_is_spelled p writable short =
+    let first = header_spelling p.workers p.conditions in
+    record {
+      short = short;
+      lines = one_line first (lines_text p.lines) (no_feed_in_header p.workers p.conditions writable.workers writable.conditions)
+          ∙ ap (λ texts. first ∷ texts) (lines_are p.lines writable.lines);
+      writable = writable;
+    }

@@ -1,0 +1,7 @@
+use Rattle.lfm_script.proofs.work_report.write_fault.Goals as goal
+
+pub returns-in-Syntax : goal.returns-in-Syntax
+returns-in-Syntax g c = rw c.in-Syntax.is c.write_fault_line.ensures
+
+pub returns-in-Limit : goal.returns-in-Limit
+returns-in-Limit g c = rw c.in-Limit.is c.write_fault_line-in-Limit.ensures

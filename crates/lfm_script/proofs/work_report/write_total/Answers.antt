@@ -1,0 +1,21 @@
+use Rattle.lfm_text.proofs.Writes.{part_one, part_two, part_three, part_four, wrote_four}
+use Rattle.lfm_script.proofs.work_report.write_total.Goals as goal
+
+pub returns-in_err-write_text : goal.returns-in_err-write_text
+returns-in_err-write_text g c =
+    part_one _ _ _ _ _ _ c.in_err-write_text.ensures c.from_residual.ensures.1
+
+pub returns-in_err-write_number : goal.returns-in_err-write_number
+returns-in_err-write_number g c =
+    part_two _ _ _ _ _ _ _ _ c.in_ok-write_text.ensures c.in_err-write_number.ensures c.from_residual-in_err-write_number.ensures.1
+
+pub returns-in_err-write_line_feed : goal.returns-in_err-write_line_feed
+returns-in_err-write_line_feed g c =
+    part_three _ _ _ _ _ _ _ _ _ _ c.in_ok-write_text.ensures c.in_ok-write_number.ensures c.in_err-write_line_feed.ensures c.from_residual-in_err-write_line_feed.ensures.1
+
+pub returns-in_err-write_lawful : goal.returns-in_err-write_lawful
+returns-in_err-write_lawful g c =
+    part_four _ _ _ _ _ _ _ _ _ _ _ _ c.in_ok-write_text.ensures c.in_ok-write_number.ensures c.in_ok-write_line_feed.ensures c.in_err-write_lawful.ensures c.from_residual-in_err-write_lawful.ensures.1
+
+pub returns : goal.returns
+returns g c = wrote_four _ _ _ _ _ _ _ _ _ c.in_ok-write_text.ensures c.in_ok-write_number.ensures c.in_ok-write_line_feed.ensures c.in_ok-write_lawful.ensures

@@ -1,0 +1,142 @@
+//! How a script is read from its bytes.
+
+ghost use Rattle.std.specs.Prelude.{◌≡◌, ◌<◌, true, length, IfOk, IsErrOf};
+ghost use Rattle.lfm_text.specs.Text.{lines_of, words_of, line_count, max_lines};
+ghost use Rattle.lfm_script.specs.script.Limits.{lines_allowed, header_allowed};
+ghost use Rattle.lfm_script.specs.script.Grammar.{short_command_of, until_of, line_of, header_of, lines_from, script_of, script_in, Gives};
+
+use crate::faults::WorkFault;
+use crate::script::limits::{are_lines_allowed, is_header_allowed};
+use crate::script::{Command, Script, ScriptLine};
+use lfm_text::{LineWords, count_lines, first_line, read_number, split_words};
+use std::alloc::Global;
+
+/// The command that one word and its number say.
+fn read_short_command(word: &[u8], number: u64) -> Option<Command>
+    ensures { result ≡ short_command_of word.now number }
+{
+    if word == b"add".as_slice() {
+        Some(Command::Add(number))
+    } else if word == b"one".as_slice() {
+        Some(Command::One(number))
+    } else if word == b"all".as_slice() {
+        Some(Command::All(number))
+    } else {
+        None
+    }
+}
+
+/// What four words say: a worker's `until`, its condition and its bound.
+fn read_until(worker: &[u8], word: &[u8], condition: &[u8], bound: &[u8]) -> Option<ScriptLine>
+    ensures { result ≡ until_of worker.now word.now condition.now bound.now }
+{
+    if word != b"until".as_slice() {
+        return None;
+    }
+    let worker = read_number(worker)?;
+    let condition = read_number(condition)?;
+    let bound = read_number(bound)?;
+    Some(ScriptLine {
+        worker,
+        command: Command::Until(condition, bound),
+    })
+}
+
+/// What a line after the first says. `None` where it is no line of a script.
+fn read_line(text: &[u8]) -> Option<ScriptLine>
+    ensures { result ≡ line_of (words_of text.now) }
+{
+    match split_words(text) {
+        LineWords::Three(worker, word, number) => {
+            let worker = read_number(worker)?;
+            let number = read_number(number)?;
+            let command = read_short_command(word, number)?;
+            Some(ScriptLine { worker, command })
+        }
+        LineWords::Four(worker, word, condition, bound) => {
+            read_until(worker, word, condition, bound)
+        }
+        LineWords::Two(_, _) | LineWords::Other => None,
+    }
+}
+
+/// The numbers of workers and conditions that the first line names. `None` where it is no such line.
+fn read_header(text: &[u8]) -> Option<(u64, u64)>
+    ensures { result ≡ header_of (words_of text.now) }
+{
+    let LineWords::Three(word, workers, conditions) = split_words(text) else {
+        return None;
+    };
+    if word != b"workers".as_slice() {
+        return None;
+    }
+    let workers = read_number(workers)?;
+    let conditions = read_number(conditions)?;
+    Some((workers, conditions))
+}
+
+/// What the `count` lines of a text say, of which the first has number 2, or the fault of the first that says nothing.
+/// Makes one request for memory, for all of them, before it reads them.
+fn read_lines(alloc: Global, text: &[u8], count: usize) -> Result<Vec<ScriptLine>, WorkFault>
+    requires counted { length (lines_of text.now) ≡ count }
+    requires few { count < max_lines }
+    ensures said { Gives (λ v. v.items) result (lines_from 2 (lines_of text.now)) }
+    ensures all { IfOk result (λ v. length v.items ≡ count) }
+    ensures memory { IsErrOf result WorkFault.Memory → 0 < count }
+{
+    let mut lines = Vec::with_capacity(alloc, count)?;
+    let mut rest = text;
+    let mut number = 2;
+    'reading: while let Some((line, after)) = first_line(rest) {
+        match read_line(line) {
+            Some(line) => lines.push_reserved(line),
+            None => return Err(WorkFault::Syntax(number)),
+        }
+        rest = after;
+        number += 1;
+    }
+    Ok(lines)
+}
+
+/// Reads a script from its bytes.
+///
+/// A text may have several faults. This one is returned:
+/// 1. Limit, where it is longer than 1,048,576 bytes or has more than 65,536 lines;
+/// 2. Syntax, where some line is none of a script, with the number of the first such line. The numbers begin at 1, and a
+///    text without lines has this fault in line 1;
+/// 3. Limit, where the number of workers is outside 1 to 4,095 or that of conditions is above 16, or where a line names a
+///    worker or a condition that is not there, or has a command add or wait for more than 1,000,000,000.
+///
+/// Makes one request for memory, for the lines after the first, and none where there are no such lines: Memory where it
+/// is refused, before those lines are read. Never Read, Write or Stuck.
+pub fn read_script(alloc: Global, text: &[u8]) -> Result<Script, WorkFault>
+    ensures exact { Gives script_of result (script_in text.now) }
+    // Memory comes only where there are lines to be kept.
+    ensures memory { IsErrOf result WorkFault.Memory → 1 < line_count text.now }
+
+    ensures few { IfOk result (λ s. length s.lines.items < max_lines) }
+    ensures header { IfOk result (λ s. header_allowed s.workers s.conditions ≡ true) }
+    ensures lines { IfOk result (λ s. lines_allowed s.workers s.conditions s.lines.items ≡ true) }
+{
+    let Some(count) = count_lines(text) else {
+        return Err(WorkFault::Limit);
+    };
+    let Some((first, rest)) = first_line(text) else {
+        return Err(WorkFault::Syntax(1));
+    };
+    let Some((workers, conditions)) = read_header(first) else {
+        return Err(WorkFault::Syntax(1));
+    };
+    let lines = read_lines(alloc, rest, count - 1)?;
+    if !is_header_allowed(workers, conditions) {
+        return Err(WorkFault::Limit);
+    }
+    if !are_lines_allowed(workers, conditions, &lines) {
+        return Err(WorkFault::Limit);
+    }
+    Ok(Script {
+        workers,
+        conditions,
+        lines,
+    })
+}

@@ -1,5 +1,5 @@
 //! Texts that are no scripts: which fault is answered.
-use lfm_program::{WorkFault, read_script};
+use lfm_script::{WorkFault, read_script};
 use std::alloc::{AllocError, Global};
 
 /// The fault of a text, where it has one.

@@ -1,6 +1,6 @@
 //! The calls that ask for memory. Each test whose name contains `memory` passes also where a request was refused: a script
 //! lets each single request of these tests fail in turn.
-use lfm_program::{Command, ScriptLine, WorkFault, commands_by_worker, read_script};
+use lfm_script::{Command, ScriptLine, WorkFault, commands_by_worker, read_script};
 
 #[test]
 fn script_and_memory(rt: HostRuntime) {

@@ -1,5 +1,5 @@
 //! Scripts that are made by chance, written and read back.
-use lfm_program::{Command, MAX_NUMBER, Script, ScriptLine, commands_by_worker, read_script};
+use lfm_script::{Command, MAX_NUMBER, Script, ScriptLine, commands_by_worker, read_script};
 use std::alloc::{AllocError, Global};
 use std::test::Fail;
 

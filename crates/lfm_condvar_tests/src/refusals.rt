@@ -9,6 +9,7 @@ use crate::places::last_cond_seat;
 use lfm_condvar::{CondSeat, Condvar};
 use lfm_model::{Asked, How, Refusal, SeatNo, Unlocked};
 use lfm_mutex::{Holder, Mutex, Seat};
+use std::process::Abort;
 use std::sync::Wait;
 use std::test::Fail;
 
@@ -99,6 +100,243 @@ fn closed(condvar: Condvar, cond: CondSeat, mut room: Vec<CondSeat>) -> Option<(
     condvar.close(room).ok()
 }
 
+/// `ask`. Of its contract the steps below need that the seat stays one of the mutex's, and no more.
+fn ask(mutex: &Mutex<u64>, seat: &mut Seat<u64>) -> Result<Asked, Refusal>
+    requires { Of_mutex seat.old mutex.now }
+    ensures { Of_mutex seat.new mutex.now }
+{
+    mutex.ask(seat)
+}
+
+/// `try_receive`, with as little of its contract.
+fn receive(mutex: &Mutex<u64>, seat: &mut Seat<u64>) -> Result<Option<How>, Refusal>
+    requires { Of_mutex seat.old mutex.now }
+    ensures { Of_mutex seat.new mutex.now }
+{
+    mutex.try_receive(seat)
+}
+
+/// `unlock`, with as little of its contract.
+fn unlock(mutex: &Mutex<u64>, seat: &mut Seat<u64>) -> Result<Unlocked, Refusal>
+    requires { Of_mutex seat.old mutex.now }
+    ensures { Of_mutex seat.new mutex.now }
+{
+    mutex.unlock(seat)
+}
+
+/// `wake_one`, with as little of its contract.
+fn wake_one<R: Wait>(
+    rt: &R,
+    condvar: &Condvar,
+    cond: &mut CondSeat,
+    mutex: &Mutex<u64>,
+    seat: &mut Seat<u64>,
+) -> Result<Option<(SeatNo, u64)>, Refusal>
+    requires seat { Of_mutex seat.old mutex.now }
+    requires cond { Of_condvar cond.old condvar.now }
+    requires wide { (cond_limits condvar.now).seats ≤ (limits_of mutex.now).seats }
+    ensures seat { Of_mutex seat.new mutex.now }
+    ensures cond { Of_condvar cond.new condvar.now }
+{
+    condvar.wake_one(rt, cond, mutex, seat)
+}
+
+/// The cond seat gives its one take for a wake of nobody, and then has none left.
+fn wakes_of_a_spent_cond_seat_are_refused<R: Wait + Abort>(
+    rt: &R,
+    spent: &Condvar,
+    cond: &mut CondSeat,
+    mutex: &Mutex<u64>,
+    seat: &mut Seat<u64>,
+)
+    requires seat { Of_mutex seat.old mutex.now }
+    requires cond { Of_condvar cond.old spent.now }
+    requires wide { (cond_limits spent.now).seats ≤ (limits_of mutex.now).seats }
+    ensures seat { Of_mutex seat.new mutex.now }
+    ensures cond { Of_condvar cond.new spent.now }
+{
+    assert_eq!(*rt; wake_one(rt, spent, cond, mutex, seat), Ok(None));
+    assert_eq!(*rt; wake(rt, spent, cond, mutex, seat), Some(Refusal::Spent));
+}
+
+/// Why the waits of a user seat are refused: with the cond seat that has its take, and with the one that is spent.
+fn waits<R: Wait>(
+    rt: &R,
+    able: &Condvar,
+    x: &mut CondSeat,
+    spent: &Condvar,
+    z: &mut CondSeat,
+    mutex: &Mutex<u64>,
+    seat: &mut Seat<u64>,
+) -> (Option<Refusal>, Option<Refusal>)
+    requires seat { Of_mutex seat.old mutex.now }
+    requires x { Of_condvar x.old able.now }
+    requires z { Of_condvar z.old spent.now }
+    ensures seat { Of_mutex seat.new mutex.now }
+    ensures x { Of_condvar x.new able.now }
+    ensures z { Of_condvar z.new spent.now }
+{
+    let with_able = wait(rt, able, x, mutex, seat);
+    (with_able, wait(rt, spent, z, mutex, seat))
+}
+
+/// Why the wakes of a user seat are refused: with the cond seat that has its take, and with the one that is spent.
+fn wakes<R: Wait>(
+    rt: &R,
+    able: &Condvar,
+    x: &mut CondSeat,
+    spent: &Condvar,
+    z: &mut CondSeat,
+    mutex: &Mutex<u64>,
+    seat: &mut Seat<u64>,
+) -> (Option<Refusal>, Option<Refusal>)
+    requires seat { Of_mutex seat.old mutex.now }
+    requires x { Of_condvar x.old able.now }
+    requires z { Of_condvar z.old spent.now }
+    requires wide { ((cond_limits able.now).seats ≤ (limits_of mutex.now).seats) × ((cond_limits spent.now).seats ≤ (limits_of mutex.now).seats) }
+    ensures seat { Of_mutex seat.new mutex.now }
+    ensures x { Of_condvar x.new able.now }
+    ensures z { Of_condvar z.new spent.now }
+{
+    let with_able = wake(rt, able, x, mutex, seat);
+    (with_able, wake(rt, spent, z, mutex, seat))
+}
+
+/// The first seat holds and the second falls asleep, whose calls are refused for that, whatever cond seat they have.
+fn calls_of_a_sleeping_seat_are_refused<R: Wait + Abort>(
+    rt: &R,
+    able: &Condvar,
+    x: &mut CondSeat,
+    spent: &Condvar,
+    z: &mut CondSeat,
+    mutex: &Mutex<u64>,
+    first: &mut Seat<u64>,
+    second: &mut Seat<u64>,
+)
+    requires first { Of_mutex first.old mutex.now }
+    requires second { Of_mutex second.old mutex.now }
+    requires x { Of_condvar x.old able.now }
+    requires z { Of_condvar z.old spent.now }
+    requires wide { ((cond_limits able.now).seats ≤ (limits_of mutex.now).seats) × ((cond_limits spent.now).seats ≤ (limits_of mutex.now).seats) }
+    ensures first { Of_mutex first.new mutex.now }
+    ensures second { Of_mutex second.new mutex.now }
+    ensures x { Of_condvar x.new able.now }
+    ensures z { Of_condvar z.new spent.now }
+{
+    assert_eq!(*rt; ask(mutex, first), Ok(Asked::Held(How::Free)));
+    assert_eq!(*rt; ask(mutex, second), Ok(Asked::Asleep));
+    let asleep = (Some(Refusal::Asleep), Some(Refusal::Asleep));
+    assert_eq!(*rt; waits(rt, able, x, spent, z, mutex, second), asleep);
+    assert_eq!(*rt; wakes(rt, able, x, spent, z, mutex, second), asleep);
+}
+
+/// The seat holds once and then twice. It gives both holds up to the second seat.
+fn nested_waits_are_refused<R: Wait + Abort>(
+    rt: &R,
+    able: &Condvar,
+    x: &mut CondSeat,
+    spent: &Condvar,
+    z: &mut CondSeat,
+    mutex: &Mutex<u64>,
+    seat: &mut Seat<u64>,
+)
+    requires seat { Of_mutex seat.old mutex.now }
+    requires x { Of_condvar x.old able.now }
+    requires z { Of_condvar z.old spent.now }
+    ensures seat { Of_mutex seat.new mutex.now }
+    ensures x { Of_condvar x.new able.now }
+    ensures z { Of_condvar z.new spent.now }
+{
+    assert_eq!(*rt; wait(rt, spent, z, mutex, seat), Some(Refusal::Spent));
+    assert_eq!(*rt; ask(mutex, seat), Ok(Asked::Again(2)));
+    let nested = (Some(Refusal::Nested), Some(Refusal::Nested));
+    assert_eq!(*rt; waits(rt, able, x, spent, z, mutex, seat), nested);
+    assert_eq!(*rt; unlock(mutex, seat), Ok(Unlocked::Still(1)));
+    assert_eq!(*rt;
+        unlock(mutex, seat),
+        Ok(Unlocked::Granted(SeatNo::known(2)))
+    );
+}
+
+/// The second seat holds, whose number is above the condvars' seats.
+fn waits_above_the_seats_of_a_condvar_are_refused<R: Wait + Abort>(
+    rt: &R,
+    able: &Condvar,
+    x: &mut CondSeat,
+    spent: &Condvar,
+    z: &mut CondSeat,
+    mutex: &Mutex<u64>,
+    second: &mut Seat<u64>,
+)
+    requires second { Of_mutex second.old mutex.now }
+    requires x { Of_condvar x.old able.now }
+    requires z { Of_condvar z.old spent.now }
+    ensures second { Of_mutex second.new mutex.now }
+    ensures x { Of_condvar x.new able.now }
+    ensures z { Of_condvar z.new spent.now }
+{
+    assert_eq!(*rt; receive(mutex, second), Ok(Some(How::Queued(1))));
+    assert_eq!(*rt;
+        waits(rt, able, x, spent, z, mutex, second),
+        (Some(Refusal::NoSuchSeat), Some(Refusal::Spent))
+    );
+    assert_eq!(*rt; unlock(mutex, second), Ok(Unlocked::Free));
+}
+
+/// The seat makes its last take, and could not make the one that ends a wait.
+fn waits_at_the_last_take_are_refused<R: Wait + Abort>(
+    rt: &R,
+    able: &Condvar,
+    x: &mut CondSeat,
+    mutex: &Mutex<u64>,
+    seat: &mut Seat<u64>,
+)
+    requires seat { Of_mutex seat.old mutex.now }
+    requires x { Of_condvar x.old able.now }
+    ensures seat { Of_mutex seat.new mutex.now }
+    ensures x { Of_condvar x.new able.now }
+{
+    assert_eq!(*rt; ask(mutex, seat), Ok(Asked::Held(How::Free)));
+    assert_eq!(*rt; wait(rt, able, x, mutex, seat), Some(Refusal::Spent));
+    assert_eq!(*rt; unlock(mutex, seat), Ok(Unlocked::Free));
+}
+
+/// The refusals in the order of their causes.
+fn refusals_step_by_step<R: Wait + Abort>(
+    rt: &R,
+    able: &Condvar,
+    x: &mut CondSeat,
+    spent: &Condvar,
+    z: &mut CondSeat,
+    mutex: &Mutex<u64>,
+    first: &mut Seat<u64>,
+    second: &mut Seat<u64>,
+)
+    requires first { Of_mutex first.old mutex.now }
+    requires second { Of_mutex second.old mutex.now }
+    requires x { Of_condvar x.old able.now }
+    requires z { Of_condvar z.old spent.now }
+    requires wide { ((cond_limits able.now).seats ≤ (limits_of mutex.now).seats) × ((cond_limits spent.now).seats ≤ (limits_of mutex.now).seats) }
+    ensures first { Of_mutex first.new mutex.now }
+    ensures second { Of_mutex second.new mutex.now }
+    ensures x { Of_condvar x.new able.now }
+    ensures z { Of_condvar z.new spent.now }
+{
+    wakes_of_a_spent_cond_seat_are_refused(rt, spent, z, mutex, first);
+    // it doesn't hold, and so would find the cond seat spent
+    let not_owner = Some(Refusal::NotOwner);
+    assert_eq!(*rt;
+        waits(rt, able, x, spent, z, mutex, first),
+        (not_owner, not_owner)
+    );
+    calls_of_a_sleeping_seat_are_refused(rt, able, x, spent, z, mutex, first, second);
+    nested_waits_are_refused(rt, able, x, spent, z, mutex, first);
+    waits_above_the_seats_of_a_condvar_are_refused(rt, able, x, spent, z, mutex, second);
+    waits_at_the_last_take_are_refused(rt, able, x, mutex, first);
+    assert_eq!(*rt; wait(rt, able, x, mutex, first), not_owner);
+    waits_at_the_last_take_are_refused(rt, able, x, mutex, second);
+}
+
 #[test]
 fn refusals_in_order(rt: HostRuntime) -> Result<(), Fail> {
     // two seats for two takes each, and two condvars for user seat 1 alone: one whose cond seat has its take, and one whose
@@ -109,84 +347,16 @@ fn refusals_in_order(rt: HostRuntime) -> Result<(), Fail> {
     let (mut first, mut second) = two_seats(&mutex, seats).ok_or("two seats")?;
     let mut x = last_cond_seat(&able, &mut able_seats).ok_or("a cond seat")?;
     let mut z = last_cond_seat(&spent, &mut spent_seats).ok_or("a cond seat")?;
-    let (r, m) = (&rt, &mutex);
-    assert_eq!(rt; spent.wake_one(r, &mut z, m, &mut first), Ok(None));
-    assert_eq!(rt;
-        wake(r, &spent, &mut z, m, &mut first),
-        Some(Refusal::Spent)
+    refusals_step_by_step(
+        &rt,
+        &able,
+        &mut x,
+        &spent,
+        &mut z,
+        &mutex,
+        &mut first,
+        &mut second,
     );
-    // it doesn't hold, and so would find the cond seat spent
-    assert_eq!(rt;
-        wait(r, &able, &mut x, m, &mut first),
-        Some(Refusal::NotOwner)
-    );
-    assert_eq!(rt;
-        wait(r, &spent, &mut z, m, &mut first),
-        Some(Refusal::NotOwner)
-    );
-    // seat 2 sleeps
-    assert_eq!(rt; m.ask(&mut first), Ok(Asked::Held(How::Free)));
-    assert_eq!(rt; m.ask(&mut second), Ok(Asked::Asleep));
-    assert_eq!(rt;
-        wait(r, &able, &mut x, m, &mut second),
-        Some(Refusal::Asleep)
-    );
-    assert_eq!(rt;
-        wait(r, &spent, &mut z, m, &mut second),
-        Some(Refusal::Asleep)
-    );
-    assert_eq!(rt;
-        wake(r, &able, &mut x, m, &mut second),
-        Some(Refusal::Asleep)
-    );
-    assert_eq!(rt;
-        wake(r, &spent, &mut z, m, &mut second),
-        Some(Refusal::Asleep)
-    );
-    // seat 1 holds, once and twice
-    assert_eq!(rt;
-        wait(r, &spent, &mut z, m, &mut first),
-        Some(Refusal::Spent)
-    );
-    assert_eq!(rt; m.ask(&mut first), Ok(Asked::Again(2)));
-    assert_eq!(rt;
-        wait(r, &able, &mut x, m, &mut first),
-        Some(Refusal::Nested)
-    );
-    assert_eq!(rt;
-        wait(r, &spent, &mut z, m, &mut first),
-        Some(Refusal::Nested)
-    );
-    assert_eq!(rt; m.unlock(&mut first), Ok(Unlocked::Still(1)));
-    assert_eq!(rt;
-        m.unlock(&mut first),
-        Ok(Unlocked::Granted(SeatNo::known(2)))
-    );
-    // seat 2 holds, which is above the condvars' seats
-    assert_eq!(rt; m.try_receive(&mut second), Ok(Some(How::Queued(1))));
-    assert_eq!(rt;
-        wait(r, &able, &mut x, m, &mut second),
-        Some(Refusal::NoSuchSeat)
-    );
-    assert_eq!(rt;
-        wait(r, &spent, &mut z, m, &mut second),
-        Some(Refusal::Spent)
-    );
-    assert_eq!(rt; m.unlock(&mut second), Ok(Unlocked::Free));
-    // their last takes
-    assert_eq!(rt; m.ask(&mut first), Ok(Asked::Held(How::Free)));
-    assert_eq!(rt; wait(r, &able, &mut x, m, &mut first), Some(Refusal::Spent));
-    assert_eq!(rt; m.unlock(&mut first), Ok(Unlocked::Free));
-    assert_eq!(rt;
-        wait(r, &able, &mut x, m, &mut first),
-        Some(Refusal::NotOwner)
-    );
-    assert_eq!(rt; m.ask(&mut second), Ok(Asked::Held(How::Free)));
-    assert_eq!(rt;
-        wait(r, &able, &mut x, m, &mut second),
-        Some(Refusal::Spent)
-    );
-    assert_eq!(rt; m.unlock(&mut second), Ok(Unlocked::Free));
     assert_eq!(rt; closed(able, x, Vec::new(rt.alloc())), Some((0, 0)));
     assert_eq!(rt; closed(spent, z, Vec::new(rt.alloc())), Some((0, 0)));
     Ok(())

@@ -2,8 +2,9 @@
 ghost use Rattle.std.specs.Prelude.{All, IfOk};
 ghost use Rattle.lfm_condvar_tests.specs.Places.{Of_shared};
 
-use crate::places::{Place, Shared, Side, add_one};
+use crate::places::{Left, Place, Shared, Side, add_one};
 use std::alloc::AllocError;
+use std::process::Abort;
 use std::sync::Wait;
 use std::test::Fail;
 use std::thread;
@@ -114,17 +115,27 @@ fn woken(places: &[Place]) -> Option<(u64, u64)> {
     None
 }
 
+/// The first wake met all, the second nobody, and each ticket was one place's, in its turn.
+fn each_was_woken_once<R: Abort>(rt: &R, places: &[Place]) {
+    assert_eq!(*rt; woken(places), Some((WAITERS, 0)));
+    for ticket in 1..=WAITERS {
+        assert_eq!(*rt; times(places, ticket), 1, "ticket {ticket}");
+    }
+}
+
+/// All added to the number twice, and each condvar sent as many as it had added.
+fn all_were_sent<R: Abort>(rt: &R, left: &Left) {
+    assert_eq!(*rt; left.number, 2 * WAITERS);
+    assert_eq!(*rt; left.first, (WAITERS, WAITERS));
+    assert_eq!(*rt; left.second.0, left.second.1);
+}
+
 #[test]
 fn all_who_wait_are_woken_once(rt: HostRuntime) -> Result<(), Fail> {
     let (shared, places) = Shared::new(rt.alloc(), WAITERS + 1).ok_or("places")?;
     let places = take_parts(&rt, &shared, places)?;
-    assert_eq!(rt; woken(&places), Some((WAITERS, 0)));
-    for ticket in 1..=WAITERS {
-        assert_eq!(rt; times(&places, ticket), 1, "ticket {ticket}");
-    }
+    each_was_woken_once(&rt, &places);
     let left = shared.close(rt.alloc(), places).ok_or("all are back")?;
-    assert_eq!(rt; left.number, 2 * WAITERS);
-    assert_eq!(rt; left.first, (WAITERS, WAITERS));
-    assert_eq!(rt; left.second.0, left.second.1);
+    all_were_sent(&rt, &left);
     Ok(())
 }

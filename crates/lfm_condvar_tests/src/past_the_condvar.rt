@@ -4,8 +4,9 @@ ghost use Rattle.lfm_condvar.specs.Belongs.{Of_condvar};
 
 use crate::pairs::{closed, two_cond_seats, two_seats};
 use lfm_condvar::{CondSeat, Condvar};
-use lfm_model::{Refusal, SeatNo};
+use lfm_model::{How, Refusal, SeatNo};
 use lfm_mutex::{Mutex, Seat};
+use std::process::Abort;
 use std::sync::Wait;
 use std::test::Fail;
 use std::thread::join;
@@ -29,6 +30,22 @@ struct Sent {
     only_not_waiting: bool,
 }
 
+/// `wait`. Of its contract `wait_twice` needs that the seats stay those of the mutex and the condvar, and no more.
+fn wait<R: Wait>(
+    rt: &R,
+    condvar: &Condvar,
+    cond: &mut CondSeat,
+    mutex: &Mutex<u64>,
+    seat: &mut Seat<u64>,
+) -> Result<(How, u64), Refusal>
+    requires seat { Of_mutex seat.old mutex.now }
+    requires cond { Of_condvar cond.old condvar.now }
+    ensures seat { Of_mutex seat.new mutex.now }
+    ensures cond { Of_condvar cond.new condvar.now }
+{
+    condvar.wait(rt, cond, mutex, seat)
+}
+
 /// Waits twice.
 fn wait_twice<R: Wait>(
     rt: &R,
@@ -43,12 +60,12 @@ fn wait_twice<R: Wait>(
     ensures cond { Of_condvar result.cond condvar.now }
 {
     let _ = mutex.lock(rt, &mut seat);
-    let ticket = match condvar.wait(rt, &mut cond, mutex, &mut seat) {
+    let ticket = match wait(rt, condvar, &mut cond, mutex, &mut seat) {
         Ok((_, ticket)) => Some(ticket),
         Err(_) => None,
     };
     let busy = matches!(
-        condvar.wait(rt, &mut cond, mutex, &mut seat),
+        wait(rt, condvar, &mut cond, mutex, &mut seat),
         Err(Refusal::Busy)
     );
     let _ = mutex.unlock(&mut seat);
@@ -83,6 +100,14 @@ fn send_the_other(mutex: &Mutex<u64>, mut seat: Seat<u64>) -> Sent
     }
 }
 
+/// The send ended the first wait, and its place in the list stood in the way of the second.
+fn the_first_wait_was_sent<R: Abort>(rt: &R, waited: &Waited, sent: &Sent) {
+    assert!(*rt; sent.sent);
+    assert!(*rt; sent.only_not_waiting);
+    assert_eq!(*rt; waited.ticket, Some(1));
+    assert!(*rt; waited.busy);
+}
+
 #[test]
 fn a_send_past_the_condvar(rt: HostRuntime) -> Result<(), Fail> {
     let (mutex, seats) = Mutex::new(rt.alloc(), 2, 8, 0u64)?;
@@ -101,10 +126,7 @@ fn a_send_past_the_condvar(rt: HostRuntime) -> Result<(), Fail> {
             ensures { Of_mutex result.seat m.entry.now }
         { send_the_other(m, seat_2) },
     );
-    assert!(rt; sent.sent);
-    assert!(rt; sent.only_not_waiting);
-    assert_eq!(rt; waited.ticket, Some(1));
-    assert!(rt; waited.busy);
+    the_first_wait_was_sent(&rt, &waited, &sent);
     let woke = condvar.wake_one(&rt, &mut cond_2, &mutex, &mut sent.seat);
     assert!(rt; matches!(woke, Err(Refusal::NotWaiting)));
     let numbers = closed(condvar, waited.cond, cond_2, Vec::new(rt.alloc()));

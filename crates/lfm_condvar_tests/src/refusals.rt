@@ -193,7 +193,8 @@ fn wakes<R: Wait>(
     requires seat { Of_mutex seat.old mutex.now }
     requires x { Of_condvar x.old able.now }
     requires z { Of_condvar z.old spent.now }
-    requires wide { ((cond_limits able.now).seats ≤ (limits_of mutex.now).seats) × ((cond_limits spent.now).seats ≤ (limits_of mutex.now).seats) }
+    requires wide_able { (cond_limits able.now).seats ≤ (limits_of mutex.now).seats }
+    requires wide_spent { (cond_limits spent.now).seats ≤ (limits_of mutex.now).seats }
     ensures seat { Of_mutex seat.new mutex.now }
     ensures x { Of_condvar x.new able.now }
     ensures z { Of_condvar z.new spent.now }
@@ -217,7 +218,8 @@ fn calls_of_a_sleeping_seat_are_refused<R: Wait + Abort>(
     requires second { Of_mutex second.old mutex.now }
     requires x { Of_condvar x.old able.now }
     requires z { Of_condvar z.old spent.now }
-    requires wide { ((cond_limits able.now).seats ≤ (limits_of mutex.now).seats) × ((cond_limits spent.now).seats ≤ (limits_of mutex.now).seats) }
+    requires wide_able { (cond_limits able.now).seats ≤ (limits_of mutex.now).seats }
+    requires wide_spent { (cond_limits spent.now).seats ≤ (limits_of mutex.now).seats }
     ensures first { Of_mutex first.new mutex.now }
     ensures second { Of_mutex second.new mutex.now }
     ensures x { Of_condvar x.new able.now }
@@ -316,7 +318,8 @@ fn refusals_step_by_step<R: Wait + Abort>(
     requires second { Of_mutex second.old mutex.now }
     requires x { Of_condvar x.old able.now }
     requires z { Of_condvar z.old spent.now }
-    requires wide { ((cond_limits able.now).seats ≤ (limits_of mutex.now).seats) × ((cond_limits spent.now).seats ≤ (limits_of mutex.now).seats) }
+    requires wide_able { (cond_limits able.now).seats ≤ (limits_of mutex.now).seats }
+    requires wide_spent { (cond_limits spent.now).seats ≤ (limits_of mutex.now).seats }
     ensures first { Of_mutex first.new mutex.now }
     ensures second { Of_mutex second.new mutex.now }
     ensures x { Of_condvar x.new able.now }

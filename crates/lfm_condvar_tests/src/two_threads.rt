@@ -5,8 +5,9 @@ ghost use Rattle.lfm_condvar.specs.Belongs.{Of_condvar, cond_limits};
 
 use crate::pairs::{closed, two_cond_seats, two_seats};
 use lfm_condvar::{CondSeat, Condvar};
-use lfm_model::{Refusal, SeatNo};
+use lfm_model::{How, Refusal, SeatNo};
 use lfm_mutex::{Mutex, Seat};
+use std::process::Abort;
 use std::sync::Wait;
 use std::test::Fail;
 use std::thread::join;
@@ -53,6 +54,56 @@ fn read<R: Wait>(rt: &R, mutex: &Mutex<bool>, seat: &mut Seat<bool>) -> bool
     value
 }
 
+/// `wait`. Of its contract the threads need that the seats stay those of the mutex and the condvar, and no more.
+fn wait<R: Wait>(
+    rt: &R,
+    condvar: &Condvar,
+    cond: &mut CondSeat,
+    mutex: &Mutex<bool>,
+    seat: &mut Seat<bool>,
+) -> Result<(How, u64), Refusal>
+    requires seat { Of_mutex seat.old mutex.now }
+    requires cond { Of_condvar cond.old condvar.now }
+    ensures seat { Of_mutex seat.new mutex.now }
+    ensures cond { Of_condvar cond.new condvar.now }
+{
+    condvar.wait(rt, cond, mutex, seat)
+}
+
+/// `wake_one`, with as little of its contract.
+fn wake_one<R: Wait>(
+    rt: &R,
+    condvar: &Condvar,
+    cond: &mut CondSeat,
+    mutex: &Mutex<bool>,
+    seat: &mut Seat<bool>,
+) -> Result<Option<(SeatNo, u64)>, Refusal>
+    requires seat { Of_mutex seat.old mutex.now }
+    requires cond { Of_condvar cond.old condvar.now }
+    requires wide { (cond_limits condvar.now).seats ≤ (limits_of mutex.now).seats }
+    ensures seat { Of_mutex seat.new mutex.now }
+    ensures cond { Of_condvar cond.new condvar.now }
+{
+    condvar.wake_one(rt, cond, mutex, seat)
+}
+
+/// `wake_all`, with as little of its contract.
+fn wake_all<R: Wait>(
+    rt: &R,
+    condvar: &Condvar,
+    cond: &mut CondSeat,
+    mutex: &Mutex<bool>,
+    seat: &mut Seat<bool>,
+) -> Result<u64, Refusal>
+    requires seat { Of_mutex seat.old mutex.now }
+    requires cond { Of_condvar cond.old condvar.now }
+    requires wide { (cond_limits condvar.now).seats ≤ (limits_of mutex.now).seats }
+    ensures seat { Of_mutex seat.new mutex.now }
+    ensures cond { Of_condvar cond.new condvar.now }
+{
+    condvar.wake_all(rt, cond, mutex, seat)
+}
+
 /// Sets the value, and waits.
 fn set_and_wait<R: Wait>(
     rt: &R,
@@ -68,7 +119,7 @@ fn set_and_wait<R: Wait>(
 {
     let _ = mutex.lock(rt, &mut seat);
     set(&mut seat);
-    let ticket = match condvar.wait(rt, &mut cond, mutex, &mut seat) {
+    let ticket = match wait(rt, condvar, &mut cond, mutex, &mut seat) {
         Ok((_, ticket)) => Some(ticket),
         Err(_) => None,
     };
@@ -101,13 +152,12 @@ fn read_and_wake<R: Wait>(
             break;
         }
     }
-    let first = condvar
-        .wake_one(rt, &mut cond, mutex, &mut seat)
+    let first = wake_one(rt, condvar, &mut cond, mutex, &mut seat)
         .ok()
         .flatten();
-    let none = matches!(condvar.wake_one(rt, &mut cond, mutex, &mut seat), Ok(None));
+    let none = matches!(wake_one(rt, condvar, &mut cond, mutex, &mut seat), Ok(None));
     let spent = matches!(
-        condvar.wake_one(rt, &mut cond, mutex, &mut seat),
+        wake_one(rt, condvar, &mut cond, mutex, &mut seat),
         Err(Refusal::Spent)
     );
     Woke {
@@ -133,10 +183,19 @@ fn alone<R: Wait>(
     ensures seat { Of_mutex seat.new mutex.now }
     ensures cond { Of_condvar cond.new condvar.now }
 {
-    let one = matches!(condvar.wake_one(rt, cond, mutex, seat), Ok(None));
-    let all = matches!(condvar.wake_all(rt, cond, mutex, seat), Ok(0));
-    let refused = matches!(condvar.wait(rt, cond, mutex, seat), Err(Refusal::NotOwner));
+    let one = matches!(wake_one(rt, condvar, cond, mutex, seat), Ok(None));
+    let all = matches!(wake_all(rt, condvar, cond, mutex, seat), Ok(0));
+    let refused = matches!(wait(rt, condvar, cond, mutex, seat), Err(Refusal::NotOwner));
     one && all && refused
+}
+
+/// The first wake met the wait, the second met nobody, and the third was refused.
+fn one_wake_ended_the_wait<R: Abort>(rt: &R, woke: &Woke, waited: &Waited) {
+    assert_eq!(*rt; woke.first, Some((SeatNo::known(2), 1)));
+    assert!(*rt; woke.none);
+    assert!(*rt; woke.spent);
+    assert_eq!(*rt; waited.ticket, Some(1));
+    assert_eq!(*rt; waited.depth, 1);
 }
 
 #[test]
@@ -158,11 +217,7 @@ fn a_condition_variable(rt: HostRuntime) -> Result<(), Fail> {
             ensures { Of_mutex result.seat m.entry.now × Of_condvar result.cond v.entry.now }
         { set_and_wait(r, m, v, seat_2, cond_2) },
     );
-    assert_eq!(rt; woke.first, Some((SeatNo::known(2), 1)));
-    assert!(rt; woke.none);
-    assert!(rt; woke.spent);
-    assert_eq!(rt; waited.ticket, Some(1));
-    assert_eq!(rt; waited.depth, 1);
+    one_wake_ended_the_wait(&rt, &woke, &waited);
     let numbers = closed(condvar, woke.cond, waited.cond, Vec::new(rt.alloc()));
     assert_eq!(rt; numbers, Some((1, 1)));
     Ok(())

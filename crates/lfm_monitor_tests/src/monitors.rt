@@ -1,14 +1,19 @@
 //! The monitor, called by one thread that holds all its passes, and its limits.
 ghost use Rattle.lfm_monitor.specs.Belongs.{Of_monitor};
+ghost use Rattle.lfm_monitor_tests.specs.Ours.{Ours};
 ghost use Rattle.std.specs.Prelude.{◌≡◌, ℕ, [], IfSome};
 ghost use lib.ListN.{get_elem?};
 ghost use mathlib.Core.Option.{some};
 
+use crate::calls::{apply, ask, enter, leave, try_enter, try_receive};
 use lfm_model::{
     Asked, Entry, How, Locked, Missing, NewFault, Refusal, SeatNo, Total, TotalOp, Unlocked, What,
     lawful, replay,
 };
 use lfm_monitor::{MAX_CONDITIONS, Monitor, Pass};
+use std::alloc::Global;
+use std::process::Abort;
+use std::sync::Wait;
 use std::test::Fail;
 
 /// The two passes of a monitor that has two.
@@ -103,6 +108,70 @@ fn written() -> [Entry<TotalOp>; 6] {
     ]
 }
 
+/// The first pass holds and adds 5, and leaves the second to hold, which asked.
+fn the_first_pass_adds<R: Abort>(
+    rt: &R,
+    monitor: &Monitor<Total>,
+    first: &mut Pass<Total>,
+    second: &mut Pass<Total>,
+)
+    requires first { Ours first.old monitor.now }
+    requires second { Ours second.old monitor.now }
+    ensures first { Ours first.new monitor.now }
+    ensures second { Ours second.new monitor.now }
+{
+    assert_eq!(*rt; ask(monitor, first), Ok(Asked::Held(How::Free)));
+    assert_eq!(*rt; ask(monitor, second), Ok(Asked::Asleep));
+    assert_eq!(*rt; apply(monitor, first, TotalOp::Add(5)), Ok(5));
+    assert_eq!(*rt;
+        leave(monitor, first),
+        Ok(Unlocked::Granted(SeatNo::known(2)))
+    );
+}
+
+/// The second pass adds 7, and leaves the first to hold, which asked again.
+fn the_second_pass_adds<R: Abort>(
+    rt: &R,
+    monitor: &Monitor<Total>,
+    first: &mut Pass<Total>,
+    second: &mut Pass<Total>,
+)
+    requires first { Ours first.old monitor.now }
+    requires second { Ours second.old monitor.now }
+    ensures first { Ours first.new monitor.now }
+    ensures second { Ours second.new monitor.now }
+{
+    assert_eq!(*rt; ask(monitor, first), Ok(Asked::Asleep));
+    assert_eq!(*rt; try_receive(monitor, second), Ok(Some(How::Queued(1))));
+    assert_eq!(*rt; apply(monitor, second, TotalOp::Add(7)), Ok(12));
+    assert_eq!(*rt;
+        leave(monitor, second),
+        Ok(Unlocked::Granted(SeatNo::known(1)))
+    );
+}
+
+/// The first pass reads the total that both came to.
+fn the_first_pass_reads<R: Abort>(rt: &R, monitor: &Monitor<Total>, pass: &mut Pass<Total>)
+    requires { Ours pass.old monitor.now }
+    ensures { Ours pass.new monitor.now }
+{
+    assert_eq!(*rt; try_receive(monitor, pass), Ok(Some(How::Queued(2))));
+    assert_eq!(*rt; pass.depth(), 1);
+    assert_eq!(*rt; apply(monitor, pass, TotalOp::Read), Ok(12));
+    assert_eq!(*rt; leave(monitor, pass), Ok(Unlocked::Free));
+}
+
+/// The one entry of the pass goes to its take, so it may write no op, and not enter again.
+fn the_one_entry_is_spent<R: Wait + Abort>(rt: &R, monitor: &Monitor<Total>, pass: &mut Pass<Total>)
+    requires { Ours pass.old monitor.now }
+    ensures { Ours pass.new monitor.now }
+{
+    assert_eq!(*rt; try_enter(monitor, pass), Ok(Locked::Held(How::Free)));
+    assert_eq!(*rt; apply(monitor, pass, TotalOp::Read), Err(Refusal::Spent));
+    assert_eq!(*rt; leave(monitor, pass), Ok(Unlocked::Free));
+    assert_eq!(*rt; enter(rt, monitor, pass), Err(Refusal::Spent));
+}
+
 #[test]
 fn a_monitor_in_one_thread(rt: HostRuntime) -> Result<(), Fail> {
     let (monitor, passes) = Monitor::new(rt.alloc(), 2, 8, 0, Total(0))?;
@@ -110,24 +179,9 @@ fn a_monitor_in_one_thread(rt: HostRuntime) -> Result<(), Fail> {
         panic!(rt; "two passes")
     };
     assert_eq!(rt; first.number(), SeatNo::known(1));
-    assert_eq!(rt; monitor.ask(&mut first), Ok(Asked::Held(How::Free)));
-    assert_eq!(rt; monitor.ask(&mut second), Ok(Asked::Asleep));
-    assert_eq!(rt; monitor.apply(&mut first, TotalOp::Add(5)), Ok(5));
-    assert_eq!(rt;
-        monitor.leave(&mut first),
-        Ok(Unlocked::Granted(SeatNo::known(2)))
-    );
-    assert_eq!(rt; monitor.ask(&mut first), Ok(Asked::Asleep));
-    assert_eq!(rt; monitor.try_receive(&mut second), Ok(Some(How::Queued(1))));
-    assert_eq!(rt; monitor.apply(&mut second, TotalOp::Add(7)), Ok(12));
-    assert_eq!(rt;
-        monitor.leave(&mut second),
-        Ok(Unlocked::Granted(SeatNo::known(1)))
-    );
-    assert_eq!(rt; monitor.try_receive(&mut first), Ok(Some(How::Queued(2))));
-    assert_eq!(rt; first.depth(), 1);
-    assert_eq!(rt; monitor.apply(&mut first, TotalOp::Read), Ok(12));
-    assert_eq!(rt; monitor.leave(&mut first), Ok(Unlocked::Free));
+    the_first_pass_adds(&rt, &monitor, &mut first, &mut second);
+    the_second_pass_adds(&rt, &monitor, &mut first, &mut second);
+    the_first_pass_reads(&rt, &monitor, &mut first);
     assert_eq!(rt; (first.seen_len(), second.seen_len()), (6, 4));
     assert_eq!(rt; (first.mine(), second.mine()), (4, 2));
     let Some((monitor, first, second, missing)) = kept_alone(
@@ -157,6 +211,11 @@ fn a_journal_is_replayed(rt: HostRuntime) -> Result<(), Fail> {
     Ok(())
 }
 
+/// Why no monitor of these sizes is made. None where one is.
+fn refused(alloc: Global, passes: u64, entries: u64, conditions: u64) -> Option<NewFault> {
+    Monitor::new(alloc, passes, entries, conditions, Total(0)).err()
+}
+
 #[test]
 fn limits(rt: HostRuntime) {
     for (passes, entries, conditions) in [
@@ -166,15 +225,14 @@ fn limits(rt: HostRuntime) {
         (2, 524_289, 0),
         (1, 1, MAX_CONDITIONS + 1),
     ] {
-        let fault = Monitor::new(rt.alloc(), passes, entries, conditions, Total(0)).err();
         assert_eq!(rt;
-            fault,
+            refused(rt.alloc(), passes, entries, conditions),
             Some(NewFault::Limit),
             "{passes} passes, {entries} entries, {conditions} conditions"
         );
     }
     assert_eq!(rt; MAX_CONDITIONS, 16);
-    assert!(rt; Monitor::new(rt.alloc(), 3, 2, MAX_CONDITIONS, Total(0)).is_ok());
+    assert_eq!(rt; refused(rt.alloc(), 3, 2, MAX_CONDITIONS), None);
 }
 
 #[test]
@@ -183,12 +241,6 @@ fn one_entry(rt: HostRuntime) -> Result<(), Fail> {
     let Some(mut pass) = take_one(&monitor, passes) else {
         panic!(rt; "one pass")
     };
-    assert_eq!(rt; monitor.try_enter(&mut pass), Ok(Locked::Held(How::Free)));
-    assert_eq!(rt;
-        monitor.apply(&mut pass, TotalOp::Read),
-        Err(Refusal::Spent)
-    );
-    assert_eq!(rt; monitor.leave(&mut pass), Ok(Unlocked::Free));
-    assert_eq!(rt; monitor.enter(&rt, &mut pass), Err(Refusal::Spent));
+    the_one_entry_is_spent(&rt, &monitor, &mut pass);
     Ok(())
 }

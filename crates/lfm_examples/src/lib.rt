@@ -11,4 +11,6 @@ mod packing;
 #[cfg(test)]
 mod running;
 #[cfg(test)]
+mod seeing;
+#[cfg(test)]
 mod stepping;

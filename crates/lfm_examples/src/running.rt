@@ -1,14 +1,103 @@
 //! The running mutex, called by one thread that holds all its seats.
 ghost use Rattle.lfm_mutex.specs.Belongs.{Beside, Of_mutex};
-ghost use Rattle.std.specs.Prelude.{◌≡◌, ℕ, [], IfSome};
+ghost use Rattle.std.specs.Prelude.{◌≡◌, ℕ, [], IfOk, IfSome};
 ghost use mathlib.Core.Option.{some};
 ghost use lib.ListN.{get_elem?};
 
+use crate::seeing::sees;
 use lfm_core::{Answer, Call, MAX_BUDGET, Turn, Why};
 use lfm_model::{Asked, How, Locked, Missing, NewFault, Refusal, SeatNo, Unlocked};
 use lfm_mutex::steps::{next, start};
 use lfm_mutex::{Mutex, Seat};
+use std::alloc::Global;
+use std::fmt::Debug;
+use std::process::Abort;
 use std::test::Fail;
+
+/// A call of a seat, and what it must answer.
+#[derive(Clone, Copy)]
+enum Step {
+    Ask(Result<Asked, Refusal>),
+    TryLock(Result<Locked, Refusal>),
+    TryReceive(Result<Option<How>, Refusal>),
+    SendLock(SeatNo, Result<(), Refusal>),
+    Unlock(Result<Unlocked, Refusal>),
+    StartWait(Result<Unlocked, Refusal>),
+    Owner(Option<SeatNo>),
+    /// The value in hand.
+    Value(Option<u64>),
+    /// Sets the value in hand, which answers nothing.
+    Set(u64),
+    /// Begins a call that is made step by step.
+    Start(Call, Turn),
+    /// The next step of it.
+    Next(Turn),
+}
+
+/// Which of two seats makes a step.
+#[derive(Clone, Copy)]
+enum By {
+    First,
+    Second,
+}
+
+/// Sees that the step with this place among the steps answers as it must.
+fn answers<R: Abort, T: PartialEq + Debug>(rt: &R, at: usize, answer: &T, wanted: &T) {
+    assert_eq!(rt; *answer, *wanted, "step {at}");
+}
+
+/// Makes a step with this place among the steps, and sees that it answers as it must.
+fn make<R: Abort>(rt: &R, mutex: &Mutex<u64>, seat: &mut Seat<u64>, at: usize, step: Step)
+    requires { Of_mutex seat.old mutex.now }
+    ensures { Of_mutex seat.new mutex.now }
+{
+    match step {
+        Step::Ask(wanted) => answers(rt, at, &mutex.ask(seat), &wanted),
+        Step::TryLock(wanted) => answers(rt, at, &mutex.try_lock(seat), &wanted),
+        Step::TryReceive(wanted) => answers(rt, at, &mutex.try_receive(seat), &wanted),
+        Step::SendLock(target, wanted) => {
+            answers(rt, at, &mutex.send_lock(seat, target), &wanted)
+        }
+        Step::Unlock(wanted) => answers(rt, at, &mutex.unlock(seat), &wanted),
+        Step::StartWait(wanted) => answers(rt, at, &mutex.start_wait(seat), &wanted),
+        Step::Owner(wanted) => answers(rt, at, &mutex.owner(seat), &wanted),
+        Step::Value(wanted) => answers(rt, at, &seat.value().copied(), &wanted),
+        Step::Set(value) => set(seat, value),
+        Step::Start(call, wanted) => answers(rt, at, &start(mutex, seat, call), &wanted),
+        Step::Next(wanted) => answers(rt, at, &next(mutex, seat), &wanted),
+    }
+}
+
+/// Makes these steps in order, each by one of two seats.
+fn make_all<R: Abort>(
+    rt: &R,
+    mutex: &Mutex<u64>,
+    first: &mut Seat<u64>,
+    second: &mut Seat<u64>,
+    steps: &[(By, Step)],
+)
+    requires first { Of_mutex first.old mutex.now }
+    requires second { Of_mutex second.old mutex.now }
+    ensures first { Of_mutex first.new mutex.now }
+    ensures second { Of_mutex second.new mutex.now }
+{
+    'making: for (at, &(by, step)) in steps.iter().enumerate() {
+        match by {
+            By::First => make(rt, mutex, first, at, step),
+            By::Second => make(rt, mutex, second, at, step),
+        }
+    }
+}
+
+/// Makes these steps in order, all by one seat.
+fn make_alone<R: Abort>(rt: &R, mutex: &Mutex<u64>, seat: &mut Seat<u64>, steps: &[Step])
+    requires { Of_mutex seat.old mutex.now }
+    ensures { Of_mutex seat.new mutex.now }
+{
+    'making: for (at, &step) in steps.iter().enumerate() {
+        make(rt, mutex, seat, at, step);
+    }
+}
 
 /// Sets the value that the seat has in hand.
 fn set(seat: &mut Seat<u64>, value: u64)
@@ -41,6 +130,17 @@ fn take_one(mutex: &Mutex<u64>, mut seats: Vec<Seat<u64>>) -> Option<Seat<u64>>
     Some(seat)
 }
 
+/// A mutex of two seats, with a budget of 8 takes each, and its seats.
+fn pair(alloc: Global) -> Result<(Mutex<u64>, Seat<u64>, Seat<u64>), Fail>
+    ensures { IfOk result (λ r. Of_mutex r.1 r.0 × Of_mutex r.2 r.0) }
+{
+    let (mutex, seats) = Mutex::new(alloc, 2, 8, 0u64)?;
+    let Some((first, second)) = take_two(&mutex, seats) else {
+        return Err(Fail::new("two seats"));
+    };
+    Ok((mutex, first, second))
+}
+
 /// Hands both seats back, which must not close the mutex yet: returns what is missing, and all three again.
 fn kept(
     mutex: Mutex<u64>,
@@ -60,6 +160,28 @@ fn kept(
     };
     let (first, second) = take_two(&mutex, seats)?;
     Some((mutex, first, second, missing))
+}
+
+/// Hands both seats back, which must not close the mutex yet, since this is missing. Returns all three again.
+fn stays_open<R: Abort>(
+    rt: &R,
+    mutex: Mutex<u64>,
+    first: Seat<u64>,
+    second: Seat<u64>,
+    room: Vec<Seat<u64>>,
+    wanted: Missing,
+) -> (Mutex<u64>, Seat<u64>, Seat<u64>)
+    requires first { Of_mutex first mutex }
+    requires second { Of_mutex second mutex }
+    requires empty { room.items ≡ [] }
+    ensures first { Of_mutex result.1 result.0 }
+    ensures second { Of_mutex result.2 result.0 }
+{
+    let Some((mutex, first, second, missing)) = kept(mutex, first, second, room) else {
+        panic!(rt; "it was closed, where this was missing: {wanted:?}")
+    };
+    sees(rt, "what is missing", &missing, &wanted);
+    (mutex, first, second)
 }
 
 /// Hands one seat back, which must not close the mutex yet: returns what is missing, and both again.
@@ -98,129 +220,184 @@ fn closed(
 
 #[test]
 fn uncontended(rt: HostRuntime) -> Result<(), Fail> {
-    let (mutex, seats) = Mutex::new(rt.alloc(), 2, 8, 0u64)?;
-    let Some((mut first, mut second)) = take_two(&mutex, seats) else {
-        panic!(rt; "two seats")
-    };
-    assert_eq!(rt; mutex.try_lock(&mut first), Ok(Locked::Held(How::Free)));
-    set(&mut first, 5);
-    assert_eq!(rt; mutex.try_lock(&mut second), Err(Refusal::Busy));
-    assert_eq!(rt; mutex.owner(&mut second), Some(SeatNo::known(1)));
-    let Some((mutex, mut first, mut second, missing)) = kept(
-        mutex,
-        first,
-        second,
-        Vec::new(rt.alloc()),
-    ) else {
-        panic!(rt; "it was closed while a seat held")
-    };
-    assert_eq!(rt; missing, Missing::Holding(SeatNo::known(1)));
-    assert_eq!(rt; mutex.try_lock(&mut first), Ok(Locked::Again(2)));
-    assert_eq!(rt; mutex.unlock(&mut first), Ok(Unlocked::Still(1)));
-    assert_eq!(rt; mutex.unlock(&mut first), Ok(Unlocked::Free));
-    assert_eq!(rt; mutex.unlock(&mut first), Err(Refusal::NotOwner));
-    assert_eq!(rt; mutex.try_lock(&mut second), Ok(Locked::Held(How::Free)));
-    assert_eq!(rt; second.value().copied(), Some(5));
-    assert_eq!(rt; mutex.unlock(&mut second), Ok(Unlocked::Free));
+    let (mutex, mut first, mut second) = pair(rt.alloc())?;
+    let before = [
+        (By::First, Step::TryLock(Ok(Locked::Held(How::Free)))),
+        (By::First, Step::Set(5)),
+        (By::Second, Step::TryLock(Err(Refusal::Busy))),
+        (By::Second, Step::Owner(Some(SeatNo::known(1)))),
+    ];
+    make_all(&rt, &mutex, &mut first, &mut second, &before);
+    let room = Vec::new(rt.alloc());
+    let holding = Missing::Holding(SeatNo::known(1));
+    let (mutex, mut first, mut second) = stays_open(&rt, mutex, first, second, room, holding);
+    let after = [
+        (By::First, Step::TryLock(Ok(Locked::Again(2)))),
+        (By::First, Step::Unlock(Ok(Unlocked::Still(1)))),
+        (By::First, Step::Unlock(Ok(Unlocked::Free))),
+        (By::First, Step::Unlock(Err(Refusal::NotOwner))),
+        (By::Second, Step::TryLock(Ok(Locked::Held(How::Free)))),
+        (By::Second, Step::Value(Some(5))),
+        (By::Second, Step::Unlock(Ok(Unlocked::Free))),
+    ];
+    make_all(&rt, &mutex, &mut first, &mut second, &after);
     Ok(())
 }
 
 #[test]
 fn a_close_without_a_seat(rt: HostRuntime) -> Result<(), Fail> {
-    let (mutex, seats) = Mutex::new(rt.alloc(), 2, 8, 0u64)?;
-    let Some((first, _second)) = take_two(&mutex, seats) else {
-        panic!(rt; "two seats")
-    };
+    let (mutex, first, _second) = pair(rt.alloc())?;
     let Some((_mutex, _first, missing)) = kept_alone(mutex, first, Vec::new(rt.alloc())) else {
         panic!(rt; "it was closed without seat 2")
     };
-    assert_eq!(rt; missing, Missing::NotBack(SeatNo::known(2)));
+    sees(
+        &rt,
+        "what is missing",
+        &missing,
+        &Missing::NotBack(SeatNo::known(2)),
+    );
     Ok(())
 }
 
 #[test]
 fn two_seats_in_one_thread(rt: HostRuntime) -> Result<(), Fail> {
-    let (mutex, seats) = Mutex::new(rt.alloc(), 2, 8, 0u64)?;
-    let Some((mut first, mut second)) = take_two(&mutex, seats) else {
-        panic!(rt; "two seats")
-    };
-    assert_eq!(rt; mutex.ask(&mut first), Ok(Asked::Held(How::Free)));
-    set(&mut first, 5);
-    assert_eq!(rt; mutex.ask(&mut second), Ok(Asked::Asleep));
-    assert_eq!(rt; mutex.try_receive(&mut second), Ok(None));
-    assert_eq!(rt; mutex.owner(&mut second), Some(SeatNo::known(1)));
-    let Some((mutex, mut first, second, missing)) = kept(mutex, first, second, Vec::new(rt.alloc()))
-    else {
-        panic!(rt; "it was closed while a seat held")
-    };
-    assert_eq!(rt; missing, Missing::Holding(SeatNo::known(1)));
-    assert_eq!(rt;
-        mutex.unlock(&mut first),
-        Ok(Unlocked::Granted(SeatNo::known(2)))
-    );
-    let Some((mutex, mut first, mut second, missing)) = kept(
-        mutex,
-        first,
-        second,
-        Vec::new(rt.alloc()),
-    ) else {
-        panic!(rt; "it was closed while a seat slept")
-    };
-    assert_eq!(rt; missing, Missing::Asleep(SeatNo::known(2)));
-    assert_eq!(rt; mutex.try_receive(&mut second), Ok(Some(How::Queued(1))));
-    assert_eq!(rt; second.value().copied(), Some(5));
-    assert_eq!(rt; first.value().copied(), None);
-    assert_eq!(rt; mutex.ask(&mut second), Ok(Asked::Again(2)));
-    assert_eq!(rt; mutex.unlock(&mut second), Ok(Unlocked::Still(1)));
-    assert_eq!(rt; mutex.unlock(&mut second), Ok(Unlocked::Free));
-    assert_eq!(rt; mutex.try_receive(&mut first), Err(Refusal::NotWaiting));
-    assert_eq!(rt; closed(mutex, second, first, Vec::new(rt.alloc())), Some(5));
+    let (mutex, mut first, mut second) = pair(rt.alloc())?;
+    let asleep = [
+        (By::First, Step::Ask(Ok(Asked::Held(How::Free)))),
+        (By::First, Step::Set(5)),
+        (By::Second, Step::Ask(Ok(Asked::Asleep))),
+        (By::Second, Step::TryReceive(Ok(None))),
+        (By::Second, Step::Owner(Some(SeatNo::known(1)))),
+    ];
+    make_all(&rt, &mutex, &mut first, &mut second, &asleep);
+    let room = Vec::new(rt.alloc());
+    let holding = Missing::Holding(SeatNo::known(1));
+    let (mutex, mut first, mut second) = stays_open(&rt, mutex, first, second, room, holding);
+    let granted = [(
+        By::First,
+        Step::Unlock(Ok(Unlocked::Granted(SeatNo::known(2)))),
+    )];
+    make_all(&rt, &mutex, &mut first, &mut second, &granted);
+    let room = Vec::new(rt.alloc());
+    let sleeping = Missing::Asleep(SeatNo::known(2));
+    let (mutex, mut first, mut second) = stays_open(&rt, mutex, first, second, room, sleeping);
+    let received = [
+        (By::Second, Step::TryReceive(Ok(Some(How::Queued(1))))),
+        (By::Second, Step::Value(Some(5))),
+        (By::First, Step::Value(None)),
+        (By::Second, Step::Ask(Ok(Asked::Again(2)))),
+        (By::Second, Step::Unlock(Ok(Unlocked::Still(1)))),
+        (By::Second, Step::Unlock(Ok(Unlocked::Free))),
+        (By::First, Step::TryReceive(Err(Refusal::NotWaiting))),
+    ];
+    make_all(&rt, &mutex, &mut first, &mut second, &received);
+    let value = closed(mutex, second, first, Vec::new(rt.alloc()));
+    sees(&rt, "the value", &value, &Some(5));
     Ok(())
 }
 
 #[test]
 fn an_open_call(rt: HostRuntime) -> Result<(), Fail> {
-    let (mutex, seats) = Mutex::new(rt.alloc(), 2, 8, 0u64)?;
-    let Some((mut first, mut second)) = take_two(&mutex, seats) else {
-        panic!(rt; "two seats")
-    };
-    assert_eq!(rt; mutex.try_lock(&mut first), Ok(Locked::Held(How::Free)));
-    assert_eq!(rt; start(&mutex, &mut second, Call::Lock), Turn::Open);
-    assert_eq!(rt;
-        start(&mutex, &mut second, Call::Lock),
-        Turn::Refused(Why::InCall)
-    );
-    'stepping: for _ in 0..5 {
-        assert_eq!(rt; next(&mutex, &mut second), Turn::Open);
-    }
-    assert_eq!(rt;
-        next(&mutex, &mut second),
-        Turn::Ended(Answer::Asked(Asked::Asleep))
-    );
-    assert_eq!(rt; mutex.try_lock(&mut second), Err(Refusal::Asleep));
-    assert_eq!(rt;
-        mutex.unlock(&mut first),
-        Ok(Unlocked::Granted(SeatNo::known(2)))
-    );
-    assert_eq!(rt; next(&mutex, &mut first), Turn::Refused(Why::Idle));
-    let Some((_mutex, _first, _second, missing)) = kept(mutex, first, second, Vec::new(rt.alloc()))
-    else {
-        panic!(rt; "it was closed while a seat slept")
-    };
-    assert_eq!(rt; missing, Missing::Asleep(SeatNo::known(2)));
+    let (mutex, mut first, mut second) = pair(rt.alloc())?;
+    let steps = [
+        (By::First, Step::TryLock(Ok(Locked::Held(How::Free)))),
+        (By::Second, Step::Start(Call::Lock, Turn::Open)),
+        (
+            By::Second,
+            Step::Start(Call::Lock, Turn::Refused(Why::InCall)),
+        ),
+        (By::Second, Step::Next(Turn::Open)),
+        (By::Second, Step::Next(Turn::Open)),
+        (By::Second, Step::Next(Turn::Open)),
+        (By::Second, Step::Next(Turn::Open)),
+        (By::Second, Step::Next(Turn::Open)),
+        (
+            By::Second,
+            Step::Next(Turn::Ended(Answer::Asked(Asked::Asleep))),
+        ),
+        (By::Second, Step::TryLock(Err(Refusal::Asleep))),
+        (
+            By::First,
+            Step::Unlock(Ok(Unlocked::Granted(SeatNo::known(2)))),
+        ),
+        (By::First, Step::Next(Turn::Refused(Why::Idle))),
+    ];
+    make_all(&rt, &mutex, &mut first, &mut second, &steps);
+    let room = Vec::new(rt.alloc());
+    let sleeping = Missing::Asleep(SeatNo::known(2));
+    let (_mutex, _first, _second) = stays_open(&rt, mutex, first, second, room, sleeping);
     Ok(())
+}
+
+/// Why no mutex is made with these limits.
+fn fault(alloc: Global, seats: u64, budget: u64) -> Option<NewFault> {
+    Mutex::new(alloc, seats, budget, 0u64).err()
 }
 
 #[test]
 fn limits(rt: HostRuntime) {
-    for (seats, budget) in [(0, 1), (4_096, 1), (1, 0), (1, MAX_BUDGET + 1)] {
-        let fault = Mutex::new(rt.alloc(), seats, budget, 0u64).err();
-        assert_eq!(rt;
-            fault,
-            Some(NewFault::Limit),
-            "{seats} seats, budget {budget}"
+    let alloc = rt.alloc();
+    let limit = Some(NewFault::Limit);
+    sees(&rt, "no seats", &fault(alloc, 0, 1), &limit);
+    sees(&rt, "a seat too many", &fault(alloc, 4_096, 1), &limit);
+    sees(&rt, "no budget", &fault(alloc, 1, 0), &limit);
+    sees(
+        &rt,
+        "a take too many",
+        &fault(alloc, 1, MAX_BUDGET + 1),
+        &limit,
+    );
+}
+
+/// Deepens a hold of depth 1 to the greatest depth.
+fn deepen<R: Abort>(rt: &R, mutex: &Mutex<u64>, seat: &mut Seat<u64>)
+    requires { Of_mutex seat.old mutex.now }
+    ensures { Of_mutex seat.new mutex.now }
+{
+    'deepening: for depth in 2..=65_535 {
+        sees(rt, "one deeper", &mutex.ask(seat), &Ok(Asked::Again(depth)));
+    }
+}
+
+/// Leaves a hold of the greatest depth, up to depth 1.
+fn leave<R: Abort>(rt: &R, mutex: &Mutex<u64>, seat: &mut Seat<u64>)
+    requires { Of_mutex seat.old mutex.now }
+    ensures { Of_mutex seat.new mutex.now }
+{
+    'leaving: for depth in 1..65_535 {
+        sees(
+            rt,
+            "one less deep",
+            &mutex.unlock(seat),
+            &Ok(Unlocked::Still(65_535 - depth)),
         );
     }
+}
+
+/// Makes all holds that one seat with one take may make, and what is refused at each depth.
+fn refuses_in_order<R: Abort>(rt: &R, mutex: &Mutex<u64>, seat: &mut Seat<u64>)
+    requires { Of_mutex seat.old mutex.now }
+{
+    let held = [
+        Step::Ask(Ok(Asked::Held(How::Free))),
+        Step::StartWait(Err(Refusal::Spent)),
+    ];
+    make_alone(rt, mutex, seat, &held);
+    deepen(rt, mutex, seat);
+    let full = [
+        Step::Ask(Err(Refusal::DepthFull)),
+        Step::TryLock(Err(Refusal::DepthFull)),
+        Step::StartWait(Err(Refusal::Nested)),
+    ];
+    make_alone(rt, mutex, seat, &full);
+    leave(rt, mutex, seat);
+    let spent = [
+        Step::Unlock(Ok(Unlocked::Free)),
+        Step::Ask(Err(Refusal::Spent)),
+        Step::TryLock(Err(Refusal::Spent)),
+        Step::StartWait(Err(Refusal::NotOwner)),
+    ];
+    make_alone(rt, mutex, seat, &spent);
 }
 
 #[test]
@@ -229,75 +406,71 @@ fn refusals_in_order(rt: HostRuntime) -> Result<(), Fail> {
     let Some(mut seat) = take_one(&mutex, seats) else {
         panic!(rt; "one seat")
     };
-    assert_eq!(rt; mutex.ask(&mut seat), Ok(Asked::Held(How::Free)));
-    assert_eq!(rt; mutex.start_wait(&mut seat), Err(Refusal::Spent));
-    'deepening: for depth in 2..=65_535 {
-        assert_eq!(rt; mutex.ask(&mut seat), Ok(Asked::Again(depth)));
-    }
-    assert_eq!(rt; mutex.ask(&mut seat), Err(Refusal::DepthFull));
-    assert_eq!(rt; mutex.try_lock(&mut seat), Err(Refusal::DepthFull));
-    assert_eq!(rt; mutex.start_wait(&mut seat), Err(Refusal::Nested));
-    'leaving: for depth in 1..65_535 {
-        assert_eq!(rt;
-            mutex.unlock(&mut seat),
-            Ok(Unlocked::Still(65_535 - depth))
-        );
-    }
-    assert_eq!(rt; mutex.unlock(&mut seat), Ok(Unlocked::Free));
-    assert_eq!(rt; mutex.ask(&mut seat), Err(Refusal::Spent));
-    assert_eq!(rt; mutex.try_lock(&mut seat), Err(Refusal::Spent));
-    assert_eq!(rt; mutex.start_wait(&mut seat), Err(Refusal::NotOwner));
+    refuses_in_order(&rt, &mutex, &mut seat);
     Ok(())
 }
 
 #[test]
 fn a_wait_and_its_send(rt: HostRuntime) -> Result<(), Fail> {
-    let (mutex, seats) = Mutex::new(rt.alloc(), 2, 8, 0u64)?;
-    let Some((mut first, mut second)) = take_two(&mutex, seats) else {
-        panic!(rt; "two seats")
-    };
-    assert_eq!(rt; mutex.ask(&mut first), Ok(Asked::Held(How::Free)));
-    assert_eq!(rt; mutex.start_wait(&mut first), Ok(Unlocked::Free));
-    assert_eq!(rt; mutex.start_wait(&mut first), Err(Refusal::Asleep));
-    assert_eq!(rt;
-        mutex.send_lock(&mut second, SeatNo::known(3)),
-        Err(Refusal::NoSuchSeat)
-    );
-    assert_eq!(rt;
-        mutex.send_lock(&mut second, SeatNo::known(2)),
-        Err(Refusal::NotWaiting)
-    );
-    assert_eq!(rt; mutex.send_lock(&mut second, SeatNo::known(1)), Ok(()));
-    assert_eq!(rt;
-        mutex.send_lock(&mut second, SeatNo::known(1)),
-        Err(Refusal::NotWaiting)
-    );
-    assert_eq!(rt; mutex.try_receive(&mut first), Ok(Some(How::Free)));
-    assert_eq!(rt; mutex.start_wait(&mut first), Ok(Unlocked::Free));
-    assert_eq!(rt; mutex.ask(&mut second), Ok(Asked::Held(How::Free)));
-    assert_eq!(rt; mutex.send_lock(&mut second, SeatNo::known(1)), Ok(()));
-    assert_eq!(rt;
-        mutex.unlock(&mut second),
-        Ok(Unlocked::Granted(SeatNo::known(1)))
-    );
-    assert_eq!(rt; mutex.try_receive(&mut first), Ok(Some(How::Queued(1))));
-    assert_eq!(rt; mutex.unlock(&mut first), Ok(Unlocked::Free));
+    let (mutex, mut first, mut second) = pair(rt.alloc())?;
+    let steps = [
+        (By::First, Step::Ask(Ok(Asked::Held(How::Free)))),
+        (By::First, Step::StartWait(Ok(Unlocked::Free))),
+        (By::First, Step::StartWait(Err(Refusal::Asleep))),
+        (
+            By::Second,
+            Step::SendLock(SeatNo::known(3), Err(Refusal::NoSuchSeat)),
+        ),
+        (
+            By::Second,
+            Step::SendLock(SeatNo::known(2), Err(Refusal::NotWaiting)),
+        ),
+        (By::Second, Step::SendLock(SeatNo::known(1), Ok(()))),
+        (
+            By::Second,
+            Step::SendLock(SeatNo::known(1), Err(Refusal::NotWaiting)),
+        ),
+        (By::First, Step::TryReceive(Ok(Some(How::Free)))),
+        (By::First, Step::StartWait(Ok(Unlocked::Free))),
+        (By::Second, Step::Ask(Ok(Asked::Held(How::Free)))),
+        (By::Second, Step::SendLock(SeatNo::known(1), Ok(()))),
+        (
+            By::Second,
+            Step::Unlock(Ok(Unlocked::Granted(SeatNo::known(1)))),
+        ),
+        (By::First, Step::TryReceive(Ok(Some(How::Queued(1))))),
+        (By::First, Step::Unlock(Ok(Unlocked::Free))),
+    ];
+    make_all(&rt, &mutex, &mut first, &mut second, &steps);
     Ok(())
+}
+
+/// Looks a thousand times whether a seat that sleeps came to hold, which it may not.
+fn sleeps_on<R: Abort>(rt: &R, mutex: &Mutex<u64>, seat: &mut Seat<u64>)
+    requires { Of_mutex seat.old mutex.now }
+    ensures { Of_mutex seat.new mutex.now }
+{
+    'looking: for look in 0..1_000 {
+        make(rt, mutex, seat, look, Step::TryReceive(Ok(None)));
+    }
 }
 
 #[test]
 fn a_seat_dropped_while_it_holds(rt: HostRuntime) -> Result<(), Fail> {
-    let (mutex, seats) = Mutex::new(rt.alloc(), 2, 8, 0u64)?;
-    let Some((mut first, mut second)) = take_two(&mutex, seats) else {
-        panic!(rt; "two seats")
-    };
-    assert_eq!(rt; mutex.ask(&mut first), Ok(Asked::Held(How::Free)));
+    let (mutex, mut first, mut second) = pair(rt.alloc())?;
+    make_alone(
+        &rt,
+        &mutex,
+        &mut first,
+        &[Step::Ask(Ok(Asked::Held(How::Free)))],
+    );
     drop(first);
-    assert_eq!(rt; mutex.try_lock(&mut second), Err(Refusal::Busy));
-    assert_eq!(rt; mutex.ask(&mut second), Ok(Asked::Asleep));
-    'looking: for _ in 0..1_000 {
-        assert_eq!(rt; mutex.try_receive(&mut second), Ok(None));
-    }
+    let steps = [
+        Step::TryLock(Err(Refusal::Busy)),
+        Step::Ask(Ok(Asked::Asleep)),
+    ];
+    make_alone(&rt, &mutex, &mut second, &steps);
+    sleeps_on(&rt, &mutex, &mut second);
     let mut left = Vec::new(rt.alloc());
     left.push(second)?;
     assert!(rt; mutex.close(left).is_err());
@@ -306,18 +479,20 @@ fn a_seat_dropped_while_it_holds(rt: HostRuntime) -> Result<(), Fail> {
 
 #[test]
 fn a_seat_dropped_while_it_sleeps(rt: HostRuntime) -> Result<(), Fail> {
-    let (mutex, seats) = Mutex::new(rt.alloc(), 2, 8, 0u64)?;
-    let Some((mut first, mut second)) = take_two(&mutex, seats) else {
-        panic!(rt; "two seats")
-    };
-    assert_eq!(rt; mutex.ask(&mut first), Ok(Asked::Held(How::Free)));
-    assert_eq!(rt; mutex.ask(&mut second), Ok(Asked::Asleep));
-    drop(second);
-    assert_eq!(rt;
-        mutex.unlock(&mut first),
-        Ok(Unlocked::Granted(SeatNo::known(2)))
+    let (mutex, mut first, mut second) = pair(rt.alloc())?;
+    make_alone(
+        &rt,
+        &mutex,
+        &mut first,
+        &[Step::Ask(Ok(Asked::Held(How::Free)))],
     );
-    assert_eq!(rt; mutex.try_lock(&mut first), Err(Refusal::Busy));
-    assert_eq!(rt; mutex.owner(&mut first), None);
+    make_alone(&rt, &mutex, &mut second, &[Step::Ask(Ok(Asked::Asleep))]);
+    drop(second);
+    let steps = [
+        Step::Unlock(Ok(Unlocked::Granted(SeatNo::known(2)))),
+        Step::TryLock(Err(Refusal::Busy)),
+        Step::Owner(None),
+    ];
+    make_alone(&rt, &mutex, &mut first, &steps);
     Ok(())
 }

@@ -1,4 +1,0 @@
-use Rattle.lfm_examples.proofs.running.a_seat_dropped_while_it_sleeps.Goals as goal
-
-pub take_two-requires : goal.take_two-requires
-take_two-requires g c = λ j s at. (c.in_ok-mutex.ensures.seats.1 j s at).0

@@ -7,6 +7,8 @@ mod many_seats;
 #[cfg(test)]
 mod races;
 #[cfg(test)]
+mod seeing;
+#[cfg(test)]
 mod sleeping;
 #[cfg(test)]
 mod workers;

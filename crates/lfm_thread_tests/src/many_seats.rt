@@ -2,9 +2,11 @@
 ghost use Rattle.std.specs.Prelude.{◌≡◌, ◌<◌, All, vec_len};
 ghost use Rattle.lfm_mutex.specs.Belongs.{Beside, Of_mutex};
 
+use crate::seeing::sees;
 use lfm_core::{MAX_BUDGET, MAX_SEATS};
 use lfm_model::{Asked, How, Refusal, SeatNo, Unlocked};
 use lfm_mutex::{Mutex, Seat};
+use std::process::Abort;
 use std::test::Fail;
 
 /// What the calls of one thread answered, in order.
@@ -64,20 +66,28 @@ fn hand_over(mutex: &Mutex<u64>, seats: &mut Vec<Seat<u64>>) -> Answers
     (held, asleep, granted, received, free)
 }
 
+/// Sees that each call answered as it must.
+fn sees_handed_over<R: Abort>(rt: &R, answers: Answers) {
+    let (held, asleep, granted, received, free) = answers;
+    sees(
+        rt,
+        "the last seat holds",
+        &held,
+        &Ok(Asked::Held(How::Free)),
+    );
+    sees(rt, "seat 1 sleeps", &asleep, &Ok(Asked::Asleep));
+    let to_first = Ok(Unlocked::Granted(SeatNo::known(1)));
+    sees(rt, "seat 1 is granted it", &granted, &to_first);
+    sees(rt, "seat 1 holds", &received, &Ok(Some(How::Queued(1))));
+    sees(rt, "seat 1 releases it", &free, &Ok(Unlocked::Free));
+}
+
 #[test]
 fn as_many_seats_as_there_may_be(rt: HostRuntime) -> Result<(), Fail> {
     let (mutex, mut seats) = Mutex::new(rt.alloc(), MAX_SEATS, MAX_BUDGET, 0u64)?;
     let answers = hand_over(&mutex, &mut seats);
-    assert_eq!(rt;
-        answers,
-        (
-            Ok(Asked::Held(How::Free)),
-            Ok(Asked::Asleep),
-            Ok(Unlocked::Granted(SeatNo::known(1))),
-            Ok(Some(How::Queued(1))),
-            Ok(Unlocked::Free),
-        )
-    );
-    assert_eq!(rt; mutex.close(seats).ok(), Some(0));
+    sees_handed_over(&rt, answers);
+    let value = mutex.close(seats).ok();
+    sees(&rt, "the value", &value, &Some(0));
     Ok(())
 }

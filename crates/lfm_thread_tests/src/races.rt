@@ -2,6 +2,7 @@
 ghost use Rattle.std.specs.Prelude.{◌<◌, ◌≤◌, All};
 ghost use Rattle.lfm_mutex.specs.Belongs.{Of_mutex};
 
+use crate::seeing::holds;
 use lfm_core::{Answer, Line, State, Turn, Why, read_schedule, run};
 use lfm_model::{Asked, How, Locked, Refusal, SeatNo, Unlocked};
 use lfm_mutex::{Mutex, Seat};
@@ -71,7 +72,11 @@ fn goes(alloc: Global, text: &[u8], expected: &[Turn]) -> Result<bool, Fail> {
 fn a_post_that_the_locker_takes(rt: HostRuntime) -> Result<(), Fail> {
     let text = b"seats 2\n1 lock\n1 *\n2 lock\n2 .\n1 unlock\n1 *\n2 *";
     let turns = [OPEN, HELD, OPEN, OPEN, OPEN, POSTED, queued(1)];
-    assert!(rt; goes(rt.alloc(), text, &turns)?);
+    holds(
+        &rt,
+        "each turn is as expected",
+        goes(rt.alloc(), text, &turns)?,
+    );
     Ok(())
 }
 
@@ -90,7 +95,11 @@ fn a_post_that_the_releaser_takes_back(rt: HostRuntime) -> Result<(), Fail> {
         OPEN,
         received(How::Queued(1)),
     ];
-    assert!(rt; goes(rt.alloc(), text, &turns)?);
+    holds(
+        &rt,
+        "each turn is as expected",
+        goes(rt.alloc(), text, &turns)?,
+    );
     Ok(())
 }
 
@@ -111,7 +120,11 @@ fn a_locker_that_wins_the_exchange(rt: HostRuntime) -> Result<(), Fail> {
         TAKEN_OVER,
         queued(1),
     ];
-    assert!(rt; goes(rt.alloc(), text, &turns)?);
+    holds(
+        &rt,
+        "each turn is as expected",
+        goes(rt.alloc(), text, &turns)?,
+    );
     Ok(())
 }
 
@@ -119,7 +132,11 @@ fn a_locker_that_wins_the_exchange(rt: HostRuntime) -> Result<(), Fail> {
 fn two_pushers(rt: HostRuntime) -> Result<(), Fail> {
     let text = b"seats 3\n1 lock\n1 *\n2 lock\n2 +3\n3 lock\n3 *\n2 +2\n2 *";
     let turns = [OPEN, HELD, OPEN, OPEN, OPEN, ASLEEP, OPEN, ASLEEP];
-    assert!(rt; goes(rt.alloc(), text, &turns)?);
+    holds(
+        &rt,
+        "each turn is as expected",
+        goes(rt.alloc(), text, &turns)?,
+    );
     Ok(())
 }
 
@@ -144,7 +161,11 @@ fn a_stale_poster(rt: HostRuntime) -> Result<(), Fail> {
         TAKEN_OVER,
         queued(2),
     ];
-    assert!(rt; goes(rt.alloc(), text, &turns)?);
+    holds(
+        &rt,
+        "each turn is as expected",
+        goes(rt.alloc(), text, &turns)?,
+    );
     Ok(())
 }
 
@@ -176,7 +197,11 @@ fn two_waits_and_two_sends(rt: HostRuntime) -> Result<(), Fail> {
         OPEN,
         received(How::Queued(1)),
     ];
-    assert!(rt; goes(rt.alloc(), text, &turns)?);
+    holds(
+        &rt,
+        "each turn is as expected",
+        goes(rt.alloc(), text, &turns)?,
+    );
     Ok(())
 }
 
@@ -206,7 +231,11 @@ fn a_sender_that_serves_a_third_seat(rt: HostRuntime) -> Result<(), Fail> {
         OPEN,
         received(How::Queued(2)),
     ];
-    assert!(rt; goes(rt.alloc(), text, &turns)?);
+    holds(
+        &rt,
+        "each turn is as expected",
+        goes(rt.alloc(), text, &turns)?,
+    );
     Ok(())
 }
 
@@ -234,7 +263,11 @@ fn a_late_sender(rt: HostRuntime) -> Result<(), Fail> {
         SENT,
         queued(2),
     ];
-    assert!(rt; goes(rt.alloc(), text, &turns)?);
+    holds(
+        &rt,
+        "each turn is as expected",
+        goes(rt.alloc(), text, &turns)?,
+    );
     Ok(())
 }
 
@@ -257,6 +290,10 @@ fn accepting_a_post(rt: HostRuntime) -> Result<(), Fail> {
         OPEN,
         received(How::Queued(1)),
     ];
-    assert!(rt; goes(rt.alloc(), text, &turns)?);
+    holds(
+        &rt,
+        "each turn is as expected",
+        goes(rt.alloc(), text, &turns)?,
+    );
     Ok(())
 }

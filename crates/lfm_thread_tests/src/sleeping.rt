@@ -4,6 +4,7 @@ ghost use Rattle.lfm_mutex.specs.Belongs.{Beside, Of_mutex};
 
 use lfm_mutex::{Mutex, Seat};
 use std::alloc::AllocError;
+use std::process::Abort;
 use std::sync::{Barrier, Wait};
 use std::test::Fail;
 use std::thread;
@@ -93,13 +94,8 @@ fn reports<R: Threads + Wait + Clock + CpuClock + Sync>(
     thread::map_vec(rt, seats, &|seat| take_part(rt, mutex, seat, &both))
 }
 
-#[test]
-fn a_thread_that_waits_sleeps(rt: HostRuntime) -> Result<(), Fail> {
-    let (mutex, seats) = Mutex::new(rt.alloc(), 2, 1, 0u64)?;
-    let reports = reports(&rt, &mutex, seats)?;
-    let Some(Some(report)) = reports.last() else {
-        return Err(Fail::new("seat 2 reports"));
-    };
+/// Sees that a thread came to hold, and took hardly any processor time until then.
+fn sees_slept<R: Abort>(rt: &R, report: Report) {
     assert!(rt; report.held);
     assert!(rt;
         report.busy < Duration::from_millis(MOST_BUSY),
@@ -107,5 +103,15 @@ fn a_thread_that_waits_sleeps(rt: HostRuntime) -> Result<(), Fail> {
         report.busy,
         report.took
     );
+}
+
+#[test]
+fn a_thread_that_waits_sleeps(rt: HostRuntime) -> Result<(), Fail> {
+    let (mutex, seats) = Mutex::new(rt.alloc(), 2, 1, 0u64)?;
+    let reports = reports(&rt, &mutex, seats)?;
+    let Some(Some(report)) = reports.last() else {
+        return Err(Fail::new("seat 2 reports"));
+    };
+    sees_slept(&rt, *report);
     Ok(())
 }

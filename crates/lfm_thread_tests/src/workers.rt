@@ -2,6 +2,7 @@
 ghost use Rattle.std.specs.Prelude.{All, IfOk};
 ghost use Rattle.lfm_mutex.specs.Belongs.{Beside, Of_mutex};
 
+use crate::seeing::{holds, sees};
 use lfm_model::{Locked, Refusal};
 use lfm_mutex::{Holder, Mutex, Seat};
 use std::alloc::{AllocError, Global};
@@ -158,26 +159,31 @@ fn locked<R: Threads + Wait + Sync>(
 #[test]
 fn try_by_one_thread(rt: HostRuntime) -> Result<(), Fail> {
     let (holds, total) = tried(&rt, rt.alloc(), 1, 1_000_000)?;
-    assert_eq!(rt; (holds, total), (1_000_000, 1_000_000));
+    sees(&rt, "the holds", &holds, &1_000_000);
+    sees(&rt, "the value", &total, &1_000_000);
     Ok(())
 }
 
 #[test]
 fn try_by_two_threads(rt: HostRuntime) -> Result<(), Fail> {
     let (holds, total) = tried(&rt, rt.alloc(), 2, 1_000_000)?;
-    assert_eq!(rt; total, holds);
+    sees(&rt, "the value", &total, &holds);
     assert!(rt; 0 < total && total <= 2_000_000, "{total} holds");
     Ok(())
 }
 
 #[test]
 fn lock_by_two_threads(rt: HostRuntime) -> Result<(), Fail> {
-    assert_eq!(rt; locked(&rt, rt.alloc(), 2, 1_000)?, (true, 2_000));
+    let (spent, total) = locked(&rt, rt.alloc(), 2, 1_000)?;
+    holds(&rt, "each was spent", spent);
+    sees(&rt, "the value", &total, &2_000);
     Ok(())
 }
 
 #[test]
 fn lock_by_four_threads(rt: HostRuntime) -> Result<(), Fail> {
-    assert_eq!(rt; locked(&rt, rt.alloc(), 4, 250_000)?, (true, 1_000_000));
+    let (spent, total) = locked(&rt, rt.alloc(), 4, 250_000)?;
+    holds(&rt, "each was spent", spent);
+    sees(&rt, "the value", &total, &1_000_000);
     Ok(())
 }

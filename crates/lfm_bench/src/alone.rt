@@ -64,16 +64,28 @@ impl Alone {
     {
         let (table, seat) = bare_table(rt.alloc())?;
         let standard = std::sync::Mutex::new(0u64);
-        let other = last_user(mutex, &mut seats).ok_or(no_seat())?;
-        let user = last_user(mutex, &mut seats).ok_or(no_seat())?;
+        let (other, user) = (last_user(mutex, &mut seats), last_user(mutex, &mut seats));
+        let (Some(other), Some(user)) = (other, user) else {
+            return Err(no_seat());
+        };
         let mut peers = Peers {
             user,
             other,
             steps: Steps::new(&table.shared, seat),
             standard: &standard,
         };
+        self.rounds_of(rt, plan, &mut peers)
+    }
+
+    /// Makes all rounds of these peers.
+    fn rounds_of<R: Wait + CpuClock>(
+        &mut self,
+        rt: &R,
+        plan: Plan,
+        peers: &mut Peers,
+    ) -> io::Result<()> {
         for _ in 0..plan.rounds {
-            self.round(rt, &mut peers, plan.calls)?;
+            self.round(rt, peers, plan.calls)?;
         }
         Ok(())
     }

@@ -97,12 +97,16 @@ impl<'a> Places<'a> {
         let seat = last_seat(&self.shared.mutex, &mut self.seats);
         let first_seat = last_cond_seat(&self.shared.first, &mut self.first_seats);
         let second_seat = last_cond_seat(&self.shared.second, &mut self.second_seats);
+        let (Some(seat), Some(first_seat), Some(second_seat)) = (seat, first_seat, second_seat)
+        else {
+            return None;
+        };
         Some(Participant {
             shared: self.shared,
             waits_on,
-            seat: seat?,
-            first_seat: first_seat?,
-            second_seat: second_seat?,
+            seat,
+            first_seat,
+            second_seat,
         })
     }
 }

@@ -38,16 +38,30 @@ pub fn ours<R: Threads + Sync + Wait + Clock + AllocGlobal>(
 ) -> io::Result<Sample> {
     let (shared, free) = Shared::new(rt.alloc(), 3)?;
     let mut places = Places::new(&shared, free);
-    let mut reader = places.next(Side::First).ok_or(no_seat())?;
-    let first = places.next(Side::First).ok_or(no_seat())?;
-    let second = places.next(Side::Second).ok_or(no_seat())?;
+    let reader = places.next(Side::First);
+    let first = places.next(Side::First);
+    let second = places.next(Side::Second);
+    let (Some(reader), Some(first), Some(second)) = (reader, first, second) else {
+        return Err(no_seat());
+    };
+    Ok(our_round(rt, turns, reader, first, second))
+}
+
+/// The turns of two participants, and a look at the number after them.
+fn our_round<R: Threads + Sync + Wait + Clock>(
+    rt: &R,
+    turns: u64,
+    mut reader: Participant,
+    first: Participant,
+    second: Participant,
+) -> Sample {
     let (ping, pong) = our_pair(rt, turns, first, second);
     let number = if reader.lock(rt) {
         reader.value()
     } else {
         None
     };
-    Ok(sample(ping, pong, turns, number))
+    sample(ping, pong, turns, number)
 }
 
 /// The turns of two participants, of whom the first begins.

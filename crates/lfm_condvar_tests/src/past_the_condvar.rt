@@ -2,9 +2,10 @@
 ghost use Rattle.lfm_mutex.specs.Belongs.{Of_mutex};
 ghost use Rattle.lfm_condvar.specs.Belongs.{Of_condvar};
 
+use crate::calls::{wait, wake_one};
 use crate::pairs::{closed, two_cond_seats, two_seats};
 use lfm_condvar::{CondSeat, Condvar};
-use lfm_model::{How, Refusal, SeatNo};
+use lfm_model::{Refusal, SeatNo};
 use lfm_mutex::{Mutex, Seat};
 use std::process::Abort;
 use std::sync::Wait;
@@ -28,22 +29,6 @@ struct Sent {
     seat: Seat<u64>,
     sent: bool,
     only_not_waiting: bool,
-}
-
-/// `wait`. Of its contract `wait_twice` needs that the seats stay those of the mutex and the condvar, and no more.
-fn wait<R: Wait>(
-    rt: &R,
-    condvar: &Condvar,
-    cond: &mut CondSeat,
-    mutex: &Mutex<u64>,
-    seat: &mut Seat<u64>,
-) -> Result<(How, u64), Refusal>
-    requires seat { Of_mutex seat.old mutex.now }
-    requires cond { Of_condvar cond.old condvar.now }
-    ensures seat { Of_mutex seat.new mutex.now }
-    ensures cond { Of_condvar cond.new condvar.now }
-{
-    condvar.wait(rt, cond, mutex, seat)
 }
 
 /// Waits twice.
@@ -127,7 +112,7 @@ fn a_send_past_the_condvar(rt: HostRuntime) -> Result<(), Fail> {
         { send_the_other(m, seat_2) },
     );
     the_first_wait_was_sent(&rt, &waited, &sent);
-    let woke = condvar.wake_one(&rt, &mut cond_2, &mutex, &mut sent.seat);
+    let woke = wake_one(&rt, &condvar, &mut cond_2, &mutex, &mut sent.seat);
     assert!(rt; matches!(woke, Err(Refusal::NotWaiting)));
     let numbers = closed(condvar, waited.cond, cond_2, Vec::new(rt.alloc()));
     assert_eq!(rt; numbers, Some((0, 1)));

@@ -4,6 +4,7 @@ ghost use Rattle.std.specs.Prelude.{◌≡◌, ◌≤◌, []};
 ghost use Rattle.lfm_mutex.specs.Belongs.{Of_mutex, limits_of};
 ghost use Rattle.lfm_condvar.specs.Belongs.{Of_condvar, cond_limits};
 
+use crate::calls::{ask, receive, unlock, wake_one};
 use crate::pairs::two_seats;
 use crate::places::last_cond_seat;
 use lfm_condvar::{CondSeat, Condvar};
@@ -98,47 +99,6 @@ fn closed(condvar: Condvar, cond: CondSeat, mut room: Vec<CondSeat>) -> Option<(
 {
     room.push(cond).ok()?;
     condvar.close(room).ok()
-}
-
-/// `ask`. Of its contract the steps below need that the seat stays one of the mutex's, and no more.
-fn ask(mutex: &Mutex<u64>, seat: &mut Seat<u64>) -> Result<Asked, Refusal>
-    requires { Of_mutex seat.old mutex.now }
-    ensures { Of_mutex seat.new mutex.now }
-{
-    mutex.ask(seat)
-}
-
-/// `try_receive`, with as little of its contract.
-fn receive(mutex: &Mutex<u64>, seat: &mut Seat<u64>) -> Result<Option<How>, Refusal>
-    requires { Of_mutex seat.old mutex.now }
-    ensures { Of_mutex seat.new mutex.now }
-{
-    mutex.try_receive(seat)
-}
-
-/// `unlock`, with as little of its contract.
-fn unlock(mutex: &Mutex<u64>, seat: &mut Seat<u64>) -> Result<Unlocked, Refusal>
-    requires { Of_mutex seat.old mutex.now }
-    ensures { Of_mutex seat.new mutex.now }
-{
-    mutex.unlock(seat)
-}
-
-/// `wake_one`, with as little of its contract.
-fn wake_one<R: Wait>(
-    rt: &R,
-    condvar: &Condvar,
-    cond: &mut CondSeat,
-    mutex: &Mutex<u64>,
-    seat: &mut Seat<u64>,
-) -> Result<Option<(SeatNo, u64)>, Refusal>
-    requires seat { Of_mutex seat.old mutex.now }
-    requires cond { Of_condvar cond.old condvar.now }
-    requires wide { (cond_limits condvar.now).seats ≤ (limits_of mutex.now).seats }
-    ensures seat { Of_mutex seat.new mutex.now }
-    ensures cond { Of_condvar cond.new condvar.now }
-{
-    condvar.wake_one(rt, cond, mutex, seat)
 }
 
 /// The cond seat gives its one take for a wake of nobody, and then has none left.

@@ -14,7 +14,7 @@ sorting-preserved c = let b = c.into_iter-place-iterator.ensures.into_iter_gives
     let t = YieldsList-turn (YieldsList-from_vec {s = c.into_iter-place-iterator.result} xs b.0 (b.1 ∙ c.args.places.ok.0)) c.sorting.yielded c.sorting.place-iterator c.sorting.yielded_by c.next.result c.next.new.self c.in-Some.place c.in-Some.is c.next.ensures.steps in
     let mine : Of_shared c.in-Some.place s = subst (λ p. Of_shared p s) (sym t.1) (c.requires.places (length c.sorting.yielded) c.in-Some.place t.0) in
     record {
-      seats = and_last (λ (j : ℕ) (x : Seat ℕ). Of_mutex x s.mutex) r.seats.items c.push.new.self.items c.in-Some.place.seat c.in-Ok.ensures.items mine.0 i.seats;
-      first = and_last (λ (j : ℕ) (x : CondSeat). Of_condvar x s.first) r.first.items c.push-in-sorting.new.self.items c.in-Some.place.first c.in-Ok-push.ensures.items mine.1 i.first;
-      second = and_last (λ (j : ℕ) (x : CondSeat). Of_condvar x s.second) r.second.items c.push-in-sorting-2.new.self.items c.in-Some.place.second c.in-Ok-push-2.ensures.items mine.2 i.second;
+      seats = and_last (λ (j : ℕ) (x : Seat ℕ). Of_mutex x s.mutex) r.seats.items c.push.new.self.items c.in-Some.place.seat c.in-Ok.ensures.items mine.seat i.seats;
+      first = and_last (λ (j : ℕ) (x : CondSeat). Of_condvar x s.first) r.first.items c.push-in-sorting.new.self.items c.in-Some.place.first c.in-Ok-push.ensures.items mine.first i.first;
+      second = and_last (λ (j : ℕ) (x : CondSeat). Of_condvar x s.second) r.second.items c.push-in-sorting-2.new.self.items c.in-Some.place.second c.in-Ok-push-2.ensures.items mine.second i.second;
     }

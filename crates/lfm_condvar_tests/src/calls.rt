@@ -1,0 +1,67 @@
+//! Calls of a mutex round a number and of a condvar, with no more of their contracts than the tests need: seats stay those of
+//! the mutex and the condvar. No test stands here.
+ghost use Rattle.std.specs.Prelude.{◌≤◌};
+ghost use Rattle.lfm_mutex.specs.Belongs.{Of_mutex, limits_of};
+ghost use Rattle.lfm_condvar.specs.Belongs.{Of_condvar, cond_limits};
+
+use lfm_condvar::{CondSeat, Condvar};
+use lfm_model::{Asked, How, Refusal, SeatNo, Unlocked};
+use lfm_mutex::{Mutex, Seat};
+use std::sync::Wait;
+
+/// `ask`.
+pub fn ask(mutex: &Mutex<u64>, seat: &mut Seat<u64>) -> Result<Asked, Refusal>
+    requires { Of_mutex seat.old mutex.now }
+    ensures { Of_mutex seat.new mutex.now }
+{
+    mutex.ask(seat)
+}
+
+/// `try_receive`.
+pub fn receive(mutex: &Mutex<u64>, seat: &mut Seat<u64>) -> Result<Option<How>, Refusal>
+    requires { Of_mutex seat.old mutex.now }
+    ensures { Of_mutex seat.new mutex.now }
+{
+    mutex.try_receive(seat)
+}
+
+/// `unlock`.
+pub fn unlock(mutex: &Mutex<u64>, seat: &mut Seat<u64>) -> Result<Unlocked, Refusal>
+    requires { Of_mutex seat.old mutex.now }
+    ensures { Of_mutex seat.new mutex.now }
+{
+    mutex.unlock(seat)
+}
+
+/// `wake_one`.
+pub fn wake_one<R: Wait>(
+    rt: &R,
+    condvar: &Condvar,
+    cond: &mut CondSeat,
+    mutex: &Mutex<u64>,
+    seat: &mut Seat<u64>,
+) -> Result<Option<(SeatNo, u64)>, Refusal>
+    requires seat { Of_mutex seat.old mutex.now }
+    requires cond { Of_condvar cond.old condvar.now }
+    requires wide { (cond_limits condvar.now).seats ≤ (limits_of mutex.now).seats }
+    ensures seat { Of_mutex seat.new mutex.now }
+    ensures cond { Of_condvar cond.new condvar.now }
+{
+    condvar.wake_one(rt, cond, mutex, seat)
+}
+
+/// `wait`.
+pub fn wait<R: Wait>(
+    rt: &R,
+    condvar: &Condvar,
+    cond: &mut CondSeat,
+    mutex: &Mutex<u64>,
+    seat: &mut Seat<u64>,
+) -> Result<(How, u64), Refusal>
+    requires seat { Of_mutex seat.old mutex.now }
+    requires cond { Of_condvar cond.old condvar.now }
+    ensures seat { Of_mutex seat.new mutex.now }
+    ensures cond { Of_condvar cond.new condvar.now }
+{
+    condvar.wait(rt, cond, mutex, seat)
+}

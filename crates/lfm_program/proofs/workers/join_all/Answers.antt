@@ -1,4 +1,4 @@
-use Rattle.std.proofs.Common.{arith, subst, ◌<◌, length}
+use Rattle.std.proofs.Common.{arith, length, rules, subst, ◌<◌}
 use Rattle.lfm_monitor.proofs.Places.{in_range, stands}
 use Rattle.lfm_program.specs.declared.workers.Worked.{Worked}
 use Rattle.lfm_program.specs.Workers.{Works_as}
@@ -12,3 +12,6 @@ returns-in-Ok-clause-each g c j w at = let rs = c.in-Ok.results in let hs = c.ar
       stands hs.items j h (let b = hs.ok in omega arith) kept.handle_is,
       subst (λ (r : Worked). Works_as h.promise.monitor.value h.promise.commands.value.items h.promise.pass.value r.pass r.performed) (read_here rs.items j w w at) kept.kept,
     )
+
+pub returns-in-Ok-clause-count : goal.returns-in-Ok-clause-count
+returns-in-Ok-clause-count g c = search rules

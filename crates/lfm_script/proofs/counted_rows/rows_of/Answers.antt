@@ -1,4 +1,5 @@
-use Rattle.std.proofs.Common.{◌≡◌, ◌∙◌, ◌+◌, ◌<◌, length, get_or, ap, arith}
+use Rattle.std.proofs.Common.{ap, arith, get_or, length, ◌+◌, ◌<◌, ◌∙◌, ◌≡◌}
+use Rattle.std.proofs.lemmas.Grind.{common_steps}
 use Rattle.std.proofs.lemmas.List.{with_items_is}
 use Rattle.lfm_script.specs.Rows.{refusal_at}
 use Rattle.lfm_script.proofs.RowCounts.{idle_fits, rows_counted}
@@ -18,3 +19,6 @@ returns c =
     ∙ rows_counted c.as_mut_slice.result.now c.count_entries.new.rows (refusal_at c.args.refusals.now) c.args.entries.now (length c.args.refusals.now) many c.count_entries.ensures.all
     (λ i d below. ap (λ rows. get_or rows i d) c.as_mut_slice.ensures.value ∙ c.making.invariant.each i d (omega (arith, below, end)))
     c.count_entries.ensures.each
+
+pub making-preserved : goal.making-preserved
+making-preserved c = grind (arith, common_steps)

@@ -1,4 +1,4 @@
-use Rattle.std.proofs.Common.{◌≡◌, true, sym}
+use Rattle.std.proofs.Common.{rules, sym, true, ◌≡◌}
 use Rattle.lfm_protocol.specs.Limits.{are_in_limits}
 use Rattle.lfm_core.proofs.steady.Start.{start_steady, few_seats, small_budget}
 use Rattle.lfm_core.proofs.stepped.State.new.Goals as goal
@@ -8,3 +8,6 @@ invariant_of-result c =
     let allowed : are_in_limits c.args.seats c.args.budget ≡ true = sym c.if-not-are_allowed.ensures in
     rw c.in-Ok.ensures
     (start_steady (record { seats = c.args.seats; budget = c.args.budget }) (few_seats c.args.seats c.args.budget allowed) (small_budget c.args.seats c.args.budget allowed))
+
+pub returns-then-not-are_allowed-clause-memory : goal.returns-then-not-are_allowed-clause-memory
+returns-then-not-are_allowed-clause-memory c = search rules

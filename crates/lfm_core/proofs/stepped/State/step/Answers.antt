@@ -1,3 +1,4 @@
+use Rattle.std.proofs.Common.{rules}
 use Rattle.lfm_core.proofs.lawful.bounds.CallsEnd.{steady_step}
 use Rattle.lfm_core.proofs.steady.Room.{steady_has_room}
 use Rattle.lfm_core.proofs.stepped.State.step.Goals as goal
@@ -7,3 +8,6 @@ step-requires c = λ is. steady_has_room c.self.inside.machine c.args.s c.self.i
 
 pub invariant_of-self : goal.invariant_of-self
 invariant_of-self c = rw c.step.ensures.core (steady_step c.self.inside.machine c.args.s c.self.invariant)
+
+pub returns-clause-turn : goal.returns-clause-turn
+returns-clause-turn c = search rules

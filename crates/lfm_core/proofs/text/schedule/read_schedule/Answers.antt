@@ -1,4 +1,4 @@
-use Rattle.std.proofs.Common.{arith}
+use Rattle.std.proofs.Common.{arith, rules}
 use Rattle.lfm_text.specs.Text.{lines_of}
 use Rattle.lfm_text.proofs.LineCount.{rest_counted}
 use Rattle.lfm_core.proofs.texts.Reading.{few_steps}
@@ -15,3 +15,6 @@ read_lines-requires-clause-counted c =
 pub returns-clause-steps : goal.returns-clause-steps
 returns-clause-steps c =
     few_steps 2 (lines_of c.in-Some-first_line.rest.now) c.in_ok-lines.lines.items c.in_ok-lines.ensures.said
+
+pub returns-then-not-are_allowed-clause-exact : goal.returns-then-not-are_allowed-clause-exact
+returns-then-not-are_allowed-clause-exact c = search rules

@@ -1,4 +1,4 @@
-use Rattle.std.proofs.Common.{arith, ap, sym, refl}
+use Rattle.std.proofs.Common.{ap, arith, refl, rules, sym}
 use Rattle.lfm_mutex.specs.calls.Sight.{sight}
 use Rattle.lfm_monitor.specs.Belongs.{opening_of, passes_of, share_of}
 use Rattle.lfm_monitor.proofs.Knowing.{may_did, did}
@@ -15,3 +15,6 @@ invariant_of-pass g c = let p = c.args.pass.now in let w = c.write_did-reply.ens
 pub returns-clause-applies : goal.returns-clause-applies
 returns-clause-applies g c = let e = c.write_did-reply.ensures in let w = e.writes in
     (sym c.if-asleep.ensures, refl, (w.0, w.1, w.2, w.3, e.reply w.0 w.2, e.object w.0 w.1 w.2 (ap (λ u. u.value) w.3), w.4))
+
+pub returns-then-pass-self-clause-applies : goal.returns-then-pass-self-clause-applies
+returns-then-pass-self-clause-applies g c = search rules

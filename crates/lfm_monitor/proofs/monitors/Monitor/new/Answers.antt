@@ -1,4 +1,4 @@
-use Rattle.std.proofs.Common.{arith, ap, ◌∙◌, ◌+◌}
+use Rattle.std.proofs.Common.{ap, arith, rules, ◌+◌, ◌∙◌}
 use Rattle.lfm_mutex.specs.Belongs.{limits_of}
 use Rattle.lfm_monitor.proofs.Places.{in_range}
 use Rattle.lfm_monitor.proofs.Starting.{new_kept, new_of}
@@ -28,3 +28,6 @@ returns-clause-passes g c = let e = c.in-Ok-new.ensures in let w = c.with_seats.
         cond_seats = of.1;
       },
 )
+
+pub returns-then-not-are_allowed-clause-memory : goal.returns-then-not-are_allowed-clause-memory
+returns-then-not-are_allowed-clause-memory g c = search rules

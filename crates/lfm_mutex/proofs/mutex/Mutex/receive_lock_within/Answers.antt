@@ -1,4 +1,4 @@
-use Rattle.std.proofs.Common.{rules, ◌∷◌, ◌++◌, [], sym, ap, subst, ◌∙◌, inr}
+use Rattle.std.proofs.Common.{[], ap, inr, rules, subst, sym, ◌++◌, ◌∙◌, ◌∷◌}
 use Rattle.lfm_protocol.specs.declared.answers.Call.{Call}
 use Rattle.lfm_protocol.specs.declared.answers.Turn.TheVariants.{Refused}
 use Rattle.lfm_protocol.specs.declared.answers.Why.{Why}
@@ -25,3 +25,6 @@ returns-in-Err-clause-steps g c = let i = c.loop.invariant in let s = c.try_rece
     let told = refused_receive g.T.Kept.follows g.T.Kept.fits (sight c.loop.seat) (sight s) c.in-Err.refusal c.in-Err.ensures.receives in
     let same = first_look (sight c.args.seat.now) (sight c.loop.seat) c.loop.seat.place.me.0.trail i.first i.seen told.0 in
     subst (λ (z : Sight g.row.T.Denot). (cause : Why) × Makes c.args.self.now.limits Call.Receive z (sight s) (Refused cause)) same c.in-Err.ensures.steps
+
+pub returns-in-Ok-Some-clause-receives : goal.returns-in-Ok-Some-clause-receives
+returns-in-Ok-Some-clause-receives g c = search rules

@@ -8,7 +8,7 @@ use Rattle.lfm_model.specs.declared.journals.What.TheVariants.{Took, Did}
 use Rattle.lfm_model.specs.declared.journals.Entry.{Entry}
 use Rattle.lfm_model.specs.declared.refusals.Refusal.{Refusal}
 use Rattle.lfm_model.specs.Journals.{after_all, Lawful, one_to, own, entry, stamps, taker_from}
-use Rattle.lfm_mutex.specs.declared.table.seat_view.Seen.{Seen}
+use Rattle.lfm_mutex.specs.calls.Trails.{Seen}
 use Rattle.lfm_mutex.specs.calls.Sight.{Sight, Busy_seen, Deepens}
 use Rattle.lfm_monitor.specs.declared.journals.Journaled.{Journaled}
 use Rattle.lfm_monitor.specs.Journaled.{Fits, Follows}

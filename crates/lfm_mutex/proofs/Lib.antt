@@ -1,4 +1,3 @@
-pub mod tables
 pub mod runs
 pub mod ends
 pub mod LawsHeld

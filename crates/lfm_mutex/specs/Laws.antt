@@ -12,9 +12,9 @@ use Rattle.lfm_core.specs.laws.Laws.{IsQuiet, IsHeld, IsGranted, has_won}
 use Rattle.lfm_core.specs.laws.Watched.{Watched}
 use Rattle.lfm_core.specs.steady.Steady.{Steady}
 use Rattle.lfm_core.specs.table.Words.{words}
-use Rattle.lfm_mutex.specs.declared.table.rule.Moving.{Moving}
-use Rattle.lfm_mutex.specs.declared.table.seat_view.View.{View}
-use Rattle.lfm_mutex.specs.table.Rule.{Held}
+use Rattle.lfm_table.specs.declared.rule.Moving.{Moving}
+use Rattle.lfm_table.specs.declared.seat_view.View.{View}
+use Rattle.lfm_table.specs.Rule.{Held}
 
 -- the table's words are those of this state of the core, and each seat there has the data that its last step left
 pub record Is_core {T : Type 0} (s : State (Option (Moving T)) (View T)) (c : Core) : Type 0 where

@@ -3,7 +3,7 @@ use Rattle.std.specs.Prelude.{◌≡◌, OnSome, Option, Some}
 use Rattle.std.specs.Borrow.{LendsSo, MutBor, Fml, RattleType}
 use Rattle.lfm_mutex.specs.declared.seat.Seat.{Seat}
 use Rattle.lfm_mutex.specs.contracts.seat.Seat.{the_row}
-use Rattle.lfm_mutex.specs.table.Rule.{put_value}
+use Rattle.lfm_table.specs.Rule.{put_value}
 use Rattle.lfm_mutex.specs.calls.Sight.{sight}
 
 -- a value was written, and nothing else of the seat is other than it was

@@ -1,8 +1,7 @@
-pub mod table
 pub mod calls
 pub mod Belongs
 pub mod Closing
 pub mod Fresh
 pub mod Laws
 pub mod Lending
-pub mod Reach
+pub use Rattle.lfm_table.specs.Reach

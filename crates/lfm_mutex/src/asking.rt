@@ -14,13 +14,13 @@ ghost use Rattle.lfm_mutex.specs.calls.Sight.{sight};
 ghost use Rattle.lfm_mutex.specs.calls.Straight.{Course, Comes_to};
 
 use crate::calls::finish;
-use crate::kept::Kept;
 use crate::mutex::Mutex;
 use crate::seat::Seat;
-use crate::table::straight_steps::{add_free, add_held, load_held, store_held, subtract_held};
 use lfm_model::{Asked, How};
 use lfm_protocol::points::{Entrant, Point, Pusher};
 use lfm_protocol::{Answer, SeatState, Turn};
+use lfm_table::Kept;
+use lfm_table::straight_steps::{add_free, add_held, load_held, store_held, subtract_held};
 
 /// Makes the steps of the open call of lock to its end.
 #[inline(always)]

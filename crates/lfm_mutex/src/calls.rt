@@ -10,15 +10,14 @@ ghost use Rattle.lfm_protocol.specs.declared.answers.Turn.TheVariants.{Ended, Op
 ghost use Rattle.lfm_protocol.specs.declared.points.Point.TheVariants.{ReleaseOwnerStore};
 ghost use Rattle.lfm_protocol.specs.declared.points.Releaser.{Releaser};
 ghost use Rattle.lfm_protocol.specs.Begin.{begin};
-ghost use Rattle.lfm_mutex.specs.table.Rule.{value_in, last_hold};
+ghost use Rattle.lfm_table.specs.Rule.{value_in, last_hold};
 ghost use Rattle.lfm_mutex.specs.calls.Runs.{nothing, errand, errand_of, is_releasing, is_release, release_steps, weight, Ends, Answers, Ran, Called, Holds, how_held, opens};
 ghost use Rattle.lfm_mutex.specs.Belongs.{Beside, Of_mutex, limits_of};
 ghost use Rattle.lfm_mutex.specs.calls.Trails.{Made, Makes_call, Makes_at_most};
 ghost use Rattle.lfm_mutex.specs.calls.Sight.{sight, is_asleep, Concludes, May_leave, Stays, Turned, Asks, Locks, Receives, Sends, Unlocks, Waits};
-ghost use Rattle.lfm_mutex.specs.table.Steps.{Leaves};
+ghost use Rattle.lfm_table.specs.Steps.{Leaves};
 
 use crate::asking::{ask_again, ask_free};
-use crate::kept::Kept;
 use crate::mutex::Mutex;
 use crate::seat::Seat;
 use crate::steps::{begin_call, make_next};
@@ -27,6 +26,7 @@ use crate::unlocking::{unlock_last, unlock_once};
 use lfm_model::{Asked, How, Locked, Refusal, SeatNo, Unlocked};
 use lfm_protocol::points::Point;
 use lfm_protocol::{Answer, Call, MAX_DEPTH, SeatState, Turn, Why};
+use lfm_table::Kept;
 
 /// Makes the steps of the open call to its end.
 #[inline(never)]

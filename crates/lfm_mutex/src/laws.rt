@@ -3,7 +3,7 @@
 //! keeps the rule is asked, and proved, at each of the steps in `table_steps`.
 ghost use Rattle.lfm_mutex.specs.Laws.{PostsAreWatched, QuietTablesRest, TablesAreSteady, TakesFindARecord};
 
-use crate::kept::Kept;
+use lfm_table::Kept;
 
 /// The running mutex is the core: at every moment its words and seats are a steady, and so a lawful, state of the core. So
 /// every law of the core that speaks of a steady state holds of them.

@@ -4,8 +4,8 @@ ghost use Rattle.std.specs.Borrow.{sem};
 ghost use Rattle.lfm_mutex.specs.Lending.{LendsValue};
 ghost use Rattle.lfm_mutex.specs.calls.Sight.{sight};
 
-use crate::kept::Kept;
 use crate::seat::Seat;
+use lfm_table::Kept;
 
 impl<T: Kept> Seat<T> {
     /// The guarded value, Some exactly where the depth is 1 or more. When the borrow ends, the seat has what was written

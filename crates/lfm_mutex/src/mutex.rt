@@ -1,12 +1,12 @@
 //! The mutex: its words, and how many seats and takes it allows. Its calls are in `calls`, `waiting` and `owner`.
 ghost use Rattle.std.specs.Prelude.{◌≡◌, ◌+◌, ◌*◌, ◌<◌, ◌≤◌};
 
-use crate::kept::Kept;
-use crate::table::moving_box::MovingBox;
-use crate::table::rule::{Key, Lawful};
-use crate::table::seat_view::View;
 use atomic_table::Table;
 use lfm_protocol::Limits;
+use lfm_table::Kept;
+use lfm_table::moving_box::MovingBox;
+use lfm_table::rule::{Key, Lawful};
+use lfm_table::seat_view::View;
 use std::alloc::Global;
 
 /// The words of a mutex, with the rule that they and its seats keep.

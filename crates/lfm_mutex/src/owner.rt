@@ -3,11 +3,11 @@ ghost use Rattle.std.specs.Prelude.{◌≡◌};
 ghost use Rattle.lfm_mutex.specs.Belongs.{Beside, Of_mutex};
 ghost use Rattle.lfm_mutex.specs.calls.Sight.{sight, Looks_at_owner};
 
-use crate::kept::Kept;
 use crate::mutex::Mutex;
 use crate::seat::Seat;
-use crate::table::rule::OwnerLook;
 use lfm_model::SeatNo;
+use lfm_table::Kept;
+use lfm_table::rule::OwnerLook;
 
 impl<T: Kept> Mutex<T> {
     /// The seat that the owner word names, by one load; None where no seat owns the mutex. It answers the caller's own

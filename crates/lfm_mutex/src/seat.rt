@@ -2,21 +2,18 @@
 //! contracts by `sight`.
 ghost use Rattle.std.specs.Prelude.{◌≡◌, ◌<◌, ◌-◌, Some, None, MatchOption};
 ghost use Rattle.std.specs.Coded.{Coded-set};
-ghost use Rattle.lfm_mutex.specs.table.Props.{IsReady-prop, Became-prop};
+ghost use Rattle.lfm_table.specs.Props.{IsReady-prop, Became-prop};
 ghost use Rattle.lfm_core.specs.table.Ready.{IsReady};
-ghost use Rattle.lfm_mutex.specs.table.Rule.{value_in, put_value};
-ghost use Rattle.lfm_mutex.specs.table.Seats.{Seated, Rooted};
-ghost use Rattle.lfm_mutex.specs.table.Settled.{Became};
+ghost use Rattle.lfm_table.specs.Rule.{value_in, put_value};
+ghost use Rattle.lfm_table.specs.Seats.{Seated, Rooted};
+ghost use Rattle.lfm_table.specs.Settled.{Became};
 
-use crate::kept::Kept;
-use crate::table::moving_box::MovingBox;
-use crate::table::seat_view::View;
 use lfm_model::SeatNo;
 use lfm_protocol::points::Point;
 use lfm_protocol::{Limits, SeatState};
-
-/// The seat of the table, which has no bytes.
-pub(crate) type Place<T> = atomic_table::Seat<Option<MovingBox<T>>, View<T>>;
+use lfm_table::Kept;
+use lfm_table::moving_box::MovingBox;
+use lfm_table::table_steps::Place;
 
 /// What one thread uses the mutex with. A seat may move between threads, and each call borrows it for its whole length.
 /// Dropped while it holds or sleeps, it keeps what it holds: nobody else gains that.

@@ -9,14 +9,14 @@ ghost use Rattle.lfm_mutex.specs.Belongs.{Beside, Of_mutex, limits_of, state_of}
 ghost use Rattle.lfm_mutex.specs.calls.Runs.{is_release};
 ghost use Rattle.lfm_mutex.specs.calls.SeatSteps.{Begins, Steps_on};
 ghost use Rattle.lfm_mutex.specs.calls.Sight.{sight, May_leave};
-ghost use Rattle.lfm_mutex.specs.table.Steps.{Leaves, Goes_on};
+ghost use Rattle.lfm_table.specs.Steps.{Leaves, Goes_on};
 
-use crate::kept::Kept;
 use crate::mutex::Mutex;
 use crate::seat::Seat;
 use crate::steps::kinds::make_of;
 use lfm_protocol::kinds::Kind;
 use lfm_protocol::{Call, Turn, Why};
+use lfm_table::Kept;
 
 mod kinds;
 

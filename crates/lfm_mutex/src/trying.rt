@@ -12,16 +12,16 @@ ghost use Rattle.lfm_mutex.specs.calls.Sight.{sight};
 ghost use Rattle.lfm_mutex.specs.calls.Straight.{Course, Comes_to, try_turn};
 
 use crate::calls::finish;
-use crate::kept::Kept;
 use crate::mutex::Mutex;
 use crate::seat::Seat;
-use crate::table::seat_memory::advance;
-use crate::table::straight_steps::{
-    exchange_free, exchange_held, load_free, load_handoff_free, load_held, store_held,
-};
 use lfm_model::{How, Locked, Refusal};
 use lfm_protocol::points::{Entrant, Point};
 use lfm_protocol::{Answer, SeatState, Turn, Why};
+use lfm_table::Kept;
+use lfm_table::seat_memory::advance;
+use lfm_table::straight_steps::{
+    exchange_free, exchange_held, load_free, load_handoff_free, load_held, store_held,
+};
 
 /// Makes the steps of the open call of try_lock to its end.
 #[inline(always)]

@@ -7,7 +7,7 @@ ghost use Rattle.lfm_protocol.specs.declared.answers.Turn.TheVariants.{Ended};
 ghost use Rattle.lfm_protocol.specs.declared.points.Point.TheVariants.{Rest, ReleaseCountSubtract};
 ghost use Rattle.lfm_protocol.specs.declared.points.Releaser.TheVariants.{Unlocker as UnlockerNow};
 ghost use Rattle.lfm_core.specs.table.Words.{stepped_by};
-ghost use Rattle.lfm_mutex.specs.table.Steps.{oldest_in};
+ghost use Rattle.lfm_table.specs.Steps.{oldest_in};
 ghost use Rattle.lfm_mutex.specs.Belongs.{Beside, Of_mutex, limits_of};
 ghost use Rattle.lfm_mutex.specs.calls.Runs.{errand, is_release, releasing, weight, Called};
 ghost use Rattle.lfm_mutex.specs.calls.Sight.{sight, May_leave, Turned};
@@ -15,15 +15,15 @@ ghost use Rattle.lfm_mutex.specs.calls.Straight.{Course, Comes_to};
 ghost use Rattle.lfm_mutex.specs.calls.Trails.{Makes_at_most};
 
 use crate::calls::finish;
-use crate::kept::Kept;
 use crate::mutex::Mutex;
 use crate::seat::Seat;
-use crate::table::moving_box::MovingBox;
-use crate::table::seat_memory::oldest_of;
-use crate::table::straight_steps::{store_held, subtract_last};
 use lfm_model::Unlocked;
 use lfm_protocol::points::{Point, Releaser};
 use lfm_protocol::{Answer, SeatState, Turn};
+use lfm_table::Kept;
+use lfm_table::moving_box::MovingBox;
+use lfm_table::seat_memory::oldest_of;
+use lfm_table::straight_steps::{store_held, subtract_last};
 
 /// Makes the steps of the open call of unlock to its end, once its seat has given up the owner word.
 #[inline(always)]

@@ -4,10 +4,10 @@ ghost use Rattle.lfm_mutex.specs.Belongs.{Beside, Of_mutex, limits_of};
 ghost use Rattle.lfm_mutex.specs.calls.Sight.{sight, Receives_lock, Locks_waiting};
 ghost use Rattle.lfm_mutex.specs.calls.Trails.{Locks_by, Receives_by};
 
-use crate::kept::Kept;
 use crate::mutex::Mutex;
 use crate::seat::Seat;
 use lfm_model::{Asked, How, Locked, Refusal};
+use lfm_table::Kept;
 use std::hint::spin_loop;
 use std::sync::Wait;
 

@@ -23,20 +23,20 @@ use Rattle.lfm_core.specs.table.Settles.{begun}
 use Rattle.lfm_core.proofs.steady.frames.Entries.{seat_zero}
 use Rattle.lfm_model.specs.declared.refusals.Missing.{Missing}
 use Rattle.lfm_model.specs.declared.refusals.Missing.TheVariants.{NotBack, Holding, Asleep as Sleeping}
-use Rattle.lfm_mutex.specs.declared.table.seat_view.Role.{Role}
-use Rattle.lfm_mutex.specs.declared.table.seat_view.Role.TheVariants.{User, Retired}
-use Rattle.lfm_mutex.specs.declared.table.seat_view.Joined.{Joined}
-use Rattle.lfm_mutex.specs.declared.table.seat_view.View.{View}
-use Rattle.lfm_mutex.specs.declared.table.rule.Moving.{Moving}
+use Rattle.lfm_table.specs.declared.seat_view.Role.{Role}
+use Rattle.lfm_table.specs.declared.seat_view.Role.TheVariants.{User, Retired}
+use Rattle.lfm_table.specs.declared.seat_view.Joined.{Joined}
+use Rattle.lfm_table.specs.declared.seat_view.View.{View}
+use Rattle.lfm_table.specs.declared.rule.Moving.{Moving}
 use Rattle.lfm_mutex.specs.Closing.{Hinders, Hindered, named, Are_free}
 use Rattle.lfm_mutex.proofs.ends.FreeWords.{free_core}
-use Rattle.lfm_mutex.specs.Reach.{Reached}
+use Rattle.lfm_table.specs.Reach.{Reached}
 use Rattle.lfm_mutex.specs.calls.Sight.{Sight, is_asleep, by_depth}
-use Rattle.lfm_mutex.specs.table.Rule.{total, retired, retired_at, in_hand, Held, None_ended, Left_in, joined_of}
-use Rattle.lfm_mutex.specs.table.Seats.{Seated}
-use Rattle.lfm_mutex.specs.table.Settled.{Became, calls_to}
-use Rattle.lfm_mutex.proofs.tables.RuleKept.{length_at}
-use Rattle.lfm_mutex.proofs.tables.StepFacts.{became_depth}
+use Rattle.lfm_table.specs.Rule.{total, retired, retired_at, in_hand, Held, None_ended, Left_in, joined_of}
+use Rattle.lfm_table.specs.Seats.{Seated}
+use Rattle.lfm_table.specs.Settled.{Became, calls_to}
+use Rattle.lfm_table.proofs.tables.RuleKept.{length_at}
+use Rattle.lfm_table.proofs.tables.StepFacts.{became_depth}
 
 total_at : {A : Type 0} (f : A → ℕ) (l : List A) (i : ℕ) (a : A) → get_elem? l i ≡ some a → f a ≤ total f l
 total_at f [] i a e = absurd (some-ne-none a (sym e))

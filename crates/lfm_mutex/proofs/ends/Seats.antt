@@ -29,19 +29,19 @@ use Rattle.lfm_core.proofs.steady.Start.{start_steady, few_seats, small_budget}
 use Rattle.lfm_core.proofs.table.Starts.{start_narrow}
 use Rattle.lfm_core.proofs.table.Ready.{packs_none, packs_unposted}
 use Rattle.lfm_core.specs.table.Ready.{IsReady}
-use Rattle.lfm_mutex.specs.declared.table.seat_view.Role.{Role}
-use Rattle.lfm_mutex.specs.declared.table.seat_view.Role.TheVariants.{User, Retired}
-use Rattle.lfm_mutex.specs.declared.table.seat_view.Joined.{Joined}
-use Rattle.lfm_mutex.specs.declared.table.seat_view.View.{View}
-use Rattle.lfm_mutex.specs.declared.table.rule.Moving.{Moving}
-use Rattle.lfm_mutex.specs.Reach.{Reached}
-use Rattle.lfm_mutex.specs.table.Rule.{total, retired, retired_at, split_view, with_split, with_joined, joined, joined_of, first_view, Leads_to, Awaits, None_ended, Left_in, Roots, Sits, At_home, With_seat, Held, Same_root, Looked, seen}
-use Rattle.lfm_mutex.specs.table.Seats.{Seated}
-use Rattle.lfm_mutex.specs.table.Settled.{Became}
-use Rattle.lfm_mutex.proofs.tables.CoreFacts.{owner_told}
-use Rattle.lfm_mutex.proofs.tables.SettledKept.{became_same}
-use Rattle.lfm_mutex.proofs.tables.StepFacts.{became_depth}
-use Rattle.lfm_mutex.proofs.tables.RuleKept.{stays_reached, root_on, others_on, total_set, length_at, some_same}
+use Rattle.lfm_table.specs.declared.seat_view.Role.{Role}
+use Rattle.lfm_table.specs.declared.seat_view.Role.TheVariants.{User, Retired}
+use Rattle.lfm_table.specs.declared.seat_view.Joined.{Joined}
+use Rattle.lfm_table.specs.declared.seat_view.View.{View}
+use Rattle.lfm_table.specs.declared.rule.Moving.{Moving}
+use Rattle.lfm_table.specs.Reach.{Reached}
+use Rattle.lfm_table.specs.Rule.{total, retired, retired_at, split_view, with_split, with_joined, joined, joined_of, first_view, Leads_to, Awaits, None_ended, Left_in, Roots, Sits, At_home, With_seat, Held, Same_root, Looked, seen}
+use Rattle.lfm_table.specs.Seats.{Seated}
+use Rattle.lfm_table.specs.Settled.{Became}
+use Rattle.lfm_table.proofs.tables.CoreFacts.{owner_told}
+use Rattle.lfm_table.proofs.tables.SettledKept.{became_same}
+use Rattle.lfm_table.proofs.tables.StepFacts.{became_depth}
+use Rattle.lfm_table.proofs.tables.RuleKept.{stays_reached, root_on, others_on, total_set, length_at, some_same}
 
 pub at_end : {A : Type 0} (l : List A) (a b : A) (j : ℕ) → get_elem? (l ++ a ∷ []) j ≡ some b → (get_elem? l j ≡ some b) ⊎ ((j ≡ length l) × (a ≡ b))
 at_end [] a b zero e = inr (refl, some-injective a b e)

@@ -10,7 +10,7 @@ use Rattle.lfm_protocol.specs.After.{same_handoff, busy}
 use Rattle.lfm_protocol.specs.Begin.{goes_on}
 use Rattle.lfm_core.specs.table.Words.{handoff_of}
 use Rattle.lfm_mutex.specs.calls.Runs.{end_of, trail_of}
-use Rattle.lfm_mutex.specs.table.Rule.{seen}
+use Rattle.lfm_table.specs.Rule.{seen}
 use Rattle.lfm_model.specs.declared.refusals.Refusal.{Refusal}
 use Rattle.lfm_model.specs.declared.answers.Locked.{Locked}
 use Rattle.lfm_protocol.specs.After.{deepens}
@@ -20,7 +20,7 @@ use Rattle.lfm_protocol.specs.declared.answers.Answer.{Answer}
 use Rattle.lfm_protocol.specs.declared.answers.Turn.{Turn}
 use Rattle.lfm_protocol.specs.declared.answers.Turn.TheVariants.{Open, Ended, Refused}
 use Rattle.lfm_protocol.specs.declared.answers.Why.{Why}
-use Rattle.lfm_mutex.proofs.tables.StepFacts.{made_of}
+use Rattle.lfm_table.proofs.tables.StepFacts.{made_of}
 
 abbrev Busy : Turn
 Busy = Refused (Why.By Refusal.Busy)

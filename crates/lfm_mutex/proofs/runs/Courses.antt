@@ -13,15 +13,16 @@ use Rattle.lfm_protocol.specs.declared.seats.SeatState.{SeatState}
 use Rattle.lfm_protocol.specs.Begin as Begin
 use Rattle.lfm_protocol.specs.Begin.{Stepped}
 use Rattle.lfm_protocol.specs.Points.{kind}
-use Rattle.lfm_mutex.specs.declared.table.seat_view.View.{View}
-use Rattle.lfm_mutex.specs.declared.table.rule.Moving.{Moving}
-use Rattle.lfm_mutex.specs.table.Rule.{value_in, last_hold}
+use Rattle.lfm_table.specs.declared.seat_view.View.{View}
+use Rattle.lfm_table.specs.declared.rule.Moving.{Moving}
+use Rattle.lfm_table.specs.Rule.{value_in, last_hold}
 use Rattle.lfm_mutex.specs.calls.Runs.{errand_of, is_releasing, is_release, Ends, Ran, Called_by, Holds, opens}
-use Rattle.lfm_mutex.specs.table.Seats.{Seated}
+use Rattle.lfm_table.specs.Seats.{Seated}
 use Rattle.lfm_mutex.specs.calls.Sight.{Concludes, sight_of}
 use Rattle.lfm_core.specs.table.Words.{stepped_by}
-use Rattle.lfm_mutex.specs.table.Steps.{Event, oldest_in}
-use Rattle.lfm_mutex.specs.calls.Straight.{Fit, Made_step, Course, Comes_to}
+use Rattle.lfm_table.specs.Steps.{Event, oldest_in}
+use Rattle.lfm_table.specs.Straight.{Fit, Made_step}
+use Rattle.lfm_mutex.specs.calls.Straight.{Course, Comes_to}
 use Rattle.lfm_mutex.proofs.runs.MadeCalls.{makes}
 use Rattle.lfm_mutex.proofs.runs.Running.{called_at_once, ran_one, last_one, ran_none, ran_more, ran_join, last_more, holds_now}
 use Rattle.lfm_mutex.proofs.runs.StraightPoints.{event_there}

@@ -10,8 +10,8 @@ use Rattle.lfm_protocol.specs.declared.answers.Turn.TheVariants.{Open, Ended, Re
 use Rattle.lfm_protocol.specs.declared.limits.Limits.{Limits}
 use Rattle.lfm_protocol.specs.declared.seats.SeatState.{SeatState}
 use Rattle.lfm_protocol.specs.Begin.{begin}
-use Rattle.lfm_mutex.specs.declared.table.seat_view.Seen.{Seen}
-use Rattle.lfm_mutex.specs.declared.table.seat_view.View.{View}
+use Rattle.lfm_table.specs.declared.seat_view.Seen.{Seen}
+use Rattle.lfm_table.specs.declared.seat_view.View.{View}
 use Rattle.lfm_mutex.specs.calls.Runs.{Errand, errand_of, Called, Called_by}
 use Rattle.lfm_mutex.specs.calls.Sight.{Sight, sight_of, Receives}
 use Rattle.lfm_mutex.specs.calls.Trails.{Shows, Leads, Makes, Made, Looks}

@@ -21,12 +21,12 @@ use Rattle.lfm_protocol.specs.Points.{kind}
 use Rattle.lfm_core.specs.steady.Steady.{DepthAt}
 use Rattle.lfm_core.specs.table.Carried.{carries_value}
 use Rattle.lfm_core.specs.table.Words.{stepped_by}
-use Rattle.lfm_mutex.specs.declared.table.seat_view.View.{View}
-use Rattle.lfm_mutex.specs.declared.table.rule.Moving.{Moving}
-use Rattle.lfm_mutex.specs.table.Rule.{value_in, is_carried}
-use Rattle.lfm_mutex.specs.table.Seats.{Seated}
-use Rattle.lfm_mutex.specs.table.Settled.{Became}
-use Rattle.lfm_mutex.specs.table.Steps.{Event, Goes_on, Leaves}
+use Rattle.lfm_table.specs.declared.seat_view.View.{View}
+use Rattle.lfm_table.specs.declared.rule.Moving.{Moving}
+use Rattle.lfm_table.specs.Rule.{value_in, is_carried}
+use Rattle.lfm_table.specs.Seats.{Seated}
+use Rattle.lfm_table.specs.Settled.{Became}
+use Rattle.lfm_table.specs.Steps.{Event, Goes_on, Leaves}
 use Rattle.lfm_mutex.specs.calls.Runs.{how_held, is_release}
 use Rattle.lfm_mutex.specs.calls.Sight.{Sight, sight_of, is_asleep, is_in_call, sends_of, Concludes, Finds, May_leave}
 use Rattle.lfm_mutex.specs.calls.SeatSteps.{Steps, Keeps_value, Steps_on, stores_owner}

@@ -25,8 +25,8 @@ use Rattle.lfm_core.specs.steady.Steady.{IsSeen}
 use Rattle.lfm_core.specs.steady.Views.{waits_on}
 use Rattle.lfm_core.specs.table.Words.{stepped_by, handoff_of, wake_of, link_of}
 use Rattle.lfm_mutex.specs.calls.Runs.{Errand, locking, trying, releasing, sending, receiving, nothing, pushes, carries_for, errand, Is_turn, left, clearing, collecting, granting, weight, how_held, is_release}
-use Rattle.lfm_mutex.specs.table.Rule.{Collects_within}
-use Rattle.lfm_mutex.proofs.tables.StepFacts.{made_of}
+use Rattle.lfm_table.specs.Rule.{Collects_within}
+use Rattle.lfm_table.proofs.tables.StepFacts.{made_of}
 
 -- The same call
 

@@ -34,17 +34,17 @@ use Rattle.lfm_model.specs.declared.answers.How.{How}
 use Rattle.lfm_protocol.specs.declared.points.Entrant.{Entrant}
 use Rattle.lfm_protocol.specs.Stores.{expected_push_at}
 use Rattle.lfm_core.specs.table.Words.{stepped_by, popped_of}
-use Rattle.lfm_mutex.specs.declared.table.seat_view.Seen.{Seen}
-use Rattle.lfm_mutex.specs.declared.table.seat_view.View.{View}
-use Rattle.lfm_mutex.specs.declared.table.rule.Moving.{Moving}
-use Rattle.lfm_mutex.specs.table.Rule.{seen, value_in, last_hold, is_carried, Hands, Collects_within}
+use Rattle.lfm_table.specs.declared.seat_view.Seen.{Seen}
+use Rattle.lfm_table.specs.declared.seat_view.View.{View}
+use Rattle.lfm_table.specs.declared.rule.Moving.{Moving}
+use Rattle.lfm_table.specs.Rule.{seen, value_in, last_hold, is_carried, Hands, Collects_within}
 use Rattle.lfm_mutex.specs.calls.Runs.{Errand, nothing, errand, Is_turn, Ends, weight, end_of, trail_of, Ran, opens, is_release, locking, trying, releasing, sending, answers_for, errand_of, is_releasing, release_steps, Answers, Called_by, Called, how_held, Counts, Holds}
-use Rattle.lfm_mutex.specs.Reach.{Reached}
-use Rattle.lfm_mutex.specs.table.Seats.{Seated}
-use Rattle.lfm_mutex.specs.table.Steps.{Event, Goes_on, Value_goes}
-use Rattle.lfm_mutex.proofs.tables.RuleKept.{some_same}
+use Rattle.lfm_table.specs.Reach.{Reached}
+use Rattle.lfm_table.specs.Seats.{Seated}
+use Rattle.lfm_table.specs.Steps.{Event, Goes_on, Value_goes}
+use Rattle.lfm_table.proofs.tables.RuleKept.{some_same}
 use Rattle.lfm_mutex.proofs.runs.RunFacts.{turns_step, falls, no_release, no_leaves, how_enters}
-use Rattle.lfm_mutex.proofs.tables.StepFacts.{left_same, left_new, carrying}
+use Rattle.lfm_table.proofs.tables.StepFacts.{left_same, left_new, carrying}
 
 end_more : (s : ℕ) (st : Stepped) (finds : List (ℕ × Option Record)) (n : ℕ) (o : Option Record) → end_of s st (finds ++ (n, o) ∷ []) ≡ stepped_by (end_of s st finds).seat s n o
 end_more s st [] n o = refl

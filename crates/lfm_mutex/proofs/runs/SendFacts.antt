@@ -17,8 +17,8 @@ use Rattle.lfm_protocol.specs.After.{same_link, same_handoff, releases, pushed, 
 use Rattle.lfm_protocol.specs.Begin.{Stepped, goes_on}
 use Rattle.lfm_core.specs.table.Words.{stepped_by, handoff_of, wake_of, link_of}
 use Rattle.lfm_mutex.specs.calls.Runs.{end_of, trail_of}
-use Rattle.lfm_mutex.specs.table.Rule.{seen}
-use Rattle.lfm_mutex.specs.declared.table.seat_view.Seen.{Seen}
+use Rattle.lfm_table.specs.Rule.{seen}
+use Rattle.lfm_table.specs.declared.seat_view.Seen.{Seen}
 use Rattle.lfm_mutex.specs.calls.Sight.{sends_of, send_at, claimed}
 use Rattle.lfm_protocol.specs.declared.answers.Answer.{Answer}
 use Rattle.lfm_protocol.specs.declared.answers.Turn.{Turn}
@@ -26,7 +26,7 @@ use Rattle.lfm_protocol.specs.declared.answers.Turn.TheVariants.{Open, Ended, Re
 use Rattle.lfm_protocol.specs.declared.answers.Why.{Why}
 use Rattle.lfm_model.specs.declared.refusals.Refusal.{Refusal}
 use Rattle.lfm_mutex.proofs.runs.BusyFacts.{idle_runs}
-use Rattle.lfm_mutex.proofs.tables.StepFacts.{made_of}
+use Rattle.lfm_table.proofs.tables.StepFacts.{made_of}
 
 abbrev pub is_send : Point → Bool
 is_send (SendWakeExchange t) = true

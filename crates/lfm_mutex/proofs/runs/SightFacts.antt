@@ -24,7 +24,7 @@ use Rattle.lfm_core.specs.steady.Steady.{DepthAt}
 use Rattle.lfm_core.specs.table.Words.{stepped_by, handoff_of, wake_of, link_of}
 use Rattle.lfm_mutex.specs.calls.Runs.{is_release}
 use Rattle.lfm_mutex.specs.calls.Sight.{Concludes, Still_at, Is_left}
-use Rattle.lfm_mutex.proofs.tables.StepFacts.{made_of}
+use Rattle.lfm_table.proofs.tables.StepFacts.{made_of}
 
 abbrev Ends_with : SeatState → Stepped → Type 0
 Ends_with x st = Concludes x st.turn st.seat

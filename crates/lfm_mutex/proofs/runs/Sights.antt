@@ -29,17 +29,17 @@ use Rattle.lfm_core.specs.laws.Events.{answered_by}
 use Rattle.lfm_protocol.specs.Place.{carries}
 use Rattle.lfm_protocol.specs.Points.{kind}
 use Rattle.lfm_core.specs.table.Words.{stepped_by, wake_of}
-use Rattle.lfm_mutex.specs.declared.table.seat_view.View.{View}
-use Rattle.lfm_mutex.specs.declared.table.rule.Moving.{Moving}
-use Rattle.lfm_mutex.specs.declared.table.seat_view.Seen.{Seen}
-use Rattle.lfm_mutex.specs.table.Rule.{value_in, last_hold, Hands, seen}
+use Rattle.lfm_table.specs.declared.seat_view.View.{View}
+use Rattle.lfm_table.specs.declared.rule.Moving.{Moving}
+use Rattle.lfm_table.specs.declared.seat_view.Seen.{Seen}
+use Rattle.lfm_table.specs.Rule.{value_in, last_hold, Hands, seen}
 use Rattle.lfm_mutex.specs.calls.Runs.{Errand, locking, trying, releasing, sending, receiving, refuses_for, errand, is_release, Ends, Ran, opens, trail_of, Counts, Holds, how_held, errand_of, is_releasing}
-use Rattle.lfm_mutex.specs.table.Steps.{Event, Value_goes, Leaves}
+use Rattle.lfm_table.specs.Steps.{Event, Value_goes, Leaves}
 use Rattle.lfm_mutex.specs.calls.Sight.{Sight, sight_of, by_depth, is_asleep, is_in_call, sends_of, Concludes, Refused_by, Still_at, Is_left, Suits, Finds, May_leave, Gains, Deepens, Leaves_off, Turned, claimed, Stays, Busy_seen, new_sight, Names}
 use Rattle.lfm_mutex.specs.Fresh.{Fresh}
 use Rattle.lfm_mutex.proofs.runs.RunFacts.{no_leaves}
 use Rattle.lfm_mutex.proofs.runs.Running.{begun_open}
-use Rattle.lfm_mutex.proofs.tables.StepFacts.{made_of, left_same}
+use Rattle.lfm_table.proofs.tables.StepFacts.{made_of, left_same}
 use Rattle.lfm_mutex.proofs.runs.SightFacts.{concludes}
 use Rattle.lfm_mutex.proofs.runs.SendFacts.{is_send, no_sends, sends_join, sent_path, refused_path}
 use Rattle.lfm_mutex.proofs.runs.BusyFacts.{busy_path}

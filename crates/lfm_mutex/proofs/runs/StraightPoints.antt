@@ -26,14 +26,14 @@ use Rattle.lfm_protocol.specs.declared.seats.SeatState.{SeatState}
 use Rattle.lfm_protocol.specs.Begin as Begin
 use Rattle.lfm_protocol.specs.Begin.{Stepped}
 use Rattle.lfm_core.specs.table.Words.{stepped_by, handoff_of}
-use Rattle.lfm_mutex.specs.declared.table.seat_view.View.{View}
-use Rattle.lfm_mutex.specs.declared.table.rule.Moving.{Moving}
+use Rattle.lfm_table.specs.declared.seat_view.View.{View}
+use Rattle.lfm_table.specs.declared.rule.Moving.{Moving}
 use Rattle.lfm_mutex.specs.calls.Runs.{opens, errand, releasing, is_release}
 use Rattle.lfm_mutex.specs.calls.Sight.{is_asleep}
-use Rattle.lfm_mutex.specs.table.Steps.{Event, oldest_in}
-use Rattle.lfm_mutex.specs.calls.Straight.{Fit, Made_step}
-use Rattle.lfm_mutex.proofs.tables.Started as Started
-use Rattle.lfm_mutex.proofs.tables.StepFacts.{made_of}
+use Rattle.lfm_table.specs.Steps.{Event, oldest_in}
+use Rattle.lfm_table.specs.Straight.{Fit, Made_step}
+use Rattle.lfm_table.proofs.tables.Started as Started
+use Rattle.lfm_table.proofs.tables.StepFacts.{made_of}
 
 pub awake_rests : (q : Point) → is_asleep q ≡ false → q ≡ Rest
 awake_rests Rest e = refl

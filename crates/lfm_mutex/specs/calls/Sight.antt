@@ -18,10 +18,10 @@ use Rattle.lfm_protocol.specs.declared.seats.SeatState.{SeatState}
 use Rattle.lfm_protocol.specs.After.{same_handoff}
 use Rattle.lfm_core.specs.table.Words.{handoff_of, wake_of}
 use Rattle.lfm_mutex.specs.declared.seat.Seat.{Seat}
-use Rattle.lfm_mutex.specs.declared.table.seat_view.Seen.{Seen}
-use Rattle.lfm_mutex.specs.declared.table.seat_view.View.{View}
-use Rattle.lfm_mutex.specs.table.Rule.{value_in, seen}
-use Rattle.lfm_mutex.specs.Reach.{Reached}
+use Rattle.lfm_table.specs.declared.seat_view.Seen.{Seen}
+use Rattle.lfm_table.specs.declared.seat_view.View.{View}
+use Rattle.lfm_table.specs.Rule.{value_in, seen}
+use Rattle.lfm_table.specs.Reach.{Reached}
 
 -- a seat as the crates above see it
 pub record Sight (T : Type 0) : Type 0 where

@@ -13,7 +13,7 @@ use Rattle.lfm_protocol.specs.declared.answers.Why.{Why}
 use Rattle.lfm_protocol.specs.declared.limits.Limits.{Limits}
 use Rattle.lfm_protocol.specs.declared.seats.SeatState.{SeatState}
 use Rattle.lfm_protocol.specs.Begin.{begin}
-use Rattle.lfm_mutex.specs.declared.table.seat_view.Seen.{Seen}
+pub use Rattle.lfm_table.specs.declared.seat_view.Seen.{Seen}
 use Rattle.lfm_mutex.specs.calls.Runs.{end_of, trail_of, opens}
 use Rattle.lfm_mutex.specs.calls.Sight.{Sight, is_asleep, is_in_call}
 

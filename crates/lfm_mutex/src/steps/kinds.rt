@@ -12,17 +12,17 @@ ghost use Rattle.lfm_mutex.specs.Belongs.{Beside, Of_mutex, state_of};
 ghost use Rattle.lfm_mutex.specs.calls.Runs.{is_release};
 ghost use Rattle.lfm_mutex.specs.calls.SeatSteps.{Steps_on, stores_owner};
 ghost use Rattle.lfm_mutex.specs.calls.Sight.{sight, May_leave};
-ghost use Rattle.lfm_mutex.specs.table.Steps.{Leaves, Event};
+ghost use Rattle.lfm_table.specs.Steps.{Leaves, Event};
 
-use crate::kept::Kept;
 use crate::mutex::Mutex;
 use crate::seat::Seat;
-use crate::table::seat_memory::{
-    add_loaded, advance, drop_oldest, gives, oldest_of, prepare, seat_carries, settle,
-};
-use crate::table::table_steps::make_step;
 use lfm_protocol::Turn;
 use lfm_protocol::kinds::Kind;
+use lfm_table::Kept;
+use lfm_table::seat_memory::{
+    add_loaded, advance, drop_oldest, gives, oldest_of, prepare, seat_carries, settle,
+};
+use lfm_table::table_steps::make_step;
 use std::marker::Brand;
 
 /// Makes the step at the seat's point, which is of this kind, with all that the proofs of the calls need of it. It is inlined,

@@ -8,13 +8,13 @@ use Rattle.lfm_protocol.specs.declared.points.Entrant.{Entrant}
 use Rattle.lfm_protocol.specs.declared.points.Point.TheVariants.{Rest, LockCountAdd, LockOwnerLoad, LockCountSubtract, EnterOwnerStore}
 use Rattle.lfm_protocol.specs.declared.seats.SeatState.{SeatState}
 use Rattle.lfm_core.specs.table.Words.{stepped_by}
-use Rattle.lfm_mutex.specs.table.Rule.{value_in}
+use Rattle.lfm_table.specs.Rule.{value_in}
 use Rattle.lfm_mutex.specs.calls.Runs.{opens}
 use Rattle.lfm_mutex.specs.calls.Sight.{sight_of}
-use Rattle.lfm_mutex.specs.table.Steps.{oldest_in}
+use Rattle.lfm_table.specs.Steps.{oldest_in}
 use Rattle.lfm_mutex.specs.calls.Straight.{Course, Comes_to}
 use Rattle.lfm_mutex.proofs.runs.Courses.{course_none, course_next, course_join, comes}
-use Rattle.lfm_mutex.proofs.tables.StepFacts.{made_of}
+use Rattle.lfm_table.proofs.tables.StepFacts.{made_of}
 use Rattle.lfm_mutex.proofs.runs.StraightPoints.{begins_again, fit_begun, added_none, added_some, owned, fit_after}
 use Rattle.lfm_mutex.proofs.asking.ask_again.Goals as goal
 

@@ -4,7 +4,7 @@ use Rattle.lfm_protocol.specs.Points.{kind}
 use Rattle.lfm_mutex.specs.calls.Runs.{weight, Holds}
 use Rattle.lfm_mutex.proofs.runs.RunFacts.{open_point}
 use Rattle.lfm_mutex.proofs.runs.Running.{event_of, bounded_more, ran_more, last_more, turn_more, release_more, steps_left, ends_of, holds_now}
-use Rattle.lfm_mutex.specs.table.Rule.{value_in}
+use Rattle.lfm_table.specs.Rule.{value_in}
 use Rattle.lfm_mutex.specs.calls.Sight.{Concludes}
 use Rattle.lfm_mutex.proofs.runs.Sights.{concludes_now, stays_now, concludes_join, stays_join}
 use Rattle.lfm_mutex.proofs.calls.finish.Goals as goal

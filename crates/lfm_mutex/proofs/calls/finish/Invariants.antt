@@ -2,7 +2,7 @@ use Rattle.std.proofs.Common.{◌≡◌, ◌+◌, ◌≤◌, length}
 use Rattle.std.specs.Prelude.{false}
 use Rattle.lfm_protocol.specs.declared.answers.Turn.TheVariants.{Open}
 use Rattle.lfm_mutex.specs.calls.Runs.{errand, is_release, Ran, opens, weight}
-use Rattle.lfm_mutex.specs.table.Rule.{value_in, last_hold}
+use Rattle.lfm_table.specs.Rule.{value_in, last_hold}
 use Rattle.lfm_mutex.specs.calls.Sight.{Concludes, Stays}
 use Rattle.lfm_mutex.proofs.calls.finish.Given as goal
 

@@ -1,10 +1,10 @@
 use Rattle.std.proofs.Common.{ℕ, ◌+◌, ◌≤◌, Option, length, sym, ap, subst, ◌∙◌, arith}
-use Rattle.lfm_mutex.specs.declared.table.seat_view.View.{View}
-use Rattle.lfm_mutex.specs.declared.table.rule.Moving.{Moving}
+use Rattle.lfm_table.specs.declared.seat_view.View.{View}
+use Rattle.lfm_table.specs.declared.rule.Moving.{Moving}
 use Rattle.lfm_mutex.specs.calls.Runs.{Ran, opens, release_steps}
-use Rattle.lfm_mutex.specs.table.Steps.{Leaves}
+use Rattle.lfm_table.specs.Steps.{Leaves}
 use Rattle.lfm_mutex.proofs.runs.Running.{begun_release, weight_begun, called_steps, called_at_once}
-use Rattle.lfm_mutex.specs.table.Rule.{value_in}
+use Rattle.lfm_table.specs.Rule.{value_in}
 use Rattle.lfm_mutex.specs.calls.Sight.{sight_of, Turned}
 use Rattle.lfm_mutex.proofs.runs.Sights.{begun, turned_by_release, turned_at_once, called_ends, may_leave, release_deep}
 use Rattle.lfm_protocol.specs.declared.limits.Limits.{Limits}

@@ -1,8 +1,8 @@
 use Rattle.std.proofs.Common.{Option, ℕ, sym, ap, subst, ◌∙◌}
-use Rattle.lfm_mutex.specs.declared.table.seat_view.View.{View}
+use Rattle.lfm_table.specs.declared.seat_view.View.{View}
 use Rattle.lfm_mutex.specs.calls.Runs.{Ran, Holds, opens}
 use Rattle.lfm_mutex.proofs.runs.Running.{called_steps, called_at_once}
-use Rattle.lfm_mutex.specs.table.Rule.{value_in, last_hold}
+use Rattle.lfm_table.specs.Rule.{value_in, last_hold}
 use Rattle.lfm_mutex.specs.calls.Sight.{sight_of, Stays, Turned}
 use Rattle.lfm_mutex.proofs.runs.Sights.{begun, turned_by_steps, turned_at_once, called_ends}
 use Rattle.lfm_protocol.specs.declared.limits.Limits.{Limits}

@@ -1,7 +1,7 @@
 use Rattle.std.proofs.Common.{rules, ℕ, sym, subst}
 use Rattle.atomic_table.specs.Table.{Joins}
-use Rattle.lfm_mutex.specs.declared.table.seat_view.View.{View}
-use Rattle.lfm_mutex.specs.table.Rule.{Held, with_joined, joined}
+use Rattle.lfm_table.specs.declared.seat_view.View.{View}
+use Rattle.lfm_table.specs.Rule.{Held, with_joined, joined}
 use Rattle.lfm_mutex.proofs.ends.Seats.{joins}
 use Rattle.lfm_mutex.proofs.closing.retire.Goals as goal
 

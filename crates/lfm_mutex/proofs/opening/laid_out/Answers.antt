@@ -1,7 +1,7 @@
 use Rattle.std.proofs.Common.{rules, ◌≡◌, [], ◌∷◌, ◌+◌, ◌*◌, List, replicate, ap, ◌∙◌, sym, subst, Some, Option}
 use Rattle.atomic_table.specs.Table.{opening}
-use Rattle.lfm_mutex.specs.declared.table.rule.Moving.{Moving}
-use Rattle.lfm_mutex.specs.table.Rule.{Held, first_view}
+use Rattle.lfm_table.specs.declared.rule.Moving.{Moving}
+use Rattle.lfm_table.specs.Rule.{Held, first_view}
 use Rattle.lfm_mutex.proofs.ends.Seats.{starts}
 use Rattle.lfm_mutex.proofs.opening.laid_out.Goals as goal
 

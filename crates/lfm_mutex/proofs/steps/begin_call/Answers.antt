@@ -1,4 +1,4 @@
-use Rattle.lfm_mutex.proofs.tables.Started.{begun}
+use Rattle.lfm_table.proofs.tables.Started.{begun}
 use Rattle.lfm_mutex.proofs.steps.begin_call.Goals as goal
 
 pub invariant_of-seat : goal.invariant_of-seat

@@ -1,9 +1,9 @@
 use Rattle.std.proofs.Common.{ap, subst}
 use Rattle.lfm_protocol.specs.declared.limits.Limits.{Limits}
-use Rattle.lfm_mutex.specs.table.Settled.{Became}
+use Rattle.lfm_table.specs.Settled.{Became}
 use Rattle.lfm_mutex.specs.calls.SeatSteps.{Begins}
 use Rattle.lfm_mutex.specs.calls.Sight.{sight}
-use Rattle.lfm_mutex.specs.declared.table.seat_view.View.{View}
+use Rattle.lfm_table.specs.declared.seat_view.View.{View}
 use Rattle.lfm_mutex.proofs.runs.OneStep.{begins_seen}
 use Rattle.lfm_mutex.proofs.steps.start.Goals as goal
 

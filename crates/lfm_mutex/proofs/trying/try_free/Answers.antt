@@ -11,13 +11,13 @@ use Rattle.lfm_protocol.specs.declared.points.Point.TheVariants.{Rest, TryCountE
 use Rattle.lfm_protocol.specs.declared.seats.SeatState.{SeatState}
 use Rattle.lfm_protocol.specs.Begin.{Stepped}
 use Rattle.lfm_core.specs.table.Words.{stepped_by, handoff_of}
-use Rattle.lfm_mutex.specs.table.Rule.{value_in}
+use Rattle.lfm_table.specs.Rule.{value_in}
 use Rattle.lfm_mutex.specs.calls.Runs.{opens}
 use Rattle.lfm_mutex.specs.calls.Sight.{sight_of}
-use Rattle.lfm_mutex.specs.table.Steps.{oldest_in}
+use Rattle.lfm_table.specs.Steps.{oldest_in}
 use Rattle.lfm_mutex.specs.calls.Straight.{Course, Comes_to, try_turn}
 use Rattle.lfm_mutex.proofs.runs.Courses.{course_none, course_next, course_join, comes}
-use Rattle.lfm_mutex.proofs.tables.StepFacts.{made_of}
+use Rattle.lfm_table.proofs.tables.StepFacts.{made_of}
 use Rattle.lfm_mutex.proofs.runs.StraightPoints.{begins_try_free, fit_begun, exchanged_none, exchanged_some, try_not_owned, posted, unposted, fit_after}
 use Rattle.lfm_mutex.proofs.trying.try_free.Goals as goal
 

@@ -7,16 +7,17 @@ use Rattle.lfm_protocol.specs.declared.points.Point.TheVariants.{Rest, ReleaseOw
 use Rattle.lfm_protocol.specs.declared.points.Releaser.TheVariants.{Unlocker}
 use Rattle.lfm_protocol.specs.declared.seats.SeatState.{SeatState}
 use Rattle.lfm_core.specs.table.Words.{stepped_by}
-use Rattle.lfm_mutex.specs.table.Rule.{value_in}
-use Rattle.lfm_mutex.specs.table.Steps.{Event, oldest_in}
+use Rattle.lfm_table.specs.Rule.{value_in}
+use Rattle.lfm_table.specs.Steps.{Event, oldest_in}
 use Rattle.lfm_mutex.specs.calls.Runs.{opens, weight}
 use Rattle.lfm_mutex.specs.calls.Sight.{sight_of}
-use Rattle.lfm_mutex.specs.calls.Straight.{Fit, Course, Comes_to}
+use Rattle.lfm_table.specs.Straight.{Fit}
+use Rattle.lfm_mutex.specs.calls.Straight.{Course, Comes_to}
 use Rattle.lfm_mutex.proofs.runs.Courses.{course_none, course_next, course_join, gives_up}
 use Rattle.lfm_mutex.proofs.runs.Running.{trail_grows, bounded_more}
 use Rattle.lfm_mutex.proofs.runs.Sights.{may_leave}
 use Rattle.lfm_mutex.proofs.runs.StraightPoints.{begins_last, fit_begun, freed, not_freed}
-use Rattle.lfm_mutex.proofs.tables.StepFacts.{made_of}
+use Rattle.lfm_table.proofs.tables.StepFacts.{made_of}
 use Rattle.lfm_mutex.proofs.unlocking.unlock_last.Goals as goal
 
 pub store_held-requires-clause-leaves : goal.store_held-requires-clause-leaves

@@ -5,7 +5,7 @@ use Rattle.lfm_protocol.specs.declared.answers.Answer.{Answer}
 use Rattle.lfm_protocol.specs.declared.answers.Turn.TheVariants.{Ended}
 use Rattle.lfm_protocol.specs.Begin.{Stepped}
 use Rattle.lfm_mutex.proofs.runs.Courses.{unlocks_once}
-use Rattle.lfm_mutex.proofs.tables.Started as Started
+use Rattle.lfm_table.proofs.tables.Started as Started
 use Rattle.lfm_mutex.proofs.runs.StraightPoints.{begins_still}
 use Rattle.lfm_mutex.proofs.unlocking.unlock_once.Goals as goal
 

@@ -5,11 +5,11 @@ use lib.ListN.{get_elem?}
 use Rattle.std.specs.List.{remove}
 use Rattle.std.specs.Slots.{slots_items}
 use Rattle.atomic_table.specs.Table.{Final, Seen}
-use Rattle.lfm_mutex.specs.declared.table.rule.Moving.{Moving}
+use Rattle.lfm_table.specs.declared.rule.Moving.{Moving}
 use Rattle.lfm_mutex.specs.Closing.{Idle}
-use Rattle.lfm_mutex.specs.Reach.{Reached}
-use Rattle.lfm_mutex.specs.table.Rule.{Held, joined_of}
-use Rattle.lfm_mutex.proofs.tables.RuleKept.{length_at}
+use Rattle.lfm_table.specs.Reach.{Reached}
+use Rattle.lfm_table.specs.Rule.{Held, joined_of}
+use Rattle.lfm_table.proofs.tables.RuleKept.{length_at}
 use Rattle.lfm_mutex.proofs.ends.Seats.{at_end}
 use Rattle.lfm_protocol.specs.declared.points.Point.TheVariants.{Rest}
 use Rattle.lfm_mutex.proofs.ends.Ends.{rest_of, seen_last, last_seen, was_last, was_there, at_end_of, longer, free_seat, ends, None_at_end, item_at, in_removed, not_removed, pigeons}

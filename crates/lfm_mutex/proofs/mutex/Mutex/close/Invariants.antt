@@ -2,8 +2,8 @@ use Rattle.std.proofs.Common.{◌≡◌, ◌+◌, ◌≤◌, ◌⊎◌, ℕ, [],
 use mathlib.Core.Option.{some}
 use lib.ListN.{get_elem?}
 use Rattle.lfm_protocol.specs.declared.points.Point.TheVariants.{Rest}
-use Rattle.lfm_mutex.specs.declared.table.seat_view.Role.TheVariants.{User}
-use Rattle.lfm_mutex.specs.table.Rule.{joined_of}
+use Rattle.lfm_table.specs.declared.seat_view.Role.TheVariants.{User}
+use Rattle.lfm_table.specs.Rule.{joined_of}
 use Rattle.lfm_mutex.proofs.mutex.Mutex.close.Given as goal
 
 abbrev pub invariant-loop-seat : goal.invariant-loop-seat

@@ -2,7 +2,7 @@ use Rattle.std.proofs.Common.{length, ◌≡◌, ◌≤◌, ◌+◌, ℕ, [], ve
 use mathlib.Core.Option.{some}
 use lib.ListN.{get_elem?}
 use Rattle.lfm_protocol.specs.Seats.{absent}
-use Rattle.lfm_mutex.specs.declared.table.seat_view.Role.TheVariants.{User}
+use Rattle.lfm_table.specs.declared.seat_view.Role.TheVariants.{User}
 use Rattle.lfm_mutex.specs.Fresh.{Fresh}
 use Rattle.lfm_mutex.proofs.mutex.Mutex.new.Given as goal
 

@@ -1,5 +1,5 @@
 use Rattle.std.proofs.Common.{rules, sym, ap, ◌∙◌, arith}
-use Rattle.lfm_mutex.specs.table.Rule.{value_in}
+use Rattle.lfm_table.specs.Rule.{value_in}
 use Rattle.lfm_mutex.proofs.ends.Seats.{looks, depth_seen}
 use Rattle.lfm_mutex.proofs.runs.Sights.{looked_sight, owner_told}
 use Rattle.lfm_mutex.proofs.mutex.Mutex.owner.Goals as goal

@@ -1,8 +1,8 @@
 use Rattle.std.proofs.Common.{ℕ, sym, ap, ◌∙◌, subst}
-use Rattle.lfm_mutex.specs.table.Rule.{value_in}
-use Rattle.lfm_mutex.specs.table.Seats.{Rooted}
-use Rattle.lfm_mutex.specs.table.Steps.{kept_out, put_in, CanMake}
-use Rattle.lfm_mutex.proofs.tables.SeatKept.{can_make, slot_there, made_next}
+use Rattle.lfm_table.specs.Rule.{value_in}
+use Rattle.lfm_table.specs.Seats.{Rooted}
+use Rattle.lfm_table.specs.Steps.{kept_out, put_in, CanMake}
+use Rattle.lfm_table.proofs.tables.SeatKept.{can_make, slot_there, made_next}
 use Rattle.lfm_mutex.proofs.steps.kinds.make_of.Goals as goal
 
 pub make_step-found-requires-clause-can : goal.make_step-found-requires-clause-can

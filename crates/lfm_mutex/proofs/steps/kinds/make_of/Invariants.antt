@@ -1,4 +1,4 @@
-use Rattle.lfm_mutex.specs.table.Rule.{value_in}
+use Rattle.lfm_table.specs.Rule.{value_in}
 use Rattle.lfm_mutex.proofs.steps.kinds.make_of.Given as goal
 
 abbrev pub ghosts-make_step : goal.ghosts-make_step

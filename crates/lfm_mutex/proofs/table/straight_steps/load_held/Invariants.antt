@@ -1,5 +1,0 @@
-use Rattle.lfm_mutex.specs.table.Rule.{value_in}
-use Rattle.lfm_mutex.proofs.table.straight_steps.load_held.Given as goal
-
-abbrev pub ghosts-load_owner : goal.ghosts-load_owner
-ghosts-load_owner g a = record { standing = a.plain.now; hand = value_in a.hand.now }

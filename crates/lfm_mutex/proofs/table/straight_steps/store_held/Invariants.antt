@@ -1,5 +1,0 @@
-use Rattle.lfm_mutex.specs.table.Rule.{value_in}
-use Rattle.lfm_mutex.proofs.table.straight_steps.store_held.Given as goal
-
-abbrev pub ghosts-store_owner : goal.ghosts-store_owner
-ghosts-store_owner g a = record { standing = a.plain.now; hand = value_in a.hand.now }

@@ -1,5 +1,0 @@
-use Rattle.lfm_mutex.specs.table.Rule.{value_in}
-use Rattle.lfm_mutex.proofs.table.straight_steps.subtract_last.Given as goal
-
-abbrev pub ghosts-subtract_count : goal.ghosts-subtract_count
-ghosts-subtract_count g a = record { standing = a.plain.now; hand = value_in a.hand.now }

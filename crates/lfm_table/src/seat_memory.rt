@@ -1,0 +1,222 @@
+//! The parts of a step in plain memory: what the pop list loses and gains, and how the value goes into its slot and out of
+//! it.
+ghost use Rattle.std.specs.Prelude.{◌≡◌, ◌<◌, ◌≤◌, ◌∷◌, ⊤, Option, Some, None, true, false, length};
+ghost use Rattle.atomic_table.specs.Table.{rest};
+ghost use Rattle.lfm_protocol.specs.declared.kinds.Kind.{Kind};
+ghost use Rattle.lfm_core.specs.table.Carried.{carries_value};
+ghost use Rattle.lfm_protocol.specs.Points.{kind, target};
+ghost use Rattle.lfm_protocol.specs.Room.{HasNumbers};
+ghost use Rattle.lfm_core.specs.table.Words.{stepped_by, link_of, wake_of};
+ghost use Rattle.lfm_table.specs.declared.rule.Moving.{Moving};
+ghost use Rattle.lfm_table.specs.Rule.{is_carried};
+ghost use Rattle.lfm_table.specs.Steps.{gives_at, dropped, kept_out, put_in, added, Took, oldest_in};
+
+use crate::kept::Kept;
+use crate::moving_box::MovingBox;
+use crate::table_steps::{Place, SharedTable};
+use lfm_model::SeatNo;
+use lfm_protocol::kinds::Kind;
+use lfm_protocol::points::Point;
+use lfm_protocol::{SeatState, Turn, Why};
+use lfm_words::{Link, Record, Wake, unpack_handoff, unpack_link};
+
+/// A step at this point may give the value away.
+pub fn gives(point: Point) -> bool
+    ensures { result ≡ gives_at point }
+{
+    matches!(
+        point,
+        Point::ReleaseCountSubtract(_)
+            | Point::ReleaseHandoffStore(_)
+            | Point::GrantWakeStore(_, _)
+            | Point::SendWakeStore(_)
+    )
+}
+
+/// The value is out with a seat of these data.
+pub fn seat_carries(standing: &SeatState) -> bool
+    ensures { result ≡ carries_value standing.now }
+{
+    if standing.depth == 0 {
+        standing.point.carries()
+    } else {
+        true
+    }
+}
+
+/// What a word holds as the state of a sleeper.
+fn wake_found(word: u64) -> Wake
+    ensures { result ≡ wake_of word }
+{
+    match word {
+        0 => Wake::Quiet,
+        1 => Wake::Waiting,
+        2 => Wake::Claimed,
+        _ => Wake::Grant((word - 3) / 4),
+    }
+}
+
+/// The oldest record of the pop list in hand.
+pub fn oldest_of<T: Drop>(moving: &Option<MovingBox<T>>) -> Option<Record>
+    ensures { result ≡ oldest_in moving.now }
+{
+    match moving {
+        Some(moving) => moving.oldest(),
+        None => None,
+    }
+}
+
+// An assignment drops what was there, which splits a proof in two.
+pub fn put<T: Drop>(moving: &mut Option<MovingBox<T>>, new: Option<MovingBox<T>>)
+    ensures { moving.new ≡ new }
+{
+    *moving = new;
+}
+
+/// Takes the oldest record out of the pop list, where the step at the seat's point takes it.
+pub fn drop_oldest<T: Drop>(moving: &mut Option<MovingBox<T>>, standing: &SeatState)
+    ensures { moving.new ≡ dropped standing.now moving.old }
+{
+    if !standing.drops_oldest() {
+        return;
+    }
+    match moving {
+        Some(moving) => moving.drop_oldest(),
+        None => {}
+    }
+}
+
+/// Puts what is in hand into the slot.
+pub fn put_back<T: Kept>(table: &SharedTable<T>, place: &mut Place<T>, moving: Option<MovingBox<T>>)
+    requires table { place.old.table_id ≡ table.now.table_id }
+    requires slot { (x : Option (Moving T)) × (place.old.me.1 ≡ (0, x) ∷ rest place.old.me.1) }
+    ensures table { (place.new.table_id ≡ place.old.table_id) × (place.new.id ≡ place.old.id) }
+    ensures slot { place.new.me ≡ (place.old.me.0, (0, moving) ∷ rest place.old.me.1) }
+{
+    table.exchange(place, 0, moving);
+}
+
+/// Puts the value in hand into the slot.
+#[inline(always)]
+pub fn put_out<T: Kept>(
+    table: &SharedTable<T>,
+    place: &mut Place<T>,
+    moving: &mut Option<MovingBox<T>>,
+)
+    requires table { place.old.table_id ≡ table.now.table_id }
+    requires slot { (x : Option (Moving T)) × (place.old.me.1 ≡ (0, x) ∷ rest place.old.me.1) }
+    ensures table { (place.new.table_id ≡ place.old.table_id) × (place.new.id ≡ place.old.id) }
+    ensures moving { moving.new ≡ None }
+    ensures slot { place.new.me ≡ (place.old.me.0, (0, moving.old) ∷ rest place.old.me.1) }
+{
+    let value = moving.take();
+    put_back(table, place, value);
+}
+
+/// Takes the value out of the slot, for a seat that has none in hand.
+#[inline(always)]
+pub fn take_out<T: Kept>(
+    table: &SharedTable<T>,
+    place: &mut Place<T>,
+    moving: &mut Option<MovingBox<T>>,
+)
+    requires table { place.old.table_id ≡ table.now.table_id }
+    requires slot { (x : Option (Moving T)) × (place.old.me.1 ≡ (0, x) ∷ rest place.old.me.1) }
+    ensures table { (place.new.table_id ≡ place.old.table_id) × (place.new.id ≡ place.old.id) }
+    ensures took { (place.old.me.1 ≡ (0, moving.new) ∷ rest place.old.me.1) × (place.new.me ≡ (place.old.me.0, (0, None) ∷ rest place.old.me.1)) }
+{
+    let taken = table.exchange(place, 0, None);
+    put(moving, taken);
+}
+
+/// Puts the value into the slot where the step may give it away.
+pub fn prepare<T: Kept>(
+    table: &SharedTable<T>,
+    place: &mut Place<T>,
+    moving: &mut Option<MovingBox<T>>,
+    gives: bool,
+)
+    requires table { place.old.table_id ≡ table.now.table_id }
+    requires slot { gives ≡ true → (x : Option (Moving T)) × (place.old.me.1 ≡ (0, x) ∷ rest place.old.me.1) }
+    ensures table { (place.new.table_id ≡ place.old.table_id) × (place.new.id ≡ place.old.id) }
+    ensures moving { moving.new ≡ kept_out gives moving.old }
+    ensures slot { place.new.me ≡ (place.old.me.0, put_in gives moving.old place.old.me.1) }
+{
+    if !gives {
+        return;
+    }
+    let value = moving.take();
+    put_back(table, place, value);
+}
+
+/// Puts the record of a link that was loaded into the pop list.
+pub fn add_loaded<T: Drop>(
+    moving: &mut Option<MovingBox<T>>,
+    standing: &SeatState,
+    number: u64,
+    found: u64,
+)
+    requires target { (0 < target standing.now.point number) × (target standing.now.point number ≤ 65535) }
+    requires room { kind standing.now.point ≡ Some Kind.LinkLoad → (x : Moving T) → moving.old ≡ Some x → length x.popped.records < x.popped.room }
+    ensures { moving.new ≡ added standing.now number found moving.old }
+{
+    if standing.point.kind() != Some(Kind::LinkLoad) {
+        return;
+    }
+    let seat = SeatNo::known(standing.point.target(number));
+    match moving {
+        Some(moving) => moving.add_older(seat, unpack_link(found).stamp),
+        None => {}
+    }
+}
+
+/// Takes the value out of the slot where the seat carries it and has none in hand.
+pub fn settle<T: Kept>(
+    table: &SharedTable<T>,
+    place: &mut Place<T>,
+    moving: &mut Option<MovingBox<T>>,
+    carries: bool,
+)
+    requires table { place.old.table_id ≡ table.now.table_id }
+    requires slot { is_carried moving.old ≡ false → carries ≡ true → (x : Option (Moving T)) × (place.old.me.1 ≡ (0, x) ∷ rest place.old.me.1) }
+    ensures table { (place.new.table_id ≡ place.old.table_id) × (place.new.id ≡ place.old.id) }
+    ensures took { Took (is_carried moving.old) carries moving.old place.old.me moving.new place.new.me }
+{
+    if moving.is_some() {
+        return;
+    }
+    if !carries {
+        return;
+    }
+    let taken = table.exchange(place, 0, None);
+    put(moving, taken);
+}
+
+/// Moves the seat on by what its step found: the core's own method of the kind.
+pub fn advance(standing: &mut SeatState, number: u64, found: u64, oldest: Option<Record>) -> Turn
+    requires { HasNumbers standing.old standing.old.point }
+    ensures seat { standing.new ≡ (stepped_by standing.old number found oldest).seat }
+    ensures turn { result ≡ (stepped_by standing.old number found oldest).turn }
+{
+    match standing.point.kind() {
+        None => Turn::Refused(Why::Idle),
+        Some(Kind::CountExchange) => standing.after_count_exchange(found),
+        Some(Kind::CountAdd) => standing.after_count_add(found),
+        Some(Kind::CountSubtract) => standing.after_count_subtract(number, found, oldest),
+        Some(Kind::OwnerLoad) => standing.after_owner_load(number, found),
+        Some(Kind::OwnerStore) => standing.after_owner_store(),
+        Some(Kind::PushLoad) => standing.after_push_load(unpack_link(found)),
+        Some(Kind::PushExchange) => standing.after_push_exchange(unpack_link(found)),
+        Some(Kind::ClearHead) => standing.after_clear_head(unpack_link(found)),
+        Some(Kind::LinkLoad) => standing.after_link_load(number, unpack_link(found)),
+        Some(Kind::LinkStore) => standing.after_link_store(),
+        Some(Kind::HandoffLoad) => standing.after_handoff_load(unpack_handoff(found)),
+        Some(Kind::HandoffStore) => standing.after_handoff_store(),
+        Some(Kind::HandoffExchange) => {
+            standing.after_handoff_exchange(number, unpack_handoff(found), oldest)
+        }
+        Some(Kind::WakeLoad) => standing.after_wake_load(wake_found(found)),
+        Some(Kind::WakeStore) => standing.after_wake_store(),
+        Some(Kind::WakeExchange) => standing.after_wake_exchange(wake_found(found)),
+    }
+}

@@ -1,0 +1,253 @@
+//! The atomic steps of a call that is made straight on, each by itself. The seat's plain data at the step, `plain`, are for
+//! the proof alone: a caller makes them up on the spot, no step reads more of them than their point, and the data that the
+//! seat keeps are not written.
+ghost use Rattle.std.specs.Prelude.{◌≡◌, ◌≢◌, ℕ, Some, None, true, false};
+ghost use Rattle.lfm_protocol.specs.declared.kinds.Kind.{Kind as KindNow};
+ghost use Rattle.lfm_protocol.specs.declared.points.Point.TheVariants.{ReleaseOwnerStore};
+ghost use Rattle.lfm_protocol.specs.declared.points.Releaser.{Releaser};
+ghost use Rattle.lfm_protocol.specs.After.{drops_oldest};
+ghost use Rattle.lfm_protocol.specs.Points.{kind};
+ghost use Rattle.lfm_core.specs.table.Carried.{carries_value};
+ghost use Rattle.lfm_core.specs.table.Words.{stepped_by};
+ghost use Rattle.lfm_table.specs.Steps.{gives_at, Leaves};
+ghost use Rattle.lfm_table.specs.Straight.{Fit, Made_step};
+
+use crate::kept::Kept;
+use crate::moving_box::MovingBox;
+use crate::seat_memory::{put_out, take_out};
+use crate::table_steps::{
+    Place, SharedTable, add_count, exchange_count, load_handoff, load_owner, store_owner,
+    subtract_count,
+};
+use lfm_protocol::{Limits, SeatState};
+use std::marker::Brand;
+
+/// Adds 1 to the count, for a seat that doesn't hold, which comes to carry the value just where it found 0.
+#[inline(always)]
+pub fn add_free<T: Kept>(
+    table: &SharedTable<T>,
+    place: &mut Place<T>,
+    moving: &mut Option<MovingBox<T>>,
+    number: u64,
+    limits: Limits,
+    plain: &SeatState,
+) -> u64
+    requires table { place.old.table_id ≡ table.now.table_id }
+    requires fit { Fit number place.old.table_id.words place.old.id limits plain.now place.old.me moving.old }
+    requires kind { kind plain.now.point ≡ Some KindNow.CountAdd }
+    requires free { carries_value plain.now ≡ false }
+    requires gains { carries_value (stepped_by plain.now number 0 None).seat ≡ true }
+    requires idles { (n : ℕ) → n ≢ 0 → carries_value (stepped_by plain.now number n None).seat ≡ false }
+    ensures table { place.new.table_id ≡ place.old.table_id }
+    ensures step { Made_step T.follows T.fits number place.new.table_id.words place.new.id limits plain.now result place.old.me moving.old place.new.me moving.new }
+{
+    let found = add_count::<T, Brand>(table, place, plain, &*moving, number, limits.seats);
+    if found != 0 {
+        return found;
+    }
+    take_out(table, place, moving);
+    0
+}
+
+/// Adds 1 to the count, for a seat that holds.
+#[inline(always)]
+pub fn add_held<T: Kept>(
+    table: &SharedTable<T>,
+    place: &mut Place<T>,
+    moving: &Option<MovingBox<T>>,
+    number: u64,
+    limits: Limits,
+    plain: &SeatState,
+) -> u64
+    requires table { place.old.table_id ≡ table.now.table_id }
+    requires fit { Fit number place.old.table_id.words place.old.id limits plain.now place.old.me moving.now }
+    requires kind { kind plain.now.point ≡ Some KindNow.CountAdd }
+    requires held { carries_value plain.now ≡ true }
+    ensures table { place.new.table_id ≡ place.old.table_id }
+    ensures step { Made_step T.follows T.fits number place.new.table_id.words place.new.id limits plain.now result place.old.me moving.now place.new.me moving.now }
+{
+    add_count::<T, Brand>(table, place, plain, moving, number, limits.seats)
+}
+
+/// Stores the owner, for a seat that carries the value.
+#[inline(always)]
+pub fn store_held<T: Kept>(
+    table: &SharedTable<T>,
+    place: &mut Place<T>,
+    moving: &Option<MovingBox<T>>,
+    number: u64,
+    limits: Limits,
+    plain: &SeatState,
+)
+    requires table { place.old.table_id ≡ table.now.table_id }
+    requires fit { Fit number place.old.table_id.words place.old.id limits plain.now place.old.me moving.now }
+    requires kind { kind plain.now.point ≡ Some KindNow.OwnerStore }
+    requires held { carries_value plain.now ≡ true }
+    requires keeps { drops_oldest plain.now ≡ false }
+    requires leaves { (r : Releaser) → plain.now.point ≡ ReleaseOwnerStore r → Leaves T.follows T.fits moving.now place.old.me.0 }
+    ensures table { place.new.table_id ≡ place.old.table_id }
+    ensures step { (n : ℕ) × Made_step T.follows T.fits number place.new.table_id.words place.new.id limits plain.now n place.old.me moving.now place.new.me moving.now }
+{
+    store_owner::<T, Brand>(table, place, plain, moving, number, limits.seats);
+}
+
+/// Loads the owner, for a seat that holds.
+#[inline(always)]
+pub fn load_held<T: Kept>(
+    table: &SharedTable<T>,
+    place: &mut Place<T>,
+    moving: &Option<MovingBox<T>>,
+    number: u64,
+    limits: Limits,
+    plain: &SeatState,
+) -> u64
+    requires table { place.old.table_id ≡ table.now.table_id }
+    requires fit { Fit number place.old.table_id.words place.old.id limits plain.now place.old.me moving.now }
+    requires kind { kind plain.now.point ≡ Some KindNow.OwnerLoad }
+    requires held { carries_value plain.now ≡ true }
+    ensures table { place.new.table_id ≡ place.old.table_id }
+    ensures step { Made_step T.follows T.fits number place.new.table_id.words place.new.id limits plain.now result place.old.me moving.now place.new.me moving.now }
+{
+    load_owner::<T, Brand>(table, place, plain, moving, number, limits.seats)
+}
+
+/// Subtracts 1 from the count, for a seat that goes on holding.
+#[inline(always)]
+pub fn subtract_held<T: Kept>(
+    table: &SharedTable<T>,
+    place: &mut Place<T>,
+    moving: &Option<MovingBox<T>>,
+    number: u64,
+    limits: Limits,
+    plain: &SeatState,
+)
+    requires table { place.old.table_id ≡ table.now.table_id }
+    requires fit { Fit number place.old.table_id.words place.old.id limits plain.now place.old.me moving.now }
+    requires kind { kind plain.now.point ≡ Some KindNow.CountSubtract }
+    requires held { carries_value plain.now ≡ true }
+    requires keeps { gives_at plain.now.point ≡ false }
+    ensures table { place.new.table_id ≡ place.old.table_id }
+    ensures step { (n : ℕ) × Made_step T.follows T.fits number place.new.table_id.words place.new.id limits plain.now n place.old.me moving.now place.new.me moving.now }
+{
+    subtract_count::<T, Brand>(table, place, plain, moving, number, limits.seats);
+}
+
+/// Subtracts 1 from the count with the value in its slot, for a seat that has given up the owner word. The seat takes the
+/// value out again where it found more than its own 1.
+#[inline(always)]
+pub fn subtract_last<T: Kept>(
+    table: &SharedTable<T>,
+    place: &mut Place<T>,
+    moving: &mut Option<MovingBox<T>>,
+    number: u64,
+    limits: Limits,
+    plain: &SeatState,
+) -> u64
+    requires table { place.old.table_id ≡ table.now.table_id }
+    requires fit { Fit number place.old.table_id.words place.old.id limits plain.now place.old.me moving.old }
+    requires kind { kind plain.now.point ≡ Some KindNow.CountSubtract }
+    requires gives { gives_at plain.now.point ≡ true }
+    requires leaves { carries_value (stepped_by plain.now number 1 None).seat ≡ false }
+    requires carries { (n : ℕ) → n ≢ 1 → carries_value (stepped_by plain.now number n None).seat ≡ true }
+    ensures table { place.new.table_id ≡ place.old.table_id }
+    ensures step { Made_step T.follows T.fits number place.new.table_id.words place.new.id limits plain.now result place.old.me moving.old place.new.me moving.new }
+{
+    put_out(table, place, moving);
+    let found = subtract_count::<T, Brand>(table, place, plain, &None, number, limits.seats);
+    if found == 1 {
+        return 1;
+    }
+    take_out(table, place, moving);
+    found
+}
+
+/// Exchanges the count from 0 to 1, for a seat that doesn't hold, which comes to carry the value just where it found 0.
+#[inline(always)]
+pub fn exchange_free<T: Kept>(
+    table: &SharedTable<T>,
+    place: &mut Place<T>,
+    moving: &mut Option<MovingBox<T>>,
+    number: u64,
+    limits: Limits,
+    plain: &SeatState,
+) -> u64
+    requires table { place.old.table_id ≡ table.now.table_id }
+    requires fit { Fit number place.old.table_id.words place.old.id limits plain.now place.old.me moving.old }
+    requires kind { kind plain.now.point ≡ Some KindNow.CountExchange }
+    requires free { carries_value plain.now ≡ false }
+    requires gains { carries_value (stepped_by plain.now number 0 None).seat ≡ true }
+    requires idles { (n : ℕ) → n ≢ 0 → carries_value (stepped_by plain.now number n None).seat ≡ false }
+    ensures table { place.new.table_id ≡ place.old.table_id }
+    ensures step { Made_step T.follows T.fits number place.new.table_id.words place.new.id limits plain.now result place.old.me moving.old place.new.me moving.new }
+{
+    let found = exchange_count::<T, Brand>(table, place, plain, &*moving, number, limits.seats);
+    if found != 0 {
+        return found;
+    }
+    take_out(table, place, moving);
+    0
+}
+
+/// Exchanges the count from 0 to 1, for a seat that holds.
+#[inline(always)]
+pub fn exchange_held<T: Kept>(
+    table: &SharedTable<T>,
+    place: &mut Place<T>,
+    moving: &Option<MovingBox<T>>,
+    number: u64,
+    limits: Limits,
+    plain: &SeatState,
+) -> u64
+    requires table { place.old.table_id ≡ table.now.table_id }
+    requires fit { Fit number place.old.table_id.words place.old.id limits plain.now place.old.me moving.now }
+    requires kind { kind plain.now.point ≡ Some KindNow.CountExchange }
+    requires held { carries_value plain.now ≡ true }
+    ensures table { place.new.table_id ≡ place.old.table_id }
+    ensures step { Made_step T.follows T.fits number place.new.table_id.words place.new.id limits plain.now result place.old.me moving.now place.new.me moving.now }
+{
+    exchange_count::<T, Brand>(table, place, plain, moving, number, limits.seats)
+}
+
+/// Loads the owner, for a seat that doesn't hold, and so finds another.
+#[inline(always)]
+pub fn load_free<T: Kept>(
+    table: &SharedTable<T>,
+    place: &mut Place<T>,
+    moving: &Option<MovingBox<T>>,
+    number: u64,
+    limits: Limits,
+    plain: &SeatState,
+) -> u64
+    requires table { place.old.table_id ≡ table.now.table_id }
+    requires fit { Fit number place.old.table_id.words place.old.id limits plain.now place.old.me moving.now }
+    requires kind { kind plain.now.point ≡ Some KindNow.OwnerLoad }
+    requires flat { plain.now.depth ≡ 0 }
+    requires free { carries_value plain.now ≡ false }
+    requires idles { (n : ℕ) → n ≢ number → carries_value (stepped_by plain.now number n None).seat ≡ false }
+    ensures table { place.new.table_id ≡ place.old.table_id }
+    ensures other { result ≢ number }
+    ensures step { Made_step T.follows T.fits number place.new.table_id.words place.new.id limits plain.now result place.old.me moving.now place.new.me moving.now }
+{
+    load_owner::<T, Brand>(table, place, plain, moving, number, limits.seats)
+}
+
+/// Loads the handoff, for a seat that doesn't hold.
+#[inline(always)]
+pub fn load_handoff_free<T: Kept>(
+    table: &SharedTable<T>,
+    place: &mut Place<T>,
+    moving: &Option<MovingBox<T>>,
+    number: u64,
+    limits: Limits,
+    plain: &SeatState,
+) -> u64
+    requires table { place.old.table_id ≡ table.now.table_id }
+    requires fit { Fit number place.old.table_id.words place.old.id limits plain.now place.old.me moving.now }
+    requires kind { kind plain.now.point ≡ Some KindNow.HandoffLoad }
+    requires free { carries_value plain.now ≡ false }
+    requires idles { (n : ℕ) → carries_value (stepped_by plain.now number n None).seat ≡ false }
+    ensures table { place.new.table_id ≡ place.old.table_id }
+    ensures step { Made_step T.follows T.fits number place.new.table_id.words place.new.id limits plain.now result place.old.me moving.now place.new.me moving.now }
+{
+    load_handoff::<T, Brand>(table, place, plain, moving, number, limits.seats)
+}

@@ -5,9 +5,13 @@
 #[cfg(test)]
 mod devices;
 #[cfg(test)]
+mod explaining;
+#[cfg(test)]
 mod out_of_memory;
 #[cfg(test)]
 mod packing;
+#[cfg(test)]
+mod replaying;
 #[cfg(test)]
 mod running;
 #[cfg(test)]

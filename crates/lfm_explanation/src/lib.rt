@@ -7,8 +7,6 @@ mod cases;
 pub mod explaining;
 mod shown;
 mod step_names;
-#[cfg(test)]
-mod tests;
 mod values;
 
 pub use explaining::explain;

@@ -1,5 +1,5 @@
 use Rattle.std.proofs.Common.{length}
-use Rattle.lfm_monitor_tests.proofs.Popped.{was_last}
+use Rattle.lfm_mutex.proofs.ends.Ends.{was_last}
 use Rattle.lfm_monitor_tests.proofs.monitors.take_one.Goals as goal
 
 pub returns : goal.returns

@@ -1,5 +1,5 @@
 use Rattle.std.proofs.Common.{length}
-use Rattle.lfm_work_tests.proofs.Popped.{was_last, was_there}
+use Rattle.lfm_mutex.proofs.ends.Ends.{was_last, was_there}
 use Rattle.lfm_work_tests.proofs.performing.take_two.Goals as goal
 
 pub returns : goal.returns

@@ -1,4 +1,5 @@
-use Rattle.std.proofs.Common.{◌∙◌}
+use Rattle.std.proofs.Common.{arith, ◌∙◌}
+use Rattle.std.proofs.lemmas.Grind.{common_steps}
 use Rattle.lfm_program.proofs.Commands.{one_more}
 use Rattle.lfm_program.proofs.Refusing.{refused_there}
 use Rattle.lfm_program.proofs.performing.perform.Goals as goal
@@ -14,3 +15,6 @@ performing-preserved g c = record {
 pub returns-in-Err-clause-refused : goal.returns-in-Err-clause-refused
 returns-in-Err-clause-refused g c =
     refused_there c.args.monitor.now c.args.commands.now c.performing.index _ _ _ _ _ c.performing-test.true c.performing.invariant.adds c.in-Err.ensures.adds c.in-Err.ensures.refused
+
+pub returns-clause-adds : goal.returns-clause-adds
+returns-clause-adds g c = grind (arith, common_steps)

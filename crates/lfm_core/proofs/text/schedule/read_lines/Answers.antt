@@ -1,4 +1,4 @@
-use Rattle.std.proofs.Common.{◌∙◌, ◌∷◌, [], length, sym, arith, ap, length-append}
+use Rattle.std.proofs.Common.{rules, ◌∙◌, ◌∷◌, [], length, sym, arith, ap, length-append}
 use Rattle.lfm_text.specs.Text.{lines_of}
 use Rattle.lfm_core.proofs.texts.Reading.{goes_on}
 use Rattle.lfm_core.proofs.text.schedule.read_lines.Goals as goal
@@ -13,3 +13,6 @@ reading-preserved c =
       numbered = rw grew (omega (arith, lengths, c.reading.invariant.numbered));
       room = c.push_reserved.ensures.capacity ∙ c.reading.invariant.room;
     }
+
+pub reading-init : goal.reading-init
+reading-init c = search rules

@@ -1,0 +1,5 @@
+use Rattle.std.proofs.Common.{rules}
+use Rattle.lfm_protocol.proofs.seats.SeatState.begin_awake.Goals as goal
+
+pub returns-in-SendLock-clause-seat : goal.returns-in-SendLock-clause-seat
+returns-in-SendLock-clause-seat c = search rules

@@ -2,7 +2,7 @@ use Rattle.std.proofs.Common.{rules, ℕ, Option, ◌∷◌, [], ◌++◌, lengt
 use Rattle.lfm_mutex.specs.Belongs.{limits_of}
 use Rattle.lfm_mutex.specs.calls.Sight.{sight}
 use Rattle.lfm_condvar.specs.Lists.{waiter}
-use Rattle.lfm_condvar.proofs.Sent.{awake_still, follows_more, in_turn, sent_more, some_by, some_sent, taken_more}
+use Rattle.lfm_condvar.proofs.Sent.{all_sent, awake_still, follows_more, in_turn, sent_more, some_by, some_sent, taken_more}
 use Rattle.lfm_condvar.proofs.waking.send_all.Goals as goal
 
 pub sends-preserved : goal.sends-preserved
@@ -27,3 +27,7 @@ returns-in-Err-clause-steps g c = let i = c.sends.invariant in let s = sight c.a
 pub returns-in-None-clause-steps : goal.returns-in-None-clause-steps
 returns-in-None-clause-steps g c = let i = c.sends.invariant in let o = c.in-Ok.ensures.steps in
     (i.steps.0 ++ o.0, in_turn (limits_of c.args.mutex.now) i.steps.0 o.0 (sight c.args.seat.now) (sight c.sends.seat) (sight c.send_oldest.new.seat) i.steps.1 o.1)
+
+pub returns-in-None-clause-sends : goal.returns-in-None-clause-sends
+returns-in-None-clause-sends g c = let i = c.sends.invariant in
+    all_sent (limits_of c.args.mutex.now).seats c.sends.sent i.gone.0 (sight c.args.seat.now) (sight c.sends.seat) (sight c.send_oldest.new.seat) c.args.waiters.now c.sends.waiters c.send_oldest.new.waiters i.gone.1 i.gone.2 i.gone.3 c.requires.awake (rw c.in-None.is at c.in-Ok.ensures.sends)

@@ -19,3 +19,6 @@ returns-clause-seats c = let m = c.in-Ok-new.ensures.seats in let v = c.in-Ok-em
         ((n.0, made_new (limits_of c.in-Ok-new.made.0) (sight s.seat) v j n.1 (e.1 ∙ sym (ap (λ z. z.seats) l)) (e.2 ∙ sym (ap (λ z. z.budget) l))), n.1),
   ),
 )
+
+pub returns-clause-memory : goal.returns-clause-memory
+returns-clause-memory c allowed = tt

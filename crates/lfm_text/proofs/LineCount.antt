@@ -71,6 +71,19 @@ is_past_limit-few_more xs (c ∷ cs) fits few_bytes few_lines =
     within_limits (length (xs ++ c ∷ cs)) (line_count (xs ++ c ∷ cs)) (omega (arith, few_bytes, length-append xs (c ∷ cs)))
     (omega (arith, few_lines, line_count_behind xs c cs, line_count-within_length (c ∷ cs)))
 
+-- a text that is not past a limit has few bytes and few line feeds
+pub few_bytes : (xs : List ℕ) → is_past_limit xs ≡ false → length xs ≤ max_bytes
+few_bytes xs fits = short (length xs) (line_count xs) fits
+  where
+    short : (bytes lines : ℕ) → (nat_lt max_bytes bytes || nat_lt max_lines lines) ≡ false → bytes ≤ max_bytes
+    short bytes lines within = grind (arith, tests)
+
+pub few_line_feeds : (xs : List ℕ) → is_past_limit xs ≡ false → line_feeds xs ≤ max_lines
+few_line_feeds xs fits = omega (arith, short (length xs) (line_count xs) fits)
+  where
+    short : (bytes lines : ℕ) → (nat_lt max_bytes bytes || nat_lt max_lines lines) ≡ false → lines ≤ max_lines
+    short bytes lines within = grind (arith, tests)
+
 -- too many bytes are past the limit
 pub is_past_limit-long : (xs : List ℕ) → max_bytes < length xs → is_past_limit xs ≡ true
 is_past_limit-long xs long = too_long (length xs) (line_count xs) long

@@ -4,7 +4,7 @@ use Rattle.std.specs.Io.KnownBytes.{Consumes, Keeps}
 use Rattle.std.proofs.Math.Seq.{take-append-add}
 use Rattle.std.proofs.lemmas.List.{take-append-le}
 use Rattle.lfm_text.specs.Text.{line_feeds, max_bytes, max_lines, is_past_limit}
-use Rattle.lfm_text.proofs.LineCount.{is_past_limit-few_more}
+use Rattle.lfm_text.proofs.LineCount.{is_past_limit-few_more, line_feeds-append}
 
 Consumes-then : (a b c : Option (List ℕ)) (xs ys : List ℕ) → Consumes a b xs → Consumes b c ys → Consumes a c (xs ++ ys)
 Consumes-then None b c xs ys p q = tt
@@ -40,3 +40,11 @@ none_after_first before given rest after n fits within some few_bytes few_lines 
     let fewer : length (take (n - 1) (take n given)) ≡ n - 1 = omega (arith, size, length-take (n - 1) (take n given)) in
     let P : List ℕ → Type 0 = λ l. is_past_limit l ≡ false in
     subst P (sym front) (is_past_limit-few_more before (take (n - 1) (take n given)) fits (omega (arith, some, fewer, few_bytes)) (omega (arith, some, fewer, few_lines)))
+
+-- how long the text is then, and how many line feeds it has
+pub size_after : (before given rest after : List ℕ) (n : ℕ) → n ≤ length given → after ≡ before ++ take n (given ++ rest) → length after ≡ length before + n
+size_after before given rest after n within is =
+    omega (arith, within, ap length is, length-append before (take n (given ++ rest)), length-take n (given ++ rest), length-append given rest)
+
+pub line_feeds_after : (before more after : List ℕ) → after ≡ before ++ more → line_feeds after ≡ line_feeds before + line_feeds more
+line_feeds_after before more after is = ap line_feeds is ∙ line_feeds-append before more

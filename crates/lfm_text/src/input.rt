@@ -1,8 +1,10 @@
 //! Reads the bytes of a text from a reader, within the limits of a text.
 
-ghost use Rattle.std.specs.Prelude.{◌≡◌, ◌+◌, ◌++◌, ◌≤◌, length, IfOk, IsErrOf, vec_capacity, vec_len};
-ghost use Rattle.std.specs.Io.KnownBytes.{Keeps};
+ghost use Rattle.std.specs.Prelude.{◌≡◌, ◌+◌, ◌++◌, ◌<◌, ◌≤◌, length, IfErr, IfOk, IsErrOf, vec_capacity, vec_len};
+ghost use Rattle.std.specs.Io.{ReadsAtMost};
+ghost use Rattle.std.specs.Io.KnownBytes.{Keeps, ReadConsumes};
 ghost use Rattle.lfm_text.specs.Taking.{Takes, TakesWithin};
+ghost use Rattle.lfm_text.specs.Text.{max_bytes, max_lines};
 
 use crate::faults::InputFault;
 use crate::limits::{MAX_BYTES, MAX_LINES, count_line_feeds, is_past_limit};
@@ -21,14 +23,41 @@ fn append_reserved(input: &mut Vec<u8>, given: &[u8])
     input.extend_from_slice(given).unwrap();
 }
 
+/// How many bytes the next read asks for, after this many bytes and line feeds: no more than may come within the limits,
+/// and one.
+///
+/// Each byte may be a line feed. So a read asks for at most as many bytes as there may be lines yet, and one more: near
+/// the last line the reads get short.
+fn next_room(bytes: usize, line_feeds: usize) -> usize
+    requires bytes_within { bytes ≤ max_bytes }
+    requires lines_within { line_feeds ≤ max_lines }
+    ensures some { 0 < result }
+    ensures size { result ≤ 4096 }
+    ensures bytes { bytes + result ≤ max_bytes + 1 }
+    ensures lines { line_feeds + result ≤ max_lines + 1 }
+{
+    let bytes_left = MAX_BYTES + 1 - bytes;
+    let lines_left = MAX_LINES + 1 - line_feeds;
+    bytes_left.min(lines_left).min(READ_SIZE)
+}
+
+/// Reads once, and answers how many bytes came: 0 at the end. Read where the reader fails.
+fn read_once<R: Read>(reader: &mut R, buffer: &mut [u8]) -> Result<usize, InputFault>
+    ensures bound { ReadsAtMost result buffer.new }
+    ensures bytes { ReadConsumes (R.remaining reader.old) (R.remaining reader.new) result buffer.new }
+    ensures fault { IfErr result (λ e. e ≡ InputFault.Read) }
+{
+    match reader.read(buffer) {
+        Ok(count) => Ok(count),
+        Err(_) => Err(InputFault::Read),
+    }
+}
+
 /// Reads all bytes of the reader, and no byte after the first that is past a limit: byte 1,048,577, or the first byte
 /// after 65,536 line feeds.
 ///
 /// Makes one request for memory, of 1,048,577 bytes: Memory where it is refused, and then nothing was read. Read where the
 /// reader fails before the text is past a limit. Any error of the reader counts, also an interruption.
-///
-/// Each byte may be a line feed. So a read asks for at most as many bytes as there may be lines yet, and one more: near
-/// the last line the reads get short.
 pub fn read_input<R: Read>(alloc: Global, reader: &mut R) -> Result<Vec<u8>, InputFault>
     ensures ok { IfOk result (λ v. Takes (R.remaining reader.old) (R.remaining reader.new) v.items) }
     ensures read { IsErrOf result InputFault.Read →
@@ -40,13 +69,11 @@ pub fn read_input<R: Read>(alloc: Global, reader: &mut R) -> Result<Vec<u8>, Inp
     let mut buffer = [0u8; READ_SIZE];
     let mut line_feeds = 0;
     'reading: while !is_past_limit(&input, line_feeds) {
-        let bytes_left = MAX_BYTES + 1 - input.len();
-        let lines_left = MAX_LINES + 1 - line_feeds;
-        let room = bytes_left.min(lines_left).min(READ_SIZE);
-        let count = match reader.read(&mut buffer[..room]) {
+        let room = next_room(input.len(), line_feeds);
+        let count = match read_once(reader, &mut buffer[..room]) {
             Ok(0) => return Ok(input),
             Ok(count) => count,
-            Err(_) => return Err(InputFault::Read),
+            Err(fault) => return Err(fault),
         };
         let given = &buffer[..count];
         line_feeds += count_line_feeds(given);

@@ -1,5 +1,6 @@
 pub mod JournalLists
 pub mod JournalSteps
+mod JournalTurns
 mod LawfulJournals
 pub mod Numbers
 mod Once

@@ -2,7 +2,7 @@ use Rattle.std.proofs.Common.{arith, sym, ◌∙◌, ap}
 use Rattle.std.proofs.lemmas.Grind.{common_steps}
 use Rattle.lfm_text.specs.Text.{is_past_limit}
 use Rattle.lfm_text.proofs.LineCount.{few_bytes, few_line_feeds}
-use Rattle.lfm_text.proofs.Taking.{taken_more, none_after_first, size_after, line_feeds_after}
+use Rattle.lfm_text.proofs.Taking.{taken_more, none_after_first, line_feeds_after}
 use Rattle.lfm_text.proofs.input.read_input.Goals as goal
 
 pub next_room-room-requires-clause-bytes_within : goal.next_room-room-requires-clause-bytes_within

@@ -13,6 +13,7 @@ pub mod monitors;
 mod numbering;
 mod opening;
 pub mod passes;
+mod trying;
 mod waiting;
 mod waking;
 mod writing;

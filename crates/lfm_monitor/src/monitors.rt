@@ -1,4 +1,4 @@
-//! The monitor. Its calls are in `entering`, `holding`, `waiting`, `waking` and `closing`.
+//! The monitor. Its calls are in `trying`, `entering`, `holding`, `waiting`, `waking` and `closing`.
 ghost use Rattle.std.specs.Prelude.{◌≡◌};
 ghost use Rattle.lfm_mutex.specs.Belongs.{limits_of};
 ghost use Rattle.lfm_monitor.specs.CondSeats.{Are_conditions};

@@ -23,3 +23,9 @@ invariant_of-self-clause-shares g c = let b = c.args.self.now in subst (λ xs. (
 
 pub invariant_of-self-clause-room : goal.invariant_of-self-clause-room
 invariant_of-self-clause-room g c = let b = c.args.self.now in subst (λ n. b.seats * b.share ≤ n) (sym c.push_reserved.ensures.capacity) b.room
+
+pub returns-clause-reply : goal.returns-clause-reply
+returns-clause-reply g c = c.apply-reply.ensures.replies
+
+pub returns-clause-object : goal.returns-clause-object
+returns-clause-object g c = c.apply-reply.ensures.changes

@@ -1,10 +1,10 @@
-use Rattle.std.proofs.Common.{refl, ap, ◌∙◌, ◌<◌, ◌+◌, Some}
+use Rattle.std.proofs.Common.{inl, refl, ap, ◌∙◌, ◌<◌, ◌+◌, Some}
 use Rattle.lfm_mutex.specs.Belongs.{limits_of}
 use Rattle.lfm_protocol.specs.declared.answers.Call.{Call}
 use Rattle.lfm_mutex.specs.calls.Sight.{sight}
 use Rattle.lfm_monitor.specs.Belongs.{mutex_limits, opening_of, passes_of, share_of}
 use Rattle.lfm_monitor.proofs.Trails.{rewritten}
-use Rattle.lfm_monitor.proofs.Asking.{again_began, ask_refused, ask_steps}
+use Rattle.lfm_monitor.proofs.Asking.{again_began, ask_refused, ask_steps, last_began}
 use Rattle.lfm_monitor.proofs.Refusing.{same_began, same_kept}
 use Rattle.lfm_monitor.proofs.Knowing.{gained, may_all, room_left, arrived, again, asleep, of_next}
 use Rattle.lfm_monitor.proofs.monitors.Monitor.ask.Goals as goal
@@ -91,3 +91,43 @@ returns-in-Again-clause-conditions g c = refl
 
 pub returns-in-Again-clause-steps : goal.returns-in-Again-clause-steps
 returns-in-Again-clause-steps g c = rw c.in-Again.is at c.in_ok-asked.ensures.steps
+
+pub returns-in-Asleep-clause-enters : goal.returns-in-Asleep-clause-enters
+returns-in-Asleep-clause-enters g c = let a = rw c.in-Asleep.is at c.in_ok-asked.ensures.asks in (a.0, a.1, a.3, refl)
+
+pub returns-in-Asleep-clause-steps : goal.returns-in-Asleep-clause-steps
+returns-in-Asleep-clause-steps g c = rw c.in-Asleep.is at c.in_ok-asked.ensures.steps
+
+pub returns-then-lacks_entry-clause-belongs : goal.returns-then-lacks_entry-clause-belongs
+returns-then-lacks_entry-clause-belongs g c = c.requires.belongs
+
+pub returns-then-lacks_entry-clause-enters : goal.returns-then-lacks_entry-clause-enters
+returns-then-lacks_entry-clause-enters g c = let l = c.if-lacks_entry.ensures.0 refl in ((l.0, l.1, inl l.2), refl, refl)
+
+pub returns-then-lacks_entry-clause-seen : goal.returns-then-lacks_entry-clause-seen
+returns-then-lacks_entry-clause-seen g c = refl
+
+pub returns-then-lacks_entry-clause-conditions : goal.returns-then-lacks_entry-clause-conditions
+returns-then-lacks_entry-clause-conditions g c = refl
+
+pub returns-then-lacks_entry-clause-steps : goal.returns-then-lacks_entry-clause-steps
+returns-then-lacks_entry-clause-steps g c = refl
+
+pub returns-clause-seen : goal.returns-clause-seen
+returns-clause-seen g c = refl
+
+pub returns-clause-conditions : goal.returns-clause-conditions
+returns-clause-conditions g c = refl
+
+pub returns-in-Asleep-clause-belongs : goal.returns-in-Asleep-clause-belongs
+returns-in-Asleep-clause-belongs g c = let p = c.args.pass.now in let m = c.args.self.now in let a = rw c.in-Asleep.is at c.in_ok-asked.ensures.asks in (
+  of_next m.mutex p.seat c.ask.new.seat c.requires.belongs.0 c.ask.ensures.belongs,
+  last_began (opening_of m) (passes_of m) (share_of m) (sight p.seat) (sight c.ask.new.seat) (ap (λ u. u.last) a.3) c.requires.belongs.1,
+  c.requires.belongs.2,
+)
+
+pub returns-in-Asleep-clause-seen : goal.returns-in-Asleep-clause-seen
+returns-in-Asleep-clause-seen g c = refl
+
+pub returns-in-Asleep-clause-conditions : goal.returns-in-Asleep-clause-conditions
+returns-in-Asleep-clause-conditions g c = refl

@@ -1,4 +1,4 @@
-use Rattle.std.proofs.Common.{sym, arith, ap, ◌∙◌}
+use Rattle.std.proofs.Common.{refl, sym, arith, ap, ◌∙◌}
 use Rattle.lfm_mutex.specs.calls.Sight.{sight}
 use Rattle.lfm_model.specs.Journals.{after_all}
 use Rattle.lfm_monitor.specs.Belongs.{opening_of, passes_of, share_of}
@@ -44,3 +44,9 @@ returns-in-Err-clause-back g c j p at = let m = c.in-Err.ensures.missing in let 
 
 pub returns-in-Err-clause-kept : goal.returns-in-Err-clause-kept
 returns-in-Err-clause-kept g c p o = let k = kept_of c.args.self.mutex c.in-Err.mutex (opening_of c.args.self) (share_of c.args.self) p (sym c.in-Err.ensures.missing.0) (o.0, o.1) in (k.0, k.1, o.2)
+
+pub returns-in-Ok-clause-all : goal.returns-in-Ok-clause-all
+returns-in-Ok-clause-all g c = c.in-Ok.ensures.all
+
+pub returns-in-Err-clause-missing : goal.returns-in-Err-clause-missing
+returns-in-Err-clause-missing g c = let m = c.in-Err.ensures.missing in ((m.0, refl, refl, refl), m.1, m.2)

@@ -1,4 +1,4 @@
-use Rattle.std.proofs.Common.{refl, ap, ◌∙◌, ◌<◌, Some}
+use Rattle.std.proofs.Common.{inl, refl, ap, ◌∙◌, ◌<◌, Some}
 use Rattle.lfm_mutex.specs.Belongs.{limits_of}
 use Rattle.lfm_mutex.specs.calls.Sight.{sight}
 use Rattle.lfm_monitor.specs.Belongs.{mutex_limits, opening_of, passes_of, share_of}
@@ -86,3 +86,24 @@ returns-in-Again-clause-conditions g c = refl
 
 pub returns-in-Again-clause-steps : goal.returns-in-Again-clause-steps
 returns-in-Again-clause-steps g c = rw c.in-Again.is at c.in_ok-locked.ensures.steps
+
+pub returns-then-lacks_entry-clause-belongs : goal.returns-then-lacks_entry-clause-belongs
+returns-then-lacks_entry-clause-belongs g c = c.requires.belongs
+
+pub returns-then-lacks_entry-clause-enters : goal.returns-then-lacks_entry-clause-enters
+returns-then-lacks_entry-clause-enters g c = let l = c.if-lacks_entry.ensures.0 refl in ((l.0, l.1, inl l.2), refl, refl)
+
+pub returns-then-lacks_entry-clause-seen : goal.returns-then-lacks_entry-clause-seen
+returns-then-lacks_entry-clause-seen g c = refl
+
+pub returns-then-lacks_entry-clause-conditions : goal.returns-then-lacks_entry-clause-conditions
+returns-then-lacks_entry-clause-conditions g c = refl
+
+pub returns-then-lacks_entry-clause-steps : goal.returns-then-lacks_entry-clause-steps
+returns-then-lacks_entry-clause-steps g c = refl
+
+pub returns-clause-seen : goal.returns-clause-seen
+returns-clause-seen g c = refl
+
+pub returns-clause-conditions : goal.returns-clause-conditions
+returns-clause-conditions g c = refl

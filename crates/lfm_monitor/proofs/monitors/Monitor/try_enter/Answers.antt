@@ -1,8 +1,9 @@
-use Rattle.std.proofs.Common.{ap, ◌∙◌, ◌<◌, Some}
+use Rattle.std.proofs.Common.{inl, refl, ap, ◌∙◌, ◌<◌, Some}
 use Rattle.lfm_mutex.specs.Belongs.{limits_of}
 use Rattle.lfm_protocol.specs.declared.answers.Call.{Call}
 use Rattle.lfm_mutex.specs.calls.Sight.{sight}
 use Rattle.lfm_monitor.specs.Belongs.{mutex_limits, opening_of, passes_of, share_of}
+use Rattle.lfm_monitor.proofs.Asking.{again_began, last_began, try_enter_refused, try_enter_steps}
 use Rattle.lfm_monitor.proofs.Trails.{rewritten}
 use Rattle.lfm_monitor.proofs.Knowing.{gained, may_all, room_left, arrived, again, looked, of_next, try_refused}
 use Rattle.lfm_monitor.proofs.monitors.Monitor.try_enter.Goals as goal
@@ -46,3 +47,64 @@ invariant_of-pass g c = let p = c.args.pass.now in let e = c.in_err-locked in
 pub returns-clause-steps : goal.returns-clause-steps
 returns-clause-steps g c = let w = c.write_took.ensures in
     rewritten (mutex_limits c.args.self.now) Call.TryLock (sight c.args.pass.now.seat) (sight c.try_lock.new.seat) (sight c.write_took.new.seat) _ (Some w.1) w.3 (rw c.in-Held.is at c.in_ok-locked.ensures.steps)
+
+pub returns-then-lacks_entry-clause-enters : goal.returns-then-lacks_entry-clause-enters
+returns-then-lacks_entry-clause-enters g c = let l = c.if-lacks_entry.ensures.0 refl in ((l.0, l.1, inl l.2), refl, refl)
+
+pub returns-then-lacks_entry-clause-steps : goal.returns-then-lacks_entry-clause-steps
+returns-then-lacks_entry-clause-steps g c = refl
+
+pub returns-then-lacks_entry-clause-belongs : goal.returns-then-lacks_entry-clause-belongs
+returns-then-lacks_entry-clause-belongs g c = c.requires.belongs
+
+pub returns-then-lacks_entry-clause-seen : goal.returns-then-lacks_entry-clause-seen
+returns-then-lacks_entry-clause-seen g c = refl
+
+pub returns-then-lacks_entry-clause-conditions : goal.returns-then-lacks_entry-clause-conditions
+returns-then-lacks_entry-clause-conditions g c = refl
+
+pub returns-in_err-locked-clause-belongs : goal.returns-in_err-locked-clause-belongs
+returns-in_err-locked-clause-belongs g c = let p = c.args.pass.now in let m = c.args.self.now in let s = sight p.seat in let t = sight c.try_lock.new.seat in (
+  of_next m.mutex p.seat c.try_lock.new.seat c.requires.belongs.0 c.try_lock.ensures.belongs,
+  last_began (opening_of m) (passes_of m) (share_of m) s t (ap (λ u. u.last) (try_refused _ (limits_of m.mutex).budget s t c.in_err-locked.ensures.locks)) c.requires.belongs.1,
+  c.requires.belongs.2,
+)
+
+pub returns-in_err-locked-clause-enters : goal.returns-in_err-locked-clause-enters
+returns-in_err-locked-clause-enters g c = let p = c.args.pass.now in let m = c.args.self.now in let s = sight p.seat in let t = sight c.try_lock.new.seat in
+    try_enter_refused (limits_of m.mutex).budget (share_of m) p.mine _ _ s t m.shared c.if-lacks_entry.ensures.1 c.in_err-locked.ensures.locks c.from_residual.ensures.1
+
+pub returns-in_err-locked-clause-steps : goal.returns-in_err-locked-clause-steps
+returns-in_err-locked-clause-steps g c = let p = c.args.pass.now in let m = c.args.self.now in let s = sight p.seat in let t = sight c.try_lock.new.seat in
+    try_enter_steps (mutex_limits m) (limits_of m.mutex).budget _ _ s t c.in_err-locked.ensures.locks c.in_err-locked.ensures.steps c.from_residual.ensures.1
+
+pub returns-in_err-locked-clause-seen : goal.returns-in_err-locked-clause-seen
+returns-in_err-locked-clause-seen g c = refl
+
+pub returns-in_err-locked-clause-conditions : goal.returns-in_err-locked-clause-conditions
+returns-in_err-locked-clause-conditions g c = refl
+
+pub returns-in-Again-clause-seen : goal.returns-in-Again-clause-seen
+returns-in-Again-clause-seen g c = refl
+
+pub returns-in-Again-clause-conditions : goal.returns-in-Again-clause-conditions
+returns-in-Again-clause-conditions g c = refl
+
+pub returns-in-Again-clause-belongs : goal.returns-in-Again-clause-belongs
+returns-in-Again-clause-belongs g c = let p = c.args.pass.now in let m = c.args.self.now in let s = sight p.seat in let t = sight c.try_lock.new.seat in let u = rw c.in-Again.is at c.in_ok-locked.ensures.locks in (
+  of_next m.mutex p.seat c.try_lock.new.seat c.requires.belongs.0 c.try_lock.ensures.belongs,
+  again_began (opening_of m) (passes_of m) (share_of m) c.in-Again.depth s t u c.requires.belongs.1,
+  c.requires.belongs.2,
+)
+
+pub returns-in-Again-clause-enters : goal.returns-in-Again-clause-enters
+returns-in-Again-clause-enters g c = let u = rw c.in-Again.is at c.in_ok-locked.ensures.locks in (u, refl)
+
+pub returns-in-Again-clause-steps : goal.returns-in-Again-clause-steps
+returns-in-Again-clause-steps g c = rw c.in-Again.is at c.in_ok-locked.ensures.steps
+
+pub returns-clause-seen : goal.returns-clause-seen
+returns-clause-seen g c = refl
+
+pub returns-clause-conditions : goal.returns-clause-conditions
+returns-clause-conditions g c = refl

@@ -1,7 +1,9 @@
-use Rattle.std.proofs.Common.{arith, ap, ◌∙◌, ◌<◌, Some}
+use Rattle.std.proofs.Common.{arith, refl, ap, ◌∙◌, ◌<◌, Some}
 use Rattle.lfm_protocol.specs.declared.answers.Call.{Call}
 use Rattle.lfm_mutex.specs.calls.Sight.{sight}
 use Rattle.lfm_monitor.specs.Belongs.{mutex_limits, opening_of, passes_of, share_of}
+use Rattle.lfm_monitor.proofs.Asking.{last_began, receive_refused, receive_steps, receive_still}
+use Rattle.lfm_monitor.proofs.Refusing.{same_began, same_kept}
 use Rattle.lfm_monitor.proofs.Trails.{rewritten}
 use Rattle.lfm_monitor.proofs.Knowing.{some_of, woken, may_all, arrived, looked, of_next}
 use Rattle.lfm_monitor.proofs.monitors.Monitor.try_receive.Goals as goal
@@ -41,3 +43,50 @@ invariant_of-pass-in-None g c = let p = c.args.pass.now in let r = rw c.in-None.
 pub returns-clause-steps : goal.returns-clause-steps
 returns-clause-steps g c = let w = c.write_took.ensures in
     rewritten (mutex_limits c.args.self.now) Call.Receive (sight c.args.pass.now.seat) (sight c.try_receive.new.seat) (sight c.write_took.new.seat) _ (Some w.1) w.3 (rw c.in-Some.is at c.in_ok-received.ensures.steps)
+
+pub invariant_of-pass : goal.invariant_of-pass
+invariant_of-pass g c = let p = c.args.pass.now in let m = c.args.self.now in let s = sight p.seat in let t = sight c.try_receive.new.seat in record { kept = same_kept s t p.seen p.mine (receive_still _ s t c.in_err-received.ensures.receives) p.kept }
+
+pub returns-in_err-received-clause-belongs : goal.returns-in_err-received-clause-belongs
+returns-in_err-received-clause-belongs g c = let p = c.args.pass.now in let m = c.args.self.now in let s = sight p.seat in let t = sight c.try_receive.new.seat in (
+  of_next m.mutex p.seat c.try_receive.new.seat c.requires.belongs.0 c.try_receive.ensures.belongs,
+  same_began (opening_of m) (passes_of m) (share_of m) s t (receive_still _ s t c.in_err-received.ensures.receives) c.requires.belongs.1,
+  c.requires.belongs.2,
+)
+
+pub returns-in_err-received-clause-enters : goal.returns-in_err-received-clause-enters
+returns-in_err-received-clause-enters g c = let p = c.args.pass.now in let m = c.args.self.now in let s = sight p.seat in let t = sight c.try_receive.new.seat in receive_refused p.seen p.mine _ _ s t p.kept c.in_err-received.ensures.receives c.from_residual.ensures.1
+
+pub returns-in_err-received-clause-steps : goal.returns-in_err-received-clause-steps
+returns-in_err-received-clause-steps g c = let p = c.args.pass.now in let m = c.args.self.now in let s = sight p.seat in let t = sight c.try_receive.new.seat in receive_steps (mutex_limits m) _ _ s t c.in_err-received.ensures.receives c.from_residual.ensures.1
+
+pub returns-in_err-received-clause-seen : goal.returns-in_err-received-clause-seen
+returns-in_err-received-clause-seen g c = refl
+
+pub returns-in_err-received-clause-conditions : goal.returns-in_err-received-clause-conditions
+returns-in_err-received-clause-conditions g c = refl
+
+pub returns-in-None-clause-seen : goal.returns-in-None-clause-seen
+returns-in-None-clause-seen g c = refl
+
+pub returns-in-None-clause-conditions : goal.returns-in-None-clause-conditions
+returns-in-None-clause-conditions g c = refl
+
+pub returns-in-None-clause-belongs : goal.returns-in-None-clause-belongs
+returns-in-None-clause-belongs g c = let p = c.args.pass.now in let m = c.args.self.now in let s = sight p.seat in let t = sight c.try_receive.new.seat in let r = rw c.in-None.is at c.in_ok-received.ensures.receives in (
+  of_next m.mutex p.seat c.try_receive.new.seat c.requires.belongs.0 c.try_receive.ensures.belongs,
+  last_began (opening_of m) (passes_of m) (share_of m) s t (ap (λ u. u.last) r.2) c.requires.belongs.1,
+  c.requires.belongs.2,
+)
+
+pub returns-in-None-clause-enters : goal.returns-in-None-clause-enters
+returns-in-None-clause-enters g c = let r = rw c.in-None.is at c.in_ok-received.ensures.receives in (r.0, r.2, refl)
+
+pub returns-in-None-clause-steps : goal.returns-in-None-clause-steps
+returns-in-None-clause-steps g c = rw c.in-None.is at c.in_ok-received.ensures.steps
+
+pub returns-clause-seen : goal.returns-clause-seen
+returns-clause-seen g c = refl
+
+pub returns-clause-conditions : goal.returns-clause-conditions
+returns-clause-conditions g c = refl

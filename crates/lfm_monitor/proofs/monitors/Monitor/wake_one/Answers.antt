@@ -31,3 +31,9 @@ returns g c = let p = c.args.pass.now in let m = c.args.self.now in let n = c.in
       sends = sent;
       same = (refl, refl);
     }
+
+pub returns-then-asleep : goal.returns-then-asleep
+returns-then-asleep g c = record { belongs = c.requires.belongs; wakes = (sym c.if-asleep.ensures, refl, refl); sends = refl; same = (refl, refl) }
+
+pub returns-in_default : goal.returns-in_default
+returns-in_default g c = record { belongs = c.requires.belongs; wakes = ((sym c.if-asleep.ensures, c.in_default.ensures), refl, refl); sends = refl; same = (refl, refl) }

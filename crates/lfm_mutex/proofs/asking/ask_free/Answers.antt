@@ -1,4 +1,4 @@
-use Rattle.std.proofs.Common.{ℕ, ◌+◌, ◌<◌, refl, sym, subst}
+use Rattle.std.proofs.Common.{rules, ℕ, ◌+◌, ◌<◌, refl, sym, subst}
 use Rattle.lfm_model.specs.declared.answers.Asked.{Asked}
 use Rattle.lfm_model.specs.declared.answers.How.{How}
 use Rattle.lfm_protocol.specs.declared.answers.Answer.{Answer}
@@ -46,3 +46,6 @@ returns-clause-made g c =
     subst (λ (x : SeatState). Comes_to g.T.Kept.follows g.T.Kept.fits c.args.mutex.now.limits Call.Lock (sight_of s.number s.standing s.place.me.0 (value_in s.moving)) (sight_of s.number x h.new.place.me.0 (value_in f.new.moving)) (Ended (Answer.Asked (Asked.Held How.Free))))
     (λ i. record { depth = 1; takes = t; posts = ps; point = sym c.requires.rests i })
     (comes g.T.Kept.follows g.T.Kept.fits s.number (made_of 0 t ps LockCountAdd) s.moving s.place.me.0 s.number s.limits c.args.mutex.now.limits Call.Lock s.standing (made_of 1 t ps Rest) (Ended (Answer.Asked (Asked.Held How.Free))) f.new.moving h.new.place.me.0 c.requires.belongs.1 refl refl begins refl last)
+
+pub invariant_of-seat-2 : goal.invariant_of-seat-2
+invariant_of-seat-2 g c = search rules

@@ -1,4 +1,4 @@
-use Rattle.std.proofs.Common.{◌-◌, ◌≡◌, ℕ, ◌+◌, ◌<◌, refl, sym, ap, subst, ◌∙◌, arith, None}
+use Rattle.std.proofs.Common.{rules, ◌-◌, ◌≡◌, ℕ, ◌+◌, ◌<◌, refl, sym, ap, subst, ◌∙◌, arith, None}
 use Rattle.lfm_model.specs.declared.answers.Locked.{Locked}
 use Rattle.lfm_model.specs.declared.refusals.Refusal.{Refusal}
 use Rattle.lfm_model.specs.declared.answers.How.{How}
@@ -82,3 +82,6 @@ returns-clause-made g c =
     subst (λ (x : SeatState). Comes_to g.T.Kept.follows g.T.Kept.fits c.args.mutex.now.limits Call.TryLock (sight_of s.number s.standing s.place.me.0 (value_in s.moving)) (sight_of s.number x k.new.place.me.0 (value_in f.new.moving)) turn)
     (λ i. record { depth = sym c.requires.flat i; takes = back i; posts = ps; point = sym c.requires.rests i })
     (comes g.T.Kept.follows g.T.Kept.fits s.number p0 s.moving s.place.me.0 s.number s.limits c.args.mutex.now.limits Call.TryLock s.standing q turn f.new.moving k.new.place.me.0 c.requires.belongs.1 refl refl begins refl third)
+
+pub invariant_of-seat-then-handoff-ne0 : goal.invariant_of-seat-then-handoff-ne0
+invariant_of-seat-then-handoff-ne0 g c = search rules

@@ -1,4 +1,4 @@
-use Rattle.std.proofs.Common.{◌≡◌, ◌+◌, ◌≤◌, length, refl, sym, ap, subst, arith}
+use Rattle.std.proofs.Common.{rules, ◌≡◌, ◌+◌, ◌≤◌, length, refl, sym, ap, subst, arith}
 use Rattle.lfm_model.specs.declared.answers.Unlocked.{Unlocked}
 use Rattle.lfm_protocol.specs.declared.answers.Answer.{Answer}
 use Rattle.lfm_protocol.specs.declared.answers.Call.{Call}
@@ -87,3 +87,6 @@ returns-clause-bounded g c =
     let one = trail_grows g.T.Kept.follows g.T.Kept.fits p0 first.seat s.place.me.0 h.new.place.me.0 s.moving s.moving first.turn h.ensures.step.1.event in
     let two = trail_grows g.T.Kept.follows g.T.Kept.fits p1 st.seat h.new.place.me.0 f.new.place.me.0 s.moving f.new.moving st.turn f.ensures.step.event in
     omega (arith, one, two)
+
+pub invariant_of-seat-else-found-ne1 : goal.invariant_of-seat-else-found-ne1
+invariant_of-seat-else-found-ne1 g c = search rules

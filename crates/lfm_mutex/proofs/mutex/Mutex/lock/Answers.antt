@@ -13,3 +13,6 @@ returns-in-Again-clause-steps g c = rw c.in-Again.is at c.in_ok-how.ensures.step
 
 pub returns-in_ok-how-in-Asleep-clause-steps : goal.returns-in_ok-how-in-Asleep-clause-steps
 returns-in_ok-how-in-Asleep-clause-steps g c = inr (sight c.ask.new.seat, rw c.in-Asleep.is at c.in_ok-how.ensures.steps, c.in_ok-how-in-Asleep.ensures.steps)
+
+pub returns-in-Again-clause-locks : goal.returns-in-Again-clause-locks
+returns-in-Again-clause-locks g c = rw c.in-Again.is at c.in_ok-how.ensures.asks

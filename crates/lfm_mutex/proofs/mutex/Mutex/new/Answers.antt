@@ -82,3 +82,6 @@ returns-clause-seats g c = let v = c.loop-i.invariant in let l : Limits = record
       (v.table, (refl, refl, c.at_rest-2.ensures, refl, v.trail, v.last, v.found)) (λ j y e. subst (λ (n : ℕ). (y.place.table_id ≡ c.in-Ok-laid_out.laid.0.shared.table_id) × Fresh c.args.value n y.number y.limits y.standing y.place.me y.moving l) (let q : j + 2 ≡ j + 1 + 1 = omega arith in q) (v.fresh j y e))) j s e in
       ((f.0, f.1.1), fresh_sight c.args.value (j + 1) s.number s.limits s.standing s.place.me s.moving l f.1),
 )
+
+pub loop-i-init : goal.loop-i-init
+loop-i-init g c = search rules

@@ -1,8 +1,8 @@
-use Rattle.std.proofs.Common.{[], ap, inr, rules, subst, sym, ◌++◌, ◌∙◌, ◌∷◌}
+use Rattle.std.proofs.Common.{[], Ok, ap, inr, rules, subst, sym, ◌++◌, ◌∙◌, ◌∷◌}
 use Rattle.lfm_protocol.specs.declared.answers.Call.{Call}
 use Rattle.lfm_protocol.specs.declared.answers.Turn.TheVariants.{Refused}
 use Rattle.lfm_protocol.specs.declared.answers.Why.{Why}
-use Rattle.lfm_mutex.specs.calls.Sight.{Sight, sight}
+use Rattle.lfm_mutex.specs.calls.Sight.{Sight, sight, Receives}
 use Rattle.lfm_mutex.specs.calls.Trails.{Makes}
 use Rattle.lfm_mutex.proofs.runs.MadeCalls.{looks_more, refused_receive, first_look}
 use Rattle.lfm_mutex.proofs.mutex.Mutex.receive_lock_within.Goals as goal
@@ -27,4 +27,8 @@ returns-in-Err-clause-steps g c = let i = c.loop.invariant in let s = c.try_rece
     subst (λ (z : Sight g.row.T.Denot). (cause : Why) × Makes c.args.self.now.limits Call.Receive z (sight s) (Refused cause)) same c.in-Err.ensures.steps
 
 pub returns-in-Ok-Some-clause-receives : goal.returns-in-Ok-Some-clause-receives
-returns-in-Ok-Some-clause-receives g c = search rules
+returns-in-Ok-Some-clause-receives g c = let s = c.try_receive.new.seat in
+    rw c.in-Ok-Some.field-0-is at (subst (λ (z : Sight g.row.T.Denot). Receives g.T.Kept.follows g.T.Kept.fits z (sight s) (Ok c.in-Ok-Some.field-0)) c.loop.invariant.seen c.in-Ok-Some.ensures.receives)
+
+pub returns-in-Ok-Some-clause-steps : goal.returns-in-Ok-Some-clause-steps
+returns-in-Ok-Some-clause-steps g c = let i = c.loop.invariant in (i.looked.0, sight c.loop.seat, i.looked.1, rw c.in-Ok-Some.field-0-is at c.in-Ok-Some.ensures.steps)

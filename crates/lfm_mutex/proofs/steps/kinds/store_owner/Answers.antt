@@ -9,3 +9,6 @@ make_of-requires-clause-leaves g c κs within = let s = c.args.seat.now in leave
 pub returns-clause-steps : goal.returns-clause-steps
 returns-clause-steps g c = let s = c.args.seat.now in let b = c.make_of.new.seat in
     steps_on g.T.Kept.follows g.T.Kept.fits (Some Kind.OwnerStore) s.number b.number s.limits s.standing b.standing s.place.me b.place.me s.moving b.moving c.make_of.result s.seated c.make_of.ensures.same.0 c.requires.is_next c.make_of.ensures.event
+
+pub make_of-requires-clause-is_next : goal.make_of-requires-clause-is_next
+make_of-requires-clause-is_next g c κs within = c.requires.is_next

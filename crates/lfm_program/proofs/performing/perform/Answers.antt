@@ -1,6 +1,5 @@
-use Rattle.std.proofs.Common.{arith, ◌∙◌}
-use Rattle.std.proofs.lemmas.Grind.{common_steps}
-use Rattle.lfm_program.proofs.Commands.{one_more}
+use Rattle.std.proofs.Common.{◌∙◌}
+use Rattle.lfm_program.proofs.Commands.{all_made, one_more}
 use Rattle.lfm_program.proofs.Refusing.{refused_there}
 use Rattle.lfm_program.proofs.performing.perform.Goals as goal
 
@@ -17,4 +16,7 @@ returns-in-Err-clause-refused g c =
     refused_there c.args.monitor.now c.args.commands.now c.performing.index _ _ _ _ _ c.performing-test.true c.performing.invariant.adds c.in-Err.ensures.adds c.in-Err.ensures.refused
 
 pub returns-clause-adds : goal.returns-clause-adds
-returns-clause-adds g c = grind (arith, common_steps)
+returns-clause-adds g c = all_made c.args.commands.now c.performing.index _ _ c.performing-test.false c.performing.invariant.adds
+
+pub returns-then-not-before-clause-adds : goal.returns-then-not-before-clause-adds
+returns-then-not-before-clause-adds g c = (c.performing.index, c.performing-test.true, c.performing.invariant.adds)

@@ -37,3 +37,7 @@ returns-clause-busy g c = let a = c.args in let h = c.in-Ok.ensures.held in let 
     let same : h.0 ≡ e.0 = one_some (sight c.lock_list.new.cond).value h.0 e.0 h.1.value e.2.0 in
     let seats = ap (λ (y : Waiters). y.seats) same in let made = h.1.seats in let within = c.requires.known in
     only_busy (limits_of a.mutex.now) (sight c.lock_list.new.cond).number (sight a.seat.now) (sight c.enlist_in_hand-enlisted.new.seat) e.0 e.1 c.enlist_in_hand-enlisted.result c.requires.may (omega arith) e.3
+
+pub invariant_of-cond : goal.invariant_of-cond
+invariant_of-cond g c = let a = c.args in let h = c.in-Ok.ensures.held in let e = c.enlist_in_hand-enlisted.ensures.enlists in let l = c.leave_list.ensures in
+    record { kept = (one_hold (cond_limits a.self.now) (cond_sight a.cond.now) (sight c.lock_list.new.cond) (sight c.enlist_in_hand-enlisted.new.cond) (sight c.leave_list.new.cond) h.0 e.0 e.1 h.1 e.2 l.leaves l.keeps.0 l.keeps.1).kept }

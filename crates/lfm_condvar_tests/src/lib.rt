@@ -5,6 +5,8 @@
 #[cfg(test)]
 mod calls;
 #[cfg(test)]
+mod dealing;
+#[cfg(test)]
 mod limits;
 #[cfg(test)]
 mod many_waiters;
@@ -17,6 +19,10 @@ mod past_the_condvar;
 pub mod places;
 #[cfg(test)]
 mod refusals;
+#[cfg(test)]
+mod seeing;
+#[cfg(test)]
+mod shared_calls;
 #[cfg(test)]
 mod two_condvars;
 #[cfg(test)]

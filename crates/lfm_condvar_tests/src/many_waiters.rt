@@ -2,7 +2,10 @@
 ghost use Rattle.std.specs.Prelude.{All, IfOk};
 ghost use Rattle.lfm_condvar_tests.specs.Places.{Of_shared};
 
-use crate::places::{Left, Place, Shared, Side, add_one};
+use crate::dealing::{Left, shared_by};
+use crate::places::{Place, Shared};
+use crate::seeing::sees;
+use crate::shared_calls::{Side, add_one};
 use std::alloc::AllocError;
 use std::process::Abort;
 use std::sync::Wait;
@@ -117,7 +120,7 @@ fn woken(places: &[Place]) -> Option<(u64, u64)> {
 
 /// The first wake met all, the second nobody, and each ticket was one place's, in its turn.
 fn each_was_woken_once<R: Abort>(rt: &R, places: &[Place]) {
-    assert_eq!(*rt; woken(places), Some((WAITERS, 0)));
+    sees(rt, "the wakes", &woken(places), &Some((WAITERS, 0)));
     for ticket in 1..=WAITERS {
         assert_eq!(*rt; times(places, ticket), 1, "ticket {ticket}");
     }
@@ -125,14 +128,24 @@ fn each_was_woken_once<R: Abort>(rt: &R, places: &[Place]) {
 
 /// All added to the number twice, and each condvar sent as many as it had added.
 fn all_were_sent<R: Abort>(rt: &R, left: &Left) {
-    assert_eq!(*rt; left.number, 2 * WAITERS);
-    assert_eq!(*rt; left.first, (WAITERS, WAITERS));
-    assert_eq!(*rt; left.second.0, left.second.1);
+    sees(rt, "the number", &left.number, &(2 * WAITERS));
+    sees(
+        rt,
+        "the first condvar's numbers",
+        &left.first,
+        &(WAITERS, WAITERS),
+    );
+    sees(
+        rt,
+        "the second condvar's numbers",
+        &left.second.0,
+        &left.second.1,
+    );
 }
 
 #[test]
 fn all_who_wait_are_woken_once(rt: HostRuntime) -> Result<(), Fail> {
-    let (shared, places) = Shared::new(rt.alloc(), WAITERS + 1).ok_or("places")?;
+    let (shared, places) = shared_by(rt.alloc(), WAITERS + 1).ok_or("places")?;
     let places = take_parts(&rt, &shared, places)?;
     each_was_woken_once(&rt, &places);
     let left = shared.close(rt.alloc(), places).ok_or("all are back")?;

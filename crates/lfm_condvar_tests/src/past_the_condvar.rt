@@ -3,7 +3,8 @@ ghost use Rattle.lfm_mutex.specs.Belongs.{Of_mutex};
 ghost use Rattle.lfm_condvar.specs.Belongs.{Of_condvar};
 
 use crate::calls::{wait, wake_one};
-use crate::pairs::{closed, two_cond_seats, two_seats};
+use crate::pairs::{closed, condvar_of_two, mutex_of_two};
+use crate::seeing::{holds, sees};
 use lfm_condvar::{CondSeat, Condvar};
 use lfm_model::{Refusal, SeatNo};
 use lfm_mutex::{Mutex, Seat};
@@ -87,18 +88,20 @@ fn send_the_other(mutex: &Mutex<u64>, mut seat: Seat<u64>) -> Sent
 
 /// The send ended the first wait, and its place in the list stood in the way of the second.
 fn the_first_wait_was_sent<R: Abort>(rt: &R, waited: &Waited, sent: &Sent) {
-    assert!(*rt; sent.sent);
-    assert!(*rt; sent.only_not_waiting);
-    assert_eq!(*rt; waited.ticket, Some(1));
-    assert!(*rt; waited.busy);
+    holds(rt, "a send went well", sent.sent);
+    holds(
+        rt,
+        "each send before it met nobody who waits",
+        sent.only_not_waiting,
+    );
+    sees(rt, "the ticket of the first wait", &waited.ticket, &Some(1));
+    holds(rt, "the second wait was refused as Busy", waited.busy);
 }
 
 #[test]
 fn a_send_past_the_condvar(rt: HostRuntime) -> Result<(), Fail> {
-    let (mutex, seats) = Mutex::new(rt.alloc(), 2, 8, 0u64)?;
-    let (condvar, cond_seats) = Condvar::new(rt.alloc(), 2, 4)?;
-    let (seat_1, seat_2) = two_seats(&mutex, seats).ok_or("two seats")?;
-    let (cond_1, mut cond_2) = two_cond_seats(&condvar, cond_seats).ok_or("two cond seats")?;
+    let (mutex, seat_1, seat_2) = mutex_of_two(rt.alloc(), 8, 0u64).ok_or("a mutex")?;
+    let (condvar, cond_1, mut cond_2) = condvar_of_two(rt.alloc(), 4).ok_or("a condvar")?;
     let (r, m, v) = (&rt, &mutex, &condvar);
     let (waited, mut sent) = join(
         &rt,

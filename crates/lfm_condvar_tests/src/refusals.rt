@@ -5,8 +5,8 @@ ghost use Rattle.lfm_mutex.specs.Belongs.{Of_mutex, limits_of};
 ghost use Rattle.lfm_condvar.specs.Belongs.{Of_condvar, cond_limits};
 
 use crate::calls::{ask, receive, unlock, wake_one};
-use crate::pairs::two_seats;
-use crate::places::last_cond_seat;
+use crate::pairs::{condvar_of_one, mutex_of_two};
+use crate::seeing::sees;
 use lfm_condvar::{CondSeat, Condvar};
 use lfm_model::{Asked, How, Refusal, SeatNo, Unlocked};
 use lfm_mutex::{Holder, Mutex, Seat};
@@ -115,8 +115,18 @@ fn wakes_of_a_spent_cond_seat_are_refused<R: Wait + Abort>(
     ensures seat { Of_mutex seat.new mutex.now }
     ensures cond { Of_condvar cond.new spent.now }
 {
-    assert_eq!(*rt; wake_one(rt, spent, cond, mutex, seat), Ok(None));
-    assert_eq!(*rt; wake(rt, spent, cond, mutex, seat), Some(Refusal::Spent));
+    sees(
+        rt,
+        "wake_one",
+        &wake_one(rt, spent, cond, mutex, seat),
+        &Ok(None),
+    );
+    sees(
+        rt,
+        "wakes",
+        &wake(rt, spent, cond, mutex, seat),
+        &Some(Refusal::Spent),
+    );
 }
 
 /// Why the waits of a user seat are refused: with the cond seat that has its take, and with the one that is spent.
@@ -185,11 +195,31 @@ fn calls_of_a_sleeping_seat_are_refused<R: Wait + Abort>(
     ensures x { Of_condvar x.new able.now }
     ensures z { Of_condvar z.new spent.now }
 {
-    assert_eq!(*rt; ask(mutex, first), Ok(Asked::Held(How::Free)));
-    assert_eq!(*rt; ask(mutex, second), Ok(Asked::Asleep));
+    sees(
+        rt,
+        "ask by the first",
+        &ask(mutex, first),
+        &Ok(Asked::Held(How::Free)),
+    );
+    sees(
+        rt,
+        "ask by the second",
+        &ask(mutex, second),
+        &Ok(Asked::Asleep),
+    );
     let asleep = (Some(Refusal::Asleep), Some(Refusal::Asleep));
-    assert_eq!(*rt; waits(rt, able, x, spent, z, mutex, second), asleep);
-    assert_eq!(*rt; wakes(rt, able, x, spent, z, mutex, second), asleep);
+    sees(
+        rt,
+        "wait by the second",
+        &waits(rt, able, x, spent, z, mutex, second),
+        &asleep,
+    );
+    sees(
+        rt,
+        "wakes by the second",
+        &wakes(rt, able, x, spent, z, mutex, second),
+        &asleep,
+    );
 }
 
 /// The seat holds once and then twice. It gives both holds up to the second seat.
@@ -209,14 +239,26 @@ fn nested_waits_are_refused<R: Wait + Abort>(
     ensures x { Of_condvar x.new able.now }
     ensures z { Of_condvar z.new spent.now }
 {
-    assert_eq!(*rt; wait(rt, spent, z, mutex, seat), Some(Refusal::Spent));
-    assert_eq!(*rt; ask(mutex, seat), Ok(Asked::Again(2)));
+    sees(
+        rt,
+        "wait",
+        &wait(rt, spent, z, mutex, seat),
+        &Some(Refusal::Spent),
+    );
+    sees(rt, "ask", &ask(mutex, seat), &Ok(Asked::Again(2)));
     let nested = (Some(Refusal::Nested), Some(Refusal::Nested));
-    assert_eq!(*rt; waits(rt, able, x, spent, z, mutex, seat), nested);
-    assert_eq!(*rt; unlock(mutex, seat), Ok(Unlocked::Still(1)));
-    assert_eq!(*rt;
-        unlock(mutex, seat),
-        Ok(Unlocked::Granted(SeatNo::known(2)))
+    sees(
+        rt,
+        "wait",
+        &waits(rt, able, x, spent, z, mutex, seat),
+        &nested,
+    );
+    sees(rt, "unlock", &unlock(mutex, seat), &Ok(Unlocked::Still(1)));
+    sees(
+        rt,
+        "unlock",
+        &unlock(mutex, seat),
+        &Ok(Unlocked::Granted(SeatNo::known(2))),
     );
 }
 
@@ -237,12 +279,24 @@ fn waits_above_the_seats_of_a_condvar_are_refused<R: Wait + Abort>(
     ensures x { Of_condvar x.new able.now }
     ensures z { Of_condvar z.new spent.now }
 {
-    assert_eq!(*rt; receive(mutex, second), Ok(Some(How::Queued(1))));
-    assert_eq!(*rt;
-        waits(rt, able, x, spent, z, mutex, second),
-        (Some(Refusal::NoSuchSeat), Some(Refusal::Spent))
+    sees(
+        rt,
+        "try_receive by the second",
+        &receive(mutex, second),
+        &Ok(Some(How::Queued(1))),
     );
-    assert_eq!(*rt; unlock(mutex, second), Ok(Unlocked::Free));
+    sees(
+        rt,
+        "wait by the second",
+        &waits(rt, able, x, spent, z, mutex, second),
+        &(Some(Refusal::NoSuchSeat), Some(Refusal::Spent)),
+    );
+    sees(
+        rt,
+        "unlock by the second",
+        &unlock(mutex, second),
+        &Ok(Unlocked::Free),
+    );
 }
 
 /// The seat makes its last take, and could not make the one that ends a wait.
@@ -258,9 +312,14 @@ fn waits_at_the_last_take_are_refused<R: Wait + Abort>(
     ensures seat { Of_mutex seat.new mutex.now }
     ensures x { Of_condvar x.new able.now }
 {
-    assert_eq!(*rt; ask(mutex, seat), Ok(Asked::Held(How::Free)));
-    assert_eq!(*rt; wait(rt, able, x, mutex, seat), Some(Refusal::Spent));
-    assert_eq!(*rt; unlock(mutex, seat), Ok(Unlocked::Free));
+    sees(rt, "ask", &ask(mutex, seat), &Ok(Asked::Held(How::Free)));
+    sees(
+        rt,
+        "wait",
+        &wait(rt, able, x, mutex, seat),
+        &Some(Refusal::Spent),
+    );
+    sees(rt, "unlock", &unlock(mutex, seat), &Ok(Unlocked::Free));
 }
 
 /// The refusals in the order of their causes.
@@ -288,15 +347,22 @@ fn refusals_step_by_step<R: Wait + Abort>(
     wakes_of_a_spent_cond_seat_are_refused(rt, spent, z, mutex, first);
     // it doesn't hold, and so would find the cond seat spent
     let not_owner = Some(Refusal::NotOwner);
-    assert_eq!(*rt;
-        waits(rt, able, x, spent, z, mutex, first),
-        (not_owner, not_owner)
+    sees(
+        rt,
+        "wait by the first",
+        &waits(rt, able, x, spent, z, mutex, first),
+        &(not_owner, not_owner),
     );
     calls_of_a_sleeping_seat_are_refused(rt, able, x, spent, z, mutex, first, second);
     nested_waits_are_refused(rt, able, x, spent, z, mutex, first);
     waits_above_the_seats_of_a_condvar_are_refused(rt, able, x, spent, z, mutex, second);
     waits_at_the_last_take_are_refused(rt, able, x, mutex, first);
-    assert_eq!(*rt; wait(rt, able, x, mutex, first), not_owner);
+    sees(
+        rt,
+        "wait by the first",
+        &wait(rt, able, x, mutex, first),
+        &not_owner,
+    );
     waits_at_the_last_take_are_refused(rt, able, x, mutex, second);
 }
 
@@ -304,12 +370,9 @@ fn refusals_step_by_step<R: Wait + Abort>(
 fn refusals_in_order(rt: HostRuntime) -> Result<(), Fail> {
     // two seats for two takes each, and two condvars for user seat 1 alone: one whose cond seat has its take, and one whose
     // cond seat has none left
-    let (mutex, seats) = Mutex::new(rt.alloc(), 2, 2, 7u64)?;
-    let (able, mut able_seats) = Condvar::new(rt.alloc(), 1, 1)?;
-    let (spent, mut spent_seats) = Condvar::new(rt.alloc(), 1, 1)?;
-    let (mut first, mut second) = two_seats(&mutex, seats).ok_or("two seats")?;
-    let mut x = last_cond_seat(&able, &mut able_seats).ok_or("a cond seat")?;
-    let mut z = last_cond_seat(&spent, &mut spent_seats).ok_or("a cond seat")?;
+    let (mutex, mut first, mut second) = mutex_of_two(rt.alloc(), 2, 7u64).ok_or("a mutex")?;
+    let (able, mut x) = condvar_of_one(rt.alloc()).ok_or("a condvar")?;
+    let (spent, mut z) = condvar_of_one(rt.alloc()).ok_or("a condvar")?;
     refusals_step_by_step(
         &rt,
         &able,

@@ -3,8 +3,12 @@
 ghost use Rattle.std.specs.Prelude.{All, IfOk};
 ghost use Rattle.lfm_condvar_tests.specs.Places.{Of_shared};
 
-use crate::places::{Place, Shared, Side, add_one};
+use crate::dealing::{Left, shared_by};
+use crate::places::{Place, Shared};
+use crate::seeing::sees;
+use crate::shared_calls::{Side, add_one};
 use std::alloc::AllocError;
+use std::process::Abort;
 use std::sync::Wait;
 use std::test::Fail;
 use std::thread;
@@ -82,15 +86,31 @@ fn all_waits(places: &[Place]) -> u64 {
     waits
 }
 
+/// All turns were taken, each condvar sent as many as it had added, and together they sent each wait.
+fn each_wait_was_sent<R: Abort>(rt: &R, left: &Left, waits: u64) {
+    sees(rt, "the number", &left.number, &ALL_TURNS);
+    sees(
+        rt,
+        "the first condvar's numbers",
+        &left.first.0,
+        &left.first.1,
+    );
+    sees(
+        rt,
+        "the second condvar's numbers",
+        &left.second.0,
+        &left.second.1,
+    );
+    let sent = left.first.0.wrapping_add(left.second.0);
+    sees(rt, "how many were sent", &sent, &waits);
+}
+
 #[test]
 fn two_condvars_of_one_mutex(rt: HostRuntime) -> Result<(), Fail> {
-    let (shared, places) = Shared::new(rt.alloc(), 4).ok_or("places")?;
+    let (shared, places) = shared_by(rt.alloc(), 4).ok_or("places")?;
     let places = take_all_turns(&rt, &shared, places)?;
     let waits = all_waits(&places);
     let left = shared.close(rt.alloc(), places).ok_or("all are back")?;
-    assert_eq!(rt; left.number, ALL_TURNS);
-    assert_eq!(rt; left.first.0, left.first.1);
-    assert_eq!(rt; left.second.0, left.second.1);
-    assert_eq!(rt; left.first.0.wrapping_add(left.second.0), waits);
+    each_wait_was_sent(&rt, &left, waits);
     Ok(())
 }

@@ -3,7 +3,8 @@ ghost use Rattle.std.specs.Prelude.{◌≤◌};
 ghost use Rattle.lfm_mutex.specs.Belongs.{Beside, Of_mutex, limits_of};
 ghost use Rattle.lfm_condvar.specs.Belongs.{Of_condvar, cond_limits};
 
-use crate::pairs::{closed, two_cond_seats, two_seats};
+use crate::pairs::{closed, condvar_of_two, mutex_of_two};
+use crate::seeing::{holds, sees};
 use lfm_condvar::{CondSeat, Condvar};
 use lfm_model::{How, Refusal, SeatNo};
 use lfm_mutex::{Mutex, Seat};
@@ -191,19 +192,24 @@ fn alone<R: Wait>(
 
 /// The first wake met the wait, the second met nobody, and the third was refused.
 fn one_wake_ended_the_wait<R: Abort>(rt: &R, woke: &Woke, waited: &Waited) {
-    assert_eq!(*rt; woke.first, Some((SeatNo::known(2), 1)));
-    assert!(*rt; woke.none);
-    assert!(*rt; woke.spent);
-    assert_eq!(*rt; waited.ticket, Some(1));
-    assert_eq!(*rt; waited.depth, 1);
+    sees(
+        rt,
+        "the first wake",
+        &woke.first,
+        &Some((SeatNo::known(2), 1)),
+    );
+    holds(rt, "the second wake met nobody", woke.none);
+    holds(rt, "the third wake was refused as Spent", woke.spent);
+    sees(rt, "the ticket of the wait", &waited.ticket, &Some(1));
+    sees(rt, "the depth after the wait", &waited.depth, &1);
 }
 
 #[test]
 fn a_condition_variable(rt: HostRuntime) -> Result<(), Fail> {
-    let (mutex, seats) = Mutex::new(rt.alloc(), 2, 1_000_000_000, false)?;
-    let (condvar, cond_seats) = Condvar::new(rt.alloc(), 2, 4)?;
-    let (mut seat_1, seat_2) = two_seats(&mutex, seats).ok_or("two seats")?;
-    let (mut cond_1, cond_2) = two_cond_seats(&condvar, cond_seats).ok_or("two cond seats")?;
+    let (mutex, mut seat_1, seat_2) = mutex_of_two(rt.alloc(), 1_000_000_000, false).ok_or(
+        "a mutex",
+    )?;
+    let (condvar, mut cond_1, cond_2) = condvar_of_two(rt.alloc(), 4).ok_or("a condvar")?;
     assert!(rt; alone(&rt, &mutex, &condvar, &mut seat_1, &mut cond_1));
     let (r, m, v) = (&rt, &mutex, &condvar);
     let (woke, waited) = join(

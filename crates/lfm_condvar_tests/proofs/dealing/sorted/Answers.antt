@@ -7,7 +7,7 @@ use Rattle.lfm_condvar.specs.declared.seats.CondSeat.{CondSeat}
 use Rattle.lfm_condvar.specs.Belongs.{Of_condvar}
 use Rattle.lfm_condvar.proofs.Begins.{and_last}
 use Rattle.lfm_condvar_tests.specs.Places.{Of_shared}
-use Rattle.lfm_condvar_tests.proofs.places.sorted.Goals as goal
+use Rattle.lfm_condvar_tests.proofs.dealing.sorted.Goals as goal
 
 pub sorting-preserved : goal.sorting-preserved
 sorting-preserved c = let b = c.into_iter-place-iterator.ensures.into_iter_gives in let xs = c.args.places.items in let s = c.args.shared.now in let i = c.sorting.invariant in let r = c.sorting.room in

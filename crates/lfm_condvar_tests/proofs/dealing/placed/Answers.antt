@@ -1,6 +1,6 @@
 use Rattle.lfm_condvar_tests.proofs.Pushing.{all_and_last}
 use Rattle.lfm_condvar_tests.specs.Places.{Of_shared}
-use Rattle.lfm_condvar_tests.proofs.places.placed.Goals as goal
+use Rattle.lfm_condvar_tests.proofs.dealing.placed.Goals as goal
 
 pub placing-preserved : goal.placing-preserved
 placing-preserved c = record {

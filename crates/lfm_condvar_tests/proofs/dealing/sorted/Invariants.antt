@@ -3,7 +3,7 @@ use mathlib.Core.Option.{some}
 use lib.ListN.{get_elem?}
 use Rattle.lfm_mutex.specs.Belongs.{Of_mutex}
 use Rattle.lfm_condvar.specs.Belongs.{Of_condvar}
-use Rattle.lfm_condvar_tests.proofs.places.sorted.Given as goal
+use Rattle.lfm_condvar_tests.proofs.dealing.sorted.Given as goal
 
 abbrev pub invariant-sorting : goal.invariant-sorting
 invariant-sorting l = record {

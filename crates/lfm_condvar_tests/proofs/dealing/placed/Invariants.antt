@@ -4,7 +4,7 @@ use lib.ListN.{get_elem?}
 use Rattle.lfm_mutex.specs.Belongs.{Of_mutex}
 use Rattle.lfm_condvar.specs.Belongs.{Of_condvar}
 use Rattle.lfm_condvar_tests.specs.Places.{Of_shared}
-use Rattle.lfm_condvar_tests.proofs.places.placed.Given as goal
+use Rattle.lfm_condvar_tests.proofs.dealing.placed.Given as goal
 
 abbrev pub invariant-placing : goal.invariant-placing
 invariant-placing l = record {

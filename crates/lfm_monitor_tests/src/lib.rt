@@ -11,4 +11,6 @@ mod monitors;
 mod out_of_memory;
 #[cfg(test)]
 mod producers;
+#[cfg(test)]
+mod seeing;
 pub mod slot;

@@ -6,6 +6,7 @@ ghost use lib.ListN.{get_elem?};
 ghost use mathlib.Core.Option.{some};
 
 use crate::calls::{apply, ask, enter, leave, try_enter, try_receive};
+use crate::seeing::sees;
 use lfm_model::{
     Asked, Entry, How, Locked, Missing, NewFault, Refusal, SeatNo, Total, TotalOp, Unlocked, What,
     lawful, replay,
@@ -15,6 +16,21 @@ use std::alloc::Global;
 use std::process::Abort;
 use std::sync::Wait;
 use std::test::Fail;
+
+/// A monitor round 0, and its passes, of whose contract the tests need that they are the monitor's.
+pub fn opened(
+    alloc: Global,
+    passes: u64,
+    entries: u64,
+    conditions: u64,
+) -> Option<(Monitor<Total>, Vec<Pass<Total>>)>
+    ensures { IfSome result (λ r. (j : ℕ) (p : _) → get_elem? r.1.items j ≡ some p → Of_monitor p r.0) }
+{
+    let Ok((monitor, passes)) = Monitor::new(alloc, passes, entries, conditions, Total(0)) else {
+        return None;
+    };
+    Some((monitor, passes))
+}
 
 /// The two passes of a monitor that has two.
 pub fn take_two(
@@ -120,12 +136,29 @@ fn the_first_pass_adds<R: Abort>(
     ensures first { Ours first.new monitor.now }
     ensures second { Ours second.new monitor.now }
 {
-    assert_eq!(*rt; ask(monitor, first), Ok(Asked::Held(How::Free)));
-    assert_eq!(*rt; ask(monitor, second), Ok(Asked::Asleep));
-    assert_eq!(*rt; apply(monitor, first, TotalOp::Add(5)), Ok(5));
-    assert_eq!(*rt;
-        leave(monitor, first),
-        Ok(Unlocked::Granted(SeatNo::known(2)))
+    sees(
+        rt,
+        "ask by the first",
+        &ask(monitor, first),
+        &Ok(Asked::Held(How::Free)),
+    );
+    sees(
+        rt,
+        "ask by the second",
+        &ask(monitor, second),
+        &Ok(Asked::Asleep),
+    );
+    sees(
+        rt,
+        "apply by the first",
+        &apply(monitor, first, TotalOp::Add(5)),
+        &Ok(5),
+    );
+    sees(
+        rt,
+        "leave by the first",
+        &leave(monitor, first),
+        &Ok(Unlocked::Granted(SeatNo::known(2))),
     );
 }
 
@@ -141,12 +174,29 @@ fn the_second_pass_adds<R: Abort>(
     ensures first { Ours first.new monitor.now }
     ensures second { Ours second.new monitor.now }
 {
-    assert_eq!(*rt; ask(monitor, first), Ok(Asked::Asleep));
-    assert_eq!(*rt; try_receive(monitor, second), Ok(Some(How::Queued(1))));
-    assert_eq!(*rt; apply(monitor, second, TotalOp::Add(7)), Ok(12));
-    assert_eq!(*rt;
-        leave(monitor, second),
-        Ok(Unlocked::Granted(SeatNo::known(1)))
+    sees(
+        rt,
+        "ask by the first",
+        &ask(monitor, first),
+        &Ok(Asked::Asleep),
+    );
+    sees(
+        rt,
+        "try_receive by the second",
+        &try_receive(monitor, second),
+        &Ok(Some(How::Queued(1))),
+    );
+    sees(
+        rt,
+        "apply by the second",
+        &apply(monitor, second, TotalOp::Add(7)),
+        &Ok(12),
+    );
+    sees(
+        rt,
+        "leave by the second",
+        &leave(monitor, second),
+        &Ok(Unlocked::Granted(SeatNo::known(1))),
     );
 }
 
@@ -155,10 +205,15 @@ fn the_first_pass_reads<R: Abort>(rt: &R, monitor: &Monitor<Total>, pass: &mut P
     requires { Ours pass.old monitor.now }
     ensures { Ours pass.new monitor.now }
 {
-    assert_eq!(*rt; try_receive(monitor, pass), Ok(Some(How::Queued(2))));
-    assert_eq!(*rt; pass.depth(), 1);
-    assert_eq!(*rt; apply(monitor, pass, TotalOp::Read), Ok(12));
-    assert_eq!(*rt; leave(monitor, pass), Ok(Unlocked::Free));
+    sees(
+        rt,
+        "try_receive",
+        &try_receive(monitor, pass),
+        &Ok(Some(How::Queued(2))),
+    );
+    sees(rt, "depth of the pass", &pass.depth(), &1);
+    sees(rt, "apply", &apply(monitor, pass, TotalOp::Read), &Ok(12));
+    sees(rt, "leave", &leave(monitor, pass), &Ok(Unlocked::Free));
 }
 
 /// The one entry of the pass goes to its take, so it may write no op, and not enter again.
@@ -166,38 +221,73 @@ fn the_one_entry_is_spent<R: Wait + Abort>(rt: &R, monitor: &Monitor<Total>, pas
     requires { Ours pass.old monitor.now }
     ensures { Ours pass.new monitor.now }
 {
-    assert_eq!(*rt; try_enter(monitor, pass), Ok(Locked::Held(How::Free)));
-    assert_eq!(*rt; apply(monitor, pass, TotalOp::Read), Err(Refusal::Spent));
-    assert_eq!(*rt; leave(monitor, pass), Ok(Unlocked::Free));
-    assert_eq!(*rt; enter(rt, monitor, pass), Err(Refusal::Spent));
+    sees(
+        rt,
+        "try_enter",
+        &try_enter(monitor, pass),
+        &Ok(Locked::Held(How::Free)),
+    );
+    sees(
+        rt,
+        "apply",
+        &apply(monitor, pass, TotalOp::Read),
+        &Err(Refusal::Spent),
+    );
+    sees(rt, "leave", &leave(monitor, pass), &Ok(Unlocked::Free));
+    sees(rt, "enter", &enter(rt, monitor, pass), &Err(Refusal::Spent));
+}
+
+/// Each pass holds and adds, and the first reads what both came to.
+fn each_pass_has_its_turn<R: Abort>(
+    rt: &R,
+    monitor: &Monitor<Total>,
+    first: &mut Pass<Total>,
+    second: &mut Pass<Total>,
+)
+    requires first { Ours first.old monitor.now }
+    requires second { Ours second.old monitor.now }
+    ensures first { Ours first.new monitor.now }
+    ensures second { Ours second.new monitor.now }
+{
+    the_first_pass_adds(rt, monitor, first, second);
+    the_second_pass_adds(rt, monitor, first, second);
+    the_first_pass_reads(rt, monitor, first);
+    let seen = (first.seen_len(), second.seen_len());
+    sees(rt, "what the passes have seen", &seen, &(6, 4));
+    let mine = (first.mine(), second.mine());
+    sees(rt, "how many entries are their own", &mine, &(4, 2));
 }
 
 #[test]
 fn a_monitor_in_one_thread(rt: HostRuntime) -> Result<(), Fail> {
-    let (monitor, passes) = Monitor::new(rt.alloc(), 2, 8, 0, Total(0))?;
-    let Some((mut first, mut second)) = take_two(&monitor, passes) else {
-        panic!(rt; "two passes")
-    };
-    assert_eq!(rt; first.number(), SeatNo::known(1));
-    the_first_pass_adds(&rt, &monitor, &mut first, &mut second);
-    the_second_pass_adds(&rt, &monitor, &mut first, &mut second);
-    the_first_pass_reads(&rt, &monitor, &mut first);
-    assert_eq!(rt; (first.seen_len(), second.seen_len()), (6, 4));
-    assert_eq!(rt; (first.mine(), second.mine()), (4, 2));
-    let Some((monitor, first, second, missing)) = kept_alone(
+    let (monitor, passes) = opened(rt.alloc(), 2, 8, 0).ok_or("a monitor")?;
+    let (mut first, mut second) = take_two(&monitor, passes).ok_or("two passes")?;
+    sees(
+        &rt,
+        "the first pass's number",
+        &first.number(),
+        &SeatNo::known(1),
+    );
+    each_pass_has_its_turn(&rt, &monitor, &mut first, &mut second);
+    let (monitor, first, second, missing) = kept_alone(
         monitor,
         first,
         second,
         Vec::new(rt.alloc()),
-    ) else {
-        panic!(rt; "it was closed without pass 2")
-    };
-    assert_eq!(rt; missing, Missing::NotBack(SeatNo::known(2)));
-    let Some((total, journal)) = closed(monitor, first, second, Vec::new(rt.alloc())) else {
-        panic!(rt; "both passes were back")
-    };
-    assert_eq!(rt; total, Total(12));
-    assert_eq!(rt; journal.as_slice(), written().as_slice());
+    ).ok_or("it was closed without pass 2")?;
+    sees(
+        &rt,
+        "what is missing",
+        &missing,
+        &Missing::NotBack(SeatNo::known(2)),
+    );
+    let (total, journal) = closed(monitor, first, second, Vec::new(rt.alloc())).ok_or(
+        "both passes were back",
+    )?;
+    assert_eq!(rt;
+        (total, journal.as_slice()),
+        (Total(12), written().as_slice())
+    );
     Ok(())
 }
 
@@ -237,10 +327,8 @@ fn limits(rt: HostRuntime) {
 
 #[test]
 fn one_entry(rt: HostRuntime) -> Result<(), Fail> {
-    let (monitor, passes) = Monitor::new(rt.alloc(), 1, 1, 0, Total(0))?;
-    let Some(mut pass) = take_one(&monitor, passes) else {
-        panic!(rt; "one pass")
-    };
+    let (monitor, passes) = opened(rt.alloc(), 1, 1, 0).ok_or("a monitor")?;
+    let mut pass = take_one(&monitor, passes).ok_or("one pass")?;
     the_one_entry_is_spent(&rt, &monitor, &mut pass);
     Ok(())
 }

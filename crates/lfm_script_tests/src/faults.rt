@@ -1,10 +1,18 @@
 //! Texts that are no scripts: which fault is answered.
 use lfm_script::{WorkFault, read_script};
 use std::alloc::{AllocError, Global};
+use std::process::Abort;
 
 /// The fault of a text, where it has one.
 fn fault_of(alloc: Global, text: &[u8]) -> Option<WorkFault> {
     read_script(alloc, text).err()
+}
+
+/// Sees that each of these texts has this fault, or that none has one.
+fn each_has<R: AllocGlobal + Abort>(rt: &R, texts: &[&[u8]], wanted: Option<WorkFault>) {
+    for (index, text) in texts.iter().enumerate() {
+        assert_eq!(*rt; fault_of(rt.alloc(), text), wanted, "text {index}");
+    }
 }
 
 #[test]
@@ -25,13 +33,7 @@ fn numbers_out_of_range(rt: HostRuntime) {
         b"workers 1 1\n1 one 0",
         b"workers 1 1\n999999999999999999 all 1",
     ];
-    for (index, text) in texts.iter().enumerate() {
-        assert_eq!(rt;
-            fault_of(rt.alloc(), text),
-            Some(WorkFault::Limit),
-            "text {index}"
-        );
-    }
+    each_has(&rt, &texts, Some(WorkFault::Limit));
 }
 
 #[test]
@@ -44,9 +46,7 @@ fn largest_numbers(rt: HostRuntime) {
         b"workers 4095 16\n4095 until 16 1000000000",
         b"workers 4095 16\n4095 one 16\n4095 all 16\n",
     ];
-    for (index, text) in texts.iter().enumerate() {
-        assert_eq!(rt; fault_of(rt.alloc(), text), None, "text {index}");
-    }
+    each_has(&rt, &texts, None);
 }
 
 #[test]
@@ -67,13 +67,7 @@ fn first_lines(rt: HostRuntime) {
         b"seats 2 1",
         b"1 add 1",
     ];
-    for (index, text) in texts.iter().enumerate() {
-        assert_eq!(rt;
-            fault_of(rt.alloc(), text),
-            Some(WorkFault::Syntax(1)),
-            "text {index}"
-        );
-    }
+    each_has(&rt, &texts, Some(WorkFault::Syntax(1)));
 }
 
 #[test]
@@ -95,13 +89,7 @@ fn later_lines(rt: HostRuntime) {
         // a fault of syntax comes before a limit, and the first before others
         b"workers 0 99\n1 add\n1 ad 1\n",
     ];
-    for (index, text) in texts.iter().enumerate() {
-        assert_eq!(rt;
-            fault_of(rt.alloc(), text),
-            Some(WorkFault::Syntax(2)),
-            "text {index}"
-        );
-    }
+    each_has(&rt, &texts, Some(WorkFault::Syntax(2)));
 }
 
 /// A script of this many lines.

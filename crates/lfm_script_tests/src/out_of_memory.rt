@@ -1,23 +1,55 @@
 //! The calls that ask for memory. Each test whose name contains `memory` passes also where a request was refused: a script
 //! lets each single request of these tests fail in turn.
-use lfm_script::{Command, ScriptLine, WorkFault, commands_by_worker, read_script};
+use lfm_script::{Command, Script, ScriptLine, WorkFault, commands_by_worker, read_script};
+use std::alloc::Global;
+use std::process::Abort;
+
+/// `read_script`, with nothing of its contract: the test looks at what it answers.
+fn read(alloc: Global, text: &[u8]) -> Result<Script, WorkFault> {
+    read_script(alloc, text)
+}
+
+/// Sees that a script has two workers and one condition, and these lines.
+fn sees_script<R: Abort>(rt: &R, script: &Script, lines: &[ScriptLine]) {
+    assert_eq!(*rt; (script.workers, script.conditions), (2, 1));
+    assert_eq!(*rt; script.lines.as_slice(), lines);
+}
 
 #[test]
 fn script_and_memory(rt: HostRuntime) {
-    match read_script(
+    let lines = [
+        ScriptLine {
+            worker: 1,
+            command: Command::Until(1, 3),
+        },
+        ScriptLine {
+            worker: 2,
+            command: Command::Add(3),
+        },
+        ScriptLine {
+            worker: 2,
+            command: Command::All(1),
+        },
+        ScriptLine {
+            worker: 2,
+            command: Command::One(1),
+        },
+    ];
+    match read(
         rt.alloc(),
         b"workers 2 1\n1 until 1 3\n2 add 3\n2 all 1\n2 one 1",
     ) {
-        Ok(script) => {
-            assert_eq!(rt; (script.workers, script.conditions), (2, 1));
-            assert_eq!(rt; script.lines.len(), 4);
-            assert_eq!(rt; script.lines[0].command, Command::Until(1, 3));
-            assert_eq!(rt; script.lines[1].command, Command::Add(3));
-            assert_eq!(rt; script.lines[2].command, Command::All(1));
-            assert_eq!(rt; script.lines[3].command, Command::One(1));
-        }
+        Ok(script) => sees_script(&rt, &script, &lines),
         Err(fault) => assert_eq!(rt; fault, WorkFault::Memory),
     }
+}
+
+/// Sees that worker 1 has one command, worker 2 none, and worker 3 two.
+fn sees_commands<R: Abort>(rt: &R, found: (&[Command], &[Command], &[Command])) {
+    let (first, second, third) = found;
+    assert_eq!(*rt; first, [Command::One(1)].as_slice());
+    assert!(*rt; second.is_empty());
+    assert_eq!(*rt; third, [Command::Add(5), Command::Add(7)].as_slice());
 }
 
 #[test]
@@ -42,12 +74,12 @@ fn commands_and_memory(rt: HostRuntime) {
     ];
     match commands_by_worker(rt.alloc(), 3, &lines) {
         Ok(commands) => {
-            assert_eq!(rt; commands[0].as_slice(), [Command::One(1)].as_slice());
-            assert!(rt; commands[1].is_empty());
-            assert_eq!(rt;
+            let found = (
+                commands[0].as_slice(),
+                commands[1].as_slice(),
                 commands[2].as_slice(),
-                [Command::Add(5), Command::Add(7)].as_slice()
             );
+            sees_commands(&rt, found);
         }
         Err(fault) => assert_eq!(rt; fault, WorkFault::Memory),
     }

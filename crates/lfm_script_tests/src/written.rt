@@ -1,6 +1,11 @@
 //! Scripts that are made by chance, written and read back.
-use lfm_script::{Command, MAX_NUMBER, Script, ScriptLine, commands_by_worker, read_script};
+ghost use Rattle.std.specs.Prelude.{◌<◌};
+
+use lfm_script::{
+    Command, MAX_NUMBER, Script, ScriptLine, WorkFault, commands_by_worker, read_script,
+};
 use std::alloc::{AllocError, Global};
+use std::process::Abort;
 use std::test::Fail;
 
 const WORKERS: u64 = 7;
@@ -14,12 +19,19 @@ fn after(number: u64) -> u64 {
         .wrapping_add(1_442_695_040_888_963_407)
 }
 
+/// One of so many, counted from 1, that these bits pick.
+fn one_of(bits: u64, many: u64) -> u64
+    requires { 0 < many }
+{
+    bits % many + 1
+}
+
 /// The line that a number picks.
 fn picked(number: u64) -> ScriptLine {
-    let condition = (number >> 40) % CONDITIONS + 1;
+    let condition = one_of(number >> 40, CONDITIONS);
     let amount = (number >> 33) % (MAX_NUMBER + 1);
     ScriptLine {
-        worker: (number >> 50) % WORKERS + 1,
+        worker: one_of(number >> 50, WORKERS),
         command: match (number >> 60) % 4 {
             0 => Command::Add(amount),
             1 => Command::Until(condition, amount),
@@ -71,15 +83,39 @@ fn are_of_worker(commands: &[Command], worker: u64, lines: &[ScriptLine]) -> boo
     rest.next().is_none()
 }
 
+/// `read_script`, with nothing of its contract: the test looks at what it answers.
+fn read(alloc: Global, text: &str) -> Result<Script, WorkFault> {
+    read_script(alloc, text.as_bytes())
+}
+
+/// Sees that a script is the one by chance that has these lines.
+fn sees_lines<R: Abort>(rt: &R, script: &Script, lines: &[ScriptLine], seed: u64) {
+    assert_eq!(*rt; (script.workers, script.conditions), (WORKERS, CONDITIONS));
+    assert_eq!(*rt; script.lines.as_slice(), lines, "seed {seed}");
+}
+
 #[test]
 fn written_scripts_are_read(rt: HostRuntime) -> Result<(), Fail> {
     for seed in 0..40 {
         let (lines, text) = script_by_chance(rt.alloc(), seed, seed * 3)?;
-        let script = read_script(rt.alloc(), text.as_bytes())?;
-        assert_eq!(rt; (script.workers, script.conditions), (WORKERS, CONDITIONS));
-        assert_eq!(rt; script.lines.as_slice(), lines.as_slice(), "seed {seed}");
+        let script = read(rt.alloc(), &text)?;
+        sees_lines(&rt, &script, &lines, seed);
     }
     Ok(())
+}
+
+/// Sees that there are so many workers, and that each has its commands of these lines.
+fn sees_commands<R: Abort>(
+    rt: &R,
+    commands: &[Vec<Command>],
+    workers: u64,
+    lines: &[ScriptLine],
+    seed: u64,
+) {
+    assert_eq!(*rt; commands.len() as u64, workers);
+    for (index, own) in commands.iter().enumerate() {
+        assert!(*rt; are_of_worker(own, index as u64 + 1, lines), "seed {seed}");
+    }
 }
 
 #[test]
@@ -89,10 +125,7 @@ fn each_worker_has_its_commands(rt: HostRuntime) -> Result<(), Fail> {
         // one worker fewer than there are: the lines of the last are nobody's
         for workers in [WORKERS, WORKERS - 1, 0] {
             let commands = commands_by_worker(rt.alloc(), workers, &lines)?;
-            assert_eq!(rt; commands.len() as u64, workers);
-            for (index, own) in commands.iter().enumerate() {
-                assert!(rt; are_of_worker(own, index as u64 + 1, &lines), "seed {seed}");
-            }
+            sees_commands(&rt, &commands, workers, &lines, seed);
         }
     }
     Ok(())

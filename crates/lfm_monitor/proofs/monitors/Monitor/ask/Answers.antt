@@ -1,4 +1,4 @@
-use Rattle.std.proofs.Common.{inl, refl, ap, ◌∙◌, ◌<◌, ◌+◌, Some}
+use Rattle.std.proofs.Common.{arith, inl, refl, ap, ◌∙◌, ◌<◌, ◌+◌, Some}
 use Rattle.lfm_mutex.specs.Belongs.{limits_of}
 use Rattle.lfm_protocol.specs.declared.answers.Call.{Call}
 use Rattle.lfm_mutex.specs.calls.Sight.{sight}
@@ -131,3 +131,7 @@ returns-in-Asleep-clause-seen g c = refl
 
 pub returns-in-Asleep-clause-conditions : goal.returns-in-Asleep-clause-conditions
 returns-in-Asleep-clause-conditions g c = refl
+
+pub overflow_add-pass : goal.overflow_add-pass
+overflow_add-pass g c = let p = c.args.pass.now in let m = c.args.self.now in let gains = rw c.in-Held.is at c.in_ok-asked.ensures.asks in
+    let room : p.mine < m.share = room_left m.share p.mine (λ h. c.if-lacks_entry.ensures.1 (gains.0, gains.1, h)) in omega arith

@@ -1,4 +1,4 @@
-use Rattle.std.proofs.Common.{inl, refl, ap, ◌∙◌, ◌<◌, Some}
+use Rattle.std.proofs.Common.{arith, inl, refl, ap, ◌∙◌, ◌<◌, Some}
 use Rattle.lfm_mutex.specs.Belongs.{limits_of}
 use Rattle.lfm_mutex.specs.calls.Sight.{sight}
 use Rattle.lfm_monitor.specs.Belongs.{mutex_limits, opening_of, passes_of, share_of}
@@ -107,3 +107,7 @@ returns-clause-seen g c = refl
 
 pub returns-clause-conditions : goal.returns-clause-conditions
 returns-clause-conditions g c = refl
+
+pub overflow_add-pass : goal.overflow_add-pass
+overflow_add-pass g c = let p = c.args.pass.now in let m = c.args.self.now in let gains = rw c.in-Held.is at c.in_ok-locked.ensures.locks in
+    let room : p.mine < m.share = room_left m.share p.mine (λ h. c.if-lacks_entry.ensures.1 (gains.0, gains.1, h)) in omega arith

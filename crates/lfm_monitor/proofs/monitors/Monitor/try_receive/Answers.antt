@@ -90,3 +90,7 @@ returns-clause-seen g c = refl
 
 pub returns-clause-conditions : goal.returns-clause-conditions
 returns-clause-conditions g c = refl
+
+pub overflow_add-pass : goal.overflow_add-pass
+overflow_add-pass g c = let p = c.args.pass.now in let m = c.args.self.now in let wakes = rw c.in-Some.is at c.in_ok-received.ensures.receives in let s = sight p.seat in let l = some_of s.last p.kept.there in
+    let room : p.mine < m.share = (let r = (p.kept.sleeps wakes.0).room l.0 l.1 in let e = (c.requires.belongs.1 l.0 l.1).2 in omega arith) in omega arith

@@ -16,3 +16,6 @@ reading-preserved c =
 
 pub reading-init : goal.reading-init
 reading-init c = search rules
+
+pub returns-in-None-clause-said : goal.returns-in-None-clause-said
+returns-in-None-clause-said c = search rules

@@ -1,4 +1,4 @@
-use Rattle.std.proofs.Common.{rules, ℕ, ◌+◌, ◌<◌, refl, sym, subst}
+use Rattle.std.proofs.Common.{ℕ, ◌+◌, ◌<◌, refl, sym, subst}
 use Rattle.lfm_model.specs.declared.answers.Asked.{Asked}
 use Rattle.lfm_model.specs.declared.answers.How.{How}
 use Rattle.lfm_protocol.specs.declared.answers.Answer.{Answer}
@@ -16,6 +16,7 @@ use Rattle.lfm_mutex.specs.calls.Straight.{Course, Comes_to}
 use Rattle.lfm_mutex.proofs.runs.Courses.{course_none, course_next, course_join, comes}
 use Rattle.lfm_table.proofs.tables.StepFacts.{made_of}
 use Rattle.lfm_mutex.proofs.runs.StraightPoints.{begins_free, fit_begun, added_none, added_some, fit_after}
+use Rattle.lfm_table.specs.Straight.{Fit}
 use Rattle.lfm_mutex.proofs.asking.ask_free.Goals as goal
 
 pub returns-then-found-ne0-clause-made : goal.returns-then-found-ne0-clause-made
@@ -48,4 +49,8 @@ returns-clause-made g c =
     (comes g.T.Kept.follows g.T.Kept.fits s.number (made_of 0 t ps LockCountAdd) s.moving s.place.me.0 s.number s.limits c.args.mutex.now.limits Call.Lock s.standing (made_of 1 t ps Rest) (Ended (Answer.Asked (Asked.Held How.Free))) f.new.moving h.new.place.me.0 c.requires.belongs.1 refl refl begins refl last)
 
 pub invariant_of-seat-2 : goal.invariant_of-seat-2
-invariant_of-seat-2 g c = search rules
+invariant_of-seat-2 g c =
+    let s = c.args.seat.now in let t = s.standing.takes + 1 in let ps = s.standing.posts in
+    let f = c.add_free-found in let h = c.store_held in
+    let fit = subst (λ (x : SeatState). Fit s.number h.new.place.table_id.words h.new.place.id s.limits x h.new.place.me f.new.moving) (λ i. record { depth = 1; takes = t; posts = ps; point = sym c.requires.rests i }) h.ensures.step.1.fit in
+    record { seated = fit.seated; became = fit.became; ready = fit.ready; rooted = fit.rooted }

@@ -1,4 +1,4 @@
-use Rattle.std.proofs.Common.{rules, ◌-◌, ◌≡◌, ℕ, ◌+◌, ◌<◌, refl, sym, ap, subst, ◌∙◌, arith, None}
+use Rattle.std.proofs.Common.{◌-◌, ◌≡◌, ℕ, ◌+◌, ◌<◌, refl, sym, ap, subst, ◌∙◌, arith, None}
 use Rattle.lfm_model.specs.declared.answers.Locked.{Locked}
 use Rattle.lfm_model.specs.declared.refusals.Refusal.{Refusal}
 use Rattle.lfm_model.specs.declared.answers.How.{How}
@@ -19,6 +19,7 @@ use Rattle.lfm_mutex.specs.calls.Straight.{Course, Comes_to, try_turn}
 use Rattle.lfm_mutex.proofs.runs.Courses.{course_none, course_next, course_join, comes}
 use Rattle.lfm_table.proofs.tables.StepFacts.{made_of}
 use Rattle.lfm_mutex.proofs.runs.StraightPoints.{begins_try_free, fit_begun, exchanged_none, exchanged_some, try_not_owned, posted, unposted, fit_after}
+use Rattle.lfm_table.specs.Straight.{Fit}
 use Rattle.lfm_mutex.proofs.trying.try_free.Goals as goal
 
 pub returns-then-found-eq0-clause-made : goal.returns-then-found-eq0-clause-made
@@ -84,4 +85,10 @@ returns-clause-made g c =
     (comes g.T.Kept.follows g.T.Kept.fits s.number p0 s.moving s.place.me.0 s.number s.limits c.args.mutex.now.limits Call.TryLock s.standing q turn f.new.moving k.new.place.me.0 c.requires.belongs.1 refl refl begins refl third)
 
 pub invariant_of-seat-then-handoff-ne0 : goal.invariant_of-seat-then-handoff-ne0
-invariant_of-seat-then-handoff-ne0 g c = search rules
+invariant_of-seat-then-handoff-ne0 g c =
+    let s = c.args.seat.now in let t = s.standing.takes + 1 in let ps = s.standing.posts in
+    let f = c.exchange_free-found in let k = c.load_handoff_free-handoff in
+    let q = made_of 0 t ps (TryHandoffExchange (handoff_of k.result)) in
+    let at : c.stand_exchanging.new.standing ≡ q = c.stand_exchanging.ensures ∙ ap (λ (z : Stepped). z.seat) (posted 0 t ps s.number k.result None c.if-handoff-ne0.true) in
+    let fit = subst (λ (x : SeatState). Fit s.number k.new.place.table_id.words k.new.place.id s.limits x k.new.place.me f.new.moving) (ap (λ (z : Stepped). z.seat) (posted 0 t ps s.number k.result (oldest_in f.new.moving) c.if-handoff-ne0.true) ∙ sym at) k.ensures.step.fit in
+    record { seated = fit.seated; became = fit.became; ready = fit.ready; rooted = fit.rooted }

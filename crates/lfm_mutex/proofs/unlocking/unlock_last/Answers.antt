@@ -1,4 +1,4 @@
-use Rattle.std.proofs.Common.{rules, ◌≡◌, ◌+◌, ◌≤◌, length, refl, sym, ap, subst, arith}
+use Rattle.std.proofs.Common.{◌≡◌, ◌+◌, ◌≤◌, length, refl, sym, ap, subst, ◌∙◌, arith}
 use Rattle.lfm_model.specs.declared.answers.Unlocked.{Unlocked}
 use Rattle.lfm_protocol.specs.declared.answers.Answer.{Answer}
 use Rattle.lfm_protocol.specs.declared.answers.Call.{Call}
@@ -18,6 +18,7 @@ use Rattle.lfm_mutex.proofs.runs.Running.{trail_grows, bounded_more}
 use Rattle.lfm_mutex.proofs.runs.Sights.{may_leave}
 use Rattle.lfm_mutex.proofs.runs.StraightPoints.{begins_last, fit_begun, freed, not_freed}
 use Rattle.lfm_table.proofs.tables.StepFacts.{made_of}
+use Rattle.lfm_protocol.specs.Begin.{Stepped}
 use Rattle.lfm_mutex.proofs.unlocking.unlock_last.Goals as goal
 
 pub store_held-requires-clause-leaves : goal.store_held-requires-clause-leaves
@@ -89,4 +90,9 @@ returns-clause-bounded g c =
     omega (arith, one, two)
 
 pub invariant_of-seat-else-found-ne1 : goal.invariant_of-seat-else-found-ne1
-invariant_of-seat-else-found-ne1 g c = search rules
+invariant_of-seat-else-found-ne1 g c =
+    let s = c.args.seat.now in let t = s.standing.takes in let ps = s.standing.posts in
+    let f = c.subtract_last-found in let b = f.new.place in
+    let fit = subst (λ (x : SeatState). Fit s.number b.table_id.words b.id s.limits x b.me f.new.moving)
+    (ap (λ (z : Stepped). z.seat) (freed 0 t ps s.number f.result (oldest_in f.new.moving) c.if-found-ne1.false) ∙ (λ i. record { depth = 0; takes = t; posts = ps; point = sym c.requires.rests i })) f.ensures.step.fit in
+    record { seated = fit.seated; became = fit.became; ready = fit.ready; rooted = fit.rooted }

@@ -2,7 +2,6 @@
 use Rattle.std.proofs.Common.{◌≡◌, ℕ, ◌+◌, ◌<◌, List, [], ◌∷◌, ◌++◌, length, get_or, drop, Option, Some, sym, ◌∙◌, ap, subst, append_assoc}
 use Rattle.std.proofs.lemmas.List.{at_drop_more}
 use Rattle.lfm_model.specs.declared.answers.How.{How}
-use Rattle.lfm_model.specs.declared.answers.How.TheVariants.{Free, Queued}
 use Rattle.lfm_model.specs.declared.journals.What.{What}
 use Rattle.lfm_model.specs.declared.journals.What.TheVariants.{Took, Did}
 use Rattle.lfm_model.specs.declared.journals.Entry.{Entry}
@@ -57,11 +56,3 @@ module _ {A : Type 0} where
   pub op_turn : (es : List (Entry A)) (t : Option ℕ) (k i : ℕ) (e : Entry A) (op : A) → i < length es → e ≡ get_or es i e → e.what ≡ Did op
       → t ≡ Some e.seat → SameFrom es t k (drop i es) → SameFrom es t k (drop (i + 1) es)
   op_turn es t k i e op h is what by same = same_next es t k i e (Did op) h is what same by
-
-  pub free_turn : (es : List (Entry A)) (t : Option ℕ) (k i : ℕ) (e : Entry A) → i < length es → e ≡ get_or es i e → e.what ≡ Took Free
-      → SameFrom es t k (drop i es) → SameFrom es (Some e.seat) k (drop (i + 1) es)
-  free_turn es t k i e h is what same = same_next es t k i e (Took Free) h is what same tt
-
-  pub queued_turn : (es : List (Entry A)) (t : Option ℕ) (k i x : ℕ) (e : Entry A) → i < length es → e ≡ get_or es i e
-      → e.what ≡ Took (Queued x) → x ≡ k + 1 → SameFrom es t k (drop i es) → SameFrom es (Some e.seat) (k + 1) (drop (i + 1) es)
-  queued_turn es t k i x e h is what next same = same_next es t k i e (Took (Queued x)) h is what same next

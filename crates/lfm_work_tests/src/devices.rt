@@ -1,8 +1,11 @@
 //! Readers and writers that fail, and what a run of a script makes of them.
-use crate::scripts::{WAITED, WAITING};
-use lfm_program::{OpenGate, WorkFault, work};
+use crate::scripts::{WAITED, WAITING, answered};
+use lfm_program::{OpenGate, WorkFault};
 use std::io;
 use std::io::{ErrorKind, Read, Write};
+use std::process::Abort;
+use std::sync::Wait;
+use std::thread::Threads;
 
 /// Gives its bytes one at a time, and fails at the read that comes after `reads` others.
 #[derive(Drop)]
@@ -92,17 +95,24 @@ impl Write for UnflushedWriter {
     }
 }
 
+/// The run of a script that can't be read to its end: what it answers, and how many bytes it writes.
+fn read_in_part<R: AllocGlobal + Threads + Wait + Sync>(
+    rt: &R,
+    reads: u64,
+) -> (Result<bool, WorkFault>, usize) {
+    let mut reader = FailingReader {
+        bytes: WAITING.as_slice(),
+        reads,
+    };
+    let mut written = Vec::new(rt.alloc());
+    let outcome = answered(rt, &mut reader, &mut written, &OpenGate);
+    (outcome, written.len())
+}
+
 #[test]
 fn fails_at_each_read(rt: HostRuntime) {
     for reads in 0..=WAITING.len() as u64 {
-        let mut reader = FailingReader {
-            bytes: WAITING.as_slice(),
-            reads,
-        };
-        let mut written = Vec::new(rt.alloc());
-        let outcome = work(&rt, rt.alloc(), &mut reader, &mut written, &OpenGate);
-        assert_eq!(rt; outcome, Err(WorkFault::Read));
-        assert!(rt; written.is_empty());
+        assert_eq!(rt; read_in_part(&rt, reads), (Err(WorkFault::Read), 0));
     }
 }
 
@@ -114,45 +124,72 @@ fn written_texts() -> [(&'static [u8], &'static [u8]); 2] {
     ]
 }
 
+/// A run whose writer has less room than its text needs writes what there is room for.
+fn fails_without_room<R: AllocGlobal + Threads + Wait + Sync + Abort>(
+    rt: &R,
+    script: &[u8],
+    text: &[u8],
+    failure: Failure,
+) {
+    for room in 0..text.len() {
+        let mut reader = script;
+        let mut writer = FailingWriter {
+            bytes: Vec::new(rt.alloc()),
+            room,
+            failure,
+        };
+        let outcome = answered(rt, &mut reader, &mut writer, &OpenGate);
+        assert_eq!(rt; outcome, Err(WorkFault::Write));
+        assert_eq!(rt; writer.bytes.as_slice(), &text[..room]);
+    }
+}
+
 #[test]
 fn fails_after_each_written_byte(rt: HostRuntime) {
     for failure in [Failure::Error, Failure::TakesNothing] {
-        for (input, output) in written_texts() {
-            for room in 0..output.len() {
-                let mut reader = input;
-                let mut writer = FailingWriter {
-                    bytes: Vec::new(rt.alloc()),
-                    room,
-                    failure,
-                };
-                let outcome = work(&rt, rt.alloc(), &mut reader, &mut writer, &OpenGate);
-                assert_eq!(rt; outcome, Err(WorkFault::Write));
-                assert_eq!(rt; writer.bytes.as_slice(), &output[..room]);
-            }
+        for (script, text) in written_texts() {
+            fails_without_room(&rt, script, text, failure);
         }
     }
+}
+
+/// The run of a script whose writer can't be flushed: what it answers, and what it writes.
+fn unflushed<R: AllocGlobal + Threads + Wait + Sync>(
+    rt: &R,
+    script: &[u8],
+) -> (Result<bool, WorkFault>, Vec<u8>) {
+    let mut reader = script;
+    let mut writer = UnflushedWriter {
+        bytes: Vec::new(rt.alloc()),
+    };
+    let outcome = answered(rt, &mut reader, &mut writer, &OpenGate);
+    (outcome, writer.bytes)
 }
 
 // No contract can say that a writer was flushed: one that holds its bytes back has them either way.
 #[test]
 fn fails_at_the_flush(rt: HostRuntime) {
-    for (input, output) in written_texts() {
-        let mut reader = input;
-        let mut writer = UnflushedWriter {
-            bytes: Vec::new(rt.alloc()),
-        };
-        let outcome = work(&rt, rt.alloc(), &mut reader, &mut writer, &OpenGate);
+    for (script, text) in written_texts() {
+        let (outcome, written) = unflushed(&rt, script);
         assert_eq!(rt; outcome, Err(WorkFault::Write));
-        assert_eq!(rt; writer.bytes.as_slice(), output);
+        assert_eq!(rt; written.as_slice(), text);
     }
+}
+
+/// The run of an input that has no end: what it answers, and what it writes.
+fn endless<R: AllocGlobal + Threads + Wait + Sync>(
+    rt: &R,
+    byte: u8,
+) -> (Result<bool, WorkFault>, Vec<u8>) {
+    let mut written = Vec::new(rt.alloc());
+    let outcome = answered(rt, &mut EndlessReader { byte }, &mut written, &OpenGate);
+    (outcome, written)
 }
 
 #[test]
 fn ends_an_endless_input(rt: HostRuntime) {
     for byte in [0, b'\n', b'1'] {
-        let mut written = Vec::new(rt.alloc());
-        let mut reader = EndlessReader { byte };
-        let outcome = work(&rt, rt.alloc(), &mut reader, &mut written, &OpenGate);
+        let (outcome, written) = endless(&rt, byte);
         assert_eq!(rt; outcome, Err(WorkFault::Limit));
         assert_eq!(rt; written.as_slice(), b"fault Limit\n".as_slice());
     }

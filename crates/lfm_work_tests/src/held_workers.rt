@@ -1,6 +1,6 @@
 //! Gates that hold a worker, or stop it: then nothing is written.
-use crate::scripts::{TWO_ADDS, worked};
-use lfm_program::{Gate, Meet, WorkFault, status};
+use crate::scripts::{TWO_ADDS, comes_to};
+use lfm_program::{Gate, Meet, WorkFault};
 use std::sync::atomic::{AtomicBool, Ordering};
 
 /// The turns for which worker 2 is held.
@@ -43,18 +43,14 @@ impl Gate for HoldingGate {
 
 #[test]
 fn a_closed_gate(rt: HostRuntime) {
-    let (outcome, written) = worked(&rt, TWO_ADDS.as_slice(), &ClosedGate);
-    assert_eq!(rt; outcome, Err(WorkFault::Stuck));
-    assert!(rt; written.is_empty());
-    assert_eq!(rt; status(&outcome), 5);
+    comes_to(&rt, TWO_ADDS, &ClosedGate, Err(WorkFault::Stuck), b"", 5);
 }
 
 #[test]
 fn alone_at_the_meeting(rt: HostRuntime) {
-    let (outcome, written) = worked(&rt, b"workers 1 0\n1 add 5\n", &Meet::new(1000));
-    assert_eq!(rt; outcome, Err(WorkFault::Stuck));
-    assert!(rt; written.is_empty());
-    assert_eq!(rt; status(&outcome), 5);
+    let gate = Meet::new(1000);
+    let script = b"workers 1 0\n1 add 5\n";
+    comes_to(&rt, script, &gate, Err(WorkFault::Stuck), b"", 5);
 }
 
 // Worker 1 waits until worker 2 has added 3, so it makes no second command while worker 2 is held.
@@ -64,11 +60,8 @@ fn a_held_gate(rt: HostRuntime) {
         passed_by: AtomicBool::new(false),
     };
     let script = b"workers 2 1\n1 until 1 3\n1 add 1\n2 add 3\n2 all 1\n";
-    let (outcome, written) = worked(&rt, script, &gate);
-    assert_eq!(rt; outcome, Ok(true));
-    let wanted = b"worker 1 adds 1 sum 1\nworker 2 adds 1 sum 3\ntotal 4\nlawful\n";
-    assert_eq!(rt; written.as_slice(), wanted.as_slice());
-    assert_eq!(rt; status(&outcome), 0);
+    let text = b"worker 1 adds 1 sum 1\nworker 2 adds 1 sum 3\ntotal 4\nlawful\n";
+    comes_to(&rt, script, &gate, Ok(true), text, 0);
     // worker 1 came to its second command
     assert!(rt; gate.passed_by.load(Ordering::SeqCst));
 }

@@ -5,23 +5,31 @@ use lfm_program::{WorkFault, replay_status, status};
 
 #[test]
 fn each_run_has_its_status(rt: HostRuntime) {
-    assert_eq!(rt; status(&Ok(true)), 0);
-    assert_eq!(rt; status(&Ok(false)), 1);
-    assert_eq!(rt; status(&Err(WorkFault::Syntax(3))), 1);
-    assert_eq!(rt; status(&Err(WorkFault::Limit)), 1);
-    assert_eq!(rt; status(&Err(WorkFault::Read)), 3);
-    assert_eq!(rt; status(&Err(WorkFault::Write)), 3);
-    assert_eq!(rt; status(&Err(WorkFault::Memory)), 4);
-    assert_eq!(rt; status(&Err(WorkFault::Stuck)), 5);
+    for (outcome, wanted) in [
+        (Ok(true), 0),
+        (Ok(false), 1),
+        (Err(WorkFault::Syntax(3)), 1),
+        (Err(WorkFault::Limit), 1),
+        (Err(WorkFault::Read), 3),
+        (Err(WorkFault::Write), 3),
+        (Err(WorkFault::Memory), 4),
+        (Err(WorkFault::Stuck), 5),
+    ] {
+        assert_eq!(rt; status(&outcome), wanted, "{outcome:?}");
+    }
 }
 
 #[test]
 fn each_replay_has_its_status(rt: HostRuntime) {
-    assert_eq!(rt; replay_status(&Ok(true)), 0);
-    assert_eq!(rt; replay_status(&Ok(false)), 1);
-    assert_eq!(rt; replay_status(&Err(ReplayFault::Syntax(3))), 1);
-    assert_eq!(rt; replay_status(&Err(ReplayFault::Limit)), 1);
-    assert_eq!(rt; replay_status(&Err(ReplayFault::Read)), 3);
-    assert_eq!(rt; replay_status(&Err(ReplayFault::Write)), 3);
-    assert_eq!(rt; replay_status(&Err(ReplayFault::Memory)), 4);
+    for (outcome, wanted) in [
+        (Ok(true), 0),
+        (Ok(false), 1),
+        (Err(ReplayFault::Syntax(3)), 1),
+        (Err(ReplayFault::Limit), 1),
+        (Err(ReplayFault::Read), 3),
+        (Err(ReplayFault::Write), 3),
+        (Err(ReplayFault::Memory), 4),
+    ] {
+        assert_eq!(rt; replay_status(&outcome), wanted, "{outcome:?}");
+    }
 }

@@ -7,9 +7,9 @@ ghost use mathlib.Core.Option.{some};
 
 use lfm_model::{Entry, Refusal, Total, TotalOp};
 use lfm_monitor::{Monitor, Pass};
-use lfm_program::{Command, Meet, OpenGate, Performed, perform};
+use lfm_program::{Command, Gate, Meet, OpenGate, Performed, perform};
+use std::alloc::Global;
 use std::sync::Wait;
-use std::test::Fail;
 
 /// The turns for which a worker looks for the other.
 const TURNS: u64 = 1000;
@@ -19,6 +19,35 @@ const WAITS: [Command; 1] = [Command::Until(1, 3)];
 
 /// Adds and wakes.
 const ADDS: [Command; 2] = [Command::Add(3), Command::All(1)];
+
+/// A monitor round 0, and its passes, of whose contract the tests need that each may make commands.
+fn opened(
+    alloc: Global,
+    passes: u64,
+    entries: u64,
+    conditions: u64,
+) -> Option<(Monitor<Total>, Vec<Pass<Total>>)>
+    ensures { IfSome result (λ r. (j : ℕ) (p : _) → get_elem? r.1.items j ≡ some p → Ready_for r.0 p) }
+{
+    let Ok((monitor, passes)) = Monitor::new(alloc, passes, entries, conditions, Total(0)) else {
+        return None;
+    };
+    Some((monitor, passes))
+}
+
+/// `perform`, of whose contract the tests need that the pass may make more commands.
+fn performed<R: Wait, G: Gate>(
+    rt: &R,
+    monitor: &Monitor<Total>,
+    pass: &mut Pass<Total>,
+    commands: &[Command],
+    gate: &G,
+) -> Performed
+    requires { Ready_for monitor.now pass.old }
+    ensures { Ready_for monitor.now pass.new }
+{
+    perform(rt, monitor, pass, commands, gate)
+}
 
 /// The pass of a monitor that has one.
 fn take_one(monitor: &Monitor<Total>, mut passes: Vec<Pass<Total>>) -> Option<Pass<Total>>
@@ -69,12 +98,12 @@ fn perform_in_turn<R: Wait>(
 {
     let gate = Meet::new(TURNS);
     if waiter_first {
-        let waits = perform(rt, monitor, first, &WAITS, &gate);
-        let adds = perform(rt, monitor, second, &ADDS, &gate);
+        let waits = performed(rt, monitor, first, &WAITS, &gate);
+        let adds = performed(rt, monitor, second, &ADDS, &gate);
         (waits, adds)
     } else {
-        let adds = perform(rt, monitor, second, &ADDS, &gate);
-        let waits = perform(rt, monitor, first, &WAITS, &gate);
+        let adds = performed(rt, monitor, second, &ADDS, &gate);
+        let waits = performed(rt, monitor, first, &WAITS, &gate);
         (waits, adds)
     }
 }
@@ -102,34 +131,35 @@ fn alone<R: AllocGlobal + Wait>(
     entries: u64,
     commands: &[Command],
 ) -> Option<(Performed, u64, u32, Total)> {
-    let Ok((monitor, passes)) = Monitor::new(rt.alloc(), 1, entries, 1, Total(0)) else {
-        return None;
-    };
+    let (monitor, passes) = opened(rt.alloc(), 1, entries, 1)?;
     let mut pass = take_one(&monitor, passes)?;
-    let performed = perform(rt, &monitor, &mut pass, commands, &OpenGate);
+    let outcome = performed(rt, &monitor, &mut pass, commands, &OpenGate);
     let (mine, depth) = (pass.mine(), pass.depth());
     let total = closed(monitor, pass, Vec::new(rt.alloc()))?;
-    Some((performed, mine, depth, total))
+    Some((outcome, mine, depth, total))
+}
+
+/// A worker adds twice, and once more when its entries are spent: how it ended each time, with how many entries, at which
+/// depth it holds, and the total.
+fn adds_until_spent<R: AllocGlobal + Wait>(
+    rt: &R,
+) -> Option<((Performed, u64), (Performed, u64), u32, Total)> {
+    let (monitor, passes) = opened(rt.alloc(), 1, 4, 0)?;
+    let mut pass = take_one(&monitor, passes)?;
+    let adds = [Command::Add(5), Command::Add(7)];
+    let first = performed(rt, &monitor, &mut pass, &adds, &OpenGate);
+    let first_mine = pass.mine();
+    let second = performed(rt, &monitor, &mut pass, &[Command::Add(1)], &OpenGate);
+    let (second_mine, depth) = (pass.mine(), pass.depth());
+    let total = closed(monitor, pass, Vec::new(rt.alloc()))?;
+    Some(((first, first_mine), (second, second_mine), depth, total))
 }
 
 #[test]
-fn performing(rt: HostRuntime) -> Result<(), Fail> {
-    let (monitor, passes) = Monitor::new(rt.alloc(), 1, 4, 0, Total(0))?;
-    let Some(mut pass) = take_one(&monitor, passes) else {
-        panic!(rt; "one pass")
-    };
-    let adds = [Command::Add(5), Command::Add(7)];
-    let performed = perform(&rt, &monitor, &mut pass, &adds, &OpenGate);
-    assert_eq!(rt; performed, Performed::Done);
-    assert_eq!(rt; pass.mine(), 4);
-    let performed = perform(&rt, &monitor, &mut pass, &[Command::Add(1)], &OpenGate);
-    assert_eq!(rt; performed, Performed::Refused(Refusal::Spent));
-    assert_eq!(rt; (pass.mine(), pass.depth()), (4, 0));
-    assert_eq!(rt;
-        closed(monitor, pass, Vec::new(rt.alloc())),
-        Some(Total(12))
-    );
-    Ok(())
+fn performing(rt: HostRuntime) {
+    let done = (Performed::Done, 4);
+    let spent = (Performed::Refused(Refusal::Spent), 4);
+    assert_eq!(rt; adds_until_spent(&rt), Some((done, spent, 0, Total(12))));
 }
 
 // A command whose condition is not there is refused by the call of the monitor that needs it: a wake at once, and a wait
@@ -138,7 +168,7 @@ fn performing(rt: HostRuntime) -> Result<(), Fail> {
 fn each_command_and_its_refusal(rt: HostRuntime) {
     let not_there = Performed::Refused(Refusal::NoSuchSeat);
     let spent = Performed::Refused(Refusal::Spent);
-    for (entries, command, performed, mine) in [
+    for (entries, command, outcome, mine) in [
         (4, Command::One(1), Performed::Done, 0),
         (4, Command::All(1), Performed::Done, 0),
         (4, Command::Until(1, 0), Performed::Done, 2),
@@ -154,30 +184,35 @@ fn each_command_and_its_refusal(rt: HostRuntime) {
     ] {
         assert_eq!(rt;
             alone(&rt, entries, &[command]),
-            Some((performed, mine, 0, Total(0))),
+            Some((outcome, mine, 0, Total(0))),
             "{entries} entries, {command:?}"
         );
     }
 }
 
+/// What two passes came to that are to meet, and make their commands one after the other: how they ended, how many entries
+/// are their own, at which depths they hold, the total, and how many entries the journal has.
+fn in_turn<R: AllocGlobal + Wait>(
+    rt: &R,
+    waiter_first: bool,
+) -> Option<((Performed, Performed), (u64, u64), (u32, u32), Total, usize)> {
+    let (monitor, passes) = opened(rt.alloc(), 2, 8, 1)?;
+    let (mut first, mut second) = take_two(&monitor, passes)?;
+    let outcomes = perform_in_turn(rt, &monitor, &mut first, &mut second, waiter_first);
+    let mine = (first.mine(), second.mine());
+    let depths = (first.depth(), second.depth());
+    let (total, journal) = both_closed(monitor, first, second, Vec::new(rt.alloc()))?;
+    Some((outcomes, mine, depths, total, journal.len()))
+}
+
 // Whichever comes first gives up at the meeting, so the other is stopped too: neither has made a command.
 #[test]
-fn workers_in_turn_are_stuck(rt: HostRuntime) -> Result<(), Fail> {
+fn workers_in_turn_are_stuck(rt: HostRuntime) {
+    let stuck = (Performed::Stuck, Performed::Stuck);
     for waiter_first in [true, false] {
-        let (monitor, passes) = Monitor::new(rt.alloc(), 2, 8, 1, Total(0))?;
-        let Some((mut first, mut second)) = take_two(&monitor, passes) else {
-            panic!(rt; "two passes")
-        };
-        let performed = perform_in_turn(&rt, &monitor, &mut first, &mut second, waiter_first);
-        assert_eq!(rt; performed, (Performed::Stuck, Performed::Stuck));
-        assert_eq!(rt; (first.mine(), second.mine()), (0, 0));
-        assert_eq!(rt; (first.depth(), second.depth()), (0, 0));
-        let Some((total, journal)) = both_closed(monitor, first, second, Vec::new(rt.alloc()))
-        else {
-            panic!(rt; "both passes were back")
-        };
-        assert_eq!(rt; total, Total(0));
-        assert!(rt; journal.is_empty());
+        assert_eq!(rt;
+            in_turn(&rt, waiter_first),
+            Some((stuck, (0, 0), (0, 0), Total(0), 0))
+        );
     }
-    Ok(())
 }

@@ -16,6 +16,30 @@ fn did(seat: SeatNo, op: TotalOp) -> Entry<TotalOp>
     }
 }
 
+/// The row of each of three workers, of whom the second was refused.
+fn wanted_rows() -> [Row; 3] {
+    [
+        Row {
+            worker: 1,
+            count: 1,
+            sum: 0,
+            refused: None,
+        },
+        Row {
+            worker: 2,
+            count: 2,
+            sum: 12,
+            refused: Some(Refusal::Spent),
+        },
+        Row {
+            worker: 3,
+            count: 0,
+            sum: 0,
+            refused: None,
+        },
+    ]
+}
+
 #[test]
 fn adds_are_counted(rt: HostRuntime) -> Result<(), Fail> {
     let first = SeatNo::known(1);
@@ -33,33 +57,6 @@ fn adds_are_counted(rt: HostRuntime) -> Result<(), Fail> {
     ];
     let refusals = [None, Some(Refusal::Spent), None];
     let rows = rows_of(rt.alloc(), &refusals, &entries)?;
-    assert_eq!(rt; rows.len(), 3);
-    assert_eq!(rt;
-        rows[0],
-        Row {
-            worker: 1,
-            count: 1,
-            sum: 0,
-            refused: None
-        }
-    );
-    assert_eq!(rt;
-        rows[1],
-        Row {
-            worker: 2,
-            count: 2,
-            sum: 12,
-            refused: Some(Refusal::Spent)
-        }
-    );
-    assert_eq!(rt;
-        rows[2],
-        Row {
-            worker: 3,
-            count: 0,
-            sum: 0,
-            refused: None
-        }
-    );
+    assert_eq!(rt; rows.as_slice(), wanted_rows().as_slice());
     Ok(())
 }

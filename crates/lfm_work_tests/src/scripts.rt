@@ -1,6 +1,8 @@
 //! Scripts whose workers nobody stops: what a run answers, and the text that it writes.
 use lfm_program::{Gate, Meet, OpenGate, WorkFault, status, work};
 use std::alloc::{AllocError, Global};
+use std::io::{Read, Write};
+use std::process::Abort;
 use std::sync::Wait;
 use std::test::Fail;
 use std::thread::Threads;
@@ -17,6 +19,16 @@ pub const WAITED: &[u8; 59] = b"worker 1 adds 0 sum 0\nworker 2 adds 1 sum 3\nto
 /// One worker adds twice.
 pub const TWO_ADDS: &[u8; 28] = b"workers 1 0\n1 add 5\n1 add 7\n";
 
+/// `work`, with nothing of its contract: the tests look at what it answers and writes.
+pub fn answered<R: AllocGlobal + Threads + Wait + Sync, G: Gate, I: Read, W: Write>(
+    rt: &R,
+    reader: &mut I,
+    writer: &mut W,
+    gate: &G,
+) -> Result<bool, WorkFault> {
+    work(rt, rt.alloc(), reader, writer, gate)
+}
+
 /// Runs a script. Returns what it answered, and what it wrote.
 pub fn worked<R: AllocGlobal + Threads + Wait + Sync, G: Gate>(
     rt: &R,
@@ -25,39 +37,46 @@ pub fn worked<R: AllocGlobal + Threads + Wait + Sync, G: Gate>(
 ) -> (Result<bool, WorkFault>, Vec<u8>) {
     let mut reader = script;
     let mut written = Vec::new(rt.alloc());
-    let outcome = work(rt, rt.alloc(), &mut reader, &mut written, gate);
+    let outcome = answered(rt, &mut reader, &mut written, gate);
     (outcome, written)
+}
+
+/// A run of this script answers so, writes this text, and ends the program with this status.
+pub fn comes_to<R: AllocGlobal + Threads + Wait + Sync + Abort, G: Gate>(
+    rt: &R,
+    script: &[u8],
+    gate: &G,
+    wanted: Result<bool, WorkFault>,
+    text: &[u8],
+    exit: u8,
+) {
+    let (outcome, written) = worked(rt, script, gate);
+    assert_eq!(rt; outcome, wanted);
+    assert_eq!(rt; written.as_slice(), text);
+    assert_eq!(rt; status(&outcome), exit);
 }
 
 #[test]
 fn a_worker_that_waits(rt: HostRuntime) {
-    let (outcome, written) = worked(&rt, WAITING.as_slice(), &OpenGate);
-    assert_eq!(rt; outcome, Ok(true));
-    assert_eq!(rt; written.as_slice(), WAITED.as_slice());
-    assert_eq!(rt; status(&outcome), 0);
+    comes_to(&rt, WAITING, &OpenGate, Ok(true), WAITED, 0);
 }
 
 // Neither makes its first command before the other has come to its own: run one after another, they would be stuck.
 #[test]
 fn a_worker_that_waits_after_a_meeting(rt: HostRuntime) {
-    let (outcome, written) = worked(&rt, WAITING.as_slice(), &Meet::new(MANY_TURNS));
-    assert_eq!(rt; outcome, Ok(true));
-    assert_eq!(rt; written.as_slice(), WAITED.as_slice());
-    assert_eq!(rt; status(&outcome), 0);
+    let gate = Meet::new(MANY_TURNS);
+    comes_to(&rt, WAITING, &gate, Ok(true), WAITED, 0);
 }
 
 #[test]
 fn two_adds(rt: HostRuntime) {
-    let (outcome, written) = worked(&rt, TWO_ADDS.as_slice(), &OpenGate);
-    assert_eq!(rt; outcome, Ok(true));
-    let wanted = b"worker 1 adds 2 sum 12\ntotal 12\nlawful\n";
-    assert_eq!(rt; written.as_slice(), wanted.as_slice());
-    assert_eq!(rt; status(&outcome), 0);
+    let text = b"worker 1 adds 2 sum 12\ntotal 12\nlawful\n";
+    comes_to(&rt, TWO_ADDS, &OpenGate, Ok(true), text, 0);
 }
 
-#[test]
-fn script_faults(rt: HostRuntime) {
-    let scripts: [(&[u8], WorkFault, &[u8]); 8] = [
+/// Scripts that are refused, each with its fault and the line that is written of it.
+fn faulty_scripts() -> [(&'static [u8], WorkFault, &'static [u8]); 8] {
+    [
         (
             b"workers 1 0\n1 one 1\n",
             WorkFault::Limit,
@@ -82,12 +101,13 @@ fn script_faults(rt: HostRuntime) {
             WorkFault::Syntax(2),
             b"fault Syntax 2\n",
         ),
-    ];
-    for (index, (script, fault, text)) in scripts.iter().enumerate() {
-        let (outcome, written) = worked(&rt, *script, &OpenGate);
-        assert_eq!(rt; outcome, Err(*fault), "script {index}");
-        assert_eq!(rt; written.as_slice(), *text, "script {index}");
-        assert_eq!(rt; status(&outcome), 1, "script {index}");
+    ]
+}
+
+#[test]
+fn script_faults(rt: HostRuntime) {
+    for (script, fault, text) in faulty_scripts() {
+        comes_to(&rt, script, &OpenGate, Err(fault), text, 1);
     }
 }
 
@@ -99,31 +119,51 @@ fn push_idle(alloc: Global, text: &mut String, first: u64, last: u64) -> Result<
     Ok(())
 }
 
-// Each of 255 workers has 4,112 entries, and an add takes two of them.
-#[test]
-fn a_spent_worker(rt: HostRuntime) -> Result<(), Fail> {
-    let mut script = format!(in rt.alloc(); "workers 255 0\n")?;
+/// The first of 255 workers adds 2,057 times.
+fn many_adds(alloc: Global) -> Result<String, AllocError> {
+    let mut script = format!(in alloc; "workers 255 0\n")?;
     for _ in 0..2057 {
         script.push_str("1 add 1\n")?;
     }
-    let mut wanted = format!(in rt.alloc(); "worker 1 adds 2056 sum 2056 refused Spent\n")?;
-    push_idle(rt.alloc(), &mut wanted, 2, 255)?;
-    wanted.push_str("total 2056\nlawful\n")?;
-    let (outcome, written) = worked(&rt, script.as_bytes(), &OpenGate);
-    assert_eq!(rt; outcome, Ok(false));
-    assert_eq!(rt; written.as_slice(), wanted.as_bytes());
-    assert_eq!(rt; status(&outcome), 1);
+    Ok(script)
+}
+
+/// What is written of it.
+fn many_added(alloc: Global) -> Result<String, AllocError> {
+    let mut text = format!(in alloc; "worker 1 adds 2056 sum 2056 refused Spent\n")?;
+    push_idle(alloc, &mut text, 2, 255)?;
+    text.push_str("total 2056\nlawful\n")?;
+    Ok(text)
+}
+
+// Each of 255 workers has 4,112 entries, and an add takes two of them.
+#[test]
+fn a_spent_worker(rt: HostRuntime) -> Result<(), Fail> {
+    let script = many_adds(rt.alloc())?;
+    let text = many_added(rt.alloc())?;
+    comes_to(
+        &rt,
+        script.as_bytes(),
+        &OpenGate,
+        Ok(false),
+        text.as_bytes(),
+        1,
+    );
     Ok(())
+}
+
+/// What is written where the last of 256 workers alone adds.
+fn one_added(alloc: Global) -> Result<String, AllocError> {
+    let mut text = String::new(alloc);
+    push_idle(alloc, &mut text, 1, 255)?;
+    text.push_str("worker 256 adds 1 sum 1\ntotal 1\nlawful\n")?;
+    Ok(text)
 }
 
 #[test]
 fn many_workers(rt: HostRuntime) -> Result<(), Fail> {
-    let mut wanted = String::new(rt.alloc());
-    push_idle(rt.alloc(), &mut wanted, 1, 255)?;
-    wanted.push_str("worker 256 adds 1 sum 1\ntotal 1\nlawful\n")?;
-    let (outcome, written) = worked(&rt, b"workers 256 0\n256 add 1\n", &OpenGate);
-    assert_eq!(rt; outcome, Ok(true));
-    assert_eq!(rt; written.as_slice(), wanted.as_bytes());
-    assert_eq!(rt; status(&outcome), 0);
+    let text = one_added(rt.alloc())?;
+    let script = b"workers 256 0\n256 add 1\n";
+    comes_to(&rt, script, &OpenGate, Ok(true), text.as_bytes(), 0);
     Ok(())
 }

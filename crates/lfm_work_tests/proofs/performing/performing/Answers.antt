@@ -1,5 +1,0 @@
-use Rattle.std.proofs.Common.{ap}
-use Rattle.lfm_work_tests.proofs.performing.performing.Goals as goal
-
-pub take_one-requires : goal.take_one-requires
-take_one-requires g c = λ j p at. let new = c.in_ok-monitor.ensures.passes.1 j p at in (new.belongs, (ap (λ s. s.depth) new.sees, ap (λ s. s.asleep) new.sees))

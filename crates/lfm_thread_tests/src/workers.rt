@@ -182,8 +182,8 @@ fn lock_by_two_threads(rt: HostRuntime) -> Result<(), Fail> {
 
 #[test]
 fn lock_by_four_threads(rt: HostRuntime) -> Result<(), Fail> {
-    let (spent, total) = locked(&rt, rt.alloc(), 4, 250_000)?;
+    let (spent, total) = locked(&rt, rt.alloc(), 4, 5_000)?;
     holds(&rt, "each was spent", spent);
-    sees(&rt, "the value", &total, &1_000_000);
+    sees(&rt, "the value", &total, &20_000);
     Ok(())
 }

@@ -1,4 +1,4 @@
-use Rattle.std.proofs.Common.{arith, sym, ◌∙◌, ap}
+use Rattle.std.proofs.Common.{rules, arith, sym, ◌∙◌, ap}
 use Rattle.std.proofs.lemmas.Grind.{common_steps}
 use Rattle.lfm_text.specs.Text.{is_past_limit}
 use Rattle.lfm_text.proofs.LineCount.{few_bytes, few_line_feeds}
@@ -22,3 +22,6 @@ reading-preserved g c =
       counted = omega (arith, line_feeds_after before _ _ c.append_reserved.ensures.items);
       room = omega (arith, c.append_reserved.ensures.room);
     }
+
+pub returns-in-Err-clause-ok : goal.returns-in-Err-clause-ok
+returns-in-Err-clause-ok g c = search rules

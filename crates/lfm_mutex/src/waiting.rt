@@ -13,7 +13,7 @@ use std::sync::Wait;
 
 /// How often `receive_lock` and `lock` look at the wake word again, after their first look, before they sleep. A grant
 /// mostly comes within this time; a sleep and a wake-up cost far more than the looks.
-pub const LOOKS_BEFORE_SLEEP: u32 = 2_000;
+pub const LOOKS_BEFORE_SLEEP: u32 = 250;
 
 // Words below this are no grant: quiet, waiting, claimed.
 const FIRST_GRANT: u64 = 3;

@@ -2,11 +2,14 @@
 pub mod Events
 pub mod Errands
 pub mod Schedules
+pub mod Overtaking
+pub mod Service
 pub mod Reading
 pub mod Watched
 pub mod Lawful
 pub mod Cases
 pub mod Laws
+pub mod Progress
 pub mod Ranges
 pub mod Refusals
 pub mod LineEvents

@@ -18,8 +18,9 @@ pub use abstract_mutex::{
     events_are_their_cases, every_state_is_lawful, runs_are_abstract_runs, states_are_lawful,
 };
 pub use bounds::{
-    calls_end_alone, pushes_alone_fail_once, start_waits_are_bounded, tries_alone_hold,
-    unlocks_are_bounded,
+    calls_change_the_push_word_twice, calls_end_alone, calls_end_beside_others,
+    calls_share_their_steps, no_state_is_stuck, pushes_alone_fail_once, some_call_ends,
+    start_waits_are_bounded, tries_alone_hold, unlocks_are_bounded,
 };
 pub use calls::{
     calls_end_in_their_kind, depth_counts_holds, holders_took_their_record,
@@ -34,7 +35,11 @@ pub use handoffs::{
 pub use mutual_exclusion::{
     count_is_zero_where_free, one_has_the_responsibility, one_seat_owns, places_are_read,
 };
-pub use queue_order::{answers_are_the_records, queue_is_in_push_order, stamps_are_consecutive};
+pub use queue_order::{
+    answers_are_the_records, no_seat_overtakes_twice, queue_is_in_push_order,
+    queued_seats_are_overtaken_once, queued_seats_are_served_soon,
+    queued_seats_wait_for_few_releases, stamps_are_consecutive,
+};
 pub use ranges::{limits_stay, numbers_stay_in_range, steps_have_room};
 pub use refusals::{
     begins_are_refused_for_cause, refused_begins_change_nothing, steps_are_refused_for_cause,

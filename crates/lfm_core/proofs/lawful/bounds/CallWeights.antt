@@ -20,7 +20,7 @@ abbrev pub is_walking : Point → Bool
 is_walking (TakeLinkLoad carrier next) = true
 is_walking _ = false
 
-walking_serves : (depth s : ℕ) (p : Point) → is_walking p ≡ true → claim_at depth s p ≡ serving s
+pub walking_serves : (depth s : ℕ) (p : Point) → is_walking p ≡ true → claim_at depth s p ≡ serving s
 walking_serves depth s (TakeLinkLoad carrier next) walks = refl
 walking_serves depth s _ walks = absurd (false≢true walks)
 

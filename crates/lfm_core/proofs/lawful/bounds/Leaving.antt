@@ -156,7 +156,7 @@ begins_nothing x limits call _ inside = refl
 pub seat_of_call : (c : Core) (s : ℕ) → is_call (seat c.seats s).point ≡ true → IsSeat c.seats s
 seat_of_call c s inside = seat_of_point c.seats s (λ e. false≢true (rw e at inside))
 
-begun_other : (c : Core) (t s : ℕ) (call : Call) → s ≢ t → seat (begin c t call).core.seats s ≡ seat c.seats s
+pub begun_other : (c : Core) (t s : ℕ) (call : Call) → s ≢ t → seat (begin c t call).core.seats s ≡ seat c.seats s
 begun_other c t s call other =
     elim (cases_Bool (is_seat c.seats t)) [
       | inl is ↦ rw is (seat-with_other c.seats t s _ other)
@@ -171,7 +171,7 @@ begun_self c s call inside =
       | inr none ↦ rw none refl
     ]
 
-begun_popped : (c : Core) (t : ℕ) (call : Call) → (begin c t call).core.popped ≡ c.popped
+pub begun_popped : (c : Core) (t : ℕ) (call : Call) → (begin c t call).core.popped ≡ c.popped
 begun_popped c t call =
     elim (cases_Bool (is_seat c.seats t)) [
       | inl is ↦ rw is refl

@@ -186,7 +186,7 @@ at_point c s room before _ at among inside walks few = absurd (false≢true amon
 -- The walk
 
 -- a releaser that walks stands apart from the queue, so two records less than there are seats are in the pop list at most
-walk_room : (c : Core) (g : Ghost) (s : ℕ) → Fits c g → IsSeat c.seats s → g.standing s ≡ apart → 0 < g.walk → length c.popped + 2 ≤ length c.seats
+pub walk_room : (c : Core) (g : Ghost) (s : ℕ) → Fits c g → IsSeat c.seats s → g.standing s ≡ apart → 0 < g.walk → length c.popped + 2 ≤ length c.seats
 walk_room c g s fits is stands some =
     let none : queued_unit (g.standing s) + 1 ≤ 1 = rw stands (omega arith) in
     let most = sum_bound_less (length c.seats) 1 s (λ t. queued_unit (g.standing t)) is.above is.within (λ t. queued_unit-le (g.standing t)) none in

@@ -19,7 +19,7 @@ use Rattle.lfm_core.proofs.steady.frames.Seated.{seat_of_test}
 pub use Rattle.lfm_core.proofs.steady.StepsKept.{made_keeps}
 
 -- a number of which the test of a step says that no seat has it
-absent_tested : (seats : List SeatState) (s : ℕ) → is_seat seats s ≡ false → seat seats s ≡ absent
+pub absent_tested : (seats : List SeatState) (s : ℕ) → is_seat seats s ≡ false → seat seats s ≡ absent
 absent_tested seats s none = sym (entry_absent absent seats s none)
 
 -- what an event of a steady state leads to, told as it is for a step

@@ -10,6 +10,7 @@ pub mod Lawful
 pub mod Cases
 pub mod Laws
 pub mod Progress
+pub mod InSchedules
 pub mod Ranges
 pub mod Refusals
 pub mod LineEvents

@@ -1,5 +1,6 @@
 -- The laws of whole runs.
 pub mod AbstractBridge
+pub mod InSchedules
 pub mod KeptSteady
 pub mod LimitsKept
 pub mod LineEvents

@@ -47,22 +47,10 @@ pub record IsReached (c : Core) : Type 0 where
 abbrev pub OneSeatOwns : Type 0
 OneSeatOwns = (c : Core) (s t : ℕ) → Steady c → 0 < (seat c.seats s).depth → 0 < (seat c.seats t).depth → s ≡ t
 
--- so it is after every schedule
-abbrev pub OneSeatOwnsInSchedules : Type 0
-OneSeatOwnsInSchedules =
-    (limits : Limits) (events : List Event) (s t : ℕ) → are_in_limits limits.seats limits.budget ≡ true
-    → 0 < (seat (reached limits events).seats s).depth → 0 < (seat (reached limits events).seats t).depth → s ≡ t
-
 -- with a count above 0 exactly one owner, grant, posted handoff or call has the responsibility
 abbrev pub OneHasTheResponsibility : Type 0
 OneHasTheResponsibility =
     (c : Core) → Steady c → 0 < c.count → (p : AbstractPlace) × Claims c p × ((q : AbstractPlace) → Claims c q → q ≡ p)
-
--- so it is after every schedule
-abbrev pub OneHasTheResponsibilityInSchedules : Type 0
-OneHasTheResponsibilityInSchedules =
-    (limits : Limits) (events : List Event) → are_in_limits limits.seats limits.budget ≡ true → 0 < (reached limits events).count
-    → (p : AbstractPlace) × Claims (reached limits events) p × ((q : AbstractPlace) → Claims (reached limits events) q → q ≡ p)
 
 -- The abstract mutex
 

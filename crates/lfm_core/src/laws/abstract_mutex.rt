@@ -1,4 +1,8 @@
 //! Refinement: each state stands for a state of the abstract mutex, and each run for one of its runs.
+ghost use Rattle.lfm_core.specs.laws.InSchedules.{
+  StatesAreLawfulInSchedules,
+  EventsAreTheirCasesInSchedules,
+};
 ghost use Rattle.lfm_core.specs.laws.Laws.{StatesAreLawful, RunsAreAbstractRuns, EventsAreTheirCases};
 ghost use Rattle.lfm_core.specs.laws.Lawful.{Lawful};
 
@@ -10,7 +14,8 @@ use crate::stepped::State;
 ///
 /// Definition: `StatesAreLawful` in `specs/laws/Laws.antt`. Proof: `proofs/lawful/states/StateLaws.antt`.
 pub fn states_are_lawful()
-    ensures { StatesAreLawful }
+    ensures steady { StatesAreLawful }
+    ensures schedules { StatesAreLawfulInSchedules }
 {}
 
 /// The same of each `State` that a caller has, however it was made and stepped.
@@ -35,5 +40,6 @@ pub fn runs_are_abstract_runs()
 ///
 /// Definition: `EventsAreTheirCases` in `specs/laws/Laws.antt`. Proof: `proofs/lawful/runs/AbstractBridge.antt`.
 pub fn events_are_their_cases()
-    ensures { EventsAreTheirCases }
+    ensures steady { EventsAreTheirCases }
+    ensures schedules { EventsAreTheirCasesInSchedules }
 {}

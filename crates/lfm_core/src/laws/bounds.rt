@@ -1,4 +1,16 @@
 //! Progress: a release is wait-free, every call is obstruction-free, and all calls together are lock-free.
+ghost use Rattle.lfm_core.specs.laws.InSchedules.{
+  UnlocksAreBoundedInSchedules,
+  StartWaitsAreBoundedInSchedules,
+  CallsEndAloneInSchedules,
+  PushesAloneFailOnceInSchedules,
+  TriesAloneHoldInSchedules,
+  CallsEndBesideOthersInSchedules,
+  CallsChangeThePushWordTwiceInSchedules,
+  CallsShareTheirStepsInSchedules,
+  SomeCallEndsInSchedules,
+  NoStateIsStuckInSchedules,
+};
 ghost use Rattle.lfm_core.specs.laws.Laws.{UnlocksAreBounded, StartWaitsAreBounded, CallsEndAlone, PushesAloneFailOnce, TriesAloneHold};
 ghost use Rattle.lfm_core.specs.laws.Progress.{CallsEndBesideOthers, CallsChangeThePushWordTwice, CallsShareTheirSteps, SomeCallEnds, NoStateIsStuck};
 
@@ -7,7 +19,8 @@ ghost use Rattle.lfm_core.specs.laws.Progress.{CallsEndBesideOthers, CallsChange
 ///
 /// Definition: `UnlocksAreBounded` in `specs/laws/Laws.antt`. Proof: `proofs/lawful/bounds/ReleaseBounds.antt`.
 pub fn unlocks_are_bounded()
-    ensures { UnlocksAreBounded }
+    ensures steady { UnlocksAreBounded }
+    ensures schedules { UnlocksAreBoundedInSchedules }
 {}
 
 /// Wait-free release: a `start_wait` among N seats ends within N + 8 of its own atomic steps, however the other seats
@@ -15,7 +28,8 @@ pub fn unlocks_are_bounded()
 ///
 /// Definition: `StartWaitsAreBounded` in `specs/laws/Laws.antt`. Proof: `proofs/lawful/bounds/ReleaseBounds.antt`.
 pub fn start_waits_are_bounded()
-    ensures { StartWaitsAreBounded }
+    ensures steady { StartWaitsAreBounded }
+    ensures schedules { StartWaitsAreBoundedInSchedules }
 {}
 
 /// Obstruction freedom: a call in flight ends if its seat runs alone, within the number of steps that `State::longest_call`
@@ -23,14 +37,16 @@ pub fn start_waits_are_bounded()
 ///
 /// Definition: `CallsEndAlone` in `specs/laws/Laws.antt`. Proof: `proofs/lawful/bounds/CallsEnd.antt`.
 pub fn calls_end_alone()
-    ensures { CallsEndAlone }
+    ensures steady { CallsEndAlone }
+    ensures schedules { CallsEndAloneInSchedules }
 {}
 
 /// A seat that runs alone never fails two pushes in a row.
 ///
 /// Definition: `PushesAloneFailOnce` in `specs/laws/Laws.antt`. Proof: `proofs/lawful/bounds/PushesAlone.antt`.
 pub fn pushes_alone_fail_once()
-    ensures { PushesAloneFailOnce }
+    ensures steady { PushesAloneFailOnce }
+    ensures schedules { PushesAloneFailOnceInSchedules }
 {}
 
 /// A `try_lock` is not Busy without a cause: running alone, a seat without a hold and with a take left acquires a mutex that
@@ -38,7 +54,8 @@ pub fn pushes_alone_fail_once()
 ///
 /// Definition: `TriesAloneHold` in `specs/laws/Laws.antt`. Proof: `proofs/lawful/bounds/TriesAlone.antt`.
 pub fn tries_alone_hold()
-    ensures { TriesAloneHold }
+    ensures steady { TriesAloneHold }
+    ensures schedules { TriesAloneHoldInSchedules }
 {}
 
 /// Lock freedom, told of one call: an open call among N seats ends within N + 9 of its own atomic steps, and two more for each
@@ -46,7 +63,8 @@ pub fn tries_alone_hold()
 ///
 /// Definition: `CallsEndBesideOthers` in `specs/laws/Progress.antt`. Proof: `proofs/lawful/bounds/Beside.antt`.
 pub fn calls_end_beside_others()
-    ensures { CallsEndBesideOthers }
+    ensures steady { CallsEndBesideOthers }
+    ensures schedules { CallsEndBesideOthersInSchedules }
 {}
 
 /// No call pushes and clears more than twice in all: it pushes one record at most, and clears one push list that has records at
@@ -54,7 +72,8 @@ pub fn calls_end_beside_others()
 ///
 /// Definition: `CallsChangeThePushWordTwice` in `specs/laws/Progress.antt`. Proof: `proofs/lawful/bounds/Beside.antt`.
 pub fn calls_change_the_push_word_twice()
-    ensures { CallsChangeThePushWordTwice }
+    ensures steady { CallsChangeThePushWordTwice }
+    ensures schedules { CallsChangeThePushWordTwiceInSchedules }
 {}
 
 /// Lock freedom, told of all calls: in a run among N seats, the calls that were open before it and those that open in it make
@@ -62,7 +81,8 @@ pub fn calls_change_the_push_word_twice()
 ///
 /// Definition: `CallsShareTheirSteps` in `specs/laws/Progress.antt`. Proof: `proofs/lawful/bounds/LockFree.antt`.
 pub fn calls_share_their_steps()
-    ensures { CallsShareTheirSteps }
+    ensures steady { CallsShareTheirSteps }
+    ensures schedules { CallsShareTheirStepsInSchedules }
 {}
 
 /// Lock freedom: among any 5N(N + 1) + 1 steps of calls, however the N seats interleave, some call ends. For more steps, one more
@@ -70,7 +90,8 @@ pub fn calls_share_their_steps()
 ///
 /// Definition: `SomeCallEnds` in `specs/laws/Progress.antt`. Proof: `proofs/lawful/bounds/LockFree.antt`.
 pub fn some_call_ends()
-    ensures { SomeCallEnds }
+    ensures steady { SomeCallEnds }
+    ensures schedules { SomeCallEndsInSchedules }
 {}
 
 /// No state is stuck: from each, some steps of the calls that are open, 5N + 5 for each of them at most, lead to a state without
@@ -78,5 +99,6 @@ pub fn some_call_ends()
 ///
 /// Definition: `NoStateIsStuck` in `specs/laws/Progress.antt`. Proof: `proofs/lawful/bounds/Resting.antt`.
 pub fn no_state_is_stuck()
-    ensures { NoStateIsStuck }
+    ensures steady { NoStateIsStuck }
+    ensures schedules { NoStateIsStuckInSchedules }
 {}

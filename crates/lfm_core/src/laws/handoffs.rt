@@ -1,4 +1,13 @@
 //! No lost wake-up: posts that are watched, sleepers that are woken, and takes that find a waiter.
+ghost use Rattle.lfm_core.specs.laws.InSchedules.{
+  HandoffsAreWatchedInSchedules,
+  QuiescentStatesRestInSchedules,
+  SleepersAreReachableInSchedules,
+  TakesFindARecordInSchedules,
+  WonPostsHaveARecordInSchedules,
+  FailedPushesSeeChangeInSchedules,
+  CallsPostOnceInSchedules,
+};
 ghost use Rattle.lfm_core.specs.laws.Laws.{HandoffsAreWatched, QuiescentStatesRest, SleepersAreReachable, TakesFindARecord, WonPostsHaveARecord, FailedPushesSeeChange, CallsPostOnce};
 
 /// No lost wake-up: while a hand-off is posted, some call in flight will still look at it, or has looked and will try to take
@@ -6,7 +15,8 @@ ghost use Rattle.lfm_core.specs.laws.Laws.{HandoffsAreWatched, QuiescentStatesRe
 ///
 /// Definition: `HandoffsAreWatched` in `specs/laws/Laws.antt`. Proof: `proofs/lawful/states/StateLaws.antt`.
 pub fn handoffs_are_watched()
-    ensures { HandoffsAreWatched }
+    ensures steady { HandoffsAreWatched }
+    ensures schedules { HandoffsAreWatchedInSchedules }
 {}
 
 /// When no call is in flight, no hand-off is left posted. If the count is then above 0, either a seat holds the mutex, or a
@@ -14,7 +24,8 @@ pub fn handoffs_are_watched()
 ///
 /// Definition: `QuiescentStatesRest` in `specs/laws/Laws.antt`. Proof: `proofs/lawful/states/StateLaws.antt`.
 pub fn quiescent_states_rest()
-    ensures { QuiescentStatesRest }
+    ensures steady { QuiescentStatesRest }
+    ensures schedules { QuiescentStatesRestInSchedules }
 {}
 
 /// Each sleeping seat can still be woken: it is queued, it has its grant, it waits for a send, or a send that has claimed it
@@ -22,7 +33,8 @@ pub fn quiescent_states_rest()
 ///
 /// Definition: `SleepersAreReachable` in `specs/laws/Laws.antt`. Proof: `proofs/lawful/states/Sleepers.antt`.
 pub fn sleepers_are_reachable()
-    ensures { SleepersAreReachable }
+    ensures steady { SleepersAreReachable }
+    ensures schedules { SleepersAreReachableInSchedules }
 {}
 
 /// A `lock`, `unlock` or `send_lock` that has won the exchange of a posted hand-off finds a record to pop when it takes the
@@ -30,7 +42,8 @@ pub fn sleepers_are_reachable()
 ///
 /// Definition: `TakesFindARecord` in `specs/laws/Laws.antt`. Proof: `proofs/lawful/states/StateLaws.antt`.
 pub fn takes_find_a_record()
-    ensures { TakesFindARecord }
+    ensures steady { TakesFindARecord }
+    ensures schedules { TakesFindARecordInSchedules }
 {}
 
 /// Whenever such an exchange is about to win, the push list has a record and the pop list has none. So the winner has
@@ -38,19 +51,22 @@ pub fn takes_find_a_record()
 ///
 /// Definition: `WonPostsHaveARecord` in `specs/laws/Laws.antt`. Proof: `proofs/lawful/states/WonPosts.antt`.
 pub fn won_posts_have_a_record()
-    ensures { WonPostsHaveARecord }
+    ensures steady { WonPostsHaveARecord }
+    ensures schedules { WonPostsHaveARecordInSchedules }
 {}
 
 /// A push fails only because another seat got ahead: the push word has a newer stamp, or its list was taken.
 ///
 /// Definition: `FailedPushesSeeChange` in `specs/laws/Laws.antt`. Proof: `proofs/lawful/states/StateLaws.antt`.
 pub fn failed_pushes_see_change()
-    ensures { FailedPushesSeeChange }
+    ensures steady { FailedPushesSeeChange }
+    ensures schedules { FailedPushesSeeChangeInSchedules }
 {}
 
 /// No call posts two hand-offs, however the other seats interleave with it.
 ///
 /// Definition: `CallsPostOnce` in `specs/laws/Laws.antt`. Proof: `proofs/lawful/bounds/PostsOnce.antt`.
 pub fn calls_post_once()
-    ensures { CallsPostOnce }
+    ensures steady { CallsPostOnce }
+    ensures schedules { CallsPostOnceInSchedules }
 {}

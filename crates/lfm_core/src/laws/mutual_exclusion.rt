@@ -1,5 +1,11 @@
 //! Mutual exclusion, and that the mutex is never lost.
-ghost use Rattle.lfm_core.specs.laws.Laws.{OneSeatOwns, OneSeatOwnsInSchedules, OneHasTheResponsibility, OneHasTheResponsibilityInSchedules, CountIsZeroWhereFree, PlacesAreRead};
+ghost use Rattle.lfm_core.specs.laws.InSchedules.{
+  OneSeatOwnsInSchedules,
+  OneHasTheResponsibilityInSchedules,
+  PlacesAreReadInSchedules,
+  CountIsZeroWhereFreeInSchedules,
+};
+ghost use Rattle.lfm_core.specs.laws.Laws.{OneSeatOwns, OneHasTheResponsibility, CountIsZeroWhereFree, PlacesAreRead};
 
 /// Mutual exclusion: at every moment at most one seat holds the mutex, however its steps and those of the others interleave.
 ///
@@ -24,12 +30,14 @@ pub fn one_has_the_responsibility()
 ///
 /// Definition: `CountIsZeroWhereFree` in `specs/laws/Laws.antt`. Proof: `proofs/lawful/states/CountLaws.antt`.
 pub fn count_is_zero_where_free()
-    ensures { CountIsZeroWhereFree }
+    ensures steady { CountIsZeroWhereFree }
+    ensures schedules { CountIsZeroWhereFreeInSchedules }
 {}
 
 /// `State::place` answers where the responsibility lies in the abstract mutex that the state stands for.
 ///
 /// Definition: `PlacesAreRead` in `specs/laws/Laws.antt`. Proof: `proofs/lawful/states/CountLaws.antt`.
 pub fn places_are_read()
-    ensures { PlacesAreRead }
+    ensures steady { PlacesAreRead }
+    ensures schedules { PlacesAreReadInSchedules }
 {}

@@ -1,4 +1,12 @@
 //! First come, first served: the order of the queue.
+ghost use Rattle.lfm_core.specs.laws.InSchedules.{
+  QueueIsInPushOrderInSchedules,
+  StampsAreConsecutiveInSchedules,
+  QueuedSeatsAreOvertakenOnceInSchedules,
+  QueuedSeatsWaitForFewReleasesInSchedules,
+  NoSeatOvertakesTwiceInSchedules,
+  QueuedSeatsAreServedSoonInSchedules,
+};
 ghost use Rattle.lfm_core.specs.laws.Laws.{QueueIsInPushOrder, StampsAreConsecutive, AnswersAreTheRecords};
 ghost use Rattle.lfm_core.specs.laws.Overtaking.{QueuedSeatsAreOvertakenOnce, QueuedSeatsWaitForFewReleases, NoSeatOvertakesTwice};
 ghost use Rattle.lfm_core.specs.laws.Service.{QueuedSeatsAreServedSoon};
@@ -8,14 +16,16 @@ ghost use Rattle.lfm_core.specs.laws.Service.{QueuedSeatsAreServedSoon};
 ///
 /// Definition: `QueueIsInPushOrder` in `specs/laws/Laws.antt`. Proof: `proofs/lawful/runs/PushOrder.antt`.
 pub fn queue_is_in_push_order()
-    ensures { QueueIsInPushOrder }
+    ensures steady { QueueIsInPushOrder }
+    ensures schedules { QueueIsInPushOrderInSchedules }
 {}
 
 /// Each successful push has the stamp after the one before it. Stamps begin at 1 and are never used twice.
 ///
 /// Definition: `StampsAreConsecutive` in `specs/laws/Laws.antt`. Proof: `proofs/lawful/runs/PushOrder.antt`.
 pub fn stamps_are_consecutive()
-    ensures { StampsAreConsecutive }
+    ensures steady { StampsAreConsecutive }
+    ensures schedules { StampsAreConsecutiveInSchedules }
 {}
 
 /// The answers that tell a seat that it holds by a queued record come in the order in which records left the queue. At most
@@ -32,7 +42,8 @@ pub fn answers_are_the_records()
 ///
 /// Definition: `QueuedSeatsAreOvertakenOnce` in `specs/laws/Overtaking.antt`. Proof: `proofs/lawful/bounds/Overtaken.antt`.
 pub fn queued_seats_are_overtaken_once()
-    ensures { QueuedSeatsAreOvertakenOnce }
+    ensures steady { QueuedSeatsAreOvertakenOnce }
+    ensures schedules { QueuedSeatsAreOvertakenOnceInSchedules }
 {}
 
 /// Bounded waiting: as long as a queued record has not left the queue, seats stop to own the mutex once for each of the records
@@ -40,14 +51,16 @@ pub fn queued_seats_are_overtaken_once()
 ///
 /// Definition: `QueuedSeatsWaitForFewReleases` in `specs/laws/Overtaking.antt`. Proof: `proofs/lawful/bounds/Overtaken.antt`.
 pub fn queued_seats_wait_for_few_releases()
-    ensures { QueuedSeatsWaitForFewReleases }
+    ensures steady { QueuedSeatsWaitForFewReleases }
+    ensures schedules { QueuedSeatsWaitForFewReleasesInSchedules }
 {}
 
 /// As long as a queued record has not left the queue, no seat comes to own the mutex twice.
 ///
 /// Definition: `NoSeatOvertakesTwice` in `specs/laws/Overtaking.antt`. Proof: `proofs/lawful/bounds/Overtakers.antt`.
 pub fn no_seat_overtakes_twice()
-    ensures { NoSeatOvertakesTwice }
+    ensures steady { NoSeatOvertakesTwice }
+    ensures schedules { NoSeatOvertakesTwiceInSchedules }
 {}
 
 /// Bounded service: where no other calls begin than unlocks, and receives of seats that have their grant, a record with k before
@@ -55,5 +68,6 @@ pub fn no_seat_overtakes_twice()
 ///
 /// Definition: `QueuedSeatsAreServedSoon` in `specs/laws/Service.antt`. Proof: `proofs/lawful/bounds/Served.antt`.
 pub fn queued_seats_are_served_soon()
-    ensures { QueuedSeatsAreServedSoon }
+    ensures steady { QueuedSeatsAreServedSoon }
+    ensures schedules { QueuedSeatsAreServedSoonInSchedules }
 {}

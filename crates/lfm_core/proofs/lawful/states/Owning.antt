@@ -1,14 +1,9 @@
 -- Mutual exclusion, from the one reading of a lawful state: every claim is its place, and where the count is above 0 there is one.
-use Rattle.std.proofs.Common.{◌≡◌, true, List, ◌≢◌, refl, sym, ap, ◌∙◌, arith}
+use Rattle.std.proofs.Common.{◌≢◌, refl, sym, ap, ◌∙◌, arith}
 use Rattle.lfm_model.specs.Abstract.{free, owner}
 use Rattle.lfm_core.specs.laws.Lawful.{owning_seat}
-use Rattle.lfm_core.specs.laws.Laws.{OneSeatOwns, OneSeatOwnsInSchedules, OneHasTheResponsibility, OneHasTheResponsibilityInSchedules}
+use Rattle.lfm_core.specs.laws.Laws.{OneSeatOwns, OneHasTheResponsibility}
 use Rattle.lfm_core.specs.laws.Reading.{by_owner}
-use Rattle.lfm_protocol.specs.declared.limits.Limits.{Limits}
-use Rattle.lfm_core.specs.laws.Schedules.{Event, reached}
-use Rattle.lfm_core.specs.steady.Steady.{Steady}
-use Rattle.lfm_protocol.specs.Limits.{are_in_limits}
-use Rattle.lfm_core.proofs.lawful.runs.Reached.{steady_reached}
 use Rattle.lfm_core.proofs.lawful.states.CountLaws.{count_is_zero_where_free}
 use Rattle.lfm_core.proofs.lawful.states.StateLaws.{states_are_lawful}
 
@@ -25,17 +20,3 @@ one_has_the_responsibility c is some =
     λ none. let zero = (count_is_zero_where_free c lawful.reading is lawful.lawful.reads).1 none in absurd (omega (arith, zero, some))
     in
     (lawful.reading.place, place.some taken, place.only)
-
--- After every schedule
-
-reached_steady : (limits : Limits) (events : List Event) → are_in_limits limits.seats limits.budget ≡ true → Steady (reached limits events)
-reached_steady limits events allowed =
-    steady_reached (reached limits events) (record { limits = limits; events = events; allowed = allowed; here = refl })
-
-pub one_seat_owns_in_schedules : OneSeatOwnsInSchedules
-one_seat_owns_in_schedules limits events s t allowed mine others =
-    one_seat_owns (reached limits events) s t (reached_steady limits events allowed) mine others
-
-pub one_has_the_responsibility_in_schedules : OneHasTheResponsibilityInSchedules
-one_has_the_responsibility_in_schedules limits events allowed some =
-    one_has_the_responsibility (reached limits events) (reached_steady limits events allowed) some

@@ -1,4 +1,5 @@
-use Rattle.lfm_core.proofs.lawful.states.Owning.{one_has_the_responsibility, one_has_the_responsibility_in_schedules}
+use Rattle.lfm_core.proofs.lawful.runs.InSchedules.{one_has_the_responsibility_in_schedules}
+use Rattle.lfm_core.proofs.lawful.states.Owning.{one_has_the_responsibility}
 use Rattle.lfm_core.proofs.laws.mutual_exclusion.one_has_the_responsibility.Goals as goal
 
 pub returns-clause-steady : goal.returns-clause-steady

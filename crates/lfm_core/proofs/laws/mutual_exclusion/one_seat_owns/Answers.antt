@@ -1,4 +1,5 @@
-use Rattle.lfm_core.proofs.lawful.states.Owning.{one_seat_owns, one_seat_owns_in_schedules}
+use Rattle.lfm_core.proofs.lawful.runs.InSchedules.{one_seat_owns_in_schedules}
+use Rattle.lfm_core.proofs.lawful.states.Owning.{one_seat_owns}
 use Rattle.lfm_core.proofs.laws.mutual_exclusion.one_seat_owns.Goals as goal
 
 pub returns-clause-steady : goal.returns-clause-steady

@@ -14,90 +14,99 @@ ghost use Rattle.lfm_core.specs.laws.InSchedules.{
 ghost use Rattle.lfm_core.specs.laws.Laws.{UnlocksAreBounded, StartWaitsAreBounded, CallsEndAlone, PushesAloneFailOnce, TriesAloneHold};
 ghost use Rattle.lfm_core.specs.laws.Progress.{CallsEndBesideOthers, CallsChangeThePushWordTwice, CallsShareTheirSteps, SomeCallEnds, NoStateIsStuck};
 
-/// Wait-free release: an `unlock` among N seats ends within N + 7 of its own atomic steps, however the other seats
-/// interleave.
+/// An `unlock` is over after N + 7 steps at most, N being the number of seats.
 ///
-/// Definition: `UnlocksAreBounded` in `specs/laws/Laws.antt`. Proof: `proofs/lawful/bounds/ReleaseBounds.antt`.
+/// Definitions: `UnlocksAreBounded` in `specs/laws/Laws.antt`, and `UnlocksAreBoundedInSchedules` in
+/// `specs/laws/InSchedules.antt`. Proofs: `proofs/lawful/bounds/ReleaseBounds.antt` and
+/// `proofs/lawful/runs/InSchedules.antt`.
 pub fn unlocks_are_bounded()
     ensures steady { UnlocksAreBounded }
     ensures schedules { UnlocksAreBoundedInSchedules }
 {}
 
-/// Wait-free release: a `start_wait` among N seats ends within N + 8 of its own atomic steps, however the other seats
-/// interleave.
+/// A `start_wait` is over after N + 8 steps at most, N being the number of seats.
 ///
-/// Definition: `StartWaitsAreBounded` in `specs/laws/Laws.antt`. Proof: `proofs/lawful/bounds/ReleaseBounds.antt`.
+/// Definitions: `StartWaitsAreBounded` in `specs/laws/Laws.antt`, and `StartWaitsAreBoundedInSchedules` in
+/// `specs/laws/InSchedules.antt`. Proofs: `proofs/lawful/bounds/ReleaseBounds.antt` and
+/// `proofs/lawful/runs/InSchedules.antt`.
 pub fn start_waits_are_bounded()
     ensures steady { StartWaitsAreBounded }
     ensures schedules { StartWaitsAreBoundedInSchedules }
 {}
 
-/// Obstruction freedom: a call in flight ends if its seat runs alone, within the number of steps that `State::longest_call`
-/// answers.
+/// An open call whose seat alone makes steps ends within N + 16 of them, N being the number of seats. So many steps `*`
+/// makes at most.
 ///
-/// Definition: `CallsEndAlone` in `specs/laws/Laws.antt`. Proof: `proofs/lawful/bounds/CallsEnd.antt`.
+/// Definitions: `CallsEndAlone` in `specs/laws/Laws.antt`, and `CallsEndAloneInSchedules` in `specs/laws/InSchedules.antt`.
+/// Proofs: `proofs/lawful/bounds/CallsEnd.antt` and `proofs/lawful/runs/InSchedules.antt`.
 pub fn calls_end_alone()
     ensures steady { CallsEndAlone }
     ensures schedules { CallsEndAloneInSchedules }
 {}
 
-/// A seat that runs alone never fails two pushes in a row.
+/// Alone, the exchange after a failed push exchange succeeds.
 ///
-/// Definition: `PushesAloneFailOnce` in `specs/laws/Laws.antt`. Proof: `proofs/lawful/bounds/PushesAlone.antt`.
+/// Definitions: `PushesAloneFailOnce` in `specs/laws/Laws.antt`, and `PushesAloneFailOnceInSchedules` in
+/// `specs/laws/InSchedules.antt`. Proofs: `proofs/lawful/bounds/PushesAlone.antt` and
+/// `proofs/lawful/runs/InSchedules.antt`.
 pub fn pushes_alone_fail_once()
     ensures steady { PushesAloneFailOnce }
     ensures schedules { PushesAloneFailOnceInSchedules }
 {}
 
-/// A `try_lock` is not Busy without a cause: running alone, a seat without a hold and with a take left acquires a mutex that
-/// is free or has a posted hand-off.
+/// Alone, a `try_lock` of a seat without a hold and with a take left ends `Held Free`: in two steps where the count is 0,
+/// in six where a post stands.
 ///
-/// Definition: `TriesAloneHold` in `specs/laws/Laws.antt`. Proof: `proofs/lawful/bounds/TriesAlone.antt`.
+/// Definitions: `TriesAloneHold` in `specs/laws/Laws.antt`, and `TriesAloneHoldInSchedules` in
+/// `specs/laws/InSchedules.antt`. Proofs: `proofs/lawful/bounds/TriesAlone.antt` and `proofs/lawful/runs/InSchedules.antt`.
 pub fn tries_alone_hold()
     ensures steady { TriesAloneHold }
     ensures schedules { TriesAloneHoldInSchedules }
 {}
 
-/// Lock freedom, told of one call: an open call among N seats ends within N + 9 of its own atomic steps, and two more for each
-/// time that another seat pushes a record or clears a push list that has records meanwhile.
+/// An open call among N seats makes at most N + 9 steps, and two more for each time that another seat changes the push word
+/// meanwhile.
 ///
-/// Definition: `CallsEndBesideOthers` in `specs/laws/Progress.antt`. Proof: `proofs/lawful/bounds/Beside.antt`.
+/// Definitions: `CallsEndBesideOthers` in `specs/laws/Progress.antt`, and `CallsEndBesideOthersInSchedules` in
+/// `specs/laws/InSchedules.antt`. Proofs: `proofs/lawful/bounds/Beside.antt` and `proofs/lawful/runs/InSchedules.antt`.
 pub fn calls_end_beside_others()
     ensures steady { CallsEndBesideOthers }
     ensures schedules { CallsEndBesideOthersInSchedules }
 {}
 
-/// No call pushes and clears more than twice in all: it pushes one record at most, and clears one push list that has records at
-/// most.
+/// A call changes the push word at most twice.
 ///
-/// Definition: `CallsChangeThePushWordTwice` in `specs/laws/Progress.antt`. Proof: `proofs/lawful/bounds/Beside.antt`.
+/// Definitions: `CallsChangeThePushWordTwice` in `specs/laws/Progress.antt`, and `CallsChangeThePushWordTwiceInSchedules`
+/// in `specs/laws/InSchedules.antt`. Proofs: `proofs/lawful/bounds/Beside.antt` and `proofs/lawful/runs/InSchedules.antt`.
 pub fn calls_change_the_push_word_twice()
     ensures steady { CallsChangeThePushWordTwice }
     ensures schedules { CallsChangeThePushWordTwiceInSchedules }
 {}
 
-/// Lock freedom, told of all calls: in a run among N seats, the calls that were open before it and those that open in it make
-/// together at most 5N + 5 steps for each of them.
+/// In any run among N seats, the calls that were open before it and those that open in it make together at most 5N + 5
+/// steps for each of them.
 ///
-/// Definition: `CallsShareTheirSteps` in `specs/laws/Progress.antt`. Proof: `proofs/lawful/bounds/LockFree.antt`.
+/// Definitions: `CallsShareTheirSteps` in `specs/laws/Progress.antt`, and `CallsShareTheirStepsInSchedules` in
+/// `specs/laws/InSchedules.antt`. Proofs: `proofs/lawful/bounds/LockFree.antt` and `proofs/lawful/runs/InSchedules.antt`.
 pub fn calls_share_their_steps()
     ensures steady { CallsShareTheirSteps }
     ensures schedules { CallsShareTheirStepsInSchedules }
 {}
 
-/// Lock freedom: among any 5N(N + 1) + 1 steps of calls, however the N seats interleave, some call ends. For more steps, one more
-/// call ends with each 5N + 5 of them.
+/// Among any 5N(N + 1) + 1 steps of calls, however the N seats interleave, some call ends.
 ///
-/// Definition: `SomeCallEnds` in `specs/laws/Progress.antt`. Proof: `proofs/lawful/bounds/LockFree.antt`.
+/// Definitions: `SomeCallEnds` in `specs/laws/Progress.antt`, and `SomeCallEndsInSchedules` in
+/// `specs/laws/InSchedules.antt`. Proofs: `proofs/lawful/bounds/LockFree.antt` and `proofs/lawful/runs/InSchedules.antt`.
 pub fn some_call_ends()
     ensures steady { SomeCallEnds }
     ensures schedules { SomeCallEndsInSchedules }
 {}
 
-/// No state is stuck: from each, some steps of the calls that are open, 5N + 5 for each of them at most, lead to a state without
-/// an open call. Nothing is posted then, and if the count is above 0 a seat owns, or a sleeping seat has its grant.
+/// From each state of N seats, some steps of the open calls, 5N + 5 for each of them at most, lead to a state without an
+/// open call. Nothing is posted then, and if the count is above 0 a seat owns, or a sleeping seat has its grant.
 ///
-/// Definition: `NoStateIsStuck` in `specs/laws/Progress.antt`. Proof: `proofs/lawful/bounds/Resting.antt`.
+/// Definitions: `NoStateIsStuck` in `specs/laws/Progress.antt`, and `NoStateIsStuckInSchedules` in
+/// `specs/laws/InSchedules.antt`. Proofs: `proofs/lawful/bounds/Resting.antt` and `proofs/lawful/runs/InSchedules.antt`.
 pub fn no_state_is_stuck()
     ensures steady { NoStateIsStuck }
     ensures schedules { NoStateIsStuckInSchedules }

@@ -1,4 +1,5 @@
-//! No lost wake-up: posts that are watched, sleepers that are woken, and takes that find a waiter.
+//! No lost wake-up: posts that are watched, sleepers that can still be woken, and takes that find a waiter. These laws are told
+//! of words and steps. That the park of a thread ends once its grant is stored is only tested.
 ghost use Rattle.lfm_core.specs.laws.InSchedules.{
   HandoffsAreWatchedInSchedules,
   QuiescentStatesRestInSchedules,
@@ -10,62 +11,66 @@ ghost use Rattle.lfm_core.specs.laws.InSchedules.{
 };
 ghost use Rattle.lfm_core.specs.laws.Laws.{HandoffsAreWatched, QuiescentStatesRest, SleepersAreReachable, TakesFindARecord, WonPostsHaveARecord, FailedPushesSeeChange, CallsPostOnce};
 
-/// No lost wake-up: while a hand-off is posted, some call in flight will still look at it, or has looked and will try to take
-/// it.
+/// While a post stands, some open call will see it, or has seen it and not yet tried for it.
 ///
-/// Definition: `HandoffsAreWatched` in `specs/laws/Laws.antt`. Proof: `proofs/lawful/states/StateLaws.antt`.
+/// Definitions: `HandoffsAreWatched` in `specs/laws/Laws.antt`, and `HandoffsAreWatchedInSchedules` in
+/// `specs/laws/InSchedules.antt`. Proofs: `proofs/lawful/states/StateLaws.antt` and `proofs/lawful/runs/InSchedules.antt`.
 pub fn handoffs_are_watched()
     ensures steady { HandoffsAreWatched }
     ensures schedules { HandoffsAreWatchedInSchedules }
 {}
 
-/// When no call is in flight, no hand-off is left posted. If the count is then above 0, either a seat holds the mutex, or a
-/// sleeping seat has a grant in its wake word.
+/// Without an open call nothing is posted. If the count is above 0 then, a seat owns, or a sleeping seat has its grant.
 ///
-/// Definition: `QuiescentStatesRest` in `specs/laws/Laws.antt`. Proof: `proofs/lawful/states/StateLaws.antt`.
+/// Definitions: `QuiescentStatesRest` in `specs/laws/Laws.antt`, and `QuiescentStatesRestInSchedules` in
+/// `specs/laws/InSchedules.antt`. Proofs: `proofs/lawful/states/StateLaws.antt` and `proofs/lawful/runs/InSchedules.antt`.
 pub fn quiescent_states_rest()
     ensures steady { QuiescentStatesRest }
     ensures schedules { QuiescentStatesRestInSchedules }
 {}
 
-/// Each sleeping seat can still be woken: it is queued, it has its grant, it waits for a send, or a send that has claimed it
-/// is under way.
+/// A seat that sleeps is queued, or has its grant, or is WAITING for a send, or is on its way by a send that has claimed
+/// it.
 ///
-/// Definition: `SleepersAreReachable` in `specs/laws/Laws.antt`. Proof: `proofs/lawful/states/Sleepers.antt`.
+/// Definitions: `SleepersAreReachable` in `specs/laws/Laws.antt`, and `SleepersAreReachableInSchedules` in
+/// `specs/laws/InSchedules.antt`. Proofs: `proofs/lawful/states/Sleepers.antt` and `proofs/lawful/runs/InSchedules.antt`.
 pub fn sleepers_are_reachable()
     ensures steady { SleepersAreReachable }
     ensures schedules { SleepersAreReachableInSchedules }
 {}
 
-/// A `lock`, `unlock` or `send_lock` that has won the exchange of a posted hand-off finds a record to pop when it takes the
-/// push list.
+/// A `lock`, `unlock` or `send_lock` that has won a post finds a record when it clears the push list.
 ///
-/// Definition: `TakesFindARecord` in `specs/laws/Laws.antt`. Proof: `proofs/lawful/states/StateLaws.antt`.
+/// Definitions: `TakesFindARecord` in `specs/laws/Laws.antt`, and `TakesFindARecordInSchedules` in
+/// `specs/laws/InSchedules.antt`. Proofs: `proofs/lawful/states/StateLaws.antt` and `proofs/lawful/runs/InSchedules.antt`.
 pub fn takes_find_a_record()
     ensures steady { TakesFindARecord }
     ensures schedules { TakesFindARecordInSchedules }
 {}
 
-/// Whenever such an exchange is about to win, the push list has a record and the pop list has none. So the winner has
-/// somebody to serve.
+/// At the exchange that wins a post in a `lock`, `unlock` or `send_lock`, the push list has a record and the pop list has
+/// none.
 ///
-/// Definition: `WonPostsHaveARecord` in `specs/laws/Laws.antt`. Proof: `proofs/lawful/states/WonPosts.antt`.
+/// Definitions: `WonPostsHaveARecord` in `specs/laws/Laws.antt`, and `WonPostsHaveARecordInSchedules` in
+/// `specs/laws/InSchedules.antt`. Proofs: `proofs/lawful/states/WonPosts.antt` and `proofs/lawful/runs/InSchedules.antt`.
 pub fn won_posts_have_a_record()
     ensures steady { WonPostsHaveARecord }
     ensures schedules { WonPostsHaveARecordInSchedules }
 {}
 
-/// A push fails only because another seat got ahead: the push word has a newer stamp, or its list was taken.
+/// A push exchange fails only where the stamp has risen since, or the head was cleared.
 ///
-/// Definition: `FailedPushesSeeChange` in `specs/laws/Laws.antt`. Proof: `proofs/lawful/states/StateLaws.antt`.
+/// Definitions: `FailedPushesSeeChange` in `specs/laws/Laws.antt`, and `FailedPushesSeeChangeInSchedules` in
+/// `specs/laws/InSchedules.antt`. Proofs: `proofs/lawful/states/StateLaws.antt` and `proofs/lawful/runs/InSchedules.antt`.
 pub fn failed_pushes_see_change()
     ensures steady { FailedPushesSeeChange }
     ensures schedules { FailedPushesSeeChangeInSchedules }
 {}
 
-/// No call posts two hand-offs, however the other seats interleave with it.
+/// No call posts twice, whatever the others do in between.
 ///
-/// Definition: `CallsPostOnce` in `specs/laws/Laws.antt`. Proof: `proofs/lawful/bounds/PostsOnce.antt`.
+/// Definitions: `CallsPostOnce` in `specs/laws/Laws.antt`, and `CallsPostOnceInSchedules` in `specs/laws/InSchedules.antt`.
+/// Proofs: `proofs/lawful/bounds/PostsOnce.antt` and `proofs/lawful/runs/InSchedules.antt`.
 pub fn calls_post_once()
     ensures steady { CallsPostOnce }
     ensures schedules { CallsPostOnceInSchedules }

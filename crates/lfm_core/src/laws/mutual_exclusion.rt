@@ -1,4 +1,4 @@
-//! Mutual exclusion, and that the mutex is never lost.
+//! Mutual exclusion: at most one seat owns the mutex, and it is never lost.
 ghost use Rattle.lfm_core.specs.laws.InSchedules.{
   OneSeatOwnsInSchedules,
   OneHasTheResponsibilityInSchedules,
@@ -7,36 +7,37 @@ ghost use Rattle.lfm_core.specs.laws.InSchedules.{
 };
 ghost use Rattle.lfm_core.specs.laws.Laws.{OneSeatOwns, OneHasTheResponsibility, CountIsZeroWhereFree, PlacesAreRead};
 
-/// Mutual exclusion: at every moment at most one seat holds the mutex, however its steps and those of the others interleave.
+/// Two seats that both have a depth are the same seat, in every steady state and after every schedule.
 ///
-/// Definitions: `OneSeatOwns`, and `OneSeatOwnsInSchedules` from the start on, in `specs/laws/Laws.antt`. Proof:
-/// `proofs/lawful/states/Owning.antt`.
+/// Definitions: `OneSeatOwns` in `specs/laws/Laws.antt`, and `OneSeatOwnsInSchedules` in `specs/laws/InSchedules.antt`.
+/// Proofs: `proofs/lawful/states/Owning.antt` and `proofs/lawful/runs/InSchedules.antt`.
 pub fn one_seat_owns()
     ensures steady { OneSeatOwns }
     ensures schedules { OneSeatOwnsInSchedules }
 {}
 
-/// The mutex is never lost and never doubled: while its count is above 0, exactly one party is responsible for it. That is
-/// the owner, a grant that is under way, a posted hand-off, or a call that acquires it or hands it on.
+/// With a count above 0, words and points show one place of the responsibility, and no second one.
 ///
-/// Definitions: `OneHasTheResponsibility`, and `OneHasTheResponsibilityInSchedules` from the start on, in
-/// `specs/laws/Laws.antt`. Proof: `proofs/lawful/states/Owning.antt`.
+/// Definitions: `OneHasTheResponsibility` in `specs/laws/Laws.antt`, and `OneHasTheResponsibilityInSchedules` in
+/// `specs/laws/InSchedules.antt`. Proofs: `proofs/lawful/states/Owning.antt` and `proofs/lawful/runs/InSchedules.antt`.
 pub fn one_has_the_responsibility()
     ensures steady { OneHasTheResponsibility }
     ensures schedules { OneHasTheResponsibilityInSchedules }
 {}
 
-/// The count word is 0 exactly while nobody is responsible for the mutex.
+/// The count is 0 exactly where the place is free.
 ///
-/// Definition: `CountIsZeroWhereFree` in `specs/laws/Laws.antt`. Proof: `proofs/lawful/states/CountLaws.antt`.
+/// Definitions: `CountIsZeroWhereFree` in `specs/laws/Laws.antt`, and `CountIsZeroWhereFreeInSchedules` in
+/// `specs/laws/InSchedules.antt`. Proofs: `proofs/lawful/states/CountLaws.antt` and `proofs/lawful/runs/InSchedules.antt`.
 pub fn count_is_zero_where_free()
     ensures steady { CountIsZeroWhereFree }
     ensures schedules { CountIsZeroWhereFreeInSchedules }
 {}
 
-/// `State::place` answers where the responsibility lies in the abstract mutex that the state stands for.
+/// The place that a trace prints is that of the abstract mutex which the state stands for.
 ///
-/// Definition: `PlacesAreRead` in `specs/laws/Laws.antt`. Proof: `proofs/lawful/states/CountLaws.antt`.
+/// Definitions: `PlacesAreRead` in `specs/laws/Laws.antt`, and `PlacesAreReadInSchedules` in `specs/laws/InSchedules.antt`.
+/// Proofs: `proofs/lawful/states/CountLaws.antt` and `proofs/lawful/runs/InSchedules.antt`.
 pub fn places_are_read()
     ensures steady { PlacesAreRead }
     ensures schedules { PlacesAreReadInSchedules }

@@ -13,8 +13,7 @@ ghost use Rattle.lfm_core.specs.steady.Steady.{Steady};
 
 use crate::stepped::State;
 
-/// Every state that a schedule reaches satisfies the invariant of the protocol. Other laws take the invariant as their
-/// premise, so each of them holds of every schedule.
+/// Every reached state is steady.
 ///
 /// Definition: `StatesAreSteady` in `specs/laws/Steadiness.antt`, with the invariant in `specs/steady/Steady.antt`. Proof:
 /// `proofs/lawful/runs/KeptSteady.antt`.
@@ -22,7 +21,7 @@ pub fn states_are_steady()
     ensures { StatesAreSteady }
 {}
 
-/// The same of each `State` that a caller has, however it was made and stepped.
+/// Every value of type `State` is steady.
 ///
 /// Definition: `Steady` in `specs/steady/Steady.antt`. Proof: the invariant that `State` carries.
 pub fn every_state_is_steady(state: &State)
@@ -31,9 +30,8 @@ pub fn every_state_is_steady(state: &State)
     state.steady();
 }
 
-/// Each call that begins and each atomic step keeps the invariant, whatever ghost state fits it before. It does the one
-/// abstract action that the table of steps names, and adds to the records of pushes, pops and answers just what it tells of
-/// itself.
+/// Let any ghost fit a state. After a begin or a step a ghost fits again. Between the two lies the case of the event, and
+/// the records of pushes, of records that left and of answers grow by what the event says.
 ///
 /// Definition: `StepsKeepSteady` in `specs/laws/Steadiness.antt`. Proof: `proofs/lawful/runs/KeptSteady.antt`, which goes by
 /// point in `proofs/steady/StepsKept.antt`.
@@ -41,9 +39,9 @@ pub fn steps_keep_steady()
     ensures { StepsKeepSteady }
 {}
 
-/// An atomic step changes no word but the one that the table of kinds names, none at all where its kind is a load, and no
-/// seat but its own. What it answers and where its seat goes on follow from that word, the seat, and the oldest popped record
-/// alone.
+/// A step changes only the word that the table of kinds names for its point, none if it is a load, and only the seat that
+/// makes it. What it answers, and what its seat becomes, depend on that word, that seat and the oldest record of the pop
+/// list alone.
 ///
 /// Definitions: `StepsTouchOneWordAndOneSeat` and `StepsSeeOneWordAndOneSeat` in `specs/laws/Steadiness.antt`. Proofs:
 /// `proofs/lawful/touched/OneWord.antt` and `proofs/lawful/touched/OneSeat.antt`.
@@ -52,16 +50,15 @@ pub fn steps_touch_one_word_and_one_seat()
     ensures sees { StepsSeeOneWordAndOneSeat }
 {}
 
-/// A call that begins changes no word, and no seat but its own: until its first step no other seat can see it.
+/// A begin changes its seat alone.
 ///
 /// Definition: `BeginsTouchOneSeat` in `specs/laws/Steadiness.antt`. Proof: `proofs/lawful/touched/OneSeat.antt`.
 pub fn begins_touch_one_seat()
     ensures { BeginsTouchOneSeat }
 {}
 
-/// A step at a table of packed words is one of these steps: a seat that knows its own data, and finds one number at the place
-/// of its word, writes what these say, and the state after it is steady again. The value that the mutex guards moves as the
-/// step says. The premise, that seat numbers read from words are narrow, holds of every state that a schedule reaches.
+/// One step as it is at a list of packed numbers: which number becomes which, and what becomes of the seat, the pop list
+/// and the ghost. Its premise, that seat numbers which were read are below 65,536, holds of every reached state.
 ///
 /// Definitions: `StepsAtATable` and `ReachedAreNarrow` in `specs/laws/Steadiness.antt`, with `TableStep` in
 /// `specs/table/Carried.antt`. Proofs: `proofs/table/TableSteps.antt` and `proofs/lawful/runs/KeptSteady.antt`.

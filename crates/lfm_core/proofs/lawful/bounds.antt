@@ -1,12 +1,18 @@
 -- What a call does at most, beside others and alone.
+pub mod AheadRecords
 pub mod Beside
 pub mod CallWeights
 pub mod CallsEnd
+pub mod DueAtPoints
+pub mod DueCalls
 pub mod DueSteps
+pub mod HistoryCounts
 pub mod Leaving
 pub mod LockFree
+pub mod NextPosts
 pub mod Overtaken
 pub mod Overtakers
+pub mod PlainCases
 pub mod PostsOnce
 pub mod PushesAlone
 pub mod ReleaseBounds

@@ -14,7 +14,8 @@ use Rattle.lfm_core.specs.laws.Progress.{changed_push, changed_beside, changes_b
 use Rattle.lfm_core.specs.laws.Schedules.{Event, begins, makes, happens, is_call, weight_of, steps_of_call}
 use Rattle.lfm_core.specs.steady.Steady.{Steady}
 use Rattle.lfm_core.proofs.lawful.bounds.CallWeights.{is_walking, walking_serves, room_left}
-use Rattle.lfm_core.proofs.lawful.bounds.DueSteps.{again_unless-le, due_at, due_at-le, changes_at, changes_at-le, changed_push_same, own_spends}
+use Rattle.lfm_core.proofs.lawful.bounds.DueAtPoints.{again_unless-le, due_at, due_at-le, changes_at, changes_at-le, changed_push_same}
+use Rattle.lfm_core.proofs.lawful.bounds.DueSteps.{own_spends}
 use Rattle.lfm_core.proofs.lawful.bounds.Leaving.{own_made, size_made, seat_of_call, Leaves, leaves_all, begin_leaves, step_leaves}
 use Rattle.lfm_core.proofs.lawful.runs.Reached.{made_keeps, begin_keeps}
 use Rattle.lfm_core.proofs.steady.frames.Seated.{seat_of_test, test_of_seat}

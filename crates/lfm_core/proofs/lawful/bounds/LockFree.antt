@@ -16,7 +16,8 @@ use Rattle.lfm_core.specs.steady.Numbered.{sum_to}
 use Rattle.lfm_core.specs.steady.Steady.{Fits, Steady}
 use Rattle.lfm_core.proofs.lawful.bounds.Beside.{due, due-le, changes_left, due_beside, begun_push}
 use Rattle.lfm_core.proofs.lawful.bounds.CallWeights.{room_left}
-use Rattle.lfm_core.proofs.lawful.bounds.DueSteps.{changes_at, changes_at-le, changed_push-le, none_due, own_spends}
+use Rattle.lfm_core.proofs.lawful.bounds.DueAtPoints.{changes_at, changes_at-le, changed_push-le, none_due}
+use Rattle.lfm_core.proofs.lawful.bounds.DueSteps.{own_spends}
 use Rattle.lfm_core.proofs.lawful.bounds.Leaving.{stepped, seat_of_call, own_made, other_made, size_made, begun_other, begun_popped, begin_leaves, step_leaves}
 use Rattle.lfm_core.proofs.lawful.runs.Reached.{absent_tested, run_keeps}
 use Rattle.lfm_core.proofs.steady.frames.Seated.{seat_of_test}

@@ -1,9 +1,8 @@
 -- While a record stays queued, no seat comes to own twice: a seat comes in by the record that it has before that one, or by what
 -- is on its way to it, or by a post; and once it has come in it has none of these again.
-use Rattle.std.proofs.Common.{◌≡◌, ◌≢◌, ℕ, zero, suc, false, ◌+◌, ◌-◌, ◌≤◌, ◌<◌, Option, Some, None, List, [], ◌∷◌, ◌++◌, length, get_or, nat_eq, refl, sym, ap, ◌∙◌, inl, inr, arith, if◌then◌else◌}
+use Rattle.std.proofs.Common.{◌≡◌, ℕ, zero, suc, false, ◌+◌, ◌-◌, ◌≤◌, ◌<◌, Option, Some, None, List, [], ◌∷◌, length, nat_eq, refl, sym, ap, ◌∙◌, inl, inr, arith, if◌then◌else◌}
 use Rattle.std.proofs.lemmas.Bool.{cases_Bool, cases_eq, eq-eqb, ne_eqb, false≢true}
-use Rattle.std.proofs.lemmas.List.{length-append, get_or_append_left}
-use Rattle.std.proofs.Math.Seq.{get_or-append_seam}
+use Rattle.std.proofs.lemmas.List.{length-append}
 use Rattle.lfm_model.specs.Abstract.{AbstractPlace, AbstractStep, free, owner, passed, carried, brought_in}
 use Rattle.lfm_model.specs.Abstract as Abstract
 use Rattle.lfm_model.specs.AbstractRuns.{Case, case_of}
@@ -22,62 +21,22 @@ use Rattle.lfm_core.specs.laws.Overtaking.{enters_at, entries_of_seat, NoSeatOve
 use Rattle.lfm_core.specs.laws.Schedules.{Event, begins, makes, happens, weight_of, popped_in, popped_record}
 use Rattle.lfm_core.specs.steady.Ghost as Places
 use Rattle.lfm_core.specs.steady.Ghost.{Responsibility, nobody, owned, posted, entering, accepting, leaving, serving, Standing, apart, queued, Ghost}
-use Rattle.lfm_core.specs.steady.Numbered.{records}
 use Rattle.lfm_core.specs.steady.Outcome.{abstract, abstract_place, GoesOn}
 use Rattle.lfm_core.specs.steady.Steady.{HasQueue, Fits}
 use Rattle.lfm_core.specs.steady.Views.{claim_to_enter, held_by, stamp_of}
 use Rattle.lfm_core.proofs.lawful.bounds.Leaving.{own_made}
-use Rattle.lfm_core.proofs.lawful.bounds.Overtaken.{posts_next, posts_next-le, next_stays, begin_stays, leaving_next, not_empty, gives, gives_by, plain_case, popped_by_history, pushed_by_history}
+use Rattle.lfm_core.specs.laws.Laws.{post_weight}
+use Rattle.lfm_core.proofs.lawful.bounds.HistoryCounts.{popped_by_history, pushed_by_history}
+use Rattle.lfm_core.proofs.lawful.bounds.NextPosts.{post_weight-le, next_stays, begin_stays, leaving_next}
+use Rattle.lfm_core.proofs.lawful.bounds.PlainCases.{not_empty, gives, gives_by, plain_case}
 use Rattle.lfm_core.proofs.lawful.read.QueueRead.{queue_read}
-use Rattle.lfm_core.proofs.lawful.read.RecordsRead.{length-records, get_or-records}
+use Rattle.lfm_core.proofs.lawful.read.RecordsRead.{length-records}
 use Rattle.lfm_core.proofs.lawful.runs.Reached.{absent_tested, begin_keeps, made_keeps}
 use Rattle.lfm_core.proofs.steady.frames.Frames.{place_of_claim}
 use Rattle.lfm_core.proofs.steady.frames.Seated.{seat_of_test}
+use Rattle.lfm_core.proofs.lawful.bounds.AheadRecords.{ahead, ahead-le, ahead_none, ahead_first, first_popped, ahead_goes}
 
--- The records before the one that stays
-
--- whether seat t was pushed with one of the n stamps after k
-abbrev ahead : (ℕ → ℕ) → ℕ → ℕ → ℕ → ℕ
-ahead f k zero t = 0
-ahead f k (suc n) t = if nat_eq (f (k + 1)) t then 1 else ahead f (k + 1) n t
-
-ahead-le : (f : ℕ → ℕ) (k n t : ℕ) → ahead f k n t ≤ 1
-ahead-le f k zero t = omega arith
-ahead-le f k (suc n) t =
-    elim (cases_Bool (nat_eq (f (k + 1)) t)) [
-      | inl here ↦ rw here (omega arith)
-      | inr other ↦ rw other (ahead-le f (k + 1) n t)
-    ]
-
--- functions that agree on these stamps
-ahead_agrees : (f f' : ℕ → ℕ) (k n t : ℕ) → ((x : ℕ) → k < x → x ≤ k + n → f' x ≡ f x) → ahead f' k n t ≡ ahead f k n t
-ahead_agrees f f' k zero t same = refl
-ahead_agrees f f' k (suc n) t same =
-    let first = same (k + 1) (omega arith) (omega arith) in
-    let rest = ahead_agrees f f' (k + 1) n t (λ x above within. same x (omega (arith, above)) (omega (arith, within))) in
-    rw (first, rest) refl
-
--- no such stamp
-ahead_none : (f : ℕ → ℕ) (k n t : ℕ) → ((x : ℕ) → k < x → x ≤ k + n → f x ≢ t) → ahead f k n t ≡ 0
-ahead_none f k zero t none = refl
-ahead_none f k (suc n) t none =
-    let rest = ahead_none f (k + 1) n t (λ x above within. none x (omega (arith, above)) (omega (arith, within))) in
-    rw (ne_eqb (f (k + 1)) t (none (k + 1) (omega arith) (omega arith))) rest
-
--- the first of them
-ahead_first : (f : ℕ → ℕ) (k n t : ℕ) → f (k + 1) ≡ t → 0 < n → ahead f k n t ≡ 1
-ahead_first f k zero t here some = absurd (omega (arith, some))
-ahead_first f k (suc n) t here some = rw (eq-eqb (f (k + 1)) t here) refl
-
--- without the first
-ahead_later : (f : ℕ → ℕ) (k n t : ℕ) → ahead f (k + 1) n t ≤ ahead f k (suc n) t
-ahead_later f k n t =
-    elim (cases_Bool (nat_eq (f (k + 1)) t)) [
-      | inl here ↦ let most = ahead-le f (k + 1) n t in rw here (omega (arith, most))
-      | inr other ↦ rw other (omega arith)
-    ]
-
--- What can still bring seat t in beside them
+-- What can still bring seat t in beside the records before the one that stays
 
 abbrev is_same : ℕ → ℕ → ℕ
 is_same s t = if nat_eq s t then 1 else 0
@@ -96,7 +55,7 @@ spare_to t c (passed s) = is_same s t
 spare_to t c Abstract.posted = 1
 spare_to t c (carried s (Abstract.entering into)) = is_same into t
 spare_to t c (carried s Abstract.leaving) = 0
-spare_to t c (carried s Abstract.serving) = posts_next (seat c.seats s).point
+spare_to t c (carried s Abstract.serving) = post_weight (seat c.seats s).point
 
 abbrev spare : ℕ → Core → Ghost → ℕ
 spare t c g = spare_to t c (abstract_place g.place)
@@ -105,10 +64,10 @@ spare_to-le : (t : ℕ) (c : Core) (p : AbstractPlace) → spare_to t c p ≤ 1
 spare_to-le t c (passed s) = is_same-le s t
 spare_to-le t c (carried s (Abstract.entering into)) = is_same-le into t
 spare_to-le t c (carried s Abstract.leaving) = omega arith
-spare_to-le t c (carried s Abstract.serving) = posts_next-le (seat c.seats s).point
+spare_to-le t c (carried s Abstract.serving) = post_weight-le (seat c.seats s).point
 spare_to-le t c _ = omega arith
 
-same_place : (t : ℕ) (c d : Core) (p : Responsibility) → ((s : ℕ) → p ≡ serving s → posts_next (seat d.seats s).point ≤ posts_next (seat c.seats s).point)
+same_place : (t : ℕ) (c d : Core) (p : Responsibility) → ((s : ℕ) → p ≡ serving s → post_weight (seat d.seats s).point ≤ post_weight (seat c.seats s).point)
     → spare_to t d (abstract_place p) ≤ spare_to t c (abstract_place p)
 same_place t c d (serving s) stays = stays s refl
 same_place t c d (leaving s) stays = omega arith
@@ -186,57 +145,6 @@ grant_to t c g h u n some more (Abstract.take_up x moves) e = absurd (cc)
 grant_to t c g h u n some more (Abstract.enter s x moves) e = absurd (cc)
 grant_to t c g h u n some more (Abstract.release s moves) e = absurd (cc)
 grant_to t c g h u n some more (Abstract.leave s to goes moves) e = absurd (cc)
-
--- What a run leaves of the records
-
-abbrev nothing : Record
-nothing = record { seat = 0; stamp = 0 }
-
--- what was pushed stays
-pushed_stays : (g h : Ghost) (pushes pops answers : List Record) → GoesOn g h pushes pops answers → (x : ℕ) → 0 < x → x ≤ g.pushed → h.pushed_at x ≡ g.pushed_at x
-pushed_stays g h pushes pops answers on x above within =
-    let most = pushed_by_history g h pushes pops answers on in
-    let old = length-records g.pushed_at 0 g.pushed in
-    let after = get_or-records h.pushed_at 0 h.pushed (x - 1) nothing (omega (arith, above, within, most)) in
-    let before = get_or-records g.pushed_at 0 g.pushed (x - 1) nothing (omega (arith, above, within)) in
-    let same : get_or (records h.pushed_at 0 h.pushed) (x - 1) nothing ≡ get_or (records g.pushed_at 0 g.pushed) (x - 1) nothing =
-    ap (λ l. get_or l (x - 1) nothing) on.pushed ∙ get_or_append_left (records g.pushed_at 0 g.pushed) pushes nothing (x - 1) (omega (arith, above, within, old)) in
-    let here : 0 + (x - 1) + 1 ≡ x = omega (arith, above) in
-    ap (λ (y : ℕ). h.pushed_at y) (sym here) ∙ ap (λ (r : Record). r.seat) (sym after ∙ same ∙ before) ∙ ap (λ (y : ℕ). g.pushed_at y) here
-
--- the record that has left was the first
-first_popped : (g h : Ghost) (pushes answers : List Record) (r : Record) → GoesOn g h pushes (r ∷ []) answers → HasQueue g → g.pushed_at (g.popped + 1) ≡ r.seat
-first_popped g h pushes answers r on some =
-    let pops = popped_by_history g h pushes (r ∷ []) answers on in
-    let old = length-records g.pushed_at 0 g.popped in
-    let after = get_or-records h.pushed_at 0 h.popped g.popped nothing (omega (arith, pops)) in
-    let last : get_or (records g.pushed_at 0 g.popped ++ r ∷ []) g.popped nothing ≡ r =
-    ap (λ i. get_or (records g.pushed_at 0 g.popped ++ r ∷ []) i nothing) (sym old) ∙ get_or-append_seam (records g.pushed_at 0 g.popped) r [] nothing in
-    let same = sym after ∙ ap (λ l. get_or l g.popped nothing) on.popped ∙ last in
-    let stays = pushed_stays g h pushes (r ∷ []) answers on (g.popped + 1) (omega arith) (omega (arith, some)) in
-    let here : 0 + g.popped + 1 ≡ g.popped + 1 = omega arith in
-    let seat_is : h.pushed_at (g.popped + 1) ≡ r.seat = ap (λ (y : ℕ). h.pushed_at y) (sym here) ∙ ap (λ (r : Record). r.seat) same in
-    sym stays ∙ seat_is
-
--- the records before the one that stays are fewer by those that have left
-ahead_drops : (f : ℕ → ℕ) (k m n t : ℕ) → ahead f (k + m) n t ≤ ahead f k (m + n) t
-ahead_drops f k zero n t = let here : k + 0 ≡ k = omega arith in let all : 0 + n ≡ n = omega arith in rw (here, all) (omega arith)
-ahead_drops f k (suc m) n t =
-    let here : k + suc m ≡ k + 1 + m = omega arith in
-    let all : suc m + n ≡ suc (m + n) = omega arith in
-    let rest = ahead_drops f (k + 1) m n t in
-    let later = ahead_later f k (m + n) t in
-    rw (here, all) (omega (arith, rest, later))
-
-ahead_goes : (g h : Ghost) (pushes pops answers : List Record) (n t : ℕ) → GoesOn g h pushes pops answers → g.popped + (length pops + n) < g.pushed
-    → ahead h.pushed_at h.popped n t ≤ ahead g.pushed_at g.popped (length pops + n) t
-ahead_goes g h pushes pops answers n t on within =
-    let popped = popped_by_history g h pushes pops answers on in
-    let drops = ahead_drops g.pushed_at g.popped (length pops) n t in
-    let same = ahead_agrees g.pushed_at h.pushed_at h.popped n t
-    (λ x above below. pushed_stays g h pushes pops answers on x (omega (arith, above)) (omega (arith, below, popped, within))) in
-    let here : ahead g.pushed_at h.popped n t ≡ ahead g.pushed_at (g.popped + length pops) n t = ap (λ k. ahead g.pushed_at k n t) popped in
-    omega (arith, drops, same, here)
 
 -- What can bring seat t in at all
 

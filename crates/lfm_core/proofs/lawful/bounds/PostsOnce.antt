@@ -97,7 +97,7 @@ of_claims x t Wake.Waiting = refl
 of_claims x t _ = refl
 
 -- a point that leads to no post
-none_left : (c : Core) (s : ℕ) (p : Point) → (seat c.seats s).point ≡ p → posts_left p ≡ 0 → posts_left (stepped c s).seat.point ≡ 0
+pub none_left : (c : Core) (s : ℕ) (p : Point) → (seat c.seats s).point ≡ p → posts_left p ≡ 0 → posts_left (stepped c s).seat.point ≡ 0
 none_left c s (ReleaseOwnerStore releaser) at none = absurd (omega (arith, none))
 none_left c s (ReleaseCountSubtract releaser) at none = absurd (omega (arith, none))
 none_left c s (ReleaseHandoffStore releaser) at none = absurd (omega (arith, none))

@@ -21,4 +21,5 @@ pub mod Resting
 pub mod Served
 pub mod StepsFall
 pub mod StepsLeft
+pub mod SumBounds
 pub mod TriesAlone

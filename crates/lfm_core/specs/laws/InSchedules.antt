@@ -85,7 +85,7 @@ QueuedSeatsAreOvertakenOnceInSchedules =
     (c : Core) (events : List Event) (k : ℕ) → IsReached c → k < length (queue_of c) → length (popped_record c events) ≤ k
     → entries_of_run c events ≤ length (popped_record c events) + 1
 
--- and a seat stops to own once for each of them, and once more at most
+-- and a seat stops owning once for each of them, and once more at most
 abbrev pub QueuedSeatsWaitForFewReleasesInSchedules : Type 0
 QueuedSeatsWaitForFewReleasesInSchedules =
     (c : Core) (events : List Event) (k : ℕ) → IsReached c → k < length (queue_of c) → length (popped_record c events) ≤ k
@@ -97,7 +97,8 @@ NoSeatOvertakesTwiceInSchedules =
     (c : Core) (t : ℕ) (events : List Event) (k : ℕ) → IsReached c → k < length (queue_of c) → length (popped_record c events) ≤ k
     → entries_of_seat c t events ≤ 1
 
--- where no other calls begin than those that serve it, a record with k before it leaves after as many steps of calls
+-- where no other calls begin than those that serve, at most so many steps of calls are made as long as a queued record with k
+-- before it has not left
 abbrev pub QueuedSeatsAreServedSoonInSchedules : Type 0
 QueuedSeatsAreServedSoonInSchedules =
     (c : Core) (events : List Event) (k : ℕ) → IsReached c → k < length (queue_of c) → OnlyServes c events

@@ -1,4 +1,4 @@
--- Who comes to own while a record is queued.
+-- Who comes to own, and who stops owning, while a record is queued.
 use Rattle.std.specs.Prelude.{ℕ, ◌+◌, ◌<◌, ◌≤◌, List, [], ◌∷◌, length}
 use Rattle.lfm_protocol.specs.declared.points.Point.{Point}
 use Rattle.lfm_protocol.specs.declared.points.Point.TheVariants.{EnterOwnerStore, ReleaseOwnerStore}
@@ -27,12 +27,12 @@ enters_at _ = 0
 abbrev pub entries_of_run : Core → List Event → ℕ
 entries_of_run c events = weight_of_run enters_at c events
 
--- by a step at this point its seat stops to own
+-- by a step at this point its seat stops owning
 abbrev pub releases_at : Point → ℕ
 releases_at (ReleaseOwnerStore releaser) = 1
 releases_at _ = 0
 
--- how often a seat stops to own
+-- how often a seat stops owning
 abbrev pub releases_of_run : Core → List Event → ℕ
 releases_of_run c events = weight_of_run releases_at c events
 
@@ -43,8 +43,8 @@ QueuedSeatsAreOvertakenOnce =
     (c : Core) (events : List Event) (k : ℕ) → Steady c → k < length (queue_of c) → length (popped_record c events) ≤ k
     → entries_of_run c events ≤ length (popped_record c events) + 1
 
--- and a seat stops to own once for each of them, and once more at most: with k records before it, a record has left the queue
--- when a seat stops to own for the time after k + 1
+-- and a seat stops owning once for each of them, and once more at most: so a seat stops owning k + 1 times at most before a record
+-- that has k before it leaves the queue
 abbrev pub QueuedSeatsWaitForFewReleases : Type 0
 QueuedSeatsWaitForFewReleases =
     (c : Core) (events : List Event) (k : ℕ) → Steady c → k < length (queue_of c) → length (popped_record c events) ≤ k

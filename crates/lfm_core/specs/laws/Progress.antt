@@ -115,8 +115,8 @@ pub record ComesToRest (c : Core) : Type 0 where
   pub seats : List ℕ
   pub few : length seats ≤ (5 * length c.seats + 5) * open_calls c
   pub quiet : IsQuiet (run_of c (all_make seats))
-  pub taken : (run_of c (all_make seats)).handoff ≡ unposted
-  pub lies : 0 < (run_of c (all_make seats)).count → IsHeld (run_of c (all_make seats)) ⊎ IsGranted (run_of c (all_make seats))
+  pub nothing_posted : (run_of c (all_make seats)).handoff ≡ unposted
+  pub owned_or_granted : 0 < (run_of c (all_make seats)).count → IsHeld (run_of c (all_make seats)) ⊎ IsGranted (run_of c (all_make seats))
 
 abbrev pub NoStateIsStuck : Type 0
 NoStateIsStuck = (c : Core) → Steady c → ComesToRest c

@@ -49,7 +49,7 @@ pub fn queued_seats_are_overtaken_once()
     ensures schedules { QueuedSeatsAreOvertakenOnceInSchedules }
 {}
 
-/// As long as a queued record has not left, seats stop to own once for each of the records that leave before it, and once
+/// As long as a queued record has not left, seats stop owning once for each of the records that leave before it, and once
 /// more at most. So behind k records a seat waits for k + 1 releases at most.
 ///
 /// Definitions: `QueuedSeatsWaitForFewReleases` in `specs/laws/Overtaking.antt`, and
@@ -69,8 +69,9 @@ pub fn no_seat_overtakes_twice()
     ensures schedules { NoSeatOvertakesTwiceInSchedules }
 {}
 
-/// Where no other calls begin than unlocks, and receives of seats that have their grant, a record with k before it has left
-/// after (5N + 5)(o + 2k + 2) steps of calls at most, N being the number of seats and o how many calls were open.
+/// Where no other calls begin than unlocks, and receives of seats that have their grant, at most (5N + 5)(o + 2k + 2) steps
+/// of calls are made as long as a queued record with k before it has not left, N being the number of seats and o how many
+/// calls were open.
 ///
 /// Definitions: `QueuedSeatsAreServedSoon` in `specs/laws/Service.antt`, and `QueuedSeatsAreServedSoonInSchedules` in
 /// `specs/laws/InSchedules.antt`. Proofs: `proofs/lawful/bounds/Served.antt` and `proofs/lawful/runs/InSchedules.antt`.

@@ -1,6 +1,6 @@
 -- All calls of a run together: what is due to all of them falls with each step of a call. A change of the push word costs each
 -- other call two steps at most, and each call makes two changes at most, so what is due to a call bears what its changes cost.
-use Rattle.std.proofs.Common.{◌≡◌, ◌≢◌, ℕ, zero, suc, true, false, ◌+◌, ◌-◌, ◌*◌, ◌≤◌, ◌<◌, List, [], ◌∷◌, length, refl, sym, ◌∙◌, inl, inr, arith, suc-mul}
+use Rattle.std.proofs.Common.{◌≡◌, ◌≢◌, ℕ, zero, suc, true, false, ◌+◌, ◌-◌, ◌*◌, ◌≤◌, ◌<◌, List, [], ◌∷◌, length, refl, sym, ◌∙◌, inl, inr, arith}
 use Rattle.std.proofs.lemmas.Bool.{cases_Bool, cases_eq, false≢true}
 use Rattle.std.proofs.Math.Nat.{mul-le-mul_left, mul-add}
 use Rattle.lfm_protocol.specs.declared.answers.Call.{Call}
@@ -23,38 +23,7 @@ use Rattle.lfm_core.proofs.lawful.runs.Reached.{absent_tested, run_keeps}
 use Rattle.lfm_core.proofs.steady.frames.Seated.{seat_of_test}
 use Rattle.lfm_core.proofs.steady.frames.Sums.{sum_update, sum_bound}
 use Rattle.lfm_core.proofs.texts.SameSeats.{seats-step, seats-begin}
-
--- Sums
-
--- values that rise by so much at most
-sum_more : (n a : ℕ) (f f' : ℕ → ℕ) → ((j : ℕ) → j ≤ n → f' j ≤ f j + a) → sum_to n f' ≤ sum_to n f + n * a
-sum_more zero a f f' most = omega arith
-sum_more (suc n) a f f' most =
-    let below = sum_more n a f f' (λ j within. most j (omega (arith, within))) in
-    let last = most (suc n) (omega arith) in
-    omega (arith, below, last, suc-mul n a)
-
--- the same of all values but one
-sum_spreads : (n i a : ℕ) (f f' : ℕ → ℕ) → 0 < i → i ≤ n → ((j : ℕ) → j ≢ i → f' j ≤ f j + a) → sum_to n f' + f i + a ≤ sum_to n f + f' i + n * a
-sum_spreads zero i a f f' above within most = absurd (omega arith)
-sum_spreads (suc n) i a f f' above within most =
-    elim (cases_eq i (suc n)) [
-      | inl last ↦
-          let below = sum_more n a f f' (λ j small. most j (λ e. omega (arith, small, e, last))) in
-          rw last (omega (arith, below, suc-mul n a))
-      | inr other ↦
-          let below = sum_spreads n i a f f' above (omega arith) most in
-          let here = most (suc n) (λ e. other (sym e)) in
-          omega (arith, below, here, suc-mul n a)
-    ]
-
--- values that are at most so many times others
-sum_scales : (n k : ℕ) (f g : ℕ → ℕ) → ((j : ℕ) → f j ≤ k * g j) → sum_to n f ≤ k * sum_to n g
-sum_scales zero k f g most = omega arith
-sum_scales (suc n) k f g most =
-    let below = sum_scales n k f g most in
-    let last = most (suc n) in
-    omega (arith, below, last, mul-add k (sum_to n g) (g (suc n)))
+use Rattle.lfm_core.proofs.lawful.bounds.SumBounds.{sum_spreads, sum_scales}
 
 -- What is owed to all calls: the steps that are due, and what the changes that are left cost the other calls, where each costs k
 

@@ -148,6 +148,7 @@ grant_to t c g h u n some more (Abstract.leave s to goes moves) e = absurd (cc)
 
 -- What can bring seat t in at all
 
+-- 1 if the first is above 0, and else the second
 abbrev either : ℕ → ℕ → ℕ
 either zero m = m
 either (suc n) m = 1

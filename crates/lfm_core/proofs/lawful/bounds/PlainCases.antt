@@ -42,9 +42,9 @@ is_plain (GrantWakeStore carrier oldest) = false
 is_plain (ReleaseHandoffStore releaser) = false
 is_plain _ = true
 
-either : (b : Bool) (k l : Option Case) → gives_by k ≡ false → gives_by l ≡ false → gives_by (if b then k else l) ≡ false
-either true k l first second = first
-either false k l first second = second
+neither_gives : (b : Bool) (k l : Option Case) → gives_by k ≡ false → gives_by l ≡ false → gives_by (if b then k else l) ≡ false
+neither_gives true k l first second = first
+neither_gives false k l first second = second
 
 takes_up_other : (w : Wake) → gives_by (takes_up w) ≡ false
 takes_up_other (Grant stamp) = refl
@@ -54,11 +54,11 @@ pub plain_case : (c : Core) (s : ℕ) (x : SeatState) (p : Point) → is_plain p
 plain_case c s x (EnterOwnerStore entrant how) plain = absurd (false≢true plain)
 plain_case c s x (GrantWakeStore carrier oldest) plain = absurd (false≢true plain)
 plain_case c s x (ReleaseHandoffStore releaser) plain = absurd (false≢true plain)
-plain_case c s x LockCountAdd plain = either (nat_eq c.count 0) _ _ refl (either (nat_eq x.depth 0) _ _ refl refl)
-plain_case c s x TryCountExchange plain = either (nat_eq c.count 0) _ _ refl refl
-plain_case c s x (PushExchange pusher seen) plain = either (same_link c.push seen) _ _ refl refl
-plain_case c s x (PushedHandoffExchange pusher seen) plain = either (same_handoff c.handoff seen) _ _ refl refl
-plain_case c s x (ReleaseHandoffExchange releaser) plain = either (same_handoff c.handoff (record { seat = s; post = x.posts })) _ _ refl refl
-plain_case c s x (TryHandoffExchange seen) plain = either (same_handoff c.handoff seen) _ _ refl refl
+plain_case c s x LockCountAdd plain = neither_gives (nat_eq c.count 0) _ _ refl (neither_gives (nat_eq x.depth 0) _ _ refl refl)
+plain_case c s x TryCountExchange plain = neither_gives (nat_eq c.count 0) _ _ refl refl
+plain_case c s x (PushExchange pusher seen) plain = neither_gives (same_link c.push seen) _ _ refl refl
+plain_case c s x (PushedHandoffExchange pusher seen) plain = neither_gives (same_handoff c.handoff seen) _ _ refl refl
+plain_case c s x (ReleaseHandoffExchange releaser) plain = neither_gives (same_handoff c.handoff (record { seat = s; post = x.posts })) _ _ refl refl
+plain_case c s x (TryHandoffExchange seen) plain = neither_gives (same_handoff c.handoff seen) _ _ refl refl
 plain_case c s x (ReceiveWakeLoad sleeper) plain = takes_up_other (wake c.wakes s)
 plain_case c s x _ plain = refl

@@ -75,8 +75,8 @@ rest_told c most steady few rest =
       seats = rest.seats;
       few = let less = rest.few in omega (arith, less, few);
       quiet = rest.quiet;
-      taken = at_rest.0;
-      lies = at_rest.1;
+      nothing_posted = at_rest.0;
+      owned_or_granted = at_rest.1;
     }
 
 pub no_state_is_stuck : NoStateIsStuck

@@ -10,6 +10,8 @@ pub mod Lawful
 pub mod Cases
 pub mod Laws
 pub mod Progress
+pub mod ConstantBounds
+pub mod Grants
 pub mod Ranges
 pub mod Refusals
 pub mod LineEvents
@@ -18,5 +20,6 @@ pub mod Steadiness
 pub mod Charges
 pub mod Depths
 pub mod Releases
+pub mod BusyMoments
 pub mod Endings
 pub mod Entries

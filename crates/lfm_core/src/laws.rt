@@ -20,7 +20,7 @@ pub use abstract_mutex::{
 pub use bounds::{
     calls_change_the_push_word_twice, calls_end_alone, calls_end_beside_others,
     calls_share_their_steps, no_state_is_stuck, pushes_alone_fail_once, some_call_ends,
-    start_waits_are_bounded, tries_alone_hold, unlocks_are_bounded,
+    start_waits_are_bounded, tries_alone_hold, tries_and_receives_are_bounded, unlocks_are_bounded,
 };
 pub use calls::{
     calls_end_in_their_kind, depth_counts_holds, holders_took_their_record,

@@ -1,7 +1,9 @@
 -- What a call does at most, beside others and alone.
 pub mod Beside
+pub mod Branches
 pub mod CallWeights
 pub mod CallsEnd
+pub mod ConstantBounds
 pub mod DueSteps
 pub mod Leaving
 pub mod LockFree

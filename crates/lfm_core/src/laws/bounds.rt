@@ -1,4 +1,5 @@
-//! Progress: a release is wait-free, every call is obstruction-free, and all calls together are lock-free.
+//! Progress: a release, a try and a receive are wait-free, every call is obstruction-free, and all calls together are lock-free.
+ghost use Rattle.lfm_core.specs.laws.ConstantBounds.{ReceivesAreBounded, TriesAreBounded};
 ghost use Rattle.lfm_core.specs.laws.Laws.{UnlocksAreBounded, StartWaitsAreBounded, CallsEndAlone, PushesAloneFailOnce, TriesAloneHold};
 ghost use Rattle.lfm_core.specs.laws.Progress.{CallsEndBesideOthers, CallsChangeThePushWordTwice, CallsShareTheirSteps, SomeCallEnds, NoStateIsStuck};
 
@@ -16,6 +17,16 @@ pub fn unlocks_are_bounded()
 /// Definition: `StartWaitsAreBounded` in `specs/laws/Laws.antt`. Proof: `proofs/lawful/bounds/ReleaseBounds.antt`.
 pub fn start_waits_are_bounded()
     ensures { StartWaitsAreBounded }
+{}
+
+/// Wait-free tries and receives: a `try_lock` ends within 6 of its own atomic steps and a `receive` within 3, however the other
+/// seats interleave and however many there are.
+///
+/// Definitions: `TriesAreBounded` and `ReceivesAreBounded` in `specs/laws/ConstantBounds.antt`. Proof:
+/// `proofs/lawful/bounds/ConstantBounds.antt`.
+pub fn tries_and_receives_are_bounded()
+    ensures tries { TriesAreBounded }
+    ensures receives { ReceivesAreBounded }
 {}
 
 /// Obstruction freedom: a call in flight ends if its seat runs alone, within the number of steps that `State::longest_call`

@@ -29,8 +29,8 @@ pub use calls::{
     waits_answer_their_release,
 };
 pub use handoffs::{
-    calls_post_once, failed_pushes_see_change, handoffs_are_watched, quiescent_states_rest,
-    sleepers_are_reachable, takes_find_a_record, won_posts_have_a_record,
+    calls_grant_once, calls_post_once, failed_pushes_see_change, handoffs_are_watched,
+    quiescent_states_rest, sleepers_are_reachable, takes_find_a_record, won_posts_have_a_record,
 };
 pub use mutual_exclusion::{
     count_is_zero_where_free, one_has_the_responsibility, one_seat_owns, places_are_read,

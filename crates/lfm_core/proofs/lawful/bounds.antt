@@ -5,6 +5,7 @@ pub mod CallWeights
 pub mod CallsEnd
 pub mod ConstantBounds
 pub mod DueSteps
+pub mod GrantsOnce
 pub mod Leaving
 pub mod LockFree
 pub mod Overtaken

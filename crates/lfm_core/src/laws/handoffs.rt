@@ -1,4 +1,5 @@
 //! No lost wake-up: posts that are watched, sleepers that are woken, and takes that find a waiter.
+ghost use Rattle.lfm_core.specs.laws.Grants.{CallsGrantOnce};
 ghost use Rattle.lfm_core.specs.laws.Laws.{HandoffsAreWatched, QuiescentStatesRest, SleepersAreReachable, TakesFindARecord, WonPostsHaveARecord, FailedPushesSeeChange, CallsPostOnce};
 
 /// No lost wake-up: while a hand-off is posted, some call in flight will still look at it, or has looked and will try to take
@@ -53,4 +54,11 @@ pub fn failed_pushes_see_change()
 /// Definition: `CallsPostOnce` in `specs/laws/Laws.antt`. Proof: `proofs/lawful/bounds/PostsOnce.antt`.
 pub fn calls_post_once()
     ensures { CallsPostOnce }
+{}
+
+/// A call wakes one seat at most: none stores two grants, however the other seats interleave with it.
+///
+/// Definition: `CallsGrantOnce` in `specs/laws/Grants.antt`. Proof: `proofs/lawful/bounds/GrantsOnce.antt`.
+pub fn calls_grant_once()
+    ensures { CallsGrantOnce }
 {}

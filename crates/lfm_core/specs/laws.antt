@@ -11,6 +11,8 @@ pub mod Cases
 pub mod Laws
 pub mod Progress
 pub mod InSchedules
+pub mod ConstantBounds
+pub mod Grants
 pub mod Ranges
 pub mod Refusals
 pub mod LineEvents
@@ -19,5 +21,6 @@ pub mod Steadiness
 pub mod Charges
 pub mod Depths
 pub mod Releases
+pub mod BusyMoments
 pub mod Endings
 pub mod Entries

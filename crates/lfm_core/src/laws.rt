@@ -20,7 +20,7 @@ pub use abstract_mutex::{
 pub use bounds::{
     calls_change_the_push_word_twice, calls_end_alone, calls_end_beside_others,
     calls_share_their_steps, no_state_is_stuck, pushes_alone_fail_once, some_call_ends,
-    start_waits_are_bounded, tries_alone_hold, unlocks_are_bounded,
+    start_waits_are_bounded, tries_alone_hold, tries_and_receives_are_bounded, unlocks_are_bounded,
 };
 pub use calls::{
     calls_end_in_their_kind, depth_counts_holds, holders_took_their_record,
@@ -29,8 +29,8 @@ pub use calls::{
     waits_answer_their_release,
 };
 pub use handoffs::{
-    calls_post_once, failed_pushes_see_change, handoffs_are_watched, quiescent_states_rest,
-    sleepers_are_reachable, takes_find_a_record, won_posts_have_a_record,
+    calls_grant_once, calls_post_once, failed_pushes_see_change, handoffs_are_watched,
+    quiescent_states_rest, sleepers_are_reachable, takes_find_a_record, won_posts_have_a_record,
 };
 pub use mutual_exclusion::{
     count_is_zero_where_free, one_has_the_responsibility, one_seat_owns, places_are_read,
@@ -42,8 +42,8 @@ pub use queue_order::{
 };
 pub use ranges::{limits_stay, numbers_stay_in_range, steps_have_room};
 pub use refusals::{
-    begins_are_refused_for_cause, refused_begins_change_nothing, steps_are_refused_for_cause,
-    tries_see_a_holder, turns_are_refused_for_cause,
+    begins_are_refused_for_cause, busy_was_busy, refused_begins_change_nothing,
+    steps_are_refused_for_cause, tries_see_a_holder, turns_are_refused_for_cause,
 };
 pub use schedules::lines_are_events;
 pub use steadiness::{

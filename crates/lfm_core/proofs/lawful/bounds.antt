@@ -1,11 +1,14 @@
 -- What a call does at most, beside others and alone.
 pub mod AheadRecords
 pub mod Beside
+pub mod Branches
 pub mod CallWeights
 pub mod CallsEnd
+pub mod ConstantBounds
 pub mod DueAtPoints
 pub mod DueCalls
 pub mod DueSteps
+pub mod GrantsOnce
 pub mod HistoryCounts
 pub mod Leaving
 pub mod LockFree

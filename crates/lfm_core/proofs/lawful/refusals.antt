@@ -1,5 +1,6 @@
 -- The laws of refusals.
 pub mod Beginnings
+pub mod BusyMoments
 pub mod BusyTries
 pub mod PlainSteps
 pub mod RefusedCalls

@@ -1,4 +1,5 @@
-//! Progress: a release is wait-free, every call is obstruction-free, and all calls together are lock-free.
+//! Progress: a release, a try and a receive are wait-free, every call is obstruction-free, and all calls together are lock-free.
+ghost use Rattle.lfm_core.specs.laws.ConstantBounds.{ReceivesAreBounded, TriesAreBounded};
 ghost use Rattle.lfm_core.specs.laws.InSchedules.{
   UnlocksAreBoundedInSchedules,
   StartWaitsAreBoundedInSchedules,
@@ -32,6 +33,16 @@ pub fn unlocks_are_bounded()
 pub fn start_waits_are_bounded()
     ensures steady { StartWaitsAreBounded }
     ensures schedules { StartWaitsAreBoundedInSchedules }
+{}
+
+/// Wait-free tries and receives: a `try_lock` ends within 6 of its own atomic steps and a `receive` within 3, however the other
+/// seats interleave and however many there are.
+///
+/// Definitions: `TriesAreBounded` and `ReceivesAreBounded` in `specs/laws/ConstantBounds.antt`. Proof:
+/// `proofs/lawful/bounds/ConstantBounds.antt`.
+pub fn tries_and_receives_are_bounded()
+    ensures tries { TriesAreBounded }
+    ensures receives { ReceivesAreBounded }
 {}
 
 /// An open call whose seat alone makes steps ends within N + 16 of them, N being the number of seats. So many steps `*`

@@ -1,5 +1,6 @@
 //! No lost wake-up: posts that are watched, sleepers that can still be woken, and takes that find a waiter. These laws are told
 //! of words and steps. That the park of a thread ends once its grant is stored is only tested.
+ghost use Rattle.lfm_core.specs.laws.Grants.{CallsGrantOnce};
 ghost use Rattle.lfm_core.specs.laws.InSchedules.{
   HandoffsAreWatchedInSchedules,
   QuiescentStatesRestInSchedules,
@@ -74,4 +75,11 @@ pub fn failed_pushes_see_change()
 pub fn calls_post_once()
     ensures steady { CallsPostOnce }
     ensures schedules { CallsPostOnceInSchedules }
+{}
+
+/// A call wakes one seat at most: none stores two grants, however the other seats interleave with it.
+///
+/// Definition: `CallsGrantOnce` in `specs/laws/Grants.antt`. Proof: `proofs/lawful/bounds/GrantsOnce.antt`.
+pub fn calls_grant_once()
+    ensures { CallsGrantOnce }
 {}

@@ -1,4 +1,5 @@
 //! Refusals: a call or step is refused exactly where there is the cause, and a call that is refused changes nothing.
+ghost use Rattle.lfm_core.specs.laws.BusyMoments.{BusyWasBusy};
 ghost use Rattle.lfm_core.specs.laws.Refusals.{RefusedBeginsChangeNothing, BeginsAreRefusedForCause, StepsAreRefusedForCause, TurnsAreRefusedForCause, TriesSeeAHolder};
 
 /// A begin that is refused leaves the whole state as it was.
@@ -38,4 +39,12 @@ pub fn turns_are_refused_for_cause()
 /// Definition: `TriesSeeAHolder` in `specs/laws/Refusals.antt`. Proof: `proofs/lawful/refusals/BusyTries.antt`.
 pub fn tries_see_a_holder()
     ensures { TriesSeeAHolder }
+{}
+
+/// Busy is linearizable: at some moment between the begin of a `try_lock` and its answer Busy there was nothing to take. The
+/// count was above 0, and nothing was posted.
+///
+/// Definition: `BusyWasBusy` in `specs/laws/BusyMoments.antt`. Proof: `proofs/lawful/refusals/BusyMoments.antt`.
+pub fn busy_was_busy()
+    ensures { BusyWasBusy }
 {}

@@ -1,0 +1,8 @@
+use Rattle.lfm_core.proofs.lawful.bounds.ConstantBounds.{receives_are_bounded, tries_are_bounded}
+use Rattle.lfm_core.proofs.laws.bounds.tries_and_receives_are_bounded.Goals as goal
+
+pub returns-clause-tries : goal.returns-clause-tries
+returns-clause-tries c = tries_are_bounded
+
+pub returns-clause-receives : goal.returns-clause-receives
+returns-clause-receives c = receives_are_bounded

@@ -3,13 +3,12 @@ ghost use Rattle.std.specs.Prelude.{All, ◌≡◌, ℕ, ◌+◌, ◌<◌, ◌�
 ghost use Rattle.std.specs.VecDeque.{deque_capacity, deque_len};
 ghost use Rattle.lfm_condvar.specs.Lists.{Among, Among-prop, Go_on_from, Go_on-prop, times, waiter};
 
-mod enlisting;
-mod sending;
+pub mod enlist;
+mod send;
 
-pub(crate) use enlisting::bars_wait;
-pub use enlisting::enlist;
+pub(crate) use enlist::bars_wait;
 use lfm_model::SeatNo;
-pub use sending::send_oldest;
+pub use send::send_oldest;
 use std::alloc::{AllocError, Global};
 use std::collections::VecDeque;
 

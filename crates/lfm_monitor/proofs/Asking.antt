@@ -9,7 +9,7 @@ use Rattle.lfm_protocol.specs.declared.answers.Call.{Call}
 use Rattle.lfm_protocol.specs.declared.limits.Limits.{Limits}
 use Rattle.lfm_mutex.specs.calls.Sight.{Sight, Asks, Deepens, Lock_refused, Locks, Locks_waiting, Receives}
 use Rattle.lfm_mutex.specs.calls.Trails.{Makes_call}
-use Rattle.lfm_monitor.specs.declared.journals.Journaled.{Journaled}
+use Rattle.lfm_monitor.specs.declared.journaled.Journaled.{Journaled}
 use Rattle.lfm_monitor.specs.Journaled.{Fits, Follows}
 use Rattle.lfm_monitor.specs.Passes.{Ask_ends, Began, Enter_ends, Enter_refused, Pass_kept, Receive_ends, Try_ends}
 use Rattle.lfm_monitor.specs.Steps.{By_locking, By_steps}

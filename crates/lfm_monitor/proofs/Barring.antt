@@ -3,8 +3,8 @@ use Rattle.std.proofs.Common.{ℕ, List, Err, inl, refl}
 use Rattle.lfm_model.specs.declared.refusals.Refusal.{Refusal}
 use Rattle.lfm_protocol.specs.declared.limits.Limits.{Limits}
 use Rattle.lfm_mutex.specs.calls.Sight.{Sight}
-use Rattle.lfm_condvar.specs.declared.seats.CondSeat.{CondSeat}
-use Rattle.lfm_monitor.specs.declared.journals.Journaled.{Journaled}
+use Rattle.lfm_condvar.specs.declared.cond_seat.CondSeat.{CondSeat}
+use Rattle.lfm_monitor.specs.declared.journaled.Journaled.{Journaled}
 use Rattle.lfm_monitor.specs.Conditions.{Wait_ends, Wait_refused}
 
 module _ {O A R : Type 0} {K : _} where

@@ -8,11 +8,11 @@ use Rattle.lfm_model.proofs.Numbers.{all_once}
 use Rattle.lfm_mutex.specs.calls.Sight.{Sight, sight}
 use Rattle.lfm_mutex.specs.declared.mutex.Mutex.{Mutex}
 use Rattle.lfm_mutex.specs.Belongs.{Of_mutex, limits_of}
-use Rattle.lfm_mutex.specs.Closing.{All_stand}
+use Rattle.lfm_mutex.specs.Close.{All_stand}
 use Rattle.lfm_mutex.specs.Reach.{Reached}
-use Rattle.lfm_monitor.specs.declared.journals.Journaled.{Journaled}
+use Rattle.lfm_monitor.specs.declared.journaled.Journaled.{Journaled}
 use Rattle.lfm_monitor.specs.Journaled.{Follows}
-use Rattle.lfm_monitor.specs.declared.passes.Pass.{Pass}
+use Rattle.lfm_monitor.specs.declared.pass.Pass.{Pass}
 use Rattle.lfm_monitor.specs.Passes.{Pass_kept, Began, Goes_on_to, journal_of, journal_at}
 use Rattle.lfm_monitor.proofs.Growth.{found, own_kept}
 use Rattle.lfm_monitor.proofs.Knowing.{some_of, known_left}

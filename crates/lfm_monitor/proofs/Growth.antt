@@ -9,7 +9,7 @@ use Rattle.lfm_model.specs.declared.journals.Entry.{Entry}
 use Rattle.lfm_model.specs.Journals.{own, entry}
 use Rattle.lfm_model.proofs.JournalLists.{own-append}
 use Rattle.lfm_mutex.specs.Reach.{Leads, Reached}
-use Rattle.lfm_monitor.specs.declared.journals.Journaled.{Journaled}
+use Rattle.lfm_monitor.specs.declared.journaled.Journaled.{Journaled}
 use Rattle.lfm_model.specs.JournalLaws.{is_take}
 use Rattle.lfm_monitor.specs.Journaled.{are_ops, is_hold, Goes_on, Same_monitor, Follows}
 

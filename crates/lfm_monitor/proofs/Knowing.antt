@@ -14,7 +14,7 @@ use Rattle.lfm_mutex.specs.declared.mutex.Mutex.{Mutex}
 use Rattle.lfm_mutex.specs.declared.seat.Seat.{Seat}
 use Rattle.lfm_mutex.specs.Belongs.{Beside, Of_mutex}
 use Rattle.lfm_mutex.specs.calls.Sight.{Sight, sight, Gains, Locks, Wakes, Finds, Suits, May_leave, Unlocks, Is_left, Leaves_off, Deepens as Mutex_deepens}
-use Rattle.lfm_monitor.specs.declared.journals.Journaled.{Journaled}
+use Rattle.lfm_monitor.specs.declared.journaled.Journaled.{Journaled}
 use Rattle.lfm_monitor.specs.Journaled.{Fits, Follows, Same_monitor}
 use Rattle.lfm_monitor.specs.Passes.{Left, In_hand, Sleeps, Pass_kept, Began, Enters, Comes_in, Leave_ends, journal_of, known_to, found_or, journal_at}
 use Rattle.lfm_monitor.specs.Writes.{May_write, Writes}

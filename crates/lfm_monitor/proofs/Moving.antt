@@ -1,8 +1,8 @@
 -- A pass may move to another thread, and the monitor may be used by several, where the object and its ops may move.
 use Rattle.lfm_condvar.specs.contracts.condvars.Condvar as Condvar
 use Rattle.lfm_condvar.specs.contracts.seats.CondSeat as CondSeat
-use Rattle.lfm_condvar.proofs.condvars.Condvar.TheSendSync as CondvarSend
-use Rattle.lfm_condvar.proofs.seats.CondSeat.TheSendSync as CondSeatSend
+use Rattle.lfm_condvar.proofs.condvar.Condvar.TheSendSync as CondvarSend
+use Rattle.lfm_condvar.proofs.cond_seat.CondSeat.TheSendSync as CondSeatSend
 use Rattle.lfm_model.specs.contracts.journals.Entry as Entry
 use Rattle.lfm_model.specs.declared.objects.Object.{Ghosts}
 use Rattle.lfm_model.proofs.journals.Entry.TheSendSync as EntrySend

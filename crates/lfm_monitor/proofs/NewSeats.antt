@@ -3,8 +3,8 @@ use Rattle.std.proofs.Common.{◌≡◌, ℕ, ◌+◌, List, [], ◌∷◌, ◌+
 use Rattle.std.proofs.lemmas.List.{length_push}
 use mathlib.Core.Option.{some, some-injective}
 use lib.ListN.{get_elem?}
-use Rattle.lfm_condvar.specs.declared.condvars.Condvar.{Condvar}
-use Rattle.lfm_condvar.specs.declared.seats.CondSeat.{CondSeat}
+use Rattle.lfm_condvar.specs.declared.condvar.Condvar.{Condvar}
+use Rattle.lfm_condvar.specs.declared.cond_seat.CondSeat.{CondSeat}
 use Rattle.lfm_condvar.specs.Belongs.{Of_condvar}
 use Rattle.lfm_monitor.specs.CondSeats.{Is_new_seat, Are_new_of}
 use Rattle.lfm_monitor.proofs.Places.{each_more, in_range, stands_last, stood_before}

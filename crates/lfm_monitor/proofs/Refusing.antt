@@ -6,7 +6,7 @@ use Rattle.lfm_protocol.specs.declared.answers.Answer.TheVariants as Answered
 use Rattle.lfm_protocol.specs.declared.answers.Call.{Call}
 use Rattle.lfm_protocol.specs.declared.limits.Limits.{Limits}
 use Rattle.lfm_mutex.specs.calls.Sight.{Sight, Unlocks}
-use Rattle.lfm_monitor.specs.declared.journals.Journaled.{Journaled}
+use Rattle.lfm_monitor.specs.declared.journaled.Journaled.{Journaled}
 use Rattle.lfm_monitor.specs.Passes.{Began, Leave_ends, Pass_kept}
 use Rattle.lfm_monitor.specs.Steps.{By_steps}
 

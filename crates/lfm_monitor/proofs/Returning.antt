@@ -8,10 +8,10 @@ use Rattle.lfm_model.specs.Journals.{entry, own}
 use Rattle.lfm_protocol.specs.declared.limits.Limits.{Limits}
 use Rattle.lfm_mutex.specs.declared.seat.Seat.{Seat}
 use Rattle.lfm_mutex.specs.calls.Sight.{Sight, sight, Waits as Mutex_waits}
-use Rattle.lfm_condvar.specs.declared.seats.CondSeat.{CondSeat}
+use Rattle.lfm_condvar.specs.declared.cond_seat.CondSeat.{CondSeat}
 use Rattle.lfm_condvar.specs.declared.waiters.Waiters.{Waiters}
 use Rattle.lfm_condvar.specs.Waits.{Wait_ends as Cond_wait_ends}
-use Rattle.lfm_monitor.specs.declared.journals.Journaled.{Journaled}
+use Rattle.lfm_monitor.specs.declared.journaled.Journaled.{Journaled}
 use Rattle.lfm_monitor.specs.Journaled.{Fits, Follows}
 use Rattle.lfm_monitor.specs.Passes.{Pass_kept, Began, Enters, journal_of}
 use Rattle.lfm_monitor.specs.Conditions.{May_wait, On_condition, Wait_ends, Wait_returns}

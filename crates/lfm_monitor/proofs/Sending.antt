@@ -4,11 +4,11 @@ use Rattle.lfm_model.specs.declared.refusals.Refusal.{Refusal}
 use Rattle.lfm_protocol.specs.declared.limits.Limits.{Limits}
 use Rattle.lfm_mutex.specs.calls.Trails.{Seen}
 use Rattle.lfm_mutex.specs.calls.Sight.{Sight}
-use Rattle.lfm_condvar.specs.declared.seats.CondSeat.{CondSeat}
+use Rattle.lfm_condvar.specs.declared.cond_seat.CondSeat.{CondSeat}
 use Rattle.lfm_condvar.specs.declared.waiters.Waiter.{Waiter}
 use Rattle.lfm_condvar.specs.declared.waiters.Waiters.{Waiters}
 use Rattle.lfm_condvar.specs.Wakes.{Oldest_not_waiting, Sends_oldest, Sends_all, Wake_one_ends as Cond_wake_one_ends, Wake_all_ends as Cond_wake_all_ends}
-use Rattle.lfm_monitor.specs.declared.journals.Journaled.{Journaled}
+use Rattle.lfm_monitor.specs.declared.journaled.Journaled.{Journaled}
 use Rattle.lfm_monitor.specs.Conditions.{On_condition, Only_sends, Wake_one_ends, Wake_all_ends}
 use Rattle.lfm_monitor.specs.Passes.{Pass_kept, Began}
 

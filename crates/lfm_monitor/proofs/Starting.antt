@@ -5,7 +5,7 @@ use Rattle.lfm_mutex.specs.declared.mutex.Mutex.{Mutex}
 use Rattle.lfm_mutex.specs.declared.seat.Seat.{Seat}
 use Rattle.lfm_mutex.specs.Belongs.{Of_mutex}
 use Rattle.lfm_mutex.specs.calls.Sight.{Sight, new_sight, sight}
-use Rattle.lfm_monitor.specs.declared.journals.Journaled.{Journaled}
+use Rattle.lfm_monitor.specs.declared.journaled.Journaled.{Journaled}
 use Rattle.lfm_monitor.specs.Begun.{Is_empty}
 use Rattle.lfm_monitor.specs.Passes.{Pass_kept, Began}
 use Rattle.lfm_monitor.proofs.Knowing.{one_some}

@@ -3,11 +3,11 @@ use Rattle.std.proofs.Common.{◌≡◌, ⊎_elim, ℕ, ◌<◌, List, length, g
 use Rattle.std.proofs.lemmas.List.{length-set}
 use mathlib.Core.Option.{some, some-injective}
 use lib.ListN.{get_elem?}
-use Rattle.lfm_condvar.specs.declared.condvars.Condvar.{Condvar}
-use Rattle.lfm_condvar.specs.declared.seats.CondSeat.{CondSeat}
+use Rattle.lfm_condvar.specs.declared.condvar.Condvar.{Condvar}
+use Rattle.lfm_condvar.specs.declared.cond_seat.CondSeat.{CondSeat}
 use Rattle.lfm_condvar.specs.Belongs.{Of_condvar, cond_limits}
-use Rattle.lfm_monitor.specs.declared.monitors.Monitor.{Monitor}
-use Rattle.lfm_monitor.specs.declared.passes.Pass.{Pass}
+use Rattle.lfm_monitor.specs.declared.monitor.Monitor.{Monitor}
+use Rattle.lfm_monitor.specs.declared.pass.Pass.{Pass}
 use Rattle.lfm_monitor.specs.Belongs.{Of_monitor, cond_seats_of, conditions_in, passes_of}
 use Rattle.lfm_monitor.specs.CondSeats.{Of_conditions, condition_limits}
 use Rattle.lfm_monitor.proofs.Places.{stands, stands_or_was}

@@ -2,9 +2,9 @@
 use Rattle.std.specs.Prelude.{◌≡◌, ℕ, ◌*◌, ◌<◌, ◌≤◌, []}
 use Rattle.lfm_protocol.specs.Limits.{max_seats}
 use Rattle.lfm_mutex.specs.calls.Sight.{new_sight}
-use Rattle.lfm_monitor.specs.declared.journals.Journaled.{Journaled}
-use Rattle.lfm_monitor.specs.declared.monitors.Monitor.{Monitor}
-use Rattle.lfm_monitor.specs.declared.passes.Pass.{Pass}
+use Rattle.lfm_monitor.specs.declared.journaled.Journaled.{Journaled}
+use Rattle.lfm_monitor.specs.declared.monitor.Monitor.{Monitor}
+use Rattle.lfm_monitor.specs.declared.pass.Pass.{Pass}
 use Rattle.lfm_monitor.specs.Belongs.{Of_monitor, cond_seats_of, mine_of, pass_sight, seen_of}
 use Rattle.lfm_monitor.specs.CondSeats.{Are_new_seats}
 

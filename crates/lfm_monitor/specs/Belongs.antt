@@ -3,11 +3,11 @@ use Rattle.std.specs.Prelude.{◌≡◌, ℕ, List, length}
 use Rattle.lfm_protocol.specs.declared.limits.Limits.{Limits}
 use Rattle.lfm_mutex.specs.Belongs.{Of_mutex, limits_of}
 use Rattle.lfm_mutex.specs.calls.Sight.{Sight, sight}
-use Rattle.lfm_condvar.specs.declared.condvars.Condvar.{Condvar}
-use Rattle.lfm_condvar.specs.declared.seats.CondSeat.{CondSeat}
-use Rattle.lfm_monitor.specs.declared.journals.Journaled.{Journaled}
-use Rattle.lfm_monitor.specs.declared.monitors.Monitor.{Monitor}
-use Rattle.lfm_monitor.specs.declared.passes.Pass.{Pass}
+use Rattle.lfm_condvar.specs.declared.condvar.Condvar.{Condvar}
+use Rattle.lfm_condvar.specs.declared.cond_seat.CondSeat.{CondSeat}
+use Rattle.lfm_monitor.specs.declared.journaled.Journaled.{Journaled}
+use Rattle.lfm_monitor.specs.declared.monitor.Monitor.{Monitor}
+use Rattle.lfm_monitor.specs.declared.pass.Pass.{Pass}
 use Rattle.lfm_monitor.specs.CondSeats.{Of_conditions}
 use Rattle.lfm_monitor.specs.Passes.{Began}
 

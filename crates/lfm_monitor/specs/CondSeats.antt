@@ -5,8 +5,8 @@ use lib.ListN.{get_elem?}
 use Rattle.lfm_protocol.specs.declared.limits.Limits.{Limits}
 use Rattle.lfm_protocol.specs.Limits.{max_budget}
 use Rattle.lfm_mutex.specs.calls.Sight.{new_sight}
-use Rattle.lfm_condvar.specs.declared.condvars.Condvar.{Condvar}
-use Rattle.lfm_condvar.specs.declared.seats.CondSeat.{CondSeat}
+use Rattle.lfm_condvar.specs.declared.condvar.Condvar.{Condvar}
+use Rattle.lfm_condvar.specs.declared.cond_seat.CondSeat.{CondSeat}
 use Rattle.lfm_condvar.specs.declared.waiters.Waiters.{Waiters}
 use Rattle.lfm_condvar.specs.Belongs.{Of_condvar, cond_limits, cond_sight}
 use Rattle.lfm_condvar.specs.Keeping.{Is_new}

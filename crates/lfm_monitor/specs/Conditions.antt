@@ -11,12 +11,12 @@ use Rattle.lfm_model.specs.declared.refusals.Refusal.{Refusal}
 use Rattle.lfm_model.specs.Journals.{entry}
 use Rattle.lfm_protocol.specs.declared.limits.Limits.{Limits}
 use Rattle.lfm_mutex.specs.calls.Sight.{Sight}
-use Rattle.lfm_condvar.specs.declared.seats.CondSeat.{CondSeat}
+use Rattle.lfm_condvar.specs.declared.cond_seat.CondSeat.{CondSeat}
 use Rattle.lfm_condvar.specs.declared.waiters.Waiters.{Waiters}
 use Rattle.lfm_condvar.specs.Belongs.{cond_sight}
 use Rattle.lfm_condvar.specs.Waits.{Wait_ends as Cond_wait_ends}
 use Rattle.lfm_condvar.specs.Wakes.{Wake_one_ends as Cond_wake_one_ends, Wake_all_ends as Cond_wake_all_ends}
-use Rattle.lfm_monitor.specs.declared.journals.Journaled.{Journaled}
+use Rattle.lfm_monitor.specs.declared.journaled.Journaled.{Journaled}
 use Rattle.lfm_monitor.specs.Journaled.{Fits, Follows, Same_monitor}
 use Rattle.lfm_monitor.specs.Passes.{Enters, journal_of}
 

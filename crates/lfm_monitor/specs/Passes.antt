@@ -10,7 +10,7 @@ use Rattle.lfm_model.specs.declared.refusals.Refusal.{Refusal}
 use Rattle.lfm_model.specs.Journals.{after_all, Lawful, one_to, own, entry, stamps, taker_from}
 use Rattle.lfm_mutex.specs.calls.Trails.{Seen}
 use Rattle.lfm_mutex.specs.calls.Sight.{Sight, Busy_seen, Deepens}
-use Rattle.lfm_monitor.specs.declared.journals.Journaled.{Journaled}
+use Rattle.lfm_monitor.specs.declared.journaled.Journaled.{Journaled}
 use Rattle.lfm_monitor.specs.Journaled.{Fits, Follows}
 
 module _ {O A R : Type 0} {K : _} where

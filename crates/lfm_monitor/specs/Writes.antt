@@ -5,7 +5,7 @@ use Rattle.lfm_model.specs.Journals.{own, entry}
 use Rattle.lfm_mutex.specs.declared.seat.Seat.{Seat}
 use Rattle.lfm_mutex.specs.calls.Sight.{sight}
 use Rattle.lfm_mutex.specs.Belongs.{Beside}
-use Rattle.lfm_monitor.specs.declared.journals.Journaled.{Journaled}
+use Rattle.lfm_monitor.specs.declared.journaled.Journaled.{Journaled}
 use Rattle.lfm_monitor.specs.Journaled.{Same_monitor}
 
 module _ {O A R : Type 0} {K : _} where

@@ -2,8 +2,8 @@
 ghost use Rattle.lfm_monitor.specs.Belongs.{Of_monitor, opening_of, pass_sight};
 ghost use Rattle.lfm_monitor.specs.Passes.{Is_legal};
 
-use crate::monitors::Monitor;
-use crate::passes::Pass;
+use crate::monitor::Monitor;
+use crate::pass::Pass;
 use lfm_model::Object;
 
 /// Whatever a pass has in hand is legal: the journal is lawful, its replay from the opening object gives the object, and its

@@ -2,23 +2,25 @@
 //! passes. At every hold the journal is lawful, and its replay from the opening object is the object.
 #![tactic(auto)]
 
-mod closing;
-mod entering;
-mod guarding;
-mod holders;
-mod holding;
-pub mod journals;
+mod apply;
+mod close;
+mod enter;
+mod holder;
+pub mod journaled;
+mod kept;
 pub mod laws;
-pub mod monitors;
-mod numbering;
-mod opening;
-pub mod passes;
-mod trying;
-mod waiting;
-mod waking;
-mod writing;
+mod leave;
+pub mod monitor;
+mod open;
+pub mod pass;
+mod place_of;
+mod receive;
+mod try_enter;
+mod wait;
+mod wake;
+mod write;
 
-pub use journals::Journaled;
-pub use monitors::Monitor;
-pub use opening::{MAX_CONDITIONS, MAX_ENTRIES};
-pub use passes::Pass;
+pub use journaled::Journaled;
+pub use monitor::Monitor;
+pub use open::{MAX_CONDITIONS, MAX_ENTRIES};
+pub use pass::Pass;

@@ -1,8 +1,8 @@
 -- Which passes are a monitor's, as the tests in one thread say it.
 use Rattle.lfm_model.specs.declared.objects.Total.{Total}
 use Rattle.lfm_model.specs.declared.objects.TotalOp.{TotalOp}
-use Rattle.lfm_monitor.specs.declared.monitors.Monitor.{Monitor}
-use Rattle.lfm_monitor.specs.declared.passes.Pass.{Pass}
+use Rattle.lfm_monitor.specs.declared.monitor.Monitor.{Monitor}
+use Rattle.lfm_monitor.specs.declared.pass.Pass.{Pass}
 use Rattle.lfm_monitor.specs.Belongs.{Of_monitor}
 
 module _ {R : Type 0} {K : _} where

@@ -1,7 +1,7 @@
 pub mod calls
 pub mod Belongs
-pub mod Closing
+pub mod Close
 pub mod Fresh
 pub mod Laws
-pub mod Lending
+pub mod ValueMut
 pub use Rattle.lfm_table.specs.Reach

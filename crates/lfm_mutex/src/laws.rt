@@ -1,6 +1,6 @@
 //! The laws of the running mutex. Each function here does nothing: its contract is the law. They are facts of the rule that
-//! the table keeps at every moment, whatever threads step on it: `Held` in `specs/table/Rule.antt`. That each atomic step
-//! keeps the rule is asked, and proved, at each of the steps in `table_steps`.
+//! the table keeps at every moment, whatever threads step on it: `Held` in `specs/Rule.antt` of `lfm_table`. That each atomic
+//! step keeps the rule is asked, and proved, at each of the steps in `table_steps` of `lfm_table`.
 ghost use Rattle.lfm_mutex.specs.Laws.{PostsAreWatched, QuietTablesRest, TablesAreSteady, TakesFindARecord};
 
 use lfm_table::Kept;
@@ -8,7 +8,7 @@ use lfm_table::Kept;
 /// The running mutex is the core: at every moment its words and seats are a steady, and so a lawful, state of the core. So
 /// every law of the core that speaks of a steady state holds of them.
 ///
-/// Definition: `TablesAreSteady` in `specs/Laws.antt`. Proof: `proofs/laws`.
+/// Definition: `TablesAreSteady` in `specs/Laws.antt`. Proof: `proofs/LawsHeld.antt`.
 pub fn tables_are_steady<T: Kept>()
     ensures { TablesAreSteady T.follows T.fits }
 {}
@@ -16,7 +16,7 @@ pub fn tables_are_steady<T: Kept>()
 /// No lost wake-up: while a handoff is posted, some call in flight will still look at it, or has looked and will try to
 /// take it.
 ///
-/// Definition: `PostsAreWatched` in `specs/Laws.antt`.
+/// Definition: `PostsAreWatched` in `specs/Laws.antt`. Proof: `proofs/LawsHeld.antt`.
 pub fn posts_are_watched<T: Kept>()
     ensures { PostsAreWatched T.follows T.fits }
 {}
@@ -24,14 +24,14 @@ pub fn posts_are_watched<T: Kept>()
 /// When no call is in flight, no handoff is left posted. If the count is then above 0, either a seat holds the mutex, or
 /// a sleeping seat has a grant in its wake word.
 ///
-/// Definition: `QuietTablesRest` in `specs/Laws.antt`.
+/// Definition: `QuietTablesRest` in `specs/Laws.antt`. Proof: `proofs/LawsHeld.antt`.
 pub fn quiet_tables_rest<T: Kept>()
     ensures { QuietTablesRest T.follows T.fits }
 {}
 
 /// A call that has won the exchange of a posted handoff finds a record when it clears the push list.
 ///
-/// Definition: `TakesFindARecord` in `specs/Laws.antt`.
+/// Definition: `TakesFindARecord` in `specs/Laws.antt`. Proof: `proofs/LawsHeld.antt`.
 pub fn takes_find_a_record<T: Kept>()
     ensures { TakesFindARecord T.follows T.fits }
 {}

@@ -3,23 +3,25 @@
 //! steps of other seats, each as `Kept` of the value allows it.
 #![tactic(auto)]
 
-mod asking;
 mod calls;
-mod closing;
-pub mod holders;
+mod close;
+pub mod holder;
 pub mod laws;
-mod lending;
+mod lock;
 pub mod mutex;
-mod opening;
+mod open;
 mod owner;
+mod receive;
 pub mod seat;
+mod send;
 pub mod steps;
-mod trying;
-mod unlocking;
-mod waiting;
+mod try_lock;
+mod unlock;
+mod value_mut;
+mod wait;
 
-pub use holders::Holder;
+pub use holder::Holder;
 pub use lfm_table::Kept;
 pub use mutex::Mutex;
+pub use receive::LOOKS_BEFORE_SLEEP;
 pub use seat::Seat;
-pub use waiting::LOOKS_BEFORE_SLEEP;

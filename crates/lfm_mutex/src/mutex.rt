@@ -1,4 +1,4 @@
-//! The mutex: its words, and how many seats and takes it allows. Its calls are in `calls`, `waiting` and `owner`.
+//! The mutex: its words, and how many seats and takes it allows. Each of its calls has a file of its name.
 ghost use Rattle.std.specs.Prelude.{◌≡◌, ◌+◌, ◌*◌, ◌<◌, ◌≤◌};
 
 use atomic_table::Table;

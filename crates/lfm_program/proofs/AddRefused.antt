@@ -6,9 +6,9 @@ use Rattle.lfm_model.specs.declared.objects.Total.{Total}
 use Rattle.lfm_model.specs.declared.objects.TotalOp.{TotalOp}
 use Rattle.lfm_model.specs.declared.refusals.Refusal.{Refusal}
 use Rattle.lfm_model.specs.declared.refusals.Refusal.TheVariants.{Asleep, NotOwner, Nested, DepthFull, Spent, NoSuchSeat, NotWaiting, Busy}
-use Rattle.lfm_mutex.specs.Closing.{Idle}
-use Rattle.lfm_monitor.specs.declared.monitors.Monitor.{Monitor}
-use Rattle.lfm_monitor.specs.declared.passes.Pass.{Pass}
+use Rattle.lfm_mutex.specs.Close.{Idle}
+use Rattle.lfm_monitor.specs.declared.monitor.Monitor.{Monitor}
+use Rattle.lfm_monitor.specs.declared.pass.Pass.{Pass}
 use Rattle.lfm_monitor.specs.Belongs.{mine_of, pass_sight, share_of}
 use Rattle.lfm_monitor.specs.Passes.{Apply_ends, Enter_ends}
 use Rattle.lfm_script.specs.declared.script.Command.TheVariants.{Add}

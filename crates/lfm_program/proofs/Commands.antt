@@ -16,9 +16,9 @@ use Rattle.lfm_model.specs.declared.refusals.Refusal.{Refusal}
 use Rattle.lfm_model.specs.declared.refusals.Refusal.TheVariants.{Asleep, NotOwner, Nested, DepthFull, Spent, NoSuchSeat, NotWaiting, Busy}
 use Rattle.lfm_model.specs.Journals.{own, entry}
 use Rattle.lfm_model.proofs.JournalLists.{own-append}
-use Rattle.lfm_mutex.specs.Closing.{Idle}
+use Rattle.lfm_mutex.specs.Close.{Idle}
 use Rattle.lfm_mutex.specs.calls.Sight.{Sight}
-use Rattle.lfm_monitor.specs.declared.journals.Journaled.{Journaled}
+use Rattle.lfm_monitor.specs.declared.journaled.Journaled.{Journaled}
 use Rattle.lfm_monitor.specs.Conditions.{Only_sends, Wait_returns}
 use Rattle.lfm_monitor.specs.Passes.{journal_of, journal_at, found_or, Enters, Comes_in, Enter_ends, Applies, Apply_ends, Leave_ends}
 use Rattle.lfm_script.specs.declared.script.Command.{Command}

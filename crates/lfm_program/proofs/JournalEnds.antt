@@ -10,7 +10,7 @@ use Rattle.lfm_model.specs.declared.refusals.Missing.TheVariants.{NotBack, Holdi
 use Rattle.lfm_model.specs.declared.journals.Entry.{Entry}
 use Rattle.lfm_model.specs.Journals.{own, Within, sum_to, total}
 use Rattle.lfm_model.proofs.Sums.{one_at, one_same, one_other, sum_add, sum_ext, sum_none}
-use Rattle.lfm_mutex.specs.Closing.{First_missing, Hinders, Idle}
+use Rattle.lfm_mutex.specs.Close.{First_missing, Hinders, Idle}
 use Rattle.lfm_mutex.specs.calls.Sight.{Sight}
 
 one_past : (k n : ℕ) → n < k → sum_to (one_at k) n ≡ 0

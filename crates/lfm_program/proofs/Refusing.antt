@@ -9,23 +9,23 @@ use Rattle.lfm_model.specs.declared.objects.Total.{Total}
 use Rattle.lfm_model.specs.declared.objects.TotalOp.{TotalOp}
 use Rattle.lfm_model.specs.declared.refusals.Refusal.{Refusal}
 use Rattle.lfm_model.specs.declared.refusals.Refusal.TheVariants.{Asleep, NotOwner, Nested, DepthFull, Spent, NoSuchSeat, NotWaiting, Busy}
-use Rattle.lfm_mutex.specs.Closing.{Idle}
+use Rattle.lfm_mutex.specs.Close.{Idle}
 use Rattle.lfm_mutex.specs.calls.Sight.{Sight}
-use Rattle.lfm_condvar.specs.declared.seats.CondSeat.{CondSeat}
+use Rattle.lfm_condvar.specs.declared.cond_seat.CondSeat.{CondSeat}
 use Rattle.lfm_condvar.specs.declared.waiters.Waiters.{Waiters}
 use Rattle.lfm_condvar.specs.Belongs.{cond_sight}
 use Rattle.lfm_condvar.specs.Lists.{times}
 use Rattle.lfm_condvar.specs.Waits.{Wait_ends as Cond_wait_ends}
 use Rattle.lfm_condvar.specs.Wakes.{Wake_all_ends as Cond_wake_all_ends, Wake_one_ends as Cond_wake_one_ends}
-use Rattle.lfm_monitor.specs.declared.journals.Journaled.{Journaled}
-use Rattle.lfm_monitor.specs.declared.monitors.Monitor.{Monitor}
-use Rattle.lfm_monitor.specs.declared.passes.Pass.{Pass}
+use Rattle.lfm_monitor.specs.declared.journaled.Journaled.{Journaled}
+use Rattle.lfm_monitor.specs.declared.monitor.Monitor.{Monitor}
+use Rattle.lfm_monitor.specs.declared.pass.Pass.{Pass}
 use Rattle.lfm_monitor.specs.Belongs.{cond_seats_of, conditions_of, mine_of, mutex_limits, pass_sight, passes_of, share_of}
 use Rattle.lfm_monitor.specs.CondSeats.{condition_limits}
 use Rattle.lfm_monitor.specs.Conditions.{Is_spent, On_condition, Wait_ends, Wake_all_ends, Wake_one_ends}
 use Rattle.lfm_monitor.specs.Journaled.{Fits, Follows}
 use Rattle.lfm_monitor.specs.Passes.{Leave_ends}
-use Rattle.lfm_program.specs.declared.performing.Performed.TheVariants.{Refused}
+use Rattle.lfm_program.specs.declared.performed.Performed.TheVariants.{Refused}
 use Rattle.lfm_script.specs.declared.script.Command.{Command}
 use Rattle.lfm_script.specs.declared.script.Command.TheVariants.{Until}
 use Rattle.lfm_script.specs.Adds.{all_adds}

@@ -8,14 +8,14 @@ use Rattle.lfm_model.specs.declared.objects.TotalOp.{TotalOp}
 use Rattle.lfm_model.specs.declared.journals.Entry.{Entry}
 use Rattle.lfm_model.specs.declared.refusals.Refusal.{Refusal}
 use Rattle.lfm_model.specs.Journals.{Within, own, sum_to, total}
-use Rattle.lfm_mutex.specs.Closing.{Idle}
-use Rattle.lfm_monitor.specs.declared.monitors.Monitor.{Monitor}
-use Rattle.lfm_monitor.specs.declared.passes.Pass.{Pass}
+use Rattle.lfm_mutex.specs.Close.{Idle}
+use Rattle.lfm_monitor.specs.declared.monitor.Monitor.{Monitor}
+use Rattle.lfm_monitor.specs.declared.pass.Pass.{Pass}
 use Rattle.lfm_monitor.specs.Begun.{New_pass}
 use Rattle.lfm_monitor.specs.Belongs.{Of_monitor, mine_of, pass_sight}
 use Rattle.lfm_monitor.specs.Passes.{journal_of}
-use Rattle.lfm_program.specs.declared.performing.Performed.{Performed}
-use Rattle.lfm_program.specs.declared.performing.Performed.TheVariants.{Done, Refused, Stuck}
+use Rattle.lfm_program.specs.declared.performed.Performed.{Performed}
+use Rattle.lfm_program.specs.declared.performed.Performed.TheVariants.{Done, Refused, Stuck}
 use Rattle.lfm_script.specs.declared.script.Command.{Command}
 use Rattle.lfm_script.specs.declared.script.ScriptLine.{ScriptLine}
 use Rattle.lfm_script.specs.Adds.{adds, all_adds}

@@ -1,6 +1,6 @@
 -- What a worker's thread is given, and what it gives back, may move to another thread.
 use Rattle.lfm_condvar.specs.contracts.seats.CondSeat as CondSeat
-use Rattle.lfm_condvar.proofs.seats.CondSeat.TheSendSync as CondSeatSend
+use Rattle.lfm_condvar.proofs.cond_seat.CondSeat.TheSendSync as CondSeatSend
 use Rattle.lfm_model.specs.contracts.objects.Total as Total
 use Rattle.lfm_model.specs.contracts.objects.TotalOp as TotalOp
 use Rattle.lfm_model.specs.contracts.objects.TotalObject.TheImpl as TheImpl
@@ -11,7 +11,7 @@ use Rattle.lfm_monitor.specs.contracts.monitors.Monitor as Monitor
 use Rattle.lfm_monitor.specs.contracts.passes.Pass as Pass
 use Rattle.lfm_monitor.proofs.Moving.{journaled_send, monitor_sync, pass_send}
 use Rattle.lfm_mutex.proofs.seat.Seat.TheSendSync as SeatSend
-use Rattle.lfm_program.proofs.performing.Performed.TheSendSync as PerformedSend
+use Rattle.lfm_program.proofs.performed.Performed.TheSendSync as PerformedSend
 use Rattle.lfm_script.proofs.script.Command.TheSendSync as CommandSend
 use Rattle.lfm_program.proofs.starting_line.StartingLine.TheSendSync as LineSend
 use Rattle.lfm_script.specs.contracts.script.Command as Command

@@ -7,18 +7,18 @@ use Rattle.lfm_model.specs.declared.objects.TotalOp.{TotalOp}
 use Rattle.lfm_model.specs.declared.refusals.Refusal.{Refusal}
 use Rattle.lfm_protocol.specs.Limits.{max_budget}
 use Rattle.lfm_mutex.specs.calls.Sight.{Sight, Sends}
-use Rattle.lfm_condvar.specs.declared.seats.CondSeat.{CondSeat}
+use Rattle.lfm_condvar.specs.declared.cond_seat.CondSeat.{CondSeat}
 use Rattle.lfm_condvar.specs.declared.waiters.Waiter.{Waiter}
 use Rattle.lfm_condvar.specs.declared.waiters.Waiters.{Waiters}
 use Rattle.lfm_condvar.specs.Belongs.{cond_sight}
 use Rattle.lfm_condvar.specs.Lists.{times}
-use Rattle.lfm_monitor.specs.declared.journals.Journaled.{Journaled}
-use Rattle.lfm_monitor.specs.declared.monitors.Monitor.{Monitor}
-use Rattle.lfm_monitor.specs.declared.passes.Pass.{Pass}
+use Rattle.lfm_monitor.specs.declared.journaled.Journaled.{Journaled}
+use Rattle.lfm_monitor.specs.declared.monitor.Monitor.{Monitor}
+use Rattle.lfm_monitor.specs.declared.pass.Pass.{Pass}
 use Rattle.lfm_monitor.specs.Belongs.{cond_seats_of, conditions_of, mine_of, pass_sight, passes_of, share_of}
 use Rattle.lfm_monitor.specs.Conditions.{Is_missing}
-use Rattle.lfm_program.specs.declared.performing.Performed.{Performed}
-use Rattle.lfm_program.specs.declared.performing.Performed.TheVariants.{Done, Refused, Stuck}
+use Rattle.lfm_program.specs.declared.performed.Performed.{Performed}
+use Rattle.lfm_program.specs.declared.performed.Performed.TheVariants.{Done, Refused, Stuck}
 use Rattle.lfm_script.specs.declared.script.Command.{Command}
 use Rattle.lfm_script.specs.declared.script.Command.TheVariants.{Add, Until, One, All}
 use Rattle.lfm_script.specs.Adds.{all_adds}

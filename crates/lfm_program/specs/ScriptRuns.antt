@@ -5,12 +5,12 @@ use lib.ListN.{get_elem?}
 use Rattle.lfm_model.specs.declared.objects.Total.{Total}
 use Rattle.lfm_model.specs.declared.objects.TotalOp.{TotalOp}
 use Rattle.lfm_model.specs.declared.refusals.Refusal.{Refusal}
-use Rattle.lfm_monitor.specs.declared.monitors.Monitor.{Monitor}
-use Rattle.lfm_monitor.specs.declared.passes.Pass.{Pass}
+use Rattle.lfm_monitor.specs.declared.monitor.Monitor.{Monitor}
+use Rattle.lfm_monitor.specs.declared.pass.Pass.{Pass}
 use Rattle.lfm_monitor.specs.Begun.{New_pass, max_entries}
 use Rattle.lfm_monitor.specs.Belongs.{conditions_of, opening_of, passes_of, share_of}
-use Rattle.lfm_program.specs.declared.performing.Performed.{Performed}
-use Rattle.lfm_program.specs.declared.performing.Performed.TheVariants.{Done, Refused, Stuck}
+use Rattle.lfm_program.specs.declared.performed.Performed.{Performed}
+use Rattle.lfm_program.specs.declared.performed.Performed.TheVariants.{Done, Refused, Stuck}
 use Rattle.lfm_program.specs.declared.workers.Worked.{Worked}
 
 module _ {R : Type 0} {K : _} where

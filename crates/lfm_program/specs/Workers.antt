@@ -2,12 +2,12 @@
 use Rattle.std.specs.Prelude.{◌≡◌, ◌≢◌, List}
 use Rattle.lfm_model.specs.declared.objects.Total.{Total}
 use Rattle.lfm_model.specs.declared.objects.TotalOp.{TotalOp}
-use Rattle.lfm_mutex.specs.Closing.{Idle}
-use Rattle.lfm_monitor.specs.declared.monitors.Monitor.{Monitor}
-use Rattle.lfm_monitor.specs.declared.passes.Pass.{Pass}
+use Rattle.lfm_mutex.specs.Close.{Idle}
+use Rattle.lfm_monitor.specs.declared.monitor.Monitor.{Monitor}
+use Rattle.lfm_monitor.specs.declared.pass.Pass.{Pass}
 use Rattle.lfm_monitor.specs.Belongs.{Of_monitor, pass_sight}
-use Rattle.lfm_program.specs.declared.performing.Performed.{Performed}
-use Rattle.lfm_program.specs.declared.performing.Performed.TheVariants.{Stuck}
+use Rattle.lfm_program.specs.declared.performed.Performed.{Performed}
+use Rattle.lfm_program.specs.declared.performed.Performed.TheVariants.{Stuck}
 use Rattle.lfm_script.specs.declared.script.Command.{Command}
 use Rattle.lfm_program.specs.Causes.{Refused_for_cause}
 use Rattle.lfm_program.specs.Performs.{All_performed, own_adds}

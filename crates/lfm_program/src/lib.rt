@@ -4,8 +4,8 @@
 
 pub mod driving;
 pub mod gates;
-pub mod performing;
-mod script_runs;
+pub mod performed;
+mod script_run;
 pub mod starting_line;
 mod workers;
 pub mod working;
@@ -17,6 +17,6 @@ pub use lfm_script::{
     commands_by_worker, faults, read_script, replay_status, report, report_laws, report_work,
     reporting, rows, rows_of, script, status, statuses, work_report, write_fault, write_report,
 };
-pub use performing::{Performed, perform};
+pub use performed::{Performed, perform};
 pub use starting_line::StartingLine;
 pub use working::work;

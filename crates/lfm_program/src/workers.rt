@@ -5,7 +5,7 @@ ghost use lib.ListN.{get_elem?};
 ghost use mathlib.Core.Option.{some};
 
 use crate::gates::Gate;
-use crate::performing::{Performed, perform};
+use crate::performed::{Performed, perform};
 use crate::starting_line::StartingLine;
 use lfm_model::Total;
 use lfm_monitor::{Monitor, Pass};

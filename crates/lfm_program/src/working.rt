@@ -10,7 +10,7 @@ ghost use Rattle.lfm_script.specs.script.Limits.{header_allowed, lines_allowed};
 ghost use Rattle.std.specs.Io.KnownBytes.{Appends};
 
 use crate::gates::Gate;
-use crate::script_runs::{ScriptRun, run_script};
+use crate::script_run::{ScriptRun, run_script};
 use lfm_script::{Script, WorkFault, read_script, write_fault, write_report};
 use lfm_text::{WriteFault, flush, read_input};
 use std::alloc::Global;

@@ -28,7 +28,7 @@ use Rattle.lfm_table.specs.declared.seat_view.Role.TheVariants.{User, Retired}
 use Rattle.lfm_table.specs.declared.seat_view.Joined.{Joined}
 use Rattle.lfm_table.specs.declared.seat_view.View.{View}
 use Rattle.lfm_table.specs.declared.rule.Moving.{Moving}
-use Rattle.lfm_mutex.specs.Closing.{Hinders, Hindered, named, Are_free}
+use Rattle.lfm_mutex.specs.Close.{Hinders, Hindered, named, Are_free}
 use Rattle.lfm_mutex.proofs.ends.FreeWords.{free_core}
 use Rattle.lfm_table.specs.Reach.{Reached}
 use Rattle.lfm_mutex.specs.calls.Sight.{Sight, is_asleep, by_depth}

@@ -8,7 +8,7 @@ use Rattle.lfm_core.specs.laws.Laws.{IsHeld, IsGranted}
 use Rattle.lfm_core.specs.steady.Ghost.{Ghost}
 use Rattle.lfm_core.specs.steady.Steady.{Fits, Steady, cleared}
 use Rattle.lfm_core.proofs.lawful.states.StateLaws.{quiescent_states_rest}
-use Rattle.lfm_mutex.specs.Closing.{Is_free}
+use Rattle.lfm_mutex.specs.Close.{Is_free}
 
 empty : {A : Type 0} (l : List A) → length l ≡ 0 → l ≡ []
 empty [] e = refl

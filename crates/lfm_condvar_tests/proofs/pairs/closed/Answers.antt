@@ -1,7 +1,7 @@
 use Rattle.std.proofs.Common.{List, ℕ, ap, sym, ◌∙◌}
 use mathlib.Core.Option.{some-ne-none}
 use lib.ListN.{get_elem?}
-use Rattle.lfm_condvar.specs.declared.seats.CondSeat.{CondSeat}
+use Rattle.lfm_condvar.specs.declared.cond_seat.CondSeat.{CondSeat}
 use Rattle.lfm_condvar.specs.Belongs.{Of_condvar}
 use Rattle.lfm_condvar.proofs.Begins.{and_last}
 use Rattle.lfm_condvar_tests.proofs.pairs.closed.Goals as goal

@@ -6,7 +6,7 @@ use Rattle.std.specs.List.{remove}
 use Rattle.std.specs.Slots.{slots_items}
 use Rattle.atomic_table.specs.Table.{Final, Seen}
 use Rattle.lfm_table.specs.declared.rule.Moving.{Moving}
-use Rattle.lfm_mutex.specs.Closing.{Idle}
+use Rattle.lfm_mutex.specs.Close.{Idle}
 use Rattle.lfm_table.specs.Reach.{Reached}
 use Rattle.lfm_table.specs.Rule.{Held, joined_of}
 use Rattle.lfm_table.proofs.tables.RuleKept.{length_at}

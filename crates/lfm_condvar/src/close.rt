@@ -1,0 +1,43 @@
+//! How a condvar is closed: with its inner mutex.
+ghost use Rattle.std.specs.Prelude.{◌≡◌, ℕ, IfErr, IfOk, Some};
+ghost use mathlib.Core.Option.{some};
+ghost use lib.ListN.{get_elem?};
+ghost use Rattle.lfm_mutex.specs.Close.{All_stand, First_missing, Left_last};
+ghost use Rattle.lfm_condvar.specs.Belongs.{Of_condvar, Same_condvar, cond_limits, cond_sight};
+ghost use Rattle.lfm_condvar.specs.Keeping.{Since};
+
+use crate::cond_seat::CondSeat;
+use crate::condvar::Condvar;
+use lfm_model::Missing;
+
+impl Condvar {
+    /// Ends the condvar and answers how many tickets were sent, and how many were added, where all its cond seats are there.
+    /// The numbers are those of the list that a cond seat left last, or 0 and 0 where none has had the list. Otherwise it
+    /// hands back the condvar and the cond seats, and names the first that isn't. It compares each of the seats' numbers
+    /// with each handed in, takes no memory and never waits.
+    pub fn close(
+        self,
+        seats: Vec<CondSeat>,
+    ) -> Result<(u64, u64), (Condvar, Vec<CondSeat>, Missing)>
+        requires belongs { (j : ℕ) (s : _) → get_elem? seats.items j ≡ some s → Of_condvar s self }
+        ensures missing { IfErr result (λ e. Same_condvar self e.0 × (e.1 ≡ seats) × First_missing (λ s. cond_sight s) seats.items (cond_limits self).seats e.2) }
+        ensures all { IfOk result (λ _. All_stand (λ s. cond_sight s) seats.items (cond_limits self).seats) }
+        ensures numbers { IfOk result (λ r. (w : _) × (r.0 ≡ w.sent) × (r.1 ≡ w.added) × ((j : ℕ) (s : _) (l : _) → get_elem? seats.items j ≡ some s → (cond_sight s).last ≡ Some l → Since (cond_sight s).number l w) × Left_last (λ s. cond_sight s) seats.items w) }
+    {
+        let Condvar {
+            inner,
+            seats: user_seats,
+        } = self;
+        match inner.close(seats) {
+            Ok(waiters) => Ok(waiters.numbers()),
+            Err((inner, seats, missing)) => Err((
+                Condvar {
+                    inner,
+                    seats: user_seats,
+                },
+                seats,
+                missing,
+            )),
+        }
+    }
+}

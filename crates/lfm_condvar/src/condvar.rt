@@ -1,0 +1,16 @@
+//! The condvar: its inner mutex round the list. Its calls are in `open`, `wait`, `wake` and `close`.
+ghost use Rattle.std.specs.Prelude.{◌≡◌};
+ghost use Rattle.lfm_mutex.specs.Belongs.{limits_of};
+
+use crate::waiters::Waiters;
+use lfm_mutex::Mutex;
+
+/// A condition variable: user seats that wait, and are sent in the order in which they came. It is used with one user mutex;
+/// that every call names the same one is left to the caller. A call with the seat of another condvar or mutex breaks the
+/// condition that every call has.
+#[derive(Drop)]
+pub struct Condvar {
+    pub(crate) inner: Mutex<Waiters>,
+    pub(crate) seats: u64,
+    pub ghost numbered: { seats ≡ (limits_of inner).seats },
+}

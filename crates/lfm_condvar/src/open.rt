@@ -1,0 +1,64 @@
+//! How a condvar is made: an inner mutex round an empty list, and a cond seat for each of its seats.
+ghost use Rattle.std.specs.Prelude.{◌≡◌, ◌+◌, ◌≤◌, ℕ, IfErr, IfOk, [], true, false, vec_capacity, vec_len};
+ghost use mathlib.Core.Option.{some};
+ghost use lib.ListN.{get_elem?};
+ghost use Rattle.lfm_model.specs.declared.refusals.NewFault.{NewFault};
+ghost use Rattle.lfm_protocol.specs.Limits.{are_in_limits};
+ghost use Rattle.lfm_mutex.specs.calls.Sight.{new_sight, sight};
+ghost use Rattle.lfm_condvar.specs.Belongs.{Of_condvar, cond_limits, cond_sight};
+ghost use Rattle.lfm_condvar.specs.Holds.{Cond_kept};
+ghost use Rattle.lfm_condvar.specs.Keeping.{Is_new};
+
+use crate::cond_seat::CondSeat;
+use crate::condvar::Condvar;
+use crate::waiters::Waiters;
+use lfm_model::NewFault;
+use lfm_mutex::{Mutex, Seat};
+use lfm_protocol::Limits;
+use std::alloc::Global;
+
+// Each seat of an inner mutex as a cond seat.
+fn as_cond_seats(seats: Vec<Seat<Waiters>>, mut cond_seats: Vec<CondSeat>) -> Vec<CondSeat>
+    requires room { vec_len seats ≤ vec_capacity cond_seats }
+    requires none { cond_seats.items ≡ [] }
+    requires kept { (j : ℕ) (s : _) → get_elem? seats.items j ≡ some s → Cond_kept (sight s) }
+    ensures len { vec_len result ≡ vec_len seats }
+    ensures wraps { (j : ℕ) (s : _) → get_elem? result.items j ≡ some s → get_elem? seats.items j ≡ some s.seat }
+{
+    'wrapped: for seat in seats {
+        cond_seats.push_reserved(CondSeat { seat });
+    }
+    cond_seats
+}
+
+impl Condvar {
+    /// A condvar on which nobody waits, and its cond seats in order, numbered from 1. `seats` is 1 to 4,095, and `budget`,
+    /// how many waits and wakes each cond seat may make, 1 to 2^36. A user seat may wait on it if its number is at most
+    /// `seats`.
+    ///
+    /// Outside these limits it answers Limit, and asks for no memory. It answers Memory where a request for memory was
+    /// refused. No other call of a condvar takes memory.
+    pub fn new(alloc: Global, seats: u64, budget: u64) -> Result<(Condvar, Vec<CondSeat>), NewFault>
+        ensures limits { IfOk result (λ r. (cond_limits r.0 ≡ record { seats = seats; budget = budget }) × (are_in_limits seats budget ≡ true)) }
+        ensures seats { IfOk result (λ r. (vec_len r.1 ≡ seats) × ((v : _) × Is_new v × ((j : ℕ) (s : _) → get_elem? r.1.items j ≡ some s → Of_condvar s r.0 × (cond_sight s ≡ new_sight v (j + 1))))) }
+        ensures limit { are_in_limits seats budget ≡ false → IfErr result (λ e. e ≡ NewFault.Limit) × IfOk result (λ _. ⊥) }
+        ensures memory { are_in_limits seats budget ≡ true → IfErr result (λ e. e ≡ NewFault.Memory) }
+    {
+        let limits = Limits { seats, budget };
+        if !limits.are_allowed() {
+            return Err(NewFault::Limit);
+        }
+        let Ok(cond_seats) = Vec::with_capacity(alloc, seats as usize) else {
+            return Err(NewFault::Memory);
+        };
+        let Ok(waiters) = Waiters::empty(alloc, seats, budget) else {
+            return Err(NewFault::Memory);
+        };
+        let (inner, inner_seats) = match Mutex::new(alloc, seats, budget, waiters) {
+            Ok(made) => made,
+            Err(fault) => return Err(fault),
+        };
+        let cond_seats = as_cond_seats(inner_seats, cond_seats);
+        Ok((Condvar { inner, seats }, cond_seats))
+    }
+}

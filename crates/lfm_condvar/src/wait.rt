@@ -1,0 +1,110 @@
+//! How a seat waits: it is enlisted in one hold of the inner mutex, and sleeps until it is sent.
+ghost use Rattle.std.specs.Prelude.{◌≡◌, ◌<◌, ◌≤◌, ℕ, Some, IfErr, slice_index};
+ghost use Rattle.lfm_model.specs.declared.refusals.Refusal.TheVariants.{Busy};
+ghost use Rattle.lfm_mutex.specs.Belongs.{Beside, Of_mutex, limits_of};
+ghost use Rattle.lfm_mutex.specs.calls.Sight.{sight, May_leave};
+ghost use Rattle.lfm_condvar.specs.Belongs.{Of_condvar, cond_limits, cond_sight};
+ghost use Rattle.lfm_condvar.specs.Holds.{Held_by, Held_once, Rewrites};
+ghost use Rattle.lfm_condvar.specs.Waits.{Enlists, May_wait, Wait_ends};
+
+use crate::cond_seat::CondSeat;
+use crate::condvar::Condvar;
+use crate::hold::{leave_list, lock_list};
+use crate::waiters::enlist::enlist;
+use crate::waiters::{Waiters, bars_wait};
+use lfm_model::{How, Refusal};
+use lfm_mutex::{Kept, Mutex, Seat};
+use std::sync::Wait;
+
+// A waiter is sent after a time that nobody knows, so it sleeps after its first look.
+const LOOKS: u32 = 0;
+
+// Lends the list in hand to `enlist`.
+fn enlist_in_hand<T: Kept>(
+    cond: &mut Seat<Waiters>,
+    mutex: &Mutex<T>,
+    seat: &mut Seat<T>,
+) -> Result<u64, Refusal>
+    requires belongs { Of_mutex seat.old mutex.now }
+    requires held { 0 < (sight cond.old).depth }
+    requires may { (v : _) → (sight cond.old).value ≡ Some v → ((sight cond.old).number ≤ v.seats) × (slice_index v.counts.items (sight cond.old).number < v.budget) }
+    requires leaves { May_leave T.follows T.fits (sight seat.old) }
+    ensures belongs { Beside cond.old cond.new × Beside seat.old seat.new }
+    ensures enlists { (v : _) × (w : _) × Rewrites (sight cond.old) (sight cond.new) v w × Enlists (limits_of mutex.now) (sight cond.old).number (sight seat.old) (sight seat.new) v w result }
+{
+    let by = cond.number();
+    let Some(waiters) = cond.value_mut() else {
+        unreachable!()
+    };
+    enlist(waiters, by, mutex, seat)
+}
+
+impl Condvar {
+    // Enlists the user seat in one hold of the inner mutex. Only Busy is left to refuse it.
+    fn enlist_in_one_hold<T: Kept, R: Wait>(
+        &self,
+        rt: &R,
+        cond: &mut CondSeat,
+        mutex: &Mutex<T>,
+        seat: &mut Seat<T>,
+    ) -> Result<u64, Refusal>
+        requires belongs { Of_condvar cond.old self.now × Of_mutex seat.old mutex.now }
+        requires leaves { May_leave T.follows T.fits (sight seat.old) }
+        requires may { May_wait (limits_of mutex.now).budget (sight seat.old) }
+        requires spare { (cond_sight cond.old).takes < (cond_limits self.now).budget }
+        requires known { (sight seat.old).number ≤ (cond_limits self.now).seats }
+        ensures belongs { Of_condvar cond.new self.now × Beside seat.old seat.new }
+        ensures enlists { (v : _) × (w : _) × Held_once (cond_limits self.now).budget (cond_sight cond.old) (cond_sight cond.new) v w × Enlists (limits_of mutex.now) (cond_sight cond.old).number (sight seat.old) (sight seat.new) v w result }
+        ensures steps { Held_by (cond_limits self.now) (cond_sight cond.old) (cond_sight cond.new) }
+        ensures busy { IfErr result (λ r. r ≡ Busy) }
+    {
+        match lock_list(&self.inner, rt, &mut cond.seat) {
+            Ok(()) => {}
+            Err(_) => unreachable!(),
+        }
+        let enlisted = enlist_in_hand(&mut cond.seat, mutex, seat);
+        leave_list(&self.inner, &mut cond.seat);
+        enlisted
+    }
+
+    /// Gives up the user mutex, which the seat holds at depth 1, and waits until another seat sends this one by a wake. It
+    /// answers how the seat came to hold the user mutex again, and its ticket: 1 for the first that waited on this condvar,
+    /// and on. The seat is put into the list, and falls asleep, in one hold of the inner mutex.
+    ///
+    /// Refuses, in this order, before anything is changed: Asleep (the user seat sleeps, or a call of it is open), NotOwner,
+    /// Nested (it holds above depth 1), Spent (either seat has no take left), NoSuchSeat (its number is above the condvar's
+    /// seats). Then Busy: the user seat still stands in the list, which only a send past this condvar brings. It is seen
+    /// under the inner mutex, costs the cond seat its take, and changes nothing else.
+    ///
+    /// A wait costs each seat one take. It takes no memory, sleeps, and wakes the seat that it grants a mutex, if any.
+    pub fn wait<T: Kept, R: Wait>(
+        &self,
+        rt: &R,
+        cond: &mut CondSeat,
+        mutex: &Mutex<T>,
+        seat: &mut Seat<T>,
+    ) -> Result<(How, u64), Refusal>
+        requires belongs { Of_condvar cond.old self.now × Of_mutex seat.old mutex.now }
+        requires leaves { May_leave T.follows T.fits (sight seat.old) }
+        ensures belongs { Of_condvar cond.new self.now × Beside seat.old seat.new }
+        ensures waits { Wait_ends T.follows T.fits (limits_of mutex.now) (cond_limits self.now) (cond_sight cond.old) (cond_sight cond.new) (sight seat.old) (sight seat.new) result }
+    {
+        if let Some(refusal) = bars_wait(seat) {
+            return Err(refusal);
+        }
+        if cond.seat.left() == 0 {
+            return Err(Refusal::Spent);
+        }
+        if seat.number().get() > self.seats {
+            return Err(Refusal::NoSuchSeat);
+        }
+        let ticket = match self.enlist_in_one_hold(rt, cond, mutex, seat) {
+            Ok(ticket) => ticket,
+            Err(refusal) => return Err(refusal),
+        };
+        match mutex.receive_lock_within(rt, seat, LOOKS) {
+            Ok(how) => Ok((how, ticket)),
+            Err(_) => unreachable!(),
+        }
+    }
+}

@@ -1,0 +1,151 @@
+//! How waiters are woken: in one hold of the inner mutex the oldest, or all, oldest first, are made lockers of the user mutex.
+ghost use Rattle.std.specs.Prelude.{◌≡◌, ◌<◌, ◌≤◌, ℕ, Some, false};
+ghost use Rattle.lfm_mutex.specs.Belongs.{Beside, Of_mutex, limits_of};
+ghost use Rattle.lfm_mutex.specs.calls.Sight.{sight};
+ghost use Rattle.lfm_condvar.specs.Belongs.{Of_condvar, cond_limits, cond_sight};
+ghost use Rattle.lfm_condvar.specs.Holds.{Rewrites};
+ghost use Rattle.lfm_condvar.specs.Keeping.{Follows};
+ghost use Rattle.lfm_condvar.specs.Wakes.{Sends_all, Sends_by, Sends_oldest, Wake_all_ends, Wake_one_ends};
+
+use crate::cond_seat::CondSeat;
+use crate::condvar::Condvar;
+use crate::hold::{leave_list, lock_list};
+use crate::waiters::{Waiters, send_oldest};
+use lfm_model::{Refusal, SeatNo};
+use lfm_mutex::{Kept, Mutex, Seat};
+use std::sync::Wait;
+
+// Sends all that wait, oldest first, up to one that doesn't wait to be sent, and counts them.
+fn send_all<T: Kept>(
+    waiters: &mut Waiters,
+    mutex: &Mutex<T>,
+    seat: &mut Seat<T>,
+) -> Result<u64, Refusal>
+    requires belongs { Of_mutex seat.old mutex.now }
+    requires wide { waiters.old.seats ≤ (limits_of mutex.now).seats }
+    requires awake { (sight seat.old).asleep ≡ false }
+    ensures belongs { Beside seat.old seat.new }
+    ensures sends { Sends_all (limits_of mutex.now).seats (sight seat.old) (sight seat.new) waiters.old waiters.new result }
+    ensures steps { Sends_by (limits_of mutex.now) (sight seat.old) (sight seat.new) result }
+    ensures follows { (s : ℕ) → Follows s waiters.old waiters.new }
+{
+    let mut sent = 0u64;
+    'sends: loop {
+        let oldest = match send_oldest(waiters, mutex, seat) {
+            Ok(oldest) => oldest,
+            Err(refusal) => return Err(refusal),
+        };
+        match oldest {
+            Some(_) => sent += 1,
+            None => return Ok(sent),
+        }
+    }
+}
+
+// Lends the list in hand to `send_oldest`.
+fn send_oldest_in_hand<T: Kept>(
+    cond: &mut Seat<Waiters>,
+    mutex: &Mutex<T>,
+    seat: &mut Seat<T>,
+) -> Result<Option<(SeatNo, u64)>, Refusal>
+    requires belongs { Of_mutex seat.old mutex.now }
+    requires held { 0 < (sight cond.old).depth }
+    requires wide { (v : _) → (sight cond.old).value ≡ Some v → v.seats ≤ (limits_of mutex.now).seats }
+    ensures belongs { Beside cond.old cond.new × Beside seat.old seat.new }
+    ensures sends { (v : _) × (w : _) × Rewrites (sight cond.old) (sight cond.new) v w × Sends_oldest (limits_of mutex.now).seats (sight seat.old) (sight seat.new) v w result }
+    ensures steps { Sends_by (limits_of mutex.now) (sight seat.old) (sight seat.new) result }
+{
+    let Some(waiters) = cond.value_mut() else {
+        unreachable!()
+    };
+    send_oldest(waiters, mutex, seat)
+}
+
+// Lends the list in hand to `send_all`.
+fn send_all_in_hand<T: Kept>(
+    cond: &mut Seat<Waiters>,
+    mutex: &Mutex<T>,
+    seat: &mut Seat<T>,
+) -> Result<u64, Refusal>
+    requires belongs { Of_mutex seat.old mutex.now }
+    requires held { 0 < (sight cond.old).depth }
+    requires wide { (v : _) → (sight cond.old).value ≡ Some v → v.seats ≤ (limits_of mutex.now).seats }
+    requires awake { (sight seat.old).asleep ≡ false }
+    ensures belongs { Beside cond.old cond.new × Beside seat.old seat.new }
+    ensures sends { (v : _) × (w : _) × Rewrites (sight cond.old) (sight cond.new) v w × Sends_all (limits_of mutex.now).seats (sight seat.old) (sight seat.new) v w result }
+    ensures steps { Sends_by (limits_of mutex.now) (sight seat.old) (sight seat.new) result }
+{
+    let Some(waiters) = cond.value_mut() else {
+        unreachable!()
+    };
+    send_all(waiters, mutex, seat)
+}
+
+impl Condvar {
+    /// Sends the seat that has waited longest, by `send_lock` of the user mutex, and answers it with its ticket; None where
+    /// nobody waits. The caller need not hold the user mutex.
+    ///
+    /// Refuses, in this order, before anything is changed: Asleep (the user seat sleeps, or a call of it is open) and Spent
+    /// (the cond seat has no take left). Then NotWaiting: the oldest doesn't wait to be sent, which only a send past this
+    /// condvar brings. It stays in the list, and that costs the cond seat its take.
+    ///
+    /// A wake costs the cond seat one take, and the user seat none. It takes no memory, may sleep until it has the inner
+    /// mutex, and wakes the seat that it grants a mutex, if any.
+    pub fn wake_one<T: Kept, R: Wait>(
+        &self,
+        rt: &R,
+        cond: &mut CondSeat,
+        mutex: &Mutex<T>,
+        seat: &mut Seat<T>,
+    ) -> Result<Option<(SeatNo, u64)>, Refusal>
+        requires belongs { Of_condvar cond.old self.now × Of_mutex seat.old mutex.now }
+        requires wide { (cond_limits self.now).seats ≤ (limits_of mutex.now).seats }
+        ensures belongs { Of_condvar cond.new self.now × Beside seat.old seat.new }
+        ensures wakes { Wake_one_ends (limits_of mutex.now).seats (cond_limits self.now) (cond_sight cond.old) (cond_sight cond.new) (sight seat.old) (sight seat.new) result }
+        ensures steps { Sends_by (limits_of mutex.now) (sight seat.old) (sight seat.new) result }
+    {
+        if seat.asleep() {
+            return Err(Refusal::Asleep);
+        }
+        match lock_list(&self.inner, rt, &mut cond.seat) {
+            Ok(()) => {}
+            Err(refusal) => return Err(refusal),
+        }
+        let sent = send_oldest_in_hand(&mut cond.seat, mutex, seat);
+        leave_list(&self.inner, &mut cond.seat);
+        sent
+    }
+
+    /// Sends all that wait, oldest first, each by `send_lock` of the user mutex, and answers how many were sent. The caller
+    /// need not hold the user mutex.
+    ///
+    /// Refuses as `wake_one`: Asleep and Spent before anything is changed. NotWaiting leaves that waiter and those behind it
+    /// in the list; the earlier ones were sent.
+    ///
+    /// It costs the cond seat one take, however many are sent. It takes no memory, may sleep until it has the inner mutex,
+    /// and wakes the seats that it grants a mutex, if any.
+    pub fn wake_all<T: Kept, R: Wait>(
+        &self,
+        rt: &R,
+        cond: &mut CondSeat,
+        mutex: &Mutex<T>,
+        seat: &mut Seat<T>,
+    ) -> Result<u64, Refusal>
+        requires belongs { Of_condvar cond.old self.now × Of_mutex seat.old mutex.now }
+        requires wide { (cond_limits self.now).seats ≤ (limits_of mutex.now).seats }
+        ensures belongs { Of_condvar cond.new self.now × Beside seat.old seat.new }
+        ensures wakes { Wake_all_ends (limits_of mutex.now).seats (cond_limits self.now) (cond_sight cond.old) (cond_sight cond.new) (sight seat.old) (sight seat.new) result }
+        ensures steps { Sends_by (limits_of mutex.now) (sight seat.old) (sight seat.new) result }
+    {
+        if seat.asleep() {
+            return Err(Refusal::Asleep);
+        }
+        match lock_list(&self.inner, rt, &mut cond.seat) {
+            Ok(()) => {}
+            Err(refusal) => return Err(refusal),
+        }
+        let sent = send_all_in_hand(&mut cond.seat, mutex, seat);
+        leave_list(&self.inner, &mut cond.seat);
+        sent
+    }
+}

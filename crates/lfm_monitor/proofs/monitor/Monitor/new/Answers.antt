@@ -1,0 +1,33 @@
+use Rattle.std.proofs.Common.{ap, arith, rules, ◌+◌, ◌∙◌}
+use Rattle.lfm_mutex.specs.Belongs.{limits_of}
+use Rattle.lfm_monitor.proofs.Places.{in_range}
+use Rattle.lfm_monitor.proofs.Starting.{new_kept, new_of}
+use Rattle.lfm_monitor.proofs.monitor.Monitor.new.Goals as goal
+
+pub with_seats-requires-clause-kept : goal.with_seats-requires-clause-kept
+with_seats-requires-clause-kept g c κs within j s at = let e = c.in-Ok-new.ensures.seats in let one = e.1 j s at in
+    let n = in_range c.in-Ok-new.all.items j s at in let o = c.in-Ok-new.all.ok.0 in let k = e.0 in
+    new_kept c.args.object c.args.seats c.args.entries_per_seat (j + 1) c.in-Ok-new.mutex s
+    (record { of = one.0; empty = c.in_ok-empty.empty; is = c.in_ok-empty.ensures.empty; sees = one.1 }) (omega arith) (omega arith)
+
+pub returns-clause-passes : goal.returns-clause-passes
+returns-clause-passes g c = let e = c.in-Ok-new.ensures in let w = c.with_seats.ensures in (
+  w.count ∙ e.seats.0,
+  λ j p at.
+      let was = w.passes j p at in let one = e.seats.1 j p.seat was.0 in let empty = c.in_ok-empty.ensures.empty in let of = c.in_ok-conditions.ensures.seats.1 j p.cond_seats was.1 in record {
+        belongs = (
+          one.0,
+          new_of c.args.object c.of-opening.result.value c.args.seats (limits_of c.in-Ok-new.mutex).seats c.args.entries_per_seat (j + 1) c.in-Ok-new.mutex p.seat
+              (record { of = one.0; empty = c.in_ok-empty.empty; is = empty; sees = one.1 }) c.of-opening.ensures (ap (λ l. l.seats) e.limits.0),
+          of.0,
+        );
+        empty = c.in_ok-empty.empty;
+        nothing = empty.nothing;
+        sees = one.1;
+        counts = (was.2, was.3);
+        cond_seats = of.1;
+      },
+)
+
+pub returns-then-not-are_allowed-clause-memory : goal.returns-then-not-are_allowed-clause-memory
+returns-then-not-are_allowed-clause-memory g c = search rules

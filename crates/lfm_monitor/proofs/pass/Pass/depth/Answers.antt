@@ -1,0 +1,5 @@
+use Rattle.std.proofs.Common.{rules}
+use Rattle.lfm_monitor.proofs.pass.Pass.depth.Goals as goal
+
+pub returns : goal.returns
+returns g c = search rules

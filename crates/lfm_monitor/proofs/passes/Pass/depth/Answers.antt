@@ -1,5 +1,0 @@
-use Rattle.std.proofs.Common.{rules}
-use Rattle.lfm_monitor.proofs.passes.Pass.depth.Goals as goal
-
-pub returns : goal.returns
-returns g c = search rules

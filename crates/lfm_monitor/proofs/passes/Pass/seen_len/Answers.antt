@@ -1,5 +1,0 @@
-use Rattle.std.proofs.Common.{refl}
-use Rattle.lfm_monitor.proofs.passes.Pass.seen_len.Goals as goal
-
-pub returns : goal.returns
-returns g c = refl

@@ -1,0 +1,65 @@
+//! How a monitor is closed.
+ghost use Rattle.lfm_model.specs.Journals.{Lawful, after_all, own, total};
+ghost use Rattle.lfm_monitor.specs.Belongs.{Is_same, Of_monitor, mine_of, opening_of, pass_sight, passes_of};
+ghost use Rattle.lfm_monitor.specs.Passes.{Goes_on_to, journal_of};
+ghost use Rattle.lfm_mutex.specs.Close.{All_stand, First_missing};
+ghost use Rattle.std.specs.Prelude.{◌≡◌, ℕ, IfErr, IfOk, length, vec_len};
+ghost use lib.ListN.{get_elem?};
+ghost use mathlib.Core.Option.{some};
+
+use crate::journaled::Journaled;
+use crate::monitor::Monitor;
+use crate::pass::Pass;
+use lfm_model::{Entry, Missing, Object};
+
+impl<O: Object> Monitor<O> {
+    /// Gives the object and the journal back, and ends the monitor, where all passes are there, none holds and none sleeps.
+    /// The journal is lawful, its replay from the opening object gives the object, and it has the entries that the passes
+    /// wrote, each once. It begins with what a pass left last, whichever pass it is, and goes on with entries of others.
+    ///
+    /// Otherwise it hands back the monitor and the passes, and names the first pass that hinders it, and how. It takes no
+    /// memory and never waits.
+    pub fn close(
+        self,
+        passes: Vec<Pass<O>>,
+    ) -> Result<(O, Vec<Entry<O::Op>>), (Monitor<O>, Vec<Pass<O>>, Missing)>
+        requires belongs { (j : ℕ) (p : _) → get_elem? passes.items j ≡ some p → Of_monitor p self }
+        ensures missing { IfErr result (λ e. Is_same e.0 self × (e.1 ≡ passes) × First_missing (λ p. pass_sight p) passes.items (passes_of self) e.2) }
+        ensures back { IfErr result (λ e. (j : ℕ) (p : _) → get_elem? e.1.items j ≡ some p → Of_monitor p e.0) }
+        ensures kept { IfErr result (λ e. (p : _) → Of_monitor p self → Of_monitor p e.0) }
+        ensures all { IfOk result (λ _. All_stand (λ p. pass_sight p) passes.items (passes_of self)) }
+        ensures legal { IfOk result (λ r. (r.0 ≡ after_all O.after (opening_of self) r.1.items) × Lawful r.1.items) }
+        ensures mine { IfOk result (λ r. (j : ℕ) (p : _) → get_elem? passes.items j ≡ some p → (own (pass_sight p).number r.1.items ≡ own (pass_sight p).number (journal_of (pass_sight p))) × (mine_of p ≡ length (own (pass_sight p).number r.1.items))) }
+        ensures order { IfOk result (λ r. (j : ℕ) (p : _) → get_elem? passes.items j ≡ some p → Goes_on_to (pass_sight p) r.1.items) }
+        ensures whole { IfOk result (λ r. vec_len r.1 ≡ total (λ p. mine_of p) passes.items) }
+    {
+        let Monitor {
+            mutex,
+            opening,
+            share,
+            conditions,
+        } = self;
+        match mutex.close(passes) {
+            Err((mutex, passes, missing)) => Err((
+                Monitor {
+                    mutex,
+                    opening,
+                    share,
+                    conditions,
+                },
+                passes,
+                missing,
+            )),
+            Ok(journaled) => {
+                let Journaled {
+                    object,
+                    journal,
+                    opening: _,
+                    seats: _,
+                    share: _,
+                } = journaled;
+                Ok((object, journal))
+            }
+        }
+    }
+}

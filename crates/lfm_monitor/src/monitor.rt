@@ -1,0 +1,24 @@
+//! The monitor. Its calls are in `enter`, `try_enter`, `receive`, `apply`, `leave`, `wait`,
+//! `wake` and `close`.
+ghost use Rattle.std.specs.Prelude.{◌≡◌};
+ghost use Rattle.lfm_mutex.specs.Belongs.{limits_of};
+ghost use Rattle.lfm_monitor.specs.CondSeats.{Are_conditions};
+
+use crate::journaled::Journaled;
+use lfm_condvar::Condvar;
+use lfm_model::Object;
+use lfm_mutex::Mutex;
+use std::snapshot::Snapshot;
+
+/// A guarded object with a journal: at most one pass at a time holds it, and applies ops to it. Its calls are made through a
+/// shared reference and one of its passes. A call with the pass of another monitor breaks the condition that every call has.
+/// It has so many conditions, on which passes wait and are woken, numbered from 1.
+#[derive(Drop)]
+pub struct Monitor<O: Object> {
+    pub(crate) mutex: Mutex<Journaled<O>>,
+    pub(crate) opening: Snapshot<O>,
+    pub(crate) share: u64,
+    pub(crate) conditions: Vec<Condvar>,
+    pub ghost shared: { (limits_of mutex).budget ≡ share },
+    pub ghost wide: { Are_conditions (limits_of mutex).seats conditions.items },
+}

@@ -1,0 +1,105 @@
+//! How a monitor is made: a mutex round the object with an empty journal, its conditions, and a pass for each of its seats.
+ghost use Rattle.lfm_model.specs.declared.refusals.NewFault.{NewFault};
+ghost use Rattle.lfm_monitor.specs.Begun.{In_limits, New_pass};
+ghost use Rattle.lfm_monitor.specs.Belongs.{conditions_of, mine_of, opening_of, passes_of, seen_of, share_of};
+ghost use Rattle.lfm_monitor.specs.Passes.{Pass_kept};
+ghost use Rattle.lfm_mutex.specs.calls.Sight.{sight};
+ghost use Rattle.std.specs.Prelude.{◌≡◌, ◌+◌, ◌↔◌, ℕ, IfErr, IfOk, IsTrue, [], vec_capacity, vec_len};
+ghost use lib.ListN.{get_elem?};
+ghost use mathlib.Core.Option.{some};
+
+mod conditions;
+mod empty_journal;
+mod lists;
+
+use crate::journaled::Journaled;
+use crate::monitor::Monitor;
+use crate::open::conditions::new_conditions;
+use crate::open::empty_journal::journaled;
+use crate::pass::Pass;
+use lfm_condvar::CondSeat;
+use lfm_model::{NewFault, Object};
+use lfm_mutex::{Mutex, Seat};
+use lfm_protocol::MAX_SEATS;
+use std::alloc::Global;
+use std::snapshot::Snapshot;
+
+/// The most entries that the journal of a monitor may have room for.
+pub const MAX_ENTRIES: u64 = 1_048_576;
+
+/// The most conditions of a monitor.
+pub const MAX_CONDITIONS: u64 = 16;
+
+// Whether a monitor may have so many passes, so many entries for each, and so many conditions.
+fn are_allowed(seats: u64, share: u64, conditions: u64) -> bool
+    ensures { IsTrue result ↔ In_limits seats share conditions }
+{
+    0 < seats
+        && seats <= MAX_SEATS
+        && 0 < share
+        && seats.saturating_mul(share) <= MAX_ENTRIES
+        && conditions <= MAX_CONDITIONS
+}
+
+// A pass for each seat, with the cond seats at its place, in order, in the room that is there for them.
+fn with_seats<O: Object>(
+    mut passes: Vec<Pass<O>>,
+    seats: Vec<Seat<Journaled<O>>>,
+    cond_seats: Vec<Vec<CondSeat>>,
+) -> Vec<Pass<O>>
+    requires room { (passes.items ≡ []) × (vec_capacity passes ≡ vec_len seats) × (vec_len cond_seats ≡ vec_len seats) }
+    requires kept { (j : ℕ) (s : _) → get_elem? seats.items j ≡ some s → Pass_kept (sight s) 0 0 }
+    ensures count { vec_len result ≡ vec_len seats }
+    ensures passes { (j : ℕ) (p : _) → get_elem? result.items j ≡ some p → (get_elem? seats.items j ≡ some p.seat) × (get_elem? cond_seats.items j ≡ some p.cond_seats) × (seen_of p ≡ 0) × (mine_of p ≡ 0) }
+{
+    'pairs: for (seat, cond_seats) in seats.into_iter().zip(cond_seats) {
+        passes.push_reserved(Pass {
+            seat,
+            seen: 0,
+            mine: 0,
+            cond_seats,
+        });
+    }
+    passes
+}
+
+impl<O: Object> Monitor<O> {
+    /// A monitor round this object, and its passes in order, numbered from 1. `seats` is 1 to 4,095. Each pass may write
+    /// `entries_per_seat` entries, 1 or more, and take the monitor as often; all together may write at most 1,048,576. There
+    /// are `conditions` conditions, 0 to 16, on which passes may wait. The journal's whole room is reserved here.
+    ///
+    /// Outside these limits it answers Limit, and asks for no memory. It answers Memory where a request for memory was refused.
+    /// On a fault the object is dropped. No other call of a monitor takes memory.
+    pub fn new(
+        alloc: Global,
+        seats: u64,
+        entries_per_seat: u64,
+        conditions: u64,
+        object: O,
+    ) -> Result<(Monitor<O>, Vec<Pass<O>>), NewFault>
+        ensures monitor { IfOk result (λ r. (opening_of r.0 ≡ object) × (passes_of r.0 ≡ seats) × (share_of r.0 ≡ entries_per_seat) × (conditions_of r.0 ≡ conditions)) }
+        ensures passes { IfOk result (λ r. (vec_len r.1 ≡ seats) × ((j : ℕ) (p : _) → get_elem? r.1.items j ≡ some p → New_pass r.0 (j + 1) p)) }
+        ensures limit { (In_limits seats entries_per_seat conditions → ⊥) → IfErr result (λ e. e ≡ NewFault.Limit) × IfOk result (λ _. ⊥) }
+        ensures memory { In_limits seats entries_per_seat conditions → IfErr result (λ e. e ≡ NewFault.Memory) }
+    {
+        if !are_allowed(seats, entries_per_seat, conditions) {
+            return Err(NewFault::Limit);
+        }
+        let Ok(passes) = Vec::with_capacity(alloc, seats as usize) else {
+            return Err(NewFault::Memory);
+        };
+        let (conditions, cond_seats) = new_conditions(alloc, seats, conditions)?;
+        let opening = Snapshot::of(&object);
+        let empty = journaled(alloc, seats, entries_per_seat, object)?;
+        let Ok((mutex, all)) = Mutex::new(alloc, seats, entries_per_seat, empty) else {
+            return Err(NewFault::Memory);
+        };
+        let monitor = Monitor {
+            mutex,
+            opening,
+            share: entries_per_seat,
+            conditions,
+        };
+        Ok((monitor, with_seats(passes, all, cond_seats)))
+    }
+}

@@ -1,0 +1,68 @@
+//! What one thread uses the monitor with.
+ghost use Rattle.std.specs.Prelude.{◌≡◌, ◌<◌, ◌≤◌, ◌↔◌, IsTrue, Some, false, length};
+ghost use Rattle.lfm_mutex.specs.calls.Sight.{sight};
+ghost use Rattle.lfm_monitor.specs.Passes.{Pass_kept};
+
+use crate::journaled::Journaled;
+use lfm_condvar::CondSeat;
+use lfm_model::{Object, SeatNo};
+use lfm_mutex::Seat;
+
+/// What one thread uses a monitor with. A pass may move between threads, and each call borrows it for its whole length. Dropped
+/// while it holds or sleeps, it keeps what it holds: nobody else gains that.
+#[derive(Drop)]
+pub struct Pass<O: Object> {
+    pub(crate) seat: Seat<Journaled<O>>,
+    pub(crate) seen: u64,
+    pub(crate) mine: u64,
+    pub(crate) cond_seats: Vec<CondSeat>,
+    pub ghost kept: { Pass_kept (sight seat) seen mine },
+}
+
+/// What a pass tells of itself. None of these touches a word of the mutex, takes memory or waits.
+impl<O: Object> Pass<O> {
+    /// The pass's number: 1 to 4,095.
+    pub fn number(&self) -> SeatNo
+        ensures { result ≡ (sight self.now.seat).number }
+    {
+        self.seat.number()
+    }
+
+    /// How often the pass holds the monitor: 0 to 65,535.
+    pub fn depth(&self) -> u32
+        ensures { result ≡ (sight self.now.seat).depth }
+    {
+        self.seat.depth()
+    }
+
+    /// How long the journal was when the pass left last; 0 before it left for the first time.
+    pub fn seen_len(&self) -> u64
+        ensures { result ≡ self.now.seen }
+    {
+        self.seen
+    }
+
+    /// How many entries of the journal are its own.
+    pub fn mine(&self) -> u64
+        ensures { result ≡ self.now.mine }
+    {
+        self.mine
+    }
+
+    // The length of the journal in hand.
+    pub(crate) fn journal_len(&self) -> u64
+        ensures { (v : _) → (sight self.now.seat).value ≡ Some v → result ≡ length v.journal.items }
+    {
+        match self.seat.value() {
+            Some(journaled) => journaled.journal.len() as u64,
+            None => 0,
+        }
+    }
+
+    // Whether a call that will come to hold finds no entry left for its take.
+    pub(crate) fn lacks_entry(&self, share: u64) -> bool
+        ensures { IsTrue result ↔ (((sight self.now.seat).asleep ≡ false) × ((sight self.now.seat).depth ≡ 0) × (share ≤ self.now.mine)) }
+    {
+        !self.seat.asleep() && self.seat.depth() == 0 && self.mine >= share
+    }
+}

@@ -1,0 +1,83 @@
+//! How a pass waits on a condition: it leaves, sleeps until it is sent, and comes in again, which is written down.
+ghost use Rattle.lfm_monitor.specs.Belongs.{Of_monitor, cond_seats_of, conditions_of, mine_of, mutex_limits, pass_sight, passes_of, seen_of, share_of};
+ghost use Rattle.lfm_monitor.specs.CondSeats.{condition_limits};
+ghost use Rattle.lfm_monitor.specs.Conditions.{May_wait, Wait_ends, Wait_refused, Wait_returns};
+ghost use Rattle.lfm_mutex.specs.Belongs.{budget_of};
+ghost use Rattle.lfm_mutex.specs.calls.Sight.{sight};
+ghost use Rattle.std.specs.Prelude.{◌≡◌, MatchOption};
+
+use crate::monitor::Monitor;
+use crate::pass::Pass;
+use crate::write::write_took;
+use lfm_model::{How, Object, Refusal};
+use std::sync::Wait;
+
+impl<O: Object> Pass<O> {
+    // Why the pass can't wait on any condition, if it can't.
+    fn bars_wait(&self, share: u64) -> Option<Refusal>
+        requires { budget_of self.now.seat ≡ share }
+        ensures { MatchOption result (May_wait share (sight self.now.seat) self.now.mine) (λ r. Wait_refused share (sight self.now.seat) self.now.mine r) }
+    {
+        if self.seat.asleep() {
+            return Some(Refusal::Asleep);
+        }
+        if self.seat.depth() == 0 {
+            return Some(Refusal::NotOwner);
+        }
+        if self.seat.depth() > 1 {
+            return Some(Refusal::Nested);
+        }
+        if self.seat.left() == 0 || self.mine >= share {
+            return Some(Refusal::Spent);
+        }
+        None
+    }
+}
+
+impl<O: Object> Monitor<O> {
+    /// Leaves the monitor, which the pass holds at depth 1, and waits on this condition until another pass sends it by a
+    /// wake. What was in hand is then what the pass has seen. It answers how the pass came to hold again, which is
+    /// written down as its take, and its ticket: 1 for the first that waited on this condition, and on.
+    ///
+    /// Refuses, in this order, before anything is changed: Asleep, NotOwner, Nested (the pass holds above depth 1), Spent
+    /// (it has no take or no entry left), NoSuchSeat (there is no such condition) and Spent (the pass's seat of this
+    /// condition has no take left). Then Busy: the pass still stands in the condition's list, which only a send past this
+    /// condition brings, and a monitor makes none. That costs the seat of this condition its take, and changes nothing
+    /// else.
+    ///
+    /// A wait costs the pass one take and one entry, which is kept for it while it sleeps, and its seat of this condition
+    /// one take. It takes no memory, sleeps, and wakes the pass that it grants the monitor, if any.
+    pub fn wait<R: Wait>(
+        &self,
+        rt: &R,
+        pass: &mut Pass<O>,
+        condition: u64,
+    ) -> Result<(How, u64), Refusal>
+        requires belongs { Of_monitor pass.old self.now }
+        ensures belongs { Of_monitor pass.new self.now }
+        ensures waits { Wait_ends (mutex_limits self.now) (condition_limits (passes_of self.now)) (share_of self.now) (conditions_of self.now) condition (cond_seats_of pass.old) (cond_seats_of pass.new) (pass_sight pass.old) (pass_sight pass.new) (mine_of pass.old) result }
+        ensures returns { Wait_returns (pass_sight pass.old) (pass_sight pass.new) (seen_of pass.old) (seen_of pass.new) (mine_of pass.old) (mine_of pass.new) result }
+    {
+        if let Some(refusal) = pass.bars_wait(self.share) {
+            return Err(refusal);
+        }
+        let Some(place) = self.place_of(condition) else {
+            return Err(Refusal::NoSuchSeat);
+        };
+        let length = pass.journal_len();
+        let cond = &mut pass.cond_seats[place];
+        let (how, ticket) = match self.conditions[place].wait(
+            rt,
+            cond,
+            &self.mutex,
+            &mut pass.seat,
+        ) {
+            Ok(waited) => waited,
+            Err(refusal) => return Err(refusal),
+        };
+        write_took(&mut pass.seat, how);
+        pass.seen = length;
+        pass.mine += 1;
+        Ok((how, ticket))
+    }
+}

@@ -1,0 +1,74 @@
+//! How a pass wakes those that wait on a condition.
+ghost use Rattle.lfm_monitor.specs.Belongs.{Of_monitor, cond_seats_of, conditions_of, mine_of, pass_sight, passes_of, seen_of};
+ghost use Rattle.lfm_monitor.specs.CondSeats.{condition_limits};
+ghost use Rattle.lfm_monitor.specs.Conditions.{Only_sends, Wake_all_ends, Wake_one_ends};
+ghost use Rattle.std.specs.Prelude.{◌≡◌};
+
+use crate::monitor::Monitor;
+use crate::pass::Pass;
+use lfm_model::{Object, Refusal, SeatNo};
+use std::sync::Wait;
+
+impl<O: Object> Monitor<O> {
+    /// Sends the pass that has waited longest on this condition, and answers it with its ticket; None where nobody waits.
+    /// The caller need not hold the monitor.
+    ///
+    /// Refuses, in this order, before anything is changed: Asleep, NoSuchSeat (there is no such condition) and Spent (the
+    /// pass's seat of this condition has no take left). Then NotWaiting: the oldest doesn't wait to be sent, which only a
+    /// send past this condition brings, and a monitor makes none. It stays in the list, and that costs the pass's seat of
+    /// this condition its take.
+    ///
+    /// A wake costs the pass's seat of this condition one take, and takes no memory. It may sleep until it has the
+    /// condition's list, and wakes the pass that it grants the monitor, if any.
+    pub fn wake_one<R: Wait>(
+        &self,
+        rt: &R,
+        pass: &mut Pass<O>,
+        condition: u64,
+    ) -> Result<Option<(SeatNo, u64)>, Refusal>
+        requires belongs { Of_monitor pass.old self.now }
+        ensures belongs { Of_monitor pass.new self.now }
+        ensures wakes { Wake_one_ends (passes_of self.now) (condition_limits (passes_of self.now)) (conditions_of self.now) condition (cond_seats_of pass.old) (cond_seats_of pass.new) (pass_sight pass.old) (pass_sight pass.new) result }
+        ensures sends { Only_sends (pass_sight pass.old) (pass_sight pass.new) }
+        ensures same { (seen_of pass.new ≡ seen_of pass.old) × (mine_of pass.new ≡ mine_of pass.old) }
+    {
+        if pass.seat.asleep() {
+            return Err(Refusal::Asleep);
+        }
+        let Some(place) = self.place_of(condition) else {
+            return Err(Refusal::NoSuchSeat);
+        };
+        let cond = &mut pass.cond_seats[place];
+        self.conditions[place].wake_one(rt, cond, &self.mutex, &mut pass.seat)
+    }
+
+    /// Sends all that wait on this condition, the one that has waited longest first, and answers how many were sent. The
+    /// caller need not hold the monitor.
+    ///
+    /// Refuses as `wake_one`: Asleep, NoSuchSeat and Spent before anything is changed. NotWaiting leaves that pass and
+    /// those behind it in the list; the earlier ones were sent.
+    ///
+    /// It costs the pass's seat of this condition one take, however many are sent, and takes no memory. It may sleep
+    /// until it has the condition's list, and wakes the passes that it grants the monitor, if any.
+    pub fn wake_all<R: Wait>(
+        &self,
+        rt: &R,
+        pass: &mut Pass<O>,
+        condition: u64,
+    ) -> Result<u64, Refusal>
+        requires belongs { Of_monitor pass.old self.now }
+        ensures belongs { Of_monitor pass.new self.now }
+        ensures wakes { Wake_all_ends (passes_of self.now) (condition_limits (passes_of self.now)) (conditions_of self.now) condition (cond_seats_of pass.old) (cond_seats_of pass.new) (pass_sight pass.old) (pass_sight pass.new) result }
+        ensures sends { Only_sends (pass_sight pass.old) (pass_sight pass.new) }
+        ensures same { (seen_of pass.new ≡ seen_of pass.old) × (mine_of pass.new ≡ mine_of pass.old) }
+    {
+        if pass.seat.asleep() {
+            return Err(Refusal::Asleep);
+        }
+        let Some(place) = self.place_of(condition) else {
+            return Err(Refusal::NoSuchSeat);
+        };
+        let cond = &mut pass.cond_seats[place];
+        self.conditions[place].wake_all(rt, cond, &self.mutex, &mut pass.seat)
+    }
+}

@@ -1,0 +1,51 @@
+use Rattle.std.proofs.Common.{◌+◌, refl, sym, subst}
+use Rattle.lfm_model.specs.declared.answers.Asked.{Asked}
+use Rattle.lfm_model.specs.declared.answers.How.{How}
+use Rattle.lfm_protocol.specs.declared.answers.Answer.{Answer}
+use Rattle.lfm_protocol.specs.declared.answers.Call.{Call}
+use Rattle.lfm_protocol.specs.declared.answers.Turn.TheVariants.{Ended}
+use Rattle.lfm_protocol.specs.declared.points.Entrant.{Entrant}
+use Rattle.lfm_protocol.specs.declared.points.Point.TheVariants.{Rest, LockCountAdd, LockOwnerLoad, LockCountSubtract, EnterOwnerStore}
+use Rattle.lfm_protocol.specs.declared.seats.SeatState.{SeatState}
+use Rattle.lfm_core.specs.table.Words.{stepped_by}
+use Rattle.lfm_table.specs.Rule.{value_in}
+use Rattle.lfm_mutex.specs.calls.Runs.{opens}
+use Rattle.lfm_mutex.specs.calls.Sight.{sight_of}
+use Rattle.lfm_table.specs.Steps.{oldest_in}
+use Rattle.lfm_mutex.specs.calls.Straight.{Course, Comes_to}
+use Rattle.lfm_mutex.proofs.runs.Courses.{course_none, course_next, course_join, comes}
+use Rattle.lfm_table.proofs.tables.StepFacts.{made_of}
+use Rattle.lfm_mutex.proofs.runs.StraightPoints.{begins_again, fit_begun, added_none, added_some, owned, fit_after}
+use Rattle.lfm_mutex.proofs.lock.ask_again.Goals as goal
+
+pub returns-then-found-eq0-clause-made : goal.returns-then-found-eq0-clause-made
+returns-then-found-eq0-clause-made g c =
+    let s = c.args.seat.now in let d = s.standing.depth in let t = s.standing.takes in let ps = s.standing.posts in
+    let p0 = made_of d t ps LockCountAdd in
+    let begins = begins_again s.standing s.limits c.requires.rests c.requires.held c.requires.room in
+    let fit = fit_begun s.number s.place.table_id.words s.place.id s.limits s.place.me s.moving s.standing p0 Call.Lock (record { seated = s.seated; became = s.became; ready = s.ready; rooted = s.rooted }) begins in
+    let f = c.add_held-found in
+    let q = made_of d t ps (EnterOwnerStore Entrant.Locker How.Free) in let r = c.ask_on.new.seat in
+    let first = course_next g.T.Kept.follows g.T.Kept.fits s.number p0 s.moving s.place.me.0 s.place.table_id.words s.place.id s.limits p0 f.result s.place.me s.moving f.new.place.me s.moving f.new.place.table_id.words f.new.place.id (opens q) (course_none g.T.Kept.follows g.T.Kept.fits s.number p0 s.moving s.place.me.0) fit f.ensures.step (added_none d t ps s.number f.result (oldest_in s.moving) c.if-found-eq0.true) (λ e. cc) refl in
+    let last = course_join g.T.Kept.follows g.T.Kept.fits s.number p0 s.moving s.place.me.0 q r.standing s.moving r.moving f.new.place.me.0 r.place.me.0 (Ended (Answer.Asked c.ask_on.result)) first (subst (λ (x : SeatState). Course g.T.Kept.follows g.T.Kept.fits s.number x s.moving f.new.place.me.0 (Ended (Answer.Asked c.ask_on.result)) r.standing r.moving r.place.me.0) (c.stand_entering.ensures) c.ask_on.ensures.made) in
+    comes g.T.Kept.follows g.T.Kept.fits s.number p0 s.moving s.place.me.0 r.number s.limits c.args.mutex.now.limits Call.Lock s.standing r.standing (Ended (Answer.Asked c.ask_on.result)) r.moving r.place.me.0 c.requires.belongs.1 c.ask_on.ensures.same.0 refl begins refl last
+
+pub returns-clause-made : goal.returns-clause-made
+returns-clause-made g c =
+    let s = c.args.seat.now in let d = s.standing.depth in let t = s.standing.takes in let ps = s.standing.posts in
+    let p0 = made_of d t ps LockCountAdd in
+    let begins = begins_again s.standing s.limits c.requires.rests c.requires.held c.requires.room in
+    let fit = fit_begun s.number s.place.table_id.words s.place.id s.limits s.place.me s.moving s.standing p0 Call.Lock (record { seated = s.seated; became = s.became; ready = s.ready; rooted = s.rooted }) begins in
+    let f = c.add_held-found in
+    let h = c.load_held-owner in let k = c.subtract_held in
+    let p1 = made_of d t ps LockOwnerLoad in let p2 = made_of d t ps LockCountSubtract in
+    let is1 = added_some d t ps s.number f.result (oldest_in s.moving) c.if-found-eq0.false in
+    let is2 = owned d t ps s.number h.result (oldest_in s.moving) c.if-owner-number.false in
+    let first = course_next g.T.Kept.follows g.T.Kept.fits s.number p0 s.moving s.place.me.0 s.place.table_id.words s.place.id s.limits p0 f.result s.place.me s.moving f.new.place.me s.moving f.new.place.table_id.words f.new.place.id (opens p1) (course_none g.T.Kept.follows g.T.Kept.fits s.number p0 s.moving s.place.me.0) fit f.ensures.step is1 (λ e. cc) refl in
+    let fit1 = fit_after g.T.Kept.follows g.T.Kept.fits s.number f.new.place.table_id.words f.new.place.id s.limits p0 f.result s.place.me s.moving f.new.place.me s.moving f.ensures.step (opens p1) is1 in
+    let second = course_next g.T.Kept.follows g.T.Kept.fits s.number p0 s.moving s.place.me.0 f.new.place.table_id.words f.new.place.id s.limits p1 h.result f.new.place.me s.moving h.new.place.me s.moving h.new.place.table_id.words h.new.place.id (opens p2) first fit1 h.ensures.step is2 (λ e. cc) refl in
+    let fit2 = fit_after g.T.Kept.follows g.T.Kept.fits s.number h.new.place.table_id.words h.new.place.id s.limits p1 h.result f.new.place.me s.moving h.new.place.me s.moving h.ensures.step (opens p2) is2 in
+    let last = course_next g.T.Kept.follows g.T.Kept.fits s.number p0 s.moving s.place.me.0 h.new.place.table_id.words h.new.place.id s.limits p2 k.ensures.step.0 h.new.place.me s.moving k.new.place.me s.moving k.new.place.table_id.words k.new.place.id (stepped_by p2 s.number k.ensures.step.0 (oldest_in s.moving)) second fit2 k.ensures.step.1 refl (λ e. cc) refl in
+    subst (λ (x : SeatState). Comes_to g.T.Kept.follows g.T.Kept.fits c.args.mutex.now.limits Call.Lock (sight_of s.number s.standing s.place.me.0 (value_in s.moving)) (sight_of s.number x k.new.place.me.0 (value_in s.moving)) (Ended (Answer.Asked (Asked.Again (d + 1)))))
+    (λ i. record { depth = d + 1; takes = t; posts = ps; point = sym c.requires.rests i })
+    (comes g.T.Kept.follows g.T.Kept.fits s.number p0 s.moving s.place.me.0 s.number s.limits c.args.mutex.now.limits Call.Lock s.standing (made_of (d + 1) t ps Rest) (Ended (Answer.Asked (Asked.Again (d + 1)))) s.moving k.new.place.me.0 c.requires.belongs.1 refl refl begins refl last)

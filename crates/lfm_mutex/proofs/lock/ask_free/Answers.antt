@@ -1,0 +1,56 @@
+use Rattle.std.proofs.Common.{ℕ, ◌+◌, ◌<◌, refl, sym, subst}
+use Rattle.lfm_model.specs.declared.answers.Asked.{Asked}
+use Rattle.lfm_model.specs.declared.answers.How.{How}
+use Rattle.lfm_protocol.specs.declared.answers.Answer.{Answer}
+use Rattle.lfm_protocol.specs.declared.answers.Call.{Call}
+use Rattle.lfm_protocol.specs.declared.answers.Turn.TheVariants.{Ended}
+use Rattle.lfm_protocol.specs.declared.points.Entrant.{Entrant}
+use Rattle.lfm_protocol.specs.declared.points.Point.TheVariants.{Rest, LockCountAdd, LockOwnerLoad, EnterOwnerStore}
+use Rattle.lfm_protocol.specs.declared.seats.SeatState.{SeatState}
+use Rattle.lfm_core.specs.table.Words.{stepped_by}
+use Rattle.lfm_table.specs.Rule.{value_in}
+use Rattle.lfm_mutex.specs.calls.Runs.{opens}
+use Rattle.lfm_mutex.specs.calls.Sight.{sight_of}
+use Rattle.lfm_table.specs.Steps.{oldest_in}
+use Rattle.lfm_mutex.specs.calls.Straight.{Course, Comes_to}
+use Rattle.lfm_mutex.proofs.runs.Courses.{course_none, course_next, course_join, comes}
+use Rattle.lfm_table.proofs.tables.StepFacts.{made_of}
+use Rattle.lfm_mutex.proofs.runs.StraightPoints.{begins_free, fit_begun, added_none, added_some, fit_after}
+use Rattle.lfm_table.specs.Straight.{Fit}
+use Rattle.lfm_mutex.proofs.lock.ask_free.Goals as goal
+
+pub returns-then-found-ne0-clause-made : goal.returns-then-found-ne0-clause-made
+returns-then-found-ne0-clause-made g c =
+    let s = c.args.seat.now in let t = s.standing.takes + 1 in let ps = s.standing.posts in
+    let begins = begins_free s.standing s.limits c.requires.rests c.requires.flat (subst (λ (b : ℕ). s.standing.takes < b) c.requires.budget c.requires.charged) in
+    let fit = fit_begun s.number s.place.table_id.words s.place.id s.limits s.place.me s.moving s.standing (made_of 0 t ps LockCountAdd) Call.Lock (record { seated = s.seated; became = s.became; ready = s.ready; rooted = s.rooted }) begins in
+    let f = c.add_free-found in
+    let q = made_of 0 t ps LockOwnerLoad in let r = c.ask_on.new.seat in
+    let first = course_next g.T.Kept.follows g.T.Kept.fits s.number (made_of 0 t ps LockCountAdd) s.moving s.place.me.0 s.place.table_id.words s.place.id s.limits (made_of 0 t ps LockCountAdd) f.result s.place.me s.moving f.new.place.me f.new.moving f.new.place.table_id.words f.new.place.id (opens q)
+    (course_none g.T.Kept.follows g.T.Kept.fits s.number (made_of 0 t ps LockCountAdd) s.moving s.place.me.0) fit f.ensures.step (added_some 0 t ps s.number f.result (oldest_in f.new.moving) c.if-found-ne0.true) (λ e. cc) refl in
+    let last = course_join g.T.Kept.follows g.T.Kept.fits s.number (made_of 0 t ps LockCountAdd) s.moving s.place.me.0 q r.standing f.new.moving r.moving f.new.place.me.0 r.place.me.0 (Ended (Answer.Asked c.ask_on.result)) first (subst (λ (x : SeatState). Course g.T.Kept.follows g.T.Kept.fits s.number x f.new.moving f.new.place.me.0 (Ended (Answer.Asked c.ask_on.result)) r.standing r.moving r.place.me.0) c.stand_loading.ensures c.ask_on.ensures.made) in
+    comes g.T.Kept.follows g.T.Kept.fits s.number (made_of 0 t ps LockCountAdd) s.moving s.place.me.0 r.number s.limits c.args.mutex.now.limits Call.Lock s.standing r.standing (Ended (Answer.Asked c.ask_on.result)) r.moving r.place.me.0 c.requires.belongs.1 c.ask_on.ensures.same.0 refl begins refl last
+
+pub returns-clause-made : goal.returns-clause-made
+returns-clause-made g c =
+    let s = c.args.seat.now in let t = s.standing.takes + 1 in let ps = s.standing.posts in
+    let begins = begins_free s.standing s.limits c.requires.rests c.requires.flat (subst (λ (b : ℕ). s.standing.takes < b) c.requires.budget c.requires.charged) in
+    let fit = fit_begun s.number s.place.table_id.words s.place.id s.limits s.place.me s.moving s.standing (made_of 0 t ps LockCountAdd) Call.Lock (record { seated = s.seated; became = s.became; ready = s.ready; rooted = s.rooted }) begins in
+    let f = c.add_free-found in
+    let h = c.store_held in let q = made_of 0 t ps (EnterOwnerStore Entrant.Locker How.Free) in
+    let is = added_none 0 t ps s.number f.result (oldest_in f.new.moving) c.if-found-ne0.false in
+    let first = course_next g.T.Kept.follows g.T.Kept.fits s.number (made_of 0 t ps LockCountAdd) s.moving s.place.me.0 s.place.table_id.words s.place.id s.limits (made_of 0 t ps LockCountAdd) f.result s.place.me s.moving f.new.place.me f.new.moving f.new.place.table_id.words f.new.place.id (opens q)
+    (course_none g.T.Kept.follows g.T.Kept.fits s.number (made_of 0 t ps LockCountAdd) s.moving s.place.me.0) fit f.ensures.step is (λ e. cc) refl in
+    let between = fit_after g.T.Kept.follows g.T.Kept.fits s.number f.new.place.table_id.words f.new.place.id s.limits (made_of 0 t ps LockCountAdd) f.result s.place.me s.moving f.new.place.me f.new.moving f.ensures.step (opens q) is in
+    let last = course_next g.T.Kept.follows g.T.Kept.fits s.number (made_of 0 t ps LockCountAdd) s.moving s.place.me.0 f.new.place.table_id.words f.new.place.id s.limits q h.ensures.step.0 f.new.place.me f.new.moving h.new.place.me f.new.moving h.new.place.table_id.words h.new.place.id (stepped_by q s.number h.ensures.step.0 (oldest_in f.new.moving))
+    first between h.ensures.step.1 refl (λ e. cc) refl in
+    subst (λ (x : SeatState). Comes_to g.T.Kept.follows g.T.Kept.fits c.args.mutex.now.limits Call.Lock (sight_of s.number s.standing s.place.me.0 (value_in s.moving)) (sight_of s.number x h.new.place.me.0 (value_in f.new.moving)) (Ended (Answer.Asked (Asked.Held How.Free))))
+    (λ i. record { depth = 1; takes = t; posts = ps; point = sym c.requires.rests i })
+    (comes g.T.Kept.follows g.T.Kept.fits s.number (made_of 0 t ps LockCountAdd) s.moving s.place.me.0 s.number s.limits c.args.mutex.now.limits Call.Lock s.standing (made_of 1 t ps Rest) (Ended (Answer.Asked (Asked.Held How.Free))) f.new.moving h.new.place.me.0 c.requires.belongs.1 refl refl begins refl last)
+
+pub invariant_of-seat-2 : goal.invariant_of-seat-2
+invariant_of-seat-2 g c =
+    let s = c.args.seat.now in let t = s.standing.takes + 1 in let ps = s.standing.posts in
+    let f = c.add_free-found in let h = c.store_held in
+    let fit = subst (λ (x : SeatState). Fit s.number h.new.place.table_id.words h.new.place.id s.limits x h.new.place.me f.new.moving) (λ i. record { depth = 1; takes = t; posts = ps; point = sym c.requires.rests i }) h.ensures.step.1.fit in
+    record { seated = fit.seated; became = fit.became; ready = fit.ready; rooted = fit.rooted }

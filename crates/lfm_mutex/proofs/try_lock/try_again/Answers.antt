@@ -1,0 +1,49 @@
+use Rattle.std.proofs.Common.{◌+◌, refl, sym, subst}
+use Rattle.lfm_model.specs.declared.answers.Locked.{Locked}
+use Rattle.lfm_model.specs.declared.answers.How.{How}
+use Rattle.lfm_protocol.specs.declared.answers.Answer.{Answer}
+use Rattle.lfm_protocol.specs.declared.answers.Call.{Call}
+use Rattle.lfm_protocol.specs.declared.answers.Turn.TheVariants.{Ended}
+use Rattle.lfm_protocol.specs.declared.points.Entrant.{Entrant}
+use Rattle.lfm_protocol.specs.declared.points.Point.TheVariants.{Rest, TryCountExchange, TryOwnerLoad, EnterOwnerStore}
+use Rattle.lfm_protocol.specs.declared.seats.SeatState.{SeatState}
+use Rattle.lfm_table.specs.Rule.{value_in}
+use Rattle.lfm_mutex.specs.calls.Runs.{opens}
+use Rattle.lfm_mutex.specs.calls.Sight.{sight_of}
+use Rattle.lfm_table.specs.Steps.{oldest_in}
+use Rattle.lfm_mutex.specs.calls.Straight.{Course, Comes_to, try_turn}
+use Rattle.lfm_mutex.proofs.runs.Courses.{course_none, course_next, course_join, comes}
+use Rattle.lfm_table.proofs.tables.StepFacts.{made_of}
+use Rattle.lfm_mutex.proofs.runs.StraightPoints.{begins_try_again, fit_begun, exchanged_none, exchanged_some, try_owned, fit_after}
+use Rattle.lfm_mutex.proofs.try_lock.try_again.Goals as goal
+
+pub returns-then-found-eq0-clause-made : goal.returns-then-found-eq0-clause-made
+returns-then-found-eq0-clause-made g c =
+    let s = c.args.seat.now in let d = s.standing.depth in let t = s.standing.takes in let ps = s.standing.posts in
+    let p0 = made_of d t ps TryCountExchange in
+    let begins = begins_try_again s.standing s.limits c.requires.rests c.requires.held c.requires.room in
+    let fit = fit_begun s.number s.place.table_id.words s.place.id s.limits s.place.me s.moving s.standing p0 Call.TryLock (record { seated = s.seated; became = s.became; ready = s.ready; rooted = s.rooted }) begins in
+    let f = c.exchange_held-found in
+    let q = made_of d t ps (EnterOwnerStore Entrant.Trier How.Free) in let r = c.try_on.new.seat in
+    let first = course_next g.T.Kept.follows g.T.Kept.fits s.number p0 s.moving s.place.me.0 s.place.table_id.words s.place.id s.limits p0 f.result s.place.me s.moving f.new.place.me s.moving f.new.place.table_id.words f.new.place.id (opens q) (course_none g.T.Kept.follows g.T.Kept.fits s.number p0 s.moving s.place.me.0) fit f.ensures.step (exchanged_none d t ps s.number f.result (oldest_in s.moving) c.if-found-eq0.true) (λ e. cc) refl in
+    let last = course_join g.T.Kept.follows g.T.Kept.fits s.number p0 s.moving s.place.me.0 q r.standing s.moving r.moving f.new.place.me.0 r.place.me.0 (try_turn c.try_on.result) first
+    (subst (λ (x : SeatState). Course g.T.Kept.follows g.T.Kept.fits s.number x s.moving f.new.place.me.0 (try_turn c.try_on.result) r.standing r.moving r.place.me.0) c.stand_entering.ensures c.try_on.ensures.made) in
+    comes g.T.Kept.follows g.T.Kept.fits s.number p0 s.moving s.place.me.0 r.number s.limits c.args.mutex.now.limits Call.TryLock s.standing r.standing (try_turn c.try_on.result) r.moving r.place.me.0 c.requires.belongs.1 c.try_on.ensures.same.0 refl begins c.try_on.ensures.ends last
+
+pub returns-clause-made : goal.returns-clause-made
+returns-clause-made g c =
+    let s = c.args.seat.now in let d = s.standing.depth in let t = s.standing.takes in let ps = s.standing.posts in
+    let p0 = made_of d t ps TryCountExchange in
+    let begins = begins_try_again s.standing s.limits c.requires.rests c.requires.held c.requires.room in
+    let fit = fit_begun s.number s.place.table_id.words s.place.id s.limits s.place.me s.moving s.standing p0 Call.TryLock (record { seated = s.seated; became = s.became; ready = s.ready; rooted = s.rooted }) begins in
+    let f = c.exchange_held-found in
+    let h = c.load_held-owner in
+    let p1 = made_of d t ps TryOwnerLoad in
+    let is1 = exchanged_some d t ps s.number f.result (oldest_in s.moving) c.if-found-eq0.false in
+    let is2 = try_owned d t ps s.number h.result (oldest_in s.moving) c.if-owner-number.false in
+    let first = course_next g.T.Kept.follows g.T.Kept.fits s.number p0 s.moving s.place.me.0 s.place.table_id.words s.place.id s.limits p0 f.result s.place.me s.moving f.new.place.me s.moving f.new.place.table_id.words f.new.place.id (opens p1) (course_none g.T.Kept.follows g.T.Kept.fits s.number p0 s.moving s.place.me.0) fit f.ensures.step is1 (λ e. cc) refl in
+    let fit1 = fit_after g.T.Kept.follows g.T.Kept.fits s.number f.new.place.table_id.words f.new.place.id s.limits p0 f.result s.place.me s.moving f.new.place.me s.moving f.ensures.step (opens p1) is1 in
+    let last = course_next g.T.Kept.follows g.T.Kept.fits s.number p0 s.moving s.place.me.0 f.new.place.table_id.words f.new.place.id s.limits p1 h.result f.new.place.me s.moving h.new.place.me s.moving h.new.place.table_id.words h.new.place.id (record { seat = made_of (d + 1) t ps Rest; turn = Ended (Answer.Locked (Locked.Again (d + 1))) }) first fit1 h.ensures.step is2 (λ e. cc) refl in
+    subst (λ (x : SeatState). Comes_to g.T.Kept.follows g.T.Kept.fits c.args.mutex.now.limits Call.TryLock (sight_of s.number s.standing s.place.me.0 (value_in s.moving)) (sight_of s.number x h.new.place.me.0 (value_in s.moving)) (Ended (Answer.Locked (Locked.Again (d + 1)))))
+    (λ i. record { depth = d + 1; takes = t; posts = ps; point = sym c.requires.rests i })
+    (comes g.T.Kept.follows g.T.Kept.fits s.number p0 s.moving s.place.me.0 s.number s.limits c.args.mutex.now.limits Call.TryLock s.standing (made_of (d + 1) t ps Rest) (Ended (Answer.Locked (Locked.Again (d + 1)))) s.moving h.new.place.me.0 c.requires.belongs.1 refl refl begins refl last)

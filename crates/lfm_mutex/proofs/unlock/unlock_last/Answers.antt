@@ -1,0 +1,98 @@
+use Rattle.std.proofs.Common.{◌≡◌, ◌+◌, ◌≤◌, length, refl, sym, ap, subst, ◌∙◌, arith}
+use Rattle.lfm_model.specs.declared.answers.Unlocked.{Unlocked}
+use Rattle.lfm_protocol.specs.declared.answers.Answer.{Answer}
+use Rattle.lfm_protocol.specs.declared.answers.Call.{Call}
+use Rattle.lfm_protocol.specs.declared.answers.Turn.TheVariants.{Ended}
+use Rattle.lfm_protocol.specs.declared.points.Point.TheVariants.{Rest, ReleaseOwnerStore, ReleaseCountSubtract}
+use Rattle.lfm_protocol.specs.declared.points.Releaser.TheVariants.{Unlocker}
+use Rattle.lfm_protocol.specs.declared.seats.SeatState.{SeatState}
+use Rattle.lfm_core.specs.table.Words.{stepped_by}
+use Rattle.lfm_table.specs.Rule.{value_in}
+use Rattle.lfm_table.specs.Steps.{Event, oldest_in}
+use Rattle.lfm_mutex.specs.calls.Runs.{opens, weight}
+use Rattle.lfm_mutex.specs.calls.Sight.{sight_of}
+use Rattle.lfm_table.specs.Straight.{Fit}
+use Rattle.lfm_mutex.specs.calls.Straight.{Course, Comes_to}
+use Rattle.lfm_mutex.proofs.runs.Courses.{course_none, course_next, course_join, gives_up}
+use Rattle.lfm_mutex.proofs.runs.Running.{trail_grows, bounded_more}
+use Rattle.lfm_mutex.proofs.runs.Sights.{may_leave}
+use Rattle.lfm_mutex.proofs.runs.StraightPoints.{begins_last, fit_begun, freed, not_freed}
+use Rattle.lfm_table.proofs.tables.StepFacts.{made_of}
+use Rattle.lfm_protocol.specs.Begin.{Stepped}
+use Rattle.lfm_mutex.proofs.unlock.unlock_last.Goals as goal
+
+pub store_held-requires-clause-leaves : goal.store_held-requires-clause-leaves
+store_held-requires-clause-leaves g c κs within = let s = c.args.seat.now in
+    λ r at. may_leave g.T.Kept.follows g.T.Kept.fits s.number s.standing s.place.me.0 s.moving s.seated.named (let one = c.requires.one in omega (arith, one)) c.requires.leaves
+
+pub returns-then-found-ne1-clause-made : goal.returns-then-found-ne1-clause-made
+returns-then-found-ne1-clause-made g c =
+    let s = c.args.seat.now in let t = s.standing.takes in let ps = s.standing.posts in
+    let p0 = made_of 1 t ps (ReleaseOwnerStore Unlocker) in let p1 = made_of 0 t ps (ReleaseCountSubtract Unlocker) in
+    let begins = begins_last s.standing s.limits c.requires.rests c.requires.one in
+    let fit = fit_begun s.number s.place.table_id.words s.place.id s.limits s.place.me s.moving s.standing p0 Call.Unlock (record { seated = s.seated; became = s.became; ready = s.ready; rooted = s.rooted }) begins in
+    let h = c.store_held in let f = c.subtract_last-found in
+    let b = f.new.place in
+    let st = stepped_by p1 s.number f.result (oldest_in f.new.moving) in
+    let e : Event g.T.Kept.follows g.T.Kept.fits p1 s.moving h.new.place.me.0 st.turn st.seat f.new.moving b.me.0 = f.ensures.step.event in
+    let fit1 : Fit s.number h.new.place.table_id.words h.new.place.id s.limits p1 h.new.place.me s.moving = h.ensures.step.1.fit in
+    let r = c.unlock_on.new.seat in let turn = Ended (Answer.Unlocked c.unlock_on.result) in
+    let open_still : st ≡ opens st.seat = (λ i. record { seat = st.seat; turn = not_freed 0 t ps s.number f.result (oldest_in f.new.moving) c.if-found-ne1.true i }) in
+    let same : c.stand_carrying.new.standing ≡ st.seat = c.stand_carrying.ensures in
+    let so = course_next g.T.Kept.follows g.T.Kept.fits s.number p1 s.moving h.new.place.me.0 h.new.place.table_id.words h.new.place.id s.limits p1 f.result h.new.place.me s.moving b.me f.new.moving b.table_id.words b.id (opens st.seat)
+    (course_none g.T.Kept.follows g.T.Kept.fits s.number p1 s.moving h.new.place.me.0) fit1 f.ensures.step open_still (λ e. cc) refl in
+    gives_up g.T.Kept.follows g.T.Kept.fits s.number s.place.table_id.words s.place.id h.new.place.table_id.words h.new.place.id r.number h.ensures.step.0 s.limits p0 p1 s.place.me h.new.place.me s.moving fit refl h.ensures.step.1 refl c.args.mutex.now.limits s.standing r.standing turn r.moving r.place.me.0 c.requires.belongs.1 c.unlock_on.ensures.same.0 begins refl
+    (course_join g.T.Kept.follows g.T.Kept.fits s.number p1 s.moving h.new.place.me.0 st.seat r.standing f.new.moving r.moving b.me.0 r.place.me.0 turn so
+    (subst (λ (x : SeatState). Course g.T.Kept.follows g.T.Kept.fits s.number x f.new.moving b.me.0 turn r.standing r.moving r.place.me.0) same c.unlock_on.ensures.made))
+
+pub returns-clause-made : goal.returns-clause-made
+returns-clause-made g c =
+    let s = c.args.seat.now in let t = s.standing.takes in let ps = s.standing.posts in
+    let p0 = made_of 1 t ps (ReleaseOwnerStore Unlocker) in let p1 = made_of 0 t ps (ReleaseCountSubtract Unlocker) in
+    let begins = begins_last s.standing s.limits c.requires.rests c.requires.one in
+    let fit = fit_begun s.number s.place.table_id.words s.place.id s.limits s.place.me s.moving s.standing p0 Call.Unlock (record { seated = s.seated; became = s.became; ready = s.ready; rooted = s.rooted }) begins in
+    let h = c.store_held in let f = c.subtract_last-found in
+    let b = f.new.place in
+    let st = stepped_by p1 s.number f.result (oldest_in f.new.moving) in
+    let e : Event g.T.Kept.follows g.T.Kept.fits p1 s.moving h.new.place.me.0 st.turn st.seat f.new.moving b.me.0 = f.ensures.step.event in
+    let fit1 : Fit s.number h.new.place.table_id.words h.new.place.id s.limits p1 h.new.place.me s.moving = h.ensures.step.1.fit in
+    let turn = Ended (Answer.Unlocked Unlocked.Free) in
+    let so = course_next g.T.Kept.follows g.T.Kept.fits s.number p1 s.moving h.new.place.me.0 h.new.place.table_id.words h.new.place.id s.limits p1 f.result h.new.place.me s.moving b.me f.new.moving b.table_id.words b.id
+    (record { seat = made_of 0 t ps Rest; turn = turn })
+    (course_none g.T.Kept.follows g.T.Kept.fits s.number p1 s.moving h.new.place.me.0) fit1 f.ensures.step (freed 0 t ps s.number f.result (oldest_in f.new.moving) c.if-found-ne1.false) (λ e. cc) refl in
+    subst (λ (x : SeatState). Comes_to g.T.Kept.follows g.T.Kept.fits c.args.mutex.now.limits Call.Unlock (sight_of s.number s.standing s.place.me.0 (value_in s.moving)) (sight_of s.number x b.me.0 (value_in f.new.moving)) turn)
+    (λ i. record { depth = 0; takes = t; posts = ps; point = sym c.requires.rests i })
+    (gives_up g.T.Kept.follows g.T.Kept.fits s.number s.place.table_id.words s.place.id h.new.place.table_id.words h.new.place.id s.number h.ensures.step.0 s.limits p0 p1 s.place.me h.new.place.me s.moving fit refl h.ensures.step.1 refl c.args.mutex.now.limits s.standing (made_of 0 t ps Rest) turn f.new.moving b.me.0 c.requires.belongs.1 refl begins refl so)
+
+pub returns-then-found-ne1-clause-bounded : goal.returns-then-found-ne1-clause-bounded
+returns-then-found-ne1-clause-bounded g c =
+    let s = c.args.seat.now in let t = s.standing.takes in let ps = s.standing.posts in
+    let p0 = made_of 1 t ps (ReleaseOwnerStore Unlocker) in let p1 = made_of 0 t ps (ReleaseCountSubtract Unlocker) in
+    let h = c.store_held in let f = c.subtract_last-found in let b = f.new.place in let r = c.unlock_on.new.seat in
+    let st = stepped_by p1 s.number f.result (oldest_in f.new.moving) in
+    let first = stepped_by p0 s.number h.ensures.step.0 (oldest_in s.moving) in
+    let fit1 : Fit s.number h.new.place.table_id.words h.new.place.id s.limits p1 h.new.place.me s.moving = h.ensures.step.1.fit in
+    let one = trail_grows g.T.Kept.follows g.T.Kept.fits p0 first.seat s.place.me.0 h.new.place.me.0 s.moving s.moving first.turn h.ensures.step.1.event in
+    let most = bounded_more g.T.Kept.follows g.T.Kept.fits s.limits.seats s.number p1 st.seat h.new.place.me.0 b.me.0 s.moving f.new.moving st.turn (λ e. cc) (ap (λ l. l.seats) fit1.seated.limits_are) fit1.ready f.ensures.step.event in
+    let then = subst (λ (x : SeatState). length r.place.me.0.trail ≤ length b.me.0.trail + weight s.limits.seats (length b.me.0.popped) x.point) c.stand_carrying.ensures c.unlock_on.ensures.bounded in
+    let same = ap (λ l. l.seats) c.requires.belongs.1 in
+    omega (arith, one, most, then, same)
+
+pub returns-clause-bounded : goal.returns-clause-bounded
+returns-clause-bounded g c =
+    let s = c.args.seat.now in let t = s.standing.takes in let ps = s.standing.posts in
+    let p0 = made_of 1 t ps (ReleaseOwnerStore Unlocker) in let p1 = made_of 0 t ps (ReleaseCountSubtract Unlocker) in
+    let h = c.store_held in let f = c.subtract_last-found in
+    let first = stepped_by p0 s.number h.ensures.step.0 (oldest_in s.moving) in
+    let st = stepped_by p1 s.number f.result (oldest_in f.new.moving) in
+    let one = trail_grows g.T.Kept.follows g.T.Kept.fits p0 first.seat s.place.me.0 h.new.place.me.0 s.moving s.moving first.turn h.ensures.step.1.event in
+    let two = trail_grows g.T.Kept.follows g.T.Kept.fits p1 st.seat h.new.place.me.0 f.new.place.me.0 s.moving f.new.moving st.turn f.ensures.step.event in
+    omega (arith, one, two)
+
+pub invariant_of-seat-else-found-ne1 : goal.invariant_of-seat-else-found-ne1
+invariant_of-seat-else-found-ne1 g c =
+    let s = c.args.seat.now in let t = s.standing.takes in let ps = s.standing.posts in
+    let f = c.subtract_last-found in let b = f.new.place in
+    let fit = subst (λ (x : SeatState). Fit s.number b.table_id.words b.id s.limits x b.me f.new.moving)
+    (ap (λ (z : Stepped). z.seat) (freed 0 t ps s.number f.result (oldest_in f.new.moving) c.if-found-ne1.false) ∙ (λ i. record { depth = 0; takes = t; posts = ps; point = sym c.requires.rests i })) f.ensures.step.fit in
+    record { seated = fit.seated; became = fit.became; ready = fit.ready; rooted = fit.rooted }

@@ -1,0 +1,168 @@
+//! How a mutex is closed: all seats are joined into seat 1, and the value is taken out of the table.
+ghost use Rattle.std.specs.Prelude.{◌≡◌, ◌<◌, ◌≤◌, ℕ, [], Some, IfErr, IfOk, MatchOption, vec_len};
+ghost use mathlib.Core.Option.{some};
+ghost use lib.ListN.{get_elem?};
+ghost use Rattle.std.specs.Slots.{IsFull, slots_items, slots_len};
+ghost use Rattle.lfm_protocol.specs.declared.points.Point.TheVariants.{Rest};
+ghost use Rattle.lfm_table.specs.declared.seat_view.Role.TheVariants.{User};
+ghost use Rattle.lfm_mutex.specs.Belongs.{Of_mutex, limits_of};
+ghost use Rattle.lfm_mutex.specs.Close.{Are_free, Idle, Hinders, named, Lacks, Stands, Hindered, First_missing, All_stand, Left_last};
+ghost use Rattle.lfm_table.specs.Reach.{Reached};
+ghost use Rattle.lfm_mutex.specs.calls.Sight.{sight};
+ghost use Rattle.lfm_table.specs.Rule.{with_joined};
+
+use crate::holder::Holder;
+use crate::mutex::Mutex;
+use crate::seat::Seat;
+use atomic_table::Closed;
+use lfm_model::{Missing, SeatNo};
+use lfm_table::Kept;
+use lfm_table::moving_box::MovingBox;
+use lfm_table::rule::{JoinedView, SeatJoin};
+use lfm_table::table_steps::{Place, SharedTable};
+use std::alloc::Global;
+use std::marker::Brand;
+
+// Why this seat can't be joined.
+fn hinders<T: Kept>(seat: &Seat<T>) -> Option<Missing>
+    ensures { MatchOption result (Idle (sight seat.now)) (λ m. Hinders m (sight seat.now)) }
+{
+    if seat.depth() != 0 {
+        return Some(Missing::Holding(seat.number()));
+    }
+    if seat.asleep() {
+        return Some(Missing::Asleep(seat.number()));
+    }
+    None
+}
+
+fn number_of<T: Kept, P: Holder<T>>(holder: &P) -> u64
+    ensures { result ≡ (sight (P.seat_of holder.now)).number }
+{
+    holder.seat().number
+}
+
+fn hinders_one<T: Kept, P: Holder<T>>(holder: &P) -> Option<Missing>
+    ensures { MatchOption result (Idle (sight (P.seat_of holder.now))) (λ m. Hinders m (sight (P.seat_of holder.now))) }
+{
+    hinders(holder.seat())
+}
+
+// What keeps the seat with this number from being joined.
+fn hinders_at<T: Kept, P: Holder<T>>(seats: &Vec<P>, number: u64) -> Option<Missing>
+    requires number { (0 < number) × (number ≤ 65535) }
+    ensures { MatchOption result (Stands (λ p. sight (P.seat_of p)) seats.now.items number) (λ m. (named m ≡ number) × Hindered (λ p. sight (P.seat_of p)) seats.now.items m) }
+{
+    let mut found = false;
+    for seat in seats {
+        if number_of::<T, P>(seat) != number {
+            continue;
+        }
+        if let Some(missing) = hinders_one::<T, P>(seat) {
+            return Some(missing);
+        }
+        found = true;
+    }
+    if found {
+        None
+    } else {
+        Some(Missing::NotBack(SeatNo::known(number)))
+    }
+}
+
+// Dropping a seat's other fields here keeps the callers' proofs from splitting.
+fn into_place<T: Kept, P: Holder<T>>(holder: P) -> Place<T>
+    ensures { result ≡ (P.seat_of holder).place }
+{
+    let Seat {
+        place,
+        number: _,
+        limits: _,
+        standing: _,
+        moving: _,
+    } = holder.into_seat();
+    place
+}
+
+// Where seat 1 lies.
+fn first_place<T: Kept, P: Holder<T>>(seats: &Vec<P>) -> Option<usize>
+    ensures { MatchOption result (Lacks (λ p. sight (P.seat_of p)) seats.now.items 1) (λ i. (s : _) × (get_elem? seats.now.items i ≡ some s) × ((P.seat_of s).number ≡ 1)) }
+{
+    let mut place = 0usize;
+    for seat in seats {
+        if number_of::<T, P>(seat) == 1 {
+            return Some(place);
+        }
+        place += 1;
+    }
+    None
+}
+
+// Joins a seat that carries nothing.
+fn retire<T: Kept, B: JoinedView<T>>(table: &SharedTable<T>, root: &mut Place<T>, place: Place<T>)
+    requires view { B.view ≡ place.me.0 }
+    requires table { (root.old.table_id ≡ table.now.table_id) × (place.table_id ≡ table.now.table_id) × (0 < table.now.table_id.words) }
+    requires root { (root.old.id ≡ 0) × (root.old.me.0.role ≡ User) }
+    requires free { (place.me.0.role ≡ User) × (place.me.1 ≡ []) × (place.me.0.standing.point ≡ Rest) × (place.me.0.standing.depth ≡ 0) }
+    ensures table { (root.new.table_id ≡ root.old.table_id) × (root.new.id ≡ root.old.id) }
+    ensures joined { root.new.me ≡ (with_joined root.old.me.0 place.me.0, root.old.me.1) }
+{
+    table.join_seat::<SeatJoin<B>>(root, place);
+}
+
+// Takes what lies in the slot of a table, which is closed while nobody counts, nothing is posted and nobody is queued.
+fn take_slot<T: Kept>(closed: Closed<Option<MovingBox<T>>, Global>) -> Option<MovingBox<T>>
+    requires free { Are_free (slots_items closed.words) }
+    requires slot { (slots_len closed.slots ≡ 1) × IsFull closed.slots }
+    ensures { get_elem? (slots_items closed.slots) 0 ≡ some result }
+{
+    let mut closed = closed;
+    let slot = closed.take(0);
+    closed.free();
+    slot
+}
+
+impl<T: Kept> Mutex<T> {
+    // The first thing that keeps the mutex from being closed.
+    fn missing<P: Holder<T>>(&self, seats: &Vec<P>) -> Option<Missing>
+        ensures { MatchOption result (All_stand (λ p. sight (P.seat_of p)) seats.now.items (limits_of self.now).seats) (First_missing (λ p. sight (P.seat_of p)) seats.now.items (limits_of self.now).seats) }
+    {
+        for i in 0..self.limits.seats {
+            if let Some(missing) = hinders_at::<T, P>(seats, i + 1) {
+                return Some(missing);
+            }
+        }
+        None
+    }
+
+    /// Gives the guarded value back, and ends the mutex, where all seats are there, none holds, none sleeps and none is
+    /// in a call. It is the value that a seat that has held left last, or the opening value where none has held.
+    /// Otherwise it hands back the mutex and the seats, and names the first seat that hinders it, and how. It compares
+    /// each of the seats' numbers with each handed in, takes no memory and never waits.
+    pub fn close<P: Holder<T>>(self, seats: Vec<P>) -> Result<T, (Mutex<T>, Vec<P>, Missing)>
+        requires belongs { (j : ℕ) (s : _) → get_elem? seats.items j ≡ some s → Of_mutex (P.seat_of s) self }
+        ensures missing { IfErr result (λ e. (e.0 ≡ self) × (e.1 ≡ seats) × First_missing (λ p. sight (P.seat_of p)) seats.items (limits_of self).seats e.2) }
+        ensures all { IfOk result (λ _. All_stand (λ p. sight (P.seat_of p)) seats.items (limits_of self).seats) }
+        ensures sized { IfOk result (λ _. vec_len seats ≡ (limits_of self).seats) }
+        ensures last { IfOk result (λ v. Left_last (λ p. sight (P.seat_of p)) seats.items v) }
+        ensures reached { IfOk result (λ v. (j : ℕ) (s : _) (l : T) → get_elem? seats.items j ≡ some s → (sight (P.seat_of s)).last ≡ Some l → Reached T.follows (sight (P.seat_of s)).number l v) }
+    {
+        if let Some(missing) = self.missing(&seats) {
+            return Err((self, seats, missing));
+        }
+        let Some(at) = first_place::<T, P>(&seats) else {
+            unreachable!()
+        };
+        let Mutex { table, limits: _ } = self;
+        let mut seats = seats;
+        let mut root = into_place::<T, P>(seats.remove(at));
+        while let Some(seat) = seats.pop() {
+            let place = into_place::<T, P>(seat);
+            retire::<T, Brand>(&table.shared, &mut root, place);
+        }
+        let Some(moving) = take_slot(table.close_with(root)) else {
+            unreachable!()
+        };
+        Ok(moving.into_value())
+    }
+}

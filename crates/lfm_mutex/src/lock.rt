@@ -1,0 +1,254 @@
+//! `lock`, and `ask`, which is `lock` up to the point where it would sleep. Where `ask` meets no other seat it is made straight
+//! on: with its atomic steps and the few fields that change, and with no copy of the seat's data. Where a step finds more, the
+//! seat goes on from its point as any call does.
+ghost use Rattle.std.specs.Prelude.{◌≡◌, ◌<◌};
+ghost use Rattle.lfm_model.specs.declared.answers.How.{How as HowNow};
+ghost use Rattle.lfm_protocol.specs.declared.answers.Answer.TheVariants as Answered;
+ghost use Rattle.lfm_protocol.specs.declared.answers.Call.{Call as CallNow};
+ghost use Rattle.lfm_protocol.specs.declared.answers.Turn.TheVariants.{Ended};
+ghost use Rattle.lfm_protocol.specs.declared.points.Point.TheVariants.{Rest, LockOwnerLoad, EnterOwnerStore, PushLoad};
+ghost use Rattle.lfm_protocol.specs.declared.points.Entrant.{Entrant as EntrantNow};
+ghost use Rattle.lfm_protocol.specs.declared.points.Pusher.{Pusher as PusherNow};
+ghost use Rattle.lfm_mutex.specs.Belongs.{Beside, Of_mutex, limits_of};
+ghost use Rattle.lfm_mutex.specs.calls.Runs.{errand, locking};
+ghost use Rattle.lfm_mutex.specs.calls.Sight.{sight, Asks, Locks_waiting};
+ghost use Rattle.lfm_mutex.specs.calls.Straight.{Course, Comes_to};
+ghost use Rattle.lfm_mutex.specs.calls.Trails.{Makes_call, Locks_by};
+
+use crate::calls::{asleep, finish, run};
+use crate::mutex::Mutex;
+use crate::seat::Seat;
+use lfm_model::{Asked, How, Locked, Refusal};
+use lfm_protocol::points::{Entrant, Point, Pusher};
+use lfm_protocol::{Answer, Call, MAX_DEPTH, SeatState, Turn, Why};
+use lfm_table::Kept;
+use lfm_table::straight_steps::{add_free, add_held, load_held, store_held, subtract_held};
+use std::sync::Wait;
+
+/// Makes the steps of the open call of lock to its end.
+#[inline(always)]
+fn ask_on<T: Kept>(mutex: &Mutex<T>, seat: &mut Seat<T>) -> Asked
+    requires belongs { seat.old.place.table_id ≡ mutex.now.table.shared.table_id }
+    requires locks { errand seat.old.standing.point ≡ locking }
+    ensures belongs { seat.new.place.table_id ≡ seat.old.place.table_id }
+    ensures same { (seat.new.number ≡ seat.old.number) × (seat.new.limits ≡ seat.old.limits) }
+    ensures made { Course T.follows T.fits seat.old.number seat.old.standing seat.old.moving seat.old.place.me.0 (Ended (Answered.Asked result)) seat.new.standing seat.new.moving seat.new.place.me.0 }
+{
+    match finish(mutex, seat) {
+        Turn::Ended(Answer::Asked(asked)) => asked,
+        _ => unreachable!(),
+    }
+}
+
+// The points at which the generic run goes on. They are written out of line, since a point takes as long as a step.
+
+#[inline(never)]
+fn stand_loading(standing: &mut SeatState, takes: u64)
+    ensures { standing.new ≡ record { depth = 0; takes = takes; posts = standing.old.posts; point = LockOwnerLoad } }
+{
+    standing.depth = 0;
+    standing.takes = takes;
+    standing.point = Point::LockOwnerLoad;
+}
+
+#[inline(never)]
+fn stand_entering(standing: &mut SeatState)
+    ensures { standing.new ≡ record standing.old { point = EnterOwnerStore EntrantNow.Locker HowNow.Free } }
+{
+    standing.point = Point::EnterOwnerStore(Entrant::Locker, How::Free);
+}
+
+#[inline(never)]
+fn stand_pushing(standing: &mut SeatState)
+    ensures { standing.new ≡ record standing.old { point = PushLoad PusherNow.Locker } }
+{
+    standing.point = Point::PushLoad(Pusher::Locker);
+}
+
+/// `ask` of a seat that is awake, doesn't hold, and has a take left.
+#[inline(always)]
+pub fn ask_free<T: Kept>(mutex: &Mutex<T>, seat: &mut Seat<T>, budget: u64) -> Asked
+    requires belongs { Of_mutex seat.old mutex.now }
+    requires rests { seat.old.standing.point ≡ Rest }
+    requires flat { seat.old.standing.depth ≡ 0 }
+    requires budget { budget ≡ seat.old.limits.budget }
+    requires charged { seat.old.standing.takes < budget }
+    ensures belongs { Beside seat.old seat.new }
+    ensures made { Comes_to T.follows T.fits (limits_of mutex.now) CallNow.Lock (sight seat.old) (sight seat.new) (Ended (Answered.Asked result)) }
+{
+    let _budget = budget;
+    let table = &mutex.table.shared;
+    let limits = seat.limits;
+    let takes = seat.standing.takes + 1;
+    let posts = seat.standing.posts;
+    let begun = SeatState {
+        depth: 0,
+        takes,
+        posts,
+        point: Point::LockCountAdd,
+    };
+    let found = add_free(
+        table,
+        &mut seat.place,
+        &mut seat.moving,
+        seat.number,
+        limits,
+        &begun,
+    );
+    if found != 0 {
+        stand_loading(&mut seat.standing, takes);
+        return ask_on(mutex, seat);
+    }
+    // Written here, where the value has just been moved: each stretch between two atomic steps that has writes costs time.
+    seat.standing.depth = 1;
+    seat.standing.takes = takes;
+    let entering = SeatState {
+        depth: 0,
+        takes,
+        posts,
+        point: Point::EnterOwnerStore(Entrant::Locker, How::Free),
+    };
+    store_held(
+        table,
+        &mut seat.place,
+        &seat.moving,
+        seat.number,
+        limits,
+        &entering,
+    );
+    Asked::Held(How::Free)
+}
+
+/// `ask` of a seat that is awake and holds, below the greatest depth.
+#[inline(always)]
+pub fn ask_again<T: Kept>(mutex: &Mutex<T>, seat: &mut Seat<T>) -> Asked
+    requires belongs { Of_mutex seat.old mutex.now }
+    requires rests { seat.old.standing.point ≡ Rest }
+    requires held { 0 < seat.old.standing.depth }
+    requires room { seat.old.standing.depth < 65535 }
+    ensures belongs { Beside seat.old seat.new }
+    ensures made { Comes_to T.follows T.fits (limits_of mutex.now) CallNow.Lock (sight seat.old) (sight seat.new) (Ended (Answered.Asked result)) }
+{
+    let table = &mutex.table.shared;
+    let limits = seat.limits;
+    let number = seat.number;
+    let SeatState {
+        depth,
+        takes,
+        posts,
+        point: _,
+    } = seat.standing;
+    let begun = SeatState {
+        depth,
+        takes,
+        posts,
+        point: Point::LockCountAdd,
+    };
+    let found = add_held(table, &mut seat.place, &seat.moving, number, limits, &begun);
+    if found == 0 {
+        stand_entering(&mut seat.standing);
+        return ask_on(mutex, seat);
+    }
+    let counted = SeatState {
+        depth,
+        takes,
+        posts,
+        point: Point::LockOwnerLoad,
+    };
+    let owner = load_held(
+        table,
+        &mut seat.place,
+        &seat.moving,
+        number,
+        limits,
+        &counted,
+    );
+    if owner != number {
+        stand_pushing(&mut seat.standing);
+        return ask_on(mutex, seat);
+    }
+    let owning = SeatState {
+        depth,
+        takes,
+        posts,
+        point: Point::LockCountSubtract,
+    };
+    subtract_held(
+        table,
+        &mut seat.place,
+        &seat.moving,
+        number,
+        limits,
+        &owning,
+    );
+    seat.standing.depth = depth + 1;
+    Asked::Again(depth + 1)
+}
+
+/// `ask` by the generic run of its steps.
+#[inline(always)]
+fn ask_any<T: Kept>(mutex: &Mutex<T>, seat: &mut Seat<T>) -> Result<Asked, Refusal>
+    requires belongs { Of_mutex seat.old mutex.now }
+    ensures belongs { Beside seat.old seat.new }
+    ensures asks { Asks T.follows T.fits (limits_of mutex.now).budget (sight seat.old) (sight seat.new) result }
+    ensures steps { Makes_call (limits_of mutex.now) (λ x. Answered.Asked x) CallNow.Lock (sight seat.old) (sight seat.new) result }
+{
+    match run(mutex, seat, Call::Lock) {
+        Turn::Ended(Answer::Asked(asked)) => Ok(asked),
+        Turn::Refused(Why::By(refusal)) => Err(refusal),
+        Turn::Refused(_) => Err(Refusal::Asleep),
+        _ => unreachable!(),
+    }
+}
+
+impl<T: Kept> Mutex<T> {
+    /// `lock` up to the point where it would sleep: gains the mutex, deepens the hold, or queues the seat, which then
+    /// sleeps until a receive tells it that it holds. A seat that gains the mutex or queues is charged one take.
+    ///
+    /// Refuses, in this order: Asleep (the seat sleeps, or a call of it is open), DepthFull (it holds at depth 65,535),
+    /// Spent (it doesn't hold, and has no take left). It never waits. Where it takes a posted hand-off over and an older
+    /// record than its own is queued, it grants the mutex to the seat of that record, and wakes it. As `lock` of LFthreads'
+    /// mutex and of OSv's lfmutex.
+    #[inline(always)]
+    pub fn ask(&self, seat: &mut Seat<T>) -> Result<Asked, Refusal>
+        requires belongs { Of_mutex seat.old self.now }
+        ensures belongs { Beside seat.old seat.new }
+        ensures asks { Asks T.follows T.fits (limits_of self.now).budget (sight seat.old) (sight seat.new) result }
+        ensures steps { Makes_call (limits_of self.now) (λ x. Answered.Asked x) CallNow.Lock (sight seat.old) (sight seat.new) result }
+    {
+        if asleep(&seat.standing) {
+            return ask_any(self, seat);
+        }
+        if seat.standing.depth == 0 {
+            let budget = seat.limits.budget;
+            if seat.standing.takes < budget {
+                return Ok(ask_free(self, seat, budget));
+            }
+            return ask_any(self, seat);
+        }
+        if seat.standing.depth < MAX_DEPTH {
+            return Ok(ask_again(self, seat));
+        }
+        ask_any(self, seat)
+    }
+
+    /// Gains the mutex, or deepens the hold: `ask`, and then `receive_lock` where it answered Asleep.
+    ///
+    /// Refuses as `ask`: Asleep, DepthFull, Spent, in this order. It may wake a seat, as `ask` may.
+    #[inline(always)]
+    pub fn lock<R: Wait>(&self, rt: &R, seat: &mut Seat<T>) -> Result<Locked, Refusal>
+        requires belongs { Of_mutex seat.old self.now }
+        ensures belongs { Beside seat.old seat.new }
+        ensures locks { Locks_waiting T.follows T.fits (limits_of self.now).budget (sight seat.old) (sight seat.new) result }
+        ensures steps { Locks_by (limits_of self.now) (sight seat.old) (sight seat.new) result }
+    {
+        match self.ask(seat)? {
+            Asked::Held(how) => Ok(Locked::Held(how)),
+            Asked::Again(depth) => Ok(Locked::Again(depth)),
+            Asked::Asleep => {
+                let how = self.receive_lock(rt, seat)?;
+                Ok(Locked::Held(how))
+            }
+        }
+    }
+}

@@ -1,0 +1,252 @@
+//! `try_lock`. It is made straight on where the mutex is free, where the seat holds it, and where another seat does and no handoff
+//! is posted. Where a handoff is posted, the seat goes on from its point as any call does.
+ghost use Rattle.std.specs.Prelude.{◌≡◌, ◌<◌, None};
+ghost use Rattle.lfm_model.specs.declared.answers.How.{How as HowNow};
+ghost use Rattle.lfm_protocol.specs.declared.answers.Call.{Call as CallNow};
+ghost use Rattle.lfm_protocol.specs.declared.points.Entrant.{Entrant as EntrantNow};
+ghost use Rattle.lfm_protocol.specs.declared.points.Point.TheVariants.{Rest, TryHandoffLoad, EnterOwnerStore};
+ghost use Rattle.lfm_core.specs.table.Words.{stepped_by};
+ghost use Rattle.lfm_mutex.specs.Belongs.{Beside, Of_mutex, limits_of};
+ghost use Rattle.lfm_mutex.specs.calls.Runs.{errand, trying, Ends};
+ghost use Rattle.lfm_mutex.specs.calls.Sight.{sight, Locks};
+ghost use Rattle.lfm_mutex.specs.calls.Straight.{Course, Comes_to, try_turn};
+ghost use Rattle.lfm_protocol.specs.declared.answers.Answer.TheVariants as Answered;
+ghost use Rattle.lfm_mutex.specs.calls.Trails.{Makes_call};
+
+use crate::calls::{asleep, finish, run};
+use crate::mutex::Mutex;
+use crate::seat::Seat;
+use lfm_model::{How, Locked, Refusal};
+use lfm_protocol::points::{Entrant, Point};
+use lfm_protocol::{Answer, Call, MAX_DEPTH, SeatState, Turn, Why};
+use lfm_table::Kept;
+use lfm_table::seat_memory::advance;
+use lfm_table::straight_steps::{
+    exchange_free, exchange_held, load_free, load_handoff_free, load_held, store_held,
+};
+
+/// Makes the steps of the open call of try_lock to its end.
+#[inline(always)]
+fn try_on<T: Kept>(mutex: &Mutex<T>, seat: &mut Seat<T>) -> Result<Locked, Refusal>
+    requires belongs { seat.old.place.table_id ≡ mutex.now.table.shared.table_id }
+    requires tries { errand seat.old.standing.point ≡ trying }
+    ensures belongs { seat.new.place.table_id ≡ seat.old.place.table_id }
+    ensures same { (seat.new.number ≡ seat.old.number) × (seat.new.limits ≡ seat.old.limits) }
+    ensures ends { Ends trying (try_turn result) }
+    ensures made { Course T.follows T.fits seat.old.number seat.old.standing seat.old.moving seat.old.place.me.0 (try_turn result) seat.new.standing seat.new.moving seat.new.place.me.0 }
+{
+    match finish(mutex, seat) {
+        Turn::Ended(Answer::Locked(locked)) => Ok(locked),
+        Turn::Refused(Why::By(refusal)) => Err(refusal),
+        _ => unreachable!(),
+    }
+}
+
+// The points at which the generic run goes on. They are written out of line, since a point takes as long as a step.
+
+#[inline(never)]
+fn stand_exchanging(standing: &mut SeatState, takes: u64, number: u64, found: u64)
+    requires { 0 < takes }
+    ensures { standing.new ≡ (stepped_by (record { depth = 0; takes = takes; posts = standing.old.posts; point = TryHandoffLoad }) number found None).seat }
+{
+    standing.depth = 0;
+    standing.takes = takes;
+    standing.point = Point::TryHandoffLoad;
+    advance(standing, number, found, None);
+}
+
+#[inline(never)]
+fn stand_entering(standing: &mut SeatState)
+    ensures { standing.new ≡ record standing.old { point = EnterOwnerStore EntrantNow.Trier HowNow.Free } }
+{
+    standing.point = Point::EnterOwnerStore(Entrant::Trier, How::Free);
+}
+
+#[inline(never)]
+fn stand_loading(standing: &mut SeatState)
+    ensures { standing.new ≡ record standing.old { point = TryHandoffLoad } }
+{
+    standing.point = Point::TryHandoffLoad;
+}
+
+/// `try_lock` of a seat that is awake, doesn't hold, and has a take left.
+#[inline(always)]
+pub fn try_free<T: Kept>(
+    mutex: &Mutex<T>,
+    seat: &mut Seat<T>,
+    budget: u64,
+) -> Result<Locked, Refusal>
+    requires belongs { Of_mutex seat.old mutex.now }
+    requires rests { seat.old.standing.point ≡ Rest }
+    requires flat { seat.old.standing.depth ≡ 0 }
+    requires budget { budget ≡ seat.old.limits.budget }
+    requires charged { seat.old.standing.takes < budget }
+    ensures belongs { Beside seat.old seat.new }
+    ensures made { Comes_to T.follows T.fits (limits_of mutex.now) CallNow.TryLock (sight seat.old) (sight seat.new) (try_turn result) }
+{
+    let _budget = budget;
+    let table = &mutex.table.shared;
+    let limits = seat.limits;
+    let number = seat.number;
+    let takes = seat.standing.takes + 1;
+    let posts = seat.standing.posts;
+    let begun = SeatState {
+        depth: 0,
+        takes,
+        posts,
+        point: Point::TryCountExchange,
+    };
+    let found = exchange_free(
+        table,
+        &mut seat.place,
+        &mut seat.moving,
+        number,
+        limits,
+        &begun,
+    );
+    if found == 0 {
+        // Written here, where the value has just been moved: each stretch between two atomic steps that has writes costs time.
+        seat.standing.depth = 1;
+        seat.standing.takes = takes;
+        let entering = SeatState {
+            depth: 0,
+            takes,
+            posts,
+            point: Point::EnterOwnerStore(Entrant::Trier, How::Free),
+        };
+        store_held(
+            table,
+            &mut seat.place,
+            &seat.moving,
+            number,
+            limits,
+            &entering,
+        );
+        return Ok(Locked::Held(How::Free));
+    }
+    let counted = SeatState {
+        depth: 0,
+        takes,
+        posts,
+        point: Point::TryOwnerLoad,
+    };
+    load_free(
+        table,
+        &mut seat.place,
+        &seat.moving,
+        number,
+        limits,
+        &counted,
+    );
+    let owned = SeatState {
+        depth: 0,
+        takes,
+        posts,
+        point: Point::TryHandoffLoad,
+    };
+    let handoff = load_handoff_free(table, &mut seat.place, &seat.moving, number, limits, &owned);
+    if handoff % 65_536 != 0 {
+        stand_exchanging(&mut seat.standing, takes, number, handoff);
+        return try_on(mutex, seat);
+    }
+    Err(Refusal::Busy)
+}
+
+/// `try_lock` of a seat that is awake and holds, below the greatest depth.
+#[inline(always)]
+pub fn try_again<T: Kept>(mutex: &Mutex<T>, seat: &mut Seat<T>) -> Result<Locked, Refusal>
+    requires belongs { Of_mutex seat.old mutex.now }
+    requires rests { seat.old.standing.point ≡ Rest }
+    requires held { 0 < seat.old.standing.depth }
+    requires room { seat.old.standing.depth < 65535 }
+    ensures belongs { Beside seat.old seat.new }
+    ensures made { Comes_to T.follows T.fits (limits_of mutex.now) CallNow.TryLock (sight seat.old) (sight seat.new) (try_turn result) }
+{
+    let table = &mutex.table.shared;
+    let limits = seat.limits;
+    let number = seat.number;
+    let SeatState {
+        depth,
+        takes,
+        posts,
+        point: _,
+    } = seat.standing;
+    let begun = SeatState {
+        depth,
+        takes,
+        posts,
+        point: Point::TryCountExchange,
+    };
+    let found = exchange_held(table, &mut seat.place, &seat.moving, number, limits, &begun);
+    if found == 0 {
+        stand_entering(&mut seat.standing);
+        return try_on(mutex, seat);
+    }
+    let counted = SeatState {
+        depth,
+        takes,
+        posts,
+        point: Point::TryOwnerLoad,
+    };
+    let owner = load_held(
+        table,
+        &mut seat.place,
+        &seat.moving,
+        number,
+        limits,
+        &counted,
+    );
+    if owner != number {
+        stand_loading(&mut seat.standing);
+        return try_on(mutex, seat);
+    }
+    seat.standing.depth = depth + 1;
+    Ok(Locked::Again(depth + 1))
+}
+
+/// `try_lock` by the generic run of its steps.
+#[inline(always)]
+fn try_lock_any<T: Kept>(mutex: &Mutex<T>, seat: &mut Seat<T>) -> Result<Locked, Refusal>
+    requires belongs { Of_mutex seat.old mutex.now }
+    ensures belongs { Beside seat.old seat.new }
+    ensures locks { Locks T.follows T.fits (limits_of mutex.now).budget (sight seat.old) (sight seat.new) result }
+    ensures steps { Makes_call (limits_of mutex.now) (λ x. Answered.Locked x) CallNow.TryLock (sight seat.old) (sight seat.new) result }
+{
+    match run(mutex, seat, Call::TryLock) {
+        Turn::Ended(Answer::Locked(locked)) => Ok(locked),
+        Turn::Refused(Why::By(refusal)) => Err(refusal),
+        Turn::Refused(_) => Err(Refusal::Asleep),
+        _ => unreachable!(),
+    }
+}
+
+impl<T: Kept> Mutex<T> {
+    /// Gains the mutex or deepens the hold without queueing. A gain is charged one take. A post that no one has accepted
+    /// is accepted.
+    ///
+    /// Refuses, in this order: Asleep, DepthFull and Spent as `ask`, and Busy, where the count was not 0, another seat
+    /// was the owner, and no post stood there or another call was faster to accept it; Busy gives its charge back. It
+    /// never waits and wakes nobody. As `trylock` of OSv's lfmutex.
+    #[inline(always)]
+    pub fn try_lock(&self, seat: &mut Seat<T>) -> Result<Locked, Refusal>
+        requires belongs { Of_mutex seat.old self.now }
+        ensures belongs { Beside seat.old seat.new }
+        ensures locks { Locks T.follows T.fits (limits_of self.now).budget (sight seat.old) (sight seat.new) result }
+        ensures steps { Makes_call (limits_of self.now) (λ x. Answered.Locked x) CallNow.TryLock (sight seat.old) (sight seat.new) result }
+    {
+        if asleep(&seat.standing) {
+            return try_lock_any(self, seat);
+        }
+        if seat.standing.depth == 0 {
+            let budget = seat.limits.budget;
+            if seat.standing.takes < budget {
+                return try_free(self, seat, budget);
+            }
+            return try_lock_any(self, seat);
+        }
+        if seat.standing.depth < MAX_DEPTH {
+            return try_again(self, seat);
+        }
+        try_lock_any(self, seat)
+    }
+}

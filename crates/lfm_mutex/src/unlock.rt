@@ -1,0 +1,174 @@
+//! `unlock`. Where nobody waits it is made straight on: with its atomic steps and the few fields that change, and with no copy
+//! of the seat's data. Where a step finds more, the seat goes on from its point as any call does.
+ghost use Rattle.std.specs.Prelude.{◌≡◌, ◌+◌, ◌<◌, ◌≤◌, length, false};
+ghost use Rattle.lfm_protocol.specs.declared.answers.Answer.TheVariants as Answered;
+ghost use Rattle.lfm_protocol.specs.declared.answers.Call.{Call as CallNow};
+ghost use Rattle.lfm_protocol.specs.declared.answers.Turn.TheVariants.{Ended};
+ghost use Rattle.lfm_protocol.specs.declared.points.Point.TheVariants.{Rest, ReleaseCountSubtract};
+ghost use Rattle.lfm_protocol.specs.declared.points.Releaser.TheVariants.{Unlocker as UnlockerNow};
+ghost use Rattle.lfm_core.specs.table.Words.{stepped_by};
+ghost use Rattle.lfm_table.specs.Steps.{oldest_in};
+ghost use Rattle.lfm_mutex.specs.Belongs.{Beside, Of_mutex, limits_of};
+ghost use Rattle.lfm_mutex.specs.calls.Runs.{errand, is_release, releasing, weight};
+ghost use Rattle.lfm_mutex.specs.calls.Sight.{sight, May_leave, Unlocks};
+ghost use Rattle.lfm_mutex.specs.calls.Straight.{Course, Comes_to};
+ghost use Rattle.lfm_mutex.specs.calls.Trails.{Makes_at_most, Makes_call};
+
+use crate::calls::{asleep, finish, release};
+use crate::mutex::Mutex;
+use crate::seat::Seat;
+use lfm_model::{Refusal, Unlocked};
+use lfm_protocol::points::{Point, Releaser};
+use lfm_protocol::{Answer, Call, SeatState, Turn, Why};
+use lfm_table::Kept;
+use lfm_table::moving_box::MovingBox;
+use lfm_table::seat_memory::oldest_of;
+use lfm_table::straight_steps::{store_held, subtract_last};
+
+/// Makes the steps of the open call of unlock to its end, once its seat has given up the owner word.
+#[inline(always)]
+fn unlock_on<T: Kept>(mutex: &Mutex<T>, seat: &mut Seat<T>) -> Unlocked
+    requires belongs { seat.old.place.table_id ≡ mutex.now.table.shared.table_id }
+    requires unlocks { errand seat.old.standing.point ≡ releasing UnlockerNow }
+    requires keeps { is_release seat.old.standing.point ≡ false }
+    ensures belongs { seat.new.place.table_id ≡ seat.old.place.table_id }
+    ensures same { (seat.new.number ≡ seat.old.number) × (seat.new.limits ≡ seat.old.limits) }
+    ensures made { Course T.follows T.fits seat.old.number seat.old.standing seat.old.moving seat.old.place.me.0 (Ended (Answered.Unlocked result)) seat.new.standing seat.new.moving seat.new.place.me.0 }
+    ensures bounded { length seat.new.place.me.0.trail ≤ length seat.old.place.me.0.trail + weight seat.old.limits.seats (length seat.old.place.me.0.popped) seat.old.standing.point }
+{
+    match finish(mutex, seat) {
+        Turn::Ended(Answer::Unlocked(unlocked)) => unlocked,
+        _ => unreachable!(),
+    }
+}
+
+// Moves the seat's own data on by a count that was more than 1, out of line.
+#[inline(never)]
+fn stand_carrying<T: Kept>(
+    standing: &mut SeatState,
+    moving: &Option<MovingBox<T>>,
+    number: u64,
+    found: u64,
+)
+    ensures { standing.new ≡ (stepped_by (record standing.old { depth = 0; point = ReleaseCountSubtract UnlockerNow }) number found (oldest_in moving.now)).seat }
+{
+    let oldest = oldest_of(moving);
+    standing.depth = 0;
+    standing.point = Point::ReleaseCountSubtract(Releaser::Unlocker);
+    standing.after_count_subtract(number, found, oldest);
+}
+
+/// `unlock` of a seat that is awake and holds once.
+#[inline(always)]
+pub fn unlock_last<T: Kept>(mutex: &Mutex<T>, seat: &mut Seat<T>) -> Unlocked
+    requires belongs { Of_mutex seat.old mutex.now }
+    requires rests { seat.old.standing.point ≡ Rest }
+    requires one { seat.old.standing.depth ≡ 1 }
+    requires leaves { May_leave T.follows T.fits (sight seat.old) }
+    ensures belongs { Beside seat.old seat.new }
+    ensures made { Comes_to T.follows T.fits (limits_of mutex.now) CallNow.Unlock (sight seat.old) (sight seat.new) (Ended (Answered.Unlocked result)) }
+    ensures bounded { Makes_at_most ((limits_of mutex.now).seats + 7) (sight seat.old) (sight seat.new) }
+{
+    let table = &mutex.table.shared;
+    let limits = seat.limits;
+    let number = seat.number;
+    let takes = seat.standing.takes;
+    let posts = seat.standing.posts;
+    let ending = SeatState {
+        depth: 1,
+        takes,
+        posts,
+        point: Point::ReleaseOwnerStore(Releaser::Unlocker),
+    };
+    store_held(
+        table,
+        &mut seat.place,
+        &seat.moving,
+        number,
+        limits,
+        &ending,
+    );
+    // Written here, where the value is about to be moved: each stretch between two atomic steps that has writes costs time.
+    seat.standing.depth = 0;
+    let ended = SeatState {
+        depth: 0,
+        takes,
+        posts,
+        point: Point::ReleaseCountSubtract(Releaser::Unlocker),
+    };
+    let found = subtract_last(
+        table,
+        &mut seat.place,
+        &mut seat.moving,
+        number,
+        limits,
+        &ended,
+    );
+    if found != 1 {
+        stand_carrying(&mut seat.standing, &seat.moving, number, found);
+        return unlock_on(mutex, seat);
+    }
+    Unlocked::Free
+}
+
+/// `unlock` of a seat that is awake and holds more than once.
+#[inline(always)]
+pub fn unlock_once<T: Kept>(mutex: &Mutex<T>, seat: &mut Seat<T>) -> Unlocked
+    requires belongs { Of_mutex seat.old mutex.now }
+    requires rests { seat.old.standing.point ≡ Rest }
+    requires deep { 1 < seat.old.standing.depth }
+    ensures belongs { Beside seat.old seat.new }
+    ensures made { Comes_to T.follows T.fits (limits_of mutex.now) CallNow.Unlock (sight seat.old) (sight seat.new) (Ended (Answered.Unlocked result)) }
+    ensures bounded { Makes_at_most ((limits_of mutex.now).seats + 7) (sight seat.old) (sight seat.new) }
+{
+    let _mutex = mutex;
+    seat.standing.depth -= 1;
+    Unlocked::Still(seat.standing.depth)
+}
+
+/// `unlock` by the generic run of its steps.
+#[inline(always)]
+fn unlock_any<T: Kept>(mutex: &Mutex<T>, seat: &mut Seat<T>) -> Result<Unlocked, Refusal>
+    requires belongs { Of_mutex seat.old mutex.now }
+    requires leaves { May_leave T.follows T.fits (sight seat.old) }
+    ensures belongs { Beside seat.old seat.new }
+    ensures unlocks { Unlocks (sight seat.old) (sight seat.new) result }
+    ensures steps { Makes_call (limits_of mutex.now) (λ x. Answered.Unlocked x) CallNow.Unlock (sight seat.old) (sight seat.new) result }
+    ensures bounded { Makes_at_most ((limits_of mutex.now).seats + 7) (sight seat.old) (sight seat.new) }
+{
+    match release(mutex, seat, Call::Unlock) {
+        Turn::Ended(Answer::Unlocked(unlocked)) => Ok(unlocked),
+        Turn::Refused(Why::By(refusal)) => Err(refusal),
+        Turn::Refused(_) => Err(Refusal::Asleep),
+        _ => unreachable!(),
+    }
+}
+
+impl<T: Kept> Mutex<T> {
+    /// Gives up one hold, and at depth 1 the mutex: to the oldest queued seat, by a post to a locker that is not yet
+    /// queued, or to nobody. What is in hand then has to follow what was found.
+    ///
+    /// Refuses, in this order: Asleep, NotOwner (the seat doesn't hold). It never waits, and wakes the seat that it grants
+    /// the mutex, if any. Whatever others do, it makes at most 7 atomic steps more than the mutex has seats. As `unlock`
+    /// of LFthreads' mutex and of OSv's lfmutex.
+    #[inline(always)]
+    pub fn unlock(&self, seat: &mut Seat<T>) -> Result<Unlocked, Refusal>
+        requires belongs { Of_mutex seat.old self.now }
+        requires leaves { May_leave T.follows T.fits (sight seat.old) }
+        ensures belongs { Beside seat.old seat.new }
+        ensures unlocks { Unlocks (sight seat.old) (sight seat.new) result }
+        ensures steps { Makes_call (limits_of self.now) (λ x. Answered.Unlocked x) CallNow.Unlock (sight seat.old) (sight seat.new) result }
+        ensures bounded { Makes_at_most ((limits_of self.now).seats + 7) (sight seat.old) (sight seat.new) }
+    {
+        if asleep(&seat.standing) {
+            return unlock_any(self, seat);
+        }
+        if seat.standing.depth == 1 {
+            return Ok(unlock_last(self, seat));
+        }
+        if seat.standing.depth > 1 {
+            return Ok(unlock_once(self, seat));
+        }
+        unlock_any(self, seat)
+    }
+}

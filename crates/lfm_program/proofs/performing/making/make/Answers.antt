@@ -1,5 +1,0 @@
-use Rattle.std.proofs.Common.{rules}
-use Rattle.lfm_program.proofs.performing.making.make.Goals as goal
-
-pub returns-in-Add-clause-refused : goal.returns-in-Add-clause-refused
-returns-in-Add-clause-refused g c = search rules

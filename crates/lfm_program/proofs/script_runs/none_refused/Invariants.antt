@@ -1,7 +1,0 @@
-use Rattle.std.proofs.Common.{◌≡◌, drop}
-use Rattle.lfm_program.specs.ScriptRuns.{are_none}
-use Rattle.lfm_program.proofs.script_runs.none_refused.Given as goal
-
--- what those so far leave to be told
-abbrev pub invariant-looking : goal.invariant-looking
-invariant-looking l = are_none l.refusals ≡ are_none (drop l.refused-index l.refusals)

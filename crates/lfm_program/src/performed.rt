@@ -1,0 +1,64 @@
+//! What one worker does with its pass: its commands, one after another.
+ghost use Rattle.lfm_monitor.specs.Belongs.{Of_monitor, pass_sight};
+ghost use Rattle.lfm_mutex.specs.Close.{Idle};
+ghost use Rattle.lfm_program.specs.Causes.{Refused_for_cause};
+ghost use Rattle.lfm_program.specs.Performs.{All_performed, own_adds};
+ghost use Rattle.std.specs.Prelude.{◌≡◌};
+
+mod command;
+
+use crate::gates::Gate;
+use command::make;
+use lfm_model::{Refusal, Total};
+use lfm_monitor::{Monitor, Pass};
+use lfm_script::Command;
+use std::sync::Wait;
+
+/// How a worker's commands ended.
+#[derive(Clone, Copy, Debug, PartialEq, Eq)]
+pub enum Performed {
+    /// All were made.
+    Done,
+    /// A call of the monitor was refused. What was done before it stands, and no further command was made.
+    Refused(Refusal),
+    /// The gate stopped the worker before a command.
+    Stuck,
+}
+
+/// Makes the commands of one worker in order, each after the gate has let it: the gate is asked with the pass's number and the
+/// command's, from 1 in each call. The pass neither holds nor sleeps before and after, and it is the worker's own.
+///
+/// A refusal is that of the call of the monitor that was refused. An `add` is refused as Spent alone: its pass has no
+/// entry or no take left. An `until` is refused as Spent for that or where its seat of the condition has no take left, as
+/// NoSuchSeat where there is no such condition, and as Busy as `wait` of the monitor. A wake is refused as NoSuchSeat, as
+/// Spent where its seat of the condition has no take left, and as NotWaiting as `wake_one` of the monitor.
+///
+/// It may sleep: where it enters, where it waits and where it wakes. A script's wait that nobody ends doesn't return. It takes
+/// no memory.
+pub fn perform<G: Gate, R: Wait>(
+    rt: &R,
+    monitor: &Monitor<Total>,
+    pass: &mut Pass<Total>,
+    commands: &[Command],
+    gate: &G,
+) -> Performed
+    requires belongs { Of_monitor pass.old monitor.now }
+    requires idle { Idle (pass_sight pass.old) }
+    ensures belongs { Of_monitor pass.new monitor.now }
+    ensures idle { Idle (pass_sight pass.new) }
+    ensures number { (pass_sight pass.new).number ≡ (pass_sight pass.old).number }
+    ensures adds { All_performed commands.now (own_adds (pass_sight pass.old)) (own_adds (pass_sight pass.new)) result }
+    ensures refused { Refused_for_cause monitor.now commands.now (own_adds (pass_sight pass.old)) pass.new result }
+{
+    let worker = pass.number().get();
+    'performing: for (index, command) in commands.iter().enumerate() {
+        if !gate.before(worker, index as u64 + 1) {
+            return Performed::Stuck;
+        }
+        match make(rt, monitor, pass, *command) {
+            Ok(()) => {}
+            Err(refusal) => return Performed::Refused(refusal),
+        }
+    }
+    Performed::Done
+}

@@ -1,15 +1,15 @@
 -- A pass may move to another thread, and the monitor may be used by several, where the object and its ops may move.
-use Rattle.lfm_condvar.specs.contracts.condvars.Condvar as Condvar
-use Rattle.lfm_condvar.specs.contracts.seats.CondSeat as CondSeat
+use Rattle.lfm_condvar.specs.contracts.condvar.Condvar as Condvar
+use Rattle.lfm_condvar.specs.contracts.cond_seat.CondSeat as CondSeat
 use Rattle.lfm_condvar.proofs.condvar.Condvar.TheSendSync as CondvarSend
 use Rattle.lfm_condvar.proofs.cond_seat.CondSeat.TheSendSync as CondSeatSend
 use Rattle.lfm_model.specs.contracts.journals.Entry as Entry
 use Rattle.lfm_model.specs.declared.objects.Object.{Ghosts}
 use Rattle.lfm_model.proofs.journals.Entry.TheSendSync as EntrySend
-use Rattle.lfm_monitor.specs.contracts.guarding.JournaledKept.TheImpl as JournaledKept
-use Rattle.lfm_monitor.specs.contracts.journals.Journaled as Journaled
-use Rattle.lfm_monitor.specs.contracts.monitors.Monitor as Monitor
-use Rattle.lfm_monitor.specs.contracts.passes.Pass as Pass
+use Rattle.lfm_monitor.specs.contracts.kept.JournaledKept.TheImpl as JournaledKept
+use Rattle.lfm_monitor.specs.contracts.journaled.Journaled as Journaled
+use Rattle.lfm_monitor.specs.contracts.monitor.Monitor as Monitor
+use Rattle.lfm_monitor.specs.contracts.pass.Pass as Pass
 use Rattle.lfm_mutex.proofs.mutex.Mutex.TheSendSync as MutexSend
 use Rattle.lfm_mutex.proofs.seat.Seat.TheSendSync as SeatSend
 use Rattle.std.below.std_heap.proofs.GlobalAllocator.TheSendSync as GlobalFrees

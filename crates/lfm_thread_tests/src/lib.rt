@@ -1,14 +1,14 @@
-//! Tests of the running mutex: threads that try, lock and sleep, as many seats as there may be, and races whose steps are
-//! made by hand.
+//! Tests that start threads or need several crates, by what they call: the running mutex, the condition variable, the
+//! monitor, and runs of workers. Only they stand here, and what they are made of.
 #![tactic(auto)]
 
+pub mod condvar;
+pub mod monitor;
 #[cfg(test)]
-mod many_seats;
+mod mutex;
 #[cfg(test)]
-mod races;
+mod out_of_memory;
 #[cfg(test)]
 mod seeing;
 #[cfg(test)]
-mod sleeping;
-#[cfg(test)]
-mod workers;
+mod work;

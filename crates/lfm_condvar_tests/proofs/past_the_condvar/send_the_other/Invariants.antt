@@ -1,5 +1,0 @@
-use Rattle.lfm_mutex.specs.Belongs.{Of_mutex}
-use Rattle.lfm_condvar_tests.proofs.past_the_condvar.send_the_other.Given as goal
-
-abbrev pub invariant-sends : goal.invariant-sends
-invariant-sends l = Of_mutex l.seat l.mutex

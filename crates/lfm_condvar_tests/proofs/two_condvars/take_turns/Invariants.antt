@@ -1,5 +1,0 @@
-use Rattle.lfm_condvar_tests.specs.Places.{Of_shared}
-use Rattle.lfm_condvar_tests.proofs.two_condvars.take_turns.Given as goal
-
-abbrev pub invariant-turns : goal.invariant-turns
-invariant-turns g l = Of_shared l.place l.shared

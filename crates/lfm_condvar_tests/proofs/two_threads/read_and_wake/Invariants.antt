@@ -1,5 +1,0 @@
-use Rattle.lfm_mutex.specs.Belongs.{Of_mutex}
-use Rattle.lfm_condvar_tests.proofs.two_threads.read_and_wake.Given as goal
-
-abbrev pub invariant-reads : goal.invariant-reads
-invariant-reads g l = Of_mutex l.seat l.mutex

@@ -1,0 +1,26 @@
+//! Tests of the running condvar: two threads of which one waits, a send past the condvar, 32 threads that are woken at
+//! once, two condvars of one mutex, refusals and limits.
+
+#[cfg(test)]
+mod calls;
+#[cfg(test)]
+mod dealing;
+#[cfg(test)]
+mod limits;
+#[cfg(test)]
+mod many_waiters;
+#[cfg(test)]
+mod pairs;
+#[cfg(test)]
+mod past_the_condvar;
+pub mod places;
+#[cfg(test)]
+mod refusals;
+#[cfg(test)]
+mod refused_calls;
+#[cfg(test)]
+mod shared_calls;
+#[cfg(test)]
+mod two_condvars;
+#[cfg(test)]
+mod two_threads;

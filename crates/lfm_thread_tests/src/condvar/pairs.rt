@@ -1,0 +1,94 @@
+//! A mutex and a condvar that have two seats each, and a condvar that has one.
+ghost use Rattle.std.specs.Prelude.{◌≡◌, ℕ, [], IfSome};
+ghost use Rattle.lfm_mutex.specs.Belongs.{Of_mutex, limits_of};
+ghost use Rattle.lfm_condvar.specs.Belongs.{Of_condvar, cond_limits};
+ghost use mathlib.Core.Option.{some};
+ghost use lib.ListN.{get_elem?};
+
+use crate::condvar::dealing::last_cond_seat;
+use lfm_condvar::{CondSeat, Condvar};
+use lfm_mutex::{Kept, Mutex, Seat};
+use std::alloc::Global;
+
+/// The two seats of a mutex that has two.
+fn two_seats<T: Kept>(mutex: &Mutex<T>, mut seats: Vec<Seat<T>>) -> Option<(Seat<T>, Seat<T>)>
+    requires { (j : ℕ) (s : _) → get_elem? seats.items j ≡ some s → Of_mutex s mutex.now }
+    ensures { IfSome result (λ p. Of_mutex p.0 mutex.now × Of_mutex p.1 mutex.now) }
+{
+    let _mutex = mutex;
+    let second = seats.pop()?;
+    let first = seats.pop()?;
+    Some((first, second))
+}
+
+/// The two cond seats of a condvar that has two.
+fn two_cond_seats(condvar: &Condvar, mut seats: Vec<CondSeat>) -> Option<(CondSeat, CondSeat)>
+    requires { (j : ℕ) (s : _) → get_elem? seats.items j ≡ some s → Of_condvar s condvar.now }
+    ensures { IfSome result (λ p. Of_condvar p.0 condvar.now × Of_condvar p.1 condvar.now) }
+{
+    let _condvar = condvar;
+    let second = seats.pop()?;
+    let first = seats.pop()?;
+    Some((first, second))
+}
+
+/// A mutex round this value, and its two seats, each of which may take so often.
+pub fn mutex_of_two<T: Kept>(
+    alloc: Global,
+    budget: u64,
+    value: T,
+) -> Option<(Mutex<T>, Seat<T>, Seat<T>)>
+    requires fits { T.fits value 0 }
+    ensures seats { IfSome result (λ r. Of_mutex r.1 r.0 × Of_mutex r.2 r.0) }
+    ensures two { IfSome result (λ r. (limits_of r.0).seats ≡ 2) }
+{
+    let Ok((mutex, seats)) = Mutex::new(alloc, 2, budget, value) else {
+        return None;
+    };
+    let (first, second) = two_seats(&mutex, seats)?;
+    Some((mutex, first, second))
+}
+
+/// A condvar, and its two cond seats, each of which may take so often.
+pub fn condvar_of_two(alloc: Global, budget: u64) -> Option<(Condvar, CondSeat, CondSeat)>
+    ensures seats { IfSome result (λ r. Of_condvar r.1 r.0 × Of_condvar r.2 r.0) }
+    ensures two { IfSome result (λ r. (cond_limits r.0).seats ≡ 2) }
+{
+    let Ok((condvar, seats)) = Condvar::new(alloc, 2, budget) else {
+        return None;
+    };
+    let (first, second) = two_cond_seats(&condvar, seats)?;
+    Some((condvar, first, second))
+}
+
+/// A condvar, and its one cond seat, which may take once.
+pub fn condvar_of_one(alloc: Global) -> Option<(Condvar, CondSeat)>
+    ensures seat { IfSome result (λ r. Of_condvar r.1 r.0) }
+    ensures one { IfSome result (λ r. (cond_limits r.0).seats ≡ 1) }
+{
+    let Ok((condvar, mut seats)) = Condvar::new(alloc, 1, 1) else {
+        return None;
+    };
+    let seat = last_cond_seat(&condvar, &mut seats)?;
+    Some((condvar, seat))
+}
+
+/// Hands both cond seats back, in this empty list, which must close the condvar: returns its numbers.
+pub fn closed(
+    condvar: Condvar,
+    first: CondSeat,
+    second: CondSeat,
+    mut room: Vec<CondSeat>,
+) -> Option<(u64, u64)>
+    requires first { Of_condvar first condvar }
+    requires second { Of_condvar second condvar }
+    requires empty { room.items ≡ [] }
+{
+    let Ok(()) = room.push(first) else {
+        return None;
+    };
+    let Ok(()) = room.push(second) else {
+        return None;
+    };
+    condvar.close(room).ok()
+}

@@ -1,0 +1,131 @@
+//! Calls of a condvar that tell why they were refused, where the readers of the seats answer as before. No test stands here.
+ghost use Rattle.std.specs.Prelude.{◌≤◌};
+ghost use Rattle.lfm_mutex.specs.Belongs.{Of_mutex, limits_of};
+ghost use Rattle.lfm_condvar.specs.Belongs.{Of_condvar, cond_limits};
+
+use lfm_condvar::{CondSeat, Condvar};
+use lfm_model::{Refusal, SeatNo};
+use lfm_mutex::{Holder, Mutex, Seat};
+use std::sync::Wait;
+
+/// What the readers tell of a seat, its mutex and a cond seat.
+#[derive(Clone, Copy, PartialEq, Eq)]
+struct Readings {
+    depth: u32,
+    takes: u64,
+    left: u64,
+    asleep: bool,
+    value: Option<u64>,
+    owner: Option<SeatNo>,
+    cond_takes: u64,
+    cond_asleep: bool,
+}
+
+impl Readings {
+    fn of(mutex: &Mutex<u64>, seat: &mut Seat<u64>, cond: &CondSeat) -> Readings
+        requires { Of_mutex seat.old mutex.now }
+        ensures { Of_mutex seat.new mutex.now }
+    {
+        let owner = mutex.owner(seat);
+        Readings {
+            depth: seat.depth(),
+            takes: seat.takes(),
+            left: seat.left(),
+            asleep: seat.asleep(),
+            value: seat.value().copied(),
+            owner,
+            cond_takes: cond.seat().takes(),
+            cond_asleep: cond.seat().asleep(),
+        }
+    }
+}
+
+/// Why `wait` is refused, where it is and the readers answer as before.
+pub fn wait<R: Wait>(
+    rt: &R,
+    condvar: &Condvar,
+    cond: &mut CondSeat,
+    mutex: &Mutex<u64>,
+    seat: &mut Seat<u64>,
+) -> Option<Refusal>
+    requires seat { Of_mutex seat.old mutex.now }
+    requires cond { Of_condvar cond.old condvar.now }
+    ensures seat { Of_mutex seat.new mutex.now }
+    ensures cond { Of_condvar cond.new condvar.now }
+{
+    let before = Readings::of(mutex, seat, cond);
+    let waited = condvar.wait(rt, cond, mutex, seat);
+    let after = Readings::of(mutex, seat, cond);
+    if before != after {
+        return None;
+    }
+    waited.err()
+}
+
+/// Why `wake_one` and `wake_all` are refused, where both are for the same cause and the readers answer as before.
+pub fn wake<R: Wait>(
+    rt: &R,
+    condvar: &Condvar,
+    cond: &mut CondSeat,
+    mutex: &Mutex<u64>,
+    seat: &mut Seat<u64>,
+) -> Option<Refusal>
+    requires seat { Of_mutex seat.old mutex.now }
+    requires cond { Of_condvar cond.old condvar.now }
+    requires wide { (cond_limits condvar.now).seats ≤ (limits_of mutex.now).seats }
+    ensures seat { Of_mutex seat.new mutex.now }
+    ensures cond { Of_condvar cond.new condvar.now }
+{
+    let before = Readings::of(mutex, seat, cond);
+    let one = condvar.wake_one(rt, cond, mutex, seat).err();
+    let all = condvar.wake_all(rt, cond, mutex, seat).err();
+    let after = Readings::of(mutex, seat, cond);
+    if before != after || one != all {
+        return None;
+    }
+    one
+}
+
+/// Why the waits of a user seat are refused: with the cond seat that has its take, and with the one that is spent.
+pub fn waits<R: Wait>(
+    rt: &R,
+    able: &Condvar,
+    x: &mut CondSeat,
+    spent: &Condvar,
+    z: &mut CondSeat,
+    mutex: &Mutex<u64>,
+    seat: &mut Seat<u64>,
+) -> (Option<Refusal>, Option<Refusal>)
+    requires seat { Of_mutex seat.old mutex.now }
+    requires x { Of_condvar x.old able.now }
+    requires z { Of_condvar z.old spent.now }
+    ensures seat { Of_mutex seat.new mutex.now }
+    ensures x { Of_condvar x.new able.now }
+    ensures z { Of_condvar z.new spent.now }
+{
+    let with_able = wait(rt, able, x, mutex, seat);
+    (with_able, wait(rt, spent, z, mutex, seat))
+}
+
+/// Why the wakes of a user seat are refused: with the cond seat that has its take, and with the one that is spent.
+pub fn wakes<R: Wait>(
+    rt: &R,
+    able: &Condvar,
+    x: &mut CondSeat,
+    spent: &Condvar,
+    z: &mut CondSeat,
+    mutex: &Mutex<u64>,
+    seat: &mut Seat<u64>,
+) -> (Option<Refusal>, Option<Refusal>)
+    requires seat { Of_mutex seat.old mutex.now }
+    requires x { Of_condvar x.old able.now }
+    requires z { Of_condvar z.old spent.now }
+    requires wide_able { (cond_limits able.now).seats ≤ (limits_of mutex.now).seats }
+    requires wide_spent { (cond_limits spent.now).seats ≤ (limits_of mutex.now).seats }
+    ensures seat { Of_mutex seat.new mutex.now }
+    ensures x { Of_condvar x.new able.now }
+    ensures z { Of_condvar z.new spent.now }
+{
+    let with_able = wake(rt, able, x, mutex, seat);
+    (with_able, wake(rt, spent, z, mutex, seat))
+}

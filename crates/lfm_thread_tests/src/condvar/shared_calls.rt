@@ -1,0 +1,130 @@
+//! Calls on a mutex with two condvars, with no more of their contracts than the tests need: a place stays one of the mutex and
+//! its condvars. No test stands here.
+ghost use Rattle.lfm_mutex.specs.Belongs.{Beside};
+ghost use Rattle.lfm_thread_tests.specs.Places.{Of_shared};
+
+use crate::condvar::places::{Place, Shared};
+use lfm_model::{How, Refusal, SeatNo};
+use lfm_mutex::Seat;
+use std::sync::Wait;
+
+/// One of the two condvars.
+#[derive(Clone, Copy, PartialEq, Eq)]
+pub enum Side {
+    First,
+    Second,
+}
+
+impl Side {
+    /// The first for even numbers, and the second for odd ones.
+    pub fn of(number: u64) -> Side {
+        if number % 2 == 0 {
+            Side::First
+        } else {
+            Side::Second
+        }
+    }
+
+    /// The other one.
+    pub fn other(self) -> Side {
+        match self {
+            Side::First => Side::Second,
+            Side::Second => Side::First,
+        }
+    }
+}
+
+impl Shared {
+    /// `lock`. Returns whether it was not refused.
+    pub fn lock<R: Wait>(&self, rt: &R, place: &mut Place) -> bool
+        requires { Of_shared place.old self.now }
+        ensures { Of_shared place.new self.now }
+    {
+        self.mutex.lock(rt, &mut place.seat).is_ok()
+    }
+
+    /// `unlock`. Returns whether it was not refused.
+    pub fn unlock(&self, place: &mut Place) -> bool
+        requires { Of_shared place.old self.now }
+        ensures { Of_shared place.new self.now }
+    {
+        self.mutex.unlock(&mut place.seat).is_ok()
+    }
+
+    // `wait` on one of the condvars.
+    fn wait_on<R: Wait>(&self, rt: &R, place: &mut Place, side: Side) -> Result<(How, u64), Refusal>
+        requires { Of_shared place.old self.now }
+        ensures { Of_shared place.new self.now }
+    {
+        match side {
+            Side::First => self
+                .first
+                .wait(rt, &mut place.first, &self.mutex, &mut place.seat),
+            Side::Second => self
+                .second
+                .wait(rt, &mut place.second, &self.mutex, &mut place.seat),
+        }
+    }
+
+    /// `wait` on one of the condvars. Returns whether it was not refused, and notes the wait and its ticket.
+    pub fn wait<R: Wait>(&self, rt: &R, place: &mut Place, side: Side) -> bool
+        requires { Of_shared place.old self.now }
+        ensures { Of_shared place.new self.now }
+    {
+        match self.wait_on(rt, place, side) {
+            Ok((_, ticket)) => {
+                place.seen.ticket = ticket;
+                place.seen.waits = place.seen.waits.wrapping_add(1);
+                true
+            }
+            Err(_) => false,
+        }
+    }
+
+    /// `wake_one` of one of the condvars.
+    pub fn wake_one<R: Wait>(
+        &self,
+        rt: &R,
+        place: &mut Place,
+        side: Side,
+    ) -> Result<Option<(SeatNo, u64)>, Refusal>
+        requires { Of_shared place.old self.now }
+        ensures { Of_shared place.new self.now }
+    {
+        match side {
+            Side::First => self
+                .first
+                .wake_one(rt, &mut place.first, &self.mutex, &mut place.seat),
+            Side::Second => self
+                .second
+                .wake_one(rt, &mut place.second, &self.mutex, &mut place.seat),
+        }
+    }
+
+    /// `wake_all` of the first condvar.
+    pub fn wake_all<R: Wait>(&self, rt: &R, place: &mut Place) -> Result<u64, Refusal>
+        requires { Of_shared place.old self.now }
+        ensures { Of_shared place.new self.now }
+    {
+        self.first
+            .wake_all(rt, &mut place.first, &self.mutex, &mut place.seat)
+    }
+}
+
+impl Place {
+    /// The number in hand. 0 where the seat doesn't hold.
+    pub fn number(&self) -> u64 {
+        self.seat.value().copied().unwrap_or(0)
+    }
+}
+
+/// Adds 1 to the number in hand, and returns it. 0 where the seat doesn't hold.
+pub fn add_one(seat: &mut Seat<u64>) -> u64
+    ensures { Beside seat.old seat.new }
+{
+    let Some(number) = seat.value_mut() else {
+        return 0;
+    };
+    *number = number.wrapping_add(1);
+    *number
+}

@@ -1,0 +1,116 @@
+//! Two condvars on one mutex: four threads take turns, two for even numbers and two for odd ones. Who waits for its turn
+//! waits on the condvar of its side, and each turn wakes one of the other side.
+ghost use Rattle.std.specs.Prelude.{All, IfOk};
+ghost use Rattle.lfm_thread_tests.specs.Places.{Of_shared};
+
+use crate::condvar::dealing::{Left, shared_by};
+use crate::condvar::places::{Place, Shared};
+use crate::condvar::shared_calls::{Side, add_one};
+use crate::seeing::sees;
+use std::alloc::AllocError;
+use std::process::Abort;
+use std::sync::Wait;
+use std::test::Fail;
+use std::thread;
+use std::thread::Threads;
+
+/// How many turns each thread takes.
+const TURNS: u64 = 50;
+
+/// How many turns all threads take.
+const ALL_TURNS: u64 = 200;
+
+/// Waits until the number is even for the first side, or odd for the second. Each wait is ended by another thread's turn.
+fn wait_for_turn<R: Wait>(rt: &R, shared: &Shared, place: &mut Place, side: Side)
+    requires { Of_shared place.old shared.now }
+    ensures { Of_shared place.new shared.now }
+{
+    'waiting: for _ in 0..ALL_TURNS {
+        if Side::of(place.number()) == side {
+            break;
+        }
+        let _ = shared.wait(rt, place, side);
+    }
+}
+
+/// One turn: adds 1 to the number, and wakes one of the other side.
+fn take_turn<R: Wait>(rt: &R, shared: &Shared, place: &mut Place, side: Side)
+    requires { Of_shared place.old shared.now }
+    ensures { Of_shared place.new shared.now }
+{
+    let _ = shared.lock(rt, place);
+    wait_for_turn(rt, shared, place, side);
+    let _ = add_one(&mut place.seat);
+    let _ = shared.wake_one(rt, place, side.other());
+    let _ = shared.unlock(place);
+}
+
+/// All turns of one thread. Seats of even numbers take the even turns.
+fn take_turns<R: Wait>(rt: &R, shared: &Shared, mut place: Place) -> Place
+    requires { Of_shared place shared.now }
+    ensures { Of_shared result shared.now }
+{
+    let side = Side::of(place.seat.number().get());
+    'turns: for _ in 0..TURNS {
+        take_turn(rt, shared, &mut place, side);
+    }
+    place
+}
+
+/// Each place takes its turns in a thread of its own.
+fn take_all_turns<R: Threads + Wait + Sync>(
+    rt: &R,
+    shared: &Shared,
+    places: Vec<Place>,
+) -> Result<Vec<Place>, AllocError>
+    requires { All (λ p. Of_shared p shared.now) places.items }
+    ensures { IfOk result (λ v. All (λ p. Of_shared p shared.now) v.items) }
+{
+    let places = thread::map_vec(
+        rt,
+        places,
+        &|place: Place| -> Place
+            requires { Of_shared place shared.now }
+            ensures { Of_shared result shared.entry.now }
+        { take_turns(rt, shared, place) },
+    )?;
+    Ok(places)
+}
+
+/// How often the places waited.
+fn all_waits(places: &[Place]) -> u64 {
+    let mut waits = 0u64;
+    for place in places {
+        waits = waits.wrapping_add(place.seen.waits);
+    }
+    waits
+}
+
+/// All turns were taken, each condvar sent as many as it had added, and together they sent each wait.
+fn each_wait_was_sent<R: Abort>(rt: &R, left: &Left, waits: u64) {
+    sees(rt, "the number", &left.number, &ALL_TURNS);
+    sees(
+        rt,
+        "the first condvar's numbers",
+        &left.first.0,
+        &left.first.1,
+    );
+    sees(
+        rt,
+        "the second condvar's numbers",
+        &left.second.0,
+        &left.second.1,
+    );
+    let sent = left.first.0.wrapping_add(left.second.0);
+    sees(rt, "how many were sent", &sent, &waits);
+}
+
+#[test]
+fn two_condvars_of_one_mutex(rt: HostRuntime) -> Result<(), Fail> {
+    let (shared, places) = shared_by(rt.alloc(), 4).ok_or("places")?;
+    let places = take_all_turns(&rt, &shared, places)?;
+    let waits = all_waits(&places);
+    let left = shared.close(rt.alloc(), places).ok_or("all are back")?;
+    each_wait_was_sent(&rt, &left, waits);
+    Ok(())
+}

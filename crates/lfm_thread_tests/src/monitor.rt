@@ -1,0 +1,18 @@
+//! Tests of the monitor on its public calls, in one thread and in several: takes, ops, waits and wakes,
+//! refusals and limits.
+
+#[cfg(test)]
+mod calls;
+#[cfg(test)]
+mod conditions;
+#[cfg(test)]
+pub mod counted;
+#[cfg(test)]
+mod limits;
+#[cfg(test)]
+mod monitors;
+#[cfg(test)]
+mod passes;
+#[cfg(test)]
+mod producers;
+pub mod slot;

@@ -1,0 +1,30 @@
+//! An object that counts how often such an object was dropped. No test stands here.
+use lfm_model::{Object, TotalOp};
+use std::sync::atomic::{AtomicU64, Ordering};
+
+/// An object that no op changes, and whose drops are counted.
+pub struct Counted<'a> {
+    pub drops: &'a AtomicU64,
+}
+
+impl Drop for Counted<'_> {
+    fn drop(self) {
+        self.drops.fetch_add(1, Ordering::SeqCst);
+        let Counted { drops: _ } = self;
+    }
+}
+
+impl Object for Counted<'_> {
+    type Op = TotalOp;
+
+    type Reply = u64;
+
+    ghost after = { λ s _. s };
+
+    ghost reply = { λ _ _. 0 };
+
+    fn apply(&mut self, op: &TotalOp) -> u64 {
+        let _op = *op;
+        0
+    }
+}

@@ -1,0 +1,56 @@
+//! Memory that runs out while a condvar or a monitor is made, and in the run of a script, also where a worker is started. A
+//! test whose name contains `memory` passes also where a request was refused, and sees then that nothing was written.
+use crate::monitor::counted::Counted;
+use crate::seeing::sees;
+use crate::work::scripts::{WAITED, WAITING, answered};
+use lfm_condvar::Condvar;
+use lfm_model::{NewFault, Total};
+use lfm_monitor::Monitor;
+use lfm_program::{OpenGate, WorkFault};
+use std::sync::atomic::{AtomicU64, Ordering};
+
+#[test]
+fn condvar_and_memory(rt: HostRuntime) {
+    match Condvar::new(rt.alloc(), 2, 1) {
+        Ok((_, cond_seats)) => assert_eq!(rt; cond_seats.len(), 2),
+        Err(fault) => assert_eq!(rt; fault, NewFault::Memory),
+    }
+}
+
+#[test]
+fn monitor_and_memory(rt: HostRuntime) {
+    let drops = AtomicU64::new(0);
+    match Monitor::new(rt.alloc(), 2, 1, 0, Counted { drops: &drops }) {
+        Ok((_monitor, passes)) => {
+            sees(&rt, "the passes", &passes.len(), &2);
+            sees(&rt, "no drop", &drops.load(Ordering::SeqCst), &0);
+        }
+        Err(fault) => {
+            sees(&rt, "the fault", &fault, &NewFault::Memory);
+            sees(&rt, "one drop", &drops.load(Ordering::SeqCst), &1);
+        }
+    }
+}
+
+#[test]
+fn monitor_with_two_conditions_and_memory(rt: HostRuntime) {
+    match Monitor::new(rt.alloc(), 3, 1, 2, Total(0)) {
+        Ok((_, passes)) => assert_eq!(rt; passes.len(), 3),
+        Err(fault) => assert_eq!(rt; fault, NewFault::Memory),
+    }
+}
+
+#[test]
+fn work_and_memory(rt: HostRuntime) {
+    let mut written = [0; 64];
+    let mut writer = written.as_mut_slice();
+    let mut reader = WAITING.as_slice();
+    let outcome = answered(&rt, &mut reader, &mut writer, &OpenGate);
+    let left = writer.len();
+    let is_whole = outcome == Ok(true) && left == 64 - WAITED.len();
+    let is_refused = outcome == Err(WorkFault::Memory) && left == 64;
+    assert!(rt;
+        is_whole || is_refused,
+        "{outcome:?}, and {left} bytes of 64 left"
+    );
+}

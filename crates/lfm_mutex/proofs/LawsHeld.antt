@@ -9,10 +9,10 @@ use Rattle.lfm_mutex.specs.Laws.{Is_core, TablesAreSteady, PostsAreWatched, Quie
 use Rattle.lfm_table.specs.Rule.{Held}
 
 module _ {T : Type 0} (follows : ℕ → T → T → Type 0) (fits : T → ℕ → Type 0) where
-  core_of : (s : State (Option (Moving T)) (View T)) (h : Held follows fits s) → Is_core s h.core
+  pub core_of : (s : State (Option (Moving T)) (View T)) (h : Held follows fits s) → Is_core s h.core
   core_of s h = record { words_are = h.words_are; seats_are = λ j v at. (h.each j v at).standing }
 
-  steady_of : (s : State (Option (Moving T)) (View T)) (h : Held follows fits s) → Steady h.core
+  pub steady_of : (s : State (Option (Moving T)) (View T)) (h : Held follows fits s) → Steady h.core
   steady_of s h = record { ghost_state = h.ghost_state; fits = h.fits }
 
   pub tables_are_steady : TablesAreSteady follows fits

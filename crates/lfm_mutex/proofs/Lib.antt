@@ -1,4 +1,5 @@
 pub mod runs
 pub mod ends
 pub mod LawsHeld
+pub mod TableStates
 pub mod Lists

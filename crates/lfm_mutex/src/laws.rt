@@ -2,6 +2,7 @@
 //! the table keeps at every moment, whatever threads step on it: `Held` in `specs/Rule.antt` of `lfm_table`. That each atomic
 //! step keeps the rule is asked, and proved, at each of the steps in `table_steps` of `lfm_table`.
 ghost use Rattle.lfm_mutex.specs.Laws.{PostsAreWatched, QuietTablesRest, TablesAreSteady, TakesFindARecord};
+ghost use Rattle.lfm_mutex.specs.TableStates.{RestingTablesAreFree, TablesStand};
 
 use lfm_table::Kept;
 
@@ -34,4 +35,20 @@ pub fn quiet_tables_rest<T: Kept>()
 /// Definition: `TakesFindARecord` in `specs/Laws.antt`. Proof: `proofs/LawsHeld.antt`.
 pub fn takes_find_a_record<T: Kept>()
     ensures { TakesFindARecord T.follows T.fits }
+{}
+
+/// At every moment the table is one steady state of the core, with the limits of its seats, and a seat that has not been
+/// split off yet is at rest in it. The moving value is out with the seat that owns or carries, and is else at home, beside
+/// the pop list.
+///
+/// Definition: `TablesStand` in `specs/TableStates.antt`. Proof: `proofs/TableStates.antt`.
+pub fn tables_stand<T: Kept>()
+    ensures { TablesStand T.follows T.fits }
+{}
+
+/// Where every seat rests and none holds, the count is 0, nothing is posted and nobody is queued.
+///
+/// Definition: `RestingTablesAreFree` in `specs/TableStates.antt`. Proof: `proofs/TableStates.antt`.
+pub fn resting_tables_are_free<T: Kept>()
+    ensures { RestingTablesAreFree T.follows T.fits }
 {}

@@ -96,7 +96,7 @@ module _ {T : Type 0} where
   roles [] = refl
   roles (v ∷ vs) = let a = roles vs in let b = one_role v.role in omega arith
 
-there_or_past : {A : Type 0} (l : List A) (j : ℕ) → ((x : A) × (get_elem? l j ≡ some x)) ⊎ (length l ≤ j)
+pub there_or_past : {A : Type 0} (l : List A) (j : ℕ) → ((x : A) × (get_elem? l j ≡ some x)) ⊎ (length l ≤ j)
 there_or_past [] j = inr (omega arith)
 there_or_past (x ∷ xs) zero = inl (x, refl)
 there_or_past (x ∷ xs) (suc j) = ⊎_elim (λ t. inl (t.0, t.1)) (λ h. inr (omega (arith, h))) (there_or_past xs j)

@@ -1,0 +1,39 @@
+-- Which state of the core a table is, with its limits and the seats that are not there yet; where the moving value is; and that a
+-- table at rest is free. No law of a step stands here.
+use Rattle.std.specs.Prelude.{◌≡◌, ℕ, ◌+◌, ◌≤◌, Option, Some, None, length}
+use mathlib.Core.Option.{some}
+use lib.ListN.{get_elem?}
+use Rattle.atomic_table.specs.Table.{State}
+use Rattle.lfm_model.specs.Abstract.{AbstractMutex}
+use Rattle.lfm_protocol.specs.declared.points.Point.TheVariants.{Rest}
+use Rattle.lfm_protocol.specs.Core.{Core, limits}
+use Rattle.lfm_protocol.specs.Seats.{seat, absent}
+use Rattle.lfm_core.specs.laws.Reading.{Reads}
+use Rattle.lfm_core.specs.steady.Steady.{Steady}
+use Rattle.lfm_core.specs.table.Carried.{TellsValue, out_with}
+use Rattle.lfm_mutex.specs.Closing.{Is_free}
+use Rattle.lfm_mutex.specs.Laws.{Is_core}
+use Rattle.lfm_table.specs.declared.rule.Moving.{Moving}
+use Rattle.lfm_table.specs.declared.seat_view.View.{View}
+use Rattle.lfm_table.specs.Rule.{Held}
+
+-- the table is this state of the core, which reads as this abstract mutex, and the value is out with the one seat that owns or
+-- carries, and else at home, with the pop list
+pub record Stands {T : Type 0} (s : State (Option (Moving T)) (View T)) (c : Core) (a : AbstractMutex) : Type 0 where
+  pub core : Is_core s c
+  pub limits_are : (j : ℕ) (v : View T) → get_elem? s.views j ≡ some v → v.limits ≡ limits c
+  pub not_yet : (j : ℕ) → length s.views ≤ j → seat c.seats (j + 1) ≡ absent
+  pub steady : Steady c
+  pub reads : Reads c a
+  pub tells : TellsValue c.seats a.place
+  pub home : out_with a.place ≡ None → (x : Moving T) × (get_elem? s.homes 0 ≡ some (some (Some x))) × (x.popped.records ≡ c.popped)
+
+module _ {T : Type 0} (follows : ℕ → T → T → Type 0) (fits : T → ℕ → Type 0) where
+  abbrev pub TablesStand : Type 0
+  TablesStand = (s : State (Option (Moving T)) (View T)) → Held follows fits s → (c : Core) × (a : AbstractMutex) × Stands s c a
+
+  -- where each seat rests and none holds, the count is 0, nothing is posted and nobody is queued
+  abbrev pub RestingTablesAreFree : Type 0
+  RestingTablesAreFree =
+      (s : State (Option (Moving T)) (View T)) → Held follows fits s
+      → ((j : ℕ) (v : View T) → get_elem? s.views j ≡ some v → (v.standing.point ≡ Rest) × (v.standing.depth ≡ 0)) → (c : Core) × Is_core s c × Is_free c

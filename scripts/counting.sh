@@ -15,6 +15,17 @@ fail() {
   printf 'FAILED %s\n' "$*"
 }
 
+# make_work_folder   makes the folder `work`, which is removed when the script ends; where no folder can be made, that is the
+# script's one failure, and its last line is still a count
+make_work_folder() {
+  if ! work=$(mktemp -d); then
+    fail 'mktemp makes no folder'
+    finish
+    exit 1
+  fi
+  trap 'rm -rf -- "$work"' EXIT
+}
+
 # finish   prints the count; its status is 0 where something passed and nothing failed
 finish() {
   printf '%d passed, %d failed\n' "$passed" "$failed"

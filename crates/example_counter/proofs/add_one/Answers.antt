@@ -1,5 +1,5 @@
 use Rattle.std.proofs.Common.{ap, ◌+◌, ◌%◌}
-use Rattle.lfm_counter.proofs.add_one.Goals as goal
+use Rattle.example_counter.proofs.add_one.Goals as goal
 
 -- what is written through the loan changes the value alone
 pub returns-in-Some : goal.returns-in-Some

@@ -1,11 +1,11 @@
 use Rattle.std.proofs.Common.{arith}
-use Rattle.lfm_bounded_buffer.proofs.buffer.Buffer.TheSendSync as BufferSend
-use Rattle.lfm_bounded_buffer.proofs.buffer.BufferOp.TheSendSync as BufferOpSend
-use Rattle.lfm_bounded_buffer.proofs.work_all.Goals as goal
-use Rattle.lfm_bounded_buffer.specs.contracts.buffer.Buffer as Buffer
-use Rattle.lfm_bounded_buffer.specs.contracts.buffer.BufferObject.TheImpl as BufferObject
-use Rattle.lfm_bounded_buffer.specs.contracts.buffer.BufferOp as BufferOp
-use Rattle.lfm_bounded_buffer.specs.contracts.buffer.BufferReply as BufferReply
+use Rattle.example_bounded_buffer.proofs.buffer.Buffer.TheSendSync as BufferSend
+use Rattle.example_bounded_buffer.proofs.buffer.BufferOp.TheSendSync as BufferOpSend
+use Rattle.example_bounded_buffer.proofs.work_all.Goals as goal
+use Rattle.example_bounded_buffer.specs.contracts.buffer.Buffer as Buffer
+use Rattle.example_bounded_buffer.specs.contracts.buffer.BufferObject.TheImpl as BufferObject
+use Rattle.example_bounded_buffer.specs.contracts.buffer.BufferOp as BufferOp
+use Rattle.example_bounded_buffer.specs.contracts.buffer.BufferReply as BufferReply
 use Rattle.lfm_monitor.proofs.Moving.{pass_send, captures, closure_sync}
 use Rattle.std.specs.Prelude.{codes}
 use denote.Exit.{no}
@@ -25,7 +25,7 @@ map_vec-requires-send-X g c κs within = Send.param_send 2 _ (Send.arg_send _ no
 -- the threads share the monitor
 pub map_vec-requires-sync-F : goal.map_vec-requires-sync-F
 map_vec-requires-sync-F g c κs within = let runs : NamedLft = record { mir = named 7; lft = κs.1.1.1.1.1.1.1.0 } in let lent : NamedLft = record { mir = named 8; lft = κs.1.1.1.1.1.1.1.1.0 } in
-    let name = codes "lfm_bounded_buffer::fn::work_all::map_vec+Self" in
+    let name = codes "example_bounded_buffer::fn::work_all::map_vec+Self" in
     let holds = Tuple.TupleAt name (captures Buffer.the_row BufferOp.the_row BufferReply.the_row BufferObject.ghosts runs lent g.row.R) in
     Send.param_sync 4 (arg _ no holds) (Send.arg_sync _ no holds (
     closure_sync Buffer.the_row BufferOp.the_row BufferReply.the_row BufferObject.ghosts name runs lent g.row.R c.type_bounds.sync-R BufferSend.the_send BufferOpSend.the_send))

@@ -1,5 +1,5 @@
 //! A bounded buffer of numbers, first in, first out, as an object that a monitor guards.
-ghost use Rattle.lfm_bounded_buffer.specs.Buffers.{buffer_after, buffer_reply};
+ghost use Rattle.example_bounded_buffer.specs.Buffers.{buffer_after, buffer_reply};
 
 use lfm_model::Object;
 

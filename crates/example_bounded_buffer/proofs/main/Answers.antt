@@ -1,6 +1,6 @@
 use Rattle.lfm_monitor.specs.Belongs.{Of_monitor}
 use Rattle.lfm_mutex.proofs.Lists.{all_by_place, each_of_all}
-use Rattle.lfm_bounded_buffer.proofs.main.Goals as goal
+use Rattle.example_bounded_buffer.proofs.main.Goals as goal
 
 pub work_all-requires-after_bounds : goal.work_all-requires-after_bounds
 work_all-requires-after_bounds g c κs = all_by_place (λ p. Of_monitor p c.in_ok-monitor.monitor) c.in_ok-monitor.passes.items (λ j p at. (c.in_ok-monitor.ensures.passes.1 j p at).belongs)

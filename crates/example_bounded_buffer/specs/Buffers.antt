@@ -1,9 +1,9 @@
 -- A bounded buffer and its ops. Its numbers lie in the slots from place `taken` to place `put`, less all multiples of the room.
 use Rattle.std.specs.Prelude.{ℕ, ◌+◌, ◌-◌, ◌%◌, ◌^◌, nat_lt, nat_eq, if◌then◌else◌, slice_set, slice_index}
-use Rattle.lfm_bounded_buffer.specs.declared.buffer.Buffer.{Buffer}
-use Rattle.lfm_bounded_buffer.specs.declared.buffer.BufferOp.{BufferOp}
-use Rattle.lfm_bounded_buffer.specs.declared.buffer.BufferOp.TheVariants.{Put, Take}
-use Rattle.lfm_bounded_buffer.specs.declared.buffer.BufferReply.{BufferReply}
+use Rattle.example_bounded_buffer.specs.declared.buffer.Buffer.{Buffer}
+use Rattle.example_bounded_buffer.specs.declared.buffer.BufferOp.{BufferOp}
+use Rattle.example_bounded_buffer.specs.declared.buffer.BufferOp.TheVariants.{Put, Take}
+use Rattle.example_bounded_buffer.specs.declared.buffer.BufferReply.{BufferReply}
 
 -- there is room for four
 abbrev pub room : ℕ

@@ -1,5 +1,5 @@
 use Rattle.lfm_monitor.specs.Belongs.{Of_monitor}
-use Rattle.lfm_bounded_buffer.proofs.consume.Given as goal
+use Rattle.example_bounded_buffer.proofs.produce.Given as goal
 
 -- the pass stays one of the monitor's
 abbrev pub invariant-numbers : goal.invariant-numbers

@@ -17,11 +17,11 @@ use std::thread;
 use std::thread::Threads;
 
 /// How many numbers go through the buffer.
-const NUMBERS: u64 = 100_000;
+const NUMBERS: u64 = 10_000;
 
 /// How many entries of the journal a thread may write. A number costs it four at most: it comes in and tries, and if that
 /// was in vain it waits, comes in again and tries once more.
-const ENTRIES: u64 = 400_000;
+const ENTRIES: u64 = 40_000;
 
 /// The conditions of the monitor: on the first one waits who found the buffer empty, on the second who found it full.
 const NOT_EMPTY: u64 = 1;

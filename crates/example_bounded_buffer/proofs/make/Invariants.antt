@@ -1,5 +1,5 @@
 use Rattle.lfm_monitor.specs.Belongs.{Of_monitor}
-use Rattle.lfm_bounded_buffer.proofs.make.Given as goal
+use Rattle.example_bounded_buffer.proofs.make.Given as goal
 
 -- the pass stays one of the monitor's
 abbrev pub invariant-tries : goal.invariant-tries

@@ -11,7 +11,7 @@ use Rattle.lfm_protocol.specs.Seats.{seat, absent}
 use Rattle.lfm_core.specs.laws.Reading.{Reads}
 use Rattle.lfm_core.specs.steady.Steady.{Steady}
 use Rattle.lfm_core.specs.table.Carried.{TellsValue, out_with}
-use Rattle.lfm_mutex.specs.Closing.{Is_free}
+use Rattle.lfm_mutex.specs.Close.{Is_free}
 use Rattle.lfm_mutex.specs.Laws.{Is_core}
 use Rattle.lfm_table.specs.declared.rule.Moving.{Moving}
 use Rattle.lfm_table.specs.declared.seat_view.View.{View}

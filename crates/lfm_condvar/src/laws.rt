@@ -77,7 +77,7 @@ pub fn wakes_empty_the_list()
 
 /// No `wait` finds its seat in the list when it has taken the lock. So none is refused as Busy.
 ///
-/// Definition: `WaitsAreNew` in `specs/laws/Laws.antt`. Proof: `proofs/lawful/events/AppendEvent.antt`.
+/// Definition: `WaitsAreNew` in `specs/laws/Laws.antt`. Proof: `proofs/lawful/reached/ListOrder.antt`.
 pub fn waits_are_new()
     ensures { WaitsAreNew }
 {}

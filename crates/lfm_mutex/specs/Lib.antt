@@ -4,5 +4,6 @@ pub mod Closing
 pub mod Fresh
 pub mod Laws
 pub mod Lending
+pub mod TableEvents
 pub mod TableStates
 pub use Rattle.lfm_table.specs.Reach

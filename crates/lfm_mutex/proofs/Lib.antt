@@ -1,5 +1,6 @@
 pub mod runs
 pub mod ends
 pub mod LawsHeld
+pub mod TableEvents
 pub mod TableStates
 pub mod Lists

@@ -4,5 +4,6 @@ pub mod Close
 pub mod Fresh
 pub mod Laws
 pub mod ValueMut
+pub mod TableEvents
 pub mod TableStates
 pub use Rattle.lfm_table.specs.Reach

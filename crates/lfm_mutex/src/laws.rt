@@ -3,6 +3,7 @@
 //! step keeps the rule is asked, and proved, at each of the steps in `table_steps` of `lfm_table`.
 ghost use Rattle.lfm_mutex.specs.Laws.{PostsAreWatched, QuietTablesRest, TablesAreSteady, TakesFindARecord};
 ghost use Rattle.lfm_mutex.specs.TableStates.{RestingTablesAreFree, TablesStand};
+ghost use Rattle.lfm_mutex.specs.TableEvents.{TablesStepAsTheCore};
 
 use lfm_table::Kept;
 
@@ -51,4 +52,12 @@ pub fn tables_stand<T: Kept>()
 /// Definition: `RestingTablesAreFree` in `specs/TableStates.antt`. Proof: `proofs/TableStates.antt`.
 pub fn resting_tables_are_free<T: Kept>()
     ensures { RestingTablesAreFree T.follows T.fits }
+{}
+
+/// Each atomic step of a running seat is one event of the core, at the state that the table is: the word, the seat, the pop
+/// list and the turn become what the core's step makes of them.
+///
+/// Definition: `TablesStepAsTheCore` in `specs/TableEvents.antt`. Proof: `proofs/TableEvents.antt`.
+pub fn tables_step_as_the_core<T: Kept>()
+    ensures { TablesStepAsTheCore T.follows T.fits }
 {}

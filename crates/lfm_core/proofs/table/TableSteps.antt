@@ -38,26 +38,26 @@ put_as c s p f is =
 
 -- The step of the state whose seat was put as p
 
-put_words : (c : Core) (g : Ghost) (s : ℕ) (p : SeatState) → IsSeat c.seats s → Fits (put c s p) g → AreNarrow (put c s p).seats
+pub put_words : (c : Core) (g : Ghost) (s : ℕ) (p : SeatState) → IsSeat c.seats s → Fits (put c s p) g → AreNarrow (put c s p).seats
     → words (made (put c s p) s).core ≡ set (words c) (index p (length c.seats) s) (written p s (found_at c s p))
 put_words c g s p is fits narrow =
     words_of_step (put c s p) g s (is_seat-with c.seats s s p is) fits narrow
     ∙ put_as c s p (λ x n. set (words c) (index x n s) (written x s (slice_index (words c) (index x n s)))) is
 
-put_seats : (c : Core) (g : Ghost) (s : ℕ) (p : SeatState) → IsSeat c.seats s → Fits (put c s p) g → AreNarrow (put c s p).seats
+pub put_seats : (c : Core) (g : Ghost) (s : ℕ) (p : SeatState) → IsSeat c.seats s → Fits (put c s p) g → AreNarrow (put c s p).seats
     → (made (put c s p) s).core.seats ≡ with_entry c.seats s (stepped_by p s (found_at c s p) (oldest c.popped)).seat
 put_seats c g s p is fits narrow =
     seat_of_step (put c s p) g s (is_seat-with c.seats s s p is) fits narrow
     ∙ put_as c s p (λ x n. with_entry (with_entry c.seats s p) s (stepped_by x s (slice_index (words c) (index x n s)) (oldest c.popped)).seat) is
     ∙ with_entry-twice c.seats s p (stepped_by p s (found_at c s p) (oldest c.popped)).seat
 
-put_turn : (c : Core) (g : Ghost) (s : ℕ) (p : SeatState) → IsSeat c.seats s → Fits (put c s p) g → AreNarrow (put c s p).seats
+pub put_turn : (c : Core) (g : Ghost) (s : ℕ) (p : SeatState) → IsSeat c.seats s → Fits (put c s p) g → AreNarrow (put c s p).seats
     → (made (put c s p) s).turn ≡ (stepped_by p s (found_at c s p) (oldest c.popped)).turn
 put_turn c g s p is fits narrow =
     turn_of_step (put c s p) g s (is_seat-with c.seats s s p is) fits narrow
     ∙ put_as c s p (λ x n. (stepped_by x s (slice_index (words c) (index x n s)) (oldest c.popped)).turn) is
 
-put_popped : (c : Core) (g : Ghost) (s : ℕ) (p : SeatState) → IsSeat c.seats s → Fits (put c s p) g → AreNarrow (put c s p).seats
+pub put_popped : (c : Core) (g : Ghost) (s : ℕ) (p : SeatState) → IsSeat c.seats s → Fits (put c s p) g → AreNarrow (put c s p).seats
     → (made (put c s p) s).core.popped ≡ popped_by_step p s (found_at c s p) c.popped
 put_popped c g s p is fits narrow =
     popped_of_step (put c s p) g s (is_seat-with c.seats s s p is) fits narrow

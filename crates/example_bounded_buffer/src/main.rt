@@ -3,7 +3,7 @@
 #![tactic(auto)]
 
 ghost use Rattle.std.specs.Prelude.{All, IfOk};
-ghost use Rattle.lfm_monitor.specs.Belongs.{Of_monitor};
+ghost use Rattle.lfm_monitor.specs.Belongs.{OfMonitor};
 
 mod buffer;
 
@@ -37,8 +37,8 @@ fn make<R: Wait>(
     op: BufferOp,
     condition: u64,
 ) -> Result<(), Refusal>
-    requires { Of_monitor pass.old monitor.now }
-    ensures { Of_monitor pass.new monitor.now }
+    requires { OfMonitor pass.old monitor.now }
+    ensures { OfMonitor pass.new monitor.now }
 {
     'tries: for _ in rt.forever() {
         match monitor.apply(pass, op)? {
@@ -57,8 +57,8 @@ fn put<R: Wait>(
     pass: &mut Pass<Buffer>,
     number: u64,
 ) -> Result<(), Refusal>
-    requires { Of_monitor pass.old monitor.now }
-    ensures { Of_monitor pass.new monitor.now }
+    requires { OfMonitor pass.old monitor.now }
+    ensures { OfMonitor pass.new monitor.now }
 {
     monitor.enter(rt, pass)?;
     make(rt, monitor, pass, BufferOp::Put(number), NOT_FULL)?;
@@ -69,8 +69,8 @@ fn put<R: Wait>(
 
 /// Takes a number out of the buffer, as soon as one is there, and wakes the producer if it waits.
 fn take<R: Wait>(rt: &R, monitor: &Monitor<Buffer>, pass: &mut Pass<Buffer>) -> Result<(), Refusal>
-    requires { Of_monitor pass.old monitor.now }
-    ensures { Of_monitor pass.new monitor.now }
+    requires { OfMonitor pass.old monitor.now }
+    ensures { OfMonitor pass.new monitor.now }
 {
     monitor.enter(rt, pass)?;
     make(rt, monitor, pass, BufferOp::Take, NOT_EMPTY)?;
@@ -81,8 +81,8 @@ fn take<R: Wait>(rt: &R, monitor: &Monitor<Buffer>, pass: &mut Pass<Buffer>) -> 
 
 /// Puts all numbers in.
 fn produce<R: Wait>(rt: &R, monitor: &Monitor<Buffer>, mut pass: Pass<Buffer>) -> Pass<Buffer>
-    requires { Of_monitor pass monitor.now }
-    ensures { Of_monitor result monitor.now }
+    requires { OfMonitor pass monitor.now }
+    ensures { OfMonitor result monitor.now }
 {
     'numbers: for number in 1..=NUMBERS {
         if put(rt, monitor, &mut pass, number).is_err() {
@@ -94,8 +94,8 @@ fn produce<R: Wait>(rt: &R, monitor: &Monitor<Buffer>, mut pass: Pass<Buffer>) -
 
 /// Takes as many numbers out.
 fn consume<R: Wait>(rt: &R, monitor: &Monitor<Buffer>, mut pass: Pass<Buffer>) -> Pass<Buffer>
-    requires { Of_monitor pass monitor.now }
-    ensures { Of_monitor result monitor.now }
+    requires { OfMonitor pass monitor.now }
+    ensures { OfMonitor result monitor.now }
 {
     'numbers: for _ in 0..NUMBERS {
         if take(rt, monitor, &mut pass).is_err() {
@@ -107,8 +107,8 @@ fn consume<R: Wait>(rt: &R, monitor: &Monitor<Buffer>, mut pass: Pass<Buffer>) -
 
 /// What a thread does with its pass, which it hands back: pass 1 produces, and pass 2 consumes.
 fn work<R: Wait>(rt: &R, monitor: &Monitor<Buffer>, pass: Pass<Buffer>) -> Pass<Buffer>
-    requires { Of_monitor pass monitor.now }
-    ensures { Of_monitor result monitor.now }
+    requires { OfMonitor pass monitor.now }
+    ensures { OfMonitor result monitor.now }
 {
     if pass.number().get() == 1 {
         produce(rt, monitor, pass)
@@ -123,15 +123,15 @@ fn work_all<R: Threads + Wait + Sync>(
     monitor: &Monitor<Buffer>,
     passes: Vec<Pass<Buffer>>,
 ) -> Result<Vec<Pass<Buffer>>, AllocError>
-    requires { All (λ p. Of_monitor p monitor.now) passes.items }
-    ensures { IfOk result (λ v. All (λ p. Of_monitor p monitor.now) v.items) }
+    requires { All (λ p. OfMonitor p monitor.now) passes.items }
+    ensures { IfOk result (λ v. All (λ p. OfMonitor p monitor.now) v.items) }
 {
     let passes = thread::map_vec(
         rt,
         passes,
         &|pass: Pass<Buffer>| -> Pass<Buffer>
-            requires { Of_monitor pass monitor.now }
-            ensures { Of_monitor result monitor.entry.now }
+            requires { OfMonitor pass monitor.now }
+            ensures { OfMonitor result monitor.entry.now }
         { work(rt, monitor, pass) },
     )?;
     Ok(passes)

@@ -2,7 +2,7 @@
 #![tactic(auto)]
 
 ghost use Rattle.std.specs.Prelude.{All, IfOk};
-ghost use Rattle.lfm_mutex.specs.Belongs.{Beside, Of_mutex};
+ghost use Rattle.lfm_mutex.specs.Belongs.{Beside, OfMutex};
 
 use anyhow::bail;
 use lfm_mutex::{Mutex, Seat};
@@ -24,8 +24,8 @@ fn add_one(seat: &mut Seat<u64>)
 
 /// What one thread does with its seat, which it hands back: it waits for the mutex, adds, and gives the mutex on.
 fn count<R: Wait>(rt: &R, mutex: &Mutex<u64>, mut seat: Seat<u64>) -> Seat<u64>
-    requires { Of_mutex seat mutex.now }
-    ensures { Of_mutex result mutex.now }
+    requires { OfMutex seat mutex.now }
+    ensures { OfMutex result mutex.now }
 {
     for _ in 0..ROUNDS {
         if mutex.lock(rt, &mut seat).is_err() {
@@ -43,8 +43,8 @@ fn count_all<R: Threads + Wait + Sync>(
     mutex: &Mutex<u64>,
     seats: Vec<Seat<u64>>,
 ) -> Result<Vec<Seat<u64>>, AllocError>
-    requires { All (λ s. Of_mutex s mutex.now) seats.items }
-    ensures { IfOk result (λ v. All (λ s. Of_mutex s mutex.now) v.items) }
+    requires { All (λ s. OfMutex s mutex.now) seats.items }
+    ensures { IfOk result (λ v. All (λ s. OfMutex s mutex.now) v.items) }
 {
     thread::map_vec(rt, seats, &|seat| count(rt, mutex, seat))
 }

@@ -1,6 +1,6 @@
 //! The measurements of one thread.
 ghost use Rattle.std.specs.Prelude.{◌≡◌, ℕ};
-ghost use Rattle.lfm_mutex.specs.Belongs.{Of_mutex};
+ghost use Rattle.lfm_mutex.specs.Belongs.{OfMutex};
 ghost use mathlib.Core.Option.{some};
 ghost use lib.ListN.{get_elem?};
 
@@ -60,7 +60,7 @@ impl Alone {
         mutex: &Mutex<u64>,
         mut seats: Vec<Seat<u64>>,
     ) -> io::Result<()>
-        requires { (j : ℕ) (s : _) → get_elem? seats.items j ≡ some s → Of_mutex s mutex.now }
+        requires { (j : ℕ) (s : _) → get_elem? seats.items j ≡ some s → OfMutex s mutex.now }
     {
         let (table, seat) = bare_table(rt.alloc())?;
         let standard = std::sync::Mutex::new(0u64);

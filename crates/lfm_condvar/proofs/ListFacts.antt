@@ -6,9 +6,9 @@ use mathlib.Core.Logic.{dite}
 use native.Mathlib.Decide.{ℕ_discrete}
 use Rattle.lfm_condvar.proofs.NumberSums.{sum_to, one_at, one_most, one_other, one_within, sum_add, sum_none, sum_below}
 use Rattle.lfm_condvar.specs.declared.waiters.Waiter.{Waiter}
-use Rattle.lfm_condvar.specs.Lists.{Go_on_from, times, Among}
+use Rattle.lfm_condvar.specs.Lists.{GoOnFrom, times, Among}
 
-pub go_on_more : (k : ℕ) (ws : List Waiter) (w : Waiter) → Go_on_from k ws → w.ticket ≡ k + length ws + 1 → Go_on_from k (ws ++ w ∷ [])
+pub go_on_more : (k : ℕ) (ws : List Waiter) (w : Waiter) → GoOnFrom k ws → w.ticket ≡ k + length ws + 1 → GoOnFrom k (ws ++ w ∷ [])
 go_on_more k [] w g e = (omega arith, tt)
 go_on_more k (x ∷ ws) w g e = (g.0, go_on_more (k + 1) ws w g.1 (omega arith))
 

@@ -2,14 +2,14 @@
 use Rattle.std.proofs.Common.{◌≡◌, ℕ, ◌+◌, ◌≤◌, Option, Some, None, is_some, true, refl, sym, ◌∙◌, ap, subst, arith, slice_index}
 use Rattle.lfm_model.specs.declared.answers.How.{How}
 use Rattle.lfm_protocol.specs.declared.limits.Limits.{Limits}
-use Rattle.lfm_mutex.specs.calls.Sight.{Sight, Gains, Leaves_off, May_leave}
+use Rattle.lfm_mutex.specs.calls.Sight.{Sight, Gains, LeavesOff, MayLeave}
 use Rattle.lfm_condvar.specs.declared.waiters.Waiters.{Waiters}
-use Rattle.lfm_condvar.specs.Keeping.{Follows}
-use Rattle.lfm_condvar.specs.Holds.{Counts_known, Cond_kept, Held_by, Held_once, In_hand, Leaves_list, Locks_list, Made_for, Rewrites}
+use Rattle.lfm_condvar.specs.Keeping.{WaitersFollow}
+use Rattle.lfm_condvar.specs.Holds.{CountsKnown, CondKept, StepsOfOneHold, HeldOnce, InHand, LeavesList, LocksList, MadeFor, Rewrites}
 use Rattle.lfm_condvar.proofs.Followed.{since_reached}
 
-abbrev pub Fits : Waiters → ℕ → Type 0
-Fits v k = Unit {0}
+abbrev pub WaitersFit : Waiters → ℕ → Type 0
+WaitersFit v k = Unit {0}
 
 some_of : {A : Type 0} (o : Option A) → is_some o ≡ true → (x : A) × (o ≡ Some x)
 some_of (Some x) h = (x, refl)
@@ -18,7 +18,7 @@ some_of None h = cc
 pub one_some : {A : Type 0} (o : Option A) (x y : A) → o ≡ Some x → o ≡ Some y → x ≡ y
 one_some o x y e f = let q : Some x ≡ Some y = sym e ∙ f in cc
 
-pub got : (how : How) (limits : Limits) (s t : Sight Waiters) → Cond_kept s → Made_for limits s → Gains Follows Fits limits.budget how s t → (v : Waiters) × In_hand limits s t v v
+pub got : (how : How) (limits : Limits) (s t : Sight Waiters) → CondKept s → MadeFor limits s → Gains WaitersFollow WaitersFit limits.budget how s t → (v : Waiters) × InHand limits s t v v
 got how limits s t kept made g = let f = g.8 in let l = some_of s.last kept.there in let o = since_reached s.number l.0 f.0 (f.3 l.0 l.1) in let m = made l.0 l.1 in let c = kept.known l.0 l.1 in (
   f.0,
   record {
@@ -40,7 +40,7 @@ got how limits s t kept made g = let f = g.8 in let l = some_of s.last kept.ther
 )
 
 -- the list in hand was written
-pub rewritten : (limits : Limits) (s t u : Sight Waiters) (v w : Waiters) → In_hand limits s t v v → u ≡ record t { value = Some w } → In_hand limits s u v w
+pub rewritten : (limits : Limits) (s t u : Sight Waiters) (v w : Waiters) → InHand limits s t v v → u ≡ record t { value = Some w } → InHand limits s u v w
 rewritten limits s t u v w h e = record {
   value = ap (λ z. z.value) e;
   last = ap (λ z. z.last) e ∙ h.last;
@@ -58,24 +58,24 @@ rewritten limits s t u v w h e = record {
   spare = h.spare;
 }
 
-pub may_leave : (limits : Limits) (s t : Sight Waiters) (v w : Waiters) → In_hand limits s t v w → Follows t.number v w → May_leave Follows Fits t
-may_leave limits s t v w h f x is = (tt, λ l was. subst (λ (y : Waiters). Follows t.number l y) (one_some t.value w x h.value is) (subst (λ (y : Waiters). Follows t.number y w) (one_some t.last v l h.last was) f))
+pub may_leave : (limits : Limits) (s t : Sight Waiters) (v w : Waiters) → InHand limits s t v w → WaitersFollow t.number v w → MayLeave WaitersFollow WaitersFit t
+may_leave limits s t v w h f x is = (tt, λ l was. subst (λ (y : Waiters). WaitersFollow t.number l y) (one_some t.value w x h.value is) (subst (λ (y : Waiters). WaitersFollow t.number y w) (one_some t.last v l h.last was) f))
 
 -- what is known once the inner mutex was given back
 pub record Done (limits : Limits) (s u : Sight Waiters) (v w : Waiters) : Type 0 where
-  pub held : Held_once limits.budget s u v w
-  pub kept : Cond_kept u
-  pub made : Made_for limits u
+  pub held : HeldOnce limits.budget s u v w
+  pub kept : CondKept u
+  pub made : MadeFor limits u
 
-pub done : (limits : Limits) (s t u : Sight Waiters) (v w : Waiters) → In_hand limits s t v w → w.seats ≡ v.seats → w.budget ≡ v.budget → slice_index w.counts.items s.number ≤ slice_index v.counts.items s.number + 1
-    → Leaves_off t u → u.takes ≡ t.takes → u.asleep ≡ t.asleep → Done limits s u v w
+pub done : (limits : Limits) (s t u : Sight Waiters) (v w : Waiters) → InHand limits s t v w → w.seats ≡ v.seats → w.budget ≡ v.budget → slice_index w.counts.items s.number ≤ slice_index v.counts.items s.number + 1
+    → LeavesOff t u → u.takes ≡ t.takes → u.asleep ≡ t.asleep → Done limits s u v w
 done limits s t u v w h se bu few l tk aw = let last = l.5 w h.value in let named : u.number ≡ s.number = l.2 ∙ h.number in record {
   held = record { finds = h.finds; leaves = last; spare = h.spare; takes = tk ∙ h.takes; number = named; found = l.7 ∙ h.found };
   kept = record {
     out = l.3;
     awake = aw ∙ h.awake;
     there = ap is_some last;
-    known = λ x is. subst (Counts_known u) (one_some u.last w x last is) record {
+    known = λ x is. subst (CountsKnown u) (one_some u.last w x last is) record {
       low = (let a = h.low in omega arith);
       high = (let a = h.high in omega arith);
       few = (let a = ap (λ k. slice_index w.counts.items k) named in let b = h.few in let c = h.takes in omega arith);
@@ -85,20 +85,20 @@ done limits s t u v w h se bu few l tk aw = let last = l.5 w h.value in let name
 }
 
 -- the inner mutex was locked, the list in hand changed, and the mutex given back
-pub one_hold : (limits : Limits) (s t u z : Sight Waiters) (x v w : Waiters) → In_hand limits s t x x → Rewrites t u v w → Leaves_off u z → z.takes ≡ u.takes → z.asleep ≡ u.asleep → Done limits s z v w
+pub one_hold : (limits : Limits) (s t u z : Sight Waiters) (x v w : Waiters) → InHand limits s t x x → Rewrites t u v w → LeavesOff u z → z.takes ≡ u.takes → z.asleep ≡ u.asleep → Done limits s z v w
 one_hold limits s t u z x v w h r l tk aw = let same : x ≡ v = one_some t.value x v h.value r.0 in
-    let k = subst (λ (y : Waiters). In_hand limits s t y y) same h in
+    let k = subst (λ (y : Waiters). InHand limits s t y y) same h in
     let named = k.number in let few : slice_index w.counts.items s.number ≤ slice_index v.counts.items s.number + 1 = subst (λ (i : ℕ). slice_index w.counts.items i ≤ slice_index v.counts.items i + 1) named r.3 in
     done limits s u z v w (rewritten limits s t u v w k r.1) r.2.0 r.2.1 few l tk aw
 
 -- what was made of the list may be left
-pub may_leave_it : (limits : Limits) (s t u : Sight Waiters) (x v w : Waiters) → In_hand limits s t x x → Rewrites t u v w → May_leave Follows Fits u
+pub may_leave_it : (limits : Limits) (s t u : Sight Waiters) (x v w : Waiters) → InHand limits s t x x → Rewrites t u v w → MayLeave WaitersFollow WaitersFit u
 may_leave_it limits s t u x v w h r = let same : x ≡ v = one_some t.value x v h.value r.0 in
-    let k = subst (λ (y : Waiters). In_hand limits s t y y) same h in let m = rewritten limits s t u v w k r.1 in
-    may_leave limits s u v w m (subst (λ (i : ℕ). Follows i v w) (sym (ap (λ (y : Sight Waiters). y.number) r.1)) r.2)
+    let k = subst (λ (y : Waiters). InHand limits s t y y) same h in let m = rewritten limits s t u v w k r.1 in
+    may_leave limits s u v w m (subst (λ (i : ℕ). WaitersFollow i v w) (sym (ap (λ (y : Sight Waiters). y.number) r.1)) r.2)
 
 -- it took the steps of one lock and one unlock
-pub held_by : (own : Limits) (s t u z : Sight Waiters) (v w : Waiters) → Locks_list own s t → Rewrites t u v w → Leaves_list own u z → Held_by own s z
+pub held_by : (own : Limits) (s t u z : Sight Waiters) (v w : Waiters) → LocksList own s t → Rewrites t u v w → LeavesList own u z → StepsOfOneHold own s z
 held_by own s t u z v w l r k = record {
   locked = t;
   changed = u;

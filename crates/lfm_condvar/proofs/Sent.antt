@@ -7,12 +7,12 @@ use Rattle.lfm_protocol.specs.declared.limits.Limits.{Limits}
 use Rattle.lfm_protocol.specs.declared.answers.Answer.{Answer}
 use Rattle.lfm_protocol.specs.declared.answers.Call.{Call}
 use Rattle.lfm_mutex.specs.calls.Sight.{Sight, Sends}
-use Rattle.lfm_mutex.specs.calls.Trails.{Makes_call}
+use Rattle.lfm_mutex.specs.calls.Trails.{MakesCall}
 use Rattle.lfm_condvar.specs.declared.waiters.Waiter.{Waiter}
 use Rattle.lfm_condvar.specs.declared.waiters.Waiters.{Waiters}
-use Rattle.lfm_condvar.specs.Holds.{Held_by, Held_once}
-use Rattle.lfm_condvar.specs.Keeping.{Follows, Taken}
-use Rattle.lfm_condvar.specs.Wakes.{Oldest_not_waiting, Sends_all, Sends_by, Sends_in_turn, Sends_oldest, Sent_each, Wake_all_ends, Wake_one_ends}
+use Rattle.lfm_condvar.specs.Holds.{StepsOfOneHold, HeldOnce}
+use Rattle.lfm_condvar.specs.Keeping.{WaitersFollow, Taken}
+use Rattle.lfm_condvar.specs.Wakes.{OldestNotWaiting, SendsAll, SendsBy, SendsInTurn, SendsOldest, SentEach, WakeAllEnds, WakeOneEnds}
 
 pub taken_none : (v : Waiters) → Taken [] v v
 taken_none v = record { list = refl; sent = omega arith; added = refl; counts = refl; seats = refl; budget = refl }
@@ -27,14 +27,14 @@ taken_more gone x u v w a b = record {
   budget = b.budget ∙ a.budget;
 }
 
-pub follows_none : (s : ℕ) (v : Waiters) → Follows s v v
+pub follows_none : (s : ℕ) (v : Waiters) → WaitersFollow s v v
 follows_none s v = (refl, refl, omega arith, omega arith, λ k ne. refl)
 
-pub follows_more : (s : ℕ) (u v w : Waiters) → Follows s u v → Follows s v w → Follows s u w
+pub follows_more : (s : ℕ) (u v w : Waiters) → WaitersFollow s u v → WaitersFollow s v w → WaitersFollow s u w
 follows_more s u v w a b = let p = a.2 in let q = a.3 in let x = b.2 in let y = b.3 in (b.0 ∙ a.0, b.1 ∙ a.1, omega arith, omega arith, λ k ne. b.4 k ne ∙ a.4 k ne)
 
 -- who counts nothing for anybody keeps every count
-pub same_count : (v w : Waiters) (k : ℕ) → ((s : ℕ) → Follows s v w) → slice_index w.counts.items k ≤ slice_index v.counts.items k + 1
+pub same_count : (v w : Waiters) (k : ℕ) → ((s : ℕ) → WaitersFollow s v w) → slice_index w.counts.items k ≤ slice_index v.counts.items k + 1
 same_count v w k f = let same = (f (k + 1)).4 k (λ q. omega arith) in omega arith
 
 seats_more : (xs : List Waiter) (x : Waiter) → map (λ (y : Waiter). y.seat) (xs ++ x ∷ []) ≡ map (λ (y : Waiter). y.seat) xs ++ x.seat ∷ []
@@ -50,33 +50,33 @@ no_sends [] = refl
 no_sends (x ∷ xs) = ap (λ zs. x ∷ zs) (no_sends xs)
 
 module _ {T : Type 0} where
-  pub sent_none : (s : Sight T) → Sent_each [] s s
+  pub sent_none : (s : Sight T) → SentEach [] s s
   sent_none s = ap (λ (xs : List ℕ). record s { sends = xs }) (no_sends s.sends)
 
-  pub sent_more : (n : ℕ) (gone : List Waiter) (x : Waiter) (s m t : Sight T) → Sent_each gone s m → Sends n m x.seat t (Ok tt) → Sent_each (gone ++ x ∷ []) s t
+  pub sent_more : (n : ℕ) (gone : List Waiter) (x : Waiter) (s m t : Sight T) → SentEach gone s m → Sends n m x.seat t (Ok tt) → SentEach (gone ++ x ∷ []) s t
   sent_more n gone x s m t a b = let names = seats_more gone x in
       let joined : m.sends ++ x.seat ∷ [] ≡ s.sends ++ map (λ (y : Waiter). y.seat) (gone ++ x ∷ []) = ap (λ (z : Sight T). z.sends ++ x.seat ∷ []) a ∙ (append_assoc s.sends (map (λ (y : Waiter). y.seat) gone) (x.seat ∷ []) ∙ ap (λ ys. s.sends ++ ys) (sym names)) in
       b.3 ∙ (ap (λ (z : Sight T). record z { trail = t.trail; sends = m.sends ++ x.seat ∷ [] }) a ∙ ap (λ (ys : List ℕ). record s { trail = t.trail; sends = ys }) joined)
 
-  pub awake_still : (gone : List Waiter) (s m : Sight T) → s.asleep ≡ false → Sent_each gone s m → m.asleep ≡ false
+  pub awake_still : (gone : List Waiter) (s m : Sight T) → s.asleep ≡ false → SentEach gone s m → m.asleep ≡ false
   awake_still gone s m a e = ap (λ (z : Sight T). z.asleep) e ∙ a
 
   -- all were sent
-  pub all_sent : (n k : ℕ) (gone : List Waiter) (s m t : Sight T) (u v w : Waiters) → Taken gone u v → Sent_each gone s m → k ≡ length gone → s.asleep ≡ false → Sends_oldest n m t v w (Ok None) → Sends_all n s t u w (Ok k)
+  pub all_sent : (n k : ℕ) (gone : List Waiter) (s m t : Sight T) (u v w : Waiters) → Taken gone u v → SentEach gone s m → k ≡ length gone → s.asleep ≡ false → SendsOldest n m t v w (Ok None) → SendsAll n s t u w (Ok k)
   all_sent n k gone s m t u v w a b e aw o =
       let whole : u.list.items ≡ gone = a.list ∙ (ap (λ ys. gone ++ ys) o.1 ∙ append_none gone) in
       let q = sym o.2 in (
         e ∙ ap length (sym whole),
         subst (λ (y : Waiters). y.list.items ≡ []) q o.1,
         subst (λ (ys : List Waiter). Taken ys u w) (sym whole) (subst (λ (y : Waiters). Taken gone u y) q a),
-        subst (λ (ys : List Waiter). Sent_each ys s t) (sym whole) (subst (λ (z : Sight T). Sent_each gone s z) (sym o.3) b),
+        subst (λ (ys : List Waiter). SentEach ys s t) (sym whole) (subst (λ (z : Sight T). SentEach gone s z) (sym o.3) b),
         aw,
       )
 
   -- some were sent, and the next was not waiting
-  pub some_sent : (n : ℕ) (gone : List Waiter) (s m t : Sight T) (u v w : Waiters) (r : Refusal) → Taken gone u v → Sent_each gone s m → s.asleep ≡ false → Sends_oldest n m t v w (Err r) → Sends_all n s t u w (Err r)
+  pub some_sent : (n : ℕ) (gone : List Waiter) (s m t : Sight T) (u v w : Waiters) (r : Refusal) → Taken gone u v → SentEach gone s m → s.asleep ≡ false → SendsOldest n m t v w (Err r) → SendsAll n s t u w (Err r)
   some_sent n gone s m t u v w Asleep a b aw o = let no = sym (awake_still gone s m aw b) ∙ o.0 in cc
-  some_sent n gone s m t u v w NotWaiting a b aw o = let q = sym o.0 in (gone, m, subst (λ (y : Waiters). Taken gone u y) q a, b, subst (λ (y : Waiters). Oldest_not_waiting n m t y) q o.1)
+  some_sent n gone s m t u v w NotWaiting a b aw o = let q = sym o.0 in (gone, m, subst (λ (y : Waiters). Taken gone u y) q a, b, subst (λ (y : Waiters). OldestNotWaiting n m t y) q o.1)
   some_sent n gone s m t u v w NotOwner a b aw o = absurd o
   some_sent n gone s m t u v w Nested a b aw o = absurd o
   some_sent n gone s m t u v w DepthFull a b aw o = absurd o
@@ -87,13 +87,13 @@ module _ {T : Type 0} where
   -- Steps
 
   -- some sends, and some more after them
-  pub in_turn : (user : Limits) (xs ys : List (ℕ × Sight T)) (s m t : Sight T) → Sends_in_turn user s xs m → Sends_in_turn user m ys t → Sends_in_turn user s (xs ++ ys) t
-  in_turn user [] ys s m t a b = subst (λ (z : Sight T). Sends_in_turn user z ys t) a b
+  pub in_turn : (user : Limits) (xs ys : List (ℕ × Sight T)) (s m t : Sight T) → SendsInTurn user s xs m → SendsInTurn user m ys t → SendsInTurn user s (xs ++ ys) t
+  in_turn user [] ys s m t a b = subst (λ (z : Sight T). SendsInTurn user z ys t) a b
   in_turn user (x ∷ xs) ys s m t a b = (a.0, a.1, in_turn user xs ys x.1 m t a.2 b)
 
   -- one send that was refused
   pub refused_by : (A : Type 0) (user : Limits) (x : ℕ) (s t : Sight T) (r : Refusal) → Sends user.seats s x t (Err r)
-      → Makes_call user (λ (y : ⊤). Answer.Sent) (Call.SendLock x) s t (Err r) → Sends_by {A = A} user s t (Err r)
+      → MakesCall user (λ (y : ⊤). Answer.Sent) (Call.SendLock x) s t (Err r) → SendsBy {A = A} user s t (Err r)
   refused_by A user x s t NotWaiting a b = ([], s, x, b.0, refl, b.1)
   refused_by A user x s t Asleep a b = a.1
   refused_by A user x s t NotOwner a b = a.1
@@ -104,8 +104,8 @@ module _ {T : Type 0} where
   refused_by A user x s t Busy a b = a.1
 
   -- some sends, and one that was refused as NotWaiting
-  pub some_by : (A B : Type 0) (n : ℕ) (user : Limits) (xs : List (ℕ × Sight T)) (s m t : Sight T) (v w : Waiters) (r : Refusal) → m.asleep ≡ false → Sends_oldest n m t v w (Err r) → Sends_in_turn user s xs m
-      → Sends_by {A = A} user m t (Err r) → Sends_by {A = B} user s t (Err r)
+  pub some_by : (A B : Type 0) (n : ℕ) (user : Limits) (xs : List (ℕ × Sight T)) (s m t : Sight T) (v w : Waiters) (r : Refusal) → m.asleep ≡ false → SendsOldest n m t v w (Err r) → SendsInTurn user s xs m
+      → SendsBy {A = A} user m t (Err r) → SendsBy {A = B} user s t (Err r)
   some_by A B n user xs s m t v w NotWaiting aw o a b = (xs ++ b.0, b.1, b.2, b.3, in_turn user xs b.0 s m b.1 a b.4, b.5)
   some_by A B n user xs s m t v w Asleep aw o a b = let no = sym aw ∙ o.0 in cc
   some_by A B n user xs s m t v w NotOwner aw o a b = absurd o
@@ -116,7 +116,7 @@ module _ {T : Type 0} where
   some_by A B n user xs s m t v w Busy aw o a b = absurd o
 
   -- a wake whose hold of the inner mutex came
-  pub one_ends : (n : ℕ) (own : Limits) (c d : Sight Waiters) (s t : Sight T) (v w : Waiters) (r : Result (Option (ℕ × ℕ)) Refusal) → s.asleep ≡ false → Held_once own.budget c d v w → Held_by own c d → Sends_oldest n s t v w r → Wake_one_ends n own c d s t r
+  pub one_ends : (n : ℕ) (own : Limits) (c d : Sight Waiters) (s t : Sight T) (v w : Waiters) (r : Result (Option (ℕ × ℕ)) Refusal) → s.asleep ≡ false → HeldOnce own.budget c d v w → StepsOfOneHold own c d → SendsOldest n s t v w r → WakeOneEnds n own c d s t r
   one_ends n own c d s t v w (Ok p) aw h k o = (v, w, h, o, k)
   one_ends n own c d s t v w (Err Asleep) aw h k o = let no = sym aw ∙ o.0 in cc
   one_ends n own c d s t v w (Err NotWaiting) aw h k o = (v, w, h, o, k)
@@ -127,7 +127,7 @@ module _ {T : Type 0} where
   one_ends n own c d s t v w (Err NoSuchSeat) aw h k o = absurd o
   one_ends n own c d s t v w (Err Busy) aw h k o = absurd o
 
-  pub all_end : (n : ℕ) (own : Limits) (c d : Sight Waiters) (s t : Sight T) (v w : Waiters) (r : Result ℕ Refusal) → Held_once own.budget c d v w → Held_by own c d → Sends_all n s t v w r → Wake_all_ends n own c d s t r
+  pub all_end : (n : ℕ) (own : Limits) (c d : Sight Waiters) (s t : Sight T) (v w : Waiters) (r : Result ℕ Refusal) → HeldOnce own.budget c d v w → StepsOfOneHold own c d → SendsAll n s t v w r → WakeAllEnds n own c d s t r
   all_end n own c d s t v w (Ok p) h k o = (v, w, h, o, k)
   all_end n own c d s t v w (Err NotWaiting) h k o = (v, w, h, o, k)
   all_end n own c d s t v w (Err Asleep) h k o = absurd o

@@ -1,12 +1,12 @@
 -- What belongs to a condvar, and how its seats are seen. Contracts name a condvar and its seats by these words alone.
 use Rattle.std.specs.Prelude.{◌≡◌}
 use Rattle.lfm_protocol.specs.declared.limits.Limits.{Limits}
-use Rattle.lfm_mutex.specs.Belongs.{Of_mutex, limits_of}
+use Rattle.lfm_mutex.specs.Belongs.{OfMutex, limits_of}
 use Rattle.lfm_mutex.specs.calls.Sight.{Sight, sight}
 use Rattle.lfm_condvar.specs.declared.condvar.Condvar.{Condvar}
 use Rattle.lfm_condvar.specs.declared.cond_seat.CondSeat.{CondSeat}
 use Rattle.lfm_condvar.specs.declared.waiters.Waiters.{Waiters}
-use Rattle.lfm_condvar.specs.Holds.{Made_for}
+use Rattle.lfm_condvar.specs.Holds.{MadeFor}
 
 -- how many seats the condvar has, and how many waits and wakes each of them may make
 abbrev pub cond_limits : Condvar → Limits
@@ -17,9 +17,9 @@ abbrev pub cond_sight : CondSeat → Sight Waiters
 cond_sight c = sight c.seat
 
 -- the cond seat is one of the condvar's
-abbrev pub Of_condvar : CondSeat → Condvar → Type 0
-Of_condvar c v = Of_mutex c.seat v.inner × Made_for (limits_of v.inner) (sight c.seat)
+abbrev pub OfCondvar : CondSeat → Condvar → Type 0
+OfCondvar c v = OfMutex c.seat v.inner × MadeFor (limits_of v.inner) (sight c.seat)
 
 -- both are one condvar
-abbrev pub Same_condvar : Condvar → Condvar → Type 0
-Same_condvar u v = (v.inner ≡ u.inner) × (v.seats ≡ u.seats)
+abbrev pub SameCondvar : Condvar → Condvar → Type 0
+SameCondvar u v = (v.inner ≡ u.inner) × (v.seats ≡ u.seats)

@@ -8,31 +8,31 @@ use Rattle.lfm_protocol.specs.declared.answers.Call.{Call}
 use Rattle.lfm_protocol.specs.declared.answers.Turn.TheVariants.{Ended}
 use Rattle.lfm_protocol.specs.declared.limits.Limits.{Limits}
 use Rattle.lfm_mutex.specs.calls.Sight.{Sight}
-use Rattle.lfm_mutex.specs.calls.Trails.{Locks_by, Makes, Makes_at_most}
+use Rattle.lfm_mutex.specs.calls.Trails.{LocksBy, Makes, MakesAtMost}
 use Rattle.lfm_condvar.specs.declared.waiters.Waiters.{Waiters}
-use Rattle.lfm_condvar.specs.Keeping.{Follows, Since}
+use Rattle.lfm_condvar.specs.Keeping.{WaitersFollow, Since}
 
 -- the cond seat is one of those that the list counts for, and has added no more tickets than it has made takes
-pub record Counts_known (s : Sight Waiters) (l : Waiters) : Type 0 where
+pub record CountsKnown (s : Sight Waiters) (l : Waiters) : Type 0 where
   pub low : 0 < s.number
   pub high : s.number ≤ l.seats
   pub few : slice_index l.counts.items s.number ≤ s.takes
 
 -- what is true of each cond seat between its calls: it doesn't hold, is awake, and knows the list that it left last
-pub record Cond_kept (s : Sight Waiters) : Type 0 where
+pub record CondKept (s : Sight Waiters) : Type 0 where
   pub out : s.depth ≡ 0
   pub awake : s.asleep ≡ false
   pub there : is_some s.last ≡ true
-  pub known : (l : Waiters) → s.last ≡ Some l → Counts_known s l
+  pub known : (l : Waiters) → s.last ≡ Some l → CountsKnown s l
 
 -- the list that it left last is of a condvar with these limits
-abbrev pub Made_for : Limits → Sight Waiters → Type 0
-Made_for limits s = (l : Waiters) → s.last ≡ Some l → (l.seats ≡ limits.seats) × (l.budget ≡ limits.budget)
+abbrev pub MadeFor : Limits → Sight Waiters → Type 0
+MadeFor limits s = (l : Waiters) → s.last ≡ Some l → (l.seats ≡ limits.seats) × (l.budget ≡ limits.budget)
 
 -- One hold of the inner mutex, for one take: the cond seat that was seen as s found the list v and left the list w. It is seen as t
 -- after it, and still tells what it found. Since the list that it left before, neither sent nor added has fallen, and nobody else
 -- counted tickets for it
-pub record Held_once (budget : ℕ) (s t : Sight Waiters) (v w : Waiters) : Type 0 where
+pub record HeldOnce (budget : ℕ) (s t : Sight Waiters) (v w : Waiters) : Type 0 where
   pub finds : (l : Waiters) → s.last ≡ Some l → Since s.number l v
   pub leaves : t.last ≡ Some w
   pub spare : s.takes < budget
@@ -41,24 +41,24 @@ pub record Held_once (budget : ℕ) (s t : Sight Waiters) (v w : Waiters) : Type
   pub found : t.found ≡ Some v
 
 -- The cond seat locks the inner mutex, by the steps of lock alone
-abbrev pub Locks_list : Limits → Sight Waiters → Sight Waiters → Type 0
-Locks_list own s t = (how : How) × Locks_by own s t (Ok (Locked.Held how))
+abbrev pub LocksList : Limits → Sight Waiters → Sight Waiters → Type 0
+LocksList own s t = (how : How) × LocksBy own s t (Ok (Locked.Held how))
 
 -- and gives it back, by the steps of unlock alone
-abbrev pub Leaves_list : Limits → Sight Waiters → Sight Waiters → Type 0
-Leaves_list own s t = (u : Unlocked) × Makes own Call.Unlock s t (Ended (Answer.Unlocked u)) × Makes_at_most (own.seats + 7) s t
+abbrev pub LeavesList : Limits → Sight Waiters → Sight Waiters → Type 0
+LeavesList own s t = (u : Unlocked) × Makes own Call.Unlock s t (Ended (Answer.Unlocked u)) × MakesAtMost (own.seats + 7) s t
 
 -- The steps of the cond seat in one hold: it locks the inner mutex once, and gives it back once. In between it changes the list in
 -- hand, and nothing else of it is other than it was
-pub record Held_by (own : Limits) (s t : Sight Waiters) : Type 0 where
+pub record StepsOfOneHold (own : Limits) (s t : Sight Waiters) : Type 0 where
   pub locked : Sight Waiters
   pub changed : Sight Waiters
-  pub locks : Locks_list own s locked
+  pub locks : LocksList own s locked
   pub changes : changed ≡ record locked { value = changed.value }
-  pub leaves : Leaves_list own changed t
+  pub leaves : LeavesList own changed t
 
 -- The cond seat that was seen as s when it locked the inner mutex is seen as t: it found the list v, and has w in hand
-pub record In_hand (limits : Limits) (s t : Sight Waiters) (v w : Waiters) : Type 0 where
+pub record InHand (limits : Limits) (s t : Sight Waiters) (v w : Waiters) : Type 0 where
   pub value : t.value ≡ Some w
   pub last : t.last ≡ Some v
   pub found : t.found ≡ Some v
@@ -76,4 +76,4 @@ pub record In_hand (limits : Limits) (s t : Sight Waiters) (v w : Waiters) : Typ
 
 -- what a cond seat that holds may have made of the list that it found: no more than one ticket was counted for it
 abbrev pub Rewrites : Sight Waiters → Sight Waiters → Waiters → Waiters → Type 0
-Rewrites s t v w = (s.value ≡ Some v) × (t ≡ record s { value = Some w }) × Follows s.number v w × (slice_index w.counts.items s.number ≤ slice_index v.counts.items s.number + 1)
+Rewrites s t v w = (s.value ≡ Some v) × (t ≡ record s { value = Some w }) × WaitersFollow s.number v w × (slice_index w.counts.items s.number ≤ slice_index v.counts.items s.number + 1)

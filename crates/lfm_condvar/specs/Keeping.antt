@@ -6,8 +6,8 @@ use Rattle.lfm_condvar.specs.Lists.{waiter}
 
 -- What the cond seat s may make of the list: its seats and its budget stay, neither sent nor added falls, and no ticket is
 -- counted for another cond seat
-abbrev pub Follows : ℕ → Waiters → Waiters → Type 0
-Follows s v w = (w.seats ≡ v.seats) × (w.budget ≡ v.budget) × (v.sent ≤ w.sent) × (v.added ≤ w.added)
+abbrev pub WaitersFollow : ℕ → Waiters → Waiters → Type 0
+WaitersFollow s v w = (w.seats ≡ v.seats) × (w.budget ≡ v.budget) × (v.sent ≤ w.sent) × (v.added ≤ w.added)
     × ((k : ℕ) → k ≢ s → slice_index w.counts.items k ≡ slice_index v.counts.items k)
 
 -- what others than the cond seat s may have made of the list v by the time that it is w
@@ -37,5 +37,5 @@ pub record Taken (gone : List Waiter) (v w : Waiters) : Type 0 where
   pub budget : w.budget ≡ v.budget
 
 -- a list in which nobody waits or has waited
-abbrev pub Is_new : Waiters → Type 0
-Is_new v = (v.list.items ≡ []) × (v.sent ≡ 0) × (v.added ≡ 0)
+abbrev pub IsNew : Waiters → Type 0
+IsNew v = (v.list.items ≡ []) × (v.sent ≡ 0) × (v.added ≡ 0)

@@ -4,13 +4,13 @@ use Rattle.std.specs.Coded.{×_prop, Unit-prop, le_prop, Coded-set, coded_ℕ}
 use Rattle.lfm_condvar.specs.declared.waiters.Waiter.{Waiter}
 
 -- the tickets go on from there, one after another
-abbrev pub Go_on_from : ℕ → List Waiter → Type 0
-Go_on_from k [] = Unit {0}
-Go_on_from k (w ∷ ws) = (w.ticket ≡ k + 1) × Go_on_from (k + 1) ws
+abbrev pub GoOnFrom : ℕ → List Waiter → Type 0
+GoOnFrom k [] = Unit {0}
+GoOnFrom k (w ∷ ws) = (w.ticket ≡ k + 1) × GoOnFrom (k + 1) ws
 
-pub Go_on-prop : (k : ℕ) (ws : List Waiter) → IsProp (Go_on_from k ws)
-Go_on-prop k [] = Unit-prop
-Go_on-prop k (w ∷ ws) = ×_prop (Coded-set coded_ℕ w.ticket (k + 1)) (Go_on-prop (k + 1) ws)
+pub GoOn-prop : (k : ℕ) (ws : List Waiter) → IsProp (GoOnFrom k ws)
+GoOn-prop k [] = Unit-prop
+GoOn-prop k (w ∷ ws) = ×_prop (Coded-set coded_ℕ w.ticket (k + 1)) (GoOn-prop (k + 1) ws)
 
 -- how often the seat stands in the list
 abbrev pub times : ℕ → List Waiter → ℕ

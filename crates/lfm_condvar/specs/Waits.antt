@@ -6,39 +6,39 @@ use Rattle.lfm_model.specs.declared.refusals.Refusal.{Refusal}
 use Rattle.lfm_protocol.specs.declared.answers.Answer.{Answer}
 use Rattle.lfm_protocol.specs.declared.answers.Call.{Call}
 use Rattle.lfm_protocol.specs.declared.limits.Limits.{Limits}
-use Rattle.lfm_mutex.specs.calls.Sight.{Sight, Waits, Wait_refused, Wakes}
-use Rattle.lfm_mutex.specs.calls.Trails.{Makes_at_most, Makes_call, Receives_by}
+use Rattle.lfm_mutex.specs.calls.Sight.{Sight, StartsWait, WaitRefused, Wakes}
+use Rattle.lfm_mutex.specs.calls.Trails.{MakesAtMost, MakesCall, ReceivesBy}
 use Rattle.lfm_condvar.specs.declared.waiters.Waiters.{Waiters}
-use Rattle.lfm_condvar.specs.Holds.{Held_by, Held_once}
+use Rattle.lfm_condvar.specs.Holds.{StepsOfOneHold, HeldOnce}
 use Rattle.lfm_condvar.specs.Keeping.{Appended}
 use Rattle.lfm_condvar.specs.Lists.{times}
 
 module _ {T : Type 0} where
   -- the seat could make start_wait
-  abbrev pub May_wait : ℕ → Sight T → Type 0
-  May_wait budget s = (s.asleep ≡ false) × (s.depth ≡ 1) × (s.takes < budget)
+  abbrev pub MayWait : ℕ → Sight T → Type 0
+  MayWait budget s = (s.asleep ≡ false) × (s.depth ≡ 1) × (s.takes < budget)
 
   -- the seat gave up its mutex and fell asleep, by the steps of start_wait alone
-  abbrev pub Falls_asleep : Limits → Sight T → Sight T → Type 0
-  Falls_asleep user s t = (u : Unlocked) × Waits user.budget s t (Ok u) × Makes_call user (λ x. Answer.Waiting x) Call.StartWait s t (Ok u) × Makes_at_most (user.seats + 8) s t
+  abbrev pub FallsAsleep : Limits → Sight T → Sight T → Type 0
+  FallsAsleep user s t = (u : Unlocked) × StartsWait user.budget s t (Ok u) × MakesCall user (λ x. Answer.Waiting x) Call.StartWait s t (Ok u) × MakesAtMost (user.seats + 8) s t
 
   -- how enlist ends, in the name of the cond seat `by`, by which the list v became w
   abbrev pub Enlists : Limits → ℕ → Sight T → Sight T → Waiters → Waiters → Result ℕ Refusal → Type 0
-  Enlists user by s t v w (Ok ticket) = Appended by s.number v w × (ticket ≡ w.added) × Falls_asleep user s t
-  Enlists user by s t v w (Err Refusal.NoSuchSeat) = May_wait user.budget s × (v.seats < s.number) × (w ≡ v) × (t ≡ s)
-  Enlists user by s t v w (Err Refusal.Busy) = May_wait user.budget s × (s.number ≤ v.seats) × (0 < times s.number v.list.items) × (w ≡ v) × (t ≡ s)
-  Enlists user by s t v w (Err r) = Wait_refused user.budget s r × (w ≡ v) × (t ≡ s)
+  Enlists user by s t v w (Ok ticket) = Appended by s.number v w × (ticket ≡ w.added) × FallsAsleep user s t
+  Enlists user by s t v w (Err Refusal.NoSuchSeat) = MayWait user.budget s × (v.seats < s.number) × (w ≡ v) × (t ≡ s)
+  Enlists user by s t v w (Err Refusal.Busy) = MayWait user.budget s × (s.number ≤ v.seats) × (0 < times s.number v.list.items) × (w ≡ v) × (t ≡ s)
+  Enlists user by s t v w (Err r) = WaitRefused user.budget s r × (w ≡ v) × (t ≡ s)
 
 module _ {T : Type 0} (follows : ℕ → T → T → Type 0) (fits : T → ℕ → Type 0) where
   -- the seat, which slept, has come to hold, by receives alone
-  abbrev pub Comes_back : Limits → How → Sight T → Sight T → Type 0
-  Comes_back user how s t = Wakes follows fits how s t × Receives_by user s t (Ok how)
+  abbrev pub ComesBack : Limits → How → Sight T → Sight T → Type 0
+  ComesBack user how s t = Wakes follows fits how s t × ReceivesBy user s t (Ok how)
 
   -- How wait ends, with a cond seat that is seen as c before and as d after, of a condvar with the limits `own`. Between s and t the
   -- user seat is seen as m: asleep, put at the end of the list in the very hold in which it made start_wait
-  abbrev pub Wait_ends : Limits → Limits → Sight Waiters → Sight Waiters → Sight T → Sight T → Result (How × ℕ) Refusal → Type 0
-  Wait_ends user own c d s t (Ok r) = (v : Waiters) × (w : Waiters) × (m : Sight T) × Held_once own.budget c d v w × Enlists user c.number s m v w (Ok r.1) × Comes_back user r.0 m t × Held_by own c d
-  Wait_ends user own c d s t (Err Refusal.Spent) = (s.asleep ≡ false) × (s.depth ≡ 1) × (user.budget ≤ s.takes ⊎ (own.budget ≤ c.takes)) × (d ≡ c) × (t ≡ s)
-  Wait_ends user own c d s t (Err Refusal.NoSuchSeat) = May_wait user.budget s × (c.takes < own.budget) × (own.seats < s.number) × (d ≡ c) × (t ≡ s)
-  Wait_ends user own c d s t (Err Refusal.Busy) = (v : Waiters) × (w : Waiters) × Held_once own.budget c d v w × Enlists user c.number s t v w (Err Refusal.Busy) × Held_by own c d
-  Wait_ends user own c d s t (Err r) = Wait_refused user.budget s r × (d ≡ c) × (t ≡ s)
+  abbrev pub WaitEnds : Limits → Limits → Sight Waiters → Sight Waiters → Sight T → Sight T → Result (How × ℕ) Refusal → Type 0
+  WaitEnds user own c d s t (Ok r) = (v : Waiters) × (w : Waiters) × (m : Sight T) × HeldOnce own.budget c d v w × Enlists user c.number s m v w (Ok r.1) × ComesBack user r.0 m t × StepsOfOneHold own c d
+  WaitEnds user own c d s t (Err Refusal.Spent) = (s.asleep ≡ false) × (s.depth ≡ 1) × (user.budget ≤ s.takes ⊎ (own.budget ≤ c.takes)) × (d ≡ c) × (t ≡ s)
+  WaitEnds user own c d s t (Err Refusal.NoSuchSeat) = MayWait user.budget s × (c.takes < own.budget) × (own.seats < s.number) × (d ≡ c) × (t ≡ s)
+  WaitEnds user own c d s t (Err Refusal.Busy) = (v : Waiters) × (w : Waiters) × HeldOnce own.budget c d v w × Enlists user c.number s t v w (Err Refusal.Busy) × StepsOfOneHold own c d
+  WaitEnds user own c d s t (Err r) = WaitRefused user.budget s r × (d ≡ c) × (t ≡ s)

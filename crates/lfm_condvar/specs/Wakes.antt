@@ -10,59 +10,59 @@ use Rattle.lfm_mutex.specs.calls.Sight.{Sight, Sends}
 use Rattle.lfm_mutex.specs.calls.Trails.{Makes}
 use Rattle.lfm_condvar.specs.declared.waiters.Waiter.{Waiter}
 use Rattle.lfm_condvar.specs.declared.waiters.Waiters.{Waiters}
-use Rattle.lfm_condvar.specs.Holds.{Held_by, Held_once}
+use Rattle.lfm_condvar.specs.Holds.{StepsOfOneHold, HeldOnce}
 use Rattle.lfm_condvar.specs.Keeping.{Taken}
 use Rattle.lfm_condvar.specs.Lists.{waiter}
 
 module _ {T : Type 0} where
   -- the oldest of the list was not waiting to be sent
-  abbrev pub Oldest_not_waiting : ℕ → Sight T → Sight T → Waiters → Type 0
-  Oldest_not_waiting n s t v = (x : Waiter) × (rest : List Waiter) × (v.list.items ≡ x ∷ rest) × Sends n s x.seat t (Err Refusal.NotWaiting)
+  abbrev pub OldestNotWaiting : ℕ → Sight T → Sight T → Waiters → Type 0
+  OldestNotWaiting n s t v = (x : Waiter) × (rest : List Waiter) × (v.list.items ≡ x ∷ rest) × Sends n s x.seat t (Err Refusal.NotWaiting)
 
   -- how send_oldest ends, by which the list v became w
-  abbrev pub Sends_oldest : ℕ → Sight T → Sight T → Waiters → Waiters → Result (Option (ℕ × ℕ)) Refusal → Type 0
-  Sends_oldest n s t v w (Ok None) = (s.asleep ≡ false) × (v.list.items ≡ []) × (w ≡ v) × (t ≡ s)
-  Sends_oldest n s t v w (Ok (Some p)) = Taken (waiter p.0 p.1 ∷ []) v w × (p.1 ≡ w.sent) × Sends n s p.0 t (Ok tt)
-  Sends_oldest n s t v w (Err Refusal.Asleep) = (s.asleep ≡ true) × (w ≡ v) × (t ≡ s)
-  Sends_oldest n s t v w (Err Refusal.NotWaiting) = (w ≡ v) × Oldest_not_waiting n s t v
-  Sends_oldest n s t v w (Err r) = ⊥
+  abbrev pub SendsOldest : ℕ → Sight T → Sight T → Waiters → Waiters → Result (Option (ℕ × ℕ)) Refusal → Type 0
+  SendsOldest n s t v w (Ok None) = (s.asleep ≡ false) × (v.list.items ≡ []) × (w ≡ v) × (t ≡ s)
+  SendsOldest n s t v w (Ok (Some p)) = Taken (waiter p.0 p.1 ∷ []) v w × (p.1 ≡ w.sent) × Sends n s p.0 t (Ok tt)
+  SendsOldest n s t v w (Err Refusal.Asleep) = (s.asleep ≡ true) × (w ≡ v) × (t ≡ s)
+  SendsOldest n s t v w (Err Refusal.NotWaiting) = (w ≡ v) × OldestNotWaiting n s t v
+  SendsOldest n s t v w (Err r) = ⊥
 
   -- the seat has sent the seats of these, in order, and done nothing else
-  abbrev pub Sent_each : List Waiter → Sight T → Sight T → Type 0
-  Sent_each gone s t = t ≡ record s { trail = t.trail; sends = s.sends ++ map (λ (x : Waiter). x.seat) gone }
+  abbrev pub SentEach : List Waiter → Sight T → Sight T → Type 0
+  SentEach gone s t = t ≡ record s { trail = t.trail; sends = s.sends ++ map (λ (x : Waiter). x.seat) gone }
 
   -- how it ends to send all that wait, by which the list v became w
-  abbrev pub Sends_all : ℕ → Sight T → Sight T → Waiters → Waiters → Result ℕ Refusal → Type 0
-  Sends_all n s t v w (Ok k) = (k ≡ length v.list.items) × (w.list.items ≡ []) × Taken v.list.items v w × Sent_each v.list.items s t × (s.asleep ≡ false)
-  Sends_all n s t v w (Err Refusal.NotWaiting) = (gone : List Waiter) × (m : Sight T) × Taken gone v w × Sent_each gone s m × Oldest_not_waiting n m t w
-  Sends_all n s t v w (Err r) = ⊥
+  abbrev pub SendsAll : ℕ → Sight T → Sight T → Waiters → Waiters → Result ℕ Refusal → Type 0
+  SendsAll n s t v w (Ok k) = (k ≡ length v.list.items) × (w.list.items ≡ []) × Taken v.list.items v w × SentEach v.list.items s t × (s.asleep ≡ false)
+  SendsAll n s t v w (Err Refusal.NotWaiting) = (gone : List Waiter) × (m : Sight T) × Taken gone v w × SentEach gone s m × OldestNotWaiting n m t w
+  SendsAll n s t v w (Err r) = ⊥
 
   -- One send_lock after another, for these seats in order. With each stands how the sender was seen after it
-  abbrev pub Sends_in_turn : Limits → Sight T → List (ℕ × Sight T) → Sight T → Type 0
-  Sends_in_turn user s [] t = t ≡ s
-  Sends_in_turn user s (x ∷ xs) t = Sends user.seats s x.0 x.1 (Ok tt) × Makes user (Call.SendLock x.0) s x.1 (Ended Answer.Sent) × Sends_in_turn user x.1 xs t
+  abbrev pub SendsInTurn : Limits → Sight T → List (ℕ × Sight T) → Sight T → Type 0
+  SendsInTurn user s [] t = t ≡ s
+  SendsInTurn user s (x ∷ xs) t = Sends user.seats s x.0 x.1 (Ok tt) × Makes user (Call.SendLock x.0) s x.1 (Ended Answer.Sent) × SendsInTurn user x.1 xs t
 
   -- The steps of a call that sends, and ends so: those of some sends, and where the last was refused as NotWaiting those of that one
-  abbrev pub Sends_by : {A : Type 0} → Limits → Sight T → Sight T → Result A Refusal → Type 0
-  Sends_by user s t (Ok a) = (sent : List (ℕ × Sight T)) × Sends_in_turn user s sent t
-  Sends_by user s t (Err Refusal.NotWaiting) =
-      (sent : List (ℕ × Sight T)) × (m : Sight T) × (x : ℕ) × (cause : Why) × Sends_in_turn user s sent m × Makes user (Call.SendLock x) m t (Refused cause)
-  Sends_by user s t (Err r) = t ≡ s
+  abbrev pub SendsBy : {A : Type 0} → Limits → Sight T → Sight T → Result A Refusal → Type 0
+  SendsBy user s t (Ok a) = (sent : List (ℕ × Sight T)) × SendsInTurn user s sent t
+  SendsBy user s t (Err Refusal.NotWaiting) =
+      (sent : List (ℕ × Sight T)) × (m : Sight T) × (x : ℕ) × (cause : Why) × SendsInTurn user s sent m × Makes user (Call.SendLock x) m t (Refused cause)
+  SendsBy user s t (Err r) = t ≡ s
 
   -- How the wakes end, with a cond seat that is seen as c before and as d after, of a condvar with the limits `own`
 
   -- before the inner mutex was locked
-  abbrev pub Wake_refused : Limits → Sight Waiters → Sight Waiters → Sight T → Sight T → Refusal → Type 0
-  Wake_refused own c d s t Refusal.Asleep = (s.asleep ≡ true) × (d ≡ c) × (t ≡ s)
-  Wake_refused own c d s t Refusal.Spent = (s.asleep ≡ false) × (own.budget ≤ c.takes) × (d ≡ c) × (t ≡ s)
-  Wake_refused own c d s t r = ⊥
+  abbrev pub WakeRefused : Limits → Sight Waiters → Sight Waiters → Sight T → Sight T → Refusal → Type 0
+  WakeRefused own c d s t Refusal.Asleep = (s.asleep ≡ true) × (d ≡ c) × (t ≡ s)
+  WakeRefused own c d s t Refusal.Spent = (s.asleep ≡ false) × (own.budget ≤ c.takes) × (d ≡ c) × (t ≡ s)
+  WakeRefused own c d s t r = ⊥
 
-  abbrev pub Wake_one_ends : ℕ → Limits → Sight Waiters → Sight Waiters → Sight T → Sight T → Result (Option (ℕ × ℕ)) Refusal → Type 0
-  Wake_one_ends n own c d s t (Err Refusal.Asleep) = Wake_refused own c d s t Refusal.Asleep
-  Wake_one_ends n own c d s t (Err Refusal.Spent) = Wake_refused own c d s t Refusal.Spent
-  Wake_one_ends n own c d s t r = (v : Waiters) × (w : Waiters) × Held_once own.budget c d v w × Sends_oldest n s t v w r × Held_by own c d
+  abbrev pub WakeOneEnds : ℕ → Limits → Sight Waiters → Sight Waiters → Sight T → Sight T → Result (Option (ℕ × ℕ)) Refusal → Type 0
+  WakeOneEnds n own c d s t (Err Refusal.Asleep) = WakeRefused own c d s t Refusal.Asleep
+  WakeOneEnds n own c d s t (Err Refusal.Spent) = WakeRefused own c d s t Refusal.Spent
+  WakeOneEnds n own c d s t r = (v : Waiters) × (w : Waiters) × HeldOnce own.budget c d v w × SendsOldest n s t v w r × StepsOfOneHold own c d
 
-  abbrev pub Wake_all_ends : ℕ → Limits → Sight Waiters → Sight Waiters → Sight T → Sight T → Result ℕ Refusal → Type 0
-  Wake_all_ends n own c d s t (Err Refusal.Asleep) = Wake_refused own c d s t Refusal.Asleep
-  Wake_all_ends n own c d s t (Err Refusal.Spent) = Wake_refused own c d s t Refusal.Spent
-  Wake_all_ends n own c d s t r = (v : Waiters) × (w : Waiters) × Held_once own.budget c d v w × Sends_all n s t v w r × Held_by own c d
+  abbrev pub WakeAllEnds : ℕ → Limits → Sight Waiters → Sight Waiters → Sight T → Sight T → Result ℕ Refusal → Type 0
+  WakeAllEnds n own c d s t (Err Refusal.Asleep) = WakeRefused own c d s t Refusal.Asleep
+  WakeAllEnds n own c d s t (Err Refusal.Spent) = WakeRefused own c d s t Refusal.Spent
+  WakeAllEnds n own c d s t r = (v : Waiters) × (w : Waiters) × HeldOnce own.budget c d v w × SendsAll n s t v w r × StepsOfOneHold own c d

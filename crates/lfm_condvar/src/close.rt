@@ -2,8 +2,8 @@
 ghost use Rattle.std.specs.Prelude.{◌≡◌, ℕ, IfErr, IfOk, Some};
 ghost use mathlib.Core.Option.{some};
 ghost use lib.ListN.{get_elem?};
-ghost use Rattle.lfm_mutex.specs.Close.{All_stand, First_missing, Left_last};
-ghost use Rattle.lfm_condvar.specs.Belongs.{Of_condvar, Same_condvar, cond_limits, cond_sight};
+ghost use Rattle.lfm_mutex.specs.Close.{AllStand, FirstMissing, LeftLast};
+ghost use Rattle.lfm_condvar.specs.Belongs.{OfCondvar, SameCondvar, cond_limits, cond_sight};
 ghost use Rattle.lfm_condvar.specs.Keeping.{Since};
 
 use crate::cond_seat::CondSeat;
@@ -19,10 +19,10 @@ impl Condvar {
         self,
         seats: Vec<CondSeat>,
     ) -> Result<(u64, u64), (Condvar, Vec<CondSeat>, Missing)>
-        requires belongs { (j : ℕ) (s : _) → get_elem? seats.items j ≡ some s → Of_condvar s self }
-        ensures missing { IfErr result (λ e. Same_condvar self e.0 × (e.1 ≡ seats) × First_missing (λ s. cond_sight s) seats.items (cond_limits self).seats e.2) }
-        ensures all { IfOk result (λ _. All_stand (λ s. cond_sight s) seats.items (cond_limits self).seats) }
-        ensures numbers { IfOk result (λ r. (w : _) × (r.0 ≡ w.sent) × (r.1 ≡ w.added) × ((j : ℕ) (s : _) (l : _) → get_elem? seats.items j ≡ some s → (cond_sight s).last ≡ Some l → Since (cond_sight s).number l w) × Left_last (λ s. cond_sight s) seats.items w) }
+        requires belongs { (j : ℕ) (s : _) → get_elem? seats.items j ≡ some s → OfCondvar s self }
+        ensures missing { IfErr result (λ e. SameCondvar self e.0 × (e.1 ≡ seats) × FirstMissing (λ s. cond_sight s) seats.items (cond_limits self).seats e.2) }
+        ensures all { IfOk result (λ _. AllStand (λ s. cond_sight s) seats.items (cond_limits self).seats) }
+        ensures numbers { IfOk result (λ r. (w : _) × (r.0 ≡ w.sent) × (r.1 ≡ w.added) × ((j : ℕ) (s : _) (l : _) → get_elem? seats.items j ≡ some s → (cond_sight s).last ≡ Some l → Since (cond_sight s).number l w) × LeftLast (λ s. cond_sight s) seats.items w) }
     {
         let Condvar {
             inner,

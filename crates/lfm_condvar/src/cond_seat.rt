@@ -1,7 +1,7 @@
 //! A seat of a condvar: what one thread uses it with.
 ghost use Rattle.std.specs.Prelude.{◌≡◌};
 ghost use Rattle.lfm_mutex.specs.calls.Sight.{sight};
-ghost use Rattle.lfm_condvar.specs.Holds.{Cond_kept};
+ghost use Rattle.lfm_condvar.specs.Holds.{CondKept};
 
 use crate::waiters::Waiters;
 use lfm_mutex::{Holder, Seat};
@@ -11,7 +11,7 @@ use lfm_mutex::{Holder, Seat};
 #[derive(Drop)]
 pub struct CondSeat {
     pub(crate) seat: Seat<Waiters>,
-    pub ghost kept: { Cond_kept (sight seat) },
+    pub ghost kept: { CondKept (sight seat) },
 }
 
 impl Holder<Waiters> for CondSeat {

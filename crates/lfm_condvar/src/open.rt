@@ -5,9 +5,9 @@ ghost use lib.ListN.{get_elem?};
 ghost use Rattle.lfm_model.specs.declared.refusals.NewFault.{NewFault};
 ghost use Rattle.lfm_protocol.specs.Limits.{are_in_limits};
 ghost use Rattle.lfm_mutex.specs.calls.Sight.{new_sight, sight};
-ghost use Rattle.lfm_condvar.specs.Belongs.{Of_condvar, cond_limits, cond_sight};
-ghost use Rattle.lfm_condvar.specs.Holds.{Cond_kept};
-ghost use Rattle.lfm_condvar.specs.Keeping.{Is_new};
+ghost use Rattle.lfm_condvar.specs.Belongs.{OfCondvar, cond_limits, cond_sight};
+ghost use Rattle.lfm_condvar.specs.Holds.{CondKept};
+ghost use Rattle.lfm_condvar.specs.Keeping.{IsNew};
 
 use crate::cond_seat::CondSeat;
 use crate::condvar::Condvar;
@@ -21,7 +21,7 @@ use std::alloc::Global;
 fn as_cond_seats(seats: Vec<Seat<Waiters>>, mut cond_seats: Vec<CondSeat>) -> Vec<CondSeat>
     requires room { vec_len seats ≤ vec_capacity cond_seats }
     requires none { cond_seats.items ≡ [] }
-    requires kept { (j : ℕ) (s : _) → get_elem? seats.items j ≡ some s → Cond_kept (sight s) }
+    requires kept { (j : ℕ) (s : _) → get_elem? seats.items j ≡ some s → CondKept (sight s) }
     ensures len { vec_len result ≡ vec_len seats }
     ensures wraps { (j : ℕ) (s : _) → get_elem? result.items j ≡ some s → get_elem? seats.items j ≡ some s.seat }
 {
@@ -40,7 +40,7 @@ impl Condvar {
     /// refused. No other call of a condvar takes memory.
     pub fn new(alloc: Global, seats: u64, budget: u64) -> Result<(Condvar, Vec<CondSeat>), NewFault>
         ensures limits { IfOk result (λ r. (cond_limits r.0 ≡ record { seats = seats; budget = budget }) × (are_in_limits seats budget ≡ true)) }
-        ensures seats { IfOk result (λ r. (vec_len r.1 ≡ seats) × ((v : _) × Is_new v × ((j : ℕ) (s : _) → get_elem? r.1.items j ≡ some s → Of_condvar s r.0 × (cond_sight s ≡ new_sight v (j + 1))))) }
+        ensures seats { IfOk result (λ r. (vec_len r.1 ≡ seats) × ((v : _) × IsNew v × ((j : ℕ) (s : _) → get_elem? r.1.items j ≡ some s → OfCondvar s r.0 × (cond_sight s ≡ new_sight v (j + 1))))) }
         ensures limit { are_in_limits seats budget ≡ false → IfErr result (λ e. e ≡ NewFault.Limit) × IfOk result (λ _. ⊥) }
         ensures memory { are_in_limits seats budget ≡ true → IfErr result (λ e. e ≡ NewFault.Memory) }
     {

@@ -1,11 +1,11 @@
 //! How a seat waits: it is enlisted in one hold of the inner mutex, and sleeps until it is sent.
 ghost use Rattle.std.specs.Prelude.{◌≡◌, ◌<◌, ◌≤◌, ℕ, Some, IfErr, slice_index};
 ghost use Rattle.lfm_model.specs.declared.refusals.Refusal.TheVariants.{Busy};
-ghost use Rattle.lfm_mutex.specs.Belongs.{Beside, Of_mutex, limits_of};
-ghost use Rattle.lfm_mutex.specs.calls.Sight.{sight, May_leave};
-ghost use Rattle.lfm_condvar.specs.Belongs.{Of_condvar, cond_limits, cond_sight};
-ghost use Rattle.lfm_condvar.specs.Holds.{Held_by, Held_once, Rewrites};
-ghost use Rattle.lfm_condvar.specs.Waits.{Enlists, May_wait, Wait_ends};
+ghost use Rattle.lfm_mutex.specs.Belongs.{Beside, OfMutex, limits_of};
+ghost use Rattle.lfm_mutex.specs.calls.Sight.{sight, MayLeave};
+ghost use Rattle.lfm_condvar.specs.Belongs.{OfCondvar, cond_limits, cond_sight};
+ghost use Rattle.lfm_condvar.specs.Holds.{StepsOfOneHold, HeldOnce, Rewrites};
+ghost use Rattle.lfm_condvar.specs.Waits.{Enlists, MayWait, WaitEnds};
 
 use crate::cond_seat::CondSeat;
 use crate::condvar::Condvar;
@@ -25,10 +25,10 @@ fn enlist_in_hand<T: Kept>(
     mutex: &Mutex<T>,
     seat: &mut Seat<T>,
 ) -> Result<u64, Refusal>
-    requires belongs { Of_mutex seat.old mutex.now }
+    requires belongs { OfMutex seat.old mutex.now }
     requires held { 0 < (sight cond.old).depth }
     requires may { (v : _) → (sight cond.old).value ≡ Some v → ((sight cond.old).number ≤ v.seats) × (slice_index v.counts.items (sight cond.old).number < v.budget) }
-    requires leaves { May_leave T.follows T.fits (sight seat.old) }
+    requires leaves { MayLeave T.follows T.fits (sight seat.old) }
     ensures belongs { Beside cond.old cond.new × Beside seat.old seat.new }
     ensures enlists { (v : _) × (w : _) × Rewrites (sight cond.old) (sight cond.new) v w × Enlists (limits_of mutex.now) (sight cond.old).number (sight seat.old) (sight seat.new) v w result }
 {
@@ -48,14 +48,14 @@ impl Condvar {
         mutex: &Mutex<T>,
         seat: &mut Seat<T>,
     ) -> Result<u64, Refusal>
-        requires belongs { Of_condvar cond.old self.now × Of_mutex seat.old mutex.now }
-        requires leaves { May_leave T.follows T.fits (sight seat.old) }
-        requires may { May_wait (limits_of mutex.now).budget (sight seat.old) }
+        requires belongs { OfCondvar cond.old self.now × OfMutex seat.old mutex.now }
+        requires leaves { MayLeave T.follows T.fits (sight seat.old) }
+        requires may { MayWait (limits_of mutex.now).budget (sight seat.old) }
         requires spare { (cond_sight cond.old).takes < (cond_limits self.now).budget }
         requires known { (sight seat.old).number ≤ (cond_limits self.now).seats }
-        ensures belongs { Of_condvar cond.new self.now × Beside seat.old seat.new }
-        ensures enlists { (v : _) × (w : _) × Held_once (cond_limits self.now).budget (cond_sight cond.old) (cond_sight cond.new) v w × Enlists (limits_of mutex.now) (cond_sight cond.old).number (sight seat.old) (sight seat.new) v w result }
-        ensures steps { Held_by (cond_limits self.now) (cond_sight cond.old) (cond_sight cond.new) }
+        ensures belongs { OfCondvar cond.new self.now × Beside seat.old seat.new }
+        ensures enlists { (v : _) × (w : _) × HeldOnce (cond_limits self.now).budget (cond_sight cond.old) (cond_sight cond.new) v w × Enlists (limits_of mutex.now) (cond_sight cond.old).number (sight seat.old) (sight seat.new) v w result }
+        ensures steps { StepsOfOneHold (cond_limits self.now) (cond_sight cond.old) (cond_sight cond.new) }
         ensures busy { IfErr result (λ r. r ≡ Busy) }
     {
         match lock_list(&self.inner, rt, &mut cond.seat) {
@@ -84,10 +84,10 @@ impl Condvar {
         mutex: &Mutex<T>,
         seat: &mut Seat<T>,
     ) -> Result<(How, u64), Refusal>
-        requires belongs { Of_condvar cond.old self.now × Of_mutex seat.old mutex.now }
-        requires leaves { May_leave T.follows T.fits (sight seat.old) }
-        ensures belongs { Of_condvar cond.new self.now × Beside seat.old seat.new }
-        ensures waits { Wait_ends T.follows T.fits (limits_of mutex.now) (cond_limits self.now) (cond_sight cond.old) (cond_sight cond.new) (sight seat.old) (sight seat.new) result }
+        requires belongs { OfCondvar cond.old self.now × OfMutex seat.old mutex.now }
+        requires leaves { MayLeave T.follows T.fits (sight seat.old) }
+        ensures belongs { OfCondvar cond.new self.now × Beside seat.old seat.new }
+        ensures waits { WaitEnds T.follows T.fits (limits_of mutex.now) (cond_limits self.now) (cond_sight cond.old) (cond_sight cond.new) (sight seat.old) (sight seat.new) result }
     {
         if let Some(refusal) = bars_wait(seat) {
             return Err(refusal);

@@ -1,7 +1,7 @@
 //! The list of those that wait, with its tickets. Only `enlist` and `send_oldest` change it.
 ghost use Rattle.std.specs.Prelude.{All, ◌≡◌, ℕ, ◌+◌, ◌<◌, ◌≤◌, ◌++◌, [], ◌∷◌, Some, IfOk, MatchBool, MatchOption, length, slice_index, sum, vec_len};
 ghost use Rattle.std.specs.VecDeque.{deque_capacity, deque_len};
-ghost use Rattle.lfm_condvar.specs.Lists.{Among, Among-prop, Go_on_from, Go_on-prop, times, waiter};
+ghost use Rattle.lfm_condvar.specs.Lists.{Among, Among-prop, GoOnFrom, GoOn-prop, times, waiter};
 
 pub mod enlist;
 mod send;
@@ -29,7 +29,7 @@ pub struct Waiters {
     added: u64,
     seats: u64,
     budget: u64,
-    pub ghost tickets: { Go_on_from sent list.items } by { Go_on-prop sent list.items },
+    pub ghost tickets: { GoOnFrom sent list.items } by { GoOn-prop sent list.items },
     pub ghost length: { sent + deque_len list ≡ added },
     pub ghost once: { (s : ℕ) → times s list.items ≤ 1 },
     pub ghost among: { Among seats list.items } by { Among-prop seats list.items },
@@ -41,12 +41,12 @@ pub struct Waiters {
 }
 
 impl Waiters {
-    ghost use Rattle.lfm_condvar.specs.Keeping.{Appended, Follows, Is_new, Taken};
+    ghost use Rattle.lfm_condvar.specs.Keeping.{Appended, WaitersFollow, IsNew, Taken};
 
     /// A list of nobody, with room for each of the seats. It asks for memory twice.
     pub(crate) fn empty(alloc: Global, seats: u64, budget: u64) -> Result<Waiters, AllocError>
         requires { (seats < 4096) × (budget ≤ 68719476736) }
-        ensures { IfOk result (λ v. Is_new v × (v.seats ≡ seats) × (v.budget ≡ budget)) }
+        ensures { IfOk result (λ v. IsNew v × (v.seats ≡ seats) × (v.budget ≡ budget)) }
     {
         let list = VecDeque::with_capacity(alloc, seats as usize)?;
         let counts = Vec::from_elem(alloc, 0u64, seats as usize + 1)?;
@@ -99,7 +99,7 @@ impl Waiters {
         requires seat { (0 < seat) × (seat ≤ self.old.seats) × (times seat self.old.list.items ≡ 0) }
         ensures appended { Appended by seat self.old self.new }
         ensures ticket { result ≡ self.new.added }
-        ensures follows { Follows by self.old self.new }
+        ensures follows { WaitersFollow by self.old self.new }
     {
         let ticket = self.added + 1;
         let place = by.get() as usize;
@@ -112,7 +112,7 @@ impl Waiters {
     // Takes the oldest out.
     fn take_oldest(&mut self) -> Option<Waiter>
         ensures taken { MatchOption result (self.old.list.items ≡ []) (λ w. Taken (w ∷ []) self.old self.new × (w.ticket ≡ self.old.sent + 1)) }
-        ensures follows { (s : ℕ) → Follows s self.old self.new }
+        ensures follows { (s : ℕ) → WaitersFollow s self.old self.new }
     {
         let oldest = self.list.pop_front()?;
         self.sent += 1;

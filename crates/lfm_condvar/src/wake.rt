@@ -1,11 +1,11 @@
 //! How waiters are woken: in one hold of the inner mutex the oldest, or all, oldest first, are made lockers of the user mutex.
 ghost use Rattle.std.specs.Prelude.{◌≡◌, ◌<◌, ◌≤◌, ℕ, Some, false};
-ghost use Rattle.lfm_mutex.specs.Belongs.{Beside, Of_mutex, limits_of};
+ghost use Rattle.lfm_mutex.specs.Belongs.{Beside, OfMutex, limits_of};
 ghost use Rattle.lfm_mutex.specs.calls.Sight.{sight};
-ghost use Rattle.lfm_condvar.specs.Belongs.{Of_condvar, cond_limits, cond_sight};
+ghost use Rattle.lfm_condvar.specs.Belongs.{OfCondvar, cond_limits, cond_sight};
 ghost use Rattle.lfm_condvar.specs.Holds.{Rewrites};
-ghost use Rattle.lfm_condvar.specs.Keeping.{Follows};
-ghost use Rattle.lfm_condvar.specs.Wakes.{Sends_all, Sends_by, Sends_oldest, Wake_all_ends, Wake_one_ends};
+ghost use Rattle.lfm_condvar.specs.Keeping.{WaitersFollow};
+ghost use Rattle.lfm_condvar.specs.Wakes.{SendsAll, SendsBy, SendsOldest, WakeAllEnds, WakeOneEnds};
 
 use crate::cond_seat::CondSeat;
 use crate::condvar::Condvar;
@@ -21,13 +21,13 @@ fn send_all<T: Kept>(
     mutex: &Mutex<T>,
     seat: &mut Seat<T>,
 ) -> Result<u64, Refusal>
-    requires belongs { Of_mutex seat.old mutex.now }
+    requires belongs { OfMutex seat.old mutex.now }
     requires wide { waiters.old.seats ≤ (limits_of mutex.now).seats }
     requires awake { (sight seat.old).asleep ≡ false }
     ensures belongs { Beside seat.old seat.new }
-    ensures sends { Sends_all (limits_of mutex.now).seats (sight seat.old) (sight seat.new) waiters.old waiters.new result }
-    ensures steps { Sends_by (limits_of mutex.now) (sight seat.old) (sight seat.new) result }
-    ensures follows { (s : ℕ) → Follows s waiters.old waiters.new }
+    ensures sends { SendsAll (limits_of mutex.now).seats (sight seat.old) (sight seat.new) waiters.old waiters.new result }
+    ensures steps { SendsBy (limits_of mutex.now) (sight seat.old) (sight seat.new) result }
+    ensures follows { (s : ℕ) → WaitersFollow s waiters.old waiters.new }
 {
     let mut sent = 0u64;
     'sends: loop {
@@ -48,12 +48,12 @@ fn send_oldest_in_hand<T: Kept>(
     mutex: &Mutex<T>,
     seat: &mut Seat<T>,
 ) -> Result<Option<(SeatNo, u64)>, Refusal>
-    requires belongs { Of_mutex seat.old mutex.now }
+    requires belongs { OfMutex seat.old mutex.now }
     requires held { 0 < (sight cond.old).depth }
     requires wide { (v : _) → (sight cond.old).value ≡ Some v → v.seats ≤ (limits_of mutex.now).seats }
     ensures belongs { Beside cond.old cond.new × Beside seat.old seat.new }
-    ensures sends { (v : _) × (w : _) × Rewrites (sight cond.old) (sight cond.new) v w × Sends_oldest (limits_of mutex.now).seats (sight seat.old) (sight seat.new) v w result }
-    ensures steps { Sends_by (limits_of mutex.now) (sight seat.old) (sight seat.new) result }
+    ensures sends { (v : _) × (w : _) × Rewrites (sight cond.old) (sight cond.new) v w × SendsOldest (limits_of mutex.now).seats (sight seat.old) (sight seat.new) v w result }
+    ensures steps { SendsBy (limits_of mutex.now) (sight seat.old) (sight seat.new) result }
 {
     let Some(waiters) = cond.value_mut() else {
         unreachable!()
@@ -67,13 +67,13 @@ fn send_all_in_hand<T: Kept>(
     mutex: &Mutex<T>,
     seat: &mut Seat<T>,
 ) -> Result<u64, Refusal>
-    requires belongs { Of_mutex seat.old mutex.now }
+    requires belongs { OfMutex seat.old mutex.now }
     requires held { 0 < (sight cond.old).depth }
     requires wide { (v : _) → (sight cond.old).value ≡ Some v → v.seats ≤ (limits_of mutex.now).seats }
     requires awake { (sight seat.old).asleep ≡ false }
     ensures belongs { Beside cond.old cond.new × Beside seat.old seat.new }
-    ensures sends { (v : _) × (w : _) × Rewrites (sight cond.old) (sight cond.new) v w × Sends_all (limits_of mutex.now).seats (sight seat.old) (sight seat.new) v w result }
-    ensures steps { Sends_by (limits_of mutex.now) (sight seat.old) (sight seat.new) result }
+    ensures sends { (v : _) × (w : _) × Rewrites (sight cond.old) (sight cond.new) v w × SendsAll (limits_of mutex.now).seats (sight seat.old) (sight seat.new) v w result }
+    ensures steps { SendsBy (limits_of mutex.now) (sight seat.old) (sight seat.new) result }
 {
     let Some(waiters) = cond.value_mut() else {
         unreachable!()
@@ -98,11 +98,11 @@ impl Condvar {
         mutex: &Mutex<T>,
         seat: &mut Seat<T>,
     ) -> Result<Option<(SeatNo, u64)>, Refusal>
-        requires belongs { Of_condvar cond.old self.now × Of_mutex seat.old mutex.now }
+        requires belongs { OfCondvar cond.old self.now × OfMutex seat.old mutex.now }
         requires wide { (cond_limits self.now).seats ≤ (limits_of mutex.now).seats }
-        ensures belongs { Of_condvar cond.new self.now × Beside seat.old seat.new }
-        ensures wakes { Wake_one_ends (limits_of mutex.now).seats (cond_limits self.now) (cond_sight cond.old) (cond_sight cond.new) (sight seat.old) (sight seat.new) result }
-        ensures steps { Sends_by (limits_of mutex.now) (sight seat.old) (sight seat.new) result }
+        ensures belongs { OfCondvar cond.new self.now × Beside seat.old seat.new }
+        ensures wakes { WakeOneEnds (limits_of mutex.now).seats (cond_limits self.now) (cond_sight cond.old) (cond_sight cond.new) (sight seat.old) (sight seat.new) result }
+        ensures steps { SendsBy (limits_of mutex.now) (sight seat.old) (sight seat.new) result }
     {
         if seat.asleep() {
             return Err(Refusal::Asleep);
@@ -131,11 +131,11 @@ impl Condvar {
         mutex: &Mutex<T>,
         seat: &mut Seat<T>,
     ) -> Result<u64, Refusal>
-        requires belongs { Of_condvar cond.old self.now × Of_mutex seat.old mutex.now }
+        requires belongs { OfCondvar cond.old self.now × OfMutex seat.old mutex.now }
         requires wide { (cond_limits self.now).seats ≤ (limits_of mutex.now).seats }
-        ensures belongs { Of_condvar cond.new self.now × Beside seat.old seat.new }
-        ensures wakes { Wake_all_ends (limits_of mutex.now).seats (cond_limits self.now) (cond_sight cond.old) (cond_sight cond.new) (sight seat.old) (sight seat.new) result }
-        ensures steps { Sends_by (limits_of mutex.now) (sight seat.old) (sight seat.new) result }
+        ensures belongs { OfCondvar cond.new self.now × Beside seat.old seat.new }
+        ensures wakes { WakeAllEnds (limits_of mutex.now).seats (cond_limits self.now) (cond_sight cond.old) (cond_sight cond.new) (sight seat.old) (sight seat.new) result }
+        ensures steps { SendsBy (limits_of mutex.now) (sight seat.old) (sight seat.new) result }
     {
         if seat.asleep() {
             return Err(Refusal::Asleep);

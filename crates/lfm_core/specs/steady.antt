@@ -3,4 +3,4 @@ pub mod Numbered
 pub mod Ghost
 pub mod Views
 pub mod Steady
-pub mod Outcome
+pub mod EventOutcome

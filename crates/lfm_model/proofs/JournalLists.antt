@@ -7,7 +7,7 @@ use Rattle.lfm_model.specs.declared.answers.How.TheVariants.{Free, Queued}
 use Rattle.lfm_model.specs.declared.journals.What.{What}
 use Rattle.lfm_model.specs.declared.journals.What.TheVariants.{Took, Did}
 use Rattle.lfm_model.specs.declared.journals.Entry.{Entry}
-use Rattle.lfm_model.specs.Journals.{after_what, after_all, reply_of, replies_of, one_to, stamp_of, stamps, taker_at, queued_at, May, taker_from, queued_from, Lawful_from, own}
+use Rattle.lfm_model.specs.Journals.{after_what, after_all, reply_of, replies_of, one_to, stamp_of, stamps, taker_at, queued_at, May, taker_from, queued_from, LawfulFrom, own}
 
 module _ {O A : Type 0} (after : O → A → O) where
   pub after-append : (o : O) (xs ys : List (Entry A)) → after_all after o (xs ++ ys) ≡ after_all after (after_all after o xs) ys
@@ -32,7 +32,7 @@ module _ {A : Type 0} where
   queued-append k [] ys = refl
   queued-append k (e ∷ xs) ys = queued-append (queued_at k e.what) xs ys
 
-  pub lawful-append : (t : Option ℕ) (k : ℕ) (xs ys : List (Entry A)) → Lawful_from t k xs → Lawful_from (taker_from t xs) (queued_from k xs) ys → Lawful_from t k (xs ++ ys)
+  pub lawful-append : (t : Option ℕ) (k : ℕ) (xs ys : List (Entry A)) → LawfulFrom t k xs → LawfulFrom (taker_from t xs) (queued_from k xs) ys → LawfulFrom t k (xs ++ ys)
   lawful-append t k [] ys a b = b
   lawful-append t k (e ∷ xs) ys a b = (a.0, lawful-append (taker_at t e.seat e.what) (queued_at k e.what) xs ys a.1 b)
 
@@ -50,6 +50,6 @@ module _ {A : Type 0} where
   stamps_step t k s (Did op) rest n m q = q
 
   -- the stamps of a lawful journal, with the k before them, are 1, 2, 3 and on
-  pub lawful_stamps : (t : Option ℕ) (k : ℕ) (xs : List (Entry A)) → Lawful_from t k xs → one_to k ++ stamps xs ≡ one_to (queued_from k xs)
+  pub lawful_stamps : (t : Option ℕ) (k : ℕ) (xs : List (Entry A)) → LawfulFrom t k xs → one_to k ++ stamps xs ≡ one_to (queued_from k xs)
   lawful_stamps t k [] h = append-nil (one_to k)
   lawful_stamps t k (e ∷ xs) h = stamps_step t k e.seat e.what (stamps xs) (queued_from k (e ∷ xs)) h.0 (lawful_stamps (taker_at t e.seat e.what) (queued_at k e.what) xs h.1)

@@ -6,12 +6,12 @@ use Rattle.lfm_model.specs.declared.answers.How.{How}
 use Rattle.lfm_model.specs.declared.answers.How.TheVariants.{Free, Queued}
 use Rattle.lfm_model.specs.declared.journals.What.TheVariants.{Took}
 use Rattle.lfm_model.specs.declared.journals.Entry.{Entry}
-use Rattle.lfm_model.specs.Journals.{taker_at, queued_at, May, May_take, taker_from, queued_from, Lawful, own, entry, Within}
+use Rattle.lfm_model.specs.Journals.{taker_at, queued_at, May, MayTake, taker_from, queued_from, LawfulJournal, own, entry, Within}
 use Rattle.lfm_model.proofs.JournalLists.{taker-append, queued-append, lawful-append, own-append}
 use Rattle.lfm_model.proofs.Sums.{one_at, one_other, one_most, within_append}
 
 module _ {A : Type 0} (es : List (Entry A)) (e : Entry A) where
-  pub lawful_more : Lawful es → May (taker_from None es) (queued_from 0 es) e.seat e.what → Lawful (es ++ e ∷ [])
+  pub lawful_more : LawfulJournal es → May (taker_from None es) (queued_from 0 es) e.seat e.what → LawfulJournal (es ++ e ∷ [])
   lawful_more l m = lawful-append None 0 es (e ∷ []) l (m, tt)
 
   pub taker_more : taker_from None (es ++ e ∷ []) ≡ taker_at (taker_from None es) e.seat e.what
@@ -35,9 +35,9 @@ module _ {A : Type 0} (es : List (Entry A)) (e : Entry A) where
       (λ is. let m = one_most e.seat s in let lt' : length (own s es) < share = subst (λ (k : ℕ). length (own k es) < share) is lt in omega arith)
       (λ ne. let z = one_other e.seat s ne in let a = h s in omega arith)
 
-pub may_take : (A : Type 0) (t : Option ℕ) (k s : ℕ) (h : How) → May_take k h → May {A = A} t k s (Took h)
+pub may_take : (A : Type 0) (t : Option ℕ) (k s : ℕ) (h : How) → MayTake k h → May {A = A} t k s (Took h)
 may_take A t k s Free m = tt
 may_take A t k s (Queued x) m = m
 
-pub lawful_take : {A : Type 0} (es : List (Entry A)) (s : ℕ) (h : How) → Lawful es → May_take (queued_from 0 es) h → Lawful (es ++ entry s (Took h) ∷ [])
+pub lawful_take : {A : Type 0} (es : List (Entry A)) (s : ℕ) (h : How) → LawfulJournal es → MayTake (queued_from 0 es) h → LawfulJournal (es ++ entry s (Took h) ∷ [])
 lawful_take {A = A} es s h l m = lawful_more es (entry s (Took h)) l (may_take A (taker_from None es) (queued_from 0 es) s h m)

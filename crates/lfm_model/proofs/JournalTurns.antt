@@ -5,7 +5,7 @@ use Rattle.lfm_model.specs.declared.answers.How.{How}
 use Rattle.lfm_model.specs.declared.journals.What.{What}
 use Rattle.lfm_model.specs.declared.journals.What.TheVariants.{Took, Did}
 use Rattle.lfm_model.specs.declared.journals.Entry.{Entry}
-use Rattle.lfm_model.specs.Journals.{after_all, replies_of, taker_at, queued_at, May, Lawful_from, Lawful, entry}
+use Rattle.lfm_model.specs.Journals.{after_all, replies_of, taker_at, queued_at, May, LawfulFrom, LawfulJournal, entry}
 
 module _ {A : Type 0} where
   -- what is left before a turn is its entry, and what is left after it
@@ -45,7 +45,7 @@ module _ {O A R : Type 0} (after : O → A → O) (reply : O → A → R) where
 module _ {A : Type 0} where
   -- a journal is lawful exactly where what is left may come after this take and this many queued takes
   abbrev pub SameFrom : List (Entry A) → Option ℕ → ℕ → List (Entry A) → Type 0
-  SameFrom es t k rest = (Lawful es → Lawful_from t k rest) × (Lawful_from t k rest → Lawful es)
+  SameFrom es t k rest = (LawfulJournal es → LawfulFrom t k rest) × (LawfulFrom t k rest → LawfulJournal es)
 
   same_next : (es : List (Entry A)) (t : Option ℕ) (k i : ℕ) (e : Entry A) (w : What A) → i < length es → e ≡ get_or es i e → e.what ≡ w
       → SameFrom es t k (drop i es) → May t k e.seat w → SameFrom es (taker_at t e.seat w) (queued_at k w) (drop (i + 1) es)

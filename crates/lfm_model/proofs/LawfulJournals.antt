@@ -7,7 +7,7 @@ use Rattle.lfm_model.specs.declared.answers.How.TheVariants.{Free, Queued}
 use Rattle.lfm_model.specs.declared.journals.What.{What}
 use Rattle.lfm_model.specs.declared.journals.What.TheVariants.{Took, Did}
 use Rattle.lfm_model.specs.declared.journals.Entry.{Entry}
-use Rattle.lfm_model.specs.Journals.{one_to, stamp_of, stamps, taker_at, queued_at, May, taker_from, queued_from, Lawful_from, Lawful, entry}
+use Rattle.lfm_model.specs.Journals.{one_to, stamp_of, stamps, taker_at, queued_at, May, taker_from, queued_from, LawfulFrom, LawfulJournal, entry}
 use Rattle.lfm_model.specs.JournalLaws.{takes, TookLast, OpsByTakers}
 use Rattle.lfm_model.proofs.JournalLists.{taker-append}
 
@@ -50,7 +50,7 @@ module _ {A : Type 0} where
   queued_stamps k [] = omega arith
   queued_stamps k (e ∷ es) = queued_stamps (queued_at k e.what) es ∙ queued_step k e.what (stamps es)
 
-  lawful_rest : (t : Option ℕ) (k : ℕ) (xs ys : List (Entry A)) → Lawful_from t k (xs ++ ys) → Lawful_from (taker_from t xs) (queued_from k xs) ys
+  lawful_rest : (t : Option ℕ) (k : ℕ) (xs ys : List (Entry A)) → LawfulFrom t k (xs ++ ys) → LawfulFrom (taker_from t xs) (queued_from k xs) ys
   lawful_rest t k [] ys h = h
   lawful_rest t k (e ∷ xs) ys h = lawful_rest (taker_at t e.seat e.what) (queued_at k e.what) xs ys h.1
 
@@ -71,9 +71,9 @@ module _ {A : Type 0} where
   taken t s [] h = inr (h, refl)
   taken t s (e ∷ es) h = taken_step t e.seat s e.what es (taken (taker_at t e.seat e.what) s es h)
 
-  pub ops_by_takers : (es : List (Entry A)) → Lawful es → OpsByTakers es
+  pub ops_by_takers : (es : List (Entry A)) → LawfulJournal es → OpsByTakers es
   ops_by_takers es h before later s op e =
-      let rest = lawful_rest None 0 before (entry s (Did op) ∷ later) (subst (λ (l : List (Entry A)). Lawful l) e h) in
+      let rest = lawful_rest None 0 before (entry s (Did op) ∷ later) (subst (λ (l : List (Entry A)). LawfulJournal l) e h) in
       ⊎_elim (λ (l : TookLast s before). l) (λ (l : (None ≡ Some s) × (takes before ≡ [])). absurd (let n = l.0 in cc)) (taken None s before rest.0)
 
   since_step : (t : Option ℕ) (k : ℕ) (w : What A) (es : List (Entry A)) → takes (entry k w ∷ es) ≡ [] → (taker_at t k w ≡ t) × (takes es ≡ [])
@@ -103,7 +103,7 @@ module _ {A : Type 0} where
   rest_step k s t (Did op) rest n e m = e
 
   lawful_after : (before es : List (Entry A)) (k n : ℕ) → OpsByTakers (before ++ es) → one_to k ++ stamps es ≡ one_to n
-      → Lawful_from (taker_from None before) k es
+      → LawfulFrom (taker_from None before) k es
   lawful_after before [] k n by e = tt
   lawful_after before (x ∷ es) k n by e =
       let t = taker_from None before in
@@ -112,7 +112,7 @@ module _ {A : Type 0} where
       let next = append_assoc before (x ∷ []) es in
       let rest = lawful_after (before ++ x ∷ []) es (queued_at k x.what) n (subst (λ (l : List (Entry A)). OpsByTakers l) (sym next) by)
       (rest_step k x.seat t x.what (stamps es) n e may) in
-      (may, subst (λ (u : Option ℕ). Lawful_from u (queued_at k x.what) es) (taker-append None before (x ∷ [])) rest)
+      (may, subst (λ (u : Option ℕ). LawfulFrom u (queued_at k x.what) es) (taker-append None before (x ∷ [])) rest)
 
-  pub by_takers_lawful : (es : List (Entry A)) → stamps es ≡ one_to (length (stamps es)) → OpsByTakers es → Lawful es
+  pub by_takers_lawful : (es : List (Entry A)) → stamps es ≡ one_to (length (stamps es)) → OpsByTakers es → LawfulJournal es
   by_takers_lawful es e by = lawful_after [] es 0 (length (stamps es)) by e

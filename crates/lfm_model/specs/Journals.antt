@@ -30,9 +30,9 @@ module _ {O A R : Type 0} (after : O → A → O) (reply : O → A → R) where
   replies_of o (e ∷ es) = reply_of o e.what ++ replies_of (after_what after o e.what) es
 
 -- after k queued takes, one may come so
-abbrev pub May_take : ℕ → How → Type 0
-May_take k Free = Unit {0}
-May_take k (Queued x) = x ≡ k + 1
+abbrev pub MayTake : ℕ → How → Type 0
+MayTake k Free = Unit {0}
+MayTake k (Queued x) = x ≡ k + 1
 
 -- the numbers 1 to n
 abbrev pub one_to : ℕ → List ℕ
@@ -77,13 +77,13 @@ module _ {A : Type 0} where
   queued_from k (e ∷ es) = queued_from (queued_at k e.what) es
 
   -- after a take by seat t and k queued takes, these entries may come in this order
-  abbrev pub Lawful_from : Option ℕ → ℕ → List (Entry A) → Type 0
-  Lawful_from t k [] = Unit {0}
-  Lawful_from t k (e ∷ es) = May t k e.seat e.what × Lawful_from (taker_at t e.seat e.what) (queued_at k e.what) es
+  abbrev pub LawfulFrom : Option ℕ → ℕ → List (Entry A) → Type 0
+  LawfulFrom t k [] = Unit {0}
+  LawfulFrom t k (e ∷ es) = May t k e.seat e.what × LawfulFrom (taker_at t e.seat e.what) (queued_at k e.what) es
 
   -- each op is by the seat of the last take before it, and the stamps of the queued takes are 1, 2, 3 and on
-  abbrev pub Lawful : List (Entry A) → Type 0
-  Lawful es = Lawful_from None 0 es
+  abbrev pub LawfulJournal : List (Entry A) → Type 0
+  LawfulJournal es = LawfulFrom None 0 es
 
   -- the entries of one seat, in order
   abbrev pub own : ℕ → List (Entry A) → List (Entry A)
@@ -106,9 +106,9 @@ module _ {A : Type 0} where
   May-prop t k s (Took (Queued x)) = Coded-set coded_ℕ x (k + 1)
   May-prop t k s (Did op) = Coded-set (coded_option coded_ℕ) t (Some s)
 
-  pub Lawful-prop : (t : Option ℕ) (k : ℕ) (es : List (Entry A)) → IsProp (Lawful_from t k es)
-  Lawful-prop t k [] = Unit-prop
-  Lawful-prop t k (e ∷ es) = ×_prop (May-prop t k e.seat e.what) (Lawful-prop (taker_at t e.seat e.what) (queued_at k e.what) es)
+  pub LawfulJournal-prop : (t : Option ℕ) (k : ℕ) (es : List (Entry A)) → IsProp (LawfulFrom t k es)
+  LawfulJournal-prop t k [] = Unit-prop
+  LawfulJournal-prop t k (e ∷ es) = ×_prop (May-prop t k e.seat e.what) (LawfulJournal-prop (taker_at t e.seat e.what) (queued_at k e.what) es)
 
 -- the sum of f over the numbers 1 to n
 abbrev pub sum_to : (ℕ → ℕ) → ℕ → ℕ

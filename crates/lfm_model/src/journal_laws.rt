@@ -1,7 +1,7 @@
 //! Laws of journals: what it means that a journal is lawful, and which object a journal leads to. Each law is the contract
 //! of an empty function.
 ghost use Rattle.lfm_model.specs.JournalLaws.{OpsByTakers, ops};
-ghost use Rattle.lfm_model.specs.Journals.{Lawful, after_all, one_to, queued_from, replies_of, stamps};
+ghost use Rattle.lfm_model.specs.Journals.{LawfulJournal, after_all, one_to, queued_from, replies_of, stamps};
 ghost use Rattle.lfm_model.specs.declared.journals.Entry.{Entry};
 ghost use Rattle.std.specs.List.{fold, slice_get};
 ghost use Rattle.std.specs.Prelude.{◌≡◌, ℕ, List, Some, length, take};
@@ -11,18 +11,18 @@ use crate::objects::Object;
 /// The stamps of a lawful journal are 1, 2, 3 and on: as many as it has queued takes.
 pub fn lawful_stamps_are_consecutive<Op>()
     ensures counted { (es : List (Entry Op)) → queued_from 0 es ≡ length (stamps es) }
-    ensures stamps { (es : List (Entry Op)) → Lawful es → stamps es ≡ one_to (queued_from 0 es) }
+    ensures stamps { (es : List (Entry Op)) → LawfulJournal es → stamps es ≡ one_to (queued_from 0 es) }
 {}
 
 /// Each op of a lawful journal is by the seat of the last take before it. So no op comes before the first take.
 pub fn lawful_ops_are_by_takers<Op>()
-    ensures { (es : List (Entry Op)) → Lawful es → OpsByTakers es }
+    ensures { (es : List (Entry Op)) → LawfulJournal es → OpsByTakers es }
 {}
 
 /// These two facts are all that it takes: a journal is lawful where its stamps are 1, 2, 3 and on, and each op is by the
 /// seat of the last take before it.
 pub fn journals_by_takers_are_lawful<Op>()
-    ensures { (es : List (Entry Op)) → stamps es ≡ one_to (length (stamps es)) → OpsByTakers es → Lawful es }
+    ensures { (es : List (Entry Op)) → stamps es ≡ one_to (length (stamps es)) → OpsByTakers es → LawfulJournal es }
 {}
 
 /// A replay makes the ops of the journal in order and nothing else. Each reply is that of the object as the ops before it

@@ -1,5 +1,5 @@
 //! The journal of a monitor: what it writes down entry by entry, and what can be read of it.
-ghost use Rattle.lfm_model.specs.Journals.{Lawful, after_all, replies_of};
+ghost use Rattle.lfm_model.specs.Journals.{LawfulJournal, after_all, replies_of};
 ghost use Rattle.std.specs.Prelude.{◌≡◌, ◌↔◌, IfOk, IsTrue};
 
 use crate::answers::How;
@@ -51,7 +51,7 @@ pub fn replay<O: Object>(
 /// Whether each op of the journal is by the seat of the last take before it, and the stamps of its queued takes are 1, 2, 3
 /// and on.
 pub fn lawful<Op>(entries: &[Entry<Op>]) -> bool
-    ensures { IsTrue result ↔ Lawful entries.now }
+    ensures { IsTrue result ↔ LawfulJournal entries.now }
 {
     let mut taker = None;
     let mut stamp = 0u64;

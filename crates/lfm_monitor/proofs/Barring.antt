@@ -5,10 +5,10 @@ use Rattle.lfm_protocol.specs.declared.limits.Limits.{Limits}
 use Rattle.lfm_mutex.specs.calls.Sight.{Sight}
 use Rattle.lfm_condvar.specs.declared.cond_seat.CondSeat.{CondSeat}
 use Rattle.lfm_monitor.specs.declared.journaled.Journaled.{Journaled}
-use Rattle.lfm_monitor.specs.Conditions.{Wait_ends, Wait_refused}
+use Rattle.lfm_monitor.specs.Conditions.{WaitEnds, WaitRefused}
 
 module _ {O A R : Type 0} {K : _} where
-  pub barred : (user own : Limits) (share count condition : ℕ) (cs : List CondSeat) (s : Sight (Journaled O A R K)) (mine : ℕ) (r : Refusal) → Wait_refused share s mine r → Wait_ends user own share count condition cs cs s s mine (Err r)
+  pub barred : (user own : Limits) (share count condition : ℕ) (cs : List CondSeat) (s : Sight (Journaled O A R K)) (mine : ℕ) (r : Refusal) → WaitRefused share s mine r → WaitEnds user own share count condition cs cs s s mine (Err r)
   barred user own share count condition cs s mine Refusal.Asleep h = (h, refl, refl)
   barred user own share count condition cs s mine Refusal.NotOwner h = (h, refl, refl)
   barred user own share count condition cs s mine Refusal.Nested h = (h, refl, refl)

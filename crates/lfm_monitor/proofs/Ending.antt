@@ -7,13 +7,13 @@ use Rattle.lfm_model.proofs.Sums.{own_total}
 use Rattle.lfm_model.proofs.Numbers.{all_once}
 use Rattle.lfm_mutex.specs.calls.Sight.{Sight, sight}
 use Rattle.lfm_mutex.specs.declared.mutex.Mutex.{Mutex}
-use Rattle.lfm_mutex.specs.Belongs.{Of_mutex, limits_of}
-use Rattle.lfm_mutex.specs.Close.{All_stand}
+use Rattle.lfm_mutex.specs.Belongs.{OfMutex, limits_of}
+use Rattle.lfm_mutex.specs.Close.{AllStand}
 use Rattle.lfm_mutex.specs.Reach.{Reached}
 use Rattle.lfm_monitor.specs.declared.journaled.Journaled.{Journaled}
-use Rattle.lfm_monitor.specs.Journaled.{Follows}
+use Rattle.lfm_monitor.specs.Journaled.{JournalFollows}
 use Rattle.lfm_monitor.specs.declared.pass.Pass.{Pass}
-use Rattle.lfm_monitor.specs.Passes.{Pass_kept, Began, Goes_on_to, journal_of, journal_at}
+use Rattle.lfm_monitor.specs.Passes.{PassKept, Began, GoesOnTo, journal_of, journal_at}
 use Rattle.lfm_monitor.proofs.Growth.{found, own_kept}
 use Rattle.lfm_monitor.proofs.Knowing.{some_of, known_left}
 
@@ -21,11 +21,11 @@ total_ext : {P : Type 0} (f g : P → ℕ) (ps : List P) → ((j : ℕ) (p : P) 
 total_ext f g [] h = refl
 total_ext f g (p ∷ ps) h = let a = h 0 p refl in let b = total_ext f g ps (λ j q e. h (suc j) q e) in omega arith
 
-module _ {O A R : Type 0} {K : _} {P : Type 0} (seat : P → Sight (Journaled O A R K)) (seen mine : P → ℕ) (kept : (p : P) → Pass_kept (seat p) (seen p) (mine p)) where
+module _ {O A R : Type 0} {K : _} {P : Type 0} (seat : P → Sight (Journaled O A R K)) (seen mine : P → ℕ) (kept : (p : P) → PassKept (seat p) (seen p) (mine p)) where
   -- what a pass left leads to what is there at the end
   pub record Back (opening : O) (seats share : ℕ) (v : Journaled O A R K) (p : P) : Type 0 where
     pub idle : (seat p).depth ≡ 0
-    pub leads : (l : Journaled O A R K) → (seat p).last ≡ Some l → Reached Follows (seat p).number l v
+    pub leads : (l : Journaled O A R K) → (seat p).last ≡ Some l → Reached JournalFollows (seat p).number l v
     pub belongs : Began opening seats share (seat p)
 
   pub ends_as : (opening : O) (seats share : ℕ) (v : Journaled O A R K) (p : P) → Back opening seats share v p → (v.opening.value ≡ opening) × (v.seats ≡ seats) × (v.share ≡ share)
@@ -35,7 +35,7 @@ module _ {O A R : Type 0} {K : _} {P : Type 0} (seat : P → Sight (Journaled O 
   own_ends opening seats share v p b = let l = some_of (seat p).last (kept p).there in let f = (found (seat p).number l.0 v (b.leads l.0 l.1)).1 in
       own_kept (seat p).number l.0.journal.items v.journal.items f ∙ ap (own (seat p).number) (sym (ap journal_at (known_left (seat p) l.0 ((kept p).free b.idle) l.1)))
 
-  pub order_ends : (opening : O) (seats share : ℕ) (v : Journaled O A R K) (p : P) → Back opening seats share v p → Goes_on_to (seat p) v.journal.items
+  pub order_ends : (opening : O) (seats share : ℕ) (v : Journaled O A R K) (p : P) → Back opening seats share v p → GoesOnTo (seat p) v.journal.items
   order_ends opening seats share v p b = let l = some_of (seat p).last (kept p).there in let f = (found (seat p).number l.0 v (b.leads l.0 l.1)).1 in
       (f.between, f.none_own, f.grown ∙ ap (λ js. js ++ f.between) (sym (ap journal_at (known_left (seat p) l.0 ((kept p).free b.idle) l.1))))
 
@@ -57,9 +57,9 @@ module _ {O A R : Type 0} {K : _} where
   abbrev pub Returned : O → ℕ → ℕ → Journaled O A R K → Pass O A R K → Type 0
   Returned opening n share v p = Back (λ (p : Pass O A R K). sight p.seat) (λ p. p.seen) (λ p. p.mine) (λ p. p.kept) opening n share v p
 
-  pub backs : (ps : List (Pass O A R K)) (n : ℕ) (opening : O) (share : ℕ) (v : Journaled O A R K) → All_stand (λ (p : Pass O A R K). sight p.seat) ps n
+  pub backs : (ps : List (Pass O A R K)) (n : ℕ) (opening : O) (share : ℕ) (v : Journaled O A R K) → AllStand (λ (p : Pass O A R K). sight p.seat) ps n
       → ((j : ℕ) (p : Pass O A R K) → get_elem? ps j ≡ some p → Began opening n share (sight p.seat))
-      → ((j : ℕ) (p : Pass O A R K) (l : Journaled O A R K) → get_elem? ps j ≡ some p → (sight p.seat).last ≡ Some l → Reached Follows (sight p.seat).number l v)
+      → ((j : ℕ) (p : Pass O A R K) (l : Journaled O A R K) → get_elem? ps j ≡ some p → (sight p.seat).last ≡ Some l → Reached JournalFollows (sight p.seat).number l v)
       → (j : ℕ) (p : Pass O A R K) → get_elem? ps j ≡ some p → Returned opening n share v p
   backs ps n opening share v stand of reached j p at = let l = some_of (sight p.seat).last p.kept.there in let s = p.kept.seated l.0 l.1 in let o = (of j p at l.0 l.1).1 in record {
     idle = ((stand (sight p.seat).number s.0 (omega arith)).1 j p at refl).0;
@@ -68,6 +68,6 @@ module _ {O A R : Type 0} {K : _} where
   }
 
   -- a pass of a monitor is one of the monitor with the same mutex
-  pub kept_of : (m n : Mutex (Journaled O A R K)) (opening : O) (share : ℕ) (p : Pass O A R K) → m ≡ n → Of_mutex p.seat m × Began opening (limits_of m).seats share (sight p.seat)
-      → Of_mutex p.seat n × Began opening (limits_of n).seats share (sight p.seat)
-  kept_of m n opening share p e h = subst (λ (x : Mutex (Journaled O A R K)). Of_mutex p.seat x × Began opening (limits_of x).seats share (sight p.seat)) e h
+  pub kept_of : (m n : Mutex (Journaled O A R K)) (opening : O) (share : ℕ) (p : Pass O A R K) → m ≡ n → OfMutex p.seat m × Began opening (limits_of m).seats share (sight p.seat)
+      → OfMutex p.seat n × Began opening (limits_of n).seats share (sight p.seat)
+  kept_of m n opening share p e h = subst (λ (x : Mutex (Journaled O A R K)). OfMutex p.seat x × Began opening (limits_of x).seats share (sight p.seat)) e h

@@ -11,7 +11,7 @@ use Rattle.lfm_model.proofs.JournalLists.{own-append}
 use Rattle.lfm_mutex.specs.Reach.{Leads, Reached}
 use Rattle.lfm_monitor.specs.declared.journaled.Journaled.{Journaled}
 use Rattle.lfm_model.specs.JournalLaws.{is_take}
-use Rattle.lfm_monitor.specs.Journaled.{are_ops, is_hold, Goes_on, Same_monitor, Follows}
+use Rattle.lfm_monitor.specs.Journaled.{are_ops, is_hold, JournalGoesOn, SameOpening, JournalFollows}
 
 and_first : (a b : Bool) → (a && b) ≡ true → a ≡ true
 and_first true b e = refl
@@ -48,14 +48,14 @@ module _ {A : Type 0} where
   hold_more s (e ∷ es) op h = let a = and_first (e.seat == s) (is_take e.what && are_ops s es) h in let b = and_second (e.seat == s) (is_take e.what && are_ops s es) h in
       and_both (e.seat == s) _ a (and_both (is_take e.what) _ (and_first (is_take e.what) (are_ops s es) b) (ops_more s es op (and_second (is_take e.what) (are_ops s es) b)))
 
-  goes : (s : ℕ) (js ks new : List (Entry A)) → ks ≡ js ++ new → is_hold s new ≡ true → Goes_on s js ks
+  goes : (s : ℕ) (js ks new : List (Entry A)) → ks ≡ js ++ new → is_hold s new ≡ true → JournalGoesOn s js ks
   goes s js ks new e h = let d : drop (length js) ks ≡ new = ap (drop (length js)) e ∙ drop-append_seam js new in
       (ap (λ x. js ++ x) d ∙ sym e, ap (is_hold s) d ∙ h)
 
-  pub goes_first : (s : ℕ) (js ks : List (Entry A)) (how : How) → ks ≡ js ++ entry s (Took how) ∷ [] → Goes_on s js ks
+  pub goes_first : (s : ℕ) (js ks : List (Entry A)) (how : How) → ks ≡ js ++ entry s (Took how) ∷ [] → JournalGoesOn s js ks
   goes_first s js ks how e = goes s js ks (entry s (Took how) ∷ []) e (and_both (s == s) true (eq-eqb s s refl) refl)
 
-  pub goes_more : (s : ℕ) (js ks ls : List (Entry A)) (op : A) → Goes_on s js ks → ls ≡ ks ++ entry s (Did op) ∷ [] → Goes_on s js ls
+  pub goes_more : (s : ℕ) (js ks ls : List (Entry A)) (op : A) → JournalGoesOn s js ks → ls ≡ ks ++ entry s (Did op) ∷ [] → JournalGoesOn s js ls
   goes_more s js ks ls op g e = let new = drop (length js) ks in
       goes s js ls (new ++ entry s (Did op) ∷ []) (e ∙ (ap (λ x. x ++ entry s (Did op) ∷ []) (sym g.0) ∙ append_assoc js new (entry s (Did op) ∷ []))) (hold_more s new op g.1)
 
@@ -80,14 +80,14 @@ module _ {A : Type 0} where
   own_kept s js ks o = ap (own s) o.grown ∙ (own-append s js o.between ∙ (ap (λ x. own s js ++ x) o.none_own ∙ append-nil (own s js)))
 
 module _ {O A R : Type 0} {K : _} where
-  pub same_monitor : (u v w : Journaled O A R K) → Same_monitor u v → Same_monitor v w → Same_monitor u w
+  pub same_monitor : (u v w : Journaled O A R K) → SameOpening u v → SameOpening v w → SameOpening u w
   same_monitor u v w a b = (b.0 ∙ a.0, b.1 ∙ a.1, b.2 ∙ a.2)
 
-  led : (s : ℕ) (path : List (ℕ × Journaled O A R K)) (v w : Journaled O A R K) → Leads Follows s path v w → Same_monitor v w × Others s v.journal.items w.journal.items
+  led : (s : ℕ) (path : List (ℕ × Journaled O A R K)) (v w : Journaled O A R K) → Leads JournalFollows s path v w → SameOpening v w × Others s v.journal.items w.journal.items
   led s [] v w e = ((ap (λ b. b.opening.value) (sym e), ap (λ b. b.seats) (sym e), ap (λ b. b.share) (sym e)), subst (λ (b : Journaled O A R K). Others s v.journal.items b.journal.items) e (others_none s v.journal.items))
   led s (p ∷ ps) v w h = let on = led s ps p.1 w h.2 in let f = h.1 in let js = v.journal.items in let new = drop (length js) p.1.journal.items in
       (same_monitor v p.1 w f.0 on.0, others_on s js p.1.journal.items w.journal.items new (sym f.1.0) (hold_of_others p.0 s new f.1.1 h.0) on.1)
 
   -- what a seat finds is what it left last, and then entries of others alone
-  pub found : (s : ℕ) (v w : Journaled O A R K) → Reached Follows s v w → Same_monitor v w × Others s v.journal.items w.journal.items
+  pub found : (s : ℕ) (v w : Journaled O A R K) → Reached JournalFollows s v w → SameOpening v w × Others s v.journal.items w.journal.items
   found s v w r = led s r.0 v w r.1

@@ -7,36 +7,36 @@ use Rattle.lfm_model.specs.declared.refusals.Refusal.{Refusal}
 use Rattle.lfm_model.specs.Journals.{entry, own}
 use Rattle.lfm_protocol.specs.declared.limits.Limits.{Limits}
 use Rattle.lfm_mutex.specs.declared.seat.Seat.{Seat}
-use Rattle.lfm_mutex.specs.calls.Sight.{Sight, sight, Waits as Mutex_waits}
+use Rattle.lfm_mutex.specs.calls.Sight.{Sight, sight, StartsWait as MutexWaits}
 use Rattle.lfm_condvar.specs.declared.cond_seat.CondSeat.{CondSeat}
 use Rattle.lfm_condvar.specs.declared.waiters.Waiters.{Waiters}
-use Rattle.lfm_condvar.specs.Waits.{Wait_ends as Cond_wait_ends}
+use Rattle.lfm_condvar.specs.Waits.{WaitEnds as CondWaitEnds}
 use Rattle.lfm_monitor.specs.declared.journaled.Journaled.{Journaled}
-use Rattle.lfm_monitor.specs.Journaled.{Fits, Follows}
-use Rattle.lfm_monitor.specs.Passes.{Pass_kept, Began, Enters, journal_of}
-use Rattle.lfm_monitor.specs.Conditions.{May_wait, On_condition, Wait_ends, Wait_returns}
+use Rattle.lfm_monitor.specs.Journaled.{JournalFits, JournalFollows}
+use Rattle.lfm_monitor.specs.Passes.{PassKept, Began, Enters, journal_of}
+use Rattle.lfm_monitor.specs.Conditions.{MayWait, OnCondition, WaitEnds, WaitReturns}
 use Rattle.lfm_monitor.specs.Writes.{Writes}
 use Rattle.lfm_monitor.proofs.Knowing.{Comes, arrived, left_it, left_journal, left_length, left_of, woken}
 
 module _ {O A R : Type 0} {K : _} where
   -- a pass that has fallen asleep on a condition, and has come to hold: it is seen as m while it sleeps, and as t once it holds
-  pub record Sleeps_and_comes (how : How) (s m t : Sight (Journaled O A R K)) (n mine : ℕ) (opening : O) (seats share : ℕ) : Type 0 where
-    pub kept : Pass_kept m n mine
+  pub record SleepsAndComes (how : How) (s m t : Sight (Journaled O A R K)) (n mine : ℕ) (opening : O) (seats share : ℕ) : Type 0 where
+    pub kept : PassKept m n mine
     pub of : Began opening seats share m
     pub number : m.number ≡ s.number
     pub takes : t.takes ≡ s.takes + 1
     pub journal : journal_of m ≡ journal_of s
     pub comes : Comes how m t
 
-  slept : (u : Unlocked) (budget : ℕ) (s m : Sight (Journaled O A R K)) (seen mine n : ℕ) (opening : O) (seats share : ℕ) → Pass_kept s seen mine → Began opening seats share s → mine < share → Mutex_waits budget s m (Ok u)
-      → ((v : Journaled O A R K) → s.value ≡ Some v → n ≡ length v.journal.items) → Pass_kept m n mine
+  slept : (u : Unlocked) (budget : ℕ) (s m : Sight (Journaled O A R K)) (seen mine n : ℕ) (opening : O) (seats share : ℕ) → PassKept s seen mine → Began opening seats share s → mine < share → MutexWaits budget s m (Ok u)
+      → ((v : Journaled O A R K) → s.value ≡ Some v → n ≡ length v.journal.items) → PassKept m n mine
   slept u budget s m seen mine n opening seats share kept of room w long = left_it s m seen mine n kept w.1
       (λ z. record { out = w.1.3; quiet = w.5; room = λ l at. let e = (left_of opening seats share s m seen mine kept of w.1 l at).2 in omega arith }) long
 
   -- what the condvar's wait tells of it
-  pub waited : (user own : Limits) (c d : Sight Waiters) (s t : Sight (Journaled O A R K)) (r : How × ℕ) (seen mine n : ℕ) (opening : O) (seats share : ℕ) → Pass_kept s seen mine → Began opening seats share s → mine < share
-      → ((v : Journaled O A R K) → s.value ≡ Some v → n ≡ length v.journal.items) → Cond_wait_ends Follows Fits user own c d s t (Ok r)
-      → (m : Sight (Journaled O A R K)) × Sleeps_and_comes r.0 s m t n mine opening seats share
+  pub waited : (user own : Limits) (c d : Sight Waiters) (s t : Sight (Journaled O A R K)) (r : How × ℕ) (seen mine n : ℕ) (opening : O) (seats share : ℕ) → PassKept s seen mine → Began opening seats share s → mine < share
+      → ((v : Journaled O A R K) → s.value ≡ Some v → n ≡ length v.journal.items) → CondWaitEnds JournalFollows JournalFits user own c d s t (Ok r)
+      → (m : Sight (Journaled O A R K)) × SleepsAndComes r.0 s m t n mine opening seats share
   waited user own c d s t r seen mine n opening seats share kept of room long h = let m = h.2 in let w = h.4.2.1 in let back = h.5.0 in let in_sleep = slept h.4.2.0 user.budget s m seen mine n opening seats share kept of room w long in (
     m,
     record {
@@ -58,12 +58,12 @@ module _ {O A R : Type 0} {K : _} where
 
   -- the pass once its take was written
   pub record Returned (r : How × ℕ) (s u : Sight (Journaled O A R K)) (seen n mine : ℕ) (opening : O) (seats share : ℕ) : Type 0 where
-    pub kept : Pass_kept u n (mine + 1)
+    pub kept : PassKept u n (mine + 1)
     pub of : Began opening seats share u
-    pub waits : Wait_returns s u seen n mine (mine + 1) (Ok r)
+    pub waits : WaitReturns s u seen n mine (mine + 1) (Ok r)
 
-  pub returned : (r : How × ℕ) (s m : Sight (Journaled O A R K)) (t u : Seat (Journaled O A R K)) (seen mine n : ℕ) (opening : O) (seats share : ℕ) → Pass_kept s seen mine → s.asleep ≡ false → s.depth ≡ 1
-      → ((v : Journaled O A R K) → s.value ≡ Some v → n ≡ length v.journal.items) → Sleeps_and_comes r.0 s m (sight t) n mine opening seats share → Writes (Took r.0) t u → Returned r s (sight u) seen n mine opening seats share
+  pub returned : (r : How × ℕ) (s m : Sight (Journaled O A R K)) (t u : Seat (Journaled O A R K)) (seen mine n : ℕ) (opening : O) (seats share : ℕ) → PassKept s seen mine → s.asleep ≡ false → s.depth ≡ 1
+      → ((v : Journaled O A R K) → s.value ≡ Some v → n ≡ length v.journal.items) → SleepsAndComes r.0 s m (sight t) n mine opening seats share → Writes (Took r.0) t u → Returned r s (sight u) seen n mine opening seats share
   returned r s m t u seen mine n opening seats share kept awake deep long h w = let came = arrived r.0 m t u n mine opening seats share h.kept h.of h.comes w in let e = came.comes in record {
     kept = came.kept;
     of = came.still;
@@ -81,7 +81,7 @@ module _ {O A R : Type 0} {K : _} where
   }
 
   -- a refusal of the condvar's wait leaves the user seat as it was
-  pub wait_refused : (user own : Limits) (c d : Sight Waiters) (s t : Sight (Journaled O A R K)) (r : Refusal) → Cond_wait_ends Follows Fits user own c d s t (Err r) → t ≡ s
+  pub wait_refused : (user own : Limits) (c d : Sight Waiters) (s t : Sight (Journaled O A R K)) (r : Refusal) → CondWaitEnds JournalFollows JournalFits user own c d s t (Err r) → t ≡ s
   wait_refused user own c d s t Refusal.Asleep h = h.2
   wait_refused user own c d s t Refusal.NotOwner h = h.2
   wait_refused user own c d s t Refusal.Nested h = h.2
@@ -92,8 +92,8 @@ module _ {O A R : Type 0} {K : _} where
   wait_refused user own c d s t Refusal.Busy h = h.3.4
 
   -- how wait ends where the pass may wait, and the condvar refused it
-  pub refused : (user own : Limits) (share count condition : ℕ) (cs ds : List CondSeat) (s t : Sight (Journaled O A R K)) (mine : ℕ) (r : Refusal) → user.budget ≡ share → May_wait share s mine → s.number ≤ own.seats
-      → On_condition condition cs ds (λ c d. Cond_wait_ends Follows Fits user own c d s t (Err r)) → Wait_ends user own share count condition cs ds s t mine (Err r)
+  pub refused : (user own : Limits) (share count condition : ℕ) (cs ds : List CondSeat) (s t : Sight (Journaled O A R K)) (mine : ℕ) (r : Refusal) → user.budget ≡ share → MayWait share s mine → s.number ≤ own.seats
+      → OnCondition condition cs ds (λ c d. CondWaitEnds JournalFollows JournalFits user own c d s t (Err r)) → WaitEnds user own share count condition cs ds s t mine (Err r)
   refused user own share count condition cs ds s t mine Refusal.Asleep spent may named h = absurd (let a = may.0 in let b = h.6.0 in cc)
   refused user own share count condition cs ds s t mine Refusal.NotOwner spent may named h = absurd (let a = may.1 in let b = h.6.0.1 in omega arith)
   refused user own share count condition cs ds s t mine Refusal.Nested spent may named h = absurd (let a = may.1 in let b = h.6.0.1 in omega arith)

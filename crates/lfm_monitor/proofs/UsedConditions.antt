@@ -5,32 +5,32 @@ use mathlib.Core.Option.{some, some-injective}
 use lib.ListN.{get_elem?}
 use Rattle.lfm_condvar.specs.declared.condvar.Condvar.{Condvar}
 use Rattle.lfm_condvar.specs.declared.cond_seat.CondSeat.{CondSeat}
-use Rattle.lfm_condvar.specs.Belongs.{Of_condvar, cond_limits}
+use Rattle.lfm_condvar.specs.Belongs.{OfCondvar, cond_limits}
 use Rattle.lfm_monitor.specs.declared.monitor.Monitor.{Monitor}
 use Rattle.lfm_monitor.specs.declared.pass.Pass.{Pass}
-use Rattle.lfm_monitor.specs.Belongs.{Of_monitor, cond_seats_of, conditions_in, passes_of}
-use Rattle.lfm_monitor.specs.CondSeats.{Of_conditions, condition_limits}
+use Rattle.lfm_monitor.specs.Belongs.{OfMonitor, cond_seats_of, conditions_in, passes_of}
+use Rattle.lfm_monitor.specs.CondSeats.{OfConditions, condition_limits}
 use Rattle.lfm_monitor.proofs.Places.{stands, stands_or_was}
 
 -- a cond seat of this condition stands in the place of the other
-pub still_of_conditions : (cs : List CondSeat) (vs : List Condvar) (n : ℕ) (d : CondSeat) (v : Condvar) → Of_conditions cs vs → get_elem? vs n ≡ some v → Of_condvar d v → Of_conditions (slice_set cs n d) vs
+pub still_of_conditions : (cs : List CondSeat) (vs : List Condvar) (n : ℕ) (d : CondSeat) (v : Condvar) → OfConditions cs vs → get_elem? vs n ≡ some v → OfCondvar d v → OfConditions (slice_set cs n d) vs
 still_of_conditions cs vs n d v of at belongs = record {
   long = length-set cs n d ∙ of.long;
   each = λ i c u ac au. ⊎_elim
-      (λ q. let w : v ≡ u = some-injective v u (sym at ∙ (ap (get_elem? vs) (sym q.0) ∙ au)) in subst (λ (x : CondSeat). Of_condvar x u) (sym q.1) (subst (λ (y : Condvar). Of_condvar d y) w belongs))
+      (λ q. let w : v ≡ u = some-injective v u (sym at ∙ (ap (get_elem? vs) (sym q.0) ∙ au)) in subst (λ (x : CondSeat). OfCondvar x u) (sym q.1) (subst (λ (y : Condvar). OfCondvar d y) w belongs))
       (λ q. of.each i c u q.1 au)
       (stands_or_was cs n d i c ac);
 }
 
 module _ {O A R : Type 0} {K : _} where
   -- the condvar of a condition, and the pass's cond seat of it
-  pub record At_place (p : Pass O A R K) (m : Monitor O A R K) (n : ℕ) (c : CondSeat) (v : Condvar) : Type 0 where
+  pub record AtPlace (p : Pass O A R K) (m : Monitor O A R K) (n : ℕ) (c : CondSeat) (v : Condvar) : Type 0 where
     pub seat : get_elem? (cond_seats_of p) n ≡ some c
     pub condition : get_elem? (conditions_in m) n ≡ some v
-    pub belongs : Of_condvar c v
+    pub belongs : OfCondvar c v
     pub limits : cond_limits v ≡ condition_limits (passes_of m)
 
-  pub at_place : (p : Pass O A R K) (m : Monitor O A R K) (n : ℕ) (c : CondSeat) (v : Condvar) → Of_monitor p m → n < length (conditions_in m) → c ≡ get_or (cond_seats_of p) n c → v ≡ get_or (conditions_in m) n v → At_place p m n c v
+  pub at_place : (p : Pass O A R K) (m : Monitor O A R K) (n : ℕ) (c : CondSeat) (v : Condvar) → OfMonitor p m → n < length (conditions_in m) → c ≡ get_or (cond_seats_of p) n c → v ≡ get_or (conditions_in m) n v → AtPlace p m n c v
   at_place p m n c v of low is_c is_v = let a = stands (cond_seats_of p) n c (let e = of.2.long in omega arith) is_c in let b = stands (conditions_in m) n v low is_v in record {
     seat = a;
     condition = b;

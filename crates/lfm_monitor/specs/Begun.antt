@@ -5,8 +5,8 @@ use Rattle.lfm_mutex.specs.calls.Sight.{new_sight}
 use Rattle.lfm_monitor.specs.declared.journaled.Journaled.{Journaled}
 use Rattle.lfm_monitor.specs.declared.monitor.Monitor.{Monitor}
 use Rattle.lfm_monitor.specs.declared.pass.Pass.{Pass}
-use Rattle.lfm_monitor.specs.Belongs.{Of_monitor, cond_seats_of, mine_of, pass_sight, seen_of}
-use Rattle.lfm_monitor.specs.CondSeats.{Are_new_seats}
+use Rattle.lfm_monitor.specs.Belongs.{OfMonitor, cond_seats_of, mine_of, pass_sight, seen_of}
+use Rattle.lfm_monitor.specs.CondSeats.{AreNewSeats}
 
 -- the most entries of a journal
 abbrev pub max_entries : ℕ
@@ -17,22 +17,22 @@ abbrev pub max_conditions : ℕ
 max_conditions = 16
 
 -- 1 to 4,095 passes, each with 1 entry or more, at most 1,048,576 entries in all, and at most 16 conditions
-abbrev pub In_limits : ℕ → ℕ → ℕ → Type 0
-In_limits seats share conditions = (0 < seats) × (seats ≤ max_seats) × (0 < share) × (seats * share ≤ max_entries) × (conditions ≤ max_conditions)
+abbrev pub InLimits : ℕ → ℕ → ℕ → Type 0
+InLimits seats share conditions = (0 < seats) × (seats ≤ max_seats) × (0 < share) × (seats * share ≤ max_entries) × (conditions ≤ max_conditions)
 
 module _ {O A R : Type 0} {K : _} where
   -- an object with an empty journal
-  pub record Is_empty (object : O) (seats share : ℕ) (v : Journaled O A R K) : Type 0 where
+  pub record IsEmpty (object : O) (seats share : ℕ) (v : Journaled O A R K) : Type 0 where
     pub nothing : v.journal.items ≡ []
     pub opening : v.opening.value ≡ object
     pub seats_are : v.seats ≡ seats
     pub share_is : v.share ≡ share
 
   -- the pass with this number has done nothing and seen nothing, and nobody has waited on the conditions
-  pub record New_pass (m : Monitor O A R K) (number : ℕ) (p : Pass O A R K) : Type 0 where
-    pub belongs : Of_monitor p m
+  pub record NewPass (m : Monitor O A R K) (number : ℕ) (p : Pass O A R K) : Type 0 where
+    pub belongs : OfMonitor p m
     pub empty : Journaled O A R K
     pub nothing : empty.journal.items ≡ []
     pub sees : pass_sight p ≡ new_sight empty number
     pub counts : (seen_of p ≡ 0) × (mine_of p ≡ 0)
-    pub cond_seats : Are_new_seats number (cond_seats_of p)
+    pub cond_seats : AreNewSeats number (cond_seats_of p)

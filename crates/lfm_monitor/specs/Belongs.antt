@@ -1,14 +1,14 @@
 -- What belongs to a monitor. Contracts name a monitor and its passes by these words alone.
 use Rattle.std.specs.Prelude.{◌≡◌, ℕ, List, length}
 use Rattle.lfm_protocol.specs.declared.limits.Limits.{Limits}
-use Rattle.lfm_mutex.specs.Belongs.{Of_mutex, limits_of}
+use Rattle.lfm_mutex.specs.Belongs.{OfMutex, limits_of}
 use Rattle.lfm_mutex.specs.calls.Sight.{Sight, sight}
 use Rattle.lfm_condvar.specs.declared.condvar.Condvar.{Condvar}
 use Rattle.lfm_condvar.specs.declared.cond_seat.CondSeat.{CondSeat}
 use Rattle.lfm_monitor.specs.declared.journaled.Journaled.{Journaled}
 use Rattle.lfm_monitor.specs.declared.monitor.Monitor.{Monitor}
 use Rattle.lfm_monitor.specs.declared.pass.Pass.{Pass}
-use Rattle.lfm_monitor.specs.CondSeats.{Of_conditions}
+use Rattle.lfm_monitor.specs.CondSeats.{OfConditions}
 use Rattle.lfm_monitor.specs.Passes.{Began}
 
 module _ {O A R : Type 0} {K : _} where
@@ -41,12 +41,12 @@ module _ {O A R : Type 0} {K : _} where
   cond_seats_of p = p.cond_seats.items
 
   -- the pass is one of the monitor's
-  abbrev pub Of_monitor : Pass O A R K → Monitor O A R K → Type 0
-  Of_monitor p m = Of_mutex p.seat m.mutex × Began (opening_of m) (passes_of m) (share_of m) (sight p.seat) × Of_conditions (cond_seats_of p) (conditions_in m)
+  abbrev pub OfMonitor : Pass O A R K → Monitor O A R K → Type 0
+  OfMonitor p m = OfMutex p.seat m.mutex × Began (opening_of m) (passes_of m) (share_of m) (sight p.seat) × OfConditions (cond_seats_of p) (conditions_in m)
 
   -- this is the same monitor
-  abbrev pub Is_same : Monitor O A R K → Monitor O A R K → Type 0
-  Is_same m n = (m.mutex ≡ n.mutex) × (m.opening ≡ n.opening) × (m.share ≡ n.share) × (m.conditions ≡ n.conditions)
+  abbrev pub SameMonitor : Monitor O A R K → Monitor O A R K → Type 0
+  SameMonitor m n = (m.mutex ≡ n.mutex) × (m.opening ≡ n.opening) × (m.share ≡ n.share) × (m.conditions ≡ n.conditions)
 
   -- the pass's seat as the mutex shows it
   abbrev pub pass_sight : Pass O A R K → Sight (Journaled O A R K)

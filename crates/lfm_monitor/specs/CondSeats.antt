@@ -8,30 +8,30 @@ use Rattle.lfm_mutex.specs.calls.Sight.{new_sight}
 use Rattle.lfm_condvar.specs.declared.condvar.Condvar.{Condvar}
 use Rattle.lfm_condvar.specs.declared.cond_seat.CondSeat.{CondSeat}
 use Rattle.lfm_condvar.specs.declared.waiters.Waiters.{Waiters}
-use Rattle.lfm_condvar.specs.Belongs.{Of_condvar, cond_limits, cond_sight}
-use Rattle.lfm_condvar.specs.Keeping.{Is_new}
+use Rattle.lfm_condvar.specs.Belongs.{OfCondvar, cond_limits, cond_sight}
+use Rattle.lfm_condvar.specs.Keeping.{IsNew}
 
 -- what a condition of a monitor with so many passes allows: a seat for each, and as many waits and wakes as can be
 abbrev pub condition_limits : ℕ → Limits
 condition_limits seats = record { seats = seats; budget = max_budget }
 
 -- these are the conditions of a monitor with so many passes
-abbrev pub Are_conditions : ℕ → List Condvar → Type 0
-Are_conditions seats conditions = (i : ℕ) (v : Condvar) → get_elem? conditions i ≡ some v → cond_limits v ≡ condition_limits seats
+abbrev pub AreConditions : ℕ → List Condvar → Type 0
+AreConditions seats conditions = (i : ℕ) (v : Condvar) → get_elem? conditions i ≡ some v → cond_limits v ≡ condition_limits seats
 
 -- there is a cond seat for each condition, at the same place
-pub record Of_conditions (seats : List CondSeat) (conditions : List Condvar) : Type 0 where
+pub record OfConditions (seats : List CondSeat) (conditions : List Condvar) : Type 0 where
   pub long : length seats ≡ length conditions
-  pub each : (i : ℕ) (c : CondSeat) (v : Condvar) → get_elem? seats i ≡ some c → get_elem? conditions i ≡ some v → Of_condvar c v
+  pub each : (i : ℕ) (c : CondSeat) (v : Condvar) → get_elem? seats i ≡ some c → get_elem? conditions i ≡ some v → OfCondvar c v
 
 -- the cond seat with this number has done nothing, and nobody has waited on its condition
-abbrev pub Is_new_seat : ℕ → CondSeat → Type 0
-Is_new_seat number c = (nobody : Waiters) × Is_new nobody × (cond_sight c ≡ new_sight nobody number)
+abbrev pub IsNewSeat : ℕ → CondSeat → Type 0
+IsNewSeat number c = (nobody : Waiters) × IsNew nobody × (cond_sight c ≡ new_sight nobody number)
 
 -- all these cond seats are so
-abbrev pub Are_new_seats : ℕ → List CondSeat → Type 0
-Are_new_seats number seats = (i : ℕ) (c : CondSeat) → get_elem? seats i ≡ some c → Is_new_seat number c
+abbrev pub AreNewSeats : ℕ → List CondSeat → Type 0
+AreNewSeats number seats = (i : ℕ) (c : CondSeat) → get_elem? seats i ≡ some c → IsNewSeat number c
 
 -- the cond seats of a new pass with this number
-abbrev pub Are_new_of : ℕ → List CondSeat → List Condvar → Type 0
-Are_new_of number seats conditions = Of_conditions seats conditions × Are_new_seats number seats
+abbrev pub AreNewOf : ℕ → List CondSeat → List Condvar → Type 0
+AreNewOf number seats conditions = OfConditions seats conditions × AreNewSeats number seats

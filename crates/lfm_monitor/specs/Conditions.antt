@@ -14,81 +14,81 @@ use Rattle.lfm_mutex.specs.calls.Sight.{Sight}
 use Rattle.lfm_condvar.specs.declared.cond_seat.CondSeat.{CondSeat}
 use Rattle.lfm_condvar.specs.declared.waiters.Waiters.{Waiters}
 use Rattle.lfm_condvar.specs.Belongs.{cond_sight}
-use Rattle.lfm_condvar.specs.Waits.{Wait_ends as Cond_wait_ends}
-use Rattle.lfm_condvar.specs.Wakes.{Wake_one_ends as Cond_wake_one_ends, Wake_all_ends as Cond_wake_all_ends}
+use Rattle.lfm_condvar.specs.Waits.{WaitEnds as CondWaitEnds}
+use Rattle.lfm_condvar.specs.Wakes.{WakeOneEnds as CondWakeOneEnds, WakeAllEnds as CondWakeAllEnds}
 use Rattle.lfm_monitor.specs.declared.journaled.Journaled.{Journaled}
-use Rattle.lfm_monitor.specs.Journaled.{Fits, Follows, Same_monitor}
+use Rattle.lfm_monitor.specs.Journaled.{JournalFits, JournalFollows, SameOpening}
 use Rattle.lfm_monitor.specs.Passes.{Enters, journal_of}
 
 -- the conditions are 1 to count, and this is none of them
-abbrev pub Is_missing : ℕ → ℕ → Type 0
-Is_missing count condition = condition ≡ 0 ⊎ (count < condition)
+abbrev pub IsMissing : ℕ → ℕ → Type 0
+IsMissing count condition = condition ≡ 0 ⊎ (count < condition)
 
 -- the cond seat of this condition, seen as c before and as d after, was used so; those of the other conditions are as before
-abbrev pub On_condition : ℕ → List CondSeat → List CondSeat → (Sight Waiters → Sight Waiters → Type 0) → Type 0
-On_condition condition cs ds used =
+abbrev pub OnCondition : ℕ → List CondSeat → List CondSeat → (Sight Waiters → Sight Waiters → Type 0) → Type 0
+OnCondition condition cs ds used =
     (n : ℕ) × (c : CondSeat) × (d : CondSeat) × (condition ≡ n + 1) × (get_elem? cs n ≡ some c) × (ds ≡ slice_set cs n d) × used (cond_sight c) (cond_sight d)
 
 -- the cond seat has no take left, and is as it was
-abbrev pub Is_spent : Limits → Sight Waiters → Sight Waiters → Type 0
-Is_spent own c d = (own.budget ≤ c.takes) × (d ≡ c)
+abbrev pub IsSpent : Limits → Sight Waiters → Sight Waiters → Type 0
+IsSpent own c d = (own.budget ≤ c.takes) × (d ≡ c)
 
 -- nothing of the seat has changed but what it did and whom it sent
-abbrev pub Only_sends : {T : Type 0} → Sight T → Sight T → Type 0
-Only_sends s t = t ≡ record s { trail = t.trail; sends = t.sends }
+abbrev pub OnlySends : {T : Type 0} → Sight T → Sight T → Type 0
+OnlySends s t = t ≡ record s { trail = t.trail; sends = t.sends }
 
 module _ {O A R : Type 0} {K : _} where
   -- this entry of the pass was written, and nothing else of its seat is other than it was
   abbrev pub Adds : What A → Sight (Journaled O A R K) → Sight (Journaled O A R K) → Type 0
   Adds what s t =
       (v : Journaled O A R K) × (w : Journaled O A R K) × (s.value ≡ Some v) × (t ≡ record s { value = Some w }) × (w.journal.items ≡ v.journal.items ++ entry s.number what ∷ [])
-      × Same_monitor v w
+      × SameOpening v w
 
   -- the pass may wait: it holds once, and has a take and an entry left
-  abbrev pub May_wait : ℕ → Sight (Journaled O A R K) → ℕ → Type 0
-  May_wait share s mine = (s.asleep ≡ false) × (s.depth ≡ 1) × (s.takes < share) × (mine < share)
+  abbrev pub MayWait : ℕ → Sight (Journaled O A R K) → ℕ → Type 0
+  MayWait share s mine = (s.asleep ≡ false) × (s.depth ≡ 1) × (s.takes < share) × (mine < share)
 
   -- why the pass may not wait, on whichever condition
-  abbrev pub Wait_refused : ℕ → Sight (Journaled O A R K) → ℕ → Refusal → Type 0
-  Wait_refused share s mine Refusal.Asleep = s.asleep ≡ true
-  Wait_refused share s mine Refusal.NotOwner = (s.asleep ≡ false) × (s.depth ≡ 0)
-  Wait_refused share s mine Refusal.Nested = (s.asleep ≡ false) × (1 < s.depth)
-  Wait_refused share s mine Refusal.Spent = (s.asleep ≡ false) × (s.depth ≡ 1) × (share ≤ s.takes ⊎ (share ≤ mine))
-  Wait_refused share s mine _ = ⊥
+  abbrev pub WaitRefused : ℕ → Sight (Journaled O A R K) → ℕ → Refusal → Type 0
+  WaitRefused share s mine Refusal.Asleep = s.asleep ≡ true
+  WaitRefused share s mine Refusal.NotOwner = (s.asleep ≡ false) × (s.depth ≡ 0)
+  WaitRefused share s mine Refusal.Nested = (s.asleep ≡ false) × (1 < s.depth)
+  WaitRefused share s mine Refusal.Spent = (s.asleep ≡ false) × (s.depth ≡ 1) × (share ≤ s.takes ⊎ (share ≤ mine))
+  WaitRefused share s mine _ = ⊥
 
   -- How wait ends, of a pass with so many entries. Between s and t it is seen as m: it waited as on a condvar, and then its take was
   -- written
-  abbrev pub Wait_ends : Limits → Limits → ℕ → ℕ → ℕ → List CondSeat → List CondSeat → Sight (Journaled O A R K) → Sight (Journaled O A R K) → ℕ → Result (How × ℕ) Refusal → Type 0
-  Wait_ends user own share count condition cs ds s t mine (Ok r) =
-      May_wait share s mine × On_condition condition cs ds (λ c d. (m : Sight (Journaled O A R K)) × Cond_wait_ends Follows Fits user own c d s m (Ok r) × Adds (Took r.0) m t)
-  Wait_ends user own share count condition cs ds s t mine (Err Refusal.NoSuchSeat) = May_wait share s mine × Is_missing count condition × (ds ≡ cs) × (t ≡ s)
-  Wait_ends user own share count condition cs ds s t mine (Err Refusal.Spent) =
-      (Wait_refused share s mine Refusal.Spent × (ds ≡ cs) ⊎ (May_wait share s mine × On_condition condition cs ds (Is_spent own))) × (t ≡ s)
-  Wait_ends user own share count condition cs ds s t mine (Err Refusal.Busy) =
-      May_wait share s mine × On_condition condition cs ds (λ c d. Cond_wait_ends Follows Fits user own c d s t (Err Refusal.Busy))
-  Wait_ends user own share count condition cs ds s t mine (Err r) = Wait_refused share s mine r × (ds ≡ cs) × (t ≡ s)
+  abbrev pub WaitEnds : Limits → Limits → ℕ → ℕ → ℕ → List CondSeat → List CondSeat → Sight (Journaled O A R K) → Sight (Journaled O A R K) → ℕ → Result (How × ℕ) Refusal → Type 0
+  WaitEnds user own share count condition cs ds s t mine (Ok r) =
+      MayWait share s mine × OnCondition condition cs ds (λ c d. (m : Sight (Journaled O A R K)) × CondWaitEnds JournalFollows JournalFits user own c d s m (Ok r) × Adds (Took r.0) m t)
+  WaitEnds user own share count condition cs ds s t mine (Err Refusal.NoSuchSeat) = MayWait share s mine × IsMissing count condition × (ds ≡ cs) × (t ≡ s)
+  WaitEnds user own share count condition cs ds s t mine (Err Refusal.Spent) =
+      (WaitRefused share s mine Refusal.Spent × (ds ≡ cs) ⊎ (MayWait share s mine × OnCondition condition cs ds (IsSpent own))) × (t ≡ s)
+  WaitEnds user own share count condition cs ds s t mine (Err Refusal.Busy) =
+      MayWait share s mine × OnCondition condition cs ds (λ c d. CondWaitEnds JournalFollows JournalFits user own c d s t (Err Refusal.Busy))
+  WaitEnds user own share count condition cs ds s t mine (Err r) = WaitRefused share s mine r × (ds ≡ cs) × (t ≡ s)
 
   -- What a wait is to its pass: it leaves, and comes in again. A refusal leaves it as it was
-  abbrev pub Wait_returns : Sight (Journaled O A R K) → Sight (Journaled O A R K) → ℕ → ℕ → ℕ → ℕ → Result (How × ℕ) Refusal → Type 0
-  Wait_returns s t seen seen' mine mine' (Ok r) =
+  abbrev pub WaitReturns : Sight (Journaled O A R K) → Sight (Journaled O A R K) → ℕ → ℕ → ℕ → ℕ → Result (How × ℕ) Refusal → Type 0
+  WaitReturns s t seen seen' mine mine' (Ok r) =
       (s.asleep ≡ false) × (s.depth ≡ 1) × (t.number ≡ s.number) × (t.depth ≡ 1) × (t.asleep ≡ false) × (t.takes ≡ s.takes + 1) × (seen' ≡ length (journal_of s)) × (mine' ≡ mine + 1)
       × Enters r.0 s t
-  Wait_returns s t seen seen' mine mine' (Err r) = (t ≡ s) × (seen' ≡ seen) × (mine' ≡ mine)
+  WaitReturns s t seen seen' mine mine' (Err r) = (t ≡ s) × (seen' ≡ seen) × (mine' ≡ mine)
 
   -- why a wake is refused before anything is changed
-  abbrev pub Wake_refused : ℕ → ℕ → Sight (Journaled O A R K) → Refusal → Type 0
-  Wake_refused count condition s Refusal.Asleep = s.asleep ≡ true
-  Wake_refused count condition s Refusal.NoSuchSeat = (s.asleep ≡ false) × Is_missing count condition
-  Wake_refused count condition s _ = ⊥
+  abbrev pub WakeRefused : ℕ → ℕ → Sight (Journaled O A R K) → Refusal → Type 0
+  WakeRefused count condition s Refusal.Asleep = s.asleep ≡ true
+  WakeRefused count condition s Refusal.NoSuchSeat = (s.asleep ≡ false) × IsMissing count condition
+  WakeRefused count condition s _ = ⊥
 
   -- how wake_one ends, of a monitor with n passes
-  abbrev pub Wake_one_ends : ℕ → Limits → ℕ → ℕ → List CondSeat → List CondSeat → Sight (Journaled O A R K) → Sight (Journaled O A R K) → Result (Option (ℕ × ℕ)) Refusal → Type 0
-  Wake_one_ends n own count condition cs ds s t (Err Refusal.Asleep) = Wake_refused count condition s Refusal.Asleep × (ds ≡ cs) × (t ≡ s)
-  Wake_one_ends n own count condition cs ds s t (Err Refusal.NoSuchSeat) = Wake_refused count condition s Refusal.NoSuchSeat × (ds ≡ cs) × (t ≡ s)
-  Wake_one_ends n own count condition cs ds s t r = On_condition condition cs ds (λ c d. Cond_wake_one_ends n own c d s t r)
+  abbrev pub WakeOneEnds : ℕ → Limits → ℕ → ℕ → List CondSeat → List CondSeat → Sight (Journaled O A R K) → Sight (Journaled O A R K) → Result (Option (ℕ × ℕ)) Refusal → Type 0
+  WakeOneEnds n own count condition cs ds s t (Err Refusal.Asleep) = WakeRefused count condition s Refusal.Asleep × (ds ≡ cs) × (t ≡ s)
+  WakeOneEnds n own count condition cs ds s t (Err Refusal.NoSuchSeat) = WakeRefused count condition s Refusal.NoSuchSeat × (ds ≡ cs) × (t ≡ s)
+  WakeOneEnds n own count condition cs ds s t r = OnCondition condition cs ds (λ c d. CondWakeOneEnds n own c d s t r)
 
   -- how wake_all ends, of a monitor with n passes
-  abbrev pub Wake_all_ends : ℕ → Limits → ℕ → ℕ → List CondSeat → List CondSeat → Sight (Journaled O A R K) → Sight (Journaled O A R K) → Result ℕ Refusal → Type 0
-  Wake_all_ends n own count condition cs ds s t (Err Refusal.Asleep) = Wake_refused count condition s Refusal.Asleep × (ds ≡ cs) × (t ≡ s)
-  Wake_all_ends n own count condition cs ds s t (Err Refusal.NoSuchSeat) = Wake_refused count condition s Refusal.NoSuchSeat × (ds ≡ cs) × (t ≡ s)
-  Wake_all_ends n own count condition cs ds s t r = On_condition condition cs ds (λ c d. Cond_wake_all_ends n own c d s t r)
+  abbrev pub WakeAllEnds : ℕ → Limits → ℕ → ℕ → List CondSeat → List CondSeat → Sight (Journaled O A R K) → Sight (Journaled O A R K) → Result ℕ Refusal → Type 0
+  WakeAllEnds n own count condition cs ds s t (Err Refusal.Asleep) = WakeRefused count condition s Refusal.Asleep × (ds ≡ cs) × (t ≡ s)
+  WakeAllEnds n own count condition cs ds s t (Err Refusal.NoSuchSeat) = WakeRefused count condition s Refusal.NoSuchSeat × (ds ≡ cs) × (t ≡ s)
+  WakeAllEnds n own count condition cs ds s t r = OnCondition condition cs ds (λ c d. CondWakeAllEnds n own c d s t r)

@@ -17,16 +17,16 @@ module _ {A : Type 0} where
   is_hold s (e ∷ es) = (e.seat == s) && (is_take e.what && are_ops s es)
 
   -- the journal js goes on as ks, by one hold of s
-  abbrev pub Goes_on : ℕ → List (Entry A) → List (Entry A) → Type 0
-  Goes_on s js ks = (js ++ drop (length js) ks ≡ ks) × (is_hold s (drop (length js) ks) ≡ true)
+  abbrev pub JournalGoesOn : ℕ → List (Entry A) → List (Entry A) → Type 0
+  JournalGoesOn s js ks = (js ++ drop (length js) ks ≡ ks) × (is_hold s (drop (length js) ks) ≡ true)
 
 module _ {O A R : Type 0} {K : _} where
   -- both are of the same monitor
-  abbrev pub Same_monitor : Journaled O A R K → Journaled O A R K → Type 0
-  Same_monitor v w = (w.opening.value ≡ v.opening.value) × (w.seats ≡ v.seats) × (w.share ≡ v.share)
+  abbrev pub SameOpening : Journaled O A R K → Journaled O A R K → Type 0
+  SameOpening v w = (w.opening.value ≡ v.opening.value) × (w.seats ≡ v.seats) × (w.share ≡ v.share)
 
-  abbrev pub Fits : Journaled O A R K → ℕ → Type 0
-  Fits v k = queued_from 0 v.journal.items ≡ k
+  abbrev pub JournalFits : Journaled O A R K → ℕ → Type 0
+  JournalFits v k = queued_from 0 v.journal.items ≡ k
 
-  abbrev pub Follows : ℕ → Journaled O A R K → Journaled O A R K → Type 0
-  Follows s v w = Same_monitor v w × Goes_on s v.journal.items w.journal.items
+  abbrev pub JournalFollows : ℕ → Journaled O A R K → Journaled O A R K → Type 0
+  JournalFollows s v w = SameOpening v w × JournalGoesOn s v.journal.items w.journal.items

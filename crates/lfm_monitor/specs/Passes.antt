@@ -7,11 +7,11 @@ use Rattle.lfm_model.specs.declared.answers.Unlocked.{Unlocked}
 use Rattle.lfm_model.specs.declared.journals.What.TheVariants.{Took, Did}
 use Rattle.lfm_model.specs.declared.journals.Entry.{Entry}
 use Rattle.lfm_model.specs.declared.refusals.Refusal.{Refusal}
-use Rattle.lfm_model.specs.Journals.{after_all, Lawful, one_to, own, entry, stamps, taker_from}
+use Rattle.lfm_model.specs.Journals.{after_all, LawfulJournal, one_to, own, entry, stamps, taker_from}
 use Rattle.lfm_mutex.specs.calls.Trails.{Seen}
-use Rattle.lfm_mutex.specs.calls.Sight.{Sight, Busy_seen, Deepens}
+use Rattle.lfm_mutex.specs.calls.Sight.{Sight, BusySeen, Deepens}
 use Rattle.lfm_monitor.specs.declared.journaled.Journaled.{Journaled}
-use Rattle.lfm_monitor.specs.Journaled.{Fits, Follows}
+use Rattle.lfm_monitor.specs.Journaled.{JournalFits, JournalFollows}
 
 module _ {O A R : Type 0} {K : _} where
   abbrev pub found_or : Option (Journaled O A R K) → Option (Journaled O A R K) → Option (Journaled O A R K)
@@ -40,11 +40,11 @@ module _ {O A R : Type 0} {K : _} where
     pub seen_is : seen ≡ length l.journal.items
 
   -- what a pass that holds knows of what it has in hand
-  pub record In_hand (s : Sight (Journaled O A R K)) (seen mine : ℕ) (v : Journaled O A R K) : Type 0 where
+  pub record InHand (s : Sight (Journaled O A R K)) (seen mine : ℕ) (v : Journaled O A R K) : Type 0 where
     pub mine_is : mine ≡ length (own s.number v.journal.items)
     pub taker : taker_from None v.journal.items ≡ Some s.number
-    pub fit : Fits v s.queued
-    pub follow : (l : Journaled O A R K) → s.last ≡ Some l → Follows s.number l v
+    pub fit : JournalFits v s.queued
+    pub follow : (l : Journaled O A R K) → s.last ≡ Some l → JournalFollows s.number l v
 
   -- while the pass sleeps, it has an entry for its take
   pub record Sleeps (s : Sight (Journaled O A R K)) (mine : ℕ) : Type 0 where
@@ -52,13 +52,13 @@ module _ {O A R : Type 0} {K : _} where
     pub quiet : s.in_call ≡ false
     pub room : (l : Journaled O A R K) → s.last ≡ Some l → mine < l.share
 
-  pub record Pass_kept (s : Sight (Journaled O A R K)) (seen mine : ℕ) : Type 0 where
+  pub record PassKept (s : Sight (Journaled O A R K)) (seen mine : ℕ) : Type 0 where
     pub there : is_some s.last ≡ true
     pub seated : (l : Journaled O A R K) → s.last ≡ Some l → (0 < s.number) × (s.number ≤ l.seats)
     pub free : s.depth ≡ 0 → s.value ≡ None
     pub held : 0 < s.depth → is_some s.value ≡ true
     pub left : s.depth ≡ 0 → (l : Journaled O A R K) → s.last ≡ Some l → Left s.number seen mine l
-    pub holds : (v : Journaled O A R K) → s.value ≡ Some v → In_hand s seen mine v
+    pub holds : (v : Journaled O A R K) → s.value ≡ Some v → InHand s seen mine v
     pub sleeps : s.asleep ≡ true → Sleeps s mine
 
   -- the pass has come to hold: it finds what it left last, followed by entries of others alone, and adds its own take
@@ -66,65 +66,65 @@ module _ {O A R : Type 0} {K : _} where
   Enters how s t = (between : List (Entry A)) × (own s.number between ≡ []) × (journal_of t ≡ (journal_of s ++ between) ++ entry s.number (Took how) ∷ [])
 
   -- the journal js is the one that the pass has in hand or left last, followed by entries of others alone
-  abbrev pub Goes_on_to : Sight (Journaled O A R K) → List (Entry A) → Type 0
-  Goes_on_to s js = (between : List (Entry A)) × (own s.number between ≡ []) × (js ≡ journal_of s ++ between)
+  abbrev pub GoesOnTo : Sight (Journaled O A R K) → List (Entry A) → Type 0
+  GoesOnTo s js = (between : List (Entry A)) × (own s.number between ≡ []) × (js ≡ journal_of s ++ between)
 
   -- it holds at depth 1 now, and one more entry is its own
-  abbrev pub Comes_in : How → Sight (Journaled O A R K) → Sight (Journaled O A R K) → ℕ → ℕ → Type 0
-  Comes_in how s t mine mine' = (s.depth ≡ 0) × (t.depth ≡ 1) × (t.number ≡ s.number) × (t.asleep ≡ false) × (t.sends ≡ s.sends) × (mine' ≡ mine + 1) × Enters how s t
+  abbrev pub ComesIn : How → Sight (Journaled O A R K) → Sight (Journaled O A R K) → ℕ → ℕ → Type 0
+  ComesIn how s t mine mine' = (s.depth ≡ 0) × (t.depth ≡ 1) × (t.number ≡ s.number) × (t.asleep ≡ false) × (t.sends ≡ s.sends) × (mine' ≡ mine + 1) × Enters how s t
 
   -- why a call is refused that is to hold
-  abbrev pub Enter_refused : ℕ → Sight (Journaled O A R K) → ℕ → Refusal → Type 0
-  Enter_refused share s mine Refusal.Asleep = s.asleep ≡ true
-  Enter_refused share s mine Refusal.DepthFull = (s.asleep ≡ false) × (65535 ≤ s.depth)
-  Enter_refused share s mine Refusal.Spent = (s.asleep ≡ false) × (s.depth ≡ 0) × ((share ≤ mine) ⊎ (share ≤ s.takes))
-  Enter_refused share s mine _ = ⊥
+  abbrev pub EnterRefused : ℕ → Sight (Journaled O A R K) → ℕ → Refusal → Type 0
+  EnterRefused share s mine Refusal.Asleep = s.asleep ≡ true
+  EnterRefused share s mine Refusal.DepthFull = (s.asleep ≡ false) × (65535 ≤ s.depth)
+  EnterRefused share s mine Refusal.Spent = (s.asleep ≡ false) × (s.depth ≡ 0) × ((share ≤ mine) ⊎ (share ≤ s.takes))
+  EnterRefused share s mine _ = ⊥
 
   -- how try_enter ends
-  abbrev pub Try_ends : ℕ → Sight (Journaled O A R K) → Sight (Journaled O A R K) → ℕ → ℕ → Result Locked Refusal → Type 0
-  Try_ends share s t mine mine' (Ok (Locked.Held how)) = (s.asleep ≡ false) × (t.takes ≡ s.takes + 1) × Comes_in how s t mine mine'
-  Try_ends share s t mine mine' (Ok (Locked.Again d)) = Deepens s t d × (mine' ≡ mine)
-  Try_ends share s t mine mine' (Err Refusal.Busy) =
+  abbrev pub TryEnds : ℕ → Sight (Journaled O A R K) → Sight (Journaled O A R K) → ℕ → ℕ → Result Locked Refusal → Type 0
+  TryEnds share s t mine mine' (Ok (Locked.Held how)) = (s.asleep ≡ false) × (t.takes ≡ s.takes + 1) × ComesIn how s t mine mine'
+  TryEnds share s t mine mine' (Ok (Locked.Again d)) = Deepens s t d × (mine' ≡ mine)
+  TryEnds share s t mine mine' (Err Refusal.Busy) =
       (s.asleep ≡ false) × (s.depth ≡ 0) × (s.takes < share) × (mine < share) × (t ≡ record s { trail = t.trail }) × (mine' ≡ mine)
-      × ((new : List Seen) × (t.trail ≡ s.trail ++ new) × Busy_seen s.number new)
-  Try_ends share s t mine mine' (Err r) = Enter_refused share s mine r × (t ≡ s) × (mine' ≡ mine)
+      × ((new : List Seen) × (t.trail ≡ s.trail ++ new) × BusySeen s.number new)
+  TryEnds share s t mine mine' (Err r) = EnterRefused share s mine r × (t ≡ s) × (mine' ≡ mine)
 
   -- how ask ends
-  abbrev pub Ask_ends : ℕ → Sight (Journaled O A R K) → Sight (Journaled O A R K) → ℕ → ℕ → Result Asked Refusal → Type 0
-  Ask_ends share s t mine mine' (Ok (Asked.Held how)) = (s.asleep ≡ false) × (t.takes ≡ s.takes + 1) × Comes_in how s t mine mine'
-  Ask_ends share s t mine mine' (Ok (Asked.Again d)) = Deepens s t d × (mine' ≡ mine)
-  Ask_ends share s t mine mine' (Ok Asked.Asleep) =
+  abbrev pub AskEnds : ℕ → Sight (Journaled O A R K) → Sight (Journaled O A R K) → ℕ → ℕ → Result Asked Refusal → Type 0
+  AskEnds share s t mine mine' (Ok (Asked.Held how)) = (s.asleep ≡ false) × (t.takes ≡ s.takes + 1) × ComesIn how s t mine mine'
+  AskEnds share s t mine mine' (Ok (Asked.Again d)) = Deepens s t d × (mine' ≡ mine)
+  AskEnds share s t mine mine' (Ok Asked.Asleep) =
       (s.asleep ≡ false) × (s.depth ≡ 0) × (t ≡ record s { takes = s.takes + 1; asleep = true; in_call = false; trail = t.trail }) × (mine' ≡ mine)
-  Ask_ends share s t mine mine' (Err r) = Enter_refused share s mine r × (t ≡ s) × (mine' ≡ mine)
+  AskEnds share s t mine mine' (Err r) = EnterRefused share s mine r × (t ≡ s) × (mine' ≡ mine)
 
   -- how enter ends
-  abbrev pub Enter_ends : ℕ → Sight (Journaled O A R K) → Sight (Journaled O A R K) → ℕ → ℕ → Result Locked Refusal → Type 0
-  Enter_ends share s t mine mine' (Ok (Locked.Held how)) = (s.asleep ≡ false) × (t.takes ≡ s.takes + 1) × Comes_in how s t mine mine'
-  Enter_ends share s t mine mine' (Ok (Locked.Again d)) = Deepens s t d × (mine' ≡ mine)
-  Enter_ends share s t mine mine' (Err r) = Enter_refused share s mine r × (t ≡ s) × (mine' ≡ mine)
+  abbrev pub EnterEnds : ℕ → Sight (Journaled O A R K) → Sight (Journaled O A R K) → ℕ → ℕ → Result Locked Refusal → Type 0
+  EnterEnds share s t mine mine' (Ok (Locked.Held how)) = (s.asleep ≡ false) × (t.takes ≡ s.takes + 1) × ComesIn how s t mine mine'
+  EnterEnds share s t mine mine' (Ok (Locked.Again d)) = Deepens s t d × (mine' ≡ mine)
+  EnterEnds share s t mine mine' (Err r) = EnterRefused share s mine r × (t ≡ s) × (mine' ≡ mine)
 
   -- how try_receive ends
-  abbrev pub Receive_ends : Sight (Journaled O A R K) → Sight (Journaled O A R K) → ℕ → ℕ → Result (Option How) Refusal → Type 0
-  Receive_ends s t mine mine' (Ok (Some how)) = (s.asleep ≡ true) × (t.takes ≡ s.takes) × Comes_in how s t mine mine'
-  Receive_ends s t mine mine' (Ok None) = (s.asleep ≡ true) × (t ≡ record s { trail = t.trail }) × (mine' ≡ mine)
-  Receive_ends s t mine mine' (Err Refusal.NotWaiting) = (s.asleep ≡ false) × (t ≡ s) × (mine' ≡ mine)
-  Receive_ends s t mine mine' (Err r) = ⊥
+  abbrev pub ReceiveEnds : Sight (Journaled O A R K) → Sight (Journaled O A R K) → ℕ → ℕ → Result (Option How) Refusal → Type 0
+  ReceiveEnds s t mine mine' (Ok (Some how)) = (s.asleep ≡ true) × (t.takes ≡ s.takes) × ComesIn how s t mine mine'
+  ReceiveEnds s t mine mine' (Ok None) = (s.asleep ≡ true) × (t ≡ record s { trail = t.trail }) × (mine' ≡ mine)
+  ReceiveEnds s t mine mine' (Err Refusal.NotWaiting) = (s.asleep ≡ false) × (t ≡ s) × (mine' ≡ mine)
+  ReceiveEnds s t mine mine' (Err r) = ⊥
 
   -- how leave ends: what was in hand is the pass's seen
-  abbrev pub Leave_ends : Sight (Journaled O A R K) → Sight (Journaled O A R K) → ℕ → ℕ → Result Unlocked Refusal → Type 0
-  Leave_ends s t seen seen' (Ok (Unlocked.Still d)) = (s.asleep ≡ false) × (0 < d) × (s.depth ≡ d + 1) × (t ≡ record s { depth = d }) × (seen' ≡ seen)
-  Leave_ends s t seen seen' (Ok u) =
+  abbrev pub LeaveEnds : Sight (Journaled O A R K) → Sight (Journaled O A R K) → ℕ → ℕ → Result Unlocked Refusal → Type 0
+  LeaveEnds s t seen seen' (Ok (Unlocked.Still d)) = (s.asleep ≡ false) × (0 < d) × (s.depth ≡ d + 1) × (t ≡ record s { depth = d }) × (seen' ≡ seen)
+  LeaveEnds s t seen seen' (Ok u) =
       (s.asleep ≡ false) × (s.depth ≡ 1) × (t.depth ≡ 0) × (t.number ≡ s.number) × (t.takes ≡ s.takes) × (t.asleep ≡ false) × (t.sends ≡ s.sends) × (journal_of t ≡ journal_of s)
       × (seen' ≡ length (journal_of s))
-  Leave_ends s t seen seen' (Err Refusal.Asleep) = (s.asleep ≡ true) × (t ≡ s) × (seen' ≡ seen)
-  Leave_ends s t seen seen' (Err Refusal.NotOwner) = (s.asleep ≡ false) × (s.depth ≡ 0) × (t ≡ s) × (seen' ≡ seen)
-  Leave_ends s t seen seen' (Err _) = ⊥
+  LeaveEnds s t seen seen' (Err Refusal.Asleep) = (s.asleep ≡ true) × (t ≡ s) × (seen' ≡ seen)
+  LeaveEnds s t seen seen' (Err Refusal.NotOwner) = (s.asleep ≡ false) × (s.depth ≡ 0) × (t ≡ s) × (seen' ≡ seen)
+  LeaveEnds s t seen seen' (Err _) = ⊥
 
 module _ {O A R : Type 0} {K : _} (after : O → A → O) where
   -- what the pass has in hand is legal: the journal is lawful, the object is its replay, and the stamps are those of all queued
   -- takes so far
-  abbrev pub Is_legal : O → Sight (Journaled O A R K) → Type 0
-  Is_legal opening s = (v : Journaled O A R K) → s.value ≡ Some v → (v.object ≡ after_all after opening v.journal.items) × Lawful v.journal.items × (stamps v.journal.items ≡ one_to s.queued)
+  abbrev pub IsLegal : O → Sight (Journaled O A R K) → Type 0
+  IsLegal opening s = (v : Journaled O A R K) → s.value ≡ Some v → (v.object ≡ after_all after opening v.journal.items) × LawfulJournal v.journal.items × (stamps v.journal.items ≡ one_to s.queued)
 
 module _ {O A R : Type 0} {K : _} (after : O → A → O) (reply : O → A → R) where
   -- an op was made: the object replied and changed as it does by itself, and the entry was added
@@ -134,9 +134,9 @@ module _ {O A R : Type 0} {K : _} (after : O → A → O) (reply : O → A → R
       × (w.journal.items ≡ v.journal.items ++ entry s.number (Did op) ∷ [])
 
   -- how apply ends
-  abbrev pub Apply_ends : ℕ → A → Sight (Journaled O A R K) → Sight (Journaled O A R K) → ℕ → ℕ → Result R Refusal → Type 0
-  Apply_ends share op s t mine mine' (Ok r) = (s.asleep ≡ false) × (mine' ≡ mine + 1) × Applies op s t r
-  Apply_ends share op s t mine mine' (Err Refusal.Asleep) = (s.asleep ≡ true) × (t ≡ s) × (mine' ≡ mine)
-  Apply_ends share op s t mine mine' (Err Refusal.NotOwner) = (s.asleep ≡ false) × (s.depth ≡ 0) × (t ≡ s) × (mine' ≡ mine)
-  Apply_ends share op s t mine mine' (Err Refusal.Spent) = (s.asleep ≡ false) × (0 < s.depth) × (share ≤ mine) × (t ≡ s) × (mine' ≡ mine)
-  Apply_ends share op s t mine mine' (Err _) = ⊥
+  abbrev pub ApplyEnds : ℕ → A → Sight (Journaled O A R K) → Sight (Journaled O A R K) → ℕ → ℕ → Result R Refusal → Type 0
+  ApplyEnds share op s t mine mine' (Ok r) = (s.asleep ≡ false) × (mine' ≡ mine + 1) × Applies op s t r
+  ApplyEnds share op s t mine mine' (Err Refusal.Asleep) = (s.asleep ≡ true) × (t ≡ s) × (mine' ≡ mine)
+  ApplyEnds share op s t mine mine' (Err Refusal.NotOwner) = (s.asleep ≡ false) × (s.depth ≡ 0) × (t ≡ s) × (mine' ≡ mine)
+  ApplyEnds share op s t mine mine' (Err Refusal.Spent) = (s.asleep ≡ false) × (0 < s.depth) × (share ≤ mine) × (t ≡ s) × (mine' ≡ mine)
+  ApplyEnds share op s t mine mine' (Err _) = ⊥

@@ -8,17 +8,17 @@ use Rattle.lfm_protocol.specs.declared.answers.Turn.TheVariants.{Ended, Refused}
 use Rattle.lfm_protocol.specs.declared.answers.Why.{Why}
 use Rattle.lfm_protocol.specs.declared.limits.Limits.{Limits}
 use Rattle.lfm_mutex.specs.calls.Sight.{Sight}
-use Rattle.lfm_mutex.specs.calls.Trails.{Makes, Locks_by}
+use Rattle.lfm_mutex.specs.calls.Trails.{Makes, LocksBy}
 
 module _ {T : Type 0} (l : Limits) where
   -- the seat has made the steps of this call of the mutex, and the answer is what the last of them says; refused as Busy, it has
   -- made them too, and refused otherwise it has made none
-  abbrev pub By_steps : {A : Type 0} → (A → Answer) → Call → Sight T → Sight T → Result A Refusal → Type 0
-  By_steps answer call s t (Ok a) = Makes l call s t (Ended (answer a))
-  By_steps answer call s t (Err Refusal.Busy) = (cause : Why) × Makes l call s t (Refused cause)
-  By_steps answer call s t (Err r) = t ≡ s
+  abbrev pub BySteps : {A : Type 0} → (A → Answer) → Call → Sight T → Sight T → Result A Refusal → Type 0
+  BySteps answer call s t (Ok a) = Makes l call s t (Ended (answer a))
+  BySteps answer call s t (Err Refusal.Busy) = (cause : Why) × Makes l call s t (Refused cause)
+  BySteps answer call s t (Err r) = t ≡ s
 
   -- the same of lock, whose steps are those of ask and of the receives after it
-  abbrev pub By_locking : Sight T → Sight T → Result Locked Refusal → Type 0
-  By_locking s t (Ok locked) = Locks_by l s t (Ok locked)
-  By_locking s t (Err r) = t ≡ s
+  abbrev pub ByLocking : Sight T → Sight T → Result Locked Refusal → Type 0
+  ByLocking s t (Ok locked) = LocksBy l s t (Ok locked)
+  ByLocking s t (Err r) = t ≡ s

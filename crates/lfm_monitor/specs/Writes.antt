@@ -6,15 +6,15 @@ use Rattle.lfm_mutex.specs.declared.seat.Seat.{Seat}
 use Rattle.lfm_mutex.specs.calls.Sight.{sight}
 use Rattle.lfm_mutex.specs.Belongs.{Beside}
 use Rattle.lfm_monitor.specs.declared.journaled.Journaled.{Journaled}
-use Rattle.lfm_monitor.specs.Journaled.{Same_monitor}
+use Rattle.lfm_monitor.specs.Journaled.{SameOpening}
 
 module _ {O A R : Type 0} {K : _} where
   -- an entry of this seat may be written
-  abbrev pub May_write : ℕ → Journaled O A R K → Type 0
-  May_write number v = (0 < number) × (number ≤ v.seats) × (length (own number v.journal.items) < v.share)
+  abbrev pub MayWrite : ℕ → Journaled O A R K → Type 0
+  MayWrite number v = (0 < number) × (number ≤ v.seats) × (length (own number v.journal.items) < v.share)
 
   -- this entry was written, and nothing else of the seat is other than it was
   abbrev pub Writes : What A → Seat (Journaled O A R K) → Seat (Journaled O A R K) → Type 0
   Writes what s t =
       (v w : Journaled O A R K) × ((sight s).value ≡ Some v) × (sight t ≡ record (sight s) { value = Some w }) × (w.journal.items ≡ v.journal.items ++ entry (sight s).number what ∷ [])
-      × Same_monitor v w × Beside s t
+      × SameOpening v w × Beside s t

@@ -1,6 +1,6 @@
 //! `apply`: a pass that holds makes an op of the object, which is written down.
-ghost use Rattle.lfm_monitor.specs.Belongs.{Of_monitor, cond_seats_of, mine_of, pass_sight, seen_of, share_of};
-ghost use Rattle.lfm_monitor.specs.Passes.{Apply_ends};
+ghost use Rattle.lfm_monitor.specs.Belongs.{OfMonitor, cond_seats_of, mine_of, pass_sight, seen_of, share_of};
+ghost use Rattle.lfm_monitor.specs.Passes.{ApplyEnds};
 ghost use Rattle.std.specs.Prelude.{◌≡◌};
 
 use crate::monitor::Monitor;
@@ -14,9 +14,9 @@ impl<O: Object> Monitor<O> {
     /// Refuses, in this order: Asleep, NotOwner (the pass doesn't hold), Spent (it has no entry left). A refusal drops the op.
     /// It never waits and takes no memory.
     pub fn apply(&self, pass: &mut Pass<O>, op: O::Op) -> Result<O::Reply, Refusal>
-        requires belongs { Of_monitor pass.old self.now }
-        ensures belongs { Of_monitor pass.new self.now }
-        ensures applies { Apply_ends O.after O.reply (share_of self.now) op (pass_sight pass.old) (pass_sight pass.new) (mine_of pass.old) (mine_of pass.new) result }
+        requires belongs { OfMonitor pass.old self.now }
+        ensures belongs { OfMonitor pass.new self.now }
+        ensures applies { ApplyEnds O.after O.reply (share_of self.now) op (pass_sight pass.old) (pass_sight pass.new) (mine_of pass.old) (mine_of pass.new) result }
         ensures seen { seen_of pass.new ≡ seen_of pass.old }
         ensures conditions { cond_seats_of pass.new ≡ cond_seats_of pass.old }
     {

@@ -1,8 +1,8 @@
 //! How a monitor is closed.
-ghost use Rattle.lfm_model.specs.Journals.{Lawful, after_all, own, total};
-ghost use Rattle.lfm_monitor.specs.Belongs.{Is_same, Of_monitor, mine_of, opening_of, pass_sight, passes_of};
-ghost use Rattle.lfm_monitor.specs.Passes.{Goes_on_to, journal_of};
-ghost use Rattle.lfm_mutex.specs.Close.{All_stand, First_missing};
+ghost use Rattle.lfm_model.specs.Journals.{LawfulJournal, after_all, own, total};
+ghost use Rattle.lfm_monitor.specs.Belongs.{SameMonitor, OfMonitor, mine_of, opening_of, pass_sight, passes_of};
+ghost use Rattle.lfm_monitor.specs.Passes.{GoesOnTo, journal_of};
+ghost use Rattle.lfm_mutex.specs.Close.{AllStand, FirstMissing};
 ghost use Rattle.std.specs.Prelude.{◌≡◌, ℕ, IfErr, IfOk, length, vec_len};
 ghost use lib.ListN.{get_elem?};
 ghost use mathlib.Core.Option.{some};
@@ -23,14 +23,14 @@ impl<O: Object> Monitor<O> {
         self,
         passes: Vec<Pass<O>>,
     ) -> Result<(O, Vec<Entry<O::Op>>), (Monitor<O>, Vec<Pass<O>>, Missing)>
-        requires belongs { (j : ℕ) (p : _) → get_elem? passes.items j ≡ some p → Of_monitor p self }
-        ensures missing { IfErr result (λ e. Is_same e.0 self × (e.1 ≡ passes) × First_missing (λ p. pass_sight p) passes.items (passes_of self) e.2) }
-        ensures back { IfErr result (λ e. (j : ℕ) (p : _) → get_elem? e.1.items j ≡ some p → Of_monitor p e.0) }
-        ensures kept { IfErr result (λ e. (p : _) → Of_monitor p self → Of_monitor p e.0) }
-        ensures all { IfOk result (λ _. All_stand (λ p. pass_sight p) passes.items (passes_of self)) }
-        ensures legal { IfOk result (λ r. (r.0 ≡ after_all O.after (opening_of self) r.1.items) × Lawful r.1.items) }
+        requires belongs { (j : ℕ) (p : _) → get_elem? passes.items j ≡ some p → OfMonitor p self }
+        ensures missing { IfErr result (λ e. SameMonitor e.0 self × (e.1 ≡ passes) × FirstMissing (λ p. pass_sight p) passes.items (passes_of self) e.2) }
+        ensures back { IfErr result (λ e. (j : ℕ) (p : _) → get_elem? e.1.items j ≡ some p → OfMonitor p e.0) }
+        ensures kept { IfErr result (λ e. (p : _) → OfMonitor p self → OfMonitor p e.0) }
+        ensures all { IfOk result (λ _. AllStand (λ p. pass_sight p) passes.items (passes_of self)) }
+        ensures legal { IfOk result (λ r. (r.0 ≡ after_all O.after (opening_of self) r.1.items) × LawfulJournal r.1.items) }
         ensures mine { IfOk result (λ r. (j : ℕ) (p : _) → get_elem? passes.items j ≡ some p → (own (pass_sight p).number r.1.items ≡ own (pass_sight p).number (journal_of (pass_sight p))) × (mine_of p ≡ length (own (pass_sight p).number r.1.items))) }
-        ensures order { IfOk result (λ r. (j : ℕ) (p : _) → get_elem? passes.items j ≡ some p → Goes_on_to (pass_sight p) r.1.items) }
+        ensures order { IfOk result (λ r. (j : ℕ) (p : _) → get_elem? passes.items j ≡ some p → GoesOnTo (pass_sight p) r.1.items) }
         ensures whole { IfOk result (λ r. vec_len r.1 ≡ total (λ p. mine_of p) passes.items) }
     {
         let Monitor {

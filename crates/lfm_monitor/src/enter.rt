@@ -1,9 +1,9 @@
 //! `enter`, and `ask`, which is `enter` up to the point where it would sleep. Each hold that begins is written down.
 ghost use Rattle.lfm_protocol.specs.declared.answers.Answer.TheVariants as Answered;
 ghost use Rattle.lfm_protocol.specs.declared.answers.Call.{Call};
-ghost use Rattle.lfm_monitor.specs.Belongs.{Of_monitor, cond_seats_of, mine_of, mutex_limits, pass_sight, seen_of, share_of};
-ghost use Rattle.lfm_monitor.specs.Passes.{Ask_ends, Enter_ends};
-ghost use Rattle.lfm_monitor.specs.Steps.{By_locking, By_steps};
+ghost use Rattle.lfm_monitor.specs.Belongs.{OfMonitor, cond_seats_of, mine_of, mutex_limits, pass_sight, seen_of, share_of};
+ghost use Rattle.lfm_monitor.specs.Passes.{AskEnds, EnterEnds};
+ghost use Rattle.lfm_monitor.specs.Steps.{ByLocking, BySteps};
 ghost use Rattle.std.specs.Prelude.{◌≡◌};
 
 use crate::monitor::Monitor;
@@ -19,12 +19,12 @@ impl<O: Object> Monitor<O> {
     /// Refuses, in this order: Asleep, DepthFull, Spent, each as `try_enter`. It never waits and takes no memory. It may
     /// wake a pass, as `ask` of the mutex may wake a seat.
     pub fn ask(&self, pass: &mut Pass<O>) -> Result<Asked, Refusal>
-        requires belongs { Of_monitor pass.old self.now }
-        ensures belongs { Of_monitor pass.new self.now }
-        ensures enters { Ask_ends (share_of self.now) (pass_sight pass.old) (pass_sight pass.new) (mine_of pass.old) (mine_of pass.new) result }
+        requires belongs { OfMonitor pass.old self.now }
+        ensures belongs { OfMonitor pass.new self.now }
+        ensures enters { AskEnds (share_of self.now) (pass_sight pass.old) (pass_sight pass.new) (mine_of pass.old) (mine_of pass.new) result }
         ensures seen { seen_of pass.new ≡ seen_of pass.old }
         ensures conditions { cond_seats_of pass.new ≡ cond_seats_of pass.old }
-        ensures steps { By_steps (mutex_limits self.now) (λ x. Answered.Asked x) Call.Lock (pass_sight pass.old) (pass_sight pass.new) result }
+        ensures steps { BySteps (mutex_limits self.now) (λ x. Answered.Asked x) Call.Lock (pass_sight pass.old) (pass_sight pass.new) result }
     {
         if pass.lacks_entry(self.share) {
             return Err(Refusal::Spent);
@@ -46,12 +46,12 @@ impl<O: Object> Monitor<O> {
     /// Refuses, in this order: Asleep, DepthFull, Spent, each as `try_enter`. It takes no memory. It may wake a pass, as
     /// `ask` may.
     pub fn enter<R: Wait>(&self, rt: &R, pass: &mut Pass<O>) -> Result<Locked, Refusal>
-        requires belongs { Of_monitor pass.old self.now }
-        ensures belongs { Of_monitor pass.new self.now }
-        ensures enters { Enter_ends (share_of self.now) (pass_sight pass.old) (pass_sight pass.new) (mine_of pass.old) (mine_of pass.new) result }
+        requires belongs { OfMonitor pass.old self.now }
+        ensures belongs { OfMonitor pass.new self.now }
+        ensures enters { EnterEnds (share_of self.now) (pass_sight pass.old) (pass_sight pass.new) (mine_of pass.old) (mine_of pass.new) result }
         ensures seen { seen_of pass.new ≡ seen_of pass.old }
         ensures conditions { cond_seats_of pass.new ≡ cond_seats_of pass.old }
-        ensures steps { By_locking (mutex_limits self.now) (pass_sight pass.old) (pass_sight pass.new) result }
+        ensures steps { ByLocking (mutex_limits self.now) (pass_sight pass.old) (pass_sight pass.new) result }
     {
         if pass.lacks_entry(self.share) {
             return Err(Refusal::Spent);

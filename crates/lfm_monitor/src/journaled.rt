@@ -1,6 +1,6 @@
 //! What the mutex of a monitor guards: the object with its journal.
 ghost use Rattle.std.specs.Prelude.{◌≡◌, ℕ, ◌*◌, ◌<◌, ◌≤◌, ◌++◌, [], ◌∷◌, Some, None, length, vec_capacity};
-ghost use Rattle.lfm_model.specs.Journals.{after_all, Lawful, Lawful-prop, Within, Within-prop, May_take, entry, own, queued_from, taker_from};
+ghost use Rattle.lfm_model.specs.Journals.{after_all, LawfulJournal, LawfulJournal-prop, Within, Within-prop, MayTake, entry, own, queued_from, taker_from};
 ghost use Rattle.lfm_model.specs.declared.journals.What.TheVariants.{Took, Did};
 
 use lfm_model::{Entry, How, Object, SeatNo, What};
@@ -16,7 +16,7 @@ pub struct Journaled<O: Object> {
     pub(crate) seats: u64,
     pub(crate) share: u64,
     pub ghost legal: { object ≡ after_all O.after opening.value journal.items },
-    pub ghost lawful: { Lawful journal.items } by { Lawful-prop None 0 journal.items },
+    pub ghost lawful: { LawfulJournal journal.items } by { LawfulJournal-prop None 0 journal.items },
     pub ghost within: { Within seats journal.items } by { Within-prop seats journal.items },
     pub ghost shares: { (s : ℕ) → length (own s journal.items) ≤ share },
     pub ghost room: { seats * share ≤ vec_capacity journal },
@@ -27,7 +27,7 @@ impl<O: Object> Journaled<O> {
     pub(crate) fn took(&mut self, seat: SeatNo, how: How)
         requires seat { (0 < seat) × (seat ≤ self.old.seats) }
         requires share { length (own seat self.old.journal.items) < self.old.share }
-        requires how { May_take (queued_from 0 self.old.journal.items) how }
+        requires how { MayTake (queued_from 0 self.old.journal.items) how }
         ensures journal { self.new.journal.items ≡ self.old.journal.items ++ entry seat (Took how) ∷ [] }
         ensures same { (self.new.opening ≡ self.old.opening) × (self.new.seats ≡ self.old.seats) × (self.new.share ≡ self.old.share) }
     {

@@ -1,12 +1,12 @@
 //! A mutex may guard an object with its journal.
-ghost use Rattle.lfm_monitor.specs.Journaled.{Fits, Follows};
+ghost use Rattle.lfm_monitor.specs.Journaled.{JournalFits, JournalFollows};
 
 use crate::journaled::Journaled;
 use lfm_model::Object;
 use lfm_mutex::Kept;
 
 impl<O: Object> Kept for Journaled<O> {
-    ghost fits = { Fits };
+    ghost fits = { JournalFits };
 
-    ghost follows = { Follows };
+    ghost follows = { JournalFollows };
 }

@@ -1,10 +1,10 @@
 //! `leave`: a pass that holds gives up one hold.
 ghost use Rattle.lfm_protocol.specs.declared.answers.Answer.TheVariants as Answered;
 ghost use Rattle.lfm_protocol.specs.declared.answers.Call.{Call};
-ghost use Rattle.lfm_mutex.specs.calls.Trails.{Makes_at_most};
-ghost use Rattle.lfm_monitor.specs.Belongs.{Of_monitor, cond_seats_of, mine_of, mutex_limits, pass_sight, passes_of, seen_of};
-ghost use Rattle.lfm_monitor.specs.Passes.{Leave_ends};
-ghost use Rattle.lfm_monitor.specs.Steps.{By_steps};
+ghost use Rattle.lfm_mutex.specs.calls.Trails.{MakesAtMost};
+ghost use Rattle.lfm_monitor.specs.Belongs.{OfMonitor, cond_seats_of, mine_of, mutex_limits, pass_sight, passes_of, seen_of};
+ghost use Rattle.lfm_monitor.specs.Passes.{LeaveEnds};
+ghost use Rattle.lfm_monitor.specs.Steps.{BySteps};
 ghost use Rattle.std.specs.Prelude.{◌≡◌, ◌+◌};
 
 use crate::monitor::Monitor;
@@ -17,13 +17,13 @@ impl<O: Object> Monitor<O> {
     /// Refuses, in this order: Asleep, NotOwner. It never waits, takes no memory, and wakes the pass that it grants the
     /// monitor, if any. Whatever others do, it makes at most 7 atomic steps more than the monitor has passes.
     pub fn leave(&self, pass: &mut Pass<O>) -> Result<Unlocked, Refusal>
-        requires belongs { Of_monitor pass.old self.now }
-        ensures belongs { Of_monitor pass.new self.now }
-        ensures leaves { Leave_ends (pass_sight pass.old) (pass_sight pass.new) (seen_of pass.old) (seen_of pass.new) result }
+        requires belongs { OfMonitor pass.old self.now }
+        ensures belongs { OfMonitor pass.new self.now }
+        ensures leaves { LeaveEnds (pass_sight pass.old) (pass_sight pass.new) (seen_of pass.old) (seen_of pass.new) result }
         ensures mine { mine_of pass.new ≡ mine_of pass.old }
         ensures conditions { cond_seats_of pass.new ≡ cond_seats_of pass.old }
-        ensures steps { By_steps (mutex_limits self.now) (λ x. Answered.Unlocked x) Call.Unlock (pass_sight pass.old) (pass_sight pass.new) result }
-        ensures bounded { Makes_at_most (passes_of self.now + 7) (pass_sight pass.old) (pass_sight pass.new) }
+        ensures steps { BySteps (mutex_limits self.now) (λ x. Answered.Unlocked x) Call.Unlock (pass_sight pass.old) (pass_sight pass.new) result }
+        ensures bounded { MakesAtMost (passes_of self.now + 7) (pass_sight pass.old) (pass_sight pass.new) }
     {
         let length = pass.journal_len();
         let unlocked = self.mutex.unlock(&mut pass.seat)?;

@@ -2,7 +2,7 @@
 //! `wake` and `close`.
 ghost use Rattle.std.specs.Prelude.{◌≡◌};
 ghost use Rattle.lfm_mutex.specs.Belongs.{limits_of};
-ghost use Rattle.lfm_monitor.specs.CondSeats.{Are_conditions};
+ghost use Rattle.lfm_monitor.specs.CondSeats.{AreConditions};
 
 use crate::journaled::Journaled;
 use lfm_condvar::Condvar;
@@ -20,5 +20,5 @@ pub struct Monitor<O: Object> {
     pub(crate) share: u64,
     pub(crate) conditions: Vec<Condvar>,
     pub ghost shared: { (limits_of mutex).budget ≡ share },
-    pub ghost wide: { Are_conditions (limits_of mutex).seats conditions.items },
+    pub ghost wide: { AreConditions (limits_of mutex).seats conditions.items },
 }

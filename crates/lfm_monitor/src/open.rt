@@ -1,8 +1,8 @@
 //! How a monitor is made: a mutex round the object with an empty journal, its conditions, and a pass for each of its seats.
 ghost use Rattle.lfm_model.specs.declared.refusals.NewFault.{NewFault};
-ghost use Rattle.lfm_monitor.specs.Begun.{In_limits, New_pass};
+ghost use Rattle.lfm_monitor.specs.Begun.{InLimits, NewPass};
 ghost use Rattle.lfm_monitor.specs.Belongs.{conditions_of, mine_of, opening_of, passes_of, seen_of, share_of};
-ghost use Rattle.lfm_monitor.specs.Passes.{Pass_kept};
+ghost use Rattle.lfm_monitor.specs.Passes.{PassKept};
 ghost use Rattle.lfm_mutex.specs.calls.Sight.{sight};
 ghost use Rattle.std.specs.Prelude.{◌≡◌, ◌+◌, ◌↔◌, ℕ, IfErr, IfOk, IsTrue, [], vec_capacity, vec_len};
 ghost use lib.ListN.{get_elem?};
@@ -32,7 +32,7 @@ pub const MAX_CONDITIONS: u64 = 16;
 
 // Whether a monitor may have so many passes, so many entries for each, and so many conditions.
 fn are_allowed(seats: u64, share: u64, conditions: u64) -> bool
-    ensures { IsTrue result ↔ In_limits seats share conditions }
+    ensures { IsTrue result ↔ InLimits seats share conditions }
 {
     0 < seats
         && seats <= MAX_SEATS
@@ -48,7 +48,7 @@ fn with_seats<O: Object>(
     cond_seats: Vec<Vec<CondSeat>>,
 ) -> Vec<Pass<O>>
     requires room { (passes.items ≡ []) × (vec_capacity passes ≡ vec_len seats) × (vec_len cond_seats ≡ vec_len seats) }
-    requires kept { (j : ℕ) (s : _) → get_elem? seats.items j ≡ some s → Pass_kept (sight s) 0 0 }
+    requires kept { (j : ℕ) (s : _) → get_elem? seats.items j ≡ some s → PassKept (sight s) 0 0 }
     ensures count { vec_len result ≡ vec_len seats }
     ensures passes { (j : ℕ) (p : _) → get_elem? result.items j ≡ some p → (get_elem? seats.items j ≡ some p.seat) × (get_elem? cond_seats.items j ≡ some p.cond_seats) × (seen_of p ≡ 0) × (mine_of p ≡ 0) }
 {
@@ -78,9 +78,9 @@ impl<O: Object> Monitor<O> {
         object: O,
     ) -> Result<(Monitor<O>, Vec<Pass<O>>), NewFault>
         ensures monitor { IfOk result (λ r. (opening_of r.0 ≡ object) × (passes_of r.0 ≡ seats) × (share_of r.0 ≡ entries_per_seat) × (conditions_of r.0 ≡ conditions)) }
-        ensures passes { IfOk result (λ r. (vec_len r.1 ≡ seats) × ((j : ℕ) (p : _) → get_elem? r.1.items j ≡ some p → New_pass r.0 (j + 1) p)) }
-        ensures limit { (In_limits seats entries_per_seat conditions → ⊥) → IfErr result (λ e. e ≡ NewFault.Limit) × IfOk result (λ _. ⊥) }
-        ensures memory { In_limits seats entries_per_seat conditions → IfErr result (λ e. e ≡ NewFault.Memory) }
+        ensures passes { IfOk result (λ r. (vec_len r.1 ≡ seats) × ((j : ℕ) (p : _) → get_elem? r.1.items j ≡ some p → NewPass r.0 (j + 1) p)) }
+        ensures limit { (InLimits seats entries_per_seat conditions → ⊥) → IfErr result (λ e. e ≡ NewFault.Limit) × IfOk result (λ _. ⊥) }
+        ensures memory { InLimits seats entries_per_seat conditions → IfErr result (λ e. e ≡ NewFault.Memory) }
     {
         if !are_allowed(seats, entries_per_seat, conditions) {
             return Err(NewFault::Limit);

@@ -1,7 +1,7 @@
 //! What one thread uses the monitor with.
 ghost use Rattle.std.specs.Prelude.{◌≡◌, ◌<◌, ◌≤◌, ◌↔◌, IsTrue, Some, false, length};
 ghost use Rattle.lfm_mutex.specs.calls.Sight.{sight};
-ghost use Rattle.lfm_monitor.specs.Passes.{Pass_kept};
+ghost use Rattle.lfm_monitor.specs.Passes.{PassKept};
 
 use crate::journaled::Journaled;
 use lfm_condvar::CondSeat;
@@ -16,7 +16,7 @@ pub struct Pass<O: Object> {
     pub(crate) seen: u64,
     pub(crate) mine: u64,
     pub(crate) cond_seats: Vec<CondSeat>,
-    pub ghost kept: { Pass_kept (sight seat) seen mine },
+    pub ghost kept: { PassKept (sight seat) seen mine },
 }
 
 /// What a pass tells of itself. None of these touches a word of the mutex, takes memory or waits.

@@ -1,6 +1,6 @@
 //! The conditions of a monitor by their numbers.
 ghost use Rattle.lfm_monitor.specs.Belongs.{conditions_of};
-ghost use Rattle.lfm_monitor.specs.Conditions.{Is_missing};
+ghost use Rattle.lfm_monitor.specs.Conditions.{IsMissing};
 ghost use Rattle.std.specs.Prelude.{◌≡◌, ◌+◌, ◌<◌, MatchOption};
 
 use crate::monitor::Monitor;
@@ -9,7 +9,7 @@ use lfm_model::Object;
 impl<O: Object> Monitor<O> {
     /// The place of the condition with this number, which is one less; None where there is no such condition.
     pub(crate) fn place_of(&self, condition: u64) -> Option<usize>
-        ensures { MatchOption result (Is_missing (conditions_of self.now) condition) (λ n. (condition ≡ n + 1) × (n < conditions_of self.now)) }
+        ensures { MatchOption result (IsMissing (conditions_of self.now) condition) (λ n. (condition ≡ n + 1) × (n < conditions_of self.now)) }
     {
         if condition == 0 || condition > self.conditions.len() as u64 {
             return None;

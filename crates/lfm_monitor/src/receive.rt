@@ -1,9 +1,9 @@
 //! `try_receive`: a pass that sleeps looks whether it was granted the monitor. A hold that begins is written down.
 ghost use Rattle.lfm_protocol.specs.declared.answers.Answer.TheVariants as Answered;
 ghost use Rattle.lfm_protocol.specs.declared.answers.Call.{Call};
-ghost use Rattle.lfm_monitor.specs.Belongs.{Of_monitor, cond_seats_of, mine_of, mutex_limits, pass_sight, seen_of};
-ghost use Rattle.lfm_monitor.specs.Passes.{Receive_ends};
-ghost use Rattle.lfm_monitor.specs.Steps.{By_steps};
+ghost use Rattle.lfm_monitor.specs.Belongs.{OfMonitor, cond_seats_of, mine_of, mutex_limits, pass_sight, seen_of};
+ghost use Rattle.lfm_monitor.specs.Passes.{ReceiveEnds};
+ghost use Rattle.lfm_monitor.specs.Steps.{BySteps};
 ghost use Rattle.std.specs.Prelude.{◌≡◌};
 
 use crate::monitor::Monitor;
@@ -17,12 +17,12 @@ impl<O: Object> Monitor<O> {
     ///
     /// Refuses with NotWaiting where the pass doesn't sleep. It never waits and takes no memory.
     pub fn try_receive(&self, pass: &mut Pass<O>) -> Result<Option<How>, Refusal>
-        requires belongs { Of_monitor pass.old self.now }
-        ensures belongs { Of_monitor pass.new self.now }
-        ensures enters { Receive_ends (pass_sight pass.old) (pass_sight pass.new) (mine_of pass.old) (mine_of pass.new) result }
+        requires belongs { OfMonitor pass.old self.now }
+        ensures belongs { OfMonitor pass.new self.now }
+        ensures enters { ReceiveEnds (pass_sight pass.old) (pass_sight pass.new) (mine_of pass.old) (mine_of pass.new) result }
         ensures seen { seen_of pass.new ≡ seen_of pass.old }
         ensures conditions { cond_seats_of pass.new ≡ cond_seats_of pass.old }
-        ensures steps { By_steps (mutex_limits self.now) (λ x. Answered.Got x) Call.Receive (pass_sight pass.old) (pass_sight pass.new) result }
+        ensures steps { BySteps (mutex_limits self.now) (λ x. Answered.Got x) Call.Receive (pass_sight pass.old) (pass_sight pass.new) result }
     {
         let received = self.mutex.try_receive(&mut pass.seat)?;
         let how = match received {

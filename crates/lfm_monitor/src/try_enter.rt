@@ -1,9 +1,9 @@
 //! The call that comes to hold without queueing. A hold that begins is written down.
 ghost use Rattle.lfm_protocol.specs.declared.answers.Answer.TheVariants as Answered;
 ghost use Rattle.lfm_protocol.specs.declared.answers.Call.{Call};
-ghost use Rattle.lfm_monitor.specs.Belongs.{Of_monitor, cond_seats_of, mine_of, mutex_limits, pass_sight, seen_of, share_of};
-ghost use Rattle.lfm_monitor.specs.Passes.{Try_ends};
-ghost use Rattle.lfm_monitor.specs.Steps.{By_steps};
+ghost use Rattle.lfm_monitor.specs.Belongs.{OfMonitor, cond_seats_of, mine_of, mutex_limits, pass_sight, seen_of, share_of};
+ghost use Rattle.lfm_monitor.specs.Passes.{TryEnds};
+ghost use Rattle.lfm_monitor.specs.Steps.{BySteps};
 ghost use Rattle.std.specs.Prelude.{◌≡◌};
 
 use crate::monitor::Monitor;
@@ -17,12 +17,12 @@ impl<O: Object> Monitor<O> {
     /// Refuses, in this order: Asleep, DepthFull (the pass holds at depth 65,535), Spent (it doesn't hold, and has no take or
     /// no entry left) and Busy (as `try_lock` of the mutex). It never waits, takes no memory and wakes nobody.
     pub fn try_enter(&self, pass: &mut Pass<O>) -> Result<Locked, Refusal>
-        requires belongs { Of_monitor pass.old self.now }
-        ensures belongs { Of_monitor pass.new self.now }
-        ensures enters { Try_ends (share_of self.now) (pass_sight pass.old) (pass_sight pass.new) (mine_of pass.old) (mine_of pass.new) result }
+        requires belongs { OfMonitor pass.old self.now }
+        ensures belongs { OfMonitor pass.new self.now }
+        ensures enters { TryEnds (share_of self.now) (pass_sight pass.old) (pass_sight pass.new) (mine_of pass.old) (mine_of pass.new) result }
         ensures seen { seen_of pass.new ≡ seen_of pass.old }
         ensures conditions { cond_seats_of pass.new ≡ cond_seats_of pass.old }
-        ensures steps { By_steps (mutex_limits self.now) (λ x. Answered.Locked x) Call.TryLock (pass_sight pass.old) (pass_sight pass.new) result }
+        ensures steps { BySteps (mutex_limits self.now) (λ x. Answered.Locked x) Call.TryLock (pass_sight pass.old) (pass_sight pass.new) result }
     {
         if pass.lacks_entry(self.share) {
             return Err(Refusal::Spent);

@@ -1,7 +1,7 @@
 //! How a pass waits on a condition: it leaves, sleeps until it is sent, and comes in again, which is written down.
-ghost use Rattle.lfm_monitor.specs.Belongs.{Of_monitor, cond_seats_of, conditions_of, mine_of, mutex_limits, pass_sight, passes_of, seen_of, share_of};
+ghost use Rattle.lfm_monitor.specs.Belongs.{OfMonitor, cond_seats_of, conditions_of, mine_of, mutex_limits, pass_sight, passes_of, seen_of, share_of};
 ghost use Rattle.lfm_monitor.specs.CondSeats.{condition_limits};
-ghost use Rattle.lfm_monitor.specs.Conditions.{May_wait, Wait_ends, Wait_refused, Wait_returns};
+ghost use Rattle.lfm_monitor.specs.Conditions.{MayWait, WaitEnds, WaitRefused, WaitReturns};
 ghost use Rattle.lfm_mutex.specs.Belongs.{budget_of};
 ghost use Rattle.lfm_mutex.specs.calls.Sight.{sight};
 ghost use Rattle.std.specs.Prelude.{◌≡◌, MatchOption};
@@ -16,7 +16,7 @@ impl<O: Object> Pass<O> {
     // Why the pass can't wait on any condition, if it can't.
     fn bars_wait(&self, share: u64) -> Option<Refusal>
         requires { budget_of self.now.seat ≡ share }
-        ensures { MatchOption result (May_wait share (sight self.now.seat) self.now.mine) (λ r. Wait_refused share (sight self.now.seat) self.now.mine r) }
+        ensures { MatchOption result (MayWait share (sight self.now.seat) self.now.mine) (λ r. WaitRefused share (sight self.now.seat) self.now.mine r) }
     {
         if self.seat.asleep() {
             return Some(Refusal::Asleep);
@@ -53,10 +53,10 @@ impl<O: Object> Monitor<O> {
         pass: &mut Pass<O>,
         condition: u64,
     ) -> Result<(How, u64), Refusal>
-        requires belongs { Of_monitor pass.old self.now }
-        ensures belongs { Of_monitor pass.new self.now }
-        ensures waits { Wait_ends (mutex_limits self.now) (condition_limits (passes_of self.now)) (share_of self.now) (conditions_of self.now) condition (cond_seats_of pass.old) (cond_seats_of pass.new) (pass_sight pass.old) (pass_sight pass.new) (mine_of pass.old) result }
-        ensures returns { Wait_returns (pass_sight pass.old) (pass_sight pass.new) (seen_of pass.old) (seen_of pass.new) (mine_of pass.old) (mine_of pass.new) result }
+        requires belongs { OfMonitor pass.old self.now }
+        ensures belongs { OfMonitor pass.new self.now }
+        ensures waits { WaitEnds (mutex_limits self.now) (condition_limits (passes_of self.now)) (share_of self.now) (conditions_of self.now) condition (cond_seats_of pass.old) (cond_seats_of pass.new) (pass_sight pass.old) (pass_sight pass.new) (mine_of pass.old) result }
+        ensures returns { WaitReturns (pass_sight pass.old) (pass_sight pass.new) (seen_of pass.old) (seen_of pass.new) (mine_of pass.old) (mine_of pass.new) result }
     {
         if let Some(refusal) = pass.bars_wait(self.share) {
             return Err(refusal);

@@ -1,7 +1,7 @@
 //! How a pass wakes those that wait on a condition.
-ghost use Rattle.lfm_monitor.specs.Belongs.{Of_monitor, cond_seats_of, conditions_of, mine_of, pass_sight, passes_of, seen_of};
+ghost use Rattle.lfm_monitor.specs.Belongs.{OfMonitor, cond_seats_of, conditions_of, mine_of, pass_sight, passes_of, seen_of};
 ghost use Rattle.lfm_monitor.specs.CondSeats.{condition_limits};
-ghost use Rattle.lfm_monitor.specs.Conditions.{Only_sends, Wake_all_ends, Wake_one_ends};
+ghost use Rattle.lfm_monitor.specs.Conditions.{OnlySends, WakeAllEnds, WakeOneEnds};
 ghost use Rattle.std.specs.Prelude.{◌≡◌};
 
 use crate::monitor::Monitor;
@@ -26,10 +26,10 @@ impl<O: Object> Monitor<O> {
         pass: &mut Pass<O>,
         condition: u64,
     ) -> Result<Option<(SeatNo, u64)>, Refusal>
-        requires belongs { Of_monitor pass.old self.now }
-        ensures belongs { Of_monitor pass.new self.now }
-        ensures wakes { Wake_one_ends (passes_of self.now) (condition_limits (passes_of self.now)) (conditions_of self.now) condition (cond_seats_of pass.old) (cond_seats_of pass.new) (pass_sight pass.old) (pass_sight pass.new) result }
-        ensures sends { Only_sends (pass_sight pass.old) (pass_sight pass.new) }
+        requires belongs { OfMonitor pass.old self.now }
+        ensures belongs { OfMonitor pass.new self.now }
+        ensures wakes { WakeOneEnds (passes_of self.now) (condition_limits (passes_of self.now)) (conditions_of self.now) condition (cond_seats_of pass.old) (cond_seats_of pass.new) (pass_sight pass.old) (pass_sight pass.new) result }
+        ensures sends { OnlySends (pass_sight pass.old) (pass_sight pass.new) }
         ensures same { (seen_of pass.new ≡ seen_of pass.old) × (mine_of pass.new ≡ mine_of pass.old) }
     {
         if pass.seat.asleep() {
@@ -56,10 +56,10 @@ impl<O: Object> Monitor<O> {
         pass: &mut Pass<O>,
         condition: u64,
     ) -> Result<u64, Refusal>
-        requires belongs { Of_monitor pass.old self.now }
-        ensures belongs { Of_monitor pass.new self.now }
-        ensures wakes { Wake_all_ends (passes_of self.now) (condition_limits (passes_of self.now)) (conditions_of self.now) condition (cond_seats_of pass.old) (cond_seats_of pass.new) (pass_sight pass.old) (pass_sight pass.new) result }
-        ensures sends { Only_sends (pass_sight pass.old) (pass_sight pass.new) }
+        requires belongs { OfMonitor pass.old self.now }
+        ensures belongs { OfMonitor pass.new self.now }
+        ensures wakes { WakeAllEnds (passes_of self.now) (condition_limits (passes_of self.now)) (conditions_of self.now) condition (cond_seats_of pass.old) (cond_seats_of pass.new) (pass_sight pass.old) (pass_sight pass.new) result }
+        ensures sends { OnlySends (pass_sight pass.old) (pass_sight pass.new) }
         ensures same { (seen_of pass.new ≡ seen_of pass.old) × (mine_of pass.new ≡ mine_of pass.old) }
     {
         if pass.seat.asleep() {

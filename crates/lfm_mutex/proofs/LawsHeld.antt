@@ -5,11 +5,11 @@ use Rattle.lfm_core.specs.steady.Steady.{Steady}
 use Rattle.lfm_core.proofs.lawful.states.StateLaws.{states_are_lawful, handoffs_are_watched, quiescent_states_rest, takes_find_a_record}
 use Rattle.lfm_table.specs.declared.rule.Moving.{Moving}
 use Rattle.lfm_table.specs.declared.seat_view.View.{View}
-use Rattle.lfm_mutex.specs.Laws.{Is_core, TablesAreSteady, PostsAreWatched, QuietTablesRest, TakesFindARecord}
+use Rattle.lfm_mutex.specs.Laws.{IsCore, TablesAreSteady, PostsAreWatched, QuietTablesRest, TakesFindARecord}
 use Rattle.lfm_table.specs.Rule.{Held}
 
 module _ {T : Type 0} (follows : ℕ → T → T → Type 0) (fits : T → ℕ → Type 0) where
-  pub core_of : (s : State (Option (Moving T)) (View T)) (h : Held follows fits s) → Is_core s h.core
+  pub core_of : (s : State (Option (Moving T)) (View T)) (h : Held follows fits s) → IsCore s h.core
   core_of s h = record { words_are = h.words_are; seats_are = λ j v at. (h.each j v at).standing }
 
   pub steady_of : (s : State (Option (Moving T)) (View T)) (h : Held follows fits s) → Steady h.core

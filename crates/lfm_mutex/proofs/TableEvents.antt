@@ -14,10 +14,10 @@ use Rattle.lfm_core.proofs.table.Settled.{settles_keeps, settles_narrow}
 use Rattle.lfm_mutex.proofs.LawsHeld.{core_of}
 use Rattle.lfm_table.proofs.tables.SettledKept.{settles_of}
 use Rattle.lfm_table.proofs.tables.RuleKept.{length_at}
-use Rattle.lfm_mutex.specs.TableEvents.{Is_event, TablesStepAsTheCore}
+use Rattle.lfm_mutex.specs.TableEvents.{IsEvent, TablesStepAsTheCore}
 
 event_of : (c : Core) (g : Ghost) (s : ℕ) (p : SeatState) → IsSeat c.seats s → Fits c g → AreNarrow c.seats → Settles (seat c.seats s) (limits c) p
-    → Is_event c s p (found_at c s p)
+    → IsEvent c s p (found_at c s p)
 event_of c g s p is fits narrow settles =
     let put_fits = settles_keeps c g s p is fits settles in
     let put_narrow = narrow_with c.seats s p is (settles_narrow (seat c.seats s) (limits c) p settles (narrow s)) narrow in

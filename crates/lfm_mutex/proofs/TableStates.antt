@@ -6,7 +6,7 @@ use Rattle.atomic_table.specs.Table.{State}
 use Rattle.lfm_protocol.specs.declared.points.Point.TheVariants.{Rest}
 use Rattle.lfm_protocol.specs.declared.seats.SeatState.{SeatState}
 use Rattle.lfm_protocol.specs.Seats.{seat}
-use Rattle.lfm_core.specs.steady.Outcome.{abstract}
+use Rattle.lfm_core.specs.steady.EventOutcome.{abstract}
 use Rattle.lfm_core.proofs.lawful.read.Readings.{reads_ghost}
 use Rattle.lfm_core.proofs.steady.frames.Entries.{seat_zero}
 use Rattle.lfm_core.proofs.table.Values.{carried_by_none, tells_value}
@@ -22,8 +22,8 @@ module _ {T : Type 0} (follows : ℕ → T → T → Type 0) (fits : T → ℕ �
   abbrev St : Type 0
   St = State (Option (Moving T)) (View T)
 
-  abbrev Is_resting : SeatState → Type 0
-  Is_resting x = (x.point ≡ Rest) × (x.depth ≡ 0)
+  abbrev IsResting : SeatState → Type 0
+  IsResting x = (x.point ≡ Rest) × (x.depth ≡ 0)
 
   pub tables_stand : TablesStand follows fits
   tables_stand s h =
@@ -41,13 +41,13 @@ module _ {T : Type 0} (follows : ℕ → T → T → Type 0) (fits : T → ℕ �
         },
       )
 
-  all_rest : (s : St) (h : Held follows fits s) → ((j : ℕ) (v : View T) → get_elem? s.views j ≡ some v → Is_resting v.standing) → (t : ℕ) → Is_resting (seat h.core.seats t)
-  all_rest s h rests zero = subst Is_resting (sym (seat_zero h.core.seats)) (refl, refl)
+  all_rest : (s : St) (h : Held follows fits s) → ((j : ℕ) (v : View T) → get_elem? s.views j ≡ some v → IsResting v.standing) → (t : ℕ) → IsResting (seat h.core.seats t)
+  all_rest s h rests zero = subst IsResting (sym (seat_zero h.core.seats)) (refl, refl)
   all_rest s h rests (suc j) =
       let next : suc j ≡ j + 1 = omega arith in
-      subst (λ (n : ℕ). Is_resting (seat h.core.seats n)) (sym next) (⊎_elim
-      (λ (z : (x : View T) × (get_elem? s.views j ≡ some x)). subst Is_resting (sym (h.each j z.0 z.1).standing) (rests j z.0 z.1))
-      (λ far. subst Is_resting (sym (h.later j far)) (refl, refl)) (there_or_past s.views j))
+      subst (λ (n : ℕ). IsResting (seat h.core.seats n)) (sym next) (⊎_elim
+      (λ (z : (x : View T) × (get_elem? s.views j ≡ some x)). subst IsResting (sym (h.each j z.0 z.1).standing) (rests j z.0 z.1))
+      (λ far. subst IsResting (sym (h.later j far)) (refl, refl)) (there_or_past s.views j))
 
   pub resting_tables_are_free : RestingTablesAreFree follows fits
   resting_tables_are_free s h rests = (h.core, core_of follows fits s h, free_core h.core h.ghost_state h.fits (all_rest s h rests))

@@ -10,8 +10,8 @@ abbrev pub limits_of : {T : Type 0} → Mutex T → Limits
 limits_of m = m.limits
 
 -- the seat is one of the mutex's
-abbrev pub Of_mutex : {T : Type 0} → Seat T → Mutex T → Type 0
-Of_mutex s m = (s.place.table_id ≡ m.table.shared.table_id) × (s.limits ≡ m.limits)
+abbrev pub OfMutex : {T : Type 0} → Seat T → Mutex T → Type 0
+OfMutex s m = (s.place.table_id ≡ m.table.shared.table_id) × (s.limits ≡ m.limits)
 
 -- both are seats of one mutex
 abbrev pub Beside : {T : Type 0} → Seat T → Seat T → Type 0

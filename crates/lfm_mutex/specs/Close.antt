@@ -26,12 +26,12 @@ Hinders (Holding k) s = (s.number ≡ k) × (0 < s.depth)
 Hinders (Asleep k) s = (s.number ≡ k) × (s.depth ≡ 0) × (s.asleep ≡ true)
 
 module _ {A : Type 0} {T : Type 0} (look : A → Sight T) (seats : List A) where
-  abbrev pub None_has_held : Type 0
-  None_has_held = (i : ℕ) (s : A) → get_elem? seats i ≡ some s → (look s).found ≡ None
+  abbrev pub NoneHasHeld : Type 0
+  NoneHasHeld = (i : ℕ) (s : A) → get_elem? seats i ≡ some s → (look s).found ≡ None
 
   -- A seat that has held left this value last. Where none has, it is the opening value, which each seat has as its last.
-  abbrev pub Left_last : T → Type 0
-  Left_last v = (i : ℕ) × (s : A) × (get_elem? seats i ≡ some s) × ((look s).last ≡ Some v) × ((look s).found ≡ None → None_has_held)
+  abbrev pub LeftLast : T → Type 0
+  LeftLast v = (i : ℕ) × (s : A) × (get_elem? seats i ≡ some s) × ((look s).last ≡ Some v) × ((look s).found ≡ None → NoneHasHeld)
 
   abbrev pub Lacks : ℕ → Type 0
   Lacks k = (i : ℕ) (s : A) → get_elem? seats i ≡ some s → (look s).number ≢ k
@@ -49,19 +49,19 @@ module _ {A : Type 0} {T : Type 0} (look : A → Sight T) (seats : List A) where
   Hindered (Asleep k) = (i : ℕ) × (s : A) × (get_elem? seats i ≡ some s) × Hinders (Asleep k) (look s)
 
   -- the first of the seats 1 to n that is not back, holds or sleeps
-  abbrev pub First_missing : ℕ → Missing → Type 0
-  First_missing n m = (0 < named m) × (named m ≤ n) × Hindered m × ((k : ℕ) → 0 < k → k < named m → Stands k)
+  abbrev pub FirstMissing : ℕ → Missing → Type 0
+  FirstMissing n m = (0 < named m) × (named m ≤ n) × Hindered m × ((k : ℕ) → 0 < k → k < named m → Stands k)
 
-  abbrev pub All_stand : ℕ → Type 0
-  All_stand n = (k : ℕ) → 0 < k → k ≤ n → Stands k
+  abbrev pub AllStand : ℕ → Type 0
+  AllStand n = (k : ℕ) → 0 < k → k ≤ n → Stands k
 
 -- nobody counts, nothing is posted and nobody is queued
-pub record Is_free (c : Core) : Type 0 where
+pub record IsFree (c : Core) : Type 0 where
   pub count : c.count ≡ 0
   pub handoff : c.handoff ≡ unposted
   pub pushed : c.push.next ≡ 0
   pub popped : c.popped ≡ []
 
 -- these are the words of a mutex that is free
-abbrev pub Are_free : List ℕ → Type 0
-Are_free ws = (c : Core) × (ws ≡ words c) × Is_free c
+abbrev pub AreFree : List ℕ → Type 0
+AreFree ws = (c : Core) × (ws ≡ words c) × IsFree c

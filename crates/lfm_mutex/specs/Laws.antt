@@ -17,26 +17,26 @@ use Rattle.lfm_table.specs.declared.seat_view.View.{View}
 use Rattle.lfm_table.specs.Rule.{Held}
 
 -- the table's words are those of this state of the core, and each seat there has the data that its last step left
-pub record Is_core {T : Type 0} (s : State (Option (Moving T)) (View T)) (c : Core) : Type 0 where
+pub record IsCore {T : Type 0} (s : State (Option (Moving T)) (View T)) (c : Core) : Type 0 where
   pub words_are : s.words ≡ words c
   pub seats_are : (j : ℕ) (v : View T) → get_elem? s.views j ≡ some v → seat c.seats (j + 1) ≡ v.standing
 
 module _ {T : Type 0} (follows : ℕ → T → T → Type 0) (fits : T → ℕ → Type 0) where
   -- at every moment words and seats are a steady state of the core, so every law of the core holds of them
   abbrev pub TablesAreSteady : Type 0
-  TablesAreSteady = (s : State (Option (Moving T)) (View T)) → Held follows fits s → (c : Core) × Is_core s c × Steady c × Lawful c
+  TablesAreSteady = (s : State (Option (Moving T)) (View T)) → Held follows fits s → (c : Core) × IsCore s c × Steady c × Lawful c
 
   -- no posted handoff is left unwatched
   abbrev pub PostsAreWatched : Type 0
-  PostsAreWatched = (s : State (Option (Moving T)) (View T)) → Held follows fits s → (c : Core) × Is_core s c × Watched c
+  PostsAreWatched = (s : State (Option (Moving T)) (View T)) → Held follows fits s → (c : Core) × IsCore s c × Watched c
 
   -- while no call is open, nothing is posted, and where the count is above 0 a seat holds or a grant waits
   abbrev pub QuietTablesRest : Type 0
   QuietTablesRest =
-      (s : State (Option (Moving T)) (View T)) → Held follows fits s → (c : Core) × Is_core s c × (IsQuiet c → (c.handoff ≡ unposted) × (0 < c.count → IsHeld c ⊎ IsGranted c))
+      (s : State (Option (Moving T)) (View T)) → Held follows fits s → (c : Core) × IsCore s c × (IsQuiet c → (c.handoff ≡ unposted) × (0 < c.count → IsHeld c ⊎ IsGranted c))
 
   -- a call that won the exchange of a posted handoff finds a record when it clears the push list
   abbrev pub TakesFindARecord : Type 0
   TakesFindARecord =
       (s : State (Option (Moving T)) (View T)) → Held follows fits s
-      → (c : Core) × Is_core s c × ((k : ℕ) (carrier : Carrier) → (seat c.seats k).point ≡ TakeClearHead carrier → has_won carrier ≡ true → (0 < c.push.next) × (c.popped ≡ []))
+      → (c : Core) × IsCore s c × ((k : ℕ) (carrier : Carrier) → (seat c.seats k).point ≡ TakeClearHead carrier → has_won carrier ≡ true → (0 < c.push.next) × (c.popped ≡ []))

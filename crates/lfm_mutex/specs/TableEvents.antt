@@ -9,7 +9,7 @@ use Rattle.lfm_protocol.specs.Seats.{with_entry}
 use Rattle.lfm_protocol.specs.Step.{made}
 use Rattle.lfm_words.specs.Popped.{oldest}
 use Rattle.lfm_core.specs.table.Words.{words, index, written, stepped_by, popped_by_step}
-use Rattle.lfm_mutex.specs.Laws.{Is_core}
+use Rattle.lfm_mutex.specs.Laws.{IsCore}
 use Rattle.lfm_table.specs.declared.rule.Moving.{Moving}
 use Rattle.lfm_table.specs.declared.seat_view.View.{View}
 use Rattle.lfm_table.specs.Rule.{Held}
@@ -17,7 +17,7 @@ use Rattle.lfm_table.specs.Settled.{Became}
 
 -- seat k, having become p by begins, makes the core's step: one word, found to be n, becomes what p and n say, the seat, the pop
 -- list and the turn are those that the running seat makes of n
-pub record Is_event (c : Core) (k : ℕ) (p : SeatState) (n : ℕ) : Type 0 where
+pub record IsEvent (c : Core) (k : ℕ) (p : SeatState) (n : ℕ) : Type 0 where
   pub found : n ≡ slice_index (words c) (index p (length c.seats) k)
   pub words_are : words (made (put c k p) k).core ≡ set (words c) (index p (length c.seats) k) (written p k n)
   pub seats_are : (made (put c k p) k).core.seats ≡ with_entry c.seats k (stepped_by p k n (oldest c.popped)).seat
@@ -28,4 +28,4 @@ module _ {T : Type 0} (follows : ℕ → T → T → Type 0) (fits : T → ℕ �
   abbrev pub TablesStepAsTheCore : Type 0
   TablesStepAsTheCore =
       (s : State (Option (Moving T)) (View T)) (j : ℕ) (v : View T) (p : SeatState) → Held follows fits s → get_elem? s.views j ≡ some v
-      → Became v.standing v.limits p → (c : Core) × Is_core s c × ((n : ℕ) × Is_event c (j + 1) p n)
+      → Became v.standing v.limits p → (c : Core) × IsCore s c × ((n : ℕ) × IsEvent c (j + 1) p n)

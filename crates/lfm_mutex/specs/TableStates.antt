@@ -11,8 +11,8 @@ use Rattle.lfm_protocol.specs.Seats.{seat, absent}
 use Rattle.lfm_core.specs.laws.Reading.{Reads}
 use Rattle.lfm_core.specs.steady.Steady.{Steady}
 use Rattle.lfm_core.specs.table.Carried.{TellsValue, out_with}
-use Rattle.lfm_mutex.specs.Close.{Is_free}
-use Rattle.lfm_mutex.specs.Laws.{Is_core}
+use Rattle.lfm_mutex.specs.Close.{IsFree}
+use Rattle.lfm_mutex.specs.Laws.{IsCore}
 use Rattle.lfm_table.specs.declared.rule.Moving.{Moving}
 use Rattle.lfm_table.specs.declared.seat_view.View.{View}
 use Rattle.lfm_table.specs.Rule.{Held}
@@ -20,7 +20,7 @@ use Rattle.lfm_table.specs.Rule.{Held}
 -- the table is this state of the core, which reads as this abstract mutex, and the value is out with the one seat that owns or
 -- carries, and else at home, with the pop list
 pub record Stands {T : Type 0} (s : State (Option (Moving T)) (View T)) (c : Core) (a : AbstractMutex) : Type 0 where
-  pub core : Is_core s c
+  pub core : IsCore s c
   pub limits_are : (j : ℕ) (v : View T) → get_elem? s.views j ≡ some v → v.limits ≡ limits c
   pub not_yet : (j : ℕ) → length s.views ≤ j → seat c.seats (j + 1) ≡ absent
   pub steady : Steady c
@@ -36,4 +36,4 @@ module _ {T : Type 0} (follows : ℕ → T → T → Type 0) (fits : T → ℕ �
   abbrev pub RestingTablesAreFree : Type 0
   RestingTablesAreFree =
       (s : State (Option (Moving T)) (View T)) → Held follows fits s
-      → ((j : ℕ) (v : View T) → get_elem? s.views j ≡ some v → (v.standing.point ≡ Rest) × (v.standing.depth ≡ 0)) → (c : Core) × Is_core s c × Is_free c
+      → ((j : ℕ) (v : View T) → get_elem? s.views j ≡ some v → (v.standing.point ≡ Rest) × (v.standing.depth ≡ 0)) → (c : Core) × IsCore s c × IsFree c

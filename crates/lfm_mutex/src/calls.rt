@@ -6,10 +6,10 @@ ghost use Rattle.lfm_protocol.specs.declared.points.Point.TheVariants.{ReleaseOw
 ghost use Rattle.lfm_protocol.specs.declared.points.Releaser.{Releaser};
 ghost use Rattle.lfm_table.specs.Rule.{value_in, last_hold};
 ghost use Rattle.lfm_mutex.specs.calls.Runs.{nothing, errand, errand_of, is_releasing, is_release, release_steps, weight, Ends, Answers, Ran, Holds, how_held, opens};
-ghost use Rattle.lfm_mutex.specs.Belongs.{Beside, Of_mutex};
-ghost use Rattle.lfm_mutex.specs.calls.Trails.{Made, Makes_at_most};
-ghost use Rattle.lfm_mutex.specs.calls.Sight.{sight, is_asleep, Concludes, May_leave, Stays, Turned};
-ghost use Rattle.lfm_table.specs.Steps.{Leaves};
+ghost use Rattle.lfm_mutex.specs.Belongs.{Beside, OfMutex};
+ghost use Rattle.lfm_mutex.specs.calls.Trails.{Made, MakesAtMost};
+ghost use Rattle.lfm_mutex.specs.calls.Sight.{sight, is_asleep, Concludes, MayLeave, Stays, Turned};
+ghost use Rattle.lfm_table.specs.Steps.{MayBeLeft};
 
 use crate::mutex::Mutex;
 use crate::seat::Seat;
@@ -45,7 +45,7 @@ pub fn finish<T: Kept>(mutex: &Mutex<T>, seat: &mut Seat<T>) -> Turn
 /// Makes a call that releases nothing.
 #[inline(never)]
 pub fn run<T: Kept>(mutex: &Mutex<T>, seat: &mut Seat<T>, call: Call) -> Turn
-    requires belongs { Of_mutex seat.old mutex.now }
+    requires belongs { OfMutex seat.old mutex.now }
     requires keeps { is_releasing (errand_of call) ≡ false }
     ensures belongs { Beside seat.old seat.new }
     ensures answers { Answers (errand_of call) result }
@@ -61,14 +61,14 @@ pub fn run<T: Kept>(mutex: &Mutex<T>, seat: &mut Seat<T>, call: Call) -> Turn
 /// Makes a call that releases what is in hand.
 #[inline(never)]
 pub fn release<T: Kept>(mutex: &Mutex<T>, seat: &mut Seat<T>, call: Call) -> Turn
-    requires belongs { Of_mutex seat.old mutex.now }
+    requires belongs { OfMutex seat.old mutex.now }
     requires gives { is_releasing (errand_of call) ≡ true }
-    requires leaves { May_leave T.follows T.fits (sight seat.old) }
+    requires leaves { MayLeave T.follows T.fits (sight seat.old) }
     ensures belongs { Beside seat.old seat.new }
     ensures answers { Answers (errand_of call) result }
     ensures turned { Turned T.follows T.fits mutex.now.limits call (sight seat.old) (sight seat.new) result }
     ensures made { Made mutex.now.limits call (sight seat.old) (sight seat.new) result }
-    ensures bounded { Makes_at_most (release_steps mutex.now.limits.seats call) (sight seat.old) (sight seat.new) }
+    ensures bounded { MakesAtMost (release_steps mutex.now.limits.seats call) (sight seat.old) (sight seat.new) }
 {
     match begin_call(mutex, seat, call) {
         Turn::Open => finish_release(mutex, seat),
@@ -80,7 +80,7 @@ pub fn release<T: Kept>(mutex: &Mutex<T>, seat: &mut Seat<T>, call: Call) -> Tur
 fn finish_release<T: Kept>(mutex: &Mutex<T>, seat: &mut Seat<T>) -> Turn
     requires belongs { seat.old.place.table_id ≡ mutex.now.table.shared.table_id }
     requires gives { (r : Releaser) × (seat.old.standing.point ≡ ReleaseOwnerStore r) }
-    requires leaves { Leaves T.follows T.fits seat.old.moving seat.old.place.me.0 }
+    requires leaves { MayBeLeft T.follows T.fits seat.old.moving seat.old.place.me.0 }
     ensures belongs { seat.new.place.table_id ≡ seat.old.place.table_id }
     ensures same { (seat.new.number ≡ seat.old.number) × (seat.new.limits ≡ seat.old.limits) }
     ensures ends { Ends (errand seat.old.standing.point) result }

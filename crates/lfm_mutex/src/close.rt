@@ -5,8 +5,8 @@ ghost use lib.ListN.{get_elem?};
 ghost use Rattle.std.specs.Slots.{IsFull, slots_items, slots_len};
 ghost use Rattle.lfm_protocol.specs.declared.points.Point.TheVariants.{Rest};
 ghost use Rattle.lfm_table.specs.declared.seat_view.Role.TheVariants.{User};
-ghost use Rattle.lfm_mutex.specs.Belongs.{Of_mutex, limits_of};
-ghost use Rattle.lfm_mutex.specs.Close.{Are_free, Idle, Hinders, named, Lacks, Stands, Hindered, First_missing, All_stand, Left_last};
+ghost use Rattle.lfm_mutex.specs.Belongs.{OfMutex, limits_of};
+ghost use Rattle.lfm_mutex.specs.Close.{AreFree, Idle, Hinders, named, Lacks, Stands, Hindered, FirstMissing, AllStand, LeftLast};
 ghost use Rattle.lfm_table.specs.Reach.{Reached};
 ghost use Rattle.lfm_mutex.specs.calls.Sight.{sight};
 ghost use Rattle.lfm_table.specs.Rule.{with_joined};
@@ -112,7 +112,7 @@ fn retire<T: Kept, B: JoinedView<T>>(table: &SharedTable<T>, root: &mut Place<T>
 
 // Takes what lies in the slot of a table, which is closed while nobody counts, nothing is posted and nobody is queued.
 fn take_slot<T: Kept>(closed: Closed<Option<MovingBox<T>>, Global>) -> Option<MovingBox<T>>
-    requires free { Are_free (slots_items closed.words) }
+    requires free { AreFree (slots_items closed.words) }
     requires slot { (slots_len closed.slots ≡ 1) × IsFull closed.slots }
     ensures { get_elem? (slots_items closed.slots) 0 ≡ some result }
 {
@@ -125,7 +125,7 @@ fn take_slot<T: Kept>(closed: Closed<Option<MovingBox<T>>, Global>) -> Option<Mo
 impl<T: Kept> Mutex<T> {
     // The first thing that keeps the mutex from being closed.
     fn missing<P: Holder<T>>(&self, seats: &Vec<P>) -> Option<Missing>
-        ensures { MatchOption result (All_stand (λ p. sight (P.seat_of p)) seats.now.items (limits_of self.now).seats) (First_missing (λ p. sight (P.seat_of p)) seats.now.items (limits_of self.now).seats) }
+        ensures { MatchOption result (AllStand (λ p. sight (P.seat_of p)) seats.now.items (limits_of self.now).seats) (FirstMissing (λ p. sight (P.seat_of p)) seats.now.items (limits_of self.now).seats) }
     {
         for i in 0..self.limits.seats {
             if let Some(missing) = hinders_at::<T, P>(seats, i + 1) {
@@ -140,11 +140,11 @@ impl<T: Kept> Mutex<T> {
     /// Otherwise it hands back the mutex and the seats, and names the first seat that hinders it, and how. It compares
     /// each of the seats' numbers with each handed in, takes no memory and never waits.
     pub fn close<P: Holder<T>>(self, seats: Vec<P>) -> Result<T, (Mutex<T>, Vec<P>, Missing)>
-        requires belongs { (j : ℕ) (s : _) → get_elem? seats.items j ≡ some s → Of_mutex (P.seat_of s) self }
-        ensures missing { IfErr result (λ e. (e.0 ≡ self) × (e.1 ≡ seats) × First_missing (λ p. sight (P.seat_of p)) seats.items (limits_of self).seats e.2) }
-        ensures all { IfOk result (λ _. All_stand (λ p. sight (P.seat_of p)) seats.items (limits_of self).seats) }
+        requires belongs { (j : ℕ) (s : _) → get_elem? seats.items j ≡ some s → OfMutex (P.seat_of s) self }
+        ensures missing { IfErr result (λ e. (e.0 ≡ self) × (e.1 ≡ seats) × FirstMissing (λ p. sight (P.seat_of p)) seats.items (limits_of self).seats e.2) }
+        ensures all { IfOk result (λ _. AllStand (λ p. sight (P.seat_of p)) seats.items (limits_of self).seats) }
         ensures sized { IfOk result (λ _. vec_len seats ≡ (limits_of self).seats) }
-        ensures last { IfOk result (λ v. Left_last (λ p. sight (P.seat_of p)) seats.items v) }
+        ensures last { IfOk result (λ v. LeftLast (λ p. sight (P.seat_of p)) seats.items v) }
         ensures reached { IfOk result (λ v. (j : ℕ) (s : _) (l : T) → get_elem? seats.items j ≡ some s → (sight (P.seat_of s)).last ≡ Some l → Reached T.follows (sight (P.seat_of s)).number l v) }
     {
         if let Some(missing) = self.missing(&seats) {

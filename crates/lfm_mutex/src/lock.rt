@@ -9,11 +9,11 @@ ghost use Rattle.lfm_protocol.specs.declared.answers.Turn.TheVariants.{Ended};
 ghost use Rattle.lfm_protocol.specs.declared.points.Point.TheVariants.{Rest, LockOwnerLoad, EnterOwnerStore, PushLoad};
 ghost use Rattle.lfm_protocol.specs.declared.points.Entrant.{Entrant as EntrantNow};
 ghost use Rattle.lfm_protocol.specs.declared.points.Pusher.{Pusher as PusherNow};
-ghost use Rattle.lfm_mutex.specs.Belongs.{Beside, Of_mutex, limits_of};
+ghost use Rattle.lfm_mutex.specs.Belongs.{Beside, OfMutex, limits_of};
 ghost use Rattle.lfm_mutex.specs.calls.Runs.{errand, locking};
-ghost use Rattle.lfm_mutex.specs.calls.Sight.{sight, Asks, Locks_waiting};
-ghost use Rattle.lfm_mutex.specs.calls.Straight.{Course, Comes_to};
-ghost use Rattle.lfm_mutex.specs.calls.Trails.{Makes_call, Locks_by};
+ghost use Rattle.lfm_mutex.specs.calls.Sight.{sight, Asks, LocksWaiting};
+ghost use Rattle.lfm_mutex.specs.calls.Straight.{Course, ComesTo};
+ghost use Rattle.lfm_mutex.specs.calls.Trails.{MakesCall, LocksBy};
 
 use crate::calls::{asleep, finish, run};
 use crate::mutex::Mutex;
@@ -68,13 +68,13 @@ fn stand_pushing(standing: &mut SeatState)
 /// `ask` of a seat that is awake, doesn't hold, and has a take left.
 #[inline(always)]
 pub fn ask_free<T: Kept>(mutex: &Mutex<T>, seat: &mut Seat<T>, budget: u64) -> Asked
-    requires belongs { Of_mutex seat.old mutex.now }
+    requires belongs { OfMutex seat.old mutex.now }
     requires rests { seat.old.standing.point ≡ Rest }
     requires flat { seat.old.standing.depth ≡ 0 }
     requires budget { budget ≡ seat.old.limits.budget }
     requires charged { seat.old.standing.takes < budget }
     ensures belongs { Beside seat.old seat.new }
-    ensures made { Comes_to T.follows T.fits (limits_of mutex.now) CallNow.Lock (sight seat.old) (sight seat.new) (Ended (Answered.Asked result)) }
+    ensures made { ComesTo T.follows T.fits (limits_of mutex.now) CallNow.Lock (sight seat.old) (sight seat.new) (Ended (Answered.Asked result)) }
 {
     let _budget = budget;
     let table = &mutex.table.shared;
@@ -122,12 +122,12 @@ pub fn ask_free<T: Kept>(mutex: &Mutex<T>, seat: &mut Seat<T>, budget: u64) -> A
 /// `ask` of a seat that is awake and holds, below the greatest depth.
 #[inline(always)]
 pub fn ask_again<T: Kept>(mutex: &Mutex<T>, seat: &mut Seat<T>) -> Asked
-    requires belongs { Of_mutex seat.old mutex.now }
+    requires belongs { OfMutex seat.old mutex.now }
     requires rests { seat.old.standing.point ≡ Rest }
     requires held { 0 < seat.old.standing.depth }
     requires room { seat.old.standing.depth < 65535 }
     ensures belongs { Beside seat.old seat.new }
-    ensures made { Comes_to T.follows T.fits (limits_of mutex.now) CallNow.Lock (sight seat.old) (sight seat.new) (Ended (Answered.Asked result)) }
+    ensures made { ComesTo T.follows T.fits (limits_of mutex.now) CallNow.Lock (sight seat.old) (sight seat.new) (Ended (Answered.Asked result)) }
 {
     let table = &mutex.table.shared;
     let limits = seat.limits;
@@ -188,10 +188,10 @@ pub fn ask_again<T: Kept>(mutex: &Mutex<T>, seat: &mut Seat<T>) -> Asked
 /// `ask` by the generic run of its steps.
 #[inline(always)]
 fn ask_any<T: Kept>(mutex: &Mutex<T>, seat: &mut Seat<T>) -> Result<Asked, Refusal>
-    requires belongs { Of_mutex seat.old mutex.now }
+    requires belongs { OfMutex seat.old mutex.now }
     ensures belongs { Beside seat.old seat.new }
     ensures asks { Asks T.follows T.fits (limits_of mutex.now).budget (sight seat.old) (sight seat.new) result }
-    ensures steps { Makes_call (limits_of mutex.now) (λ x. Answered.Asked x) CallNow.Lock (sight seat.old) (sight seat.new) result }
+    ensures steps { MakesCall (limits_of mutex.now) (λ x. Answered.Asked x) CallNow.Lock (sight seat.old) (sight seat.new) result }
 {
     match run(mutex, seat, Call::Lock) {
         Turn::Ended(Answer::Asked(asked)) => Ok(asked),
@@ -211,10 +211,10 @@ impl<T: Kept> Mutex<T> {
     /// mutex and of OSv's lfmutex.
     #[inline(always)]
     pub fn ask(&self, seat: &mut Seat<T>) -> Result<Asked, Refusal>
-        requires belongs { Of_mutex seat.old self.now }
+        requires belongs { OfMutex seat.old self.now }
         ensures belongs { Beside seat.old seat.new }
         ensures asks { Asks T.follows T.fits (limits_of self.now).budget (sight seat.old) (sight seat.new) result }
-        ensures steps { Makes_call (limits_of self.now) (λ x. Answered.Asked x) CallNow.Lock (sight seat.old) (sight seat.new) result }
+        ensures steps { MakesCall (limits_of self.now) (λ x. Answered.Asked x) CallNow.Lock (sight seat.old) (sight seat.new) result }
     {
         if asleep(&seat.standing) {
             return ask_any(self, seat);
@@ -237,10 +237,10 @@ impl<T: Kept> Mutex<T> {
     /// Refuses as `ask`: Asleep, DepthFull, Spent, in this order. It may wake a seat, as `ask` may.
     #[inline(always)]
     pub fn lock<R: Wait>(&self, rt: &R, seat: &mut Seat<T>) -> Result<Locked, Refusal>
-        requires belongs { Of_mutex seat.old self.now }
+        requires belongs { OfMutex seat.old self.now }
         ensures belongs { Beside seat.old seat.new }
-        ensures locks { Locks_waiting T.follows T.fits (limits_of self.now).budget (sight seat.old) (sight seat.new) result }
-        ensures steps { Locks_by (limits_of self.now) (sight seat.old) (sight seat.new) result }
+        ensures locks { LocksWaiting T.follows T.fits (limits_of self.now).budget (sight seat.old) (sight seat.new) result }
+        ensures steps { LocksBy (limits_of self.now) (sight seat.old) (sight seat.new) result }
     {
         match self.ask(seat)? {
             Asked::Held(how) => Ok(Locked::Held(how)),

@@ -5,12 +5,12 @@ use atomic_table::Table;
 use lfm_protocol::Limits;
 use lfm_table::Kept;
 use lfm_table::moving_box::MovingBox;
-use lfm_table::rule::{Key, Lawful};
+use lfm_table::rule::{Key, MutexRule};
 use lfm_table::seat_view::View;
 use std::alloc::Global;
 
 /// The words of a mutex, with the rule that they and its seats keep.
-pub(crate) type WordTable<T> = Table<Option<MovingBox<T>>, View<T>, Key<T>, Lawful, Global>;
+pub(crate) type WordTable<T> = Table<Option<MovingBox<T>>, View<T>, Key<T>, MutexRule, Global>;
 
 /// A mutex round a value of type T: at most one seat at a time holds it, and reaches the value. Its calls are made through a
 /// shared reference and one of its seats. A call with the seat of another mutex breaks the condition that every call has.

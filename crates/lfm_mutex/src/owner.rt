@@ -1,7 +1,7 @@
 //! The call that tells which seat owns the mutex.
 ghost use Rattle.std.specs.Prelude.{◌≡◌};
-ghost use Rattle.lfm_mutex.specs.Belongs.{Beside, Of_mutex};
-ghost use Rattle.lfm_mutex.specs.calls.Sight.{sight, Looks_at_owner};
+ghost use Rattle.lfm_mutex.specs.Belongs.{Beside, OfMutex};
+ghost use Rattle.lfm_mutex.specs.calls.Sight.{sight, LooksAtOwner};
 
 use crate::mutex::Mutex;
 use crate::seat::Seat;
@@ -14,9 +14,9 @@ impl<T: Kept> Mutex<T> {
     /// number exactly where the caller holds the mutex; another seat's number may be out of date when it is read.
     /// It refuses nothing, also for a seat that sleeps or is in a call, and never waits.
     pub fn owner(&self, seat: &mut Seat<T>) -> Option<SeatNo>
-        requires belongs { Of_mutex seat.old self.now }
+        requires belongs { OfMutex seat.old self.now }
         ensures belongs { Beside seat.old seat.new }
-        ensures looks { Looks_at_owner (sight seat.old) (sight seat.new) result }
+        ensures looks { LooksAtOwner (sight seat.old) (sight seat.new) result }
     {
         let found = self.table.shared.load::<OwnerLook>(&mut seat.place, 1);
         SeatNo::new(found)

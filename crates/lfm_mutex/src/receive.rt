@@ -1,9 +1,9 @@
 //! The calls of a seat that sleeps: `try_receive` looks once whether it was granted the mutex, and `receive_lock` waits for it.
 //! Nothing is held while a seat waits, and how often it looks before it sleeps is bounded.
 ghost use Rattle.std.specs.Prelude.{◌<◌};
-ghost use Rattle.lfm_mutex.specs.Belongs.{Beside, Of_mutex, limits_of};
-ghost use Rattle.lfm_mutex.specs.calls.Sight.{sight, Receives_lock, Receives};
-ghost use Rattle.lfm_mutex.specs.calls.Trails.{Receives_by, Makes_call};
+ghost use Rattle.lfm_mutex.specs.Belongs.{Beside, OfMutex, limits_of};
+ghost use Rattle.lfm_mutex.specs.calls.Sight.{sight, ReceivesLock, Receives};
+ghost use Rattle.lfm_mutex.specs.calls.Trails.{ReceivesBy, MakesCall};
 ghost use Rattle.lfm_protocol.specs.declared.answers.Answer.TheVariants as Answered;
 ghost use Rattle.lfm_protocol.specs.declared.answers.Call.{Call as CallNow};
 
@@ -29,10 +29,10 @@ impl<T: Kept> Mutex<T> {
     ///
     /// Refuses with NotWaiting where the seat doesn't sleep, or a call of it is open.
     pub fn receive_lock<R: Wait>(&self, rt: &R, seat: &mut Seat<T>) -> Result<How, Refusal>
-        requires belongs { Of_mutex seat.old self.now }
+        requires belongs { OfMutex seat.old self.now }
         ensures belongs { Beside seat.old seat.new }
-        ensures receives { Receives_lock T.follows T.fits (sight seat.old) (sight seat.new) result }
-        ensures steps { Receives_by (limits_of self.now) (sight seat.old) (sight seat.new) result }
+        ensures receives { ReceivesLock T.follows T.fits (sight seat.old) (sight seat.new) result }
+        ensures steps { ReceivesBy (limits_of self.now) (sight seat.old) (sight seat.new) result }
     {
         self.receive_lock_within(rt, seat, LOOKS_BEFORE_SLEEP)
     }
@@ -46,10 +46,10 @@ impl<T: Kept> Mutex<T> {
         seat: &mut Seat<T>,
         looks: u32,
     ) -> Result<How, Refusal>
-        requires belongs { Of_mutex seat.old self.now }
+        requires belongs { OfMutex seat.old self.now }
         ensures belongs { Beside seat.old seat.new }
-        ensures receives { Receives_lock T.follows T.fits (sight seat.old) (sight seat.new) result }
-        ensures steps { Receives_by (limits_of self.now) (sight seat.old) (sight seat.new) result }
+        ensures receives { ReceivesLock T.follows T.fits (sight seat.old) (sight seat.new) result }
+        ensures steps { ReceivesBy (limits_of self.now) (sight seat.old) (sight seat.new) result }
     {
         let wake = 3 + seat.limits.seats as usize + seat.number as usize;
         let mut left = looks;
@@ -84,10 +84,10 @@ impl<T: Kept> Mutex<T> {
     ///
     /// Refuses with NotWaiting where the seat doesn't sleep, or a call of it is open. It never waits.
     pub fn try_receive(&self, seat: &mut Seat<T>) -> Result<Option<How>, Refusal>
-        requires belongs { Of_mutex seat.old self.now }
+        requires belongs { OfMutex seat.old self.now }
         ensures belongs { Beside seat.old seat.new }
         ensures receives { Receives T.follows T.fits (sight seat.old) (sight seat.new) result }
-        ensures steps { Makes_call (limits_of self.now) (λ x. Answered.Got x) CallNow.Receive (sight seat.old) (sight seat.new) result }
+        ensures steps { MakesCall (limits_of self.now) (λ x. Answered.Got x) CallNow.Receive (sight seat.old) (sight seat.new) result }
     {
         match run(self, seat, Call::Receive) {
             Turn::Ended(Answer::Got(got)) => Ok(got),

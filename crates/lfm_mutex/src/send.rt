@@ -1,8 +1,8 @@
 //! `send_lock`: a seat that waits is made a locker, on its behalf.
 ghost use Rattle.lfm_protocol.specs.declared.answers.Answer.TheVariants as Answered;
 ghost use Rattle.lfm_protocol.specs.declared.answers.Call.{Call as CallNow};
-ghost use Rattle.lfm_mutex.specs.Belongs.{Beside, Of_mutex, limits_of};
-ghost use Rattle.lfm_mutex.specs.calls.Trails.{Makes_call};
+ghost use Rattle.lfm_mutex.specs.Belongs.{Beside, OfMutex, limits_of};
+ghost use Rattle.lfm_mutex.specs.calls.Trails.{MakesCall};
 ghost use Rattle.lfm_mutex.specs.calls.Sight.{sight, Sends};
 
 use crate::calls::run;
@@ -19,10 +19,10 @@ impl<T: Kept> Mutex<T> {
     /// Refuses, in this order: Asleep, NoSuchSeat (the target is above the mutex's seats), NotWaiting (the target
     /// doesn't wait, or was sent before). It never waits, and wakes the seat that it grants the mutex, if any.
     pub fn send_lock(&self, seat: &mut Seat<T>, target: SeatNo) -> Result<(), Refusal>
-        requires belongs { Of_mutex seat.old self.now }
+        requires belongs { OfMutex seat.old self.now }
         ensures belongs { Beside seat.old seat.new }
         ensures sends { Sends (limits_of self.now).seats (sight seat.old) target (sight seat.new) result }
-        ensures steps { Makes_call (limits_of self.now) (λ x. Answered.Sent) (CallNow.SendLock target) (sight seat.old) (sight seat.new) result }
+        ensures steps { MakesCall (limits_of self.now) (λ x. Answered.Sent) (CallNow.SendLock target) (sight seat.old) (sight seat.new) result }
     {
         match run(self, seat, Call::SendLock(target.get())) {
             Turn::Ended(Answer::Sent) => Ok(()),

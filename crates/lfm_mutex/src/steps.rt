@@ -5,11 +5,11 @@ ghost use Rattle.lfm_protocol.specs.declared.points.Point.TheVariants.{ReleaseOw
 ghost use Rattle.lfm_protocol.specs.declared.points.Releaser.{Releaser};
 ghost use Rattle.lfm_protocol.specs.Begin.{begin};
 ghost use Rattle.lfm_protocol.specs.Points.{kind};
-ghost use Rattle.lfm_mutex.specs.Belongs.{Beside, Of_mutex, limits_of, state_of};
+ghost use Rattle.lfm_mutex.specs.Belongs.{Beside, OfMutex, limits_of, state_of};
 ghost use Rattle.lfm_mutex.specs.calls.Runs.{is_release};
-ghost use Rattle.lfm_mutex.specs.calls.SeatSteps.{Begins, Steps_on};
-ghost use Rattle.lfm_mutex.specs.calls.Sight.{sight, May_leave};
-ghost use Rattle.lfm_table.specs.Steps.{Leaves, Goes_on};
+ghost use Rattle.lfm_mutex.specs.calls.SeatSteps.{Begins, StepsOn};
+ghost use Rattle.lfm_mutex.specs.calls.Sight.{sight, MayLeave};
+ghost use Rattle.lfm_table.specs.Steps.{MayBeLeft, StepLeadsTo};
 
 use crate::mutex::Mutex;
 use crate::seat::Seat;
@@ -30,7 +30,7 @@ pub use crate::steps::kinds::{
 /// what the core's `begin` answers for these data of the seat: Open where steps follow, the answer where none does, the
 /// refusal, or InCall where a call of the seat is open. It touches no word and never waits.
 pub fn start<T: Kept>(mutex: &Mutex<T>, seat: &mut Seat<T>, call: Call) -> Turn
-    requires belongs { Of_mutex seat.old mutex.now }
+    requires belongs { OfMutex seat.old mutex.now }
     ensures belongs { Beside seat.old seat.new }
     ensures begins { Begins (limits_of mutex.now) call (state_of seat.old) (sight seat.old) result (state_of seat.new) (sight seat.new) }
 {
@@ -43,10 +43,10 @@ pub fn start<T: Kept>(mutex: &Mutex<T>, seat: &mut Seat<T>, call: Call) -> Turn
 ///
 /// It never waits, and wakes the seat whose grant it stores.
 pub fn next<T: Kept>(mutex: &Mutex<T>, seat: &mut Seat<T>) -> Turn
-    requires belongs { Of_mutex seat.old mutex.now }
-    requires leaves { is_release (state_of seat.old).point ≡ true → May_leave T.follows T.fits (sight seat.old) }
+    requires belongs { OfMutex seat.old mutex.now }
+    requires leaves { is_release (state_of seat.old).point ≡ true → MayLeave T.follows T.fits (sight seat.old) }
     ensures belongs { Beside seat.old seat.new }
-    ensures steps { Steps_on T.follows T.fits (kind (state_of seat.old).point) (state_of seat.old) (sight seat.old) result (state_of seat.new) (sight seat.new) }
+    ensures steps { StepsOn T.follows T.fits (kind (state_of seat.old).point) (state_of seat.old) (sight seat.old) result (state_of seat.new) (sight seat.new) }
 {
     match seat.standing.point.kind() {
         None => Turn::Refused(Why::Idle),
@@ -84,10 +84,10 @@ pub(crate) fn begin_call<T: Kept>(mutex: &Mutex<T>, seat: &mut Seat<T>, call: Ca
 /// `next`, with all that the proofs of the calls need of it.
 pub(crate) fn make_next<T: Kept>(mutex: &Mutex<T>, seat: &mut Seat<T>) -> Turn
     requires belongs { seat.old.place.table_id ≡ mutex.now.table.shared.table_id }
-    requires leaves { (r : Releaser) → seat.old.standing.point ≡ ReleaseOwnerStore r → Leaves T.follows T.fits seat.old.moving seat.old.place.me.0 }
+    requires leaves { (r : Releaser) → seat.old.standing.point ≡ ReleaseOwnerStore r → MayBeLeft T.follows T.fits seat.old.moving seat.old.place.me.0 }
     ensures belongs { seat.new.place.table_id ≡ seat.old.place.table_id }
     ensures same { (seat.new.number ≡ seat.old.number) × (seat.new.limits ≡ seat.old.limits) }
-    ensures event { Goes_on (kind seat.old.standing.point) T.follows T.fits seat.old.standing seat.old.moving seat.old.place.me result seat.new.standing seat.new.moving seat.new.place.me }
+    ensures event { StepLeadsTo (kind seat.old.standing.point) T.follows T.fits seat.old.standing seat.old.moving seat.old.place.me result seat.new.standing seat.new.moving seat.new.place.me }
 {
     match seat.standing.point.kind() {
         None => Turn::Refused(Why::Idle),

@@ -6,12 +6,12 @@ ghost use Rattle.lfm_protocol.specs.declared.answers.Call.{Call as CallNow};
 ghost use Rattle.lfm_protocol.specs.declared.points.Entrant.{Entrant as EntrantNow};
 ghost use Rattle.lfm_protocol.specs.declared.points.Point.TheVariants.{Rest, TryHandoffLoad, EnterOwnerStore};
 ghost use Rattle.lfm_core.specs.table.Words.{stepped_by};
-ghost use Rattle.lfm_mutex.specs.Belongs.{Beside, Of_mutex, limits_of};
+ghost use Rattle.lfm_mutex.specs.Belongs.{Beside, OfMutex, limits_of};
 ghost use Rattle.lfm_mutex.specs.calls.Runs.{errand, trying, Ends};
 ghost use Rattle.lfm_mutex.specs.calls.Sight.{sight, Locks};
-ghost use Rattle.lfm_mutex.specs.calls.Straight.{Course, Comes_to, try_turn};
+ghost use Rattle.lfm_mutex.specs.calls.Straight.{Course, ComesTo, try_turn};
 ghost use Rattle.lfm_protocol.specs.declared.answers.Answer.TheVariants as Answered;
-ghost use Rattle.lfm_mutex.specs.calls.Trails.{Makes_call};
+ghost use Rattle.lfm_mutex.specs.calls.Trails.{MakesCall};
 
 use crate::calls::{asleep, finish, run};
 use crate::mutex::Mutex;
@@ -76,13 +76,13 @@ pub fn try_free<T: Kept>(
     seat: &mut Seat<T>,
     budget: u64,
 ) -> Result<Locked, Refusal>
-    requires belongs { Of_mutex seat.old mutex.now }
+    requires belongs { OfMutex seat.old mutex.now }
     requires rests { seat.old.standing.point ≡ Rest }
     requires flat { seat.old.standing.depth ≡ 0 }
     requires budget { budget ≡ seat.old.limits.budget }
     requires charged { seat.old.standing.takes < budget }
     ensures belongs { Beside seat.old seat.new }
-    ensures made { Comes_to T.follows T.fits (limits_of mutex.now) CallNow.TryLock (sight seat.old) (sight seat.new) (try_turn result) }
+    ensures made { ComesTo T.follows T.fits (limits_of mutex.now) CallNow.TryLock (sight seat.old) (sight seat.new) (try_turn result) }
 {
     let _budget = budget;
     let table = &mutex.table.shared;
@@ -155,12 +155,12 @@ pub fn try_free<T: Kept>(
 /// `try_lock` of a seat that is awake and holds, below the greatest depth.
 #[inline(always)]
 pub fn try_again<T: Kept>(mutex: &Mutex<T>, seat: &mut Seat<T>) -> Result<Locked, Refusal>
-    requires belongs { Of_mutex seat.old mutex.now }
+    requires belongs { OfMutex seat.old mutex.now }
     requires rests { seat.old.standing.point ≡ Rest }
     requires held { 0 < seat.old.standing.depth }
     requires room { seat.old.standing.depth < 65535 }
     ensures belongs { Beside seat.old seat.new }
-    ensures made { Comes_to T.follows T.fits (limits_of mutex.now) CallNow.TryLock (sight seat.old) (sight seat.new) (try_turn result) }
+    ensures made { ComesTo T.follows T.fits (limits_of mutex.now) CallNow.TryLock (sight seat.old) (sight seat.new) (try_turn result) }
 {
     let table = &mutex.table.shared;
     let limits = seat.limits;
@@ -207,10 +207,10 @@ pub fn try_again<T: Kept>(mutex: &Mutex<T>, seat: &mut Seat<T>) -> Result<Locked
 /// `try_lock` by the generic run of its steps.
 #[inline(always)]
 fn try_lock_any<T: Kept>(mutex: &Mutex<T>, seat: &mut Seat<T>) -> Result<Locked, Refusal>
-    requires belongs { Of_mutex seat.old mutex.now }
+    requires belongs { OfMutex seat.old mutex.now }
     ensures belongs { Beside seat.old seat.new }
     ensures locks { Locks T.follows T.fits (limits_of mutex.now).budget (sight seat.old) (sight seat.new) result }
-    ensures steps { Makes_call (limits_of mutex.now) (λ x. Answered.Locked x) CallNow.TryLock (sight seat.old) (sight seat.new) result }
+    ensures steps { MakesCall (limits_of mutex.now) (λ x. Answered.Locked x) CallNow.TryLock (sight seat.old) (sight seat.new) result }
 {
     match run(mutex, seat, Call::TryLock) {
         Turn::Ended(Answer::Locked(locked)) => Ok(locked),
@@ -229,10 +229,10 @@ impl<T: Kept> Mutex<T> {
     /// never waits and wakes nobody. As `trylock` of OSv's lfmutex.
     #[inline(always)]
     pub fn try_lock(&self, seat: &mut Seat<T>) -> Result<Locked, Refusal>
-        requires belongs { Of_mutex seat.old self.now }
+        requires belongs { OfMutex seat.old self.now }
         ensures belongs { Beside seat.old seat.new }
         ensures locks { Locks T.follows T.fits (limits_of self.now).budget (sight seat.old) (sight seat.new) result }
-        ensures steps { Makes_call (limits_of self.now) (λ x. Answered.Locked x) CallNow.TryLock (sight seat.old) (sight seat.new) result }
+        ensures steps { MakesCall (limits_of self.now) (λ x. Answered.Locked x) CallNow.TryLock (sight seat.old) (sight seat.new) result }
     {
         if asleep(&seat.standing) {
             return try_lock_any(self, seat);

@@ -8,11 +8,11 @@ ghost use Rattle.lfm_protocol.specs.declared.points.Point.TheVariants.{Rest, Rel
 ghost use Rattle.lfm_protocol.specs.declared.points.Releaser.TheVariants.{Unlocker as UnlockerNow};
 ghost use Rattle.lfm_core.specs.table.Words.{stepped_by};
 ghost use Rattle.lfm_table.specs.Steps.{oldest_in};
-ghost use Rattle.lfm_mutex.specs.Belongs.{Beside, Of_mutex, limits_of};
+ghost use Rattle.lfm_mutex.specs.Belongs.{Beside, OfMutex, limits_of};
 ghost use Rattle.lfm_mutex.specs.calls.Runs.{errand, is_release, releasing, weight};
-ghost use Rattle.lfm_mutex.specs.calls.Sight.{sight, May_leave, Unlocks};
-ghost use Rattle.lfm_mutex.specs.calls.Straight.{Course, Comes_to};
-ghost use Rattle.lfm_mutex.specs.calls.Trails.{Makes_at_most, Makes_call};
+ghost use Rattle.lfm_mutex.specs.calls.Sight.{sight, MayLeave, Unlocks};
+ghost use Rattle.lfm_mutex.specs.calls.Straight.{Course, ComesTo};
+ghost use Rattle.lfm_mutex.specs.calls.Trails.{MakesAtMost, MakesCall};
 
 use crate::calls::{asleep, finish, release};
 use crate::mutex::Mutex;
@@ -61,13 +61,13 @@ fn stand_carrying<T: Kept>(
 /// `unlock` of a seat that is awake and holds once.
 #[inline(always)]
 pub fn unlock_last<T: Kept>(mutex: &Mutex<T>, seat: &mut Seat<T>) -> Unlocked
-    requires belongs { Of_mutex seat.old mutex.now }
+    requires belongs { OfMutex seat.old mutex.now }
     requires rests { seat.old.standing.point ≡ Rest }
     requires one { seat.old.standing.depth ≡ 1 }
-    requires leaves { May_leave T.follows T.fits (sight seat.old) }
+    requires leaves { MayLeave T.follows T.fits (sight seat.old) }
     ensures belongs { Beside seat.old seat.new }
-    ensures made { Comes_to T.follows T.fits (limits_of mutex.now) CallNow.Unlock (sight seat.old) (sight seat.new) (Ended (Answered.Unlocked result)) }
-    ensures bounded { Makes_at_most ((limits_of mutex.now).seats + 7) (sight seat.old) (sight seat.new) }
+    ensures made { ComesTo T.follows T.fits (limits_of mutex.now) CallNow.Unlock (sight seat.old) (sight seat.new) (Ended (Answered.Unlocked result)) }
+    ensures bounded { MakesAtMost ((limits_of mutex.now).seats + 7) (sight seat.old) (sight seat.new) }
 {
     let table = &mutex.table.shared;
     let limits = seat.limits;
@@ -114,12 +114,12 @@ pub fn unlock_last<T: Kept>(mutex: &Mutex<T>, seat: &mut Seat<T>) -> Unlocked
 /// `unlock` of a seat that is awake and holds more than once.
 #[inline(always)]
 pub fn unlock_once<T: Kept>(mutex: &Mutex<T>, seat: &mut Seat<T>) -> Unlocked
-    requires belongs { Of_mutex seat.old mutex.now }
+    requires belongs { OfMutex seat.old mutex.now }
     requires rests { seat.old.standing.point ≡ Rest }
     requires deep { 1 < seat.old.standing.depth }
     ensures belongs { Beside seat.old seat.new }
-    ensures made { Comes_to T.follows T.fits (limits_of mutex.now) CallNow.Unlock (sight seat.old) (sight seat.new) (Ended (Answered.Unlocked result)) }
-    ensures bounded { Makes_at_most ((limits_of mutex.now).seats + 7) (sight seat.old) (sight seat.new) }
+    ensures made { ComesTo T.follows T.fits (limits_of mutex.now) CallNow.Unlock (sight seat.old) (sight seat.new) (Ended (Answered.Unlocked result)) }
+    ensures bounded { MakesAtMost ((limits_of mutex.now).seats + 7) (sight seat.old) (sight seat.new) }
 {
     let _mutex = mutex;
     seat.standing.depth -= 1;
@@ -129,12 +129,12 @@ pub fn unlock_once<T: Kept>(mutex: &Mutex<T>, seat: &mut Seat<T>) -> Unlocked
 /// `unlock` by the generic run of its steps.
 #[inline(always)]
 fn unlock_any<T: Kept>(mutex: &Mutex<T>, seat: &mut Seat<T>) -> Result<Unlocked, Refusal>
-    requires belongs { Of_mutex seat.old mutex.now }
-    requires leaves { May_leave T.follows T.fits (sight seat.old) }
+    requires belongs { OfMutex seat.old mutex.now }
+    requires leaves { MayLeave T.follows T.fits (sight seat.old) }
     ensures belongs { Beside seat.old seat.new }
     ensures unlocks { Unlocks (sight seat.old) (sight seat.new) result }
-    ensures steps { Makes_call (limits_of mutex.now) (λ x. Answered.Unlocked x) CallNow.Unlock (sight seat.old) (sight seat.new) result }
-    ensures bounded { Makes_at_most ((limits_of mutex.now).seats + 7) (sight seat.old) (sight seat.new) }
+    ensures steps { MakesCall (limits_of mutex.now) (λ x. Answered.Unlocked x) CallNow.Unlock (sight seat.old) (sight seat.new) result }
+    ensures bounded { MakesAtMost ((limits_of mutex.now).seats + 7) (sight seat.old) (sight seat.new) }
 {
     match release(mutex, seat, Call::Unlock) {
         Turn::Ended(Answer::Unlocked(unlocked)) => Ok(unlocked),
@@ -153,12 +153,12 @@ impl<T: Kept> Mutex<T> {
     /// of LFthreads' mutex and of OSv's lfmutex.
     #[inline(always)]
     pub fn unlock(&self, seat: &mut Seat<T>) -> Result<Unlocked, Refusal>
-        requires belongs { Of_mutex seat.old self.now }
-        requires leaves { May_leave T.follows T.fits (sight seat.old) }
+        requires belongs { OfMutex seat.old self.now }
+        requires leaves { MayLeave T.follows T.fits (sight seat.old) }
         ensures belongs { Beside seat.old seat.new }
         ensures unlocks { Unlocks (sight seat.old) (sight seat.new) result }
-        ensures steps { Makes_call (limits_of self.now) (λ x. Answered.Unlocked x) CallNow.Unlock (sight seat.old) (sight seat.new) result }
-        ensures bounded { Makes_at_most ((limits_of self.now).seats + 7) (sight seat.old) (sight seat.new) }
+        ensures steps { MakesCall (limits_of self.now) (λ x. Answered.Unlocked x) CallNow.Unlock (sight seat.old) (sight seat.new) result }
+        ensures bounded { MakesAtMost ((limits_of self.now).seats + 7) (sight seat.old) (sight seat.new) }
     {
         if asleep(&seat.standing) {
             return unlock_any(self, seat);

@@ -2,9 +2,9 @@
 ghost use Rattle.std.specs.Prelude.{◌+◌};
 ghost use Rattle.lfm_protocol.specs.declared.answers.Answer.TheVariants as Answered;
 ghost use Rattle.lfm_protocol.specs.declared.answers.Call.{Call as CallNow};
-ghost use Rattle.lfm_mutex.specs.Belongs.{Beside, Of_mutex, limits_of};
-ghost use Rattle.lfm_mutex.specs.calls.Trails.{Makes_call, Makes_at_most};
-ghost use Rattle.lfm_mutex.specs.calls.Sight.{sight, May_leave, Waits};
+ghost use Rattle.lfm_mutex.specs.Belongs.{Beside, OfMutex, limits_of};
+ghost use Rattle.lfm_mutex.specs.calls.Trails.{MakesCall, MakesAtMost};
+ghost use Rattle.lfm_mutex.specs.calls.Sight.{sight, MayLeave, StartsWait};
 
 use crate::calls::release;
 use crate::mutex::Mutex;
@@ -21,12 +21,12 @@ impl<T: Kept> Mutex<T> {
     /// never waits: a receive does. Whatever others do, it makes at most 8 atomic steps more than the mutex has seats. As
     /// the first half of `wait` of OSv's condition variable.
     pub fn start_wait(&self, seat: &mut Seat<T>) -> Result<Unlocked, Refusal>
-        requires belongs { Of_mutex seat.old self.now }
-        requires leaves { May_leave T.follows T.fits (sight seat.old) }
+        requires belongs { OfMutex seat.old self.now }
+        requires leaves { MayLeave T.follows T.fits (sight seat.old) }
         ensures belongs { Beside seat.old seat.new }
-        ensures waits { Waits (limits_of self.now).budget (sight seat.old) (sight seat.new) result }
-        ensures steps { Makes_call (limits_of self.now) (λ x. Answered.Waiting x) CallNow.StartWait (sight seat.old) (sight seat.new) result }
-        ensures bounded { Makes_at_most ((limits_of self.now).seats + 8) (sight seat.old) (sight seat.new) }
+        ensures waits { StartsWait (limits_of self.now).budget (sight seat.old) (sight seat.new) result }
+        ensures steps { MakesCall (limits_of self.now) (λ x. Answered.Waiting x) CallNow.StartWait (sight seat.old) (sight seat.new) result }
+        ensures bounded { MakesAtMost ((limits_of self.now).seats + 8) (sight seat.old) (sight seat.new) }
     {
         match release(self, seat, Call::StartWait) {
             Turn::Ended(Answer::Waiting(released)) => Ok(released),

@@ -10,10 +10,10 @@ use Rattle.lfm_mutex.specs.Close.{Idle}
 use Rattle.lfm_monitor.specs.declared.monitor.Monitor.{Monitor}
 use Rattle.lfm_monitor.specs.declared.pass.Pass.{Pass}
 use Rattle.lfm_monitor.specs.Belongs.{mine_of, pass_sight, share_of}
-use Rattle.lfm_monitor.specs.Passes.{Apply_ends, Enter_ends}
+use Rattle.lfm_monitor.specs.Passes.{ApplyEnds, EnterEnds}
 use Rattle.lfm_script.specs.declared.script.Command.TheVariants.{Add}
-use Rattle.lfm_program.specs.Causes.{Has_cause}
-use Rattle.lfm_program.specs.Performs.{Holds_once}
+use Rattle.lfm_program.specs.Causes.{HasCause}
+use Rattle.lfm_program.specs.Performs.{HoldsOnce}
 
 -- the refusal that `?` passes on has the same cause
 pub passed_on : (P : Refusal → Type 0) (r : Refusal) (x : Result ⊤ Refusal) → P r → IsErrAnd x (λ y. y ≡ r) → IfErr x P
@@ -22,7 +22,7 @@ passed_on P r (Err y) p e = subst P (sym e) p
 
 module _ {R : Type 0} {K : _} where
   pub not_entered_to_add : (m : Monitor Total TotalOp R K) (p q : Pass Total TotalOp R K) (k : ℕ) (r : Refusal) → Idle (pass_sight p)
-      → Enter_ends (share_of m) (pass_sight p) (pass_sight q) (mine_of p) (mine_of q) (Err r) → Has_cause (Add k) m q r
+      → EnterEnds (share_of m) (pass_sight p) (pass_sight q) (mine_of p) (mine_of q) (Err r) → HasCause (Add k) m q r
   not_entered_to_add m p q k Spent idle e =
       ⊎_elim (λ l. inl (let a = e.2 in omega arith)) (λ l. inr (let a = ap (λ u. u.takes) e.1 in omega arith)) e.0.2
   not_entered_to_add m p q k Asleep idle e = absurd (true≢false (sym e.0 ∙ idle.1))
@@ -35,8 +35,8 @@ module _ {R : Type 0} {K : _} where
 
 module _ {R : Type 0} {K : _} (after : Total → TotalOp → Total) (reply : Total → TotalOp → R) where
   -- the pass has left the monitor since
-  pub not_added : (m : Monitor Total TotalOp R K) (p q v : Pass Total TotalOp R K) (op : TotalOp) (k : ℕ) (r : Refusal) → Holds_once (pass_sight p)
-      → Apply_ends after reply (share_of m) op (pass_sight p) (pass_sight q) (mine_of p) (mine_of q) (Err r) → mine_of v ≡ mine_of q → Has_cause (Add k) m v r
+  pub not_added : (m : Monitor Total TotalOp R K) (p q v : Pass Total TotalOp R K) (op : TotalOp) (k : ℕ) (r : Refusal) → HoldsOnce (pass_sight p)
+      → ApplyEnds after reply (share_of m) op (pass_sight p) (pass_sight q) (mine_of p) (mine_of q) (Err r) → mine_of v ≡ mine_of q → HasCause (Add k) m v r
   not_added m p q v op k Spent h e mine = inl (let a = e.2 in let b = e.4 in omega arith)
   not_added m p q v op k Asleep h e mine = absurd (true≢false (sym e.0 ∙ h.awake))
   not_added m p q v op k NotOwner h e mine = absurd (let a = h.depth in let b = e.1 in omega arith)

@@ -19,11 +19,11 @@ use Rattle.lfm_model.proofs.JournalLists.{own-append}
 use Rattle.lfm_mutex.specs.Close.{Idle}
 use Rattle.lfm_mutex.specs.calls.Sight.{Sight}
 use Rattle.lfm_monitor.specs.declared.journaled.Journaled.{Journaled}
-use Rattle.lfm_monitor.specs.Conditions.{Only_sends, Wait_returns}
-use Rattle.lfm_monitor.specs.Passes.{journal_of, journal_at, found_or, Enters, Comes_in, Enter_ends, Applies, Apply_ends, Leave_ends}
+use Rattle.lfm_monitor.specs.Conditions.{OnlySends, WaitReturns}
+use Rattle.lfm_monitor.specs.Passes.{journal_of, journal_at, found_or, Enters, ComesIn, EnterEnds, Applies, ApplyEnds, LeaveEnds}
 use Rattle.lfm_script.specs.declared.script.Command.{Command}
 use Rattle.lfm_script.specs.Adds.{added, adds, all_adds, command_adds}
-use Rattle.lfm_program.specs.Performs.{Command_ends, Holds_once, own_adds}
+use Rattle.lfm_program.specs.Performs.{CommandEnds, HoldsOnce, own_adds}
 
 adds-append : (xs ys : List (Entry TotalOp)) → adds (xs ++ ys) ≡ adds xs ++ adds ys
 adds-append [] ys = refl
@@ -52,7 +52,7 @@ module _ {R : Type 0} {K : _} where
   }
 
   -- a refusal of a command, by a pass that has added nothing
-  pub failed : (m : Command) (s t : Sight (Journaled Total TotalOp R K)) (r : Result ⊤ Refusal) → IsErr r → Goes s t [] → Command_ends m s t r
+  pub failed : (m : Command) (s t : Sight (Journaled Total TotalOp R K)) (r : Result ⊤ Refusal) → IsErr r → Goes s t [] → CommandEnds m s t r
   failed m s t (Ok u) e g = absurd (true≢false (sym e))
   failed m s t (Err r) e g = g.adds_are ∙ append-nil (own_adds s)
 
@@ -64,14 +64,14 @@ module _ {R : Type 0} {K : _} where
         ∙ (ap adds (own-append s.number (journal_of s) e.0 ∙ (ap (λ x. own s.number (journal_of s) ++ x) e.1 ∙ append-nil (own s.number (journal_of s)))) ∙ sym (append-nil (own_adds s)))));
   }
 
-  pub entered : (share : ℕ) (s t : Sight (Journaled Total TotalOp R K)) (m m' : ℕ) (x : Locked) → Idle s → Enter_ends share s t m m' (Ok x) → Goes s t [] × Holds_once t
-  entered share s t m m' (Held how) idle e = let c : Comes_in how s t m m' = e.2 in let n : Enters how s t = c.6 in (comes how s t n c.2, record { depth = c.1; awake = c.3 })
+  pub entered : (share : ℕ) (s t : Sight (Journaled Total TotalOp R K)) (m m' : ℕ) (x : Locked) → Idle s → EnterEnds share s t m m' (Ok x) → Goes s t [] × HoldsOnce t
+  entered share s t m m' (Held how) idle e = let c : ComesIn how s t m m' = e.2 in let n : Enters how s t = c.6 in (comes how s t n c.2, record { depth = c.1; awake = c.3 })
   entered share s t m m' (Again d) idle e = absurd (let a = idle.0 in let b = e.1 in omega arith)
 
-  pub not_entered : (share : ℕ) (s t : Sight (Journaled Total TotalOp R K)) (m m' : ℕ) (r : Refusal) → Enter_ends share s t m m' (Err r) → t ≡ s
+  pub not_entered : (share : ℕ) (s t : Sight (Journaled Total TotalOp R K)) (m m' : ℕ) (r : Refusal) → EnterEnds share s t m m' (Err r) → t ≡ s
   not_entered share s t m m' r e = e.1
 
-  pub left : (s t : Sight (Journaled Total TotalOp R K)) (n n' : ℕ) (r : Result Unlocked Refusal) → Holds_once s → Leave_ends s t n n' r → Goes s t [] × Idle t
+  pub left : (s t : Sight (Journaled Total TotalOp R K)) (n n' : ℕ) (r : Result Unlocked Refusal) → HoldsOnce s → LeaveEnds s t n n' r → Goes s t [] × Idle t
   left s t n n' (Ok Free) h e = (record { number = e.3; adds_are = (λ i. adds (own (e.3 i) (e.7 i))) ∙ sym (append-nil (own_adds s)) }, (e.2, e.5))
   left s t n n' (Ok (Granted k)) h e = (record { number = e.3; adds_are = (λ i. adds (own (e.3 i) (e.7 i))) ∙ sym (append-nil (own_adds s)) }, (e.2, e.5))
   left s t n n' (Ok Posted) h e = (record { number = e.3; adds_are = (λ i. adds (own (e.3 i) (e.7 i))) ∙ sym (append-nil (own_adds s)) }, (e.2, e.5))
@@ -86,26 +86,26 @@ module _ {R : Type 0} {K : _} where
   left s t n n' (Err NotWaiting) h e = absurd e
   left s t n n' (Err Busy) h e = absurd e
 
-  pub waited : (s t : Sight (Journaled Total TotalOp R K)) (n n' m m' : ℕ) (r : How × ℕ) → Wait_returns s t n n' m m' (Ok r) → Goes s t [] × Holds_once t
+  pub waited : (s t : Sight (Journaled Total TotalOp R K)) (n n' m m' : ℕ) (r : How × ℕ) → WaitReturns s t n n' m m' (Ok r) → Goes s t [] × HoldsOnce t
   waited s t n n' m m' r e = let b : Enters r.0 s t = e.8 in (comes r.0 s t b e.2, record { depth = e.3; awake = e.4 })
 
-  pub not_waited : (s t : Sight (Journaled Total TotalOp R K)) (n n' m m' : ℕ) (r : Refusal) → Wait_returns s t n n' m m' (Err r) → t ≡ s
+  pub not_waited : (s t : Sight (Journaled Total TotalOp R K)) (n n' m m' : ℕ) (r : Refusal) → WaitReturns s t n n' m m' (Err r) → t ≡ s
   not_waited s t n n' m m' r e = e.0
 
   -- a wake adds nothing
-  pub woke : (s t : Sight (Journaled Total TotalOp R K)) → Only_sends s t → Goes s t []
+  pub woke : (s t : Sight (Journaled Total TotalOp R K)) → OnlySends s t → Goes s t []
   woke s t e = record { number = ap (λ u. u.number) e; adds_are = ap own_adds e ∙ sym (append-nil (own_adds s)) }
 
-  pub still_idle : (s t : Sight (Journaled Total TotalOp R K)) → Only_sends s t → Idle s → Idle t
+  pub still_idle : (s t : Sight (Journaled Total TotalOp R K)) → OnlySends s t → Idle s → Idle t
   still_idle s t e idle = (ap (λ u. u.depth) e ∙ idle.0, ap (λ u. u.asleep) e ∙ idle.1)
 
   -- a command that adds nothing
-  pub added_nothing : (m : Command) (s t : Sight (Journaled Total TotalOp R K)) (r : Result ⊤ Refusal) → command_adds m ≡ [] → Goes s t [] → Command_ends m s t r
+  pub added_nothing : (m : Command) (s t : Sight (Journaled Total TotalOp R K)) (r : Result ⊤ Refusal) → command_adds m ≡ [] → Goes s t [] → CommandEnds m s t r
   added_nothing m s t (Ok u) none g = g.adds_are ∙ ap (λ ks. own_adds s ++ ks) (sym none)
   added_nothing m s t (Err r) none g = g.adds_are ∙ append-nil (own_adds s)
 
 module _ {R : Type 0} {K : _} (after : Total → TotalOp → Total) (reply : Total → TotalOp → R) where
-  pub applied : (share : ℕ) (op : TotalOp) (s t : Sight (Journaled Total TotalOp R K)) (m m' : ℕ) (r : R) → Holds_once s → Apply_ends after reply share op s t m m' (Ok r) → Goes s t (added (Did op)) × Holds_once t
+  pub applied : (share : ℕ) (op : TotalOp) (s t : Sight (Journaled Total TotalOp R K)) (m m' : ℕ) (r : R) → HoldsOnce s → ApplyEnds after reply share op s t m m' (Ok r) → Goes s t (added (Did op)) × HoldsOnce t
   applied share op s t m m' r h e = let a : Applies after reply op s t r = e.2 in (
     record {
       number = ap (λ u. u.number) a.3;
@@ -114,7 +114,7 @@ module _ {R : Type 0} {K : _} (after : Total → TotalOp → Total) (reply : Tot
     record { depth = ap (λ u. u.depth) a.3 ∙ h.depth; awake = ap (λ u. u.asleep) a.3 ∙ h.awake },
   )
 
-  pub not_applied : (share : ℕ) (op : TotalOp) (s t : Sight (Journaled Total TotalOp R K)) (m m' : ℕ) (r : Refusal) → Apply_ends after reply share op s t m m' (Err r) → t ≡ s
+  pub not_applied : (share : ℕ) (op : TotalOp) (s t : Sight (Journaled Total TotalOp R K)) (m m' : ℕ) (r : Refusal) → ApplyEnds after reply share op s t m m' (Err r) → t ≡ s
   not_applied share op s t m m' Asleep e = e.1
   not_applied share op s t m m' NotOwner e = e.2
   not_applied share op s t m m' Spent e = e.3

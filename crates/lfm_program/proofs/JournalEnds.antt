@@ -10,7 +10,7 @@ use Rattle.lfm_model.specs.declared.refusals.Missing.TheVariants.{NotBack, Holdi
 use Rattle.lfm_model.specs.declared.journals.Entry.{Entry}
 use Rattle.lfm_model.specs.Journals.{own, Within, sum_to, total}
 use Rattle.lfm_model.proofs.Sums.{one_at, one_same, one_other, sum_add, sum_ext, sum_none}
-use Rattle.lfm_mutex.specs.Close.{First_missing, Hinders, Idle}
+use Rattle.lfm_mutex.specs.Close.{FirstMissing, Hinders, Idle}
 use Rattle.lfm_mutex.specs.calls.Sight.{Sight}
 
 one_past : (k n : ℕ) → n < k → sum_to (one_at k) n ≡ 0
@@ -65,7 +65,7 @@ at_place (x ∷ xs) (suc i) h = at_place xs i (omega arith)
 
 -- a seat for each number, none of which holds or sleeps: nothing is missing
 pub none_missing : {A T : Type 0} (look : A → Sight T) (xs : List A) (n : ℕ) (m : Missing) → length xs ≡ n
-    → ((j : ℕ) (x : A) → get_elem? xs j ≡ some x → Idle (look x) × ((look x).number ≡ j + 1)) → First_missing look xs n m → ⊥
+    → ((j : ℕ) (x : A) → get_elem? xs j ≡ some x → Idle (look x) × ((look x).number ≡ j + 1)) → FirstMissing look xs n m → ⊥
 none_missing look xs n (NotBack k) long each e =
     let there = at_place xs (k - 1) (let a = e.0 in let b = e.1 in omega arith) in
     e.2 (k - 1) there.0 there.1 (let a = (each (k - 1) there.0 there.1).1 in let b = e.0 in omega arith)

@@ -15,22 +15,22 @@ use Rattle.lfm_condvar.specs.declared.cond_seat.CondSeat.{CondSeat}
 use Rattle.lfm_condvar.specs.declared.waiters.Waiters.{Waiters}
 use Rattle.lfm_condvar.specs.Belongs.{cond_sight}
 use Rattle.lfm_condvar.specs.Lists.{times}
-use Rattle.lfm_condvar.specs.Waits.{Wait_ends as Cond_wait_ends}
-use Rattle.lfm_condvar.specs.Wakes.{Wake_all_ends as Cond_wake_all_ends, Wake_one_ends as Cond_wake_one_ends}
+use Rattle.lfm_condvar.specs.Waits.{WaitEnds as CondWaitEnds}
+use Rattle.lfm_condvar.specs.Wakes.{WakeAllEnds as CondWakeAllEnds, WakeOneEnds as CondWakeOneEnds}
 use Rattle.lfm_monitor.specs.declared.journaled.Journaled.{Journaled}
 use Rattle.lfm_monitor.specs.declared.monitor.Monitor.{Monitor}
 use Rattle.lfm_monitor.specs.declared.pass.Pass.{Pass}
 use Rattle.lfm_monitor.specs.Belongs.{cond_seats_of, conditions_of, mine_of, mutex_limits, pass_sight, passes_of, share_of}
 use Rattle.lfm_monitor.specs.CondSeats.{condition_limits}
-use Rattle.lfm_monitor.specs.Conditions.{Is_spent, On_condition, Wait_ends, Wake_all_ends, Wake_one_ends}
-use Rattle.lfm_monitor.specs.Journaled.{Fits, Follows}
-use Rattle.lfm_monitor.specs.Passes.{Leave_ends}
+use Rattle.lfm_monitor.specs.Conditions.{IsSpent, OnCondition, WaitEnds, WakeAllEnds, WakeOneEnds}
+use Rattle.lfm_monitor.specs.Journaled.{JournalFits, JournalFollows}
+use Rattle.lfm_monitor.specs.Passes.{LeaveEnds}
 use Rattle.lfm_program.specs.declared.performed.Performed.TheVariants.{Refused}
 use Rattle.lfm_script.specs.declared.script.Command.{Command}
 use Rattle.lfm_script.specs.declared.script.Command.TheVariants.{Until}
 use Rattle.lfm_script.specs.Adds.{all_adds}
-use Rattle.lfm_program.specs.Causes.{At_condition, Found_listed, Found_not_waiting, Has_cause, Has_no_take, Refused_for_cause, Wake_has_cause}
-use Rattle.lfm_program.specs.Performs.{Holds_once, own_adds}
+use Rattle.lfm_program.specs.Causes.{AtCondition, FoundListed, FoundNotWaiting, HasCause, HasNoTake, RefusedForCause, WakeHasCause}
+use Rattle.lfm_program.specs.Performs.{HoldsOnce, own_adds}
 
 -- what was put at a place stands there
 stands_set : {A : Type 0} (xs : List A) (i : ℕ) (x y : A) → get_elem? xs i ≡ some y → get_elem? (set xs i x) i ≡ some x
@@ -39,8 +39,8 @@ stands_set (z ∷ xs) zero x y e = refl
 stands_set (z ∷ xs) (suc i) x y e = stands_set xs i x y e
 
 -- a cond seat that was used is as it was seen after that
-used_at : (condition : ℕ) (cs ds : List CondSeat) (used : Sight Waiters → Sight Waiters → Type 0) (so : Sight Waiters → Type 0) → On_condition condition cs ds used
-    → ((c d : Sight Waiters) → used c d → so d) → At_condition condition ds so
+used_at : (condition : ℕ) (cs ds : List CondSeat) (used : Sight Waiters → Sight Waiters → Type 0) (so : Sight Waiters → Type 0) → OnCondition condition cs ds used
+    → ((c d : Sight Waiters) → used c d → so d) → AtCondition condition ds so
 used_at condition cs ds used so e f = (
   e.0,
   e.2,
@@ -51,7 +51,7 @@ used_at condition cs ds used so e f = (
 
 module _ {R : Type 0} {K : _} where
   -- giving up a hold costs no take
-  pub takes_left : (s t : Sight (Journaled Total TotalOp R K)) (n n' : ℕ) (r : Result Unlocked Refusal) → Holds_once s → Leave_ends s t n n' r → t.takes ≡ s.takes
+  pub takes_left : (s t : Sight (Journaled Total TotalOp R K)) (n n' : ℕ) (r : Result Unlocked Refusal) → HoldsOnce s → LeaveEnds s t n n' r → t.takes ≡ s.takes
   takes_left s t n n' (Ok Free) h e = e.4
   takes_left s t n n' (Ok (Granted k)) h e = e.4
   takes_left s t n n' (Ok Posted) h e = e.4
@@ -67,17 +67,17 @@ module _ {R : Type 0} {K : _} where
   takes_left s t n n' (Err Busy) h e = absurd e
 
   -- a wait is refused to a pass that holds once, and which has an entry
-  pub not_waited_for : (m : Monitor Total TotalOp R K) (p q : Pass Total TotalOp R K) (condition k : ℕ) (r : Refusal) → Holds_once (pass_sight p)
-      → Wait_ends (mutex_limits m) (condition_limits (passes_of m)) (share_of m) (conditions_of m) condition (cond_seats_of p) (cond_seats_of q) (pass_sight p) (pass_sight q) (mine_of p) (Err r)
-      → mine_of q ≡ mine_of p → Has_cause (Until condition k) m q r
+  pub not_waited_for : (m : Monitor Total TotalOp R K) (p q : Pass Total TotalOp R K) (condition k : ℕ) (r : Refusal) → HoldsOnce (pass_sight p)
+      → WaitEnds (mutex_limits m) (condition_limits (passes_of m)) (share_of m) (conditions_of m) condition (cond_seats_of p) (cond_seats_of q) (pass_sight p) (pass_sight q) (mine_of p) (Err r)
+      → mine_of q ≡ mine_of p → HasCause (Until condition k) m q r
   not_waited_for m p q condition k Spent h e mine = ⊎_elim
       (λ w. inl (⊎_elim (λ l. inr (let a = ap (λ u. u.takes) e.1 in omega arith)) (λ l. inl (let a = mine in omega arith)) w.0.2))
-      (λ w. inr (used_at condition (cond_seats_of p) (cond_seats_of q) (Is_spent (condition_limits (passes_of m))) Has_no_take w.1 (λ c d u. let a = ap (λ (x : Sight Waiters). x.takes) u.1 in let b = u.0 in omega arith)))
+      (λ w. inr (used_at condition (cond_seats_of p) (cond_seats_of q) (IsSpent (condition_limits (passes_of m))) HasNoTake w.1 (λ c d u. let a = ap (λ (x : Sight Waiters). x.takes) u.1 in let b = u.0 in omega arith)))
       e.0
   not_waited_for m p q condition k NoSuchSeat h e mine = e.1
   not_waited_for m p q condition k Busy h e mine =
-      used_at condition (cond_seats_of p) (cond_seats_of q) (λ c d. Cond_wait_ends Follows Fits (mutex_limits m) (condition_limits (passes_of m)) c d (pass_sight p) (pass_sight q) (Err Busy))
-      (Found_listed (pass_sight q).number) e.1 (λ c d u. (
+      used_at condition (cond_seats_of p) (cond_seats_of q) (λ c d. CondWaitEnds JournalFollows JournalFits (mutex_limits m) (condition_limits (passes_of m)) c d (pass_sight p) (pass_sight q) (Err Busy))
+      (FoundListed (pass_sight q).number) e.1 (λ c d u. (
         u.0,
         u.2.found,
         let t_is : pass_sight q ≡ pass_sight p = u.3.4 in subst (λ (n : ℕ). 0 < times n u.0.list.items) (sym (ap (λ s. s.number) t_is)) u.3.2,
@@ -90,12 +90,12 @@ module _ {R : Type 0} {K : _} where
 
   -- it stays so when the pass leaves the monitor
   until_left : (m : Monitor Total TotalOp R K) (p q : Pass Total TotalOp R K) (condition k : ℕ) (r : Refusal) → (pass_sight q).number ≡ (pass_sight p).number
-      → (pass_sight q).takes ≡ (pass_sight p).takes → mine_of q ≡ mine_of p → cond_seats_of q ≡ cond_seats_of p → Has_cause (Until condition k) m p r → Has_cause (Until condition k) m q r
+      → (pass_sight q).takes ≡ (pass_sight p).takes → mine_of q ≡ mine_of p → cond_seats_of q ≡ cond_seats_of p → HasCause (Until condition k) m p r → HasCause (Until condition k) m q r
   until_left m p q condition k Spent number takes mine seats h =
-      ⊎_elim (λ u. inl (⊎_elim (λ l. inl (omega arith)) (λ l. inr (omega arith)) u)) (λ a. inr (subst (λ cs. At_condition condition cs Has_no_take) (sym seats) a)) h
+      ⊎_elim (λ u. inl (⊎_elim (λ l. inl (omega arith)) (λ l. inr (omega arith)) u)) (λ a. inr (subst (λ cs. AtCondition condition cs HasNoTake) (sym seats) a)) h
   until_left m p q condition k NoSuchSeat number takes mine seats h = h
   until_left m p q condition k Busy number takes mine seats h =
-      subst (λ cs. At_condition condition cs (Found_listed (pass_sight q).number)) (sym seats) (subst (λ (n : ℕ). At_condition condition (cond_seats_of p) (Found_listed n)) (sym number) h)
+      subst (λ cs. AtCondition condition cs (FoundListed (pass_sight q).number)) (sym seats) (subst (λ (n : ℕ). AtCondition condition (cond_seats_of p) (FoundListed n)) (sym number) h)
   until_left m p q condition k Asleep number takes mine seats h = absurd h
   until_left m p q condition k NotOwner number takes mine seats h = absurd h
   until_left m p q condition k Nested number takes mine seats h = absurd h
@@ -103,19 +103,19 @@ module _ {R : Type 0} {K : _} where
   until_left m p q condition k NotWaiting number takes mine seats h = absurd h
 
   pub cause_left : (m : Monitor Total TotalOp R K) (p q : Pass Total TotalOp R K) (condition k : ℕ) (r : Result ⊤ Refusal) → (pass_sight q).number ≡ (pass_sight p).number
-      → (pass_sight q).takes ≡ (pass_sight p).takes → mine_of q ≡ mine_of p → cond_seats_of q ≡ cond_seats_of p → IfErr r (λ x. Has_cause (Until condition k) m p x)
-      → IfErr r (λ x. Has_cause (Until condition k) m q x)
+      → (pass_sight q).takes ≡ (pass_sight p).takes → mine_of q ≡ mine_of p → cond_seats_of q ≡ cond_seats_of p → IfErr r (λ x. HasCause (Until condition k) m p x)
+      → IfErr r (λ x. HasCause (Until condition k) m q x)
   cause_left m p q condition k (Ok u) number takes mine seats h = tt
   cause_left m p q condition k (Err r) number takes mine seats h = until_left m p q condition k r number takes mine seats h
 
   -- a wake is refused to a pass that is awake
   pub not_woke_one : (m : Monitor Total TotalOp R K) (p q : Pass Total TotalOp R K) (condition : ℕ) (r : Refusal) → Idle (pass_sight p)
-      → Wake_one_ends (passes_of m) (condition_limits (passes_of m)) (conditions_of m) condition (cond_seats_of p) (cond_seats_of q) (pass_sight p) (pass_sight q) (Err r)
-      → Wake_has_cause condition m q r
+      → WakeOneEnds (passes_of m) (condition_limits (passes_of m)) (conditions_of m) condition (cond_seats_of p) (cond_seats_of q) (pass_sight p) (pass_sight q) (Err r)
+      → WakeHasCause condition m q r
   not_woke_one m p q condition NoSuchSeat idle e = e.0.1
   not_woke_one m p q condition Spent idle e =
-      used_at condition (cond_seats_of p) (cond_seats_of q) (λ c d. Cond_wake_one_ends (passes_of m) (condition_limits (passes_of m)) c d (pass_sight p) (pass_sight q) (Err Spent)) Has_no_take e (λ c d u. let a = ap (λ (x : Sight Waiters). x.takes) u.2 in let b = u.1 in omega arith)
-  not_woke_one m p q condition NotWaiting idle e = used_at condition (cond_seats_of p) (cond_seats_of q) (λ c d. Cond_wake_one_ends (passes_of m) (condition_limits (passes_of m)) c d (pass_sight p) (pass_sight q) (Err NotWaiting)) (Found_not_waiting (passes_of m) (pass_sight q)) e (λ c d u. let o = u.3.1 in (u.0, [], o.0, o.1, pass_sight p, u.2.found, o.2, o.3))
+      used_at condition (cond_seats_of p) (cond_seats_of q) (λ c d. CondWakeOneEnds (passes_of m) (condition_limits (passes_of m)) c d (pass_sight p) (pass_sight q) (Err Spent)) HasNoTake e (λ c d u. let a = ap (λ (x : Sight Waiters). x.takes) u.2 in let b = u.1 in omega arith)
+  not_woke_one m p q condition NotWaiting idle e = used_at condition (cond_seats_of p) (cond_seats_of q) (λ c d. CondWakeOneEnds (passes_of m) (condition_limits (passes_of m)) c d (pass_sight p) (pass_sight q) (Err NotWaiting)) (FoundNotWaiting (passes_of m) (pass_sight q)) e (λ c d u. let o = u.3.1 in (u.0, [], o.0, o.1, pass_sight p, u.2.found, o.2, o.3))
   not_woke_one m p q condition Asleep idle e = absurd (true≢false (sym e.0 ∙ idle.1))
   not_woke_one m p q condition NotOwner idle e = absurd e.6.3
   not_woke_one m p q condition Nested idle e = absurd e.6.3
@@ -123,12 +123,12 @@ module _ {R : Type 0} {K : _} where
   not_woke_one m p q condition Busy idle e = absurd e.6.3
 
   pub not_woke_all : (m : Monitor Total TotalOp R K) (p q : Pass Total TotalOp R K) (condition : ℕ) (r : Refusal) → Idle (pass_sight p)
-      → Wake_all_ends (passes_of m) (condition_limits (passes_of m)) (conditions_of m) condition (cond_seats_of p) (cond_seats_of q) (pass_sight p) (pass_sight q) (Err r)
-      → Wake_has_cause condition m q r
+      → WakeAllEnds (passes_of m) (condition_limits (passes_of m)) (conditions_of m) condition (cond_seats_of p) (cond_seats_of q) (pass_sight p) (pass_sight q) (Err r)
+      → WakeHasCause condition m q r
   not_woke_all m p q condition NoSuchSeat idle e = e.0.1
   not_woke_all m p q condition Spent idle e =
-      used_at condition (cond_seats_of p) (cond_seats_of q) (λ c d. Cond_wake_all_ends (passes_of m) (condition_limits (passes_of m)) c d (pass_sight p) (pass_sight q) (Err Spent)) Has_no_take e (λ c d u. let a = ap (λ (x : Sight Waiters). x.takes) u.2 in let b = u.1 in omega arith)
-  not_woke_all m p q condition NotWaiting idle e = used_at condition (cond_seats_of p) (cond_seats_of q) (λ c d. Cond_wake_all_ends (passes_of m) (condition_limits (passes_of m)) c d (pass_sight p) (pass_sight q) (Err NotWaiting)) (Found_not_waiting (passes_of m) (pass_sight q)) e (λ c d u. let o = u.3.4 in
+      used_at condition (cond_seats_of p) (cond_seats_of q) (λ c d. CondWakeAllEnds (passes_of m) (condition_limits (passes_of m)) c d (pass_sight p) (pass_sight q) (Err Spent)) HasNoTake e (λ c d u. let a = ap (λ (x : Sight Waiters). x.takes) u.2 in let b = u.1 in omega arith)
+  not_woke_all m p q condition NotWaiting idle e = used_at condition (cond_seats_of p) (cond_seats_of q) (λ c d. CondWakeAllEnds (passes_of m) (condition_limits (passes_of m)) c d (pass_sight p) (pass_sight q) (Err NotWaiting)) (FoundNotWaiting (passes_of m) (pass_sight q)) e (λ c d u. let o = u.3.4 in
       (u.0, u.3.0, o.0, o.1, u.3.1, u.2.found, u.3.2.list ∙ ap (λ xs. u.3.0 ++ xs) o.2, o.3))
   not_woke_all m p q condition Asleep idle e = absurd (true≢false (sym e.0 ∙ idle.1))
   not_woke_all m p q condition NotOwner idle e = absurd e.6.3
@@ -145,5 +145,5 @@ there (m ∷ ms) (suc i) d h = there ms i d (omega arith)
 module _ {R : Type 0} {K : _} where
   -- the command at this place was refused
   pub refused_there : (m : Monitor Total TotalOp R K) (ms : List Command) (i : ℕ) (d : Command) (old now : List ℕ) (p : Pass Total TotalOp R K) (r : Refusal) → i < length ms
-      → now ≡ old ++ all_adds (take i ms) → own_adds (pass_sight p) ≡ now → Has_cause (get_or ms i d) m p r → Refused_for_cause m ms old p (Refused r)
+      → now ≡ old ++ all_adds (take i ms) → own_adds (pass_sight p) ≡ now → HasCause (get_or ms i d) m p r → RefusedForCause m ms old p (Refused r)
   refused_there m ms i d old now p r h made same cause = (i, get_or ms i d, there ms i d h, same ∙ made, cause)

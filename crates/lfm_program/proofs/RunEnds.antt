@@ -11,8 +11,8 @@ use Rattle.lfm_model.specs.Journals.{Within, own, sum_to, total}
 use Rattle.lfm_mutex.specs.Close.{Idle}
 use Rattle.lfm_monitor.specs.declared.monitor.Monitor.{Monitor}
 use Rattle.lfm_monitor.specs.declared.pass.Pass.{Pass}
-use Rattle.lfm_monitor.specs.Begun.{New_pass}
-use Rattle.lfm_monitor.specs.Belongs.{Of_monitor, mine_of, pass_sight}
+use Rattle.lfm_monitor.specs.Begun.{NewPass}
+use Rattle.lfm_monitor.specs.Belongs.{OfMonitor, mine_of, pass_sight}
 use Rattle.lfm_monitor.specs.Passes.{journal_of}
 use Rattle.lfm_program.specs.declared.performed.Performed.{Performed}
 use Rattle.lfm_program.specs.declared.performed.Performed.TheVariants.{Done, Refused, Stuck}
@@ -21,10 +21,10 @@ use Rattle.lfm_script.specs.declared.script.ScriptLine.{ScriptLine}
 use Rattle.lfm_script.specs.Adds.{adds, all_adds}
 use Rattle.lfm_script.specs.script.Commands.{commands_of}
 use Rattle.lfm_script.specs.script.Grammar.{Plan}
-use Rattle.lfm_program.specs.Performs.{All_performed, own_adds}
+use Rattle.lfm_program.specs.Performs.{AllPerformed, own_adds}
 use Rattle.lfm_script.specs.Rows.{refusal_at}
-use Rattle.lfm_program.specs.ScriptRuns.{Ends_so, are_none}
-use Rattle.lfm_program.specs.Workers.{Works_as}
+use Rattle.lfm_program.specs.ScriptRuns.{EndsSo, are_none}
+use Rattle.lfm_program.specs.Workers.{WorksAs}
 use Rattle.lfm_script.specs.Runs.{IsRunOfMade}
 use Rattle.lfm_model.specs.Journals.{after_all}
 use Rattle.lfm_model.specs.Totals.{total_after}
@@ -34,7 +34,7 @@ use Rattle.lfm_program.specs.declared.workers.Worked.{Worked}
 use Rattle.lfm_script.specs.script.Grammar.{plan_allowed}
 use Rattle.lfm_script.specs.Report.{report_text, total_of}
 use Rattle.lfm_script.specs.Rows.{rows_from, run_row}
-use Rattle.lfm_program.specs.ScriptRuns.{Divides, Made_ready}
+use Rattle.lfm_program.specs.ScriptRuns.{Divides, MadeReady}
 use Rattle.lfm_script.specs.Runs.{IsReport}
 use Rattle.lfm_script.proofs.RunReports.{made_text_told}
 use Rattle.lfm_program.proofs.JournalEnds.{Chosen, at_place, choose, total_is_sum, within_counted}
@@ -57,13 +57,13 @@ refused_ends : (r : Refusal) → Refused r ≢ Stuck
 refused_ends r e = true≢false (sym (ap is_stuck e))
 
 -- the numbers are those that the first i commands add, which are all where none was refused
-abbrev pub Made_by : List Command → Option Refusal → List ℕ → ℕ → Type 0
-Made_by ms r ks i = (ks ≡ all_adds (take i ms)) × (r ≡ None → length ms ≤ i)
+abbrev pub MadeBy : List Command → Option Refusal → List ℕ → ℕ → Type 0
+MadeBy ms r ks i = (ks ≡ all_adds (take i ms)) × (r ≡ None → length ms ≤ i)
 
-made_from : (ms : List Command) (new : List ℕ) (x : Performed) (r : Option Refusal) → Ends_so x r → (x ≢ Stuck → All_performed ms [] new x) → (i : ℕ) × Made_by ms r new i
-made_from ms new x None e made = let all : new ≡ all_adds ms = (subst (λ y. y ≢ Stuck → All_performed ms [] new y) e made) done_ends in
+made_from : (ms : List Command) (new : List ℕ) (x : Performed) (r : Option Refusal) → EndsSo x r → (x ≢ Stuck → AllPerformed ms [] new x) → (i : ℕ) × MadeBy ms r new i
+made_from ms new x None e made = let all : new ≡ all_adds ms = (subst (λ y. y ≢ Stuck → AllPerformed ms [] new y) e made) done_ends in
     (length ms, (all ∙ ap all_adds (sym (take_all (length ms) ms (omega arith))), λ _. omega arith))
-made_from ms new x (Some r) e made = let some_made : All_performed ms [] new (Refused r) = (subst (λ y. y ≢ Stuck → All_performed ms [] new y) e made) (refused_ends r) in
+made_from ms new x (Some r) e made = let some_made : AllPerformed ms [] new (Refused r) = (subst (λ y. y ≢ Stuck → AllPerformed ms [] new y) e made) (refused_ends r) in
     (some_made.0, (some_made.2, λ none. absurd (true≢false (ap is_some none))))
 
 pub none_at : (rs : List (Option Refusal)) → are_none rs ≡ true → (i : ℕ) → get_or rs i None ≡ None
@@ -88,36 +88,36 @@ pub record Ran (p : Plan) (rs : List (Option Refusal)) (es : List (Entry TotalOp
 
 module _ {R : Type 0} {K : _} where
   -- what is known of the pass at place j, and of its worker's refusal
-  pub record Gives_back (m : Monitor Total TotalOp R K) (ls : List ScriptLine) (rs : List (Option Refusal)) (j : ℕ) (q : Pass Total TotalOp R K) : Type 0 where
-    pub belongs : Of_monitor q m
+  pub record GivesBack (m : Monitor Total TotalOp R K) (ls : List ScriptLine) (rs : List (Option Refusal)) (j : ℕ) (q : Pass Total TotalOp R K) : Type 0 where
+    pub belongs : OfMonitor q m
     pub idle : Idle (pass_sight q)
     pub number : (pass_sight q).number ≡ j + 1
     pub count : ℕ
-    pub made : Made_by (commands_of (j + 1) ls) (refusal_at rs (j + 1)) (own_adds (pass_sight q)) count
+    pub made : MadeBy (commands_of (j + 1) ls) (refusal_at rs (j + 1)) (own_adds (pass_sight q)) count
 
-  nothing_yet : (m : Monitor Total TotalOp R K) (n : ℕ) (p : Pass Total TotalOp R K) → New_pass m n p → own_adds (pass_sight p) ≡ []
+  nothing_yet : (m : Monitor Total TotalOp R K) (n : ℕ) (p : Pass Total TotalOp R K) → NewPass m n p → own_adds (pass_sight p) ≡ []
   nothing_yet m n p new = ap own_adds new.sees ∙ ap (λ es. adds (own n es)) new.nothing
 
   pub gives_back : (m : Monitor Total TotalOp R K) (ls : List ScriptLine) (rs : List (Option Refusal)) (j : ℕ) (p q : Pass Total TotalOp R K) (ms : List Command) (x : Performed) (r : Option Refusal)
-      → New_pass m (j + 1) p → ms ≡ commands_of (j + 1) ls → Works_as m ms p q x → get_elem? rs j ≡ some r → Ends_so x r → Gives_back m ls rs j q
+      → NewPass m (j + 1) p → ms ≡ commands_of (j + 1) ls → WorksAs m ms p q x → get_elem? rs j ≡ some r → EndsSo x r → GivesBack m ls rs j q
   gives_back m ls rs j p q ms x r new is works at ends =
-      let from : x ≢ Stuck → All_performed ms [] (own_adds (pass_sight q)) x = λ free. subst (λ ks. All_performed ms ks (own_adds (pass_sight q)) x) (nothing_yet m (j + 1) p new) (works.adds free) in
+      let from : x ≢ Stuck → AllPerformed ms [] (own_adds (pass_sight q)) x = λ free. subst (λ ks. AllPerformed ms ks (own_adds (pass_sight q)) x) (nothing_yet m (j + 1) p new) (works.adds free) in
       let made = made_from ms (own_adds (pass_sight q)) x r ends from in record {
         belongs = works.belongs;
         idle = works.idle;
         number = works.number ∙ ap (λ s. s.number) new.sees;
         count = made.0;
-        made = subst (λ cs. Made_by cs (refusal_at rs (j + 1)) (own_adds (pass_sight q)) made.0) is (subst (λ o. Made_by ms o (own_adds (pass_sight q)) made.0) (sym (refusal_is rs j r at)) made.1);
+        made = subst (λ cs. MadeBy cs (refusal_at rs (j + 1)) (own_adds (pass_sight q)) made.0) is (subst (λ o. MadeBy ms o (own_adds (pass_sight q)) made.0) (sym (refusal_is rs j r at)) made.1);
       }
 
   -- all workers gave back their passes, in order
-  pub record All_back (m : Monitor Total TotalOp R K) (p : Plan) (rs : List (Option Refusal)) (ps : List (Pass Total TotalOp R K)) : Type 0 where
+  pub record AllBack (m : Monitor Total TotalOp R K) (p : Plan) (rs : List (Option Refusal)) (ps : List (Pass Total TotalOp R K)) : Type 0 where
     pub many : length ps ≡ p.workers
     pub as_many : length rs ≡ p.workers
-    pub each : (j : ℕ) (q : Pass Total TotalOp R K) → get_elem? ps j ≡ some q → Gives_back m p.lines rs j q
+    pub each : (j : ℕ) (q : Pass Total TotalOp R K) → get_elem? ps j ≡ some q → GivesBack m p.lines rs j q
 
   -- a journal that is just what these passes wrote is by the workers alone
-  pub by_workers : (m : Monitor Total TotalOp R K) (p : Plan) (rs : List (Option Refusal)) (ps : List (Pass Total TotalOp R K)) (es : List (Entry TotalOp)) → All_back m p rs ps
+  pub by_workers : (m : Monitor Total TotalOp R K) (p : Plan) (rs : List (Option Refusal)) (ps : List (Pass Total TotalOp R K)) (es : List (Entry TotalOp)) → AllBack m p rs ps
       → ((j : ℕ) (q : Pass Total TotalOp R K) → get_elem? ps j ≡ some q → mine_of q ≡ length (own (pass_sight q).number es)) → length es ≡ total (λ q. mine_of q) ps → Within p.workers es
   by_workers m p rs ps es back mine whole =
       let f : ℕ → ℕ = (λ s. length (own s es)) in
@@ -125,11 +125,11 @@ module _ {R : Type 0} {K : _} where
       let many = back.many in let e : 0 + length ps ≡ p.workers = omega arith in let a = ap (sum_to f) e in
       within_counted p.workers es (omega arith)
 
-  pub ran : (m : Monitor Total TotalOp R K) (p : Plan) (rs : List (Option Refusal)) (ps : List (Pass Total TotalOp R K)) (es : List (Entry TotalOp)) → All_back m p rs ps
+  pub ran : (m : Monitor Total TotalOp R K) (p : Plan) (rs : List (Option Refusal)) (ps : List (Pass Total TotalOp R K)) (es : List (Entry TotalOp)) → AllBack m p rs ps
       → ((j : ℕ) (q : Pass Total TotalOp R K) → get_elem? ps j ≡ some q → own (pass_sight q).number es ≡ own (pass_sight q).number (journal_of (pass_sight q))) → Ran p rs es
   ran m p rs ps es back same =
-      let counts : Chosen (λ j q k. Made_by (commands_of (j + 1) p.lines) (refusal_at rs (j + 1)) (own_adds (pass_sight q)) k) ps =
-      choose (λ j q k. Made_by (commands_of (j + 1) p.lines) (refusal_at rs (j + 1)) (own_adds (pass_sight q)) k) ps (λ j q at. ((back.each j q at).count, (back.each j q at).made)) in record {
+      let counts : Chosen (λ j q k. MadeBy (commands_of (j + 1) p.lines) (refusal_at rs (j + 1)) (own_adds (pass_sight q)) k) ps =
+      choose (λ j q k. MadeBy (commands_of (j + 1) p.lines) (refusal_at rs (j + 1)) (own_adds (pass_sight q)) k) ps (λ j q at. ((back.each j q at).count, (back.each j q at).made)) in record {
         made = λ w. counts.at (w - 1);
         run = λ w above low. let many = back.many in let there = at_place ps (w - 1) (omega arith) in let e : w - 1 + 1 ≡ w = omega arith in
             let number : (pass_sight there.0).number ≡ w = (back.each (w - 1) there.0 there.1).number ∙ e in
@@ -143,11 +143,11 @@ module _ {R : Type 0} {K : _} where
 
 -- what comes from the threads, divided into passes and refusals
 pub collected : (m : Monitor Total TotalOp _ _) (p : Plan) (scripts commands : List (Vec Command Global)) (lines : List ScriptLine) (before : List (Pass Total TotalOp _ _)) (ws : List Worked)
-    (ps : List (Pass Total TotalOp _ _)) (rs : List (Option Refusal)) → Made_ready p.workers p.conditions m before → scripts ≡ commands → lines ≡ p.lines → length scripts ≡ p.workers
+    (ps : List (Pass Total TotalOp _ _)) (rs : List (Option Refusal)) → MadeReady p.workers p.conditions m before → scripts ≡ commands → lines ≡ p.lines → length scripts ≡ p.workers
     → ((i : ℕ) (d : Vec Command Global) → i < p.workers → (slice_index_or commands i d).items ≡ commands_of (i + 1) lines)
     → ((j : ℕ) (w : Worked) → get_elem? ws j ≡ some w → (q : Pass Total TotalOp _ _) × (ms : Vec Command Global) × (get_elem? before j ≡ some q) × (get_elem? scripts j ≡ some ms)
-    × Works_as m ms.items q w.pass w.performed)
-    → length ws ≡ length scripts → Divides ws ps rs → All_back m p rs ps
+    × WorksAs m ms.items q w.pass w.performed)
+    → length ws ≡ length scripts → Divides ws ps rs → AllBack m p rs ps
 collected m p scripts commands lines before ws ps rs ready same_scripts same_lines many each worked as_many divides = record {
   many = divides.many ∙ (as_many ∙ many);
   as_many = divides.as_many ∙ (as_many ∙ many);
@@ -157,7 +157,7 @@ collected m p scripts commands lines before ws ps rs ready same_scripts same_lin
       let t = worked j w.0 w.1 in let r = told.1 in
       let is : t.1.items ≡ commands_of (j + 1) p.lines =
       ap (λ v. v.items) (sym (read_here scripts j t.1 t.1 t.3) ∙ ap (λ cs. slice_index_or cs j t.1) same_scripts) ∙ each j t.1 (omega arith) ∙ ap (commands_of (j + 1)) same_lines in
-      subst (Gives_back m p.lines rs j) same (gives_back m p.lines rs j t.0 w.0.pass t.1.items w.0.performed r.0 (ready.passes j t.0 t.2) is t.4 r.1 r.2);
+      subst (GivesBack m p.lines rs j) same (gives_back m p.lines rs j t.0 w.0.pass t.1.items w.0.performed r.0 (ready.passes j t.0 t.2) is t.4 r.1 r.2);
 }
 
 pub both_true : (a b : Bool) → a ≡ true → b ≡ true → (a && b) ≡ true

@@ -16,7 +16,7 @@ use Rattle.lfm_monitor.specs.declared.journaled.Journaled.{Journaled}
 use Rattle.lfm_monitor.specs.declared.monitor.Monitor.{Monitor}
 use Rattle.lfm_monitor.specs.declared.pass.Pass.{Pass}
 use Rattle.lfm_monitor.specs.Belongs.{cond_seats_of, conditions_of, mine_of, pass_sight, passes_of, share_of}
-use Rattle.lfm_monitor.specs.Conditions.{Is_missing}
+use Rattle.lfm_monitor.specs.Conditions.{IsMissing}
 use Rattle.lfm_program.specs.declared.performed.Performed.{Performed}
 use Rattle.lfm_program.specs.declared.performed.Performed.TheVariants.{Done, Refused, Stuck}
 use Rattle.lfm_script.specs.declared.script.Command.{Command}
@@ -25,52 +25,52 @@ use Rattle.lfm_script.specs.Adds.{all_adds}
 use Rattle.lfm_program.specs.Performs.{own_adds}
 
 -- there is such a condition, and the cond seat of it among these is so
-abbrev pub At_condition : ℕ → List CondSeat → (Sight Waiters → Type 0) → Type 0
-At_condition condition cs so = (n : ℕ) × (c : CondSeat) × (condition ≡ n + 1) × (get_elem? cs n ≡ some c) × so (cond_sight c)
+abbrev pub AtCondition : ℕ → List CondSeat → (Sight Waiters → Type 0) → Type 0
+AtCondition condition cs so = (n : ℕ) × (c : CondSeat) × (condition ≡ n + 1) × (get_elem? cs n ≡ some c) × so (cond_sight c)
 
 -- the cond seat has no take left
-abbrev pub Has_no_take : Sight Waiters → Type 0
-Has_no_take c = max_budget ≤ c.takes
+abbrev pub HasNoTake : Sight Waiters → Type 0
+HasNoTake c = max_budget ≤ c.takes
 
 -- the seat of this number stood in the list that the cond seat found last
-abbrev pub Found_listed : ℕ → Sight Waiters → Type 0
-Found_listed number c = (v : Waiters) × (c.found ≡ Some v) × (0 < times number v.list.items)
+abbrev pub FoundListed : ℕ → Sight Waiters → Type 0
+FoundListed number c = (v : Waiters) × (c.found ≡ Some v) × (0 < times number v.list.items)
 
 module _ {R : Type 0} {K : _} where
   -- the last that the seat did was to send one of the list that the cond seat found last, and that was refused as NotWaiting; n is
   -- how many seats there are
-  abbrev pub Found_not_waiting : ℕ → Sight (Journaled Total TotalOp R K) → Sight Waiters → Type 0
-  Found_not_waiting n t c =
+  abbrev pub FoundNotWaiting : ℕ → Sight (Journaled Total TotalOp R K) → Sight Waiters → Type 0
+  FoundNotWaiting n t c =
       (v : Waiters) × (gone : List Waiter) × (x : Waiter) × (rest : List Waiter) × (s : Sight (Journaled Total TotalOp R K)) × (c.found ≡ Some v) × (v.list.items ≡ gone ++ x ∷ rest)
       × Sends n s x.seat t (Err Refusal.NotWaiting)
 
   -- the pass has no entry left, or no take of the monitor
-  abbrev pub Is_used_up : Monitor Total TotalOp R K → Pass Total TotalOp R K → Type 0
-  Is_used_up m p = (share_of m ≤ mine_of p) ⊎ (share_of m ≤ (pass_sight p).takes)
+  abbrev pub IsUsedUp : Monitor Total TotalOp R K → Pass Total TotalOp R K → Type 0
+  IsUsedUp m p = (share_of m ≤ mine_of p) ⊎ (share_of m ≤ (pass_sight p).takes)
 
   -- why a wake on this condition is refused
-  abbrev pub Wake_has_cause : ℕ → Monitor Total TotalOp R K → Pass Total TotalOp R K → Refusal → Type 0
-  Wake_has_cause condition m p Refusal.NoSuchSeat = Is_missing (conditions_of m) condition
-  Wake_has_cause condition m p Refusal.Spent = At_condition condition (cond_seats_of p) Has_no_take
-  Wake_has_cause condition m p Refusal.NotWaiting = At_condition condition (cond_seats_of p) (Found_not_waiting (passes_of m) (pass_sight p))
-  Wake_has_cause condition m p _ = ⊥
+  abbrev pub WakeHasCause : ℕ → Monitor Total TotalOp R K → Pass Total TotalOp R K → Refusal → Type 0
+  WakeHasCause condition m p Refusal.NoSuchSeat = IsMissing (conditions_of m) condition
+  WakeHasCause condition m p Refusal.Spent = AtCondition condition (cond_seats_of p) HasNoTake
+  WakeHasCause condition m p Refusal.NotWaiting = AtCondition condition (cond_seats_of p) (FoundNotWaiting (passes_of m) (pass_sight p))
+  WakeHasCause condition m p _ = ⊥
 
   -- Why a command is refused, by what is true of its pass then. The condition is missing just where the refusal is NoSuchSeat; but an
   -- until of a pass that is used up is Spent, whether the condition is there or not
-  abbrev pub Has_cause : Command → Monitor Total TotalOp R K → Pass Total TotalOp R K → Refusal → Type 0
-  Has_cause (Add k) m p Refusal.Spent = Is_used_up m p
-  Has_cause (Add k) m p _ = ⊥
-  Has_cause (Until condition k) m p Refusal.Spent = Is_used_up m p ⊎ At_condition condition (cond_seats_of p) Has_no_take
-  Has_cause (Until condition k) m p Refusal.NoSuchSeat = Is_missing (conditions_of m) condition
-  Has_cause (Until condition k) m p Refusal.Busy = At_condition condition (cond_seats_of p) (Found_listed (pass_sight p).number)
-  Has_cause (Until condition k) m p _ = ⊥
-  Has_cause (One condition) m p r = Wake_has_cause condition m p r
-  Has_cause (All condition) m p r = Wake_has_cause condition m p r
+  abbrev pub HasCause : Command → Monitor Total TotalOp R K → Pass Total TotalOp R K → Refusal → Type 0
+  HasCause (Add k) m p Refusal.Spent = IsUsedUp m p
+  HasCause (Add k) m p _ = ⊥
+  HasCause (Until condition k) m p Refusal.Spent = IsUsedUp m p ⊎ AtCondition condition (cond_seats_of p) HasNoTake
+  HasCause (Until condition k) m p Refusal.NoSuchSeat = IsMissing (conditions_of m) condition
+  HasCause (Until condition k) m p Refusal.Busy = AtCondition condition (cond_seats_of p) (FoundListed (pass_sight p).number)
+  HasCause (Until condition k) m p _ = ⊥
+  HasCause (One condition) m p r = WakeHasCause condition m p r
+  HasCause (All condition) m p r = WakeHasCause condition m p r
 
   -- Where a worker was refused: there is the cause to refuse one of its commands so, and to the old numbers its pass has added those
   -- of the commands before that one
-  abbrev pub Refused_for_cause : Monitor Total TotalOp R K → List Command → List ℕ → Pass Total TotalOp R K → Performed → Type 0
-  Refused_for_cause m ms old p (Refused r) =
-      (i : ℕ) × (c : Command) × (get_elem? ms i ≡ some c) × (own_adds (pass_sight p) ≡ old ++ all_adds (take i ms)) × Has_cause c m p r
-  Refused_for_cause m ms old p Done = ⊤
-  Refused_for_cause m ms old p Stuck = ⊤
+  abbrev pub RefusedForCause : Monitor Total TotalOp R K → List Command → List ℕ → Pass Total TotalOp R K → Performed → Type 0
+  RefusedForCause m ms old p (Refused r) =
+      (i : ℕ) × (c : Command) × (get_elem? ms i ≡ some c) × (own_adds (pass_sight p) ≡ old ++ all_adds (take i ms)) × HasCause c m p r
+  RefusedForCause m ms old p Done = ⊤
+  RefusedForCause m ms old p Stuck = ⊤

@@ -18,17 +18,17 @@ module _ {R : Type 0} {K : _} where
   own_adds s = adds (own s.number (journal_of s))
 
   -- the pass holds once, and doesn't sleep
-  pub record Holds_once (s : Sight (Journaled Total TotalOp R K)) : Type 0 where
+  pub record HoldsOnce (s : Sight (Journaled Total TotalOp R K)) : Type 0 where
     pub depth : s.depth ≡ 1
     pub awake : s.asleep ≡ false
 
   -- how one command ends: its number is added, or nothing where it was refused
-  abbrev pub Command_ends : Command → Sight (Journaled Total TotalOp R K) → Sight (Journaled Total TotalOp R K) → Result ⊤ Refusal → Type 0
-  Command_ends m s t (Ok u) = own_adds t ≡ own_adds s ++ command_adds m
-  Command_ends m s t (Err r) = own_adds t ≡ own_adds s
+  abbrev pub CommandEnds : Command → Sight (Journaled Total TotalOp R K) → Sight (Journaled Total TotalOp R K) → Result ⊤ Refusal → Type 0
+  CommandEnds m s t (Ok u) = own_adds t ≡ own_adds s ++ command_adds m
+  CommandEnds m s t (Err r) = own_adds t ≡ own_adds s
 
 -- the adds of the commands, in order: all where it is done, and else those of the commands before the one that was not made
-abbrev pub All_performed : List Command → List ℕ → List ℕ → Performed → Type 0
-All_performed ms old new Done = new ≡ old ++ all_adds ms
-All_performed ms old new (Refused r) = (i : ℕ) × (i < length ms) × (new ≡ old ++ all_adds (take i ms))
-All_performed ms old new Stuck = (i : ℕ) × (i < length ms) × (new ≡ old ++ all_adds (take i ms))
+abbrev pub AllPerformed : List Command → List ℕ → List ℕ → Performed → Type 0
+AllPerformed ms old new Done = new ≡ old ++ all_adds ms
+AllPerformed ms old new (Refused r) = (i : ℕ) × (i < length ms) × (new ≡ old ++ all_adds (take i ms))
+AllPerformed ms old new Stuck = (i : ℕ) × (i < length ms) × (new ≡ old ++ all_adds (take i ms))

@@ -7,7 +7,7 @@ use Rattle.lfm_model.specs.declared.objects.TotalOp.{TotalOp}
 use Rattle.lfm_model.specs.declared.refusals.Refusal.{Refusal}
 use Rattle.lfm_monitor.specs.declared.monitor.Monitor.{Monitor}
 use Rattle.lfm_monitor.specs.declared.pass.Pass.{Pass}
-use Rattle.lfm_monitor.specs.Begun.{New_pass, max_entries}
+use Rattle.lfm_monitor.specs.Begun.{NewPass, max_entries}
 use Rattle.lfm_monitor.specs.Belongs.{conditions_of, opening_of, passes_of, share_of}
 use Rattle.lfm_program.specs.declared.performed.Performed.{Performed}
 use Rattle.lfm_program.specs.declared.performed.Performed.TheVariants.{Done, Refused, Stuck}
@@ -15,28 +15,28 @@ use Rattle.lfm_program.specs.declared.workers.Worked.{Worked}
 
 module _ {R : Type 0} {K : _} where
   -- a new monitor over a total of 0, with these passes, one for each worker and in order; each has the same share of the entries
-  pub record Made_ready (workers conditions : ℕ) (m : Monitor Total TotalOp R K) (ps : List (Pass Total TotalOp R K)) : Type 0 where
+  pub record MadeReady (workers conditions : ℕ) (m : Monitor Total TotalOp R K) (ps : List (Pass Total TotalOp R K)) : Type 0 where
     pub opening : opening_of m ≡ record { 0 = 0 }
     pub monitor_has : passes_of m ≡ workers
     pub share : share_of m ≡ max_entries / workers
     pub conditions_are : conditions_of m ≡ conditions
     pub count : length ps ≡ workers
-    pub passes : (j : ℕ) (p : Pass Total TotalOp R K) → get_elem? ps j ≡ some p → New_pass m (j + 1) p
+    pub passes : (j : ℕ) (p : Pass Total TotalOp R K) → get_elem? ps j ≡ some p → NewPass m (j + 1) p
 
 -- all were made, or one was refused for this cause
-abbrev pub Ends_so : Performed → Option Refusal → Type 0
-Ends_so performed None = performed ≡ Done
-Ends_so performed (Some r) = performed ≡ Refused r
+abbrev pub EndsSo : Performed → Option Refusal → Type 0
+EndsSo performed None = performed ≡ Done
+EndsSo performed (Some r) = performed ≡ Refused r
 
 -- the refusals are those of the workers, none of whom was stopped
 pub record Divides (ws : List Worked) (passes : List _) (refusals : List (Option Refusal)) : Type 0 where
   pub many : length passes ≡ length ws
   pub as_many : length refusals ≡ length ws
-  pub each : (j : ℕ) (w : Worked) → get_elem? ws j ≡ some w → (get_elem? passes j ≡ some w.pass) × ((r : Option Refusal) × (get_elem? refusals j ≡ some r) × Ends_so w.performed r)
+  pub each : (j : ℕ) (w : Worked) → get_elem? ws j ≡ some w → (get_elem? passes j ≡ some w.pass) × ((r : Option Refusal) × (get_elem? refusals j ≡ some r) × EndsSo w.performed r)
 
 -- some worker was stopped
-abbrev pub Has_stopped : List Worked → Type 0
-Has_stopped ws = (j : ℕ) × (w : Worked) × (get_elem? ws j ≡ some w) × (w.performed ≡ Stuck)
+abbrev pub HasStopped : List Worked → Type 0
+HasStopped ws = (j : ℕ) × (w : Worked) × (get_elem? ws j ≡ some w) × (w.performed ≡ Stuck)
 
 -- whether no worker was refused
 abbrev pub are_none : List (Option Refusal) → Bool

@@ -2,7 +2,7 @@
 //!
 //! What it writes are the lines of a replay without the states, so that the words of a running mutex can be compared with
 //! those of the core's state.
-ghost use Rattle.lfm_mutex.specs.Belongs.{Beside, Of_mutex};
+ghost use Rattle.lfm_mutex.specs.Belongs.{Beside, OfMutex};
 ghost use Rattle.std.specs.Prelude.{◌≡◌, ◌<◌, ◌⊎◌, All, length};
 
 use lfm_core::text::trace::{write_fault_line, write_line_feed, write_outcome};
@@ -19,7 +19,7 @@ const LONGEST_CALL: u64 = 16;
 
 /// The seat makes up to this number of steps, and stops where its call ends or a step is refused.
 fn make_steps(mutex: &Mutex<u64>, seat: &mut Seat<u64>, most: u64) -> Turn
-    requires belongs { Of_mutex seat.old mutex.now }
+    requires belongs { OfMutex seat.old mutex.now }
     ensures belongs { Beside seat.old seat.new }
 {
     'stepping: for _ in 0..most {
@@ -33,7 +33,7 @@ fn make_steps(mutex: &Mutex<u64>, seat: &mut Seat<u64>, most: u64) -> Turn
 
 /// The seat does what a line says. Returns the last turn.
 fn follow_seat(mutex: &Mutex<u64>, seat: &mut Seat<u64>, act: Act, longest: u64) -> Turn
-    requires belongs { Of_mutex seat.old mutex.now }
+    requires belongs { OfMutex seat.old mutex.now }
     ensures belongs { Beside seat.old seat.new }
 {
     match act {
@@ -46,8 +46,8 @@ fn follow_seat(mutex: &Mutex<u64>, seat: &mut Seat<u64>, act: Act, longest: u64)
 /// Does what a line says on a running mutex of which these are all the seats, in order. Returns the last turn: NoSuchSeat
 /// where no seat has the line's number.
 pub fn follow(mutex: &Mutex<u64>, seats: &mut [Seat<u64>], line: &Line) -> Turn
-    requires belong { All (λ s. Of_mutex s mutex.now) seats.old }
-    ensures belong { All (λ s. Of_mutex s mutex.now) seats.new }
+    requires belong { All (λ s. OfMutex s mutex.now) seats.old }
+    ensures belong { All (λ s. OfMutex s mutex.now) seats.new }
     ensures all { length seats.new ≡ length seats.old }
     ensures missing { (line.now.seat ≡ 0) ⊎ (length seats.old < line.now.seat) → (result ≡ Turn.Refused Why.NoSuchSeat) × (seats.new ≡ seats.old) }
 {
@@ -67,7 +67,7 @@ fn drive_lines<W: Write>(
     seats: &mut [Seat<u64>],
     lines: &[Line],
 ) -> Result<bool, ReplayFault>
-    requires belong { All (λ s. Of_mutex s mutex.now) seats.old }
+    requires belong { All (λ s. OfMutex s mutex.now) seats.old }
 {
     let mut none_refused = true;
     'driving: for (index, line) in lines.iter().enumerate() {

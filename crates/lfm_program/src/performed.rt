@@ -1,8 +1,8 @@
 //! What one worker does with its pass: its commands, one after another.
-ghost use Rattle.lfm_monitor.specs.Belongs.{Of_monitor, pass_sight};
+ghost use Rattle.lfm_monitor.specs.Belongs.{OfMonitor, pass_sight};
 ghost use Rattle.lfm_mutex.specs.Close.{Idle};
-ghost use Rattle.lfm_program.specs.Causes.{Refused_for_cause};
-ghost use Rattle.lfm_program.specs.Performs.{All_performed, own_adds};
+ghost use Rattle.lfm_program.specs.Causes.{RefusedForCause};
+ghost use Rattle.lfm_program.specs.Performs.{AllPerformed, own_adds};
 ghost use Rattle.std.specs.Prelude.{◌≡◌};
 
 mod command;
@@ -42,13 +42,13 @@ pub fn perform<G: Gate, R: Wait>(
     commands: &[Command],
     gate: &G,
 ) -> Performed
-    requires belongs { Of_monitor pass.old monitor.now }
+    requires belongs { OfMonitor pass.old monitor.now }
     requires idle { Idle (pass_sight pass.old) }
-    ensures belongs { Of_monitor pass.new monitor.now }
+    ensures belongs { OfMonitor pass.new monitor.now }
     ensures idle { Idle (pass_sight pass.new) }
     ensures number { (pass_sight pass.new).number ≡ (pass_sight pass.old).number }
-    ensures adds { All_performed commands.now (own_adds (pass_sight pass.old)) (own_adds (pass_sight pass.new)) result }
-    ensures refused { Refused_for_cause monitor.now commands.now (own_adds (pass_sight pass.old)) pass.new result }
+    ensures adds { AllPerformed commands.now (own_adds (pass_sight pass.old)) (own_adds (pass_sight pass.new)) result }
+    ensures refused { RefusedForCause monitor.now commands.now (own_adds (pass_sight pass.old)) pass.new result }
 {
     let worker = pass.number().get();
     'performing: for (index, command) in commands.iter().enumerate() {

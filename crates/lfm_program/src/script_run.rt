@@ -1,12 +1,12 @@
 //! The run of a script: its workers on a monitor over a total, and what its journal tells once all have ended.
 ghost use Rattle.lfm_script.specs.Report.{report_text};
-ghost use Rattle.lfm_program.specs.ScriptRuns.{Divides, Ends_so, Has_stopped, Made_ready, are_none};
+ghost use Rattle.lfm_program.specs.ScriptRuns.{Divides, EndsSo, HasStopped, MadeReady, are_none};
 ghost use Rattle.lfm_script.specs.Runs.{IsReport};
 ghost use Rattle.lfm_script.specs.declared.faults.WorkFault.TheVariants as Fault;
 ghost use Rattle.lfm_script.specs.script.Grammar.{script_of};
 ghost use Rattle.lfm_script.specs.script.Limits.{header_allowed, lines_allowed};
 ghost use Rattle.lfm_text.specs.Text.{max_lines};
-ghost use Rattle.lfm_model.specs.Journals.{Lawful, after_all};
+ghost use Rattle.lfm_model.specs.Journals.{LawfulJournal, after_all};
 ghost use Rattle.lfm_model.specs.Totals.{total_after};
 ghost use Rattle.std.specs.Prelude.{◌≡◌, ◌⊎◌, ◌<◌, IfErr, IfOk, length, true};
 
@@ -41,7 +41,7 @@ fn monitor_of(
     script: &Script,
 ) -> Result<(Monitor<Total>, Vec<Pass<Total>>), WorkFault>
     requires header { header_allowed script.now.workers script.now.conditions ≡ true }
-    ensures ready { IfOk result (λ r. Made_ready script.now.workers script.now.conditions r.0 r.1.items) }
+    ensures ready { IfOk result (λ r. MadeReady script.now.workers script.now.conditions r.0 r.1.items) }
     ensures memory { IfErr result (λ e. e ≡ Fault.Memory) }
 {
     let share = MAX_ENTRIES / script.workers;
@@ -54,7 +54,7 @@ fn monitor_of(
 
 // Why a worker was refused, if it was. Stuck where the gate stopped it.
 fn refusal_in(performed: Performed) -> Result<Option<Refusal>, WorkFault>
-    ensures refused { IfOk result (λ r. Ends_so performed r) }
+    ensures refused { IfOk result (λ r. EndsSo performed r) }
     ensures stopped { IfErr result (λ e. (e ≡ Fault.Stuck) × (performed ≡ Performed.Stuck)) }
 {
     match performed {
@@ -71,7 +71,7 @@ fn divide(
     worked: Vec<Worked>,
 ) -> Result<(Vec<Pass<Total>>, Vec<Option<Refusal>>), WorkFault>
     ensures divides { IfOk result (λ r. Divides worked.items r.0.items r.1.items) }
-    ensures fault { IfErr result (λ e. (e ≡ Fault.Memory) ⊎ ((e ≡ Fault.Stuck) × Has_stopped worked.items)) }
+    ensures fault { IfErr result (λ e. (e ≡ Fault.Memory) ⊎ ((e ≡ Fault.Stuck) × HasStopped worked.items)) }
 {
     let mut passes = Vec::with_capacity(alloc, worked.len())?;
     let mut refusals = Vec::with_capacity(alloc, worked.len())?;
@@ -98,8 +98,8 @@ fn none_refused(refusals: &[Option<Refusal>]) -> bool
 
 // Whether the journal is lawful, and its replay from 0 gives the total. Makes one request for memory, for the replies.
 fn is_lawful(alloc: Global, total: Total, journal: &[Entry<TotalOp>]) -> Result<bool, AllocError>
-    ensures complete { Lawful journal.now → total ≡ after_all total_after (record { 0 = 0 }) journal.now → IfOk result (λ b. b ≡ true) }
-    ensures sound { IfOk result (λ b. b ≡ true → Lawful journal.now × (total ≡ after_all total_after (record { 0 = 0 }) journal.now)) }
+    ensures complete { LawfulJournal journal.now → total ≡ after_all total_after (record { 0 = 0 }) journal.now → IfOk result (λ b. b ≡ true) }
+    ensures sound { IfOk result (λ b. b ≡ true → LawfulJournal journal.now × (total ≡ after_all total_after (record { 0 = 0 }) journal.now)) }
 {
     if !lawful(journal) {
         return Ok(false);

@@ -1,5 +1,5 @@
 //! Workers, each a thread with a pass of its own. All start from one line.
-ghost use Rattle.lfm_program.specs.Workers.{Ready_for, Works_as};
+ghost use Rattle.lfm_program.specs.Workers.{ReadyFor, WorksAs};
 ghost use Rattle.std.specs.Prelude.{◌≡◌, ℕ, IfErr, IfOk, Vec, length, vec_len};
 ghost use lib.ListN.{get_elem?};
 ghost use mathlib.Core.Option.{some};
@@ -34,7 +34,7 @@ pub struct Assignment {
 }
 
 impl Promise<Worked> for Assignment {
-    ghost kept_by = { λ a r. Works_as a.monitor.value a.commands.value.items a.pass.value r.pass r.performed };
+    ghost kept_by = { λ a r. WorksAs a.monitor.value a.commands.value.items a.pass.value r.pass r.performed };
 }
 
 // A worker's thread: it makes its commands once the line is opened, and none where the start is called off.
@@ -46,8 +46,8 @@ fn run_worker<G: Gate, R: Wait>(
     commands: &[Command],
     gate: &G,
 ) -> Worked
-    requires ready { Ready_for monitor.now pass }
-    ensures { Works_as monitor.now commands.now pass result.pass result.performed }
+    requires ready { ReadyFor monitor.now pass }
+    ensures { WorksAs monitor.now commands.now pass result.pass result.performed }
 {
     if !line.wait(rt) {
         return Worked {
@@ -68,7 +68,7 @@ fn join_all<R: Threads>(
     ensures count { IfOk result (λ v. (vec_len v ≡ vec_len handles) × (vec_len handles ≡ all)) }
     ensures memory { IfErr result (λ e. e ≡ WorkFault.Memory) }
     ensures each { IfOk result (λ v. (j : ℕ) (w : Worked) → get_elem? v.items j ≡ some w → (h : _) × (get_elem? handles.items j ≡ some h)
-        × Works_as h.promise.monitor.value h.promise.commands.value.items h.promise.pass.value w.pass w.performed) }
+        × WorksAs h.promise.monitor.value h.promise.commands.value.items h.promise.pass.value w.pass w.performed) }
 {
     match thread::join_promised(rt, handles) {
         Ok(results) if results.len() == all => Ok(results),
@@ -96,11 +96,11 @@ pub(crate) fn run_workers<R: Threads + Wait + Sync, G: Gate>(
     gate: &G,
 ) -> Result<Vec<Worked>, WorkFault>
     requires count { vec_len passes ≡ length scripts.now }
-    requires ready { (j : ℕ) (p : _) → get_elem? passes.items j ≡ some p → Ready_for monitor.now p }
+    requires ready { (j : ℕ) (p : _) → get_elem? passes.items j ≡ some p → ReadyFor monitor.now p }
     ensures count { IfOk result (λ v. vec_len v ≡ length scripts.now) }
     ensures memory { IfErr result (λ e. e ≡ WorkFault.Memory) }
     ensures each { IfOk result (λ v. (j : ℕ) (w : Worked) → get_elem? v.items j ≡ some w → (p : _) × (ms : Vec Command Global) × (get_elem? passes.items j ≡ some p)
-        × (get_elem? scripts.now j ≡ some ms) × Works_as monitor.now ms.items p w.pass w.performed) }
+        × (get_elem? scripts.now j ≡ some ms) × WorksAs monitor.now ms.items p w.pass w.performed) }
 {
     let line = StartingLine::new();
     let at_line = &line;
@@ -109,11 +109,11 @@ pub(crate) fn run_workers<R: Threads + Wait + Sync, G: Gate>(
         rt,
         move |scope| -> Result<Vec<Worked>, WorkFault>
             requires count { vec_len passes ≡ length scripts.now }
-            requires ready { (j : ℕ) (p : _) → get_elem? passes.items j ≡ some p → Ready_for monitor.now p }
+            requires ready { (j : ℕ) (p : _) → get_elem? passes.items j ≡ some p → ReadyFor monitor.now p }
             ensures count { IfOk result (λ v. vec_len v ≡ length scripts.entry.now) }
             ensures memory { IfErr result (λ e. e ≡ WorkFault.Memory) }
             ensures each { IfOk result (λ v. (j : ℕ) (w : Worked) → get_elem? v.items j ≡ some w → (p : _) × (ms : Vec Command Global) × (get_elem? passes.items j ≡ some p)
-                × (get_elem? scripts.entry.now j ≡ some ms) × Works_as monitor.entry.now ms.items p w.pass w.performed) }
+                × (get_elem? scripts.entry.now j ≡ some ms) × WorksAs monitor.entry.now ms.items p w.pass w.performed) }
         {
             let Ok(mut handles) = Vec::with_capacity(alloc, scripts.len()) else {
                 return Err(WorkFault::Memory);
@@ -130,8 +130,8 @@ pub(crate) fn run_workers<R: Threads + Wait + Sync, G: Gate>(
                 let started = scope.spawn_with(
                     assignment,
                     move || -> Worked
-                        requires { Ready_for monitor.now pass }
-                        ensures { Works_as monitor.entry.now commands.entry.now pass result.pass result.performed }
+                        requires { ReadyFor monitor.now pass }
+                        ensures { WorksAs monitor.entry.now commands.entry.now pass result.pass result.performed }
                     { run_worker(rt, at_line, monitor, pass, commands, gate) },
                 );
                 let Ok(handle) = started else {

@@ -130,12 +130,12 @@ pub record Roots {T : Type 0} (views : List (View T)) (k : View T) : Type 0 wher
   pub gone : (j : ℕ) (z : View T) → get_elem? views j ≡ some z → z.role ≡ Retired → (i : ℕ) × (get_elem? k.joined i ≡ some (joined_of z))
 
 -- no seat has ended a hold
-abbrev pub None_ended : {T : Type 0} → List (View T) → Type 0
-None_ended {T} views = (j : ℕ) (v : View T) → get_elem? views j ≡ some v → v.last_found ≡ None
+abbrev pub NoneEnded : {T : Type 0} → List (View T) → Type 0
+NoneEnded {T} views = (j : ℕ) (v : View T) → get_elem? views j ≡ some v → v.last_found ≡ None
 
 -- A seat that has ended a hold left this value last. Where none has, it is the opening value, which each seat has as its last.
-abbrev pub Left_in : {T : Type 0} → List (View T) → T → Type 0
-Left_in {T} views w = (j : ℕ) × (v : View T) × (get_elem? views j ≡ some v) × (v.last ≡ Some w) × (v.last_found ≡ None → None_ended views)
+abbrev pub LeftIn : {T : Type 0} → List (View T) → T → Type 0
+LeftIn {T} views w = (j : ℕ) × (v : View T) × (get_elem? views j ≡ some v) × (v.last ≡ Some w) × (v.last_found ≡ None → NoneEnded views)
 
 -- The moving value
 
@@ -168,10 +168,10 @@ last_hold v = (v.last, v.last_found)
 -- The rule
 
 -- a seat that releases has no record of its own, so beside the record that it loads next the pop list has at most so many
-abbrev pub Collects_within : ℕ → ℕ → Point → Type 0
-Collects_within popped seats (TakeLinkLoad (Carrier.Releaser releaser) next) = popped + 2 ≤ seats
-Collects_within popped seats (TakeLinkLoad (Carrier.Reclaimer releaser) next) = popped + 2 ≤ seats
-Collects_within popped seats _ = ⊤
+abbrev pub CollectsWithin : ℕ → ℕ → Point → Type 0
+CollectsWithin popped seats (TakeLinkLoad (Carrier.Releaser releaser) next) = popped + 2 ≤ seats
+CollectsWithin popped seats (TakeLinkLoad (Carrier.Reclaimer releaser) next) = popped + 2 ≤ seats
+CollectsWithin popped seats _ = ⊤
 
 -- what the view at place j has of the state
 pub record Sits {T : Type 0} (c : Core) (j : ℕ) (v : View T) : Type 0 where
@@ -181,15 +181,15 @@ pub record Sits {T : Type 0} (c : Core) (j : ℕ) (v : View T) : Type 0 where
 
 module _ {T : Type 0} (follows : ℕ → T → T → Type 0) where
   -- what each of some seats left last leads to this value
-  abbrev pub Leads_to : (ℕ → Type 0) → List (View T) → T → Type 0
-  Leads_to which views w = (j : ℕ) (v : View T) (l : T) → get_elem? views j ≡ some v → which j → v.last ≡ Some l → Reached follows (j + 1) l w
+  abbrev pub LeadsToValue : (ℕ → Type 0) → List (View T) → T → Type 0
+  LeadsToValue which views w = (j : ℕ) (v : View T) (l : T) → get_elem? views j ≡ some v → which j → v.last ≡ Some l → Reached follows (j + 1) l w
 
   -- the same of the seats that are still to come, which begin with the opening value
   abbrev pub Awaits : List (View T) → T → Type 0
   Awaits views w = (j : ℕ) (k : View T) (l : T) → length views ≤ j → get_elem? views 0 ≡ some k → k.opening ≡ Some l → Reached follows (j + 1) l w
 
 -- what no step of a seat changes
-pub record Same_root {T : Type 0} (v w : View T) : Type 0 where
+pub record SameRoot {T : Type 0} (v w : View T) : Type 0 where
   pub number : w.number ≡ v.number
   pub limits_are : w.limits ≡ v.limits
   pub opening : w.opening ≡ v.opening
@@ -201,26 +201,26 @@ module _ {T : Type 0} (follows : ℕ → T → T → Type 0) (suits : T → ℕ 
   Mine = Me (Option (Moving T)) (View T)
 
   -- the value at home
-  pub record At_home (c : Core) (g : Ghost) (homes : List (maybe.Option (Option (Moving T)))) (views : List (View T)) : Type 0 where
+  pub record AtHome (c : Core) (g : Ghost) (homes : List (maybe.Option (Option (Moving T)))) (views : List (View T)) : Type 0 where
     pub value : Moving T
     pub here : get_elem? homes 0 ≡ some (some (Some value))
     pub records : value.popped.records ≡ c.popped
     pub room : value.popped.room ≡ length c.seats
-    pub leads : Leads_to follows (λ _. ⊤) views value.value
+    pub leads : LeadsToValue follows (λ _. ⊤) views value.value
     pub awaits : Awaits follows views value.value
-    pub left : Left_in views value.value
+    pub left : LeftIn views value.value
     pub fits : suits value.value g.answered
 
   -- the value that the seat at place j, whose view is v, carries
-  pub record With_seat (c : Core) (g : Ghost) (views : List (View T)) (j : ℕ) (v : View T) : Type 0 where
+  pub record WithSeat (c : Core) (g : Ghost) (views : List (View T)) (j : ℕ) (v : View T) : Type 0 where
     pub value : T
     pub found : v.found ≡ Some value
     pub popped : v.popped ≡ c.popped
     pub answered : v.answered ≡ g.answered
-    pub leads : Leads_to follows (λ i. i ≢ j) views value
+    pub leads : LeadsToValue follows (λ i. i ≢ j) views value
     pub awaits : Awaits follows views value
     pub shallow : v.standing.depth ≡ 0 → suits value v.answered × ((l : T) → v.last ≡ Some l → Reached follows (j + 1) l value)
-    pub left : v.standing.depth ≡ 0 → Left_in views value
+    pub left : v.standing.depth ≡ 0 → LeftIn views value
 
   -- words and views are a steady state of the core, and the value is where the core says
   pub record Held (s : State (Option (Moving T)) (View T)) : Type 0 where
@@ -233,8 +233,8 @@ module _ {T : Type 0} (follows : ℕ → T → T → Type 0) (suits : T → ℕ 
     pub few : length s.views ≤ length core.seats
     pub each : (j : ℕ) (v : View T) → get_elem? s.views j ≡ some v → Sits core j v
     pub later : (j : ℕ) → length s.views ≤ j → seat core.seats (j + 1) ≡ absent
-    pub home : ((t : ℕ) → carries_value (seat core.seats t) ≡ false) → At_home core ghost_state s.homes s.views
-    pub outside : (j : ℕ) (v : View T) → get_elem? s.views j ≡ some v → carries_value v.standing ≡ true → With_seat core ghost_state s.views j v
+    pub home : ((t : ℕ) → carries_value (seat core.seats t) ≡ false) → AtHome core ghost_state s.homes s.views
+    pub outside : (j : ℕ) (v : View T) → get_elem? s.views j ≡ some v → carries_value v.standing ≡ true → WithSeat core ghost_state s.views j v
     pub root : (k : View T) → get_elem? s.views 0 ≡ some k → Roots s.views k
     pub others : (j : ℕ) (v : View T) → get_elem? s.views j ≡ some v → v.role ≡ Retired → (v.standing.point ≡ Rest) × (v.standing.depth ≡ 0)
 
@@ -251,14 +251,14 @@ module _ {T : Type 0} (follows : ℕ → T → T → Type 0) (suits : T → ℕ 
   Knows v = (y : T) → v.found ≡ Some y → suits y v.answered × ((l : T) → v.last ≡ Some l → Reached follows v.number l y)
 
   -- a push exchange that fails has found a later push word
-  abbrev pub Sees_change : Point → ℕ → Type 0
-  Sees_change q n = (pusher : Pusher) (old : Link) → q ≡ PushExchange pusher old → IsSeen (link_of n) old
+  abbrev pub SeesChange : Point → ℕ → Type 0
+  SeesChange q n = (pusher : Pusher) (old : Link) → q ≡ PushExchange pusher old → IsSeen (link_of n) old
 
   -- one step of a seat whose plain data are p and which has the value a in hand: it found n, and the pop list was this
   pub record Advanced (p : SeatState) (a : Option T) (m : Mine) (n : ℕ) (m' : Mine) : Type 0 where
     pub popped : List Record
     pub role : m'.0.role ≡ m.0.role
-    pub root : Same_root m.0 m'.0
+    pub root : SameRoot m.0 m'.0
     pub standing : m'.0.standing ≡ (stepped_by p m.0.number n (oldest popped)).seat
     pub trail : m'.0.trail ≡ m.0.trail ++ seen p.point n ∷ []
     pub last : m'.0.last ≡ left_by p.point a m.0.last
@@ -269,11 +269,11 @@ module _ {T : Type 0} (follows : ℕ → T → T → Type 0) (suits : T → ℕ 
     pub answered : carries_value p ≡ true → m'.0.answered ≡ m.0.answered + length (answered_by m.0.number (stepped_by p m.0.number n (oldest popped)).turn)
     pub ready : IsReady m.0.limits.seats m.0.number (stepped_by p m.0.number n (oldest popped)).seat
     pub room : PopFits (length popped) m.0.limits.seats (kind p.point)
-    pub collects : Collects_within (length popped) m.0.limits.seats p.point
+    pub collects : CollectsWithin (length popped) m.0.limits.seats p.point
     pub shallow : carries_value p ≡ true → p.depth ≡ 0 → Knows m.0
     pub stamped : (entrant : Entrant) (stamp : ℕ) → p.point ≡ EnterOwnerStore entrant (How.Queued stamp) → m.0.answered + 1 ≡ stamp
     pub owner : kind p.point ≡ Some Kind.OwnerLoad → (n ≡ m.0.number → 0 < p.depth) × (0 < p.depth → n ≡ m.0.number)
-    pub sees : Sees_change p.point n
+    pub sees : SeesChange p.point n
     pub hands : Hands (carries_value p) (carries_value (stepped_by p m.0.number n (oldest popped)).seat) p.point a popped m m'
 
 -- a look at the owner, which changes nothing but the trail

@@ -40,8 +40,8 @@ gives_at _ = false
 
 module _ {T : Type 0} (follows : ℕ → T → T → Type 0) (suits : T → ℕ → Type 0) where
   -- what is in hand may be left after the value that was found
-  abbrev pub Leaves : Option (Moving T) → View T → Type 0
-  Leaves a v = (x : Moving T) → a ≡ Some x → suits x.value v.answered × ((y : T) → v.found ≡ Some y → follows v.number y x.value)
+  abbrev pub MayBeLeft : Option (Moving T) → View T → Type 0
+  MayBeLeft a v = (x : Moving T) → a ≡ Some x → suits x.value v.answered × ((y : T) → v.found ≡ Some y → follows v.number y x.value)
 
   -- what a seat has in hand where its step gives the value away, or ends a hold
   pub record Ready (p : SeatState) (a : Option T) (me : Me (Option (Moving T)) (View T)) : Type 0 where
@@ -98,11 +98,11 @@ oldest_in (Some x) = oldest x.popped.records
 oldest_in None = None
 
 -- what becomes of the value in hand
-abbrev pub Value_goes : {T : Type 0} → Bool → Bool → Option (Moving T) → Option (Moving T) → View T → Type 0
-Value_goes {T} false false a a' v = (a ≡ None) × (a' ≡ None)
-Value_goes {T} false true a a' v = (a ≡ None) × ((x : Moving T) × (a' ≡ Some x) × (v.found ≡ Some x.value))
-Value_goes {T} true false a a' v = a' ≡ None
-Value_goes {T} true true a a' v = (x : Moving T) × (value_in a ≡ Some x.value) × (a' ≡ Some x)
+abbrev pub ValueGoes : {T : Type 0} → Bool → Bool → Option (Moving T) → Option (Moving T) → View T → Type 0
+ValueGoes {T} false false a a' v = (a ≡ None) × (a' ≡ None)
+ValueGoes {T} false true a a' v = (a ≡ None) × ((x : Moving T) × (a' ≡ Some x) × (v.found ≡ Some x.value))
+ValueGoes {T} true false a a' v = a' ≡ None
+ValueGoes {T} true true a a' v = (x : Moving T) × (value_in a ≡ Some x.value) × (a' ≡ Some x)
 
 -- one event of the core, made by a seat whose data are p, which has a in hand and whose view is v
 pub record Event {T : Type 0} (follows : ℕ → T → T → Type 0) (suits : T → ℕ → Type 0) (p : SeatState) (a : Option (Moving T)) (v : View T) (turn : Turn) (p' : SeatState) (a' : Option (Moving T)) (v' : View T) : Type 0 where
@@ -113,10 +113,10 @@ pub record Event {T : Type 0} (follows : ℕ → T → T → Type 0) (suits : T 
   pub did : Advanced follows suits p hand (v, slots) found (v', slots_after)
   pub seat_is : p' ≡ (stepped_by p v.number found (oldest did.popped)).seat
   pub turn_is : turn ≡ (stepped_by p v.number found (oldest did.popped)).turn
-  pub value : Value_goes (carries_value p) (carries_value p') a a' v'
+  pub value : ValueGoes (carries_value p) (carries_value p') a a' v'
   pub in_hand : (r : Releaser) → p.point ≡ ReleaseOwnerStore r → hand ≡ value_in a
 
 -- what a step leads to: nothing, where no call is open
-abbrev pub Goes_on : {T : Type 0} → Option Kind → (ℕ → T → T → Type 0) → (T → ℕ → Type 0) → SeatState → Option (Moving T) → Me (Option (Moving T)) (View T) → Turn → SeatState → Option (Moving T) → Me (Option (Moving T)) (View T) → Type 0
-Goes_on None follows suits p a m turn p' a' m' = (turn ≡ Refused Idle) × (p' ≡ p) × (a' ≡ a) × (m' ≡ m)
-Goes_on (Some k) follows suits p a m turn p' a' m' = Event follows suits p a m.0 turn p' a' m'.0
+abbrev pub StepLeadsTo : {T : Type 0} → Option Kind → (ℕ → T → T → Type 0) → (T → ℕ → Type 0) → SeatState → Option (Moving T) → Me (Option (Moving T)) (View T) → Turn → SeatState → Option (Moving T) → Me (Option (Moving T)) (View T) → Type 0
+StepLeadsTo None follows suits p a m turn p' a' m' = (turn ≡ Refused Idle) × (p' ≡ p) × (a' ≡ a) × (m' ≡ m)
+StepLeadsTo (Some k) follows suits p a m turn p' a' m' = Event follows suits p a m.0 turn p' a' m'.0

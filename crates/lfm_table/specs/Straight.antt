@@ -19,6 +19,6 @@ pub record Fit {T : Type 0} (number words id : ℕ) (l : Limits) (p : SeatState)
   pub rooted : Rooted words id number l m.0
 
 -- the step of a seat whose data are p has found n: what the seat keeps now, and the event
-pub record Made_step {T : Type 0} (follows : ℕ → T → T → Type 0) (suits : T → ℕ → Type 0) (number words id : ℕ) (l : Limits) (p : SeatState) (n : ℕ) (m : Me (Option (Moving T)) (View T)) (a : Option (Moving T)) (m' : Me (Option (Moving T)) (View T)) (a' : Option (Moving T)) : Type 0 where
+pub record MadeStep {T : Type 0} (follows : ℕ → T → T → Type 0) (suits : T → ℕ → Type 0) (number words id : ℕ) (l : Limits) (p : SeatState) (n : ℕ) (m : Me (Option (Moving T)) (View T)) (a : Option (Moving T)) (m' : Me (Option (Moving T)) (View T)) (a' : Option (Moving T)) : Type 0 where
   pub fit : Fit number words id l (stepped_by p number n (oldest_in a')).seat m' a'
   pub event : Event follows suits p a m.0 (stepped_by p number n (oldest_in a')).turn (stepped_by p number n (oldest_in a')).seat a' m'.0

@@ -30,9 +30,9 @@ pub struct Key<T: Drop> {
 }
 
 /// The rule of the table.
-pub struct Lawful;
+pub struct MutexRule;
 
-impl<T: Kept> TableRule<Option<MovingBox<T>>, View<T>, Key<T>> for Lawful {
+impl<T: Kept> TableRule<Option<MovingBox<T>>, View<T>, Key<T>> for MutexRule {
     ghost holds = { λ _. Held T.follows T.fits };
 
     ghost first = { λ key. first_view key.limits key.opening.value };

@@ -9,8 +9,8 @@ ghost use Rattle.lfm_protocol.specs.After.{drops_oldest};
 ghost use Rattle.lfm_protocol.specs.Points.{kind};
 ghost use Rattle.lfm_core.specs.table.Carried.{carries_value};
 ghost use Rattle.lfm_core.specs.table.Words.{stepped_by};
-ghost use Rattle.lfm_table.specs.Steps.{gives_at, Leaves};
-ghost use Rattle.lfm_table.specs.Straight.{Fit, Made_step};
+ghost use Rattle.lfm_table.specs.Steps.{gives_at, MayBeLeft};
+ghost use Rattle.lfm_table.specs.Straight.{Fit, MadeStep};
 
 use crate::kept::Kept;
 use crate::moving_box::MovingBox;
@@ -39,7 +39,7 @@ pub fn add_free<T: Kept>(
     requires gains { carries_value (stepped_by plain.now number 0 None).seat ≡ true }
     requires idles { (n : ℕ) → n ≢ 0 → carries_value (stepped_by plain.now number n None).seat ≡ false }
     ensures table { place.new.table_id ≡ place.old.table_id }
-    ensures step { Made_step T.follows T.fits number place.new.table_id.words place.new.id limits plain.now result place.old.me moving.old place.new.me moving.new }
+    ensures step { MadeStep T.follows T.fits number place.new.table_id.words place.new.id limits plain.now result place.old.me moving.old place.new.me moving.new }
 {
     let found = add_count::<T, Brand>(table, place, plain, &*moving, number, limits.seats);
     if found != 0 {
@@ -64,7 +64,7 @@ pub fn add_held<T: Kept>(
     requires kind { kind plain.now.point ≡ Some KindNow.CountAdd }
     requires held { carries_value plain.now ≡ true }
     ensures table { place.new.table_id ≡ place.old.table_id }
-    ensures step { Made_step T.follows T.fits number place.new.table_id.words place.new.id limits plain.now result place.old.me moving.now place.new.me moving.now }
+    ensures step { MadeStep T.follows T.fits number place.new.table_id.words place.new.id limits plain.now result place.old.me moving.now place.new.me moving.now }
 {
     add_count::<T, Brand>(table, place, plain, moving, number, limits.seats)
 }
@@ -84,9 +84,9 @@ pub fn store_held<T: Kept>(
     requires kind { kind plain.now.point ≡ Some KindNow.OwnerStore }
     requires held { carries_value plain.now ≡ true }
     requires keeps { drops_oldest plain.now ≡ false }
-    requires leaves { (r : Releaser) → plain.now.point ≡ ReleaseOwnerStore r → Leaves T.follows T.fits moving.now place.old.me.0 }
+    requires leaves { (r : Releaser) → plain.now.point ≡ ReleaseOwnerStore r → MayBeLeft T.follows T.fits moving.now place.old.me.0 }
     ensures table { place.new.table_id ≡ place.old.table_id }
-    ensures step { (n : ℕ) × Made_step T.follows T.fits number place.new.table_id.words place.new.id limits plain.now n place.old.me moving.now place.new.me moving.now }
+    ensures step { (n : ℕ) × MadeStep T.follows T.fits number place.new.table_id.words place.new.id limits plain.now n place.old.me moving.now place.new.me moving.now }
 {
     store_owner::<T, Brand>(table, place, plain, moving, number, limits.seats);
 }
@@ -106,7 +106,7 @@ pub fn load_held<T: Kept>(
     requires kind { kind plain.now.point ≡ Some KindNow.OwnerLoad }
     requires held { carries_value plain.now ≡ true }
     ensures table { place.new.table_id ≡ place.old.table_id }
-    ensures step { Made_step T.follows T.fits number place.new.table_id.words place.new.id limits plain.now result place.old.me moving.now place.new.me moving.now }
+    ensures step { MadeStep T.follows T.fits number place.new.table_id.words place.new.id limits plain.now result place.old.me moving.now place.new.me moving.now }
 {
     load_owner::<T, Brand>(table, place, plain, moving, number, limits.seats)
 }
@@ -127,7 +127,7 @@ pub fn subtract_held<T: Kept>(
     requires held { carries_value plain.now ≡ true }
     requires keeps { gives_at plain.now.point ≡ false }
     ensures table { place.new.table_id ≡ place.old.table_id }
-    ensures step { (n : ℕ) × Made_step T.follows T.fits number place.new.table_id.words place.new.id limits plain.now n place.old.me moving.now place.new.me moving.now }
+    ensures step { (n : ℕ) × MadeStep T.follows T.fits number place.new.table_id.words place.new.id limits plain.now n place.old.me moving.now place.new.me moving.now }
 {
     subtract_count::<T, Brand>(table, place, plain, moving, number, limits.seats);
 }
@@ -150,7 +150,7 @@ pub fn subtract_last<T: Kept>(
     requires leaves { carries_value (stepped_by plain.now number 1 None).seat ≡ false }
     requires carries { (n : ℕ) → n ≢ 1 → carries_value (stepped_by plain.now number n None).seat ≡ true }
     ensures table { place.new.table_id ≡ place.old.table_id }
-    ensures step { Made_step T.follows T.fits number place.new.table_id.words place.new.id limits plain.now result place.old.me moving.old place.new.me moving.new }
+    ensures step { MadeStep T.follows T.fits number place.new.table_id.words place.new.id limits plain.now result place.old.me moving.old place.new.me moving.new }
 {
     put_out(table, place, moving);
     let found = subtract_count::<T, Brand>(table, place, plain, &None, number, limits.seats);
@@ -178,7 +178,7 @@ pub fn exchange_free<T: Kept>(
     requires gains { carries_value (stepped_by plain.now number 0 None).seat ≡ true }
     requires idles { (n : ℕ) → n ≢ 0 → carries_value (stepped_by plain.now number n None).seat ≡ false }
     ensures table { place.new.table_id ≡ place.old.table_id }
-    ensures step { Made_step T.follows T.fits number place.new.table_id.words place.new.id limits plain.now result place.old.me moving.old place.new.me moving.new }
+    ensures step { MadeStep T.follows T.fits number place.new.table_id.words place.new.id limits plain.now result place.old.me moving.old place.new.me moving.new }
 {
     let found = exchange_count::<T, Brand>(table, place, plain, &*moving, number, limits.seats);
     if found != 0 {
@@ -203,7 +203,7 @@ pub fn exchange_held<T: Kept>(
     requires kind { kind plain.now.point ≡ Some KindNow.CountExchange }
     requires held { carries_value plain.now ≡ true }
     ensures table { place.new.table_id ≡ place.old.table_id }
-    ensures step { Made_step T.follows T.fits number place.new.table_id.words place.new.id limits plain.now result place.old.me moving.now place.new.me moving.now }
+    ensures step { MadeStep T.follows T.fits number place.new.table_id.words place.new.id limits plain.now result place.old.me moving.now place.new.me moving.now }
 {
     exchange_count::<T, Brand>(table, place, plain, moving, number, limits.seats)
 }
@@ -226,7 +226,7 @@ pub fn load_free<T: Kept>(
     requires idles { (n : ℕ) → n ≢ number → carries_value (stepped_by plain.now number n None).seat ≡ false }
     ensures table { place.new.table_id ≡ place.old.table_id }
     ensures other { result ≢ number }
-    ensures step { Made_step T.follows T.fits number place.new.table_id.words place.new.id limits plain.now result place.old.me moving.now place.new.me moving.now }
+    ensures step { MadeStep T.follows T.fits number place.new.table_id.words place.new.id limits plain.now result place.old.me moving.now place.new.me moving.now }
 {
     load_owner::<T, Brand>(table, place, plain, moving, number, limits.seats)
 }
@@ -247,7 +247,7 @@ pub fn load_handoff_free<T: Kept>(
     requires free { carries_value plain.now ≡ false }
     requires idles { (n : ℕ) → carries_value (stepped_by plain.now number n None).seat ≡ false }
     ensures table { place.new.table_id ≡ place.old.table_id }
-    ensures step { Made_step T.follows T.fits number place.new.table_id.words place.new.id limits plain.now result place.old.me moving.now place.new.me moving.now }
+    ensures step { MadeStep T.follows T.fits number place.new.table_id.words place.new.id limits plain.now result place.old.me moving.now place.new.me moving.now }
 {
     load_handoff::<T, Brand>(table, place, plain, moving, number, limits.seats)
 }

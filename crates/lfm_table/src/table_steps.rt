@@ -11,7 +11,7 @@ ghost use Rattle.lfm_table.specs.Steps.{CanMake};
 
 use crate::kept::Kept;
 use crate::moving_box::MovingBox;
-use crate::rule::{Key, Lawful, Plain, Stepped};
+use crate::rule::{Key, MutexRule, Plain, Stepped};
 use crate::seat_view::View;
 use atomic_table::Shared;
 use lfm_protocol::SeatState;
@@ -22,7 +22,7 @@ use lfm_words::{pack_handoff, pack_link};
 pub type Place<T> = atomic_table::Seat<Option<MovingBox<T>>, View<T>>;
 
 /// The table, as its steps need it.
-pub type SharedTable<T> = Shared<Option<MovingBox<T>>, View<T>, Key<T>, Lawful>;
+pub type SharedTable<T> = Shared<Option<MovingBox<T>>, View<T>, Key<T>, MutexRule>;
 
 /// Wakes who sleeps on this word, where a grant was stored there.
 pub fn wake<T: Kept>(table: &SharedTable<T>, word: usize, stored: u64)

@@ -1,5 +1,5 @@
 //! The running mutex, called by one thread that holds all its seats.
-ghost use Rattle.lfm_mutex.specs.Belongs.{Beside, Of_mutex};
+ghost use Rattle.lfm_mutex.specs.Belongs.{Beside, OfMutex};
 ghost use Rattle.std.specs.Prelude.{◌≡◌, ℕ, [], IfOk, IfSome};
 ghost use mathlib.Core.Option.{some};
 ghost use lib.ListN.{get_elem?};
@@ -48,8 +48,8 @@ fn answers<R: Abort, T: PartialEq + Debug>(rt: &R, at: usize, answer: &T, wanted
 
 /// Makes a step with this place among the steps, and sees that it answers as it must.
 fn make<R: Abort>(rt: &R, mutex: &Mutex<u64>, seat: &mut Seat<u64>, at: usize, step: Step)
-    requires { Of_mutex seat.old mutex.now }
-    ensures { Of_mutex seat.new mutex.now }
+    requires { OfMutex seat.old mutex.now }
+    ensures { OfMutex seat.new mutex.now }
 {
     match step {
         Step::Ask(wanted) => answers(rt, at, &mutex.ask(seat), &wanted),
@@ -76,10 +76,10 @@ fn make_all<R: Abort>(
     second: &mut Seat<u64>,
     steps: &[(By, Step)],
 )
-    requires first { Of_mutex first.old mutex.now }
-    requires second { Of_mutex second.old mutex.now }
-    ensures first { Of_mutex first.new mutex.now }
-    ensures second { Of_mutex second.new mutex.now }
+    requires first { OfMutex first.old mutex.now }
+    requires second { OfMutex second.old mutex.now }
+    ensures first { OfMutex first.new mutex.now }
+    ensures second { OfMutex second.new mutex.now }
 {
     'making: for (at, &(by, step)) in steps.iter().enumerate() {
         match by {
@@ -91,8 +91,8 @@ fn make_all<R: Abort>(
 
 /// Makes these steps in order, all by one seat.
 fn make_alone<R: Abort>(rt: &R, mutex: &Mutex<u64>, seat: &mut Seat<u64>, steps: &[Step])
-    requires { Of_mutex seat.old mutex.now }
-    ensures { Of_mutex seat.new mutex.now }
+    requires { OfMutex seat.old mutex.now }
+    ensures { OfMutex seat.new mutex.now }
 {
     'making: for (at, &step) in steps.iter().enumerate() {
         make(rt, mutex, seat, at, step);
@@ -111,8 +111,8 @@ fn set(seat: &mut Seat<u64>, value: u64)
 
 /// The two seats of a mutex that has two.
 fn take_two(mutex: &Mutex<u64>, mut seats: Vec<Seat<u64>>) -> Option<(Seat<u64>, Seat<u64>)>
-    requires { (j : ℕ) (s : _) → get_elem? seats.items j ≡ some s → Of_mutex s mutex.now }
-    ensures { IfSome result (λ p. Of_mutex p.0 mutex.now × Of_mutex p.1 mutex.now) }
+    requires { (j : ℕ) (s : _) → get_elem? seats.items j ≡ some s → OfMutex s mutex.now }
+    ensures { IfSome result (λ p. OfMutex p.0 mutex.now × OfMutex p.1 mutex.now) }
 {
     let _mutex = mutex;
     let second = seats.pop()?;
@@ -122,8 +122,8 @@ fn take_two(mutex: &Mutex<u64>, mut seats: Vec<Seat<u64>>) -> Option<(Seat<u64>,
 
 /// The seat of a mutex that has one.
 fn take_one(mutex: &Mutex<u64>, mut seats: Vec<Seat<u64>>) -> Option<Seat<u64>>
-    requires { (j : ℕ) (s : _) → get_elem? seats.items j ≡ some s → Of_mutex s mutex.now }
-    ensures { IfSome result (λ s. Of_mutex s mutex.now) }
+    requires { (j : ℕ) (s : _) → get_elem? seats.items j ≡ some s → OfMutex s mutex.now }
+    ensures { IfSome result (λ s. OfMutex s mutex.now) }
 {
     let _mutex = mutex;
     let seat = seats.pop()?;
@@ -132,7 +132,7 @@ fn take_one(mutex: &Mutex<u64>, mut seats: Vec<Seat<u64>>) -> Option<Seat<u64>>
 
 /// A mutex of two seats, with a budget of 8 takes each, and its seats.
 fn pair(alloc: Global) -> Result<(Mutex<u64>, Seat<u64>, Seat<u64>), Fail>
-    ensures { IfOk result (λ r. Of_mutex r.1 r.0 × Of_mutex r.2 r.0) }
+    ensures { IfOk result (λ r. OfMutex r.1 r.0 × OfMutex r.2 r.0) }
 {
     let (mutex, seats) = Mutex::new(alloc, 2, 8, 0u64)?;
     let Some((first, second)) = take_two(&mutex, seats) else {
@@ -148,10 +148,10 @@ fn kept(
     second: Seat<u64>,
     mut room: Vec<Seat<u64>>,
 ) -> Option<(Mutex<u64>, Seat<u64>, Seat<u64>, Missing)>
-    requires first { Of_mutex first mutex }
-    requires second { Of_mutex second mutex }
+    requires first { OfMutex first mutex }
+    requires second { OfMutex second mutex }
     requires empty { room.items ≡ [] }
-    ensures { IfSome result (λ r. Of_mutex r.1 r.0 × Of_mutex r.2 r.0) }
+    ensures { IfSome result (λ r. OfMutex r.1 r.0 × OfMutex r.2 r.0) }
 {
     room.push(first).ok()?;
     room.push(second).ok()?;
@@ -171,11 +171,11 @@ fn stays_open<R: Abort>(
     room: Vec<Seat<u64>>,
     wanted: Missing,
 ) -> (Mutex<u64>, Seat<u64>, Seat<u64>)
-    requires first { Of_mutex first mutex }
-    requires second { Of_mutex second mutex }
+    requires first { OfMutex first mutex }
+    requires second { OfMutex second mutex }
     requires empty { room.items ≡ [] }
-    ensures first { Of_mutex result.1 result.0 }
-    ensures second { Of_mutex result.2 result.0 }
+    ensures first { OfMutex result.1 result.0 }
+    ensures second { OfMutex result.2 result.0 }
 {
     let Some((mutex, first, second, missing)) = kept(mutex, first, second, room) else {
         panic!(rt; "it was closed, where this was missing: {wanted:?}")
@@ -190,9 +190,9 @@ fn kept_alone(
     seat: Seat<u64>,
     mut room: Vec<Seat<u64>>,
 ) -> Option<(Mutex<u64>, Seat<u64>, Missing)>
-    requires seat { Of_mutex seat mutex }
+    requires seat { OfMutex seat mutex }
     requires empty { room.items ≡ [] }
-    ensures { IfSome result (λ r. Of_mutex r.1 r.0) }
+    ensures { IfSome result (λ r. OfMutex r.1 r.0) }
 {
     room.push(seat).ok()?;
     let Err((mutex, seats, missing)) = mutex.close(room) else {
@@ -209,8 +209,8 @@ fn closed(
     second: Seat<u64>,
     mut room: Vec<Seat<u64>>,
 ) -> Option<u64>
-    requires first { Of_mutex first mutex }
-    requires second { Of_mutex second mutex }
+    requires first { OfMutex first mutex }
+    requires second { OfMutex second mutex }
     requires empty { room.items ≡ [] }
 {
     room.push(first).ok()?;
@@ -351,8 +351,8 @@ fn limits(rt: HostRuntime) {
 
 /// Deepens a hold of depth 1 to the greatest depth.
 fn deepen<R: Abort>(rt: &R, mutex: &Mutex<u64>, seat: &mut Seat<u64>)
-    requires { Of_mutex seat.old mutex.now }
-    ensures { Of_mutex seat.new mutex.now }
+    requires { OfMutex seat.old mutex.now }
+    ensures { OfMutex seat.new mutex.now }
 {
     'deepening: for depth in 2..=65_535 {
         sees(rt, "one deeper", &mutex.ask(seat), &Ok(Asked::Again(depth)));
@@ -361,8 +361,8 @@ fn deepen<R: Abort>(rt: &R, mutex: &Mutex<u64>, seat: &mut Seat<u64>)
 
 /// Leaves a hold of the greatest depth, up to depth 1.
 fn leave<R: Abort>(rt: &R, mutex: &Mutex<u64>, seat: &mut Seat<u64>)
-    requires { Of_mutex seat.old mutex.now }
-    ensures { Of_mutex seat.new mutex.now }
+    requires { OfMutex seat.old mutex.now }
+    ensures { OfMutex seat.new mutex.now }
 {
     'leaving: for depth in 1..65_535 {
         sees(
@@ -376,7 +376,7 @@ fn leave<R: Abort>(rt: &R, mutex: &Mutex<u64>, seat: &mut Seat<u64>)
 
 /// Makes all holds that one seat with one take may make, and what is refused at each depth.
 fn refuses_in_order<R: Abort>(rt: &R, mutex: &Mutex<u64>, seat: &mut Seat<u64>)
-    requires { Of_mutex seat.old mutex.now }
+    requires { OfMutex seat.old mutex.now }
 {
     let held = [
         Step::Ask(Ok(Asked::Held(How::Free))),
@@ -447,8 +447,8 @@ fn a_wait_and_its_send(rt: HostRuntime) -> Result<(), Fail> {
 
 /// Looks a thousand times whether a seat that sleeps came to hold, which it may not.
 fn sleeps_on<R: Abort>(rt: &R, mutex: &Mutex<u64>, seat: &mut Seat<u64>)
-    requires { Of_mutex seat.old mutex.now }
-    ensures { Of_mutex seat.new mutex.now }
+    requires { OfMutex seat.old mutex.now }
+    ensures { OfMutex seat.new mutex.now }
 {
     'looking: for look in 0..1_000 {
         make(rt, mutex, seat, look, Step::TryReceive(Ok(None)));

@@ -3,7 +3,7 @@ use Rattle.std.proofs.Common.{◌≡◌, ◌≤◌, ◌+◌, ◌-◌, ℕ, List,
 use Rattle.std.specs.Prelude.{IsErrAnd}
 use Rattle.std.specs.Io.KnownBytes.{Appends, Keeps}
 use Rattle.lfm_text.specs.declared.faults.WriteFault.{WriteFault}
-use Rattle.lfm_text.specs.Writing.{Outcome, Writes, joined}
+use Rattle.lfm_text.specs.Writing.{WriteOutcome, Writes, joined}
 
 -- a text, and then another
 pub Appends-then : (a b c : Option (List ℕ)) (s t : List ℕ) → Appends a b s → Appends b c t → Appends a c (s ++ t)
@@ -59,10 +59,10 @@ stopped old mid new t a p q fault = record {
 
 -- ---- a text after another
 
-Outcome-then : {T : Type 0} (a b c : Option (List ℕ)) (s t : List ℕ) (r : Result T WriteFault)
-    → Appends a b s → Outcome b c t r → Outcome a c (s ++ t) r
-Outcome-then a b c s t (Ok x) p q = Appends-then a b c s t p q
-Outcome-then a b c s t (Err e) p q = record {
+WriteOutcome-then : {T : Type 0} (a b c : Option (List ℕ)) (s t : List ℕ) (r : Result T WriteFault)
+    → Appends a b s → WriteOutcome b c t r → WriteOutcome a c (s ++ t) r
+WriteOutcome-then a b c s t (Ok x) p q = Appends-then a b c s t p q
+WriteOutcome-then a b c s t (Err e) p q = record {
   prefix = s ++ q.prefix;
   rest = q.rest;
   whole = ap (λ l. s ++ l) q.whole ∙ sym (append_assoc s q.prefix q.rest);
@@ -72,7 +72,7 @@ Outcome-then a b c s t (Err e) p q = record {
 -- a text was written, and then another, or a prefix of it
 pub wrote_then : {T U : Type 0} (a b c : Option (List ℕ)) (s t : List ℕ) (u : U) (r : Result T WriteFault)
     → Writes a b s (Ok u) → Writes b c t r → Writes a c (s ++ t) r
-wrote_then a b c s t u r p q = record { outcome = Outcome-then a b c s t r p.outcome q.outcome }
+wrote_then a b c s t u r p q = record { outcome = WriteOutcome-then a b c s t r p.outcome q.outcome }
 
 -- the writer failed within a text, so what should follow is missing too; r is what `?` makes of the fault
 pub failed_within : {T U : Type 0} (a b : Option (List ℕ)) (s t : List ℕ) (fault : WriteFault) (r : Result T WriteFault)

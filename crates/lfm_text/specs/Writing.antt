@@ -16,10 +16,10 @@ pub record AppendsPrefix (old new : Option (List ℕ)) (text : List ℕ) : Type 
   pub appended : Appends old new prefix
 
 -- all of a text is written, or a prefix of it where the writer fails
-abbrev pub Outcome : {T : Type 0} → Option (List ℕ) → Option (List ℕ) → List ℕ → Result T WriteFault → Type 0
-Outcome old new text (Ok answer) = Appends old new text
-Outcome old new text (Err fault) = AppendsPrefix old new text
+abbrev pub WriteOutcome : {T : Type 0} → Option (List ℕ) → Option (List ℕ) → List ℕ → Result T WriteFault → Type 0
+WriteOutcome old new text (Ok answer) = Appends old new text
+WriteOutcome old new text (Err fault) = AppendsPrefix old new text
 
 -- all of a text was written, or a prefix of it before a fault
 pub record Writes {T : Type 0} (old new : Option (List ℕ)) (text : List ℕ) (result : Result T WriteFault) : Type 0 where
-  pub outcome : Outcome old new text result
+  pub outcome : WriteOutcome old new text result

@@ -1,6 +1,6 @@
 //! Our mutex, as a thread uses it.
 ghost use Rattle.std.specs.Prelude.{◌≡◌, ℕ};
-ghost use Rattle.lfm_mutex.specs.Belongs.{Of_mutex};
+ghost use Rattle.lfm_mutex.specs.Belongs.{OfMutex};
 ghost use mathlib.Core.Option.{some};
 ghost use lib.ListN.{get_elem?};
 
@@ -17,13 +17,13 @@ pub const BUDGET: u64 = 1 << 36;
 pub struct User<'a> {
     mutex: &'a Mutex<u64>,
     seat: Seat<u64>,
-    ghost belongs: { Of_mutex seat mutex.now },
+    ghost belongs: { OfMutex seat mutex.now },
 }
 
 impl<'a> User<'a> {
     /// The user of this seat, which is one of the mutex's.
     pub fn new(mutex: &'a Mutex<u64>, seat: Seat<u64>) -> User<'a>
-        requires { Of_mutex seat mutex.now }
+        requires { OfMutex seat mutex.now }
     {
         User { mutex, seat }
     }
@@ -83,8 +83,8 @@ pub fn no_seat() -> io::Error {
 
 /// The user of the last of these seats, which are the mutex's. None where there is none.
 pub fn last_user<'a>(mutex: &'a Mutex<u64>, seats: &mut Vec<Seat<u64>>) -> Option<User<'a>>
-    requires { (j : ℕ) (s : _) → get_elem? seats.old.items j ≡ some s → Of_mutex s mutex.now }
-    ensures { (j : ℕ) (s : _) → get_elem? seats.new.items j ≡ some s → Of_mutex s mutex.now }
+    requires { (j : ℕ) (s : _) → get_elem? seats.old.items j ≡ some s → OfMutex s mutex.now }
+    ensures { (j : ℕ) (s : _) → get_elem? seats.new.items j ≡ some s → OfMutex s mutex.now }
 {
     let seat = seats.pop()?;
     Some(User::new(mutex, seat))

@@ -1,8 +1,8 @@
 //! Our mutex with two condvars on it, as several threads use them. Each thread waits on one of the condvars, and wakes those
 //! who wait on the other.
 ghost use Rattle.std.specs.Prelude.{◌≡◌, ◌≤◌, ℕ, IfOk, IfSome};
-ghost use Rattle.lfm_mutex.specs.Belongs.{Of_mutex, limits_of};
-ghost use Rattle.lfm_condvar.specs.Belongs.{Of_condvar, cond_limits};
+ghost use Rattle.lfm_mutex.specs.Belongs.{OfMutex, limits_of};
+ghost use Rattle.lfm_condvar.specs.Belongs.{OfCondvar, cond_limits};
 ghost use mathlib.Core.Option.{some};
 ghost use lib.ListN.{get_elem?};
 
@@ -33,9 +33,9 @@ pub struct FreeSeats {
 impl Shared {
     /// A mutex round 0, and two condvars, for so many threads. It takes memory.
     pub fn new(alloc: Global, threads: u64) -> Result<(Shared, FreeSeats), AllocError>
-        ensures seats { IfOk result (λ r. (j : ℕ) (s : _) → get_elem? r.1.seats.items j ≡ some s → Of_mutex s r.0.mutex) }
-        ensures first { IfOk result (λ r. (j : ℕ) (s : _) → get_elem? r.1.first_seats.items j ≡ some s → Of_condvar s r.0.first) }
-        ensures second { IfOk result (λ r. (j : ℕ) (s : _) → get_elem? r.1.second_seats.items j ≡ some s → Of_condvar s r.0.second) }
+        ensures seats { IfOk result (λ r. (j : ℕ) (s : _) → get_elem? r.1.seats.items j ≡ some s → OfMutex s r.0.mutex) }
+        ensures first { IfOk result (λ r. (j : ℕ) (s : _) → get_elem? r.1.first_seats.items j ≡ some s → OfCondvar s r.0.first) }
+        ensures second { IfOk result (λ r. (j : ℕ) (s : _) → get_elem? r.1.second_seats.items j ≡ some s → OfCondvar s r.0.second) }
     {
         let Ok((mutex, seats)) = Mutex::new(alloc, threads, BUDGET, 0u64) else {
             return Err(AllocError);
@@ -67,17 +67,17 @@ pub struct Places<'a> {
     seats: Vec<Seat<u64>>,
     first_seats: Vec<CondSeat>,
     second_seats: Vec<CondSeat>,
-    ghost of_mutex: { (j : ℕ) (s : _) → get_elem? seats.items j ≡ some s → Of_mutex s shared.now.mutex },
-    ghost of_first: { (j : ℕ) (s : _) → get_elem? first_seats.items j ≡ some s → Of_condvar s shared.now.first },
-    ghost of_second: { (j : ℕ) (s : _) → get_elem? second_seats.items j ≡ some s → Of_condvar s shared.now.second },
+    ghost of_mutex: { (j : ℕ) (s : _) → get_elem? seats.items j ≡ some s → OfMutex s shared.now.mutex },
+    ghost of_first: { (j : ℕ) (s : _) → get_elem? first_seats.items j ≡ some s → OfCondvar s shared.now.first },
+    ghost of_second: { (j : ℕ) (s : _) → get_elem? second_seats.items j ≡ some s → OfCondvar s shared.now.second },
 }
 
 impl<'a> Places<'a> {
     /// All the seats, which are those of the mutex and the condvars.
     pub fn new(shared: &'a Shared, free: FreeSeats) -> Places<'a>
-        requires seats { (j : ℕ) (s : _) → get_elem? free.seats.items j ≡ some s → Of_mutex s shared.now.mutex }
-        requires first { (j : ℕ) (s : _) → get_elem? free.first_seats.items j ≡ some s → Of_condvar s shared.now.first }
-        requires second { (j : ℕ) (s : _) → get_elem? free.second_seats.items j ≡ some s → Of_condvar s shared.now.second }
+        requires seats { (j : ℕ) (s : _) → get_elem? free.seats.items j ≡ some s → OfMutex s shared.now.mutex }
+        requires first { (j : ℕ) (s : _) → get_elem? free.first_seats.items j ≡ some s → OfCondvar s shared.now.first }
+        requires second { (j : ℕ) (s : _) → get_elem? free.second_seats.items j ≡ some s → OfCondvar s shared.now.second }
     {
         let FreeSeats {
             seats,
@@ -113,9 +113,9 @@ impl<'a> Places<'a> {
 
 /// The last of these seats, which are the mutex's. None where there is none.
 fn last_seat(mutex: &Mutex<u64>, seats: &mut Vec<Seat<u64>>) -> Option<Seat<u64>>
-    requires { (j : ℕ) (s : _) → get_elem? seats.old.items j ≡ some s → Of_mutex s mutex.now }
-    ensures one { IfSome result (λ s. Of_mutex s mutex.now) }
-    ensures rest { (j : ℕ) (s : _) → get_elem? seats.new.items j ≡ some s → Of_mutex s mutex.now }
+    requires { (j : ℕ) (s : _) → get_elem? seats.old.items j ≡ some s → OfMutex s mutex.now }
+    ensures one { IfSome result (λ s. OfMutex s mutex.now) }
+    ensures rest { (j : ℕ) (s : _) → get_elem? seats.new.items j ≡ some s → OfMutex s mutex.now }
 {
     let _mutex = mutex;
     let seat = seats.pop()?;
@@ -124,9 +124,9 @@ fn last_seat(mutex: &Mutex<u64>, seats: &mut Vec<Seat<u64>>) -> Option<Seat<u64>
 
 /// The last of these cond seats, which are the condvar's. None where there is none.
 fn last_cond_seat(condvar: &Condvar, seats: &mut Vec<CondSeat>) -> Option<CondSeat>
-    requires { (j : ℕ) (s : _) → get_elem? seats.old.items j ≡ some s → Of_condvar s condvar.now }
-    ensures one { IfSome result (λ s. Of_condvar s condvar.now) }
-    ensures rest { (j : ℕ) (s : _) → get_elem? seats.new.items j ≡ some s → Of_condvar s condvar.now }
+    requires { (j : ℕ) (s : _) → get_elem? seats.old.items j ≡ some s → OfCondvar s condvar.now }
+    ensures one { IfSome result (λ s. OfCondvar s condvar.now) }
+    ensures rest { (j : ℕ) (s : _) → get_elem? seats.new.items j ≡ some s → OfCondvar s condvar.now }
 {
     let _condvar = condvar;
     let seat = seats.pop()?;
@@ -148,9 +148,9 @@ pub struct Participant<'a> {
     seat: Seat<u64>,
     first_seat: CondSeat,
     second_seat: CondSeat,
-    ghost of_mutex: { Of_mutex seat shared.now.mutex },
-    ghost of_first: { Of_condvar first_seat shared.now.first },
-    ghost of_second: { Of_condvar second_seat shared.now.second },
+    ghost of_mutex: { OfMutex seat shared.now.mutex },
+    ghost of_first: { OfCondvar first_seat shared.now.first },
+    ghost of_second: { OfCondvar second_seat shared.now.second },
 }
 
 impl<'a> Participant<'a> {

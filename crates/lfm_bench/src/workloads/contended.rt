@@ -1,7 +1,7 @@
 //! Several threads take turns at one mutex for a fixed time. In a turn a thread gains the mutex, adds 1 to the value under
 //! it, works for a while, unlocks, and works for a while outside.
 ghost use Rattle.std.specs.Prelude.{◌≡◌, ℕ};
-ghost use Rattle.lfm_mutex.specs.Belongs.{Of_mutex};
+ghost use Rattle.lfm_mutex.specs.Belongs.{OfMutex};
 ghost use mathlib.Core.Option.{some};
 ghost use lib.ListN.{get_elem?};
 
@@ -49,7 +49,7 @@ fn over_seats<R: Threads + Sync + Wait + Clock>(
     mutex: &Mutex<u64>,
     mut seats: Vec<Seat<u64>>,
 ) -> io::Result<Contest>
-    requires { (j : ℕ) (s : _) → get_elem? seats.items j ≡ some s → Of_mutex s mutex.now }
+    requires { (j : ℕ) (s : _) → get_elem? seats.items j ≡ some s → OfMutex s mutex.now }
 {
     let mut reader = last_user(mutex, &mut seats).ok_or(no_seat())?;
     let turns = our_turns(rt, load, mutex, seats)?;
@@ -68,7 +68,7 @@ fn our_turns<R: Threads + Sync + Wait + Clock>(
     mutex: &Mutex<u64>,
     seats: Vec<Seat<u64>>,
 ) -> Result<Vec<Turns>, AllocError>
-    requires { (j : ℕ) (s : _) → get_elem? seats.items j ≡ some s → Of_mutex s mutex.now }
+    requires { (j : ℕ) (s : _) → get_elem? seats.items j ≡ some s → OfMutex s mutex.now }
 {
     let gate = Gate::new(load.threads);
     let shared = &gate;
@@ -76,7 +76,7 @@ fn our_turns<R: Threads + Sync + Wait + Clock>(
         rt,
         move || shared.shut_after(rt, load.window),
         move || -> Result<Vec<Turns>, AllocError>
-            requires { (j : ℕ) (s : _) → get_elem? seats.items j ≡ some s → Of_mutex s mutex.now }
+            requires { (j : ℕ) (s : _) → get_elem? seats.items j ≡ some s → OfMutex s mutex.now }
         { our_parts(rt, load, shared, mutex, seats) },
     );
     turns
@@ -90,13 +90,13 @@ fn our_parts<R: Threads + Sync + Wait + Clock>(
     mutex: &Mutex<u64>,
     seats: Vec<Seat<u64>>,
 ) -> Result<Vec<Turns>, AllocError>
-    requires { (j : ℕ) (s : _) → get_elem? seats.items j ≡ some s → Of_mutex s mutex.now }
+    requires { (j : ℕ) (s : _) → get_elem? seats.items j ≡ some s → OfMutex s mutex.now }
 {
     map_vec(
         rt,
         seats,
         &|seat: Seat<u64>| -> Turns
-            requires { Of_mutex seat mutex.now }
+            requires { OfMutex seat mutex.now }
         { our_part(rt, load, gate, mutex, seat) },
     )
 }
@@ -109,7 +109,7 @@ fn our_part<R: Wait + Clock>(
     mutex: &Mutex<u64>,
     seat: Seat<u64>,
 ) -> Turns
-    requires { Of_mutex seat mutex.now }
+    requires { OfMutex seat mutex.now }
 {
     take_turns(rt, load, gate, User::new(mutex, seat))
 }

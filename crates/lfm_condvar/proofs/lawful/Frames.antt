@@ -9,10 +9,10 @@ use Rattle.lfm_core.specs.steady.Steady.{Fits}
 use Rattle.lfm_condvar.specs.laws.Condvars.{Waiter, Stage, outside, locking_to_wait, starting, receiving, locking_to_wake, claiming, sending, unlocking, CondvarCore, point_of}
 use Rattle.lfm_condvar.proofs.lawful.Invariant.{CondvarGhost, StartsAt, Locks, StartingFits, ReceivingFits, ClaimingFits, SendingFits, UnlockingFits, StageFits, IsPending, CondvarFits, CoreFits}
 use Rattle.lfm_condvar.proofs.lawful.Tickets.{waiters_of}
-use Rattle.lfm_condvar.proofs.lawful.mutex.MutexMoves.{Leaves, same_turn, seat_after}
+use Rattle.lfm_condvar.proofs.lawful.mutex.MutexMoves.{OthersStay, same_turn, seat_after}
 
 -- what a condvar and its claims are
-pub record SameCondvar (k l : CondvarCore) (g h : CondvarGhost) (v : ℕ) : Type 0 where
+pub record KeepsCondvar (k l : CondvarCore) (g h : CondvarGhost) (v : ℕ) : Type 0 where
   pub condvar : l.condvar v ≡ k.condvar v
   pub claimed : h.claimed v ≡ g.claimed v
 
@@ -20,9 +20,9 @@ pub record SameCondvar (k l : CondvarCore) (g h : CondvarGhost) (v : ℕ) : Type
 -- seat each ticket was given to; tickets are only added, and claims too; and who waits for a claim goes on waiting
 -- until it comes, and no longer
 pub record Frame (k l : CondvarCore) (g h : CondvarGhost) (s : ℕ) : Type 0 where
-  pub leaves : Leaves k.mutex l.mutex s
+  pub leaves : OthersStay k.mutex l.mutex s
   pub stage : (t : ℕ) → t ≢ s → l.stage t ≡ k.stage t
-  pub locked : (t v : ℕ) → t ≢ s → 0 < t → (k.condvar v).holder ≡ t → SameCondvar k l g h v
+  pub locked : (t v : ℕ) → t ≢ s → 0 < t → (k.condvar v).holder ≡ t → KeepsCondvar k l g h v
   pub given : (v ticket : ℕ) → ticket ≤ (k.condvar v).added → h.given v ticket ≡ g.given v ticket
   pub added : (v : ℕ) → (k.condvar v).added ≤ (l.condvar v).added
   pub claimed : (v : ℕ) → g.claimed v ≤ h.claimed v

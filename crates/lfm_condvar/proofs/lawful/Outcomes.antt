@@ -11,11 +11,11 @@ use Rattle.lfm_condvar.specs.laws.Condvars.{Condvar, Stage, CondvarCore, put_sta
 use Rattle.lfm_condvar.specs.laws.Claims.{Claim, claims_on}
 use Rattle.lfm_condvar.proofs.lawful.Invariant.{CondvarGhost, StageFits, IsPending, CondvarFits, CoreFits, claims_told}
 use Rattle.lfm_condvar.proofs.lawful.Tickets.{waiters_of}
-use Rattle.lfm_condvar.proofs.lawful.mutex.MutexMoves.{Leaves, MutexMoves, moves_not}
+use Rattle.lfm_condvar.proofs.lawful.mutex.MutexMoves.{OthersStay, MutexMoves, moves_not}
 use Rattle.lfm_condvar.proofs.lawful.Frames.{CondvarAfter, fits_after}
 
 -- what an event leads to: a state that fits again, and the claims that the ghost tells go on by those of the event
-pub record Outcome (l : CondvarCore) (g : CondvarGhost) (claims : List Claim) : Type 0 where
+pub record CondvarOutcome (l : CondvarCore) (g : CondvarGhost) (claims : List Claim) : Type 0 where
   pub to : CondvarGhost
   pub fits : CoreFits l to
   pub history : (v : ℕ) → claims_told to v ≡ claims_told g v ++ claims_on v claims
@@ -29,7 +29,7 @@ abbrev pub with_mutex : CondvarGhost → Ghost → CondvarGhost
 with_mutex g m = record g { mutex = m }
 
 -- nothing was claimed
-pub quiet_outcome : (l : CondvarCore) (g : CondvarGhost) (m : Ghost) → CoreFits l (with_mutex g m) → Outcome l g []
+pub quiet_outcome : (l : CondvarCore) (g : CondvarGhost) (m : Ghost) → CoreFits l (with_mutex g m) → CondvarOutcome l g []
 quiet_outcome l g m fits = record { to = with_mutex g m; fits = fits; history = λ v. append_none (claims_told g v) }
 
 -- a condvar that is left as it is
@@ -77,7 +77,7 @@ pub moves_one : (k l : CondvarCore) (g : CondvarGhost) (d : Core) (s v : ℕ) (x
     → CoreFits l (with_mutex g m.to)
 moves_one k l g d s v x e fits m one moves own pending =
     let h = with_mutex g m.to in
-    let leaves : Leaves k.mutex l.mutex s = rw one.mutex m.leaves in
+    let leaves : OthersStay k.mutex l.mutex s = rw one.mutex m.leaves in
     let waits : (t : ℕ) → wake k.mutex.wakes t ≡ Waiting → wake l.mutex.wakes t ≡ Waiting = rw one.mutex m.waits in
     let waited : (t : ℕ) → t ≢ s → wake l.mutex.wakes t ≡ Waiting → wake k.mutex.wakes t ≡ Waiting =
     rw one.mutex (λ t other word. m.waited t (inl other) word) in

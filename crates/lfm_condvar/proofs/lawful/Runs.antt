@@ -12,7 +12,7 @@ use Rattle.lfm_condvar.specs.laws.Claims.{Claim, claimed_at, claimed_in, claim_r
 use Rattle.lfm_condvar.specs.laws.Events.{CondvarEvent, begins, waits, wakes, makes, goes_on, happens, run_of}
 use Rattle.lfm_condvar.specs.laws.Laws.{CondvarRun, reached_by, claims_of}
 use Rattle.lfm_condvar.proofs.lawful.events.AppendEvent.{at_locking_to_wait}
-use Rattle.lfm_condvar.proofs.lawful.Outcomes.{Outcome, append_none}
+use Rattle.lfm_condvar.proofs.lawful.Outcomes.{CondvarOutcome, append_none}
 use Rattle.lfm_condvar.proofs.lawful.events.ClaimEvent.{at_claiming}
 use Rattle.lfm_condvar.proofs.lawful.events.MutexEvents.{at_begins, at_waits, at_wakes, at_outside, starting_steps, sending_steps, at_receiving}
 use Rattle.lfm_condvar.proofs.lawful.Invariant.{CondvarGhost, is_of_condvar, StartsAt, StartingFits, SendingFits, StageFits, CoreFits, claims_told}
@@ -24,7 +24,7 @@ use Rattle.lfm_core.specs.laws.Schedules.{is_call}
 
 at_starting : (k : CondvarCore) (g : CondvarGhost) (s v ticket : ℕ) → CoreFits k g → k.stage s ≡ starting v ticket
     → StartingFits k g s v ticket → StartsAt k.mutex s
-    → Outcome (goes_on k s (starting v ticket)) g []
+    → CondvarOutcome (goes_on k s (starting v ticket)) g []
 at_starting k g s v ticket fits stage own (inl at) =
     rw (waits_in_call (point_of k s) at) (starting_steps k g s v ticket fits stage own at)
 at_starting k g s v ticket fits stage own (inr sleeps) =
@@ -33,7 +33,7 @@ at_starting k g s v ticket fits stage own (inr sleeps) =
 
 at_sending : (k : CondvarCore) (g : CondvarGhost) (s v : ℕ) (all : Bool) (oldest : _) → CoreFits k g
     → k.stage s ≡ sending v all oldest → SendingFits k g s v
-    → Outcome (goes_on k s (sending v all oldest)) g []
+    → CondvarOutcome (goes_on k s (sending v all oldest)) g []
 at_sending k g s v all oldest fits stage own =
     elim (cases_Bool (is_call (point_of k s))) [
       | inl inside ↦ rw inside (sending_steps k g s v all oldest fits stage own)
@@ -41,7 +41,7 @@ at_sending k g s v all oldest fits stage own =
     ]
 
 step_outcome : (k : CondvarCore) (g : CondvarGhost) (s : ℕ) (d : Stage) → CoreFits k g → k.stage s ≡ d → StageFits k g s d
-    → Outcome (goes_on k s d) g (claimed_at k s d)
+    → CondvarOutcome (goes_on k s d) g (claimed_at k s d)
 step_outcome k g s outside fits stage own = at_outside k g s fits stage
 step_outcome k g s (locking_to_wait v) fits stage own = at_locking_to_wait k g s v fits stage
 step_outcome k g s (starting v ticket) fits stage own = at_starting k g s v ticket fits stage own own.at
@@ -53,7 +53,7 @@ step_outcome k g s (unlocking v) fits stage own = at_unlocking k g s v fits stag
 
 -- every event keeps a state fitting
 pub event_outcome : (k : CondvarCore) (g : CondvarGhost) (e : CondvarEvent) → CoreFits k g
-    → Outcome (happens k e) g (claimed_in k e)
+    → CondvarOutcome (happens k e) g (claimed_in k e)
 event_outcome k g (begins s call) fits = at_begins k g s call fits
 event_outcome k g (waits s v) fits = at_waits k g s v fits
 event_outcome k g (wakes s v all) fits = at_wakes k g s v all fits
@@ -70,7 +70,7 @@ claims_on-append v (x ∷ rest) later =
     ]
 
 pub run_outcome : (k : CondvarCore) (g : CondvarGhost) (events : List CondvarEvent) → CoreFits k g
-    → Outcome (run_of k events) g (claim_record k events)
+    → CondvarOutcome (run_of k events) g (claim_record k events)
 run_outcome k g [] fits = record { to = g; fits = fits; history = λ v. append_none (claims_told g v) }
 run_outcome k g (e ∷ later) fits =
     let one = event_outcome k g e fits in

@@ -1,9 +1,9 @@
 //! How a user seat gets into the list: it is appended and falls asleep, or neither.
 ghost use Rattle.std.specs.Prelude.{◌≡◌, ◌<◌, ◌≤◌, MatchOption, slice_index};
-ghost use Rattle.lfm_mutex.specs.Belongs.{Beside, Of_mutex, budget_of, limits_of};
-ghost use Rattle.lfm_mutex.specs.calls.Sight.{sight, May_leave, Wait_refused};
-ghost use Rattle.lfm_condvar.specs.Keeping.{Follows};
-ghost use Rattle.lfm_condvar.specs.Waits.{Enlists, May_wait};
+ghost use Rattle.lfm_mutex.specs.Belongs.{Beside, OfMutex, budget_of, limits_of};
+ghost use Rattle.lfm_mutex.specs.calls.Sight.{sight, MayLeave, WaitRefused};
+ghost use Rattle.lfm_condvar.specs.Keeping.{WaitersFollow};
+ghost use Rattle.lfm_condvar.specs.Waits.{Enlists, MayWait};
 
 use crate::waiters::Waiters;
 use lfm_model::{Refusal, SeatNo};
@@ -11,7 +11,7 @@ use lfm_mutex::{Kept, Mutex, Seat};
 
 /// Why the seat can't make `start_wait`, if it can't.
 pub(crate) fn bars_wait<T: Kept>(seat: &Seat<T>) -> Option<Refusal>
-    ensures { MatchOption result (May_wait (budget_of seat.now) (sight seat.now)) (λ r. Wait_refused (budget_of seat.now) (sight seat.now) r) }
+    ensures { MatchOption result (MayWait (budget_of seat.now) (sight seat.now)) (λ r. WaitRefused (budget_of seat.now) (sight seat.now) r) }
 {
     if seat.asleep() {
         return Some(Refusal::Asleep);
@@ -41,12 +41,12 @@ pub fn enlist<T: Kept>(
     mutex: &Mutex<T>,
     seat: &mut Seat<T>,
 ) -> Result<u64, Refusal>
-    requires belongs { Of_mutex seat.old mutex.now }
+    requires belongs { OfMutex seat.old mutex.now }
     requires by { (by ≤ waiters.old.seats) × (slice_index waiters.old.counts.items by < waiters.old.budget) }
-    requires leaves { May_leave T.follows T.fits (sight seat.old) }
+    requires leaves { MayLeave T.follows T.fits (sight seat.old) }
     ensures belongs { Beside seat.old seat.new }
     ensures enlists { Enlists (limits_of mutex.now) by (sight seat.old) (sight seat.new) waiters.old waiters.new result }
-    ensures follows { Follows by waiters.old waiters.new }
+    ensures follows { WaitersFollow by waiters.old waiters.new }
 {
     if let Some(refusal) = bars_wait(seat) {
         return Err(refusal);

@@ -1,9 +1,9 @@
 //! How a user seat leaves the list: it is sent and removed, or neither.
 ghost use Rattle.std.specs.Prelude.{◌≡◌, ◌≤◌, ℕ};
-ghost use Rattle.lfm_mutex.specs.Belongs.{Beside, Of_mutex, limits_of};
+ghost use Rattle.lfm_mutex.specs.Belongs.{Beside, OfMutex, limits_of};
 ghost use Rattle.lfm_mutex.specs.calls.Sight.{sight};
-ghost use Rattle.lfm_condvar.specs.Keeping.{Follows};
-ghost use Rattle.lfm_condvar.specs.Wakes.{Sends_by, Sends_oldest};
+ghost use Rattle.lfm_condvar.specs.Keeping.{WaitersFollow};
+ghost use Rattle.lfm_condvar.specs.Wakes.{SendsBy, SendsOldest};
 
 use crate::waiters::Waiters;
 use lfm_model::{Refusal, SeatNo};
@@ -21,12 +21,12 @@ pub fn send_oldest<T: Kept>(
     mutex: &Mutex<T>,
     seat: &mut Seat<T>,
 ) -> Result<Option<(SeatNo, u64)>, Refusal>
-    requires belongs { Of_mutex seat.old mutex.now }
+    requires belongs { OfMutex seat.old mutex.now }
     requires wide { waiters.old.seats ≤ (limits_of mutex.now).seats }
     ensures belongs { Beside seat.old seat.new }
-    ensures sends { Sends_oldest (limits_of mutex.now).seats (sight seat.old) (sight seat.new) waiters.old waiters.new result }
-    ensures steps { Sends_by (limits_of mutex.now) (sight seat.old) (sight seat.new) result }
-    ensures follows { (s : ℕ) → Follows s waiters.old waiters.new }
+    ensures sends { SendsOldest (limits_of mutex.now).seats (sight seat.old) (sight seat.new) waiters.old waiters.new result }
+    ensures steps { SendsBy (limits_of mutex.now) (sight seat.old) (sight seat.new) result }
+    ensures follows { (s : ℕ) → WaitersFollow s waiters.old waiters.new }
 {
     if seat.asleep() {
         return Err(Refusal::Asleep);

@@ -12,7 +12,7 @@ use Rattle.lfm_words.specs.declared.wakes.Wake.TheVariants.{Quiet}
 use Rattle.lfm_protocol.specs.Begin as Begin
 use Rattle.lfm_protocol.specs.Core.{Core, put, limits}
 use Rattle.lfm_core.specs.steady.Ghost.{apart, Ghost}
-use Rattle.lfm_core.specs.steady.Outcome.{Kept}
+use Rattle.lfm_core.specs.steady.EventOutcome.{Kept}
 use Rattle.lfm_protocol.specs.Seats.{seat, wake, is_seat, IsSeat}
 use Rattle.lfm_core.specs.steady.Steady.{StandsAt, DepthAt, KnowsAt, SeatFits, Fits}
 use Rattle.lfm_protocol.specs.Step.{begin}
@@ -45,7 +45,7 @@ at_Asleep c g s sleeper is at fits =
 -- A seat that leaves its rest
 
 -- what the point and the depth at which it goes on have to meet
-pub record Leaves (c : Core) (g : Ghost) (s depth depth' takes' posts : ℕ) (p : Point) (w : Wake) : Type 0 where
+pub record BeginFits (c : Core) (g : Ghost) (s depth depth' takes' posts : ℕ) (p : Point) (w : Wake) : Type 0 where
   pub claims : claim_at depth' s p ≡ by_depth depth s false
   pub woken : wake_at g.place (g.standing s) s p ≡ Quiet
   pub stands : g.standing s ≡ apart → StandsAt g.place depth' s (g.standing s) p
@@ -57,7 +57,7 @@ pub record Leaves (c : Core) (g : Ghost) (s depth depth' takes' posts : ℕ) (p 
 
 leaves_own : (c : Core) (g : Ghost) (s depth depth' takes takes' posts : ℕ) (p : Point) (w : Wake)
     → SeatFits c g s (record { depth = depth; takes = takes; posts = posts; point = Rest }) w
-    → Leaves c g s depth depth' takes' posts p w
+    → BeginFits c g s depth depth' takes' posts p w
     → SeatFits c g s (record { depth = depth'; takes = takes'; posts = posts; point = p }) w
 leaves_own c g s depth depth' takes takes' posts p w here leaves =
     let unknown : is_some (grant_at g.place s) ≢ true = λ some. let f = (here.granted some).0 in cc in
@@ -79,7 +79,7 @@ leaves_own c g s depth depth' takes takes' posts p w here leaves =
     }
 
 leaves_rest : (c : Core) (g : Ghost) (s depth' takes' : ℕ) (p : Point) → IsSeat c.seats s → (seat c.seats s).point ≡ Rest → Fits c g → asks_for_at depth' s p ≡ 0
-    → claims_for_at p ≡ 0 → Leaves c g s (seat c.seats s).depth depth' takes' (seat c.seats s).posts p (wake c.wakes s)
+    → claims_for_at p ≡ 0 → BeginFits c g s (seat c.seats s).depth depth' takes' (seat c.seats s).posts p (wake c.wakes s)
     → Fits (put c s (record { depth = depth'; takes = takes'; posts = (seat c.seats s).posts; point = p })) g
 leaves_rest c g s depth' takes' p is at fits asks sends leaves =
     let x = seat c.seats s in
@@ -97,7 +97,7 @@ stays c g s is fits = view_moves c g s (seat c.seats s) is fits (record { asks_s
 abbrev EntersBy : Core → Ghost → ℕ → Point → Type 0
 EntersBy c g s p =
     (depth takes posts : ℕ) (w : Wake) → depth < 65535 → takes ≤ c.budget → posts + 1 ≤ takes → g.pushes s + due_unless_held depth ≤ takes
-    → Leaves c g s depth depth takes posts p w
+    → BeginFits c g s depth depth takes posts p w
 
 lock_enters : (c : Core) (g : Ghost) (s : ℕ) → EntersBy c g s LockCountAdd
 lock_enters c g s depth takes posts w deep within room pushes =

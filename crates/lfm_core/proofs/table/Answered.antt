@@ -12,7 +12,7 @@ use Rattle.lfm_words.specs.declared.wakes.Wake.TheVariants.{Grant}
 use Rattle.lfm_protocol.specs.Core.{Core}
 use Rattle.lfm_core.specs.steady.Ghost.{granted, entering, serving, Ghost}
 use Rattle.lfm_core.specs.steady.Numbered.{records}
-use Rattle.lfm_core.specs.steady.Outcome.{GoesOn}
+use Rattle.lfm_core.specs.steady.EventOutcome.{GoesOn}
 use Rattle.lfm_protocol.specs.Seats.{seat, wake}
 use Rattle.lfm_core.specs.steady.Steady.{unanswered, Fits}
 use Rattle.lfm_core.specs.steady.Views.{claim_to_enter}

@@ -9,7 +9,7 @@ use Rattle.lfm_words.specs.Popped.{oldest}
 use Rattle.lfm_protocol.specs.Core.{Core, put, limits}
 use Rattle.lfm_core.specs.laws.Events.{pushed_by, popped_by, answered_by}
 use Rattle.lfm_core.specs.steady.Ghost.{Ghost}
-use Rattle.lfm_core.specs.steady.Outcome.{abstract, GoesOn}
+use Rattle.lfm_core.specs.steady.EventOutcome.{abstract, GoesOn}
 use Rattle.lfm_protocol.specs.Seats.{seat, with_entry, IsSeat}
 use Rattle.lfm_core.specs.steady.Steady.{Fits}
 use Rattle.lfm_protocol.specs.Step.{made}

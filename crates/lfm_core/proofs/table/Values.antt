@@ -10,7 +10,7 @@ use Rattle.lfm_protocol.specs.declared.seats.SeatState.{SeatState}
 use Rattle.lfm_model.specs.Abstract.{AbstractPlace}
 use Rattle.lfm_protocol.specs.Core.{Core}
 use Rattle.lfm_core.specs.steady.Ghost.{Responsibility, nobody, owned, granted, posted, entering, accepting, leaving, serving, Ghost}
-use Rattle.lfm_core.specs.steady.Outcome.{abstract, abstract_place}
+use Rattle.lfm_core.specs.steady.EventOutcome.{abstract, abstract_place}
 use Rattle.lfm_protocol.specs.Place.{carries}
 use Rattle.lfm_protocol.specs.Seats.{seat, with_entry, IsSeat}
 use Rattle.lfm_core.specs.steady.Steady.{DepthOfPusher, DepthAt, Fits}

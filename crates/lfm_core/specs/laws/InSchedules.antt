@@ -31,7 +31,7 @@ use Rattle.lfm_core.specs.laws.Progress.{changes_beside, changes_of_call, open_c
 use Rattle.lfm_core.specs.laws.Reading.{Claims, Reads}
 use Rattle.lfm_core.specs.laws.Schedules.{Event, makes, happens, run_of, steps, push_record, popped_record, is_call, weight_of_call, steps_of_call}
 use Rattle.lfm_core.specs.laws.Service.{OnlyServes}
-use Rattle.lfm_core.specs.laws.Watched.{Waits, Watched}
+use Rattle.lfm_core.specs.laws.Watched.{IsQueued, Watched}
 
 -- Mutual exclusion
 
@@ -119,7 +119,7 @@ QuiescentStatesRestInSchedules =
 abbrev pub SleepersAreReachableInSchedules : Type 0
 SleepersAreReachableInSchedules =
     (c : Core) (t : ℕ) (since : Sleeper) → IsReached c → (seat c.seats t).point ≡ Asleep since
-    → Waits c t ⊎ (((stamp : ℕ) × (wake c.wakes t ≡ Grant stamp)) ⊎ ((wake c.wakes t ≡ Waiting) ⊎ IsSent c t))
+    → IsQueued c t ⊎ (((stamp : ℕ) × (wake c.wakes t ≡ Grant stamp)) ⊎ ((wake c.wakes t ≡ Waiting) ⊎ IsSent c t))
 
 -- after a successful handoff exchange, the push list that the take clears has a record
 abbrev pub TakesFindARecordInSchedules : Type 0

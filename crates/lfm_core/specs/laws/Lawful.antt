@@ -14,7 +14,7 @@ use Rattle.lfm_core.specs.laws.Errands.{Asks, IsClaimedFor}
 use Rattle.lfm_protocol.specs.Queue.{queue_of}
 use Rattle.lfm_core.specs.laws.Reading.{Reads, IsCounted}
 use Rattle.lfm_protocol.specs.Seats.{seat, wake, unposted, IsSeat}
-use Rattle.lfm_core.specs.laws.Watched.{Waits, Watched}
+use Rattle.lfm_core.specs.laws.Watched.{IsQueued, Watched}
 
 abbrev pub owning_seat : AbstractPlace → ℕ
 owning_seat (owner s) = s
@@ -58,7 +58,7 @@ pub record IsBroughtIn (c : Core) (t : ℕ) : Type 0 where
 
 -- seat t stands between a send's claim and its grant: claimed, asking, queued or about to be granted
 abbrev pub IsSent : Core → ℕ → Type 0
-IsSent c t = IsClaimedFor c t ⊎ (Asks c t ⊎ (Waits c t ⊎ IsBroughtIn c t))
+IsSent c t = IsClaimedFor c t ⊎ (Asks c t ⊎ (IsQueued c t ⊎ IsBroughtIn c t))
 
 pub record IsLawful (c : Core) (a : AbstractMutex) : Type 0 where
   pub reads : Reads c a

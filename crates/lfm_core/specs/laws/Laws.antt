@@ -32,7 +32,7 @@ use Rattle.lfm_core.specs.laws.Schedules.{Event, makes, happens, run_of, reached
 use Rattle.lfm_protocol.specs.Seats.{seat, wake, unposted, IsSeat}
 use Rattle.lfm_core.specs.steady.Steady.{Steady}
 use Rattle.lfm_protocol.specs.Step.{begin, start}
-use Rattle.lfm_core.specs.laws.Watched.{Waits, Watched}
+use Rattle.lfm_core.specs.laws.Watched.{IsQueued, Watched}
 
 -- a state that some schedule reaches
 pub record IsReached (c : Core) : Type 0 where
@@ -135,7 +135,7 @@ QuiescentStatesRest =
 abbrev pub SleepersAreReachable : Type 0
 SleepersAreReachable =
     (c : Core) (t : ℕ) (since : Sleeper) → Steady c → (seat c.seats t).point ≡ Asleep since
-    → Waits c t ⊎ (((stamp : ℕ) × (wake c.wakes t ≡ Grant stamp)) ⊎ ((wake c.wakes t ≡ Waiting) ⊎ IsSent c t))
+    → IsQueued c t ⊎ (((stamp : ℕ) × (wake c.wakes t ≡ Grant stamp)) ⊎ ((wake c.wakes t ≡ Waiting) ⊎ IsSent c t))
 
 -- the carriers that have won a handoff exchange
 abbrev pub has_won : Carrier → Bool

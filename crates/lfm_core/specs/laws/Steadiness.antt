@@ -10,7 +10,7 @@ use Rattle.lfm_core.specs.laws.Schedules.{Event, happens, pushed_in, popped_in, 
 use Rattle.lfm_core.specs.laws.Touched.{StepTouches, BeginTouches, LooksSame}
 use Rattle.lfm_protocol.specs.Seats.{seat, IsSeat}
 use Rattle.lfm_core.specs.steady.Ghost.{Ghost}
-use Rattle.lfm_core.specs.steady.Outcome.{Outcome}
+use Rattle.lfm_core.specs.steady.EventOutcome.{EventOutcome}
 use Rattle.lfm_core.specs.steady.Steady.{Fits, Steady}
 use Rattle.lfm_protocol.specs.Step.{begin, step}
 use Rattle.lfm_core.specs.table.Carried.{TableStep}
@@ -27,7 +27,7 @@ StatesAreSteady = (c : Core) → IsReached c → Steady c
 abbrev pub StepsKeepSteady : Type 0
 StepsKeepSteady =
     (c : Core) (g : Ghost) (e : Event) → Fits c g
-    → Outcome g (happens c e).core (case_of_event c e) (pushed_in c e) (popped_in c e) (answered_in c e)
+    → EventOutcome g (happens c e).core (case_of_event c e) (pushed_in c e) (popped_in c e) (answered_in c e)
 
 -- one word and one seat
 

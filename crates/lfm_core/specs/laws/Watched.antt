@@ -9,8 +9,8 @@ use Rattle.lfm_protocol.specs.Queue.{queue_of}
 use Rattle.lfm_protocol.specs.Seats.{seat}
 
 -- seat t has a record in the queue
-abbrev pub Waits : Core → ℕ → Type 0
-Waits c t = Any (λ r. r.seat ≡ t) (queue_of c)
+abbrev pub IsQueued : Core → ℕ → Type 0
+IsQueued c t = Any (λ r. r.seat ≡ t) (queue_of c)
 
 -- the call of seat s, at this point, is one of:
 -- a lock or send whose seat asks or waits, and that has not loaded the handoff after its push;
@@ -21,7 +21,7 @@ Watches c s x LockOwnerLoad = x.depth ≡ 0
 Watches c s x (PushLoad pusher) = ⊤
 Watches c s x (LinkStore pusher seen) = ⊤
 Watches c s x (PushExchange pusher seen) = ⊤
-Watches c s x (PushedHandoffLoad pusher) = Waits c (pushed_seat pusher s)
+Watches c s x (PushedHandoffLoad pusher) = IsQueued c (pushed_seat pusher s)
 Watches c s x (SendPushLook t seen) = (c.handoff ≡ seen) × (0 < c.push.next)
 Watches c s x (PushedHandoffExchange pusher seen) = c.handoff ≡ seen
 Watches c s x (ReleasePushLook releaser) = (c.handoff ≡ record { seat = s; post = x.posts }) × (0 < c.push.next)

@@ -8,7 +8,7 @@ use Rattle.lfm_core.specs.laws.Cases.{GoesBy}
 use Rattle.lfm_protocol.specs.Core.{Core, put}
 use Rattle.lfm_core.specs.laws.Events.{case_of_step, pushed_by, popped_by, answered_by}
 use Rattle.lfm_core.specs.steady.Ghost.{Ghost}
-use Rattle.lfm_core.specs.steady.Outcome.{abstract, GoesOn}
+use Rattle.lfm_core.specs.steady.EventOutcome.{abstract, GoesOn}
 use Rattle.lfm_protocol.specs.Place.{carries}
 use Rattle.lfm_core.specs.table.Ready.{IsReady}
 use Rattle.lfm_protocol.specs.Seats.{seat, with_entry}

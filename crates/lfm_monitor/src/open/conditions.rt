@@ -1,7 +1,7 @@
 //! The conditions of a new monitor, and the cond seats of each of its passes.
 ghost use Rattle.std.specs.Prelude.{◌≡◌, ◌+◌, ℕ, IfErr, IfOk, true, vec_len};
 ghost use Rattle.lfm_model.specs.declared.refusals.NewFault.{NewFault};
-ghost use Rattle.lfm_monitor.specs.CondSeats.{Are_conditions, Are_new_of};
+ghost use Rattle.lfm_monitor.specs.CondSeats.{AreConditions, AreNewOf};
 ghost use Rattle.lfm_protocol.specs.Limits.{are_in_limits, max_budget};
 ghost use lib.ListN.{get_elem?};
 ghost use mathlib.Core.Option.{some};
@@ -19,8 +19,8 @@ pub fn new_conditions(
     count: u64,
 ) -> Result<(Vec<Condvar>, Vec<Vec<CondSeat>>), NewFault>
     requires { are_in_limits passes max_budget ≡ true }
-    ensures conditions { IfOk result (λ r. (vec_len r.0 ≡ count) × Are_conditions passes r.0.items) }
-    ensures seats { IfOk result (λ r. (vec_len r.1 ≡ passes) × ((j : ℕ) (l : _) → get_elem? r.1.items j ≡ some l → Are_new_of (j + 1) l.items r.0.items)) }
+    ensures conditions { IfOk result (λ r. (vec_len r.0 ≡ count) × AreConditions passes r.0.items) }
+    ensures seats { IfOk result (λ r. (vec_len r.1 ≡ passes) × ((j : ℕ) (l : _) → get_elem? r.1.items j ≡ some l → AreNewOf (j + 1) l.items r.0.items)) }
     ensures memory { IfErr result (λ e. e ≡ NewFault.Memory) }
 {
     let Ok(mut conditions) = Vec::with_capacity(alloc, count as usize) else {

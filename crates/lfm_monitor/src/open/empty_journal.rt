@@ -1,6 +1,6 @@
 //! What the mutex of a new monitor guards: the object with an empty journal.
 ghost use Rattle.lfm_model.specs.declared.refusals.NewFault.{NewFault};
-ghost use Rattle.lfm_monitor.specs.Begun.{Is_empty, max_entries};
+ghost use Rattle.lfm_monitor.specs.Begun.{IsEmpty, max_entries};
 ghost use Rattle.std.specs.Prelude.{◌≡◌, ◌*◌, ◌≤◌, IfErr, IfOk};
 
 use crate::journaled::Journaled;
@@ -16,7 +16,7 @@ pub fn journaled<O: Object>(
     object: O,
 ) -> Result<Journaled<O>, NewFault>
     requires { seats * share ≤ max_entries }
-    ensures empty { IfOk result (λ v. Is_empty object seats share v) }
+    ensures empty { IfOk result (λ v. IsEmpty object seats share v) }
     ensures memory { IfErr result (λ e. e ≡ NewFault.Memory) }
 {
     let Ok(journal) = Vec::with_capacity(alloc, (seats * share) as usize) else {

@@ -28,11 +28,11 @@ use Rattle.lfm_table.specs.declared.seat_view.Role.TheVariants.{User, Retired}
 use Rattle.lfm_table.specs.declared.seat_view.Joined.{Joined}
 use Rattle.lfm_table.specs.declared.seat_view.View.{View}
 use Rattle.lfm_table.specs.declared.rule.Moving.{Moving}
-use Rattle.lfm_mutex.specs.Close.{Hinders, Hindered, named, Are_free}
+use Rattle.lfm_mutex.specs.Close.{Hinders, Hindered, named, AreFree}
 use Rattle.lfm_mutex.proofs.ends.FreeWords.{free_core}
 use Rattle.lfm_table.specs.Reach.{Reached}
 use Rattle.lfm_mutex.specs.calls.Sight.{Sight, is_asleep, by_depth}
-use Rattle.lfm_table.specs.Rule.{total, retired, retired_at, in_hand, Held, None_ended, Left_in, joined_of}
+use Rattle.lfm_table.specs.Rule.{total, retired, retired_at, in_hand, Held, NoneEnded, LeftIn, joined_of}
 use Rattle.lfm_table.specs.Seats.{Seated}
 use Rattle.lfm_table.specs.Settled.{Became, calls_to}
 use Rattle.lfm_table.proofs.tables.RuleKept.{length_at}
@@ -105,8 +105,8 @@ module _ {T : Type 0} (follows : ℕ → T → T → Type 0) (suits : T → ℕ 
   abbrev St : Type 0
   St = State (Option (Moving T)) (View T)
 
-  abbrev Is_resting : SeatState → Type 0
-  Is_resting x = (x.point ≡ Rest) × (x.depth ≡ 0)
+  abbrev IsResting : SeatState → Type 0
+  IsResting x = (x.point ≡ Rest) × (x.depth ≡ 0)
 
   -- where all seats are back, the view of seat 1 is the only one that was not joined
   last_user : (s : St) (h : Held follows suits s) (v : View T) → get_elem? s.views 0 ≡ some v → v.made ≤ length v.joined → (j : ℕ) (z : View T) → get_elem? s.views j ≡ some z → z.role ≡ User → v ≡ z
@@ -117,38 +117,38 @@ module _ {T : Type 0} (follows : ℕ → T → T → Type 0) (suits : T → ℕ 
       (λ other. absurd (let one' : used z ≡ 1 = ap used_at u in let b = total_two used s.views 0 j v z at e other in omega arith))
 
   -- where all seats are back, all of them rest
-  all_rest : (s : St) (h : Held follows suits s) (v : View T) → get_elem? s.views 0 ≡ some v → v.made ≤ length v.joined → v.standing.point ≡ Rest → v.standing.depth ≡ 0 → (t : ℕ) → Is_resting (seat h.core.seats t)
-  all_rest s h v at back rests flat zero = subst Is_resting (sym (seat_zero h.core.seats)) (refl, refl)
+  all_rest : (s : St) (h : Held follows suits s) (v : View T) → get_elem? s.views 0 ≡ some v → v.made ≤ length v.joined → v.standing.point ≡ Rest → v.standing.depth ≡ 0 → (t : ℕ) → IsResting (seat h.core.seats t)
+  all_rest s h v at back rests flat zero = subst IsResting (sym (seat_zero h.core.seats)) (refl, refl)
   all_rest s h v at back rests flat (suc j) =
       let next : suc j ≡ j + 1 = omega arith in
-      subst (λ (n : ℕ). Is_resting (seat h.core.seats n)) (sym next) (⊎_elim
-      (λ (z : (x : View T) × (get_elem? s.views j ≡ some x)). subst Is_resting (sym (h.each j z.0 z.1).standing) (⊎_elim
-      (λ (u : z.0.role ≡ User). subst (λ (y : View T). Is_resting y.standing) (last_user s h v at back j z.0 z.1 u) (rests, flat))
+      subst (λ (n : ℕ). IsResting (seat h.core.seats n)) (sym next) (⊎_elim
+      (λ (z : (x : View T) × (get_elem? s.views j ≡ some x)). subst IsResting (sym (h.each j z.0 z.1).standing) (⊎_elim
+      (λ (u : z.0.role ≡ User). subst (λ (y : View T). IsResting y.standing) (last_user s h v at back j z.0 z.1 u) (rests, flat))
       (λ (u : z.0.role ≡ Retired). h.others j z.0 z.1 u) (is_user z.0.role)))
-      (λ far. subst Is_resting (sym (h.later j far)) (refl, refl)) (there_or_past s.views j))
+      (λ far. subst IsResting (sym (h.later j far)) (refl, refl)) (there_or_past s.views j))
 
   -- the value at the end is reached from what each seat left last
-  abbrev pub Reaches_all : View T → T → Type 0
-  Reaches_all v w = ((l : T) → v.last ≡ Some l → Reached follows v.number l w) × ((i : ℕ) (g : Joined T) (l : T) → get_elem? v.joined i ≡ some g → g.last ≡ Some l → Reached follows g.number l w)
+  abbrev pub ReachesAll : View T → T → Type 0
+  ReachesAll v w = ((l : T) → v.last ≡ Some l → Reached follows v.number l w) × ((i : ℕ) (g : Joined T) (l : T) → get_elem? v.joined i ≡ some g → g.last ≡ Some l → Reached follows g.number l w)
 
   -- no seat has ended a hold
-  abbrev pub None_at_end : View T → Type 0
-  None_at_end v = (v.last_found ≡ None) × ((i : ℕ) (g : Joined T) → get_elem? v.joined i ≡ some g → g.found ≡ None)
+  abbrev pub NoneAtEnd : View T → Type 0
+  NoneAtEnd v = (v.last_found ≡ None) × ((i : ℕ) (g : Joined T) → get_elem? v.joined i ≡ some g → g.found ≡ None)
 
   -- the value at the end is what seat 1 left last, or what a seat that was joined did
-  abbrev pub Left_at_end : View T → T → Type 0
-  Left_at_end v w = ((v.last ≡ Some w) × (v.last_found ≡ None → None_at_end v)) ⊎ ((i : ℕ) × (g : Joined T) × (get_elem? v.joined i ≡ some g) × (g.last ≡ Some w) × (g.found ≡ None → None_at_end v))
+  abbrev pub LeftAtEnd : View T → T → Type 0
+  LeftAtEnd v w = ((v.last ≡ Some w) × (v.last_found ≡ None → NoneAtEnd v)) ⊎ ((i : ℕ) × (g : Joined T) × (get_elem? v.joined i ≡ some g) × (g.last ≡ Some w) × (g.found ≡ None → NoneAtEnd v))
 
-  none_end : (s : St) (h : Held follows suits s) (v : View T) → get_elem? s.views 0 ≡ some v → None_ended s.views → None_at_end v
+  none_end : (s : St) (h : Held follows suits s) (v : View T) → get_elem? s.views 0 ≡ some v → NoneEnded s.views → NoneAtEnd v
   none_end s h v at all = (all 0 v at, λ i g e. let a = (h.root v at).kept i g e in sym a.6 ∙ all a.0 a.1 a.2)
 
-  left_last : (s : St) (h : Held follows suits s) (v : View T) → get_elem? s.views 0 ≡ some v → v.made ≤ length v.joined → (w : T) → Left_in s.views w → Left_at_end v w
+  left_last : (s : St) (h : Held follows suits s) (v : View T) → get_elem? s.views 0 ≡ some v → v.made ≤ length v.joined → (w : T) → LeftIn s.views w → LeftAtEnd v w
   left_last s h v at back w left = ⊎_elim
       (λ (u : left.1.role ≡ User). let one = last_user s h v at back left.0 left.1 left.2 u in inl (ap (λ (z : View T). z.last) one ∙ left.3, λ none. none_end s h v at (left.4 (sym (ap (λ (z : View T). z.last_found) one) ∙ none))))
       (λ (u : left.1.role ≡ Retired). let a = (h.root v at).gone left.0 left.1 left.2 u in inr (a.0, joined_of left.1, a.1, left.3, λ none. none_end s h v at (left.4 none))) (is_user left.1.role)
 
   pub ends : (v : View T) (ws : List ℕ) (xs : List (Option (Moving T))) → v.made ≤ length v.joined → v.standing.point ≡ Rest → v.standing.depth ≡ 0 → Final (Seen (Held follows suits) 0 v) ws xs
-      → (x : Moving T) × (get_elem? xs 0 ≡ some (Some x)) × Reaches_all v x.value × (length v.joined ≤ v.made) × Are_free ws × (x.popped.records ≡ []) × Left_at_end v x.value
+      → (x : Moving T) × (get_elem? xs 0 ≡ some (Some x)) × ReachesAll v x.value × (length v.joined ≤ v.made) × AreFree ws × (x.popped.records ≡ []) × LeftAtEnd v x.value
   ends v ws xs back rests flat end = let s = end.0 in let h = end.1.0 in let at = end.1.1 in let all = all_rest s h v at back rests flat in let free = free_core h.core h.ghost_state h.fits all in let x = h.home (λ t. resting (seat h.core.seats t) (all t).0 (all t).1) in let k = h.root v at in
       let each : (j : ℕ) (z : View T) (l : T) → get_elem? s.views j ≡ some z → z.last ≡ Some l → Reached follows z.number l x.value.value =
       (λ j z l e is. subst (λ (n : ℕ). Reached follows n l x.value.value) (sym (h.each j z e).number) (x.leads j z l e tt is)) in (

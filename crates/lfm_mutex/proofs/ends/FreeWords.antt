@@ -8,7 +8,7 @@ use Rattle.lfm_core.specs.laws.Laws.{IsHeld, IsGranted}
 use Rattle.lfm_core.specs.steady.Ghost.{Ghost}
 use Rattle.lfm_core.specs.steady.Steady.{Fits, Steady, cleared}
 use Rattle.lfm_core.proofs.lawful.states.StateLaws.{quiescent_states_rest}
-use Rattle.lfm_mutex.specs.Close.{Is_free}
+use Rattle.lfm_mutex.specs.Close.{IsFree}
 
 empty : {A : Type 0} (l : List A) → length l ≡ 0 → l ≡ []
 empty [] e = refl
@@ -20,7 +20,7 @@ held_not c rests h = let flat = (rests h.owner).1 in let deep = h.depth in omega
 granted_not : (c : Core) → ((t : ℕ) → ((seat c.seats t).point ≡ Rest) × ((seat c.seats t).depth ≡ 0)) → IsGranted c → ⊥
 granted_not c rests h = let f : Rest ≡ Asleep h.since = sym (rests h.sleeper).0 ∙ h.sleeps in absurd (cc)
 
-pub free_core : (c : Core) (g : Ghost) → Fits c g → ((t : ℕ) → ((seat c.seats t).point ≡ Rest) × ((seat c.seats t).depth ≡ 0)) → Is_free c
+pub free_core : (c : Core) (g : Ghost) → Fits c g → ((t : ℕ) → ((seat c.seats t).point ≡ Rest) × ((seat c.seats t).depth ≡ 0)) → IsFree c
 free_core c g fits rests =
     let steady : Steady c = record { ghost_state = g; fits = fits } in
     let quiet = quiescent_states_rest c steady (λ t. rw (rests t).0 refl) in

@@ -35,7 +35,7 @@ use Rattle.lfm_table.specs.declared.seat_view.Joined.{Joined}
 use Rattle.lfm_table.specs.declared.seat_view.View.{View}
 use Rattle.lfm_table.specs.declared.rule.Moving.{Moving}
 use Rattle.lfm_table.specs.Reach.{Reached}
-use Rattle.lfm_table.specs.Rule.{total, retired, retired_at, split_view, with_split, with_joined, joined, joined_of, first_view, Leads_to, Awaits, None_ended, Left_in, Roots, Sits, At_home, With_seat, Held, Same_root, Looked, seen}
+use Rattle.lfm_table.specs.Rule.{total, retired, retired_at, split_view, with_split, with_joined, joined, joined_of, first_view, LeadsToValue, Awaits, NoneEnded, LeftIn, Roots, Sits, AtHome, WithSeat, Held, SameRoot, Looked, seen}
 use Rattle.lfm_table.specs.Seats.{Seated}
 use Rattle.lfm_table.specs.Settled.{Became}
 use Rattle.lfm_table.proofs.tables.CoreFacts.{owner_told}
@@ -67,13 +67,13 @@ module _ {T : Type 0} (follows : ℕ → T → T → Type 0) (suits : T → ℕ 
     few : length views ≤ length c.seats
     each : (j : ℕ) (v : View T) → get_elem? views j ≡ some v → Sits c j v
     later : (j : ℕ) → length views ≤ j → seat c.seats (j + 1) ≡ absent
-    home : ((t : ℕ) → carries_value (seat c.seats t) ≡ false) → At_home follows suits c g homes views
-    outside : (j : ℕ) (v : View T) → get_elem? views j ≡ some v → carries_value v.standing ≡ true → With_seat follows suits c g views j v
+    home : ((t : ℕ) → carries_value (seat c.seats t) ≡ false) → AtHome follows suits c g homes views
+    outside : (j : ℕ) (v : View T) → get_elem? views j ≡ some v → carries_value v.standing ≡ true → WithSeat follows suits c g views j v
 
   -- one view becomes another that says the same
   module _ (views : List (View T)) (p : Parts views) (i : ℕ) (x y : View T) (at : get_elem? views i ≡ some x) (number : y.number ≡ x.number) (limits_are : y.limits ≡ x.limits) (stands : y.standing ≡ x.standing) (lasts : y.last ≡ x.last) (founds : y.found ≡ x.found)
       (lists : y.popped ≡ x.popped) (holds : y.answered ≡ x.answered) (opens : y.opening ≡ x.opening) (ended : y.last_found ≡ x.last_found) where
-    leads_same : (which : ℕ → Type 0) (t : T) → Leads_to follows which views t → Leads_to follows which (set views i y) t
+    leads_same : (which : ℕ → Type 0) (t : T) → LeadsToValue follows which views t → LeadsToValue follows which (set views i y) t
     leads_same which t old j z l e ok is = ⊎_elim
         (λ (u : (j ≡ i) × (y ≡ z)). old j x l (subst (λ (k : ℕ). get_elem? views k ≡ some x) (sym u.0) at) ok (sym lasts ∙ ap (λ (v : View T). v.last) u.1 ∙ is))
         (λ (u : (j ≢ i) × (get_elem? views j ≡ some z)). old j z l u.1 ok is) (at_set views i j y z e)
@@ -83,12 +83,12 @@ module _ {T : Type 0} (follows : ℕ → T → T → Type 0) (suits : T → ℕ 
         (λ (u : (0 ≡ i) × (y ≡ k)). old j x l far' (subst (λ (k : ℕ). get_elem? views k ≡ some x) (sym u.0) at) (sym opens ∙ ap (λ (v : View T). v.opening) u.1 ∙ is))
         (λ (u : (0 ≢ i) × (get_elem? views 0 ≡ some k)). old j k l far' u.1 is) (at_set views i 0 y k e)
 
-    none_same : None_ended views → None_ended (set views i y)
+    none_same : NoneEnded views → NoneEnded (set views i y)
     none_same all j z e = ⊎_elim
         (λ (u : (j ≡ i) × (y ≡ z)). ap (λ (v : View T). v.last_found) (sym u.1) ∙ (ended ∙ all i x at))
         (λ (u : (j ≢ i) × (get_elem? views j ≡ some z)). all j z u.1) (at_set views i j y z e)
 
-    left_same : (t : T) → Left_in views t → Left_in (set views i y) t
+    left_same : (t : T) → LeftIn views t → LeftIn (set views i y) t
     left_same t old = dite (ℕ_discrete old.0 i)
         (λ q. let one : x ≡ old.1 = some-injective x old.1 (sym at ∙ subst (λ (k : ℕ). get_elem? views k ≡ some old.1) q old.2) in (
           i,
@@ -108,7 +108,7 @@ module _ {T : Type 0} (follows : ℕ → T → T → Type 0) (suits : T → ℕ 
       later = λ j far. let l = length-set views i y in p.later j (omega (arith, far, l));
       home = λ nobody. let h = p.home nobody in record { value = h.value; here = h.here; records = h.records; room = h.room; leads = leads_same (λ _. ⊤) h.value.value h.leads; awaits = awaits_same h.value.value h.awaits; left = left_same h.value.value h.left; fits = h.fits };
       outside = λ j z e one. ⊎_elim
-          (λ (u : (j ≡ i) × (y ≡ z)). let o = p.outside i x at (ap carries_value (sym stands) ∙ (ap (λ (v : View T). carries_value v.standing) u.1 ∙ one)) in subst (λ (t : ℕ × View T). With_seat follows suits c g (set views i y) t.0 t.1) (λ k. (sym u.0 k, u.1 k)) (record {
+          (λ (u : (j ≡ i) × (y ≡ z)). let o = p.outside i x at (ap carries_value (sym stands) ∙ (ap (λ (v : View T). carries_value v.standing) u.1 ∙ one)) in subst (λ (t : ℕ × View T). WithSeat follows suits c g (set views i y) t.0 t.1) (λ k. (sym u.0 k, u.1 k)) (record {
             value = o.value;
             found = founds ∙ o.found;
             popped = lists ∙ o.popped;
@@ -132,14 +132,14 @@ module _ {T : Type 0} (follows : ℕ → T → T → Type 0) (suits : T → ℕ 
 
   -- one more view, of a seat that has not stepped
   module _ (views : List (View T)) (p : Parts views) (k r : View T) (at : get_elem? views 0 ≡ some k) (room : length views < length c.seats) (number : r.number ≡ length views + 1) (limits_are : r.limits ≡ limits c) (new : r.standing ≡ absent) (lasts : r.last ≡ k.opening) (unheld : r.last_found ≡ None) where
-    leads_end : (which : ℕ → Type 0) (t : T) → Leads_to follows which views t → Awaits follows views t → Leads_to follows which (views ++ r ∷ []) t
+    leads_end : (which : ℕ → Type 0) (t : T) → LeadsToValue follows which views t → Awaits follows views t → LeadsToValue follows which (views ++ r ∷ []) t
     leads_end which t old still j z l e ok is = ⊎_elim (λ u. old j z l u ok is)
         (λ (u : (j ≡ length views) × (r ≡ z)). let far : length views ≤ j = (let q = u.0 in omega arith) in still j k l far at (sym lasts ∙ (ap (λ (v : View T). v.last) u.1 ∙ is))) (at_end views r z j e)
 
     awaits_end : (t : T) → Awaits follows views t → Awaits follows (views ++ r ∷ []) t
     awaits_end t old j z l far e is = let here = length_at views 0 k at in let q = length-append views (r ∷ []) in old j z l (omega arith) (sym (get_end views r 0 here) ∙ e) is
 
-    left_end : (t : T) → Left_in views t → Left_in (views ++ r ∷ []) t
+    left_end : (t : T) → LeftIn views t → LeftIn (views ++ r ∷ []) t
     left_end t old = (
       old.0,
       old.1,
@@ -251,7 +251,7 @@ module _ {T : Type 0} (follows : ℕ → T → T → Type 0) (suits : T → ℕ 
       let told = owner_told h.core h.ghost_state me.0.number is h.fits in
       let found : n ≡ h.core.owner = ap (λ (ws : List ℕ). get_or ws 1 0) h.words_are in
       let stands : seat h.core.seats me.0.number ≡ me.0.standing = ap (λ m. seat h.core.seats m) sits.number ∙ sits.standing in
-      let same : Same_root me.0 w = record { number = refl; limits_are = refl; opening = refl; made = refl; joined_are = refl } in (
+      let same : SameRoot me.0 w = record { number = refl; limits_are = refl; opening = refl; made = refl; joined_are = refl } in (
         w,
         keeps,
         tt,

@@ -15,7 +15,7 @@ use Rattle.lfm_model.specs.declared.refusals.Refusal.{Refusal}
 use Rattle.lfm_model.specs.declared.answers.Locked.{Locked}
 use Rattle.lfm_protocol.specs.After.{deepens}
 use Rattle.lfm_mutex.proofs.runs.SightFacts.{not_s, is_s}
-use Rattle.lfm_mutex.specs.calls.Sight.{Busy_seen}
+use Rattle.lfm_mutex.specs.calls.Sight.{BusySeen}
 use Rattle.lfm_protocol.specs.declared.answers.Answer.{Answer}
 use Rattle.lfm_protocol.specs.declared.answers.Turn.{Turn}
 use Rattle.lfm_protocol.specs.declared.answers.Turn.TheVariants.{Open, Ended, Refused}
@@ -50,7 +50,7 @@ module _ (s d t ps : ℕ) where
 
   path4 : (n m h k : ℕ) → n ≢ 0 → m ≢ s → (handoff_of h).seat ≢ 0 → (b : Bool) → same_handoff (handoff_of k) (handoff_of h) ≡ b → (finds : List (ℕ × Option Record))
       → (end_of s (if b then goes_on (made_of d t ps (TryHandoffExchange (handoff_of h))) TryCountAdd else busy (made_of d t ps (TryHandoffExchange (handoff_of h)))) finds).turn ≡ Busy
-      → Busy_seen s (seen TryCountExchange n ∷ seen TryOwnerLoad m ∷ seen TryHandoffLoad h ∷ seen (TryHandoffExchange (handoff_of h)) k
+      → BusySeen s (seen TryCountExchange n ∷ seen TryOwnerLoad m ∷ seen TryHandoffLoad h ∷ seen (TryHandoffExchange (handoff_of h)) k
       ∷ trail_of s (if b then goes_on (made_of d t ps (TryHandoffExchange (handoff_of h))) TryCountAdd else busy (made_of d t ps (TryHandoffExchange (handoff_of h)))).seat finds)
   path4 n m h k some other posted true is finds e = absurd (counts finds e)
   path4 n m h k some other posted false is [] e = (n, m, h, some, other, inr (k, posted, is, refl))
@@ -58,7 +58,7 @@ module _ (s d t ps : ℕ) where
 
   path3 : (n m h : ℕ) → n ≢ 0 → m ≢ s → (b : Bool) → nat_eq (handoff_of h).seat 0 ≡ b → (finds : List (ℕ × Option Record))
       → (end_of s (if b then busy (made_of d t ps TryHandoffLoad) else goes_on (made_of d t ps TryHandoffLoad) (TryHandoffExchange (handoff_of h))) finds).turn ≡ Busy
-      → Busy_seen s (seen TryCountExchange n ∷ seen TryOwnerLoad m ∷ seen TryHandoffLoad h
+      → BusySeen s (seen TryCountExchange n ∷ seen TryOwnerLoad m ∷ seen TryHandoffLoad h
       ∷ trail_of s (if b then busy (made_of d t ps TryHandoffLoad) else goes_on (made_of d t ps TryHandoffLoad) (TryHandoffExchange (handoff_of h))).seat finds)
   path3 n m h some other true is [] e = (n, m, h, some, other, inl (is_s (handoff_of h).seat 0 is, refl))
   path3 n m h some other true is (f ∷ finds) e = absurd (no_idle (sym (idle_runs s d (t - 1) ps finds) ∙ e))
@@ -67,7 +67,7 @@ module _ (s d t ps : ℕ) where
 
   path2 : (n m : ℕ) → n ≢ 0 → (b : Bool) → nat_eq m s ≡ b → (finds : List (ℕ × Option Record))
       → (end_of s (if b then record { seat = deepens (made_of d t ps TryOwnerLoad); turn = Ended (Answer.Locked (Locked.Again (d + 1))) } else goes_on (made_of d t ps TryOwnerLoad) TryHandoffLoad) finds).turn ≡ Busy
-      → Busy_seen s (seen TryCountExchange n ∷ seen TryOwnerLoad m
+      → BusySeen s (seen TryCountExchange n ∷ seen TryOwnerLoad m
       ∷ trail_of s (if b then record { seat = deepens (made_of d t ps TryOwnerLoad); turn = Ended (Answer.Locked (Locked.Again (d + 1))) } else goes_on (made_of d t ps TryOwnerLoad) TryHandoffLoad).seat finds)
   path2 n m some true is [] e = absurd (no_answer _ e)
   path2 n m some true is (f ∷ finds) e = absurd (no_idle (sym (idle_runs s (d + 1) t ps finds) ∙ e))
@@ -76,17 +76,17 @@ module _ (s d t ps : ℕ) where
 
   path1 : (n : ℕ) (b : Bool) → nat_eq n 0 ≡ b → (finds : List (ℕ × Option Record))
       → (end_of s (goes_on (made_of d t ps TryCountExchange) (if b then EnterOwnerStore Entrant.Trier How.Free else TryOwnerLoad)) finds).turn ≡ Busy
-      → Busy_seen s (seen TryCountExchange n ∷ trail_of s (goes_on (made_of d t ps TryCountExchange) (if b then EnterOwnerStore Entrant.Trier How.Free else TryOwnerLoad)).seat finds)
+      → BusySeen s (seen TryCountExchange n ∷ trail_of s (goes_on (made_of d t ps TryCountExchange) (if b then EnterOwnerStore Entrant.Trier How.Free else TryOwnerLoad)).seat finds)
   path1 n true is finds e = absurd (enters finds e)
   path1 n false is [] e = absurd (no_open e)
   path1 n false is (f ∷ finds) e = path2 n f.0 (not_s n 0 is) (nat_eq f.0 s) refl finds e
 
-  path0 : (finds : List (ℕ × Option Record)) → (end_of s (record { seat = made_of d t ps TryCountExchange; turn = Open }) finds).turn ≡ Busy → Busy_seen s (trail_of s (made_of d t ps TryCountExchange) finds)
+  path0 : (finds : List (ℕ × Option Record)) → (end_of s (record { seat = made_of d t ps TryCountExchange; turn = Open }) finds).turn ≡ Busy → BusySeen s (trail_of s (made_of d t ps TryCountExchange) finds)
   path0 [] e = absurd (no_open e)
   path0 (f ∷ finds) e = path1 f.0 (nat_eq f.0 0) refl finds e
 
-path_at : (s d t ps : ℕ) (q : Point) → q ≡ TryCountExchange → (finds : List (ℕ × Option Record)) → (end_of s (record { seat = made_of d t ps q; turn = Open }) finds).turn ≡ Busy → Busy_seen s (trail_of s (made_of d t ps q) finds)
-path_at s d t ps q at finds = subst (λ (x : Point). (end_of s (record { seat = made_of d t ps x; turn = Open }) finds).turn ≡ Busy → Busy_seen s (trail_of s (made_of d t ps x) finds)) (sym at) (path0 s d t ps finds)
+path_at : (s d t ps : ℕ) (q : Point) → q ≡ TryCountExchange → (finds : List (ℕ × Option Record)) → (end_of s (record { seat = made_of d t ps q; turn = Open }) finds).turn ≡ Busy → BusySeen s (trail_of s (made_of d t ps q) finds)
+path_at s d t ps q at finds = subst (λ (x : Point). (end_of s (record { seat = made_of d t ps x; turn = Open }) finds).turn ≡ Busy → BusySeen s (trail_of s (made_of d t ps x) finds)) (sym at) (path0 s d t ps finds)
 
-pub busy_path : (s : ℕ) (x : SeatState) (finds : List (ℕ × Option Record)) → x.point ≡ TryCountExchange → (end_of s (record { seat = x; turn = Open }) finds).turn ≡ Refused (Why.By Refusal.Busy) → Busy_seen s (trail_of s x finds)
+pub busy_path : (s : ℕ) (x : SeatState) (finds : List (ℕ × Option Record)) → x.point ≡ TryCountExchange → (end_of s (record { seat = x; turn = Open }) finds).turn ≡ Refused (Why.By Refusal.Busy) → BusySeen s (trail_of s x finds)
 busy_path s x finds at e = path_at s x.depth x.takes x.posts x.point at finds e

@@ -16,13 +16,13 @@ use Rattle.lfm_protocol.specs.Points.{kind}
 use Rattle.lfm_table.specs.declared.seat_view.View.{View}
 use Rattle.lfm_table.specs.declared.rule.Moving.{Moving}
 use Rattle.lfm_table.specs.Rule.{value_in, last_hold}
-use Rattle.lfm_mutex.specs.calls.Runs.{errand_of, is_releasing, is_release, Ends, Ran, Called_by, Holds, opens}
+use Rattle.lfm_mutex.specs.calls.Runs.{errand_of, is_releasing, is_release, Ends, Ran, CalledBy, Holds, opens}
 use Rattle.lfm_table.specs.Seats.{Seated}
 use Rattle.lfm_mutex.specs.calls.Sight.{Concludes, sight_of}
 use Rattle.lfm_core.specs.table.Words.{stepped_by}
 use Rattle.lfm_table.specs.Steps.{Event, oldest_in}
-use Rattle.lfm_table.specs.Straight.{Fit, Made_step}
-use Rattle.lfm_mutex.specs.calls.Straight.{Course, Comes_to}
+use Rattle.lfm_table.specs.Straight.{Fit, MadeStep}
+use Rattle.lfm_mutex.specs.calls.Straight.{Course, ComesTo}
 use Rattle.lfm_mutex.proofs.runs.MadeCalls.{makes}
 use Rattle.lfm_mutex.proofs.runs.Running.{called_at_once, ran_one, last_one, ran_none, ran_more, ran_join, last_more, holds_now}
 use Rattle.lfm_mutex.proofs.runs.StraightPoints.{event_there}
@@ -69,49 +69,49 @@ module _ {T : Type 0} (follows : ℕ → T → T → Type 0) (suits : T → ℕ 
 
   -- all that is said of the call that has ended so
   pub comes : (n : ℕ) (l all : Limits) (call : Call) (p q : SeatState) (turn : Turn) (b : Option (Moving T)) (w : View T) → l ≡ all → n ≡ s → is_releasing (errand_of call) ≡ false → Begin.begin p l call ≡ opens p0 → Ends (errand_of call) turn → CourseNow turn q b w
-      → Comes_to follows suits all call (sight_of s p v0 (value_in a0)) (sight_of n q w (value_in b)) turn
+      → ComesTo follows suits all call (sight_of s p v0 (value_in a0)) (sight_of n q w (value_in b)) turn
   comes n l all call p q turn b w same named keeps begins ends so =
-      subst (λ (k : Limits). Comes_to follows suits k call (sight_of s p v0 (value_in a0)) (sight_of n q w (value_in b)) turn) same (record {
+      subst (λ (k : Limits). ComesTo follows suits k call (sight_of s p v0 (value_in a0)) (sight_of n q w (value_in b)) turn) same (record {
         turned = turned_by_steps follows suits s n l p p0 q v0 w a0 b named call turn keeps
             (begun follows suits s l v0 (value_in a0) p p0 call (ap (λ (z : Stepped). z.turn) (sym begins)) (ap (λ (z : Stepped). z.seat) (sym begins)))
             ends so.concludes so.held so.stays so.last so.ran;
-        made = makes l call s n p q v0 w (value_in a0) (value_in b) turn named (subst (λ (z : Stepped). Called_by z.turn s (errand_of call) z.seat v0 turn q w) (sym begins) (ends, so.ran));
+        made = makes l call s n p q v0 w (value_in a0) (value_in b) turn named (subst (λ (z : Stepped). CalledBy z.turn s (errand_of call) z.seat v0 turn q w) (sym begins) (ends, so.ran));
       })
 
   -- one step more, by what is told of it
   pub course_next : (words id : ℕ) (l : Limits) (p : SeatState) (n : ℕ) (m : Me (Option (Moving T)) (View T)) (a : Option (Moving T)) (m' : Me (Option (Moving T)) (View T)) (a' : Option (Moving T)) (words' id' : ℕ) (st : Stepped)
-      → CourseNow Open p a m.0 → Fit s words id l p m a → Made_step follows suits s words' id' l p n m a m' a' → stepped_by p s n (oldest_in a') ≡ st → kind p.point ≢ None → is_release p.point ≡ false → CourseNow st.turn st.seat a' m'.0
+      → CourseNow Open p a m.0 → Fit s words id l p m a → MadeStep follows suits s words' id' l p n m a m' a' → stepped_by p s n (oldest_in a') ≡ st → kind p.point ≢ None → is_release p.point ≡ false → CourseNow st.turn st.seat a' m'.0
   course_next words id l p n m a m' a' words' id' st so fit did is some keeps =
       course_more l p st.seat m a a' m'.0 st.turn so fit.seated (event_there follows suits s words' id' l p n m a m' a' did st is) some keeps
 
 -- A release
 
 module _ {T : Type 0} (follows : ℕ → T → T → Type 0) (suits : T → ℕ → Type 0) (s words id words' id' n k : ℕ) (l : Limits) (p0 p1 : SeatState) (m0 m1 : Me (Option (Moving T)) (View T)) (a : Option (Moving T)) (fit : Fit s words id l p0 m0 a) (at : p0.point ≡ ReleaseOwnerStore Unlocker)
-    (did : Made_step follows suits s words' id' l p0 k m0 a m1 a) (is : stepped_by p0 s k (oldest_in a) ≡ opens p1) where
+    (did : MadeStep follows suits s words' id' l p0 k m0 a m1 a) (is : stepped_by p0 s k (oldest_in a) ≡ opens p1) where
   first : Event follows suits p0 a m0.0 Open p1 a m1.0
   first = event_there follows suits s words' id' l p0 k m0 a m1 a did (opens p1) is
 
   -- what the steps after the store that ends the hold come to
   pub gives_up : (all : Limits) (p q : SeatState) (turn : Turn) (b : Option (Moving T)) (w : View T) → l ≡ all → n ≡ s → Begin.begin p l Call.Unlock ≡ opens p0 → Ends (errand_of Call.Unlock) turn → Course follows suits s p1 a m1.0 turn q b w
-      → Comes_to follows suits all Call.Unlock (sight_of s p m0.0 (value_in a)) (sight_of n q w (value_in b)) turn
+      → ComesTo follows suits all Call.Unlock (sight_of s p m0.0 (value_in a)) (sight_of n q w (value_in b)) turn
   gives_up all p q turn b w same named begins ends so =
       let ran : Ran s (opens p0) m0.0 turn q w = ran_join s p0 p1 q m0.0 m1.0 w turn (ran_one follows suits s p0 p1 m0.0 m1.0 a a Open fit.seated.named first) so.ran in
       let left : last_hold w ≡ (value_in a, m0.0.found) = so.last ∙ last_one follows suits s p0 p1 m0.0 m1.0 a a Open fit.seated.named first Unlocker at in
-      subst (λ (k : Limits). Comes_to follows suits k Call.Unlock (sight_of s p m0.0 (value_in a)) (sight_of n q w (value_in b)) turn) same (record {
+      subst (λ (k : Limits). ComesTo follows suits k Call.Unlock (sight_of s p m0.0 (value_in a)) (sight_of n q w (value_in b)) turn) same (record {
         turned = turned_by_release follows suits s n l p p0 q m0.0 w a b named Call.Unlock turn refl
             (begun follows suits s l m0.0 (value_in a) p p0 Call.Unlock (ap (λ (z : Stepped). z.turn) (sym begins)) (ap (λ (z : Stepped). z.seat) (sym begins)))
             ends (concludes_join (record p0 { depth = 0 }) p1 q turn (first_concludes follows suits p0 p1 m0.0 m1.0 a a Open first Unlocker at) so.concludes) left ran;
-        made = makes l Call.Unlock s n p q m0.0 w (value_in a) (value_in b) turn named (subst (λ (z : Stepped). Called_by z.turn s (errand_of Call.Unlock) z.seat m0.0 turn q w) (sym begins) (ends, ran));
+        made = makes l Call.Unlock s n p q m0.0 w (value_in a) (value_in b) turn named (subst (λ (z : Stepped). CalledBy z.turn s (errand_of Call.Unlock) z.seat m0.0 turn q w) (sym begins) (ends, ran));
       })
 
 -- An unlock that makes no step
 
 pub unlocks_once : {T : Type 0} (follows : ℕ → T → T → Type 0) (suits : T → ℕ → Type 0) (s : ℕ) (l all : Limits) (p q : SeatState) (v : View T) (a : Option (Moving T)) (turn : Turn) → l ≡ all → turn ≢ Open → Begin.begin p l Call.Unlock ≡ record { seat = q; turn = turn }
-    → Comes_to follows suits all Call.Unlock (sight_of s p v (value_in a)) (sight_of s q v (value_in a)) turn
+    → ComesTo follows suits all Call.Unlock (sight_of s p v (value_in a)) (sight_of s q v (value_in a)) turn
 unlocks_once follows suits s l all p q v a turn same some begins =
     let t : turn ≡ (Begin.begin p l Call.Unlock).turn = ap (λ (z : Stepped). z.turn) (sym begins) in
     let x : q ≡ (Begin.begin p l Call.Unlock).seat = ap (λ (z : Stepped). z.seat) (sym begins) in
-    subst (λ (k : Limits). Comes_to follows suits k Call.Unlock (sight_of s p v (value_in a)) (sight_of s q v (value_in a)) turn) same (record {
+    subst (λ (k : Limits). ComesTo follows suits k Call.Unlock (sight_of s p v (value_in a)) (sight_of s q v (value_in a)) turn) same (record {
       turned = turned_at_once follows suits s l v (value_in a) p q Call.Unlock turn some t x;
       made = makes l Call.Unlock s s p q v v (value_in a) (value_in a) turn refl (called_at_once s l Call.Unlock p q v v turn some t x refl).0;
     })

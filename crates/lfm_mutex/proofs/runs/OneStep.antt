@@ -26,10 +26,10 @@ use Rattle.lfm_table.specs.declared.rule.Moving.{Moving}
 use Rattle.lfm_table.specs.Rule.{value_in, is_carried}
 use Rattle.lfm_table.specs.Seats.{Seated}
 use Rattle.lfm_table.specs.Settled.{Became}
-use Rattle.lfm_table.specs.Steps.{Event, Goes_on, Leaves}
+use Rattle.lfm_table.specs.Steps.{Event, StepLeadsTo, MayBeLeft}
 use Rattle.lfm_mutex.specs.calls.Runs.{how_held, is_release}
-use Rattle.lfm_mutex.specs.calls.Sight.{Sight, sight_of, is_asleep, is_in_call, sends_of, Concludes, Finds, May_leave}
-use Rattle.lfm_mutex.specs.calls.SeatSteps.{Steps, Keeps_value, Steps_on, stores_owner}
+use Rattle.lfm_mutex.specs.calls.Sight.{Sight, sight_of, is_asleep, is_in_call, sends_of, Concludes, Finds, MayLeave}
+use Rattle.lfm_mutex.specs.calls.SeatSteps.{Steps, KeepsValue, StepsOn, stores_owner}
 use Rattle.lfm_mutex.proofs.ends.Seats.{depth_seen}
 use Rattle.lfm_mutex.proofs.runs.RunFacts.{how_enters}
 use Rattle.lfm_mutex.proofs.runs.Running.{holds_now, last_one, last_more, ran_none}
@@ -105,11 +105,11 @@ module _ {T : Type 0} (follows : ℕ → T → T → Type 0) (fits : T → ℕ �
       same_but n n' p q m.0 w (value_in a) (value_in b) q.depth q.takes (is_asleep q.point) (is_in_call q.point) (sends_of w.trail) number refl refl refl refl refl
       (last_more follows fits n p m.0 p q m.0 w a b turn (ran_none n p m.0) was.named e stays) (stays_now follows fits n p q m.0 w a b turn was.named e stays told) (both p q turn told none)
 
-  pub told : kind p.point ≢ None → Steps p S turn q S' × Keeps_value follows fits p S turn S'
+  pub told : kind p.point ≢ None → Steps p S turn q S' × KeepsValue follows fits p S turn S'
   told some = (steps, record { gains = gains; leaves = leaves; keeps = keeps some })
 
 pub steps_on : {T : Type 0} (follows : ℕ → T → T → Type 0) (fits : T → ℕ → Type 0) (k : Option Kind) (n n' : ℕ) (l : Limits) (p q : SeatState) (m m' : Me (Option (Moving T)) (View T)) (a b : Option (Moving T)) (turn : Turn) → Seated n l p m a → n' ≡ n → kind p.point ≡ k
-    → Goes_on k follows fits p a m turn q b m' → Steps_on follows fits k p (sight_of n p m.0 (value_in a)) turn q (sight_of n' q m'.0 (value_in b))
+    → StepLeadsTo k follows fits p a m turn q b m' → StepsOn follows fits k p (sight_of n p m.0 (value_in a)) turn q (sight_of n' q m'.0 (value_in b))
 steps_on follows fits None n n' l p q m m' a b turn was number is event =
     (event.0, event.1, λ i. sight_of (number i) (event.1 i) (event.3 i).0 (value_in (event.2 i)))
 steps_on follows fits (Some k) n n' l p q m m' a b turn was number is event =
@@ -122,7 +122,7 @@ keeps_at k _ is keeps = refl
 
 -- what may be left is told of what is seen, and asked of what the seat has
 pub leaves_at : {T : Type 0} (follows : ℕ → T → T → Type 0) (fits : T → ℕ → Type 0) (n : ℕ) (l : Limits) (p : SeatState) (m : Me (Option (Moving T)) (View T)) (a : Option (Moving T)) → Seated n l p m a
-    → (is_release p.point ≡ true → May_leave follows fits (sight_of n p m.0 (value_in a))) → (r : Releaser) → p.point ≡ ReleaseOwnerStore r → Leaves follows fits a m.0
+    → (is_release p.point ≡ true → MayLeave follows fits (sight_of n p m.0 (value_in a))) → (r : Releaser) → p.point ≡ ReleaseOwnerStore r → MayBeLeft follows fits a m.0
 leaves_at follows fits n l p m a was may r at = elim (cases_eq p.depth 0) [
   | inl flat ↦ λ x is. let none : carries_value p ≡ false = rw (at, flat) refl in absurd (false≢true (sym none ∙ (sym was.moved ∙ ap is_carried is)))
   | inr some ↦ may_leave follows fits n p m.0 a was.named (omega (arith, some)) (may (ap is_release at))

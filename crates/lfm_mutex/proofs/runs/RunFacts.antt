@@ -24,14 +24,14 @@ use Rattle.lfm_protocol.specs.Room.{PopFits}
 use Rattle.lfm_core.specs.steady.Steady.{IsSeen}
 use Rattle.lfm_core.specs.steady.Views.{waits_on}
 use Rattle.lfm_core.specs.table.Words.{stepped_by, handoff_of, wake_of, link_of}
-use Rattle.lfm_mutex.specs.calls.Runs.{Errand, locking, trying, releasing, sending, receiving, nothing, pushes, carries_for, errand, Is_turn, left, clearing, collecting, granting, weight, how_held, is_release}
-use Rattle.lfm_table.specs.Rule.{Collects_within}
+use Rattle.lfm_mutex.specs.calls.Runs.{Errand, locking, trying, releasing, sending, receiving, nothing, pushes, carries_for, errand, IsTurn, left, clearing, collecting, granting, weight, how_held, is_release}
+use Rattle.lfm_table.specs.Rule.{CollectsWithin}
 use Rattle.lfm_table.proofs.tables.StepFacts.{made_of}
 
 -- The same call
 
 abbrev Turns : Errand → Stepped → Type 0
-Turns e st = Is_turn e st.turn st.seat.point
+Turns e st = IsTurn e st.turn st.seat.point
 
 turns_if : (e : Errand) (b : Bool) (u v : Stepped) → Turns e u → Turns e v → Turns e (if b then u else v)
 turns_if e true u v first second = first
@@ -129,7 +129,7 @@ turns_at d t ps s n o (EnterOwnerStore Entrant.Receiver how) some = refl
 turns_at d t ps s n o (ReceiveWakeLoad sleeper) some = turns_receives (made_of d t ps (ReceiveWakeLoad sleeper)) sleeper (wake_of n)
 turns_at d t ps s n o (ReceiveWakeStore stamp) some = refl
 
-pub turns_step : (x : SeatState) (s n : ℕ) (o : Option Record) → kind x.point ≢ None → Is_turn (errand x.point) (stepped_by x s n o).turn (stepped_by x s n o).seat.point
+pub turns_step : (x : SeatState) (s n : ℕ) (o : Option Record) → kind x.point ≢ None → IsTurn (errand x.point) (stepped_by x s n o).turn (stepped_by x s n o).seat.point
 turns_step x s n o some = turns_at x.depth x.takes x.posts s n o x.point some
 
 pub open_point : (q : Point) → errand q ≢ nothing → kind q ≢ None
@@ -235,13 +235,13 @@ left_falls found old e is small =
     ]
 
 -- where a record is collected, there is one step less to make than there was room
-weight_collects : (n k : ℕ) (carrier : Carrier) (next : ℕ) → k < n → Collects_within k n (TakeLinkLoad carrier next) → (collecting (n - (k + 1)) carrier < collecting (n - k) carrier) × (granting carrier < collecting (n - k) carrier)
+weight_collects : (n k : ℕ) (carrier : Carrier) (next : ℕ) → k < n → CollectsWithin k n (TakeLinkLoad carrier next) → (collecting (n - (k + 1)) carrier < collecting (n - k) carrier) × (granting carrier < collecting (n - k) carrier)
 weight_collects n k Carrier.Locker next room within = (omega (arith, room), omega (arith, room))
 weight_collects n k (Carrier.Releaser u) next room within = (omega (arith, room), omega (arith, within))
 weight_collects n k (Carrier.Reclaimer u) next room within = (omega (arith, room), omega (arith, within))
 weight_collects n k Carrier.Sender next room within = (omega (arith, room), omega (arith, room))
 
-falls_at : (d t ps s m : ℕ) (o : Option Record) (n k k' : ℕ) (q : Point) → kind q ≢ None → PopFits k n (kind q) → Collects_within k n q → (k' ≡ k + 1 ⊎ (kind q ≢ Some Kind.LinkLoad))
+falls_at : (d t ps s m : ℕ) (o : Option Record) (n k k' : ℕ) (q : Point) → kind q ≢ None → PopFits k n (kind q) → CollectsWithin k n q → (k' ≡ k + 1 ⊎ (kind q ≢ Some Kind.LinkLoad))
     → ((pusher : Pusher) (old : Link) → q ≡ PushExchange pusher old → IsSeen (link_of m) old × (old.stamp < 2 ^ 48)) → weight n k' (stepped_by (made_of d t ps q) s m o).seat.point < weight n k q
 falls_at d t ps s m o n k k' Rest some room within grows sees = absurd (some refl)
 falls_at d t ps s m o n k k' (Asleep sleeper) some room within grows sees = absurd (some refl)
@@ -287,7 +287,7 @@ falls_at d t ps s m o n k k' (EnterOwnerStore entrant how) some room within grow
 falls_at d t ps s m o n k k' (ReceiveWakeLoad sleeper) some room within grows sees = falls_receives n k' (made_of d t ps (ReceiveWakeLoad sleeper)) sleeper (wake_of m)
 falls_at d t ps s m o n k k' (ReceiveWakeStore stamp) some room within grows sees = omega arith
 
-pub falls : (x : SeatState) (s m : ℕ) (o : Option Record) (n k k' : ℕ) → kind x.point ≢ None → PopFits k n (kind x.point) → Collects_within k n x.point → (k' ≡ k + 1 ⊎ (kind x.point ≢ Some Kind.LinkLoad))
+pub falls : (x : SeatState) (s m : ℕ) (o : Option Record) (n k k' : ℕ) → kind x.point ≢ None → PopFits k n (kind x.point) → CollectsWithin k n x.point → (k' ≡ k + 1 ⊎ (kind x.point ≢ Some Kind.LinkLoad))
     → ((pusher : Pusher) (old : Link) → x.point ≡ PushExchange pusher old → IsSeen (link_of m) old × (old.stamp < 2 ^ 48)) → weight n k' (stepped_by x s m o).seat.point < weight n k x.point
 falls x s m o n k k' some room within grows sees = falls_at x.depth x.takes x.posts s m o n k k' x.point some room within grows sees
 

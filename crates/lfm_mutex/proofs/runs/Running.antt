@@ -37,11 +37,11 @@ use Rattle.lfm_core.specs.table.Words.{stepped_by, popped_of}
 use Rattle.lfm_table.specs.declared.seat_view.Seen.{Seen}
 use Rattle.lfm_table.specs.declared.seat_view.View.{View}
 use Rattle.lfm_table.specs.declared.rule.Moving.{Moving}
-use Rattle.lfm_table.specs.Rule.{seen, value_in, last_hold, is_carried, Hands, Collects_within}
-use Rattle.lfm_mutex.specs.calls.Runs.{Errand, nothing, errand, Is_turn, Ends, weight, end_of, trail_of, Ran, opens, is_release, locking, trying, releasing, sending, answers_for, errand_of, is_releasing, release_steps, Answers, Called_by, Called, how_held, Counts, Holds}
+use Rattle.lfm_table.specs.Rule.{seen, value_in, last_hold, is_carried, Hands, CollectsWithin}
+use Rattle.lfm_mutex.specs.calls.Runs.{Errand, nothing, errand, IsTurn, Ends, weight, end_of, trail_of, Ran, opens, is_release, locking, trying, releasing, sending, answers_for, errand_of, is_releasing, release_steps, Answers, CalledBy, Called, how_held, Counts, Holds}
 use Rattle.lfm_table.specs.Reach.{Reached}
 use Rattle.lfm_table.specs.Seats.{Seated}
-use Rattle.lfm_table.specs.Steps.{Event, Goes_on, Value_goes}
+use Rattle.lfm_table.specs.Steps.{Event, StepLeadsTo, ValueGoes}
 use Rattle.lfm_table.proofs.tables.RuleKept.{some_same}
 use Rattle.lfm_mutex.proofs.runs.RunFacts.{turns_step, falls, no_release, no_leaves, how_enters}
 use Rattle.lfm_table.proofs.tables.StepFacts.{left_same, left_new, carrying}
@@ -55,7 +55,7 @@ trail_more s st [] n o = refl
 trail_more s st (f ∷ finds) n o = ap (λ (l : List Seen). seen st.seat.point f.0 ∷ l) (trail_more s (stepped_by st.seat s f.0 f.1) finds n o)
 
 pub event_of : {T : Type 0} (follows : ℕ → T → T → Type 0) (suits : T → ℕ → Type 0) (k : Option Kind) (p p' : SeatState) (m m' : Me (Option (Moving T)) (View T)) (a a' : Option (Moving T)) (turn : Turn) → k ≢ None
-    → Goes_on k follows suits p a m turn p' a' m' → Event follows suits p a m.0 turn p' a' m'.0
+    → StepLeadsTo k follows suits p a m turn p' a' m' → Event follows suits p a m.0 turn p' a' m'.0
 event_of follows suits None p p' m m' a a' turn some event = absurd (some refl)
 event_of follows suits (Some k) p p' m m' a a' turn some event = event
 
@@ -90,8 +90,8 @@ module _ {T : Type 0} (follows : ℕ → T → T → Type 0) (suits : T → ℕ 
       let other = no_leaves p.point keeps in
       λ i. ((e.did.last ∙ left_same p.point e.hand v.last other) i, (e.did.last_found ∙ left_same p.point v.found v.last_found other) i)
 
-  pub turn_more : kind p.point ≢ None → Is_turn (errand p.point) turn q.point
-  turn_more some = subst (λ (z : Stepped). Is_turn (errand p.point) z.turn z.seat.point) (sym step_is) (turns_step p s e.found o some)
+  pub turn_more : kind p.point ≢ None → IsTurn (errand p.point) turn q.point
+  turn_more some = subst (λ (z : Stepped). IsTurn (errand p.point) z.turn z.seat.point) (sym step_is) (turns_step p s e.found o some)
 
   pub release_more : is_release p.point ≡ false → is_release q.point ≡ false
   release_more keeps = ap (λ (z : Stepped). is_release z.seat.point) step_is ∙ no_release p s e.found o keeps
@@ -123,7 +123,7 @@ fits_same : (k j n : ℕ) (b : Option Kind) → (b ≡ Some Kind.LinkLoad → k 
 fits_same k j n (Some Kind.LinkLoad) same fits = let e = same refl in omega (arith, e, fits)
 fits_same k j n _ same fits = fits
 
-collects_same : (k j n : ℕ) (q : Point) → (kind q ≡ Some Kind.LinkLoad → k ≡ j) → Collects_within k n q → Collects_within j n q
+collects_same : (k j n : ℕ) (q : Point) → (kind q ≡ Some Kind.LinkLoad → k ≡ j) → CollectsWithin k n q → CollectsWithin j n q
 collects_same k j n (TakeLinkLoad (Carrier.Releaser releaser) next) same within = let e = same refl in omega (arith, e, within)
 collects_same k j n (TakeLinkLoad (Carrier.Reclaimer releaser) next) same within = let e = same refl in omega (arith, e, within)
 collects_same k j n _ same within = tt
@@ -133,8 +133,8 @@ pub steps_left : {T : Type 0} (follows : ℕ → T → T → Type 0) (suits : T 
     → Event follows suits p a v turn q b w → weight seats (length w.popped) q.point < weight seats (length v.popped) p.point
 steps_left follows suits seats s p q v w a b turn some sized ready e =
     let same : kind p.point ≡ Some Kind.LinkLoad → length e.did.popped ≡ length v.popped = (λ is. ap (λ (l : List Record). length l) (e.did.had (carrying p (loads_carry p.point is)))) in
-    let within : Collects_within (length v.popped) seats p.point =
-    collects_same (length e.did.popped) (length v.popped) seats p.point same (subst (λ (n : ℕ). Collects_within (length e.did.popped) n p.point) sized e.did.collects) in
+    let within : CollectsWithin (length v.popped) seats p.point =
+    collects_same (length e.did.popped) (length v.popped) seats p.point same (subst (λ (n : ℕ). CollectsWithin (length e.did.popped) n p.point) sized e.did.collects) in
     let room : PopFits (length v.popped) seats (kind p.point) = fits_same (length e.did.popped) (length v.popped) seats (kind p.point) same (subst (λ (n : ℕ). PopFits (length e.did.popped) n (kind p.point)) sized e.did.room) in
     let long : length w.popped ≡ length (popped_of p (target p.point v.number) e.found e.did.popped (kind p.point)) = ap (λ (l : List Record). length l) e.did.listed in
     let grows : (length w.popped ≡ length v.popped + 1) ⊎ (kind p.point ≢ Some Kind.LinkLoad) =
@@ -158,20 +158,20 @@ bounded_more follows suits seats s p q v w a b turn some sized ready e =
     let longer = trail_grows follows suits p q v w a b turn e in
     omega (arith, less, longer)
 
-pub ends_of : (e d : Errand) (t : Turn) (q : Point) → t ≢ Open → e ≡ d → Is_turn e t q → Ends d t
+pub ends_of : (e d : Errand) (t : Turn) (q : Point) → t ≢ Open → e ≡ d → IsTurn e t q → Ends d t
 ends_of e d Open q some same is = absurd (some refl)
 ends_of e d (Ended answer) q some same is = is ∙ same
 ends_of e d (Refused why) q some same is = is.0 ∙ same
 
 -- Begins
 
-abbrev pub Begin_told : Errand → Turn → Point → Type 0
-Begin_told e Open q = errand q ≡ e
-Begin_told e (Ended answer) q = answers_for answer ≡ e
-Begin_told e (Refused why) q = ⊤
+abbrev pub BeginTold : Errand → Turn → Point → Type 0
+BeginTold e Open q = errand q ≡ e
+BeginTold e (Ended answer) q = answers_for answer ≡ e
+BeginTold e (Refused why) q = ⊤
 
 abbrev Begins : Errand → Stepped → Type 0
-Begins e st = Begin_told e st.turn st.seat.point
+Begins e st = BeginTold e st.turn st.seat.point
 
 begins_if : (e : Errand) (b : Bool) (u v : Stepped) → Begins e u → Begins e v → Begins e (if b then u else v)
 begins_if e true u v first second = first
@@ -206,7 +206,7 @@ begins_at p l call Rest = begins_awake p l call
 begins_at p l call (Asleep sleeper) = begins_asleep p sleeper call
 begins_at p l call _ = tt
 
-pub begin_told : (p : SeatState) (l : Limits) (call : Call) → Begin_told (errand_of call) (Begin.begin p l call).turn (Begin.begin p l call).seat.point
+pub begin_told : (p : SeatState) (l : Limits) (call : Call) → BeginTold (errand_of call) (Begin.begin p l call).turn (Begin.begin p l call).seat.point
 begin_told p l call = begins_at p l call p.point
 
 some_errand : (call : Call) → errand_of call ≢ nothing
@@ -223,7 +223,7 @@ not_releasing e _ is other = refl
 
 -- a call that is open after its begin
 pub begun_open : (p : SeatState) (l : Limits) (call : Call) → (Begin.begin p l call).turn ≡ Open → errand (Begin.begin p l call).seat.point ≡ errand_of call
-begun_open p l call is = subst (λ (t : Turn). Begin_told (errand_of call) t (Begin.begin p l call).seat.point) is (begin_told p l call)
+begun_open p l call is = subst (λ (t : Turn). BeginTold (errand_of call) t (Begin.begin p l call).seat.point) is (begin_told p l call)
 
 pub begun_some : (q : Point) (call : Call) → errand q ≡ errand_of call → errand q ≢ nothing
 begun_some q call is e = some_errand call (sym is ∙ e)
@@ -236,7 +236,7 @@ ends_answers e (Ended answer) is = is
 ends_answers e (Refused why) is = tt
 ends_answers e Open is = absurd is
 
-told_answers : (e : Errand) (t : Turn) (q : Point) → t ≢ Open → Begin_told e t q → Answers e t
+told_answers : (e : Errand) (t : Turn) (q : Point) → t ≢ Open → BeginTold e t q → Answers e t
 told_answers e Open q some is = absurd (some refl)
 told_answers e (Ended answer) q some is = is
 told_answers e (Refused why) q some is = tt
@@ -247,12 +247,12 @@ pub called_steps : {T : Type 0} (s : ℕ) (l : Limits) (call : Call) (p p1 p' : 
 called_steps s l call p p1 p' v v' turn is_open is_p1 ends ran =
     let same : errand p1.point ≡ errand_of call = ap (λ (x : SeatState). errand x.point) is_p1 ∙ begun_open p l call is_open in
     let e : Ends (errand_of call) turn = subst (λ (z : Errand). Ends z turn) same ends in (
-      subst (λ (t : Turn). Called_by t s (errand_of call) (Begin.begin p l call).seat v turn p' v') (sym is_open) (e, subst (λ (x : SeatState). Ran s (opens x) v turn p' v') is_p1 ran),
+      subst (λ (t : Turn). CalledBy t s (errand_of call) (Begin.begin p l call).seat v turn p' v') (sym is_open) (e, subst (λ (x : SeatState). Ran s (opens x) v turn p' v') is_p1 ran),
       ends_answers (errand_of call) turn e,
     )
 
 -- a call that ended at once
-at_once : {T : Type 0} (t : Turn) (s : ℕ) (e : Errand) (q p' : SeatState) (v : View T) → t ≢ Open → p' ≡ q → Called_by t s e q v t p' v
+at_once : {T : Type 0} (t : Turn) (s : ℕ) (e : Errand) (q p' : SeatState) (v : View T) → t ≢ Open → p' ≡ q → CalledBy t s e q v t p' v
 at_once Open s e q p' v some is = absurd (some refl)
 at_once (Ended answer) s e q p' v some is = (refl, is, refl)
 at_once (Refused why) s e q p' v some is = (refl, is, refl)
@@ -262,7 +262,7 @@ pub called_at_once : {T : Type 0} (s : ℕ) (l : Limits) (call : Call) (p p' : S
 called_at_once {T} s l call p p' v v' turn some is_turn is_p same =
     let t = (Begin.begin p l call).turn in
     let some_t : (Begin.begin p l call).turn ≢ Open = (λ e. some (is_turn ∙ e)) in (
-      subst (λ (z : Turn × View T). Called_by (Begin.begin p l call).turn s (errand_of call) (Begin.begin p l call).seat v z.0 p' z.1) (λ i. (sym is_turn i, sym same i))
+      subst (λ (z : Turn × View T). CalledBy (Begin.begin p l call).turn s (errand_of call) (Begin.begin p l call).seat v z.0 p' z.1) (λ i. (sym is_turn i, sym same i))
           (at_once (Begin.begin p l call).turn s (errand_of call) (Begin.begin p l call).seat p' v some_t is_p),
       subst (λ (z : Turn). Answers (errand_of call) z) (sym is_turn) (told_answers (errand_of call) (Begin.begin p l call).turn (Begin.begin p l call).seat.point some_t (begin_told p l call)),
     )
@@ -297,7 +297,7 @@ module _ {T : Type 0} (follows : ℕ → T → T → Type 0) (suits : T → ℕ 
   pub ran_one : Ran s (opens p) v turn q w
   ran_one = ran_more follows suits s p v p q v w a b turn (ran_none s p v) named e
 
-  pub turn_one : kind p.point ≢ None → Is_turn (errand p.point) turn q.point
+  pub turn_one : kind p.point ≢ None → IsTurn (errand p.point) turn q.point
   turn_one some = turn_more follows suits s p v p q v w a b turn (ran_none s p v) named e some
 
   pub last_one : (r : Releaser) → p.point ≡ ReleaseOwnerStore r → last_hold w ≡ (value_in a, v.found)
@@ -310,15 +310,15 @@ pub release_some : (q : Point) (r : Releaser) → q ≡ ReleaseOwnerStore r → 
 release_some q r at e = let f : Some Kind.OwnerStore ≡ None = sym (ap kind at) ∙ e in absurd (cc)
 
 -- a release that is open after its begin stands at the store that ends the hold
-abbrev Told_release : Turn → Point → Type 0
-Told_release Open q = (r : Releaser) × (q ≡ ReleaseOwnerStore r)
-Told_release _ q = ⊤
+abbrev ToldRelease : Turn → Point → Type 0
+ToldRelease Open q = (r : Releaser) × (q ≡ ReleaseOwnerStore r)
+ToldRelease _ q = ⊤
 
-told_if : (b : Bool) (u v : Stepped) → Told_release u.turn u.seat.point → Told_release v.turn v.seat.point → Told_release (if b then u else v).turn (if b then u else v).seat.point
+told_if : (b : Bool) (u v : Stepped) → ToldRelease u.turn u.seat.point → ToldRelease v.turn v.seat.point → ToldRelease (if b then u else v).turn (if b then u else v).seat.point
 told_if true u v first second = first
 told_if false u v first second = second
 
-told_awake : (p : SeatState) (l : Limits) (call : Call) → is_releasing (errand_of call) ≡ true → Told_release (Begin.begin_awake p l call).turn (Begin.begin_awake p l call).seat.point
+told_awake : (p : SeatState) (l : Limits) (call : Call) → is_releasing (errand_of call) ≡ true → ToldRelease (Begin.begin_awake p l call).turn (Begin.begin_awake p l call).seat.point
 told_awake p l Call.Unlock is =
     told_if (nat_eq p.depth 0) (refuses p Refusal.NotOwner) (if nat_eq p.depth 1 then goes_on p (ReleaseOwnerStore Unlocker) else record { seat = record p { depth = p.depth - 1 }; turn = Ended (Answer.Unlocked (Unlocked.Still (p.depth - 1))) }) tt
     (told_if (nat_eq p.depth 1) (goes_on p (ReleaseOwnerStore Unlocker)) (record { seat = record p { depth = p.depth - 1 }; turn = Ended (Answer.Unlocked (Unlocked.Still (p.depth - 1))) }) (Unlocker, refl) tt)
@@ -331,18 +331,18 @@ told_awake p l Call.TryLock is = absurd (false≢true is)
 told_awake p l (Call.SendLock t) is = absurd (false≢true is)
 told_awake p l Call.Receive is = absurd (false≢true is)
 
-told_asleep : (p : SeatState) (sleeper : Sleeper) (call : Call) → is_releasing (errand_of call) ≡ true → Told_release (Begin.begin_asleep p sleeper call).turn (Begin.begin_asleep p sleeper call).seat.point
+told_asleep : (p : SeatState) (sleeper : Sleeper) (call : Call) → is_releasing (errand_of call) ≡ true → ToldRelease (Begin.begin_asleep p sleeper call).turn (Begin.begin_asleep p sleeper call).seat.point
 told_asleep p sleeper Call.Receive is = absurd (false≢true is)
 told_asleep p sleeper _ is = tt
 
-told_at : (p : SeatState) (l : Limits) (call : Call) (q : Point) → is_releasing (errand_of call) ≡ true → Told_release (Begin.begin_at p l call q).turn (Begin.begin_at p l call q).seat.point
+told_at : (p : SeatState) (l : Limits) (call : Call) (q : Point) → is_releasing (errand_of call) ≡ true → ToldRelease (Begin.begin_at p l call q).turn (Begin.begin_at p l call q).seat.point
 told_at p l call Rest is = told_awake p l call is
 told_at p l call (Asleep sleeper) is = told_asleep p sleeper call is
 told_at p l call _ is = tt
 
 pub begun_release : (p q : SeatState) (l : Limits) (call : Call) → is_releasing (errand_of call) ≡ true → (Begin.begin p l call).turn ≡ Open → q ≡ (Begin.begin p l call).seat → (r : Releaser) × (q.point ≡ ReleaseOwnerStore r)
 begun_release p q l call is is_open is_q =
-    let told = subst (λ (t : Turn). Told_release t (Begin.begin p l call).seat.point) is_open (told_at p l call p.point is) in
+    let told = subst (λ (t : Turn). ToldRelease t (Begin.begin p l call).seat.point) is_open (told_at p l call p.point is) in
     (told.0, ap (λ (x : SeatState). x.point) is_q ∙ told.1)
 
 -- so many steps follow the begin of a release
@@ -398,7 +398,7 @@ module _ {T : Type 0} (follows : ℕ → T → T → Type 0) (suits : T → ℕ 
       let deep : q.depth ≡ 1 = ap (λ (x : SeatState). x.depth) e.seat_is ∙ (rw at refl) in
       let rests : q.point ≡ Rest = ap (λ (x : SeatState). x.point) e.seat_is ∙ (rw at refl) in
       let carries_q : carries_value q ≡ true = deep_carries q.depth q.point deep in
-      let goes = subst (λ (t : Bool × Bool). Value_goes t.0 t.1 a b w) (λ i. (carries_p i, carries_q i)) e.value in
+      let goes = subst (λ (t : Bool × Bool). ValueGoes t.0 t.1 a b w) (λ i. (carries_p i, carries_q i)) e.value in
       let x = goes.0 in
       let same : some.0.value ≡ x.value = some_same some.0.value x.value (sym (ap value_in some.1) ∙ goes.1) in
       let hands = subst (λ (t : Bool × Bool). Hands follows suits t.0 t.1 p.point e.hand e.did.popped (m.0, e.slots) (w, e.slots_after)) (λ i. (carries_p i, (ap carries_value (sym e.seat_is) ∙ carries_q) i)) e.did.hands in

@@ -213,23 +213,23 @@ refused_by s d t ps u Waiting finds e =
 refused_by s d t ps u _ [] e = (refl, refl)
 refused_by s d t ps u _ (f ∷ finds) e = absurd (not_idle (sym (idle_runs s d t ps finds) ∙ e))
 
-abbrev Sent_so : ℕ → SeatState → ℕ → List (ℕ × Option Record) → Type 0
-Sent_so s x u finds = (end_of s (record { seat = x; turn = Open }) finds).turn ≡ Ended Answer.Sent → sends_of (trail_of s x finds) ≡ u ∷ []
+abbrev SentSo : ℕ → SeatState → ℕ → List (ℕ × Option Record) → Type 0
+SentSo s x u finds = (end_of s (record { seat = x; turn = Open }) finds).turn ≡ Ended Answer.Sent → sends_of (trail_of s x finds) ≡ u ∷ []
 
-abbrev Refused_so : ℕ → SeatState → ℕ → List (ℕ × Option Record) → Type 0
-Refused_so s x u finds =
+abbrev RefusedSo : ℕ → SeatState → ℕ → List (ℕ × Option Record) → Type 0
+RefusedSo s x u finds =
     (end_of s (record { seat = x; turn = Open }) finds).turn ≡ Refused (Why.By Refusal.NotWaiting) → (k : ℕ) × (claimed u (wake_of k) ≡ []) × (trail_of s x finds ≡ seen (SendWakeExchange u) k ∷ [])
 
-sent_first : (s d t ps u : ℕ) (finds : List (ℕ × Option Record)) → Sent_so s (made_of d t ps (SendWakeExchange u)) u finds
+sent_first : (s d t ps u : ℕ) (finds : List (ℕ × Option Record)) → SentSo s (made_of d t ps (SendWakeExchange u)) u finds
 sent_first s d t ps u [] e = absurd (sent_open e)
 sent_first s d t ps u (f ∷ finds) e = sent_by s d t ps u (wake_of f.0) finds e
 
-refused_first : (s d t ps u : ℕ) (finds : List (ℕ × Option Record)) → Refused_so s (made_of d t ps (SendWakeExchange u)) u finds
+refused_first : (s d t ps u : ℕ) (finds : List (ℕ × Option Record)) → RefusedSo s (made_of d t ps (SendWakeExchange u)) u finds
 refused_first s d t ps u [] e = absurd (waiting_open e)
 refused_first s d t ps u (f ∷ finds) e = let r = refused_by s d t ps u (wake_of f.0) finds e in (f.0, r.0, ap (λ (l : List Seen). seen (SendWakeExchange u) f.0 ∷ l) r.1)
 
-pub sent_path : (s : ℕ) (x : SeatState) (u : ℕ) (finds : List (ℕ × Option Record)) → x.point ≡ SendWakeExchange u → Sent_so s x u finds
-sent_path s x u finds at = subst (λ (q : Point). Sent_so s (made_of x.depth x.takes x.posts q) u finds) (sym at) (sent_first s x.depth x.takes x.posts u finds)
+pub sent_path : (s : ℕ) (x : SeatState) (u : ℕ) (finds : List (ℕ × Option Record)) → x.point ≡ SendWakeExchange u → SentSo s x u finds
+sent_path s x u finds at = subst (λ (q : Point). SentSo s (made_of x.depth x.takes x.posts q) u finds) (sym at) (sent_first s x.depth x.takes x.posts u finds)
 
-pub refused_path : (s : ℕ) (x : SeatState) (u : ℕ) (finds : List (ℕ × Option Record)) → x.point ≡ SendWakeExchange u → Refused_so s x u finds
-refused_path s x u finds at = subst (λ (q : Point). Refused_so s (made_of x.depth x.takes x.posts q) u finds) (sym at) (refused_first s x.depth x.takes x.posts u finds)
+pub refused_path : (s : ℕ) (x : SeatState) (u : ℕ) (finds : List (ℕ × Option Record)) → x.point ≡ SendWakeExchange u → RefusedSo s x u finds
+refused_path s x u finds at = subst (λ (q : Point). RefusedSo s (made_of x.depth x.takes x.posts q) u finds) (sym at) (refused_first s x.depth x.takes x.posts u finds)

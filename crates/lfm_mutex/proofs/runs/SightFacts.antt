@@ -23,70 +23,70 @@ use Rattle.lfm_protocol.specs.Points.{kind}
 use Rattle.lfm_core.specs.steady.Steady.{DepthAt}
 use Rattle.lfm_core.specs.table.Words.{stepped_by, handoff_of, wake_of, link_of}
 use Rattle.lfm_mutex.specs.calls.Runs.{is_release}
-use Rattle.lfm_mutex.specs.calls.Sight.{Concludes, Still_at, Is_left}
+use Rattle.lfm_mutex.specs.calls.Sight.{Concludes, StillAt, IsLeft}
 use Rattle.lfm_table.proofs.tables.StepFacts.{made_of}
 
-abbrev Ends_with : SeatState → Stepped → Type 0
-Ends_with x st = Concludes x st.turn st.seat
+abbrev EndsWith : SeatState → Stepped → Type 0
+EndsWith x st = Concludes x st.turn st.seat
 
 -- a test that goes either way
-either : (x : SeatState) (b : Bool) (u v : Stepped) → (b ≡ true → Ends_with x u) → (b ≡ false → Ends_with x v) → Ends_with x (if b then u else v)
+either : (x : SeatState) (b : Bool) (u v : Stepped) → (b ≡ true → EndsWith x u) → (b ≡ false → EndsWith x v) → EndsWith x (if b then u else v)
 either x true u v first second = first refl
 either x false u v first second = second refl
 
 -- a seat that goes on to one of two points
-goes_if : (x : SeatState) (b : Bool) (p q : Point) → Still_at p → Still_at q → Ends_with x (goes_on x (if b then p else q))
+goes_if : (x : SeatState) (b : Bool) (p q : Point) → StillAt p → StillAt q → EndsWith x (goes_on x (if b then p else q))
 goes_if x true p q first second = (refl, refl, λ _. first)
 goes_if x false p q first second = (refl, refl, λ _. second)
 
-still_if : (b : Bool) (p q : Point) → Still_at p → Still_at q → Still_at (if b then p else q)
+still_if : (b : Bool) (p q : Point) → StillAt p → StillAt q → StillAt (if b then p else q)
 still_if true p q first second = first
 still_if false p q first second = second
 
-still_serves : (carrier : Carrier) (s : ℕ) (r : Record) → Still_at (serves carrier s r)
+still_serves : (carrier : Carrier) (s : ℕ) (r : Record) → StillAt (serves carrier s r)
 still_serves Carrier.Locker s r = still_if (nat_eq r.seat s) _ _ tt tt
 still_serves (Carrier.Releaser u) s r = tt
 still_serves (Carrier.Reclaimer u) s r = tt
 still_serves Carrier.Sender s r = tt
 
-still_take : (carrier : Carrier) (s : ℕ) (o : Option Record) → Still_at (take carrier s o)
+still_take : (carrier : Carrier) (s : ℕ) (o : Option Record) → StillAt (take carrier s o)
 still_take carrier s None = tt
 still_take carrier s (Some r) = still_serves carrier s r
 
-still_cleared : (carrier : Carrier) (head : ℕ) → Still_at (cleared carrier head)
+still_cleared : (carrier : Carrier) (head : ℕ) → StillAt (cleared carrier head)
 still_cleared (Carrier.Releaser u) head = still_if (nat_eq head 0) _ _ tt tt
 still_cleared Carrier.Locker head = tt
 still_cleared (Carrier.Reclaimer u) head = tt
 still_cleared Carrier.Sender head = tt
 
-still_looks : (pusher : Pusher) (d t : ℕ) → Still_at (looks pusher (record { seat = d; post = t }))
+still_looks : (pusher : Pusher) (d t : ℕ) → StillAt (looks pusher (record { seat = d; post = t }))
 still_looks Pusher.Locker d t = tt
 still_looks (Pusher.Sender u) d t = tt
 
-ends_releases : (x : SeatState) (r : Releaser) (answer : Unlocked) → Is_left answer → Ends_with x (releases x r answer)
+ends_releases : (x : SeatState) (r : Releaser) (answer : Unlocked) → IsLeft answer → EndsWith x (releases x r answer)
 ends_releases x Unlocker answer is = (refl, refl, refl, is)
 ends_releases x Waiter answer is = (refl, refl, λ _. is)
 
-ends_pushed : (x : SeatState) (pusher : Pusher) → x.depth ≡ 0 → Ends_with x (pushed x pusher)
+ends_pushed : (x : SeatState) (pusher : Pusher) → x.depth ≡ 0 → EndsWith x (pushed x pusher)
 ends_pushed x Pusher.Locker flat = (flat, flat, refl, refl, refl)
 ends_pushed x (Pusher.Sender t) flat = (refl, refl, refl)
 
-ends_granted : (x : SeatState) (carrier : Carrier) (oldest : Record) → x.depth ≡ 0 → Ends_with x (granted x carrier oldest)
+ends_granted : (x : SeatState) (carrier : Carrier) (oldest : Record) → x.depth ≡ 0 → EndsWith x (granted x carrier oldest)
 ends_granted x Carrier.Locker oldest flat = (flat, flat, refl, refl, refl)
 ends_granted x (Carrier.Releaser r) oldest flat = ends_releases x r (Unlocked.Granted oldest.seat) tt
 ends_granted x (Carrier.Reclaimer r) oldest flat = ends_releases x r (Unlocked.Granted oldest.seat) tt
 ends_granted x Carrier.Sender oldest flat = (refl, refl, refl)
 
-ends_receives : (x : SeatState) (sleeper : Sleeper) (w : Wake) → Ends_with x (receives x sleeper w)
+ends_receives : (x : SeatState) (sleeper : Sleeper) (w : Wake) → EndsWith x (receives x sleeper w)
 ends_receives x sleeper (Grant stamp) = (refl, refl, λ _. tt)
 ends_receives x sleeper Waiting = (refl, refl, refl, refl)
 ends_receives x sleeper _ = (refl, refl, refl, refl)
 
-ends_claims : (x : SeatState) (t : ℕ) (w : Wake) → Ends_with x (claims x t w)
+ends_claims : (x : SeatState) (t : ℕ) (w : Wake) → EndsWith x (claims x t w)
 ends_claims x t Waiting = (refl, refl, λ _. tt)
 ends_claims x t _ = (refl, refl, refl)
 
-ends_held : (x : SeatState) (entrant : Entrant) (how : How) → x.depth ≡ 0 → Ends_with x (record { seat = record x { point = Rest; depth = 1 }; turn = Ended (held entrant how) })
+ends_held : (x : SeatState) (entrant : Entrant) (how : How) → x.depth ≡ 0 → EndsWith x (record { seat = record x { point = Rest; depth = 1 }; turn = Ended (held entrant how) })
 ends_held x Entrant.Locker how flat = (flat, refl, refl, refl)
 ends_held x Entrant.Trier how flat = (flat, refl, refl, refl)
 ends_held x Entrant.Receiver how flat = (flat, refl, refl, refl)
@@ -94,12 +94,12 @@ ends_held x Entrant.Receiver how flat = (flat, refl, refl, refl)
 less_one : (t : ℕ) → ((t - 1) + 1 ≡ t) ⊎ (t ≡ 0)
 less_one t = elim (cases_eq t 0) [ inl z ↦ inr z | inr n ↦ inl (omega (arith, n)) ]
 
-ends_busy : (x : SeatState) → x.depth ≡ 0 → Ends_with x (busy x)
+ends_busy : (x : SeatState) → x.depth ≡ 0 → EndsWith x (busy x)
 ends_busy x flat = (flat, flat, less_one x.takes, refl)
 
 -- what the owner word tells of the depth
-abbrev pub Owner_told : SeatState → ℕ → ℕ → Type 0
-Owner_told x s n = kind x.point ≡ Some Kind.OwnerLoad → (n ≡ s → 0 < x.depth) × (0 < x.depth → n ≡ s)
+abbrev pub OwnerTold : SeatState → ℕ → ℕ → Type 0
+OwnerTold x s n = kind x.point ≡ Some Kind.OwnerLoad → (n ≡ s → 0 < x.depth) × (0 < x.depth → n ≡ s)
 
 pub is_s : (n s : ℕ) → nat_eq n s ≡ true → n ≡ s
 is_s n s e = elim (cases_eq n s) [ inl z ↦ z | inr other ↦ absurd (false≢true (sym (ne_eqb n s other) ∙ e)) ]
@@ -110,7 +110,7 @@ not_s n s e z = false≢true (sym e ∙ eq-eqb n s z)
 flat_of : (d n s : ℕ) → (0 < d → n ≡ s) → n ≢ s → d ≡ 0
 flat_of d n s told other = elim (cases_eq d 0) [ inl z ↦ z | inr deep ↦ absurd (other (told (omega (arith, deep)))) ]
 
-ends_at : (d t ps s n : ℕ) (o : Option Record) (q : Point) → kind q ≢ None → is_release q ≡ false → DepthAt d q → Owner_told (made_of d t ps q) s n → Ends_with (made_of d t ps q) (stepped_by (made_of d t ps q) s n o)
+ends_at : (d t ps s n : ℕ) (o : Option Record) (q : Point) → kind q ≢ None → is_release q ≡ false → DepthAt d q → OwnerTold (made_of d t ps q) s n → EndsWith (made_of d t ps q) (stepped_by (made_of d t ps q) s n o)
 ends_at d t ps s n o Rest some keeps deep told = absurd (some refl)
 ends_at d t ps s n o (Asleep sleeper) some keeps deep told = absurd (some refl)
 ends_at d t ps s n o LockCountAdd some keeps deep told = goes_if (made_of d t ps LockCountAdd) (nat_eq n 0) _ _ tt tt
@@ -160,5 +160,5 @@ ends_at d t ps s n o (EnterOwnerStore entrant how) some keeps deep told = ends_h
 ends_at d t ps s n o (ReceiveWakeLoad sleeper) some keeps deep told = ends_receives (made_of d t ps (ReceiveWakeLoad sleeper)) sleeper (wake_of n)
 ends_at d t ps s n o (ReceiveWakeStore stamp) some keeps deep told = (refl, refl, λ _. tt)
 
-pub concludes : (x : SeatState) (s n : ℕ) (o : Option Record) → kind x.point ≢ None → is_release x.point ≡ false → DepthAt x.depth x.point → Owner_told x s n → Ends_with x (stepped_by x s n o)
+pub concludes : (x : SeatState) (s n : ℕ) (o : Option Record) → kind x.point ≢ None → is_release x.point ≡ false → DepthAt x.depth x.point → OwnerTold x s n → EndsWith x (stepped_by x s n o)
 concludes x s n o some keeps deep told = ends_at x.depth x.takes x.posts s n o x.point some keeps deep told

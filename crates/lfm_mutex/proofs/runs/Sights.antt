@@ -34,8 +34,8 @@ use Rattle.lfm_table.specs.declared.rule.Moving.{Moving}
 use Rattle.lfm_table.specs.declared.seat_view.Seen.{Seen}
 use Rattle.lfm_table.specs.Rule.{value_in, last_hold, Hands, seen}
 use Rattle.lfm_mutex.specs.calls.Runs.{Errand, locking, trying, releasing, sending, receiving, refuses_for, errand, is_release, Ends, Ran, opens, trail_of, Counts, Holds, how_held, errand_of, is_releasing}
-use Rattle.lfm_table.specs.Steps.{Event, Value_goes, Leaves}
-use Rattle.lfm_mutex.specs.calls.Sight.{Sight, sight_of, by_depth, is_asleep, is_in_call, sends_of, Concludes, Refused_by, Still_at, Is_left, Suits, Finds, May_leave, Gains, Deepens, Leaves_off, Turned, claimed, Stays, Busy_seen, new_sight, Names}
+use Rattle.lfm_table.specs.Steps.{Event, ValueGoes, MayBeLeft}
+use Rattle.lfm_mutex.specs.calls.Sight.{Sight, sight_of, by_depth, is_asleep, is_in_call, sends_of, Concludes, RefusedBy, StillAt, IsLeft, Suits, Finds, MayLeave, Gains, Deepens, LeavesOff, Turned, claimed, Stays, BusySeen, new_sight, Names}
 use Rattle.lfm_mutex.specs.Fresh.{Fresh}
 use Rattle.lfm_mutex.proofs.runs.RunFacts.{no_leaves}
 use Rattle.lfm_mutex.proofs.runs.Running.{begun_open}
@@ -89,7 +89,7 @@ module _ {T : Type 0} (follows : ℕ → T → T → Type 0) (suits : T → ℕ 
       let o = oldest e.did.popped in
       let carries_p : carries_value p ≡ true = carries_deep p.depth p.point deep in
       let carries_q : carries_value q ≡ true = carries_deep q.depth q.point (deep_after p q turn c deep) in
-      let goes = subst (λ (t : Bool × Bool). Value_goes t.0 t.1 a b w) (λ i. (carries_p i, carries_q i)) e.value in
+      let goes = subst (λ (t : Bool × Bool). ValueGoes t.0 t.1 a b w) (λ i. (carries_p i, carries_q i)) e.value in
       let hands = subst (λ (t : Bool × Bool). Hands follows suits t.0 t.1 p.point e.hand e.did.popped (v, e.slots) (w, e.slots_after)) (λ i. (carries_p i, (ap carries_value (sym e.seat_is) ∙ carries_q) i)) e.did.hands in
       let more = e.did.answered carries_p in
       let none : length (answered_by v.number (stepped_by p v.number e.found o).turn) ≡ 0 = ap (λ (t : Turn). length (answered_by v.number t)) (sym e.turn_is) ∙ none_answered v.number p q turn c deep in
@@ -183,26 +183,26 @@ module _ {T : Type 0} (n n' : ℕ) (p p' : SeatState) (v v' : View T) (a a' : Op
 
 -- Begins
 
-abbrev pub Begun_entry : ℕ → SeatState → SeatState → Type 0
-Begun_entry budget p q =
+abbrev pub BegunEntry : ℕ → SeatState → SeatState → Type 0
+BegunEntry budget p q =
     (p.point ≡ Rest) × (p.depth < 65535) × (q.depth ≡ p.depth) × (((p.depth ≡ 0) × (p.takes < budget) × (q.takes ≡ p.takes + 1)) ⊎ ((0 < p.depth) × (q.takes ≡ p.takes)))
 
 -- a call that is open after its begin
 abbrev pub Begun : Limits → Call → SeatState → SeatState → Type 0
-Begun l Call.Lock p q = Begun_entry l.budget p q × (q.point ≡ LockCountAdd)
-Begun l Call.TryLock p q = Begun_entry l.budget p q × (q.point ≡ TryCountExchange)
+Begun l Call.Lock p q = BegunEntry l.budget p q × (q.point ≡ LockCountAdd)
+Begun l Call.TryLock p q = BegunEntry l.budget p q × (q.point ≡ TryCountExchange)
 Begun l Call.Unlock p q = (p.point ≡ Rest) × (p.depth ≡ 1) × (q.takes ≡ p.takes) × (q.point ≡ ReleaseOwnerStore Unlocker)
 Begun l Call.StartWait p q = (p.point ≡ Rest) × (p.depth ≡ 1) × (p.takes < l.budget) × (q.takes ≡ p.takes + 1) × (q.point ≡ ReleaseOwnerStore Waiter)
 Begun l (Call.SendLock t) p q = (p.point ≡ Rest) × (0 < t) × (t ≤ l.seats) × (q.depth ≡ p.depth) × (q.takes ≡ p.takes) × (q.point ≡ SendWakeExchange t)
 Begun l Call.Receive p q = (is_asleep p.point ≡ true) × (is_in_call p.point ≡ false) × (q.depth ≡ p.depth) × (q.takes ≡ p.takes) × ((sleeper : Sleeper) × (q.point ≡ ReceiveWakeLoad sleeper))
 
 module _ {T : Type 0} (follows : ℕ → T → T → Type 0) (fits : T → ℕ → Type 0) (n : ℕ) (l : Limits) (v : View T) (a : Option T) where
-  abbrev Starts_by : Call → SeatState → SeatState → Turn → Type 0
-  Starts_by call p q Open = Begun l call p q
-  Starts_by call p q turn = Turned follows fits l call (sight_of n p v a) (sight_of n q v a) turn
+  abbrev StartsBy : Call → SeatState → SeatState → Turn → Type 0
+  StartsBy call p q Open = Begun l call p q
+  StartsBy call p q turn = Turned follows fits l call (sight_of n p v a) (sight_of n q v a) turn
 
   abbrev Starts : Call → SeatState → Stepped → Type 0
-  Starts call p st = Starts_by call p st.seat st.turn
+  Starts call p st = StartsBy call p st.seat st.turn
 
   starts_if : (call : Call) (p : SeatState) (b : Bool) (x y : Stepped) → (b ≡ true → Starts call p x) → (b ≡ false → Starts call p y) → Starts call p (if b then x else y)
   starts_if call p true x y first second = first refl
@@ -283,33 +283,33 @@ module _ {T : Type 0} (follows : ℕ → T → T → Type 0) (fits : T → ℕ �
   starts p call = starts_at p.depth p.takes p.posts p.point call
 
   pub begun : (p q : SeatState) (call : Call) → Open ≡ (Begin.begin p l call).turn → q ≡ (Begin.begin p l call).seat → Begun l call p q
-  begun p q call is seat_is = subst (λ (z : Stepped). Starts_by call p z.seat z.turn) (λ i. record { seat = sym seat_is i; turn = sym is i }) (starts p call)
+  begun p q call is seat_is = subst (λ (z : Stepped). StartsBy call p z.seat z.turn) (λ i. record { seat = sym seat_is i; turn = sym is i }) (starts p call)
 
-  told_turn : (p q : SeatState) (call : Call) (turn : Turn) → turn ≢ Open → Starts_by call p q turn → Turned follows fits l call (sight_of n p v a) (sight_of n q v a) turn
+  told_turn : (p q : SeatState) (call : Call) (turn : Turn) → turn ≢ Open → StartsBy call p q turn → Turned follows fits l call (sight_of n p v a) (sight_of n q v a) turn
   told_turn p q call Open some is = absurd (some refl)
   told_turn p q call (Ended answer) some is = is
   told_turn p q call (Refused why) some is = is
 
   -- a call that ends by its begin
   pub turned_at_once : (p q : SeatState) (call : Call) (turn : Turn) → turn ≢ Open → turn ≡ (Begin.begin p l call).turn → q ≡ (Begin.begin p l call).seat → Turned follows fits l call (sight_of n p v a) (sight_of n q v a) turn
-  turned_at_once p q call turn some is seat_is = told_turn p q call turn some (subst (λ (z : Stepped). Starts_by call p z.seat z.turn) (λ i. record { seat = sym seat_is i; turn = sym is i }) (starts p call))
+  turned_at_once p q call turn some is seat_is = told_turn p q call turn some (subst (λ (z : Stepped). StartsBy call p z.seat z.turn) (λ i. record { seat = sym seat_is i; turn = sym is i }) (starts p call))
 
 -- Calls that make steps
 
 pub called_ends : (l : Limits) (call : Call) (p q : SeatState) (turn : Turn) → Open ≡ (Begin.begin p l call).turn → q ≡ (Begin.begin p l call).seat → Ends (errand q.point) turn → Ends (errand_of call) turn
 called_ends l call p q turn is seat_is ends = subst (λ (e : Errand). Ends e turn) (ap (λ (x : SeatState). errand x.point) seat_is ∙ begun_open p l call (sym is)) ends
 
-no_busy_asks : (e : Errand) (why : Why) → e ≡ locking → refuses_for why ≡ e → (x p : SeatState) → Refused_by x p why → ⊥
+no_busy_asks : (e : Errand) (why : Why) → e ≡ locking → refuses_for why ≡ e → (x p : SeatState) → RefusedBy x p why → ⊥
 no_busy_asks e (Why.By Refusal.Busy) is told x p by = let z : trying ≡ locking = told ∙ is in absurd (cc)
 no_busy_asks e (Why.By Refusal.NotWaiting) is told x p by = let z : sending ≡ locking = told ∙ is in absurd (cc)
 no_busy_asks e _ is told x p by = by
 
-no_trying_asks : (e : Errand) (r : Releaser) (why : Why) → e ≡ releasing r → refuses_for why ≡ e → (x p : SeatState) → Refused_by x p why → ⊥
+no_trying_asks : (e : Errand) (r : Releaser) (why : Why) → e ≡ releasing r → refuses_for why ≡ e → (x p : SeatState) → RefusedBy x p why → ⊥
 no_trying_asks e r (Why.By Refusal.Busy) is told x p by = let z : trying ≡ releasing r = told ∙ is in absurd (cc)
 no_trying_asks e r (Why.By Refusal.NotWaiting) is told x p by = let z : sending ≡ releasing r = told ∙ is in absurd (cc)
 no_trying_asks e r _ is told x p by = by
 
-no_busy_receives : (e : Errand) (why : Why) → e ≡ receiving → refuses_for why ≡ e → (x p : SeatState) → Refused_by x p why → ⊥
+no_busy_receives : (e : Errand) (why : Why) → e ≡ receiving → refuses_for why ≡ e → (x p : SeatState) → RefusedBy x p why → ⊥
 no_busy_receives e (Why.By Refusal.Busy) is told x p by = let z : trying ≡ receiving = told ∙ is in absurd (cc)
 no_busy_receives e (Why.By Refusal.NotWaiting) is told x p by = let z : sending ≡ receiving = told ∙ is in absurd (cc)
 no_busy_receives e _ is told x p by = by
@@ -348,13 +348,13 @@ module _ {T : Type 0} (follows : ℕ → T → T → Type 0) (fits : T → ℕ �
   idle x at = ap is_in_call at
 
   -- a hold, by either call that charges at once
-  gains : (budget : ℕ) (how : How) → Begun_entry budget p q → q.depth ≡ 0 → p'.depth ≡ 1 → p'.takes ≡ q.takes → p'.point ≡ Rest → sends_of v'.trail ≡ sends_of v.trail → Holds follows fits n v.last how p' a' v' → Gains follows fits budget how S S'
+  gains : (budget : ℕ) (how : How) → BegunEntry budget p q → q.depth ≡ 0 → p'.depth ≡ 1 → p'.takes ≡ q.takes → p'.point ≡ Rest → sends_of v'.trail ≡ sends_of v.trail → Holds follows fits n v.last how p' a' v' → Gains follows fits budget how S S'
   gains budget how b flat deep takes rests sends h =
       let flat_p : p.depth ≡ 0 = sym b.2 ∙ flat in
       let charged : (p.takes < budget) × (q.takes ≡ p.takes + 1) = elim b.3 [ inl c ↦ (c.1, c.2) | inr c ↦ absurd (let z = c.0 in omega (arith, z, flat_p)) ] in
       (awake p.point b.0, flat_p, charged.0, number, deep, takes ∙ charged.1, awake p'.point rests, sends, finds how flat_p h)
 
-  deepens_now : (budget d : ℕ) → Begun_entry budget p q → 0 < q.depth → d ≡ q.depth + 1 → p'.depth ≡ d → p'.takes ≡ q.takes → p'.point ≡ Rest → sends_of v'.trail ≡ sends_of v.trail → last_hold v' ≡ last_hold v
+  deepens_now : (budget d : ℕ) → BegunEntry budget p q → 0 < q.depth → d ≡ q.depth + 1 → p'.depth ≡ d → p'.takes ≡ q.takes → p'.point ≡ Rest → sends_of v'.trail ≡ sends_of v.trail → last_hold v' ≡ last_hold v
       → Stays q.depth v (value_in a) v' (value_in a') → Deepens S S' d
   deepens_now budget d b deep is depth takes rests sends last stays =
       let deep_p : 0 < p.depth = subst (λ (k : ℕ). 0 < k) b.2 deep in
@@ -389,7 +389,7 @@ module _ {T : Type 0} (follows : ℕ → T → T → Type 0) (fits : T → ℕ �
   not_waiting_tries e = cc
 
   try_turned : (turn : Turn) → Begun l Call.TryLock p q → Ends trying turn → Concludes q turn p' → ((how : How) → how_held turn ≡ Some how → Holds follows fits n v.last how p' a' v') → Stays q.depth v (value_in a) v' (value_in a') → last_hold v' ≡ last_hold v
-      → sends_of v'.trail ≡ sends_of v.trail → (turn ≡ Refused (Why.By Refusal.Busy) → (new : List Seen) × (v'.trail ≡ v.trail ++ new) × Busy_seen n new) → Turned follows fits l Call.TryLock S S' turn
+      → sends_of v'.trail ≡ sends_of v.trail → (turn ≡ Refused (Why.By Refusal.Busy) → (new : List Seen) × (v'.trail ≡ v.trail ++ new) × BusySeen n new) → Turned follows fits l Call.TryLock S S' turn
   try_turned (Ended (Answer.Locked (Locked.Held how))) b ends c held stays last sends busy = gains l.budget how b.0 c.0 c.1 c.2 c.3 sends (held how refl)
   try_turned (Ended (Answer.Locked (Locked.Again d))) b ends c held stays last sends busy = deepens_now l.budget d b.0 c.0 c.1 c.2 c.3 c.4 sends last stays
   try_turned (Refused (Why.By Refusal.Busy)) b ends c held stays last sends busy =
@@ -426,7 +426,7 @@ module _ {T : Type 0} (follows : ℕ → T → T → Type 0) (fits : T → ℕ �
   receive_turned Open b ends c held stays last sends = tt
 
   -- a release, from the store that ends the hold on
-  leaves_off : p.point ≡ Rest → p.depth ≡ 1 → p'.depth ≡ 0 → last_hold v' ≡ (value_in a, v.found) → sends_of v'.trail ≡ sends_of v.trail → Leaves_off S S'
+  leaves_off : p.point ≡ Rest → p.depth ≡ 1 → p'.depth ≡ 0 → last_hold v' ≡ (value_in a, v.found) → sends_of v'.trail ≡ sends_of v.trail → LeavesOff S S'
   leaves_off rests deep flat last sends =
       let some : 0 < p.depth = omega (arith, deep) in (
         awake p.point rests,
@@ -439,7 +439,7 @@ module _ {T : Type 0} (follows : ℕ → T → T → Type 0) (fits : T → ℕ �
         flat_by p'.depth v'.last_found v'.found flat ∙ (ap (λ (t : Option T × Option T). t.1) last ∙ sym (deep_by p.depth v.last_found v.found some)),
       )
 
-  unlocked : (u : Unlocked) → Is_left u → Leaves_off S S' → S'.takes ≡ S.takes → S'.asleep ≡ false → Turned follows fits l Call.Unlock S S' (Ended (Answer.Unlocked u))
+  unlocked : (u : Unlocked) → IsLeft u → LeavesOff S S' → S'.takes ≡ S.takes → S'.asleep ≡ false → Turned follows fits l Call.Unlock S S' (Ended (Answer.Unlocked u))
   unlocked (Unlocked.Still d) is off takes awake_now = absurd is
   unlocked Unlocked.Free is off takes awake_now = (off, takes, awake_now)
   unlocked (Unlocked.Granted t) is off takes awake_now = (off, takes, awake_now)
@@ -453,7 +453,7 @@ module _ {T : Type 0} (follows : ℕ → T → T → Type 0) (fits : T → ℕ �
   unlock_turned Open b ends c last sends = tt
 
   wait_turned : (turn : Turn) → Begun l Call.StartWait p q → Ends (releasing Waiter) turn → Concludes (record q { depth = 0 }) turn p' → last_hold v' ≡ (value_in a, v.found) → sends_of v'.trail ≡ sends_of v.trail → Turned follows fits l Call.StartWait S S' turn
-  wait_turned (Ended (Answer.Waiting u)) b ends c last sends = (c.4 (subst (λ (x : Point). Still_at x) (sym b.4) tt), leaves_off b.0 b.1 c.0 last sends, b.2, c.1 ∙ b.3, c.2, c.3)
+  wait_turned (Ended (Answer.Waiting u)) b ends c last sends = (c.4 (subst (λ (x : Point). StillAt x) (sym b.4) tt), leaves_off b.0 b.1 c.0 last sends, b.2, c.1 ∙ b.3, c.2, c.3)
   wait_turned (Refused why) b ends c last sends = absurd (no_trying_asks (releasing Waiter) Waiter why refl ends (record q { depth = 0 }) p' c)
   wait_turned (Ended _) b ends c last sends = tt
   wait_turned Open b ends c last sends = tt
@@ -521,7 +521,7 @@ release_deep l Call.TryLock p q gives b = absurd (false≢true gives)
 release_deep l (Call.SendLock t) p q gives b = absurd (false≢true gives)
 release_deep l Call.Receive p q gives b = absurd (false≢true gives)
 
-pub may_leave : {T : Type 0} (follows : ℕ → T → T → Type 0) (fits : T → ℕ → Type 0) (n : ℕ) (p : SeatState) (v : View T) (a : Option (Moving T)) → v.number ≡ n → 0 < p.depth → May_leave follows fits (sight_of n p v (value_in a)) → Leaves follows fits a v
+pub may_leave : {T : Type 0} (follows : ℕ → T → T → Type 0) (fits : T → ℕ → Type 0) (n : ℕ) (p : SeatState) (v : View T) (a : Option (Moving T)) → v.number ≡ n → 0 < p.depth → MayLeave follows fits (sight_of n p v (value_in a)) → MayBeLeft follows fits a v
 may_leave {T} follows fits n p v a named deep may x is =
     let m = may x.value (deep_by p.depth None (value_in a) deep ∙ ap value_in is) in (
       subst (λ (k : ℕ). fits x.value k) (deep_by p.depth 0 v.answered deep) m.0,

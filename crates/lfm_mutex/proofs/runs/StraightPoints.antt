@@ -31,7 +31,7 @@ use Rattle.lfm_table.specs.declared.rule.Moving.{Moving}
 use Rattle.lfm_mutex.specs.calls.Runs.{opens, errand, releasing, is_release}
 use Rattle.lfm_mutex.specs.calls.Sight.{is_asleep}
 use Rattle.lfm_table.specs.Steps.{Event, oldest_in}
-use Rattle.lfm_table.specs.Straight.{Fit, Made_step}
+use Rattle.lfm_table.specs.Straight.{Fit, MadeStep}
 use Rattle.lfm_table.proofs.tables.Started as Started
 use Rattle.lfm_table.proofs.tables.StepFacts.{made_of}
 
@@ -166,7 +166,7 @@ module _ {T : Type 0} (number words id : ℕ) (l : Limits) (m : Me (Option (Movi
       record { seated = b.seated; became = b.became; ready = b.ready; rooted = fit.rooted }
 
 module _ {T : Type 0} (follows : ℕ → T → T → Type 0) (suits : T → ℕ → Type 0) (number words id : ℕ) (l : Limits) (p : SeatState) (n : ℕ) (m : Me (Option (Moving T)) (View T)) (a : Option (Moving T)) (m' : Me (Option (Moving T)) (View T)) (a' : Option (Moving T))
-    (did : Made_step follows suits number words id l p n m a m' a') (st : Stepped) (is : stepped_by p number n (oldest_in a') ≡ st) where
+    (did : MadeStep follows suits number words id l p n m a m' a') (st : Stepped) (is : stepped_by p number n (oldest_in a') ≡ st) where
   pub fit_after : Fit number words id l st.seat m' a'
   fit_after = subst (λ (z : Stepped). Fit number words id l z.seat m' a') is did.fit
 

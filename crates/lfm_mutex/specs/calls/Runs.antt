@@ -30,7 +30,7 @@ use Rattle.lfm_table.specs.declared.seat_view.Seen.{Seen}
 use Rattle.lfm_table.specs.declared.seat_view.View.{View}
 use Rattle.lfm_table.specs.declared.rule.Moving.{Moving}
 use Rattle.lfm_table.specs.Reach.{Reached}
-use Rattle.lfm_table.specs.Rule.{Same_root, seen}
+use Rattle.lfm_table.specs.Rule.{SameRoot, seen}
 
 -- Which call
 
@@ -106,10 +106,10 @@ refuses_for (By Refusal.NotWaiting) = sending
 refuses_for _ = nothing
 
 -- a turn of this call, which has come to this point
-abbrev pub Is_turn : Errand → Turn → Point → Type 0
-Is_turn e Open q = errand q ≡ e
-Is_turn e (Ended answer) q = answers_for answer ≡ e
-Is_turn e (Refused why) q = (refuses_for why ≡ e) × (q ≡ Rest)
+abbrev pub IsTurn : Errand → Turn → Point → Type 0
+IsTurn e Open q = errand q ≡ e
+IsTurn e (Ended answer) q = answers_for answer ≡ e
+IsTurn e (Refused why) q = (refuses_for why ≡ e) × (q ≡ Rest)
 
 -- How many steps are left, at most
 
@@ -188,7 +188,7 @@ pub record Ran {T : Type 0} (s : ℕ) (st : Stepped) (v : View T) (turn : Turn) 
   pub finds : List (ℕ × Option Record)
   pub ends : end_of s st finds ≡ record { seat = p; turn = turn }
   pub trail : v'.trail ≡ v.trail ++ trail_of s st.seat finds
-  pub root : Same_root v v'
+  pub root : SameRoot v v'
 
 -- Answers
 
@@ -246,12 +246,12 @@ Answers e (Ended answer) = answers_for answer ≡ e
 Answers e (Refused why) = ⊤
 
 -- a call that began so has ended with this turn: at once, or by steps
-abbrev pub Called_by : {T : Type 0} → Turn → ℕ → Errand → SeatState → View T → Turn → SeatState → View T → Type 0
-Called_by Open s e q v turn p' v' = Ends e turn × Ran s (opens q) v turn p' v'
-Called_by t s e q v turn p' v' = (turn ≡ t) × (p' ≡ q) × (v' ≡ v)
+abbrev pub CalledBy : {T : Type 0} → Turn → ℕ → Errand → SeatState → View T → Turn → SeatState → View T → Type 0
+CalledBy Open s e q v turn p' v' = Ends e turn × Ran s (opens q) v turn p' v'
+CalledBy t s e q v turn p' v' = (turn ≡ t) × (p' ≡ q) × (v' ≡ v)
 
 abbrev pub Called : {T : Type 0} → ℕ → Limits → Call → SeatState → View T → Turn → SeatState → View T → Type 0
-Called s l call p v turn p' v' = Called_by (Begin.begin p l call).turn s (errand_of call) (Begin.begin p l call).seat v turn p' v'
+Called s l call p v turn p' v' = CalledBy (Begin.begin p l call).turn s (errand_of call) (Begin.begin p l call).seat v turn p' v'
 
 -- the number of seats that had come to hold by a queued record when a seat did so, and that number afterwards
 abbrev pub Counts : How → ℕ → ℕ → Type 0

@@ -33,12 +33,12 @@ Steps x s turn y t =
 
 -- what becomes of the value at a step: a seat that comes to hold finds what was left last, the store that ends a hold leaves what
 -- was in hand and keeps what had been found, and every other step keeps all of it
-pub record Keeps_value {T : Type 0} (follows : ℕ → T → T → Type 0) (fits : T → ℕ → Type 0) (x : SeatState) (s : Sight T) (turn : Turn) (t : Sight T) : Type 0 where
+pub record KeepsValue {T : Type 0} (follows : ℕ → T → T → Type 0) (fits : T → ℕ → Type 0) (x : SeatState) (s : Sight T) (turn : Turn) (t : Sight T) : Type 0 where
   pub gains : (how : How) → how_held turn ≡ Some how → Finds follows fits how s t
   pub leaves : is_release x.point ≡ true → (t.last ≡ s.value) × (t.found ≡ s.found)
   pub keeps : is_release x.point ≡ false → how_held turn ≡ None → t ≡ record s { depth = t.depth; takes = t.takes; asleep = t.asleep; in_call = t.in_call; trail = t.trail; sends = t.sends }
 
 -- a seat with the data x makes the step at its point; without an open call nothing changes
-abbrev pub Steps_on : {T : Type 0} → (ℕ → T → T → Type 0) → (T → ℕ → Type 0) → Option Kind → SeatState → Sight T → Turn → SeatState → Sight T → Type 0
-Steps_on follows fits None x s turn y t = (turn ≡ Refused Idle) × (y ≡ x) × (t ≡ s)
-Steps_on follows fits (Some k) x s turn y t = Steps x s turn y t × Keeps_value follows fits x s turn t
+abbrev pub StepsOn : {T : Type 0} → (ℕ → T → T → Type 0) → (T → ℕ → Type 0) → Option Kind → SeatState → Sight T → Turn → SeatState → Sight T → Type 0
+StepsOn follows fits None x s turn y t = (turn ≡ Refused Idle) × (y ≡ x) × (t ≡ s)
+StepsOn follows fits (Some k) x s turn y t = Steps x s turn y t × KeepsValue follows fits x s turn t

@@ -114,22 +114,22 @@ Names (Some k) n = k ≡ n
 Names None n = (0 < n) × (n ≤ 65535) → ⊥
 
 -- a look at the owner word: one load, which tells the caller whether it holds
-abbrev pub Looks_at_owner : {T : Type 0} → Sight T → Sight T → Option ℕ → Type 0
-Looks_at_owner s t r =
+abbrev pub LooksAtOwner : {T : Type 0} → Sight T → Sight T → Option ℕ → Type 0
+LooksAtOwner s t r =
     (n : ℕ) × (t ≡ record s { trail = s.trail ++ seen TryOwnerLoad n ∷ [] }) × Names r n × (r ≡ Some s.number → 0 < s.depth) × (0 < s.depth → r ≡ Some s.number)
 
 -- The steps of a call that was refused as Busy: the count was not 0, the owner was another seat, and no handoff was posted, or the
 -- one that was seen had gone
-abbrev pub Busy_seen : ℕ → List Seen → Type 0
-Busy_seen s new =
+abbrev pub BusySeen : ℕ → List Seen → Type 0
+BusySeen s new =
     (n m h : ℕ) × (n ≢ 0) × (m ≢ s) × (
     (((handoff_of h).seat ≡ 0) × (new ≡ seen TryCountExchange n ∷ seen TryOwnerLoad m ∷ seen TryHandoffLoad h ∷ []))
     ⊎ ((k : ℕ) × ((handoff_of h).seat ≢ 0) × (same_handoff (handoff_of k) (handoff_of h) ≡ false) × (new ≡ seen TryCountExchange n ∷ seen TryOwnerLoad m ∷ seen TryHandoffLoad h ∷ seen (TryHandoffExchange (handoff_of h)) k ∷ [])))
 
 -- an answer of a seat that gave up the mutex
-abbrev pub Is_left : Unlocked → Type 0
-Is_left (Unlocked.Still d) = ⊥
-Is_left _ = ⊤
+abbrev pub IsLeft : Unlocked → Type 0
+IsLeft (Unlocked.Still d) = ⊥
+IsLeft _ = ⊤
 
 -- why a call is refused: a turn out of order comes from a seat in the midst of another call
 abbrev pub refusal_of : Why → Refusal
@@ -138,54 +138,54 @@ refusal_of _ = Refusal.Asleep
 
 module _ {T : Type 0} where
   -- a call that came too early: the seat sleeps, or another call of it is open
-  abbrev pub Lock_refused : ℕ → Sight T → Refusal → Type 0
-  Lock_refused budget s Refusal.Asleep = s.asleep ≡ true
-  Lock_refused budget s Refusal.DepthFull = (s.asleep ≡ false) × (65535 ≤ s.depth)
-  Lock_refused budget s Refusal.Spent = (s.asleep ≡ false) × (s.depth ≡ 0) × (budget ≤ s.takes)
-  Lock_refused budget s _ = ⊥
+  abbrev pub LockRefused : ℕ → Sight T → Refusal → Type 0
+  LockRefused budget s Refusal.Asleep = s.asleep ≡ true
+  LockRefused budget s Refusal.DepthFull = (s.asleep ≡ false) × (65535 ≤ s.depth)
+  LockRefused budget s Refusal.Spent = (s.asleep ≡ false) × (s.depth ≡ 0) × (budget ≤ s.takes)
+  LockRefused budget s _ = ⊥
 
-  abbrev pub Unlock_refused : Sight T → Refusal → Type 0
-  Unlock_refused s Refusal.Asleep = s.asleep ≡ true
-  Unlock_refused s Refusal.NotOwner = (s.asleep ≡ false) × (s.depth ≡ 0)
-  Unlock_refused s _ = ⊥
+  abbrev pub UnlockRefused : Sight T → Refusal → Type 0
+  UnlockRefused s Refusal.Asleep = s.asleep ≡ true
+  UnlockRefused s Refusal.NotOwner = (s.asleep ≡ false) × (s.depth ≡ 0)
+  UnlockRefused s _ = ⊥
 
-  abbrev pub Wait_refused : ℕ → Sight T → Refusal → Type 0
-  Wait_refused budget s Refusal.Asleep = s.asleep ≡ true
-  Wait_refused budget s Refusal.NotOwner = (s.asleep ≡ false) × (s.depth ≡ 0)
-  Wait_refused budget s Refusal.Nested = (s.asleep ≡ false) × (1 < s.depth)
-  Wait_refused budget s Refusal.Spent = (s.asleep ≡ false) × (s.depth ≡ 1) × (budget ≤ s.takes)
-  Wait_refused budget s _ = ⊥
+  abbrev pub WaitRefused : ℕ → Sight T → Refusal → Type 0
+  WaitRefused budget s Refusal.Asleep = s.asleep ≡ true
+  WaitRefused budget s Refusal.NotOwner = (s.asleep ≡ false) × (s.depth ≡ 0)
+  WaitRefused budget s Refusal.Nested = (s.asleep ≡ false) × (1 < s.depth)
+  WaitRefused budget s Refusal.Spent = (s.asleep ≡ false) × (s.depth ≡ 1) × (budget ≤ s.takes)
+  WaitRefused budget s _ = ⊥
 
   -- how a call deepens a hold
   abbrev pub Deepens : Sight T → Sight T → ℕ → Type 0
   Deepens s t d = (s.asleep ≡ false) × (0 < s.depth) × (s.depth < 65535) × (d ≡ s.depth + 1) × (t ≡ record s { depth = d; trail = t.trail })
 
   -- the seat has given up the mutex: what was in hand is what it left last, and what it had found is still known
-  abbrev pub Leaves_off : Sight T → Sight T → Type 0
-  Leaves_off s t = (s.asleep ≡ false) × (s.depth ≡ 1) × (t.number ≡ s.number) × (t.depth ≡ 0) × (t.value ≡ None) × ((x : T) → s.value ≡ Some x → t.last ≡ Some x) × (t.sends ≡ s.sends) × (t.found ≡ s.found)
+  abbrev pub LeavesOff : Sight T → Sight T → Type 0
+  LeavesOff s t = (s.asleep ≡ false) × (s.depth ≡ 1) × (t.number ≡ s.number) × (t.depth ≡ 0) × (t.value ≡ None) × ((x : T) → s.value ≡ Some x → t.last ≡ Some x) × (t.sends ≡ s.sends) × (t.found ≡ s.found)
 
   -- how unlock ends
   abbrev pub Unlocks : Sight T → Sight T → Result Unlocked Refusal → Type 0
   Unlocks s t (Ok (Unlocked.Still d)) = (s.asleep ≡ false) × (0 < d) × (s.depth ≡ d + 1) × (t ≡ record s { depth = d })
-  Unlocks s t (Ok u) = Leaves_off s t × (t.takes ≡ s.takes) × (t.asleep ≡ false)
-  Unlocks s t (Err r) = Unlock_refused s r × (t ≡ s)
+  Unlocks s t (Ok u) = LeavesOff s t × (t.takes ≡ s.takes) × (t.asleep ≡ false)
+  Unlocks s t (Err r) = UnlockRefused s r × (t ≡ s)
 
   -- how start_wait ends
-  abbrev pub Waits : ℕ → Sight T → Sight T → Result Unlocked Refusal → Type 0
-  Waits budget s t (Ok u) = Is_left u × Leaves_off s t × (s.takes < budget) × (t.takes ≡ s.takes + 1) × (t.asleep ≡ true) × (t.in_call ≡ false)
-  Waits budget s t (Err r) = Wait_refused budget s r × (t ≡ s)
+  abbrev pub StartsWait : ℕ → Sight T → Sight T → Result Unlocked Refusal → Type 0
+  StartsWait budget s t (Ok u) = IsLeft u × LeavesOff s t × (s.takes < budget) × (t.takes ≡ s.takes + 1) × (t.asleep ≡ true) × (t.in_call ≡ false)
+  StartsWait budget s t (Err r) = WaitRefused budget s r × (t ≡ s)
 
-  abbrev pub Send_refused : ℕ → Sight T → ℕ → Refusal → Type 0
-  Send_refused n s target Refusal.Asleep = s.asleep ≡ true
-  Send_refused n s target Refusal.NoSuchSeat = (s.asleep ≡ false) × (0 < target → n < target)
-  Send_refused n s target _ = ⊥
+  abbrev pub SendRefused : ℕ → Sight T → ℕ → Refusal → Type 0
+  SendRefused n s target Refusal.Asleep = s.asleep ≡ true
+  SendRefused n s target Refusal.NoSuchSeat = (s.asleep ≡ false) × (0 < target → n < target)
+  SendRefused n s target _ = ⊥
 
   -- how send_lock ends, of n seats
   abbrev pub Sends : ℕ → Sight T → ℕ → Sight T → Result ⊤ Refusal → Type 0
   Sends n s target t (Ok u) = (s.asleep ≡ false) × (0 < target) × (target ≤ n) × (t ≡ record s { trail = t.trail; sends = s.sends ++ target ∷ [] })
   Sends n s target t (Err Refusal.NotWaiting) =
       (s.asleep ≡ false) × (0 < target) × (target ≤ n) × (t ≡ record s { trail = t.trail }) × ((k : ℕ) × (claimed target (wake_of k) ≡ []) × (t.trail ≡ s.trail ++ seen (SendWakeExchange target) k ∷ []))
-  Sends n s target t (Err r) = Send_refused n s target r × (t ≡ s)
+  Sends n s target t (Err r) = SendRefused n s target r × (t ≡ s)
 
 module _ {T : Type 0} (follows : ℕ → T → T → Type 0) (fits : T → ℕ → Type 0) where
   -- a value that was found by such a take, which must suit k queued takes when it is left
@@ -198,8 +198,8 @@ module _ {T : Type 0} (follows : ℕ → T → T → Type 0) (fits : T → ℕ �
   Finds how s t = (w : T) × (t.value ≡ Some w) × (t.last ≡ Some w) × ((l : T) → s.last ≡ Some l → Reached follows s.number l w) × Suits how w t.queued × (t.found ≡ Some w)
 
   -- what the seat has in hand may be left
-  abbrev pub May_leave : Sight T → Type 0
-  May_leave s = (x : T) → s.value ≡ Some x → fits x s.queued × ((l : T) → s.last ≡ Some l → follows s.number l x)
+  abbrev pub MayLeave : Sight T → Type 0
+  MayLeave s = (x : T) → s.value ≡ Some x → fits x s.queued × ((l : T) → s.last ≡ Some l → follows s.number l x)
 
   -- a seat that doesn't hold comes to hold at once
   abbrev pub Gains : ℕ → How → Sight T → Sight T → Type 0
@@ -211,21 +211,21 @@ module _ {T : Type 0} (follows : ℕ → T → T → Type 0) (fits : T → ℕ �
   Locks budget s t (Ok (Locked.Held how)) = Gains budget how s t
   Locks budget s t (Ok (Locked.Again d)) = Deepens s t d
   Locks budget s t (Err Refusal.Busy) =
-      (s.asleep ≡ false) × (s.depth ≡ 0) × (s.takes < budget) × (t ≡ record s { trail = t.trail }) × ((new : List Seen) × (t.trail ≡ s.trail ++ new) × Busy_seen s.number new)
-  Locks budget s t (Err r) = Lock_refused budget s r × (t ≡ s)
+      (s.asleep ≡ false) × (s.depth ≡ 0) × (s.takes < budget) × (t ≡ record s { trail = t.trail }) × ((new : List Seen) × (t.trail ≡ s.trail ++ new) × BusySeen s.number new)
+  Locks budget s t (Err r) = LockRefused budget s r × (t ≡ s)
 
   -- how ask ends
   abbrev pub Asks : ℕ → Sight T → Sight T → Result Asked Refusal → Type 0
   Asks budget s t (Ok (Asked.Held how)) = Gains budget how s t
   Asks budget s t (Ok (Asked.Again d)) = Deepens s t d
   Asks budget s t (Ok Asked.Asleep) = (s.asleep ≡ false) × (s.depth ≡ 0) × (s.takes < budget) × (t ≡ record s { takes = s.takes + 1; asleep = true; in_call = false; trail = t.trail })
-  Asks budget s t (Err r) = Lock_refused budget s r × (t ≡ s)
+  Asks budget s t (Err r) = LockRefused budget s r × (t ≡ s)
 
   -- how lock ends
-  abbrev pub Locks_waiting : ℕ → Sight T → Sight T → Result Locked Refusal → Type 0
-  Locks_waiting budget s t (Ok (Locked.Held how)) = Gains budget how s t
-  Locks_waiting budget s t (Ok (Locked.Again d)) = Deepens s t d
-  Locks_waiting budget s t (Err r) = Lock_refused budget s r × (t ≡ s)
+  abbrev pub LocksWaiting : ℕ → Sight T → Sight T → Result Locked Refusal → Type 0
+  LocksWaiting budget s t (Ok (Locked.Held how)) = Gains budget how s t
+  LocksWaiting budget s t (Ok (Locked.Again d)) = Deepens s t d
+  LocksWaiting budget s t (Err r) = LockRefused budget s r × (t ≡ s)
 
   abbrev pub Wakes : How → Sight T → Sight T → Type 0
   Wakes how s t =
@@ -239,80 +239,80 @@ module _ {T : Type 0} (follows : ℕ → T → T → Type 0) (fits : T → ℕ �
   Receives s t (Err r) = ⊥
 
   -- how receive_lock ends
-  abbrev pub Receives_lock : Sight T → Sight T → Result How Refusal → Type 0
-  Receives_lock s t (Ok how) = Wakes how s t
-  Receives_lock s t (Err Refusal.NotWaiting) = (s.asleep ≡ false ⊎ (s.in_call ≡ true)) × (t ≡ s)
-  Receives_lock s t (Err r) = ⊥
+  abbrev pub ReceivesLock : Sight T → Sight T → Result How Refusal → Type 0
+  ReceivesLock s t (Ok how) = Wakes how s t
+  ReceivesLock s t (Err Refusal.NotWaiting) = (s.asleep ≡ false ⊎ (s.in_call ≡ true)) × (t ≡ s)
+  ReceivesLock s t (Err r) = ⊥
 
   -- The same by the turn that ends the call
 
-  abbrev pub Lock_turn : ℕ → Sight T → Sight T → Turn → Type 0
-  Lock_turn budget s t (Ended (Answer.Asked asked)) = Asks budget s t (Ok asked)
-  Lock_turn budget s t (Refused why) = Asks budget s t (Err (refusal_of why))
-  Lock_turn budget s t _ = ⊤
+  abbrev pub LockTurn : ℕ → Sight T → Sight T → Turn → Type 0
+  LockTurn budget s t (Ended (Answer.Asked asked)) = Asks budget s t (Ok asked)
+  LockTurn budget s t (Refused why) = Asks budget s t (Err (refusal_of why))
+  LockTurn budget s t _ = ⊤
 
-  abbrev pub Try_turn : ℕ → Sight T → Sight T → Turn → Type 0
-  Try_turn budget s t (Ended (Answer.Locked locked)) = Locks budget s t (Ok locked)
-  Try_turn budget s t (Refused why) = Locks budget s t (Err (refusal_of why))
-  Try_turn budget s t _ = ⊤
+  abbrev pub TryTurn : ℕ → Sight T → Sight T → Turn → Type 0
+  TryTurn budget s t (Ended (Answer.Locked locked)) = Locks budget s t (Ok locked)
+  TryTurn budget s t (Refused why) = Locks budget s t (Err (refusal_of why))
+  TryTurn budget s t _ = ⊤
 
-  abbrev pub Unlock_turn : Sight T → Sight T → Turn → Type 0
-  Unlock_turn s t (Ended (Answer.Unlocked u)) = Unlocks s t (Ok u)
-  Unlock_turn s t (Refused why) = Unlocks s t (Err (refusal_of why))
-  Unlock_turn s t _ = ⊤
+  abbrev pub UnlockTurn : Sight T → Sight T → Turn → Type 0
+  UnlockTurn s t (Ended (Answer.Unlocked u)) = Unlocks s t (Ok u)
+  UnlockTurn s t (Refused why) = Unlocks s t (Err (refusal_of why))
+  UnlockTurn s t _ = ⊤
 
-  abbrev pub Wait_turn : ℕ → Sight T → Sight T → Turn → Type 0
-  Wait_turn budget s t (Ended (Answer.Waiting u)) = Waits budget s t (Ok u)
-  Wait_turn budget s t (Refused why) = Waits budget s t (Err (refusal_of why))
-  Wait_turn budget s t _ = ⊤
+  abbrev pub WaitTurn : ℕ → Sight T → Sight T → Turn → Type 0
+  WaitTurn budget s t (Ended (Answer.Waiting u)) = StartsWait budget s t (Ok u)
+  WaitTurn budget s t (Refused why) = StartsWait budget s t (Err (refusal_of why))
+  WaitTurn budget s t _ = ⊤
 
-  abbrev pub Send_turn : ℕ → Sight T → ℕ → Sight T → Turn → Type 0
-  Send_turn n s target t (Ended Answer.Sent) = Sends n s target t (Ok tt)
-  Send_turn n s target t (Refused why) = Sends n s target t (Err (refusal_of why))
-  Send_turn n s target t _ = ⊤
+  abbrev pub SendTurn : ℕ → Sight T → ℕ → Sight T → Turn → Type 0
+  SendTurn n s target t (Ended Answer.Sent) = Sends n s target t (Ok tt)
+  SendTurn n s target t (Refused why) = Sends n s target t (Err (refusal_of why))
+  SendTurn n s target t _ = ⊤
 
-  abbrev pub Receive_turn : Sight T → Sight T → Turn → Type 0
-  Receive_turn s t (Ended (Answer.Got got)) = Receives s t (Ok got)
-  Receive_turn s t (Refused why) = Receives s t (Err Refusal.NotWaiting)
-  Receive_turn s t _ = ⊤
+  abbrev pub ReceiveTurn : Sight T → Sight T → Turn → Type 0
+  ReceiveTurn s t (Ended (Answer.Got got)) = Receives s t (Ok got)
+  ReceiveTurn s t (Refused why) = Receives s t (Err Refusal.NotWaiting)
+  ReceiveTurn s t _ = ⊤
 
   -- what a call makes of a seat
   abbrev pub Turned : Limits → Call → Sight T → Sight T → Turn → Type 0
-  Turned l Call.Lock s t turn = Lock_turn l.budget s t turn
-  Turned l Call.TryLock s t turn = Try_turn l.budget s t turn
-  Turned l Call.Unlock s t turn = Unlock_turn s t turn
-  Turned l Call.StartWait s t turn = Wait_turn l.budget s t turn
-  Turned l (Call.SendLock k) s t turn = Send_turn l.seats s k t turn
-  Turned l Call.Receive s t turn = Receive_turn s t turn
+  Turned l Call.Lock s t turn = LockTurn l.budget s t turn
+  Turned l Call.TryLock s t turn = TryTurn l.budget s t turn
+  Turned l Call.Unlock s t turn = UnlockTurn s t turn
+  Turned l Call.StartWait s t turn = WaitTurn l.budget s t turn
+  Turned l (Call.SendLock k) s t turn = SendTurn l.seats s k t turn
+  Turned l Call.Receive s t turn = ReceiveTurn s t turn
 
 -- How the last step of a call moves a seat's own data on
 
-abbrev pub Still_at : Point → Type 0
-Still_at (WaitWakeStore released) = Is_left released
-Still_at _ = ⊤
+abbrev pub StillAt : Point → Type 0
+StillAt (WaitWakeStore released) = IsLeft released
+StillAt _ = ⊤
 
 -- at this point, or by this answer, a seat that was x when its call's steps began
-abbrev pub Answered_by : SeatState → SeatState → Answer → Type 0
-Answered_by x p (Answer.Asked (Asked.Held how)) = (x.depth ≡ 0) × (p.depth ≡ 1) × (p.takes ≡ x.takes) × (p.point ≡ Rest)
-Answered_by x p (Answer.Asked (Asked.Again d)) = (0 < x.depth) × (d ≡ x.depth + 1) × (p.depth ≡ d) × (p.takes ≡ x.takes) × (p.point ≡ Rest)
-Answered_by x p (Answer.Asked Asked.Asleep) = (x.depth ≡ 0) × (p.depth ≡ 0) × (p.takes ≡ x.takes) × (is_asleep p.point ≡ true) × (is_in_call p.point ≡ false)
-Answered_by x p (Answer.Locked (Locked.Held how)) = (x.depth ≡ 0) × (p.depth ≡ 1) × (p.takes ≡ x.takes) × (p.point ≡ Rest)
-Answered_by x p (Answer.Locked (Locked.Again d)) = (0 < x.depth) × (d ≡ x.depth + 1) × (p.depth ≡ d) × (p.takes ≡ x.takes) × (p.point ≡ Rest)
-Answered_by x p (Answer.Unlocked u) = (p.depth ≡ x.depth) × (p.takes ≡ x.takes) × (p.point ≡ Rest) × Is_left u
-Answered_by x p (Answer.Waiting u) = (p.depth ≡ x.depth) × (p.takes ≡ x.takes) × (is_asleep p.point ≡ true) × (is_in_call p.point ≡ false) × (Still_at x.point → Is_left u)
-Answered_by x p (Answer.Got (Some how)) = (x.depth ≡ 0) × (p.depth ≡ 1) × (p.takes ≡ x.takes) × (p.point ≡ Rest)
-Answered_by x p (Answer.Got None) = (p.depth ≡ x.depth) × (p.takes ≡ x.takes) × (is_asleep p.point ≡ true) × (is_in_call p.point ≡ false)
-Answered_by x p Answer.Sent = (p.depth ≡ x.depth) × (p.takes ≡ x.takes) × (p.point ≡ Rest)
+abbrev pub AnsweredBy : SeatState → SeatState → Answer → Type 0
+AnsweredBy x p (Answer.Asked (Asked.Held how)) = (x.depth ≡ 0) × (p.depth ≡ 1) × (p.takes ≡ x.takes) × (p.point ≡ Rest)
+AnsweredBy x p (Answer.Asked (Asked.Again d)) = (0 < x.depth) × (d ≡ x.depth + 1) × (p.depth ≡ d) × (p.takes ≡ x.takes) × (p.point ≡ Rest)
+AnsweredBy x p (Answer.Asked Asked.Asleep) = (x.depth ≡ 0) × (p.depth ≡ 0) × (p.takes ≡ x.takes) × (is_asleep p.point ≡ true) × (is_in_call p.point ≡ false)
+AnsweredBy x p (Answer.Locked (Locked.Held how)) = (x.depth ≡ 0) × (p.depth ≡ 1) × (p.takes ≡ x.takes) × (p.point ≡ Rest)
+AnsweredBy x p (Answer.Locked (Locked.Again d)) = (0 < x.depth) × (d ≡ x.depth + 1) × (p.depth ≡ d) × (p.takes ≡ x.takes) × (p.point ≡ Rest)
+AnsweredBy x p (Answer.Unlocked u) = (p.depth ≡ x.depth) × (p.takes ≡ x.takes) × (p.point ≡ Rest) × IsLeft u
+AnsweredBy x p (Answer.Waiting u) = (p.depth ≡ x.depth) × (p.takes ≡ x.takes) × (is_asleep p.point ≡ true) × (is_in_call p.point ≡ false) × (StillAt x.point → IsLeft u)
+AnsweredBy x p (Answer.Got (Some how)) = (x.depth ≡ 0) × (p.depth ≡ 1) × (p.takes ≡ x.takes) × (p.point ≡ Rest)
+AnsweredBy x p (Answer.Got None) = (p.depth ≡ x.depth) × (p.takes ≡ x.takes) × (is_asleep p.point ≡ true) × (is_in_call p.point ≡ false)
+AnsweredBy x p Answer.Sent = (p.depth ≡ x.depth) × (p.takes ≡ x.takes) × (p.point ≡ Rest)
 
-abbrev pub Refused_by : SeatState → SeatState → Why → Type 0
-Refused_by x p (Why.By Refusal.Busy) = (x.depth ≡ 0) × (p.depth ≡ 0) × (p.takes + 1 ≡ x.takes ⊎ (x.takes ≡ 0)) × (p.point ≡ Rest)
-Refused_by x p (Why.By Refusal.NotWaiting) = (p.depth ≡ x.depth) × (p.takes ≡ x.takes) × (p.point ≡ Rest)
-Refused_by x p _ = ⊥
+abbrev pub RefusedBy : SeatState → SeatState → Why → Type 0
+RefusedBy x p (Why.By Refusal.Busy) = (x.depth ≡ 0) × (p.depth ≡ 0) × (p.takes + 1 ≡ x.takes ⊎ (x.takes ≡ 0)) × (p.point ≡ Rest)
+RefusedBy x p (Why.By Refusal.NotWaiting) = (p.depth ≡ x.depth) × (p.takes ≡ x.takes) × (p.point ≡ Rest)
+RefusedBy x p _ = ⊥
 
 abbrev pub Concludes : SeatState → Turn → SeatState → Type 0
-Concludes x Open p = (p.depth ≡ x.depth) × (p.takes ≡ x.takes) × (Still_at x.point → Still_at p.point)
-Concludes x (Ended answer) p = Answered_by x p answer
-Concludes x (Refused why) p = Refused_by x p why
+Concludes x Open p = (p.depth ≡ x.depth) × (p.takes ≡ x.takes) × (StillAt x.point → StillAt p.point)
+Concludes x (Ended answer) p = AnsweredBy x p answer
+Concludes x (Refused why) p = RefusedBy x p why
 
 -- what a seat has in hand while it holds, and what it knows of it, is as it was
 abbrev pub Stays : {T : Type 0} → ℕ → View T → Option T → View T → Option T → Type 0

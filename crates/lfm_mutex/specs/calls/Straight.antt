@@ -31,6 +31,6 @@ pub record Course {T : Type 0} (follows : ℕ → T → T → Type 0) (suits : T
   pub held : (how : How) → how_held turn ≡ Some how → Holds follows suits number v0.last how p a v
 
 -- the call of a seat that was seen as s has ended with this turn, and it is seen as t: all that is said of it
-pub record Comes_to {T : Type 0} (follows : ℕ → T → T → Type 0) (suits : T → ℕ → Type 0) (l : Limits) (call : Call) (s t : Sight T) (turn : Turn) : Type 0 where
+pub record ComesTo {T : Type 0} (follows : ℕ → T → T → Type 0) (suits : T → ℕ → Type 0) (l : Limits) (call : Call) (s t : Sight T) (turn : Turn) : Type 0 where
   pub turned : Turned follows suits l call s t turn
   pub made : Made l call s t turn

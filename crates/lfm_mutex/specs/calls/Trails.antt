@@ -32,8 +32,8 @@ Leads Open n q trail turn y trail' =
 Leads first n q trail turn y trail' = (turn ≡ first) × (y ≡ q) × (trail' ≡ trail)
 
 -- the seat has made so many steps at most
-abbrev pub Makes_at_most : {T : Type 0} → ℕ → Sight T → Sight T → Type 0
-Makes_at_most k s t = length t.trail ≤ length s.trail + k
+abbrev pub MakesAtMost : {T : Type 0} → ℕ → Sight T → Sight T → Type 0
+MakesAtMost k s t = length t.trail ≤ length s.trail + k
 
 module _ {T : Type 0} (l : Limits) where
   -- the call of a seat seen as s ends with this turn, and the seat is then seen as t
@@ -47,9 +47,9 @@ module _ {T : Type 0} (l : Limits) where
   Made call s t (Refused why) = (cause : Why) × Makes call s t (Refused cause)
 
   -- the call has made its steps, and the answer is what the last of them says
-  abbrev pub Makes_call : {A : Type 0} → (A → Answer) → Call → Sight T → Sight T → Result A Refusal → Type 0
-  Makes_call answer call s t (Ok a) = Makes call s t (Ended (answer a))
-  Makes_call answer call s t (Err refusal) = (cause : Why) × Makes call s t (Refused cause)
+  abbrev pub MakesCall : {A : Type 0} → (A → Answer) → Call → Sight T → Sight T → Result A Refusal → Type 0
+  MakesCall answer call s t (Ok a) = Makes call s t (Ended (answer a))
+  MakesCall answer call s t (Err refusal) = (cause : Why) × Makes call s t (Refused cause)
 
   -- looks at the wake word that found no grant, one after another
   abbrev pub Looks : Sight T → List (Sight T) → Sight T → Type 0
@@ -57,17 +57,17 @@ module _ {T : Type 0} (l : Limits) where
   Looks s (m ∷ ms) t = Makes Call.Receive s m (Ended (Answer.Got None)) × Looks m ms t
 
   -- some looks that found none, and one that found the grant
-  abbrev pub Waits_for : How → Sight T → Sight T → Type 0
-  Waits_for how s t = (ms : List (Sight T)) × (m : Sight T) × Looks s ms m × Makes Call.Receive m t (Ended (Answer.Got (Some how)))
+  abbrev pub WaitsFor : How → Sight T → Sight T → Type 0
+  WaitsFor how s t = (ms : List (Sight T)) × (m : Sight T) × Looks s ms m × Makes Call.Receive m t (Ended (Answer.Got (Some how)))
 
   -- the steps of receive_lock: those of one or more receives
-  abbrev pub Receives_by : Sight T → Sight T → Result How Refusal → Type 0
-  Receives_by s t (Ok how) = Waits_for how s t
-  Receives_by s t (Err refusal) = (cause : Why) × Makes Call.Receive s t (Refused cause)
+  abbrev pub ReceivesBy : Sight T → Sight T → Result How Refusal → Type 0
+  ReceivesBy s t (Ok how) = WaitsFor how s t
+  ReceivesBy s t (Err refusal) = (cause : Why) × Makes Call.Receive s t (Refused cause)
 
   -- the steps of lock: those of ask, and where that fell asleep those of receive_lock
-  abbrev pub Locks_by : Sight T → Sight T → Result Locked Refusal → Type 0
-  Locks_by s t (Ok (Locked.Held how)) =
-      Makes Call.Lock s t (Ended (Answer.Asked (Asked.Held how))) ⊎ ((m : Sight T) × Makes Call.Lock s m (Ended (Answer.Asked Asked.Asleep)) × Waits_for how m t)
-  Locks_by s t (Ok (Locked.Again d)) = Makes Call.Lock s t (Ended (Answer.Asked (Asked.Again d)))
-  Locks_by s t (Err refusal) = (cause : Why) × Makes Call.Lock s t (Refused cause)
+  abbrev pub LocksBy : Sight T → Sight T → Result Locked Refusal → Type 0
+  LocksBy s t (Ok (Locked.Held how)) =
+      Makes Call.Lock s t (Ended (Answer.Asked (Asked.Held how))) ⊎ ((m : Sight T) × Makes Call.Lock s m (Ended (Answer.Asked Asked.Asleep)) × WaitsFor how m t)
+  LocksBy s t (Ok (Locked.Again d)) = Makes Call.Lock s t (Ended (Answer.Asked (Asked.Again d)))
+  LocksBy s t (Err refusal) = (cause : Why) × Makes Call.Lock s t (Refused cause)

@@ -8,11 +8,11 @@ ghost use Rattle.lfm_protocol.specs.declared.kinds.Kind.{Kind as KindNow};
 ghost use Rattle.lfm_protocol.specs.declared.points.Point.TheVariants.{ReleaseOwnerStore};
 ghost use Rattle.lfm_protocol.specs.declared.points.Releaser.{Releaser};
 ghost use Rattle.lfm_protocol.specs.Points.{kind as kind_of};
-ghost use Rattle.lfm_mutex.specs.Belongs.{Beside, Of_mutex, state_of};
+ghost use Rattle.lfm_mutex.specs.Belongs.{Beside, OfMutex, state_of};
 ghost use Rattle.lfm_mutex.specs.calls.Runs.{is_release};
-ghost use Rattle.lfm_mutex.specs.calls.SeatSteps.{Steps_on, stores_owner};
-ghost use Rattle.lfm_mutex.specs.calls.Sight.{sight, May_leave};
-ghost use Rattle.lfm_table.specs.Steps.{Leaves, Event};
+ghost use Rattle.lfm_mutex.specs.calls.SeatSteps.{StepsOn, stores_owner};
+ghost use Rattle.lfm_mutex.specs.calls.Sight.{sight, MayLeave};
+ghost use Rattle.lfm_table.specs.Steps.{MayBeLeft, Event};
 
 use crate::mutex::Mutex;
 use crate::seat::Seat;
@@ -31,7 +31,7 @@ use std::marker::Brand;
 pub(crate) fn make_of<T: Kept>(mutex: &Mutex<T>, seat: &mut Seat<T>, kind: Kind) -> Turn
     requires belongs { seat.old.place.table_id ≡ mutex.now.table.shared.table_id }
     requires is_next { kind_of seat.old.standing.point ≡ Some kind }
-    requires leaves { (r : Releaser) → seat.old.standing.point ≡ ReleaseOwnerStore r → Leaves T.follows T.fits seat.old.moving seat.old.place.me.0 }
+    requires leaves { (r : Releaser) → seat.old.standing.point ≡ ReleaseOwnerStore r → MayBeLeft T.follows T.fits seat.old.moving seat.old.place.me.0 }
     ensures belongs { seat.new.place.table_id ≡ seat.old.place.table_id }
     ensures same { (seat.new.number ≡ seat.old.number) × (seat.new.limits ≡ seat.old.limits) }
     ensures event { Event T.follows T.fits seat.old.standing seat.old.moving seat.old.place.me.0 result seat.new.standing seat.new.moving seat.new.place.me.0 }
@@ -61,21 +61,21 @@ pub(crate) fn make_of<T: Kept>(mutex: &Mutex<T>, seat: &mut Seat<T>, kind: Kind)
 /// Makes a step of a kind that ends no hold.
 #[inline(always)]
 fn make_within<T: Kept>(mutex: &Mutex<T>, seat: &mut Seat<T>, kind: Kind) -> Turn
-    requires belongs { Of_mutex seat.old mutex.now }
+    requires belongs { OfMutex seat.old mutex.now }
     requires is_next { kind_of (state_of seat.old).point ≡ Some kind }
     requires keeps { stores_owner kind ≡ false }
     ensures belongs { Beside seat.old seat.new }
-    ensures steps { Steps_on T.follows T.fits (Some kind) (state_of seat.old) (sight seat.old) result (state_of seat.new) (sight seat.new) }
+    ensures steps { StepsOn T.follows T.fits (Some kind) (state_of seat.old) (sight seat.old) result (state_of seat.new) (sight seat.new) }
 {
     make_of(mutex, seat, kind)
 }
 
 /// Exchanges 0 for 1 at the count, and finds the count: the first step of a `try_lock`.
 pub fn exchange_count<T: Kept>(mutex: &Mutex<T>, seat: &mut Seat<T>) -> Turn
-    requires belongs { Of_mutex seat.old mutex.now }
+    requires belongs { OfMutex seat.old mutex.now }
     requires is_next { kind_of (state_of seat.old).point ≡ Some KindNow.CountExchange }
     ensures belongs { Beside seat.old seat.new }
-    ensures steps { Steps_on T.follows T.fits (Some KindNow.CountExchange) (state_of seat.old) (sight seat.old) result (state_of seat.new) (sight seat.new) }
+    ensures steps { StepsOn T.follows T.fits (Some KindNow.CountExchange) (state_of seat.old) (sight seat.old) result (state_of seat.new) (sight seat.new) }
 {
     make_within(mutex, seat, Kind::CountExchange)
 }
@@ -83,10 +83,10 @@ pub fn exchange_count<T: Kept>(mutex: &Mutex<T>, seat: &mut Seat<T>) -> Turn
 /// Adds 1 to the count, and finds the count before: a locker or a sender comes in, or a `try_lock` that took a post
 /// over.
 pub fn add_count<T: Kept>(mutex: &Mutex<T>, seat: &mut Seat<T>) -> Turn
-    requires belongs { Of_mutex seat.old mutex.now }
+    requires belongs { OfMutex seat.old mutex.now }
     requires is_next { kind_of (state_of seat.old).point ≡ Some KindNow.CountAdd }
     ensures belongs { Beside seat.old seat.new }
-    ensures steps { Steps_on T.follows T.fits (Some KindNow.CountAdd) (state_of seat.old) (sight seat.old) result (state_of seat.new) (sight seat.new) }
+    ensures steps { StepsOn T.follows T.fits (Some KindNow.CountAdd) (state_of seat.old) (sight seat.old) result (state_of seat.new) (sight seat.new) }
 {
     make_within(mutex, seat, Kind::CountAdd)
 }
@@ -94,20 +94,20 @@ pub fn add_count<T: Kept>(mutex: &Mutex<T>, seat: &mut Seat<T>) -> Turn
 /// Subtracts 1 from the count, and finds the count before: a release gives up its part, or a locker that owns takes its
 /// own back.
 pub fn subtract_count<T: Kept>(mutex: &Mutex<T>, seat: &mut Seat<T>) -> Turn
-    requires belongs { Of_mutex seat.old mutex.now }
+    requires belongs { OfMutex seat.old mutex.now }
     requires is_next { kind_of (state_of seat.old).point ≡ Some KindNow.CountSubtract }
     ensures belongs { Beside seat.old seat.new }
-    ensures steps { Steps_on T.follows T.fits (Some KindNow.CountSubtract) (state_of seat.old) (sight seat.old) result (state_of seat.new) (sight seat.new) }
+    ensures steps { StepsOn T.follows T.fits (Some KindNow.CountSubtract) (state_of seat.old) (sight seat.old) result (state_of seat.new) (sight seat.new) }
 {
     make_within(mutex, seat, Kind::CountSubtract)
 }
 
 /// Loads the owner word: a `lock` or `try_lock` sees whether its own seat owns.
 pub fn load_owner<T: Kept>(mutex: &Mutex<T>, seat: &mut Seat<T>) -> Turn
-    requires belongs { Of_mutex seat.old mutex.now }
+    requires belongs { OfMutex seat.old mutex.now }
     requires is_next { kind_of (state_of seat.old).point ≡ Some KindNow.OwnerLoad }
     ensures belongs { Beside seat.old seat.new }
-    ensures steps { Steps_on T.follows T.fits (Some KindNow.OwnerLoad) (state_of seat.old) (sight seat.old) result (state_of seat.new) (sight seat.new) }
+    ensures steps { StepsOn T.follows T.fits (Some KindNow.OwnerLoad) (state_of seat.old) (sight seat.old) result (state_of seat.new) (sight seat.new) }
 {
     make_within(mutex, seat, Kind::OwnerLoad)
 }
@@ -115,31 +115,31 @@ pub fn load_owner<T: Kept>(mutex: &Mutex<T>, seat: &mut Seat<T>) -> Turn
 /// Stores the owner word: 0 where a release ends a hold, else the seat's own number where it comes to hold.
 /// At the store that ends a hold, what is in hand has to follow what was found.
 pub fn store_owner<T: Kept>(mutex: &Mutex<T>, seat: &mut Seat<T>) -> Turn
-    requires belongs { Of_mutex seat.old mutex.now }
+    requires belongs { OfMutex seat.old mutex.now }
     requires is_next { kind_of (state_of seat.old).point ≡ Some KindNow.OwnerStore }
-    requires leaves { is_release (state_of seat.old).point ≡ true → May_leave T.follows T.fits (sight seat.old) }
+    requires leaves { is_release (state_of seat.old).point ≡ true → MayLeave T.follows T.fits (sight seat.old) }
     ensures belongs { Beside seat.old seat.new }
-    ensures steps { Steps_on T.follows T.fits (Some KindNow.OwnerStore) (state_of seat.old) (sight seat.old) result (state_of seat.new) (sight seat.new) }
+    ensures steps { StepsOn T.follows T.fits (Some KindNow.OwnerStore) (state_of seat.old) (sight seat.old) result (state_of seat.new) (sight seat.new) }
 {
     make_of(mutex, seat, Kind::OwnerStore)
 }
 
 /// Loads the push word: the newest stamp, and the seat whose record is the newest one pushed.
 pub fn load_push<T: Kept>(mutex: &Mutex<T>, seat: &mut Seat<T>) -> Turn
-    requires belongs { Of_mutex seat.old mutex.now }
+    requires belongs { OfMutex seat.old mutex.now }
     requires is_next { kind_of (state_of seat.old).point ≡ Some KindNow.PushLoad }
     ensures belongs { Beside seat.old seat.new }
-    ensures steps { Steps_on T.follows T.fits (Some KindNow.PushLoad) (state_of seat.old) (sight seat.old) result (state_of seat.new) (sight seat.new) }
+    ensures steps { StepsOn T.follows T.fits (Some KindNow.PushLoad) (state_of seat.old) (sight seat.old) result (state_of seat.new) (sight seat.new) }
 {
     make_within(mutex, seat, Kind::PushLoad)
 }
 
 /// Exchanges the push word that was seen for one that has the pushed record as its newest.
 pub fn exchange_push<T: Kept>(mutex: &Mutex<T>, seat: &mut Seat<T>) -> Turn
-    requires belongs { Of_mutex seat.old mutex.now }
+    requires belongs { OfMutex seat.old mutex.now }
     requires is_next { kind_of (state_of seat.old).point ≡ Some KindNow.PushExchange }
     ensures belongs { Beside seat.old seat.new }
-    ensures steps { Steps_on T.follows T.fits (Some KindNow.PushExchange) (state_of seat.old) (sight seat.old) result (state_of seat.new) (sight seat.new) }
+    ensures steps { StepsOn T.follows T.fits (Some KindNow.PushExchange) (state_of seat.old) (sight seat.old) result (state_of seat.new) (sight seat.new) }
 {
     make_within(mutex, seat, Kind::PushExchange)
 }
@@ -147,10 +147,10 @@ pub fn exchange_push<T: Kept>(mutex: &Mutex<T>, seat: &mut Seat<T>) -> Turn
 /// Clears the head of the push word, keeps its stamp, and finds the word before: the carrier takes the pushed records
 /// over.
 pub fn clear_head<T: Kept>(mutex: &Mutex<T>, seat: &mut Seat<T>) -> Turn
-    requires belongs { Of_mutex seat.old mutex.now }
+    requires belongs { OfMutex seat.old mutex.now }
     requires is_next { kind_of (state_of seat.old).point ≡ Some KindNow.ClearHead }
     ensures belongs { Beside seat.old seat.new }
-    ensures steps { Steps_on T.follows T.fits (Some KindNow.ClearHead) (state_of seat.old) (sight seat.old) result (state_of seat.new) (sight seat.new) }
+    ensures steps { StepsOn T.follows T.fits (Some KindNow.ClearHead) (state_of seat.old) (sight seat.old) result (state_of seat.new) (sight seat.new) }
 {
     make_within(mutex, seat, Kind::ClearHead)
 }
@@ -158,80 +158,80 @@ pub fn clear_head<T: Kept>(mutex: &Mutex<T>, seat: &mut Seat<T>) -> Turn
 /// Loads the link word of a record that was taken over: its stamp, and the next older record. The record joins the pop
 /// list.
 pub fn load_link<T: Kept>(mutex: &Mutex<T>, seat: &mut Seat<T>) -> Turn
-    requires belongs { Of_mutex seat.old mutex.now }
+    requires belongs { OfMutex seat.old mutex.now }
     requires is_next { kind_of (state_of seat.old).point ≡ Some KindNow.LinkLoad }
     ensures belongs { Beside seat.old seat.new }
-    ensures steps { Steps_on T.follows T.fits (Some KindNow.LinkLoad) (state_of seat.old) (sight seat.old) result (state_of seat.new) (sight seat.new) }
+    ensures steps { StepsOn T.follows T.fits (Some KindNow.LinkLoad) (state_of seat.old) (sight seat.old) result (state_of seat.new) (sight seat.new) }
 {
     make_within(mutex, seat, Kind::LinkLoad)
 }
 
 /// Stores the link word of the record that is to be pushed.
 pub fn store_link<T: Kept>(mutex: &Mutex<T>, seat: &mut Seat<T>) -> Turn
-    requires belongs { Of_mutex seat.old mutex.now }
+    requires belongs { OfMutex seat.old mutex.now }
     requires is_next { kind_of (state_of seat.old).point ≡ Some KindNow.LinkStore }
     ensures belongs { Beside seat.old seat.new }
-    ensures steps { Steps_on T.follows T.fits (Some KindNow.LinkStore) (state_of seat.old) (sight seat.old) result (state_of seat.new) (sight seat.new) }
+    ensures steps { StepsOn T.follows T.fits (Some KindNow.LinkStore) (state_of seat.old) (sight seat.old) result (state_of seat.new) (sight seat.new) }
 {
     make_within(mutex, seat, Kind::LinkStore)
 }
 
 /// Loads the handoff word: the post that stands, if any.
 pub fn load_handoff<T: Kept>(mutex: &Mutex<T>, seat: &mut Seat<T>) -> Turn
-    requires belongs { Of_mutex seat.old mutex.now }
+    requires belongs { OfMutex seat.old mutex.now }
     requires is_next { kind_of (state_of seat.old).point ≡ Some KindNow.HandoffLoad }
     ensures belongs { Beside seat.old seat.new }
-    ensures steps { Steps_on T.follows T.fits (Some KindNow.HandoffLoad) (state_of seat.old) (sight seat.old) result (state_of seat.new) (sight seat.new) }
+    ensures steps { StepsOn T.follows T.fits (Some KindNow.HandoffLoad) (state_of seat.old) (sight seat.old) result (state_of seat.new) (sight seat.new) }
 {
     make_within(mutex, seat, Kind::HandoffLoad)
 }
 
 /// Stores a fresh post of the seat in the handoff word.
 pub fn store_handoff<T: Kept>(mutex: &Mutex<T>, seat: &mut Seat<T>) -> Turn
-    requires belongs { Of_mutex seat.old mutex.now }
+    requires belongs { OfMutex seat.old mutex.now }
     requires is_next { kind_of (state_of seat.old).point ≡ Some KindNow.HandoffStore }
     ensures belongs { Beside seat.old seat.new }
-    ensures steps { Steps_on T.follows T.fits (Some KindNow.HandoffStore) (state_of seat.old) (sight seat.old) result (state_of seat.new) (sight seat.new) }
+    ensures steps { StepsOn T.follows T.fits (Some KindNow.HandoffStore) (state_of seat.old) (sight seat.old) result (state_of seat.new) (sight seat.new) }
 {
     make_within(mutex, seat, Kind::HandoffStore)
 }
 
 /// Exchanges an expected post for none in the handoff word: the post is accepted, taken over, or taken back.
 pub fn exchange_handoff<T: Kept>(mutex: &Mutex<T>, seat: &mut Seat<T>) -> Turn
-    requires belongs { Of_mutex seat.old mutex.now }
+    requires belongs { OfMutex seat.old mutex.now }
     requires is_next { kind_of (state_of seat.old).point ≡ Some KindNow.HandoffExchange }
     ensures belongs { Beside seat.old seat.new }
-    ensures steps { Steps_on T.follows T.fits (Some KindNow.HandoffExchange) (state_of seat.old) (sight seat.old) result (state_of seat.new) (sight seat.new) }
+    ensures steps { StepsOn T.follows T.fits (Some KindNow.HandoffExchange) (state_of seat.old) (sight seat.old) result (state_of seat.new) (sight seat.new) }
 {
     make_within(mutex, seat, Kind::HandoffExchange)
 }
 
 /// Loads the seat's own wake word: a receive looks for its grant.
 pub fn load_wake<T: Kept>(mutex: &Mutex<T>, seat: &mut Seat<T>) -> Turn
-    requires belongs { Of_mutex seat.old mutex.now }
+    requires belongs { OfMutex seat.old mutex.now }
     requires is_next { kind_of (state_of seat.old).point ≡ Some KindNow.WakeLoad }
     ensures belongs { Beside seat.old seat.new }
-    ensures steps { Steps_on T.follows T.fits (Some KindNow.WakeLoad) (state_of seat.old) (sight seat.old) result (state_of seat.new) (sight seat.new) }
+    ensures steps { StepsOn T.follows T.fits (Some KindNow.WakeLoad) (state_of seat.old) (sight seat.old) result (state_of seat.new) (sight seat.new) }
 {
     make_within(mutex, seat, Kind::WakeLoad)
 }
 
 /// Stores a wake word: a grant, which wakes its seat; or the seat's own as it waits, or no longer sleeps.
 pub fn store_wake<T: Kept>(mutex: &Mutex<T>, seat: &mut Seat<T>) -> Turn
-    requires belongs { Of_mutex seat.old mutex.now }
+    requires belongs { OfMutex seat.old mutex.now }
     requires is_next { kind_of (state_of seat.old).point ≡ Some KindNow.WakeStore }
     ensures belongs { Beside seat.old seat.new }
-    ensures steps { Steps_on T.follows T.fits (Some KindNow.WakeStore) (state_of seat.old) (sight seat.old) result (state_of seat.new) (sight seat.new) }
+    ensures steps { StepsOn T.follows T.fits (Some KindNow.WakeStore) (state_of seat.old) (sight seat.old) result (state_of seat.new) (sight seat.new) }
 {
     make_within(mutex, seat, Kind::WakeStore)
 }
 
 /// Exchanges the wake word of a seat that waits, so that this sender alone sends it.
 pub fn exchange_wake<T: Kept>(mutex: &Mutex<T>, seat: &mut Seat<T>) -> Turn
-    requires belongs { Of_mutex seat.old mutex.now }
+    requires belongs { OfMutex seat.old mutex.now }
     requires is_next { kind_of (state_of seat.old).point ≡ Some KindNow.WakeExchange }
     ensures belongs { Beside seat.old seat.new }
-    ensures steps { Steps_on T.follows T.fits (Some KindNow.WakeExchange) (state_of seat.old) (sight seat.old) result (state_of seat.new) (sight seat.new) }
+    ensures steps { StepsOn T.follows T.fits (Some KindNow.WakeExchange) (state_of seat.old) (sight seat.old) result (state_of seat.new) (sight seat.new) }
 {
     make_within(mutex, seat, Kind::WakeExchange)
 }

@@ -1,8 +1,8 @@
 //! How one command is made: by the calls of the monitor that it stands for.
-ghost use Rattle.lfm_monitor.specs.Belongs.{Of_monitor, pass_sight};
+ghost use Rattle.lfm_monitor.specs.Belongs.{OfMonitor, pass_sight};
 ghost use Rattle.lfm_mutex.specs.Close.{Idle};
-ghost use Rattle.lfm_program.specs.Causes.{Has_cause};
-ghost use Rattle.lfm_program.specs.Performs.{Command_ends, Holds_once, own_adds};
+ghost use Rattle.lfm_program.specs.Causes.{HasCause};
+ghost use Rattle.lfm_program.specs.Performs.{CommandEnds, HoldsOnce, own_adds};
 ghost use Rattle.std.specs.Prelude.{◌≡◌, IfErr};
 
 use lfm_model::{Refusal, Total, TotalOp};
@@ -17,13 +17,13 @@ fn add<R: Wait>(
     pass: &mut Pass<Total>,
     number: u64,
 ) -> Result<(), Refusal>
-    requires belongs { Of_monitor pass.old monitor.now }
+    requires belongs { OfMonitor pass.old monitor.now }
     requires idle { Idle (pass_sight pass.old) }
-    ensures belongs { Of_monitor pass.new monitor.now }
+    ensures belongs { OfMonitor pass.new monitor.now }
     ensures idle { Idle (pass_sight pass.new) }
     ensures number { (pass_sight pass.new).number ≡ (pass_sight pass.old).number }
-    ensures adds { Command_ends (Command.Add number) (pass_sight pass.old) (pass_sight pass.new) result }
-    ensures refused { IfErr result (λ r. Has_cause (Command.Add number) monitor.now pass.new r) }
+    ensures adds { CommandEnds (Command.Add number) (pass_sight pass.old) (pass_sight pass.new) result }
+    ensures refused { IfErr result (λ r. HasCause (Command.Add number) monitor.now pass.new r) }
 {
     monitor.enter(rt, pass)?;
     let added = monitor.apply(pass, TotalOp::Add(number));
@@ -40,13 +40,13 @@ fn wait_for<R: Wait>(
     condition: u64,
     bound: u64,
 ) -> Result<(), Refusal>
-    requires belongs { Of_monitor pass.old monitor.now }
-    requires holds { Holds_once (pass_sight pass.old) }
-    ensures belongs { Of_monitor pass.new monitor.now }
-    ensures holds { Holds_once (pass_sight pass.new) }
+    requires belongs { OfMonitor pass.old monitor.now }
+    requires holds { HoldsOnce (pass_sight pass.old) }
+    ensures belongs { OfMonitor pass.new monitor.now }
+    ensures holds { HoldsOnce (pass_sight pass.new) }
     ensures number { (pass_sight pass.new).number ≡ (pass_sight pass.old).number }
     ensures adds { own_adds (pass_sight pass.new) ≡ own_adds (pass_sight pass.old) }
-    ensures refused { IfErr result (λ r. Has_cause (Command.Until condition bound) monitor.now pass.new r) }
+    ensures refused { IfErr result (λ r. HasCause (Command.Until condition bound) monitor.now pass.new r) }
 {
     'waiting: for _ in rt.forever() {
         let total = monitor.apply(pass, TotalOp::Read)?;
@@ -66,13 +66,13 @@ fn until<R: Wait>(
     condition: u64,
     bound: u64,
 ) -> Result<(), Refusal>
-    requires belongs { Of_monitor pass.old monitor.now }
+    requires belongs { OfMonitor pass.old monitor.now }
     requires idle { Idle (pass_sight pass.old) }
-    ensures belongs { Of_monitor pass.new monitor.now }
+    ensures belongs { OfMonitor pass.new monitor.now }
     ensures idle { Idle (pass_sight pass.new) }
     ensures number { (pass_sight pass.new).number ≡ (pass_sight pass.old).number }
-    ensures adds { Command_ends (Command.Until condition bound) (pass_sight pass.old) (pass_sight pass.new) result }
-    ensures refused { IfErr result (λ r. Has_cause (Command.Until condition bound) monitor.now pass.new r) }
+    ensures adds { CommandEnds (Command.Until condition bound) (pass_sight pass.old) (pass_sight pass.new) result }
+    ensures refused { IfErr result (λ r. HasCause (Command.Until condition bound) monitor.now pass.new r) }
 {
     monitor.enter(rt, pass)?;
     let waited = wait_for(rt, monitor, pass, condition, bound);
@@ -87,13 +87,13 @@ fn wake_one<R: Wait>(
     pass: &mut Pass<Total>,
     condition: u64,
 ) -> Result<(), Refusal>
-    requires belongs { Of_monitor pass.old monitor.now }
+    requires belongs { OfMonitor pass.old monitor.now }
     requires idle { Idle (pass_sight pass.old) }
-    ensures belongs { Of_monitor pass.new monitor.now }
+    ensures belongs { OfMonitor pass.new monitor.now }
     ensures idle { Idle (pass_sight pass.new) }
     ensures number { (pass_sight pass.new).number ≡ (pass_sight pass.old).number }
-    ensures adds { Command_ends (Command.One condition) (pass_sight pass.old) (pass_sight pass.new) result }
-    ensures refused { IfErr result (λ r. Has_cause (Command.One condition) monitor.now pass.new r) }
+    ensures adds { CommandEnds (Command.One condition) (pass_sight pass.old) (pass_sight pass.new) result }
+    ensures refused { IfErr result (λ r. HasCause (Command.One condition) monitor.now pass.new r) }
 {
     monitor.wake_one(rt, pass, condition)?;
     Ok(())
@@ -106,13 +106,13 @@ fn wake_all<R: Wait>(
     pass: &mut Pass<Total>,
     condition: u64,
 ) -> Result<(), Refusal>
-    requires belongs { Of_monitor pass.old monitor.now }
+    requires belongs { OfMonitor pass.old monitor.now }
     requires idle { Idle (pass_sight pass.old) }
-    ensures belongs { Of_monitor pass.new monitor.now }
+    ensures belongs { OfMonitor pass.new monitor.now }
     ensures idle { Idle (pass_sight pass.new) }
     ensures number { (pass_sight pass.new).number ≡ (pass_sight pass.old).number }
-    ensures adds { Command_ends (Command.All condition) (pass_sight pass.old) (pass_sight pass.new) result }
-    ensures refused { IfErr result (λ r. Has_cause (Command.All condition) monitor.now pass.new r) }
+    ensures adds { CommandEnds (Command.All condition) (pass_sight pass.old) (pass_sight pass.new) result }
+    ensures refused { IfErr result (λ r. HasCause (Command.All condition) monitor.now pass.new r) }
 {
     monitor.wake_all(rt, pass, condition)?;
     Ok(())
@@ -126,13 +126,13 @@ pub(crate) fn make<R: Wait>(
     pass: &mut Pass<Total>,
     command: Command,
 ) -> Result<(), Refusal>
-    requires belongs { Of_monitor pass.old monitor.now }
+    requires belongs { OfMonitor pass.old monitor.now }
     requires idle { Idle (pass_sight pass.old) }
-    ensures belongs { Of_monitor pass.new monitor.now }
+    ensures belongs { OfMonitor pass.new monitor.now }
     ensures idle { Idle (pass_sight pass.new) }
     ensures number { (pass_sight pass.new).number ≡ (pass_sight pass.old).number }
-    ensures adds { Command_ends command (pass_sight pass.old) (pass_sight pass.new) result }
-    ensures refused { IfErr result (λ r. Has_cause command monitor.now pass.new r) }
+    ensures adds { CommandEnds command (pass_sight pass.old) (pass_sight pass.new) result }
+    ensures refused { IfErr result (λ r. HasCause command monitor.now pass.new r) }
 {
     match command {
         Command::Add(number) => add(rt, monitor, pass, number),

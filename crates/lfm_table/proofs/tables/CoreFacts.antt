@@ -28,7 +28,7 @@ use Rattle.lfm_core.proofs.table.Exact.{push_narrow}
 use Rattle.lfm_core.proofs.table.Packing.{link_packed}
 use Rattle.lfm_core.proofs.table.Settled.{settles_keeps, is_seat-with}
 use Rattle.lfm_core.proofs.table.Values.{carried_as_held}
-use Rattle.lfm_table.specs.Rule.{Collects_within}
+use Rattle.lfm_table.specs.Rule.{CollectsWithin}
 
 -- The owner word
 
@@ -167,14 +167,14 @@ module _ (c : Core) (g : Ghost) (s : ℕ) (p : SeatState) (is : IsSeat c.seats s
   pub push_seen : (pusher : Pusher) (old : Link) → p.point ≡ PushExchange pusher old → IsSeen c.push old
   push_seen pusher old at = let knows = rw (ap (λ (x : SeatState). x.point) here ∙ at) at (settled.each s).knows in knows.1
 
-  collects_at : (q : Point) → (seat d.seats s).point ≡ q → Collects_within (length d.popped) (length d.seats) q
+  collects_at : (q : Point) → (seat d.seats s).point ≡ q → CollectsWithin (length d.popped) (length d.seats) q
   collects_at (TakeLinkLoad (Carrier.Releaser releaser) next) at = walk_room d g s settled is_there (rw at at (settled.each s).stands) (rw at at (settled.each s).knows).0
   collects_at (TakeLinkLoad (Carrier.Reclaimer releaser) next) at = walk_room d g s settled is_there (rw at at (settled.each s).stands) (rw at at (settled.each s).knows).0
   collects_at _ at = tt
 
   -- where a releaser collects, its own seat has no record
-  pub collects : Collects_within (length c.popped) (length c.seats) p.point
-  collects = subst (λ (n : ℕ). Collects_within (length c.popped) n p.point) (length-with_entry c.seats s p) (collects_at p.point (ap (λ (x : SeatState). x.point) here))
+  pub collects : CollectsWithin (length c.popped) (length c.seats) p.point
+  collects = subst (λ (n : ℕ). CollectsWithin (length c.popped) n p.point) (length-with_entry c.seats s p) (collects_at p.point (ap (λ (x : SeatState). x.point) here))
 
   pub push_found : link_of (link_word c.push) ≡ c.push
   push_found = link_packed c.push (push_narrow c g fits)

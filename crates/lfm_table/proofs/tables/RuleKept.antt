@@ -22,7 +22,7 @@ use Rattle.lfm_core.specs.table.Carried.{carries_value, move, move_of, MovesValu
 use Rattle.lfm_protocol.specs.Core.{Core, limits}
 use Rattle.lfm_core.specs.laws.Events.{answered_by}
 use Rattle.lfm_core.specs.steady.Ghost.{Ghost}
-use Rattle.lfm_core.specs.steady.Outcome.{abstract}
+use Rattle.lfm_core.specs.steady.EventOutcome.{abstract}
 use Rattle.lfm_protocol.specs.Place.{carries}
 use Rattle.lfm_protocol.specs.Points.{kind, target}
 use Rattle.lfm_core.specs.table.Ready.{IsReady}
@@ -40,7 +40,7 @@ use Rattle.lfm_table.specs.declared.seat_view.Joined.{Joined}
 use Rattle.lfm_table.specs.declared.seat_view.View.{View}
 use Rattle.lfm_table.specs.declared.rule.Moving.{Moving}
 use Rattle.lfm_table.specs.Reach.{Leads, Reached}
-use Rattle.lfm_table.specs.Rule.{seen, retired, retired_at, total, Roots, left_by, Sits, Leads_to, Awaits, None_ended, Left_in, Same_root, With_seat, Held, Hands, Knows, Collects_within, Advanced}
+use Rattle.lfm_table.specs.Rule.{seen, retired, retired_at, total, Roots, left_by, Sits, LeadsToValue, Awaits, NoneEnded, LeftIn, SameRoot, WithSeat, Held, Hands, Knows, CollectsWithin, Advanced}
 use Rattle.lfm_table.specs.Settled.{Became}
 use Rattle.lfm_table.specs.Steps.{stores, Ready}
 use Rattle.lfm_table.proofs.tables.CoreFacts as core
@@ -94,7 +94,7 @@ module _ {T : Type 0} (follows : ℕ → T → T → Type 0) (suits : T → ℕ 
 
   -- The views once that of one user has become w
 
-  module _ (s : State S (View T)) (h : Ruled s) (id : ℕ) (v : View T) (at : get_elem? s.views id ≡ some v) (user : v.role ≡ User) (w : View T) (same : w.role ≡ v.role) (root : Same_root v w) where
+  module _ (s : State S (View T)) (h : Ruled s) (id : ℕ) (v : View T) (at : get_elem? s.views id ≡ some v) (user : v.role ≡ User) (w : View T) (same : w.role ≡ v.role) (root : SameRoot v w) where
     abbrev pub vs : List (View T)
     vs = set s.views id w
 
@@ -111,10 +111,10 @@ module _ {T : Type 0} (follows : ℕ → T → T → Type 0) (suits : T → ℕ 
         (λ (t : (j ≡ id) × (w ≡ z)). absurd (not_both z.role (ap (λ (u : View T). u.role) (sym t.1) ∙ same ∙ user) is))
         (λ (t : (j ≢ id) × (get_elem? s.views j ≡ some z)). t.1) (at_set s.views id j w z e)
 
-    abbrev Are_kept : List (View T) → List (Joined T) → Type 0
-    Are_kept views joined = (i : ℕ) (g : Joined T) → get_elem? joined i ≡ some g → (j : ℕ) × (z : View T) × (get_elem? views j ≡ some z) × (z.role ≡ Retired) × (z.number ≡ g.number) × (z.last ≡ g.last) × (z.last_found ≡ g.found)
+    abbrev AreKept : List (View T) → List (Joined T) → Type 0
+    AreKept views joined = (i : ℕ) (g : Joined T) → get_elem? joined i ≡ some g → (j : ℕ) × (z : View T) × (get_elem? views j ≡ some z) × (z.role ≡ Retired) × (z.number ≡ g.number) × (z.last ≡ g.last) × (z.last_found ≡ g.found)
 
-    kept_on : (g : List (Joined T)) → Are_kept s.views g → Are_kept vs g
+    kept_on : (g : List (Joined T)) → AreKept s.views g → AreKept vs g
     kept_on g old i x e = let a = old i x e in (a.0, a.1, stay_gone a.0 a.1 a.2 a.3, a.3, a.4, a.5, a.6)
 
     roots_on : (k z : View T) → Roots s.views k → z.role ≡ k.role → z.made ≡ k.made → z.joined ≡ k.joined → Roots vs z
@@ -122,7 +122,7 @@ module _ {T : Type 0} (follows : ℕ → T → T → Type 0) (suits : T → ℕ 
       user = role ∙ r.user;
       made = length-set s.views id w ∙ (r.made ∙ ap (λ (n : ℕ). n + 1) (sym made));
       back = same_total ∙ (r.back ∙ ap (λ (g : List (Joined T)). length g) (sym joined));
-      kept = subst (λ (g : List (Joined T)). Are_kept vs g) (sym joined) (kept_on k.joined r.kept);
+      kept = subst (λ (g : List (Joined T)). AreKept vs g) (sym joined) (kept_on k.joined r.kept);
       gone = λ j y e is. let a = r.gone j y (was_gone j y e is) is in (a.0, ap (λ (g : List (Joined T)). get_elem? g a.0) joined ∙ a.1);
     }
 
@@ -135,34 +135,34 @@ module _ {T : Type 0} (follows : ℕ → T → T → Type 0) (suits : T → ℕ 
     others_on j z e n = ⊎_elim (λ (t : (j ≡ id) × (w ≡ z)). absurd (not_both z.role (ap (λ (u : View T). u.role) (sym t.1) ∙ same ∙ user) n)) (λ (t : (j ≢ id) × (get_elem? s.views j ≡ some z)). h.others j z t.1 n) (at_set s.views id j w z e)
 
     -- what leads to a value, but for this seat
-    pub leads_off : (y : T) → Leads_to follows (λ j. j ≢ id) s.views y → Leads_to follows (λ j. j ≢ id) vs y
+    pub leads_off : (y : T) → LeadsToValue follows (λ j. j ≢ id) s.views y → LeadsToValue follows (λ j. j ≢ id) vs y
     leads_off y old j z l e ok is = ⊎_elim
         (λ (t : (j ≡ id) × (w ≡ z)). absurd (ok t.0))
         (λ (t : (j ≢ id) × (get_elem? s.views j ≡ some z)). old j z l t.1 ok is) (at_set s.views id j w z e)
 
     -- what leads to a value, where the seat's last value is as before
-    pub leads_on : (which : ℕ → Type 0) (y : T) → w.last ≡ v.last → Leads_to follows which s.views y → Leads_to follows which vs y
+    pub leads_on : (which : ℕ → Type 0) (y : T) → w.last ≡ v.last → LeadsToValue follows which s.views y → LeadsToValue follows which vs y
     leads_on which y same_last old j z l e ok is = ⊎_elim
         (λ (t : (j ≡ id) × (w ≡ z)). old j v l (subst (λ (i : ℕ). get_elem? s.views i ≡ some v) (sym t.0) at) ok (sym same_last ∙ ap (λ (u : View T). u.last) t.1 ∙ is))
         (λ (t : (j ≢ id) × (get_elem? s.views j ≡ some z)). old j z l t.1 ok is) (at_set s.views id j w z e)
 
     -- the same where this seat's own last value leads there
-    pub leads_all : (y : T) → ((l : T) → w.last ≡ Some l → Reached follows (id + 1) l y) → Leads_to follows (λ j. j ≢ id) s.views y → Leads_to follows (λ _. ⊤) vs y
+    pub leads_all : (y : T) → ((l : T) → w.last ≡ Some l → Reached follows (id + 1) l y) → LeadsToValue follows (λ j. j ≢ id) s.views y → LeadsToValue follows (λ _. ⊤) vs y
     leads_all y mine old j z l e ok is = ⊎_elim
         (λ (t : (j ≡ id) × (w ≡ z)). subst (λ (i : ℕ). Reached follows (i + 1) l y) (sym t.0) (mine l (ap (λ (u : View T). u.last) t.1 ∙ is)))
         (λ (t : (j ≢ id) × (get_elem? s.views j ≡ some z)). old j z l t.1 t.0 is) (at_set s.views id j w z e)
 
     -- what leads to one value leads to what this seat leaves after it
-    pub leads_next : (y z : T) → follows (id + 1) y z → Leads_to follows (λ j. j ≢ id) s.views y → Leads_to follows (λ j. j ≢ id) vs z
+    pub leads_next : (y z : T) → follows (id + 1) y z → LeadsToValue follows (λ j. j ≢ id) s.views y → LeadsToValue follows (λ j. j ≢ id) vs z
     leads_next y z f old j u l e ok is = reached_on follows (j + 1) (id + 1) l y z (leads_off y old j u l e ok is) (λ q. ok (omega arith)) f
 
-    none_on : w.last_found ≡ v.last_found → None_ended s.views → None_ended vs
+    none_on : w.last_found ≡ v.last_found → NoneEnded s.views → NoneEnded vs
     none_on same_found all j z e = ⊎_elim
         (λ (t : (j ≡ id) × (w ≡ z)). ap (λ (u : View T). u.last_found) (sym t.1) ∙ (same_found ∙ all id v at))
         (λ (t : (j ≢ id) × (get_elem? s.views j ≡ some z)). all j z t.1) (at_set s.views id j w z e)
 
     -- that some seat left a value last, where what is noted of this seat's last hold is as before
-    pub left_on : (y : T) → w.last ≡ v.last → w.last_found ≡ v.last_found → Left_in s.views y → Left_in vs y
+    pub left_on : (y : T) → w.last ≡ v.last → w.last_found ≡ v.last_found → LeftIn s.views y → LeftIn vs y
     left_on y same_last same_found old = dite (ℕ_discrete old.0 id)
         (λ q. let one : v ≡ old.1 = some-injective v old.1 (sym at ∙ subst (λ (i : ℕ). get_elem? s.views i ≡ some old.1) q old.2) in (
           id,
@@ -267,7 +267,7 @@ module _ {T : Type 0} (follows : ℕ → T → T → Type 0) (suits : T → ℕ 
       carried = ap carries_value (sym here) ∙ core.carried_same c g num p is h.fits settles
 
       -- where the value is out with this seat
-      was : carries_value p ≡ true → With_seat follows suits c g s.views id me.0
+      was : carries_value p ≡ true → WithSeat follows suits c g s.views id me.0
       was carries = h.outside id me.0 at (carried ∙ carries)
 
       knows : carries_value p ≡ true → p.depth ≡ 0 → Knows follows suits me.0
@@ -280,7 +280,7 @@ module _ {T : Type 0} (follows : ℕ → T → T → Type 0) (suits : T → ℕ 
       abbrev next_view : Option T → View T
       next_view found = record me.0 { standing = st.seat; trail = me.0.trail ++ seen p.point (k n) ∷ []; last = left_by p.point a me.0.last; last_found = left_by p.point me.0.found me.0.last_found; found = found; popped = popped_after; answered = ts.ghost_after.answered }
 
-      same_root : (found : Option T) → Same_root me.0 (next_view found)
+      same_root : (found : Option T) → SameRoot me.0 (next_view found)
       same_root found = record { number = refl; limits_are = refl; opening = refl; made = refl; joined_are = refl }
 
       sits_on : (found : Option T) (j : ℕ) (z : View T) → get_elem? (set s.views id (next_view found)) j ≡ some z → Sits ts.after j z
@@ -329,7 +329,7 @@ module _ {T : Type 0} (follows : ℕ → T → T → Type 0) (suits : T → ℕ 
         answered = λ carries. answers ∙ ap (λ m. m + length (answered_by num st.turn)) (sym (was carries).answered);
         ready = ready_after;
         room = subst (λ (m : ℕ). PopFits (length c.popped) m (kind p.point)) (sym seats_are) (core.room c g num p is h.fits settles);
-        collects = subst (λ (m : ℕ). Collects_within (length c.popped) m p.point) (sym seats_are) (core.collects c g num p is h.fits settles);
+        collects = subst (λ (m : ℕ). CollectsWithin (length c.popped) m p.point) (sym seats_are) (core.collects c g num p is h.fits settles);
         shallow = knows;
         stamped = λ entrant stamp e. ap (λ m. m + 1) (was (carrying p (ap carries e))).answered ∙ core.stamp_told c g num p is h.fits settles entrant stamp e;
         owner = λ is_load. let o = owner_of_load is_load in let told = core.owner_found c g num p is h.fits settles in (
@@ -343,8 +343,8 @@ module _ {T : Type 0} (follows : ℕ → T → T → Type 0) (suits : T → ℕ 
       abbrev Done : Type 0
       Done = (w : View T) × (b : Act S) × Valid s.homes me.1 b × Ruled (stepped s i (f n) id me.1 w b) × Advanced follows suits p a me (k n) (w, carried_after me.1 b)
 
-      abbrev Moved_by : Bool → Bool → Type 0
-      Moved_by b b' = MovesValue c.seats ts.after.seats num (move_of b b')
+      abbrev MovedBy : Bool → Bool → Type 0
+      MovedBy b b' = MovesValue c.seats ts.after.seats num (move_of b b')
 
       -- a view that carries nothing after the step
       not_after : (found : Option T) (j : ℕ) (z : View T) → get_elem? (set s.views id (next_view found)) j ≡ some z → carries_value (seat ts.after.seats (j + 1)) ≡ false → carries_value z.standing ≡ true → ⊥
@@ -359,7 +359,7 @@ module _ {T : Type 0} (follows : ℕ → T → T → Type 0) (suits : T → ℕ 
 
       -- The value leaves its home
 
-      gains : carries_value p ≡ false → carries_value st.seat ≡ true → Moved_by false true → Done
+      gains : carries_value p ≡ false → carries_value st.seat ≡ true → MovedBy false true → Done
       gains before after did =
           let x = h.home did.0 in
           let w : View T = next_view (Some x.value.value) in
@@ -381,7 +381,7 @@ module _ {T : Type 0} (follows : ℕ → T → T → Type 0) (suits : T → ℕ 
               later = later_on (Some x.value.value);
               home = λ nobody. absurd (false≢true (sym (nobody num) ∙ did.1));
               outside = λ j z e one. ⊎_elim
-                  (λ (t : (j ≡ id) × (w ≡ z)). subst (λ (u : ℕ × View T). With_seat follows suits ts.after ts.ghost_after (set s.views id w) u.0 u.1) (λ q. (sym t.0 q, t.1 q)) (record {
+                  (λ (t : (j ≡ id) × (w ≡ z)). subst (λ (u : ℕ × View T). WithSeat follows suits ts.after ts.ghost_after (set s.views id w) u.0 u.1) (λ q. (sym t.0 q, t.1 q)) (record {
                     value = x.value.value;
                     found = refl;
                     popped = sym popped_is;
@@ -411,7 +411,7 @@ module _ {T : Type 0} (follows : ℕ → T → T → Type 0) (suits : T → ℕ 
 
       -- it goes home
 
-      give : carries_value p ≡ true → carries_value st.seat ≡ false → Moved_by true false → Done
+      give : carries_value p ≡ true → carries_value st.seat ≡ false → MovedBy true false → Done
       give before after did =
           let out = was before in
           let ld = ready.loaded (k n) (oldest c.popped) before after in
@@ -446,9 +446,9 @@ module _ {T : Type 0} (follows : ℕ → T → T → Type 0) (suits : T → ℕ 
                 room = ld.4 ∙ seats_are ∙ sym long;
                 leads = leads_all s h id me.0 at user w refl root x.value
                     (λ l is_last. subst (λ (y : T). Reached follows (id + 1) l y) same (known.1 l (sym kept ∙ is_last)))
-                    (subst (λ (y : T). Leads_to follows (λ j. j ≢ id) s.views y) same out.leads);
+                    (subst (λ (y : T). LeadsToValue follows (λ j. j ≢ id) s.views y) same out.leads);
                 awaits = awaits_on s h id me.0 at user w refl root x.value (subst (λ (y : T). Awaits follows s.views y) same out.awaits);
-                left = left_on s h id me.0 at user w refl root x.value kept (kept_found other) (subst (λ (y : T). Left_in s.views y) same (out.left (became_depth me.0.standing me.0.limits p to shallow)));
+                left = left_on s h id me.0 at user w refl root x.value kept (kept_found other) (subst (λ (y : T). LeftIn s.views y) same (out.left (became_depth me.0.standing me.0.limits p to shallow)));
                 fits = subst (λ (t : T × ℕ). suits t.0 t.1) (λ q. (same q, (out.answered ∙ sym (same_answers flat)) q)) known.0;
               };
               outside = λ j z e one. absurd (not_after me.0.found j z e (did.1 (j + 1)) one);
@@ -460,7 +460,7 @@ module _ {T : Type 0} (follows : ℕ → T → T → Type 0) (suits : T → ℕ 
 
       -- it stays at home, or with another seat
 
-      leaves_be : carries_value p ≡ false → carries_value st.seat ≡ false → Moved_by false false → Done
+      leaves_be : carries_value p ≡ false → carries_value st.seat ≡ false → MovedBy false false → Done
       leaves_be before after did =
           let w : View T = next_view me.0.found in
           let root = same_root me.0.found in
@@ -514,8 +514,8 @@ module _ {T : Type 0} (follows : ℕ → T → T → Type 0) (suits : T → ℕ 
       -- it stays with this seat
 
       -- the facts of the value that this seat goes on carrying
-      goes_on : carries_value p ≡ true → (w : View T) → w ≡ next_view (left_by p.point a me.0.found) → Same_root me.0 w → w.role ≡ me.0.role
-          → With_seat follows suits ts.after ts.ghost_after (set s.views id w) id w
+      goes_on : carries_value p ≡ true → (w : View T) → w ≡ next_view (left_by p.point a me.0.found) → SameRoot me.0 w → w.role ≡ me.0.role
+          → WithSeat follows suits ts.after ts.ghost_after (set s.views id w) id w
       goes_on before w w_is root role =
           let out = was before in
           let found_is : w.found ≡ left_by p.point a me.0.found = ap (λ (v : View T). v.found) w_is in
@@ -573,7 +573,7 @@ module _ {T : Type 0} (follows : ℕ → T → T → Type 0) (suits : T → ℕ 
           let same : num ≡ j + 1 = carried_alone c.seats (abstract g).place num (j + 1) (tells_value c g h.fits) first second in
           other (omega (arith, same, placed))
 
-      keeps_it : carries_value p ≡ true → carries_value st.seat ≡ true → Moved_by true true → Done
+      keeps_it : carries_value p ≡ true → carries_value st.seat ≡ true → MovedBy true true → Done
       keeps_it before after did =
           let found : Option T = left_by p.point a me.0.found in
           let w : View T = next_view (left_by p.point a me.0.found) in
@@ -593,7 +593,7 @@ module _ {T : Type 0} (follows : ℕ → T → T → Type 0) (suits : T → ℕ 
               later = later_on found;
               home = λ nobody. absurd (false≢true (sym (nobody num) ∙ ap carries_value mine_after ∙ after));
               outside = λ j z e one. ⊎_elim
-                  (λ (t : (j ≡ id) × (w ≡ z)). subst (λ (u : ℕ × View T). With_seat follows suits ts.after ts.ghost_after (set s.views id w) u.0 u.1) (λ q. (sym t.0 q, t.1 q)) (goes_on before w refl root refl))
+                  (λ (t : (j ≡ id) × (w ≡ z)). subst (λ (u : ℕ × View T). WithSeat follows suits ts.after ts.ghost_after (set s.views id w) u.0 u.1) (λ q. (sym t.0 q, t.1 q)) (goes_on before w refl root refl))
                   (λ (t : (j ≢ id) × (get_elem? s.views j ≡ some z)). absurd (alone j z before t.1 t.0 one))
                   (at_set s.views id j w z e);
               root = root_on s h id me.0 at user w refl root;
@@ -602,7 +602,7 @@ module _ {T : Type 0} (follows : ℕ → T → T → Type 0) (suits : T → ℕ 
             tells found me.1 (subst (λ (t : Bool × Bool). Hands follows suits t.0 t.1 p.point a c.popped me (w, me.1)) (λ q. (sym before q, sym after q)) (refl, refl)),
           )
 
-      by_move : (b b' : Bool) → carries_value p ≡ b → carries_value st.seat ≡ b' → Moved_by b b' → Done
+      by_move : (b b' : Bool) → carries_value p ≡ b → carries_value st.seat ≡ b' → MovedBy b b' → Done
       by_move false false e e' did = leaves_be e e' did
       by_move false true e e' did = gains e e' did
       by_move true false e e' did = give e e' did

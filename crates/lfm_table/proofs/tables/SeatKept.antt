@@ -24,7 +24,7 @@ use Rattle.lfm_table.specs.declared.rule.Moving.{Moving}
 use Rattle.lfm_table.specs.Rule.{value_in, in_hand, is_carried, left_by, Hands, Advanced}
 use Rattle.lfm_table.specs.Seats.{Seated, Rooted}
 use Rattle.lfm_table.specs.Settled.{Became}
-use Rattle.lfm_table.specs.Steps.{gives_at, Leaves, Ready, CanMake, dropped, kept_out, put_in, add_by, added, Took, oldest_in, Value_goes, Event, Goes_on}
+use Rattle.lfm_table.specs.Steps.{gives_at, MayBeLeft, Ready, CanMake, dropped, kept_out, put_in, add_by, added, Took, oldest_in, ValueGoes, Event, StepLeadsTo}
 use Rattle.lfm_table.proofs.tables.RuleKept.{some_same}
 use Rattle.lfm_table.proofs.tables.SettledKept.{became_same}
 use Rattle.lfm_table.proofs.tables.StepFacts.{release_of, shallow_step, empty_depth, left_same, left_new, carrying, list_stays, gives_carries, keeps_value, carries_unread, unread_after, reads, same_oldest, list_parts, gives_adds_none, reads_list, gives_not_release}
@@ -101,7 +101,7 @@ module _ {T : Type 0} (follows : ℕ → T → T → Type 0) (suits : T → ℕ 
       let before = carrying p (gives_carries p.point gives) in
       (λ i. put_in (gives i) (dropped p (is i)) m.1) ∙ ap (λ (r : List (ℕ × S)). (0, Some (shorter x)) ∷ rest r) (was.hand ∙ ap in_hand before)
 
-  can_hand : ((r : Releaser) → p.point ≡ ReleaseOwnerStore r → Leaves follows suits a m.0) → Ready follows suits p (value_in hand_before) (m.0, slots_before)
+  can_hand : ((r : Releaser) → p.point ≡ ReleaseOwnerStore r → MayBeLeft follows suits a m.0) → Ready follows suits p (value_in hand_before) (m.0, slots_before)
   can_hand leaves = record {
     empty = no_slots;
     loaded = λ n o before after.
@@ -127,7 +127,7 @@ module _ {T : Type 0} (follows : ℕ → T → T → Type 0) (suits : T → ℕ 
   }
 
   pub can_make : (a1 : S) (m0 : Mine) → a1 ≡ kept_out (gives_at p.point) (dropped p a) → m0 ≡ (m.0, put_in (gives_at p.point) (dropped p a) m.1)
-      → ((r : Releaser) → p.point ≡ ReleaseOwnerStore r → Leaves follows suits a m.0) → CanMake follows suits p (value_in a1) number l.seats words m0
+      → ((r : Releaser) → p.point ≡ ReleaseOwnerStore r → MayBeLeft follows suits a m.0) → CanMake follows suits p (value_in a1) number l.seats words m0
   can_make a1 m0 is_a is_m leaves = subst (λ (t : S × Mine). CanMake follows suits p (value_in t.0) number l.seats words t.1) (λ i. (sym is_a i, sym is_m i)) (record {
     user = was.user;
     named = was.named;
@@ -154,7 +154,7 @@ module _ {T : Type 0} (follows : ℕ → T → T → Type 0) (suits : T → ℕ 
 
     abbrev Known : S → Mine → Type 0
     Known a3 m2 = (m2.1 ≡ in_hand (carries_value st.seat)) × (is_carried a3 ≡ carries_value st.seat) × ((x : Moving T) → a3 ≡ Some x → (x.popped.records ≡ m1.0.popped) × (x.popped.room ≡ l.seats))
-        × (st.seat.depth ≡ 0 → (x : Moving T) → a3 ≡ Some x → m1.0.found ≡ Some x.value) × (stepped_by p number n (oldest_in a3) ≡ st) × Value_goes (carries_value p) (carries_value st.seat) a a3 m1.0 × (m2.0 ≡ m1.0)
+        × (st.seat.depth ≡ 0 → (x : Moving T) → a3 ≡ Some x → m1.0.found ≡ Some x.value) × (stepped_by p number n (oldest_in a3) ≡ st) × ValueGoes (carries_value p) (carries_value st.seat) a a3 m1.0 × (m2.0 ≡ m1.0)
 
     abbrev HandsAt : Bool → Bool → Type 0
     HandsAt b b' = Hands follows suits b b' p.point (value_in hand_before) did.popped (m.0, slots_before) m1
@@ -193,7 +193,7 @@ module _ {T : Type 0} (follows : ℕ → T → T → Type 0) (suits : T → ℕ 
           (λ x e. absurd (nothing x (sym took1.0 ∙ e))),
           (λ deep x e. absurd (nothing x (sym took1.0 ∙ e))),
           ap (λ (r : Option Record). stepped_by p number n r) (ap oldest_in took1.0) ∙ sym (oldest_unread p number n o None before after),
-          subst (λ (t : Bool × Bool). Value_goes t.0 t.1 a a3 m1.0) (λ i. (sym before i, sym after i)) (none_of before, took1.0),
+          subst (λ (t : Bool × Bool). ValueGoes t.0 t.1 a a3 m1.0) (λ i. (sym before i, sym after i)) (none_of before, took1.0),
           ap (λ (z : Mine). z.0) took1.1,
         )
 
@@ -211,7 +211,7 @@ module _ {T : Type 0} (follows : ℕ → T → T → Type 0) (suits : T → ℕ 
           (λ y e. subst (λ (z : Moving T). (z.popped.records ≡ m1.0.popped) × (z.popped.room ≡ l.seats)) (same y e) (list, hands.3 ∙ ap (λ (l : Limits). l.seats) was.limits_are)),
           (λ deep y e. hands.4 ∙ ap (λ (z : Moving T). Some z.value) (same y e)),
           ap (λ (r : Option Record). stepped_by p number n r) (ap oldest_in got ∙ ap oldest hands.2),
-          subst (λ (t : Bool × Bool). Value_goes t.0 t.1 a a3 m1.0) (λ i. (sym before i, sym after i)) (none_of before, (x, got, hands.4)),
+          subst (λ (t : Bool × Bool). ValueGoes t.0 t.1 a a3 m1.0) (λ i. (sym before i, sym after i)) (none_of before, (x, got, hands.4)),
           ap (λ (z : Mine). z.0) took1.1,
         )
 
@@ -226,7 +226,7 @@ module _ {T : Type 0} (follows : ℕ → T → T → Type 0) (suits : T → ℕ 
           (λ x e. absurd (nothing x (sym took1.0 ∙ e))),
           (λ deep x e. absurd (nothing x (sym took1.0 ∙ e))),
           ap (λ (r : Option Record). stepped_by p number n r) (ap oldest_in took1.0) ∙ sym (unread_after p number n o None after),
-          subst (λ (t : Bool × Bool). Value_goes t.0 t.1 a a3 m1.0) (λ i. (sym before i, sym after i)) took1.0,
+          subst (λ (t : Bool × Bool). ValueGoes t.0 t.1 a a3 m1.0) (λ i. (sym before i, sym after i)) took1.0,
           ap (λ (z : Mine). z.0) took1.1,
         )
 
@@ -262,7 +262,7 @@ module _ {T : Type 0} (follows : ℕ → T → T → Type 0) (suits : T → ℕ 
         (λ y e. subst (λ (z : Moving T). (z.popped.records ≡ m1.0.popped) × (z.popped.room ≡ l.seats)) (same y e) (list_is, room ∙ was.room x is)),
         (λ deep y e. kept_is deep ∙ ap (λ (z : Moving T). Some z.value) (same y e)),
         same_oldest p number n (oldest_in a3) o (λ e. ap oldest_in got ∙ oldest_is e),
-        subst (λ (t : Bool × Bool). Value_goes t.0 t.1 a a3 m1.0) (λ i. (sym before i, sym after i)) (x3, ap value_in is ∙ ap Some (sym value), got),
+        subst (λ (t : Bool × Bool). ValueGoes t.0 t.1 a a3 m1.0) (λ i. (sym before i, sym after i)) (x3, ap value_in is ∙ ap Some (sym value), got),
         view,
       )
 
@@ -422,6 +422,6 @@ module _ {T : Type 0} (follows : ℕ → T → T → Type 0) (suits : T → ℕ 
 
 -- an event, where a call is open
 pub open_event : {T : Type 0} (follows : ℕ → T → T → Type 0) (suits : T → ℕ → Type 0) (k : Option Kind) (p p' : SeatState) (m m' : Me (Option (Moving T)) (View T)) (a a' : Option (Moving T)) (turn : Turn) → k ≢ None
-    → Event follows suits p a m.0 turn p' a' m'.0 → Goes_on k follows suits p a m turn p' a' m'
+    → Event follows suits p a m.0 turn p' a' m'.0 → StepLeadsTo k follows suits p a m turn p' a' m'
 open_event follows suits None p p' m m' a a' turn some event = absurd (some refl)
 open_event follows suits (Some k) p p' m m' a a' turn some event = event

@@ -18,8 +18,8 @@ use Rattle.lfm_table.specs.declared.seat_view.View.{View}
 use Rattle.lfm_table.specs.declared.rule.Moving.{Moving}
 use Rattle.lfm_table.specs.Rule.{value_in, is_carried, Advanced}
 use Rattle.lfm_table.specs.Seats.{Rooted}
-use Rattle.lfm_table.specs.Steps.{gives_at, Leaves, CanMake, dropped, kept_out, put_in, add_by, added, Took, oldest_in}
-use Rattle.lfm_table.specs.Straight.{Fit, Made_step}
+use Rattle.lfm_table.specs.Steps.{gives_at, MayBeLeft, CanMake, dropped, kept_out, put_in, add_by, added, Took, oldest_in}
+use Rattle.lfm_table.specs.Straight.{Fit, MadeStep}
 use Rattle.lfm_table.proofs.tables.SeatKept.{made, can_make, slot_there, own_slot}
 use Rattle.lfm_table.proofs.tables.StepFacts.{keeps_value}
 
@@ -96,7 +96,7 @@ module _ {T : Type 0} (follows : ℕ → T → T → Type 0) (suits : T → ℕ 
     put : m0 ≡ (m.0, put_in (gives_at p.point) (dropped p a) m.1)
     put = is_m ∙ (λ i. (m.0, put_in (sym is_gives i) (drops_same p a keeps i) m.1))
 
-    can_now : ((r : Releaser) → p.point ≡ ReleaseOwnerStore r → Leaves follows suits a m.0) → CanMake follows suits p (value_in a1) number l.seats words m0
+    can_now : ((r : Releaser) → p.point ≡ ReleaseOwnerStore r → MayBeLeft follows suits a m.0) → CanMake follows suits p (value_in a1) number l.seats words m0
     can_now leaves = can_make follows suits number words id l p m a fit.seated fit.became fit.ready fit.rooted a1 m0 out put leaves
 
     module _ (n : ℕ) (m1 : Now) (did : Advanced follows suits p (value_in a1) m0 n m1) where
@@ -104,7 +104,7 @@ module _ {T : Type 0} (follows : ℕ → T → T → Type 0) (suits : T → ℕ 
       slot_now none c = slot_there follows suits number words id l p m a fit.seated fit.became fit.ready fit.rooted n a1 a1 m0 m1 (stepped_by p number n None).seat out put did (adds_same p number n a1 k is straight) refl none c
 
       module _ (words' id' : ℕ) (same_words : words' ≡ words) (same_id : id' ≡ id) where
-        made_now : (a3 : Option (Moving T)) (m2 : Now) → Took (is_carried a1) (carries_value (stepped_by p number n None).seat) a1 m1 a3 m2 → Made_step follows suits number words' id' l p n m a m2 a3
+        made_now : (a3 : Option (Moving T)) (m2 : Now) → Took (is_carried a1) (carries_value (stepped_by p number n None).seat) a1 m1 a3 m2 → MadeStep follows suits number words' id' l p n m a m2 a3
         made_now a3 m2 took =
             let q = stepped_by p number n (oldest_in a3) in
             let t = made follows suits number words id l p m a fit.seated fit.became fit.ready fit.rooted n a1 a1 a3 m0 m1 m2 (stepped_by p number n None).seat q.seat q.turn out put did (adds_same p number n a1 k is straight) refl took refl refl in
@@ -121,25 +121,25 @@ module _ {T : Type 0} (follows : ℕ → T → T → Type 0) (suits : T → ℕ 
   -- A step that gives nothing
 
   module _ (flat : gives_at p.point ≡ false) where
-    pub can_keep : ((r : Releaser) → p.point ≡ ReleaseOwnerStore r → Leaves follows suits a m.0) → CanMake follows suits p (value_in a) number l.seats words m
+    pub can_keep : ((r : Releaser) → p.point ≡ ReleaseOwnerStore r → MayBeLeft follows suits a m.0) → CanMake follows suits p (value_in a) number l.seats words m
     can_keep leaves = can_now false flat a m refl refl leaves
 
     module _ (n : ℕ) (m1 : Now) (did : Advanced follows suits p (value_in a) m n m1) (words' id' : ℕ) (same_words : words' ≡ words) (same_id : id' ≡ id) where
       -- the seat has the value in hand, and keeps it
-      pub kept : carries_value p ≡ true → Made_step follows suits number words' id' l p n m a m1 a
+      pub kept : carries_value p ≡ true → MadeStep follows suits number words' id' l p n m a m1 a
       kept before =
           made_now false flat a m refl refl n m1 did words' id' same_words same_id a m1
           (took_none (is_carried a) (carries_value (stepped_by p number n None).seat) a m1 ((fit.seated.moved ∙ before) ∙ sym (keeps_value p number n None flat before)))
 
       -- the seat has no value, and gains none
-      pub idled : carries_value p ≡ false → carries_value (stepped_by p number n None).seat ≡ false → Made_step follows suits number words' id' l p n m a m1 a
+      pub idled : carries_value p ≡ false → carries_value (stepped_by p number n None).seat ≡ false → MadeStep follows suits number words' id' l p n m a m1 a
       idled before after =
           made_now false flat a m refl refl n m1 did words' id' same_words same_id a m1
           (took_none (is_carried a) (carries_value (stepped_by p number n None).seat) a m1 ((fit.seated.moved ∙ before) ∙ sym after))
 
       -- the seat gains the value, and takes it out of the slot
       pub gained : carries_value p ≡ false → carries_value (stepped_by p number n None).seat ≡ true → (a3 : Option (Moving T)) (m2 : Now) → (m1.1 ≡ (0, a3) ∷ rest m1.1) × (m2 ≡ (m1.0, (0, None) ∷ rest m1.1))
-          → Made_step follows suits number words' id' l p n m a m2 a3
+          → MadeStep follows suits number words' id' l p n m a m2 a3
       gained before after a3 m2 took =
           made_now false flat a m refl refl n m1 did words' id' same_words same_id a3 m2
           (took_one (is_carried a) (carries_value (stepped_by p number n None).seat) a a3 m1 m2 (fit.seated.moved ∙ before) after took)
@@ -160,10 +160,10 @@ module _ {T : Type 0} (follows : ℕ → T → T → Type 0) (suits : T → ℕ 
     given_slot n m1 did after = slot_now true gives None m0 refl is_m n m1 did refl after
 
     module _ (n : ℕ) (m1 : Now) (did : Advanced follows suits p None m0 n m1) (words' id' : ℕ) (same_words : words' ≡ words) (same_id : id' ≡ id) where
-      pub given : carries_value (stepped_by p number n None).seat ≡ false → Made_step follows suits number words' id' l p n m a m1 None
+      pub given : carries_value (stepped_by p number n None).seat ≡ false → MadeStep follows suits number words' id' l p n m a m1 None
       given after = made_now true gives None m0 refl is_m n m1 did words' id' same_words same_id None m1 (took_none false (carries_value (stepped_by p number n None).seat) None m1 (sym after))
 
-      pub taken_back : carries_value (stepped_by p number n None).seat ≡ true → (a3 : Option (Moving T)) (m2 : Now) → (m1.1 ≡ (0, a3) ∷ rest m1.1) × (m2 ≡ (m1.0, (0, None) ∷ rest m1.1)) → Made_step follows suits number words' id' l p n m a m2 a3
+      pub taken_back : carries_value (stepped_by p number n None).seat ≡ true → (a3 : Option (Moving T)) (m2 : Now) → (m1.1 ≡ (0, a3) ∷ rest m1.1) × (m2 ≡ (m1.0, (0, None) ∷ rest m1.1)) → MadeStep follows suits number words' id' l p n m a m2 a3
       taken_back after a3 m2 took =
           made_now true gives None m0 refl is_m n m1 did words' id' same_words same_id a3 m2
           (took_one false (carries_value (stepped_by p number n None).seat) None a3 m1 m2 refl after took)

@@ -1,8 +1,8 @@
 //! Calls of a mutex round a number and of a condvar, with no more of their contracts than the tests need: seats stay those of
 //! the mutex and the condvar. No test stands here.
 ghost use Rattle.std.specs.Prelude.{◌≤◌};
-ghost use Rattle.lfm_mutex.specs.Belongs.{Of_mutex, limits_of};
-ghost use Rattle.lfm_condvar.specs.Belongs.{Of_condvar, cond_limits};
+ghost use Rattle.lfm_mutex.specs.Belongs.{OfMutex, limits_of};
+ghost use Rattle.lfm_condvar.specs.Belongs.{OfCondvar, cond_limits};
 
 use lfm_condvar::{CondSeat, Condvar};
 use lfm_model::{Asked, How, Refusal, SeatNo, Unlocked};
@@ -11,24 +11,24 @@ use std::sync::Wait;
 
 /// `ask`.
 pub fn ask(mutex: &Mutex<u64>, seat: &mut Seat<u64>) -> Result<Asked, Refusal>
-    requires { Of_mutex seat.old mutex.now }
-    ensures { Of_mutex seat.new mutex.now }
+    requires { OfMutex seat.old mutex.now }
+    ensures { OfMutex seat.new mutex.now }
 {
     mutex.ask(seat)
 }
 
 /// `try_receive`.
 pub fn receive(mutex: &Mutex<u64>, seat: &mut Seat<u64>) -> Result<Option<How>, Refusal>
-    requires { Of_mutex seat.old mutex.now }
-    ensures { Of_mutex seat.new mutex.now }
+    requires { OfMutex seat.old mutex.now }
+    ensures { OfMutex seat.new mutex.now }
 {
     mutex.try_receive(seat)
 }
 
 /// `unlock`.
 pub fn unlock(mutex: &Mutex<u64>, seat: &mut Seat<u64>) -> Result<Unlocked, Refusal>
-    requires { Of_mutex seat.old mutex.now }
-    ensures { Of_mutex seat.new mutex.now }
+    requires { OfMutex seat.old mutex.now }
+    ensures { OfMutex seat.new mutex.now }
 {
     mutex.unlock(seat)
 }
@@ -41,11 +41,11 @@ pub fn wake_one<R: Wait>(
     mutex: &Mutex<u64>,
     seat: &mut Seat<u64>,
 ) -> Result<Option<(SeatNo, u64)>, Refusal>
-    requires seat { Of_mutex seat.old mutex.now }
-    requires cond { Of_condvar cond.old condvar.now }
+    requires seat { OfMutex seat.old mutex.now }
+    requires cond { OfCondvar cond.old condvar.now }
     requires wide { (cond_limits condvar.now).seats ≤ (limits_of mutex.now).seats }
-    ensures seat { Of_mutex seat.new mutex.now }
-    ensures cond { Of_condvar cond.new condvar.now }
+    ensures seat { OfMutex seat.new mutex.now }
+    ensures cond { OfCondvar cond.new condvar.now }
 {
     condvar.wake_one(rt, cond, mutex, seat)
 }
@@ -58,10 +58,10 @@ pub fn wait<R: Wait>(
     mutex: &Mutex<u64>,
     seat: &mut Seat<u64>,
 ) -> Result<(How, u64), Refusal>
-    requires seat { Of_mutex seat.old mutex.now }
-    requires cond { Of_condvar cond.old condvar.now }
-    ensures seat { Of_mutex seat.new mutex.now }
-    ensures cond { Of_condvar cond.new condvar.now }
+    requires seat { OfMutex seat.old mutex.now }
+    requires cond { OfCondvar cond.old condvar.now }
+    ensures seat { OfMutex seat.new mutex.now }
+    ensures cond { OfCondvar cond.new condvar.now }
 {
     condvar.wait(rt, cond, mutex, seat)
 }

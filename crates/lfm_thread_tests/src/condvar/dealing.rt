@@ -1,8 +1,8 @@
 //! A mutex with two condvars is made, with a place for each of its threads, and ends once all places are back.
 ghost use Rattle.std.specs.Prelude.{◌≡◌, ◌≤◌, ℕ, All, IfSome, []};
-ghost use Rattle.lfm_mutex.specs.Belongs.{Of_mutex, limits_of};
-ghost use Rattle.lfm_condvar.specs.Belongs.{Of_condvar, cond_limits};
-ghost use Rattle.lfm_thread_tests.specs.Places.{Of_shared};
+ghost use Rattle.lfm_mutex.specs.Belongs.{OfMutex, limits_of};
+ghost use Rattle.lfm_condvar.specs.Belongs.{OfCondvar, cond_limits};
+ghost use Rattle.lfm_thread_tests.specs.Places.{OfShared};
 ghost use mathlib.Core.Option.{some};
 ghost use lib.ListN.{get_elem?};
 
@@ -37,7 +37,7 @@ pub struct Left {
 
 /// A mutex round 0 and two condvars, with a place for each of so many threads.
 pub fn shared_by(alloc: Global, threads: u64) -> Option<(Shared, Vec<Place>)>
-    ensures { IfSome result (λ r. All (λ p. Of_shared p r.0) r.1.items) }
+    ensures { IfSome result (λ r. All (λ p. OfShared p r.0) r.1.items) }
 {
     let Ok((mutex, seats)) = Mutex::new(alloc, threads, MAX_BUDGET, 0u64) else {
         return None;
@@ -65,7 +65,7 @@ pub fn shared_by(alloc: Global, threads: u64) -> Option<(Shared, Vec<Place>)>
 impl Shared {
     /// Ends the mutex and its condvars, where all places are there.
     pub fn close(self, alloc: Global, places: Vec<Place>) -> Option<Left>
-        requires { All (λ p. Of_shared p self) places.items }
+        requires { All (λ p. OfShared p self) places.items }
     {
         let room = Parts {
             seats: Vec::new(alloc),
@@ -88,9 +88,9 @@ impl Shared {
 
 // The last of these seats, which are the mutex's.
 fn last_seat(mutex: &Mutex<u64>, seats: &mut Vec<Seat<u64>>) -> Option<Seat<u64>>
-    requires { (j : ℕ) (s : _) → get_elem? seats.old.items j ≡ some s → Of_mutex s mutex.now }
-    ensures one { IfSome result (λ s. Of_mutex s mutex.now) }
-    ensures rest { (j : ℕ) (s : _) → get_elem? seats.new.items j ≡ some s → Of_mutex s mutex.now }
+    requires { (j : ℕ) (s : _) → get_elem? seats.old.items j ≡ some s → OfMutex s mutex.now }
+    ensures one { IfSome result (λ s. OfMutex s mutex.now) }
+    ensures rest { (j : ℕ) (s : _) → get_elem? seats.new.items j ≡ some s → OfMutex s mutex.now }
 {
     let _mutex = mutex;
     let seat = seats.pop()?;
@@ -99,9 +99,9 @@ fn last_seat(mutex: &Mutex<u64>, seats: &mut Vec<Seat<u64>>) -> Option<Seat<u64>
 
 /// The last of these cond seats, which are the condvar's. None where there is none.
 pub fn last_cond_seat(condvar: &Condvar, seats: &mut Vec<CondSeat>) -> Option<CondSeat>
-    requires { (j : ℕ) (s : _) → get_elem? seats.old.items j ≡ some s → Of_condvar s condvar.now }
-    ensures one { IfSome result (λ s. Of_condvar s condvar.now) }
-    ensures rest { (j : ℕ) (s : _) → get_elem? seats.new.items j ≡ some s → Of_condvar s condvar.now }
+    requires { (j : ℕ) (s : _) → get_elem? seats.old.items j ≡ some s → OfCondvar s condvar.now }
+    ensures one { IfSome result (λ s. OfCondvar s condvar.now) }
+    ensures rest { (j : ℕ) (s : _) → get_elem? seats.new.items j ≡ some s → OfCondvar s condvar.now }
 {
     let _condvar = condvar;
     let seat = seats.pop()?;
@@ -110,12 +110,12 @@ pub fn last_cond_seat(condvar: &Condvar, seats: &mut Vec<CondSeat>) -> Option<Co
 
 // So many places, of seats that all are those of the mutex and its condvars.
 fn placed(shared: &Shared, threads: u64, parts: Parts, mut places: Vec<Place>) -> Option<Vec<Place>>
-    requires seats { (j : ℕ) (s : _) → get_elem? parts.seats.items j ≡ some s → Of_mutex s shared.now.mutex }
-    requires first { (j : ℕ) (s : _) → get_elem? parts.first.items j ≡ some s → Of_condvar s shared.now.first }
-    requires second { (j : ℕ) (s : _) → get_elem? parts.second.items j ≡ some s → Of_condvar s shared.now.second }
+    requires seats { (j : ℕ) (s : _) → get_elem? parts.seats.items j ≡ some s → OfMutex s shared.now.mutex }
+    requires first { (j : ℕ) (s : _) → get_elem? parts.first.items j ≡ some s → OfCondvar s shared.now.first }
+    requires second { (j : ℕ) (s : _) → get_elem? parts.second.items j ≡ some s → OfCondvar s shared.now.second }
     requires wide { ((cond_limits shared.now.first).seats ≤ (limits_of shared.now.mutex).seats) × ((cond_limits shared.now.second).seats ≤ (limits_of shared.now.mutex).seats) }
     requires empty { places.items ≡ [] }
-    ensures { IfSome result (λ v. All (λ p. Of_shared p shared.now) v.items) }
+    ensures { IfSome result (λ v. All (λ p. OfShared p shared.now) v.items) }
 {
     let Parts {
         mut seats,
@@ -141,11 +141,11 @@ fn placed(shared: &Shared, threads: u64, parts: Parts, mut places: Vec<Place>) -
 
 // The seats of all places, in these empty lists.
 fn sorted(shared: &Shared, places: Vec<Place>, mut room: Parts) -> Option<Parts>
-    requires places { All (λ p. Of_shared p shared.now) places.items }
+    requires places { All (λ p. OfShared p shared.now) places.items }
     requires empty { (room.seats.items ≡ []) × (room.first.items ≡ []) × (room.second.items ≡ []) }
-    ensures seats { IfSome result (λ r. (j : ℕ) (s : _) → get_elem? r.seats.items j ≡ some s → Of_mutex s shared.now.mutex) }
-    ensures first { IfSome result (λ r. (j : ℕ) (s : _) → get_elem? r.first.items j ≡ some s → Of_condvar s shared.now.first) }
-    ensures second { IfSome result (λ r. (j : ℕ) (s : _) → get_elem? r.second.items j ≡ some s → Of_condvar s shared.now.second) }
+    ensures seats { IfSome result (λ r. (j : ℕ) (s : _) → get_elem? r.seats.items j ≡ some s → OfMutex s shared.now.mutex) }
+    ensures first { IfSome result (λ r. (j : ℕ) (s : _) → get_elem? r.first.items j ≡ some s → OfCondvar s shared.now.first) }
+    ensures second { IfSome result (λ r. (j : ℕ) (s : _) → get_elem? r.second.items j ≡ some s → OfCondvar s shared.now.second) }
 {
     let _shared = shared;
     'sorting: for place in places {

@@ -1,6 +1,6 @@
 //! A wake of all: 32 threads wait on one condvar, and each is woken once, in the order of the tickets.
 ghost use Rattle.std.specs.Prelude.{All, IfOk};
-ghost use Rattle.lfm_thread_tests.specs.Places.{Of_shared};
+ghost use Rattle.lfm_thread_tests.specs.Places.{OfShared};
 
 use crate::condvar::dealing::{Left, shared_by};
 use crate::condvar::places::{Place, Shared};
@@ -17,8 +17,8 @@ const WAITERS: u64 = 32;
 
 /// Adds 1 to the number, and tells it on the second condvar where all have done so.
 fn come<R: Wait>(rt: &R, shared: &Shared, place: &mut Place)
-    requires { Of_shared place.old shared.now }
-    ensures { Of_shared place.new shared.now }
+    requires { OfShared place.old shared.now }
+    ensures { OfShared place.new shared.now }
 {
     if add_one(&mut place.seat) < WAITERS {
         return;
@@ -28,8 +28,8 @@ fn come<R: Wait>(rt: &R, shared: &Shared, place: &mut Place)
 
 /// Comes and waits on the first condvar, in one hold. Adds 1 to the number again once it was woken.
 fn wait_once<R: Wait>(rt: &R, shared: &Shared, mut place: Place) -> Place
-    requires { Of_shared place shared.now }
-    ensures { Of_shared result shared.now }
+    requires { OfShared place shared.now }
+    ensures { OfShared result shared.now }
 {
     let _ = shared.lock(rt, &mut place);
     come(rt, shared, &mut place);
@@ -41,8 +41,8 @@ fn wait_once<R: Wait>(rt: &R, shared: &Shared, mut place: Place) -> Place
 
 /// Waits on the second condvar until all have come. The last tells it once, so one wait is enough.
 fn wait_for_all<R: Wait>(rt: &R, shared: &Shared, place: &mut Place)
-    requires { Of_shared place.old shared.now }
-    ensures { Of_shared place.new shared.now }
+    requires { OfShared place.old shared.now }
+    ensures { OfShared place.new shared.now }
 {
     if place.number() >= WAITERS {
         return;
@@ -52,8 +52,8 @@ fn wait_for_all<R: Wait>(rt: &R, shared: &Shared, place: &mut Place)
 
 /// Wakes all at once when all have come, while it holds the mutex; and again, when nobody waits.
 fn wake_twice<R: Wait>(rt: &R, shared: &Shared, mut place: Place) -> Place
-    requires { Of_shared place shared.now }
-    ensures { Of_shared result shared.now }
+    requires { OfShared place shared.now }
+    ensures { OfShared result shared.now }
 {
     let _ = shared.lock(rt, &mut place);
     wait_for_all(rt, shared, &mut place);
@@ -66,8 +66,8 @@ fn wake_twice<R: Wait>(rt: &R, shared: &Shared, mut place: Place) -> Place
 
 /// Seat 1 wakes, and the others wait.
 fn take_part<R: Wait>(rt: &R, shared: &Shared, place: Place) -> Place
-    requires { Of_shared place shared.now }
-    ensures { Of_shared result shared.now }
+    requires { OfShared place shared.now }
+    ensures { OfShared result shared.now }
 {
     if place.seat.number().get() == 1 {
         wake_twice(rt, shared, place)
@@ -82,15 +82,15 @@ fn take_parts<R: Threads + Wait + Sync>(
     shared: &Shared,
     places: Vec<Place>,
 ) -> Result<Vec<Place>, AllocError>
-    requires { All (λ p. Of_shared p shared.now) places.items }
-    ensures { IfOk result (λ v. All (λ p. Of_shared p shared.now) v.items) }
+    requires { All (λ p. OfShared p shared.now) places.items }
+    ensures { IfOk result (λ v. All (λ p. OfShared p shared.now) v.items) }
 {
     let places = thread::map_vec(
         rt,
         places,
         &|place: Place| -> Place
-            requires { Of_shared place shared.now }
-            ensures { Of_shared result shared.entry.now }
+            requires { OfShared place shared.now }
+            ensures { OfShared result shared.entry.now }
         { take_part(rt, shared, place) },
     )?;
     Ok(places)

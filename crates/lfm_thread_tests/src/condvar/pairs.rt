@@ -1,7 +1,7 @@
 //! A mutex and a condvar that have two seats each, and a condvar that has one.
 ghost use Rattle.std.specs.Prelude.{◌≡◌, ℕ, [], IfSome};
-ghost use Rattle.lfm_mutex.specs.Belongs.{Of_mutex, limits_of};
-ghost use Rattle.lfm_condvar.specs.Belongs.{Of_condvar, cond_limits};
+ghost use Rattle.lfm_mutex.specs.Belongs.{OfMutex, limits_of};
+ghost use Rattle.lfm_condvar.specs.Belongs.{OfCondvar, cond_limits};
 ghost use mathlib.Core.Option.{some};
 ghost use lib.ListN.{get_elem?};
 
@@ -12,8 +12,8 @@ use std::alloc::Global;
 
 /// The two seats of a mutex that has two.
 fn two_seats<T: Kept>(mutex: &Mutex<T>, mut seats: Vec<Seat<T>>) -> Option<(Seat<T>, Seat<T>)>
-    requires { (j : ℕ) (s : _) → get_elem? seats.items j ≡ some s → Of_mutex s mutex.now }
-    ensures { IfSome result (λ p. Of_mutex p.0 mutex.now × Of_mutex p.1 mutex.now) }
+    requires { (j : ℕ) (s : _) → get_elem? seats.items j ≡ some s → OfMutex s mutex.now }
+    ensures { IfSome result (λ p. OfMutex p.0 mutex.now × OfMutex p.1 mutex.now) }
 {
     let _mutex = mutex;
     let second = seats.pop()?;
@@ -23,8 +23,8 @@ fn two_seats<T: Kept>(mutex: &Mutex<T>, mut seats: Vec<Seat<T>>) -> Option<(Seat
 
 /// The two cond seats of a condvar that has two.
 fn two_cond_seats(condvar: &Condvar, mut seats: Vec<CondSeat>) -> Option<(CondSeat, CondSeat)>
-    requires { (j : ℕ) (s : _) → get_elem? seats.items j ≡ some s → Of_condvar s condvar.now }
-    ensures { IfSome result (λ p. Of_condvar p.0 condvar.now × Of_condvar p.1 condvar.now) }
+    requires { (j : ℕ) (s : _) → get_elem? seats.items j ≡ some s → OfCondvar s condvar.now }
+    ensures { IfSome result (λ p. OfCondvar p.0 condvar.now × OfCondvar p.1 condvar.now) }
 {
     let _condvar = condvar;
     let second = seats.pop()?;
@@ -39,7 +39,7 @@ pub fn mutex_of_two<T: Kept>(
     value: T,
 ) -> Option<(Mutex<T>, Seat<T>, Seat<T>)>
     requires fits { T.fits value 0 }
-    ensures seats { IfSome result (λ r. Of_mutex r.1 r.0 × Of_mutex r.2 r.0) }
+    ensures seats { IfSome result (λ r. OfMutex r.1 r.0 × OfMutex r.2 r.0) }
     ensures two { IfSome result (λ r. (limits_of r.0).seats ≡ 2) }
 {
     let Ok((mutex, seats)) = Mutex::new(alloc, 2, budget, value) else {
@@ -51,7 +51,7 @@ pub fn mutex_of_two<T: Kept>(
 
 /// A condvar, and its two cond seats, each of which may take so often.
 pub fn condvar_of_two(alloc: Global, budget: u64) -> Option<(Condvar, CondSeat, CondSeat)>
-    ensures seats { IfSome result (λ r. Of_condvar r.1 r.0 × Of_condvar r.2 r.0) }
+    ensures seats { IfSome result (λ r. OfCondvar r.1 r.0 × OfCondvar r.2 r.0) }
     ensures two { IfSome result (λ r. (cond_limits r.0).seats ≡ 2) }
 {
     let Ok((condvar, seats)) = Condvar::new(alloc, 2, budget) else {
@@ -63,7 +63,7 @@ pub fn condvar_of_two(alloc: Global, budget: u64) -> Option<(Condvar, CondSeat, 
 
 /// A condvar, and its one cond seat, which may take once.
 pub fn condvar_of_one(alloc: Global) -> Option<(Condvar, CondSeat)>
-    ensures seat { IfSome result (λ r. Of_condvar r.1 r.0) }
+    ensures seat { IfSome result (λ r. OfCondvar r.1 r.0) }
     ensures one { IfSome result (λ r. (cond_limits r.0).seats ≡ 1) }
 {
     let Ok((condvar, mut seats)) = Condvar::new(alloc, 1, 1) else {
@@ -80,8 +80,8 @@ pub fn closed(
     second: CondSeat,
     mut room: Vec<CondSeat>,
 ) -> Option<(u64, u64)>
-    requires first { Of_condvar first condvar }
-    requires second { Of_condvar second condvar }
+    requires first { OfCondvar first condvar }
+    requires second { OfCondvar second condvar }
     requires empty { room.items ≡ [] }
 {
     let Ok(()) = room.push(first) else {

@@ -1,6 +1,6 @@
 //! A seat that waits is sent past the condvar: its place in the list stays behind.
-ghost use Rattle.lfm_mutex.specs.Belongs.{Of_mutex};
-ghost use Rattle.lfm_condvar.specs.Belongs.{Of_condvar};
+ghost use Rattle.lfm_mutex.specs.Belongs.{OfMutex};
+ghost use Rattle.lfm_condvar.specs.Belongs.{OfCondvar};
 
 use crate::condvar::calls::{wait, wake_one};
 use crate::condvar::pairs::{closed, condvar_of_two, mutex_of_two};
@@ -40,10 +40,10 @@ fn wait_twice<R: Wait>(
     mut seat: Seat<u64>,
     mut cond: CondSeat,
 ) -> Waited
-    requires seat { Of_mutex seat mutex.now }
-    requires cond { Of_condvar cond condvar.now }
-    ensures seat { Of_mutex result.seat mutex.now }
-    ensures cond { Of_condvar result.cond condvar.now }
+    requires seat { OfMutex seat mutex.now }
+    requires cond { OfCondvar cond condvar.now }
+    ensures seat { OfMutex result.seat mutex.now }
+    ensures cond { OfCondvar result.cond condvar.now }
 {
     let _ = mutex.lock(rt, &mut seat);
     let ticket = match wait(rt, condvar, &mut cond, mutex, &mut seat) {
@@ -65,8 +65,8 @@ fn wait_twice<R: Wait>(
 
 /// Sends seat 1 until that goes well.
 fn send_the_other(mutex: &Mutex<u64>, mut seat: Seat<u64>) -> Sent
-    requires { Of_mutex seat mutex.now }
-    ensures { Of_mutex result.seat mutex.now }
+    requires { OfMutex seat mutex.now }
+    ensures { OfMutex result.seat mutex.now }
 {
     let mut sent = false;
     let mut only_not_waiting = true;
@@ -106,12 +106,12 @@ fn a_send_past_the_condvar(rt: HostRuntime) -> Result<(), Fail> {
     let (waited, mut sent) = join(
         &rt,
         move || -> Waited
-            requires { Of_mutex seat_1 m.now × Of_condvar cond_1 v.now }
-            ensures { Of_mutex result.seat m.entry.now × Of_condvar result.cond v.entry.now }
+            requires { OfMutex seat_1 m.now × OfCondvar cond_1 v.now }
+            ensures { OfMutex result.seat m.entry.now × OfCondvar result.cond v.entry.now }
         { wait_twice(r, m, v, seat_1, cond_1) },
         move || -> Sent
-            requires { Of_mutex seat_2 m.now }
-            ensures { Of_mutex result.seat m.entry.now }
+            requires { OfMutex seat_2 m.now }
+            ensures { OfMutex result.seat m.entry.now }
         { send_the_other(m, seat_2) },
     );
     the_first_wait_was_sent(&rt, &waited, &sent);

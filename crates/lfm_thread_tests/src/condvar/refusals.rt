@@ -1,8 +1,8 @@
 //! Calls that a condvar refuses, each for the first of its causes. After a refusal the readers answer as before, and no
 //! ticket was given.
 ghost use Rattle.std.specs.Prelude.{◌≡◌, ◌≤◌, []};
-ghost use Rattle.lfm_mutex.specs.Belongs.{Of_mutex, limits_of};
-ghost use Rattle.lfm_condvar.specs.Belongs.{Of_condvar, cond_limits};
+ghost use Rattle.lfm_mutex.specs.Belongs.{OfMutex, limits_of};
+ghost use Rattle.lfm_condvar.specs.Belongs.{OfCondvar, cond_limits};
 
 use crate::condvar::calls::{ask, receive, unlock, wake_one};
 use crate::condvar::pairs::{condvar_of_one, mutex_of_two};
@@ -17,7 +17,7 @@ use std::test::Fail;
 
 /// Hands the cond seat back, which must close the condvar that has one: returns its numbers.
 fn closed(condvar: Condvar, cond: CondSeat, mut room: Vec<CondSeat>) -> Option<(u64, u64)>
-    requires cond { Of_condvar cond condvar }
+    requires cond { OfCondvar cond condvar }
     requires empty { room.items ≡ [] }
 {
     room.push(cond).ok()?;
@@ -32,11 +32,11 @@ fn wakes_of_a_spent_cond_seat_are_refused<R: Wait + Abort>(
     mutex: &Mutex<u64>,
     seat: &mut Seat<u64>,
 )
-    requires seat { Of_mutex seat.old mutex.now }
-    requires cond { Of_condvar cond.old spent.now }
+    requires seat { OfMutex seat.old mutex.now }
+    requires cond { OfCondvar cond.old spent.now }
     requires wide { (cond_limits spent.now).seats ≤ (limits_of mutex.now).seats }
-    ensures seat { Of_mutex seat.new mutex.now }
-    ensures cond { Of_condvar cond.new spent.now }
+    ensures seat { OfMutex seat.new mutex.now }
+    ensures cond { OfCondvar cond.new spent.now }
 {
     sees(
         rt,
@@ -63,16 +63,16 @@ fn calls_of_a_sleeping_seat_are_refused<R: Wait + Abort>(
     first: &mut Seat<u64>,
     second: &mut Seat<u64>,
 )
-    requires first { Of_mutex first.old mutex.now }
-    requires second { Of_mutex second.old mutex.now }
-    requires x { Of_condvar x.old able.now }
-    requires z { Of_condvar z.old spent.now }
+    requires first { OfMutex first.old mutex.now }
+    requires second { OfMutex second.old mutex.now }
+    requires x { OfCondvar x.old able.now }
+    requires z { OfCondvar z.old spent.now }
     requires wide_able { (cond_limits able.now).seats ≤ (limits_of mutex.now).seats }
     requires wide_spent { (cond_limits spent.now).seats ≤ (limits_of mutex.now).seats }
-    ensures first { Of_mutex first.new mutex.now }
-    ensures second { Of_mutex second.new mutex.now }
-    ensures x { Of_condvar x.new able.now }
-    ensures z { Of_condvar z.new spent.now }
+    ensures first { OfMutex first.new mutex.now }
+    ensures second { OfMutex second.new mutex.now }
+    ensures x { OfCondvar x.new able.now }
+    ensures z { OfCondvar z.new spent.now }
 {
     sees(
         rt,
@@ -111,12 +111,12 @@ fn nested_waits_are_refused<R: Wait + Abort>(
     mutex: &Mutex<u64>,
     seat: &mut Seat<u64>,
 )
-    requires seat { Of_mutex seat.old mutex.now }
-    requires x { Of_condvar x.old able.now }
-    requires z { Of_condvar z.old spent.now }
-    ensures seat { Of_mutex seat.new mutex.now }
-    ensures x { Of_condvar x.new able.now }
-    ensures z { Of_condvar z.new spent.now }
+    requires seat { OfMutex seat.old mutex.now }
+    requires x { OfCondvar x.old able.now }
+    requires z { OfCondvar z.old spent.now }
+    ensures seat { OfMutex seat.new mutex.now }
+    ensures x { OfCondvar x.new able.now }
+    ensures z { OfCondvar z.new spent.now }
 {
     sees(
         rt,
@@ -151,12 +151,12 @@ fn waits_above_the_seats_of_a_condvar_are_refused<R: Wait + Abort>(
     mutex: &Mutex<u64>,
     second: &mut Seat<u64>,
 )
-    requires second { Of_mutex second.old mutex.now }
-    requires x { Of_condvar x.old able.now }
-    requires z { Of_condvar z.old spent.now }
-    ensures second { Of_mutex second.new mutex.now }
-    ensures x { Of_condvar x.new able.now }
-    ensures z { Of_condvar z.new spent.now }
+    requires second { OfMutex second.old mutex.now }
+    requires x { OfCondvar x.old able.now }
+    requires z { OfCondvar z.old spent.now }
+    ensures second { OfMutex second.new mutex.now }
+    ensures x { OfCondvar x.new able.now }
+    ensures z { OfCondvar z.new spent.now }
 {
     sees(
         rt,
@@ -186,10 +186,10 @@ fn waits_at_the_last_take_are_refused<R: Wait + Abort>(
     mutex: &Mutex<u64>,
     seat: &mut Seat<u64>,
 )
-    requires seat { Of_mutex seat.old mutex.now }
-    requires x { Of_condvar x.old able.now }
-    ensures seat { Of_mutex seat.new mutex.now }
-    ensures x { Of_condvar x.new able.now }
+    requires seat { OfMutex seat.old mutex.now }
+    requires x { OfCondvar x.old able.now }
+    ensures seat { OfMutex seat.new mutex.now }
+    ensures x { OfCondvar x.new able.now }
 {
     sees(rt, "ask", &ask(mutex, seat), &Ok(Asked::Held(How::Free)));
     sees(
@@ -212,16 +212,16 @@ fn refusals_step_by_step<R: Wait + Abort>(
     first: &mut Seat<u64>,
     second: &mut Seat<u64>,
 )
-    requires first { Of_mutex first.old mutex.now }
-    requires second { Of_mutex second.old mutex.now }
-    requires x { Of_condvar x.old able.now }
-    requires z { Of_condvar z.old spent.now }
+    requires first { OfMutex first.old mutex.now }
+    requires second { OfMutex second.old mutex.now }
+    requires x { OfCondvar x.old able.now }
+    requires z { OfCondvar z.old spent.now }
     requires wide_able { (cond_limits able.now).seats ≤ (limits_of mutex.now).seats }
     requires wide_spent { (cond_limits spent.now).seats ≤ (limits_of mutex.now).seats }
-    ensures first { Of_mutex first.new mutex.now }
-    ensures second { Of_mutex second.new mutex.now }
-    ensures x { Of_condvar x.new able.now }
-    ensures z { Of_condvar z.new spent.now }
+    ensures first { OfMutex first.new mutex.now }
+    ensures second { OfMutex second.new mutex.now }
+    ensures x { OfCondvar x.new able.now }
+    ensures z { OfCondvar z.new spent.now }
 {
     wakes_of_a_spent_cond_seat_are_refused(rt, spent, z, mutex, first);
     // it doesn't hold, and so would find the cond seat spent

@@ -1,7 +1,7 @@
 //! Calls of a condvar that tell why they were refused, where the readers of the seats answer as before. No test stands here.
 ghost use Rattle.std.specs.Prelude.{◌≤◌};
-ghost use Rattle.lfm_mutex.specs.Belongs.{Of_mutex, limits_of};
-ghost use Rattle.lfm_condvar.specs.Belongs.{Of_condvar, cond_limits};
+ghost use Rattle.lfm_mutex.specs.Belongs.{OfMutex, limits_of};
+ghost use Rattle.lfm_condvar.specs.Belongs.{OfCondvar, cond_limits};
 
 use lfm_condvar::{CondSeat, Condvar};
 use lfm_model::{Refusal, SeatNo};
@@ -23,8 +23,8 @@ struct Readings {
 
 impl Readings {
     fn of(mutex: &Mutex<u64>, seat: &mut Seat<u64>, cond: &CondSeat) -> Readings
-        requires { Of_mutex seat.old mutex.now }
-        ensures { Of_mutex seat.new mutex.now }
+        requires { OfMutex seat.old mutex.now }
+        ensures { OfMutex seat.new mutex.now }
     {
         let owner = mutex.owner(seat);
         Readings {
@@ -48,10 +48,10 @@ pub fn wait<R: Wait>(
     mutex: &Mutex<u64>,
     seat: &mut Seat<u64>,
 ) -> Option<Refusal>
-    requires seat { Of_mutex seat.old mutex.now }
-    requires cond { Of_condvar cond.old condvar.now }
-    ensures seat { Of_mutex seat.new mutex.now }
-    ensures cond { Of_condvar cond.new condvar.now }
+    requires seat { OfMutex seat.old mutex.now }
+    requires cond { OfCondvar cond.old condvar.now }
+    ensures seat { OfMutex seat.new mutex.now }
+    ensures cond { OfCondvar cond.new condvar.now }
 {
     let before = Readings::of(mutex, seat, cond);
     let waited = condvar.wait(rt, cond, mutex, seat);
@@ -70,11 +70,11 @@ pub fn wake<R: Wait>(
     mutex: &Mutex<u64>,
     seat: &mut Seat<u64>,
 ) -> Option<Refusal>
-    requires seat { Of_mutex seat.old mutex.now }
-    requires cond { Of_condvar cond.old condvar.now }
+    requires seat { OfMutex seat.old mutex.now }
+    requires cond { OfCondvar cond.old condvar.now }
     requires wide { (cond_limits condvar.now).seats ≤ (limits_of mutex.now).seats }
-    ensures seat { Of_mutex seat.new mutex.now }
-    ensures cond { Of_condvar cond.new condvar.now }
+    ensures seat { OfMutex seat.new mutex.now }
+    ensures cond { OfCondvar cond.new condvar.now }
 {
     let before = Readings::of(mutex, seat, cond);
     let one = condvar.wake_one(rt, cond, mutex, seat).err();
@@ -96,12 +96,12 @@ pub fn waits<R: Wait>(
     mutex: &Mutex<u64>,
     seat: &mut Seat<u64>,
 ) -> (Option<Refusal>, Option<Refusal>)
-    requires seat { Of_mutex seat.old mutex.now }
-    requires x { Of_condvar x.old able.now }
-    requires z { Of_condvar z.old spent.now }
-    ensures seat { Of_mutex seat.new mutex.now }
-    ensures x { Of_condvar x.new able.now }
-    ensures z { Of_condvar z.new spent.now }
+    requires seat { OfMutex seat.old mutex.now }
+    requires x { OfCondvar x.old able.now }
+    requires z { OfCondvar z.old spent.now }
+    ensures seat { OfMutex seat.new mutex.now }
+    ensures x { OfCondvar x.new able.now }
+    ensures z { OfCondvar z.new spent.now }
 {
     let with_able = wait(rt, able, x, mutex, seat);
     (with_able, wait(rt, spent, z, mutex, seat))
@@ -117,14 +117,14 @@ pub fn wakes<R: Wait>(
     mutex: &Mutex<u64>,
     seat: &mut Seat<u64>,
 ) -> (Option<Refusal>, Option<Refusal>)
-    requires seat { Of_mutex seat.old mutex.now }
-    requires x { Of_condvar x.old able.now }
-    requires z { Of_condvar z.old spent.now }
+    requires seat { OfMutex seat.old mutex.now }
+    requires x { OfCondvar x.old able.now }
+    requires z { OfCondvar z.old spent.now }
     requires wide_able { (cond_limits able.now).seats ≤ (limits_of mutex.now).seats }
     requires wide_spent { (cond_limits spent.now).seats ≤ (limits_of mutex.now).seats }
-    ensures seat { Of_mutex seat.new mutex.now }
-    ensures x { Of_condvar x.new able.now }
-    ensures z { Of_condvar z.new spent.now }
+    ensures seat { OfMutex seat.new mutex.now }
+    ensures x { OfCondvar x.new able.now }
+    ensures z { OfCondvar z.new spent.now }
 {
     let with_able = wake(rt, able, x, mutex, seat);
     (with_able, wake(rt, spent, z, mutex, seat))

@@ -1,7 +1,7 @@
 //! Calls on a mutex with two condvars, with no more of their contracts than the tests need: a place stays one of the mutex and
 //! its condvars. No test stands here.
 ghost use Rattle.lfm_mutex.specs.Belongs.{Beside};
-ghost use Rattle.lfm_thread_tests.specs.Places.{Of_shared};
+ghost use Rattle.lfm_thread_tests.specs.Places.{OfShared};
 
 use crate::condvar::places::{Place, Shared};
 use lfm_model::{How, Refusal, SeatNo};
@@ -37,24 +37,24 @@ impl Side {
 impl Shared {
     /// `lock`. Returns whether it was not refused.
     pub fn lock<R: Wait>(&self, rt: &R, place: &mut Place) -> bool
-        requires { Of_shared place.old self.now }
-        ensures { Of_shared place.new self.now }
+        requires { OfShared place.old self.now }
+        ensures { OfShared place.new self.now }
     {
         self.mutex.lock(rt, &mut place.seat).is_ok()
     }
 
     /// `unlock`. Returns whether it was not refused.
     pub fn unlock(&self, place: &mut Place) -> bool
-        requires { Of_shared place.old self.now }
-        ensures { Of_shared place.new self.now }
+        requires { OfShared place.old self.now }
+        ensures { OfShared place.new self.now }
     {
         self.mutex.unlock(&mut place.seat).is_ok()
     }
 
     // `wait` on one of the condvars.
     fn wait_on<R: Wait>(&self, rt: &R, place: &mut Place, side: Side) -> Result<(How, u64), Refusal>
-        requires { Of_shared place.old self.now }
-        ensures { Of_shared place.new self.now }
+        requires { OfShared place.old self.now }
+        ensures { OfShared place.new self.now }
     {
         match side {
             Side::First => self
@@ -68,8 +68,8 @@ impl Shared {
 
     /// `wait` on one of the condvars. Returns whether it was not refused, and notes the wait and its ticket.
     pub fn wait<R: Wait>(&self, rt: &R, place: &mut Place, side: Side) -> bool
-        requires { Of_shared place.old self.now }
-        ensures { Of_shared place.new self.now }
+        requires { OfShared place.old self.now }
+        ensures { OfShared place.new self.now }
     {
         match self.wait_on(rt, place, side) {
             Ok((_, ticket)) => {
@@ -88,8 +88,8 @@ impl Shared {
         place: &mut Place,
         side: Side,
     ) -> Result<Option<(SeatNo, u64)>, Refusal>
-        requires { Of_shared place.old self.now }
-        ensures { Of_shared place.new self.now }
+        requires { OfShared place.old self.now }
+        ensures { OfShared place.new self.now }
     {
         match side {
             Side::First => self
@@ -103,8 +103,8 @@ impl Shared {
 
     /// `wake_all` of the first condvar.
     pub fn wake_all<R: Wait>(&self, rt: &R, place: &mut Place) -> Result<u64, Refusal>
-        requires { Of_shared place.old self.now }
-        ensures { Of_shared place.new self.now }
+        requires { OfShared place.old self.now }
+        ensures { OfShared place.new self.now }
     {
         self.first
             .wake_all(rt, &mut place.first, &self.mutex, &mut place.seat)

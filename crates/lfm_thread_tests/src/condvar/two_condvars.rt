@@ -1,7 +1,7 @@
 //! Two condvars on one mutex: four threads take turns, two for even numbers and two for odd ones. Who waits for its turn
 //! waits on the condvar of its side, and each turn wakes one of the other side.
 ghost use Rattle.std.specs.Prelude.{All, IfOk};
-ghost use Rattle.lfm_thread_tests.specs.Places.{Of_shared};
+ghost use Rattle.lfm_thread_tests.specs.Places.{OfShared};
 
 use crate::condvar::dealing::{Left, shared_by};
 use crate::condvar::places::{Place, Shared};
@@ -22,8 +22,8 @@ const ALL_TURNS: u64 = 200;
 
 /// Waits until the number is even for the first side, or odd for the second. Each wait is ended by another thread's turn.
 fn wait_for_turn<R: Wait>(rt: &R, shared: &Shared, place: &mut Place, side: Side)
-    requires { Of_shared place.old shared.now }
-    ensures { Of_shared place.new shared.now }
+    requires { OfShared place.old shared.now }
+    ensures { OfShared place.new shared.now }
 {
     'waiting: for _ in 0..ALL_TURNS {
         if Side::of(place.number()) == side {
@@ -35,8 +35,8 @@ fn wait_for_turn<R: Wait>(rt: &R, shared: &Shared, place: &mut Place, side: Side
 
 /// One turn: adds 1 to the number, and wakes one of the other side.
 fn take_turn<R: Wait>(rt: &R, shared: &Shared, place: &mut Place, side: Side)
-    requires { Of_shared place.old shared.now }
-    ensures { Of_shared place.new shared.now }
+    requires { OfShared place.old shared.now }
+    ensures { OfShared place.new shared.now }
 {
     let _ = shared.lock(rt, place);
     wait_for_turn(rt, shared, place, side);
@@ -47,8 +47,8 @@ fn take_turn<R: Wait>(rt: &R, shared: &Shared, place: &mut Place, side: Side)
 
 /// All turns of one thread. Seats of even numbers take the even turns.
 fn take_turns<R: Wait>(rt: &R, shared: &Shared, mut place: Place) -> Place
-    requires { Of_shared place shared.now }
-    ensures { Of_shared result shared.now }
+    requires { OfShared place shared.now }
+    ensures { OfShared result shared.now }
 {
     let side = Side::of(place.seat.number().get());
     'turns: for _ in 0..TURNS {
@@ -63,15 +63,15 @@ fn take_all_turns<R: Threads + Wait + Sync>(
     shared: &Shared,
     places: Vec<Place>,
 ) -> Result<Vec<Place>, AllocError>
-    requires { All (λ p. Of_shared p shared.now) places.items }
-    ensures { IfOk result (λ v. All (λ p. Of_shared p shared.now) v.items) }
+    requires { All (λ p. OfShared p shared.now) places.items }
+    ensures { IfOk result (λ v. All (λ p. OfShared p shared.now) v.items) }
 {
     let places = thread::map_vec(
         rt,
         places,
         &|place: Place| -> Place
-            requires { Of_shared place shared.now }
-            ensures { Of_shared result shared.entry.now }
+            requires { OfShared place shared.now }
+            ensures { OfShared result shared.entry.now }
         { take_turns(rt, shared, place) },
     )?;
     Ok(places)

@@ -1,7 +1,7 @@
 //! One thread waits, and another wakes it.
 ghost use Rattle.std.specs.Prelude.{◌≤◌};
-ghost use Rattle.lfm_mutex.specs.Belongs.{Beside, Of_mutex, limits_of};
-ghost use Rattle.lfm_condvar.specs.Belongs.{Of_condvar, cond_limits};
+ghost use Rattle.lfm_mutex.specs.Belongs.{Beside, OfMutex, limits_of};
+ghost use Rattle.lfm_condvar.specs.Belongs.{OfCondvar, cond_limits};
 
 use crate::condvar::pairs::{closed, condvar_of_two, mutex_of_two};
 use crate::seeing::{holds, sees};
@@ -46,8 +46,8 @@ fn set(seat: &mut Seat<bool>)
 
 /// Reads the value under the mutex.
 fn read<R: Wait>(rt: &R, mutex: &Mutex<bool>, seat: &mut Seat<bool>) -> bool
-    requires { Of_mutex seat.old mutex.now }
-    ensures { Of_mutex seat.new mutex.now }
+    requires { OfMutex seat.old mutex.now }
+    ensures { OfMutex seat.new mutex.now }
 {
     let _ = mutex.lock(rt, seat);
     let value = seat.value().copied().unwrap_or(false);
@@ -63,10 +63,10 @@ fn wait<R: Wait>(
     mutex: &Mutex<bool>,
     seat: &mut Seat<bool>,
 ) -> Result<(How, u64), Refusal>
-    requires seat { Of_mutex seat.old mutex.now }
-    requires cond { Of_condvar cond.old condvar.now }
-    ensures seat { Of_mutex seat.new mutex.now }
-    ensures cond { Of_condvar cond.new condvar.now }
+    requires seat { OfMutex seat.old mutex.now }
+    requires cond { OfCondvar cond.old condvar.now }
+    ensures seat { OfMutex seat.new mutex.now }
+    ensures cond { OfCondvar cond.new condvar.now }
 {
     condvar.wait(rt, cond, mutex, seat)
 }
@@ -79,11 +79,11 @@ fn wake_one<R: Wait>(
     mutex: &Mutex<bool>,
     seat: &mut Seat<bool>,
 ) -> Result<Option<(SeatNo, u64)>, Refusal>
-    requires seat { Of_mutex seat.old mutex.now }
-    requires cond { Of_condvar cond.old condvar.now }
+    requires seat { OfMutex seat.old mutex.now }
+    requires cond { OfCondvar cond.old condvar.now }
     requires wide { (cond_limits condvar.now).seats ≤ (limits_of mutex.now).seats }
-    ensures seat { Of_mutex seat.new mutex.now }
-    ensures cond { Of_condvar cond.new condvar.now }
+    ensures seat { OfMutex seat.new mutex.now }
+    ensures cond { OfCondvar cond.new condvar.now }
 {
     condvar.wake_one(rt, cond, mutex, seat)
 }
@@ -96,11 +96,11 @@ fn wake_all<R: Wait>(
     mutex: &Mutex<bool>,
     seat: &mut Seat<bool>,
 ) -> Result<u64, Refusal>
-    requires seat { Of_mutex seat.old mutex.now }
-    requires cond { Of_condvar cond.old condvar.now }
+    requires seat { OfMutex seat.old mutex.now }
+    requires cond { OfCondvar cond.old condvar.now }
     requires wide { (cond_limits condvar.now).seats ≤ (limits_of mutex.now).seats }
-    ensures seat { Of_mutex seat.new mutex.now }
-    ensures cond { Of_condvar cond.new condvar.now }
+    ensures seat { OfMutex seat.new mutex.now }
+    ensures cond { OfCondvar cond.new condvar.now }
 {
     condvar.wake_all(rt, cond, mutex, seat)
 }
@@ -113,10 +113,10 @@ fn set_and_wait<R: Wait>(
     mut seat: Seat<bool>,
     mut cond: CondSeat,
 ) -> Waited
-    requires seat { Of_mutex seat mutex.now }
-    requires cond { Of_condvar cond condvar.now }
-    ensures seat { Of_mutex result.seat mutex.now }
-    ensures cond { Of_condvar result.cond condvar.now }
+    requires seat { OfMutex seat mutex.now }
+    requires cond { OfCondvar cond condvar.now }
+    ensures seat { OfMutex result.seat mutex.now }
+    ensures cond { OfCondvar result.cond condvar.now }
 {
     let _ = mutex.lock(rt, &mut seat);
     set(&mut seat);
@@ -142,11 +142,11 @@ fn read_and_wake<R: Wait>(
     mut seat: Seat<bool>,
     mut cond: CondSeat,
 ) -> Woke
-    requires seat { Of_mutex seat mutex.now }
-    requires cond { Of_condvar cond condvar.now }
+    requires seat { OfMutex seat mutex.now }
+    requires cond { OfCondvar cond condvar.now }
     requires wide { (cond_limits condvar.now).seats ≤ (limits_of mutex.now).seats }
-    ensures seat { Of_mutex result.seat mutex.now }
-    ensures cond { Of_condvar result.cond condvar.now }
+    ensures seat { OfMutex result.seat mutex.now }
+    ensures cond { OfCondvar result.cond condvar.now }
 {
     'reads: for _ in 0..MOST_READS {
         if read(rt, mutex, &mut seat) {
@@ -178,11 +178,11 @@ fn alone<R: Wait>(
     seat: &mut Seat<bool>,
     cond: &mut CondSeat,
 ) -> bool
-    requires seat { Of_mutex seat.old mutex.now }
-    requires cond { Of_condvar cond.old condvar.now }
+    requires seat { OfMutex seat.old mutex.now }
+    requires cond { OfCondvar cond.old condvar.now }
     requires wide { (cond_limits condvar.now).seats ≤ (limits_of mutex.now).seats }
-    ensures seat { Of_mutex seat.new mutex.now }
-    ensures cond { Of_condvar cond.new condvar.now }
+    ensures seat { OfMutex seat.new mutex.now }
+    ensures cond { OfCondvar cond.new condvar.now }
 {
     let one = matches!(wake_one(rt, condvar, cond, mutex, seat), Ok(None));
     let all = matches!(wake_all(rt, condvar, cond, mutex, seat), Ok(0));
@@ -215,12 +215,12 @@ fn a_condition_variable(rt: HostRuntime) -> Result<(), Fail> {
     let (woke, waited) = join(
         &rt,
         move || -> Woke
-            requires { Of_mutex seat_1 m.now × Of_condvar cond_1 v.now × (cond_limits v.now).seats ≤ (limits_of m.now).seats }
-            ensures { Of_mutex result.seat m.entry.now × Of_condvar result.cond v.entry.now }
+            requires { OfMutex seat_1 m.now × OfCondvar cond_1 v.now × (cond_limits v.now).seats ≤ (limits_of m.now).seats }
+            ensures { OfMutex result.seat m.entry.now × OfCondvar result.cond v.entry.now }
         { read_and_wake(r, m, v, seat_1, cond_1) },
         move || -> Waited
-            requires { Of_mutex seat_2 m.now × Of_condvar cond_2 v.now }
-            ensures { Of_mutex result.seat m.entry.now × Of_condvar result.cond v.entry.now }
+            requires { OfMutex seat_2 m.now × OfCondvar cond_2 v.now }
+            ensures { OfMutex result.seat m.entry.now × OfCondvar result.cond v.entry.now }
         { set_and_wait(r, m, v, seat_2, cond_2) },
     );
     one_wake_ended_the_wait(&rt, &woke, &waited);

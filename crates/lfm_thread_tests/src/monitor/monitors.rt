@@ -1,5 +1,5 @@
 //! The monitor, called by one thread that holds all its passes.
-ghost use Rattle.lfm_monitor.specs.Belongs.{Of_monitor};
+ghost use Rattle.lfm_monitor.specs.Belongs.{OfMonitor};
 ghost use Rattle.lfm_thread_tests.specs.Ours.{Ours};
 ghost use Rattle.std.specs.Prelude.{◌≡◌, [], IfSome};
 
@@ -22,10 +22,10 @@ fn kept_alone(
     second: Pass<Total>,
     mut room: Vec<Pass<Total>>,
 ) -> Option<(Monitor<Total>, Pass<Total>, Pass<Total>, Missing)>
-    requires first { Of_monitor first monitor }
-    requires second { Of_monitor second monitor }
+    requires first { OfMonitor first monitor }
+    requires second { OfMonitor second monitor }
     requires empty { room.items ≡ [] }
-    ensures { IfSome result (λ r. Of_monitor r.1 r.0 × Of_monitor r.2 r.0) }
+    ensures { IfSome result (λ r. OfMonitor r.1 r.0 × OfMonitor r.2 r.0) }
 {
     room.push(first).ok()?;
     let Err((monitor, passes, missing)) = monitor.close(room) else {
@@ -42,8 +42,8 @@ fn closed(
     second: Pass<Total>,
     mut room: Vec<Pass<Total>>,
 ) -> Option<(Total, Vec<Entry<TotalOp>>)>
-    requires first { Of_monitor first monitor }
-    requires second { Of_monitor second monitor }
+    requires first { OfMonitor first monitor }
+    requires second { OfMonitor second monitor }
     requires empty { room.items ≡ [] }
 {
     room.push(first).ok()?;

@@ -1,5 +1,5 @@
 //! A monitor is made, with one or two passes. No test stands here.
-ghost use Rattle.lfm_monitor.specs.Belongs.{Of_monitor};
+ghost use Rattle.lfm_monitor.specs.Belongs.{OfMonitor};
 ghost use Rattle.std.specs.Prelude.{◌≡◌, ℕ, IfSome};
 ghost use lib.ListN.{get_elem?};
 ghost use mathlib.Core.Option.{some};
@@ -15,7 +15,7 @@ pub fn opened(
     entries: u64,
     conditions: u64,
 ) -> Option<(Monitor<Total>, Vec<Pass<Total>>)>
-    ensures { IfSome result (λ r. (j : ℕ) (p : _) → get_elem? r.1.items j ≡ some p → Of_monitor p r.0) }
+    ensures { IfSome result (λ r. (j : ℕ) (p : _) → get_elem? r.1.items j ≡ some p → OfMonitor p r.0) }
 {
     let Ok((monitor, passes)) = Monitor::new(alloc, passes, entries, conditions, Total(0)) else {
         return None;
@@ -28,8 +28,8 @@ pub fn take_two(
     monitor: &Monitor<Total>,
     mut passes: Vec<Pass<Total>>,
 ) -> Option<(Pass<Total>, Pass<Total>)>
-    requires { (j : ℕ) (p : _) → get_elem? passes.items j ≡ some p → Of_monitor p monitor.now }
-    ensures { IfSome result (λ r. Of_monitor r.0 monitor.now × Of_monitor r.1 monitor.now) }
+    requires { (j : ℕ) (p : _) → get_elem? passes.items j ≡ some p → OfMonitor p monitor.now }
+    ensures { IfSome result (λ r. OfMonitor r.0 monitor.now × OfMonitor r.1 monitor.now) }
 {
     let _monitor = monitor;
     let second = passes.pop()?;
@@ -39,8 +39,8 @@ pub fn take_two(
 
 /// The pass of a monitor that has one.
 pub fn take_one(monitor: &Monitor<Total>, mut passes: Vec<Pass<Total>>) -> Option<Pass<Total>>
-    requires { (j : ℕ) (p : _) → get_elem? passes.items j ≡ some p → Of_monitor p monitor.now }
-    ensures { IfSome result (λ p. Of_monitor p monitor.now) }
+    requires { (j : ℕ) (p : _) → get_elem? passes.items j ≡ some p → OfMonitor p monitor.now }
+    ensures { IfSome result (λ p. OfMonitor p monitor.now) }
 {
     let _monitor = monitor;
     let pass = passes.pop()?;

@@ -1,7 +1,7 @@
 //! Two threads put 400 numbers into a slot, and two take them out. A monitor with two conditions guards the slot: who
 //! finds it full, or empty, waits on one of them. Each thread ends when it has moved its share.
 ghost use Rattle.std.specs.Prelude.{All, IfOk};
-ghost use Rattle.lfm_monitor.specs.Belongs.{Of_monitor};
+ghost use Rattle.lfm_monitor.specs.Belongs.{OfMonitor};
 
 use crate::monitor::slot::{Slot, SlotOp, SlotReply};
 use lfm_model::{Refusal, lawful, replay};
@@ -37,8 +37,8 @@ fn make<R: Wait>(
     op: SlotOp,
     condition: u64,
 ) -> Result<(), Refusal>
-    requires { Of_monitor pass.old monitor.now }
-    ensures { Of_monitor pass.new monitor.now }
+    requires { OfMonitor pass.old monitor.now }
+    ensures { OfMonitor pass.new monitor.now }
 {
     'tries: for _ in rt.forever() {
         match monitor.apply(pass, op)? {
@@ -59,8 +59,8 @@ fn make_and_wake<R: Wait>(
     waits_on: u64,
     wakes: u64,
 ) -> Result<(), Refusal>
-    requires { Of_monitor pass.old monitor.now }
-    ensures { Of_monitor pass.new monitor.now }
+    requires { OfMonitor pass.old monitor.now }
+    ensures { OfMonitor pass.new monitor.now }
 {
     monitor.enter(rt, pass)?;
     make(rt, monitor, pass, op, waits_on)?;
@@ -77,8 +77,8 @@ fn move_pair<R: Wait>(
     pass: &mut Pass<Slot>,
     turn: u64,
 ) -> Result<(), Refusal>
-    requires { Of_monitor pass.old monitor.now }
-    ensures { Of_monitor pass.new monitor.now }
+    requires { OfMonitor pass.old monitor.now }
+    ensures { OfMonitor pass.new monitor.now }
 {
     let number = pass.number().get();
     if number > 2 {
@@ -91,8 +91,8 @@ fn move_pair<R: Wait>(
 
 /// All that one pass moves.
 fn work<R: Wait>(rt: &R, monitor: &Monitor<Slot>, mut pass: Pass<Slot>) -> Pass<Slot>
-    requires { Of_monitor pass monitor.now }
-    ensures { Of_monitor result monitor.now }
+    requires { OfMonitor pass monitor.now }
+    ensures { OfMonitor result monitor.now }
 {
     'turns: for turn in 0..PAIRS {
         if move_pair(rt, monitor, &mut pass, turn).is_err() {
@@ -108,15 +108,15 @@ fn work_all<R: Threads + Wait + Sync>(
     monitor: &Monitor<Slot>,
     passes: Vec<Pass<Slot>>,
 ) -> Result<Vec<Pass<Slot>>, AllocError>
-    requires { All (λ p. Of_monitor p monitor.now) passes.items }
-    ensures { IfOk result (λ v. All (λ p. Of_monitor p monitor.now) v.items) }
+    requires { All (λ p. OfMonitor p monitor.now) passes.items }
+    ensures { IfOk result (λ v. All (λ p. OfMonitor p monitor.now) v.items) }
 {
     let passes = thread::map_vec(
         rt,
         passes,
         &|pass: Pass<Slot>| -> Pass<Slot>
-            requires { Of_monitor pass monitor.now }
-            ensures { Of_monitor result monitor.entry.now }
+            requires { OfMonitor pass monitor.now }
+            ensures { OfMonitor result monitor.entry.now }
         { work(rt, monitor, pass) },
     )?;
     Ok(passes)

@@ -1,7 +1,7 @@
 //! How a schedule is driven through the core's state and through a running mutex, where each line stands beside the turn that
 //! it is to end with. No test stands here.
 ghost use Rattle.std.specs.Prelude.{All};
-ghost use Rattle.lfm_mutex.specs.Belongs.{Of_mutex};
+ghost use Rattle.lfm_mutex.specs.Belongs.{OfMutex};
 
 use lfm_core::{Line, State, Turn, read_schedule, run};
 use lfm_mutex::{Mutex, Seat};
@@ -30,7 +30,7 @@ fn drives_as(
     lines: &[Line],
     expected: &[Driven],
 ) -> bool
-    requires { All (λ s. Of_mutex s mutex.now) seats.old }
+    requires { All (λ s. OfMutex s mutex.now) seats.old }
 {
     let mut as_expected = lines.len() == expected.len();
     'driving: for (index, line) in lines.iter().enumerate() {

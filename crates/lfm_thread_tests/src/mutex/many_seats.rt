@@ -1,6 +1,6 @@
 //! A mutex of as many seats as there may be, each with the greatest budget.
 ghost use Rattle.std.specs.Prelude.{◌≡◌, ◌<◌, All, vec_len};
-ghost use Rattle.lfm_mutex.specs.Belongs.{Beside, Of_mutex};
+ghost use Rattle.lfm_mutex.specs.Belongs.{Beside, OfMutex};
 
 use crate::seeing::sees;
 use lfm_core::{MAX_BUDGET, MAX_SEATS};
@@ -21,8 +21,8 @@ type Answers = (
 /// `ask` of the seat at a place.
 fn ask(mutex: &Mutex<u64>, seats: &mut Vec<Seat<u64>>, at: usize) -> Result<Asked, Refusal>
     requires at { at < vec_len seats.old }
-    requires belong { All (λ s. Of_mutex s mutex.now) seats.old.items }
-    ensures belong { All (λ s. Of_mutex s mutex.now) seats.new.items }
+    requires belong { All (λ s. OfMutex s mutex.now) seats.old.items }
+    ensures belong { All (λ s. OfMutex s mutex.now) seats.new.items }
     ensures all { vec_len seats.new ≡ vec_len seats.old }
 {
     mutex.ask(&mut seats[at])
@@ -31,8 +31,8 @@ fn ask(mutex: &Mutex<u64>, seats: &mut Vec<Seat<u64>>, at: usize) -> Result<Aske
 /// `unlock` of the seat at a place.
 fn unlock(mutex: &Mutex<u64>, seats: &mut Vec<Seat<u64>>, at: usize) -> Result<Unlocked, Refusal>
     requires at { at < vec_len seats.old }
-    requires belong { All (λ s. Of_mutex s mutex.now) seats.old.items }
-    ensures belong { All (λ s. Of_mutex s mutex.now) seats.new.items }
+    requires belong { All (λ s. OfMutex s mutex.now) seats.old.items }
+    ensures belong { All (λ s. OfMutex s mutex.now) seats.new.items }
     ensures all { vec_len seats.new ≡ vec_len seats.old }
 {
     mutex.unlock(&mut seats[at])
@@ -45,8 +45,8 @@ fn try_receive(
     at: usize,
 ) -> Result<Option<How>, Refusal>
     requires at { at < vec_len seats.old }
-    requires belong { All (λ s. Of_mutex s mutex.now) seats.old.items }
-    ensures belong { All (λ s. Of_mutex s mutex.now) seats.new.items }
+    requires belong { All (λ s. OfMutex s mutex.now) seats.old.items }
+    ensures belong { All (λ s. OfMutex s mutex.now) seats.new.items }
     ensures all { vec_len seats.new ≡ vec_len seats.old }
 {
     mutex.try_receive(&mut seats[at])
@@ -55,8 +55,8 @@ fn try_receive(
 /// The last seat gains the mutex, seat 1 queues and is granted it, and releases it.
 fn hand_over(mutex: &Mutex<u64>, seats: &mut Vec<Seat<u64>>) -> Answers
     requires all { vec_len seats.old ≡ 4095 }
-    requires belong { All (λ s. Of_mutex s mutex.now) seats.old.items }
-    ensures { All (λ s. Of_mutex s mutex.now) seats.new.items }
+    requires belong { All (λ s. OfMutex s mutex.now) seats.old.items }
+    ensures { All (λ s. OfMutex s mutex.now) seats.new.items }
 {
     let held = ask(mutex, seats, 4_094);
     let asleep = ask(mutex, seats, 0);

@@ -1,6 +1,6 @@
 //! A thread that has to wait long sleeps: it takes hardly any processor time.
 ghost use Rattle.std.specs.Prelude.{All, IfOk};
-ghost use Rattle.lfm_mutex.specs.Belongs.{Beside, Of_mutex};
+ghost use Rattle.lfm_mutex.specs.Belongs.{Beside, OfMutex};
 
 use lfm_mutex::{Mutex, Seat};
 use std::alloc::AllocError;
@@ -31,7 +31,7 @@ struct Report {
 
 /// Holds the mutex a while after both threads have come to the barrier.
 fn hold<R: Wait + Clock>(rt: &R, mutex: &Mutex<u64>, seat: &mut Seat<u64>, both: &Barrier)
-    requires { Of_mutex seat.old mutex.now }
+    requires { OfMutex seat.old mutex.now }
 {
     let _ = mutex.lock(rt, seat);
     both.wait(rt);
@@ -54,7 +54,7 @@ fn wait<R: Wait + Clock + CpuClock>(
     seat: &mut Seat<u64>,
     both: &Barrier,
 ) -> Report
-    requires { Of_mutex seat.old mutex.now }
+    requires { OfMutex seat.old mutex.now }
 {
     both.wait(rt);
     let (began, busy) = (time_now(rt), busy_until_now(rt));
@@ -73,7 +73,7 @@ fn take_part<R: Wait + Clock + CpuClock>(
     mut seat: Seat<u64>,
     both: &Barrier,
 ) -> Option<Report>
-    requires { Of_mutex seat mutex.now }
+    requires { OfMutex seat mutex.now }
 {
     if seat.number().get() == 1 {
         hold(rt, mutex, &mut seat, both);
@@ -88,7 +88,7 @@ fn reports<R: Threads + Wait + Clock + CpuClock + Sync>(
     mutex: &Mutex<u64>,
     seats: Vec<Seat<u64>>,
 ) -> Result<Vec<Option<Report>>, AllocError>
-    requires { All (λ s. Of_mutex s mutex.now) seats.items }
+    requires { All (λ s. OfMutex s mutex.now) seats.items }
 {
     let both = Barrier::new(2);
     thread::map_vec(rt, seats, &|seat| take_part(rt, mutex, seat, &both))

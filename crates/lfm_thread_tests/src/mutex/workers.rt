@@ -1,6 +1,6 @@
 //! Threads that try and lock one mutex, each with a seat of its own: no addition is lost.
 ghost use Rattle.std.specs.Prelude.{All, IfOk};
-ghost use Rattle.lfm_mutex.specs.Belongs.{Beside, Of_mutex};
+ghost use Rattle.lfm_mutex.specs.Belongs.{Beside, OfMutex};
 
 use crate::seeing::{holds, sees};
 use lfm_model::{Locked, Refusal};
@@ -45,8 +45,8 @@ fn add_one(seat: &mut Seat<u64>)
 
 /// Tries so often. Each hold adds 1 to the value.
 fn try_times(mutex: &Mutex<u64>, mut seat: Seat<u64>, times: u64) -> Worker
-    requires belongs { Of_mutex seat mutex.now }
-    ensures { Of_mutex result.seat mutex.now }
+    requires belongs { OfMutex seat mutex.now }
+    ensures { OfMutex result.seat mutex.now }
 {
     let mut holds = 0u64;
     'trying: for _ in 0..times {
@@ -62,8 +62,8 @@ fn try_times(mutex: &Mutex<u64>, mut seat: Seat<u64>, times: u64) -> Worker
 
 /// Locks so often, and then once more, which must be refused. Each hold adds 1 to the value.
 fn lock_times<R: Wait>(rt: &R, mutex: &Mutex<u64>, mut seat: Seat<u64>, times: u64) -> Worker
-    requires belongs { Of_mutex seat mutex.now }
-    ensures { Of_mutex result.seat mutex.now }
+    requires belongs { OfMutex seat mutex.now }
+    ensures { OfMutex result.seat mutex.now }
 {
     let mut holds = 0u64;
     'locking: for _ in 0..times {
@@ -85,8 +85,8 @@ fn try_in_threads<R: Threads + Sync>(
     seats: Vec<Seat<u64>>,
     times: u64,
 ) -> Result<Vec<Worker>, AllocError>
-    requires { All (λ s. Of_mutex s mutex.now) seats.items }
-    ensures { IfOk result (λ v. All (λ w. Of_mutex w.seat mutex.now) v.items) }
+    requires { All (λ s. OfMutex s mutex.now) seats.items }
+    ensures { IfOk result (λ v. All (λ w. OfMutex w.seat mutex.now) v.items) }
 {
     thread::map_vec(rt, seats, &|seat| try_times(mutex, seat, times))
 }
@@ -98,8 +98,8 @@ fn lock_in_threads<R: Threads + Wait + Sync>(
     seats: Vec<Seat<u64>>,
     times: u64,
 ) -> Result<Vec<Worker>, AllocError>
-    requires { All (λ s. Of_mutex s mutex.now) seats.items }
-    ensures { IfOk result (λ v. All (λ w. Of_mutex w.seat mutex.now) v.items) }
+    requires { All (λ s. OfMutex s mutex.now) seats.items }
+    ensures { IfOk result (λ v. All (λ w. OfMutex w.seat mutex.now) v.items) }
 {
     thread::map_vec(rt, seats, &|seat| lock_times(rt, mutex, seat, times))
 }

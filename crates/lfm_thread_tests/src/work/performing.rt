@@ -1,6 +1,6 @@
 //! The commands of one worker, made in the thread that holds its pass.
-ghost use Rattle.lfm_monitor.specs.Belongs.{Of_monitor};
-ghost use Rattle.lfm_program.specs.Workers.{Ready_for};
+ghost use Rattle.lfm_monitor.specs.Belongs.{OfMonitor};
+ghost use Rattle.lfm_program.specs.Workers.{ReadyFor};
 ghost use Rattle.std.specs.Prelude.{◌≡◌, ℕ, [], IfSome};
 ghost use lib.ListN.{get_elem?};
 ghost use mathlib.Core.Option.{some};
@@ -27,7 +27,7 @@ fn opened(
     entries: u64,
     conditions: u64,
 ) -> Option<(Monitor<Total>, Vec<Pass<Total>>)>
-    ensures { IfSome result (λ r. (j : ℕ) (p : _) → get_elem? r.1.items j ≡ some p → Ready_for r.0 p) }
+    ensures { IfSome result (λ r. (j : ℕ) (p : _) → get_elem? r.1.items j ≡ some p → ReadyFor r.0 p) }
 {
     let Ok((monitor, passes)) = Monitor::new(alloc, passes, entries, conditions, Total(0)) else {
         return None;
@@ -43,16 +43,16 @@ fn performed<R: Wait, G: Gate>(
     commands: &[Command],
     gate: &G,
 ) -> Performed
-    requires { Ready_for monitor.now pass.old }
-    ensures { Ready_for monitor.now pass.new }
+    requires { ReadyFor monitor.now pass.old }
+    ensures { ReadyFor monitor.now pass.new }
 {
     perform(rt, monitor, pass, commands, gate)
 }
 
 /// The pass of a monitor that has one.
 fn take_one(monitor: &Monitor<Total>, mut passes: Vec<Pass<Total>>) -> Option<Pass<Total>>
-    requires { (j : ℕ) (p : _) → get_elem? passes.items j ≡ some p → Ready_for monitor.now p }
-    ensures { IfSome result (λ p. Ready_for monitor.now p) }
+    requires { (j : ℕ) (p : _) → get_elem? passes.items j ≡ some p → ReadyFor monitor.now p }
+    ensures { IfSome result (λ p. ReadyFor monitor.now p) }
 {
     let _monitor = monitor;
     let pass = passes.pop()?;
@@ -64,8 +64,8 @@ fn take_two(
     monitor: &Monitor<Total>,
     mut passes: Vec<Pass<Total>>,
 ) -> Option<(Pass<Total>, Pass<Total>)>
-    requires { (j : ℕ) (p : _) → get_elem? passes.items j ≡ some p → Ready_for monitor.now p }
-    ensures { IfSome result (λ r. Ready_for monitor.now r.0 × Ready_for monitor.now r.1) }
+    requires { (j : ℕ) (p : _) → get_elem? passes.items j ≡ some p → ReadyFor monitor.now p }
+    ensures { IfSome result (λ r. ReadyFor monitor.now r.0 × ReadyFor monitor.now r.1) }
 {
     let _monitor = monitor;
     let second = passes.pop()?;
@@ -75,7 +75,7 @@ fn take_two(
 
 /// Hands the pass back: returns what the monitor is closed with.
 fn closed(monitor: Monitor<Total>, pass: Pass<Total>, mut room: Vec<Pass<Total>>) -> Option<Total>
-    requires belongs { Of_monitor pass monitor }
+    requires belongs { OfMonitor pass monitor }
     requires empty { room.items ≡ [] }
 {
     room.push(pass).ok()?;
@@ -91,10 +91,10 @@ fn perform_in_turn<R: Wait>(
     second: &mut Pass<Total>,
     waiter_first: bool,
 ) -> (Performed, Performed)
-    requires first { Ready_for monitor.now first.old }
-    requires second { Ready_for monitor.now second.old }
-    ensures first { Ready_for monitor.now first.new }
-    ensures second { Ready_for monitor.now second.new }
+    requires first { ReadyFor monitor.now first.old }
+    requires second { ReadyFor monitor.now second.old }
+    ensures first { ReadyFor monitor.now first.new }
+    ensures second { ReadyFor monitor.now second.new }
 {
     let gate = Meet::new(TURNS);
     if waiter_first {
@@ -115,8 +115,8 @@ fn both_closed(
     second: Pass<Total>,
     mut room: Vec<Pass<Total>>,
 ) -> Option<(Total, Vec<Entry<TotalOp>>)>
-    requires first { Of_monitor first monitor }
-    requires second { Of_monitor second monitor }
+    requires first { OfMonitor first monitor }
+    requires second { OfMonitor second monitor }
     requires empty { room.items ≡ [] }
 {
     room.push(first).ok()?;

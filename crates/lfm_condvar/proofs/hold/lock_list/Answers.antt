@@ -1,12 +1,12 @@
 use Rattle.lfm_mutex.specs.Belongs.{limits_of}
-use Rattle.lfm_mutex.specs.calls.Sight.{Sight, sight, Locks_waiting}
-use Rattle.lfm_condvar.proofs.OneHold.{Fits, got}
+use Rattle.lfm_mutex.specs.calls.Sight.{Sight, sight, LocksWaiting}
+use Rattle.lfm_condvar.proofs.OneHold.{WaitersFit, got}
 use Rattle.std.proofs.Common.{◌≡◌, ◌≤◌, ℕ, Err, refl, sym, ◌∙◌, arith}
 use Rattle.lfm_model.specs.declared.refusals.Refusal.{Refusal}
 use Rattle.lfm_model.specs.declared.refusals.Refusal.TheVariants.{Asleep, NotOwner, Nested, DepthFull, Spent, NoSuchSeat, NotWaiting, Busy}
 use Rattle.lfm_condvar.specs.declared.waiters.Waiters.{Waiters}
-use Rattle.lfm_condvar.specs.Holds.{Cond_kept}
-use Rattle.lfm_condvar.specs.Keeping.{Follows}
+use Rattle.lfm_condvar.specs.Holds.{CondKept}
+use Rattle.lfm_condvar.specs.Keeping.{WaitersFollow}
 use Rattle.lfm_condvar.proofs.hold.lock_list.Goals as goal
 
 pub returns-clause-held : goal.returns-clause-held
@@ -16,7 +16,7 @@ pub returns-clause-steps : goal.returns-clause-steps
 returns-clause-steps g c = (c.in-Held.field-0, rw c.in-Held.is at c.in-Ok.ensures.steps)
 
 -- a cond seat is awake and doesn't hold, so its lock is refused as Spent alone
-spent_alone : (budget : ℕ) (s t : Sight Waiters) (r : Refusal) → Cond_kept s → Locks_waiting Follows Fits budget s t (Err r) → (r ≡ Spent) × (budget ≤ s.takes) × (t ≡ s)
+spent_alone : (budget : ℕ) (s t : Sight Waiters) (r : Refusal) → CondKept s → LocksWaiting WaitersFollow WaitersFit budget s t (Err r) → (r ≡ Spent) × (budget ≤ s.takes) × (t ≡ s)
 spent_alone budget s t Spent kept e = (refl, e.0.2, e.1)
 spent_alone budget s t Asleep kept e = let no = sym kept.awake ∙ e.0 in cc
 spent_alone budget s t DepthFull kept e = let out = kept.out in let full = e.0.1 in absurd (omega arith)

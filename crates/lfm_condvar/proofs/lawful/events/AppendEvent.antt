@@ -10,7 +10,7 @@ use Rattle.lfm_core.proofs.steady.frames.Sums.{changed_same, changed_other}
 use Rattle.lfm_condvar.specs.laws.Condvars.{Condvar, locking_to_wait, starting, CondvarCore, put_stage, put_holder, is_listed}
 use Rattle.lfm_condvar.specs.laws.Events.{enlisted, enlists, takes_lock}
 use Rattle.lfm_condvar.proofs.lawful.Invariant.{CondvarGhost, CoreFits, claims_told}
-use Rattle.lfm_condvar.proofs.lawful.Outcomes.{Outcome, append_none, OneCondvar, condvar_stays}
+use Rattle.lfm_condvar.proofs.lawful.Outcomes.{CondvarOutcome, append_none, OneCondvar, condvar_stays}
 use Rattle.lfm_condvar.proofs.lawful.events.MutexEvents.{not_pending, stays}
 use Rattle.lfm_condvar.proofs.lawful.Tickets.{waiters_of, waiters_agree, waiter_with, one_more, not_listed}
 use Rattle.lfm_condvar.proofs.lawful.mutex.MutexMoves.{begin_moves, seat_after}
@@ -80,7 +80,7 @@ appended_condvar k l g h s v fits at own is early now counted =
 appended_outcome : (k : CondvarCore) (g : CondvarGhost) (s v : ℕ) → CoreFits k g → k.stage s ≡ locking_to_wait v
     → (k.condvar v).holder ≡ 0
     → (f : ℕ → Condvar) → f v ≡ record (enlisted (k.condvar v) s) { holder = s } → ((w : ℕ) → w ≢ v → f w ≡ k.condvar w)
-    → Outcome (put_stage (record { mutex = (begin k.mutex s StartWait).core; condvar = f; stage = k.stage }) s
+    → CondvarOutcome (put_stage (record { mutex = (begin k.mutex s StartWait).core; condvar = f; stage = k.stage }) s
     (starting v ((k.condvar v).added + 1))) g []
 appended_outcome k g s v fits stage free f at_v at_others =
     let d = (begin k.mutex s StartWait).core in
@@ -158,7 +158,7 @@ abbrev taken : CondvarCore → ℕ → ℕ → Condvar
 taken k s v = record (k.condvar v) { holder = s }
 
 pub at_locking_to_wait : (k : CondvarCore) (g : CondvarGhost) (s v : ℕ) → CoreFits k g → k.stage s ≡ locking_to_wait v
-    → Outcome (takes_lock k v (enlists (put_holder k v s) s v)) g []
+    → CondvarOutcome (takes_lock k v (enlists (put_holder k v s) s v)) g []
 at_locking_to_wait k g s v fits stage =
     elim (cases_eq (k.condvar v).holder 0) [
       | inr held ↦ rw (ne_eqb (k.condvar v).holder 0 held) (stays k g fits)

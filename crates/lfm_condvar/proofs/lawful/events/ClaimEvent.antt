@@ -11,7 +11,7 @@ use Rattle.lfm_condvar.specs.laws.Condvars.{Waiter, starting, receiving, claimin
 use Rattle.lfm_condvar.specs.laws.Claims.{Claim, claim_of, claimed_at, claims_on}
 use Rattle.lfm_condvar.specs.laws.Events.{claims_waiter}
 use Rattle.lfm_condvar.proofs.lawful.Invariant.{CondvarGhost, ReceivingFits, ClaimingFits, CoreFits, claims_told}
-use Rattle.lfm_condvar.proofs.lawful.Outcomes.{Outcome, append_none}
+use Rattle.lfm_condvar.proofs.lawful.Outcomes.{CondvarOutcome, append_none}
 use Rattle.lfm_condvar.proofs.lawful.events.MutexEvents.{not_pending}
 use Rattle.lfm_condvar.proofs.lawful.Tickets.{waiters_of, waiter_with, one_more}
 use Rattle.lfm_condvar.proofs.lawful.mutex.MutexMoves.{made_leaves, step_is_made, seat_after}
@@ -83,7 +83,7 @@ claimed_wakes k g s v t w n oldest fits own target before other within word =
 
 claimed_outcome : (k : CondvarCore) (g : CondvarGhost) (s v : ℕ) (all : Bool) (oldest : Waiter) → CoreFits k g
     → k.stage s ≡ claiming v all oldest → ClaimingFits k g s v oldest
-    → Outcome (put_stage (put_mutex k (made k.mutex s).core) s (sending v all oldest)) g (claim_with v oldest ∷ [])
+    → CondvarOutcome (put_stage (put_mutex k (made k.mutex s).core) s (sending v all oldest)) g (claim_with v oldest ∷ [])
 claimed_outcome k g s v all oldest fits stage own =
     let d = (made k.mutex s).core in
     let x = k.condvar v in
@@ -173,7 +173,7 @@ claimed_outcome k g s v all oldest fits stage own =
 
 pub at_claiming : (k : CondvarCore) (g : CondvarGhost) (s v : ℕ) (all : Bool) (oldest : Waiter) → CoreFits k g
     → k.stage s ≡ claiming v all oldest → ClaimingFits k g s v oldest
-    → Outcome (claims_waiter k s v all oldest) g (claimed_at k s (claiming v all oldest))
+    → CondvarOutcome (claims_waiter k s v all oldest) g (claimed_at k s (claiming v all oldest))
 at_claiming k g s v all oldest fits stage own =
     let target = target_of k g s v all oldest fits stage own in
     let opens = claim_turn k.mutex s oldest.seat own.locks.is own.at target.word in

@@ -14,7 +14,7 @@ use Rattle.lfm_core.proofs.steady.frames.Sums.{changed_same, changed_other}
 use Rattle.lfm_condvar.specs.laws.Condvars.{Waiter, Condvar, Stage, outside, starting, receiving, locking_to_wake, claiming, sending, unlocking, CondvarCore, point_of, put_stage, put_mutex, put_condvar, put_holder}
 use Rattle.lfm_condvar.specs.laws.Events.{gives_back, sends_next, removed, removes, takes_lock}
 use Rattle.lfm_condvar.proofs.lawful.Invariant.{CondvarGhost, StartingFits, SendingFits, UnlockingFits, LockingToWakeFits, IsPending, CoreFits}
-use Rattle.lfm_condvar.proofs.lawful.Outcomes.{Outcome, quiet_outcome, OneCondvar, CondvarMoves, moves_one}
+use Rattle.lfm_condvar.proofs.lawful.Outcomes.{CondvarOutcome, quiet_outcome, OneCondvar, CondvarMoves, moves_one}
 use Rattle.lfm_condvar.proofs.lawful.events.MutexEvents.{has_ticket, not_pending, stays}
 use Rattle.lfm_condvar.proofs.lawful.Tickets.{waiters_of, oldest_waiter}
 use Rattle.lfm_condvar.proofs.lawful.mutex.MutexMoves.{moves_not, begin_moves, seat_after}
@@ -63,7 +63,7 @@ started_pending k l s v ticket w y before after word (inr waits) =
 pub wait_gives_back : (k : CondvarCore) (g : CondvarGhost) (s v ticket : ℕ) → CoreFits k g → k.stage s ≡ starting v ticket
     → StartingFits k g s v ticket
     → point_of k s ≡ Asleep Sleeper.Waiter → wake k.mutex.wakes s ≡ Waiting
-    → Outcome (put_stage (gives_back k v) s (receiving v ticket)) g []
+    → CondvarOutcome (put_stage (gives_back k v) s (receiving v ticket)) g []
 wait_gives_back k g s v ticket fits stage own at word =
     let one = one_condvar k k.mutex s v (freed (k.condvar v)) (receiving v ticket) in
     let size = ap (λ x. x.added) one.here in
@@ -82,7 +82,7 @@ wait_gives_back k g s v ticket fits stage own at word =
     (receiving v ticket)) s v ticket w y stage one.own word pending))
 
 pub at_unlocking : (k : CondvarCore) (g : CondvarGhost) (s v : ℕ) → CoreFits k g → k.stage s ≡ unlocking v → UnlockingFits k g s v
-    → Outcome (put_stage (gives_back k v) s outside) g []
+    → CondvarOutcome (put_stage (gives_back k v) s outside) g []
 at_unlocking k g s v fits stage own =
     let one = one_condvar k k.mutex s v (freed (k.condvar v)) outside in
     let m = moves_not k.mutex g.mutex s fits.mutex in
@@ -117,7 +117,7 @@ pub record NextFits (k : CondvarCore) (g : CondvarGhost) (s v : ℕ) (x : Condva
 
 next_none : (k : CondvarCore) (g : CondvarGhost) (s v : ℕ) (x : Condvar) (d : Stage) → CoreFits k g → k.stage s ≡ d
     → has_ticket d ≡ false → NextFits k g s v x
-    → Outcome (put_stage (put_condvar k v x) s (unlocking v)) g []
+    → CondvarOutcome (put_stage (put_condvar k v x) s (unlocking v)) g []
 next_none k g s v x d fits stage none next =
     let one = one_condvar k k.mutex s v x (unlocking v) in
     let m = moves_not k.mutex g.mutex s fits.mutex in
@@ -131,7 +131,7 @@ next_none k g s v x d fits stage none next =
 
 next_waiter : (k : CondvarCore) (g : CondvarGhost) (s v : ℕ) (x : Condvar) (d : Stage) (all : Bool) (oldest : Waiter) (rest : List Waiter)
     → CoreFits k g → k.stage s ≡ d → has_ticket d ≡ false → NextFits k g s v x
-    → x.waiters ≡ oldest ∷ rest → Outcome (sends_next (put_condvar k v x) s v all (oldest ∷ rest)) g []
+    → x.waiters ≡ oldest ∷ rest → CondvarOutcome (sends_next (put_condvar k v x) s v all (oldest ∷ rest)) g []
 next_waiter k g s v x d all oldest rest fits stage none next waiters =
     let is_oldest = oldest_waiter (g.given v) x.sent (x.added - x.sent) oldest rest (sym waiters ∙ next.moves.waiters) in
     let some : x.sent < x.added = omega (arith, is_oldest.some) in
@@ -158,7 +158,7 @@ next_waiter k g s v x d all oldest rest fits stage none next waiters =
 
 pub next_fits : (k : CondvarCore) (g : CondvarGhost) (s v : ℕ) (x : Condvar) (d : Stage) (all : Bool) (waiters : List Waiter)
     → CoreFits k g → k.stage s ≡ d → has_ticket d ≡ false → NextFits k g s v x
-    → x.waiters ≡ waiters → Outcome (sends_next (put_condvar k v x) s v all waiters) g []
+    → x.waiters ≡ waiters → CondvarOutcome (sends_next (put_condvar k v x) s v all waiters) g []
 next_fits k g s v x d all [] fits stage none next waiters = next_none k g s v x d fits stage none next
 next_fits k g s v x d all (oldest ∷ rest) fits stage none next waiters =
     next_waiter k g s v x d all oldest rest fits stage none next waiters
@@ -167,7 +167,7 @@ next_fits k g s v x d all (oldest ∷ rest) fits stage none next waiters =
 
 pub at_locking_to_wake : (k : CondvarCore) (g : CondvarGhost) (s v : ℕ) (all : Bool) → CoreFits k g
     → k.stage s ≡ locking_to_wake v all → LockingToWakeFits k s
-    → Outcome (takes_lock k v (sends_next (put_holder k v s) s v all (k.condvar v).waiters)) g []
+    → CondvarOutcome (takes_lock k v (sends_next (put_holder k v s) s v all (k.condvar v).waiters)) g []
 at_locking_to_wake k g s v all fits stage own =
     elim (cases_eq (k.condvar v).holder 0) [
       | inr held ↦ rw (ne_eqb (k.condvar v).holder 0 held) (stays k g fits)
@@ -209,7 +209,7 @@ removed_moves k g s v fits own =
 
 pub at_removes : (k : CondvarCore) (g : CondvarGhost) (s v : ℕ) (all : Bool) (oldest : Waiter) → CoreFits k g
     → k.stage s ≡ sending v all oldest → SendingFits k g s v
-    → is_call (point_of k s) ≡ false → Outcome (removes k s v all) g []
+    → is_call (point_of k s) ≡ false → CondvarOutcome (removes k s v all) g []
 at_removes k g s v all oldest fits stage own over =
     let next : NextFits k g s v (removed (k.condvar v)) =
     record {

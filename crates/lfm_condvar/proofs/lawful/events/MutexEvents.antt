@@ -13,7 +13,7 @@ use Rattle.lfm_core.proofs.steady.frames.Seated.{seat_of_test}
 use Rattle.lfm_condvar.specs.laws.Condvars.{Waiter, Stage, outside, locking_to_wait, starting, receiving, locking_to_wake, sending, CondvarCore, point_of, put_stage, put_mutex}
 use Rattle.lfm_condvar.specs.laws.Events.{mutex_steps, is_own_call, is_outside, is_rest, begins_call, begins_wait, begins_wake, receives_at}
 use Rattle.lfm_condvar.proofs.lawful.Invariant.{CondvarGhost, is_of_condvar, comes_to_hold, waits_at, Locks, StartingFits, ReceivingFits, SendingFits, IsPending, CoreFits}
-use Rattle.lfm_condvar.proofs.lawful.Outcomes.{Outcome, quiet_outcome, with_mutex, append_none, moves_mutex, moves_stage}
+use Rattle.lfm_condvar.proofs.lawful.Outcomes.{CondvarOutcome, quiet_outcome, with_mutex, append_none, moves_mutex, moves_stage}
 use Rattle.lfm_condvar.proofs.lawful.mutex.MutexMoves.{MutexMoves, step_moves, begin_moves, seat_after, step_is_made}
 use Rattle.lfm_condvar.proofs.lawful.mutex.OwnSeat.{outside_unclaimed, sends_unclaimed, waits_unclaimed, at_rest, step_outside, made_sending, begin_outside}
 use Rattle.lfm_condvar.proofs.lawful.points.ReceivePoints.{receives_unclaimed, receives_unstarted, step_receives, begin_receives}
@@ -37,12 +37,12 @@ is_none outside e = refl
 is_none _ e = absurd (false≢true e)
 
 -- nothing has changed
-pub stays : (k : CondvarCore) (g : CondvarGhost) → CoreFits k g → Outcome k g []
+pub stays : (k : CondvarCore) (g : CondvarGhost) → CoreFits k g → CondvarOutcome k g []
 stays k g fits = record { to = g; fits = fits; history = λ v. append_none _ }
 
 -- Outside of condvars
 
-pub at_begins : (k : CondvarCore) (g : CondvarGhost) (s : ℕ) (call : Call) → CoreFits k g → Outcome (begins_call k s call) g []
+pub at_begins : (k : CondvarCore) (g : CondvarGhost) (s : ℕ) (call : Call) → CoreFits k g → CondvarOutcome (begins_call k s call) g []
 at_begins k g s call fits =
     elim (cases_Bool (is_outside (k.stage s) && is_own_call call)) [
       | inr not ↦ rw not (stays k g fits)
@@ -55,7 +55,7 @@ at_begins k g s call fits =
           (rw stage (begin_outside k.mutex s call parts.1 own))))
     ]
 
-pub at_outside : (k : CondvarCore) (g : CondvarGhost) (s : ℕ) → CoreFits k g → k.stage s ≡ outside → Outcome (mutex_steps k s) g []
+pub at_outside : (k : CondvarCore) (g : CondvarGhost) (s : ℕ) → CoreFits k g → k.stage s ≡ outside → CondvarOutcome (mutex_steps k s) g []
 at_outside k g s fits stage =
     let own : is_of_condvar (point_of k s) ≡ false = rw stage at (fits.stages s) in
     let m = step_moves k.mutex g.mutex s (outside_unclaimed (point_of k s) own) fits.mutex in
@@ -63,7 +63,7 @@ at_outside k g s fits stage =
 
 -- Calls on condvars begin
 
-pub at_waits : (k : CondvarCore) (g : CondvarGhost) (s v : ℕ) → CoreFits k g → Outcome (begins_wait k s v) g []
+pub at_waits : (k : CondvarCore) (g : CondvarGhost) (s v : ℕ) → CoreFits k g → CondvarOutcome (begins_wait k s v) g []
 at_waits k g s v fits =
     elim (cases_Bool (is_outside (k.stage s) && is_open (begin k.mutex s StartWait).turn)) [
       | inr not ↦ rw not (stays k g fits)
@@ -75,7 +75,7 @@ at_waits k g s v fits =
           absurd (not_pending k s w ticket outside stage refl pending))))
     ]
 
-pub at_wakes : (k : CondvarCore) (g : CondvarGhost) (s v : ℕ) (all : Bool) → CoreFits k g → Outcome (begins_wake k s v all) g []
+pub at_wakes : (k : CondvarCore) (g : CondvarGhost) (s v : ℕ) (all : Bool) → CoreFits k g → CondvarOutcome (begins_wake k s v all) g []
 at_wakes k g s v all fits =
     elim (cases_Bool (is_outside (k.stage s) && (is_seat k.mutex.seats s && is_rest (point_of k s)))) [
       | inr not ↦ rw not (stays k g fits)
@@ -95,7 +95,7 @@ locks_stay k d s v m locks = record { is = seat_after k.mutex d s s m.leaves loc
 
 pub starting_steps : (k : CondvarCore) (g : CondvarGhost) (s v ticket : ℕ) → CoreFits k g → k.stage s ≡ starting v ticket
     → StartingFits k g s v ticket
-    → waits_at (point_of k s) ≡ true → Outcome (mutex_steps k s) g []
+    → waits_at (point_of k s) ≡ true → CondvarOutcome (mutex_steps k s) g []
 starting_steps k g s v ticket fits stage own waits =
     let m = step_moves k.mutex g.mutex s (waits_unclaimed (point_of k s) waits) fits.mutex in
     quiet_outcome _ g m.to (moves_mutex k g (step k.mutex s).core s fits m (rw stage (record {
@@ -109,7 +109,7 @@ starting_steps k g s v ticket fits stage own waits =
 
 pub sending_steps : (k : CondvarCore) (g : CondvarGhost) (s v : ℕ) (all : Bool) (oldest : Waiter) → CoreFits k g
     → k.stage s ≡ sending v all oldest → SendingFits k g s v
-    → Outcome (mutex_steps k s) g []
+    → CondvarOutcome (mutex_steps k s) g []
 sending_steps k g s v all oldest fits stage own =
     let m = step_moves k.mutex g.mutex s (sends_unclaimed (point_of k s) own.at) fits.mutex in
     quiet_outcome _ g m.to (moves_mutex k g (step k.mutex s).core s fits m (rw stage (record {
@@ -135,7 +135,7 @@ receiving_stays k g d s v ticket m own at =
 
 receiving_steps : (k : CondvarCore) (g : CondvarGhost) (s v ticket : ℕ) → CoreFits k g → k.stage s ≡ receiving v ticket
     → ReceivingFits k g s v ticket
-    → Outcome (mutex_steps k s) g []
+    → CondvarOutcome (mutex_steps k s) g []
 receiving_steps k g s v ticket fits stage own =
     let m = step_moves k.mutex g.mutex s (receives_unclaimed (seat k.mutex.seats s).depth (point_of k s) own.at) fits.mutex in
     quiet_outcome _ g m.to (moves_mutex k g (step k.mutex s).core s fits m
@@ -150,7 +150,7 @@ rests_unpending k g s v ticket w y fits stage at (inr waits) = rests_unwaiting k
 
 pub at_receiving : (k : CondvarCore) (g : CondvarGhost) (s v ticket : ℕ) (p : Point) → CoreFits k g → k.stage s ≡ receiving v ticket
     → ReceivingFits k g s v ticket
-    → point_of k s ≡ p → Outcome (receives_at k s p) g []
+    → point_of k s ≡ p → CondvarOutcome (receives_at k s p) g []
 at_receiving k g s v ticket Rest fits stage own at =
     stays (put_stage k s outside) g (moves_stage k g s outside fits
     (rw at refl)

@@ -20,19 +20,19 @@ use Rattle.lfm_condvar.proofs.lawful.Invariant.{claims_at, waits_at}
 use Rattle.lfm_condvar.proofs.lawful.mutex.WakeWords.{stays_waiting, has_waited}
 
 -- the views of all seats but s, and the limits
-pub record Leaves (c d : Core) (s : ℕ) : Type 0 where
+pub record OthersStay (c d : Core) (s : ℕ) : Type 0 where
   pub others : (t : ℕ) → t ≢ s → seat d.seats t ≡ seat c.seats t
   pub size : length d.seats ≡ length c.seats
   pub budget : d.budget ≡ c.budget
 
-leaves_all : (c : Core) (s : ℕ) → Leaves c c s
+leaves_all : (c : Core) (s : ℕ) → OthersStay c c s
 leaves_all c s = record { others = λ t other. refl; size = refl; budget = refl }
 
 -- a state that fits again, in which who waits still waits, and no other seat begins to
 pub record MutexMoves (c d : Core) (s : ℕ) : Type 0 where
   pub to : Ghost
   pub fits : Fits d to
-  pub leaves : Leaves c d s
+  pub leaves : OthersStay c d s
   pub waits : (t : ℕ) → wake c.wakes t ≡ Waiting → wake d.wakes t ≡ Waiting
   pub waited : (t : ℕ) → (t ≢ s) ⊎ (waits_at (seat c.seats s).point ≡ false) → wake d.wakes t ≡ Waiting → wake c.wakes t ≡ Waiting
 
@@ -46,7 +46,7 @@ moves_not c g s fits =
 pub step_is_made : (c : Core) (s : ℕ) → IsSeat c.seats s → step c s ≡ made c s
 step_is_made c s is = rw (test_of_seat c.seats s is) refl
 
-pub made_leaves : (c : Core) (s : ℕ) → IsSeat c.seats s → Leaves c (made c s).core s
+pub made_leaves : (c : Core) (s : ℕ) → IsSeat c.seats s → OthersStay c (made c s).core s
 made_leaves c s is =
     let touches = steps_touch_one_word_and_one_seat c s in
     rw (sym (step_is_made c s is)) (record { others = touches.other_seats; size = touches.seats; budget = touches.budget })
@@ -94,7 +94,7 @@ begin_turn c t call =
       | inr none ↦ rw none refl
     ]
 
-pub same_turn : (c d : Core) (s t : ℕ) (call : Call) → Leaves c d s → t ≢ s → (begin d t call).turn ≡ (begin c t call).turn
+pub same_turn : (c d : Core) (s t : ℕ) (call : Call) → OthersStay c d s → t ≢ s → (begin d t call).turn ≡ (begin c t call).turn
 same_turn c d s t call leaves other =
     let bounds : limits d ≡ limits c = λ i. record { seats = leaves.size i; budget = leaves.budget i } in
     begin_turn d t call
@@ -104,5 +104,5 @@ same_turn c d s t call leaves other =
     ∙ ap (λ l. if is_seat c.seats t then (Begin.begin (seat c.seats t) l call).turn else Refused NoSuchSeat) bounds
     ∙ sym (begin_turn c t call)
 
-pub seat_after : (c d : Core) (s t : ℕ) → Leaves c d s → IsSeat c.seats t → IsSeat d.seats t
+pub seat_after : (c d : Core) (s t : ℕ) → OthersStay c d s → IsSeat c.seats t → IsSeat d.seats t
 seat_after c d s t leaves is = record { above = is.above; within = rw leaves.size is.within }

@@ -1,7 +1,7 @@
 use Rattle.std.proofs.Common.{◌≤◌, ◌+◌, ℕ, subst, slice_index}
 use Rattle.lfm_mutex.specs.Belongs.{limits_of}
 use Rattle.lfm_mutex.specs.calls.Sight.{sight}
-use Rattle.lfm_condvar.specs.Keeping.{Follows}
+use Rattle.lfm_condvar.specs.Keeping.{WaitersFollow}
 use Rattle.lfm_condvar.specs.Waits.{Enlists}
 use Rattle.lfm_condvar.proofs.Enlisted.{counted_once}
 use Rattle.lfm_condvar.proofs.wait.enlist_in_hand.Goals as goal
@@ -19,6 +19,6 @@ returns-clause-enlists g c = let h = rw c.in-Some.is at (c.value_mut.follows.hol
     let few = counted_once (limits_of c.args.mutex.now) by (sight c.args.seat.now) (sight c.enlist.new.seat) v w c.enlist.result high e.enlists in (
       v,
       w,
-      (c.in-Some.ensures.value.1, h.0, subst (λ (i : ℕ). Follows i v w) c.number-by.ensures e.follows, subst (λ (i : ℕ). slice_index w.counts.items i ≤ slice_index v.counts.items i + 1) c.number-by.ensures few),
+      (c.in-Some.ensures.value.1, h.0, subst (λ (i : ℕ). WaitersFollow i v w) c.number-by.ensures e.follows, subst (λ (i : ℕ). slice_index w.counts.items i ≤ slice_index v.counts.items i + 1) c.number-by.ensures few),
       subst (λ (i : ℕ). Enlists (limits_of c.args.mutex.now) i (sight c.args.seat.now) (sight c.enlist.new.seat) v w c.enlist.result) c.number-by.ensures e.enlists,
     )

@@ -1,19 +1,19 @@
 use Rattle.std.proofs.Common.{◌≡◌, ◌≤◌, ℕ, List, length}
 use Rattle.std.specs.VecDeque.{deque_len}
-use Rattle.lfm_mutex.specs.Belongs.{Beside, Of_mutex, limits_of}
+use Rattle.lfm_mutex.specs.Belongs.{Beside, OfMutex, limits_of}
 use Rattle.lfm_mutex.specs.calls.Sight.{Sight, sight}
 use Rattle.lfm_condvar.specs.declared.waiters.Waiter.{Waiter}
-use Rattle.lfm_condvar.specs.Keeping.{Follows, Taken}
-use Rattle.lfm_condvar.specs.Wakes.{Sends_in_turn, Sent_each}
+use Rattle.lfm_condvar.specs.Keeping.{WaitersFollow, Taken}
+use Rattle.lfm_condvar.specs.Wakes.{SendsInTurn, SentEach}
 use Rattle.lfm_condvar.proofs.wake.send_all.Given as goal
 
 abbrev pub invariant-sends : goal.invariant-sends
 invariant-sends g l = record {
-  belongs : Of_mutex l.seat l.mutex × Beside l.fn.seat l.seat;
+  belongs : OfMutex l.seat l.mutex × Beside l.fn.seat l.seat;
   wide : l.waiters.seats ≤ (limits_of l.mutex).seats;
-  gone : (gone : List Waiter) × Taken gone l.fn.waiters l.waiters × Sent_each gone (sight l.fn.seat) (sight l.seat) × (l.sent ≡ length gone);
-  steps : (sent : List (ℕ × Sight _)) × Sends_in_turn (limits_of l.mutex) (sight l.fn.seat) sent (sight l.seat);
-  follows : (s : ℕ) → Follows s l.fn.waiters l.waiters;
+  gone : (gone : List Waiter) × Taken gone l.fn.waiters l.waiters × SentEach gone (sight l.fn.seat) (sight l.seat) × (l.sent ≡ length gone);
+  steps : (sent : List (ℕ × Sight _)) × SendsInTurn (limits_of l.mutex) (sight l.fn.seat) sent (sight l.seat);
+  follows : (s : ℕ) → WaitersFollow s l.fn.waiters l.waiters;
 }
 
 abbrev pub decreases-sends : goal.decreases-sends

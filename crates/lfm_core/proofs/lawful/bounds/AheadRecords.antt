@@ -6,7 +6,7 @@ use Rattle.std.proofs.Math.Seq.{get_or-append_seam}
 use Rattle.lfm_words.specs.declared.pop_lists.Record.{Record}
 use Rattle.lfm_core.specs.steady.Ghost.{Ghost}
 use Rattle.lfm_core.specs.steady.Numbered.{records}
-use Rattle.lfm_core.specs.steady.Outcome.{GoesOn}
+use Rattle.lfm_core.specs.steady.EventOutcome.{GoesOn}
 use Rattle.lfm_core.specs.steady.Steady.{HasQueue}
 use Rattle.lfm_core.proofs.lawful.bounds.HistoryCounts.{popped_by_history, pushed_by_history}
 use Rattle.lfm_core.proofs.lawful.read.RecordsRead.{length-records, get_or-records}

@@ -16,7 +16,7 @@ use Rattle.lfm_core.specs.steady.Steady.{Steady}
 use Rattle.lfm_core.proofs.lawful.bounds.CallWeights.{is_walking, walking_serves, room_left}
 use Rattle.lfm_core.proofs.lawful.bounds.DueAtPoints.{again_unless-le, due_at, due_at-le, changes_at, changes_at-le, changed_push_same}
 use Rattle.lfm_core.proofs.lawful.bounds.DueSteps.{own_spends}
-use Rattle.lfm_core.proofs.lawful.bounds.Leaving.{own_made, size_made, seat_of_call, Leaves, leaves_all, begin_leaves, step_leaves}
+use Rattle.lfm_core.proofs.lawful.bounds.Leaving.{own_made, size_made, seat_of_call, KeepsSeat, leaves_all, begin_leaves, step_leaves}
 use Rattle.lfm_core.proofs.lawful.runs.Reached.{made_keeps, begin_keeps}
 use Rattle.lfm_core.proofs.steady.frames.Seated.{seat_of_test, test_of_seat}
 use Rattle.lfm_core.proofs.steady.queue.Pushers.{same_link_true}
@@ -50,14 +50,14 @@ unread : (push : Link) (seats room room' : ℕ) (p : Point) → is_walking p ≡
 unread push seats room room' (TakeLinkLoad carrier next) stands = absurd (false≢true (sym stands))
 unread push seats room room' _ stands = refl
 
-due_left : (c d : Core) (s : ℕ) → Leaves c d s → due_at c.push (length d.seats) (room_left d) (seat d.seats s).point ≡ due c s
+due_left : (c d : Core) (s : ℕ) → KeepsSeat c d s → due_at c.push (length d.seats) (room_left d) (seat d.seats s).point ≡ due c s
 due_left c d s leaves =
     elim (cases_Bool (is_walking (seat c.seats s).point)) [
       | inl walks ↦ rw (leaves.view, leaves.size, leaves.popped (walking_serves _ s (seat c.seats s).point walks)) refl
       | inr stands ↦ rw (leaves.view, leaves.size) (unread c.push (length c.seats) _ _ (seat c.seats s).point stands)
     ]
 
-pub due_beside : (c d : Core) (s : ℕ) → Leaves c d s → due d s ≤ due c s + 2 * changed_push c.push d.push
+pub due_beside : (c d : Core) (s : ℕ) → KeepsSeat c d s → due d s ≤ due c s + 2 * changed_push c.push d.push
 due_beside c d s leaves =
     let same = due_left c d s leaves in
     let more = due_after c.push d.push (length d.seats) (room_left d) (seat d.seats s).point in
@@ -78,7 +78,7 @@ pub record Spent (c d : Core) (s steps own beside : ℕ) : Type 0 where
   pub due : steps + due d s ≤ due c s + 2 * beside
   pub changes : own + changes_left d s ≤ changes_left c s
 
-spent_beside : (c d : Core) (s beside : ℕ) → Steady d → Leaves c d s → changed_push c.push d.push ≡ beside → Spent c d s 0 0 beside
+spent_beside : (c d : Core) (s beside : ℕ) → Steady d → KeepsSeat c d s → changed_push c.push d.push ≡ beside → Spent c d s 0 0 beside
 spent_beside c d s beside steady leaves changes =
     record {
       steady = steady;

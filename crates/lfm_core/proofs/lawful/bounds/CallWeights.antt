@@ -11,7 +11,7 @@ use Rattle.lfm_protocol.specs.Seats.{seat, is_seat, IsSeat}
 use Rattle.lfm_core.specs.steady.Steady.{Fits, Steady}
 use Rattle.lfm_protocol.specs.Step.{made, begin}
 use Rattle.lfm_core.specs.steady.Views.{claim_at}
-use Rattle.lfm_core.proofs.lawful.bounds.Leaving.{stepped, own_made, size_made, seat_of_call, Leaves, leaves_all, begin_leaves, step_leaves}
+use Rattle.lfm_core.proofs.lawful.bounds.Leaving.{stepped, own_made, size_made, seat_of_call, KeepsSeat, leaves_all, begin_leaves, step_leaves}
 use Rattle.lfm_core.proofs.lawful.runs.Reached.{made_keeps, begin_keeps}
 use Rattle.lfm_core.proofs.steady.frames.Seated.{seat_of_test, test_of_seat}
 
@@ -47,14 +47,14 @@ module _ (weight : Point → ℕ) (most : ℕ → ℕ → Point → ℕ) (among 
     pub within : among (seat d.seats s).point ≡ true
     pub spends : spent + measure most d s ≤ measure most c s
 
-  left_same : (c d : Core) (s : ℕ) → Leaves c d s → measure most d s ≡ measure most c s
+  left_same : (c d : Core) (s : ℕ) → KeepsSeat c d s → measure most d s ≡ measure most c s
   left_same c d s leaves =
       elim (cases_Bool (is_walking (seat c.seats s).point)) [
         | inl walks ↦ rw (leaves.view, leaves.size, leaves.popped (walking_serves _ s (seat c.seats s).point walks)) refl
         | inr stands ↦ rw (leaves.view, leaves.size) (falls.unread (length c.seats) _ _ (seat c.seats s).point stands)
       ]
 
-  goes_left : (c d : Core) (s : ℕ) → Steady d → among (seat c.seats s).point ≡ true → Leaves c d s → Goes c d s 0
+  goes_left : (c d : Core) (s : ℕ) → Steady d → among (seat c.seats s).point ≡ true → KeepsSeat c d s → Goes c d s 0
   goes_left c d s steady within leaves =
       record {
         steady = steady;

@@ -21,7 +21,7 @@ use Rattle.lfm_core.specs.laws.Cases.{GoesBy}
 use Rattle.lfm_core.specs.laws.Events.{popped_at_point, case_at, takes_up}
 use Rattle.lfm_core.specs.steady.Ghost as Places
 use Rattle.lfm_core.specs.steady.Ghost.{Responsibility, nobody, owned, posted, entering, accepting, leaving, serving, Ghost}
-use Rattle.lfm_core.specs.steady.Outcome.{abstract, abstract_place}
+use Rattle.lfm_core.specs.steady.EventOutcome.{abstract, abstract_place}
 use Rattle.lfm_core.specs.steady.Steady.{HasQueue, Fits}
 use Rattle.lfm_core.specs.steady.Views.{claim_to_enter, held_by, stamp_of}
 use Rattle.lfm_core.proofs.lawful.bounds.Leaving.{own_made, other_made}

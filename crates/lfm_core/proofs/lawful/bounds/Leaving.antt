@@ -181,16 +181,16 @@ begun_popped c t call =
 -- What is left to a seat
 
 -- seat s sees the same number of seats and its own view as before, and where it serves the same pop list
-pub record Leaves (c d : Core) (s : ℕ) : Type 0 where
+pub record KeepsSeat (c d : Core) (s : ℕ) : Type 0 where
   pub view : seat d.seats s ≡ seat c.seats s
   pub size : length d.seats ≡ length c.seats
   pub popped : claim_at (seat c.seats s).depth s (seat c.seats s).point ≡ serving s → d.popped ≡ c.popped
 
-pub leaves_all : (c : Core) (s : ℕ) → Leaves c c s
+pub leaves_all : (c : Core) (s : ℕ) → KeepsSeat c c s
 leaves_all c s = record { view = refl; size = refl; popped = λ e. refl }
 
 -- a call that begins leaves this to each seat whose call is open
-pub begin_leaves : (c : Core) (t s : ℕ) (call : Call) → is_call (seat c.seats s).point ≡ true → Leaves c (begin c t call).core s
+pub begin_leaves : (c : Core) (t s : ℕ) (call : Call) → is_call (seat c.seats s).point ≡ true → KeepsSeat c (begin c t call).core s
 begin_leaves c t s call inside =
     record {
       view = elim (cases_eq s t) [
@@ -202,7 +202,7 @@ begin_leaves c t s call inside =
     }
 
 -- and a step to every other seat
-pub step_leaves : (c : Core) (g : Ghost) (t s : ℕ) → Fits c g → s ≢ t → Leaves c (made c t).core s
+pub step_leaves : (c : Core) (g : Ghost) (t s : ℕ) → Fits c g → s ≢ t → KeepsSeat c (made c t).core s
 step_leaves c g t s fits other =
     record {
       view = other_made c t s other;

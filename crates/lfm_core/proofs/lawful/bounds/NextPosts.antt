@@ -24,7 +24,7 @@ use Rattle.lfm_core.specs.laws.Laws.{post_weight}
 use Rattle.lfm_core.specs.laws.Schedules.{is_call}
 use Rattle.lfm_core.specs.steady.Ghost as Places
 use Rattle.lfm_core.specs.steady.Ghost.{Responsibility, nobody, owned, posted, entering, accepting, leaving, serving, Ghost}
-use Rattle.lfm_core.specs.steady.Outcome.{abstract_place}
+use Rattle.lfm_core.specs.steady.EventOutcome.{abstract_place}
 use Rattle.lfm_core.specs.steady.Steady.{HasQueue, Fits}
 use Rattle.lfm_core.specs.steady.Views.{claim_at}
 use Rattle.lfm_core.proofs.lawful.bounds.Leaving.{stepped, own_made, other_made, begin_leaves}

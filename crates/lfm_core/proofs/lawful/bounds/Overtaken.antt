@@ -24,7 +24,7 @@ use Rattle.lfm_core.specs.laws.Overtaking.{weighed_in, weight_of_run, enters_at,
 use Rattle.lfm_core.specs.laws.Schedules.{Event, begins, makes, happens, popped_in, popped_record}
 use Rattle.lfm_core.specs.steady.Ghost as Places
 use Rattle.lfm_core.specs.steady.Ghost.{Responsibility, nobody, owned, posted, entering, accepting, leaving, serving, Ghost}
-use Rattle.lfm_core.specs.steady.Outcome.{abstract, abstract_place}
+use Rattle.lfm_core.specs.steady.EventOutcome.{abstract, abstract_place}
 use Rattle.lfm_core.specs.steady.Steady.{HasQueue, Fits, Steady}
 use Rattle.lfm_core.specs.steady.Views.{claim_to_enter, held_by, stamp_of}
 use Rattle.lfm_core.proofs.lawful.bounds.Leaving.{own_made}

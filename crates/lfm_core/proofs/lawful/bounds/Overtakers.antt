@@ -21,7 +21,7 @@ use Rattle.lfm_core.specs.laws.Overtaking.{enters_at, entries_of_seat, NoSeatOve
 use Rattle.lfm_core.specs.laws.Schedules.{Event, begins, makes, happens, weight_of, popped_in, popped_record}
 use Rattle.lfm_core.specs.steady.Ghost as Places
 use Rattle.lfm_core.specs.steady.Ghost.{Responsibility, nobody, owned, posted, entering, accepting, leaving, serving, Standing, apart, queued, Ghost}
-use Rattle.lfm_core.specs.steady.Outcome.{abstract, abstract_place, GoesOn}
+use Rattle.lfm_core.specs.steady.EventOutcome.{abstract, abstract_place, GoesOn}
 use Rattle.lfm_core.specs.steady.Steady.{HasQueue, Fits}
 use Rattle.lfm_core.specs.steady.Views.{claim_to_enter, held_by, stamp_of}
 use Rattle.lfm_core.proofs.lawful.bounds.Leaving.{own_made}

@@ -14,7 +14,7 @@ use Rattle.lfm_protocol.specs.Core.{Core}
 use Rattle.lfm_protocol.specs.Seats.{wake}
 use Rattle.lfm_core.specs.laws.Events.{case_at, takes_up}
 use Rattle.lfm_core.specs.steady.Ghost.{Ghost}
-use Rattle.lfm_core.specs.steady.Outcome.{abstract}
+use Rattle.lfm_core.specs.steady.EventOutcome.{abstract}
 use Rattle.lfm_core.specs.steady.Steady.{HasQueue}
 
 -- somebody is queued

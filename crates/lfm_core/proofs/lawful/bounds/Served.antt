@@ -23,7 +23,7 @@ use Rattle.lfm_core.specs.laws.Progress.{opened_at, opened_in, opened_in_run, op
 use Rattle.lfm_core.specs.laws.Service.{Serves, OnlyServes, QueuedSeatsAreServedSoon}
 use Rattle.lfm_core.specs.laws.Schedules.{Event, begins, makes, happens, is_call, popped_in, popped_record}
 use Rattle.lfm_core.specs.steady.Ghost.{owned, Ghost}
-use Rattle.lfm_core.specs.steady.Outcome.{abstract_place}
+use Rattle.lfm_core.specs.steady.EventOutcome.{abstract_place}
 use Rattle.lfm_core.specs.steady.Steady.{HasQueue, Fits}
 use Rattle.lfm_core.specs.steady.Views.{held_by}
 use Rattle.lfm_core.proofs.lawful.bounds.Leaving.{begun_other, begin_leaves}

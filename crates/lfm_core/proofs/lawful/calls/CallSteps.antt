@@ -114,12 +114,12 @@ kept_at (EnterOwnerStore entrant how) = Some (held entrant how)
 kept_at _ = None
 
 -- the step stays in this call or ends it, answers what its point keeps, and ends no release unless it may
-pub record Follows (call : Call) (keeps : Option Answer) (may_end : Bool) (m : Stepped) : Type 0 where
+pub record StaysInCall (call : Call) (keeps : Option Answer) (may_end : Bool) (m : Stepped) : Type 0 where
   pub follows : StaysOrEnds call m.turn m.seat.point
   pub told : kept_told m.turn ≡ keeps
   pub silent : may_end ≡ false → release_ended m.turn m.seat.point ≡ None
 
-follows_if : (call : Call) (may_end b : Bool) (m n : Stepped) → Follows call None may_end m → Follows call None may_end n → Follows call None may_end (if b then m else n)
+follows_if : (call : Call) (may_end b : Bool) (m n : Stepped) → StaysInCall call None may_end m → StaysInCall call None may_end n → StaysInCall call None may_end (if b then m else n)
 follows_if call may_end true m n first second = first
 follows_if call may_end false m n first second = second
 
@@ -132,10 +132,10 @@ next_if : (call : Call) (b : Bool) (p q : Point) → IsNext call p → IsNext ca
 next_if call true p q first second = first
 next_if call false p q first second = second
 
-goes : (x : SeatState) (call : Call) (may_end : Bool) (p : Point) → IsNext call p → Follows call None may_end (goes_on x p)
+goes : (x : SeatState) (call : Call) (may_end : Bool) (p : Point) → IsNext call p → StaysInCall call None may_end (goes_on x p)
 goes x call may_end p next = record { follows = next.here; silent = λ e. next.silent; told = refl }
 
-either : (x : SeatState) (call : Call) (may_end b : Bool) (p q : Point) → IsNext call p → IsNext call q → Follows call None may_end (goes_on x (if b then p else q))
+either : (x : SeatState) (call : Call) (may_end b : Bool) (p q : Point) → IsNext call p → IsNext call q → StaysInCall call None may_end (goes_on x (if b then p else q))
 either x call may_end b p q first second = goes x call may_end _ (next_if call b p q first second)
 
 -- Points that come next
@@ -170,41 +170,41 @@ next_cleared Carrier.Sender head = record { here = refl; silent = refl }
 
 -- Calls that end
 
-sent : (x : SeatState) (may_end : Bool) → Follows (SendLock 0) None may_end (ends x Answer.Sent)
+sent : (x : SeatState) (may_end : Bool) → StaysInCall (SendLock 0) None may_end (ends x Answer.Sent)
 sent x may_end = record { follows = (tt, refl); silent = λ e. refl; told = refl }
 
-pushes : (x : SeatState) (pusher : Pusher) → Follows (call_of_pusher pusher) None false (pushed x pusher)
+pushes : (x : SeatState) (pusher : Pusher) → StaysInCall (call_of_pusher pusher) None false (pushed x pusher)
 pushes x Pusher.Locker = record { follows = (tt, refl); silent = λ e. refl; told = refl }
 pushes x (Pusher.Sender t) = sent x false
 
-released : (x : SeatState) (releaser : Releaser) (answer : Unlocked) → Follows (call_of_releaser releaser) None true (releases x releaser answer)
+released : (x : SeatState) (releaser : Releaser) (answer : Unlocked) → StaysInCall (call_of_releaser releaser) None true (releases x releaser answer)
 released x Unlocker answer = record { follows = (tt, refl); silent = λ e. absurd (false≢true (sym e)); told = refl }
 released x Waiter answer = record { follows = refl; silent = λ e. absurd (false≢true (sym e)); told = refl }
 
-grants : (x : SeatState) (carrier : Carrier) (r : Record) → Follows (call_of_carrier carrier) None true (granted x carrier r)
+grants : (x : SeatState) (carrier : Carrier) (r : Record) → StaysInCall (call_of_carrier carrier) None true (granted x carrier r)
 grants x Carrier.Locker r = record { follows = (tt, refl); silent = λ e. refl; told = refl }
 grants x (Carrier.Releaser releaser) r = released x releaser (Unlocked.Granted r.seat)
 grants x (Carrier.Reclaimer releaser) r = released x releaser (Unlocked.Granted r.seat)
 grants x Carrier.Sender r = sent x true
 
 enters : (x : SeatState) (entrant : Entrant) (how : How)
-    → Follows (call_of_entrant entrant) (Some (held entrant how)) false (record { seat = record x { point = Rest; depth = 1 }; turn = Ended (held entrant how) })
+    → StaysInCall (call_of_entrant entrant) (Some (held entrant how)) false (record { seat = record x { point = Rest; depth = 1 }; turn = Ended (held entrant how) })
 enters x Entrant.Locker how = record { follows = (tt, refl); silent = λ e. refl; told = refl }
 enters x Entrant.Trier how = record { follows = (tt, refl); silent = λ e. refl; told = refl }
 enters x Entrant.Receiver how = record { follows = (tt, refl); silent = λ e. refl; told = refl }
 
-loads : (x : SeatState) (sleeper : Sleeper) (w : Wake) → Follows Receive None false (receives x sleeper w)
+loads : (x : SeatState) (sleeper : Sleeper) (w : Wake) → StaysInCall Receive None false (receives x sleeper w)
 loads x sleeper (Wake.Grant stamp) = record { follows = refl; silent = λ e. refl; told = refl }
 loads x sleeper _ = record { follows = (tt, refl); silent = λ e. refl; told = refl }
 
-refunds : (x : SeatState) → Follows TryLock None false (busy x)
+refunds : (x : SeatState) → StaysInCall TryLock None false (busy x)
 refunds x = record { follows = refl; silent = λ e. refl; told = refl }
 
-claims_target : (x : SeatState) (t : ℕ) (w : Wake) → Follows (SendLock 0) None false (claims x t w)
+claims_target : (x : SeatState) (t : ℕ) (w : Wake) → StaysInCall (SendLock 0) None false (claims x t w)
 claims_target x t Wake.Waiting = record { follows = refl; silent = λ e. refl; told = refl }
 claims_target x t _ = record { follows = refl; silent = λ e. refl; told = refl }
 
-again : (x : SeatState) → Follows TryLock None false (record { seat = deepens x; turn = Ended (Answer.Locked (Locked.Again (x.depth + 1))) })
+again : (x : SeatState) → StaysInCall TryLock None false (record { seat = deepens x; turn = Ended (Answer.Locked (Locked.Again (x.depth + 1))) })
 again x = record { follows = (tt, refl); silent = λ e. refl; told = refl }
 
 -- The walk
@@ -220,7 +220,7 @@ may_end_at _ = false
 here : (call : Call) (p : Point) → call_at p ≡ call → release_ended Open p ≡ None → IsNext call p
 here call p same silent = record { here = same; silent = silent }
 
-pub step_follows : (c : Core) (s : ℕ) (p : Point) → (seat c.seats s).point ≡ p → is_call p ≡ true → Follows (call_at p) (kept_at p) (may_end_at p) (stepped c s)
+pub step_follows : (c : Core) (s : ℕ) (p : Point) → (seat c.seats s).point ≡ p → is_call p ≡ true → StaysInCall (call_at p) (kept_at p) (may_end_at p) (stepped c s)
 step_follows c s Rest at inside = absurd (false≢true inside)
 step_follows c s (Asleep sleeper) at inside = absurd (false≢true inside)
 step_follows c s LockCountAdd at inside =

@@ -98,9 +98,9 @@ some_none how e = cc
 -- A step of the receive
 
 -- it loads a grant, keeps it, or ends
-data ReceivesBy (c : Core) (s : ℕ) (how : How) : Type 0 where
-  keeps : granted c s ≡ Some how → ReceivesBy c s how
-  finds : FindsGrant c s how → ReceivesBy c s how
+data ReceivesAs (c : Core) (s : ℕ) (how : How) : Type 0 where
+  keeps : granted c s ≡ Some how → ReceivesAs c s how
+  finds : FindsGrant c s how → ReceivesAs c s how
 
 grant_of : (stamp : ℕ) → IsGrant (how_granted stamp) stamp
 grant_of stamp =
@@ -117,7 +117,7 @@ loads_by c s sleeper how (Grant stamp) at word e =
     record { stamp = stamp; word = word; grant = rw here at (grant_of stamp) }
 loads_by c s sleeper how _ at word e = absurd (some_none how (rw (at, at, word) at e))
 
-own_receives : (c : Core) (s : ℕ) (how : How) → ReceivesAt (seat c.seats s).point → granted_at (stepped c s).seat.point ≡ Some how → ReceivesBy c s how
+own_receives : (c : Core) (s : ℕ) (how : How) → ReceivesAt (seat c.seats s).point → granted_at (stepped c s).seat.point ≡ Some how → ReceivesAs c s how
 own_receives c s how (loads sleeper at) e = finds (loads_by c s sleeper how (wake c.wakes s) at refl e)
 own_receives c s how (stores stamp at) e = keeps (rw at (rw (at, at) at e))
 own_receives c s how (enters held at) e = absurd (some_none how (rw (at, at) at e))

@@ -14,7 +14,7 @@ use Rattle.lfm_words.specs.declared.handoffs.Handoff.{Handoff}
 use Rattle.lfm_words.specs.declared.wakes.Wake.TheVariants.{Waiting, Claimed, Grant}
 use Rattle.lfm_protocol.specs.Core.{Core}
 use Rattle.lfm_core.specs.steady.Ghost.{Responsibility, nobody, owned, granted, posted, entering, accepting, leaving, serving, Standing, Ghost}
-use Rattle.lfm_core.specs.steady.Outcome.{abstract_place}
+use Rattle.lfm_core.specs.steady.EventOutcome.{abstract_place}
 use Rattle.lfm_protocol.specs.Place.{has_loaded}
 use Rattle.lfm_core.specs.laws.Reading.{carrying_at, Claims, by_owner, by_handoff, by_grant, by_call, ReadsPlace}
 use Rattle.lfm_protocol.specs.Seats.{seat, wake}

@@ -11,7 +11,7 @@ use Rattle.lfm_protocol.specs.declared.points.Pusher.{Pusher}
 use Rattle.lfm_words.specs.declared.pop_lists.Record.{Record}
 use Rattle.lfm_protocol.specs.Core.{Core}
 use Rattle.lfm_core.specs.steady.Ghost.{Responsibility, nobody, owned, posted, entering, accepting, serving, Ghost}
-use Rattle.lfm_core.specs.steady.Outcome.{abstract, abstract_place, queue_of_ghost}
+use Rattle.lfm_core.specs.steady.EventOutcome.{abstract, abstract_place, queue_of_ghost}
 use Rattle.lfm_core.specs.laws.Reading.{unit_of_entering, unit_of_recursion, own_count, again_count, IsCounted}
 use Rattle.lfm_protocol.specs.Seats.{seat}
 use Rattle.lfm_core.specs.steady.Steady.{own_unit, again_unit, WorkFits, Fits}

@@ -14,7 +14,7 @@ use Rattle.lfm_words.specs.declared.wakes.Wake.TheVariants.{Waiting, Claimed, Gr
 use Rattle.lfm_protocol.specs.Core.{Core}
 use Rattle.lfm_core.specs.steady.Ghost.{Responsibility, nobody, owned, posted, entering, Standing, apart, claimed, asks, queued, Ghost}
 use Rattle.lfm_core.specs.laws.Lawful.{ReadBefore, SleepsAsWaiter, LoadsItsGrant, IsSent, IsBroughtIn, IsLawful}
-use Rattle.lfm_core.specs.steady.Outcome.{abstract}
+use Rattle.lfm_core.specs.steady.EventOutcome.{abstract}
 use Rattle.lfm_protocol.specs.Seats.{seat, wake, unposted, IsSeat}
 use Rattle.lfm_core.specs.steady.Steady.{KnowsAt, awaits_grant, HandoffFits, Fits}
 use Rattle.lfm_core.specs.steady.Views.{by_depth, claim_of_pusher, claim_to_enter, claim_at, claim, grant_at, is_entered, is_some, wake_of_waiter, wake_at, wake_by}

@@ -15,7 +15,7 @@ use Rattle.lfm_words.specs.declared.wakes.Wake.TheVariants.{Quiet, Grant}
 use Rattle.lfm_protocol.specs.Core.{Core}
 use Rattle.lfm_core.specs.steady.Ghost.{Responsibility, nobody, owned, granted, posted, entering, accepting, leaving, serving, Ghost}
 use Rattle.lfm_core.specs.laws.Laws.{printed}
-use Rattle.lfm_core.specs.steady.Outcome.{abstract_place}
+use Rattle.lfm_core.specs.steady.EventOutcome.{abstract_place}
 use Rattle.lfm_protocol.specs.Place.{carries, has_loaded, is_passed, passed_place, carried_place, place_of}
 use Rattle.lfm_core.specs.laws.Reading.{carrying_at, Claims, by_owner, by_handoff, by_grant, by_call}
 use Rattle.lfm_protocol.specs.Seats.{entry, seat, wake, absent, unposted, IsSeat}

@@ -8,11 +8,11 @@ use Rattle.lfm_protocol.specs.Core.{Core}
 use Rattle.lfm_core.specs.steady.Ghost.{Standing, apart, claimed, asks, queued, Ghost}
 use Rattle.lfm_core.specs.laws.Lawful.{EndsAt}
 use Rattle.lfm_core.specs.steady.Numbered.{records}
-use Rattle.lfm_core.specs.steady.Outcome.{queue_of_ghost}
+use Rattle.lfm_core.specs.steady.EventOutcome.{queue_of_ghost}
 use Rattle.lfm_protocol.specs.Queue.{chain, unwalked, queue_of}
 use Rattle.lfm_core.specs.steady.Steady.{cleared, QueuedFits, Fits, Steady}
 use Rattle.lfm_core.specs.steady.Views.{is_queued}
-use Rattle.lfm_core.specs.laws.Watched.{Waits}
+use Rattle.lfm_core.specs.laws.Watched.{IsQueued}
 use Rattle.lfm_core.proofs.lawful.read.Chains.{Leads, chain_leads}
 use Rattle.lfm_core.proofs.steady.frames.Histories.{records_append}
 use Rattle.lfm_core.proofs.lawful.read.RecordsRead.{length-records, get_or-records}
@@ -90,10 +90,10 @@ waits_by c g t k x fits within here same =
     let seat_is : g.pushed_at (g.popped + k + 1) ≡ t = ap (λ r. r.seat) (sym (queue_at c g fits k x inside) ∙ here) ∙ same in
     ap is_queued (rw seat_is at (stands_queued c g fits k inside))
 
-pub waits_read : (c : Core) (g : Ghost) → Fits c g → (t : ℕ) → Waits c t → is_queued (g.standing t) ≡ true
+pub waits_read : (c : Core) (g : Ghost) → Fits c g → (t : ℕ) → IsQueued c t → is_queued (g.standing t) ≡ true
 waits_read c g fits t waits = waits_by c g t waits.0 waits.1 fits waits.2 waits.3 waits.4
 
-told_by : (c : Core) (g : Ghost) (t stamp : ℕ) → Fits c g → g.popped < stamp → stamp ≤ g.pushed → g.pushed_at stamp ≡ t → Waits c t
+told_by : (c : Core) (g : Ghost) (t stamp : ℕ) → Fits c g → g.popped < stamp → stamp ≤ g.pushed → g.pushed_at stamp ≡ t → IsQueued c t
 told_by c g t stamp fits above within here =
     let k : ℕ = stamp - g.popped - 1 in
     let back : g.popped + k + 1 ≡ stamp = omega (arith, above) in
@@ -101,13 +101,13 @@ told_by c g t stamp fits above within here =
     let r : Record = record { seat = g.pushed_at stamp; stamp = stamp } in
     (k, r, omega (arith, inside, queue_length c g fits), rw back at (queue_at c g fits k r inside), here)
 
-told_as : (c : Core) (g : Ghost) (t : ℕ) (standing : Standing) → Fits c g → is_queued standing ≡ true → ((stamp : ℕ) → standing ≡ queued stamp → QueuedFits g t stamp) → Waits c t
+told_as : (c : Core) (g : Ghost) (t : ℕ) (standing : Standing) → Fits c g → is_queued standing ≡ true → ((stamp : ℕ) → standing ≡ queued stamp → QueuedFits g t stamp) → IsQueued c t
 told_as c g t apart fits stands listed = absurd (false≢true stands)
 told_as c g t (claimed agent) fits stands listed = absurd (false≢true stands)
 told_as c g t (asks agent) fits stands listed = absurd (false≢true stands)
 told_as c g t (queued stamp) fits stands listed = let here = listed stamp refl in told_by c g t stamp fits here.above here.within here.here
 
-pub waits_told : (c : Core) (g : Ghost) → Fits c g → (t : ℕ) → is_queued (g.standing t) ≡ true → Waits c t
+pub waits_told : (c : Core) (g : Ghost) → Fits c g → (t : ℕ) → is_queued (g.standing t) ≡ true → IsQueued c t
 waits_told c g fits t stands = told_as c g t (g.standing t) fits stands (fits.each t).listed
 
 pub queue_distinct : (c : Core) (g : Ghost) → Fits c g → AllPairs (λ r q. r.seat ≢ q.seat) (queue_of c)

@@ -5,7 +5,7 @@ use Rattle.lfm_model.specs.AbstractRuns.{IsSame}
 use Rattle.lfm_protocol.specs.Core.{Core}
 use Rattle.lfm_core.specs.steady.Ghost.{Responsibility, owned, Ghost}
 use Rattle.lfm_core.specs.laws.Lawful.{owning_seat}
-use Rattle.lfm_core.specs.steady.Outcome.{abstract, abstract_place}
+use Rattle.lfm_core.specs.steady.EventOutcome.{abstract, abstract_place}
 use Rattle.lfm_core.specs.laws.Reading.{ReadsPlace, seats_of, Reads}
 use Rattle.lfm_core.specs.steady.Steady.{owner_of, Fits}
 use Rattle.lfm_core.proofs.lawful.read.AskingRead.{asks_read, asked_read}

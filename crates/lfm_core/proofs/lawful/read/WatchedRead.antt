@@ -12,7 +12,7 @@ use Rattle.lfm_protocol.specs.Points.{pushed_seat}
 use Rattle.lfm_protocol.specs.Seats.{seat}
 use Rattle.lfm_core.specs.steady.Steady.{HasQueue, AwaitsAsPusher, StandsAt, WatchesAsPusher, WatchesAt, CarriedFits, cleared, Fits}
 use Rattle.lfm_core.specs.steady.Views.{is_queued}
-use Rattle.lfm_core.specs.laws.Watched.{Waits, Watches, Watched}
+use Rattle.lfm_core.specs.laws.Watched.{IsQueued, Watches, Watched}
 use Rattle.lfm_core.proofs.lawful.read.QueueRead.{waits_told}
 use Rattle.lfm_core.proofs.steady.frames.Seated.{seat_of_stamp}
 use Rattle.lfm_core.proofs.steady.queue.Serving.{queue_of_queued}
@@ -39,7 +39,7 @@ head_posted c g fits place some =
 
 -- nothing is granted while a handoff is posted, so who awaits a grant is queued
 pusher_waits : (c : Core) (g : Ghost) (s : ℕ) (pusher : Pusher) → Fits c g → g.place ≡ posted → AwaitsAsPusher g.place s (g.standing s) pusher
-    → WatchesAsPusher g pusher → Waits c (pushed_seat pusher s)
+    → WatchesAsPusher g pusher → IsQueued c (pushed_seat pusher s)
 pusher_waits c g s Pusher.Locker fits place awaits watches =
     let awaits = rw place at awaits in
     waits_told c g fits s (sym (or-false (is_queued (g.standing s))) ∙ awaits)

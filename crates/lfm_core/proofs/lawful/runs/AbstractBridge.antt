@@ -1,12 +1,12 @@
 -- The readings of a run are a run of the abstract mutex, and each event goes by its case: that of its step by `case_of_step`.
 use Rattle.std.proofs.Common.{Option, Some, None, List, [], ◌∷◌}
 use Rattle.lfm_model.specs.Abstract.{AbstractMutex}
-use Rattle.lfm_model.specs.AbstractRuns.{Case, Follows, stepped, stayed, IsRunFrom}
+use Rattle.lfm_model.specs.AbstractRuns.{Case, StepsOrStays, stepped, stayed, IsRunFrom}
 use Rattle.lfm_core.specs.laws.Cases.{GoesBy, case_of_event, ReadsRun}
 use Rattle.lfm_protocol.specs.Core.{Core}
 use Rattle.lfm_core.specs.steady.Ghost.{Ghost}
 use Rattle.lfm_core.specs.laws.Laws.{RunsAreAbstractRuns, EventsAreTheirCases}
-use Rattle.lfm_core.specs.steady.Outcome.{abstract}
+use Rattle.lfm_core.specs.steady.EventOutcome.{abstract}
 use Rattle.lfm_core.specs.laws.Schedules.{Event, happens}
 use Rattle.lfm_core.specs.steady.Steady.{Fits}
 use Rattle.lfm_protocol.specs.Step.{start}
@@ -27,7 +27,7 @@ events_are_their_cases c e a b is first later =
 
 -- A run
 
-follows : (case : Option Case) (a b : AbstractMutex) → GoesBy case a b → Follows a b
+follows : (case : Option Case) (a b : AbstractMutex) → GoesBy case a b → StepsOrStays a b
 follows None a b same = stayed same
 follows (Some case) a b goes = stepped goes.0
 

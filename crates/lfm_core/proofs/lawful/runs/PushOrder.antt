@@ -6,7 +6,7 @@ use Rattle.lfm_protocol.specs.Core.{Core}
 use Rattle.lfm_core.specs.steady.Ghost.{Responsibility, nobody, owned, granted, posted, entering, accepting, leaving, serving, Ghost}
 use Rattle.lfm_core.specs.laws.Laws.{QueueIsInPushOrder, StampsAreConsecutive, AnswersAreTheRecords}
 use Rattle.lfm_core.specs.steady.Numbered.{records}
-use Rattle.lfm_core.specs.steady.Outcome.{GoesOn, queue_of_ghost}
+use Rattle.lfm_core.specs.steady.EventOutcome.{GoesOn, queue_of_ghost}
 use Rattle.lfm_protocol.specs.Queue.{queue_of}
 use Rattle.lfm_core.specs.laws.Schedules.{Event, run_of, push_record, popped_record, answer_record}
 use Rattle.lfm_core.specs.steady.Steady.{Fits, unanswered}

@@ -6,7 +6,7 @@ use Rattle.lfm_core.specs.laws.Cases.{case_of_event}
 use Rattle.lfm_protocol.specs.Core.{Core}
 use Rattle.lfm_core.specs.steady.Ghost.{Ghost}
 use Rattle.lfm_core.specs.laws.Laws.{IsReached}
-use Rattle.lfm_core.specs.steady.Outcome.{Outcome}
+use Rattle.lfm_core.specs.steady.EventOutcome.{EventOutcome}
 use Rattle.lfm_core.specs.laws.Schedules.{Event, begins, makes, happens, run_of, pushed_in, popped_in, answered_in}
 use Rattle.lfm_protocol.specs.Seats.{seat, absent, is_seat}
 use Rattle.lfm_core.specs.steady.Steady.{Fits, Steady}
@@ -24,7 +24,7 @@ absent_tested seats s none = sym (entry_absent absent seats s none)
 
 -- what an event of a steady state leads to, told as it is for a step
 abbrev pub Goes : Core → Ghost → Event → Type 0
-Goes c g e = Outcome g (happens c e).core (case_of_event c e) (pushed_in c e) (popped_in c e) (answered_in c e)
+Goes c g e = EventOutcome g (happens c e).core (case_of_event c e) (pushed_in c e) (popped_in c e) (answered_in c e)
 
 -- a call that begins changes nothing of the ghost, and a step of a number that no seat has nothing at all
 pub event_goes : (c : Core) (g : Ghost) (e : Event) → Fits c g → Goes c g e

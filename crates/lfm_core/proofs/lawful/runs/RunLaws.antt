@@ -3,7 +3,7 @@ use Rattle.std.proofs.Common.{◌≡◌, List, [], ◌∷◌, ◌++◌, ap, ◌�
 use Rattle.lfm_words.specs.declared.pop_lists.Record.{Record}
 use Rattle.lfm_protocol.specs.Core.{Core}
 use Rattle.lfm_core.specs.steady.Ghost.{Ghost}
-use Rattle.lfm_core.specs.steady.Outcome.{GoesOn}
+use Rattle.lfm_core.specs.steady.EventOutcome.{GoesOn}
 use Rattle.lfm_core.specs.laws.Schedules.{Event, happens, run_of, push_record, popped_record, answer_record}
 use Rattle.lfm_core.specs.steady.Steady.{Fits}
 use Rattle.lfm_core.proofs.steady.frames.Histories.{history_stays}

@@ -4,7 +4,7 @@ use Rattle.std.proofs.Common.{◌≡◌, sym, ap, ◌∙◌}
 use Rattle.lfm_model.specs.Abstract.{AbstractMutex}
 use Rattle.lfm_protocol.specs.Core.{Core}
 use Rattle.lfm_core.specs.laws.Laws.{printed, PlacesAreRead, CountIsZeroWhereFree}
-use Rattle.lfm_core.specs.steady.Outcome.{abstract, abstract_place}
+use Rattle.lfm_core.specs.steady.EventOutcome.{abstract, abstract_place}
 use Rattle.lfm_core.specs.laws.Reading.{Reads}
 use Rattle.lfm_core.specs.steady.Steady.{Steady}
 use Rattle.lfm_core.proofs.lawful.read.CountRead.{zero_count_is_free, free_counts_zero}

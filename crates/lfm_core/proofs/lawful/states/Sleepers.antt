@@ -12,13 +12,13 @@ use Rattle.lfm_core.specs.laws.Laws.{SleepersAreReachable}
 use Rattle.lfm_protocol.specs.Seats.{seat, wake}
 use Rattle.lfm_core.specs.steady.Steady.{Fits}
 use Rattle.lfm_core.specs.steady.Views.{grant_at, is_queued, is_some, is_entered, is_apart, wake_of_waiter, wake_by}
-use Rattle.lfm_core.specs.laws.Watched.{Waits}
+use Rattle.lfm_core.specs.laws.Watched.{IsQueued}
 use Rattle.lfm_core.proofs.lawful.read.LawfulRead.{lawful_read}
 use Rattle.lfm_core.proofs.lawful.read.QueueRead.{waits_told}
 
 -- where a sleeper finds its grant
 abbrev IsReachable : Core → ℕ → Type 0
-IsReachable c t = Waits c t ⊎ (((stamp : ℕ) × (wake c.wakes t ≡ Grant stamp)) ⊎ ((wake c.wakes t ≡ Waiting) ⊎ IsSent c t))
+IsReachable c t = IsQueued c t ⊎ (((stamp : ℕ) × (wake c.wakes t ≡ Grant stamp)) ⊎ ((wake c.wakes t ≡ Waiting) ⊎ IsSent c t))
 
 -- a sleeping locker is queued or granted
 locker_reached : (c : Core) (g : Ghost) (t : ℕ) (grant : Option ℕ) → Fits c g → (is_queued (g.standing t) || is_some grant) ≡ true

@@ -13,7 +13,7 @@ use Rattle.lfm_protocol.specs.Core.{Core}
 use Rattle.lfm_core.specs.steady.Ghost.{Responsibility, nobody, owned, granted, posted, entering, accepting, leaving, serving, Ghost}
 use Rattle.lfm_core.specs.laws.Lawful.{LoadsItsGrant, Lawful}
 use Rattle.lfm_core.specs.laws.Laws.{StatesAreLawful, HandoffsAreWatched, IsQuiet, IsHeld, IsGranted, QuiescentStatesRest, has_won, TakesFindARecord, FailedPushesSeeChange}
-use Rattle.lfm_core.specs.steady.Outcome.{abstract}
+use Rattle.lfm_core.specs.steady.EventOutcome.{abstract}
 use Rattle.lfm_core.specs.laws.Schedules.{is_call}
 use Rattle.lfm_protocol.specs.Seats.{seat, wake, unposted}
 use Rattle.lfm_core.specs.steady.Steady.{IsSeen, HasQueue, StandsAsCarrier, KnowsRecord, own_unit, again_unit, Fits, Steady}

@@ -10,7 +10,7 @@ use Rattle.lfm_words.specs.declared.pop_lists.Record.{Record}
 use Rattle.lfm_protocol.specs.Core.{Core}
 use Rattle.lfm_core.specs.steady.Ghost.{Responsibility, nobody, owned, granted, posted, entering, accepting, leaving, serving, Standing, apart, claimed, asks, queued, Ghost}
 use Rattle.lfm_core.specs.steady.Numbered.{records, changed}
-use Rattle.lfm_core.specs.steady.Outcome.{abstract, abstract_place, queue_of_ghost}
+use Rattle.lfm_core.specs.steady.EventOutcome.{abstract, abstract_place, queue_of_ghost}
 use Rattle.lfm_protocol.specs.Seats.{seat, absent}
 use Rattle.lfm_core.specs.steady.Steady.{Fits, asking_unit}
 use Rattle.lfm_core.specs.steady.Views.{is_asking, is_queued, held_by, grant_at, is_entered}

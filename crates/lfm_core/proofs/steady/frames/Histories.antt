@@ -4,7 +4,7 @@ use Rattle.std.proofs.lemmas.List.{append-nil}
 use Rattle.lfm_words.specs.declared.pop_lists.Record.{Record}
 use Rattle.lfm_core.specs.steady.Ghost.{Ghost}
 use Rattle.lfm_core.specs.steady.Numbered.{records, changed}
-use Rattle.lfm_core.specs.steady.Outcome.{GoesOn}
+use Rattle.lfm_core.specs.steady.EventOutcome.{GoesOn}
 use Rattle.lfm_core.proofs.steady.frames.Sums.{changed_same, changed_other}
 
 -- functions that agree on these stamps make the same records

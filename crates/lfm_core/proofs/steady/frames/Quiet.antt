@@ -4,7 +4,7 @@ use Rattle.std.proofs.lemmas.Bool.{eq-eqb}
 use Rattle.lfm_protocol.specs.declared.points.Point.{Point}
 use Rattle.lfm_protocol.specs.Core.{Core, put}
 use Rattle.lfm_core.specs.steady.Ghost.{Responsibility, nobody, owned, granted, posted, entering, accepting, leaving, serving, Standing, Ghost}
-use Rattle.lfm_core.specs.steady.Outcome.{Outcome}
+use Rattle.lfm_core.specs.steady.EventOutcome.{EventOutcome}
 use Rattle.lfm_core.specs.steady.Steady.{Fits, owner_of, SeatFits}
 use Rattle.lfm_core.specs.steady.Views.{held_by, wake_by, wake_at}
 use Rattle.lfm_core.proofs.steady.frames.Abstracts.{stays_same}
@@ -31,7 +31,7 @@ owner_of-held (leaving t) s above e = absurd (omega (arith, above, e))
 owner_of-held (serving t) s above e = absurd (omega (arith, above, e))
 
 -- nothing that the abstract mutex or the records of a run tell changes, however far the queue was walked
-pub walk_kept : (g : Ghost) (d : Core) (walk : ℕ) → Fits d (record g { walk = walk }) → Outcome g d None [] [] []
+pub walk_kept : (g : Ghost) (d : Core) (walk : ℕ) → Fits d (record g { walk = walk }) → EventOutcome g d None [] [] []
 walk_kept g d walk fits =
     let h : Ghost = record g { walk = walk } in
     record {
@@ -42,10 +42,10 @@ walk_kept g d walk fits =
     }
 
 -- nothing but the view of a seat goes on
-pub view_kept : (g : Ghost) (d : Core) → Fits d g → Outcome g d None [] [] []
+pub view_kept : (g : Ghost) (d : Core) → Fits d g → EventOutcome g d None [] [] []
 view_kept g d fits = walk_kept g d g.walk fits
 
 -- seat s moves on, and no word changes
 pub moves_quietly : (c : Core) (g : Ghost) (s : ℕ) (y : SeatState) → IsSeat c.seats s → Fits c g → Errands c s y
-    → SeatFits c g s y (wake c.wakes s) → Outcome g (put c s y) None [] [] []
+    → SeatFits c g s y (wake c.wakes s) → EventOutcome g (put c s y) None [] [] []
 moves_quietly c g s y is fits errands own = view_kept g (put c s y) (view_moves c g s y is fits errands own)

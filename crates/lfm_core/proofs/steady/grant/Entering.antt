@@ -10,7 +10,7 @@ use Rattle.lfm_protocol.specs.declared.points.Point.TheVariants.{EnterOwnerStore
 use Rattle.lfm_words.specs.declared.wakes.Wake.TheVariants.{Quiet}
 use Rattle.lfm_protocol.specs.Core.{Core, put}
 use Rattle.lfm_core.specs.steady.Ghost.{Responsibility, nobody, owned, granted, posted, entering, accepting, leaving, serving, Standing, apart, queued, Ghost}
-use Rattle.lfm_core.specs.steady.Outcome.{Outcome, abstract, GoesBy}
+use Rattle.lfm_core.specs.steady.EventOutcome.{EventOutcome, abstract, GoesBy}
 use Rattle.lfm_protocol.specs.Seats.{seat, wake, IsSeat}
 use Rattle.lfm_core.specs.steady.Steady.{EntersFits, StandsAt, StandsAsEntrant, own_unit, again_unit, WorkFits, SeatFits, Fits}
 use Rattle.lfm_core.specs.steady.Views.{claim_to_enter, held_by, grant_at, wake_at, asks_for_at, claims_for_at, due_posts_at}
@@ -135,7 +135,7 @@ goes_free c g s fits none =
 
 pub enters_freely : (c : Core) (g : Ghost) (s takes posts : ℕ) (p : Point) (entrant : Entrant) → IsSeat c.seats s
     → seat c.seats s ≡ record { depth = 0; takes = takes; posts = posts; point = p } → MayEnter s p → Fits c g → c.count ≡ 0
-    → Outcome g (put (record c { count = 1 }) s (record { depth = 0; takes = takes; posts = posts; point = EnterOwnerStore entrant How.Free })) (Some ask) [] [] []
+    → EventOutcome g (put (record c { count = 1 }) s (record { depth = 0; takes = takes; posts = posts; point = EnterOwnerStore entrant How.Free })) (Some ask) [] [] []
 enters_freely c g s takes posts p entrant is at may fits none =
     record {
       to = record g { place = entering s s 0 };

@@ -10,7 +10,7 @@ use Rattle.lfm_model.specs.AbstractRuns.{ask}
 use Rattle.lfm_protocol.specs.Core.{Core, put}
 use Rattle.lfm_core.specs.steady.Ghost.{Responsibility, nobody, owned, granted, posted, entering, accepting, leaving, serving, Standing, apart, claimed, asks, queued, Ghost}
 use Rattle.lfm_core.specs.steady.Numbered.{changed}
-use Rattle.lfm_core.specs.steady.Outcome.{abstract, abstract_place, GoesBy}
+use Rattle.lfm_core.specs.steady.EventOutcome.{abstract, abstract_place, GoesBy}
 use Rattle.lfm_protocol.specs.Seats.{seat, wake, with_entry, IsSeat}
 use Rattle.lfm_core.specs.steady.Steady.{SeatFits, AgentFits, WordsFit, WorkFits, asking_unit, queued_unit, SumsFit, StampFits, Fits}
 use Rattle.lfm_core.specs.steady.Views.{asks_for, claims_for, is_asking, is_queued, held_by, grant_at, is_entered}

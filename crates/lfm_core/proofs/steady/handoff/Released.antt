@@ -11,7 +11,7 @@ use Rattle.lfm_protocol.specs.After.{releases}
 use Rattle.lfm_protocol.specs.Core.{Core}
 use Rattle.lfm_core.specs.laws.Events.{answered_by}
 use Rattle.lfm_core.specs.steady.Ghost.{posted, Ghost}
-use Rattle.lfm_core.specs.steady.Outcome.{GoesOn}
+use Rattle.lfm_core.specs.steady.EventOutcome.{GoesOn}
 use Rattle.lfm_protocol.specs.Seats.{seat}
 use Rattle.lfm_core.specs.steady.Steady.{SeatFits}
 use Rattle.lfm_core.specs.steady.Views.{grant_at, asks_for, claims_for}

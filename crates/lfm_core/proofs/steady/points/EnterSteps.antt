@@ -9,7 +9,7 @@ use Rattle.lfm_protocol.specs.declared.points.Point.{Point}
 use Rattle.lfm_protocol.specs.declared.points.Point.TheVariants.{Rest, EnterOwnerStore}
 use Rattle.lfm_protocol.specs.Core.{Core, put}
 use Rattle.lfm_core.specs.steady.Ghost.{owned, entering, Standing, apart, Ghost}
-use Rattle.lfm_core.specs.steady.Outcome.{Outcome, Kept, abstract, GoesBy}
+use Rattle.lfm_core.specs.steady.EventOutcome.{EventOutcome, Kept, abstract, GoesBy}
 use Rattle.lfm_protocol.specs.Seats.{seat, wake, IsSeat}
 use Rattle.lfm_core.specs.steady.Steady.{StandsAsEntrant, own_unit, again_unit, unanswered, SeatFits, Fits}
 use Rattle.lfm_core.proofs.steady.grant.Entering.{Enters, MayEnter, enters_of, apart_not_queued}
@@ -76,7 +76,7 @@ goes_in g s stamp answered place =
 -- the mutex was free
 holds_free : (c : Core) (g : Ghost) (s takes posts : ℕ) (p : Point) → IsSeat c.seats s
     → seat c.seats s ≡ record { depth = 0; takes = takes; posts = posts; point = p } → MayEnter s p → g.place ≡ entering s s 0 → Fits c g
-    → Outcome g (put (record c { owner = s }) s (record { depth = 1; takes = takes; posts = posts; point = Rest })) (Some enter) [] [] []
+    → EventOutcome g (put (record c { owner = s }) s (record { depth = 1; takes = takes; posts = posts; point = Rest })) (Some enter) [] [] []
 holds_free c g s takes posts p is at may place fits =
     let answers : g.answered ≡ g.popped = let e = rw place at fits.words.answers in omega (arith, e) in
     let h : Ghost = record g { place = owned s false } in

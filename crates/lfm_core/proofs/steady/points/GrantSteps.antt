@@ -18,7 +18,7 @@ use Rattle.lfm_protocol.specs.After as After
 use Rattle.lfm_protocol.specs.Core.{Core}
 use Rattle.lfm_core.specs.laws.Events.{answered_by}
 use Rattle.lfm_core.specs.steady.Ghost.{serving, apart, queued, Ghost}
-use Rattle.lfm_core.specs.steady.Outcome.{abstract, abstract_place, Kept, GoesBy}
+use Rattle.lfm_core.specs.steady.EventOutcome.{abstract, abstract_place, Kept, GoesBy}
 use Rattle.lfm_protocol.specs.Seats.{seat, wake, IsSeat}
 use Rattle.lfm_core.specs.steady.Steady.{GivesAway, StandsAsCarrier, Fits}
 use Rattle.lfm_core.specs.steady.Views.{due_posts_of_granter, due_pushes_of_carrier, waits_on}

@@ -16,7 +16,7 @@ use Rattle.lfm_words.specs.Popped.{oldest}
 use Rattle.lfm_protocol.specs.After.{same_handoff, carrier_of}
 use Rattle.lfm_protocol.specs.Core.{Core}
 use Rattle.lfm_core.specs.steady.Ghost.{Standing, Ghost, nobody, posted, accepting, serving}
-use Rattle.lfm_core.specs.steady.Outcome.{Kept, GoesBy, abstract, abstract_place}
+use Rattle.lfm_core.specs.steady.EventOutcome.{Kept, GoesBy, abstract, abstract_place}
 use Rattle.lfm_protocol.specs.Seats.{seat, wake, IsSeat}
 use Rattle.lfm_core.specs.steady.Steady.{Fits, KnowsRecord, StandsAsCarrier, AwaitsAsPusher, PushedFits}
 use Rattle.lfm_core.specs.steady.Views.{is_queued, grant_at, due_posts_of_pusher, due_posts_of_carrier, due_pushes_of_carrier}

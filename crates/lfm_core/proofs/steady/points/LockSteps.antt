@@ -8,7 +8,7 @@ use Rattle.lfm_protocol.specs.declared.points.Point.TheVariants.{Rest, LockCount
 use Rattle.lfm_protocol.specs.declared.points.Pusher.TheVariants as Pusher
 use Rattle.lfm_protocol.specs.Core.{Core, put}
 use Rattle.lfm_core.specs.steady.Ghost.{owned, apart, asks, Ghost}
-use Rattle.lfm_core.specs.steady.Outcome.{Kept}
+use Rattle.lfm_core.specs.steady.EventOutcome.{Kept}
 use Rattle.lfm_protocol.specs.Seats.{seat, wake, IsSeat}
 use Rattle.lfm_core.specs.steady.Steady.{SeatFits, Fits, own_unit, again_unit}
 use Rattle.lfm_core.specs.steady.Views.{grant_at}

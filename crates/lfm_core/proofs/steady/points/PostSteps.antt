@@ -11,7 +11,7 @@ use Rattle.lfm_protocol.specs.declared.seats.SeatState.{SeatState}
 use Rattle.lfm_words.specs.declared.handoffs.Handoff.{Handoff}
 use Rattle.lfm_protocol.specs.Core.{Core}
 use Rattle.lfm_core.specs.steady.Ghost.{Ghost, posted, serving, apart, queued}
-use Rattle.lfm_core.specs.steady.Outcome.{Kept, GoesBy, abstract, abstract_place}
+use Rattle.lfm_core.specs.steady.EventOutcome.{Kept, GoesBy, abstract, abstract_place}
 use Rattle.lfm_protocol.specs.Seats.{seat, wake, entry, IsSeat}
 use Rattle.lfm_core.specs.steady.Steady.{Fits, HasQueue, HeadStays, cleared}
 use Rattle.lfm_core.specs.steady.Views.{grant_at, asks_for}

@@ -13,7 +13,7 @@ use Rattle.lfm_protocol.specs.After.{same_link}
 use Rattle.lfm_protocol.specs.Core.{Core, put}
 use Rattle.lfm_core.specs.steady.Ghost.{Standing, asks, queued, Ghost}
 use Rattle.lfm_core.specs.steady.Numbered.{changed}
-use Rattle.lfm_core.specs.steady.Outcome.{abstract, GoesBy, Outcome, Kept}
+use Rattle.lfm_core.specs.steady.EventOutcome.{abstract, GoesBy, EventOutcome, Kept}
 use Rattle.lfm_protocol.specs.Points.{pushed_seat}
 use Rattle.lfm_protocol.specs.Seats.{seat, link, wake, IsSeat}
 use Rattle.lfm_core.specs.steady.Steady.{SeatFits, Fits, asking_unit}
@@ -95,7 +95,7 @@ goes_pushed c g s u fits asked = (
 )
 
 push_kept : (c : Core) (g : Ghost) (s u : ℕ) (seen : Link) (y : SeatState) → IsSeat c.seats s → Fits c g → Pushes c g s u seen y
-    → Outcome g (put (exchanged c seen u) s y) (Some queue) (record { seat = u; stamp = seen.stamp + 1 } ∷ []) [] []
+    → EventOutcome g (put (exchanged c seen u) s y) (Some queue) (record { seat = u; stamp = seen.stamp + 1 } ∷ []) [] []
 push_kept c g s u seen y is fits step =
     let words = fits.words in
     let stamp : seen.stamp ≡ g.pushed = sym (ap (λ l. l.stamp) step.found) ∙ words.stamp in

@@ -9,7 +9,7 @@ use Rattle.lfm_words.specs.declared.handoffs.Handoff.{Handoff}
 use Rattle.lfm_words.specs.declared.wakes.Wake.{Wake}
 use Rattle.lfm_protocol.specs.Core.{Core}
 use Rattle.lfm_core.specs.steady.Ghost.{posted, Ghost}
-use Rattle.lfm_core.specs.steady.Outcome.{Kept}
+use Rattle.lfm_core.specs.steady.EventOutcome.{Kept}
 use Rattle.lfm_protocol.specs.Seats.{seat, wake, IsSeat}
 use Rattle.lfm_core.specs.steady.Steady.{IsOld, HasQueue, SeatFits, Fits}
 use Rattle.lfm_core.specs.steady.Views.{grant_at, is_queued}

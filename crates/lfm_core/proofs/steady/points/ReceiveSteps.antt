@@ -11,7 +11,7 @@ use Rattle.lfm_words.specs.declared.wakes.Wake.{Wake}
 use Rattle.lfm_words.specs.declared.wakes.Wake.TheVariants.{Quiet, Waiting, Grant}
 use Rattle.lfm_protocol.specs.Core.{Core, put}
 use Rattle.lfm_core.specs.steady.Ghost.{Ghost, entering, granted}
-use Rattle.lfm_core.specs.steady.Outcome.{Kept}
+use Rattle.lfm_core.specs.steady.EventOutcome.{Kept}
 use Rattle.lfm_protocol.specs.Seats.{seat, wake, IsSeat}
 use Rattle.lfm_core.specs.steady.Steady.{EntersFits, SeatFits, Fits}
 use Rattle.lfm_core.specs.steady.Views.{is_some, grant_at, is_entered, stamp_of, held_by}

@@ -13,7 +13,7 @@ use Rattle.lfm_words.specs.Popped.{oldest}
 use Rattle.lfm_words.specs.declared.pop_lists.Record.{Record}
 use Rattle.lfm_protocol.specs.Core.{Core}
 use Rattle.lfm_core.specs.steady.Ghost.{Ghost, nobody, owned, leaving, serving}
-use Rattle.lfm_core.specs.steady.Outcome.{Kept, GoesBy, abstract, abstract_place}
+use Rattle.lfm_core.specs.steady.EventOutcome.{Kept, GoesBy, abstract, abstract_place}
 use Rattle.lfm_protocol.specs.Seats.{seat, wake, IsSeat}
 use Rattle.lfm_core.specs.steady.Steady.{Fits}
 use Rattle.lfm_core.proofs.steady.frames.Abstracts.{somebody, nobody_left}

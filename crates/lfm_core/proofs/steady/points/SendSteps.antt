@@ -8,7 +8,7 @@ use Rattle.lfm_words.specs.declared.wakes.Wake.TheVariants.{Waiting}
 use Rattle.lfm_model.specs.Abstract as Abstract
 use Rattle.lfm_protocol.specs.Core.{Core, put}
 use Rattle.lfm_core.specs.steady.Ghost.{nobody, entering, apart, claimed, asks, Ghost}
-use Rattle.lfm_core.specs.steady.Outcome.{Kept}
+use Rattle.lfm_core.specs.steady.EventOutcome.{Kept}
 use Rattle.lfm_protocol.specs.Seats.{seat, wake, IsSeat}
 use Rattle.lfm_core.specs.steady.Steady.{SeatFits, Fits}
 use Rattle.lfm_core.specs.steady.Views.{is_some, is_asking, grant_at, held_by}

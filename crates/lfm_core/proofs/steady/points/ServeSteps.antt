@@ -10,7 +10,7 @@ use Rattle.lfm_words.specs.declared.pop_lists.Record.{Record}
 use Rattle.lfm_words.specs.declared.wakes.Wake.TheVariants.{Quiet}
 use Rattle.lfm_protocol.specs.Core.{Core, put}
 use Rattle.lfm_core.specs.steady.Ghost.{nobody, entering, owned, serving, posted, apart, queued, Ghost}
-use Rattle.lfm_core.specs.steady.Outcome.{abstract, abstract_place, Kept}
+use Rattle.lfm_core.specs.steady.EventOutcome.{abstract, abstract_place, Kept}
 use Rattle.lfm_protocol.specs.Seats.{seat, wake, IsSeat}
 use Rattle.lfm_core.specs.steady.Steady.{SeatFits, Fits}
 use Rattle.lfm_core.specs.steady.Views.{held_by}

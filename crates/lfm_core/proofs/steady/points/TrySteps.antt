@@ -6,7 +6,7 @@ use Rattle.lfm_protocol.specs.declared.points.Entrant.TheVariants as Entrant
 use Rattle.lfm_protocol.specs.declared.points.Point.TheVariants.{Rest, TryCountExchange, TryOwnerLoad, TryHandoffLoad, TryHandoffExchange, TryCountAdd}
 use Rattle.lfm_protocol.specs.Core.{Core, put}
 use Rattle.lfm_core.specs.steady.Ghost.{owned, entering, accepting, Ghost}
-use Rattle.lfm_core.specs.steady.Outcome.{Kept}
+use Rattle.lfm_core.specs.steady.EventOutcome.{Kept}
 use Rattle.lfm_protocol.specs.Seats.{seat, IsSeat}
 use Rattle.lfm_core.specs.steady.Steady.{own_unit, again_unit, Fits}
 use Rattle.lfm_core.specs.steady.Views.{grant_at}

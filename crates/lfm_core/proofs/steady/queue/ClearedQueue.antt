@@ -6,7 +6,7 @@ use Rattle.lfm_protocol.specs.declared.points.Point.TheVariants.{TakeClearHead, 
 use Rattle.lfm_protocol.specs.declared.points.Releaser.{Releaser}
 use Rattle.lfm_protocol.specs.Core.{Core, put}
 use Rattle.lfm_core.specs.steady.Ghost.{serving, Ghost}
-use Rattle.lfm_core.specs.steady.Outcome.{Kept}
+use Rattle.lfm_core.specs.steady.EventOutcome.{Kept}
 use Rattle.lfm_protocol.specs.Seats.{seat, wake, IsSeat}
 use Rattle.lfm_core.specs.steady.Steady.{HasQueue, cleared, StampFits, Fits}
 use Rattle.lfm_core.proofs.steady.queue.Carrying.{carried_core, walking, carries_on}

@@ -8,7 +8,7 @@ use Rattle.lfm_words.specs.declared.links.Link.{Link}
 use Rattle.lfm_words.specs.declared.wakes.Wake.{Wake}
 use Rattle.lfm_protocol.specs.Core.{Core, put, put_link}
 use Rattle.lfm_core.specs.steady.Ghost.{asks, Ghost}
-use Rattle.lfm_core.specs.steady.Outcome.{Kept}
+use Rattle.lfm_core.specs.steady.EventOutcome.{Kept}
 use Rattle.lfm_protocol.specs.Points.{pushed_seat}
 use Rattle.lfm_protocol.specs.Seats.{seat, wake, no_link, IsSeat}
 use Rattle.lfm_core.specs.steady.Steady.{ErrandFits, StandsAsPusher, SeatFits, StampFits, Fits}

@@ -8,7 +8,7 @@ use Rattle.lfm_protocol.specs.declared.points.Releaser.{Releaser}
 use Rattle.lfm_model.specs.declared.answers.How.TheVariants.{Queued}
 use Rattle.lfm_protocol.specs.Core.{Core, put}
 use Rattle.lfm_core.specs.steady.Ghost.{Ghost}
-use Rattle.lfm_core.specs.steady.Outcome.{Kept}
+use Rattle.lfm_core.specs.steady.EventOutcome.{Kept}
 use Rattle.lfm_protocol.specs.Seats.{seat, link, IsSeat}
 use Rattle.lfm_core.specs.steady.Steady.{GivesAway, Fits}
 use Rattle.lfm_core.specs.steady.Views.{due_posts_of_carrier, due_posts_of_granter}

@@ -1,15 +1,15 @@
 use Rattle.std.proofs.Common.{ℕ, ◌≡◌, Some, ap, subst, sym, ◌∙◌, ◌++◌, ◌∷◌, []}
 use Rattle.lfm_model.specs.Journals.{entry}
 use Rattle.lfm_model.specs.declared.journals.What.TheVariants.{Did}
-use Rattle.lfm_monitor.specs.Writes.{May_write}
+use Rattle.lfm_monitor.specs.Writes.{MayWrite}
 use Rattle.lfm_monitor.proofs.Knowing.{one_some}
 use Rattle.lfm_monitor.proofs.write.write_did.Goals as goal
 
 pub did-requires-clause-seat : goal.did-requires-clause-seat
-did-requires-clause-seat g c κs within = let v = c.in-Some.journaled.now in let m = subst (λ (n : ℕ). May_write n v) (sym c.number-number.ensures) (c.requires.may v c.in-Some.ensures.value.1).0 in (m.0, m.1)
+did-requires-clause-seat g c κs within = let v = c.in-Some.journaled.now in let m = subst (λ (n : ℕ). MayWrite n v) (sym c.number-number.ensures) (c.requires.may v c.in-Some.ensures.value.1).0 in (m.0, m.1)
 
 pub did-requires-clause-share : goal.did-requires-clause-share
-did-requires-clause-share g c κs within = let v = c.in-Some.journaled.now in let m = subst (λ (n : ℕ). May_write n v) (sym c.number-number.ensures) (c.requires.may v c.in-Some.ensures.value.1).0 in m.2
+did-requires-clause-share g c κs within = let v = c.in-Some.journaled.now in let m = subst (λ (n : ℕ). MayWrite n v) (sym c.number-number.ensures) (c.requires.may v c.in-Some.ensures.value.1).0 in m.2
 
 pub did-requires-clause-taker : goal.did-requires-clause-taker
 did-requires-clause-taker g c κs within = (c.requires.may c.in-Some.journaled.now c.in-Some.ensures.value.1).1 ∙ ap Some (sym c.number-number.ensures)

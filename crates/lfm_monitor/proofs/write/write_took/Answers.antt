@@ -1,14 +1,14 @@
 use Rattle.std.proofs.Common.{ℕ, ap, subst, sym, ◌∙◌, ◌++◌, ◌∷◌, []}
 use Rattle.lfm_model.specs.Journals.{entry}
 use Rattle.lfm_model.specs.declared.journals.What.TheVariants.{Took}
-use Rattle.lfm_monitor.specs.Writes.{May_write}
+use Rattle.lfm_monitor.specs.Writes.{MayWrite}
 use Rattle.lfm_monitor.proofs.write.write_took.Goals as goal
 
 pub took-requires-clause-seat : goal.took-requires-clause-seat
-took-requires-clause-seat g c κs within = let v = c.in-Some.journaled.now in let m = subst (λ (n : ℕ). May_write n v) (sym c.number-number.ensures) (c.requires.may v c.in-Some.ensures.value.1).0 in (m.0, m.1)
+took-requires-clause-seat g c κs within = let v = c.in-Some.journaled.now in let m = subst (λ (n : ℕ). MayWrite n v) (sym c.number-number.ensures) (c.requires.may v c.in-Some.ensures.value.1).0 in (m.0, m.1)
 
 pub took-requires-clause-share : goal.took-requires-clause-share
-took-requires-clause-share g c κs within = let v = c.in-Some.journaled.now in let m = subst (λ (n : ℕ). May_write n v) (sym c.number-number.ensures) (c.requires.may v c.in-Some.ensures.value.1).0 in m.2
+took-requires-clause-share g c κs within = let v = c.in-Some.journaled.now in let m = subst (λ (n : ℕ). MayWrite n v) (sym c.number-number.ensures) (c.requires.may v c.in-Some.ensures.value.1).0 in m.2
 
 pub took-requires-clause-how : goal.took-requires-clause-how
 took-requires-clause-how g c κs within = (c.requires.may c.in-Some.journaled.now c.in-Some.ensures.value.1).1

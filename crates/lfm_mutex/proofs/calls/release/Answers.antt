@@ -2,7 +2,7 @@ use Rattle.std.proofs.Common.{ℕ, ◌+◌, ◌≤◌, Option, length, sym, ap, 
 use Rattle.lfm_table.specs.declared.seat_view.View.{View}
 use Rattle.lfm_table.specs.declared.rule.Moving.{Moving}
 use Rattle.lfm_mutex.specs.calls.Runs.{Ran, opens, release_steps}
-use Rattle.lfm_table.specs.Steps.{Leaves}
+use Rattle.lfm_table.specs.Steps.{MayBeLeft}
 use Rattle.lfm_mutex.proofs.runs.Running.{begun_release, weight_begun, called_steps, called_at_once}
 use Rattle.lfm_table.specs.Rule.{value_in}
 use Rattle.lfm_mutex.specs.calls.Sight.{sight_of, Turned}
@@ -20,7 +20,7 @@ pub finish_release-requires-clause-leaves : goal.finish_release-requires-clause-
 finish_release-requires-clause-leaves g c κs within = let s = c.args.seat.now in let b = c.begin_call.new.seat in
     let began = begun g.T.Kept.follows g.T.Kept.fits s.number s.limits s.place.me.0 (value_in s.moving) s.standing b.standing c.args.call c.in-Open.ensures.turn c.in-Open.ensures.seat in
     let may = may_leave g.T.Kept.follows g.T.Kept.fits s.number s.standing s.place.me.0 s.moving s.seated.named (release_deep s.limits c.args.call s.standing b.standing c.requires.gives began) c.requires.leaves in
-    subst (λ (t : Option (Moving g.row.T.Denot) × View g.row.T.Denot). Leaves g.T.Kept.follows g.T.Kept.fits t.0 t.1) (λ i. (sym c.begin_call.ensures.same.3 i, ap (λ p. p.me.0) (sym c.begin_call.ensures.same.0) i)) may
+    subst (λ (t : Option (Moving g.row.T.Denot) × View g.row.T.Denot). MayBeLeft g.T.Kept.follows g.T.Kept.fits t.0 t.1) (λ i. (sym c.begin_call.ensures.same.3 i, ap (λ p. p.me.0) (sym c.begin_call.ensures.same.0) i)) may
 
 pub returns-in-Open-clause-answers : goal.returns-in-Open-clause-answers
 returns-in-Open-clause-answers g c = let s = c.args.seat.now in let b = c.begin_call.new.seat in let f = c.finish_release.new.seat in

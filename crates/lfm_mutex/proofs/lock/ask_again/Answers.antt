@@ -12,7 +12,7 @@ use Rattle.lfm_table.specs.Rule.{value_in}
 use Rattle.lfm_mutex.specs.calls.Runs.{opens}
 use Rattle.lfm_mutex.specs.calls.Sight.{sight_of}
 use Rattle.lfm_table.specs.Steps.{oldest_in}
-use Rattle.lfm_mutex.specs.calls.Straight.{Course, Comes_to}
+use Rattle.lfm_mutex.specs.calls.Straight.{Course, ComesTo}
 use Rattle.lfm_mutex.proofs.runs.Courses.{course_none, course_next, course_join, comes}
 use Rattle.lfm_table.proofs.tables.StepFacts.{made_of}
 use Rattle.lfm_mutex.proofs.runs.StraightPoints.{begins_again, fit_begun, added_none, added_some, owned, fit_after}
@@ -46,6 +46,6 @@ returns-clause-made g c =
     let second = course_next g.T.Kept.follows g.T.Kept.fits s.number p0 s.moving s.place.me.0 f.new.place.table_id.words f.new.place.id s.limits p1 h.result f.new.place.me s.moving h.new.place.me s.moving h.new.place.table_id.words h.new.place.id (opens p2) first fit1 h.ensures.step is2 (λ e. cc) refl in
     let fit2 = fit_after g.T.Kept.follows g.T.Kept.fits s.number h.new.place.table_id.words h.new.place.id s.limits p1 h.result f.new.place.me s.moving h.new.place.me s.moving h.ensures.step (opens p2) is2 in
     let last = course_next g.T.Kept.follows g.T.Kept.fits s.number p0 s.moving s.place.me.0 h.new.place.table_id.words h.new.place.id s.limits p2 k.ensures.step.0 h.new.place.me s.moving k.new.place.me s.moving k.new.place.table_id.words k.new.place.id (stepped_by p2 s.number k.ensures.step.0 (oldest_in s.moving)) second fit2 k.ensures.step.1 refl (λ e. cc) refl in
-    subst (λ (x : SeatState). Comes_to g.T.Kept.follows g.T.Kept.fits c.args.mutex.now.limits Call.Lock (sight_of s.number s.standing s.place.me.0 (value_in s.moving)) (sight_of s.number x k.new.place.me.0 (value_in s.moving)) (Ended (Answer.Asked (Asked.Again (d + 1)))))
+    subst (λ (x : SeatState). ComesTo g.T.Kept.follows g.T.Kept.fits c.args.mutex.now.limits Call.Lock (sight_of s.number s.standing s.place.me.0 (value_in s.moving)) (sight_of s.number x k.new.place.me.0 (value_in s.moving)) (Ended (Answer.Asked (Asked.Again (d + 1)))))
     (λ i. record { depth = d + 1; takes = t; posts = ps; point = sym c.requires.rests i })
     (comes g.T.Kept.follows g.T.Kept.fits s.number p0 s.moving s.place.me.0 s.number s.limits c.args.mutex.now.limits Call.Lock s.standing (made_of (d + 1) t ps Rest) (Ended (Answer.Asked (Asked.Again (d + 1)))) s.moving k.new.place.me.0 c.requires.belongs.1 refl refl begins refl last)

@@ -12,7 +12,7 @@ use Rattle.lfm_table.specs.Rule.{value_in}
 use Rattle.lfm_mutex.specs.calls.Runs.{opens}
 use Rattle.lfm_mutex.specs.calls.Sight.{sight_of}
 use Rattle.lfm_table.specs.Steps.{oldest_in}
-use Rattle.lfm_mutex.specs.calls.Straight.{Course, Comes_to}
+use Rattle.lfm_mutex.specs.calls.Straight.{Course, ComesTo}
 use Rattle.lfm_mutex.proofs.runs.Courses.{course_none, course_next, course_join, comes}
 use Rattle.lfm_table.proofs.tables.StepFacts.{made_of}
 use Rattle.lfm_mutex.proofs.runs.StraightPoints.{begins_free, fit_begun, added_none, added_some, fit_after}
@@ -44,7 +44,7 @@ returns-clause-made g c =
     let between = fit_after g.T.Kept.follows g.T.Kept.fits s.number f.new.place.table_id.words f.new.place.id s.limits (made_of 0 t ps LockCountAdd) f.result s.place.me s.moving f.new.place.me f.new.moving f.ensures.step (opens q) is in
     let last = course_next g.T.Kept.follows g.T.Kept.fits s.number (made_of 0 t ps LockCountAdd) s.moving s.place.me.0 f.new.place.table_id.words f.new.place.id s.limits q h.ensures.step.0 f.new.place.me f.new.moving h.new.place.me f.new.moving h.new.place.table_id.words h.new.place.id (stepped_by q s.number h.ensures.step.0 (oldest_in f.new.moving))
     first between h.ensures.step.1 refl (λ e. cc) refl in
-    subst (λ (x : SeatState). Comes_to g.T.Kept.follows g.T.Kept.fits c.args.mutex.now.limits Call.Lock (sight_of s.number s.standing s.place.me.0 (value_in s.moving)) (sight_of s.number x h.new.place.me.0 (value_in f.new.moving)) (Ended (Answer.Asked (Asked.Held How.Free))))
+    subst (λ (x : SeatState). ComesTo g.T.Kept.follows g.T.Kept.fits c.args.mutex.now.limits Call.Lock (sight_of s.number s.standing s.place.me.0 (value_in s.moving)) (sight_of s.number x h.new.place.me.0 (value_in f.new.moving)) (Ended (Answer.Asked (Asked.Held How.Free))))
     (λ i. record { depth = 1; takes = t; posts = ps; point = sym c.requires.rests i })
     (comes g.T.Kept.follows g.T.Kept.fits s.number (made_of 0 t ps LockCountAdd) s.moving s.place.me.0 s.number s.limits c.args.mutex.now.limits Call.Lock s.standing (made_of 1 t ps Rest) (Ended (Answer.Asked (Asked.Held How.Free))) f.new.moving h.new.place.me.0 c.requires.belongs.1 refl refl begins refl last)
 

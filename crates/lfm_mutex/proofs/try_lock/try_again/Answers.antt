@@ -11,7 +11,7 @@ use Rattle.lfm_table.specs.Rule.{value_in}
 use Rattle.lfm_mutex.specs.calls.Runs.{opens}
 use Rattle.lfm_mutex.specs.calls.Sight.{sight_of}
 use Rattle.lfm_table.specs.Steps.{oldest_in}
-use Rattle.lfm_mutex.specs.calls.Straight.{Course, Comes_to, try_turn}
+use Rattle.lfm_mutex.specs.calls.Straight.{Course, ComesTo, try_turn}
 use Rattle.lfm_mutex.proofs.runs.Courses.{course_none, course_next, course_join, comes}
 use Rattle.lfm_table.proofs.tables.StepFacts.{made_of}
 use Rattle.lfm_mutex.proofs.runs.StraightPoints.{begins_try_again, fit_begun, exchanged_none, exchanged_some, try_owned, fit_after}
@@ -44,6 +44,6 @@ returns-clause-made g c =
     let first = course_next g.T.Kept.follows g.T.Kept.fits s.number p0 s.moving s.place.me.0 s.place.table_id.words s.place.id s.limits p0 f.result s.place.me s.moving f.new.place.me s.moving f.new.place.table_id.words f.new.place.id (opens p1) (course_none g.T.Kept.follows g.T.Kept.fits s.number p0 s.moving s.place.me.0) fit f.ensures.step is1 (λ e. cc) refl in
     let fit1 = fit_after g.T.Kept.follows g.T.Kept.fits s.number f.new.place.table_id.words f.new.place.id s.limits p0 f.result s.place.me s.moving f.new.place.me s.moving f.ensures.step (opens p1) is1 in
     let last = course_next g.T.Kept.follows g.T.Kept.fits s.number p0 s.moving s.place.me.0 f.new.place.table_id.words f.new.place.id s.limits p1 h.result f.new.place.me s.moving h.new.place.me s.moving h.new.place.table_id.words h.new.place.id (record { seat = made_of (d + 1) t ps Rest; turn = Ended (Answer.Locked (Locked.Again (d + 1))) }) first fit1 h.ensures.step is2 (λ e. cc) refl in
-    subst (λ (x : SeatState). Comes_to g.T.Kept.follows g.T.Kept.fits c.args.mutex.now.limits Call.TryLock (sight_of s.number s.standing s.place.me.0 (value_in s.moving)) (sight_of s.number x h.new.place.me.0 (value_in s.moving)) (Ended (Answer.Locked (Locked.Again (d + 1)))))
+    subst (λ (x : SeatState). ComesTo g.T.Kept.follows g.T.Kept.fits c.args.mutex.now.limits Call.TryLock (sight_of s.number s.standing s.place.me.0 (value_in s.moving)) (sight_of s.number x h.new.place.me.0 (value_in s.moving)) (Ended (Answer.Locked (Locked.Again (d + 1)))))
     (λ i. record { depth = d + 1; takes = t; posts = ps; point = sym c.requires.rests i })
     (comes g.T.Kept.follows g.T.Kept.fits s.number p0 s.moving s.place.me.0 s.number s.limits c.args.mutex.now.limits Call.TryLock s.standing (made_of (d + 1) t ps Rest) (Ended (Answer.Locked (Locked.Again (d + 1)))) s.moving h.new.place.me.0 c.requires.belongs.1 refl refl begins refl last)

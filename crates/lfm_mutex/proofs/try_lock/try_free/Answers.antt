@@ -15,7 +15,7 @@ use Rattle.lfm_table.specs.Rule.{value_in}
 use Rattle.lfm_mutex.specs.calls.Runs.{opens}
 use Rattle.lfm_mutex.specs.calls.Sight.{sight_of}
 use Rattle.lfm_table.specs.Steps.{oldest_in}
-use Rattle.lfm_mutex.specs.calls.Straight.{Course, Comes_to, try_turn}
+use Rattle.lfm_mutex.specs.calls.Straight.{Course, ComesTo, try_turn}
 use Rattle.lfm_mutex.proofs.runs.Courses.{course_none, course_next, course_join, comes}
 use Rattle.lfm_table.proofs.tables.StepFacts.{made_of}
 use Rattle.lfm_mutex.proofs.runs.StraightPoints.{begins_try_free, fit_begun, exchanged_none, exchanged_some, try_not_owned, posted, unposted, fit_after}
@@ -34,7 +34,7 @@ returns-then-found-eq0-clause-made g c =
     let first = course_next g.T.Kept.follows g.T.Kept.fits s.number p0 s.moving s.place.me.0 s.place.table_id.words s.place.id s.limits p0 f.result s.place.me s.moving f.new.place.me f.new.moving f.new.place.table_id.words f.new.place.id (opens q) (course_none g.T.Kept.follows g.T.Kept.fits s.number p0 s.moving s.place.me.0) fit f.ensures.step is (λ e. cc) refl in
     let between = fit_after g.T.Kept.follows g.T.Kept.fits s.number f.new.place.table_id.words f.new.place.id s.limits p0 f.result s.place.me s.moving f.new.place.me f.new.moving f.ensures.step (opens q) is in
     let last = course_next g.T.Kept.follows g.T.Kept.fits s.number p0 s.moving s.place.me.0 f.new.place.table_id.words f.new.place.id s.limits q h.ensures.step.0 f.new.place.me f.new.moving h.new.place.me f.new.moving h.new.place.table_id.words h.new.place.id (stepped_by q s.number h.ensures.step.0 (oldest_in f.new.moving)) first between h.ensures.step.1 refl (λ e. cc) refl in
-    subst (λ (x : SeatState). Comes_to g.T.Kept.follows g.T.Kept.fits c.args.mutex.now.limits Call.TryLock (sight_of s.number s.standing s.place.me.0 (value_in s.moving)) (sight_of s.number x h.new.place.me.0 (value_in f.new.moving)) (Ended (Answer.Locked (Locked.Held How.Free))))
+    subst (λ (x : SeatState). ComesTo g.T.Kept.follows g.T.Kept.fits c.args.mutex.now.limits Call.TryLock (sight_of s.number s.standing s.place.me.0 (value_in s.moving)) (sight_of s.number x h.new.place.me.0 (value_in f.new.moving)) (Ended (Answer.Locked (Locked.Held How.Free))))
     (λ i. record { depth = 1; takes = t; posts = ps; point = sym c.requires.rests i })
     (comes g.T.Kept.follows g.T.Kept.fits s.number p0 s.moving s.place.me.0 s.number s.limits c.args.mutex.now.limits Call.TryLock s.standing (made_of 1 t ps Rest) (Ended (Answer.Locked (Locked.Held How.Free))) f.new.moving h.new.place.me.0 c.requires.belongs.1 refl refl begins refl last)
 
@@ -80,7 +80,7 @@ returns-clause-made g c =
     let back : t - 1 ≡ s.standing.takes = omega arith in
     let q = made_of 0 (t - 1) ps Rest in let turn = Refused (Why.By Refusal.Busy) in
     let third = course_next g.T.Kept.follows g.T.Kept.fits s.number p0 s.moving s.place.me.0 h.new.place.table_id.words h.new.place.id s.limits p2 k.result h.new.place.me f.new.moving k.new.place.me f.new.moving k.new.place.table_id.words k.new.place.id (record { seat = q; turn = turn }) second fit2 k.ensures.step is3 (λ e. cc) refl in
-    subst (λ (x : SeatState). Comes_to g.T.Kept.follows g.T.Kept.fits c.args.mutex.now.limits Call.TryLock (sight_of s.number s.standing s.place.me.0 (value_in s.moving)) (sight_of s.number x k.new.place.me.0 (value_in f.new.moving)) turn)
+    subst (λ (x : SeatState). ComesTo g.T.Kept.follows g.T.Kept.fits c.args.mutex.now.limits Call.TryLock (sight_of s.number s.standing s.place.me.0 (value_in s.moving)) (sight_of s.number x k.new.place.me.0 (value_in f.new.moving)) turn)
     (λ i. record { depth = sym c.requires.flat i; takes = back i; posts = ps; point = sym c.requires.rests i })
     (comes g.T.Kept.follows g.T.Kept.fits s.number p0 s.moving s.place.me.0 s.number s.limits c.args.mutex.now.limits Call.TryLock s.standing q turn f.new.moving k.new.place.me.0 c.requires.belongs.1 refl refl begins refl third)
 

@@ -12,7 +12,7 @@ use Rattle.lfm_table.specs.Steps.{Event, oldest_in}
 use Rattle.lfm_mutex.specs.calls.Runs.{opens, weight}
 use Rattle.lfm_mutex.specs.calls.Sight.{sight_of}
 use Rattle.lfm_table.specs.Straight.{Fit}
-use Rattle.lfm_mutex.specs.calls.Straight.{Course, Comes_to}
+use Rattle.lfm_mutex.specs.calls.Straight.{Course, ComesTo}
 use Rattle.lfm_mutex.proofs.runs.Courses.{course_none, course_next, course_join, gives_up}
 use Rattle.lfm_mutex.proofs.runs.Running.{trail_grows, bounded_more}
 use Rattle.lfm_mutex.proofs.runs.Sights.{may_leave}
@@ -60,7 +60,7 @@ returns-clause-made g c =
     let so = course_next g.T.Kept.follows g.T.Kept.fits s.number p1 s.moving h.new.place.me.0 h.new.place.table_id.words h.new.place.id s.limits p1 f.result h.new.place.me s.moving b.me f.new.moving b.table_id.words b.id
     (record { seat = made_of 0 t ps Rest; turn = turn })
     (course_none g.T.Kept.follows g.T.Kept.fits s.number p1 s.moving h.new.place.me.0) fit1 f.ensures.step (freed 0 t ps s.number f.result (oldest_in f.new.moving) c.if-found-ne1.false) (λ e. cc) refl in
-    subst (λ (x : SeatState). Comes_to g.T.Kept.follows g.T.Kept.fits c.args.mutex.now.limits Call.Unlock (sight_of s.number s.standing s.place.me.0 (value_in s.moving)) (sight_of s.number x b.me.0 (value_in f.new.moving)) turn)
+    subst (λ (x : SeatState). ComesTo g.T.Kept.follows g.T.Kept.fits c.args.mutex.now.limits Call.Unlock (sight_of s.number s.standing s.place.me.0 (value_in s.moving)) (sight_of s.number x b.me.0 (value_in f.new.moving)) turn)
     (λ i. record { depth = 0; takes = t; posts = ps; point = sym c.requires.rests i })
     (gives_up g.T.Kept.follows g.T.Kept.fits s.number s.place.table_id.words s.place.id h.new.place.table_id.words h.new.place.id s.number h.ensures.step.0 s.limits p0 p1 s.place.me h.new.place.me s.moving fit refl h.ensures.step.1 refl c.args.mutex.now.limits s.standing (made_of 0 t ps Rest) turn f.new.moving b.me.0 c.requires.belongs.1 refl begins refl so)
 

@@ -1,5 +1,5 @@
 use Rattle.std.proofs.Common.{ap, arith, length, subst, sym, true, ◌∙◌, ◌≡◌, ◌<◌, ◌^◌, ℕ}
-use Rattle.lfm_model.specs.Journals.{Lawful, Within, after_all}
+use Rattle.lfm_model.specs.Journals.{LawfulJournal, Within, after_all}
 use Rattle.lfm_model.specs.Totals.{total_after}
 use Rattle.lfm_monitor.specs.Belongs.{pass_sight, passes_of}
 use Rattle.lfm_script.specs.Adds.{adds}
@@ -78,7 +78,7 @@ returns-clause-report g c =
     (subst (λ (n : ℕ). c.in_ok-rows.rows.items ≡ rows_from (run_row c.deref-4.result.now (refusal_at rs)) 1 n) back.as_many
     (subst (λ qs. c.in_ok-rows.rows.items ≡ rows_from (run_row c.deref-4.result.now (refusal_at qs)) 1 (length qs)) c.deref-3.ensures.value c.in_ok-rows.ensures)) in
     let total_is = c.in-Ok.ensures.legal.0 ∙ ap (λ o. after_all total_after o es) c.in_ok-monitor.ensures.ready.opening in
-    let lawful_is : c.in_ok-lawful.lawful ≡ true = c.in_ok-lawful.ensures.complete (subst Lawful (sym c.deref-5.ensures.value) c.in-Ok.ensures.legal.1)
+    let lawful_is : c.in_ok-lawful.lawful ≡ true = c.in_ok-lawful.ensures.complete (subst LawfulJournal (sym c.deref-5.ensures.value) c.in-Ok.ensures.legal.1)
     (subst (λ xs. c.in-Ok.total ≡ after_all total_after (record { 0 = 0 }) xs) (sym c.deref-5.ensures.value) total_is) in
     reported plan rs es c.in_ok-rows.rows.items c.in-Ok.total _ c.in_ok-lawful.lawful _ is_allowed c.requires.few within made back.as_many rows c.in-Ok.ensures.legal.0
     c.in_ok-monitor.ensures.ready.opening lawful_is (and_true c.none_refused.result c.in_ok-lawful.lawful (are_none rs) (c.none_refused.ensures ∙ ap are_none c.deref-6.ensures.value) lawful_is)

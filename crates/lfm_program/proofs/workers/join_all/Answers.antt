@@ -1,7 +1,7 @@
 use Rattle.std.proofs.Common.{arith, length, rules, subst, ◌<◌}
 use Rattle.lfm_monitor.proofs.Places.{in_range, stands}
 use Rattle.lfm_program.specs.declared.workers.Worked.{Worked}
-use Rattle.lfm_program.specs.Workers.{Works_as}
+use Rattle.lfm_program.specs.Workers.{WorksAs}
 use Rattle.lfm_program.proofs.Threads.{read_here}
 use Rattle.lfm_program.proofs.workers.join_all.Goals as goal
 
@@ -10,7 +10,7 @@ returns-in-Ok-clause-each g c j w at = let rs = c.in-Ok.results in let hs = c.ar
     let within : j < hs.len = (let a = rs.ok in let b = hs.ok in let e = c.in-Ok.ensures.len in omega arith) in let kept = (c.in-Ok.ensures.each j w within).1 in let h = kept.handle in (
       h,
       stands hs.items j h (let b = hs.ok in omega arith) kept.handle_is,
-      subst (λ (r : Worked). Works_as h.promise.monitor.value h.promise.commands.value.items h.promise.pass.value r.pass r.performed) (read_here rs.items j w w at) kept.kept,
+      subst (λ (r : Worked). WorksAs h.promise.monitor.value h.promise.commands.value.items h.promise.pass.value r.pass r.performed) (read_here rs.items j w w at) kept.kept,
     )
 
 pub returns-in-Ok-clause-count : goal.returns-in-Ok-clause-count

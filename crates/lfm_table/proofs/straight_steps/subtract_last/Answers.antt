@@ -3,7 +3,7 @@ use Rattle.lfm_protocol.specs.declared.kinds.Kind.{Kind}
 use Rattle.lfm_table.specs.declared.rule.Moving.{Moving}
 use Rattle.lfm_table.specs.Rule.{Advanced}
 use Rattle.lfm_table.specs.Steps.{CanMake}
-use Rattle.lfm_table.specs.Straight.{Made_step}
+use Rattle.lfm_table.specs.Straight.{MadeStep}
 use Rattle.lfm_table.proofs.tables.StraightSteps.{drops_by, leaves_by, can_give, given_slot, given, taken_back}
 use Rattle.lfm_table.proofs.straight_steps.subtract_last.Goals as goal
 
@@ -16,7 +16,7 @@ subtract_count-found-requires-clause-can g c κs within =
 pub returns-then-found-eq1-clause-step : goal.returns-then-found-eq1-clause-step
 returns-then-found-eq1-clause-step g c = let f = c.subtract_count-found in
     let is_m = c.put_out.ensures.slot in
-    subst (λ (a : Option (Moving g.row.T.Denot)). Made_step g.T.Kept.follows g.T.Kept.fits c.args.number f.new.place.table_id.words f.new.place.id c.args.limits c.args.plain.now 1 c.args.place.now.me c.args.moving.now f.new.place.me a) (sym c.put_out.ensures.moving)
+    subst (λ (a : Option (Moving g.row.T.Denot)). MadeStep g.T.Kept.follows g.T.Kept.fits c.args.number f.new.place.table_id.words f.new.place.id c.args.limits c.args.plain.now 1 c.args.place.now.me c.args.moving.now f.new.place.me a) (sym c.put_out.ensures.moving)
     (given g.T.Kept.follows g.T.Kept.fits c.args.number c.args.place.now.table_id.words c.args.place.now.id c.args.limits c.args.plain.now c.args.place.now.me c.args.moving.now c.requires.fit Kind.CountSubtract c.requires.kind refl (drops_by c.args.plain.now.point Kind.CountSubtract c.requires.kind refl (λ e. cc)) c.requires.gives c.put_out.new.place.me is_m 1 f.new.place.me
     (subst (λ (n : ℕ). Advanced g.T.Kept.follows g.T.Kept.fits c.args.plain.now None c.put_out.new.place.me n f.new.place.me) c.if-found-eq1.true f.ensures.step)
     f.new.place.table_id.words f.new.place.id (ap (λ t. t.words) (f.ensures.table.0 ∙ c.put_out.ensures.table.0)) (f.ensures.table.1 ∙ c.put_out.ensures.table.1) c.requires.leaves)

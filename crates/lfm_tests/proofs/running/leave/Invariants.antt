@@ -1,5 +1,5 @@
-use Rattle.lfm_mutex.specs.Belongs.{Of_mutex}
+use Rattle.lfm_mutex.specs.Belongs.{OfMutex}
 use Rattle.lfm_tests.proofs.running.leave.Given as goal
 
 abbrev pub invariant-leaving : goal.invariant-leaving
-invariant-leaving g l = Of_mutex l.seat l.mutex
+invariant-leaving g l = OfMutex l.seat l.mutex

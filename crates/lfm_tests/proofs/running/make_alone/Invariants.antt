@@ -1,5 +1,5 @@
-use Rattle.lfm_mutex.specs.Belongs.{Of_mutex}
+use Rattle.lfm_mutex.specs.Belongs.{OfMutex}
 use Rattle.lfm_tests.proofs.running.make_alone.Given as goal
 
 abbrev pub invariant-making : goal.invariant-making
-invariant-making g l = Of_mutex l.seat l.mutex
+invariant-making g l = OfMutex l.seat l.mutex

@@ -2,7 +2,7 @@ use Rattle.std.proofs.Common.{arith, ap, sym, subst, ◌≡◌, ◌≤◌, ◌+�
 use Rattle.std.proofs.Math.Nat.{mul-le-mul}
 use Rattle.std.proofs.lemmas.List.Sums.{sum_by-set}
 use Rattle.std.proofs.lemmas.List.Elements.{All-set}
-use Rattle.lfm_condvar.specs.Lists.{waiter, Go_on_from, times, Among}
+use Rattle.lfm_condvar.specs.Lists.{waiter, GoOnFrom, times, Among}
 use Rattle.lfm_condvar.proofs.ListFacts.{go_on_more, among_more, has_room, once_more, sum_within, get_or_any}
 use Rattle.lfm_condvar.proofs.waiters.Waiters.append.Goals as goal
 
@@ -14,7 +14,7 @@ pub push_back_reserved-requires : goal.push_back_reserved-requires
 push_back_reserved-requires c = let s = c.args.self.now in let r = c.requires.seat in let room = has_room s.seats c.args.seat s.list.items s.among s.once r.2 r.0 r.1 in let len = s.list.ok in let cap = s.room in omega arith
 
 pub invariant_of-self-clause-tickets : goal.invariant_of-self-clause-tickets
-invariant_of-self-clause-tickets c = let s = c.args.self.now in subst (Go_on_from s.sent) (sym c.push_back_reserved.ensures.items) (go_on_more s.sent s.list.items (waiter c.args.seat (s.added + 1)) s.tickets (let l = s.length in let o = s.list.ok in omega arith))
+invariant_of-self-clause-tickets c = let s = c.args.self.now in subst (GoOnFrom s.sent) (sym c.push_back_reserved.ensures.items) (go_on_more s.sent s.list.items (waiter c.args.seat (s.added + 1)) s.tickets (let l = s.length in let o = s.list.ok in omega arith))
 
 pub invariant_of-self-clause-once : goal.invariant_of-self-clause-once
 invariant_of-self-clause-once c = let s = c.args.self.now in subst (λ ws. (k : ℕ) → times k ws ≤ 1) (sym c.push_back_reserved.ensures.items) (once_more s.list.items (waiter c.args.seat (s.added + 1)) s.once c.requires.seat.2)

@@ -1,9 +1,9 @@
 use Rattle.std.proofs.Common.{arith, subst, ◌≤◌}
-use Rattle.lfm_condvar.specs.Lists.{Go_on_from, times}
+use Rattle.lfm_condvar.specs.Lists.{GoOnFrom, times}
 use Rattle.lfm_condvar.proofs.waiters.Waiters.take_oldest.Goals as goal
 
 pub invariant_of-self-2-clause-tickets : goal.invariant_of-self-2-clause-tickets
-invariant_of-self-2-clause-tickets c = let s = c.args.self.now in let t = subst (Go_on_from s.sent) c.in_ok-oldest.ensures.items s.tickets in t.1
+invariant_of-self-2-clause-tickets c = let s = c.args.self.now in let t = subst (GoOnFrom s.sent) c.in_ok-oldest.ensures.items s.tickets in t.1
 
 pub invariant_of-self-2-clause-once : goal.invariant_of-self-2-clause-once
 invariant_of-self-2-clause-once c k = let s = c.args.self.now in let o = subst (λ ws. times k ws ≤ 1) c.in_ok-oldest.ensures.items (s.once k) in omega arith

@@ -1,6 +1,6 @@
 use Rattle.std.proofs.Common.{◌≤◌, ◌*◌, ◌∷◌, [], ◌∙◌, ap, sym, subst, arith, length, ℕ}
 use Rattle.lfm_model.specs.declared.journals.What.TheVariants.{Did}
-use Rattle.lfm_model.specs.Journals.{after_all, Lawful, Within, entry, own}
+use Rattle.lfm_model.specs.Journals.{after_all, LawfulJournal, Within, entry, own}
 use Rattle.lfm_model.proofs.JournalLists.{after-append}
 use Rattle.lfm_model.proofs.JournalSteps.{lawful_more, within_more, shares_more}
 use Rattle.lfm_model.proofs.Sums.{own_room}
@@ -13,7 +13,7 @@ pub invariant_of-self-clause-legal : goal.invariant_of-self-clause-legal
 invariant_of-self-clause-legal g c = let b = c.args.self.now in c.apply-reply.ensures.changes ∙ ap (λ o. g.O.Object.after o c.args.op) b.legal ∙ sym (ap (after_all g.O.Object.after b.opening.value) c.push_reserved.ensures.items ∙ after-append g.O.Object.after b.opening.value b.journal.items (entry c.args.seat (Did c.args.op) ∷ []))
 
 pub invariant_of-self-clause-lawful : goal.invariant_of-self-clause-lawful
-invariant_of-self-clause-lawful g c = let b = c.args.self.now in subst Lawful (sym c.push_reserved.ensures.items) (lawful_more b.journal.items (entry c.args.seat (Did c.args.op)) b.lawful c.requires.taker)
+invariant_of-self-clause-lawful g c = let b = c.args.self.now in subst LawfulJournal (sym c.push_reserved.ensures.items) (lawful_more b.journal.items (entry c.args.seat (Did c.args.op)) b.lawful c.requires.taker)
 
 pub invariant_of-self-clause-within : goal.invariant_of-self-clause-within
 invariant_of-self-clause-within g c = let b = c.args.self.now in subst (Within b.seats) (sym c.push_reserved.ensures.items) (within_more b.journal.items (entry c.args.seat (Did c.args.op)) b.seats b.within c.requires.seat.0 c.requires.seat.1)

@@ -1,6 +1,6 @@
 use Rattle.std.proofs.Common.{◌≤◌, ◌*◌, ◌∷◌, [], ◌∙◌, ap, sym, subst, arith, length, ℕ}
 use Rattle.lfm_model.specs.declared.journals.What.TheVariants.{Took}
-use Rattle.lfm_model.specs.Journals.{after_all, Lawful, Within, entry, own}
+use Rattle.lfm_model.specs.Journals.{after_all, LawfulJournal, Within, entry, own}
 use Rattle.lfm_model.proofs.JournalLists.{after-append}
 use Rattle.lfm_model.proofs.JournalSteps.{lawful_take, within_more, shares_more}
 use Rattle.lfm_model.proofs.Sums.{own_room}
@@ -13,7 +13,7 @@ pub invariant_of-self-clause-legal : goal.invariant_of-self-clause-legal
 invariant_of-self-clause-legal g c = let b = c.args.self.now in b.legal ∙ sym (ap (after_all g.O.Object.after b.opening.value) c.push_reserved.ensures.items ∙ after-append g.O.Object.after b.opening.value b.journal.items (entry c.args.seat (Took c.args.how) ∷ []))
 
 pub invariant_of-self-clause-lawful : goal.invariant_of-self-clause-lawful
-invariant_of-self-clause-lawful g c = let b = c.args.self.now in subst Lawful (sym c.push_reserved.ensures.items) (lawful_take b.journal.items c.args.seat c.args.how b.lawful c.requires.how)
+invariant_of-self-clause-lawful g c = let b = c.args.self.now in subst LawfulJournal (sym c.push_reserved.ensures.items) (lawful_take b.journal.items c.args.seat c.args.how b.lawful c.requires.how)
 
 pub invariant_of-self-clause-within : goal.invariant_of-self-clause-within
 invariant_of-self-clause-within g c = let b = c.args.self.now in subst (Within b.seats) (sym c.push_reserved.ensures.items) (within_more b.journal.items (entry c.args.seat (Took c.args.how)) b.seats b.within c.requires.seat.0 c.requires.seat.1)

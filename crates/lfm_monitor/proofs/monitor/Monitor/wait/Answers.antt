@@ -2,8 +2,8 @@ use Rattle.std.proofs.Common.{Ok, Err, refl, sym, subst, arith}
 use Rattle.lfm_protocol.specs.declared.limits.Limits.{Limits}
 use Rattle.lfm_mutex.specs.calls.Sight.{Sight, sight}
 use Rattle.lfm_condvar.specs.Belongs.{cond_limits, cond_sight}
-use Rattle.lfm_condvar.specs.Waits.{Wait_ends}
-use Rattle.lfm_monitor.specs.Journaled.{Fits, Follows}
+use Rattle.lfm_condvar.specs.Waits.{WaitEnds}
+use Rattle.lfm_monitor.specs.Journaled.{JournalFits, JournalFollows}
 use Rattle.lfm_monitor.specs.Belongs.{cond_seats_of, conditions_in, conditions_of, mutex_limits, opening_of, passes_of, share_of}
 use Rattle.lfm_monitor.specs.CondSeats.{condition_limits}
 use Rattle.lfm_monitor.specs.Passes.{Began}
@@ -23,7 +23,7 @@ wait-requires-clause-leaves g c κs within = let p = c.args.pass.now in may_leav
 pub returns-in-Err : goal.returns-in-Err
 returns-in-Err g c = let p = c.args.pass.now in let m = c.args.self.now in let n = c.in-Some-place_of.place in let x = c.index_mut-cond.result.now in let y = c.wait.new.cond in let v = c.index.result.now in let s = sight p.seat in
     let t = sight c.wait.new.seat in let e = c.wait.ensures in let a = at_place p m n x v c.requires.belongs c.in-Some-place_of.ensures.1 c.index_mut-cond.ensures.value c.index.ensures in
-    let ends = subst (λ (l : Limits). Wait_ends Follows Fits (mutex_limits m) l (cond_sight x) (cond_sight y) s t (Err c.in-Err.refusal)) a.limits c.in-Err.ensures.waits in
+    let ends = subst (λ (l : Limits). WaitEnds JournalFollows JournalFits (mutex_limits m) l (cond_sight x) (cond_sight y) s t (Err c.in-Err.refusal)) a.limits c.in-Err.ensures.waits in
     let same = wait_refused (mutex_limits m) (condition_limits (passes_of m)) (cond_sight x) (cond_sight y) s t c.in-Err.refusal ends in
     let old = some_of s.last p.kept.there in let low = p.kept.seated old.0 old.1 in let o = c.requires.belongs.1 old.0 old.1 in record {
       belongs = (
@@ -56,7 +56,7 @@ returns g c = let p = c.args.pass.now in let m = c.args.self.now in let k = c.in
     let a = at_place p m k x v c.requires.belongs c.in-Some-place_of.ensures.1 c.index_mut-cond.ensures.value c.index.ensures in
     let h = waited (mutex_limits m) (cond_limits v) (cond_sight x) (cond_sight y) s t r p.seen p.mine n (opening_of m) (passes_of m) (share_of m) p.kept c.requires.belongs.1 c.in_default.ensures.3 c.journal_len-length.ensures c.in-Ok.ensures.waits in
     let back = returned r s h.0 c.wait.new.seat c.write_took.new.seat p.seen p.mine n (opening_of m) (passes_of m) (share_of m) p.kept c.in_default.ensures.0 c.in_default.ensures.1 c.journal_len-length.ensures h.1 w in
-    let ends = subst (λ (l : Limits). Wait_ends Follows Fits (mutex_limits m) l (cond_sight x) (cond_sight y) s t (Ok r)) a.limits c.in-Ok.ensures.waits in record {
+    let ends = subst (λ (l : Limits). WaitEnds JournalFollows JournalFits (mutex_limits m) l (cond_sight x) (cond_sight y) s t (Ok r)) a.limits c.in-Ok.ensures.waits in record {
       belongs = (of_next m.mutex c.wait.new.seat c.write_took.new.seat (of_next m.mutex p.seat c.wait.new.seat c.requires.belongs.0 e.belongs.1) w.6, back.of, still_of_conditions (cond_seats_of p) (conditions_in m) k y v c.requires.belongs.2 a.condition e.belongs.0);
       waits = (c.in_default.ensures, (k, x, y, c.in-Some-place_of.ensures.0, a.seat, refl, (t, ends, (w.0, w.1, w.2, w.3, w.4, w.5))));
       returns = back.waits;

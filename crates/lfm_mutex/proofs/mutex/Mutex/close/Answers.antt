@@ -12,7 +12,7 @@ use Rattle.lfm_table.specs.Rule.{Held, joined_of}
 use Rattle.lfm_table.proofs.tables.RuleKept.{length_at}
 use Rattle.lfm_mutex.proofs.ends.Seats.{at_end}
 use Rattle.lfm_protocol.specs.declared.points.Point.TheVariants.{Rest}
-use Rattle.lfm_mutex.proofs.ends.Ends.{rest_of, seen_last, last_seen, was_last, was_there, at_end_of, longer, free_seat, ends, None_at_end, item_at, in_removed, not_removed, pigeons}
+use Rattle.lfm_mutex.proofs.ends.Ends.{rest_of, seen_last, last_seen, was_last, was_there, at_end_of, longer, free_seat, ends, NoneAtEnd, item_at, in_removed, not_removed, pigeons}
 use Rattle.lfm_mutex.proofs.mutex.Mutex.close.Goals as goal
 
 pub remove-requires : goal.remove-requires
@@ -99,7 +99,7 @@ returns-clause-last g c =
     let end : Final (Seen (Held g.T.Kept.follows g.T.Kept.fits) 0 v) (slots_items c.close_with.result.words) (slots_items c.close_with.result.slots) = subst (λ k. Final (Seen (Held g.T.Kept.follows g.T.Kept.fits) k v) (slots_items c.close_with.result.words) (slots_items c.close_with.result.slots)) i.root.0 c.close_with.ensures.values.2 in
     let e = ends g.T.Kept.follows g.T.Kept.fits v (slots_items c.close_with.result.words) (slots_items c.close_with.result.slots) (omega arith) i.root.3 i.root.4 end in
     let was = e.1 in let got = c.take_slot.ensures in let some_it = c.in-Some-take_slot.is in let whole : e.0 ≡ c.in-Some-take_slot.moving = cc in let same : e.0.value ≡ c.into_value.result = ap (λ (x : Moving g.row.T.Denot). x.value) whole ∙ sym c.into_value.ensures in
-    let from : (j : ℕ) × (s : _) × (get_elem? c.args.seats.items j ≡ some s) × ((g.P.Holder.seat_of s).place.me.0.last ≡ Some e.0.value) × ((g.P.Holder.seat_of s).place.me.0.last_found ≡ None → None_at_end g.T.Kept.follows g.T.Kept.fits v) =
+    let from : (j : ℕ) × (s : _) × (get_elem? c.args.seats.items j ≡ some s) × ((g.P.Holder.seat_of s).place.me.0.last ≡ Some e.0.value) × ((g.P.Holder.seat_of s).place.me.0.last_found ≡ None → NoneAtEnd g.T.Kept.follows g.T.Kept.fits v) =
     ⊎_elim (λ t. (i.own.0, i.own.1, i.own.2, i.own.3 ∙ t.0, λ none. t.1 (sym i.own.4 ∙ none))) (λ t. let o = i.only t.0 t.1 t.2 in (o.0, o.1, o.2, o.3 ∙ t.3, λ none. t.4 (sym o.4 ∙ none))) e.6 in
     let y = g.P.Holder.seat_of from.1 in let b = c.requires.belongs from.0 from.1 from.2 in
     let idle = (let lo = y.rooted.low in let hi = y.rooted.high in let same = ap (λ x. x.seats) b.1 in (c.in_default.ensures y.number lo (omega (arith, hi, same))).1 from.0 from.1 from.2 refl) in (

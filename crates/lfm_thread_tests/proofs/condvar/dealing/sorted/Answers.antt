@@ -2,19 +2,19 @@ use Rattle.std.proofs.Common.{ℕ, length, sym, subst, ◌∙◌}
 use Rattle.std.proofs.lemmas.Iterator.Adapters.{YieldsList-from_vec}
 use Rattle.std.proofs.lemmas.Iterator.Consumers.{YieldsList-turn}
 use Rattle.lfm_mutex.specs.declared.seat.Seat.{Seat}
-use Rattle.lfm_mutex.specs.Belongs.{Of_mutex}
+use Rattle.lfm_mutex.specs.Belongs.{OfMutex}
 use Rattle.lfm_condvar.specs.declared.cond_seat.CondSeat.{CondSeat}
-use Rattle.lfm_condvar.specs.Belongs.{Of_condvar}
+use Rattle.lfm_condvar.specs.Belongs.{OfCondvar}
 use Rattle.lfm_condvar.proofs.Begins.{and_last}
-use Rattle.lfm_thread_tests.specs.Places.{Of_shared}
+use Rattle.lfm_thread_tests.specs.Places.{OfShared}
 use Rattle.lfm_thread_tests.proofs.condvar.dealing.sorted.Goals as goal
 
 pub sorting-preserved : goal.sorting-preserved
 sorting-preserved c = let b = c.into_iter-place-iterator.ensures.into_iter_gives in let xs = c.args.places.items in let s = c.args.shared.now in let i = c.sorting.invariant in let r = c.sorting.room in
     let t = YieldsList-turn (YieldsList-from_vec {s = c.into_iter-place-iterator.result} xs b.0 (b.1 ∙ c.args.places.ok.0)) c.sorting.yielded c.sorting.place-iterator c.sorting.yielded_by c.next.result c.next.new.self c.in-Some.place c.in-Some.is c.next.ensures.steps in
-    let mine : Of_shared c.in-Some.place s = subst (λ p. Of_shared p s) (sym t.1) (c.requires.places (length c.sorting.yielded) c.in-Some.place t.0) in
+    let mine : OfShared c.in-Some.place s = subst (λ p. OfShared p s) (sym t.1) (c.requires.places (length c.sorting.yielded) c.in-Some.place t.0) in
     record {
-      seats = and_last (λ (j : ℕ) (x : Seat ℕ). Of_mutex x s.mutex) r.seats.items c.push.new.self.items c.in-Some.place.seat c.in-Ok.ensures.items mine.seat i.seats;
-      first = and_last (λ (j : ℕ) (x : CondSeat). Of_condvar x s.first) r.first.items c.push-in-sorting.new.self.items c.in-Some.place.first c.in-Ok-push.ensures.items mine.first i.first;
-      second = and_last (λ (j : ℕ) (x : CondSeat). Of_condvar x s.second) r.second.items c.push-in-sorting-2.new.self.items c.in-Some.place.second c.in-Ok-push-2.ensures.items mine.second i.second;
+      seats = and_last (λ (j : ℕ) (x : Seat ℕ). OfMutex x s.mutex) r.seats.items c.push.new.self.items c.in-Some.place.seat c.in-Ok.ensures.items mine.seat i.seats;
+      first = and_last (λ (j : ℕ) (x : CondSeat). OfCondvar x s.first) r.first.items c.push-in-sorting.new.self.items c.in-Some.place.first c.in-Ok-push.ensures.items mine.first i.first;
+      second = and_last (λ (j : ℕ) (x : CondSeat). OfCondvar x s.second) r.second.items c.push-in-sorting-2.new.self.items c.in-Some.place.second c.in-Ok-push-2.ensures.items mine.second i.second;
     }

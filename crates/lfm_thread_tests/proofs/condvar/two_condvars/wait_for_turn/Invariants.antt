@@ -1,5 +1,5 @@
-use Rattle.lfm_thread_tests.specs.Places.{Of_shared}
+use Rattle.lfm_thread_tests.specs.Places.{OfShared}
 use Rattle.lfm_thread_tests.proofs.condvar.two_condvars.wait_for_turn.Given as goal
 
 abbrev pub invariant-waiting : goal.invariant-waiting
-invariant-waiting g l = Of_shared l.place l.shared
+invariant-waiting g l = OfShared l.place l.shared

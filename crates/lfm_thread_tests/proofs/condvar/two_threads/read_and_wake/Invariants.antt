@@ -1,5 +1,5 @@
-use Rattle.lfm_mutex.specs.Belongs.{Of_mutex}
+use Rattle.lfm_mutex.specs.Belongs.{OfMutex}
 use Rattle.lfm_thread_tests.proofs.condvar.two_threads.read_and_wake.Given as goal
 
 abbrev pub invariant-reads : goal.invariant-reads
-invariant-reads g l = Of_mutex l.seat l.mutex
+invariant-reads g l = OfMutex l.seat l.mutex

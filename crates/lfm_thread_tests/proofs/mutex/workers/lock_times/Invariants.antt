@@ -1,5 +1,5 @@
-use Rattle.lfm_mutex.specs.Belongs.{Of_mutex}
+use Rattle.lfm_mutex.specs.Belongs.{OfMutex}
 use Rattle.lfm_thread_tests.proofs.mutex.workers.lock_times.Given as goal
 
 abbrev pub invariant-locking : goal.invariant-locking
-invariant-locking g l = Of_mutex l.seat l.mutex
+invariant-locking g l = OfMutex l.seat l.mutex

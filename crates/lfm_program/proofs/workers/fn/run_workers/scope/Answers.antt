@@ -10,7 +10,7 @@ use denote.Struct.Tuple as Tuple
 use mir.Syntax.{named}
 use Rattle.std.specs.Prelude.{codes}
 use Rattle.lfm_monitor.proofs.Places.{each_more, stands}
-use Rattle.lfm_program.specs.Workers.{Works_as}
+use Rattle.lfm_program.specs.Workers.{WorksAs}
 use Rattle.lfm_program.proofs.Sending.{held, held_send, worked_send}
 use Rattle.lfm_program.proofs.Threads.{both_ok, if_ok}
 use Rattle.lfm_program.proofs.workers.fn.run_workers.scope.Goals as goal
@@ -89,6 +89,6 @@ returns g c = record {
     h.promise.commands.value,
     sym (ap (λ l. get_elem? l j) from) ∙ k.1,
     k.2,
-    subst (λ m. Works_as m h.promise.commands.value.items h.promise.pass.value w.pass w.performed) k.0 e.2,
+    subst (λ m. WorksAs m h.promise.commands.value.items h.promise.pass.value w.pass w.performed) k.0 e.2,
   )) c.join_all.ensures.count c.join_all.ensures.each;
 }

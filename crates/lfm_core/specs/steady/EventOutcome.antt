@@ -44,7 +44,7 @@ pub record GoesOn (g h : Ghost) (pushes pops answers : List Record) : Type 0 whe
   pub popped : records h.pushed_at 0 h.popped ≡ records g.pushed_at 0 g.popped ++ pops
   pub answered : records h.pushed_at 0 h.answered ≡ records g.pushed_at 0 g.answered ++ answers
 
-pub record Outcome (g : Ghost) (d : Core) (case : Option Case) (pushes pops answers : List Record) : Type 0 where
+pub record EventOutcome (g : Ghost) (d : Core) (case : Option Case) (pushes pops answers : List Record) : Type 0 where
   pub to : Ghost
   pub fits : Fits d to
   pub goes : GoesBy case (abstract g) (abstract to)
@@ -52,4 +52,4 @@ pub record Outcome (g : Ghost) (d : Core) (case : Option Case) (pushes pops answ
 
 -- the step that seat s makes next keeps a state steady
 abbrev pub Kept : Core → Ghost → ℕ → Type 0
-Kept c g s = Outcome g (made c s).core (case_of_step c s) (pushed_by c s) (popped_by c s) (answered_by s (made c s).turn)
+Kept c g s = EventOutcome g (made c s).core (case_of_step c s) (pushed_by c s) (popped_by c s) (answered_by s (made c s).turn)

@@ -2,7 +2,8 @@
 use Rattle.std.proofs.Common.{ℕ, Option}
 use Rattle.atomic_table.specs.Table.{State}
 use Rattle.lfm_core.specs.steady.Steady.{Steady}
-use Rattle.lfm_core.proofs.lawful.states.StateLaws.{states_are_lawful, handoffs_are_watched, quiescent_states_rest, takes_find_a_record}
+use Rattle.lfm_core.proofs.lawful.states.StateLaws as StateLaws
+use Rattle.lfm_core.proofs.lawful.states.StateLaws.{states_are_lawful, handoffs_are_watched, quiescent_states_rest}
 use Rattle.lfm_table.specs.declared.rule.Moving.{Moving}
 use Rattle.lfm_table.specs.declared.seat_view.View.{View}
 use Rattle.lfm_mutex.specs.Laws.{IsCore, TablesAreSteady, PostsAreWatched, QuietTablesRest, TakesFindARecord}
@@ -24,5 +25,5 @@ module _ {T : Type 0} (follows : ℕ → T → T → Type 0) (fits : T → ℕ �
   pub quiet_tables_rest : QuietTablesRest follows fits
   quiet_tables_rest s h = (h.core, core_of s h, quiescent_states_rest h.core (steady_of s h))
 
-  pub wins_find_a_record : TakesFindARecord follows fits
-  wins_find_a_record s h = (h.core, core_of s h, λ k carrier. takes_find_a_record h.core k carrier (steady_of s h))
+  pub takes_find_a_record : TakesFindARecord follows fits
+  takes_find_a_record s h = (h.core, core_of s h, λ k carrier. StateLaws.takes_find_a_record h.core k carrier (steady_of s h))

@@ -43,8 +43,8 @@ pub fn steps_keep_steady()
 /// makes it. What it answers, and what its seat becomes, depend on that word, that seat and the oldest record of the pop
 /// list alone.
 ///
-/// Definitions: `StepsTouchOneWordAndOneSeat` and `StepsSeeOneWordAndOneSeat` in `specs/laws/Steadiness.antt`. Proofs:
-/// `proofs/lawful/touched/OneWord.antt` and `proofs/lawful/touched/OneSeat.antt`.
+/// Definitions: `StepsTouchOneWordAndOneSeat` and `StepsSeeOneWordAndOneSeat` in `specs/laws/Steadiness.antt`. Proof:
+/// `proofs/lawful/touched/OneSeat.antt`, which goes by word in `proofs/lawful/touched/OneWord.antt`.
 pub fn steps_touch_one_word_and_one_seat()
     ensures touches { StepsTouchOneWordAndOneSeat }
     ensures sees { StepsSeeOneWordAndOneSeat }

@@ -5,3 +5,4 @@ pub mod Grammar
 pub mod Spelling
 pub mod Trace
 pub mod Replay
+pub mod Statuses

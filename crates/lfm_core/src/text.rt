@@ -1,13 +1,15 @@
-//! Schedules and traces as text, and the replay from the one to the other.
+//! Schedules and traces as text, the replay from the one to the other, and what a program says of its end.
 
 pub mod faults;
 pub mod grammar_laws;
 mod replaying;
+mod reporting;
 pub mod schedule;
 mod schedule_runs;
 pub mod trace;
 
 pub use faults::ReplayFault;
 pub use replaying::replay;
+pub use reporting::{replay_status, report};
 pub use schedule::{Act, Line, MAX_STEPS, Schedule, read_schedule};
 pub use schedule_runs::run;

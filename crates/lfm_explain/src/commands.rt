@@ -1,7 +1,6 @@
 //! What the program does with its arguments: it wants none. Its messages and statuses are those of `lfm replay`.
-use lfm_core::ReplayFault;
+use lfm_core::{ReplayFault, report};
 use lfm_explanation::explain;
-use lfm_script::report;
 use std::alloc::Global;
 use std::io::{BufWriter, ErrorKind, Input};
 use std::rt::Env;

@@ -5,12 +5,12 @@
 ghost use Rattle.lfm_mutex.specs.Belongs.{Beside, OfMutex};
 ghost use Rattle.std.specs.Prelude.{◌≡◌, ◌<◌, ◌⊎◌, All, length};
 
-use lfm_core::text::trace::{write_fault_line, write_line_feed, write_outcome};
+use lfm_core::text::trace::{write_fault_line, write_outcome};
 use lfm_core::{Act, Line, ReplayFault, Schedule, Turn, Why, read_schedule};
 use lfm_model::NewFault;
 use lfm_mutex::steps::{next, start};
 use lfm_mutex::{Mutex, Seat};
-use lfm_text::{flush, read_input, write_number, write_text};
+use lfm_text::{flush, read_input, write_line_feed, write_number, write_text};
 use std::alloc::Global;
 use std::io::{Read, Write};
 

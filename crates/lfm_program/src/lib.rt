@@ -1,5 +1,6 @@
 //! What the programs run: a schedule that is driven through a running mutex, and a script of workers, each a thread, round
-//! one monitor. What such a script is and what is reported of it stands in `lfm_script`, whose names are passed on.
+//! one monitor. What such a script is and what is reported of it stands in `lfm_script`, whose names are passed on, as are
+//! those of `lfm_core` for the end of a replay.
 #![tactic(auto)]
 
 pub mod driving;
@@ -12,10 +13,11 @@ pub mod working;
 
 pub use driving::{drive, follow};
 pub use gates::{Gate, Meet, OpenGate};
+pub use lfm_core::{replay_status, report};
 pub use lfm_script::{
     Command, MAX_CONDITIONS, MAX_NUMBER, MAX_WORKERS, Row, Script, ScriptLine, WorkFault,
-    commands_by_worker, faults, read_script, replay_status, report, report_laws, report_work,
-    reporting, rows, rows_of, script, status, statuses, work_report, write_fault, write_report,
+    commands_by_worker, faults, read_script, report_laws, report_work, reporting, rows, rows_of,
+    script, status, statuses, work_report, write_fault, write_report,
 };
 pub use performed::{Performed, perform};
 pub use starting_line::StartingLine;

@@ -6,6 +6,7 @@ use Rattle.lfm_model.specs.declared.objects.TotalOp.{TotalOp}
 use Rattle.lfm_model.specs.declared.journals.Entry.{Entry}
 use Rattle.lfm_model.specs.Journals.{own, after_all}
 use Rattle.lfm_model.specs.Totals.{total_after}
+use Rattle.lfm_text.specs.FaultLines.{limit_text, syntax_text}
 use Rattle.lfm_text.specs.Writing.{joined}
 use Rattle.lfm_script.specs.declared.rows.Row.{Row}
 use Rattle.lfm_script.specs.declared.faults.WorkFault.{WorkFault}
@@ -61,6 +62,6 @@ IsRunOf p journal = (w : ℕ) → 0 < w → w ≤ p.workers → adds (own w jour
 
 -- the line of a fault of the input
 abbrev pub fault_text : WorkFault → List ℕ
-fault_text (Syntax number) = joined (codes "fault Syntax " ∷ decimal number ∷ codes "\n" ∷ [])
-fault_text Limit = codes "fault Limit\n"
+fault_text (Syntax number) = syntax_text number
+fault_text Limit = limit_text
 fault_text _ = []

@@ -1,5 +1,5 @@
-//! What a script of workers is and what is reported of its run, and how the outcomes of programs become messages and exit
-//! statuses. No thread, mutex or monitor is used here: what runs a script stands above.
+//! What a script of workers is and what is reported of its run, and how its outcomes become messages and exit statuses. No
+//! thread, mutex or monitor is used here: what runs a script stands above.
 #![tactic(auto)]
 
 mod counted_rows;
@@ -13,11 +13,11 @@ pub mod work_report;
 
 pub use counted_rows::rows_of;
 pub use faults::WorkFault;
-pub use reporting::{report, report_work};
+pub use reporting::report_work;
 pub use rows::Row;
 pub use script::{
     Command, MAX_CONDITIONS, MAX_NUMBER, MAX_WORKERS, Script, ScriptLine, commands_by_worker,
     read_script,
 };
-pub use statuses::{replay_status, status};
+pub use statuses::status;
 pub use work_report::{write_fault, write_report};

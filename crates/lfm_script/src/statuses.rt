@@ -1,22 +1,8 @@
-//! The exit statuses of the programs.
+//! The exit statuses of a run of workers.
 ghost use Rattle.std.specs.Prelude.{◌≡◌};
-ghost use Rattle.lfm_script.specs.Statuses.{replay_status, work_status};
+ghost use Rattle.lfm_script.specs.Statuses.{work_status};
 
 use crate::faults::WorkFault;
-use lfm_core::ReplayFault;
-
-/// The exit status of a replay: 0 where no line was refused; 1 where a line was refused, or the input
-/// had a fault of syntax or was past a limit; 3 where the reader or the writer failed; 4 where memory was refused.
-pub fn replay_status(outcome: &Result<bool, ReplayFault>) -> u8
-    ensures { result ≡ replay_status outcome.now }
-{
-    match outcome {
-        Ok(true) => 0,
-        Ok(false) | Err(ReplayFault::Syntax(_) | ReplayFault::Limit) => 1,
-        Err(ReplayFault::Read | ReplayFault::Write) => 3,
-        Err(ReplayFault::Memory) => 4,
-    }
-}
 
 /// The exit status of a run of workers: 0 where the journal was lawful and no worker was refused; 1 where it was not or
 /// one was, or the script had a fault of syntax or was past a limit; 3 where the reader or the writer failed; 4 where

@@ -7,10 +7,10 @@ ghost use Rattle.lfm_script.specs.Report.{count_text, refused_text, row_text, ro
 
 use crate::faults::WorkFault;
 use crate::rows::Row;
-use lfm_core::ReplayFault;
-use lfm_core::text::trace::{write_fault_line, write_line_feed};
 use lfm_model::Refusal;
-use lfm_text::{WriteFault, write_number, write_text};
+use lfm_text::{
+    WriteFault, write_limit_line, write_line_feed, write_number, write_syntax_line, write_text,
+};
 use std::io::Write;
 
 /// Writes a worker's number, and how many numbers it added.
@@ -107,8 +107,8 @@ pub fn write_fault<W: Write>(writer: &mut W, fault: WorkFault) -> Result<(), Wri
     ensures { Writes (W.contents writer.old) (W.contents writer.new) (fault_text fault) result }
 {
     match fault {
-        WorkFault::Syntax(number) => write_fault_line(writer, ReplayFault::Syntax(number)),
-        WorkFault::Limit => write_fault_line(writer, ReplayFault::Limit),
+        WorkFault::Syntax(number) => write_syntax_line(writer, number),
+        WorkFault::Limit => write_limit_line(writer),
         WorkFault::Read | WorkFault::Write | WorkFault::Memory | WorkFault::Stuck => {
             write_text(writer, b"")
         }

@@ -1,17 +1,22 @@
-//! Texts of lines and words: how they are read from a reader, cut into lines and words, read as numbers, and written.
+//! Texts of lines and words: how they are read from a reader, cut into lines and words, read as numbers, and written; and
+//! what is said of a text that has a fault.
 //!
-//! Nothing here knows what a line means: schedules and their faults stand in the crates above.
+//! Nothing here knows what a line means: schedules and scripts stand in the crates above.
 #![tactic(auto)]
 
+mod fault_lines;
 pub mod faults;
 mod input;
 mod limits;
+mod messages;
 mod output;
 pub mod parsing;
 pub mod text_laws;
 
+pub use fault_lines::{write_limit_line, write_syntax_line};
 pub use faults::{InputFault, WriteFault};
 pub use input::read_input;
 pub use limits::{MAX_BYTES, MAX_LINES, count_lines};
-pub use output::{flush, write_number, write_text};
+pub use messages::tell_fault;
+pub use output::{flush, write_line_feed, write_number, write_text};
 pub use parsing::{LineWords, MAX_DIGITS, first_line, read_number, split_words};

@@ -1,6 +1,6 @@
 //! Writes texts and numbers straight to a writer. Nothing here asks for memory.
 
-ghost use Rattle.std.specs.Prelude.{[], decimal};
+ghost use Rattle.std.specs.Prelude.{[], codes, decimal};
 ghost use Rattle.lfm_text.specs.Writing.{Writes};
 
 use crate::faults::WriteFault;
@@ -29,6 +29,13 @@ pub fn write_number<W: Write>(writer: &mut W, number: u64) -> Result<(), WriteFa
 {
     let mut buffer = Buffer::new();
     write_text(writer, buffer.format(number).as_bytes())
+}
+
+/// Ends a line. A fault where the writer fails or takes no byte.
+pub fn write_line_feed<W: Write>(writer: &mut W) -> Result<(), WriteFault>
+    ensures { Writes (W.contents writer.old) (W.contents writer.new) (codes "\n") result }
+{
+    write_text(writer, b"\n")
 }
 
 /// Flushes the writer. A fault where that fails.

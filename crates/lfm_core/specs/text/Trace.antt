@@ -18,6 +18,7 @@ use Rattle.lfm_protocol.specs.Place.{place_of}
 use Rattle.lfm_protocol.specs.Queue.{queue_of}
 use Rattle.lfm_protocol.specs.Step.{start}
 use Rattle.lfm_protocol.specs.Turns.{is_refused}
+use Rattle.lfm_text.specs.FaultLines.{limit_text, syntax_text}
 use Rattle.lfm_text.specs.Writing.{joined}
 use Rattle.lfm_model.specs.declared.answers.How.{How}
 use Rattle.lfm_model.specs.declared.answers.Asked.{Asked as AskedAnswer}
@@ -157,8 +158,8 @@ abbrev pub plan_text : Plan → List ℕ
 plan_text p = opening_text p.seats (opening p) ++ lines_text 2 (opening p) p.lines
 
 abbrev pub fault_text : ReplayFault → List ℕ
-fault_text (Syntax number) = joined (codes "fault Syntax " ∷ decimal number ∷ codes "\n" ∷ [])
-fault_text _ = codes "fault Limit\n"
+fault_text (Syntax number) = syntax_text number
+fault_text _ = limit_text
 
 abbrev pub text_of : Result Plan ReplayFault → List ℕ
 text_of (Ok p) = plan_text p

@@ -11,16 +11,11 @@ use crate::text::schedule::{Act, Line};
 use itoa::write_digits;
 use lfm_model::{Asked, How, Locked, Place, Unlocked};
 use lfm_protocol::{Answer, Turn, Why};
-use lfm_text::{WriteFault, write_number, write_text};
+use lfm_text::{
+    WriteFault, write_limit_line, write_line_feed, write_number, write_syntax_line, write_text,
+};
 use lfm_words::{Handoff, Record};
 use std::io::Write;
-
-/// Ends a line.
-pub fn write_line_feed<W: Write>(writer: &mut W) -> Result<(), WriteFault>
-    ensures { Writes (W.contents writer.old) (W.contents writer.new) (codes "\n") result }
-{
-    write_text(writer, b"\n")
-}
 
 /// Writes a word, and a number after it.
 fn write_labelled<W: Write>(writer: &mut W, label: &[u8], number: u64) -> Result<(), WriteFault>
@@ -350,17 +345,7 @@ pub fn write_fault_line<W: Write>(writer: &mut W, fault: ReplayFault) -> Result<
     ensures { Writes (W.contents writer.old) (W.contents writer.new) (fault_text fault) result }
 {
     match fault {
-        ReplayFault::Syntax(number) => write_syntax(writer, number),
-        _ => write_text(writer, b"fault Limit\n"),
+        ReplayFault::Syntax(number) => write_syntax_line(writer, number),
+        _ => write_limit_line(writer),
     }
-}
-
-fn write_syntax<W: Write>(writer: &mut W, number: u64) -> Result<(), WriteFault>
-    ensures { Writes (W.contents writer.old) (W.contents writer.new)
-        (joined (codes "fault Syntax " ∷ decimal number ∷ codes "\n" ∷ [])) result }
-{
-    write_text(writer, b"fault Syntax ")?;
-    write_number(writer, number)?;
-    write_line_feed(writer)?;
-    Ok(())
 }

@@ -1,4 +1,5 @@
-use Rattle.std.proofs.Common.{◌≡◌, ◌≢◌, ℕ, List, refl, sym, subst, codes}
+use Rattle.std.proofs.Common.{◌≡◌, ◌≢◌, ℕ, List, refl, sym, subst}
+use Rattle.lfm_text.specs.FaultLines.{limit_text}
 use Rattle.lfm_text.specs.Writing.{Writes}
 use Rattle.lfm_core.specs.declared.text.faults.ReplayFault.{ReplayFault}
 use Rattle.lfm_core.specs.declared.text.faults.ReplayFault.TheVariants.{Syntax, Limit, Read, Write, Memory}
@@ -6,7 +7,7 @@ use Rattle.lfm_core.specs.text.Trace.{fault_text}
 use Rattle.lfm_core.proofs.text.trace.write_fault_line.Goals as goal
 
 -- every fault but a line that says nothing is told as Limit
-limit_told : (fault : ReplayFault) → ((n : ℕ) → fault ≢ Syntax n) → fault_text fault ≡ codes "fault Limit\n"
+limit_told : (fault : ReplayFault) → ((n : ℕ) → fault ≢ Syntax n) → fault_text fault ≡ limit_text
 limit_told (Syntax n) other = absurd (other n refl)
 limit_told Limit other = refl
 limit_told Read other = refl
@@ -15,5 +16,5 @@ limit_told Memory other = refl
 
 pub returns-in_default : goal.returns-in_default
 returns-in_default g c =
-    subst (λ (text : List ℕ). Writes (g.W.Write.contents c.args.writer.now) (g.W.Write.contents c.write_text.new.writer) text c.write_text.result)
-    (sym (limit_told c.args.fault c.in_default.not-Syntax)) c.write_text.ensures
+    subst (λ (text : List ℕ). Writes (g.W.Write.contents c.args.writer.now) (g.W.Write.contents c.write_limit_line.new.writer) text c.write_limit_line.result)
+    (sym (limit_told c.args.fault c.in_default.not-Syntax)) c.write_limit_line.ensures

@@ -1,5 +1,5 @@
 use Rattle.std.proofs.Common.{rules}
-use Rattle.lfm_script.proofs.statuses.replay_status.Goals as goal
+use Rattle.lfm_core.proofs.text.reporting.replay_status.Goals as goal
 
 pub returns-in-Ok-false : goal.returns-in-Ok-false
 returns-in-Ok-false c = search rules

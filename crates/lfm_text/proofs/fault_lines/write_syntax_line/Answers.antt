@@ -1,5 +1,5 @@
 use Rattle.lfm_text.proofs.Writes.{part_one, part_two, part_three, wrote_three}
-use Rattle.lfm_core.proofs.text.trace.write_syntax.Goals as goal
+use Rattle.lfm_text.proofs.fault_lines.write_syntax_line.Goals as goal
 
 pub returns-in_err-write_text : goal.returns-in_err-write_text
 returns-in_err-write_text g c = part_one _ _ _ _ _ _ c.in_err-write_text.ensures c.from_residual.ensures.1

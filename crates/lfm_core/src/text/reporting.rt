@@ -1,0 +1,34 @@
+//! What a program says of the end of a replay: a message on standard error, and the exit status.
+ghost use Rattle.std.specs.Prelude.{◌≡◌};
+ghost use Rattle.lfm_core.specs.text.Statuses.{replay_status};
+
+use crate::text::faults::ReplayFault;
+use lfm_text::tell_fault;
+
+/// The exit status of a replay: 0 where no line was refused; 1 where a line was refused, or the input
+/// had a fault of syntax or was past a limit; 3 where the reader or the writer failed; 4 where memory was refused.
+pub fn replay_status(outcome: &Result<bool, ReplayFault>) -> u8
+    ensures { result ≡ replay_status outcome.now }
+{
+    match outcome {
+        Ok(true) => 0,
+        Ok(false) | Err(ReplayFault::Syntax(_) | ReplayFault::Limit) => 1,
+        Err(ReplayFault::Read | ReplayFault::Write) => 3,
+        Err(ReplayFault::Memory) => 4,
+    }
+}
+
+/// Says on standard error what kept the program of this name from its end, where something did, and gives the exit status
+/// of what it came to. That a message can't be written changes no status.
+pub fn report<R: Eprint>(rt: &R, program: &'static str, outcome: &Result<bool, ReplayFault>) -> u8
+    ensures { result ≡ replay_status outcome.now }
+{
+    let fault = match outcome {
+        Err(ReplayFault::Read) => Some(": read fault"),
+        Err(ReplayFault::Write) => Some(": write fault"),
+        Err(ReplayFault::Memory) => Some(": out of memory"),
+        _ => None,
+    };
+    tell_fault(rt, program, fault);
+    replay_status(outcome)
+}

@@ -1,6 +1,5 @@
 -- Lemmas of schedules and traces: reading and spelling lines, and writing what came of them.
 pub mod Decoding
-pub mod GrammarFaults
 pub mod Lines
 pub mod Plans
 pub mod Queued

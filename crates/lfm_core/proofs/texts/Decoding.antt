@@ -1,19 +1,16 @@
--- A line, a first line or a whole schedule that is written is read back as itself.
-use Rattle.std.proofs.Common.{◌≡◌, ◌+◌, ◌≤◌, ◌<◌, ◌^◌, ◌&&◌, nat_le, suc, ℕ, true, false, List, [], ◌∷◌, ◌++◌, Option, Some, Result, Ok, All, refl, sym, ◌∙◌, ap, append_assoc, arith, tests, codes, decimal, inl, inr}
-use Rattle.std.specs.List.{flat_map}
+-- A line or a first line of a schedule that is written is read back as itself, and has no line feed.
+use Rattle.std.proofs.Common.{◌≡◌, ◌≤◌, ◌<◌, ◌^◌, ◌&&◌, nat_le, ℕ, true, List, [], ◌∷◌, ◌++◌, Some, refl, sym, ◌∙◌, ap, arith, tests, codes, decimal, inl, inr}
 use Rattle.lfm_protocol.specs.declared.answers.Call.{Call}
 use Rattle.lfm_protocol.specs.declared.answers.Call.TheVariants.{Lock, TryLock, Unlock, StartWait, SendLock, Receive}
 use Rattle.lfm_core.specs.declared.text.schedule.Act.{Act}
 use Rattle.lfm_core.specs.declared.text.schedule.Act.TheVariants.{Begin, Steps, ToEnd}
 use Rattle.lfm_core.specs.declared.text.schedule.Line.{Line}
-use Rattle.lfm_core.specs.declared.text.faults.ReplayFault.{ReplayFault}
-use Rattle.lfm_text.specs.Text.{parts_at, words_of, lines_of, is_past_limit}
-use Rattle.lfm_core.specs.text.Grammar.{max_steps, act_of, line_of, header_of, lines_from, Plan, plan_in, plan_of_lines, plan_from}
-use Rattle.lfm_protocol.specs.declared.limits.Limits.{Limits}
-use Rattle.lfm_protocol.specs.Limits.{max_budget, are_in_limits}
-use Rattle.lfm_core.specs.text.Spelling.{act_spelling, call_spelling, line_spelling, one_step_spelling, header_spelling, short_header_spelling, plan_spelling, IsWritableAct, IsWritable, IsWritablePlan, Spells, SpellsHeader, HasShortTarget}
+use Rattle.lfm_text.specs.Text.{parts_at, words_of}
+use Rattle.lfm_core.specs.text.Grammar.{max_steps, act_of, line_of, header_of}
+use Rattle.lfm_protocol.specs.Limits.{max_budget}
+use Rattle.lfm_core.specs.text.Spelling.{act_spelling, call_spelling, line_spelling, one_step_spelling, header_spelling, short_header_spelling, IsWritableAct, IsWritable, Spells, SpellsHeader, HasShortTarget}
 use Rattle.lfm_text.proofs.Numbers.{every}
-use Rattle.lfm_text.proofs.Separators.{Lacks, first_part, only_part, no_space, literal_lacks, no_feed, both_lack, one_line}
+use Rattle.lfm_text.proofs.Separators.{Lacks, first_part, only_part, no_space, literal_lacks, no_feed, both_lack}
 
 -- a seat and one word
 one_word : (s : ℕ) (word : List ℕ) (a : Act) → s < 10 ^ 18 → parts_at 32 word ≡ word ∷ [] → act_of word ≡ Some a
@@ -93,46 +90,12 @@ no_feed_in_act (Begin call) writable = no_feed_in_call call writable
 no_feed_in_act (Steps k) writable = both_lack (codes "+") (decimal k) (literal_lacks 10 (codes "+") refl) (no_feed k (omega (arith, writable.1)))
 no_feed_in_act ToEnd writable = literal_lacks 10 (codes "*") refl
 
-no_feed_in_line : (l : Line) → IsWritable l → Lacks 10 (line_spelling l)
+pub no_feed_in_line : (l : Line) → IsWritable l → Lacks 10 (line_spelling l)
 no_feed_in_line l writable =
     both_lack (decimal l.seat) (codes " " ++ act_spelling l.act) (no_feed l.seat writable.seat)
     (both_lack (codes " ") (act_spelling l.act) (literal_lacks 10 (codes " ") refl) (no_feed_in_act l.act writable.act))
 
-no_feed_in_header : (n b : ℕ) → n < 10 ^ 18 → b < 10 ^ 18 → Lacks 10 (header_spelling n b)
+pub no_feed_in_header : (n b : ℕ) → n < 10 ^ 18 → b < 10 ^ 18 → Lacks 10 (header_spelling n b)
 no_feed_in_header n b small short =
     both_lack (codes "seats ") (decimal n ++ (codes " " ++ decimal b)) (literal_lacks 10 (codes "seats ") refl)
     (both_lack (decimal n) (codes " " ++ decimal b) (no_feed n small) (both_lack (codes " ") (decimal b) (literal_lacks 10 (codes " ") refl) (no_feed b short)))
-
-abbrev lines_text : List Line → List ℕ
-lines_text ls = flat_map (λ l. line_spelling l ++ codes "\n") ls
-
-lines_text-cons : (l : Line) (ls : List Line) → lines_text (l ∷ ls) ≡ line_spelling l ++ 10 ∷ lines_text ls
-lines_text-cons l ls = append_assoc (line_spelling l) (codes "\n") (lines_text ls)
-
-lines_decode : (ls : List Line) → All IsWritable ls → (n : ℕ) → lines_from n (lines_of (lines_text ls)) ≡ Ok ls
-lines_decode [] writable n = refl
-lines_decode (l ∷ ls) writable n =
-    let first : IsWritable l = writable 0 l (omega arith) in
-    let others : All IsWritable ls = λ k d within. writable (suc k) d (omega (arith, within)) in
-    let cut : lines_of (lines_text (l ∷ ls)) ≡ line_spelling l ∷ lines_of (lines_text ls) = ap lines_of (lines_text-cons l ls) ∙ one_line (line_spelling l) (lines_text ls) (no_feed_in_line l first) in
-    ap (λ texts. lines_from n texts) cut ∙ rw (line_decodes l first, lines_decode ls others (n + 1)) refl
-
--- what a first line and the lines after it say together
-pub joined : (n b : ℕ) (ls : List Line) (h : Option Limits) (r : Result (List Line) ReplayFault) → h ≡ Some (record { seats = n; budget = b }) → r ≡ Ok ls → are_in_limits n b ≡ true
-    → plan_from h r ≡ Ok (record { seats = n; budget = b; lines = ls })
-joined n b ls h r first others within = rw (first, others, within) refl
-
--- a whole plan that is written in full
-pub plan_decodes : (p : Plan) → IsWritablePlan p → plan_in (plan_spelling p) ≡ Ok p
-plan_decodes p writable =
-    let small : p.seats < 10 ^ 18 = omega (arith, writable.seats.1) in
-    let short : p.budget < 10 ^ 18 = omega (arith, writable.budget.1) in
-    let first = header_spelling p.seats p.budget in
-    let cut : lines_of (plan_spelling p) ≡ first ∷ lines_of (lines_text p.lines) = one_line first (lines_text p.lines) (no_feed_in_header p.seats p.budget small short) in
-    let within : are_in_limits p.seats p.budget ≡ true = search (tests, arith, writable.seats.0, writable.seats.1, writable.budget.0, writable.budget.1) in
-    within_limit (plan_spelling p) writable.short ∙ ap plan_of_lines cut
-    ∙ joined p.seats p.budget p.lines (header_of (words_of first)) (lines_from 2 (lines_of (lines_text p.lines)))
-    (header_decodes p.seats p.budget small short) (lines_decode p.lines writable.lines 2) within
-  where
-    within_limit : (text : List ℕ) → is_past_limit text ≡ false → plan_in text ≡ plan_of_lines (lines_of text)
-    within_limit text short = rw short refl

@@ -1,5 +1,5 @@
--- The lines that were read before those to come, and what is known of the lines that a text spells.
-use Rattle.std.proofs.Common.{◌≡◌, ◌+◌, ◌==◌, ◌&&◌, nat_le, ℕ, Bool, true, false, cond, List, [], ◌∷◌, ◌++◌, Option, Some, None, Result, Ok, Err, IfSome, IfOk, All, refl, ap, append_assoc, arith, tests, codes}
+-- What is known of the lines that a text spells: those that ask for steps ask for 1 to 999.
+use Rattle.std.proofs.Common.{◌≡◌, ◌+◌, ◌==◌, ◌&&◌, nat_le, ℕ, Bool, true, false, cond, List, [], ◌∷◌, Option, Some, None, Result, Ok, Err, IfSome, IfOk, All, refl, arith, tests, codes}
 use Rattle.std.proofs.lemmas.List.Elements.{All-nil, All-cons}
 use Rattle.std.specs.Str.{bytes_eq}
 use Rattle.lfm_protocol.specs.declared.answers.Call.TheVariants.{Lock, TryLock, Unlock, StartWait, Receive}
@@ -9,30 +9,8 @@ use Rattle.lfm_core.specs.declared.text.schedule.Line.{Line}
 use Rattle.lfm_core.specs.declared.text.faults.ReplayFault.{ReplayFault}
 use Rattle.lfm_core.specs.declared.text.faults.ReplayFault.TheVariants.{Syntax}
 use Rattle.lfm_text.specs.Text.{number_of, words_of}
-use Rattle.lfm_core.specs.text.Grammar.{max_steps, steps_of, plain_act_of, act_of, seat_line, send_act, line_of, in_front, lines_from, HasFewSteps}
-
--- lines before those that a result has
-abbrev pub after_prefix : List Line → Result (List Line) ReplayFault → Result (List Line) ReplayFault
-after_prefix prefix (Ok lines) = Ok (prefix ++ lines)
-after_prefix prefix (Err fault) = Err fault
-
-after_nothing : (r : Result (List Line) ReplayFault) → after_prefix [] r ≡ r
-after_nothing (Ok lines) = refl
-after_nothing (Err fault) = refl
-
-one_more : (prefix : List Line) (line : Line) (r : Result (List Line) ReplayFault) (number : ℕ) → after_prefix (prefix ++ line ∷ []) r ≡ after_prefix prefix (in_front number (Some line) r)
-one_more prefix line (Ok lines) number = ap Ok (append_assoc prefix (line ∷ []) lines)
-one_more prefix line (Err fault) number = refl
-
--- a line that says nothing ends the reading
-pub stops : (number : ℕ) (prefix : List Line) (texts rest : List (List ℕ)) (text : List ℕ) → texts ≡ text ∷ rest → line_of (words_of text) ≡ None
-    → after_prefix prefix (lines_from number texts) ≡ Err (Syntax number)
-stops number prefix texts rest text e none = rw (e, none) refl
-
--- a line that says something goes to the prefix
-pub goes_on : (number : ℕ) (prefix : List Line) (texts rest : List (List ℕ)) (text : List ℕ) (line : Line) → texts ≡ text ∷ rest → line_of (words_of text) ≡ Some line
-    → after_prefix (prefix ++ line ∷ []) (lines_from (number + 1) rest) ≡ after_prefix prefix (lines_from number texts)
-goes_on number prefix texts rest text line e some = rw (e, some) (one_more prefix line (lines_from (number + 1) rest) number)
+use Rattle.lfm_text.specs.Grammar.{in_front, lines_from}
+use Rattle.lfm_core.specs.text.Grammar.{max_steps, steps_of, plain_act_of, act_of, seat_line, send_act, line_of, schedules, HasFewSteps}
 
 -- an act that asks for few steps, if any
 record FewSteps (act : Option Act) : Type 0 where
@@ -90,16 +68,16 @@ few_in_line (seat ∷ call ∷ target ∷ []) =
     either_line (bytes_eq call (codes "send_lock")) _ (few_in_seat (number_of seat) (send_act (number_of target)) (few_in_send (number_of target)))
 few_in_line (a ∷ b ∷ c ∷ d ∷ more) = tt
 
-few_in_front : (number : ℕ) (line : Option Line) (r : Result (List Line) ReplayFault) → FewStepsInLine line → IfOk r (λ ls. All (λ l. HasFewSteps l.act) ls) → IfOk (in_front number line r) (λ ls. All (λ l. HasFewSteps l.act) ls)
-few_in_front number None r few others = tt
-few_in_front number (Some line) (Ok lines) few others = All-cons (λ l. HasFewSteps l.act) line lines few others
-few_in_front number (Some line) (Err fault) few others = tt
+few_in_front : (fault : ReplayFault) (line : Option Line) (r : Result (List Line) ReplayFault) → FewStepsInLine line → IfOk r (λ ls. All (λ l. HasFewSteps l.act) ls) → IfOk (in_front fault line r) (λ ls. All (λ l. HasFewSteps l.act) ls)
+few_in_front fault None r few others = tt
+few_in_front fault (Some line) (Ok lines) few others = All-cons (λ l. HasFewSteps l.act) line lines few others
+few_in_front fault (Some line) (Err later) few others = tt
 
-few_in_lines : (number : ℕ) (texts : List (List ℕ)) → IfOk (lines_from number texts) (λ ls. All (λ l. HasFewSteps l.act) ls)
+few_in_lines : (number : ℕ) (texts : List (List ℕ)) → IfOk (lines_from schedules number texts) (λ ls. All (λ l. HasFewSteps l.act) ls)
 few_in_lines number [] = All-nil (λ l. HasFewSteps l.act)
 few_in_lines number (text ∷ texts) =
-    few_in_front number (line_of (words_of text)) (lines_from (number + 1) texts) (few_in_line (words_of text)) (few_in_lines (number + 1) texts)
+    few_in_front (Syntax number) (line_of (words_of text)) (lines_from schedules (number + 1) texts) (few_in_line (words_of text)) (few_in_lines (number + 1) texts)
 
 -- lines that were spelled ask for 1 to 999 steps
-pub few_steps : (number : ℕ) (texts : List (List ℕ)) (lines : List Line) → lines_from number texts ≡ Ok lines → All (λ l. HasFewSteps l.act) lines
+pub few_steps : (number : ℕ) (texts : List (List ℕ)) (lines : List Line) → lines_from schedules number texts ≡ Ok lines → All (λ l. HasFewSteps l.act) lines
 few_steps number texts lines e = rw e at (few_in_lines number texts)

@@ -14,22 +14,12 @@ use Rattle.lfm_protocol.specs.declared.limits.Limits.{Limits}
 use Rattle.lfm_protocol.specs.Limits.{max_budget}
 use Rattle.lfm_core.specs.text.Spelling.{act_spelling, IsWritableAct, IsWritable, Spells, SpellsHeader}
 use Rattle.lfm_text.proofs.Numbers.{only}
+use Rattle.lfm_text.proofs.Spelled.{choose}
 
 -- the word is an act, in one of its forms
 record IsForm (word : List ℕ) (a : Act) : Type 0 where
   written : (word ≡ act_spelling a) ⊎ ((a ≡ Steps 1) × (word ≡ codes "."))
   writable : IsWritableAct a
-
--- a word that is compared with a literal, and then with others
-choose : (word text : List ℕ) (b a : Act) (rest : Option Act) → IsForm text b → (rest ≡ Some a → IsForm word a) → cond (bytes_eq word text) (Some b) rest ≡ Some a → IsForm word a
-choose word text b a rest form others e = by_test (bytes_eq word text) refl e
-  where
-    by_test : (t : Bool) → bytes_eq word text ≡ t → cond t (Some b) rest ≡ Some a → IsForm word a
-    by_test true same e =
-        let is_text : word ≡ text = (bytes_eq-Decides word text).0 same in
-        let is_b : b ≡ a = cc in
-        rw (is_text, ← is_b) form
-    by_test false same e = others e
 
 full : (a : Act) → IsWritableAct a → IsForm (act_spelling a) a
 full a writable = record { written = inl refl; writable = writable }
@@ -37,13 +27,13 @@ full a writable = record { written = inl refl; writable = writable }
 plain_only : (word : List ℕ) (a : Act) → plain_act_of word ≡ Some a → IsForm word a
 plain_only word a =
     let one : IsForm (codes ".") (Steps 1) = record { written = inr (refl, refl); writable = (omega arith, omega arith) } in
-    choose word (codes ".") (Steps 1) a _ one
-    (choose word (codes "*") ToEnd a _ (full ToEnd tt)
-    (choose word (codes "lock") (Begin Lock) a _ (full (Begin Lock) tt)
-    (choose word (codes "try_lock") (Begin TryLock) a _ (full (Begin TryLock) tt)
-    (choose word (codes "unlock") (Begin Unlock) a _ (full (Begin Unlock) tt)
-    (choose word (codes "start_wait") (Begin StartWait) a _ (full (Begin StartWait) tt)
-    (choose word (codes "receive") (Begin Receive) a None (full (Begin Receive) tt) (λ e. absurd (cc))))))))
+    choose IsForm word (codes ".") (Steps 1) a _ one
+    (choose IsForm word (codes "*") ToEnd a _ (full ToEnd tt)
+    (choose IsForm word (codes "lock") (Begin Lock) a _ (full (Begin Lock) tt)
+    (choose IsForm word (codes "try_lock") (Begin TryLock) a _ (full (Begin TryLock) tt)
+    (choose IsForm word (codes "unlock") (Begin Unlock) a _ (full (Begin Unlock) tt)
+    (choose IsForm word (codes "start_wait") (Begin StartWait) a _ (full (Begin StartWait) tt)
+    (choose IsForm word (codes "receive") (Begin Receive) a None (full (Begin Receive) tt) (λ e. absurd (cc))))))))
 
 steps_only : (digits : List ℕ) (n : Option ℕ) (a : Act) → number_of digits ≡ n → steps_of n ≡ Some a → IsForm (43 ∷ digits) a
 steps_only digits None a number e = absurd (cc)

@@ -1,5 +1,5 @@
 -- What the bytes of a schedule spell.
-use Rattle.std.specs.Prelude.{ℕ, ◌⊎◌, length, Bool, ◌≡◌, ◌+◌, ◌≤◌, ◌==◌, ◌&&◌, nat_le, if◌then◌else◌, ⊤, List, [], ◌∷◌, Option, Some, None, Result, Ok, Err, codes, ◌<◌, zero, suc, true, false, is_some, slice_index_or}
+use Rattle.std.specs.Prelude.{ℕ, ◌≡◌, ◌≤◌, ◌==◌, ◌&&◌, nat_le, if◌then◌else◌, ⊤, List, [], ◌∷◌, Option, Some, None, Result, Ok, Err, codes}
 use Rattle.std.specs.Str.{bytes_eq}
 use Rattle.lfm_protocol.specs.declared.answers.Call.TheVariants.{Lock, TryLock, Unlock, StartWait, SendLock, Receive}
 use Rattle.lfm_core.specs.declared.text.schedule.Act.{Act}
@@ -10,7 +10,8 @@ use Rattle.lfm_core.specs.declared.text.faults.ReplayFault.{ReplayFault}
 use Rattle.lfm_core.specs.declared.text.faults.ReplayFault.TheVariants.{Syntax, Limit, Read, Write, Memory}
 use Rattle.lfm_protocol.specs.declared.limits.Limits.{Limits}
 use Rattle.lfm_protocol.specs.Limits.{max_budget, are_in_limits}
-use Rattle.lfm_text.specs.Text.{number_of, words_of, lines_of, is_past_limit}
+use Rattle.lfm_text.specs.Grammar.{Rules, said_in}
+use Rattle.lfm_text.specs.Text.{number_of}
 
 -- the most steps that one line may ask for
 abbrev pub max_steps : ℕ
@@ -69,17 +70,6 @@ header_of (word ∷ seats ∷ []) = if bytes_eq word (codes "seats") then header
 header_of (word ∷ seats ∷ budget ∷ []) = if bytes_eq word (codes "seats") then header (number_of seats) (number_of budget) else None
 header_of _ = None
 
--- a line, and those after it; its fault comes first
-abbrev pub in_front : ℕ → Option Line → Result (List Line) ReplayFault → Result (List Line) ReplayFault
-in_front number None rest = Err (Syntax number)
-in_front number (Some line) (Ok lines) = Ok (line ∷ lines)
-in_front number (Some line) (Err fault) = Err fault
-
--- what the lines from the given number on say, or the fault of the first that says nothing
-abbrev pub lines_from : ℕ → List (List ℕ) → Result (List Line) ReplayFault
-lines_from number [] = Ok []
-lines_from number (text ∷ texts) = in_front number (line_of (words_of text)) (lines_from (number + 1) texts)
-
 -- a schedule without where its lines lie in memory
 pub record Plan : Type 0 where
   pub seats : ℕ
@@ -89,22 +79,16 @@ pub record Plan : Type 0 where
 abbrev pub plan_of : Schedule → Plan
 plan_of s = record { seats = s.seats; budget = s.budget; lines = s.lines.items }
 
-abbrev pub in_limits : ℕ → ℕ → List Line → Result Plan ReplayFault
-in_limits n b ls = if are_in_limits n b then Ok (record { seats = n; budget = b; lines = ls }) else Err Limit
+abbrev pub in_limits : Limits → List Line → Result Plan ReplayFault
+in_limits limits ls = if are_in_limits limits.seats limits.budget then Ok (record { seats = limits.seats; budget = limits.budget; lines = ls }) else Err Limit
 
--- what the first line and those after it say; a fault of the limits comes last
-abbrev pub plan_from : Option Limits → Result (List Line) ReplayFault → Result Plan ReplayFault
-plan_from None rest = Err (Syntax 1)
-plan_from (Some limits) (Err fault) = Err fault
-plan_from (Some limits) (Ok lines) = in_limits limits.seats limits.budget lines
-
-abbrev pub plan_of_lines : List (List ℕ) → Result Plan ReplayFault
-plan_of_lines [] = Err (Syntax 1)
-plan_of_lines (first ∷ rest) = plan_from (header_of (words_of first)) (lines_from 2 rest)
+-- the grammar of schedules
+abbrev pub schedules : Rules Limits Line Plan ReplayFault
+schedules = record { first = header_of; line = line_of; whole = in_limits; syntax_fault = Syntax; limit_fault = Limit }
 
 -- the schedule that a text spells, or its first fault
 abbrev pub plan_in : List ℕ → Result Plan ReplayFault
-plan_in text = if is_past_limit text then Err Limit else plan_of_lines (lines_of text)
+plan_in text = said_in schedules text
 
 -- the result, seen by view, is what the text says, unless memory was refused
 abbrev pub Gives : {X Y : Type 0} → (X → Y) → Result X ReplayFault → Result Y ReplayFault → Type 0
@@ -120,16 +104,3 @@ abbrev pub HasFewSteps : Act → Type 0
 HasFewSteps (Begin call) = ⊤
 HasFewSteps (Steps k) = (1 ≤ k) × (k ≤ max_steps)
 HasFewSteps ToEnd = ⊤
-
--- whether a text says a line where it stands at this index
-abbrev pub is_line_at : ℕ → List ℕ → Bool
-is_line_at zero text = is_some (header_of (words_of text))
-is_line_at (suc k) text = is_some (line_of (words_of text))
-
--- the line of this number, counted from 1, is the first that says nothing; a text without lines lacks its first line
-pub record IsFirstFault (texts : List (List ℕ)) (number : ℕ) : Type 0 where
-  pub index : ℕ
-  pub counted : number ≡ index + 1
-  pub there : (index < length texts) ⊎ ((texts ≡ []) × (index ≡ 0))
-  pub fails : is_line_at index (slice_index_or texts index []) ≡ false
-  pub before : (k : ℕ) → k < index → is_line_at k (slice_index_or texts k []) ≡ true

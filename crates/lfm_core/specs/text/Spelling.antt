@@ -1,12 +1,13 @@
 -- How schedules are written: a text for each line, and for a whole plan.
 use Rattle.std.specs.Prelude.{ℕ, ◌≡◌, ◌≤◌, ◌<◌, ◌^◌, false, ⊤, ◌⊎◌, List, [], ◌∷◌, ◌++◌, All, codes, decimal}
-use Rattle.std.specs.List.{flat_map}
 use Rattle.lfm_protocol.specs.declared.answers.Call.{Call}
 use Rattle.lfm_protocol.specs.declared.answers.Call.TheVariants.{Lock, TryLock, Unlock, StartWait, SendLock, Receive}
 use Rattle.lfm_core.specs.declared.text.schedule.Act.{Act}
 use Rattle.lfm_core.specs.declared.text.schedule.Act.TheVariants.{Begin, Steps, ToEnd}
 use Rattle.lfm_core.specs.declared.text.schedule.Line.{Line}
-use Rattle.lfm_text.specs.Text.{lines_of, is_past_limit}
+use Rattle.lfm_text.specs.Grammar.{SpellsLines, lines_spelling}
+use Rattle.lfm_text.specs.Text.{is_past_limit}
+use Rattle.lfm_protocol.specs.declared.limits.Limits.{Limits}
 use Rattle.lfm_core.specs.text.Grammar.{Plan, max_steps}
 use Rattle.lfm_protocol.specs.Limits.{max_seats, max_budget, are_in_limits}
 
@@ -67,7 +68,7 @@ pub record IsWritable (l : Line) : Type 0 where
 
 -- a whole plan: each line is ended by a line feed
 abbrev pub plan_spelling : Plan → List ℕ
-plan_spelling p = header_spelling p.seats p.budget ++ (codes "\n" ++ flat_map (λ l. line_spelling l ++ codes "\n") p.lines)
+plan_spelling p = lines_spelling line_spelling (header_spelling p.seats p.budget) p.lines
 
 -- a plan whose numbers are in range and whose text is not too long
 pub record IsWritablePlan (p : Plan) : Type 0 where
@@ -76,34 +77,23 @@ pub record IsWritablePlan (p : Plan) : Type 0 where
   pub lines : All IsWritable p.lines
   pub short : is_past_limit (plan_spelling p) ≡ false
 
--- each text is a line in one of its forms, and the lines are these
-abbrev pub EachSpells : List (List ℕ) → List Line → Type 0
-EachSpells [] [] = ⊤
-EachSpells [] (l ∷ ls) = ⊥
-EachSpells (t ∷ ts) [] = ⊥
-EachSpells (t ∷ ts) (l ∷ ls) = Spells t l × IsWritable l × EachSpells ts ls
+-- the text is a first line, in one of its forms, and its numbers have at most 18 digits
+abbrev pub SpellsFirst : List ℕ → Limits → Type 0
+SpellsFirst text limits = SpellsHeader text limits.seats limits.budget × (limits.seats < 10 ^ 18) × (limits.budget < 10 ^ 18)
+
+-- the text is a line, in one of its forms, whose numbers a schedule may name
+abbrev pub SpellsWritable : List ℕ → Line → Type 0
+SpellsWritable text l = Spells text l × IsWritable l
 
 -- a text that is not too long, whose lines are those of a plan within the limits
 pub record SpellsPlan (text : List ℕ) (p : Plan) : Type 0 where
-  pub first : List ℕ
-  pub others : List (List ℕ)
-  pub lines : lines_of text ≡ first ∷ others
-  pub header : SpellsHeader first p.seats p.budget
-  pub each : EachSpells others p.lines
+  pub lines : SpellsLines SpellsFirst SpellsWritable text (record { seats = p.seats; budget = p.budget }) p.lines
   pub seats : (1 ≤ p.seats) × (p.seats ≤ max_seats)
   pub budget : (1 ≤ p.budget) × (p.budget ≤ max_budget)
-  pub short : is_past_limit text ≡ false
 
 -- a text that is not too long, whose lines are those of a schedule, with a number of seats or a budget that no mutex may have
 pub record SpellsOutOfRange (text : List ℕ) : Type 0 where
-  pub seats : ℕ
-  pub budget : ℕ
-  pub first : List ℕ
-  pub others : List (List ℕ)
+  pub limits : Limits
   pub lines : List Line
-  pub cut : lines_of text ≡ first ∷ others
-  pub header : SpellsHeader first seats budget
-  pub each : EachSpells others lines
-  pub small : (seats < 10 ^ 18) × (budget < 10 ^ 18)
-  pub outside : are_in_limits seats budget ≡ false
-  pub short : is_past_limit text ≡ false
+  pub spells : SpellsLines SpellsFirst SpellsWritable text limits lines
+  pub outside : are_in_limits limits.seats limits.budget ≡ false

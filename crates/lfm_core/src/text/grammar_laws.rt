@@ -1,8 +1,9 @@
 //! Laws of the grammar of schedules, in the subject's own words. Each is the contract of a function that does nothing.
 
 ghost use Rattle.std.specs.Prelude.{◌≡◌, ◌<◌, ◌^◌, ◌⊎◌, ℕ, true, false, List, Ok, Err, Some};
+ghost use Rattle.lfm_text.specs.Grammar.{IsFirstFault};
 ghost use Rattle.lfm_text.specs.Text.{words_of, lines_of, is_past_limit};
-ghost use Rattle.lfm_core.specs.text.Grammar.{Plan, line_of, header_of, plan_in, IsFirstFault};
+ghost use Rattle.lfm_core.specs.text.Grammar.{Plan, line_of, header_of, schedules, plan_in};
 ghost use Rattle.lfm_core.specs.text.Spelling.{Spells, IsWritable, SpellsHeader, plan_spelling, IsWritablePlan, SpellsPlan, SpellsOutOfRange};
 ghost use Rattle.lfm_core.specs.declared.text.schedule.Line.{Line};
 
@@ -39,9 +40,9 @@ pub fn plans_are_spelled()
 /// names the first such line. So it comes after the limits of length, and before those of the numbers.
 pub fn first_faults_are_named()
     ensures only { (text : List ℕ) (n : ℕ) → plan_in text ≡ Err (ReplayFault.Syntax n) →
-        (is_past_limit text ≡ false) × IsFirstFault (lines_of text) n }
+        (is_past_limit text ≡ false) × IsFirstFault schedules (lines_of text) n }
     ensures all { (text : List ℕ) (n : ℕ) →
-        is_past_limit text ≡ false → IsFirstFault (lines_of text) n →
+        is_past_limit text ≡ false → IsFirstFault schedules (lines_of text) n →
         plan_in text ≡ Err (ReplayFault.Syntax n) }
 {}
 

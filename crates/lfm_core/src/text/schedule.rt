@@ -1,9 +1,10 @@
 //! What a schedule is, and how it is read from its bytes. What its lines do stands beside the runs.
 
 ghost use Rattle.std.specs.Prelude.{◌≡◌, ◌≤◌, ◌<◌, length, All, IfOk, IsErrOf};
+ghost use Rattle.lfm_text.specs.Grammar.{lines_from};
 ghost use Rattle.lfm_text.specs.Text.{lines_of, words_of, line_count, max_lines};
 ghost use Rattle.lfm_protocol.specs.Limits.{max_seats, max_budget};
-ghost use Rattle.lfm_core.specs.text.Grammar.{plain_act_of, act_of, send_of, line_of, header_of, lines_from, plan_of, plan_in, Gives, HasFewSteps};
+ghost use Rattle.lfm_core.specs.text.Grammar.{plain_act_of, act_of, send_of, line_of, header_of, schedules, plan_of, plan_in, Gives, HasFewSteps};
 
 use crate::text::faults::ReplayFault;
 use lfm_protocol::{Call, Limits, MAX_BUDGET};
@@ -135,7 +136,7 @@ fn read_header(text: &[u8]) -> Option<Limits>
 fn read_lines(alloc: Global, text: &[u8], count: usize) -> Result<Vec<Line>, ReplayFault>
     requires counted { length (lines_of text.now) ≡ count }
     requires few { count < max_lines }
-    ensures said { Gives (λ v. v.items) result (lines_from 2 (lines_of text.now)) }
+    ensures said { Gives (λ v. v.items) result (lines_from schedules 2 (lines_of text.now)) }
     ensures all { IfOk result (λ v. length v.items ≡ count) }
     ensures memory { IsErrOf result ReplayFault.Memory → 0 < count }
 {

@@ -1,14 +1,13 @@
--- A line, a first line or a whole script that is written is read back as itself.
-use Rattle.std.proofs.Common.{◌≡◌, ◌<◌, ◌^◌, ℕ, false, List, [], ◌∷◌, ◌++◌, Some, refl, ◌∙◌, ap, append_assoc, codes, decimal}
-use Rattle.std.specs.List.{flat_map}
-use Rattle.lfm_text.specs.Text.{words_of, lines_of, is_past_limit}
+-- A line or a first line of a script that is written is read back as itself, and has no line feed.
+use Rattle.std.proofs.Common.{◌≡◌, ◌<◌, ◌^◌, ℕ, ◌∷◌, ◌++◌, Some, refl, codes, decimal}
+use Rattle.lfm_text.specs.Text.{words_of}
 use Rattle.lfm_text.proofs.Numbers.{every}
 use Rattle.lfm_script.specs.declared.script.Command.{Command}
 use Rattle.lfm_script.specs.declared.script.Command.TheVariants.{Add, Until, One, All}
 use Rattle.lfm_script.specs.declared.script.ScriptLine.{ScriptLine}
-use Rattle.lfm_script.specs.script.Grammar.{line_of, header_of, Plan}
-use Rattle.lfm_script.specs.script.Spelling.{command_spelling, line_spelling, lines_spelling, header_spelling, plan_spelling, IsWritableCommand, IsWritable, AreWritable, IsWritablePlan, SpellsPlan}
-use Rattle.lfm_text.proofs.Separators.{Lacks, first_part, only_part, no_space, literal_lacks, no_feed, both_lack, one_line}
+use Rattle.lfm_script.specs.script.Grammar.{line_of, header_of}
+use Rattle.lfm_script.specs.script.Spelling.{command_spelling, line_spelling, header_spelling, IsWritableCommand, IsWritable}
+use Rattle.lfm_text.proofs.Separators.{Lacks, first_part, only_part, no_space, literal_lacks, no_feed, both_lack}
 
 -- a worker and a command
 command_decodes : (w : ℕ) (m : Command) → w < 10 ^ 18 → IsWritableCommand m
@@ -50,34 +49,11 @@ no_feed_in_command (Until c k) short = both_lack (codes "until ") (decimal c ++ 
 no_feed_in_command (One c) short = both_lack (codes "one ") (decimal c) (literal_lacks 10 (codes "one ") refl) (no_feed c short)
 no_feed_in_command (All c) short = both_lack (codes "all ") (decimal c) (literal_lacks 10 (codes "all ") refl) (no_feed c short)
 
-no_feed_in_line : (l : ScriptLine) → IsWritable l → Lacks 10 (line_spelling l)
+pub no_feed_in_line : (l : ScriptLine) → IsWritable l → Lacks 10 (line_spelling l)
 no_feed_in_line l writable =
     both_lack (decimal l.worker) (codes " " ++ command_spelling l.command) (no_feed l.worker writable.worker)
     (both_lack (codes " ") (command_spelling l.command) (literal_lacks 10 (codes " ") refl) (no_feed_in_command l.command writable.command))
 
-no_feed_in_header : (n c : ℕ) → n < 10 ^ 18 → c < 10 ^ 18 → Lacks 10 (header_spelling n c)
+pub no_feed_in_header : (n c : ℕ) → n < 10 ^ 18 → c < 10 ^ 18 → Lacks 10 (header_spelling n c)
 no_feed_in_header n c small short =
     both_lack (codes "workers ") (decimal n ++ (codes " " ++ decimal c)) (literal_lacks 10 (codes "workers ") refl) (two_numbers_lack n c small short)
-
-abbrev lines_text : List ScriptLine → List ℕ
-lines_text ls = flat_map (λ l. line_spelling l ++ codes "\n") ls
-
-lines_text-cons : (l : ScriptLine) (ls : List ScriptLine) → lines_text (l ∷ ls) ≡ line_spelling l ++ 10 ∷ lines_text ls
-lines_text-cons l ls = append_assoc (line_spelling l) (codes "\n") (lines_text ls)
-
-lines_are : (ls : List ScriptLine) → AreWritable ls → lines_of (lines_text ls) ≡ lines_spelling ls
-lines_are [] writable = refl
-lines_are (l ∷ ls) writable =
-    ap lines_of (lines_text-cons l ls) ∙ one_line (line_spelling l) (lines_text ls) (no_feed_in_line l writable.0)
-    ∙ ap (λ texts. line_spelling l ∷ texts) (lines_are ls writable.1)
-
--- a whole script as it is written has its lines
-pub plan_is_spelled : (p : Plan) → IsWritablePlan p → is_past_limit (plan_spelling p) ≡ false → SpellsPlan (plan_spelling p) p
-plan_is_spelled p writable short =
-    let first = header_spelling p.workers p.conditions in
-    record {
-      short = short;
-      lines = one_line first (lines_text p.lines) (no_feed_in_header p.workers p.conditions writable.workers writable.conditions)
-          ∙ ap (λ texts. first ∷ texts) (lines_are p.lines writable.lines);
-      writable = writable;
-    }

@@ -6,6 +6,7 @@ use Rattle.std.proofs.lemmas.List.Splits.{join_with_byte-slice_split}
 use Rattle.std.proofs.lemmas.Slice.Eq.{bytes_eq-Decides}
 use Rattle.lfm_text.specs.Text.{words_of, number_of}
 use Rattle.lfm_text.proofs.Numbers.{only}
+use Rattle.lfm_text.proofs.Spelled.{choose}
 use Rattle.lfm_script.specs.declared.script.Command.{Command}
 use Rattle.lfm_script.specs.declared.script.Command.TheVariants.{Add, Until, One, All}
 use Rattle.lfm_script.specs.declared.script.ScriptLine.{ScriptLine}
@@ -17,23 +18,15 @@ record IsCommand (text : List ℕ) (m : Command) : Type 0 where
   spelled : text ≡ command_spelling m
   writable : IsWritableCommand m
 
--- a word that is compared with a literal, and then with others
-choose : (tail word text : List ℕ) (b m : Command) (rest : Option Command) → IsCommand (text ++ tail) b → (rest ≡ Some m → IsCommand (word ++ tail) m)
-    → cond (bytes_eq word text) (Some b) rest ≡ Some m → IsCommand (word ++ tail) m
-choose tail word text b m rest form others e = by_test (bytes_eq word text) refl e
-  where
-    by_test : (t : Bool) → bytes_eq word text ≡ t → cond t (Some b) rest ≡ Some m → IsCommand (word ++ tail) m
-    by_test true same e =
-        let is_text : word ≡ text = (bytes_eq-Decides word text).0 same in
-        let is_b : b ≡ m = cc in
-        rw (is_text, ← is_b) form
-    by_test false same e = others e
+-- a word and what follows it are a command
+abbrev IsSpelled : List ℕ → List ℕ → Command → Type 0
+IsSpelled tail word m = IsCommand (word ++ tail) m
 
 short_only : (word : List ℕ) (k : ℕ) (m : Command) → k < 10 ^ 18 → short_command_of word k ≡ Some m → IsCommand (word ++ 32 ∷ decimal k) m
 short_only word k m small =
-    choose (32 ∷ decimal k) word (codes "add") (Add k) m _ (record { spelled = refl; writable = small })
-    (choose (32 ∷ decimal k) word (codes "one") (One k) m _ (record { spelled = refl; writable = small })
-    (choose (32 ∷ decimal k) word (codes "all") (All k) m None (record { spelled = refl; writable = small }) (λ e. absurd (cc))))
+    choose (IsSpelled (32 ∷ decimal k)) word (codes "add") (Add k) m _ (record { spelled = refl; writable = small })
+    (choose (IsSpelled (32 ∷ decimal k)) word (codes "one") (One k) m _ (record { spelled = refl; writable = small })
+    (choose (IsSpelled (32 ∷ decimal k)) word (codes "all") (All k) m None (record { spelled = refl; writable = small }) (λ e. absurd (cc))))
 
 -- the text is a line as it is written
 record IsLine (text : List ℕ) (l : ScriptLine) : Type 0 where

@@ -1,7 +1,8 @@
 -- What the bytes of a script spell.
-use Rattle.std.specs.Prelude.{ℕ, Bool, true, false, ◌≡◌, ◌⊎◌, ◌+◌, ◌<◌, ◌&&◌, if◌then◌else◌, ⊤, List, [], ◌∷◌, length, Option, Some, None, Result, Ok, Err, codes, zero, suc, is_some, slice_index_or}
+use Rattle.std.specs.Prelude.{ℕ, Bool, ◌≡◌, ◌&&◌, if◌then◌else◌, ⊤, List, [], ◌∷◌, Option, Some, None, Result, Ok, Err, codes}
 use Rattle.std.specs.Str.{bytes_eq}
-use Rattle.lfm_text.specs.Text.{number_of, words_of, lines_of, is_past_limit}
+use Rattle.lfm_text.specs.Grammar.{Rules, said_in}
+use Rattle.lfm_text.specs.Text.{number_of}
 use Rattle.lfm_script.specs.script.Limits.{header_allowed, lines_allowed}
 use Rattle.lfm_script.specs.declared.script.Command.{Command}
 use Rattle.lfm_script.specs.declared.script.Command.TheVariants.{Add, Until, One, All}
@@ -57,17 +58,6 @@ abbrev pub header_of : List (List ℕ) → Option (ℕ × ℕ)
 header_of (word ∷ workers ∷ conditions ∷ []) = if bytes_eq word (codes "workers") then header (number_of workers) (number_of conditions) else None
 header_of _ = None
 
--- a line, and those after it; its fault comes first
-abbrev pub in_front : ℕ → Option ScriptLine → Result (List ScriptLine) WorkFault → Result (List ScriptLine) WorkFault
-in_front number None rest = Err (Syntax number)
-in_front number (Some line) (Ok lines) = Ok (line ∷ lines)
-in_front number (Some line) (Err fault) = Err fault
-
--- what the lines from the given number on say, or the fault of the first that says nothing
-abbrev pub lines_from : ℕ → List (List ℕ) → Result (List ScriptLine) WorkFault
-lines_from number [] = Ok []
-lines_from number (text ∷ texts) = in_front number (line_of (words_of text)) (lines_from (number + 1) texts)
-
 -- a script without where its lines lie in memory
 pub record Plan : Type 0 where
   pub workers : ℕ
@@ -81,22 +71,17 @@ script_of s = record { workers = s.workers; conditions = s.conditions; lines = s
 abbrev pub plan_allowed : Plan → Bool
 plan_allowed p = header_allowed p.workers p.conditions && lines_allowed p.workers p.conditions p.lines
 
-abbrev pub in_limits : Plan → Result Plan WorkFault
-in_limits p = if plan_allowed p then Ok p else Err Limit
+abbrev pub in_limits : ℕ × ℕ → List ScriptLine → Result Plan WorkFault
+in_limits h lines =
+    if plan_allowed (record { workers = h.0; conditions = h.1; lines = lines }) then Ok (record { workers = h.0; conditions = h.1; lines = lines }) else Err Limit
 
--- what the first line and those after it say; a fault of the limits comes last
-abbrev pub plan_from : Option (ℕ × ℕ) → Result (List ScriptLine) WorkFault → Result Plan WorkFault
-plan_from None rest = Err (Syntax 1)
-plan_from (Some h) (Err fault) = Err fault
-plan_from (Some h) (Ok lines) = in_limits (record { workers = h.0; conditions = h.1; lines = lines })
-
-abbrev pub plan_of_lines : List (List ℕ) → Result Plan WorkFault
-plan_of_lines [] = Err (Syntax 1)
-plan_of_lines (first ∷ rest) = plan_from (header_of (words_of first)) (lines_from 2 rest)
+-- the grammar of scripts
+abbrev pub scripts : Rules (ℕ × ℕ) ScriptLine Plan WorkFault
+scripts = record { first = header_of; line = line_of; whole = in_limits; syntax_fault = Syntax; limit_fault = Limit }
 
 -- the script that a text spells, or its first fault
 abbrev pub script_in : List ℕ → Result Plan WorkFault
-script_in text = if is_past_limit text then Err Limit else plan_of_lines (lines_of text)
+script_in text = said_in scripts text
 
 -- the result, seen by view, is what the text says, unless memory was refused
 abbrev pub Gives : {X Y : Type 0} → (X → Y) → Result X WorkFault → Result Y WorkFault → Type 0
@@ -107,16 +92,3 @@ Gives view (Err Read) said = ⊥
 Gives view (Err Write) said = ⊥
 Gives view (Err Memory) said = ⊤
 Gives view (Err Stuck) said = ⊥
-
--- whether a text says a line where it stands at this index
-abbrev pub is_line_at : ℕ → List ℕ → Bool
-is_line_at zero text = is_some (header_of (words_of text))
-is_line_at (suc k) text = is_some (line_of (words_of text))
-
--- the line of this number, counted from 1, is the first that says nothing; a text without lines lacks its first line
-pub record IsFirstFault (texts : List (List ℕ)) (number : ℕ) : Type 0 where
-  pub index : ℕ
-  pub counted : number ≡ index + 1
-  pub there : (index < length texts) ⊎ ((texts ≡ []) × (index ≡ 0))
-  pub fails : is_line_at index (slice_index_or texts index []) ≡ false
-  pub before : (k : ℕ) → k < index → is_line_at k (slice_index_or texts k []) ≡ true

@@ -1,8 +1,9 @@
 //! Laws of the grammar of scripts, in the subject's own words. Each is the contract of a function that does nothing.
 
 ghost use Rattle.std.specs.Prelude.{◌≡◌, ◌<◌, ◌^◌, ◌⊎◌, ℕ, true, false, List, Ok, Err, Some};
+ghost use Rattle.lfm_text.specs.Grammar.{IsFirstFault};
 ghost use Rattle.lfm_text.specs.Text.{words_of, lines_of, is_past_limit};
-ghost use Rattle.lfm_script.specs.script.Grammar.{Plan, line_of, header_of, script_in, plan_allowed, IsFirstFault};
+ghost use Rattle.lfm_script.specs.script.Grammar.{Plan, line_of, header_of, scripts, script_in, plan_allowed};
 ghost use Rattle.lfm_script.specs.script.Spelling.{line_spelling, header_spelling, plan_spelling, IsWritable, IsWritablePlan, SpellsPlan};
 ghost use Rattle.lfm_script.specs.declared.script.ScriptLine.{ScriptLine};
 
@@ -39,9 +40,9 @@ pub fn scripts_are_spelled()
 /// line. So it comes after the limits of length, and before those of the numbers.
 pub fn first_script_faults_are_named()
     ensures only { (text : List ℕ) (n : ℕ) → script_in text ≡ Err (WorkFault.Syntax n) →
-        (is_past_limit text ≡ false) × IsFirstFault (lines_of text) n }
+        (is_past_limit text ≡ false) × IsFirstFault scripts (lines_of text) n }
     ensures all { (text : List ℕ) (n : ℕ) →
-        is_past_limit text ≡ false → IsFirstFault (lines_of text) n →
+        is_past_limit text ≡ false → IsFirstFault scripts (lines_of text) n →
         script_in text ≡ Err (WorkFault.Syntax n) }
 {}
 

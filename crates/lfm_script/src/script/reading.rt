@@ -1,9 +1,10 @@
 //! How a script is read from its bytes.
 
 ghost use Rattle.std.specs.Prelude.{◌≡◌, ◌<◌, true, length, IfOk, IsErrOf};
+ghost use Rattle.lfm_text.specs.Grammar.{lines_from};
 ghost use Rattle.lfm_text.specs.Text.{lines_of, words_of, line_count, max_lines};
 ghost use Rattle.lfm_script.specs.script.Limits.{lines_allowed, header_allowed};
-ghost use Rattle.lfm_script.specs.script.Grammar.{short_command_of, until_of, line_of, header_of, lines_from, script_of, script_in, Gives};
+ghost use Rattle.lfm_script.specs.script.Grammar.{short_command_of, until_of, line_of, header_of, scripts, script_of, script_in, Gives};
 
 use crate::faults::WorkFault;
 use crate::script::limits::{are_lines_allowed, is_header_allowed};
@@ -80,7 +81,7 @@ fn read_header(text: &[u8]) -> Option<(u64, u64)>
 fn read_lines(alloc: Global, text: &[u8], count: usize) -> Result<Vec<ScriptLine>, WorkFault>
     requires counted { length (lines_of text.now) ≡ count }
     requires few { count < max_lines }
-    ensures said { Gives (λ v. v.items) result (lines_from 2 (lines_of text.now)) }
+    ensures said { Gives (λ v. v.items) result (lines_from scripts 2 (lines_of text.now)) }
     ensures all { IfOk result (λ v. length v.items ≡ count) }
     ensures memory { IsErrOf result WorkFault.Memory → 0 < count }
 {

@@ -1,5 +1,4 @@
-use Rattle.lfm_core.proofs.texts.Decoding.{plan_decodes}
-use Rattle.lfm_core.proofs.texts.Plans.{plan_only, plan_all}
+use Rattle.lfm_core.proofs.texts.Plans.{plan_only, plan_all, plan_decodes}
 use Rattle.lfm_core.proofs.text.grammar_laws.plans_are_spelled.Goals as goal
 
 pub returns-clause-only : goal.returns-clause-only

@@ -1,5 +1,4 @@
-use Rattle.lfm_script.proofs.scripts.Decoding.{plan_is_spelled}
-use Rattle.lfm_script.proofs.scripts.Plans.{plan_only, plan_all}
+use Rattle.lfm_script.proofs.scripts.Plans.{plan_is_spelled, plan_only, plan_all}
 use Rattle.lfm_script.proofs.script.grammar_laws.scripts_are_spelled.Goals as goal
 
 pub returns-clause-only : goal.returns-clause-only

@@ -1,12 +1,13 @@
 use Rattle.std.proofs.Common.{◌≡◌, ◌+◌, length, vec_capacity}
 use Rattle.lfm_text.specs.Text.{lines_of}
-use Rattle.lfm_script.specs.script.Grammar.{lines_from}
-use Rattle.lfm_script.proofs.scripts.Reading.{after_prefix}
+use Rattle.lfm_text.specs.Grammar.{lines_from}
+use Rattle.lfm_script.specs.script.Grammar.{scripts}
+use Rattle.lfm_text.proofs.Reading.{after_prefix}
 use Rattle.lfm_script.proofs.script.reading.read_lines.Given as goal
 
 abbrev pub invariant-reading : goal.invariant-reading
 invariant-reading l = record {
-  said : after_prefix l.lines.items (lines_from l.number (lines_of l.rest)) ≡ lines_from 2 (lines_of l.text);
+  said : after_prefix l.lines.items (lines_from scripts l.number (lines_of l.rest)) ≡ lines_from scripts 2 (lines_of l.text);
   counted : length l.lines.items + length (lines_of l.rest) ≡ l.count;
   numbered : l.number ≡ 2 + length l.lines.items;
   room : vec_capacity l.lines ≡ l.count;

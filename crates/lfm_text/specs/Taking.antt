@@ -3,6 +3,10 @@ use Rattle.std.specs.Prelude.{ℕ, false, ◌≡◌, ◌-◌, List, take, length
 use Rattle.std.specs.Io.KnownBytes.{Consumes, IsAtEnd}
 use Rattle.lfm_text.specs.Text.{is_past_limit}
 
+-- the most bytes that one read asks for
+abbrev pub read_size : ℕ
+read_size = 4096
+
 -- Known bytes begin with the text and lose it: all there are, or those to the first byte that is past a limit, and none
 -- after it.
 pub record Takes (old new : Option (List ℕ)) (text : List ℕ) : Type 0 where

@@ -3,7 +3,7 @@
 ghost use Rattle.std.specs.Prelude.{◌≡◌, ◌+◌, ◌++◌, ◌<◌, ◌≤◌, length, IfErr, IfOk, IsErrOf, vec_capacity, vec_len};
 ghost use Rattle.std.specs.Io.{ReadsAtMost};
 ghost use Rattle.std.specs.Io.KnownBytes.{Keeps, ReadConsumes};
-ghost use Rattle.lfm_text.specs.Taking.{Takes, TakesWithin};
+ghost use Rattle.lfm_text.specs.Taking.{read_size, Takes, TakesWithin};
 ghost use Rattle.lfm_text.specs.Text.{max_bytes, max_lines};
 
 use crate::faults::InputFault;
@@ -32,7 +32,7 @@ fn next_room(bytes: usize, line_feeds: usize) -> usize
     requires bytes_within { bytes ≤ max_bytes }
     requires lines_within { line_feeds ≤ max_lines }
     ensures some { 0 < result }
-    ensures size { result ≤ 4096 }
+    ensures size { result ≤ read_size }
     ensures bytes { bytes + result ≤ max_bytes + 1 }
     ensures lines { line_feeds + result ≤ max_lines + 1 }
 {

@@ -6,7 +6,7 @@ use Rattle.lfm_protocol.specs.declared.limits.Limits.{Limits}
 use Rattle.lfm_mutex.specs.calls.Sight.{Sight}
 use Rattle.lfm_condvar.specs.declared.waiters.Waiters.{Waiters}
 use Rattle.lfm_condvar.specs.Holds.{StepsOfOneHold, HeldOnce}
-use Rattle.lfm_condvar.specs.Waits.{Enlists, WaitEnds}
+use Rattle.lfm_condvar.specs.Waits.{BeginWaitEnds, Enlists}
 
 same_count : (v w : Waiters) (by : ℕ) → w ≡ v → slice_index w.counts.items by ≤ slice_index v.counts.items by + 1
 same_count v w by e = let q = ap (λ (y : Waiters). slice_index y.counts.items by) e in omega arith
@@ -25,10 +25,10 @@ module _ {T : Type 0} where
   counted_once user by s t v w (Err NotWaiting) b e = same_count v w by e.1
   counted_once user by s t v w (Err Busy) b e = same_count v w by e.3
 
-  busy_ends : (follows : ℕ → T → T → Type 0) (fits : T → ℕ → Type 0) (user own : Limits) (c d : Sight Waiters) (s t : Sight T) → (v : Waiters) × (w : Waiters) × HeldOnce own.budget c d v w × Enlists user c.number s t v w (Err Busy) × StepsOfOneHold own c d → WaitEnds follows fits user own c d s t (Err Busy)
-  busy_ends follows fits user own c d s t h = h
+  busy_ends : (user own : Limits) (c d : Sight Waiters) (s t : Sight T) → (v : Waiters) × (w : Waiters) × HeldOnce own.budget c d v w × Enlists user c.number s t v w (Err Busy) × StepsOfOneHold own c d → BeginWaitEnds user own c d s t (Err Busy)
+  busy_ends user own c d s t h = h
 
   -- a wait that was refused under the inner mutex was refused as Busy
-  pub ends_busy : (follows : ℕ → T → T → Type 0) (fits : T → ℕ → Type 0) (user own : Limits) (c d : Sight Waiters) (s t : Sight T) (r : Refusal) → r ≡ Busy
-      → (v : Waiters) × (w : Waiters) × HeldOnce own.budget c d v w × Enlists user c.number s t v w (Err r) × StepsOfOneHold own c d → WaitEnds follows fits user own c d s t (Err r)
-  ends_busy follows fits user own c d s t r e = subst (λ (x : Refusal). (v : Waiters) × (w : Waiters) × HeldOnce own.budget c d v w × Enlists user c.number s t v w (Err x) × StepsOfOneHold own c d → WaitEnds follows fits user own c d s t (Err x)) (sym e) (busy_ends follows fits user own c d s t)
+  pub ends_busy : (user own : Limits) (c d : Sight Waiters) (s t : Sight T) (r : Refusal) → r ≡ Busy
+      → (v : Waiters) × (w : Waiters) × HeldOnce own.budget c d v w × Enlists user c.number s t v w (Err r) × StepsOfOneHold own c d → BeginWaitEnds user own c d s t (Err r)
+  ends_busy user own c d s t r e = subst (λ (x : Refusal). (v : Waiters) × (w : Waiters) × HeldOnce own.budget c d v w × Enlists user c.number s t v w (Err x) × StepsOfOneHold own c d → BeginWaitEnds user own c d s t (Err x)) (sym e) (busy_ends user own c d s t)

@@ -1,4 +1,4 @@
--- How `enlist` and `wait` end. A user seat is seen as s before and as t after, and its mutex has the limits `user`.
+-- How `enlist`, `begin_wait` and `wait` end. A user seat is seen as s before and as t after, and its mutex has the limits `user`.
 use Rattle.std.specs.Prelude.{◌≡◌, ◌⊎◌, ℕ, ◌+◌, ◌<◌, ◌≤◌, false, Result, Ok, Err}
 use Rattle.lfm_model.specs.declared.answers.How.{How}
 use Rattle.lfm_model.specs.declared.answers.Unlocked.{Unlocked}
@@ -29,16 +29,21 @@ module _ {T : Type 0} where
   Enlists user by s t v w (Err Refusal.Busy) = MayWait user.budget s × (s.number ≤ v.seats) × (0 < times s.number v.list.items) × (w ≡ v) × (t ≡ s)
   Enlists user by s t v w (Err r) = WaitRefused user.budget s r × (w ≡ v) × (t ≡ s)
 
+  -- How begin_wait ends, with a cond seat that is seen as c before and as d after, of a condvar with the limits `own`. The list is
+  -- given back, and the user seat sleeps: it was put at the end of the list in the very hold in which it made start_wait
+  abbrev pub BeginWaitEnds : Limits → Limits → Sight Waiters → Sight Waiters → Sight T → Sight T → Result ℕ Refusal → Type 0
+  BeginWaitEnds user own c d s t (Ok ticket) = (v : Waiters) × (w : Waiters) × HeldOnce own.budget c d v w × Enlists user c.number s t v w (Ok ticket) × StepsOfOneHold own c d
+  BeginWaitEnds user own c d s t (Err Refusal.Spent) = (s.asleep ≡ false) × (s.depth ≡ 1) × (user.budget ≤ s.takes ⊎ (own.budget ≤ c.takes)) × (d ≡ c) × (t ≡ s)
+  BeginWaitEnds user own c d s t (Err Refusal.NoSuchSeat) = MayWait user.budget s × (c.takes < own.budget) × (own.seats < s.number) × (d ≡ c) × (t ≡ s)
+  BeginWaitEnds user own c d s t (Err Refusal.Busy) = (v : Waiters) × (w : Waiters) × HeldOnce own.budget c d v w × Enlists user c.number s t v w (Err Refusal.Busy) × StepsOfOneHold own c d
+  BeginWaitEnds user own c d s t (Err r) = WaitRefused user.budget s r × (d ≡ c) × (t ≡ s)
+
 module _ {T : Type 0} (follows : ℕ → T → T → Type 0) (fits : T → ℕ → Type 0) where
   -- the seat, which slept, has come to hold, by receives alone
   abbrev pub ComesBack : Limits → How → Sight T → Sight T → Type 0
   ComesBack user how s t = Wakes follows fits how s t × ReceivesBy user s t (Ok how)
 
-  -- How wait ends, with a cond seat that is seen as c before and as d after, of a condvar with the limits `own`. Between s and t the
-  -- user seat is seen as m: asleep, put at the end of the list in the very hold in which it made start_wait
+  -- How wait ends: refused as begin_wait is, or made by it, after which the user seat is seen as m, and by receives
   abbrev pub WaitEnds : Limits → Limits → Sight Waiters → Sight Waiters → Sight T → Sight T → Result (How × ℕ) Refusal → Type 0
-  WaitEnds user own c d s t (Ok r) = (v : Waiters) × (w : Waiters) × (m : Sight T) × HeldOnce own.budget c d v w × Enlists user c.number s m v w (Ok r.1) × ComesBack user r.0 m t × StepsOfOneHold own c d
-  WaitEnds user own c d s t (Err Refusal.Spent) = (s.asleep ≡ false) × (s.depth ≡ 1) × (user.budget ≤ s.takes ⊎ (own.budget ≤ c.takes)) × (d ≡ c) × (t ≡ s)
-  WaitEnds user own c d s t (Err Refusal.NoSuchSeat) = MayWait user.budget s × (c.takes < own.budget) × (own.seats < s.number) × (d ≡ c) × (t ≡ s)
-  WaitEnds user own c d s t (Err Refusal.Busy) = (v : Waiters) × (w : Waiters) × HeldOnce own.budget c d v w × Enlists user c.number s t v w (Err Refusal.Busy) × StepsOfOneHold own c d
-  WaitEnds user own c d s t (Err r) = WaitRefused user.budget s r × (d ≡ c) × (t ≡ s)
+  WaitEnds user own c d s t (Ok r) = (m : Sight T) × BeginWaitEnds user own c d s m (Ok r.1) × ComesBack user r.0 m t
+  WaitEnds user own c d s t (Err r) = BeginWaitEnds user own c d s t (Err r)

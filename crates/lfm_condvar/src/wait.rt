@@ -2,10 +2,10 @@
 ghost use Rattle.std.specs.Prelude.{◌≡◌, ◌<◌, ◌≤◌, ℕ, Some, IfErr, slice_index};
 ghost use Rattle.lfm_model.specs.declared.refusals.Refusal.TheVariants.{Busy};
 ghost use Rattle.lfm_mutex.specs.Belongs.{Beside, OfMutex, limits_of};
-ghost use Rattle.lfm_mutex.specs.calls.Sight.{sight, MayLeave};
+ghost use Rattle.lfm_mutex.specs.calls.Sight.{sight, MayRelease};
 ghost use Rattle.lfm_condvar.specs.Belongs.{OfCondvar, cond_limits, cond_sight};
 ghost use Rattle.lfm_condvar.specs.Holds.{StepsOfOneHold, HeldOnce, Rewrites};
-ghost use Rattle.lfm_condvar.specs.Waits.{Enlists, MayWait, WaitEnds};
+ghost use Rattle.lfm_condvar.specs.Waits.{BeginWaitEnds, Enlists, MayWait, WaitEnds};
 
 use crate::cond_seat::CondSeat;
 use crate::condvar::Condvar;
@@ -28,7 +28,7 @@ fn enlist_in_hand<T: Kept>(
     requires belongs { OfMutex seat.old mutex.now }
     requires held { 0 < (sight cond.old).depth }
     requires may { (v : _) → (sight cond.old).value ≡ Some v → ((sight cond.old).number ≤ v.seats) × (slice_index v.counts.items (sight cond.old).number < v.budget) }
-    requires leaves { MayLeave T.follows T.fits (sight seat.old) }
+    requires leaves { MayRelease T.follows T.fits (sight seat.old) }
     ensures belongs { Beside cond.old cond.new × Beside seat.old seat.new }
     ensures enlists { (v : _) × (w : _) × Rewrites (sight cond.old) (sight cond.new) v w × Enlists (limits_of mutex.now) (sight cond.old).number (sight seat.old) (sight seat.new) v w result }
 {
@@ -49,7 +49,7 @@ impl Condvar {
         seat: &mut Seat<T>,
     ) -> Result<u64, Refusal>
         requires belongs { OfCondvar cond.old self.now × OfMutex seat.old mutex.now }
-        requires leaves { MayLeave T.follows T.fits (sight seat.old) }
+        requires leaves { MayRelease T.follows T.fits (sight seat.old) }
         requires may { MayWait (limits_of mutex.now).budget (sight seat.old) }
         requires spare { (cond_sight cond.old).takes < (cond_limits self.now).budget }
         requires known { (sight seat.old).number ≤ (cond_limits self.now).seats }
@@ -67,9 +67,39 @@ impl Condvar {
         enlisted
     }
 
+    /// The first half of `wait`: the user seat is put into the list, gives up its mutex and falls asleep, in one hold of
+    /// the list. When it returns, the list is given back and the user seat sleeps, until a wake of another seat sends it;
+    /// the second half is a `receive_lock` or `try_receive` of the user mutex. It answers the ticket: 1 for the first that
+    /// waited on this condvar, and on.
+    ///
+    /// Refuses as `wait`, in the same order, and costs what `wait` costs. It may sleep until it has the list. It takes no
+    /// memory, and wakes the seat that it grants a mutex, if any.
+    pub fn begin_wait<T: Kept, R: Wait>(
+        &self,
+        rt: &R,
+        cond: &mut CondSeat,
+        mutex: &Mutex<T>,
+        seat: &mut Seat<T>,
+    ) -> Result<u64, Refusal>
+        requires belongs { OfCondvar cond.old self.now × OfMutex seat.old mutex.now }
+        requires leaves { MayRelease T.follows T.fits (sight seat.old) }
+        ensures belongs { OfCondvar cond.new self.now × Beside seat.old seat.new }
+        ensures begins { BeginWaitEnds (limits_of mutex.now) (cond_limits self.now) (cond_sight cond.old) (cond_sight cond.new) (sight seat.old) (sight seat.new) result }
+    {
+        if let Some(refusal) = bars_wait(seat) {
+            return Err(refusal);
+        }
+        if cond.seat.left() == 0 {
+            return Err(Refusal::Spent);
+        }
+        if seat.number().get() > self.seats {
+            return Err(Refusal::NoSuchSeat);
+        }
+        self.enlist_in_one_hold(rt, cond, mutex, seat)
+    }
+
     /// Gives up the user mutex, which the seat holds at depth 1, and waits until another seat sends this one by a wake. It
-    /// answers how the seat came to hold the user mutex again, and its ticket: 1 for the first that waited on this condvar,
-    /// and on. The seat is put into the list, and falls asleep, in one hold of the inner mutex.
+    /// answers how the seat came to hold the user mutex again, and its ticket. It is `begin_wait` and then `receive_lock`.
     ///
     /// Refuses, in this order, before anything is changed: Asleep (the user seat sleeps, or a call of it is open), NotOwner,
     /// Nested (it holds above depth 1), Spent (either seat has no take left), NoSuchSeat (its number is above the condvar's
@@ -85,23 +115,11 @@ impl Condvar {
         seat: &mut Seat<T>,
     ) -> Result<(How, u64), Refusal>
         requires belongs { OfCondvar cond.old self.now × OfMutex seat.old mutex.now }
-        requires leaves { MayLeave T.follows T.fits (sight seat.old) }
+        requires leaves { MayRelease T.follows T.fits (sight seat.old) }
         ensures belongs { OfCondvar cond.new self.now × Beside seat.old seat.new }
         ensures waits { WaitEnds T.follows T.fits (limits_of mutex.now) (cond_limits self.now) (cond_sight cond.old) (cond_sight cond.new) (sight seat.old) (sight seat.new) result }
     {
-        if let Some(refusal) = bars_wait(seat) {
-            return Err(refusal);
-        }
-        if cond.seat.left() == 0 {
-            return Err(Refusal::Spent);
-        }
-        if seat.number().get() > self.seats {
-            return Err(Refusal::NoSuchSeat);
-        }
-        let ticket = match self.enlist_in_one_hold(rt, cond, mutex, seat) {
-            Ok(ticket) => ticket,
-            Err(refusal) => return Err(refusal),
-        };
+        let ticket = self.begin_wait(rt, cond, mutex, seat)?;
         match mutex.receive_lock_within(rt, seat, LOOKS) {
             Ok(how) => Ok((how, ticket)),
             Err(_) => unreachable!(),

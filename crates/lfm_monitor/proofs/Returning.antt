@@ -37,7 +37,7 @@ module _ {O A R : Type 0} {K : _} where
   pub waited : (user own : Limits) (c d : Sight Waiters) (s t : Sight (Journaled O A R K)) (r : How × ℕ) (seen mine n : ℕ) (opening : O) (seats share : ℕ) → PassKept s seen mine → Began opening seats share s → mine < share
       → ((v : Journaled O A R K) → s.value ≡ Some v → n ≡ length v.journal.items) → CondWaitEnds JournalFollows JournalFits user own c d s t (Ok r)
       → (m : Sight (Journaled O A R K)) × SleepsAndComes r.0 s m t n mine opening seats share
-  waited user own c d s t r seen mine n opening seats share kept of room long h = let m = h.2 in let w = h.4.2.1 in let back = h.5.0 in let in_sleep = slept h.4.2.0 user.budget s m seen mine n opening seats share kept of room w long in (
+  waited user own c d s t r seen mine n opening seats share kept of room long h = let m = h.0 in let w = h.1.3.2.1 in let back = h.2.0 in let in_sleep = slept h.1.3.2.0 user.budget s m seen mine n opening seats share kept of room w long in (
     m,
     record {
       kept = in_sleep;

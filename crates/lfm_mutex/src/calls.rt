@@ -8,7 +8,7 @@ ghost use Rattle.lfm_table.specs.Rule.{value_in, last_hold};
 ghost use Rattle.lfm_mutex.specs.calls.Runs.{nothing, errand, errand_of, is_releasing, is_release, release_steps, weight, Ends, Answers, Ran, Holds, how_held, opens};
 ghost use Rattle.lfm_mutex.specs.Belongs.{Beside, OfMutex};
 ghost use Rattle.lfm_mutex.specs.calls.Trails.{Made, MakesAtMost};
-ghost use Rattle.lfm_mutex.specs.calls.Sight.{sight, is_asleep, Concludes, MayLeave, Stays, Turned};
+ghost use Rattle.lfm_mutex.specs.calls.Sight.{sight, is_asleep, Concludes, MayRelease, Stays, Turned};
 ghost use Rattle.lfm_table.specs.Steps.{MayBeLeft};
 
 use crate::mutex::Mutex;
@@ -63,7 +63,7 @@ pub fn run<T: Kept>(mutex: &Mutex<T>, seat: &mut Seat<T>, call: Call) -> Turn
 pub fn release<T: Kept>(mutex: &Mutex<T>, seat: &mut Seat<T>, call: Call) -> Turn
     requires belongs { OfMutex seat.old mutex.now }
     requires gives { is_releasing (errand_of call) ≡ true }
-    requires leaves { MayLeave T.follows T.fits (sight seat.old) }
+    requires leaves { MayRelease T.follows T.fits (sight seat.old) }
     ensures belongs { Beside seat.old seat.new }
     ensures answers { Answers (errand_of call) result }
     ensures turned { Turned T.follows T.fits mutex.now.limits call (sight seat.old) (sight seat.new) result }

@@ -10,7 +10,7 @@ ghost use Rattle.lfm_core.specs.table.Words.{stepped_by};
 ghost use Rattle.lfm_table.specs.Steps.{oldest_in};
 ghost use Rattle.lfm_mutex.specs.Belongs.{Beside, OfMutex, limits_of};
 ghost use Rattle.lfm_mutex.specs.calls.Runs.{errand, is_release, releasing, weight};
-ghost use Rattle.lfm_mutex.specs.calls.Sight.{sight, MayLeave, Unlocks};
+ghost use Rattle.lfm_mutex.specs.calls.Sight.{sight, MayLeave, MayRelease, Unlocks};
 ghost use Rattle.lfm_mutex.specs.calls.Straight.{Course, ComesTo};
 ghost use Rattle.lfm_mutex.specs.calls.Trails.{MakesAtMost, MakesCall};
 
@@ -130,7 +130,7 @@ pub fn unlock_once<T: Kept>(mutex: &Mutex<T>, seat: &mut Seat<T>) -> Unlocked
 #[inline(always)]
 fn unlock_any<T: Kept>(mutex: &Mutex<T>, seat: &mut Seat<T>) -> Result<Unlocked, Refusal>
     requires belongs { OfMutex seat.old mutex.now }
-    requires leaves { MayLeave T.follows T.fits (sight seat.old) }
+    requires leaves { MayRelease T.follows T.fits (sight seat.old) }
     ensures belongs { Beside seat.old seat.new }
     ensures unlocks { Unlocks (sight seat.old) (sight seat.new) result }
     ensures steps { MakesCall (limits_of mutex.now) (λ x. Answered.Unlocked x) CallNow.Unlock (sight seat.old) (sight seat.new) result }
@@ -154,7 +154,7 @@ impl<T: Kept> Mutex<T> {
     #[inline(always)]
     pub fn unlock(&self, seat: &mut Seat<T>) -> Result<Unlocked, Refusal>
         requires belongs { OfMutex seat.old self.now }
-        requires leaves { MayLeave T.follows T.fits (sight seat.old) }
+        requires leaves { MayRelease T.follows T.fits (sight seat.old) }
         ensures belongs { Beside seat.old seat.new }
         ensures unlocks { Unlocks (sight seat.old) (sight seat.new) result }
         ensures steps { MakesCall (limits_of self.now) (λ x. Answered.Unlocked x) CallNow.Unlock (sight seat.old) (sight seat.new) result }

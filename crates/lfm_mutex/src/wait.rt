@@ -4,7 +4,7 @@ ghost use Rattle.lfm_protocol.specs.declared.answers.Answer.TheVariants as Answe
 ghost use Rattle.lfm_protocol.specs.declared.answers.Call.{Call as CallNow};
 ghost use Rattle.lfm_mutex.specs.Belongs.{Beside, OfMutex, limits_of};
 ghost use Rattle.lfm_mutex.specs.calls.Trails.{MakesCall, MakesAtMost};
-ghost use Rattle.lfm_mutex.specs.calls.Sight.{sight, MayLeave, StartsWait};
+ghost use Rattle.lfm_mutex.specs.calls.Sight.{sight, MayRelease, StartsWait};
 
 use crate::calls::release;
 use crate::mutex::Mutex;
@@ -22,7 +22,7 @@ impl<T: Kept> Mutex<T> {
     /// the first half of `wait` of OSv's condition variable.
     pub fn start_wait(&self, seat: &mut Seat<T>) -> Result<Unlocked, Refusal>
         requires belongs { OfMutex seat.old self.now }
-        requires leaves { MayLeave T.follows T.fits (sight seat.old) }
+        requires leaves { MayRelease T.follows T.fits (sight seat.old) }
         ensures belongs { Beside seat.old seat.new }
         ensures waits { StartsWait (limits_of self.now).budget (sight seat.old) (sight seat.new) result }
         ensures steps { MakesCall (limits_of self.now) (λ x. Answered.Waiting x) CallNow.StartWait (sight seat.old) (sight seat.new) result }

@@ -1,6 +1,8 @@
-//! Tests of the running condvar: two threads of which one waits, a send past the condvar, 32 threads that are woken at
-//! once, two condvars of one mutex, refusals and limits.
+//! Tests of the running condvar: two threads of which one waits, a wait in its two halves, a send past the condvar, 32 threads
+//! that are woken at once, two condvars of one mutex, refusals and limits.
 
+#[cfg(test)]
+mod begun_waits;
 #[cfg(test)]
 mod calls;
 #[cfg(test)]

@@ -1,7 +1,7 @@
 //! How a user seat gets into the list: it is appended and falls asleep, or neither.
 ghost use Rattle.std.specs.Prelude.{◌≡◌, ◌<◌, ◌≤◌, MatchOption, slice_index};
 ghost use Rattle.lfm_mutex.specs.Belongs.{Beside, OfMutex, budget_of, limits_of};
-ghost use Rattle.lfm_mutex.specs.calls.Sight.{sight, MayLeave, WaitRefused};
+ghost use Rattle.lfm_mutex.specs.calls.Sight.{sight, MayRelease, WaitRefused};
 ghost use Rattle.lfm_condvar.specs.Keeping.{WaitersFollow};
 ghost use Rattle.lfm_condvar.specs.Waits.{Enlists, MayWait};
 
@@ -43,7 +43,7 @@ pub fn enlist<T: Kept>(
 ) -> Result<u64, Refusal>
     requires belongs { OfMutex seat.old mutex.now }
     requires by { (by ≤ waiters.old.seats) × (slice_index waiters.old.counts.items by < waiters.old.budget) }
-    requires leaves { MayLeave T.follows T.fits (sight seat.old) }
+    requires leaves { MayRelease T.follows T.fits (sight seat.old) }
     ensures belongs { Beside seat.old seat.new }
     ensures enlists { Enlists (limits_of mutex.now) by (sight seat.old) (sight seat.new) waiters.old waiters.new result }
     ensures follows { WaitersFollow by waiters.old waiters.new }

@@ -513,13 +513,13 @@ module _ {T : Type 0} (follows : ℕ → T → T → Type 0) (fits : T → ℕ �
 
 -- What may be left
 
-pub release_deep : (l : Limits) (call : Call) (p q : SeatState) → is_releasing (errand_of call) ≡ true → Begun l call p q → 0 < p.depth
-release_deep l Call.Unlock p q gives b = let e = b.1 in omega (arith, e)
-release_deep l Call.StartWait p q gives b = let e = b.1 in omega (arith, e)
-release_deep l Call.Lock p q gives b = absurd (false≢true gives)
-release_deep l Call.TryLock p q gives b = absurd (false≢true gives)
-release_deep l (Call.SendLock t) p q gives b = absurd (false≢true gives)
-release_deep l Call.Receive p q gives b = absurd (false≢true gives)
+pub release_once : (l : Limits) (call : Call) (p q : SeatState) → is_releasing (errand_of call) ≡ true → Begun l call p q → p.depth ≡ 1
+release_once l Call.Unlock p q gives b = b.1
+release_once l Call.StartWait p q gives b = b.1
+release_once l Call.Lock p q gives b = absurd (false≢true gives)
+release_once l Call.TryLock p q gives b = absurd (false≢true gives)
+release_once l (Call.SendLock t) p q gives b = absurd (false≢true gives)
+release_once l Call.Receive p q gives b = absurd (false≢true gives)
 
 pub may_leave : {T : Type 0} (follows : ℕ → T → T → Type 0) (fits : T → ℕ → Type 0) (n : ℕ) (p : SeatState) (v : View T) (a : Option (Moving T)) → v.number ≡ n → 0 < p.depth → MayLeave follows fits (sight_of n p v (value_in a)) → MayBeLeft follows fits a v
 may_leave {T} follows fits n p v a named deep may x is =

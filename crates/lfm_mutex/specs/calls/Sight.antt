@@ -201,6 +201,10 @@ module _ {T : Type 0} (follows : ℕ → T → T → Type 0) (fits : T → ℕ �
   abbrev pub MayLeave : Sight T → Type 0
   MayLeave s = (x : T) → s.value ≡ Some x → fits x s.queued × ((l : T) → s.last ≡ Some l → follows s.number l x)
 
+  -- what the seat has in hand may be left, if the call gives up its only hold
+  abbrev pub MayRelease : Sight T → Type 0
+  MayRelease s = s.depth ≡ 1 → MayLeave s
+
   -- a seat that doesn't hold comes to hold at once
   abbrev pub Gains : ℕ → How → Sight T → Sight T → Type 0
   Gains budget how s t =

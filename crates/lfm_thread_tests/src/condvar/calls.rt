@@ -65,3 +65,19 @@ pub fn wait<R: Wait>(
 {
     condvar.wait(rt, cond, mutex, seat)
 }
+
+/// `begin_wait`.
+pub fn begin_wait<R: Wait>(
+    rt: &R,
+    condvar: &Condvar,
+    cond: &mut CondSeat,
+    mutex: &Mutex<u64>,
+    seat: &mut Seat<u64>,
+) -> Result<u64, Refusal>
+    requires seat { OfMutex seat.old mutex.now }
+    requires cond { OfCondvar cond.old condvar.now }
+    ensures seat { OfMutex seat.new mutex.now }
+    ensures cond { OfCondvar cond.new condvar.now }
+{
+    condvar.begin_wait(rt, cond, mutex, seat)
+}

@@ -6,7 +6,7 @@ use Rattle.lfm_table.specs.Steps.{MayBeLeft}
 use Rattle.lfm_mutex.proofs.runs.Running.{begun_release, weight_begun, called_steps, called_at_once}
 use Rattle.lfm_table.specs.Rule.{value_in}
 use Rattle.lfm_mutex.specs.calls.Sight.{sight_of, Turned}
-use Rattle.lfm_mutex.proofs.runs.Sights.{begun, turned_by_release, turned_at_once, called_ends, may_leave, release_deep}
+use Rattle.lfm_mutex.proofs.runs.Sights.{begun, turned_by_release, turned_at_once, called_ends, may_leave, release_once}
 use Rattle.lfm_protocol.specs.declared.limits.Limits.{Limits}
 use Rattle.lfm_mutex.specs.calls.Trails.{Made}
 use Rattle.lfm_mutex.proofs.runs.MadeCalls.{makes}
@@ -19,7 +19,8 @@ finish_release-requires-clause-gives g c κs within = let s = c.args.seat.now in
 pub finish_release-requires-clause-leaves : goal.finish_release-requires-clause-leaves
 finish_release-requires-clause-leaves g c κs within = let s = c.args.seat.now in let b = c.begin_call.new.seat in
     let began = begun g.T.Kept.follows g.T.Kept.fits s.number s.limits s.place.me.0 (value_in s.moving) s.standing b.standing c.args.call c.in-Open.ensures.turn c.in-Open.ensures.seat in
-    let may = may_leave g.T.Kept.follows g.T.Kept.fits s.number s.standing s.place.me.0 s.moving s.seated.named (release_deep s.limits c.args.call s.standing b.standing c.requires.gives began) c.requires.leaves in
+    let one = release_once s.limits c.args.call s.standing b.standing c.requires.gives began in
+    let may = may_leave g.T.Kept.follows g.T.Kept.fits s.number s.standing s.place.me.0 s.moving s.seated.named (omega (arith, one)) (c.requires.leaves one) in
     subst (λ (t : Option (Moving g.row.T.Denot) × View g.row.T.Denot). MayBeLeft g.T.Kept.follows g.T.Kept.fits t.0 t.1) (λ i. (sym c.begin_call.ensures.same.3 i, ap (λ p. p.me.0) (sym c.begin_call.ensures.same.0) i)) may
 
 pub returns-in-Open-clause-answers : goal.returns-in-Open-clause-answers

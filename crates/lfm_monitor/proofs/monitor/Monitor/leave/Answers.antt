@@ -6,7 +6,7 @@ use Rattle.lfm_monitor.proofs.Refusing.{leave_refused, refused_steps, same_began
 use Rattle.lfm_monitor.proofs.monitor.Monitor.leave.Goals as goal
 
 pub unlock-requires-clause-leaves : goal.unlock-requires-clause-leaves
-unlock-requires-clause-leaves g c κs within = let p = c.args.pass.now in may_leave (sight p.seat) p.seen p.mine p.kept
+unlock-requires-clause-leaves g c κs within = let p = c.args.pass.now in λ one. may_leave (sight p.seat) p.seen p.mine p.kept
 
 pub invariant_of-pass-in-Still-1 : goal.invariant_of-pass-in-Still-1
 invariant_of-pass-in-Still-1 g c = let p = c.args.pass.now in let u = rw c.in-Still.is at c.in_ok-unlocked.ensures.unlocks in

@@ -18,7 +18,7 @@ pub wait-requires-clause-belongs : goal.wait-requires-clause-belongs
 wait-requires-clause-belongs g c κs within = let a = at_place c.args.pass.now c.args.self.now c.in-Some-place_of.place _ _ c.requires.belongs c.in-Some-place_of.ensures.1 c.index_mut-cond.ensures.value c.index.ensures in (a.belongs, c.requires.belongs.0)
 
 pub wait-requires-clause-leaves : goal.wait-requires-clause-leaves
-wait-requires-clause-leaves g c κs within = let p = c.args.pass.now in may_leave (sight p.seat) p.seen p.mine p.kept
+wait-requires-clause-leaves g c κs within = let p = c.args.pass.now in λ one. may_leave (sight p.seat) p.seen p.mine p.kept
 
 pub returns-in-Err : goal.returns-in-Err
 returns-in-Err g c = let p = c.args.pass.now in let m = c.args.self.now in let n = c.in-Some-place_of.place in let x = c.index_mut-cond.result.now in let y = c.wait.new.cond in let v = c.index.result.now in let s = sight p.seat in

@@ -29,11 +29,12 @@ returns g c = let p = c.args.pass.now in let m = c.args.self.now in let n = c.in
       wakes = wakes_one (passes_of m) (condition_limits (passes_of m)) (conditions_of m) c.args.condition (cond_seats_of p) _ s t c.wake_one.result (sym c.if-asleep.ensures)
           (n, x, y, c.in-Some.ensures.0, a.seat, refl, subst (λ (l : Limits). WakeOneEnds (passes_of m) l (cond_sight x) (cond_sight y) s t c.wake_one.result) a.limits e.wakes);
       sends = sent;
+      steps = e.steps;
       same = (refl, refl);
     }
 
 pub returns-then-asleep : goal.returns-then-asleep
-returns-then-asleep g c = record { belongs = c.requires.belongs; wakes = (sym c.if-asleep.ensures, refl, refl); sends = refl; same = (refl, refl) }
+returns-then-asleep g c = record { belongs = c.requires.belongs; wakes = (sym c.if-asleep.ensures, refl, refl); sends = refl; steps = refl; same = (refl, refl) }
 
 pub returns-in_default : goal.returns-in_default
-returns-in_default g c = record { belongs = c.requires.belongs; wakes = ((sym c.if-asleep.ensures, c.in_default.ensures), refl, refl); sends = refl; same = (refl, refl) }
+returns-in_default g c = record { belongs = c.requires.belongs; wakes = ((sym c.if-asleep.ensures, c.in_default.ensures), refl, refl); sends = refl; steps = refl; same = (refl, refl) }

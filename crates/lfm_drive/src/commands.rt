@@ -1,6 +1,6 @@
 //! What the program does with its arguments: it wants none. Its messages and statuses are those of `lfm replay`.
-use lfm_core::ReplayFault;
-use lfm_program::{drive, report};
+use lfm_core::{ReplayFault, report};
+use lfm_explanation::drive;
 use std::alloc::Global;
 use std::io::{BufWriter, ErrorKind, Input};
 use std::rt::Env;

@@ -1,5 +1,5 @@
 //! The program `lfm_drive`: it reads a schedule of atomic steps, drives a running mutex through it, and shows what came of
-//! each line.
+//! each line. What it prints is made in `lfm_explanation`; here stand its arguments, messages and statuses alone.
 #![tactic(auto)]
 
 mod commands;

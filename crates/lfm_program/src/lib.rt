@@ -1,9 +1,7 @@
-//! What the programs run: a schedule that is driven through a running mutex, and a script of workers, each a thread, round
-//! one monitor. What such a script is and what is reported of it stands in `lfm_script`, whose names are passed on, as are
-//! those of `lfm_core` for the end of a replay.
+//! The run of a script of workers, each a thread, round one monitor. What such a script is and what is reported of it stands
+//! in `lfm_script`, whose names are passed on, as are those of `lfm_core` for the end of a replay.
 #![tactic(auto)]
 
-pub mod driving;
 pub mod gates;
 pub mod performed;
 mod script_run;
@@ -11,7 +9,6 @@ pub mod starting_line;
 mod workers;
 pub mod working;
 
-pub use driving::{drive, follow};
 pub use gates::{Gate, Meet, OpenGate};
 pub use lfm_core::{replay_status, report};
 pub use lfm_script::{

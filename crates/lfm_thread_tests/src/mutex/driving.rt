@@ -4,8 +4,8 @@ ghost use Rattle.std.specs.Prelude.{All};
 ghost use Rattle.lfm_mutex.specs.Belongs.{OfMutex};
 
 use lfm_core::{Line, State, Turn, read_schedule, run};
+use lfm_explanation::follow;
 use lfm_mutex::{Mutex, Seat};
-use lfm_program::follow;
 use std::alloc::{AllocError, Global};
 use std::test::Fail;
 

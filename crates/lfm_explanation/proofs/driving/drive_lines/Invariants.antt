@@ -1,6 +1,6 @@
 use Rattle.std.specs.Prelude.{All}
 use Rattle.lfm_mutex.specs.Belongs.{OfMutex}
-use Rattle.lfm_program.proofs.driving.drive_lines.Given as goal
+use Rattle.lfm_explanation.proofs.driving.drive_lines.Given as goal
 
 -- the seats stay the mutex's
 abbrev pub invariant-driving : goal.invariant-driving

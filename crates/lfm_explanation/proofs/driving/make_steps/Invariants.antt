@@ -1,5 +1,5 @@
 use Rattle.lfm_mutex.specs.Belongs.{Beside, OfMutex}
-use Rattle.lfm_program.proofs.driving.make_steps.Given as goal
+use Rattle.lfm_explanation.proofs.driving.make_steps.Given as goal
 
 -- the seat stays one of the mutex's
 abbrev pub invariant-stepping : goal.invariant-stepping

@@ -1,7 +1,7 @@
 use Rattle.std.proofs.Common.{All, sym, subst}
 use Rattle.lfm_mutex.specs.Belongs.{OfMutex}
 use Rattle.lfm_mutex.proofs.Lists.{all_by_place}
-use Rattle.lfm_program.proofs.driving.drive_schedule.Goals as goal
+use Rattle.lfm_explanation.proofs.driving.drive_schedule.Goals as goal
 
 pub drive_lines-requires : goal.drive_lines-requires
 drive_lines-requires g c =

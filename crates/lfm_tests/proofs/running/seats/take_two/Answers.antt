@@ -1,6 +1,6 @@
 use Rattle.std.proofs.Common.{length}
 use Rattle.lfm_mutex.proofs.ends.Ends.{was_last, was_there}
-use Rattle.lfm_tests.proofs.running.take_two.Goals as goal
+use Rattle.lfm_tests.proofs.running.seats.take_two.Goals as goal
 
 pub returns : goal.returns
 returns c = let a = c.in_ok-second.ensures.items in let b = c.in_ok-first.ensures.items in let s = c.in_ok-second.second in let f = c.in_ok-first.first in

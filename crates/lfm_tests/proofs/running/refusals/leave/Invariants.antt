@@ -1,5 +1,5 @@
 use Rattle.lfm_mutex.specs.Belongs.{OfMutex}
-use Rattle.lfm_tests.proofs.running.leave.Given as goal
+use Rattle.lfm_tests.proofs.running.refusals.leave.Given as goal
 
 abbrev pub invariant-leaving : goal.invariant-leaving
 invariant-leaving g l = OfMutex l.seat l.mutex

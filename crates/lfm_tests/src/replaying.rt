@@ -1,4 +1,4 @@
-//! Schedules whose replay fails at a read or a write, stops at a limit, or meets a refused line.
+//! Schedules whose replay succeeds, fails at a read or a write, stops at a limit, or meets a refused line.
 ghost use Rattle.std.specs.Prelude.{◌<◌};
 
 use crate::devices::{
@@ -47,6 +47,14 @@ fn replays_as<A: Abort, R: Read>(
         &wanted,
     );
     sees_bytes(rt, written.as_slice(), bytes);
+}
+
+#[test]
+fn first_run(rt: HostRuntime) {
+    let mut reader = b"seats 1\n1 lock\n1 *\n".as_slice();
+    let trace =
+        b"1 seats 1 | 0 0 0 free -\n2 1 begins | 0 0 0 free -\n3 1 ends Held Free | 1 1 0 owner.1 -\n";
+    replays_as(&rt, rt.alloc(), &mut reader, Ok(true), trace);
 }
 
 #[test]

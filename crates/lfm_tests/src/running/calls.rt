@@ -18,6 +18,8 @@ pub enum Step {
     Unlock(Result<Unlocked, Refusal>),
     StartWait(Result<Unlocked, Refusal>),
     Owner(Option<SeatNo>),
+    /// How many takes the seat has made.
+    Takes(u64),
     /// The value in hand.
     Value(Option<u64>),
     /// Sets the value in hand, which answers nothing.
@@ -55,6 +57,7 @@ pub fn make<R: Abort>(rt: &R, mutex: &Mutex<u64>, seat: &mut Seat<u64>, at: usiz
         Step::Unlock(wanted) => answers(rt, at, &mutex.unlock(seat), &wanted),
         Step::StartWait(wanted) => answers(rt, at, &mutex.start_wait(seat), &wanted),
         Step::Owner(wanted) => answers(rt, at, &mutex.owner(seat), &wanted),
+        Step::Takes(wanted) => answers(rt, at, &seat.takes(), &wanted),
         Step::Value(wanted) => answers(rt, at, &seat.value().copied(), &wanted),
         Step::Set(value) => set(seat, value),
         Step::Start(call, wanted) => answers(rt, at, &start(mutex, seat, call), &wanted),

@@ -1,10 +1,24 @@
 //! How the mutex is held and given on between two seats of one thread, call by call.
-use crate::running::calls::{By, Step, make_all};
-use crate::running::seats::{closed, kept_alone, pair, stays_open};
+use crate::running::calls::{By, Step, make_all, make_alone};
+use crate::running::seats::{alone, closed, closed_alone, lacks_the_second, pair, stays_open};
 use crate::seeing::sees;
 use lfm_core::{Answer, Call, Turn, Why};
 use lfm_model::{Asked, How, Locked, Missing, Refusal, SeatNo, Unlocked};
 use std::test::Fail;
+
+#[test]
+fn first_run(rt: HostRuntime) -> Result<(), Fail> {
+    let (mutex, mut seat) = alone(rt.alloc(), 7)?;
+    let steps = [
+        Step::Ask(Ok(Asked::Held(How::Free))),
+        Step::Value(Some(7)),
+        Step::Unlock(Ok(Unlocked::Free)),
+    ];
+    make_alone(&rt, &mutex, &mut seat, &steps);
+    let value = closed_alone(mutex, seat, Vec::new(rt.alloc()));
+    sees(&rt, "the value", &value, &Some(7));
+    Ok(())
+}
 
 #[test]
 fn uncontended(rt: HostRuntime) -> Result<(), Fail> {
@@ -13,6 +27,7 @@ fn uncontended(rt: HostRuntime) -> Result<(), Fail> {
         (By::First, Step::TryLock(Ok(Locked::Held(How::Free)))),
         (By::First, Step::Set(5)),
         (By::Second, Step::TryLock(Err(Refusal::Busy))),
+        (By::Second, Step::Takes(0)),
         (By::Second, Step::Owner(Some(SeatNo::known(1)))),
     ];
     make_all(&rt, &mutex, &mut first, &mut second, &before);
@@ -29,21 +44,16 @@ fn uncontended(rt: HostRuntime) -> Result<(), Fail> {
         (By::Second, Step::Unlock(Ok(Unlocked::Free))),
     ];
     make_all(&rt, &mutex, &mut first, &mut second, &after);
+    let (mutex, first) = lacks_the_second(&rt, mutex, first, Vec::new(rt.alloc()));
+    let value = closed(mutex, first, second, Vec::new(rt.alloc()));
+    sees(&rt, "the value", &value, &Some(5));
     Ok(())
 }
 
 #[test]
 fn a_close_without_a_seat(rt: HostRuntime) -> Result<(), Fail> {
     let (mutex, first, _second) = pair(rt.alloc())?;
-    let Some((_mutex, _first, missing)) = kept_alone(mutex, first, Vec::new(rt.alloc())) else {
-        panic!(rt; "it was closed without seat 2")
-    };
-    sees(
-        &rt,
-        "what is missing",
-        &missing,
-        &Missing::NotBack(SeatNo::known(2)),
-    );
+    let (_mutex, _first) = lacks_the_second(&rt, mutex, first, Vec::new(rt.alloc()));
     Ok(())
 }
 
@@ -79,6 +89,7 @@ fn two_seats_in_one_thread(rt: HostRuntime) -> Result<(), Fail> {
         (By::First, Step::TryReceive(Err(Refusal::NotWaiting))),
     ];
     make_all(&rt, &mutex, &mut first, &mut second, &received);
+    let (mutex, first) = lacks_the_second(&rt, mutex, first, Vec::new(rt.alloc()));
     let value = closed(mutex, second, first, Vec::new(rt.alloc()));
     sees(&rt, "the value", &value, &Some(5));
     Ok(())

@@ -2,7 +2,7 @@
 ghost use Rattle.lfm_mutex.specs.Belongs.{OfMutex};
 
 use crate::running::calls::{Step, make_alone};
-use crate::running::seats::take_one;
+use crate::running::seats::alone;
 use crate::seeing::sees;
 use lfm_core::MAX_BUDGET;
 use lfm_model::{Asked, How, NewFault, Refusal, Unlocked};
@@ -84,10 +84,7 @@ fn refuses_in_order<R: Abort>(rt: &R, mutex: &Mutex<u64>, seat: &mut Seat<u64>)
 
 #[test]
 fn refusals_in_order(rt: HostRuntime) -> Result<(), Fail> {
-    let (mutex, seats) = Mutex::new(rt.alloc(), 1, 1, 0u64)?;
-    let Some(mut seat) = take_one(&mutex, seats) else {
-        panic!(rt; "one seat")
-    };
+    let (mutex, mut seat) = alone(rt.alloc(), 0)?;
     refuses_in_order(&rt, &mutex, &mut seat);
     Ok(())
 }

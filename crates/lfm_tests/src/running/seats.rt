@@ -5,14 +5,14 @@ ghost use mathlib.Core.Option.{some};
 ghost use lib.ListN.{get_elem?};
 
 use crate::seeing::sees;
-use lfm_model::Missing;
+use lfm_model::{Missing, SeatNo};
 use lfm_mutex::{Mutex, Seat};
 use std::alloc::Global;
 use std::process::Abort;
 use std::test::Fail;
 
 /// The two seats of a mutex that has two.
-pub fn take_two(mutex: &Mutex<u64>, mut seats: Vec<Seat<u64>>) -> Option<(Seat<u64>, Seat<u64>)>
+fn take_two(mutex: &Mutex<u64>, mut seats: Vec<Seat<u64>>) -> Option<(Seat<u64>, Seat<u64>)>
     requires { (j : ℕ) (s : _) → get_elem? seats.items j ≡ some s → OfMutex s mutex.now }
     ensures { IfSome result (λ p. OfMutex p.0 mutex.now × OfMutex p.1 mutex.now) }
 {
@@ -23,7 +23,7 @@ pub fn take_two(mutex: &Mutex<u64>, mut seats: Vec<Seat<u64>>) -> Option<(Seat<u
 }
 
 /// The seat of a mutex that has one.
-pub fn take_one(mutex: &Mutex<u64>, mut seats: Vec<Seat<u64>>) -> Option<Seat<u64>>
+fn take_one(mutex: &Mutex<u64>, mut seats: Vec<Seat<u64>>) -> Option<Seat<u64>>
     requires { (j : ℕ) (s : _) → get_elem? seats.items j ≡ some s → OfMutex s mutex.now }
     ensures { IfSome result (λ s. OfMutex s mutex.now) }
 {
@@ -41,6 +41,17 @@ pub fn pair(alloc: Global) -> Result<(Mutex<u64>, Seat<u64>, Seat<u64>), Fail>
         return Err(Fail::new("two seats"));
     };
     Ok((mutex, first, second))
+}
+
+/// A mutex of one seat round this value, with a budget of one take, and its seat.
+pub fn alone(alloc: Global, value: u64) -> Result<(Mutex<u64>, Seat<u64>), Fail>
+    ensures { IfOk result (λ r. OfMutex r.1 r.0) }
+{
+    let (mutex, seats) = Mutex::new(alloc, 1, 1, value)?;
+    let Some(seat) = take_one(&mutex, seats) else {
+        return Err(Fail::new("one seat"));
+    };
+    Ok((mutex, seat))
 }
 
 /// Hands both seats back, which must not close the mutex yet: returns what is missing, and all three again.
@@ -87,14 +98,15 @@ pub fn stays_open<R: Abort>(
 }
 
 /// Hands one seat back, which must not close the mutex yet: returns what is missing, and both again.
-pub fn kept_alone(
+fn kept_alone(
     mutex: Mutex<u64>,
     seat: Seat<u64>,
     mut room: Vec<Seat<u64>>,
 ) -> Option<(Mutex<u64>, Seat<u64>, Missing)>
     requires seat { OfMutex seat mutex }
     requires empty { room.items ≡ [] }
-    ensures { IfSome result (λ r. OfMutex r.1 r.0) }
+    ensures same { IfSome result (λ r. r.0 ≡ mutex) }
+    ensures seat { IfSome result (λ r. OfMutex r.1 r.0) }
 {
     room.push(seat).ok()?;
     let Err((mutex, seats, missing)) = mutex.close(room) else {
@@ -102,6 +114,26 @@ pub fn kept_alone(
     };
     let seat = take_one(&mutex, seats)?;
     Some((mutex, seat, missing))
+}
+
+/// Hands seat 1 back alone, which must not close the mutex, since seat 2 is missing. Returns both again.
+pub fn lacks_the_second<R: Abort>(
+    rt: &R,
+    mutex: Mutex<u64>,
+    first: Seat<u64>,
+    room: Vec<Seat<u64>>,
+) -> (Mutex<u64>, Seat<u64>)
+    requires first { OfMutex first mutex }
+    requires empty { room.items ≡ [] }
+    ensures same { result.0 ≡ mutex }
+    ensures first { OfMutex result.1 result.0 }
+{
+    let Some((mutex, first, missing)) = kept_alone(mutex, first, room) else {
+        panic!(rt; "it was closed without seat 2")
+    };
+    let wanted = Missing::NotBack(SeatNo::known(2));
+    sees(rt, "what is missing", &missing, &wanted);
+    (mutex, first)
 }
 
 /// Hands both seats back, which must close the mutex: returns its value.
@@ -117,5 +149,14 @@ pub fn closed(
 {
     room.push(first).ok()?;
     room.push(second).ok()?;
+    mutex.close(room).ok()
+}
+
+/// Hands the one seat back, which must close the mutex: returns its value.
+pub fn closed_alone(mutex: Mutex<u64>, seat: Seat<u64>, mut room: Vec<Seat<u64>>) -> Option<u64>
+    requires seat { OfMutex seat mutex }
+    requires empty { room.items ≡ [] }
+{
+    room.push(seat).ok()?;
     mutex.close(room).ok()
 }

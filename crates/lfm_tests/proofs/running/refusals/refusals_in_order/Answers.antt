@@ -1,4 +1,0 @@
-use Rattle.lfm_tests.proofs.running.refusals.refusals_in_order.Goals as goal
-
-pub take_one-requires : goal.take_one-requires
-take_one-requires g c = λ j s at. (c.in_ok-mutex.ensures.seats.1 j s at).0

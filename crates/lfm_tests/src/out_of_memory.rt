@@ -1,33 +1,18 @@
 //! The calls that ask for memory. Each test whose name contains `memory` passes also where a request was refused, and
 //! sees then that nothing was changed or written: a script lets each single request of these tests fail in turn.
+use crate::counted::Counted;
 use crate::seeing::sees;
-use lfm_core::{Call, ReplayFault, State, Turn, read_schedule, replay, run};
-use lfm_model::NewFault;
-use lfm_mutex::{Kept, Mutex};
-use lfm_words::PopList;
+use lfm_core::{Answer, Call, ReplayFault, State, Turn, read_schedule, replay, run};
+use lfm_model::{
+    Asked, Entry, How, NewFault, Place, SeatNo, Total, TotalOp, Unlocked, What, journals,
+};
+use lfm_mutex::Mutex;
+use lfm_words::{Handoff, PopList};
 use std::alloc::Global;
 use std::process::Abort;
 use std::sync::atomic::{AtomicU64, Ordering};
 
 const SCHEDULE: &[u8; 46] = b"seats 2\n1 lock\n1 *\n2 lock\n2 .\n1 unlock\n1 *\n2 *";
-
-/// A value that counts how often such a value was dropped.
-struct Counted<'a> {
-    drops: &'a AtomicU64,
-}
-
-impl Drop for Counted<'_> {
-    fn drop(self) {
-        self.drops.fetch_add(1, Ordering::SeqCst);
-        let Counted { drops: _ } = self;
-    }
-}
-
-impl Kept for Counted<'_> {
-    ghost fits = { λ _ _. Unit {0} };
-
-    ghost follows = { λ _ _ _. Unit {0} };
-}
 
 #[test]
 fn pop_list_and_memory(rt: HostRuntime) {
@@ -52,30 +37,87 @@ fn schedule_and_memory(rt: HostRuntime) {
     }
 }
 
-/// Sees that a state is as seat 1 left it, which began to lock, and goes on from there.
-fn sees_begun<R: Abort>(rt: &R, state: &mut State) {
-    sees(rt, "the count", &state.count(), &0);
+/// What two seats do from where a post stands beside a record: the locker takes the post over, and owns.
+const REST: &[u8; 26] = b"seats 2 1\n1 .\n2 +2\n1 *\n2 *";
+
+/// Sees that a call of a seat begins.
+fn begins<R: Abort>(rt: &R, state: &mut State, seat: u64, call: Call) {
+    sees(rt, "a begin", &state.begin(seat, call), &Turn::Open);
+}
+
+/// Sees that a seat makes so many steps, and that its call goes on.
+fn goes_on<R: Abort>(rt: &R, state: &mut State, seat: u64, steps: u64) {
+    sees(rt, "steps", &state.steps(seat, steps), &Turn::Open);
+}
+
+/// Sees that a call of a seat ends with this turn.
+fn ends<R: Abort>(rt: &R, state: &mut State, seat: u64, turn: Turn) {
+    sees(rt, "an end", &state.steps(seat, 9), &turn);
+}
+
+/// Brings a state of two seats to where seat 1 has posted and seat 2 has queued, each in a call.
+fn post_beside_a_record<R: Abort>(rt: &R, state: &mut State) {
+    let held = Turn::Ended(Answer::Asked(Asked::Held(How::Free)));
+    begins(rt, state, 1, Call::Lock);
+    ends(rt, state, 1, held);
+    begins(rt, state, 2, Call::Lock);
+    goes_on(rt, state, 2, 1);
+    begins(rt, state, 1, Call::Unlock);
+    // seat 1 finds nobody queued, and carries the responsibility
+    goes_on(rt, state, 1, 3);
+    goes_on(rt, state, 2, 4);
+    goes_on(rt, state, 1, 1);
+}
+
+/// Sees the depth, the takes and the posts of a seat.
+fn sees_seat<R: Abort>(rt: &R, state: &State, seat: u64, wanted: (u64, u64, u64)) {
+    let found = (
+        u64::from(state.depth(seat)),
+        state.takes(seat),
+        state.posts(seat),
+    );
+    sees(rt, "a seat", &found, &wanted);
+}
+
+/// Sees that the readers of a state tell of that post and of that record.
+fn sees_post_beside_a_record<R: Abort>(rt: &R, state: &State) {
+    let posted = Handoff { seat: 1, post: 1 };
+    let record = Some((SeatNo::known(2), 1));
+    sees(rt, "the count", &state.count(), &1);
     sees(rt, "the owner", &state.owner(), &0);
-    sees(rt, "the handoff", &state.handoff().seat, &0);
-    sees(rt, "the depth", &state.depth(1), &0);
-    sees(rt, "the takes", &state.takes(1), &1);
-    sees(rt, "the posts", &state.posts(1), &0);
-    sees(rt, "the length of the queue", &state.queue_len(), &0);
-    sees(rt, "the next turn", &state.step(1), &Turn::Open);
+    sees(rt, "the handoff", &state.handoff(), &posted);
+    sees(rt, "the place", &state.place(), &Place::Posted);
+    sees(rt, "the length of the queue", &state.queue_len(), &1);
+    sees(rt, "the first in it", &state.queued(0), &record);
+    sees(rt, "no second in it", &state.queued(1), &None);
+    sees_seat(rt, state, 1, (0, 1, 1));
+    sees_seat(rt, state, 2, (0, 1, 0));
+}
+
+/// Sees the last turns of the four lines.
+fn sees_rest<R: Abort>(rt: &R, turns: &[Turn]) {
+    let taken = Turn::Ended(Answer::Unlocked(Unlocked::TakenOver));
+    let held = Turn::Ended(Answer::Asked(Asked::Held(How::Queued(1))));
+    assert_eq!(*rt; turns, [Turn::Open, Turn::Open, taken, held].as_slice());
 }
 
 #[test]
 fn run_and_memory(rt: HostRuntime) {
-    let Ok(schedule) = read_schedule(rt.alloc(), SCHEDULE) else {
+    let Ok(schedule) = read_schedule(rt.alloc(), REST) else {
         return;
     };
     let Ok(mut state) = State::new(rt.alloc(), 2, 1) else {
         return;
     };
-    sees(&rt, "lock begins", &state.begin(1, Call::Lock), &Turn::Open);
+    post_beside_a_record(&rt, &mut state);
+    sees_post_beside_a_record(&rt, &state);
     match run(rt.alloc(), &mut state, schedule.lines.as_slice()) {
-        Ok(turns) => sees(&rt, "the turns", &turns.len(), &7),
-        Err(_) => sees_begun(&rt, &mut state),
+        Ok(turns) => sees_rest(&rt, turns.as_slice()),
+        Err(_) => {
+            sees_post_beside_a_record(&rt, &state);
+            // seat 1 goes on from there
+            goes_on(&rt, &mut state, 1, 1);
+        }
     }
 }
 
@@ -92,7 +134,10 @@ fn replayed(alloc: Global) -> (Result<bool, ReplayFault>, usize) {
 fn replay_and_memory(rt: HostRuntime) {
     let (outcome, room) = replayed(rt.alloc());
     match outcome {
-        Ok(none_refused) => assert!(rt; none_refused),
+        Ok(none_refused) => {
+            assert!(rt; none_refused);
+            sees(&rt, "the room", &room, &(512 - 252));
+        }
         Err(fault) => {
             sees(&rt, "the fault", &fault, &ReplayFault::Memory);
             sees(&rt, "the room", &room, &512);
@@ -109,5 +154,41 @@ fn mutex_and_memory(rt: HostRuntime) {
             sees(&rt, "the fault", &fault, &NewFault::Memory);
             sees(&rt, "one drop", &drops.load(Ordering::SeqCst), &1);
         }
+    }
+}
+
+/// An entry of this seat.
+fn entry(seat: SeatNo, what: What<TotalOp>) -> Entry<TotalOp> {
+    Entry { seat, what }
+}
+
+/// The journal of a monitor that two seats took in turn.
+fn journal() -> [Entry<TotalOp>; 6] {
+    let first = SeatNo::known(1);
+    let second = SeatNo::known(2);
+    [
+        entry(first, What::Took(How::Free)),
+        entry(first, What::Did(TotalOp::Add(5))),
+        entry(second, What::Took(How::Queued(1))),
+        entry(second, What::Did(TotalOp::Add(7))),
+        entry(first, What::Took(How::Queued(2))),
+        entry(first, What::Did(TotalOp::Read)),
+    ]
+}
+
+#[test]
+fn journal_and_memory(rt: HostRuntime) {
+    if let Ok((total, replies)) = journals::replay(rt.alloc(), Total(0), &journal()) {
+        sees(&rt, "the total", &total, &Total(12));
+        assert_eq!(rt; replies.as_slice(), [5, 12, 12].as_slice());
+    }
+}
+
+#[test]
+fn journal_of_a_counted_object_and_memory(rt: HostRuntime) {
+    let drops = AtomicU64::new(0);
+    match journals::replay(rt.alloc(), Counted { drops: &drops }, &journal()) {
+        Ok(_replayed) => sees(&rt, "no drop", &drops.load(Ordering::SeqCst), &0),
+        Err(_) => sees(&rt, "one drop", &drops.load(Ordering::SeqCst), &1),
     }
 }

@@ -1,6 +1,7 @@
-//! Limits past which no mutex is made, and what a seat is refused at each depth of its hold.
+//! Limits past which no mutex is made and the value is dropped, and what a seat is refused at each depth of its hold.
 ghost use Rattle.lfm_mutex.specs.Belongs.{OfMutex};
 
+use crate::counted::Counted;
 use crate::running::calls::{Step, make_alone};
 use crate::running::seats::alone;
 use crate::seeing::sees;
@@ -9,6 +10,7 @@ use lfm_model::{Asked, How, NewFault, Refusal, Unlocked};
 use lfm_mutex::{Mutex, Seat};
 use std::alloc::Global;
 use std::process::Abort;
+use std::sync::atomic::{AtomicU64, Ordering};
 use std::test::Fail;
 
 /// Why no mutex is made with these limits.
@@ -29,6 +31,17 @@ fn limits(rt: HostRuntime) {
         &fault(alloc, 1, MAX_BUDGET + 1),
         &limit,
     );
+}
+
+#[test]
+fn a_refused_size_drops_the_value(rt: HostRuntime) {
+    for (seats, budget) in [(0, 1), (4_096, 1), (1, 0), (1, MAX_BUDGET + 1)] {
+        let drops = AtomicU64::new(0);
+        let value = Counted { drops: &drops };
+        let fault = Mutex::new(rt.alloc(), seats, budget, value).err();
+        sees(&rt, "the fault", &fault, &Some(NewFault::Limit));
+        sees(&rt, "one drop", &drops.load(Ordering::SeqCst), &1);
+    }
 }
 
 /// Deepens a hold of depth 1 to the greatest depth.

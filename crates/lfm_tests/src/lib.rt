@@ -14,6 +14,8 @@ mod out_of_memory;
 #[cfg(test)]
 mod packing;
 #[cfg(test)]
+mod refused_memory;
+#[cfg(test)]
 mod replaying;
 #[cfg(test)]
 mod running;

@@ -1,8 +1,13 @@
-//! The calls that ask for memory. Each test whose name contains `memory` passes also where a request was refused, and
-//! sees then that nothing was changed or written: a script lets each single request of these tests fail in turn.
+//! The calls that ask for memory. Each test whose name contains `memory` passes also where a request was refused: it sees
+//! then that nothing was changed or written, and says that memory was refused. A script lets each single request of these
+//! tests fail in turn.
+ghost use Rattle.std.specs.Prelude.{All, IfSome};
+ghost use Rattle.lfm_core.specs.text.Grammar.{HasFewSteps};
+
 use crate::counted::Counted;
+use crate::refused_memory::{sees_memory, tells_refused};
 use crate::seeing::sees;
-use lfm_core::{Answer, Call, ReplayFault, State, Turn, read_schedule, replay, run};
+use lfm_core::{Answer, Call, ReplayFault, Schedule, State, Turn, read_schedule, replay, run};
 use lfm_model::{
     Asked, Entry, How, NewFault, Place, SeatNo, Total, TotalOp, Unlocked, What, journals,
 };
@@ -16,8 +21,9 @@ const SCHEDULE: &[u8; 46] = b"seats 2\n1 lock\n1 *\n2 lock\n2 .\n1 unlock\n1 *\n
 
 #[test]
 fn pop_list_and_memory(rt: HostRuntime) {
-    if let Ok(list) = PopList::new(rt.alloc(), 3) {
-        assert!(rt; list.is_empty());
+    match PopList::new(rt.alloc(), 3) {
+        Ok(list) => assert!(rt; list.is_empty()),
+        Err(_) => tells_refused(&rt),
     }
 }
 
@@ -25,7 +31,7 @@ fn pop_list_and_memory(rt: HostRuntime) {
 fn state_and_memory(rt: HostRuntime) {
     match State::new(rt.alloc(), 2, 1) {
         Ok(state) => sees(&rt, "the count", &state.count(), &0),
-        Err(fault) => sees(&rt, "the fault", &fault, &NewFault::Memory),
+        Err(fault) => sees_memory(&rt, &fault, &NewFault::Memory),
     }
 }
 
@@ -33,7 +39,7 @@ fn state_and_memory(rt: HostRuntime) {
 fn schedule_and_memory(rt: HostRuntime) {
     match read_schedule(rt.alloc(), SCHEDULE) {
         Ok(schedule) => sees(&rt, "the lines", &schedule.lines.len(), &7),
-        Err(fault) => sees(&rt, "the fault", &fault, &ReplayFault::Memory),
+        Err(fault) => sees_memory(&rt, &fault, &ReplayFault::Memory),
     }
 }
 
@@ -101,12 +107,29 @@ fn sees_rest<R: Abort>(rt: &R, turns: &[Turn]) {
     assert_eq!(*rt; turns, [Turn::Open, Turn::Open, taken, held].as_slice());
 }
 
+/// The lines that come after, and a state of two seats. Where memory is refused, this says so, and there are none.
+fn rest_and_state<R: Abort + Print>(rt: &R, alloc: Global) -> Option<(Schedule, State)>
+    ensures { IfSome result (λ r. All (λ l. HasFewSteps l.act) r.0.lines.items) }
+{
+    let schedule = match read_schedule(alloc, REST) {
+        Ok(schedule) => schedule,
+        Err(fault) => {
+            sees_memory(rt, &fault, &ReplayFault::Memory);
+            return None;
+        }
+    };
+    match State::new(alloc, 2, 1) {
+        Ok(state) => Some((schedule, state)),
+        Err(fault) => {
+            sees_memory(rt, &fault, &NewFault::Memory);
+            None
+        }
+    }
+}
+
 #[test]
 fn run_and_memory(rt: HostRuntime) {
-    let Ok(schedule) = read_schedule(rt.alloc(), REST) else {
-        return;
-    };
-    let Ok(mut state) = State::new(rt.alloc(), 2, 1) else {
+    let Some((schedule, mut state)) = rest_and_state(&rt, rt.alloc()) else {
         return;
     };
     post_beside_a_record(&rt, &mut state);
@@ -114,6 +137,7 @@ fn run_and_memory(rt: HostRuntime) {
     match run(rt.alloc(), &mut state, schedule.lines.as_slice()) {
         Ok(turns) => sees_rest(&rt, turns.as_slice()),
         Err(_) => {
+            tells_refused(&rt);
             sees_post_beside_a_record(&rt, &state);
             // seat 1 goes on from there
             goes_on(&rt, &mut state, 1, 1);
@@ -139,7 +163,7 @@ fn replay_and_memory(rt: HostRuntime) {
             sees(&rt, "the room", &room, &(512 - 252));
         }
         Err(fault) => {
-            sees(&rt, "the fault", &fault, &ReplayFault::Memory);
+            sees_memory(&rt, &fault, &ReplayFault::Memory);
             sees(&rt, "the room", &room, &512);
         }
     }
@@ -151,7 +175,7 @@ fn mutex_and_memory(rt: HostRuntime) {
     match Mutex::new(rt.alloc(), 2, 1, Counted { drops: &drops }) {
         Ok(_made) => sees(&rt, "no drop", &drops.load(Ordering::SeqCst), &0),
         Err(fault) => {
-            sees(&rt, "the fault", &fault, &NewFault::Memory);
+            sees_memory(&rt, &fault, &NewFault::Memory);
             sees(&rt, "one drop", &drops.load(Ordering::SeqCst), &1);
         }
     }
@@ -178,9 +202,12 @@ fn journal() -> [Entry<TotalOp>; 6] {
 
 #[test]
 fn journal_and_memory(rt: HostRuntime) {
-    if let Ok((total, replies)) = journals::replay(rt.alloc(), Total(0), &journal()) {
-        sees(&rt, "the total", &total, &Total(12));
-        assert_eq!(rt; replies.as_slice(), [5, 12, 12].as_slice());
+    match journals::replay(rt.alloc(), Total(0), &journal()) {
+        Ok((total, replies)) => {
+            sees(&rt, "the total", &total, &Total(12));
+            assert_eq!(rt; replies.as_slice(), [5, 12, 12].as_slice());
+        }
+        Err(_) => tells_refused(&rt),
     }
 }
 
@@ -189,6 +216,9 @@ fn journal_of_a_counted_object_and_memory(rt: HostRuntime) {
     let drops = AtomicU64::new(0);
     match journals::replay(rt.alloc(), Counted { drops: &drops }, &journal()) {
         Ok(_replayed) => sees(&rt, "no drop", &drops.load(Ordering::SeqCst), &0),
-        Err(_) => sees(&rt, "one drop", &drops.load(Ordering::SeqCst), &1),
+        Err(_) => {
+            tells_refused(&rt);
+            sees(&rt, "one drop", &drops.load(Ordering::SeqCst), &1);
+        }
     }
 }

@@ -1,5 +1,6 @@
-//! The calls that ask for memory. Each test whose name contains `memory` passes also where a request was refused: a script
-//! lets each single request of these tests fail in turn.
+//! The calls that ask for memory. Each test whose name contains `memory` passes also where a request was refused, and says
+//! then that memory was refused. A script lets each single request of these tests fail in turn.
+use crate::refused_memory::sees_memory;
 use lfm_script::{Command, Script, ScriptLine, WorkFault, commands_by_worker, read_script};
 use std::alloc::Global;
 use std::process::Abort;
@@ -40,7 +41,7 @@ fn script_and_memory(rt: HostRuntime) {
         b"workers 2 1\n1 until 1 3\n2 add 3\n2 all 1\n2 one 1",
     ) {
         Ok(script) => sees_script(&rt, &script, &lines),
-        Err(fault) => assert_eq!(rt; fault, WorkFault::Memory),
+        Err(fault) => sees_memory(&rt, &fault, &WorkFault::Memory),
     }
 }
 
@@ -81,6 +82,6 @@ fn commands_and_memory(rt: HostRuntime) {
             );
             sees_commands(&rt, found);
         }
-        Err(fault) => assert_eq!(rt; fault, WorkFault::Memory),
+        Err(fault) => sees_memory(&rt, &fault, &WorkFault::Memory),
     }
 }

@@ -4,3 +4,5 @@ pub mod SeatSteps
 pub mod Sight
 pub mod Trails
 pub mod Straight
+pub mod FailedPushes
+pub mod Due

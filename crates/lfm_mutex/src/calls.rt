@@ -5,6 +5,8 @@ ghost use Rattle.lfm_model.specs.declared.answers.How.{How as HowNow};
 ghost use Rattle.lfm_protocol.specs.declared.points.Point.TheVariants.{ReleaseOwnerStore};
 ghost use Rattle.lfm_protocol.specs.declared.points.Releaser.{Releaser};
 ghost use Rattle.lfm_table.specs.Rule.{value_in, last_hold};
+ghost use Rattle.lfm_mutex.specs.calls.Due.{due};
+ghost use Rattle.lfm_mutex.specs.calls.FailedPushes.{Spends, MakesBesideFailures};
 ghost use Rattle.lfm_mutex.specs.calls.Runs.{nothing, errand, errand_of, is_releasing, is_release, release_steps, weight, Ends, Answers, Ran, Holds, how_held, opens};
 ghost use Rattle.lfm_mutex.specs.Belongs.{Beside, OfMutex};
 ghost use Rattle.lfm_mutex.specs.calls.Trails.{Made, MakesAtMost};
@@ -33,6 +35,7 @@ pub fn finish<T: Kept>(mutex: &Mutex<T>, seat: &mut Seat<T>) -> Turn
     ensures concludes { Concludes seat.old.standing result seat.new.standing }
     ensures stays { Stays seat.old.standing.depth seat.old.place.me.0 (value_in seat.old.moving) seat.new.place.me.0 (value_in seat.new.moving) }
     ensures bounded { length seat.new.place.me.0.trail ≤ length seat.old.place.me.0.trail + weight seat.old.limits.seats (length seat.old.place.me.0.popped) seat.old.standing.point }
+    ensures spends { Spends (due seat.old.limits.seats (length seat.old.place.me.0.popped) seat.old.standing.point) 0 seat.old.place.me.0.trail seat.new.place.me.0.trail }
 {
     loop {
         match make_next(mutex, seat) {
@@ -51,6 +54,7 @@ pub fn run<T: Kept>(mutex: &Mutex<T>, seat: &mut Seat<T>, call: Call) -> Turn
     ensures answers { Answers (errand_of call) result }
     ensures turned { Turned T.follows T.fits mutex.now.limits call (sight seat.old) (sight seat.new) result }
     ensures made { Made mutex.now.limits call (sight seat.old) (sight seat.new) result }
+    ensures bounded { MakesBesideFailures (mutex.now.limits.seats + 9) (sight seat.old) (sight seat.new) }
 {
     match begin_call(mutex, seat, call) {
         Turn::Open => finish(mutex, seat),

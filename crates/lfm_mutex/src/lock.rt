@@ -1,7 +1,7 @@
 //! `lock`, and `ask`, which is `lock` up to the point where it would sleep. Where `ask` meets no other seat it is made straight
 //! on: with its atomic steps and the few fields that change, and with no copy of the seat's data. Where a step finds more, the
 //! seat goes on from its point as any call does.
-ghost use Rattle.std.specs.Prelude.{◌≡◌, ◌<◌};
+ghost use Rattle.std.specs.Prelude.{◌≡◌, ◌+◌, ◌<◌, length};
 ghost use Rattle.lfm_model.specs.declared.answers.How.{How as HowNow};
 ghost use Rattle.lfm_protocol.specs.declared.answers.Answer.TheVariants as Answered;
 ghost use Rattle.lfm_protocol.specs.declared.answers.Call.{Call as CallNow};
@@ -10,6 +10,8 @@ ghost use Rattle.lfm_protocol.specs.declared.points.Point.TheVariants.{Rest, Loc
 ghost use Rattle.lfm_protocol.specs.declared.points.Entrant.{Entrant as EntrantNow};
 ghost use Rattle.lfm_protocol.specs.declared.points.Pusher.{Pusher as PusherNow};
 ghost use Rattle.lfm_mutex.specs.Belongs.{Beside, OfMutex, limits_of};
+ghost use Rattle.lfm_mutex.specs.calls.Due.{due};
+ghost use Rattle.lfm_mutex.specs.calls.FailedPushes.{Spends, MakesBesideFailures};
 ghost use Rattle.lfm_mutex.specs.calls.Runs.{errand, locking};
 ghost use Rattle.lfm_mutex.specs.calls.Sight.{sight, Asks, LocksWaiting};
 ghost use Rattle.lfm_mutex.specs.calls.Straight.{Course, ComesTo};
@@ -33,6 +35,7 @@ fn ask_on<T: Kept>(mutex: &Mutex<T>, seat: &mut Seat<T>) -> Asked
     ensures belongs { seat.new.place.table_id ≡ seat.old.place.table_id }
     ensures same { (seat.new.number ≡ seat.old.number) × (seat.new.limits ≡ seat.old.limits) }
     ensures made { Course T.follows T.fits seat.old.number seat.old.standing seat.old.moving seat.old.place.me.0 (Ended (Answered.Asked result)) seat.new.standing seat.new.moving seat.new.place.me.0 }
+    ensures spends { Spends (due seat.old.limits.seats (length seat.old.place.me.0.popped) seat.old.standing.point) 0 seat.old.place.me.0.trail seat.new.place.me.0.trail }
 {
     match finish(mutex, seat) {
         Turn::Ended(Answer::Asked(asked)) => asked,
@@ -75,6 +78,7 @@ pub fn ask_free<T: Kept>(mutex: &Mutex<T>, seat: &mut Seat<T>, budget: u64) -> A
     requires charged { seat.old.standing.takes < budget }
     ensures belongs { Beside seat.old seat.new }
     ensures made { ComesTo T.follows T.fits (limits_of mutex.now) CallNow.Lock (sight seat.old) (sight seat.new) (Ended (Answered.Asked result)) }
+    ensures bounded { MakesBesideFailures ((limits_of mutex.now).seats + 9) (sight seat.old) (sight seat.new) }
 {
     let _budget = budget;
     let table = &mutex.table.shared;
@@ -128,6 +132,7 @@ pub fn ask_again<T: Kept>(mutex: &Mutex<T>, seat: &mut Seat<T>) -> Asked
     requires room { seat.old.standing.depth < 65535 }
     ensures belongs { Beside seat.old seat.new }
     ensures made { ComesTo T.follows T.fits (limits_of mutex.now) CallNow.Lock (sight seat.old) (sight seat.new) (Ended (Answered.Asked result)) }
+    ensures bounded { MakesBesideFailures ((limits_of mutex.now).seats + 9) (sight seat.old) (sight seat.new) }
 {
     let table = &mutex.table.shared;
     let limits = seat.limits;
@@ -192,6 +197,7 @@ fn ask_any<T: Kept>(mutex: &Mutex<T>, seat: &mut Seat<T>) -> Result<Asked, Refus
     ensures belongs { Beside seat.old seat.new }
     ensures asks { Asks T.follows T.fits (limits_of mutex.now).budget (sight seat.old) (sight seat.new) result }
     ensures steps { MakesCall (limits_of mutex.now) (λ x. Answered.Asked x) CallNow.Lock (sight seat.old) (sight seat.new) result }
+    ensures bounded { MakesBesideFailures ((limits_of mutex.now).seats + 9) (sight seat.old) (sight seat.new) }
 {
     match run(mutex, seat, Call::Lock) {
         Turn::Ended(Answer::Asked(asked)) => Ok(asked),
@@ -207,14 +213,16 @@ impl<T: Kept> Mutex<T> {
     ///
     /// Refuses, in this order: Asleep (the seat sleeps, or a call of it is open), DepthFull (it holds at depth 65,535),
     /// Spent (it doesn't hold, and has no take left). It never waits. Where it takes a posted hand-off over and an older
-    /// record than its own is queued, it grants the mutex to the seat of that record, and wakes it. As `lock` of LFthreads'
-    /// mutex and of OSv's lfmutex.
+    /// record than its own is queued, it grants the mutex to the seat of that record, and wakes it. It makes at most 9 atomic
+    /// steps more than the mutex has seats, and two for each exchange of the push word that fails because another seat has
+    /// changed the word. As `lock` of LFthreads' mutex and of OSv's lfmutex.
     #[inline(always)]
     pub fn ask(&self, seat: &mut Seat<T>) -> Result<Asked, Refusal>
         requires belongs { OfMutex seat.old self.now }
         ensures belongs { Beside seat.old seat.new }
         ensures asks { Asks T.follows T.fits (limits_of self.now).budget (sight seat.old) (sight seat.new) result }
         ensures steps { MakesCall (limits_of self.now) (λ x. Answered.Asked x) CallNow.Lock (sight seat.old) (sight seat.new) result }
+        ensures bounded { MakesBesideFailures ((limits_of self.now).seats + 9) (sight seat.old) (sight seat.new) }
     {
         if asleep(&seat.standing) {
             return ask_any(self, seat);

@@ -3,7 +3,7 @@
 ghost use Rattle.std.specs.Prelude.{◌<◌};
 ghost use Rattle.lfm_mutex.specs.Belongs.{Beside, OfMutex, limits_of};
 ghost use Rattle.lfm_mutex.specs.calls.Sight.{sight, ReceivesLock, Receives};
-ghost use Rattle.lfm_mutex.specs.calls.Trails.{ReceivesBy, MakesCall};
+ghost use Rattle.lfm_mutex.specs.calls.Trails.{ReceivesBy, MakesAtMost, MakesCall};
 ghost use Rattle.lfm_protocol.specs.declared.answers.Answer.TheVariants as Answered;
 ghost use Rattle.lfm_protocol.specs.declared.answers.Call.{Call as CallNow};
 
@@ -82,12 +82,14 @@ impl<T: Kept> Mutex<T> {
     /// One look at the wake word of a seat that sleeps: how it came to hold, or None where it was not granted the mutex
     /// and sleeps on.
     ///
-    /// Refuses with NotWaiting where the seat doesn't sleep, or a call of it is open. It never waits.
+    /// Refuses with NotWaiting where the seat doesn't sleep, or a call of it is open. It never waits, and makes at most 3
+    /// atomic steps.
     pub fn try_receive(&self, seat: &mut Seat<T>) -> Result<Option<How>, Refusal>
         requires belongs { OfMutex seat.old self.now }
         ensures belongs { Beside seat.old seat.new }
         ensures receives { Receives T.follows T.fits (sight seat.old) (sight seat.new) result }
         ensures steps { MakesCall (limits_of self.now) (λ x. Answered.Got x) CallNow.Receive (sight seat.old) (sight seat.new) result }
+        ensures bounded { MakesAtMost 3 (sight seat.old) (sight seat.new) }
     {
         match run(self, seat, Call::Receive) {
             Turn::Ended(Answer::Got(got)) => Ok(got),

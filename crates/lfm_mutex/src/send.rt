@@ -1,7 +1,9 @@
 //! `send_lock`: a seat that waits is made a locker, on its behalf.
+ghost use Rattle.std.specs.Prelude.{◌+◌};
 ghost use Rattle.lfm_protocol.specs.declared.answers.Answer.TheVariants as Answered;
 ghost use Rattle.lfm_protocol.specs.declared.answers.Call.{Call as CallNow};
 ghost use Rattle.lfm_mutex.specs.Belongs.{Beside, OfMutex, limits_of};
+ghost use Rattle.lfm_mutex.specs.calls.FailedPushes.{MakesBesideFailures};
 ghost use Rattle.lfm_mutex.specs.calls.Trails.{MakesCall};
 ghost use Rattle.lfm_mutex.specs.calls.Sight.{sight, Sends};
 
@@ -17,12 +19,15 @@ impl<T: Kept> Mutex<T> {
     /// may hold the mutex or not, and is charged nothing.
     ///
     /// Refuses, in this order: Asleep, NoSuchSeat (the target is above the mutex's seats), NotWaiting (the target
-    /// doesn't wait, or was sent before). It never waits, and wakes the seat that it grants the mutex, if any.
+    /// doesn't wait, or was sent before). It never waits, and wakes the seat that it grants the mutex, if any. It makes at
+    /// most 9 atomic steps more than the mutex has seats, and two for each exchange of the push word that fails because
+    /// another seat has changed the word.
     pub fn send_lock(&self, seat: &mut Seat<T>, target: SeatNo) -> Result<(), Refusal>
         requires belongs { OfMutex seat.old self.now }
         ensures belongs { Beside seat.old seat.new }
         ensures sends { Sends (limits_of self.now).seats (sight seat.old) target (sight seat.new) result }
         ensures steps { MakesCall (limits_of self.now) (λ x. Answered.Sent) (CallNow.SendLock target) (sight seat.old) (sight seat.new) result }
+        ensures bounded { MakesBesideFailures ((limits_of self.now).seats + 9) (sight seat.old) (sight seat.new) }
     {
         match run(self, seat, Call::SendLock(target.get())) {
             Turn::Ended(Answer::Sent) => Ok(()),

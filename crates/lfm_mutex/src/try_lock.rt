@@ -11,7 +11,7 @@ ghost use Rattle.lfm_mutex.specs.calls.Runs.{errand, trying, Ends};
 ghost use Rattle.lfm_mutex.specs.calls.Sight.{sight, Locks};
 ghost use Rattle.lfm_mutex.specs.calls.Straight.{Course, ComesTo, try_turn};
 ghost use Rattle.lfm_protocol.specs.declared.answers.Answer.TheVariants as Answered;
-ghost use Rattle.lfm_mutex.specs.calls.Trails.{MakesCall};
+ghost use Rattle.lfm_mutex.specs.calls.Trails.{MakesAtMost, MakesCall};
 
 use crate::calls::{asleep, finish, run};
 use crate::mutex::Mutex;
@@ -226,13 +226,14 @@ impl<T: Kept> Mutex<T> {
     ///
     /// Refuses, in this order: Asleep, DepthFull and Spent as `ask`, and Busy, where the count was not 0, another seat
     /// was the owner, and no post stood there or another call was faster to accept it; Busy gives its charge back. It
-    /// never waits and wakes nobody. As `trylock` of OSv's lfmutex.
+    /// never waits and wakes nobody. Whatever others do, it makes at most 6 atomic steps. As `trylock` of OSv's lfmutex.
     #[inline(always)]
     pub fn try_lock(&self, seat: &mut Seat<T>) -> Result<Locked, Refusal>
         requires belongs { OfMutex seat.old self.now }
         ensures belongs { Beside seat.old seat.new }
         ensures locks { Locks T.follows T.fits (limits_of self.now).budget (sight seat.old) (sight seat.new) result }
         ensures steps { MakesCall (limits_of self.now) (λ x. Answered.Locked x) CallNow.TryLock (sight seat.old) (sight seat.new) result }
+        ensures bounded { MakesAtMost 6 (sight seat.old) (sight seat.new) }
     {
         if asleep(&seat.standing) {
             return try_lock_any(self, seat);

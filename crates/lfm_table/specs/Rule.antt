@@ -167,10 +167,11 @@ last_hold v = (v.last, v.last_found)
 
 -- The rule
 
--- a seat that releases has no record of its own, so beside the record that it loads next the pop list has at most so many
+-- a seat that releases or sends has no record of its own, so beside the record that it loads next the pop list has at most so many
 abbrev pub CollectsWithin : ℕ → ℕ → Point → Type 0
 CollectsWithin popped seats (TakeLinkLoad (Carrier.Releaser releaser) next) = popped + 2 ≤ seats
 CollectsWithin popped seats (TakeLinkLoad (Carrier.Reclaimer releaser) next) = popped + 2 ≤ seats
+CollectsWithin popped seats (TakeLinkLoad Carrier.Sender next) = popped + 2 ≤ seats
 CollectsWithin popped seats _ = ⊤
 
 -- what the view at place j has of the state

@@ -126,25 +126,39 @@ fits_same k j n _ same fits = fits
 collects_same : (k j n : ℕ) (q : Point) → (kind q ≡ Some Kind.LinkLoad → k ≡ j) → CollectsWithin k n q → CollectsWithin j n q
 collects_same k j n (TakeLinkLoad (Carrier.Releaser releaser) next) same within = let e = same refl in omega (arith, e, within)
 collects_same k j n (TakeLinkLoad (Carrier.Reclaimer releaser) next) same within = let e = same refl in omega (arith, e, within)
+collects_same k j n (TakeLinkLoad Carrier.Sender next) same within = let e = same refl in omega (arith, e, within)
 collects_same k j n _ same within = tt
+
+-- what a step needs, where there are n seats and the pop list has k records before it and k' after it
+-- room: the pop list has room for a record that joins it
+-- within: a seat that has no record of its own leaves room for one more
+-- grows: only a load of a link adds a record
+pub record Walks (n k k' : ℕ) (q : Point) : Type 0 where
+  pub room : PopFits k n (kind q)
+  pub within : CollectsWithin k n q
+  pub grows : (k' ≡ k + 1) ⊎ (kind q ≢ Some Kind.LinkLoad)
+
+pub walks_on : {T : Type 0} (follows : ℕ → T → T → Type 0) (suits : T → ℕ → Type 0) (seats : ℕ) (p q : SeatState) (v w : View T) (a b : Option (Moving T)) (turn : Turn) → v.limits.seats ≡ seats → Event follows suits p a v turn q b w
+    → Walks seats (length v.popped) (length w.popped) p.point
+walks_on follows suits seats p q v w a b turn sized e =
+    let same : kind p.point ≡ Some Kind.LinkLoad → length e.did.popped ≡ length v.popped = (λ is. ap (λ (l : List Record). length l) (e.did.had (carrying p (loads_carry p.point is)))) in
+    let long : length w.popped ≡ length (popped_of p (target p.point v.number) e.found e.did.popped (kind p.point)) = ap (λ (l : List Record). length l) e.did.listed in
+    record {
+      within = collects_same (length e.did.popped) (length v.popped) seats p.point same (subst (λ (n : ℕ). CollectsWithin (length e.did.popped) n p.point) sized e.did.collects);
+      room = fits_same (length e.did.popped) (length v.popped) seats (kind p.point) same (subst (λ (n : ℕ). PopFits (length e.did.popped) n (kind p.point)) sized e.did.room);
+      grows = elim (link_grows p (target p.point v.number) e.found e.did.popped (kind p.point)) [
+        | inl t ↦ inl (let z = same t.0 in let y = t.1 in omega (arith, long, z, y))
+        | inr other ↦ inr other
+      ];
+    }
 
 -- the number of steps that are left falls with each
 pub steps_left : {T : Type 0} (follows : ℕ → T → T → Type 0) (suits : T → ℕ → Type 0) (seats s : ℕ) (p q : SeatState) (v w : View T) (a b : Option (Moving T)) (turn : Turn) → kind p.point ≢ None → v.limits.seats ≡ seats → IsReady seats s p
     → Event follows suits p a v turn q b w → weight seats (length w.popped) q.point < weight seats (length v.popped) p.point
 steps_left follows suits seats s p q v w a b turn some sized ready e =
-    let same : kind p.point ≡ Some Kind.LinkLoad → length e.did.popped ≡ length v.popped = (λ is. ap (λ (l : List Record). length l) (e.did.had (carrying p (loads_carry p.point is)))) in
-    let within : CollectsWithin (length v.popped) seats p.point =
-    collects_same (length e.did.popped) (length v.popped) seats p.point same (subst (λ (n : ℕ). CollectsWithin (length e.did.popped) n p.point) sized e.did.collects) in
-    let room : PopFits (length v.popped) seats (kind p.point) = fits_same (length e.did.popped) (length v.popped) seats (kind p.point) same (subst (λ (n : ℕ). PopFits (length e.did.popped) n (kind p.point)) sized e.did.room) in
-    let long : length w.popped ≡ length (popped_of p (target p.point v.number) e.found e.did.popped (kind p.point)) = ap (λ (l : List Record). length l) e.did.listed in
-    let grows : (length w.popped ≡ length v.popped + 1) ⊎ (kind p.point ≢ Some Kind.LinkLoad) =
-    elim (link_grows p (target p.point v.number) e.found e.did.popped (kind p.point)) [
-      | inl t ↦ inl (let z = same t.0 in let y = t.1 in omega (arith, long, z, y))
-      | inr other ↦ inr other
-    ]
-    in
+    let walks = walks_on follows suits seats p q v w a b turn sized e in
     subst (λ (x : SeatState). weight seats (length w.popped) x.point < weight seats (length v.popped) p.point) (sym e.seat_is)
-    (falls p v.number e.found (oldest e.did.popped) seats (length v.popped) (length w.popped) some room within grows
+    (falls p v.number e.found (oldest e.did.popped) seats (length v.popped) (length w.popped) some walks.room walks.within walks.grows
     (λ pusher old at. (e.did.sees pusher old at, (subst (λ (x : Point). PacksLink (expected_push_at x)) at ready.expected_push).stamp)))
 
 pub trail_grows : {T : Type 0} (follows : ℕ → T → T → Type 0) (suits : T → ℕ → Type 0) (p q : SeatState) (v w : View T) (a b : Option (Moving T)) (turn : Turn) → Event follows suits p a v turn q b w → length w.trail ≡ length v.trail + 1

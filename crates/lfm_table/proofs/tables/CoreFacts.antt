@@ -170,9 +170,10 @@ module _ (c : Core) (g : Ghost) (s : ℕ) (p : SeatState) (is : IsSeat c.seats s
   collects_at : (q : Point) → (seat d.seats s).point ≡ q → CollectsWithin (length d.popped) (length d.seats) q
   collects_at (TakeLinkLoad (Carrier.Releaser releaser) next) at = walk_room d g s settled is_there (rw at at (settled.each s).stands) (rw at at (settled.each s).knows).0
   collects_at (TakeLinkLoad (Carrier.Reclaimer releaser) next) at = walk_room d g s settled is_there (rw at at (settled.each s).stands) (rw at at (settled.each s).knows).0
+  collects_at (TakeLinkLoad Carrier.Sender next) at = walk_room d g s settled is_there (rw at at (settled.each s).stands) (rw at at (settled.each s).knows).0
   collects_at _ at = tt
 
-  -- where a releaser collects, its own seat has no record
+  -- where a releaser or a sender collects, its own seat has no record
   pub collects : CollectsWithin (length c.popped) (length c.seats) p.point
   collects = subst (λ (n : ℕ). CollectsWithin (length c.popped) n p.point) (length-with_entry c.seats s p) (collects_at p.point (ap (λ (x : SeatState). x.point) here))
 

@@ -1,9 +1,12 @@
 use Rattle.std.proofs.Common.{◌≡◌, ◌≢◌, ℕ, ◌+◌, ◌<◌, ◌≤◌, length, None, sym, ap, ◌∙◌, subst, arith}
 use Rattle.lfm_protocol.specs.declared.answers.Turn.TheVariants.{Open}
 use Rattle.lfm_protocol.specs.Points.{kind}
+use Rattle.lfm_mutex.specs.calls.Due.{due}
+use Rattle.lfm_mutex.specs.calls.FailedPushes.{Spends}
 use Rattle.lfm_mutex.specs.calls.Runs.{weight, Holds}
 use Rattle.lfm_mutex.proofs.runs.RunFacts.{open_point}
 use Rattle.lfm_mutex.proofs.runs.Running.{event_of, bounded_more, ran_more, last_more, turn_more, release_more, steps_left, ends_of, holds_now}
+use Rattle.lfm_mutex.proofs.runs.Spending.{spends_join, spends_more, spends_within}
 use Rattle.lfm_table.specs.Rule.{value_in}
 use Rattle.lfm_mutex.specs.calls.Sight.{Concludes}
 use Rattle.lfm_mutex.proofs.runs.Sights.{concludes_now, stays_now, concludes_join, stays_join}
@@ -24,9 +27,12 @@ loop-ended-preserved g c = let l = c.loop-ended.seat in let i = c.loop-ended.inv
     let told : Concludes l.standing Open s.standing = concludes_now g.T.Kept.follows g.T.Kept.fits first.number l.standing s.standing l.place.me.0 s.place.me.0 l.moving s.moving Open named e some i.keeps in
     let less = bounded_more g.T.Kept.follows g.T.Kept.fits l.limits.seats l.number l.standing s.standing l.place.me.0 s.place.me.0 l.moving s.moving Open some (ap (λ l. l.seats) l.seated.limits_are) l.ready e in
     let kept = i.bounded in
+    let due0 = due first.limits.seats (length first.place.me.0.popped) first.standing.point in let due1 = due l.limits.seats (length l.place.me.0.popped) l.standing.point in let due2 = due l.limits.seats (length s.place.me.0.popped) s.standing.point in
+    let spends = spends_join due0 due1 due2 first.place.me.0.trail l.place.me.0.trail s.place.me.0.trail i.spends (spends_more g.T.Kept.follows g.T.Kept.fits l.standing s.standing l.place.me.0 s.place.me.0 l.moving s.moving Open e l.limits.seats l.number some (ap (λ l. l.seats) l.seated.limits_are) l.ready) in
     record {
       bounded = subst (λ (n : ℕ). length s.place.me.0.trail + weight n (length s.place.me.0.popped) s.standing.point ≤ length first.place.me.0.trail + weight first.limits.seats (length first.place.me.0.popped) first.standing.point) (ap (λ l. l.seats) (sym c.make_next.ensures.same.1))
           (omega (arith, less, kept));
+      spends = subst (λ (n : ℕ). Spends due0 (due n (length s.place.me.0.popped) s.standing.point) first.place.me.0.trail s.place.me.0.trail) (ap (λ l. l.seats) (sym c.make_next.ensures.same.1)) spends;
       concludes = concludes_join first.standing l.standing s.standing Open i.concludes told;
       stays = stays_join first.standing.depth l.standing.depth first.place.me.0 l.place.me.0 s.place.me.0 (value_in first.moving) (value_in l.moving) (value_in s.moving) i.concludes.0 i.stays
           (stays_now g.T.Kept.follows g.T.Kept.fits first.number l.standing s.standing l.place.me.0 s.place.me.0 l.moving s.moving Open named e i.keeps told);
@@ -46,8 +52,11 @@ returns-in_default g c = let l = c.loop-ended.seat in let i = c.loop-ended.invar
     let told : Concludes l.standing c.make_next.result s.standing = concludes_now g.T.Kept.follows g.T.Kept.fits first.number l.standing s.standing l.place.me.0 s.place.me.0 l.moving s.moving c.make_next.result named e some i.keeps in
     let less = bounded_more g.T.Kept.follows g.T.Kept.fits l.limits.seats l.number l.standing s.standing l.place.me.0 s.place.me.0 l.moving s.moving c.make_next.result some (ap (λ l. l.seats) l.seated.limits_are) l.ready e in
     let kept = i.bounded in
+    let due0 = due first.limits.seats (length first.place.me.0.popped) first.standing.point in let due1 = due l.limits.seats (length l.place.me.0.popped) l.standing.point in let due2 = due l.limits.seats (length s.place.me.0.popped) s.standing.point in
+    let spends = spends_join due0 due1 due2 first.place.me.0.trail l.place.me.0.trail s.place.me.0.trail i.spends (spends_more g.T.Kept.follows g.T.Kept.fits l.standing s.standing l.place.me.0 s.place.me.0 l.moving s.moving c.make_next.result e l.limits.seats l.number some (ap (λ l. l.seats) l.seated.limits_are) l.ready) in
     record {
       bounded = omega (arith, less, kept);
+      spends = spends_within due0 due0 due2 0 first.place.me.0.trail s.place.me.0.trail (omega arith) (omega arith) spends;
       concludes = concludes_join first.standing l.standing s.standing c.make_next.result i.concludes told;
       stays = stays_join first.standing.depth l.standing.depth first.place.me.0 l.place.me.0 s.place.me.0 (value_in first.moving) (value_in l.moving) (value_in s.moving) i.concludes.0 i.stays
           (stays_now g.T.Kept.follows g.T.Kept.fits first.number l.standing s.standing l.place.me.0 s.place.me.0 l.moving s.moving c.make_next.result named e i.keeps told);

@@ -1,6 +1,8 @@
 use Rattle.std.proofs.Common.{◌≡◌, ◌+◌, ◌≤◌, length}
 use Rattle.std.specs.Prelude.{false}
 use Rattle.lfm_protocol.specs.declared.answers.Turn.TheVariants.{Open}
+use Rattle.lfm_mutex.specs.calls.Due.{due}
+use Rattle.lfm_mutex.specs.calls.FailedPushes.{Spends}
 use Rattle.lfm_mutex.specs.calls.Runs.{errand, is_release, Ran, opens, weight}
 use Rattle.lfm_table.specs.Rule.{value_in, last_hold}
 use Rattle.lfm_mutex.specs.calls.Sight.{Concludes, Stays}
@@ -16,6 +18,7 @@ invariant-loop-ended g l = record {
   ran : Ran l.fn.seat.number (opens l.fn.seat.standing) l.fn.seat.place.me.0 Open l.seat.standing l.seat.place.me.0;
   concludes : Concludes l.fn.seat.standing Open l.seat.standing;
   bounded : length l.seat.place.me.0.trail + weight l.seat.limits.seats (length l.seat.place.me.0.popped) l.seat.standing.point ≤ length l.fn.seat.place.me.0.trail + weight l.fn.seat.limits.seats (length l.fn.seat.place.me.0.popped) l.fn.seat.standing.point;
+  spends : Spends (due l.fn.seat.limits.seats (length l.fn.seat.place.me.0.popped) l.fn.seat.standing.point) (due l.seat.limits.seats (length l.seat.place.me.0.popped) l.seat.standing.point) l.fn.seat.place.me.0.trail l.seat.place.me.0.trail;
   stays : Stays l.fn.seat.standing.depth l.fn.seat.place.me.0 (value_in l.fn.seat.moving) l.seat.place.me.0 (value_in l.seat.moving);
 }
 

@@ -1,6 +1,10 @@
-use Rattle.std.proofs.Common.{Option, ℕ, sym, ap, subst, ◌∙◌}
+use Rattle.std.proofs.Common.{Option, ℕ, ◌+◌, length, sym, ap, subst, ◌∙◌, arith}
 use Rattle.lfm_table.specs.declared.seat_view.View.{View}
 use Rattle.lfm_mutex.specs.calls.Runs.{Ran, Holds, opens}
+use Rattle.lfm_mutex.specs.calls.Due.{due}
+use Rattle.lfm_mutex.specs.calls.FailedPushes.{Spends}
+use Rattle.lfm_mutex.proofs.runs.DueFalls.{due-most}
+use Rattle.lfm_mutex.proofs.runs.Spending.{spends_within, spent, spent_nothing}
 use Rattle.lfm_mutex.proofs.runs.Running.{called_steps, called_at_once}
 use Rattle.lfm_table.specs.Rule.{value_in, last_hold}
 use Rattle.lfm_mutex.specs.calls.Sight.{sight_of, Stays, Turned}
@@ -44,3 +48,14 @@ returns-in_default-clause-made g c = let s = c.args.seat.now in let b = c.begin_
     subst (λ (l : Limits). Made l c.args.call (sight_of s.number s.standing s.place.me.0 (value_in s.moving)) (sight_of b.number b.standing b.place.me.0 (value_in b.moving)) c.begin_call.result) c.requires.belongs.1
     (makes s.limits c.args.call s.number b.number s.standing b.standing s.place.me.0 b.place.me.0 (value_in s.moving) (value_in b.moving) c.begin_call.result c.begin_call.ensures.same.1
     (called_at_once s.number s.limits c.args.call s.standing b.standing s.place.me.0 b.place.me.0 c.begin_call.result (λ z. c.in_default.not-Open z) c.begin_call.ensures.turn c.begin_call.ensures.seat (ap (λ p. p.me.0) c.begin_call.ensures.same.0)).0)
+
+pub returns-in-Open-clause-bounded : goal.returns-in-Open-clause-bounded
+returns-in-Open-clause-bounded g c = let s = c.args.seat.now in let b = c.begin_call.new.seat in let f = c.finish.new.seat in
+    let n = b.limits.seats in let k = length b.place.me.0.popped in
+    let all = spends_within (due n k b.standing.point) (n + 9) 0 0 b.place.me.0.trail f.place.me.0.trail (due-most n k b.standing.point) (omega arith) c.finish.ensures.spends in
+    let here = subst (λ (t : View g.row.T.Denot × Limits). Spends (t.1.seats + 9) 0 t.0.trail f.place.me.0.trail) (λ i. (ap (λ p. p.me.0) c.begin_call.ensures.same.0 i, (c.begin_call.ensures.same.2 ∙ c.requires.belongs.1) i)) all in
+    spent (c.args.mutex.now.limits.seats + 9) (c.args.mutex.now.limits.seats + 9) s.place.me.0.trail f.place.me.0.trail (omega arith) here
+
+pub returns-in_default-clause-bounded : goal.returns-in_default-clause-bounded
+returns-in_default-clause-bounded g c = let s = c.args.seat.now in let b = c.begin_call.new.seat in
+    spent_nothing (c.args.mutex.now.limits.seats + 9) s.place.me.0.trail b.place.me.0.trail (ap (λ p. p.me.0.trail) c.begin_call.ensures.same.0)

@@ -1,4 +1,4 @@
-use Rattle.std.proofs.Common.{◌+◌, refl, sym, subst}
+use Rattle.std.proofs.Common.{◌+◌, length, refl, sym, subst, arith}
 use Rattle.lfm_model.specs.declared.answers.Asked.{Asked}
 use Rattle.lfm_model.specs.declared.answers.How.{How}
 use Rattle.lfm_protocol.specs.declared.answers.Answer.{Answer}
@@ -9,12 +9,15 @@ use Rattle.lfm_protocol.specs.declared.points.Point.TheVariants.{Rest, LockCount
 use Rattle.lfm_protocol.specs.declared.seats.SeatState.{SeatState}
 use Rattle.lfm_core.specs.table.Words.{stepped_by}
 use Rattle.lfm_table.specs.Rule.{value_in}
+use Rattle.lfm_mutex.specs.calls.Due.{due}
+use Rattle.lfm_mutex.specs.calls.FailedPushes.{Spends}
 use Rattle.lfm_mutex.specs.calls.Runs.{opens}
 use Rattle.lfm_mutex.specs.calls.Sight.{sight_of}
 use Rattle.lfm_table.specs.Steps.{oldest_in}
 use Rattle.lfm_mutex.specs.calls.Straight.{Course, ComesTo}
 use Rattle.lfm_mutex.proofs.runs.Courses.{course_none, course_next, course_join, comes}
 use Rattle.lfm_table.proofs.tables.StepFacts.{made_of}
+use Rattle.lfm_mutex.proofs.runs.Spending.{spends_any, spends_join, spent}
 use Rattle.lfm_mutex.proofs.runs.StraightPoints.{begins_again, fit_begun, added_none, added_some, owned, fit_after}
 use Rattle.lfm_mutex.proofs.lock.ask_again.Goals as goal
 
@@ -49,3 +52,25 @@ returns-clause-made g c =
     subst (λ (x : SeatState). ComesTo g.T.Kept.follows g.T.Kept.fits c.args.mutex.now.limits Call.Lock (sight_of s.number s.standing s.place.me.0 (value_in s.moving)) (sight_of s.number x k.new.place.me.0 (value_in s.moving)) (Ended (Answer.Asked (Asked.Again (d + 1)))))
     (λ i. record { depth = d + 1; takes = t; posts = ps; point = sym c.requires.rests i })
     (comes g.T.Kept.follows g.T.Kept.fits s.number p0 s.moving s.place.me.0 s.number s.limits c.args.mutex.now.limits Call.Lock s.standing (made_of (d + 1) t ps Rest) (Ended (Answer.Asked (Asked.Again (d + 1)))) s.moving k.new.place.me.0 c.requires.belongs.1 refl refl begins refl last)
+
+pub returns-then-found-eq0-clause-bounded : goal.returns-then-found-eq0-clause-bounded
+returns-then-found-eq0-clause-bounded g c =
+    let s = c.args.seat.now in let d = s.standing.depth in let t = s.standing.takes in let ps = s.standing.posts in let n = s.limits.seats in
+    let p0 = made_of d t ps LockCountAdd in
+    let f = c.add_held-found in let r = c.ask_on.new.seat in
+    let st = stepped_by p0 s.number f.result (oldest_in s.moving) in
+    let one = spends_any g.T.Kept.follows g.T.Kept.fits p0 st.seat s.place.me.0 f.new.place.me.0 s.moving s.moving st.turn f.ensures.step.event 1 in
+    let then = subst (λ (x : SeatState). Spends (due n (length f.new.place.me.0.popped) x.point) 0 f.new.place.me.0.trail r.place.me.0.trail) c.stand_entering.ensures c.ask_on.ensures.spends in
+    spent 2 (c.args.mutex.now.limits.seats + 9) s.place.me.0.trail r.place.me.0.trail (omega arith) (spends_join 2 1 0 s.place.me.0.trail f.new.place.me.0.trail r.place.me.0.trail one then)
+
+pub returns-clause-bounded : goal.returns-clause-bounded
+returns-clause-bounded g c =
+    let s = c.args.seat.now in let d = s.standing.depth in let t = s.standing.takes in let ps = s.standing.posts in
+    let p0 = made_of d t ps LockCountAdd in let p1 = made_of d t ps LockOwnerLoad in let p2 = made_of d t ps LockCountSubtract in
+    let f = c.add_held-found in let h = c.load_held-owner in let k = c.subtract_held in
+    let st0 = stepped_by p0 s.number f.result (oldest_in s.moving) in let st1 = stepped_by p1 s.number h.result (oldest_in s.moving) in let st2 = stepped_by p2 s.number k.ensures.step.0 (oldest_in s.moving) in
+    let one = spends_any g.T.Kept.follows g.T.Kept.fits p0 st0.seat s.place.me.0 f.new.place.me.0 s.moving s.moving st0.turn f.ensures.step.event 2 in
+    let two = spends_any g.T.Kept.follows g.T.Kept.fits p1 st1.seat f.new.place.me.0 h.new.place.me.0 s.moving s.moving st1.turn h.ensures.step.event 1 in
+    let three = spends_any g.T.Kept.follows g.T.Kept.fits p2 st2.seat h.new.place.me.0 k.new.place.me.0 s.moving s.moving st2.turn k.ensures.step.1.event 0 in
+    spent 3 (c.args.mutex.now.limits.seats + 9) s.place.me.0.trail k.new.place.me.0.trail (omega arith)
+    (spends_join 3 2 0 s.place.me.0.trail f.new.place.me.0.trail k.new.place.me.0.trail one (spends_join 2 1 0 f.new.place.me.0.trail h.new.place.me.0.trail k.new.place.me.0.trail two three))

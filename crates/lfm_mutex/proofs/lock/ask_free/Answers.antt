@@ -1,4 +1,4 @@
-use Rattle.std.proofs.Common.{ℕ, ◌+◌, ◌<◌, refl, sym, subst}
+use Rattle.std.proofs.Common.{ℕ, ◌+◌, ◌<◌, length, refl, sym, ap, subst, arith}
 use Rattle.lfm_model.specs.declared.answers.Asked.{Asked}
 use Rattle.lfm_model.specs.declared.answers.How.{How}
 use Rattle.lfm_protocol.specs.declared.answers.Answer.{Answer}
@@ -9,12 +9,15 @@ use Rattle.lfm_protocol.specs.declared.points.Point.TheVariants.{Rest, LockCount
 use Rattle.lfm_protocol.specs.declared.seats.SeatState.{SeatState}
 use Rattle.lfm_core.specs.table.Words.{stepped_by}
 use Rattle.lfm_table.specs.Rule.{value_in}
+use Rattle.lfm_mutex.specs.calls.Due.{due}
+use Rattle.lfm_mutex.specs.calls.FailedPushes.{Spends}
 use Rattle.lfm_mutex.specs.calls.Runs.{opens}
 use Rattle.lfm_mutex.specs.calls.Sight.{sight_of}
 use Rattle.lfm_table.specs.Steps.{oldest_in}
 use Rattle.lfm_mutex.specs.calls.Straight.{Course, ComesTo}
 use Rattle.lfm_mutex.proofs.runs.Courses.{course_none, course_next, course_join, comes}
 use Rattle.lfm_table.proofs.tables.StepFacts.{made_of}
+use Rattle.lfm_mutex.proofs.runs.Spending.{spends_any, spends_join, spent}
 use Rattle.lfm_mutex.proofs.runs.StraightPoints.{begins_free, fit_begun, added_none, added_some, fit_after}
 use Rattle.lfm_table.specs.Straight.{Fit}
 use Rattle.lfm_mutex.proofs.lock.ask_free.Goals as goal
@@ -47,6 +50,28 @@ returns-clause-made g c =
     subst (λ (x : SeatState). ComesTo g.T.Kept.follows g.T.Kept.fits c.args.mutex.now.limits Call.Lock (sight_of s.number s.standing s.place.me.0 (value_in s.moving)) (sight_of s.number x h.new.place.me.0 (value_in f.new.moving)) (Ended (Answer.Asked (Asked.Held How.Free))))
     (λ i. record { depth = 1; takes = t; posts = ps; point = sym c.requires.rests i })
     (comes g.T.Kept.follows g.T.Kept.fits s.number (made_of 0 t ps LockCountAdd) s.moving s.place.me.0 s.number s.limits c.args.mutex.now.limits Call.Lock s.standing (made_of 1 t ps Rest) (Ended (Answer.Asked (Asked.Held How.Free))) f.new.moving h.new.place.me.0 c.requires.belongs.1 refl refl begins refl last)
+
+pub returns-then-found-ne0-clause-bounded : goal.returns-then-found-ne0-clause-bounded
+returns-then-found-ne0-clause-bounded g c =
+    let s = c.args.seat.now in let t = s.standing.takes + 1 in let ps = s.standing.posts in let n = s.limits.seats in
+    let p0 = made_of 0 t ps LockCountAdd in
+    let f = c.add_free-found in let r = c.ask_on.new.seat in
+    let st = stepped_by p0 s.number f.result (oldest_in f.new.moving) in
+    let one = spends_any g.T.Kept.follows g.T.Kept.fits p0 st.seat s.place.me.0 f.new.place.me.0 s.moving f.new.moving st.turn f.ensures.step.event (n + 8) in
+    let then = subst (λ (x : SeatState). Spends (due n (length f.new.place.me.0.popped) x.point) 0 f.new.place.me.0.trail r.place.me.0.trail) c.stand_loading.ensures c.ask_on.ensures.spends in
+    let same = ap (λ l. l.seats) c.requires.belongs.1 in
+    spent (n + 8 + 1) (c.args.mutex.now.limits.seats + 9) s.place.me.0.trail r.place.me.0.trail (omega (arith, same)) (spends_join (n + 8 + 1) (n + 8) 0 s.place.me.0.trail f.new.place.me.0.trail r.place.me.0.trail one then)
+
+pub returns-clause-bounded : goal.returns-clause-bounded
+returns-clause-bounded g c =
+    let s = c.args.seat.now in let t = s.standing.takes + 1 in let ps = s.standing.posts in
+    let p0 = made_of 0 t ps LockCountAdd in let q = made_of 0 t ps (EnterOwnerStore Entrant.Locker How.Free) in
+    let f = c.add_free-found in let h = c.store_held in
+    let st = stepped_by p0 s.number f.result (oldest_in f.new.moving) in
+    let last = stepped_by q s.number h.ensures.step.0 (oldest_in f.new.moving) in
+    let one = spends_any g.T.Kept.follows g.T.Kept.fits p0 st.seat s.place.me.0 f.new.place.me.0 s.moving f.new.moving st.turn f.ensures.step.event 1 in
+    let two = spends_any g.T.Kept.follows g.T.Kept.fits q last.seat f.new.place.me.0 h.new.place.me.0 f.new.moving f.new.moving last.turn h.ensures.step.1.event 0 in
+    spent 2 (c.args.mutex.now.limits.seats + 9) s.place.me.0.trail h.new.place.me.0.trail (omega arith) (spends_join 2 1 0 s.place.me.0.trail f.new.place.me.0.trail h.new.place.me.0.trail one two)
 
 pub invariant_of-seat-2 : goal.invariant_of-seat-2
 invariant_of-seat-2 g c =

@@ -8,3 +8,6 @@ pub returns-clause-made : goal.returns-clause-made
 returns-clause-made g c = let s = c.args.seat.now in let r = c.finish.new.seat in let f = c.in-Ended-Asked.ensures in
     subst (λ (x : Answer). Course g.T.Kept.follows g.T.Kept.fits s.number s.standing s.moving s.place.me.0 (Ended x) r.standing r.moving r.place.me.0) c.in-Ended-Asked.field-0-is
     (record { ran = f.ran; concludes = f.concludes; stays = f.stays; last = f.last; held = f.held })
+
+pub returns-clause-spends : goal.returns-clause-spends
+returns-clause-spends g c = c.in-Ended-Asked.ensures.spends

@@ -1,4 +1,5 @@
 use Rattle.lfm_mutex.specs.calls.Sight.{sight}
+use Rattle.lfm_mutex.proofs.runs.ShortCalls.{tries_few}
 use Rattle.lfm_mutex.proofs.runs.TryEnds.{try_locks, try_makes}
 use Rattle.lfm_mutex.proofs.mutex.Mutex.try_lock.Goals as goal
 
@@ -28,3 +29,11 @@ returns-then-asleep-clause-locks g c = c.try_lock_any.ensures.locks
 
 pub returns-then-asleep-clause-steps : goal.returns-then-asleep-clause-steps
 returns-then-asleep-clause-steps g c = c.try_lock_any.ensures.steps
+
+pub returns-then-seat-budget-clause-bounded : goal.returns-then-seat-budget-clause-bounded
+returns-then-seat-budget-clause-bounded g c = let l = c.args.self.now.limits in let s = sight c.args.seat.now in let t = sight c.try_free.new.seat in
+    tries_few g.T.Kept.follows g.T.Kept.fits l s t c.try_free.result (try_locks g.T.Kept.follows g.T.Kept.fits l s t c.try_free.result c.try_free.ensures.made) (try_makes g.T.Kept.follows g.T.Kept.fits l s t c.try_free.result c.try_free.ensures.made)
+
+pub returns-then-seat-lt-MAX_DEPTH-clause-bounded : goal.returns-then-seat-lt-MAX_DEPTH-clause-bounded
+returns-then-seat-lt-MAX_DEPTH-clause-bounded g c = let l = c.args.self.now.limits in let s = sight c.args.seat.now in let t = sight c.try_again.new.seat in
+    tries_few g.T.Kept.follows g.T.Kept.fits l s t c.try_again.result (try_locks g.T.Kept.follows g.T.Kept.fits l s t c.try_again.result c.try_again.ensures.made) (try_makes g.T.Kept.follows g.T.Kept.fits l s t c.try_again.result c.try_again.ensures.made)

@@ -1,6 +1,6 @@
 -- Each step lowers what is due to its call by one, and a failed push raises it by two: so what a call makes is what was due to it,
 -- and two for each failure.
-use Rattle.std.proofs.Common.{◌≡◌, ◌≢◌, ◌⊎◌, ℕ, ◌+◌, ◌-◌, ◌*◌, ◌/◌, ◌%◌, ◌<◌, ◌≤◌, Bool, true, false, Option, Some, None, List, [], ◌∷◌, ◌++◌, length, nat_eq, refl, sym, ap, subst, ◌∙◌, arith, inl, inr, if◌then◌else◌, append_assoc, append-nil, length-append}
+use Rattle.std.proofs.Common.{◌≡◌, ◌≢◌, ◌⊎◌, ℕ, ◌+◌, ◌-◌, ◌*◌, ◌/◌, ◌%◌, ◌<◌, ◌≤◌, Bool, true, false, Option, Some, None, nat_eq, refl, arith, inl, inr, if◌then◌else◌}
 use Rattle.lfm_words.specs.declared.links.Link.{Link}
 use Rattle.lfm_words.specs.declared.pop_lists.Record.{Record}
 use Rattle.lfm_words.specs.declared.wakes.Wake.{Wake}
@@ -15,21 +15,16 @@ use Rattle.lfm_protocol.specs.declared.points.Pusher.{Pusher}
 use Rattle.lfm_protocol.specs.declared.points.Releaser.{Releaser}
 use Rattle.lfm_protocol.specs.declared.points.Releaser.TheVariants.{Unlocker, Waiter}
 use Rattle.lfm_protocol.specs.declared.seats.SeatState.{SeatState}
-use Rattle.lfm_protocol.specs.After.{same_link, same_handoff, pushed, granted, claims, carrier_of, take, serves, cleared, looks, loaded}
+use Rattle.lfm_protocol.specs.After.{same_link, same_handoff, pushed, claims, take, serves, looks, loaded}
 use Rattle.lfm_protocol.specs.Begin.{Stepped, goes_on, ends}
-use Rattle.lfm_protocol.specs.Points.{kind, target}
+use Rattle.lfm_protocol.specs.Points.{kind}
 use Rattle.lfm_protocol.specs.Room.{PopFits}
 use Rattle.lfm_core.specs.steady.Views.{waits_on}
-use Rattle.lfm_core.specs.table.Ready.{IsReady, PacksLink}
-use Rattle.lfm_core.specs.table.Words.{stepped_by, popped_of, handoff_of, wake_of, link_of}
-use Rattle.lfm_table.specs.declared.rule.Moving.{Moving}
-use Rattle.lfm_table.specs.declared.seat_view.Seen.{Seen}
-use Rattle.lfm_table.specs.declared.seat_view.View.{View}
-use Rattle.lfm_table.specs.Rule.{seen, CollectsWithin}
-use Rattle.lfm_table.specs.Steps.{Event}
+use Rattle.lfm_core.specs.table.Words.{stepped_by, handoff_of, wake_of, link_of}
+use Rattle.lfm_table.specs.Rule.{CollectsWithin}
 use Rattle.lfm_table.proofs.tables.StepFacts.{made_of}
 use Rattle.lfm_mutex.specs.calls.Due.{due}
-use Rattle.lfm_mutex.specs.calls.FailedPushes.{failed_push, failed_pushes, Spends}
+use Rattle.lfm_mutex.specs.calls.FailedPushes.{failed_push}
 use Rattle.lfm_mutex.specs.calls.Runs.{weight}
 use Rattle.lfm_mutex.proofs.runs.Running.{Walks}
 

@@ -1,5 +1,5 @@
 -- The calls that no other seat can prolong, try_lock and try_receive: their steps alone, whatever they find, are so few.
-use Rattle.std.proofs.Common.{◌≡◌, ◌≢◌, ◌⊎◌, inl, inr, ℕ, ◌+◌, ◌≤◌, List, [], ◌∷◌, ◌++◌, length, length-append, Bool, true, false, nat_eq, Option, Some, None, Result, Ok, Err, refl, sym, ap, ◌∙◌, arith, if◌then◌else◌}
+use Rattle.std.proofs.Common.{◌≡◌, ◌≢◌, ◌⊎◌, inl, inr, ℕ, ◌+◌, ◌≤◌, List, [], ◌∷◌, ◌++◌, length, length-append, Bool, true, false, nat_eq, Option, None, Result, Ok, Err, refl, sym, ap, ◌∙◌, arith, if◌then◌else◌}
 use Rattle.std.specs.Prelude.{nat_lt}
 use Rattle.std.proofs.lemmas.Bool.{false≢true}
 use Rattle.lfm_model.specs.declared.answers.How.{How}
@@ -12,7 +12,6 @@ use Rattle.lfm_protocol.specs.declared.answers.Answer.{Answer}
 use Rattle.lfm_protocol.specs.declared.answers.Call.{Call}
 use Rattle.lfm_protocol.specs.declared.answers.Turn.{Turn}
 use Rattle.lfm_protocol.specs.declared.answers.Turn.TheVariants.{Open, Ended, Refused}
-use Rattle.lfm_protocol.specs.declared.answers.Why.{Why}
 use Rattle.lfm_protocol.specs.declared.answers.Why.TheVariants.{Idle}
 use Rattle.lfm_protocol.specs.declared.kinds.Kind.{Kind}
 use Rattle.lfm_protocol.specs.declared.limits.Limits.{Limits}
@@ -28,7 +27,7 @@ use Rattle.lfm_core.specs.table.Words.{stepped_by, stepped_of, handoff_of, wake_
 use Rattle.lfm_table.proofs.tables.StepFacts.{made_of}
 use Rattle.lfm_mutex.specs.calls.Runs.{end_of, trail_of, opens}
 use Rattle.lfm_mutex.specs.calls.Sight.{Sight, Locks, Receives, BusySeen}
-use Rattle.lfm_mutex.specs.calls.Trails.{Seen, Leads, Makes, MakesCall, MakesAtMost}
+use Rattle.lfm_mutex.specs.calls.Trails.{Seen, Leads, MakesCall, MakesAtMost}
 
 abbrev left_at : Point → ℕ
 left_at TryCountExchange = 6

@@ -1,6 +1,7 @@
 //! The call that comes to hold without queueing. A hold that begins is written down.
 ghost use Rattle.lfm_protocol.specs.declared.answers.Answer.TheVariants as Answered;
 ghost use Rattle.lfm_protocol.specs.declared.answers.Call.{Call};
+ghost use Rattle.lfm_mutex.specs.calls.Trails.{MakesAtMost};
 ghost use Rattle.lfm_monitor.specs.Belongs.{OfMonitor, cond_seats_of, mine_of, mutex_limits, pass_sight, seen_of, share_of};
 ghost use Rattle.lfm_monitor.specs.Passes.{TryEnds};
 ghost use Rattle.lfm_monitor.specs.Steps.{BySteps};
@@ -15,7 +16,8 @@ impl<O: Object> Monitor<O> {
     /// Gains the monitor or deepens the hold without queueing. A gain is written down as the pass's take.
     ///
     /// Refuses, in this order: Asleep, DepthFull (the pass holds at depth 65,535), Spent (it doesn't hold, and has no take or
-    /// no entry left) and Busy (as `try_lock` of the mutex). It never waits, takes no memory and wakes nobody.
+    /// no entry left) and Busy (as `try_lock` of the mutex). It never waits, takes no memory and wakes nobody. Whatever others
+    /// do, it makes at most 6 atomic steps.
     pub fn try_enter(&self, pass: &mut Pass<O>) -> Result<Locked, Refusal>
         requires belongs { OfMonitor pass.old self.now }
         ensures belongs { OfMonitor pass.new self.now }
@@ -23,6 +25,7 @@ impl<O: Object> Monitor<O> {
         ensures seen { seen_of pass.new ≡ seen_of pass.old }
         ensures conditions { cond_seats_of pass.new ≡ cond_seats_of pass.old }
         ensures steps { BySteps (mutex_limits self.now) (λ x. Answered.Locked x) Call.TryLock (pass_sight pass.old) (pass_sight pass.new) result }
+        ensures bounded { MakesAtMost 6 (pass_sight pass.old) (pass_sight pass.new) }
     {
         if pass.lacks_entry(self.share) {
             return Err(Refusal::Spent);

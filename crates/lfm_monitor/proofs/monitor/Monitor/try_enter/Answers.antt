@@ -1,4 +1,4 @@
-use Rattle.std.proofs.Common.{arith, inl, refl, ap, ◌∙◌, ◌<◌, Some}
+use Rattle.std.proofs.Common.{arith, inl, refl, ap, ◌∙◌, ◌<◌, Some, length}
 use Rattle.lfm_mutex.specs.Belongs.{limits_of}
 use Rattle.lfm_protocol.specs.declared.answers.Call.{Call}
 use Rattle.lfm_mutex.specs.calls.Sight.{sight}
@@ -112,3 +112,15 @@ returns-clause-conditions g c = refl
 pub overflow_add-pass : goal.overflow_add-pass
 overflow_add-pass g c = let p = c.args.pass.now in let m = c.args.self.now in let gains = rw c.in-Held.is at c.in_ok-locked.ensures.locks in
     let room : p.mine < m.share = room_left m.share p.mine (λ h. c.if-lacks_entry.ensures.1 (gains.0, gains.1, h)) in omega arith
+
+pub returns-in_err-locked-clause-bounded : goal.returns-in_err-locked-clause-bounded
+returns-in_err-locked-clause-bounded g c = c.in_err-locked.ensures.bounded
+
+pub returns-in-Again-clause-bounded : goal.returns-in-Again-clause-bounded
+returns-in-Again-clause-bounded g c = c.in_ok-locked.ensures.bounded
+
+pub returns-clause-bounded : goal.returns-clause-bounded
+returns-clause-bounded g c = let same = ap (λ u. length u.trail) c.write_took.ensures.3 in let few = c.in_ok-locked.ensures.bounded in omega (arith, same, few)
+
+pub returns-then-lacks_entry-clause-bounded : goal.returns-then-lacks_entry-clause-bounded
+returns-then-lacks_entry-clause-bounded g c = omega arith

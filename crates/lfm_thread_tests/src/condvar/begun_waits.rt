@@ -56,7 +56,12 @@ fn is_sent<R: Wait + Abort>(
 {
     let woken = wake_one(rt, condvar, cond, mutex, waking);
     sees(rt, "wake_one", &woken, &Ok(Some((SeatNo::known(1), 1))));
-    sees(rt, "receive", &receive(mutex, waiting), &Ok(Some(How::Free)));
+    sees(
+        rt,
+        "receive",
+        &receive(mutex, waiting),
+        &Ok(Some(How::Free)),
+    );
     sees(rt, "unlock", &unlock(mutex, waiting), &Ok(Unlocked::Free));
 }
 

@@ -6,7 +6,9 @@ use Rattle.lfm_protocol.specs.declared.limits.Limits.{Limits}
 use Rattle.lfm_mutex.specs.calls.Sight.{Sight}
 use Rattle.lfm_condvar.specs.declared.waiters.Waiters.{Waiters}
 use Rattle.lfm_condvar.specs.Holds.{StepsOfOneHold, HeldOnce}
-use Rattle.lfm_condvar.specs.Waits.{BeginWaitEnds, Enlists}
+use Rattle.lfm_condvar.specs.Waits.{BeginWaitEnds, Enlists, WaitEnds}
+use Rattle.lfm_model.specs.declared.answers.How.{How}
+use Rattle.std.specs.Prelude.{IfErr, IsErrAnd}
 
 same_count : (v w : Waiters) (by : ℕ) → w ≡ v → slice_index w.counts.items by ≤ slice_index v.counts.items by + 1
 same_count v w by e = let q = ap (λ (y : Waiters). slice_index y.counts.items by) e in omega arith
@@ -32,3 +34,15 @@ module _ {T : Type 0} where
   pub ends_busy : (user own : Limits) (c d : Sight Waiters) (s t : Sight T) (r : Refusal) → r ≡ Busy
       → (v : Waiters) × (w : Waiters) × HeldOnce own.budget c d v w × Enlists user c.number s t v w (Err r) × StepsOfOneHold own c d → BeginWaitEnds user own c d s t (Err r)
   ends_busy user own c d s t r e = subst (λ (x : Refusal). (v : Waiters) × (w : Waiters) × HeldOnce own.budget c d v w × Enlists user c.number s t v w (Err x) × StepsOfOneHold own c d → BeginWaitEnds user own c d s t (Err x)) (sym e) (busy_ends user own c d s t)
+
+  -- how begin_wait ends by the one hold in which the seat was enlisted, or refused as Busy
+  pub ends_enlisted : (user own : Limits) (c d : Sight Waiters) (s t : Sight T) (r : Result ℕ Refusal) → IfErr r (λ x. x ≡ Busy)
+      → (v : Waiters) × (w : Waiters) × HeldOnce own.budget c d v w × Enlists user c.number s t v w r × StepsOfOneHold own c d → BeginWaitEnds user own c d s t r
+  ends_enlisted user own c d s t (Ok k) busy h = h
+  ends_enlisted user own c d s t (Err x) busy h = ends_busy user own c d s t x busy h
+
+  -- a wait is refused as begin_wait was
+  pub ends_refused : (follows : ℕ → T → T → Type 0) (fits : T → ℕ → Type 0) (user own : Limits) (c d : Sight Waiters) (s t : Sight T) (r : Result (How × ℕ) Refusal) (x : Refusal) → IsErrAnd r (λ y. y ≡ x)
+      → BeginWaitEnds user own c d s t (Err x) → WaitEnds follows fits user own c d s t r
+  ends_refused follows fits user own c d s t (Ok y) x is h = absurd is
+  ends_refused follows fits user own c d s t (Err y) x is h = subst (λ (z : Refusal). BeginWaitEnds user own c d s t (Err z)) (sym is) h

@@ -1,6 +1,7 @@
 mod AddRefused
 pub mod Commands
 pub mod JournalEnds
+pub mod Refusals
 pub mod Refusing
 pub mod RunEnds
 pub mod Sending

@@ -7,12 +7,12 @@ use Rattle.lfm_model.specs.declared.objects.Total.{Total}
 use Rattle.lfm_model.specs.declared.objects.TotalOp.{TotalOp}
 use Rattle.lfm_model.specs.declared.journals.Entry.{Entry}
 use Rattle.lfm_model.specs.declared.refusals.Refusal.{Refusal}
-use Rattle.lfm_model.specs.Journals.{Within, own, sum_to, total}
+use Rattle.lfm_model.specs.Journals.{LawfulJournal, Within, own, sum_to, total}
 use Rattle.lfm_mutex.specs.Close.{Idle}
 use Rattle.lfm_monitor.specs.declared.monitor.Monitor.{Monitor}
 use Rattle.lfm_monitor.specs.declared.pass.Pass.{Pass}
 use Rattle.lfm_monitor.specs.Begun.{NewPass}
-use Rattle.lfm_monitor.specs.Belongs.{OfMonitor, mine_of, pass_sight}
+use Rattle.lfm_monitor.specs.Belongs.{OfMonitor, conditions_of, mine_of, pass_sight}
 use Rattle.lfm_monitor.specs.Passes.{journal_of}
 use Rattle.lfm_program.specs.declared.performed.Performed.{Performed}
 use Rattle.lfm_program.specs.declared.performed.Performed.TheVariants.{Done, Refused, Stuck}
@@ -24,8 +24,9 @@ use Rattle.lfm_script.specs.script.Grammar.{Plan}
 use Rattle.lfm_program.specs.Performs.{AllPerformed, own_adds}
 use Rattle.lfm_script.specs.Rows.{refusal_at}
 use Rattle.lfm_program.specs.ScriptRuns.{EndsSo, are_none}
+use Rattle.lfm_program.specs.Causes.{RefusedForCause}
 use Rattle.lfm_program.specs.Workers.{WorksAs}
-use Rattle.lfm_script.specs.Runs.{IsRunOfMade}
+use Rattle.lfm_script.specs.Runs.{IsRunOfMade, RefusedAt}
 use Rattle.lfm_model.specs.Journals.{after_all}
 use Rattle.lfm_model.specs.Totals.{total_after}
 use Rattle.lfm_monitor.proofs.Places.{in_range}
@@ -38,6 +39,7 @@ use Rattle.lfm_program.specs.ScriptRuns.{Divides, MadeReady}
 use Rattle.lfm_script.specs.Runs.{IsReport}
 use Rattle.lfm_script.proofs.RunReports.{made_text_told}
 use Rattle.lfm_program.proofs.JournalEnds.{Chosen, at_place, choose, total_is_sum, within_counted}
+use Rattle.lfm_program.proofs.Refusals.{may_meet}
 use Rattle.lfm_program.proofs.Threads.{read_here}
 
 abbrev is_done : Performed → Bool
@@ -45,26 +47,23 @@ is_done Done = true
 is_done (Refused r) = false
 is_done Stuck = false
 
-abbrev is_stuck : Performed → Bool
-is_stuck Done = false
-is_stuck (Refused r) = false
-is_stuck Stuck = true
-
 done_ends : Done ≢ Stuck
 done_ends e = true≢false (ap is_done e)
 
-refused_ends : (r : Refusal) → Refused r ≢ Stuck
-refused_ends r e = true≢false (sym (ap is_stuck e))
+-- The numbers are those that the first i commands add: all commands where none was refused, and else those before the one that was
+abbrev pub MadeBy : ℕ → List Command → Option Refusal → List ℕ → ℕ → Type 0
+MadeBy conditions ms r ks i = (ks ≡ all_adds (take i ms)) × (r ≡ None → length ms ≤ i) × ((x : Refusal) → r ≡ Some x → RefusedAt conditions ms i x)
 
--- the numbers are those that the first i commands add, which are all where none was refused
-abbrev pub MadeBy : List Command → Option Refusal → List ℕ → ℕ → Type 0
-MadeBy ms r ks i = (ks ≡ all_adds (take i ms)) × (r ≡ None → length ms ≤ i)
+refusal_or : Refusal → Option Refusal → Refusal
+refusal_or other None = other
+refusal_or other (Some r) = r
 
-made_from : (ms : List Command) (new : List ℕ) (x : Performed) (r : Option Refusal) → EndsSo x r → (x ≢ Stuck → AllPerformed ms [] new x) → (i : ℕ) × MadeBy ms r new i
-made_from ms new x None e made = let all : new ≡ all_adds ms = (subst (λ y. y ≢ Stuck → AllPerformed ms [] new y) e made) done_ends in
-    (length ms, (all ∙ ap all_adds (sym (take_all (length ms) ms (omega arith))), λ _. omega arith))
-made_from ms new x (Some r) e made = let some_made : AllPerformed ms [] new (Refused r) = (subst (λ y. y ≢ Stuck → AllPerformed ms [] new y) e made) (refused_ends r) in
-    (some_made.0, (some_made.2, λ none. absurd (true≢false (ap is_some none))))
+made_from : (conditions : ℕ) (ms : List Command) (new : List ℕ) (x : Performed) (r : Option Refusal) → EndsSo x r → (x ≢ Stuck → AllPerformed ms [] new x)
+    → ((y : Refusal) → x ≡ Refused y → (i : ℕ) × (new ≡ all_adds (take i ms)) × RefusedAt conditions ms i y) → (i : ℕ) × MadeBy conditions ms r new i
+made_from conditions ms new x None e made stops = let all : new ≡ all_adds ms = (subst (λ y. y ≢ Stuck → AllPerformed ms [] new y) e made) done_ends in
+    (length ms, (all ∙ ap all_adds (sym (take_all (length ms) ms (omega arith))), (λ _. omega arith), λ y none. absurd (true≢false (sym (ap is_some none)))))
+made_from conditions ms new x (Some r) e made stops = let at = stops r e in
+    (at.0, (at.1, (λ none. absurd (true≢false (ap is_some none))), λ y is. subst (λ (z : Refusal). RefusedAt conditions ms at.0 z) (ap (refusal_or r) is) at.2))
 
 pub none_at : (rs : List (Option Refusal)) → are_none rs ≡ true → (i : ℕ) → get_or rs i None ≡ None
 none_at [] e i = refl
@@ -85,6 +84,7 @@ pub record Ran (p : Plan) (rs : List (Option Refusal)) (es : List (Entry TotalOp
   pub made : ℕ → ℕ
   pub run : IsRunOfMade p made es
   pub whole : (w : ℕ) → 0 < w → w ≤ p.workers → refusal_at rs w ≡ None → length (commands_of w p.lines) ≤ made w
+  pub fewer : (w : ℕ) → 0 < w → w ≤ p.workers → (r : Refusal) → refusal_at rs w ≡ Some r → RefusedAt p.conditions (commands_of w p.lines) (made w) r
 
 module _ {R : Type 0} {K : _} where
   -- what is known of the pass at place j, and of its worker's refusal
@@ -93,7 +93,7 @@ module _ {R : Type 0} {K : _} where
     pub idle : Idle (pass_sight q)
     pub number : (pass_sight q).number ≡ j + 1
     pub count : ℕ
-    pub made : MadeBy (commands_of (j + 1) ls) (refusal_at rs (j + 1)) (own_adds (pass_sight q)) count
+    pub made : MadeBy (conditions_of m) (commands_of (j + 1) ls) (refusal_at rs (j + 1)) (own_adds (pass_sight q)) count
 
   nothing_yet : (m : Monitor Total TotalOp R K) (n : ℕ) (p : Pass Total TotalOp R K) → NewPass m n p → own_adds (pass_sight p) ≡ []
   nothing_yet m n p new = ap own_adds new.sees ∙ ap (λ es. adds (own n es)) new.nothing
@@ -102,12 +102,15 @@ module _ {R : Type 0} {K : _} where
       → NewPass m (j + 1) p → ms ≡ commands_of (j + 1) ls → WorksAs m ms p q x → get_elem? rs j ≡ some r → EndsSo x r → GivesBack m ls rs j q
   gives_back m ls rs j p q ms x r new is works at ends =
       let from : x ≢ Stuck → AllPerformed ms [] (own_adds (pass_sight q)) x = λ free. subst (λ ks. AllPerformed ms ks (own_adds (pass_sight q)) x) (nothing_yet m (j + 1) p new) (works.adds free) in
-      let made = made_from ms (own_adds (pass_sight q)) x r ends from in record {
+      let stops : (y : Refusal) → x ≡ Refused y → (i : ℕ) × (own_adds (pass_sight q) ≡ all_adds (take i ms)) × RefusedAt (conditions_of m) ms i y = λ y e.
+      let cause = subst (RefusedForCause m ms (own_adds (pass_sight p)) q) e works.refused in
+      (cause.0, (cause.3 ∙ ap (λ ks. ks ++ all_adds (take cause.0 ms)) (nothing_yet m (j + 1) p new), (cause.1, cause.2, may_meet m q cause.1 y cause.4))) in
+      let made = made_from (conditions_of m) ms (own_adds (pass_sight q)) x r ends from stops in record {
         belongs = works.belongs;
         idle = works.idle;
         number = works.number ∙ ap (λ s. s.number) new.sees;
         count = made.0;
-        made = subst (λ cs. MadeBy cs (refusal_at rs (j + 1)) (own_adds (pass_sight q)) made.0) is (subst (λ o. MadeBy ms o (own_adds (pass_sight q)) made.0) (sym (refusal_is rs j r at)) made.1);
+        made = subst (λ cs. MadeBy (conditions_of m) cs (refusal_at rs (j + 1)) (own_adds (pass_sight q)) made.0) is (subst (λ o. MadeBy (conditions_of m) ms o (own_adds (pass_sight q)) made.0) (sym (refusal_is rs j r at)) made.1);
       }
 
   -- all workers gave back their passes, in order
@@ -125,11 +128,11 @@ module _ {R : Type 0} {K : _} where
       let many = back.many in let e : 0 + length ps ≡ p.workers = omega arith in let a = ap (sum_to f) e in
       within_counted p.workers es (omega arith)
 
-  pub ran : (m : Monitor Total TotalOp R K) (p : Plan) (rs : List (Option Refusal)) (ps : List (Pass Total TotalOp R K)) (es : List (Entry TotalOp)) → AllBack m p rs ps
+  pub ran : (m : Monitor Total TotalOp R K) (p : Plan) (rs : List (Option Refusal)) (ps : List (Pass Total TotalOp R K)) (es : List (Entry TotalOp)) → conditions_of m ≡ p.conditions → AllBack m p rs ps
       → ((j : ℕ) (q : Pass Total TotalOp R K) → get_elem? ps j ≡ some q → own (pass_sight q).number es ≡ own (pass_sight q).number (journal_of (pass_sight q))) → Ran p rs es
-  ran m p rs ps es back same =
-      let counts : Chosen (λ j q k. MadeBy (commands_of (j + 1) p.lines) (refusal_at rs (j + 1)) (own_adds (pass_sight q)) k) ps =
-      choose (λ j q k. MadeBy (commands_of (j + 1) p.lines) (refusal_at rs (j + 1)) (own_adds (pass_sight q)) k) ps (λ j q at. ((back.each j q at).count, (back.each j q at).made)) in record {
+  ran m p rs ps es conditions_are back same =
+      let counts : Chosen (λ j q k. MadeBy (conditions_of m) (commands_of (j + 1) p.lines) (refusal_at rs (j + 1)) (own_adds (pass_sight q)) k) ps =
+      choose (λ j q k. MadeBy (conditions_of m) (commands_of (j + 1) p.lines) (refusal_at rs (j + 1)) (own_adds (pass_sight q)) k) ps (λ j q at. ((back.each j q at).count, (back.each j q at).made)) in record {
         made = λ w. counts.at (w - 1);
         run = λ w above low. let many = back.many in let there = at_place ps (w - 1) (omega arith) in let e : w - 1 + 1 ≡ w = omega arith in
             let number : (pass_sight there.0).number ≡ w = (back.each (w - 1) there.0 there.1).number ∙ e in
@@ -139,6 +142,9 @@ module _ {R : Type 0} {K : _} where
             ∙ ap (λ s. all_adds (take (counts.at (w - 1)) (commands_of s p.lines))) e;
         whole = λ w above low none. let many = back.many in let there = at_place ps (w - 1) (omega arith) in let e : w - 1 + 1 ≡ w = omega arith in
             subst (λ (s : ℕ). refusal_at rs s ≡ None → length (commands_of s p.lines) ≤ counts.at (w - 1)) e (counts.each (w - 1) there.0 there.1).1 none;
+        fewer = λ w above low r is. let many = back.many in let there = at_place ps (w - 1) (omega arith) in let e : w - 1 + 1 ≡ w = omega arith in
+            subst (λ (n : ℕ). RefusedAt n (commands_of w p.lines) (counts.at (w - 1)) r) conditions_are
+            (subst (λ (s : ℕ). refusal_at rs s ≡ Some r → RefusedAt (conditions_of m) (commands_of s p.lines) (counts.at (w - 1)) r) e ((counts.each (w - 1) there.0 there.1).2 r) is);
       }
 
 -- what comes from the threads, divided into passes and refusals
@@ -170,12 +176,17 @@ and_true false b x e f = e
 
 -- the report of a run that ended
 pub reported : (p : Plan) (rs : List (Option Refusal)) (es : List (Entry TotalOp)) (rows : List Row) (t o : Total) (lawful succeeded : Bool) → plan_allowed p ≡ true → length p.lines < 65536
-    → Within p.workers es → Ran p rs es → length rs ≡ p.workers → rows ≡ rows_from (run_row es (refusal_at rs)) 1 p.workers → t ≡ after_all total_after o es → o ≡ record { 0 = 0 } → lawful ≡ true
+    → Within p.workers es → LawfulJournal es → Ran p rs es → length rs ≡ p.workers → rows ≡ rows_from (run_row es (refusal_at rs)) 1 p.workers → t ≡ after_all total_after o es → o ≡ record { 0 = 0 } → lawful ≡ true
     → succeeded ≡ are_none rs → IsReport p (report_text rows t.0 lawful) succeeded
-reported p rs es rows t o lawful succeeded is_allowed few within ran many rows_are total_is opening_is lawful_is succeeded_is = record {
+reported p rs es rows t o lawful succeeded is_allowed few within obeys ran many rows_are total_is opening_is lawful_is succeeded_is = record {
   made = ran.made;
   refused = refusal_at rs;
   whole = ran.whole;
+  fewer = ran.fewer;
+  journal = es;
+  lawful = obeys;
+  within = within;
+  run = ran.run;
   none = λ v w above low. none_at rs (sym succeeded_is ∙ v) (w - 1);
   some = λ v. let one = one_refused rs (sym succeeded_is ∙ v) in let lt = one.1 in let e : one.0 + 1 - 1 ≡ one.0 = omega arith in
       (one.0 + 1, omega arith, omega arith, subst (λ (k : ℕ). is_some (get_or rs k None) ≡ true) (sym e) one.2);

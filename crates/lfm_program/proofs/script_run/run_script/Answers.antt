@@ -59,7 +59,7 @@ rows_of-requires-clause-fits g c =
     let within : Within c.args.script.now.workers es = by_workers c.in_ok-monitor.monitor plan rs ps es back (λ j q at. (c.in-Ok.ensures.mine j q at).1)
     (let a = c.in-Ok.ensures.whole in let b = c.in-Ok.journal.ok in omega arith) in
     let is_allowed = both_true (header_allowed plan.workers plan.conditions) (lines_allowed plan.workers plan.conditions plan.lines) c.requires.header c.requires.lines in
-    let made = ran c.in_ok-monitor.monitor plan rs ps es back (λ j q at. (c.in-Ok.ensures.mine j q at).0) in
+    let made = ran c.in_ok-monitor.monitor plan rs ps es c.in_ok-monitor.ensures.ready.conditions_are back (λ j q at. (c.in-Ok.ensures.mine j q at).0) in
     subst (λ xs. sum (adds xs) < 2 ^ 64) (sym c.deref-4.ensures.value) (adds_made plan made.made es is_allowed c.requires.few within made.run).fits
 
 pub returns-clause-report : goal.returns-clause-report
@@ -73,12 +73,12 @@ returns-clause-report g c =
     let within : Within c.args.script.now.workers es = by_workers c.in_ok-monitor.monitor plan rs ps es back (λ j q at. (c.in-Ok.ensures.mine j q at).1)
     (let a = c.in-Ok.ensures.whole in let b = c.in-Ok.journal.ok in omega arith) in
     let is_allowed = both_true (header_allowed plan.workers plan.conditions) (lines_allowed plan.workers plan.conditions plan.lines) c.requires.header c.requires.lines in
-    let made = ran c.in_ok-monitor.monitor plan rs ps es back (λ j q at. (c.in-Ok.ensures.mine j q at).0) in
+    let made = ran c.in_ok-monitor.monitor plan rs ps es c.in_ok-monitor.ensures.ready.conditions_are back (λ j q at. (c.in-Ok.ensures.mine j q at).0) in
     let rows = subst (λ xs. c.in_ok-rows.rows.items ≡ rows_from (run_row xs (refusal_at rs)) 1 plan.workers) c.deref-4.ensures.value
     (subst (λ (n : ℕ). c.in_ok-rows.rows.items ≡ rows_from (run_row c.deref-4.result.now (refusal_at rs)) 1 n) back.as_many
     (subst (λ qs. c.in_ok-rows.rows.items ≡ rows_from (run_row c.deref-4.result.now (refusal_at qs)) 1 (length qs)) c.deref-3.ensures.value c.in_ok-rows.ensures)) in
     let total_is = c.in-Ok.ensures.legal.0 ∙ ap (λ o. after_all total_after o es) c.in_ok-monitor.ensures.ready.opening in
     let lawful_is : c.in_ok-lawful.lawful ≡ true = c.in_ok-lawful.ensures.complete (subst LawfulJournal (sym c.deref-5.ensures.value) c.in-Ok.ensures.legal.1)
     (subst (λ xs. c.in-Ok.total ≡ after_all total_after (record { 0 = 0 }) xs) (sym c.deref-5.ensures.value) total_is) in
-    reported plan rs es c.in_ok-rows.rows.items c.in-Ok.total _ c.in_ok-lawful.lawful _ is_allowed c.requires.few within made back.as_many rows c.in-Ok.ensures.legal.0
+    reported plan rs es c.in_ok-rows.rows.items c.in-Ok.total _ c.in_ok-lawful.lawful _ is_allowed c.requires.few within c.in-Ok.ensures.legal.1 made back.as_many rows c.in-Ok.ensures.legal.0
     c.in_ok-monitor.ensures.ready.opening lawful_is (and_true c.none_refused.result c.in_ok-lawful.lawful (are_none rs) (c.none_refused.ensures ∙ ap are_none c.deref-6.ensures.value) lawful_is)

@@ -1,4 +1,6 @@
 //! What the program does with its arguments. What it reads goes to the core, and what the core answers to the shell.
+ghost use Rattle.std.specs.Prelude.{◌≢◌, Err};
+
 use lfm_core::{ReplayFault, replay};
 use lfm_program::{OpenGate, WorkFault, report, report_work, work};
 use std::alloc::Global;
@@ -48,7 +50,10 @@ fn replay_streams<R: AllocGlobal + Input + Print>(rt: &R) -> Result<bool, Replay
 /// Runs the script on standard input, and writes its report into standard output. No gate stops a worker.
 fn work_streams<R: AllocGlobal + Input + Print + Threads + Wait + Sync>(
     rt: &R,
-) -> Result<bool, WorkFault> {
+) -> Result<bool, WorkFault>
+    // An open gate stops no worker.
+    ensures { result ≢ Err WorkFault.Stuck }
+{
     let alloc: Global = rt.alloc();
     let Ok(mut writer) = BufWriter::new(alloc, io::writer(rt)) else {
         return Err(WorkFault::Memory);

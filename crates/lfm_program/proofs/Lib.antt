@@ -7,3 +7,4 @@ pub mod RunEnds
 pub mod Sending
 pub mod Telling
 pub mod Threads
+pub mod WorkerEnds

@@ -1,6 +1,6 @@
 -- What the workers of a script's run gave back: their passes can close the monitor, and its journal is one of the commands that
 -- they made.
-use Rattle.std.proofs.Common.{◌≡◌, ◌≢◌, ◌≤◌, ◌<◌, ◌+◌, ◌-◌, ◌&&◌, zero, suc, ℕ, Bool, true, false, List, [], ◌∷◌, take, length, get_or, slice_index_or, Option, Some, None, is_some, refl, sym, ◌∙◌, ap, subst, arith, take_all, true≢false, Vec, Global}
+use Rattle.std.proofs.Common.{◌≡◌, ◌≢◌, ◌≤◌, ◌<◌, ◌+◌, ◌-◌, ◌&&◌, zero, suc, ℕ, Bool, true, false, List, [], ◌∷◌, ◌++◌, take, length, get_or, slice_index_or, Option, Some, None, is_some, refl, sym, ◌∙◌, ap, subst, arith, take_all, true≢false, Vec, Global}
 use mathlib.Core.Option.{some, some-injective}
 use lib.ListN.{get_elem?}
 use Rattle.lfm_model.specs.declared.objects.Total.{Total}
@@ -15,7 +15,9 @@ use Rattle.lfm_monitor.specs.Begun.{NewPass}
 use Rattle.lfm_monitor.specs.Belongs.{OfMonitor, conditions_of, mine_of, pass_sight}
 use Rattle.lfm_monitor.specs.Passes.{journal_of}
 use Rattle.lfm_program.specs.declared.performed.Performed.{Performed}
-use Rattle.lfm_program.specs.declared.performed.Performed.TheVariants.{Done, Refused, Stuck}
+use Rattle.lfm_program.specs.declared.performed.Performed.TheVariants.{Done, Refused}
+use Rattle.lfm_program.specs.declared.workers.WorkerEnd.{WorkerEnd}
+use Rattle.lfm_program.specs.declared.workers.WorkerEnd.TheVariants.{Performed as LetGo}
 use Rattle.lfm_script.specs.declared.script.Command.{Command}
 use Rattle.lfm_script.specs.declared.script.ScriptLine.{ScriptLine}
 use Rattle.lfm_script.specs.Adds.{adds, all_adds}
@@ -24,7 +26,6 @@ use Rattle.lfm_script.specs.script.Grammar.{Plan}
 use Rattle.lfm_program.specs.Performs.{AllPerformed, own_adds}
 use Rattle.lfm_script.specs.Rows.{refusal_at}
 use Rattle.lfm_program.specs.ScriptRuns.{EndsSo, are_none}
-use Rattle.lfm_program.specs.Causes.{RefusedForCause}
 use Rattle.lfm_program.specs.Workers.{WorksAs}
 use Rattle.lfm_script.specs.Runs.{IsRunOfMade, RefusedAt}
 use Rattle.lfm_model.specs.Journals.{after_all}
@@ -42,27 +43,19 @@ use Rattle.lfm_program.proofs.JournalEnds.{Chosen, at_place, choose, total_is_su
 use Rattle.lfm_program.proofs.Refusals.{may_meet}
 use Rattle.lfm_program.proofs.Threads.{read_here}
 
-abbrev is_done : Performed → Bool
-is_done Done = true
-is_done (Refused r) = false
-is_done Stuck = false
-
-done_ends : Done ≢ Stuck
-done_ends e = true≢false (ap is_done e)
-
 -- The numbers are those that the first i commands add: all commands where none was refused, and else those before the one that was
 abbrev pub MadeBy : ℕ → List Command → Option Refusal → List ℕ → ℕ → Type 0
 MadeBy conditions ms r ks i = (ks ≡ all_adds (take i ms)) × (r ≡ None → length ms ≤ i) × ((x : Refusal) → r ≡ Some x → RefusedAt conditions ms i x)
 
-refusal_or : Refusal → Option Refusal → Refusal
+abbrev refusal_or : Refusal → Option Refusal → Refusal
 refusal_or other None = other
 refusal_or other (Some r) = r
 
-made_from : (conditions : ℕ) (ms : List Command) (new : List ℕ) (x : Performed) (r : Option Refusal) → EndsSo x r → (x ≢ Stuck → AllPerformed ms [] new x)
-    → ((y : Refusal) → x ≡ Refused y → (i : ℕ) × (new ≡ all_adds (take i ms)) × RefusedAt conditions ms i y) → (i : ℕ) × MadeBy conditions ms r new i
-made_from conditions ms new x None e made stops = let all : new ≡ all_adds ms = (subst (λ y. y ≢ Stuck → AllPerformed ms [] new y) e made) done_ends in
+made_from : (conditions : ℕ) (ms : List Command) (new : List ℕ) (end : WorkerEnd) (r : Option Refusal) → EndsSo end r → ((x : Performed) → end ≡ LetGo x → AllPerformed ms [] new x)
+    → ((y : Refusal) → end ≡ LetGo (Refused y) → (i : ℕ) × (new ≡ all_adds (take i ms)) × RefusedAt conditions ms i y) → (i : ℕ) × MadeBy conditions ms r new i
+made_from conditions ms new end None e made stops = let all : new ≡ all_adds ms = made Done e in
     (length ms, (all ∙ ap all_adds (sym (take_all (length ms) ms (omega arith))), (λ _. omega arith), λ y none. absurd (true≢false (sym (ap is_some none)))))
-made_from conditions ms new x (Some r) e made stops = let at = stops r e in
+made_from conditions ms new end (Some r) e made stops = let at = stops r e in
     (at.0, (at.1, (λ none. absurd (true≢false (ap is_some none))), λ y is. subst (λ (z : Refusal). RefusedAt conditions ms at.0 z) (ap (refusal_or r) is) at.2))
 
 pub none_at : (rs : List (Option Refusal)) → are_none rs ≡ true → (i : ℕ) → get_or rs i None ≡ None
@@ -98,14 +91,14 @@ module _ {R : Type 0} {K : _} where
   nothing_yet : (m : Monitor Total TotalOp R K) (n : ℕ) (p : Pass Total TotalOp R K) → NewPass m n p → own_adds (pass_sight p) ≡ []
   nothing_yet m n p new = ap own_adds new.sees ∙ ap (λ es. adds (own n es)) new.nothing
 
-  pub gives_back : (m : Monitor Total TotalOp R K) (ls : List ScriptLine) (rs : List (Option Refusal)) (j : ℕ) (p q : Pass Total TotalOp R K) (ms : List Command) (x : Performed) (r : Option Refusal)
-      → NewPass m (j + 1) p → ms ≡ commands_of (j + 1) ls → WorksAs m ms p q x → get_elem? rs j ≡ some r → EndsSo x r → GivesBack m ls rs j q
-  gives_back m ls rs j p q ms x r new is works at ends =
-      let from : x ≢ Stuck → AllPerformed ms [] (own_adds (pass_sight q)) x = λ free. subst (λ ks. AllPerformed ms ks (own_adds (pass_sight q)) x) (nothing_yet m (j + 1) p new) (works.adds free) in
-      let stops : (y : Refusal) → x ≡ Refused y → (i : ℕ) × (own_adds (pass_sight q) ≡ all_adds (take i ms)) × RefusedAt (conditions_of m) ms i y = λ y e.
-      let cause = subst (RefusedForCause m ms (own_adds (pass_sight p)) q) e works.refused in
-      (cause.0, (cause.3 ∙ ap (λ ks. ks ++ all_adds (take cause.0 ms)) (nothing_yet m (j + 1) p new), (cause.1, cause.2, may_meet m q cause.1 y cause.4))) in
-      let made = made_from (conditions_of m) ms (own_adds (pass_sight q)) x r ends from stops in record {
+  pub gives_back : (m : Monitor Total TotalOp R K) (ls : List ScriptLine) (rs : List (Option Refusal)) (j : ℕ) (p q : Pass Total TotalOp R K) (stops : ℕ → ℕ → Type 0) (ms : List Command) (end : WorkerEnd) (r : Option Refusal)
+      → NewPass m (j + 1) p → ms ≡ commands_of (j + 1) ls → WorksAs m stops ms p q end → get_elem? rs j ≡ some r → EndsSo end r → GivesBack m ls rs j q
+  gives_back m ls rs j p q stops ms end r new is works at ends =
+      let from : (x : Performed) → end ≡ LetGo x → AllPerformed ms [] (own_adds (pass_sight q)) x = λ x e. subst (λ ks. AllPerformed ms ks (own_adds (pass_sight q)) x) (nothing_yet m (j + 1) p new) (works.adds x e) in
+      let refuses : (y : Refusal) → end ≡ LetGo (Refused y) → (i : ℕ) × (own_adds (pass_sight q) ≡ all_adds (take i ms)) × RefusedAt (conditions_of m) ms i y = λ y e.
+      let cause = works.refused (Refused y) e in
+      (cause.0, cause.3 ∙ ap (λ ks. ks ++ all_adds (take cause.0 ms)) (nothing_yet m (j + 1) p new), (cause.1, cause.2, may_meet m q cause.1 y cause.4)) in
+      let made = made_from (conditions_of m) ms (own_adds (pass_sight q)) end r ends from refuses in record {
         belongs = works.belongs;
         idle = works.idle;
         number = works.number ∙ ap (λ s. s.number) new.sees;
@@ -148,13 +141,13 @@ module _ {R : Type 0} {K : _} where
       }
 
 -- what comes from the threads, divided into passes and refusals
-pub collected : (m : Monitor Total TotalOp _ _) (p : Plan) (scripts commands : List (Vec Command Global)) (lines : List ScriptLine) (before : List (Pass Total TotalOp _ _)) (ws : List Worked)
+pub collected : (m : Monitor Total TotalOp _ _) (stops : ℕ → ℕ → Type 0) (p : Plan) (scripts commands : List (Vec Command Global)) (lines : List ScriptLine) (before : List (Pass Total TotalOp _ _)) (ws : List Worked)
     (ps : List (Pass Total TotalOp _ _)) (rs : List (Option Refusal)) → MadeReady p.workers p.conditions m before → scripts ≡ commands → lines ≡ p.lines → length scripts ≡ p.workers
     → ((i : ℕ) (d : Vec Command Global) → i < p.workers → (slice_index_or commands i d).items ≡ commands_of (i + 1) lines)
     → ((j : ℕ) (w : Worked) → get_elem? ws j ≡ some w → (q : Pass Total TotalOp _ _) × (ms : Vec Command Global) × (get_elem? before j ≡ some q) × (get_elem? scripts j ≡ some ms)
-    × WorksAs m ms.items q w.pass w.performed)
+    × WorksAs m stops ms.items q w.pass w.end)
     → length ws ≡ length scripts → Divides ws ps rs → AllBack m p rs ps
-collected m p scripts commands lines before ws ps rs ready same_scripts same_lines many each worked as_many divides = record {
+collected m stops p scripts commands lines before ws ps rs ready same_scripts same_lines many each worked as_many divides = record {
   many = divides.many ∙ (as_many ∙ many);
   as_many = divides.as_many ∙ (as_many ∙ many);
   each = λ j q at.
@@ -163,7 +156,7 @@ collected m p scripts commands lines before ws ps rs ready same_scripts same_lin
       let t = worked j w.0 w.1 in let r = told.1 in
       let is : t.1.items ≡ commands_of (j + 1) p.lines =
       ap (λ v. v.items) (sym (read_here scripts j t.1 t.1 t.3) ∙ ap (λ cs. slice_index_or cs j t.1) same_scripts) ∙ each j t.1 (omega arith) ∙ ap (commands_of (j + 1)) same_lines in
-      subst (GivesBack m p.lines rs j) same (gives_back m p.lines rs j t.0 w.0.pass t.1.items w.0.performed r.0 (ready.passes j t.0 t.2) is t.4 r.1 r.2);
+      subst (GivesBack m p.lines rs j) same (gives_back m p.lines rs j t.0 w.0.pass stops t.1.items w.0.end r.0 (ready.passes j t.0 t.2) is t.4 r.1 r.2);
 }
 
 pub both_true : (a b : Bool) → a ≡ true → b ≡ true → (a && b) ≡ true

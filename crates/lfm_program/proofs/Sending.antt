@@ -11,7 +11,7 @@ use Rattle.lfm_monitor.specs.contracts.monitor.Monitor as Monitor
 use Rattle.lfm_monitor.specs.contracts.pass.Pass as Pass
 use Rattle.lfm_monitor.proofs.Moving.{journaled_send, monitor_sync, pass_send}
 use Rattle.lfm_mutex.proofs.seat.Seat.TheSendSync as SeatSend
-use Rattle.lfm_program.proofs.performed.Performed.TheSendSync as PerformedSend
+use Rattle.lfm_program.proofs.workers.WorkerEnd.TheSendSync as WorkerEndSend
 use Rattle.lfm_script.proofs.script.Command.TheSendSync as CommandSend
 use Rattle.lfm_program.proofs.starting_line.StartingLine.TheSendSync as LineSend
 use Rattle.lfm_script.specs.contracts.script.Command as Command
@@ -61,7 +61,7 @@ pass_field_send = Send.struct_send (Declared.shape (Pass.the_type Total.the_row 
 )
 
 pub worked_send : Send.IsSend Worked.the_row
-worked_send = Send.recorded_send (Worked.the_field).row _ _ (Worked.the_type).to_one (Send.struct_send (Declared.shape Worked.the_type) (pass_field_send, (PerformedSend.the_field_send, tt)))
+worked_send = Send.recorded_send (Worked.the_field).row _ _ (Worked.the_type).to_one (Send.struct_send (Declared.shape Worked.the_type) (pass_field_send, (WorkerEndSend.the_field_send, tt)))
 
 -- what the closure of a worker's thread holds: the runtime, the starting line, the monitor, its pass, its commands and the gate
 abbrev pub held : (places : NamedLft × NamedLft × NamedLft × NamedLft × NamedLft) → RattleType → RattleType → List RattleType

@@ -23,13 +23,18 @@ keeps_same None = tt
 keeps_same (Some x) = refl
 
 -- a run that came to nothing, by the fault that `?` passes on
-pub run_failed : (r : Result Bool WorkFault) (e : WorkFault) (p : Plan) (old : Option (List ℕ)) → IsErrAnd r (λ y. y ≡ e) → (e ≡ Memory) ⊎ (e ≡ Stuck)
+pub run_failed : {S : Type 0} (r : Result Bool WorkFault) (e : WorkFault) (p : Plan) (old : Option (List ℕ)) → IsErrAnd r (λ y. y ≡ e) → (e ≡ Memory) ⊎ ((e ≡ Stuck) × S)
     → TellsWork r (Ok p) old old × (r ≢ Err Read)
 run_failed (Ok b) e p old is fault = absurd is
 run_failed (Err y) e p old is fault = ⊎_elim
     (λ m. subst (λ x. TellsWork (Err x) (Ok p) old old × (◌≡◌ {A = Result Bool WorkFault} (Err x) (Err Read) → ⊥)) (sym (is ∙ m)) (keeps_same old, λ q. grind (arith, q)))
-    (λ s. subst (λ x. TellsWork (Err x) (Ok p) old old × (◌≡◌ {A = Result Bool WorkFault} (Err x) (Err Read) → ⊥)) (sym (is ∙ s)) (keeps_same old, λ q. grind (arith, q)))
+    (λ s. subst (λ x. TellsWork (Err x) (Ok p) old old × (◌≡◌ {A = Result Bool WorkFault} (Err x) (Err Read) → ⊥)) (sym (is ∙ s.0)) (keeps_same old, λ q. grind (arith, q)))
     fault
+
+-- the run is stuck only for the cause that its fault has
+pub stuck_by : {S : Type 0} (r : Result Bool WorkFault) (e : WorkFault) → IsErrAnd r (λ y. y ≡ e) → (e ≡ Memory) ⊎ ((e ≡ Stuck) × S) → r ≡ Err Stuck → S
+stuck_by (Ok b) e is fault at = absurd is
+stuck_by (Err y) e is fault at = ⊎_elim (λ m. let q : ◌≡◌ {A = Result Bool WorkFault} (Err Memory) (Err Stuck) = ap (λ x. Err x) (sym (is ∙ m)) ∙ at in absurd (grind (arith, q))) (λ s. s.1) fault
 
 -- the report of a run was written
 pub run_told : (p : Plan) (text : List ℕ) (b : Bool) (old new : Option (List ℕ)) → IsReport p text b → Writes {T = Unit {0}} old new text (Ok tt) → TellsWork (Ok b) (Ok p) old new

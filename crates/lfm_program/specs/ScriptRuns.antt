@@ -9,9 +9,10 @@ use Rattle.lfm_monitor.specs.declared.monitor.Monitor.{Monitor}
 use Rattle.lfm_monitor.specs.declared.pass.Pass.{Pass}
 use Rattle.lfm_monitor.specs.Begun.{NewPass, max_entries}
 use Rattle.lfm_monitor.specs.Belongs.{conditions_of, opening_of, passes_of, share_of}
-use Rattle.lfm_program.specs.declared.performed.Performed.{Performed}
 use Rattle.lfm_program.specs.declared.performed.Performed.TheVariants.{Done, Refused, Stuck}
 use Rattle.lfm_program.specs.declared.workers.Worked.{Worked}
+use Rattle.lfm_program.specs.declared.workers.WorkerEnd.{WorkerEnd}
+use Rattle.lfm_program.specs.declared.workers.WorkerEnd.TheVariants.{Performed as LetGo}
 
 module _ {R : Type 0} {K : _} where
   -- a new monitor over a total of 0, with these passes, one for each worker and in order; each has the same share of the entries
@@ -24,19 +25,19 @@ module _ {R : Type 0} {K : _} where
     pub passes : (j : ℕ) (p : Pass Total TotalOp R K) → get_elem? ps j ≡ some p → NewPass m (j + 1) p
 
 -- all were made, or one was refused for this cause
-abbrev pub EndsSo : Performed → Option Refusal → Type 0
-EndsSo performed None = performed ≡ Done
-EndsSo performed (Some r) = performed ≡ Refused r
+abbrev pub EndsSo : WorkerEnd → Option Refusal → Type 0
+EndsSo end None = end ≡ LetGo Done
+EndsSo end (Some r) = end ≡ LetGo (Refused r)
 
 -- the refusals are those of the workers, none of whom was stopped
 pub record Divides (ws : List Worked) (passes : List _) (refusals : List (Option Refusal)) : Type 0 where
   pub many : length passes ≡ length ws
   pub as_many : length refusals ≡ length ws
-  pub each : (j : ℕ) (w : Worked) → get_elem? ws j ≡ some w → (get_elem? passes j ≡ some w.pass) × ((r : Option Refusal) × (get_elem? refusals j ≡ some r) × EndsSo w.performed r)
+  pub each : (j : ℕ) (w : Worked) → get_elem? ws j ≡ some w → (get_elem? passes j ≡ some w.pass) × ((r : Option Refusal) × (get_elem? refusals j ≡ some r) × EndsSo w.end r)
 
 -- some worker was stopped
 abbrev pub HasStopped : List Worked → Type 0
-HasStopped ws = (j : ℕ) × (w : Worked) × (get_elem? ws j ≡ some w) × (w.performed ≡ Stuck)
+HasStopped ws = (j : ℕ) × (w : Worked) × (get_elem? ws j ≡ some w) × (w.end ≡ LetGo Stuck)
 
 -- whether no worker was refused
 abbrev pub are_none : List (Option Refusal) → Bool

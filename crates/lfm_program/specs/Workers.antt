@@ -1,5 +1,5 @@
 -- What a worker's thread gives back.
-use Rattle.std.specs.Prelude.{◌≡◌, ◌≢◌, List}
+use Rattle.std.specs.Prelude.{◌≡◌, ◌+◌, ◌<◌, ℕ, List, length}
 use Rattle.lfm_model.specs.declared.objects.Total.{Total}
 use Rattle.lfm_model.specs.declared.objects.TotalOp.{TotalOp}
 use Rattle.lfm_mutex.specs.Close.{Idle}
@@ -9,18 +9,29 @@ use Rattle.lfm_monitor.specs.Belongs.{OfMonitor, pass_sight}
 use Rattle.lfm_program.specs.declared.performed.Performed.{Performed}
 use Rattle.lfm_program.specs.declared.performed.Performed.TheVariants.{Stuck}
 use Rattle.lfm_script.specs.declared.script.Command.{Command}
+use Rattle.lfm_program.specs.declared.workers.WorkerEnd.{WorkerEnd}
+use Rattle.lfm_program.specs.declared.workers.WorkerEnd.TheVariants.{CalledOff, Performed as LetGo}
 use Rattle.lfm_program.specs.Causes.{RefusedForCause}
 use Rattle.lfm_program.specs.Performs.{AllPerformed, own_adds}
 
+-- the gate that stops these stops this worker before one of so many commands
+abbrev pub StopsOne : (ℕ → ℕ → Type 0) → ℕ → ℕ → Type 0
+StopsOne stops worker count = (i : ℕ) × (i < count) × stops worker (i + 1)
+
+-- it stops some worker
+abbrev pub StopsSome : (ℕ → ℕ → Type 0) → Type 0
+StopsSome stops = (worker : ℕ) × (command : ℕ) × stops worker command
+
 module _ {R : Type 0} {K : _} where
-  -- The pass p of the monitor has become q by the commands of a worker. Nothing is told of the adds of one that was stopped, which
-  -- may not have begun
-  pub record WorksAs (m : Monitor Total TotalOp R K) (ms : List Command) (p q : Pass Total TotalOp R K) (r : Performed) : Type 0 where
+  -- The pass p of the monitor has become q by the commands of a worker, at a gate that stops these. Of one whose start was called
+  -- off nothing more is told
+  pub record WorksAs (m : Monitor Total TotalOp R K) (stops : ℕ → ℕ → Type 0) (ms : List Command) (p q : Pass Total TotalOp R K) (end : WorkerEnd) : Type 0 where
     pub belongs : OfMonitor q m
     pub idle : Idle (pass_sight q)
     pub number : (pass_sight q).number ≡ (pass_sight p).number
-    pub adds : r ≢ Stuck → AllPerformed ms (own_adds (pass_sight p)) (own_adds (pass_sight q)) r
-    pub refused : RefusedForCause m ms (own_adds (pass_sight p)) q r
+    pub adds : (r : Performed) → end ≡ LetGo r → AllPerformed ms (own_adds (pass_sight p)) (own_adds (pass_sight q)) r
+    pub refused : (r : Performed) → end ≡ LetGo r → RefusedForCause m ms (own_adds (pass_sight p)) q r
+    pub stopped : end ≡ LetGo Stuck → StopsOne stops (pass_sight p).number (length ms)
 
   -- the pass is one of the monitor's, and neither holds nor sleeps
   abbrev pub ReadyFor : Monitor Total TotalOp R K → Pass Total TotalOp R K → Type 0

@@ -1,14 +1,18 @@
 //! Gates: they are asked before each command of a worker whether it goes on.
 
-ghost use Rattle.std.specs.Prelude.{◌≢◌, IsTrue};
+ghost use Rattle.std.specs.Prelude.{◌≡◌, ◌≢◌, ◌⊎◌, ℕ, false, IsTrue};
 
 use crossbeam_utils::CachePadded;
 use std::sync::atomic::{AtomicU64, Ordering};
 
 /// Is asked before each command of each worker, by the threads of all workers.
 pub trait Gate: Sync {
+    // The gate may stop the worker of this number before its command of this number.
+    ghost stops: { Self → ℕ → ℕ → Type 0 };
+
     /// Whether the worker of this number makes its command of this number. Both are counted from 1.
-    fn before(&self, worker: u64, command: u64) -> bool;
+    fn before(&self, worker: u64, command: u64) -> bool
+        ensures stops { result ≡ false → stops self.now worker command };
 }
 
 /// A gate that lets every worker go on.
@@ -16,6 +20,9 @@ pub trait Gate: Sync {
 pub struct OpenGate;
 
 impl Gate for OpenGate {
+    // It stops nobody.
+    ghost stops = { λ _ _ _. ⊥ };
+
     fn before(&self, _worker: u64, _command: u64) -> bool
         ensures { IsTrue result }
     {
@@ -81,6 +88,9 @@ impl Meet {
 }
 
 impl Gate for Meet {
+    // It stops workers 1 and 2 alone, before their first command.
+    ghost stops = { λ _ worker command. (command ≡ 1) × (worker ≡ 1 ⊎ (worker ≡ 2)) };
+
     fn before(&self, worker: u64, command: u64) -> bool
         // Later commands are not held, and no other worker is.
         ensures later { (command ≢ 1) → IsTrue result }

@@ -1,6 +1,7 @@
 //! The run of a script: its workers on a monitor over a total, and what its journal tells once all have ended.
 ghost use Rattle.lfm_script.specs.Report.{report_text};
 ghost use Rattle.lfm_program.specs.ScriptRuns.{Divides, EndsSo, HasStopped, MadeReady, are_none};
+ghost use Rattle.lfm_program.specs.Workers.{StopsSome};
 ghost use Rattle.lfm_script.specs.Runs.{IsReport};
 ghost use Rattle.lfm_script.specs.declared.faults.WorkFault.TheVariants as Fault;
 ghost use Rattle.lfm_script.specs.script.Grammar.{script_of};
@@ -12,7 +13,7 @@ ghost use Rattle.std.specs.Prelude.{◌≡◌, ◌⊎◌, ◌<◌, IfErr, IfOk, 
 
 use crate::gates::Gate;
 use crate::performed::Performed;
-use crate::workers::{Worked, run_workers};
+use crate::workers::{Worked, WorkerEnd, run_workers};
 use lfm_model::{Entry, NewFault, Refusal, Total, TotalOp, lawful, replay};
 use lfm_monitor::{MAX_ENTRIES, Monitor, Pass};
 use lfm_script::{Row, Script, WorkFault, commands_by_worker, rows_of};
@@ -52,15 +53,16 @@ fn monitor_of(
     }
 }
 
-// Why a worker was refused, if it was. Stuck where the gate stopped it.
-fn refusal_in(performed: Performed) -> Result<Option<Refusal>, WorkFault>
-    ensures refused { IfOk result (λ r. EndsSo performed r) }
-    ensures stopped { IfErr result (λ e. (e ≡ Fault.Stuck) × (performed ≡ Performed.Stuck)) }
+// Why a worker was refused, if it was. Stuck where the gate stopped it, and Memory where its start was called off.
+fn refusal_in(end: WorkerEnd) -> Result<Option<Refusal>, WorkFault>
+    ensures refused { IfOk result (λ r. EndsSo end r) }
+    ensures stopped { IfErr result (λ e. (e ≡ Fault.Memory) ⊎ ((e ≡ Fault.Stuck) × (end ≡ WorkerEnd.Performed Performed.Stuck))) }
 {
-    match performed {
-        Performed::Done => Ok(None),
-        Performed::Refused(refusal) => Ok(Some(refusal)),
-        Performed::Stuck => Err(WorkFault::Stuck),
+    match end {
+        WorkerEnd::Performed(Performed::Done) => Ok(None),
+        WorkerEnd::Performed(Performed::Refused(refusal)) => Ok(Some(refusal)),
+        WorkerEnd::Performed(Performed::Stuck) => Err(WorkFault::Stuck),
+        WorkerEnd::CalledOff => Err(WorkFault::Memory),
     }
 }
 
@@ -76,8 +78,8 @@ fn divide(
     let mut passes = Vec::with_capacity(alloc, worked.len())?;
     let mut refusals = Vec::with_capacity(alloc, worked.len())?;
     'dividing: for one in worked {
-        let Worked { pass, performed } = one;
-        let refused = refusal_in(performed)?;
+        let Worked { pass, end } = one;
+        let refused = refusal_in(end)?;
         passes.push_reserved(pass);
         refusals.push_reserved(refused);
     }
@@ -122,7 +124,7 @@ pub(crate) fn run_script<R: Threads + Wait + Sync, G: Gate>(
     requires lines { lines_allowed script.now.workers script.now.conditions script.now.lines.items ≡ true }
     requires few { length script.now.lines.items < max_lines }
     ensures report { IfOk result (λ r. IsReport (script_of script.now) (report_text r.rows.items r.total r.lawful) r.succeeded) }
-    ensures fault { IfErr result (λ e. (e ≡ Fault.Memory) ⊎ (e ≡ Fault.Stuck)) }
+    ensures fault { IfErr result (λ e. (e ≡ Fault.Memory) ⊎ ((e ≡ Fault.Stuck) × StopsSome (G.stops gate.now))) }
 {
     let commands = commands_by_worker(alloc, script.workers, &script.lines)?;
     let (monitor, passes) = monitor_of(alloc, script)?;

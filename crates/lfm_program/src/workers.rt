@@ -16,25 +16,35 @@ use std::sync::Wait;
 use std::thread;
 use std::thread::{Promise, PromisedHandle, Threads};
 
+/// How a worker's thread ended.
+#[derive(Clone, Copy, Debug, PartialEq, Eq)]
+pub(crate) enum WorkerEnd {
+    /// The start was called off, since another worker could not be started. No command was made.
+    CalledOff,
+    /// The worker was let go, and its commands ended so.
+    Performed(Performed),
+}
+
 /// What comes back from a worker's thread.
 #[derive(Drop)]
 pub(crate) struct Worked {
     /// The worker's pass. It neither holds nor sleeps.
     pub pass: Pass<Total>,
-    /// How its commands ended.
-    pub performed: Performed,
+    /// How its thread ended.
+    pub end: WorkerEnd,
 }
 
 /// What a worker's thread is to do, and with which pass.
 #[derive(Drop)]
-pub struct Assignment {
+pub struct Assignment<G: Gate> {
     monitor: Snapshot<Monitor<Total>>,
     pass: Snapshot<Pass<Total>>,
     commands: Snapshot<Vec<Command>>,
+    gate: Snapshot<G>,
 }
 
-impl Promise<Worked> for Assignment {
-    ghost kept_by = { λ a r. WorksAs a.monitor.value a.commands.value.items a.pass.value r.pass r.performed };
+impl<G: Gate> Promise<Worked> for Assignment<G> {
+    ghost kept_by = { λ a r. WorksAs a.monitor.value (G.stops a.gate.value) a.commands.value.items a.pass.value r.pass r.end };
 }
 
 // A worker's thread: it makes its commands once the line is opened, and none where the start is called off.
@@ -47,28 +57,31 @@ fn run_worker<G: Gate, R: Wait>(
     gate: &G,
 ) -> Worked
     requires ready { ReadyFor monitor.now pass }
-    ensures { WorksAs monitor.now commands.now pass result.pass result.performed }
+    ensures { WorksAs monitor.now (G.stops gate.now) commands.now pass result.pass result.end }
 {
     if !line.wait(rt) {
         return Worked {
             pass,
-            performed: Performed::Stuck,
+            end: WorkerEnd::CalledOff,
         };
     }
     let performed = perform(rt, monitor, &mut pass, commands, gate);
-    Worked { pass, performed }
+    Worked {
+        pass,
+        end: WorkerEnd::Performed(performed),
+    }
 }
 
 // Waits for the workers that were started, and gives what came back where all were.
-fn join_all<R: Threads>(
+fn join_all<R: Threads, G: Gate>(
     rt: &R,
-    handles: Vec<PromisedHandle<Worked, Assignment>>,
+    handles: Vec<PromisedHandle<Worked, Assignment<G>>>,
     all: usize,
 ) -> Result<Vec<Worked>, WorkFault>
     ensures count { IfOk result (λ v. (vec_len v ≡ vec_len handles) × (vec_len handles ≡ all)) }
     ensures memory { IfErr result (λ e. e ≡ WorkFault.Memory) }
     ensures each { IfOk result (λ v. (j : ℕ) (w : Worked) → get_elem? v.items j ≡ some w → (h : _) × (get_elem? handles.items j ≡ some h)
-        × WorksAs h.promise.monitor.value h.promise.commands.value.items h.promise.pass.value w.pass w.performed) }
+        × WorksAs h.promise.monitor.value (G.stops h.promise.gate.value) h.promise.commands.value.items h.promise.pass.value w.pass w.end) }
 {
     match thread::join_promised(rt, handles) {
         Ok(results) if results.len() == all => Ok(results),
@@ -100,7 +113,7 @@ pub(crate) fn run_workers<R: Threads + Wait + Sync, G: Gate>(
     ensures count { IfOk result (λ v. vec_len v ≡ length scripts.now) }
     ensures memory { IfErr result (λ e. e ≡ WorkFault.Memory) }
     ensures each { IfOk result (λ v. (j : ℕ) (w : Worked) → get_elem? v.items j ≡ some w → (p : _) × (ms : Vec Command Global) × (get_elem? passes.items j ≡ some p)
-        × (get_elem? scripts.now j ≡ some ms) × WorksAs monitor.now ms.items p w.pass w.performed) }
+        × (get_elem? scripts.now j ≡ some ms) × WorksAs monitor.now (G.stops gate.now) ms.items p w.pass w.end) }
 {
     let line = StartingLine::new();
     let at_line = &line;
@@ -113,7 +126,7 @@ pub(crate) fn run_workers<R: Threads + Wait + Sync, G: Gate>(
             ensures count { IfOk result (λ v. vec_len v ≡ length scripts.entry.now) }
             ensures memory { IfErr result (λ e. e ≡ WorkFault.Memory) }
             ensures each { IfOk result (λ v. (j : ℕ) (w : Worked) → get_elem? v.items j ≡ some w → (p : _) × (ms : Vec Command Global) × (get_elem? passes.items j ≡ some p)
-                × (get_elem? scripts.entry.now j ≡ some ms) × WorksAs monitor.entry.now ms.items p w.pass w.performed) }
+                × (get_elem? scripts.entry.now j ≡ some ms) × WorksAs monitor.entry.now (G.stops gate.entry.now) ms.items p w.pass w.end) }
         {
             let Ok(mut handles) = Vec::with_capacity(alloc, scripts.len()) else {
                 return Err(WorkFault::Memory);
@@ -125,13 +138,14 @@ pub(crate) fn run_workers<R: Threads + Wait + Sync, G: Gate>(
                     monitor: Snapshot::of(monitor),
                     pass: Snapshot::of(&pass),
                     commands: Snapshot::of(commands),
+                    gate: Snapshot::of(gate),
                 };
                 let commands = commands.as_slice();
                 let started = scope.spawn_with(
                     assignment,
                     move || -> Worked
                         requires { ReadyFor monitor.now pass }
-                        ensures { WorksAs monitor.entry.now commands.entry.now pass result.pass result.performed }
+                        ensures { WorksAs monitor.entry.now (G.stops gate.entry.now) commands.entry.now pass result.pass result.end }
                     { run_worker(rt, at_line, monitor, pass, commands, gate) },
                 );
                 let Ok(handle) = started else {

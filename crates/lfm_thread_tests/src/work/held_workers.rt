@@ -1,4 +1,6 @@
 //! Gates that hold a worker, or stop it: then nothing is written.
+ghost use Rattle.std.specs.Prelude.{◌≡◌};
+
 use crate::work::scripts::{TWO_ADDS, comes_to};
 use lfm_program::{Gate, Meet, WorkFault};
 use std::sync::atomic::{AtomicBool, Ordering};
@@ -10,8 +12,13 @@ const HELD_TURNS: u64 = 10_000_000;
 struct ClosedGate;
 
 impl Gate for ClosedGate {
+    ghost stops = { λ _ worker command. (worker ≡ 1) × (command ≡ 1) };
+
     fn before(&self, worker: u64, command: u64) -> bool {
-        !(worker == 1 && command == 1)
+        match (worker, command) {
+            (1, 1) => false,
+            _ => true,
+        }
     }
 }
 
@@ -22,6 +29,8 @@ struct HoldingGate {
 }
 
 impl Gate for HoldingGate {
+    ghost stops = { λ _ worker command. (worker ≡ 2) × (command ≡ 1) };
+
     fn before(&self, worker: u64, command: u64) -> bool {
         match (worker, command) {
             (1, 2) => {

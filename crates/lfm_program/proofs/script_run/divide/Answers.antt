@@ -1,4 +1,4 @@
-use Rattle.std.proofs.Common.{arith, ap, sym, subst, ◌∙◌, ◌≡◌, ◌⊎◌, inr, ◌+◌, ◌++◌, ◌∷◌, [], ℕ, suc, Option, length}
+use Rattle.std.proofs.Common.{arith, ap, sym, subst, ◌∙◌, ◌≡◌, ◌⊎◌, inl, inr, ⊎_elim, ◌+◌, ◌++◌, ◌∷◌, [], ℕ, suc, Option, length}
 use Rattle.std.specs.Vec.Iter.{into_iter_items}
 use mathlib.Core.Logic.{dite}
 use mathlib.Core.Option.{some, some-injective}
@@ -31,7 +31,7 @@ dividing-preserved c = let i = c.dividing.invariant in let one = c.in-Some.one i
     let steps : into_iter_items c.dividing.one-iterator ≡ one ∷ into_iter_items c.next.new.self = c.in-Some.ensures.steps.0 in
     let passes = c.push_reserved.ensures.items in let refusals = c.push_reserved-in-dividing.ensures.items in
     let P : ℕ → Worked → Type 0 = λ j w.
-    (get_elem? c.push_reserved.new.self.items j ≡ some w.pass) × ((r : Option Refusal) × (get_elem? c.push_reserved-in-dividing.new.self.items j ≡ some r) × EndsSo w.performed r) in
+    (get_elem? c.push_reserved.new.self.items j ≡ some w.pass) × ((r : Option Refusal) × (get_elem? c.push_reserved-in-dividing.new.self.items j ≡ some r) × EndsSo w.end r) in
     let more = ap length passes in let as_many = ap length refusals in
     let here : get_elem? c.args.worked.items (length ps) ≡ some one = in_place c.args.worked.items (length ps) one (i.rest 0 one (ap (λ l. get_elem? l 0) steps)) in
     let last : P (length ps) one = (
@@ -78,4 +78,4 @@ returns-in_err-refused-clause-fault c =
     in_place c.args.worked.items (length c.dividing.passes.items) c.in-Some.one (c.dividing.invariant.rest 0 c.in-Some.one (ap (λ l. get_elem? l 0) c.in-Some.ensures.steps.0)) in
     let stopped = c.in_err-refused.ensures.stopped in
     fault_is (λ e. (e ≡ Memory) ⊎ ((e ≡ Stuck) × HasStopped c.args.worked.items)) c.from_residual-in_err-refused.result c.in_err-refused.field-0.0 c.from_residual-in_err-refused.ensures.1
-    (inr (stopped.0, (length c.dividing.passes.items, c.in-Some.one, at, stopped.1)))
+    (⊎_elim inl (λ s. inr (s.0, (length c.dividing.passes.items, c.in-Some.one, at, s.1))) stopped)

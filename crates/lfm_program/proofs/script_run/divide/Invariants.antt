@@ -16,5 +16,5 @@ invariant-dividing l = record {
   room : (length l.fn.worked.items ≤ vec_capacity l.passes) × (length l.fn.worked.items ≤ vec_capacity l.refusals);
   rest : (i : ℕ) (w : Worked) → get_elem? (into_iter_items l.one-iterator) i ≡ some w → get_elem? l.fn.worked.items (length l.passes.items + i) ≡ some w;
   each : (j : ℕ) (w : Worked) → j < length l.passes.items → get_elem? l.fn.worked.items j ≡ some w
-      → (get_elem? l.passes.items j ≡ some w.pass) × ((r : Option Refusal) × (get_elem? l.refusals.items j ≡ some r) × EndsSo w.performed r);
+      → (get_elem? l.passes.items j ≡ some w.pass) × ((r : Option Refusal) × (get_elem? l.refusals.items j ≡ some r) × EndsSo w.end r);
 }

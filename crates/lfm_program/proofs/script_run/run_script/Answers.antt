@@ -1,4 +1,4 @@
-use Rattle.std.proofs.Common.{ap, arith, length, subst, sym, true, ◌∙◌, ◌≡◌, ◌<◌, ◌^◌, ℕ}
+use Rattle.std.proofs.Common.{◌⊎◌, ◌+◌, inl, inr, ⊎_elim, ap, arith, length, subst, sym, true, ◌∙◌, ◌≡◌, ◌<◌, ◌^◌, ℕ}
 use Rattle.lfm_model.specs.Journals.{LawfulJournal, Within, after_all}
 use Rattle.lfm_model.specs.Totals.{total_after}
 use Rattle.lfm_monitor.specs.Belongs.{pass_sight, passes_of}
@@ -8,6 +8,9 @@ use Rattle.lfm_program.specs.ScriptRuns.{are_none}
 use Rattle.lfm_script.specs.script.Grammar.{script_of}
 use Rattle.lfm_script.specs.script.Limits.{header_allowed, lines_allowed}
 use Rattle.std.specs.List.{sum}
+use Rattle.lfm_script.specs.declared.faults.WorkFault.TheVariants.{Memory, Stuck}
+use Rattle.lfm_program.specs.Workers.{StopsSome}
+use Rattle.lfm_program.proofs.Threads.{fault_is}
 use Rattle.lfm_program.proofs.JournalEnds.{none_missing}
 use Rattle.lfm_program.proofs.RunEnds.{and_true, both_true, by_workers, collected, ran, reported}
 use Rattle.lfm_script.proofs.RunReports.{adds_made}
@@ -20,7 +23,7 @@ pub close-requires-clause-belongs : goal.close-requires-clause-belongs
 close-requires-clause-belongs g c κs j q at =
     let many : length c.deref-2.result.now ≡ c.args.script.now.workers = (let a = ap length c.deref-2.ensures.value in let b = c.in_ok-commands.ensures.count in let d = c.in_ok-commands.commands.ok in omega arith) in
     let as_many : length c.in_ok-worked.worked.items ≡ length c.deref-2.result.now = (let a = c.in_ok-worked.ensures.count in let b = c.in_ok-worked.worked.ok in omega arith) in
-    let back = collected c.in_ok-monitor.monitor (script_of c.args.script.now) c.deref-2.result.now c.in_ok-commands.commands.items c.deref.result.now c.in_ok-monitor.passes.items c.in_ok-worked.worked.items
+    let back = collected c.in_ok-monitor.monitor (g.G.Gate.stops c.args.gate.now) (script_of c.args.script.now) c.deref-2.result.now c.in_ok-commands.commands.items c.deref.result.now c.in_ok-monitor.passes.items c.in_ok-worked.worked.items
     c.in_ok-passes.passes.items c.in_ok-passes.refusals.items c.in_ok-monitor.ensures.ready c.deref-2.ensures.value c.deref.ensures.value many c.in_ok-commands.ensures.each
     c.in_ok-worked.ensures.each as_many c.in_ok-passes.ensures.divides in
     (back.each j q at).belongs
@@ -29,7 +32,7 @@ pub unreachable-requires : goal.unreachable-requires
 unreachable-requires g c =
     let many : length c.deref-2.result.now ≡ c.args.script.now.workers = (let a = ap length c.deref-2.ensures.value in let b = c.in_ok-commands.ensures.count in let d = c.in_ok-commands.commands.ok in omega arith) in
     let as_many : length c.in_ok-worked.worked.items ≡ length c.deref-2.result.now = (let a = c.in_ok-worked.ensures.count in let b = c.in_ok-worked.worked.ok in omega arith) in
-    let back = collected c.in_ok-monitor.monitor (script_of c.args.script.now) c.deref-2.result.now c.in_ok-commands.commands.items c.deref.result.now c.in_ok-monitor.passes.items c.in_ok-worked.worked.items
+    let back = collected c.in_ok-monitor.monitor (g.G.Gate.stops c.args.gate.now) (script_of c.args.script.now) c.deref-2.result.now c.in_ok-commands.commands.items c.deref.result.now c.in_ok-monitor.passes.items c.in_ok-worked.worked.items
     c.in_ok-passes.passes.items c.in_ok-passes.refusals.items c.in_ok-monitor.ensures.ready c.deref-2.ensures.value c.deref.ensures.value many c.in_ok-commands.ensures.each
     c.in_ok-worked.ensures.each as_many c.in_ok-passes.ensures.divides in
     let m = c.in_ok-monitor.monitor in let ps = c.in_ok-passes.passes.items in
@@ -39,7 +42,7 @@ pub rows_of-requires-clause-within : goal.rows_of-requires-clause-within
 rows_of-requires-clause-within g c =
     let many : length c.deref-2.result.now ≡ c.args.script.now.workers = (let a = ap length c.deref-2.ensures.value in let b = c.in_ok-commands.ensures.count in let d = c.in_ok-commands.commands.ok in omega arith) in
     let as_many : length c.in_ok-worked.worked.items ≡ length c.deref-2.result.now = (let a = c.in_ok-worked.ensures.count in let b = c.in_ok-worked.worked.ok in omega arith) in
-    let back = collected c.in_ok-monitor.monitor (script_of c.args.script.now) c.deref-2.result.now c.in_ok-commands.commands.items c.deref.result.now c.in_ok-monitor.passes.items c.in_ok-worked.worked.items
+    let back = collected c.in_ok-monitor.monitor (g.G.Gate.stops c.args.gate.now) (script_of c.args.script.now) c.deref-2.result.now c.in_ok-commands.commands.items c.deref.result.now c.in_ok-monitor.passes.items c.in_ok-worked.worked.items
     c.in_ok-passes.passes.items c.in_ok-passes.refusals.items c.in_ok-monitor.ensures.ready c.deref-2.ensures.value c.deref.ensures.value many c.in_ok-commands.ensures.each
     c.in_ok-worked.ensures.each as_many c.in_ok-passes.ensures.divides in
     let plan = script_of c.args.script.now in let ps = c.in_ok-passes.passes.items in let rs = c.in_ok-passes.refusals.items in let es = c.in-Ok.journal.items in
@@ -52,7 +55,7 @@ pub rows_of-requires-clause-fits : goal.rows_of-requires-clause-fits
 rows_of-requires-clause-fits g c =
     let many : length c.deref-2.result.now ≡ c.args.script.now.workers = (let a = ap length c.deref-2.ensures.value in let b = c.in_ok-commands.ensures.count in let d = c.in_ok-commands.commands.ok in omega arith) in
     let as_many : length c.in_ok-worked.worked.items ≡ length c.deref-2.result.now = (let a = c.in_ok-worked.ensures.count in let b = c.in_ok-worked.worked.ok in omega arith) in
-    let back = collected c.in_ok-monitor.monitor (script_of c.args.script.now) c.deref-2.result.now c.in_ok-commands.commands.items c.deref.result.now c.in_ok-monitor.passes.items c.in_ok-worked.worked.items
+    let back = collected c.in_ok-monitor.monitor (g.G.Gate.stops c.args.gate.now) (script_of c.args.script.now) c.deref-2.result.now c.in_ok-commands.commands.items c.deref.result.now c.in_ok-monitor.passes.items c.in_ok-worked.worked.items
     c.in_ok-passes.passes.items c.in_ok-passes.refusals.items c.in_ok-monitor.ensures.ready c.deref-2.ensures.value c.deref.ensures.value many c.in_ok-commands.ensures.each
     c.in_ok-worked.ensures.each as_many c.in_ok-passes.ensures.divides in
     let plan = script_of c.args.script.now in let ps = c.in_ok-passes.passes.items in let rs = c.in_ok-passes.refusals.items in let es = c.in-Ok.journal.items in
@@ -66,7 +69,7 @@ pub returns-clause-report : goal.returns-clause-report
 returns-clause-report g c =
     let many : length c.deref-2.result.now ≡ c.args.script.now.workers = (let a = ap length c.deref-2.ensures.value in let b = c.in_ok-commands.ensures.count in let d = c.in_ok-commands.commands.ok in omega arith) in
     let as_many : length c.in_ok-worked.worked.items ≡ length c.deref-2.result.now = (let a = c.in_ok-worked.ensures.count in let b = c.in_ok-worked.worked.ok in omega arith) in
-    let back = collected c.in_ok-monitor.monitor (script_of c.args.script.now) c.deref-2.result.now c.in_ok-commands.commands.items c.deref.result.now c.in_ok-monitor.passes.items c.in_ok-worked.worked.items
+    let back = collected c.in_ok-monitor.monitor (g.G.Gate.stops c.args.gate.now) (script_of c.args.script.now) c.deref-2.result.now c.in_ok-commands.commands.items c.deref.result.now c.in_ok-monitor.passes.items c.in_ok-worked.worked.items
     c.in_ok-passes.passes.items c.in_ok-passes.refusals.items c.in_ok-monitor.ensures.ready c.deref-2.ensures.value c.deref.ensures.value many c.in_ok-commands.ensures.each
     c.in_ok-worked.ensures.each as_many c.in_ok-passes.ensures.divides in
     let plan = script_of c.args.script.now in let ps = c.in_ok-passes.passes.items in let rs = c.in_ok-passes.refusals.items in let es = c.in-Ok.journal.items in
@@ -82,3 +85,9 @@ returns-clause-report g c =
     (subst (λ xs. c.in-Ok.total ≡ after_all total_after (record { 0 = 0 }) xs) (sym c.deref-5.ensures.value) total_is) in
     reported plan rs es c.in_ok-rows.rows.items c.in-Ok.total _ c.in_ok-lawful.lawful _ is_allowed c.requires.few within c.in-Ok.ensures.legal.1 made back.as_many rows c.in-Ok.ensures.legal.0
     c.in_ok-monitor.ensures.ready.opening lawful_is (and_true c.none_refused.result c.in_ok-lawful.lawful (are_none rs) (c.none_refused.ensures ∙ ap are_none c.deref-6.ensures.value) lawful_is)
+
+-- the worker that was stopped tells which command the gate stops
+pub returns-in_err-passes-clause-fault : goal.returns-in_err-passes-clause-fault
+returns-in_err-passes-clause-fault g c =
+    fault_is (λ e. (e ≡ Memory) ⊎ ((e ≡ Stuck) × StopsSome (g.G.Gate.stops c.args.gate.now))) c.from_residual-in_err-passes.result _ c.from_residual-in_err-passes.ensures.1
+    (⊎_elim inl (λ s. inr (s.0, (let t = c.in_ok-worked.ensures.each s.1.0 s.1.1 s.1.2 in let k = t.4.stopped s.1.3 in ((pass_sight t.0).number, k.0 + 1, k.2)))) c.in_err-passes.ensures.fault)

@@ -1,6 +1,6 @@
 use Rattle.std.proofs.Common.{None}
 use Rattle.lfm_script.specs.script.Grammar.{script_of}
-use Rattle.lfm_program.proofs.Telling.{run_failed, run_told, report_failed}
+use Rattle.lfm_program.proofs.Telling.{run_failed, run_told, report_failed, stuck_by}
 use Rattle.lfm_program.proofs.working.work_script.Goals as goal
 
 pub returns-in_err-run-clause-told : goal.returns-in_err-run-clause-told
@@ -15,3 +15,6 @@ returns-in_err-write_run-clause-told g c =
 
 pub returns-clause-told : goal.returns-clause-told
 returns-clause-told g c = run_told (script_of c.args.script.now) _ _ _ _ c.in_ok-run.ensures.report c.in_ok-write_run.ensures
+
+pub returns-in_err-run-clause-stuck : goal.returns-in_err-run-clause-stuck
+returns-in_err-run-clause-stuck g c = stuck_by _ _ c.from_residual.ensures.1 c.in_err-run.ensures.fault

@@ -63,12 +63,13 @@ starting-preserved g c = let i = c.starting.invariant in let p = c.in-Some.pass 
     let within : c.len.result < length c.captures.scripts.now = (let a = ap length steps in let b = i.size in let d = i.scripts in omega arith) in
     let last : length hs.items + 0 ≡ length hs.items = omega arith in let ps = into_iter_items c.into_iter-pass-iterator.result in
     let here : (c.in-Ok-started.handle.promise.monitor.value ≡ c.captures.monitor.now) × (get_elem? ps (length hs.items) ≡ some c.in-Ok-started.handle.promise.pass.value)
-    × (get_elem? c.captures.scripts.now (length hs.items) ≡ some c.in-Ok-started.handle.promise.commands.value) = (
+    × (get_elem? c.captures.scripts.now (length hs.items) ≡ some c.in-Ok-started.handle.promise.commands.value) × (c.in-Ok-started.handle.promise.gate.value ≡ c.captures.gate.now) = (
       ap (λ a. a.monitor.value) made ∙ c.of.ensures,
       subst (λ (n : ℕ). get_elem? ps n ≡ some p) last (i.rest 0 p (ap (λ l. get_elem? l 0) steps)) ∙ ap some (sym (ap (λ a. a.pass.value) made ∙ c.of-in-starting.ensures)),
       subst (λ (n : ℕ). get_elem? c.captures.scripts.now n ≡ some c.index-scripts-len.result) at_length
           (stands c.captures.scripts.now c.len.result c.index-scripts-len.result within c.index-scripts-len.is)
           ∙ ap some (sym (ap (λ a. a.commands.value) made ∙ c.of-in-starting-2.ensures)),
+      ap (λ a. a.gate.value) made ∙ c.of-in-starting-3.ensures,
     ) in record {
       long = (let a = i.long in let b = c.in-Some.ensures.steps.1 in let d = ap length steps in omega arith);
       size = (let a = ap length steps in let z = i.size in omega arith);
@@ -77,7 +78,7 @@ starting-preserved g c = let i = c.starting.invariant in let p = c.in-Some.pass 
       rest = λ k q at. let was = i.rest (suc k) q (ap (λ l. get_elem? l (suc k)) steps ∙ at) in let e : length hs.items + suc k ≡ length c.push_reserved.new.self.items + k = omega arith in
           subst (λ (n : ℕ). get_elem? (into_iter_items c.into_iter-pass-iterator.result) n ≡ some q) e was;
       handles = λ j h at. each_more (λ j h. (h.promise.monitor.value ≡ c.captures.monitor.now) × (get_elem? (into_iter_items c.into_iter-pass-iterator.result) j ≡ some h.promise.pass.value)
-          × (get_elem? c.captures.scripts.now j ≡ some h.promise.commands.value)) hs.items c.push_reserved.new.self.items c.in-Ok-started.handle c.push_reserved.ensures.items i.handles here j h at;
+          × (get_elem? c.captures.scripts.now j ≡ some h.promise.commands.value) × (h.promise.gate.value ≡ c.captures.gate.now)) hs.items c.push_reserved.new.self.items c.in-Ok-started.handle c.push_reserved.ensures.items i.handles here j h at;
     }
 
 pub returns : goal.returns
@@ -89,6 +90,7 @@ returns g c = record {
     h.promise.commands.value,
     sym (ap (λ l. get_elem? l j) from) ∙ k.1,
     k.2,
-    subst (λ m. WorksAs m h.promise.commands.value.items h.promise.pass.value w.pass w.performed) k.0 e.2,
+    subst (λ m. WorksAs m (g.G.Gate.stops c.captures.gate.now) h.promise.commands.value.items h.promise.pass.value w.pass w.end) k.0
+        (subst (λ x. WorksAs h.promise.monitor.value (g.G.Gate.stops x) h.promise.commands.value.items h.promise.pass.value w.pass w.end) k.3 e.2),
   )) c.join_all.ensures.count c.join_all.ensures.each;
 }

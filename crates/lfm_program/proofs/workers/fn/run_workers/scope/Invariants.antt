@@ -13,5 +13,5 @@ invariant-starting g l = record {
   room : length l.scripts ≤ vec_capacity l.handles;
   rest : (i : ℕ) (p : _) → get_elem? (into_iter_items l.pass-iterator) i ≡ some p → get_elem? (into_iter_items l.initial.pass-iterator) (length l.handles.items + i) ≡ some p;
   handles : (j : ℕ) (h : _) → get_elem? l.handles.items j ≡ some h → (h.promise.monitor.value ≡ l.monitor) × (get_elem? (into_iter_items l.initial.pass-iterator) j ≡ some h.promise.pass.value)
-      × (get_elem? l.scripts j ≡ some h.promise.commands.value);
+      × (get_elem? l.scripts j ≡ some h.promise.commands.value) × (h.promise.gate.value ≡ l.gate);
 }

@@ -1,0 +1,6 @@
+use Rattle.lfm_stress.specs.Parts.{OfShared}
+use Rattle.lfm_stress.proofs.loads.lock.take_turns.Given as goal
+
+-- the part stays one of the mutex and its condvars
+abbrev pub invariant-turns : goal.invariant-turns
+invariant-turns g l = OfShared l.part l.shared

@@ -1,0 +1,7 @@
+pub mod Ranges
+pub mod Parts
+pub mod Totals
+pub mod Tenths
+pub mod Broadcasts
+pub mod Buffers
+pub mod Requests

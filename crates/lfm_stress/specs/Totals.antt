@@ -1,0 +1,48 @@
+-- What a run must leave: how many additions were counted, or items taken out of the buffer; how many threads were woken; and
+-- which number, or sum of the items.
+use Rattle.std.specs.Prelude.{ℕ, ◌+◌, ◌*◌, ◌/◌, Bool, nat_eq, nat_le, ◌&&◌}
+use Rattle.lfm_stress.specs.declared.plan.Load.{Load}
+use Rattle.lfm_stress.specs.declared.plan.Load.TheVariants.{Lock, Mixed, PingPong, Broadcast, Buffer}
+use Rattle.lfm_stress.specs.declared.sums.Sums.{Sums}
+
+-- how many additions so many threads make, each in so many turns. In a broadcast each thread that waits adds 1 as it comes and
+-- 1 as it was woken, and the one that wakes adds 1. Of the buffer's items it is how many are taken out.
+abbrev pub additions_of : Load → ℕ → ℕ → ℕ
+additions_of Lock threads turns = threads * turns
+additions_of Mixed threads turns = threads * turns
+additions_of PingPong threads turns = threads * turns
+additions_of Broadcast threads turns = (threads * 2 + 1) * turns
+additions_of Buffer threads turns = turns
+
+-- how many of them may be left out: every other turn of `mixed`, from the first on, may meet another's hold
+abbrev pub misses_of : Load → ℕ → ℕ → ℕ
+misses_of Lock threads turns = 0
+misses_of Mixed threads turns = threads * ((turns + 1) / 2)
+misses_of PingPong threads turns = 0
+misses_of Broadcast threads turns = 0
+misses_of Buffer threads turns = 0
+
+-- how many threads are woken in broadcasts
+abbrev pub woken_of : Load → ℕ → ℕ → ℕ
+woken_of Lock threads turns = 0
+woken_of Mixed threads turns = 0
+woken_of PingPong threads turns = 0
+woken_of Broadcast threads turns = threads * turns
+woken_of Buffer threads turns = 0
+
+-- the number after so many additions, and the sum of so many items, which are 1, 2, 3 and on
+abbrev pub number_of : Load → ℕ → ℕ
+number_of Lock made = made
+number_of Mixed made = made
+number_of PingPong made = made
+number_of Broadcast made = made
+number_of Buffer made = made * (made + 1) / 2
+
+-- nothing is lost: as many additions were counted as there must be, each thread that waited was woken each time, and the number
+-- is that of the additions
+abbrev pub is_exact : Load → ℕ → ℕ → Sums → Bool
+is_exact load threads turns sums =
+    nat_le sums.made (additions_of load threads turns)
+    && nat_le (additions_of load threads turns) (sums.made + misses_of load threads turns)
+    && nat_eq sums.woken (woken_of load threads turns)
+    && nat_eq sums.number (number_of load sums.made)

@@ -1,0 +1,52 @@
+//! What the command line asks for.
+ghost use Rattle.lfm_stress.specs.Requests.{AsksFor};
+
+use crate::plan::{Load, OutOfRange, Plan};
+use lfm_text::read_number;
+use std::env;
+use std::io::ErrorKind;
+use std::rt::Env;
+
+/// What the command line asks for.
+#[derive(Clone, Copy)]
+pub enum Request {
+    /// A run of this plan.
+    Run(Plan),
+    /// A run whose numbers are out of range.
+    Refused(Load, OutOfRange),
+    /// Something else: there are not three words, or no load has this name, or a word is no number.
+    Other,
+    /// Nothing can be told: the arguments themselves found no memory.
+    Unread,
+}
+
+/// What the program's arguments ask for. It takes memory.
+pub fn requested<R: Env + AllocGlobal>(rt: &R) -> Request {
+    let mut words = match env::args(rt) {
+        Ok(words) => words,
+        Err(error) if error.kind() == ErrorKind::OutOfMemory => return Request::Unread,
+        Err(_) => return Request::Other,
+    };
+    let _name = words.next();
+    let (load, threads, turns) = (words.next(), words.next(), words.next());
+    let (Some(load), Some(threads), Some(turns), None) = (load, threads, turns, words.next()) else {
+        return Request::Other;
+    };
+    asked(load.as_str(), threads.as_str(), turns.as_str())
+}
+
+/// What three words ask for.
+fn asked(load: &str, threads: &str, turns: &str) -> Request
+    ensures { AsksFor result threads.now turns.now }
+{
+    let load = Load::named(load);
+    let threads = read_number(threads.as_bytes());
+    let turns = read_number(turns.as_bytes());
+    let (Some(load), Some(threads), Some(turns)) = (load, threads, turns) else {
+        return Request::Other;
+    };
+    match Plan::new(load, threads, turns) {
+        Ok(plan) => Request::Run(plan),
+        Err(refusal) => Request::Refused(load, refusal),
+    }
+}

@@ -1,0 +1,105 @@
+//! A mutex with two condvars is made, with a part for each of its threads.
+ghost use Rattle.std.specs.Prelude.{◌≡◌, ◌≤◌, ℕ, All, IfSome, []};
+ghost use Rattle.lfm_mutex.specs.Belongs.{OfMutex, limits_of};
+ghost use Rattle.lfm_condvar.specs.Belongs.{OfCondvar, cond_limits};
+ghost use Rattle.lfm_stress.specs.Parts.{OfShared};
+ghost use mathlib.Core.Option.{some};
+ghost use lib.ListN.{get_elem?};
+
+use crate::parts::{Part, Shared};
+use lfm_condvar::{CondSeat, Condvar};
+use lfm_mutex::{Mutex, Seat};
+use std::alloc::Global;
+
+/// How many takes each seat may make: more than any run asks for.
+const BUDGET: u64 = 1 << 36;
+
+/// The seats of all threads, sorted.
+#[derive(Drop)]
+struct Seats {
+    seats: Vec<Seat<u64>>,
+    first: Vec<CondSeat>,
+    second: Vec<CondSeat>,
+}
+
+/// A mutex round 0 and two condvars, with a part for each of so many threads. It takes memory; None where it finds none, or
+/// where there are too many threads.
+pub fn shared_by(alloc: Global, threads: u64) -> Option<(Shared, Vec<Part>)>
+    ensures { IfSome result (λ r. All (λ p. OfShared p r.0) r.1.items) }
+{
+    let Ok((mutex, seats)) = Mutex::new(alloc, threads, BUDGET, 0u64) else {
+        return None;
+    };
+    let Ok((first, first_seats)) = Condvar::new(alloc, threads, BUDGET) else {
+        return None;
+    };
+    let Ok((second, second_seats)) = Condvar::new(alloc, threads, BUDGET) else {
+        return None;
+    };
+    let shared = Shared {
+        mutex,
+        first,
+        second,
+    };
+    let seats = Seats {
+        seats,
+        first: first_seats,
+        second: second_seats,
+    };
+    let parts = dealt(&shared, threads, seats, Vec::new(alloc))?;
+    Some((shared, parts))
+}
+
+// The last of these seats, which are the mutex's.
+fn last_seat(mutex: &Mutex<u64>, seats: &mut Vec<Seat<u64>>) -> Option<Seat<u64>>
+    requires { (j : ℕ) (s : _) → get_elem? seats.old.items j ≡ some s → OfMutex s mutex.now }
+    ensures one { IfSome result (λ s. OfMutex s mutex.now) }
+    ensures rest { (j : ℕ) (s : _) → get_elem? seats.new.items j ≡ some s → OfMutex s mutex.now }
+{
+    let _mutex = mutex;
+    let seat = seats.pop()?;
+    Some(seat)
+}
+
+// The last of these cond seats, which are the condvar's.
+fn last_cond_seat(condvar: &Condvar, seats: &mut Vec<CondSeat>) -> Option<CondSeat>
+    requires { (j : ℕ) (s : _) → get_elem? seats.old.items j ≡ some s → OfCondvar s condvar.now }
+    ensures one { IfSome result (λ s. OfCondvar s condvar.now) }
+    ensures rest { (j : ℕ) (s : _) → get_elem? seats.new.items j ≡ some s → OfCondvar s condvar.now }
+{
+    let _condvar = condvar;
+    let seat = seats.pop()?;
+    Some(seat)
+}
+
+// So many parts, of seats that all are those of the mutex and its condvars.
+fn dealt(shared: &Shared, threads: u64, seats: Seats, mut parts: Vec<Part>) -> Option<Vec<Part>>
+    requires seats { (j : ℕ) (s : _) → get_elem? seats.seats.items j ≡ some s → OfMutex s shared.now.mutex }
+    requires first { (j : ℕ) (s : _) → get_elem? seats.first.items j ≡ some s → OfCondvar s shared.now.first }
+    requires second { (j : ℕ) (s : _) → get_elem? seats.second.items j ≡ some s → OfCondvar s shared.now.second }
+    requires wide { ((cond_limits shared.now.first).seats ≤ (limits_of shared.now.mutex).seats) × ((cond_limits shared.now.second).seats ≤ (limits_of shared.now.mutex).seats) }
+    requires empty { parts.items ≡ [] }
+    ensures { IfSome result (λ v. All (λ p. OfShared p shared.now) v.items) }
+{
+    let Seats {
+        seats: mut user_seats,
+        first: mut first_seats,
+        second: mut second_seats,
+    } = seats;
+    'dealing: for _ in 0..threads {
+        let seat = last_seat(&shared.mutex, &mut user_seats)?;
+        let first = last_cond_seat(&shared.first, &mut first_seats)?;
+        let second = last_cond_seat(&shared.second, &mut second_seats)?;
+        let part = Part {
+            seat,
+            first,
+            second,
+            made: 0,
+            woken: 0,
+        };
+        let Ok(()) = parts.push(part) else {
+            return None;
+        };
+    }
+    Some(parts)
+}

@@ -1,0 +1,228 @@
+//! `buffer`: two threads put the numbers 1, 2, 3 and on into a bounded buffer, the first the odd ones and the second the even
+//! ones, and two take them out. A monitor with two conditions guards the buffer: whoever finds it full, or empty, waits on one
+//! of them. Each tenth of a run has a monitor of its own, with room for all that its threads may write into the journal.
+ghost use Rattle.std.specs.Prelude.{◌≡◌, ◌+◌, ◌*◌, ◌≤◌, All, IfOk};
+ghost use Rattle.lfm_monitor.specs.Belongs.{OfMonitor};
+
+use crate::buffer::{Buffer, BufferOp, BufferReply};
+use crate::plan::Plan;
+use crate::progress::{TENTHS, Tenth};
+use crate::sums::Sums;
+use lfm_model::{Refusal, replay};
+use lfm_monitor::{Monitor, Pass};
+use std::alloc::{AllocError, Global};
+use std::io;
+use std::sync::Wait;
+use std::sync::atomic::{AtomicU64, Ordering};
+use std::thread::{Threads, map_vec};
+
+/// Two threads put in, and two take out.
+const MOVERS: u64 = 4;
+
+/// The conditions of the monitor: on the first one waits who found the buffer empty, on the second who found it full.
+const NOT_EMPTY: u64 = 1;
+
+const NOT_FULL: u64 = 2;
+
+/// The items of a tenth, and what those who take them out have got of them.
+#[derive(Drop)]
+pub struct Delivery {
+    tenth: Tenth,
+    /// How many items were got.
+    got: AtomicU64,
+    /// Their sum.
+    sum: AtomicU64,
+}
+
+/// Sends the items of this plan through the buffer, and says after each tenth how far it is. It takes memory, starts threads
+/// and joins them all. An error where a line is not written, or no memory is found.
+pub fn run<R: Threads + Wait + Sync + AllocGlobal + Print>(rt: &R, plan: Plan) -> io::Result<Sums> {
+    let mut made = 0u64;
+    let mut number = 0u64;
+    for done in 0..TENTHS {
+        let tenth = Tenth::of(plan, done);
+        let sums = move_tenth(rt, rt.alloc(), tenth)?;
+        made = made.wrapping_add(sums.made);
+        number = number.wrapping_add(sums.number);
+        tenth.print(rt, plan)?;
+    }
+    Ok(Sums {
+        made,
+        woken: 0,
+        number,
+    })
+}
+
+/// Sends the items of a tenth through the buffer. An item counts where a thread got it, and the journal has it in its turn.
+fn move_tenth<R: Threads + Wait + Sync>(
+    rt: &R,
+    alloc: Global,
+    tenth: Tenth,
+) -> Result<Sums, AllocError> {
+    let delivery = Delivery {
+        tenth,
+        got: AtomicU64::new(0),
+        sum: AtomicU64::new(0),
+    };
+    let made = moved(rt, alloc, &delivery)?;
+    Ok(Sums {
+        made: made.min(delivery.got.load(Ordering::SeqCst)),
+        woken: 0,
+        number: delivery.sum.load(Ordering::SeqCst),
+    })
+}
+
+/// How many entries of the journal each thread may write in a tenth. An item costs it two, a take and an op, and so does each
+/// wait. A wait ends by a wake, and each condition has one wake for each item. So a thread with half of the items writes at
+/// most three entries for each item of the tenth, even where it gets all the wakes of its condition.
+fn entries_of(tenth: Tenth) -> u64 {
+    tenth
+        .to
+        .saturating_sub(tenth.from)
+        .saturating_mul(3)
+        .saturating_add(8)
+}
+
+/// Sends the items of a tenth through the buffer. Returns how many of them the journal has in turn.
+fn moved<R: Threads + Wait + Sync>(
+    rt: &R,
+    alloc: Global,
+    delivery: &Delivery,
+) -> Result<u64, AllocError> {
+    let entries = entries_of(delivery.tenth);
+    let Ok((monitor, passes)) = Monitor::new(alloc, MOVERS, entries, 2, Buffer::new()) else {
+        return Err(AllocError);
+    };
+    let passes = move_all(rt, &monitor, delivery, passes)?;
+    let Ok((_, journal)) = monitor.close(passes) else {
+        return Ok(0);
+    };
+    let (_, replies) = replay(alloc, Buffer::new(), &journal)?;
+    Ok(in_turn(delivery.tenth, &replies))
+}
+
+/// Every pass works in a thread of its own.
+fn move_all<R: Threads + Wait + Sync>(
+    rt: &R,
+    monitor: &Monitor<Buffer>,
+    delivery: &Delivery,
+    passes: Vec<Pass<Buffer>>,
+) -> Result<Vec<Pass<Buffer>>, AllocError>
+    requires { All (λ p. OfMonitor p monitor.now) passes.items }
+    ensures { IfOk result (λ v. All (λ p. OfMonitor p monitor.now) v.items) }
+{
+    let passes = map_vec(
+        rt,
+        passes,
+        &|pass: Pass<Buffer>| -> Pass<Buffer>
+            requires { OfMonitor pass monitor.now }
+            ensures { OfMonitor result monitor.entry.now }
+        { work(rt, monitor, delivery, pass) },
+    )?;
+    Ok(passes)
+}
+
+/// What a thread does with its pass, which it hands back: passes 1 and 2 put items in, and the others take them out.
+fn work<R: Wait>(
+    rt: &R,
+    monitor: &Monitor<Buffer>,
+    delivery: &Delivery,
+    mut pass: Pass<Buffer>,
+) -> Pass<Buffer>
+    requires { OfMonitor pass monitor.now }
+    ensures { OfMonitor result monitor.now }
+{
+    let number = pass.number().get();
+    'turns: for turn in delivery.tenth.from..delivery.tenth.to {
+        if turn % 2 == number % 2 {
+            continue;
+        }
+        let moved = if number <= 2 {
+            put(rt, monitor, &mut pass, turn.wrapping_add(1))
+        } else {
+            take(rt, monitor, delivery, &mut pass)
+        };
+        if moved.is_err() {
+            break;
+        }
+    }
+    pass
+}
+
+/// Puts an item into the buffer, as soon as there is room, and wakes one that waits to take it.
+fn put<R: Wait>(
+    rt: &R,
+    monitor: &Monitor<Buffer>,
+    pass: &mut Pass<Buffer>,
+    item: u64,
+) -> Result<(), Refusal>
+    requires { OfMonitor pass.old monitor.now }
+    ensures { OfMonitor pass.new monitor.now }
+{
+    monitor.enter(rt, pass)?;
+    make(rt, monitor, pass, BufferOp::Put(item), NOT_FULL)?;
+    monitor.wake_one(rt, pass, NOT_EMPTY)?;
+    monitor.leave(pass)?;
+    Ok(())
+}
+
+/// Takes an item out of the buffer, as soon as one is there, wakes one that waits to put another in, and counts the item.
+fn take<R: Wait>(
+    rt: &R,
+    monitor: &Monitor<Buffer>,
+    delivery: &Delivery,
+    pass: &mut Pass<Buffer>,
+) -> Result<(), Refusal>
+    requires { OfMonitor pass.old monitor.now }
+    ensures { OfMonitor pass.new monitor.now }
+{
+    monitor.enter(rt, pass)?;
+    let item = make(rt, monitor, pass, BufferOp::Take, NOT_EMPTY)?;
+    monitor.wake_one(rt, pass, NOT_FULL)?;
+    monitor.leave(pass)?;
+    delivery.got.fetch_add(1, Ordering::SeqCst);
+    delivery.sum.fetch_add(item, Ordering::SeqCst);
+    Ok(())
+}
+
+/// Makes this op of the buffer, which the pass holds, until it isn't in vain. Before each further try it waits on the
+/// condition. Returns the item that was taken out, and 0 where one was put in.
+fn make<R: Wait>(
+    rt: &R,
+    monitor: &Monitor<Buffer>,
+    pass: &mut Pass<Buffer>,
+    op: BufferOp,
+    condition: u64,
+) -> Result<u64, Refusal>
+    requires { OfMonitor pass.old monitor.now }
+    ensures { OfMonitor pass.new monitor.now }
+{
+    'tries: for _ in rt.forever() {
+        match monitor.apply(pass, op)? {
+            BufferReply::Stored => return Ok(0),
+            BufferReply::Taken(item) => return Ok(item),
+            BufferReply::Full | BufferReply::Empty => {}
+        }
+        monitor.wait(rt, pass, condition)?;
+    }
+    unreachable!()
+}
+
+/// How many items of a tenth the replies have, each in the order in which its thread put them in, and so no item twice. None
+/// counts that comes out of turn, nor any that comes after it from the same thread.
+fn in_turn(tenth: Tenth, replies: &[BufferReply]) -> u64 {
+    let mut due = (tenth.from.wrapping_add(1), tenth.from.wrapping_add(2));
+    let mut count = 0u64;
+    for reply in replies {
+        if let BufferReply::Taken(item) = reply {
+            if *item == due.0 {
+                due.0 = due.0.wrapping_add(2);
+                count = count.wrapping_add(1);
+            } else if *item == due.1 {
+                due.1 = due.1.wrapping_add(2);
+                count = count.wrapping_add(1);
+            }
+        }
+    }
+    count
+}

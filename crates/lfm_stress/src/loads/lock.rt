@@ -1,0 +1,20 @@
+//! `lock`: in a turn a thread waits for the mutex, adds 1 to the number under it, and gives the mutex on.
+ghost use Rattle.lfm_stress.specs.Parts.{OfShared};
+
+use crate::parts::{Part, Shared};
+use crate::progress::Tenth;
+use std::sync::Wait;
+
+/// The turns of one thread in this tenth of a run.
+pub fn take_turns<R: Wait>(rt: &R, shared: &Shared, tenth: Tenth, mut part: Part) -> Part
+    requires { OfShared part shared.now }
+    ensures { OfShared result shared.now }
+{
+    'turns: for _ in tenth.from..tenth.to {
+        if shared.lock(rt, &mut part) {
+            shared.add_one(&mut part);
+            shared.unlock(&mut part);
+        }
+    }
+    part
+}

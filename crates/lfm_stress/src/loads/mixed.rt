@@ -1,0 +1,33 @@
+//! `mixed`: in every other turn a thread tries to gain the mutex, and in the turns between it waits for it. Where it gained the
+//! mutex, it adds 1 to the number under it, and gives the mutex on.
+ghost use Rattle.lfm_stress.specs.Parts.{OfShared};
+
+use crate::parts::{Part, Shared};
+use crate::progress::Tenth;
+use std::sync::Wait;
+
+/// Tries to gain the mutex in turns 0, 2, 4 and on, and waits for it in the others. Returns whether it was gained.
+fn gain<R: Wait>(rt: &R, shared: &Shared, part: &mut Part, turn: u64) -> bool
+    requires { OfShared part.old shared.now }
+    ensures { OfShared part.new shared.now }
+{
+    if turn % 2 == 0 {
+        shared.try_lock(part)
+    } else {
+        shared.lock(rt, part)
+    }
+}
+
+/// The turns of one thread in this tenth of a run.
+pub fn take_turns<R: Wait>(rt: &R, shared: &Shared, tenth: Tenth, mut part: Part) -> Part
+    requires { OfShared part shared.now }
+    ensures { OfShared result shared.now }
+{
+    'turns: for turn in tenth.from..tenth.to {
+        if gain(rt, shared, &mut part, turn) {
+            shared.add_one(&mut part);
+            shared.unlock(&mut part);
+        }
+    }
+    part
+}

@@ -1,0 +1,46 @@
+//! A run goes on by tenths of its turns. After each of them all threads have ended, and a line says how far the run is.
+ghost use Rattle.std.specs.Prelude.{◌≡◌, ◌≤◌, ◌+◌, ◌*◌, ◌/◌};
+ghost use Rattle.lfm_stress.specs.Tenths.{until};
+
+use crate::plan::Plan;
+use std::io;
+
+/// How many parts of a run there are.
+pub const TENTHS: u64 = 10;
+
+/// The turns of a tenth: the first of them, and the one after the last. Turns count from 0.
+#[derive(Clone, Copy)]
+pub struct Tenth {
+    pub from: u64,
+    pub to: u64,
+}
+
+/// How many turns of so many are made after so many tenths.
+fn until(turns: u64, tenths: u64) -> u64
+    requires turns { turns ≤ 1000000000 }
+    requires tenths { tenths ≤ 10 }
+    ensures { result ≡ until turns tenths }
+{
+    turns * tenths / TENTHS
+}
+
+impl Tenth {
+    /// The turns of the tenth that comes after so many of them.
+    pub fn of(plan: Plan, done: u64) -> Tenth
+        requires { done + 1 ≤ 10 }
+        ensures { (result.from ≡ until plan.turns done) × (result.to ≡ until plan.turns (done + 1)) }
+    {
+        let turns = plan.turns();
+        Tenth {
+            from: until(turns, done),
+            to: until(turns, done + 1),
+        }
+    }
+
+    /// Says that this tenth is made.
+    pub fn print<R: Print>(self, rt: &R, plan: Plan) -> io::Result<()> {
+        let (name, threads, turns) = (plan.load().name(), plan.threads(), plan.turns());
+        let made = self.to;
+        println!(rt; "{name}, {threads} threads: {made} of {turns} turns")
+    }
+}

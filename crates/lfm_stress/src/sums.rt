@@ -1,0 +1,93 @@
+//! What a run leaves, and whether nothing was lost.
+ghost use Rattle.std.specs.Prelude.{◌≡◌, ◌≤◌};
+ghost use Rattle.lfm_stress.specs.Totals.{additions_of, misses_of, woken_of, number_of, is_exact};
+
+use crate::plan::{Load, Plan};
+use std::io;
+
+/// What a run leaves.
+#[derive(Clone, Copy, Debug, PartialEq, Eq)]
+pub struct Sums {
+    /// How many additions all threads counted, or how many items they took out of the buffer.
+    pub made: u64,
+    /// How many threads were woken in broadcasts.
+    pub woken: u64,
+    /// The number under the mutex, or the sum of the items that were taken out.
+    pub number: u64,
+}
+
+/// How many additions the threads of a run make at most, or how many items go through the buffer.
+fn additions_of(plan: Plan) -> u64
+    ensures { result ≡ additions_of plan.load plan.threads plan.turns }
+{
+    let (threads, turns) = (plan.threads(), plan.turns());
+    match plan.load() {
+        Load::Lock | Load::Mixed | Load::PingPong => threads * turns,
+        Load::Broadcast => (threads * 2 + 1) * turns,
+        Load::Buffer => turns,
+    }
+}
+
+/// How many of them may be left out.
+fn misses_of(plan: Plan) -> u64
+    ensures { result ≡ misses_of plan.load plan.threads plan.turns }
+{
+    match plan.load() {
+        Load::Mixed => plan.threads() * ((plan.turns() + 1) / 2),
+        Load::Lock | Load::PingPong | Load::Broadcast | Load::Buffer => 0,
+    }
+}
+
+/// How many threads are woken in the broadcasts of a run.
+fn woken_of(plan: Plan) -> u64
+    ensures { result ≡ woken_of plan.load plan.threads plan.turns }
+{
+    match plan.load() {
+        Load::Broadcast => plan.threads() * plan.turns(),
+        Load::Lock | Load::Mixed | Load::PingPong | Load::Buffer => 0,
+    }
+}
+
+/// The number after so many additions, and the sum of so many items, which are 1, 2, 3 and on.
+fn number_of(plan: Plan, made: u64) -> u64
+    requires { made ≤ additions_of plan.load plan.threads plan.turns }
+    ensures { result ≡ number_of plan.load made }
+{
+    let _turns = plan.turns();
+    match plan.load() {
+        Load::Lock | Load::Mixed | Load::PingPong | Load::Broadcast => made,
+        Load::Buffer => made * (made + 1) / 2,
+    }
+}
+
+impl Sums {
+    /// Whether nothing was lost in a run of this plan: no addition and no item is missing, but for additions of tries that met
+    /// another's hold, each broadcast woke each thread that waited, and the number is what the additions make.
+    pub fn is_exact(self, plan: Plan) -> bool
+        ensures { result ≡ is_exact plan.load plan.threads plan.turns self }
+    {
+        let additions = additions_of(plan);
+        self.made <= additions
+            && additions <= self.made + misses_of(plan)
+            && self.woken == woken_of(plan)
+            && self.number == number_of(plan, self.made)
+    }
+
+    /// Says what a run of this plan left, and whether nothing was lost.
+    pub fn print<R: Print>(self, rt: &R, plan: Plan) -> io::Result<()> {
+        let (name, threads) = (plan.load().name(), plan.threads());
+        let Sums {
+            made,
+            woken,
+            number,
+        } = self;
+        let verdict = if self.is_exact(plan) {
+            "exact"
+        } else {
+            "NOT EXACT"
+        };
+        println!(rt;
+            "{name}, {threads} threads: {made} made, {woken} woken, total {number}: {verdict}"
+        )
+    }
+}

@@ -12,7 +12,7 @@ mod limits;
 #[cfg(test)]
 mod many_waiters;
 #[cfg(test)]
-mod pairs;
+pub mod pairs;
 #[cfg(test)]
 mod past_the_condvar;
 pub mod places;
@@ -20,6 +20,8 @@ pub mod places;
 mod refusals;
 #[cfg(test)]
 mod refused_calls;
+#[cfg(test)]
+mod refused_steps;
 #[cfg(test)]
 mod shared_calls;
 #[cfg(test)]

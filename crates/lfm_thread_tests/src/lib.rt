@@ -2,12 +2,16 @@
 //! monitor, and runs of workers. Only they stand here, and what they are made of.
 #![tactic(auto)]
 
+#[cfg(test)]
+mod adding;
 pub mod condvar;
 pub mod monitor;
 #[cfg(test)]
 mod mutex;
 #[cfg(test)]
 mod out_of_memory;
+#[cfg(test)]
+mod refused_memory;
 #[cfg(test)]
 mod seeing;
 #[cfg(test)]

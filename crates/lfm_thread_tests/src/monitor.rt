@@ -2,8 +2,6 @@
 //! refusals and limits.
 
 #[cfg(test)]
-mod calls;
-#[cfg(test)]
 mod conditions;
 #[cfg(test)]
 pub mod counted;
@@ -12,7 +10,9 @@ mod limits;
 #[cfg(test)]
 mod monitors;
 #[cfg(test)]
-mod passes;
+pub mod passes;
 #[cfg(test)]
 mod producers;
 pub mod slot;
+#[cfg(test)]
+mod steps;

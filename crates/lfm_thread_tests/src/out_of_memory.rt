@@ -1,6 +1,8 @@
-//! Memory that runs out while a condvar or a monitor is made, and in the run of a script, also where a worker is started. A
-//! test whose name contains `memory` passes also where a request was refused, and sees then that nothing was written.
+//! Memory that runs out while a condvar or a monitor is made, and in the run of a script, also where a worker is started. Each
+//! test whose name contains `memory` passes also where a request was refused: it sees then that nothing was written, and says
+//! that memory was refused. A script lets each single request of these tests fail in turn.
 use crate::monitor::counted::Counted;
+use crate::refused_memory::sees_memory;
 use crate::seeing::sees;
 use crate::work::scripts::{WAITED, WAITING, answered};
 use lfm_condvar::Condvar;
@@ -12,8 +14,8 @@ use std::sync::atomic::{AtomicU64, Ordering};
 #[test]
 fn condvar_and_memory(rt: HostRuntime) {
     match Condvar::new(rt.alloc(), 2, 1) {
-        Ok((_, cond_seats)) => assert_eq!(rt; cond_seats.len(), 2),
-        Err(fault) => assert_eq!(rt; fault, NewFault::Memory),
+        Ok((_, cond_seats)) => sees(&rt, "the cond seats", &cond_seats.len(), &2),
+        Err(fault) => sees_memory(&rt, &fault, &NewFault::Memory),
     }
 }
 
@@ -26,7 +28,7 @@ fn monitor_and_memory(rt: HostRuntime) {
             sees(&rt, "no drop", &drops.load(Ordering::SeqCst), &0);
         }
         Err(fault) => {
-            sees(&rt, "the fault", &fault, &NewFault::Memory);
+            sees_memory(&rt, &fault, &NewFault::Memory);
             sees(&rt, "one drop", &drops.load(Ordering::SeqCst), &1);
         }
     }
@@ -35,8 +37,8 @@ fn monitor_and_memory(rt: HostRuntime) {
 #[test]
 fn monitor_with_two_conditions_and_memory(rt: HostRuntime) {
     match Monitor::new(rt.alloc(), 3, 1, 2, Total(0)) {
-        Ok((_, passes)) => assert_eq!(rt; passes.len(), 3),
-        Err(fault) => assert_eq!(rt; fault, NewFault::Memory),
+        Ok((_, passes)) => sees(&rt, "the passes", &passes.len(), &3),
+        Err(fault) => sees_memory(&rt, &fault, &NewFault::Memory),
     }
 }
 
@@ -46,11 +48,15 @@ fn work_and_memory(rt: HostRuntime) {
     let mut writer = written.as_mut_slice();
     let mut reader = WAITING.as_slice();
     let outcome = answered(&rt, &mut reader, &mut writer, &OpenGate);
-    let left = writer.len();
-    let is_whole = outcome == Ok(true) && left == 64 - WAITED.len();
-    let is_refused = outcome == Err(WorkFault::Memory) && left == 64;
-    assert!(rt;
-        is_whole || is_refused,
-        "{outcome:?}, and {left} bytes of 64 left"
-    );
+    let room = writer.len();
+    match outcome {
+        Ok(none_refused) => {
+            sees(&rt, "no worker was refused", &none_refused, &true);
+            sees(&rt, "the room", &room, &(64 - WAITED.len()));
+        }
+        Err(fault) => {
+            sees_memory(&rt, &fault, &WorkFault::Memory);
+            sees(&rt, "the room", &room, &64);
+        }
+    }
 }

@@ -81,3 +81,20 @@ pub fn begin_wait<R: Wait>(
 {
     condvar.begin_wait(rt, cond, mutex, seat)
 }
+
+/// `wake_all`.
+pub fn wake_all<R: Wait>(
+    rt: &R,
+    condvar: &Condvar,
+    cond: &mut CondSeat,
+    mutex: &Mutex<u64>,
+    seat: &mut Seat<u64>,
+) -> Result<u64, Refusal>
+    requires seat { OfMutex seat.old mutex.now }
+    requires cond { OfCondvar cond.old condvar.now }
+    requires wide { (cond_limits condvar.now).seats ≤ (limits_of mutex.now).seats }
+    ensures seat { OfMutex seat.new mutex.now }
+    ensures cond { OfCondvar cond.new condvar.now }
+{
+    condvar.wake_all(rt, cond, mutex, seat)
+}

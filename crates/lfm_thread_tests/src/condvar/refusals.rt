@@ -4,10 +4,8 @@ ghost use Rattle.std.specs.Prelude.{◌≡◌, ◌≤◌, []};
 ghost use Rattle.lfm_mutex.specs.Belongs.{OfMutex, limits_of};
 ghost use Rattle.lfm_condvar.specs.Belongs.{OfCondvar, cond_limits};
 
-use crate::condvar::calls::{ask, receive, unlock, wake_one};
 use crate::condvar::pairs::{condvar_of_one, mutex_of_two};
-use crate::condvar::refused_calls::{wait, waits, wake, wakes};
-use crate::seeing::sees;
+use crate::condvar::refused_steps::{By, On, Step, make_all};
 use lfm_condvar::{CondSeat, Condvar};
 use lfm_model::{Asked, How, Refusal, SeatNo, Unlocked};
 use lfm_mutex::{Mutex, Seat};
@@ -24,185 +22,59 @@ fn closed(condvar: Condvar, cond: CondSeat, mut room: Vec<CondSeat>) -> Option<(
     condvar.close(room).ok()
 }
 
-/// The cond seat gives its one take for a wake of nobody, and then has none left.
-fn wakes_of_a_spent_cond_seat_are_refused<R: Wait + Abort>(
-    rt: &R,
-    spent: &Condvar,
-    cond: &mut CondSeat,
-    mutex: &Mutex<u64>,
-    seat: &mut Seat<u64>,
-)
-    requires seat { OfMutex seat.old mutex.now }
-    requires cond { OfCondvar cond.old spent.now }
-    requires wide { (cond_limits spent.now).seats ≤ (limits_of mutex.now).seats }
-    ensures seat { OfMutex seat.new mutex.now }
-    ensures cond { OfCondvar cond.new spent.now }
-{
-    sees(
-        rt,
-        "wake_one",
-        &wake_one(rt, spent, cond, mutex, seat),
-        &Ok(None),
-    );
-    sees(
-        rt,
-        "wakes",
-        &wake(rt, spent, cond, mutex, seat),
-        &Some(Refusal::Spent),
-    );
+/// The spent cond seat gives its one take for a wake of nobody, and then has none left. The first seat doesn't hold, and
+/// then holds; the second falls asleep. Its calls are refused for that, whatever cond seat they have.
+fn while_the_second_sleeps() -> [(By, Step); 10] {
+    [
+        (By::First, Step::WakeNobody),
+        (By::First, Step::Wake(On::Spent, Refusal::Spent)),
+        // it doesn't hold, and so would find the cond seat spent
+        (By::First, Step::Wait(On::Able, Refusal::NotOwner)),
+        (By::First, Step::Wait(On::Spent, Refusal::NotOwner)),
+        (By::First, Step::Ask(Ok(Asked::Held(How::Free)))),
+        (By::Second, Step::Ask(Ok(Asked::Asleep))),
+        (By::Second, Step::Wait(On::Able, Refusal::Asleep)),
+        (By::Second, Step::Wait(On::Spent, Refusal::Asleep)),
+        (By::Second, Step::Wake(On::Able, Refusal::Asleep)),
+        (By::Second, Step::Wake(On::Spent, Refusal::Asleep)),
+    ]
 }
 
-/// The first seat holds and the second falls asleep, whose calls are refused for that, whatever cond seat they have.
-fn calls_of_a_sleeping_seat_are_refused<R: Wait + Abort>(
-    rt: &R,
-    able: &Condvar,
-    x: &mut CondSeat,
-    spent: &Condvar,
-    z: &mut CondSeat,
-    mutex: &Mutex<u64>,
-    first: &mut Seat<u64>,
-    second: &mut Seat<u64>,
-)
-    requires first { OfMutex first.old mutex.now }
-    requires second { OfMutex second.old mutex.now }
-    requires x { OfCondvar x.old able.now }
-    requires z { OfCondvar z.old spent.now }
-    requires wide_able { (cond_limits able.now).seats ≤ (limits_of mutex.now).seats }
-    requires wide_spent { (cond_limits spent.now).seats ≤ (limits_of mutex.now).seats }
-    ensures first { OfMutex first.new mutex.now }
-    ensures second { OfMutex second.new mutex.now }
-    ensures x { OfCondvar x.new able.now }
-    ensures z { OfCondvar z.new spent.now }
-{
-    sees(
-        rt,
-        "ask by the first",
-        &ask(mutex, first),
-        &Ok(Asked::Held(How::Free)),
-    );
-    sees(
-        rt,
-        "ask by the second",
-        &ask(mutex, second),
-        &Ok(Asked::Asleep),
-    );
-    let asleep = (Some(Refusal::Asleep), Some(Refusal::Asleep));
-    sees(
-        rt,
-        "wait by the second",
-        &waits(rt, able, x, spent, z, mutex, second),
-        &asleep,
-    );
-    sees(
-        rt,
-        "wakes by the second",
-        &wakes(rt, able, x, spent, z, mutex, second),
-        &asleep,
-    );
+/// The first seat holds once and then twice, and gives both holds up to the second, whose number is above the condvars'
+/// seats.
+fn once_both_are_awake() -> [(By, Step); 10] {
+    [
+        (By::First, Step::Wait(On::Spent, Refusal::Spent)),
+        (By::First, Step::Ask(Ok(Asked::Again(2)))),
+        (By::First, Step::Wait(On::Able, Refusal::Nested)),
+        (By::First, Step::Wait(On::Spent, Refusal::Nested)),
+        (By::First, Step::Unlock(Ok(Unlocked::Still(1)))),
+        (
+            By::First,
+            Step::Unlock(Ok(Unlocked::Granted(SeatNo::known(2)))),
+        ),
+        (By::Second, Step::Receive(Ok(Some(How::Queued(1))))),
+        (By::Second, Step::Wait(On::Able, Refusal::NoSuchSeat)),
+        (By::Second, Step::Wait(On::Spent, Refusal::Spent)),
+        (By::Second, Step::Unlock(Ok(Unlocked::Free))),
+    ]
 }
 
-/// The seat holds once and then twice. It gives both holds up to the second seat.
-fn nested_waits_are_refused<R: Wait + Abort>(
-    rt: &R,
-    able: &Condvar,
-    x: &mut CondSeat,
-    spent: &Condvar,
-    z: &mut CondSeat,
-    mutex: &Mutex<u64>,
-    seat: &mut Seat<u64>,
-)
-    requires seat { OfMutex seat.old mutex.now }
-    requires x { OfCondvar x.old able.now }
-    requires z { OfCondvar z.old spent.now }
-    ensures seat { OfMutex seat.new mutex.now }
-    ensures x { OfCondvar x.new able.now }
-    ensures z { OfCondvar z.new spent.now }
-{
-    sees(
-        rt,
-        "wait",
-        &wait(rt, spent, z, mutex, seat),
-        &Some(Refusal::Spent),
-    );
-    sees(rt, "ask", &ask(mutex, seat), &Ok(Asked::Again(2)));
-    let nested = (Some(Refusal::Nested), Some(Refusal::Nested));
-    sees(
-        rt,
-        "wait",
-        &waits(rt, able, x, spent, z, mutex, seat),
-        &nested,
-    );
-    sees(rt, "unlock", &unlock(mutex, seat), &Ok(Unlocked::Still(1)));
-    sees(
-        rt,
-        "unlock",
-        &unlock(mutex, seat),
-        &Ok(Unlocked::Granted(SeatNo::known(2))),
-    );
-}
-
-/// The second seat holds, whose number is above the condvars' seats.
-fn waits_above_the_seats_of_a_condvar_are_refused<R: Wait + Abort>(
-    rt: &R,
-    able: &Condvar,
-    x: &mut CondSeat,
-    spent: &Condvar,
-    z: &mut CondSeat,
-    mutex: &Mutex<u64>,
-    second: &mut Seat<u64>,
-)
-    requires second { OfMutex second.old mutex.now }
-    requires x { OfCondvar x.old able.now }
-    requires z { OfCondvar z.old spent.now }
-    ensures second { OfMutex second.new mutex.now }
-    ensures x { OfCondvar x.new able.now }
-    ensures z { OfCondvar z.new spent.now }
-{
-    sees(
-        rt,
-        "try_receive by the second",
-        &receive(mutex, second),
-        &Ok(Some(How::Queued(1))),
-    );
-    sees(
-        rt,
-        "wait by the second",
-        &waits(rt, able, x, spent, z, mutex, second),
-        &(Some(Refusal::NoSuchSeat), Some(Refusal::Spent)),
-    );
-    sees(
-        rt,
-        "unlock by the second",
-        &unlock(mutex, second),
-        &Ok(Unlocked::Free),
-    );
-}
-
-/// The seat makes its last take, and could not make the one that ends a wait.
-fn waits_at_the_last_take_are_refused<R: Wait + Abort>(
-    rt: &R,
-    able: &Condvar,
-    x: &mut CondSeat,
-    mutex: &Mutex<u64>,
-    seat: &mut Seat<u64>,
-)
-    requires seat { OfMutex seat.old mutex.now }
-    requires x { OfCondvar x.old able.now }
-    ensures seat { OfMutex seat.new mutex.now }
-    ensures x { OfCondvar x.new able.now }
-{
-    sees(rt, "ask", &ask(mutex, seat), &Ok(Asked::Held(How::Free)));
-    sees(
-        rt,
-        "wait",
-        &wait(rt, able, x, mutex, seat),
-        &Some(Refusal::Spent),
-    );
-    sees(rt, "unlock", &unlock(mutex, seat), &Ok(Unlocked::Free));
+/// Each seat makes its last take, and could not make the one that ends a wait.
+fn at_the_last_takes() -> [(By, Step); 7] {
+    [
+        (By::First, Step::Ask(Ok(Asked::Held(How::Free)))),
+        (By::First, Step::Wait(On::Able, Refusal::Spent)),
+        (By::First, Step::Unlock(Ok(Unlocked::Free))),
+        (By::First, Step::Wait(On::Able, Refusal::NotOwner)),
+        (By::Second, Step::Ask(Ok(Asked::Held(How::Free)))),
+        (By::Second, Step::Wait(On::Able, Refusal::Spent)),
+        (By::Second, Step::Unlock(Ok(Unlocked::Free))),
+    ]
 }
 
 /// The refusals in the order of their causes.
-fn refusals_step_by_step<R: Wait + Abort>(
+fn are_refused_in_order<R: Wait + Abort>(
     rt: &R,
     able: &Condvar,
     x: &mut CondSeat,
@@ -223,26 +95,12 @@ fn refusals_step_by_step<R: Wait + Abort>(
     ensures x { OfCondvar x.new able.now }
     ensures z { OfCondvar z.new spent.now }
 {
-    wakes_of_a_spent_cond_seat_are_refused(rt, spent, z, mutex, first);
-    // it doesn't hold, and so would find the cond seat spent
-    let not_owner = Some(Refusal::NotOwner);
-    sees(
-        rt,
-        "wait by the first",
-        &waits(rt, able, x, spent, z, mutex, first),
-        &(not_owner, not_owner),
-    );
-    calls_of_a_sleeping_seat_are_refused(rt, able, x, spent, z, mutex, first, second);
-    nested_waits_are_refused(rt, able, x, spent, z, mutex, first);
-    waits_above_the_seats_of_a_condvar_are_refused(rt, able, x, spent, z, mutex, second);
-    waits_at_the_last_take_are_refused(rt, able, x, mutex, first);
-    sees(
-        rt,
-        "wait by the first",
-        &wait(rt, able, x, mutex, first),
-        &not_owner,
-    );
-    waits_at_the_last_take_are_refused(rt, able, x, mutex, second);
+    let steps = while_the_second_sleeps();
+    make_all(rt, able, x, spent, z, mutex, first, second, &steps);
+    let steps = once_both_are_awake();
+    make_all(rt, able, x, spent, z, mutex, first, second, &steps);
+    let steps = at_the_last_takes();
+    make_all(rt, able, x, spent, z, mutex, first, second, &steps);
 }
 
 #[test]
@@ -252,7 +110,7 @@ fn refusals_in_order(rt: HostRuntime) -> Result<(), Fail> {
     let (mutex, mut first, mut second) = mutex_of_two(rt.alloc(), 2, 7u64).ok_or("a mutex")?;
     let (able, mut x) = condvar_of_one(rt.alloc()).ok_or("a condvar")?;
     let (spent, mut z) = condvar_of_one(rt.alloc()).ok_or("a condvar")?;
-    refusals_step_by_step(
+    are_refused_in_order(
         &rt,
         &able,
         &mut x,

@@ -1,11 +1,9 @@
 //! Calls on a mutex with two condvars, with no more of their contracts than the tests need: a place stays one of the mutex and
 //! its condvars. No test stands here.
-ghost use Rattle.lfm_mutex.specs.Belongs.{Beside};
 ghost use Rattle.lfm_thread_tests.specs.Places.{OfShared};
 
 use crate::condvar::places::{Place, Shared};
 use lfm_model::{How, Refusal, SeatNo};
-use lfm_mutex::Seat;
 use std::sync::Wait;
 
 /// One of the two condvars.
@@ -116,15 +114,4 @@ impl Place {
     pub fn number(&self) -> u64 {
         self.seat.value().copied().unwrap_or(0)
     }
-}
-
-/// Adds 1 to the number in hand, and returns it. 0 where the seat doesn't hold.
-pub fn add_one(seat: &mut Seat<u64>) -> u64
-    ensures { Beside seat.old seat.new }
-{
-    let Some(number) = seat.value_mut() else {
-        return 0;
-    };
-    *number = number.wrapping_add(1);
-    *number
 }

@@ -3,9 +3,10 @@
 ghost use Rattle.std.specs.Prelude.{All, IfOk};
 ghost use Rattle.lfm_thread_tests.specs.Places.{OfShared};
 
+use crate::adding::add_one;
 use crate::condvar::dealing::{Left, shared_by};
 use crate::condvar::places::{Place, Shared};
-use crate::condvar::shared_calls::{Side, add_one};
+use crate::condvar::shared_calls::Side;
 use crate::seeing::sees;
 use std::alloc::AllocError;
 use std::process::Abort;

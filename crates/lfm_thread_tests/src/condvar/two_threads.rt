@@ -1,12 +1,14 @@
 //! One thread waits, and another wakes it.
 ghost use Rattle.std.specs.Prelude.{◌≤◌};
-ghost use Rattle.lfm_mutex.specs.Belongs.{Beside, OfMutex, limits_of};
+ghost use Rattle.lfm_mutex.specs.Belongs.{OfMutex, limits_of};
 ghost use Rattle.lfm_condvar.specs.Belongs.{OfCondvar, cond_limits};
 
+use crate::adding::add_one;
+use crate::condvar::calls::{unlock, wait, wake_all, wake_one};
 use crate::condvar::pairs::{closed, condvar_of_two, mutex_of_two};
 use crate::seeing::{holds, sees};
 use lfm_condvar::{CondSeat, Condvar};
-use lfm_model::{How, Refusal, SeatNo};
+use lfm_model::{Refusal, SeatNo};
 use lfm_mutex::{Mutex, Seat};
 use std::process::Abort;
 use std::sync::Wait;
@@ -19,7 +21,7 @@ const MOST_READS: u64 = 1_000_000_000;
 /// A thread's seats, and what it saw.
 #[derive(Drop)]
 struct Waited {
-    seat: Seat<bool>,
+    seat: Seat<u64>,
     cond: CondSeat,
     ticket: Option<u64>,
     depth: u32,
@@ -27,90 +29,42 @@ struct Waited {
 
 #[derive(Drop)]
 struct Woke {
-    seat: Seat<bool>,
+    seat: Seat<u64>,
     cond: CondSeat,
     first: Option<(SeatNo, u64)>,
     none: bool,
     spent: bool,
 }
 
-/// Sets the value that the seat has in hand.
-fn set(seat: &mut Seat<bool>)
-    ensures { Beside seat.old seat.new }
-{
-    let Some(x) = seat.value_mut() else {
-        return;
-    };
-    *x = true;
-}
-
-/// Reads the value under the mutex.
-fn read<R: Wait>(rt: &R, mutex: &Mutex<bool>, seat: &mut Seat<bool>) -> bool
+/// Reads the number under the mutex. 0 where the seat came not to hold.
+fn read<R: Wait>(rt: &R, mutex: &Mutex<u64>, seat: &mut Seat<u64>) -> u64
     requires { OfMutex seat.old mutex.now }
     ensures { OfMutex seat.new mutex.now }
 {
     let _ = mutex.lock(rt, seat);
-    let value = seat.value().copied().unwrap_or(false);
-    let _ = mutex.unlock(seat);
-    value
+    let number = seat.value().copied().unwrap_or(0);
+    let _ = unlock(mutex, seat);
+    number
 }
 
-/// `wait`. Of its contract the threads need that the seats stay those of the mutex and the condvar, and no more.
-fn wait<R: Wait>(
-    rt: &R,
-    condvar: &Condvar,
-    cond: &mut CondSeat,
-    mutex: &Mutex<bool>,
-    seat: &mut Seat<bool>,
-) -> Result<(How, u64), Refusal>
-    requires seat { OfMutex seat.old mutex.now }
-    requires cond { OfCondvar cond.old condvar.now }
-    ensures seat { OfMutex seat.new mutex.now }
-    ensures cond { OfCondvar cond.new condvar.now }
+/// Reads until the other thread has added 1.
+fn read_until_added<R: Wait>(rt: &R, mutex: &Mutex<u64>, seat: &mut Seat<u64>)
+    requires { OfMutex seat.old mutex.now }
+    ensures { OfMutex seat.new mutex.now }
 {
-    condvar.wait(rt, cond, mutex, seat)
+    'reads: for _ in 0..MOST_READS {
+        if read(rt, mutex, seat) == 1 {
+            break;
+        }
+    }
 }
 
-/// `wake_one`, with as little of its contract.
-fn wake_one<R: Wait>(
+/// Adds 1 to the number, and waits.
+fn add_and_wait<R: Wait>(
     rt: &R,
+    mutex: &Mutex<u64>,
     condvar: &Condvar,
-    cond: &mut CondSeat,
-    mutex: &Mutex<bool>,
-    seat: &mut Seat<bool>,
-) -> Result<Option<(SeatNo, u64)>, Refusal>
-    requires seat { OfMutex seat.old mutex.now }
-    requires cond { OfCondvar cond.old condvar.now }
-    requires wide { (cond_limits condvar.now).seats ≤ (limits_of mutex.now).seats }
-    ensures seat { OfMutex seat.new mutex.now }
-    ensures cond { OfCondvar cond.new condvar.now }
-{
-    condvar.wake_one(rt, cond, mutex, seat)
-}
-
-/// `wake_all`, with as little of its contract.
-fn wake_all<R: Wait>(
-    rt: &R,
-    condvar: &Condvar,
-    cond: &mut CondSeat,
-    mutex: &Mutex<bool>,
-    seat: &mut Seat<bool>,
-) -> Result<u64, Refusal>
-    requires seat { OfMutex seat.old mutex.now }
-    requires cond { OfCondvar cond.old condvar.now }
-    requires wide { (cond_limits condvar.now).seats ≤ (limits_of mutex.now).seats }
-    ensures seat { OfMutex seat.new mutex.now }
-    ensures cond { OfCondvar cond.new condvar.now }
-{
-    condvar.wake_all(rt, cond, mutex, seat)
-}
-
-/// Sets the value, and waits.
-fn set_and_wait<R: Wait>(
-    rt: &R,
-    mutex: &Mutex<bool>,
-    condvar: &Condvar,
-    mut seat: Seat<bool>,
+    mut seat: Seat<u64>,
     mut cond: CondSeat,
 ) -> Waited
     requires seat { OfMutex seat mutex.now }
@@ -119,13 +73,13 @@ fn set_and_wait<R: Wait>(
     ensures cond { OfCondvar result.cond condvar.now }
 {
     let _ = mutex.lock(rt, &mut seat);
-    set(&mut seat);
+    let _ = add_one(&mut seat);
     let ticket = match wait(rt, condvar, &mut cond, mutex, &mut seat) {
         Ok((_, ticket)) => Some(ticket),
         Err(_) => None,
     };
     let depth = seat.depth();
-    let _ = mutex.unlock(&mut seat);
+    let _ = unlock(mutex, &mut seat);
     Waited {
         seat,
         cond,
@@ -134,12 +88,12 @@ fn set_and_wait<R: Wait>(
     }
 }
 
-/// Reads until the value is set, and wakes three times.
+/// Reads until the other thread has added, and wakes three times.
 fn read_and_wake<R: Wait>(
     rt: &R,
-    mutex: &Mutex<bool>,
+    mutex: &Mutex<u64>,
     condvar: &Condvar,
-    mut seat: Seat<bool>,
+    mut seat: Seat<u64>,
     mut cond: CondSeat,
 ) -> Woke
     requires seat { OfMutex seat mutex.now }
@@ -148,46 +102,39 @@ fn read_and_wake<R: Wait>(
     ensures seat { OfMutex result.seat mutex.now }
     ensures cond { OfCondvar result.cond condvar.now }
 {
-    'reads: for _ in 0..MOST_READS {
-        if read(rt, mutex, &mut seat) {
-            break;
-        }
-    }
-    let first = wake_one(rt, condvar, &mut cond, mutex, &mut seat)
-        .ok()
-        .flatten();
-    let none = matches!(wake_one(rt, condvar, &mut cond, mutex, &mut seat), Ok(None));
-    let spent = matches!(
-        wake_one(rt, condvar, &mut cond, mutex, &mut seat),
-        Err(Refusal::Spent)
-    );
+    read_until_added(rt, mutex, &mut seat);
+    let first = wake_one(rt, condvar, &mut cond, mutex, &mut seat);
+    let second = wake_one(rt, condvar, &mut cond, mutex, &mut seat);
+    let third = wake_one(rt, condvar, &mut cond, mutex, &mut seat);
     Woke {
         seat,
         cond,
-        first,
-        none,
-        spent,
+        first: first.ok().flatten(),
+        none: matches!(second, Ok(None)),
+        spent: matches!(third, Err(Refusal::Spent)),
     }
 }
 
-/// Whether the calls of a thread that is alone answer as they should: nobody waits, and it doesn't hold.
-fn alone<R: Wait>(
+/// The calls of a thread that is alone answer as they should: nobody waits, and it doesn't hold.
+fn alone<R: Wait + Abort>(
     rt: &R,
-    mutex: &Mutex<bool>,
+    mutex: &Mutex<u64>,
     condvar: &Condvar,
-    seat: &mut Seat<bool>,
+    seat: &mut Seat<u64>,
     cond: &mut CondSeat,
-) -> bool
+)
     requires seat { OfMutex seat.old mutex.now }
     requires cond { OfCondvar cond.old condvar.now }
     requires wide { (cond_limits condvar.now).seats ≤ (limits_of mutex.now).seats }
     ensures seat { OfMutex seat.new mutex.now }
     ensures cond { OfCondvar cond.new condvar.now }
 {
-    let one = matches!(wake_one(rt, condvar, cond, mutex, seat), Ok(None));
-    let all = matches!(wake_all(rt, condvar, cond, mutex, seat), Ok(0));
-    let refused = matches!(wait(rt, condvar, cond, mutex, seat), Err(Refusal::NotOwner));
-    one && all && refused
+    let one = wake_one(rt, condvar, cond, mutex, seat);
+    let all = wake_all(rt, condvar, cond, mutex, seat);
+    let waited = wait(rt, condvar, cond, mutex, seat);
+    sees(rt, "wake_one", &one, &Ok(None));
+    sees(rt, "wake_all", &all, &Ok(0));
+    sees(rt, "wait", &waited, &Err(Refusal::NotOwner));
 }
 
 /// The first wake met the wait, the second met nobody, and the third was refused.
@@ -206,11 +153,11 @@ fn one_wake_ended_the_wait<R: Abort>(rt: &R, woke: &Woke, waited: &Waited) {
 
 #[test]
 fn a_condition_variable(rt: HostRuntime) -> Result<(), Fail> {
-    let (mutex, mut seat_1, seat_2) = mutex_of_two(rt.alloc(), 1_000_000_000, false).ok_or(
+    let (mutex, mut seat_1, seat_2) = mutex_of_two(rt.alloc(), 1_000_000_000, 0u64).ok_or(
         "a mutex",
     )?;
     let (condvar, mut cond_1, cond_2) = condvar_of_two(rt.alloc(), 4).ok_or("a condvar")?;
-    assert!(rt; alone(&rt, &mutex, &condvar, &mut seat_1, &mut cond_1));
+    alone(&rt, &mutex, &condvar, &mut seat_1, &mut cond_1);
     let (r, m, v) = (&rt, &mutex, &condvar);
     let (woke, waited) = join(
         &rt,
@@ -221,7 +168,7 @@ fn a_condition_variable(rt: HostRuntime) -> Result<(), Fail> {
         move || -> Waited
             requires { OfMutex seat_2 m.now × OfCondvar cond_2 v.now }
             ensures { OfMutex result.seat m.entry.now × OfCondvar result.cond v.entry.now }
-        { set_and_wait(r, m, v, seat_2, cond_2) },
+        { add_and_wait(r, m, v, seat_2, cond_2) },
     );
     one_wake_ended_the_wait(&rt, &woke, &waited);
     let numbers = closed(condvar, woke.cond, waited.cond, Vec::new(rt.alloc()));

@@ -11,15 +11,18 @@ fn refused(alloc: Global, passes: u64, entries: u64, conditions: u64) -> Option<
     Monitor::new(alloc, passes, entries, conditions, Total(0)).err()
 }
 
+/// How many passes, entries and conditions no monitor can have.
+const TOO_FEW_OR_MANY: [(u64, u64, u64); 5] = [
+    (0, 1, 0),
+    (4_096, 1, 0),
+    (1, 0, 0),
+    (2, 524_289, 0),
+    (1, 1, MAX_CONDITIONS + 1),
+];
+
 #[test]
 fn limits(rt: HostRuntime) {
-    for (passes, entries, conditions) in [
-        (0, 1, 0),
-        (4_096, 1, 0),
-        (1, 0, 0),
-        (2, 524_289, 0),
-        (1, 1, MAX_CONDITIONS + 1),
-    ] {
+    for (passes, entries, conditions) in TOO_FEW_OR_MANY {
         assert_eq!(rt;
             refused(rt.alloc(), passes, entries, conditions),
             Some(NewFault::Limit),
@@ -32,9 +35,11 @@ fn limits(rt: HostRuntime) {
 
 #[test]
 fn a_refused_size_drops_the_object(rt: HostRuntime) {
-    let drops = AtomicU64::new(0);
-    let object = Counted { drops: &drops };
-    let fault = Monitor::new(rt.alloc(), 0, 1, 0, object).err();
-    sees(&rt, "the fault", &fault, &Some(NewFault::Limit));
-    sees(&rt, "one drop", &drops.load(Ordering::SeqCst), &1);
+    for (passes, entries, conditions) in TOO_FEW_OR_MANY {
+        let drops = AtomicU64::new(0);
+        let object = Counted { drops: &drops };
+        let fault = Monitor::new(rt.alloc(), passes, entries, conditions, object).err();
+        sees(&rt, "the fault", &fault, &Some(NewFault::Limit));
+        sees(&rt, "one drop", &drops.load(Ordering::SeqCst), &1);
+    }
 }

@@ -1,18 +1,15 @@
 //! The monitor, called by one thread that holds all its passes.
 ghost use Rattle.lfm_monitor.specs.Belongs.{OfMonitor};
-ghost use Rattle.lfm_thread_tests.specs.Ours.{Ours};
 ghost use Rattle.std.specs.Prelude.{◌≡◌, [], IfSome};
 
-use crate::monitor::calls::{apply, ask, enter, leave, try_enter, try_receive};
-use crate::monitor::passes::{opened, take_one, take_two};
+use crate::monitor::passes::{closed_by_two, monitor_of_one, monitor_of_two};
+use crate::monitor::steps::{By, Step, make_all, make_alone};
 use crate::seeing::sees;
 use lfm_model::{
     Asked, Entry, How, Locked, Missing, Refusal, SeatNo, Total, TotalOp, Unlocked, What, lawful,
     replay,
 };
 use lfm_monitor::{Monitor, Pass};
-use std::process::Abort;
-use std::sync::Wait;
 use std::test::Fail;
 
 /// Hands the first of two passes back, which must not close the monitor yet: returns what is missing, and all three again.
@@ -28,27 +25,16 @@ fn kept_alone(
     ensures { IfSome result (λ r. OfMonitor r.1 r.0 × OfMonitor r.2 r.0) }
 {
     room.push(first).ok()?;
-    let Err((monitor, passes, missing)) = monitor.close(room) else {
+    let Err((monitor, mut passes, missing)) = monitor.close(room) else {
         return None;
     };
-    let first = take_one(&monitor, passes)?;
+    let first = passes.pop()?;
     Some((monitor, first, second, missing))
 }
 
-/// Hands both passes back, which must close the monitor: returns its object and its journal.
-fn closed(
-    monitor: Monitor<Total>,
-    first: Pass<Total>,
-    second: Pass<Total>,
-    mut room: Vec<Pass<Total>>,
-) -> Option<(Total, Vec<Entry<TotalOp>>)>
-    requires first { OfMonitor first monitor }
-    requires second { OfMonitor second monitor }
-    requires empty { room.items ≡ [] }
-{
-    room.push(first).ok()?;
-    room.push(second).ok()?;
-    monitor.close(room).ok()
+/// An entry of this pass.
+fn entry(seat: SeatNo, what: What<TotalOp>) -> Entry<TotalOp> {
+    Entry { seat, what }
 }
 
 /// What the two passes write down in `a_monitor_in_one_thread`.
@@ -56,197 +42,57 @@ fn written() -> [Entry<TotalOp>; 6] {
     let first = SeatNo::known(1);
     let second = SeatNo::known(2);
     [
-        Entry {
-            seat: first,
-            what: What::Took(How::Free),
-        },
-        Entry {
-            seat: first,
-            what: What::Did(TotalOp::Add(5)),
-        },
-        Entry {
-            seat: second,
-            what: What::Took(How::Queued(1)),
-        },
-        Entry {
-            seat: second,
-            what: What::Did(TotalOp::Add(7)),
-        },
-        Entry {
-            seat: first,
-            what: What::Took(How::Queued(2)),
-        },
-        Entry {
-            seat: first,
-            what: What::Did(TotalOp::Read),
-        },
+        entry(first, What::Took(How::Free)),
+        entry(first, What::Did(TotalOp::Add(5))),
+        entry(second, What::Took(How::Queued(1))),
+        entry(second, What::Did(TotalOp::Add(7))),
+        entry(first, What::Took(How::Queued(2))),
+        entry(first, What::Did(TotalOp::Read)),
     ]
 }
 
-/// The first pass holds and adds 5, and leaves the second to hold, which asked.
-fn the_first_pass_adds<R: Abort>(
-    rt: &R,
-    monitor: &Monitor<Total>,
-    first: &mut Pass<Total>,
-    second: &mut Pass<Total>,
-)
-    requires first { Ours first.old monitor.now }
-    requires second { Ours second.old monitor.now }
-    ensures first { Ours first.new monitor.now }
-    ensures second { Ours second.new monitor.now }
-{
-    sees(
-        rt,
-        "ask by the first",
-        &ask(monitor, first),
-        &Ok(Asked::Held(How::Free)),
-    );
-    sees(
-        rt,
-        "ask by the second",
-        &ask(monitor, second),
-        &Ok(Asked::Asleep),
-    );
-    sees(
-        rt,
-        "apply by the first",
-        &apply(monitor, first, TotalOp::Add(5)),
-        &Ok(5),
-    );
-    sees(
-        rt,
-        "leave by the first",
-        &leave(monitor, first),
-        &Ok(Unlocked::Granted(SeatNo::known(2))),
-    );
-}
-
-/// The second pass adds 7, and leaves the first to hold, which asked again.
-fn the_second_pass_adds<R: Abort>(
-    rt: &R,
-    monitor: &Monitor<Total>,
-    first: &mut Pass<Total>,
-    second: &mut Pass<Total>,
-)
-    requires first { Ours first.old monitor.now }
-    requires second { Ours second.old monitor.now }
-    ensures first { Ours first.new monitor.now }
-    ensures second { Ours second.new monitor.now }
-{
-    sees(
-        rt,
-        "ask by the first",
-        &ask(monitor, first),
-        &Ok(Asked::Asleep),
-    );
-    sees(
-        rt,
-        "try_receive by the second",
-        &try_receive(monitor, second),
-        &Ok(Some(How::Queued(1))),
-    );
-    sees(
-        rt,
-        "apply by the second",
-        &apply(monitor, second, TotalOp::Add(7)),
-        &Ok(12),
-    );
-    sees(
-        rt,
-        "leave by the second",
-        &leave(monitor, second),
-        &Ok(Unlocked::Granted(SeatNo::known(1))),
-    );
-}
-
-/// The first pass reads the total that both came to.
-fn the_first_pass_reads<R: Abort>(rt: &R, monitor: &Monitor<Total>, pass: &mut Pass<Total>)
-    requires { Ours pass.old monitor.now }
-    ensures { Ours pass.new monitor.now }
-{
-    sees(
-        rt,
-        "try_receive",
-        &try_receive(monitor, pass),
-        &Ok(Some(How::Queued(2))),
-    );
-    sees(rt, "depth of the pass", &pass.depth(), &1);
-    sees(rt, "apply", &apply(monitor, pass, TotalOp::Read), &Ok(12));
-    sees(rt, "leave", &leave(monitor, pass), &Ok(Unlocked::Free));
-}
-
-/// The one entry of the pass goes to its take, so it may write no op, and not enter again.
-fn the_one_entry_is_spent<R: Wait + Abort>(rt: &R, monitor: &Monitor<Total>, pass: &mut Pass<Total>)
-    requires { Ours pass.old monitor.now }
-    ensures { Ours pass.new monitor.now }
-{
-    sees(
-        rt,
-        "try_enter",
-        &try_enter(monitor, pass),
-        &Ok(Locked::Held(How::Free)),
-    );
-    sees(
-        rt,
-        "apply",
-        &apply(monitor, pass, TotalOp::Read),
-        &Err(Refusal::Spent),
-    );
-    sees(rt, "leave", &leave(monitor, pass), &Ok(Unlocked::Free));
-    sees(rt, "enter", &enter(rt, monitor, pass), &Err(Refusal::Spent));
-}
-
-/// Each pass holds and adds, and the first reads what both came to.
-fn each_pass_has_its_turn<R: Abort>(
-    rt: &R,
-    monitor: &Monitor<Total>,
-    first: &mut Pass<Total>,
-    second: &mut Pass<Total>,
-)
-    requires first { Ours first.old monitor.now }
-    requires second { Ours second.old monitor.now }
-    ensures first { Ours first.new monitor.now }
-    ensures second { Ours second.new monitor.now }
-{
-    the_first_pass_adds(rt, monitor, first, second);
-    the_second_pass_adds(rt, monitor, first, second);
-    the_first_pass_reads(rt, monitor, first);
-    let seen = (first.seen_len(), second.seen_len());
-    sees(rt, "what the passes have seen", &seen, &(6, 4));
-    let mine = (first.mine(), second.mine());
-    sees(rt, "how many entries are their own", &mine, &(4, 2));
+/// The first pass holds and adds 5, and leaves the second to hold, which asked; that adds 7, and leaves the first to hold,
+/// which asked again, and reads the total that both came to.
+fn turns() -> [(By, Step); 17] {
+    let to_first = Ok(Unlocked::Granted(SeatNo::known(1)));
+    let to_second = Ok(Unlocked::Granted(SeatNo::known(2)));
+    [
+        (By::First, Step::Number(SeatNo::known(1))),
+        (By::First, Step::Ask(Ok(Asked::Held(How::Free)))),
+        (By::Second, Step::Ask(Ok(Asked::Asleep))),
+        (By::First, Step::Apply(TotalOp::Add(5), Ok(5))),
+        (By::First, Step::Leave(to_second)),
+        (By::First, Step::Ask(Ok(Asked::Asleep))),
+        (By::Second, Step::TryReceive(Ok(Some(How::Queued(1))))),
+        (By::Second, Step::Apply(TotalOp::Add(7), Ok(12))),
+        (By::Second, Step::Leave(to_first)),
+        (By::First, Step::TryReceive(Ok(Some(How::Queued(2))))),
+        (By::First, Step::Depth(1)),
+        (By::First, Step::Apply(TotalOp::Read, Ok(12))),
+        (By::First, Step::Leave(Ok(Unlocked::Free))),
+        (By::First, Step::Seen(6)),
+        (By::Second, Step::Seen(4)),
+        (By::First, Step::Mine(4)),
+        (By::Second, Step::Mine(2)),
+    ]
 }
 
 #[test]
 fn a_monitor_in_one_thread(rt: HostRuntime) -> Result<(), Fail> {
-    let (monitor, passes) = opened(rt.alloc(), 2, 8, 0).ok_or("a monitor")?;
-    let (mut first, mut second) = take_two(&monitor, passes).ok_or("two passes")?;
-    sees(
-        &rt,
-        "the first pass's number",
-        &first.number(),
-        &SeatNo::known(1),
-    );
-    each_pass_has_its_turn(&rt, &monitor, &mut first, &mut second);
-    let (monitor, first, second, missing) = kept_alone(
-        monitor,
-        first,
-        second,
-        Vec::new(rt.alloc()),
-    ).ok_or("it was closed without pass 2")?;
-    sees(
-        &rt,
-        "what is missing",
-        &missing,
-        &Missing::NotBack(SeatNo::known(2)),
-    );
-    let (total, journal) = closed(monitor, first, second, Vec::new(rt.alloc())).ok_or(
+    let (monitor, mut first, mut second) = monitor_of_two(rt.alloc(), 8, 0).ok_or("a monitor")?;
+    make_all(&rt, &monitor, &mut first, &mut second, &turns());
+    let room = Vec::new(rt.alloc());
+    let (monitor, first, second, missing) = kept_alone(monitor, first, second, room).ok_or(
+        "it was closed without pass 2",
+    )?;
+    let wanted = Missing::NotBack(SeatNo::known(2));
+    sees(&rt, "what is missing", &missing, &wanted);
+    let room = Vec::new(rt.alloc());
+    let (total, journal) = closed_by_two(monitor, first, second, room).ok_or(
         "both passes were back",
     )?;
-    assert_eq!(rt;
-        (total, journal.as_slice()),
-        (Total(12), written().as_slice())
-    );
+    sees(&rt, "the total", &total, &Total(12));
+    assert_eq!(rt; journal.as_slice(), written().as_slice());
     Ok(())
 }
 
@@ -260,10 +106,16 @@ fn a_journal_is_replayed(rt: HostRuntime) -> Result<(), Fail> {
     Ok(())
 }
 
+// The one entry goes to the take, so the pass may write no op, and not enter again.
 #[test]
 fn one_entry(rt: HostRuntime) -> Result<(), Fail> {
-    let (monitor, passes) = opened(rt.alloc(), 1, 1, 0).ok_or("a monitor")?;
-    let mut pass = take_one(&monitor, passes).ok_or("one pass")?;
-    the_one_entry_is_spent(&rt, &monitor, &mut pass);
+    let (monitor, mut pass) = monitor_of_one(rt.alloc(), 1, 0).ok_or("a monitor")?;
+    let steps = [
+        Step::TryEnter(Ok(Locked::Held(How::Free))),
+        Step::Apply(TotalOp::Read, Err(Refusal::Spent)),
+        Step::Leave(Ok(Unlocked::Free)),
+        Step::Enter(Err(Refusal::Spent)),
+    ];
+    make_alone(&rt, &monitor, &mut pass, &steps);
     Ok(())
 }

@@ -1,21 +1,23 @@
-//! A monitor is made, with one or two passes. No test stands here.
+//! A monitor is made, with one or two passes that may make commands, and is closed once they are handed back. No test stands
+//! here.
 ghost use Rattle.lfm_monitor.specs.Belongs.{OfMonitor};
-ghost use Rattle.std.specs.Prelude.{◌≡◌, ℕ, IfSome};
+ghost use Rattle.lfm_program.specs.Workers.{ReadyFor};
+ghost use Rattle.std.specs.Prelude.{◌≡◌, ℕ, [], IfSome};
 ghost use lib.ListN.{get_elem?};
 ghost use mathlib.Core.Option.{some};
 
-use lfm_model::Total;
+use lfm_model::{Entry, Total, TotalOp};
 use lfm_monitor::{Monitor, Pass};
 use std::alloc::Global;
 
-/// A monitor round 0, and its passes, of whose contract the tests need that they are the monitor's.
-pub fn opened(
+/// A monitor round 0, and its passes.
+fn opened(
     alloc: Global,
     passes: u64,
     entries: u64,
     conditions: u64,
 ) -> Option<(Monitor<Total>, Vec<Pass<Total>>)>
-    ensures { IfSome result (λ r. (j : ℕ) (p : _) → get_elem? r.1.items j ≡ some p → OfMonitor p r.0) }
+    ensures { IfSome result (λ r. (j : ℕ) (p : _) → get_elem? r.1.items j ≡ some p → ReadyFor r.0 p) }
 {
     let Ok((monitor, passes)) = Monitor::new(alloc, passes, entries, conditions, Total(0)) else {
         return None;
@@ -23,26 +25,58 @@ pub fn opened(
     Some((monitor, passes))
 }
 
-/// The two passes of a monitor that has two.
-pub fn take_two(
-    monitor: &Monitor<Total>,
-    mut passes: Vec<Pass<Total>>,
-) -> Option<(Pass<Total>, Pass<Total>)>
-    requires { (j : ℕ) (p : _) → get_elem? passes.items j ≡ some p → OfMonitor p monitor.now }
-    ensures { IfSome result (λ r. OfMonitor r.0 monitor.now × OfMonitor r.1 monitor.now) }
+/// A monitor round 0 and its one pass, which may write so many entries.
+pub fn monitor_of_one(
+    alloc: Global,
+    entries: u64,
+    conditions: u64,
+) -> Option<(Monitor<Total>, Pass<Total>)>
+    ensures { IfSome result (λ r. ReadyFor r.0 r.1) }
 {
-    let _monitor = monitor;
-    let second = passes.pop()?;
-    let first = passes.pop()?;
-    Some((first, second))
+    let (monitor, mut passes) = opened(alloc, 1, entries, conditions)?;
+    let pass = passes.pop()?;
+    Some((monitor, pass))
 }
 
-/// The pass of a monitor that has one.
-pub fn take_one(monitor: &Monitor<Total>, mut passes: Vec<Pass<Total>>) -> Option<Pass<Total>>
-    requires { (j : ℕ) (p : _) → get_elem? passes.items j ≡ some p → OfMonitor p monitor.now }
-    ensures { IfSome result (λ p. OfMonitor p monitor.now) }
+/// A monitor round 0 and its two passes, each of which may write so many entries.
+pub fn monitor_of_two(
+    alloc: Global,
+    entries: u64,
+    conditions: u64,
+) -> Option<(Monitor<Total>, Pass<Total>, Pass<Total>)>
+    ensures { IfSome result (λ r. ReadyFor r.0 r.1 × ReadyFor r.0 r.2) }
 {
-    let _monitor = monitor;
-    let pass = passes.pop()?;
-    Some(pass)
+    let (monitor, mut passes) = opened(alloc, 2, entries, conditions)?;
+    let second = passes.pop()?;
+    let first = passes.pop()?;
+    Some((monitor, first, second))
+}
+
+/// Hands the one pass back, in this empty list, which must close the monitor: returns its object and its journal.
+pub fn closed_by_one(
+    monitor: Monitor<Total>,
+    pass: Pass<Total>,
+    mut room: Vec<Pass<Total>>,
+) -> Option<(Total, Vec<Entry<TotalOp>>)>
+    requires belongs { OfMonitor pass monitor }
+    requires empty { room.items ≡ [] }
+{
+    room.push(pass).ok()?;
+    monitor.close(room).ok()
+}
+
+/// Hands both passes back, in this empty list, which must close the monitor: returns its object and its journal.
+pub fn closed_by_two(
+    monitor: Monitor<Total>,
+    first: Pass<Total>,
+    second: Pass<Total>,
+    mut room: Vec<Pass<Total>>,
+) -> Option<(Total, Vec<Entry<TotalOp>>)>
+    requires first { OfMonitor first monitor }
+    requires second { OfMonitor second monitor }
+    requires empty { room.items ≡ [] }
+{
+    room.push(first).ok()?;
+    room.push(second).ok()?;
+    monitor.close(room).ok()
 }

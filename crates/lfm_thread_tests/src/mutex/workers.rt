@@ -1,7 +1,8 @@
 //! Threads that try and lock one mutex, each with a seat of its own: no addition is lost.
 ghost use Rattle.std.specs.Prelude.{All, IfOk};
-ghost use Rattle.lfm_mutex.specs.Belongs.{Beside, OfMutex};
+ghost use Rattle.lfm_mutex.specs.Belongs.{OfMutex};
 
+use crate::adding::add_one;
 use crate::seeing::{holds, sees};
 use lfm_model::{Locked, Refusal};
 use lfm_mutex::{Holder, Mutex, Seat};
@@ -33,16 +34,6 @@ impl Holder<u64> for Worker {
     }
 }
 
-/// Adds 1 to the value that the seat has in hand.
-fn add_one(seat: &mut Seat<u64>)
-    ensures { Beside seat.old seat.new }
-{
-    let Some(x) = seat.value_mut() else {
-        return;
-    };
-    *x = x.wrapping_add(1);
-}
-
 /// Tries so often. Each hold adds 1 to the value.
 fn try_times(mutex: &Mutex<u64>, mut seat: Seat<u64>, times: u64) -> Worker
     requires belongs { OfMutex seat mutex.now }
@@ -52,7 +43,7 @@ fn try_times(mutex: &Mutex<u64>, mut seat: Seat<u64>, times: u64) -> Worker
     'trying: for _ in 0..times {
         if let Ok(Locked::Held(_)) = mutex.try_lock(&mut seat) {
             holds = holds.wrapping_add(1);
-            add_one(&mut seat);
+            let _ = add_one(&mut seat);
             let _ = mutex.unlock(&mut seat);
         }
     }
@@ -69,7 +60,7 @@ fn lock_times<R: Wait>(rt: &R, mutex: &Mutex<u64>, mut seat: Seat<u64>, times: u
     'locking: for _ in 0..times {
         if let Ok(Locked::Held(_)) = mutex.lock(rt, &mut seat) {
             holds = holds.wrapping_add(1);
-            add_one(&mut seat);
+            let _ = add_one(&mut seat);
             let _ = mutex.unlock(&mut seat);
         }
     }

@@ -1,14 +1,10 @@
 //! The commands of one worker, made in the thread that holds its pass.
-ghost use Rattle.lfm_monitor.specs.Belongs.{OfMonitor};
 ghost use Rattle.lfm_program.specs.Workers.{ReadyFor};
-ghost use Rattle.std.specs.Prelude.{◌≡◌, ℕ, [], IfSome};
-ghost use lib.ListN.{get_elem?};
-ghost use mathlib.Core.Option.{some};
 
-use lfm_model::{Entry, Refusal, Total, TotalOp};
+use crate::monitor::passes::{closed_by_one, closed_by_two, monitor_of_one, monitor_of_two};
+use lfm_model::{Refusal, Total};
 use lfm_monitor::{Monitor, Pass};
 use lfm_program::{Command, Gate, Meet, OpenGate, Performed, perform};
-use std::alloc::Global;
 use std::sync::Wait;
 
 /// The turns for which a worker looks for the other.
@@ -19,21 +15,6 @@ const WAITS: [Command; 1] = [Command::Until(1, 3)];
 
 /// Adds and wakes.
 const ADDS: [Command; 2] = [Command::Add(3), Command::All(1)];
-
-/// A monitor round 0, and its passes, of whose contract the tests need that each may make commands.
-fn opened(
-    alloc: Global,
-    passes: u64,
-    entries: u64,
-    conditions: u64,
-) -> Option<(Monitor<Total>, Vec<Pass<Total>>)>
-    ensures { IfSome result (λ r. (j : ℕ) (p : _) → get_elem? r.1.items j ≡ some p → ReadyFor r.0 p) }
-{
-    let Ok((monitor, passes)) = Monitor::new(alloc, passes, entries, conditions, Total(0)) else {
-        return None;
-    };
-    Some((monitor, passes))
-}
 
 /// `perform`, of whose contract the tests need that the pass may make more commands.
 fn performed<R: Wait, G: Gate>(
@@ -47,40 +28,6 @@ fn performed<R: Wait, G: Gate>(
     ensures { ReadyFor monitor.now pass.new }
 {
     perform(rt, monitor, pass, commands, gate)
-}
-
-/// The pass of a monitor that has one.
-fn take_one(monitor: &Monitor<Total>, mut passes: Vec<Pass<Total>>) -> Option<Pass<Total>>
-    requires { (j : ℕ) (p : _) → get_elem? passes.items j ≡ some p → ReadyFor monitor.now p }
-    ensures { IfSome result (λ p. ReadyFor monitor.now p) }
-{
-    let _monitor = monitor;
-    let pass = passes.pop()?;
-    Some(pass)
-}
-
-/// The two passes of a monitor that has two.
-fn take_two(
-    monitor: &Monitor<Total>,
-    mut passes: Vec<Pass<Total>>,
-) -> Option<(Pass<Total>, Pass<Total>)>
-    requires { (j : ℕ) (p : _) → get_elem? passes.items j ≡ some p → ReadyFor monitor.now p }
-    ensures { IfSome result (λ r. ReadyFor monitor.now r.0 × ReadyFor monitor.now r.1) }
-{
-    let _monitor = monitor;
-    let second = passes.pop()?;
-    let first = passes.pop()?;
-    Some((first, second))
-}
-
-/// Hands the pass back: returns what the monitor is closed with.
-fn closed(monitor: Monitor<Total>, pass: Pass<Total>, mut room: Vec<Pass<Total>>) -> Option<Total>
-    requires belongs { OfMonitor pass monitor }
-    requires empty { room.items ≡ [] }
-{
-    room.push(pass).ok()?;
-    let (total, _) = monitor.close(room).ok()?;
-    Some(total)
 }
 
 /// Two workers that are to meet make their commands one after the other. How they ended, the first worker's in front.
@@ -108,22 +55,6 @@ fn perform_in_turn<R: Wait>(
     }
 }
 
-/// Hands both passes back: returns the object and the journal that the monitor is closed with.
-fn both_closed(
-    monitor: Monitor<Total>,
-    first: Pass<Total>,
-    second: Pass<Total>,
-    mut room: Vec<Pass<Total>>,
-) -> Option<(Total, Vec<Entry<TotalOp>>)>
-    requires first { OfMonitor first monitor }
-    requires second { OfMonitor second monitor }
-    requires empty { room.items ≡ [] }
-{
-    room.push(first).ok()?;
-    room.push(second).ok()?;
-    monitor.close(room).ok()
-}
-
 /// What a pass came to that was alone in a monitor with one condition: how its commands ended, how many entries are its own,
 /// at which depth it holds, and the total.
 fn alone<R: AllocGlobal + Wait>(
@@ -131,11 +62,10 @@ fn alone<R: AllocGlobal + Wait>(
     entries: u64,
     commands: &[Command],
 ) -> Option<(Performed, u64, u32, Total)> {
-    let (monitor, passes) = opened(rt.alloc(), 1, entries, 1)?;
-    let mut pass = take_one(&monitor, passes)?;
+    let (monitor, mut pass) = monitor_of_one(rt.alloc(), entries, 1)?;
     let outcome = performed(rt, &monitor, &mut pass, commands, &OpenGate);
     let (mine, depth) = (pass.mine(), pass.depth());
-    let total = closed(monitor, pass, Vec::new(rt.alloc()))?;
+    let (total, _) = closed_by_one(monitor, pass, Vec::new(rt.alloc()))?;
     Some((outcome, mine, depth, total))
 }
 
@@ -144,14 +74,13 @@ fn alone<R: AllocGlobal + Wait>(
 fn adds_until_spent<R: AllocGlobal + Wait>(
     rt: &R,
 ) -> Option<((Performed, u64), (Performed, u64), u32, Total)> {
-    let (monitor, passes) = opened(rt.alloc(), 1, 4, 0)?;
-    let mut pass = take_one(&monitor, passes)?;
+    let (monitor, mut pass) = monitor_of_one(rt.alloc(), 4, 0)?;
     let adds = [Command::Add(5), Command::Add(7)];
     let first = performed(rt, &monitor, &mut pass, &adds, &OpenGate);
     let first_mine = pass.mine();
     let second = performed(rt, &monitor, &mut pass, &[Command::Add(1)], &OpenGate);
     let (second_mine, depth) = (pass.mine(), pass.depth());
-    let total = closed(monitor, pass, Vec::new(rt.alloc()))?;
+    let (total, _) = closed_by_one(monitor, pass, Vec::new(rt.alloc()))?;
     Some(((first, first_mine), (second, second_mine), depth, total))
 }
 
@@ -196,12 +125,11 @@ fn in_turn<R: AllocGlobal + Wait>(
     rt: &R,
     waiter_first: bool,
 ) -> Option<((Performed, Performed), (u64, u64), (u32, u32), Total, usize)> {
-    let (monitor, passes) = opened(rt.alloc(), 2, 8, 1)?;
-    let (mut first, mut second) = take_two(&monitor, passes)?;
+    let (monitor, mut first, mut second) = monitor_of_two(rt.alloc(), 8, 1)?;
     let outcomes = perform_in_turn(rt, &monitor, &mut first, &mut second, waiter_first);
     let mine = (first.mine(), second.mine());
     let depths = (first.depth(), second.depth());
-    let (total, journal) = both_closed(monitor, first, second, Vec::new(rt.alloc()))?;
+    let (total, journal) = closed_by_two(monitor, first, second, Vec::new(rt.alloc()))?;
     Some((outcomes, mine, depths, total, journal.len()))
 }
 

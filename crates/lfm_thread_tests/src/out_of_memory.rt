@@ -6,9 +6,11 @@ use crate::refused_memory::sees_memory;
 use crate::seeing::sees;
 use crate::work::scripts::{WAITED, WAITING, answered};
 use lfm_condvar::Condvar;
-use lfm_model::{NewFault, Total};
+use lfm_model::NewFault;
 use lfm_monitor::Monitor;
 use lfm_program::{OpenGate, WorkFault};
+use std::alloc::Global;
+use std::process::Abort;
 use std::sync::atomic::{AtomicU64, Ordering};
 
 #[test]
@@ -19,27 +21,34 @@ fn condvar_and_memory(rt: HostRuntime) {
     }
 }
 
-#[test]
-fn monitor_and_memory(rt: HostRuntime) {
+/// Makes a monitor, or sees that memory was refused and the object dropped.
+fn makes_monitor_or_drops_object<R: Abort + Print>(
+    rt: &R,
+    alloc: Global,
+    passes: u64,
+    conditions: u64,
+) {
     let drops = AtomicU64::new(0);
-    match Monitor::new(rt.alloc(), 2, 1, 0, Counted { drops: &drops }) {
-        Ok((_monitor, passes)) => {
-            sees(&rt, "the passes", &passes.len(), &2);
-            sees(&rt, "no drop", &drops.load(Ordering::SeqCst), &0);
+    match Monitor::new(alloc, passes, 1, conditions, Counted { drops: &drops }) {
+        Ok((_monitor, made)) => {
+            sees(rt, "the passes", &(made.len() as u64), &passes);
+            sees(rt, "no drop", &drops.load(Ordering::SeqCst), &0);
         }
         Err(fault) => {
-            sees_memory(&rt, &fault, &NewFault::Memory);
-            sees(&rt, "one drop", &drops.load(Ordering::SeqCst), &1);
+            sees_memory(rt, &fault, &NewFault::Memory);
+            sees(rt, "one drop", &drops.load(Ordering::SeqCst), &1);
         }
     }
 }
 
 #[test]
+fn monitor_and_memory(rt: HostRuntime) {
+    makes_monitor_or_drops_object(&rt, rt.alloc(), 2, 0);
+}
+
+#[test]
 fn monitor_with_two_conditions_and_memory(rt: HostRuntime) {
-    match Monitor::new(rt.alloc(), 3, 1, 2, Total(0)) {
-        Ok((_, passes)) => sees(&rt, "the passes", &passes.len(), &3),
-        Err(fault) => sees_memory(&rt, &fault, &NewFault::Memory),
-    }
+    makes_monitor_or_drops_object(&rt, rt.alloc(), 3, 2);
 }
 
 #[test]

@@ -16,10 +16,10 @@ use std::thread;
 use std::thread::Threads;
 
 /// How many turns each thread takes.
-const TURNS: u64 = 50;
+const TURNS: u64 = 500;
 
 /// How many turns all threads take.
-const ALL_TURNS: u64 = 200;
+const ALL_TURNS: u64 = 2_000;
 
 /// Waits until the number is even for the first side, or odd for the second. Each wait is ended by another thread's turn.
 fn wait_for_turn<R: Wait>(rt: &R, shared: &Shared, place: &mut Place, side: Side)

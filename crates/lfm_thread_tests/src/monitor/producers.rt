@@ -1,4 +1,4 @@
-//! Two threads put 400 numbers into a slot, and two take them out. A monitor with two conditions guards the slot: who
+//! Two threads put 4,000 numbers into a slot, and two take them out. A monitor with two conditions guards the slot: who
 //! finds it full, or empty, waits on one of them. Each thread ends when it has moved its share.
 ghost use Rattle.std.specs.Prelude.{All, IfOk};
 ghost use Rattle.lfm_monitor.specs.Belongs.{OfMonitor};
@@ -13,15 +13,15 @@ use std::thread;
 use std::thread::Threads;
 
 /// How many numbers go through the slot: 1, 2, 3 and on. The first producer puts in the odd ones, the second the even ones.
-const NUMBERS: u64 = 400;
+const NUMBERS: u64 = 4_000;
 
 /// How many pairs of numbers each of the four threads puts in, or takes out.
-const PAIRS: u64 = 100;
+const PAIRS: u64 = 1_000;
 
 /// How many entries of the journal a thread may write. A pair costs it two, a take and an op, and so does each wait. A wait
-/// ends by a wake, and each condition has one wake for each pair, 200 in all. So a thread writes at most 600 entries, even
+/// ends by a wake, and each condition has one wake for each pair, 2,000 in all. So a thread writes at most 6,000 entries, even
 /// where it gets all the wakes of its condition. The journal has room for 1,048,576.
-const ENTRIES: u64 = 600;
+const ENTRIES: u64 = 6_000;
 
 /// The condition of those that found the slot empty, and of those that found it full.
 const NOT_EMPTY: u64 = 1;

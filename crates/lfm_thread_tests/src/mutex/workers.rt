@@ -157,24 +157,24 @@ fn try_by_one_thread(rt: HostRuntime) -> Result<(), Fail> {
 
 #[test]
 fn try_by_two_threads(rt: HostRuntime) -> Result<(), Fail> {
-    let (holds, total) = tried(&rt, rt.alloc(), 2, 10_000)?;
+    let (holds, total) = tried(&rt, rt.alloc(), 2, 100_000)?;
     sees(&rt, "the value", &total, &holds);
-    assert!(rt; 0 < total && total <= 20_000, "{total} holds");
+    assert!(rt; 0 < total && total <= 200_000, "{total} holds");
     Ok(())
 }
 
 #[test]
 fn lock_by_two_threads(rt: HostRuntime) -> Result<(), Fail> {
-    let (spent, total) = locked(&rt, rt.alloc(), 2, 250)?;
+    let (spent, total) = locked(&rt, rt.alloc(), 2, 2_500)?;
     holds(&rt, "each was spent", spent);
-    sees(&rt, "the value", &total, &500);
+    sees(&rt, "the value", &total, &5_000);
     Ok(())
 }
 
 #[test]
 fn lock_by_four_threads(rt: HostRuntime) -> Result<(), Fail> {
-    let (spent, total) = locked(&rt, rt.alloc(), 4, 125)?;
+    let (spent, total) = locked(&rt, rt.alloc(), 4, 1_250)?;
     holds(&rt, "each was spent", spent);
-    sees(&rt, "the value", &total, &500);
+    sees(&rt, "the value", &total, &5_000);
     Ok(())
 }

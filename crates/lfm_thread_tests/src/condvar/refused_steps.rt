@@ -89,6 +89,37 @@ fn make<R: Wait + Abort>(
     }
 }
 
+/// Makes a step of one of the two seats.
+fn make_by<R: Wait + Abort>(
+    rt: &R,
+    able: &Condvar,
+    x: &mut CondSeat,
+    spent: &Condvar,
+    z: &mut CondSeat,
+    mutex: &Mutex<u64>,
+    first: &mut Seat<u64>,
+    second: &mut Seat<u64>,
+    at: usize,
+    by: By,
+    step: Step,
+)
+    requires first { OfMutex first.old mutex.now }
+    requires second { OfMutex second.old mutex.now }
+    requires x { OfCondvar x.old able.now }
+    requires z { OfCondvar z.old spent.now }
+    requires wide_able { (cond_limits able.now).seats ≤ (limits_of mutex.now).seats }
+    requires wide_spent { (cond_limits spent.now).seats ≤ (limits_of mutex.now).seats }
+    ensures first { OfMutex first.new mutex.now }
+    ensures second { OfMutex second.new mutex.now }
+    ensures x { OfCondvar x.new able.now }
+    ensures z { OfCondvar z.new spent.now }
+{
+    match by {
+        By::First => make(rt, able, x, spent, z, mutex, first, at, step),
+        By::Second => make(rt, able, x, spent, z, mutex, second, at, step),
+    }
+}
+
 /// Makes these steps in order, each by one of the two seats.
 pub fn make_all<R: Wait + Abort>(
     rt: &R,
@@ -113,9 +144,6 @@ pub fn make_all<R: Wait + Abort>(
     ensures z { OfCondvar z.new spent.now }
 {
     'making: for (at, &(by, step)) in steps.iter().enumerate() {
-        match by {
-            By::First => make(rt, able, x, spent, z, mutex, first, at, step),
-            By::Second => make(rt, able, x, spent, z, mutex, second, at, step),
-        }
+        make_by(rt, able, x, spent, z, mutex, first, second, at, by, step);
     }
 }

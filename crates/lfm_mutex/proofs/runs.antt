@@ -2,6 +2,7 @@
 pub mod BusyFacts
 pub mod Courses
 pub mod DueFalls
+pub mod FirstPoints
 pub mod MadeCalls
 pub mod OneStep
 pub mod RunFacts

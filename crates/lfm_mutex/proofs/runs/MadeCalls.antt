@@ -14,12 +14,12 @@ use Rattle.lfm_table.specs.declared.seat_view.Seen.{Seen}
 use Rattle.lfm_table.specs.declared.seat_view.View.{View}
 use Rattle.lfm_mutex.specs.calls.Runs.{Errand, errand_of, Called, CalledBy}
 use Rattle.lfm_mutex.specs.calls.Sight.{Sight, sight_of, Receives}
-use Rattle.lfm_mutex.specs.calls.Trails.{Shows, Leads, Makes, Made, Looks}
+use Rattle.lfm_mutex.specs.calls.Trails.{Shows, CallEnds, Makes, Made, Looks}
 
 shows : {T : Type 0} (n : ℕ) (p : SeatState) (v : View T) (a : Option T) → Shows p (sight_of n p v a)
 shows n p v a = record { depth = refl; takes = refl; asleep = refl; in_call = refl }
 
-leads : {T : Type 0} (first : Turn) (n : ℕ) (e : Errand) (q p' : SeatState) (v v' : View T) (turn : Turn) → CalledBy first n e q v turn p' v' → Leads first n q v.trail turn p' v'.trail
+leads : {T : Type 0} (first : Turn) (n : ℕ) (e : Errand) (q p' : SeatState) (v v' : View T) (turn : Turn) → CalledBy first n e q v turn p' v' → CallEnds first n q v.trail turn p' v'.trail
 leads Open n e q p' v v' turn called = let ran = called.1 in (ran.finds, ran.ends, ran.trail)
 leads (Ended answer) n e q p' v v' turn called = (called.0, called.1, λ i. (called.2 i).trail)
 leads (Refused why) n e q p' v v' turn called = (called.0, called.1, λ i. (called.2 i).trail)

@@ -17,7 +17,7 @@ use Rattle.lfm_protocol.specs.declared.points.Releaser.{Releaser}
 use Rattle.lfm_protocol.specs.declared.points.Releaser.TheVariants.{Unlocker, Waiter}
 use Rattle.lfm_protocol.specs.declared.points.Sleeper.{Sleeper}
 use Rattle.lfm_protocol.specs.declared.seats.SeatState.{SeatState}
-use Rattle.lfm_protocol.specs.After.{same_link, same_handoff, releases, pushed, granted, receives, claims, carrier_of, take, serves, cleared, busy, looks, loaded}
+use Rattle.lfm_protocol.specs.After.{same_link, same_handoff, releases, pushed, granted, receives, claims, carrier_of, take, serves, once_cleared, busy, looks, loaded}
 use Rattle.lfm_protocol.specs.Begin.{Stepped, goes_on}
 use Rattle.lfm_protocol.specs.Points.{kind}
 use Rattle.lfm_protocol.specs.Room.{PopFits}
@@ -26,6 +26,7 @@ use Rattle.lfm_core.specs.steady.Views.{waits_on}
 use Rattle.lfm_core.specs.table.Words.{stepped_by, handoff_of, wake_of, link_of}
 use Rattle.lfm_mutex.specs.calls.Runs.{Errand, locking, trying, releasing, sending, receiving, nothing, pushes, carries_for, errand, IsTurn, left, clearing, collecting, granting, weight, how_held, is_release}
 use Rattle.lfm_table.specs.Rule.{CollectsWithin}
+use Rattle.lfm_mutex.proofs.runs.FirstPoints.{no_first, later_releases_not}
 use Rattle.lfm_table.proofs.tables.StepFacts.{made_of}
 
 -- The same call
@@ -65,7 +66,7 @@ errand_take : (carrier : Carrier) (s : ℕ) (o : Option Record) → errand (take
 errand_take carrier s None = refl
 errand_take carrier s (Some r) = errand_serves carrier s r
 
-errand_cleared : (carrier : Carrier) (head : ℕ) → errand (cleared carrier head) ≡ carries_for carrier
+errand_cleared : (carrier : Carrier) (head : ℕ) → errand (once_cleared carrier head) ≡ carries_for carrier
 errand_cleared (Carrier.Releaser u) head = errand_if (releasing u) (nat_eq head 0) _ _ refl refl
 errand_cleared Carrier.Locker head = refl
 errand_cleared (Carrier.Reclaimer u) head = refl
@@ -179,7 +180,7 @@ weight_take : (n k w : ℕ) (carrier : Carrier) (s : ℕ) (o : Option Record) �
 weight_take n k w carrier s None less some = less
 weight_take n k w carrier s (Some r) less some = let h = weight_serves n k carrier s r in omega (arith, h, some)
 
-weight_cleared : (n k : ℕ) (carrier : Carrier) (head : ℕ) → weight n k (cleared carrier head) < clearing n carrier
+weight_cleared : (n k : ℕ) (carrier : Carrier) (head : ℕ) → weight n k (once_cleared carrier head) < clearing n carrier
 weight_cleared n k (Carrier.Releaser u) head = weight_if n k (n + 5 + waits_on u) (nat_eq head 0) _ _ (omega arith) (λ e. omega arith)
 weight_cleared n k Carrier.Locker head = omega arith
 weight_cleared n k (Carrier.Reclaimer u) head = omega arith
@@ -293,87 +294,8 @@ falls x s m o n k k' some room within grows sees = falls_at x.depth x.takes x.po
 
 -- No step leads to the store that ends a hold
 
-release_if : (b : Bool) (p q : Point) → is_release p ≡ false → is_release q ≡ false → is_release (if b then p else q) ≡ false
-release_if true p q first second = first
-release_if false p q first second = second
-
-release_step_if : (b : Bool) (u v : Stepped) → is_release u.seat.point ≡ false → is_release v.seat.point ≡ false → is_release (if b then u else v).seat.point ≡ false
-release_step_if true u v first second = first
-release_step_if false u v first second = second
-
-release_serves : (carrier : Carrier) (s : ℕ) (r : Record) → is_release (serves carrier s r) ≡ false
-release_serves Carrier.Locker s r = release_if (nat_eq r.seat s) _ _ refl refl
-release_serves (Carrier.Releaser u) s r = refl
-release_serves (Carrier.Reclaimer u) s r = refl
-release_serves Carrier.Sender s r = refl
-
-release_take : (carrier : Carrier) (s : ℕ) (o : Option Record) → is_release (take carrier s o) ≡ false
-release_take carrier s None = refl
-release_take carrier s (Some r) = release_serves carrier s r
-
-release_cleared : (carrier : Carrier) (head : ℕ) → is_release (cleared carrier head) ≡ false
-release_cleared (Carrier.Releaser u) head = release_if (nat_eq head 0) _ _ refl refl
-release_cleared Carrier.Locker head = refl
-release_cleared (Carrier.Reclaimer u) head = refl
-release_cleared Carrier.Sender head = refl
-
-release_releases : (x : SeatState) (r : Releaser) (answer : Unlocked) → is_release (releases x r answer).seat.point ≡ false
-release_releases x Unlocker answer = refl
-release_releases x Waiter answer = refl
-
-release_pushed : (x : SeatState) (pusher : Pusher) → is_release (pushed x pusher).seat.point ≡ false
-release_pushed x Pusher.Locker = refl
-release_pushed x (Pusher.Sender t) = refl
-
-release_granted : (x : SeatState) (carrier : Carrier) (oldest : Record) → is_release (granted x carrier oldest).seat.point ≡ false
-release_granted x Carrier.Locker oldest = refl
-release_granted x (Carrier.Releaser r) oldest = release_releases x r (Unlocked.Granted oldest.seat)
-release_granted x (Carrier.Reclaimer r) oldest = release_releases x r (Unlocked.Granted oldest.seat)
-release_granted x Carrier.Sender oldest = refl
-
-release_looks : (pusher : Pusher) (d t : ℕ) → is_release (looks pusher (record { seat = d; post = t })) ≡ false
-release_looks Pusher.Locker d t = refl
-release_looks (Pusher.Sender u) d t = refl
-
-release_receives : (x : SeatState) (sleeper : Sleeper) (w : Wake) → is_release (receives x sleeper w).seat.point ≡ false
-release_receives x sleeper (Grant stamp) = refl
-release_receives x sleeper _ = refl
-
-release_claims : (x : SeatState) (t : ℕ) (w : Wake) → is_release (claims x t w).seat.point ≡ false
-release_claims x t Waiting = refl
-release_claims x t _ = refl
-
-release_at : (d t ps s n : ℕ) (o : Option Record) (q : Point) → is_release q ≡ false → is_release (stepped_by (made_of d t ps q) s n o).seat.point ≡ false
-release_at d t ps s n o LockCountAdd other = release_if (nat_eq n 0) _ _ refl refl
-release_at d t ps s n o LockOwnerLoad other = release_if (nat_eq n s) _ _ refl refl
-release_at d t ps s n o TryCountExchange other = release_if (nat_eq n 0) _ _ refl refl
-release_at d t ps s n o TryOwnerLoad other = release_step_if (nat_eq n s) _ (goes_on (made_of d t ps TryOwnerLoad) TryHandoffLoad) refl refl
-release_at d t ps s n o TryHandoffLoad other = release_step_if (nat_eq (handoff_of n).seat 0) (busy (made_of d t ps TryHandoffLoad)) _ refl refl
-release_at d t ps s n o (TryHandoffExchange old) other = release_step_if (same_handoff (handoff_of n) old) _ (busy (made_of d t ps (TryHandoffExchange old))) refl refl
-release_at d t ps s n o (SendWakeExchange u) other = release_claims (made_of d t ps (SendWakeExchange u)) u (wake_of n)
-release_at d t ps s n o (SendCountAdd u) other = release_if (nat_eq n 0) _ _ refl refl
-release_at d t ps s n o (SendPushLook u old) other = release_step_if (nat_eq (link_of n).next 0) _ (goes_on (made_of d t ps (SendPushLook u old)) (PushedHandoffExchange (Pusher.Sender u) old)) refl refl
-release_at d t ps s n o (PushExchange pusher old) other = release_if (same_link (link_of n) old) _ _ refl refl
-release_at d t ps s n o (PushedHandoffLoad pusher) other =
-    release_step_if (nat_eq (handoff_of n).seat 0) (pushed (made_of d t ps (PushedHandoffLoad pusher)) pusher) _ (release_pushed (made_of d t ps (PushedHandoffLoad pusher)) pusher) (release_looks pusher (n % 65536) (n / 65536))
-release_at d t ps s n o (PushedHandoffExchange pusher old) other =
-    release_step_if (same_handoff (handoff_of n) old) (goes_on (made_of d t ps (PushedHandoffExchange pusher old)) (take (carrier_of pusher) s o)) _ (release_take (carrier_of pusher) s o) (release_pushed (made_of d t ps (PushedHandoffExchange pusher old)) pusher)
-release_at d t ps s n o (ReleaseCountSubtract r) other =
-    release_step_if (nat_eq n 1) _ (goes_on (made_of d t ps (ReleaseCountSubtract r)) (take (Carrier.Releaser r) s o)) (release_releases (made_of d t ps (ReleaseCountSubtract r)) r Unlocked.Free) (release_take (Carrier.Releaser r) s o)
-release_at d t ps s n o (ReleasePushLook r) other =
-    release_step_if (nat_eq (link_of n).next 0) _ (goes_on (made_of d t ps (ReleasePushLook r)) (ReleaseHandoffExchange r)) (release_releases (made_of d t ps (ReleasePushLook r)) r Unlocked.Posted) refl
-release_at d t ps s n o (ReleaseHandoffExchange r) other =
-    release_step_if (same_handoff (handoff_of n) (record { seat = s; post = ps })) (goes_on (made_of d t ps (ReleaseHandoffExchange r)) (take (Carrier.Reclaimer r) s o)) _
-    (release_take (Carrier.Reclaimer r) s o) (release_releases (made_of d t ps (ReleaseHandoffExchange r)) r Unlocked.TakenOver)
-release_at d t ps s n o (TakeClearHead carrier) other = release_cleared carrier (link_of n).next
-release_at d t ps s n o (TakeLinkLoad carrier next) other = release_if (nat_eq (link_of n).next 0) _ _ (release_serves carrier s (loaded next (link_of n))) refl
-release_at d t ps s n o (GrantWakeStore carrier oldest) other = release_granted (made_of d t ps (GrantWakeStore carrier oldest)) carrier oldest
-release_at d t ps s n o (ReceiveWakeLoad sleeper) other = release_receives (made_of d t ps (ReceiveWakeLoad sleeper)) sleeper (wake_of n)
-release_at d t ps s n o (ReleaseOwnerStore r) other = refl
-release_at d t ps s n o _ other = refl
-
-pub no_release : (x : SeatState) (s n : ℕ) (o : Option Record) → is_release x.point ≡ false → is_release (stepped_by x s n o).seat.point ≡ false
-no_release x s n o other = release_at x.depth x.takes x.posts s n o x.point other
+pub no_release : (x : SeatState) (s n : ℕ) (o : Option Record) → is_release (stepped_by x s n o).seat.point ≡ false
+no_release x s n o = later_releases_not (stepped_by x s n o).seat.point (no_first x s n o)
 
 pub no_leaves : (q : Point) → is_release q ≡ false → (r : Releaser) → q ≢ ReleaseOwnerStore r
 no_leaves (ReleaseOwnerStore u) other r e = false≢true (sym other)

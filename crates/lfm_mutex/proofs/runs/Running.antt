@@ -94,7 +94,7 @@ module _ {T : Type 0} (follows : ℕ → T → T → Type 0) (suits : T → ℕ 
   turn_more some = subst (λ (z : Stepped). IsTurn (errand p.point) z.turn z.seat.point) (sym step_is) (turns_step p s e.found o some)
 
   pub release_more : is_release p.point ≡ false → is_release q.point ≡ false
-  release_more keeps = ap (λ (z : Stepped). is_release z.seat.point) step_is ∙ no_release p s e.found o keeps
+  release_more keeps = ap (λ (z : Stepped). is_release z.seat.point) step_is ∙ no_release p s e.found o
 
 link_grows : (x : SeatState) (t n : ℕ) (l : List Record) (k : Option Kind) → ((k ≡ Some Kind.LinkLoad) × (length (popped_of x t n l k) ≡ length l + 1)) ⊎ (k ≢ Some Kind.LinkLoad)
 link_grows x t n l (Some Kind.LinkLoad) = inl (refl, omega arith)

@@ -13,7 +13,7 @@ use Rattle.lfm_protocol.specs.declared.points.Releaser.{Releaser}
 use Rattle.lfm_protocol.specs.declared.points.Releaser.TheVariants.{Unlocker, Waiter}
 use Rattle.lfm_protocol.specs.declared.points.Sleeper.{Sleeper}
 use Rattle.lfm_protocol.specs.declared.seats.SeatState.{SeatState}
-use Rattle.lfm_protocol.specs.After.{same_link, same_handoff, releases, pushed, granted, receives, claims, carrier_of, take, serves, cleared, busy, looks, loaded}
+use Rattle.lfm_protocol.specs.After.{same_link, same_handoff, releases, pushed, granted, receives, claims, carrier_of, take, serves, once_cleared, busy, looks, loaded}
 use Rattle.lfm_protocol.specs.Begin.{Stepped, goes_on}
 use Rattle.lfm_core.specs.table.Words.{stepped_by, handoff_of, wake_of, link_of}
 use Rattle.lfm_mutex.specs.calls.Runs.{end_of, trail_of}
@@ -26,95 +26,11 @@ use Rattle.lfm_protocol.specs.declared.answers.Turn.TheVariants.{Open, Ended, Re
 use Rattle.lfm_protocol.specs.declared.answers.Why.{Why}
 use Rattle.lfm_model.specs.declared.refusals.Refusal.{Refusal}
 use Rattle.lfm_mutex.proofs.runs.BusyFacts.{idle_runs}
+use Rattle.lfm_mutex.proofs.runs.FirstPoints.{is_send, no_first, later_sends_not}
 use Rattle.lfm_table.proofs.tables.StepFacts.{made_of}
 
-abbrev pub is_send : Point → Bool
-is_send (SendWakeExchange t) = true
-is_send _ = false
-
--- No step leads to the exchange of a send
-
-sent_if : (b : Bool) (p q : Point) → is_send p ≡ false → is_send q ≡ false → is_send (if b then p else q) ≡ false
-sent_if true p q first second = first
-sent_if false p q first second = second
-
-sent_step_if : (b : Bool) (u v : Stepped) → is_send u.seat.point ≡ false → is_send v.seat.point ≡ false → is_send (if b then u else v).seat.point ≡ false
-sent_step_if true u v first second = first
-sent_step_if false u v first second = second
-
-sent_serves : (carrier : Carrier) (s : ℕ) (r : Record) → is_send (serves carrier s r) ≡ false
-sent_serves Carrier.Locker s r = sent_if (nat_eq r.seat s) _ _ refl refl
-sent_serves (Carrier.Releaser u) s r = refl
-sent_serves (Carrier.Reclaimer u) s r = refl
-sent_serves Carrier.Sender s r = refl
-
-sent_take : (carrier : Carrier) (s : ℕ) (o : Option Record) → is_send (take carrier s o) ≡ false
-sent_take carrier s None = refl
-sent_take carrier s (Some r) = sent_serves carrier s r
-
-sent_cleared : (carrier : Carrier) (head : ℕ) → is_send (cleared carrier head) ≡ false
-sent_cleared (Carrier.Releaser u) head = sent_if (nat_eq head 0) _ _ refl refl
-sent_cleared Carrier.Locker head = refl
-sent_cleared (Carrier.Reclaimer u) head = refl
-sent_cleared Carrier.Sender head = refl
-
-sent_releases : (x : SeatState) (r : Releaser) (answer : Unlocked) → is_send (releases x r answer).seat.point ≡ false
-sent_releases x Unlocker answer = refl
-sent_releases x Waiter answer = refl
-
-sent_pushed : (x : SeatState) (pusher : Pusher) → is_send (pushed x pusher).seat.point ≡ false
-sent_pushed x Pusher.Locker = refl
-sent_pushed x (Pusher.Sender t) = refl
-
-sent_granted : (x : SeatState) (carrier : Carrier) (oldest : Record) → is_send (granted x carrier oldest).seat.point ≡ false
-sent_granted x Carrier.Locker oldest = refl
-sent_granted x (Carrier.Releaser r) oldest = sent_releases x r (Unlocked.Granted oldest.seat)
-sent_granted x (Carrier.Reclaimer r) oldest = sent_releases x r (Unlocked.Granted oldest.seat)
-sent_granted x Carrier.Sender oldest = refl
-
-sent_looks : (pusher : Pusher) (d t : ℕ) → is_send (looks pusher (record { seat = d; post = t })) ≡ false
-sent_looks Pusher.Locker d t = refl
-sent_looks (Pusher.Sender u) d t = refl
-
-sent_receives : (x : SeatState) (sleeper : Sleeper) (w : Wake) → is_send (receives x sleeper w).seat.point ≡ false
-sent_receives x sleeper (Grant stamp) = refl
-sent_receives x sleeper _ = refl
-
-sent_claims : (x : SeatState) (t : ℕ) (w : Wake) → is_send (claims x t w).seat.point ≡ false
-sent_claims x t Waiting = refl
-sent_claims x t _ = refl
-
-sent_at : (d t ps s n : ℕ) (o : Option Record) (q : Point) → is_send q ≡ false → is_send (stepped_by (made_of d t ps q) s n o).seat.point ≡ false
-sent_at d t ps s n o LockCountAdd other = sent_if (nat_eq n 0) _ _ refl refl
-sent_at d t ps s n o LockOwnerLoad other = sent_if (nat_eq n s) _ _ refl refl
-sent_at d t ps s n o TryCountExchange other = sent_if (nat_eq n 0) _ _ refl refl
-sent_at d t ps s n o TryOwnerLoad other = sent_step_if (nat_eq n s) _ (goes_on (made_of d t ps TryOwnerLoad) TryHandoffLoad) refl refl
-sent_at d t ps s n o TryHandoffLoad other = sent_step_if (nat_eq (handoff_of n).seat 0) (busy (made_of d t ps TryHandoffLoad)) _ refl refl
-sent_at d t ps s n o (TryHandoffExchange old) other = sent_step_if (same_handoff (handoff_of n) old) _ (busy (made_of d t ps (TryHandoffExchange old))) refl refl
-sent_at d t ps s n o (SendWakeExchange u) other = sent_claims (made_of d t ps (SendWakeExchange u)) u (wake_of n)
-sent_at d t ps s n o (SendCountAdd u) other = sent_if (nat_eq n 0) _ _ refl refl
-sent_at d t ps s n o (SendPushLook u old) other = sent_step_if (nat_eq (link_of n).next 0) _ (goes_on (made_of d t ps (SendPushLook u old)) (PushedHandoffExchange (Pusher.Sender u) old)) refl refl
-sent_at d t ps s n o (PushExchange pusher old) other = sent_if (same_link (link_of n) old) _ _ refl refl
-sent_at d t ps s n o (PushedHandoffLoad pusher) other =
-    sent_step_if (nat_eq (handoff_of n).seat 0) (pushed (made_of d t ps (PushedHandoffLoad pusher)) pusher) _ (sent_pushed (made_of d t ps (PushedHandoffLoad pusher)) pusher) (sent_looks pusher (n % 65536) (n / 65536))
-sent_at d t ps s n o (PushedHandoffExchange pusher old) other =
-    sent_step_if (same_handoff (handoff_of n) old) (goes_on (made_of d t ps (PushedHandoffExchange pusher old)) (take (carrier_of pusher) s o)) _ (sent_take (carrier_of pusher) s o) (sent_pushed (made_of d t ps (PushedHandoffExchange pusher old)) pusher)
-sent_at d t ps s n o (ReleaseCountSubtract r) other =
-    sent_step_if (nat_eq n 1) _ (goes_on (made_of d t ps (ReleaseCountSubtract r)) (take (Carrier.Releaser r) s o)) (sent_releases (made_of d t ps (ReleaseCountSubtract r)) r Unlocked.Free) (sent_take (Carrier.Releaser r) s o)
-sent_at d t ps s n o (ReleasePushLook r) other =
-    sent_step_if (nat_eq (link_of n).next 0) _ (goes_on (made_of d t ps (ReleasePushLook r)) (ReleaseHandoffExchange r)) (sent_releases (made_of d t ps (ReleasePushLook r)) r Unlocked.Posted) refl
-sent_at d t ps s n o (ReleaseHandoffExchange r) other =
-    sent_step_if (same_handoff (handoff_of n) (record { seat = s; post = ps })) (goes_on (made_of d t ps (ReleaseHandoffExchange r)) (take (Carrier.Reclaimer r) s o)) _
-    (sent_take (Carrier.Reclaimer r) s o) (sent_releases (made_of d t ps (ReleaseHandoffExchange r)) r Unlocked.TakenOver)
-sent_at d t ps s n o (TakeClearHead carrier) other = sent_cleared carrier (link_of n).next
-sent_at d t ps s n o (TakeLinkLoad carrier next) other = sent_if (nat_eq (link_of n).next 0) _ _ (sent_serves carrier s (loaded next (link_of n))) refl
-sent_at d t ps s n o (GrantWakeStore carrier oldest) other = sent_granted (made_of d t ps (GrantWakeStore carrier oldest)) carrier oldest
-sent_at d t ps s n o (ReceiveWakeLoad sleeper) other = sent_receives (made_of d t ps (ReceiveWakeLoad sleeper)) sleeper (wake_of n)
-sent_at d t ps s n o (ReleaseOwnerStore r) other = refl
-sent_at d t ps s n o _ other = refl
-
-pub no_send : (x : SeatState) (s n : ℕ) (o : Option Record) → is_send x.point ≡ false → is_send (stepped_by x s n o).seat.point ≡ false
-no_send x s n o other = sent_at x.depth x.takes x.posts s n o x.point other
+pub no_send : (x : SeatState) (s n : ℕ) (o : Option Record) → is_send (stepped_by x s n o).seat.point ≡ false
+no_send x s n o = later_sends_not (stepped_by x s n o).seat.point (no_first x s n o)
 
 none_at : (q : Point) (n : ℕ) → is_send q ≡ false → send_at q n ≡ []
 none_at (SendWakeExchange u) n other = absurd (false≢true (sym other))
@@ -123,7 +39,7 @@ none_at _ n other = refl
 -- a run that doesn't begin with the exchange of a send sends nobody
 pub no_sends : (s : ℕ) (x : SeatState) (finds : List (ℕ × Option Record)) → is_send x.point ≡ false → sends_of (trail_of s x finds) ≡ []
 no_sends s x [] other = refl
-no_sends s x (f ∷ finds) other = ap (λ (l : List ℕ). l ++ sends_of (trail_of s (stepped_by x s f.0 f.1).seat finds)) (none_at x.point f.0 other) ∙ no_sends s (stepped_by x s f.0 f.1).seat finds (no_send x s f.0 f.1 other)
+no_sends s x (f ∷ finds) other = ap (λ (l : List ℕ). l ++ sends_of (trail_of s (stepped_by x s f.0 f.1).seat finds)) (none_at x.point f.0 other) ∙ no_sends s (stepped_by x s f.0 f.1).seat finds (no_send x s f.0 f.1)
 
 pub sends_join : (xs ys : List Seen) → sends_of (xs ++ ys) ≡ sends_of xs ++ sends_of ys
 sends_join [] ys = refl
@@ -180,7 +96,7 @@ nw_at d t ps s n o _ other = refl
 no_not_waiting : (s : ℕ) (x : SeatState) (turn : Turn) (finds : List (ℕ × Option Record)) → is_send x.point ≡ false → is_not_waiting turn ≡ false → is_not_waiting (end_of s (record { seat = x; turn = turn }) finds).turn ≡ false
 no_not_waiting s x turn [] other first = first
 no_not_waiting s x turn (f ∷ finds) other first =
-    no_not_waiting s (stepped_by x s f.0 f.1).seat (stepped_by x s f.0 f.1).turn finds (no_send x s f.0 f.1 other) (nw_at x.depth x.takes x.posts s f.0 f.1 x.point other)
+    no_not_waiting s (stepped_by x s f.0 f.1).seat (stepped_by x s f.0 f.1).turn finds (no_send x s f.0 f.1) (nw_at x.depth x.takes x.posts s f.0 f.1 x.point other)
 
 -- The run of a send
 

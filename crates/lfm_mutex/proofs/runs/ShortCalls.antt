@@ -27,7 +27,7 @@ use Rattle.lfm_core.specs.table.Words.{stepped_by, stepped_of, handoff_of, wake_
 use Rattle.lfm_table.proofs.tables.StepFacts.{made_of}
 use Rattle.lfm_mutex.specs.calls.Runs.{end_of, trail_of, opens}
 use Rattle.lfm_mutex.specs.calls.Sight.{Sight, Locks, Receives, BusySeen}
-use Rattle.lfm_mutex.specs.calls.Trails.{Seen, Leads, MakesCall, MakesAtMost}
+use Rattle.lfm_mutex.specs.calls.Trails.{Seen, CallEnds, MakesCall, MakesAtMost}
 
 abbrev left_at : Point → ℕ
 left_at TryCountExchange = 6
@@ -134,7 +134,7 @@ receive_opens x l _ = λ e. absurd (cc)
 
 -- The calls
 
-leads_few : (first : Turn) (n k : ℕ) (q y : SeatState) (turn : Turn) (trail trail' : List Seen) → (first ≡ Open → Short k q.point) → turn ≢ Refused Idle → Leads first n q trail turn y trail' → length trail' ≤ length trail + k
+leads_few : (first : Turn) (n k : ℕ) (q y : SeatState) (turn : Turn) (trail trail' : List Seen) → (first ≡ Open → Short k q.point) → turn ≢ Refused Idle → CallEnds first n q trail turn y trail' → length trail' ≤ length trail + k
 leads_few Open n k q y turn trail trail' short some leads =
     let most = short_run n leads.0 k (opens q) (short refl) (λ e. some (sym (ap (λ (z : Stepped). z.turn) leads.1) ∙ e)) in
     let long = long_as n q leads.0 in

@@ -17,7 +17,7 @@ use Rattle.lfm_protocol.specs.declared.points.Releaser.{Releaser}
 use Rattle.lfm_protocol.specs.declared.points.Releaser.TheVariants.{Unlocker, Waiter}
 use Rattle.lfm_protocol.specs.declared.points.Sleeper.{Sleeper}
 use Rattle.lfm_protocol.specs.declared.seats.SeatState.{SeatState}
-use Rattle.lfm_protocol.specs.After.{same_link, same_handoff, releases, pushed, granted, receives, claims, carrier_of, take, serves, cleared, busy, looks, loaded, held}
+use Rattle.lfm_protocol.specs.After.{same_link, same_handoff, releases, pushed, granted, receives, claims, carrier_of, take, serves, once_cleared, busy, looks, loaded, held}
 use Rattle.lfm_protocol.specs.Begin.{Stepped, goes_on}
 use Rattle.lfm_protocol.specs.Points.{kind}
 use Rattle.lfm_core.specs.steady.Steady.{DepthAt}
@@ -53,7 +53,7 @@ still_take : (carrier : Carrier) (s : ℕ) (o : Option Record) → StillAt (take
 still_take carrier s None = tt
 still_take carrier s (Some r) = still_serves carrier s r
 
-still_cleared : (carrier : Carrier) (head : ℕ) → StillAt (cleared carrier head)
+still_cleared : (carrier : Carrier) (head : ℕ) → StillAt (once_cleared carrier head)
 still_cleared (Carrier.Releaser u) head = still_if (nat_eq head 0) _ _ tt tt
 still_cleared Carrier.Locker head = tt
 still_cleared (Carrier.Reclaimer u) head = tt

@@ -41,7 +41,8 @@ use Rattle.lfm_mutex.proofs.runs.RunFacts.{no_leaves}
 use Rattle.lfm_mutex.proofs.runs.Running.{begun_open}
 use Rattle.lfm_table.proofs.tables.StepFacts.{made_of, left_same}
 use Rattle.lfm_mutex.proofs.runs.SightFacts.{concludes}
-use Rattle.lfm_mutex.proofs.runs.SendFacts.{is_send, no_sends, sends_join, sent_path, refused_path}
+use Rattle.lfm_mutex.proofs.runs.FirstPoints.{is_send}
+use Rattle.lfm_mutex.proofs.runs.SendFacts.{no_sends, sends_join, sent_path, refused_path}
 use Rattle.lfm_mutex.proofs.runs.BusyFacts.{busy_path}
 
 -- One step

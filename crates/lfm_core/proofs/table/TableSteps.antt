@@ -98,6 +98,7 @@ table_step c g s p is fits narrow settles =
     let after_is : IsSeat (made d s).core.seats s = rw seats_are (is_seat-with c.seats s s y is) in
     record {
       after = (made (put c s p) s).core;
+      is_made = refl;
       ghost_after = kept.to;
       fits = kept.fits;
       narrow = after_narrow;

@@ -12,6 +12,7 @@ use Rattle.lfm_core.specs.steady.EventOutcome.{abstract, GoesOn}
 use Rattle.lfm_protocol.specs.Place.{carries}
 use Rattle.lfm_core.specs.table.Ready.{IsReady}
 use Rattle.lfm_protocol.specs.Seats.{seat, with_entry}
+use Rattle.lfm_protocol.specs.Step.{made}
 use Rattle.lfm_core.specs.steady.Steady.{Fits}
 use Rattle.lfm_core.specs.table.Words.{words, index, written, stepped_by, popped_by_step, AreNarrow}
 
@@ -58,10 +59,11 @@ abbrev pub move : SeatState → Stepped → Move
 move p stepped = move_of (carries_value p) (carries_value stepped.seat)
 
 -- Seat s, having become p without a step, makes its next step in the state c, which the ghost g fits, and finds the number n. The
--- words, the seats and the pop list become what p and n say, the abstract mutex goes by the case of the step, the seat is ready
--- for the step after, and the value goes by its move.
+-- state after it is the one that the core's step makes. The words, the seats and the pop list become what p and n say, the abstract
+-- mutex goes by the case of the step, the seat is ready for the step after, and the value goes by its move.
 pub record TableStep (c : Core) (g : Ghost) (s : ℕ) (p : SeatState) (n : ℕ) : Type 0 where
   pub after : Core
+  pub is_made : after ≡ (made (put c s p) s).core
   pub ghost_after : Ghost
   pub fits : Fits after ghost_after
   pub narrow : AreNarrow after.seats

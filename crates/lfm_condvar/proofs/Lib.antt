@@ -2,7 +2,6 @@ pub mod Begins
 pub mod Enlisted
 pub mod Followed
 pub mod ListFacts
-pub mod NumberSums
 pub mod OneHold
 pub mod Sent
 pub mod lawful

@@ -4,7 +4,8 @@ use Rattle.std.specs.Prelude.{All, sum}
 use Rattle.std.proofs.lemmas.List.Sums.{sum_by-le}
 use mathlib.Core.Logic.{dite}
 use native.Mathlib.Decide.{ℕ_discrete}
-use Rattle.lfm_condvar.proofs.NumberSums.{sum_to, one_at, one_most, one_other, one_within, sum_add, sum_none, sum_below}
+use Rattle.lfm_model.specs.Sums.{sum_to}
+use Rattle.lfm_model.proofs.Sums.{one_at, one_most, one_other, one_within, sum_add, sum_none, sum_below}
 use Rattle.lfm_condvar.specs.declared.waiters.Waiter.{Waiter}
 use Rattle.lfm_condvar.specs.Lists.{GoOnFrom, times, Among}
 

@@ -1,6 +1,7 @@
 //! The list of those that wait, with its tickets. Only `enlist` and `send_oldest` change it.
 ghost use Rattle.std.specs.Prelude.{All, ◌≡◌, ℕ, ◌+◌, ◌<◌, ◌≤◌, ◌++◌, [], ◌∷◌, Some, IfOk, MatchBool, MatchOption, length, slice_index, sum, vec_len};
 ghost use Rattle.std.specs.VecDeque.{deque_capacity, deque_len};
+ghost use Rattle.lfm_protocol.specs.Limits.{max_budget, max_seats};
 ghost use Rattle.lfm_condvar.specs.Lists.{Among, Among-prop, GoOnFrom, GoOn-prop, times, waiter};
 
 pub mod enlist;
@@ -37,7 +38,7 @@ pub struct Waiters {
     pub ghost counted: { (vec_len counts ≡ seats + 1) × (sum counts.items ≡ added) },
     pub ghost nobody: { slice_index counts.items 0 ≡ 0 },
     pub ghost within: { All (λ x. x ≤ budget) counts.items },
-    pub ghost limits: { (seats < 4096) × (budget ≤ 68719476736) },
+    pub ghost limits: { (seats ≤ max_seats) × (budget ≤ max_budget) },
 }
 
 impl Waiters {
@@ -45,7 +46,7 @@ impl Waiters {
 
     /// A list of nobody, with room for each of the seats. It asks for memory twice.
     pub(crate) fn empty(alloc: Global, seats: u64, budget: u64) -> Result<Waiters, AllocError>
-        requires { (seats < 4096) × (budget ≤ 68719476736) }
+        requires { (seats ≤ max_seats) × (budget ≤ max_budget) }
         ensures { IfOk result (λ v. IsNew v × (v.seats ≡ seats) × (v.budget ≡ budget)) }
     {
         let list = VecDeque::with_capacity(alloc, seats as usize)?;
@@ -74,8 +75,8 @@ impl Waiters {
         (self.sent, self.added)
     }
 
-    // Whether the user seat stands in the list.
-    fn has(&self, seat: SeatNo) -> bool
+    /// Whether the user seat stands in the list.
+    pub(crate) fn has(&self, seat: SeatNo) -> bool
         ensures { MatchBool result (0 < times seat self.now.list.items) (times seat self.now.list.items ≡ 0) }
     {
         for i in 0..self.list.len() {
@@ -93,8 +94,8 @@ impl Waiters {
         self.list.front().copied()
     }
 
-    // Puts a user seat that isn't there at the end with the next ticket, and counts it for the cond seat `by`.
-    fn append(&mut self, by: SeatNo, seat: SeatNo) -> u64
+    /// Puts a user seat that is not there at the end with the next ticket, and counts it for the cond seat `by`.
+    pub(crate) fn append(&mut self, by: SeatNo, seat: SeatNo) -> u64
         requires by { (by ≤ self.old.seats) × (slice_index self.old.counts.items by < self.old.budget) }
         requires seat { (0 < seat) × (seat ≤ self.old.seats) × (times seat self.old.list.items ≡ 0) }
         ensures appended { Appended by seat self.old self.new }

@@ -9,16 +9,16 @@ use Rattle.lfm_core.specs.text.Grammar.{Plan}
 use Rattle.lfm_text.specs.Taking.{Takes}
 use Rattle.lfm_core.specs.text.Trace.{none_refused, opening}
 use Rattle.lfm_core.proofs.texts.Replays.{exact}
-use Rattle.lfm_explanation.specs.Verdicts.{Ends, Judges}
+use Rattle.lfm_explanation.specs.Verdicts.{AnswersVerdict, Judges}
 
 -- the fault that `?` makes of a writer's
-pub write_failed : (r verdict : Result Bool ReplayFault) (old new : Option (List ℕ)) → IsErrAnd r (λ y. y ≡ Write) → Ends r verdict old new
+pub write_failed : (r verdict : Result Bool ReplayFault) (old new : Option (List ℕ)) → IsErrAnd r (λ y. y ≡ Write) → AnswersVerdict r verdict old new
 write_failed (Ok b) verdict old new e = absurd e
-write_failed (Err y) verdict old new e = subst (λ x. Ends (Err x) verdict old new) (sym e) tt
+write_failed (Err y) verdict old new e = subst (λ x. AnswersVerdict (Err x) verdict old new) (sym e) tt
 
 -- the run of a plan from its opening state
 pub run_judged : (b : Bool) (p : Plan) (state : Core) (lines : List Line) → state ≡ opening p → lines ≡ p.lines
-    → b ≡ none_refused state lines → Ends (Ok b) (Ok (none_refused (opening p) p.lines)) None None
+    → b ≡ none_refused state lines → AnswersVerdict (Ok b) (Ok (none_refused (opening p) p.lines)) None None
 run_judged b p state lines opens same verdict =
     let Verdict : Core → List Line → Type 0 = λ c ls. b ≡ none_refused c ls in
     ap Ok (sym (subst (Verdict (opening p)) same (subst (λ c. Verdict c lines) opens verdict)))

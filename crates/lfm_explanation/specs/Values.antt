@@ -6,10 +6,10 @@ use Rattle.lfm_explanation.specs.declared.values.Value.{Value}
 use Rattle.lfm_explanation.specs.declared.values.Value.TheVariants.{Number, Handoff, Link, Wake}
 
 -- what this word holds, in its own coding
-abbrev pub value_in : Core → Word → Value
-value_in c Word.Count = Number c.count
-value_in c Word.Owner = Number c.owner
-value_in c Word.Handoff = Handoff c.handoff
-value_in c Word.Push = Link c.push
-value_in c (Word.Link t) = Link (link c.links t)
-value_in c (Word.Wake t) = Wake (wake c.wakes t)
+abbrev pub word_value : Core → Word → Value
+word_value c Word.Count = Number c.count
+word_value c Word.Owner = Number c.owner
+word_value c Word.Handoff = Handoff c.handoff
+word_value c Word.Push = Link c.push
+word_value c (Word.Link t) = Link (link c.links t)
+word_value c (Word.Wake t) = Wake (wake c.wakes t)

@@ -6,14 +6,14 @@ use Rattle.lfm_core.specs.declared.text.faults.ReplayFault.TheVariants.{Syntax, 
 use Rattle.lfm_core.specs.text.Trace.{verdict_of}
 
 -- The verdict is answered, or the writer failed. After `Read` and `Memory` nothing was written.
-abbrev pub Ends : Result Bool ReplayFault → Result Bool ReplayFault → Option (List ℕ) → Option (List ℕ) → Type 0
-Ends (Ok b) verdict old new = verdict ≡ Ok b
-Ends (Err (Syntax n)) verdict old new = verdict ≡ Err (Syntax n)
-Ends (Err Limit) verdict old new = verdict ≡ Err Limit
-Ends (Err Read) verdict old new = Keeps old new
-Ends (Err Write) verdict old new = ⊤
-Ends (Err Memory) verdict old new = Keeps old new
+abbrev pub AnswersVerdict : Result Bool ReplayFault → Result Bool ReplayFault → Option (List ℕ) → Option (List ℕ) → Type 0
+AnswersVerdict (Ok b) verdict old new = verdict ≡ Ok b
+AnswersVerdict (Err (Syntax n)) verdict old new = verdict ≡ Err (Syntax n)
+AnswersVerdict (Err Limit) verdict old new = verdict ≡ Err Limit
+AnswersVerdict (Err Read) verdict old new = Keeps old new
+AnswersVerdict (Err Write) verdict old new = ⊤
+AnswersVerdict (Err Memory) verdict old new = Keeps old new
 
 -- the verdict of a replay of the input
 abbrev pub Judges : Result Bool ReplayFault → List ℕ → Option (List ℕ) → Option (List ℕ) → Type 0
-Judges result input old new = Ends result (verdict_of input) old new
+Judges result input old new = AnswersVerdict result (verdict_of input) old new

@@ -6,7 +6,7 @@ ghost use Rattle.lfm_core.specs.text.Lines.{steps, line_moved};
 ghost use Rattle.lfm_core.specs.text.Trace.{none_refused, opening};
 ghost use Rattle.lfm_text.specs.Text.{max_lines};
 ghost use Rattle.lfm_protocol.specs.Limits.{are_in_limits};
-ghost use Rattle.lfm_explanation.specs.Verdicts.{Ends, Judges};
+ghost use Rattle.lfm_explanation.specs.Verdicts.{AnswersVerdict, Judges};
 
 use crate::shown::{begin_shown, step_shown};
 use lfm_core::text::trace::{write_fault_line, write_line, write_opening};
@@ -105,7 +105,7 @@ fn explain_schedule<W: Write>(
     requires limits { are_in_limits schedule.now.seats schedule.now.budget ≡ true }
     requires few { length schedule.now.lines.items < max_lines }
     ensures { let plan = plan_of schedule.now in
-        Ends result (Ok (none_refused (opening plan) plan.lines)) (W.contents writer.old) (W.contents writer.new) }
+        AnswersVerdict result (Ok (none_refused (opening plan) plan.lines)) (W.contents writer.old) (W.contents writer.new) }
 {
     let mut state = State::new(alloc, schedule.seats, schedule.budget).map_err(
         |_| ReplayFault::Memory,

@@ -1,6 +1,6 @@
 //! What a word holds, decoded, and how it is written.
 ghost use Rattle.std.specs.Prelude.{◌≡◌};
-ghost use Rattle.lfm_explanation.specs.Values.{value_in};
+ghost use Rattle.lfm_explanation.specs.Values.{word_value};
 
 use lfm_core::State;
 use lfm_core::kinds::Word;
@@ -24,7 +24,7 @@ pub enum Value {
 
 /// What this word of a state holds.
 pub fn value_of(state: &State, word: Word) -> Value
-    ensures { result ≡ value_in state.now word }
+    ensures { result ≡ word_value state.now word }
 {
     match word {
         Word::Count => Value::Number(state.count()),

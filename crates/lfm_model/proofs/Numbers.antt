@@ -4,7 +4,8 @@ use mathlib.Core.Option.{some, some-injective, some-ne-none}
 use lib.ListN.{get_elem?}
 use Rattle.std.specs.List.{remove}
 use Rattle.std.proofs.lemmas.List.Edits.{length-remove}
-use Rattle.lfm_model.specs.Journals.{sum_to, total}
+use Rattle.lfm_model.specs.Journals.{total}
+use Rattle.lfm_model.specs.Sums.{sum_to}
 
 not_removed : {A : Type 0} (xs : List A) (i k : ℕ) (y : A) → get_elem? xs k ≡ some y → (k ≡ i) ⊎ ((j : ℕ) × (get_elem? (remove xs i) j ≡ some y))
 not_removed [] i k y e = absurd (some-ne-none y (sym e))

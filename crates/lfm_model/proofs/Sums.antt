@@ -3,7 +3,8 @@ use Rattle.std.proofs.Common.{◌≡◌, ◌≢◌, ℕ, zero, suc, ◌+◌, ◌
 use mathlib.Core.Logic.{dite}
 use native.Mathlib.Decide.{ℕ_discrete}
 use Rattle.lfm_model.specs.declared.journals.Entry.{Entry}
-use Rattle.lfm_model.specs.Journals.{own, Within, sum_to}
+use Rattle.lfm_model.specs.Journals.{own, Within}
+use Rattle.lfm_model.specs.Sums.{sum_to}
 
 pub sum_ext : (f g : ℕ → ℕ) (n : ℕ) → ((s : ℕ) → f s ≡ g s) → sum_to f n ≡ sum_to g n
 sum_ext f g n h = λ i. sum_to (λ s. h s i) n

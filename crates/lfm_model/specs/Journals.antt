@@ -110,11 +110,6 @@ module _ {A : Type 0} where
   LawfulJournal-prop t k [] = Unit-prop
   LawfulJournal-prop t k (e ∷ es) = ×_prop (May-prop t k e.seat e.what) (LawfulJournal-prop (taker_at t e.seat e.what) (queued_at k e.what) es)
 
--- the sum of f over the numbers 1 to n
-abbrev pub sum_to : (ℕ → ℕ) → ℕ → ℕ
-sum_to f zero = 0
-sum_to f (suc n) = sum_to f n + f (suc n)
-
 -- the sum of f over the items
 abbrev pub total : {A : Type 0} → (A → ℕ) → List A → ℕ
 total f [] = 0

@@ -4,4 +4,6 @@ pub mod AbstractRuns
 pub mod JournalLaws
 pub mod Journals
 pub mod Refusals
+pub mod SeatNumbers
+pub mod Sums
 pub mod Totals

@@ -2,7 +2,8 @@
 use Rattle.std.proofs.Common.{subst, sym, ◌≡◌, ℕ, suc, ◌<◌, ◌≤◌, List, [], ◌∷◌, ◌++◌, length, Some, refl, ◌∙◌, ap, arith}
 use mathlib.Core.Option.{some}
 use lib.ListN.{get_elem?}
-use Rattle.lfm_model.specs.Journals.{own, sum_to, total}
+use Rattle.lfm_model.specs.Journals.{own, total}
+use Rattle.lfm_model.specs.Sums.{sum_to}
 use Rattle.lfm_model.proofs.Sums.{own_total}
 use Rattle.lfm_model.proofs.Numbers.{all_once}
 use Rattle.lfm_mutex.specs.calls.Sight.{Sight, sight}

@@ -8,6 +8,7 @@ use Rattle.lfm_model.specs.declared.journals.What.TheVariants.{Took, Did}
 use Rattle.lfm_model.specs.declared.journals.Entry.{Entry}
 use Rattle.lfm_model.specs.declared.refusals.Refusal.{Refusal}
 use Rattle.lfm_model.specs.Journals.{after_all, LawfulJournal, one_to, own, entry, stamps, taker_from}
+use Rattle.lfm_protocol.specs.Limits.{max_depth}
 use Rattle.lfm_mutex.specs.calls.Trails.{Seen}
 use Rattle.lfm_mutex.specs.calls.Sight.{Sight, BusySeen, Deepens}
 use Rattle.lfm_monitor.specs.declared.journaled.Journaled.{Journaled}
@@ -76,7 +77,7 @@ module _ {O A R : Type 0} {K : _} where
   -- why a call is refused that is to hold
   abbrev pub EnterRefused : ℕ → Sight (Journaled O A R K) → ℕ → Refusal → Type 0
   EnterRefused share s mine Refusal.Asleep = s.asleep ≡ true
-  EnterRefused share s mine Refusal.DepthFull = (s.asleep ≡ false) × (65535 ≤ s.depth)
+  EnterRefused share s mine Refusal.DepthFull = (s.asleep ≡ false) × (max_depth ≤ s.depth)
   EnterRefused share s mine Refusal.Spent = (s.asleep ≡ false) × (s.depth ≡ 0) × ((share ≤ mine) ⊎ (share ≤ s.takes))
   EnterRefused share s mine _ = ⊥
 

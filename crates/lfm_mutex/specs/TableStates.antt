@@ -19,7 +19,7 @@ use Rattle.lfm_table.specs.Rule.{Held}
 
 -- the table is this state of the core, which reads as this abstract mutex, and the value is out with the one seat that owns or
 -- carries, and else at home, with the pop list
-pub record Stands {T : Type 0} (s : State (Option (Moving T)) (View T)) (c : Core) (a : AbstractMutex) : Type 0 where
+pub record TableIs {T : Type 0} (s : State (Option (Moving T)) (View T)) (c : Core) (a : AbstractMutex) : Type 0 where
   pub core : IsCore s c
   pub limits_are : (j : ℕ) (v : View T) → get_elem? s.views j ≡ some v → v.limits ≡ limits c
   pub not_yet : (j : ℕ) → length s.views ≤ j → seat c.seats (j + 1) ≡ absent
@@ -30,7 +30,7 @@ pub record Stands {T : Type 0} (s : State (Option (Moving T)) (View T)) (c : Cor
 
 module _ {T : Type 0} (follows : ℕ → T → T → Type 0) (fits : T → ℕ → Type 0) where
   abbrev pub TablesStand : Type 0
-  TablesStand = (s : State (Option (Moving T)) (View T)) → Held follows fits s → (c : Core) × (a : AbstractMutex) × Stands s c a
+  TablesStand = (s : State (Option (Moving T)) (View T)) → Held follows fits s → (c : Core) × (a : AbstractMutex) × TableIs s c a
 
   -- where each seat rests and none holds, the count is 0, nothing is posted and nobody is queued
   abbrev pub RestingTablesAreFree : Type 0

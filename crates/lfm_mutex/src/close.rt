@@ -3,6 +3,7 @@ ghost use Rattle.std.specs.Prelude.{◌≡◌, ◌<◌, ◌≤◌, ℕ, [], Some
 ghost use mathlib.Core.Option.{some};
 ghost use lib.ListN.{get_elem?};
 ghost use Rattle.std.specs.Slots.{IsFull, slots_items, slots_len};
+ghost use Rattle.lfm_model.specs.SeatNumbers.{IsSeatNo};
 ghost use Rattle.lfm_protocol.specs.declared.points.Point.TheVariants.{Rest};
 ghost use Rattle.lfm_table.specs.declared.seat_view.Role.TheVariants.{User};
 ghost use Rattle.lfm_mutex.specs.Belongs.{OfMutex, limits_of};
@@ -50,7 +51,7 @@ fn hinders_one<T: Kept, P: Holder<T>>(holder: &P) -> Option<Missing>
 
 // What keeps the seat with this number from being joined.
 fn hinders_at<T: Kept, P: Holder<T>>(seats: &Vec<P>, number: u64) -> Option<Missing>
-    requires number { (0 < number) × (number ≤ 65535) }
+    requires number { IsSeatNo number }
     ensures { MatchOption result (Stands (λ p. sight (P.seat_of p)) seats.now.items number) (λ m. (named m ≡ number) × Hindered (λ p. sight (P.seat_of p)) seats.now.items m) }
 {
     let mut found = false;

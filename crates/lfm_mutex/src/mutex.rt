@@ -1,5 +1,6 @@
 //! The mutex: its words, and how many seats and takes it allows. Each of its calls has a file of its name.
 ghost use Rattle.std.specs.Prelude.{◌≡◌, ◌+◌, ◌*◌, ◌<◌, ◌≤◌};
+ghost use Rattle.lfm_protocol.specs.Limits.{max_seats};
 
 use atomic_table::Table;
 use lfm_protocol::Limits;
@@ -21,5 +22,5 @@ pub struct Mutex<T: Kept> {
     pub ghost words: { table.shared.table_id.words ≡ 4 + 2 * limits.seats },
     pub ghost slots: { table.shared.table_id.slots ≡ 1 },
     pub ghost some: { 0 < limits.seats },
-    pub ghost few: { limits.seats ≤ 4095 },
+    pub ghost few: { limits.seats ≤ max_seats },
 }

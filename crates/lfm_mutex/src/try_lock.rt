@@ -5,6 +5,7 @@ ghost use Rattle.lfm_model.specs.declared.answers.How.{How as HowNow};
 ghost use Rattle.lfm_protocol.specs.declared.answers.Call.{Call as CallNow};
 ghost use Rattle.lfm_protocol.specs.declared.points.Entrant.{Entrant as EntrantNow};
 ghost use Rattle.lfm_protocol.specs.declared.points.Point.TheVariants.{Rest, TryHandoffLoad, EnterOwnerStore};
+ghost use Rattle.lfm_protocol.specs.Limits.{max_depth};
 ghost use Rattle.lfm_core.specs.table.Words.{stepped_by};
 ghost use Rattle.lfm_mutex.specs.Belongs.{Beside, OfMutex, limits_of};
 ghost use Rattle.lfm_mutex.specs.calls.Runs.{errand, trying, Ends};
@@ -158,7 +159,7 @@ pub fn try_again<T: Kept>(mutex: &Mutex<T>, seat: &mut Seat<T>) -> Result<Locked
     requires belongs { OfMutex seat.old mutex.now }
     requires rests { seat.old.standing.point ≡ Rest }
     requires held { 0 < seat.old.standing.depth }
-    requires room { seat.old.standing.depth < 65535 }
+    requires room { seat.old.standing.depth < max_depth }
     ensures belongs { Beside seat.old seat.new }
     ensures made { ComesTo T.follows T.fits (limits_of mutex.now) CallNow.TryLock (sight seat.old) (sight seat.new) (try_turn result) }
 {

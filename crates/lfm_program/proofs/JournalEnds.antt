@@ -8,7 +8,8 @@ use lib.ListN.{get_elem?}
 use Rattle.lfm_model.specs.declared.refusals.Missing.{Missing}
 use Rattle.lfm_model.specs.declared.refusals.Missing.TheVariants.{NotBack, Holding, Asleep}
 use Rattle.lfm_model.specs.declared.journals.Entry.{Entry}
-use Rattle.lfm_model.specs.Journals.{own, Within, sum_to, total}
+use Rattle.lfm_model.specs.Journals.{own, Within, total}
+use Rattle.lfm_model.specs.Sums.{sum_to}
 use Rattle.lfm_model.proofs.Sums.{one_at, one_same, one_other, sum_add, sum_ext, sum_none}
 use Rattle.lfm_mutex.specs.Close.{FirstMissing, Hinders, Idle}
 use Rattle.lfm_mutex.specs.calls.Sight.{Sight}

@@ -7,7 +7,8 @@ use Rattle.lfm_model.specs.declared.objects.Total.{Total}
 use Rattle.lfm_model.specs.declared.objects.TotalOp.{TotalOp}
 use Rattle.lfm_model.specs.declared.journals.Entry.{Entry}
 use Rattle.lfm_model.specs.declared.refusals.Refusal.{Refusal}
-use Rattle.lfm_model.specs.Journals.{LawfulJournal, Within, own, sum_to, total}
+use Rattle.lfm_model.specs.Journals.{LawfulJournal, Within, own, total}
+use Rattle.lfm_model.specs.Sums.{sum_to}
 use Rattle.lfm_mutex.specs.Close.{Idle}
 use Rattle.lfm_monitor.specs.declared.monitor.Monitor.{Monitor}
 use Rattle.lfm_monitor.specs.declared.pass.Pass.{Pass}

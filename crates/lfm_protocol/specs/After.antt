@@ -102,9 +102,9 @@ take carrier s None = TakeClearHead carrier
 take carrier s (Some oldest) = serves carrier s oldest
 
 -- where the carrier goes on, having cleared a push list of this head
-abbrev pub cleared : Carrier → ℕ → Point
-cleared (Carrier.Releaser releaser) head = if nat_eq head 0 then ReleaseHandoffStore releaser else TakeLinkLoad (Carrier.Releaser releaser) head
-cleared carrier head = TakeLinkLoad carrier head
+abbrev pub once_cleared : Carrier → ℕ → Point
+once_cleared (Carrier.Releaser releaser) head = if nat_eq head 0 then ReleaseHandoffStore releaser else TakeLinkLoad (Carrier.Releaser releaser) head
+once_cleared carrier head = TakeLinkLoad carrier head
 
 -- the answer of a call that has come to hold
 abbrev pub held : Entrant → How → Answer
@@ -211,7 +211,7 @@ after_push_exchange x found = after_push_exchange_at x found x.point
 
 -- the head of the push word was cleared
 abbrev pub after_clear_head_at : SeatState → Link → Point → Stepped
-after_clear_head_at x found (TakeClearHead carrier) = goes_on x (cleared carrier found.next)
+after_clear_head_at x found (TakeClearHead carrier) = goes_on x (once_cleared carrier found.next)
 after_clear_head_at x found _ = idle x
 
 abbrev pub after_clear_head : SeatState → Link → Stepped

@@ -1,4 +1,4 @@
--- How many seats a mutex may have, and how many takes each may charge.
+-- How many seats a mutex may have, how many takes each may charge, and how deep it may hold.
 use Rattle.std.specs.Prelude.{ℕ, Bool, ◌&&◌, nat_le}
 
 -- the most seats
@@ -8,6 +8,10 @@ max_seats = 4095
 -- the largest budget of a seat: 2^36 takes
 abbrev pub max_budget : ℕ
 max_budget = 68719476736
+
+-- the most times that a seat may hold at once
+abbrev pub max_depth : ℕ
+max_depth = 65535
 
 -- 1 to 4,095 seats, with a budget of 1 to 2^36
 abbrev pub are_in_limits : ℕ → ℕ → Bool

@@ -1,5 +1,6 @@
 -- The numbers of a seat's next step fit their words, and its seats are there. Every steady state has room for each step.
 use Rattle.std.specs.Prelude.{ℕ, ◌+◌, ◌^◌, ◌<◌, ◌≤◌, Option, Some, length}
+use Rattle.lfm_model.specs.SeatNumbers.{IsSeatNo}
 use Rattle.lfm_protocol.specs.declared.kinds.Kind.{Kind}
 use Rattle.lfm_protocol.specs.declared.kinds.Kind.TheVariants.{CountAdd, CountSubtract, LinkLoad}
 use Rattle.lfm_protocol.specs.declared.points.Point.{Point}
@@ -18,7 +19,7 @@ HasNumbers x (TryHandoffExchange seen) = 0 < x.takes
 HasNumbers x (LinkStore pusher seen) = seen.stamp + 1 < 2 ^ 64
 HasNumbers x (PushExchange pusher seen) = seen.stamp + 1 < 2 ^ 64
 HasNumbers x (ReleaseHandoffStore releaser) = x.posts + 1 < 2 ^ 64
-HasNumbers x (TakeLinkLoad carrier next) = (0 < next) × (next ≤ 65535)
+HasNumbers x (TakeLinkLoad carrier next) = IsSeatNo next
 HasNumbers x _ = Unit {0}
 
 -- the number of the count word

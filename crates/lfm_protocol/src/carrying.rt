@@ -1,7 +1,7 @@
 //! The points of a call that carries the responsibility or is about to gain it: which record it serves, and what it does
 //! where there is none. Nothing here changes a seat.
 ghost use Rattle.std.specs.Prelude.{◌≡◌};
-ghost use Rattle.lfm_protocol.specs.After.{loaded, looks, carrier_of, cleared, take, serves, held, how_granted};
+ghost use Rattle.lfm_protocol.specs.After.{loaded, looks, carrier_of, once_cleared, take, serves, held, how_granted};
 
 use crate::answers::Answer;
 use crate::points::{Carrier, Entrant, Point, Pusher};
@@ -35,7 +35,7 @@ impl Carrier {
 
     /// The point after a clear of the push list, which had this head. A releaser alone may find none, and then posts.
     pub(crate) fn point_after_clear(self, head: u64) -> Point
-        ensures { result ≡ cleared self head }
+        ensures { result ≡ once_cleared self head }
     {
         match self {
             Carrier::Releaser(releaser) if head == 0 => Point::ReleaseHandoffStore(releaser),

@@ -9,7 +9,8 @@ use Rattle.lfm_model.specs.declared.objects.TotalOp.TheVariants.{Add, Read}
 use Rattle.lfm_model.specs.declared.journals.What.{What}
 use Rattle.lfm_model.specs.declared.journals.What.TheVariants.{Took, Did}
 use Rattle.lfm_model.specs.declared.journals.Entry.{Entry}
-use Rattle.lfm_model.specs.Journals.{own, Within, after_what, after_all, sum_to}
+use Rattle.lfm_model.specs.Journals.{own, Within, after_what, after_all}
+use Rattle.lfm_model.specs.Sums.{sum_to}
 use Rattle.lfm_model.specs.Totals.{total_after}
 use Rattle.lfm_model.proofs.Sums.{sum_ext, sum_add, sum_none}
 use Rattle.lfm_script.specs.declared.script.Command.{Command}

@@ -4,7 +4,8 @@ use Rattle.std.proofs.Common.{◌≡◌, ◌≤◌, ◌<◌, ◌+◌, ◌^◌, z
 use Rattle.lfm_model.specs.declared.refusals.Refusal.{Refusal}
 use Rattle.lfm_model.specs.declared.objects.TotalOp.{TotalOp}
 use Rattle.lfm_model.specs.declared.journals.Entry.{Entry}
-use Rattle.lfm_model.specs.Journals.{own, Within, sum_to}
+use Rattle.lfm_model.specs.Journals.{own, Within}
+use Rattle.lfm_model.specs.Sums.{sum_to}
 use Rattle.lfm_script.specs.declared.rows.Row.{Row}
 use Rattle.lfm_script.specs.declared.script.Command.{Command}
 use Rattle.lfm_script.specs.declared.script.ScriptLine.{ScriptLine}

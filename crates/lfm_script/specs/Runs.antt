@@ -5,7 +5,8 @@ use lib.ListN.{get_elem?}
 use Rattle.lfm_model.specs.declared.refusals.Refusal.{Refusal}
 use Rattle.lfm_model.specs.declared.objects.TotalOp.{TotalOp}
 use Rattle.lfm_model.specs.declared.journals.Entry.{Entry}
-use Rattle.lfm_model.specs.Journals.{LawfulJournal, Within, own, sum_to}
+use Rattle.lfm_model.specs.Journals.{LawfulJournal, Within, own}
+use Rattle.lfm_model.specs.Sums.{sum_to}
 use Rattle.lfm_script.specs.declared.rows.Row.{Row}
 use Rattle.lfm_script.specs.declared.script.Command.{Command}
 use Rattle.lfm_script.specs.declared.script.Command.TheVariants.{Add, Until, One, All}

@@ -117,15 +117,15 @@ retired_at _ = 0
 abbrev pub retired : {T : Type 0} → View T → ℕ
 retired v = retired_at v.role
 
-abbrev pub total : {A : Type 0} → (A → ℕ) → List A → ℕ
-total f [] = 0
-total f (x ∷ xs) = f x + total f xs
+abbrev pub sum_over : {A : Type 0} → (A → ℕ) → List A → ℕ
+sum_over f [] = 0
+sum_over f (x ∷ xs) = f x + sum_over f xs
 
 -- what seat 1's view k says of all views
 pub record Roots {T : Type 0} (views : List (View T)) (k : View T) : Type 0 where
   pub user : k.role ≡ User
   pub made : length views ≡ k.made + 1
-  pub back : total retired views ≡ length k.joined
+  pub back : sum_over retired views ≡ length k.joined
   pub kept : (i : ℕ) (g : Joined T) → get_elem? k.joined i ≡ some g → (j : ℕ) × (z : View T) × (get_elem? views j ≡ some z) × (z.role ≡ Retired) × (z.number ≡ g.number) × (z.last ≡ g.last) × (z.last_found ≡ g.found)
   pub gone : (j : ℕ) (z : View T) → get_elem? views j ≡ some z → z.role ≡ Retired → (i : ℕ) × (get_elem? k.joined i ≡ some (joined_of z))
 

@@ -3,6 +3,7 @@ use Rattle.std.specs.Prelude.{◌≡◌, ℕ, ◌+◌, ◌*◌, ◌<◌, ◌≤�
 use Rattle.atomic_table.specs.Table.{Me}
 use Rattle.lfm_protocol.specs.declared.limits.Limits.{Limits}
 use Rattle.lfm_protocol.specs.declared.seats.SeatState.{SeatState}
+use Rattle.lfm_protocol.specs.Limits.{max_seats}
 use Rattle.lfm_core.specs.table.Carried.{carries_value}
 use Rattle.lfm_table.specs.declared.seat_view.Role.TheVariants.{User}
 use Rattle.lfm_table.specs.declared.seat_view.View.{View}
@@ -23,7 +24,7 @@ pub record Seated {T : Type 0} (number : ℕ) (l : Limits) (p : SeatState) (m : 
 pub record Rooted {T : Type 0} (words id number : ℕ) (l : Limits) (v : View T) : Type 0 where
   pub low : 0 < number
   pub high : number ≤ l.seats
-  pub few : l.seats ≤ 4095
+  pub few : l.seats ≤ max_seats
   pub wide : 4 + 2 * l.seats ≡ words
   pub first : number ≡ 1 → id ≡ 0
   pub made : number ≡ 1 → v.made + 1 ≡ l.seats

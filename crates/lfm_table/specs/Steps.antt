@@ -12,6 +12,7 @@ use Rattle.lfm_protocol.specs.declared.points.Point.TheVariants.{SendWakeStore, 
 use Rattle.lfm_protocol.specs.declared.points.Releaser.{Releaser}
 use Rattle.lfm_protocol.specs.declared.seats.SeatState.{SeatState}
 use Rattle.lfm_protocol.specs.After.{drops_oldest, loaded}
+use Rattle.lfm_protocol.specs.Limits.{max_seats}
 use Rattle.lfm_core.specs.table.Carried.{carries_value}
 use Rattle.lfm_protocol.specs.Points.{kind, target}
 use Rattle.lfm_core.specs.table.Ready.{IsReady}
@@ -57,7 +58,7 @@ module _ {T : Type 0} (follows : ℕ → T → T → Type 0) (suits : T → ℕ 
     pub named : me.0.number ≡ number
     pub seats_are : me.0.limits.seats ≡ seats
     pub wide : 4 + 2 * seats ≡ words
-    pub few : seats ≤ 4095
+    pub few : seats ≤ max_seats
     pub became : Became me.0.standing me.0.limits p
     pub ready : IsReady seats number p
     pub hand : Ready p a me
@@ -83,9 +84,9 @@ add_by (Some Kind.LinkLoad) t n l = loaded t (link_of n) ∷ l
 add_by _ t n l = l
 
 -- what is in hand once a record that was loaded has joined the pop list
-abbrev pub added : {T : Type 0} → SeatState → ℕ → ℕ → Option (Moving T) → Option (Moving T)
-added p s n (Some x) = Some (record x { popped = record x.popped { records = add_by (kind p.point) (target p.point s) n x.popped.records } })
-added p s n None = None
+abbrev pub with_record : {T : Type 0} → SeatState → ℕ → ℕ → Option (Moving T) → Option (Moving T)
+with_record p s n (Some x) = Some (record x { popped = record x.popped { records = add_by (kind p.point) (target p.point s) n x.popped.records } })
+with_record p s n None = None
 
 -- the value is taken out of the slot where a seat that has none in hand carries it
 abbrev pub Took : {T : Type 0} → Bool → Bool → Option (Moving T) → Me (Option (Moving T)) (View T) → Option (Moving T) → Me (Option (Moving T)) (View T) → Type 0

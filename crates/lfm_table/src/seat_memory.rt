@@ -2,6 +2,7 @@
 //! it.
 ghost use Rattle.std.specs.Prelude.{◌≡◌, ◌<◌, ◌≤◌, ◌∷◌, ⊤, Option, Some, None, true, false, length};
 ghost use Rattle.atomic_table.specs.Table.{rest};
+ghost use Rattle.lfm_model.specs.SeatNumbers.{IsSeatNo};
 ghost use Rattle.lfm_protocol.specs.declared.kinds.Kind.{Kind};
 ghost use Rattle.lfm_core.specs.table.Carried.{carries_value};
 ghost use Rattle.lfm_protocol.specs.Points.{kind, target};
@@ -9,7 +10,7 @@ ghost use Rattle.lfm_protocol.specs.Room.{HasNumbers};
 ghost use Rattle.lfm_core.specs.table.Words.{stepped_by, link_of, wake_of};
 ghost use Rattle.lfm_table.specs.declared.rule.Moving.{Moving};
 ghost use Rattle.lfm_table.specs.Rule.{is_carried};
-ghost use Rattle.lfm_table.specs.Steps.{gives_at, dropped, kept_out, put_in, added, Took, oldest_in};
+ghost use Rattle.lfm_table.specs.Steps.{gives_at, dropped, kept_out, put_in, with_record, Took, oldest_in};
 
 use crate::kept::Kept;
 use crate::moving_box::MovingBox;
@@ -156,9 +157,9 @@ pub fn add_loaded<T: Drop>(
     number: u64,
     found: u64,
 )
-    requires target { (0 < target standing.now.point number) × (target standing.now.point number ≤ 65535) }
+    requires target { IsSeatNo (target standing.now.point number) }
     requires room { kind standing.now.point ≡ Some Kind.LinkLoad → (x : Moving T) → moving.old ≡ Some x → length x.popped.records < x.popped.room }
-    ensures { moving.new ≡ added standing.now number found moving.old }
+    ensures { moving.new ≡ with_record standing.now number found moving.old }
 {
     if standing.point.kind() != Some(Kind::LinkLoad) {
         return;

@@ -24,7 +24,7 @@ use Rattle.lfm_model.specs.declared.refusals.Refusal.TheVariants as Refusal
 use Rattle.lfm_words.specs.declared.pop_lists.Record.{Record}
 use Rattle.lfm_words.specs.declared.wakes.Wake.{Wake}
 use Rattle.lfm_words.specs.declared.wakes.Wake.TheVariants.{Waiting, Grant}
-use Rattle.lfm_protocol.specs.After.{same_link, same_handoff, deepens, busy, loaded, take, serves, cleared, looks, pushed, granted, releases, carrier_of, receives, claims}
+use Rattle.lfm_protocol.specs.After.{same_link, same_handoff, deepens, busy, loaded, take, serves, once_cleared, looks, pushed, granted, releases, carrier_of, receives, claims}
 use Rattle.lfm_protocol.specs.Begin as Begin
 use Rattle.lfm_protocol.specs.Begin.{Stepped, goes_on, ends}
 use Rattle.lfm_protocol.specs.Seats.{with_entry, IsSeat}
@@ -59,7 +59,7 @@ narrow_take : (carrier : Carrier) (s : ℕ) (oldest : Option Record) → IsNarro
 narrow_take carrier s None = tt
 narrow_take carrier s (Some r) = narrow_serves carrier s r
 
-narrow_cleared : (carrier : Carrier) (head : ℕ) → IsNarrow (cleared carrier head)
+narrow_cleared : (carrier : Carrier) (head : ℕ) → IsNarrow (once_cleared carrier head)
 narrow_cleared (Carrier.Releaser releaser) head =
     point_if (nat_eq head 0) (ReleaseHandoffStore releaser) (TakeLinkLoad (Carrier.Releaser releaser) head) tt tt
 narrow_cleared Carrier.Locker head = tt

@@ -8,7 +8,7 @@ use Rattle.lfm_protocol.specs.Seats.{seat, unposted}
 use Rattle.lfm_protocol.specs.Step.{begin, step}
 use Rattle.lfm_core.specs.laws.Laws.{IsQuiet, IsHeld, IsGranted}
 use Rattle.lfm_core.specs.laws.Schedules.{Event, begins, makes, happens, is_call, run_of, steps_of_call}
-use Rattle.lfm_core.specs.steady.Numbered.{sum_to}
+use Rattle.lfm_model.specs.Sums.{sum_to}
 use Rattle.lfm_core.specs.steady.Steady.{Steady}
 
 -- One call
@@ -55,7 +55,7 @@ abbrev pub open_unit : Core → ℕ → ℕ
 open_unit c s = if is_call (seat c.seats s).point then 1 else 0
 
 abbrev pub open_calls : Core → ℕ
-open_calls c = sum_to (length c.seats) (open_unit c)
+open_calls c = sum_to (open_unit c) (length c.seats)
 
 -- whether an event is a step of an open call
 abbrev pub stepped_in : Core → Event → ℕ

@@ -2,7 +2,7 @@
 use Rattle.std.specs.Prelude.{◌≡◌, ℕ, true, ◌+◌, ◌*◌, ◌≤◌, List, length}
 use Rattle.lfm_protocol.specs.declared.limits.Limits.{Limits}
 use Rattle.lfm_protocol.specs.Core.{Core, limits}
-use Rattle.lfm_protocol.specs.Limits.{are_in_limits}
+use Rattle.lfm_protocol.specs.Limits.{are_in_limits, max_depth}
 use Rattle.lfm_protocol.specs.Room.{HasRoom}
 use Rattle.lfm_core.specs.laws.Schedules.{Event, reached}
 use Rattle.lfm_core.specs.steady.Steady.{Steady}
@@ -13,7 +13,7 @@ use Rattle.lfm_protocol.specs.Seats.{seat, IsSeat}
 pub record IsInRange (c : Core) : Type 0 where
   pub stamp : c.push.stamp ≤ length c.seats * c.budget
   pub count : c.count ≤ length c.seats + 1
-  pub depth : (s : ℕ) → (seat c.seats s).depth ≤ 65535
+  pub depth : (s : ℕ) → (seat c.seats s).depth ≤ max_depth
   pub takes : (s : ℕ) → (seat c.seats s).takes ≤ c.budget
   pub posts : (s : ℕ) → (seat c.seats s).posts ≤ (seat c.seats s).takes
 

@@ -9,7 +9,7 @@ use Rattle.lfm_words.specs.declared.pop_lists.Record.{Record}
 use Rattle.lfm_words.specs.declared.wakes.Wake.TheVariants.{Grant}
 use Rattle.lfm_protocol.specs.Core.{Core}
 use Rattle.lfm_core.specs.laws.Errands.{Asks}
-use Rattle.lfm_core.specs.steady.Numbered.{sum_to}
+use Rattle.lfm_model.specs.Sums.{sum_to}
 use Rattle.lfm_protocol.specs.Place.{has_loaded}
 use Rattle.lfm_protocol.specs.Queue.{queue_of}
 use Rattle.lfm_protocol.specs.Seats.{seat, wake}
@@ -89,7 +89,7 @@ again_count c _ = 0
 
 -- how many of the seats ask
 abbrev pub asking_count : Core → AbstractMutex → ℕ
-asking_count c a = sum_to (length c.seats) (λ x. if a.asking x then 1 else 0)
+asking_count c a = sum_to (λ x. if a.asking x then 1 else 0) (length c.seats)
 
 abbrev pub IsCounted : Core → AbstractMutex → Type 0
 IsCounted c a = c.count ≡ asking_count c a + length a.waiting + own_count c a.place + again_count c a.place

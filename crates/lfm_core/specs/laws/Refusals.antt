@@ -14,6 +14,7 @@ use Rattle.lfm_protocol.specs.declared.seats.SeatState.{SeatState}
 use Rattle.lfm_words.specs.declared.wakes.Wake.TheVariants.{Waiting}
 use Rattle.lfm_protocol.specs.After.{same_handoff}
 use Rattle.lfm_protocol.specs.Core.{Core, put}
+use Rattle.lfm_protocol.specs.Limits.{max_depth}
 use Rattle.lfm_core.specs.laws.Schedules.{Event, begins, makes, happens, is_call}
 use Rattle.lfm_core.specs.steady.Steady.{Steady}
 use Rattle.lfm_protocol.specs.Seats.{seat, wake, is_seat, IsSeat}
@@ -29,7 +30,7 @@ pub record Sleeps (p : Point) : Type 0 where
 -- a lock or a try_lock: asleep, as deep as may be, or a new hold with no take left
 abbrev pub CauseToEnter : ℕ → SeatState → Refusal → Type 0
 CauseToEnter budget x Refusal.Asleep = Sleeps x.point
-CauseToEnter budget x Refusal.DepthFull = (x.point ≡ Rest) × (x.depth ≡ 65535)
+CauseToEnter budget x Refusal.DepthFull = (x.point ≡ Rest) × (x.depth ≡ max_depth)
 CauseToEnter budget x Refusal.Spent = (x.point ≡ Rest) × (x.depth ≡ 0) × (x.takes ≡ budget)
 CauseToEnter budget x _ = ⊥
 

@@ -1,15 +1,10 @@
--- Functions of numbers: one changed at a number, its sum over the seats, and the records that its values make.
+-- Functions of numbers: one changed at a number, and the records that its values make.
 use Rattle.std.specs.Prelude.{ℕ, zero, suc, ◌+◌, List, [], ◌∷◌, nat_eq, if◌then◌else◌}
 use Rattle.lfm_words.specs.declared.pop_lists.Record.{Record}
 
 -- the function whose value at one number is this
 abbrev pub changed : {A : Type 0} → (ℕ → A) → ℕ → A → ℕ → A
 changed f i x j = if nat_eq j i then x else f j
-
--- the sum over 1, 2 and on to the last number
-abbrev pub sum_to : ℕ → (ℕ → ℕ) → ℕ
-sum_to zero f = 0
-sum_to (suc n) f = sum_to n f + f (suc n)
 
 -- so many records, whose stamps follow this one and whose seats the function tells
 abbrev pub records : (ℕ → ℕ) → ℕ → ℕ → List Record

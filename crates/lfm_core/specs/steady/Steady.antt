@@ -14,8 +14,10 @@ use Rattle.lfm_words.specs.declared.links.Link.{Link}
 use Rattle.lfm_words.specs.declared.pop_lists.Record.{Record}
 use Rattle.lfm_words.specs.declared.wakes.Wake.{Wake}
 use Rattle.lfm_protocol.specs.Core.{Core}
+use Rattle.lfm_protocol.specs.Limits.{max_budget, max_depth, max_seats}
 use Rattle.lfm_core.specs.steady.Ghost.{Responsibility, nobody, owned, granted, posted, entering, accepting, leaving, serving, Standing, apart, claimed, asks, queued, Ghost}
-use Rattle.lfm_core.specs.steady.Numbered.{sum_to, records}
+use Rattle.lfm_core.specs.steady.Numbered.{records}
+use Rattle.lfm_model.specs.Sums.{sum_to}
 use Rattle.lfm_protocol.specs.Points.{pushed_seat}
 use Rattle.lfm_protocol.specs.Seats.{seat, link, wake, unposted, IsSeat}
 use Rattle.lfm_core.specs.steady.Views.{claim, held_by, grant_at, is_entered, asks_for, claims_for, is_queued, is_asking, is_some, is_awaiting, expected_wake, due_posts, due_pushes}
@@ -99,17 +101,17 @@ KnowsAt c g s posts _ = ⊤
 -- how deep a seat at this point can hold
 abbrev pub DepthOfPusher : ℕ → Pusher → Type 0
 DepthOfPusher depth Pusher.Locker = depth ≡ 0
-DepthOfPusher depth (Pusher.Sender t) = depth ≤ 65535
+DepthOfPusher depth (Pusher.Sender t) = depth ≤ max_depth
 
 abbrev pub DepthAt : ℕ → Point → Type 0
-DepthAt depth Rest = depth ≤ 65535
-DepthAt depth LockCountAdd = depth < 65535
-DepthAt depth LockOwnerLoad = depth < 65535
-DepthAt depth LockCountSubtract = (0 < depth) × (depth < 65535)
-DepthAt depth TryCountExchange = depth < 65535
-DepthAt depth TryOwnerLoad = depth < 65535
-DepthAt depth (SendWakeExchange t) = depth ≤ 65535
-DepthAt depth (SendCountAdd t) = depth ≤ 65535
+DepthAt depth Rest = depth ≤ max_depth
+DepthAt depth LockCountAdd = depth < max_depth
+DepthAt depth LockOwnerLoad = depth < max_depth
+DepthAt depth LockCountSubtract = (0 < depth) × (depth < max_depth)
+DepthAt depth TryCountExchange = depth < max_depth
+DepthAt depth TryOwnerLoad = depth < max_depth
+DepthAt depth (SendWakeExchange t) = depth ≤ max_depth
+DepthAt depth (SendCountAdd t) = depth ≤ max_depth
 DepthAt depth (PushLoad pusher) = DepthOfPusher depth pusher
 DepthAt depth (LinkStore pusher seen) = DepthOfPusher depth pusher
 DepthAt depth (PushExchange pusher seen) = DepthOfPusher depth pusher
@@ -305,16 +307,16 @@ abbrev pub queued_unit : Standing → ℕ
 queued_unit standing = if is_queued standing then 1 else 0
 
 pub record SumsFit (seats : ℕ) (g : Ghost) : Type 0 where
-  pub asking : g.asking ≡ sum_to seats (λ s. asking_unit (g.standing s))
-  pub queued : g.pushed ≡ g.popped + sum_to seats (λ s. queued_unit (g.standing s))
-  pub pushed : g.pushed ≡ sum_to seats g.pushes
+  pub asking : g.asking ≡ sum_to (λ s. asking_unit (g.standing s)) seats
+  pub queued : g.pushed ≡ g.popped + sum_to (λ s. queued_unit (g.standing s)) seats
+  pub pushed : g.pushed ≡ sum_to g.pushes seats
 
 -- how many seats there are, and that each has its words
 pub record SizesFit (c : Core) : Type 0 where
   pub links : length c.links ≡ length c.seats
   pub wakes : length c.wakes ≡ length c.seats
-  pub seats : length c.seats ≤ 4095
-  pub budget : c.budget ≤ 2 ^ 36
+  pub seats : length c.seats ≤ max_seats
+  pub budget : c.budget ≤ max_budget
 
 pub record Fits (c : Core) (g : Ghost) : Type 0 where
   pub words : WordsFit c g

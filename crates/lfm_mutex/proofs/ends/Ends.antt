@@ -32,18 +32,18 @@ use Rattle.lfm_mutex.specs.Close.{Hinders, Hindered, named, AreFree}
 use Rattle.lfm_mutex.proofs.ends.FreeWords.{free_core}
 use Rattle.lfm_table.specs.Reach.{Reached}
 use Rattle.lfm_mutex.specs.calls.Sight.{Sight, is_asleep, by_depth}
-use Rattle.lfm_table.specs.Rule.{total, retired, retired_at, in_hand, Held, NoneEnded, LeftIn, joined_of}
+use Rattle.lfm_table.specs.Rule.{sum_over, retired, retired_at, in_hand, Held, NoneEnded, LeftIn, joined_of}
 use Rattle.lfm_table.specs.Seats.{Seated}
 use Rattle.lfm_table.specs.Settled.{Became, calls_to}
 use Rattle.lfm_table.proofs.tables.RuleKept.{length_at}
 use Rattle.lfm_table.proofs.tables.StepFacts.{became_depth}
 
-total_at : {A : Type 0} (f : A → ℕ) (l : List A) (i : ℕ) (a : A) → get_elem? l i ≡ some a → f a ≤ total f l
+total_at : {A : Type 0} (f : A → ℕ) (l : List A) (i : ℕ) (a : A) → get_elem? l i ≡ some a → f a ≤ sum_over f l
 total_at f [] i a e = absurd (some-ne-none a (sym e))
 total_at f (x ∷ xs) zero a e = let q : f x ≡ f a = ap f (some-injective x a e) in omega arith
 total_at f (x ∷ xs) (suc i) a e = let h = total_at f xs i a e in omega arith
 
-total_two : {A : Type 0} (f : A → ℕ) (l : List A) (i j : ℕ) (a b : A) → get_elem? l i ≡ some a → get_elem? l j ≡ some b → j ≢ i → f a + f b ≤ total f l
+total_two : {A : Type 0} (f : A → ℕ) (l : List A) (i j : ℕ) (a b : A) → get_elem? l i ≡ some a → get_elem? l j ≡ some b → j ≢ i → f a + f b ≤ sum_over f l
 total_two f [] i j a b e h n = absurd (some-ne-none a (sym e))
 total_two f (x ∷ xs) zero zero a b e h n = absurd (n refl)
 total_two f (x ∷ xs) zero (suc j) a b e h n = let q : f x ≡ f a = ap f (some-injective x a e) in let t = total_at f xs j b h in omega arith
@@ -92,7 +92,7 @@ module _ {T : Type 0} where
   abbrev used : View T → ℕ
   used v = used_at v.role
 
-  roles : (vs : List (View T)) → total retired vs + total used vs ≡ length vs
+  roles : (vs : List (View T)) → sum_over retired vs + sum_over used vs ≡ length vs
   roles [] = refl
   roles (v ∷ vs) = let a = roles vs in let b = one_role v.role in omega arith
 
@@ -216,15 +216,15 @@ once : (n x : ℕ) → up_to_number n x ≤ 1
 once zero x = omega arith
 once (suc n) x = dite (ℕ_discrete x (suc n)) (λ e. let a = above n x (omega arith) in let b = at_same (suc n) x e in omega arith) (λ ne. let a = once n x in let b = at_else (suc n) x ne in omega arith)
 
-total_once : {A : Type 0} (f : A → ℕ) (l : List A) → ((a : A) → f a ≤ 1) → total f l ≤ length l
+total_once : {A : Type 0} (f : A → ℕ) (l : List A) → ((a : A) → f a ≤ 1) → sum_over f l ≤ length l
 total_once f [] h = omega arith
 total_once f (x ∷ xs) h = let a = h x in let b = total_once f xs h in omega arith
 
-total_sum : {A : Type 0} (f g : A → ℕ) (l : List A) → total (λ a. f a + g a) l ≡ total f l + total g l
+total_sum : {A : Type 0} (f g : A → ℕ) (l : List A) → sum_over (λ a. f a + g a) l ≡ sum_over f l + sum_over g l
 total_sum f g [] = refl
 total_sum f g (x ∷ xs) = let a = total_sum f g xs in omega arith
 
-found_all : {A : Type 0} (number : A → ℕ) (l : List A) (n : ℕ) → ((k : ℕ) → 0 < k → k ≤ n → (i : ℕ) × (s : A) × (get_elem? l i ≡ some s) × (number s ≡ k)) → n ≤ total (λ s. up_to_number n (number s)) l
+found_all : {A : Type 0} (number : A → ℕ) (l : List A) (n : ℕ) → ((k : ℕ) → 0 < k → k ≤ n → (i : ℕ) × (s : A) × (get_elem? l i ≡ some s) × (number s ≡ k)) → n ≤ sum_over (λ s. up_to_number n (number s)) l
 found_all number l zero h = omega arith
 found_all number l (suc n) h = let a = found_all number l n (λ k p q. h k p (omega arith)) in let s = h (suc n) (omega arith) (omega arith) in
     let b = total_at (λ s. at_number (suc n) (number s)) l s.0 s.1 s.2 in let c = at_same (suc n) (number s.1) s.3 in

@@ -35,7 +35,7 @@ use Rattle.lfm_table.specs.declared.seat_view.Joined.{Joined}
 use Rattle.lfm_table.specs.declared.seat_view.View.{View}
 use Rattle.lfm_table.specs.declared.rule.Moving.{Moving}
 use Rattle.lfm_table.specs.Reach.{Reached}
-use Rattle.lfm_table.specs.Rule.{total, retired, retired_at, split_view, with_split, with_joined, joined, joined_of, first_view, LeadsToValue, Awaits, NoneEnded, LeftIn, Roots, Sits, AtHome, WithSeat, Held, SameRoot, Looked, seen}
+use Rattle.lfm_table.specs.Rule.{sum_over, retired, retired_at, split_view, with_split, with_joined, joined, joined_of, first_view, LeadsToValue, Awaits, NoneEnded, LeftIn, Roots, Sits, AtHome, WithSeat, Held, SameRoot, Looked, seen}
 use Rattle.lfm_table.specs.Seats.{Seated}
 use Rattle.lfm_table.specs.Settled.{Became}
 use Rattle.lfm_table.proofs.tables.CoreFacts.{owner_told}
@@ -49,7 +49,7 @@ at_end [] a b (suc j) e = absurd (some-ne-none b (sym e))
 at_end (x ∷ xs) a b zero e = inl e
 at_end (x ∷ xs) a b (suc j) e = ⊎_elim inl (λ t. let q = t.0 in inr (omega arith, t.1)) (at_end xs a b j e)
 
-total_end : {A : Type 0} (f : A → ℕ) (l : List A) (a : A) → total f (l ++ a ∷ []) ≡ total f l + f a
+total_end : {A : Type 0} (f : A → ℕ) (l : List A) (a : A) → sum_over f (l ++ a ∷ []) ≡ sum_over f l + f a
 total_end f [] a = omega arith
 total_end f (x ∷ xs) a = let h = total_end f xs a in omega arith
 
@@ -193,7 +193,7 @@ module _ {T : Type 0} (follows : ℕ → T → T → Type 0) (suits : T → ℕ 
         root = λ k' e'. let same : l ≡ k' = some-injective l k' (sym (get_end vs r 0 (omega arith) ∙ at') ∙ e') in subst (Roots (vs ++ r ∷ [])) same record {
           user = user;
           made = omega arith;
-          back = let m : total retired (vs ++ r ∷ []) ≡ total retired s.views = omega arith in m ∙ k.back;
+          back = let m : sum_over retired (vs ++ r ∷ []) ≡ sum_over retired s.views = omega arith in m ∙ k.back;
           kept = λ i g is. let a = k.kept i g is in let apart : 0 ≢ a.0 = (λ z. not_both v.role user (ap (λ (y : View T). y.role) (some-injective v a.1 (sym at ∙ subst (λ (i : ℕ). get_elem? s.views i ≡ some a.1) (sym z) a.2)) ∙ a.3)) in
               let low = length_at s.views a.0 a.1 a.2 in let len = length-set s.views 0 l in (a.0, a.1, get_end vs r a.0 (omega arith) ∙ (set_else s.views 0 a.0 l (λ z. apart (sym z)) ∙ a.2), a.3, a.4, a.5, a.6);
           gone = λ j z e is. ⊎_elim (λ u. ⊎_elim (λ (w : (j ≡ 0) × (l ≡ z)). absurd (not_both z.role (ap (λ (y : View T). y.role) (sym w.1) ∙ user) is))
@@ -223,7 +223,7 @@ module _ {T : Type 0} (follows : ℕ → T → T → Type 0) (suits : T → ℕ 
         root = λ k' e'. let same : b ≡ k' = some-injective b k' (sym at' ∙ e') in subst (Roots vs2) same record {
           user = user;
           made = length-set vs other (joined w) ∙ (length-set s.views 0 b ∙ k.made);
-          back = let e = k.back in let n = length-append v.joined (joined_of w ∷ []) in let m : total retired vs2 ≡ length (v.joined ++ joined_of w ∷ []) = omega arith in m;
+          back = let e = k.back in let n = length-append v.joined (joined_of w ∷ []) in let m : sum_over retired vs2 ≡ length (v.joined ++ joined_of w ∷ []) = omega arith in m;
           kept = λ i g is. ⊎_elim
               (λ (u : get_elem? v.joined i ≡ some g). let a = k.kept i g u in
               let apart0 : 0 ≢ a.0 = (λ z. not_both v.role user (ap (λ (y : View T). y.role) (some-injective v a.1 (sym at ∙ subst (λ (i : ℕ). get_elem? s.views i ≡ some a.1) (sym z) a.2)) ∙ a.3)) in

@@ -5,6 +5,7 @@ use Rattle.lfm_model.specs.declared.answers.How.{How}
 use Rattle.lfm_model.specs.declared.answers.Locked.{Locked}
 use Rattle.lfm_model.specs.declared.answers.Unlocked.{Unlocked}
 use Rattle.lfm_model.specs.declared.refusals.Refusal.{Refusal}
+use Rattle.lfm_model.specs.SeatNumbers.{IsSeatNo}
 use Rattle.lfm_words.specs.declared.wakes.Wake.{Wake}
 use Rattle.lfm_protocol.specs.declared.answers.Answer.{Answer}
 use Rattle.lfm_protocol.specs.declared.answers.Call.{Call}
@@ -16,6 +17,7 @@ use Rattle.lfm_protocol.specs.declared.points.Point.{Point}
 use Rattle.lfm_protocol.specs.declared.points.Point.TheVariants.{Rest, Asleep, SendWakeExchange, TryCountExchange, TryOwnerLoad, TryHandoffLoad, TryHandoffExchange, WaitWakeStore}
 use Rattle.lfm_protocol.specs.declared.seats.SeatState.{SeatState}
 use Rattle.lfm_protocol.specs.After.{same_handoff}
+use Rattle.lfm_protocol.specs.Limits.{max_depth}
 use Rattle.lfm_core.specs.table.Words.{handoff_of, wake_of}
 use Rattle.lfm_mutex.specs.declared.seat.Seat.{Seat}
 use Rattle.lfm_table.specs.declared.seat_view.Seen.{Seen}
@@ -111,7 +113,7 @@ new_sight x n =
 -- the seat that a number found in the owner word names, if it can be one
 abbrev pub Names : Option ℕ → ℕ → Type 0
 Names (Some k) n = k ≡ n
-Names None n = (0 < n) × (n ≤ 65535) → ⊥
+Names None n = IsSeatNo n → ⊥
 
 -- a look at the owner word: one load, which tells the caller whether it holds
 abbrev pub LooksAtOwner : {T : Type 0} → Sight T → Sight T → Option ℕ → Type 0
@@ -140,7 +142,7 @@ module _ {T : Type 0} where
   -- a call that came too early: the seat sleeps, or another call of it is open
   abbrev pub LockRefused : ℕ → Sight T → Refusal → Type 0
   LockRefused budget s Refusal.Asleep = s.asleep ≡ true
-  LockRefused budget s Refusal.DepthFull = (s.asleep ≡ false) × (65535 ≤ s.depth)
+  LockRefused budget s Refusal.DepthFull = (s.asleep ≡ false) × (max_depth ≤ s.depth)
   LockRefused budget s Refusal.Spent = (s.asleep ≡ false) × (s.depth ≡ 0) × (budget ≤ s.takes)
   LockRefused budget s _ = ⊥
 
@@ -158,7 +160,7 @@ module _ {T : Type 0} where
 
   -- how a call deepens a hold
   abbrev pub Deepens : Sight T → Sight T → ℕ → Type 0
-  Deepens s t d = (s.asleep ≡ false) × (0 < s.depth) × (s.depth < 65535) × (d ≡ s.depth + 1) × (t ≡ record s { depth = d; trail = t.trail })
+  Deepens s t d = (s.asleep ≡ false) × (0 < s.depth) × (s.depth < max_depth) × (d ≡ s.depth + 1) × (t ≡ record s { depth = d; trail = t.trail })
 
   -- the seat has given up the mutex: what was in hand is what it left last, and what it had found is still known
   abbrev pub LeavesOff : Sight T → Sight T → Type 0

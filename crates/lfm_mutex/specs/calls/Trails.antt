@@ -26,10 +26,10 @@ pub record Shows {T : Type 0} (x : SeatState) (s : Sight T) : Type 0 where
 
 -- a call whose begin gave the first turn and the data q, and which ended with `turn` and the data y: at once, or by steps, each of
 -- them the one that those before it ask for
-abbrev pub Leads : Turn → ℕ → SeatState → List Seen → Turn → SeatState → List Seen → Type 0
-Leads Open n q trail turn y trail' =
+abbrev pub CallEnds : Turn → ℕ → SeatState → List Seen → Turn → SeatState → List Seen → Type 0
+CallEnds Open n q trail turn y trail' =
     (finds : List (ℕ × Option Record)) × (end_of n (opens q) finds ≡ record { seat = y; turn = turn }) × (trail' ≡ trail ++ trail_of n q finds)
-Leads first n q trail turn y trail' = (turn ≡ first) × (y ≡ q) × (trail' ≡ trail)
+CallEnds first n q trail turn y trail' = (turn ≡ first) × (y ≡ q) × (trail' ≡ trail)
 
 -- the seat has made so many steps at most
 abbrev pub MakesAtMost : {T : Type 0} → ℕ → Sight T → Sight T → Type 0
@@ -39,7 +39,7 @@ module _ {T : Type 0} (l : Limits) where
   -- the call of a seat seen as s ends with this turn, and the seat is then seen as t
   abbrev pub Makes : Call → Sight T → Sight T → Turn → Type 0
   Makes call s t turn =
-      (x : SeatState) × (y : SeatState) × Shows x s × Shows y t × Leads (begin x l call).turn s.number (begin x l call).seat s.trail turn y t.trail
+      (x : SeatState) × (y : SeatState) × Shows x s × Shows y t × CallEnds (begin x l call).turn s.number (begin x l call).seat s.trail turn y t.trail
 
   abbrev pub Made : Call → Sight T → Sight T → Turn → Type 0
   Made call s t Open = ⊤

@@ -8,6 +8,14 @@ use Rattle.lfm_script.specs.declared.script.ScriptLine.{ScriptLine}
 abbrev pub is_there : ℕ → ℕ → Bool
 is_there number count = nat_lt 0 number && not (nat_lt count number)
 
+-- the most workers
+abbrev pub max_workers : ℕ
+max_workers = 4095
+
+-- the most conditions
+abbrev pub max_conditions : ℕ
+max_conditions = 16
+
 -- the most that one command may add, or wait for
 abbrev pub max_number : ℕ
 max_number = 1000000000
@@ -29,4 +37,4 @@ lines_allowed workers conditions (l ∷ ls) = line_allowed workers conditions l 
 
 -- whether there are 1 to 4,095 workers and at most 16 conditions
 abbrev pub header_allowed : ℕ → ℕ → Bool
-header_allowed workers conditions = nat_lt 0 workers && (nat_lt workers 4096 && nat_lt conditions 17)
+header_allowed workers conditions = is_there workers max_workers && not (nat_lt max_conditions conditions)

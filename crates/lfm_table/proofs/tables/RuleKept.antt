@@ -40,7 +40,7 @@ use Rattle.lfm_table.specs.declared.seat_view.Joined.{Joined}
 use Rattle.lfm_table.specs.declared.seat_view.View.{View}
 use Rattle.lfm_table.specs.declared.rule.Moving.{Moving}
 use Rattle.lfm_table.specs.Reach.{Leads, Reached}
-use Rattle.lfm_table.specs.Rule.{seen, retired, retired_at, total, Roots, left_by, Sits, LeadsToValue, Awaits, NoneEnded, LeftIn, SameRoot, WithSeat, Held, Hands, Knows, CollectsWithin, Advanced}
+use Rattle.lfm_table.specs.Rule.{seen, retired, retired_at, sum_over, Roots, left_by, Sits, LeadsToValue, Awaits, NoneEnded, LeftIn, SameRoot, WithSeat, Held, Hands, Knows, CollectsWithin, Advanced}
 use Rattle.lfm_table.specs.Settled.{Became}
 use Rattle.lfm_table.specs.Steps.{stores, Ready}
 use Rattle.lfm_table.proofs.tables.CoreFacts as core
@@ -63,7 +63,7 @@ module _ {T : Type 0} (follows : ℕ → T → T → Type 0) (seat : ℕ) where
 
 -- Lists
 
-pub total_set : {A : Type 0} (f : A → ℕ) (l : List A) (i : ℕ) (a b : A) → get_elem? l i ≡ some a → total f (set l i b) + f a ≡ total f l + f b
+pub total_set : {A : Type 0} (f : A → ℕ) (l : List A) (i : ℕ) (a b : A) → get_elem? l i ≡ some a → sum_over f (set l i b) + f a ≡ sum_over f l + f b
 total_set f [] i a b e = absurd (some-ne-none a (sym e))
 total_set f (x ∷ xs) zero a b e = let q : f x ≡ f a = ap f (some-injective x a e) in omega arith
 total_set f (x ∷ xs) (suc i) a b e = let h = total_set f xs i a b e in omega arith
@@ -98,7 +98,7 @@ module _ {T : Type 0} (follows : ℕ → T → T → Type 0) (suits : T → ℕ 
     abbrev pub vs : List (View T)
     vs = set s.views id w
 
-    same_total : total retired vs ≡ total retired s.views
+    same_total : sum_over retired vs ≡ sum_over retired s.views
     same_total = let t = total_set retired s.views id v w at in let eq : retired w ≡ retired v = ap retired_at same in omega arith
 
     -- a seat that was joined stays as it was

@@ -24,7 +24,7 @@ use Rattle.lfm_table.specs.declared.rule.Moving.{Moving}
 use Rattle.lfm_table.specs.Rule.{value_in, in_hand, is_carried, left_by, Hands, Advanced}
 use Rattle.lfm_table.specs.Seats.{Seated, Rooted}
 use Rattle.lfm_table.specs.Settled.{Became}
-use Rattle.lfm_table.specs.Steps.{gives_at, MayBeLeft, Ready, CanMake, dropped, kept_out, put_in, add_by, added, Took, oldest_in, ValueGoes, Event, StepLeadsTo}
+use Rattle.lfm_table.specs.Steps.{gives_at, MayBeLeft, Ready, CanMake, dropped, kept_out, put_in, add_by, with_record, Took, oldest_in, ValueGoes, Event, StepLeadsTo}
 use Rattle.lfm_table.proofs.tables.RuleKept.{some_same}
 use Rattle.lfm_table.proofs.tables.SettledKept.{became_same}
 use Rattle.lfm_table.proofs.tables.StepFacts.{release_of, shallow_step, empty_depth, left_same, left_new, carrying, list_stays, gives_carries, keeps_value, carries_unread, unread_after, reads, same_oldest, list_parts, gives_adds_none, reads_list, gives_not_release}
@@ -145,7 +145,7 @@ module _ {T : Type 0} (follows : ℕ → T → T → Type 0) (suits : T → ℕ 
 
   -- After the step
 
-  module _ (n : ℕ) (m1 : Mine) (did : Advanced follows suits p (value_in hand_before) (m.0, slots_before) n m1) (a3 : S) (m2 : Mine) (took : Took (is_carried (added p number n hand_before)) (carries_value (stepped_by p number n None).seat) (added p number n hand_before) m1 a3 m2) where
+  module _ (n : ℕ) (m1 : Mine) (did : Advanced follows suits p (value_in hand_before) (m.0, slots_before) n m1) (a3 : S) (m2 : Mine) (took : Took (is_carried (with_record p number n hand_before)) (carries_value (stepped_by p number n None).seat) (with_record p number n hand_before) m1 a3 m2) where
     abbrev o : Option Record
     o = oldest did.popped
 
@@ -186,7 +186,7 @@ module _ {T : Type 0} (follows : ℕ → T → T → Type 0) (suits : T → ℕ 
     idle_known : carries_value p ≡ false → carries_value st.seat ≡ false → Known a3 m2
     idle_known before after =
         let was_none = none_before before in
-        let took1 = subst (λ (t : S × Bool). Taken (is_carried t.0) t.1 t.0) (λ i. ((ap (added p number n) was_none) i, tried false after i)) took in
+        let took1 = subst (λ (t : S × Bool). Taken (is_carried t.0) t.1 t.0) (λ i. ((ap (with_record p number n) was_none) i, tried false after i)) took in
         let hands = subst (λ (t : Bool × Bool). HandsAt t.0 t.1) (λ i. (before i, after i)) hands_are in (
           ap (λ (z : Mine). z.1) took1.1 ∙ (hands ∙ (no_slots before ∙ ap in_hand (sym after))),
           ap is_carried took1.0 ∙ sym after,
@@ -200,7 +200,7 @@ module _ {T : Type 0} (follows : ℕ → T → T → Type 0) (suits : T → ℕ 
     gained_known : carries_value p ≡ false → carries_value st.seat ≡ true → Known a3 m2
     gained_known before after =
         let was_none = none_before before in
-        let took1 = subst (λ (t : S × Bool). Taken (is_carried t.0) t.1 t.0) (λ i. ((ap (added p number n) was_none) i, tried true after i)) took in
+        let took1 = subst (λ (t : S × Bool). Taken (is_carried t.0) t.1 t.0) (λ i. ((ap (with_record p number n) was_none) i, tried true after i)) took in
         let hands = subst (λ (t : Bool × Bool). HandsAt t.0 t.1) (λ i. (before i, after i)) hands_are in
         let x = hands.0 in
         let got : a3 ≡ Some x = same_slot a3 (Some x) (rest m1.1) [] (sym took1.0 ∙ hands.1) in
@@ -219,7 +219,7 @@ module _ {T : Type 0} (follows : ℕ → T → T → Type 0) (suits : T → ℕ 
     given_known before after =
         let gives = gives_of p number n o before after (gives_at p.point) refl in
         let was_none = none_given gives in
-        let took1 = subst (λ (t : S × Bool). Taken (is_carried t.0) t.1 t.0) (λ i. ((ap (added p number n) was_none) i, tried false after i)) took in
+        let took1 = subst (λ (t : S × Bool). Taken (is_carried t.0) t.1 t.0) (λ i. ((ap (with_record p number n) was_none) i, tried false after i)) took in
         let hands = subst (λ (t : Bool × Bool). HandsAt t.0 t.1) (λ i. (before i, after i)) hands_are in (
           ap (λ (z : Mine). z.1) took1.1 ∙ (hands ∙ ap in_hand (sym after)),
           ap is_carried took1.0 ∙ sym after,
@@ -271,7 +271,7 @@ module _ {T : Type 0} (follows : ℕ → T → T → Type 0) (suits : T → ℕ 
         let some = some_of before in
         let x = some.0 in
         let was_none = none_given gives in
-        let took1 = subst (λ (t : S × Bool). Taken (is_carried t.0) t.1 t.0) (λ i. ((ap (added p number n) was_none) i, tried true after i)) took in
+        let took1 = subst (λ (t : S × Bool). Taken (is_carried t.0) t.1 t.0) (λ i. ((ap (with_record p number n) was_none) i, tried true after i)) took in
         let hands = subst (λ (t : Bool × Bool). HandsAt t.0 t.1) (λ i. (before i, after i)) hands_are in
         let slots : m1.1 ≡ (0, Some (shorter x)) ∷ [] = hands.0 ∙ loaded_slot gives x some.1 in
         let got : a3 ≡ Some (shorter x) = same_slot a3 (Some (shorter x)) (rest m1.1) [] (sym took1.0 ∙ slots) in
@@ -281,7 +281,7 @@ module _ {T : Type 0} (follows : ℕ → T → T → Type 0) (suits : T → ℕ 
         let some = some_of before in
         let x = some.0 in
         let hand_is : hand_before ≡ Some (shorter x) = (λ i. kept_out (keeps i) (dropped p (some.1 i))) in
-        let took1 = subst (λ (t : S × Bool). Taken (is_carried t.0) t.1 t.0) (λ i. ((ap (added p number n) hand_is) i, tried true after i)) took in
+        let took1 = subst (λ (t : S × Bool). Taken (is_carried t.0) t.1 t.0) (λ i. ((ap (with_record p number n) hand_is) i, tried true after i)) took in
         let hands = subst (λ (t : Bool × Bool). HandsAt t.0 t.1) (λ i. (before i, after i)) hands_are in
         let slots : slots_before ≡ in_hand true = ap (λ (g : Bool). put_in g (dropped p a) m.1) keeps ∙ (was.hand ∙ ap in_hand before) in
         stays_known before after x (longer n (shorter x)) some.1 took1.0 refl refl refl
@@ -307,7 +307,7 @@ module _ {T : Type 0} (follows : ℕ → T → T → Type 0) (suits : T → ℕ 
     pub rooted_now : Rooted words id number l m2.0
     pub event : Event follows suits p a m.0 turn q a3 m2.0
 
-  module _ (n : ℕ) (m1 : Mine) (did : Advanced follows suits p (value_in hand_before) (m.0, slots_before) n m1) (a3 : S) (m2 : Mine) (took : Took (is_carried (added p number n hand_before)) (carries_value (stepped_by p number n None).seat) (added p number n hand_before) m1 a3 m2)
+  module _ (n : ℕ) (m1 : Mine) (did : Advanced follows suits p (value_in hand_before) (m.0, slots_before) n m1) (a3 : S) (m2 : Mine) (took : Took (is_carried (with_record p number n hand_before)) (carries_value (stepped_by p number n None).seat) (with_record p number n hand_before) m1 a3 m2)
       (turn : Turn) (q : SeatState) (is_q : q ≡ (stepped_by p number n (oldest_in a3)).seat) (is_turn : turn ≡ (stepped_by p number n (oldest_in a3)).turn) where
     abbrev then_st : Begin.Stepped
     then_st = stepped_by p number n (oldest did.popped)
@@ -371,16 +371,16 @@ module _ {T : Type 0} (follows : ℕ → T → T → Type 0) (suits : T → ℕ 
 
   -- the whole step, from its parts
   pub made : (n : ℕ) (a1 a2 a3 : S) (m0 m1 m2 : Mine) (t q : SeatState) (turn : Turn) → a1 ≡ kept_out (gives_at p.point) (dropped p a) → m0 ≡ (m.0, put_in (gives_at p.point) (dropped p a) m.1)
-      → Advanced follows suits p (value_in a1) m0 n m1 → a2 ≡ added p number n a1 → t ≡ (stepped_by p number n None).seat → Took (is_carried a2) (carries_value t) a2 m1 a3 m2
+      → Advanced follows suits p (value_in a1) m0 n m1 → a2 ≡ with_record p number n a1 → t ≡ (stepped_by p number n None).seat → Took (is_carried a2) (carries_value t) a2 m1 a3 m2
       → q ≡ (stepped_by p number n (oldest_in a3)).seat → turn ≡ (stepped_by p number n (oldest_in a3)).turn → Made turn q a3 m2
   made n a1 a2 a3 m0 m1 m2 t q turn is_a is_m did is_a2 is_t took is_q is_turn =
       made_by n m1 (subst (λ (z : S × Mine). Advanced follows suits p (value_in z.0) z.1 n m1) (λ i. (is_a i, is_m i)) did) a3 m2
-      (subst (λ (z : S × SeatState). Took (is_carried z.0) (carries_value z.1) z.0 m1 a3 m2) (λ i. ((is_a2 ∙ ap (added p number n) is_a) i, is_t i)) took)
+      (subst (λ (z : S × SeatState). Took (is_carried z.0) (carries_value z.1) z.0 m1 a3 m2) (λ i. ((is_a2 ∙ ap (with_record p number n) is_a) i, is_t i)) took)
       turn q is_q is_turn
 
   -- the same, with what the parts were told as equations
   pub made_next : (n : ℕ) (gives carries : Bool) (a0 a1 a2 a3 : S) (m0 m1 m2 : Mine) (t q : SeatState) (turn : Turn) (oldest : Option Record) → gives ≡ gives_at p.point → a0 ≡ dropped p a
-      → a1 ≡ kept_out gives a0 → m0 ≡ (m.0, put_in gives a0 m.1) → Advanced follows suits p (value_in a1) m0 n m1 → a2 ≡ added p number n a1 → t ≡ (stepped_by p number n None).seat → carries ≡ carries_value t
+      → a1 ≡ kept_out gives a0 → m0 ≡ (m.0, put_in gives a0 m.1) → Advanced follows suits p (value_in a1) m0 n m1 → a2 ≡ with_record p number n a1 → t ≡ (stepped_by p number n None).seat → carries ≡ carries_value t
       → Took (is_carried a2) carries a2 m1 a3 m2 → oldest ≡ oldest_in a3 → q ≡ (stepped_by p number n oldest).seat → turn ≡ (stepped_by p number n oldest).turn → Made turn q a3 m2
   made_next n gives carries a0 a1 a2 a3 m0 m1 m2 t q turn oldest is_gives is_a0 is_a is_m did is_a2 is_t is_c took is_o is_q is_turn =
       made n a1 a2 a3 m0 m1 m2 t q turn (is_a ∙ (λ i. kept_out (is_gives i) (is_a0 i))) (is_m ∙ (λ i. (m.0, put_in (is_gives i) (is_a0 i) m.1))) did is_a2 is_t
@@ -398,7 +398,7 @@ module _ {T : Type 0} (follows : ℕ → T → T → Type 0) (suits : T → ℕ 
         subst (λ (t : Bool × Bool). Hands follows suits t.0 t.1 p.point (value_in hand_before) did.popped (m.0, slots_before) m1)
         (λ i. (is i, (ap (λ (k : ℕ). carries_value (stepped_by p k n (oldest did.popped)).seat) was.named ∙ after) i)) did.hands
 
-    slot_by : (b g : Bool) → carries_value p ≡ b → gives_at p.point ≡ g → is_carried (added p number n hand_before) ≡ false → carries_value (stepped_by p number n (oldest did.popped)).seat ≡ true
+    slot_by : (b g : Bool) → carries_value p ≡ b → gives_at p.point ≡ g → is_carried (with_record p number n hand_before) ≡ false → carries_value (stepped_by p number n (oldest did.popped)).seat ≡ true
         → (x : S) × (m1.1 ≡ (0, x) ∷ rest m1.1)
     slot_by false g is gives none after =
         let h = hands_after false is after in (Some h.0, h.1 ∙ ap (λ (r : List (ℕ × S)). (0, Some h.0) ∷ rest r) (sym h.1))
@@ -410,15 +410,15 @@ module _ {T : Type 0} (follows : ℕ → T → T → Type 0) (suits : T → ℕ 
     slot_by true false is keeps none after =
         let some = some_of is in
         let hand_is : hand_before ≡ Some (shorter some.0) = (λ i. kept_out (keeps i) (dropped p (some.1 i))) in
-        absurd (false≢true (sym none ∙ ap (λ (z : S). is_carried (added p number n z)) hand_is))
+        absurd (false≢true (sym none ∙ ap (λ (z : S). is_carried (with_record p number n z)) hand_is))
 
-    slot : (t : SeatState) → t ≡ (stepped_by p number n None).seat → is_carried (added p number n hand_before) ≡ false → carries_value t ≡ true → (x : S) × (m1.1 ≡ (0, x) ∷ rest m1.1)
+    slot : (t : SeatState) → t ≡ (stepped_by p number n None).seat → is_carried (with_record p number n hand_before) ≡ false → carries_value t ≡ true → (x : S) × (m1.1 ≡ (0, x) ∷ rest m1.1)
     slot t is_t none c = slot_by (carries_value p) (gives_at p.point) refl refl none (carries_unread p number n (oldest did.popped) None ∙ (ap carries_value (sym is_t) ∙ c))
 
   pub slot_there : (n : ℕ) (a1 a2 : S) (m0 m1 : Mine) (t : SeatState) → a1 ≡ kept_out (gives_at p.point) (dropped p a) → m0 ≡ (m.0, put_in (gives_at p.point) (dropped p a) m.1)
-      → Advanced follows suits p (value_in a1) m0 n m1 → a2 ≡ added p number n a1 → t ≡ (stepped_by p number n None).seat → is_carried a2 ≡ false → carries_value t ≡ true → (x : S) × (m1.1 ≡ (0, x) ∷ rest m1.1)
+      → Advanced follows suits p (value_in a1) m0 n m1 → a2 ≡ with_record p number n a1 → t ≡ (stepped_by p number n None).seat → is_carried a2 ≡ false → carries_value t ≡ true → (x : S) × (m1.1 ≡ (0, x) ∷ rest m1.1)
   slot_there n a1 a2 m0 m1 t is_a is_m did is_a2 is_t none c =
-      slot n m1 (subst (λ (z : S × Mine). Advanced follows suits p (value_in z.0) z.1 n m1) (λ i. (is_a i, is_m i)) did) t is_t (ap is_carried (sym (is_a2 ∙ ap (added p number n) is_a)) ∙ none) c
+      slot n m1 (subst (λ (z : S × Mine). Advanced follows suits p (value_in z.0) z.1 n m1) (λ i. (is_a i, is_m i)) did) t is_t (ap is_carried (sym (is_a2 ∙ ap (with_record p number n) is_a)) ∙ none) c
 
 -- an event, where a call is open
 pub open_event : {T : Type 0} (follows : ℕ → T → T → Type 0) (suits : T → ℕ → Type 0) (k : Option Kind) (p p' : SeatState) (m m' : Me (Option (Moving T)) (View T)) (a a' : Option (Moving T)) (turn : Turn) → k ≢ None

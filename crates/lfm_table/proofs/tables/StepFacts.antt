@@ -21,7 +21,7 @@ use Rattle.lfm_protocol.specs.declared.points.Releaser.{Releaser}
 use Rattle.lfm_protocol.specs.declared.points.Releaser.TheVariants.{Unlocker, Waiter}
 use Rattle.lfm_protocol.specs.declared.points.Sleeper.{Sleeper}
 use Rattle.lfm_protocol.specs.declared.seats.SeatState.{SeatState}
-use Rattle.lfm_protocol.specs.After.{same_handoff, releases, pushed, granted, receives, claims, carrier_of, take, busy, looks, serves, cleared, drops_oldest, drops_oldest_at, how_granted}
+use Rattle.lfm_protocol.specs.After.{same_handoff, releases, pushed, granted, receives, claims, carrier_of, take, busy, looks, serves, once_cleared, drops_oldest, drops_oldest_at, how_granted}
 use Rattle.lfm_protocol.specs.Begin.{Stepped, goes_on, ends, refuses, charges, begin_awake, begin_asleep, begin_at}
 use Rattle.lfm_protocol.specs.Begin as Begin
 use Rattle.lfm_core.specs.table.Carried.{carries_value}
@@ -277,7 +277,7 @@ pub taking : (carrier : Carrier) (s : ℕ) (oldest : Option Record) → carries 
 taking carrier s None = refl
 taking carrier s (Some r) = serving carrier s r
 
-clearing : (carrier : Carrier) (head : ℕ) → carries (cleared carrier head) ≡ true
+clearing : (carrier : Carrier) (head : ℕ) → carries (once_cleared carrier head) ≡ true
 clearing Carrier.Locker head = refl
 clearing (Carrier.Releaser releaser) head = point_if (nat_eq head 0) _ _ refl refl
 clearing (Carrier.Reclaimer releaser) head = refl

@@ -18,7 +18,7 @@ use Rattle.lfm_table.specs.declared.seat_view.View.{View}
 use Rattle.lfm_table.specs.declared.rule.Moving.{Moving}
 use Rattle.lfm_table.specs.Rule.{value_in, is_carried, Advanced}
 use Rattle.lfm_table.specs.Seats.{Rooted}
-use Rattle.lfm_table.specs.Steps.{gives_at, MayBeLeft, CanMake, dropped, kept_out, put_in, add_by, added, Took, oldest_in}
+use Rattle.lfm_table.specs.Steps.{gives_at, MayBeLeft, CanMake, dropped, kept_out, put_in, add_by, with_record, Took, oldest_in}
 use Rattle.lfm_table.specs.Straight.{Fit, MadeStep}
 use Rattle.lfm_table.proofs.tables.SeatKept.{made, can_make, slot_there, own_slot}
 use Rattle.lfm_table.proofs.tables.StepFacts.{keeps_value}
@@ -50,7 +50,7 @@ adds_by Kind.CountSubtract t n l e = refl
 adds_by Kind.HandoffLoad t n l e = refl
 adds_by _ t n l e = absurd (cc)
 
-adds_same : {T : Type 0} (p : SeatState) (s n : ℕ) (a : Option (Moving T)) (k : Kind) → kind p.point ≡ Some k → is_straight k ≡ true → a ≡ added p s n a
+adds_same : {T : Type 0} (p : SeatState) (s n : ℕ) (a : Option (Moving T)) (k : Kind) → kind p.point ≡ Some k → is_straight k ≡ true → a ≡ with_record p s n a
 adds_same p s n None k is straight = refl
 adds_same p s n (Some x) k is straight =
     ap (λ (l : List Record). Some (record x { popped = record x.popped { records = l } })) (adds_by k (target p.point s) n x.popped.records straight ∙ ap (λ (j : Option Kind). add_by j (target p.point s) n x.popped.records) (sym is))

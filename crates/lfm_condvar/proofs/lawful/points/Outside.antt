@@ -17,7 +17,7 @@ use Rattle.lfm_words.specs.declared.handoffs.Handoff.{Handoff}
 use Rattle.lfm_words.specs.declared.pop_lists.Record.{Record}
 use Rattle.lfm_words.specs.declared.wakes.Wake.{Wake}
 use Rattle.lfm_words.specs.Popped.{oldest}
-use Rattle.lfm_protocol.specs.After.{same_link, same_handoff, releases, pushed, granted, looks, carrier_of, serves, take, cleared, receives, loaded, busy}
+use Rattle.lfm_protocol.specs.After.{same_link, same_handoff, releases, pushed, granted, looks, carrier_of, serves, take, once_cleared, receives, loaded, busy}
 use Rattle.lfm_protocol.specs.Begin.{Stepped, goes_on, ends}
 use Rattle.lfm_protocol.specs.Core.{Core}
 use Rattle.lfm_protocol.specs.Seats.{seat, link, wake}
@@ -70,7 +70,7 @@ of_pusher : (pusher : Pusher) → carries_to_wait (carrier_of pusher) ≡ false
 of_pusher Pusher.Locker = refl
 of_pusher (Pusher.Sender t) = refl
 
-of_cleared : (carrier : Carrier) (head : ℕ) → carries_to_wait carrier ≡ false → is_of_condvar (cleared carrier head) ≡ false
+of_cleared : (carrier : Carrier) (head : ℕ) → carries_to_wait carrier ≡ false → is_of_condvar (once_cleared carrier head) ≡ false
 of_cleared Carrier.Locker head none = refl
 of_cleared (Carrier.Releaser Waiter) head none = absurd (false≢true (sym none))
 of_cleared (Carrier.Releaser Unlocker) head none =

@@ -10,7 +10,7 @@ use Rattle.lfm_protocol.specs.declared.seats.SeatState.{SeatState}
 use Rattle.lfm_words.specs.declared.handoffs.Handoff.{Handoff}
 use Rattle.lfm_words.specs.declared.pop_lists.Record.{Record}
 use Rattle.lfm_words.specs.Popped.{oldest}
-use Rattle.lfm_protocol.specs.After.{same_link, same_handoff, pushed, granted, looks, carrier_of, serves, take, cleared, loaded}
+use Rattle.lfm_protocol.specs.After.{same_link, same_handoff, pushed, granted, looks, carrier_of, serves, take, once_cleared, loaded}
 use Rattle.lfm_protocol.specs.Begin.{Stepped, goes_on, ends}
 use Rattle.lfm_protocol.specs.Core.{Core}
 use Rattle.lfm_protocol.specs.Seats.{seat, link}
@@ -62,7 +62,7 @@ of_take Pusher.Locker s first sender = absurd (false≢true sender)
 of_take (Pusher.Sender t) s None sender = refl
 of_take (Pusher.Sender t) s (Some r) sender = refl
 
-of_cleared : (carrier : Carrier) (head : ℕ) → carries_for_send carrier ≡ true → to_push (cleared carrier head) ≡ None
+of_cleared : (carrier : Carrier) (head : ℕ) → carries_for_send carrier ≡ true → to_push (once_cleared carrier head) ≡ None
 of_cleared Carrier.Sender head sender = refl
 of_cleared _ head sender = absurd (false≢true sender)
 

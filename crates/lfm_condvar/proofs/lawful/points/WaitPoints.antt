@@ -12,7 +12,7 @@ use Rattle.lfm_protocol.specs.declared.seats.SeatState.{SeatState}
 use Rattle.lfm_words.specs.declared.pop_lists.Record.{Record}
 use Rattle.lfm_words.specs.declared.wakes.Wake.TheVariants.{Waiting}
 use Rattle.lfm_words.specs.Popped.{oldest}
-use Rattle.lfm_protocol.specs.After.{same_handoff, releases, granted, serves, take, cleared, loaded}
+use Rattle.lfm_protocol.specs.After.{same_handoff, releases, granted, serves, take, once_cleared, loaded}
 use Rattle.lfm_protocol.specs.Begin.{Stepped, goes_on}
 use Rattle.lfm_protocol.specs.Core.{Core}
 use Rattle.lfm_core.specs.steady.Ghost.{Ghost}
@@ -48,7 +48,7 @@ of_take : (carrier : Carrier) (s : ℕ) (first : Option Record) → carries_to_w
 of_take carrier s None waiter = waiter
 of_take carrier s (Some r) waiter = of_serves carrier s r waiter
 
-of_cleared : (carrier : Carrier) (head : ℕ) → carries_to_wait carrier ≡ true → waits_at (cleared carrier head) ≡ true
+of_cleared : (carrier : Carrier) (head : ℕ) → carries_to_wait carrier ≡ true → waits_at (once_cleared carrier head) ≡ true
 of_cleared (Carrier.Releaser Waiter) head waiter =
     point_if (nat_eq head 0) (ReleaseHandoffStore Waiter) (TakeLinkLoad (Carrier.Releaser Waiter) head) refl refl
 of_cleared (Carrier.Reclaimer Waiter) head waiter = refl

@@ -24,7 +24,7 @@ use Rattle.lfm_words.specs.declared.pop_lists.Record.{Record}
 use Rattle.lfm_words.specs.declared.wakes.Wake.{Wake}
 use Rattle.lfm_words.specs.declared.wakes.Wake.TheVariants.{Grant}
 use Rattle.lfm_words.specs.Popped.{oldest}
-use Rattle.lfm_protocol.specs.After.{same_link, same_handoff, busy, deepens, how_granted, loaded, releases, pushed, granted, serves, take, cleared, carrier_of, receives, claims, looks}
+use Rattle.lfm_protocol.specs.After.{same_link, same_handoff, busy, deepens, how_granted, loaded, releases, pushed, granted, serves, take, once_cleared, carrier_of, receives, claims, looks}
 use Rattle.lfm_protocol.specs.Begin.{Stepped, goes_on, ends}
 use Rattle.lfm_protocol.specs.Core.{Core}
 use Rattle.lfm_protocol.specs.Points.{kind}
@@ -151,7 +151,7 @@ changed_by_clear : (push : Link) → push.next ≡ 0 → changed_push push (reco
 changed_by_clear push none = rw (eq-eqb push.stamp push.stamp refl, eq-eqb 0 push.next (sym none)) refl
 
 clear_spends : (push : Link) (seats room room' : ℕ) (carrier : Carrier) → room' ≤ seats
-    → Spends push (record { stamp = push.stamp; next = 0 }) seats room room' (TakeClearHead carrier) (cleared carrier push.next)
+    → Spends push (record { stamp = push.stamp; next = 0 }) seats room room' (TakeClearHead carrier) (once_cleared carrier push.next)
 clear_spends push seats room room' Carrier.Locker few =
     let one = changed_push-le push (record { stamp = push.stamp; next = 0 }) in (omega (arith, few), omega (arith, one))
 clear_spends push seats room room' (Carrier.Releaser releaser) few =

@@ -12,7 +12,7 @@ use Rattle.lfm_protocol.specs.Step.{made, step, begin}
 use Rattle.lfm_core.specs.laws.Progress.{changed_push, open_unit, open_calls, stepped_in, opened_at, opened_in, ended_in, steps_of_run, opened_in_run, ended_in_run, CallsShareTheirSteps, SomeCallEnds}
 use Rattle.lfm_core.specs.laws.Schedules.{Event, begins, makes, happens, is_call}
 use Rattle.lfm_core.specs.steady.Ghost.{Ghost}
-use Rattle.lfm_core.specs.steady.Numbered.{sum_to}
+use Rattle.lfm_model.specs.Sums.{sum_to}
 use Rattle.lfm_core.specs.steady.Steady.{Fits, Steady}
 use Rattle.lfm_core.proofs.lawful.bounds.Beside.{due, due-le, changes_left, due_beside, begun_push}
 use Rattle.lfm_core.proofs.lawful.bounds.CallWeights.{room_left}
@@ -31,7 +31,7 @@ abbrev pub owed : ℕ → Core → ℕ → ℕ
 owed k c s = due c s + k * changes_left c s
 
 abbrev pub all_owed : ℕ → Core → ℕ
-all_owed k c = sum_to (length c.seats) (owed k c)
+all_owed k c = sum_to (owed k c) (length c.seats)
 
 -- nothing is owed to a seat without an open call
 owed_closed : (k : ℕ) (c : Core) (s : ℕ) → is_call (seat c.seats s).point ≡ false → owed k c s ≡ 0
@@ -87,7 +87,7 @@ made_pays k c g s fits is inside enough =
     let n = changed_push c.push (made c s).core.push in
     let spread = sum_spreads (length c.seats) s (2 * n) (owed k c) (owed k (made c s).core) is.above is.within (λ j other. owed_beside k c g s j fits other) in
     rw (size_made c s)
-    (borne (length c.seats) k n (all_owed k c) (sum_to (length c.seats) (owed k (made c s).core)) (owed k c s) (owed k (made c s).core s) enough
+    (borne (length c.seats) k n (all_owed k c) (sum_to (owed k (made c s).core) (length c.seats)) (owed k c s) (owed k (made c s).core s) enough
     (changed_push-le c.push (made c s).core.push) spread (owed_own k c g s fits is inside))
 
 -- Events

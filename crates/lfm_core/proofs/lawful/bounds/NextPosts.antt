@@ -15,7 +15,7 @@ use Rattle.lfm_protocol.specs.declared.points.Releaser.TheVariants.{Unlocker, Wa
 use Rattle.lfm_protocol.specs.declared.seats.SeatState.{SeatState}
 use Rattle.lfm_words.specs.declared.pop_lists.Record.{Record}
 use Rattle.lfm_words.specs.Popped.{oldest}
-use Rattle.lfm_protocol.specs.After.{releases, take, cleared}
+use Rattle.lfm_protocol.specs.After.{releases, take, once_cleared}
 use Rattle.lfm_protocol.specs.Begin.{goes_on}
 use Rattle.lfm_protocol.specs.Core.{Core}
 use Rattle.lfm_protocol.specs.Seats.{seat, IsSeat}
@@ -52,7 +52,7 @@ of_last_count true x Unlocker s r = refl
 of_last_count true x Waiter s r = refl
 of_last_count false x releaser s r = of_take releaser s r
 
-of_cleared : (releaser : Releaser) (head : ℕ) → 0 < head → post_weight (cleared (Carrier.Releaser releaser) head) ≡ 0
+of_cleared : (releaser : Releaser) (head : ℕ) → 0 < head → post_weight (once_cleared (Carrier.Releaser releaser) head) ≡ 0
 of_cleared releaser head some = rw (ne_eqb head 0 (λ e. omega (arith, e, some))) refl
 
 -- a carrier that clears the push list finds a record

@@ -12,7 +12,7 @@ use Rattle.lfm_protocol.specs.declared.seats.SeatState.{SeatState}
 use Rattle.lfm_model.specs.declared.answers.Unlocked.TheVariants.{Free, Granted, Posted, TakenOver}
 use Rattle.lfm_words.specs.declared.pop_lists.Record.{Record}
 use Rattle.lfm_words.specs.Popped.{oldest}
-use Rattle.lfm_protocol.specs.After.{releases, granted, take, loaded, same_handoff, cleared, serves}
+use Rattle.lfm_protocol.specs.After.{releases, granted, take, loaded, same_handoff, once_cleared, serves}
 use Rattle.lfm_protocol.specs.Begin.{Stepped, goes_on}
 use Rattle.lfm_protocol.specs.Core.{Core}
 use Rattle.lfm_core.specs.steady.Ghost.{Standing, apart, Ghost}
@@ -121,7 +121,7 @@ of_grant seats room steps x (Carrier.Reclaimer releaser) r releasing most = of_r
 of_grant seats room steps x Carrier.Sender r releasing most = absurd (false≢true releasing)
 
 of_cleared : (seats room : ℕ) (carrier : Carrier) (head : ℕ) → is_releasing carrier ≡ true → room ≤ seats → (steps : ℕ) → steps + 1 ≡ steps_from_clear seats carrier
-    → Within seats room steps (cleared carrier head)
+    → Within seats room steps (once_cleared carrier head)
 of_cleared seats room Carrier.Locker head releasing few steps most = absurd (false≢true releasing)
 of_cleared seats room (Carrier.Releaser releaser) head releasing few steps most =
     of_points seats room steps (nat_eq head 0) (ReleaseHandoffStore releaser) (TakeLinkLoad (Carrier.Releaser releaser) head) (refl, omega (arith, most))
@@ -175,7 +175,7 @@ at_point c s room before (TakeClearHead carrier) at among inside walks few =
     let all = clears (length c.seats) carrier among in
     let one = all.1 in
     rw (at, at)
-    (lowers (length c.seats) room all.0 _ (cleared carrier c.push.next) (of_cleared (length c.seats) room carrier c.push.next among few all.0 one) (omega (arith, one)))
+    (lowers (length c.seats) room all.0 _ (once_cleared carrier c.push.next) (of_cleared (length c.seats) room carrier c.push.next among few all.0 one) (omega (arith, one)))
 at_point c s room before (GrantWakeStore carrier r) at among inside walks few =
     rw (at, at) (lowers (length c.seats) room (wait_of carrier) _ _ (of_grant (length c.seats) room (wait_of carrier) (seat c.seats s) carrier r among (omega arith)) (omega arith))
 at_point c s room before (TakeLinkLoad carrier next) at among inside walks few = absurd (false≢true (sym walks))

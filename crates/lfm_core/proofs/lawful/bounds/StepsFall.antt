@@ -15,7 +15,7 @@ use Rattle.lfm_words.specs.declared.links.Link.{Link}
 use Rattle.lfm_words.specs.declared.pop_lists.Record.{Record}
 use Rattle.lfm_words.specs.declared.wakes.Wake.{Wake}
 use Rattle.lfm_words.specs.declared.wakes.Wake.TheVariants.{Grant}
-use Rattle.lfm_protocol.specs.After.{same_link, releases, pushed, granted, looks, carrier_of, serves, take, cleared, receives, claims, loaded, drops_oldest_at, after_count_exchange_at, after_count_add_at, after_count_subtract_at, after_owner_load_at, after_owner_store_at, after_push_load_at, after_push_exchange_at, after_clear_head_at, after_link_load_at, after_link_store_at, after_handoff_load_at, after_handoff_store_at, after_handoff_exchange_at, after_wake_load_at, after_wake_store_at, after_wake_exchange_at}
+use Rattle.lfm_protocol.specs.After.{same_link, releases, pushed, granted, looks, carrier_of, serves, take, once_cleared, receives, claims, loaded, drops_oldest_at, after_count_exchange_at, after_count_add_at, after_count_subtract_at, after_owner_load_at, after_owner_store_at, after_push_load_at, after_push_exchange_at, after_clear_head_at, after_link_load_at, after_link_store_at, after_handoff_load_at, after_handoff_store_at, after_handoff_exchange_at, after_wake_load_at, after_wake_store_at, after_wake_exchange_at}
 use Rattle.lfm_protocol.specs.Stores.{expected_push_at}
 use Rattle.lfm_protocol.specs.Begin.{Stepped}
 use Rattle.lfm_protocol.specs.Core.{Core, drops_if}
@@ -123,7 +123,7 @@ pub push_exchange_lower : (push other : Link) (room : ℕ) (x : SeatState) (p : 
 push_exchange_lower push other room x (PushExchange pusher seen) goes = exchange_lower push other room pusher seen (same_link push seen) refl
 push_exchange_lower push other room x _ goes = absurd (false≢true goes)
 
-cleared_lower : (after : Link) (room : ℕ) (carrier : Carrier) (head : ℕ) → left_at after room (cleared carrier head) < left_of_carrier room carrier
+cleared_lower : (after : Link) (room : ℕ) (carrier : Carrier) (head : ℕ) → left_at after room (once_cleared carrier head) < left_of_carrier room carrier
 cleared_lower after room (Carrier.Releaser releaser) head = either_point after room (room + 7) (nat_eq head 0) _ _ (omega arith) (omega arith)
 cleared_lower after room carrier head = omega arith
 

@@ -2,10 +2,10 @@
 use Rattle.std.proofs.Common.{◌≢◌, ℕ, zero, suc, ◌+◌, ◌*◌, ◌≤◌, ◌<◌, sym, inl, inr, arith, suc-mul}
 use Rattle.std.proofs.lemmas.Bool.{cases_eq}
 use Rattle.std.proofs.Math.Nat.{mul-add}
-use Rattle.lfm_core.specs.steady.Numbered.{sum_to}
+use Rattle.lfm_model.specs.Sums.{sum_to}
 
 -- values that rise by so much at most
-pub sum_more : (n a : ℕ) (f f' : ℕ → ℕ) → ((j : ℕ) → j ≤ n → f' j ≤ f j + a) → sum_to n f' ≤ sum_to n f + n * a
+pub sum_more : (n a : ℕ) (f f' : ℕ → ℕ) → ((j : ℕ) → j ≤ n → f' j ≤ f j + a) → sum_to f' n ≤ sum_to f n + n * a
 sum_more zero a f f' most = omega arith
 sum_more (suc n) a f f' most =
     let below = sum_more n a f f' (λ j within. most j (omega (arith, within))) in
@@ -13,7 +13,7 @@ sum_more (suc n) a f f' most =
     omega (arith, below, last, suc-mul n a)
 
 -- the same of all values but one
-pub sum_spreads : (n i a : ℕ) (f f' : ℕ → ℕ) → 0 < i → i ≤ n → ((j : ℕ) → j ≢ i → f' j ≤ f j + a) → sum_to n f' + f i + a ≤ sum_to n f + f' i + n * a
+pub sum_spreads : (n i a : ℕ) (f f' : ℕ → ℕ) → 0 < i → i ≤ n → ((j : ℕ) → j ≢ i → f' j ≤ f j + a) → sum_to f' n + f i + a ≤ sum_to f n + f' i + n * a
 sum_spreads zero i a f f' above within most = absurd (omega arith)
 sum_spreads (suc n) i a f f' above within most =
     elim (cases_eq i (suc n)) [
@@ -27,9 +27,9 @@ sum_spreads (suc n) i a f f' above within most =
     ]
 
 -- values that are at most so many times others
-pub sum_scales : (n k : ℕ) (f g : ℕ → ℕ) → ((j : ℕ) → f j ≤ k * g j) → sum_to n f ≤ k * sum_to n g
+pub sum_scales : (n k : ℕ) (f g : ℕ → ℕ) → ((j : ℕ) → f j ≤ k * g j) → sum_to f n ≤ k * sum_to g n
 sum_scales zero k f g most = omega arith
 sum_scales (suc n) k f g most =
     let below = sum_scales n k f g most in
     let last = most (suc n) in
-    omega (arith, below, last, mul-add k (sum_to n g) (g (suc n)))
+    omega (arith, below, last, mul-add k (sum_to g n) (g (suc n)))

@@ -25,7 +25,7 @@ use Rattle.lfm_words.specs.declared.handoffs.Handoff.{Handoff}
 use Rattle.lfm_words.specs.declared.pop_lists.Record.{Record}
 use Rattle.lfm_words.specs.declared.wakes.Wake.{Wake}
 use Rattle.lfm_words.specs.Popped.{oldest}
-use Rattle.lfm_protocol.specs.After.{same_link, same_handoff, deepens, busy, releases, pushed, granted, looks, carrier_of, serves, take, cleared, held, receives, claims, loaded, how_granted}
+use Rattle.lfm_protocol.specs.After.{same_link, same_handoff, deepens, busy, releases, pushed, granted, looks, carrier_of, serves, take, once_cleared, held, receives, claims, loaded, how_granted}
 use Rattle.lfm_protocol.specs.Begin.{Stepped, goes_on, ends}
 use Rattle.lfm_protocol.specs.Core.{Core}
 use Rattle.lfm_protocol.specs.Seats.{seat, link, wake}
@@ -160,7 +160,7 @@ next_takes : (pusher : Pusher) (s : ℕ) (first : Option Record) → IsNext (cal
 next_takes Pusher.Locker s first = next_take Carrier.Locker s first
 next_takes (Pusher.Sender t) s first = next_take Carrier.Sender s first
 
-next_cleared : (carrier : Carrier) (head : ℕ) → IsNext (call_of_carrier carrier) (cleared carrier head)
+next_cleared : (carrier : Carrier) (head : ℕ) → IsNext (call_of_carrier carrier) (once_cleared carrier head)
 next_cleared Carrier.Locker head = record { here = refl; silent = refl }
 next_cleared (Carrier.Releaser releaser) head =
     next_if (call_of_releaser releaser) (nat_eq head 0) (ReleaseHandoffStore releaser) (TakeLinkLoad (Carrier.Releaser releaser) head)
@@ -276,7 +276,7 @@ step_follows c s (ReleaseHandoffExchange releaser) at inside =
     (released (seat c.seats s) releaser Unlocked.TakenOver))
 step_follows c s (WaitWakeStore answer) at inside = rw (at, at) (record { follows = (tt, refl); silent = λ e. refl; told = refl })
 step_follows c s (TakeClearHead carrier) at inside =
-    rw (at, at) (goes (seat c.seats s) (call_of_carrier carrier) false (cleared carrier c.push.next) (next_cleared carrier c.push.next))
+    rw (at, at) (goes (seat c.seats s) (call_of_carrier carrier) false (once_cleared carrier c.push.next) (next_cleared carrier c.push.next))
 step_follows c s (TakeLinkLoad carrier next) at inside =
     let found = link c.links next in
     rw (at, at) (either (seat c.seats s) (call_of_carrier carrier) false (nat_eq found.next 0) (serves carrier s (loaded next found)) (TakeLinkLoad carrier found.next)

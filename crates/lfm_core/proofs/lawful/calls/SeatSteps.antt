@@ -20,7 +20,7 @@ use Rattle.lfm_protocol.specs.declared.seats.SeatState.{SeatState}
 use Rattle.lfm_words.specs.declared.pop_lists.Record.{Record}
 use Rattle.lfm_words.specs.declared.wakes.Wake.{Wake}
 use Rattle.lfm_words.specs.Popped.{oldest}
-use Rattle.lfm_protocol.specs.After.{same_link, same_handoff, busy, releases, pushed, granted, looks, carrier_of, serves, take, cleared, held, receives, claims, loaded, how_granted}
+use Rattle.lfm_protocol.specs.After.{same_link, same_handoff, busy, releases, pushed, granted, looks, carrier_of, serves, take, once_cleared, held, receives, claims, loaded, how_granted}
 use Rattle.lfm_protocol.specs.Begin.{Stepped, goes_on, ends}
 use Rattle.lfm_protocol.specs.Core.{Core}
 use Rattle.lfm_protocol.specs.Points.{kind, target}
@@ -190,7 +190,7 @@ step_counts c g s (ReleaseHandoffExchange releaser) fits at stays =
 step_counts c g s (WaitWakeStore answer) fits at stays =
     let none = rw at at (fits.each s).depth in
     rw (at, at) (record { paid = omega arith; deep = (none, none) })
-step_counts c g s (TakeClearHead carrier) fits at stays = rw (at, at) (goes (seat c.seats s) (cleared carrier c.push.next))
+step_counts c g s (TakeClearHead carrier) fits at stays = rw (at, at) (goes (seat c.seats s) (once_cleared carrier c.push.next))
 step_counts c g s (TakeLinkLoad carrier next) fits at stays = rw (at, at) (goes (seat c.seats s) (if nat_eq (link c.links next).next 0 then serves carrier s (loaded next (link c.links next)) else TakeLinkLoad carrier (link c.links next).next))
 step_counts c g s (GrantWakeStore carrier r) fits at stays = let none = rw at at (fits.each s).depth in rw (at, at) (grants (seat c.seats s) carrier r none)
 step_counts c g s (EnterOwnerStore entrant how) fits at stays = let none = rw at at (fits.each s).depth in rw (at, at) (enters (seat c.seats s) entrant how none)

@@ -20,7 +20,7 @@ use Rattle.lfm_words.specs.Popped.{oldest}
 use Rattle.std.specs.Prelude.{Option, Some, None, nat_eq}
 use Rattle.lfm_model.specs.declared.answers.How.{How}
 use Rattle.lfm_protocol.specs.declared.answers.Answer.{Answer}
-use Rattle.lfm_protocol.specs.After.{same_link, same_handoff, releases, pushed, granted, looks, carrier_of, serves, take, cleared, receives, loaded, how_granted}
+use Rattle.lfm_protocol.specs.After.{same_link, same_handoff, releases, pushed, granted, looks, carrier_of, serves, take, once_cleared, receives, loaded, how_granted}
 use Rattle.lfm_protocol.specs.Begin.{Stepped, goes_on, ends}
 use Rattle.lfm_protocol.specs.Core.{Core}
 use Rattle.lfm_protocol.specs.Points.{kind, target}
@@ -91,7 +91,7 @@ untried_take : (carrier : Carrier) (s : ℕ) (first : Option Record) → tries (
 untried_take carrier s None = refl
 untried_take carrier s (Some r) = untried_serves carrier s r
 
-untried_cleared : (carrier : Carrier) (head : ℕ) → tries (cleared carrier head) ≡ false
+untried_cleared : (carrier : Carrier) (head : ℕ) → tries (once_cleared carrier head) ≡ false
 untried_cleared Carrier.Locker head = refl
 untried_cleared (Carrier.Releaser releaser) head =
     untried_if (nat_eq head 0) (ReleaseHandoffStore releaser) (TakeLinkLoad (Carrier.Releaser releaser) head) refl refl
@@ -156,7 +156,7 @@ plain_at c s (ReleaseHandoffExchange releaser) at plain =
     (plain_releases (seat c.seats s) releaser Unlocked.TakenOver))
 plain_at c s (WaitWakeStore released) at plain = rw (at, at) (record { untried = refl; made_so = λ why e. cc })
 plain_at c s (TakeClearHead carrier) at plain =
-    rw (at, at) (plain_goes (seat c.seats s) (cleared carrier c.push.next) (untried_cleared carrier c.push.next))
+    rw (at, at) (plain_goes (seat c.seats s) (once_cleared carrier c.push.next) (untried_cleared carrier c.push.next))
 plain_at c s (TakeLinkLoad carrier next) at plain =
     let found = link c.links next in
     rw (at, at) (plain_either (seat c.seats s) (nat_eq found.next 0) (serves carrier s (loaded next found)) (TakeLinkLoad carrier found.next)

@@ -6,7 +6,7 @@ use Rattle.lfm_protocol.specs.declared.points.Point.TheVariants.{Rest, LockCount
 use Rattle.lfm_protocol.specs.declared.points.Pusher.{Pusher}
 use Rattle.lfm_protocol.specs.Core.{Core}
 use Rattle.lfm_core.specs.steady.Ghost.{Responsibility, owned, Standing, apart, asks, queued, Ghost}
-use Rattle.lfm_core.specs.steady.Numbered.{sum_to}
+use Rattle.lfm_model.specs.Sums.{sum_to}
 use Rattle.lfm_core.specs.laws.Ranges.{NumbersStayInRange, StepsHaveRoom}
 use Rattle.lfm_core.specs.laws.Reading.{unit_of_recursion}
 use Rattle.lfm_protocol.specs.Seats.{seat, IsSeat}
@@ -36,7 +36,7 @@ work_unit-le (asks agent) = omega arith
 work_unit-le (queued stamp) = omega arith
 work_unit-le _ = omega arith
 
-work_of : (c : Core) (g : Ghost) → Fits c g → g.asking + g.pushed ≡ g.popped + sum_to (length c.seats) (λ s. work_unit (g.standing s))
+work_of : (c : Core) (g : Ghost) → Fits c g → g.asking + g.pushed ≡ g.popped + sum_to (λ s. work_unit (g.standing s)) (length c.seats)
 work_of c g fits =
     omega (arith, fits.sums.asking, fits.sums.queued, sum_add (length c.seats) (λ s. asking_unit (g.standing s)) (λ s. queued_unit (g.standing s)))
 

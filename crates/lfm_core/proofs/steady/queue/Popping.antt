@@ -7,7 +7,8 @@ use Rattle.lfm_words.specs.declared.pop_lists.Record.{Record}
 use Rattle.lfm_words.specs.declared.wakes.Wake.{Wake}
 use Rattle.lfm_protocol.specs.Core.{Core, put}
 use Rattle.lfm_core.specs.steady.Ghost.{Responsibility, nobody, posted, serving, Standing, apart, claimed, asks, queued, Ghost}
-use Rattle.lfm_core.specs.steady.Numbered.{sum_to, changed, records}
+use Rattle.lfm_core.specs.steady.Numbered.{changed, records}
+use Rattle.lfm_model.specs.Sums.{sum_to}
 use Rattle.lfm_protocol.specs.Seats.{seat, wake, with_entry, unposted, IsSeat}
 use Rattle.lfm_core.specs.steady.Steady.{HandoffFits, QueuedFits, SeatFits, AgentFits, owner_of, newest, own_unit, again_unit, WorkFits, CarriedFits, LastFits, unanswered, before, cleared, WordsFit, StampFits, asking_unit, queued_unit, SumsFit, Fits}
 use Rattle.lfm_core.specs.steady.Views.{held_by, grant_at, is_entered, is_asking}
@@ -109,10 +110,10 @@ sums_popped : (n : ℕ) (g : Ghost) (u : ℕ) (place : Responsibility) (answered
 sums_popped n g u place answered above within stands sums =
     let f : ℕ → ℕ = λ t. queued_unit (g.standing t) in
     let f' : ℕ → ℕ = λ t. queued_unit (changed g.standing u apart t) in
-    let update : sum_to n f' + f u ≡ sum_to n f + f' u = sum_update n u f f' above within (λ t other. ap queued_unit (changed_other g.standing u t apart other)) in
+    let update : sum_to f' n + f u ≡ sum_to f n + f' u = sum_update n u f f' above within (λ t other. ap queued_unit (changed_other g.standing u t apart other)) in
     let was : f u ≡ 1 = ap queued_unit stands in
     let now : f' u ≡ 0 = ap queued_unit (changed_same g.standing u apart) in
-    let sum : g.pushed ≡ g.popped + sum_to n f = sums.queued in
+    let sum : g.pushed ≡ g.popped + sum_to f n = sums.queued in
     record {
       asking = sums.asking ∙ sym (sum_agrees n (λ t. asking_unit (g.standing t)) (λ t. asking_unit (changed g.standing u apart t)) (asking_apart g u (g.popped + 1) stands));
       queued = omega (arith, update, was, now, sum);

@@ -15,6 +15,7 @@ pub mod ConstantBounds
 pub mod Grants
 pub mod Ranges
 pub mod Refusals
+pub mod OutsideSteps
 pub mod LineEvents
 pub mod Touched
 pub mod Steadiness

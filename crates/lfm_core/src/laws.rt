@@ -43,7 +43,8 @@ pub use queue_order::{
 pub use ranges::{limits_stay, numbers_stay_in_range, steps_have_room};
 pub use refusals::{
     begins_are_refused_for_cause, busy_was_busy, refused_begins_change_nothing,
-    steps_are_refused_for_cause, tries_see_a_holder, turns_are_refused_for_cause,
+    steps_are_refused_for_cause, steps_outside_of_calls_change_nothing, tries_see_a_holder,
+    turns_are_refused_for_cause,
 };
 pub use schedules::lines_are_events;
 pub use steadiness::{

@@ -1,5 +1,6 @@
 //! Refusals: a call or step is refused exactly where there is the cause, and a call that is refused changes nothing.
 ghost use Rattle.lfm_core.specs.laws.BusyMoments.{BusyWasBusy};
+ghost use Rattle.lfm_core.specs.laws.OutsideSteps.{AnsweredOutside, RunsStayWithoutOutsideSteps, StepsOutsideOfCallsChangeNothing};
 ghost use Rattle.lfm_core.specs.laws.Refusals.{RefusedBeginsChangeNothing, BeginsAreRefusedForCause, StepsAreRefusedForCause, TurnsAreRefusedForCause, TriesSeeAHolder};
 
 /// A begin that is refused leaves the whole state as it was.
@@ -7,6 +8,17 @@ ghost use Rattle.lfm_core.specs.laws.Refusals.{RefusedBeginsChangeNothing, Begin
 /// Definition: `RefusedBeginsChangeNothing` in `specs/laws/Refusals.antt`. Proof: `proofs/lawful/refusals/RefusedCalls.antt`.
 pub fn refused_begins_change_nothing()
     ensures { RefusedBeginsChangeNothing }
+{}
+
+/// A step of a seat that has no call open, or of a number that no seat has, leaves the whole state as it was: each word,
+/// record and seat. Only such a step is refused as Idle or NoSuchSeat. So a run comes to the same state without it.
+///
+/// Definitions: `StepsOutsideOfCallsChangeNothing`, `AnsweredOutside` and `RunsStayWithoutOutsideSteps` in
+/// `specs/laws/OutsideSteps.antt`. Proof: `proofs/lawful/refusals/OutsideSteps.antt`.
+pub fn steps_outside_of_calls_change_nothing()
+    ensures state { StepsOutsideOfCallsChangeNothing }
+    ensures answered { AnsweredOutside }
+    ensures runs { RunsStayWithoutOutsideSteps }
 {}
 
 /// The mutex refuses a call exactly where the seat and the state have the cause that is named for this call and this

@@ -93,7 +93,7 @@ begins_back c s call (By refusal) reached cause = (begins_are_refused_for_cause 
 -- Steps
 
 -- why a step at this point may be refused
-abbrev WhyAtStep : Point → Why → Type 0
+abbrev pub WhyAtStep : Point → Why → Type 0
 WhyAtStep p Why.NoSuchSeat = ⊥
 WhyAtStep p Why.InCall = ⊥
 WhyAtStep p Why.Idle = is_call p ≡ false
@@ -129,7 +129,7 @@ look_by c s at =
       | inr some ↦ rw (at, at, ne_eqb c.handoff.seat 0 some) tt
     ]
 
-step_why : (c : Core) (s : ℕ) (why : Why) (p : Point) → (seat c.seats s).point ≡ p → (made c s).turn ≡ Refused why → WhyAtStep p why
+pub step_why : (c : Core) (s : ℕ) (why : Why) (p : Point) → (seat c.seats s).point ≡ p → (made c s).turn ≡ Refused why → WhyAtStep p why
 step_why c s why Rest at turn = idle_why Rest why refl (rw at at turn)
 step_why c s why (Asleep sleeper) at turn = idle_why (Asleep sleeper) why refl (rw at at turn)
 step_why c s why TryCountExchange at turn = step_by_why TryCountExchange why (made c s).turn (rw (at, at) tt) turn
@@ -162,7 +162,7 @@ makes_forth c s why reached turn =
           rw e none
     ]
 
-idle_kind : (p : Point) → is_call p ≡ false → kind p ≡ None
+pub idle_kind : (p : Point) → is_call p ≡ false → kind p ≡ None
 idle_kind Rest outside = refl
 idle_kind (Asleep sleeper) outside = refl
 idle_kind _ outside = absurd (false≢true (sym outside))

@@ -1,8 +1,9 @@
--- What it means that a journal is lawful, in both directions.
+-- What it means that a journal is lawful, in both directions, and by which entries it grows.
 use Rattle.std.proofs.Common.{◌≡◌, ◌⊎◌, inl, inr, ⊎_elim, ℕ, zero, suc, ◌+◌, ◌<◌, List, [], ◌∷◌, ◌++◌, length, Option, Some, None, refl, sym, ◌∙◌, ap, subst, append_assoc, arith, length-append}
 use mathlib.Core.Logic.{dite}
 use native.Mathlib.Decide.{ℕ_discrete}
 use Rattle.std.specs.List.{slice_get, cons_option}
+use Rattle.std.specs.Prelude.{◌↔◌}
 use Rattle.lfm_model.specs.declared.answers.How.TheVariants.{Free, Queued}
 use Rattle.lfm_model.specs.declared.journals.What.{What}
 use Rattle.lfm_model.specs.declared.journals.What.TheVariants.{Took, Did}
@@ -10,6 +11,7 @@ use Rattle.lfm_model.specs.declared.journals.Entry.{Entry}
 use Rattle.lfm_model.specs.Journals.{one_to, stamp_of, stamps, taker_at, queued_at, May, taker_from, queued_from, LawfulFrom, LawfulJournal, entry}
 use Rattle.lfm_model.specs.JournalLaws.{takes, TookLast, OpsByTakers}
 use Rattle.lfm_model.proofs.JournalLists.{taker-append}
+use Rattle.lfm_model.proofs.JournalSteps.{lawful_more}
 
 get_left : (xs ys : List ℕ) (i : ℕ) → i < length xs → slice_get (xs ++ ys) i ≡ slice_get xs i
 get_left [] ys i h = absurd (omega arith)
@@ -53,6 +55,14 @@ module _ {A : Type 0} where
   lawful_rest : (t : Option ℕ) (k : ℕ) (xs ys : List (Entry A)) → LawfulFrom t k (xs ++ ys) → LawfulFrom (taker_from t xs) (queued_from k xs) ys
   lawful_rest t k [] ys h = h
   lawful_rest t k (e ∷ xs) ys h = lawful_rest (taker_at t e.seat e.what) (queued_at k e.what) xs ys h.1
+
+  lawful_start : (t : Option ℕ) (k : ℕ) (xs ys : List (Entry A)) → LawfulFrom t k (xs ++ ys) → LawfulFrom t k xs
+  lawful_start t k [] ys h = tt
+  lawful_start t k (e ∷ xs) ys h = (h.0, lawful_start (taker_at t e.seat e.what) (queued_at k e.what) xs ys h.1)
+
+  pub grown : (es : List (Entry A)) (e : Entry A) → LawfulJournal (es ++ e ∷ []) ↔ (LawfulJournal es × May (taker_from None es) (queued_from 0 es) e.seat e.what)
+  grown es e =
+      (λ h. (lawful_start None 0 es (e ∷ []) h, (lawful_rest None 0 es (e ∷ []) h).0), λ both. lawful_more es e both.0 both.1)
 
   -- seat s took last among the entries, or before them, where t did
   abbrev TakenFrom : Option ℕ → ℕ → List (Entry A) → Type 0

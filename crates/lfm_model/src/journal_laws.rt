@@ -1,10 +1,10 @@
 //! Laws of journals: what it means that a journal is lawful, and which object a journal leads to. Each law is the contract
 //! of an empty function.
 ghost use Rattle.lfm_model.specs.JournalLaws.{OpsByTakers, ops};
-ghost use Rattle.lfm_model.specs.Journals.{LawfulJournal, after_all, one_to, queued_from, replies_of, stamps};
+ghost use Rattle.lfm_model.specs.Journals.{LawfulJournal, May, after_all, one_to, queued_from, replies_of, stamps, taker_from};
 ghost use Rattle.lfm_model.specs.declared.journals.Entry.{Entry};
 ghost use Rattle.std.specs.List.{fold, slice_get};
-ghost use Rattle.std.specs.Prelude.{◌≡◌, ℕ, List, Some, length, take};
+ghost use Rattle.std.specs.Prelude.{◌≡◌, ◌↔◌, ◌++◌, ◌∷◌, ℕ, List, [], None, Some, length, take};
 
 use crate::objects::Object;
 
@@ -23,6 +23,13 @@ pub fn lawful_ops_are_by_takers<Op>()
 /// seat of the last take before it.
 pub fn journals_by_takers_are_lawful<Op>()
     ensures { (es : List (Entry Op)) → stamps es ≡ one_to (length (stamps es)) → OpsByTakers es → LawfulJournal es }
+{}
+
+/// A journal with one more entry at its end is lawful exactly where it was lawful before and the entry may come next: a take
+/// with the stamp after the last one or without a stamp, or an op by the seat that took last.
+pub fn lawful_journals_grow_by_what_may_come<Op>()
+    ensures { (es : List (Entry Op)) (e : Entry Op) → LawfulJournal (es ++ e ∷ [])
+        ↔ (LawfulJournal es × May (taker_from None es) (queued_from 0 es) e.seat e.what) }
 {}
 
 /// A replay makes the ops of the journal in order and nothing else. Each reply is that of the object as the ops before it

@@ -5,9 +5,11 @@ use Rattle.lfm_model.specs.Abstract.{AbstractMutex, AbstractPlace, free}
 use Rattle.lfm_model.specs.AbstractRuns.{take}
 use Rattle.lfm_model.specs.declared.answers.How.TheVariants as How
 use Rattle.lfm_model.specs.declared.answers.Locked.TheVariants as Locked
+use Rattle.lfm_model.specs.declared.refusals.Refusal.TheVariants.{Busy}
 use Rattle.lfm_protocol.specs.declared.answers.Answer.TheVariants as Answer
-use Rattle.lfm_protocol.specs.declared.answers.Call.TheVariants.{Unlock, StartWait, TryLock}
-use Rattle.lfm_protocol.specs.declared.answers.Turn.TheVariants.{Ended}
+use Rattle.lfm_protocol.specs.declared.answers.Call.TheVariants.{Unlock, StartWait, TryLock, Receive}
+use Rattle.lfm_protocol.specs.declared.answers.Turn.TheVariants.{Open, Ended, Refused}
+use Rattle.lfm_protocol.specs.declared.answers.Why.TheVariants.{By}
 use Rattle.lfm_protocol.specs.declared.points.Carrier.{Carrier}
 use Rattle.lfm_protocol.specs.declared.points.Point.TheVariants.{Rest, Asleep, PushExchange, PushedHandoffLoad, TakeClearHead}
 use Rattle.lfm_protocol.specs.declared.points.Pusher.{Pusher}
@@ -20,15 +22,18 @@ use Rattle.lfm_protocol.specs.Core.{Core}
 use Rattle.lfm_protocol.specs.Place.{place_of}
 use Rattle.lfm_protocol.specs.Queue.{queue_of}
 use Rattle.lfm_protocol.specs.Seats.{seat, wake, unposted, IsSeat}
-use Rattle.lfm_protocol.specs.Step.{begin}
+use Rattle.lfm_protocol.specs.Step.{begin, step}
 use Rattle.lfm_protocol.specs.Turns.{is_open, longest_call}
+use Rattle.lfm_core.specs.laws.BusyMoments.{WasBusy}
 use Rattle.lfm_core.specs.laws.Cases.{GoesBy, case_of_event}
 use Rattle.lfm_core.specs.laws.Events.{case_of_step}
+use Rattle.lfm_core.specs.laws.Grants.{grant_weight}
 use Rattle.lfm_core.specs.laws.Lawful.{IsSent, Lawful}
 use Rattle.lfm_core.specs.laws.Laws.{IsReached, IsQuiet, IsHeld, IsGranted, has_won, post_weight, printed}
 use Rattle.lfm_core.specs.laws.Overtaking.{entries_of_run, releases_of_run, entries_of_seat}
 use Rattle.lfm_core.specs.laws.Progress.{changes_beside, changes_of_call, open_calls, steps_of_run, opened_in_run, ended_in_run, ComesToRest}
 use Rattle.lfm_core.specs.laws.Reading.{Claims, Reads}
+use Rattle.lfm_core.specs.laws.Releases.{StaysInCall}
 use Rattle.lfm_core.specs.laws.Schedules.{Event, makes, happens, run_of, steps, push_record, popped_record, is_call, weight_of_call, steps_of_call}
 use Rattle.lfm_core.specs.laws.Service.{OnlyServes}
 use Rattle.lfm_core.specs.laws.Watched.{IsQueued, Watched}
@@ -141,6 +146,10 @@ FailedPushesSeeChangeInSchedules =
 abbrev pub CallsPostOnceInSchedules : Type 0
 CallsPostOnceInSchedules = (c : Core) (s : ℕ) (events : List Event) → IsReached c → weight_of_call post_weight c s events ≤ 1
 
+-- a call grants at most once, whatever the others do in between
+abbrev pub CallsGrantOnceInSchedules : Type 0
+CallsGrantOnceInSchedules = (c : Core) (s : ℕ) (events : List Event) → IsReached c → weight_of_call grant_weight c s events ≤ 1
+
 -- Bounds
 
 -- an unlock among N seats makes at most N + 7 steps, whatever the others do in between
@@ -154,6 +163,12 @@ abbrev pub StartWaitsAreBoundedInSchedules : Type 0
 StartWaitsAreBoundedInSchedules =
     (c : Core) (s : ℕ) (events : List Event) → IsReached c → is_call (seat c.seats s).point ≡ false
     → steps_of_call (begin c s StartWait).core s events ≤ length c.seats + 8
+
+-- a try_lock makes at most 6 steps, and a receive at most 3
+abbrev pub TriesAndReceivesAreBoundedInSchedules : Type 0
+TriesAndReceivesAreBoundedInSchedules =
+    (c : Core) (s : ℕ) (events : List Event) → IsReached c → is_call (seat c.seats s).point ≡ false
+    → (steps_of_call (begin c s TryLock).core s events ≤ 6) × (steps_of_call (begin c s Receive).core s events ≤ 3)
 
 -- an open call whose seat alone makes steps ends within as many as `*` makes
 abbrev pub CallsEndAloneInSchedules : Type 0
@@ -202,3 +217,12 @@ SomeCallEndsInSchedules =
 -- from each state some steps of the open calls lead to one without an open call
 abbrev pub NoStateIsStuckInSchedules : Type 0
 NoStateIsStuckInSchedules = (c : Core) → IsReached c → ComesToRest c
+
+-- Refusals
+
+-- between the begin of a try_lock and the step that answers Busy, the mutex was neither free nor posted
+abbrev pub BusyWasBusyInSchedules : Type 0
+BusyWasBusyInSchedules =
+    (c : Core) (s : ℕ) (events : List Event) → IsReached c → (begin c s TryLock).turn ≡ Open
+    → StaysInCall (begin c s TryLock).core s events → (step (run_of (begin c s TryLock).core events) s).turn ≡ Refused (By Busy)
+    → WasBusy (begin c s TryLock).core events

@@ -3,6 +3,7 @@ ghost use Rattle.lfm_core.specs.laws.ConstantBounds.{ReceivesAreBounded, TriesAr
 ghost use Rattle.lfm_core.specs.laws.InSchedules.{
   UnlocksAreBoundedInSchedules,
   StartWaitsAreBoundedInSchedules,
+  TriesAndReceivesAreBoundedInSchedules,
   CallsEndAloneInSchedules,
   PushesAloneFailOnceInSchedules,
   TriesAloneHoldInSchedules,
@@ -38,11 +39,13 @@ pub fn start_waits_are_bounded()
 /// Wait-free tries and receives: a `try_lock` ends within 6 of its own atomic steps and a `receive` within 3, however the other
 /// seats interleave and however many there are.
 ///
-/// Definitions: `TriesAreBounded` and `ReceivesAreBounded` in `specs/laws/ConstantBounds.antt`. Proof:
-/// `proofs/lawful/bounds/ConstantBounds.antt`.
+/// Definitions: `TriesAreBounded` and `ReceivesAreBounded` in `specs/laws/ConstantBounds.antt`, and
+/// `TriesAndReceivesAreBoundedInSchedules` in `specs/laws/InSchedules.antt`. Proofs:
+/// `proofs/lawful/bounds/ConstantBounds.antt` and `proofs/lawful/runs/InSchedules.antt`.
 pub fn tries_and_receives_are_bounded()
     ensures tries { TriesAreBounded }
     ensures receives { ReceivesAreBounded }
+    ensures schedules { TriesAndReceivesAreBoundedInSchedules }
 {}
 
 /// An open call whose seat alone makes steps ends within N + 16 of them, N being the number of seats. So many steps `*`

@@ -9,6 +9,7 @@ ghost use Rattle.lfm_core.specs.laws.InSchedules.{
   WonPostsHaveARecordInSchedules,
   FailedPushesSeeChangeInSchedules,
   CallsPostOnceInSchedules,
+  CallsGrantOnceInSchedules,
 };
 ghost use Rattle.lfm_core.specs.laws.Laws.{HandoffsAreWatched, QuiescentStatesRest, SleepersAreReachable, TakesFindARecord, WonPostsHaveARecord, FailedPushesSeeChange, CallsPostOnce};
 
@@ -79,7 +80,9 @@ pub fn calls_post_once()
 
 /// A call wakes one seat at most: none stores two grants, however the other seats interleave with it.
 ///
-/// Definition: `CallsGrantOnce` in `specs/laws/Grants.antt`. Proof: `proofs/lawful/bounds/GrantsOnce.antt`.
+/// Definitions: `CallsGrantOnce` in `specs/laws/Grants.antt`, and `CallsGrantOnceInSchedules` in
+/// `specs/laws/InSchedules.antt`. Proofs: `proofs/lawful/bounds/GrantsOnce.antt` and `proofs/lawful/runs/InSchedules.antt`.
 pub fn calls_grant_once()
-    ensures { CallsGrantOnce }
+    ensures steady { CallsGrantOnce }
+    ensures schedules { CallsGrantOnceInSchedules }
 {}

@@ -1,5 +1,6 @@
 //! Refusals: a call or step is refused exactly where there is the cause, and a call that is refused changes nothing.
 ghost use Rattle.lfm_core.specs.laws.BusyMoments.{BusyWasBusy};
+ghost use Rattle.lfm_core.specs.laws.InSchedules.{BusyWasBusyInSchedules};
 ghost use Rattle.lfm_core.specs.laws.OutsideSteps.{AnsweredOutside, RunsStayWithoutOutsideSteps, StepsOutsideOfCallsChangeNothing};
 ghost use Rattle.lfm_core.specs.laws.Refusals.{RefusedBeginsChangeNothing, BeginsAreRefusedForCause, StepsAreRefusedForCause, TurnsAreRefusedForCause, TriesSeeAHolder};
 
@@ -56,7 +57,9 @@ pub fn tries_see_a_holder()
 /// Busy is linearizable: at some moment between the begin of a `try_lock` and its answer Busy there was nothing to take. The
 /// count was above 0, and nothing was posted.
 ///
-/// Definition: `BusyWasBusy` in `specs/laws/BusyMoments.antt`. Proof: `proofs/lawful/refusals/BusyMoments.antt`.
+/// Definitions: `BusyWasBusy` in `specs/laws/BusyMoments.antt`, and `BusyWasBusyInSchedules` in
+/// `specs/laws/InSchedules.antt`. Proofs: `proofs/lawful/refusals/BusyMoments.antt` and `proofs/lawful/runs/InSchedules.antt`.
 pub fn busy_was_busy()
-    ensures { BusyWasBusy }
+    ensures steady { BusyWasBusy }
+    ensures schedules { BusyWasBusyInSchedules }
 {}

@@ -19,8 +19,10 @@ use Rattle.lfm_core.specs.laws.InSchedules.{
   WonPostsHaveARecordInSchedules,
   FailedPushesSeeChangeInSchedules,
   CallsPostOnceInSchedules,
+  CallsGrantOnceInSchedules,
   UnlocksAreBoundedInSchedules,
   StartWaitsAreBoundedInSchedules,
+  TriesAndReceivesAreBoundedInSchedules,
   CallsEndAloneInSchedules,
   PushesAloneFailOnceInSchedules,
   TriesAloneHoldInSchedules,
@@ -29,9 +31,12 @@ use Rattle.lfm_core.specs.laws.InSchedules.{
   CallsShareTheirStepsInSchedules,
   SomeCallEndsInSchedules,
   NoStateIsStuckInSchedules,
+  BusyWasBusyInSchedules,
 }
 use Rattle.lfm_core.proofs.lawful.bounds.Beside.{calls_end_beside_others, calls_change_the_push_word_twice}
 use Rattle.lfm_core.proofs.lawful.bounds.CallsEnd.{calls_end_alone}
+use Rattle.lfm_core.proofs.lawful.bounds.ConstantBounds.{tries_are_bounded, receives_are_bounded}
+use Rattle.lfm_core.proofs.lawful.bounds.GrantsOnce.{calls_grant_once}
 use Rattle.lfm_core.proofs.lawful.bounds.LockFree.{calls_share_their_steps, some_call_ends}
 use Rattle.lfm_core.proofs.lawful.bounds.Overtaken.{queued_seats_are_overtaken_once, queued_seats_wait_for_few_releases}
 use Rattle.lfm_core.proofs.lawful.bounds.Overtakers.{no_seat_overtakes_twice}
@@ -41,6 +46,7 @@ use Rattle.lfm_core.proofs.lawful.bounds.ReleaseBounds.{unlocks_are_bounded, sta
 use Rattle.lfm_core.proofs.lawful.bounds.Resting.{no_state_is_stuck}
 use Rattle.lfm_core.proofs.lawful.bounds.Served.{queued_seats_are_served_soon}
 use Rattle.lfm_core.proofs.lawful.bounds.TriesAlone.{tries_alone_hold}
+use Rattle.lfm_core.proofs.lawful.refusals.BusyMoments.{busy_was_busy}
 use Rattle.lfm_core.proofs.lawful.runs.AbstractBridge.{events_are_their_cases}
 use Rattle.lfm_core.proofs.lawful.runs.PushOrder.{queue_is_in_push_order, stamps_are_consecutive}
 use Rattle.lfm_core.proofs.lawful.states.CountLaws.{places_are_read, count_is_zero_where_free}
@@ -115,6 +121,9 @@ failed_pushes_see_change_in_schedules c s pusher seen is = failed_pushes_see_cha
 pub calls_post_once_in_schedules : CallsPostOnceInSchedules
 calls_post_once_in_schedules c s events is = calls_post_once c s events (states_are_steady c is)
 
+pub calls_grant_once_in_schedules : CallsGrantOnceInSchedules
+calls_grant_once_in_schedules c s events is = calls_grant_once c s events (states_are_steady c is)
+
 -- Bounds
 
 pub unlocks_are_bounded_in_schedules : UnlocksAreBoundedInSchedules
@@ -122,6 +131,10 @@ unlocks_are_bounded_in_schedules c s events is = unlocks_are_bounded c s events 
 
 pub start_waits_are_bounded_in_schedules : StartWaitsAreBoundedInSchedules
 start_waits_are_bounded_in_schedules c s events is = start_waits_are_bounded c s events (states_are_steady c is)
+
+pub tries_and_receives_are_bounded_in_schedules : TriesAndReceivesAreBoundedInSchedules
+tries_and_receives_are_bounded_in_schedules c s events is closed =
+    let steady = states_are_steady c is in (tries_are_bounded c s events steady closed, receives_are_bounded c s events steady closed)
 
 pub calls_end_alone_in_schedules : CallsEndAloneInSchedules
 calls_end_alone_in_schedules c s is = calls_end_alone c s (states_are_steady c is)
@@ -148,3 +161,8 @@ some_call_ends_in_schedules c events is = some_call_ends c events (states_are_st
 
 pub no_state_is_stuck_in_schedules : NoStateIsStuckInSchedules
 no_state_is_stuck_in_schedules c is = no_state_is_stuck c (states_are_steady c is)
+
+-- Refusals
+
+pub busy_was_busy_in_schedules : BusyWasBusyInSchedules
+busy_was_busy_in_schedules c s events is = busy_was_busy c s events (states_are_steady c is)

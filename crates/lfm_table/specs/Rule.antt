@@ -161,9 +161,9 @@ abbrev pub left_by : {T : Type 0} → Point → Option T → Option T → Option
 left_by (ReleaseOwnerStore releaser) new old = new
 left_by _ new old = old
 
--- of the hold that a seat ended last: the value that it left, and the value that it had found
-abbrev pub last_hold : {T : Type 0} → View T → Option T × Option T
-last_hold v = (v.last, v.last_found)
+-- of the hold that a seat ended last: the value that it left, and the value that it had found; and the limits of its table
+abbrev pub last_hold : {T : Type 0} → View T → Option T × Option T × Limits
+last_hold v = (v.last, v.last_found, v.limits)
 
 -- The rule
 
@@ -183,11 +183,11 @@ pub record Sits {T : Type 0} (c : Core) (j : ℕ) (v : View T) : Type 0 where
 module _ {T : Type 0} (follows : ℕ → T → T → Type 0) where
   -- what each of some seats left last leads to this value
   abbrev pub LeadsToValue : (ℕ → Type 0) → List (View T) → T → Type 0
-  LeadsToValue which views w = (j : ℕ) (v : View T) (l : T) → get_elem? views j ≡ some v → which j → v.last ≡ Some l → Reached follows (j + 1) l w
+  LeadsToValue which views w = (j : ℕ) (v : View T) (l : T) → get_elem? views j ≡ some v → which j → v.last ≡ Some l → Reached follows v.limits.seats (j + 1) l w
 
   -- the same of the seats that are still to come, which begin with the opening value
   abbrev pub Awaits : List (View T) → T → Type 0
-  Awaits views w = (j : ℕ) (k : View T) (l : T) → length views ≤ j → get_elem? views 0 ≡ some k → k.opening ≡ Some l → Reached follows (j + 1) l w
+  Awaits views w = (j : ℕ) (k : View T) (l : T) → length views ≤ j → get_elem? views 0 ≡ some k → k.opening ≡ Some l → Reached follows k.limits.seats (j + 1) l w
 
 -- what no step of a seat changes
 pub record SameRoot {T : Type 0} (v w : View T) : Type 0 where
@@ -220,7 +220,7 @@ module _ {T : Type 0} (follows : ℕ → T → T → Type 0) (suits : T → ℕ 
     pub answered : v.answered ≡ g.answered
     pub leads : LeadsToValue follows (λ i. i ≢ j) views value
     pub awaits : Awaits follows views value
-    pub shallow : v.standing.depth ≡ 0 → suits value v.answered × ((l : T) → v.last ≡ Some l → Reached follows (j + 1) l value)
+    pub shallow : v.standing.depth ≡ 0 → suits value v.answered × ((l : T) → v.last ≡ Some l → Reached follows v.limits.seats (j + 1) l value)
     pub left : v.standing.depth ≡ 0 → LeftIn views value
 
   -- words and views are a steady state of the core, and the value is where the core says
@@ -249,7 +249,7 @@ module _ {T : Type 0} (follows : ℕ → T → T → Type 0) (suits : T → ℕ 
 
   -- what a carrier at depth 0 knows of the value
   abbrev pub Knows : View T → Type 0
-  Knows v = (y : T) → v.found ≡ Some y → suits y v.answered × ((l : T) → v.last ≡ Some l → Reached follows v.number l y)
+  Knows v = (y : T) → v.found ≡ Some y → suits y v.answered × ((l : T) → v.last ≡ Some l → Reached follows v.limits.seats v.number l y)
 
   -- a push exchange that fails has found a later push word
   abbrev pub SeesChange : Point → ℕ → Type 0

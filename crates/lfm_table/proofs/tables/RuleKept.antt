@@ -39,7 +39,7 @@ use Rattle.lfm_table.specs.declared.seat_view.Role.TheVariants.{User, Retired}
 use Rattle.lfm_table.specs.declared.seat_view.Joined.{Joined}
 use Rattle.lfm_table.specs.declared.seat_view.View.{View}
 use Rattle.lfm_table.specs.declared.rule.Moving.{Moving}
-use Rattle.lfm_table.specs.Reach.{Leads, Reached}
+use Rattle.lfm_table.specs.Reach.{IsOther, Leads, Reached}
 use Rattle.lfm_table.specs.Rule.{seen, retired, retired_at, sum_over, Roots, left_by, Sits, LeadsToValue, Awaits, NoneEnded, LeftIn, SameRoot, WithSeat, Held, Hands, Knows, CollectsWithin, Advanced}
 use Rattle.lfm_table.specs.Settled.{Became}
 use Rattle.lfm_table.specs.Steps.{stores, Ready}
@@ -49,16 +49,16 @@ use Rattle.lfm_table.proofs.tables.StepFacts.{release_of, released, shallow_step
 
 -- Paths of values
 
-module _ {T : Type 0} (follows : ℕ → T → T → Type 0) (seat : ℕ) where
-  path_on : (path : List (ℕ × T)) (t : ℕ) (v w x : T) → Leads follows seat path v w → ¬ (t ≡ seat) → follows t w x → Leads follows seat (path ++ (t, x) ∷ []) v x
+module _ {T : Type 0} (follows : ℕ → T → T → Type 0) (seats seat : ℕ) where
+  path_on : (path : List (ℕ × T)) (t : ℕ) (v w x : T) → Leads follows seats seat path v w → IsOther seats seat t → follows t w x → Leads follows seats seat (path ++ (t, x) ∷ []) v x
   path_on [] t v w x h n f = (n, subst (λ (z : T). follows t z x) (sym h) f, refl)
   path_on (p ∷ ps) t v w x h n f = (h.0, h.1, path_on ps t p.1 w x h.2 n f)
 
-  pub stays_reached : (v : T) → Reached follows seat v v
+  pub stays_reached : (v : T) → Reached follows seats seat v v
   stays_reached v = ([], refl)
 
   -- what the seat left still leads to what another one leaves
-  pub reached_on : (t : ℕ) (v w x : T) → Reached follows seat v w → ¬ (t ≡ seat) → follows t w x → Reached follows seat v x
+  pub reached_on : (t : ℕ) (v w x : T) → Reached follows seats seat v w → IsOther seats seat t → follows t w x → Reached follows seats seat v x
   reached_on t v w x h n f = (h.0 ++ (t, x) ∷ [], path_on h.0 t v w x h.1 n f)
 
 -- Lists
@@ -134,6 +134,20 @@ module _ {T : Type 0} (follows : ℕ → T → T → Type 0) (suits : T → ℕ 
     pub others_on : (j : ℕ) (z : View T) → get_elem? vs j ≡ some z → z.role ≡ Retired → (z.standing.point ≡ Rest) × (z.standing.depth ≡ 0)
     others_on j z e n = ⊎_elim (λ (t : (j ≡ id) × (w ≡ z)). absurd (not_both z.role (ap (λ (u : View T). u.role) (sym t.1) ∙ same ∙ user) n)) (λ (t : (j ≢ id) × (get_elem? s.views j ≡ some z)). h.others j z t.1 n) (at_set s.views id j w z e)
 
+    -- each view is of a table of so many seats
+    limits_on : (j : ℕ) (z : View T) → get_elem? vs j ≡ some z → z.limits.seats ≡ length h.core.seats
+    limits_on j z e = ⊎_elim
+        (λ (t : (j ≡ id) × (w ≡ z)). ap (λ (u : View T). u.limits.seats) (sym t.1) ∙ (ap (λ (l : Limits). l.seats) root.limits_are ∙ ap (λ (l : Limits). l.seats) (h.each id v at).limits_are))
+        (λ (t : (j ≢ id) × (get_elem? s.views j ≡ some z)). ap (λ (l : Limits). l.seats) (h.each j z t.1).limits_are) (at_set s.views id j w z e)
+
+    -- this seat's view is of as many as before
+    limited : (z : View T) → w ≡ z → v.limits.seats ≡ z.limits.seats
+    limited z e = ap (λ (l : Limits). l.seats) (sym root.limits_are) ∙ ap (λ (u : View T). u.limits.seats) e
+
+    -- this seat is another one for each seat that may come to a path
+    is_other : (i j : ℕ) (z : View T) → get_elem? vs i ≡ some z → j ≢ id → IsOther z.limits.seats (j + 1) (id + 1)
+    is_other i j z e other = let all = limits_on i z e in let here = length_at s.views id v at in ((λ q. other (omega (arith, q))), omega arith, omega (arith, all, here, h.few))
+
     -- what leads to a value, but for this seat
     pub leads_off : (y : T) → LeadsToValue follows (λ j. j ≢ id) s.views y → LeadsToValue follows (λ j. j ≢ id) vs y
     leads_off y old j z l e ok is = ⊎_elim
@@ -143,18 +157,18 @@ module _ {T : Type 0} (follows : ℕ → T → T → Type 0) (suits : T → ℕ 
     -- what leads to a value, where the seat's last value is as before
     pub leads_on : (which : ℕ → Type 0) (y : T) → w.last ≡ v.last → LeadsToValue follows which s.views y → LeadsToValue follows which vs y
     leads_on which y same_last old j z l e ok is = ⊎_elim
-        (λ (t : (j ≡ id) × (w ≡ z)). old j v l (subst (λ (i : ℕ). get_elem? s.views i ≡ some v) (sym t.0) at) ok (sym same_last ∙ ap (λ (u : View T). u.last) t.1 ∙ is))
+        (λ (t : (j ≡ id) × (w ≡ z)). subst (λ (n : ℕ). Reached follows n (j + 1) l y) (limited z t.1) (old j v l (subst (λ (i : ℕ). get_elem? s.views i ≡ some v) (sym t.0) at) ok (sym same_last ∙ ap (λ (u : View T). u.last) t.1 ∙ is)))
         (λ (t : (j ≢ id) × (get_elem? s.views j ≡ some z)). old j z l t.1 ok is) (at_set s.views id j w z e)
 
     -- the same where this seat's own last value leads there
-    pub leads_all : (y : T) → ((l : T) → w.last ≡ Some l → Reached follows (id + 1) l y) → LeadsToValue follows (λ j. j ≢ id) s.views y → LeadsToValue follows (λ _. ⊤) vs y
+    pub leads_all : (y : T) → ((l : T) → w.last ≡ Some l → Reached follows w.limits.seats (id + 1) l y) → LeadsToValue follows (λ j. j ≢ id) s.views y → LeadsToValue follows (λ _. ⊤) vs y
     leads_all y mine old j z l e ok is = ⊎_elim
-        (λ (t : (j ≡ id) × (w ≡ z)). subst (λ (i : ℕ). Reached follows (i + 1) l y) (sym t.0) (mine l (ap (λ (u : View T). u.last) t.1 ∙ is)))
+        (λ (t : (j ≡ id) × (w ≡ z)). subst (λ (u : ℕ × View T). Reached follows u.1.limits.seats (u.0 + 1) l y) (λ i. (sym t.0 i, t.1 i)) (mine l (ap (λ (u : View T). u.last) t.1 ∙ is)))
         (λ (t : (j ≢ id) × (get_elem? s.views j ≡ some z)). old j z l t.1 t.0 is) (at_set s.views id j w z e)
 
     -- what leads to one value leads to what this seat leaves after it
     pub leads_next : (y z : T) → follows (id + 1) y z → LeadsToValue follows (λ j. j ≢ id) s.views y → LeadsToValue follows (λ j. j ≢ id) vs z
-    leads_next y z f old j u l e ok is = reached_on follows (j + 1) (id + 1) l y z (leads_off y old j u l e ok is) (λ q. ok (omega arith)) f
+    leads_next y z f old j u l e ok is = reached_on follows u.limits.seats (j + 1) (id + 1) l y z (leads_off y old j u l e ok is) (is_other j j u e ok) f
 
     none_on : w.last_found ≡ v.last_found → NoneEnded s.views → NoneEnded vs
     none_on same_found all j z e = ⊎_elim
@@ -175,12 +189,12 @@ module _ {T : Type 0} (follows : ℕ → T → T → Type 0) (suits : T → ℕ 
 
     pub awaits_on : (y : T) → Awaits follows s.views y → Awaits follows vs y
     awaits_on y old j k l far e is = let far' : length s.views ≤ j = subst (λ (n : ℕ). n ≤ j) (length-set s.views id w) far in ⊎_elim
-        (λ (t : (0 ≡ id) × (w ≡ k)). old j v l far' (subst (λ (i : ℕ). get_elem? s.views i ≡ some v) (sym t.0) at) (sym root.opening ∙ ap (λ (u : View T). u.opening) t.1 ∙ is))
+        (λ (t : (0 ≡ id) × (w ≡ k)). subst (λ (n : ℕ). Reached follows n (j + 1) l y) (limited k t.1) (old j v l far' (subst (λ (i : ℕ). get_elem? s.views i ≡ some v) (sym t.0) at) (sym root.opening ∙ ap (λ (u : View T). u.opening) t.1 ∙ is)))
         (λ (t : (0 ≢ id) × (get_elem? s.views 0 ≡ some k)). old j k l far' t.1 is) (at_set s.views id 0 w k e)
 
     pub awaits_new : (y z : T) → Awaits follows s.views y → follows (id + 1) y z → Awaits follows vs z
     awaits_new y z old f j k l far e is = let here = length_at s.views id v at in let far' : length s.views ≤ j = subst (λ (n : ℕ). n ≤ j) (length-set s.views id w) far in
-        reached_on follows (j + 1) (id + 1) l y z (awaits_on y old j k l far e is) (λ q. omega arith) f
+        reached_on follows k.limits.seats (j + 1) (id + 1) l y z (awaits_on y old j k l far e is) (is_other 0 j k e (λ q. omega (arith, q, here, far'))) f
 
   -- One step
 
@@ -275,7 +289,7 @@ module _ {T : Type 0} (follows : ℕ → T → T → Type 0) (suits : T → ℕ 
           let w = was carries in
           let same : w.value ≡ y = some_same w.value y (sym w.found ∙ e) in
           let k0 = w.shallow (became_depth me.0.standing me.0.limits p to shallow) in
-          (subst (λ (z : T). suits z me.0.answered) same k0.0, λ l is_last. subst (λ (z : T × ℕ). Reached follows z.1 l z.0) (λ j. (same j, sym placed j)) (k0.1 l is_last))
+          (subst (λ (z : T). suits z me.0.answered) same k0.0, λ l is_last. subst (λ (z : T × ℕ). Reached follows me.0.limits.seats z.1 l z.0) (λ j. (same j, sym placed j)) (k0.1 l is_last))
 
       abbrev next_view : Option T → View T
       next_view found = record me.0 { standing = st.seat; trail = me.0.trail ++ seen p.point (k n) ∷ []; last = left_by p.point a me.0.last; last_found = left_by p.point me.0.found me.0.last_found; found = found; popped = popped_after; answered = ts.ghost_after.answered }
@@ -445,7 +459,7 @@ module _ {T : Type 0} (follows : ℕ → T → T → Type 0) (suits : T → ℕ 
                 records = ld.3 ∙ ap (λ (l : List Record). popped_by_step p num (k n) l) out.popped ∙ sym popped_is;
                 room = ld.4 ∙ seats_are ∙ sym long;
                 leads = leads_all s h id me.0 at user w refl root x.value
-                    (λ l is_last. subst (λ (y : T). Reached follows (id + 1) l y) same (known.1 l (sym kept ∙ is_last)))
+                    (λ l is_last. subst (λ (y : T). Reached follows me.0.limits.seats (id + 1) l y) same (known.1 l (sym kept ∙ is_last)))
                     (subst (λ (y : T). LeadsToValue follows (λ j. j ≢ id) s.views y) same out.leads);
                 awaits = awaits_on s h id me.0 at user w refl root x.value (subst (λ (y : T). Awaits follows s.views y) same out.awaits);
                 left = left_on s h id me.0 at user w refl root x.value kept (kept_found other) (subst (λ (y : T). LeftIn s.views y) same (out.left (became_depth me.0.standing me.0.limits p to shallow)));
@@ -540,7 +554,7 @@ module _ {T : Type 0} (follows : ℕ → T → T → Type 0) (suits : T → ℕ 
                   awaits = awaits_new s h id me.0 at user w role root out.value x out.awaits step;
                   shallow = λ deep. (
                     subst (λ (m : ℕ). suits x m) (sym (answered_w ∙ ans)) lv.2,
-                    λ l is_last. subst (λ (y : T). Reached follows (id + 1) y x) (some_same x l (sym (last_is ∙ left_new p.point r.0 a me.0.last r.1 ∙ in_it) ∙ is_last)) (stays_reached follows (id + 1) x),
+                    λ l is_last. subst (λ (y : T). Reached follows w.limits.seats (id + 1) y x) (some_same x l (sym (last_is ∙ left_new p.point r.0 a me.0.last r.1 ∙ in_it) ∙ is_last)) (stays_reached follows w.limits.seats (id + 1) x),
                   );
                   left = λ deep. (id, w, set_here s.views id w (length_at s.views id me.0 at), last_is ∙ left_new p.point r.0 a me.0.last r.1 ∙ in_it, λ none. absurd (not_none out.value (sym (last_found_is ∙ (left_new p.point r.0 me.0.found me.0.last_found r.1 ∙ out.found)) ∙ none)));
                 }
@@ -556,7 +570,7 @@ module _ {T : Type 0} (follows : ℕ → T → T → Type 0) (suits : T → ℕ 
                       let flat : st.seat.depth ≡ 0 = ap (λ (v : View T). v.standing.depth) (sym w_is) ∙ deep in
                       let known = out.shallow (became_depth me.0.standing me.0.limits p to ((shallow_step p num (k n) (oldest c.popped) other).0 flat)) in (
                         subst (λ (m : ℕ). suits out.value m) (out.answered ∙ sym (same_answers flat) ∙ sym answered_w) known.0,
-                        λ l is_last. known.1 l (sym (last_is ∙ left_same p.point a me.0.last other) ∙ is_last),
+                        λ l is_last. subst (λ (m : ℕ). Reached follows m (id + 1) l out.value) (ap (λ (z : Limits). z.seats) (sym root.limits_are)) (known.1 l (sym (last_is ∙ left_same p.point a me.0.last other) ∙ is_last)),
                       );
                   left = λ deep.
                       let flat : st.seat.depth ≡ 0 = ap (λ (v : View T). v.standing.depth) (sym w_is) ∙ deep in

@@ -1,12 +1,13 @@
--- What the rule of the table says of a running mutex, from the laws of the core.
-use Rattle.std.proofs.Common.{ℕ, Option}
+-- What the rule of the table says of a running mutex, from the laws of the core, and what a seat knows of its mutex.
+use Rattle.std.proofs.Common.{ℕ, Option, ap, ◌∙◌}
 use Rattle.atomic_table.specs.Table.{State}
 use Rattle.lfm_core.specs.steady.Steady.{Steady}
 use Rattle.lfm_core.proofs.lawful.states.StateLaws as StateLaws
 use Rattle.lfm_core.proofs.lawful.states.StateLaws.{states_are_lawful, handoffs_are_watched, quiescent_states_rest}
 use Rattle.lfm_table.specs.declared.rule.Moving.{Moving}
 use Rattle.lfm_table.specs.declared.seat_view.View.{View}
-use Rattle.lfm_mutex.specs.Laws.{IsCore, TablesAreSteady, PostsAreWatched, QuietTablesRest, TakesFindARecord}
+use Rattle.lfm_mutex.specs.Laws.{IsCore, TablesAreSteady, PostsAreWatched, QuietTablesRest, TakesFindARecord, KnowsItsMutex}
+use Rattle.lfm_protocol.specs.declared.limits.Limits.{Limits}
 use Rattle.lfm_table.specs.Rule.{Held}
 
 module _ {T : Type 0} (follows : ℕ → T → T → Type 0) (fits : T → ℕ → Type 0) where
@@ -27,3 +28,6 @@ module _ {T : Type 0} (follows : ℕ → T → T → Type 0) (fits : T → ℕ �
 
   pub takes_find_a_record : TakesFindARecord follows fits
   takes_find_a_record s h = (h.core, core_of s h, λ k carrier. StateLaws.takes_find_a_record h.core k carrier (steady_of s h))
+
+pub seats_know_their_mutex : (T : Type 0) → KnowsItsMutex T
+seats_know_their_mutex T s m of = ap (λ (l : Limits). l.seats) (s.seated.limits_are ∙ of.1)

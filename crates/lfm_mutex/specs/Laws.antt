@@ -1,4 +1,4 @@
--- What the rule of the table says of a running mutex at every moment, as facts of the core.
+-- What the rule of the table says of a running mutex at every moment, as facts of the core, and what a seat knows of its mutex.
 use Rattle.std.specs.Prelude.{◌≡◌, ◌⊎◌, ℕ, ◌+◌, ◌<◌, [], Option, true}
 use mathlib.Core.Option.{some}
 use lib.ListN.{get_elem?}
@@ -15,6 +15,10 @@ use Rattle.lfm_core.specs.table.Words.{words}
 use Rattle.lfm_table.specs.declared.rule.Moving.{Moving}
 use Rattle.lfm_table.specs.declared.seat_view.View.{View}
 use Rattle.lfm_table.specs.Rule.{Held}
+use Rattle.lfm_mutex.specs.declared.mutex.Mutex.{Mutex}
+use Rattle.lfm_mutex.specs.declared.seat.Seat.{Seat}
+use Rattle.lfm_mutex.specs.Belongs.{OfMutex, limits_of}
+use Rattle.lfm_mutex.specs.calls.Sight.{sight}
 
 -- the table's words are those of this state of the core, and each seat there has the data that its last step left
 pub record IsCore {T : Type 0} (s : State (Option (Moving T)) (View T)) (c : Core) : Type 0 where
@@ -40,3 +44,7 @@ module _ {T : Type 0} (follows : ℕ → T → T → Type 0) (fits : T → ℕ �
   TakesFindARecord =
       (s : State (Option (Moving T)) (View T)) → Held follows fits s
       → (c : Core) × IsCore s c × ((k : ℕ) (carrier : Carrier) → (seat c.seats k).point ≡ TakeClearHead carrier → has_won carrier ≡ true → (0 < c.push.next) × (c.popped ≡ []))
+
+-- each seat of a mutex is seen with as many seats as the mutex has
+abbrev pub KnowsItsMutex : Type 0 → Type 0
+KnowsItsMutex T = (s : Seat T) (m : Mutex T) → OfMutex s m → (sight s).seats ≡ (limits_of m).seats

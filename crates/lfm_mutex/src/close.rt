@@ -146,7 +146,7 @@ impl<T: Kept> Mutex<T> {
         ensures all { IfOk result (λ _. AllStand (λ p. sight (P.seat_of p)) seats.items (limits_of self).seats) }
         ensures sized { IfOk result (λ _. vec_len seats ≡ (limits_of self).seats) }
         ensures last { IfOk result (λ v. LeftLast (λ p. sight (P.seat_of p)) seats.items v) }
-        ensures reached { IfOk result (λ v. (j : ℕ) (s : _) (l : T) → get_elem? seats.items j ≡ some s → (sight (P.seat_of s)).last ≡ Some l → Reached T.follows (sight (P.seat_of s)).number l v) }
+        ensures reached { IfOk result (λ v. (j : ℕ) (s : _) (l : T) → get_elem? seats.items j ≡ some s → (sight (P.seat_of s)).last ≡ Some l → Reached T.follows (sight (P.seat_of s)).seats (sight (P.seat_of s)).number l v) }
     {
         if let Some(missing) = self.missing(&seats) {
             return Err((self, seats, missing));

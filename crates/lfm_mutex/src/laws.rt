@@ -1,7 +1,8 @@
 //! The laws of the running mutex. Each function here does nothing: its contract is the law. They are facts of the rule that
 //! the table keeps at every moment, whatever threads step on it: `Held` in `specs/Rule.antt` of `lfm_table`. That each atomic
-//! step keeps the rule is asked, and proved, at each of the steps in `table_steps` of `lfm_table`.
-ghost use Rattle.lfm_mutex.specs.Laws.{PostsAreWatched, QuietTablesRest, TablesAreSteady, TakesFindARecord};
+//! step keeps the rule is asked, and proved, at each of the steps in `table_steps` of `lfm_table`. The last law is of what a
+//! seat knows of its mutex.
+ghost use Rattle.lfm_mutex.specs.Laws.{KnowsItsMutex, PostsAreWatched, QuietTablesRest, TablesAreSteady, TakesFindARecord};
 ghost use Rattle.lfm_mutex.specs.TableStates.{RestingTablesAreFree, TablesStand};
 ghost use Rattle.lfm_mutex.specs.TableEvents.{TablesStepAsTheCore};
 
@@ -60,4 +61,12 @@ pub fn resting_tables_are_free<T: Kept>()
 /// Definition: `TablesStepAsTheCore` in `specs/TableEvents.antt`. Proof: `proofs/TableEvents.antt`.
 pub fn tables_step_as_the_core<T: Kept>()
     ensures { TablesStepAsTheCore T.follows T.fits }
+{}
+
+/// A seat is seen with as many seats as its mutex has. So the paths of a gain, and those of a close, go through seats of that
+/// mutex alone.
+///
+/// Definition: `KnowsItsMutex` in `specs/Laws.antt`. Proof: `proofs/LawsHeld.antt`.
+pub fn seats_know_their_mutex<T: Kept>()
+    ensures { KnowsItsMutex T }
 {}

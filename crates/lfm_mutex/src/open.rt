@@ -83,7 +83,7 @@ impl<T: Kept> Mutex<T> {
     ) -> Result<(Mutex<T>, Vec<Seat<T>>), NewFault>
         requires fits { T.fits value 0 }
         ensures limits { IfOk result (λ r. (limits_of r.0 ≡ record { seats = seats; budget = budget }) × (are_in_limits seats budget ≡ true)) }
-        ensures seats { IfOk result (λ r. (vec_len r.1 ≡ seats) × ((j : ℕ) (s : _) → get_elem? r.1.items j ≡ some s → OfMutex s r.0 × (sight s ≡ new_sight value (j + 1)))) }
+        ensures seats { IfOk result (λ r. (vec_len r.1 ≡ seats) × ((j : ℕ) (s : _) → get_elem? r.1.items j ≡ some s → OfMutex s r.0 × (sight s ≡ new_sight value seats (j + 1)))) }
         ensures limit { are_in_limits seats budget ≡ false → IfErr result (λ e. e ≡ NewFault.Limit) × IfOk result (λ _. ⊥) }
         ensures memory { are_in_limits seats budget ≡ true → IfErr result (λ e. e ≡ NewFault.Memory) }
     {

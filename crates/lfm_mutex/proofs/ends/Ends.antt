@@ -129,7 +129,7 @@ module _ {T : Type 0} (follows : ℕ → T → T → Type 0) (suits : T → ℕ 
 
   -- the value at the end is reached from what each seat left last
   abbrev pub ReachesAll : View T → T → Type 0
-  ReachesAll v w = ((l : T) → v.last ≡ Some l → Reached follows v.number l w) × ((i : ℕ) (g : Joined T) (l : T) → get_elem? v.joined i ≡ some g → g.last ≡ Some l → Reached follows g.number l w)
+  ReachesAll v w = ((l : T) → v.last ≡ Some l → Reached follows v.limits.seats v.number l w) × ((i : ℕ) (g : Joined T) (l : T) → get_elem? v.joined i ≡ some g → g.last ≡ Some l → Reached follows v.limits.seats g.number l w)
 
   -- no seat has ended a hold
   abbrev pub NoneAtEnd : View T → Type 0
@@ -150,11 +150,11 @@ module _ {T : Type 0} (follows : ℕ → T → T → Type 0) (suits : T → ℕ 
   pub ends : (v : View T) (ws : List ℕ) (xs : List (Option (Moving T))) → v.made ≤ length v.joined → v.standing.point ≡ Rest → v.standing.depth ≡ 0 → Final (Seen (Held follows suits) 0 v) ws xs
       → (x : Moving T) × (get_elem? xs 0 ≡ some (Some x)) × ReachesAll v x.value × (length v.joined ≤ v.made) × AreFree ws × (x.popped.records ≡ []) × LeftAtEnd v x.value
   ends v ws xs back rests flat end = let s = end.0 in let h = end.1.0 in let at = end.1.1 in let all = all_rest s h v at back rests flat in let free = free_core h.core h.ghost_state h.fits all in let x = h.home (λ t. resting (seat h.core.seats t) (all t).0 (all t).1) in let k = h.root v at in
-      let each : (j : ℕ) (z : View T) (l : T) → get_elem? s.views j ≡ some z → z.last ≡ Some l → Reached follows z.number l x.value.value =
-      (λ j z l e is. subst (λ (n : ℕ). Reached follows n l x.value.value) (sym (h.each j z e).number) (x.leads j z l e tt is)) in (
+      let each : (j : ℕ) (z : View T) (l : T) → get_elem? s.views j ≡ some z → z.last ≡ Some l → Reached follows v.limits.seats z.number l x.value.value =
+      (λ j z l e is. subst (λ (t : Limits × ℕ). Reached follows t.0.seats t.1 l x.value.value) (λ i. (((h.each j z e).limits_are ∙ sym (h.each 0 v at).limits_are) i, sym (h.each j z e).number i)) (x.leads j z l e tt is)) in (
         x.value,
         end.4 0 (Some x.value) x.here,
-        (λ l is. each 0 v l at is, λ i g l e is. let a = k.kept i g e in subst (λ (n : ℕ). Reached follows n l x.value.value) a.4 (each a.0 a.1 l a.2 (a.5 ∙ is))),
+        (λ l is. each 0 v l at is, λ i g l e is. let a = k.kept i g e in subst (λ (n : ℕ). Reached follows v.limits.seats n l x.value.value) a.4 (each a.0 a.1 l a.2 (a.5 ∙ is))),
         let r = roles s.views in let one : used v ≡ 1 = ap used_at k.user in let here = total_at used s.views 0 v at in let e0 = k.made in let e1 = k.back in omega arith,
         (h.core, sym end.2 ∙ h.words_are, free),
         x.records ∙ free.popped,

@@ -73,14 +73,17 @@ module _ {T : Type 0} (follows : ℕ → T → T → Type 0) (suits : T → ℕ 
   -- one view becomes another that says the same
   module _ (views : List (View T)) (p : Parts views) (i : ℕ) (x y : View T) (at : get_elem? views i ≡ some x) (number : y.number ≡ x.number) (limits_are : y.limits ≡ x.limits) (stands : y.standing ≡ x.standing) (lasts : y.last ≡ x.last) (founds : y.found ≡ x.found)
       (lists : y.popped ≡ x.popped) (holds : y.answered ≡ x.answered) (opens : y.opening ≡ x.opening) (ended : y.last_found ≡ x.last_found) where
+    sized : (z : View T) → y ≡ z → x.limits.seats ≡ z.limits.seats
+    sized z e = ap (λ (l : Limits). l.seats) (sym limits_are) ∙ ap (λ (v : View T). v.limits.seats) e
+
     leads_same : (which : ℕ → Type 0) (t : T) → LeadsToValue follows which views t → LeadsToValue follows which (set views i y) t
     leads_same which t old j z l e ok is = ⊎_elim
-        (λ (u : (j ≡ i) × (y ≡ z)). old j x l (subst (λ (k : ℕ). get_elem? views k ≡ some x) (sym u.0) at) ok (sym lasts ∙ ap (λ (v : View T). v.last) u.1 ∙ is))
+        (λ (u : (j ≡ i) × (y ≡ z)). subst (λ (n : ℕ). Reached follows n (j + 1) l t) (sized z u.1) (old j x l (subst (λ (k : ℕ). get_elem? views k ≡ some x) (sym u.0) at) ok (sym lasts ∙ ap (λ (v : View T). v.last) u.1 ∙ is)))
         (λ (u : (j ≢ i) × (get_elem? views j ≡ some z)). old j z l u.1 ok is) (at_set views i j y z e)
 
     awaits_same : (t : T) → Awaits follows views t → Awaits follows (set views i y) t
     awaits_same t old j k l far e is = let far' : length views ≤ j = subst (λ (n : ℕ). n ≤ j) (length-set views i y) far in ⊎_elim
-        (λ (u : (0 ≡ i) × (y ≡ k)). old j x l far' (subst (λ (k : ℕ). get_elem? views k ≡ some x) (sym u.0) at) (sym opens ∙ ap (λ (v : View T). v.opening) u.1 ∙ is))
+        (λ (u : (0 ≡ i) × (y ≡ k)). subst (λ (n : ℕ). Reached follows n (j + 1) l t) (sized k u.1) (old j x l far' (subst (λ (k : ℕ). get_elem? views k ≡ some x) (sym u.0) at) (sym opens ∙ ap (λ (v : View T). v.opening) u.1 ∙ is)))
         (λ (u : (0 ≢ i) × (get_elem? views 0 ≡ some k)). old j k l far' u.1 is) (at_set views i 0 y k e)
 
     none_same : NoneEnded views → NoneEnded (set views i y)
@@ -115,7 +118,7 @@ module _ {T : Type 0} (follows : ℕ → T → T → Type 0) (suits : T → ℕ 
             answered = holds ∙ o.answered;
             leads = leads_same (λ j. j ≢ i) o.value o.leads;
             awaits = awaits_same o.value o.awaits;
-            shallow = λ flat. let k = o.shallow (ap (λ (s : SeatState). s.depth) (sym stands) ∙ flat) in (subst (λ (n : ℕ). suits o.value n) (sym holds) k.0, λ l is. k.1 l (sym lasts ∙ is));
+            shallow = λ flat. let k = o.shallow (ap (λ (s : SeatState). s.depth) (sym stands) ∙ flat) in (subst (λ (n : ℕ). suits o.value n) (sym holds) k.0, λ l is. subst (λ (n : ℕ). Reached follows n (i + 1) l o.value) (sized y refl) (k.1 l (sym lasts ∙ is)));
             left = λ flat. left_same o.value (o.left (ap (λ (s : SeatState). s.depth) (sym stands) ∙ flat));
           }))
           (λ (u : (j ≢ i) × (get_elem? views j ≡ some z)). let o = p.outside j z u.1 one in record {
@@ -134,7 +137,7 @@ module _ {T : Type 0} (follows : ℕ → T → T → Type 0) (suits : T → ℕ 
   module _ (views : List (View T)) (p : Parts views) (k r : View T) (at : get_elem? views 0 ≡ some k) (room : length views < length c.seats) (number : r.number ≡ length views + 1) (limits_are : r.limits ≡ limits c) (new : r.standing ≡ absent) (lasts : r.last ≡ k.opening) (unheld : r.last_found ≡ None) where
     leads_end : (which : ℕ → Type 0) (t : T) → LeadsToValue follows which views t → Awaits follows views t → LeadsToValue follows which (views ++ r ∷ []) t
     leads_end which t old still j z l e ok is = ⊎_elim (λ u. old j z l u ok is)
-        (λ (u : (j ≡ length views) × (r ≡ z)). let far : length views ≤ j = (let q = u.0 in omega arith) in still j k l far at (sym lasts ∙ (ap (λ (v : View T). v.last) u.1 ∙ is))) (at_end views r z j e)
+        (λ (u : (j ≡ length views) × (r ≡ z)). let far : length views ≤ j = (let q = u.0 in omega arith) in subst (λ (n : ℕ). Reached follows n (j + 1) l t) (ap (λ (x : Limits). x.seats) ((p.each 0 k at).limits_are ∙ sym limits_are) ∙ ap (λ (v : View T). v.limits.seats) u.1) (still j k l far at (sym lasts ∙ (ap (λ (v : View T). v.last) u.1 ∙ is)))) (at_end views r z j e)
 
     awaits_end : (t : T) → Awaits follows views t → Awaits follows (views ++ r ∷ []) t
     awaits_end t old j z l far e is = let here = length_at views 0 k at in let q = length-append views (r ∷ []) in old j z l (omega arith) (sym (get_end views r 0 here) ∙ e) is
@@ -310,8 +313,8 @@ one_view : {T : Type 0} (k v : View T) (j : ℕ) → get_elem? (k ∷ []) j ≡ 
 one_view k v zero e = (refl, some-injective k v e)
 one_view k v (suc j) e = absurd (some-ne-none v (sym e))
 
-first_last : {T : Type 0} (follows : ℕ → T → T → Type 0) (x l : T) (a b : Option T) (j : ℕ) → a ≡ Some x → a ≡ b → b ≡ Some l → Reached follows j l x
-first_last follows x l a b j first same is = let eq : x ≡ l = some_same x l (sym first ∙ (same ∙ is)) in subst (λ u. Reached follows j u x) eq (stays_reached follows j x)
+first_last : {T : Type 0} (follows : ℕ → T → T → Type 0) (x l : T) (a b : Option T) (seats j : ℕ) → a ≡ Some x → a ≡ b → b ≡ Some l → Reached follows seats j l x
+first_last follows x l a b seats j first same is = let eq : x ≡ l = some_same x l (sym first ∙ (same ∙ is)) in subst (λ u. Reached follows seats j u x) eq (stays_reached follows seats j x)
 
 some_seats : (seats budget : ℕ) → are_in_limits seats budget ≡ true → 0 < seats
 some_seats seats budget allowed = search (tests, arith, allowed)
@@ -345,8 +348,8 @@ starts {T} follows suits l ws x allowed are none_popped room fit =
         here = refl;
         records = none_popped;
         room = room ∙ sym long;
-        leads = λ j v w e ok is. first_last follows x.value w k.last v.last (j + 1) refl (ap (λ (u : View T). u.last) (one_view k v j e).1) is;
-        awaits = λ j v w far e is. first_last follows x.value w k.opening v.opening (j + 1) refl (ap (λ (u : View T). u.opening) (one_view k v 0 e).1) is;
+        leads = λ j v w e ok is. first_last follows x.value w k.last v.last v.limits.seats (j + 1) refl (ap (λ (u : View T). u.last) (one_view k v j e).1) is;
+        awaits = λ j v w far e is. first_last follows x.value w k.opening v.opening v.limits.seats (j + 1) refl (ap (λ (u : View T). u.opening) (one_view k v 0 e).1) is;
         left = (0, k, refl, refl, λ none j v e. ap (λ (u : View T). u.last_found) (sym (one_view k v j e).1));
         fits = subst (λ (n : ℕ). suits x.value n) (sym (none_answered (start l) st.ghost_state st.fits refl)) fit;
       };

@@ -95,8 +95,8 @@ module _ {T : Type 0} (follows : ℕ → T → T → Type 0) (fits : T → ℕ �
       let after = first_concludes follows fits p q m.0 w a b turn e r.0 r.1 in
       let ends = last_one follows fits n p q m.0 w a b turn was.named e r.0 r.1 in
       let some : 0 < p.depth = omega (arith, deep) in (
-        flat_by q.depth w.last w.found after.0 ∙ (ap (λ (t : Option T × Option T). t.0) ends ∙ sym (deep_by p.depth None (value_in a) some)),
-        flat_by q.depth w.last_found w.found after.0 ∙ (ap (λ (t : Option T × Option T). t.1) ends ∙ sym (deep_by p.depth m.0.last_found m.0.found some)),
+        flat_by q.depth w.last w.found after.0 ∙ (ap (λ (t : Option T × Option T × Limits). t.0) ends ∙ sym (deep_by p.depth None (value_in a) some)),
+        flat_by q.depth w.last_found w.found after.0 ∙ (ap (λ (t : Option T × Option T × Limits). t.1) ends ∙ sym (deep_by p.depth m.0.last_found m.0.found some)),
       )
 
   keeps : kind p.point ≢ None → is_release p.point ≡ false → how_held turn ≡ None → S' ≡ record S { depth = S'.depth; takes = S'.takes; asleep = S'.asleep; in_call = S'.in_call; trail = S'.trail; sends = S'.sends }

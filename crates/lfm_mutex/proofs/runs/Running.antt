@@ -88,7 +88,7 @@ module _ {T : Type 0} (follows : ℕ → T → T → Type 0) (suits : T → ℕ 
   pub last_more : is_release p.point ≡ false → last_hold w ≡ last_hold v
   last_more keeps =
       let other = no_leaves p.point keeps in
-      λ i. ((e.did.last ∙ left_same p.point e.hand v.last other) i, (e.did.last_found ∙ left_same p.point v.found v.last_found other) i)
+      λ i. ((e.did.last ∙ left_same p.point e.hand v.last other) i, (e.did.last_found ∙ left_same p.point v.found v.last_found other) i, e.did.root.limits_are i)
 
   pub turn_more : kind p.point ≢ None → IsTurn (errand p.point) turn q.point
   turn_more some = subst (λ (z : Stepped). IsTurn (errand p.point) z.turn z.seat.point) (sym step_is) (turns_step p s e.found o some)
@@ -314,8 +314,8 @@ module _ {T : Type 0} (follows : ℕ → T → T → Type 0) (suits : T → ℕ 
   pub turn_one : kind p.point ≢ None → IsTurn (errand p.point) turn q.point
   turn_one some = turn_more follows suits s p v p q v w a b turn (ran_none s p v) named e some
 
-  pub last_one : (r : Releaser) → p.point ≡ ReleaseOwnerStore r → last_hold w ≡ (value_in a, v.found)
-  last_one r at = λ i. ((e.did.last ∙ (left_new p.point r e.hand v.last at ∙ e.in_hand r at)) i, (e.did.last_found ∙ left_new p.point r v.found v.last_found at) i)
+  pub last_one : (r : Releaser) → p.point ≡ ReleaseOwnerStore r → last_hold w ≡ (value_in a, v.found, v.limits)
+  last_one r at = λ i. ((e.did.last ∙ (left_new p.point r e.hand v.last at ∙ e.in_hand r at)) i, (e.did.last_found ∙ left_new p.point r v.found v.last_found at) i, e.did.root.limits_are i)
 
   pub keeps_one : (r : Releaser) → p.point ≡ ReleaseOwnerStore r → is_release q.point ≡ false
   keeps_one r at = ap (λ (x : SeatState). is_release x.point) e.seat_is ∙ (rw at refl)
@@ -424,7 +424,7 @@ module _ {T : Type 0} (follows : ℕ → T → T → Type 0) (suits : T → ℕ 
         moving = x;
         in_hand = goes.2;
         found = hands.1 ∙ (left_same p.point e.hand m.0.found other ∙ (was.kept flat some.0 some.1 ∙ ap Some same));
-        reached = λ y is_last. subst (λ (t : ℕ × T). Reached follows t.0 y t.1) (λ i. (was.named i, same i)) (knows.1 y (same_last ∙ is_last));
+        reached = λ y is_last. subst (λ (t : Limits × ℕ × T). Reached follows t.0.seats t.1 y t.2) (λ i. (sym e.did.root.limits_are i, was.named i, same i)) (knows.1 y (same_last ∙ is_last));
         count = m.0.answered;
         counts = counts_by how m.0.answered w.answered (λ stamp z. let f = e.did.stamped by.0 stamp (at ∙ ap (λ (h : How). EnterOwnerStore by.0 h) z) in let t = e.did.answered carries_p in let u : length (answered_by m.0.number (stepped_by p m.0.number e.found o).turn) ≡ 1 = ap (λ (y : Turn). length (answered_by m.0.number y)) (turn_at ∙ ap (λ (h : How). Ended (held by.0 h)) z) ∙ queued_counts m.0.number stamp by.0 in (f, omega (arith, f, t, u)))
             (λ z. let t = e.did.answered carries_p in let u : length (answered_by m.0.number (stepped_by p m.0.number e.found o).turn) ≡ 0 = ap (λ (y : Turn). length (answered_by m.0.number y)) (turn_at ∙ ap (λ (h : How). Ended (held by.0 h)) z) ∙ free_counts m.0.number by.0 in omega (arith, t, u));

@@ -158,13 +158,13 @@ module _ {T : Type 0} (n n' : ℕ) (p p' : SeatState) (v v' : View T) (a a' : Op
   same_but d k asleep in_call sends number depth takes asleep_is in_call_is sends_are last stays level =
       let lasts : by_depth p'.depth v'.last v'.found ≡ by_depth p.depth v.last v.found =
       elim level [
-        | inl f ↦ flat_by p'.depth v'.last v'.found f.1 ∙ (ap (λ (t : Option T × Option T). t.0) last ∙ sym (flat_by p.depth v.last v.found f.0))
+        | inl f ↦ flat_by p'.depth v'.last v'.found f.1 ∙ (ap (λ (t : Option T × Option T × Limits). t.0) last ∙ sym (flat_by p.depth v.last v.found f.0))
         | inr f ↦ deep_by p'.depth v'.last v'.found f.1 ∙ ((stays f.0).1 ∙ sym (deep_by p.depth v.last v.found f.0))
       ]
       in
       let founds : by_depth p'.depth v'.last_found v'.found ≡ by_depth p.depth v.last_found v.found =
       elim level [
-        | inl f ↦ flat_by p'.depth v'.last_found v'.found f.1 ∙ (ap (λ (t : Option T × Option T). t.1) last ∙ sym (flat_by p.depth v.last_found v.found f.0))
+        | inl f ↦ flat_by p'.depth v'.last_found v'.found f.1 ∙ (ap (λ (t : Option T × Option T × Limits). t.1) last ∙ sym (flat_by p.depth v.last_found v.found f.0))
         | inr f ↦ deep_by p'.depth v'.last_found v'.found f.1 ∙ ((stays f.0).1 ∙ sym (deep_by p.depth v.last_found v.found f.0))
       ]
       in
@@ -180,7 +180,7 @@ module _ {T : Type 0} (n n' : ℕ) (p p' : SeatState) (v v' : View T) (a a' : Op
         | inr f ↦ deep_by p'.depth 0 v'.answered f.1 ∙ ((stays f.0).2 ∙ sym (deep_by p.depth 0 v.answered f.0))
       ]
       in
-      λ i. record { number = number i; depth = depth i; takes = takes i; asleep = asleep_is i; in_call = in_call_is i; last = lasts i; found = founds i; value = values i; queued = queued i; trail = v'.trail; sends = sends_are i }
+      λ i. record { number = number i; seats = ap (λ (t : Option T × Option T × Limits). t.2.seats) last i; depth = depth i; takes = takes i; asleep = asleep_is i; in_call = in_call_is i; last = lasts i; found = founds i; value = values i; queued = queued i; trail = v'.trail; sends = sends_are i }
 
 -- Begins
 
@@ -427,7 +427,7 @@ module _ {T : Type 0} (follows : ℕ → T → T → Type 0) (fits : T → ℕ �
   receive_turned Open b ends c held stays last sends = tt
 
   -- a release, from the store that ends the hold on
-  leaves_off : p.point ≡ Rest → p.depth ≡ 1 → p'.depth ≡ 0 → last_hold v' ≡ (value_in a, v.found) → sends_of v'.trail ≡ sends_of v.trail → LeavesOff S S'
+  leaves_off : p.point ≡ Rest → p.depth ≡ 1 → p'.depth ≡ 0 → last_hold v' ≡ (value_in a, v.found, v.limits) → sends_of v'.trail ≡ sends_of v.trail → LeavesOff S S'
   leaves_off rests deep flat last sends =
       let some : 0 < p.depth = omega (arith, deep) in (
         awake p.point rests,
@@ -435,9 +435,9 @@ module _ {T : Type 0} (follows : ℕ → T → T → Type 0) (fits : T → ℕ �
         number,
         flat,
         flat_by p'.depth None (value_in a') flat,
-        λ x is. flat_by p'.depth v'.last v'.found flat ∙ (ap (λ (t : Option T × Option T). t.0) last ∙ (sym (deep_by p.depth None (value_in a) some) ∙ is)),
+        λ x is. flat_by p'.depth v'.last v'.found flat ∙ (ap (λ (t : Option T × Option T × Limits). t.0) last ∙ (sym (deep_by p.depth None (value_in a) some) ∙ is)),
         sends,
-        flat_by p'.depth v'.last_found v'.found flat ∙ (ap (λ (t : Option T × Option T). t.1) last ∙ sym (deep_by p.depth v.last_found v.found some)),
+        flat_by p'.depth v'.last_found v'.found flat ∙ (ap (λ (t : Option T × Option T × Limits). t.1) last ∙ sym (deep_by p.depth v.last_found v.found some)),
       )
 
   unlocked : (u : Unlocked) → IsLeft u → LeavesOff S S' → S'.takes ≡ S.takes → S'.asleep ≡ false → Turned follows fits l Call.Unlock S S' (Ended (Answer.Unlocked u))
@@ -447,13 +447,13 @@ module _ {T : Type 0} (follows : ℕ → T → T → Type 0) (fits : T → ℕ �
   unlocked Unlocked.Posted is off takes awake_now = (off, takes, awake_now)
   unlocked Unlocked.TakenOver is off takes awake_now = (off, takes, awake_now)
 
-  unlock_turned : (turn : Turn) → Begun l Call.Unlock p q → Ends (releasing Unlocker) turn → Concludes (record q { depth = 0 }) turn p' → last_hold v' ≡ (value_in a, v.found) → sends_of v'.trail ≡ sends_of v.trail → Turned follows fits l Call.Unlock S S' turn
+  unlock_turned : (turn : Turn) → Begun l Call.Unlock p q → Ends (releasing Unlocker) turn → Concludes (record q { depth = 0 }) turn p' → last_hold v' ≡ (value_in a, v.found, v.limits) → sends_of v'.trail ≡ sends_of v.trail → Turned follows fits l Call.Unlock S S' turn
   unlock_turned (Ended (Answer.Unlocked u)) b ends c last sends = unlocked u c.3 (leaves_off b.0 b.1 c.0 last sends) (c.1 ∙ b.2) (awake p'.point c.2)
   unlock_turned (Refused why) b ends c last sends = absurd (no_trying_asks (releasing Unlocker) Unlocker why refl ends (record q { depth = 0 }) p' c)
   unlock_turned (Ended _) b ends c last sends = tt
   unlock_turned Open b ends c last sends = tt
 
-  wait_turned : (turn : Turn) → Begun l Call.StartWait p q → Ends (releasing Waiter) turn → Concludes (record q { depth = 0 }) turn p' → last_hold v' ≡ (value_in a, v.found) → sends_of v'.trail ≡ sends_of v.trail → Turned follows fits l Call.StartWait S S' turn
+  wait_turned : (turn : Turn) → Begun l Call.StartWait p q → Ends (releasing Waiter) turn → Concludes (record q { depth = 0 }) turn p' → last_hold v' ≡ (value_in a, v.found, v.limits) → sends_of v'.trail ≡ sends_of v.trail → Turned follows fits l Call.StartWait S S' turn
   wait_turned (Ended (Answer.Waiting u)) b ends c last sends = (c.4 (subst (λ (x : Point). StillAt x) (sym b.4) tt), leaves_off b.0 b.1 c.0 last sends, b.2, c.1 ∙ b.3, c.2, c.3)
   wait_turned (Refused why) b ends c last sends = absurd (no_trying_asks (releasing Waiter) Waiter why refl ends (record q { depth = 0 }) p' c)
   wait_turned (Ended _) b ends c last sends = tt
@@ -504,7 +504,7 @@ module _ {T : Type 0} (follows : ℕ → T → T → Type 0) (fits : T → ℕ �
   turned_by_steps Call.Unlock turn keeps b ends c held stays last ran = absurd (false≢true (sym keeps))
   turned_by_steps Call.StartWait turn keeps b ends c held stays last ran = absurd (false≢true (sym keeps))
 
-  pub turned_by_release : (call : Call) (turn : Turn) → is_releasing (errand_of call) ≡ true → Begun l call p q → Ends (errand_of call) turn → Concludes (record q { depth = 0 }) turn p' → last_hold v' ≡ (value_in a, v.found) → Ran n (opens q) v turn p' v' → Turned follows fits l call S S' turn
+  pub turned_by_release : (call : Call) (turn : Turn) → is_releasing (errand_of call) ≡ true → Begun l call p q → Ends (errand_of call) turn → Concludes (record q { depth = 0 }) turn p' → last_hold v' ≡ (value_in a, v.found, v.limits) → Ran n (opens q) v turn p' v' → Turned follows fits l call S S' turn
   turned_by_release Call.Unlock turn gives b ends c last ran = unlock_turned turn b ends c last (unsent turn ran (ap is_send b.3))
   turned_by_release Call.StartWait turn gives b ends c last ran = wait_turned turn b ends c last (unsent turn ran (ap is_send b.4))
   turned_by_release Call.Lock turn gives b ends c last ran = absurd (false≢true gives)
@@ -531,10 +531,10 @@ may_leave {T} follows fits n p v a named deep may x is =
 
 -- A seat as it is made, and a look at the owner
 
-pub fresh_sight : {T : Type 0} (x : T) (k n : ℕ) (l : Limits) (p : SeatState) (m : Me (Option (Moving T)) (View T)) (a : Option (Moving T)) (all : Limits) → Fresh x k n l p m a all → sight_of n p m.0 (value_in a) ≡ new_sight x k
+pub fresh_sight : {T : Type 0} (x : T) (k n : ℕ) (l : Limits) (p : SeatState) (m : Me (Option (Moving T)) (View T)) (a : Option (Moving T)) (all : Limits) → Fresh x k n l p m a all → sight_of n p m.0 (value_in a) ≡ new_sight x all.seats k
 fresh_sight {T} x k n l p m a all f =
     ap (λ (t : ℕ × SeatState × Option (Moving T)). sight_of t.0 t.1 m.0 (value_in t.2)) (λ i. (f.0 i, f.2 i, f.3 i))
-    ∙ (λ i. record { number = k; depth = 0; takes = 0; asleep = false; in_call = false; last = f.5 i; found = f.6 i; value = None; queued = 0; trail = f.4 i; sends = sends_of (f.4 i) })
+    ∙ (λ i. record { number = k; seats = (f.7 i).seats; depth = 0; takes = 0; asleep = false; in_call = false; last = f.5 i; found = f.6 i; value = None; queued = 0; trail = f.4 i; sends = sends_of (f.4 i) })
 
 pub looked_sight : {T : Type 0} (n k : ℕ) (p : SeatState) (v w : View T) (a : Option T) → w ≡ record v { trail = v.trail ++ seen TryOwnerLoad k ∷ [] } → sight_of n p w a ≡ record (sight_of n p v a) { trail = v.trail ++ seen TryOwnerLoad k ∷ [] }
 looked_sight {T} n k p v w a is =

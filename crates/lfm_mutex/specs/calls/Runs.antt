@@ -265,7 +265,7 @@ pub record Holds {T : Type 0} (follows : ℕ → T → T → Type 0) (suits : T 
   pub moving : Moving T
   pub in_hand : a ≡ Some moving
   pub found : v.found ≡ Some moving.value
-  pub reached : (l : T) → before ≡ Some l → Reached follows s l moving.value
+  pub reached : (l : T) → before ≡ Some l → Reached follows v.limits.seats s l moving.value
   pub count : ℕ
   pub counts : Counts how count v.answered
   pub fits : suits moving.value count

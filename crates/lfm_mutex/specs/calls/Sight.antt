@@ -28,6 +28,8 @@ use Rattle.lfm_table.specs.Reach.{Reached}
 -- a seat as the crates above see it
 pub record Sight (T : Type 0) : Type 0 where
   pub number : ℕ
+  -- how many seats its mutex has
+  pub seats : ℕ
   pub depth : ℕ
   pub takes : ℕ
   -- it sleeps, or a call of it is open
@@ -78,6 +80,7 @@ abbrev pub sight_of : {T : Type 0} → ℕ → SeatState → View T → Option T
 sight_of n p v a =
     record {
       number = n;
+      seats = v.limits.seats;
       depth = p.depth;
       takes = p.takes;
       asleep = is_asleep p.point;
@@ -93,11 +96,12 @@ sight_of n p v a =
 abbrev pub sight : {T : Type 0} → Seat T → Sight T
 sight s = sight_of s.number s.standing s.place.me.0 (value_in s.moving)
 
--- a seat as it is made
-abbrev pub new_sight : {T : Type 0} → T → ℕ → Sight T
-new_sight x n =
+-- a seat as it is made, one of so many
+abbrev pub new_sight : {T : Type 0} → T → ℕ → ℕ → Sight T
+new_sight x seats n =
     record {
       number = n;
+      seats = seats;
       depth = 0;
       takes = 0;
       asleep = false;
@@ -197,7 +201,7 @@ module _ {T : Type 0} (follows : ℕ → T → T → Type 0) (fits : T → ℕ �
 
   -- the seat has come to hold, and found a value that what it left last leads to
   abbrev pub Finds : How → Sight T → Sight T → Type 0
-  Finds how s t = (w : T) × (t.value ≡ Some w) × (t.last ≡ Some w) × ((l : T) → s.last ≡ Some l → Reached follows s.number l w) × Suits how w t.queued × (t.found ≡ Some w)
+  Finds how s t = (w : T) × (t.value ≡ Some w) × (t.last ≡ Some w) × ((l : T) → s.last ≡ Some l → Reached follows t.seats s.number l w) × Suits how w t.queued × (t.found ≡ Some w)
 
   -- what the seat has in hand may be left
   abbrev pub MayLeave : Sight T → Type 0

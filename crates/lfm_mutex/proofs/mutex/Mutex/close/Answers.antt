@@ -11,6 +11,7 @@ use Rattle.lfm_table.specs.Reach.{Reached}
 use Rattle.lfm_table.specs.Rule.{Held, joined_of}
 use Rattle.lfm_table.proofs.tables.RuleKept.{length_at}
 use Rattle.lfm_mutex.proofs.ends.Seats.{at_end}
+use Rattle.lfm_protocol.specs.declared.limits.Limits.{Limits}
 use Rattle.lfm_protocol.specs.declared.points.Point.TheVariants.{Rest}
 use Rattle.lfm_mutex.proofs.ends.Ends.{rest_of, seen_last, last_seen, was_last, was_there, at_end_of, longer, free_seat, ends, NoneAtEnd, item_at, in_removed, not_removed, pigeons}
 use Rattle.lfm_mutex.proofs.mutex.Mutex.close.Goals as goal
@@ -29,6 +30,7 @@ loop-seat-init g c = let f = c.in-Some-first_place.ensures in let xs = c.args.se
     let viewed : s.number ≡ 1 = first in let e = c.into_place-root.ensures in let belongs = (c.requires.belongs at p item).0 in record {
       table = ap (λ p. p.table_id) e ∙ belongs;
       root = (ap (λ p. p.id) e ∙ s.rooted.first viewed, ap (λ p. p.me.0.role) e ∙ free.0, ap (λ p. p.me.1) e ∙ free.1, ap (λ p. p.me.0.standing.point) e ∙ free.2, ap (λ p. p.me.0.standing.depth) e ∙ free.3);
+      limits = ap (λ p. p.me.0.limits) e ∙ (s.seated.limits_are ∙ (c.requires.belongs at p item).1);
       counts = let m = s.rooted.made viewed in let wide = s.rooted.wide in let b = ap (λ p. p.me.0.made) e in let t = ap (λ t. t.words) belongs in let w = c.args.self.words in let l = c.remove.ensures.len in let n : vec_len c.args.seats ≡ length xs = search rules in
           let pg = pigeons (λ s. (g.P.Holder.seat_of s).number) xs c.args.self.limits.seats (λ k p q. (stand k p q).0) in omega arith;
       all = let m = s.rooted.made viewed in let wide = s.rooted.wide in let b = ap (λ p. p.me.0.made) e in let t = ap (λ t. t.words) belongs in let w = c.args.self.words in let l = c.remove.ensures.len in let n : vec_len c.args.seats ≡ length xs = search rules in
@@ -58,6 +60,7 @@ loop-seat-preserved g c = let i = c.loop-seat.invariant in let r = c.retire.ensu
     let joined : c.retire.new.root.me.0.joined ≡ old ++ joined_of (g.P.Holder.seat_of s).place.me.0 ∷ [] = ap (λ m. m.0.joined) r.joined ∙ ap (λ p. old ++ joined_of p.me.0 ∷ []) c.into_place-place.ensures in record {
       table = r.table.0 ∙ i.table;
       root = (r.table.1 ∙ i.root.0, ap (λ m. m.0.role) r.joined ∙ i.root.1, ap (λ m. m.1) r.joined ∙ i.root.2, ap (λ m. m.0.standing.point) r.joined ∙ i.root.3, ap (λ m. m.0.standing.depth) r.joined ∙ i.root.4);
+      limits = ap (λ m. m.0.limits) r.joined ∙ i.limits;
       counts = let a = ap (λ m. m.0.made) r.joined in let b = ap (λ l. length l) joined in let d = c.in-Some-pop.ensures.len in let n = i.counts in let k = length-append old (joined_of (g.P.Holder.seat_of s).place.me.0 ∷ []) in omega arith;
       all = let a = ap (λ m. m.0.made) r.joined in let b = ap (λ l. length l) joined in let d = c.in-Some-pop.ensures.len in let n = i.all in let k = length-append old (joined_of (g.P.Holder.seat_of s).place.me.0 ∷ []) in (omega arith, omega arith);
       seats = λ j s e. i.seats j s (was_there _ _ _ _ j c.in-Some-pop.ensures.items e);
@@ -124,7 +127,7 @@ returns-clause-reached g c j s l at seen =
     let i = c.loop-seat.invariant in let v = c.loop-seat.root.me.0 in let n = c.in_default-pop.ensures.cases in let a = i.counts in let z = n.0 in
     let end : Final (Seen (Held g.T.Kept.follows g.T.Kept.fits) 0 v) (slots_items c.close_with.result.words) (slots_items c.close_with.result.slots) = subst (λ k. Final (Seen (Held g.T.Kept.follows g.T.Kept.fits) k v) (slots_items c.close_with.result.words) (slots_items c.close_with.result.slots)) i.root.0 c.close_with.ensures.values.2 in
     let e = ends g.T.Kept.follows g.T.Kept.fits v (slots_items c.close_with.result.words) (slots_items c.close_with.result.slots) (omega arith) i.root.3 i.root.4 end in
-    let was = e.1 in let got = c.take_slot.ensures in let some_it = c.in-Some-take_slot.is in let whole : e.0 ≡ c.in-Some-take_slot.moving = cc in let same : e.0.value ≡ c.into_value.result = ap (λ (x : Moving g.row.T.Denot). x.value) whole ∙ sym c.into_value.ensures in let named = y.seated.named in
-    subst (λ (t : ℕ × g.row.T.Denot). Reached g.T.Kept.follows t.0 l t.1) (λ i. (named i, same i)) (⊎_elim
+    let was = e.1 in let got = c.take_slot.ensures in let some_it = c.in-Some-take_slot.is in let whole : e.0 ≡ c.in-Some-take_slot.moving = cc in let same : e.0.value ≡ c.into_value.result = ap (λ (x : Moving g.row.T.Denot). x.value) whole ∙ sym c.into_value.ensures in let named = y.seated.named in let limited = i.limits ∙ sym (y.seated.limits_are ∙ b.1) in
+    subst (λ (t : Limits × ℕ × g.row.T.Denot). Reached g.T.Kept.follows t.0.seats t.1 l t.2) (λ i. (limited i, named i, same i)) (⊎_elim
     (λ u. absurd (let r = length_at c.loop-seat.seats.items u.0 s u.1 in let k : vec_len c.loop-seat.seats ≡ length c.loop-seat.seats.items = search rules in omega arith))
-    (λ u. ⊎_elim (λ t. e.2.1 t.0 (joined_of (g.P.Holder.seat_of s).place.me.0) l t.1 is) (λ t. subst (λ (n : ℕ). Reached g.T.Kept.follows n l e.0.value) t.1 (e.2.0 l (t.0 ∙ is))) u) (i.each j s at))
+    (λ u. ⊎_elim (λ t. e.2.1 t.0 (joined_of (g.P.Holder.seat_of s).place.me.0) l t.1 is) (λ t. subst (λ (n : ℕ). Reached g.T.Kept.follows v.limits.seats n l e.0.value) t.1 (e.2.0 l (t.0 ∙ is))) u) (i.each j s at))

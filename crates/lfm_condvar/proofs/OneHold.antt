@@ -19,13 +19,13 @@ pub one_some : {A : Type 0} (o : Option A) (x y : A) → o ≡ Some x → o ≡ 
 one_some o x y e f = let q : Some x ≡ Some y = sym e ∙ f in cc
 
 pub got : (how : How) (limits : Limits) (s t : Sight Waiters) → CondKept s → MadeFor limits s → Gains WaitersFollow WaitersFit limits.budget how s t → (v : Waiters) × InHand limits s t v v
-got how limits s t kept made g = let f = g.8 in let l = some_of s.last kept.there in let o = since_reached s.number l.0 f.0 (f.3 l.0 l.1) in let m = made l.0 l.1 in let c = kept.known l.0 l.1 in (
+got how limits s t kept made g = let f = g.8 in let l = some_of s.last kept.there in let o = since_reached t.seats s.number l.0 f.0 (f.3 l.0 l.1) in let m = made l.0 l.1 in let c = kept.known l.0 l.1 in (
   f.0,
   record {
     value = f.1;
     last = f.2;
     found = f.5;
-    finds = λ x is. since_reached s.number x f.0 (f.3 x is);
+    finds = λ x is. since_reached t.seats s.number x f.0 (f.3 x is);
     seats = o.seats ∙ m.0;
     budget = o.budget ∙ m.1;
     low = c.low;

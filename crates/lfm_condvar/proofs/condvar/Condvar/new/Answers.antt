@@ -7,7 +7,7 @@ use Rattle.lfm_condvar.proofs.condvar.Condvar.new.Goals as goal
 pub as_cond_seats-cond_seats-requires-clause-kept : goal.as_cond_seats-cond_seats-requires-clause-kept
 as_cond_seats-cond_seats-requires-clause-kept c j s at = let m = c.in-Ok-new.ensures.seats in let v = c.in-Ok-empty.waiters in let e = c.in-Ok-empty.ensures in
     let inside = within c.in-Ok-new.made.1.items j s at in let len = c.in-Ok-new.made.1.ok in
-    kept_new (sight s) v j (m.1 j s at).1 e.0 (omega arith)
+    kept_new (sight s) v c.args.seats j (m.1 j s at).1 e.0 (omega arith)
 
 pub returns-clause-seats : goal.returns-clause-seats
 returns-clause-seats c = let m = c.in-Ok-new.ensures.seats in let v = c.in-Ok-empty.waiters in let e = c.in-Ok-empty.ensures in let w = c.as_cond_seats-cond_seats.ensures in let l = c.in-Ok-new.ensures.limits.0 in (
@@ -16,7 +16,7 @@ returns-clause-seats c = let m = c.in-Ok-new.ensures.seats in let v = c.in-Ok-em
     v,
     e.0,
     λ j s at. let n = m.1 j s.seat (w.wraps j s at) in
-        ((n.0, made_new (limits_of c.in-Ok-new.made.0) (sight s.seat) v j n.1 (e.1 ∙ sym (ap (λ z. z.seats) l)) (e.2 ∙ sym (ap (λ z. z.budget) l))), n.1),
+        ((n.0, made_new (limits_of c.in-Ok-new.made.0) (sight s.seat) v c.args.seats j n.1 (e.1 ∙ sym (ap (λ z. z.seats) l)) (e.2 ∙ sym (ap (λ z. z.budget) l))), n.1),
   ),
 )
 

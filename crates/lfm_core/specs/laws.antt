@@ -25,3 +25,4 @@ pub mod Releases
 pub mod BusyMoments
 pub mod Endings
 pub mod Entries
+pub mod ClaimedSeats

@@ -23,10 +23,10 @@ pub use bounds::{
     start_waits_are_bounded, tries_alone_hold, tries_and_receives_are_bounded, unlocks_are_bounded,
 };
 pub use calls::{
-    calls_end_in_their_kind, depth_counts_holds, holders_took_their_record,
-    receivers_loaded_their_grant, recursive_calls_load_the_owner, releases_answer_what_they_did,
-    served_records_are_told, takes_change_by_charges, takes_count_charges,
-    waits_answer_their_release,
+    calls_end_in_their_kind, claimed_seats_are_pushed, depth_counts_holds,
+    holders_took_their_record, receivers_loaded_their_grant, recursive_calls_load_the_owner,
+    releases_answer_what_they_did, served_records_are_told, takes_change_by_charges,
+    takes_count_charges, waits_answer_their_release,
 };
 pub use handoffs::{
     calls_grant_once, calls_post_once, failed_pushes_see_change, handoffs_are_watched,

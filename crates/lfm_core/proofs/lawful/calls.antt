@@ -5,6 +5,7 @@ pub mod TakesCounted
 pub mod DepthsCounted
 pub mod CallSteps
 pub mod CallsEnded
+pub mod ClaimedSeats
 pub mod QueueSteps
 pub mod ReleasesTold
 pub mod WaitsTold

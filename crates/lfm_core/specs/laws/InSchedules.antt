@@ -6,7 +6,7 @@ use Rattle.lfm_model.specs.AbstractRuns.{take}
 use Rattle.lfm_model.specs.declared.answers.How.TheVariants as How
 use Rattle.lfm_model.specs.declared.answers.Locked.TheVariants as Locked
 use Rattle.lfm_model.specs.declared.refusals.Refusal.TheVariants.{Busy}
-use Rattle.lfm_protocol.specs.declared.answers.Answer.TheVariants as Answer
+use Rattle.lfm_protocol.specs.declared.answers.Answer.{Answer}
 use Rattle.lfm_protocol.specs.declared.answers.Call.TheVariants.{Unlock, StartWait, TryLock, Receive}
 use Rattle.lfm_protocol.specs.declared.answers.Turn.TheVariants.{Open, Ended, Refused}
 use Rattle.lfm_protocol.specs.declared.answers.Why.TheVariants.{By}
@@ -26,6 +26,7 @@ use Rattle.lfm_protocol.specs.Step.{begin, step}
 use Rattle.lfm_protocol.specs.Turns.{is_open, longest_call}
 use Rattle.lfm_core.specs.laws.BusyMoments.{WasBusy}
 use Rattle.lfm_core.specs.laws.Cases.{GoesBy, case_of_event}
+use Rattle.lfm_core.specs.laws.ClaimedSeats.{IsToCount, HasQueued}
 use Rattle.lfm_core.specs.laws.Events.{case_of_step}
 use Rattle.lfm_core.specs.laws.Grants.{grant_weight}
 use Rattle.lfm_core.specs.laws.Lawful.{IsSent, Lawful}
@@ -226,3 +227,11 @@ BusyWasBusyInSchedules =
     (c : Core) (s : ℕ) (events : List Event) → IsReached c → (begin c s TryLock).turn ≡ Open
     → StaysInCall (begin c s TryLock).core s events → (step (run_of (begin c s TryLock).core events) s).turn ≡ Refused (By Busy)
     → WasBusy (begin c s TryLock).core events
+
+-- Sends
+
+-- a send that has claimed a seat, and finds the count above 0, has brought the seat into the queue where it ends
+abbrev pub ClaimedSeatsAreQueuedInSchedules : Type 0
+ClaimedSeatsAreQueuedInSchedules =
+    (c : Core) (s t : ℕ) (events : List Event) (answer : Answer) → IsReached c → IsToCount c s t → StaysInCall (step c s).core s events
+    → (step (run_of (step c s).core events) s).turn ≡ Ended answer → HasQueued (step c s).core s t events

@@ -1,9 +1,11 @@
 //! What a call charges, how deep its seat holds, and what it answers. These laws hold of every steady state, so of every state
 //! that a schedule reaches and of every `State`.
 ghost use Rattle.lfm_core.specs.laws.Charges.{TakesChangeByCharges, TakesCountCharges};
+ghost use Rattle.lfm_core.specs.laws.ClaimedSeats.{ClaimedSeatsArePushed, ClaimedSeatsAreQueued};
 ghost use Rattle.lfm_core.specs.laws.Depths.{DepthCountsHolds};
 ghost use Rattle.lfm_core.specs.laws.Endings.{CallsEndInTheirKind};
 ghost use Rattle.lfm_core.specs.laws.Entries.{HoldersTookTheirRecord, ReceiversLoadedTheirGrant, RecursiveCallsLoadTheOwner};
+ghost use Rattle.lfm_core.specs.laws.InSchedules.{ClaimedSeatsAreQueuedInSchedules};
 ghost use Rattle.lfm_core.specs.laws.Releases.{ReleasesAnswerWhatTheyDid, ServedRecordsAreTold, WaitsAnswerTheirRelease};
 
 /// A seat's takes rise by one where a `lock` or `try_lock` opens at depth 0, and where a `start_wait` opens. They fall by
@@ -74,6 +76,18 @@ pub fn served_records_are_told()
 /// Definition: `WaitsAnswerTheirRelease` in `specs/laws/Releases.antt`. Proof: `proofs/lawful/calls/WaitsTold.antt`.
 pub fn waits_answer_their_release()
     ensures { WaitsAnswerTheirRelease }
+{}
+
+/// A `send_lock` that has claimed its target and finds the count above 0 pushes the record of the target: once, no other, and
+/// before the call ends. The record then comes last in the queue.
+///
+/// Definitions: `ClaimedSeatsArePushed` and `ClaimedSeatsAreQueued` in `specs/laws/ClaimedSeats.antt`, and
+/// `ClaimedSeatsAreQueuedInSchedules` in `specs/laws/InSchedules.antt`. Proofs: `proofs/lawful/calls/ClaimedSeats.antt` and
+/// `proofs/lawful/runs/InSchedules.antt`.
+pub fn claimed_seats_are_pushed()
+    ensures pushed { ClaimedSeatsArePushed }
+    ensures steady { ClaimedSeatsAreQueued }
+    ensures schedules { ClaimedSeatsAreQueuedInSchedules }
 {}
 
 /// A call ends with an answer of its own kind: `lock` with Asked, `try_lock` with Locked, `unlock` with Unlocked,

@@ -32,6 +32,7 @@ use Rattle.lfm_core.specs.laws.InSchedules.{
   SomeCallEndsInSchedules,
   NoStateIsStuckInSchedules,
   BusyWasBusyInSchedules,
+  ClaimedSeatsAreQueuedInSchedules,
 }
 use Rattle.lfm_core.proofs.lawful.bounds.Beside.{calls_end_beside_others, calls_change_the_push_word_twice}
 use Rattle.lfm_core.proofs.lawful.bounds.CallsEnd.{calls_end_alone}
@@ -46,6 +47,7 @@ use Rattle.lfm_core.proofs.lawful.bounds.ReleaseBounds.{unlocks_are_bounded, sta
 use Rattle.lfm_core.proofs.lawful.bounds.Resting.{no_state_is_stuck}
 use Rattle.lfm_core.proofs.lawful.bounds.Served.{queued_seats_are_served_soon}
 use Rattle.lfm_core.proofs.lawful.bounds.TriesAlone.{tries_alone_hold}
+use Rattle.lfm_core.proofs.lawful.calls.ClaimedSeats.{claimed_seats_are_queued}
 use Rattle.lfm_core.proofs.lawful.refusals.BusyMoments.{busy_was_busy}
 use Rattle.lfm_core.proofs.lawful.runs.AbstractBridge.{events_are_their_cases}
 use Rattle.lfm_core.proofs.lawful.runs.PushOrder.{queue_is_in_push_order, stamps_are_consecutive}
@@ -166,3 +168,8 @@ no_state_is_stuck_in_schedules c is = no_state_is_stuck c (states_are_steady c i
 
 pub busy_was_busy_in_schedules : BusyWasBusyInSchedules
 busy_was_busy_in_schedules c s events is = busy_was_busy c s events (states_are_steady c is)
+
+-- Sends
+
+pub claimed_seats_are_queued_in_schedules : ClaimedSeatsAreQueuedInSchedules
+claimed_seats_are_queued_in_schedules c s t events answer is = claimed_seats_are_queued c s t events answer (states_are_steady c is)

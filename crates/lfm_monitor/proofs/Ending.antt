@@ -26,22 +26,22 @@ module _ {O A R : Type 0} {K : _} {P : Type 0} (seat : P → Sight (Journaled O 
   -- what a pass left leads to what is there at the end
   pub record Back (opening : O) (seats share : ℕ) (v : Journaled O A R K) (p : P) : Type 0 where
     pub idle : (seat p).depth ≡ 0
-    pub leads : (l : Journaled O A R K) → (seat p).last ≡ Some l → Reached JournalFollows (seat p).number l v
+    pub leads : (l : Journaled O A R K) → (seat p).last ≡ Some l → Reached JournalFollows (seat p).seats (seat p).number l v
     pub belongs : Began opening seats share (seat p)
 
   pub ends_as : (opening : O) (seats share : ℕ) (v : Journaled O A R K) (p : P) → Back opening seats share v p → (v.opening.value ≡ opening) × (v.seats ≡ seats) × (v.share ≡ share)
-  ends_as opening seats share v p b = let l = some_of (seat p).last (kept p).there in let f = (found (seat p).number l.0 v (b.leads l.0 l.1)).0 in let o = b.belongs l.0 l.1 in (f.0 ∙ o.0, f.1 ∙ o.1, f.2 ∙ o.2)
+  ends_as opening seats share v p b = let l = some_of (seat p).last (kept p).there in let f = (found (seat p).seats (seat p).number l.0 v (b.leads l.0 l.1)).0 in let o = b.belongs l.0 l.1 in (f.0 ∙ o.0, f.1 ∙ o.1, f.2 ∙ o.2)
 
   pub own_ends : (opening : O) (seats share : ℕ) (v : Journaled O A R K) (p : P) → Back opening seats share v p → own (seat p).number v.journal.items ≡ own (seat p).number (journal_of (seat p))
-  own_ends opening seats share v p b = let l = some_of (seat p).last (kept p).there in let f = (found (seat p).number l.0 v (b.leads l.0 l.1)).1 in
+  own_ends opening seats share v p b = let l = some_of (seat p).last (kept p).there in let f = (found (seat p).seats (seat p).number l.0 v (b.leads l.0 l.1)).1 in
       own_kept (seat p).number l.0.journal.items v.journal.items f ∙ ap (own (seat p).number) (sym (ap journal_at (known_left (seat p) l.0 ((kept p).free b.idle) l.1)))
 
   pub order_ends : (opening : O) (seats share : ℕ) (v : Journaled O A R K) (p : P) → Back opening seats share v p → GoesOnTo (seat p) v.journal.items
-  order_ends opening seats share v p b = let l = some_of (seat p).last (kept p).there in let f = (found (seat p).number l.0 v (b.leads l.0 l.1)).1 in
+  order_ends opening seats share v p b = let l = some_of (seat p).last (kept p).there in let f = (found (seat p).seats (seat p).number l.0 v (b.leads l.0 l.1)).1 in
       (f.between, f.none_own, f.grown ∙ ap (λ js. js ++ f.between) (sym (ap journal_at (known_left (seat p) l.0 ((kept p).free b.idle) l.1))))
 
   pub mine_ends : (opening : O) (seats share : ℕ) (v : Journaled O A R K) (p : P) → Back opening seats share v p → mine p ≡ length (own (seat p).number v.journal.items)
-  mine_ends opening seats share v p b = let l = some_of (seat p).last (kept p).there in let f = (found (seat p).number l.0 v (b.leads l.0 l.1)).1 in
+  mine_ends opening seats share v p b = let l = some_of (seat p).last (kept p).there in let f = (found (seat p).seats (seat p).number l.0 v (b.leads l.0 l.1)).1 in
       ((kept p).left b.idle l.0 l.1).mine_is ∙ ap length (sym (own_kept (seat p).number l.0.journal.items v.journal.items f))
 
   -- the journal is just the entries that the passes made, each once
@@ -60,7 +60,7 @@ module _ {O A R : Type 0} {K : _} where
 
   pub backs : (ps : List (Pass O A R K)) (n : ℕ) (opening : O) (share : ℕ) (v : Journaled O A R K) → AllStand (λ (p : Pass O A R K). sight p.seat) ps n
       → ((j : ℕ) (p : Pass O A R K) → get_elem? ps j ≡ some p → Began opening n share (sight p.seat))
-      → ((j : ℕ) (p : Pass O A R K) (l : Journaled O A R K) → get_elem? ps j ≡ some p → (sight p.seat).last ≡ Some l → Reached JournalFollows (sight p.seat).number l v)
+      → ((j : ℕ) (p : Pass O A R K) (l : Journaled O A R K) → get_elem? ps j ≡ some p → (sight p.seat).last ≡ Some l → Reached JournalFollows (sight p.seat).seats (sight p.seat).number l v)
       → (j : ℕ) (p : Pass O A R K) → get_elem? ps j ≡ some p → Returned opening n share v p
   backs ps n opening share v stand of reached j p at = let l = some_of (sight p.seat).last p.kept.there in let s = p.kept.seated l.0 l.1 in let o = (of j p at l.0 l.1).1 in record {
     idle = ((stand (sight p.seat).number s.0 (omega arith)).1 j p at refl).0;

@@ -83,11 +83,11 @@ module _ {O A R : Type 0} {K : _} where
   pub same_monitor : (u v w : Journaled O A R K) → SameOpening u v → SameOpening v w → SameOpening u w
   same_monitor u v w a b = (b.0 ∙ a.0, b.1 ∙ a.1, b.2 ∙ a.2)
 
-  led : (s : ℕ) (path : List (ℕ × Journaled O A R K)) (v w : Journaled O A R K) → Leads JournalFollows s path v w → SameOpening v w × Others s v.journal.items w.journal.items
-  led s [] v w e = ((ap (λ b. b.opening.value) (sym e), ap (λ b. b.seats) (sym e), ap (λ b. b.share) (sym e)), subst (λ (b : Journaled O A R K). Others s v.journal.items b.journal.items) e (others_none s v.journal.items))
-  led s (p ∷ ps) v w h = let on = led s ps p.1 w h.2 in let f = h.1 in let js = v.journal.items in let new = drop (length js) p.1.journal.items in
-      (same_monitor v p.1 w f.0 on.0, others_on s js p.1.journal.items w.journal.items new (sym f.1.0) (hold_of_others p.0 s new f.1.1 h.0) on.1)
+  led : (n s : ℕ) (path : List (ℕ × Journaled O A R K)) (v w : Journaled O A R K) → Leads JournalFollows n s path v w → SameOpening v w × Others s v.journal.items w.journal.items
+  led n s [] v w e = ((ap (λ b. b.opening.value) (sym e), ap (λ b. b.seats) (sym e), ap (λ b. b.share) (sym e)), subst (λ (b : Journaled O A R K). Others s v.journal.items b.journal.items) e (others_none s v.journal.items))
+  led n s (p ∷ ps) v w h = let on = led n s ps p.1 w h.2 in let f = h.1 in let js = v.journal.items in let new = drop (length js) p.1.journal.items in
+      (same_monitor v p.1 w f.0 on.0, others_on s js p.1.journal.items w.journal.items new (sym f.1.0) (hold_of_others p.0 s new f.1.1 h.0.0) on.1)
 
   -- what a seat finds is what it left last, and then entries of others alone
-  pub found : (s : ℕ) (v w : Journaled O A R K) → Reached JournalFollows s v w → SameOpening v w × Others s v.journal.items w.journal.items
-  found s v w r = led s r.0 v w r.1
+  pub found : (n s : ℕ) (v w : Journaled O A R K) → Reached JournalFollows n s v w → SameOpening v w × Others s v.journal.items w.journal.items
+  found n s v w r = led n s r.0 v w r.1

@@ -92,7 +92,7 @@ module _ {O A R : Type 0} {K : _} where
     pub none_own : own s.number between ≡ []
 
   pub finds : (how : How) (s t : Sight (Journaled O A R K)) (seen mine : ℕ) (v : Journaled O A R K) → PassKept s seen mine → Comes how s t → t.value ≡ Some v → Found s t mine v
-  finds how s t seen mine v kept locks is = let f = locks.finds in let l = some_of s.last kept.there in let same = one_some t.value f.0 v f.1 is in let r = found s.number l.0 f.0 (f.3 l.0 l.1) in
+  finds how s t seen mine v kept locks is = let f = locks.finds in let l = some_of s.last kept.there in let same = one_some t.value f.0 v f.1 is in let r = found t.seats s.number l.0 f.0 (f.3 l.0 l.1) in
       let at : SameOpening l.0 v = subst (SameOpening l.0) same r.0 in record {
         last = f.2 ∙ ap Some same;
         before = l.0;

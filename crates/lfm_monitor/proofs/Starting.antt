@@ -16,10 +16,10 @@ module _ {O A R : Type 0} {K : _} where
     pub of : OfMutex s m
     pub empty : Journaled O A R K
     pub is : IsEmpty object seats share empty
-    pub sees : sight s ≡ new_sight empty number
+    pub sees : sight s ≡ new_sight empty seats number
 
-  new_sight_kept : (v : Journaled O A R K) (n : ℕ) → v.journal.items ≡ [] → 0 < n → n ≤ v.seats → PassKept (new_sight v n) 0 0
-  new_sight_kept v n nothing low high = record {
+  new_sight_kept : (v : Journaled O A R K) (seats n : ℕ) → v.journal.items ≡ [] → 0 < n → n ≤ v.seats → PassKept (new_sight v seats n) 0 0
+  new_sight_kept v seats n nothing low high = record {
     there = refl;
     seated = λ l is. let e = ap (λ (b : Journaled O A R K). b.seats) (one_some (Some v) v l refl is) in (low, omega arith);
     free = λ z. refl;
@@ -32,7 +32,7 @@ module _ {O A R : Type 0} {K : _} where
 
   pub new_kept : (object : O) (seats share number : ℕ) (m : Mutex (Journaled O A R K)) (s : Seat (Journaled O A R K)) → NewSeat object seats share number m s → 0 < number → number ≤ seats → PassKept (sight s) 0 0
   new_kept object seats share number m s n low high = let e = n.is.seats_are in
-      subst (λ (t : Sight (Journaled O A R K)). PassKept t 0 0) (sym n.sees) (new_sight_kept n.empty number n.is.nothing low (omega arith))
+      subst (λ (t : Sight (Journaled O A R K)). PassKept t 0 0) (sym n.sees) (new_sight_kept n.empty seats number n.is.nothing low (omega arith))
 
   pub new_began : (object : O) (seats share number : ℕ) (m : Mutex (Journaled O A R K)) (s : Seat (Journaled O A R K)) → NewSeat object seats share number m s → Began object seats share (sight s)
   new_began object seats share number m s n l is = let q : n.empty ≡ l = one_some (sight s).last n.empty l (ap (λ t. t.last) n.sees) is in

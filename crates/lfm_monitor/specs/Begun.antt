@@ -5,7 +5,7 @@ use Rattle.lfm_mutex.specs.calls.Sight.{new_sight}
 use Rattle.lfm_monitor.specs.declared.journaled.Journaled.{Journaled}
 use Rattle.lfm_monitor.specs.declared.monitor.Monitor.{Monitor}
 use Rattle.lfm_monitor.specs.declared.pass.Pass.{Pass}
-use Rattle.lfm_monitor.specs.Belongs.{OfMonitor, cond_seats_of, mine_of, pass_sight, seen_of}
+use Rattle.lfm_monitor.specs.Belongs.{OfMonitor, cond_seats_of, mine_of, pass_sight, passes_of, seen_of}
 use Rattle.lfm_monitor.specs.CondSeats.{AreNewSeats}
 
 -- the most entries of a journal
@@ -33,6 +33,6 @@ module _ {O A R : Type 0} {K : _} where
     pub belongs : OfMonitor p m
     pub empty : Journaled O A R K
     pub nothing : empty.journal.items ≡ []
-    pub sees : pass_sight p ≡ new_sight empty number
+    pub sees : pass_sight p ≡ new_sight empty (passes_of m) number
     pub counts : (seen_of p ≡ 0) × (mine_of p ≡ 0)
-    pub cond_seats : AreNewSeats number (cond_seats_of p)
+    pub cond_seats : AreNewSeats (passes_of m) number (cond_seats_of p)

@@ -24,14 +24,14 @@ pub record OfConditions (seats : List CondSeat) (conditions : List Condvar) : Ty
   pub long : length seats ≡ length conditions
   pub each : (i : ℕ) (c : CondSeat) (v : Condvar) → get_elem? seats i ≡ some c → get_elem? conditions i ≡ some v → OfCondvar c v
 
--- the cond seat with this number has done nothing, and nobody has waited on its condition
-abbrev pub IsNewSeat : ℕ → CondSeat → Type 0
-IsNewSeat number c = (nobody : Waiters) × IsNew nobody × (cond_sight c ≡ new_sight nobody number)
+-- the cond seat with this number, one of so many, has done nothing, and nobody has waited on its condition
+abbrev pub IsNewSeat : ℕ → ℕ → CondSeat → Type 0
+IsNewSeat passes number c = (nobody : Waiters) × IsNew nobody × (cond_sight c ≡ new_sight nobody passes number)
 
 -- all these cond seats are so
-abbrev pub AreNewSeats : ℕ → List CondSeat → Type 0
-AreNewSeats number seats = (i : ℕ) (c : CondSeat) → get_elem? seats i ≡ some c → IsNewSeat number c
+abbrev pub AreNewSeats : ℕ → ℕ → List CondSeat → Type 0
+AreNewSeats passes number seats = (i : ℕ) (c : CondSeat) → get_elem? seats i ≡ some c → IsNewSeat passes number c
 
--- the cond seats of a new pass with this number
-abbrev pub AreNewOf : ℕ → List CondSeat → List Condvar → Type 0
-AreNewOf number seats conditions = OfConditions seats conditions × AreNewSeats number seats
+-- the cond seats of a new pass with this number, one of so many
+abbrev pub AreNewOf : ℕ → ℕ → List CondSeat → List Condvar → Type 0
+AreNewOf passes number seats conditions = OfConditions seats conditions × AreNewSeats passes number seats

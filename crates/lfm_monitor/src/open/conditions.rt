@@ -20,7 +20,7 @@ pub fn new_conditions(
 ) -> Result<(Vec<Condvar>, Vec<Vec<CondSeat>>), NewFault>
     requires { are_in_limits passes max_budget ≡ true }
     ensures conditions { IfOk result (λ r. (vec_len r.0 ≡ count) × AreConditions passes r.0.items) }
-    ensures seats { IfOk result (λ r. (vec_len r.1 ≡ passes) × ((j : ℕ) (l : _) → get_elem? r.1.items j ≡ some l → AreNewOf (j + 1) l.items r.0.items)) }
+    ensures seats { IfOk result (λ r. (vec_len r.1 ≡ passes) × ((j : ℕ) (l : _) → get_elem? r.1.items j ≡ some l → AreNewOf passes (j + 1) l.items r.0.items)) }
     ensures memory { IfErr result (λ e. e ≡ NewFault.Memory) }
 {
     let Ok(mut conditions) = Vec::with_capacity(alloc, count as usize) else {

@@ -1,5 +1,8 @@
-use Rattle.std.proofs.Common.{ap, arith, rules, ◌+◌, ◌∙◌}
+use Rattle.std.proofs.Common.{ap, arith, rules, subst, sym, ◌+◌, ◌∙◌}
 use Rattle.lfm_mutex.specs.Belongs.{limits_of}
+use Rattle.lfm_mutex.specs.calls.Sight.{new_sight}
+use Rattle.lfm_monitor.specs.Belongs.{cond_seats_of}
+use Rattle.lfm_monitor.specs.CondSeats.{AreNewSeats}
 use Rattle.lfm_monitor.proofs.Places.{in_range}
 use Rattle.lfm_monitor.proofs.Starting.{new_kept, new_of}
 use Rattle.lfm_monitor.proofs.monitor.Monitor.new.Goals as goal
@@ -14,7 +17,8 @@ pub returns-clause-passes : goal.returns-clause-passes
 returns-clause-passes g c = let e = c.in-Ok-new.ensures in let w = c.with_seats.ensures in (
   w.count ∙ e.seats.0,
   λ j p at.
-      let was = w.passes j p at in let one = e.seats.1 j p.seat was.0 in let empty = c.in_ok-empty.ensures.empty in let of = c.in_ok-conditions.ensures.seats.1 j p.cond_seats was.1 in record {
+      let was = w.passes j p at in let one = e.seats.1 j p.seat was.0 in let empty = c.in_ok-empty.ensures.empty in let of = c.in_ok-conditions.ensures.seats.1 j p.cond_seats was.1 in
+      let sized = sym (ap (λ l. l.seats) e.limits.0) in record {
         belongs = (
           one.0,
           new_of c.args.object c.of-opening.result.value c.args.seats (limits_of c.in-Ok-new.mutex).seats c.args.entries_per_seat (j + 1) c.in-Ok-new.mutex p.seat
@@ -23,9 +27,9 @@ returns-clause-passes g c = let e = c.in-Ok-new.ensures in let w = c.with_seats.
         );
         empty = c.in_ok-empty.empty;
         nothing = empty.nothing;
-        sees = one.1;
+        sees = one.1 ∙ ap (λ n. new_sight c.in_ok-empty.empty n (j + 1)) sized;
         counts = (was.2, was.3);
-        cond_seats = of.1;
+        cond_seats = subst (λ n. AreNewSeats n (j + 1) (cond_seats_of p)) sized of.1;
       },
 )
 

@@ -12,7 +12,7 @@ makes-preserved c = let i = c.makes.invariant in let e = c.in_ok-condition.ensur
   alike = each_more (λ (n : ℕ) (u : Condvar). cond_limits u ≡ condition_limits c.args.passes) c.makes.conditions.items c.push_reserved.new.self.items v p.items i.alike e.limits.0;
   wide = d.count ∙ i.wide;
   dealt = λ j r at. let x = d.dealt j r at in let was = i.dealt j x.old x.was in let s = e.seats.1.2 j x.item x.dealt in
-      (x.room ∙ was.0, one_new (j + 1) x.old.items r.items c.makes.conditions.items c.push_reserved.new.self.items x.item v x.grown p.items was.1 s.0 (e.seats.1.0, e.seats.1.1, s.1));
+      (x.room ∙ was.0, one_new c.args.passes (j + 1) x.old.items r.items c.makes.conditions.items c.push_reserved.new.self.items x.item v x.grown p.items was.1 s.0 (e.seats.1.0, e.seats.1.1, s.1));
 }
 
 pub returns-clause-seats : goal.returns-clause-seats

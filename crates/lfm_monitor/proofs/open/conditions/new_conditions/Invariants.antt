@@ -9,5 +9,5 @@ invariant-makes l = record {
   made : (vec_len l.conditions ≡ l.counter) × (vec_capacity l.conditions ≡ l.count);
   alike : AreConditions l.passes l.conditions.items;
   wide : vec_len l.cond_seats ≡ l.passes;
-  dealt : (j : ℕ) (r : _) → get_elem? l.cond_seats.items j ≡ some r → (vec_capacity r ≡ l.count) × AreNewOf (j + 1) r.items l.conditions.items;
+  dealt : (j : ℕ) (r : _) → get_elem? l.cond_seats.items j ≡ some r → (vec_capacity r ≡ l.count) × AreNewOf l.passes (j + 1) r.items l.conditions.items;
 }

@@ -26,3 +26,4 @@ pub mod BusyMoments
 pub mod Endings
 pub mod Entries
 pub mod ClaimedSeats
+pub mod Effects

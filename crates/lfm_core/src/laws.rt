@@ -6,6 +6,7 @@
 pub mod abstract_mutex;
 pub mod bounds;
 pub mod calls;
+pub mod effects;
 pub mod handoffs;
 pub mod mutual_exclusion;
 pub mod queue_order;
@@ -28,6 +29,7 @@ pub use calls::{
     releases_answer_what_they_did, served_records_are_told, takes_change_by_charges,
     takes_count_charges, waits_answer_their_release,
 };
+pub use effects::calls_take_effect_once;
 pub use handoffs::{
     calls_grant_once, calls_post_once, failed_pushes_see_change, handoffs_are_watched,
     quiescent_states_rest, sleepers_are_reachable, takes_find_a_record, won_posts_have_a_record,

@@ -12,3 +12,5 @@ pub mod WaitsTold
 pub mod HeldTold
 pub mod RecursiveCalls
 pub mod ReceivesTold
+pub mod EffectSteps
+pub mod EffectsOnce

@@ -7,6 +7,7 @@ use Rattle.lfm_model.specs.declared.answers.How.TheVariants as How
 use Rattle.lfm_model.specs.declared.answers.Locked.TheVariants as Locked
 use Rattle.lfm_model.specs.declared.refusals.Refusal.TheVariants.{Busy}
 use Rattle.lfm_protocol.specs.declared.answers.Answer.{Answer}
+use Rattle.lfm_protocol.specs.declared.answers.Call.{Call}
 use Rattle.lfm_protocol.specs.declared.answers.Call.TheVariants.{Unlock, StartWait, TryLock, Receive}
 use Rattle.lfm_protocol.specs.declared.answers.Turn.TheVariants.{Open, Ended, Refused}
 use Rattle.lfm_protocol.specs.declared.answers.Why.TheVariants.{By}
@@ -27,6 +28,7 @@ use Rattle.lfm_protocol.specs.Turns.{is_open, longest_call}
 use Rattle.lfm_core.specs.laws.BusyMoments.{WasBusy}
 use Rattle.lfm_core.specs.laws.Cases.{GoesBy, case_of_event}
 use Rattle.lfm_core.specs.laws.ClaimedSeats.{IsToCount, HasQueued}
+use Rattle.lfm_core.specs.laws.Effects.{effects_in, TurnsEffects}
 use Rattle.lfm_core.specs.laws.Events.{case_of_step}
 use Rattle.lfm_core.specs.laws.Grants.{grant_weight}
 use Rattle.lfm_core.specs.laws.Lawful.{IsSent, Lawful}
@@ -35,7 +37,7 @@ use Rattle.lfm_core.specs.laws.Overtaking.{entries_of_run, releases_of_run, entr
 use Rattle.lfm_core.specs.laws.Progress.{changes_beside, changes_of_call, open_calls, steps_of_run, opened_in_run, ended_in_run, ComesToRest}
 use Rattle.lfm_core.specs.laws.Reading.{Claims, Reads}
 use Rattle.lfm_core.specs.laws.Releases.{StaysInCall}
-use Rattle.lfm_core.specs.laws.Schedules.{Event, makes, happens, run_of, steps, push_record, popped_record, is_call, weight_of_call, steps_of_call}
+use Rattle.lfm_core.specs.laws.Schedules.{Event, begins, makes, happens, run_of, steps, push_record, popped_record, is_call, weight_of_call, steps_of_call}
 use Rattle.lfm_core.specs.laws.Service.{OnlyServes}
 use Rattle.lfm_core.specs.laws.Watched.{IsQueued, Watched}
 
@@ -150,6 +152,17 @@ CallsPostOnceInSchedules = (c : Core) (s : ℕ) (events : List Event) → IsReac
 -- a call grants at most once, whatever the others do in between
 abbrev pub CallsGrantOnceInSchedules : Type 0
 CallsGrantOnceInSchedules = (c : Core) (s : ℕ) (events : List Event) → IsReached c → weight_of_call grant_weight c s events ≤ 1
+
+-- Linearization points
+
+-- a call has as many effects as its turns say: one between its begin and its end, whatever the others do in between
+abbrev pub CallsTakeEffectOnceInSchedules : Type 0
+CallsTakeEffectOnceInSchedules =
+    (c : Core) (s : ℕ) (call : Call) (events : List Event) → IsReached c
+    → TurnsEffects (begin c s call).turn (effects_in c s (begins s call ∷ []))
+    × ((begin c s call).turn ≡ Open → StaysInCall (begin c s call).core s events
+    → (effects_in c s (begins s call ∷ events) ≤ 1)
+    × TurnsEffects (step (run_of (begin c s call).core events) s).turn (effects_in c s (begins s call ∷ (events ++ makes s ∷ []))))
 
 -- Bounds
 

@@ -73,7 +73,7 @@ ended c s (e ∷ later) outside = rw outside refl
 counted : (c : Core) (g : Ghost) (s : ℕ) (again : Bool) → Fits c g → owned s again ≡ held_by g.place s → c.count ≢ 0
 counted c g s again fits claims none = let f : owned s again ≡ nobody = rw (nobody_of_none c g fits none) at claims in cc
 
-owns : (c : Core) (g : Ghost) (s : ℕ) (again : Bool) → Fits c g → owned s again ≡ held_by g.place s → c.owner ≡ s
+pub owns : (c : Core) (g : Ghost) (s : ℕ) (again : Bool) → Fits c g → owned s again ≡ held_by g.place s → c.owner ≡ s
 owns c g s again fits claims = let place = place_of_claim g.place (owned s again) s (λ e. cc) claims in fits.words.owner ∙ rw place refl
 
 -- a view whose point is this

@@ -67,7 +67,7 @@ pub own_turn : (c : Core) (s : ℕ) → IsSeat c.seats s → (step c s).turn ≡
 own_turn c s is = rw (test_of_seat c.seats s is) (turn_made c s)
 
 -- a step of the seat after which its call is open
-stays_open : (c : Core) (s : ℕ) → is_call (seat c.seats s).point ≡ true → is_call (seat (step c s).core.seats s).point ≡ true → (step c s).turn ≡ Open
+pub stays_open : (c : Core) (s : ℕ) → is_call (seat c.seats s).point ≡ true → is_call (seat (step c s).core.seats s).point ≡ true → (step c s).turn ≡ Open
 stays_open c s inside still =
     let is = seat_of_call c s inside in
     let goes = (step_follows c s (seat c.seats s).point refl inside).follows in

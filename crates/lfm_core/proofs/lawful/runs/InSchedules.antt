@@ -20,6 +20,7 @@ use Rattle.lfm_core.specs.laws.InSchedules.{
   FailedPushesSeeChangeInSchedules,
   CallsPostOnceInSchedules,
   CallsGrantOnceInSchedules,
+  CallsTakeEffectOnceInSchedules,
   UnlocksAreBoundedInSchedules,
   StartWaitsAreBoundedInSchedules,
   TriesAndReceivesAreBoundedInSchedules,
@@ -49,6 +50,7 @@ use Rattle.lfm_core.proofs.lawful.bounds.Served.{queued_seats_are_served_soon}
 use Rattle.lfm_core.proofs.lawful.bounds.TriesAlone.{tries_alone_hold}
 use Rattle.lfm_core.proofs.lawful.calls.ClaimedSeats.{claimed_seats_are_queued}
 use Rattle.lfm_core.proofs.lawful.refusals.BusyMoments.{busy_was_busy}
+use Rattle.lfm_core.proofs.lawful.calls.EffectsOnce.{calls_take_effect_once}
 use Rattle.lfm_core.proofs.lawful.runs.AbstractBridge.{events_are_their_cases}
 use Rattle.lfm_core.proofs.lawful.runs.PushOrder.{queue_is_in_push_order, stamps_are_consecutive}
 use Rattle.lfm_core.proofs.lawful.states.CountLaws.{places_are_read, count_is_zero_where_free}
@@ -125,6 +127,11 @@ calls_post_once_in_schedules c s events is = calls_post_once c s events (states_
 
 pub calls_grant_once_in_schedules : CallsGrantOnceInSchedules
 calls_grant_once_in_schedules c s events is = calls_grant_once c s events (states_are_steady c is)
+
+-- Linearization points
+
+pub calls_take_effect_once_in_schedules : CallsTakeEffectOnceInSchedules
+calls_take_effect_once_in_schedules c s call events is = calls_take_effect_once c s call events (states_are_steady c is)
 
 -- Bounds
 

@@ -1,0 +1,68 @@
+-- The effect of a call: the one event of its seat by which it acts on the abstract mutex. It is the linearization point of the
+-- call. What the abstract mutex does with a seat that asks, and with a mutex that is released, comes after it, by whichever call
+-- carries the responsibility.
+use Rattle.std.specs.Prelude.{◌≡◌, ℕ, ◌+◌, ◌≤◌, ◌++◌, Option, Some, None, List, [], ◌∷◌, nat_eq, if◌then◌else◌}
+use Rattle.lfm_model.specs.AbstractRuns.{Case, ask, accept, take_up, release}
+use Rattle.lfm_protocol.specs.declared.answers.Answer.{Answer}
+use Rattle.lfm_protocol.specs.declared.answers.Answer.TheVariants.{Got}
+use Rattle.lfm_protocol.specs.declared.answers.Call.{Call}
+use Rattle.lfm_protocol.specs.declared.answers.Turn.{Turn}
+use Rattle.lfm_protocol.specs.declared.answers.Turn.TheVariants.{Open, Ended, Refused}
+use Rattle.lfm_protocol.specs.Core.{Core}
+use Rattle.lfm_protocol.specs.Seats.{seat}
+use Rattle.lfm_protocol.specs.Step.{begin, step}
+use Rattle.lfm_core.specs.laws.Cases.{case_of_event}
+use Rattle.lfm_core.specs.laws.Depths.{seat_of}
+use Rattle.lfm_core.specs.laws.Releases.{StaysInCall}
+use Rattle.lfm_core.specs.laws.Schedules.{Event, begins, makes, happens, run_of}
+use Rattle.lfm_core.specs.steady.Steady.{Steady}
+
+-- How many effects an event is
+
+-- a seat asks, accepts a post, takes up its grant, or releases
+abbrev pub effects_of_case : Option Case → ℕ
+effects_of_case (Some ask) = 1
+effects_of_case (Some accept) = 1
+effects_of_case (Some take_up) = 1
+effects_of_case (Some release) = 1
+effects_of_case _ = 0
+
+-- a seat holds before and after, and not as deep: it has one hold more, or one less
+abbrev pub effects_of_depth : ℕ → ℕ → ℕ
+effects_of_depth before after =
+    if nat_eq before 0 then 0 else (if nat_eq after 0 then 0 else (if nat_eq after before then 0 else 1))
+
+-- how many effects of seat s an event is
+abbrev pub effects_of : Core → ℕ → Event → ℕ
+effects_of c s e =
+    if nat_eq (seat_of e) s
+    then effects_of_case (case_of_event c e) + effects_of_depth (seat c.seats s).depth (seat (happens c e).core.seats s).depth
+    else 0
+
+-- the same of the events of a run
+abbrev pub effects_in : Core → ℕ → List Event → ℕ
+effects_in c s [] = 0
+effects_in c s (e ∷ later) = effects_of c s e + effects_in (happens c e).core s later
+
+-- How many effects a call has had
+
+-- with this answer: one, but for a receive that has found no grant
+abbrev pub AnswersEffects : Answer → ℕ → Type 0
+AnswersEffects (Got None) n = n ≡ 0
+AnswersEffects _ n = n ≡ 1
+
+-- with this turn: an open call one at most, a refused one none
+abbrev pub TurnsEffects : Turn → ℕ → Type 0
+TurnsEffects Open n = n ≤ 1
+TurnsEffects (Ended answer) n = AnswersEffects answer n
+TurnsEffects (Refused why) n = n ≡ 0
+
+-- from its begin on a call has as many effects as its turns say: where it ends or is refused at once, and else before and after each
+-- step of its seat, whatever the others do in between. So the one effect of a call is between its begin and its end
+abbrev pub CallsTakeEffectOnce : Type 0
+CallsTakeEffectOnce =
+    (c : Core) (s : ℕ) (call : Call) (events : List Event) → Steady c
+    → TurnsEffects (begin c s call).turn (effects_in c s (begins s call ∷ []))
+    × ((begin c s call).turn ≡ Open → StaysInCall (begin c s call).core s events
+    → (effects_in c s (begins s call ∷ events) ≤ 1)
+    × TurnsEffects (step (run_of (begin c s call).core events) s).turn (effects_in c s (begins s call ∷ (events ++ makes s ∷ []))))

@@ -60,8 +60,8 @@ module _ {A : Type 0} where
   lawful_start t k [] ys h = tt
   lawful_start t k (e ∷ xs) ys h = (h.0, lawful_start (taker_at t e.seat e.what) (queued_at k e.what) xs ys h.1)
 
-  pub grown : (es : List (Entry A)) (e : Entry A) → LawfulJournal (es ++ e ∷ []) ↔ (LawfulJournal es × May (taker_from None es) (queued_from 0 es) e.seat e.what)
-  grown es e =
+  pub lawful_grows : (es : List (Entry A)) (e : Entry A) → LawfulJournal (es ++ e ∷ []) ↔ (LawfulJournal es × May (taker_from None es) (queued_from 0 es) e.seat e.what)
+  lawful_grows es e =
       (λ h. (lawful_start None 0 es (e ∷ []) h, (lawful_rest None 0 es (e ∷ []) h).0), λ both. lawful_more es e both.0 both.1)
 
   -- seat s took last among the entries, or before them, where t did

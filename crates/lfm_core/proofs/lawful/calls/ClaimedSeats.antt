@@ -3,8 +3,7 @@
 use Rattle.std.proofs.Common.{◌≡◌, ◌≢◌, ◌⊎◌, ⊎_elim, ℕ, Bool, true, false, ◌+◌, ◌<◌, List, [], ◌∷◌, ◌++◌, nat_eq, refl, sym, ap, ◌∙◌, inl, inr, arith}
 use Rattle.std.proofs.lemmas.Bool.{cases_Bool, cases_eq, eq-eqb, ne_eqb, false≢true}
 use Rattle.std.specs.Prelude.{Option, Some, None}
-use Rattle.lfm_protocol.specs.declared.answers.Answer.{Answer}
-use Rattle.lfm_protocol.specs.declared.answers.Turn.TheVariants.{Open, Ended}
+use Rattle.lfm_protocol.specs.declared.answers.Turn.TheVariants.{Open}
 use Rattle.lfm_protocol.specs.declared.points.Carrier.{Carrier}
 use Rattle.lfm_protocol.specs.declared.points.Point.{Point}
 use Rattle.lfm_protocol.specs.declared.points.Point.TheVariants.{Rest, SendCountAdd, SendPushLook, PushLoad, LinkStore, PushExchange, PushedHandoffLoad, PushedHandoffExchange, TakeClearHead, TakeLinkLoad, GrantWakeStore}
@@ -24,6 +23,7 @@ use Rattle.lfm_core.specs.steady.Steady.{Steady}
 use Rattle.lfm_core.proofs.lawful.bounds.Branches.{of_points, of_turns}
 use Rattle.lfm_core.proofs.lawful.bounds.Leaving.{stepped, seat_of_call, begin_leaves}
 use Rattle.lfm_core.proofs.lawful.calls.QueueSteps.{Goes, queue_made}
+use Rattle.lfm_core.proofs.lawful.calls.ReceivesTold.{open_ended}
 use Rattle.lfm_core.proofs.lawful.calls.WaitsTold.{own_after, own_turn, other_step}
 use Rattle.lfm_core.proofs.lawful.runs.Reached.{run_keeps}
 use Rattle.lfm_core.proofs.steady.frames.Seated.{test_of_seat}
@@ -41,55 +41,55 @@ is_inside t p (loads at) = rw at refl
 is_inside t p (stores seen at) = rw at refl
 is_inside t p (exchanges seen at) = rw at refl
 
-asks_at : (t depth s : ℕ) (p : Point) → PushesAt t p → asks_for_at depth s p ≡ t
-asks_at t depth s p (loads at) = rw at refl
-asks_at t depth s p (stores seen at) = rw at refl
-asks_at t depth s p (exchanges seen at) = rw at refl
+asks_target : (t depth s : ℕ) (p : Point) → PushesAt t p → asks_for_at depth s p ≡ t
+asks_target t depth s p (loads at) = rw at refl
+asks_target t depth s p (stores seen at) = rw at refl
+asks_target t depth s p (exchanges seen at) = rw at refl
 
 -- a send at this point has pushed, or has ended
-abbrev has_pushed : Point → Bool
-has_pushed Rest = true
-has_pushed (PushedHandoffLoad (Pusher.Sender t)) = true
-has_pushed (SendPushLook t seen) = true
-has_pushed (PushedHandoffExchange (Pusher.Sender t) seen) = true
-has_pushed (TakeClearHead Carrier.Sender) = true
-has_pushed (TakeLinkLoad Carrier.Sender next) = true
-has_pushed (GrantWakeStore Carrier.Sender r) = true
-has_pushed _ = false
+abbrev is_past_push : Point → Bool
+is_past_push Rest = true
+is_past_push (PushedHandoffLoad (Pusher.Sender t)) = true
+is_past_push (SendPushLook t seen) = true
+is_past_push (PushedHandoffExchange (Pusher.Sender t) seen) = true
+is_past_push (TakeClearHead Carrier.Sender) = true
+is_past_push (TakeLinkLoad Carrier.Sender next) = true
+is_past_push (GrantWakeStore Carrier.Sender r) = true
+is_past_push _ = false
 
-abbrev HasPushedAt : Point → Type 0
-HasPushedAt p = has_pushed p ≡ true
+abbrev IsPastPush : Point → Type 0
+IsPastPush p = is_past_push p ≡ true
 
 -- Past the push
 
-taken : (s : ℕ) (first : Option Record) → HasPushedAt (take Carrier.Sender s first)
-taken s None = refl
-taken s (Some r) = refl
+past_take : (s : ℕ) (first : Option Record) → IsPastPush (take Carrier.Sender s first)
+past_take s None = refl
+past_take s (Some r) = refl
 
-stays_pushed : (c : Core) (s : ℕ) (p : Point) → (seat c.seats s).point ≡ p → is_call p ≡ true → HasPushedAt p → HasPushedAt (stepped c s).seat.point
-stays_pushed c s Rest at inside past = absurd (false≢true inside)
-stays_pushed c s (PushedHandoffLoad (Pusher.Sender t)) at inside past =
-    rw (at, at) (of_turns HasPushedAt (nat_eq c.handoff.seat 0) _ _ refl refl)
-stays_pushed c s (SendPushLook t seen) at inside past = rw (at, at) (of_turns HasPushedAt (nat_eq c.push.next 0) _ _ refl refl)
-stays_pushed c s (PushedHandoffExchange (Pusher.Sender t) seen) at inside past =
-    rw (at, at) (of_turns HasPushedAt (same_handoff c.handoff seen) _ _ (taken s (oldest c.popped)) refl)
-stays_pushed c s (TakeClearHead Carrier.Sender) at inside past = rw (at, at) refl
-stays_pushed c s (TakeLinkLoad Carrier.Sender next) at inside past =
-    rw (at, at) (of_points HasPushedAt (nat_eq (link c.links next).next 0) _ _ refl refl)
-stays_pushed c s (GrantWakeStore Carrier.Sender r) at inside past = rw (at, at) refl
-stays_pushed c s _ at inside past = absurd (false≢true past)
+stays_past_push : (c : Core) (s : ℕ) (p : Point) → (seat c.seats s).point ≡ p → is_call p ≡ true → IsPastPush p → IsPastPush (stepped c s).seat.point
+stays_past_push c s Rest at inside past = absurd (false≢true inside)
+stays_past_push c s (PushedHandoffLoad (Pusher.Sender t)) at inside past =
+    rw (at, at) (of_turns IsPastPush (nat_eq c.handoff.seat 0) _ _ refl refl)
+stays_past_push c s (SendPushLook t seen) at inside past = rw (at, at) (of_turns IsPastPush (nat_eq c.push.next 0) _ _ refl refl)
+stays_past_push c s (PushedHandoffExchange (Pusher.Sender t) seen) at inside past =
+    rw (at, at) (of_turns IsPastPush (same_handoff c.handoff seen) _ _ (past_take s (oldest c.popped)) refl)
+stays_past_push c s (TakeClearHead Carrier.Sender) at inside past = rw (at, at) refl
+stays_past_push c s (TakeLinkLoad Carrier.Sender next) at inside past =
+    rw (at, at) (of_points IsPastPush (nat_eq (link c.links next).next 0) _ _ refl refl)
+stays_past_push c s (GrantWakeStore Carrier.Sender r) at inside past = rw (at, at) refl
+stays_past_push c s _ at inside past = absurd (false≢true past)
 
-pushes_nothing : (c : Core) (s : ℕ) (p : Point) → HasPushedAt p → pushed_at_point c s p ≡ []
+pushes_nothing : (c : Core) (s : ℕ) (p : Point) → IsPastPush p → pushed_at_point c s p ≡ []
 pushes_nothing c s (PushExchange pusher seen) past = absurd (false≢true past)
 pushes_nothing c s _ past = refl
 
-none_more : (c : Core) (s : ℕ) (events : List Event) → HasPushedAt (seat c.seats s).point → pushes_of_call c s events ≡ []
+none_more : (c : Core) (s : ℕ) (events : List Event) → IsPastPush (seat c.seats s).point → pushes_of_call c s events ≡ []
 none_more c s [] past = refl
 none_more c s (begins t call ∷ later) past =
     elim (cases_Bool (is_call (seat c.seats s).point)) [
       | inl inside ↦
           let same = (begin_leaves c t s call inside).view in
-          rw inside (none_more (begin c t call).core s later (ap (λ x. has_pushed x.point) same ∙ past))
+          rw inside (none_more (begin c t call).core s later (ap (λ x. is_past_push x.point) same ∙ past))
       | inr outside ↦ rw outside refl
     ]
 none_more c s (makes t ∷ later) past =
@@ -97,12 +97,12 @@ none_more c s (makes t ∷ later) past =
       | inl inside ↦ elim (cases_eq t s) [
         | inl own ↦
             let after = own_after c s (seat_of_call c s inside) in
-            let next = stays_pushed c s (seat c.seats s).point refl inside past in
-            let rest = none_more (step c s).core s later (ap (λ x. has_pushed x.point) after ∙ next) in
+            let next = stays_past_push c s (seat c.seats s).point refl inside past in
+            let rest = none_more (step c s).core s later (ap (λ x. is_past_push x.point) after ∙ next) in
             rw (inside, own, eq-eqb s s refl, pushes_nothing c s (seat c.seats s).point past) rest
         | inr other ↦
             let same = other_step c t s (λ e. other (sym e)) in
-            rw (inside, ne_eqb t s other) (none_more (step c t).core s later (ap (λ x. has_pushed x.point) same ∙ past))
+            rw (inside, ne_eqb t s other) (none_more (step c t).core s later (ap (λ x. is_past_push x.point) same ∙ past))
       ]
       | inr outside ↦ rw outside refl
     ]
@@ -128,7 +128,7 @@ pushed_record : (c : Core) (s t : ℕ) (seen : Link) → (seat c.seats s).point 
 pushed_record c s t seen at same = rw (at, same) refl
 
 past_after : (c : Core) (s t : ℕ) (seen : Link) → (seat c.seats s).point ≡ PushExchange (Pusher.Sender t) seen → same_link c.push seen ≡ true
-    → HasPushedAt (stepped c s).seat.point
+    → IsPastPush (stepped c s).seat.point
 past_after c s t seen at same = rw (at, at, same) refl
 
 -- its step ends no call
@@ -145,7 +145,7 @@ later_to_push c e s t later same (inl yet) = inl (record { nothing = same ∙ ye
 later_to_push c e s t later same (inr pushed) = inr (record { stamp = pushed.stamp; only = same ∙ pushed.only })
 
 run_pushes : (c : Core) (s t : ℕ) (events : List Event) → PushesAt t (seat c.seats s).point → IsToPush c s t events ⊎ HasPushed c s t events
-run_pushes c s t [] here = inl (record { nothing = refl; asks = asks_at t (seat c.seats s).depth s (seat c.seats s).point here })
+run_pushes c s t [] here = inl (record { nothing = refl; asks = asks_target t (seat c.seats s).depth s (seat c.seats s).point here })
 run_pushes c s t (begins u call ∷ later) here =
     let inside = is_inside t (seat c.seats s).point here in
     let same = (begin_leaves c u s call inside).view in
@@ -158,7 +158,7 @@ run_pushes c s t (makes u ∷ later) here =
             later_to_push c (makes s) s t later (rw (inside, eq-eqb s s refl, none) refl)
             (run_pushes (step c s).core s t later (rw (own_after c s (seat_of_call c s inside)) next))
         | pushes seen at same ↦
-            let past = ap (λ x. has_pushed x.point) (own_after c s (seat_of_call c s inside)) ∙ past_after c s t seen at same in
+            let past = ap (λ x. is_past_push x.point) (own_after c s (seat_of_call c s inside)) ∙ past_after c s t seen at same in
             let first = pushed_record c s t seen at same in
             let rest = none_more (step c s).core s later past in
             inr (record { stamp = seen.stamp + 1; only = rw (inside, eq-eqb s s refl, first, rest) refl })
@@ -170,16 +170,16 @@ run_pushes c s t (makes u ∷ later) here =
 
 -- The queue
 
-grows : (before after added removed : List Record) (r : Record) → Goes before after added removed → added ≡ r ∷ [] → removed ≡ []
+queue_grows : (before after added removed : List Record) (r : Record) → Goes before after added removed → added ≡ r ∷ [] → removed ≡ []
     → after ≡ before ++ r ∷ []
-grows before after added removed r goes pushed none = sym (rw (pushed, none) at goes)
+queue_grows before after added removed r goes pushed none = sym (rw (pushed, none) at goes)
 
 comes_last : (c : Core) (s t : ℕ) (seen : Link) → Steady c → (seat c.seats s).point ≡ PushExchange (Pusher.Sender t) seen → same_link c.push seen ≡ true
     → ComesLast c (step c s).core t
 comes_last c s t seen steady at same =
     let is = seat_of_call c s (rw at refl) in
     let stamp : (step c s).core.push.stamp ≡ seen.stamp + 1 = rw (test_of_seat c.seats s is, at, at, same) refl in
-    rw stamp (grows _ _ (pushed_by c s) (popped_by c s) _ (queue_made c steady.ghost_state s steady.fits) (pushed_record c s t seen at same) (rw at refl))
+    rw stamp (queue_grows _ _ (pushed_by c s) (popped_by c s) _ (queue_made c steady.ghost_state s steady.fits) (pushed_record c s t seen at same) (rw at refl))
 
 run_queues : (c : Core) (s t : ℕ) (events : List Event) → Steady c → PushesAt t (seat c.seats s).point
     → PushesAt t (seat (run_of c events).seats s).point ⊎ HasQueued c s t events
@@ -205,14 +205,14 @@ run_queues c s t (makes u ∷ later) steady here =
 
 -- The claim
 
-claims_at : (p : Point) (t : ℕ) → 0 < t → claims_for_at p ≡ t → p ≡ SendCountAdd t
-claims_at (SendCountAdd u) t some e = ap SendCountAdd e
-claims_at _ t some e = absurd (omega (arith, some, e))
+point_of_claim : (p : Point) (t : ℕ) → 0 < t → claims_for_at p ≡ t → p ≡ SendCountAdd t
+point_of_claim (SendCountAdd u) t some e = ap SendCountAdd e
+point_of_claim _ t some e = absurd (omega (arith, some, e))
 
 -- the add leads the send to its push
-counts : (c : Core) (s t : ℕ) → IsToCount c s t → PushesAt t (seat (step c s).core.seats s).point
-counts c s t is =
-    let at = claims_at (seat c.seats s).point t is.some is.claims in
+leads_to_push : (c : Core) (s t : ℕ) → IsToCount c s t → PushesAt t (seat (step c s).core.seats s).point
+leads_to_push c s t is =
+    let at = point_of_claim (seat c.seats s).point t is.some is.claims in
     let counted = is.counted in
     let more : c.count ≢ 0 = λ none. omega (arith, counted, none) in
     let inside : is_call (seat c.seats s).point ≡ true = rw at refl in
@@ -220,10 +220,7 @@ counts c s t is =
     loads (ap (λ x. x.point) (own_after c s (seat_of_call c s inside)) ∙ after)
 
 pub claimed_seats_are_pushed : ClaimedSeatsArePushed
-claimed_seats_are_pushed c s t events is = run_pushes (step c s).core s t events (counts c s t is)
-
-open_ended : (answer : Answer) → Open ≡ Ended answer → ⊥
-open_ended answer e = cc
+claimed_seats_are_pushed c s t events is = run_pushes (step c s).core s t events (leads_to_push c s t is)
 
 pub claimed_seats_are_queued : ClaimedSeatsAreQueued
 claimed_seats_are_queued c s t events answer steady is stays turn =
@@ -233,4 +230,4 @@ claimed_seats_are_queued c s t events answer steady is stays turn =
     let opens = open_step d s t here in
     let same = own_turn d s (seat_of_call d s (is_inside t (seat d.seats s).point here)) in
     absurd (open_ended answer (sym (same ∙ opens) ∙ turn)))
-    (λ queued. queued) (run_queues (step c s).core s t events (run_keeps c (makes s ∷ []) steady) (counts c s t is))
+    (λ queued. queued) (run_queues (step c s).core s t events (run_keeps c (makes s ∷ []) steady) (leads_to_push c s t is))

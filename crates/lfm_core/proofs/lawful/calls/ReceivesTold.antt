@@ -175,7 +175,7 @@ kept_granted (EnterOwnerStore Entrant.Trier held) how e = absurd (cc)
 kept_granted (EnterOwnerStore Entrant.Receiver held) how e = cc
 kept_granted _ how e = absurd (cc)
 
-open_ended : (answer : Answer) → Open ≡ Ended answer → ⊥
+pub open_ended : (answer : Answer) → Open ≡ Ended answer → ⊥
 open_ended answer e = cc
 
 none_held : (how : How) → Ended (Answer.Got (Some how)) ≡ Ended (Answer.Got None) → ⊥

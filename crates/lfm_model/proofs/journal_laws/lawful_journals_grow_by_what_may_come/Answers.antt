@@ -1,5 +1,5 @@
-use Rattle.lfm_model.proofs.LawfulJournals.{grown}
+use Rattle.lfm_model.proofs.LawfulJournals.{lawful_grows}
 use Rattle.lfm_model.proofs.journal_laws.lawful_journals_grow_by_what_may_come.Goals as goal
 
 pub returns : goal.returns
-returns g c = grown
+returns g c = lawful_grows

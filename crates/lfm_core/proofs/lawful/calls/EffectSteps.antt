@@ -28,7 +28,7 @@ use Rattle.lfm_words.specs.declared.handoffs.Handoff.{Handoff}
 use Rattle.lfm_words.specs.declared.pop_lists.Record.{Record}
 use Rattle.lfm_words.specs.declared.wakes.Wake.{Wake}
 use Rattle.lfm_words.specs.Popped.{oldest}
-use Rattle.lfm_protocol.specs.After.{same_link, same_handoff, busy, releases, pushed, granted, looks, carrier_of, serves, take, cleared, held, receives, claims, loaded}
+use Rattle.lfm_protocol.specs.After.{same_link, same_handoff, busy, releases, pushed, granted, looks, carrier_of, serves, take, once_cleared, held, receives, claims, loaded}
 use Rattle.lfm_protocol.specs.Begin as Begin
 use Rattle.lfm_protocol.specs.Begin.{Stepped, goes_on, ends, refuses, charges, begin_entry, begin_unlock, begin_wait, begin_awake, begin_asleep}
 use Rattle.lfm_protocol.specs.Core.{Core}
@@ -168,7 +168,7 @@ past_take : (depth : ℕ) (carrier : Carrier) (s : ℕ) (first : Option Record) 
 past_take depth carrier s None = refl
 past_take depth carrier s (Some r) = past_serves depth carrier s r
 
-past_cleared : (depth : ℕ) (carrier : Carrier) (head : ℕ) → IsPastEffect depth (cleared carrier head)
+past_cleared : (depth : ℕ) (carrier : Carrier) (head : ℕ) → IsPastEffect depth (once_cleared carrier head)
 past_cleared depth Carrier.Locker head = refl
 past_cleared depth (Carrier.Releaser releaser) head =
     past_if depth (nat_eq head 0) (ReleaseHandoffStore releaser) (TakeLinkLoad (Carrier.Releaser releaser) head) refl refl
@@ -264,7 +264,7 @@ step_effects c g s (ReleaseHandoffExchange releaser) fits at inside =
     (past_released (seat c.seats s) None releaser Unlocked.TakenOver refl (λ n e. cc)))
 step_effects c g s (WaitWakeStore answer) fits at inside = rw (at, at) (record { leads = refl })
 step_effects c g s (TakeClearHead carrier) fits at inside =
-    rw (at, at) (past (seat c.seats s) None (cleared carrier c.push.next) refl (past_cleared _ carrier c.push.next))
+    rw (at, at) (past (seat c.seats s) None (once_cleared carrier c.push.next) refl (past_cleared _ carrier c.push.next))
 step_effects c g s (TakeLinkLoad carrier next) fits at inside =
     let found = link c.links next in
     rw (at, at) (points_if 1 None (seat c.seats s) (nat_eq found.next 0) (serves carrier s (loaded next found)) (TakeLinkLoad carrier found.next)

@@ -10,12 +10,10 @@ use lfm_core::{Act, Line, ReplayFault, Schedule, Turn, Why, read_schedule};
 use lfm_model::NewFault;
 use lfm_mutex::steps::{next, start};
 use lfm_mutex::{Mutex, Seat};
+use lfm_protocol::limits::longest_call;
 use lfm_text::{flush, read_input, write_line_feed, write_number, write_text};
 use std::alloc::Global;
 use std::io::{Read, Write};
-
-/// More steps than any call makes that runs alone, beside one for each seat.
-const LONGEST_CALL: u64 = 16;
 
 /// The seat makes up to this number of steps, and stops where its call ends or a step is refused.
 fn make_steps(mutex: &Mutex<u64>, seat: &mut Seat<u64>, most: u64) -> Turn
@@ -55,7 +53,7 @@ pub fn follow(mutex: &Mutex<u64>, seats: &mut [Seat<u64>], line: &Line) -> Turn
     if line.seat == 0 || line.seat > seat_count {
         return Turn::Refused(Why::NoSuchSeat);
     }
-    let longest = seat_count + LONGEST_CALL;
+    let longest = longest_call(seat_count);
     let at = (line.seat - 1) as usize;
     follow_seat(mutex, &mut seats[at], line.act, longest)
 }

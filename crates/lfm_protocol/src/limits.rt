@@ -1,6 +1,6 @@
-//! The limits of a mutex: how many seats it may have, how many takes each may charge, and how deep it may hold. Each
-//! number stands here and nowhere else in the code.
-ghost use Rattle.std.specs.Prelude.{◌≡◌};
+//! The limits of a mutex: how many seats it may have, how many takes each may charge, how deep it may hold, and how many
+//! steps a call may need. Each number stands here and nowhere else in the code.
+ghost use Rattle.std.specs.Prelude.{◌≡◌, ◌+◌, ◌<◌, ◌^◌};
 ghost use Rattle.lfm_protocol.specs.Limits.{are_in_limits};
 
 /// The most seats of a mutex.
@@ -28,4 +28,13 @@ impl Limits {
     {
         1 <= self.seats && self.seats <= MAX_SEATS && 1 <= self.budget && self.budget <= MAX_BUDGET
     }
+}
+
+/// A number of steps that no call among so many seats exceeds while no other seat makes a step: 16 more than there are
+/// seats.
+pub fn longest_call(seats: u64) -> u64
+    requires { seats + 16 < 2 ^ 64 }
+    ensures { result ≡ seats + 16 }
+{
+    seats + 16
 }

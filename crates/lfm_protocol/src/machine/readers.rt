@@ -10,6 +10,7 @@ ghost use Rattle.lfm_protocol.specs.Seats.{seat};
 ghost use Rattle.lfm_words.specs.Popped.{pair_of};
 
 use crate::chains::Chain;
+use crate::limits;
 use crate::machine::Machine;
 use crate::points::Point;
 use crate::seats::SeatState;
@@ -51,7 +52,7 @@ impl Machine {
     pub fn longest_call(&self) -> u64
         ensures { result ≡ longest_call self.now }
     {
-        self.seats() + 16
+        limits::longest_call(self.seats())
     }
 }
 

@@ -1,55 +1,24 @@
 //! What the program does with its arguments: it wants none. Its messages and statuses are those of `lfm replay`.
 use lfm_core::{ReplayFault, report};
 use lfm_explanation::explain;
-use std::alloc::Global;
-use std::io::{BufWriter, ErrorKind, Input};
+use lfm_text::{CommandLine, read_command_line, standard_output, tell_usage};
+use std::io::Input;
 use std::rt::Env;
-use std::{env, io};
-
-/// The status of a command line that asks for nothing the program does.
-const USAGE: u8 = 2;
-
-/// What the command line asks for.
-enum Request {
-    /// The explanation of a schedule.
-    Explain,
-    /// Something else.
-    Other,
-    /// Nothing can be said: the arguments themselves found no memory.
-    Unread,
-}
 
 /// Does what the command line asks for, and gives the exit status. Messages go to standard error.
 pub fn run<R: Env + AllocGlobal + Input + Print + Eprint>(rt: &R) -> u8 {
-    let outcome = match requested(rt) {
-        Request::Explain => explain_streams(rt),
-        Request::Unread => Err(ReplayFault::Memory),
-        Request::Other => {
-            let _ = rt.eprintln("usage: lfm_explain");
-            return USAGE;
-        }
+    let outcome = match read_command_line(rt) {
+        CommandLine::Empty => explain_streams(rt),
+        CommandLine::Unread => Err(ReplayFault::Memory),
+        CommandLine::Word(_) | CommandLine::Other => return tell_usage(rt, "usage: lfm_explain"),
     };
     report(rt, "lfm_explain", &outcome)
 }
 
 /// Explains standard input on standard output.
 fn explain_streams<R: AllocGlobal + Input + Print>(rt: &R) -> Result<bool, ReplayFault> {
-    let alloc: Global = rt.alloc();
-    let Ok(mut writer) = BufWriter::new(alloc, io::writer(rt)) else {
+    let Ok(mut writer) = standard_output(rt) else {
         return Err(ReplayFault::Memory);
     };
-    explain(alloc, &mut rt.reader(), &mut writer)
-}
-
-fn requested<R: Env + AllocGlobal>(rt: &R) -> Request {
-    let mut words = match env::args(rt) {
-        Ok(words) => words,
-        Err(error) if error.kind() == ErrorKind::OutOfMemory => return Request::Unread,
-        Err(_) => return Request::Other,
-    };
-    let _name = words.next();
-    match words.next() {
-        None => Request::Explain,
-        Some(_) => Request::Other,
-    }
+    explain(rt.alloc(), &mut rt.reader(), &mut writer)
 }

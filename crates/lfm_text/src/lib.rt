@@ -1,9 +1,10 @@
-//! Texts of lines and words: how they are read from a reader, cut into lines and words, read as numbers, and written; and
-//! what is said of a text that has a fault.
+//! Texts of lines and words: how they are read from a reader, cut into lines and words, read as numbers, and written; what is
+//! said of a text that has a fault; and the command line and standard output of a program that reads and writes such texts.
 //!
 //! Nothing here knows what a line means: schedules and scripts stand in the crates above.
 #![tactic(auto)]
 
+mod command_line;
 mod fault_lines;
 pub mod faults;
 mod input;
@@ -13,6 +14,7 @@ mod output;
 pub mod parsing;
 pub mod text_laws;
 
+pub use command_line::{CommandLine, read_command_line, standard_output, tell_usage};
 pub use fault_lines::{write_limit_line, write_syntax_line};
 pub use faults::{InputFault, WriteFault};
 pub use input::read_input;

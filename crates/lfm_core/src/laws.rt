@@ -29,7 +29,10 @@ pub use calls::{
     releases_answer_what_they_did, served_records_are_told, takes_change_by_charges,
     takes_count_charges, waits_answer_their_release,
 };
-pub use effects::calls_take_effect_once;
+pub use effects::{
+    calls_take_effect_once, changes_are_of_open_calls, effects_are_of_calls,
+    effects_are_the_callers,
+};
 pub use handoffs::{
     calls_grant_once, calls_post_once, failed_pushes_see_change, handoffs_are_watched,
     quiescent_states_rest, sleepers_are_reachable, takes_find_a_record, won_posts_have_a_record,

@@ -14,3 +14,5 @@ pub mod RecursiveCalls
 pub mod ReceivesTold
 pub mod EffectSteps
 pub mod EffectsOnce
+pub mod EffectTargets
+pub mod EffectsOwned

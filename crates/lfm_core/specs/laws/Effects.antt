@@ -1,11 +1,14 @@
 -- The effect of a call: the one event of its seat by which it acts on the abstract mutex. It is the linearization point of the
 -- call. What the abstract mutex does with a seat that asks, and with a mutex that is released, comes after it, by whichever call
 -- carries the responsibility.
-use Rattle.std.specs.Prelude.{◌≡◌, ℕ, ◌+◌, ◌≤◌, ◌++◌, Option, Some, None, List, [], ◌∷◌, nat_eq, if◌then◌else◌}
-use Rattle.lfm_model.specs.AbstractRuns.{Case, ask, accept, take_up, release}
+use Rattle.std.specs.Prelude.{◌≡◌, ◌⊎◌, ℕ, true, ◌+◌, ◌<◌, ◌≤◌, ◌++◌, Option, Some, None, List, [], ◌∷◌, nat_eq, if◌then◌else◌}
+use Rattle.lfm_model.specs.Abstract.{AbstractMutex, AbstractStep}
+use Rattle.lfm_model.specs.Abstract as Abstract
+use Rattle.lfm_model.specs.AbstractRuns.{Case, ask, accept, take_up, release, case_of}
 use Rattle.lfm_protocol.specs.declared.answers.Answer.{Answer}
 use Rattle.lfm_protocol.specs.declared.answers.Answer.TheVariants.{Got}
 use Rattle.lfm_protocol.specs.declared.answers.Call.{Call}
+use Rattle.lfm_protocol.specs.declared.answers.Call.TheVariants.{Lock, TryLock, Unlock, StartWait, SendLock, Receive}
 use Rattle.lfm_protocol.specs.declared.answers.Turn.{Turn}
 use Rattle.lfm_protocol.specs.declared.answers.Turn.TheVariants.{Open, Ended, Refused}
 use Rattle.lfm_protocol.specs.Core.{Core}
@@ -13,8 +16,10 @@ use Rattle.lfm_protocol.specs.Seats.{seat}
 use Rattle.lfm_protocol.specs.Step.{begin, step}
 use Rattle.lfm_core.specs.laws.Cases.{case_of_event}
 use Rattle.lfm_core.specs.laws.Depths.{seat_of}
+use Rattle.lfm_core.specs.laws.Events.{case_of_step}
+use Rattle.lfm_core.specs.laws.Reading.{Reads}
 use Rattle.lfm_core.specs.laws.Releases.{StaysInCall}
-use Rattle.lfm_core.specs.laws.Schedules.{Event, begins, makes, happens, run_of}
+use Rattle.lfm_core.specs.laws.Schedules.{Event, begins, makes, happens, run_of, is_call}
 use Rattle.lfm_core.specs.steady.Steady.{Steady}
 
 -- How many effects an event is
@@ -66,3 +71,63 @@ CallsTakeEffectOnce =
     × ((begin c s call).turn ≡ Open → StaysInCall (begin c s call).core s events
     → (effects_in c s (begins s call ∷ events) ≤ 1)
     × TurnsEffects (step (run_of (begin c s call).core events) s).turn (effects_in c s (begins s call ∷ (events ++ makes s ∷ []))))
+
+-- Whose effect a step of the abstract mutex is
+
+-- a call of seat s asks for seat x
+abbrev pub IsAskOf : {a b : AbstractMutex} → ℕ → ℕ → AbstractStep a b → Type 0
+IsAskOf s x (Abstract.ask_free agent y moves) = (agent ≡ s) × (y ≡ x)
+IsAskOf s x (Abstract.ask_joins y taken nothing joins) = y ≡ x
+IsAskOf s x _ = ⊥
+
+-- seat s accepts a post
+abbrev pub IsAcceptOf : {a b : AbstractMutex} → ℕ → AbstractStep a b → Type 0
+IsAcceptOf s (Abstract.accept x moves) = x ≡ s
+IsAcceptOf s _ = ⊥
+
+-- seat s takes up its grant
+abbrev pub IsTakeUpOf : {a b : AbstractMutex} → ℕ → AbstractStep a b → Type 0
+IsTakeUpOf s (Abstract.take_up x moves) = x ≡ s
+IsTakeUpOf s _ = ⊥
+
+-- seat s releases
+abbrev pub IsReleaseOf : {a b : AbstractMutex} → ℕ → AbstractStep a b → Type 0
+IsReleaseOf s (Abstract.release x moves) = x ≡ s
+IsReleaseOf s _ = ⊥
+
+-- the step is the effect of this call of seat s: it names that seat, or the target of the send
+abbrev pub IsEffectOf : {a b : AbstractMutex} → Call → ℕ → AbstractStep a b → Type 0
+IsEffectOf Lock s effect = IsAskOf s s effect
+IsEffectOf TryLock s effect = IsAskOf s s effect ⊎ IsAcceptOf s effect
+IsEffectOf Unlock s effect = IsReleaseOf s effect
+IsEffectOf StartWait s effect = IsReleaseOf s effect
+IsEffectOf (SendLock t) s effect = IsAskOf s t effect
+IsEffectOf Receive s effect = IsTakeUpOf s effect
+
+-- an event is a step of a seat whose call is open
+abbrev pub IsOfOpenCall : Core → Event → ℕ → Type 0
+IsOfOpenCall c e s = (e ≡ makes s) × (is_call (seat c.seats s).point ≡ true)
+
+-- an event is a call of this seat that ends at once
+abbrev pub IsOfEndedCall : Core → Event → ℕ → Type 0
+IsOfEndedCall c e s = (call : Call) × (answer : Answer) × (e ≡ begins s call) × ((begin c s call).turn ≡ Ended answer)
+
+-- whatever changes the abstract mutex is a step of one seat, whose call is open
+abbrev pub ChangesAreOfOpenCalls : Type 0
+ChangesAreOfOpenCalls = (c : Core) (e : Event) (case : Case) → case_of_event c e ≡ Some case → (s : ℕ) × IsOfOpenCall c e s
+
+-- each effect is of a call: of the open call of its seat, or of one that ends at once
+abbrev pub EffectsAreOfCalls : Type 0
+EffectsAreOfCalls =
+    (c : Core) (s : ℕ) (e : Event) → Steady c → 0 < effects_of c s e → IsOfOpenCall c e s ⊎ IsOfEndedCall c e s
+
+-- and where it changes the abstract mutex, the step between the readings is the effect of that call and names its seat or target
+abbrev pub EffectsAreTheCallers : Type 0
+EffectsAreTheCallers =
+    (c : Core) (s : ℕ) (call : Call) (events : List Event) (a b : AbstractMutex) → Steady c
+    → (begin c s call).turn ≡ Open → StaysInCall (begin c s call).core s events
+    → Reads (run_of (begin c s call).core events) a → Reads (step (run_of (begin c s call).core events) s).core b
+    → 0 < effects_of_case (case_of_step (run_of (begin c s call).core events) s)
+    → (effect : AbstractStep a b)
+    × (case_of_step (run_of (begin c s call).core events) s ≡ Some (case_of effect))
+    × IsEffectOf call s effect

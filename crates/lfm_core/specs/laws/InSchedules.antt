@@ -1,8 +1,8 @@
 -- The headline laws told of schedules: each speaks of every state that some schedule reaches, and of all that calls and single
 -- steps make of it. They are the laws of steady states with that premise in the place of the invariant.
 use Rattle.std.specs.Prelude.{◌≡◌, ◌⊎◌, ℕ, true, false, ◌+◌, ◌*◌, ◌<◌, ◌≤◌, ◌++◌, Some, List, [], ◌∷◌, length, slice_index_or}
-use Rattle.lfm_model.specs.Abstract.{AbstractMutex, AbstractPlace, free}
-use Rattle.lfm_model.specs.AbstractRuns.{take}
+use Rattle.lfm_model.specs.Abstract.{AbstractMutex, AbstractPlace, AbstractStep, free}
+use Rattle.lfm_model.specs.AbstractRuns.{take, case_of}
 use Rattle.lfm_model.specs.declared.answers.How.TheVariants as How
 use Rattle.lfm_model.specs.declared.answers.Locked.TheVariants as Locked
 use Rattle.lfm_model.specs.declared.refusals.Refusal.TheVariants.{Busy}
@@ -28,7 +28,7 @@ use Rattle.lfm_protocol.specs.Turns.{is_open, longest_call}
 use Rattle.lfm_core.specs.laws.BusyMoments.{WasBusy}
 use Rattle.lfm_core.specs.laws.Cases.{GoesBy, case_of_event}
 use Rattle.lfm_core.specs.laws.ClaimedSeats.{IsToCount, HasQueued}
-use Rattle.lfm_core.specs.laws.Effects.{effects_in, TurnsEffects}
+use Rattle.lfm_core.specs.laws.Effects.{effects_of_case, effects_of, effects_in, TurnsEffects, IsEffectOf, IsOfOpenCall, IsOfEndedCall}
 use Rattle.lfm_core.specs.laws.Events.{case_of_step}
 use Rattle.lfm_core.specs.laws.Grants.{grant_weight}
 use Rattle.lfm_core.specs.laws.Lawful.{IsSent, Lawful}
@@ -163,6 +163,22 @@ CallsTakeEffectOnceInSchedules =
     × ((begin c s call).turn ≡ Open → StaysInCall (begin c s call).core s events
     → (effects_in c s (begins s call ∷ events) ≤ 1)
     × TurnsEffects (step (run_of (begin c s call).core events) s).turn (effects_in c s (begins s call ∷ (events ++ makes s ∷ []))))
+
+-- each effect is of the open call of its seat, or of a call that ends at once
+abbrev pub EffectsAreOfCallsInSchedules : Type 0
+EffectsAreOfCallsInSchedules =
+    (c : Core) (s : ℕ) (e : Event) → IsReached c → 0 < effects_of c s e → IsOfOpenCall c e s ⊎ IsOfEndedCall c e s
+
+-- and where it changes the abstract mutex, the step between the readings is the effect of that call and names its seat or target
+abbrev pub EffectsAreTheCallersInSchedules : Type 0
+EffectsAreTheCallersInSchedules =
+    (c : Core) (s : ℕ) (call : Call) (events : List Event) (a b : AbstractMutex) → IsReached c
+    → (begin c s call).turn ≡ Open → StaysInCall (begin c s call).core s events
+    → Reads (run_of (begin c s call).core events) a → Reads (step (run_of (begin c s call).core events) s).core b
+    → 0 < effects_of_case (case_of_step (run_of (begin c s call).core events) s)
+    → (effect : AbstractStep a b)
+    × (case_of_step (run_of (begin c s call).core events) s ≡ Some (case_of effect))
+    × IsEffectOf call s effect
 
 -- Bounds
 

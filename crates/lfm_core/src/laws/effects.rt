@@ -1,7 +1,7 @@
 //! Linearization points: each call has one event of its own seat by which it acts on the abstract mutex. These laws hold of every
 //! steady state, so of every state that a schedule reaches and of every `State`.
-ghost use Rattle.lfm_core.specs.laws.Effects.{CallsTakeEffectOnce};
-ghost use Rattle.lfm_core.specs.laws.InSchedules.{CallsTakeEffectOnceInSchedules};
+ghost use Rattle.lfm_core.specs.laws.Effects.{CallsTakeEffectOnce, ChangesAreOfOpenCalls, EffectsAreOfCalls, EffectsAreTheCallers};
+ghost use Rattle.lfm_core.specs.laws.InSchedules.{CallsTakeEffectOnceInSchedules, EffectsAreOfCallsInSchedules, EffectsAreTheCallersInSchedules};
 
 /// A call has one effect between its begin and its end, whatever the others do in between: its seat or the target of its send
 /// asks, its seat accepts a post, takes up its grant or releases, or holds once more or once less. A call that is refused has
@@ -12,4 +12,31 @@ ghost use Rattle.lfm_core.specs.laws.InSchedules.{CallsTakeEffectOnceInSchedules
 pub fn calls_take_effect_once()
     ensures steady { CallsTakeEffectOnce }
     ensures schedules { CallsTakeEffectOnceInSchedules }
+{}
+
+/// Whatever changes the abstract mutex, so who owns it, asks for it or is queued, is a step of a seat whose call is open.
+///
+/// Definition: `ChangesAreOfOpenCalls` in `specs/laws/Effects.antt`. Proof: `proofs/lawful/calls/EffectsOwned.antt`.
+pub fn changes_are_of_open_calls()
+    ensures { ChangesAreOfOpenCalls }
+{}
+
+/// Each effect of a seat is a step of its open call, or the begin of a call that ends at once.
+///
+/// Definitions: `EffectsAreOfCalls` in `specs/laws/Effects.antt`, and `EffectsAreOfCallsInSchedules` in
+/// `specs/laws/InSchedules.antt`. Proofs: `proofs/lawful/calls/EffectsOwned.antt` and `proofs/lawful/runs/InSchedules.antt`.
+pub fn effects_are_of_calls()
+    ensures steady { EffectsAreOfCalls }
+    ensures schedules { EffectsAreOfCallsInSchedules }
+{}
+
+/// The effect of an open call on the abstract mutex is of its kind and names its seat: a `lock` or `try_lock` asks for its seat,
+/// or a `try_lock` accepts a post for it, an `unlock` or `start_wait` releases it, a `receive` takes up its grant. A `send_lock`
+/// asks for its target.
+///
+/// Definitions: `EffectsAreTheCallers` in `specs/laws/Effects.antt`, and `EffectsAreTheCallersInSchedules` in
+/// `specs/laws/InSchedules.antt`. Proofs: `proofs/lawful/calls/EffectsOwned.antt` and `proofs/lawful/runs/InSchedules.antt`.
+pub fn effects_are_the_callers()
+    ensures steady { EffectsAreTheCallers }
+    ensures schedules { EffectsAreTheCallersInSchedules }
 {}

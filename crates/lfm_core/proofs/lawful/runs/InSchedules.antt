@@ -21,6 +21,8 @@ use Rattle.lfm_core.specs.laws.InSchedules.{
   CallsPostOnceInSchedules,
   CallsGrantOnceInSchedules,
   CallsTakeEffectOnceInSchedules,
+  EffectsAreOfCallsInSchedules,
+  EffectsAreTheCallersInSchedules,
   UnlocksAreBoundedInSchedules,
   StartWaitsAreBoundedInSchedules,
   TriesAndReceivesAreBoundedInSchedules,
@@ -51,6 +53,7 @@ use Rattle.lfm_core.proofs.lawful.bounds.TriesAlone.{tries_alone_hold}
 use Rattle.lfm_core.proofs.lawful.calls.ClaimedSeats.{claimed_seats_are_queued}
 use Rattle.lfm_core.proofs.lawful.refusals.BusyMoments.{busy_was_busy}
 use Rattle.lfm_core.proofs.lawful.calls.EffectsOnce.{calls_take_effect_once}
+use Rattle.lfm_core.proofs.lawful.calls.EffectsOwned.{effects_are_of_calls, effects_are_the_callers}
 use Rattle.lfm_core.proofs.lawful.runs.AbstractBridge.{events_are_their_cases}
 use Rattle.lfm_core.proofs.lawful.runs.PushOrder.{queue_is_in_push_order, stamps_are_consecutive}
 use Rattle.lfm_core.proofs.lawful.states.CountLaws.{places_are_read, count_is_zero_where_free}
@@ -132,6 +135,12 @@ calls_grant_once_in_schedules c s events is = calls_grant_once c s events (state
 
 pub calls_take_effect_once_in_schedules : CallsTakeEffectOnceInSchedules
 calls_take_effect_once_in_schedules c s call events is = calls_take_effect_once c s call events (states_are_steady c is)
+
+pub effects_are_of_calls_in_schedules : EffectsAreOfCallsInSchedules
+effects_are_of_calls_in_schedules c s e is = effects_are_of_calls c s e (states_are_steady c is)
+
+pub effects_are_the_callers_in_schedules : EffectsAreTheCallersInSchedules
+effects_are_the_callers_in_schedules c s call events a b is = effects_are_the_callers c s call events a b (states_are_steady c is)
 
 -- Bounds
 

@@ -31,7 +31,7 @@ pub use calls::{
 };
 pub use effects::{
     calls_take_effect_once, changes_are_of_open_calls, effects_are_of_calls,
-    effects_are_the_callers,
+    effects_are_the_callers, open_calls_have_begun,
 };
 pub use handoffs::{
     calls_grant_once, calls_post_once, failed_pushes_see_change, handoffs_are_watched,

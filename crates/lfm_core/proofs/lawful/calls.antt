@@ -16,3 +16,4 @@ pub mod EffectSteps
 pub mod EffectsOnce
 pub mod EffectTargets
 pub mod EffectsOwned
+pub mod OpenCalls

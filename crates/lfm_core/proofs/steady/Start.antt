@@ -11,7 +11,7 @@ use Rattle.lfm_protocol.specs.Step.{start}
 use Rattle.lfm_core.proofs.steady.frames.Sums.{sum_none}
 
 -- entries that are all d read as d, at every number
-same_entry : {A : Type 0} (d : A) (n s : ℕ) → entry d (replicate n d) s ≡ d
+pub same_entry : {A : Type 0} (d : A) (n s : ℕ) → entry d (replicate n d) s ≡ d
 unfolding entry
 same_entry d n zero = refl
 same_entry d zero (suc s) = refl

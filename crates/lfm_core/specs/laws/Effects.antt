@@ -11,6 +11,7 @@ use Rattle.lfm_protocol.specs.declared.answers.Call.{Call}
 use Rattle.lfm_protocol.specs.declared.answers.Call.TheVariants.{Lock, TryLock, Unlock, StartWait, SendLock, Receive}
 use Rattle.lfm_protocol.specs.declared.answers.Turn.{Turn}
 use Rattle.lfm_protocol.specs.declared.answers.Turn.TheVariants.{Open, Ended, Refused}
+use Rattle.lfm_protocol.specs.declared.limits.Limits.{Limits}
 use Rattle.lfm_protocol.specs.Core.{Core}
 use Rattle.lfm_protocol.specs.Seats.{seat}
 use Rattle.lfm_protocol.specs.Step.{begin, step}
@@ -19,7 +20,7 @@ use Rattle.lfm_core.specs.laws.Depths.{seat_of}
 use Rattle.lfm_core.specs.laws.Events.{case_of_step}
 use Rattle.lfm_core.specs.laws.Reading.{Reads}
 use Rattle.lfm_core.specs.laws.Releases.{StaysInCall}
-use Rattle.lfm_core.specs.laws.Schedules.{Event, begins, makes, happens, run_of, is_call}
+use Rattle.lfm_core.specs.laws.Schedules.{Event, begins, makes, happens, run_of, reached, is_call}
 use Rattle.lfm_core.specs.steady.Steady.{Steady}
 
 -- How many effects an event is
@@ -131,3 +132,21 @@ EffectsAreTheCallers =
     → (effect : AbstractStep a b)
     × (case_of_step (run_of (begin c s call).core events) s ≡ Some (case_of effect))
     × IsEffectOf call s effect
+
+-- The begin of an open call
+
+-- one of these events is the begin of a call of seat s that has been open since
+-- earlier, since: the events before and after the begin
+pub record HasBegun (c : Core) (s : ℕ) (events : List Event) : Type 0 where
+  pub call : Call
+  pub earlier : List Event
+  pub since : List Event
+  pub all : events ≡ earlier ++ begins s call ∷ since
+  pub opens : (begin (run_of c earlier) s call).turn ≡ Open
+  pub stays : StaysInCall (begin (run_of c earlier) s call).core s since
+
+-- whoever is in a call after a schedule has begun it in that schedule, so its effects are counted from its begin
+abbrev pub OpenCallsHaveBegun : Type 0
+OpenCallsHaveBegun =
+    (limits : Limits) (events : List Event) (s : ℕ) → is_call (seat (reached limits events).seats s).point ≡ true
+    → HasBegun (reached limits []) s events

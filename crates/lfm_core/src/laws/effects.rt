@@ -1,6 +1,6 @@
 //! Linearization points: each call has one event of its own seat by which it acts on the abstract mutex. These laws hold of every
 //! steady state, so of every state that a schedule reaches and of every `State`.
-ghost use Rattle.lfm_core.specs.laws.Effects.{CallsTakeEffectOnce, ChangesAreOfOpenCalls, EffectsAreOfCalls, EffectsAreTheCallers};
+ghost use Rattle.lfm_core.specs.laws.Effects.{CallsTakeEffectOnce, ChangesAreOfOpenCalls, EffectsAreOfCalls, EffectsAreTheCallers, OpenCallsHaveBegun};
 ghost use Rattle.lfm_core.specs.laws.InSchedules.{CallsTakeEffectOnceInSchedules, EffectsAreOfCallsInSchedules, EffectsAreTheCallersInSchedules};
 
 /// A call has one effect between its begin and its end, whatever the others do in between: its seat or the target of its send
@@ -39,4 +39,12 @@ pub fn effects_are_of_calls()
 pub fn effects_are_the_callers()
     ensures steady { EffectsAreTheCallers }
     ensures schedules { EffectsAreTheCallersInSchedules }
+{}
+
+/// A seat that is in a call after a schedule has begun it in that schedule, and the call has been open since. So the laws above,
+/// which tell a call from its begin on, are about every open call.
+///
+/// Definition: `OpenCallsHaveBegun` in `specs/laws/Effects.antt`. Proof: `proofs/lawful/calls/OpenCalls.antt`.
+pub fn open_calls_have_begun()
+    ensures { OpenCallsHaveBegun }
 {}

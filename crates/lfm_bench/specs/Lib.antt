@@ -1,1 +1,2 @@
 pub mod Broadcasts
+pub mod Medians

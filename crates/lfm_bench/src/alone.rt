@@ -4,9 +4,9 @@ ghost use Rattle.lfm_mutex.specs.Belongs.{OfMutex};
 ghost use mathlib.Core.Option.{some};
 ghost use lib.ListN.{get_elem?};
 
+use crate::measure::{Mode, Plan, Row, Steps, bare_table, print_head};
 use crate::peers::ours::{BUDGET, User, last_user, no_seat};
 use crate::workloads::{hits, misses, pairs, recursive};
-use lfm_measure::{Mode, Plan, Row, Steps, bare_table, print_head};
 use lfm_mutex::{Mutex, Seat};
 use std::alloc::{AllocError, Global};
 use std::io;

@@ -1,8 +1,8 @@
 //! The measurements of condition variables.
 
+use crate::measure::{Figures, Mode, Plan, nanoseconds_text, ratio_text, verdict};
 use crate::workloads::broadcast::Load;
 use crate::workloads::{broadcast, ping_pong};
-use lfm_measure::{Figures, Mode, Plan, nanoseconds_text, ratio_text, verdict};
 use std::alloc::Global;
 use std::io;
 use std::sync::Wait;

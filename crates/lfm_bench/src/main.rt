@@ -6,11 +6,12 @@
 
 mod alone;
 mod conditions;
+mod measure;
 mod peers;
 mod together;
 mod workloads;
 
-use lfm_measure::Plan;
+use crate::measure::Plan;
 use std::io;
 
 fn main(rt: HostRuntime) -> io::Result<()> {

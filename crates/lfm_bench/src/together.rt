@@ -1,9 +1,9 @@
 //! The measurements of several threads.
 
-use crate::workloads::contended::{Load, ours, standard};
-use lfm_measure::{
+use crate::measure::{
     Contest, Figures, Mode, Pace, Plan, Series, nanoseconds_text, ratio_text, times_text, verdict,
 };
+use crate::workloads::contended::{Load, ours, standard};
 use std::alloc::{AllocError, Global};
 use std::io;
 use std::sync::Wait;

@@ -5,10 +5,10 @@
 ghost use Rattle.std.specs.Prelude.{◌≡◌, ◌*◌, ◌%◌, ◌^◌, Some, IfSome, true};
 ghost use Rattle.lfm_bench.specs.Broadcasts.{made, ended};
 
+use crate::measure::Sample;
+use crate::measure::wall_clock::{now, since};
 use crate::peers::ours::no_seat;
 use crate::peers::participants::{Participant, Places, Shared, Side};
-use lfm_measure::Sample;
-use lfm_measure::wall_clock::{now, since};
 use std::alloc::AllocError;
 use std::sync::atomic::{AtomicU64, Ordering};
 use std::sync::{Condvar, Mutex, Wait};

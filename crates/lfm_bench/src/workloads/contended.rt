@@ -5,9 +5,9 @@ ghost use Rattle.lfm_mutex.specs.Belongs.{OfMutex};
 ghost use mathlib.Core.Option.{some};
 ghost use lib.ListN.{get_elem?};
 
+use crate::measure::wall_clock::{now, since};
+use crate::measure::{Busy, Contest, Gate, Turns};
 use crate::peers::ours::{BUDGET, User, last_user, no_seat};
-use lfm_measure::wall_clock::{now, since};
-use lfm_measure::{Busy, Contest, Gate, Turns};
 use lfm_mutex::{Mutex, Seat};
 use std::alloc::AllocError;
 use std::io;

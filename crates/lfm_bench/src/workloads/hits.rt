@@ -1,7 +1,7 @@
 //! One thread gains a mutex that nobody else uses by try_lock, and unlocks it.
 
+use crate::measure::{Sample, Steps, Stopwatch};
 use crate::peers::ours::User;
-use lfm_measure::{Sample, Steps, Stopwatch};
 use std::io;
 use std::sync::Mutex;
 use std::time::CpuClock;

@@ -1,7 +1,7 @@
 //! One thread locks and unlocks a mutex that nobody else uses.
 
+use crate::measure::{Sample, Steps, Stopwatch};
 use crate::peers::ours::User;
-use lfm_measure::{Sample, Steps, Stopwatch};
 use std::io;
 use std::sync::{Mutex, Wait};
 use std::time::CpuClock;

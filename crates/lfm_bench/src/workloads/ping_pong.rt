@@ -2,10 +2,10 @@
 //! other has had its turn, adds 1 to the number under the mutex, wakes the other, and unlocks.
 ghost use Rattle.std.specs.Prelude.{◌≡◌, ◌*◌, ◌%◌, ◌^◌, Some, true};
 
+use crate::measure::wall_clock::{now, since};
+use crate::measure::{Gate, Sample};
 use crate::peers::ours::no_seat;
 use crate::peers::participants::{Participant, Places, Shared, Side};
-use lfm_measure::wall_clock::{now, since};
-use lfm_measure::{Gate, Sample};
 use std::io;
 use std::sync::{Condvar, Mutex, Wait};
 use std::thread::{Threads, join};
@@ -13,14 +13,14 @@ use std::time::Clock;
 
 /// What one thread did.
 #[derive(Clone, Copy)]
-struct Turns {
+struct TurnsTaken {
     made: u64,
     nanoseconds: u64,
 }
 
 /// What two threads did that were each to take so many turns, where the number was 0 before and this after them. A call is
 /// a turn of each. It is exact where each took its turns, and the number is how many there were.
-fn sample(first: Turns, second: Turns, turns: u64, number: Option<u64>) -> Sample
+fn sample(first: TurnsTaken, second: TurnsTaken, turns: u64, number: Option<u64>) -> Sample
     ensures made { result.exact ≡ true → (first.made ≡ turns) × (second.made ≡ turns) }
     ensures number { result.exact ≡ true → number ≡ Some (turns * 2 % 2 ^ 64) }
 {
@@ -70,7 +70,7 @@ fn our_pair<R: Threads + Sync + Wait + Clock>(
     turns: u64,
     first: Participant,
     second: Participant,
-) -> (Turns, Turns) {
+) -> (TurnsTaken, TurnsTaken) {
     let gate = Gate::new(2);
     let start = &gate;
     join(
@@ -87,7 +87,7 @@ fn our_turns<R: Wait + Clock>(
     turns: u64,
     first: u64,
     mut participant: Participant,
-) -> Turns {
+) -> TurnsTaken {
     let mut made = 0u64;
     gate.pass();
     let start = now(rt);
@@ -100,7 +100,7 @@ fn our_turns<R: Wait + Clock>(
         participant.wake_one(rt);
         participant.unlock();
     }
-    Turns {
+    TurnsTaken {
         made,
         nanoseconds: since(rt, start),
     }
@@ -118,7 +118,7 @@ fn standard_pair<R: Threads + Sync + Wait + Clock>(
     rt: &R,
     turns: u64,
     mutex: &Mutex<u64>,
-) -> (Turns, Turns) {
+) -> (TurnsTaken, TurnsTaken) {
     let gate = Gate::new(2);
     let conditions = (Condvar::new(), Condvar::new());
     let start = &gate;
@@ -139,7 +139,7 @@ fn standard_turns<R: Wait + Clock>(
     mutex: &Mutex<u64>,
     own: &Condvar,
     other: &Condvar,
-) -> Turns {
+) -> TurnsTaken {
     let mut made = 0u64;
     gate.pass();
     let start = now(rt);
@@ -151,7 +151,7 @@ fn standard_turns<R: Wait + Clock>(
         other.notify_one();
         drop(number);
     }
-    Turns {
+    TurnsTaken {
         made,
         nanoseconds: since(rt, start),
     }

@@ -1,7 +1,7 @@
 //! One thread that holds a mutex locks and unlocks it once more. std's mutex has no such call.
 
+use crate::measure::{Sample, Steps, Stopwatch};
 use crate::peers::ours::User;
-use lfm_measure::{Sample, Steps, Stopwatch};
 use std::io;
 use std::sync::Wait;
 use std::time::CpuClock;

@@ -1,0 +1,5 @@
+use Rattle.std.proofs.Common.{rules}
+use Rattle.lfm_bench.proofs.measure.figures.Figures.add.Goals as goal
+
+pub returns : goal.returns
+returns c = search rules

@@ -1,0 +1,153 @@
+//! What is measured: samples, and the medians of their figures.
+ghost use Rattle.std.specs.Prelude.{◌≡◌, ◌*◌, ◌/◌, ◌<◌, ◌^◌, ◌++◌, ◌∷◌, ◌&&◌, ◌==◌, [], vec_len, true};
+ghost use Rattle.std.specs.Prelude.{IfSome, IfNone, IfOk, OnOk};
+ghost use Rattle.lfm_bench.specs.Medians.{IsMedian};
+
+use std::alloc::{AllocError, Global};
+use std::io;
+use std::time::{CpuClock, Duration};
+
+/// One round of a measurement.
+#[derive(Clone, Copy)]
+pub struct Sample {
+    /// How much time the calls took together.
+    pub nanoseconds: u64,
+    /// How many calls there were.
+    pub calls: u64,
+    /// Whether each call did what it was to do.
+    pub exact: bool,
+}
+
+impl Sample {
+    /// The same sample, exact only where this holds as well.
+    pub fn provided(self, holds: bool) -> Sample
+        ensures { result ≡ record self { exact = self.exact && holds } }
+    {
+        Sample {
+            exact: self.exact && holds,
+            ..self
+        }
+    }
+
+    /// What one call took on average, in picoseconds.
+    pub fn cost(&self) -> u64 {
+        per(self.nanoseconds.saturating_mul(1_000), self.calls)
+    }
+}
+
+/// Measures how much processor time this thread uses, so that the time in which other programs run is not counted.
+#[derive(Clone, Copy)]
+pub struct Stopwatch {
+    start: Duration,
+}
+
+impl Stopwatch {
+    /// Starts now.
+    pub fn start<R: CpuClock>(rt: &R) -> io::Result<Stopwatch> {
+        let start = rt.thread_cpu_time()?;
+        Ok(Stopwatch { start })
+    }
+
+    /// The sample that ends now: `calls` calls were to be made, and `done` of them did what they were to do.
+    pub fn stop<R: CpuClock>(self, rt: &R, calls: u64, done: u64) -> io::Result<Sample>
+        ensures calls { IfOk result (λ s. s.calls ≡ calls) }
+        ensures exact { IfOk result (λ s. s.exact ≡ (done == calls)) }
+    {
+        let spent = rt.thread_cpu_time()?.saturating_sub(self.start);
+        let nanoseconds = u64::try_from(spent.as_nanos()).unwrap_or(u64::MAX);
+        Ok(Sample {
+            nanoseconds,
+            calls,
+            exact: done == calls,
+        })
+    }
+}
+
+/// How much of a total each part has, rounded down. 0 where there are no parts.
+pub fn per(total: u64, parts: u64) -> u64
+    ensures share { 0 < parts → result ≡ total / parts }
+    ensures none { parts ≡ 0 → result ≡ 0 }
+{
+    if parts == 0 { 0 } else { total / parts }
+}
+
+/// How many hundredths of the base this amount is, rounded down. 0 where the base is 0.
+pub fn hundredths(amount: u64, base: u64) -> u64
+    ensures ratio { 0 < base → amount * 100 < 2 ^ 64 → result ≡ amount * 100 / base }
+    ensures none { base ≡ 0 → result ≡ 0 }
+{
+    per(amount.saturating_mul(100), base)
+}
+
+/// One figure of each round.
+#[derive(Drop)]
+pub struct Series {
+    values: Vec<u64>,
+}
+
+impl Series {
+    /// A series without a figure.
+    pub fn new(alloc: Global) -> Series
+        ensures { result.values.items ≡ [] }
+    {
+        Series {
+            values: Vec::new(alloc),
+        }
+    }
+
+    /// Adds the figure of a round.
+    pub fn add(&mut self, value: u64) -> Result<(), AllocError>
+        ensures { OnOk result (self.new.values.items ≡ self.old.values.items ++ value ∷ []) }
+    {
+        self.values.push(value)?;
+        Ok(())
+    }
+
+    /// The figure in the middle of all, the upper of two where their number is even. None where there is none.
+    pub fn median(&mut self) -> Option<u64>
+        ensures middle { IfSome result (λ m. IsMedian m self.old.values.items) }
+        ensures none { IfNone result (vec_len self.old.values ≡ 0) }
+    {
+        self.values.sort_unstable();
+        self.values.get(self.values.len() / 2).copied()
+    }
+}
+
+/// The figures of one of those who are measured by a workload.
+#[derive(Drop)]
+pub struct Figures {
+    costs: Series,
+    exact: bool,
+}
+
+impl Figures {
+    /// Figures of no round.
+    pub fn new(alloc: Global) -> Figures
+        ensures { result.exact ≡ true }
+    {
+        Figures {
+            costs: Series::new(alloc),
+            exact: true,
+        }
+    }
+
+    /// Adds the figures of a round.
+    pub fn add(&mut self, sample: Sample) -> Result<(), AllocError>
+        ensures { self.new.exact ≡ (self.old.exact && sample.exact) }
+    {
+        self.exact = self.exact && sample.exact;
+        self.costs.add(sample.cost())
+    }
+
+    /// Whether each call of each round did what it was to do.
+    pub fn is_exact(&self) -> bool
+        ensures { result ≡ self.now.exact }
+    {
+        self.exact
+    }
+
+    /// The median of what a call took on average in a round, in picoseconds. None where there was no round.
+    pub fn cost(&mut self) -> Option<u64> {
+        self.costs.median()
+    }
+}

@@ -1,5 +1,0 @@
-use Rattle.std.proofs.Common.{rules}
-use Rattle.lfm_measure.proofs.contests.Contest.of.Goals as goal
-
-pub returns : goal.returns
-returns c = search rules

@@ -1,5 +1,0 @@
-use Rattle.std.proofs.Common.{rules}
-use Rattle.lfm_measure.proofs.figures.hundredths.Goals as goal
-
-pub returns-clause-ratio : goal.returns-clause-ratio
-returns-clause-ratio c = search rules

@@ -39,7 +39,7 @@ use Rattle.lfm_core.specs.laws.Schedules.{is_call}
 use Rattle.lfm_core.specs.steady.Ghost.{Ghost}
 use Rattle.lfm_core.specs.steady.Steady.{Fits}
 use Rattle.lfm_core.proofs.lawful.bounds.Leaving.{stepped, seat_of_call}
-use Rattle.lfm_core.proofs.lawful.calls.RecursiveCalls.{owns}
+use Rattle.lfm_core.proofs.lawful.calls.RecursiveCalls.{owner_of_claim}
 use Rattle.lfm_core.proofs.steady.frames.Quiet.{owner_of-held}
 
 -- The effects of a call until now
@@ -201,7 +201,7 @@ loads_owner c g s fits at =
           rw (at, at, ne_eqb c.owner s other, eq-eqb (seat c.seats s).depth 0 none) (record { leads = refl })
       | inr some ↦
           let claims = rw (at, ne_eqb (seat c.seats s).depth 0 some) at (fits.each s).claims in
-          let own = owns c g s true fits claims in
+          let own = owner_of_claim c g s true fits claims in
           rw (at, at, eq-eqb c.owner s own, ne_eqb (seat c.seats s).depth 0 some) (record { leads = refl })
     ]
 

@@ -73,8 +73,9 @@ ended c s (e ∷ later) outside = rw outside refl
 counted : (c : Core) (g : Ghost) (s : ℕ) (again : Bool) → Fits c g → owned s again ≡ held_by g.place s → c.count ≢ 0
 counted c g s again fits claims none = let f : owned s again ≡ nobody = rw (nobody_of_none c g fits none) at claims in cc
 
-pub owns : (c : Core) (g : Ghost) (s : ℕ) (again : Bool) → Fits c g → owned s again ≡ held_by g.place s → c.owner ≡ s
-owns c g s again fits claims = let place = place_of_claim g.place (owned s again) s (λ e. cc) claims in fits.words.owner ∙ rw place refl
+-- and the owner word is its number
+pub owner_of_claim : (c : Core) (g : Ghost) (s : ℕ) (again : Bool) → Fits c g → owned s again ≡ held_by g.place s → c.owner ≡ s
+owner_of_claim c g s again fits claims = let place = place_of_claim g.place (owned s again) s (λ e. cc) claims in fits.words.owner ∙ rw place refl
 
 -- a view whose point is this
 abbrev at_point : SeatState → Point → SeatState
@@ -95,7 +96,7 @@ loads s x held d later steady view ends =
     let deep : (seat d.seats s).depth ≢ 0 = λ e. held (sym (ap (λ y. y.depth) view) ∙ e) in
     let is = seat_of_call d s (rw at refl) in
     let claims = rw (at, ne_eqb (seat d.seats s).depth 0 deep) at (fits.each s).claims in
-    let own = owns d steady.ghost_state s true fits claims in
+    let own = owner_of_claim d steady.ghost_state s true fits claims in
     let after : seat (step d s).core.seats s ≡ at_point (seat d.seats s) LockCountSubtract =
     own_after d s is ∙ rw (at, at, eq-eqb d.owner s own) refl in
     steps_of s (at_point x LockCountSubtract) [] refl (subtracts s x) (step d s).core later (run_keeps d (makes s ∷ []) steady)
@@ -123,7 +124,7 @@ tries_again s x held d later steady view ends =
     let deep : (seat d.seats s).depth ≢ 0 = λ e. held (sym (ap (λ y. y.depth) view) ∙ e) in
     let is = seat_of_call d s (rw at refl) in
     let claims = rw (at, ne_eqb (seat d.seats s).depth 0 deep) at (fits.each s).claims in
-    let own = owns d steady.ghost_state s false fits claims in
+    let own = owner_of_claim d steady.ghost_state s false fits claims in
     ended (step d s).core s later (ap (λ y. is_call y.point) (own_after d s is) ∙ rw (at, at, eq-eqb d.owner s own) refl)
 
 tries : (s : ℕ) (x : SeatState) → x.depth ≢ 0 → LeadsTo s (at_point x TryCountExchange) (Some OwnerLoad ∷ [])

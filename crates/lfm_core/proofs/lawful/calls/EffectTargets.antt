@@ -18,7 +18,7 @@ use Rattle.lfm_words.specs.declared.handoffs.Handoff.{Handoff}
 use Rattle.lfm_words.specs.declared.pop_lists.Record.{Record}
 use Rattle.lfm_words.specs.declared.wakes.Wake.{Wake}
 use Rattle.lfm_words.specs.Popped.{oldest}
-use Rattle.lfm_protocol.specs.After.{same_link, same_handoff, pushed, loaded, looks, carrier_of, serves, take, cleared, claims}
+use Rattle.lfm_protocol.specs.After.{same_link, same_handoff, pushed, loaded, looks, carrier_of, serves, take, once_cleared, claims}
 use Rattle.lfm_protocol.specs.Begin as Begin
 use Rattle.lfm_protocol.specs.Core.{Core, limits}
 use Rattle.lfm_protocol.specs.Seats.{seat, link, wake, is_seat}
@@ -66,7 +66,7 @@ no_target_take : (carrier : Carrier) (s : ℕ) (first : Option Record) → HasNo
 no_target_take carrier s None = refl
 no_target_take carrier s (Some r) = no_target_serves carrier s r
 
-no_target_cleared : (carrier : Carrier) (head : ℕ) → HasNoTarget (cleared carrier head)
+no_target_cleared : (carrier : Carrier) (head : ℕ) → HasNoTarget (once_cleared carrier head)
 no_target_cleared Carrier.Locker head = refl
 no_target_cleared (Carrier.Releaser releaser) head = of_points HasNoTarget (nat_eq head 0) _ _ refl refl
 no_target_cleared (Carrier.Reclaimer releaser) head = refl

@@ -1,0 +1,20 @@
+//! The program `lfm_states`: it finds every state that a mutex of two seats can reach, and measures in all of them what the laws
+//! of `lfm_core` bound.
+//!
+//! It shows what no proof says: that the bounds are reached. It is run by `scripts/search_states`.
+#![tactic(auto)]
+
+mod arguments;
+mod codes;
+mod commands;
+mod events;
+mod graph;
+mod points;
+mod readings;
+mod search;
+
+use std::process::ExitCode;
+
+fn main(rt: HostRuntime) -> ExitCode {
+    ExitCode::from(commands::run(&rt))
+}

@@ -1,0 +1,124 @@
+//! What a state of two seats holds, as plain data that can be kept and compared: all words, all data of the seats, and the queue.
+//! The links, the points and the queue determine the pop list, so two states with the same reading are the same.
+ghost use Rattle.std.specs.Prelude.{◌≡◌};
+ghost use Rattle.lfm_core.specs.laws.Grants.{grant_weight};
+ghost use Rattle.lfm_core.specs.laws.Schedules.{is_call};
+ghost use Rattle.lfm_protocol.specs.Seats.{seat, link, wake};
+
+use crate::points::{PointCode, grants_at, is_open};
+use lfm_core::State;
+use lfm_words::{Handoff, Link, Wake};
+
+/// What belongs to one seat.
+#[derive(Clone, Copy, Debug, PartialEq, Eq)]
+pub struct SeatReading {
+    /// Where it stands.
+    pub point: PointCode,
+    /// Whether a call of it is open.
+    pub in_call: bool,
+    /// How many grants its next step stores.
+    pub grants: u64,
+    /// How often it holds.
+    pub depth: u64,
+    /// How many takes it has charged.
+    pub takes: u64,
+    /// How many handoffs it has posted.
+    pub posts: u64,
+    /// Its link word.
+    pub link: Link,
+    /// Its wake word.
+    pub wake: Wake,
+}
+
+impl SeatReading {
+    /// What belongs to seat s of this state.
+    pub fn of(state: &State, s: u64) -> SeatReading
+        ensures in_call { result.in_call ≡ is_call (seat state.now.seats s).point }
+        ensures grants { result.grants ≡ grant_weight (seat state.now.seats s).point }
+        ensures depth { result.depth ≡ (seat state.now.seats s).depth }
+        ensures takes { result.takes ≡ (seat state.now.seats s).takes }
+        ensures posts { result.posts ≡ (seat state.now.seats s).posts }
+        ensures link { result.link ≡ link state.now.links s }
+        ensures wake { result.wake ≡ wake state.now.wakes s }
+    {
+        SeatReading {
+            point: PointCode::of(&state.point(s)),
+            in_call: is_open(state.point(s)),
+            grants: grants_at(state.point(s)),
+            depth: state.depth(s),
+            takes: state.takes(s),
+            posts: state.posts(s),
+            link: state.link_word(s),
+            wake: state.wake_word(s),
+        }
+    }
+}
+
+/// A queued record; its seat is 0 where there is none.
+#[derive(Clone, Copy, Debug, PartialEq, Eq)]
+pub struct Queued {
+    /// The seat that waits.
+    pub seat: u64,
+    /// The stamp of its push.
+    pub stamp: u64,
+}
+
+/// What a whole state holds.
+#[derive(Clone, Copy, Debug, PartialEq, Eq)]
+pub struct Reading {
+    /// The count word.
+    pub count: u64,
+    /// The owner word.
+    pub owner: u64,
+    /// The handoff word.
+    pub handoff: Handoff,
+    /// The push word.
+    pub push: Link,
+    /// The oldest record of the queue.
+    pub oldest: Queued,
+    /// The record after it.
+    pub second: Queued,
+    /// What belongs to seat 1.
+    pub seat_1: SeatReading,
+    /// What belongs to seat 2.
+    pub seat_2: SeatReading,
+}
+
+impl Reading {
+    /// What this state holds.
+    pub fn of(state: &State) -> Reading
+        ensures count { result.count ≡ state.now.count }
+        ensures owner { result.owner ≡ state.now.owner }
+        ensures handoff { result.handoff ≡ state.now.handoff }
+        ensures push { result.push ≡ state.now.push }
+    {
+        Reading {
+            count: state.count(),
+            owner: state.owner(),
+            handoff: state.handoff(),
+            push: state.push_word(),
+            oldest: Queued::at(state, 0),
+            second: Queued::at(state, 1),
+            seat_1: SeatReading::of(state, 1),
+            seat_2: SeatReading::of(state, 2),
+        }
+    }
+
+    /// What belongs to a seat: seat 1, or else seat 2.
+    pub fn seat(&self, s: u64) -> SeatReading {
+        if s == 1 { self.seat_1 } else { self.seat_2 }
+    }
+}
+
+impl Queued {
+    /// The queued record number i, of which 0 is the oldest.
+    fn at(state: &State, i: u64) -> Queued {
+        match state.queued(i) {
+            Some((seat, stamp)) => Queued {
+                seat: seat.get(),
+                stamp,
+            },
+            None => Queued { seat: 0, stamp: 0 },
+        }
+    }
+}

@@ -1,1 +1,4 @@
 pub mod Happening
+pub mod Measures
+pub mod Counts
+pub mod Rows

@@ -7,7 +7,7 @@ use std::rt::Env;
 /// What the command line asks for.
 #[derive(Clone, Copy)]
 pub enum Request {
-    /// A search at this budget.
+    /// A search at this budget, which is 2 or 3.
     Search(u64),
     /// Something else.
     Other,
@@ -27,7 +27,7 @@ pub fn requested<R: Env + AllocGlobal>(rt: &R) -> Request {
         return Request::Other;
     };
     match read_number(budget.as_bytes()) {
-        Some(budget) if 1 <= budget && budget <= 4 => Request::Search(budget),
+        Some(budget) if 2 <= budget && budget <= 3 => Request::Search(budget),
         _ => Request::Other,
     }
 }

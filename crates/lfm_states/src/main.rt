@@ -7,10 +7,14 @@
 mod arguments;
 mod codes;
 mod commands;
+mod comparing;
+mod counts;
 mod events;
 mod graph;
+mod measures;
 mod points;
 mod readings;
+mod rows;
 mod search;
 
 use std::process::ExitCode;

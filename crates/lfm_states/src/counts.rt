@@ -1,0 +1,139 @@
+//! The greatest counts of a measure with which each node is reached. A greater count at a node leads to nothing smaller than a
+//! smaller one does, so the greatest alone is kept. Counts are kept apart by how often the other seat has changed the push word.
+ghost use Rattle.std.specs.Prelude.{◌≡◌};
+ghost use Rattle.lfm_states.specs.Counts.{is_below};
+
+use crate::graph::{Edge, Graph};
+use crate::measures::{Effect, Measure};
+use std::alloc::{AllocError, Global};
+
+/// Counts are kept for 0, 1 and 2 changes of the push word by the other seat.
+pub const CHANGES: usize = 3;
+
+/// The counts do not settle where so many passes over all edges do not do it.
+const MOST_PASSES: u64 = 1_000;
+
+/// The counts of all nodes, and the greatest of all.
+#[derive(Drop)]
+pub struct Counts {
+    /// For each node and each number of changes the greatest count. None where no count is open with so many changes.
+    at: Vec<Option<u64>>,
+    /// For each number of changes the greatest count.
+    greatest: Vec<u64>,
+    /// Whether this pass has raised a count.
+    raised: bool,
+}
+
+/// Whether a count is above what is kept.
+fn is_below(kept: Option<u64>, count: u64) -> bool
+    ensures { result ≡ is_below kept count }
+{
+    match kept {
+        Some(kept) => kept < count,
+        None => true,
+    }
+}
+
+/// Where the count of a node is kept.
+fn place(node: usize, changes: usize) -> usize {
+    node.wrapping_mul(CHANGES).wrapping_add(changes)
+}
+
+impl Counts {
+    /// No count is open at any of so many nodes.
+    fn new(alloc: Global, nodes: usize) -> Result<Counts, AllocError> {
+        Ok(Counts {
+            at: vec![in alloc; None; nodes.wrapping_mul(CHANGES)]?,
+            greatest: vec![in alloc; 0; CHANGES]?,
+            raised: false,
+        })
+    }
+
+    /// The count that is kept.
+    fn kept(&self, node: usize, changes: usize) -> Option<u64> {
+        match self.at.get(place(node, changes)) {
+            Some(kept) => *kept,
+            None => None,
+        }
+    }
+
+    /// Keeps this count among the greatest of all, if it is greater.
+    fn note(&mut self, changes: usize, count: u64) {
+        if let Some(greatest) = self.greatest.get_mut(changes) {
+            if *greatest < count {
+                *greatest = count;
+            }
+        }
+    }
+
+    /// Keeps this count at a node, if it is greater.
+    fn raise(&mut self, node: usize, changes: usize, count: u64) {
+        if changes >= CHANGES {
+            return;
+        }
+        if let Some(kept) = self.at.get_mut(place(node, changes)) {
+            if is_below(*kept, count) {
+                *kept = Some(count);
+                self.raised = true;
+            }
+        }
+        self.note(changes, count);
+    }
+
+    /// Carries the count before an edge over to the node after it.
+    fn relax(&mut self, edge: &Edge, changes: usize, effect: Effect) {
+        if let Effect::Starts = effect {
+            self.raise(edge.to, 0, 0);
+            return;
+        }
+        let Some(count) = self.kept(edge.from, changes) else {
+            return;
+        };
+        match effect {
+            Effect::Starts | Effect::Stops => {}
+            Effect::Stays => self.raise(edge.to, changes, count),
+            Effect::Changes => self.raise(edge.to, changes.wrapping_add(1), count),
+            Effect::Grows(by) => self.raise(edge.to, changes, count.saturating_add(by)),
+            Effect::Ends(by) => self.note(changes, count.saturating_add(by)),
+        }
+    }
+
+    /// Carries all counts over all edges, once.
+    fn pass(&mut self, graph: &Graph, measure: Measure, seat: u64) {
+        for edge in &graph.edges {
+            let (before, after) = (graph.nodes.get(edge.from), graph.nodes.get(edge.to));
+            if let (Some(before), Some(after)) = (before, after) {
+                let effect = measure.effect(seat, edge.event, before, after);
+                for changes in 0..CHANGES {
+                    self.relax(edge, changes, effect);
+                }
+            }
+        }
+    }
+}
+
+/// The greatest counts of a measure in all runs, for calls of this seat, by the number of changes. None where they do not settle.
+/// It takes memory.
+pub fn greatest(
+    alloc: Global,
+    graph: &Graph,
+    measure: Measure,
+    seat: u64,
+) -> Result<Option<Vec<u64>>, AllocError> {
+    let mut counts = Counts::new(alloc, graph.nodes.len())?;
+    if measure == Measure::StepsWithoutEnd {
+        // a run may begin at any node
+        for node in 0..graph.nodes.len() {
+            counts.raise(node, 0, 0);
+        }
+    }
+    'passes: for _ in 0..MOST_PASSES {
+        counts.raised = false;
+        counts.pass(graph, measure, seat);
+        if !counts.raised {
+            let Counts { greatest, .. } = counts;
+            return Ok(Some(greatest));
+        }
+    }
+    Ok(None)
+}

@@ -1,0 +1,125 @@
+//! What is measured: how often something happens in one call, or between two ends of calls, and what an event does to such a count.
+ghost use Rattle.std.specs.Prelude.{◌≡◌};
+ghost use Rattle.lfm_core.specs.laws.Progress.{changed_push};
+ghost use Rattle.lfm_states.specs.Measures.{counts_call, weight_of};
+
+use crate::events::Event;
+use crate::readings::Reading;
+use lfm_core::Call;
+use lfm_words::Link;
+
+/// What is counted, and over which part of a run.
+#[derive(Clone, Copy, Debug, PartialEq, Eq)]
+pub enum Measure {
+    /// The steps of a call that is no `try_lock` and no `receive`, beside some changes of the push word by the other seat.
+    StepsOfCall,
+    /// The steps of a `try_lock`.
+    StepsOfTry,
+    /// The steps of a `receive`.
+    StepsOfReceive,
+    /// How often a call changes the push word.
+    PushChanges,
+    /// How many grants a call stores.
+    Grants,
+    /// The steps of all calls from one end of a call to the next.
+    StepsWithoutEnd,
+}
+
+/// What an event does to a count.
+#[derive(Clone, Copy, Debug, PartialEq, Eq)]
+pub enum Effect {
+    /// It begins at 0.
+    Starts,
+    /// It stays.
+    Stays,
+    /// It stays, and the other seat has changed the push word once more.
+    Changes,
+    /// It grows by this number.
+    Grows(u64),
+    /// It grows by this number, and is complete.
+    Ends(u64),
+    /// It is complete as it was.
+    Stops,
+}
+
+/// How often the push word has changed: 1, or 0 where it is the same.
+fn changed_push(before: Link, after: Link) -> u64
+    ensures { result ≡ changed_push before after }
+{
+    if after == before { 0 } else { 1 }
+}
+
+impl Measure {
+    /// Whether such a call is counted.
+    fn counts_call(self, call: Call) -> bool
+        ensures { result ≡ counts_call self call }
+    {
+        match self {
+            Measure::StepsOfCall => !matches!(call, Call::TryLock | Call::Receive),
+            Measure::StepsOfTry => matches!(call, Call::TryLock),
+            Measure::StepsOfReceive => matches!(call, Call::Receive),
+            Measure::PushChanges | Measure::Grants | Measure::StepsWithoutEnd => true,
+        }
+    }
+
+    /// How much a step of the call counts that changes the push word so often and stores so many grants.
+    fn weight_of(self, changes: u64, grants: u64) -> u64
+        ensures { result ≡ weight_of self changes grants }
+    {
+        match self {
+            Measure::PushChanges => changes,
+            Measure::Grants => grants,
+            Measure::StepsOfCall
+            | Measure::StepsOfTry
+            | Measure::StepsOfReceive
+            | Measure::StepsWithoutEnd => 1,
+        }
+    }
+
+    /// What an event does to the count of the steps of all calls.
+    fn effect_on_all(self, event: Event, after: &Reading) -> Effect {
+        match event {
+            Event::Begin(_, _) => Effect::Stays,
+            Event::Step(s) if after.seat(s).in_call => Effect::Grows(1),
+            Event::Step(_) => Effect::Stops,
+        }
+    }
+
+    /// What an event does to the count of a call of this seat.
+    fn effect_on_call(self, seat: u64, event: Event, before: &Reading, after: &Reading) -> Effect {
+        let changes = changed_push(before.push, after.push);
+        match event {
+            Event::Begin(s, _) if s != seat => Effect::Stays,
+            Event::Begin(_, call) => {
+                if self.counts_call(call) && after.seat(seat).in_call {
+                    Effect::Starts
+                } else {
+                    Effect::Stops
+                }
+            }
+            Event::Step(s) if s == seat => {
+                let weight = self.weight_of(changes, before.seat(seat).grants);
+                if after.seat(seat).in_call {
+                    Effect::Grows(weight)
+                } else {
+                    Effect::Ends(weight)
+                }
+            }
+            Event::Step(_) => {
+                if self == Measure::StepsOfCall && changes == 1 {
+                    Effect::Changes
+                } else {
+                    Effect::Stays
+                }
+            }
+        }
+    }
+
+    /// What an event between these two nodes does to the count, which is that of a call of this seat unless it is of all calls.
+    pub fn effect(self, seat: u64, event: Event, before: &Reading, after: &Reading) -> Effect {
+        match self {
+            Measure::StepsWithoutEnd => self.effect_on_all(event, after),
+            _ => self.effect_on_call(seat, event, before, after),
+        }
+    }
+}

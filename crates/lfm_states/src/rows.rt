@@ -1,0 +1,106 @@
+//! What is compared: for each measure the greatest count that is known from another search, and the bound of its law at two seats.
+ghost use Rattle.std.specs.Prelude.{◌≡◌};
+ghost use Rattle.lfm_states.specs.Rows.{known_states, is_as_known};
+
+use crate::measures::Measure;
+
+/// A greatest count, what is known of it, and the law that bounds it.
+#[derive(Clone, Copy, Debug, PartialEq, Eq)]
+pub struct Row {
+    /// What it is called.
+    pub name: &'static str,
+    /// What is measured.
+    pub measure: Measure,
+    /// Beside how many changes of the push word by the other seat.
+    pub changes: usize,
+    /// The known greatest count. A budget of 2 takes is enough to reach it.
+    pub known: u64,
+    /// The bound of the law.
+    pub bound: u64,
+    /// The law's name in `lfm_core::laws`.
+    pub law: &'static str,
+}
+
+impl Row {
+    /// Whether a greatest count is the known one, and within the bound.
+    pub fn is_as_known(&self, greatest: u64) -> bool
+        ensures { result ≡ is_as_known self.now greatest }
+    {
+        greatest == self.known && greatest <= self.bound
+    }
+}
+
+/// How many states are known to be reachable at this budget, which is 2 or 3.
+pub fn known_states(budget: u64) -> usize
+    ensures { result ≡ known_states budget }
+{
+    if budget == 2 { 31_046 } else { 335_684 }
+}
+
+/// All rows, those of one measure after one another.
+pub const ROWS: [Row; 8] = [
+    Row {
+        name: "steps of a call beside no change of the push word",
+        measure: Measure::StepsOfCall,
+        changes: 0,
+        known: 11,
+        bound: 11,
+        law: "calls_end_beside_others",
+    },
+    Row {
+        name: "steps of a call beside 1 change of the push word",
+        measure: Measure::StepsOfCall,
+        changes: 1,
+        known: 13,
+        bound: 13,
+        law: "calls_end_beside_others",
+    },
+    Row {
+        name: "steps of a call beside 2 changes of the push word",
+        measure: Measure::StepsOfCall,
+        changes: 2,
+        known: 15,
+        bound: 15,
+        law: "calls_end_beside_others",
+    },
+    Row {
+        name: "steps of a try_lock",
+        measure: Measure::StepsOfTry,
+        changes: 0,
+        known: 6,
+        bound: 6,
+        law: "tries_and_receives_are_bounded",
+    },
+    Row {
+        name: "steps of a receive",
+        measure: Measure::StepsOfReceive,
+        changes: 0,
+        known: 3,
+        bound: 3,
+        law: "tries_and_receives_are_bounded",
+    },
+    Row {
+        name: "changes of the push word by a call",
+        measure: Measure::PushChanges,
+        changes: 0,
+        known: 2,
+        bound: 2,
+        law: "calls_change_the_push_word_twice",
+    },
+    Row {
+        name: "grants by a call",
+        measure: Measure::Grants,
+        changes: 0,
+        known: 1,
+        bound: 1,
+        law: "calls_grant_once",
+    },
+    Row {
+        name: "steps of calls without an end of one",
+        measure: Measure::StepsWithoutEnd,
+        changes: 0,
+        known: 17,
+        bound: 30,
+        law: "some_call_ends",
+    },
+];

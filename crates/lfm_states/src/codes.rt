@@ -1,5 +1,5 @@
 //! The hash code of a reading. Different readings may have the same code.
-use crate::points::PointCode;
+use crate::points::PointNumbers;
 use crate::readings::{Queued, Reading, SeatReading};
 use lfm_words::{Handoff, Link, Wake};
 
@@ -12,18 +12,22 @@ fn mixed(code: u64, number: u64) -> u64 {
     product ^ (product >> 29)
 }
 
+/// The code with a link in it.
 fn with_link(code: u64, link: Link) -> u64 {
     mixed(mixed(code, link.stamp), link.next)
 }
 
+/// The code with a handoff in it.
 fn with_handoff(code: u64, handoff: Handoff) -> u64 {
     mixed(mixed(code, handoff.post), handoff.seat)
 }
 
+/// The code with a queued record in it.
 fn with_record(code: u64, record: Queued) -> u64 {
     mixed(mixed(code, record.stamp), record.seat)
 }
 
+/// The code with a wake state in it.
 fn with_wake(code: u64, wake: Wake) -> u64 {
     match wake {
         Wake::Quiet => mixed(code, 0),
@@ -33,11 +37,13 @@ fn with_wake(code: u64, wake: Wake) -> u64 {
     }
 }
 
-fn with_point(code: u64, point: PointCode) -> u64 {
+/// The code with the numbers of a point in it.
+fn with_point(code: u64, point: PointNumbers) -> u64 {
     let code = mixed(mixed(code, point.variant), point.by);
     mixed(mixed(code, point.first), point.second)
 }
 
+/// The code with what belongs to a seat in it.
 fn with_seat(code: u64, seat: SeatReading) -> u64 {
     let code = mixed(mixed(mixed(code, seat.depth), seat.takes), seat.posts);
     let code = with_wake(with_link(code, seat.link), seat.wake);

@@ -3,7 +3,6 @@ ghost use Rattle.std.specs.Prelude.{◌≡◌, ◌<◌, true, false};
 
 use crate::counts::greatest;
 use crate::graph::Graph;
-use crate::measures::Measure;
 use crate::rows::{ROWS, Row, known_states};
 use crate::search::reachable;
 use std::alloc::{AllocError, Global};
@@ -56,9 +55,6 @@ pub fn compare<R: AllocGlobal + Print>(rt: &R, budget: u64) -> io::Result<Tally>
 /// The greatest count of a row, in calls of either seat. None where the counts do not settle.
 fn greatest_of_both(alloc: Global, graph: &Graph, row: &Row) -> Result<Option<u64>, AllocError> {
     let first = greatest(alloc, graph, row.measure, 1)?;
-    if row.measure == Measure::StepsWithoutEnd {
-        return Ok(count_at(&first, row.changes));
-    }
     let second = greatest(alloc, graph, row.measure, 2)?;
     match (
         count_at(&first, row.changes),

@@ -1,5 +1,6 @@
 //! The greatest counts of a measure with which each node is reached. A greater count at a node leads to nothing smaller than a
-//! smaller one does, so the greatest alone is kept. Counts are kept apart by how often the other seat has changed the push word.
+//! smaller one does, so the greatest alone is kept. Counts are kept apart by how often the other seat has
+//! changed the push word.
 ghost use Rattle.std.specs.Prelude.{◌≡◌};
 ghost use Rattle.lfm_states.specs.Counts.{is_below};
 
@@ -80,6 +81,17 @@ impl Counts {
         self.note(changes, count);
     }
 
+    /// Begins a count at each node at which a run may begin.
+    fn start(&mut self, graph: &Graph, measure: Measure) {
+        for node in 0..graph.nodes.len() {
+            if let Some(reading) = graph.nodes.get(node) {
+                if measure.starts_at(reading) {
+                    self.raise(node, 0, 0);
+                }
+            }
+        }
+    }
+
     /// Carries the count before an edge over to the node after it.
     fn relax(&mut self, edge: &Edge, changes: usize, effect: Effect) {
         if let Effect::Starts = effect {
@@ -121,12 +133,7 @@ pub fn greatest(
     seat: u64,
 ) -> Result<Option<Vec<u64>>, AllocError> {
     let mut counts = Counts::new(alloc, graph.nodes.len())?;
-    if measure == Measure::StepsWithoutEnd {
-        // a run may begin at any node
-        for node in 0..graph.nodes.len() {
-            counts.raise(node, 0, 0);
-        }
-    }
+    counts.start(graph, measure);
     'passes: for _ in 0..MOST_PASSES {
         counts.raised = false;
         counts.pass(graph, measure, seat);

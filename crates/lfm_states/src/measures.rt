@@ -1,4 +1,5 @@
-//! What is measured: how often something happens in one call, or between two ends of calls, and what an event does to such a count.
+//! What is measured: how often something happens in one call, between two ends of calls, or while a record is queued, and what an
+//! event does to such a count.
 ghost use Rattle.std.specs.Prelude.{◌≡◌};
 ghost use Rattle.lfm_core.specs.laws.Progress.{changed_push};
 ghost use Rattle.lfm_states.specs.Measures.{counts_call, weight_of};
@@ -23,6 +24,12 @@ pub enum Measure {
     Grants,
     /// The steps of all calls from one end of a call to the next.
     StepsWithoutEnd,
+    /// How often seats come to own while the record is queued that was the oldest as the run began.
+    Entries,
+    /// How often one seat does so.
+    EntriesOfSeat,
+    /// How often seats stop owning meanwhile.
+    Releases,
 }
 
 /// What an event does to a count.
@@ -58,7 +65,7 @@ impl Measure {
             Measure::StepsOfCall => !matches!(call, Call::TryLock | Call::Receive),
             Measure::StepsOfTry => matches!(call, Call::TryLock),
             Measure::StepsOfReceive => matches!(call, Call::Receive),
-            Measure::PushChanges | Measure::Grants | Measure::StepsWithoutEnd => true,
+            _ => true,
         }
     }
 
@@ -69,10 +76,7 @@ impl Measure {
         match self {
             Measure::PushChanges => changes,
             Measure::Grants => grants,
-            Measure::StepsOfCall
-            | Measure::StepsOfTry
-            | Measure::StepsOfReceive
-            | Measure::StepsWithoutEnd => 1,
+            _ => 1,
         }
     }
 
@@ -115,10 +119,48 @@ impl Measure {
         }
     }
 
+    /// How much a step of seat s counts while the oldest record is queued, in the measure of one seat only where that is its own.
+    fn weight_beside_record(self, seat: u64, s: u64, before: &Reading) -> u64 {
+        match self {
+            Measure::EntriesOfSeat if s != seat => 0,
+            Measure::Releases => before.seat(s).releases,
+            _ => before.seat(s).enters,
+        }
+    }
+
+    /// What an event does to a count that is made while the oldest record is queued.
+    fn effect_beside_record(
+        self,
+        seat: u64,
+        event: Event,
+        before: &Reading,
+        after: &Reading,
+    ) -> Effect {
+        match event {
+            Event::Begin(_, _) => Effect::Stays,
+            Event::Step(s) if before.oldest == after.oldest => {
+                Effect::Grows(self.weight_beside_record(seat, s, before))
+            }
+            Event::Step(_) => Effect::Stops,
+        }
+    }
+
+    /// Whether a run may begin at this node, with a count of 0. Elsewhere a count begins as its call does.
+    pub fn starts_at(self, node: &Reading) -> bool {
+        match self {
+            Measure::StepsWithoutEnd => true,
+            Measure::Entries | Measure::EntriesOfSeat | Measure::Releases => node.oldest.seat != 0,
+            _ => false,
+        }
+    }
+
     /// What an event between these two nodes does to the count, which is that of a call of this seat unless it is of all calls.
     pub fn effect(self, seat: u64, event: Event, before: &Reading, after: &Reading) -> Effect {
         match self {
             Measure::StepsWithoutEnd => self.effect_on_all(event, after),
+            Measure::Entries | Measure::EntriesOfSeat | Measure::Releases => {
+                self.effect_beside_record(seat, event, before, after)
+            }
             _ => self.effect_on_call(seat, event, before, after),
         }
     }

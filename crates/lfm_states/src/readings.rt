@@ -2,10 +2,12 @@
 //! The links, the points and the queue determine the pop list, so two states with the same reading are the same.
 ghost use Rattle.std.specs.Prelude.{◌≡◌};
 ghost use Rattle.lfm_core.specs.laws.Grants.{grant_weight};
+ghost use Rattle.lfm_core.specs.laws.Overtaking.{enters_at, releases_at};
 ghost use Rattle.lfm_core.specs.laws.Schedules.{is_call};
 ghost use Rattle.lfm_protocol.specs.Seats.{seat, link, wake};
 
-use crate::points::{PointCode, grants_at, is_open};
+use crate::points::PointNumbers;
+use crate::weights::{enters_at, grants_at, is_open, releases_at};
 use lfm_core::State;
 use lfm_words::{Handoff, Link, Wake};
 
@@ -13,11 +15,15 @@ use lfm_words::{Handoff, Link, Wake};
 #[derive(Clone, Copy, Debug, PartialEq, Eq)]
 pub struct SeatReading {
     /// Where it stands.
-    pub point: PointCode,
+    pub point: PointNumbers,
     /// Whether a call of it is open.
     pub in_call: bool,
     /// How many grants its next step stores.
     pub grants: u64,
+    /// How often a seat comes to own by it.
+    pub enters: u64,
+    /// How often a seat stops owning by it.
+    pub releases: u64,
     /// How often it holds.
     pub depth: u64,
     /// How many takes it has charged.
@@ -35,6 +41,8 @@ impl SeatReading {
     pub fn of(state: &State, s: u64) -> SeatReading
         ensures in_call { result.in_call ≡ is_call (seat state.now.seats s).point }
         ensures grants { result.grants ≡ grant_weight (seat state.now.seats s).point }
+        ensures enters { result.enters ≡ enters_at (seat state.now.seats s).point }
+        ensures releases { result.releases ≡ releases_at (seat state.now.seats s).point }
         ensures depth { result.depth ≡ (seat state.now.seats s).depth }
         ensures takes { result.takes ≡ (seat state.now.seats s).takes }
         ensures posts { result.posts ≡ (seat state.now.seats s).posts }
@@ -42,9 +50,11 @@ impl SeatReading {
         ensures wake { result.wake ≡ wake state.now.wakes s }
     {
         SeatReading {
-            point: PointCode::of(&state.point(s)),
+            point: PointNumbers::of(&state.point(s)),
             in_call: is_open(state.point(s)),
             grants: grants_at(state.point(s)),
+            enters: enters_at(state.point(s)),
+            releases: releases_at(state.point(s)),
             depth: state.depth(s),
             takes: state.takes(s),
             posts: state.posts(s),

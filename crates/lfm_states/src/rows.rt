@@ -38,7 +38,7 @@ pub fn known_states(budget: u64) -> usize
 }
 
 /// All rows, those of one measure after one another.
-pub const ROWS: [Row; 8] = [
+pub const ROWS: [Row; 11] = [
     Row {
         name: "steps of a call beside no change of the push word",
         measure: Measure::StepsOfCall,
@@ -102,5 +102,29 @@ pub const ROWS: [Row; 8] = [
         known: 17,
         bound: 30,
         law: "some_call_ends",
+    },
+    Row {
+        name: "entries while the oldest record is queued",
+        measure: Measure::Entries,
+        changes: 0,
+        known: 1,
+        bound: 1,
+        law: "queued_seats_are_overtaken_once",
+    },
+    Row {
+        name: "entries of one seat while the oldest record is queued",
+        measure: Measure::EntriesOfSeat,
+        changes: 0,
+        known: 1,
+        bound: 1,
+        law: "no_seat_overtakes_twice",
+    },
+    Row {
+        name: "releases while the oldest record is queued",
+        measure: Measure::Releases,
+        changes: 0,
+        known: 1,
+        bound: 1,
+        law: "queued_seats_wait_for_few_releases",
     },
 ];

@@ -2,15 +2,15 @@
 //! made again from the start, by the events that first led to it.
 use crate::events::{CALLS, Event, SEATS, is_left_out};
 use crate::graph::Graph;
-use crate::points::is_open;
 use crate::readings::Reading;
+use crate::weights::is_open;
 use lfm_core::{State, Turn};
 use std::alloc::{AllocError, Global};
 
-/// The search ends here where it finds more states than any budget has that is asked for.
+/// More states than there are at any budget that is asked for.
 const MOST_STATES: usize = 4_000_000;
 
-/// No state is farther from the start.
+/// More events than lead to any state first. With fewer the number of states would come out wrong.
 const LONGEST_PATH: usize = 1_000;
 
 /// What a search works with.

@@ -4,6 +4,7 @@ pub mod ByKind
 pub mod CoreFacts
 pub mod RuleKept
 pub mod SeatKept
+pub mod ServingSteps
 pub mod SettledKept
 pub mod Started
 pub mod StepFacts

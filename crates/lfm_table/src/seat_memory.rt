@@ -34,14 +34,32 @@ pub fn gives(point: Point) -> bool
     )
 }
 
-/// The value is out with a seat of these data.
-pub fn seat_carries(standing: &SeatState) -> bool
-    ensures { result ≡ carries_value standing.now }
+/// The value is out with a seat of these data after its step, which found this number. So a seat knows before it moves on
+/// whether to take the value out of its slot.
+pub fn carries_after(standing: &SeatState, number: u64, found: u64) -> bool
+    ensures { result ≡ carries_value (stepped_by standing.now number found None).seat }
 {
-    if standing.depth == 0 {
-        standing.point.carries()
-    } else {
-        true
+    if standing.depth != 0 {
+        return true;
+    }
+    match standing.point {
+        Point::LockCountAdd | Point::TryCountExchange | Point::SendCountAdd(_) => found == 0,
+        Point::ReleaseCountSubtract(_) => found != 1,
+        Point::ReceiveWakeLoad(_) => found > 2,
+        Point::TryOwnerLoad => found == number,
+        Point::TryHandoffExchange(_)
+        | Point::PushedHandoffExchange(_, _)
+        | Point::ReleaseHandoffExchange(_) => {
+            unpack_handoff(found) == standing.expected_handoff(number)
+        }
+        Point::ReleaseOwnerStore(_)
+        | Point::LockCountSubtract
+        | Point::TryCountAdd
+        | Point::TakeClearHead(_)
+        | Point::TakeLinkLoad(_, _)
+        | Point::EnterOwnerStore(_, _)
+        | Point::ReceiveWakeStore(_) => true,
+        _ => false,
     }
 }
 
@@ -171,22 +189,25 @@ pub fn add_loaded<T: Drop>(
     }
 }
 
-/// Takes the value out of the slot where the seat carries it and has none in hand.
+/// Takes the value out of the slot where the seat carries it after its step and has none in hand. Only a seat that has none
+/// in hand has to learn whether it carries.
 pub fn settle<T: Kept>(
     table: &SharedTable<T>,
     place: &mut Place<T>,
     moving: &mut Option<MovingBox<T>>,
-    carries: bool,
+    standing: &SeatState,
+    number: u64,
+    found: u64,
 )
     requires table { place.old.table_id ≡ table.now.table_id }
-    requires slot { is_carried moving.old ≡ false → carries ≡ true → (x : Option (Moving T)) × (place.old.me.1 ≡ (0, x) ∷ rest place.old.me.1) }
+    requires slot { is_carried moving.old ≡ false → carries_value (stepped_by standing.now number found None).seat ≡ true → (x : Option (Moving T)) × (place.old.me.1 ≡ (0, x) ∷ rest place.old.me.1) }
     ensures table { (place.new.table_id ≡ place.old.table_id) × (place.new.id ≡ place.old.id) }
-    ensures took { Took (is_carried moving.old) carries moving.old place.old.me moving.new place.new.me }
+    ensures took { Took (is_carried moving.old) (carries_value (stepped_by standing.now number found None).seat) moving.old place.old.me moving.new place.new.me }
 {
     if moving.is_some() {
         return;
     }
-    if !carries {
+    if !carries_after(standing, number, found) {
         return;
     }
     let taken = table.exchange(place, 0, None);

@@ -1,7 +1,7 @@
 //! The atomic steps of a call that is made straight on, each by itself. The seat's plain data at the step, `plain`, are for
 //! the proof alone: a caller makes them up on the spot, no step reads more of them than their point, and the data that the
 //! seat keeps are not written.
-ghost use Rattle.std.specs.Prelude.{◌≡◌, ◌≢◌, ℕ, Some, None, true, false};
+ghost use Rattle.std.specs.Prelude.{◌≡◌, ◌≢◌, ◌<◌, ◌≤◌, ℕ, Some, None, true, false};
 ghost use Rattle.lfm_protocol.specs.declared.kinds.Kind.{Kind as KindNow};
 ghost use Rattle.lfm_protocol.specs.declared.points.Point.TheVariants.{ReleaseOwnerStore};
 ghost use Rattle.lfm_protocol.specs.declared.points.Releaser.{Releaser};
@@ -14,9 +14,10 @@ ghost use Rattle.lfm_table.specs.Straight.{Fit, MadeStep};
 
 use crate::kept::Kept;
 use crate::moving_box::MovingBox;
-use crate::seat_memory::{put_out, take_out};
+use crate::seat_memory::{add_loaded, drop_oldest, put_out, take_out};
 use crate::table_steps::{
-    Place, SharedTable, add_count, exchange_count, load_handoff, load_owner, store_owner,
+    Place, SharedTable, add_count, clear_head, exchange_count, exchange_push, load_handoff,
+    load_link, load_owner, load_push, load_wake, store_link, store_owner, store_wake,
     subtract_count,
 };
 use lfm_protocol::{Limits, SeatState};
@@ -250,4 +251,182 @@ pub fn load_handoff_free<T: Kept>(
     ensures step { MadeStep T.follows T.fits number place.new.table_id.words place.new.id limits plain.now result place.old.me moving.now place.new.me moving.now }
 {
     load_handoff::<T, Brand>(table, place, plain, moving, number, limits.seats)
+}
+
+/// Loads the push word, for a seat that doesn't hold.
+#[inline(always)]
+pub fn load_push_free<T: Kept>(
+    table: &SharedTable<T>,
+    place: &mut Place<T>,
+    moving: &Option<MovingBox<T>>,
+    number: u64,
+    limits: Limits,
+    plain: &SeatState,
+) -> u64
+    requires table { place.old.table_id ≡ table.now.table_id }
+    requires fit { Fit number place.old.table_id.words place.old.id limits plain.now place.old.me moving.now }
+    requires kind { kind plain.now.point ≡ Some KindNow.PushLoad }
+    requires free { carries_value plain.now ≡ false }
+    requires idles { (n : ℕ) → carries_value (stepped_by plain.now number n None).seat ≡ false }
+    ensures table { place.new.table_id ≡ place.old.table_id }
+    ensures step { MadeStep T.follows T.fits number place.new.table_id.words place.new.id limits plain.now result place.old.me moving.now place.new.me moving.now }
+{
+    load_push::<T, Brand>(table, place, plain, moving, number, limits.seats)
+}
+
+/// Exchanges the push word, for a seat that doesn't hold.
+#[inline(always)]
+pub fn exchange_push_free<T: Kept>(
+    table: &SharedTable<T>,
+    place: &mut Place<T>,
+    moving: &Option<MovingBox<T>>,
+    number: u64,
+    limits: Limits,
+    plain: &SeatState,
+) -> u64
+    requires table { place.old.table_id ≡ table.now.table_id }
+    requires fit { Fit number place.old.table_id.words place.old.id limits plain.now place.old.me moving.now }
+    requires kind { kind plain.now.point ≡ Some KindNow.PushExchange }
+    requires free { carries_value plain.now ≡ false }
+    requires idles { (n : ℕ) → carries_value (stepped_by plain.now number n None).seat ≡ false }
+    ensures table { place.new.table_id ≡ place.old.table_id }
+    ensures step { MadeStep T.follows T.fits number place.new.table_id.words place.new.id limits plain.now result place.old.me moving.now place.new.me moving.now }
+{
+    exchange_push::<T, Brand>(table, place, plain, moving, number, limits.seats)
+}
+
+/// Stores the link, for a seat that doesn't hold.
+#[inline(always)]
+pub fn store_link_free<T: Kept>(
+    table: &SharedTable<T>,
+    place: &mut Place<T>,
+    moving: &Option<MovingBox<T>>,
+    number: u64,
+    limits: Limits,
+    plain: &SeatState,
+)
+    requires table { place.old.table_id ≡ table.now.table_id }
+    requires fit { Fit number place.old.table_id.words place.old.id limits plain.now place.old.me moving.now }
+    requires kind { kind plain.now.point ≡ Some KindNow.LinkStore }
+    requires free { carries_value plain.now ≡ false }
+    requires idles { (n : ℕ) → carries_value (stepped_by plain.now number n None).seat ≡ false }
+    ensures table { place.new.table_id ≡ place.old.table_id }
+    ensures step { (n : ℕ) × MadeStep T.follows T.fits number place.new.table_id.words place.new.id limits plain.now n place.old.me moving.now place.new.me moving.now }
+{
+    store_link::<T, Brand>(table, place, plain, moving, number, limits.seats);
+}
+
+/// Clears the head of the push word, for a seat that carries the value.
+#[inline(always)]
+pub fn clear_head_held<T: Kept>(
+    table: &SharedTable<T>,
+    place: &mut Place<T>,
+    moving: &Option<MovingBox<T>>,
+    number: u64,
+    limits: Limits,
+    plain: &SeatState,
+) -> u64
+    requires table { place.old.table_id ≡ table.now.table_id }
+    requires fit { Fit number place.old.table_id.words place.old.id limits plain.now place.old.me moving.now }
+    requires kind { kind plain.now.point ≡ Some KindNow.ClearHead }
+    requires held { carries_value plain.now ≡ true }
+    ensures table { place.new.table_id ≡ place.old.table_id }
+    ensures step { MadeStep T.follows T.fits number place.new.table_id.words place.new.id limits plain.now result place.old.me moving.now place.new.me moving.now }
+{
+    clear_head::<T, Brand>(table, place, plain, moving, number, limits.seats)
+}
+
+/// Stores the seat's own wake word, for a seat that carries the value and goes on carrying it.
+#[inline(always)]
+pub fn store_wake_held<T: Kept>(
+    table: &SharedTable<T>,
+    place: &mut Place<T>,
+    moving: &Option<MovingBox<T>>,
+    number: u64,
+    limits: Limits,
+    plain: &SeatState,
+)
+    requires table { place.old.table_id ≡ table.now.table_id }
+    requires fit { Fit number place.old.table_id.words place.old.id limits plain.now place.old.me moving.now }
+    requires kind { kind plain.now.point ≡ Some KindNow.WakeStore }
+    requires held { carries_value plain.now ≡ true }
+    requires keeps { drops_oldest plain.now ≡ false }
+    requires stays { gives_at plain.now.point ≡ false }
+    ensures table { place.new.table_id ≡ place.old.table_id }
+    ensures step { (n : ℕ) × MadeStep T.follows T.fits number place.new.table_id.words place.new.id limits plain.now n place.old.me moving.now place.new.me moving.now }
+{
+    store_wake::<T, Brand>(table, place, plain, moving, number, limits.seats);
+}
+
+/// Loads the seat's own wake word, for a seat that sleeps, which comes to carry the value just where it found a grant.
+#[inline(always)]
+pub fn load_grant<T: Kept>(
+    table: &SharedTable<T>,
+    place: &mut Place<T>,
+    moving: &mut Option<MovingBox<T>>,
+    number: u64,
+    limits: Limits,
+    plain: &SeatState,
+) -> u64
+    requires table { place.old.table_id ≡ table.now.table_id }
+    requires fit { Fit number place.old.table_id.words place.old.id limits plain.now place.old.me moving.old }
+    requires kind { kind plain.now.point ≡ Some KindNow.WakeLoad }
+    requires free { carries_value plain.now ≡ false }
+    requires gains { (n : ℕ) → 2 < n → carries_value (stepped_by plain.now number n None).seat ≡ true }
+    requires idles { (n : ℕ) → n ≤ 2 → carries_value (stepped_by plain.now number n None).seat ≡ false }
+    ensures table { place.new.table_id ≡ place.old.table_id }
+    ensures step { MadeStep T.follows T.fits number place.new.table_id.words place.new.id limits plain.now result place.old.me moving.old place.new.me moving.new }
+{
+    let found = load_wake::<T, Brand>(table, place, plain, &*moving, number, limits.seats);
+    if found <= 2 {
+        return found;
+    }
+    take_out(table, place, moving);
+    found
+}
+
+/// Loads a link of a list that was cleared, for a seat that carries the value, and adds its record to the pop list.
+#[inline(always)]
+pub fn load_link_held<T: Kept>(
+    table: &SharedTable<T>,
+    place: &mut Place<T>,
+    moving: &mut Option<MovingBox<T>>,
+    number: u64,
+    limits: Limits,
+    plain: &SeatState,
+) -> u64
+    requires table { place.old.table_id ≡ table.now.table_id }
+    requires fit { Fit number place.old.table_id.words place.old.id limits plain.now place.old.me moving.old }
+    requires kind { kind plain.now.point ≡ Some KindNow.LinkLoad }
+    requires held { carries_value plain.now ≡ true }
+    ensures table { place.new.table_id ≡ place.old.table_id }
+    ensures step { MadeStep T.follows T.fits number place.new.table_id.words place.new.id limits plain.now result place.old.me moving.old place.new.me moving.new }
+{
+    let found = load_link::<T, Brand>(table, place, plain, &*moving, number, limits.seats);
+    add_loaded(moving, plain, number, found);
+    found
+}
+
+/// Stores a grant in the wake word of the seat of the oldest record, takes that record out of the pop list, and wakes the seat,
+/// for a seat that gives the value away by it.
+#[inline(always)]
+pub fn grant_oldest<T: Kept>(
+    table: &SharedTable<T>,
+    place: &mut Place<T>,
+    moving: &mut Option<MovingBox<T>>,
+    number: u64,
+    limits: Limits,
+    plain: &SeatState,
+)
+    requires table { place.old.table_id ≡ table.now.table_id }
+    requires fit { Fit number place.old.table_id.words place.old.id limits plain.now place.old.me moving.old }
+    requires kind { kind plain.now.point ≡ Some KindNow.WakeStore }
+    requires gives { gives_at plain.now.point ≡ true }
+    requires leaves { (n : ℕ) → carries_value (stepped_by plain.now number n None).seat ≡ false }
+    ensures table { place.new.table_id ≡ place.old.table_id }
+    ensures step { (n : ℕ) × MadeStep T.follows T.fits number place.new.table_id.words place.new.id limits plain.now n place.old.me moving.old place.new.me moving.new }
+{
+    drop_oldest(moving, plain);
+    put_out(table, place, moving);
+    store_wake::<T, Brand>(table, place, plain, &None, number, limits.seats);
 }

@@ -370,21 +370,20 @@ module _ {T : Type 0} (follows : ℕ → T → T → Type 0) (suits : T → ℕ 
     })
 
   -- the whole step, from its parts
-  pub made : (n : ℕ) (a1 a2 a3 : S) (m0 m1 m2 : Mine) (t q : SeatState) (turn : Turn) → a1 ≡ kept_out (gives_at p.point) (dropped p a) → m0 ≡ (m.0, put_in (gives_at p.point) (dropped p a) m.1)
-      → Advanced follows suits p (value_in a1) m0 n m1 → a2 ≡ with_record p number n a1 → t ≡ (stepped_by p number n None).seat → Took (is_carried a2) (carries_value t) a2 m1 a3 m2
+  pub made : (n : ℕ) (a1 a2 a3 : S) (m0 m1 m2 : Mine) (q : SeatState) (turn : Turn) → a1 ≡ kept_out (gives_at p.point) (dropped p a) → m0 ≡ (m.0, put_in (gives_at p.point) (dropped p a) m.1)
+      → Advanced follows suits p (value_in a1) m0 n m1 → a2 ≡ with_record p number n a1 → Took (is_carried a2) (carries_value (stepped_by p number n None).seat) a2 m1 a3 m2
       → q ≡ (stepped_by p number n (oldest_in a3)).seat → turn ≡ (stepped_by p number n (oldest_in a3)).turn → Made turn q a3 m2
-  made n a1 a2 a3 m0 m1 m2 t q turn is_a is_m did is_a2 is_t took is_q is_turn =
+  made n a1 a2 a3 m0 m1 m2 q turn is_a is_m did is_a2 took is_q is_turn =
       made_by n m1 (subst (λ (z : S × Mine). Advanced follows suits p (value_in z.0) z.1 n m1) (λ i. (is_a i, is_m i)) did) a3 m2
-      (subst (λ (z : S × SeatState). Took (is_carried z.0) (carries_value z.1) z.0 m1 a3 m2) (λ i. ((is_a2 ∙ ap (with_record p number n) is_a) i, is_t i)) took)
+      (subst (λ (z : S). Took (is_carried z) (carries_value (stepped_by p number n None).seat) z m1 a3 m2) (is_a2 ∙ ap (with_record p number n) is_a) took)
       turn q is_q is_turn
 
   -- the same, with what the parts were told as equations
-  pub made_next : (n : ℕ) (gives carries : Bool) (a0 a1 a2 a3 : S) (m0 m1 m2 : Mine) (t q : SeatState) (turn : Turn) (oldest : Option Record) → gives ≡ gives_at p.point → a0 ≡ dropped p a
-      → a1 ≡ kept_out gives a0 → m0 ≡ (m.0, put_in gives a0 m.1) → Advanced follows suits p (value_in a1) m0 n m1 → a2 ≡ with_record p number n a1 → t ≡ (stepped_by p number n None).seat → carries ≡ carries_value t
-      → Took (is_carried a2) carries a2 m1 a3 m2 → oldest ≡ oldest_in a3 → q ≡ (stepped_by p number n oldest).seat → turn ≡ (stepped_by p number n oldest).turn → Made turn q a3 m2
-  made_next n gives carries a0 a1 a2 a3 m0 m1 m2 t q turn oldest is_gives is_a0 is_a is_m did is_a2 is_t is_c took is_o is_q is_turn =
-      made n a1 a2 a3 m0 m1 m2 t q turn (is_a ∙ (λ i. kept_out (is_gives i) (is_a0 i))) (is_m ∙ (λ i. (m.0, put_in (is_gives i) (is_a0 i) m.1))) did is_a2 is_t
-      (subst (λ (b : Bool). Took (is_carried a2) b a2 m1 a3 m2) is_c took)
+  pub made_next : (n : ℕ) (gives : Bool) (a0 a1 a2 a3 : S) (m0 m1 m2 : Mine) (q : SeatState) (turn : Turn) (oldest : Option Record) → gives ≡ gives_at p.point → a0 ≡ dropped p a
+      → a1 ≡ kept_out gives a0 → m0 ≡ (m.0, put_in gives a0 m.1) → Advanced follows suits p (value_in a1) m0 n m1 → a2 ≡ with_record p number n a1
+      → Took (is_carried a2) (carries_value (stepped_by p number n None).seat) a2 m1 a3 m2 → oldest ≡ oldest_in a3 → q ≡ (stepped_by p number n oldest).seat → turn ≡ (stepped_by p number n oldest).turn → Made turn q a3 m2
+  made_next n gives a0 a1 a2 a3 m0 m1 m2 q turn oldest is_gives is_a0 is_a is_m did is_a2 took is_o is_q is_turn =
+      made n a1 a2 a3 m0 m1 m2 q turn (is_a ∙ (λ i. kept_out (is_gives i) (is_a0 i))) (is_m ∙ (λ i. (m.0, put_in (is_gives i) (is_a0 i) m.1))) did is_a2 took
       (is_q ∙ ap (λ (o : Option Record). (stepped_by p number n o).seat) is_o) (is_turn ∙ ap (λ (o : Option Record). (stepped_by p number n o).turn) is_o)
 
   -- The slot that the value is taken out of
@@ -412,13 +411,13 @@ module _ {T : Type 0} (follows : ℕ → T → T → Type 0) (suits : T → ℕ 
         let hand_is : hand_before ≡ Some (shorter some.0) = (λ i. kept_out (keeps i) (dropped p (some.1 i))) in
         absurd (false≢true (sym none ∙ ap (λ (z : S). is_carried (with_record p number n z)) hand_is))
 
-    slot : (t : SeatState) → t ≡ (stepped_by p number n None).seat → is_carried (with_record p number n hand_before) ≡ false → carries_value t ≡ true → (x : S) × (m1.1 ≡ (0, x) ∷ rest m1.1)
-    slot t is_t none c = slot_by (carries_value p) (gives_at p.point) refl refl none (carries_unread p number n (oldest did.popped) None ∙ (ap carries_value (sym is_t) ∙ c))
+    slot : is_carried (with_record p number n hand_before) ≡ false → carries_value (stepped_by p number n None).seat ≡ true → (x : S) × (m1.1 ≡ (0, x) ∷ rest m1.1)
+    slot none c = slot_by (carries_value p) (gives_at p.point) refl refl none (carries_unread p number n (oldest did.popped) None ∙ c)
 
-  pub slot_there : (n : ℕ) (a1 a2 : S) (m0 m1 : Mine) (t : SeatState) → a1 ≡ kept_out (gives_at p.point) (dropped p a) → m0 ≡ (m.0, put_in (gives_at p.point) (dropped p a) m.1)
-      → Advanced follows suits p (value_in a1) m0 n m1 → a2 ≡ with_record p number n a1 → t ≡ (stepped_by p number n None).seat → is_carried a2 ≡ false → carries_value t ≡ true → (x : S) × (m1.1 ≡ (0, x) ∷ rest m1.1)
-  slot_there n a1 a2 m0 m1 t is_a is_m did is_a2 is_t none c =
-      slot n m1 (subst (λ (z : S × Mine). Advanced follows suits p (value_in z.0) z.1 n m1) (λ i. (is_a i, is_m i)) did) t is_t (ap is_carried (sym (is_a2 ∙ ap (with_record p number n) is_a)) ∙ none) c
+  pub slot_there : (n : ℕ) (a1 a2 : S) (m0 m1 : Mine) → a1 ≡ kept_out (gives_at p.point) (dropped p a) → m0 ≡ (m.0, put_in (gives_at p.point) (dropped p a) m.1)
+      → Advanced follows suits p (value_in a1) m0 n m1 → a2 ≡ with_record p number n a1 → is_carried a2 ≡ false → carries_value (stepped_by p number n None).seat ≡ true → (x : S) × (m1.1 ≡ (0, x) ∷ rest m1.1)
+  slot_there n a1 a2 m0 m1 is_a is_m did is_a2 none c =
+      slot n m1 (subst (λ (z : S × Mine). Advanced follows suits p (value_in z.0) z.1 n m1) (λ i. (is_a i, is_m i)) did) (ap is_carried (sym (is_a2 ∙ ap (with_record p number n) is_a)) ∙ none) c
 
 -- an event, where a call is open
 pub open_event : {T : Type 0} (follows : ℕ → T → T → Type 0) (suits : T → ℕ → Type 0) (k : Option Kind) (p p' : SeatState) (m m' : Me (Option (Moving T)) (View T)) (a a' : Option (Moving T)) (turn : Turn) → k ≢ None

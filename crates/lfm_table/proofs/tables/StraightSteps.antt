@@ -23,32 +23,29 @@ use Rattle.lfm_table.specs.Straight.{Fit, MadeStep}
 use Rattle.lfm_table.proofs.tables.SeatKept.{made, can_make, slot_there, own_slot}
 use Rattle.lfm_table.proofs.tables.StepFacts.{keeps_value}
 
--- the kinds of step that are made straight on
+-- the kinds of step that are made straight on: none of them adds a record to the pop list
 abbrev pub is_straight : Kind → Bool
-is_straight Kind.CountAdd = true
-is_straight Kind.CountExchange = true
-is_straight Kind.OwnerLoad = true
-is_straight Kind.OwnerStore = true
-is_straight Kind.CountSubtract = true
-is_straight Kind.HandoffLoad = true
-is_straight _ = false
+is_straight Kind.LinkLoad = false
+is_straight _ = true
+
+-- of these, the kinds that neither give the value away nor take a record out of the pop list, but for the store of the owner and
+-- the subtraction from the count
+abbrev pub is_plain : Kind → Bool
+is_plain Kind.WakeStore = false
+is_plain Kind.HandoffStore = false
+is_plain _ = true
 
 same_if : {T : Type 0} (b : Bool) (x : Moving T) → b ≡ false → ◌≡◌ {A = Option (Moving T)} (Some x) (Some (record x { popped = record x.popped { records = popped_if b x.popped.records } }))
 same_if true x e = absurd (false≢true (sym e))
 same_if false x e = refl
 
-drops_same : {T : Type 0} (p : SeatState) (a : Option (Moving T)) → drops_oldest p ≡ false → a ≡ dropped p a
+pub drops_same : {T : Type 0} (p : SeatState) (a : Option (Moving T)) → drops_oldest p ≡ false → a ≡ dropped p a
 drops_same p None e = refl
 drops_same p (Some x) e = same_if (drops_oldest p) x e
 
 adds_by : (k : Kind) (t n : ℕ) (l : List Record) → is_straight k ≡ true → l ≡ add_by (Some k) t n l
-adds_by Kind.CountAdd t n l e = refl
-adds_by Kind.CountExchange t n l e = refl
-adds_by Kind.OwnerLoad t n l e = refl
-adds_by Kind.OwnerStore t n l e = refl
-adds_by Kind.CountSubtract t n l e = refl
-adds_by Kind.HandoffLoad t n l e = refl
-adds_by _ t n l e = absurd (cc)
+adds_by Kind.LinkLoad t n l e = absurd (false≢true e)
+adds_by _ t n l e = refl
 
 adds_same : {T : Type 0} (p : SeatState) (s n : ℕ) (a : Option (Moving T)) (k : Kind) → kind p.point ≡ Some k → is_straight k ≡ true → a ≡ with_record p s n a
 adds_same p s n None k is straight = refl
@@ -56,16 +53,16 @@ adds_same p s n (Some x) k is straight =
     ap (λ (l : List Record). Some (record x { popped = record x.popped { records = l } })) (adds_by k (target p.point s) n x.popped.records straight ∙ ap (λ (j : Option Kind). add_by j (target p.point s) n x.popped.records) (sym is))
 
 -- which of them drop a record, and which give
-pub drops_by : (q : Point) (k : Kind) → kind q ≡ Some k → is_straight k ≡ true → k ≢ Kind.OwnerStore → drops_oldest_at q ≡ false
-drops_by (GrantWakeStore carrier oldest) k is straight other = let e : Kind.WakeStore ≡ k = cc in absurd (false≢true (ap is_straight e ∙ straight))
+pub drops_by : (q : Point) (k : Kind) → kind q ≡ Some k → is_plain k ≡ true → k ≢ Kind.OwnerStore → drops_oldest_at q ≡ false
+drops_by (GrantWakeStore carrier oldest) k is straight other = let e : Kind.WakeStore ≡ k = cc in absurd (false≢true (ap is_plain e ∙ straight))
 drops_by (EnterOwnerStore entrant how) k is straight other = let e : Kind.OwnerStore ≡ k = cc in absurd (other (sym e))
 drops_by _ k is straight other = refl
 
-pub gives_by : (q : Point) (k : Kind) → kind q ≡ Some k → is_straight k ≡ true → k ≢ Kind.CountSubtract → gives_at q ≡ false
+pub gives_by : (q : Point) (k : Kind) → kind q ≡ Some k → is_plain k ≡ true → k ≢ Kind.CountSubtract → gives_at q ≡ false
 gives_by (ReleaseCountSubtract releaser) k is straight other = let e : Kind.CountSubtract ≡ k = cc in absurd (other (sym e))
-gives_by (ReleaseHandoffStore releaser) k is straight other = let e : Kind.HandoffStore ≡ k = cc in absurd (false≢true (ap is_straight e ∙ straight))
-gives_by (GrantWakeStore carrier oldest) k is straight other = let e : Kind.WakeStore ≡ k = cc in absurd (false≢true (ap is_straight e ∙ straight))
-gives_by (SendWakeStore t) k is straight other = let e : Kind.WakeStore ≡ k = cc in absurd (false≢true (ap is_straight e ∙ straight))
+gives_by (ReleaseHandoffStore releaser) k is straight other = let e : Kind.HandoffStore ≡ k = cc in absurd (false≢true (ap is_plain e ∙ straight))
+gives_by (GrantWakeStore carrier oldest) k is straight other = let e : Kind.WakeStore ≡ k = cc in absurd (false≢true (ap is_plain e ∙ straight))
+gives_by (SendWakeStore t) k is straight other = let e : Kind.WakeStore ≡ k = cc in absurd (false≢true (ap is_plain e ∙ straight))
 gives_by _ k is straight other = refl
 
 pub leaves_by : (q : Point) (k : Kind) (r : Releaser) → kind q ≡ Some k → k ≢ Kind.OwnerStore → q ≢ ReleaseOwnerStore r
@@ -73,7 +70,7 @@ leaves_by q k r is other at = let e : Some Kind.OwnerStore ≡ Some k = sym (ap 
 
 -- The slot, by whether the value is in hand before the step and whether the seat carries it afterwards
 
-took_none : {T : Type 0} (b c : Bool) (a : Option (Moving T)) (m : Me (Option (Moving T)) (View T)) → b ≡ c → Took b c a m a m
+pub took_none : {T : Type 0} (b c : Bool) (a : Option (Moving T)) (m : Me (Option (Moving T)) (View T)) → b ≡ c → Took b c a m a m
 took_none true c a m e = (refl, refl)
 took_none false false a m e = (refl, refl)
 took_none false true a m e = absurd (false≢true e)
@@ -101,13 +98,13 @@ module _ {T : Type 0} (follows : ℕ → T → T → Type 0) (suits : T → ℕ 
 
     module _ (n : ℕ) (m1 : Now) (did : Advanced follows suits p (value_in a1) m0 n m1) where
       slot_now : is_carried a1 ≡ false → carries_value (stepped_by p number n None).seat ≡ true → (x : Option (Moving T)) × (m1.1 ≡ (0, x) ∷ rest m1.1)
-      slot_now none c = slot_there follows suits number words id l p m a fit.seated fit.became fit.ready fit.rooted n a1 a1 m0 m1 (stepped_by p number n None).seat out put did (adds_same p number n a1 k is straight) refl none c
+      slot_now none c = slot_there follows suits number words id l p m a fit.seated fit.became fit.ready fit.rooted n a1 a1 m0 m1 out put did (adds_same p number n a1 k is straight) none c
 
       module _ (words' id' : ℕ) (same_words : words' ≡ words) (same_id : id' ≡ id) where
         made_now : (a3 : Option (Moving T)) (m2 : Now) → Took (is_carried a1) (carries_value (stepped_by p number n None).seat) a1 m1 a3 m2 → MadeStep follows suits number words' id' l p n m a m2 a3
         made_now a3 m2 took =
             let q = stepped_by p number n (oldest_in a3) in
-            let t = made follows suits number words id l p m a fit.seated fit.became fit.ready fit.rooted n a1 a1 a3 m0 m1 m2 (stepped_by p number n None).seat q.seat q.turn out put did (adds_same p number n a1 k is straight) refl took refl refl in
+            let t = made follows suits number words id l p m a fit.seated fit.became fit.ready fit.rooted n a1 a1 a3 m0 m1 m2 q.seat q.turn out put did (adds_same p number n a1 k is straight) took refl refl in
             record {
               fit = record {
                 seated = t.seated;

@@ -3,7 +3,7 @@ ghost use Rattle.std.specs.Prelude.{◌≡◌};
 ghost use Rattle.lfm_mutex.specs.Belongs.{limits_of};
 
 use crate::waiters::Waiters;
-use lfm_mutex::Mutex;
+use lfm_mutex::{Mutex, Pace};
 
 /// A condition variable: user seats that wait, and are sent in the order in which they came. It is used with one user mutex;
 /// that every call names the same one is left to the caller. A call with the seat of another condvar or mutex breaks the
@@ -13,4 +13,15 @@ pub struct Condvar {
     pub(crate) inner: Mutex<Waiters>,
     pub(crate) seats: u64,
     pub ghost numbered: { seats ≡ (limits_of inner).seats },
+}
+
+impl Condvar {
+    /// Sets how long a seat that waits for the condvar's list looks before it sleeps; a seat that waits to be sent sleeps at
+    /// once. It is set before threads share the condvar.
+    pub fn set_pace(&mut self, pace: Pace)
+        ensures pace { self.new.inner.pace ≡ pace }
+        ensures same { (self.new.inner.table ≡ self.old.inner.table) × (self.new.inner.limits ≡ self.old.inner.limits) × (self.new.seats ≡ self.old.seats) }
+    {
+        self.inner.set_pace(pace);
+    }
 }

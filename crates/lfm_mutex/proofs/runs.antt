@@ -5,9 +5,12 @@ pub mod DueFalls
 pub mod FirstPoints
 pub mod MadeCalls
 pub mod OneStep
+pub mod QueuePoints
+pub mod ReceivePoints
 pub mod RunFacts
 pub mod Running
 pub mod SendFacts
+pub mod ServePoints
 pub mod ShortCalls
 pub mod SightFacts
 pub mod Sights

@@ -154,7 +154,11 @@ impl<T: Kept> Mutex<T> {
         let Some(at) = first_place::<T, P>(&seats) else {
             unreachable!()
         };
-        let Mutex { table, limits: _ } = self;
+        let Mutex {
+            table,
+            limits: _,
+            pace: _,
+        } = self;
         let mut seats = seats;
         let mut root = into_place::<T, P>(seats.remove(at));
         while let Some(seat) = seats.pop() {

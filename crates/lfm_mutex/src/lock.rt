@@ -20,6 +20,7 @@ ghost use Rattle.lfm_mutex.specs.calls.Trails.{MakesCall, LocksBy};
 
 use crate::calls::{asleep, finish, run};
 use crate::mutex::Mutex;
+use crate::queue::queue;
 use crate::seat::Seat;
 use lfm_model::{Asked, How, Locked, Refusal};
 use lfm_protocol::points::{Entrant, Point, Pusher};
@@ -30,7 +31,7 @@ use std::sync::Wait;
 
 /// Makes the steps of the open call of lock to its end.
 #[inline(always)]
-fn ask_on<T: Kept>(mutex: &Mutex<T>, seat: &mut Seat<T>) -> Asked
+pub(crate) fn ask_on<T: Kept>(mutex: &Mutex<T>, seat: &mut Seat<T>) -> Asked
     requires belongs { seat.old.place.table_id ≡ mutex.now.table.shared.table_id }
     requires locks { errand seat.old.standing.point ≡ locking }
     ensures belongs { seat.new.place.table_id ≡ seat.old.place.table_id }
@@ -102,7 +103,7 @@ pub fn ask_free<T: Kept>(mutex: &Mutex<T>, seat: &mut Seat<T>, budget: u64) -> A
     );
     if found != 0 {
         stand_loading(&mut seat.standing, takes);
-        return ask_on(mutex, seat);
+        return queue(mutex, seat);
     }
     // Written here, where the value has just been moved: each stretch between two atomic steps that has writes costs time.
     seat.standing.depth = 1;

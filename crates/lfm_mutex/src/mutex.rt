@@ -2,6 +2,7 @@
 ghost use Rattle.std.specs.Prelude.{◌≡◌, ◌+◌, ◌*◌, ◌<◌, ◌≤◌};
 ghost use Rattle.lfm_protocol.specs.Limits.{max_seats};
 
+use crate::pace::Pace;
 use atomic_table::Table;
 use lfm_protocol::Limits;
 use lfm_table::Kept;
@@ -19,8 +20,26 @@ pub(crate) type WordTable<T> = Table<Option<MovingBox<T>>, View<T>, Key<T>, Mute
 pub struct Mutex<T: Kept> {
     pub(crate) table: WordTable<T>,
     pub(crate) limits: Limits,
+    pub(crate) pace: Pace,
     pub ghost words: { table.shared.table_id.words ≡ 4 + 2 * limits.seats },
     pub ghost slots: { table.shared.table_id.slots ≡ 1 },
     pub ghost some: { 0 < limits.seats },
     pub ghost few: { limits.seats ≤ max_seats },
+}
+
+impl<T: Kept> Mutex<T> {
+    /// How long a seat that waits for this mutex looks before it sleeps.
+    pub fn pace(&self) -> Pace
+        ensures { result ≡ self.now.pace }
+    {
+        self.pace
+    }
+
+    /// Sets how long a seat that waits for this mutex looks before it sleeps. It is set before threads share the mutex.
+    pub fn set_pace(&mut self, pace: Pace)
+        ensures pace { self.new.pace ≡ pace }
+        ensures same { (self.new.table ≡ self.old.table) × (self.new.limits ≡ self.old.limits) }
+    {
+        self.pace = pace;
+    }
 }

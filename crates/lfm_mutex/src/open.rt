@@ -10,6 +10,7 @@ ghost use Rattle.lfm_mutex.specs.calls.Sight.{sight, new_sight};
 ghost use Rattle.lfm_table.specs.Rule.{first_view};
 
 use crate::mutex::{Mutex, WordTable};
+use crate::pace::Pace;
 use crate::seat::Seat;
 use atomic_table::Table;
 use lfm_model::NewFault;
@@ -22,6 +23,9 @@ use lfm_table::table_steps::Place;
 use lfm_words::PopList;
 use std::alloc::Global;
 use std::snapshot::Snapshot;
+
+// Neither a mutex nor its seats can ask how many processors there are.
+const USUAL_PROCESSORS: u64 = 8;
 
 // A seat that has done nothing.
 fn at_rest() -> SeatState
@@ -118,7 +122,11 @@ impl<T: Kept> Mutex<T> {
         let Ok(()) = all.insert(0, first) else {
             unreachable!()
         };
-        let mutex = Mutex { table, limits };
+        let mutex = Mutex {
+            table,
+            limits,
+            pace: Pace::for_processors(USUAL_PROCESSORS),
+        };
         Ok((mutex, all))
     }
 }

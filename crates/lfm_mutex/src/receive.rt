@@ -1,31 +1,118 @@
 //! The calls of a seat that sleeps: `try_receive` looks once whether it was granted the mutex, and `receive_lock` waits for it.
 //! Nothing is held while a seat waits, and how often it looks before it sleeps is bounded.
-ghost use Rattle.std.specs.Prelude.{◌<◌};
-ghost use Rattle.lfm_mutex.specs.Belongs.{Beside, OfMutex, limits_of};
-ghost use Rattle.lfm_mutex.specs.calls.Sight.{sight, ReceivesLock, Receives};
-ghost use Rattle.lfm_mutex.specs.calls.Trails.{ReceivesBy, MakesAtMost, MakesCall};
+ghost use Rattle.std.specs.Prelude.{◌≡◌, ◌<◌, ◌-◌, ◌/◌};
 ghost use Rattle.lfm_protocol.specs.declared.answers.Answer.TheVariants as Answered;
 ghost use Rattle.lfm_protocol.specs.declared.answers.Call.{Call as CallNow};
+ghost use Rattle.lfm_protocol.specs.declared.answers.Turn.TheVariants.{Ended};
+ghost use Rattle.lfm_protocol.specs.declared.points.Point.TheVariants.{Asleep};
+ghost use Rattle.lfm_protocol.specs.After.{how_granted};
+ghost use Rattle.lfm_mutex.specs.Belongs.{Beside, OfMutex, limits_of};
+ghost use Rattle.lfm_mutex.specs.calls.Sight.{sight, ReceivesLock, Receives};
+ghost use Rattle.lfm_mutex.specs.calls.Straight.{ComesTo};
+ghost use Rattle.lfm_mutex.specs.calls.Trails.{ReceivesBy, MakesAtMost, MakesCall};
 
 use crate::calls::run;
 use crate::mutex::Mutex;
 use crate::seat::Seat;
 use lfm_model::{How, Refusal};
-use lfm_protocol::{Answer, Call, Turn};
+use lfm_protocol::points::{Entrant, Point, Sleeper};
+use lfm_protocol::{Answer, Call, SeatState, Turn};
 use lfm_table::Kept;
+use lfm_table::straight_steps::{load_grant, store_held, store_wake_held};
 use std::hint::spin_loop;
 use std::sync::Wait;
 
-/// How often `receive_lock` and `lock` look at the wake word again, after their first look, before they sleep. A grant
-/// mostly comes within this time; a sleep and a wake-up cost far more than the looks.
-pub const LOOKS_BEFORE_SLEEP: u32 = 250;
+// So many pauses before each look leave the line of the word to the seat that is to store the grant.
+const PAUSES_PER_LOOK: u32 = 4;
 
 // Words below this are no grant: quiet, waiting, claimed.
 const FIRST_GRANT: u64 = 3;
 
+// How the mutex is gained by a wake word that is a grant.
+fn how_found(found: u64) -> How
+    requires { 2 < found }
+    ensures { result ≡ how_granted ((found - 3) / 4) }
+{
+    let stamp = (found - 3) / 4;
+    if stamp == 0 {
+        How::Free
+    } else {
+        How::Queued(stamp)
+    }
+}
+
+/// `try_receive` of a seat that sleeps.
+#[inline(always)]
+pub fn receive_asleep<T: Kept>(
+    mutex: &Mutex<T>,
+    seat: &mut Seat<T>,
+    sleeper: Sleeper,
+) -> Option<How>
+    requires belongs { OfMutex seat.old mutex.now }
+    requires sleeps { seat.old.standing.point ≡ Asleep sleeper }
+    requires flat { seat.old.standing.depth ≡ 0 }
+    ensures belongs { Beside seat.old seat.new }
+    ensures made { ComesTo T.follows T.fits (limits_of mutex.now) CallNow.Receive (sight seat.old) (sight seat.new) (Ended (Answered.Got result)) }
+{
+    let table = &mutex.table.shared;
+    let limits = seat.limits;
+    let number = seat.number;
+    let takes = seat.standing.takes;
+    let posts = seat.standing.posts;
+    let begun = SeatState {
+        depth: 0,
+        takes,
+        posts,
+        point: Point::ReceiveWakeLoad(sleeper),
+    };
+    let found = load_grant(
+        table,
+        &mut seat.place,
+        &mut seat.moving,
+        number,
+        limits,
+        &begun,
+    );
+    if found < FIRST_GRANT {
+        return None;
+    }
+    let granted = SeatState {
+        depth: 0,
+        takes,
+        posts,
+        point: Point::ReceiveWakeStore((found - 3) / 4),
+    };
+    store_wake_held(
+        table,
+        &mut seat.place,
+        &seat.moving,
+        number,
+        limits,
+        &granted,
+    );
+    seat.standing.depth = 1;
+    seat.standing.point = Point::Rest;
+    let how = how_found(found);
+    let entering = SeatState {
+        depth: 0,
+        takes,
+        posts,
+        point: Point::EnterOwnerStore(Entrant::Receiver, how),
+    };
+    store_held(
+        table,
+        &mut seat.place,
+        &seat.moving,
+        number,
+        limits,
+        &entering,
+    );
+    Some(how)
+}
+
 impl<T: Kept> Mutex<T> {
     /// Waits until the seat, which sleeps, is granted the mutex, and answers how it came to hold. It looks at the wake
-    /// word once and up to `LOOKS_BEFORE_SLEEP` times more, and then sleeps until it is woken.
+    /// word once and as often more as the pace of the mutex says, and then sleeps until it is woken.
     ///
     /// Refuses with NotWaiting where the seat doesn't sleep, or a call of it is open.
     pub fn receive_lock<R: Wait>(&self, rt: &R, seat: &mut Seat<T>) -> Result<How, Refusal>
@@ -34,7 +121,8 @@ impl<T: Kept> Mutex<T> {
         ensures receives { ReceivesLock T.follows T.fits (sight seat.old) (sight seat.new) result }
         ensures steps { ReceivesBy (limits_of self.now) (sight seat.old) (sight seat.new) result }
     {
-        self.receive_lock_within(rt, seat, LOOKS_BEFORE_SLEEP)
+        let count = self.table.shared.peek(0);
+        self.receive_lock_within(rt, seat, self.pace.looks_at(count))
     }
 
     /// `receive_lock` with so many looks before it sleeps. With none it sleeps after its first look, as suits a seat
@@ -59,24 +147,29 @@ impl<T: Kept> Mutex<T> {
                 Err(refusal) => return Err(refusal),
                 Ok(None) => {}
             }
-            left = self.pause(rt, wake, left);
+            left = self.await_grant(rt, wake, left);
         }
         unreachable!()
     }
 
-    // Between two looks: spins while some are left, and then sleeps while the word is no grant.
-    fn pause<R: Wait>(&self, rt: &R, wake: usize, left: u32) -> u32
+    // Waits for a grant in the wake word: looks while some looks are left, and then sleeps while the word is no grant. A look
+    // is a load, so it makes no step of the seat, and is kept off the line of the word by some pauses.
+    fn await_grant<R: Wait>(&self, rt: &R, wake: usize, looks: u32) -> u32
         requires { wake < self.now.table.shared.table_id.words }
     {
-        if left > 0 {
-            spin_loop();
-            return left - 1;
+        for made in 0..looks {
+            for _ in 0..PAUSES_PER_LOOK {
+                spin_loop();
+            }
+            if self.table.shared.peek(wake) >= FIRST_GRANT {
+                return looks - made - 1;
+            }
         }
         let seen = self.table.shared.peek(wake);
         if seen < FIRST_GRANT {
             self.table.shared.park(rt, wake, seen as u32);
         }
-        left
+        0
     }
 
     /// One look at the wake word of a seat that sleeps: how it came to hold, or None where it was not granted the mutex
@@ -91,6 +184,11 @@ impl<T: Kept> Mutex<T> {
         ensures steps { MakesCall (limits_of self.now) (λ x. Answered.Got x) CallNow.Receive (sight seat.old) (sight seat.new) result }
         ensures bounded { MakesAtMost 3 (sight seat.old) (sight seat.new) }
     {
+        if let Point::Asleep(sleeper) = seat.standing.point {
+            if seat.standing.depth == 0 {
+                return Ok(receive_asleep(self, seat, sleeper));
+            }
+        }
         match run(self, seat, Call::Receive) {
             Turn::Ended(Answer::Got(got)) => Ok(got),
             Turn::Refused(_) => Err(Refusal::NotWaiting),

@@ -17,6 +17,7 @@ ghost use Rattle.lfm_mutex.specs.calls.Trails.{MakesAtMost, MakesCall};
 use crate::calls::{asleep, finish, release};
 use crate::mutex::Mutex;
 use crate::seat::Seat;
+use crate::serve::serve;
 use lfm_model::{Refusal, Unlocked};
 use lfm_protocol::points::{Point, Releaser};
 use lfm_protocol::{Answer, Call, SeatState, Turn, Why};
@@ -27,7 +28,7 @@ use lfm_table::straight_steps::{store_held, subtract_last};
 
 /// Makes the steps of the open call of unlock to its end, once its seat has given up the owner word.
 #[inline(always)]
-fn unlock_on<T: Kept>(mutex: &Mutex<T>, seat: &mut Seat<T>) -> Unlocked
+pub(crate) fn unlock_on<T: Kept>(mutex: &Mutex<T>, seat: &mut Seat<T>) -> Unlocked
     requires belongs { seat.old.place.table_id ≡ mutex.now.table.shared.table_id }
     requires unlocks { errand seat.old.standing.point ≡ releasing UnlockerNow }
     requires keeps { is_release seat.old.standing.point ≡ false }
@@ -106,7 +107,7 @@ pub fn unlock_last<T: Kept>(mutex: &Mutex<T>, seat: &mut Seat<T>) -> Unlocked
     );
     if found != 1 {
         stand_carrying(&mut seat.standing, &seat.moving, number, found);
-        return unlock_on(mutex, seat);
+        return serve(mutex, seat);
     }
     Unlocked::Free
 }

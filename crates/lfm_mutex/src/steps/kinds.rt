@@ -19,9 +19,7 @@ use crate::seat::Seat;
 use lfm_protocol::Turn;
 use lfm_protocol::kinds::Kind;
 use lfm_table::Kept;
-use lfm_table::seat_memory::{
-    add_loaded, advance, drop_oldest, gives, oldest_of, prepare, seat_carries, settle,
-};
+use lfm_table::seat_memory::{add_loaded, advance, drop_oldest, gives, oldest_of, prepare, settle};
 use lfm_table::table_steps::make_step;
 use std::marker::Brand;
 
@@ -50,10 +48,14 @@ pub(crate) fn make_of<T: Kept>(mutex: &Mutex<T>, seat: &mut Seat<T>, kind: Kind)
         seat.limits.seats,
     );
     add_loaded(&mut seat.moving, &seat.standing, seat.number, found);
-    let mut tried = seat.standing;
-    advance(&mut tried, seat.number, found, None);
-    let carries = seat_carries(&tried);
-    settle(table, &mut seat.place, &mut seat.moving, carries);
+    settle(
+        table,
+        &mut seat.place,
+        &mut seat.moving,
+        &seat.standing,
+        seat.number,
+        found,
+    );
     let oldest = oldest_of(&seat.moving);
     advance(&mut seat.standing, seat.number, found, oldest)
 }

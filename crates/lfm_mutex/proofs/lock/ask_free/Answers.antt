@@ -28,11 +28,11 @@ returns-then-found-ne0-clause-made g c =
     let begins = begins_free s.standing s.limits c.requires.rests c.requires.flat (subst (λ (b : ℕ). s.standing.takes < b) c.requires.budget c.requires.charged) in
     let fit = fit_begun s.number s.place.table_id.words s.place.id s.limits s.place.me s.moving s.standing (made_of 0 t ps LockCountAdd) Call.Lock (record { seated = s.seated; became = s.became; ready = s.ready; rooted = s.rooted }) begins in
     let f = c.add_free-found in
-    let q = made_of 0 t ps LockOwnerLoad in let r = c.ask_on.new.seat in
+    let q = made_of 0 t ps LockOwnerLoad in let r = c.queue.new.seat in
     let first = course_next g.T.Kept.follows g.T.Kept.fits s.number (made_of 0 t ps LockCountAdd) s.moving s.place.me.0 s.place.table_id.words s.place.id s.limits (made_of 0 t ps LockCountAdd) f.result s.place.me s.moving f.new.place.me f.new.moving f.new.place.table_id.words f.new.place.id (opens q)
     (course_none g.T.Kept.follows g.T.Kept.fits s.number (made_of 0 t ps LockCountAdd) s.moving s.place.me.0) fit f.ensures.step (added_some 0 t ps s.number f.result (oldest_in f.new.moving) c.if-found-ne0.true) (λ e. cc) refl in
-    let last = course_join g.T.Kept.follows g.T.Kept.fits s.number (made_of 0 t ps LockCountAdd) s.moving s.place.me.0 q r.standing f.new.moving r.moving f.new.place.me.0 r.place.me.0 (Ended (Answer.Asked c.ask_on.result)) first (subst (λ (x : SeatState). Course g.T.Kept.follows g.T.Kept.fits s.number x f.new.moving f.new.place.me.0 (Ended (Answer.Asked c.ask_on.result)) r.standing r.moving r.place.me.0) c.stand_loading.ensures c.ask_on.ensures.made) in
-    comes g.T.Kept.follows g.T.Kept.fits s.number (made_of 0 t ps LockCountAdd) s.moving s.place.me.0 r.number s.limits c.args.mutex.now.limits Call.Lock s.standing r.standing (Ended (Answer.Asked c.ask_on.result)) r.moving r.place.me.0 c.requires.belongs.1 c.ask_on.ensures.same.0 refl begins refl last
+    let last = course_join g.T.Kept.follows g.T.Kept.fits s.number (made_of 0 t ps LockCountAdd) s.moving s.place.me.0 q r.standing f.new.moving r.moving f.new.place.me.0 r.place.me.0 (Ended (Answer.Asked c.queue.result)) first (subst (λ (x : SeatState). Course g.T.Kept.follows g.T.Kept.fits s.number x f.new.moving f.new.place.me.0 (Ended (Answer.Asked c.queue.result)) r.standing r.moving r.place.me.0) c.stand_loading.ensures c.queue.ensures.made) in
+    comes g.T.Kept.follows g.T.Kept.fits s.number (made_of 0 t ps LockCountAdd) s.moving s.place.me.0 r.number s.limits c.args.mutex.now.limits Call.Lock s.standing r.standing (Ended (Answer.Asked c.queue.result)) r.moving r.place.me.0 c.requires.belongs.1 c.queue.ensures.same.0 refl begins refl last
 
 pub returns-clause-made : goal.returns-clause-made
 returns-clause-made g c =
@@ -55,10 +55,10 @@ pub returns-then-found-ne0-clause-bounded : goal.returns-then-found-ne0-clause-b
 returns-then-found-ne0-clause-bounded g c =
     let s = c.args.seat.now in let t = s.standing.takes + 1 in let ps = s.standing.posts in let n = s.limits.seats in
     let p0 = made_of 0 t ps LockCountAdd in
-    let f = c.add_free-found in let r = c.ask_on.new.seat in
+    let f = c.add_free-found in let r = c.queue.new.seat in
     let st = stepped_by p0 s.number f.result (oldest_in f.new.moving) in
     let one = spends_any g.T.Kept.follows g.T.Kept.fits p0 st.seat s.place.me.0 f.new.place.me.0 s.moving f.new.moving st.turn f.ensures.step.event (n + 8) in
-    let then = subst (λ (x : SeatState). Spends (due n (length f.new.place.me.0.popped) x.point) 0 f.new.place.me.0.trail r.place.me.0.trail) c.stand_loading.ensures c.ask_on.ensures.spends in
+    let then = subst (λ (x : SeatState). Spends (due n (length f.new.place.me.0.popped) x.point) 0 f.new.place.me.0.trail r.place.me.0.trail) c.stand_loading.ensures c.queue.ensures.spends in
     let same = ap (λ l. l.seats) c.requires.belongs.1 in
     spent (n + 8 + 1) (c.args.mutex.now.limits.seats + 9) s.place.me.0.trail r.place.me.0.trail (omega (arith, same)) (spends_join (n + 8 + 1) (n + 8) 0 s.place.me.0.trail f.new.place.me.0.trail r.place.me.0.trail one then)
 

@@ -36,14 +36,14 @@ returns-then-found-ne1-clause-made g c =
     let st = stepped_by p1 s.number f.result (oldest_in f.new.moving) in
     let e : Event g.T.Kept.follows g.T.Kept.fits p1 s.moving h.new.place.me.0 st.turn st.seat f.new.moving b.me.0 = f.ensures.step.event in
     let fit1 : Fit s.number h.new.place.table_id.words h.new.place.id s.limits p1 h.new.place.me s.moving = h.ensures.step.1.fit in
-    let r = c.unlock_on.new.seat in let turn = Ended (Answer.Unlocked c.unlock_on.result) in
+    let r = c.serve.new.seat in let turn = Ended (Answer.Unlocked c.serve.result) in
     let open_still : st ≡ opens st.seat = (λ i. record { seat = st.seat; turn = not_freed 0 t ps s.number f.result (oldest_in f.new.moving) c.if-found-ne1.true i }) in
     let same : c.stand_carrying.new.standing ≡ st.seat = c.stand_carrying.ensures in
     let so = course_next g.T.Kept.follows g.T.Kept.fits s.number p1 s.moving h.new.place.me.0 h.new.place.table_id.words h.new.place.id s.limits p1 f.result h.new.place.me s.moving b.me f.new.moving b.table_id.words b.id (opens st.seat)
     (course_none g.T.Kept.follows g.T.Kept.fits s.number p1 s.moving h.new.place.me.0) fit1 f.ensures.step open_still (λ e. cc) refl in
-    gives_up g.T.Kept.follows g.T.Kept.fits s.number s.place.table_id.words s.place.id h.new.place.table_id.words h.new.place.id r.number h.ensures.step.0 s.limits p0 p1 s.place.me h.new.place.me s.moving fit refl h.ensures.step.1 refl c.args.mutex.now.limits s.standing r.standing turn r.moving r.place.me.0 c.requires.belongs.1 c.unlock_on.ensures.same.0 begins refl
+    gives_up g.T.Kept.follows g.T.Kept.fits s.number s.place.table_id.words s.place.id h.new.place.table_id.words h.new.place.id r.number h.ensures.step.0 s.limits p0 p1 s.place.me h.new.place.me s.moving fit refl h.ensures.step.1 refl c.args.mutex.now.limits s.standing r.standing turn r.moving r.place.me.0 c.requires.belongs.1 c.serve.ensures.same.0 begins refl
     (course_join g.T.Kept.follows g.T.Kept.fits s.number p1 s.moving h.new.place.me.0 st.seat r.standing f.new.moving r.moving b.me.0 r.place.me.0 turn so
-    (subst (λ (x : SeatState). Course g.T.Kept.follows g.T.Kept.fits s.number x f.new.moving b.me.0 turn r.standing r.moving r.place.me.0) same c.unlock_on.ensures.made))
+    (subst (λ (x : SeatState). Course g.T.Kept.follows g.T.Kept.fits s.number x f.new.moving b.me.0 turn r.standing r.moving r.place.me.0) same c.serve.ensures.made))
 
 pub returns-clause-made : goal.returns-clause-made
 returns-clause-made g c =
@@ -68,13 +68,13 @@ pub returns-then-found-ne1-clause-bounded : goal.returns-then-found-ne1-clause-b
 returns-then-found-ne1-clause-bounded g c =
     let s = c.args.seat.now in let t = s.standing.takes in let ps = s.standing.posts in
     let p0 = made_of 1 t ps (ReleaseOwnerStore Unlocker) in let p1 = made_of 0 t ps (ReleaseCountSubtract Unlocker) in
-    let h = c.store_held in let f = c.subtract_last-found in let b = f.new.place in let r = c.unlock_on.new.seat in
+    let h = c.store_held in let f = c.subtract_last-found in let b = f.new.place in let r = c.serve.new.seat in
     let st = stepped_by p1 s.number f.result (oldest_in f.new.moving) in
     let first = stepped_by p0 s.number h.ensures.step.0 (oldest_in s.moving) in
     let fit1 : Fit s.number h.new.place.table_id.words h.new.place.id s.limits p1 h.new.place.me s.moving = h.ensures.step.1.fit in
     let one = trail_grows g.T.Kept.follows g.T.Kept.fits p0 first.seat s.place.me.0 h.new.place.me.0 s.moving s.moving first.turn h.ensures.step.1.event in
     let most = bounded_more g.T.Kept.follows g.T.Kept.fits s.limits.seats s.number p1 st.seat h.new.place.me.0 b.me.0 s.moving f.new.moving st.turn (λ e. cc) (ap (λ l. l.seats) fit1.seated.limits_are) fit1.ready f.ensures.step.event in
-    let then = subst (λ (x : SeatState). length r.place.me.0.trail ≤ length b.me.0.trail + weight s.limits.seats (length b.me.0.popped) x.point) c.stand_carrying.ensures c.unlock_on.ensures.bounded in
+    let then = subst (λ (x : SeatState). length r.place.me.0.trail ≤ length b.me.0.trail + weight s.limits.seats (length b.me.0.popped) x.point) c.stand_carrying.ensures c.serve.ensures.bounded in
     let same = ap (λ l. l.seats) c.requires.belongs.1 in
     omega (arith, one, most, then, same)
 

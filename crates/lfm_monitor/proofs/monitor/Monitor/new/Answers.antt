@@ -2,7 +2,7 @@ use Rattle.std.proofs.Common.{ap, arith, rules, subst, sym, ◌+◌, ◌∙◌}
 use Rattle.lfm_mutex.specs.Belongs.{limits_of}
 use Rattle.lfm_mutex.specs.calls.Sight.{new_sight}
 use Rattle.lfm_monitor.specs.Belongs.{cond_seats_of}
-use Rattle.lfm_monitor.specs.CondSeats.{AreNewSeats}
+use Rattle.lfm_monitor.specs.CondSeats.{AreNewSeats, AreConditions}
 use Rattle.lfm_monitor.proofs.Places.{in_range}
 use Rattle.lfm_monitor.proofs.Starting.{new_kept, new_of}
 use Rattle.lfm_monitor.proofs.monitor.Monitor.new.Goals as goal
@@ -35,3 +35,9 @@ returns-clause-passes g c = let e = c.in-Ok-new.ensures in let w = c.with_seats.
 
 pub returns-then-not-are_allowed-clause-memory : goal.returns-then-not-are_allowed-clause-memory
 returns-then-not-are_allowed-clause-memory g c = search rules
+
+pub invariant_of-monitor-clause-shared : goal.invariant_of-monitor-clause-shared
+invariant_of-monitor-clause-shared g c = ap (λ l. l.budget) c.in-Ok-new.ensures.limits.0
+
+pub invariant_of-monitor-clause-wide : goal.invariant_of-monitor-clause-wide
+invariant_of-monitor-clause-wide g c = let e = c.in-Ok-new.ensures in subst (λ n. AreConditions n c.in_ok-conditions.conditions.items) (sym (ap (λ l. l.seats) e.limits.0)) c.in_ok-conditions.ensures.conditions.1

@@ -1,0 +1,143 @@
+//! How the seat of a call of lock that found others is queued: it loads the owner, pushes its record and looks for a post. It
+//! is made straight on; where the push word has changed, or a handoff is posted, the seat goes on from its point as any call
+//! does.
+ghost use Rattle.std.specs.Prelude.{◌≡◌, ◌<◌, ◌^◌, None, length};
+ghost use Rattle.lfm_protocol.specs.declared.answers.Answer.TheVariants as Answered;
+ghost use Rattle.lfm_protocol.specs.declared.answers.Turn.TheVariants.{Ended};
+ghost use Rattle.lfm_protocol.specs.declared.points.Point.TheVariants.{LockOwnerLoad, PushExchange, PushedHandoffLoad};
+ghost use Rattle.lfm_protocol.specs.declared.points.Pusher.{Pusher as PusherNow};
+ghost use Rattle.lfm_core.specs.table.Words.{stepped_by};
+ghost use Rattle.lfm_mutex.specs.calls.Due.{due};
+ghost use Rattle.lfm_mutex.specs.calls.FailedPushes.{Spends};
+ghost use Rattle.lfm_mutex.specs.calls.Straight.{Course};
+
+use crate::lock::ask_on;
+use crate::mutex::Mutex;
+use crate::seat::Seat;
+use lfm_model::Asked;
+use lfm_protocol::SeatState;
+use lfm_protocol::points::{Point, Pusher, Sleeper};
+use lfm_table::Kept;
+use lfm_table::seat_memory::advance;
+use lfm_table::straight_steps::{
+    exchange_push_free, load_free, load_handoff_free, load_push_free, store_link_free,
+};
+use lfm_words::{Link, unpack_link};
+
+// The points at which the generic run goes on. They are written out of line, since a point takes as long as a step.
+
+#[inline(never)]
+fn stand_after_push(standing: &mut SeatState, number: u64, seen: Link, found: u64)
+    requires { seen.stamp < 2 ^ 48 }
+    ensures { standing.new ≡ (stepped_by (record standing.old { point = PushExchange PusherNow.Locker seen }) number found None).seat }
+{
+    standing.point = Point::PushExchange(Pusher::Locker, seen);
+    advance(standing, number, found, None);
+}
+
+#[inline(never)]
+fn stand_after_look(standing: &mut SeatState, number: u64, found: u64)
+    ensures { standing.new ≡ (stepped_by (record standing.old { point = PushedHandoffLoad PusherNow.Locker }) number found None).seat }
+{
+    standing.point = Point::PushedHandoffLoad(Pusher::Locker);
+    advance(standing, number, found, None);
+}
+
+/// Makes the steps of an open call of lock that found others in the count, to its end, for a seat that doesn't hold.
+#[inline(never)]
+pub(crate) fn queue<T: Kept>(mutex: &Mutex<T>, seat: &mut Seat<T>) -> Asked
+    requires belongs { seat.old.place.table_id ≡ mutex.now.table.shared.table_id }
+    requires stands { seat.old.standing.point ≡ LockOwnerLoad }
+    requires flat { seat.old.standing.depth ≡ 0 }
+    ensures belongs { seat.new.place.table_id ≡ seat.old.place.table_id }
+    ensures same { (seat.new.number ≡ seat.old.number) × (seat.new.limits ≡ seat.old.limits) }
+    ensures made { Course T.follows T.fits seat.old.number seat.old.standing seat.old.moving seat.old.place.me.0 (Ended (Answered.Asked result)) seat.new.standing seat.new.moving seat.new.place.me.0 }
+    ensures spends { Spends (due seat.old.limits.seats (length seat.old.place.me.0.popped) seat.old.standing.point) 0 seat.old.place.me.0.trail seat.new.place.me.0.trail }
+{
+    let table = &mutex.table.shared;
+    let limits = seat.limits;
+    let number = seat.number;
+    let takes = seat.standing.takes;
+    let posts = seat.standing.posts;
+    let counted = SeatState {
+        depth: 0,
+        takes,
+        posts,
+        point: Point::LockOwnerLoad,
+    };
+    load_free(
+        table,
+        &mut seat.place,
+        &seat.moving,
+        number,
+        limits,
+        &counted,
+    );
+    let pushing = SeatState {
+        depth: 0,
+        takes,
+        posts,
+        point: Point::PushLoad(Pusher::Locker),
+    };
+    let word = load_push_free(
+        table,
+        &mut seat.place,
+        &seat.moving,
+        number,
+        limits,
+        &pushing,
+    );
+    let seen = unpack_link(word);
+    let linking = SeatState {
+        depth: 0,
+        takes,
+        posts,
+        point: Point::LinkStore(Pusher::Locker, seen),
+    };
+    store_link_free(
+        table,
+        &mut seat.place,
+        &seat.moving,
+        number,
+        limits,
+        &linking,
+    );
+    let linked = SeatState {
+        depth: 0,
+        takes,
+        posts,
+        point: Point::PushExchange(Pusher::Locker, seen),
+    };
+    let found = exchange_push_free(
+        table,
+        &mut seat.place,
+        &seat.moving,
+        number,
+        limits,
+        &linked,
+    );
+    if found != word {
+        stand_after_push(&mut seat.standing, number, seen, found);
+        return ask_on(mutex, seat);
+    }
+    let pushed = SeatState {
+        depth: 0,
+        takes,
+        posts,
+        point: Point::PushedHandoffLoad(Pusher::Locker),
+    };
+    let handoff = load_handoff_free(
+        table,
+        &mut seat.place,
+        &seat.moving,
+        number,
+        limits,
+        &pushed,
+    );
+    if handoff % 65_536 != 0 {
+        stand_after_look(&mut seat.standing, number, handoff);
+        return ask_on(mutex, seat);
+    }
+    seat.standing.point = Point::Asleep(Sleeper::Locker);
+    Asked::Asleep
+}

@@ -6,7 +6,7 @@ ghost use lib.ListN.{get_elem?};
 
 use crate::measure::{Mode, Plan, Row, Steps, bare_table, print_head};
 use crate::peers::ours::{BUDGET, User, last_user, no_seat};
-use crate::workloads::{hits, misses, pairs, recursive};
+use crate::workloads::{handoffs, hits, misses, pairs, recursive};
 use lfm_mutex::{Mutex, Seat};
 use std::alloc::{AllocError, Global};
 use std::io;
@@ -39,6 +39,7 @@ struct Alone {
     recursive: Row,
     hits: Row,
     misses: Row,
+    handoffs: Row,
 }
 
 impl Alone {
@@ -49,6 +50,7 @@ impl Alone {
             recursive: Row::new(alloc, "recursive lock and unlock"),
             hits: Row::new(alloc, "try_lock hit and unlock"),
             misses: Row::new(alloc, "try_lock miss"),
+            handoffs: Row::new(alloc, "hand-off, there and back"),
         }
     }
 
@@ -100,7 +102,8 @@ impl Alone {
         round_of_pairs(rt, &mut self.pairs, peers, calls)?;
         round_of_recursive(rt, &mut self.recursive, peers, calls)?;
         round_of_hits(rt, &mut self.hits, peers, calls)?;
-        round_of_misses(rt, &mut self.misses, peers, calls)
+        round_of_misses(rt, &mut self.misses, peers, calls)?;
+        round_of_handoffs(rt, &mut self.handoffs, peers, calls)
     }
 
     /// Prints the rows.
@@ -116,14 +119,16 @@ impl Alone {
         self.pairs.print(rt)?;
         self.recursive.print(rt)?;
         self.hits.print(rt)?;
-        self.misses.print(rt)
+        self.misses.print(rt)?;
+        self.handoffs.print(rt)
     }
 
     fn print_checks<R: Print>(&self, rt: &R) -> io::Result<()> {
         self.pairs.print_check(rt)?;
         self.recursive.print_check(rt)?;
         self.hits.print_check(rt)?;
-        self.misses.print_check(rt)
+        self.misses.print_check(rt)?;
+        self.handoffs.print_check(rt)
     }
 }
 
@@ -174,5 +179,16 @@ fn round_of_misses<R: Wait + CpuClock>(
     row.bare.add(misses::bare(rt, &mut peers.steps, calls)?)?;
     row.standard
         .add(misses::standard(rt, peers.standard, calls)?)?;
+    Ok(())
+}
+
+fn round_of_handoffs<R: Wait + CpuClock>(
+    rt: &R,
+    row: &mut Row,
+    peers: &mut Peers,
+    calls: u64,
+) -> io::Result<()> {
+    row.ours.add(handoffs::ours(rt, &mut peers.user, &mut peers.other, calls)?)?;
+    row.bare.add(handoffs::bare(rt, &mut peers.steps, calls)?)?;
     Ok(())
 }

@@ -30,6 +30,17 @@ const OWNER: usize = 1;
 
 const HANDOFF: usize = 2;
 
+const PUSH: usize = 3;
+
+/// The link of the seat that queues.
+const LINK: usize = 5;
+
+/// Its wake word.
+const WAKE: usize = 7;
+
+/// The bits of a word that hold a seat.
+const SEATS: u64 = 65_535;
+
 /// The number of the seat that makes the steps.
 const SELF: u64 = 1;
 
@@ -41,7 +52,7 @@ const WORDS: [u64; 8] = [0; 8];
 
 /// A table of as many words as a mutex of two seats has, all 0, and its seat.
 pub fn bare_table(alloc: Global) -> Result<(BareTable, BareSeat), AllocError>
-    ensures { IfOk result (λ t. (t.1.table_id ≡ t.0.shared.table_id) × (3 ≤ t.0.shared.table_id.words)) }
+    ensures { IfOk result (λ t. (t.1.table_id ≡ t.0.shared.table_id) × (8 ≤ t.0.shared.table_id.words)) }
 {
     Table::of_words(alloc, &WORDS, &())
 }
@@ -51,13 +62,13 @@ pub fn bare_table(alloc: Global) -> Result<(BareTable, BareSeat), AllocError>
 pub struct Steps<'a> {
     table: &'a Shared<u8, (), (), Anything>,
     seat: BareSeat,
-    ghost fits: { (seat.table_id ≡ table.now.table_id) × (3 ≤ table.now.table_id.words) },
+    ghost fits: { (seat.table_id ≡ table.now.table_id) × (8 ≤ table.now.table_id.words) },
 }
 
 impl<'a> Steps<'a> {
     /// The steps of this seat over its table.
     pub fn new(table: &'a Shared<u8, (), (), Anything>, seat: BareSeat) -> Steps<'a>
-        requires { (seat.table_id ≡ table.now.table_id) × (3 ≤ table.now.table_id.words) }
+        requires { (seat.table_id ≡ table.now.table_id) × (8 ≤ table.now.table_id.words) }
     {
         Steps { table, seat }
     }
@@ -114,6 +125,49 @@ impl<'a> Steps<'a> {
         let owner = self.table.load::<Anything>(&mut self.seat, OWNER);
         let handoff = self.table.load::<Anything>(&mut self.seat, HANDOFF);
         owner == OTHER && handoff == 0
+    }
+
+    /// The lock of a seat that queues while another holds, the unlock that grants it the mutex and wakes it, and its receive:
+    /// add, load, load, store, compare-exchange, load; store, subtract, and, load, store, wake-up call; load, store, store.
+    /// Returns whether the words were as these steps leave them.
+    #[inline(always)]
+    pub fn handoff(&mut self) -> bool {
+        self.queue() && self.serve() && self.receive()
+    }
+
+    #[inline(always)]
+    fn queue(&mut self) -> bool {
+        self.table.fetch_add::<Anything>(&mut self.seat, COUNT, 1);
+        let owner = self.table.load::<Anything>(&mut self.seat, OWNER);
+        let push = self.table.load::<Anything>(&mut self.seat, PUSH);
+        self.table.store::<Anything>(&mut self.seat, LINK, push);
+        let pushed = push.wrapping_add(SEATS).wrapping_add(1 + OTHER);
+        let found = self
+            .table
+            .compare_exchange::<Anything>(&mut self.seat, PUSH, push, pushed);
+        let handoff = self.table.load::<Anything>(&mut self.seat, HANDOFF);
+        owner != 0 && found == push && handoff == 0
+    }
+
+    #[inline(always)]
+    fn serve(&mut self) -> bool {
+        self.table.store::<Anything>(&mut self.seat, OWNER, 0);
+        let count = self.table.fetch_sub::<Anything>(&mut self.seat, COUNT, 1);
+        let head = self
+            .table
+            .fetch_and::<Anything>(&mut self.seat, PUSH, !SEATS);
+        let link = self.table.load::<Anything>(&mut self.seat, LINK);
+        self.table.store::<Anything>(&mut self.seat, WAKE, 3);
+        self.table.wake_one(WAKE);
+        count == 2 && head & SEATS == OTHER && link & SEATS == 0
+    }
+
+    #[inline(always)]
+    fn receive(&mut self) -> bool {
+        let wake = self.table.load::<Anything>(&mut self.seat, WAKE);
+        self.table.store::<Anything>(&mut self.seat, WAKE, 0);
+        self.table.store::<Anything>(&mut self.seat, OWNER, SELF);
+        wake == 3
     }
 
     /// Sets the words as they are while this seat holds.

@@ -4,7 +4,7 @@ ghost use Rattle.lfm_mutex.specs.Belongs.{OfMutex};
 ghost use mathlib.Core.Option.{some};
 ghost use lib.ListN.{get_elem?};
 
-use lfm_model::{Locked, Refusal};
+use lfm_model::{Asked, Locked, Refusal};
 use lfm_mutex::{Mutex, Seat};
 use std::io;
 use std::sync::Wait;
@@ -54,6 +54,20 @@ impl<'a> User<'a> {
     pub fn miss(&mut self) -> bool {
         let locked = self.mutex.try_lock(&mut self.seat);
         matches!(locked, Err(Refusal::Busy))
+    }
+
+    /// `ask` while another seat is to hold. Returns whether the seat was queued, and sleeps.
+    #[inline(always)]
+    pub fn queue(&mut self) -> bool {
+        let asked = self.mutex.ask(&mut self.seat);
+        matches!(asked, Ok(Asked::Asleep))
+    }
+
+    /// `try_receive` of a seat that sleeps. Returns whether it came to hold.
+    #[inline(always)]
+    pub fn receive(&mut self) -> bool {
+        let received = self.mutex.try_receive(&mut self.seat);
+        matches!(received, Ok(Some(_)))
     }
 
     /// `unlock`. Returns whether the seat held.

@@ -40,7 +40,8 @@ function fault(text) {
 }
 
 # The links of one half of a comment's last paragraph. A name in backquotes stands in the file that is named next; a file
-# without a name before it is linked by its own name.
+# without a name before it is linked by its own name. The file with the proofs of all forms for schedules is linked once, in
+# the head of the page.
 function links_of(text, crate, name_of_law,    list, part, count, parts, i, pending, names, file, base, at) {
   list = ""
   pending = 0
@@ -53,7 +54,7 @@ function links_of(text, crate, name_of_law,    list, part, count, parts, i, pend
     sub(/.*\//, "", base)
     sub(/\.antt$/, "", base)
     if (!is_file(file)) fault(name_of_law ": its comment names " file ", which is not there")
-    if (pending == 0) list = add_link(list, base, file)
+    if (pending == 0 && base != "InSchedules") list = add_link(list, base, file)
     for (at = 1; at <= pending; at++) {
       if (!declared_at(names[at], file)) fault(name_of_law ": " file " does not declare " names[at])
       list = add_link(list, names[at], file "#L" declared_at(names[at], file))

@@ -50,8 +50,6 @@ function add_arrow(kind, from_seat, from, to_seat, to) {
   arrow_from[arrows] = from
   arrow_to_seat[arrows] = to_seat
   arrow_to[arrows] = to
-  # the head of an arrow from the right stands before the label of its row
-  if (from_seat > to_seat) shifted[to] = 14
 }
 
 # a pair such as (1, 2) without its space, so that a comma with a space ends a part of the line
@@ -229,27 +227,39 @@ function draw_bar(kind, seat, from, to,    x, y, height) {
   }
 }
 
-function draw_arrow(kind, from_seat, from, to_seat, to,    x1, y1, x2, y2, side) {
-  x1 = x_of(from_seat)
+# where the label of a row ends: seven units for each letter are more than the letters of the font take on average
+function label_end(row,    text) {
+  text = row_name[row] (wide && row_detail[row] != "" ? " " row_detail[row] : "")
+  gsub(/\342\206\222/, ">", text)
+  return x_of(row_seat[row]) + 20 + length(text) * 7
+}
+
+# An arrow runs beside labels. To the right it leaves its row behind the label, goes down at the left of the lane that it leads
+# to, and ends at the mark there. To the left it leaves the mark, goes down at the left of its own lane, and ends behind the
+# label of the row that it leads to. In one lane it goes round at the left.
+function draw_arrow(kind, from_seat, from, to_seat, to,    y1, y2, way, aside) {
   y1 = y_of(from)
-  x2 = x_of(to_seat)
   y2 = y_of(to)
-  if (x1 == x2) {
-    printf "<path d=\"M%d %dC%d %d %d %d %d %d\" class=\"arrow %s\" marker-end=\"url(#%shead)\"/>\n", x1 - 6, y1, x1 - 34, y1, x1 - 34, y2, x2 - 8, y2, kind, kind
-  } else {
-    side = x2 > x1 ? 1 : -1
-    printf "<path d=\"M%d %dL%d %d\" class=\"arrow %s\" marker-end=\"url(#%shead)\"/>\n", x1 + 6 * side, y1, x2 - 8 * side, y2, kind, kind
-  }
+  aside = kind == "post" ? 18 : 24
+  if (from_seat == to_seat) way = "M" x_of(to_seat) - 6 " " y1 "H" x_of(to_seat) - aside "V" y2 "H" x_of(to_seat) - 8
+  else if (from_seat < to_seat) way = "M" label_end(from) " " y1 "H" x_of(to_seat) - aside "V" y2 "H" x_of(to_seat) - 8
+  else way = "M" x_of(from_seat) - 6 " " y1 "H" x_of(from_seat) - aside "V" y2 "H" label_end(to)
+  printf "<path d=\"%s\" class=\"arrow %s\" marker-end=\"url(#%shead)\"/>\n", way, kind, kind
+}
+
+# a begin is hollow, a step is filled, a refusal is a cross, and an answer has no mark
+function draw_mark(kind, x, y) {
+  if (kind == "step") printf "<circle cx=\"%d\" cy=\"%d\" r=\"3.5\" class=\"mark\"/>\n", x, y
+  if (kind == "begin") printf "<circle cx=\"%d\" cy=\"%d\" r=\"4\" class=\"hollow\"/>\n", x, y
+  if (kind == "refused") printf "<path d=\"M%d %dl8 8m0 -8l-8 8\" class=\"cross\"/>\n", x - 4, y - 4
 }
 
 function draw_row(row,    x, y, kind, text_x) {
   x = x_of(row_seat[row])
   y = y_of(row)
   kind = row_kind[row]
-  text_x = x + 12 + shifted[row]
-  if (kind == "step") printf "<circle cx=\"%d\" cy=\"%d\" r=\"3.5\" class=\"mark\"/>\n", x, y
-  if (kind == "begin") printf "<circle cx=\"%d\" cy=\"%d\" r=\"4\" class=\"hollow\"/>\n", x, y
-  if (kind == "refused") printf "<path d=\"M%d %dl8 8m0 -8l-8 8\" class=\"cross\"/>\n", x - 4, y - 4
+  text_x = x + 12
+  draw_mark(kind, x, y)
   if (kind == "begin") label(text_x, y + 4, "ink halo bold", "", escape(row_name[row]))
   else if (kind == "step") {
     label(text_x, y + 4, "ink halo", "", escape(row_name[row]) (wide && row_detail[row] != "" ? "<tspan class=\"soft\" dx=\"7\">" escape(row_detail[row]) "</tspan>" : ""))
@@ -270,23 +280,54 @@ function draw_side(row, before,    y) {
   draw_value(side + 152, y, side_queue[row], side_queue[before])
 }
 
-function draw_legend(y,    x) {
-  x = gutter + 20
-  printf "<rect x=\"%d\" y=\"%d\" width=\"12\" height=\"16\" class=\"own\"/>\n", x, y - 8
-  label(x + 20, y + 4, "soft", "", "owns")
-  x += 74
-  printf "<rect x=\"%d\" y=\"%d\" width=\"12\" height=\"16\" fill=\"url(#stripes)\" class=\"edge\"/>\n", x, y - 8
-  label(x + 20, y + 4, "soft", "", "carries")
-  x += 86
-  printf "<path d=\"M%d %dv16\" class=\"asleep\"/>\n", x + 6, y - 8
-  label(x + 20, y + 4, "soft", "", "sleeps")
-  x = gutter + 20
-  y += 22
-  printf "<path d=\"M%d %dh26\" class=\"arrow post\" marker-end=\"url(#posthead)\"/>\n", x, y
-  label(x + 38, y + 4, "soft", "", "post to take")
-  x += 140
-  printf "<path d=\"M%d %dh26\" class=\"arrow grant\" marker-end=\"url(#granthead)\"/>\n", x, y
-  label(x + 38, y + 4, "soft", "", "grant to take-up")
+# ---- the legend: what the picture has, one entry after another, in rows no wider than the picture
+
+# the place of the next entry, which is as wide as its sign and its text
+function next_entry(text,    wanted) {
+  wanted = 46 + length(text) * 7
+  if (legend_x + wanted > width - 16 && legend_x > gutter + 20) {
+    legend_x = gutter + 20
+    legend_y += 22
+  }
+  entry_x = legend_x
+  legend_x += wanted
+}
+
+function mark_entry(text, kind) {
+  next_entry(text)
+  if (!drawing) return
+  draw_mark(kind, entry_x + 6, legend_y)
+  label(entry_x + 20, legend_y + 4, "soft", "", text)
+}
+
+function bar_entry(text, class) {
+  next_entry(text)
+  if (!drawing) return
+  if (class == "asleep") printf "<path d=\"M%d %dv16\" class=\"asleep\"/>\n", entry_x + 6, legend_y - 8
+  else printf "<rect x=\"%d\" y=\"%d\" width=\"12\" height=\"16\" %s/>\n", entry_x, legend_y - 8, class == "own" ? "class=\"own\"" : "fill=\"url(#stripes)\" class=\"edge\""
+  label(entry_x + 20, legend_y + 4, "soft", "", text)
+}
+
+function arrow_entry(text, kind) {
+  next_entry(text "  ")
+  if (!drawing) return
+  printf "<path d=\"M%d %dh22\" class=\"arrow %s\" marker-end=\"url(#%shead)\"/>\n", entry_x, legend_y, kind, kind
+  label(entry_x + 32, legend_y + 4, "soft", "", text)
+}
+
+# goes through the entries from this height on, and draws them if `draws` is 1
+function legend(y, draws) {
+  legend_x = gutter + 20
+  legend_y = y
+  drawing = draws
+  if (has["begin"]) mark_entry("begin", "begin")
+  if (has["step"]) mark_entry("step", "step")
+  if (has["refused"]) mark_entry("refused", "refused")
+  if (has["owner"]) bar_entry("owns", "own")
+  if (has["carried"]) bar_entry("carries", "stripe")
+  if (has["asleep"]) bar_entry("sleeps", "asleep")
+  if (has["post"]) arrow_entry("post to take", "post")
+  if (has["grant"]) arrow_entry("grant to take-up", "grant")
 }
 
 END {
@@ -312,7 +353,11 @@ END {
   side = gutter + seats * lane + 20
   width = side + 172 + longest_queue * 7.5
   foot = head + (rows + 1) * pitch + 26
-  height = foot + 44
+  for (r = 1; r <= rows; r++) has[row_kind[r]] = 1
+  for (i = 1; i <= bars; i++) has[bar_kind[i]] = 1
+  for (i = 1; i <= arrows; i++) has[arrow_kind[i]] = 1
+  legend(foot, 0)
+  height = legend_y + 22
 
   printf "<svg xmlns=\"http://www.w3.org/2000/svg\" viewBox=\"0 0 %d %d\" width=\"%d\" height=\"%d\" role=\"img\">\n", width, height, width, height
   printf "<title>%s</title>\n<style>\n", escape(title)
@@ -359,6 +404,6 @@ END {
   label(side + 94, head + 2, "soft", "", words[3])
   label(side + 152, head + 2, "soft", "", words[5])
   for (r = 1; r <= rows; r++) draw_side(r, r - 1)
-  draw_legend(foot)
+  legend(foot, 1)
   print "</svg>"
 }

@@ -1,5 +1,5 @@
 # Turns what `lfm_explain` prints into a picture: see scripts/draw. `title` is what stands above it, and `schedule` the
-# file whose lines stand at its left.
+# file whose lines stand at its left. It needs scripts/picture.awk.
 
 # ---- reading: one row for each begin, step and answer
 
@@ -192,28 +192,8 @@ BEGIN {
 
 # ---- drawing
 
-function escape(text) {
-  gsub(/&/, "\\&amp;", text)
-  gsub(/</, "\\&lt;", text)
-  gsub(/>/, "\\&gt;", text)
-  return text
-}
-
 function x_of(seat) { return gutter + (seat - 1) * lane + 26 }
 function y_of(row) { return head + row * pitch }
-
-# two sets of colours: the second for readers who want a dark page
-function colours(back, ink, soft, faint, own, carry, sleep, post, grant) {
-  printf ".back{fill:%s}.ink{fill:%s}.soft{fill:%s}.halo{stroke:%s}", back, ink, soft, back
-  printf ".lane{stroke:%s}.rule{stroke:%s}.call{stroke:%s}", faint, faint, soft
-  printf ".own{fill:%s}.stripe{stroke:%s}.edge{stroke:%s}.asleep{stroke:%s}", own, carry, carry, sleep
-  printf ".post{stroke:%s}.grant{stroke:%s}.posthead{fill:%s}.granthead{fill:%s}", post, grant, post, grant
-  printf ".mark{fill:%s;stroke:%s}.hollow{fill:%s;stroke:%s}.cross{stroke:%s}", ink, back, back, ink, post
-}
-
-function label(x, y, class, anchor, text) {
-  printf "<text x=\"%d\" y=\"%d\" class=\"%s\"%s>%s</text>\n", x, y, class, anchor == "" ? "" : " text-anchor=\"" anchor "\"", text
-}
 
 function draw_bar(kind, seat, from, to,    x, y, height) {
   x = x_of(seat)
@@ -359,22 +339,7 @@ END {
   legend(foot, 0)
   height = legend_y + 22
 
-  printf "<svg xmlns=\"http://www.w3.org/2000/svg\" viewBox=\"0 0 %d %d\" width=\"%d\" height=\"%d\" role=\"img\">\n", width, height, width, height
-  printf "<title>%s</title>\n<style>\n", escape(title)
-  print "text{font:12px 'DejaVu Sans',Verdana,Helvetica,Arial,sans-serif}"
-  print ".title{font-size:15px;font-weight:bold}.bold{font-weight:bold}.slant{font-style:italic}"
-  print ".halo{stroke-width:4px;stroke-linejoin:round;paint-order:stroke}"
-  print ".lane{stroke-width:1}.rule{stroke-width:1}.call{stroke-width:2}.edge{stroke-width:1}"
-  print ".asleep{stroke-width:2.5;stroke-dasharray:4 4;fill:none}.stripe{stroke-width:4}"
-  print ".arrow{stroke-width:2;fill:none}.cross{stroke-width:2;fill:none}.mark,.hollow{stroke-width:1.5}"
-  colours("#ffffff", "#1f2328", "#59636e", "#d1d9e0", "#2f6fdb", "#c25a00", "#8250df", "#c2255c", "#1a7f37")
-  printf "\n@media (prefers-color-scheme:dark){"
-  colours("#0d1117", "#f0f6fc", "#9aa4af", "#3d444d", "#4493f8", "#f0883e", "#b690ff", "#ff7b9c", "#3fb950")
-  print "}\n</style>"
-  print "<defs><pattern id=\"stripes\" width=\"8\" height=\"8\" patternUnits=\"userSpaceOnUse\" patternTransform=\"rotate(45)\"><path d=\"M0 0V8\" class=\"stripe\"/></pattern>"
-  print "<marker id=\"posthead\" viewBox=\"0 0 8 8\" refX=\"7\" refY=\"4\" markerWidth=\"9\" markerHeight=\"9\" markerUnits=\"userSpaceOnUse\" orient=\"auto\"><path d=\"M0 0L8 4L0 8z\" class=\"posthead\"/></marker>"
-  print "<marker id=\"granthead\" viewBox=\"0 0 8 8\" refX=\"7\" refY=\"4\" markerWidth=\"9\" markerHeight=\"9\" markerUnits=\"userSpaceOnUse\" orient=\"auto\"><path d=\"M0 0L8 4L0 8z\" class=\"granthead\"/></marker></defs>"
-  printf "<rect width=\"%d\" height=\"%d\" class=\"back\"/>\n", width, height
+  open_picture(title, width, height)
   label(16, 26, "ink title", "", escape(title))
   for (s = 1; s <= seats; s++) label(x_of(s), head - 14, "ink bold", "middle", "seat " s)
   label(16, head - 14, "soft", "", "line")

@@ -1,0 +1,43 @@
+# What all pictures have alike: texts, the two sets of colours, and the head of a picture.
+
+function escape(text) {
+  gsub(/&/, "\\&amp;", text)
+  gsub(/</, "\\&lt;", text)
+  gsub(/>/, "\\&gt;", text)
+  return text
+}
+
+# two sets of colours: the second for readers who want a dark page
+function colours(back, ink, soft, faint, own, carry, sleep, post, grant) {
+  printf ".back{fill:%s}.ink{fill:%s}.soft{fill:%s}.halo{stroke:%s}", back, ink, soft, back
+  printf ".box{fill:%s;stroke:%s}.plain{stroke:%s}.plainhead{fill:%s}", back, soft, soft, soft
+  printf ".lane{stroke:%s}.rule{stroke:%s}.call{stroke:%s}", faint, faint, soft
+  printf ".own{fill:%s}.stripe{stroke:%s}.edge{stroke:%s}.asleep{stroke:%s}", own, carry, carry, sleep
+  printf ".post{stroke:%s}.grant{stroke:%s}.posthead{fill:%s}.granthead{fill:%s}", post, grant, post, grant
+  printf ".mark{fill:%s;stroke:%s}.hollow{fill:%s;stroke:%s}.cross{stroke:%s}", ink, back, back, ink, post
+}
+
+function label(x, y, class, anchor, text) {
+  printf "<text x=\"%d\" y=\"%d\" class=\"%s\"%s>%s</text>\n", x, y, class, anchor == "" ? "" : " text-anchor=\"" anchor "\"", text
+}
+
+# begins a picture of this size, with its styles and its background
+function open_picture(title, width, height) {
+  printf "<svg xmlns=\"http://www.w3.org/2000/svg\" viewBox=\"0 0 %d %d\" width=\"%d\" height=\"%d\" role=\"img\">\n", width, height, width, height
+  printf "<title>%s</title>\n<style>\n", escape(title)
+  print "text{font:12px 'DejaVu Sans',Verdana,Helvetica,Arial,sans-serif}"
+  print ".title{font-size:15px;font-weight:bold}.bold{font-weight:bold}.slant{font-style:italic}"
+  print ".halo{stroke-width:4px;stroke-linejoin:round;paint-order:stroke}"
+  print ".lane{stroke-width:1}.rule{stroke-width:1}.call{stroke-width:2}.edge{stroke-width:1}"
+  print ".asleep{stroke-width:2.5;stroke-dasharray:4 4;fill:none}.stripe{stroke-width:4}"
+  print ".arrow{stroke-width:2;fill:none}.cross{stroke-width:2;fill:none}.mark,.hollow,.box{stroke-width:1.5}"
+  colours("#ffffff", "#1f2328", "#59636e", "#d1d9e0", "#2f6fdb", "#c25a00", "#8250df", "#c2255c", "#1a7f37")
+  printf "\n@media (prefers-color-scheme:dark){"
+  colours("#0d1117", "#f0f6fc", "#9aa4af", "#3d444d", "#4493f8", "#f0883e", "#b690ff", "#ff7b9c", "#3fb950")
+  print "}\n</style>"
+  print "<defs><pattern id=\"stripes\" width=\"8\" height=\"8\" patternUnits=\"userSpaceOnUse\" patternTransform=\"rotate(45)\"><path d=\"M0 0V8\" class=\"stripe\"/></pattern>"
+  print "<marker id=\"posthead\" viewBox=\"0 0 8 8\" refX=\"7\" refY=\"4\" markerWidth=\"9\" markerHeight=\"9\" markerUnits=\"userSpaceOnUse\" orient=\"auto\"><path d=\"M0 0L8 4L0 8z\" class=\"posthead\"/></marker>"
+  print "<marker id=\"granthead\" viewBox=\"0 0 8 8\" refX=\"7\" refY=\"4\" markerWidth=\"9\" markerHeight=\"9\" markerUnits=\"userSpaceOnUse\" orient=\"auto\"><path d=\"M0 0L8 4L0 8z\" class=\"granthead\"/></marker>"
+  print "<marker id=\"plainhead\" viewBox=\"0 0 8 8\" refX=\"7\" refY=\"4\" markerWidth=\"9\" markerHeight=\"9\" markerUnits=\"userSpaceOnUse\" orient=\"auto\"><path d=\"M0 0L8 4L0 8z\" class=\"plainhead\"/></marker></defs>"
+  printf "<rect width=\"%d\" height=\"%d\" class=\"back\"/>\n", width, height
+}

@@ -44,7 +44,7 @@ pub fn tickets_are_claimed_once()
 {}
 
 /// First come, first served: wakes claim the tickets of a condvar in the order in which they were given, from 1 on and with
-/// none left out. Where the lock is free, as many were claimed as count as sent.
+/// none left out. While the lock is free, the number of claimed tickets is the count of sent ones.
 ///
 /// Definition: `ClaimsAreInOrder` in `specs/laws/Laws.antt`. Proof: `proofs/lawful/reached/WaitsSent.antt`.
 pub fn claims_are_in_order()
@@ -105,7 +105,7 @@ pub fn waits_end_holding()
     ensures { WaitsEndHolding }
 {}
 
-/// There is a run in which a `wait` is about to end. So the other laws are not of nothing.
+/// There is a run in which a `wait` is about to end. So the other laws speak of something that happens.
 ///
 /// Definition: `WaitsCanEnd` in `specs/laws/Laws.antt`. Proof: `proofs/lawful/reached/OneWait.antt`.
 pub fn waits_can_end()

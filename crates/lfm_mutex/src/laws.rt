@@ -8,31 +8,29 @@ ghost use Rattle.lfm_mutex.specs.TableEvents.{TablesStepAsTheCore};
 
 use lfm_table::Kept;
 
-/// The running mutex is the core: at every moment its words and seats are a steady, and so a lawful, state of the core. So
-/// every law of the core that speaks of a steady state holds of them.
+/// At every moment the words and seats of a running mutex are a steady, and so a lawful, state of the core. So every law of
+/// the core that speaks of a steady state holds of them.
 ///
 /// Definition: `TablesAreSteady` in `specs/Laws.antt`. Proof: `proofs/LawsHeld.antt`.
 pub fn tables_are_steady<T: Kept>()
     ensures { TablesAreSteady T.follows T.fits }
 {}
 
-/// No lost wake-up: while a handoff is posted, some call in flight will still look at it, or has looked and will try to
-/// take it.
+/// No lost wake-up: while a post stands, some open call will see it, or has seen it and not yet tried for it.
 ///
 /// Definition: `PostsAreWatched` in `specs/Laws.antt`. Proof: `proofs/LawsHeld.antt`.
 pub fn posts_are_watched<T: Kept>()
     ensures { PostsAreWatched T.follows T.fits }
 {}
 
-/// When no call is in flight, no handoff is left posted. If the count is then above 0, either a seat holds the mutex, or
-/// a sleeping seat has a grant in its wake word.
+/// Without an open call nothing is posted. If the count is above 0 then, a seat owns, or a sleeping seat has its grant.
 ///
 /// Definition: `QuietTablesRest` in `specs/Laws.antt`. Proof: `proofs/LawsHeld.antt`.
 pub fn quiet_tables_rest<T: Kept>()
     ensures { QuietTablesRest T.follows T.fits }
 {}
 
-/// A call that has won the exchange of a posted handoff finds a record when it clears the push list.
+/// A `lock`, `unlock` or `send_lock` that has won a post finds a record when it clears the push list.
 ///
 /// Definition: `TakesFindARecord` in `specs/Laws.antt`. Proof: `proofs/LawsHeld.antt`.
 pub fn takes_find_a_record<T: Kept>()

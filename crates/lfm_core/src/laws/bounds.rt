@@ -48,8 +48,8 @@ pub fn tries_and_receives_are_bounded()
     ensures schedules { TriesAndReceivesAreBoundedInSchedules }
 {}
 
-/// An open call whose seat alone makes steps ends within N + 16 of them, N being the number of seats. So many steps `*`
-/// makes at most.
+/// An open call whose seat alone makes steps ends within N + 16 of them, N being the number of seats. So `*` makes at most
+/// N + 16 steps.
 ///
 /// Definitions: `CallsEndAlone` in `specs/laws/Laws.antt`, and `CallsEndAloneInSchedules` in `specs/laws/InSchedules.antt`.
 /// Proofs: `proofs/lawful/bounds/CallsEnd.antt` and `proofs/lawful/runs/InSchedules.antt`.

@@ -14,7 +14,7 @@ pub fn calls_take_effect_once()
     ensures schedules { CallsTakeEffectOnceInSchedules }
 {}
 
-/// Whatever changes the abstract mutex, so who owns it, asks for it or is queued, is a step of a seat whose call is open.
+/// What changes the abstract mutex (who owns it, who asks for it, who is queued) is a step of a seat whose call is open.
 ///
 /// Definition: `ChangesAreOfOpenCalls` in `specs/laws/Effects.antt`. Proof: `proofs/lawful/calls/EffectsOwned.antt`.
 pub fn changes_are_of_open_calls()

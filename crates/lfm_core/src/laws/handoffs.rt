@@ -78,7 +78,7 @@ pub fn calls_post_once()
     ensures schedules { CallsPostOnceInSchedules }
 {}
 
-/// A call wakes one seat at most: none stores two grants, however the other seats interleave with it.
+/// A call grants the mutex to one seat at most: none stores two grants, however the other seats interleave with it.
 ///
 /// Definitions: `CallsGrantOnce` in `specs/laws/Grants.antt`, and `CallsGrantOnceInSchedules` in
 /// `specs/laws/InSchedules.antt`. Proofs: `proofs/lawful/bounds/GrantsOnce.antt` and `proofs/lawful/runs/InSchedules.antt`.

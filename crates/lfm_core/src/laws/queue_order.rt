@@ -69,9 +69,9 @@ pub fn no_seat_overtakes_twice()
     ensures schedules { NoSeatOvertakesTwiceInSchedules }
 {}
 
-/// Where no other calls begin than unlocks, and receives of seats that have their grant, at most (5N + 5)(o + 2k + 2) steps
-/// of calls are made as long as a queued record with k before it has not left, N being the number of seats and o how many
-/// calls were open.
+/// Take a stretch of a run in which the only calls that begin are unlocks, and receives of seats that have their grant. As
+/// long as a queued record with k before it has not left, calls make at most (5N + 5)(o + 2k + 2) steps, N being the number
+/// of seats and o the number of calls that were open.
 ///
 /// Definitions: `QueuedSeatsAreServedSoon` in `specs/laws/Service.antt`, and `QueuedSeatsAreServedSoonInSchedules` in
 /// `specs/laws/InSchedules.antt`. Proofs: `proofs/lawful/bounds/Served.antt` and `proofs/lawful/runs/InSchedules.antt`.

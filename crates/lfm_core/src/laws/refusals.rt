@@ -38,8 +38,8 @@ pub fn steps_are_refused_for_cause()
     ensures { StepsAreRefusedForCause }
 {}
 
-/// A begin or a step is refused exactly where there is its cause. NoSuchSeat: no such seat. InCall: a call is open. Idle:
-/// none is. Otherwise it is the mutex's.
+/// A begin or a step is refused exactly if there is its cause. NoSuchSeat: no such seat. InCall: a call of the seat is open.
+/// Idle: no call of it is. Any other refusal is one of the call itself.
 ///
 /// Definition: `TurnsAreRefusedForCause` in `specs/laws/Refusals.antt`. Proof: `proofs/lawful/refusals/RefusedTurns.antt`.
 pub fn turns_are_refused_for_cause()

@@ -57,8 +57,8 @@ pub fn begins_touch_one_seat()
     ensures { BeginsTouchOneSeat }
 {}
 
-/// One step as it is at a list of packed numbers: which number becomes which, and what becomes of the seat, the pop list
-/// and the ghost. Its premise, that seat numbers which were read are below 65,536, holds of every reached state.
+/// A step at a list of packed numbers changes the one number of its place, the seat, the pop list and the ghost as the step
+/// of the core does. Its premise, that seat numbers which were read are below 65,536, holds of every reached state.
 ///
 /// Definitions: `StepsAtATable` and `ReachedAreNarrow` in `specs/laws/Steadiness.antt`, with `TableStep` in
 /// `specs/table/Carried.antt`. Proofs: `proofs/table/TableSteps.antt` and `proofs/lawful/runs/KeptSteady.antt`.

@@ -2,6 +2,7 @@
 pub mod AtWord
 pub mod ByKind
 pub mod CoreFacts
+pub mod Numbered
 pub mod RuleKept
 pub mod SeatKept
 pub mod ServingSteps

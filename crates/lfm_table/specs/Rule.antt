@@ -47,7 +47,9 @@ first_view l x =
       trail = [];
       last = Some x;
       last_found = None;
+      ended = 0;
       found = None;
+      holds_ended = 0;
       popped = [];
       answered = 0;
       opening = Some x;
@@ -70,7 +72,9 @@ split_view v =
       trail = [];
       last = v.opening;
       last_found = None;
+      ended = 0;
       found = None;
+      holds_ended = 0;
       popped = [];
       answered = 0;
       opening = v.opening;
@@ -79,7 +83,7 @@ split_view v =
     }
 
 abbrev pub joined_of : {T : Type 0} → View T → Joined T
-joined_of w = record { number = w.number; last = w.last; found = w.last_found }
+joined_of w = record { number = w.number; last = w.last; found = w.last_found; ended = w.ended }
 
 -- v once it has taken in w
 abbrev pub with_joined : {T : Type 0} → View T → View T → View T
@@ -99,7 +103,9 @@ no_view =
       trail = [];
       last = None;
       last_found = None;
+      ended = 0;
       found = None;
+      holds_ended = 0;
       popped = [];
       answered = 0;
       opening = None;
@@ -126,16 +132,28 @@ pub record Roots {T : Type 0} (views : List (View T)) (k : View T) : Type 0 wher
   pub user : k.role ≡ User
   pub made : length views ≡ k.made + 1
   pub back : sum_over retired views ≡ length k.joined
-  pub kept : (i : ℕ) (g : Joined T) → get_elem? k.joined i ≡ some g → (j : ℕ) × (z : View T) × (get_elem? views j ≡ some z) × (z.role ≡ Retired) × (z.number ≡ g.number) × (z.last ≡ g.last) × (z.last_found ≡ g.found)
+  pub kept : (i : ℕ) (g : Joined T) → get_elem? k.joined i ≡ some g → (j : ℕ) × (z : View T) × (get_elem? views j ≡ some z) × (z.role ≡ Retired) × (z.number ≡ g.number) × (z.last ≡ g.last) × (z.last_found ≡ g.found) × (z.ended ≡ g.ended)
   pub gone : (j : ℕ) (z : View T) → get_elem? views j ≡ some z → z.role ≡ Retired → (i : ℕ) × (get_elem? k.joined i ≡ some (joined_of z))
 
 -- no seat has ended a hold
 abbrev pub NoneEnded : {T : Type 0} → List (View T) → Type 0
 NoneEnded {T} views = (j : ℕ) (v : View T) → get_elem? views j ≡ some v → v.last_found ≡ None
 
--- A seat that has ended a hold left this value last. Where none has, it is the opening value, which each seat has as its last.
-abbrev pub LeftIn : {T : Type 0} → List (View T) → T → Type 0
-LeftIn {T} views w = (j : ℕ) × (v : View T) × (get_elem? views j ≡ some v) × (v.last ≡ Some w) × (v.last_found ≡ None → NoneEnded views)
+-- Where so many holds have ended, this value was left by the last of them. Where none has, it is the opening value, which each seat
+-- has as its last.
+abbrev pub LeftIn : {T : Type 0} → List (View T) → ℕ → T → Type 0
+LeftIn {T} views n w = (j : ℕ) × (v : View T) × (get_elem? views j ≡ some v) × (v.last ≡ Some w) × (v.last_found ≡ None → NoneEnded views) × (v.ended ≡ n)
+
+-- The holds that the seats ended last, where so many have ended
+-- within: they are numbered up to that
+-- greatest: one of them has that number
+-- differ: no two have the same number
+-- opens: a seat that has ended none has the opening value as its last
+pub record AreNumbered {T : Type 0} (views : List (View T)) (n : ℕ) : Type 0 where
+  pub within : (j : ℕ) (v : View T) → get_elem? views j ≡ some v → v.ended ≤ n
+  pub greatest : 0 < n → (j : ℕ) × (v : View T) × (get_elem? views j ≡ some v) × (v.ended ≡ n)
+  pub differ : (i j : ℕ) (u v : View T) → get_elem? views i ≡ some u → get_elem? views j ≡ some v → 0 < u.ended → u.ended ≡ v.ended → i ≡ j
+  pub opens : (k : View T) (j : ℕ) (v : View T) → get_elem? views 0 ≡ some k → get_elem? views j ≡ some v → v.ended ≡ 0 → v.last ≡ k.opening
 
 -- The moving value
 
@@ -156,14 +174,18 @@ abbrev pub in_hand : {S : Type 0} → Bool → List (ℕ × Option S)
 in_hand true = (0, None) ∷ []
 in_hand false = []
 
--- what is noted of the value once a step was made at this point: only the store that ends a hold notes anew
-abbrev pub left_by : {T : Type 0} → Point → Option T → Option T → Option T
+-- what is noted of a hold once a step was made at this point: only the store that ends a hold notes anew
+abbrev pub left_by : {A : Type 0} → Point → A → A → A
 left_by (ReleaseOwnerStore releaser) new old = new
 left_by _ new old = old
 
--- of the hold that a seat ended last: the value that it left, and the value that it had found; and the limits of its table
-abbrev pub last_hold : {T : Type 0} → View T → Option T × Option T × Limits
-last_hold v = (v.last, v.last_found, v.limits)
+-- of the hold that a seat ended last: the value that it left, and the value that it had found; the limits of its table; and the
+-- number of that hold
+abbrev pub LastHold : Type 0 → Type 0
+LastHold T = Option T × Option T × Limits × ℕ
+
+abbrev pub last_hold : {T : Type 0} → View T → LastHold T
+last_hold v = (v.last, v.last_found, v.limits, v.ended)
 
 -- The rule
 
@@ -201,32 +223,34 @@ module _ {T : Type 0} (follows : ℕ → T → T → Type 0) (suits : T → ℕ 
   abbrev pub Mine : Type 0
   Mine = Me (Option (Moving T)) (View T)
 
-  -- the value at home
-  pub record AtHome (c : Core) (g : Ghost) (homes : List (maybe.Option (Option (Moving T)))) (views : List (View T)) : Type 0 where
+  -- the value at home, where so many holds have ended
+  pub record AtHome (c : Core) (g : Ghost) (n : ℕ) (homes : List (maybe.Option (Option (Moving T)))) (views : List (View T)) : Type 0 where
     pub value : Moving T
     pub here : get_elem? homes 0 ≡ some (some (Some value))
     pub records : value.popped.records ≡ c.popped
     pub room : value.popped.room ≡ length c.seats
     pub leads : LeadsToValue follows (λ _. ⊤) views value.value
     pub awaits : Awaits follows views value.value
-    pub left : LeftIn views value.value
+    pub left : LeftIn views n value.value
     pub fits : suits value.value g.answered
 
-  -- the value that the seat at place j, whose view is v, carries
-  pub record WithSeat (c : Core) (g : Ghost) (views : List (View T)) (j : ℕ) (v : View T) : Type 0 where
+  -- the value that the seat at place j, whose view is v, carries, where so many holds have ended
+  pub record WithSeat (c : Core) (g : Ghost) (n : ℕ) (views : List (View T)) (j : ℕ) (v : View T) : Type 0 where
     pub value : T
     pub found : v.found ≡ Some value
     pub popped : v.popped ≡ c.popped
     pub answered : v.answered ≡ g.answered
+    pub holds : v.holds_ended ≡ n
     pub leads : LeadsToValue follows (λ i. i ≢ j) views value
     pub awaits : Awaits follows views value
     pub shallow : v.standing.depth ≡ 0 → suits value v.answered × ((l : T) → v.last ≡ Some l → Reached follows v.limits.seats (j + 1) l value)
-    pub left : v.standing.depth ≡ 0 → LeftIn views value
+    pub left : v.standing.depth ≡ 0 → LeftIn views n value
 
   -- words and views are a steady state of the core, and the value is where the core says
   pub record Held (s : State (Option (Moving T)) (View T)) : Type 0 where
     pub core : Core
     pub ghost_state : Ghost
+    pub holds_ended : ℕ
     pub fits : Fits core ghost_state
     pub narrow : AreNarrow core.seats
     pub words_are : s.words ≡ words core
@@ -234,8 +258,9 @@ module _ {T : Type 0} (follows : ℕ → T → T → Type 0) (suits : T → ℕ 
     pub few : length s.views ≤ length core.seats
     pub each : (j : ℕ) (v : View T) → get_elem? s.views j ≡ some v → Sits core j v
     pub later : (j : ℕ) → length s.views ≤ j → seat core.seats (j + 1) ≡ absent
-    pub home : ((t : ℕ) → carries_value (seat core.seats t) ≡ false) → AtHome core ghost_state s.homes s.views
-    pub outside : (j : ℕ) (v : View T) → get_elem? s.views j ≡ some v → carries_value v.standing ≡ true → WithSeat core ghost_state s.views j v
+    pub home : ((t : ℕ) → carries_value (seat core.seats t) ≡ false) → AtHome core ghost_state holds_ended s.homes s.views
+    pub outside : (j : ℕ) (v : View T) → get_elem? s.views j ≡ some v → carries_value v.standing ≡ true → WithSeat core ghost_state holds_ended s.views j v
+    pub numbered : AreNumbered s.views holds_ended
     pub root : (k : View T) → get_elem? s.views 0 ≡ some k → Roots s.views k
     pub others : (j : ℕ) (v : View T) → get_elem? s.views j ≡ some v → v.role ≡ Retired → (v.standing.point ≡ Rest) × (v.standing.depth ≡ 0)
 
@@ -247,9 +272,10 @@ module _ {T : Type 0} (follows : ℕ → T → T → Type 0) (suits : T → ℕ 
   Hands true false q a popped m m' = m'.1 ≡ []
   Hands true true q a popped m m' = (m'.1 ≡ m.1) × (m'.0.found ≡ left_by q a m.0.found)
 
-  -- what a carrier at depth 0 knows of the value
+  -- what a carrier at depth 0 knows of the value, and of its own last hold: no later one has ended, or the value is what it left
   abbrev pub Knows : View T → Type 0
-  Knows v = (y : T) → v.found ≡ Some y → suits y v.answered × ((l : T) → v.last ≡ Some l → Reached follows v.limits.seats v.number l y)
+  Knows v =
+      (y : T) → v.found ≡ Some y → suits y v.answered × ((l : T) → v.last ≡ Some l → Reached follows v.limits.seats v.number l y) × (v.ended ≤ v.holds_ended) × (v.ended ≡ v.holds_ended → v.last ≡ Some y)
 
   -- a push exchange that fails has found a later push word
   abbrev pub SeesChange : Point → ℕ → Type 0
@@ -264,6 +290,8 @@ module _ {T : Type 0} (follows : ℕ → T → T → Type 0) (suits : T → ℕ 
     pub trail : m'.0.trail ≡ m.0.trail ++ seen p.point n ∷ []
     pub last : m'.0.last ≡ left_by p.point a m.0.last
     pub last_found : m'.0.last_found ≡ left_by p.point m.0.found m.0.last_found
+    pub ended : m'.0.ended ≡ left_by p.point (m.0.holds_ended + 1) m.0.ended
+    pub holds : carries_value p ≡ true → m'.0.holds_ended ≡ left_by p.point (m.0.holds_ended + 1) m.0.holds_ended
     pub listed : m'.0.popped ≡ popped_by_step p m.0.number n popped
     pub had : carries_value p ≡ true → popped ≡ m.0.popped
     pub deep : DepthAt p.depth p.point

@@ -16,11 +16,13 @@ pub struct Seen {
     pub found: u64,
 }
 
-/// A seat that was joined, with the value that it left last, and the one that it had found before that.
+/// A seat that was joined, with the value that it left last, the one that it had found before that, and the number of the
+/// hold that it ended then.
 pub struct Joined<T> {
     pub number: u64,
     pub last: Option<T>,
     pub found: Option<T>,
+    pub ended: u64,
 }
 
 /// What a seat of the table knows. No value of it is ever made: it is for proofs alone.
@@ -36,8 +38,13 @@ pub struct View<T> {
     pub last: Option<T>,
     /// The value that the seat had found when it came to the hold that it ended last; None before that.
     pub last_found: Option<T>,
+    /// The number of the hold that the seat ended last; 0 before that. Holds are numbered 1, 2, 3 and on over all seats, in
+    /// the order in which they end.
+    pub ended: u64,
     /// While the seat carries the responsibility: the value that it found, or the one that it is about to leave.
     pub found: Option<T>,
+    /// While the seat carries the responsibility: how many holds have ended.
+    pub holds_ended: u64,
     /// The pop list after the seat's last step.
     pub popped: LinkedList<Record>,
     /// How many seats had come to hold by a queued record, at the seat's last step.

@@ -40,10 +40,11 @@ use Rattle.lfm_table.specs.declared.seat_view.Joined.{Joined}
 use Rattle.lfm_table.specs.declared.seat_view.View.{View}
 use Rattle.lfm_table.specs.declared.rule.Moving.{Moving}
 use Rattle.lfm_table.specs.Reach.{IsOther, Leads, Reached}
-use Rattle.lfm_table.specs.Rule.{seen, retired, retired_at, sum_over, Roots, left_by, Sits, LeadsToValue, Awaits, NoneEnded, LeftIn, SameRoot, WithSeat, Held, Hands, Knows, CollectsWithin, Advanced}
+use Rattle.lfm_table.specs.Rule.{seen, retired, retired_at, sum_over, Roots, left_by, Sits, LeadsToValue, Awaits, NoneEnded, LeftIn, AreNumbered, SameRoot, WithSeat, Held, Hands, Knows, CollectsWithin, Advanced}
 use Rattle.lfm_table.specs.Settled.{Became}
 use Rattle.lfm_table.specs.Steps.{stores, Ready}
 use Rattle.lfm_table.proofs.tables.CoreFacts as core
+use Rattle.lfm_table.proofs.tables.Numbered.{left_own, numbered_same, numbered_next}
 use Rattle.lfm_table.proofs.tables.SettledKept.{settles_of}
 use Rattle.lfm_table.proofs.tables.StepFacts.{release_of, released, shallow_step, no_answer, empty_depth, left_same, left_new, not_release, carrying, list_stays, told_by, told_list, became_depth}
 
@@ -79,6 +80,10 @@ some_same x y e = cc
 not_none : {A : Type 0} (x : A) → Some x ≡ None → ⊥
 not_none x e = cc
 
+true_of : (b : Bool) → b ≢ false → b ≡ true
+true_of true n = refl
+true_of false n = absurd (n refl)
+
 not_both : (r : Role) → r ≡ User → r ≡ Retired → ⊥
 not_both r u e = cc
 
@@ -112,10 +117,10 @@ module _ {T : Type 0} (follows : ℕ → T → T → Type 0) (suits : T → ℕ 
         (λ (t : (j ≢ id) × (get_elem? s.views j ≡ some z)). t.1) (at_set s.views id j w z e)
 
     abbrev AreKept : List (View T) → List (Joined T) → Type 0
-    AreKept views joined = (i : ℕ) (g : Joined T) → get_elem? joined i ≡ some g → (j : ℕ) × (z : View T) × (get_elem? views j ≡ some z) × (z.role ≡ Retired) × (z.number ≡ g.number) × (z.last ≡ g.last) × (z.last_found ≡ g.found)
+    AreKept views joined = (i : ℕ) (g : Joined T) → get_elem? joined i ≡ some g → (j : ℕ) × (z : View T) × (get_elem? views j ≡ some z) × (z.role ≡ Retired) × (z.number ≡ g.number) × (z.last ≡ g.last) × (z.last_found ≡ g.found) × (z.ended ≡ g.ended)
 
     kept_on : (g : List (Joined T)) → AreKept s.views g → AreKept vs g
-    kept_on g old i x e = let a = old i x e in (a.0, a.1, stay_gone a.0 a.1 a.2 a.3, a.3, a.4, a.5, a.6)
+    kept_on g old i x e = let a = old i x e in (a.0, a.1, stay_gone a.0 a.1 a.2 a.3, a.3, a.4, a.5, a.6, a.7)
 
     roots_on : (k z : View T) → Roots s.views k → z.role ≡ k.role → z.made ≡ k.made → z.joined ≡ k.joined → Roots vs z
     roots_on k z r role made joined = record {
@@ -176,16 +181,17 @@ module _ {T : Type 0} (follows : ℕ → T → T → Type 0) (suits : T → ℕ 
         (λ (t : (j ≢ id) × (get_elem? s.views j ≡ some z)). all j z t.1) (at_set s.views id j w z e)
 
     -- that some seat left a value last, where what is noted of this seat's last hold is as before
-    pub left_on : (y : T) → w.last ≡ v.last → w.last_found ≡ v.last_found → LeftIn s.views y → LeftIn vs y
-    left_on y same_last same_found old = dite (ℕ_discrete old.0 id)
+    pub left_on : (n : ℕ) (y : T) → w.last ≡ v.last → w.last_found ≡ v.last_found → w.ended ≡ v.ended → LeftIn s.views n y → LeftIn vs n y
+    left_on n y same_last same_found same_ended old = dite (ℕ_discrete old.0 id)
         (λ q. let one : v ≡ old.1 = some-injective v old.1 (sym at ∙ subst (λ (i : ℕ). get_elem? s.views i ≡ some old.1) q old.2) in (
           id,
           w,
           set_here s.views id w (length_at s.views id v at),
           same_last ∙ (ap (λ (u : View T). u.last) one ∙ old.3),
           λ none. none_on same_found (old.4 (sym (ap (λ (u : View T). u.last_found) one) ∙ (sym same_found ∙ none))),
+          same_ended ∙ (ap (λ (u : View T). u.ended) one ∙ old.5),
         ))
-        (λ n. (old.0, old.1, set_else s.views id old.0 w n ∙ old.2, old.3, λ none. none_on same_found (old.4 none)))
+        (λ other. (old.0, old.1, set_else s.views id old.0 w other ∙ old.2, old.3, (λ none. none_on same_found (old.4 none)), old.5))
 
     pub awaits_on : (y : T) → Awaits follows s.views y → Awaits follows vs y
     awaits_on y old j k l far e is = let far' : length s.views ≤ j = subst (λ (n : ℕ). n ≤ j) (length-set s.views id w) far in ⊎_elim
@@ -281,18 +287,26 @@ module _ {T : Type 0} (follows : ℕ → T → T → Type 0) (suits : T → ℕ 
       carried = ap carries_value (sym here) ∙ core.carried_same c g num p is h.fits settles
 
       -- where the value is out with this seat
-      was : carries_value p ≡ true → WithSeat follows suits c g s.views id me.0
+      was : carries_value p ≡ true → WithSeat follows suits c g h.holds_ended s.views id me.0
       was carries = h.outside id me.0 at (carried ∙ carries)
 
       knows : carries_value p ≡ true → p.depth ≡ 0 → Knows follows suits me.0
       knows carries shallow y e =
           let w = was carries in
           let same : w.value ≡ y = some_same w.value y (sym w.found ∙ e) in
-          let k0 = w.shallow (became_depth me.0.standing me.0.limits p to shallow) in
-          (subst (λ (z : T). suits z me.0.answered) same k0.0, λ l is_last. subst (λ (z : T × ℕ). Reached follows me.0.limits.seats z.1 l z.0) (λ j. (same j, sym placed j)) (k0.1 l is_last))
+          let flat = became_depth me.0.standing me.0.limits p to shallow in
+          let k0 = w.shallow flat in (
+            subst (λ (z : T). suits z me.0.answered) same k0.0,
+            (λ l is_last. subst (λ (z : T × ℕ). Reached follows me.0.limits.seats z.1 l z.0) (λ j. (same j, sym placed j)) (k0.1 l is_last)),
+            subst (λ (m : ℕ). me.0.ended ≤ m) (sym w.holds) (h.numbered.within id me.0 at),
+            λ own. left_own s.views h.holds_ended w.value h.numbered (w.left flat) id me.0 at (own ∙ w.holds) ∙ ap Some same,
+          )
+
+      abbrev holds_after : ℕ
+      holds_after = left_by p.point (h.holds_ended + 1) h.holds_ended
 
       abbrev next_view : Option T → View T
-      next_view found = record me.0 { standing = st.seat; trail = me.0.trail ++ seen p.point (k n) ∷ []; last = left_by p.point a me.0.last; last_found = left_by p.point me.0.found me.0.last_found; found = found; popped = popped_after; answered = ts.ghost_after.answered }
+      next_view found = record me.0 { standing = st.seat; trail = me.0.trail ++ seen p.point (k n) ∷ []; last = left_by p.point a me.0.last; last_found = left_by p.point me.0.found me.0.last_found; ended = left_by p.point (me.0.holds_ended + 1) me.0.ended; found = found; holds_ended = holds_after; popped = popped_after; answered = ts.ghost_after.answered }
 
       same_root : (found : Option T) → SameRoot me.0 (next_view found)
       same_root found = record { number = refl; limits_are = refl; opening = refl; made = refl; joined_are = refl }
@@ -337,6 +351,8 @@ module _ {T : Type 0} (follows : ℕ → T → T → Type 0) (suits : T → ℕ 
         trail = refl;
         last = refl;
         last_found = refl;
+        ended = refl;
+        holds = λ carries. ap (λ (m : ℕ). left_by p.point (m + 1) m) (sym (was carries).holds);
         listed = refl;
         had = λ carries. sym (was carries).popped;
         deep = core.depth_at c g num p is h.fits settles;
@@ -371,6 +387,32 @@ module _ {T : Type 0} (follows : ℕ → T → T → Type 0) (suits : T → ℕ 
       kept_found : ((r : Releaser) → p.point ≢ ReleaseOwnerStore r) → left_by p.point me.0.found me.0.last_found ≡ me.0.last_found
       kept_found other = left_same p.point me.0.found me.0.last_found other
 
+      -- a step that ends no hold
+      same_holds : ((r : Releaser) → p.point ≢ ReleaseOwnerStore r) → holds_after ≡ h.holds_ended
+      same_holds other = left_same p.point (h.holds_ended + 1) h.holds_ended other
+
+      left_kept : (found : Option T) (y : T) → ((r : Releaser) → p.point ≢ ReleaseOwnerStore r) → LeftIn s.views h.holds_ended y → LeftIn (set s.views id (next_view found)) holds_after y
+      left_kept found y other old =
+          subst (λ (m : ℕ). LeftIn (set s.views id (next_view found)) m y) (sym (same_holds other))
+          (left_on s h id me.0 at user (next_view found) refl (same_root found) h.holds_ended y (left_same p.point a me.0.last other) (kept_found other) (left_same p.point (me.0.holds_ended + 1) me.0.ended other) old)
+
+      -- the number of the hold that the step ends
+      next_hold : (r : Releaser) → p.point ≡ ReleaseOwnerStore r → me.0.holds_ended + 1 ≡ holds_after
+      next_hold r e =
+          let carries = true_of (carries_value p) (λ none. not_release p.depth p.point (core.depth_at c g num p is h.fits settles) (empty_depth p none) r e) in
+          ap (λ (m : ℕ). m + 1) (was carries).holds ∙ sym (left_new p.point r (h.holds_ended + 1) h.holds_ended e)
+
+      numbered_now : (found : Option T) → AreNumbered (set s.views id (next_view found)) holds_after
+      numbered_now found = elim (release_of p.point) [
+        | inl r ↦
+            let after : holds_after ≡ h.holds_ended + 1 = left_new p.point r.0 (h.holds_ended + 1) h.holds_ended r.1 in
+            subst (λ (m : ℕ). AreNumbered (set s.views id (next_view found)) m) (sym after)
+            (numbered_next s.views id me.0 (next_view found) at (length_at s.views id me.0 at) refl h.holds_ended (left_new p.point r.0 (me.0.holds_ended + 1) me.0.ended r.1 ∙ (next_hold r.0 r.1 ∙ after)) h.numbered)
+        | inr other ↦
+            subst (λ (m : ℕ). AreNumbered (set s.views id (next_view found)) m) (sym (same_holds other))
+            (numbered_same s.views id me.0 (next_view found) at (length_at s.views id me.0 at) refl h.holds_ended (left_same p.point a me.0.last other) (left_same p.point (me.0.holds_ended + 1) me.0.ended other) h.numbered)
+      ]
+
       -- The value leaves its home
 
       gains : carries_value p ≡ false → carries_value st.seat ≡ true → MovedBy false true → Done
@@ -386,6 +428,7 @@ module _ {T : Type 0} (follows : ℕ → T → T → Type 0) (suits : T → ℕ 
             record {
               core = ts.after;
               ghost_state = ts.ghost_after;
+              holds_ended = holds_after;
               fits = ts.fits;
               narrow = ts.narrow;
               words_are = words_after;
@@ -395,21 +438,23 @@ module _ {T : Type 0} (follows : ℕ → T → T → Type 0) (suits : T → ℕ 
               later = later_on (Some x.value.value);
               home = λ nobody. absurd (false≢true (sym (nobody num) ∙ did.1));
               outside = λ j z e one. ⊎_elim
-                  (λ (t : (j ≡ id) × (w ≡ z)). subst (λ (u : ℕ × View T). WithSeat follows suits ts.after ts.ghost_after (set s.views id w) u.0 u.1) (λ q. (sym t.0 q, t.1 q)) (record {
+                  (λ (t : (j ≡ id) × (w ≡ z)). subst (λ (u : ℕ × View T). WithSeat follows suits ts.after ts.ghost_after holds_after (set s.views id w) u.0 u.1) (λ q. (sym t.0 q, t.1 q)) (record {
                     value = x.value.value;
                     found = refl;
                     popped = sym popped_is;
                     answered = refl;
+                    holds = refl;
                     leads = leads_off s h id me.0 at user w refl root x.value.value (λ j z l e ok is_last. x.leads j z l e tt is_last);
                     awaits = awaits_on s h id me.0 at user w refl root x.value.value x.awaits;
                     shallow = λ deep. (
                       subst (λ (m : ℕ). suits x.value.value m) (sym (same_answers deep)) x.fits,
                       λ l is_last. x.leads id me.0 l at tt (sym kept ∙ is_last),
                     );
-                    left = λ deep. left_on s h id me.0 at user w refl root x.value.value kept (kept_found (not_release p.depth p.point (core.depth_at c g num p is h.fits settles) shallow)) x.left;
+                    left = λ deep. left_kept (Some x.value.value) x.value.value (not_release p.depth p.point (core.depth_at c g num p is h.fits settles) shallow) x.left;
                   }))
                   (λ (t : (j ≢ id) × (get_elem? s.views j ≡ some z)). absurd (not_after (Some x.value.value) j z e (ap carries_value (other_after j t.0) ∙ did.0 (j + 1)) one))
                   (at_set s.views id j w z e);
+              numbered = numbered_now (Some x.value.value);
               root = root_on s h id me.0 at user w refl root;
               others = others_on s h id me.0 at user w refl root;
             },
@@ -446,6 +491,7 @@ module _ {T : Type 0} (follows : ℕ → T → T → Type 0) (suits : T → ℕ 
             record {
               core = ts.after;
               ghost_state = ts.ghost_after;
+              holds_ended = holds_after;
               fits = ts.fits;
               narrow = ts.narrow;
               words_are = words_after;
@@ -462,10 +508,11 @@ module _ {T : Type 0} (follows : ℕ → T → T → Type 0) (suits : T → ℕ 
                     (λ l is_last. subst (λ (y : T). Reached follows me.0.limits.seats (id + 1) l y) same (known.1 l (sym kept ∙ is_last)))
                     (subst (λ (y : T). LeadsToValue follows (λ j. j ≢ id) s.views y) same out.leads);
                 awaits = awaits_on s h id me.0 at user w refl root x.value (subst (λ (y : T). Awaits follows s.views y) same out.awaits);
-                left = left_on s h id me.0 at user w refl root x.value kept (kept_found other) (subst (λ (y : T). LeftIn s.views y) same (out.left (became_depth me.0.standing me.0.limits p to shallow)));
+                left = left_kept me.0.found x.value other (subst (λ (y : T). LeftIn s.views h.holds_ended y) same (out.left (became_depth me.0.standing me.0.limits p to shallow)));
                 fits = subst (λ (t : T × ℕ). suits t.0 t.1) (λ q. (same q, (out.answered ∙ sym (same_answers flat)) q)) known.0;
               };
               outside = λ j z e one. absurd (not_after me.0.found j z e (did.1 (j + 1)) one);
+              numbered = numbered_now me.0.found;
               root = root_on s h id me.0 at user w refl root;
               others = others_on s h id me.0 at user w refl root;
             },
@@ -489,6 +536,7 @@ module _ {T : Type 0} (follows : ℕ → T → T → Type 0) (suits : T → ℕ 
             record {
               core = ts.after;
               ghost_state = ts.ghost_after;
+              holds_ended = holds_after;
               fits = ts.fits;
               narrow = ts.narrow;
               words_are = words_after;
@@ -503,7 +551,7 @@ module _ {T : Type 0} (follows : ℕ → T → T → Type 0) (suits : T → ℕ 
                 room = x.room ∙ sym long;
                 leads = leads_on s h id me.0 at user w refl root (λ _. ⊤) x.value.value kept x.leads;
                 awaits = awaits_on s h id me.0 at user w refl root x.value.value x.awaits;
-                left = left_on s h id me.0 at user w refl root x.value.value kept (kept_found (not_release p.depth p.point (core.depth_at c g num p is h.fits settles) shallow)) x.left;
+                left = left_kept me.0.found x.value.value (not_release p.depth p.point (core.depth_at c g num p is h.fits settles) shallow) x.left;
                 fits = subst (λ (m : ℕ). suits x.value.value m) (sym (same_answers flat)) x.fits;
               };
               outside = λ j z e one. ⊎_elim
@@ -513,12 +561,14 @@ module _ {T : Type 0} (follows : ℕ → T → T → Type 0) (suits : T → ℕ 
                     found = o.found;
                     popped = o.popped ∙ list_same;
                     answered = o.answered ∙ sym (same_answers flat);
+                    holds = o.holds ∙ sym (same_holds (not_release p.depth p.point (core.depth_at c g num p is h.fits settles) shallow));
                     leads = leads_on s h id me.0 at user w refl root (λ q. q ≢ j) o.value kept o.leads;
                     awaits = awaits_on s h id me.0 at user w refl root o.value o.awaits;
                     shallow = o.shallow;
-                    left = λ low. left_on s h id me.0 at user w refl root o.value kept (kept_found (not_release p.depth p.point (core.depth_at c g num p is h.fits settles) shallow)) (o.left low);
+                    left = λ low. left_kept me.0.found o.value (not_release p.depth p.point (core.depth_at c g num p is h.fits settles) shallow) (o.left low);
                   })
                   (at_set s.views id j w z e);
+              numbered = numbered_now me.0.found;
               root = root_on s h id me.0 at user w refl root;
               others = others_on s h id me.0 at user w refl root;
             },
@@ -529,7 +579,7 @@ module _ {T : Type 0} (follows : ℕ → T → T → Type 0) (suits : T → ℕ 
 
       -- the facts of the value that this seat goes on carrying
       goes_on : carries_value p ≡ true → (w : View T) → w ≡ next_view (left_by p.point a me.0.found) → SameRoot me.0 w → w.role ≡ me.0.role
-          → WithSeat follows suits ts.after ts.ghost_after (set s.views id w) id w
+          → WithSeat follows suits ts.after ts.ghost_after holds_after (set s.views id w) id w
       goes_on before w w_is root role =
           let out = was before in
           let found_is : w.found ≡ left_by p.point a me.0.found = ap (λ (v : View T). v.found) w_is in
@@ -537,6 +587,8 @@ module _ {T : Type 0} (follows : ℕ → T → T → Type 0) (suits : T → ℕ 
           let last_found_is : w.last_found ≡ left_by p.point me.0.found me.0.last_found = ap (λ (v : View T). v.last_found) w_is in
           let popped_w : w.popped ≡ ts.after.popped = ap (λ (v : View T). v.popped) w_is ∙ sym popped_is in
           let answered_w : w.answered ≡ ts.ghost_after.answered = ap (λ (v : View T). v.answered) w_is in
+          let holds_w : w.holds_ended ≡ holds_after = ap (λ (v : View T). v.holds_ended) w_is in
+          let ended_is : w.ended ≡ left_by p.point (me.0.holds_ended + 1) me.0.ended = ap (λ (v : View T). v.ended) w_is in
           elim (release_of p.point) [
             | inl r ↦
                 let lv = ready.leaves r.0 r.1 before in
@@ -550,13 +602,14 @@ module _ {T : Type 0} (follows : ℕ → T → T → Type 0) (suits : T → ℕ 
                   found = found_is ∙ left_new p.point r.0 a me.0.found r.1 ∙ in_it;
                   popped = popped_w;
                   answered = answered_w;
+                  holds = holds_w;
                   leads = leads_next s h id me.0 at user w role root out.value x step out.leads;
                   awaits = awaits_new s h id me.0 at user w role root out.value x out.awaits step;
                   shallow = λ deep. (
                     subst (λ (m : ℕ). suits x m) (sym (answered_w ∙ ans)) lv.2,
                     λ l is_last. subst (λ (y : T). Reached follows w.limits.seats (id + 1) y x) (some_same x l (sym (last_is ∙ left_new p.point r.0 a me.0.last r.1 ∙ in_it) ∙ is_last)) (stays_reached follows w.limits.seats (id + 1) x),
                   );
-                  left = λ deep. (id, w, set_here s.views id w (length_at s.views id me.0 at), last_is ∙ left_new p.point r.0 a me.0.last r.1 ∙ in_it, λ none. absurd (not_none out.value (sym (last_found_is ∙ (left_new p.point r.0 me.0.found me.0.last_found r.1 ∙ out.found)) ∙ none)));
+                  left = λ deep. (id, w, set_here s.views id w (length_at s.views id me.0 at), last_is ∙ left_new p.point r.0 a me.0.last r.1 ∙ in_it, (λ none. absurd (not_none out.value (sym (last_found_is ∙ (left_new p.point r.0 me.0.found me.0.last_found r.1 ∙ out.found)) ∙ none))), ended_is ∙ (left_new p.point r.0 (me.0.holds_ended + 1) me.0.ended r.1 ∙ next_hold r.0 r.1));
                 }
             | inr other ↦
                 record {
@@ -564,6 +617,7 @@ module _ {T : Type 0} (follows : ℕ → T → T → Type 0) (suits : T → ℕ 
                   found = found_is ∙ left_same p.point a me.0.found other ∙ out.found;
                   popped = popped_w;
                   answered = answered_w;
+                  holds = holds_w;
                   leads = leads_off s h id me.0 at user w role root out.value out.leads;
                   awaits = awaits_on s h id me.0 at user w role root out.value out.awaits;
                   shallow = λ deep.
@@ -575,7 +629,7 @@ module _ {T : Type 0} (follows : ℕ → T → T → Type 0) (suits : T → ℕ 
                   left = λ deep.
                       let flat : st.seat.depth ≡ 0 = ap (λ (v : View T). v.standing.depth) (sym w_is) ∙ deep in
                       let was_flat = became_depth me.0.standing me.0.limits p to ((shallow_step p num (k n) (oldest c.popped) other).0 flat) in
-                      left_on s h id me.0 at user w role root out.value (last_is ∙ left_same p.point a me.0.last other) (last_found_is ∙ kept_found other) (out.left was_flat);
+                      subst (λ (z : View T). LeftIn (set s.views id z) holds_after out.value) (sym w_is) (left_kept (left_by p.point a me.0.found) out.value other (out.left was_flat));
                 }
           ]
 
@@ -598,6 +652,7 @@ module _ {T : Type 0} (follows : ℕ → T → T → Type 0) (suits : T → ℕ 
             record {
               core = ts.after;
               ghost_state = ts.ghost_after;
+              holds_ended = holds_after;
               fits = ts.fits;
               narrow = ts.narrow;
               words_are = words_after;
@@ -607,9 +662,10 @@ module _ {T : Type 0} (follows : ℕ → T → T → Type 0) (suits : T → ℕ 
               later = later_on found;
               home = λ nobody. absurd (false≢true (sym (nobody num) ∙ ap carries_value mine_after ∙ after));
               outside = λ j z e one. ⊎_elim
-                  (λ (t : (j ≡ id) × (w ≡ z)). subst (λ (u : ℕ × View T). WithSeat follows suits ts.after ts.ghost_after (set s.views id w) u.0 u.1) (λ q. (sym t.0 q, t.1 q)) (goes_on before w refl root refl))
+                  (λ (t : (j ≡ id) × (w ≡ z)). subst (λ (u : ℕ × View T). WithSeat follows suits ts.after ts.ghost_after holds_after (set s.views id w) u.0 u.1) (λ q. (sym t.0 q, t.1 q)) (goes_on before w refl root refl))
                   (λ (t : (j ≢ id) × (get_elem? s.views j ≡ some z)). absurd (alone j z before t.1 t.0 one))
                   (at_set s.views id j w z e);
+              numbered = numbered_now found;
               root = root_on s h id me.0 at user w refl root;
               others = others_on s h id me.0 at user w refl root;
             },

@@ -139,14 +139,14 @@ is_zero d e =
 pub empty_depth : (x : SeatState) → carries_value x ≡ false → x.depth ≡ 0
 empty_depth x e = is_zero x.depth (carries_if (nat_eq x.depth 0) (carries x.point) e)
 
-not_held : (q : Point) {T : Type 0} (new old : Option T) → ((r : Releaser) → q ≢ ReleaseOwnerStore r) → left_by q new old ≡ old
+not_held : (q : Point) {A : Type 0} (new old : A) → ((r : Releaser) → q ≢ ReleaseOwnerStore r) → left_by q new old ≡ old
 not_held (ReleaseOwnerStore r) new old other = absurd (other r refl)
 not_held _ new old other = refl
 
-pub left_same : {T : Type 0} (q : Point) (new old : Option T) → ((r : Releaser) → q ≢ ReleaseOwnerStore r) → left_by q new old ≡ old
+pub left_same : {A : Type 0} (q : Point) (new old : A) → ((r : Releaser) → q ≢ ReleaseOwnerStore r) → left_by q new old ≡ old
 left_same q new old other = not_held q new old other
 
-pub left_new : {T : Type 0} (q : Point) (r : Releaser) (new old : Option T) → q ≡ ReleaseOwnerStore r → left_by q new old ≡ new
+pub left_new : {A : Type 0} (q : Point) (r : Releaser) (new old : A) → q ≡ ReleaseOwnerStore r → left_by q new old ≡ new
 left_new q r new old at = rw at refl
 
 -- a seat at depth 0 is not at the store that ends a hold

@@ -1,6 +1,7 @@
 pub mod runs
 pub mod ends
 pub mod LawsHeld
+pub mod EndedHolds
 pub mod TableEvents
 pub mod TableStates
 pub mod Lists

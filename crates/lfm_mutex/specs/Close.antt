@@ -1,5 +1,5 @@
--- What keeps a mutex from being closed. A seat lies in something of type A, and `look` says how it is seen.
-use Rattle.std.specs.Prelude.{◌≡◌, ◌≢◌, ℕ, ◌<◌, ◌≤◌, List, [], true, false, Some, None}
+-- What keeps a mutex from being closed, and what a close gives back. A seat lies in something of type A, and `look` says how it is seen.
+use Rattle.std.specs.Prelude.{◌≡◌, ◌≢◌, ◌⊎◌, ℕ, ◌<◌, ◌≤◌, List, [], true, false, Some, None}
 use mathlib.Core.Option.{some}
 use lib.ListN.{get_elem?}
 use Rattle.lfm_model.specs.declared.refusals.Missing.{Missing}
@@ -32,6 +32,19 @@ module _ {A : Type 0} {T : Type 0} (look : A → Sight T) (seats : List A) where
   -- A seat that has held left this value last. Where none has, it is the opening value, which each seat has as its last.
   abbrev pub LeftLast : T → Type 0
   LeftLast v = (i : ℕ) × (s : A) × (get_elem? seats i ≡ some s) × ((look s).last ≡ Some v) × ((look s).found ≡ None → NoneHasHeld)
+
+  -- this seat ended the last hold of all, and left this value with it
+  abbrev pub EndedLast : T → Type 0
+  EndedLast v =
+      (i : ℕ) × (s : A) × (get_elem? seats i ≡ some s) × ((look s).last ≡ Some v) × (0 < (look s).ended) × ((j : ℕ) (t : A) → get_elem? seats j ≡ some t → (look t).number ≢ (look s).number → (look t).ended < (look s).ended)
+
+  -- no seat has ended a hold, and each has this value as its last, which is the opening value
+  abbrev pub NoneHasEnded : T → Type 0
+  NoneHasEnded v = (j : ℕ) (t : A) → get_elem? seats j ≡ some t → ((look t).ended ≡ 0) × ((look t).last ≡ Some v)
+
+  -- The last hold of all left this value. Where none has ended, it is the opening value
+  abbrev pub LeftByLastHold : T → Type 0
+  LeftByLastHold v = EndedLast v ⊎ NoneHasEnded v
 
   abbrev pub Lacks : ℕ → Type 0
   Lacks k = (i : ℕ) (s : A) → get_elem? seats i ≡ some s → (look s).number ≢ k

@@ -1,6 +1,7 @@
 pub mod calls
 pub mod Belongs
 pub mod Close
+pub mod EndedHolds
 pub mod Fresh
 pub mod Laws
 pub mod ValueMut

@@ -30,7 +30,7 @@ pub fn finish<T: Kept>(mutex: &Mutex<T>, seat: &mut Seat<T>) -> Turn
     ensures same { (seat.new.number ≡ seat.old.number) × (seat.new.limits ≡ seat.old.limits) }
     ensures ends { Ends (errand seat.old.standing.point) result }
     ensures last { last_hold seat.new.place.me.0 ≡ last_hold seat.old.place.me.0 }
-    ensures held { (how : HowNow) → how_held result ≡ Some how → Holds T.follows T.fits seat.old.number seat.old.place.me.0.last how seat.new.standing seat.new.moving seat.new.place.me.0 }
+    ensures held { (how : HowNow) → how_held result ≡ Some how → Holds T.follows T.fits seat.old.number (last_hold seat.old.place.me.0) how seat.new.standing seat.new.moving seat.new.place.me.0 }
     ensures ran { Ran seat.old.number (opens seat.old.standing) seat.old.place.me.0 result seat.new.standing seat.new.place.me.0 }
     ensures concludes { Concludes seat.old.standing result seat.new.standing }
     ensures stays { Stays seat.old.standing.depth seat.old.place.me.0 (value_in seat.old.moving) seat.new.place.me.0 (value_in seat.new.moving) }
@@ -88,7 +88,7 @@ fn finish_release<T: Kept>(mutex: &Mutex<T>, seat: &mut Seat<T>) -> Turn
     ensures belongs { seat.new.place.table_id ≡ seat.old.place.table_id }
     ensures same { (seat.new.number ≡ seat.old.number) × (seat.new.limits ≡ seat.old.limits) }
     ensures ends { Ends (errand seat.old.standing.point) result }
-    ensures last { last_hold seat.new.place.me.0 ≡ (value_in seat.old.moving, seat.old.place.me.0.found, seat.old.place.me.0.limits) }
+    ensures last { last_hold seat.new.place.me.0 ≡ (value_in seat.old.moving, seat.old.place.me.0.found, seat.old.place.me.0.limits, seat.old.place.me.0.holds_ended + 1) }
     ensures ran { Ran seat.old.number (opens seat.old.standing) seat.old.place.me.0 result seat.new.standing seat.new.place.me.0 }
     ensures concludes { Concludes (record seat.old.standing { depth = 0 }) result seat.new.standing }
     ensures bounded { length seat.new.place.me.0.trail ≤ length seat.old.place.me.0.trail + weight seat.old.limits.seats (length seat.old.place.me.0.popped) seat.old.standing.point }

@@ -5,6 +5,7 @@
 ghost use Rattle.lfm_mutex.specs.Laws.{KnowsItsMutex, PostsAreWatched, QuietTablesRest, TablesAreSteady, TakesFindARecord};
 ghost use Rattle.lfm_mutex.specs.TableStates.{RestingTablesAreFree, TablesStand};
 ghost use Rattle.lfm_mutex.specs.TableEvents.{TablesStepAsTheCore};
+ghost use Rattle.lfm_mutex.specs.EndedHolds.{HoldsAreNumbered, OneLastValue};
 
 use lfm_table::Kept;
 
@@ -51,6 +52,23 @@ pub fn tables_stand<T: Kept>()
 /// Definition: `RestingTablesAreFree` in `specs/TableStates.antt`. Proof: `proofs/TableStates.antt`.
 pub fn resting_tables_are_free<T: Kept>()
     ensures { RestingTablesAreFree T.follows T.fits }
+{}
+
+/// The holds that have ended are numbered 1, 2, 3 and on over all seats. At every moment no two seats have ended their last
+/// holds with the same number, the greatest number is how many holds have ended, and the value at home is what the hold of
+/// that number left.
+///
+/// Definition: `HoldsAreNumbered` in `specs/EndedHolds.antt`. Proof: `proofs/EndedHolds.antt`.
+pub fn holds_are_numbered<T: Kept>()
+    ensures { HoldsAreNumbered T.follows T.fits }
+{}
+
+/// A close has one value to give back: of some seats, no two with the same number, the last hold of all left one value, or
+/// where none has ended there is one opening value.
+///
+/// Definition: `OneLastValue` in `specs/EndedHolds.antt`. Proof: `proofs/EndedHolds.antt`.
+pub fn closes_have_one_value<T: Kept>()
+    ensures { OneLastValue T }
 {}
 
 /// Each atomic step of a running seat is one event of the core, at the state that the table is: the word, the seat, the pop

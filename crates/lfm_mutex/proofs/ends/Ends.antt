@@ -139,16 +139,58 @@ module _ {T : Type 0} (follows : ℕ → T → T → Type 0) (suits : T → ℕ 
   abbrev pub LeftAtEnd : View T → T → Type 0
   LeftAtEnd v w = ((v.last ≡ Some w) × (v.last_found ≡ None → NoneAtEnd v)) ⊎ ((i : ℕ) × (g : Joined T) × (get_elem? v.joined i ≡ some g) × (g.last ≡ Some w) × (g.found ≡ None → NoneAtEnd v))
 
+  -- seat 1, or one that was joined, has this number, left this value last, and so numbered was the hold that it ended then
+  abbrev pub Among : View T → ℕ → Option T → ℕ → Type 0
+  Among v number last ended =
+      ((v.number ≡ number) × (v.last ≡ last) × (v.ended ≡ ended)) ⊎ ((i : ℕ) × (g : Joined T) × (get_elem? v.joined i ≡ some g) × (g.number ≡ number) × (g.last ≡ last) × (g.ended ≡ ended))
+
+  -- so many holds have ended, and this seat left the value at the end with the last of them, or none has left any
+  pub record LatestAtEnd (v : View T) (w : T) : Type 0 where
+    pub seat : ℕ
+    pub count : ℕ
+    pub there : Among v seat (Some w) count
+    pub later : (j : ℕ) (l : Option T) (m : ℕ) → Among v j l m → j ≢ seat → 0 < count → m < count
+    pub never : (j : ℕ) (l : Option T) (m : ℕ) → Among v j l m → count ≡ 0 → (m ≡ 0) × (l ≡ Some w)
+
+  view_of : (s : St) (h : Held follows suits s) (v : View T) → get_elem? s.views 0 ≡ some v → (j : ℕ) (l : Option T) (m : ℕ) → Among v j l m
+      → (i : ℕ) × (z : View T) × (get_elem? s.views i ≡ some z) × (j ≡ i + 1) × (z.last ≡ l) × (z.ended ≡ m)
+  view_of s h v at j l m is = elim is [
+    | inl u ↦ (0, v, at, sym u.0 ∙ (h.each 0 v at).number, u.1, u.2)
+    | inr u ↦ let a = (h.root v at).kept u.0 u.1 u.2 in (a.0, a.1, a.2, sym u.3 ∙ (sym a.4 ∙ (h.each a.0 a.1 a.2).number), a.5 ∙ u.4, a.7 ∙ u.5)
+  ]
+
+  latest : (s : St) (h : Held follows suits s) (v : View T) → get_elem? s.views 0 ≡ some v → v.made ≤ length v.joined → (w : T) → LeftIn s.views h.holds_ended w → LatestAtEnd v w
+  latest s h v at back w left = record {
+    seat = left.0 + 1;
+    count = h.holds_ended;
+    there = ⊎_elim
+        (λ (u : left.1.role ≡ User). let one = last_user s h v at back left.0 left.1 left.2 u in inl (ap (λ (z : View T). z.number) one ∙ (h.each left.0 left.1 left.2).number, ap (λ (z : View T). z.last) one ∙ left.3, ap (λ (z : View T). z.ended) one ∙ left.5))
+        (λ (u : left.1.role ≡ Retired). let a = (h.root v at).gone left.0 left.1 left.2 u in inr (a.0, joined_of left.1, a.1, (h.each left.0 left.1 left.2).number, left.3, left.5)) (is_user left.1.role);
+    later = λ j l m is other some.
+        let z = view_of s h v at j l m is in
+        let within = h.numbered.within z.0 z.1 z.2 in
+        let ended = z.5 in dite (ℕ_discrete m h.holds_ended)
+        (λ e. absurd (other (z.3 ∙ ap (λ (k : ℕ). k + 1) (h.numbered.differ z.0 left.0 z.1 left.1 z.2 left.2 (omega (arith, ended, e, some)) (z.5 ∙ (e ∙ sym left.5))))))
+        (λ less. omega (arith, within, ended, less));
+    never = λ j l m is none.
+        let z = view_of s h v at j l m is in
+        let within = h.numbered.within z.0 z.1 z.2 in
+        let ended = z.5 in (
+          omega (arith, within, ended, none),
+          sym z.4 ∙ (h.numbered.opens v z.0 z.1 at z.2 (omega (arith, within, none)) ∙ (sym (h.numbered.opens v left.0 left.1 at left.2 (left.5 ∙ none)) ∙ left.3)),
+        );
+  }
+
   none_end : (s : St) (h : Held follows suits s) (v : View T) → get_elem? s.views 0 ≡ some v → NoneEnded s.views → NoneAtEnd v
   none_end s h v at all = (all 0 v at, λ i g e. let a = (h.root v at).kept i g e in sym a.6 ∙ all a.0 a.1 a.2)
 
-  left_last : (s : St) (h : Held follows suits s) (v : View T) → get_elem? s.views 0 ≡ some v → v.made ≤ length v.joined → (w : T) → LeftIn s.views w → LeftAtEnd v w
+  left_last : (s : St) (h : Held follows suits s) (v : View T) → get_elem? s.views 0 ≡ some v → v.made ≤ length v.joined → (w : T) → LeftIn s.views h.holds_ended w → LeftAtEnd v w
   left_last s h v at back w left = ⊎_elim
       (λ (u : left.1.role ≡ User). let one = last_user s h v at back left.0 left.1 left.2 u in inl (ap (λ (z : View T). z.last) one ∙ left.3, λ none. none_end s h v at (left.4 (sym (ap (λ (z : View T). z.last_found) one) ∙ none))))
       (λ (u : left.1.role ≡ Retired). let a = (h.root v at).gone left.0 left.1 left.2 u in inr (a.0, joined_of left.1, a.1, left.3, λ none. none_end s h v at (left.4 none))) (is_user left.1.role)
 
   pub ends : (v : View T) (ws : List ℕ) (xs : List (Option (Moving T))) → v.made ≤ length v.joined → v.standing.point ≡ Rest → v.standing.depth ≡ 0 → Final (Seen (Held follows suits) 0 v) ws xs
-      → (x : Moving T) × (get_elem? xs 0 ≡ some (Some x)) × ReachesAll v x.value × (length v.joined ≤ v.made) × AreFree ws × (x.popped.records ≡ []) × LeftAtEnd v x.value
+      → (x : Moving T) × (get_elem? xs 0 ≡ some (Some x)) × ReachesAll v x.value × (length v.joined ≤ v.made) × AreFree ws × (x.popped.records ≡ []) × LeftAtEnd v x.value × LatestAtEnd v x.value
   ends v ws xs back rests flat end = let s = end.0 in let h = end.1.0 in let at = end.1.1 in let all = all_rest s h v at back rests flat in let free = free_core h.core h.ghost_state h.fits all in let x = h.home (λ t. resting (seat h.core.seats t) (all t).0 (all t).1) in let k = h.root v at in
       let each : (j : ℕ) (z : View T) (l : T) → get_elem? s.views j ≡ some z → z.last ≡ Some l → Reached follows v.limits.seats z.number l x.value.value =
       (λ j z l e is. subst (λ (t : Limits × ℕ). Reached follows t.0.seats t.1 l x.value.value) (λ i. (((h.each j z e).limits_are ∙ sym (h.each 0 v at).limits_are) i, sym (h.each j z e).number i)) (x.leads j z l e tt is)) in (
@@ -159,6 +201,7 @@ module _ {T : Type 0} (follows : ℕ → T → T → Type 0) (suits : T → ℕ 
         (h.core, sym end.2 ∙ h.words_are, free),
         x.records ∙ free.popped,
         left_last s h v at back x.value.value x.left,
+        latest s h v at back x.value.value x.left,
       )
 
 -- an item that was taken from the end of a list

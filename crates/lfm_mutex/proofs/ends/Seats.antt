@@ -35,10 +35,11 @@ use Rattle.lfm_table.specs.declared.seat_view.Joined.{Joined}
 use Rattle.lfm_table.specs.declared.seat_view.View.{View}
 use Rattle.lfm_table.specs.declared.rule.Moving.{Moving}
 use Rattle.lfm_table.specs.Reach.{Reached}
-use Rattle.lfm_table.specs.Rule.{sum_over, retired, retired_at, split_view, with_split, with_joined, joined, joined_of, first_view, LeadsToValue, Awaits, NoneEnded, LeftIn, Roots, Sits, AtHome, WithSeat, Held, SameRoot, Looked, seen}
+use Rattle.lfm_table.specs.Rule.{sum_over, retired, retired_at, split_view, with_split, with_joined, joined, joined_of, first_view, LeadsToValue, Awaits, NoneEnded, LeftIn, AreNumbered, Roots, Sits, AtHome, WithSeat, Held, SameRoot, Looked, seen}
 use Rattle.lfm_table.specs.Seats.{Seated}
 use Rattle.lfm_table.specs.Settled.{Became}
 use Rattle.lfm_table.proofs.tables.CoreFacts.{owner_told}
+use Rattle.lfm_table.proofs.tables.Numbered.{numbered_same}
 use Rattle.lfm_table.proofs.tables.SettledKept.{became_same}
 use Rattle.lfm_table.proofs.tables.StepFacts.{became_depth}
 use Rattle.lfm_table.proofs.tables.RuleKept.{stays_reached, root_on, others_on, total_set, length_at, some_same}
@@ -61,18 +62,19 @@ get_end (x ∷ xs) a (suc j) h = get_end xs a j (omega arith)
 not_both : (r : Role) → r ≡ User → r ≡ Retired → ⊥
 not_both r u e = cc
 
-module _ {T : Type 0} (follows : ℕ → T → T → Type 0) (suits : T → ℕ → Type 0) (c : Core) (g : Ghost) (homes : List (maybe.Option (Option (Moving T)))) where
+module _ {T : Type 0} (follows : ℕ → T → T → Type 0) (suits : T → ℕ → Type 0) (c : Core) (g : Ghost) (count : ℕ) (homes : List (maybe.Option (Option (Moving T)))) where
   -- the parts of the rule that read what each seat is about to do and left last
   record Parts (views : List (View T)) : Type 0 where
     few : length views ≤ length c.seats
     each : (j : ℕ) (v : View T) → get_elem? views j ≡ some v → Sits c j v
     later : (j : ℕ) → length views ≤ j → seat c.seats (j + 1) ≡ absent
-    home : ((t : ℕ) → carries_value (seat c.seats t) ≡ false) → AtHome follows suits c g homes views
-    outside : (j : ℕ) (v : View T) → get_elem? views j ≡ some v → carries_value v.standing ≡ true → WithSeat follows suits c g views j v
+    home : ((t : ℕ) → carries_value (seat c.seats t) ≡ false) → AtHome follows suits c g count homes views
+    outside : (j : ℕ) (v : View T) → get_elem? views j ≡ some v → carries_value v.standing ≡ true → WithSeat follows suits c g count views j v
+    numbered : AreNumbered views count
 
   -- one view becomes another that says the same
   module _ (views : List (View T)) (p : Parts views) (i : ℕ) (x y : View T) (at : get_elem? views i ≡ some x) (number : y.number ≡ x.number) (limits_are : y.limits ≡ x.limits) (stands : y.standing ≡ x.standing) (lasts : y.last ≡ x.last) (founds : y.found ≡ x.found)
-      (lists : y.popped ≡ x.popped) (holds : y.answered ≡ x.answered) (opens : y.opening ≡ x.opening) (ended : y.last_found ≡ x.last_found) where
+      (lists : y.popped ≡ x.popped) (holds : y.answered ≡ x.answered) (opens : y.opening ≡ x.opening) (ended : y.last_found ≡ x.last_found) (numbers : y.ended ≡ x.ended) (counts : y.holds_ended ≡ x.holds_ended) where
     sized : (z : View T) → y ≡ z → x.limits.seats ≡ z.limits.seats
     sized z e = ap (λ (l : Limits). l.seats) (sym limits_are) ∙ ap (λ (v : View T). v.limits.seats) e
 
@@ -91,7 +93,7 @@ module _ {T : Type 0} (follows : ℕ → T → T → Type 0) (suits : T → ℕ 
         (λ (u : (j ≡ i) × (y ≡ z)). ap (λ (v : View T). v.last_found) (sym u.1) ∙ (ended ∙ all i x at))
         (λ (u : (j ≢ i) × (get_elem? views j ≡ some z)). all j z u.1) (at_set views i j y z e)
 
-    left_same : (t : T) → LeftIn views t → LeftIn (set views i y) t
+    left_same : (t : T) → LeftIn views count t → LeftIn (set views i y) count t
     left_same t old = dite (ℕ_discrete old.0 i)
         (λ q. let one : x ≡ old.1 = some-injective x old.1 (sym at ∙ subst (λ (k : ℕ). get_elem? views k ≡ some old.1) q old.2) in (
           i,
@@ -99,8 +101,9 @@ module _ {T : Type 0} (follows : ℕ → T → T → Type 0) (suits : T → ℕ 
           set_here views i y (length_at views i x at),
           lasts ∙ (ap (λ (v : View T). v.last) one ∙ old.3),
           λ none. none_same (old.4 (sym (ap (λ (v : View T). v.last_found) one) ∙ (sym ended ∙ none))),
+          numbers ∙ (ap (λ (v : View T). v.ended) one ∙ old.5),
         ))
-        (λ n. (old.0, old.1, set_else views i old.0 y n ∙ old.2, old.3, λ none. none_same (old.4 none)))
+        (λ n. (old.0, old.1, set_else views i old.0 y n ∙ old.2, old.3, (λ none. none_same (old.4 none)), old.5))
 
     quiet : Parts (set views i y)
     quiet = record {
@@ -111,11 +114,12 @@ module _ {T : Type 0} (follows : ℕ → T → T → Type 0) (suits : T → ℕ 
       later = λ j far. let l = length-set views i y in p.later j (omega (arith, far, l));
       home = λ nobody. let h = p.home nobody in record { value = h.value; here = h.here; records = h.records; room = h.room; leads = leads_same (λ _. ⊤) h.value.value h.leads; awaits = awaits_same h.value.value h.awaits; left = left_same h.value.value h.left; fits = h.fits };
       outside = λ j z e one. ⊎_elim
-          (λ (u : (j ≡ i) × (y ≡ z)). let o = p.outside i x at (ap carries_value (sym stands) ∙ (ap (λ (v : View T). carries_value v.standing) u.1 ∙ one)) in subst (λ (t : ℕ × View T). WithSeat follows suits c g (set views i y) t.0 t.1) (λ k. (sym u.0 k, u.1 k)) (record {
+          (λ (u : (j ≡ i) × (y ≡ z)). let o = p.outside i x at (ap carries_value (sym stands) ∙ (ap (λ (v : View T). carries_value v.standing) u.1 ∙ one)) in subst (λ (t : ℕ × View T). WithSeat follows suits c g count (set views i y) t.0 t.1) (λ k. (sym u.0 k, u.1 k)) (record {
             value = o.value;
             found = founds ∙ o.found;
             popped = lists ∙ o.popped;
             answered = holds ∙ o.answered;
+            holds = counts ∙ o.holds;
             leads = leads_same (λ j. j ≢ i) o.value o.leads;
             awaits = awaits_same o.value o.awaits;
             shallow = λ flat. let k = o.shallow (ap (λ (s : SeatState). s.depth) (sym stands) ∙ flat) in (subst (λ (n : ℕ). suits o.value n) (sym holds) k.0, λ l is. subst (λ (n : ℕ). Reached follows n (i + 1) l o.value) (sized y refl) (k.1 l (sym lasts ∙ is)));
@@ -126,15 +130,17 @@ module _ {T : Type 0} (follows : ℕ → T → T → Type 0) (suits : T → ℕ 
             found = o.found;
             popped = o.popped;
             answered = o.answered;
+            holds = o.holds;
             leads = leads_same (λ k. k ≢ j) o.value o.leads;
             awaits = awaits_same o.value o.awaits;
             shallow = o.shallow;
             left = λ flat. left_same o.value (o.left flat);
           }) (at_set views i j y z e);
+      numbered = numbered_same views i x y at (length_at views i x at) opens count lasts numbers p.numbered;
     }
 
   -- one more view, of a seat that has not stepped
-  module _ (views : List (View T)) (p : Parts views) (k r : View T) (at : get_elem? views 0 ≡ some k) (room : length views < length c.seats) (number : r.number ≡ length views + 1) (limits_are : r.limits ≡ limits c) (new : r.standing ≡ absent) (lasts : r.last ≡ k.opening) (unheld : r.last_found ≡ None) where
+  module _ (views : List (View T)) (p : Parts views) (k r : View T) (at : get_elem? views 0 ≡ some k) (room : length views < length c.seats) (number : r.number ≡ length views + 1) (limits_are : r.limits ≡ limits c) (new : r.standing ≡ absent) (lasts : r.last ≡ k.opening) (unheld : r.last_found ≡ None) (unended : r.ended ≡ 0) where
     leads_end : (which : ℕ → Type 0) (t : T) → LeadsToValue follows which views t → Awaits follows views t → LeadsToValue follows which (views ++ r ∷ []) t
     leads_end which t old still j z l e ok is = ⊎_elim (λ u. old j z l u ok is)
         (λ (u : (j ≡ length views) × (r ≡ z)). let far : length views ≤ j = (let q = u.0 in omega arith) in subst (λ (n : ℕ). Reached follows n (j + 1) l t) (ap (λ (x : Limits). x.seats) ((p.each 0 k at).limits_are ∙ sym limits_are) ∙ ap (λ (v : View T). v.limits.seats) u.1) (still j k l far at (sym lasts ∙ (ap (λ (v : View T). v.last) u.1 ∙ is)))) (at_end views r z j e)
@@ -142,14 +148,30 @@ module _ {T : Type 0} (follows : ℕ → T → T → Type 0) (suits : T → ℕ 
     awaits_end : (t : T) → Awaits follows views t → Awaits follows (views ++ r ∷ []) t
     awaits_end t old j z l far e is = let here = length_at views 0 k at in let q = length-append views (r ∷ []) in old j z l (omega arith) (sym (get_end views r 0 here) ∙ e) is
 
-    left_end : (t : T) → LeftIn views t → LeftIn (views ++ r ∷ []) t
+    left_end : (t : T) → LeftIn views count t → LeftIn (views ++ r ∷ []) count t
     left_end t old = (
       old.0,
       old.1,
       get_end views r old.0 (length_at views old.0 old.1 old.2) ∙ old.2,
       old.3,
-      λ none j z e. ⊎_elim (λ u. old.4 none j z u) (λ (u : (j ≡ length views) × (r ≡ z)). ap (λ (v : View T). v.last_found) (sym u.1) ∙ unheld) (at_end views r z j e),
+      (λ none j z e. ⊎_elim (λ u. old.4 none j z u) (λ (u : (j ≡ length views) × (r ≡ z)). ap (λ (v : View T). v.last_found) (sym u.1) ∙ unheld) (at_end views r z j e)),
+      old.5,
     )
+
+    -- the new seat has ended no hold
+    none_ended : (j : ℕ) (z : View T) → get_elem? (views ++ r ∷ []) j ≡ some z → 0 < z.ended → get_elem? views j ≡ some z
+    none_ended j z e ended = ⊎_elim (λ u. u) (λ (u : (j ≡ length views) × (r ≡ z)). absurd (let q = ap (λ (v : View T). v.ended) u.1 in omega (arith, q, unended, ended))) (at_end views r z j e)
+
+    numbered_end : AreNumbered views count → AreNumbered (views ++ r ∷ []) count
+    numbered_end old = record {
+      within = λ j z e. ⊎_elim (λ u. old.within j z u) (λ (u : (j ≡ length views) × (r ≡ z)). let q = ap (λ (v : View T). v.ended) u.1 in omega (arith, q, unended)) (at_end views r z j e);
+      greatest = λ some_ended. let a = old.greatest some_ended in (a.0, a.1, get_end views r a.0 (length_at views a.0 a.1 a.2) ∙ a.2, a.3);
+      differ = λ i j a b e f some same. old.differ i j a b (none_ended i a e some) (none_ended j b f (subst (λ (m : ℕ). 0 < m) same some)) some same;
+      opens = λ first j z e f none.
+          let first_is = sym (get_end views r 0 (length_at views 0 k at)) ∙ e in ⊎_elim
+          (λ u. old.opens first j z first_is u none)
+          (λ (u : (j ≡ length views) × (r ≡ z)). ap (λ (v : View T). v.last) (sym u.1) ∙ (lasts ∙ ap (λ (v : View T). v.opening) (some-injective k first (sym at ∙ first_is)))) (at_end views r z j f);
+    }
 
     none_carried : (z : View T) → r ≡ z → carries_value z.standing ≡ true → ⊥
     none_carried z same one = false≢true (sym (ap carries_value new) ∙ (ap (λ (v : View T). carries_value v.standing) same ∙ one))
@@ -162,28 +184,30 @@ module _ {T : Type 0} (follows : ℕ → T → T → Type 0) (suits : T → ℕ 
       later = λ j far. let q = length-append views (r ∷ []) in p.later j (omega (arith, far, q));
       home = λ nobody. let h = p.home nobody in record { value = h.value; here = h.here; records = h.records; room = h.room; leads = leads_end (λ _. ⊤) h.value.value h.leads h.awaits; awaits = awaits_end h.value.value h.awaits; left = left_end h.value.value h.left; fits = h.fits };
       outside = λ j z e one. ⊎_elim
-          (λ u. let o = p.outside j z u one in record { value = o.value; found = o.found; popped = o.popped; answered = o.answered; leads = leads_end (λ k. k ≢ j) o.value o.leads o.awaits; awaits = awaits_end o.value o.awaits; shallow = o.shallow; left = λ flat. left_end o.value (o.left flat) })
+          (λ u. let o = p.outside j z u one in record { value = o.value; found = o.found; popped = o.popped; answered = o.answered; holds = o.holds; leads = leads_end (λ k. k ≢ j) o.value o.leads o.awaits; awaits = awaits_end o.value o.awaits; shallow = o.shallow; left = λ flat. left_end o.value (o.left flat) })
           (λ (u : (j ≡ length views) × (r ≡ z)). absurd (none_carried z u.1 one)) (at_end views r z j e);
+      numbered = numbered_end p.numbered;
     }
 
 module _ {T : Type 0} (follows : ℕ → T → T → Type 0) (suits : T → ℕ → Type 0) where
   abbrev St : Type 0
   St = State (Option (Moving T)) (View T)
 
-  parts : (s : St) (h : Held follows suits s) → Parts follows suits h.core h.ghost_state s.homes s.views
-  parts s h = record { few = h.few; each = h.each; later = h.later; home = h.home; outside = h.outside }
+  parts : (s : St) (h : Held follows suits s) → Parts follows suits h.core h.ghost_state h.holds_ended s.homes s.views
+  parts s h = record { few = h.few; each = h.each; later = h.later; home = h.home; outside = h.outside; numbered = h.numbered }
 
   pub splits : (v : View T) → v.role ≡ User → v.made + 2 ≤ v.limits.seats → Splits (Held follows suits) 0 v (with_split v) (split_view v)
   splits v user room s h at = let k = h.root v at in let l = with_split v in let r = split_view v in let vs = set s.views 0 l in let here = length_at s.views 0 v at in
       let long : length vs ≡ v.made + 1 = length-set s.views 0 l ∙ k.made in
-      let q = quiet follows suits h.core h.ghost_state s.homes s.views (parts s h) 0 v l at refl refl refl refl refl refl refl refl refl in
+      let q = quiet follows suits h.core h.ghost_state h.holds_ended s.homes s.views (parts s h) 0 v l at refl refl refl refl refl refl refl refl refl refl refl in
       let at' : get_elem? vs 0 ≡ some l = set_here s.views 0 l here in
       let sits = h.each 0 v at in
       let sized : v.limits.seats ≡ length h.core.seats = ap (λ (x : Limits). x.seats) sits.limits_are in
-      let e = extends follows suits h.core h.ghost_state s.homes vs q l r at' (omega (arith, long, room, sized)) (let n = long in let m : v.made + 2 ≡ length vs + 1 = omega arith in m) sits.limits_are refl refl refl in
+      let e = extends follows suits h.core h.ghost_state h.holds_ended s.homes vs q l r at' (omega (arith, long, room, sized)) (let n = long in let m : v.made + 2 ≡ length vs + 1 = omega arith in m) sits.limits_are refl refl refl refl in
       let t = total_set retired s.views 0 v l at in let t' = total_end retired vs r in let n = length-append vs (r ∷ []) in record {
         core = h.core;
         ghost_state = h.ghost_state;
+        holds_ended = h.holds_ended;
         fits = h.fits;
         narrow = h.narrow;
         words_are = h.words_are;
@@ -193,12 +217,13 @@ module _ {T : Type 0} (follows : ℕ → T → T → Type 0) (suits : T → ℕ 
         later = e.later;
         home = e.home;
         outside = e.outside;
+        numbered = e.numbered;
         root = λ k' e'. let same : l ≡ k' = some-injective l k' (sym (get_end vs r 0 (omega arith) ∙ at') ∙ e') in subst (Roots (vs ++ r ∷ [])) same record {
           user = user;
           made = omega arith;
           back = let m : sum_over retired (vs ++ r ∷ []) ≡ sum_over retired s.views = omega arith in m ∙ k.back;
           kept = λ i g is. let a = k.kept i g is in let apart : 0 ≢ a.0 = (λ z. not_both v.role user (ap (λ (y : View T). y.role) (some-injective v a.1 (sym at ∙ subst (λ (i : ℕ). get_elem? s.views i ≡ some a.1) (sym z) a.2)) ∙ a.3)) in
-              let low = length_at s.views a.0 a.1 a.2 in let len = length-set s.views 0 l in (a.0, a.1, get_end vs r a.0 (omega arith) ∙ (set_else s.views 0 a.0 l (λ z. apart (sym z)) ∙ a.2), a.3, a.4, a.5, a.6);
+              let low = length_at s.views a.0 a.1 a.2 in let len = length-set s.views 0 l in (a.0, a.1, get_end vs r a.0 (omega arith) ∙ (set_else s.views 0 a.0 l (λ z. apart (sym z)) ∙ a.2), a.3, a.4, a.5, a.6, a.7);
           gone = λ j z e is. ⊎_elim (λ u. ⊎_elim (λ (w : (j ≡ 0) × (l ≡ z)). absurd (not_both z.role (ap (λ (y : View T). y.role) (sym w.1) ∙ user) is))
               (λ (w : (j ≢ 0) × (get_elem? s.views j ≡ some z)). k.gone j z w.1 is) (at_set s.views 0 j l z u)) (λ (w : (j ≡ length vs) × (r ≡ z)). absurd (not_both z.role (ap (λ (y : View T). y.role) (sym w.1)) is)) (at_end vs r z j e);
         };
@@ -208,12 +233,13 @@ module _ {T : Type 0} (follows : ℕ → T → T → Type 0) (suits : T → ℕ 
 
   pub joins : (v w : View T) (other : ℕ) → v.role ≡ User → w.role ≡ User → w.standing.point ≡ Rest → w.standing.depth ≡ 0 → Joins (Held follows suits) 0 v other w (with_joined v w) (joined w)
   joins v w other user uses rests flat s h at apart at2 = let k = h.root v at in let b = with_joined v w in let vs = set s.views 0 b in let here = length_at s.views 0 v at in
-      let q = quiet follows suits h.core h.ghost_state s.homes s.views (parts s h) 0 v b at refl refl refl refl refl refl refl refl refl in
-      let q2 = quiet follows suits h.core h.ghost_state s.homes vs q other w (joined w) at2 refl refl refl refl refl refl refl refl refl in
+      let q = quiet follows suits h.core h.ghost_state h.holds_ended s.homes s.views (parts s h) 0 v b at refl refl refl refl refl refl refl refl refl refl refl in
+      let q2 = quiet follows suits h.core h.ghost_state h.holds_ended s.homes vs q other w (joined w) at2 refl refl refl refl refl refl refl refl refl refl refl in
       let t = total_set retired s.views 0 v b at in let t2 = total_set retired vs other w (joined w) at2 in let z : retired w ≡ 0 = ap retired_at uses in let vs2 = set vs other (joined w) in
       let at' : get_elem? vs2 0 ≡ some b = set_else vs other 0 (joined w) (λ e. apart (sym e)) ∙ set_here s.views 0 b here in record {
         core = h.core;
         ghost_state = h.ghost_state;
+        holds_ended = h.holds_ended;
         fits = h.fits;
         narrow = h.narrow;
         words_are = h.words_are;
@@ -223,6 +249,7 @@ module _ {T : Type 0} (follows : ℕ → T → T → Type 0) (suits : T → ℕ 
         later = q2.later;
         home = q2.home;
         outside = q2.outside;
+        numbered = q2.numbered;
         root = λ k' e'. let same : b ≡ k' = some-injective b k' (sym at' ∙ e') in subst (Roots vs2) same record {
           user = user;
           made = length-set vs other (joined w) ∙ (length-set s.views 0 b ∙ k.made);
@@ -232,8 +259,8 @@ module _ {T : Type 0} (follows : ℕ → T → T → Type 0) (suits : T → ℕ 
               let apart0 : 0 ≢ a.0 = (λ z. not_both v.role user (ap (λ (y : View T). y.role) (some-injective v a.1 (sym at ∙ subst (λ (i : ℕ). get_elem? s.views i ≡ some a.1) (sym z) a.2)) ∙ a.3)) in
               let in1 : get_elem? vs a.0 ≡ some a.1 = set_else s.views 0 a.0 b (λ z. apart0 (sym z)) ∙ a.2 in
               let apart2 : other ≢ a.0 = (λ z. not_both w.role uses (ap (λ (y : View T). y.role) (some-injective w a.1 (sym at2 ∙ subst (λ (i : ℕ). get_elem? vs i ≡ some a.1) (sym z) in1)) ∙ a.3)) in
-              (a.0, a.1, set_else vs other a.0 (joined w) (λ z. apart2 (sym z)) ∙ in1, a.3, a.4, a.5, a.6))
-              (λ (u : (i ≡ length v.joined) × (joined_of w ≡ g)). (other, joined w, set_here vs other (joined w) (length_at vs other w at2), refl, ap (λ (y : Joined T). y.number) u.1, ap (λ (y : Joined T). y.last) u.1, ap (λ (y : Joined T). y.found) u.1))
+              (a.0, a.1, set_else vs other a.0 (joined w) (λ z. apart2 (sym z)) ∙ in1, a.3, a.4, a.5, a.6, a.7))
+              (λ (u : (i ≡ length v.joined) × (joined_of w ≡ g)). (other, joined w, set_here vs other (joined w) (length_at vs other w at2), refl, ap (λ (y : Joined T). y.number) u.1, ap (λ (y : Joined T). y.last) u.1, ap (λ (y : Joined T). y.found) u.1, ap (λ (y : Joined T). y.ended) u.1))
               (at_end v.joined (joined_of w) g i is);
           gone = λ j z e is. ⊎_elim
               (λ (u : (j ≡ other) × (joined w ≡ z)). (length v.joined, at_last v.joined (joined_of w) (length v.joined) refl ∙ ap (λ (y : View T). some (joined_of y)) u.1))
@@ -247,7 +274,7 @@ module _ {T : Type 0} (follows : ℕ → T → T → Type 0) (suits : T → ℕ 
 
   pub looks : (slots id : ℕ) (me : Me (Option (Moving T)) (View T)) → me.0.role ≡ User → Allows (Held follows suits) slots id me 1 (λ n. n) (Looked me)
   looks slots id me user s h sized at small = let n = get_or s.words 1 0 in let w : View T = record me.0 { trail = me.0.trail ++ seen TryOwnerLoad n ∷ [] } in
-      let q = quiet follows suits h.core h.ghost_state s.homes s.views (parts s h) id me.0 w at refl refl refl refl refl refl refl refl refl in
+      let q = quiet follows suits h.core h.ghost_state h.holds_ended s.homes s.views (parts s h) id me.0 w at refl refl refl refl refl refl refl refl refl refl refl in
       let sits = h.each id me.0 at in
       let l = length_at s.views id me.0 at in
       let is : IsSeat h.core.seats me.0.number = record { above = omega (arith, sits.number); within = omega (arith, sits.number, h.few, l) } in
@@ -261,6 +288,7 @@ module _ {T : Type 0} (follows : ℕ → T → T → Type 0) (suits : T → ℕ 
         subst (λ (ws : List ℕ). Held follows suits record { words = ws; homes = s.homes; views = set s.views id w }) (sym (set-get_or s.words 1 0)) record {
           core = h.core;
           ghost_state = h.ghost_state;
+          holds_ended = h.holds_ended;
           fits = h.fits;
           narrow = h.narrow;
           words_are = h.words_are;
@@ -270,6 +298,7 @@ module _ {T : Type 0} (follows : ℕ → T → T → Type 0) (suits : T → ℕ 
           later = q.later;
           home = q.home;
           outside = q.outside;
+          numbered = q.numbered;
           root = root_on follows suits s h id me.0 at user w refl same;
           others = others_on follows suits s h id me.0 at user w refl same;
         },
@@ -332,6 +361,7 @@ starts {T} follows suits l ws x allowed are none_popped room fit =
     record {
       core = start l;
       ghost_state = st.ghost_state;
+      holds_ended = 0;
       fits = st.fits;
       narrow = start_narrow l;
       words_are = are ∙ sym (start_words l);
@@ -350,10 +380,16 @@ starts {T} follows suits l ws x allowed are none_popped room fit =
         room = room ∙ sym long;
         leads = λ j v w e ok is. first_last follows x.value w k.last v.last v.limits.seats (j + 1) refl (ap (λ (u : View T). u.last) (one_view k v j e).1) is;
         awaits = λ j v w far e is. first_last follows x.value w k.opening v.opening v.limits.seats (j + 1) refl (ap (λ (u : View T). u.opening) (one_view k v 0 e).1) is;
-        left = (0, k, refl, refl, λ none j v e. ap (λ (u : View T). u.last_found) (sym (one_view k v j e).1));
+        left = (0, k, refl, refl, (λ none j v e. ap (λ (u : View T). u.last_found) (sym (one_view k v j e).1)), refl);
         fits = subst (λ (n : ℕ). suits x.value n) (sym (none_answered (start l) st.ghost_state st.fits refl)) fit;
       };
       outside = λ j v e one. absurd (false≢true (sym none_carries ∙ (ap (λ (u : View T). carries_value u.standing) (one_view k v j e).1 ∙ one)));
+      numbered = record {
+        within = λ j v e. let q = ap (λ (u : View T). u.ended) (one_view k v j e).1 in omega (arith, q);
+        greatest = λ some_ended. absurd (omega (arith, some_ended));
+        differ = λ i j u v e f some same. (one_view k u i e).0 ∙ sym (one_view k v j f).0;
+        opens = λ u j v e f none. ap (λ (x : View T). x.last) (sym (one_view k v j f).1) ∙ ap (λ (x : View T). x.opening) (one_view k u 0 e).1;
+      };
       root = λ v e. subst (Roots (k ∷ [])) (one_view k v 0 e).1 record { user = refl; made = refl; back = refl; kept = λ i g is. absurd (some-ne-none g (sym is)); gone = λ j z at is. absurd (not_both z.role (ap (λ (u : View T). u.role) (sym (one_view k z j at).1)) is) };
       others = λ j v e is. absurd (not_both v.role (ap (λ (u : View T). u.role) (sym (one_view k v j e).1)) is);
     }

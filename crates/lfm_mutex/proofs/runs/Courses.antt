@@ -1,5 +1,5 @@
 -- The course of a call: what the steps that it has made come to.
-use Rattle.std.proofs.Common.{◌≡◌, ◌≢◌, ℕ, sym, refl, ap, ◌∙◌, subst, Option, Some, None}
+use Rattle.std.proofs.Common.{◌≡◌, ◌≢◌, ℕ, ◌+◌, sym, refl, ap, ◌∙◌, subst, Option, Some, None}
 use Rattle.std.specs.Prelude.{false}
 use Rattle.atomic_table.specs.Table.{Me}
 use Rattle.lfm_model.specs.declared.answers.How.{How}
@@ -15,7 +15,7 @@ use Rattle.lfm_protocol.specs.Begin.{Stepped}
 use Rattle.lfm_protocol.specs.Points.{kind}
 use Rattle.lfm_table.specs.declared.seat_view.View.{View}
 use Rattle.lfm_table.specs.declared.rule.Moving.{Moving}
-use Rattle.lfm_table.specs.Rule.{value_in, last_hold}
+use Rattle.lfm_table.specs.Rule.{value_in, LastHold, last_hold}
 use Rattle.lfm_mutex.specs.calls.Runs.{errand_of, is_releasing, is_release, Ends, Ran, CalledBy, Holds, opens}
 use Rattle.lfm_table.specs.Seats.{Seated}
 use Rattle.lfm_mutex.specs.calls.Sight.{Concludes, sight_of}
@@ -54,7 +54,7 @@ module _ {T : Type 0} (follows : ℕ → T → T → Type 0) (suits : T → ℕ 
         concludes = concludes_join p0 p q turn so.concludes told;
         stays = stays_join p0.depth p.depth v0 m.0 w (value_in a0) (value_in a) (value_in b) so.concludes.0 so.stays (stays_now follows suits s p q m.0 w a b turn was.named e keeps told);
         last = last_more follows suits s p0 v0 p q m.0 w a b turn so.ran was.named e keeps ∙ so.last;
-        held = λ how is. holds_now follows suits s l p q m w a b turn v0.last was (ap (λ (t : Option T × Option T × Limits). t.0) so.last) e how is;
+        held = λ how is. holds_now follows suits s l p q m w a b turn (last_hold v0) was so.last e how is;
       }
 
   -- the steps that the generic run makes from there on
@@ -64,7 +64,7 @@ module _ {T : Type 0} (follows : ℕ → T → T → Type 0) (suits : T → ℕ 
     concludes = concludes_join p0 p q turn so.concludes then.concludes;
     stays = stays_join p0.depth p.depth v0 v w (value_in a0) (value_in a) (value_in b) so.concludes.0 so.stays then.stays;
     last = then.last ∙ so.last;
-    held = λ how is. subst (λ (o : Option T). Holds follows suits s o how q b w) (ap (λ (t : Option T × Option T × Limits). t.0) so.last) (then.held how is);
+    held = λ how is. subst (λ (o : LastHold T). Holds follows suits s o how q b w) so.last (then.held how is);
   }
 
   -- all that is said of the call that has ended so
@@ -96,7 +96,7 @@ module _ {T : Type 0} (follows : ℕ → T → T → Type 0) (suits : T → ℕ 
       → ComesTo follows suits all Call.Unlock (sight_of s p m0.0 (value_in a)) (sight_of n q w (value_in b)) turn
   gives_up all p q turn b w same named begins ends so =
       let ran : Ran s (opens p0) m0.0 turn q w = ran_join s p0 p1 q m0.0 m1.0 w turn (ran_one follows suits s p0 p1 m0.0 m1.0 a a Open fit.seated.named first) so.ran in
-      let left : last_hold w ≡ (value_in a, m0.0.found, m0.0.limits) = so.last ∙ last_one follows suits s p0 p1 m0.0 m1.0 a a Open fit.seated.named first Unlocker at in
+      let left : last_hold w ≡ (value_in a, m0.0.found, m0.0.limits, m0.0.holds_ended + 1) = so.last ∙ last_one follows suits s p0 p1 m0.0 m1.0 a a Open fit.seated.named first Unlocker at in
       subst (λ (k : Limits). ComesTo follows suits k Call.Unlock (sight_of s p m0.0 (value_in a)) (sight_of n q w (value_in b)) turn) same (record {
         turned = turned_by_release follows suits s n l p p0 q m0.0 w a b named Call.Unlock turn refl
             (begun follows suits s l m0.0 (value_in a) p p0 Call.Unlock (ap (λ (z : Stepped). z.turn) (sym begins)) (ap (λ (z : Stepped). z.seat) (sym begins)))

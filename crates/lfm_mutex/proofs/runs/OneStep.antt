@@ -1,5 +1,5 @@
 -- One turn of a seat by hand, between two sights of it.
-use Rattle.std.proofs.Common.{◌≡◌, ◌≢◌, ◌⊎◌, ℕ, ◌<◌, true, false, Option, Some, None, refl, sym, ap, subst, ◌∙◌, arith, inl, inr}
+use Rattle.std.proofs.Common.{◌≡◌, ◌≢◌, ◌⊎◌, ℕ, ◌+◌, ◌<◌, true, false, Option, Some, None, refl, sym, ap, subst, ◌∙◌, arith, inl, inr}
 use Rattle.std.proofs.lemmas.Bool.{cases_eq, false≢true}
 use Rattle.atomic_table.specs.Table.{Me}
 use Rattle.lfm_model.specs.declared.answers.Asked.{Asked}
@@ -23,7 +23,7 @@ use Rattle.lfm_core.specs.table.Carried.{carries_value}
 use Rattle.lfm_core.specs.table.Words.{stepped_by}
 use Rattle.lfm_table.specs.declared.seat_view.View.{View}
 use Rattle.lfm_table.specs.declared.rule.Moving.{Moving}
-use Rattle.lfm_table.specs.Rule.{value_in, is_carried}
+use Rattle.lfm_table.specs.Rule.{value_in, LastHold, last_hold, is_carried}
 use Rattle.lfm_table.specs.Seats.{Seated}
 use Rattle.lfm_table.specs.Settled.{Became}
 use Rattle.lfm_table.specs.Steps.{Event, StepLeadsTo, MayBeLeft}
@@ -86,17 +86,18 @@ module _ {T : Type 0} (follows : ℕ → T → T → Type 0) (fits : T → ℕ �
       let o = oldest e.did.popped in
       let by = how_enters p m.0.number e.found o how (ap how_held (sym e.turn_is) ∙ is) in
       let flat : p.depth ≡ 0 = subst (λ (x : Point). DepthAt p.depth x) by.1 e.did.deep in
-      finds follows fits n n' l p p q m.0 w a b number how flat (holds_now follows fits n l p q m w a b turn m.0.last was refl e how is)
+      finds follows fits n n' l p p q m.0 w a b number how flat (holds_now follows fits n l p q m w a b turn (last_hold m.0) was refl e how is)
 
-  leaves : is_release p.point ≡ true → (S'.last ≡ S.value) × (S'.found ≡ S.found)
+  leaves : is_release p.point ≡ true → (S'.last ≡ S.value) × (S'.found ≡ S.found) × (S'.ended ≡ S.holds_ended + 1)
   leaves is =
       let r = release_of p.point is in
       let deep : p.depth ≡ 1 = subst (λ (x : Point). DepthAt p.depth x) r.1 e.did.deep in
       let after = first_concludes follows fits p q m.0 w a b turn e r.0 r.1 in
       let ends = last_one follows fits n p q m.0 w a b turn was.named e r.0 r.1 in
       let some : 0 < p.depth = omega (arith, deep) in (
-        flat_by q.depth w.last w.found after.0 ∙ (ap (λ (t : Option T × Option T × Limits). t.0) ends ∙ sym (deep_by p.depth None (value_in a) some)),
-        flat_by q.depth w.last_found w.found after.0 ∙ (ap (λ (t : Option T × Option T × Limits). t.1) ends ∙ sym (deep_by p.depth m.0.last_found m.0.found some)),
+        flat_by q.depth w.last w.found after.0 ∙ (ap (λ (t : LastHold T). t.0) ends ∙ sym (deep_by p.depth None (value_in a) some)),
+        flat_by q.depth w.last_found w.found after.0 ∙ (ap (λ (t : LastHold T). t.1) ends ∙ sym (deep_by p.depth m.0.last_found m.0.found some)),
+        ap (λ (t : LastHold T). t.3) ends ∙ ap (λ (k : ℕ). k + 1) (sym (deep_by p.depth 0 m.0.holds_ended some)),
       )
 
   keeps : kind p.point ≢ None → is_release p.point ≡ false → how_held turn ≡ None → S' ≡ record S { depth = S'.depth; takes = S'.takes; asleep = S'.asleep; in_call = S'.in_call; trail = S'.trail; sends = S'.sends }

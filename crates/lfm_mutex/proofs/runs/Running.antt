@@ -37,7 +37,7 @@ use Rattle.lfm_core.specs.table.Words.{stepped_by, popped_of}
 use Rattle.lfm_table.specs.declared.seat_view.Seen.{Seen}
 use Rattle.lfm_table.specs.declared.seat_view.View.{View}
 use Rattle.lfm_table.specs.declared.rule.Moving.{Moving}
-use Rattle.lfm_table.specs.Rule.{seen, value_in, last_hold, is_carried, Hands, CollectsWithin}
+use Rattle.lfm_table.specs.Rule.{seen, value_in, LastHold, last_hold, is_carried, Hands, CollectsWithin}
 use Rattle.lfm_mutex.specs.calls.Runs.{Errand, nothing, errand, IsTurn, Ends, weight, end_of, trail_of, Ran, opens, is_release, locking, trying, releasing, sending, answers_for, errand_of, is_releasing, release_steps, Answers, CalledBy, Called, how_held, Counts, Holds}
 use Rattle.lfm_table.specs.Reach.{Reached}
 use Rattle.lfm_table.specs.Seats.{Seated}
@@ -88,7 +88,7 @@ module _ {T : Type 0} (follows : ℕ → T → T → Type 0) (suits : T → ℕ 
   pub last_more : is_release p.point ≡ false → last_hold w ≡ last_hold v
   last_more keeps =
       let other = no_leaves p.point keeps in
-      λ i. ((e.did.last ∙ left_same p.point e.hand v.last other) i, (e.did.last_found ∙ left_same p.point v.found v.last_found other) i, e.did.root.limits_are i)
+      λ i. ((e.did.last ∙ left_same p.point e.hand v.last other) i, (e.did.last_found ∙ left_same p.point v.found v.last_found other) i, e.did.root.limits_are i, (e.did.ended ∙ left_same p.point (v.holds_ended + 1) v.ended other) i)
 
   pub turn_more : kind p.point ≢ None → IsTurn (errand p.point) turn q.point
   turn_more some = subst (λ (z : Stepped). IsTurn (errand p.point) z.turn z.seat.point) (sym step_is) (turns_step p s e.found o some)
@@ -314,8 +314,8 @@ module _ {T : Type 0} (follows : ℕ → T → T → Type 0) (suits : T → ℕ 
   pub turn_one : kind p.point ≢ None → IsTurn (errand p.point) turn q.point
   turn_one some = turn_more follows suits s p v p q v w a b turn (ran_none s p v) named e some
 
-  pub last_one : (r : Releaser) → p.point ≡ ReleaseOwnerStore r → last_hold w ≡ (value_in a, v.found, v.limits)
-  last_one r at = λ i. ((e.did.last ∙ (left_new p.point r e.hand v.last at ∙ e.in_hand r at)) i, (e.did.last_found ∙ left_new p.point r v.found v.last_found at) i, e.did.root.limits_are i)
+  pub last_one : (r : Releaser) → p.point ≡ ReleaseOwnerStore r → last_hold w ≡ (value_in a, v.found, v.limits, v.holds_ended + 1)
+  last_one r at = λ i. ((e.did.last ∙ (left_new p.point r e.hand v.last at ∙ e.in_hand r at)) i, (e.did.last_found ∙ left_new p.point r v.found v.last_found at) i, e.did.root.limits_are i, (e.did.ended ∙ left_new p.point r (v.holds_ended + 1) v.ended at) i)
 
   pub keeps_one : (r : Releaser) → p.point ≡ ReleaseOwnerStore r → is_release q.point ≡ false
   keeps_one r at = ap (λ (x : SeatState). is_release x.point) e.seat_is ∙ (rw at refl)
@@ -398,7 +398,7 @@ counts_by : (how : How) (k j : ℕ) → ((stamp : ℕ) → how ≡ How.Queued st
 counts_by How.Free k j queued free = free refl
 counts_by (How.Queued stamp) k j queued free = queued stamp refl
 
-module _ {T : Type 0} (follows : ℕ → T → T → Type 0) (suits : T → ℕ → Type 0) (s : ℕ) (l : Limits) (p q : SeatState) (m : Me (Option (Moving T)) (View T)) (w : View T) (a b : Option (Moving T)) (turn : Turn) (before : Option T) (was : Seated s l p m a) (same_last : m.0.last ≡ before)
+module _ {T : Type 0} (follows : ℕ → T → T → Type 0) (suits : T → ℕ → Type 0) (s : ℕ) (l : Limits) (p q : SeatState) (m : Me (Option (Moving T)) (View T)) (w : View T) (a b : Option (Moving T)) (turn : Turn) (before : LastHold T) (was : Seated s l p m a) (same_last : last_hold m.0 ≡ before)
     (e : Event follows suits p a m.0 turn q b w) where
   pub holds_now : (how : How) → how_held turn ≡ Some how → Holds follows suits s before how q b w
   holds_now how is =
@@ -417,6 +417,7 @@ module _ {T : Type 0} (follows : ℕ → T → T → Type 0) (suits : T → ℕ 
       let same : some.0.value ≡ x.value = some_same some.0.value x.value (sym (ap value_in some.1) ∙ goes.1) in
       let hands = subst (λ (t : Bool × Bool). Hands follows suits t.0 t.1 p.point e.hand e.did.popped (m.0, e.slots) (w, e.slots_after)) (λ i. (carries_p i, (ap carries_value (sym e.seat_is) ∙ carries_q) i)) e.did.hands in
       let other : (r : Releaser) → p.point ≢ ReleaseOwnerStore r = (λ r z. let f : EnterOwnerStore by.0 how ≡ ReleaseOwnerStore r = sym at ∙ z in absurd (cc)) in
+      let holds_same : w.holds_ended ≡ m.0.holds_ended = e.did.holds carries_p ∙ left_same p.point (m.0.holds_ended + 1) m.0.holds_ended other in
       let turn_at : (stepped_by p m.0.number e.found o).turn ≡ Ended (held by.0 how) = enter_turn p m.0.number e.found o by.0 how at in
       record {
         depth = deep;
@@ -424,7 +425,10 @@ module _ {T : Type 0} (follows : ℕ → T → T → Type 0) (suits : T → ℕ 
         moving = x;
         in_hand = goes.2;
         found = hands.1 ∙ (left_same p.point e.hand m.0.found other ∙ (was.kept flat some.0 some.1 ∙ ap Some same));
-        reached = λ y is_last. subst (λ (t : Limits × ℕ × T). Reached follows t.0.seats t.1 y t.2) (λ i. (sym e.did.root.limits_are i, was.named i, same i)) (knows.1 y (same_last ∙ is_last));
+        reached = λ y is_last. subst (λ (t : Limits × ℕ × T). Reached follows t.0.seats t.1 y t.2) (λ i. (sym e.did.root.limits_are i, was.named i, same i)) (knows.1 y (ap (λ (t : LastHold T). t.0) same_last ∙ is_last));
+        ended = e.did.ended ∙ (left_same p.point (m.0.holds_ended + 1) m.0.ended other ∙ ap (λ (t : LastHold T). t.3) same_last);
+        within = subst (λ (t : ℕ × ℕ). t.0 ≤ t.1) (λ i. (ap (λ (t : LastHold T). t.3) same_last i, sym holds_same i)) knows.2;
+        own = λ is_own. ap (λ (t : LastHold T). t.0) (sym same_last) ∙ (knows.3 (ap (λ (t : LastHold T). t.3) same_last ∙ (is_own ∙ holds_same)) ∙ ap Some same);
         count = m.0.answered;
         counts = counts_by how m.0.answered w.answered (λ stamp z. let f = e.did.stamped by.0 stamp (at ∙ ap (λ (h : How). EnterOwnerStore by.0 h) z) in let t = e.did.answered carries_p in let u : length (answered_by m.0.number (stepped_by p m.0.number e.found o).turn) ≡ 1 = ap (λ (y : Turn). length (answered_by m.0.number y)) (turn_at ∙ ap (λ (h : How). Ended (held by.0 h)) z) ∙ queued_counts m.0.number stamp by.0 in (f, omega (arith, f, t, u)))
             (λ z. let t = e.did.answered carries_p in let u : length (answered_by m.0.number (stepped_by p m.0.number e.found o).turn) ≡ 0 = ap (λ (y : Turn). length (answered_by m.0.number y)) (turn_at ∙ ap (λ (h : How). Ended (held by.0 h)) z) ∙ free_counts m.0.number by.0 in omega (arith, t, u));

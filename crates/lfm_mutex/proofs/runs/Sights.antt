@@ -32,7 +32,7 @@ use Rattle.lfm_core.specs.table.Words.{stepped_by, wake_of}
 use Rattle.lfm_table.specs.declared.seat_view.View.{View}
 use Rattle.lfm_table.specs.declared.rule.Moving.{Moving}
 use Rattle.lfm_table.specs.declared.seat_view.Seen.{Seen}
-use Rattle.lfm_table.specs.Rule.{value_in, last_hold, Hands, seen}
+use Rattle.lfm_table.specs.Rule.{value_in, LastHold, last_hold, Hands, seen}
 use Rattle.lfm_mutex.specs.calls.Runs.{Errand, locking, trying, releasing, sending, receiving, refuses_for, errand, is_release, Ends, Ran, opens, trail_of, Counts, Holds, how_held, errand_of, is_releasing}
 use Rattle.lfm_table.specs.Steps.{Event, ValueGoes, MayBeLeft}
 use Rattle.lfm_mutex.specs.calls.Sight.{Sight, sight_of, by_depth, is_asleep, is_in_call, sends_of, Concludes, RefusedBy, StillAt, IsLeft, Suits, Finds, MayLeave, Gains, Deepens, LeavesOff, Turned, claimed, Stays, BusySeen, new_sight, Names}
@@ -93,8 +93,12 @@ module _ {T : Type 0} (follows : ℕ → T → T → Type 0) (suits : T → ℕ 
       let goes = subst (λ (t : Bool × Bool). ValueGoes t.0 t.1 a b w) (λ i. (carries_p i, carries_q i)) e.value in
       let hands = subst (λ (t : Bool × Bool). Hands follows suits t.0 t.1 p.point e.hand e.did.popped (v, e.slots) (w, e.slots_after)) (λ i. (carries_p i, (ap carries_value (sym e.seat_is) ∙ carries_q) i)) e.did.hands in
       let more = e.did.answered carries_p in
-      let none : length (answered_by v.number (stepped_by p v.number e.found o).turn) ≡ 0 = ap (λ (t : Turn). length (answered_by v.number t)) (sym e.turn_is) ∙ none_answered v.number p q turn c deep in
-      (ap value_in goes.2 ∙ sym goes.1, hands.1 ∙ left_same p.point e.hand v.found (no_leaves p.point keeps), omega (arith, more, none))
+      let none : length (answered_by v.number (stepped_by p v.number e.found o).turn) ≡ 0 = ap (λ (t : Turn). length (answered_by v.number t)) (sym e.turn_is) ∙ none_answered v.number p q turn c deep in (
+        ap value_in goes.2 ∙ sym goes.1,
+        hands.1 ∙ left_same p.point e.hand v.found (no_leaves p.point keeps),
+        omega (arith, more, none),
+        e.did.holds carries_p ∙ left_same p.point (v.holds_ended + 1) v.holds_ended (no_leaves p.point keeps),
+      )
 
 -- Two runs
 
@@ -117,10 +121,10 @@ concludes_join x y p (Refused _) c d = absurd d
 
 pub stays_join : {T : Type 0} (x y : ℕ) (u v w : View T) (a b c : Option T) → y ≡ x → Stays x u a v b → Stays y v b w c → Stays x u a w c
 stays_join x y u v w a b c same first second deep =
-    let f = first deep in let g = second (subst (λ (n : ℕ). 0 < n) (sym same) deep) in (g.0 ∙ f.0, g.1 ∙ f.1, g.2 ∙ f.2)
+    let f = first deep in let g = second (subst (λ (n : ℕ). 0 < n) (sym same) deep) in (g.0 ∙ f.0, g.1 ∙ f.1, g.2 ∙ f.2, g.3 ∙ f.3)
 
 pub stays_none : {T : Type 0} (x : ℕ) (v : View T) (a : Option T) → Stays x v a v a
-stays_none x v a deep = (refl, refl, refl)
+stays_none x v a deep = (refl, refl, refl, refl)
 
 -- The store that ends a hold
 
@@ -158,13 +162,13 @@ module _ {T : Type 0} (n n' : ℕ) (p p' : SeatState) (v v' : View T) (a a' : Op
   same_but d k asleep in_call sends number depth takes asleep_is in_call_is sends_are last stays level =
       let lasts : by_depth p'.depth v'.last v'.found ≡ by_depth p.depth v.last v.found =
       elim level [
-        | inl f ↦ flat_by p'.depth v'.last v'.found f.1 ∙ (ap (λ (t : Option T × Option T × Limits). t.0) last ∙ sym (flat_by p.depth v.last v.found f.0))
+        | inl f ↦ flat_by p'.depth v'.last v'.found f.1 ∙ (ap (λ (t : LastHold T). t.0) last ∙ sym (flat_by p.depth v.last v.found f.0))
         | inr f ↦ deep_by p'.depth v'.last v'.found f.1 ∙ ((stays f.0).1 ∙ sym (deep_by p.depth v.last v.found f.0))
       ]
       in
       let founds : by_depth p'.depth v'.last_found v'.found ≡ by_depth p.depth v.last_found v.found =
       elim level [
-        | inl f ↦ flat_by p'.depth v'.last_found v'.found f.1 ∙ (ap (λ (t : Option T × Option T × Limits). t.1) last ∙ sym (flat_by p.depth v.last_found v.found f.0))
+        | inl f ↦ flat_by p'.depth v'.last_found v'.found f.1 ∙ (ap (λ (t : LastHold T). t.1) last ∙ sym (flat_by p.depth v.last_found v.found f.0))
         | inr f ↦ deep_by p'.depth v'.last_found v'.found f.1 ∙ ((stays f.0).1 ∙ sym (deep_by p.depth v.last_found v.found f.0))
       ]
       in
@@ -180,7 +184,13 @@ module _ {T : Type 0} (n n' : ℕ) (p p' : SeatState) (v v' : View T) (a a' : Op
         | inr f ↦ deep_by p'.depth 0 v'.answered f.1 ∙ ((stays f.0).2 ∙ sym (deep_by p.depth 0 v.answered f.0))
       ]
       in
-      λ i. record { number = number i; seats = ap (λ (t : Option T × Option T × Limits). t.2.seats) last i; depth = depth i; takes = takes i; asleep = asleep_is i; in_call = in_call_is i; last = lasts i; found = founds i; value = values i; queued = queued i; trail = v'.trail; sends = sends_are i }
+      let holds : by_depth p'.depth 0 v'.holds_ended ≡ by_depth p.depth 0 v.holds_ended =
+      elim level [
+        | inl f ↦ flat_by p'.depth 0 v'.holds_ended f.1 ∙ sym (flat_by p.depth 0 v.holds_ended f.0)
+        | inr f ↦ deep_by p'.depth 0 v'.holds_ended f.1 ∙ ((stays f.0).3 ∙ sym (deep_by p.depth 0 v.holds_ended f.0))
+      ]
+      in
+      λ i. record { number = number i; seats = ap (λ (t : LastHold T). t.2.seats) last i; depth = depth i; takes = takes i; asleep = asleep_is i; in_call = in_call_is i; last = lasts i; found = founds i; ended = ap (λ (t : LastHold T). t.3) last i; holds_ended = holds i; value = values i; queued = queued i; trail = v'.trail; sends = sends_are i }
 
 -- Begins
 
@@ -327,7 +337,7 @@ module _ {T : Type 0} (follows : ℕ → T → T → Type 0) (fits : T → ℕ �
   suits_of (How.Queued stamp) w k j counts is = (k, sym counts.0, counts.1, is)
 
   -- what a hold finds
-  pub finds : (how : How) → p.depth ≡ 0 → Holds follows fits n v.last how p' a' v' → Finds follows fits how S S'
+  pub finds : (how : How) → p.depth ≡ 0 → Holds follows fits n (last_hold v) how p' a' v' → Finds follows fits how S S'
   finds how flat h =
       let deep : 0 < p'.depth = let e = h.depth in omega (arith, e) in (
         h.moving.value,
@@ -336,6 +346,9 @@ module _ {T : Type 0} (follows : ℕ → T → T → Type 0) (fits : T → ℕ �
         λ y is. h.reached y (sym (flat_by p.depth v.last v.found flat) ∙ is),
         subst (λ (k : ℕ). Suits follows fits how h.moving.value k) (sym (deep_by p'.depth 0 v'.answered deep)) (suits_of how h.moving.value h.count v'.answered h.counts h.fits),
         deep_by p'.depth v'.last_found v'.found deep ∙ h.found,
+        h.ended,
+        subst (λ (m : ℕ). v.ended ≤ m) (sym (deep_by p'.depth 0 v'.holds_ended deep)) h.within,
+        λ own. flat_by p.depth v.last v.found flat ∙ h.own (own ∙ deep_by p'.depth 0 v'.holds_ended deep),
       )
 
   unsent : (turn : Turn) → Ran n (opens q) v turn p' v' → is_send q.point ≡ false → sends_of v'.trail ≡ sends_of v.trail
@@ -349,7 +362,7 @@ module _ {T : Type 0} (follows : ℕ → T → T → Type 0) (fits : T → ℕ �
   idle x at = ap is_in_call at
 
   -- a hold, by either call that charges at once
-  gains : (budget : ℕ) (how : How) → BegunEntry budget p q → q.depth ≡ 0 → p'.depth ≡ 1 → p'.takes ≡ q.takes → p'.point ≡ Rest → sends_of v'.trail ≡ sends_of v.trail → Holds follows fits n v.last how p' a' v' → Gains follows fits budget how S S'
+  gains : (budget : ℕ) (how : How) → BegunEntry budget p q → q.depth ≡ 0 → p'.depth ≡ 1 → p'.takes ≡ q.takes → p'.point ≡ Rest → sends_of v'.trail ≡ sends_of v.trail → Holds follows fits n (last_hold v) how p' a' v' → Gains follows fits budget how S S'
   gains budget how b flat deep takes rests sends h =
       let flat_p : p.depth ≡ 0 = sym b.2 ∙ flat in
       let charged : (p.takes < budget) × (q.takes ≡ p.takes + 1) = elim b.3 [ inl c ↦ (c.1, c.2) | inr c ↦ absurd (let z = c.0 in omega (arith, z, flat_p)) ] in
@@ -369,7 +382,7 @@ module _ {T : Type 0} (follows : ℕ → T → T → Type 0) (fits : T → ℕ �
             (idle p'.point rests ∙ sym (idle p.point b.0)) sends last (subst (λ (k : ℕ). Stays k v (value_in a) v' (value_in a')) b.2 stays) (inr (deep_p, omega (arith, is, depth))),
       )
 
-  lock_turned : (turn : Turn) → Begun l Call.Lock p q → Ends locking turn → Concludes q turn p' → ((how : How) → how_held turn ≡ Some how → Holds follows fits n v.last how p' a' v') → Stays q.depth v (value_in a) v' (value_in a') → last_hold v' ≡ last_hold v
+  lock_turned : (turn : Turn) → Begun l Call.Lock p q → Ends locking turn → Concludes q turn p' → ((how : How) → how_held turn ≡ Some how → Holds follows fits n (last_hold v) how p' a' v') → Stays q.depth v (value_in a) v' (value_in a') → last_hold v' ≡ last_hold v
       → sends_of v'.trail ≡ sends_of v.trail → Turned follows fits l Call.Lock S S' turn
   lock_turned (Ended (Answer.Asked (Asked.Held how))) b ends c held stays last sends = gains l.budget how b.0 c.0 c.1 c.2 c.3 sends (held how refl)
   lock_turned (Ended (Answer.Asked (Asked.Again d))) b ends c held stays last sends = deepens_now l.budget d b.0 c.0 c.1 c.2 c.3 c.4 sends last stays
@@ -389,7 +402,7 @@ module _ {T : Type 0} (follows : ℕ → T → T → Type 0) (fits : T → ℕ �
   not_waiting_tries : sending ≡ trying → ⊥
   not_waiting_tries e = cc
 
-  try_turned : (turn : Turn) → Begun l Call.TryLock p q → Ends trying turn → Concludes q turn p' → ((how : How) → how_held turn ≡ Some how → Holds follows fits n v.last how p' a' v') → Stays q.depth v (value_in a) v' (value_in a') → last_hold v' ≡ last_hold v
+  try_turned : (turn : Turn) → Begun l Call.TryLock p q → Ends trying turn → Concludes q turn p' → ((how : How) → how_held turn ≡ Some how → Holds follows fits n (last_hold v) how p' a' v') → Stays q.depth v (value_in a) v' (value_in a') → last_hold v' ≡ last_hold v
       → sends_of v'.trail ≡ sends_of v.trail → (turn ≡ Refused (Why.By Refusal.Busy) → (new : List Seen) × (v'.trail ≡ v.trail ++ new) × BusySeen n new) → Turned follows fits l Call.TryLock S S' turn
   try_turned (Ended (Answer.Locked (Locked.Held how))) b ends c held stays last sends busy = gains l.budget how b.0 c.0 c.1 c.2 c.3 sends (held how refl)
   try_turned (Ended (Answer.Locked (Locked.Again d))) b ends c held stays last sends busy = deepens_now l.budget d b.0 c.0 c.1 c.2 c.3 c.4 sends last stays
@@ -409,7 +422,7 @@ module _ {T : Type 0} (follows : ℕ → T → T → Type 0) (fits : T → ℕ �
   try_turned (Ended _) b ends c held stays last sends busy = tt
   try_turned Open b ends c held stays last sends busy = tt
 
-  receive_turned : (turn : Turn) → Begun l Call.Receive p q → Ends receiving turn → Concludes q turn p' → ((how : How) → how_held turn ≡ Some how → Holds follows fits n v.last how p' a' v') → Stays q.depth v (value_in a) v' (value_in a') → last_hold v' ≡ last_hold v
+  receive_turned : (turn : Turn) → Begun l Call.Receive p q → Ends receiving turn → Concludes q turn p' → ((how : How) → how_held turn ≡ Some how → Holds follows fits n (last_hold v) how p' a' v') → Stays q.depth v (value_in a) v' (value_in a') → last_hold v' ≡ last_hold v
       → sends_of v'.trail ≡ sends_of v.trail → Turned follows fits l Call.Receive S S' turn
   receive_turned (Ended (Answer.Got (Some how))) b ends c held stays last sends =
       (b.0, b.1, awake p'.point c.3, number, c.1, c.2 ∙ b.3, sends, finds how (sym b.2 ∙ c.0) (held how refl))
@@ -427,7 +440,7 @@ module _ {T : Type 0} (follows : ℕ → T → T → Type 0) (fits : T → ℕ �
   receive_turned Open b ends c held stays last sends = tt
 
   -- a release, from the store that ends the hold on
-  leaves_off : p.point ≡ Rest → p.depth ≡ 1 → p'.depth ≡ 0 → last_hold v' ≡ (value_in a, v.found, v.limits) → sends_of v'.trail ≡ sends_of v.trail → LeavesOff S S'
+  leaves_off : p.point ≡ Rest → p.depth ≡ 1 → p'.depth ≡ 0 → last_hold v' ≡ (value_in a, v.found, v.limits, v.holds_ended + 1) → sends_of v'.trail ≡ sends_of v.trail → LeavesOff S S'
   leaves_off rests deep flat last sends =
       let some : 0 < p.depth = omega (arith, deep) in (
         awake p.point rests,
@@ -435,9 +448,10 @@ module _ {T : Type 0} (follows : ℕ → T → T → Type 0) (fits : T → ℕ �
         number,
         flat,
         flat_by p'.depth None (value_in a') flat,
-        λ x is. flat_by p'.depth v'.last v'.found flat ∙ (ap (λ (t : Option T × Option T × Limits). t.0) last ∙ (sym (deep_by p.depth None (value_in a) some) ∙ is)),
+        λ x is. flat_by p'.depth v'.last v'.found flat ∙ (ap (λ (t : LastHold T). t.0) last ∙ (sym (deep_by p.depth None (value_in a) some) ∙ is)),
         sends,
-        flat_by p'.depth v'.last_found v'.found flat ∙ (ap (λ (t : Option T × Option T × Limits). t.1) last ∙ sym (deep_by p.depth v.last_found v.found some)),
+        flat_by p'.depth v'.last_found v'.found flat ∙ (ap (λ (t : LastHold T). t.1) last ∙ sym (deep_by p.depth v.last_found v.found some)),
+        ap (λ (t : LastHold T). t.3) last ∙ ap (λ (m : ℕ). m + 1) (sym (deep_by p.depth 0 v.holds_ended some)),
       )
 
   unlocked : (u : Unlocked) → IsLeft u → LeavesOff S S' → S'.takes ≡ S.takes → S'.asleep ≡ false → Turned follows fits l Call.Unlock S S' (Ended (Answer.Unlocked u))
@@ -447,13 +461,13 @@ module _ {T : Type 0} (follows : ℕ → T → T → Type 0) (fits : T → ℕ �
   unlocked Unlocked.Posted is off takes awake_now = (off, takes, awake_now)
   unlocked Unlocked.TakenOver is off takes awake_now = (off, takes, awake_now)
 
-  unlock_turned : (turn : Turn) → Begun l Call.Unlock p q → Ends (releasing Unlocker) turn → Concludes (record q { depth = 0 }) turn p' → last_hold v' ≡ (value_in a, v.found, v.limits) → sends_of v'.trail ≡ sends_of v.trail → Turned follows fits l Call.Unlock S S' turn
+  unlock_turned : (turn : Turn) → Begun l Call.Unlock p q → Ends (releasing Unlocker) turn → Concludes (record q { depth = 0 }) turn p' → last_hold v' ≡ (value_in a, v.found, v.limits, v.holds_ended + 1) → sends_of v'.trail ≡ sends_of v.trail → Turned follows fits l Call.Unlock S S' turn
   unlock_turned (Ended (Answer.Unlocked u)) b ends c last sends = unlocked u c.3 (leaves_off b.0 b.1 c.0 last sends) (c.1 ∙ b.2) (awake p'.point c.2)
   unlock_turned (Refused why) b ends c last sends = absurd (no_trying_asks (releasing Unlocker) Unlocker why refl ends (record q { depth = 0 }) p' c)
   unlock_turned (Ended _) b ends c last sends = tt
   unlock_turned Open b ends c last sends = tt
 
-  wait_turned : (turn : Turn) → Begun l Call.StartWait p q → Ends (releasing Waiter) turn → Concludes (record q { depth = 0 }) turn p' → last_hold v' ≡ (value_in a, v.found, v.limits) → sends_of v'.trail ≡ sends_of v.trail → Turned follows fits l Call.StartWait S S' turn
+  wait_turned : (turn : Turn) → Begun l Call.StartWait p q → Ends (releasing Waiter) turn → Concludes (record q { depth = 0 }) turn p' → last_hold v' ≡ (value_in a, v.found, v.limits, v.holds_ended + 1) → sends_of v'.trail ≡ sends_of v.trail → Turned follows fits l Call.StartWait S S' turn
   wait_turned (Ended (Answer.Waiting u)) b ends c last sends = (c.4 (subst (λ (x : Point). StillAt x) (sym b.4) tt), leaves_off b.0 b.1 c.0 last sends, b.2, c.1 ∙ b.3, c.2, c.3)
   wait_turned (Refused why) b ends c last sends = absurd (no_trying_asks (releasing Waiter) Waiter why refl ends (record q { depth = 0 }) p' c)
   wait_turned (Ended _) b ends c last sends = tt
@@ -495,7 +509,7 @@ module _ {T : Type 0} (follows : ℕ → T → T → Type 0) (fits : T → ℕ �
 
   -- the end of a call that makes steps
   pub turned_by_steps : (call : Call) (turn : Turn) → is_releasing (errand_of call) ≡ false → Begun l call p q → Ends (errand_of call) turn → Concludes q turn p'
-      → ((how : How) → how_held turn ≡ Some how → Holds follows fits n v.last how p' a' v') → Stays q.depth v (value_in a) v' (value_in a') → last_hold v' ≡ last_hold v → Ran n (opens q) v turn p' v' → Turned follows fits l call S S' turn
+      → ((how : How) → how_held turn ≡ Some how → Holds follows fits n (last_hold v) how p' a' v') → Stays q.depth v (value_in a) v' (value_in a') → last_hold v' ≡ last_hold v → Ran n (opens q) v turn p' v' → Turned follows fits l call S S' turn
   turned_by_steps Call.Lock turn keeps b ends c held stays last ran = lock_turned turn b ends c held stays last (unsent turn ran (ap is_send b.1))
   turned_by_steps Call.TryLock turn keeps b ends c held stays last ran =
       try_turned turn b ends c held stays last (unsent turn ran (ap is_send b.1)) (λ is. (trail_of n q ran.finds, ran.trail, busy_path n q ran.finds b.1 (ap (λ (z : Stepped). z.turn) ran.ends ∙ is)))
@@ -504,7 +518,7 @@ module _ {T : Type 0} (follows : ℕ → T → T → Type 0) (fits : T → ℕ �
   turned_by_steps Call.Unlock turn keeps b ends c held stays last ran = absurd (false≢true (sym keeps))
   turned_by_steps Call.StartWait turn keeps b ends c held stays last ran = absurd (false≢true (sym keeps))
 
-  pub turned_by_release : (call : Call) (turn : Turn) → is_releasing (errand_of call) ≡ true → Begun l call p q → Ends (errand_of call) turn → Concludes (record q { depth = 0 }) turn p' → last_hold v' ≡ (value_in a, v.found, v.limits) → Ran n (opens q) v turn p' v' → Turned follows fits l call S S' turn
+  pub turned_by_release : (call : Call) (turn : Turn) → is_releasing (errand_of call) ≡ true → Begun l call p q → Ends (errand_of call) turn → Concludes (record q { depth = 0 }) turn p' → last_hold v' ≡ (value_in a, v.found, v.limits, v.holds_ended + 1) → Ran n (opens q) v turn p' v' → Turned follows fits l call S S' turn
   turned_by_release Call.Unlock turn gives b ends c last ran = unlock_turned turn b ends c last (unsent turn ran (ap is_send b.3))
   turned_by_release Call.StartWait turn gives b ends c last ran = wait_turned turn b ends c last (unsent turn ran (ap is_send b.4))
   turned_by_release Call.Lock turn gives b ends c last ran = absurd (false≢true gives)
@@ -534,7 +548,7 @@ may_leave {T} follows fits n p v a named deep may x is =
 pub fresh_sight : {T : Type 0} (x : T) (k n : ℕ) (l : Limits) (p : SeatState) (m : Me (Option (Moving T)) (View T)) (a : Option (Moving T)) (all : Limits) → Fresh x k n l p m a all → sight_of n p m.0 (value_in a) ≡ new_sight x all.seats k
 fresh_sight {T} x k n l p m a all f =
     ap (λ (t : ℕ × SeatState × Option (Moving T)). sight_of t.0 t.1 m.0 (value_in t.2)) (λ i. (f.0 i, f.2 i, f.3 i))
-    ∙ (λ i. record { number = k; seats = (f.7 i).seats; depth = 0; takes = 0; asleep = false; in_call = false; last = f.5 i; found = f.6 i; value = None; queued = 0; trail = f.4 i; sends = sends_of (f.4 i) })
+    ∙ (λ i. record { number = k; seats = (f.7 i).seats; depth = 0; takes = 0; asleep = false; in_call = false; last = f.5 i; found = f.6 i; ended = f.8 i; holds_ended = 0; value = None; queued = 0; trail = f.4 i; sends = sends_of (f.4 i) })
 
 pub looked_sight : {T : Type 0} (n k : ℕ) (p : SeatState) (v w : View T) (a : Option T) → w ≡ record v { trail = v.trail ++ seen TryOwnerLoad k ∷ [] } → sight_of n p w a ≡ record (sight_of n p v a) { trail = v.trail ++ seen TryOwnerLoad k ∷ [] }
 looked_sight {T} n k p v w a is =

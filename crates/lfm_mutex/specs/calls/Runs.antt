@@ -1,6 +1,6 @@
 -- A run of a seat's own steps: what each found, in order, and what they lead to; which call a point belongs to, and how
 -- that call can end; and a number that falls with each step.
-use Rattle.std.specs.Prelude.{◌≡◌, ⊤, ℕ, ◌+◌, ◌-◌, ◌*◌, ◌^◌, List, [], ◌∷◌, ◌++◌, Option, Some, None, Bool, true, false, nat_eq, if◌then◌else◌}
+use Rattle.std.specs.Prelude.{◌≡◌, ⊤, ℕ, ◌≤◌, ◌+◌, ◌-◌, ◌*◌, ◌^◌, List, [], ◌∷◌, ◌++◌, Option, Some, None, Bool, true, false, nat_eq, if◌then◌else◌}
 use Rattle.lfm_model.specs.declared.answers.Asked.{Asked}
 use Rattle.lfm_model.specs.declared.answers.How.{How}
 use Rattle.lfm_model.specs.declared.answers.Locked.{Locked}
@@ -30,7 +30,7 @@ use Rattle.lfm_table.specs.declared.seat_view.Seen.{Seen}
 use Rattle.lfm_table.specs.declared.seat_view.View.{View}
 use Rattle.lfm_table.specs.declared.rule.Moving.{Moving}
 use Rattle.lfm_table.specs.Reach.{Reached}
-use Rattle.lfm_table.specs.Rule.{SameRoot, seen}
+use Rattle.lfm_table.specs.Rule.{LastHold, SameRoot, seen}
 
 -- Which call
 
@@ -258,14 +258,18 @@ abbrev pub Counts : How → ℕ → ℕ → Type 0
 Counts How.Free k answered = k ≡ answered
 Counts (How.Queued stamp) k answered = (k + 1 ≡ stamp) × (answered ≡ stamp)
 
--- the seat has come to hold, having left what `before` says: what it has in hand was reached from that, and suits
-pub record Holds {T : Type 0} (follows : ℕ → T → T → Type 0) (suits : T → ℕ → Type 0) (s : ℕ) (before : Option T) (how : How) (p : SeatState) (a : Option (Moving T)) (v : View T) : Type 0 where
+-- the seat has come to hold, and of its last hold before that stands what `before` says: what it has in hand was reached from what it
+-- left then, and is just that where no later hold than that one has ended; and it suits
+pub record Holds {T : Type 0} (follows : ℕ → T → T → Type 0) (suits : T → ℕ → Type 0) (s : ℕ) (before : LastHold T) (how : How) (p : SeatState) (a : Option (Moving T)) (v : View T) : Type 0 where
   pub depth : p.depth ≡ 1
   pub rests : p.point ≡ Rest
   pub moving : Moving T
   pub in_hand : a ≡ Some moving
   pub found : v.found ≡ Some moving.value
-  pub reached : (l : T) → before ≡ Some l → Reached follows v.limits.seats s l moving.value
+  pub reached : (l : T) → before.0 ≡ Some l → Reached follows v.limits.seats s l moving.value
+  pub ended : v.ended ≡ before.3
+  pub within : before.3 ≤ v.holds_ended
+  pub own : before.3 ≡ v.holds_ended → before.0 ≡ Some moving.value
   pub count : ℕ
   pub counts : Counts how count v.answered
   pub fits : suits moving.value count

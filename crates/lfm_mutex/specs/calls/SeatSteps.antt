@@ -1,5 +1,5 @@
 -- One turn of a seat: a call that begins, or one atomic step, each as the core has it for that seat.
-use Rattle.std.specs.Prelude.{◌≡◌, ℕ, [], ◌∷◌, ◌++◌, Bool, false, true, Option, Some, None}
+use Rattle.std.specs.Prelude.{◌≡◌, ℕ, ◌+◌, [], ◌∷◌, ◌++◌, Bool, false, true, Option, Some, None}
 use Rattle.lfm_model.specs.declared.answers.How.{How}
 use Rattle.lfm_words.specs.declared.pop_lists.Record.{Record}
 use Rattle.lfm_protocol.specs.declared.answers.Call.{Call}
@@ -32,10 +32,10 @@ Steps x s turn y t =
     × (t.trail ≡ s.trail ++ seen x.point n ∷ [])
 
 -- what becomes of the value at a step: a seat that comes to hold finds what was left last, the store that ends a hold leaves what
--- was in hand and keeps what had been found, and every other step keeps all of it
+-- was in hand, keeps what had been found and gives the hold the next number, and every other step keeps all of it
 pub record KeepsValue {T : Type 0} (follows : ℕ → T → T → Type 0) (fits : T → ℕ → Type 0) (x : SeatState) (s : Sight T) (turn : Turn) (t : Sight T) : Type 0 where
   pub gains : (how : How) → how_held turn ≡ Some how → Finds follows fits how s t
-  pub leaves : is_release x.point ≡ true → (t.last ≡ s.value) × (t.found ≡ s.found)
+  pub leaves : is_release x.point ≡ true → (t.last ≡ s.value) × (t.found ≡ s.found) × (t.ended ≡ s.holds_ended + 1)
   pub keeps : is_release x.point ≡ false → how_held turn ≡ None → t ≡ record s { depth = t.depth; takes = t.takes; asleep = t.asleep; in_call = t.in_call; trail = t.trail; sends = t.sends }
 
 -- a seat with the data x makes the step at its point; without an open call nothing changes

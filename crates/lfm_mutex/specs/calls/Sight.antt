@@ -40,6 +40,11 @@ pub record Sight (T : Type 0) : Type 0 where
   pub last : Option T
   -- the value that it found when it came to hold last: it stays when the hold ends, until the next gain; None before the first gain
   pub found : Option T
+  -- the number of the hold that it ended last; 0 before that. Holds are numbered 1, 2, 3 and on over all seats, in the order in which
+  -- they end
+  pub ended : ℕ
+  -- while it holds, how many holds have ended
+  pub holds_ended : ℕ
   -- the value that it has in hand while it holds
   pub value : Option T
   -- while it holds, how many seats have come to hold by a queued record
@@ -87,6 +92,8 @@ sight_of n p v a =
       in_call = is_in_call p.point;
       last = by_depth p.depth v.last v.found;
       found = by_depth p.depth v.last_found v.found;
+      ended = v.ended;
+      holds_ended = by_depth p.depth 0 v.holds_ended;
       value = by_depth p.depth None a;
       queued = by_depth p.depth 0 v.answered;
       trail = v.trail;
@@ -108,6 +115,8 @@ new_sight x seats n =
       in_call = false;
       last = Some x;
       found = None;
+      ended = 0;
+      holds_ended = 0;
       value = None;
       queued = 0;
       trail = [];
@@ -166,9 +175,10 @@ module _ {T : Type 0} where
   abbrev pub Deepens : Sight T → Sight T → ℕ → Type 0
   Deepens s t d = (s.asleep ≡ false) × (0 < s.depth) × (s.depth < max_depth) × (d ≡ s.depth + 1) × (t ≡ record s { depth = d; trail = t.trail })
 
-  -- the seat has given up the mutex: what was in hand is what it left last, and what it had found is still known
+  -- The seat has given up the mutex: what was in hand is what it left last, and what it had found is still known. The hold that it
+  -- ended has the next number
   abbrev pub LeavesOff : Sight T → Sight T → Type 0
-  LeavesOff s t = (s.asleep ≡ false) × (s.depth ≡ 1) × (t.number ≡ s.number) × (t.depth ≡ 0) × (t.value ≡ None) × ((x : T) → s.value ≡ Some x → t.last ≡ Some x) × (t.sends ≡ s.sends) × (t.found ≡ s.found)
+  LeavesOff s t = (s.asleep ≡ false) × (s.depth ≡ 1) × (t.number ≡ s.number) × (t.depth ≡ 0) × (t.value ≡ None) × ((x : T) → s.value ≡ Some x → t.last ≡ Some x) × (t.sends ≡ s.sends) × (t.found ≡ s.found) × (t.ended ≡ s.holds_ended + 1)
 
   -- how unlock ends
   abbrev pub Unlocks : Sight T → Sight T → Result Unlocked Refusal → Type 0
@@ -199,9 +209,12 @@ module _ {T : Type 0} (follows : ℕ → T → T → Type 0) (fits : T → ℕ �
   Suits How.Free w k = fits w k
   Suits (How.Queued x) w k = (j : ℕ) × (x ≡ j + 1) × (k ≡ x) × fits w j
 
-  -- the seat has come to hold, and found a value that what it left last leads to
+  -- The seat has come to hold, and found a value that what it left last leads to. Where no later hold has ended than its own last one, it
+  -- finds what it left
   abbrev pub Finds : How → Sight T → Sight T → Type 0
-  Finds how s t = (w : T) × (t.value ≡ Some w) × (t.last ≡ Some w) × ((l : T) → s.last ≡ Some l → Reached follows t.seats s.number l w) × Suits how w t.queued × (t.found ≡ Some w)
+  Finds how s t =
+      (w : T) × (t.value ≡ Some w) × (t.last ≡ Some w) × ((l : T) → s.last ≡ Some l → Reached follows t.seats s.number l w) × Suits how w t.queued × (t.found ≡ Some w) × (t.ended ≡ s.ended) × (s.ended ≤ t.holds_ended)
+      × (s.ended ≡ t.holds_ended → s.last ≡ Some w)
 
   -- what the seat has in hand may be left
   abbrev pub MayLeave : Sight T → Type 0
@@ -326,4 +339,4 @@ Concludes x (Refused why) p = RefusedBy x p why
 
 -- what a seat has in hand while it holds, and what it knows of it, is as it was
 abbrev pub Stays : {T : Type 0} → ℕ → View T → Option T → View T → Option T → Type 0
-Stays d v a v' a' = 0 < d → (a' ≡ a) × (v'.found ≡ v.found) × (v'.answered ≡ v.answered)
+Stays d v a v' a' = 0 < d → (a' ≡ a) × (v'.found ≡ v.found) × (v'.answered ≡ v.answered) × (v'.holds_ended ≡ v.holds_ended)

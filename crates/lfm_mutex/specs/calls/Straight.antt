@@ -28,7 +28,7 @@ pub record Course {T : Type 0} (follows : ℕ → T → T → Type 0) (suits : T
   pub concludes : Concludes p0 turn p
   pub stays : Stays p0.depth v0 (value_in a0) v (value_in a)
   pub last : last_hold v ≡ last_hold v0
-  pub held : (how : How) → how_held turn ≡ Some how → Holds follows suits number v0.last how p a v
+  pub held : (how : How) → how_held turn ≡ Some how → Holds follows suits number (last_hold v0) how p a v
 
 -- the call of a seat that was seen as s has ended with this turn, and it is seen as t: all that is said of it
 pub record ComesTo {T : Type 0} (follows : ℕ → T → T → Type 0) (suits : T → ℕ → Type 0) (l : Limits) (call : Call) (s t : Sight T) (turn : Turn) : Type 0 where

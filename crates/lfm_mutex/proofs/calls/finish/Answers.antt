@@ -7,7 +7,7 @@ use Rattle.lfm_mutex.specs.calls.Runs.{weight, Holds}
 use Rattle.lfm_mutex.proofs.runs.RunFacts.{open_point}
 use Rattle.lfm_mutex.proofs.runs.Running.{event_of, bounded_more, ran_more, last_more, turn_more, release_more, steps_left, ends_of, holds_now}
 use Rattle.lfm_mutex.proofs.runs.Spending.{spends_join, spends_more, spends_within}
-use Rattle.lfm_table.specs.Rule.{value_in}
+use Rattle.lfm_table.specs.Rule.{value_in, last_hold}
 use Rattle.lfm_mutex.specs.calls.Sight.{Concludes}
 use Rattle.lfm_mutex.proofs.runs.Sights.{concludes_now, stays_now, concludes_join, stays_join}
 use Rattle.lfm_mutex.proofs.calls.finish.Goals as goal
@@ -62,8 +62,8 @@ returns-in_default g c = let l = c.loop-ended.seat in let i = c.loop-ended.invar
           (stays_now g.T.Kept.follows g.T.Kept.fits first.number l.standing s.standing l.place.me.0 s.place.me.0 l.moving s.moving c.make_next.result named e i.keeps told);
       belongs = c.make_next.ensures.belongs ∙ i.same.2;
       same = (c.make_next.ensures.same.0 ∙ i.same.0, c.make_next.ensures.same.1 ∙ i.same.1);
-      held = λ how is. subst (λ (n : ℕ). Holds g.T.Kept.follows g.T.Kept.fits n first.place.me.0.last how s.standing s.moving s.place.me.0) i.same.0
-          (holds_now g.T.Kept.follows g.T.Kept.fits l.number l.limits l.standing s.standing l.place.me s.place.me.0 l.moving s.moving c.make_next.result first.place.me.0.last l.seated (ap (λ t. t.0) i.last) e how is);
+      held = λ how is. subst (λ (n : ℕ). Holds g.T.Kept.follows g.T.Kept.fits n (last_hold first.place.me.0) how s.standing s.moving s.place.me.0) i.same.0
+          (holds_now g.T.Kept.follows g.T.Kept.fits l.number l.limits l.standing s.standing l.place.me s.place.me.0 l.moving s.moving c.make_next.result (last_hold first.place.me.0) l.seated i.last e how is);
       ends = ends_of _ _ c.make_next.result s.standing.point (λ z. c.in_default.not-Open z) i.call
           (turn_more g.T.Kept.follows g.T.Kept.fits first.number first.standing first.place.me.0 l.standing s.standing l.place.me.0 s.place.me.0 l.moving s.moving c.make_next.result i.ran named e some);
       last = last_more g.T.Kept.follows g.T.Kept.fits first.number first.standing first.place.me.0 l.standing s.standing l.place.me.0 s.place.me.0 l.moving s.moving c.make_next.result i.ran named e i.keeps ∙ i.last;

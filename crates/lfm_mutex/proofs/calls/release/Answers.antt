@@ -34,7 +34,7 @@ returns-in-Open-clause-turned g c = let s = c.args.seat.now in let b = c.begin_c
     subst (λ (l : Limits). Turned g.T.Kept.follows g.T.Kept.fits l c.args.call (sight_of s.number s.standing s.place.me.0 (value_in s.moving)) (sight_of f.number f.standing f.place.me.0 (value_in f.moving)) c.finish_release.result) c.requires.belongs.1
     (turned_by_release g.T.Kept.follows g.T.Kept.fits s.number f.number s.limits s.standing b.standing f.standing s.place.me.0 f.place.me.0 s.moving f.moving (c.finish_release.ensures.same.0 ∙ c.begin_call.ensures.same.1) c.args.call c.finish_release.result
     c.requires.gives began (called_ends s.limits c.args.call s.standing b.standing c.finish_release.result c.in-Open.ensures.turn c.in-Open.ensures.seat c.finish_release.ensures.ends) c.finish_release.ensures.concludes
-    (c.finish_release.ensures.last ∙ (λ i. (value_in (c.begin_call.ensures.same.3 i), (ap (λ p. p.me.0.found) c.begin_call.ensures.same.0) i, (ap (λ p. p.me.0.limits) c.begin_call.ensures.same.0) i)))
+    (c.finish_release.ensures.last ∙ (λ i. (value_in (c.begin_call.ensures.same.3 i), (ap (λ p. p.me.0.found) c.begin_call.ensures.same.0) i, (ap (λ p. p.me.0.limits) c.begin_call.ensures.same.0) i, (ap (λ p. p.me.0.holds_ended + 1) c.begin_call.ensures.same.0) i)))
     (subst (λ (t : ℕ × View g.row.T.Denot). Ran t.0 (opens b.standing) t.1 c.finish_release.result f.standing f.place.me.0) (λ i. (c.begin_call.ensures.same.1 i, ap (λ p. p.me.0) c.begin_call.ensures.same.0 i)) c.finish_release.ensures.ran))
 
 pub returns-in_default-clause-turned : goal.returns-in_default-clause-turned

@@ -6,7 +6,7 @@ use Rattle.lfm_mutex.specs.calls.FailedPushes.{Spends}
 use Rattle.lfm_mutex.proofs.runs.DueFalls.{due-most}
 use Rattle.lfm_mutex.proofs.runs.Spending.{spends_within, spent, spent_nothing}
 use Rattle.lfm_mutex.proofs.runs.Running.{called_steps, called_at_once}
-use Rattle.lfm_table.specs.Rule.{value_in, last_hold}
+use Rattle.lfm_table.specs.Rule.{value_in, LastHold, last_hold}
 use Rattle.lfm_mutex.specs.calls.Sight.{sight_of, Stays, Turned}
 use Rattle.lfm_mutex.proofs.runs.Sights.{begun, turned_by_steps, turned_at_once, called_ends}
 use Rattle.lfm_protocol.specs.declared.limits.Limits.{Limits}
@@ -25,7 +25,7 @@ returns-in-Open-clause-turned g c = let s = c.args.seat.now in let b = c.begin_c
     subst (λ (l : Limits). Turned g.T.Kept.follows g.T.Kept.fits l c.args.call (sight_of s.number s.standing s.place.me.0 (value_in s.moving)) (sight_of f.number f.standing f.place.me.0 (value_in f.moving)) c.finish.result) c.requires.belongs.1
     (turned_by_steps g.T.Kept.follows g.T.Kept.fits s.number f.number s.limits s.standing b.standing f.standing s.place.me.0 f.place.me.0 s.moving f.moving (c.finish.ensures.same.0 ∙ c.begin_call.ensures.same.1) c.args.call c.finish.result
     c.requires.keeps began (called_ends s.limits c.args.call s.standing b.standing c.finish.result c.in-Open.ensures.turn c.in-Open.ensures.seat c.finish.ensures.ends) c.finish.ensures.concludes
-    (λ how is. subst (λ (t : ℕ × Option g.row.T.Denot). Holds g.T.Kept.follows g.T.Kept.fits t.0 t.1 how f.standing f.moving f.place.me.0) (λ i. (c.begin_call.ensures.same.1 i, ap (λ p. p.me.0.last) c.begin_call.ensures.same.0 i)) (c.finish.ensures.held how is))
+    (λ how is. subst (λ (t : ℕ × LastHold g.row.T.Denot). Holds g.T.Kept.follows g.T.Kept.fits t.0 t.1 how f.standing f.moving f.place.me.0) (λ i. (c.begin_call.ensures.same.1 i, ap (λ p. last_hold p.me.0) c.begin_call.ensures.same.0 i)) (c.finish.ensures.held how is))
     (subst (λ (t : View g.row.T.Denot × Option g.row.T.Denot). Stays b.standing.depth t.0 t.1 f.place.me.0 (value_in f.moving)) (λ i. (ap (λ p. p.me.0) c.begin_call.ensures.same.0 i, ap value_in c.begin_call.ensures.same.3 i)) c.finish.ensures.stays)
     (c.finish.ensures.last ∙ ap (λ p. last_hold p.me.0) c.begin_call.ensures.same.0)
     (subst (λ (t : ℕ × View g.row.T.Denot). Ran t.0 (opens b.standing) t.1 c.finish.result f.standing f.place.me.0) (λ i. (c.begin_call.ensures.same.1 i, ap (λ p. p.me.0) c.begin_call.ensures.same.0 i)) c.finish.ensures.ran))

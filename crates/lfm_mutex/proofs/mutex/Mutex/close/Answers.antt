@@ -2,6 +2,8 @@ use Rattle.lfm_mutex.specs.calls.Sight.{sight}
 use Rattle.std.proofs.Common.{Some, None, rules, ◌≡◌, ℕ, [], ◌∷◌, ◌++◌, length-append, arith, ap, ◌∙◌, sym, refl, subst, length, vec_len, inl, inr, ⊎_elim}
 use mathlib.Core.Option.{some, some-injective}
 use lib.ListN.{get_elem?}
+use mathlib.Core.Logic.{dite}
+use native.Mathlib.Decide.{ℕ_discrete}
 use Rattle.std.specs.List.{remove}
 use Rattle.std.specs.Slots.{slots_items}
 use Rattle.atomic_table.specs.Table.{Final, Seen}
@@ -13,7 +15,7 @@ use Rattle.lfm_table.proofs.tables.RuleKept.{length_at}
 use Rattle.lfm_mutex.proofs.ends.Seats.{at_end}
 use Rattle.lfm_protocol.specs.declared.limits.Limits.{Limits}
 use Rattle.lfm_protocol.specs.declared.points.Point.TheVariants.{Rest}
-use Rattle.lfm_mutex.proofs.ends.Ends.{rest_of, seen_last, last_seen, was_last, was_there, at_end_of, longer, free_seat, ends, NoneAtEnd, item_at, in_removed, not_removed, pigeons}
+use Rattle.lfm_mutex.proofs.ends.Ends.{rest_of, seen_last, last_seen, was_last, was_there, at_end_of, longer, free_seat, ends, NoneAtEnd, Among, item_at, in_removed, not_removed, pigeons}
 use Rattle.lfm_mutex.proofs.mutex.Mutex.close.Goals as goal
 
 pub remove-requires : goal.remove-requires
@@ -41,10 +43,10 @@ loop-seat-init g c = let f = c.in-Some-first_place.ensures in let xs = c.args.se
         (let h = (let lo = y.rooted.low in let hi = y.rooted.high in let wide = y.rooted.wide in let t = ap (λ t. t.words) (c.requires.belongs old.0 z old.1).0 in let w = c.args.self.words in (stand y.number (omega arith) (omega arith)).1 old.0 z old.1 refl) in rest_of y.standing.point h.1),
       );
       each = λ j z q. ⊎_elim
-          (λ (u : j ≡ at). let is : p ≡ z = some-injective p z (sym item ∙ (ap (get_elem? xs) (sym u) ∙ q)) in inr (inr (ap (λ p. p.me.0.last) e ∙ ap (λ z. (g.P.Holder.seat_of z).place.me.0.last) is, ap (λ p. p.me.0.number) e ∙ ap (λ z. (g.P.Holder.seat_of z).place.me.0.number) is, ap (λ p. p.me.0.last_found) e ∙ ap (λ z. (g.P.Holder.seat_of z).place.me.0.last_found) is)))
+          (λ (u : j ≡ at). let is : p ≡ z = some-injective p z (sym item ∙ (ap (get_elem? xs) (sym u) ∙ q)) in inr (inr (ap (λ p. p.me.0.last) e ∙ ap (λ z. (g.P.Holder.seat_of z).place.me.0.last) is, ap (λ p. p.me.0.number) e ∙ ap (λ z. (g.P.Holder.seat_of z).place.me.0.number) is, ap (λ p. p.me.0.last_found) e ∙ ap (λ z. (g.P.Holder.seat_of z).place.me.0.last_found) is, ap (λ p. p.me.0.ended) e ∙ ap (λ z. (g.P.Holder.seat_of z).place.me.0.ended) is)))
           (λ (u : (i : ℕ) × (get_elem? (remove xs at) i ≡ some z)). inl (u.0, ap (λ l. get_elem? l u.0) c.remove.ensures.items ∙ u.1)) (not_removed xs at j z q);
       still = λ j z q. in_removed xs at j z (ap (λ l. get_elem? l j) (sym c.remove.ensures.items) ∙ q);
-      own = (at, p, item, sym (ap (λ p. p.me.0.last) e), sym (ap (λ p. p.me.0.last_found) e));
+      own = (at, p, item, sym (ap (λ p. p.me.0.last) e), sym (ap (λ p. p.me.0.last_found) e), sym (ap (λ p. p.me.0.number) e), sym (ap (λ p. p.me.0.ended) e));
       only = λ j z q. absurd (let k = s.rooted.back viewed in let gl = ap (λ p. length p.me.0.joined) e in let r = length_at _ j z q in omega arith);
     }
 
@@ -67,11 +69,11 @@ loop-seat-preserved g c = let i = c.loop-seat.invariant in let r = c.retire.ensu
       each = λ j z q. ⊎_elim
           (λ (u : (i : ℕ) × (get_elem? c.loop-seat.seats.items i ≡ some z)). ⊎_elim (λ t. inl (u.0, t)) (λ t. inr (inl (length old, ap (λ l. get_elem? l (length old)) joined ∙ (at_end_of old (joined_of (g.P.Holder.seat_of s).place.me.0) ∙ ap (λ w. some (joined_of (g.P.Holder.seat_of w).place.me.0)) t.1))))
           (at_end c.pop.new.self.items s z u.0 (ap (λ l. get_elem? l u.0) (sym c.in-Some-pop.ensures.items) ∙ u.1)))
-          (λ u. ⊎_elim (λ t. inr (inl (t.0, ap (λ l. get_elem? l t.0) joined ∙ longer old (joined_of (g.P.Holder.seat_of s).place.me.0) t.0 (joined_of (g.P.Holder.seat_of z).place.me.0) t.1))) (λ t. inr (inr (ap (λ m. m.0.last) r.joined ∙ t.0, ap (λ m. m.0.number) r.joined ∙ t.1, ap (λ m. m.0.last_found) r.joined ∙ t.2))) u) (i.each j z q);
+          (λ u. ⊎_elim (λ t. inr (inl (t.0, ap (λ l. get_elem? l t.0) joined ∙ longer old (joined_of (g.P.Holder.seat_of s).place.me.0) t.0 (joined_of (g.P.Holder.seat_of z).place.me.0) t.1))) (λ t. inr (inr (ap (λ m. m.0.last) r.joined ∙ t.0, ap (λ m. m.0.number) r.joined ∙ t.1, ap (λ m. m.0.last_found) r.joined ∙ t.2, ap (λ m. m.0.ended) r.joined ∙ t.3))) u) (i.each j z q);
       still = λ j z q. i.still j z (was_there _ _ _ _ j c.in-Some-pop.ensures.items q);
-      own = (i.own.0, i.own.1, i.own.2, i.own.3 ∙ sym (ap (λ m. m.0.last) r.joined), i.own.4 ∙ sym (ap (λ m. m.0.last_found) r.joined));
+      own = (i.own.0, i.own.1, i.own.2, i.own.3 ∙ sym (ap (λ m. m.0.last) r.joined), i.own.4 ∙ sym (ap (λ m. m.0.last_found) r.joined), i.own.5 ∙ sym (ap (λ m. m.0.number) r.joined), i.own.6 ∙ sym (ap (λ m. m.0.ended) r.joined));
       only = λ j z q. ⊎_elim (λ u. i.only j z u)
-          (λ u. let o = i.still (length c.pop.new.self.items) s (was_last _ _ _ c.in-Some-pop.ensures.items) in (o.0, s, o.1, ap (λ y. y.last) u.1, ap (λ y. y.found) u.1))
+          (λ u. let o = i.still (length c.pop.new.self.items) s (was_last _ _ _ c.in-Some-pop.ensures.items) in (o.0, s, o.1, ap (λ y. y.last) u.1, ap (λ y. y.found) u.1, ap (λ y. y.number) u.1, ap (λ y. y.ended) u.1))
           (at_end old (joined_of (g.P.Holder.seat_of s).place.me.0) z j (ap (λ l. get_elem? l j) (sym joined) ∙ q));
     }
 
@@ -118,6 +120,37 @@ returns-clause-last g c =
           (λ u. absurd (let r = length_at c.loop-seat.seats.items u.0 s u.1 in let k : vec_len c.loop-seat.seats ≡ length c.loop-seat.seats.items = search rules in omega arith))
           (λ u. ⊎_elim (λ t. none_end.1 t.0 (joined_of (g.P.Holder.seat_of s).place.me.0) t.1) (λ t. sym t.2 ∙ none_end.0) u) (i.each j s at),
     )
+
+pub returns-clause-latest : goal.returns-clause-latest
+returns-clause-latest g c =
+    let i = c.loop-seat.invariant in let v = c.loop-seat.root.me.0 in let n = c.in_default-pop.ensures.cases in let a = i.counts in let z = n.0 in
+    let end : Final (Seen (Held g.T.Kept.follows g.T.Kept.fits) 0 v) (slots_items c.close_with.result.words) (slots_items c.close_with.result.slots) = subst (λ k. Final (Seen (Held g.T.Kept.follows g.T.Kept.fits) k v) (slots_items c.close_with.result.words) (slots_items c.close_with.result.slots)) i.root.0 c.close_with.ensures.values.2 in
+    let e = ends g.T.Kept.follows g.T.Kept.fits v (slots_items c.close_with.result.words) (slots_items c.close_with.result.slots) (omega arith) i.root.3 i.root.4 end in
+    let was = e.1 in let got = c.take_slot.ensures in let some_it = c.in-Some-take_slot.is in let whole : e.0 ≡ c.in-Some-take_slot.moving = cc in let same : e.0.value ≡ c.into_value.result = ap (λ (x : Moving g.row.T.Denot). x.value) whole ∙ sym c.into_value.ensures in
+    let latest = e.7 in
+    let among : (j : ℕ) (s : _) → get_elem? c.args.seats.items j ≡ some s → Among g.T.Kept.follows g.T.Kept.fits v (g.P.Holder.seat_of s).place.me.0.number (g.P.Holder.seat_of s).place.me.0.last (g.P.Holder.seat_of s).place.me.0.ended =
+    (λ j s at. ⊎_elim
+    (λ u. absurd (let r = length_at c.loop-seat.seats.items u.0 s u.1 in let k : vec_len c.loop-seat.seats ≡ length c.loop-seat.seats.items = search rules in omega arith))
+    (λ u. ⊎_elim (λ t. inr (t.0, joined_of (g.P.Holder.seat_of s).place.me.0, t.1, refl, refl, refl)) (λ t. inl (t.1, t.0, t.3)) u) (i.each j s at)) in
+    let left : (j : ℕ) (s : _) (w : g.row.T.Denot) → get_elem? c.args.seats.items j ≡ some s → (g.P.Holder.seat_of s).place.me.0.last ≡ Some w → (sight (g.P.Holder.seat_of s)).last ≡ Some w =
+    (λ j s w at is. let y = g.P.Holder.seat_of s in let b = c.requires.belongs j s at in
+    let idle = (let lo = y.rooted.low in let hi = y.rooted.high in let same = ap (λ x. x.seats) b.1 in (c.in_default.ensures y.number lo (omega (arith, hi, same))).1 j s at refl) in
+    last_seen y.standing.depth y.place.me.0.last y.place.me.0.found idle.0 ∙ is) in
+    let from : (j : ℕ) × (s : _) × (get_elem? c.args.seats.items j ≡ some s) × ((g.P.Holder.seat_of s).place.me.0.last ≡ Some e.0.value) × ((g.P.Holder.seat_of s).place.me.0.number ≡ latest.seat) × ((g.P.Holder.seat_of s).place.me.0.ended ≡ latest.count) =
+    ⊎_elim (λ t. (i.own.0, i.own.1, i.own.2, i.own.3 ∙ t.1, i.own.5 ∙ t.0, i.own.6 ∙ t.2)) (λ t. let o = i.only t.0 t.1 t.2 in (o.0, o.1, o.2, o.3 ∙ t.4, o.5 ∙ t.3, o.6 ∙ t.5)) latest.there in
+    dite (ℕ_discrete latest.count 0)
+    (λ none. inr (λ j s at. let q = latest.never (g.P.Holder.seat_of s).place.me.0.number (g.P.Holder.seat_of s).place.me.0.last (g.P.Holder.seat_of s).place.me.0.ended (among j s at) none in (q.0, left j s c.into_value.result at (q.1 ∙ ap Some same))))
+    (λ some. let ended = from.5 in inl (
+      from.0,
+      from.1,
+      from.2,
+      left from.0 from.1 c.into_value.result from.2 (from.3 ∙ ap Some same),
+      omega (arith, some, ended),
+      λ j s at other.
+          let less = latest.later (g.P.Holder.seat_of s).place.me.0.number (g.P.Holder.seat_of s).place.me.0.last (g.P.Holder.seat_of s).place.me.0.ended (among j s at)
+          (λ q. other (sym (g.P.Holder.seat_of s).seated.named ∙ (q ∙ (sym from.4 ∙ (g.P.Holder.seat_of from.1).seated.named)))) (omega (arith, some)) in
+          omega (arith, less, ended),
+    ))
 
 pub returns-clause-reached : goal.returns-clause-reached
 returns-clause-reached g c j s l at seen =

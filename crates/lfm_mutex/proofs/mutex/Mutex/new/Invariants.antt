@@ -19,6 +19,7 @@ invariant-loop-i g l = record {
   opening : l.root.me.0.opening ≡ Some l.fn.value;
   last : l.root.me.0.last ≡ Some l.fn.value;
   found : l.root.me.0.last_found ≡ None;
+  ended : l.root.me.0.ended ≡ 0;
   trail : l.root.me.0.trail ≡ [];
   standing : l.root.me.0.standing ≡ absent;
   room : (length l.all.items + 1 ≡ l.i) × (vec_len l.all + 1 ≡ l.i) × (l.seats ≤ vec_capacity l.all);

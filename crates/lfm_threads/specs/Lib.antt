@@ -1,0 +1,3 @@
+pub mod Sharing
+pub mod Together
+pub mod Workers

@@ -1,0 +1,27 @@
+-- What threads that are started together are given, and what comes back.
+use Rattle.std.specs.Prelude.{◌≡◌, ℕ, List}
+use mathlib.Core.Option.{some}
+use lib.ListN.{get_elem?}
+use Rattle.lfm_threads.specs.declared.starting_line.Start.{Start}
+use Rattle.lfm_threads.specs.declared.arrivals.Arrival.{Arrival}
+use Rattle.lfm_threads.specs.declared.arrivals.Outcome.{Outcome}
+use Rattle.lfm_threads.specs.declared.arrivals.Outcome.TheVariants.{Made, Kept}
+
+-- each job may be begun
+abbrev pub AllTaken : {P : Type 0} → (P → Type 0) → List P → Type 0
+AllTaken {P} takes jobs = (j : ℕ) (p : P) → get_elem? jobs j ≡ some p → takes p
+
+module _ {P X : Type 0} (gives : P → X → Type 0) where
+  -- each result is what the job at its place gave
+  abbrev pub AllGiven : List P → List X → Type 0
+  AllGiven jobs results = (j : ℕ) (x : X) → get_elem? results j ≡ some x → (p : P) × (get_elem? jobs j ≡ some p) × gives p x
+
+  -- the job came to this, where it was so decided at the starting line
+  abbrev pub Comes : P → Start → Outcome P X → Type 0
+  Comes p Start.Go (Made x) = gives p x
+  Comes p Start.CalledOff (Kept q) = q ≡ p
+  Comes p start outcome = ⊥
+
+  -- the same, at the line of this number
+  abbrev pub Arrives : ℕ → P → Arrival P X → Type 0
+  Arrives line p a = (a.decision.token.of ≡ line) × Comes p a.decision.start a.outcome

@@ -1,0 +1,18 @@
+-- Who was given a job.
+use Rattle.std.specs.Prelude.{◌≡◌, ℕ, List}
+use mathlib.Core.Option.{some}
+use lib.ListN.{get_elem?}
+use Rattle.lfm_threads.specs.declared.task.Task as Task
+use Rattle.lfm_threads.specs.declared.workers.Worker.{Worker}
+use Rattle.lfm_threads.specs.declared.workers.Worker.TheVariants.{Started, Refused}
+use Rattle.lfm_threads.specs.Together.{Arrives}
+
+module _ {P X K : Type 0} (g : Task.Ghosts K P X) (task : K) where
+  -- a thread, or nobody, and then this is what the job came to
+  abbrev pub HasJob : ℕ → P → Worker P X K → Type 0
+  HasJob line p (Started h) = (h.promise.line.value.start.id ≡ line) × (h.promise.job.value ≡ p) × (h.promise.task.value ≡ task)
+  HasJob line p (Refused a) = Arrives (g.gives task) line p a
+
+  -- each job has been given to the worker at its place
+  abbrev pub AllHaveJobs : ℕ → List P → List (Worker P X K) → Type 0
+  AllHaveJobs line jobs workers = (j : ℕ) (w : Worker P X K) → get_elem? workers j ≡ some w → (p : P) × (get_elem? jobs j ≡ some p) × HasJob line p w

@@ -1,0 +1,15 @@
+//! Threads that are started together: each begins with its job once all have been started, and none does where one of them
+//! can't be started. No word of a mutex stands here.
+#![tactic(auto)]
+
+mod arrivals;
+mod not_started;
+mod sharing;
+pub mod starting_line;
+mod task;
+mod together;
+mod workers;
+
+pub use not_started::{NotStarted, StartFault};
+pub use sharing::share;
+pub use starting_line::{Decision, Start, StartingLine};

@@ -1,0 +1,15 @@
+//! What is made of jobs.
+
+/// What is made of a job.
+pub trait Task<P, X> {
+    // The job may be begun.
+    ghost takes: { Self → P → Type 0 };
+
+    // The job may give this.
+    ghost gives: { Self → P → X → Type 0 };
+
+    /// Makes the job.
+    fn make(&self, job: P) -> X
+        requires { takes self.now job }
+        ensures { gives self.now job result };
+}

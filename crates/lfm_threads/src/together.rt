@@ -1,0 +1,91 @@
+//! Jobs that are given to threads together.
+ghost use Rattle.std.specs.Prelude.{◌≡◌, IfErr, IfOk, vec_len};
+ghost use Rattle.lfm_threads.specs.Together.{AllGiven, AllTaken, Arrives};
+
+use crate::arrivals::{Arrival, arrive};
+use crate::not_started::{NotStarted, StartFault};
+use crate::starting_line::{Start, StartingLine};
+use crate::task::Task;
+use crate::workers::{Given, Team, Worker};
+use std::snapshot::Snapshot;
+use std::sync::Wait;
+use std::thread;
+use std::thread::Threads;
+
+/// Makes each job in a thread of its own, or none.
+pub fn make_together<
+    P: Send + Drop,
+    X: Send + Drop,
+    R: Threads + Wait + Sync,
+    K: Task<P, X> + Sync,
+>(rt: &R, jobs: Vec<P>, task: &K) -> Result<Vec<X>, NotStarted<P>>
+    requires takes { AllTaken (K.takes task.now) jobs.items }
+    ensures count { IfOk result (λ v. vec_len v ≡ vec_len jobs) }
+    ensures gives { IfOk result (λ v. AllGiven (K.gives task.now) jobs.items v.items) }
+    ensures back { IfErr result (λ e. e.jobs.items ≡ jobs.items) }
+{
+    let line = StartingLine::new();
+    let at_line = &line;
+    thread::scope(
+        thread::scope_env(),
+        rt,
+        move |scope| -> Result<Vec<X>, NotStarted<P>>
+            requires { AllTaken (K.takes task.now) jobs.items }
+            ensures count { IfOk result (λ v. vec_len v ≡ vec_len jobs) }
+            ensures gives { IfOk result (λ v. AllGiven (K.gives task.entry.now) jobs.items v.items) }
+            ensures back { IfErr result (λ e. e.jobs.items ≡ jobs.items) }
+        {
+            let (alloc, count) = (*jobs.allocator(), jobs.len());
+            // All the memory that is needed is asked for before a thread is started.
+            let (Ok(mut workers), Ok(results), Ok(back)) = (
+                Vec::with_capacity(alloc, count),
+                Vec::with_capacity(alloc, count),
+                Vec::with_capacity(alloc, count),
+            ) else {
+                return Err(NotStarted {
+                    jobs,
+                    fault: StartFault::Memory,
+                });
+            };
+            let all_jobs = Snapshot::of(&jobs);
+            'starting: for job in jobs {
+                let given = Given {
+                    line: Snapshot::of(at_line),
+                    job: Snapshot::of(&job),
+                    task: Snapshot::of(task),
+                };
+                let started = scope.spawn_with(
+                    given,
+                    move || -> Arrival<'_, P, X>
+                        requires { K.takes task.now job }
+                        ensures { Arrives (K.gives task.entry.now) at_line.entry.now.start.id job result }
+                    { arrive(rt, at_line, job, task) },
+                );
+                let worker = match started {
+                    Ok(handle) => Worker::Started(handle),
+                    Err(refused) => {
+                        // What was to be done comes back. It finds the start called off, and hands its job back.
+                        at_line.decide(rt, Start::CalledOff);
+                        Worker::Refused((refused.value)())
+                    }
+                };
+                workers.push_reserved(worker);
+            }
+            let decision = at_line.decide(rt, Start::Go);
+            let start = decision.start();
+            let team = Team {
+                decision,
+                workers,
+                jobs: all_jobs,
+                task: Snapshot::of(task),
+            };
+            match start {
+                Start::Go => Ok(team.results(rt, results)),
+                Start::CalledOff => Err(NotStarted {
+                    jobs: team.jobs(rt, back),
+                    fault: StartFault::Thread,
+                }),
+            }
+        },
+    )
+}

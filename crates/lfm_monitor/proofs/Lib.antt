@@ -2,6 +2,7 @@ pub mod Asking
 pub mod Barring
 pub mod Ending
 pub mod Growth
+pub mod Holding
 pub mod Knowing
 pub mod Moving
 pub mod NewSeats

@@ -5,5 +5,6 @@ pub mod Conditions
 pub mod Dealing
 pub mod Journaled
 pub mod Passes
+pub mod Sections
 pub mod Steps
 pub mod Writes

@@ -5,6 +5,7 @@
 mod apply;
 mod close;
 mod enter;
+mod hold;
 mod holder;
 pub mod journaled;
 mod kept;
@@ -20,6 +21,7 @@ mod wait;
 mod wake;
 mod write;
 
+pub use hold::CriticalSection;
 pub use journaled::Journaled;
 pub use monitor::Monitor;
 pub use open::{MAX_CONDITIONS, MAX_ENTRIES};

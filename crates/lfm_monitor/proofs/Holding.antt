@@ -1,0 +1,75 @@
+-- Holds that are given up one after another.
+use Rattle.std.proofs.Common.{◌≡◌, ℕ, ◌+◌, ◌<◌, ◌≤◌, List, Result, Ok, Err, inl, refl, sym, ◌∙◌, ap, arith}
+use Rattle.lfm_model.specs.declared.answers.Unlocked.{Unlocked}
+use Rattle.lfm_model.specs.declared.journals.Entry.{Entry}
+use Rattle.lfm_model.specs.declared.refusals.Refusal.{Refusal}
+use Rattle.lfm_mutex.specs.calls.Sight.{Sight}
+use Rattle.lfm_monitor.specs.declared.journaled.Journaled.{Journaled}
+use Rattle.lfm_monitor.specs.declared.monitor.Monitor.{Monitor}
+use Rattle.lfm_monitor.specs.declared.pass.Pass.{Pass}
+use Rattle.lfm_monitor.specs.Belongs.{cond_seats_of, mine_of, pass_sight, seen_of}
+use Rattle.lfm_monitor.specs.Passes.{LeaveEnds, journal_of}
+use Rattle.lfm_monitor.specs.Sections.{GivesUp, HoldEnds, Holds}
+
+module _ {O A R : Type 0} {K : _} where
+  -- what a leave that is not refused makes of a pass
+  pub record LeavesOne (s t : Sight (Journaled O A R K)) (seen seen' : ℕ) : Type 0 where
+    pub depth : s.depth ≡ t.depth + 1
+    pub number : t.number ≡ s.number
+    pub takes : t.takes ≡ s.takes
+    pub asleep : t.asleep ≡ s.asleep
+    pub sends : t.sends ≡ s.sends
+    pub journal : journal_of t ≡ journal_of s
+    pub still : 0 < t.depth → seen' ≡ seen
+
+  still_holds : (d : ℕ) (s t : Sight (Journaled O A R K)) (seen seen' : ℕ) → LeaveEnds s t seen seen' (Ok (Unlocked.Still d)) → LeavesOne s t seen seen'
+  still_holds d s t seen seen' h = let e = h.3 in record {
+    depth = h.2 ∙ ap (λ (u : Sight (Journaled O A R K)). u.depth + 1) (sym e);
+    number = ap (λ (u : Sight (Journaled O A R K)). u.number) e;
+    takes = ap (λ (u : Sight (Journaled O A R K)). u.takes) e;
+    asleep = ap (λ (u : Sight (Journaled O A R K)). u.asleep) e;
+    sends = ap (λ (u : Sight (Journaled O A R K)). u.sends) e;
+    journal = ap (λ (u : Sight (Journaled O A R K)). journal_of u) e;
+    still = λ _. h.4;
+  }
+
+  given_back : (s t : Sight (Journaled O A R K)) (seen seen' : ℕ) → LeaveEnds s t seen seen' (Ok Unlocked.Free) → LeavesOne s t seen seen'
+  given_back s t seen seen' h = let out = h.2 in record {
+    depth = h.1 ∙ ap (λ n. n + 1) (sym h.2);
+    number = h.3;
+    takes = h.4;
+    asleep = h.5 ∙ sym h.0;
+    sends = h.6;
+    journal = h.7;
+    still = λ deep. absurd (omega arith);
+  }
+
+  pub leaves_one : (u : Unlocked) (s t : Sight (Journaled O A R K)) (seen seen' : ℕ) → LeaveEnds s t seen seen' (Ok u) → LeavesOne s t seen seen'
+  leaves_one (Unlocked.Still d) s t seen seen' h = still_holds d s t seen seen' h
+  leaves_one Unlocked.Free s t seen seen' h = given_back s t seen seen' h
+  leaves_one (Unlocked.Granted k) s t seen seen' h = given_back s t seen seen' h
+  leaves_one Unlocked.Posted s t seen seen' h = given_back s t seen seen' h
+  leaves_one Unlocked.TakenOver s t seen seen' h = given_back s t seen seen' h
+
+  pub gives_up_none : (p : Pass O A R K) → GivesUp p p
+  gives_up_none p = record { no_more = omega arith; number = refl; takes = refl; asleep = refl; sends = refl; journal = refl; seen = λ _. refl; mine = refl; cond_seats = refl }
+
+  -- some holds were given up, and then one more
+  pub gives_up_one : (p m q : Pass O A R K) → GivesUp p m → LeavesOne (pass_sight m) (pass_sight q) (seen_of m) (seen_of q) → mine_of q ≡ mine_of m → cond_seats_of q ≡ cond_seats_of m → GivesUp p q
+  gives_up_one p m q before one mine cond_seats = let few = before.no_more in let less = one.depth in record {
+    no_more = omega arith;
+    number = one.number ∙ before.number;
+    takes = one.takes ∙ before.takes;
+    asleep = one.asleep ∙ before.asleep;
+    sends = one.sends ∙ before.sends;
+    journal = one.journal ∙ before.journal;
+    seen = λ deep. one.still deep ∙ before.seen (omega arith);
+    mine = mine ∙ before.mine;
+    cond_seats = cond_seats ∙ before.cond_seats;
+  }
+
+module _ {O A R U : Type 0} {K : _} (m : Monitor O A R K) (makes : List (Entry A) → List (Entry A) → Result U Refusal → Type 0) where
+  -- a section that was executed, whatever it answered
+  pub held : (p q : Pass O A R K) (r : Result U Refusal) → Holds m makes p q r → HoldEnds m makes p q r
+  held p q (Ok x) h = h
+  held p q (Err r) h = inl h

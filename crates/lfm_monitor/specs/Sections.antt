@@ -1,0 +1,49 @@
+-- Critical sections: a pass enters, a section is executed, and the pass gives up what it holds more than before.
+use Rattle.std.specs.Prelude.{◌≡◌, ◌⊎◌, ℕ, ◌<◌, ◌≤◌, List, min, Result, Ok, Err}
+use Rattle.lfm_model.specs.declared.answers.Locked.{Locked}
+use Rattle.lfm_model.specs.declared.journals.Entry.{Entry}
+use Rattle.lfm_model.specs.declared.refusals.Refusal.{Refusal}
+use Rattle.lfm_monitor.specs.declared.monitor.Monitor.{Monitor}
+use Rattle.lfm_monitor.specs.declared.pass.Pass.{Pass}
+use Rattle.lfm_monitor.specs.Belongs.{OfMonitor, cond_seats_of, mine_of, pass_sight, seen_of, share_of}
+use Rattle.lfm_monitor.specs.Passes.{EnterEnds, EnterRefused, journal_of}
+
+module _ {O A R : Type 0} {K : _} where
+  -- nothing that a pass tells of itself is other than it was
+  abbrev pub SamePass : Pass O A R K → Pass O A R K → Type 0
+  SamePass p q = (pass_sight q ≡ pass_sight p) × (mine_of q ≡ mine_of p) × (seen_of q ≡ seen_of p) × (cond_seats_of q ≡ cond_seats_of p)
+
+  -- The pass has given up some of its holds, or none. The journal that it has in hand, or left, is the one that it had in hand, and
+  -- nothing else of it is other than it was
+  pub record GivesUp (p q : Pass O A R K) : Type 0 where
+    pub no_more : (pass_sight q).depth ≤ (pass_sight p).depth
+    pub number : (pass_sight q).number ≡ (pass_sight p).number
+    pub takes : (pass_sight q).takes ≡ (pass_sight p).takes
+    pub asleep : (pass_sight q).asleep ≡ (pass_sight p).asleep
+    pub sends : (pass_sight q).sends ≡ (pass_sight p).sends
+    pub journal : journal_of (pass_sight q) ≡ journal_of (pass_sight p)
+    pub seen : 0 < (pass_sight q).depth → seen_of q ≡ seen_of p
+    pub mine : mine_of q ≡ mine_of p
+    pub cond_seats : cond_seats_of q ≡ cond_seats_of p
+
+  -- the pass has given up each of its holds above this depth
+  abbrev pub GivesUpTo : ℕ → Pass O A R K → Pass O A R K → Type 0
+  GivesUpTo depth p q = GivesUp p q × ((pass_sight q).depth ≡ min (pass_sight p).depth depth)
+
+module _ {O A R U : Type 0} {K : _} (m : Monitor O A R K) (makes : List (Entry A) → List (Entry A) → Result U Refusal → Type 0) where
+  -- The pass entered as `enter` does. The section made of its journal what it may make, and answered r. Then the pass gave up its holds down
+  -- to the depth that it began with
+  pub record Holds (p q : Pass O A R K) (r : Result U Refusal) : Type 0 where
+    pub entered : Pass O A R K
+    pub executed : Pass O A R K
+    pub locked : Locked
+    pub enters : EnterEnds (share_of m) (pass_sight p) (pass_sight entered) (mine_of p) (mine_of entered) (Ok locked)
+    pub keeps : (seen_of entered ≡ seen_of p) × (cond_seats_of entered ≡ cond_seats_of p)
+    pub belong : OfMonitor entered m × OfMonitor executed m
+    pub executes : makes (journal_of (pass_sight entered)) (journal_of (pass_sight executed)) r
+    pub leaves : GivesUpTo (pass_sight p).depth executed q
+
+  -- how `hold` ends: with what the section answered, or refused as `enter` is, with nothing changed
+  abbrev pub HoldEnds : Pass O A R K → Pass O A R K → Result U Refusal → Type 0
+  HoldEnds p q (Ok x) = Holds p q (Ok x)
+  HoldEnds p q (Err r) = Holds p q (Err r) ⊎ (EnterRefused (share_of m) (pass_sight p) (mine_of p) r × SamePass p q)

@@ -1,0 +1,86 @@
+//! `hold`: a critical section is executed in a hold of its own, which ends whatever the section answered.
+ghost use Rattle.lfm_model.specs.declared.journals.Entry.{Entry};
+ghost use Rattle.lfm_model.specs.declared.refusals.Refusal.{Refusal};
+ghost use Rattle.lfm_monitor.specs.Belongs.{OfMonitor, pass_sight};
+ghost use Rattle.lfm_monitor.specs.Passes.{journal_of};
+ghost use Rattle.lfm_monitor.specs.Sections.{GivesUpTo, HoldEnds};
+ghost use Rattle.std.specs.Prelude.{◌≤◌, ℕ, List, Result};
+
+use crate::monitor::Monitor;
+use crate::pass::Pass;
+use lfm_model::{Object, Refusal};
+use std::sync::Wait;
+
+/// A critical section: what a thread does with its pass while the pass holds the monitor.
+///
+/// ```
+/// // adds the number of the round to a total, and answers the total
+/// struct AddRound;
+///
+/// impl<R: Wait> CriticalSection<Total, R> for AddRound {
+///     type Answer = u64;
+///
+///     fn execute(&self, _: &R, monitor: &Monitor<Total>, pass: &mut Pass<Total>, round: u64) -> Result<u64, Refusal> {
+///         monitor.apply(pass, TotalOp::Add(round))
+///     }
+/// }
+/// ```
+pub trait CriticalSection<O: Object, R: Wait>: Sync {
+    /// What the section answers.
+    type Answer;
+
+    // What the section may make of the journal in hand, in the round with this number, and what it then answers.
+    ghost makes: { Self → ℕ → List (Entry O.Op) → List (Entry O.Op) → Result Self.Answer Refusal → Type 0 } = { λ _ _ _ _ _. Unit {0} };
+
+    /// Executes the section once, with the number of the round.
+    fn execute(
+        &self,
+        rt: &R,
+        monitor: &Monitor<O>,
+        pass: &mut Pass<O>,
+        round: u64,
+    ) -> Result<Self::Answer, Refusal>
+        requires { OfMonitor pass.old monitor.now }
+        ensures belongs { OfMonitor pass.new monitor.now }
+        ensures makes { makes self.now round (journal_of (pass_sight pass.old)) (journal_of (pass_sight pass.new)) result };
+}
+
+impl<O: Object> Monitor<O> {
+    // Gives up each hold of the pass above this depth.
+    fn leave_down_to(&self, pass: &mut Pass<O>, depth: u32)
+        requires belongs { OfMonitor pass.old self.now }
+        ensures belongs { OfMonitor pass.new self.now }
+        ensures leaves { GivesUpTo depth pass.old pass.new }
+    {
+        'holds: while pass.depth() > depth {
+            match self.leave(pass) {
+                Ok(_) => {}
+                Err(_) => unreachable!(),
+            }
+        }
+    }
+
+    /// Enters, executes the section, and leaves, whatever the section answered, which it answers too. Holds that the section
+    /// began and did not give up are given up, so that the pass holds no more than before.
+    ///
+    /// Refuses as `enter`, and then the section is not executed and nothing has changed: Asleep, DepthFull, Spent, in this
+    /// order. It sleeps where `enter` does, wakes whom `enter` and `leave` wake, and takes no memory.
+    pub fn hold<R: Wait, S: CriticalSection<O, R>>(
+        &self,
+        rt: &R,
+        pass: &mut Pass<O>,
+        round: u64,
+        section: &S,
+    ) -> Result<S::Answer, Refusal>
+        requires belongs { OfMonitor pass.old self.now }
+        ensures belongs { OfMonitor pass.new self.now }
+        ensures no_more { (pass_sight pass.new).depth ≤ (pass_sight pass.old).depth }
+        ensures holds { HoldEnds self.now (λ js ks r. S.makes section.now round js ks r) pass.old pass.new result }
+    {
+        let depth = pass.depth();
+        let _locked = self.enter(rt, pass)?;
+        let answer = section.execute(rt, self, pass, round);
+        self.leave_down_to(pass, depth);
+        answer
+    }
+}

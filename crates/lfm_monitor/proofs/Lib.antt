@@ -12,4 +12,5 @@ pub mod Returning
 pub mod Sending
 pub mod Starting
 pub mod Trails
+pub mod Trying
 pub mod UsedConditions

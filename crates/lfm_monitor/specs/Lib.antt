@@ -7,4 +7,5 @@ pub mod Journaled
 pub mod Passes
 pub mod Sections
 pub mod Steps
+pub mod Tries
 pub mod Writes

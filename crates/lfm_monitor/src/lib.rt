@@ -3,6 +3,7 @@
 #![tactic(auto)]
 
 mod apply;
+mod apply_until;
 mod close;
 mod enter;
 mod hold;

@@ -1,0 +1,51 @@
+use Rattle.std.proofs.Common.{ℕ, zero, suc, true, false, Result, inl, inr, refl, subst, ◌∙◌}
+use Rattle.std.specs.Fn.{FnReturnsAt}
+use Rattle.lfm_model.specs.declared.refusals.Refusal.{Refusal}
+use Rattle.lfm_monitor.specs.Belongs.{mine_of, pass_sight, seen_of, share_of}
+use Rattle.lfm_monitor.specs.Tries.{ApplyUntilEnds}
+use Rattle.lfm_monitor.proofs.Trying.{applied_depth, handed_on, waited_depth}
+use Rattle.lfm_monitor.proofs.monitor.Monitor.apply_until.Goals as goal
+
+pub tries-init : goal.tries-init
+tries-init g c = record { belongs = c.requires.belongs; depth = refl; tries = (zero, refl) }
+
+-- one more try was in vain
+pub tries-preserved : goal.tries-preserved
+tries-preserved g c = let i = c.tries.invariant in let a = c.in_ok-reply.ensures in let w = c.in_ok-_waited.ensures in let l = c.tries.pass in let p = c.apply.new.pass in let q = c.wait.new.pass in record {
+  belongs = w.belongs;
+  depth = waited_depth c.in_ok-_waited._waited (pass_sight p) (pass_sight q) (seen_of p) (seen_of q) (mine_of p) (mine_of q) w.returns
+      ∙ (applied_depth g.O.Object.after g.O.Object.reply (share_of c.args.self.now) c.args.op c.in_ok-reply.reply (pass_sight l) (pass_sight p) (mine_of l) (mine_of p) a.applies ∙ i.depth);
+  tries = (
+    suc i.tries.0,
+    (
+      l,
+      i.tries.1,
+      record {
+        tried = p;
+        replied = c.in_ok-reply.reply;
+        waited = c.in_ok-_waited._waited;
+        tries = (a.applies, a.seen, a.conditions);
+        other = subst (λ b. FnReturnsAt g.F.Fn c.args.done c.in_ok-reply.reply b) c.if-accepts.false c.accepts.ensures;
+        waits = (w.waits, w.returns);
+      },
+    ),
+  );
+}
+
+pub returns-in_err-reply-clause-tries : goal.returns-in_err-reply-clause-tries
+returns-in_err-reply-clause-tries g c = let i = c.tries.invariant in let a = c.in_err-reply.ensures in
+    handed_on (λ (q : Result _ Refusal). ApplyUntilEnds g.O.Object.after g.O.Object.reply c.args.self.now c.args.condition c.args.op (λ r b. FnReturnsAt g.F.Fn c.args.done r b) c.args.pass.now c.apply.new.pass q) _ _ c.from_residual.ensures.1
+        (i.tries.0, c.tries.pass, i.belongs, i.tries.1, inl (a.applies, a.seen, a.conditions))
+
+pub returns-in_err-_waited-clause-tries : goal.returns-in_err-_waited-clause-tries
+returns-in_err-_waited-clause-tries g c = let i = c.tries.invariant in let a = c.in_ok-reply.ensures in let w = c.in_err-_waited.ensures in
+    let other = subst (λ b. FnReturnsAt g.F.Fn c.args.done c.in_ok-reply.reply b) c.if-accepts.false c.accepts.ensures in
+    handed_on (λ (q : Result _ Refusal). ApplyUntilEnds g.O.Object.after g.O.Object.reply c.args.self.now c.args.condition c.args.op (λ r b. FnReturnsAt g.F.Fn c.args.done r b) c.args.pass.now c.wait.new.pass q) _ _ c.from_residual-in_err-_waited.ensures.1
+        (i.tries.0, c.tries.pass, i.belongs, i.tries.1, inr (c.apply.new.pass, c.in_ok-reply.reply, (a.applies, a.seen, a.conditions), other, (w.waits, w.returns)))
+
+pub returns-then-accepts-clause-applied : goal.returns-then-accepts-clause-applied
+returns-then-accepts-clause-applied g c = let a = c.in_ok-reply.ensures in (c.tries.pass, c.tries.invariant.belongs, (a.applies, a.seen, a.conditions))
+
+pub returns-then-accepts-clause-tries : goal.returns-then-accepts-clause-tries
+returns-then-accepts-clause-tries g c = let i = c.tries.invariant in let a = c.in_ok-reply.ensures in
+    (i.tries.0, c.tries.pass, i.belongs, i.tries.1, ((a.applies, a.seen, a.conditions), subst (λ b. FnReturnsAt g.F.Fn c.args.done c.in_ok-reply.reply b) c.if-accepts.true c.accepts.ensures))

@@ -1,0 +1,13 @@
+use Rattle.std.proofs.Common.{◌≡◌, ℕ}
+use Rattle.std.specs.Fn.{FnReturnsAt}
+use Rattle.lfm_monitor.specs.Belongs.{OfMonitor, pass_sight}
+use Rattle.lfm_monitor.specs.Tries.{AllInVain}
+use Rattle.lfm_monitor.proofs.monitor.Monitor.apply_until.Given as goal
+
+-- each try so far was in vain
+abbrev pub invariant-tries : goal.invariant-tries
+invariant-tries g l = record {
+  belongs : OfMonitor l.pass l.self;
+  depth : (pass_sight l.pass).depth ≡ (pass_sight l.fn.pass).depth;
+  tries : (n : ℕ) × AllInVain g.O.Object.after g.O.Object.reply l.self l.condition l.op (λ r b. FnReturnsAt g.F.Fn l.done r b) n l.fn.pass l.pass;
+}

@@ -1,0 +1,51 @@
+-- Ops that are made again and again until their reply is what was looked for, with a wait on a condition before each further try.
+use Rattle.std.specs.Prelude.{◌≡◌, ◌⊎◌, ℕ, zero, suc, Bool, true, false, Result, Ok, Err}
+use Rattle.lfm_model.specs.declared.answers.How.{How}
+use Rattle.lfm_model.specs.declared.refusals.Refusal.{Refusal}
+use Rattle.lfm_monitor.specs.declared.monitor.Monitor.{Monitor}
+use Rattle.lfm_monitor.specs.declared.pass.Pass.{Pass}
+use Rattle.lfm_monitor.specs.Belongs.{OfMonitor, cond_seats_of, conditions_of, mine_of, mutex_limits, pass_sight, passes_of, seen_of, share_of}
+use Rattle.lfm_monitor.specs.CondSeats.{condition_limits}
+use Rattle.lfm_monitor.specs.Conditions.{WaitEnds, WaitReturns}
+use Rattle.lfm_monitor.specs.Passes.{ApplyEnds}
+
+module _ {O A R : Type 0} {K : _} where
+  -- how a wait of the pass on this condition ended
+  abbrev pub Waits : Monitor O A R K → ℕ → Pass O A R K → Pass O A R K → Result (How × ℕ) Refusal → Type 0
+  Waits m condition p q r =
+      WaitEnds (mutex_limits m) (condition_limits (passes_of m)) (share_of m) (conditions_of m) condition (cond_seats_of p) (cond_seats_of q) (pass_sight p) (pass_sight q) (mine_of p) r
+      × WaitReturns (pass_sight p) (pass_sight q) (seen_of p) (seen_of q) (mine_of p) (mine_of q) r
+
+module _ {O A R : Type 0} {K : _} (after : O → A → O) (reply : O → A → R) (m : Monitor O A R K) where
+  -- how the pass's op ended
+  abbrev pub Tries : A → Pass O A R K → Pass O A R K → Result R Refusal → Type 0
+  Tries op p q r =
+      ApplyEnds after reply (share_of m) op (pass_sight p) (pass_sight q) (mine_of p) (mine_of q) r × (seen_of q ≡ seen_of p) × (cond_seats_of q ≡ cond_seats_of p)
+
+  -- the last that the pass did is this op, with this reply
+  abbrev pub AppliedLast : A → Pass O A R K → R → Type 0
+  AppliedLast op q r = (p : Pass O A R K) × OfMonitor p m × Tries op p q (Ok r)
+
+  module _ (condition : ℕ) (op : A) (says : R → Bool → Type 0) where
+    -- a try in vain: the pass made the op, its reply was not what was looked for, and the pass waited on the condition
+    pub record InVain (p q : Pass O A R K) : Type 0 where
+      pub tried : Pass O A R K
+      pub replied : R
+      pub waited : How × ℕ
+      pub tries : Tries op p tried (Ok replied)
+      pub other : says replied false
+      pub waits : Waits m condition tried q (Ok waited)
+
+    -- so many tries in vain led the pass from one to the other
+    abbrev pub AllInVain : ℕ → Pass O A R K → Pass O A R K → Type 0
+    AllInVain zero p q = q ≡ p
+    AllInVain (suc n) p q = (m : Pass O A R K) × AllInVain n p m × InVain m q
+
+    -- how the last try ended: with the reply that was looked for, or refused, or in vain and its wait was refused
+    abbrev pub LastEnds : Pass O A R K → Pass O A R K → Result R Refusal → Type 0
+    LastEnds p q (Ok r) = Tries op p q (Ok r) × says r true
+    LastEnds p q (Err r) = Tries op p q (Err r) ⊎ ((tried : Pass O A R K) × (replied : R) × Tries op p tried (Ok replied) × says replied false × Waits m condition tried q (Err r))
+
+    -- some tries in vain, and the last one
+    abbrev pub ApplyUntilEnds : Pass O A R K → Pass O A R K → Result R Refusal → Type 0
+    ApplyUntilEnds p q r = (n : ℕ) × (last : Pass O A R K) × OfMonitor last m × AllInVain n p last × LastEnds last q r

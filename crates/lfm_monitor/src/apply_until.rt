@@ -1,0 +1,56 @@
+//! `apply_until`: a pass that holds makes an op again and again, and waits on a condition in between.
+ghost use Rattle.std.specs.Prelude.{◌≡◌, IfOk, true};
+ghost use Rattle.std.specs.Fn.{FnReturnsAt};
+ghost use Rattle.lfm_monitor.specs.Belongs.{OfMonitor, pass_sight};
+ghost use Rattle.lfm_monitor.specs.Tries.{AppliedLast, ApplyUntilEnds};
+
+use crate::monitor::Monitor;
+use crate::pass::Pass;
+use lfm_model::{Object, Refusal};
+use std::sync::Wait;
+
+// Whether the closure says true.
+fn accepts<T, F: Fn(&T) -> bool>(done: &F, reply: &T) -> bool
+    requires { F.IsAlwaysCallable done.now }
+    ensures { FnReturnsAt F.Fn done.now reply.now result }
+{
+    done(reply)
+}
+
+impl<O: Object> Monitor<O> {
+    /// Applies the op, for which the pass holds the monitor at depth 1, again and again until its reply is what `done` looks
+    /// for, and answers that reply. Before each further try it waits on this condition, so that others can change the object.
+    /// The last that the pass did is this op with this reply, and the pass holds as before.
+    ///
+    /// A try is refused as `apply` is: Asleep, NotOwner, Spent, in this order. After a try in vain the wait may be refused, as
+    /// `wait` is: Nested, Spent, NoSuchSeat, Spent, Busy, in this order. Then the op was made in vain, and the pass holds on.
+    ///
+    /// A try costs the pass one entry, and a wait one take and one entry. It takes no memory, and sleeps and wakes as `wait`.
+    pub fn apply_until<R: Wait, F: Fn(&O::Reply) -> bool>(
+        &self,
+        rt: &R,
+        pass: &mut Pass<O>,
+        condition: u64,
+        op: O::Op,
+        done: F,
+    ) -> Result<O::Reply, Refusal>
+    where
+        O::Op: Copy,
+        requires belongs { OfMonitor pass.old self.now }
+        requires callable { F.IsAlwaysCallable done }
+        ensures belongs { OfMonitor pass.new self.now }
+        ensures done { IfOk result (λ r. FnReturnsAt F.Fn done r true) }
+        ensures applied { IfOk result (λ r. AppliedLast O.after O.reply self.now op pass.new r) }
+        ensures depth { (pass_sight pass.new).depth ≡ (pass_sight pass.old).depth }
+        ensures tries { ApplyUntilEnds O.after O.reply self.now condition op (λ r b. FnReturnsAt F.Fn done r b) pass.old pass.new result }
+    {
+        'tries: for _ in rt.forever() {
+            let reply = self.apply(pass, op)?;
+            if accepts(&done, &reply) {
+                return Ok(reply);
+            }
+            let _waited = self.wait(rt, pass, condition)?;
+        }
+        unreachable!()
+    }
+}

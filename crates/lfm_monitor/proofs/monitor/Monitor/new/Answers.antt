@@ -33,6 +33,10 @@ returns-clause-passes g c = let e = c.in-Ok-new.ensures in let w = c.with_seats.
       },
 )
 
+-- each new pass is this monitor's
+pub returns-clause-belongs : goal.returns-clause-belongs
+returns-clause-belongs g c = λ j p at. ((returns-clause-passes g c).1 j p at).belongs
+
 pub returns-then-not-are_allowed-clause-memory : goal.returns-then-not-are_allowed-clause-memory
 returns-then-not-are_allowed-clause-memory g c = search rules
 

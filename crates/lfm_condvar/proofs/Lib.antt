@@ -3,5 +3,6 @@ pub mod Enlisted
 pub mod Followed
 pub mod ListFacts
 pub mod OneHold
+pub mod Repeating
 pub mod Sent
 pub mod lawful

@@ -2,6 +2,7 @@ pub mod Belongs
 pub mod Holds
 pub mod Keeping
 pub mod Lists
+pub mod Repeated
 pub mod Waits
 pub mod Wakes
 pub mod laws

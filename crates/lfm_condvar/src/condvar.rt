@@ -1,4 +1,4 @@
-//! The condvar: its inner mutex round the list. Its calls are in `open`, `wait`, `wake` and `close`.
+//! The condvar: its inner mutex round the list. Its calls are in `open`, `wait`, `wait_while`, `wake` and `close`.
 ghost use Rattle.std.specs.Prelude.{◌≡◌};
 ghost use Rattle.lfm_mutex.specs.Belongs.{limits_of};
 
@@ -8,6 +8,11 @@ use lfm_mutex::{Mutex, Pace};
 /// A condition variable: user seats that wait, and are sent in the order in which they came. It is used with one user mutex;
 /// that every call names the same one is left to the caller. A call with the seat of another condvar or mutex breaks the
 /// condition that every call has.
+///
+/// ```
+/// // the seat holds the mutex, and waits for as long as the number that the mutex guards is 0
+/// condvar.wait_while(&rt, &mut cond, &mutex, &mut seat, |number| *number == 0)?;
+/// ```
 #[derive(Drop)]
 pub struct Condvar {
     pub(crate) inner: Mutex<Waiters>,

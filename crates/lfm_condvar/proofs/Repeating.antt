@@ -1,0 +1,46 @@
+-- Waits that are made one after another.
+use Rattle.std.proofs.Common.{◌≡◌, ℕ, Bool, true, false, Some, Result, Ok, Err, IsErrAnd, MatchBool, sym, subst, ◌∙◌}
+use Rattle.lfm_model.specs.declared.answers.How.{How}
+use Rattle.lfm_model.specs.declared.refusals.Refusal.{Refusal}
+use Rattle.lfm_protocol.specs.declared.limits.Limits.{Limits}
+use Rattle.lfm_mutex.specs.calls.Sight.{Sight, MayRelease}
+use Rattle.lfm_condvar.specs.declared.waiters.Waiters.{Waiters}
+use Rattle.lfm_condvar.specs.Repeated.{FoundMayBeLeft, NeedNotWait, WouldWait}
+use Rattle.lfm_condvar.specs.Waits.{BeginWaitEnds, WaitEnds}
+
+-- what `?` hands on of a refusal
+pub handed_on : {X : Type 0} (P : Result X Refusal → Type 0) (q : Result X Refusal) (r : Refusal) → IsErrAnd q (λ y. y ≡ r) → P (Err r) → P q
+handed_on P (Ok x) r e h = absurd e
+handed_on P (Err y) r e h = subst (λ (x : Refusal). P (Err x)) (sym e) h
+
+-- what an answer that is true tells
+pub if_true : (b : Bool) (P Q : Type 0) → b ≡ true → MatchBool b P Q → P
+if_true true P Q e h = h
+if_true false P Q e h = absurd cc
+
+module _ {T : Type 0} (says : T → Bool → Type 0) where
+  -- what a look at the value in hand tells
+  pub looked : (s : Sight T) (v : T) (b : Bool) → s.value ≡ Some v → says v b → MatchBool b (WouldWait says s) (NeedNotWait says s)
+  looked s v true is said = λ w at. let same : Some v ≡ Some w = sym is ∙ at in let e : v ≡ w = cc in subst (λ u. says u true) e said
+  looked s v false is said = (v, is, said)
+
+module _ {T : Type 0} (user own : Limits) where
+  -- a wait that is refused leaves the user seat as it was
+  pub stays : (r : Refusal) (c d : Sight Waiters) (s t : Sight T) → BeginWaitEnds user own c d s t (Err r) → t ≡ s
+  stays Refusal.Busy c d s t h = h.3.4
+  stays Refusal.Asleep c d s t h = h.2
+  stays Refusal.NotOwner c d s t h = h.2
+  stays Refusal.Nested c d s t h = h.2
+  stays Refusal.DepthFull c d s t h = h.2
+  stays Refusal.Spent c d s t h = h.4
+  stays Refusal.NoSuchSeat c d s t h = h.4
+  stays Refusal.NotWaiting c d s t h = h.2
+
+module _ {T : Type 0} (follows : ℕ → T → T → Type 0) (fits : T → ℕ → Type 0) (user own : Limits) where
+  -- a wait ends at the depth at which it began
+  pub as_deep : (r : How × ℕ) (c d : Sight Waiters) (s t : Sight T) → WaitEnds follows fits user own c d s t (Ok r) → t.depth ≡ s.depth
+  as_deep r c d s t h = let asleep = h.1.3.2.1 in h.2.0.4 ∙ sym asleep.1.1
+
+  -- after a wait the seat may leave what it found
+  pub may_again : (r : How × ℕ) (c d : Sight Waiters) (s t : Sight T) → FoundMayBeLeft follows fits → WaitEnds follows fits user own c d s t (Ok r) → MayRelease follows fits t
+  may_again r c d s t keeps h = λ _. let woken = h.2.0 in keeps r.0 h.0 t woken.7 woken.3

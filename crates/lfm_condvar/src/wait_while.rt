@@ -1,0 +1,57 @@
+//! `wait_while`: a seat that holds waits again and again, for as long as a condition on the guarded value holds.
+ghost use Rattle.std.specs.Prelude.{◌≡◌, MatchBool};
+ghost use Rattle.std.specs.Fn.{FnReturnsAt};
+ghost use Rattle.lfm_mutex.specs.Belongs.{Beside, OfMutex, limits_of};
+ghost use Rattle.lfm_mutex.specs.calls.Sight.{sight, MayRelease};
+ghost use Rattle.lfm_condvar.specs.Belongs.{OfCondvar, cond_limits, cond_sight};
+ghost use Rattle.lfm_condvar.specs.Repeated.{FoundMayBeLeft, NeedNotWait, WaitWhileEnds, WouldWait};
+
+use crate::cond_seat::CondSeat;
+use crate::condvar::Condvar;
+use lfm_model::Refusal;
+use lfm_mutex::{Kept, Mutex, Seat};
+use std::sync::Wait;
+
+// Whether the condition holds of the value that the seat has in hand, or it has none.
+fn must_wait<T: Kept, F: Fn(&T) -> bool>(seat: &Seat<T>, condition: &F) -> bool
+    requires { F.IsAlwaysCallable condition.now }
+    ensures { MatchBool result (WouldWait (λ v b. FnReturnsAt F.Fn condition.now v b) (sight seat.now)) (NeedNotWait (λ v b. FnReturnsAt F.Fn condition.now v b) (sight seat.now)) }
+{
+    match seat.value() {
+        Some(value) => condition(value),
+        None => true,
+    }
+}
+
+impl Condvar {
+    /// Waits, as `wait` does, for as long as the condition holds of the value that the seat has in hand. It looks before it
+    /// waits and again after each wait. When it returns, the seat holds as before, and the condition doesn't hold of the value
+    /// that it has in hand. What a seat finds it has to be allowed to leave, which is so where the value is a number.
+    ///
+    /// Refuses as `wait`, in the same order, where the condition holds or the seat has no value in hand: the seat then is as the
+    /// waits before left it. A wait costs each seat one take. It takes no memory, and sleeps and wakes as `wait`.
+    pub fn wait_while<T: Kept, R: Wait, F: Fn(&T) -> bool>(
+        &self,
+        rt: &R,
+        cond: &mut CondSeat,
+        mutex: &Mutex<T>,
+        seat: &mut Seat<T>,
+        condition: F,
+    ) -> Result<(), Refusal>
+        requires belongs { OfCondvar cond.old self.now × OfMutex seat.old mutex.now }
+        requires leaves { MayRelease T.follows T.fits (sight seat.old) }
+        requires keeps { FoundMayBeLeft T.follows T.fits }
+        requires callable { F.IsAlwaysCallable condition }
+        ensures belongs { OfCondvar cond.new self.now × Beside seat.old seat.new }
+        ensures depth { (sight seat.new).depth ≡ (sight seat.old).depth }
+        ensures waits { WaitWhileEnds T.follows T.fits (limits_of mutex.now) (cond_limits self.now) (λ v b. FnReturnsAt F.Fn condition v b) (cond_sight cond.old) (cond_sight cond.new) (sight seat.old) (sight seat.new) result }
+    {
+        'waits: for _ in rt.forever() {
+            if !must_wait(seat, &condition) {
+                return Ok(());
+            }
+            let _waited = self.wait(rt, cond, mutex, seat)?;
+        }
+        unreachable!()
+    }
+}

@@ -40,6 +40,7 @@ impl Condvar {
     /// refused. No other call of a condvar takes memory.
     pub fn new(alloc: Global, seats: u64, budget: u64) -> Result<(Condvar, Vec<CondSeat>), NewFault>
         ensures limits { IfOk result (λ r. (cond_limits r.0 ≡ record { seats = seats; budget = budget }) × (are_in_limits seats budget ≡ true)) }
+        ensures belongs { IfOk result (λ r. (j : ℕ) (s : _) → get_elem? r.1.items j ≡ some s → OfCondvar s r.0) }
         ensures seats { IfOk result (λ r. (vec_len r.1 ≡ seats) × ((v : _) × IsNew v × ((j : ℕ) (s : _) → get_elem? r.1.items j ≡ some s → OfCondvar s r.0 × (cond_sight s ≡ new_sight v seats (j + 1))))) }
         ensures limit { are_in_limits seats budget ≡ false → IfErr result (λ e. e ≡ NewFault.Limit) × IfOk result (λ _. ⊥) }
         ensures memory { are_in_limits seats budget ≡ true → IfErr result (λ e. e ≡ NewFault.Memory) }

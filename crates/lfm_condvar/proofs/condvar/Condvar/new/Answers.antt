@@ -20,5 +20,9 @@ returns-clause-seats c = let m = c.in-Ok-new.ensures.seats in let v = c.in-Ok-em
   ),
 )
 
+-- each new cond seat is this condvar's
+pub returns-clause-belongs : goal.returns-clause-belongs
+returns-clause-belongs c = λ j s at. ((returns-clause-seats c).1.2 j s at).0
+
 pub returns-clause-memory : goal.returns-clause-memory
 returns-clause-memory c allowed = tt

@@ -4,6 +4,7 @@ ghost use Rattle.std.specs.VecDeque.{deque_capacity, deque_len};
 ghost use Rattle.lfm_protocol.specs.Limits.{max_budget, max_seats};
 ghost use Rattle.lfm_condvar.specs.Lists.{Among, Among-prop, GoOnFrom, GoOn-prop, times, waiter};
 
+mod debug;
 pub mod enlist;
 mod send;
 

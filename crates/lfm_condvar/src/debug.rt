@@ -1,0 +1,24 @@
+//! A condvar, its seats and its list as text, for who looks for a fault.
+
+use crate::cond_seat::CondSeat;
+use crate::condvar::Condvar;
+use std::fmt::{Debug, Formatter, Result, Write};
+
+/// How many seats it has. Its list belongs to the seat that holds it, so it isn't told.
+impl Debug for Condvar {
+    fn fmt<W: Write>(&self, f: &mut Formatter<W>) -> Result {
+        f.debug_struct("Condvar")
+            .field("seats", &self.seats)
+            .finish_non_exhaustive()
+    }
+}
+
+/// Its number, and how many waits and wakes it may still make.
+impl Debug for CondSeat {
+    fn fmt<W: Write>(&self, f: &mut Formatter<W>) -> Result {
+        f.debug_struct("CondSeat")
+            .field("number", &self.seat.number().get())
+            .field("left", &self.seat.left())
+            .finish_non_exhaustive()
+    }
+}

@@ -1,0 +1,15 @@
+//! The list of those that wait as text, for who looks for a fault.
+
+use crate::waiters::Waiters;
+use std::fmt::{Debug, Formatter, Result, Write};
+
+/// Who waits, the oldest first, and how many tickets were sent and added.
+impl Debug for Waiters {
+    fn fmt<W: Write>(&self, f: &mut Formatter<W>) -> Result {
+        f.debug_struct("Waiters")
+            .field("list", &self.list)
+            .field("sent", &self.sent)
+            .field("added", &self.added)
+            .finish_non_exhaustive()
+    }
+}

@@ -5,6 +5,7 @@ pub mod Conditions
 pub mod Dealing
 pub mod Journaled
 pub mod Passes
+pub mod Rounds
 pub mod Sections
 pub mod Steps
 pub mod Tries

@@ -17,6 +17,7 @@ mod open;
 pub mod pass;
 mod place_of;
 mod receive;
+mod run;
 mod try_enter;
 mod wait;
 mod wake;

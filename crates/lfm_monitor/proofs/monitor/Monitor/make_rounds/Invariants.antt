@@ -1,0 +1,10 @@
+use Rattle.lfm_monitor.specs.Belongs.{OfMonitor}
+use Rattle.lfm_monitor.specs.Rounds.{AllGoOn}
+use Rattle.lfm_monitor.proofs.monitor.Monitor.make_rounds.Given as goal
+
+-- each round so far went on
+abbrev pub invariant-rounds : goal.invariant-rounds
+invariant-rounds g l = record {
+  belongs : OfMonitor l.pass l.self;
+  rounds : AllGoOn l.self (λ i js ks r. g.S.CriticalSection.makes l.section i js ks r) l.round l.fn.pass l.pass;
+}

@@ -1,0 +1,29 @@
+-- Rounds: in each the pass executes a critical section in a hold of its own.
+use Rattle.std.specs.Prelude.{◌≡◌, ◌⊎◌, ℕ, zero, suc, ◌<◌, ⊤, List, Result, Ok, Err}
+use Rattle.std.specs.declared.ops.ControlFlow.{ControlFlow}
+use Rattle.std.specs.declared.ops.ControlFlow.TheVariants.{Continue, Break}
+use Rattle.lfm_model.specs.declared.journals.Entry.{Entry}
+use Rattle.lfm_model.specs.declared.refusals.Refusal.{Refusal}
+use Rattle.lfm_monitor.specs.declared.monitor.Monitor.{Monitor}
+use Rattle.lfm_monitor.specs.declared.pass.Pass.{Pass}
+use Rattle.lfm_monitor.specs.Sections.{HoldEnds}
+
+-- a round that ends so is followed by no further one: the section broke off, or something was refused
+abbrev pub EndsRounds : Result (ControlFlow ⊤ ⊤) Refusal → Type 0
+EndsRounds (Ok (Continue x)) = ⊥
+EndsRounds (Ok (Break x)) = ⊤
+EndsRounds (Err r) = ⊤
+
+module _ {O A R : Type 0} {K : _} (m : Monitor O A R K) (makes : ℕ → List (Entry A) → List (Entry A) → Result (ControlFlow ⊤ ⊤) Refusal → Type 0) where
+  -- so many rounds, numbered from 0, led the pass from one to the other, and after each of them there was to be a further one
+  abbrev pub AllGoOn : ℕ → Pass O A R K → Pass O A R K → Type 0
+  AllGoOn zero p q = q ≡ p
+  AllGoOn (suc n) p q = (l : Pass O A R K) × AllGoOn n p l × HoldEnds m (makes n) l q (Ok (Continue tt))
+
+  -- the round with this number was the last
+  abbrev pub EndsAt : ℕ → Pass O A R K → Pass O A R K → Type 0
+  EndsAt n p q = (l : Pass O A R K) × (r : Result (ControlFlow ⊤ ⊤) Refusal) × AllGoOn n p l × HoldEnds m (makes n) l q r × EndsRounds r
+
+  -- all of so many rounds were made, or one before was the last
+  abbrev pub MakesRounds : ℕ → Pass O A R K → Pass O A R K → Type 0
+  MakesRounds rounds p q = AllGoOn rounds p q ⊎ ((n : ℕ) × (n < rounds) × EndsAt n p q)

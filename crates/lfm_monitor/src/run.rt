@@ -1,0 +1,72 @@
+//! `run`: a thread for each pass, which executes a critical section round by round.
+ghost use Rattle.lfm_monitor.specs.Belongs.{OfMonitor};
+ghost use Rattle.lfm_monitor.specs.Rounds.{MakesRounds};
+ghost use Rattle.lfm_threads.specs.Together.{AllGiven};
+ghost use Rattle.std.specs.Prelude.{◌≡◌, ℕ, IfErr, IfOk, vec_len};
+ghost use lib.ListN.{get_elem?};
+ghost use mathlib.Core.Option.{some};
+
+use crate::hold::CriticalSection;
+use crate::monitor::Monitor;
+use crate::pass::Pass;
+use lfm_model::Object;
+use lfm_threads::{NotStarted, share};
+use std::ops::ControlFlow;
+use std::sync::Wait;
+use std::thread::Threads;
+
+impl<O: Object> Monitor<O> {
+    // Executes the section in one hold after another, until it breaks off or is refused, and hands the pass back.
+    fn make_rounds<R: Wait, S: CriticalSection<O, R, Answer = ControlFlow<()>>>(
+        &self,
+        rt: &R,
+        mut pass: Pass<O>,
+        rounds: u64,
+        section: &S,
+    ) -> Pass<O>
+        requires { OfMonitor pass self.now }
+        ensures belongs { OfMonitor result self.now }
+        ensures rounds { MakesRounds self.now (λ i js ks r. S.makes section.now i js ks r) rounds pass result }
+    {
+        'rounds: for round in 0..rounds {
+            match self.hold(rt, &mut pass, round, section) {
+                Ok(ControlFlow::Continue(())) => {}
+                Ok(ControlFlow::Break(())) => return pass,
+                Err(_) => return pass,
+            }
+        }
+        pass
+    }
+
+    /// Starts a thread for each pass. Each makes so many rounds, numbered from 0: in each it executes the section in a hold of
+    /// its own, until the section breaks off or is refused, or `hold` is. It sleeps until all threads have ended, and hands the
+    /// passes back, in their order.
+    ///
+    /// No round is made before all threads have been started, so sections may wait for one another. Where a request for memory
+    /// is refused (Memory), or a thread can't be started (Thread), no round is made, and all passes are handed back as they
+    /// were.
+    pub fn run<R: Threads + Wait + Sync, S: CriticalSection<O, R, Answer = ControlFlow<()>>>(
+        &self,
+        rt: &R,
+        passes: Vec<Pass<O>>,
+        rounds: u64,
+        section: &S,
+    ) -> Result<Vec<Pass<O>>, NotStarted<Pass<O>>>
+        requires belongs { (j : ℕ) (p : _) → get_elem? passes.items j ≡ some p → OfMonitor p self.now }
+        ensures count { IfOk result (λ v. vec_len v ≡ vec_len passes) }
+        ensures belongs { IfOk result (λ v. (j : ℕ) (p : _) → get_elem? v.items j ≡ some p → OfMonitor p self.now) }
+        ensures rounds { IfOk result (λ v. AllGiven (λ p q. MakesRounds self.now (λ i js ks r. S.makes section.now i js ks r) rounds p q) passes.items v.items) }
+        ensures back { IfErr result (λ e. e.jobs.items ≡ passes.items) }
+    {
+        let passes = share(
+            rt,
+            self,
+            passes,
+            &|monitor: &Monitor<O>, pass: Pass<O>| -> Pass<O>
+                requires { OfMonitor pass monitor.now }
+                ensures { OfMonitor result monitor.now × MakesRounds monitor.now (λ i js ks r. S.makes section.entry.now i js ks r) rounds pass result }
+            { monitor.make_rounds(rt, pass, rounds, section) },
+        )?;
+        Ok(passes)
+    }
+}

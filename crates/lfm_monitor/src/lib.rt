@@ -5,6 +5,7 @@
 mod apply;
 mod apply_until;
 mod close;
+mod debug;
 mod enter;
 mod hold;
 mod holder;

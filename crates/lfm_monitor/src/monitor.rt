@@ -1,5 +1,5 @@
-//! The monitor. Its calls are in `enter`, `try_enter`, `receive`, `apply`, `leave`, `wait`,
-//! `wake` and `close`.
+//! The monitor. Its calls are in `enter`, `try_enter`, `receive`, `apply`, `apply_until`, `leave`, `hold`, `wait`, `wake` and
+//! `close`.
 ghost use Rattle.std.specs.Prelude.{◌≡◌};
 ghost use Rattle.lfm_mutex.specs.Belongs.{limits_of};
 ghost use Rattle.lfm_monitor.specs.CondSeats.{AreConditions};
@@ -13,6 +13,14 @@ use std::snapshot::Snapshot;
 /// A guarded object with a journal: at most one pass at a time holds it, and applies ops to it. Its calls are made through a
 /// shared reference and one of its passes. A call with the pass of another monitor breaks the condition that every call has.
 /// It has so many conditions, on which passes wait and are woken, numbered from 1.
+///
+/// ```
+/// // one pass, which may write 10 entries, and no condition, round a sum that begins at 0
+/// let (monitor, mut passes) = Monitor::new(rt.alloc(), 1, 10, 0, Total(0))?;
+/// monitor.enter(&rt, &mut passes[0])?;
+/// let total = monitor.apply(&mut passes[0], TotalOp::Add(5))?;
+/// monitor.leave(&mut passes[0])?;
+/// ```
 #[derive(Drop)]
 pub struct Monitor<O: Object> {
     pub(crate) mutex: Mutex<Journaled<O>>,

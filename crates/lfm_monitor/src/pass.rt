@@ -10,6 +10,12 @@ use lfm_mutex::Seat;
 
 /// What one thread uses a monitor with. A pass may move between threads, and each call borrows it for its whole length. Dropped
 /// while it holds or sleeps, it keeps what it holds: nobody else gains that.
+///
+/// ```
+/// // the pass holds a monitor round a bounded buffer: it puts a number in as soon as there is room, and wakes who waits for it
+/// monitor.apply_until(rt, pass, NOT_FULL, BufferOp::Put(7), |reply| *reply != BufferReply::Full)?;
+/// monitor.wake_one(rt, pass, NOT_EMPTY)?;
+/// ```
 #[derive(Drop)]
 pub struct Pass<O: Object> {
     pub(crate) seat: Seat<Journaled<O>>,

@@ -1,0 +1,27 @@
+//! A monitor and its passes as text, for who looks for a fault.
+
+use crate::monitor::Monitor;
+use crate::pass::Pass;
+use lfm_model::Object;
+use std::fmt::{Debug, Formatter, Result, Write};
+
+/// How many entries each pass may write, and how many conditions there are. The object belongs to the pass that holds it, so it
+/// isn't told.
+impl<O: Object> Debug for Monitor<O> {
+    fn fmt<W: Write>(&self, f: &mut Formatter<W>) -> Result {
+        f.debug_struct("Monitor")
+            .field("share", &self.share)
+            .field("conditions", &self.conditions.len())
+            .finish_non_exhaustive()
+    }
+}
+
+/// What the pass knows of the journal. Its seat isn't told, and neither is the object that it may have in hand.
+impl<O: Object> Debug for Pass<O> {
+    fn fmt<W: Write>(&self, f: &mut Formatter<W>) -> Result {
+        f.debug_struct("Pass")
+            .field("seen_len", &self.seen)
+            .field("mine", &self.mine)
+            .finish_non_exhaustive()
+    }
+}

@@ -5,3 +5,4 @@ pub mod EndedHolds
 pub mod TableEvents
 pub mod TableStates
 pub mod Lists
+mod SectionEnds

@@ -6,3 +6,4 @@ pub mod Trails
 pub mod Straight
 pub mod FailedPushes
 pub mod Due
+pub mod Sections

@@ -15,6 +15,7 @@ mod pace;
 mod queue;
 mod receive;
 pub mod seat;
+mod sections;
 mod send;
 mod serve;
 pub mod steps;

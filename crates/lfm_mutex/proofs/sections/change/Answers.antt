@@ -1,0 +1,15 @@
+use Rattle.std.proofs.Common.{ap, rules}
+use Rattle.lfm_mutex.proofs.sections.change.Goals as goal
+
+-- what is written through the loan changes the value alone
+pub returns-clause-belongs : goal.returns-clause-belongs
+returns-clause-belongs g c = let h = rw c.in-Some.is at (c.value_mut.follows.holds c.f.new.arg2) in (ap (λ p. p.table_id) h.1, h.3)
+
+pub returns-clause-changes : goal.returns-clause-changes
+returns-clause-changes g c = let h = rw c.in-Some.is at (c.value_mut.follows.holds c.f.new.arg2) in (
+  c.in-Some.value.now,
+  c.f.new.arg2,
+  c.in-Some.ensures.value.1,
+  search rules,
+  h.0,
+)

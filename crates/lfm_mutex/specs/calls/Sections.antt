@@ -1,0 +1,55 @@
+-- A section: a seat comes to hold, a closure changes the value, and the seat gives that hold up.
+use Rattle.std.specs.Prelude.{◌≡◌, ℕ, Option, Some, Result, Ok, Err}
+use Rattle.lfm_model.specs.declared.answers.Locked.{Locked}
+use Rattle.lfm_model.specs.declared.answers.Unlocked.{Unlocked}
+use Rattle.lfm_model.specs.declared.refusals.Refusal.{Refusal}
+use Rattle.lfm_protocol.specs.declared.answers.Answer.{Answer}
+use Rattle.lfm_protocol.specs.declared.answers.Call.{Call}
+use Rattle.lfm_protocol.specs.declared.limits.Limits.{Limits}
+use Rattle.lfm_mutex.specs.calls.Sight.{Sight, Locks, LocksWaiting, MayRelease, Unlocks}
+use Rattle.lfm_mutex.specs.calls.Trails.{LocksBy, MakesCall}
+
+-- the seat is the one that it was, holds as often, and sleeps only where it did
+abbrev pub StandsAs : {T : Type 0} → Sight T → Sight T → Type 0
+StandsAs s t = (t.number ≡ s.number) × (t.depth ≡ s.depth) × (t.asleep ≡ s.asleep)
+
+-- it has another value in hand, and is else as it was
+abbrev pub with_value : {T : Type 0} → Sight T → T → Sight T
+with_value s x = record s { value = Some x }
+
+-- how a call of unlock ends, and by which steps
+abbrev pub UnlocksSo : {T : Type 0} → Limits → Sight T → Sight T → Result Unlocked Refusal → Type 0
+UnlocksSo l s t r = Unlocks s t r × MakesCall l (λ x. Answer.Unlocked x) Call.Unlock s t r
+
+module _ {T : Type 0} (follows : ℕ → T → T → Type 0) (fits : T → ℕ → Type 0) (l : Limits) where
+  -- the same of lock
+  abbrev pub LocksSo : Sight T → Sight T → Result Locked Refusal → Type 0
+  LocksSo s t r = LocksWaiting follows fits l.budget s t r × LocksBy l s t r
+
+  -- and of try_lock
+  abbrev pub TriesSo : Sight T → Sight T → Result Locked Refusal → Type 0
+  TriesSo s t r = Locks follows fits l.budget s t r × MakesCall l (λ x. Answer.Locked x) Call.TryLock s t r
+
+  -- `locks m r`: the call that is to hold answered r, and the seat was then seen as m. `gives v u w`: the closure, at v, may answer
+  -- u and leave w
+  module _ {U : Type 0} (locks : Sight T → Result Locked Refusal → Type 0) (gives : T → U → T → Type 0) where
+    -- whatever the seat finds, what the closure makes of it may be left
+    abbrev pub SectionKeeps : Type 0
+    SectionKeeps = (m : Sight T) (locked : Locked) (v w : T) (u : U) → locks m (Ok locked) → m.value ≡ Some v → gives v u w → MayRelease follows fits (with_value m w)
+
+    -- The seat came to hold and found a value. The closure made another of it, and answered u. That is what the seat left
+    pub record Section (t : Sight T) (u : U) : Type 0 where
+      pub held : Sight T
+      pub locked : Locked
+      pub found : T
+      pub left : T
+      pub unlocked : Unlocked
+      pub holds : locks held (Ok locked)
+      pub finds : held.value ≡ Some found
+      pub makes : gives found u left
+      pub leaves : UnlocksSo l (with_value held left) t (Ok unlocked)
+
+    -- how a section ends: a refusal is that of the call that is to hold
+    abbrev pub SectionEnds : Sight T → Result U Refusal → Type 0
+    SectionEnds t (Ok u) = Section t u
+    SectionEnds t (Err r) = locks t (Err r)

@@ -1,0 +1,97 @@
+//! Sections: a seat comes to hold, a closure changes the value, and the seat gives that hold up.
+ghost use Rattle.std.specs.Prelude.{◌≡◌, ◌+◌, ◌<◌, Some};
+ghost use Rattle.std.specs.Fn.{FnOnceReturnsAtMut};
+ghost use Rattle.lfm_mutex.specs.Belongs.{Beside, OfMutex, limits_of};
+ghost use Rattle.lfm_mutex.specs.calls.Sections.{LocksSo, SectionEnds, SectionKeeps, StandsAs, TriesSo, with_value};
+ghost use Rattle.lfm_mutex.specs.calls.Sight.{sight};
+ghost use Rattle.lfm_mutex.specs.calls.Trails.{MakesAtMost};
+
+use crate::mutex::Mutex;
+use crate::seat::Seat;
+use lfm_model::Refusal;
+use lfm_table::Kept;
+use std::sync::Wait;
+
+// Changes the value that the seat has in hand.
+#[inline(always)]
+fn change<T: Kept, U, F: FnOnce(&mut T) -> U>(seat: &mut Seat<T>, f: F) -> U
+    requires holds { 0 < (sight seat.old).depth }
+    requires callable { F.IsAlwaysCallable f }
+    ensures belongs { Beside seat.old seat.new }
+    ensures changes { (v : T) × (w : T) × ((sight seat.old).value ≡ Some v) × FnOnceReturnsAtMut F.FnOnce f v result w × (sight seat.new ≡ with_value (sight seat.old) w) }
+{
+    let Some(value) = seat.value_mut() else {
+        unreachable!()
+    };
+    f(value)
+}
+
+impl<T: Kept> Mutex<T> {
+    /// Comes to hold as `lock` does, gives the closure the value, and gives that hold up as `unlock` does, so that the seat
+    /// holds as often as before. Returns what the closure returned. What the closure leaves has to suit the mutex, which it
+    /// always does where the value is a number or a bool.
+    ///
+    /// Refuses as `lock`: Asleep, DepthFull, Spent, in this order. Then the closure is not called, and nothing has changed. It
+    /// sleeps and wakes where these two calls do, and takes no memory.
+    ///
+    /// ```
+    /// let total = mutex.with(&rt, &mut seat, |total| {
+    ///     *total = total.wrapping_add(1);
+    ///     *total
+    /// })?;
+    /// ```
+    #[inline(always)]
+    pub fn with<U, R: Wait, F: FnOnce(&mut T) -> U>(
+        &self,
+        rt: &R,
+        seat: &mut Seat<T>,
+        f: F,
+    ) -> Result<U, Refusal>
+        requires belongs { OfMutex seat.old self.now }
+        requires callable { F.IsAlwaysCallable f }
+        requires keeps { SectionKeeps T.follows T.fits (limits_of self.now) (LocksSo T.follows T.fits (limits_of self.now) (sight seat.old)) (λ v u w. FnOnceReturnsAtMut F.FnOnce f v u w) }
+        ensures belongs { Beside seat.old seat.new }
+        ensures section { SectionEnds T.follows T.fits (limits_of self.now) (LocksSo T.follows T.fits (limits_of self.now) (sight seat.old)) (λ v u w. FnOnceReturnsAtMut F.FnOnce f v u w) (sight seat.new) result }
+        ensures same { StandsAs (sight seat.old) (sight seat.new) }
+    {
+        let _locked = self.lock(rt, seat)?;
+        let answer = change(seat, f);
+        match self.unlock(seat) {
+            Ok(_) => Ok(answer),
+            Err(_) => unreachable!(),
+        }
+    }
+
+    /// `with` by `try_lock`: it never waits.
+    ///
+    /// Refuses as `try_lock`: Asleep, DepthFull, Spent, Busy, in this order. Then the closure is not called, and the seat is as
+    /// it was. Whatever others do, it makes at most 13 atomic steps more than the mutex has seats.
+    ///
+    /// ```
+    /// match mutex.try_with(&mut seat, |cache| cache.find(key)) {
+    ///     Ok(found) => found,
+    ///     Err(_) => look_up(key),
+    /// }
+    /// ```
+    #[inline(always)]
+    pub fn try_with<U: Drop, F: FnOnce(&mut T) -> U + Drop>(
+        &self,
+        seat: &mut Seat<T>,
+        f: F,
+    ) -> Result<U, Refusal>
+        requires belongs { OfMutex seat.old self.now }
+        requires callable { F.IsAlwaysCallable f }
+        requires keeps { SectionKeeps T.follows T.fits (limits_of self.now) (TriesSo T.follows T.fits (limits_of self.now) (sight seat.old)) (λ v u w. FnOnceReturnsAtMut F.FnOnce f v u w) }
+        ensures belongs { Beside seat.old seat.new }
+        ensures section { SectionEnds T.follows T.fits (limits_of self.now) (TriesSo T.follows T.fits (limits_of self.now) (sight seat.old)) (λ v u w. FnOnceReturnsAtMut F.FnOnce f v u w) (sight seat.new) result }
+        ensures same { StandsAs (sight seat.old) (sight seat.new) }
+        ensures bounded { MakesAtMost ((limits_of self.now).seats + 13) (sight seat.old) (sight seat.new) }
+    {
+        let _locked = self.try_lock(seat)?;
+        let answer = change(seat, f);
+        match self.unlock(seat) {
+            Ok(_) => Ok(answer),
+            Err(_) => unreachable!(),
+        }
+    }
+}

@@ -1,5 +1,5 @@
-//! The monitor. Its calls are in `enter`, `try_enter`, `receive`, `apply`, `apply_until`, `leave`, `hold`, `wait`, `wake` and
-//! `close`.
+//! The monitor. Its calls are in `enter`, `try_enter`, `receive`, `apply`, `apply_until`, `leave`, `hold`, `run`, `wait`,
+//! `wake` and `close`.
 ghost use Rattle.std.specs.Prelude.{◌≡◌};
 ghost use Rattle.lfm_mutex.specs.Belongs.{limits_of};
 ghost use Rattle.lfm_monitor.specs.CondSeats.{AreConditions};

@@ -17,3 +17,4 @@ pub mod Sights
 pub mod Spending
 pub mod StraightPoints
 pub mod TryEnds
+pub mod WakeUps

@@ -7,3 +7,4 @@ pub mod Straight
 pub mod FailedPushes
 pub mod Due
 pub mod Sections
+pub mod WakeUps

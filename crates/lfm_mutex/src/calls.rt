@@ -1,6 +1,6 @@
 //! How a call is made by its steps: it begins, and makes them to the end. Each public call has a file of its own. None of these
-//! takes memory, and a step wakes a sleeping seat where it grants it the mutex.
-ghost use Rattle.std.specs.Prelude.{◌≡◌, ◌≢◌, ◌+◌, ◌≤◌, length, false, true, Some};
+//! takes memory or wakes a seat: where a step grants another seat the mutex, its wake-up is handed out with the turn.
+ghost use Rattle.std.specs.Prelude.{◌≡◌, ◌≢◌, ◌+◌, ◌≤◌, ℕ, length, false, true, Some, None};
 ghost use Rattle.lfm_model.specs.declared.answers.How.{How as HowNow};
 ghost use Rattle.lfm_protocol.specs.declared.points.Point.TheVariants.{ReleaseOwnerStore};
 ghost use Rattle.lfm_protocol.specs.declared.points.Releaser.{Releaser};
@@ -11,91 +11,116 @@ ghost use Rattle.lfm_mutex.specs.calls.Runs.{nothing, errand, errand_of, is_rele
 ghost use Rattle.lfm_mutex.specs.Belongs.{Beside, OfMutex};
 ghost use Rattle.lfm_mutex.specs.calls.Trails.{Made, MakesAtMost};
 ghost use Rattle.lfm_mutex.specs.calls.Sight.{sight, is_asleep, Concludes, MayRelease, Stays, Turned};
+ghost use Rattle.lfm_mutex.specs.calls.WakeUps.{Wakes, first_of, may_grant};
 ghost use Rattle.lfm_table.specs.Steps.{MayBeLeft};
 
 use crate::mutex::Mutex;
 use crate::seat::Seat;
-use crate::steps::{begin_call, make_next};
+use crate::steps::{begin_call, make_next, make_waking_none};
+use lfm_protocol::kinds::Kind;
 use lfm_protocol::points::Point;
 use lfm_protocol::{Call, SeatState, Turn};
-use lfm_table::Kept;
+use lfm_table::{Kept, WakeUp};
+
+// The one wake-up of two sets of steps, of which one at most has granted.
+fn either(first: Option<WakeUp>, then: Option<WakeUp>) -> Option<WakeUp>
+    requires { (t : ℕ) → first ≡ Some t → then ≡ None }
+    ensures { result ≡ first_of first then }
+{
+    match first {
+        None => then,
+        Some(wake_up) => {
+            WakeUp::expect_none(then);
+            Some(wake_up)
+        }
+    }
+}
 
 /// Makes the steps of the open call to its end.
 #[inline(never)]
-pub fn finish<T: Kept>(mutex: &Mutex<T>, seat: &mut Seat<T>) -> Turn
+pub fn finish<T: Kept>(mutex: &Mutex<T>, seat: &mut Seat<T>) -> (Turn, Option<WakeUp>)
     requires belongs { seat.old.place.table_id ≡ mutex.now.table.shared.table_id }
     requires open { errand seat.old.standing.point ≢ nothing }
     requires keeps { is_release seat.old.standing.point ≡ false }
     ensures belongs { seat.new.place.table_id ≡ seat.old.place.table_id }
     ensures same { (seat.new.number ≡ seat.old.number) × (seat.new.limits ≡ seat.old.limits) }
-    ensures ends { Ends (errand seat.old.standing.point) result }
+    ensures ends { Ends (errand seat.old.standing.point) result.0 }
     ensures last { last_hold seat.new.place.me.0 ≡ last_hold seat.old.place.me.0 }
-    ensures held { (how : HowNow) → how_held result ≡ Some how → Holds T.follows T.fits seat.old.number (last_hold seat.old.place.me.0) how seat.new.standing seat.new.moving seat.new.place.me.0 }
-    ensures ran { Ran seat.old.number (opens seat.old.standing) seat.old.place.me.0 result seat.new.standing seat.new.place.me.0 }
-    ensures concludes { Concludes seat.old.standing result seat.new.standing }
+    ensures held { (how : HowNow) → how_held result.0 ≡ Some how → Holds T.follows T.fits seat.old.number (last_hold seat.old.place.me.0) how seat.new.standing seat.new.moving seat.new.place.me.0 }
+    ensures ran { Ran seat.old.number (opens seat.old.standing) seat.old.place.me.0 result.0 seat.new.standing seat.new.place.me.0 }
+    ensures concludes { Concludes seat.old.standing result.0 seat.new.standing }
     ensures stays { Stays seat.old.standing.depth seat.old.place.me.0 (value_in seat.old.moving) seat.new.place.me.0 (value_in seat.new.moving) }
     ensures bounded { length seat.new.place.me.0.trail ≤ length seat.old.place.me.0.trail + weight seat.old.limits.seats (length seat.old.place.me.0.popped) seat.old.standing.point }
     ensures spends { Spends (due seat.old.limits.seats (length seat.old.place.me.0.popped) seat.old.standing.point) 0 seat.old.place.me.0.trail seat.new.place.me.0.trail }
+    ensures wakes { Wakes seat.old.limits.seats result.1 seat.old.place.me.0.trail seat.new.place.me.0.trail }
+    ensures none { may_grant (errand seat.old.standing.point) ≡ false → result.1 ≡ None }
 {
+    let mut owed = None;
     loop {
-        match make_next(mutex, seat) {
+        let (turn, wake_up) = make_next(mutex, seat);
+        owed = either(owed, wake_up);
+        match turn {
             Turn::Open => {}
-            ended => return ended,
+            ended => return (ended, owed),
         }
     }
 }
 
 /// Makes a call that releases nothing.
 #[inline(never)]
-pub fn run<T: Kept>(mutex: &Mutex<T>, seat: &mut Seat<T>, call: Call) -> Turn
+pub fn run<T: Kept>(mutex: &Mutex<T>, seat: &mut Seat<T>, call: Call) -> (Turn, Option<WakeUp>)
     requires belongs { OfMutex seat.old mutex.now }
     requires keeps { is_releasing (errand_of call) ≡ false }
     ensures belongs { Beside seat.old seat.new }
-    ensures answers { Answers (errand_of call) result }
-    ensures turned { Turned T.follows T.fits mutex.now.limits call (sight seat.old) (sight seat.new) result }
-    ensures made { Made mutex.now.limits call (sight seat.old) (sight seat.new) result }
+    ensures answers { Answers (errand_of call) result.0 }
+    ensures turned { Turned T.follows T.fits mutex.now.limits call (sight seat.old) (sight seat.new) result.0 }
+    ensures made { Made mutex.now.limits call (sight seat.old) (sight seat.new) result.0 }
     ensures bounded { MakesBesideFailures (mutex.now.limits.seats + 9) (sight seat.old) (sight seat.new) }
+    ensures wakes { Wakes mutex.now.limits.seats result.1 (sight seat.old).trail (sight seat.new).trail }
+    ensures none { may_grant (errand_of call) ≡ false → result.1 ≡ None }
 {
     match begin_call(mutex, seat, call) {
         Turn::Open => finish(mutex, seat),
-        told => told,
+        told => (told, None),
     }
 }
 
 /// Makes a call that releases what is in hand.
 #[inline(never)]
-pub fn release<T: Kept>(mutex: &Mutex<T>, seat: &mut Seat<T>, call: Call) -> Turn
+pub fn release<T: Kept>(mutex: &Mutex<T>, seat: &mut Seat<T>, call: Call) -> (Turn, Option<WakeUp>)
     requires belongs { OfMutex seat.old mutex.now }
     requires gives { is_releasing (errand_of call) ≡ true }
     requires leaves { MayRelease T.follows T.fits (sight seat.old) }
     ensures belongs { Beside seat.old seat.new }
-    ensures answers { Answers (errand_of call) result }
-    ensures turned { Turned T.follows T.fits mutex.now.limits call (sight seat.old) (sight seat.new) result }
-    ensures made { Made mutex.now.limits call (sight seat.old) (sight seat.new) result }
+    ensures answers { Answers (errand_of call) result.0 }
+    ensures turned { Turned T.follows T.fits mutex.now.limits call (sight seat.old) (sight seat.new) result.0 }
+    ensures made { Made mutex.now.limits call (sight seat.old) (sight seat.new) result.0 }
     ensures bounded { MakesAtMost (release_steps mutex.now.limits.seats call) (sight seat.old) (sight seat.new) }
+    ensures wakes { Wakes mutex.now.limits.seats result.1 (sight seat.old).trail (sight seat.new).trail }
 {
     match begin_call(mutex, seat, call) {
         Turn::Open => finish_release(mutex, seat),
-        told => told,
+        told => (told, None),
     }
 }
 
 /// Makes the steps of the open call, of which the first may be the store that ends a hold.
-fn finish_release<T: Kept>(mutex: &Mutex<T>, seat: &mut Seat<T>) -> Turn
+fn finish_release<T: Kept>(mutex: &Mutex<T>, seat: &mut Seat<T>) -> (Turn, Option<WakeUp>)
     requires belongs { seat.old.place.table_id ≡ mutex.now.table.shared.table_id }
     requires gives { (r : Releaser) × (seat.old.standing.point ≡ ReleaseOwnerStore r) }
     requires leaves { MayBeLeft T.follows T.fits seat.old.moving seat.old.place.me.0 }
     ensures belongs { seat.new.place.table_id ≡ seat.old.place.table_id }
     ensures same { (seat.new.number ≡ seat.old.number) × (seat.new.limits ≡ seat.old.limits) }
-    ensures ends { Ends (errand seat.old.standing.point) result }
+    ensures ends { Ends (errand seat.old.standing.point) result.0 }
     ensures last { last_hold seat.new.place.me.0 ≡ (value_in seat.old.moving, seat.old.place.me.0.found, seat.old.place.me.0.limits, seat.old.place.me.0.holds_ended + 1) }
-    ensures ran { Ran seat.old.number (opens seat.old.standing) seat.old.place.me.0 result seat.new.standing seat.new.place.me.0 }
-    ensures concludes { Concludes (record seat.old.standing { depth = 0 }) result seat.new.standing }
+    ensures ran { Ran seat.old.number (opens seat.old.standing) seat.old.place.me.0 result.0 seat.new.standing seat.new.place.me.0 }
+    ensures concludes { Concludes (record seat.old.standing { depth = 0 }) result.0 seat.new.standing }
     ensures bounded { length seat.new.place.me.0.trail ≤ length seat.old.place.me.0.trail + weight seat.old.limits.seats (length seat.old.place.me.0.popped) seat.old.standing.point }
+    ensures wakes { Wakes seat.old.limits.seats result.1 seat.old.place.me.0.trail seat.new.place.me.0.trail }
 {
-    match make_next(mutex, seat) {
+    match make_waking_none(mutex, seat, Kind::OwnerStore) {
         Turn::Open => finish(mutex, seat),
-        ended => ended,
+        ended => (ended, None),
     }
 }
 

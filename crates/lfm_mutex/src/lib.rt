@@ -23,9 +23,10 @@ mod try_lock;
 mod unlock;
 mod value_mut;
 mod wait;
+mod wake;
 
 pub use holder::Holder;
-pub use lfm_table::Kept;
+pub use lfm_table::{Kept, WakeUp};
 pub use mutex::Mutex;
 pub use pace::{LOOKS_BEFORE_SLEEP, Pace};
 pub use seat::Seat;

@@ -17,6 +17,7 @@ ghost use Rattle.lfm_mutex.specs.calls.Runs.{errand, locking};
 ghost use Rattle.lfm_mutex.specs.calls.Sight.{sight, Asks, LocksWaiting};
 ghost use Rattle.lfm_mutex.specs.calls.Straight.{Course, ComesTo};
 ghost use Rattle.lfm_mutex.specs.calls.Trails.{MakesCall, LocksBy};
+ghost use Rattle.lfm_mutex.specs.calls.WakeUps.{Wakes};
 
 use crate::calls::{asleep, finish, run};
 use crate::mutex::Mutex;
@@ -25,22 +26,24 @@ use crate::seat::Seat;
 use lfm_model::{Asked, How, Locked, Refusal};
 use lfm_protocol::points::{Entrant, Point, Pusher};
 use lfm_protocol::{Answer, Call, MAX_DEPTH, SeatState, Turn, Why};
-use lfm_table::Kept;
 use lfm_table::straight_steps::{add_free, add_held, load_held, store_held, subtract_held};
+use lfm_table::{Kept, WakeUp};
 use std::sync::Wait;
 
 /// Makes the steps of the open call of lock to its end.
 #[inline(always)]
-pub(crate) fn ask_on<T: Kept>(mutex: &Mutex<T>, seat: &mut Seat<T>) -> Asked
+pub(crate) fn ask_on<T: Kept>(mutex: &Mutex<T>, seat: &mut Seat<T>) -> (Asked, Option<WakeUp>)
     requires belongs { seat.old.place.table_id ≡ mutex.now.table.shared.table_id }
     requires locks { errand seat.old.standing.point ≡ locking }
     ensures belongs { seat.new.place.table_id ≡ seat.old.place.table_id }
     ensures same { (seat.new.number ≡ seat.old.number) × (seat.new.limits ≡ seat.old.limits) }
-    ensures made { Course T.follows T.fits seat.old.number seat.old.standing seat.old.moving seat.old.place.me.0 (Ended (Answered.Asked result)) seat.new.standing seat.new.moving seat.new.place.me.0 }
+    ensures made { Course T.follows T.fits seat.old.number seat.old.standing seat.old.moving seat.old.place.me.0 (Ended (Answered.Asked result.0)) seat.new.standing seat.new.moving seat.new.place.me.0 }
     ensures spends { Spends (due seat.old.limits.seats (length seat.old.place.me.0.popped) seat.old.standing.point) 0 seat.old.place.me.0.trail seat.new.place.me.0.trail }
+    ensures wakes { Wakes seat.old.limits.seats result.1 seat.old.place.me.0.trail seat.new.place.me.0.trail }
 {
-    match finish(mutex, seat) {
-        Turn::Ended(Answer::Asked(asked)) => asked,
+    let (turn, wake_up) = finish(mutex, seat);
+    match turn {
+        Turn::Ended(Answer::Asked(asked)) => (asked, wake_up),
         _ => unreachable!(),
     }
 }
@@ -72,15 +75,20 @@ fn stand_pushing(standing: &mut SeatState)
 
 /// `ask` of a seat that is awake, doesn't hold, and has a take left.
 #[inline(always)]
-pub fn ask_free<T: Kept>(mutex: &Mutex<T>, seat: &mut Seat<T>, budget: u64) -> Asked
+pub fn ask_free<T: Kept>(
+    mutex: &Mutex<T>,
+    seat: &mut Seat<T>,
+    budget: u64,
+) -> (Asked, Option<WakeUp>)
     requires belongs { OfMutex seat.old mutex.now }
     requires rests { seat.old.standing.point ≡ Rest }
     requires flat { seat.old.standing.depth ≡ 0 }
     requires budget { budget ≡ seat.old.limits.budget }
     requires charged { seat.old.standing.takes < budget }
     ensures belongs { Beside seat.old seat.new }
-    ensures made { ComesTo T.follows T.fits (limits_of mutex.now) CallNow.Lock (sight seat.old) (sight seat.new) (Ended (Answered.Asked result)) }
+    ensures made { ComesTo T.follows T.fits (limits_of mutex.now) CallNow.Lock (sight seat.old) (sight seat.new) (Ended (Answered.Asked result.0)) }
     ensures bounded { MakesBesideFailures ((limits_of mutex.now).seats + 9) (sight seat.old) (sight seat.new) }
+    ensures wakes { Wakes (limits_of mutex.now).seats result.1 (sight seat.old).trail (sight seat.new).trail }
 {
     let _budget = budget;
     let table = &mutex.table.shared;
@@ -122,19 +130,20 @@ pub fn ask_free<T: Kept>(mutex: &Mutex<T>, seat: &mut Seat<T>, budget: u64) -> A
         limits,
         &entering,
     );
-    Asked::Held(How::Free)
+    (Asked::Held(How::Free), None)
 }
 
 /// `ask` of a seat that is awake and holds, below the greatest depth.
 #[inline(always)]
-pub fn ask_again<T: Kept>(mutex: &Mutex<T>, seat: &mut Seat<T>) -> Asked
+pub fn ask_again<T: Kept>(mutex: &Mutex<T>, seat: &mut Seat<T>) -> (Asked, Option<WakeUp>)
     requires belongs { OfMutex seat.old mutex.now }
     requires rests { seat.old.standing.point ≡ Rest }
     requires held { 0 < seat.old.standing.depth }
     requires room { seat.old.standing.depth < max_depth }
     ensures belongs { Beside seat.old seat.new }
-    ensures made { ComesTo T.follows T.fits (limits_of mutex.now) CallNow.Lock (sight seat.old) (sight seat.new) (Ended (Answered.Asked result)) }
+    ensures made { ComesTo T.follows T.fits (limits_of mutex.now) CallNow.Lock (sight seat.old) (sight seat.new) (Ended (Answered.Asked result.0)) }
     ensures bounded { MakesBesideFailures ((limits_of mutex.now).seats + 9) (sight seat.old) (sight seat.new) }
+    ensures wakes { Wakes (limits_of mutex.now).seats result.1 (sight seat.old).trail (sight seat.new).trail }
 {
     let table = &mutex.table.shared;
     let limits = seat.limits;
@@ -189,22 +198,27 @@ pub fn ask_again<T: Kept>(mutex: &Mutex<T>, seat: &mut Seat<T>) -> Asked
         &owning,
     );
     seat.standing.depth = depth + 1;
-    Asked::Again(depth + 1)
+    (Asked::Again(depth + 1), None)
 }
 
 /// `ask` by the generic run of its steps.
 #[inline(always)]
-fn ask_any<T: Kept>(mutex: &Mutex<T>, seat: &mut Seat<T>) -> Result<Asked, Refusal>
+fn ask_any<T: Kept>(
+    mutex: &Mutex<T>,
+    seat: &mut Seat<T>,
+) -> (Result<Asked, Refusal>, Option<WakeUp>)
     requires belongs { OfMutex seat.old mutex.now }
     ensures belongs { Beside seat.old seat.new }
-    ensures asks { Asks T.follows T.fits (limits_of mutex.now).budget (sight seat.old) (sight seat.new) result }
-    ensures steps { MakesCall (limits_of mutex.now) (λ x. Answered.Asked x) CallNow.Lock (sight seat.old) (sight seat.new) result }
+    ensures asks { Asks T.follows T.fits (limits_of mutex.now).budget (sight seat.old) (sight seat.new) result.0 }
+    ensures steps { MakesCall (limits_of mutex.now) (λ x. Answered.Asked x) CallNow.Lock (sight seat.old) (sight seat.new) result.0 }
     ensures bounded { MakesBesideFailures ((limits_of mutex.now).seats + 9) (sight seat.old) (sight seat.new) }
+    ensures wakes { Wakes (limits_of mutex.now).seats result.1 (sight seat.old).trail (sight seat.new).trail }
 {
-    match run(mutex, seat, Call::Lock) {
-        Turn::Ended(Answer::Asked(asked)) => Ok(asked),
-        Turn::Refused(Why::By(refusal)) => Err(refusal),
-        Turn::Refused(_) => Err(Refusal::Asleep),
+    let (turn, wake_up) = run(mutex, seat, Call::Lock);
+    match turn {
+        Turn::Ended(Answer::Asked(asked)) => (Ok(asked), wake_up),
+        Turn::Refused(Why::By(refusal)) => (Err(refusal), wake_up),
+        Turn::Refused(_) => (Err(Refusal::Asleep), wake_up),
         _ => unreachable!(),
     }
 }
@@ -226,18 +240,36 @@ impl<T: Kept> Mutex<T> {
         ensures steps { MakesCall (limits_of self.now) (λ x. Answered.Asked x) CallNow.Lock (sight seat.old) (sight seat.new) result }
         ensures bounded { MakesBesideFailures ((limits_of self.now).seats + 9) (sight seat.old) (sight seat.new) }
     {
+        let (asked, wake_up) = self.ask_without_waking(seat);
+        self.wake(wake_up);
+        asked
+    }
+
+    /// `ask`, with the same answers and refusals, which hands its caller the wake-up of the seat that it granted the mutex, if
+    /// any. The caller has to spend it by `wake`, or to wake that seat's thread by other means.
+    #[inline(always)]
+    pub fn ask_without_waking(&self, seat: &mut Seat<T>) -> (Result<Asked, Refusal>, Option<WakeUp>)
+        requires belongs { OfMutex seat.old self.now }
+        ensures belongs { Beside seat.old seat.new }
+        ensures asks { Asks T.follows T.fits (limits_of self.now).budget (sight seat.old) (sight seat.new) result.0 }
+        ensures steps { MakesCall (limits_of self.now) (λ x. Answered.Asked x) CallNow.Lock (sight seat.old) (sight seat.new) result.0 }
+        ensures bounded { MakesBesideFailures ((limits_of self.now).seats + 9) (sight seat.old) (sight seat.new) }
+        ensures wakes { Wakes (limits_of self.now).seats result.1 (sight seat.old).trail (sight seat.new).trail }
+    {
         if asleep(&seat.standing) {
             return ask_any(self, seat);
         }
         if seat.standing.depth == 0 {
             let budget = seat.limits.budget;
             if seat.standing.takes < budget {
-                return Ok(ask_free(self, seat, budget));
+                let (asked, wake_up) = ask_free(self, seat, budget);
+                return (Ok(asked), wake_up);
             }
             return ask_any(self, seat);
         }
         if seat.standing.depth < MAX_DEPTH {
-            return Ok(ask_again(self, seat));
+            let (asked, wake_up) = ask_again(self, seat);
+            return (Ok(asked), wake_up);
         }
         ask_any(self, seat)
     }

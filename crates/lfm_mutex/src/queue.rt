@@ -10,6 +10,7 @@ ghost use Rattle.lfm_core.specs.table.Words.{stepped_by};
 ghost use Rattle.lfm_mutex.specs.calls.Due.{due};
 ghost use Rattle.lfm_mutex.specs.calls.FailedPushes.{Spends};
 ghost use Rattle.lfm_mutex.specs.calls.Straight.{Course};
+ghost use Rattle.lfm_mutex.specs.calls.WakeUps.{Wakes};
 
 use crate::lock::ask_on;
 use crate::mutex::Mutex;
@@ -17,11 +18,11 @@ use crate::seat::Seat;
 use lfm_model::Asked;
 use lfm_protocol::SeatState;
 use lfm_protocol::points::{Point, Pusher, Sleeper};
-use lfm_table::Kept;
 use lfm_table::seat_memory::advance;
 use lfm_table::straight_steps::{
     exchange_push_free, load_free, load_handoff_free, load_push_free, store_link_free,
 };
+use lfm_table::{Kept, WakeUp};
 use lfm_words::{Link, unpack_link};
 
 // The points at which the generic run goes on. They are written out of line, since a point takes as long as a step.
@@ -45,14 +46,15 @@ fn stand_after_look(standing: &mut SeatState, number: u64, found: u64)
 
 /// Makes the steps of an open call of lock that found others in the count, to its end, for a seat that doesn't hold.
 #[inline(never)]
-pub(crate) fn queue<T: Kept>(mutex: &Mutex<T>, seat: &mut Seat<T>) -> Asked
+pub(crate) fn queue<T: Kept>(mutex: &Mutex<T>, seat: &mut Seat<T>) -> (Asked, Option<WakeUp>)
     requires belongs { seat.old.place.table_id ≡ mutex.now.table.shared.table_id }
     requires stands { seat.old.standing.point ≡ LockOwnerLoad }
     requires flat { seat.old.standing.depth ≡ 0 }
     ensures belongs { seat.new.place.table_id ≡ seat.old.place.table_id }
     ensures same { (seat.new.number ≡ seat.old.number) × (seat.new.limits ≡ seat.old.limits) }
-    ensures made { Course T.follows T.fits seat.old.number seat.old.standing seat.old.moving seat.old.place.me.0 (Ended (Answered.Asked result)) seat.new.standing seat.new.moving seat.new.place.me.0 }
+    ensures made { Course T.follows T.fits seat.old.number seat.old.standing seat.old.moving seat.old.place.me.0 (Ended (Answered.Asked result.0)) seat.new.standing seat.new.moving seat.new.place.me.0 }
     ensures spends { Spends (due seat.old.limits.seats (length seat.old.place.me.0.popped) seat.old.standing.point) 0 seat.old.place.me.0.trail seat.new.place.me.0.trail }
+    ensures wakes { Wakes seat.old.limits.seats result.1 seat.old.place.me.0.trail seat.new.place.me.0.trail }
 {
     let table = &mutex.table.shared;
     let limits = seat.limits;
@@ -139,5 +141,5 @@ pub(crate) fn queue<T: Kept>(mutex: &Mutex<T>, seat: &mut Seat<T>) -> Asked
         return ask_on(mutex, seat);
     }
     seat.standing.point = Point::Asleep(Sleeper::Locker);
-    Asked::Asleep
+    (Asked::Asleep, None)
 }

@@ -17,16 +17,14 @@ use crate::seat::Seat;
 use lfm_model::{How, Refusal};
 use lfm_protocol::points::{Entrant, Point, Sleeper};
 use lfm_protocol::{Answer, Call, SeatState, Turn};
-use lfm_table::Kept;
+use lfm_table::parking::{FIRST_GRANT, park};
 use lfm_table::straight_steps::{load_grant, store_held, store_wake_held};
+use lfm_table::{Kept, WakeUp};
 use std::hint::spin_loop;
 use std::sync::Wait;
 
 // So many pauses before each look leave the line of the word to the seat that is to store the grant.
 const PAUSES_PER_LOOK: u32 = 4;
-
-// Words below this are no grant: quiet, waiting, claimed.
-const FIRST_GRANT: u64 = 3;
 
 // How the mutex is gained by a wake word that is a grant.
 fn how_found(found: u64) -> How
@@ -165,10 +163,7 @@ impl<T: Kept> Mutex<T> {
                 return looks - made - 1;
             }
         }
-        let seen = self.table.shared.peek(wake);
-        if seen < FIRST_GRANT {
-            self.table.shared.park(rt, wake, seen as u32);
-        }
+        park(rt, &self.table.shared, wake);
         0
     }
 
@@ -189,7 +184,9 @@ impl<T: Kept> Mutex<T> {
                 return Ok(receive_asleep(self, seat, sleeper));
             }
         }
-        match run(self, seat, Call::Receive) {
+        let (turn, wake_up) = run(self, seat, Call::Receive);
+        WakeUp::expect_none(wake_up);
+        match turn {
             Turn::Ended(Answer::Got(got)) => Ok(got),
             Turn::Refused(_) => Err(Refusal::NotWaiting),
             _ => unreachable!(),

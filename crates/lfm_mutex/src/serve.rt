@@ -9,6 +9,7 @@ ghost use Rattle.lfm_protocol.specs.declared.points.Point.TheVariants.{GrantWake
 ghost use Rattle.lfm_protocol.specs.declared.points.Releaser.TheVariants.{Unlocker as UnlockerNow};
 ghost use Rattle.lfm_mutex.specs.calls.Runs.{errand, is_release, releasing, weight};
 ghost use Rattle.lfm_mutex.specs.calls.Straight.{Course};
+ghost use Rattle.lfm_mutex.specs.calls.WakeUps.{Wakes};
 
 use crate::mutex::Mutex;
 use crate::seat::Seat;
@@ -16,8 +17,8 @@ use crate::unlock::unlock_on;
 use lfm_model::{SeatNo, Unlocked};
 use lfm_protocol::SeatState;
 use lfm_protocol::points::{Carrier, Point, Releaser};
-use lfm_table::Kept;
 use lfm_table::straight_steps::{clear_head_held, grant_oldest, load_link_held};
+use lfm_table::{Kept, WakeUp};
 use lfm_words::{Record, unpack_link};
 
 // Whether this is an unlock that found others in the count.
@@ -29,16 +30,17 @@ fn is_unlocker(carrier: Carrier) -> bool
 
 // Stores the grant for the seat of the oldest record, `next`, which ends the unlock.
 #[inline(always)]
-fn grant<T: Kept>(mutex: &Mutex<T>, seat: &mut Seat<T>, next: SeatNo) -> Unlocked
+fn grant<T: Kept>(mutex: &Mutex<T>, seat: &mut Seat<T>, next: SeatNo) -> (Unlocked, Option<WakeUp>)
     requires belongs { seat.old.place.table_id ≡ mutex.now.table.shared.table_id }
     requires stands { (stamp : ℕ) × (seat.old.standing.point ≡ GrantWakeStore (CarrierNow.Releaser UnlockerNow) (record { seat = next; stamp = stamp })) }
     requires flat { seat.old.standing.depth ≡ 0 }
     ensures belongs { seat.new.place.table_id ≡ seat.old.place.table_id }
     ensures same { (seat.new.number ≡ seat.old.number) × (seat.new.limits ≡ seat.old.limits) }
-    ensures made { Course T.follows T.fits seat.old.number seat.old.standing seat.old.moving seat.old.place.me.0 (Ended (Answered.Unlocked result)) seat.new.standing seat.new.moving seat.new.place.me.0 }
+    ensures made { Course T.follows T.fits seat.old.number seat.old.standing seat.old.moving seat.old.place.me.0 (Ended (Answered.Unlocked result.0)) seat.new.standing seat.new.moving seat.new.place.me.0 }
     ensures bounded { length seat.new.place.me.0.trail ≤ length seat.old.place.me.0.trail + weight seat.old.limits.seats (length seat.old.place.me.0.popped) seat.old.standing.point }
+    ensures wakes { Wakes seat.old.limits.seats result.1 seat.old.place.me.0.trail seat.new.place.me.0.trail }
 {
-    grant_oldest(
+    let wake_up = grant_oldest(
         &mutex.table.shared,
         &mut seat.place,
         &mut seat.moving,
@@ -47,19 +49,20 @@ fn grant<T: Kept>(mutex: &Mutex<T>, seat: &mut Seat<T>, next: SeatNo) -> Unlocke
         &seat.standing,
     );
     seat.standing.point = Point::Rest;
-    Unlocked::Granted(next)
+    (Unlocked::Granted(next), wake_up)
 }
 
 // Clears the push list, and serves its record where it holds one.
 #[inline(always)]
-fn serve_pushed<T: Kept>(mutex: &Mutex<T>, seat: &mut Seat<T>) -> Unlocked
+fn serve_pushed<T: Kept>(mutex: &Mutex<T>, seat: &mut Seat<T>) -> (Unlocked, Option<WakeUp>)
     requires belongs { seat.old.place.table_id ≡ mutex.now.table.shared.table_id }
     requires stands { seat.old.standing.point ≡ TakeClearHead (CarrierNow.Releaser UnlockerNow) }
     requires flat { seat.old.standing.depth ≡ 0 }
     ensures belongs { seat.new.place.table_id ≡ seat.old.place.table_id }
     ensures same { (seat.new.number ≡ seat.old.number) × (seat.new.limits ≡ seat.old.limits) }
-    ensures made { Course T.follows T.fits seat.old.number seat.old.standing seat.old.moving seat.old.place.me.0 (Ended (Answered.Unlocked result)) seat.new.standing seat.new.moving seat.new.place.me.0 }
+    ensures made { Course T.follows T.fits seat.old.number seat.old.standing seat.old.moving seat.old.place.me.0 (Ended (Answered.Unlocked result.0)) seat.new.standing seat.new.moving seat.new.place.me.0 }
     ensures bounded { length seat.new.place.me.0.trail ≤ length seat.old.place.me.0.trail + weight seat.old.limits.seats (length seat.old.place.me.0.popped) seat.old.standing.point }
+    ensures wakes { Wakes seat.old.limits.seats result.1 seat.old.place.me.0.trail seat.new.place.me.0.trail }
 {
     let table = &mutex.table.shared;
     let limits = seat.limits;
@@ -118,14 +121,15 @@ fn serve_pushed<T: Kept>(mutex: &Mutex<T>, seat: &mut Seat<T>) -> Unlocked
 
 /// Makes the steps of an open unlock that found others in the count, to its end.
 #[inline(always)]
-pub(crate) fn serve<T: Kept>(mutex: &Mutex<T>, seat: &mut Seat<T>) -> Unlocked
+pub(crate) fn serve<T: Kept>(mutex: &Mutex<T>, seat: &mut Seat<T>) -> (Unlocked, Option<WakeUp>)
     requires belongs { seat.old.place.table_id ≡ mutex.now.table.shared.table_id }
     requires unlocks { errand seat.old.standing.point ≡ releasing UnlockerNow }
     requires keeps { is_release seat.old.standing.point ≡ false }
     ensures belongs { seat.new.place.table_id ≡ seat.old.place.table_id }
     ensures same { (seat.new.number ≡ seat.old.number) × (seat.new.limits ≡ seat.old.limits) }
-    ensures made { Course T.follows T.fits seat.old.number seat.old.standing seat.old.moving seat.old.place.me.0 (Ended (Answered.Unlocked result)) seat.new.standing seat.new.moving seat.new.place.me.0 }
+    ensures made { Course T.follows T.fits seat.old.number seat.old.standing seat.old.moving seat.old.place.me.0 (Ended (Answered.Unlocked result.0)) seat.new.standing seat.new.moving seat.new.place.me.0 }
     ensures bounded { length seat.new.place.me.0.trail ≤ length seat.old.place.me.0.trail + weight seat.old.limits.seats (length seat.old.place.me.0.popped) seat.old.standing.point }
+    ensures wakes { Wakes seat.old.limits.seats result.1 seat.old.place.me.0.trail seat.new.place.me.0.trail }
 {
     if seat.standing.depth != 0 {
         return unlock_on(mutex, seat);

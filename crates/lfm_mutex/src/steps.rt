@@ -9,6 +9,7 @@ ghost use Rattle.lfm_mutex.specs.Belongs.{Beside, OfMutex, limits_of, state_of};
 ghost use Rattle.lfm_mutex.specs.calls.Runs.{is_release};
 ghost use Rattle.lfm_mutex.specs.calls.SeatSteps.{Begins, StepsOn};
 ghost use Rattle.lfm_mutex.specs.calls.Sight.{sight, MayLeave};
+ghost use Rattle.lfm_table.specs.Grants.{granted_at};
 ghost use Rattle.lfm_table.specs.Steps.{MayBeLeft, StepLeadsTo};
 
 use crate::mutex::Mutex;
@@ -16,10 +17,11 @@ use crate::seat::Seat;
 use crate::steps::kinds::make_of;
 use lfm_protocol::kinds::Kind;
 use lfm_protocol::{Call, Turn, Why};
-use lfm_table::Kept;
+use lfm_table::{Kept, WakeUp};
 
 mod kinds;
 
+pub(crate) use crate::steps::kinds::make_waking_none;
 pub use crate::steps::kinds::{
     add_count, clear_head, exchange_count, exchange_handoff, exchange_push, exchange_wake,
     load_handoff, load_link, load_owner, load_push, load_wake, store_handoff, store_link,
@@ -81,16 +83,18 @@ pub(crate) fn begin_call<T: Kept>(mutex: &Mutex<T>, seat: &mut Seat<T>, call: Ca
     seat.standing.begin(limits, call)
 }
 
-/// `next`, with all that the proofs of the calls need of it.
-pub(crate) fn make_next<T: Kept>(mutex: &Mutex<T>, seat: &mut Seat<T>) -> Turn
+/// `next`, with all that the proofs of the calls need of it. It wakes nobody, and hands out the wake-up of the seat that it
+/// granted.
+pub(crate) fn make_next<T: Kept>(mutex: &Mutex<T>, seat: &mut Seat<T>) -> (Turn, Option<WakeUp>)
     requires belongs { seat.old.place.table_id ≡ mutex.now.table.shared.table_id }
     requires leaves { (r : Releaser) → seat.old.standing.point ≡ ReleaseOwnerStore r → MayBeLeft T.follows T.fits seat.old.moving seat.old.place.me.0 }
     ensures belongs { seat.new.place.table_id ≡ seat.old.place.table_id }
     ensures same { (seat.new.number ≡ seat.old.number) × (seat.new.limits ≡ seat.old.limits) }
-    ensures event { StepLeadsTo (kind seat.old.standing.point) T.follows T.fits seat.old.standing seat.old.moving seat.old.place.me result seat.new.standing seat.new.moving seat.new.place.me }
+    ensures event { StepLeadsTo (kind seat.old.standing.point) T.follows T.fits seat.old.standing seat.old.moving seat.old.place.me result.0 seat.new.standing seat.new.moving seat.new.place.me }
+    ensures wakes { result.1 ≡ granted_at seat.old.standing.point }
 {
     match seat.standing.point.kind() {
-        None => Turn::Refused(Why::Idle),
+        None => (Turn::Refused(Why::Idle), None),
         Some(kind) => make_of(mutex, seat, kind),
     }
 }

@@ -20,11 +20,11 @@ use crate::seat::Seat;
 use lfm_model::{How, Locked, Refusal};
 use lfm_protocol::points::{Entrant, Point};
 use lfm_protocol::{Answer, Call, MAX_DEPTH, SeatState, Turn, Why};
-use lfm_table::Kept;
 use lfm_table::seat_memory::advance;
 use lfm_table::straight_steps::{
     exchange_free, exchange_held, load_free, load_handoff_free, load_held, store_held,
 };
+use lfm_table::{Kept, WakeUp};
 
 /// Makes the steps of the open call of try_lock to its end.
 #[inline(always)]
@@ -36,7 +36,9 @@ fn try_on<T: Kept>(mutex: &Mutex<T>, seat: &mut Seat<T>) -> Result<Locked, Refus
     ensures ends { Ends trying (try_turn result) }
     ensures made { Course T.follows T.fits seat.old.number seat.old.standing seat.old.moving seat.old.place.me.0 (try_turn result) seat.new.standing seat.new.moving seat.new.place.me.0 }
 {
-    match finish(mutex, seat) {
+    let (turn, wake_up) = finish(mutex, seat);
+    WakeUp::expect_none(wake_up);
+    match turn {
         Turn::Ended(Answer::Locked(locked)) => Ok(locked),
         Turn::Refused(Why::By(refusal)) => Err(refusal),
         _ => unreachable!(),
@@ -213,7 +215,9 @@ fn try_lock_any<T: Kept>(mutex: &Mutex<T>, seat: &mut Seat<T>) -> Result<Locked,
     ensures locks { Locks T.follows T.fits (limits_of mutex.now).budget (sight seat.old) (sight seat.new) result }
     ensures steps { MakesCall (limits_of mutex.now) (λ x. Answered.Locked x) CallNow.TryLock (sight seat.old) (sight seat.new) result }
 {
-    match run(mutex, seat, Call::TryLock) {
+    let (turn, wake_up) = run(mutex, seat, Call::TryLock);
+    WakeUp::expect_none(wake_up);
+    match turn {
         Turn::Ended(Answer::Locked(locked)) => Ok(locked),
         Turn::Refused(Why::By(refusal)) => Err(refusal),
         Turn::Refused(_) => Err(Refusal::Asleep),

@@ -13,6 +13,7 @@ ghost use Rattle.lfm_mutex.specs.calls.Runs.{errand, is_release, releasing, weig
 ghost use Rattle.lfm_mutex.specs.calls.Sight.{sight, MayLeave, MayRelease, Unlocks};
 ghost use Rattle.lfm_mutex.specs.calls.Straight.{Course, ComesTo};
 ghost use Rattle.lfm_mutex.specs.calls.Trails.{MakesAtMost, MakesCall};
+ghost use Rattle.lfm_mutex.specs.calls.WakeUps.{Wakes};
 
 use crate::calls::{asleep, finish, release};
 use crate::mutex::Mutex;
@@ -21,24 +22,26 @@ use crate::serve::serve;
 use lfm_model::{Refusal, Unlocked};
 use lfm_protocol::points::{Point, Releaser};
 use lfm_protocol::{Answer, Call, SeatState, Turn, Why};
-use lfm_table::Kept;
 use lfm_table::moving_box::MovingBox;
 use lfm_table::seat_memory::oldest_of;
 use lfm_table::straight_steps::{store_held, subtract_last};
+use lfm_table::{Kept, WakeUp};
 
 /// Makes the steps of the open call of unlock to its end, once its seat has given up the owner word.
 #[inline(always)]
-pub(crate) fn unlock_on<T: Kept>(mutex: &Mutex<T>, seat: &mut Seat<T>) -> Unlocked
+pub(crate) fn unlock_on<T: Kept>(mutex: &Mutex<T>, seat: &mut Seat<T>) -> (Unlocked, Option<WakeUp>)
     requires belongs { seat.old.place.table_id ≡ mutex.now.table.shared.table_id }
     requires unlocks { errand seat.old.standing.point ≡ releasing UnlockerNow }
     requires keeps { is_release seat.old.standing.point ≡ false }
     ensures belongs { seat.new.place.table_id ≡ seat.old.place.table_id }
     ensures same { (seat.new.number ≡ seat.old.number) × (seat.new.limits ≡ seat.old.limits) }
-    ensures made { Course T.follows T.fits seat.old.number seat.old.standing seat.old.moving seat.old.place.me.0 (Ended (Answered.Unlocked result)) seat.new.standing seat.new.moving seat.new.place.me.0 }
+    ensures made { Course T.follows T.fits seat.old.number seat.old.standing seat.old.moving seat.old.place.me.0 (Ended (Answered.Unlocked result.0)) seat.new.standing seat.new.moving seat.new.place.me.0 }
     ensures bounded { length seat.new.place.me.0.trail ≤ length seat.old.place.me.0.trail + weight seat.old.limits.seats (length seat.old.place.me.0.popped) seat.old.standing.point }
+    ensures wakes { Wakes seat.old.limits.seats result.1 seat.old.place.me.0.trail seat.new.place.me.0.trail }
 {
-    match finish(mutex, seat) {
-        Turn::Ended(Answer::Unlocked(unlocked)) => unlocked,
+    let (turn, wake_up) = finish(mutex, seat);
+    match turn {
+        Turn::Ended(Answer::Unlocked(unlocked)) => (unlocked, wake_up),
         _ => unreachable!(),
     }
 }
@@ -61,14 +64,15 @@ fn stand_carrying<T: Kept>(
 
 /// `unlock` of a seat that is awake and holds once.
 #[inline(always)]
-pub fn unlock_last<T: Kept>(mutex: &Mutex<T>, seat: &mut Seat<T>) -> Unlocked
+pub fn unlock_last<T: Kept>(mutex: &Mutex<T>, seat: &mut Seat<T>) -> (Unlocked, Option<WakeUp>)
     requires belongs { OfMutex seat.old mutex.now }
     requires rests { seat.old.standing.point ≡ Rest }
     requires one { seat.old.standing.depth ≡ 1 }
     requires leaves { MayLeave T.follows T.fits (sight seat.old) }
     ensures belongs { Beside seat.old seat.new }
-    ensures made { ComesTo T.follows T.fits (limits_of mutex.now) CallNow.Unlock (sight seat.old) (sight seat.new) (Ended (Answered.Unlocked result)) }
+    ensures made { ComesTo T.follows T.fits (limits_of mutex.now) CallNow.Unlock (sight seat.old) (sight seat.new) (Ended (Answered.Unlocked result.0)) }
     ensures bounded { MakesAtMost ((limits_of mutex.now).seats + 7) (sight seat.old) (sight seat.new) }
+    ensures wakes { Wakes (limits_of mutex.now).seats result.1 (sight seat.old).trail (sight seat.new).trail }
 {
     let table = &mutex.table.shared;
     let limits = seat.limits;
@@ -109,7 +113,7 @@ pub fn unlock_last<T: Kept>(mutex: &Mutex<T>, seat: &mut Seat<T>) -> Unlocked
         stand_carrying(&mut seat.standing, &seat.moving, number, found);
         return serve(mutex, seat);
     }
-    Unlocked::Free
+    (Unlocked::Free, None)
 }
 
 /// `unlock` of a seat that is awake and holds more than once.
@@ -129,18 +133,23 @@ pub fn unlock_once<T: Kept>(mutex: &Mutex<T>, seat: &mut Seat<T>) -> Unlocked
 
 /// `unlock` by the generic run of its steps.
 #[inline(always)]
-fn unlock_any<T: Kept>(mutex: &Mutex<T>, seat: &mut Seat<T>) -> Result<Unlocked, Refusal>
+fn unlock_any<T: Kept>(
+    mutex: &Mutex<T>,
+    seat: &mut Seat<T>,
+) -> (Result<Unlocked, Refusal>, Option<WakeUp>)
     requires belongs { OfMutex seat.old mutex.now }
     requires leaves { MayRelease T.follows T.fits (sight seat.old) }
     ensures belongs { Beside seat.old seat.new }
-    ensures unlocks { Unlocks (sight seat.old) (sight seat.new) result }
-    ensures steps { MakesCall (limits_of mutex.now) (λ x. Answered.Unlocked x) CallNow.Unlock (sight seat.old) (sight seat.new) result }
+    ensures unlocks { Unlocks (sight seat.old) (sight seat.new) result.0 }
+    ensures steps { MakesCall (limits_of mutex.now) (λ x. Answered.Unlocked x) CallNow.Unlock (sight seat.old) (sight seat.new) result.0 }
     ensures bounded { MakesAtMost ((limits_of mutex.now).seats + 7) (sight seat.old) (sight seat.new) }
+    ensures wakes { Wakes (limits_of mutex.now).seats result.1 (sight seat.old).trail (sight seat.new).trail }
 {
-    match release(mutex, seat, Call::Unlock) {
-        Turn::Ended(Answer::Unlocked(unlocked)) => Ok(unlocked),
-        Turn::Refused(Why::By(refusal)) => Err(refusal),
-        Turn::Refused(_) => Err(Refusal::Asleep),
+    let (turn, wake_up) = release(mutex, seat, Call::Unlock);
+    match turn {
+        Turn::Ended(Answer::Unlocked(unlocked)) => (Ok(unlocked), wake_up),
+        Turn::Refused(Why::By(refusal)) => (Err(refusal), wake_up),
+        Turn::Refused(_) => (Err(Refusal::Asleep), wake_up),
         _ => unreachable!(),
     }
 }
@@ -161,14 +170,35 @@ impl<T: Kept> Mutex<T> {
         ensures steps { MakesCall (limits_of self.now) (λ x. Answered.Unlocked x) CallNow.Unlock (sight seat.old) (sight seat.new) result }
         ensures bounded { MakesAtMost ((limits_of self.now).seats + 7) (sight seat.old) (sight seat.new) }
     {
+        let (unlocked, wake_up) = self.unlock_without_waking(seat);
+        self.wake(wake_up);
+        unlocked
+    }
+
+    /// `unlock`, with the same answers and refusals, which hands its caller the wake-up of the seat that it granted the mutex,
+    /// if any. The caller has to spend it by `wake`, or to wake that seat's thread by other means.
+    #[inline(always)]
+    pub fn unlock_without_waking(
+        &self,
+        seat: &mut Seat<T>,
+    ) -> (Result<Unlocked, Refusal>, Option<WakeUp>)
+        requires belongs { OfMutex seat.old self.now }
+        requires leaves { MayRelease T.follows T.fits (sight seat.old) }
+        ensures belongs { Beside seat.old seat.new }
+        ensures unlocks { Unlocks (sight seat.old) (sight seat.new) result.0 }
+        ensures steps { MakesCall (limits_of self.now) (λ x. Answered.Unlocked x) CallNow.Unlock (sight seat.old) (sight seat.new) result.0 }
+        ensures bounded { MakesAtMost ((limits_of self.now).seats + 7) (sight seat.old) (sight seat.new) }
+        ensures wakes { Wakes (limits_of self.now).seats result.1 (sight seat.old).trail (sight seat.new).trail }
+    {
         if asleep(&seat.standing) {
             return unlock_any(self, seat);
         }
         if seat.standing.depth == 1 {
-            return Ok(unlock_last(self, seat));
+            let (unlocked, wake_up) = unlock_last(self, seat);
+            return (Ok(unlocked), wake_up);
         }
         if seat.standing.depth > 1 {
-            return Ok(unlock_once(self, seat));
+            return (Ok(unlock_once(self, seat)), None);
         }
         unlock_any(self, seat)
     }

@@ -1,13 +1,17 @@
 //! The words of a running mutex and the seats at them: what a seat knows, the rule that words and seats keep, one atomic step
-//! of each kind, and what a step does in the seat's own memory. No call stands here, and nothing sleeps.
+//! of each kind, what a step does in the seat's own memory, and how a thread sleeps on a wake word and is woken. No call stands
+//! here.
 #![tactic(auto)]
 
 pub mod kept;
 pub mod moving_box;
+pub mod parking;
 pub mod rule;
 pub mod seat_memory;
 pub mod seat_view;
 pub mod straight_steps;
 pub mod table_steps;
+pub mod wake_up;
 
 pub use kept::Kept;
+pub use wake_up::WakeUp;

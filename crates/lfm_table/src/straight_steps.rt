@@ -9,6 +9,7 @@ ghost use Rattle.lfm_protocol.specs.After.{drops_oldest};
 ghost use Rattle.lfm_protocol.specs.Points.{kind};
 ghost use Rattle.lfm_core.specs.table.Carried.{carries_value};
 ghost use Rattle.lfm_core.specs.table.Words.{stepped_by};
+ghost use Rattle.lfm_table.specs.Grants.{granted_at};
 ghost use Rattle.lfm_table.specs.Steps.{gives_at, MayBeLeft};
 ghost use Rattle.lfm_table.specs.Straight.{Fit, MadeStep};
 
@@ -20,6 +21,7 @@ use crate::table_steps::{
     load_link, load_owner, load_push, load_wake, store_link, store_owner, store_wake,
     subtract_count,
 };
+use crate::wake_up::WakeUp;
 use lfm_protocol::{Limits, SeatState};
 use std::marker::Brand;
 
@@ -355,7 +357,8 @@ pub fn store_wake_held<T: Kept>(
     ensures table { place.new.table_id ≡ place.old.table_id }
     ensures step { (n : ℕ) × MadeStep T.follows T.fits number place.new.table_id.words place.new.id limits plain.now n place.old.me moving.now place.new.me moving.now }
 {
-    store_wake::<T, Brand>(table, place, plain, moving, number, limits.seats);
+    let (_, wake_up) = store_wake::<T, Brand>(table, place, plain, moving, number, limits.seats);
+    WakeUp::expect_none(wake_up);
 }
 
 /// Loads the seat's own wake word, for a seat that sleeps, which comes to carry the value just where it found a grant.
@@ -407,8 +410,8 @@ pub fn load_link_held<T: Kept>(
     found
 }
 
-/// Stores a grant in the wake word of the seat of the oldest record, takes that record out of the pop list, and wakes the seat,
-/// for a seat that gives the value away by it.
+/// Stores a grant in the wake word of the seat of the oldest record, and takes that record out of the pop list, for a seat that
+/// gives the value away by it. It hands out the wake-up of the seat that it granted.
 #[inline(always)]
 pub fn grant_oldest<T: Kept>(
     table: &SharedTable<T>,
@@ -417,7 +420,7 @@ pub fn grant_oldest<T: Kept>(
     number: u64,
     limits: Limits,
     plain: &SeatState,
-)
+) -> Option<WakeUp>
     requires table { place.old.table_id ≡ table.now.table_id }
     requires fit { Fit number place.old.table_id.words place.old.id limits plain.now place.old.me moving.old }
     requires kind { kind plain.now.point ≡ Some KindNow.WakeStore }
@@ -425,8 +428,10 @@ pub fn grant_oldest<T: Kept>(
     requires leaves { (n : ℕ) → carries_value (stepped_by plain.now number n None).seat ≡ false }
     ensures table { place.new.table_id ≡ place.old.table_id }
     ensures step { (n : ℕ) × MadeStep T.follows T.fits number place.new.table_id.words place.new.id limits plain.now n place.old.me moving.old place.new.me moving.new }
+    ensures wakes { result ≡ granted_at plain.now.point }
 {
     drop_oldest(moving, plain);
     put_out(table, place, moving);
-    store_wake::<T, Brand>(table, place, plain, &None, number, limits.seats);
+    let (_, wake_up) = store_wake::<T, Brand>(table, place, plain, &None, number, limits.seats);
+    wake_up
 }

@@ -3,17 +3,20 @@
 //!
 //! `plain` is the seat's plain data before the step and `hand` what the seat has in its own memory: contracts speak of both,
 //! and B tells them to the play of the step.
-ghost use Rattle.std.specs.Prelude.{◌≡◌, ◌<◌, Some};
+ghost use Rattle.std.specs.Prelude.{◌≡◌, ◌≢◌, Some};
 ghost use Rattle.lfm_protocol.specs.declared.kinds.Kind.{Kind as KindNow};
 ghost use Rattle.lfm_protocol.specs.Points.{kind, kind as kind_of};
 ghost use Rattle.lfm_table.specs.Rule.{Advanced, value_in};
 ghost use Rattle.lfm_table.specs.Steps.{CanMake};
+ghost use Rattle.lfm_table.specs.Grants.{granted_at};
 
 use crate::kept::Kept;
 use crate::moving_box::MovingBox;
 use crate::rule::{Key, MutexRule, Plain, Stepped};
 use crate::seat_view::View;
+use crate::wake_up::WakeUp;
 use atomic_table::Shared;
+use lfm_model::SeatNo;
 use lfm_protocol::SeatState;
 use lfm_protocol::kinds::Kind;
 use lfm_words::{pack_handoff, pack_link};
@@ -23,16 +26,6 @@ pub type Place<T> = atomic_table::Seat<Option<MovingBox<T>>, View<T>>;
 
 /// The table, as its steps need it.
 pub type SharedTable<T> = Shared<Option<MovingBox<T>>, View<T>, Key<T>, MutexRule>;
-
-/// Wakes who sleeps on this word, where a grant was stored there.
-pub fn wake<T: Kept>(table: &SharedTable<T>, word: usize, stored: u64)
-    requires inside { word < table.now.table_id.words }
-    requires some { 2 < table.now.table_id.words }
-{
-    if stored > 2 {
-        table.wake_one(word);
-    }
-}
 
 // All but the head of the push word.
 const STAMP: u64 = 0xffff_ffff_ffff_0000;
@@ -341,7 +334,8 @@ pub fn load_wake<T: Kept, B: Plain<T>>(
     table.load::<Stepped<B>>(place, 3 + seats as usize + t as usize)
 }
 
-/// Stores the wake word that the point names.
+/// Stores the wake word that the point names. Where that is a grant, the wake-up of its seat is handed out beside what was
+/// stored.
 pub fn store_wake<T: Kept, B: Plain<T>>(
     table: &SharedTable<T>,
     place: &mut Place<T>,
@@ -349,20 +343,21 @@ pub fn store_wake<T: Kept, B: Plain<T>>(
     hand: &Option<MovingBox<T>>,
     number: u64,
     seats: u64,
-) -> u64
+) -> (u64, Option<WakeUp>)
     requires plain { (B.standing ≡ plain.now) × (B.hand ≡ value_in hand.now) }
     requires table { place.old.table_id ≡ table.now.table_id }
     requires can { CanMake T.follows T.fits plain.now (value_in hand.now) number seats table.now.table_id.words place.old.me }
     requires kind { kind plain.now.point ≡ Some KindNow.WakeStore }
     ensures table { (place.new.table_id ≡ place.old.table_id) × (place.new.id ≡ place.old.id) }
-    ensures step { Advanced T.follows T.fits plain.now (value_in hand.now) place.old.me result place.new.me }
+    ensures step { Advanced T.follows T.fits plain.now (value_in hand.now) place.old.me result.0 place.new.me }
+    ensures wakes { result.1 ≡ granted_at plain.now.point }
 {
     let _hand = hand;
     let t = plain.point.target(number);
-    let new = plain.stored_wake().to_word();
-    table.store::<Stepped<B>>(place, 3 + seats as usize + t as usize, new);
-    wake(table, 3 + seats as usize + t as usize, new);
-    new
+    let new = plain.stored_wake();
+    let word = new.to_word();
+    table.store::<Stepped<B>>(place, 3 + seats as usize + t as usize, word);
+    (word, WakeUp::owed(new, SeatNo::known(t)))
 }
 
 /// Exchanges WAITING for CLAIMED in the wake word of the target.
@@ -386,8 +381,9 @@ pub fn exchange_wake<T: Kept, B: Plain<T>>(
     table.compare_exchange::<Stepped<B>>(place, 3 + seats as usize + t as usize, 1, 2)
 }
 
-/// The atomic step at the seat's point, which is of this kind: the number that it found, or stored.
-pub fn make_step<T: Kept, B: Plain<T>>(
+// The atomic step at the seat's point, which is of this kind and stores no wake word: the number that it found, or stored.
+#[inline(always)]
+fn make_other<T: Kept, B: Plain<T>>(
     kind: Kind,
     table: &SharedTable<T>,
     place: &mut Place<T>,
@@ -400,6 +396,7 @@ pub fn make_step<T: Kept, B: Plain<T>>(
     requires table { place.old.table_id ≡ table.now.table_id }
     requires can { CanMake T.follows T.fits plain.now (value_in hand.now) number seats table.now.table_id.words place.old.me }
     requires is_next { kind_of plain.now.point ≡ Some kind }
+    requires other { kind ≢ KindNow.WakeStore }
     ensures table { (place.new.table_id ≡ place.old.table_id) × (place.new.id ≡ place.old.id) }
     ensures step { Advanced T.follows T.fits plain.now (value_in hand.now) place.old.me result place.new.me }
 {
@@ -420,7 +417,35 @@ pub fn make_step<T: Kept, B: Plain<T>>(
             exchange_handoff::<T, B>(table, place, plain, hand, number, seats)
         }
         Kind::WakeLoad => load_wake::<T, B>(table, place, plain, hand, number, seats),
-        Kind::WakeStore => store_wake::<T, B>(table, place, plain, hand, number, seats),
+        Kind::WakeStore => unreachable!(),
         Kind::WakeExchange => exchange_wake::<T, B>(table, place, plain, hand, number, seats),
+    }
+}
+
+/// The atomic step at the seat's point, which is of this kind: the number that it found, or stored, and the wake-up of the
+/// seat whose grant it stored.
+pub fn make_step<T: Kept, B: Plain<T>>(
+    kind: Kind,
+    table: &SharedTable<T>,
+    place: &mut Place<T>,
+    plain: &SeatState,
+    hand: &Option<MovingBox<T>>,
+    number: u64,
+    seats: u64,
+) -> (u64, Option<WakeUp>)
+    requires plain { (B.standing ≡ plain.now) × (B.hand ≡ value_in hand.now) }
+    requires table { place.old.table_id ≡ table.now.table_id }
+    requires can { CanMake T.follows T.fits plain.now (value_in hand.now) number seats table.now.table_id.words place.old.me }
+    requires is_next { kind_of plain.now.point ≡ Some kind }
+    ensures table { (place.new.table_id ≡ place.old.table_id) × (place.new.id ≡ place.old.id) }
+    ensures step { Advanced T.follows T.fits plain.now (value_in hand.now) place.old.me result.0 place.new.me }
+    ensures wakes { result.1 ≡ granted_at plain.now.point }
+{
+    match kind {
+        Kind::WakeStore => store_wake::<T, B>(table, place, plain, hand, number, seats),
+        _ => {
+            let found = make_other::<T, B>(kind, table, place, plain, hand, number, seats);
+            (found, None)
+        }
     }
 }

@@ -3,7 +3,7 @@
 //!
 //! Each answers Open where the call goes on, and else the answer or refusal that ends the call. None of them waits or takes
 //! memory, and `store_wake` alone wakes a seat.
-ghost use Rattle.std.specs.Prelude.{◌≡◌, true, false, Some};
+ghost use Rattle.std.specs.Prelude.{◌≡◌, ◌≢◌, true, false, Some};
 ghost use Rattle.lfm_protocol.specs.declared.kinds.Kind.{Kind as KindNow};
 ghost use Rattle.lfm_protocol.specs.declared.points.Point.TheVariants.{ReleaseOwnerStore};
 ghost use Rattle.lfm_protocol.specs.declared.points.Releaser.{Releaser};
@@ -12,33 +12,39 @@ ghost use Rattle.lfm_mutex.specs.Belongs.{Beside, OfMutex, state_of};
 ghost use Rattle.lfm_mutex.specs.calls.Runs.{is_release};
 ghost use Rattle.lfm_mutex.specs.calls.SeatSteps.{StepsOn, stores_owner};
 ghost use Rattle.lfm_mutex.specs.calls.Sight.{sight, MayLeave};
+ghost use Rattle.lfm_table.specs.Grants.{granted_at};
 ghost use Rattle.lfm_table.specs.Steps.{MayBeLeft, Event};
 
 use crate::mutex::Mutex;
 use crate::seat::Seat;
 use lfm_protocol::Turn;
 use lfm_protocol::kinds::Kind;
-use lfm_table::Kept;
 use lfm_table::seat_memory::{add_loaded, advance, drop_oldest, gives, oldest_of, prepare, settle};
 use lfm_table::table_steps::make_step;
+use lfm_table::{Kept, WakeUp};
 use std::marker::Brand;
 
-/// Makes the step at the seat's point, which is of this kind, with all that the proofs of the calls need of it. It is inlined,
-/// so where the kind is a constant nothing of the other kinds is left.
+/// Makes the step at the seat's point, which is of this kind, with all that the proofs of the calls need of it, and hands out
+/// the wake-up of the seat that it granted. It is inlined, so where the kind is a constant nothing of the other kinds is left.
 #[inline(always)]
-pub(crate) fn make_of<T: Kept>(mutex: &Mutex<T>, seat: &mut Seat<T>, kind: Kind) -> Turn
+pub(crate) fn make_of<T: Kept>(
+    mutex: &Mutex<T>,
+    seat: &mut Seat<T>,
+    kind: Kind,
+) -> (Turn, Option<WakeUp>)
     requires belongs { seat.old.place.table_id ≡ mutex.now.table.shared.table_id }
     requires is_next { kind_of seat.old.standing.point ≡ Some kind }
     requires leaves { (r : Releaser) → seat.old.standing.point ≡ ReleaseOwnerStore r → MayBeLeft T.follows T.fits seat.old.moving seat.old.place.me.0 }
     ensures belongs { seat.new.place.table_id ≡ seat.old.place.table_id }
     ensures same { (seat.new.number ≡ seat.old.number) × (seat.new.limits ≡ seat.old.limits) }
-    ensures event { Event T.follows T.fits seat.old.standing seat.old.moving seat.old.place.me.0 result seat.new.standing seat.new.moving seat.new.place.me.0 }
+    ensures event { Event T.follows T.fits seat.old.standing seat.old.moving seat.old.place.me.0 result.0 seat.new.standing seat.new.moving seat.new.place.me.0 }
+    ensures wakes { result.1 ≡ granted_at seat.old.standing.point }
 {
     let table = &mutex.table.shared;
     let may_give = gives(seat.standing.point);
     drop_oldest(&mut seat.moving, &seat.standing);
     prepare(table, &mut seat.place, &mut seat.moving, may_give);
-    let found = make_step::<T, Brand>(
+    let (found, wake_up) = make_step::<T, Brand>(
         kind,
         table,
         &mut seat.place,
@@ -57,19 +63,37 @@ pub(crate) fn make_of<T: Kept>(mutex: &Mutex<T>, seat: &mut Seat<T>, kind: Kind)
         found,
     );
     let oldest = oldest_of(&seat.moving);
-    advance(&mut seat.standing, seat.number, found, oldest)
+    let turn = advance(&mut seat.standing, seat.number, found, oldest);
+    (turn, wake_up)
 }
 
-/// Makes a step of a kind that ends no hold.
+/// Makes a step of a kind that stores no wake word, with all that the proofs of the calls need of it.
+#[inline(always)]
+pub(crate) fn make_waking_none<T: Kept>(mutex: &Mutex<T>, seat: &mut Seat<T>, kind: Kind) -> Turn
+    requires belongs { seat.old.place.table_id ≡ mutex.now.table.shared.table_id }
+    requires is_next { kind_of seat.old.standing.point ≡ Some kind }
+    requires other { kind ≢ KindNow.WakeStore }
+    requires leaves { (r : Releaser) → seat.old.standing.point ≡ ReleaseOwnerStore r → MayBeLeft T.follows T.fits seat.old.moving seat.old.place.me.0 }
+    ensures belongs { seat.new.place.table_id ≡ seat.old.place.table_id }
+    ensures same { (seat.new.number ≡ seat.old.number) × (seat.new.limits ≡ seat.old.limits) }
+    ensures event { Event T.follows T.fits seat.old.standing seat.old.moving seat.old.place.me.0 result seat.new.standing seat.new.moving seat.new.place.me.0 }
+{
+    let (turn, wake_up) = make_of(mutex, seat, kind);
+    WakeUp::expect_none(wake_up);
+    turn
+}
+
+/// Makes a step of a kind that ends no hold and stores no wake word.
 #[inline(always)]
 fn make_within<T: Kept>(mutex: &Mutex<T>, seat: &mut Seat<T>, kind: Kind) -> Turn
     requires belongs { OfMutex seat.old mutex.now }
     requires is_next { kind_of (state_of seat.old).point ≡ Some kind }
     requires keeps { stores_owner kind ≡ false }
+    requires other { kind ≢ KindNow.WakeStore }
     ensures belongs { Beside seat.old seat.new }
     ensures steps { StepsOn T.follows T.fits (Some kind) (state_of seat.old) (sight seat.old) result (state_of seat.new) (sight seat.new) }
 {
-    make_of(mutex, seat, kind)
+    make_waking_none(mutex, seat, kind)
 }
 
 /// Exchanges 0 for 1 at the count, and finds the count: the first step of a `try_lock`.
@@ -123,7 +147,7 @@ pub fn store_owner<T: Kept>(mutex: &Mutex<T>, seat: &mut Seat<T>) -> Turn
     ensures belongs { Beside seat.old seat.new }
     ensures steps { StepsOn T.follows T.fits (Some KindNow.OwnerStore) (state_of seat.old) (sight seat.old) result (state_of seat.new) (sight seat.new) }
 {
-    make_of(mutex, seat, Kind::OwnerStore)
+    make_waking_none(mutex, seat, Kind::OwnerStore)
 }
 
 /// Loads the push word: the newest stamp, and the seat whose record is the newest one pushed.
@@ -225,7 +249,9 @@ pub fn store_wake<T: Kept>(mutex: &Mutex<T>, seat: &mut Seat<T>) -> Turn
     ensures belongs { Beside seat.old seat.new }
     ensures steps { StepsOn T.follows T.fits (Some KindNow.WakeStore) (state_of seat.old) (sight seat.old) result (state_of seat.new) (sight seat.new) }
 {
-    make_within(mutex, seat, Kind::WakeStore)
+    let (turn, wake_up) = make_of(mutex, seat, Kind::WakeStore);
+    mutex.wake(wake_up);
+    turn
 }
 
 /// Exchanges the wake word of a seat that waits, so that this sender alone sends it.

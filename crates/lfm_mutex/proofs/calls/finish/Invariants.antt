@@ -1,4 +1,4 @@
-use Rattle.std.proofs.Common.{◌≡◌, ◌+◌, ◌≤◌, length}
+use Rattle.std.proofs.Common.{◌≡◌, ℕ, ◌+◌, ◌≤◌, length, Some, None}
 use Rattle.std.specs.Prelude.{false}
 use Rattle.lfm_protocol.specs.declared.answers.Turn.TheVariants.{Open}
 use Rattle.lfm_mutex.specs.calls.Due.{due}
@@ -6,6 +6,9 @@ use Rattle.lfm_mutex.specs.calls.FailedPushes.{Spends}
 use Rattle.lfm_mutex.specs.calls.Runs.{errand, is_release, Ran, opens, weight}
 use Rattle.lfm_table.specs.Rule.{value_in, last_hold}
 use Rattle.lfm_mutex.specs.calls.Sight.{Concludes, Stays}
+use Rattle.lfm_model.specs.declared.answers.Unlocked.{Unlocked}
+use Rattle.lfm_protocol.specs.declared.points.Point.TheVariants.{WaitWakeStore}
+use Rattle.lfm_mutex.specs.calls.WakeUps.{Wakes, may_grant}
 use Rattle.lfm_mutex.proofs.calls.finish.Given as goal
 
 abbrev pub invariant-loop-ended : goal.invariant-loop-ended
@@ -19,6 +22,9 @@ invariant-loop-ended g l = record {
   concludes : Concludes l.fn.seat.standing Open l.seat.standing;
   bounded : length l.seat.place.me.0.trail + weight l.seat.limits.seats (length l.seat.place.me.0.popped) l.seat.standing.point ≤ length l.fn.seat.place.me.0.trail + weight l.fn.seat.limits.seats (length l.fn.seat.place.me.0.popped) l.fn.seat.standing.point;
   spends : Spends (due l.fn.seat.limits.seats (length l.fn.seat.place.me.0.popped) l.fn.seat.standing.point) (due l.seat.limits.seats (length l.seat.place.me.0.popped) l.seat.standing.point) l.fn.seat.place.me.0.trail l.seat.place.me.0.trail;
+  wakes : Wakes l.fn.seat.limits.seats l.owed l.fn.seat.place.me.0.trail l.seat.place.me.0.trail;
+  once : (t : ℕ) → l.owed ≡ Some t → (r : Unlocked) × (l.seat.standing.point ≡ WaitWakeStore r);
+  none : may_grant (errand l.fn.seat.standing.point) ≡ false → l.owed ≡ None;
   stays : Stays l.fn.seat.standing.depth l.fn.seat.place.me.0 (value_in l.fn.seat.moving) l.seat.place.me.0 (value_in l.seat.moving);
 }
 

@@ -10,6 +10,8 @@ use Rattle.lfm_mutex.proofs.runs.Sights.{begun, turned_by_release, turned_at_onc
 use Rattle.lfm_protocol.specs.declared.limits.Limits.{Limits}
 use Rattle.lfm_mutex.specs.calls.Trails.{Made}
 use Rattle.lfm_mutex.proofs.runs.MadeCalls.{makes}
+use Rattle.lfm_mutex.specs.calls.WakeUps.{Wakes, grants_of}
+use Rattle.lfm_mutex.proofs.runs.WakeUps.{wakes_none}
 use Rattle.lfm_mutex.proofs.calls.release.Goals as goal
 
 pub finish_release-requires-clause-gives : goal.finish_release-requires-clause-gives
@@ -25,17 +27,17 @@ finish_release-requires-clause-leaves g c κs within = let s = c.args.seat.now i
 
 pub returns-in-Open-clause-answers : goal.returns-in-Open-clause-answers
 returns-in-Open-clause-answers g c = let s = c.args.seat.now in let b = c.begin_call.new.seat in let f = c.finish_release.new.seat in
-    (called_steps s.number s.limits c.args.call s.standing b.standing f.standing s.place.me.0 f.place.me.0 c.finish_release.result (sym c.in-Open.ensures.turn) c.in-Open.ensures.seat c.finish_release.ensures.ends
-    (subst (λ (t : ℕ × View g.row.T.Denot). Ran t.0 (opens b.standing) t.1 c.finish_release.result f.standing f.place.me.0) (λ i. (c.begin_call.ensures.same.1 i, ap (λ p. p.me.0) c.begin_call.ensures.same.0 i)) c.finish_release.ensures.ran)).1
+    (called_steps s.number s.limits c.args.call s.standing b.standing f.standing s.place.me.0 f.place.me.0 c.finish_release.result.0 (sym c.in-Open.ensures.turn) c.in-Open.ensures.seat c.finish_release.ensures.ends
+    (subst (λ (t : ℕ × View g.row.T.Denot). Ran t.0 (opens b.standing) t.1 c.finish_release.result.0 f.standing f.place.me.0) (λ i. (c.begin_call.ensures.same.1 i, ap (λ p. p.me.0) c.begin_call.ensures.same.0 i)) c.finish_release.ensures.ran)).1
 
 pub returns-in-Open-clause-turned : goal.returns-in-Open-clause-turned
 returns-in-Open-clause-turned g c = let s = c.args.seat.now in let b = c.begin_call.new.seat in let f = c.finish_release.new.seat in
     let began = begun g.T.Kept.follows g.T.Kept.fits s.number s.limits s.place.me.0 (value_in s.moving) s.standing b.standing c.args.call c.in-Open.ensures.turn c.in-Open.ensures.seat in
-    subst (λ (l : Limits). Turned g.T.Kept.follows g.T.Kept.fits l c.args.call (sight_of s.number s.standing s.place.me.0 (value_in s.moving)) (sight_of f.number f.standing f.place.me.0 (value_in f.moving)) c.finish_release.result) c.requires.belongs.1
-    (turned_by_release g.T.Kept.follows g.T.Kept.fits s.number f.number s.limits s.standing b.standing f.standing s.place.me.0 f.place.me.0 s.moving f.moving (c.finish_release.ensures.same.0 ∙ c.begin_call.ensures.same.1) c.args.call c.finish_release.result
-    c.requires.gives began (called_ends s.limits c.args.call s.standing b.standing c.finish_release.result c.in-Open.ensures.turn c.in-Open.ensures.seat c.finish_release.ensures.ends) c.finish_release.ensures.concludes
+    subst (λ (l : Limits). Turned g.T.Kept.follows g.T.Kept.fits l c.args.call (sight_of s.number s.standing s.place.me.0 (value_in s.moving)) (sight_of f.number f.standing f.place.me.0 (value_in f.moving)) c.finish_release.result.0) c.requires.belongs.1
+    (turned_by_release g.T.Kept.follows g.T.Kept.fits s.number f.number s.limits s.standing b.standing f.standing s.place.me.0 f.place.me.0 s.moving f.moving (c.finish_release.ensures.same.0 ∙ c.begin_call.ensures.same.1) c.args.call c.finish_release.result.0
+    c.requires.gives began (called_ends s.limits c.args.call s.standing b.standing c.finish_release.result.0 c.in-Open.ensures.turn c.in-Open.ensures.seat c.finish_release.ensures.ends) c.finish_release.ensures.concludes
     (c.finish_release.ensures.last ∙ (λ i. (value_in (c.begin_call.ensures.same.3 i), (ap (λ p. p.me.0.found) c.begin_call.ensures.same.0) i, (ap (λ p. p.me.0.limits) c.begin_call.ensures.same.0) i, (ap (λ p. p.me.0.holds_ended + 1) c.begin_call.ensures.same.0) i)))
-    (subst (λ (t : ℕ × View g.row.T.Denot). Ran t.0 (opens b.standing) t.1 c.finish_release.result f.standing f.place.me.0) (λ i. (c.begin_call.ensures.same.1 i, ap (λ p. p.me.0) c.begin_call.ensures.same.0 i)) c.finish_release.ensures.ran))
+    (subst (λ (t : ℕ × View g.row.T.Denot). Ran t.0 (opens b.standing) t.1 c.finish_release.result.0 f.standing f.place.me.0) (λ i. (c.begin_call.ensures.same.1 i, ap (λ p. p.me.0) c.begin_call.ensures.same.0 i)) c.finish_release.ensures.ran))
 
 pub returns-in_default-clause-turned : goal.returns-in_default-clause-turned
 returns-in_default-clause-turned g c = let s = c.args.seat.now in let b = c.begin_call.new.seat in
@@ -45,10 +47,10 @@ returns-in_default-clause-turned g c = let s = c.args.seat.now in let b = c.begi
 
 pub returns-in-Open-clause-made : goal.returns-in-Open-clause-made
 returns-in-Open-clause-made g c = let s = c.args.seat.now in let b = c.begin_call.new.seat in let f = c.finish_release.new.seat in
-    subst (λ (l : Limits). Made l c.args.call (sight_of s.number s.standing s.place.me.0 (value_in s.moving)) (sight_of f.number f.standing f.place.me.0 (value_in f.moving)) c.finish_release.result) c.requires.belongs.1
-    (makes s.limits c.args.call s.number f.number s.standing f.standing s.place.me.0 f.place.me.0 (value_in s.moving) (value_in f.moving) c.finish_release.result (c.finish_release.ensures.same.0 ∙ c.begin_call.ensures.same.1)
-    ((called_steps s.number s.limits c.args.call s.standing b.standing f.standing s.place.me.0 f.place.me.0 c.finish_release.result (sym c.in-Open.ensures.turn) c.in-Open.ensures.seat c.finish_release.ensures.ends
-    (subst (λ (t : ℕ × View g.row.T.Denot). Ran t.0 (opens b.standing) t.1 c.finish_release.result f.standing f.place.me.0) (λ i. (c.begin_call.ensures.same.1 i, ap (λ p. p.me.0) c.begin_call.ensures.same.0 i)) c.finish_release.ensures.ran)).0))
+    subst (λ (l : Limits). Made l c.args.call (sight_of s.number s.standing s.place.me.0 (value_in s.moving)) (sight_of f.number f.standing f.place.me.0 (value_in f.moving)) c.finish_release.result.0) c.requires.belongs.1
+    (makes s.limits c.args.call s.number f.number s.standing f.standing s.place.me.0 f.place.me.0 (value_in s.moving) (value_in f.moving) c.finish_release.result.0 (c.finish_release.ensures.same.0 ∙ c.begin_call.ensures.same.1)
+    ((called_steps s.number s.limits c.args.call s.standing b.standing f.standing s.place.me.0 f.place.me.0 c.finish_release.result.0 (sym c.in-Open.ensures.turn) c.in-Open.ensures.seat c.finish_release.ensures.ends
+    (subst (λ (t : ℕ × View g.row.T.Denot). Ran t.0 (opens b.standing) t.1 c.finish_release.result.0 f.standing f.place.me.0) (λ i. (c.begin_call.ensures.same.1 i, ap (λ p. p.me.0) c.begin_call.ensures.same.0 i)) c.finish_release.ensures.ran)).0))
 
 pub returns-in_default-clause-made : goal.returns-in_default-clause-made
 returns-in_default-clause-made g c = let s = c.args.seat.now in let b = c.begin_call.new.seat in
@@ -66,3 +68,11 @@ returns-in-Open-clause-bounded g c = let s = c.args.seat.now in let b = c.begin_
 pub returns-in_default-clause-bounded : goal.returns-in_default-clause-bounded
 returns-in_default-clause-bounded g c = let s = c.args.seat.now in let b = c.begin_call.new.seat in
     let same = ap (λ p. length p.me.0.trail) c.begin_call.ensures.same.0 in omega (arith, same)
+
+pub returns-in-Open-clause-wakes : goal.returns-in-Open-clause-wakes
+returns-in-Open-clause-wakes g c = let f = c.finish_release.new.seat in
+    subst (λ (t : View g.row.T.Denot × Limits). Wakes t.1.seats c.finish_release.result.1 t.0.trail f.place.me.0.trail) (λ i. (ap (λ p. p.me.0) c.begin_call.ensures.same.0 i, (c.begin_call.ensures.same.2 ∙ c.requires.belongs.1) i)) c.finish_release.ensures.wakes
+
+pub returns-in_default-clause-wakes : goal.returns-in_default-clause-wakes
+returns-in_default-clause-wakes g c = let s = c.args.seat.now in let b = c.begin_call.new.seat in
+    wakes_none c.args.mutex.now.limits.seats s.place.me.0.trail b.place.me.0.trail (ap (λ p. grants_of p.me.0.trail) c.begin_call.ensures.same.0)

@@ -1,4 +1,4 @@
-use Rattle.std.proofs.Common.{◌+◌, length, refl, sym, subst, arith}
+use Rattle.std.proofs.Common.{ℕ, ap, ◌∙◌, ◌+◌, length, refl, sym, subst, arith}
 use Rattle.lfm_model.specs.declared.answers.Asked.{Asked}
 use Rattle.lfm_model.specs.declared.answers.How.{How}
 use Rattle.lfm_protocol.specs.declared.answers.Answer.{Answer}
@@ -19,6 +19,8 @@ use Rattle.lfm_mutex.proofs.runs.Courses.{course_none, course_next, course_join,
 use Rattle.lfm_table.proofs.tables.StepFacts.{made_of}
 use Rattle.lfm_mutex.proofs.runs.Spending.{spends_any, spends_join, spent}
 use Rattle.lfm_mutex.proofs.runs.StraightPoints.{begins_again, fit_begun, added_none, added_some, owned, fit_after}
+use Rattle.lfm_mutex.proofs.runs.WakeUps.{grants_none, wakes_after, wakes_none}
+use Rattle.lfm_mutex.specs.calls.WakeUps.{Wakes}
 use Rattle.lfm_mutex.proofs.lock.ask_again.Goals as goal
 
 pub returns-then-found-eq0-clause-made : goal.returns-then-found-eq0-clause-made
@@ -30,8 +32,8 @@ returns-then-found-eq0-clause-made g c =
     let f = c.add_held-found in
     let q = made_of d t ps (EnterOwnerStore Entrant.Locker How.Free) in let r = c.ask_on.new.seat in
     let first = course_next g.T.Kept.follows g.T.Kept.fits s.number p0 s.moving s.place.me.0 s.place.table_id.words s.place.id s.limits p0 f.result s.place.me s.moving f.new.place.me s.moving f.new.place.table_id.words f.new.place.id (opens q) (course_none g.T.Kept.follows g.T.Kept.fits s.number p0 s.moving s.place.me.0) fit f.ensures.step (added_none d t ps s.number f.result (oldest_in s.moving) c.if-found-eq0.true) (λ e. cc) refl in
-    let last = course_join g.T.Kept.follows g.T.Kept.fits s.number p0 s.moving s.place.me.0 q r.standing s.moving r.moving f.new.place.me.0 r.place.me.0 (Ended (Answer.Asked c.ask_on.result)) first (subst (λ (x : SeatState). Course g.T.Kept.follows g.T.Kept.fits s.number x s.moving f.new.place.me.0 (Ended (Answer.Asked c.ask_on.result)) r.standing r.moving r.place.me.0) (c.stand_entering.ensures) c.ask_on.ensures.made) in
-    comes g.T.Kept.follows g.T.Kept.fits s.number p0 s.moving s.place.me.0 r.number s.limits c.args.mutex.now.limits Call.Lock s.standing r.standing (Ended (Answer.Asked c.ask_on.result)) r.moving r.place.me.0 c.requires.belongs.1 c.ask_on.ensures.same.0 refl begins refl last
+    let last = course_join g.T.Kept.follows g.T.Kept.fits s.number p0 s.moving s.place.me.0 q r.standing s.moving r.moving f.new.place.me.0 r.place.me.0 (Ended (Answer.Asked c.ask_on.result.0)) first (subst (λ (x : SeatState). Course g.T.Kept.follows g.T.Kept.fits s.number x s.moving f.new.place.me.0 (Ended (Answer.Asked c.ask_on.result.0)) r.standing r.moving r.place.me.0) (c.stand_entering.ensures) c.ask_on.ensures.made) in
+    comes g.T.Kept.follows g.T.Kept.fits s.number p0 s.moving s.place.me.0 r.number s.limits c.args.mutex.now.limits Call.Lock s.standing r.standing (Ended (Answer.Asked c.ask_on.result.0)) r.moving r.place.me.0 c.requires.belongs.1 c.ask_on.ensures.same.0 refl begins refl last
 
 pub returns-clause-made : goal.returns-clause-made
 returns-clause-made g c =
@@ -74,3 +76,14 @@ returns-clause-bounded g c =
     let three = spends_any g.T.Kept.follows g.T.Kept.fits p2 st2.seat h.new.place.me.0 k.new.place.me.0 s.moving s.moving st2.turn k.ensures.step.1.event 0 in
     spent 3 (c.args.mutex.now.limits.seats + 9) s.place.me.0.trail k.new.place.me.0.trail (omega arith)
     (spends_join 3 2 0 s.place.me.0.trail f.new.place.me.0.trail k.new.place.me.0.trail one (spends_join 2 1 0 f.new.place.me.0.trail h.new.place.me.0.trail k.new.place.me.0.trail two three))
+
+pub returns-then-found-eq0-clause-wakes : goal.returns-then-found-eq0-clause-wakes
+returns-then-found-eq0-clause-wakes g c =
+    let s = c.args.seat.now in let f = c.add_held-found in let on = c.ask_on in
+    subst (λ (n : ℕ). Wakes n on.result.1 s.place.me.0.trail on.new.seat.place.me.0.trail) (ap (λ l. l.seats) c.requires.belongs.1)
+    (wakes_after s.limits.seats on.result.1 s.place.me.0.trail f.new.place.me.0.trail on.new.seat.place.me.0.trail (grants_none g.T.Kept.follows g.T.Kept.fits _ _ _ _ _ _ _ f.ensures.step.event refl) on.ensures.wakes)
+
+pub returns-clause-wakes : goal.returns-clause-wakes
+returns-clause-wakes g c =
+    let s = c.args.seat.now in let f = c.add_held-found in let h = c.load_held-owner in let k = c.subtract_held in
+    wakes_none c.args.mutex.now.limits.seats s.place.me.0.trail k.new.place.me.0.trail (grants_none g.T.Kept.follows g.T.Kept.fits _ _ _ _ _ _ _ k.ensures.step.1.event refl ∙ (grants_none g.T.Kept.follows g.T.Kept.fits _ _ _ _ _ _ _ h.ensures.step.event refl ∙ grants_none g.T.Kept.follows g.T.Kept.fits _ _ _ _ _ _ _ f.ensures.step.event refl))

@@ -1,4 +1,4 @@
-use Rattle.std.proofs.Common.{ℕ, ◌+◌, ◌<◌, length, refl, sym, ap, subst, arith}
+use Rattle.std.proofs.Common.{ℕ, ◌∙◌, ◌+◌, ◌<◌, length, refl, sym, ap, subst, arith}
 use Rattle.lfm_model.specs.declared.answers.Asked.{Asked}
 use Rattle.lfm_model.specs.declared.answers.How.{How}
 use Rattle.lfm_protocol.specs.declared.answers.Answer.{Answer}
@@ -20,6 +20,8 @@ use Rattle.lfm_table.proofs.tables.StepFacts.{made_of}
 use Rattle.lfm_mutex.proofs.runs.Spending.{spends_any, spends_join, spent}
 use Rattle.lfm_mutex.proofs.runs.StraightPoints.{begins_free, fit_begun, added_none, added_some, fit_after}
 use Rattle.lfm_table.specs.Straight.{Fit}
+use Rattle.lfm_mutex.proofs.runs.WakeUps.{grants_none, wakes_after, wakes_none}
+use Rattle.lfm_mutex.specs.calls.WakeUps.{Wakes}
 use Rattle.lfm_mutex.proofs.lock.ask_free.Goals as goal
 
 pub returns-then-found-ne0-clause-made : goal.returns-then-found-ne0-clause-made
@@ -31,8 +33,8 @@ returns-then-found-ne0-clause-made g c =
     let q = made_of 0 t ps LockOwnerLoad in let r = c.queue.new.seat in
     let first = course_next g.T.Kept.follows g.T.Kept.fits s.number (made_of 0 t ps LockCountAdd) s.moving s.place.me.0 s.place.table_id.words s.place.id s.limits (made_of 0 t ps LockCountAdd) f.result s.place.me s.moving f.new.place.me f.new.moving f.new.place.table_id.words f.new.place.id (opens q)
     (course_none g.T.Kept.follows g.T.Kept.fits s.number (made_of 0 t ps LockCountAdd) s.moving s.place.me.0) fit f.ensures.step (added_some 0 t ps s.number f.result (oldest_in f.new.moving) c.if-found-ne0.true) (λ e. cc) refl in
-    let last = course_join g.T.Kept.follows g.T.Kept.fits s.number (made_of 0 t ps LockCountAdd) s.moving s.place.me.0 q r.standing f.new.moving r.moving f.new.place.me.0 r.place.me.0 (Ended (Answer.Asked c.queue.result)) first (subst (λ (x : SeatState). Course g.T.Kept.follows g.T.Kept.fits s.number x f.new.moving f.new.place.me.0 (Ended (Answer.Asked c.queue.result)) r.standing r.moving r.place.me.0) c.stand_loading.ensures c.queue.ensures.made) in
-    comes g.T.Kept.follows g.T.Kept.fits s.number (made_of 0 t ps LockCountAdd) s.moving s.place.me.0 r.number s.limits c.args.mutex.now.limits Call.Lock s.standing r.standing (Ended (Answer.Asked c.queue.result)) r.moving r.place.me.0 c.requires.belongs.1 c.queue.ensures.same.0 refl begins refl last
+    let last = course_join g.T.Kept.follows g.T.Kept.fits s.number (made_of 0 t ps LockCountAdd) s.moving s.place.me.0 q r.standing f.new.moving r.moving f.new.place.me.0 r.place.me.0 (Ended (Answer.Asked c.queue.result.0)) first (subst (λ (x : SeatState). Course g.T.Kept.follows g.T.Kept.fits s.number x f.new.moving f.new.place.me.0 (Ended (Answer.Asked c.queue.result.0)) r.standing r.moving r.place.me.0) c.stand_loading.ensures c.queue.ensures.made) in
+    comes g.T.Kept.follows g.T.Kept.fits s.number (made_of 0 t ps LockCountAdd) s.moving s.place.me.0 r.number s.limits c.args.mutex.now.limits Call.Lock s.standing r.standing (Ended (Answer.Asked c.queue.result.0)) r.moving r.place.me.0 c.requires.belongs.1 c.queue.ensures.same.0 refl begins refl last
 
 pub returns-clause-made : goal.returns-clause-made
 returns-clause-made g c =
@@ -79,3 +81,14 @@ invariant_of-seat-2 g c =
     let f = c.add_free-found in let h = c.store_held in
     let fit = subst (λ (x : SeatState). Fit s.number h.new.place.table_id.words h.new.place.id s.limits x h.new.place.me f.new.moving) (λ i. record { depth = 1; takes = t; posts = ps; point = sym c.requires.rests i }) h.ensures.step.1.fit in
     record { seated = fit.seated; became = fit.became; ready = fit.ready; rooted = fit.rooted }
+
+pub returns-then-found-ne0-clause-wakes : goal.returns-then-found-ne0-clause-wakes
+returns-then-found-ne0-clause-wakes g c =
+    let s = c.args.seat.now in let f = c.add_free-found in let on = c.queue in
+    subst (λ (n : ℕ). Wakes n on.result.1 s.place.me.0.trail on.new.seat.place.me.0.trail) (ap (λ l. l.seats) c.requires.belongs.1)
+    (wakes_after s.limits.seats on.result.1 s.place.me.0.trail f.new.place.me.0.trail on.new.seat.place.me.0.trail (grants_none g.T.Kept.follows g.T.Kept.fits _ _ _ _ _ _ _ f.ensures.step.event refl) on.ensures.wakes)
+
+pub returns-clause-wakes : goal.returns-clause-wakes
+returns-clause-wakes g c =
+    let s = c.args.seat.now in let f = c.add_free-found in let h = c.store_held in
+    wakes_none c.args.mutex.now.limits.seats s.place.me.0.trail h.new.place.me.0.trail (grants_none g.T.Kept.follows g.T.Kept.fits _ _ _ _ _ _ _ h.ensures.step.1.event refl ∙ grants_none g.T.Kept.follows g.T.Kept.fits _ _ _ _ _ _ _ f.ensures.step.event refl)

@@ -11,11 +11,13 @@ use Rattle.lfm_mutex.specs.calls.Straight.{Course}
 use Rattle.lfm_mutex.proofs.runs.Courses.{course_none, course_next}
 use Rattle.lfm_mutex.proofs.runs.ServePoints.{unlocker, granted_to}
 use Rattle.lfm_table.proofs.tables.StepFacts.{made_of}
+use Rattle.lfm_mutex.proofs.runs.WakeUps.{wakes_one}
+use Rattle.lfm_table.specs.Grants.{granted_at}
 use Rattle.lfm_mutex.proofs.serve.grant.Goals as goal
 
 pub returns-clause-made : goal.returns-clause-made
 returns-clause-made g c =
-    let s = c.args.seat.now in let t = s.standing.takes in let ps = s.standing.posts in let f = c.grant_oldest in
+    let s = c.args.seat.now in let t = s.standing.takes in let ps = s.standing.posts in let f = c.grant_oldest-wake_up in
     let r : Record = record { seat = c.args.next; stamp = c.requires.stands.0 } in
     let p0 = made_of 0 t ps (GrantWakeStore unlocker r) in
     let at : s.standing ≡ p0 = (λ i. record { depth = c.requires.flat i; takes = t; posts = ps; point = c.requires.stands.1 i }) in
@@ -26,3 +28,7 @@ returns-clause-made g c =
     (course_none g.T.Kept.follows g.T.Kept.fits s.number p0 s.moving s.place.me.0) fit
     (subst (λ (x : SeatState). MadeStep g.T.Kept.follows g.T.Kept.fits s.number f.new.place.table_id.words f.new.place.id s.limits x f.ensures.step.0 s.place.me s.moving f.new.place.me f.new.moving) at f.ensures.step.1)
     (granted_to 0 t ps s.number f.ensures.step.0 r (oldest_in f.new.moving)) (λ e. cc) refl)
+
+pub returns-clause-wakes : goal.returns-clause-wakes
+returns-clause-wakes g c = let s = c.args.seat.now in let f = c.grant_oldest-wake_up in
+    wakes_one g.T.Kept.follows g.T.Kept.fits _ _ _ _ _ _ _ f.ensures.step.1.event s.limits.seats s.number f.result f.ensures.wakes s.ready

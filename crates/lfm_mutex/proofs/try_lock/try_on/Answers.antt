@@ -1,10 +1,16 @@
-use Rattle.std.proofs.Common.{subst}
+use Rattle.std.proofs.Common.{◌≡◌, rules, ap, subst}
 use Rattle.lfm_protocol.specs.declared.answers.Answer.{Answer}
+use Rattle.lfm_protocol.specs.declared.answers.Turn.{Turn}
 use Rattle.lfm_protocol.specs.declared.answers.Turn.TheVariants.{Ended}
 use Rattle.lfm_mutex.specs.calls.Straight.{Course}
+use Rattle.lfm_mutex.specs.calls.WakeUps.{may_grant}
 use Rattle.lfm_mutex.proofs.try_lock.try_on.Goals as goal
 
+pub expect_none-requires : goal.expect_none-requires
+expect_none-requires g c = c.finish-turn.ensures.none (ap may_grant c.requires.tries)
+
 pub returns-in-Ended-Locked-clause-made : goal.returns-in-Ended-Locked-clause-made
-returns-in-Ended-Locked-clause-made g c = let s = c.args.seat.now in let r = c.finish.new.seat in let f = c.in-Ended-Locked.ensures in
-    subst (λ (x : Answer). Course g.T.Kept.follows g.T.Kept.fits s.number s.standing s.moving s.place.me.0 (Ended x) r.standing r.moving r.place.me.0) c.in-Ended-Locked.field-0-is
+returns-in-Ended-Locked-clause-made g c = let s = c.args.seat.now in let r = c.finish-turn.new.seat in let f = c.finish-turn.ensures in
+    let e : c.finish-turn.result.0 ≡ Ended (Answer.Locked c.in-Ended-Locked.locked) = search rules in
+    subst (λ (x : Turn). Course g.T.Kept.follows g.T.Kept.fits s.number s.standing s.moving s.place.me.0 x r.standing r.moving r.place.me.0) e
     (record { ran = f.ran; concludes = f.concludes; stays = f.stays; last = f.last; held = f.held })

@@ -1,4 +1,4 @@
-use Rattle.std.proofs.Common.{◌≡◌, ◌+◌, ◌≤◌, length, refl, sym, ap, subst, ◌∙◌, arith}
+use Rattle.std.proofs.Common.{◌≡◌, ℕ, ◌+◌, ◌≤◌, length, refl, sym, ap, subst, ◌∙◌, arith}
 use Rattle.lfm_model.specs.declared.answers.Unlocked.{Unlocked}
 use Rattle.lfm_protocol.specs.declared.answers.Answer.{Answer}
 use Rattle.lfm_protocol.specs.declared.answers.Call.{Call}
@@ -19,6 +19,8 @@ use Rattle.lfm_mutex.proofs.runs.Sights.{may_leave}
 use Rattle.lfm_mutex.proofs.runs.StraightPoints.{begins_last, fit_begun, freed, not_freed}
 use Rattle.lfm_table.proofs.tables.StepFacts.{made_of}
 use Rattle.lfm_protocol.specs.Begin.{Stepped}
+use Rattle.lfm_mutex.proofs.runs.WakeUps.{grants_none, wakes_after, wakes_none}
+use Rattle.lfm_mutex.specs.calls.WakeUps.{Wakes}
 use Rattle.lfm_mutex.proofs.unlock.unlock_last.Goals as goal
 
 pub store_held-requires-clause-leaves : goal.store_held-requires-clause-leaves
@@ -36,7 +38,7 @@ returns-then-found-ne1-clause-made g c =
     let st = stepped_by p1 s.number f.result (oldest_in f.new.moving) in
     let e : Event g.T.Kept.follows g.T.Kept.fits p1 s.moving h.new.place.me.0 st.turn st.seat f.new.moving b.me.0 = f.ensures.step.event in
     let fit1 : Fit s.number h.new.place.table_id.words h.new.place.id s.limits p1 h.new.place.me s.moving = h.ensures.step.1.fit in
-    let r = c.serve.new.seat in let turn = Ended (Answer.Unlocked c.serve.result) in
+    let r = c.serve.new.seat in let turn = Ended (Answer.Unlocked c.serve.result.0) in
     let open_still : st ≡ opens st.seat = (λ i. record { seat = st.seat; turn = not_freed 0 t ps s.number f.result (oldest_in f.new.moving) c.if-found-ne1.true i }) in
     let same : c.stand_carrying.new.standing ≡ st.seat = c.stand_carrying.ensures in
     let so = course_next g.T.Kept.follows g.T.Kept.fits s.number p1 s.moving h.new.place.me.0 h.new.place.table_id.words h.new.place.id s.limits p1 f.result h.new.place.me s.moving b.me f.new.moving b.table_id.words b.id (opens st.seat)
@@ -96,3 +98,14 @@ invariant_of-seat-else-found-ne1 g c =
     let fit = subst (λ (x : SeatState). Fit s.number b.table_id.words b.id s.limits x b.me f.new.moving)
     (ap (λ (z : Stepped). z.seat) (freed 0 t ps s.number f.result (oldest_in f.new.moving) c.if-found-ne1.false) ∙ (λ i. record { depth = 0; takes = t; posts = ps; point = sym c.requires.rests i })) f.ensures.step.fit in
     record { seated = fit.seated; became = fit.became; ready = fit.ready; rooted = fit.rooted }
+
+pub returns-then-found-ne1-clause-wakes : goal.returns-then-found-ne1-clause-wakes
+returns-then-found-ne1-clause-wakes g c =
+    let s = c.args.seat.now in let h = c.store_held in let f = c.subtract_last-found in let on = c.serve in
+    subst (λ (n : ℕ). Wakes n on.result.1 s.place.me.0.trail on.new.seat.place.me.0.trail) (ap (λ l. l.seats) c.requires.belongs.1)
+    (wakes_after s.limits.seats on.result.1 s.place.me.0.trail f.new.place.me.0.trail on.new.seat.place.me.0.trail (grants_none g.T.Kept.follows g.T.Kept.fits _ _ _ _ _ _ _ f.ensures.step.event refl ∙ grants_none g.T.Kept.follows g.T.Kept.fits _ _ _ _ _ _ _ h.ensures.step.1.event refl) on.ensures.wakes)
+
+pub returns-clause-wakes : goal.returns-clause-wakes
+returns-clause-wakes g c =
+    let s = c.args.seat.now in let h = c.store_held in let f = c.subtract_last-found in
+    wakes_none c.args.mutex.now.limits.seats s.place.me.0.trail f.new.place.me.0.trail (grants_none g.T.Kept.follows g.T.Kept.fits _ _ _ _ _ _ _ f.ensures.step.event refl ∙ grants_none g.T.Kept.follows g.T.Kept.fits _ _ _ _ _ _ _ h.ensures.step.1.event refl)

@@ -1,8 +1,11 @@
 use Rattle.std.proofs.Common.{◌+◌, ap, ◌∙◌, rules, arith, true≢false}
 use Rattle.lfm_protocol.specs.declared.kinds.Kind.{Kind}
+use Rattle.lfm_words.specs.declared.wakes.Wake.{Wake}
 use Rattle.lfm_words.specs.Words.{wake_word}
+use Rattle.lfm_table.specs.Grants.{owed}
 use Rattle.lfm_table.specs.Rule.{value_in}
 use Rattle.lfm_table.proofs.tables.ByKind.{by_kind}
+use Rattle.lfm_table.proofs.tables.Granted.{owed_there}
 use Rattle.lfm_table.proofs.table_steps.store_wake.Goals as goal
 
 pub store-requires : goal.store-requires
@@ -10,11 +13,9 @@ store-requires g c = (
   search rules,
   let r = c.requires.can.ready in let w = c.requires.can.wide in let t = c.target-t.ensures in let e = ap (λ t. t.words) c.requires.table in omega (arith, r.within, w, t, e),
   by_kind g.T.Kept.follows g.T.Kept.fits c.args.table.now.table_id.slots c.args.place.now.id c.args.place.now.me g.B.Plain.standing c.args.plain.now g.B.Plain.hand (value_in c.args.hand.now) c.args.number c.args.seats c.args.table.now.table_id.words
-      c.requires.plain.0 c.requires.plain.1 c.requires.can Kind.WakeStore c.requires.kind (3 + c.args.seats + c.target-t.result) (λ _. c.to_word-new.result) (λ _. c.to_word-new.result) (ap (λ t. 3 + c.args.seats + t) c.target-t.ensures) (λ n. c.to_word-new.ensures ∙ ap wake_word c.stored_wake.ensures) (λ n e. absurd (true≢false e)),
+      c.requires.plain.0 c.requires.plain.1 c.requires.can Kind.WakeStore c.requires.kind (3 + c.args.seats + c.target-t.result) (λ _. c.to_word-word.result) (λ _. c.to_word-word.result) (ap (λ t. 3 + c.args.seats + t) c.target-t.ensures) (λ n. c.to_word-word.ensures ∙ ap wake_word c.stored_wake-new.ensures) (λ n e. absurd (true≢false e)),
 )
 
-pub wake-requires-clause-inside : goal.wake-requires-clause-inside
-wake-requires-clause-inside g c κs within = let r = c.requires.can.ready in let w = c.requires.can.wide in let t = c.target-t.ensures in let e = ap (λ t. t.words) c.requires.table in omega (arith, r.within, w, t, e)
-
-pub wake-requires-clause-some : goal.wake-requires-clause-some
-wake-requires-clause-some g c κs within = let w = c.requires.can.wide in omega (arith, w)
+pub returns-clause-wakes : goal.returns-clause-wakes
+returns-clause-wakes g c =
+    c.owed.ensures ∙ (λ i. owed (c.stored_wake-new.ensures i) ((c.known.ensures ∙ c.target-t.ensures) i)) ∙ owed_there c.args.plain.now.point c.args.number

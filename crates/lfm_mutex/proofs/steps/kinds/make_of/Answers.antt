@@ -15,17 +15,17 @@ make_step-found-requires-clause-can g c κs within = let s = c.args.seat.now in
 
 pub settle-requires-clause-slot : goal.settle-requires-clause-slot
 settle-requires-clause-slot g c κs within = λ none carries. let s = c.args.seat.now in
-    slot_there g.T.Kept.follows g.T.Kept.fits s.number s.place.table_id.words s.place.id s.limits s.standing s.place.me s.moving s.seated s.became s.ready s.rooted c.make_step-found.result c.prepare.new.moving c.add_loaded.new.moving c.prepare.new.place.me c.make_step-found.new.place.me
+    slot_there g.T.Kept.follows g.T.Kept.fits s.number s.place.table_id.words s.place.id s.limits s.standing s.place.me s.moving s.seated s.became s.ready s.rooted c.make_step-found.result.0 c.prepare.new.moving c.add_loaded.new.moving c.prepare.new.place.me c.make_step-found.new.place.me
     (c.prepare.ensures.moving ∙ (λ i. kept_out (c.gives-may_give.ensures i) (c.drop_oldest.ensures i)))
     (c.prepare.ensures.slot ∙ (λ i. (s.place.me.0, put_in (c.gives-may_give.ensures i) (c.drop_oldest.ensures i) s.place.me.1)))
     c.make_step-found.ensures.step c.add_loaded.ensures none carries
 
 pub invariant_of-seat : goal.invariant_of-seat
 invariant_of-seat g c = let s = c.args.seat.now in
-    let m = made_next g.T.Kept.follows g.T.Kept.fits s.number s.place.table_id.words s.place.id s.limits s.standing s.place.me s.moving s.seated s.became s.ready s.rooted c.make_step-found.result c.gives-may_give.result c.drop_oldest.new.moving c.prepare.new.moving c.add_loaded.new.moving
-    c.settle.new.moving c.prepare.new.place.me c.make_step-found.new.place.me c.settle.new.place.me c.advance.new.standing c.advance.result c.oldest_of-oldest.result
+    let m = made_next g.T.Kept.follows g.T.Kept.fits s.number s.place.table_id.words s.place.id s.limits s.standing s.place.me s.moving s.seated s.became s.ready s.rooted c.make_step-found.result.0 c.gives-may_give.result c.drop_oldest.new.moving c.prepare.new.moving c.add_loaded.new.moving
+    c.settle.new.moving c.prepare.new.place.me c.make_step-found.new.place.me c.settle.new.place.me c.advance-turn.new.standing c.advance-turn.result c.oldest_of-oldest.result
     c.gives-may_give.ensures c.drop_oldest.ensures c.prepare.ensures.moving c.prepare.ensures.slot c.make_step-found.ensures.step c.add_loaded.ensures c.settle.ensures.took c.oldest_of-oldest.ensures
-    c.advance.ensures.seat c.advance.ensures.turn
+    c.advance-turn.ensures.seat c.advance-turn.ensures.turn
     in
     let t = c.settle.ensures.table.0 ∙ (c.make_step-found.ensures.table.0 ∙ c.prepare.ensures.table.0) in
     let d = c.settle.ensures.table.1 ∙ (c.make_step-found.ensures.table.1 ∙ c.prepare.ensures.table.1) in
@@ -38,8 +38,8 @@ invariant_of-seat g c = let s = c.args.seat.now in
 
 pub returns-clause-event : goal.returns-clause-event
 returns-clause-event g c = let s = c.args.seat.now in
-    let m = made_next g.T.Kept.follows g.T.Kept.fits s.number s.place.table_id.words s.place.id s.limits s.standing s.place.me s.moving s.seated s.became s.ready s.rooted c.make_step-found.result c.gives-may_give.result c.drop_oldest.new.moving c.prepare.new.moving c.add_loaded.new.moving
-    c.settle.new.moving c.prepare.new.place.me c.make_step-found.new.place.me c.settle.new.place.me c.advance.new.standing c.advance.result c.oldest_of-oldest.result
+    let m = made_next g.T.Kept.follows g.T.Kept.fits s.number s.place.table_id.words s.place.id s.limits s.standing s.place.me s.moving s.seated s.became s.ready s.rooted c.make_step-found.result.0 c.gives-may_give.result c.drop_oldest.new.moving c.prepare.new.moving c.add_loaded.new.moving
+    c.settle.new.moving c.prepare.new.place.me c.make_step-found.new.place.me c.settle.new.place.me c.advance-turn.new.standing c.advance-turn.result c.oldest_of-oldest.result
     c.gives-may_give.ensures c.drop_oldest.ensures c.prepare.ensures.moving c.prepare.ensures.slot c.make_step-found.ensures.step c.add_loaded.ensures c.settle.ensures.took c.oldest_of-oldest.ensures
-    c.advance.ensures.seat c.advance.ensures.turn
+    c.advance-turn.ensures.seat c.advance-turn.ensures.turn
     in m.event

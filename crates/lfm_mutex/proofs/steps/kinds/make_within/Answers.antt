@@ -3,10 +3,10 @@ use Rattle.std.proofs.lemmas.Bool.{false≢true}
 use Rattle.lfm_mutex.proofs.runs.OneStep.{steps_on, leaves_at, keeps_at}
 use Rattle.lfm_mutex.proofs.steps.kinds.make_within.Goals as goal
 
-pub make_of-requires-clause-leaves : goal.make_of-requires-clause-leaves
-make_of-requires-clause-leaves g c κs within = let s = c.args.seat.now in
+pub make_waking_none-requires-clause-leaves : goal.make_waking_none-requires-clause-leaves
+make_waking_none-requires-clause-leaves g c κs within = let s = c.args.seat.now in
     leaves_at g.T.Kept.follows g.T.Kept.fits s.number s.limits s.standing s.place.me s.moving s.seated (λ ends. absurd (false≢true (sym (keeps_at c.args.kind s.standing.point c.requires.is_next c.requires.keeps) ∙ ends)))
 
 pub returns-clause-steps : goal.returns-clause-steps
-returns-clause-steps g c = let s = c.args.seat.now in let b = c.make_of.new.seat in
-    steps_on g.T.Kept.follows g.T.Kept.fits (Some c.args.kind) s.number b.number s.limits s.standing b.standing s.place.me b.place.me s.moving b.moving c.make_of.result s.seated c.make_of.ensures.same.0 c.requires.is_next c.make_of.ensures.event
+returns-clause-steps g c = let s = c.args.seat.now in let b = c.make_waking_none.new.seat in
+    steps_on g.T.Kept.follows g.T.Kept.fits (Some c.args.kind) s.number b.number s.limits s.standing b.standing s.place.me b.place.me s.moving b.moving c.make_waking_none.result s.seated c.make_waking_none.ensures.same.0 c.requires.is_next c.make_waking_none.ensures.event

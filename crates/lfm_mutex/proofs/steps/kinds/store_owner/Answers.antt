@@ -3,12 +3,12 @@ use Rattle.lfm_protocol.specs.declared.kinds.Kind.{Kind}
 use Rattle.lfm_mutex.proofs.runs.OneStep.{steps_on, leaves_at}
 use Rattle.lfm_mutex.proofs.steps.kinds.store_owner.Goals as goal
 
-pub make_of-requires-clause-leaves : goal.make_of-requires-clause-leaves
-make_of-requires-clause-leaves g c κs within = let s = c.args.seat.now in leaves_at g.T.Kept.follows g.T.Kept.fits s.number s.limits s.standing s.place.me s.moving s.seated c.requires.leaves
+pub make_waking_none-requires-clause-leaves : goal.make_waking_none-requires-clause-leaves
+make_waking_none-requires-clause-leaves g c κs within = let s = c.args.seat.now in leaves_at g.T.Kept.follows g.T.Kept.fits s.number s.limits s.standing s.place.me s.moving s.seated c.requires.leaves
 
 pub returns-clause-steps : goal.returns-clause-steps
-returns-clause-steps g c = let s = c.args.seat.now in let b = c.make_of.new.seat in
-    steps_on g.T.Kept.follows g.T.Kept.fits (Some Kind.OwnerStore) s.number b.number s.limits s.standing b.standing s.place.me b.place.me s.moving b.moving c.make_of.result s.seated c.make_of.ensures.same.0 c.requires.is_next c.make_of.ensures.event
+returns-clause-steps g c = let s = c.args.seat.now in let b = c.make_waking_none.new.seat in
+    steps_on g.T.Kept.follows g.T.Kept.fits (Some Kind.OwnerStore) s.number b.number s.limits s.standing b.standing s.place.me b.place.me s.moving b.moving c.make_waking_none.result s.seated c.make_waking_none.ensures.same.0 c.requires.is_next c.make_waking_none.ensures.event
 
-pub make_of-requires-clause-is_next : goal.make_of-requires-clause-is_next
-make_of-requires-clause-is_next g c κs within = c.requires.is_next
+pub make_waking_none-requires-clause-is_next : goal.make_waking_none-requires-clause-is_next
+make_waking_none-requires-clause-is_next g c κs within = c.requires.is_next

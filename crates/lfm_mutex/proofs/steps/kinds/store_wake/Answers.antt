@@ -1,5 +1,20 @@
-use Rattle.std.proofs.Common.{refl}
+use Rattle.std.proofs.Common.{rules, ℕ, ◌≤◌, ◌∙◌, sym, ap, subst, refl, Some}
+use Rattle.std.proofs.lemmas.Bool.{false≢true}
+use Rattle.lfm_protocol.specs.declared.kinds.Kind.{Kind}
+use Rattle.lfm_mutex.proofs.runs.OneStep.{steps_on, leaves_at, keeps_at}
+use Rattle.lfm_mutex.proofs.runs.WakeUps.{within_of}
 use Rattle.lfm_mutex.proofs.steps.kinds.store_wake.Goals as goal
 
+pub make_of-turn-requires-clause-leaves : goal.make_of-turn-requires-clause-leaves
+make_of-turn-requires-clause-leaves g c κs within = let s = c.args.seat.now in
+    leaves_at g.T.Kept.follows g.T.Kept.fits s.number s.limits s.standing s.place.me s.moving s.seated (λ ends. absurd (false≢true (sym (keeps_at Kind.WakeStore s.standing.point c.requires.is_next refl) ∙ ends)))
+
+pub wake-requires : goal.wake-requires
+wake-requires g c = let s = c.args.seat.now in (
+  search rules,
+  λ t some. subst (λ (n : ℕ). t ≤ n) (ap (λ l. l.seats) c.requires.belongs.1) (within_of s.standing.point s.number t s.limits.seats (sym c.make_of-turn.ensures.wakes ∙ some) s.ready.within),
+)
+
 pub returns-clause-steps : goal.returns-clause-steps
-returns-clause-steps g c = search refl
+returns-clause-steps g c = let s = c.args.seat.now in let f = c.make_of-turn in let b = f.new.seat in
+    steps_on g.T.Kept.follows g.T.Kept.fits (Some Kind.WakeStore) s.number b.number s.limits s.standing b.standing s.place.me b.place.me s.moving b.moving f.result.0 s.seated f.ensures.same.0 c.requires.is_next f.ensures.event

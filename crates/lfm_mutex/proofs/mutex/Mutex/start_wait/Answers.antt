@@ -1,7 +1,0 @@
-use Rattle.lfm_mutex.proofs.mutex.Mutex.start_wait.Goals as goal
-
-pub returns-in-Ended-Waiting-clause-waits : goal.returns-in-Ended-Waiting-clause-waits
-returns-in-Ended-Waiting-clause-waits g c = rw c.in-Ended-Waiting.field-0-is at c.in-Ended-Waiting.ensures.turned
-
-pub returns-in-Ended-Waiting-clause-steps : goal.returns-in-Ended-Waiting-clause-steps
-returns-in-Ended-Waiting-clause-steps g c = rw c.in-Ended-Waiting.field-0-is at c.in-Ended-Waiting.ensures.made

@@ -1,0 +1,43 @@
+//! How the thread of a seat that sleeps parks on the seat's wake word, and how it is woken. Neither changes a word.
+//!
+//! No grant is missed. A thread parks only where it has loaded a word that is no grant, and it sleeps only while the low 32
+//! bits of the word are the ones that it loaded. In these bits a grant differs from every other state, so one that is stored
+//! before the thread sleeps keeps it awake. One that is stored later leaves a wake-up, which can't be let go and ends in
+//! `wake`. That the system then does what it is called for is not proved.
+ghost use Rattle.std.specs.Prelude.{◌≡◌, ◌+◌, ◌*◌, ◌<◌, ◌≤◌};
+ghost use Rattle.lfm_protocol.specs.Limits.{max_seats};
+ghost use Rattle.lfm_table.specs.Grants.{GrantsDifferInTheirLowBits};
+
+use crate::kept::Kept;
+use crate::table_steps::SharedTable;
+use crate::wake_up::WakeUp;
+use std::sync::Wait;
+
+/// The least word that is a grant. Those below it are quiet, waiting and claimed.
+pub const FIRST_GRANT: u64 = 3;
+
+/// Wakes the thread that parks on the wake word of the seat that was granted, if one does. It is one call of the system.
+pub fn wake<T: Kept>(table: &SharedTable<T>, seats: u64, wake_up: WakeUp)
+    requires few { seats ≤ max_seats }
+    requires wide { 4 + 2 * seats ≡ table.now.table_id.words }
+    requires inside { wake_up ≤ seats }
+{
+    let seat = wake_up.into_seat().get();
+    table.wake_one(3 + seats as usize + seat as usize);
+}
+
+/// Parks on this wake word where it is no grant, until a wake-up. It may also return for no reason.
+pub fn park<T: Kept, R: Wait>(rt: &R, table: &SharedTable<T>, word: usize)
+    requires inside { word < table.now.table_id.words }
+{
+    let seen = table.peek(word);
+    if seen < FIRST_GRANT {
+        table.park(rt, word, seen as u32);
+    }
+}
+
+/// A grant differs in its low 32 bits from every other state of a wake word. So a thread that has loaded another state does
+/// not sleep on a word that has become a grant since.
+pub fn grants_differ_in_their_low_bits()
+    ensures { GrantsDifferInTheirLowBits }
+{}

@@ -1,0 +1,63 @@
+//! The wake-up that the store of a grant leaves to be made. It can't be let go: whoever has it wakes the seat, or hands it on.
+ghost use Rattle.std.specs.Prelude.{◌≡◌, None};
+ghost use Rattle.lfm_table.specs.Grants.{owed};
+
+use lfm_model::SeatNo;
+use lfm_words::Wake;
+use std::marker::Model;
+
+/// That a seat was granted the mutex, and is still to be woken. Only the step that stores a grant makes one. A contract sees
+/// the number of the seat.
+///
+/// The type has no `Drop`, so a wake-up has to be moved on wherever it is: to `parking::wake`, or to a caller. A path that
+/// forgets it does not compile.
+///
+/// ```
+/// let (found, wake_up) = store_wake::<T, B>(table, place, plain, hand, number, seats);
+/// match wake_up {
+///     Some(wake_up) => wake(table, seats, wake_up),
+///     None => {}
+/// }
+/// ```
+pub struct WakeUp {
+    seat: SeatNo,
+}
+
+impl Model for WakeUp {
+    ghost use Rattle.std.specs.Prelude.{ℕ};
+
+    ghost Value = { ℕ };
+
+    ghost view = { λ w. w.seat };
+}
+
+impl WakeUp {
+    // What the store of this state in the wake word of this seat leaves to be made: a wake-up where it was a grant.
+    pub(crate) fn owed(stored: Wake, seat: SeatNo) -> Option<WakeUp>
+        ensures { result ≡ owed stored seat }
+    {
+        match stored {
+            Wake::Grant(_) => Some(WakeUp { seat }),
+            _ => None,
+        }
+    }
+
+    /// Takes what a step has handed out that granted nothing.
+    pub fn expect_none(wake_up: Option<WakeUp>)
+        requires { wake_up ≡ None }
+    {
+        match wake_up {
+            None => {}
+            Some(_wake_up) => unreachable!(),
+        }
+    }
+
+    /// The number of the seat that is to be woken. From here on nothing sees to it that the seat is woken: it is for callers
+    /// that wake threads by means of their own.
+    pub fn into_seat(self) -> SeatNo
+        ensures { result ≡ self }
+    {
+        let WakeUp { seat } = self;
+        seat
+    }
+}

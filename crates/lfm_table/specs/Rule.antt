@@ -272,7 +272,7 @@ module _ {T : Type 0} (follows : ℕ → T → T → Type 0) (suits : T → ℕ 
   Hands true false q a popped m m' = m'.1 ≡ []
   Hands true true q a popped m m' = (m'.1 ≡ m.1) × (m'.0.found ≡ left_by q a m.0.found)
 
-  -- what a carrier at depth 0 knows of the value, and of its own last hold: no later one has ended, or the value is what it left
+  -- what a carrier at depth 0 knows of the value: where no later hold has ended than its own last one, it is what it left then
   abbrev pub Knows : View T → Type 0
   Knows v =
       (y : T) → v.found ≡ Some y → suits y v.answered × ((l : T) → v.last ≡ Some l → Reached follows v.limits.seats v.number l y) × (v.ended ≤ v.holds_ended) × (v.ended ≡ v.holds_ended → v.last ≡ Some y)

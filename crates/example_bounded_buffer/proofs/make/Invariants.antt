@@ -1,6 +1,0 @@
-use Rattle.lfm_monitor.specs.Belongs.{OfMonitor}
-use Rattle.example_bounded_buffer.proofs.make.Given as goal
-
--- the pass stays one of the monitor's
-abbrev pub invariant-tries : goal.invariant-tries
-invariant-tries g l = OfMonitor l.pass l.monitor

@@ -1,0 +1,98 @@
+//! Four threads send numbers through a channel, and a fifth receives them until all senders have closed their ends. A monitor
+//! guards the channel. Who finds it full, or empty, waits on a condition until another thread wakes it.
+#![tactic(auto)]
+
+mod channel;
+
+use crate::channel::{Channel, ChannelOp, ChannelReply};
+use anyhow::bail;
+use lfm_model::{Refusal, lawful, replay};
+use lfm_monitor::{CriticalSection, Monitor, Pass};
+use std::ops::ControlFlow;
+use std::sync::Wait;
+
+/// How many threads send. The thread with the pass after theirs receives.
+const SENDERS: u64 = 4;
+
+/// How many numbers each of them sends: together they send 1, 2, 3 and on, each number once.
+const NUMBERS: u64 = 250;
+
+/// How many rounds a thread makes at most: the receiver one for each number, and one that finds the end.
+const ROUNDS: u64 = 1_001;
+
+/// How many entries of the journal a thread may write. A round costs it two, a take and an op, and so does each wait. A wait
+/// ends by a wake, and each condition has one for each number and each close. So 5,000 are enough, even for a thread that gets
+/// all the wakes of its condition.
+const ENTRIES: u64 = 5_000;
+
+/// The conditions of the monitor: on the first one waits who found the channel empty, on the second who found it full.
+const NOT_EMPTY: u64 = 1;
+
+const NOT_FULL: u64 = 2;
+
+/// What a thread does by the number of its pass: passes 1 to 4 send, and pass 5 receives.
+struct Roles;
+
+impl<R: Wait> CriticalSection<Channel, R> for Roles {
+    type Answer = ControlFlow<()>;
+
+    fn execute(
+        &self,
+        rt: &R,
+        monitor: &Monitor<Channel>,
+        pass: &mut Pass<Channel>,
+        round: u64,
+    ) -> Result<ControlFlow<()>, Refusal> {
+        let sender = pass.number().get();
+        if sender > SENDERS {
+            let reply = monitor.apply_until(rt, pass, NOT_EMPTY, ChannelOp::Receive, |reply| {
+                *reply != ChannelReply::Empty
+            })?;
+            if reply == ChannelReply::Ended {
+                return Ok(ControlFlow::Break(()));
+            }
+            monitor.wake_one(rt, pass, NOT_FULL)?;
+            return Ok(ControlFlow::Continue(()));
+        }
+        if round == NUMBERS {
+            monitor.apply(pass, ChannelOp::Close)?;
+            monitor.wake_one(rt, pass, NOT_EMPTY)?;
+            return Ok(ControlFlow::Break(()));
+        }
+        let send = ChannelOp::Send(round.wrapping_mul(SENDERS).wrapping_add(sender));
+        monitor.apply_until(rt, pass, NOT_FULL, send, |reply| *reply != ChannelReply::Full)?;
+        monitor.wake_one(rt, pass, NOT_EMPTY)?;
+        Ok(ControlFlow::Continue(()))
+    }
+}
+
+/// How many numbers were received, and their sum.
+fn received(replies: &[ChannelReply]) -> (u64, u64) {
+    let mut count = 0u64;
+    let mut sum = 0u64;
+    for reply in replies {
+        if let ChannelReply::Received(number) = reply {
+            count = count.wrapping_add(1);
+            sum = sum.wrapping_add(*number);
+        }
+    }
+    (count, sum)
+}
+
+fn main(rt: HostRuntime) -> anyhow::Result<()> {
+    // a monitor with a pass for each thread, each of which may write so many entries, and two conditions, round the channel
+    let channel = Channel::new(SENDERS);
+    let (monitor, passes) = Monitor::new(rt.alloc(), SENDERS + 1, ENTRIES, 2, channel)?;
+    let Ok(passes) = monitor.run(&rt, passes, ROUNDS, &Roles) else {
+        bail!("a thread could not be started");
+    };
+    let Ok((_, journal)) = monitor.close(passes) else {
+        bail!("a pass still holds the monitor");
+    };
+    // the journal has all that was done under the monitor, in order: made again, it gives the same replies
+    let (_, replies) = replay(rt.alloc(), Channel::new(SENDERS), &journal)?;
+    let (count, sum) = received(&replies);
+    println!(rt; "{count} numbers were received, and their sum is {sum}")?;
+    println!(rt; "lawful: {}", lawful(&journal))?;
+    Ok(())
+}

@@ -11,6 +11,7 @@ ghost use Rattle.lfm_protocol.specs.Seats.{seat, is_seat};
 ghost use Rattle.lfm_protocol.specs.Step.{begin, step, start};
 ghost use Rattle.lfm_words.specs.Popped.{pair_of};
 
+mod debug;
 mod words;
 
 use lfm_model::{NewFault, Place, SeatNo};

@@ -1,0 +1,18 @@
+//! A state as text, for who looks for a fault.
+
+use crate::stepped::State;
+use std::fmt::{Debug, Formatter, Result, Write};
+
+/// What the state tells of its words. What it tells of each seat, its readers say.
+impl Debug for State {
+    fn fmt<W: Write>(&self, f: &mut Formatter<W>) -> Result {
+        f.debug_struct("State")
+            .field("seats", &self.seats())
+            .field("count", &self.count())
+            .field("owner", &self.owner())
+            .field("handoff", &self.handoff())
+            .field("place", &self.place())
+            .field("queue_len", &self.queue_len())
+            .finish_non_exhaustive()
+    }
+}

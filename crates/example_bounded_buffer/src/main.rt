@@ -42,7 +42,13 @@ impl<R: Wait> CriticalSection<Buffer, R> for Roles {
             monitor.wake_one(rt, pass, NOT_EMPTY)?;
         } else {
             let take = BufferOp::Take;
-            monitor.apply_until(rt, pass, NOT_EMPTY, take, |reply| *reply != BufferReply::Empty)?;
+            monitor.apply_until(
+                rt,
+                pass,
+                NOT_EMPTY,
+                take,
+                |reply| *reply != BufferReply::Empty,
+            )?;
             monitor.wake_one(rt, pass, NOT_FULL)?;
         }
         Ok(ControlFlow::Continue(()))

@@ -60,7 +60,13 @@ impl<R: Wait> CriticalSection<Channel, R> for Roles {
             return Ok(ControlFlow::Break(()));
         }
         let send = ChannelOp::Send(round.wrapping_mul(SENDERS).wrapping_add(sender));
-        monitor.apply_until(rt, pass, NOT_FULL, send, |reply| *reply != ChannelReply::Full)?;
+        monitor.apply_until(
+            rt,
+            pass,
+            NOT_FULL,
+            send,
+            |reply| *reply != ChannelReply::Full,
+        )?;
         monitor.wake_one(rt, pass, NOT_EMPTY)?;
         Ok(ControlFlow::Continue(()))
     }

@@ -31,4 +31,4 @@ pub returns-in_err-_waited-clause-waits : goal.returns-in_err-_waited-clause-wai
 returns-in_err-_waited-clause-waits g c = let i = c.waits.invariant in let e = c.in_err-_waited.ensures in let user = limits_of c.args.mutex.now in let own = cond_limits c.args.self.now in let s = sight c.waits.seat in
     let says = (λ (v : _) (b : _). FnReturnsAt g.F.Fn c.args.condition v b) in let must : c.must_wait.result ≡ true = cc in
     handed_on (λ (q : Result _ Refusal). WaitWhileEnds g.T.Kept.follows g.T.Kept.fits user own says (cond_sight c.args.cond.now) (cond_sight c.wait.new.cond) (sight c.args.seat.now) (sight c.wait.new.seat) q) _ _ c.from_residual.ensures.1
-        (i.waits.0, (cond_sight c.waits.cond), s, i.waits.1, if_true c.must_wait.result (WouldWait says s) (NeedNotWait says s) must c.must_wait.ensures, e.waits)
+    (i.waits.0, (cond_sight c.waits.cond), s, i.waits.1, if_true c.must_wait.result (WouldWait says s) (NeedNotWait says s) must c.must_wait.ensures, e.waits)

@@ -6,3 +6,4 @@ pub mod TableEvents
 pub mod TableStates
 pub mod Lists
 mod SectionEnds
+mod RoundEnds

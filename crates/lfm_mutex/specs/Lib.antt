@@ -1,9 +1,11 @@
 pub mod calls
+pub mod AllSeats
 pub mod Belongs
 pub mod Close
 pub mod EndedHolds
 pub mod Fresh
 pub mod Laws
+pub mod Rounds
 pub mod ValueMut
 pub mod TableEvents
 pub mod TableStates

@@ -5,6 +5,7 @@
 
 mod calls;
 mod close;
+mod debug;
 pub mod holder;
 pub mod laws;
 mod lock;
@@ -14,6 +15,7 @@ mod owner;
 mod pace;
 mod queue;
 mod receive;
+mod rounds;
 pub mod seat;
 mod sections;
 mod send;
@@ -27,6 +29,7 @@ mod wake;
 
 pub use holder::Holder;
 pub use lfm_table::{Kept, WakeUp};
+pub use lfm_threads::{NotStarted, StartFault};
 pub use mutex::Mutex;
 pub use pace::{LOOKS_BEFORE_SLEEP, Pace};
 pub use seat::Seat;

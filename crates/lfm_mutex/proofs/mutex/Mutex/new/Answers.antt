@@ -86,3 +86,6 @@ returns-clause-seats g c = let v = c.loop-i.invariant in let l : Limits = record
 
 pub loop-i-init : goal.loop-i-init
 loop-i-init g c = search rules
+
+pub returns-clause-belongs : goal.returns-clause-belongs
+returns-clause-belongs g c = λ j s at. ((returns-clause-seats g c).1 j s at).0

@@ -1,0 +1,12 @@
+use Rattle.std.proofs.Common.{subst}
+use Rattle.lfm_mutex.specs.Belongs.{OfMutex}
+use Rattle.lfm_mutex.specs.Rounds.{HasRounded}
+use Rattle.lfm_mutex.proofs.RoundEnds.{if_ok}
+use Rattle.lfm_mutex.proofs.mutex.Mutex.run.Goals as goal
+
+pub returns-clause-rounds : goal.returns-clause-rounds
+returns-clause-rounds g c = if_ok _ _ c.share.result (λ v gives j t at. let x = gives j t at in
+    (x.0, x.1, subst (λ m. HasRounded g.F.Fn c.args.f.now c.args.rounds m x.0 t) x.2.shows x.2.met)) c.share.ensures.gives
+
+pub returns-clause-belongs : goal.returns-clause-belongs
+returns-clause-belongs g c = if_ok _ _ c.share.result (λ v gives j t at. let x = gives j t at in subst (λ m. OfMutex t m) x.2.shows x.2.met.0) c.share.ensures.gives

@@ -1,0 +1,9 @@
+use Rattle.lfm_mutex.specs.Belongs.{OfMutex}
+use Rattle.lfm_mutex.specs.calls.Sections.{StandsAs}
+use Rattle.lfm_mutex.specs.calls.Sight.{sight}
+use Rattle.lfm_mutex.specs.Rounds.{RoundsLead}
+use Rattle.lfm_mutex.proofs.rounds.make_rounds.Given as goal
+
+-- the seat stays one of the mutex's and stands as before, and all rounds so far have made it what it is
+abbrev pub invariant-rounds : goal.invariant-rounds
+invariant-rounds g l = OfMutex l.seat l.mutex × StandsAs (sight l.fn.seat) (sight l.seat) × RoundsLead g.F.Fn l.f l.round l.fn.seat l.seat

@@ -1,2 +1,2 @@
 pub mod Broadcasts
-pub mod Medians
+pub mod Quartiles

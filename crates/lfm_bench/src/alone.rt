@@ -5,21 +5,32 @@ ghost use mathlib.Core.Option.{some};
 ghost use lib.ListN.{get_elem?};
 
 use crate::measure::{Mode, Plan, Row, Steps, bare_table, print_head};
-use crate::peers::ours::{BUDGET, User, last_user, no_seat};
-use crate::workloads::{handoffs, hits, misses, pairs, recursive};
+use crate::peers::ours::{User, last_user, new_mutex, no_seat};
+use crate::workloads::{handoffs, hits, looks, misses, pairs, recursive};
 use lfm_mutex::{Mutex, Seat};
-use std::alloc::{AllocError, Global};
+use std::alloc::Global;
 use std::io;
 use std::sync::Wait;
-use std::time::CpuClock;
+use std::thread::Threads;
+use std::time::{Clock, CpuClock, Duration};
+
+/// There are fewer looks than calls in a round, since a look has pauses.
+const CALLS_OF_LOOK: u64 = 10;
+
+/// The seat that looks is granted the mutex after so many times the time of its bare looks, and this while in nanoseconds, which
+/// covers the start of a thread.
+const LOOKING: u64 = 8;
+
+const STARTING: u64 = 1_000_000;
 
 /// Measures the rows of one thread, and prints them.
-pub fn measure<R: Wait + CpuClock + AllocGlobal + Print>(rt: &R, plan: Plan) -> io::Result<()> {
+pub fn measure<R: Threads + Sync + Wait + Clock + CpuClock + AllocGlobal + Print>(
+    rt: &R,
+    plan: Plan,
+) -> io::Result<()> {
     let mut alone = Alone::new(rt.alloc());
-    match Mutex::new(rt.alloc(), 2, BUDGET, 0u64) {
-        Ok((mutex, seats)) => alone.rounds(rt, plan, &mutex, seats)?,
-        Err(_) => return Err(AllocError.into()),
-    }
+    let (mutex, seats) = new_mutex(rt, 2)?;
+    alone.rounds(rt, plan, &mutex, seats)?;
     alone.print(rt, plan.mode)
 }
 
@@ -40,6 +51,7 @@ struct Alone {
     hits: Row,
     misses: Row,
     handoffs: Row,
+    looks: Row,
 }
 
 impl Alone {
@@ -50,12 +62,13 @@ impl Alone {
             recursive: Row::new(alloc, "recursive lock and unlock"),
             hits: Row::new(alloc, "try_lock hit and unlock"),
             misses: Row::new(alloc, "try_lock miss"),
-            handoffs: Row::new(alloc, "hand-off, there and back"),
+            handoffs: Row::new(alloc, "hand-off by one thread"),
+            looks: Row::new(alloc, "a look"),
         }
     }
 
     /// Makes all rounds, over a mutex of two seats.
-    fn rounds<R: Wait + CpuClock + AllocGlobal>(
+    fn rounds<R: Threads + Sync + Wait + Clock + CpuClock + AllocGlobal>(
         &mut self,
         rt: &R,
         plan: Plan,
@@ -80,7 +93,7 @@ impl Alone {
     }
 
     /// Makes all rounds of these peers.
-    fn rounds_of<R: Wait + CpuClock>(
+    fn rounds_of<R: Threads + Sync + Wait + Clock + CpuClock + AllocGlobal>(
         &mut self,
         rt: &R,
         plan: Plan,
@@ -93,7 +106,7 @@ impl Alone {
     }
 
     /// Measures each row once, with so many calls.
-    fn round<R: Wait + CpuClock>(
+    fn round<R: Threads + Sync + Wait + Clock + CpuClock + AllocGlobal>(
         &mut self,
         rt: &R,
         peers: &mut Peers,
@@ -103,7 +116,8 @@ impl Alone {
         round_of_recursive(rt, &mut self.recursive, peers, calls)?;
         round_of_hits(rt, &mut self.hits, peers, calls)?;
         round_of_misses(rt, &mut self.misses, peers, calls)?;
-        round_of_handoffs(rt, &mut self.handoffs, peers, calls)
+        round_of_handoffs(rt, &mut self.handoffs, peers, calls)?;
+        round_of_looks(rt, &mut self.looks, peers, calls / CALLS_OF_LOOK)
     }
 
     /// Prints the rows.
@@ -115,12 +129,13 @@ impl Alone {
     }
 
     fn print_times<R: Print + AllocGlobal>(&mut self, rt: &R) -> io::Result<()> {
-        print_head(rt)?;
+        print_head(rt, "nanoseconds a call", &Row::TITLES)?;
         self.pairs.print(rt)?;
         self.recursive.print(rt)?;
         self.hits.print(rt)?;
         self.misses.print(rt)?;
-        self.handoffs.print(rt)
+        self.handoffs.print(rt)?;
+        self.looks.print(rt)
     }
 
     fn print_checks<R: Print>(&self, rt: &R) -> io::Result<()> {
@@ -128,7 +143,8 @@ impl Alone {
         self.recursive.print_check(rt)?;
         self.hits.print_check(rt)?;
         self.misses.print_check(rt)?;
-        self.handoffs.print_check(rt)
+        self.handoffs.print_check(rt)?;
+        self.looks.print_check(rt)
     }
 }
 
@@ -190,5 +206,20 @@ fn round_of_handoffs<R: Wait + CpuClock>(
 ) -> io::Result<()> {
     row.ours.add(handoffs::ours(rt, &mut peers.user, &mut peers.other, calls)?)?;
     row.bare.add(handoffs::bare(rt, &mut peers.steps, calls)?)?;
+    Ok(())
+}
+
+fn round_of_looks<R: Threads + Sync + Wait + Clock + CpuClock + AllocGlobal>(
+    rt: &R,
+    row: &mut Row,
+    peers: &mut Peers,
+    looks: u64,
+) -> io::Result<()> {
+    let looks = u32::try_from(looks).unwrap_or(u32::MAX);
+    let bare = looks::bare(rt, &mut peers.steps, looks)?;
+    let longest = bare.nanoseconds.saturating_mul(LOOKING);
+    let longest = Duration::from_nanos(longest.saturating_add(STARTING));
+    row.ours.add(looks::ours(rt, looks, longest)?)?;
+    row.bare.add(bare)?;
     Ok(())
 }

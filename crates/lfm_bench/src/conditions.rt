@@ -1,6 +1,6 @@
 //! The measurements of condition variables.
 
-use crate::measure::{Figures, Mode, Plan, nanoseconds_text, ratio_text, verdict};
+use crate::measure::{Figures, Line, Mode, Plan, print_head, print_verdict};
 use crate::workloads::broadcast::Load;
 use crate::workloads::{broadcast, ping_pong};
 use std::alloc::Global;
@@ -40,6 +40,9 @@ struct ConditionRow {
 }
 
 impl ConditionRow {
+    /// The titles of the cells.
+    const TITLES: [&'static str; 5] = ["ours", "spread", "std", "spread", "ratio"];
+
     fn new(alloc: Global, name: &'static str) -> ConditionRow {
         ConditionRow {
             name,
@@ -49,33 +52,19 @@ impl ConditionRow {
     }
 
     fn print<R: Print + AllocGlobal>(&mut self, rt: &R) -> io::Result<()> {
-        let alloc: Global = rt.alloc();
-        let ours = self.ours.cost();
-        let standard = self.standard.cost();
-        print_cells(
-            rt,
-            self.name,
-            &nanoseconds_text(alloc, ours)?,
-            &nanoseconds_text(alloc, standard)?,
-            &ratio_text(alloc, ours, standard)?,
-        )
+        let ours = self.ours.costs();
+        let standard = self.standard.costs();
+        let mut line = Line::new(rt.alloc(), self.name)?;
+        line.add_costs(ours)?;
+        line.add_costs(standard)?;
+        line.add_ratio(ours, standard)?;
+        line.print(rt)
     }
 
     fn print_check<R: Print>(&self, rt: &R) -> io::Result<()> {
-        let name = self.name;
-        let word = verdict(self.ours.is_exact() && self.standard.is_exact());
-        println!(rt; "{name}: {word}")
+        let exact = self.ours.is_exact() && self.standard.is_exact();
+        print_verdict(rt, self.name, exact)
     }
-}
-
-fn print_cells<R: Print>(
-    rt: &R,
-    name: &str,
-    ours: &str,
-    standard: &str,
-    ratio: &str,
-) -> io::Result<()> {
-    println!(rt; "{name:<26} {ours:>9} {standard:>9} {ratio:>7}")
 }
 
 /// The rows of condition variables.
@@ -118,7 +107,7 @@ impl Conditions {
     }
 
     fn print_times<R: Print + AllocGlobal>(&mut self, rt: &R) -> io::Result<()> {
-        print_cells(rt, "nanoseconds", "ours", "std", "ratio")?;
+        print_head(rt, "nanoseconds", &ConditionRow::TITLES)?;
         self.ping_pong.print(rt)?;
         self.to_few.print(rt)?;
         self.to_many.print(rt)

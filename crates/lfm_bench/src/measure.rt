@@ -13,9 +13,9 @@ mod table;
 pub mod wall_clock;
 
 pub use bare::{Steps, bare_table};
-pub use busy::{Busy, Pace};
+pub use busy::{Busy, StepTime};
 pub use contests::{Contest, Turns};
 pub use figures::{Figures, Sample, Series, Stopwatch};
 pub use gate::Gate;
 pub use plan::{Mode, Plan};
-pub use table::{Row, nanoseconds_text, print_head, ratio_text, times_text, verdict};
+pub use table::{Line, Row, print_head, print_verdict};

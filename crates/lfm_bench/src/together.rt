@@ -1,7 +1,7 @@
 //! The measurements of several threads.
 
 use crate::measure::{
-    Contest, Figures, Mode, Pace, Plan, Series, nanoseconds_text, ratio_text, times_text, verdict,
+    Contest, Figures, Line, Mode, Plan, Series, StepTime, print_head, print_verdict,
 };
 use crate::workloads::contended::{Load, ours, standard};
 use std::alloc::{AllocError, Global};
@@ -15,9 +15,9 @@ pub fn measure<R: Threads + Sync + Wait + Clock + CpuClock + AllocGlobal + Print
     rt: &R,
     plan: Plan,
 ) -> io::Result<()> {
-    let pace = Pace::measure(rt)?;
+    let step = StepTime::measure(rt)?;
     let window = Duration::from_millis(plan.milliseconds);
-    let mut together = Together::new(rt.alloc(), pace, window)?;
+    let mut together = Together::new(rt.alloc(), step, window)?;
     for _ in 0..plan.rounds {
         together.round(rt)?;
     }
@@ -36,7 +36,7 @@ struct Shape {
 }
 
 /// The rows, in the order in which they are measured.
-const SHAPES: [Shape; 6] = [
+const SHAPES: [Shape; 9] = [
     Shape {
         name: "2 threads, short",
         threads: 2,
@@ -46,6 +46,12 @@ const SHAPES: [Shape; 6] = [
     Shape {
         name: "4 threads, short",
         threads: 4,
+        inside: 0,
+        outside: 0,
+    },
+    Shape {
+        name: "8 threads, short",
+        threads: 8,
         inside: 0,
         outside: 0,
     },
@@ -62,6 +68,12 @@ const SHAPES: [Shape; 6] = [
         outside: 0,
     },
     Shape {
+        name: "8 threads, long",
+        threads: 8,
+        inside: 500,
+        outside: 0,
+    },
+    Shape {
         name: "2 threads, thinking",
         threads: 2,
         inside: 0,
@@ -70,6 +82,12 @@ const SHAPES: [Shape; 6] = [
     Shape {
         name: "4 threads, thinking",
         threads: 4,
+        inside: 0,
+        outside: 1_000,
+    },
+    Shape {
+        name: "8 threads, thinking",
+        threads: 8,
         inside: 0,
         outside: 1_000,
     },
@@ -94,9 +112,16 @@ impl Contests {
         self.figures.add(contest.sample)?;
         self.fairness.add(contest.fairness)
     }
+
+    /// The median of the most acquisitions of a thread, in hundredths of the fewest. 0 where there was no contest.
+    fn fairness(&mut self) -> u64 {
+        self.fairness
+            .quartiles()
+            .map_or(0, |quartiles| quartiles.median)
+    }
 }
 
-/// A row of several threads.
+/// A row of several threads. It has no bare steps, since what several threads do is no fixed chain of them.
 #[derive(Drop)]
 struct SharedRow {
     name: &'static str,
@@ -106,13 +131,18 @@ struct SharedRow {
 }
 
 impl SharedRow {
-    fn new(alloc: Global, shape: Shape, pace: Pace, window: Duration) -> SharedRow {
+    /// The titles of the cells. Fairness is the most acquisitions of a thread over the fewest.
+    const TITLES: [&'static str; 7] = [
+        "ours", "spread", "fairness", "std", "spread", "fairness", "ratio",
+    ];
+
+    fn new(alloc: Global, shape: Shape, step: StepTime, window: Duration) -> SharedRow {
         SharedRow {
             name: shape.name,
             load: Load {
                 threads: shape.threads,
-                inside: pace.steps(shape.inside),
-                outside: pace.steps(shape.outside),
+                inside: step.steps(shape.inside),
+                outside: step.steps(shape.outside),
                 window,
             },
             ours: Contests::new(alloc),
@@ -127,39 +157,21 @@ impl SharedRow {
     }
 
     fn print<R: Print + AllocGlobal>(&mut self, rt: &R) -> io::Result<()> {
-        let alloc: Global = rt.alloc();
-        let ours = self.ours.figures.cost();
-        let standard = self.standard.figures.cost();
-        print_cells(
-            rt,
-            self.name,
-            &nanoseconds_text(alloc, ours)?,
-            &nanoseconds_text(alloc, standard)?,
-            &ratio_text(alloc, ours, standard)?,
-            &times_text(alloc, self.ours.fairness.median())?,
-            &times_text(alloc, self.standard.fairness.median())?,
-        )
+        let ours = self.ours.figures.costs();
+        let standard = self.standard.figures.costs();
+        let mut line = Line::new(rt.alloc(), self.name)?;
+        line.add_costs(ours)?;
+        line.add_times(self.ours.fairness())?;
+        line.add_costs(standard)?;
+        line.add_times(self.standard.fairness())?;
+        line.add_ratio(ours, standard)?;
+        line.print(rt)
     }
 
     fn print_check<R: Print>(&self, rt: &R) -> io::Result<()> {
-        let name = self.name;
-        let word = verdict(self.ours.figures.is_exact() && self.standard.figures.is_exact());
-        println!(rt; "{name}: {word}")
+        let exact = self.ours.figures.is_exact() && self.standard.figures.is_exact();
+        print_verdict(rt, self.name, exact)
     }
-}
-
-fn print_cells<R: Print>(
-    rt: &R,
-    name: &str,
-    ours: &str,
-    standard: &str,
-    ratio: &str,
-    our_fairness: &str,
-    standard_fairness: &str,
-) -> io::Result<()> {
-    println!(rt;
-        "{name:<26} {ours:>9} {standard:>9} {ratio:>7} {our_fairness:>11} {standard_fairness:>11}"
-    )
 }
 
 /// The rows of several threads.
@@ -170,10 +182,10 @@ struct Together {
 
 impl Together {
     /// Rows without a figure, whose rounds take so long.
-    fn new(alloc: Global, pace: Pace, window: Duration) -> Result<Together, AllocError> {
+    fn new(alloc: Global, step: StepTime, window: Duration) -> Result<Together, AllocError> {
         let mut rows = Vec::new(alloc);
         for shape in SHAPES {
-            rows.push(SharedRow::new(alloc, shape, pace, window))?;
+            rows.push(SharedRow::new(alloc, shape, step, window))?;
         }
         Ok(Together { rows })
     }
@@ -195,16 +207,7 @@ impl Together {
     }
 
     fn print_times<R: Print + AllocGlobal>(&mut self, rt: &R) -> io::Result<()> {
-        let title = "nanoseconds an acquisition";
-        print_cells(
-            rt,
-            title,
-            "ours",
-            "std",
-            "ratio",
-            "ours spread",
-            "std spread",
-        )?;
+        print_head(rt, "nanoseconds an acquisition", &SharedRow::TITLES)?;
         for row in self.rows.iter_mut() {
             row.print(rt)?;
         }

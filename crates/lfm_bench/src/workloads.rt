@@ -3,6 +3,7 @@ pub mod broadcast;
 pub mod contended;
 pub mod handoffs;
 pub mod hits;
+pub mod looks;
 pub mod misses;
 pub mod pairs;
 pub mod ping_pong;

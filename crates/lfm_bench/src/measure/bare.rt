@@ -4,6 +4,7 @@ ghost use Rattle.std.specs.Prelude.{◌≡◌, ◌≤◌, IfOk};
 
 use atomic_table::{Play, Seat, Shared, Table, TableRule};
 use std::alloc::{AllocError, Global};
+use std::hint::spin_loop;
 
 /// The rule that says nothing.
 pub struct Anything;
@@ -38,6 +39,9 @@ const LINK: usize = 5;
 /// Its wake word.
 const WAKE: usize = 7;
 
+/// The wake word of a seat that was granted the mutex when nobody was queued: the least grant.
+const GRANT: u64 = 3;
+
 /// The bits of a word that hold a seat.
 const SEATS: u64 = 65_535;
 
@@ -46,6 +50,9 @@ const SELF: u64 = 1;
 
 /// The number of another seat.
 const OTHER: u64 = 2;
+
+/// How many pauses a seat that waits makes before it looks at its wake word.
+const PAUSES_OF_LOOK: u32 = 4;
 
 /// As many words as a mutex of two seats has.
 const WORDS: [u64; 8] = [0; 8];
@@ -135,6 +142,16 @@ impl<'a> Steps<'a> {
         self.queue() && self.serve() && self.receive()
     }
 
+    /// A look of a seat that waits for a grant: some pauses, and a load, which is no step of the seat. Returns whether the word
+    /// was no grant.
+    #[inline(always)]
+    pub fn look(&self) -> bool {
+        for _ in 0..PAUSES_OF_LOOK {
+            spin_loop();
+        }
+        self.table.peek(WAKE) < GRANT
+    }
+
     #[inline(always)]
     fn queue(&mut self) -> bool {
         self.table.fetch_add::<Anything>(&mut self.seat, COUNT, 1);
@@ -157,7 +174,7 @@ impl<'a> Steps<'a> {
             .table
             .fetch_and::<Anything>(&mut self.seat, PUSH, !SEATS);
         let link = self.table.load::<Anything>(&mut self.seat, LINK);
-        self.table.store::<Anything>(&mut self.seat, WAKE, 3);
+        self.table.store::<Anything>(&mut self.seat, WAKE, GRANT);
         self.table.wake_one(WAKE);
         count == 2 && head & SEATS == OTHER && link & SEATS == 0
     }
@@ -167,7 +184,7 @@ impl<'a> Steps<'a> {
         let wake = self.table.load::<Anything>(&mut self.seat, WAKE);
         self.table.store::<Anything>(&mut self.seat, WAKE, 0);
         self.table.store::<Anything>(&mut self.seat, OWNER, SELF);
-        wake == 3
+        wake == GRANT
     }
 
     /// Sets the words as they are while this seat holds.

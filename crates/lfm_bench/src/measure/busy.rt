@@ -43,13 +43,13 @@ impl Busy {
 
 /// How long a step takes on this machine.
 #[derive(Clone, Copy)]
-pub struct Pace {
+pub struct StepTime {
     picoseconds: u64,
 }
 
-impl Pace {
+impl StepTime {
     /// Times some steps a few times, and takes the median. The clock of a thread's processor time may err now and then.
-    pub fn measure<R: CpuClock + AllocGlobal>(rt: &R) -> io::Result<Pace> {
+    pub fn measure<R: CpuClock + AllocGlobal>(rt: &R) -> io::Result<StepTime> {
         let mut busy = Busy::new();
         let mut costs = Series::new(rt.alloc());
         for _ in 0..TIMINGS {
@@ -57,8 +57,8 @@ impl Pace {
             busy.work(TIMED_STEPS);
             costs.add(watch.stop(rt, TIMED_STEPS, TIMED_STEPS)?.cost())?;
         }
-        let picoseconds = costs.median().unwrap_or(0);
-        Ok(Pace { picoseconds })
+        let picoseconds = costs.quartiles().map_or(0, |quartiles| quartiles.median);
+        Ok(StepTime { picoseconds })
     }
 
     /// How many steps take about so long.

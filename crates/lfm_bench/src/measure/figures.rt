@@ -1,7 +1,7 @@
-//! What is measured: samples, and the medians of their figures.
-ghost use Rattle.std.specs.Prelude.{◌≡◌, ◌*◌, ◌/◌, ◌<◌, ◌^◌, ◌++◌, ◌∷◌, ◌&&◌, ◌==◌, [], vec_len, true};
+//! What is measured: samples, and the medians of their figures with how far these spread.
+ghost use Rattle.std.specs.Prelude.{◌≡◌, ◌*◌, ◌-◌, ◌/◌, ◌<◌, ◌^◌, ◌++◌, ◌∷◌, ◌&&◌, ◌==◌, [], length, vec_len, true};
 ghost use Rattle.std.specs.Prelude.{IfSome, IfNone, IfOk, OnOk};
-ghost use Rattle.lfm_bench.specs.Medians.{IsMedian};
+ghost use Rattle.lfm_bench.specs.Quartiles.{AreQuartiles, StandIn};
 
 use std::alloc::{AllocError, Global};
 use std::io;
@@ -79,6 +79,27 @@ pub fn hundredths(amount: u64, base: u64) -> u64
     per(amount.saturating_mul(100), base)
 }
 
+/// The figures at one quarter, at two and at three of a series that is put in order: half of all figures lie between the
+/// first and the third.
+#[derive(Clone, Copy)]
+pub struct Quartiles {
+    /// As many figures stand before this one as stand after the upper one: a quarter of all, rounded down.
+    pub lower: u64,
+    /// The figure in the middle, the upper of two where their number is even.
+    pub median: u64,
+    pub upper: u64,
+}
+
+impl Quartiles {
+    /// How far apart the lower and the upper one are, in hundredths of the median, rounded down. 0 where the median is 0.
+    pub fn spread(self) -> u64
+        ensures share { 0 < self.median → (self.upper - self.lower) * 100 < 2 ^ 64 → result ≡ (self.upper - self.lower) * 100 / self.median }
+        ensures none { self.median ≡ 0 → result ≡ 0 }
+    {
+        hundredths(self.upper.saturating_sub(self.lower), self.median)
+    }
+}
+
 /// One figure of each round.
 #[derive(Drop)]
 pub struct Series {
@@ -103,14 +124,32 @@ impl Series {
         Ok(())
     }
 
-    /// The figure in the middle of all, the upper of two where their number is even. None where there is none.
-    pub fn median(&mut self) -> Option<u64>
-        ensures middle { IfSome result (λ m. IsMedian m self.old.values.items) }
+    /// The quartiles of all figures. None where there is none.
+    pub fn quartiles(&mut self) -> Option<Quartiles>
+        ensures places { IfSome result (λ q. AreQuartiles q self.old.values.items) }
         ensures none { IfNone result (vec_len self.old.values ≡ 0) }
     {
         self.values.sort_unstable();
-        self.values.get(self.values.len() / 2).copied()
+        let quartiles = quartiles_in_order(&self.values)?;
+        Some(quartiles)
     }
+}
+
+/// The quartiles of figures that are in order. None where there is none.
+fn quartiles_in_order(figures: &[u64]) -> Option<Quartiles>
+    ensures places { IfSome result (λ q. StandIn q figures.now) }
+    ensures none { IfNone result (length figures.now ≡ 0) }
+{
+    let count = figures.len();
+    if count == 0 {
+        return None;
+    }
+    let quarter = count / 4;
+    Some(Quartiles {
+        lower: figures[quarter],
+        median: figures[count / 2],
+        upper: figures[count - 1 - quarter],
+    })
 }
 
 /// The figures of one of those who are measured by a workload.
@@ -146,8 +185,8 @@ impl Figures {
         self.exact
     }
 
-    /// The median of what a call took on average in a round, in picoseconds. None where there was no round.
-    pub fn cost(&mut self) -> Option<u64> {
-        self.costs.median()
+    /// The quartiles of what a call took on average in a round, in picoseconds. None where there was no round.
+    pub fn costs(&mut self) -> Option<Quartiles> {
+        self.costs.quartiles()
     }
 }

@@ -25,10 +25,10 @@ pub struct Plan {
 }
 
 impl Plan {
-    /// What is measured where no argument says otherwise: about 20 seconds.
+    /// What is measured where no argument says otherwise: about 25 seconds.
     const USUAL: Plan = Plan {
         mode: Mode::Times,
-        rounds: 31,
+        rounds: 15,
         calls: 100_000,
         milliseconds: 50,
     };

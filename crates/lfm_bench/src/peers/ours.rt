@@ -1,16 +1,40 @@
 //! Our mutex, as a thread uses it.
-ghost use Rattle.std.specs.Prelude.{◌≡◌, ℕ};
-ghost use Rattle.lfm_mutex.specs.Belongs.{OfMutex};
+ghost use Rattle.std.specs.Prelude.{◌≡◌, ℕ, IfOk};
+ghost use Rattle.lfm_mutex.specs.Belongs.{OfMutex, limits_of};
 ghost use mathlib.Core.Option.{some};
 ghost use lib.ListN.{get_elem?};
 
 use lfm_model::{Asked, Locked, Refusal};
-use lfm_mutex::{Mutex, Seat};
+use lfm_mutex::{Mutex, Pace, Seat};
+use std::alloc::AllocError;
 use std::io;
 use std::sync::Wait;
+use std::thread::{Threads, available_parallelism};
 
 /// How many takes each seat may make: more than any run asks for.
 pub const BUDGET: u64 = 1 << 36;
+
+/// The pace for the processors that this program may use.
+pub fn pace<R: Threads>(rt: &R) -> io::Result<Pace> {
+    let processors = available_parallelism(rt)?;
+    Ok(Pace::for_processors(processors.get() as u64))
+}
+
+/// A mutex round 0 with so many seats, of that pace. It takes memory.
+pub fn new_mutex<R: Threads + AllocGlobal>(
+    rt: &R,
+    seats: u64,
+) -> io::Result<(Mutex<u64>, Vec<Seat<u64>>)>
+    ensures limits { IfOk result (λ r. (limits_of r.0).seats ≡ seats) }
+    ensures seats { IfOk result (λ r. (j : ℕ) (s : _) → get_elem? r.1.items j ≡ some s → OfMutex s r.0) }
+{
+    let pace = pace(rt)?;
+    let Ok((mut mutex, seats)) = Mutex::new(rt.alloc(), seats, BUDGET, 0u64) else {
+        return Err(AllocError.into());
+    };
+    mutex.set_pace(pace);
+    Ok((mutex, seats))
+}
 
 /// A mutex and one of its seats.
 #[derive(Drop)]
@@ -68,6 +92,13 @@ impl<'a> User<'a> {
     pub fn receive(&mut self) -> bool {
         let received = self.mutex.try_receive(&mut self.seat);
         matches!(received, Ok(Some(_)))
+    }
+
+    /// `receive_lock_within` of a seat that sleeps. Returns whether it came to hold.
+    pub fn receive_within<R: Wait>(&mut self, rt: &R, looks: u32) -> bool {
+        self.mutex
+            .receive_lock_within(rt, &mut self.seat, looks)
+            .is_ok()
     }
 
     /// `unlock`. Returns whether the seat held.

@@ -6,12 +6,30 @@ ghost use Rattle.lfm_condvar.specs.Belongs.{OfCondvar, cond_limits};
 ghost use mathlib.Core.Option.{some};
 ghost use lib.ListN.{get_elem?};
 
-use crate::peers::ours::BUDGET;
+use crate::peers::ours::{BUDGET, new_mutex, pace};
 use lfm_condvar::{CondSeat, Condvar};
 use lfm_model::Locked;
-use lfm_mutex::{Mutex, Seat};
+use lfm_mutex::{Mutex, Pace, Seat};
 use std::alloc::{AllocError, Global};
+use std::io;
 use std::sync::Wait;
+use std::thread::Threads;
+
+/// A condvar with so many seats, of this pace. It takes memory.
+fn new_condvar(
+    alloc: Global,
+    seats: u64,
+    pace: Pace,
+) -> Result<(Condvar, Vec<CondSeat>), AllocError>
+    ensures limits { IfOk result (λ r. (cond_limits r.0).seats ≡ seats) }
+    ensures seats { IfOk result (λ r. (j : ℕ) (s : _) → get_elem? r.1.items j ≡ some s → OfCondvar s r.0) }
+{
+    let Ok((mut condvar, cond_seats)) = Condvar::new(alloc, seats, BUDGET) else {
+        return Err(AllocError);
+    };
+    condvar.set_pace(pace);
+    Ok((condvar, cond_seats))
+}
 
 /// A mutex that guards a number, and two condvars on it.
 #[derive(Drop)]
@@ -31,21 +49,17 @@ pub struct FreeSeats {
 }
 
 impl Shared {
-    /// A mutex round 0, and two condvars, for so many threads. It takes memory.
-    pub fn new(alloc: Global, threads: u64) -> Result<(Shared, FreeSeats), AllocError>
+    /// A mutex round 0, and two condvars, for so many threads, of the pace for the processors that this program may use. It takes
+    /// memory.
+    pub fn new<R: Threads + AllocGlobal>(rt: &R, threads: u64) -> io::Result<(Shared, FreeSeats)>
         ensures seats { IfOk result (λ r. (j : ℕ) (s : _) → get_elem? r.1.seats.items j ≡ some s → OfMutex s r.0.mutex) }
         ensures first { IfOk result (λ r. (j : ℕ) (s : _) → get_elem? r.1.first_seats.items j ≡ some s → OfCondvar s r.0.first) }
         ensures second { IfOk result (λ r. (j : ℕ) (s : _) → get_elem? r.1.second_seats.items j ≡ some s → OfCondvar s r.0.second) }
     {
-        let Ok((mutex, seats)) = Mutex::new(alloc, threads, BUDGET, 0u64) else {
-            return Err(AllocError);
-        };
-        let Ok((first, first_seats)) = Condvar::new(alloc, threads, BUDGET) else {
-            return Err(AllocError);
-        };
-        let Ok((second, second_seats)) = Condvar::new(alloc, threads, BUDGET) else {
-            return Err(AllocError);
-        };
+        let pace = pace(rt)?;
+        let (mutex, seats) = new_mutex(rt, threads)?;
+        let (first, first_seats) = new_condvar(rt.alloc(), threads, pace)?;
+        let (second, second_seats) = new_condvar(rt.alloc(), threads, pace)?;
         let shared = Shared {
             mutex,
             first,

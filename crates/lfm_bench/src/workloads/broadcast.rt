@@ -113,7 +113,7 @@ pub fn ours<R: Threads + Sync + Wait + Clock + AllocGlobal>(
     rt: &R,
     load: Load,
 ) -> io::Result<Sample> {
-    let (shared, free) = Shared::new(rt.alloc(), load.threads.saturating_add(1))?;
+    let (shared, free) = Shared::new(rt, load.threads.saturating_add(1))?;
     let mut places = Places::new(&shared, free);
     let caller = places.next(Side::Second).ok_or(no_seat())?;
     Ok(our_round(rt, load, caller, places)?)

@@ -7,7 +7,7 @@ ghost use lib.ListN.{get_elem?};
 
 use crate::measure::wall_clock::{now, since};
 use crate::measure::{Busy, Contest, Gate, Turns};
-use crate::peers::ours::{BUDGET, User, last_user, no_seat};
+use crate::peers::ours::{User, last_user, new_mutex, no_seat};
 use lfm_mutex::{Mutex, Seat};
 use std::alloc::AllocError;
 use std::io;
@@ -36,10 +36,8 @@ pub fn ours<R: Threads + Sync + Wait + Clock + AllocGlobal>(
     rt: &R,
     load: Load,
 ) -> io::Result<Contest> {
-    match Mutex::new(rt.alloc(), load.threads.saturating_add(1), BUDGET, 0u64) {
-        Ok((mutex, seats)) => over_seats(rt, load, &mutex, seats),
-        Err(_) => Err(AllocError.into()),
-    }
+    let (mutex, seats) = new_mutex(rt, load.threads.saturating_add(1))?;
+    over_seats(rt, load, &mutex, seats)
 }
 
 /// A round with our mutex and all its seats. The last of them is the one that reads the value after all.

@@ -1,5 +1,5 @@
 //! One thread passes a mutex from one seat to another and back: each time the other seat queues, the holder grants it the
-//! mutex and makes the wake-up call, and the other takes it up. std's mutex has no such calls.
+//! mutex and makes the wake-up call, and the other takes it up. A call is one hand-off. std's mutex has no such calls.
 
 use crate::measure::{Sample, Steps, Stopwatch};
 use crate::peers::ours::User;
@@ -7,27 +7,29 @@ use std::io;
 use std::sync::Wait;
 use std::time::CpuClock;
 
-/// Our `ask`, `unlock` and `try_receive`, twice a call.
+/// Our `ask`, `unlock` and `try_receive`, so many times, or once less where that is an odd number.
 pub fn ours<R: Wait + CpuClock>(
     rt: &R,
     user: &mut User,
     other: &mut User,
     calls: u64,
 ) -> io::Result<Sample> {
+    let pairs = calls / 2;
     let held = user.lock(rt);
     let watch = Stopwatch::start(rt)?;
-    let done = our_handoffs(user, other, calls);
-    let sample = watch.stop(rt, calls, done)?;
+    let done = our_pairs(user, other, pairs);
+    let sample = watch.stop(rt, pairs * 2, done.wrapping_mul(2))?;
     let left = user.unlock();
     Ok(sample.provided(held && left))
 }
 
 /// The bare steps of them.
 pub fn bare<R: CpuClock>(rt: &R, steps: &mut Steps, calls: u64) -> io::Result<Sample> {
+    let pairs = calls / 2;
     steps.hold();
     let watch = Stopwatch::start(rt)?;
-    let done = bare_handoffs(steps, calls);
-    watch.stop(rt, calls, done)
+    let done = bare_pairs(steps, pairs);
+    watch.stop(rt, pairs * 2, done.wrapping_mul(2))
 }
 
 // The mutex goes from a holder to a seat that queues for it.
@@ -37,9 +39,9 @@ fn pass(holder: &mut User, next: &mut User) -> bool {
 }
 
 #[inline(never)]
-fn our_handoffs(user: &mut User, other: &mut User, calls: u64) -> u64 {
+fn our_pairs(user: &mut User, other: &mut User, pairs: u64) -> u64 {
     let mut done = 0u64;
-    for _ in 0..calls {
+    for _ in 0..pairs {
         if pass(user, other) && pass(other, user) {
             done = done.wrapping_add(1);
         }
@@ -48,9 +50,9 @@ fn our_handoffs(user: &mut User, other: &mut User, calls: u64) -> u64 {
 }
 
 #[inline(never)]
-fn bare_handoffs(steps: &mut Steps, calls: u64) -> u64 {
+fn bare_pairs(steps: &mut Steps, pairs: u64) -> u64 {
     let mut done = 0u64;
-    for _ in 0..calls {
+    for _ in 0..pairs {
         if steps.handoff() && steps.handoff() {
             done = done.wrapping_add(1);
         }

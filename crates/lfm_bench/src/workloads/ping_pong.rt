@@ -36,7 +36,7 @@ pub fn ours<R: Threads + Sync + Wait + Clock + AllocGlobal>(
     rt: &R,
     turns: u64,
 ) -> io::Result<Sample> {
-    let (shared, free) = Shared::new(rt.alloc(), 3)?;
+    let (shared, free) = Shared::new(rt, 3)?;
     let mut places = Places::new(&shared, free);
     let reader = places.next(Side::First);
     let first = places.next(Side::First);

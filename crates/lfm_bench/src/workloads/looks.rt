@@ -1,0 +1,83 @@
+//! A seat that sleeps looks so many times, in vain, whether it was granted the mutex. Then it parks, until the thread of another
+//! seat grants it the mutex. A call is one look. What is measured is the processor time of its thread, of which parking takes
+//! almost nothing. std's mutex has no such call.
+
+use crate::measure::{Gate, Sample, Steps, Stopwatch};
+use crate::peers::ours::{User, last_user, new_mutex, no_seat};
+use std::sync::Wait;
+use std::thread::{Threads, join};
+use std::time::{Clock, CpuClock, Duration};
+use std::{io, thread};
+
+/// The looks of a seat of our mutex: at most so many, and fewer where they take longer than this.
+pub fn ours<R: Threads + Sync + Wait + Clock + CpuClock + AllocGlobal>(
+    rt: &R,
+    looks: u32,
+    longest: Duration,
+) -> io::Result<Sample> {
+    let (mutex, mut seats) = new_mutex(rt, 2)?;
+    let holder = last_user(&mutex, &mut seats).ok_or(no_seat())?;
+    let sleeper = last_user(&mutex, &mut seats).ok_or(no_seat())?;
+    our_round(rt, looks, longest, holder, sleeper)
+}
+
+/// The looks of the sleeper, which is granted the mutex so long after it began to look.
+fn our_round<R: Threads + Sync + Wait + Clock + CpuClock>(
+    rt: &R,
+    looks: u32,
+    longest: Duration,
+    mut holder: User,
+    mut sleeper: User,
+) -> io::Result<Sample> {
+    let begun = holder.lock(rt) && sleeper.queue();
+    let gate = Gate::new(2);
+    let start = &gate;
+    // where no thread can be started, the grant comes first, and nobody waits for ever
+    let (sample, granted) = join(
+        rt,
+        move || our_looks(rt, start, looks, sleeper),
+        move || grant_after(rt, start, longest, holder),
+    );
+    Ok(sample?.provided(begun && granted))
+}
+
+/// The looks of the sleeper.
+fn our_looks<R: Wait + CpuClock>(
+    rt: &R,
+    gate: &Gate,
+    looks: u32,
+    mut sleeper: User,
+) -> io::Result<Sample> {
+    gate.pass();
+    let watch = Stopwatch::start(rt)?;
+    let received = sleeper.receive_within(rt, looks);
+    let sample = watch.stop(rt, u64::from(looks), u64::from(looks))?;
+    let left = sleeper.unlock();
+    Ok(sample.provided(received && left))
+}
+
+/// The holder's unlock, so long after the other began to look. Returns whether it held.
+fn grant_after<R: Clock>(rt: &R, gate: &Gate, wait: Duration, mut holder: User) -> bool {
+    gate.pass();
+    thread::sleep(rt, wait);
+    holder.unlock()
+}
+
+/// The bare loads of them, with their pauses.
+pub fn bare<R: CpuClock>(rt: &R, steps: &mut Steps, looks: u32) -> io::Result<Sample> {
+    steps.be_held();
+    let watch = Stopwatch::start(rt)?;
+    let done = bare_looks(steps, looks);
+    watch.stop(rt, u64::from(looks), done)
+}
+
+#[inline(never)]
+fn bare_looks(steps: &Steps, looks: u32) -> u64 {
+    let mut done = 0u64;
+    for _ in 0..looks {
+        if steps.look() {
+            done = done.wrapping_add(1);
+        }
+    }
+    done
+}

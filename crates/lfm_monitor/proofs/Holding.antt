@@ -1,5 +1,5 @@
 -- Holds that are given up one after another.
-use Rattle.std.proofs.Common.{◌≡◌, ℕ, ◌+◌, ◌<◌, ◌≤◌, List, Result, Ok, Err, inl, refl, sym, ◌∙◌, ap, arith}
+use Rattle.std.proofs.Common.{◌≡◌, ℕ, ◌+◌, ◌<◌, List, Result, Ok, Err, inl, refl, sym, ◌∙◌, ap, arith}
 use Rattle.lfm_model.specs.declared.answers.Unlocked.{Unlocked}
 use Rattle.lfm_model.specs.declared.journals.Entry.{Entry}
 use Rattle.lfm_model.specs.declared.refusals.Refusal.{Refusal}

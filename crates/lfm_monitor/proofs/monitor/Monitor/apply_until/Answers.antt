@@ -1,4 +1,4 @@
-use Rattle.std.proofs.Common.{ℕ, zero, suc, true, false, Result, inl, inr, refl, subst, ◌∙◌}
+use Rattle.std.proofs.Common.{zero, suc, Result, inl, inr, refl, subst, ◌∙◌}
 use Rattle.std.specs.Fn.{FnReturnsAt}
 use Rattle.lfm_model.specs.declared.refusals.Refusal.{Refusal}
 use Rattle.lfm_monitor.specs.Belongs.{mine_of, pass_sight, seen_of, share_of}
@@ -35,13 +35,13 @@ tries-preserved g c = let i = c.tries.invariant in let a = c.in_ok-reply.ensures
 pub returns-in_err-reply-clause-tries : goal.returns-in_err-reply-clause-tries
 returns-in_err-reply-clause-tries g c = let i = c.tries.invariant in let a = c.in_err-reply.ensures in
     handed_on (λ (q : Result _ Refusal). ApplyUntilEnds g.O.Object.after g.O.Object.reply c.args.self.now c.args.condition c.args.op (λ r b. FnReturnsAt g.F.Fn c.args.done r b) c.args.pass.now c.apply.new.pass q) _ _ c.from_residual.ensures.1
-        (i.tries.0, c.tries.pass, i.belongs, i.tries.1, inl (a.applies, a.seen, a.conditions))
+    (i.tries.0, c.tries.pass, i.belongs, i.tries.1, inl (a.applies, a.seen, a.conditions))
 
 pub returns-in_err-_waited-clause-tries : goal.returns-in_err-_waited-clause-tries
 returns-in_err-_waited-clause-tries g c = let i = c.tries.invariant in let a = c.in_ok-reply.ensures in let w = c.in_err-_waited.ensures in
     let other = subst (λ b. FnReturnsAt g.F.Fn c.args.done c.in_ok-reply.reply b) c.if-accepts.false c.accepts.ensures in
     handed_on (λ (q : Result _ Refusal). ApplyUntilEnds g.O.Object.after g.O.Object.reply c.args.self.now c.args.condition c.args.op (λ r b. FnReturnsAt g.F.Fn c.args.done r b) c.args.pass.now c.wait.new.pass q) _ _ c.from_residual-in_err-_waited.ensures.1
-        (i.tries.0, c.tries.pass, i.belongs, i.tries.1, inr (c.apply.new.pass, c.in_ok-reply.reply, (a.applies, a.seen, a.conditions), other, (w.waits, w.returns)))
+    (i.tries.0, c.tries.pass, i.belongs, i.tries.1, inr (c.apply.new.pass, c.in_ok-reply.reply, (a.applies, a.seen, a.conditions), other, (w.waits, w.returns)))
 
 pub returns-then-accepts-clause-applied : goal.returns-then-accepts-clause-applied
 returns-then-accepts-clause-applied g c = let a = c.in_ok-reply.ensures in (c.tries.pass, c.tries.invariant.belongs, (a.applies, a.seen, a.conditions))

@@ -1,0 +1,143 @@
+-- What each export does to the handles that it is given, and what its answer tells. A handle is x before and y after.
+use Rattle.std.specs.Prelude.{◌≡◌, ◌⊎◌, ⊤, ℕ, zero, suc, ◌+◌, ◌-◌, ◌<◌, ◌≤◌, List, [], ◌∷◌, ◌++◌, Bool, true, false, Option, Some, None, Result, Ok, Err, vec_len}
+use Rattle.std.specs.Arc.{arc_value}
+use Rattle.lfm_model.specs.declared.answers.Asked.{Asked}
+use Rattle.lfm_model.specs.declared.answers.How.{How}
+use Rattle.lfm_model.specs.declared.answers.Locked.{Locked}
+use Rattle.lfm_model.specs.declared.answers.Unlocked.{Unlocked}
+use Rattle.lfm_model.specs.declared.refusals.NewFault.{NewFault}
+use Rattle.lfm_model.specs.declared.refusals.Refusal.{Refusal}
+use Rattle.lfm_protocol.specs.declared.limits.Limits.{Limits}
+use Rattle.lfm_protocol.specs.Limits.{are_in_limits}
+use Rattle.lfm_mutex.specs.Belongs.{Beside, limits_of}
+use Rattle.lfm_mutex.specs.calls.Sight as Sight
+use Rattle.lfm_mutex.specs.calls.Sight.{Sight, sight}
+use Rattle.lfm_c.specs.declared.handles.MutexHandle.{MutexHandle}
+use Rattle.lfm_c.specs.declared.handles.SeatHandle.{SeatHandle}
+use Rattle.lfm_c.specs.declared.handles.Seated.{Seated}
+use Rattle.lfm_c.specs.declared.handles.Whole.{Whole}
+use Rattle.lfm_c.specs.declared.quiet.Quiet.{Quiet}
+use Rattle.lfm_c.specs.declared.status.Status.{Status}
+use Rattle.lfm_c.specs.Status.{asked, code, code_of_refusal, faulted, locked, received, sent, unlocked}
+
+-- the value may change in any way
+abbrev pub Follows : ℕ → Quiet → Quiet → Type 0
+Follows s v w = Unit {0}
+
+abbrev pub Fits : Quiet → ℕ → Type 0
+Fits v k = Unit {0}
+
+-- A call of a seat, P, which answers n: of a blank handle it tells just that. The seat's mutex stays.
+abbrev pub OfSeated : (Limits → Sight Quiet → Sight Quiet → ℕ → Type 0) → Option Seated → Option Seated → ℕ → Type 0
+OfSeated P None y n = (y ≡ None) × (n ≡ code Status.Blank)
+OfSeated P (Some a) None n = ⊥
+OfSeated P (Some a) (Some b) n = (b.mutex ≡ a.mutex) × Beside a.seat b.seat × P (limits_of (arc_value a.mutex)) (sight a.seat) (sight b.seat) n
+
+abbrev pub TellsAsk : SeatHandle → SeatHandle → ℕ → Type 0
+TellsAsk x y n = OfSeated (λ l s t k. (r : Result Asked Refusal) × Sight.Asks Follows Fits l.budget s t r × (k ≡ asked r)) x.seated y.seated n
+
+abbrev pub TellsReceive : SeatHandle → SeatHandle → ℕ → Type 0
+TellsReceive x y n = OfSeated (λ l s t k. (r : Result (Option How) Refusal) × Sight.Receives Follows Fits s t r × (k ≡ received r)) x.seated y.seated n
+
+abbrev pub TellsTry : SeatHandle → SeatHandle → ℕ → Type 0
+TellsTry x y n = OfSeated (λ l s t k. (r : Result Locked Refusal) × Sight.Locks Follows Fits l.budget s t r × (k ≡ locked r)) x.seated y.seated n
+
+abbrev pub TellsUnlock : SeatHandle → SeatHandle → ℕ → Type 0
+TellsUnlock x y n = OfSeated (λ l s t k. (r : Result Unlocked Refusal) × Sight.Unlocks s t r × (k ≡ unlocked r)) x.seated y.seated n
+
+abbrev pub TellsWait : SeatHandle → SeatHandle → ℕ → Type 0
+TellsWait x y n = OfSeated (λ l s t k. (r : Result Unlocked Refusal) × Sight.StartsWait l.budget s t r × (k ≡ unlocked r)) x.seated y.seated n
+
+-- no seat has the number 0 or one above the greatest seat number
+abbrev pub TellsSend : SeatHandle → ℕ → SeatHandle → ℕ → Type 0
+TellsSend x target y n = OfSeated (λ l s t k. ((r : Result ⊤ Refusal) × Sight.Sends l.seats s target t r × (k ≡ sent r)) ⊎ ((t ≡ s) × (k ≡ code_of_refusal Refusal.NoSuchSeat))) x.seated y.seated n
+
+-- a reader of a seat, which leaves the handle as it is, and answers 0 of a blank one
+abbrev pub ReadsSeated : (Seated → ℕ) → Option Seated → ℕ → Type 0
+ReadsSeated f None n = n ≡ 0
+ReadsSeated f (Some a) n = n ≡ f a
+
+abbrev pub TellsNumber : SeatHandle → SeatHandle → ℕ → Type 0
+TellsNumber x y n = (y ≡ x) × ReadsSeated (λ a. (sight a.seat).number) x.seated n
+
+abbrev pub TellsDepth : SeatHandle → SeatHandle → ℕ → Type 0
+TellsDepth x y n = (y ≡ x) × ReadsSeated (λ a. (sight a.seat).depth) x.seated n
+
+abbrev pub TellsLeft : SeatHandle → SeatHandle → ℕ → Type 0
+TellsLeft x y n = (y ≡ x) × ReadsSeated (λ a. (limits_of (arc_value a.mutex)).budget - (sight a.seat).takes) x.seated n
+
+-- a number above this one that a seat of the mutex may have, or none
+abbrev pub NextAbove : Option Seated → ℕ → ℕ → Type 0
+NextAbove None above n = n ≡ 0
+NextAbove (Some a) above n = (n ≡ 0) ⊎ ((above < n) × (n ≤ (limits_of (arc_value a.mutex)).seats))
+
+-- which of the seats have a grant to receive lies in words that others write, of which nothing is known
+abbrev pub TellsGranted : SeatHandle → ℕ → SeatHandle → ℕ → Type 0
+TellsGranted x above y n = (y ≡ x) × NextAbove x.seated above n
+
+-- a mutex with all its seats
+abbrev pub Opened : ℕ → ℕ → Whole → Type 0
+Opened seats budget w = (limits_of (arc_value w.mutex) ≡ record { seats = seats; budget = budget }) × (w.count ≡ seats) × (vec_len w.seats ≡ seats)
+
+-- why no mutex is opened
+abbrev pub Faults : ℕ → ℕ → NewFault → Type 0
+Faults seats budget NewFault.Limit = are_in_limits seats budget ≡ false
+Faults seats budget NewFault.Memory = are_in_limits seats budget ≡ true
+
+abbrev pub OpensBlank : ℕ → ℕ → Option Whole → ℕ → Type 0
+OpensBlank seats budget None n = (e : NewFault) × Faults seats budget e × (n ≡ faulted e)
+OpensBlank seats budget (Some w) n = Opened seats budget w × (are_in_limits seats budget ≡ true) × (n ≡ code Status.Done)
+
+abbrev pub OpensInto : Option Whole → ℕ → ℕ → Option Whole → ℕ → Type 0
+OpensInto None seats budget y n = OpensBlank seats budget y n
+OpensInto (Some w) seats budget y n = (y ≡ Some w) × (n ≡ code Status.Taken)
+
+abbrev pub TellsOpen : MutexHandle → ℕ → ℕ → MutexHandle → ℕ → Type 0
+TellsOpen x seats budget y n = OpensInto x.whole seats budget y.whole n
+
+-- the mutex with these of its seats left to take
+abbrev pub Leaving : List Seated → Whole → Whole → Type 0
+Leaving rest w v = (v.mutex ≡ w.mutex) × (v.count ≡ w.count) × (v.seats.items ≡ rest)
+
+-- the seats that are left to take are kept with the next one last
+abbrev pub TakesOf : Whole → Option Whole → Option Seated → ℕ → Type 0
+TakesOf w None t n = ⊥
+TakesOf w (Some v) None n = (v ≡ w) × (vec_len w.seats ≡ 0) × (n ≡ code Status.NoSeat)
+TakesOf w (Some v) (Some a) n = (w.seats.items ≡ v.seats.items ++ a ∷ []) × (v.mutex ≡ w.mutex) × (v.count ≡ w.count) × (n ≡ code Status.Done)
+
+abbrev pub TakesInto : Option Whole → Option Seated → Option Whole → Option Seated → ℕ → Type 0
+TakesInto w (Some a) v t n = (v ≡ w) × (t ≡ Some a) × (n ≡ code Status.Taken)
+TakesInto None None v t n = (v ≡ None) × (t ≡ None) × (n ≡ code Status.Blank)
+TakesInto (Some w) None v t n = TakesOf w v t n
+
+abbrev pub TellsTake : MutexHandle → SeatHandle → MutexHandle → SeatHandle → ℕ → Type 0
+TellsTake m s m' s' n = TakesInto m.whole s.seated m'.whole s'.seated n
+
+-- why a seat doesn't go back: of a mutex whose seats are all back it can't be one
+abbrev pub StaysOut : Whole → Seated → ℕ → Type 0
+StaysOut w a n =
+    ((n ≡ code Status.Foreign) × (w.count ≤ vec_len w.seats))
+    ⊎ (((n ≡ code Status.Holding) × (0 < (sight a.seat).depth))
+    ⊎ ((n ≡ code_of_refusal Refusal.Asleep) × ((sight a.seat).depth ≡ 0) × ((sight a.seat).asleep ≡ true)))
+
+abbrev pub GivesOf : Whole → Seated → Option Whole → Option Seated → ℕ → Type 0
+GivesOf w a None t n = ⊥
+GivesOf w a (Some v) (Some b) n = (v ≡ w) × (b ≡ a) × StaysOut w a n
+GivesOf w a (Some v) None n = Leaving (w.seats.items ++ a ∷ []) w v × ((sight a.seat).asleep ≡ false) × ((sight a.seat).depth ≡ 0) × (n ≡ code Status.Done)
+
+abbrev pub GivesBack : Option Whole → Option Seated → Option Whole → Option Seated → ℕ → Type 0
+GivesBack None s v t n = (v ≡ None) × (t ≡ s) × (n ≡ code Status.Blank)
+GivesBack (Some w) None v t n = (v ≡ Some w) × (t ≡ None) × (n ≡ code Status.Blank)
+GivesBack (Some w) (Some a) v t n = GivesOf w a v t n
+
+abbrev pub TellsGive : MutexHandle → SeatHandle → MutexHandle → SeatHandle → ℕ → Type 0
+TellsGive m s m' s' n = GivesBack m.whole s.seated m'.whole s'.seated n
+
+-- a mutex is ended where all its seats are back
+abbrev pub ClosesWhole : Option Whole → Option Whole → ℕ → Type 0
+ClosesWhole None v n = (v ≡ None) × (n ≡ code Status.Blank)
+ClosesWhole (Some w) (Some v) n = (v ≡ w) × (vec_len w.seats < w.count) × (n ≡ code Status.NotBack)
+ClosesWhole (Some w) None n = (w.count ≤ vec_len w.seats) × (n ≡ code Status.Done)
+
+abbrev pub TellsClose : MutexHandle → MutexHandle → ℕ → Type 0
+TellsClose x y n = ClosesWhole x.whole y.whole n

@@ -1,0 +1,47 @@
+//! What lies in the caller's memory: a handle of a mutex, and a handle of each seat. A blank handle has no mutex, or no seat.
+ghost use Rattle.std.specs.Prelude.{◌≡◌, ◌≤◌, None};
+ghost use Rattle.std.specs.Vec.{vec_capacity};
+ghost use Rattle.std.specs.Arc.{arc_value};
+ghost use Rattle.lfm_mutex.specs.Belongs.{OfMutex};
+
+use crate::quiet::Quiet;
+use lfm_mutex::{Mutex, Seat};
+use std::alloc::Global;
+use std::sync::Arc;
+
+/// A seat with its mutex.
+#[derive(Drop)]
+pub struct Seated {
+    pub mutex: Arc<Mutex<Quiet>, Global>,
+    pub seat: Seat<Quiet>,
+    pub ghost belongs: { OfMutex seat (arc_value mutex) },
+}
+
+/// A seat that the caller has taken, or none.
+#[derive(Drop)]
+pub struct SeatHandle {
+    pub seated: Option<Seated>,
+}
+
+/// A mutex, with those of its seats that are not taken. It has room for all of them.
+#[derive(Drop)]
+pub struct Whole {
+    pub mutex: Arc<Mutex<Quiet>, Global>,
+    pub seats: Vec<Seated>,
+    pub count: u64,
+    pub ghost room: { count ≤ vec_capacity seats },
+}
+
+/// A mutex that the caller has opened, or none.
+#[derive(Drop)]
+pub struct MutexHandle {
+    pub alloc: Global,
+    pub whole: Option<Whole>,
+}
+
+/// A blank handle.
+pub fn blank_seat() -> SeatHandle
+    ensures { result ≡ record { seated = None } }
+{
+    SeatHandle { seated: None }
+}

@@ -1,0 +1,219 @@
+//! A recursive mutex for programs in C. The handle of a mutex, and one for each seat, lie in memory of the caller, who gives each
+//! to one call at a time. A static library may neither sleep nor wake, so no call here does: include/ligdrosa.h sleeps where a
+//! call answers that the seat does, and wakes the seat that a call names.
+//!
+//! An export tells what the call of the mutex answered by a status in the low 8 bits, and the seat to be woken by its number above
+//! them. Its clause says what the status means: the mutex's own clause of that call.
+#![tactic(auto)]
+
+ghost use Rattle.std.specs.Borrow.{full_share, sem};
+ghost use Rattle.std.specs.Ptr.{lies_at, room_at};
+ghost use Rattle.std.specs.Prelude.{None};
+ghost use base.Fml.{fsep};
+ghost use Rattle.lfm_c.specs.declared.handles.MutexHandle.{MutexHandle as MutexNow};
+ghost use Rattle.lfm_c.specs.declared.handles.SeatHandle.{SeatHandle as SeatNow};
+ghost use Rattle.lfm_c.specs.contracts.handles.MutexHandle.{the_row as mutex_row};
+ghost use Rattle.lfm_c.specs.contracts.handles.SeatHandle.{the_row as seat_row};
+ghost use Rattle.lfm_c.specs.Handles.{TellsAsk, TellsClose, TellsDepth, TellsGive, TellsGranted, TellsLeft, TellsNumber, TellsOpen, TellsReceive, TellsSend, TellsTake, TellsTry, TellsUnlock, TellsWait};
+ghost use Rattle.lfm_c.specs.Leaves.{leaves};
+
+mod calls;
+pub mod crossing;
+mod handles;
+mod opening;
+mod quiet;
+mod reading;
+mod status;
+
+use crate::handles::{MutexHandle, SeatHandle};
+use std::mem::{align_of, size_of};
+
+/// How many bytes the handle of a mutex has.
+#[unsafe(no_mangle)]
+pub extern "C" fn lfm_c_mutex_size() -> usize {
+    size_of::<MutexHandle>()
+}
+
+/// To how many bytes the handle of a mutex is aligned.
+#[unsafe(no_mangle)]
+pub extern "C" fn lfm_c_mutex_align() -> usize {
+    align_of::<MutexHandle>()
+}
+
+/// How many bytes the handle of a seat has.
+#[unsafe(no_mangle)]
+pub extern "C" fn lfm_c_seat_size() -> usize {
+    size_of::<SeatHandle>()
+}
+
+/// To how many bytes the handle of a seat is aligned.
+#[unsafe(no_mangle)]
+pub extern "C" fn lfm_c_seat_align() -> usize {
+    align_of::<SeatHandle>()
+}
+
+/// Opens a mutex with this many seats, 1 to 4,095, each of which may take it as often as the budget says, 1 to 2^36.
+///
+/// Done, or Taken (the handle is not blank), Limit, Memory, which change nothing. No other export takes memory.
+#[unsafe(no_mangle)]
+pub unsafe extern "C" fn lfm_c_open(mutex: *mut u8, seats: u64, budget: u64) -> u64
+    ghost x: { MutexNow }
+    requires* { sem 𝓛 (lies_at mutex_row full_share mutex x) }
+    ensures* { sem 𝓛 (leaves (λ (y : MutexNow). lies_at mutex_row full_share mutex y) (λ y. TellsOpen x seats budget y result)) }
+{
+    opening::open(&mut *(mutex as *mut MutexHandle), seats, budget)
+}
+
+/// Takes the next seat of the mutex: the first is seat 1, and a seat that was given back comes before those not yet taken.
+///
+/// Done, or Taken (the seat's handle is not blank), Blank (the mutex's is), NoSeat, which change nothing.
+#[unsafe(no_mangle)]
+pub unsafe extern "C" fn lfm_c_take_seat(mutex: *mut u8, seat: *mut u8) -> u64
+    ghost x: { MutexNow × SeatNow }
+    requires* { sem 𝓛 (fsep (lies_at mutex_row full_share mutex x.0) (lies_at seat_row full_share seat x.1)) }
+    ensures* { sem 𝓛 (leaves (λ (y : MutexNow × SeatNow). fsep (lies_at mutex_row full_share mutex y.0) (lies_at seat_row full_share seat y.1)) (λ y. TellsTake x.0 x.1 y.0 y.1 result)) }
+{
+    opening::take_seat(
+        &mut *(mutex as *mut MutexHandle),
+        &mut *(seat as *mut SeatHandle),
+    )
+}
+
+/// Gives the seat back to its mutex, and leaves its handle blank. The seat keeps its number and its takes.
+///
+/// Done, or Blank, Foreign (all seats of this mutex are back, so the seat is another's), Holding, Asleep, which change nothing. That
+/// the seat is of this mutex is else the caller's to know.
+#[unsafe(no_mangle)]
+pub unsafe extern "C" fn lfm_c_give_seat(mutex: *mut u8, seat: *mut u8) -> u64
+    ghost x: { MutexNow × SeatNow }
+    requires* { sem 𝓛 (fsep (lies_at mutex_row full_share mutex x.0) (lies_at seat_row full_share seat x.1)) }
+    ensures* { sem 𝓛 (leaves (λ (y : MutexNow × SeatNow). fsep (lies_at mutex_row full_share mutex y.0) (lies_at seat_row full_share seat y.1)) (λ y. TellsGive x.0 x.1 y.0 y.1 result)) }
+{
+    opening::give_seat(
+        &mut *(mutex as *mut MutexHandle),
+        &mut *(seat as *mut SeatHandle),
+    )
+}
+
+/// Ends the mutex where all its seats are back, and gives its memory back.
+///
+/// Done, or Blank, NotBack, which change nothing.
+#[unsafe(no_mangle)]
+pub unsafe extern "C" fn lfm_c_close(mutex: *mut u8) -> u64
+    ghost x: { MutexNow }
+    requires* { sem 𝓛 (lies_at mutex_row full_share mutex x) }
+    ensures* { sem 𝓛 (leaves (λ (y : MutexNow). lies_at mutex_row full_share mutex y) (λ y. TellsClose x y result)) }
+{
+    opening::close(&mut *(mutex as *mut MutexHandle))
+}
+
+/// The seat's number, 1 to 4,095, and 0 where the handle is blank.
+#[unsafe(no_mangle)]
+pub unsafe extern "C" fn lfm_c_number(seat: *mut u8) -> u64
+    ghost x: { SeatNow }
+    requires* { sem 𝓛 (lies_at seat_row full_share seat x) }
+    ensures* { sem 𝓛 (leaves (λ (y : SeatNow). lies_at seat_row full_share seat y) (λ y. TellsNumber x y result)) }
+{
+    reading::number(&mut *(seat as *mut SeatHandle))
+}
+
+/// How often the seat holds, 0 to 65,535, and 0 where the handle is blank.
+#[unsafe(no_mangle)]
+pub unsafe extern "C" fn lfm_c_depth(seat: *mut u8) -> u64
+    ghost x: { SeatNow }
+    requires* { sem 𝓛 (lies_at seat_row full_share seat x) }
+    ensures* { sem 𝓛 (leaves (λ (y : SeatNow). lies_at seat_row full_share seat y) (λ y. TellsDepth x y result)) }
+{
+    reading::depth(&mut *(seat as *mut SeatHandle))
+}
+
+/// How many takes the seat has left, 0 to 2^36, and 0 where the handle is blank.
+#[unsafe(no_mangle)]
+pub unsafe extern "C" fn lfm_c_left(seat: *mut u8) -> u64
+    ghost x: { SeatNow }
+    requires* { sem 𝓛 (lies_at seat_row full_share seat x) }
+    ensures* { sem 𝓛 (leaves (λ (y : SeatNow). lies_at seat_row full_share seat y) (λ y. TellsLeft x y result)) }
+{
+    reading::left(&mut *(seat as *mut SeatHandle))
+}
+
+/// The next seat above this number that has a grant to receive, by one load of the wake word of each, and 0 where there is none or
+/// the handle is blank. An `ask` that answers Asleep and a `send` may have granted the mutex to a seat that sleeps.
+#[unsafe(no_mangle)]
+pub unsafe extern "C" fn lfm_c_granted(seat: *mut u8, above: u64) -> u64
+    ghost x: { SeatNow }
+    requires* { sem 𝓛 (lies_at seat_row full_share seat x) }
+    ensures* { sem 𝓛 (leaves (λ (y : SeatNow). lies_at seat_row full_share seat y) (λ y. TellsGranted x above y result)) }
+{
+    reading::granted(&mut *(seat as *mut SeatHandle), above)
+}
+
+/// `ask` of the seat: Done (it holds), Again (it holds once more), Asleep, or Blank, or why it is refused.
+#[unsafe(no_mangle)]
+pub unsafe extern "C" fn lfm_c_ask(seat: *mut u8) -> u64
+    ghost x: { SeatNow }
+    requires* { sem 𝓛 (lies_at seat_row full_share seat x) }
+    ensures* { sem 𝓛 (leaves (λ (y : SeatNow). lies_at seat_row full_share seat y) (λ y. TellsAsk x y result)) }
+{
+    calls::ask(&mut *(seat as *mut SeatHandle))
+}
+
+/// `try_receive` of the seat: Done (it holds), Asleep (it has no grant), or Blank, or why it is refused.
+#[unsafe(no_mangle)]
+pub unsafe extern "C" fn lfm_c_receive(seat: *mut u8) -> u64
+    ghost x: { SeatNow }
+    requires* { sem 𝓛 (lies_at seat_row full_share seat x) }
+    ensures* { sem 𝓛 (leaves (λ (y : SeatNow). lies_at seat_row full_share seat y) (λ y. TellsReceive x y result)) }
+{
+    calls::receive(&mut *(seat as *mut SeatHandle))
+}
+
+/// `try_lock` of the seat: Done (it holds), Again (it holds once more), or Blank, or why it is refused.
+#[unsafe(no_mangle)]
+pub unsafe extern "C" fn lfm_c_try_lock(seat: *mut u8) -> u64
+    ghost x: { SeatNow }
+    requires* { sem 𝓛 (lies_at seat_row full_share seat x) }
+    ensures* { sem 𝓛 (leaves (λ (y : SeatNow). lies_at seat_row full_share seat y) (λ y. TellsTry x y result)) }
+{
+    calls::try_lock(&mut *(seat as *mut SeatHandle))
+}
+
+/// `unlock` of the seat: Still (it holds once less), Done, Posted, Granted with the number of the seat to be woken, or Blank, or why it
+/// is refused.
+#[unsafe(no_mangle)]
+pub unsafe extern "C" fn lfm_c_unlock(seat: *mut u8) -> u64
+    ghost x: { SeatNow }
+    requires* { sem 𝓛 (lies_at seat_row full_share seat x) }
+    ensures* { sem 𝓛 (leaves (λ (y : SeatNow). lies_at seat_row full_share seat y) (λ y. TellsUnlock x y result)) }
+{
+    calls::unlock(&mut *(seat as *mut SeatHandle))
+}
+
+/// `start_wait` of the seat, which then sleeps until it is sent: as `unlock`, and never Still.
+#[unsafe(no_mangle)]
+pub unsafe extern "C" fn lfm_c_start_wait(seat: *mut u8) -> u64
+    ghost x: { SeatNow }
+    requires* { sem 𝓛 (lies_at seat_row full_share seat x) }
+    ensures* { sem 𝓛 (leaves (λ (y : SeatNow). lies_at seat_row full_share seat y) (λ y. TellsWait x y result)) }
+{
+    calls::start_wait(&mut *(seat as *mut SeatHandle))
+}
+
+/// `send_lock` of the seat to the seat with this number: Done, or Blank, or why it is refused.
+#[unsafe(no_mangle)]
+pub unsafe extern "C" fn lfm_c_send(seat: *mut u8, number: u64) -> u64
+    ghost x: { SeatNow }
+    requires* { sem 𝓛 (lies_at seat_row full_share seat x) }
+    ensures* { sem 𝓛 (leaves (λ (y : SeatNow). lies_at seat_row full_share seat y) (λ y. TellsSend x number y result)) }
+{
+    calls::send(&mut *(seat as *mut SeatHandle), number)
+}
+
+/// Writes the blank handle of a seat.
+#[unsafe(no_mangle)]
+pub unsafe extern "C" fn lfm_c_blank_seat(seat: *mut u8)
+    requires* { sem 𝓛 (room_at seat_row seat) }
+    ensures* { sem 𝓛 (lies_at seat_row full_share seat (record { seated = None })) }
+{
+    (seat as *mut SeatHandle).write(handles::blank_seat());
+}

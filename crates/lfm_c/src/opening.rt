@@ -1,0 +1,175 @@
+//! How a mutex is opened, its seats are taken and given back, and it is closed.
+ghost use Rattle.std.specs.Prelude.{◌≡◌, ◌+◌, ◌≤◌, ◌<◌, All, ◌++◌, ◌∷◌, [], IfOk, IfErr, MatchBool, MatchOption, Some, false, true, vec_len};
+ghost use Rattle.std.specs.Arc.{arc_value};
+ghost use Rattle.std.specs.Vec.{vec_capacity};
+ghost use Rattle.lfm_mutex.specs.Belongs.{OfMutex, limits_of};
+ghost use Rattle.lfm_protocol.specs.Limits.{are_in_limits};
+ghost use Rattle.lfm_mutex.specs.calls.Sight.{sight};
+ghost use Rattle.lfm_c.specs.Status.{code};
+ghost use Rattle.lfm_c.specs.Handles.{TellsOpen, TellsTake, TellsGive, TellsClose, Faults, Leaving, Opened, StaysOut};
+
+use crate::handles::{MutexHandle, SeatHandle, Seated, Whole};
+use crate::quiet::Quiet;
+use crate::status::Status;
+use lfm_model::{NewFault, Refusal};
+use lfm_mutex::{Mutex, Seat};
+use std::alloc::{AllocError, Global};
+use std::sync::Arc;
+
+// Gives each seat the mutex. The first seat comes last.
+fn seated(
+    alloc: Global,
+    mutex: &Arc<Mutex<Quiet>, Global>,
+    seats: Vec<Seat<Quiet>>,
+) -> Result<Vec<Seated>, AllocError>
+    requires belong { All (λ s. OfMutex s (arc_value mutex.now)) seats.items }
+    ensures all { IfOk result (λ v. vec_len v ≡ vec_len seats) }
+    ensures room { IfOk result (λ v. vec_len seats ≤ vec_capacity v) }
+{
+    let mut seats = seats;
+    let count = seats.len();
+    let mut all = Vec::with_capacity(alloc, count)?;
+    while let Some(seat) = seats.pop() {
+        let mutex = Arc::try_clone(mutex)?;
+        all.push_reserved(Seated { mutex, seat });
+    }
+    Ok(all)
+}
+
+// A mutex, with each of its seats.
+fn opened(alloc: Global, seats: u64, budget: u64) -> Result<Whole, NewFault>
+    ensures ok { IfOk result (λ w. Opened seats budget w × (are_in_limits seats budget ≡ true)) }
+    ensures fault { IfErr result (λ e. Faults seats budget e) }
+{
+    let (mutex, seats) = match Mutex::new(alloc, seats, budget, Quiet::new()) {
+        Ok(made) => made,
+        Err(fault) => return Err(fault),
+    };
+    let Ok(mutex) = Arc::new(alloc, mutex) else {
+        return Err(NewFault::Memory);
+    };
+    let count = seats.len() as u64;
+    let Ok(seats) = seated(alloc, &mutex, seats) else {
+        return Err(NewFault::Memory);
+    };
+    Ok(Whole {
+        mutex,
+        seats,
+        count,
+    })
+}
+
+/// Opens a mutex where the handle is blank.
+pub fn open(handle: &mut MutexHandle, seats: u64, budget: u64) -> u64
+    ensures told { TellsOpen handle.old seats budget handle.new result }
+{
+    if handle.whole.is_some() {
+        return Status::Taken.code();
+    }
+    match opened(handle.alloc, seats, budget) {
+        Ok(whole) => {
+            handle.whole = Some(whole);
+            Status::Done.code()
+        }
+        Err(NewFault::Limit) => Status::Limit.code(),
+        Err(NewFault::Memory) => Status::Memory.code(),
+    }
+}
+
+impl Whole {
+    // The next seat that is left to take.
+    fn next(&mut self) -> Option<Seated>
+        ensures { MatchOption result ((self.new ≡ self.old) × (vec_len self.old.seats ≡ 0)) (λ a. (self.old.seats.items ≡ self.new.seats.items ++ a ∷ []) × (self.new.mutex ≡ self.old.mutex) × (self.new.count ≡ self.old.count)) }
+    {
+        if self.seats.is_empty() {
+            return None;
+        }
+        let Some(seated) = self.seats.pop() else {
+            unreachable!()
+        };
+        Some(seated)
+    }
+
+    // Puts a seat back.
+    fn put(&mut self, seated: Seated)
+        requires { vec_len self.old.seats < self.old.count }
+        ensures { Leaving (self.old.seats.items ++ seated ∷ []) self.old self.new }
+    {
+        self.seats.push_reserved(seated);
+    }
+
+    fn is_whole(&self) -> bool
+        ensures { MatchBool result (self.now.count ≤ vec_len self.now.seats) (vec_len self.now.seats < self.now.count) }
+    {
+        self.seats.len() as u64 >= self.count
+    }
+}
+
+/// Takes the next seat of the mutex.
+pub fn take_seat(mutex: &mut MutexHandle, seat: &mut SeatHandle) -> u64
+    ensures told { TellsTake mutex.old seat.old mutex.new seat.new result }
+{
+    if seat.seated.is_some() {
+        return Status::Taken.code();
+    }
+    let Some(whole) = &mut mutex.whole else {
+        return Status::Blank.code();
+    };
+    match whole.next() {
+        Some(seated) => {
+            seat.seated = Some(seated);
+            Status::Done.code()
+        }
+        None => Status::NoSeat.code(),
+    }
+}
+
+// Why the seat can't go back to the mutex.
+fn stays(whole: &Whole, seated: &Seated) -> Option<Status>
+    ensures { MatchOption result ((vec_len whole.now.seats < whole.now.count) × ((sight seated.now.seat).asleep ≡ false) × ((sight seated.now.seat).depth ≡ 0)) (λ k. StaysOut whole.now seated.now (code k)) }
+{
+    if whole.is_whole() {
+        return Some(Status::Foreign);
+    }
+    if seated.seat.depth() > 0 {
+        return Some(Status::Holding);
+    }
+    if seated.seat.asleep() {
+        return Some(Status::Refused(Refusal::Asleep));
+    }
+    None
+}
+
+/// Gives the seat back to its mutex.
+pub fn give_seat(mutex: &mut MutexHandle, seat: &mut SeatHandle) -> u64
+    ensures told { TellsGive mutex.old seat.old mutex.new seat.new result }
+{
+    let Some(whole) = &mut mutex.whole else {
+        return Status::Blank.code();
+    };
+    let Some(seated) = seat.seated.take() else {
+        return Status::Blank.code();
+    };
+    if let Some(status) = stays(whole, &seated) {
+        seat.seated = Some(seated);
+        return status.code();
+    }
+    whole.put(seated);
+    Status::Done.code()
+}
+
+/// Ends the mutex, where all its seats are back.
+pub fn close(handle: &mut MutexHandle) -> u64
+    ensures told { TellsClose handle.old handle.new result }
+{
+    match &handle.whole {
+        None => return Status::Blank.code(),
+        Some(whole) => {
+            if !whole.is_whole() {
+                return Status::NotBack.code();
+            }
+        }
+    }
+    handle.whole = None;
+    Status::Done.code()
+}

@@ -1,0 +1,53 @@
+//! What is read of a seat. Each call leaves the handle as it is.
+ghost use Rattle.std.specs.Prelude.{◌≡◌, ◌-◌, ◌<◌, ◌≤◌};
+ghost use Rattle.lfm_c.specs.Handles.{TellsNumber, TellsDepth, TellsLeft, TellsGranted};
+
+use crate::handles::SeatHandle;
+use lfm_model::SeatNo;
+
+/// The seat's number, 1 to 4,095, and 0 where the handle is blank.
+pub fn number(handle: &mut SeatHandle) -> u64
+    ensures told { TellsNumber handle.old handle.new result }
+{
+    match &handle.seated {
+        Some(seated) => seated.seat.number().get(),
+        None => 0,
+    }
+}
+
+/// How often the seat holds, 0 to 65,535, and 0 where the handle is blank.
+pub fn depth(handle: &mut SeatHandle) -> u64
+    ensures told { TellsDepth handle.old handle.new result }
+{
+    match &handle.seated {
+        Some(seated) => u64::from(seated.seat.depth()),
+        None => 0,
+    }
+}
+
+/// How many takes the seat has left, and 0 where the handle is blank.
+pub fn left(handle: &mut SeatHandle) -> u64
+    ensures told { TellsLeft handle.old handle.new result }
+{
+    match &handle.seated {
+        Some(seated) => seated.seat.left(),
+        None => 0,
+    }
+}
+
+/// The next seat above this number that has a grant to receive, and 0 where there is none or the handle is blank.
+pub fn granted(handle: &mut SeatHandle, above: u64) -> u64
+    ensures told { TellsGranted handle.old above handle.new result }
+{
+    let Some(seated) = &handle.seated else {
+        return 0;
+    };
+    for below in above..seated.mutex.seats() {
+        if let Some(seat) = SeatNo::new(below + 1) {
+            if seated.mutex.is_granted(seat) {
+                return seat.get();
+            }
+        }
+    }
+    0
+}

@@ -1,0 +1,80 @@
+//! What a call tells, and the number that tells it to C.
+ghost use Rattle.std.specs.Prelude.{◌≡◌};
+ghost use Rattle.lfm_c.specs.Status.{code, code_of_refusal};
+
+use lfm_model::Refusal;
+
+/// What a call tells. The header has the same names and numbers.
+#[derive(Clone, Copy, Debug, PartialEq, Eq)]
+pub enum Status {
+    /// The call did what it is for.
+    Done,
+    /// The seat held before, and holds once more.
+    Again,
+    /// The seat holds once less, and holds on.
+    Still,
+    /// The seat sleeps.
+    Asleep,
+    /// The mutex was given up beside a call that takes it over.
+    Posted,
+    /// The mutex was given to the seat whose number stands above.
+    Granted,
+    /// The handle is blank.
+    Blank,
+    /// The handle is not blank.
+    Taken,
+    /// A number of seats or of takes is outside its limits.
+    Limit,
+    /// Memory was refused.
+    Memory,
+    /// All seats are taken.
+    NoSeat,
+    /// A seat is not back.
+    NotBack,
+    /// The seat holds the mutex.
+    Holding,
+    /// The seat is of another mutex.
+    Foreign,
+    /// The mutex refused the call.
+    Refused(Refusal),
+}
+
+fn code_of_refusal(refusal: Refusal) -> u64
+    ensures { result ≡ code_of_refusal refusal }
+{
+    match refusal {
+        Refusal::Asleep => 32,
+        Refusal::NotOwner => 33,
+        Refusal::Nested => 34,
+        Refusal::DepthFull => 35,
+        Refusal::Spent => 36,
+        Refusal::NoSuchSeat => 37,
+        Refusal::NotWaiting => 38,
+        Refusal::Busy => 39,
+    }
+}
+
+impl Status {
+    /// The status as C sees it: 0 to 39.
+    pub fn code(self) -> u64
+        ensures { result ≡ code self }
+    {
+        match self {
+            Status::Done => 0,
+            Status::Again => 1,
+            Status::Still => 2,
+            Status::Asleep => 3,
+            Status::Posted => 4,
+            Status::Granted => 5,
+            Status::Blank => 16,
+            Status::Taken => 17,
+            Status::Limit => 18,
+            Status::Memory => 19,
+            Status::NoSeat => 20,
+            Status::NotBack => 21,
+            Status::Holding => 22,
+            Status::Foreign => 23,
+            Status::Refused(refusal) => code_of_refusal(refusal),
+        }
+    }
+}

@@ -1,0 +1,436 @@
+/* Ligdrosa for C: a recursive mutex that hands itself on in the order of its queue, and a condition variable.
+ *
+ * The calls of the mutex are those of a static library, liblfm_c.a, whose code is proved. It neither sleeps nor wakes. This
+ * header adds what isn't proved: how a thread sleeps until its seat is granted the mutex, how it is woken, and the list of
+ * those that wait at a condition variable.
+ *
+ *     static lfm_mutex mutex;
+ *     static lfm_seat seat;                          one for each thread, which lies still
+ *
+ *     lfm_mutex_new(&mutex, 4, 1000000);             4 seats, each of which takes the mutex at most a million times
+ *     lfm_seat_take(&mutex, &seat);
+ *     if (!lfm_is_refused(lfm_lock(&seat))) {
+ *         ...                                        no other seat holds
+ *         lfm_unlock(&seat);
+ *     }
+ *     lfm_seat_give(&seat);
+ *     lfm_mutex_close(&mutex);
+ *
+ * Each call answers a status. Null, a mutex that is not open and a seat that is not taken are answered by LFM_BLANK, and a call
+ * that is refused has changed nothing, but where it says so. What a program promises, and nothing checks:
+ *
+ *   - An lfm_mutex, lfm_seat or lfm_condvar is zero before its first call (static, calloc, `= {0}`), lies still while it is in
+ *     use, and is touched by these calls alone.
+ *   - A seat is in one call at a time. It goes from one thread to another by a lock, a thread's start or join, or the like.
+ *   - No call comes from a signal handler, or from a forked child.
+ *   - A mutex or condition variable is closed after all other calls of it have returned.
+ *
+ * It needs Linux, and gcc or clang with C11 or C++11. Link liblfm_c.a and then liblibc_c.a. */
+#ifndef LIGDROSA_H
+#define LIGDROSA_H
+
+#include <linux/futex.h>
+#include <sched.h>
+#include <stdbool.h>
+#include <stddef.h>
+#include <stdint.h>
+#include <stdlib.h>
+#include <string.h>
+#include <sys/syscall.h>
+#include <unistd.h>
+
+#ifdef __cplusplus
+extern "C" {
+#endif
+
+/* What a call tells. Below LFM_BLANK the call was made, from there on it was refused. */
+typedef enum lfm_status {
+  LFM_DONE = 0,     /* made: the seat holds the mutex, or gave it up and nobody else asked */
+  LFM_AGAIN = 1,    /* the seat held before, and holds once more */
+  LFM_STILL = 2,    /* the seat holds once less, and holds on */
+  LFM_ASLEEP = 3,   /* the seat sleeps until it is granted the mutex; no call of this header answers it */
+  LFM_POSTED = 4,   /* the mutex was given up to a seat that had begun to ask */
+  LFM_GRANTED = 5,  /* the mutex was given up to the oldest queued seat */
+  LFM_NOBODY = 6,   /* nobody waited who could have been woken */
+
+  LFM_BLANK = 16,        /* null, a mutex that is not open, or a seat that is not taken */
+  LFM_TAKEN = 17,        /* the mutex is open, or the seat taken, already */
+  LFM_LIMIT = 18,        /* not 1 to 4,095 seats, or not 1 to 2^36 takes for each */
+  LFM_NO_MEMORY = 19,    /* memory was refused */
+  LFM_NO_SEAT = 20,      /* all seats are taken */
+  LFM_NOT_BACK = 21,     /* some seats are not given back */
+  LFM_HOLDING = 22,      /* the seat holds the mutex */
+  LFM_FOREIGN = 23,      /* the seat is of another mutex */
+  LFM_OTHER_HEADER = 24, /* the library is of another version than this header */
+  LFM_WAITED_FOR = 25,   /* a seat waits at the condition variable */
+
+  LFM_SEAT_ASLEEP = 32,  /* the seat sleeps: it is in a call of another thread */
+  LFM_NOT_OWNER = 33,    /* the seat doesn't hold the mutex */
+  LFM_NESTED = 34,       /* the seat holds more than once, and a wait gives up one hold alone */
+  LFM_DEPTH_FULL = 35,   /* the seat holds 65,535 times already */
+  LFM_SPENT = 36,        /* the seat has no take left */
+  LFM_NO_SUCH_SEAT = 37, /* no seat has this number */
+  LFM_NOT_WAITING = 38,  /* the seat doesn't sleep, or doesn't wait to be sent */
+  LFM_BUSY = 39          /* another seat holds the mutex, or asked for it first */
+} lfm_status;
+
+/* Whether the call was refused. */
+static inline bool lfm_is_refused(lfm_status status) { return status >= LFM_BLANK; }
+
+/* The library's own calls. Programs use those below. A handle is memory of the size and alignment that the library tells. A
+ * mutex's whose bytes are 0 is blank, and a seat's is made so by a call. A call answers a status in the low 8 bits and, above them, the number of the seat that
+ * is to be woken, or 0. */
+size_t lfm_c_mutex_size(void);
+size_t lfm_c_mutex_align(void);
+size_t lfm_c_seat_size(void);
+size_t lfm_c_seat_align(void);
+void lfm_c_blank_seat(void *seat);
+uint64_t lfm_c_open(void *mutex, uint64_t seats, uint64_t budget);
+uint64_t lfm_c_take_seat(void *mutex, void *seat);
+uint64_t lfm_c_give_seat(void *mutex, void *seat);
+uint64_t lfm_c_close(void *mutex);
+uint64_t lfm_c_number(void *seat); /* 1 to 4,095; 0 of a blank handle */
+uint64_t lfm_c_depth(void *seat);  /* 0 to 65,535; 0 of a blank handle */
+uint64_t lfm_c_left(void *seat);   /* 0 to 2^36; 0 of a blank handle */
+uint64_t lfm_c_ask(void *seat);
+uint64_t lfm_c_receive(void *seat);
+uint64_t lfm_c_try_lock(void *seat);
+uint64_t lfm_c_unlock(void *seat);
+uint64_t lfm_c_start_wait(void *seat);
+uint64_t lfm_c_send(void *seat, uint64_t number);
+uint64_t lfm_c_granted(void *seat, uint64_t above); /* the next seat above this number that has a grant to receive, or 0 */
+
+enum { LFM_LINE = 64, LFM_MUTEX_BYTES = 128, LFM_SEAT_BYTES = 256 };
+
+#define LFM_ALIGNED __attribute__((aligned(64)))
+
+/* How often a seat looks whether it is granted the mutex, before its thread sleeps. Zero is allowed. */
+#ifndef LFM_LOOKS
+#define LFM_LOOKS 300
+#endif
+
+/* How often a seat was told that it is granted the mutex, and whether its thread sleeps. Each has a cache line of its own. */
+typedef struct lfm_bell {
+  uint32_t rings;
+  uint32_t sleeps;
+} LFM_ALIGNED lfm_bell;
+
+/* A mutex. `bells` has one bell for each seat, by its number, and is null while the mutex is not open. */
+typedef struct lfm_mutex {
+  unsigned char handle[LFM_MUTEX_BYTES];
+  lfm_bell *bells;
+  uint64_t seats;
+  uint32_t taking; /* 1 while a seat is taken or given back */
+} LFM_ALIGNED lfm_mutex;
+
+/* What one thread uses a mutex with. `mutex` is null while the seat is not taken. */
+typedef struct lfm_seat {
+  unsigned char handle[LFM_SEAT_BYTES];
+  lfm_mutex *mutex;
+  lfm_bell *bell;
+} LFM_ALIGNED lfm_seat;
+
+/* ThreadSanitizer doesn't see into the library, so it is told what a lock and an unlock order. */
+#if defined(__SANITIZE_THREAD__)
+#define LFM_TELLS_ORDER 1
+#elif defined(__has_feature)
+#if __has_feature(thread_sanitizer)
+#define LFM_TELLS_ORDER 1
+#endif
+#endif
+#ifdef LFM_TELLS_ORDER
+void __tsan_acquire(void *);
+void __tsan_release(void *);
+#endif
+
+/* After a call that may have gained the mutex. */
+static inline lfm_status lfm_gained(lfm_seat *seat, lfm_status status) {
+#ifdef LFM_TELLS_ORDER
+  if (!lfm_is_refused(status)) __tsan_acquire(seat->mutex);
+#endif
+  (void)seat;
+  return status;
+}
+
+/* Before a call that may give the mutex up. */
+static inline void lfm_giving_up(lfm_seat *seat) {
+#ifdef LFM_TELLS_ORDER
+  __tsan_release(seat->mutex);
+#endif
+  (void)seat;
+}
+
+/* How threads sleep and wake.
+ *
+ * A seat's thread reads how often the bell has rung, looks for a grant, and sleeps only while the bell has rung no more than
+ * that. A grant is stored before its ring. So either the ring comes before the reading, and the look finds the grant; or it
+ * comes after it, and the system's own comparison finds another number of rings; or it comes when the thread is asleep, and
+ * then it finds `sleeps` set and wakes it.
+ *
+ * Who rings has a seat that is in a call, and a mutex is closed only after all seats are back, so the bell is still there. */
+
+#ifndef __cplusplus
+long syscall(long number, ...); /* strict C11 leaves it undeclared */
+#endif
+
+static inline void lfm_futex(uint32_t *word, int operation, uint32_t value) {
+  syscall(SYS_futex, word, operation | FUTEX_PRIVATE_FLAG, value, NULL, NULL, 0);
+}
+
+static inline void lfm_ring(lfm_mutex *mutex, uint64_t number) {
+  lfm_bell *bell = &mutex->bells[number];
+  __atomic_fetch_add(&bell->rings, 1, __ATOMIC_SEQ_CST);
+  if (__atomic_load_n(&bell->sleeps, __ATOMIC_SEQ_CST)) lfm_futex(&bell->rings, FUTEX_WAKE, 1);
+}
+
+/* Rings for the seat that an answer names, and gives the status. */
+static inline lfm_status lfm_told(lfm_mutex *mutex, uint64_t answer) {
+  if (__builtin_expect(answer > 255, 0)) lfm_ring(mutex, answer >> 8);
+  return (lfm_status)(answer & 255);
+}
+
+/* Rings for all seats that have a grant to receive. An ask that answers Asleep, and a send, may grant the mutex to another seat
+ * and don't tell to whom. */
+static inline void lfm_ring_granted(lfm_seat *seat) {
+  uint64_t number = 0;
+  while ((number = lfm_c_granted(seat->handle, number)) != 0) lfm_ring(seat->mutex, number);
+}
+
+static inline void lfm_pause(void) {
+#if defined(__x86_64__) || defined(__i386__)
+  __builtin_ia32_pause();
+#elif defined(__aarch64__)
+  __asm__ volatile("yield");
+#endif
+}
+
+/* Sleeps until the seat, which is asleep, is granted the mutex. */
+static inline lfm_status lfm_receive(lfm_seat *seat, uint32_t looks) {
+  lfm_bell *bell = seat->bell;
+  bool has_rung = false;
+  for (;;) {
+    uint32_t seen = __atomic_load_n(&bell->rings, __ATOMIC_SEQ_CST);
+    lfm_status status = (lfm_status)lfm_c_receive(seat->handle);
+    if (status != LFM_ASLEEP) return status;
+    if (looks > 0) {
+      looks--;
+      lfm_pause();
+      continue;
+    }
+    /* Whom this seat's ask or wait granted the mutex stands before it, so it is woken before this thread sleeps. */
+    if (!has_rung) lfm_ring_granted(seat);
+    has_rung = true;
+    __atomic_store_n(&bell->sleeps, 1, __ATOMIC_SEQ_CST);
+    lfm_futex(&bell->rings, FUTEX_WAIT, seen);
+    __atomic_store_n(&bell->sleeps, 0, __ATOMIC_SEQ_CST);
+  }
+}
+
+/* The mutex */
+
+/* Opens a mutex with this many seats, 1 to 4,095, each of which may take it as often as the budget says, 1 to 2^36.
+ * Refused: LFM_BLANK (null), LFM_TAKEN, LFM_OTHER_HEADER, LFM_LIMIT, LFM_NO_MEMORY. No call after it takes memory. */
+static inline lfm_status lfm_mutex_new(lfm_mutex *mutex, uint64_t seats, uint64_t budget) {
+  if (!mutex) return LFM_BLANK;
+  if (mutex->bells) return LFM_TAKEN;
+  if (lfm_c_mutex_size() > LFM_MUTEX_BYTES || lfm_c_mutex_align() > LFM_LINE) return LFM_OTHER_HEADER;
+  if (lfm_c_seat_size() > LFM_SEAT_BYTES || lfm_c_seat_align() > LFM_LINE) return LFM_OTHER_HEADER;
+  memset(mutex->handle, 0, LFM_MUTEX_BYTES);
+  lfm_status status = (lfm_status)lfm_c_open(mutex->handle, seats, budget);
+  if (status != LFM_DONE) return status;
+  size_t bytes = (seats + 1) * sizeof(lfm_bell);
+  mutex->bells = (lfm_bell *)aligned_alloc(LFM_LINE, bytes);
+  if (!mutex->bells) {
+    lfm_c_close(mutex->handle);
+    return LFM_NO_MEMORY;
+  }
+  memset(mutex->bells, 0, bytes);
+  mutex->seats = seats;
+  return LFM_DONE;
+}
+
+static inline void lfm_begin_taking(lfm_mutex *mutex) {
+  while (__atomic_exchange_n(&mutex->taking, 1, __ATOMIC_ACQUIRE)) sched_yield();
+}
+
+static inline void lfm_end_taking(lfm_mutex *mutex) { __atomic_store_n(&mutex->taking, 0, __ATOMIC_RELEASE); }
+
+/* Takes a seat of the mutex. A seat that was given back keeps its number and the takes that it has made.
+ * Refused: LFM_BLANK, LFM_TAKEN, LFM_NO_SEAT. Other threads may take and give back seats at the same time. */
+static inline lfm_status lfm_seat_take(lfm_mutex *mutex, lfm_seat *seat) {
+  if (!mutex || !seat || !mutex->bells) return LFM_BLANK;
+  if (seat->mutex) return LFM_TAKEN;
+  lfm_c_blank_seat(seat->handle);
+  lfm_begin_taking(mutex);
+  lfm_status status = (lfm_status)lfm_c_take_seat(mutex->handle, seat->handle);
+  lfm_end_taking(mutex);
+  if (status != LFM_DONE) return status;
+  seat->mutex = mutex;
+  seat->bell = &mutex->bells[lfm_c_number(seat->handle)];
+  return LFM_DONE;
+}
+
+/* Gives the seat back. Refused: LFM_BLANK, LFM_HOLDING, LFM_SEAT_ASLEEP. */
+static inline lfm_status lfm_seat_give(lfm_seat *seat) {
+  if (!seat || !seat->mutex) return LFM_BLANK;
+  lfm_mutex *mutex = seat->mutex;
+  lfm_begin_taking(mutex);
+  lfm_status status = (lfm_status)lfm_c_give_seat(mutex->handle, seat->handle);
+  lfm_end_taking(mutex);
+  if (status != LFM_DONE) return status;
+  seat->mutex = NULL;
+  seat->bell = NULL;
+  return LFM_DONE;
+}
+
+/* Ends the mutex and gives its memory back. Refused: LFM_BLANK, LFM_NOT_BACK. */
+static inline lfm_status lfm_mutex_close(lfm_mutex *mutex) {
+  if (!mutex || !mutex->bells) return LFM_BLANK;
+  lfm_status status = (lfm_status)lfm_c_close(mutex->handle);
+  if (status != LFM_DONE) return status;
+  free(mutex->bells);
+  mutex->bells = NULL;
+  return LFM_DONE;
+}
+
+/* Gains the mutex, for one take, or deepens the hold: LFM_DONE or LFM_AGAIN. It sleeps until then.
+ * Refused: LFM_BLANK, LFM_SEAT_ASLEEP, LFM_DEPTH_FULL, LFM_SPENT. */
+static inline lfm_status lfm_lock(lfm_seat *seat) {
+  if (!seat || !seat->mutex) return LFM_BLANK;
+  lfm_status status = (lfm_status)lfm_c_ask(seat->handle);
+  if (__builtin_expect(status == LFM_ASLEEP, 0)) status = lfm_receive(seat, LFM_LOOKS);
+  return lfm_gained(seat, status);
+}
+
+/* As lfm_lock where that needs no sleep, and else refused as LFM_BUSY. */
+static inline lfm_status lfm_try_lock(lfm_seat *seat) {
+  if (!seat || !seat->mutex) return LFM_BLANK;
+  return lfm_gained(seat, (lfm_status)lfm_c_try_lock(seat->handle));
+}
+
+/* Gives one hold up: LFM_STILL where the seat holds on, else LFM_DONE, LFM_POSTED or LFM_GRANTED. It never sleeps.
+ * Refused: LFM_BLANK, LFM_SEAT_ASLEEP, LFM_NOT_OWNER. */
+static inline lfm_status lfm_unlock(lfm_seat *seat) {
+  if (!seat || !seat->mutex) return LFM_BLANK;
+  lfm_giving_up(seat);
+  return lfm_told(seat->mutex, lfm_c_unlock(seat->handle));
+}
+
+/* The seat's number, 1 and on; how often it holds; how many takes it has left. They are 0 of a seat that is not taken. */
+static inline uint64_t lfm_number(lfm_seat *seat) { return seat && seat->mutex ? lfm_c_number(seat->handle) : 0; }
+static inline uint64_t lfm_depth(lfm_seat *seat) { return seat && seat->mutex ? lfm_c_depth(seat->handle) : 0; }
+static inline uint64_t lfm_left(lfm_seat *seat) { return seat && seat->mutex ? lfm_c_left(seat->handle) : 0; }
+
+/* The condition variable */
+
+/* Those that wait, the oldest first, guarded by a mutex of its own. The user's seat with the number n uses the list's seat n,
+ * so no two threads use one. `of` is null while the condition variable is not open. */
+typedef struct lfm_condvar {
+  lfm_mutex list;
+  lfm_mutex *of;
+  lfm_seat *seats;   /* the list's seats, by their numbers */
+  uint64_t *waiting; /* a ring of the numbers of those that wait, with room for all */
+  uint64_t first;
+  uint64_t count;
+} LFM_ALIGNED lfm_condvar;
+
+static inline void lfm_condvar_free(lfm_condvar *condvar) {
+  if (condvar->seats)
+    for (uint64_t i = 1; i <= condvar->list.seats; i++) lfm_seat_give(&condvar->seats[i]);
+  lfm_mutex_close(&condvar->list);
+  free(condvar->seats);
+  free(condvar->waiting);
+  condvar->seats = NULL;
+  condvar->waiting = NULL;
+  condvar->of = NULL;
+}
+
+/* Opens a condition variable for the seats of this mutex. Its own mutex allows each of them 2^36 waits and wakes.
+ * Refused: LFM_BLANK, LFM_TAKEN, LFM_NO_MEMORY. No call after it takes memory. */
+static inline lfm_status lfm_condvar_new(lfm_condvar *condvar, lfm_mutex *mutex) {
+  if (!condvar || !mutex || !mutex->bells) return LFM_BLANK;
+  if (condvar->of) return LFM_TAKEN;
+  uint64_t seats = mutex->seats;
+  lfm_status status = lfm_mutex_new(&condvar->list, seats, (uint64_t)1 << 36);
+  if (status != LFM_DONE) return status;
+  condvar->seats = (lfm_seat *)aligned_alloc(LFM_LINE, (seats + 1) * sizeof(lfm_seat));
+  condvar->waiting = (uint64_t *)malloc(seats * sizeof(uint64_t));
+  if (condvar->seats) memset(condvar->seats, 0, (seats + 1) * sizeof(lfm_seat));
+  if (!condvar->seats || !condvar->waiting) {
+    lfm_condvar_free(condvar);
+    return LFM_NO_MEMORY;
+  }
+  for (uint64_t i = 1; i <= seats; i++) lfm_seat_take(&condvar->list, &condvar->seats[i]);
+  condvar->first = 0;
+  condvar->count = 0;
+  condvar->of = mutex;
+  return LFM_DONE;
+}
+
+/* Gives the memory back. Refused: LFM_BLANK, LFM_WAITED_FOR. */
+static inline lfm_status lfm_condvar_close(lfm_condvar *condvar) {
+  if (!condvar || !condvar->of) return LFM_BLANK;
+  if (condvar->count != 0) return LFM_WAITED_FOR;
+  lfm_condvar_free(condvar);
+  return LFM_DONE;
+}
+
+static inline lfm_status lfm_condvar_refuses(lfm_condvar *condvar, lfm_seat *seat) {
+  if (!condvar || !condvar->of || !seat || !seat->mutex) return LFM_BLANK;
+  return seat->mutex == condvar->of ? LFM_DONE : LFM_FOREIGN;
+}
+
+/* Gives the mutex up, which the seat holds once, waits until a wake, and gains the mutex again, for one take: LFM_DONE. There is
+ * no wake without a caller of lfm_wake_one or lfm_wake_all.
+ * Refused: LFM_BLANK, LFM_FOREIGN, LFM_SEAT_ASLEEP, LFM_NOT_OWNER, LFM_NESTED, LFM_SPENT. */
+static inline lfm_status lfm_wait(lfm_condvar *condvar, lfm_seat *seat) {
+  lfm_status status = lfm_condvar_refuses(condvar, seat);
+  if (status != LFM_DONE) return status;
+  lfm_seat *by = &condvar->seats[lfm_c_number(seat->handle)];
+  status = lfm_lock(by);
+  if (lfm_is_refused(status)) return status;
+  lfm_giving_up(seat);
+  status = lfm_told(seat->mutex, lfm_c_start_wait(seat->handle));
+  if (!lfm_is_refused(status)) {
+    condvar->waiting[(condvar->first + condvar->count) % condvar->of->seats] = lfm_c_number(seat->handle);
+    condvar->count++;
+  }
+  lfm_unlock(by);
+  if (lfm_is_refused(status)) return status;
+  return lfm_gained(seat, lfm_receive(seat, 0));
+}
+
+/* Sends the oldest of those that wait, whose seat then gains the mutex or is queued. The list's mutex is held. */
+static inline lfm_status lfm_send_oldest(lfm_condvar *condvar, lfm_seat *seat) {
+  if (condvar->count == 0) return LFM_NOBODY;
+  lfm_status status = (lfm_status)lfm_c_send(seat->handle, condvar->waiting[condvar->first]);
+  if (lfm_is_refused(status)) return status;
+  condvar->first = (condvar->first + 1) % condvar->of->seats;
+  condvar->count--;
+  lfm_ring_granted(seat);
+  return LFM_DONE;
+}
+
+static inline lfm_status lfm_wake(lfm_condvar *condvar, lfm_seat *seat, bool all) {
+  lfm_status status = lfm_condvar_refuses(condvar, seat);
+  if (status != LFM_DONE) return status;
+  lfm_seat *by = &condvar->seats[lfm_c_number(seat->handle)];
+  status = lfm_lock(by);
+  if (lfm_is_refused(status)) return status;
+  status = lfm_send_oldest(condvar, seat);
+  while (all && status == LFM_DONE && condvar->count != 0) status = lfm_send_oldest(condvar, seat);
+  lfm_unlock(by);
+  return status;
+}
+
+/* Wakes the seat that has waited longest, if any: LFM_DONE or LFM_NOBODY. The caller's seat may hold the mutex or not.
+ * Refused: LFM_BLANK, LFM_FOREIGN, LFM_SEAT_ASLEEP, LFM_SPENT (of the condition variable's own 2^36). */
+static inline lfm_status lfm_wake_one(lfm_condvar *condvar, lfm_seat *seat) { return lfm_wake(condvar, seat, false); }
+
+/* Wakes all that wait now: LFM_DONE or LFM_NOBODY. Refused as lfm_wake_one. */
+static inline lfm_status lfm_wake_all(lfm_condvar *condvar, lfm_seat *seat) { return lfm_wake(condvar, seat, true); }
+
+#ifdef __cplusplus
+}
+#endif
+#endif

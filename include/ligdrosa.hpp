@@ -1,0 +1,172 @@
+// Ligdrosa for C++17, over ligdrosa.h, which says what a program promises.
+//
+// lfm::recursive_mutex is used as std::recursive_mutex, and lfm::condition_variable as std::condition_variable:
+//
+//     lfm::recursive_mutex mutex(8);             // at most 8 threads at a time
+//     lfm::condition_variable full(mutex);
+//
+//     std::unique_lock lock(mutex);
+//     full.wait(lock, [&] { return !queue.empty(); });
+//
+// Where a thread is to have its seat in hand, lfm::mutex gives lfm::seat, and lfm::seat_lock is the seat as a Lockable. The
+// locks of the standard library take both, and so does std::condition_variable_any.
+#pragma once
+
+#include <atomic>
+#include <map>
+#include <memory>
+#include <mutex>
+#include <stdexcept>
+#include <string>
+
+#include "ligdrosa.h"
+
+namespace lfm {
+
+// A call was refused.
+class refused : public std::runtime_error {
+  lfm_status told;
+
+public:
+  explicit refused(lfm_status status) : std::runtime_error("ligdrosa refuses a call: " + std::to_string(status)), told(status) {}
+  // Why.
+  lfm_status status() const noexcept { return told; }
+};
+
+// The status, or an exception where the call was refused.
+inline lfm_status made(lfm_status status) {
+  if (lfm_is_refused(status)) throw refused(status);
+  return status;
+}
+
+// The greatest number of takes that a seat may be allowed.
+inline constexpr uint64_t most_takes = uint64_t(1) << 36;
+
+// A mutex whose seats are taken in hand. It outlives them.
+class mutex {
+  lfm_mutex raw{};
+
+public:
+  // Throws as lfm_mutex_new refuses.
+  explicit mutex(uint64_t seats, uint64_t budget = most_takes) { made(lfm_mutex_new(&raw, seats, budget)); }
+  mutex(const mutex &) = delete;
+  mutex &operator=(const mutex &) = delete;
+  ~mutex() { lfm_mutex_close(&raw); }
+  lfm_mutex *native_handle() noexcept { return &raw; }
+};
+
+// A seat of a mutex, for one thread at a time.
+class seat {
+  lfm_seat raw{};
+
+public:
+  // Throws as lfm_seat_take refuses.
+  explicit seat(mutex &of) { made(lfm_seat_take(of.native_handle(), &raw)); }
+  seat(const seat &) = delete;
+  seat &operator=(const seat &) = delete;
+  ~seat() { lfm_seat_give(&raw); }
+  lfm_seat *native_handle() noexcept { return &raw; }
+  uint64_t number() noexcept { return lfm_number(&raw); }
+  uint64_t depth() noexcept { return lfm_depth(&raw); }
+  uint64_t left() noexcept { return lfm_left(&raw); }
+};
+
+// A seat as a Lockable.
+class seat_lock {
+  lfm_seat *of;
+
+public:
+  explicit seat_lock(seat &s) noexcept : of(s.native_handle()) {}
+  explicit seat_lock(lfm_seat &s) noexcept : of(&s) {}
+  // Throws as lfm_lock refuses.
+  void lock() { made(lfm_lock(of)); }
+  // False where another seat holds the mutex or asked for it first. Throws as lfm_try_lock refuses else.
+  bool try_lock() {
+    lfm_status status = lfm_try_lock(of);
+    if (status == LFM_BUSY) return false;
+    made(status);
+    return true;
+  }
+  // Throws as lfm_unlock refuses.
+  void unlock() { made(lfm_unlock(of)); }
+};
+
+// A mutex that finds the seat of the calling thread by itself. A thread takes a seat at its first lock and gives it back when it
+// ends, so as many threads may use it at a time as it has seats: more are refused as LFM_NO_SEAT, by an exception.
+class recursive_mutex {
+  // The mutex lies here as long as it or the seat of a thread is there.
+  struct shared {
+    lfm_mutex raw{};
+    ~shared() { lfm_mutex_close(&raw); }
+  };
+
+  struct own_seat {
+    std::shared_ptr<shared> of;
+    std::unique_ptr<lfm_seat> raw;
+    own_seat(std::shared_ptr<shared> mutex) : of(std::move(mutex)), raw(new lfm_seat()) { made(lfm_seat_take(&of->raw, raw.get())); }
+    own_seat(own_seat &&) = default;
+    ~own_seat() {
+      // A thread that ends while it holds leaves its seat, and with it the mutex.
+      if (raw && lfm_is_refused(lfm_seat_give(raw.get()))) raw.release();
+    }
+  };
+
+  // Numbers tell mutexes apart, since a new one may lie where another one lay.
+  static uint64_t next_number() {
+    static std::atomic<uint64_t> last{0};
+    return ++last;
+  }
+
+  static std::map<uint64_t, own_seat> &seats() {
+    thread_local std::map<uint64_t, own_seat> all;
+    return all;
+  }
+
+  std::shared_ptr<shared> state = std::make_shared<shared>();
+  uint64_t number = next_number();
+
+public:
+  // Throws as lfm_mutex_new refuses.
+  explicit recursive_mutex(uint64_t most_threads = 64, uint64_t budget = most_takes) { made(lfm_mutex_new(&state->raw, most_threads, budget)); }
+  recursive_mutex(const recursive_mutex &) = delete;
+  recursive_mutex &operator=(const recursive_mutex &) = delete;
+  ~recursive_mutex() { seats().erase(number); }
+
+  lfm_mutex *native_handle() noexcept { return &state->raw; }
+
+  // The calling thread's seat. Throws LFM_NO_SEAT where too many threads have one.
+  lfm_seat *own() {
+    auto &all = seats();
+    auto at = all.find(number);
+    if (at == all.end()) at = all.emplace(number, own_seat(state)).first;
+    return at->second.raw.get();
+  }
+
+  void lock() { seat_lock(*own()).lock(); }
+  bool try_lock() { return seat_lock(*own()).try_lock(); }
+  void unlock() { seat_lock(*own()).unlock(); }
+};
+
+// A condition variable of one mutex. There is no wake without a notify.
+class condition_variable {
+  lfm_condvar raw{};
+  recursive_mutex *of;
+
+public:
+  // Throws as lfm_condvar_new refuses.
+  explicit condition_variable(recursive_mutex &mutex) : of(&mutex) { made(lfm_condvar_new(&raw, mutex.native_handle())); }
+  condition_variable(const condition_variable &) = delete;
+  condition_variable &operator=(const condition_variable &) = delete;
+  ~condition_variable() { lfm_condvar_close(&raw); }
+
+  // Throws as lfm_wait refuses: LFM_FOREIGN where the lock is of another mutex, LFM_NESTED where it is not the thread's only hold.
+  void wait(std::unique_lock<recursive_mutex> &lock) { made(lfm_wait(&raw, lock.mutex()->own())); }
+  template <class Predicate> void wait(std::unique_lock<recursive_mutex> &lock, Predicate predicate) {
+    while (!predicate()) wait(lock);
+  }
+  // Wakes the thread that has waited longest, or all; a thread that calls them needs a seat, as for a lock.
+  void notify_one() { made(lfm_wake_one(&raw, of->own())); }
+  void notify_all() { made(lfm_wake_all(&raw, of->own())); }
+};
+
+} // namespace lfm

@@ -1,0 +1,12 @@
+//! Links the archives that scripts/build_c puts into out/, or into the folder that LIGDROSA_OUT names.
+use std::{env, path::PathBuf};
+
+fn main() {
+    println!("cargo:rerun-if-env-changed=LIGDROSA_OUT");
+    let beside =
+        PathBuf::from(env::var_os("CARGO_MANIFEST_DIR").unwrap_or_default()).join("../out");
+    let out = env::var_os("LIGDROSA_OUT").map_or(beside, PathBuf::from);
+    println!("cargo:rustc-link-search=native={}", out.display());
+    println!("cargo:rustc-link-lib=static=lfm_c");
+    println!("cargo:rustc-link-lib=static=libc_c");
+}

@@ -1,0 +1,130 @@
+//! A condition variable: those that wait, the oldest first, guarded by a mutex of its own.
+use crate::library::Refusal;
+use crate::seat::{places, Core, Guard, Place, Seat};
+use std::{cell::UnsafeCell, collections::VecDeque, sync::Arc};
+
+/// The greatest number of takes that a seat may be allowed.
+const MOST_TAKES: u64 = 1 << 36;
+
+/// A condition variable of one mutex. There is no wake without a call of `wake_one` or `wake_all`.
+pub struct Condvar {
+    of: Arc<Core>,
+    /// The list's seats. The user's seat n uses the list's seat n, so no two calls use one.
+    seats: Vec<UnsafeCell<Place>>,
+    /// The numbers of the seats that wait, touched by who holds the list's mutex.
+    waiting: UnsafeCell<VecDeque<u64>>,
+}
+
+unsafe impl Send for Condvar {}
+unsafe impl Sync for Condvar {}
+
+mod sealed {
+    pub trait Sealed<T> {
+        fn seat(&mut self) -> &mut super::Seat<T>;
+    }
+}
+
+/// Who may wake: a seat, or the guard by which it holds the mutex.
+pub trait Caller<T>: sealed::Sealed<T> {}
+
+impl<T> sealed::Sealed<T> for Seat<T> {
+    fn seat(&mut self) -> &mut Seat<T> {
+        self
+    }
+}
+
+impl<T> sealed::Sealed<T> for Guard<'_, T> {
+    fn seat(&mut self) -> &mut Seat<T> {
+        self.0
+    }
+}
+
+impl<T> Caller<T> for Seat<T> {}
+impl<T> Caller<T> for Guard<'_, T> {}
+
+impl Condvar {
+    /// A condition variable of the mutex that has this seat, for as many seats as are given. Refused: `Limit`, `Memory`.
+    pub fn new<T>(seat: &Seat<T>, seats: usize) -> Result<Condvar, Refusal> {
+        Ok(Condvar {
+            of: seat.core().clone(),
+            seats: places(seats, MOST_TAKES)?
+                .into_iter()
+                .map(UnsafeCell::new)
+                .collect(),
+            waiting: UnsafeCell::new(VecDeque::with_capacity(seats)),
+        })
+    }
+
+    /// The list's seat that goes with the user's, which its caller has to itself.
+    #[allow(clippy::mut_from_ref)]
+    fn beside<T>(&self, seat: &mut Seat<T>) -> Result<&mut Place, Refusal> {
+        if !seat.is_beside(&self.of) {
+            return Err(Refusal::Foreign);
+        }
+        let at = seat.number() as usize - 1;
+        let place = self.seats.get(at).ok_or(Refusal::Foreign)?;
+        Ok(unsafe { &mut *place.get() })
+    }
+
+    /// The list, for who holds its mutex.
+    #[allow(clippy::mut_from_ref)]
+    unsafe fn list(&self) -> &mut VecDeque<u64> {
+        &mut *self.waiting.get()
+    }
+
+    /// Gives the mutex up, waits until a wake, and gains the mutex again, for one take. Refused: `Foreign`, `Nested` where the
+    /// seat holds more than once, `Spent`.
+    pub fn wait<T>(&self, guard: &mut Guard<'_, T>) -> Result<(), Refusal> {
+        let seat = &mut *guard.0;
+        let by = self.beside(seat)?;
+        by.lock()?;
+        let started = seat.place.start_wait();
+        if started.is_ok() {
+            unsafe { self.list() }.push_back(seat.number());
+        }
+        by.unlock();
+        started?;
+        seat.place.receive(0);
+        Ok(())
+    }
+
+    /// Sends the oldest of those that wait, whose seat then gains the mutex or is queued. The list's mutex is held.
+    unsafe fn send_oldest<T>(&self, seat: &mut Seat<T>) -> Result<bool, Refusal> {
+        let list = self.list();
+        let Some(&number) = list.front() else {
+            return Ok(false);
+        };
+        seat.place.send(number)?;
+        list.pop_front();
+        Ok(true)
+    }
+
+    fn wake<T>(&self, seat: &mut Seat<T>, most: usize) -> Result<usize, Refusal> {
+        let by = self.beside(seat)?;
+        by.lock()?;
+        let mut woken = 0;
+        let mut refused = None;
+        while woken < most {
+            match unsafe { self.send_oldest(seat) } {
+                Ok(true) => woken += 1,
+                Ok(false) => break,
+                Err(refusal) => {
+                    refused = Some(refusal);
+                    break;
+                }
+            }
+        }
+        by.unlock();
+        refused.map_or(Ok(woken), Err)
+    }
+
+    /// Wakes the seat that has waited longest, and answers how many were woken: 0 or 1. Refused: `Foreign`, `Spent`.
+    pub fn wake_one<T>(&self, by: &mut impl Caller<T>) -> Result<usize, Refusal> {
+        self.wake(by.seat(), 1)
+    }
+
+    /// Wakes all that wait now, and answers how many. Refused: `Foreign`, `Spent`.
+    pub fn wake_all<T>(&self, by: &mut impl Caller<T>) -> Result<usize, Refusal> {
+        self.wake(by.seat(), usize::MAX)
+    }
+}

@@ -1,0 +1,91 @@
+//! The calls of the library, and what they tell.
+use std::{ffi::c_void, fmt};
+
+extern "C" {
+    pub fn lfm_c_mutex_size() -> usize;
+    pub fn lfm_c_mutex_align() -> usize;
+    pub fn lfm_c_seat_size() -> usize;
+    pub fn lfm_c_seat_align() -> usize;
+    pub fn lfm_c_blank_seat(seat: *mut c_void);
+    pub fn lfm_c_open(mutex: *mut c_void, seats: u64, budget: u64) -> u64;
+    pub fn lfm_c_take_seat(mutex: *mut c_void, seat: *mut c_void) -> u64;
+    pub fn lfm_c_give_seat(mutex: *mut c_void, seat: *mut c_void) -> u64;
+    pub fn lfm_c_close(mutex: *mut c_void) -> u64;
+    pub fn lfm_c_number(seat: *mut c_void) -> u64;
+    pub fn lfm_c_depth(seat: *mut c_void) -> u64;
+    pub fn lfm_c_left(seat: *mut c_void) -> u64;
+    pub fn lfm_c_ask(seat: *mut c_void) -> u64;
+    pub fn lfm_c_receive(seat: *mut c_void) -> u64;
+    pub fn lfm_c_try_lock(seat: *mut c_void) -> u64;
+    pub fn lfm_c_unlock(seat: *mut c_void) -> u64;
+    pub fn lfm_c_start_wait(seat: *mut c_void) -> u64;
+    pub fn lfm_c_send(seat: *mut c_void, number: u64) -> u64;
+    pub fn lfm_c_granted(seat: *mut c_void, above: u64) -> u64;
+}
+
+/// The seat sleeps.
+pub const ASLEEP: u64 = 3;
+
+/// Why a call was refused. A refused call has changed nothing.
+#[derive(Clone, Copy, Debug, PartialEq, Eq)]
+pub enum Refusal {
+    /// Not 1 to 4,095 seats, or not 1 to 2^36 takes for each.
+    Limit,
+    /// Memory was refused.
+    Memory,
+    /// The seat is of another mutex.
+    Foreign,
+    /// The library is of another version than this crate.
+    OtherVersion,
+    /// The seat holds more than once, and a wait gives up one hold alone.
+    Nested,
+    /// The seat holds 65,535 times already.
+    DepthFull,
+    /// The seat has no take left.
+    Spent,
+    /// Another seat holds the mutex, or asked for it first.
+    Busy,
+    /// A status that no call of this crate is refused by.
+    Other(u64),
+}
+
+impl Refusal {
+    fn of(status: u64) -> Refusal {
+        match status {
+            18 => Refusal::Limit,
+            19 => Refusal::Memory,
+            34 => Refusal::Nested,
+            35 => Refusal::DepthFull,
+            36 => Refusal::Spent,
+            39 => Refusal::Busy,
+            other => Refusal::Other(other),
+        }
+    }
+}
+
+impl fmt::Display for Refusal {
+    fn fmt(&self, f: &mut fmt::Formatter<'_>) -> fmt::Result {
+        match self {
+            Refusal::Limit => f.write_str("a number is outside its limits"),
+            Refusal::Memory => f.write_str("out of memory"),
+            Refusal::Foreign => f.write_str("the seat is of another mutex"),
+            Refusal::OtherVersion => f.write_str("the library is of another version"),
+            Refusal::Nested => f.write_str("the seat holds the mutex more than once"),
+            Refusal::DepthFull => f.write_str("the seat holds the mutex as often as it may"),
+            Refusal::Spent => f.write_str("the seat has no take left"),
+            Refusal::Busy => f.write_str("the mutex is busy"),
+            Refusal::Other(status) => write!(f, "the library answered {status}"),
+        }
+    }
+}
+
+impl std::error::Error for Refusal {}
+
+/// The status of a call that was made, or why it was refused.
+pub fn made(status: u64) -> Result<u64, Refusal> {
+    if status < 16 {
+        Ok(status)
+    } else {
+        Err(Refusal::of(status))
+    }
+}

@@ -1,0 +1,287 @@
+//! A mutex by its seats: how they are made, and how a seat locks.
+use crate::library::*;
+use crate::sleep::Bell;
+use std::{
+    cell::UnsafeCell,
+    ffi::c_void,
+    ops::{Deref, DerefMut},
+    sync::{Arc, Mutex},
+};
+
+/// How often a seat looks whether it is granted the mutex, before its thread sleeps.
+const LOOKS: u32 = 300;
+
+const MUTEX_BYTES: usize = 128;
+const SEAT_BYTES: usize = 256;
+const LINE: usize = 64;
+
+#[repr(C, align(64))]
+struct Bytes<const N: usize>(UnsafeCell<[u8; N]>);
+
+impl<const N: usize> Bytes<N> {
+    /// Zero bytes, which are the blank handle of a mutex.
+    fn new() -> Bytes<N> {
+        Bytes(UnsafeCell::new([0; N]))
+    }
+
+    fn at(&self) -> *mut c_void {
+        self.0.get().cast()
+    }
+}
+
+/// A mutex of the library, with a bell for each seat.
+pub(crate) struct Core {
+    handle: Bytes<MUTEX_BYTES>,
+    bells: Vec<Bell>,
+    /// Held while a seat is taken or given back, which one thread at a time may do.
+    taking: Mutex<()>,
+}
+
+// The handle may go from thread to thread, and `taking` lets one at a time touch it.
+unsafe impl Send for Core {}
+unsafe impl Sync for Core {}
+
+impl Core {
+    fn new(seats: usize, budget: u64) -> Result<Core, Refusal> {
+        let core = Core {
+            handle: Bytes::new(),
+            bells: (0..=seats.min(4095)).map(|_| Bell::default()).collect(),
+            taking: Mutex::new(()),
+        };
+        unsafe {
+            if lfm_c_mutex_size() > MUTEX_BYTES
+                || lfm_c_seat_size() > SEAT_BYTES
+                || lfm_c_mutex_align() > LINE
+                || lfm_c_seat_align() > LINE
+            {
+                return Err(Refusal::OtherVersion);
+            }
+            made(lfm_c_open(core.handle.at(), seats as u64, budget))?;
+        }
+        Ok(core)
+    }
+
+    fn ring(&self, number: u64) {
+        self.bells[number as usize].ring();
+    }
+
+    /// Rings for the seat that an answer names, and gives the status.
+    fn told(&self, answer: u64) -> u64 {
+        if answer > 255 {
+            self.ring(answer >> 8);
+        }
+        answer & 255
+    }
+}
+
+impl Drop for Core {
+    fn drop(&mut self) {
+        // Where a seat was not given back, the library keeps its memory.
+        unsafe { lfm_c_close(self.handle.at()) };
+    }
+}
+
+/// A seat of the library, without the value.
+pub(crate) struct Place {
+    handle: Box<Bytes<SEAT_BYTES>>,
+    core: Arc<Core>,
+}
+
+unsafe impl Send for Place {}
+
+/// A mutex's seats, in the order of their numbers.
+pub(crate) fn places(seats: usize, budget: u64) -> Result<Vec<Place>, Refusal> {
+    let core = Arc::new(Core::new(seats, budget)?);
+    (0..seats).map(|_| Place::take(&core)).collect()
+}
+
+impl Place {
+    fn take(core: &Arc<Core>) -> Result<Place, Refusal> {
+        let handle = Box::new(Bytes::new());
+        let taking = core.taking.lock();
+        unsafe {
+            lfm_c_blank_seat(handle.at());
+            made(lfm_c_take_seat(core.handle.at(), handle.at()))?;
+        }
+        drop(taking);
+        Ok(Place {
+            handle,
+            core: core.clone(),
+        })
+    }
+
+    fn at(&self) -> *mut c_void {
+        self.handle.at()
+    }
+
+    pub(crate) fn number(&self) -> u64 {
+        unsafe { lfm_c_number(self.at()) }
+    }
+
+    /// Rings for all seats that have a grant to receive. An ask that answers Asleep, and a send, may grant the mutex to another
+    /// seat and don't tell to whom.
+    fn ring_granted(&self) {
+        let mut number = 0;
+        loop {
+            number = unsafe { lfm_c_granted(self.at(), number) };
+            if number == 0 {
+                return;
+            }
+            self.core.ring(number);
+        }
+    }
+
+    /// Sleeps until the seat, which is asleep, is granted the mutex.
+    pub(crate) fn receive(&mut self, looks: u32) -> u64 {
+        let bell = &self.core.bells[self.number() as usize];
+        let mut looks = looks;
+        let mut has_rung = false;
+        loop {
+            let seen = bell.rings();
+            let status = unsafe { lfm_c_receive(self.at()) };
+            if status != ASLEEP {
+                return status;
+            }
+            if looks > 0 {
+                looks -= 1;
+                std::hint::spin_loop();
+                continue;
+            }
+            // Whom this seat's ask or wait granted the mutex stands before it, so it is woken before this thread sleeps.
+            if !has_rung {
+                self.ring_granted();
+                has_rung = true;
+            }
+            bell.sleep(seen);
+        }
+    }
+
+    pub(crate) fn lock(&mut self) -> Result<u64, Refusal> {
+        let status = unsafe { lfm_c_ask(self.at()) };
+        made(if status == ASLEEP {
+            self.receive(LOOKS)
+        } else {
+            status
+        })
+    }
+
+    fn try_lock(&mut self) -> Result<u64, Refusal> {
+        made(unsafe { lfm_c_try_lock(self.at()) })
+    }
+
+    pub(crate) fn unlock(&mut self) {
+        let answer = unsafe { lfm_c_unlock(self.at()) };
+        self.core.told(answer);
+    }
+
+    /// Gives the mutex up, and leaves the seat asleep until it is sent.
+    pub(crate) fn start_wait(&mut self) -> Result<u64, Refusal> {
+        let answer = unsafe { lfm_c_start_wait(self.at()) };
+        made(self.core.told(answer))
+    }
+
+    /// Sends a seat that waits.
+    pub(crate) fn send(&mut self, number: u64) -> Result<u64, Refusal> {
+        let status = made(unsafe { lfm_c_send(self.at(), number) })?;
+        self.ring_granted();
+        Ok(status)
+    }
+}
+
+impl Drop for Place {
+    fn drop(&mut self) {
+        // A seat that holds, since its guard was forgotten, isn't given back: nobody else gains the mutex.
+        let _taking = self.core.taking.lock();
+        unsafe { lfm_c_give_seat(self.core.handle.at(), self.at()) };
+    }
+}
+
+struct Value<T>(UnsafeCell<T>);
+
+// The value is reached by the seat that holds the mutex, and there is one at a time.
+unsafe impl<T: Send> Send for Value<T> {}
+unsafe impl<T: Send> Sync for Value<T> {}
+
+/// What one thread uses a mutex with. Dropped, it is given back.
+pub struct Seat<T> {
+    pub(crate) place: Place,
+    value: Arc<Value<T>>,
+}
+
+/// A mutex round the value, as its seats, in the order of their numbers. There are 1 to 4,095 seats, and each may take the
+/// mutex as often as the budget says, 1 to 2^36. Refused: `Limit`, `Memory`, `OtherVersion`.
+pub fn mutex<T: Send>(seats: usize, budget: u64, value: T) -> Result<Vec<Seat<T>>, Refusal> {
+    let value = Arc::new(Value(UnsafeCell::new(value)));
+    let seat = |place| Seat {
+        place,
+        value: value.clone(),
+    };
+    Ok(places(seats, budget)?.into_iter().map(seat).collect())
+}
+
+impl<T> Seat<T> {
+    /// The seat's number: 1 and on.
+    pub fn number(&self) -> u64 {
+        self.place.number()
+    }
+
+    /// How many takes the seat has left.
+    pub fn left(&self) -> u64 {
+        unsafe { lfm_c_left(self.place.at()) }
+    }
+
+    /// Gains the mutex, for one take, and sleeps until then. Refused: `Spent`, and `DepthFull` where guards were forgotten.
+    pub fn lock(&mut self) -> Result<Guard<'_, T>, Refusal> {
+        self.place.lock()?;
+        Ok(Guard(self))
+    }
+
+    /// As `lock` where that needs no sleep, and else refused as `Busy`.
+    pub fn try_lock(&mut self) -> Result<Guard<'_, T>, Refusal> {
+        self.place.try_lock()?;
+        Ok(Guard(self))
+    }
+
+    pub(crate) fn is_beside(&self, other: &Arc<Core>) -> bool {
+        Arc::ptr_eq(&self.place.core, other)
+    }
+
+    pub(crate) fn core(&self) -> &Arc<Core> {
+        &self.place.core
+    }
+}
+
+/// While it lives, its seat holds the mutex. Dropped, it gives one hold up.
+pub struct Guard<'a, T>(pub(crate) &'a mut Seat<T>);
+
+impl<T> Guard<'_, T> {
+    /// Deepens the hold, and costs no take. Refused: `DepthFull`.
+    pub fn again(&mut self) -> Result<Guard<'_, T>, Refusal> {
+        self.0.lock()
+    }
+
+    /// How often the seat holds.
+    pub fn depth(&self) -> u64 {
+        unsafe { lfm_c_depth(self.0.place.at()) }
+    }
+}
+
+impl<T> Drop for Guard<'_, T> {
+    fn drop(&mut self) {
+        self.0.place.unlock();
+    }
+}
+
+impl<T> Deref for Guard<'_, T> {
+    type Target = T;
+
+    fn deref(&self) -> &T {
+        unsafe { &*self.0.value.0.get() }
+    }
+}
+
+impl<T> DerefMut for Guard<'_, T> {
+    fn deref_mut(&mut self) -> &mut T {
+        unsafe { &mut *self.0.value.0.get() }
+    }
+}

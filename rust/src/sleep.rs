@@ -1,0 +1,51 @@
+//! How threads sleep and wake: one bell for each seat, on a cache line of its own.
+//!
+//! A seat's thread reads how often its bell has rung, looks for a grant, and sleeps only while the bell has rung no more than that.
+//! A grant is stored before its ring, so a ring is never missed.
+use std::{
+    ffi::{c_int, c_long},
+    sync::atomic::{AtomicU32, Ordering::SeqCst},
+};
+
+extern "C" {
+    fn syscall(number: c_long, ...) -> c_long;
+}
+
+#[cfg(target_arch = "x86_64")]
+const FUTEX: c_long = 202;
+#[cfg(target_arch = "aarch64")]
+const FUTEX: c_long = 98;
+const WAIT_PRIVATE: c_int = 128;
+const WAKE_PRIVATE: c_int = 129;
+
+/// A bell: how often it has rung, and whether its seat's thread sleeps.
+#[derive(Default)]
+#[repr(align(64))]
+pub struct Bell {
+    rings: AtomicU32,
+    sleeps: AtomicU32,
+}
+
+impl Bell {
+    /// How often it has rung.
+    pub fn rings(&self) -> u32 {
+        self.rings.load(SeqCst)
+    }
+
+    /// Rings, and wakes the thread that sleeps.
+    pub fn ring(&self) {
+        self.rings.fetch_add(1, SeqCst);
+        if self.sleeps.load(SeqCst) != 0 {
+            let one: c_int = 1;
+            unsafe { syscall(FUTEX, self.rings.as_ptr(), WAKE_PRIVATE, one) };
+        }
+    }
+
+    /// Sleeps while it has rung just so often. It may return for no cause.
+    pub fn sleep(&self, seen: u32) {
+        let forever: *const u8 = std::ptr::null();
+        self.sleeps.store(1, SeqCst);
+        unsafe { syscall(FUTEX, self.rings.as_ptr(), WAIT_PRIVATE, seen, forever) };
+        self.sleeps.store(0, SeqCst);
+    }
+}

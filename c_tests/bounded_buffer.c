@@ -1,0 +1,60 @@
+/* Producers and consumers at a buffer of 4 places, with two condition variables: each number comes out once. */
+#include "expect.h"
+
+enum { PRODUCERS = 2, CONSUMERS = 2, EACH = 10000, PLACES = 4 };
+static lfm_mutex mutex;
+static lfm_condvar not_empty, not_full;
+static lfm_seat seats[PRODUCERS + CONSUMERS];
+static uint64_t buffer[PLACES], first, count, sum, taken;
+
+static void put(lfm_seat *seat, uint64_t number) {
+  EXPECT(lfm_lock(seat), LFM_DONE);
+  while (count == PLACES) EXPECT(lfm_wait(&not_full, seat), LFM_DONE);
+  buffer[(first + count) % PLACES] = number;
+  count++;
+  EXPECT(lfm_is_refused(lfm_wake_one(&not_empty, seat)), false);
+  EXPECT(lfm_is_refused(lfm_unlock(seat)), false);
+}
+
+static bool take(lfm_seat *seat) {
+  EXPECT(lfm_lock(seat), LFM_DONE);
+  while (count == 0 && taken < (uint64_t)PRODUCERS * EACH) EXPECT(lfm_wait(&not_empty, seat), LFM_DONE);
+  bool there = count != 0;
+  if (there) {
+    sum += buffer[first];
+    first = (first + 1) % PLACES;
+    count--;
+    taken++;
+    EXPECT(lfm_is_refused(lfm_wake_one(&not_full, seat)), false);
+  }
+  /* the last one taken ends the other consumers, whoever waits */
+  if (taken == (uint64_t)PRODUCERS * EACH) EXPECT(lfm_is_refused(lfm_wake_all(&not_empty, seat)), false);
+  EXPECT(lfm_is_refused(lfm_unlock(seat)), false);
+  return there;
+}
+
+static void work(unsigned thread) {
+  lfm_seat *seat = &seats[thread];
+  EXPECT(lfm_seat_take(&mutex, seat), LFM_DONE);
+  if (thread < PRODUCERS) {
+    for (uint64_t i = 0; i < EACH; i++) put(seat, thread * EACH + i);
+  } else {
+    while (take(seat)) {
+    }
+  }
+  EXPECT(lfm_seat_give(seat), LFM_DONE);
+}
+
+int main(void) {
+  EXPECT(lfm_mutex_new(&mutex, PRODUCERS + CONSUMERS, (uint64_t)1 << 36), LFM_DONE);
+  EXPECT(lfm_condvar_new(&not_empty, &mutex), LFM_DONE);
+  EXPECT(lfm_condvar_new(&not_full, &mutex), LFM_DONE);
+  in_threads(PRODUCERS + CONSUMERS, work);
+  uint64_t all = (uint64_t)PRODUCERS * EACH;
+  EXPECT(taken, all);
+  EXPECT(sum, all * (all - 1) / 2);
+  EXPECT(lfm_condvar_close(&not_full), LFM_DONE);
+  EXPECT(lfm_condvar_close(&not_empty), LFM_DONE);
+  EXPECT(lfm_mutex_close(&mutex), LFM_DONE);
+  return 0;
+}

@@ -1,0 +1,113 @@
+// A producer and two consumers at a buffer, with lfm::condition_variable and with std::condition_variable_any: each number comes out
+// once. And a lock of two mutexes at a time, of seats in hand, and of more threads than there are seats.
+#include <condition_variable>
+#include <deque>
+#include <thread>
+#include <vector>
+
+#include "expect.hpp"
+#include "ligdrosa.hpp"
+
+static const long ALL = 20000;
+
+template <class Condition> static void passes(lfm::recursive_mutex &mutex, Condition &not_empty, Condition &not_full) {
+  std::deque<long> buffer;
+  bool over = false;
+  long sums[2] = {0, 0};
+  auto consume = [&](long &sum) {
+    for (;;) {
+      std::unique_lock<lfm::recursive_mutex> lock(mutex);
+      not_empty.wait(lock, [&] { return over || !buffer.empty(); });
+      if (buffer.empty()) return;
+      sum += buffer.front();
+      buffer.pop_front();
+      not_full.notify_one();
+    }
+  };
+  std::thread first([&] { consume(sums[0]); }), second([&] { consume(sums[1]); });
+  for (long i = 1; i <= ALL; i++) {
+    std::unique_lock<lfm::recursive_mutex> lock(mutex);
+    not_full.wait(lock, [&] { return buffer.size() < 4; });
+    buffer.push_back(i);
+    not_empty.notify_one();
+  }
+  {
+    std::lock_guard<lfm::recursive_mutex> lock(mutex);
+    over = true;
+    not_empty.notify_all();
+  }
+  first.join();
+  second.join();
+  EXPECT(sums[0] + sums[1], ALL * (ALL + 1) / 2);
+}
+
+static void two_at_a_time() {
+  lfm::recursive_mutex left(4), right(4);
+  long total = 0;
+  auto work = [&](bool turned) {
+    for (int i = 0; i < 5000; i++) {
+      if (turned) {
+        std::scoped_lock lock(right, left);
+        total++;
+      } else {
+        std::scoped_lock lock(left, right);
+        total++;
+      }
+    }
+  };
+  std::thread one(work, false), other(work, true);
+  one.join();
+  other.join();
+  EXPECT(total, 10000);
+}
+
+static void seats_in_hand() {
+  lfm::mutex mutex(2);
+  lfm::seat first(mutex), second(mutex);
+  lfm::seat_lock one(first), other(second);
+  std::unique_lock<lfm::seat_lock> lock(one);
+  EXPECT(first.depth(), 1u);
+  EXPECT(other.try_lock(), false);
+  lock.unlock();
+  EXPECT(other.try_lock(), true);
+  other.unlock();
+  try {
+    one.unlock();
+    EXPECT(true, false);
+  } catch (const lfm::refused &why) {
+    EXPECT(why.status(), LFM_NOT_OWNER);
+  }
+}
+
+static void seats_of_threads() {
+  lfm::recursive_mutex mutex(2);
+  std::lock_guard<lfm::recursive_mutex> lock(mutex), again(mutex);
+  EXPECT(lfm_depth(mutex.own()), 2u);
+  // a thread that ends gives its seat back, so many can come one after another
+  for (int i = 0; i < 10; i++) std::thread([&] { EXPECT(mutex.try_lock(), false); }).join();
+  std::thread([&] {
+    EXPECT(mutex.try_lock(), false);
+    std::thread([&] {
+      try {
+        mutex.lock();
+        EXPECT(true, false);
+      } catch (const lfm::refused &why) {
+        EXPECT(why.status(), LFM_NO_SEAT);
+      }
+    }).join();
+  }).join();
+}
+
+int main() {
+  lfm::recursive_mutex mutex(4);
+  {
+    lfm::condition_variable not_empty(mutex), not_full(mutex);
+    passes(mutex, not_empty, not_full);
+  }
+  std::condition_variable_any not_empty, not_full;
+  passes(mutex, not_empty, not_full);
+  two_at_a_time();
+  seats_in_hand();
+  seats_of_threads();
+  return 0;
+}

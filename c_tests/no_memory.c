@@ -1,0 +1,72 @@
+/* Each request for memory is refused in turn: the call answers LFM_NO_MEMORY, has changed nothing, and leaks nothing. It is linked with
+ * --wrap for malloc, realloc, free and aligned_alloc. */
+#include "expect.h"
+
+static long allowed = -1; /* how many more requests are granted; all, below 0 */
+static long given;        /* how many blocks are not given back */
+
+void *__real_malloc(size_t);
+void *__real_realloc(void *, size_t);
+void *__real_aligned_alloc(size_t, size_t);
+void __real_free(void *);
+
+static bool is_refused(void) {
+  if (allowed == 0) return true;
+  if (allowed > 0) allowed--;
+  return false;
+}
+
+static void *counted(void *block) {
+  if (block) given++;
+  return block;
+}
+
+void *__wrap_malloc(size_t size) { return is_refused() ? NULL : counted(__real_malloc(size)); }
+void *__wrap_aligned_alloc(size_t align, size_t size) { return is_refused() ? NULL : counted(__real_aligned_alloc(align, size)); }
+
+void *__wrap_realloc(void *block, size_t size) {
+  if (is_refused()) return NULL;
+  return block ? __real_realloc(block, size) : counted(__real_malloc(size));
+}
+
+void __wrap_free(void *block) {
+  if (block) given--;
+  __real_free(block);
+}
+
+static lfm_mutex mutex;
+static lfm_condvar condvar;
+static lfm_seat seat;
+
+static long refuse_each(lfm_status (*make)(void)) {
+  long before = given;
+  for (long granted = 0;; granted++) {
+    allowed = granted;
+    lfm_status status = make();
+    allowed = -1;
+    if (status == LFM_DONE) return granted;
+    EXPECT(status, LFM_NO_MEMORY);
+    EXPECT(given, before);
+  }
+}
+
+static lfm_status make_mutex(void) { return lfm_mutex_new(&mutex, 3, 100); }
+static lfm_status make_condvar(void) { return lfm_condvar_new(&condvar, &mutex); }
+
+int main(void) {
+  EXPECT(refuse_each(make_mutex) > 3, true);
+  allowed = 0; /* no other call asks for memory */
+  EXPECT(lfm_seat_take(&mutex, &seat), LFM_DONE);
+  EXPECT(lfm_lock(&seat), LFM_DONE);
+  EXPECT(lfm_lock(&seat), LFM_AGAIN);
+  EXPECT(lfm_unlock(&seat), LFM_STILL);
+  EXPECT(lfm_unlock(&seat), LFM_DONE);
+  EXPECT(lfm_condvar_new(&condvar, &mutex), LFM_NO_MEMORY);
+  allowed = -1;
+  EXPECT(refuse_each(make_condvar) > 3, true);
+  EXPECT(lfm_condvar_close(&condvar), LFM_DONE);
+  EXPECT(lfm_seat_give(&seat), LFM_DONE);
+  EXPECT(lfm_mutex_close(&mutex), LFM_DONE);
+  EXPECT(given, 0);
+  return 0;
+}

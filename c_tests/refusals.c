@@ -1,0 +1,198 @@
+/* Each refusal, in one thread, and that a refused call has changed nothing. */
+#include "expect.h"
+
+static lfm_mutex mutex;
+static lfm_seat first, second, third;
+
+static void what_is_blank(void) {
+  static lfm_mutex blank;
+  static lfm_seat seat;
+  EXPECT(lfm_mutex_new(NULL, 1, 1), LFM_BLANK);
+  EXPECT(lfm_seat_take(NULL, &seat), LFM_BLANK);
+  EXPECT(lfm_seat_take(&blank, &seat), LFM_BLANK);
+  EXPECT(lfm_mutex_close(NULL), LFM_BLANK);
+  EXPECT(lfm_mutex_close(&blank), LFM_BLANK);
+  EXPECT(lfm_seat_give(NULL), LFM_BLANK);
+  EXPECT(lfm_seat_give(&seat), LFM_BLANK);
+  EXPECT(lfm_lock(NULL), LFM_BLANK);
+  EXPECT(lfm_lock(&seat), LFM_BLANK);
+  EXPECT(lfm_try_lock(&seat), LFM_BLANK);
+  EXPECT(lfm_unlock(&seat), LFM_BLANK);
+  EXPECT(lfm_number(&seat) + lfm_depth(&seat) + lfm_left(&seat), 0);
+}
+
+static void what_the_library_calls_blank(void) {
+  static LFM_ALIGNED unsigned char a[LFM_MUTEX_BYTES], b[LFM_SEAT_BYTES];
+  lfm_c_blank_seat(b);
+  EXPECT(lfm_c_take_seat(a, b), LFM_BLANK);
+  EXPECT(lfm_c_give_seat(a, b), LFM_BLANK);
+  EXPECT(lfm_c_close(a), LFM_BLANK);
+  EXPECT(lfm_c_ask(b), LFM_BLANK);
+  EXPECT(lfm_c_receive(b), LFM_BLANK);
+  EXPECT(lfm_c_try_lock(b), LFM_BLANK);
+  EXPECT(lfm_c_unlock(b), LFM_BLANK);
+  EXPECT(lfm_c_start_wait(b), LFM_BLANK);
+  EXPECT(lfm_c_send(b, 1), LFM_BLANK);
+  EXPECT(lfm_c_number(b) + lfm_c_depth(b) + lfm_c_left(b) + lfm_c_granted(b, 0), 0);
+}
+
+static void limits(void) {
+  EXPECT(lfm_mutex_new(&mutex, 0, 1), LFM_LIMIT);
+  EXPECT(lfm_mutex_new(&mutex, 4096, 1), LFM_LIMIT);
+  EXPECT(lfm_mutex_new(&mutex, UINT64_MAX, 1), LFM_LIMIT);
+  EXPECT(lfm_mutex_new(&mutex, 1, 0), LFM_LIMIT);
+  EXPECT(lfm_mutex_new(&mutex, 1, ((uint64_t)1 << 36) + 1), LFM_LIMIT);
+  EXPECT(lfm_mutex_new(&mutex, 4095, (uint64_t)1 << 36), LFM_DONE);
+  EXPECT(lfm_mutex_close(&mutex), LFM_DONE);
+}
+
+static void seats_taken_and_back(void) {
+  EXPECT(lfm_mutex_new(&mutex, 2, 100), LFM_DONE);
+  EXPECT(lfm_mutex_new(&mutex, 2, 100), LFM_TAKEN);
+  EXPECT(lfm_seat_take(&mutex, &first), LFM_DONE);
+  EXPECT(lfm_seat_take(&mutex, &first), LFM_TAKEN);
+  EXPECT(lfm_seat_take(&mutex, &second), LFM_DONE);
+  EXPECT(lfm_seat_take(&mutex, &third), LFM_NO_SEAT);
+  EXPECT(lfm_number(&first), 1);
+  EXPECT(lfm_number(&second), 2);
+  EXPECT(lfm_lock(&first), LFM_DONE);
+  EXPECT(lfm_seat_give(&first), LFM_HOLDING);
+  EXPECT(lfm_mutex_close(&mutex), LFM_NOT_BACK);
+  EXPECT(lfm_depth(&first), 1);
+  EXPECT(lfm_unlock(&first), LFM_DONE);
+  EXPECT(lfm_left(&first), 99);
+  EXPECT(lfm_seat_give(&first), LFM_DONE);
+  EXPECT(lfm_seat_give(&first), LFM_BLANK);
+  EXPECT(lfm_mutex_close(&mutex), LFM_NOT_BACK);
+  EXPECT(lfm_seat_take(&mutex, &third), LFM_DONE);
+  EXPECT(lfm_number(&third), 1);
+  EXPECT(lfm_left(&third), 99);
+  EXPECT(lfm_seat_give(&third), LFM_DONE);
+  EXPECT(lfm_seat_give(&second), LFM_DONE);
+  EXPECT(lfm_mutex_close(&mutex), LFM_DONE);
+  EXPECT(lfm_mutex_close(&mutex), LFM_BLANK);
+  EXPECT(lfm_seat_take(&mutex, &first), LFM_BLANK);
+}
+
+static void two_seats_of(uint64_t budget) {
+  EXPECT(lfm_mutex_new(&mutex, 2, budget), LFM_DONE);
+  EXPECT(lfm_seat_take(&mutex, &first), LFM_DONE);
+  EXPECT(lfm_seat_take(&mutex, &second), LFM_DONE);
+}
+
+static void both_back(void) {
+  EXPECT(lfm_seat_give(&first), LFM_DONE);
+  EXPECT(lfm_seat_give(&second), LFM_DONE);
+  EXPECT(lfm_mutex_close(&mutex), LFM_DONE);
+}
+
+static void calls_of_a_seat(void) {
+  two_seats_of(3);
+  EXPECT(lfm_unlock(&first), LFM_NOT_OWNER);
+  EXPECT(lfm_lock(&first), LFM_DONE);
+  EXPECT(lfm_try_lock(&second), LFM_BUSY);
+  EXPECT(lfm_left(&second), 3);
+  EXPECT(lfm_unlock(&second), LFM_NOT_OWNER);
+  for (uint64_t depth = 2; depth <= 65535; depth++) EXPECT(lfm_lock(&first), LFM_AGAIN);
+  EXPECT(lfm_lock(&first), LFM_DEPTH_FULL);
+  EXPECT(lfm_try_lock(&first), LFM_DEPTH_FULL);
+  EXPECT(lfm_depth(&first), 65535);
+  for (uint64_t depth = 65534; depth >= 1; depth--) EXPECT(lfm_unlock(&first), LFM_STILL);
+  EXPECT(lfm_unlock(&first), LFM_DONE);
+  EXPECT(lfm_left(&first), 2);
+  EXPECT(lfm_try_lock(&first), LFM_DONE);
+  EXPECT(lfm_unlock(&first), LFM_DONE);
+  EXPECT(lfm_lock(&first), LFM_DONE);
+  EXPECT(lfm_unlock(&first), LFM_DONE);
+  EXPECT(lfm_lock(&first), LFM_SPENT);
+  EXPECT(lfm_try_lock(&first), LFM_SPENT);
+  both_back();
+}
+
+/* A seat sleeps while it waits for the mutex: here the header's halves are called one by one. */
+static void calls_of_a_sleeping_seat(void) {
+  two_seats_of(10);
+  EXPECT(lfm_lock(&first), LFM_DONE);
+  EXPECT(lfm_c_ask(second.handle), LFM_ASLEEP);
+  EXPECT(lfm_c_receive(second.handle), LFM_ASLEEP);
+  EXPECT(lfm_lock(&second), LFM_SEAT_ASLEEP);
+  EXPECT(lfm_try_lock(&second), LFM_SEAT_ASLEEP);
+  EXPECT(lfm_unlock(&second), LFM_SEAT_ASLEEP);
+  EXPECT(lfm_seat_give(&second), LFM_SEAT_ASLEEP);
+  EXPECT(lfm_c_start_wait(second.handle), LFM_SEAT_ASLEEP);
+  EXPECT(lfm_c_send(second.handle, 1), LFM_SEAT_ASLEEP);
+  EXPECT(lfm_c_granted(first.handle, 0), 0);
+  EXPECT(lfm_c_unlock(first.handle), LFM_GRANTED + 256 * 2);
+  EXPECT(lfm_c_granted(first.handle, 0), 2);
+  EXPECT(lfm_c_granted(first.handle, 2), 0);
+  EXPECT(lfm_c_receive(second.handle), LFM_DONE);
+  EXPECT(lfm_c_receive(second.handle), LFM_NOT_WAITING);
+  EXPECT(lfm_unlock(&second), LFM_DONE);
+  both_back();
+}
+
+static void sends(void) {
+  two_seats_of(10);
+  EXPECT(lfm_c_start_wait(first.handle), LFM_NOT_OWNER);
+  EXPECT(lfm_lock(&first), LFM_DONE);
+  EXPECT(lfm_lock(&first), LFM_AGAIN);
+  EXPECT(lfm_c_start_wait(first.handle), LFM_NESTED);
+  EXPECT(lfm_unlock(&first), LFM_STILL);
+  EXPECT(lfm_c_send(second.handle, 0), LFM_NO_SUCH_SEAT);
+  EXPECT(lfm_c_send(second.handle, 3), LFM_NO_SUCH_SEAT);
+  EXPECT(lfm_c_send(second.handle, 5000), LFM_NO_SUCH_SEAT);
+  EXPECT(lfm_c_send(second.handle, 1), LFM_NOT_WAITING);
+  EXPECT(lfm_c_start_wait(first.handle), LFM_DONE);
+  EXPECT(lfm_c_receive(first.handle), LFM_ASLEEP);
+  EXPECT(lfm_c_send(second.handle, 1), LFM_DONE);
+  EXPECT(lfm_c_send(second.handle, 1), LFM_NOT_WAITING);
+  EXPECT(lfm_c_granted(second.handle, 0), 1);
+  EXPECT(lfm_c_receive(first.handle), LFM_DONE);
+  EXPECT(lfm_unlock(&first), LFM_DONE);
+  both_back();
+}
+
+static void condition_variables(void) {
+  static lfm_condvar condvar;
+  static lfm_mutex other;
+  static lfm_seat foreign;
+  EXPECT(lfm_condvar_new(NULL, &mutex), LFM_BLANK);
+  EXPECT(lfm_condvar_new(&condvar, &mutex), LFM_BLANK);
+  EXPECT(lfm_condvar_close(&condvar), LFM_BLANK);
+  EXPECT(lfm_wait(&condvar, &first), LFM_BLANK);
+  EXPECT(lfm_wake_one(&condvar, &first), LFM_BLANK);
+  two_seats_of(10);
+  EXPECT(lfm_condvar_new(&condvar, &mutex), LFM_DONE);
+  EXPECT(lfm_condvar_new(&condvar, &mutex), LFM_TAKEN);
+  EXPECT(lfm_mutex_new(&other, 1, 1), LFM_DONE);
+  EXPECT(lfm_seat_take(&other, &foreign), LFM_DONE);
+  EXPECT(lfm_wait(&condvar, &foreign), LFM_FOREIGN);
+  EXPECT(lfm_wake_all(&condvar, &foreign), LFM_FOREIGN);
+  EXPECT(lfm_wait(&condvar, &third), LFM_BLANK);
+  EXPECT(lfm_wait(&condvar, &first), LFM_NOT_OWNER);
+  EXPECT(lfm_wake_one(&condvar, &first), LFM_NOBODY);
+  EXPECT(lfm_wake_all(&condvar, &first), LFM_NOBODY);
+  EXPECT(lfm_lock(&first), LFM_DONE);
+  EXPECT(lfm_lock(&first), LFM_AGAIN);
+  EXPECT(lfm_wait(&condvar, &first), LFM_NESTED);
+  EXPECT(lfm_depth(&first), 2);
+  EXPECT(lfm_unlock(&first), LFM_STILL);
+  EXPECT(lfm_unlock(&first), LFM_DONE);
+  EXPECT(lfm_condvar_close(&condvar), LFM_DONE);
+  EXPECT(lfm_condvar_close(&condvar), LFM_BLANK);
+  EXPECT(lfm_seat_give(&foreign), LFM_DONE);
+  EXPECT(lfm_mutex_close(&other), LFM_DONE);
+  both_back();
+}
+
+int main(void) {
+  what_is_blank();
+  what_the_library_calls_blank();
+  limits();
+  seats_taken_and_back();
+  calls_of_a_seat();
+  calls_of_a_sleeping_seat();
+  sends();
+  condition_variables();
+  return 0;
+}

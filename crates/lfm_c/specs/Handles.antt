@@ -1,5 +1,5 @@
 -- What each export does to the handles that it is given, and what its answer tells. A handle is x before and y after.
-use Rattle.std.specs.Prelude.{◌≡◌, ◌⊎◌, ⊤, ℕ, zero, suc, ◌+◌, ◌-◌, ◌<◌, ◌≤◌, List, [], ◌∷◌, ◌++◌, Bool, true, false, Option, Some, None, Result, Ok, Err, vec_len}
+use Rattle.std.specs.Prelude.{◌≡◌, ◌⊎◌, ⊤, ℕ, ◌-◌, ◌<◌, ◌≤◌, List, [], ◌∷◌, ◌++◌, true, false, Option, Some, None, Result, vec_len}
 use Rattle.std.specs.Arc.{arc_value}
 use Rattle.lfm_model.specs.declared.answers.Asked.{Asked}
 use Rattle.lfm_model.specs.declared.answers.How.{How}
@@ -12,45 +12,53 @@ use Rattle.lfm_protocol.specs.Limits.{are_in_limits}
 use Rattle.lfm_mutex.specs.Belongs.{Beside, limits_of}
 use Rattle.lfm_mutex.specs.calls.Sight as Sight
 use Rattle.lfm_mutex.specs.calls.Sight.{Sight, sight}
+use Rattle.lfm_mutex.specs.calls.WakeUps.{Wakes}
 use Rattle.lfm_c.specs.declared.handles.MutexHandle.{MutexHandle}
 use Rattle.lfm_c.specs.declared.handles.SeatHandle.{SeatHandle}
 use Rattle.lfm_c.specs.declared.handles.Seated.{Seated}
 use Rattle.lfm_c.specs.declared.handles.Whole.{Whole}
-use Rattle.lfm_c.specs.declared.quiet.Quiet.{Quiet}
 use Rattle.lfm_c.specs.declared.status.Status.{Status}
-use Rattle.lfm_c.specs.Status.{asked, code, code_of_refusal, faulted, locked, received, sent, unlocked}
+use Rattle.lfm_c.specs.Status.{asked, code, code_of_refusal, faulted, locked, received, sent, told, unlocked}
 
--- the value may change in any way
-abbrev pub Follows : ℕ → Quiet → Quiet → Type 0
+-- the number that a mutex of this library guards may change in any way
+abbrev pub Follows : ℕ → ℕ → ℕ → Type 0
 Follows s v w = Unit {0}
 
-abbrev pub Fits : Quiet → ℕ → Type 0
+abbrev pub Fits : ℕ → ℕ → Type 0
 Fits v k = Unit {0}
 
 -- A call of a seat, P, which answers n: of a blank handle it tells just that. The seat's mutex stays.
-abbrev pub OfSeated : (Limits → Sight Quiet → Sight Quiet → ℕ → Type 0) → Option Seated → Option Seated → ℕ → Type 0
+abbrev pub OfSeated : (Limits → Sight ℕ → Sight ℕ → ℕ → Type 0) → Option Seated → Option Seated → ℕ → Type 0
 OfSeated P None y n = (y ≡ None) × (n ≡ code Status.Blank)
 OfSeated P (Some a) None n = ⊥
 OfSeated P (Some a) (Some b) n = (b.mutex ≡ a.mutex) × Beside a.seat b.seat × P (limits_of (arc_value a.mutex)) (sight a.seat) (sight b.seat) n
 
+-- A call of this sort that may grant another seat the mutex. Its answer names the seat of the wake-up that it leaves: the one that its
+-- steps granted, just where they granted one.
+abbrev pub WakesOf : (Limits → Sight ℕ → Sight ℕ → Status → Type 0) → Limits → Sight ℕ → Sight ℕ → ℕ → Type 0
+WakesOf P l s t n = (status : Status) × (w : Option ℕ) × P l s t status × Wakes l.seats w s.trail t.trail × (n ≡ told status w)
+
 abbrev pub TellsAsk : SeatHandle → SeatHandle → ℕ → Type 0
-TellsAsk x y n = OfSeated (λ l s t k. (r : Result Asked Refusal) × Sight.Asks Follows Fits l.budget s t r × (k ≡ asked r)) x.seated y.seated n
+TellsAsk x y n = OfSeated (WakesOf (λ l s t status. (r : Result Asked Refusal) × Sight.Asks Follows Fits l.budget s t r × (status ≡ asked r))) x.seated y.seated n
 
 abbrev pub TellsReceive : SeatHandle → SeatHandle → ℕ → Type 0
-TellsReceive x y n = OfSeated (λ l s t k. (r : Result (Option How) Refusal) × Sight.Receives Follows Fits s t r × (k ≡ received r)) x.seated y.seated n
+TellsReceive x y n = OfSeated (λ l s t k. (r : Result (Option How) Refusal) × Sight.Receives Follows Fits s t r × (k ≡ code (received r))) x.seated y.seated n
 
 abbrev pub TellsTry : SeatHandle → SeatHandle → ℕ → Type 0
-TellsTry x y n = OfSeated (λ l s t k. (r : Result Locked Refusal) × Sight.Locks Follows Fits l.budget s t r × (k ≡ locked r)) x.seated y.seated n
+TellsTry x y n = OfSeated (λ l s t k. (r : Result Locked Refusal) × Sight.Locks Follows Fits l.budget s t r × (k ≡ code (locked r))) x.seated y.seated n
 
 abbrev pub TellsUnlock : SeatHandle → SeatHandle → ℕ → Type 0
-TellsUnlock x y n = OfSeated (λ l s t k. (r : Result Unlocked Refusal) × Sight.Unlocks s t r × (k ≡ unlocked r)) x.seated y.seated n
+TellsUnlock x y n = OfSeated (WakesOf (λ l s t status. (r : Result Unlocked Refusal) × Sight.Unlocks s t r × (status ≡ unlocked r))) x.seated y.seated n
 
 abbrev pub TellsWait : SeatHandle → SeatHandle → ℕ → Type 0
-TellsWait x y n = OfSeated (λ l s t k. (r : Result Unlocked Refusal) × Sight.StartsWait l.budget s t r × (k ≡ unlocked r)) x.seated y.seated n
+TellsWait x y n = OfSeated (WakesOf (λ l s t status. (r : Result Unlocked Refusal) × Sight.StartsWait l.budget s t r × (status ≡ unlocked r))) x.seated y.seated n
+
+abbrev pub SendsTo : ℕ → Limits → Sight ℕ → Sight ℕ → Status → Type 0
+SendsTo target l s t status = (r : Result ⊤ Refusal) × Sight.Sends l.seats s target t r × (status ≡ sent r)
 
 -- no seat has the number 0 or one above the greatest seat number
 abbrev pub TellsSend : SeatHandle → ℕ → SeatHandle → ℕ → Type 0
-TellsSend x target y n = OfSeated (λ l s t k. ((r : Result ⊤ Refusal) × Sight.Sends l.seats s target t r × (k ≡ sent r)) ⊎ ((t ≡ s) × (k ≡ code_of_refusal Refusal.NoSuchSeat))) x.seated y.seated n
+TellsSend x target y n = OfSeated (λ l s t k. WakesOf (SendsTo target) l s t k ⊎ ((t ≡ s) × (k ≡ code_of_refusal Refusal.NoSuchSeat))) x.seated y.seated n
 
 -- a reader of a seat, which leaves the handle as it is, and answers 0 of a blank one
 abbrev pub ReadsSeated : (Seated → ℕ) → Option Seated → ℕ → Type 0
@@ -66,15 +74,6 @@ TellsDepth x y n = (y ≡ x) × ReadsSeated (λ a. (sight a.seat).depth) x.seate
 abbrev pub TellsLeft : SeatHandle → SeatHandle → ℕ → Type 0
 TellsLeft x y n = (y ≡ x) × ReadsSeated (λ a. (limits_of (arc_value a.mutex)).budget - (sight a.seat).takes) x.seated n
 
--- a number above this one that a seat of the mutex may have, or none
-abbrev pub NextAbove : Option Seated → ℕ → ℕ → Type 0
-NextAbove None above n = n ≡ 0
-NextAbove (Some a) above n = (n ≡ 0) ⊎ ((above < n) × (n ≤ (limits_of (arc_value a.mutex)).seats))
-
--- which of the seats have a grant to receive lies in words that others write, of which nothing is known
-abbrev pub TellsGranted : SeatHandle → ℕ → SeatHandle → ℕ → Type 0
-TellsGranted x above y n = (y ≡ x) × NextAbove x.seated above n
-
 -- a mutex with all its seats
 abbrev pub Opened : ℕ → ℕ → Whole → Type 0
 Opened seats budget w = (limits_of (arc_value w.mutex) ≡ record { seats = seats; budget = budget }) × (w.count ≡ seats) × (vec_len w.seats ≡ seats)
@@ -85,7 +84,7 @@ Faults seats budget NewFault.Limit = are_in_limits seats budget ≡ false
 Faults seats budget NewFault.Memory = are_in_limits seats budget ≡ true
 
 abbrev pub OpensBlank : ℕ → ℕ → Option Whole → ℕ → Type 0
-OpensBlank seats budget None n = (e : NewFault) × Faults seats budget e × (n ≡ faulted e)
+OpensBlank seats budget None n = (e : NewFault) × Faults seats budget e × (n ≡ code (faulted e))
 OpensBlank seats budget (Some w) n = Opened seats budget w × (are_in_limits seats budget ≡ true) × (n ≡ code Status.Done)
 
 abbrev pub OpensInto : Option Whole → ℕ → ℕ → Option Whole → ℕ → Type 0

@@ -36,44 +36,49 @@ code Status.Holding = 22
 code Status.Foreign = 23
 code (Status.Refused r) = code_of_refusal r
 
+-- an answer: the status, and above its low 8 bits the seat of the call's wake-up, or 0 for none
+abbrev pub told : Status → Option ℕ → ℕ
+told status None = code status
+told status (Some seat) = code status + 256 * seat
+
 -- what `ask` answered
-abbrev pub asked : Result Asked Refusal → ℕ
-asked (Ok (Asked.Held how)) = code Status.Done
-asked (Ok (Asked.Again depth)) = code Status.Again
-asked (Ok Asked.Asleep) = code Status.Asleep
-asked (Err r) = code_of_refusal r
+abbrev pub asked : Result Asked Refusal → Status
+asked (Ok (Asked.Held how)) = Status.Done
+asked (Ok (Asked.Again depth)) = Status.Again
+asked (Ok Asked.Asleep) = Status.Asleep
+asked (Err r) = Status.Refused r
 
 -- what `try_receive` answered
-abbrev pub received : Result (Option How) Refusal → ℕ
-received (Ok (Some how)) = code Status.Done
-received (Ok None) = code Status.Asleep
-received (Err r) = code_of_refusal r
+abbrev pub received : Result (Option How) Refusal → Status
+received (Ok (Some how)) = Status.Done
+received (Ok None) = Status.Asleep
+received (Err r) = Status.Refused r
 
 -- what `try_lock` answered
-abbrev pub locked : Result Locked Refusal → ℕ
-locked (Ok (Locked.Held how)) = code Status.Done
-locked (Ok (Locked.Again depth)) = code Status.Again
-locked (Err r) = code_of_refusal r
+abbrev pub locked : Result Locked Refusal → Status
+locked (Ok (Locked.Held how)) = Status.Done
+locked (Ok (Locked.Again depth)) = Status.Again
+locked (Err r) = Status.Refused r
 
 -- how `unlock` or `start_wait` gave the mutex up
-abbrev pub released : Unlocked → ℕ
-released (Unlocked.Still depth) = code Status.Still
-released Unlocked.Free = code Status.Done
-released (Unlocked.Granted seat) = code Status.Granted + 256 * seat
-released Unlocked.Posted = code Status.Posted
-released Unlocked.TakenOver = code Status.Posted
+abbrev pub released : Unlocked → Status
+released (Unlocked.Still depth) = Status.Still
+released Unlocked.Free = Status.Done
+released (Unlocked.Granted seat) = Status.Granted
+released Unlocked.Posted = Status.Posted
+released Unlocked.TakenOver = Status.Posted
 
 -- what `unlock` or `start_wait` answered
-abbrev pub unlocked : Result Unlocked Refusal → ℕ
+abbrev pub unlocked : Result Unlocked Refusal → Status
 unlocked (Ok u) = released u
-unlocked (Err r) = code_of_refusal r
+unlocked (Err r) = Status.Refused r
 
 -- what `send_lock` answered
-abbrev pub sent : Result ⊤ Refusal → ℕ
-sent (Ok u) = code Status.Done
-sent (Err r) = code_of_refusal r
+abbrev pub sent : Result ⊤ Refusal → Status
+sent (Ok u) = Status.Done
+sent (Err r) = Status.Refused r
 
 -- why no mutex was opened
-abbrev pub faulted : NewFault → ℕ
-faulted NewFault.Limit = code Status.Limit
-faulted NewFault.Memory = code Status.Memory
+abbrev pub faulted : NewFault → Status
+faulted NewFault.Limit = Status.Limit
+faulted NewFault.Memory = Status.Memory

@@ -1,82 +1,96 @@
-//! The calls of a seat. Each is the mutex's own, and its answer is told as a number.
+//! The calls of a seat. Each is the mutex's own, made without waking. Its answer is told as a number, with the seat that it leaves to
+//! be woken.
 ghost use Rattle.std.specs.Prelude.{◌≡◌, Option};
 ghost use Rattle.std.specs.Arc.{arc_value};
-ghost use Rattle.lfm_mutex.specs.Belongs.{Beside, OfMutex, limits_of};
+ghost use Rattle.lfm_mutex.specs.Belongs.{Beside, limits_of};
 ghost use Rattle.lfm_mutex.specs.calls.Sight.{sight, Asks, Locks, Receives, Sends, StartsWait, Unlocks};
+ghost use Rattle.lfm_mutex.specs.calls.WakeUps.{Wakes};
 ghost use Rattle.lfm_c.specs.Handles.{Follows, Fits, TellsAsk, TellsReceive, TellsTry, TellsUnlock, TellsWait, TellsSend};
-ghost use Rattle.lfm_c.specs.Status.{asked as asked_of, received as received_of, locked as locked_of, released as released_of, unlocked as unlocked_of, sent as sent_of};
+ghost use Rattle.lfm_c.specs.Status.{asked as asked_of, received as received_of, locked as locked_of, released as released_of, unlocked as unlocked_of, sent as sent_of, told as told_of};
 
 use crate::handles::{SeatHandle, Seated};
 use crate::status::Status;
 use lfm_model::{Asked, How, Locked, Refusal, SeatNo, Unlocked};
+use lfm_mutex::WakeUp;
 
-fn asked(answer: Result<Asked, Refusal>) -> u64
+// The status, and above it the seat of the wake-up, which is the caller's to make from here on.
+fn told(status: Status, wake_up: Option<WakeUp>) -> u64
+    ensures { result ≡ told_of status wake_up }
+{
+    match wake_up {
+        Some(wake_up) => status.code() + 256 * wake_up.into_seat().get(),
+        None => status.code(),
+    }
+}
+
+fn asked(answer: Result<Asked, Refusal>) -> Status
     ensures { result ≡ asked_of answer }
 {
     match answer {
-        Ok(Asked::Held(_)) => Status::Done.code(),
-        Ok(Asked::Again(_)) => Status::Again.code(),
-        Ok(Asked::Asleep) => Status::Asleep.code(),
-        Err(refusal) => Status::Refused(refusal).code(),
+        Ok(Asked::Held(_)) => Status::Done,
+        Ok(Asked::Again(_)) => Status::Again,
+        Ok(Asked::Asleep) => Status::Asleep,
+        Err(refusal) => Status::Refused(refusal),
     }
 }
 
-fn received(answer: Result<Option<How>, Refusal>) -> u64
+fn received(answer: Result<Option<How>, Refusal>) -> Status
     ensures { result ≡ received_of answer }
 {
     match answer {
-        Ok(Some(_)) => Status::Done.code(),
-        Ok(None) => Status::Asleep.code(),
-        Err(refusal) => Status::Refused(refusal).code(),
+        Ok(Some(_)) => Status::Done,
+        Ok(None) => Status::Asleep,
+        Err(refusal) => Status::Refused(refusal),
     }
 }
 
-fn locked(answer: Result<Locked, Refusal>) -> u64
+fn locked(answer: Result<Locked, Refusal>) -> Status
     ensures { result ≡ locked_of answer }
 {
     match answer {
-        Ok(Locked::Held(_)) => Status::Done.code(),
-        Ok(Locked::Again(_)) => Status::Again.code(),
-        Err(refusal) => Status::Refused(refusal).code(),
+        Ok(Locked::Held(_)) => Status::Done,
+        Ok(Locked::Again(_)) => Status::Again,
+        Err(refusal) => Status::Refused(refusal),
     }
 }
 
-fn released(unlocked: Unlocked) -> u64
+fn released(unlocked: Unlocked) -> Status
     ensures { result ≡ released_of unlocked }
 {
     match unlocked {
-        Unlocked::Still(_) => Status::Still.code(),
-        Unlocked::Free => Status::Done.code(),
-        Unlocked::Granted(seat) => Status::Granted.code() + 256 * seat.get(),
-        Unlocked::Posted => Status::Posted.code(),
-        Unlocked::TakenOver => Status::Posted.code(),
+        Unlocked::Still(_) => Status::Still,
+        Unlocked::Free => Status::Done,
+        Unlocked::Granted(_) => Status::Granted,
+        Unlocked::Posted => Status::Posted,
+        Unlocked::TakenOver => Status::Posted,
     }
 }
 
-fn unlocked(answer: Result<Unlocked, Refusal>) -> u64
+fn unlocked(answer: Result<Unlocked, Refusal>) -> Status
     ensures { result ≡ unlocked_of answer }
 {
     match answer {
         Ok(unlocked) => released(unlocked),
-        Err(refusal) => Status::Refused(refusal).code(),
+        Err(refusal) => Status::Refused(refusal),
     }
 }
 
-fn sent(answer: Result<(), Refusal>) -> u64
+fn sent(answer: Result<(), Refusal>) -> Status
     ensures { result ≡ sent_of answer }
 {
     match answer {
-        Ok(()) => Status::Done.code(),
-        Err(refusal) => Status::Refused(refusal).code(),
+        Ok(()) => Status::Done,
+        Err(refusal) => Status::Refused(refusal),
     }
 }
 
 impl Seated {
-    fn ask(&mut self) -> Result<Asked, Refusal>
+    fn ask(&mut self) -> (Result<Asked, Refusal>, Option<WakeUp>)
         ensures same { (self.new.mutex ≡ self.old.mutex) × Beside self.old.seat self.new.seat }
-        ensures asks { Asks Follows Fits (limits_of (arc_value self.old.mutex)).budget (sight self.old.seat) (sight self.new.seat) result }
+        ensures asks { Asks Follows Fits (limits_of (arc_value self.old.mutex)).budget (sight self.old.seat) (sight self.new.seat) result.0 }
+        ensures wakes { Wakes (limits_of (arc_value self.old.mutex)).seats result.1 (sight self.old.seat).trail (sight self.new.seat).trail }
     {
-        self.mutex.ask(&mut self.seat)
+        self.mutex.ask_without_waking(&mut self.seat)
     }
 
     fn receive(&mut self) -> Result<Option<How>, Refusal>
@@ -93,25 +107,28 @@ impl Seated {
         self.mutex.try_lock(&mut self.seat)
     }
 
-    fn unlock(&mut self) -> Result<Unlocked, Refusal>
+    fn unlock(&mut self) -> (Result<Unlocked, Refusal>, Option<WakeUp>)
         ensures same { (self.new.mutex ≡ self.old.mutex) × Beside self.old.seat self.new.seat }
-        ensures unlocks { Unlocks (sight self.old.seat) (sight self.new.seat) result }
+        ensures unlocks { Unlocks (sight self.old.seat) (sight self.new.seat) result.0 }
+        ensures wakes { Wakes (limits_of (arc_value self.old.mutex)).seats result.1 (sight self.old.seat).trail (sight self.new.seat).trail }
     {
-        self.mutex.unlock(&mut self.seat)
+        self.mutex.unlock_without_waking(&mut self.seat)
     }
 
-    fn start_wait(&mut self) -> Result<Unlocked, Refusal>
+    fn start_wait(&mut self) -> (Result<Unlocked, Refusal>, Option<WakeUp>)
         ensures same { (self.new.mutex ≡ self.old.mutex) × Beside self.old.seat self.new.seat }
-        ensures waits { StartsWait (limits_of (arc_value self.old.mutex)).budget (sight self.old.seat) (sight self.new.seat) result }
+        ensures waits { StartsWait (limits_of (arc_value self.old.mutex)).budget (sight self.old.seat) (sight self.new.seat) result.0 }
+        ensures wakes { Wakes (limits_of (arc_value self.old.mutex)).seats result.1 (sight self.old.seat).trail (sight self.new.seat).trail }
     {
-        self.mutex.start_wait(&mut self.seat)
+        self.mutex.start_wait_without_waking(&mut self.seat)
     }
 
-    fn send(&mut self, target: SeatNo) -> Result<(), Refusal>
+    fn send(&mut self, target: SeatNo) -> (Result<(), Refusal>, Option<WakeUp>)
         ensures same { (self.new.mutex ≡ self.old.mutex) × Beside self.old.seat self.new.seat }
-        ensures sends { Sends (limits_of (arc_value self.old.mutex)).seats (sight self.old.seat) target (sight self.new.seat) result }
+        ensures sends { Sends (limits_of (arc_value self.old.mutex)).seats (sight self.old.seat) target (sight self.new.seat) result.0 }
+        ensures wakes { Wakes (limits_of (arc_value self.old.mutex)).seats result.1 (sight self.old.seat).trail (sight self.new.seat).trail }
     {
-        self.mutex.send_lock(&mut self.seat, target)
+        self.mutex.send_lock_without_waking(&mut self.seat, target)
     }
 }
 
@@ -119,10 +136,11 @@ impl Seated {
 pub fn ask(handle: &mut SeatHandle) -> u64
     ensures told { TellsAsk handle.old handle.new result }
 {
-    match &mut handle.seated {
-        Some(seated) => asked(seated.ask()),
-        None => Status::Blank.code(),
-    }
+    let Some(seated) = &mut handle.seated else {
+        return Status::Blank.code();
+    };
+    let (answer, wake_up) = seated.ask();
+    told(asked(answer), wake_up)
 }
 
 /// `try_receive` of the seat.
@@ -130,7 +148,7 @@ pub fn receive(handle: &mut SeatHandle) -> u64
     ensures told { TellsReceive handle.old handle.new result }
 {
     match &mut handle.seated {
-        Some(seated) => received(seated.receive()),
+        Some(seated) => received(seated.receive()).code(),
         None => Status::Blank.code(),
     }
 }
@@ -140,7 +158,7 @@ pub fn try_lock(handle: &mut SeatHandle) -> u64
     ensures told { TellsTry handle.old handle.new result }
 {
     match &mut handle.seated {
-        Some(seated) => locked(seated.try_lock()),
+        Some(seated) => locked(seated.try_lock()).code(),
         None => Status::Blank.code(),
     }
 }
@@ -149,31 +167,34 @@ pub fn try_lock(handle: &mut SeatHandle) -> u64
 pub fn unlock(handle: &mut SeatHandle) -> u64
     ensures told { TellsUnlock handle.old handle.new result }
 {
-    match &mut handle.seated {
-        Some(seated) => unlocked(seated.unlock()),
-        None => Status::Blank.code(),
-    }
+    let Some(seated) = &mut handle.seated else {
+        return Status::Blank.code();
+    };
+    let (answer, wake_up) = seated.unlock();
+    told(unlocked(answer), wake_up)
 }
 
 /// `start_wait` of the seat.
 pub fn start_wait(handle: &mut SeatHandle) -> u64
     ensures told { TellsWait handle.old handle.new result }
 {
-    match &mut handle.seated {
-        Some(seated) => unlocked(seated.start_wait()),
-        None => Status::Blank.code(),
-    }
+    let Some(seated) = &mut handle.seated else {
+        return Status::Blank.code();
+    };
+    let (answer, wake_up) = seated.start_wait();
+    told(unlocked(answer), wake_up)
 }
 
 /// `send_lock` of the seat to the seat with this number.
 pub fn send(handle: &mut SeatHandle, number: u64) -> u64
     ensures told { TellsSend handle.old number handle.new result }
 {
-    match &mut handle.seated {
-        Some(seated) => match SeatNo::new(number) {
-            Some(target) => sent(seated.send(target)),
-            None => Status::Refused(Refusal::NoSuchSeat).code(),
-        },
-        None => Status::Blank.code(),
-    }
+    let Some(seated) = &mut handle.seated else {
+        return Status::Blank.code();
+    };
+    let Some(target) = SeatNo::new(number) else {
+        return Status::Refused(Refusal::NoSuchSeat).code();
+    };
+    let (answer, wake_up) = seated.send(target);
+    told(sent(answer), wake_up)
 }

@@ -1,10 +1,11 @@
 //! What lies in the caller's memory: a handle of a mutex, and a handle of each seat. A blank handle has no mutex, or no seat.
+//!
+//! A mutex has to guard a value. Here it is a number that nothing reads, since what a program in C guards lies in its own memory.
 ghost use Rattle.std.specs.Prelude.{◌≡◌, ◌≤◌, None};
 ghost use Rattle.std.specs.Vec.{vec_capacity};
 ghost use Rattle.std.specs.Arc.{arc_value};
 ghost use Rattle.lfm_mutex.specs.Belongs.{OfMutex};
 
-use crate::quiet::Quiet;
 use lfm_mutex::{Mutex, Seat};
 use std::alloc::Global;
 use std::sync::Arc;
@@ -12,8 +13,8 @@ use std::sync::Arc;
 /// A seat with its mutex.
 #[derive(Drop)]
 pub struct Seated {
-    pub mutex: Arc<Mutex<Quiet>, Global>,
-    pub seat: Seat<Quiet>,
+    pub mutex: Arc<Mutex<u64>, Global>,
+    pub seat: Seat<u64>,
     pub ghost belongs: { OfMutex seat (arc_value mutex) },
 }
 
@@ -26,7 +27,7 @@ pub struct SeatHandle {
 /// A mutex, with those of its seats that are not taken. It has room for all of them.
 #[derive(Drop)]
 pub struct Whole {
-    pub mutex: Arc<Mutex<Quiet>, Global>,
+    pub mutex: Arc<Mutex<u64>, Global>,
     pub seats: Vec<Seated>,
     pub count: u64,
     pub ghost room: { count ≤ vec_capacity seats },

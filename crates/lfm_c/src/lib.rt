@@ -2,8 +2,10 @@
 //! to one call at a time. A static library may neither sleep nor wake, so no call here does: include/ligdrosa.h sleeps where a
 //! call answers that the seat does, and wakes the seat that a call names.
 //!
-//! An export tells what the call of the mutex answered by a status in the low 8 bits, and the seat to be woken by its number above
-//! them. Its clause says what the status means: the mutex's own clause of that call.
+//! An export tells what the call of the mutex answered by a status in the low 8 bits. Its clause says what the status means: the
+//! mutex's own clause of that call. An `ask`, `unlock`, `start_wait` or `send` may grant the mutex to another seat, one at most. The
+//! number of that seat stands above the status, and 0 where there is none, and the clause says that it is the seat of the wake-up which
+//! the call leaves. So on this side no wake-up is lost: the caller has to wake the seat that an answer names.
 #![tactic(auto)]
 
 ghost use Rattle.std.specs.Borrow.{full_share, sem};
@@ -14,14 +16,13 @@ ghost use Rattle.lfm_c.specs.declared.handles.MutexHandle.{MutexHandle as MutexN
 ghost use Rattle.lfm_c.specs.declared.handles.SeatHandle.{SeatHandle as SeatNow};
 ghost use Rattle.lfm_c.specs.contracts.handles.MutexHandle.{the_row as mutex_row};
 ghost use Rattle.lfm_c.specs.contracts.handles.SeatHandle.{the_row as seat_row};
-ghost use Rattle.lfm_c.specs.Handles.{TellsAsk, TellsClose, TellsDepth, TellsGive, TellsGranted, TellsLeft, TellsNumber, TellsOpen, TellsReceive, TellsSend, TellsTake, TellsTry, TellsUnlock, TellsWait};
+ghost use Rattle.lfm_c.specs.Handles.{TellsAsk, TellsClose, TellsDepth, TellsGive, TellsLeft, TellsNumber, TellsOpen, TellsReceive, TellsSend, TellsTake, TellsTry, TellsUnlock, TellsWait};
 ghost use Rattle.lfm_c.specs.Leaves.{leaves};
 
 mod calls;
 pub mod crossing;
 mod handles;
 mod opening;
-mod quiet;
 mod reading;
 mod status;
 
@@ -137,18 +138,8 @@ pub unsafe extern "C" fn lfm_c_left(seat: *mut u8) -> u64
     reading::left(&mut *(seat as *mut SeatHandle))
 }
 
-/// The next seat above this number that has a grant to receive, by one load of the wake word of each, and 0 where there is none or
-/// the handle is blank. An `ask` that answers Asleep and a `send` may have granted the mutex to a seat that sleeps.
-#[unsafe(no_mangle)]
-pub unsafe extern "C" fn lfm_c_granted(seat: *mut u8, above: u64) -> u64
-    ghost x: { SeatNow }
-    requires* { sem 𝓛 (lies_at seat_row full_share seat x) }
-    ensures* { sem 𝓛 (leaves (λ (y : SeatNow). lies_at seat_row full_share seat y) (λ y. TellsGranted x above y result)) }
-{
-    reading::granted(&mut *(seat as *mut SeatHandle), above)
-}
-
-/// `ask` of the seat: Done (it holds), Again (it holds once more), Asleep, or Blank, or why it is refused.
+/// `ask` of the seat: Done (it holds), Again (it holds once more), Asleep, or Blank, or why it is refused. Above it is the number of the
+/// seat to be woken, or 0.
 #[unsafe(no_mangle)]
 pub unsafe extern "C" fn lfm_c_ask(seat: *mut u8) -> u64
     ghost x: { SeatNow }
@@ -178,8 +169,8 @@ pub unsafe extern "C" fn lfm_c_try_lock(seat: *mut u8) -> u64
     calls::try_lock(&mut *(seat as *mut SeatHandle))
 }
 
-/// `unlock` of the seat: Still (it holds once less), Done, Posted, Granted with the number of the seat to be woken, or Blank, or why it
-/// is refused.
+/// `unlock` of the seat: Still (it holds once less), Done, Posted, Granted, or Blank, or why it is refused. Above it is the number of
+/// the seat to be woken, or 0.
 #[unsafe(no_mangle)]
 pub unsafe extern "C" fn lfm_c_unlock(seat: *mut u8) -> u64
     ghost x: { SeatNow }
@@ -199,7 +190,8 @@ pub unsafe extern "C" fn lfm_c_start_wait(seat: *mut u8) -> u64
     calls::start_wait(&mut *(seat as *mut SeatHandle))
 }
 
-/// `send_lock` of the seat to the seat with this number: Done, or Blank, or why it is refused.
+/// `send_lock` of the seat to the seat with this number: Done, or Blank, or why it is refused. Above it is the number of the seat to be
+/// woken, or 0: the seat that was sent, where it was granted the mutex at once.
 #[unsafe(no_mangle)]
 pub unsafe extern "C" fn lfm_c_send(seat: *mut u8, number: u64) -> u64
     ghost x: { SeatNow }

@@ -1,15 +1,14 @@
 //! How a mutex is opened, its seats are taken and given back, and it is closed.
-ghost use Rattle.std.specs.Prelude.{◌≡◌, ◌+◌, ◌≤◌, ◌<◌, All, ◌++◌, ◌∷◌, [], IfOk, IfErr, MatchBool, MatchOption, Some, false, true, vec_len};
+ghost use Rattle.std.specs.Prelude.{◌≡◌, ◌≤◌, ◌<◌, All, ◌++◌, ◌∷◌, [], IfOk, IfErr, MatchBool, MatchOption, Some, false, true, vec_len};
 ghost use Rattle.std.specs.Arc.{arc_value};
 ghost use Rattle.std.specs.Vec.{vec_capacity};
-ghost use Rattle.lfm_mutex.specs.Belongs.{OfMutex, limits_of};
+ghost use Rattle.lfm_mutex.specs.Belongs.{OfMutex};
 ghost use Rattle.lfm_protocol.specs.Limits.{are_in_limits};
 ghost use Rattle.lfm_mutex.specs.calls.Sight.{sight};
 ghost use Rattle.lfm_c.specs.Status.{code};
 ghost use Rattle.lfm_c.specs.Handles.{TellsOpen, TellsTake, TellsGive, TellsClose, Faults, Leaving, Opened, StaysOut};
 
 use crate::handles::{MutexHandle, SeatHandle, Seated, Whole};
-use crate::quiet::Quiet;
 use crate::status::Status;
 use lfm_model::{NewFault, Refusal};
 use lfm_mutex::{Mutex, Seat};
@@ -19,8 +18,8 @@ use std::sync::Arc;
 // Gives each seat the mutex. The first seat comes last.
 fn seated(
     alloc: Global,
-    mutex: &Arc<Mutex<Quiet>, Global>,
-    seats: Vec<Seat<Quiet>>,
+    mutex: &Arc<Mutex<u64>, Global>,
+    seats: Vec<Seat<u64>>,
 ) -> Result<Vec<Seated>, AllocError>
     requires belong { All (λ s. OfMutex s (arc_value mutex.now)) seats.items }
     ensures all { IfOk result (λ v. vec_len v ≡ vec_len seats) }
@@ -41,7 +40,7 @@ fn opened(alloc: Global, seats: u64, budget: u64) -> Result<Whole, NewFault>
     ensures ok { IfOk result (λ w. Opened seats budget w × (are_in_limits seats budget ≡ true)) }
     ensures fault { IfErr result (λ e. Faults seats budget e) }
 {
-    let (mutex, seats) = match Mutex::new(alloc, seats, budget, Quiet::new()) {
+    let (mutex, seats) = match Mutex::new(alloc, seats, budget, 0) {
         Ok(made) => made,
         Err(fault) => return Err(fault),
     };

@@ -1,9 +1,7 @@
 //! What is read of a seat. Each call leaves the handle as it is.
-ghost use Rattle.std.specs.Prelude.{◌≡◌, ◌-◌, ◌<◌, ◌≤◌};
-ghost use Rattle.lfm_c.specs.Handles.{TellsNumber, TellsDepth, TellsLeft, TellsGranted};
+ghost use Rattle.lfm_c.specs.Handles.{TellsNumber, TellsDepth, TellsLeft};
 
 use crate::handles::SeatHandle;
-use lfm_model::SeatNo;
 
 /// The seat's number, 1 to 4,095, and 0 where the handle is blank.
 pub fn number(handle: &mut SeatHandle) -> u64
@@ -33,21 +31,4 @@ pub fn left(handle: &mut SeatHandle) -> u64
         Some(seated) => seated.seat.left(),
         None => 0,
     }
-}
-
-/// The next seat above this number that has a grant to receive, and 0 where there is none or the handle is blank.
-pub fn granted(handle: &mut SeatHandle, above: u64) -> u64
-    ensures told { TellsGranted handle.old above handle.new result }
-{
-    let Some(seated) = &handle.seated else {
-        return 0;
-    };
-    for below in above..seated.mutex.seats() {
-        if let Some(seat) = SeatNo::new(below + 1) {
-            if seated.mutex.is_granted(seat) {
-                return seat.get();
-            }
-        }
-    }
-    0
 }

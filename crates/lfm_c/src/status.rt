@@ -1,5 +1,5 @@
 //! What a call tells, and the number that tells it to C.
-ghost use Rattle.std.specs.Prelude.{◌≡◌};
+ghost use Rattle.std.specs.Prelude.{◌≡◌, ◌<◌};
 ghost use Rattle.lfm_c.specs.Status.{code, code_of_refusal};
 
 use lfm_model::Refusal;
@@ -17,7 +17,7 @@ pub enum Status {
     Asleep,
     /// The mutex was given up beside a call that takes it over.
     Posted,
-    /// The mutex was given to the seat whose number stands above.
+    /// The mutex was given to the oldest queued seat.
     Granted,
     /// The handle is blank.
     Blank,
@@ -40,7 +40,8 @@ pub enum Status {
 }
 
 fn code_of_refusal(refusal: Refusal) -> u64
-    ensures { result ≡ code_of_refusal refusal }
+    ensures is { result ≡ code_of_refusal refusal }
+    ensures low { result < 256 }
 {
     match refusal {
         Refusal::Asleep => 32,
@@ -57,7 +58,8 @@ fn code_of_refusal(refusal: Refusal) -> u64
 impl Status {
     /// The status as C sees it: 0 to 39.
     pub fn code(self) -> u64
-        ensures { result ≡ code self }
+        ensures is { result ≡ code self }
+        ensures low { result < 256 }
     {
         match self {
             Status::Done => 0,

@@ -1,13 +1,13 @@
 -- There is room where C's pointer says. The blank handle is made, and written there.
 use Rattle.std.specs.Prelude.{None}
-use Rattle.std.proofs.Common.{◌≡◌, ℕ, List, [], ◌∷◌, ◌++◌, refl}
+use Rattle.std.proofs.Common.{◌≡◌, [], ◌∷◌, ◌++◌, refl}
 use Rattle.std.proofs.raw_atomic.Walks.{proved}
 use base.Fraction.{full_share}
 use base.Logic.{id⊢}
-use base.Fml.{ftrue, fat}
+use base.Fml.{ftrue}
 use contract.Monad.{fact}
 use contract.Running.{tables}
-use mir.Val.{Val, vunit}
+use mir.Val.{vunit}
 use prog.Wp.{WpFn}
 use types.Kit.{‵, raw, ◌⊛◌, some, later, prop, ◌$◌, ◌∵◌, !, qed, done, move, drop, use1, use2, split, join, pick, await, rewrite, regoal, suffices, group, feq_i}
 use types.Run.{enter, of_opd, stop, unit_lit, init, no_more, returns, assigns}
@@ -15,7 +15,7 @@ use types.ByLocal.{alloc_all, pass_all, free_all, look_at, get, through, sets, l
 use borrow.Table.OneValue.{part_in}
 use denote.Exit.{yes}
 use denote.Laws.{Is, shows}
-use denote.Memory.{lone, part_at}
+use denote.Memory.{part_at}
 use denote.RawPtr.{Ptr, RawPtr, lies_at, room_at, in_a_block, rawptr_vals, rawptr_Tells, block_ptr}
 use denote.Signature.{plain}
 use denote.Steps.{heard, nothing, peeks}

@@ -1,14 +1,14 @@
 -- Each handle lies where C's pointer says. It is lent to `reading::number` for a new lifetime, and comes back as the call left it.
 -- scripts/write_c_walks writes this file.
-use Rattle.std.proofs.Common.{◌≡◌, ℕ, List, [], ◌∷◌, ◌++◌, refl, w64}
+use Rattle.std.proofs.Common.{ℕ, [], ◌∷◌, ◌++◌, refl, w64}
 use Rattle.std.proofs.raw_atomic.Walks.{proved}
 use base.Fraction.{full_share}
 use base.Logic.{id⊢}
-use base.Fml.{Fml, ftrue, flft, flent, fex, fsep}
+use base.Fml.{ftrue, flft, flent, fex, fsep}
 use contract.Monad.{fact}
 use contract.Running.{tables}
 use mir.Syntax.{named}
-use mir.Val.{Val, vptr}
+use mir.Val.{vptr}
 use prog.Wp.{WpFn}
 use types.Kit.{‵, raw, ◌⊛◌, some, later, prop, ◌$◌, ◌∵◌, !, qed, done, move, drop, keep, use1, use3, split, join, fsplit, fjoin, fpack, pick, await, regoal, suffices, group}
 use types.Tokens.{lft_new, lft_end}
@@ -20,11 +20,11 @@ use denote.Exit.{yes}
 use denote.Laws.{Is, shows}
 use denote.Lend.{lends_ref, ref_back}
 use denote.Memory.{mem, part_at}
-use denote.Plain.{uint_vals, uint_Tells, uint_Makes, uint_Lawful}
+use denote.Plain.{uint_Lawful}
 use denote.RawPtr.{Ptr, RawPtr, lies_at, in_a_block, rawptr_vals, rawptr_Tells, block_ptr}
 use denote.Ref.{MutBor, MutRef}
 use denote.Signature.{plain}
-use denote.Steps.{heard, nothing, owned, peeks}
+use denote.Steps.{heard, nothing, peeks}
 use denote.Triple.Call.{calls_at}
 use denote.Triple.Clauses.{lasts}
 use denote.Triple.Entry.{on_entry}

@@ -1,13 +1,11 @@
-use Rattle.std.proofs.Common.{◌≡◌, All, sym, subst}
-use Rattle.std.specs.Arc.{arc_value}
+use Rattle.std.proofs.Common.{ℕ, All, sym, subst}
 use Rattle.lfm_mutex.specs.Belongs.{OfMutex}
 use Rattle.lfm_mutex.specs.declared.mutex.Mutex.{Mutex}
 use Rattle.lfm_mutex.proofs.Lists.{all_by_place}
-use Rattle.lfm_c.specs.declared.quiet.Quiet.{Quiet}
 use Rattle.lfm_c.proofs.opening.opened.Goals as goal
 
 pub seated-requires : goal.seated-requires
 seated-requires c = record {
-  belong = subst (λ (m : Mutex Quiet). All (λ s. OfMutex s m) c.in-Ok.made.1.items) (sym c.in-Ok-new.ensures.ok)
+  belong = subst (λ (m : Mutex ℕ). All (λ s. OfMutex s m) c.in-Ok.made.1.items) (sym c.in-Ok-new.ensures.ok)
       (all_by_place (λ s. OfMutex s c.in-Ok.made.0) c.in-Ok.made.1.items (λ j s at. (c.in-Ok.ensures.seats.1 j s at).0));
 }

@@ -1,5 +1,5 @@
 use Rattle.std.specs.Prelude.{All, vec_len}
-use Rattle.std.proofs.Common.{◌≡◌, ℕ, ◌+◌, ◌≤◌}
+use Rattle.std.proofs.Common.{◌≡◌, ◌+◌, ◌≤◌}
 use Rattle.std.specs.Arc.{arc_value}
 use Rattle.std.specs.Vec.{vec_capacity}
 use Rattle.lfm_mutex.specs.Belongs.{OfMutex}

@@ -33,7 +33,7 @@ static void what_the_library_calls_blank(void) {
   EXPECT(lfm_c_unlock(b), LFM_BLANK);
   EXPECT(lfm_c_start_wait(b), LFM_BLANK);
   EXPECT(lfm_c_send(b, 1), LFM_BLANK);
-  EXPECT(lfm_c_number(b) + lfm_c_depth(b) + lfm_c_left(b) + lfm_c_granted(b, 0), 0);
+  EXPECT(lfm_c_number(b) + lfm_c_depth(b) + lfm_c_left(b), 0);
 }
 
 static void limits(void) {
@@ -121,10 +121,7 @@ static void calls_of_a_sleeping_seat(void) {
   EXPECT(lfm_seat_give(&second), LFM_SEAT_ASLEEP);
   EXPECT(lfm_c_start_wait(second.handle), LFM_SEAT_ASLEEP);
   EXPECT(lfm_c_send(second.handle, 1), LFM_SEAT_ASLEEP);
-  EXPECT(lfm_c_granted(first.handle, 0), 0);
   EXPECT(lfm_c_unlock(first.handle), LFM_GRANTED + 256 * 2);
-  EXPECT(lfm_c_granted(first.handle, 0), 2);
-  EXPECT(lfm_c_granted(first.handle, 2), 0);
   EXPECT(lfm_c_receive(second.handle), LFM_DONE);
   EXPECT(lfm_c_receive(second.handle), LFM_NOT_WAITING);
   EXPECT(lfm_unlock(&second), LFM_DONE);
@@ -144,9 +141,8 @@ static void sends(void) {
   EXPECT(lfm_c_send(second.handle, 1), LFM_NOT_WAITING);
   EXPECT(lfm_c_start_wait(first.handle), LFM_DONE);
   EXPECT(lfm_c_receive(first.handle), LFM_ASLEEP);
-  EXPECT(lfm_c_send(second.handle, 1), LFM_DONE);
+  EXPECT(lfm_c_send(second.handle, 1), LFM_DONE + 256 * 1);
   EXPECT(lfm_c_send(second.handle, 1), LFM_NOT_WAITING);
-  EXPECT(lfm_c_granted(second.handle, 0), 1);
   EXPECT(lfm_c_receive(first.handle), LFM_DONE);
   EXPECT(lfm_unlock(&first), LFM_DONE);
   both_back();

@@ -1,13 +1,31 @@
-/* Threads lock, lock again and try at random, and sleep at their first look, so that a seat which another seat's lock grants the
- * mutex is asleep: soak SECONDS THREADS. Exact totals, and it fails where nothing goes on. */
+/* Threads lock, lock again and try at random, and sleep at their first look: soak SECONDS THREADS. Exact totals, and it fails where
+ * nothing goes on.
+ *
+ * A seat's ask may grant the mutex to another seat, which sleeps, and the answer of that ask alone tells that it is to be woken. That is
+ * rare, so the asks of the header are seen here: the test tells how many seats they named, and how many of these slept. */
 #define LFM_LOOKS 0
+#define lfm_c_ask seen_ask
 #include "expect.h"
+#undef lfm_c_ask
+uint64_t lfm_c_ask(void *seat);
 
 enum { MOST = 64, OUTSIDE = 300 };
 static lfm_mutex mutex;
 static lfm_seat seats[MOST];
 static uint64_t guarded, counted[MOST];
+static uint64_t named, named_asleep; /* the seats that asks have named, and those that slept */
 static int over;
+
+uint64_t seen_ask(void *seat) {
+  uint64_t answer = lfm_c_ask(seat);
+  uint64_t number = answer >> 8;
+  if (number != 0) {
+    EXPECT(number <= mutex.seats, true);
+    __atomic_fetch_add(&named, 1, __ATOMIC_RELAXED);
+    if (__atomic_load_n(&mutex.bells[number].sleeps, __ATOMIC_SEQ_CST)) __atomic_fetch_add(&named_asleep, 1, __ATOMIC_RELAXED);
+  }
+  return answer;
+}
 
 static uint64_t next(uint64_t *x) {
   *x ^= *x << 13;
@@ -68,6 +86,7 @@ int main(int argc, char **argv) {
   }
   EXPECT(guarded, sum);
   EXPECT(lfm_mutex_close(&mutex), LFM_DONE);
-  printf("%u threads, %llu\n", threads, (unsigned long long)sum);
+  printf("%u threads, %llu; asks named %llu seats, of which %llu slept\n", threads, (unsigned long long)sum,
+         (unsigned long long)named, (unsigned long long)named_asleep);
   return 0;
 }

@@ -78,8 +78,8 @@ typedef enum lfm_status {
 static inline bool lfm_is_refused(lfm_status status) { return status >= LFM_BLANK; }
 
 /* The library's own calls. Programs use those below. A handle is memory of the size and alignment that the library tells. A
- * mutex's whose bytes are 0 is blank, and a seat's is made so by a call. A call answers a status in the low 8 bits and, above them, the number of the seat that
- * is to be woken, or 0. */
+ * mutex's whose bytes are 0 is blank, and a seat's is made so by a call. A call answers a status in the low 8 bits. Above it an
+ * ask, unlock, start_wait or send tells the number of the seat that it granted the mutex and that is to be woken, or 0. */
 size_t lfm_c_mutex_size(void);
 size_t lfm_c_mutex_align(void);
 size_t lfm_c_seat_size(void);
@@ -98,7 +98,6 @@ uint64_t lfm_c_try_lock(void *seat);
 uint64_t lfm_c_unlock(void *seat);
 uint64_t lfm_c_start_wait(void *seat);
 uint64_t lfm_c_send(void *seat, uint64_t number);
-uint64_t lfm_c_granted(void *seat, uint64_t above); /* the next seat above this number that has a grant to receive, or 0 */
 
 enum { LFM_LINE = 64, LFM_MUTEX_BYTES = 128, LFM_SEAT_BYTES = 256 };
 
@@ -162,8 +161,11 @@ static inline void lfm_giving_up(lfm_seat *seat) {
 
 /* How threads sleep and wake.
  *
- * A seat's thread reads how often the bell has rung, looks for a grant, and sleeps only while the bell has rung no more than
- * that. A grant is stored before its ring. So either the ring comes before the reading, and the look finds the grant; or it
+ * Each grant is rung for. One call grants the mutex to one seat at most, and its answer names that seat, which is proved. So whoever
+ * made the call rings that seat's bell as soon as it has the answer, before its own thread sleeps.
+ *
+ * No ring is missed. A seat's thread reads how often the bell has rung, looks for a grant, and sleeps only while the bell has rung no
+ * more than that. A grant is stored before its ring. So either the ring comes before the reading, and the look finds the grant; or it
  * comes after it, and the system's own comparison finds another number of rings; or it comes when the thread is asleep, and
  * then it finds `sleeps` set and wakes it.
  *
@@ -189,13 +191,6 @@ static inline lfm_status lfm_told(lfm_mutex *mutex, uint64_t answer) {
   return (lfm_status)(answer & 255);
 }
 
-/* Rings for all seats that have a grant to receive. An ask that answers Asleep, and a send, may grant the mutex to another seat
- * and don't tell to whom. */
-static inline void lfm_ring_granted(lfm_seat *seat) {
-  uint64_t number = 0;
-  while ((number = lfm_c_granted(seat->handle, number)) != 0) lfm_ring(seat->mutex, number);
-}
-
 static inline void lfm_pause(void) {
 #if defined(__x86_64__) || defined(__i386__)
   __builtin_ia32_pause();
@@ -207,7 +202,6 @@ static inline void lfm_pause(void) {
 /* Sleeps until the seat, which is asleep, is granted the mutex. */
 static inline lfm_status lfm_receive(lfm_seat *seat, uint32_t looks) {
   lfm_bell *bell = seat->bell;
-  bool has_rung = false;
   for (;;) {
     uint32_t seen = __atomic_load_n(&bell->rings, __ATOMIC_SEQ_CST);
     lfm_status status = (lfm_status)lfm_c_receive(seat->handle);
@@ -217,9 +211,6 @@ static inline lfm_status lfm_receive(lfm_seat *seat, uint32_t looks) {
       lfm_pause();
       continue;
     }
-    /* Whom this seat's ask or wait granted the mutex stands before it, so it is woken before this thread sleeps. */
-    if (!has_rung) lfm_ring_granted(seat);
-    has_rung = true;
     __atomic_store_n(&bell->sleeps, 1, __ATOMIC_SEQ_CST);
     lfm_futex(&bell->rings, FUTEX_WAIT, seen);
     __atomic_store_n(&bell->sleeps, 0, __ATOMIC_SEQ_CST);
@@ -297,7 +288,7 @@ static inline lfm_status lfm_mutex_close(lfm_mutex *mutex) {
  * Refused: LFM_BLANK, LFM_SEAT_ASLEEP, LFM_DEPTH_FULL, LFM_SPENT. */
 static inline lfm_status lfm_lock(lfm_seat *seat) {
   if (!seat || !seat->mutex) return LFM_BLANK;
-  lfm_status status = (lfm_status)lfm_c_ask(seat->handle);
+  lfm_status status = lfm_told(seat->mutex, lfm_c_ask(seat->handle));
   if (__builtin_expect(status == LFM_ASLEEP, 0)) status = lfm_receive(seat, LFM_LOOKS);
   return lfm_gained(seat, status);
 }
@@ -403,11 +394,10 @@ static inline lfm_status lfm_wait(lfm_condvar *condvar, lfm_seat *seat) {
 /* Sends the oldest of those that wait, whose seat then gains the mutex or is queued. The list's mutex is held. */
 static inline lfm_status lfm_send_oldest(lfm_condvar *condvar, lfm_seat *seat) {
   if (condvar->count == 0) return LFM_NOBODY;
-  lfm_status status = (lfm_status)lfm_c_send(seat->handle, condvar->waiting[condvar->first]);
+  lfm_status status = lfm_told(seat->mutex, lfm_c_send(seat->handle, condvar->waiting[condvar->first]));
   if (lfm_is_refused(status)) return status;
   condvar->first = (condvar->first + 1) % condvar->of->seats;
   condvar->count--;
-  lfm_ring_granted(seat);
   return LFM_DONE;
 }
 

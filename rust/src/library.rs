@@ -20,7 +20,6 @@ extern "C" {
     pub fn lfm_c_unlock(seat: *mut c_void) -> u64;
     pub fn lfm_c_start_wait(seat: *mut c_void) -> u64;
     pub fn lfm_c_send(seat: *mut c_void, number: u64) -> u64;
-    pub fn lfm_c_granted(seat: *mut c_void, above: u64) -> u64;
 }
 
 /// The seat sleeps.

@@ -61,14 +61,10 @@ impl Core {
         Ok(core)
     }
 
-    fn ring(&self, number: u64) {
-        self.bells[number as usize].ring();
-    }
-
     /// Rings for the seat that an answer names, and gives the status.
     fn told(&self, answer: u64) -> u64 {
         if answer > 255 {
-            self.ring(answer >> 8);
+            self.bells[(answer >> 8) as usize].ring();
         }
         answer & 255
     }
@@ -118,24 +114,10 @@ impl Place {
         unsafe { lfm_c_number(self.at()) }
     }
 
-    /// Rings for all seats that have a grant to receive. An ask that answers Asleep, and a send, may grant the mutex to another
-    /// seat and don't tell to whom.
-    fn ring_granted(&self) {
-        let mut number = 0;
-        loop {
-            number = unsafe { lfm_c_granted(self.at(), number) };
-            if number == 0 {
-                return;
-            }
-            self.core.ring(number);
-        }
-    }
-
     /// Sleeps until the seat, which is asleep, is granted the mutex.
     pub(crate) fn receive(&mut self, looks: u32) -> u64 {
         let bell = &self.core.bells[self.number() as usize];
         let mut looks = looks;
-        let mut has_rung = false;
         loop {
             let seen = bell.rings();
             let status = unsafe { lfm_c_receive(self.at()) };
@@ -147,17 +129,13 @@ impl Place {
                 std::hint::spin_loop();
                 continue;
             }
-            // Whom this seat's ask or wait granted the mutex stands before it, so it is woken before this thread sleeps.
-            if !has_rung {
-                self.ring_granted();
-                has_rung = true;
-            }
             bell.sleep(seen);
         }
     }
 
     pub(crate) fn lock(&mut self) -> Result<u64, Refusal> {
-        let status = unsafe { lfm_c_ask(self.at()) };
+        let answer = unsafe { lfm_c_ask(self.at()) };
+        let status = self.core.told(answer);
         made(if status == ASLEEP {
             self.receive(LOOKS)
         } else {
@@ -182,9 +160,8 @@ impl Place {
 
     /// Sends a seat that waits.
     pub(crate) fn send(&mut self, number: u64) -> Result<u64, Refusal> {
-        let status = made(unsafe { lfm_c_send(self.at(), number) })?;
-        self.ring_granted();
-        Ok(status)
+        let answer = unsafe { lfm_c_send(self.at(), number) };
+        made(self.core.told(answer))
     }
 }
 

@@ -1,7 +1,8 @@
 //! How threads sleep and wake: one bell for each seat, on a cache line of its own.
 //!
-//! A seat's thread reads how often its bell has rung, looks for a grant, and sleeps only while the bell has rung no more than that.
-//! A grant is stored before its ring, so a ring is never missed.
+//! A call grants the mutex to one seat at most, and its answer names that seat, so its caller rings that bell. A seat's thread
+//! reads how often its bell has rung, looks for a grant, and sleeps only while the bell has rung no more than that. A grant is stored
+//! before its ring, so a ring is never missed.
 use std::{
     ffi::{c_int, c_long},
     sync::atomic::{AtomicU32, Ordering::SeqCst},

@@ -1,7 +1,10 @@
 // A producer and two consumers at a buffer, with lfm::condition_variable and with std::condition_variable_any: each number comes out
-// once. And a lock of two mutexes at a time, of seats in hand, and of more threads than there are seats.
+// once. And a lock of two mutexes at a time, of seats in hand, of more threads than there are seats, and of mutexes that end before or
+// after the threads that used them.
+#include <atomic>
 #include <condition_variable>
 #include <deque>
+#include <memory>
 #include <thread>
 #include <vector>
 
@@ -98,6 +101,29 @@ static void seats_of_threads() {
   }).join();
 }
 
+static lfm::recursive_mutex of_the_program(2);
+
+static void mutexes_that_end() {
+  std::lock_guard<lfm::recursive_mutex> lock(of_the_program);
+  for (int i = 0; i < 100; i++) {
+    lfm::recursive_mutex mutex(1);
+    mutex.lock();
+    mutex.unlock();
+  }
+  auto mutex = std::make_unique<lfm::recursive_mutex>(2);
+  std::atomic<int> step{0};
+  std::thread user([&] {
+    mutex->lock();
+    mutex->unlock();
+    step = 1;
+    while (step != 2) std::this_thread::yield();
+  });
+  while (step != 1) std::this_thread::yield();
+  mutex.reset();
+  step = 2;
+  user.join();
+}
+
 int main() {
   lfm::recursive_mutex mutex(4);
   {
@@ -109,5 +135,6 @@ int main() {
   two_at_a_time();
   seats_in_hand();
   seats_of_threads();
+  mutexes_that_end();
   return 0;
 }

@@ -13,6 +13,7 @@
 #pragma once
 
 #include <atomic>
+#include <iterator>
 #include <map>
 #include <memory>
 #include <mutex>
@@ -97,6 +98,7 @@ class recursive_mutex {
   // The mutex lies here as long as it or the seat of a thread is there.
   struct shared {
     lfm_mutex raw{};
+    std::atomic<bool> is_gone{false}; // the recursive_mutex has ended
     ~shared() { lfm_mutex_close(&raw); }
   };
 
@@ -130,7 +132,8 @@ public:
   explicit recursive_mutex(uint64_t most_threads = 64, uint64_t budget = most_takes) { made(lfm_mutex_new(&state->raw, most_threads, budget)); }
   recursive_mutex(const recursive_mutex &) = delete;
   recursive_mutex &operator=(const recursive_mutex &) = delete;
-  ~recursive_mutex() { seats().erase(number); }
+  // The thread's seats are left alone: at the end of a program they may have ended before.
+  ~recursive_mutex() { state->is_gone = true; }
 
   lfm_mutex *native_handle() noexcept { return &state->raw; }
 
@@ -138,7 +141,10 @@ public:
   lfm_seat *own() {
     auto &all = seats();
     auto at = all.find(number);
-    if (at == all.end()) at = all.emplace(number, own_seat(state)).first;
+    if (at == all.end()) {
+      for (auto old = all.begin(); old != all.end();) old = old->second.of->is_gone ? all.erase(old) : std::next(old);
+      at = all.emplace(number, own_seat(state)).first;
+    }
     return at->second.raw.get();
   }
 

@@ -372,7 +372,8 @@ static inline lfm_status lfm_condvar_refuses(lfm_condvar *condvar, lfm_seat *sea
 }
 
 /* Gives the mutex up, which the seat holds once, waits until a wake, and gains the mutex again, for one take: LFM_DONE. There is
- * no wake without a caller of lfm_wake_one or lfm_wake_all.
+ * no wake without a caller of lfm_wake_one or lfm_wake_all. Where the seat's own state refuses it, it has locked the list: it costs
+ * one of the condition variable's 2^36 takes, and may have slept.
  * Refused: LFM_BLANK, LFM_FOREIGN, LFM_SEAT_ASLEEP, LFM_NOT_OWNER, LFM_NESTED, LFM_SPENT. */
 static inline lfm_status lfm_wait(lfm_condvar *condvar, lfm_seat *seat) {
   lfm_status status = lfm_condvar_refuses(condvar, seat);

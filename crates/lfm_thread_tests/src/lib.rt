@@ -1,5 +1,5 @@
-//! Tests that start threads or need several crates, by what they call: the running mutex, the condition variable, the
-//! monitor, and runs of workers. Only they stand here, and what they are made of.
+//! Tests that start threads or need several crates, by what they call: threads that are started together, the running mutex,
+//! the condition variable, the monitor, and runs of workers. Only they stand here, and what they are made of.
 #![tactic(auto)]
 
 #[cfg(test)]
@@ -14,5 +14,7 @@ mod out_of_memory;
 mod refused_memory;
 #[cfg(test)]
 mod seeing;
+#[cfg(test)]
+mod sharing;
 #[cfg(test)]
 mod work;

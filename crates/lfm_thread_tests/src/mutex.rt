@@ -1,9 +1,10 @@
-//! Tests of the running mutex: threads that try, lock and sleep, as many seats as there may be, a flag, and races whose
-//! steps are made by hand.
+//! Tests of the running mutex: threads that try, lock and sleep, as many seats as there may be, rounds of all seats, a flag,
+//! and races whose steps are made by hand.
 
 mod driving;
 mod flags;
 mod many_seats;
 mod races;
+mod rounds;
 mod sleeping;
 mod workers;

@@ -45,7 +45,7 @@ function draw_mark(x, y, kind) {
 function draw_access(row,    edge, x, y) {
   x = x_of(row)
   y = y_of(row)
-  edge = side[row] == "left" ? middle - 34 : middle + 34
+  edge = side[row] == "left" ? middle - half : middle + half
   x += side[row] == "left" ? 8 : -8
   if (does[row] == "load") printf "<path d=\"M%d %dH%d\" class=\"arrow plain\" marker-end=\"url(#plainhead)\"/>\n", edge, y, x
   if (does[row] == "store") printf "<path d=\"M%d %dH%d\" class=\"arrow grant\" marker-end=\"url(#granthead)\"/>\n", x, y, edge
@@ -62,7 +62,7 @@ function draw_row(row,    x, y) {
 
 # the value of the word, in a box as long as it stays
 function draw_value(value, from, to) {
-  printf "<rect x=\"%d\" y=\"%d\" width=\"68\" height=\"%d\" rx=\"3\" class=\"box %s\"/>\n", middle - 34, from, to - from, value ~ /^GRANT/ ? "grant" : "plain"
+  printf "<rect x=\"%d\" y=\"%d\" width=\"%d\" height=\"%d\" rx=\"3\" class=\"box %s\"/>\n", middle - half, from, 2 * half, to - from, value ~ /^GRANT/ ? "grant" : "plain"
   label(middle, from + 15, value ~ /^GRANT/ ? "ink bold" : "soft", "middle", escape(value))
 }
 
@@ -119,6 +119,7 @@ END {
   pitch = 26
   left = 270
   middle = 390
+  half = 42
   right = 510
   width = 790
   gap = 84

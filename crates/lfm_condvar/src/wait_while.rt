@@ -24,8 +24,8 @@ fn must_wait<T: Kept, F: Fn(&T) -> bool>(seat: &Seat<T>, condition: &F) -> bool
 }
 
 impl Condvar {
-    /// Waits, as `wait` does, for as long as the condition holds of the value that the seat has in hand. It looks before it
-    /// waits and again after each wait. When it returns, the seat holds as before, and the condition doesn't hold of the value
+    /// Waits, as `wait` does, for as long as the condition holds of the value that the seat has in hand. It tests that before
+    /// it waits and again after each wait. When it returns, the seat holds as before, and the condition doesn't hold of the value
     /// that it has in hand. What a seat finds it has to be allowed to leave, which is so where the value is a number.
     ///
     /// Refuses as `wait`, in the same order, where the condition holds or the seat has no value in hand: the seat then is as the

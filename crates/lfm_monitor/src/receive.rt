@@ -1,4 +1,4 @@
-//! `try_receive`: a pass that sleeps looks whether it was granted the monitor. A hold that begins is written down.
+//! `try_receive`: a pass that sleeps finds out whether it was granted the monitor. A hold that begins is written down.
 ghost use Rattle.lfm_protocol.specs.declared.answers.Answer.TheVariants as Answered;
 ghost use Rattle.lfm_protocol.specs.declared.answers.Call.{Call};
 ghost use Rattle.lfm_monitor.specs.Belongs.{OfMonitor, cond_seats_of, mine_of, mutex_limits, pass_sight, seen_of};
@@ -12,7 +12,7 @@ use crate::write::write_took;
 use lfm_model::{How, Object, Refusal};
 
 impl<O: Object> Monitor<O> {
-    /// One look of a pass that sleeps: how it came to hold, which is written down as its take, or None where it was not granted
+    /// One receive of a pass that sleeps: how it came to hold, which is written down as its take, or None where it was not granted
     /// the monitor and sleeps on.
     ///
     /// Refuses with NotWaiting where the pass doesn't sleep. It never waits and takes no memory.

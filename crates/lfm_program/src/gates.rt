@@ -44,7 +44,7 @@ const GIVEN_UP: u64 = 4;
 
 /// A gate that holds the first commands of workers 1 and 2 until both have arrived, for at most so many turns each.
 ///
-/// It takes no runtime and never sleeps: each of the two looks at most so many times. A first command of worker 1 or 2 is
+/// It takes no runtime and never sleeps: each of the two takes at most so many turns. A first command of worker 1 or 2 is
 /// answered true where both have arrived. It is answered false where its worker saw only its own mark in all its turns and
 /// gave up, or where the other had given up before. After one answer false no later arrival is answered true, also not of
 /// a worker that arrives again. All other commands and workers are answered true at once.

@@ -8,7 +8,7 @@ use lfm_mutex::{Mutex, Seat};
 use std::process::Abort;
 use std::test::Fail;
 
-/// Looks a thousand times whether a seat that sleeps came to hold, which it may not.
+/// Receives a thousand times for a seat that sleeps, which may not come to hold.
 fn sleeps_on<R: Abort>(rt: &R, mutex: &Mutex<u64>, seat: &mut Seat<u64>)
     requires { OfMutex seat.old mutex.now }
     ensures { OfMutex seat.new mutex.now }

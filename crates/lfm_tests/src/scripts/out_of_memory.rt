@@ -5,7 +5,7 @@ use lfm_script::{Command, Script, ScriptLine, WorkFault, commands_by_worker, rea
 use std::alloc::Global;
 use std::process::Abort;
 
-/// `read_script`, with nothing of its contract: the test looks at what it answers.
+/// `read_script`, with nothing of its contract: the test sees what it answers.
 fn read(alloc: Global, text: &[u8]) -> Result<Script, WorkFault> {
     read_script(alloc, text)
 }

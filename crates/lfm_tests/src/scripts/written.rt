@@ -83,7 +83,7 @@ fn are_of_worker(commands: &[Command], worker: u64, lines: &[ScriptLine]) -> boo
     rest.next().is_none()
 }
 
-/// `read_script`, with nothing of its contract: the test looks at what it answers.
+/// `read_script`, with nothing of its contract: the test sees what it answers.
 fn read(alloc: Global, text: &str) -> Result<Script, WorkFault> {
     read_script(alloc, text.as_bytes())
 }

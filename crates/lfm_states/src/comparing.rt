@@ -56,19 +56,16 @@ pub fn compare<R: AllocGlobal + Print>(rt: &R, budget: u64) -> io::Result<Tally>
 fn greatest_of_both(alloc: Global, graph: &Graph, row: &Row) -> Result<Option<u64>, AllocError> {
     let first = greatest(alloc, graph, row.measure, 1)?;
     let second = greatest(alloc, graph, row.measure, 2)?;
-    match (
-        count_at(&first, row.changes),
-        count_at(&second, row.changes),
-    ) {
+    match (count_at(&first, row.beside), count_at(&second, row.beside)) {
         (Some(first), Some(second)) => Ok(Some(first.max(second))),
         _ => Ok(None),
     }
 }
 
-/// The count at this number of changes.
-fn count_at(counts: &Option<Vec<u64>>, changes: usize) -> Option<u64> {
+/// The count beside so many changes or open calls.
+fn count_at(counts: &Option<Vec<u64>>, beside: usize) -> Option<u64> {
     match counts {
-        Some(counts) => counts.get(changes).copied(),
+        Some(counts) => counts.get(beside).copied(),
         None => None,
     }
 }

@@ -1,6 +1,6 @@
 //! The greatest counts of a measure with which each node is reached. A greater count at a node leads to nothing smaller than a
-//! smaller one does, so the greatest alone is kept. Counts are kept apart by how often the other seat has
-//! changed the push word.
+//! smaller one does, so the greatest alone is kept. Counts are kept apart by what they are made beside: how often the other seat
+//! has changed the push word, or how many calls were open as the run began.
 ghost use Rattle.std.specs.Prelude.{◌≡◌};
 ghost use Rattle.lfm_states.specs.Counts.{is_below};
 
@@ -8,8 +8,8 @@ use crate::graph::{Edge, Graph};
 use crate::measures::{Effect, Measure};
 use std::alloc::{AllocError, Global};
 
-/// Counts are kept for 0, 1 and 2 changes of the push word by the other seat.
-pub const CHANGES: usize = 3;
+/// Counts are kept beside 0, 1 and 2 such changes or calls.
+pub const CLASSES: usize = 3;
 
 /// The counts do not settle where so many passes over all edges do not do it.
 const MOST_PASSES: u64 = 1_000;
@@ -17,9 +17,9 @@ const MOST_PASSES: u64 = 1_000;
 /// The counts of all nodes, and the greatest of all.
 #[derive(Drop)]
 pub struct Counts {
-    /// For each node and each number of changes the greatest count. None where no count is open with so many changes.
+    /// For each node and each number of these the greatest count. None where no count is open beside so many.
     at: Vec<Option<u64>>,
-    /// For each number of changes the greatest count.
+    /// For each number of these the greatest count.
     greatest: Vec<u64>,
     /// Whether this pass has raised a count.
     raised: bool,
@@ -36,31 +36,31 @@ fn is_below(kept: Option<u64>, count: u64) -> bool
 }
 
 /// Where the count of a node is kept.
-fn place(node: usize, changes: usize) -> usize {
-    node.wrapping_mul(CHANGES).wrapping_add(changes)
+fn place(node: usize, beside: usize) -> usize {
+    node.wrapping_mul(CLASSES).wrapping_add(beside)
 }
 
 impl Counts {
     /// No count is open at any of so many nodes.
     fn new(alloc: Global, nodes: usize) -> Result<Counts, AllocError> {
         Ok(Counts {
-            at: vec![in alloc; None; nodes.wrapping_mul(CHANGES)]?,
-            greatest: vec![in alloc; 0; CHANGES]?,
+            at: vec![in alloc; None; nodes.wrapping_mul(CLASSES)]?,
+            greatest: vec![in alloc; 0; CLASSES]?,
             raised: false,
         })
     }
 
     /// The count that is kept.
-    fn kept(&self, node: usize, changes: usize) -> Option<u64> {
-        match self.at.get(place(node, changes)) {
+    fn kept(&self, node: usize, beside: usize) -> Option<u64> {
+        match self.at.get(place(node, beside)) {
             Some(kept) => *kept,
             None => None,
         }
     }
 
     /// Keeps this count among the greatest of all, if it is greater.
-    fn note(&mut self, changes: usize, count: u64) {
-        if let Some(greatest) = self.greatest.get_mut(changes) {
+    fn note(&mut self, beside: usize, count: u64) {
+        if let Some(greatest) = self.greatest.get_mut(beside) {
             if *greatest < count {
                 *greatest = count;
             }
@@ -68,17 +68,17 @@ impl Counts {
     }
 
     /// Keeps this count at a node, if it is greater.
-    fn raise(&mut self, node: usize, changes: usize, count: u64) {
-        if changes >= CHANGES {
+    fn raise(&mut self, node: usize, beside: usize, count: u64) {
+        if beside >= CLASSES {
             return;
         }
-        if let Some(kept) = self.at.get_mut(place(node, changes)) {
+        if let Some(kept) = self.at.get_mut(place(node, beside)) {
             if is_below(*kept, count) {
                 *kept = Some(count);
                 self.raised = true;
             }
         }
-        self.note(changes, count);
+        self.note(beside, count);
     }
 
     /// Begins a count at each node at which a run may begin.
@@ -86,27 +86,27 @@ impl Counts {
         for node in 0..graph.nodes.len() {
             if let Some(reading) = graph.nodes.get(node) {
                 if measure.starts_at(reading) {
-                    self.raise(node, 0, 0);
+                    self.raise(node, measure.starts_beside(reading), 0);
                 }
             }
         }
     }
 
     /// Carries the count before an edge over to the node after it.
-    fn relax(&mut self, edge: &Edge, changes: usize, effect: Effect) {
+    fn relax(&mut self, edge: &Edge, beside: usize, effect: Effect) {
         if let Effect::Starts = effect {
             self.raise(edge.to, 0, 0);
             return;
         }
-        let Some(count) = self.kept(edge.from, changes) else {
+        let Some(count) = self.kept(edge.from, beside) else {
             return;
         };
         match effect {
             Effect::Starts | Effect::Stops => {}
-            Effect::Stays => self.raise(edge.to, changes, count),
-            Effect::Changes => self.raise(edge.to, changes.wrapping_add(1), count),
-            Effect::Grows(by) => self.raise(edge.to, changes, count.saturating_add(by)),
-            Effect::Ends(by) => self.note(changes, count.saturating_add(by)),
+            Effect::Stays => self.raise(edge.to, beside, count),
+            Effect::Changes => self.raise(edge.to, beside.wrapping_add(1), count),
+            Effect::Grows(by) => self.raise(edge.to, beside, count.saturating_add(by)),
+            Effect::Ends(by) => self.note(beside, count.saturating_add(by)),
         }
     }
 
@@ -116,15 +116,15 @@ impl Counts {
             let (before, after) = (graph.nodes.get(edge.from), graph.nodes.get(edge.to));
             if let (Some(before), Some(after)) = (before, after) {
                 let effect = measure.effect(seat, edge.event, before, after);
-                for changes in 0..CHANGES {
-                    self.relax(edge, changes, effect);
+                for beside in 0..CLASSES {
+                    self.relax(edge, beside, effect);
                 }
             }
         }
     }
 }
 
-/// The greatest counts of a measure in all runs, for calls of this seat, by the number of changes. None where they do not settle.
+/// The greatest counts of a measure in all runs, for calls of this seat, by what they are made beside. None where they do not settle.
 /// It takes memory.
 pub fn greatest(
     alloc: Global,

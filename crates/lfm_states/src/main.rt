@@ -16,6 +16,7 @@ mod points;
 mod readings;
 mod rows;
 mod search;
+mod service;
 mod weights;
 
 use std::process::ExitCode;

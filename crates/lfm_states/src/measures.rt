@@ -6,6 +6,7 @@ ghost use Rattle.lfm_states.specs.Measures.{counts_call, weight_of};
 
 use crate::events::Event;
 use crate::readings::Reading;
+use crate::service::is_serving;
 use lfm_core::Call;
 use lfm_words::Link;
 
@@ -30,6 +31,12 @@ pub enum Measure {
     EntriesOfSeat,
     /// How often seats stop owning meanwhile.
     Releases,
+    /// How many calls begin while the record is queued that was the oldest as the run began, where only serving calls begin.
+    BeginsBesideOldest,
+    /// The same of the record that was the second. Both seats are queued as such a run begins, so nobody is pushed behind it.
+    BeginsBesideSecond,
+    /// How many steps are made while the record is queued that was the oldest as the run began, where only serving calls begin.
+    StepsBesideOldest,
 }
 
 /// What an event does to a count.
@@ -145,12 +152,50 @@ impl Measure {
         }
     }
 
+    /// Whether the record is still queued beside which calls begin.
+    fn is_still_queued(self, before: &Reading, after: &Reading) -> bool {
+        match self {
+            Measure::BeginsBesideSecond => after.oldest.seat != 0,
+            _ => before.oldest == after.oldest,
+        }
+    }
+
+    /// What an event does to a count that is made beside a queued record where only serving calls begin.
+    fn effect_of_service(self, event: Event, before: &Reading, after: &Reading) -> Effect {
+        let counts_steps = self == Measure::StepsBesideOldest;
+        match event {
+            Event::Begin(s, call) if is_serving(call, before.seat(s).wake) => {
+                if after.seat(s).in_call && !counts_steps {
+                    Effect::Grows(1)
+                } else {
+                    Effect::Stays
+                }
+            }
+            Event::Step(_) if self.is_still_queued(before, after) => {
+                Effect::Grows(u64::from(counts_steps))
+            }
+            _ => Effect::Stops,
+        }
+    }
+
     /// Whether a run may begin at this node, with a count of 0. Elsewhere a count begins as its call does.
     pub fn starts_at(self, node: &Reading) -> bool {
         match self {
             Measure::StepsWithoutEnd => true,
             Measure::Entries | Measure::EntriesOfSeat | Measure::Releases => node.oldest.seat != 0,
+            Measure::BeginsBesideOldest | Measure::StepsBesideOldest => node.oldest.seat != 0,
+            Measure::BeginsBesideSecond => node.second.seat != 0,
             _ => false,
+        }
+    }
+
+    /// Beside how many changes or open calls the count of a run is kept that begins at this node.
+    pub fn starts_beside(self, node: &Reading) -> usize {
+        match self {
+            Measure::StepsBesideOldest => {
+                usize::from(node.seat_1.in_call).wrapping_add(usize::from(node.seat_2.in_call))
+            }
+            _ => 0,
         }
     }
 
@@ -161,6 +206,9 @@ impl Measure {
             Measure::Entries | Measure::EntriesOfSeat | Measure::Releases => {
                 self.effect_beside_record(seat, event, before, after)
             }
+            Measure::BeginsBesideOldest
+            | Measure::BeginsBesideSecond
+            | Measure::StepsBesideOldest => { self.effect_of_service(event, before, after) }
             _ => self.effect_on_call(seat, event, before, after),
         }
     }

@@ -1,4 +1,4 @@
-//! What is compared: for each measure the greatest count that is known from another search, and the bound of its law at two seats.
+//! What is compared: for each measure the greatest count that is known, and the bound of its law at two seats.
 ghost use Rattle.std.specs.Prelude.{◌≡◌};
 ghost use Rattle.lfm_states.specs.Rows.{known_states, is_as_known};
 
@@ -11,8 +11,8 @@ pub struct Row {
     pub name: &'static str,
     /// What is measured.
     pub measure: Measure,
-    /// Beside how many changes of the push word by the other seat.
-    pub changes: usize,
+    /// Beside how many changes of the push word by the other seat, or calls that were open as the run began.
+    pub beside: usize,
     /// The known greatest count. A budget of 2 takes is enough to reach it.
     pub known: u64,
     /// The bound of the law.
@@ -38,11 +38,11 @@ pub fn known_states(budget: u64) -> usize
 }
 
 /// All rows, those of one measure after one another.
-pub const ROWS: [Row; 11] = [
+pub const ROWS: [Row; 16] = [
     Row {
         name: "steps of a call beside no change of the push word",
         measure: Measure::StepsOfCall,
-        changes: 0,
+        beside: 0,
         known: 11,
         bound: 11,
         law: "calls_end_beside_others",
@@ -50,7 +50,7 @@ pub const ROWS: [Row; 11] = [
     Row {
         name: "steps of a call beside 1 change of the push word",
         measure: Measure::StepsOfCall,
-        changes: 1,
+        beside: 1,
         known: 13,
         bound: 13,
         law: "calls_end_beside_others",
@@ -58,7 +58,7 @@ pub const ROWS: [Row; 11] = [
     Row {
         name: "steps of a call beside 2 changes of the push word",
         measure: Measure::StepsOfCall,
-        changes: 2,
+        beside: 2,
         known: 15,
         bound: 15,
         law: "calls_end_beside_others",
@@ -66,7 +66,7 @@ pub const ROWS: [Row; 11] = [
     Row {
         name: "steps of a try_lock",
         measure: Measure::StepsOfTry,
-        changes: 0,
+        beside: 0,
         known: 6,
         bound: 6,
         law: "tries_and_receives_are_bounded",
@@ -74,7 +74,7 @@ pub const ROWS: [Row; 11] = [
     Row {
         name: "steps of a receive",
         measure: Measure::StepsOfReceive,
-        changes: 0,
+        beside: 0,
         known: 3,
         bound: 3,
         law: "tries_and_receives_are_bounded",
@@ -82,7 +82,7 @@ pub const ROWS: [Row; 11] = [
     Row {
         name: "changes of the push word by a call",
         measure: Measure::PushChanges,
-        changes: 0,
+        beside: 0,
         known: 2,
         bound: 2,
         law: "calls_change_the_push_word_twice",
@@ -90,7 +90,7 @@ pub const ROWS: [Row; 11] = [
     Row {
         name: "grants by a call",
         measure: Measure::Grants,
-        changes: 0,
+        beside: 0,
         known: 1,
         bound: 1,
         law: "calls_grant_once",
@@ -98,7 +98,7 @@ pub const ROWS: [Row; 11] = [
     Row {
         name: "steps of calls without an end of one",
         measure: Measure::StepsWithoutEnd,
-        changes: 0,
+        beside: 0,
         known: 17,
         bound: 30,
         law: "some_call_ends",
@@ -106,7 +106,7 @@ pub const ROWS: [Row; 11] = [
     Row {
         name: "entries while the oldest record is queued",
         measure: Measure::Entries,
-        changes: 0,
+        beside: 0,
         known: 1,
         bound: 1,
         law: "queued_seats_are_overtaken_once",
@@ -114,7 +114,7 @@ pub const ROWS: [Row; 11] = [
     Row {
         name: "entries of one seat while the oldest record is queued",
         measure: Measure::EntriesOfSeat,
-        changes: 0,
+        beside: 0,
         known: 1,
         bound: 1,
         law: "no_seat_overtakes_twice",
@@ -122,9 +122,49 @@ pub const ROWS: [Row; 11] = [
     Row {
         name: "releases while the oldest record is queued",
         measure: Measure::Releases,
-        changes: 0,
+        beside: 0,
         known: 1,
         bound: 1,
         law: "queued_seats_wait_for_few_releases",
+    },
+    Row {
+        name: "begins of serving calls while the oldest record is queued",
+        measure: Measure::BeginsBesideOldest,
+        beside: 0,
+        known: 2,
+        bound: 2,
+        law: "queued_seats_are_served_soon",
+    },
+    Row {
+        name: "begins of serving calls while the second record is queued",
+        measure: Measure::BeginsBesideSecond,
+        beside: 0,
+        known: 2,
+        bound: 4,
+        law: "queued_seats_are_served_soon",
+    },
+    Row {
+        name: "steps where serving calls alone begin, with the oldest record queued and no call open at first",
+        measure: Measure::StepsBesideOldest,
+        beside: 0,
+        known: 7,
+        bound: 30,
+        law: "queued_seats_are_served_soon",
+    },
+    Row {
+        name: "the same with 1 call open at first",
+        measure: Measure::StepsBesideOldest,
+        beside: 1,
+        known: 8,
+        bound: 45,
+        law: "queued_seats_are_served_soon",
+    },
+    Row {
+        name: "the same with 2 calls open at first",
+        measure: Measure::StepsBesideOldest,
+        beside: 2,
+        known: 12,
+        bound: 60,
+        law: "queued_seats_are_served_soon",
     },
 ];

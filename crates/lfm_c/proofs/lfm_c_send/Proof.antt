@@ -32,7 +32,7 @@ use denote.Triple.Spec.{triple_of}
 use denote.Triple.Table.{framed}
 use denote.Triple.Walked.{Stays, walk_of, stay_dropped, Goes-dropped, ends_at}
 use Rattle.lfm_c.specs.declared.handles.SeatHandle.{SeatHandle}
-use Rattle.lfm_c.specs.contracts.handles.SeatHandle.{the_row as R0}
+use Rattle.lfm_c.specs.contracts.handles.SeatHandle.{the_row as first_row}
 use Rattle.lfm_c.specs.Handles.{TellsSend}
 use Rattle.lfm_c.specs.contracts.lfm_c_send as f
 use Rattle.lfm_c.proofs.lfm_c_send.Statement.{statement}
@@ -51,16 +51,16 @@ lfm_c_send_spec 𝓤 𝓛 𝓜 𝓡 wired =
     (λ κs. (rawptr_vals, (uint_vals w64, tt))) (λ κs. (rawptr_Tells, (uint_Tells w64, tt))) (λ κs qs bounds a x are.
     let k0 = a.1.0 in
     let y : Ptr → W.Ghost = λ p0. ((κs, qs, bounds, (p0, (k0, tt)), (rawptr_vals p0, (uint_vals w64 k0, tt))), x) in
-    qed 𝓛 (raw (on_entry 𝓛 f.signature κs qs a (y a.0).0.4) ∷ ‵ (lies_at R0 full_share a.0 x) ∷ []) ∵ drop ! $
-    in_a_block ! a.0 (λ p. lies_at R0 full_share p x) (id⊢ 𝓤 _) (λ b0 o0 e0.
+    qed 𝓛 (raw (on_entry 𝓛 f.signature κs qs a (y a.0).0.4) ∷ ‵ (lies_at first_row full_share a.0 x) ∷ []) ∵ drop ! $
+    in_a_block ! a.0 (λ p. lies_at first_row full_share p x) (id⊢ 𝓤 _) (λ b0 o0 e0.
     regoal ! (λ p0. prop (WpFn 𝓤 𝓛.H 𝓣.C 𝓣.Λ code.function (rawptr_vals p0 ++ (uint_vals w64 k0 ++ [])) (W.post (y p0)))) e0 refl $
     enter ! _ _ _ _ _ $ alloc_all ! (λ l. pass_all ! refl ((tt, tt), ((tt, record { fits = are.1.0.1 }), tt)) $
     -- [the handles; the locals]
     sets ! (of_opd ! (get ! refl)) refl (tt, tt) $
     sets ! (addr ! (through ! refl (stop !))) refl (tt, tt) $
     lft_new ! tt (λ α0. let κ0 = α0 ∷ [] in move ! (1 ∷ []) $
-    use1 𝓛 (later (some (λ (γ : ℕ). ‵ ((MutRef (named 0) κ0 R0).own_val (record { ref_ptr = (b0, o0); ghost_name = γ; now = x }) (vptr b0 o0 ∷ [])) ⊛ ‵ (flent κ0 (Body (mem R0) b0 o0 γ)))))
-    (lends_ref 𝓛 R0 (named 0) κ0 x b0 o0) $ await ! tt $ pick ! (λ γ0. split ! $
+    use1 𝓛 (later (some (λ (γ : ℕ). ‵ ((MutRef (named 0) κ0 first_row).own_val (record { ref_ptr = (b0, o0); ghost_name = γ; now = x }) (vptr b0 o0 ∷ [])) ⊛ ‵ (flent κ0 (Body (mem first_row) b0 o0 γ)))))
+    (lends_ref 𝓛 first_row (named 0) κ0 x b0 o0) $ await ! tt $ pick ! (λ γ0. split ! $
     let G = triple_of 𝓛 g.signature (g.spec 𝓛 𝓜.mem 𝓡.returns) in
     let r0 : MutBor SeatHandle = record { ref_ptr = (b0, o0); ghost_name = γ0; now = x } in
     let z : G.Ghost = (((κ0, tt), (full_share, tt), tt, (r0, (k0, tt)), (vptr b0 o0 ∷ [], (uint_vals w64 k0, tt))), tt) in
@@ -76,10 +76,10 @@ lfm_c_send_spec 𝓤 𝓛 𝓜 𝓡 wired =
     move ! (2 ∷ []) $ peeks ! u64 (Is u64) (shows 𝓛 u64) u (v ∷ []) (λ is. lands_as ! refl refl ((uint_Lawful 𝓛 w64).typed u _ is).0 $
     move ! (3 ∷ []) $ pick ! (λ ws. split ! $ move ! (1 ∷ []) $ heard ! _ (λ told. fsplit ! $ fsplit ! $
     -- [the loan's last value; its borrow; nothing; the result; the lifetime is over; nothing; the right to the handle]
-    move ! (4 ∷ 6 ∷ 0 ∷ []) $ use3 𝓛 (later (‵ (part_at R0 full_share ws.0 b0 o0))) (ref_back 𝓛 R0 κ0 γ0 ws.0 b0 o0) $ await ! tt $
+    move ! (4 ∷ 6 ∷ 0 ∷ []) $ use3 𝓛 (later (‵ (part_at first_row full_share ws.0 b0 o0))) (ref_back 𝓛 first_row κ0 γ0 ws.0 b0 o0) $ await ! tt $
     returns ! (look_at ! 0 refl) $ free_all ! refl $ keep ! (0 ∷ 3 ∷ []) $
     -- what the clause says is put beside the handles
     nothing ! $ fpack ! (TellsSend x k0 ws.0 u) (λ _. ftrue) told $ move ! (1 ∷ []) $ fjoin ! $
-    fpack ! SeatHandle (λ w. fsep (lies_at R0 full_share (block_ptr b0 o0) w) (fex (TellsSend x k0 w u) (λ _. ftrue))) ws.0 $
+    fpack ! SeatHandle (λ w. fsep (lies_at first_row full_share (block_ptr b0 o0) w) (fex (TellsSend x k0 w u) (λ _. ftrue))) ws.0 $
     suffices ! _ (ends_at 𝓛 f.ended stayed c (y (block_ptr b0 o0)) v u (tt, (tt, tt)) (tt, (tt, tt))) $ move ! (1 ∷ []) $
     nothing ! $ nothing ! $ join ! $ nothing ! $ join ! $ nothing ! $ group ! 3 $ done !))))))))))

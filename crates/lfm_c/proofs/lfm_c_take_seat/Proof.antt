@@ -32,9 +32,9 @@ use denote.Triple.Spec.{triple_of}
 use denote.Triple.Table.{framed}
 use denote.Triple.Walked.{Stays, walk_of, stay_dropped, Goes-dropped, ends_at}
 use Rattle.lfm_c.specs.declared.handles.MutexHandle.{MutexHandle}
-use Rattle.lfm_c.specs.contracts.handles.MutexHandle.{the_row as R0}
+use Rattle.lfm_c.specs.contracts.handles.MutexHandle.{the_row as first_row}
 use Rattle.lfm_c.specs.declared.handles.SeatHandle.{SeatHandle}
-use Rattle.lfm_c.specs.contracts.handles.SeatHandle.{the_row as R1}
+use Rattle.lfm_c.specs.contracts.handles.SeatHandle.{the_row as second_row}
 use Rattle.lfm_c.specs.Handles.{TellsTake}
 use Rattle.lfm_c.specs.contracts.lfm_c_take_seat as f
 use Rattle.lfm_c.proofs.lfm_c_take_seat.Statement.{statement}
@@ -52,10 +52,10 @@ lfm_c_take_seat_spec 𝓤 𝓛 𝓜 𝓡 wired =
     f.Key.name code.function (code.unfolded 𝓤 𝓛.H 𝓜 𝓡 wired)
     (λ κs. (rawptr_vals, (rawptr_vals, tt))) (λ κs. (rawptr_Tells, (rawptr_Tells, tt))) (λ κs qs bounds a x are.
     let y : Ptr → Ptr → W.Ghost = λ p0 p1. ((κs, qs, bounds, (p0, (p1, tt)), (rawptr_vals p0, (rawptr_vals p1, tt))), x) in
-    qed 𝓛 (raw (on_entry 𝓛 f.signature κs qs a (y a.0 a.1.0).0.4) ∷ ‵ (fsep (lies_at R0 full_share a.0 x.0) (lies_at R1 full_share a.1.0 x.1)) ∷ []) ∵ drop ! $ fsplit ! $
-    in_a_block ! a.0 (λ p. lies_at R0 full_share p x.0) (id⊢ 𝓤 _) (λ b0 o0 e0.
+    qed 𝓛 (raw (on_entry 𝓛 f.signature κs qs a (y a.0 a.1.0).0.4) ∷ ‵ (fsep (lies_at first_row full_share a.0 x.0) (lies_at second_row full_share a.1.0 x.1)) ∷ []) ∵ drop ! $ fsplit ! $
+    in_a_block ! a.0 (λ p. lies_at first_row full_share p x.0) (id⊢ 𝓤 _) (λ b0 o0 e0.
     regoal ! (λ p0. prop (WpFn 𝓤 𝓛.H 𝓣.C 𝓣.Λ code.function (rawptr_vals p0 ++ (rawptr_vals a.1.0 ++ [])) (W.post (y p0 a.1.0)))) e0 refl $ move ! (1 ∷ []) $
-    in_a_block ! a.1.0 (λ p. lies_at R1 full_share p x.1) (id⊢ 𝓤 _) (λ b1 o1 e1.
+    in_a_block ! a.1.0 (λ p. lies_at second_row full_share p x.1) (id⊢ 𝓤 _) (λ b1 o1 e1.
     regoal ! (λ p1. prop (WpFn 𝓤 𝓛.H 𝓣.C 𝓣.Λ code.function (rawptr_vals (block_ptr b0 o0) ++ (rawptr_vals p1 ++ [])) (W.post (y (block_ptr b0 o0) p1)))) e1 refl $ move ! (1 ∷ 0 ∷ []) $
     enter ! _ _ _ _ _ $ alloc_all ! (λ l. pass_all ! refl ((tt, tt), ((tt, tt), tt)) $
     -- [the handles; the locals]
@@ -64,11 +64,11 @@ lfm_c_take_seat_spec 𝓤 𝓛 𝓜 𝓡 wired =
     sets ! (of_opd ! (get ! refl)) refl (tt, tt) $
     sets ! (addr ! (through ! refl (stop !))) refl (tt, tt) $
     lft_new ! tt (λ α0. let κ0 = α0 ∷ [] in move ! (1 ∷ []) $
-    use1 𝓛 (later (some (λ (γ : ℕ). ‵ ((MutRef (named 0) κ0 R0).own_val (record { ref_ptr = (b0, o0); ghost_name = γ; now = x.0 }) (vptr b0 o0 ∷ [])) ⊛ ‵ (flent κ0 (Body (mem R0) b0 o0 γ)))))
-    (lends_ref 𝓛 R0 (named 0) κ0 x.0 b0 o0) $ await ! tt $ pick ! (λ γ0. split ! $
+    use1 𝓛 (later (some (λ (γ : ℕ). ‵ ((MutRef (named 0) κ0 first_row).own_val (record { ref_ptr = (b0, o0); ghost_name = γ; now = x.0 }) (vptr b0 o0 ∷ [])) ⊛ ‵ (flent κ0 (Body (mem first_row) b0 o0 γ)))))
+    (lends_ref 𝓛 first_row (named 0) κ0 x.0 b0 o0) $ await ! tt $ pick ! (λ γ0. split ! $
     lft_new ! tt (λ α1. let κ1 = α1 ∷ [] in move ! (4 ∷ []) $
-    use1 𝓛 (later (some (λ (γ : ℕ). ‵ ((MutRef (named 0) κ1 R1).own_val (record { ref_ptr = (b1, o1); ghost_name = γ; now = x.1 }) (vptr b1 o1 ∷ [])) ⊛ ‵ (flent κ1 (Body (mem R1) b1 o1 γ)))))
-    (lends_ref 𝓛 R1 (named 0) κ1 x.1 b1 o1) $ await ! tt $ pick ! (λ γ1. split ! $
+    use1 𝓛 (later (some (λ (γ : ℕ). ‵ ((MutRef (named 0) κ1 second_row).own_val (record { ref_ptr = (b1, o1); ghost_name = γ; now = x.1 }) (vptr b1 o1 ∷ [])) ⊛ ‵ (flent κ1 (Body (mem second_row) b1 o1 γ)))))
+    (lends_ref 𝓛 second_row (named 0) κ1 x.1 b1 o1) $ await ! tt $ pick ! (λ γ1. split ! $
     let G = triple_of 𝓛 g.signature (g.spec 𝓛 𝓜.mem 𝓡.returns) in
     let r0 : MutBor MutexHandle = record { ref_ptr = (b0, o0); ghost_name = γ0; now = x.0 } in
     let r1 : MutBor SeatHandle = record { ref_ptr = (b1, o1); ghost_name = γ1; now = x.1 } in
@@ -84,11 +84,11 @@ lfm_c_take_seat_spec 𝓤 𝓛 𝓜 𝓡 wired =
     -- [the second lifetime is over; nothing; the first too; the result; what the call left; the rights to the handles]
     move ! (3 ∷ []) $ peeks ! u64 (Is u64) (shows 𝓛 u64) u (v ∷ []) (λ is. lands_as ! refl refl ((uint_Lawful 𝓛 w64).typed u _ is).0 $
     move ! (4 ∷ []) $ pick ! (λ ws. split ! $ move ! (1 ∷ []) $ heard ! _ (λ told. fsplit ! $ fsplit ! $ move ! (2 ∷ []) $ fsplit ! $ fsplit ! $
-    move ! (6 ∷ 9 ∷ 0 ∷ []) $ use3 𝓛 (later (‵ (part_at R1 full_share ws.1.0 b1 o1))) (ref_back 𝓛 R1 κ1 γ1 ws.1.0 b1 o1) $ await ! tt $
-    move ! (7 ∷ 8 ∷ 3 ∷ []) $ use3 𝓛 (later (‵ (part_at R0 full_share ws.0 b0 o0))) (ref_back 𝓛 R0 κ0 γ0 ws.0 b0 o0) $ await ! tt $
+    move ! (6 ∷ 9 ∷ 0 ∷ []) $ use3 𝓛 (later (‵ (part_at second_row full_share ws.1.0 b1 o1))) (ref_back 𝓛 second_row κ1 γ1 ws.1.0 b1 o1) $ await ! tt $
+    move ! (7 ∷ 8 ∷ 3 ∷ []) $ use3 𝓛 (later (‵ (part_at first_row full_share ws.0 b0 o0))) (ref_back 𝓛 first_row κ0 γ0 ws.0 b0 o0) $ await ! tt $
     returns ! (look_at ! 0 refl) $ free_all ! refl $ keep ! (0 ∷ 1 ∷ 5 ∷ []) $
     -- what the clause says is put beside the handles
     nothing ! $ fpack ! (TellsTake x.0 x.1 ws.0 ws.1.0 u) (λ _. ftrue) told $ move ! (1 ∷ 2 ∷ []) $ fjoin ! $ fjoin ! $
-    fpack ! (MutexHandle × SeatHandle) (λ w. fsep (fsep (lies_at R0 full_share (block_ptr b0 o0) w.0) (lies_at R1 full_share (block_ptr b1 o1) w.1)) (fex (TellsTake x.0 x.1 w.0 w.1 u) (λ _. ftrue))) (ws.0, ws.1.0) $
+    fpack ! (MutexHandle × SeatHandle) (λ w. fsep (fsep (lies_at first_row full_share (block_ptr b0 o0) w.0) (lies_at second_row full_share (block_ptr b1 o1) w.1)) (fex (TellsTake x.0 x.1 w.0 w.1 u) (λ _. ftrue))) (ws.0, ws.1.0) $
     suffices ! _ (ends_at 𝓛 f.ended stayed c (y (block_ptr b0 o0) (block_ptr b1 o1)) v u (tt, (tt, tt)) (tt, (tt, tt))) $ move ! (1 ∷ []) $
     nothing ! $ nothing ! $ join ! $ nothing ! $ join ! $ nothing ! $ group ! 3 $ done !)))))))))))))

@@ -8,7 +8,7 @@ ghost use lib.ListN.{get_elem?};
 
 use crate::parts::{Part, Shared};
 use lfm_condvar::{CondSeat, Condvar};
-use lfm_mutex::{Mutex, Seat};
+use lfm_mutex::{Mutex, Pace, Seat};
 use std::alloc::Global;
 
 /// How many takes each seat may make: more than any run asks for.
@@ -22,20 +22,39 @@ struct Seats {
     second: Vec<CondSeat>,
 }
 
-/// A mutex round 0 and two condvars, with a part for each of so many threads. It takes memory; None where it finds none, or
-/// where there are too many threads.
-pub fn shared_by(alloc: Global, threads: u64) -> Option<(Shared, Vec<Part>)>
+/// A mutex round 0 with so many seats, of this pace. It takes memory; None where it finds none, or where there are too many
+/// seats.
+fn new_mutex(alloc: Global, pace: Pace, seats: u64) -> Option<(Mutex<u64>, Vec<Seat<u64>>)>
+    ensures limits { IfSome result (λ r. (limits_of r.0).seats ≡ seats) }
+    ensures seats { IfSome result (λ r. (j : ℕ) (s : _) → get_elem? r.1.items j ≡ some s → OfMutex s r.0) }
+{
+    let Ok((mut mutex, seats)) = Mutex::new(alloc, seats, BUDGET, 0u64) else {
+        return None;
+    };
+    mutex.set_pace(pace);
+    Some((mutex, seats))
+}
+
+/// A condvar with so many seats, of this pace. It takes memory; None where it finds none, or where there are too many seats.
+fn new_condvar(alloc: Global, pace: Pace, seats: u64) -> Option<(Condvar, Vec<CondSeat>)>
+    ensures limits { IfSome result (λ r. (cond_limits r.0).seats ≡ seats) }
+    ensures seats { IfSome result (λ r. (j : ℕ) (s : _) → get_elem? r.1.items j ≡ some s → OfCondvar s r.0) }
+{
+    let Ok((mut condvar, seats)) = Condvar::new(alloc, seats, BUDGET) else {
+        return None;
+    };
+    condvar.set_pace(pace);
+    Some((condvar, seats))
+}
+
+/// A mutex round 0 and two condvars, all of this pace, with a part for each of so many threads. It takes memory; None where it
+/// finds none, or where there are too many threads.
+pub fn shared_by(alloc: Global, pace: Pace, threads: u64) -> Option<(Shared, Vec<Part>)>
     ensures { IfSome result (λ r. All (λ p. OfShared p r.0) r.1.items) }
 {
-    let Ok((mutex, seats)) = Mutex::new(alloc, threads, BUDGET, 0u64) else {
-        return None;
-    };
-    let Ok((first, first_seats)) = Condvar::new(alloc, threads, BUDGET) else {
-        return None;
-    };
-    let Ok((second, second_seats)) = Condvar::new(alloc, threads, BUDGET) else {
-        return None;
-    };
+    let (mutex, seats) = new_mutex(alloc, pace, threads)?;
+    let (first, first_seats) = new_condvar(alloc, pace, threads)?;
+    let (second, second_seats) = new_condvar(alloc, pace, threads)?;
     let shared = Shared {
         mutex,
         first,

@@ -9,6 +9,7 @@ mod buffer;
 mod commands;
 mod dealing;
 mod loads;
+mod pace;
 mod parts;
 mod plan;
 mod progress;

@@ -5,11 +5,13 @@ ghost use Rattle.std.specs.Prelude.{◌≡◌, ◌+◌, ◌*◌, ◌≤◌, All,
 ghost use Rattle.lfm_monitor.specs.Belongs.{OfMonitor};
 
 use crate::buffer::{Buffer, BufferOp, BufferReply};
+use crate::pace::pace;
 use crate::plan::Plan;
 use crate::progress::{TENTHS, Tenth};
 use crate::sums::Sums;
 use lfm_model::{Refusal, replay};
 use lfm_monitor::{Monitor, Pass};
+use lfm_mutex::Pace;
 use std::alloc::{AllocError, Global};
 use std::io;
 use std::sync::Wait;
@@ -35,13 +37,14 @@ pub struct Delivery {
 }
 
 /// Sends the items of this plan through the buffer, and says after each tenth how far it is. It takes memory, starts threads
-/// and joins them all. An error where a line is not written, or no memory is found.
+/// and joins them all. An error where the number of processors can't be told, a line is not written, or no memory is found.
 pub fn run<R: Threads + Wait + Sync + AllocGlobal + Print>(rt: &R, plan: Plan) -> io::Result<Sums> {
+    let pace = pace(rt)?;
     let mut made = 0u64;
     let mut number = 0u64;
     for done in 0..TENTHS {
         let tenth = Tenth::of(plan, done);
-        let sums = move_tenth(rt, rt.alloc(), tenth)?;
+        let sums = move_tenth(rt, rt.alloc(), pace, tenth)?;
         made = made.wrapping_add(sums.made);
         number = number.wrapping_add(sums.number);
         tenth.print(rt, plan)?;
@@ -57,6 +60,7 @@ pub fn run<R: Threads + Wait + Sync + AllocGlobal + Print>(rt: &R, plan: Plan) -
 fn move_tenth<R: Threads + Wait + Sync>(
     rt: &R,
     alloc: Global,
+    pace: Pace,
     tenth: Tenth,
 ) -> Result<Sums, AllocError> {
     let delivery = Delivery {
@@ -64,7 +68,7 @@ fn move_tenth<R: Threads + Wait + Sync>(
         got: AtomicU64::new(0),
         sum: AtomicU64::new(0),
     };
-    let made = moved(rt, alloc, &delivery)?;
+    let made = moved(rt, alloc, pace, &delivery)?;
     Ok(Sums {
         made: made.min(delivery.got.load(Ordering::SeqCst)),
         woken: 0,
@@ -83,16 +87,29 @@ fn entries_of(tenth: Tenth) -> u64 {
         .saturating_add(8)
 }
 
+/// A monitor round an empty buffer, of this pace, with a pass for each mover, which may write so many entries. It takes memory.
+fn new_monitor(
+    alloc: Global,
+    pace: Pace,
+    entries: u64,
+) -> Result<(Monitor<Buffer>, Vec<Pass<Buffer>>), AllocError>
+    ensures { IfOk result (λ r. All (λ p. OfMonitor p r.0) r.1.items) }
+{
+    let Ok((mut monitor, passes)) = Monitor::new(alloc, MOVERS, entries, 2, Buffer::new()) else {
+        return Err(AllocError);
+    };
+    monitor.set_pace(pace);
+    Ok((monitor, passes))
+}
+
 /// Sends the items of a tenth through the buffer. Returns how many of them the journal has in turn.
 fn moved<R: Threads + Wait + Sync>(
     rt: &R,
     alloc: Global,
+    pace: Pace,
     delivery: &Delivery,
 ) -> Result<u64, AllocError> {
-    let entries = entries_of(delivery.tenth);
-    let Ok((monitor, passes)) = Monitor::new(alloc, MOVERS, entries, 2, Buffer::new()) else {
-        return Err(AllocError);
-    };
+    let (monitor, passes) = new_monitor(alloc, pace, entries_of(delivery.tenth))?;
     let passes = move_all(rt, &monitor, delivery, passes)?;
     let Ok((_, journal)) = monitor.close(passes) else {
         return Ok(0);

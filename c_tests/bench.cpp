@@ -1,8 +1,7 @@
-// Times Ligdrosa's mutex beside pthread_mutex_t (normal and recursive) and the standard library's mutexes, all in one process and in
-// turn, so that what the machine does meanwhile meets all: bench [ROUNDS]. A line has the median of the rounds, the least and the
-// greatest, in nanoseconds for a lock and an unlock.
-#include <pthread.h>
-
+// Times Ligdrosa's mutex and condition variable beside those of pthread (mutexes normal and recursive) and of the standard library, all in
+// one process and in turn, so that what the machine does meanwhile meets all: bench [ROUNDS]. A line has the median of the rounds, the
+// least and the greatest: nanoseconds for a lock and an unlock, for a round trip or for a broadcast, and in the rows of fairness
+// how many times as often the thread that gained the mutex most did so as the one that did so least.
 #include <algorithm>
 #include <barrier>
 #include <chrono>
@@ -10,42 +9,8 @@
 #include <functional>
 #include <string>
 #include <thread>
-#include <vector>
 
-#include "ligdrosa.hpp"
-
-static const int MOST = 8;
-
-struct Seated {
-  lfm::mutex mutex{MOST};
-  std::vector<std::unique_ptr<lfm::seat>> seats;
-  Seated() {
-    for (int i = 0; i < MOST; i++) seats.push_back(std::make_unique<lfm::seat>(mutex));
-  }
-  void lock(int thread) { lfm_lock(seats[thread]->native_handle()); }
-  bool try_lock(int thread) { return !lfm_is_refused(lfm_try_lock(seats[thread]->native_handle())); }
-  void unlock(int thread) { lfm_unlock(seats[thread]->native_handle()); }
-};
-
-struct Posix {
-  pthread_mutex_t mutex;
-  explicit Posix(int kind) {
-    pthread_mutexattr_t attributes;
-    pthread_mutexattr_init(&attributes);
-    pthread_mutexattr_settype(&attributes, kind);
-    pthread_mutex_init(&mutex, &attributes);
-  }
-  void lock(int) { pthread_mutex_lock(&mutex); }
-  bool try_lock(int) { return pthread_mutex_trylock(&mutex) == 0; }
-  void unlock(int) { pthread_mutex_unlock(&mutex); }
-};
-
-template <class Mutex> struct Standard {
-  Mutex mutex;
-  void lock(int) { mutex.lock(); }
-  bool try_lock(int) { return mutex.try_lock(); }
-  void unlock(int) { mutex.unlock(); }
-};
+#include "bench_locks.hpp"
 
 static Seated seated;
 static Standard<lfm::recursive_mutex> found_by_thread;
@@ -82,6 +47,21 @@ template <class Lock> static double by_trying(Lock &lock) {
   return double(now() - begun) / pairs;
 }
 
+// A try_lock that is refused.
+template <class Lock> static double in_vain(Lock &lock) {
+  const int tries = 200000;
+  uint64_t begun = 0, ended = 0;
+  lock.lock(0);
+  std::thread([&] {
+    begun = now();
+    for (int i = 0; i < tries; i++)
+      if (lock.try_lock(1)) std::abort();
+    ended = now();
+  }).join();
+  lock.unlock(0);
+  return double(ended - begun) / tries;
+}
+
 template <class Lock> static double held(Lock &lock) {
   lock.lock(0);
   double nanoseconds = alone(lock);
@@ -89,29 +69,94 @@ template <class Lock> static double held(Lock &lock) {
   return nanoseconds;
 }
 
-// So many threads, which hold for `inside` turns of a loop and stay outside for `outside` turns.
-template <class Lock> static double together(Lock &lock, int threads, int inside, int outside) {
-  const int pairs = 40000 / threads;
-  total = 0;
+// Runs the function in so many threads, which begin together, and gives the nanoseconds that they took.
+static double in_threads(int threads, const std::function<void(int)> &work) {
   std::barrier start(threads + 1);
   std::vector<std::thread> all;
   for (int thread = 0; thread < threads; thread++)
     all.emplace_back([&, thread] {
       start.arrive_and_wait();
-      for (int i = 0; i < pairs; i++) {
-        lock.lock(thread);
-        total++;
-        turn(inside);
-        lock.unlock(thread);
-        turn(outside);
-      }
+      work(thread);
     });
   uint64_t begun = now();
   start.arrive_and_wait();
   for (auto &thread : all) thread.join();
-  double nanoseconds = double(now() - begun) / (double(pairs) * threads);
-  if (total != uint64_t(pairs) * threads) std::abort();
-  return nanoseconds;
+  return double(now() - begun);
+}
+
+// So many threads, which hold for `inside` turns of a loop and stay outside for `outside` turns.
+template <class Lock> static double together(Lock &lock, int threads, int inside, int outside) {
+  const int pairs = 40000 / threads;
+  total = 0;
+  double nanoseconds = in_threads(threads, [&](int thread) {
+    for (int i = 0; i < pairs; i++) {
+      lock.lock(thread);
+      total++;
+      turn(inside);
+      lock.unlock(thread);
+      turn(outside);
+    }
+  });
+  if (total != uint64_t(pairs) * uint64_t(threads)) std::abort();
+  return nanoseconds / (double(pairs) * threads);
+}
+
+// So many threads with short sections for 50 milliseconds: how many times as often the quickest gained the mutex as the slowest.
+template <class Lock> static double fairness(Lock &lock, int threads) {
+  std::vector<uint64_t> gained(size_t(threads), 0);
+  in_threads(threads, [&](int thread) {
+    uint64_t count = 0, end = now() + 50000000;
+    while (now() < end) {
+      lock.lock(thread);
+      count++;
+      lock.unlock(thread);
+    }
+    gained[size_t(thread)] = count;
+  });
+  auto ends = std::minmax_element(gained.begin(), gained.end());
+  return double(*ends.second) / double(std::max<uint64_t>(*ends.first, 1));
+}
+
+// Two threads wake one another in turn: a round trip.
+template <class Lock, class Condition> static double ping_pong(Lock &lock) {
+  const int trips = 2000;
+  Condition conditions[2]{Condition(lock), Condition(lock)};
+  int whose = 0;
+  double nanoseconds = in_threads(2, [&](int thread) {
+    for (int i = 0; i < trips; i++) {
+      lock.lock(thread);
+      while (whose != thread) conditions[thread].wait(thread);
+      whose = 1 - thread;
+      conditions[1 - thread].wake_one(thread);
+      lock.unlock(thread);
+    }
+  });
+  return nanoseconds / trips;
+}
+
+// One thread wakes so many that wait, again and again: from the wake until each of them has held the mutex.
+template <class Lock, class Condition> static double broadcast(Lock &lock, int waiters) {
+  const int times = 100;
+  Condition go(lock), all_wait(lock);
+  int generation = 0, waiting = 0;
+  uint64_t begun = 0;
+  in_threads(waiters + 1, [&](int thread) {
+    lock.lock(thread);
+    for (int i = 0; i < times; i++) {
+      if (thread != waiters) {
+        if (++waiting == waiters) all_wait.wake_one(thread);
+        while (generation <= i) go.wait(thread);
+        continue;
+      }
+      while (waiting != waiters) all_wait.wait(thread);
+      if (i == 0) begun = now(); // all wait for the first time
+      waiting = 0;
+      generation++;
+      go.wake_all(thread);
+    }
+    lock.unlock(thread);
+  });
+  return double(now() - begun) / times;
 }
 
 struct Row {
@@ -125,15 +170,12 @@ static void tell(const std::string &what, int rounds, const std::vector<Row> &ro
     for (size_t k = 0; k < rows.size(); k++) times[k].push_back(rows[k].time());
   for (size_t k = 0; k < rows.size(); k++) {
     std::sort(times[k].begin(), times[k].end());
-    std::printf("%-34s %-28s %9.1f  (%.1f to %.1f)\n", what.c_str(), rows[k].name.c_str(), times[k][rounds / 2], times[k].front(), times[k].back());
+    std::printf("%-34s %-28s %9.1f  (%.1f to %.1f)\n", what.c_str(), rows[k].name.c_str(), times[k][size_t(rounds) / 2], times[k].front(), times[k].back());
   }
   std::fflush(stdout);
 }
 
-int main(int argc, char **argv) {
-  int rounds = argc > 1 ? std::atoi(argv[1]) : 11;
-  // a second thread has run, so that the C library makes real atomic steps
-  std::thread([] {}).join();
+static void tell_one_thread(int rounds) {
   tell("alone: lock, unlock", rounds,
        {{"ligdrosa", [] { return alone(seated); }},
         {"lfm::recursive_mutex", [] { return alone(found_by_thread); }},
@@ -146,20 +188,58 @@ int main(int argc, char **argv) {
         {"pthread normal", [] { return by_trying(normal); }},
         {"pthread recursive", [] { return by_trying(recursive); }},
         {"std::mutex", [] { return by_trying(standard); }}});
+  tell("try_lock that is refused", rounds,
+       {{"ligdrosa", [] { return in_vain(seated); }},
+        {"pthread normal", [] { return in_vain(normal); }},
+        {"pthread recursive", [] { return in_vain(recursive); }},
+        {"std::mutex", [] { return in_vain(standard); }}});
   tell("held: once more, once less", rounds,
        {{"ligdrosa", [] { return held(seated); }},
         {"pthread recursive", [] { return held(recursive); }},
         {"std::recursive_mutex", [] { return held(standard_recursive); }}});
+}
+
+static void tell_threads(int rounds) {
   struct Load {
     const char *name;
     int inside, outside;
   };
-  for (int threads : {2, 4, 8})
+  for (int threads : {2, 4, 8}) {
+    std::string many = std::to_string(threads) + " threads, ";
     for (Load load : {Load{"short", 0, 0}, Load{"long", 1000, 0}, Load{"thinking", 0, 1000}})
-      tell(std::to_string(threads) + " threads, " + load.name, rounds,
+      tell(many + load.name, rounds,
            {{"ligdrosa", [=] { return together(seated, threads, load.inside, load.outside); }},
             {"pthread normal", [=] { return together(normal, threads, load.inside, load.outside); }},
             {"pthread recursive", [=] { return together(recursive, threads, load.inside, load.outside); }},
             {"std::mutex", [=] { return together(standard, threads, load.inside, load.outside); }}});
+    tell(many + "fairness", rounds,
+         {{"ligdrosa", [=] { return fairness(seated, threads); }},
+          {"pthread normal", [=] { return fairness(normal, threads); }},
+          {"pthread recursive", [=] { return fairness(recursive, threads); }},
+          {"std::mutex", [=] { return fairness(standard, threads); }}});
+  }
+}
+
+static void tell_conditions(int rounds) {
+  tell("ping-pong, a round trip", rounds,
+       {{"ligdrosa", [] { return ping_pong<Seated, SeatedCondition>(seated); }},
+        {"pthread normal", [] { return ping_pong<Posix, PosixCondition>(normal); }},
+        {"pthread recursive", [] { return ping_pong<Posix, PosixCondition>(recursive); }},
+        {"std::mutex", [] { return ping_pong<Standard<std::mutex>, StandardCondition>(standard); }}});
+  for (int waiters : {4, 32})
+    tell("broadcast to " + std::to_string(waiters), rounds,
+         {{"ligdrosa", [=] { return broadcast<Seated, SeatedCondition>(seated, waiters); }},
+          {"pthread normal", [=] { return broadcast<Posix, PosixCondition>(normal, waiters); }},
+          {"pthread recursive", [=] { return broadcast<Posix, PosixCondition>(recursive, waiters); }},
+          {"std::mutex", [=] { return broadcast<Standard<std::mutex>, StandardCondition>(standard, waiters); }}});
+}
+
+int main(int argc, char **argv) {
+  int rounds = argc > 1 ? std::atoi(argv[1]) : 11;
+  // a second thread has run, so that the C library makes real atomic steps
+  std::thread([] {}).join();
+  tell_one_thread(rounds);
+  tell_threads(rounds);
+  tell_conditions(rounds);
   return 0;
 }

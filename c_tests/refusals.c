@@ -58,12 +58,14 @@ static void seats_taken_and_back(void) {
   EXPECT(lfm_lock(&first), LFM_DONE);
   EXPECT(lfm_seat_give(&first), LFM_HOLDING);
   EXPECT(lfm_mutex_close(&mutex), LFM_NOT_BACK);
+  EXPECT(lfm_c_close(mutex.handle), LFM_NOT_BACK + 256 * 1);
   EXPECT(lfm_depth(&first), 1);
   EXPECT(lfm_unlock(&first), LFM_DONE);
   EXPECT(lfm_left(&first), 99);
   EXPECT(lfm_seat_give(&first), LFM_DONE);
   EXPECT(lfm_seat_give(&first), LFM_BLANK);
   EXPECT(lfm_mutex_close(&mutex), LFM_NOT_BACK);
+  EXPECT(lfm_c_close(mutex.handle), LFM_NOT_BACK + 256 * 2);
   EXPECT(lfm_seat_take(&mutex, &third), LFM_DONE);
   EXPECT(lfm_number(&third), 1);
   EXPECT(lfm_left(&third), 99);
@@ -83,6 +85,31 @@ static void two_seats_of(uint64_t budget) {
 static void both_back(void) {
   EXPECT(lfm_seat_give(&first), LFM_DONE);
   EXPECT(lfm_seat_give(&second), LFM_DONE);
+  EXPECT(lfm_mutex_close(&mutex), LFM_DONE);
+}
+
+/* As many seats are given back as the mutex has, and one of them is another mutex's, with a number that is back already. So a seat of
+ * its own is missed, whether it holds or not. Once each is where it belongs, both mutexes close. */
+static void a_seat_of_another_mutex(void) {
+  static lfm_mutex other;
+  two_seats_of(10);
+  EXPECT(lfm_mutex_new(&other, 2, 10), LFM_DONE);
+  EXPECT(lfm_seat_take(&other, &third), LFM_DONE);
+  EXPECT(lfm_seat_give(&first), LFM_DONE);
+  EXPECT(lfm_c_give_seat(mutex.handle, third.handle), LFM_DONE);
+  EXPECT(lfm_mutex_close(&mutex), LFM_NOT_BACK);
+  EXPECT(lfm_c_close(mutex.handle), LFM_NOT_BACK + 256 * 2);
+  EXPECT(lfm_c_close(other.handle), LFM_NOT_BACK + 256 * 1);
+  EXPECT(lfm_lock(&second), LFM_DONE);
+  EXPECT(lfm_mutex_close(&mutex), LFM_NOT_BACK);
+  EXPECT(lfm_depth(&second), 1);
+  EXPECT(lfm_unlock(&second), LFM_DONE);
+  EXPECT(lfm_seat_give(&second), LFM_FOREIGN);
+  EXPECT(lfm_c_take_seat(mutex.handle, third.handle), LFM_DONE);
+  EXPECT(lfm_number(&third), 1);
+  EXPECT(lfm_seat_give(&third), LFM_DONE);
+  EXPECT(lfm_seat_give(&second), LFM_DONE);
+  EXPECT(lfm_mutex_close(&other), LFM_DONE);
   EXPECT(lfm_mutex_close(&mutex), LFM_DONE);
 }
 
@@ -186,6 +213,7 @@ int main(void) {
   what_the_library_calls_blank();
   limits();
   seats_taken_and_back();
+  a_seat_of_another_mutex();
   calls_of_a_seat();
   calls_of_a_sleeping_seat();
   sends();

@@ -79,7 +79,8 @@ static inline bool lfm_is_refused(lfm_status status) { return status >= LFM_BLAN
 
 /* The library's own calls. Programs use those below. A handle is memory of the size and alignment that the library tells. A
  * mutex's whose bytes are 0 is blank, and a seat's is made so by a call. A call answers a status in the low 8 bits. Above it an
- * ask, unlock, start_wait or send tells the number of the seat that it granted the mutex and that is to be woken, or 0. */
+ * ask, unlock, start_wait or send tells the number of the seat that it granted the mutex and that is to be woken, or 0, and a close
+ * that is refused tells the first seat that hinders it. */
 size_t lfm_c_mutex_size(void);
 size_t lfm_c_mutex_align(void);
 size_t lfm_c_seat_size(void);
@@ -274,10 +275,11 @@ static inline lfm_status lfm_seat_give(lfm_seat *seat) {
   return LFM_DONE;
 }
 
-/* Ends the mutex and gives its memory back. Refused: LFM_BLANK, LFM_NOT_BACK. */
+/* Ends the mutex and gives its memory back. Refused: LFM_BLANK, and LFM_NOT_BACK where one of its seats is not given back. A seat that
+ * holds or sleeps can't be given back, so a mutex that is held or asked for is refused. */
 static inline lfm_status lfm_mutex_close(lfm_mutex *mutex) {
   if (!mutex || !mutex->bells) return LFM_BLANK;
-  lfm_status status = (lfm_status)lfm_c_close(mutex->handle);
+  lfm_status status = (lfm_status)(lfm_c_close(mutex->handle) & 255);
   if (status != LFM_DONE) return status;
   free(mutex->bells);
   mutex->bells = NULL;

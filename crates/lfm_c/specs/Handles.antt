@@ -5,11 +5,13 @@ use Rattle.lfm_model.specs.declared.answers.Asked.{Asked}
 use Rattle.lfm_model.specs.declared.answers.How.{How}
 use Rattle.lfm_model.specs.declared.answers.Locked.{Locked}
 use Rattle.lfm_model.specs.declared.answers.Unlocked.{Unlocked}
+use Rattle.lfm_model.specs.declared.refusals.Missing.{Missing}
 use Rattle.lfm_model.specs.declared.refusals.NewFault.{NewFault}
 use Rattle.lfm_model.specs.declared.refusals.Refusal.{Refusal}
 use Rattle.lfm_protocol.specs.declared.limits.Limits.{Limits}
 use Rattle.lfm_protocol.specs.Limits.{are_in_limits}
 use Rattle.lfm_mutex.specs.Belongs.{Beside, limits_of}
+use Rattle.lfm_mutex.specs.Close.{AllStand, FirstMissing}
 use Rattle.lfm_mutex.specs.calls.Sight as Sight
 use Rattle.lfm_mutex.specs.calls.Sight.{Sight, sight}
 use Rattle.lfm_mutex.specs.calls.WakeUps.{Wakes}
@@ -18,7 +20,7 @@ use Rattle.lfm_c.specs.declared.handles.SeatHandle.{SeatHandle}
 use Rattle.lfm_c.specs.declared.handles.Seated.{Seated}
 use Rattle.lfm_c.specs.declared.handles.Whole.{Whole}
 use Rattle.lfm_c.specs.declared.status.Status.{Status}
-use Rattle.lfm_c.specs.Status.{asked, code, code_of_refusal, faulted, locked, received, sent, told, unlocked}
+use Rattle.lfm_c.specs.Status.{asked, code, code_of_refusal, faulted, hindered, locked, received, sent, told, unlocked}
 
 -- the number that a mutex of this library guards may change in any way
 abbrev pub Follows : ℕ → ℕ → ℕ → Type 0
@@ -132,11 +134,12 @@ GivesBack (Some w) (Some a) v t n = GivesOf w a v t n
 abbrev pub TellsGive : MutexHandle → SeatHandle → MutexHandle → SeatHandle → ℕ → Type 0
 TellsGive m s m' s' n = GivesBack m.whole s.seated m'.whole s'.seated n
 
--- a mutex is ended where all its seats are back
+-- A mutex is ended where each of its seats is back, and none of them holds or sleeps. Else the first that hinders it is named, as a close
+-- of the mutex names it.
 abbrev pub ClosesWhole : Option Whole → Option Whole → ℕ → Type 0
 ClosesWhole None v n = (v ≡ None) × (n ≡ code Status.Blank)
-ClosesWhole (Some w) (Some v) n = (v ≡ w) × (vec_len w.seats < w.count) × (n ≡ code Status.NotBack)
-ClosesWhole (Some w) None n = (w.count ≤ vec_len w.seats) × (n ≡ code Status.Done)
+ClosesWhole (Some w) (Some v) n = (v ≡ w) × (m : Missing) × FirstMissing (λ a. sight a.seat) w.seats.items (limits_of (arc_value w.mutex)).seats m × (n ≡ hindered m)
+ClosesWhole (Some w) None n = AllStand (λ a. sight a.seat) w.seats.items (limits_of (arc_value w.mutex)).seats × (n ≡ code Status.Done)
 
 abbrev pub TellsClose : MutexHandle → MutexHandle → ℕ → Type 0
 TellsClose x y n = ClosesWhole x.whole y.whole n

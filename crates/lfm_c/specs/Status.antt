@@ -4,6 +4,7 @@ use Rattle.lfm_model.specs.declared.answers.Asked.{Asked}
 use Rattle.lfm_model.specs.declared.answers.How.{How}
 use Rattle.lfm_model.specs.declared.answers.Locked.{Locked}
 use Rattle.lfm_model.specs.declared.answers.Unlocked.{Unlocked}
+use Rattle.lfm_model.specs.declared.refusals.Missing.{Missing}
 use Rattle.lfm_model.specs.declared.refusals.NewFault.{NewFault}
 use Rattle.lfm_model.specs.declared.refusals.Refusal.{Refusal}
 use Rattle.lfm_model.specs.declared.refusals.Refusal.TheVariants.{Asleep, NotOwner, Nested, DepthFull, Spent, NoSuchSeat, NotWaiting, Busy}
@@ -77,6 +78,12 @@ unlocked (Err r) = Status.Refused r
 abbrev pub sent : Result ⊤ Refusal → Status
 sent (Ok u) = Status.Done
 sent (Err r) = Status.Refused r
+
+-- what keeps a mutex from being ended, and above the low 8 bits the seat that does
+abbrev pub hindered : Missing → ℕ
+hindered (Missing.NotBack seat) = code Status.NotBack + 256 * seat
+hindered (Missing.Holding seat) = code Status.Holding + 256 * seat
+hindered (Missing.Asleep seat) = code_of_refusal Refusal.Asleep + 256 * seat
 
 -- why no mutex was opened
 abbrev pub faulted : NewFault → Status

@@ -4,7 +4,8 @@
 ghost use Rattle.std.specs.Prelude.{◌≡◌, ◌≤◌, None};
 ghost use Rattle.std.specs.Vec.{vec_capacity};
 ghost use Rattle.std.specs.Arc.{arc_value};
-ghost use Rattle.lfm_mutex.specs.Belongs.{OfMutex};
+ghost use Rattle.lfm_mutex.specs.Belongs.{OfMutex, limits_of};
+ghost use Rattle.lfm_model.specs.SeatNumbers.{max_seat_no};
 
 use lfm_mutex::{Mutex, Seat};
 use std::alloc::Global;
@@ -31,6 +32,8 @@ pub struct Whole {
     pub seats: Vec<Seated>,
     pub count: u64,
     pub ghost room: { count ≤ vec_capacity seats },
+    pub ghost all: { count ≡ (limits_of (arc_value mutex)).seats },
+    pub ghost few: { count ≤ max_seat_no },
 }
 
 /// A mutex that the caller has opened, or none.

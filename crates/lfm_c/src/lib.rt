@@ -20,6 +20,7 @@ ghost use Rattle.lfm_c.specs.Handles.{TellsAsk, TellsClose, TellsDepth, TellsGiv
 ghost use Rattle.lfm_c.specs.Leaves.{leaves};
 
 mod calls;
+mod closing;
 pub mod crossing;
 mod handles;
 mod opening;
@@ -96,16 +97,19 @@ pub unsafe extern "C" fn lfm_c_give_seat(mutex: *mut u8, seat: *mut u8) -> u64
     )
 }
 
-/// Ends the mutex where all its seats are back, and gives its memory back.
+/// Ends the mutex where each of its seats is back, and gives its memory back.
 ///
-/// Done, or Blank, NotBack, which change nothing.
+/// Done, or Blank, NotBack, Holding, Asleep, which change nothing. Above one of the last three stands the number of the first seat, from 1
+/// on, that is not back, holds or sleeps, as `close` of the mutex names it. That `close` is not called: it has to know of each seat that it
+/// is one of this mutex. A seat comes back from C, and nothing that runs tells whose it is, so here seats are known by their numbers
+/// alone. What the mutex guards, a number that nothing reads, is dropped with it.
 #[unsafe(no_mangle)]
 pub unsafe extern "C" fn lfm_c_close(mutex: *mut u8) -> u64
     ghost x: { MutexNow }
     requires* { sem 𝓛 (lies_at mutex_row full_share mutex x) }
     ensures* { sem 𝓛 (leaves (λ (y : MutexNow). lies_at mutex_row full_share mutex y) (λ y. TellsClose x y result)) }
 {
-    opening::close(&mut *(mutex as *mut MutexHandle))
+    closing::close(&mut *(mutex as *mut MutexHandle))
 }
 
 /// The seat's number, 1 to 4,095, and 0 where the handle is blank.

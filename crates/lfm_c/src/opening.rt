@@ -1,4 +1,4 @@
-//! How a mutex is opened, its seats are taken and given back, and it is closed.
+//! How a mutex is opened, and its seats are taken and given back.
 ghost use Rattle.std.specs.Prelude.{◌≡◌, ◌≤◌, ◌<◌, All, ◌++◌, ◌∷◌, [], IfOk, IfErr, MatchBool, MatchOption, Some, false, true, vec_len};
 ghost use Rattle.std.specs.Arc.{arc_value};
 ghost use Rattle.std.specs.Vec.{vec_capacity};
@@ -6,7 +6,7 @@ ghost use Rattle.lfm_mutex.specs.Belongs.{OfMutex};
 ghost use Rattle.lfm_protocol.specs.Limits.{are_in_limits};
 ghost use Rattle.lfm_mutex.specs.calls.Sight.{sight};
 ghost use Rattle.lfm_c.specs.Status.{code};
-ghost use Rattle.lfm_c.specs.Handles.{TellsOpen, TellsTake, TellsGive, TellsClose, Faults, Leaving, Opened, StaysOut};
+ghost use Rattle.lfm_c.specs.Handles.{TellsOpen, TellsTake, TellsGive, Faults, Leaving, Opened, StaysOut};
 
 use crate::handles::{MutexHandle, SeatHandle, Seated, Whole};
 use crate::status::Status;
@@ -154,21 +154,5 @@ pub fn give_seat(mutex: &mut MutexHandle, seat: &mut SeatHandle) -> u64
         return status.code();
     }
     whole.put(seated);
-    Status::Done.code()
-}
-
-/// Ends the mutex, where all its seats are back.
-pub fn close(handle: &mut MutexHandle) -> u64
-    ensures told { TellsClose handle.old handle.new result }
-{
-    match &handle.whole {
-        None => return Status::Blank.code(),
-        Some(whole) => {
-            if !whole.is_whole() {
-                return Status::NotBack.code();
-            }
-        }
-    }
-    handle.whole = None;
     Status::Done.code()
 }

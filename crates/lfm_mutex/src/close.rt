@@ -18,6 +18,7 @@ use crate::seat::Seat;
 use atomic_table::Closed;
 use lfm_model::{Missing, SeatNo};
 use lfm_table::Kept;
+use lfm_table::layout::SLOT;
 use lfm_table::moving_box::MovingBox;
 use lfm_table::rule::{JoinedView, SeatJoin};
 use lfm_table::table_steps::{Place, SharedTable};
@@ -118,7 +119,7 @@ fn take_slot<T: Kept>(closed: Closed<Option<MovingBox<T>>, Global>) -> Option<Mo
     ensures { get_elem? (slots_items closed.slots) 0 ≡ some result }
 {
     let mut closed = closed;
-    let slot = closed.take(0);
+    let slot = closed.take(SLOT);
     closed.free();
     slot
 }

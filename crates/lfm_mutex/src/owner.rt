@@ -7,6 +7,7 @@ use crate::mutex::Mutex;
 use crate::seat::Seat;
 use lfm_model::SeatNo;
 use lfm_table::Kept;
+use lfm_table::layout::OWNER;
 use lfm_table::rule::OwnerLook;
 
 impl<T: Kept> Mutex<T> {
@@ -18,7 +19,7 @@ impl<T: Kept> Mutex<T> {
         ensures belongs { Beside seat.old seat.new }
         ensures looks { LooksAtOwner (sight seat.old) (sight seat.new) result }
     {
-        let found = self.table.shared.load::<OwnerLook>(&mut seat.place, 1);
+        let found = self.table.shared.load::<OwnerLook>(&mut seat.place, OWNER);
         SeatNo::new(found)
     }
 }

@@ -1,6 +1,6 @@
 //! The calls of a seat that sleeps: `try_receive` looks once whether it was granted the mutex, and `receive_lock` waits for it.
 //! Nothing is held while a seat waits, and how often it looks before it sleeps is bounded.
-ghost use Rattle.std.specs.Prelude.{◌≡◌, ◌<◌, ◌-◌, ◌/◌};
+ghost use Rattle.std.specs.Prelude.{◌≡◌, ◌<◌};
 ghost use Rattle.lfm_protocol.specs.declared.answers.Answer.TheVariants as Answered;
 ghost use Rattle.lfm_protocol.specs.declared.answers.Call.{Call as CallNow};
 ghost use Rattle.lfm_protocol.specs.declared.answers.Turn.TheVariants.{Ended};
@@ -17,8 +17,10 @@ use crate::seat::Seat;
 use lfm_model::{How, Refusal};
 use lfm_protocol::points::{Entrant, Point, Sleeper};
 use lfm_protocol::{Answer, Call, SeatState, Turn};
-use lfm_table::parking::{FIRST_GRANT, park};
+use lfm_table::layout::{COUNT, wake_at};
+use lfm_table::parking::park;
 use lfm_table::straight_steps::{load_grant, store_held, store_wake_held};
+use lfm_table::wake_words::{FIRST_GRANT, stamp_in};
 use lfm_table::{Kept, WakeUp};
 use std::hint::spin_loop;
 use std::sync::Wait;
@@ -26,12 +28,10 @@ use std::sync::Wait;
 // So many pauses before each look leave the line of the word to the seat that is to store the grant.
 const PAUSES_PER_LOOK: u32 = 4;
 
-// How the mutex is gained by a wake word that is a grant.
-fn how_found(found: u64) -> How
-    requires { 2 < found }
-    ensures { result ≡ how_granted ((found - 3) / 4) }
+// How the mutex is gained by a grant of this stamp.
+fn how_by(stamp: u64) -> How
+    ensures { result ≡ how_granted stamp }
 {
-    let stamp = (found - 3) / 4;
     if stamp == 0 {
         How::Free
     } else {
@@ -74,11 +74,12 @@ pub fn receive_asleep<T: Kept>(
     if found < FIRST_GRANT {
         return None;
     }
+    let stamp = stamp_in(found);
     let granted = SeatState {
         depth: 0,
         takes,
         posts,
-        point: Point::ReceiveWakeStore((found - 3) / 4),
+        point: Point::ReceiveWakeStore(stamp),
     };
     store_wake_held(
         table,
@@ -90,7 +91,7 @@ pub fn receive_asleep<T: Kept>(
     );
     seat.standing.depth = 1;
     seat.standing.point = Point::Rest;
-    let how = how_found(found);
+    let how = how_by(stamp);
     let entering = SeatState {
         depth: 0,
         takes,
@@ -119,7 +120,7 @@ impl<T: Kept> Mutex<T> {
         ensures receives { ReceivesLock T.follows T.fits (sight seat.old) (sight seat.new) result }
         ensures steps { ReceivesBy (limits_of self.now) (sight seat.old) (sight seat.new) result }
     {
-        let count = self.table.shared.peek(0);
+        let count = self.table.shared.peek(COUNT);
         self.receive_lock_within(rt, seat, self.pace.looks_at(count))
     }
 
@@ -137,7 +138,7 @@ impl<T: Kept> Mutex<T> {
         ensures receives { ReceivesLock T.follows T.fits (sight seat.old) (sight seat.new) result }
         ensures steps { ReceivesBy (limits_of self.now) (sight seat.old) (sight seat.new) result }
     {
-        let wake = 3 + seat.limits.seats as usize + seat.number as usize;
+        let wake = wake_at(seat.limits.seats, seat.number);
         let mut left = looks;
         for _ in rt.forever() {
             match self.try_receive(seat) {

@@ -4,6 +4,7 @@
 #![tactic(auto)]
 
 pub mod kept;
+pub mod layout;
 pub mod moving_box;
 pub mod parking;
 pub mod rule;
@@ -12,6 +13,7 @@ pub mod seat_view;
 pub mod straight_steps;
 pub mod table_steps;
 pub mod wake_up;
+pub mod wake_words;
 
 pub use kept::Kept;
 pub use wake_up::WakeUp;

@@ -9,12 +9,11 @@ ghost use Rattle.lfm_protocol.specs.Limits.{max_seats};
 ghost use Rattle.lfm_table.specs.Grants.{GrantsDifferInTheirLowBits};
 
 use crate::kept::Kept;
+use crate::layout::wake_at;
 use crate::table_steps::SharedTable;
 use crate::wake_up::WakeUp;
+use crate::wake_words::FIRST_GRANT;
 use std::sync::Wait;
-
-/// The least word that is a grant. Those below it are quiet, waiting and claimed.
-pub const FIRST_GRANT: u64 = 3;
 
 /// Wakes the thread that parks on the wake word of the seat that was granted, if one does. It is one call of the system.
 pub fn wake<T: Kept>(table: &SharedTable<T>, seats: u64, wake_up: WakeUp)
@@ -23,7 +22,7 @@ pub fn wake<T: Kept>(table: &SharedTable<T>, seats: u64, wake_up: WakeUp)
     requires inside { wake_up ≤ seats }
 {
     let seat = wake_up.into_seat().get();
-    table.wake_one(3 + seats as usize + seat as usize);
+    table.wake_one(wake_at(seats, seat));
 }
 
 /// Parks on this wake word where it is no grant, until a wake-up. It may also return for no reason.

@@ -7,19 +7,21 @@ ghost use Rattle.lfm_protocol.specs.declared.kinds.Kind.{Kind};
 ghost use Rattle.lfm_core.specs.table.Carried.{carries_value};
 ghost use Rattle.lfm_protocol.specs.Points.{kind, target};
 ghost use Rattle.lfm_protocol.specs.Room.{HasNumbers};
-ghost use Rattle.lfm_core.specs.table.Words.{stepped_by, link_of, wake_of};
+ghost use Rattle.lfm_core.specs.table.Words.{stepped_by};
 ghost use Rattle.lfm_table.specs.declared.rule.Moving.{Moving};
 ghost use Rattle.lfm_table.specs.Rule.{is_carried};
 ghost use Rattle.lfm_table.specs.Steps.{gives_at, dropped, kept_out, put_in, with_record, Took, oldest_in};
 
 use crate::kept::Kept;
+use crate::layout::SLOT;
 use crate::moving_box::MovingBox;
 use crate::table_steps::{Place, SharedTable};
+use crate::wake_words::{FIRST_GRANT, state_in};
 use lfm_model::SeatNo;
 use lfm_protocol::kinds::Kind;
 use lfm_protocol::points::Point;
 use lfm_protocol::{SeatState, Turn, Why};
-use lfm_words::{Link, Record, Wake, unpack_handoff, unpack_link};
+use lfm_words::{Record, unpack_handoff, unpack_link};
 
 /// A step at this point may give the value away.
 pub fn gives(point: Point) -> bool
@@ -45,7 +47,7 @@ pub fn carries_after(standing: &SeatState, number: u64, found: u64) -> bool
     match standing.point {
         Point::LockCountAdd | Point::TryCountExchange | Point::SendCountAdd(_) => found == 0,
         Point::ReleaseCountSubtract(_) => found != 1,
-        Point::ReceiveWakeLoad(_) => found > 2,
+        Point::ReceiveWakeLoad(_) => found >= FIRST_GRANT,
         Point::TryOwnerLoad => found == number,
         Point::TryHandoffExchange(_)
         | Point::PushedHandoffExchange(_, _)
@@ -60,18 +62,6 @@ pub fn carries_after(standing: &SeatState, number: u64, found: u64) -> bool
         | Point::EnterOwnerStore(_, _)
         | Point::ReceiveWakeStore(_) => true,
         _ => false,
-    }
-}
-
-/// What a word holds as the state of a sleeper.
-fn wake_found(word: u64) -> Wake
-    ensures { result ≡ wake_of word }
-{
-    match word {
-        0 => Wake::Quiet,
-        1 => Wake::Waiting,
-        2 => Wake::Claimed,
-        _ => Wake::Grant((word - 3) / 4),
     }
 }
 
@@ -112,7 +102,7 @@ pub fn put_back<T: Kept>(table: &SharedTable<T>, place: &mut Place<T>, moving: O
     ensures table { (place.new.table_id ≡ place.old.table_id) × (place.new.id ≡ place.old.id) }
     ensures slot { place.new.me ≡ (place.old.me.0, (0, moving) ∷ rest place.old.me.1) }
 {
-    table.exchange(place, 0, moving);
+    table.exchange(place, SLOT, moving);
 }
 
 /// Puts the value in hand into the slot.
@@ -144,7 +134,7 @@ pub fn take_out<T: Kept>(
     ensures table { (place.new.table_id ≡ place.old.table_id) × (place.new.id ≡ place.old.id) }
     ensures took { (place.old.me.1 ≡ (0, moving.new) ∷ rest place.old.me.1) × (place.new.me ≡ (place.old.me.0, (0, None) ∷ rest place.old.me.1)) }
 {
-    let taken = table.exchange(place, 0, None);
+    let taken = table.exchange(place, SLOT, None);
     put(moving, taken);
 }
 
@@ -210,7 +200,7 @@ pub fn settle<T: Kept>(
     if !carries_after(standing, number, found) {
         return;
     }
-    let taken = table.exchange(place, 0, None);
+    let taken = table.exchange(place, SLOT, None);
     put(moving, taken);
 }
 
@@ -237,8 +227,8 @@ pub fn advance(standing: &mut SeatState, number: u64, found: u64, oldest: Option
         Some(Kind::HandoffExchange) => {
             standing.after_handoff_exchange(number, unpack_handoff(found), oldest)
         }
-        Some(Kind::WakeLoad) => standing.after_wake_load(wake_found(found)),
+        Some(Kind::WakeLoad) => standing.after_wake_load(state_in(found)),
         Some(Kind::WakeStore) => standing.after_wake_store(),
-        Some(Kind::WakeExchange) => standing.after_wake_exchange(wake_found(found)),
+        Some(Kind::WakeExchange) => standing.after_wake_exchange(state_in(found)),
     }
 }

@@ -22,6 +22,7 @@ use crate::table_steps::{
     subtract_count,
 };
 use crate::wake_up::WakeUp;
+use crate::wake_words::FIRST_GRANT;
 use lfm_protocol::{Limits, SeatState};
 use std::marker::Brand;
 
@@ -381,7 +382,7 @@ pub fn load_grant<T: Kept>(
     ensures step { MadeStep T.follows T.fits number place.new.table_id.words place.new.id limits plain.now result place.old.me moving.old place.new.me moving.new }
 {
     let found = load_wake::<T, Brand>(table, place, plain, &*moving, number, limits.seats);
-    if found <= 2 {
+    if found < FIRST_GRANT {
         return found;
     }
     take_out(table, place, moving);

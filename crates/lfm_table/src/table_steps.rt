@@ -11,6 +11,7 @@ ghost use Rattle.lfm_table.specs.Steps.{CanMake};
 ghost use Rattle.lfm_table.specs.Grants.{granted_at};
 
 use crate::kept::Kept;
+use crate::layout::{COUNT, HANDOFF, OWNER, PUSH, link_at, wake_at};
 use crate::moving_box::MovingBox;
 use crate::rule::{Key, MutexRule, Plain, Stepped};
 use crate::seat_view::View;
@@ -19,7 +20,7 @@ use atomic_table::Shared;
 use lfm_model::SeatNo;
 use lfm_protocol::SeatState;
 use lfm_protocol::kinds::Kind;
-use lfm_words::{pack_handoff, pack_link};
+use lfm_words::{Wake, pack_handoff, pack_link};
 
 /// The seat of the table, which has no bytes.
 pub type Place<T> = atomic_table::Seat<Option<MovingBox<T>>, View<T>>;
@@ -48,7 +49,7 @@ pub fn exchange_count<T: Kept, B: Plain<T>>(
 {
     let _hand = hand;
     let _plain = plain;
-    table.compare_exchange::<Stepped<B>>(place, 0, 0, 1)
+    table.compare_exchange::<Stepped<B>>(place, COUNT, 0, 1)
 }
 
 /// Makes 1 more at the count.
@@ -69,7 +70,7 @@ pub fn add_count<T: Kept, B: Plain<T>>(
 {
     let _hand = hand;
     let _plain = plain;
-    table.fetch_add::<Stepped<B>>(place, 0, 1)
+    table.fetch_add::<Stepped<B>>(place, COUNT, 1)
 }
 
 /// Makes 1 less at the count.
@@ -90,7 +91,7 @@ pub fn subtract_count<T: Kept, B: Plain<T>>(
 {
     let _hand = hand;
     let _plain = plain;
-    table.fetch_sub::<Stepped<B>>(place, 0, 1)
+    table.fetch_sub::<Stepped<B>>(place, COUNT, 1)
 }
 
 /// Loads the owner.
@@ -111,7 +112,7 @@ pub fn load_owner<T: Kept, B: Plain<T>>(
 {
     let _hand = hand;
     let _plain = plain;
-    table.load::<Stepped<B>>(place, 1)
+    table.load::<Stepped<B>>(place, OWNER)
 }
 
 /// Stores the owner.
@@ -132,7 +133,7 @@ pub fn store_owner<T: Kept, B: Plain<T>>(
 {
     let _hand = hand;
     let new = plain.stored_owner(number);
-    table.store::<Stepped<B>>(place, 1, new);
+    table.store::<Stepped<B>>(place, OWNER, new);
     new
 }
 
@@ -154,7 +155,7 @@ pub fn load_push<T: Kept, B: Plain<T>>(
 {
     let _hand = hand;
     let _plain = plain;
-    table.load::<Stepped<B>>(place, 3)
+    table.load::<Stepped<B>>(place, PUSH)
 }
 
 /// Exchanges what was seen of the push word for the new head.
@@ -178,7 +179,7 @@ pub fn exchange_push<T: Kept, B: Plain<T>>(
     let new = plain.exchanged_push(number);
     let expected = pack_link(old.stamp, old.next);
     let pushed = pack_link(new.stamp, new.next);
-    table.compare_exchange::<Stepped<B>>(place, 3, expected, pushed)
+    table.compare_exchange::<Stepped<B>>(place, PUSH, expected, pushed)
 }
 
 /// Clears the head of the push word, whose stamp stays.
@@ -199,7 +200,7 @@ pub fn clear_head<T: Kept, B: Plain<T>>(
 {
     let _hand = hand;
     let _plain = plain;
-    table.fetch_and::<Stepped<B>>(place, 3, STAMP)
+    table.fetch_and::<Stepped<B>>(place, PUSH, STAMP)
 }
 
 /// Loads the link that the point names.
@@ -220,7 +221,7 @@ pub fn load_link<T: Kept, B: Plain<T>>(
 {
     let _hand = hand;
     let t = plain.point.target(number);
-    table.load::<Stepped<B>>(place, 3 + t as usize)
+    table.load::<Stepped<B>>(place, link_at(t))
 }
 
 /// Stores the link of the seat that is pushed.
@@ -243,7 +244,7 @@ pub fn store_link<T: Kept, B: Plain<T>>(
     let t = plain.point.target(number);
     let link = plain.stored_link();
     let new = pack_link(link.stamp, link.next);
-    table.store::<Stepped<B>>(place, 3 + t as usize, new);
+    table.store::<Stepped<B>>(place, link_at(t), new);
     new
 }
 
@@ -265,7 +266,7 @@ pub fn load_handoff<T: Kept, B: Plain<T>>(
 {
     let _hand = hand;
     let _plain = plain;
-    table.load::<Stepped<B>>(place, 2)
+    table.load::<Stepped<B>>(place, HANDOFF)
 }
 
 /// Stores the handoff.
@@ -287,7 +288,7 @@ pub fn store_handoff<T: Kept, B: Plain<T>>(
     let _hand = hand;
     let handoff = plain.stored_handoff(number);
     let new = pack_handoff(handoff.seat, handoff.post);
-    table.store::<Stepped<B>>(place, 2, new);
+    table.store::<Stepped<B>>(place, HANDOFF, new);
     new
 }
 
@@ -310,7 +311,7 @@ pub fn exchange_handoff<T: Kept, B: Plain<T>>(
     let _hand = hand;
     let handoff = plain.expected_handoff(number);
     let expected = pack_handoff(handoff.seat, handoff.post);
-    table.compare_exchange::<Stepped<B>>(place, 2, expected, 0)
+    table.compare_exchange::<Stepped<B>>(place, HANDOFF, expected, 0)
 }
 
 /// Loads the wake word of this seat.
@@ -331,7 +332,7 @@ pub fn load_wake<T: Kept, B: Plain<T>>(
 {
     let _hand = hand;
     let t = plain.point.target(number);
-    table.load::<Stepped<B>>(place, 3 + seats as usize + t as usize)
+    table.load::<Stepped<B>>(place, wake_at(seats, t))
 }
 
 /// Stores the wake word that the point names. Where that is a grant, the wake-up of its seat is handed out beside what was
@@ -356,7 +357,7 @@ pub fn store_wake<T: Kept, B: Plain<T>>(
     let t = plain.point.target(number);
     let new = plain.stored_wake();
     let word = new.to_word();
-    table.store::<Stepped<B>>(place, 3 + seats as usize + t as usize, word);
+    table.store::<Stepped<B>>(place, wake_at(seats, t), word);
     (word, WakeUp::owed(new, SeatNo::known(t)))
 }
 
@@ -378,7 +379,9 @@ pub fn exchange_wake<T: Kept, B: Plain<T>>(
 {
     let _hand = hand;
     let t = plain.point.target(number);
-    table.compare_exchange::<Stepped<B>>(place, 3 + seats as usize + t as usize, 1, 2)
+    let waiting = Wake::Waiting.to_word();
+    let claimed = Wake::Claimed.to_word();
+    table.compare_exchange::<Stepped<B>>(place, wake_at(seats, t), waiting, claimed)
 }
 
 // The atomic step at the seat's point, which is of this kind and stores no wake word: the number that it found, or stored.

@@ -1,4 +1,4 @@
-use Rattle.std.proofs.Common.{◌-◌, ◌/◌, ◌≡◌, ℕ, ◌<◌, refl, sym, ap, subst, ◌∙◌, arith, Option, Some, None}
+use Rattle.std.proofs.Common.{◌≡◌, ℕ, ◌<◌, refl, sym, ap, subst, ◌∙◌, arith, Option, Some, None}
 use Rattle.lfm_model.specs.declared.answers.How.{How}
 use Rattle.lfm_protocol.specs.declared.answers.Answer.{Answer}
 use Rattle.lfm_protocol.specs.declared.answers.Call.{Call}
@@ -39,10 +39,10 @@ returns-clause-made g c =
     let begins = begins_receive s.standing s.limits w c.requires.sleeps c.requires.flat in
     let fit = fit_begun s.number s.place.table_id.words s.place.id s.limits s.place.me s.moving s.standing p0 Call.Receive (record { seated = s.seated; became = s.became; ready = s.ready; rooted = s.rooted }) begins in
     let f = c.load_grant-found in let h = c.store_wake_held in let k = c.store_held in
-    let stamp = (f.result - 3) / 4 in let how = c.how_found-how.result in
+    let stamp = c.stamp_in-stamp.result in let how = c.how_by-how.result in
     let p1 = made_of 0 t ps (ReceiveWakeStore stamp) in let p2 = made_of 0 t ps (EnterOwnerStore Entrant.Receiver how) in
-    let is1 = granted t ps s.number f.result (oldest_in f.new.moving) w (omega (arith, c.if-found-lt-FIRST_GRANT.false)) in
-    let is2 = quieted t ps stamp s.number h.ensures.step.0 (oldest_in f.new.moving) ∙ ap (λ (x : How). opens (made_of 0 t ps (EnterOwnerStore Entrant.Receiver x))) (sym c.how_found-how.ensures) in
+    let is1 = granted t ps s.number f.result (oldest_in f.new.moving) w (omega (arith, c.if-found-lt-FIRST_GRANT.false)) ∙ ap (λ (x : ℕ). opens (made_of 0 t ps (ReceiveWakeStore x))) (sym c.stamp_in-stamp.ensures) in
+    let is2 = quieted t ps stamp s.number h.ensures.step.0 (oldest_in f.new.moving) ∙ ap (λ (x : How). opens (made_of 0 t ps (EnterOwnerStore Entrant.Receiver x))) (sym c.how_by-how.ensures) in
     let first = course_next g.T.Kept.follows g.T.Kept.fits s.number p0 s.moving s.place.me.0 s.place.table_id.words s.place.id s.limits p0 f.result s.place.me s.moving f.new.place.me f.new.moving f.new.place.table_id.words f.new.place.id (opens p1) (course_none g.T.Kept.follows g.T.Kept.fits s.number p0 s.moving s.place.me.0) fit f.ensures.step is1 (λ e. cc) refl in
     let fit1 = fit_after g.T.Kept.follows g.T.Kept.fits s.number f.new.place.table_id.words f.new.place.id s.limits p0 f.result s.place.me s.moving f.new.place.me f.new.moving f.ensures.step (opens p1) is1 in
     let second = course_next g.T.Kept.follows g.T.Kept.fits s.number p0 s.moving s.place.me.0 f.new.place.table_id.words f.new.place.id s.limits p1 h.ensures.step.0 f.new.place.me f.new.moving h.new.place.me f.new.moving h.new.place.table_id.words h.new.place.id (opens p2) first fit1 h.ensures.step.1 is2 (λ e. cc) refl in

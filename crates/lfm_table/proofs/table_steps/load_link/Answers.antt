@@ -1,4 +1,4 @@
-use Rattle.std.proofs.Common.{◌+◌, refl, ap, rules, arith}
+use Rattle.std.proofs.Common.{◌+◌, refl, ap, ◌∙◌, rules, arith}
 use Rattle.lfm_protocol.specs.declared.kinds.Kind.{Kind}
 use Rattle.lfm_table.specs.Rule.{value_in}
 use Rattle.lfm_table.proofs.tables.ByKind.{by_kind}
@@ -7,7 +7,7 @@ use Rattle.lfm_table.proofs.table_steps.load_link.Goals as goal
 pub load-requires : goal.load-requires
 load-requires g c = (
   search rules,
-  let r = c.requires.can.ready in let w = c.requires.can.wide in let t = c.target-t.ensures in let e = ap (λ t. t.words) c.requires.table in omega (arith, r.within, w, t, e),
+  let r = c.requires.can.ready in let w = c.requires.can.wide in let t = c.target-t.ensures in let e = ap (λ t. t.words) c.requires.table in let i = c.link_at.ensures in omega (arith, r.within, w, t, e, i),
   by_kind g.T.Kept.follows g.T.Kept.fits c.args.table.now.table_id.slots c.args.place.now.id c.args.place.now.me g.B.Plain.standing c.args.plain.now g.B.Plain.hand (value_in c.args.hand.now) c.args.number c.args.seats c.args.table.now.table_id.words
-      c.requires.plain.0 c.requires.plain.1 c.requires.can Kind.LinkLoad c.requires.kind (3 + c.target-t.result) (λ n. n) (λ n. n) (ap (λ t. 3 + t) c.target-t.ensures) (λ n. refl) (λ n e. refl),
+      c.requires.plain.0 c.requires.plain.1 c.requires.can Kind.LinkLoad c.requires.kind c.link_at.result (λ n. n) (λ n. n) (c.link_at.ensures ∙ ap (λ t. 3 + t) c.target-t.ensures) (λ n. refl) (λ n e. refl),
 )

@@ -4,6 +4,7 @@
 #![tactic(auto)]
 
 pub mod kept;
+pub mod laws;
 pub mod layout;
 pub mod moving_box;
 pub mod parking;

@@ -6,7 +6,6 @@
 //! `wake`. That the system then does what it is called for is not proved.
 ghost use Rattle.std.specs.Prelude.{◌≡◌, ◌+◌, ◌*◌, ◌<◌, ◌≤◌};
 ghost use Rattle.lfm_protocol.specs.Limits.{max_seats};
-ghost use Rattle.lfm_table.specs.Grants.{GrantsDifferInTheirLowBits};
 
 use crate::kept::Kept;
 use crate::layout::wake_at;
@@ -34,9 +33,3 @@ pub fn park<T: Kept, R: Wait>(rt: &R, table: &SharedTable<T>, word: usize)
         table.park(rt, word, seen as u32);
     }
 }
-
-/// A grant differs in its low 32 bits from every other state of a wake word. So a thread that has loaded another state does
-/// not sleep on a word that has become a grant since.
-pub fn grants_differ_in_their_low_bits()
-    ensures { GrantsDifferInTheirLowBits }
-{}

@@ -16,6 +16,25 @@ pub(crate) type WordTable<T> = Table<Option<MovingBox<T>>, View<T>, Key<T>, Mute
 
 /// A mutex round a value of type T: at most one seat at a time holds it, and reaches the value. Its calls are made through a
 /// shared reference and one of its seats. A call with the seat of another mutex breaks the condition that every call has.
+///
+/// These lines are compiled in the crate `example_counter`:
+///
+/// ```
+/// // a mutex with four seats, each of which may take it that many times, round a value that begins at 0
+/// let (mutex, seats) = Mutex::new(rt.alloc(), 4, ROUNDS, 0u64)?;
+/// // each seat counts in a thread of its own
+/// let seats = mutex.run(
+///     &rt,
+///     seats,
+///     ROUNDS,
+///     &|_: u64, seat: &mut Seat<u64>| -> Result<(), Refusal>
+///         requires { OfMutex seat.old mutex }
+///     { mutex.with(&rt, seat, |total| *total = total.wrapping_add(1)) },
+/// )?;
+/// let Ok(total) = mutex.close(seats) else {
+///     bail!("a seat still holds the mutex");
+/// };
+/// ```
 #[derive(Drop)]
 pub struct Mutex<T: Kept> {
     pub(crate) table: WordTable<T>,

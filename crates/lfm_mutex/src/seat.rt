@@ -17,6 +17,17 @@ use lfm_table::table_steps::Place;
 
 /// What one thread uses the mutex with. A seat may move between threads, and each call borrows it for its whole length.
 /// Dropped while it holds or sleeps, it keeps what it holds: nobody else gains that.
+///
+/// These lines are compiled in the crate `example_cache`:
+///
+/// ```
+/// // the sum from the cache that the mutex guards, where it is there and no other seat holds the mutex
+/// match mutex.try_with(seat, |cache| cache.find(number)) {
+///     Ok(Some(sum)) => return Ok(sum),
+///     Ok(None) | Err(Refusal::Busy) => {}
+///     Err(refusal) => return Err(refusal),
+/// }
+/// ```
 #[derive(Drop)]
 pub struct Seat<T: Drop> {
     pub(crate) place: Place<T>,

@@ -9,8 +9,18 @@ use lfm_mutex::{Mutex, Pace};
 /// that every call names the same one is left to the caller. A call with the seat of another condvar or mutex breaks the
 /// condition that every call has.
 ///
+/// Both of these calls are compiled in the crate `lfm_thread_tests`:
+///
 /// ```
-/// // the seat holds the mutex, and waits for as long as the number that the mutex guards is 0
+/// // the seat holds the mutex: it gives the mutex up, sleeps until a wake sends it, and holds the mutex again
+/// condvar.wait(rt, cond, mutex, seat)
+/// // another seat wakes the one that has waited longest
+/// condvar.wake_one(rt, cond, mutex, seat)
+/// ```
+///
+/// `wait_while` waits for as long as what the mutex guards is so, here as long as the number is 0:
+///
+/// ```
 /// condvar.wait_while(&rt, &mut cond, &mutex, &mut seat, |number| *number == 0)?;
 /// ```
 #[derive(Drop)]

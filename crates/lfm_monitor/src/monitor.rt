@@ -14,6 +14,21 @@ use std::snapshot::Snapshot;
 /// shared reference and one of its passes. A call with the pass of another monitor breaks the condition that every call has.
 /// It has so many conditions, on which passes wait and are woken, numbered from 1.
 ///
+/// These lines are compiled in the crate `example_bounded_buffer`:
+///
+/// ```
+/// // a monitor with two passes, each of which may write so many entries, and two conditions, round an empty buffer
+/// let (monitor, passes) = Monitor::new(rt.alloc(), 2, ENTRIES, 2, Buffer::new())?;
+/// let Ok(passes) = monitor.run(&rt, passes, NUMBERS, &Roles) else {
+///     bail!("a thread could not be started");
+/// };
+/// let Ok((_, journal)) = monitor.close(passes) else {
+///     bail!("a pass still holds the monitor");
+/// };
+/// ```
+///
+/// Without threads of the monitor's own:
+///
 /// ```
 /// // one pass, which may write 10 entries, and no condition, round a sum that begins at 0
 /// let (monitor, mut passes) = Monitor::new(rt.alloc(), 1, 10, 0, Total(0))?;

@@ -2,6 +2,8 @@
 //! refusals and limits.
 
 #[cfg(test)]
+mod calls;
+#[cfg(test)]
 mod conditions;
 #[cfg(test)]
 pub mod counted;
@@ -13,6 +15,12 @@ mod monitors;
 pub mod passes;
 #[cfg(test)]
 mod producers;
+#[cfg(test)]
+mod rounds;
+#[cfg(test)]
+mod sections;
 pub mod slot;
 #[cfg(test)]
 mod steps;
+#[cfg(test)]
+mod tries;

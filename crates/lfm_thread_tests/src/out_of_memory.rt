@@ -1,17 +1,23 @@
-//! Memory that runs out while a condvar or a monitor is made, and in the run of a script, also where a worker is started. Each
-//! test whose name contains `memory` passes also where a request was refused: it sees then that nothing was written, and says
-//! that memory was refused. A script lets each single request of these tests fail in turn.
+//! Memory that runs out while a condvar or a monitor is made, in the rounds of a mutex and in the run of a script, also where
+//! a thread is started. Each test whose name contains `memory` passes also where a request was refused: it sees then that
+//! nothing was written, and says that memory was refused. A script lets each single request of these tests fail in turn.
+ghost use Rattle.lfm_mutex.specs.AllSeats.{SeatsOf};
+ghost use Rattle.lfm_mutex.specs.Belongs.{OfMutex};
+
 use crate::monitor::counted::Counted;
-use crate::refused_memory::sees_memory;
+use crate::refused_memory::{sees_memory, tells_refused};
 use crate::seeing::sees;
 use crate::work::scripts::{WAITED, WAITING, answered};
 use lfm_condvar::Condvar;
-use lfm_model::NewFault;
+use lfm_model::{NewFault, Refusal};
 use lfm_monitor::Monitor;
+use lfm_mutex::{Mutex, Seat};
 use lfm_program::{OpenGate, WorkFault};
 use std::alloc::Global;
 use std::process::Abort;
+use std::sync::Wait;
 use std::sync::atomic::{AtomicU64, Ordering};
+use std::thread::Threads;
 
 #[test]
 fn condvar_and_memory(rt: HostRuntime) {
@@ -67,5 +73,41 @@ fn work_and_memory(rt: HostRuntime) {
             sees_memory(&rt, &fault, &WorkFault::Memory);
             sees(&rt, "the room", &room, &64);
         }
+    }
+}
+
+/// Both seats of a mutex make one round, which adds 1, or memory is refused, no round is made and both seats are back.
+fn rounds_or_hands_back<R: Abort + Print + Threads + Wait + Sync>(
+    rt: &R,
+    mutex: Mutex<u64>,
+    seats: Vec<Seat<u64>>,
+)
+    requires { SeatsOf seats.items mutex }
+{
+    let run = mutex.run(
+        rt,
+        seats,
+        1,
+        &|_: u64, seat: &mut Seat<u64>| -> Result<(), Refusal>
+            requires { OfMutex seat.old mutex }
+        { mutex.with(rt, seat, |total| *total = total.wrapping_add(1)) },
+    );
+    let (seats, wanted) = match run {
+        Ok(seats) => (seats, 2),
+        // refused before a thread was started, or where one was to be
+        Err(not_started) => {
+            tells_refused(rt);
+            (not_started.jobs, 0)
+        }
+    };
+    let total = mutex.close(seats).ok();
+    sees(rt, "the value", &total, &Some(wanted));
+}
+
+#[test]
+fn rounds_and_memory(rt: HostRuntime) {
+    match Mutex::new(rt.alloc(), 2, 1, 0u64) {
+        Ok((mutex, seats)) => rounds_or_hands_back(&rt, mutex, seats),
+        Err(fault) => sees_memory(&rt, &fault, &NewFault::Memory),
     }
 }

@@ -1,16 +1,11 @@
 //! Two threads put 4,000 numbers into a slot, and two take them out. A monitor with two conditions guards the slot: who
 //! finds it full, or empty, waits on one of them. Each thread ends when it has moved its share.
-ghost use Rattle.std.specs.Prelude.{All, IfOk};
-ghost use Rattle.lfm_monitor.specs.Belongs.{OfMonitor};
-
 use crate::monitor::slot::{Slot, SlotOp, SlotReply};
 use lfm_model::{Refusal, lawful, replay};
-use lfm_monitor::{Monitor, Pass};
-use std::alloc::AllocError;
+use lfm_monitor::{CriticalSection, Monitor, Pass};
+use std::ops::ControlFlow;
 use std::sync::Wait;
 use std::test::Fail;
-use std::thread;
-use std::thread::Threads;
 
 /// How many numbers go through the slot: 1, 2, 3 and on. The first producer puts in the odd ones, the second the even ones.
 const NUMBERS: u64 = 4_000;
@@ -28,98 +23,39 @@ const NOT_EMPTY: u64 = 1;
 
 const NOT_FULL: u64 = 2;
 
-/// Makes this op of the slot, which the pass holds, until it isn't in vain. Before each further try it waits on the
-/// condition.
-fn make<R: Wait>(
-    rt: &R,
-    monitor: &Monitor<Slot>,
-    pass: &mut Pass<Slot>,
-    op: SlotOp,
-    condition: u64,
-) -> Result<(), Refusal>
-    requires { OfMonitor pass.old monitor.now }
-    ensures { OfMonitor pass.new monitor.now }
-{
-    'tries: for _ in rt.forever() {
-        match monitor.apply(pass, op)? {
-            SlotReply::Stored | SlotReply::Taken(_) => return Ok(()),
-            SlotReply::Nothing => {}
-        }
-        monitor.wait(rt, pass, condition)?;
+/// What a pass does at its turn, which counts from 0: passes 1 and 2 put in their next two numbers, and the others take a pair
+/// out.
+fn op_of(pass: u64, turn: u64) -> SlotOp {
+    if pass > 2 {
+        return SlotOp::Take;
     }
-    unreachable!()
+    let first = pass.wrapping_add(turn.wrapping_mul(4));
+    SlotOp::Put((first, first.wrapping_add(2)))
 }
 
-/// Makes this op in one hold, and then wakes one who waits on the other condition.
-fn make_and_wake<R: Wait>(
-    rt: &R,
-    monitor: &Monitor<Slot>,
-    pass: &mut Pass<Slot>,
-    op: SlotOp,
-    waits_on: u64,
-    wakes: u64,
-) -> Result<(), Refusal>
-    requires { OfMonitor pass.old monitor.now }
-    ensures { OfMonitor pass.new monitor.now }
-{
-    monitor.enter(rt, pass)?;
-    make(rt, monitor, pass, op, waits_on)?;
-    monitor.wake_one(rt, pass, wakes)?;
-    monitor.leave(pass)?;
-    Ok(())
-}
+/// Moves one pair in each of its rounds: makes the pass's op until it isn't in vain, with a wait on a condition before each
+/// further try, and then wakes one who waits on the other condition.
+struct MovesPairs;
 
-/// Moves one pair, at the pass's turn, which counts from 0: passes 1 and 2 put in their next two numbers, and the others
-/// take a pair out.
-fn move_pair<R: Wait>(
-    rt: &R,
-    monitor: &Monitor<Slot>,
-    pass: &mut Pass<Slot>,
-    turn: u64,
-) -> Result<(), Refusal>
-    requires { OfMonitor pass.old monitor.now }
-    ensures { OfMonitor pass.new monitor.now }
-{
-    let number = pass.number().get();
-    if number > 2 {
-        return make_and_wake(rt, monitor, pass, SlotOp::Take, NOT_EMPTY, NOT_FULL);
+impl<R: Wait> CriticalSection<Slot, R> for MovesPairs {
+    type Answer = ControlFlow<()>;
+
+    fn execute(
+        &self,
+        rt: &R,
+        monitor: &Monitor<Slot>,
+        pass: &mut Pass<Slot>,
+        turn: u64,
+    ) -> Result<ControlFlow<()>, Refusal> {
+        let op = op_of(pass.number().get(), turn);
+        let (waits_on, wakes) = match op {
+            SlotOp::Put(_) => (NOT_FULL, NOT_EMPTY),
+            SlotOp::Take => (NOT_EMPTY, NOT_FULL),
+        };
+        monitor.apply_until(rt, pass, waits_on, op, |reply| *reply != SlotReply::Nothing)?;
+        monitor.wake_one(rt, pass, wakes)?;
+        Ok(ControlFlow::Continue(()))
     }
-    let first = number.wrapping_add(turn.wrapping_mul(4));
-    let pair = (first, first.wrapping_add(2));
-    make_and_wake(rt, monitor, pass, SlotOp::Put(pair), NOT_FULL, NOT_EMPTY)
-}
-
-/// All that one pass moves.
-fn work<R: Wait>(rt: &R, monitor: &Monitor<Slot>, mut pass: Pass<Slot>) -> Pass<Slot>
-    requires { OfMonitor pass monitor.now }
-    ensures { OfMonitor result monitor.now }
-{
-    'turns: for turn in 0..PAIRS {
-        if move_pair(rt, monitor, &mut pass, turn).is_err() {
-            break;
-        }
-    }
-    pass
-}
-
-/// Every pass works in a thread of its own.
-fn work_all<R: Threads + Wait + Sync>(
-    rt: &R,
-    monitor: &Monitor<Slot>,
-    passes: Vec<Pass<Slot>>,
-) -> Result<Vec<Pass<Slot>>, AllocError>
-    requires { All (λ p. OfMonitor p monitor.now) passes.items }
-    ensures { IfOk result (λ v. All (λ p. OfMonitor p monitor.now) v.items) }
-{
-    let passes = thread::map_vec(
-        rt,
-        passes,
-        &|pass: Pass<Slot>| -> Pass<Slot>
-            requires { OfMonitor pass monitor.now }
-            ensures { OfMonitor result monitor.entry.now }
-        { work(rt, monitor, pass) },
-    )?;
-    Ok(passes)
 }
 
 /// The odd and the even number that come next after those that were taken out. None where some number came out of turn: the
@@ -144,7 +80,7 @@ fn next_numbers(replies: &[SlotReply]) -> Option<(u64, u64)> {
 #[test]
 fn two_producers_and_two_consumers(rt: HostRuntime) -> Result<(), Fail> {
     let (monitor, passes) = Monitor::new(rt.alloc(), 4, ENTRIES, 2, Slot(None))?;
-    let passes = work_all(&rt, &monitor, passes)?;
+    let passes = monitor.run(&rt, passes, PAIRS, &MovesPairs)?;
     let Ok((slot, journal)) = monitor.close(passes) else {
         panic!(rt; "all passes were back")
     };

@@ -1,18 +1,15 @@
 //! A wake of all: 32 threads wait on one condvar, and each is woken once, in the order of the tickets.
-ghost use Rattle.std.specs.Prelude.{All, IfOk};
 ghost use Rattle.lfm_thread_tests.specs.Places.{OfShared};
 
 use crate::adding::add_one;
 use crate::condvar::dealing::{Left, shared_by};
+use crate::condvar::parts::{Part, take_parts};
 use crate::condvar::places::{Place, Shared};
 use crate::condvar::shared_calls::Side;
 use crate::seeing::sees;
-use std::alloc::AllocError;
 use std::process::Abort;
 use std::sync::Wait;
 use std::test::Fail;
-use std::thread;
-use std::thread::Threads;
 
 const WAITERS: u64 = 32;
 
@@ -66,35 +63,16 @@ fn wake_twice<R: Wait>(rt: &R, shared: &Shared, mut place: Place) -> Place
 }
 
 /// Seat 1 wakes, and the others wait.
-fn take_part<R: Wait>(rt: &R, shared: &Shared, place: Place) -> Place
-    requires { OfShared place shared.now }
-    ensures { OfShared result shared.now }
-{
-    if place.seat.number().get() == 1 {
-        wake_twice(rt, shared, place)
-    } else {
-        wait_once(rt, shared, place)
-    }
-}
+struct WakesOrWaits;
 
-/// Each place takes part in a thread of its own.
-fn take_parts<R: Threads + Wait + Sync>(
-    rt: &R,
-    shared: &Shared,
-    places: Vec<Place>,
-) -> Result<Vec<Place>, AllocError>
-    requires { All (λ p. OfShared p shared.now) places.items }
-    ensures { IfOk result (λ v. All (λ p. OfShared p shared.now) v.items) }
-{
-    let places = thread::map_vec(
-        rt,
-        places,
-        &|place: Place| -> Place
-            requires { OfShared place shared.now }
-            ensures { OfShared result shared.entry.now }
-        { take_part(rt, shared, place) },
-    )?;
-    Ok(places)
+impl<R: Wait> Part<R> for WakesOrWaits {
+    fn take(&self, rt: &R, shared: &Shared, place: Place) -> Place {
+        if place.seat.number().get() == 1 {
+            wake_twice(rt, shared, place)
+        } else {
+            wait_once(rt, shared, place)
+        }
+    }
 }
 
 /// How many places have this ticket, and found what all with smaller tickets left.
@@ -147,7 +125,7 @@ fn all_were_sent<R: Abort>(rt: &R, left: &Left) {
 #[test]
 fn all_who_wait_are_woken_once(rt: HostRuntime) -> Result<(), Fail> {
     let (shared, places) = shared_by(rt.alloc(), WAITERS + 1).ok_or("places")?;
-    let places = take_parts(&rt, &shared, places)?;
+    let places = take_parts(&rt, &shared, places, &WakesOrWaits)?;
     each_was_woken_once(&rt, &places);
     let left = shared.close(rt.alloc(), places).ok_or("all are back")?;
     all_were_sent(&rt, &left);

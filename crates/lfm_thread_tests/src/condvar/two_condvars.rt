@@ -1,19 +1,16 @@
 //! Two condvars on one mutex: four threads take turns, two for even numbers and two for odd ones. Who waits for its turn
 //! waits on the condvar of its side, and each turn wakes one of the other side.
-ghost use Rattle.std.specs.Prelude.{All, IfOk};
 ghost use Rattle.lfm_thread_tests.specs.Places.{OfShared};
 
 use crate::adding::add_one;
 use crate::condvar::dealing::{Left, shared_by};
+use crate::condvar::parts::{Part, take_parts};
 use crate::condvar::places::{Place, Shared};
 use crate::condvar::shared_calls::Side;
 use crate::seeing::sees;
-use std::alloc::AllocError;
 use std::process::Abort;
 use std::sync::Wait;
 use std::test::Fail;
-use std::thread;
-use std::thread::Threads;
 
 /// How many turns each thread takes.
 const TURNS: u64 = 500;
@@ -58,24 +55,12 @@ fn take_turns<R: Wait>(rt: &R, shared: &Shared, mut place: Place) -> Place
     place
 }
 
-/// Each place takes its turns in a thread of its own.
-fn take_all_turns<R: Threads + Wait + Sync>(
-    rt: &R,
-    shared: &Shared,
-    places: Vec<Place>,
-) -> Result<Vec<Place>, AllocError>
-    requires { All (λ p. OfShared p shared.now) places.items }
-    ensures { IfOk result (λ v. All (λ p. OfShared p shared.now) v.items) }
-{
-    let places = thread::map_vec(
-        rt,
-        places,
-        &|place: Place| -> Place
-            requires { OfShared place shared.now }
-            ensures { OfShared result shared.entry.now }
-        { take_turns(rt, shared, place) },
-    )?;
-    Ok(places)
+struct TakesTurns;
+
+impl<R: Wait> Part<R> for TakesTurns {
+    fn take(&self, rt: &R, shared: &Shared, place: Place) -> Place {
+        take_turns(rt, shared, place)
+    }
 }
 
 /// How often the places waited.
@@ -109,7 +94,7 @@ fn each_wait_was_sent<R: Abort>(rt: &R, left: &Left, waits: u64) {
 #[test]
 fn two_condvars_of_one_mutex(rt: HostRuntime) -> Result<(), Fail> {
     let (shared, places) = shared_by(rt.alloc(), 4).ok_or("places")?;
-    let places = take_all_turns(&rt, &shared, places)?;
+    let places = take_parts(&rt, &shared, places, &TakesTurns)?;
     let waits = all_waits(&places);
     let left = shared.close(rt.alloc(), places).ok_or("all are back")?;
     each_wait_was_sent(&rt, &left, waits);

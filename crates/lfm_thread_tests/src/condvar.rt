@@ -25,6 +25,8 @@ mod refused_calls;
 #[cfg(test)]
 mod refused_steps;
 #[cfg(test)]
+mod repeated_waits;
+#[cfg(test)]
 mod shared_calls;
 #[cfg(test)]
 mod two_condvars;

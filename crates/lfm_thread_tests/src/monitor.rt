@@ -1,5 +1,5 @@
-//! Tests of the monitor on its public calls, in one thread and in several: takes, ops, waits and wakes,
-//! refusals and limits.
+//! Tests of the monitor on its public calls, in one thread and in several: takes, ops, critical sections, rounds, waits and
+//! wakes, refusals and limits.
 
 #[cfg(test)]
 mod calls;

@@ -1,9 +1,16 @@
-//! Waits of one thread for as long as a condition on the number holds: none where it is false at once, and refusals.
+//! Waits for as long as a condition on the number holds: none where it is false at once, one for each wake that finds it true,
+//! and refusals.
 ghost use Rattle.lfm_mutex.specs.Belongs.{OfMutex};
 ghost use Rattle.lfm_condvar.specs.Belongs.{OfCondvar};
+ghost use Rattle.lfm_thread_tests.specs.Places.{OfShared};
 
+use crate::adding::add_one;
 use crate::condvar::calls::{ask, begin_wait, receive, unlock, wait_while_less};
+use crate::condvar::dealing::shared_by;
 use crate::condvar::pairs::{closed, condvar_of_one, condvar_of_two, mutex_of_two};
+use crate::condvar::parts::{Part, take_parts};
+use crate::condvar::places::{Place, Shared};
+use crate::condvar::shared_calls::Side;
 use crate::seeing::sees;
 use lfm_condvar::{CondSeat, Condvar};
 use lfm_model::{Asked, How, Refusal, SeatNo, Unlocked};
@@ -159,5 +166,79 @@ fn wait_while_finds_its_place_in_the_list(rt: HostRuntime) -> Result<(), Fail> {
     // the wait that was sent past it was added, and is not sent
     let numbers = closed(condvar, cond, cond_2, Vec::new(rt.alloc()));
     assert_eq!(rt; numbers, Some((0, 1)));
+    Ok(())
+}
+
+/// How often the second thread adds 1, in a hold of its own each time.
+const ADDS: u64 = 3;
+
+/// Adds 1, tells it on the second condvar, and waits on the first one while the number is less than one more than what the other
+/// thread adds. Notes what it then finds.
+fn wait_for_all<R: Wait>(rt: &R, shared: &Shared, mut place: Place) -> Place
+    requires { OfShared place shared.now }
+    ensures { OfShared result shared.now }
+{
+    let _ = shared.lock(rt, &mut place);
+    let _ = add_one(&mut place.seat);
+    let _ = shared.wake_one(rt, &mut place, Side::Second);
+    let _ = shared.wait_while_less(rt, &mut place, Side::First, ADDS + 1);
+    place.seen.number = place.number();
+    let _ = shared.unlock(&mut place);
+    place
+}
+
+/// Adds 1 in each of its holds, once the other thread has begun, and wakes that. Since it leaves the mutex to the other then,
+/// which it has queued, the other looks after each.
+fn add_and_wake<R: Wait>(rt: &R, shared: &Shared, mut place: Place) -> Place
+    requires { OfShared place shared.now }
+    ensures { OfShared result shared.now }
+{
+    'adds: for _ in 0..ADDS {
+        let _ = shared.lock(rt, &mut place);
+        let _ = shared.wait_while_less(rt, &mut place, Side::Second, 1);
+        let _ = add_one(&mut place.seat);
+        let _ = shared.wake_one(rt, &mut place, Side::First);
+        let _ = shared.unlock(&mut place);
+    }
+    place
+}
+
+/// Seat 1 waits, and the other adds.
+struct WaitsOrAdds;
+
+impl<R: Wait> Part<R> for WaitsOrAdds {
+    fn take(&self, rt: &R, shared: &Shared, place: Place) -> Place {
+        if place.seat.number().get() == 1 {
+            wait_for_all(rt, shared, place)
+        } else {
+            add_and_wake(rt, shared, place)
+        }
+    }
+}
+
+/// What the places found, one of which noted nothing.
+fn found(places: &[Place]) -> u64 {
+    let mut found = 0u64;
+    for place in places {
+        found = found.wrapping_add(place.seen.number);
+    }
+    found
+}
+
+#[test]
+fn waits_end_where_the_condition_is_false(rt: HostRuntime) -> Result<(), Fail> {
+    let (shared, places) = shared_by(rt.alloc(), 2).ok_or("places")?;
+    let places = take_parts(&rt, &shared, places, &WaitsOrAdds)?;
+    sees(&rt, "the number that was found", &found(&places), &4);
+    let left = shared.close(rt.alloc(), places).ok_or("all are back")?;
+    sees(&rt, "the number", &left.number, &4);
+    // it waited before each of the three that were added
+    sees(&rt, "the first condvar's numbers", &left.first, &(3, 3));
+    sees(
+        &rt,
+        "the second condvar's numbers",
+        &left.second.0,
+        &left.second.1,
+    );
     Ok(())
 }

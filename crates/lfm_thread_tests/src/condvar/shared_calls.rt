@@ -2,6 +2,7 @@
 //! its condvars. No test stands here.
 ghost use Rattle.lfm_thread_tests.specs.Places.{OfShared};
 
+use crate::condvar::calls::wait_while_less;
 use crate::condvar::places::{Place, Shared};
 use lfm_model::{How, Refusal, SeatNo};
 use std::sync::Wait;
@@ -77,6 +78,38 @@ impl Shared {
             }
             Err(_) => false,
         }
+    }
+
+    /// `wait_while` on one of the condvars, while the number in hand is less than this. Returns whether it was not refused.
+    pub fn wait_while_less<R: Wait>(
+        &self,
+        rt: &R,
+        place: &mut Place,
+        side: Side,
+        least: u64,
+    ) -> bool
+        requires { OfShared place.old self.now }
+        ensures { OfShared place.new self.now }
+    {
+        let waited = match side {
+            Side::First => wait_while_less(
+                rt,
+                &self.first,
+                &mut place.first,
+                &self.mutex,
+                &mut place.seat,
+                least,
+            ),
+            Side::Second => wait_while_less(
+                rt,
+                &self.second,
+                &mut place.second,
+                &self.mutex,
+                &mut place.seat,
+                least,
+            ),
+        };
+        waited.is_ok()
     }
 
     /// `wake_one` of one of the condvars.

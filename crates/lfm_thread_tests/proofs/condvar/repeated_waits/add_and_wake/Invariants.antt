@@ -1,0 +1,5 @@
+use Rattle.lfm_thread_tests.specs.Places.{OfShared}
+use Rattle.lfm_thread_tests.proofs.condvar.repeated_waits.add_and_wake.Given as goal
+
+abbrev pub invariant-adds : goal.invariant-adds
+invariant-adds g l = OfShared l.place l.shared

@@ -1,16 +1,24 @@
 //! Handles may go from one thread to another: the functions here are proved only where their types are `Send`.
+ghost use Rattle.std.specs.Prelude.{◌≡◌};
+
 use crate::handles::{MutexHandle, SeatHandle};
 
-fn sent<T: Send>(value: T) -> T {
+fn sent<T: Send>(value: T) -> T
+    ensures { result ≡ value }
+{
     value
 }
 
 /// A seat's handle may go to another thread.
-pub fn seat_crosses(handle: SeatHandle) -> SeatHandle {
+pub fn seat_crosses(handle: SeatHandle) -> SeatHandle
+    ensures { result ≡ handle }
+{
     sent(handle)
 }
 
 /// A mutex's handle may go to another thread.
-pub fn mutex_crosses(handle: MutexHandle) -> MutexHandle {
+pub fn mutex_crosses(handle: MutexHandle) -> MutexHandle
+    ensures { result ≡ handle }
+{
     sent(handle)
 }

@@ -1,3 +1,4 @@
-//! Who of ours is measured: the mutex and the condvars.
+//! Who is measured: our mutex and condvars, and std's.
 pub mod ours;
 pub mod participants;
+pub mod standard;

@@ -115,9 +115,7 @@ impl Contests {
 
     /// The median of the most acquisitions of a thread, in hundredths of the fewest. 0 where there was no contest.
     fn fairness(&mut self) -> u64 {
-        self.fairness
-            .quartiles()
-            .map_or(0, |quartiles| quartiles.median)
+        self.fairness.median()
     }
 }
 

@@ -57,8 +57,9 @@ impl StepTime {
             busy.work(TIMED_STEPS);
             costs.add(watch.stop(rt, TIMED_STEPS, TIMED_STEPS)?.cost())?;
         }
-        let picoseconds = costs.quartiles().map_or(0, |quartiles| quartiles.median);
-        Ok(StepTime { picoseconds })
+        Ok(StepTime {
+            picoseconds: costs.median(),
+        })
     }
 
     /// How many steps take about so long.

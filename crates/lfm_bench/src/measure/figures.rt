@@ -133,6 +133,14 @@ impl Series {
         let quartiles = quartiles_in_order(&self.values)?;
         Some(quartiles)
     }
+
+    /// The median of all figures. 0 where there is none.
+    pub fn median(&mut self) -> u64 {
+        match self.quartiles() {
+            Some(quartiles) => quartiles.median,
+            None => 0,
+        }
+    }
 }
 
 /// The quartiles of figures that are in order. None where there is none.

@@ -3,7 +3,7 @@ use std::rt::Env;
 use std::{env, io};
 
 /// What is printed.
-#[derive(Clone, Copy, PartialEq, Eq)]
+#[derive(Clone, Copy)]
 pub enum Mode {
     /// The medians of the times.
     Times,

@@ -9,6 +9,7 @@ use crate::measure::Sample;
 use crate::measure::wall_clock::{now, since};
 use crate::peers::ours::no_seat;
 use crate::peers::participants::{Participant, Places, Shared, Side};
+use crate::peers::standard::wait_until;
 use std::alloc::AllocError;
 use std::sync::atomic::{AtomicU64, Ordering};
 use std::sync::{Condvar, Mutex, Wait};
@@ -87,6 +88,16 @@ struct Calls {
     number: Option<u64>,
 }
 
+/// Whether all of these numbers are this one.
+fn all_are(numbers: &[u64], due: u64) -> bool {
+    for &number in numbers {
+        if number != due {
+            return false;
+        }
+    }
+    true
+}
+
 /// What the caller and the threads did, of whom each says how often it held. It is exact where each held once for each
 /// broadcast and once before, the number is right, and as many were woken.
 fn sample(load: Load, calls: Calls, holds: &[u64]) -> Sample
@@ -94,10 +105,7 @@ fn sample(load: Load, calls: Calls, holds: &[u64]) -> Sample
     ensures woken { result.exact ≡ true → IfSome calls.woken (λ w. w ≡ load.broadcasts * load.threads % 2 ^ 64) }
 {
     let all = load.broadcasts.wrapping_mul(load.threads);
-    let held = holds
-        .iter()
-        .all(|&held| held == load.broadcasts.wrapping_add(1));
-    let exact = held
+    let exact = all_are(holds, load.broadcasts.wrapping_add(1))
         && holds.len() as u64 == load.threads
         && calls.number == Some(load.ended(load.broadcasts))
         && calls.woken.unwrap_or(all) == all;
@@ -246,8 +254,7 @@ fn standard_holds<R: Wait + Clock>(rt: &R, load: Load, times: &Times, peer: &Sta
     let mut held = 0u64;
     let mut number = peer.mutex.lock(rt);
     for broadcast in 0..=load.broadcasts {
-        let due = load.made(broadcast);
-        number = peer.threads.wait_while(rt, number, |number| *number < due);
+        number = wait_until(rt, &peer.threads, number, load.made(broadcast));
         *number = number.wrapping_add(1);
         held = held.wrapping_add(1);
         if *number == load.ended(broadcast) {
@@ -267,17 +274,14 @@ fn standard_calls<R: Wait + Clock>(
     peer: &StandardPeer,
 ) -> Calls {
     let mut nanoseconds = 0u64;
-    let ready = load.ended(0);
-    let mut number = peer
-        .caller
-        .wait_while(rt, peer.mutex.lock(rt), |number| *number < ready);
+    let mut number = wait_until(rt, &peer.caller, peer.mutex.lock(rt), load.ended(0));
     for broadcast in 0..load.broadcasts {
         let due = load.ended(broadcast.wrapping_add(1));
         thread::sleep(rt, Duration::from_micros(SETTLING));
         *number = number.wrapping_add(1);
         let called = times.now(rt);
         peer.threads.notify_all();
-        number = peer.caller.wait_while(rt, number, |number| *number < due);
+        number = wait_until(rt, &peer.caller, number, due);
         nanoseconds = nanoseconds.saturating_add(times.taken(called));
     }
     Calls {

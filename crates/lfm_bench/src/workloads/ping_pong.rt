@@ -6,6 +6,7 @@ use crate::measure::wall_clock::{now, since};
 use crate::measure::{Gate, Sample};
 use crate::peers::ours::no_seat;
 use crate::peers::participants::{Participant, Places, Shared, Side};
+use crate::peers::standard::wait_until;
 use std::io;
 use std::sync::{Condvar, Mutex, Wait};
 use std::thread::{Threads, join};
@@ -145,7 +146,7 @@ fn standard_turns<R: Wait + Clock>(
     let start = now(rt);
     for turn in 0..turns {
         let due = turn.wrapping_mul(2).wrapping_add(first);
-        let mut number = own.wait_while(rt, mutex.lock(rt), |number| *number < due);
+        let mut number = wait_until(rt, own, mutex.lock(rt), due);
         *number = number.wrapping_add(1);
         made = made.wrapping_add(1);
         other.notify_one();

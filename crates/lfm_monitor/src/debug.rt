@@ -16,12 +16,10 @@ impl<O: Object> Debug for Monitor<O> {
     }
 }
 
-/// The pass's number, and what it knows of the journal: `Pass { number: 3, seen_len: 8, mine: 2, .. }`. The object that it may
-/// have in hand isn't told.
+/// What the pass knows of the journal. Its seat isn't told, and neither is the object that it may have in hand.
 impl<O: Object> Debug for Pass<O> {
     fn fmt<W: Write>(&self, f: &mut Formatter<W>) -> Result {
         f.debug_struct("Pass")
-            .field("number", &self.seat.number().get())
             .field("seen_len", &self.seen)
             .field("mine", &self.mine)
             .finish_non_exhaustive()

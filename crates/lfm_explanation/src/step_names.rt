@@ -44,7 +44,7 @@ pub fn step_name(point: Point) -> &'static str {
         Point::TryCountAdd => "try_lock 6",
         Point::SendWakeExchange(_) => "send_lock 1",
         Point::SendCountAdd(_) => "send_lock 2",
-        Point::SendPushLook(_, _) => "send_lock 7",
+        Point::SendPushRecheck(_, _) => "send_lock 7",
         Point::SendWakeStore(_) => "send_lock 9",
         Point::PushLoad(pusher) => of_pusher(pusher, "lock 4", "send_lock 3"),
         Point::LinkStore(pusher, _) => of_pusher(pusher, "lock 5", "send_lock 4"),
@@ -54,7 +54,7 @@ pub fn step_name(point: Point) -> &'static str {
         Point::ReleaseOwnerStore(releaser) => of_releaser(releaser, "unlock 1", "start_wait 1"),
         Point::ReleaseCountSubtract(releaser) => of_releaser(releaser, "unlock 2", "start_wait 2"),
         Point::ReleaseHandoffStore(releaser) => of_releaser(releaser, "unlock 3", "start_wait 3"),
-        Point::ReleasePushLook(releaser) => of_releaser(releaser, "unlock 4", "start_wait 4"),
+        Point::ReleasePushRecheck(releaser) => of_releaser(releaser, "unlock 4", "start_wait 4"),
         Point::ReleaseHandoffExchange(releaser) => of_releaser(
             releaser,
             "unlock 5",

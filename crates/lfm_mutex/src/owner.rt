@@ -1,14 +1,14 @@
 //! The call that tells which seat owns the mutex.
 ghost use Rattle.std.specs.Prelude.{◌≡◌};
 ghost use Rattle.lfm_mutex.specs.Belongs.{Beside, OfMutex};
-ghost use Rattle.lfm_mutex.specs.calls.Sight.{sight, LooksAtOwner};
+ghost use Rattle.lfm_mutex.specs.calls.Sight.{sight, TellsOwner};
 
 use crate::mutex::Mutex;
 use crate::seat::Seat;
 use lfm_model::SeatNo;
 use lfm_table::Kept;
 use lfm_table::layout::OWNER;
-use lfm_table::rule::OwnerLook;
+use lfm_table::rule::OwnerRead;
 
 impl<T: Kept> Mutex<T> {
     /// The seat that the owner word names, by one load; None where no seat owns the mutex. It answers the caller's own
@@ -17,9 +17,9 @@ impl<T: Kept> Mutex<T> {
     pub fn owner(&self, seat: &mut Seat<T>) -> Option<SeatNo>
         requires belongs { OfMutex seat.old self.now }
         ensures belongs { Beside seat.old seat.new }
-        ensures looks { LooksAtOwner (sight seat.old) (sight seat.new) result }
+        ensures tells { TellsOwner (sight seat.old) (sight seat.new) result }
     {
-        let found = self.table.shared.load::<OwnerLook>(&mut seat.place, OWNER);
+        let found = self.table.shared.load::<OwnerRead>(&mut seat.place, OWNER);
         SeatNo::new(found)
     }
 }

@@ -37,7 +37,7 @@ fn stand_after_push(standing: &mut SeatState, number: u64, seen: Link, found: u6
 }
 
 #[inline(never)]
-fn stand_after_look(standing: &mut SeatState, number: u64, found: u64)
+fn stand_beside_post(standing: &mut SeatState, number: u64, found: u64)
     ensures { standing.new ≡ (stepped_by (record standing.old { point = PushedHandoffLoad PusherNow.Locker }) number found None).seat }
 {
     standing.point = Point::PushedHandoffLoad(Pusher::Locker);
@@ -137,7 +137,7 @@ pub(crate) fn queue<T: Kept>(mutex: &Mutex<T>, seat: &mut Seat<T>) -> (Asked, Op
         &pushed,
     );
     if handoff % 65_536 != 0 {
-        stand_after_look(&mut seat.standing, number, handoff);
+        stand_beside_post(&mut seat.standing, number, handoff);
         return ask_on(mutex, seat);
     }
     seat.standing.point = Point::Asleep(Sleeper::Locker);

@@ -15,7 +15,7 @@ use Rattle.lfm_protocol.specs.declared.points.Carrier.{Carrier}
 use Rattle.lfm_protocol.specs.declared.points.Entrant.{Entrant}
 use Rattle.lfm_protocol.specs.declared.points.Entrant.TheVariants.{Trier, Receiver}
 use Rattle.lfm_protocol.specs.declared.points.Point.{Point}
-use Rattle.lfm_protocol.specs.declared.points.Point.TheVariants.{Rest, Asleep, LockCountAdd, LockOwnerLoad, LockCountSubtract, TryCountExchange, TryOwnerLoad, TryHandoffLoad, TryHandoffExchange, TryCountAdd, SendWakeExchange, SendCountAdd, SendPushLook, SendWakeStore, PushLoad, LinkStore, PushExchange, PushedHandoffLoad, PushedHandoffExchange, ReleaseOwnerStore, ReleaseCountSubtract, ReleaseHandoffStore, ReleasePushLook, ReleaseHandoffExchange, WaitWakeStore, TakeClearHead, TakeLinkLoad, GrantWakeStore, EnterOwnerStore, ReceiveWakeLoad, ReceiveWakeStore}
+use Rattle.lfm_protocol.specs.declared.points.Point.TheVariants.{Rest, Asleep, LockCountAdd, LockOwnerLoad, LockCountSubtract, TryCountExchange, TryOwnerLoad, TryHandoffLoad, TryHandoffExchange, TryCountAdd, SendWakeExchange, SendCountAdd, SendPushRecheck, SendWakeStore, PushLoad, LinkStore, PushExchange, PushedHandoffLoad, PushedHandoffExchange, ReleaseOwnerStore, ReleaseCountSubtract, ReleaseHandoffStore, ReleasePushRecheck, ReleaseHandoffExchange, WaitWakeStore, TakeClearHead, TakeLinkLoad, GrantWakeStore, EnterOwnerStore, ReceiveWakeLoad, ReceiveWakeStore}
 use Rattle.lfm_protocol.specs.declared.points.Pusher.{Pusher}
 use Rattle.lfm_protocol.specs.declared.points.Releaser.{Releaser}
 use Rattle.lfm_protocol.specs.declared.points.Releaser.TheVariants.{Unlocker, Waiter}
@@ -81,9 +81,9 @@ granted x (Carrier.Reclaimer releaser) oldest = releases x releaser (Granted old
 granted x Carrier.Sender oldest = ends x Sent
 
 -- where a pusher goes on that has found this handoff posted
-abbrev pub looks : Pusher → Handoff → Point
-looks Pusher.Locker found = PushedHandoffExchange Pusher.Locker found
-looks (Pusher.Sender t) found = SendPushLook t found
+abbrev pub found_posted : Pusher → Handoff → Point
+found_posted Pusher.Locker found = PushedHandoffExchange Pusher.Locker found
+found_posted (Pusher.Sender t) found = SendPushRecheck t found
 
 -- what a pusher carries the responsibility as
 abbrev pub carrier_of : Pusher → Carrier
@@ -191,9 +191,9 @@ after_owner_store x = after_owner_store_at x x.point
 -- the push word was loaded
 abbrev pub after_push_load_at : SeatState → Link → Point → Stepped
 after_push_load_at x found (PushLoad pusher) = goes_on x (LinkStore pusher found)
-after_push_load_at x found (SendPushLook t seen) =
+after_push_load_at x found (SendPushRecheck t seen) =
     if nat_eq found.next 0 then ends x Sent else goes_on x (PushedHandoffExchange (Pusher.Sender t) seen)
-after_push_load_at x found (ReleasePushLook releaser) =
+after_push_load_at x found (ReleasePushRecheck releaser) =
     if nat_eq found.next 0 then releases x releaser Posted else goes_on x (ReleaseHandoffExchange releaser)
 after_push_load_at x found _ = idle x
 
@@ -241,7 +241,7 @@ after_link_store x = after_link_store_at x x.point
 -- the handoff word was loaded
 abbrev pub after_handoff_load_at : SeatState → Handoff → Point → Stepped
 after_handoff_load_at x found (PushedHandoffLoad pusher) =
-    if nat_eq found.seat 0 then pushed x pusher else goes_on x (looks pusher found)
+    if nat_eq found.seat 0 then pushed x pusher else goes_on x (found_posted pusher found)
 after_handoff_load_at x found TryHandoffLoad =
     if nat_eq found.seat 0 then busy x else goes_on x (TryHandoffExchange found)
 after_handoff_load_at x found _ = idle x
@@ -252,7 +252,7 @@ after_handoff_load x found = after_handoff_load_at x found x.point
 -- the handoff word was stored
 abbrev pub after_handoff_store_at : SeatState → Point → Stepped
 after_handoff_store_at x (ReleaseHandoffStore releaser) =
-    record { seat = record x { point = ReleasePushLook releaser; posts = x.posts + 1 }; turn = Open }
+    record { seat = record x { point = ReleasePushRecheck releaser; posts = x.posts + 1 }; turn = Open }
 after_handoff_store_at x _ = idle x
 
 abbrev pub after_handoff_store : SeatState → Stepped

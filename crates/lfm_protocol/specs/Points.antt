@@ -3,7 +3,7 @@ use Rattle.std.specs.Prelude.{ℕ, Option, Some, None}
 use Rattle.lfm_protocol.specs.declared.kinds.Kind.{Kind}
 use Rattle.lfm_protocol.specs.declared.kinds.Kind.TheVariants.{CountExchange, CountAdd, CountSubtract, OwnerLoad, OwnerStore, ClearHead, LinkLoad, HandoffLoad, HandoffStore, HandoffExchange, WakeLoad, WakeStore, WakeExchange}
 use Rattle.lfm_protocol.specs.declared.points.Point.{Point}
-use Rattle.lfm_protocol.specs.declared.points.Point.TheVariants.{Rest, Asleep, LockCountAdd, LockOwnerLoad, LockCountSubtract, TryCountExchange, TryOwnerLoad, TryHandoffLoad, TryHandoffExchange, TryCountAdd, SendWakeExchange, SendCountAdd, SendPushLook, SendWakeStore, PushLoad, LinkStore, PushExchange, PushedHandoffLoad, PushedHandoffExchange, ReleaseOwnerStore, ReleaseCountSubtract, ReleaseHandoffStore, ReleasePushLook, ReleaseHandoffExchange, WaitWakeStore, TakeClearHead, TakeLinkLoad, GrantWakeStore, EnterOwnerStore, ReceiveWakeLoad, ReceiveWakeStore}
+use Rattle.lfm_protocol.specs.declared.points.Point.TheVariants.{Rest, Asleep, LockCountAdd, LockOwnerLoad, LockCountSubtract, TryCountExchange, TryOwnerLoad, TryHandoffLoad, TryHandoffExchange, TryCountAdd, SendWakeExchange, SendCountAdd, SendPushRecheck, SendWakeStore, PushLoad, LinkStore, PushExchange, PushedHandoffLoad, PushedHandoffExchange, ReleaseOwnerStore, ReleaseCountSubtract, ReleaseHandoffStore, ReleasePushRecheck, ReleaseHandoffExchange, WaitWakeStore, TakeClearHead, TakeLinkLoad, GrantWakeStore, EnterOwnerStore, ReceiveWakeLoad, ReceiveWakeStore}
 use Rattle.lfm_protocol.specs.declared.points.Pusher.{Pusher}
 use Rattle.lfm_protocol.specs.declared.points.Pusher.TheVariants.{Locker, Sender}
 use Rattle.lfm_protocol.specs.declared.kinds.Word.{Word}
@@ -22,7 +22,7 @@ kind (TryHandoffExchange seen) = Some HandoffExchange
 kind TryCountAdd = Some CountAdd
 kind (SendWakeExchange t) = Some WakeExchange
 kind (SendCountAdd t) = Some CountAdd
-kind (SendPushLook t seen) = Some Kind.PushLoad
+kind (SendPushRecheck t seen) = Some Kind.PushLoad
 kind (SendWakeStore t) = Some WakeStore
 kind (PushLoad pusher) = Some Kind.PushLoad
 kind (LinkStore pusher seen) = Some Kind.LinkStore
@@ -32,7 +32,7 @@ kind (PushedHandoffExchange pusher seen) = Some HandoffExchange
 kind (ReleaseOwnerStore releaser) = Some OwnerStore
 kind (ReleaseCountSubtract releaser) = Some CountSubtract
 kind (ReleaseHandoffStore releaser) = Some HandoffStore
-kind (ReleasePushLook releaser) = Some Kind.PushLoad
+kind (ReleasePushRecheck releaser) = Some Kind.PushLoad
 kind (ReleaseHandoffExchange releaser) = Some HandoffExchange
 kind (WaitWakeStore released) = Some WakeStore
 kind (TakeClearHead carrier) = Some ClearHead

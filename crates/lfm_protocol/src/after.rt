@@ -201,16 +201,16 @@ impl SeatState {
     {
         match self.point {
             Point::PushLoad(pusher) => self.go_on(Point::LinkStore(pusher, found)),
-            Point::SendPushLook(_, _) if found.next == 0 => self.end(Answer::Sent),
-            Point::SendPushLook(t, seen) => self.go_on(Point::PushedHandoffExchange(
+            Point::SendPushRecheck(_, _) if found.next == 0 => self.end(Answer::Sent),
+            Point::SendPushRecheck(t, seen) => self.go_on(Point::PushedHandoffExchange(
                 Pusher::Sender(t),
                 seen,
             )),
-            Point::ReleasePushLook(releaser) if found.next == 0 => self.finish_release(
+            Point::ReleasePushRecheck(releaser) if found.next == 0 => self.finish_release(
                 releaser,
                 Unlocked::Posted,
             ),
-            Point::ReleasePushLook(releaser) => self.go_on(Point::ReleaseHandoffExchange(releaser)),
+            Point::ReleasePushRecheck(releaser) => self.go_on(Point::ReleaseHandoffExchange(releaser)),
             _ => Turn::Refused(Why::Idle),
         }
     }
@@ -293,7 +293,7 @@ impl SeatState {
         match self.point {
             Point::ReleaseHandoffStore(releaser) => {
                 self.posts += 1;
-                self.go_on(Point::ReleasePushLook(releaser))
+                self.go_on(Point::ReleasePushRecheck(releaser))
             }
             _ => Turn::Refused(Why::Idle),
         }

@@ -1,7 +1,7 @@
 //! The points of a call that carries the responsibility or is about to gain it: which record it serves, and what it does
 //! where there is none. Nothing here changes a seat.
 ghost use Rattle.std.specs.Prelude.{◌≡◌};
-ghost use Rattle.lfm_protocol.specs.After.{loaded, looks, carrier_of, once_cleared, take, serves, held, how_granted};
+ghost use Rattle.lfm_protocol.specs.After.{loaded, found_posted, carrier_of, once_cleared, take, serves, held, how_granted};
 
 use crate::answers::Answer;
 use crate::points::{Carrier, Entrant, Point, Pusher};
@@ -57,11 +57,11 @@ pub(crate) fn loaded(seat: SeatNo, link: Link) -> Record
 impl Pusher {
     /// The point of a pusher that has found this handoff posted. A sender looks at the push word before it takes it over.
     pub(crate) fn point_at_post(self, found: Handoff) -> Point
-        ensures { result ≡ looks self found }
+        ensures { result ≡ found_posted self found }
     {
         match self {
             Pusher::Locker => Point::PushedHandoffExchange(self, found),
-            Pusher::Sender(t) => Point::SendPushLook(t, found),
+            Pusher::Sender(t) => Point::SendPushRecheck(t, found),
         }
     }
 

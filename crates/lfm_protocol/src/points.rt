@@ -96,7 +96,7 @@ pub enum Point {
     /// `send_lock` 2: add 1 to the count word, for the target.
     SendCountAdd(u64),
     /// `send_lock` 7: load the push word again, to see whether a record stands there. The post is that of step 6.
-    SendPushLook(u64, Handoff),
+    SendPushRecheck(u64, Handoff),
     /// `send_lock` 9 after a count of 0: store GRANT(0) in the target's wake word.
     SendWakeStore(u64),
 
@@ -121,7 +121,7 @@ pub enum Point {
     /// `unlock` 3: store the seat's next post in the handoff word.
     ReleaseHandoffStore(Releaser),
     /// `unlock` 4: load the push word again, to see whether somebody has pushed meanwhile.
-    ReleasePushLook(Releaser),
+    ReleasePushRecheck(Releaser),
     /// `unlock` 5: exchange the handoff word from the seat's own post to 0, which takes it back.
     ReleaseHandoffExchange(Releaser),
     /// `start_wait` 7: store WAITING in the seat's own wake word. The payload says how it released.
@@ -159,7 +159,7 @@ impl Point {
             Point::LockCountSubtract | Point::ReleaseCountSubtract(_) => Some(Kind::CountSubtract),
             Point::LockOwnerLoad | Point::TryOwnerLoad => Some(Kind::OwnerLoad),
             Point::ReleaseOwnerStore(_) | Point::EnterOwnerStore(_, _) => Some(Kind::OwnerStore),
-            Point::PushLoad(_) | Point::SendPushLook(_, _) | Point::ReleasePushLook(_) => Some(
+            Point::PushLoad(_) | Point::SendPushRecheck(_, _) | Point::ReleasePushRecheck(_) => Some(
                 Kind::PushLoad,
             ),
             Point::PushExchange(_, _) => Some(Kind::PushExchange),

@@ -105,7 +105,7 @@ impl PointNumbers {
             Point::TryCountAdd => numbers(9, 0, 0, 0),
             Point::SendWakeExchange(target) => numbers(10, *target, 0, 0),
             Point::SendCountAdd(target) => numbers(11, *target, 0, 0),
-            Point::SendPushLook(target, post) => numbers(12, *target, post.seat, post.post),
+            Point::SendPushRecheck(target, post) => numbers(12, *target, post.seat, post.post),
             Point::SendWakeStore(target) => numbers(13, *target, 0, 0),
             _ => PointNumbers::of_push_or_carry(point),
         }
@@ -144,7 +144,7 @@ impl PointNumbers {
             Point::ReleaseOwnerStore(by) => numbers(23, number_of_releaser(by), 0, 0),
             Point::ReleaseCountSubtract(by) => numbers(24, number_of_releaser(by), 0, 0),
             Point::ReleaseHandoffStore(by) => numbers(25, number_of_releaser(by), 0, 0),
-            Point::ReleasePushLook(by) => numbers(26, number_of_releaser(by), 0, 0),
+            Point::ReleasePushRecheck(by) => numbers(26, number_of_releaser(by), 0, 0),
             Point::ReleaseHandoffExchange(by) => numbers(27, number_of_releaser(by), 0, 0),
             Point::WaitWakeStore(released) => {
                 let (first, second) = numbers_of_release(released);

@@ -4,7 +4,7 @@ ghost use Rattle.std.specs.Prelude.{Option, None};
 ghost use Rattle.lfm_protocol.specs.declared.seats.SeatState.{SeatState};
 ghost use Rattle.lfm_protocol.specs.Seats.{absent};
 ghost use Rattle.lfm_table.specs.declared.seat_view.View.{View};
-ghost use Rattle.lfm_table.specs.Rule.{Held, Advanced, Looked, first_view, with_split, with_joined, joined, no_view, split_view};
+ghost use Rattle.lfm_table.specs.Rule.{Held, Advanced, ReadsOwner, first_view, with_split, with_joined, joined, no_view, split_view};
 
 use crate::kept::Kept;
 use crate::moving_box::MovingBox;
@@ -61,10 +61,10 @@ impl<T: Kept, B: Plain<T>> Play<Option<MovingBox<T>>, View<T>> for Stepped<B> {
 }
 
 /// A look at the owner.
-pub struct OwnerLook;
+pub struct OwnerRead;
 
-impl<T: Kept> Play<Option<MovingBox<T>>, View<T>> for OwnerLook {
-    ghost then = { λ _. Looked };
+impl<T: Kept> Play<Option<MovingBox<T>>, View<T>> for OwnerRead {
+    ghost then = { λ _. ReadsOwner };
 }
 
 /// Cuts a new seat off seat 1.

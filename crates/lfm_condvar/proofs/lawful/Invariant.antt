@@ -5,7 +5,7 @@ use Rattle.lfm_protocol.specs.declared.points.Carrier.{Carrier}
 use Rattle.lfm_protocol.specs.declared.points.Entrant.{Entrant}
 use Rattle.lfm_protocol.specs.declared.points.Point.{Point}
 use Rattle.lfm_protocol.specs.declared.seats.SeatState.{SeatState}
-use Rattle.lfm_protocol.specs.declared.points.Point.TheVariants.{Rest, Asleep, SendWakeExchange, SendCountAdd, SendPushLook, SendWakeStore, PushLoad, LinkStore, PushExchange, PushedHandoffLoad, PushedHandoffExchange, ReleaseOwnerStore, ReleaseCountSubtract, ReleaseHandoffStore, ReleasePushLook, ReleaseHandoffExchange, WaitWakeStore, TakeClearHead, TakeLinkLoad, GrantWakeStore, EnterOwnerStore, ReceiveWakeLoad, ReceiveWakeStore}
+use Rattle.lfm_protocol.specs.declared.points.Point.TheVariants.{Rest, Asleep, SendWakeExchange, SendCountAdd, SendPushRecheck, SendWakeStore, PushLoad, LinkStore, PushExchange, PushedHandoffLoad, PushedHandoffExchange, ReleaseOwnerStore, ReleaseCountSubtract, ReleaseHandoffStore, ReleasePushRecheck, ReleaseHandoffExchange, WaitWakeStore, TakeClearHead, TakeLinkLoad, GrantWakeStore, EnterOwnerStore, ReceiveWakeLoad, ReceiveWakeStore}
 use Rattle.lfm_protocol.specs.declared.points.Pusher.{Pusher}
 use Rattle.lfm_protocol.specs.declared.points.Releaser.{Releaser}
 use Rattle.lfm_protocol.specs.declared.points.Sleeper.{Sleeper}
@@ -44,7 +44,7 @@ carries_for_send _ = false
 abbrev pub sends_at : Point → Bool
 sends_at Rest = true
 sends_at (SendCountAdd t) = true
-sends_at (SendPushLook t seen) = true
+sends_at (SendPushRecheck t seen) = true
 sends_at (SendWakeStore t) = true
 sends_at (PushLoad pusher) = is_sender pusher
 sends_at (LinkStore pusher seen) = is_sender pusher
@@ -66,7 +66,7 @@ abbrev pub waits_at : Point → Bool
 waits_at (ReleaseOwnerStore Releaser.Waiter) = true
 waits_at (ReleaseCountSubtract Releaser.Waiter) = true
 waits_at (ReleaseHandoffStore Releaser.Waiter) = true
-waits_at (ReleasePushLook Releaser.Waiter) = true
+waits_at (ReleasePushRecheck Releaser.Waiter) = true
 waits_at (ReleaseHandoffExchange Releaser.Waiter) = true
 waits_at (WaitWakeStore released) = true
 waits_at (TakeClearHead carrier) = carries_to_wait carrier

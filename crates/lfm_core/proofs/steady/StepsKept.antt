@@ -3,7 +3,7 @@ use Rattle.std.proofs.Common.{◌≡◌, ℕ, refl}
 use Rattle.lfm_model.specs.declared.answers.How.{How}
 use Rattle.lfm_protocol.specs.declared.points.Entrant.{Entrant}
 use Rattle.lfm_protocol.specs.declared.points.Point.{Point}
-use Rattle.lfm_protocol.specs.declared.points.Point.TheVariants.{Rest, Asleep, LockCountAdd, LockOwnerLoad, LockCountSubtract, TryCountExchange, TryOwnerLoad, TryHandoffLoad, TryHandoffExchange, TryCountAdd, SendWakeExchange, SendCountAdd, SendPushLook, SendWakeStore, PushLoad, LinkStore, PushExchange, PushedHandoffLoad, PushedHandoffExchange, ReleaseOwnerStore, ReleaseCountSubtract, ReleaseHandoffStore, ReleasePushLook, ReleaseHandoffExchange, WaitWakeStore, TakeClearHead, TakeLinkLoad, GrantWakeStore, EnterOwnerStore, ReceiveWakeLoad, ReceiveWakeStore}
+use Rattle.lfm_protocol.specs.declared.points.Point.TheVariants.{Rest, Asleep, LockCountAdd, LockOwnerLoad, LockCountSubtract, TryCountExchange, TryOwnerLoad, TryHandoffLoad, TryHandoffExchange, TryCountAdd, SendWakeExchange, SendCountAdd, SendPushRecheck, SendWakeStore, PushLoad, LinkStore, PushExchange, PushedHandoffLoad, PushedHandoffExchange, ReleaseOwnerStore, ReleaseCountSubtract, ReleaseHandoffStore, ReleasePushRecheck, ReleaseHandoffExchange, WaitWakeStore, TakeClearHead, TakeLinkLoad, GrantWakeStore, EnterOwnerStore, ReceiveWakeLoad, ReceiveWakeStore}
 use Rattle.lfm_protocol.specs.Core.{Core}
 use Rattle.lfm_core.specs.steady.Ghost.{Ghost}
 use Rattle.lfm_core.specs.steady.EventOutcome.{Kept}
@@ -16,9 +16,9 @@ use Rattle.lfm_core.proofs.steady.points.GrantSteps.{at_GrantWakeStore}
 use Rattle.lfm_core.proofs.steady.points.HandoffSteps.{at_PushedHandoffExchange, at_TryHandoffExchange, at_ReleaseHandoffExchange}
 use Rattle.lfm_core.proofs.steady.queue.Linking.{at_LinkStore}
 use Rattle.lfm_core.proofs.steady.points.LockSteps.{at_LockOwnerLoad, at_LockCountAdd, at_LockCountSubtract}
-use Rattle.lfm_core.proofs.steady.points.PostSteps.{at_ReleaseHandoffStore, at_ReleasePushLook}
+use Rattle.lfm_core.proofs.steady.points.PostSteps.{at_ReleaseHandoffStore, at_ReleasePushRecheck}
 use Rattle.lfm_core.proofs.steady.points.PushExchanges.{at_PushExchange}
-use Rattle.lfm_core.proofs.steady.points.PushSteps.{at_PushLoad, at_PushedHandoffLoad, at_SendPushLook}
+use Rattle.lfm_core.proofs.steady.points.PushSteps.{at_PushLoad, at_PushedHandoffLoad, at_SendPushRecheck}
 use Rattle.lfm_core.proofs.steady.points.ReceiveSteps.{at_WaitWakeStore, at_ReceiveWakeStore, at_ReceiveWakeLoad}
 use Rattle.lfm_core.proofs.steady.points.ReleaseSteps.{at_ReleaseOwnerStore, at_ReleaseCountSubtract}
 use Rattle.lfm_core.proofs.steady.points.SendSteps.{at_SendWakeExchange, at_SendCountAdd}
@@ -45,7 +45,7 @@ step_at c g s (TryHandoffExchange seen) is at fits = at_TryHandoffExchange c g s
 step_at c g s TryCountAdd is at fits = at_TryCountAdd c g s is at fits
 step_at c g s (SendWakeExchange t) is at fits = at_SendWakeExchange c g s t is at fits
 step_at c g s (SendCountAdd t) is at fits = at_SendCountAdd c g s t is at fits
-step_at c g s (SendPushLook t seen) is at fits = at_SendPushLook c g s t seen is at fits
+step_at c g s (SendPushRecheck t seen) is at fits = at_SendPushRecheck c g s t seen is at fits
 step_at c g s (SendWakeStore t) is at fits = at_SendWakeStore c g s t is at fits
 step_at c g s (PushLoad pusher) is at fits = at_PushLoad c g s pusher is at fits
 step_at c g s (LinkStore pusher seen) is at fits = at_LinkStore c g s pusher seen is at fits
@@ -55,7 +55,7 @@ step_at c g s (PushedHandoffExchange pusher seen) is at fits = at_PushedHandoffE
 step_at c g s (ReleaseOwnerStore releaser) is at fits = at_ReleaseOwnerStore c g s releaser is at fits
 step_at c g s (ReleaseCountSubtract releaser) is at fits = at_ReleaseCountSubtract c g s releaser is at fits
 step_at c g s (ReleaseHandoffStore releaser) is at fits = at_ReleaseHandoffStore c g s releaser is at fits
-step_at c g s (ReleasePushLook releaser) is at fits = at_ReleasePushLook c g s releaser is at fits
+step_at c g s (ReleasePushRecheck releaser) is at fits = at_ReleasePushRecheck c g s releaser is at fits
 step_at c g s (ReleaseHandoffExchange releaser) is at fits = at_ReleaseHandoffExchange c g s releaser is at fits
 step_at c g s (WaitWakeStore released) is at fits = at_WaitWakeStore c g s released is at fits
 step_at c g s (TakeClearHead carrier) is at fits = at_TakeClearHead c g s carrier is at fits

@@ -2,7 +2,7 @@
 use Rattle.std.proofs.Common.{◌≡◌, ℕ, ◌+◌, ◌-◌, ◌^◌, ◌<◌, ◌≤◌, refl, ap, ◌∙◌, inl, inr, arith}
 use Rattle.std.proofs.lemmas.Bool.{cases_eq, ne_eqb, eq-eqb}
 use Rattle.lfm_protocol.specs.declared.points.Point.{Point}
-use Rattle.lfm_protocol.specs.declared.points.Point.TheVariants.{LockCountAdd, LockCountSubtract, TryHandoffLoad, TryHandoffExchange, TryCountAdd, SendWakeExchange, SendCountAdd, SendPushLook, SendWakeStore, PushLoad, LinkStore, PushExchange, PushedHandoffLoad, PushedHandoffExchange, ReleaseCountSubtract, ReleasePushLook, ReleaseHandoffExchange, WaitWakeStore, TakeClearHead, TakeLinkLoad, GrantWakeStore, ReceiveWakeLoad, ReceiveWakeStore}
+use Rattle.lfm_protocol.specs.declared.points.Point.TheVariants.{LockCountAdd, LockCountSubtract, TryHandoffLoad, TryHandoffExchange, TryCountAdd, SendWakeExchange, SendCountAdd, SendPushRecheck, SendWakeStore, PushLoad, LinkStore, PushExchange, PushedHandoffLoad, PushedHandoffExchange, ReleaseCountSubtract, ReleasePushRecheck, ReleaseHandoffExchange, WaitWakeStore, TakeClearHead, TakeLinkLoad, GrantWakeStore, ReceiveWakeLoad, ReceiveWakeStore}
 use Rattle.lfm_words.specs.declared.handoffs.Handoff.{Handoff}
 use Rattle.lfm_protocol.specs.Core.{Core}
 use Rattle.lfm_core.specs.steady.Ghost.{Responsibility, nobody, owned, granted, posted, entering, accepting, leaving, serving, Ghost}
@@ -86,8 +86,8 @@ exact_at c g s (SendCountAdd t) is at fits narrow room = count_room c g fits
 exact_at c g s LockCountSubtract is at fits narrow room = (rw at at room.counts, count_room c g fits)
 exact_at c g s (ReleaseCountSubtract releaser) is at fits narrow room = (rw at at room.counts, count_room c g fits)
 exact_at c g s (PushLoad pusher) is at fits narrow room = push_narrow c g fits
-exact_at c g s (SendPushLook t seen) is at fits narrow room = push_narrow c g fits
-exact_at c g s (ReleasePushLook releaser) is at fits narrow room = push_narrow c g fits
+exact_at c g s (SendPushRecheck t seen) is at fits narrow room = push_narrow c g fits
+exact_at c g s (ReleasePushRecheck releaser) is at fits narrow room = push_narrow c g fits
 exact_at c g s (PushExchange pusher seen) is at fits narrow room = (push_narrow c g fits, rw at (rw at at (narrow s)))
 exact_at c g s (TakeClearHead carrier) is at fits narrow room = (push_narrow c g fits, stamp_narrow c g fits)
 exact_at c g s (TakeLinkLoad carrier next) is at fits narrow room =

@@ -10,7 +10,7 @@ use Rattle.lfm_protocol.specs.declared.limits.Limits.{Limits}
 use Rattle.lfm_protocol.specs.declared.points.Carrier.{Carrier}
 use Rattle.lfm_protocol.specs.declared.points.Entrant.TheVariants as Entrant
 use Rattle.lfm_protocol.specs.declared.points.Point.{Point}
-use Rattle.lfm_protocol.specs.declared.points.Point.TheVariants.{Rest, Asleep, LockCountAdd, LockOwnerLoad, LockCountSubtract, TryCountExchange, TryOwnerLoad, TryHandoffLoad, TryHandoffExchange, TryCountAdd, SendWakeExchange, SendCountAdd, SendPushLook, SendWakeStore, PushLoad, LinkStore, PushExchange, PushedHandoffLoad, PushedHandoffExchange, ReleaseOwnerStore, ReleaseCountSubtract, ReleaseHandoffStore, ReleasePushLook, ReleaseHandoffExchange, WaitWakeStore, TakeClearHead, TakeLinkLoad, GrantWakeStore, EnterOwnerStore, ReceiveWakeLoad, ReceiveWakeStore}
+use Rattle.lfm_protocol.specs.declared.points.Point.TheVariants.{Rest, Asleep, LockCountAdd, LockOwnerLoad, LockCountSubtract, TryCountExchange, TryOwnerLoad, TryHandoffLoad, TryHandoffExchange, TryCountAdd, SendWakeExchange, SendCountAdd, SendPushRecheck, SendWakeStore, PushLoad, LinkStore, PushExchange, PushedHandoffLoad, PushedHandoffExchange, ReleaseOwnerStore, ReleaseCountSubtract, ReleaseHandoffStore, ReleasePushRecheck, ReleaseHandoffExchange, WaitWakeStore, TakeClearHead, TakeLinkLoad, GrantWakeStore, EnterOwnerStore, ReceiveWakeLoad, ReceiveWakeStore}
 use Rattle.lfm_protocol.specs.declared.points.Pusher.{Pusher}
 use Rattle.lfm_protocol.specs.declared.points.Releaser.{Releaser}
 use Rattle.lfm_protocol.specs.declared.points.Releaser.TheVariants.{Unlocker, Waiter}
@@ -24,7 +24,7 @@ use Rattle.lfm_model.specs.declared.refusals.Refusal.TheVariants as Refusal
 use Rattle.lfm_words.specs.declared.pop_lists.Record.{Record}
 use Rattle.lfm_words.specs.declared.wakes.Wake.{Wake}
 use Rattle.lfm_words.specs.declared.wakes.Wake.TheVariants.{Waiting, Grant}
-use Rattle.lfm_protocol.specs.After.{same_link, same_handoff, deepens, busy, loaded, take, serves, once_cleared, looks, pushed, granted, releases, carrier_of, receives, claims}
+use Rattle.lfm_protocol.specs.After.{same_link, same_handoff, deepens, busy, loaded, take, serves, once_cleared, found_posted, pushed, granted, releases, carrier_of, receives, claims}
 use Rattle.lfm_protocol.specs.Begin as Begin
 use Rattle.lfm_protocol.specs.Begin.{Stepped, goes_on, ends}
 use Rattle.lfm_protocol.specs.Seats.{with_entry, IsSeat}
@@ -66,9 +66,9 @@ narrow_cleared Carrier.Locker head = tt
 narrow_cleared (Carrier.Reclaimer releaser) head = tt
 narrow_cleared Carrier.Sender head = tt
 
-narrow_looks : (pusher : Pusher) (n : ℕ) → IsNarrow (looks pusher (handoff_of n))
-narrow_looks Pusher.Locker n = lower_half n
-narrow_looks (Pusher.Sender t) n = lower_half n
+narrow_found_posted : (pusher : Pusher) (n : ℕ) → IsNarrow (found_posted pusher (handoff_of n))
+narrow_found_posted Pusher.Locker n = lower_half n
+narrow_found_posted (Pusher.Sender t) n = lower_half n
 
 narrow_releases : (x : SeatState) (releaser : Releaser) (answer : Unlocked) → IsNarrowStep (releases x releaser answer)
 narrow_releases x Unlocker answer = tt
@@ -118,7 +118,7 @@ step_at x s n oldest TryCountAdd at narrow = rw at tt
 step_at x s n oldest (SendWakeExchange t) at narrow = rw at (narrow_claims x t (wake_of n))
 step_at x s n oldest (SendCountAdd t) at narrow =
     rw at (point_if (nat_eq n 0) (SendWakeStore t) (PushLoad (Pusher.Sender t)) tt tt)
-step_at x s n oldest (SendPushLook t seen) at narrow =
+step_at x s n oldest (SendPushRecheck t seen) at narrow =
     let small = rw at at narrow in
     rw at (step_if (nat_eq (link_of n).next 0) (ends x Sent) (goes_on x (PushedHandoffExchange (Pusher.Sender t) seen)) tt small)
 step_at x s n oldest (SendWakeStore t) at narrow = rw at tt
@@ -127,14 +127,14 @@ step_at x s n oldest (LinkStore pusher seen) at narrow = rw at (rw at at narrow)
 step_at x s n oldest (PushExchange pusher seen) at narrow =
     rw at (point_if (same_link (link_of n) seen) (PushedHandoffLoad pusher) (LinkStore pusher (link_of n)) tt (lower_half n))
 step_at x s n oldest (PushedHandoffLoad pusher) at narrow =
-    rw at (step_if (nat_eq (handoff_of n).seat 0) (pushed x pusher) (goes_on x (looks pusher (handoff_of n))) (narrow_pushed x pusher) (narrow_looks pusher n))
+    rw at (step_if (nat_eq (handoff_of n).seat 0) (pushed x pusher) (goes_on x (found_posted pusher (handoff_of n))) (narrow_pushed x pusher) (narrow_found_posted pusher n))
 step_at x s n oldest (PushedHandoffExchange pusher seen) at narrow =
     rw at (step_if (same_handoff (handoff_of n) seen) (goes_on x (take (carrier_of pusher) s oldest)) (pushed x pusher) (narrow_take (carrier_of pusher) s oldest) (narrow_pushed x pusher))
 step_at x s n oldest (ReleaseOwnerStore releaser) at narrow = rw at tt
 step_at x s n oldest (ReleaseCountSubtract releaser) at narrow =
     rw at (step_if (nat_eq n 1) (releases x releaser Unlocked.Free) (goes_on x (take (Carrier.Releaser releaser) s oldest)) (narrow_releases x releaser Unlocked.Free) (narrow_take (Carrier.Releaser releaser) s oldest))
 step_at x s n oldest (ReleaseHandoffStore releaser) at narrow = rw at tt
-step_at x s n oldest (ReleasePushLook releaser) at narrow =
+step_at x s n oldest (ReleasePushRecheck releaser) at narrow =
     rw at (step_if (nat_eq (link_of n).next 0) (releases x releaser Unlocked.Posted) (goes_on x (ReleaseHandoffExchange releaser)) (narrow_releases x releaser Unlocked.Posted) tt)
 step_at x s n oldest (ReleaseHandoffExchange releaser) at narrow =
     rw at (step_if (same_handoff (handoff_of n) (record { seat = s; post = x.posts })) (goes_on x (take (Carrier.Reclaimer releaser) s oldest)) (releases x releaser Unlocked.TakenOver) (narrow_take (Carrier.Reclaimer releaser) s oldest) (narrow_releases x releaser Unlocked.TakenOver))

@@ -4,7 +4,7 @@ use Rattle.std.proofs.lemmas.Bool.{cases_eq, ne_eqb, eq-eqb, false≢true}
 use Rattle.lfm_protocol.specs.declared.points.Entrant.{Entrant}
 use Rattle.lfm_model.specs.declared.answers.How.{How}
 use Rattle.lfm_protocol.specs.declared.points.Point.{Point}
-use Rattle.lfm_protocol.specs.declared.points.Point.TheVariants.{Rest, Asleep, LockCountAdd, LockOwnerLoad, LockCountSubtract, TryCountExchange, TryOwnerLoad, TryHandoffLoad, TryHandoffExchange, TryCountAdd, SendWakeExchange, SendCountAdd, SendPushLook, SendWakeStore, PushLoad, LinkStore, PushExchange, PushedHandoffLoad, PushedHandoffExchange, ReleaseOwnerStore, ReleaseCountSubtract, ReleaseHandoffStore, ReleasePushLook, ReleaseHandoffExchange, WaitWakeStore, TakeClearHead, TakeLinkLoad, GrantWakeStore, EnterOwnerStore, ReceiveWakeLoad, ReceiveWakeStore}
+use Rattle.lfm_protocol.specs.declared.points.Point.TheVariants.{Rest, Asleep, LockCountAdd, LockOwnerLoad, LockCountSubtract, TryCountExchange, TryOwnerLoad, TryHandoffLoad, TryHandoffExchange, TryCountAdd, SendWakeExchange, SendCountAdd, SendPushRecheck, SendWakeStore, PushLoad, LinkStore, PushExchange, PushedHandoffLoad, PushedHandoffExchange, ReleaseOwnerStore, ReleaseCountSubtract, ReleaseHandoffStore, ReleasePushRecheck, ReleaseHandoffExchange, WaitWakeStore, TakeClearHead, TakeLinkLoad, GrantWakeStore, EnterOwnerStore, ReceiveWakeLoad, ReceiveWakeStore}
 use Rattle.lfm_protocol.specs.declared.points.Pusher.{Pusher}
 use Rattle.lfm_protocol.specs.declared.seats.SeatState.{SeatState}
 use Rattle.lfm_model.specs.Abstract.{AbstractPlace}
@@ -59,7 +59,7 @@ claim_carries depth s (TryHandoffExchange seen) deep = rw deep refl
 claim_carries depth s TryCountAdd deep = rw deep refl
 claim_carries depth s (SendWakeExchange t) deep = held_claim depth s false
 claim_carries depth s (SendCountAdd t) deep = held_claim depth s false
-claim_carries depth s (SendPushLook t seen) deep = rw deep refl
+claim_carries depth s (SendPushRecheck t seen) deep = rw deep refl
 claim_carries depth s (SendWakeStore t) deep = rw deep refl
 claim_carries depth s (PushLoad pusher) deep = pusher_claim depth s pusher deep
 claim_carries depth s (LinkStore pusher seen) deep = pusher_claim depth s pusher deep
@@ -69,7 +69,7 @@ claim_carries depth s (PushedHandoffExchange pusher seen) deep = rw deep refl
 claim_carries depth s (ReleaseOwnerStore releaser) deep = rw deep refl
 claim_carries depth s (ReleaseCountSubtract releaser) deep = rw deep refl
 claim_carries depth s (ReleaseHandoffStore releaser) deep = rw deep refl
-claim_carries depth s (ReleasePushLook releaser) deep = rw deep refl
+claim_carries depth s (ReleasePushRecheck releaser) deep = rw deep refl
 claim_carries depth s (ReleaseHandoffExchange releaser) deep = rw deep refl
 claim_carries depth s (WaitWakeStore released) deep = rw deep refl
 claim_carries depth s (TakeClearHead carrier) deep = rw deep refl

@@ -2,7 +2,7 @@
 use Rattle.std.specs.Prelude.{◌≡◌, ◌≢◌, ◌⊎◌, ⊤, ℕ, ◌+◌, ◌<◌, ◌≤◌, List, length, AllPairs, slice_index_or}
 use Rattle.lfm_model.specs.Abstract.{AbstractMutex, AbstractPlace, owner}
 use Rattle.lfm_protocol.specs.declared.points.Point.{Point}
-use Rattle.lfm_protocol.specs.declared.points.Point.TheVariants.{Asleep, ReceiveWakeLoad, ReceiveWakeStore, SendWakeStore, SendPushLook, PushedHandoffLoad, PushedHandoffExchange, TryHandoffExchange}
+use Rattle.lfm_protocol.specs.declared.points.Point.TheVariants.{Asleep, ReceiveWakeLoad, ReceiveWakeStore, SendWakeStore, SendPushRecheck, PushedHandoffLoad, PushedHandoffExchange, TryHandoffExchange}
 use Rattle.lfm_protocol.specs.declared.points.Pusher.TheVariants as Pusher
 use Rattle.lfm_protocol.specs.declared.points.Sleeper.TheVariants as Sleeper
 use Rattle.lfm_protocol.specs.declared.seats.SeatState.{SeatState}
@@ -30,7 +30,7 @@ abbrev pub WasPosted : List SeatState → Handoff → Type 0
 WasPosted seats seen = seen.post ≤ (seat seats seen.seat).posts
 
 abbrev pub ReadBefore : List SeatState → Point → Type 0
-ReadBefore seats (SendPushLook t seen) = WasPosted seats seen
+ReadBefore seats (SendPushRecheck t seen) = WasPosted seats seen
 ReadBefore seats (PushedHandoffExchange pusher seen) = WasPosted seats seen
 ReadBefore seats (TryHandoffExchange seen) = WasPosted seats seen
 ReadBefore seats _ = ⊤

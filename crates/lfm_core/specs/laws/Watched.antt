@@ -1,7 +1,7 @@
 -- Who will see a posted handoff, or has seen it and not yet tried to take it.
 use Rattle.std.specs.Prelude.{◌≡◌, ℕ, ◌<◌, Any, ⊤}
 use Rattle.lfm_protocol.specs.declared.points.Point.{Point}
-use Rattle.lfm_protocol.specs.declared.points.Point.TheVariants.{LockOwnerLoad, SendPushLook, PushLoad, LinkStore, PushExchange, PushedHandoffLoad, PushedHandoffExchange, ReleasePushLook, ReleaseHandoffExchange}
+use Rattle.lfm_protocol.specs.declared.points.Point.TheVariants.{LockOwnerLoad, SendPushRecheck, PushLoad, LinkStore, PushExchange, PushedHandoffLoad, PushedHandoffExchange, ReleasePushRecheck, ReleaseHandoffExchange}
 use Rattle.lfm_protocol.specs.declared.seats.SeatState.{SeatState}
 use Rattle.lfm_protocol.specs.Core.{Core}
 use Rattle.lfm_protocol.specs.Points.{pushed_seat}
@@ -22,9 +22,9 @@ Watches c s x (PushLoad pusher) = ⊤
 Watches c s x (LinkStore pusher seen) = ⊤
 Watches c s x (PushExchange pusher seen) = ⊤
 Watches c s x (PushedHandoffLoad pusher) = IsQueued c (pushed_seat pusher s)
-Watches c s x (SendPushLook t seen) = (c.handoff ≡ seen) × (0 < c.push.next)
+Watches c s x (SendPushRecheck t seen) = (c.handoff ≡ seen) × (0 < c.push.next)
 Watches c s x (PushedHandoffExchange pusher seen) = c.handoff ≡ seen
-Watches c s x (ReleasePushLook releaser) = (c.handoff ≡ record { seat = s; post = x.posts }) × (0 < c.push.next)
+Watches c s x (ReleasePushRecheck releaser) = (c.handoff ≡ record { seat = s; post = x.posts }) × (0 < c.push.next)
 Watches c s x (ReleaseHandoffExchange releaser) = c.handoff ≡ record { seat = s; post = x.posts }
 Watches c s x _ = ⊥
 

@@ -5,7 +5,7 @@ use Rattle.lfm_model.specs.declared.answers.How.{How}
 use Rattle.lfm_protocol.specs.declared.points.Carrier.{Carrier}
 use Rattle.lfm_protocol.specs.declared.points.Entrant.{Entrant}
 use Rattle.lfm_protocol.specs.declared.points.Point.{Point}
-use Rattle.lfm_protocol.specs.declared.points.Point.TheVariants.{Rest, Asleep, LockCountAdd, LockOwnerLoad, LockCountSubtract, TryCountExchange, TryOwnerLoad, TryHandoffExchange, SendWakeExchange, SendCountAdd, SendPushLook, SendWakeStore, PushLoad, LinkStore, PushExchange, PushedHandoffLoad, PushedHandoffExchange, ReleaseOwnerStore, ReleaseHandoffStore, ReleasePushLook, ReleaseHandoffExchange, TakeClearHead, TakeLinkLoad, GrantWakeStore, EnterOwnerStore, ReceiveWakeLoad}
+use Rattle.lfm_protocol.specs.declared.points.Point.TheVariants.{Rest, Asleep, LockCountAdd, LockOwnerLoad, LockCountSubtract, TryCountExchange, TryOwnerLoad, TryHandoffExchange, SendWakeExchange, SendCountAdd, SendPushRecheck, SendWakeStore, PushLoad, LinkStore, PushExchange, PushedHandoffLoad, PushedHandoffExchange, ReleaseOwnerStore, ReleaseHandoffStore, ReleasePushRecheck, ReleaseHandoffExchange, TakeClearHead, TakeLinkLoad, GrantWakeStore, EnterOwnerStore, ReceiveWakeLoad}
 use Rattle.lfm_protocol.specs.declared.points.Pusher.{Pusher}
 use Rattle.lfm_protocol.specs.declared.points.Sleeper.TheVariants as Sleeper
 use Rattle.lfm_protocol.specs.declared.seats.SeatState.{SeatState}
@@ -88,7 +88,7 @@ KnowsAt c g s posts (PushedHandoffExchange pusher seen) = IsOld c.seats seen × 
 KnowsAt c g s posts (TryHandoffExchange seen) = IsOld c.seats seen
 KnowsAt c g s posts (SendWakeExchange t) = IsSeat c.seats t
 KnowsAt c g s posts (SendCountAdd t) = (t ≢ s) × (g.standing t ≡ claimed s)
-KnowsAt c g s posts (SendPushLook t seen) = IsOld c.seats seen
+KnowsAt c g s posts (SendPushRecheck t seen) = IsOld c.seats seen
 KnowsAt c g s posts (SendWakeStore t) = t ≢ s
 KnowsAt c g s posts (ReleaseHandoffStore releaser) = HasWalked g × (c.popped ≡ [])
 KnowsAt c g s posts (ReleaseHandoffExchange releaser) = HeadStays c g (record { seat = s; post = posts })
@@ -181,9 +181,9 @@ WatchesAt c g s x (PushLoad pusher) = ⊤
 WatchesAt c g s x (LinkStore pusher seen) = ⊤
 WatchesAt c g s x (PushExchange pusher seen) = ⊤
 WatchesAt c g s x (PushedHandoffLoad pusher) = WatchesAsPusher g pusher
-WatchesAt c g s x (SendPushLook t seen) = (c.handoff ≡ seen) × (is_queued (g.standing t) ≡ true)
+WatchesAt c g s x (SendPushRecheck t seen) = (c.handoff ≡ seen) × (is_queued (g.standing t) ≡ true)
 WatchesAt c g s x (PushedHandoffExchange pusher seen) = c.handoff ≡ seen
-WatchesAt c g s x (ReleasePushLook releaser) = (c.handoff ≡ record { seat = s; post = x.posts }) × HasQueue g
+WatchesAt c g s x (ReleasePushRecheck releaser) = (c.handoff ≡ record { seat = s; post = x.posts }) × HasQueue g
 WatchesAt c g s x (ReleaseHandoffExchange releaser) = c.handoff ≡ record { seat = s; post = x.posts }
 WatchesAt c g s x _ = ⊥
 

@@ -5,7 +5,7 @@ use Rattle.lfm_model.specs.declared.answers.How.{How}
 use Rattle.lfm_protocol.specs.declared.points.Carrier.{Carrier}
 use Rattle.lfm_protocol.specs.declared.points.Entrant.{Entrant}
 use Rattle.lfm_protocol.specs.declared.points.Point.{Point}
-use Rattle.lfm_protocol.specs.declared.points.Point.TheVariants.{Rest, Asleep, LockCountAdd, LockOwnerLoad, LockCountSubtract, TryCountExchange, TryOwnerLoad, TryHandoffLoad, TryHandoffExchange, TryCountAdd, SendWakeExchange, SendCountAdd, SendPushLook, SendWakeStore, PushLoad, LinkStore, PushExchange, PushedHandoffLoad, PushedHandoffExchange, ReleaseOwnerStore, ReleaseCountSubtract, ReleaseHandoffStore, ReleasePushLook, ReleaseHandoffExchange, WaitWakeStore, TakeClearHead, TakeLinkLoad, GrantWakeStore, EnterOwnerStore, ReceiveWakeLoad, ReceiveWakeStore}
+use Rattle.lfm_protocol.specs.declared.points.Point.TheVariants.{Rest, Asleep, LockCountAdd, LockOwnerLoad, LockCountSubtract, TryCountExchange, TryOwnerLoad, TryHandoffLoad, TryHandoffExchange, TryCountAdd, SendWakeExchange, SendCountAdd, SendPushRecheck, SendWakeStore, PushLoad, LinkStore, PushExchange, PushedHandoffLoad, PushedHandoffExchange, ReleaseOwnerStore, ReleaseCountSubtract, ReleaseHandoffStore, ReleasePushRecheck, ReleaseHandoffExchange, WaitWakeStore, TakeClearHead, TakeLinkLoad, GrantWakeStore, EnterOwnerStore, ReceiveWakeLoad, ReceiveWakeStore}
 use Rattle.lfm_protocol.specs.declared.points.Pusher.{Pusher}
 use Rattle.lfm_protocol.specs.declared.points.Releaser.{Releaser}
 use Rattle.lfm_protocol.specs.declared.points.Releaser.TheVariants.{Unlocker, Waiter}
@@ -53,7 +53,7 @@ claim_at depth s (TryHandoffExchange seen) = nobody
 claim_at depth s TryCountAdd = accepting s
 claim_at depth s (SendWakeExchange t) = by_depth depth s false
 claim_at depth s (SendCountAdd t) = by_depth depth s false
-claim_at depth s (SendPushLook t seen) = nobody
+claim_at depth s (SendPushRecheck t seen) = nobody
 claim_at depth s (SendWakeStore t) = entering s t 0
 claim_at depth s (PushLoad pusher) = claim_of_pusher depth s pusher
 claim_at depth s (LinkStore pusher seen) = claim_of_pusher depth s pusher
@@ -63,7 +63,7 @@ claim_at depth s (PushedHandoffExchange pusher seen) = nobody
 claim_at depth s (ReleaseOwnerStore releaser) = owned s false
 claim_at depth s (ReleaseCountSubtract releaser) = leaving s
 claim_at depth s (ReleaseHandoffStore releaser) = serving s
-claim_at depth s (ReleasePushLook releaser) = nobody
+claim_at depth s (ReleasePushRecheck releaser) = nobody
 claim_at depth s (ReleaseHandoffExchange releaser) = nobody
 claim_at depth s (WaitWakeStore released) = nobody
 claim_at depth s (TakeClearHead carrier) = serving s
@@ -169,7 +169,7 @@ abbrev pub due_posts_at : ℕ → Point → ℕ
 due_posts_at depth Rest = due_by_depth depth
 due_posts_at depth (SendWakeExchange t) = due_by_depth depth
 due_posts_at depth (SendCountAdd t) = due_by_depth depth
-due_posts_at depth (SendPushLook t seen) = 0
+due_posts_at depth (SendPushRecheck t seen) = 0
 due_posts_at depth (SendWakeStore t) = 0
 due_posts_at depth (PushLoad pusher) = due_posts_of_pusher depth pusher
 due_posts_at depth (LinkStore pusher seen) = due_posts_of_pusher depth pusher
@@ -179,7 +179,7 @@ due_posts_at depth (PushedHandoffExchange pusher seen) = due_posts_of_pusher 0 p
 due_posts_at depth (ReleaseOwnerStore releaser) = 1 + waits_on releaser
 due_posts_at depth (ReleaseCountSubtract releaser) = 1 + waits_on releaser
 due_posts_at depth (ReleaseHandoffStore releaser) = 1 + waits_on releaser
-due_posts_at depth (ReleasePushLook releaser) = waits_on releaser
+due_posts_at depth (ReleasePushRecheck releaser) = waits_on releaser
 due_posts_at depth (ReleaseHandoffExchange releaser) = waits_on releaser
 due_posts_at depth (TakeClearHead carrier) = due_posts_of_carrier carrier
 due_posts_at depth (TakeLinkLoad carrier next) = due_posts_of_carrier carrier
@@ -222,7 +222,7 @@ due_pushes_at depth wake standing (PushExchange pusher seen) = due_pushes_of_pus
 due_pushes_at depth wake standing (ReleaseOwnerStore releaser) = waits_on releaser
 due_pushes_at depth wake standing (ReleaseCountSubtract releaser) = waits_on releaser
 due_pushes_at depth wake standing (ReleaseHandoffStore releaser) = waits_on releaser
-due_pushes_at depth wake standing (ReleasePushLook releaser) = waits_on releaser
+due_pushes_at depth wake standing (ReleasePushRecheck releaser) = waits_on releaser
 due_pushes_at depth wake standing (ReleaseHandoffExchange releaser) = waits_on releaser
 due_pushes_at depth wake standing (WaitWakeStore released) = 1
 due_pushes_at depth wake standing (TakeClearHead carrier) = due_pushes_of_carrier carrier

@@ -5,7 +5,7 @@ use prog.Atomic.{either}
 use Rattle.lfm_protocol.specs.declared.kinds.Kind.{Kind}
 use Rattle.lfm_protocol.specs.declared.kinds.Word.{Word}
 use Rattle.lfm_protocol.specs.declared.points.Point.{Point}
-use Rattle.lfm_protocol.specs.declared.points.Point.TheVariants.{TryHandoffExchange, SendPushLook, LinkStore, PushExchange, PushedHandoffExchange}
+use Rattle.lfm_protocol.specs.declared.points.Point.TheVariants.{TryHandoffExchange, SendPushRecheck, LinkStore, PushExchange, PushedHandoffExchange}
 use Rattle.lfm_protocol.specs.declared.seats.SeatState.{SeatState}
 use Rattle.lfm_words.specs.declared.handoffs.Handoff.{Handoff}
 use Rattle.lfm_words.specs.declared.links.Link.{Link}
@@ -127,7 +127,7 @@ popped_by_step x s n popped = popped_of x (target x.point s) n popped (kind x.po
 abbrev pub IsNarrow : Point → Type 0
 IsNarrow (LinkStore pusher seen) = seen.next < 65536
 IsNarrow (PushExchange pusher seen) = seen.next < 65536
-IsNarrow (SendPushLook t seen) = seen.seat < 65536
+IsNarrow (SendPushRecheck t seen) = seen.seat < 65536
 IsNarrow (PushedHandoffExchange pusher seen) = seen.seat < 65536
 IsNarrow (TryHandoffExchange seen) = seen.seat < 65536
 IsNarrow _ = ⊤

@@ -35,7 +35,7 @@ use Rattle.lfm_table.specs.declared.seat_view.Joined.{Joined}
 use Rattle.lfm_table.specs.declared.seat_view.View.{View}
 use Rattle.lfm_table.specs.declared.rule.Moving.{Moving}
 use Rattle.lfm_table.specs.Reach.{Reached}
-use Rattle.lfm_table.specs.Rule.{sum_over, retired, retired_at, split_view, with_split, with_joined, joined, joined_of, first_view, LeadsToValue, Awaits, NoneEnded, LeftIn, AreNumbered, Roots, Sits, AtHome, WithSeat, Held, SameRoot, Looked, seen}
+use Rattle.lfm_table.specs.Rule.{sum_over, retired, retired_at, split_view, with_split, with_joined, joined, joined_of, first_view, LeadsToValue, Awaits, NoneEnded, LeftIn, AreNumbered, Roots, Sits, AtHome, WithSeat, Held, SameRoot, ReadsOwner, seen}
 use Rattle.lfm_table.specs.Seats.{Seated}
 use Rattle.lfm_table.specs.Settled.{Became}
 use Rattle.lfm_table.proofs.tables.CoreFacts.{owner_told}
@@ -272,8 +272,8 @@ module _ {T : Type 0} (follows : ℕ → T → T → Type 0) (suits : T → ℕ 
             (λ (w : (j ≢ 0) × (get_elem? s.views j ≡ some z)). h.others j z w.1 is) (at_set s.views 0 j b z u.1)) (at_set vs other j (joined w) z e);
       }
 
-  pub looks : (slots id : ℕ) (me : Me (Option (Moving T)) (View T)) → me.0.role ≡ User → Allows (Held follows suits) slots id me 1 (λ n. n) (Looked me)
-  looks slots id me user s h sized at small = let n = get_or s.words 1 0 in let w : View T = record me.0 { trail = me.0.trail ++ seen TryOwnerLoad n ∷ [] } in
+  pub reads_owner : (slots id : ℕ) (me : Me (Option (Moving T)) (View T)) → me.0.role ≡ User → Allows (Held follows suits) slots id me 1 (λ n. n) (ReadsOwner me)
+  reads_owner slots id me user s h sized at small = let n = get_or s.words 1 0 in let w : View T = record me.0 { trail = me.0.trail ++ seen TryOwnerLoad n ∷ [] } in
       let q = quiet follows suits h.core h.ghost_state h.holds_ended s.homes s.views (parts s h) id me.0 w at refl refl refl refl refl refl refl refl refl refl refl in
       let sits = h.each id me.0 at in
       let l = length_at s.views id me.0 at in

@@ -10,12 +10,12 @@ use Rattle.lfm_protocol.specs.declared.answers.Answer.{Answer}
 use Rattle.lfm_protocol.specs.declared.kinds.Kind.{Kind}
 use Rattle.lfm_protocol.specs.declared.points.Carrier.{Carrier}
 use Rattle.lfm_protocol.specs.declared.points.Point.{Point}
-use Rattle.lfm_protocol.specs.declared.points.Point.TheVariants.{LockCountAdd, LockOwnerLoad, SendWakeExchange, SendCountAdd, SendPushLook, PushLoad, LinkStore, PushExchange, PushedHandoffLoad, PushedHandoffExchange, ReleaseOwnerStore, ReleaseCountSubtract, ReleaseHandoffStore, ReleasePushLook, ReleaseHandoffExchange, TakeClearHead, TakeLinkLoad, GrantWakeStore}
+use Rattle.lfm_protocol.specs.declared.points.Point.TheVariants.{LockCountAdd, LockOwnerLoad, SendWakeExchange, SendCountAdd, SendPushRecheck, PushLoad, LinkStore, PushExchange, PushedHandoffLoad, PushedHandoffExchange, ReleaseOwnerStore, ReleaseCountSubtract, ReleaseHandoffStore, ReleasePushRecheck, ReleaseHandoffExchange, TakeClearHead, TakeLinkLoad, GrantWakeStore}
 use Rattle.lfm_protocol.specs.declared.points.Pusher.{Pusher}
 use Rattle.lfm_protocol.specs.declared.points.Releaser.{Releaser}
 use Rattle.lfm_protocol.specs.declared.points.Releaser.TheVariants.{Unlocker, Waiter}
 use Rattle.lfm_protocol.specs.declared.seats.SeatState.{SeatState}
-use Rattle.lfm_protocol.specs.After.{same_link, same_handoff, pushed, claims, take, serves, looks, loaded}
+use Rattle.lfm_protocol.specs.After.{same_link, same_handoff, pushed, claims, take, serves, found_posted, loaded}
 use Rattle.lfm_protocol.specs.Begin.{Stepped, goes_on, ends}
 use Rattle.lfm_protocol.specs.Points.{kind}
 use Rattle.lfm_protocol.specs.Room.{PopFits}
@@ -68,9 +68,9 @@ below_pushed : (n k : ℕ) (x : SeatState) (pusher : Pusher) → Below n k 1 (pu
 below_pushed n k x Pusher.Locker = omega arith
 below_pushed n k x (Pusher.Sender t) = omega arith
 
-due_looks : (n k : ℕ) (pusher : Pusher) (d t : ℕ) → due n k (looks pusher (record { seat = d; post = t })) < n + 4
-due_looks n k Pusher.Locker d t = omega arith
-due_looks n k (Pusher.Sender u) d t = omega arith
+due_found_posted : (n k : ℕ) (pusher : Pusher) (d t : ℕ) → due n k (found_posted pusher (record { seat = d; post = t })) < n + 4
+due_found_posted n k Pusher.Locker d t = omega arith
+due_found_posted n k (Pusher.Sender u) d t = omega arith
 
 due_serves : (n k s : ℕ) (r : Record) → due n k (serves Carrier.Locker s r) < 2
 due_serves n k s r = due_if n k 2 (nat_eq r.seat s) _ _ (omega arith) (omega arith)
@@ -94,12 +94,12 @@ due_at d t ps s m o n k k' LockCountAdd some room within grows less = due_if n k
 due_at d t ps s m o n k k' LockOwnerLoad some room within grows less = due_if n k' _ (nat_eq m s) _ _ (omega arith) (omega arith)
 due_at d t ps s m o n k k' (SendWakeExchange u) some room within grows less = let h = below_claims n k' (made_of d t ps (SendWakeExchange u)) u (wake_of m) in omega (arith, h)
 due_at d t ps s m o n k k' (SendCountAdd u) some room within grows less = due_if n k' _ (nat_eq m 0) _ _ (omega arith) (omega arith)
-due_at d t ps s m o n k k' (SendPushLook u old) some room within grows less = let h = below_if n k' (n + 3) (nat_eq (link_of m).next 0) (ends (made_of d t ps (SendPushLook u old)) Answer.Sent) (goes_on (made_of d t ps (SendPushLook u old)) (PushedHandoffExchange (Pusher.Sender u) old)) (omega arith) (omega arith) in omega (arith, h)
+due_at d t ps s m o n k k' (SendPushRecheck u old) some room within grows less = let h = below_if n k' (n + 3) (nat_eq (link_of m).next 0) (ends (made_of d t ps (SendPushRecheck u old)) Answer.Sent) (goes_on (made_of d t ps (SendPushRecheck u old)) (PushedHandoffExchange (Pusher.Sender u) old)) (omega arith) (omega arith) in omega (arith, h)
 due_at d t ps s m o n k k' (PushLoad pusher) some room within grows less = omega arith
 due_at d t ps s m o n k k' (LinkStore pusher old) some room within grows less = omega arith
 due_at d t ps s m o n k k' (PushExchange pusher old) some room within grows less = due_exchanged n k' (same_link (link_of m) old) pusher (link_of m)
 due_at d t ps s m o n k k' (PushedHandoffLoad pusher) some room within grows less =
-    let h = below_if n k' (n + 4) (nat_eq (handoff_of m).seat 0) (pushed (made_of d t ps (PushedHandoffLoad pusher)) pusher) (goes_on (made_of d t ps (PushedHandoffLoad pusher)) (looks pusher (handoff_of m))) (let h = below_pushed n k' (made_of d t ps (PushedHandoffLoad pusher)) pusher in omega (arith, h)) (due_looks n k' pusher (m % 65536) (m / 65536)) in
+    let h = below_if n k' (n + 4) (nat_eq (handoff_of m).seat 0) (pushed (made_of d t ps (PushedHandoffLoad pusher)) pusher) (goes_on (made_of d t ps (PushedHandoffLoad pusher)) (found_posted pusher (handoff_of m))) (let h = below_pushed n k' (made_of d t ps (PushedHandoffLoad pusher)) pusher in omega (arith, h)) (due_found_posted n k' pusher (m % 65536) (m / 65536)) in
     omega (arith, h)
 due_at d t ps s m o n k k' (PushedHandoffExchange Pusher.Locker old) some room within grows less =
     let h = below_if n k' (n + 3) (same_handoff (handoff_of m) old) (goes_on (made_of d t ps (PushedHandoffExchange Pusher.Locker old)) (take Carrier.Locker s o)) (pushed (made_of d t ps (PushedHandoffExchange Pusher.Locker old)) Pusher.Locker) (due_take n k' s o) (omega arith) in omega (arith, h)
@@ -142,7 +142,7 @@ due-most n k (PushedHandoffExchange (Pusher.Sender t) old) = omega arith
 due-most n k (ReleaseOwnerStore r) = omega (arith, waits_most r)
 due-most n k (ReleaseCountSubtract r) = omega (arith, waits_most r)
 due-most n k (ReleaseHandoffStore r) = omega (arith, waits_most r)
-due-most n k (ReleasePushLook r) = omega (arith, waits_most r)
+due-most n k (ReleasePushRecheck r) = omega (arith, waits_most r)
 due-most n k (ReleaseHandoffExchange r) = omega (arith, waits_most r)
 due-most n k (TakeClearHead Carrier.Locker) = omega arith
 due-most n k (TakeClearHead (Carrier.Releaser r)) = omega (arith, waits_most r)

@@ -7,13 +7,13 @@ use Rattle.lfm_words.specs.declared.wakes.Wake.{Wake}
 use Rattle.lfm_words.specs.declared.wakes.Wake.TheVariants.{Waiting, Grant}
 use Rattle.lfm_protocol.specs.declared.points.Carrier.{Carrier}
 use Rattle.lfm_protocol.specs.declared.points.Point.{Point}
-use Rattle.lfm_protocol.specs.declared.points.Point.TheVariants.{LockCountAdd, LockOwnerLoad, TryCountExchange, TryOwnerLoad, TryHandoffLoad, TryHandoffExchange, SendWakeExchange, SendCountAdd, SendPushLook, PushExchange, PushedHandoffLoad, PushedHandoffExchange, ReleaseOwnerStore, ReleaseCountSubtract, ReleasePushLook, ReleaseHandoffExchange, TakeClearHead, TakeLinkLoad, GrantWakeStore, ReceiveWakeLoad}
+use Rattle.lfm_protocol.specs.declared.points.Point.TheVariants.{LockCountAdd, LockOwnerLoad, TryCountExchange, TryOwnerLoad, TryHandoffLoad, TryHandoffExchange, SendWakeExchange, SendCountAdd, SendPushRecheck, PushExchange, PushedHandoffLoad, PushedHandoffExchange, ReleaseOwnerStore, ReleaseCountSubtract, ReleasePushRecheck, ReleaseHandoffExchange, TakeClearHead, TakeLinkLoad, GrantWakeStore, ReceiveWakeLoad}
 use Rattle.lfm_protocol.specs.declared.points.Pusher.{Pusher}
 use Rattle.lfm_protocol.specs.declared.points.Releaser.{Releaser}
 use Rattle.lfm_protocol.specs.declared.points.Releaser.TheVariants.{Unlocker, Waiter}
 use Rattle.lfm_protocol.specs.declared.points.Sleeper.{Sleeper}
 use Rattle.lfm_protocol.specs.declared.seats.SeatState.{SeatState}
-use Rattle.lfm_protocol.specs.After.{same_link, same_handoff, releases, pushed, granted, receives, claims, carrier_of, take, serves, once_cleared, busy, looks, loaded}
+use Rattle.lfm_protocol.specs.After.{same_link, same_handoff, releases, pushed, granted, receives, claims, carrier_of, take, serves, once_cleared, busy, found_posted, loaded}
 use Rattle.lfm_protocol.specs.Begin.{Stepped, goes_on}
 use Rattle.lfm_core.specs.table.Words.{stepped_by, handoff_of, wake_of, link_of}
 use Rattle.lfm_mutex.specs.calls.Runs.{end_of, trail_of}
@@ -76,9 +76,9 @@ first_granted x (Carrier.Releaser r) oldest = first_releases x r (Unlocked.Grant
 first_granted x (Carrier.Reclaimer r) oldest = first_releases x r (Unlocked.Granted oldest.seat)
 first_granted x Carrier.Sender oldest = refl
 
-first_looks : (pusher : Pusher) (d t : ℕ) → is_first (looks pusher (record { seat = d; post = t })) ≡ false
-first_looks Pusher.Locker d t = refl
-first_looks (Pusher.Sender u) d t = refl
+first_found_posted : (pusher : Pusher) (d t : ℕ) → is_first (found_posted pusher (record { seat = d; post = t })) ≡ false
+first_found_posted Pusher.Locker d t = refl
+first_found_posted (Pusher.Sender u) d t = refl
 
 first_receives : (x : SeatState) (sleeper : Sleeper) (w : Wake) → is_first (receives x sleeper w).seat.point ≡ false
 first_receives x sleeper (Grant stamp) = refl
@@ -97,16 +97,16 @@ first_at d t ps s n o TryHandoffLoad = first_step_if (nat_eq (handoff_of n).seat
 first_at d t ps s n o (TryHandoffExchange old) = first_step_if (same_handoff (handoff_of n) old) _ (busy (made_of d t ps (TryHandoffExchange old))) refl refl
 first_at d t ps s n o (SendWakeExchange u) = first_claims (made_of d t ps (SendWakeExchange u)) u (wake_of n)
 first_at d t ps s n o (SendCountAdd u) = first_if (nat_eq n 0) _ _ refl refl
-first_at d t ps s n o (SendPushLook u old) = first_step_if (nat_eq (link_of n).next 0) _ (goes_on (made_of d t ps (SendPushLook u old)) (PushedHandoffExchange (Pusher.Sender u) old)) refl refl
+first_at d t ps s n o (SendPushRecheck u old) = first_step_if (nat_eq (link_of n).next 0) _ (goes_on (made_of d t ps (SendPushRecheck u old)) (PushedHandoffExchange (Pusher.Sender u) old)) refl refl
 first_at d t ps s n o (PushExchange pusher old) = first_if (same_link (link_of n) old) _ _ refl refl
 first_at d t ps s n o (PushedHandoffLoad pusher) =
-    first_step_if (nat_eq (handoff_of n).seat 0) (pushed (made_of d t ps (PushedHandoffLoad pusher)) pusher) _ (first_pushed (made_of d t ps (PushedHandoffLoad pusher)) pusher) (first_looks pusher (n % 65536) (n / 65536))
+    first_step_if (nat_eq (handoff_of n).seat 0) (pushed (made_of d t ps (PushedHandoffLoad pusher)) pusher) _ (first_pushed (made_of d t ps (PushedHandoffLoad pusher)) pusher) (first_found_posted pusher (n % 65536) (n / 65536))
 first_at d t ps s n o (PushedHandoffExchange pusher old) =
     first_step_if (same_handoff (handoff_of n) old) (goes_on (made_of d t ps (PushedHandoffExchange pusher old)) (take (carrier_of pusher) s o)) _ (first_take (carrier_of pusher) s o) (first_pushed (made_of d t ps (PushedHandoffExchange pusher old)) pusher)
 first_at d t ps s n o (ReleaseCountSubtract r) =
     first_step_if (nat_eq n 1) _ (goes_on (made_of d t ps (ReleaseCountSubtract r)) (take (Carrier.Releaser r) s o)) (first_releases (made_of d t ps (ReleaseCountSubtract r)) r Unlocked.Free) (first_take (Carrier.Releaser r) s o)
-first_at d t ps s n o (ReleasePushLook r) =
-    first_step_if (nat_eq (link_of n).next 0) _ (goes_on (made_of d t ps (ReleasePushLook r)) (ReleaseHandoffExchange r)) (first_releases (made_of d t ps (ReleasePushLook r)) r Unlocked.Posted) refl
+first_at d t ps s n o (ReleasePushRecheck r) =
+    first_step_if (nat_eq (link_of n).next 0) _ (goes_on (made_of d t ps (ReleasePushRecheck r)) (ReleaseHandoffExchange r)) (first_releases (made_of d t ps (ReleasePushRecheck r)) r Unlocked.Posted) refl
 first_at d t ps s n o (ReleaseHandoffExchange r) =
     first_step_if (same_handoff (handoff_of n) (record { seat = s; post = ps })) (goes_on (made_of d t ps (ReleaseHandoffExchange r)) (take (Carrier.Reclaimer r) s o)) _
     (first_take (Carrier.Reclaimer r) s o) (first_releases (made_of d t ps (ReleaseHandoffExchange r)) r Unlocked.TakenOver)

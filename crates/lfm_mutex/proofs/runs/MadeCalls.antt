@@ -14,7 +14,7 @@ use Rattle.lfm_table.specs.declared.seat_view.Seen.{Seen}
 use Rattle.lfm_table.specs.declared.seat_view.View.{View}
 use Rattle.lfm_mutex.specs.calls.Runs.{Errand, errand_of, Called, CalledBy}
 use Rattle.lfm_mutex.specs.calls.Sight.{Sight, sight_of, Receives}
-use Rattle.lfm_mutex.specs.calls.Trails.{Shows, CallEnds, Makes, Made, Looks}
+use Rattle.lfm_mutex.specs.calls.Trails.{Shows, CallEnds, Makes, Made, FindNone}
 
 shows : {T : Type 0} (n : ℕ) (p : SeatState) (v : View T) (a : Option T) → Shows p (sight_of n p v a)
 shows n p v a = record { depth = refl; takes = refl; asleep = refl; in_call = refl }
@@ -36,9 +36,9 @@ makes l call n n' p p' v v' a a' turn same called =
     (p, p', shows n p v a, shows n' p' v' a', leads (begin p l call).turn n (errand_of call) (begin p l call).seat p' v v' turn called)
 
 -- one more look
-pub looks_more : {T : Type 0} (l : Limits) (s : Sight T) (ms : List (Sight T)) (m t : Sight T) → Looks l s ms m → Makes l Call.Receive m t (Ended (Answer.Got None)) → Looks l s (ms ++ t ∷ []) t
-looks_more l s [] m t first last = (subst (λ (z : Sight _). Makes l Call.Receive z t (Ended (Answer.Got None))) first last, refl)
-looks_more l s (x ∷ ms) m t first last = (first.0, looks_more l x ms m t first.1 last)
+pub finds_none_more : {T : Type 0} (l : Limits) (s : Sight T) (ms : List (Sight T)) (m t : Sight T) → FindNone l s ms m → Makes l Call.Receive m t (Ended (Answer.Got None)) → FindNone l s (ms ++ t ∷ []) t
+finds_none_more l s [] m t first last = (subst (λ (z : Sight _). Makes l Call.Receive z t (Ended (Answer.Got None))) first last, refl)
+finds_none_more l s (x ∷ ms) m t first last = (first.0, finds_none_more l x ms m t first.1 last)
 
 -- a receive that is refused has changed nothing
 pub refused_receive : {T : Type 0} (follows : ℕ → T → T → Type 0) (fits : T → ℕ → Type 0) (m t : Sight T) (r : Refusal) → Receives follows fits m t (Err r) → (m.asleep ≡ false ⊎ (m.in_call ≡ true)) × (t ≡ m)
@@ -46,7 +46,7 @@ refused_receive follows fits m t Refusal.NotWaiting told = told
 refused_receive follows fits m t _ told = absurd told
 
 -- a seat that looked before sleeps, so a look that is refused is the first
-pub first_look : {T : Type 0} (s m : Sight T) (trail : List Seen) → ((m ≡ s) ⊎ ((s.asleep ≡ true) × (s.in_call ≡ false))) → m ≡ record s { trail = trail } → (m.asleep ≡ false ⊎ (m.in_call ≡ true)) → m ≡ s
-first_look s m trail (inl same) seen refused = same
-first_look s m trail (inr sleeps) seen (inl awake) = absurd (false≢true (sym awake ∙ ((λ i. (seen i).asleep) ∙ sleeps.0)))
-first_look s m trail (inr sleeps) seen (inr called) = absurd (false≢true (sym sleeps.1 ∙ (sym (λ i. (seen i).in_call) ∙ called)))
+pub first_receive : {T : Type 0} (s m : Sight T) (trail : List Seen) → ((m ≡ s) ⊎ ((s.asleep ≡ true) × (s.in_call ≡ false))) → m ≡ record s { trail = trail } → (m.asleep ≡ false ⊎ (m.in_call ≡ true)) → m ≡ s
+first_receive s m trail (inl same) seen refused = same
+first_receive s m trail (inr sleeps) seen (inl awake) = absurd (false≢true (sym awake ∙ ((λ i. (seen i).asleep) ∙ sleeps.0)))
+first_receive s m trail (inr sleeps) seen (inr called) = absurd (false≢true (sym sleeps.1 ∙ (sym (λ i. (seen i).in_call) ∙ called)))

@@ -40,16 +40,16 @@ pub slept : (d t ps s n : ℕ) (o : Option Record) → n % 65536 ≡ 0
 slept d t ps s n o none = let h = eq-eqb (n % 65536) 0 none in rw h refl
 
 -- one is posted, so the seat tries to take it
-pub looked : (d t ps s n : ℕ) (o : Option Record) → n % 65536 ≢ 0
+pub found_one : (d t ps s n : ℕ) (o : Option Record) → n % 65536 ≢ 0
     → stepped_by (made_of d t ps (PushedHandoffLoad Pusher.Locker)) s n o ≡ opens (stepped_by (made_of d t ps (PushedHandoffLoad Pusher.Locker)) s n None).seat
-looked d t ps s n o some = let h = ne_eqb (n % 65536) 0 some in rw h refl
+found_one d t ps s n o some = let h = ne_eqb (n % 65536) 0 some in rw h refl
 
 pub posted_for : (d t ps s n : ℕ) → n % 65536 ≢ 0 → (stepped_by (made_of d t ps (PushedHandoffLoad Pusher.Locker)) s n None).seat ≡ made_of d t ps (PushedHandoffExchange Pusher.Locker (handoff_of n))
 posted_for d t ps s n some = let h = ne_eqb (n % 65536) 0 some in rw h refl
 
-look_idles_if : (b : Bool) (u v : Stepped) → carries_value u.seat ≡ false → carries_value v.seat ≡ false → carries_value (if b then u else v).seat ≡ false
-look_idles_if true u v first second = first
-look_idles_if false u v first second = second
+handoff_load_idles_if : (b : Bool) (u v : Stepped) → carries_value u.seat ≡ false → carries_value v.seat ≡ false → carries_value (if b then u else v).seat ≡ false
+handoff_load_idles_if true u v first second = first
+handoff_load_idles_if false u v first second = second
 
-pub look_idles : (t ps s n : ℕ) (o : Option Record) → carries_value (stepped_by (made_of 0 t ps (PushedHandoffLoad Pusher.Locker)) s n o).seat ≡ false
-look_idles t ps s n o = look_idles_if (nat_eq (n % 65536) 0) _ _ refl refl
+pub handoff_load_idles : (t ps s n : ℕ) (o : Option Record) → carries_value (stepped_by (made_of 0 t ps (PushedHandoffLoad Pusher.Locker)) s n o).seat ≡ false
+handoff_load_idles t ps s n o = handoff_load_idles_if (nat_eq (n % 65536) 0) _ _ refl refl

@@ -11,13 +11,13 @@ use Rattle.lfm_protocol.specs.declared.kinds.Kind.{Kind}
 use Rattle.lfm_protocol.specs.declared.points.Carrier.{Carrier}
 use Rattle.lfm_protocol.specs.declared.points.Entrant.{Entrant}
 use Rattle.lfm_protocol.specs.declared.points.Point.{Point}
-use Rattle.lfm_protocol.specs.declared.points.Point.TheVariants.{Rest, Asleep, LockCountAdd, LockOwnerLoad, LockCountSubtract, TryCountExchange, TryOwnerLoad, TryHandoffLoad, TryHandoffExchange, TryCountAdd, SendWakeExchange, SendCountAdd, SendPushLook, SendWakeStore, PushLoad, LinkStore, PushExchange, PushedHandoffLoad, PushedHandoffExchange, ReleaseOwnerStore, ReleaseCountSubtract, ReleaseHandoffStore, ReleasePushLook, ReleaseHandoffExchange, WaitWakeStore, TakeClearHead, TakeLinkLoad, GrantWakeStore, EnterOwnerStore, ReceiveWakeLoad, ReceiveWakeStore}
+use Rattle.lfm_protocol.specs.declared.points.Point.TheVariants.{Rest, Asleep, LockCountAdd, LockOwnerLoad, LockCountSubtract, TryCountExchange, TryOwnerLoad, TryHandoffLoad, TryHandoffExchange, TryCountAdd, SendWakeExchange, SendCountAdd, SendPushRecheck, SendWakeStore, PushLoad, LinkStore, PushExchange, PushedHandoffLoad, PushedHandoffExchange, ReleaseOwnerStore, ReleaseCountSubtract, ReleaseHandoffStore, ReleasePushRecheck, ReleaseHandoffExchange, WaitWakeStore, TakeClearHead, TakeLinkLoad, GrantWakeStore, EnterOwnerStore, ReceiveWakeLoad, ReceiveWakeStore}
 use Rattle.lfm_protocol.specs.declared.points.Pusher.{Pusher}
 use Rattle.lfm_protocol.specs.declared.points.Releaser.{Releaser}
 use Rattle.lfm_protocol.specs.declared.points.Releaser.TheVariants.{Unlocker, Waiter}
 use Rattle.lfm_protocol.specs.declared.points.Sleeper.{Sleeper}
 use Rattle.lfm_protocol.specs.declared.seats.SeatState.{SeatState}
-use Rattle.lfm_protocol.specs.After.{same_link, same_handoff, releases, pushed, granted, receives, claims, carrier_of, take, serves, once_cleared, busy, looks, loaded}
+use Rattle.lfm_protocol.specs.After.{same_link, same_handoff, releases, pushed, granted, receives, claims, carrier_of, take, serves, once_cleared, busy, found_posted, loaded}
 use Rattle.lfm_protocol.specs.Begin.{Stepped, goes_on}
 use Rattle.lfm_protocol.specs.Points.{kind}
 use Rattle.lfm_protocol.specs.Room.{PopFits}
@@ -72,9 +72,9 @@ errand_cleared Carrier.Locker head = refl
 errand_cleared (Carrier.Reclaimer u) head = refl
 errand_cleared Carrier.Sender head = refl
 
-errand_looks : (pusher : Pusher) (d t : ℕ) → errand (looks pusher (record { seat = d; post = t })) ≡ pushes pusher
-errand_looks Pusher.Locker d t = refl
-errand_looks (Pusher.Sender u) d t = refl
+errand_found_posted : (pusher : Pusher) (d t : ℕ) → errand (found_posted pusher (record { seat = d; post = t })) ≡ pushes pusher
+errand_found_posted Pusher.Locker d t = refl
+errand_found_posted (Pusher.Sender u) d t = refl
 
 errand_carrier : (pusher : Pusher) → carries_for (carrier_of pusher) ≡ pushes pusher
 errand_carrier Pusher.Locker = refl
@@ -101,13 +101,13 @@ turns_at d t ps s n o (TryHandoffExchange old) some = turns_if trying (same_hand
 turns_at d t ps s n o TryCountAdd some = refl
 turns_at d t ps s n o (SendWakeExchange u) some = turns_claims (made_of d t ps (SendWakeExchange u)) u (wake_of n)
 turns_at d t ps s n o (SendCountAdd u) some = errand_if sending (nat_eq n 0) _ _ refl refl
-turns_at d t ps s n o (SendPushLook u old) some = turns_if sending (nat_eq (link_of n).next 0) _ (goes_on (made_of d t ps (SendPushLook u old)) (PushedHandoffExchange (Pusher.Sender u) old)) refl refl
+turns_at d t ps s n o (SendPushRecheck u old) some = turns_if sending (nat_eq (link_of n).next 0) _ (goes_on (made_of d t ps (SendPushRecheck u old)) (PushedHandoffExchange (Pusher.Sender u) old)) refl refl
 turns_at d t ps s n o (SendWakeStore u) some = refl
 turns_at d t ps s n o (PushLoad pusher) some = refl
 turns_at d t ps s n o (LinkStore pusher old) some = refl
 turns_at d t ps s n o (PushExchange pusher old) some = errand_if (pushes pusher) (same_link (link_of n) old) _ _ refl refl
 turns_at d t ps s n o (PushedHandoffLoad pusher) some =
-    turns_if (pushes pusher) (nat_eq (handoff_of n).seat 0) (pushed (made_of d t ps (PushedHandoffLoad pusher)) pusher) _ (turns_pushed (made_of d t ps (PushedHandoffLoad pusher)) pusher) (errand_looks pusher (n % 65536) (n / 65536))
+    turns_if (pushes pusher) (nat_eq (handoff_of n).seat 0) (pushed (made_of d t ps (PushedHandoffLoad pusher)) pusher) _ (turns_pushed (made_of d t ps (PushedHandoffLoad pusher)) pusher) (errand_found_posted pusher (n % 65536) (n / 65536))
 turns_at d t ps s n o (PushedHandoffExchange pusher old) some =
     turns_if (pushes pusher) (same_handoff (handoff_of n) old) (goes_on (made_of d t ps (PushedHandoffExchange pusher old)) (take (carrier_of pusher) s o)) _
     (errand_take (carrier_of pusher) s o ∙ errand_carrier pusher) (turns_pushed (made_of d t ps (PushedHandoffExchange pusher old)) pusher)
@@ -115,8 +115,8 @@ turns_at d t ps s n o (ReleaseOwnerStore r) some = refl
 turns_at d t ps s n o (ReleaseCountSubtract r) some =
     turns_if (releasing r) (nat_eq n 1) _ (goes_on (made_of d t ps (ReleaseCountSubtract r)) (take (Carrier.Releaser r) s o)) (turns_releases (made_of d t ps (ReleaseCountSubtract r)) r Unlocked.Free) (errand_take (Carrier.Releaser r) s o)
 turns_at d t ps s n o (ReleaseHandoffStore r) some = refl
-turns_at d t ps s n o (ReleasePushLook r) some =
-    turns_if (releasing r) (nat_eq (link_of n).next 0) _ (goes_on (made_of d t ps (ReleasePushLook r)) (ReleaseHandoffExchange r)) (turns_releases (made_of d t ps (ReleasePushLook r)) r Unlocked.Posted) refl
+turns_at d t ps s n o (ReleasePushRecheck r) some =
+    turns_if (releasing r) (nat_eq (link_of n).next 0) _ (goes_on (made_of d t ps (ReleasePushRecheck r)) (ReleaseHandoffExchange r)) (turns_releases (made_of d t ps (ReleasePushRecheck r)) r Unlocked.Posted) refl
 turns_at d t ps s n o (ReleaseHandoffExchange r) some =
     turns_if (releasing r) (same_handoff (handoff_of n) (record { seat = s; post = ps })) (goes_on (made_of d t ps (ReleaseHandoffExchange r)) (take (Carrier.Reclaimer r) s o)) _
     (errand_take (Carrier.Reclaimer r) s o) (turns_releases (made_of d t ps (ReleaseHandoffExchange r)) r Unlocked.TakenOver)
@@ -186,9 +186,9 @@ weight_cleared n k Carrier.Locker head = omega arith
 weight_cleared n k (Carrier.Reclaimer u) head = omega arith
 weight_cleared n k Carrier.Sender head = omega arith
 
-weight_looks : (n k : ℕ) (pusher : Pusher) (d t : ℕ) → weight n k (looks pusher (record { seat = d; post = t })) < n + 7
-weight_looks n k Pusher.Locker d t = omega arith
-weight_looks n k (Pusher.Sender u) d t = omega arith
+weight_found_posted : (n k : ℕ) (pusher : Pusher) (d t : ℕ) → weight n k (found_posted pusher (record { seat = d; post = t })) < n + 7
+weight_found_posted n k Pusher.Locker d t = omega arith
+weight_found_posted n k (Pusher.Sender u) d t = omega arith
 
 carrier_clears : (n : ℕ) (pusher : Pusher) → clearing n (carrier_of pusher) < n + 5
 carrier_clears n Pusher.Locker = omega arith
@@ -256,14 +256,14 @@ falls_at d t ps s m o n k k' (TryHandoffExchange old) some room within grows see
 falls_at d t ps s m o n k k' TryCountAdd some room within grows sees = omega arith
 falls_at d t ps s m o n k k' (SendWakeExchange u) some room within grows sees = falls_claims n k' (made_of d t ps (SendWakeExchange u)) u (wake_of m)
 falls_at d t ps s m o n k k' (SendCountAdd u) some room within grows sees = weight_if n k' _ (nat_eq m 0) _ _ (omega arith) (λ e. omega arith)
-falls_at d t ps s m o n k k' (SendPushLook u old) some room within grows sees = falls_if n k' (n + 6) (nat_eq (link_of m).next 0) _ (goes_on (made_of d t ps (SendPushLook u old)) (PushedHandoffExchange (Pusher.Sender u) old)) (omega arith) (λ e. omega arith)
+falls_at d t ps s m o n k k' (SendPushRecheck u old) some room within grows sees = falls_if n k' (n + 6) (nat_eq (link_of m).next 0) _ (goes_on (made_of d t ps (SendPushRecheck u old)) (PushedHandoffExchange (Pusher.Sender u) old)) (omega arith) (λ e. omega arith)
 falls_at d t ps s m o n k k' (SendWakeStore u) some room within grows sees = omega arith
 falls_at d t ps s m o n k k' (PushLoad pusher) some room within grows sees = let h = left_most (link_of m) in omega (arith, h)
 falls_at d t ps s m o n k k' (LinkStore pusher old) some room within grows sees = omega arith
 falls_at d t ps s m o n k k' (PushExchange pusher old) some room within grows sees =
     weight_if n k' (n + 2 * left old + 8) (same_link (link_of m) old) _ _ (omega arith) (λ e. let is = sees pusher old refl in let h = left_falls (link_of m) old e is.0 is.1 in omega (arith, h))
 falls_at d t ps s m o n k k' (PushedHandoffLoad pusher) some room within grows sees =
-    falls_if n k' (n + 7) (nat_eq (handoff_of m).seat 0) (pushed (made_of d t ps (PushedHandoffLoad pusher)) pusher) _ (let h = falls_pushed n k' (made_of d t ps (PushedHandoffLoad pusher)) pusher in omega (arith, h)) (λ e. weight_looks n k' pusher (m % 65536) (m / 65536))
+    falls_if n k' (n + 7) (nat_eq (handoff_of m).seat 0) (pushed (made_of d t ps (PushedHandoffLoad pusher)) pusher) _ (let h = falls_pushed n k' (made_of d t ps (PushedHandoffLoad pusher)) pusher in omega (arith, h)) (λ e. weight_found_posted n k' pusher (m % 65536) (m / 65536))
 falls_at d t ps s m o n k k' (PushedHandoffExchange pusher old) some room within grows sees =
     falls_if n k' (n + 5) (same_handoff (handoff_of m) old) (goes_on (made_of d t ps (PushedHandoffExchange pusher old)) (take (carrier_of pusher) s o)) _
     (weight_take n k' (n + 5) (carrier_of pusher) s o (carrier_clears n pusher) (carrier_grants n pusher)) (λ e. let h = falls_pushed n k' (made_of d t ps (PushedHandoffExchange pusher old)) pusher in omega (arith, h))
@@ -272,8 +272,8 @@ falls_at d t ps s m o n k k' (ReleaseCountSubtract r) some room within grows see
     falls_if n k' (n + 6 + waits_on r) (nat_eq m 1) _ (goes_on (made_of d t ps (ReleaseCountSubtract r)) (take (Carrier.Releaser r) s o)) (let h = falls_releases n k' (made_of d t ps (ReleaseCountSubtract r)) r Unlocked.Free in omega (arith, h))
     (λ e. weight_take n k' (n + 6 + waits_on r) (Carrier.Releaser r) s o (omega arith) (omega arith))
 falls_at d t ps s m o n k k' (ReleaseHandoffStore r) some room within grows sees = omega arith
-falls_at d t ps s m o n k k' (ReleasePushLook r) some room within grows sees =
-    falls_if n k' (n + 3 + waits_on r) (nat_eq (link_of m).next 0) _ (goes_on (made_of d t ps (ReleasePushLook r)) (ReleaseHandoffExchange r)) (let h = falls_releases n k' (made_of d t ps (ReleasePushLook r)) r Unlocked.Posted in omega (arith, h)) (λ e. omega arith)
+falls_at d t ps s m o n k k' (ReleasePushRecheck r) some room within grows sees =
+    falls_if n k' (n + 3 + waits_on r) (nat_eq (link_of m).next 0) _ (goes_on (made_of d t ps (ReleasePushRecheck r)) (ReleaseHandoffExchange r)) (let h = falls_releases n k' (made_of d t ps (ReleasePushRecheck r)) r Unlocked.Posted in omega (arith, h)) (λ e. omega arith)
 falls_at d t ps s m o n k k' (ReleaseHandoffExchange r) some room within grows sees =
     falls_if n k' (n + 2 + waits_on r) (same_handoff (handoff_of m) (record { seat = s; post = ps })) (goes_on (made_of d t ps (ReleaseHandoffExchange r)) (take (Carrier.Reclaimer r) s o)) _
     (weight_take n k' (n + 2 + waits_on r) (Carrier.Reclaimer r) s o (omega arith) (omega arith)) (λ e. let h = falls_releases n k' (made_of d t ps (ReleaseHandoffExchange r)) r Unlocked.TakenOver in omega (arith, h))
@@ -343,15 +343,15 @@ how_at d t ps s n o TryOwnerLoad how e = absurd (no_hold how _ (how_if (nat_eq n
 how_at d t ps s n o TryHandoffLoad how e = absurd (no_hold how _ (how_if (nat_eq (handoff_of n).seat 0) (busy (made_of d t ps TryHandoffLoad)) _ refl refl) e)
 how_at d t ps s n o (TryHandoffExchange old) how e = absurd (no_hold how _ (how_if (same_handoff (handoff_of n) old) _ (busy (made_of d t ps (TryHandoffExchange old))) refl refl) e)
 how_at d t ps s n o (SendWakeExchange u) how e = absurd (no_hold how _ (how_claims (made_of d t ps (SendWakeExchange u)) u (wake_of n)) e)
-how_at d t ps s n o (SendPushLook u old) how e = absurd (no_hold how _ (how_if (nat_eq (link_of n).next 0) _ (goes_on (made_of d t ps (SendPushLook u old)) (PushedHandoffExchange (Pusher.Sender u) old)) refl refl) e)
+how_at d t ps s n o (SendPushRecheck u old) how e = absurd (no_hold how _ (how_if (nat_eq (link_of n).next 0) _ (goes_on (made_of d t ps (SendPushRecheck u old)) (PushedHandoffExchange (Pusher.Sender u) old)) refl refl) e)
 how_at d t ps s n o (PushedHandoffLoad pusher) how e =
-    absurd (no_hold how _ (how_if (nat_eq (handoff_of n).seat 0) (pushed (made_of d t ps (PushedHandoffLoad pusher)) pusher) (goes_on (made_of d t ps (PushedHandoffLoad pusher)) (looks pusher (handoff_of n))) (how_pushed (made_of d t ps (PushedHandoffLoad pusher)) pusher) refl) e)
+    absurd (no_hold how _ (how_if (nat_eq (handoff_of n).seat 0) (pushed (made_of d t ps (PushedHandoffLoad pusher)) pusher) (goes_on (made_of d t ps (PushedHandoffLoad pusher)) (found_posted pusher (handoff_of n))) (how_pushed (made_of d t ps (PushedHandoffLoad pusher)) pusher) refl) e)
 how_at d t ps s n o (PushedHandoffExchange pusher old) how e =
     absurd (no_hold how _ (how_if (same_handoff (handoff_of n) old) (goes_on (made_of d t ps (PushedHandoffExchange pusher old)) (take (carrier_of pusher) s o)) _ refl (how_pushed (made_of d t ps (PushedHandoffExchange pusher old)) pusher)) e)
 how_at d t ps s n o (ReleaseCountSubtract r) how e =
     absurd (no_hold how _ (how_if (nat_eq n 1) _ (goes_on (made_of d t ps (ReleaseCountSubtract r)) (take (Carrier.Releaser r) s o)) (how_releases (made_of d t ps (ReleaseCountSubtract r)) r Unlocked.Free) refl) e)
-how_at d t ps s n o (ReleasePushLook r) how e =
-    absurd (no_hold how _ (how_if (nat_eq (link_of n).next 0) _ (goes_on (made_of d t ps (ReleasePushLook r)) (ReleaseHandoffExchange r)) (how_releases (made_of d t ps (ReleasePushLook r)) r Unlocked.Posted) refl) e)
+how_at d t ps s n o (ReleasePushRecheck r) how e =
+    absurd (no_hold how _ (how_if (nat_eq (link_of n).next 0) _ (goes_on (made_of d t ps (ReleasePushRecheck r)) (ReleaseHandoffExchange r)) (how_releases (made_of d t ps (ReleasePushRecheck r)) r Unlocked.Posted) refl) e)
 how_at d t ps s n o (ReleaseHandoffExchange r) how e =
     absurd (no_hold how _ (how_if (same_handoff (handoff_of n) (record { seat = s; post = ps })) (goes_on (made_of d t ps (ReleaseHandoffExchange r)) (take (Carrier.Reclaimer r) s o)) _ refl (how_releases (made_of d t ps (ReleaseHandoffExchange r)) r Unlocked.TakenOver)) e)
 how_at d t ps s n o (GrantWakeStore carrier oldest) how e = absurd (no_hold how _ (how_granted_none (made_of d t ps (GrantWakeStore carrier oldest)) carrier oldest) e)

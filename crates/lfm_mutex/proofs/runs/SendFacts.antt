@@ -7,13 +7,13 @@ use Rattle.lfm_words.specs.declared.wakes.Wake.{Wake}
 use Rattle.lfm_words.specs.declared.wakes.Wake.TheVariants.{Waiting, Grant}
 use Rattle.lfm_protocol.specs.declared.points.Carrier.{Carrier}
 use Rattle.lfm_protocol.specs.declared.points.Point.{Point}
-use Rattle.lfm_protocol.specs.declared.points.Point.TheVariants.{LockCountAdd, LockOwnerLoad, TryCountExchange, TryOwnerLoad, TryHandoffLoad, TryHandoffExchange, SendWakeExchange, SendCountAdd, SendPushLook, PushExchange, PushedHandoffLoad, PushedHandoffExchange, ReleaseOwnerStore, ReleaseCountSubtract, ReleasePushLook, ReleaseHandoffExchange, TakeClearHead, TakeLinkLoad, GrantWakeStore, ReceiveWakeLoad}
+use Rattle.lfm_protocol.specs.declared.points.Point.TheVariants.{LockCountAdd, LockOwnerLoad, TryCountExchange, TryOwnerLoad, TryHandoffLoad, TryHandoffExchange, SendWakeExchange, SendCountAdd, SendPushRecheck, PushExchange, PushedHandoffLoad, PushedHandoffExchange, ReleaseOwnerStore, ReleaseCountSubtract, ReleasePushRecheck, ReleaseHandoffExchange, TakeClearHead, TakeLinkLoad, GrantWakeStore, ReceiveWakeLoad}
 use Rattle.lfm_protocol.specs.declared.points.Pusher.{Pusher}
 use Rattle.lfm_protocol.specs.declared.points.Releaser.{Releaser}
 use Rattle.lfm_protocol.specs.declared.points.Releaser.TheVariants.{Unlocker, Waiter}
 use Rattle.lfm_protocol.specs.declared.points.Sleeper.{Sleeper}
 use Rattle.lfm_protocol.specs.declared.seats.SeatState.{SeatState}
-use Rattle.lfm_protocol.specs.After.{same_link, same_handoff, releases, pushed, granted, receives, claims, carrier_of, take, serves, once_cleared, busy, looks, loaded}
+use Rattle.lfm_protocol.specs.After.{same_link, same_handoff, releases, pushed, granted, receives, claims, carrier_of, take, serves, once_cleared, busy, found_posted, loaded}
 use Rattle.lfm_protocol.specs.Begin.{Stepped, goes_on}
 use Rattle.lfm_core.specs.table.Words.{stepped_by, handoff_of, wake_of, link_of}
 use Rattle.lfm_mutex.specs.calls.Runs.{end_of, trail_of}
@@ -78,15 +78,15 @@ nw_at d t ps s n o (SendWakeExchange u) other = absurd (false≢true (sym other)
 nw_at d t ps s n o TryOwnerLoad other = nw_if (nat_eq n s) _ (goes_on (made_of d t ps TryOwnerLoad) TryHandoffLoad) refl refl
 nw_at d t ps s n o TryHandoffLoad other = nw_if (nat_eq (handoff_of n).seat 0) (busy (made_of d t ps TryHandoffLoad)) _ refl refl
 nw_at d t ps s n o (TryHandoffExchange old) other = nw_if (same_handoff (handoff_of n) old) _ (busy (made_of d t ps (TryHandoffExchange old))) refl refl
-nw_at d t ps s n o (SendPushLook u old) other = nw_if (nat_eq (link_of n).next 0) _ (goes_on (made_of d t ps (SendPushLook u old)) (PushedHandoffExchange (Pusher.Sender u) old)) refl refl
+nw_at d t ps s n o (SendPushRecheck u old) other = nw_if (nat_eq (link_of n).next 0) _ (goes_on (made_of d t ps (SendPushRecheck u old)) (PushedHandoffExchange (Pusher.Sender u) old)) refl refl
 nw_at d t ps s n o (PushedHandoffLoad pusher) other =
-    nw_if (nat_eq (handoff_of n).seat 0) (pushed (made_of d t ps (PushedHandoffLoad pusher)) pusher) (goes_on (made_of d t ps (PushedHandoffLoad pusher)) (looks pusher (handoff_of n))) (nw_pushed (made_of d t ps (PushedHandoffLoad pusher)) pusher) refl
+    nw_if (nat_eq (handoff_of n).seat 0) (pushed (made_of d t ps (PushedHandoffLoad pusher)) pusher) (goes_on (made_of d t ps (PushedHandoffLoad pusher)) (found_posted pusher (handoff_of n))) (nw_pushed (made_of d t ps (PushedHandoffLoad pusher)) pusher) refl
 nw_at d t ps s n o (PushedHandoffExchange pusher old) other =
     nw_if (same_handoff (handoff_of n) old) (goes_on (made_of d t ps (PushedHandoffExchange pusher old)) (take (carrier_of pusher) s o)) _ refl (nw_pushed (made_of d t ps (PushedHandoffExchange pusher old)) pusher)
 nw_at d t ps s n o (ReleaseCountSubtract r) other =
     nw_if (nat_eq n 1) _ (goes_on (made_of d t ps (ReleaseCountSubtract r)) (take (Carrier.Releaser r) s o)) (nw_releases (made_of d t ps (ReleaseCountSubtract r)) r Unlocked.Free) refl
-nw_at d t ps s n o (ReleasePushLook r) other =
-    nw_if (nat_eq (link_of n).next 0) _ (goes_on (made_of d t ps (ReleasePushLook r)) (ReleaseHandoffExchange r)) (nw_releases (made_of d t ps (ReleasePushLook r)) r Unlocked.Posted) refl
+nw_at d t ps s n o (ReleasePushRecheck r) other =
+    nw_if (nat_eq (link_of n).next 0) _ (goes_on (made_of d t ps (ReleasePushRecheck r)) (ReleaseHandoffExchange r)) (nw_releases (made_of d t ps (ReleasePushRecheck r)) r Unlocked.Posted) refl
 nw_at d t ps s n o (ReleaseHandoffExchange r) other =
     nw_if (same_handoff (handoff_of n) (record { seat = s; post = ps })) (goes_on (made_of d t ps (ReleaseHandoffExchange r)) (take (Carrier.Reclaimer r) s o)) _ refl (nw_releases (made_of d t ps (ReleaseHandoffExchange r)) r Unlocked.TakenOver)
 nw_at d t ps s n o (GrantWakeStore carrier oldest) other = nw_granted (made_of d t ps (GrantWakeStore carrier oldest)) carrier oldest

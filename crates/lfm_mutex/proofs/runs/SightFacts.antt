@@ -11,13 +11,13 @@ use Rattle.lfm_protocol.specs.declared.kinds.Kind.{Kind}
 use Rattle.lfm_protocol.specs.declared.points.Carrier.{Carrier}
 use Rattle.lfm_protocol.specs.declared.points.Entrant.{Entrant}
 use Rattle.lfm_protocol.specs.declared.points.Point.{Point}
-use Rattle.lfm_protocol.specs.declared.points.Point.TheVariants.{Rest, Asleep, LockCountAdd, LockOwnerLoad, LockCountSubtract, TryCountExchange, TryOwnerLoad, TryHandoffLoad, TryHandoffExchange, TryCountAdd, SendWakeExchange, SendCountAdd, SendPushLook, SendWakeStore, PushLoad, LinkStore, PushExchange, PushedHandoffLoad, PushedHandoffExchange, ReleaseOwnerStore, ReleaseCountSubtract, ReleaseHandoffStore, ReleasePushLook, ReleaseHandoffExchange, WaitWakeStore, TakeClearHead, TakeLinkLoad, GrantWakeStore, EnterOwnerStore, ReceiveWakeLoad, ReceiveWakeStore}
+use Rattle.lfm_protocol.specs.declared.points.Point.TheVariants.{Rest, Asleep, LockCountAdd, LockOwnerLoad, LockCountSubtract, TryCountExchange, TryOwnerLoad, TryHandoffLoad, TryHandoffExchange, TryCountAdd, SendWakeExchange, SendCountAdd, SendPushRecheck, SendWakeStore, PushLoad, LinkStore, PushExchange, PushedHandoffLoad, PushedHandoffExchange, ReleaseOwnerStore, ReleaseCountSubtract, ReleaseHandoffStore, ReleasePushRecheck, ReleaseHandoffExchange, WaitWakeStore, TakeClearHead, TakeLinkLoad, GrantWakeStore, EnterOwnerStore, ReceiveWakeLoad, ReceiveWakeStore}
 use Rattle.lfm_protocol.specs.declared.points.Pusher.{Pusher}
 use Rattle.lfm_protocol.specs.declared.points.Releaser.{Releaser}
 use Rattle.lfm_protocol.specs.declared.points.Releaser.TheVariants.{Unlocker, Waiter}
 use Rattle.lfm_protocol.specs.declared.points.Sleeper.{Sleeper}
 use Rattle.lfm_protocol.specs.declared.seats.SeatState.{SeatState}
-use Rattle.lfm_protocol.specs.After.{same_link, same_handoff, releases, pushed, granted, receives, claims, carrier_of, take, serves, once_cleared, busy, looks, loaded, held}
+use Rattle.lfm_protocol.specs.After.{same_link, same_handoff, releases, pushed, granted, receives, claims, carrier_of, take, serves, once_cleared, busy, found_posted, loaded, held}
 use Rattle.lfm_protocol.specs.Begin.{Stepped, goes_on}
 use Rattle.lfm_protocol.specs.Points.{kind}
 use Rattle.lfm_core.specs.steady.Steady.{DepthAt}
@@ -59,9 +59,9 @@ still_cleared Carrier.Locker head = tt
 still_cleared (Carrier.Reclaimer u) head = tt
 still_cleared Carrier.Sender head = tt
 
-still_looks : (pusher : Pusher) (d t : ℕ) → StillAt (looks pusher (record { seat = d; post = t }))
-still_looks Pusher.Locker d t = tt
-still_looks (Pusher.Sender u) d t = tt
+still_found_posted : (pusher : Pusher) (d t : ℕ) → StillAt (found_posted pusher (record { seat = d; post = t }))
+still_found_posted Pusher.Locker d t = tt
+still_found_posted (Pusher.Sender u) d t = tt
 
 ends_releases : (x : SeatState) (r : Releaser) (answer : Unlocked) → IsLeft answer → EndsWith x (releases x r answer)
 ends_releases x Unlocker answer is = (refl, refl, refl, is)
@@ -126,17 +126,17 @@ ends_at d t ps s n o (TryHandoffExchange old) some keeps deep told =
 ends_at d t ps s n o TryCountAdd some keeps deep told = (refl, refl, λ _. tt)
 ends_at d t ps s n o (SendWakeExchange u) some keeps deep told = ends_claims (made_of d t ps (SendWakeExchange u)) u (wake_of n)
 ends_at d t ps s n o (SendCountAdd u) some keeps deep told = goes_if (made_of d t ps (SendCountAdd u)) (nat_eq n 0) _ _ tt tt
-ends_at d t ps s n o (SendPushLook u old) some keeps deep told =
-    either (made_of d t ps (SendPushLook u old)) (nat_eq (link_of n).next 0) _ (goes_on (made_of d t ps (SendPushLook u old)) (PushedHandoffExchange (Pusher.Sender u) old)) (λ _. (refl, refl, refl)) (λ _. (refl, refl, λ _. tt))
+ends_at d t ps s n o (SendPushRecheck u old) some keeps deep told =
+    either (made_of d t ps (SendPushRecheck u old)) (nat_eq (link_of n).next 0) _ (goes_on (made_of d t ps (SendPushRecheck u old)) (PushedHandoffExchange (Pusher.Sender u) old)) (λ _. (refl, refl, refl)) (λ _. (refl, refl, λ _. tt))
 ends_at d t ps s n o (SendWakeStore u) some keeps deep told = (refl, refl, refl)
 ends_at d t ps s n o (PushLoad pusher) some keeps deep told = (refl, refl, λ _. tt)
 ends_at d t ps s n o (LinkStore pusher old) some keeps deep told = (refl, refl, λ _. tt)
 ends_at d t ps s n o (PushExchange pusher old) some keeps deep told = goes_if (made_of d t ps (PushExchange pusher old)) (same_link (link_of n) old) _ _ tt tt
 ends_at d t ps s n o (PushedHandoffLoad Pusher.Locker) some keeps deep told =
-    either (made_of d t ps (PushedHandoffLoad Pusher.Locker)) (nat_eq (handoff_of n).seat 0) (pushed (made_of d t ps (PushedHandoffLoad Pusher.Locker)) Pusher.Locker) (goes_on (made_of d t ps (PushedHandoffLoad Pusher.Locker)) (looks Pusher.Locker (handoff_of n)))
+    either (made_of d t ps (PushedHandoffLoad Pusher.Locker)) (nat_eq (handoff_of n).seat 0) (pushed (made_of d t ps (PushedHandoffLoad Pusher.Locker)) Pusher.Locker) (goes_on (made_of d t ps (PushedHandoffLoad Pusher.Locker)) (found_posted Pusher.Locker (handoff_of n)))
     (λ _. ends_pushed (made_of d t ps (PushedHandoffLoad Pusher.Locker)) Pusher.Locker deep) (λ _. (refl, refl, λ _. tt))
 ends_at d t ps s n o (PushedHandoffLoad (Pusher.Sender u)) some keeps deep told =
-    either (made_of d t ps (PushedHandoffLoad (Pusher.Sender u))) (nat_eq (handoff_of n).seat 0) (pushed (made_of d t ps (PushedHandoffLoad (Pusher.Sender u))) (Pusher.Sender u)) (goes_on (made_of d t ps (PushedHandoffLoad (Pusher.Sender u))) (looks (Pusher.Sender u) (handoff_of n)))
+    either (made_of d t ps (PushedHandoffLoad (Pusher.Sender u))) (nat_eq (handoff_of n).seat 0) (pushed (made_of d t ps (PushedHandoffLoad (Pusher.Sender u))) (Pusher.Sender u)) (goes_on (made_of d t ps (PushedHandoffLoad (Pusher.Sender u))) (found_posted (Pusher.Sender u) (handoff_of n)))
     (λ _. (refl, refl, refl)) (λ _. (refl, refl, λ _. tt))
 ends_at d t ps s n o (PushedHandoffExchange pusher old) some keeps deep told =
     either (made_of d t ps (PushedHandoffExchange pusher old)) (same_handoff (handoff_of n) old) (goes_on (made_of d t ps (PushedHandoffExchange pusher old)) (take (carrier_of pusher) s o)) (pushed (made_of d t ps (PushedHandoffExchange pusher old)) pusher)
@@ -146,9 +146,9 @@ ends_at d t ps s n o (ReleaseCountSubtract r) some keeps deep told =
     either (made_of d t ps (ReleaseCountSubtract r)) (nat_eq n 1) (releases (made_of d t ps (ReleaseCountSubtract r)) r Unlocked.Free) (goes_on (made_of d t ps (ReleaseCountSubtract r)) (take (Carrier.Releaser r) s o))
     (λ _. ends_releases (made_of d t ps (ReleaseCountSubtract r)) r Unlocked.Free tt) (λ _. (refl, refl, λ _. still_take (Carrier.Releaser r) s o))
 ends_at d t ps s n o (ReleaseHandoffStore r) some keeps deep told = (refl, refl, λ _. tt)
-ends_at d t ps s n o (ReleasePushLook r) some keeps deep told =
-    either (made_of d t ps (ReleasePushLook r)) (nat_eq (link_of n).next 0) (releases (made_of d t ps (ReleasePushLook r)) r Unlocked.Posted) (goes_on (made_of d t ps (ReleasePushLook r)) (ReleaseHandoffExchange r))
-    (λ _. ends_releases (made_of d t ps (ReleasePushLook r)) r Unlocked.Posted tt) (λ _. (refl, refl, λ _. tt))
+ends_at d t ps s n o (ReleasePushRecheck r) some keeps deep told =
+    either (made_of d t ps (ReleasePushRecheck r)) (nat_eq (link_of n).next 0) (releases (made_of d t ps (ReleasePushRecheck r)) r Unlocked.Posted) (goes_on (made_of d t ps (ReleasePushRecheck r)) (ReleaseHandoffExchange r))
+    (λ _. ends_releases (made_of d t ps (ReleasePushRecheck r)) r Unlocked.Posted tt) (λ _. (refl, refl, λ _. tt))
 ends_at d t ps s n o (ReleaseHandoffExchange r) some keeps deep told =
     either (made_of d t ps (ReleaseHandoffExchange r)) (same_handoff (handoff_of n) (record { seat = s; post = ps })) (goes_on (made_of d t ps (ReleaseHandoffExchange r)) (take (Carrier.Reclaimer r) s o)) (releases (made_of d t ps (ReleaseHandoffExchange r)) r Unlocked.TakenOver)
     (λ _. (refl, refl, λ _. still_take (Carrier.Reclaimer r) s o)) (λ _. ends_releases (made_of d t ps (ReleaseHandoffExchange r)) r Unlocked.TakenOver tt)

@@ -2,7 +2,7 @@
 use Rattle.std.specs.Prelude.{ℕ, ◌+◌, ◌-◌}
 use Rattle.lfm_protocol.specs.declared.points.Carrier.{Carrier}
 use Rattle.lfm_protocol.specs.declared.points.Point.{Point}
-use Rattle.lfm_protocol.specs.declared.points.Point.TheVariants.{LockCountAdd, LockOwnerLoad, SendWakeExchange, SendCountAdd, SendPushLook, PushLoad, LinkStore, PushExchange, PushedHandoffLoad, PushedHandoffExchange, TakeClearHead, TakeLinkLoad, GrantWakeStore}
+use Rattle.lfm_protocol.specs.declared.points.Point.TheVariants.{LockCountAdd, LockOwnerLoad, SendWakeExchange, SendCountAdd, SendPushRecheck, PushLoad, LinkStore, PushExchange, PushedHandoffLoad, PushedHandoffExchange, TakeClearHead, TakeLinkLoad, GrantWakeStore}
 use Rattle.lfm_protocol.specs.declared.points.Pusher.{Pusher}
 use Rattle.lfm_mutex.specs.calls.Runs.{weight}
 
@@ -12,7 +12,7 @@ due n k LockCountAdd = n + 9
 due n k LockOwnerLoad = n + 8
 due n k (SendWakeExchange t) = n + 9
 due n k (SendCountAdd t) = n + 8
-due n k (SendPushLook t old) = n + 3
+due n k (SendPushRecheck t old) = n + 3
 due n k (PushLoad pusher) = n + 7
 due n k (LinkStore pusher old) = n + 6
 due n k (PushExchange pusher old) = n + 5

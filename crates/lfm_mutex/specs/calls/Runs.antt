@@ -18,7 +18,7 @@ use Rattle.lfm_protocol.specs.declared.answers.Why.TheVariants.{By}
 use Rattle.lfm_protocol.specs.declared.points.Carrier.{Carrier}
 use Rattle.lfm_protocol.specs.declared.points.Entrant.{Entrant}
 use Rattle.lfm_protocol.specs.declared.points.Point.{Point}
-use Rattle.lfm_protocol.specs.declared.points.Point.TheVariants.{Rest, Asleep, LockCountAdd, LockOwnerLoad, LockCountSubtract, TryCountExchange, TryOwnerLoad, TryHandoffLoad, TryHandoffExchange, TryCountAdd, SendWakeExchange, SendCountAdd, SendPushLook, SendWakeStore, PushLoad, LinkStore, PushExchange, PushedHandoffLoad, PushedHandoffExchange, ReleaseOwnerStore, ReleaseCountSubtract, ReleaseHandoffStore, ReleasePushLook, ReleaseHandoffExchange, WaitWakeStore, TakeClearHead, TakeLinkLoad, GrantWakeStore, EnterOwnerStore, ReceiveWakeLoad, ReceiveWakeStore}
+use Rattle.lfm_protocol.specs.declared.points.Point.TheVariants.{Rest, Asleep, LockCountAdd, LockOwnerLoad, LockCountSubtract, TryCountExchange, TryOwnerLoad, TryHandoffLoad, TryHandoffExchange, TryCountAdd, SendWakeExchange, SendCountAdd, SendPushRecheck, SendWakeStore, PushLoad, LinkStore, PushExchange, PushedHandoffLoad, PushedHandoffExchange, ReleaseOwnerStore, ReleaseCountSubtract, ReleaseHandoffStore, ReleasePushRecheck, ReleaseHandoffExchange, WaitWakeStore, TakeClearHead, TakeLinkLoad, GrantWakeStore, EnterOwnerStore, ReceiveWakeLoad, ReceiveWakeStore}
 use Rattle.lfm_protocol.specs.declared.points.Pusher.{Pusher}
 use Rattle.lfm_protocol.specs.declared.points.Releaser.{Releaser}
 use Rattle.lfm_protocol.specs.declared.points.Releaser.TheVariants.{Unlocker, Waiter}
@@ -71,7 +71,7 @@ errand (TryHandoffExchange old) = trying
 errand TryCountAdd = trying
 errand (SendWakeExchange t) = sending
 errand (SendCountAdd t) = sending
-errand (SendPushLook t old) = sending
+errand (SendPushRecheck t old) = sending
 errand (SendWakeStore t) = sending
 errand (PushLoad pusher) = pushes pusher
 errand (LinkStore pusher old) = pushes pusher
@@ -81,7 +81,7 @@ errand (PushedHandoffExchange pusher old) = pushes pusher
 errand (ReleaseOwnerStore releaser) = releasing releaser
 errand (ReleaseCountSubtract releaser) = releasing releaser
 errand (ReleaseHandoffStore releaser) = releasing releaser
-errand (ReleasePushLook releaser) = releasing releaser
+errand (ReleasePushRecheck releaser) = releasing releaser
 errand (ReleaseHandoffExchange releaser) = releasing releaser
 errand (WaitWakeStore released) = releasing Waiter
 errand (TakeClearHead carrier) = carries_for carrier
@@ -146,7 +146,7 @@ weight n k (TryHandoffExchange old) = 3
 weight n k TryCountAdd = 2
 weight n k (SendWakeExchange t) = n + 2 ^ 51 + 13
 weight n k (SendCountAdd t) = n + 2 ^ 51 + 12
-weight n k (SendPushLook t old) = n + 6
+weight n k (SendPushRecheck t old) = n + 6
 weight n k (SendWakeStore t) = 1
 weight n k (PushLoad pusher) = n + 2 ^ 51 + 10
 weight n k (LinkStore pusher old) = n + 2 * left old + 9
@@ -156,7 +156,7 @@ weight n k (PushedHandoffExchange pusher old) = n + 5
 weight n k (ReleaseOwnerStore releaser) = n + 7 + waits_on releaser
 weight n k (ReleaseCountSubtract releaser) = n + 6 + waits_on releaser
 weight n k (ReleaseHandoffStore releaser) = n + 4 + waits_on releaser
-weight n k (ReleasePushLook releaser) = n + 3 + waits_on releaser
+weight n k (ReleasePushRecheck releaser) = n + 3 + waits_on releaser
 weight n k (ReleaseHandoffExchange releaser) = n + 2 + waits_on releaser
 weight n k (WaitWakeStore released) = 1
 weight n k (TakeClearHead carrier) = clearing n carrier

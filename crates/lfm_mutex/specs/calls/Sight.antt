@@ -129,8 +129,8 @@ Names (Some k) n = k ≡ n
 Names None n = IsSeatNo n → ⊥
 
 -- a look at the owner word: one load, which tells the caller whether it holds
-abbrev pub LooksAtOwner : {T : Type 0} → Sight T → Sight T → Option ℕ → Type 0
-LooksAtOwner s t r =
+abbrev pub TellsOwner : {T : Type 0} → Sight T → Sight T → Option ℕ → Type 0
+TellsOwner s t r =
     (n : ℕ) × (t ≡ record s { trail = s.trail ++ seen TryOwnerLoad n ∷ [] }) × Names r n × (r ≡ Some s.number → 0 < s.depth) × (0 < s.depth → r ≡ Some s.number)
 
 -- The steps of a call that was refused as Busy: the count was not 0, the owner was another seat, and no handoff was posted, or the

@@ -7,7 +7,7 @@ use Rattle.lfm_words.specs.Words.{link_word}
 use Rattle.lfm_protocol.specs.declared.points.Carrier.{Carrier}
 use Rattle.lfm_protocol.specs.declared.points.Entrant.{Entrant}
 use Rattle.lfm_protocol.specs.declared.points.Point.{Point}
-use Rattle.lfm_protocol.specs.declared.points.Point.TheVariants.{Rest, Asleep, LockCountAdd, LockOwnerLoad, LockCountSubtract, TryCountExchange, TryOwnerLoad, TryHandoffLoad, TryHandoffExchange, TryCountAdd, SendWakeExchange, SendCountAdd, SendPushLook, SendWakeStore, PushLoad, LinkStore, PushExchange, PushedHandoffLoad, PushedHandoffExchange, ReleaseOwnerStore, ReleaseCountSubtract, ReleaseHandoffStore, ReleasePushLook, ReleaseHandoffExchange, WaitWakeStore, TakeClearHead, TakeLinkLoad, GrantWakeStore, EnterOwnerStore, ReceiveWakeLoad, ReceiveWakeStore}
+use Rattle.lfm_protocol.specs.declared.points.Point.TheVariants.{Rest, Asleep, LockCountAdd, LockOwnerLoad, LockCountSubtract, TryCountExchange, TryOwnerLoad, TryHandoffLoad, TryHandoffExchange, TryCountAdd, SendWakeExchange, SendCountAdd, SendPushRecheck, SendWakeStore, PushLoad, LinkStore, PushExchange, PushedHandoffLoad, PushedHandoffExchange, ReleaseOwnerStore, ReleaseCountSubtract, ReleaseHandoffStore, ReleasePushRecheck, ReleaseHandoffExchange, WaitWakeStore, TakeClearHead, TakeLinkLoad, GrantWakeStore, EnterOwnerStore, ReceiveWakeLoad, ReceiveWakeStore}
 use Rattle.lfm_protocol.specs.declared.points.Pusher.{Pusher}
 use Rattle.lfm_protocol.specs.declared.seats.SeatState.{SeatState}
 use Rattle.lfm_core.specs.table.Carried.{carries_value}
@@ -72,12 +72,12 @@ claim_owner d s (Asleep sleeper) deep = flat_owner d s deep
 claim_owner d s TryHandoffLoad deep = flat_owner d s deep
 claim_owner d s (TryHandoffExchange seen) deep = flat_owner d s deep
 claim_owner d s TryCountAdd deep = flat_owner d s deep
-claim_owner d s (SendPushLook t seen) deep = flat_owner d s deep
+claim_owner d s (SendPushRecheck t seen) deep = flat_owner d s deep
 claim_owner d s (SendWakeStore t) deep = flat_owner d s deep
 claim_owner d s (PushedHandoffExchange pusher seen) deep = flat_owner d s deep
 claim_owner d s (ReleaseCountSubtract releaser) deep = flat_owner d s deep
 claim_owner d s (ReleaseHandoffStore releaser) deep = flat_owner d s deep
-claim_owner d s (ReleasePushLook releaser) deep = flat_owner d s deep
+claim_owner d s (ReleasePushRecheck releaser) deep = flat_owner d s deep
 claim_owner d s (ReleaseHandoffExchange releaser) deep = flat_owner d s deep
 claim_owner d s (WaitWakeStore released) deep = flat_owner d s deep
 claim_owner d s (TakeClearHead carrier) deep = flat_owner d s deep

@@ -15,13 +15,13 @@ use Rattle.lfm_protocol.specs.declared.limits.Limits.{Limits}
 use Rattle.lfm_protocol.specs.declared.points.Carrier.{Carrier}
 use Rattle.lfm_protocol.specs.declared.points.Entrant.{Entrant}
 use Rattle.lfm_protocol.specs.declared.points.Point.{Point}
-use Rattle.lfm_protocol.specs.declared.points.Point.TheVariants.{Rest, Asleep, LockCountAdd, LockCountSubtract, TryCountExchange, TryOwnerLoad, TryHandoffLoad, TryHandoffExchange, TryCountAdd, SendWakeExchange, SendPushLook, SendWakeStore, PushedHandoffLoad, PushedHandoffExchange, ReleaseOwnerStore, ReleaseCountSubtract, ReleaseHandoffStore, ReleasePushLook, ReleaseHandoffExchange, TakeClearHead, TakeLinkLoad, GrantWakeStore, EnterOwnerStore, ReceiveWakeLoad, ReceiveWakeStore}
+use Rattle.lfm_protocol.specs.declared.points.Point.TheVariants.{Rest, Asleep, LockCountAdd, LockCountSubtract, TryCountExchange, TryOwnerLoad, TryHandoffLoad, TryHandoffExchange, TryCountAdd, SendWakeExchange, SendPushRecheck, SendWakeStore, PushedHandoffLoad, PushedHandoffExchange, ReleaseOwnerStore, ReleaseCountSubtract, ReleaseHandoffStore, ReleasePushRecheck, ReleaseHandoffExchange, TakeClearHead, TakeLinkLoad, GrantWakeStore, EnterOwnerStore, ReceiveWakeLoad, ReceiveWakeStore}
 use Rattle.lfm_protocol.specs.declared.points.Pusher.{Pusher}
 use Rattle.lfm_protocol.specs.declared.points.Releaser.{Releaser}
 use Rattle.lfm_protocol.specs.declared.points.Releaser.TheVariants.{Unlocker, Waiter}
 use Rattle.lfm_protocol.specs.declared.points.Sleeper.{Sleeper}
 use Rattle.lfm_protocol.specs.declared.seats.SeatState.{SeatState}
-use Rattle.lfm_protocol.specs.After.{same_handoff, releases, pushed, granted, receives, claims, carrier_of, take, busy, looks, serves, once_cleared, drops_oldest, drops_oldest_at, how_granted}
+use Rattle.lfm_protocol.specs.After.{same_handoff, releases, pushed, granted, receives, claims, carrier_of, take, busy, found_posted, serves, once_cleared, drops_oldest, drops_oldest_at, how_granted}
 use Rattle.lfm_protocol.specs.Begin.{Stepped, goes_on, ends, refuses, charges, begin_awake, begin_asleep, begin_at}
 use Rattle.lfm_protocol.specs.Begin as Begin
 use Rattle.lfm_core.specs.table.Carried.{carries_value}
@@ -81,10 +81,10 @@ module _ (d t ps s : ℕ) where
   shallow_at n o (TryHandoffExchange seen) other =
       shallow_if d s (same_handoff (handoff_of n) seen) (goes_on (made_of d t ps (TryHandoffExchange seen)) TryCountAdd) (busy (made_of d t ps (TryHandoffExchange seen))) (λ e. e, λ e. refl) (λ e. e, λ e. refl)
   shallow_at n o (SendWakeExchange u) other = shallow_claims (SendWakeExchange u) u (wake_of n)
-  shallow_at n o (SendPushLook u seen) other =
-      shallow_if d s (nat_eq (link_of n).next 0) _ (goes_on (made_of d t ps (SendPushLook u seen)) (PushedHandoffExchange (Pusher.Sender u) seen)) (λ e. e, λ e. refl) (λ e. e, λ e. refl)
+  shallow_at n o (SendPushRecheck u seen) other =
+      shallow_if d s (nat_eq (link_of n).next 0) _ (goes_on (made_of d t ps (SendPushRecheck u seen)) (PushedHandoffExchange (Pusher.Sender u) seen)) (λ e. e, λ e. refl) (λ e. e, λ e. refl)
   shallow_at n o (PushedHandoffLoad pusher) other =
-      shallow_if d s (nat_eq (handoff_of n).seat 0) (pushed (made_of d t ps (PushedHandoffLoad pusher)) pusher) (goes_on (made_of d t ps (PushedHandoffLoad pusher)) (looks pusher (handoff_of n)))
+      shallow_if d s (nat_eq (handoff_of n).seat 0) (pushed (made_of d t ps (PushedHandoffLoad pusher)) pusher) (goes_on (made_of d t ps (PushedHandoffLoad pusher)) (found_posted pusher (handoff_of n)))
       (shallow_pushed (PushedHandoffLoad pusher) pusher) (λ e. e, λ e. refl)
   shallow_at n o (PushedHandoffExchange pusher seen) other =
       shallow_if d s (same_handoff (handoff_of n) seen) (goes_on (made_of d t ps (PushedHandoffExchange pusher seen)) (take (carrier_of pusher) s o)) (pushed (made_of d t ps (PushedHandoffExchange pusher seen)) pusher)
@@ -93,9 +93,9 @@ module _ (d t ps s : ℕ) where
   shallow_at n o (ReleaseCountSubtract r) other =
       shallow_if d s (nat_eq n 1) (releases (made_of d t ps (ReleaseCountSubtract r)) r Unlocked.Free) (goes_on (made_of d t ps (ReleaseCountSubtract r)) (take (Carrier.Releaser r) s o))
       (shallow_releases (ReleaseCountSubtract r) r Unlocked.Free) (λ e. e, λ e. refl)
-  shallow_at n o (ReleasePushLook r) other =
-      shallow_if d s (nat_eq (link_of n).next 0) (releases (made_of d t ps (ReleasePushLook r)) r Unlocked.Posted) (goes_on (made_of d t ps (ReleasePushLook r)) (ReleaseHandoffExchange r))
-      (shallow_releases (ReleasePushLook r) r Unlocked.Posted) (λ e. e, λ e. refl)
+  shallow_at n o (ReleasePushRecheck r) other =
+      shallow_if d s (nat_eq (link_of n).next 0) (releases (made_of d t ps (ReleasePushRecheck r)) r Unlocked.Posted) (goes_on (made_of d t ps (ReleasePushRecheck r)) (ReleaseHandoffExchange r))
+      (shallow_releases (ReleasePushRecheck r) r Unlocked.Posted) (λ e. e, λ e. refl)
   shallow_at n o (ReleaseHandoffExchange r) other =
       shallow_if d s (same_handoff (handoff_of n) (record { seat = s; post = ps })) (goes_on (made_of d t ps (ReleaseHandoffExchange r)) (take (Carrier.Reclaimer r) s o)) (releases (made_of d t ps (ReleaseHandoffExchange r)) r Unlocked.TakenOver)
       (λ e. e, λ e. refl) (shallow_releases (ReleaseHandoffExchange r) r Unlocked.TakenOver)

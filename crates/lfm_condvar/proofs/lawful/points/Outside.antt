@@ -8,7 +8,7 @@ use Rattle.lfm_protocol.specs.declared.answers.Answer.{Answer}
 use Rattle.lfm_protocol.specs.declared.points.Carrier.{Carrier}
 use Rattle.lfm_protocol.specs.declared.points.Entrant.{Entrant}
 use Rattle.lfm_protocol.specs.declared.points.Point.{Point}
-use Rattle.lfm_protocol.specs.declared.points.Point.TheVariants.{Rest, Asleep, LockCountAdd, LockOwnerLoad, LockCountSubtract, TryCountExchange, TryOwnerLoad, TryHandoffLoad, TryHandoffExchange, TryCountAdd, SendWakeExchange, SendCountAdd, SendPushLook, SendWakeStore, PushLoad, LinkStore, PushExchange, PushedHandoffLoad, PushedHandoffExchange, ReleaseOwnerStore, ReleaseCountSubtract, ReleaseHandoffStore, ReleasePushLook, ReleaseHandoffExchange, WaitWakeStore, TakeClearHead, TakeLinkLoad, GrantWakeStore, EnterOwnerStore, ReceiveWakeLoad, ReceiveWakeStore}
+use Rattle.lfm_protocol.specs.declared.points.Point.TheVariants.{Rest, Asleep, LockCountAdd, LockOwnerLoad, LockCountSubtract, TryCountExchange, TryOwnerLoad, TryHandoffLoad, TryHandoffExchange, TryCountAdd, SendWakeExchange, SendCountAdd, SendPushRecheck, SendWakeStore, PushLoad, LinkStore, PushExchange, PushedHandoffLoad, PushedHandoffExchange, ReleaseOwnerStore, ReleaseCountSubtract, ReleaseHandoffStore, ReleasePushRecheck, ReleaseHandoffExchange, WaitWakeStore, TakeClearHead, TakeLinkLoad, GrantWakeStore, EnterOwnerStore, ReceiveWakeLoad, ReceiveWakeStore}
 use Rattle.lfm_protocol.specs.declared.points.Pusher.{Pusher}
 use Rattle.lfm_protocol.specs.declared.points.Releaser.TheVariants.{Unlocker, Waiter}
 use Rattle.lfm_protocol.specs.declared.points.Sleeper.{Sleeper}
@@ -17,7 +17,7 @@ use Rattle.lfm_words.specs.declared.handoffs.Handoff.{Handoff}
 use Rattle.lfm_words.specs.declared.pop_lists.Record.{Record}
 use Rattle.lfm_words.specs.declared.wakes.Wake.{Wake}
 use Rattle.lfm_words.specs.Popped.{oldest}
-use Rattle.lfm_protocol.specs.After.{same_link, same_handoff, releases, pushed, granted, looks, carrier_of, serves, take, once_cleared, receives, loaded, busy}
+use Rattle.lfm_protocol.specs.After.{same_link, same_handoff, releases, pushed, granted, found_posted, carrier_of, serves, take, once_cleared, receives, loaded, busy}
 use Rattle.lfm_protocol.specs.Begin.{Stepped, goes_on, ends}
 use Rattle.lfm_protocol.specs.Core.{Core}
 use Rattle.lfm_protocol.specs.Seats.{seat, link, wake}
@@ -50,9 +50,9 @@ of_receives : (x : SeatState) (w : Wake) → is_of_condvar (receives x Sleeper.L
 of_receives x (Wake.Grant stamp) = refl
 of_receives x _ = refl
 
-of_looks : (pusher : Pusher) (found : Handoff) → is_of_condvar (looks pusher found) ≡ false
-of_looks Pusher.Locker found = refl
-of_looks (Pusher.Sender t) found = refl
+of_found_posted : (pusher : Pusher) (found : Handoff) → is_of_condvar (found_posted pusher found) ≡ false
+of_found_posted Pusher.Locker found = refl
+of_found_posted (Pusher.Sender t) found = refl
 
 of_serves : (carrier : Carrier) (s : ℕ) (r : Record) → carries_to_wait carrier ≡ false → is_of_condvar (serves carrier s r) ≡ false
 of_serves Carrier.Locker s r none =
@@ -101,7 +101,7 @@ outside_from c s (TryHandoffExchange seen) at before =
 outside_from c s TryCountAdd at before = rw (at, at) refl
 outside_from c s (SendCountAdd t) at before =
     rw (at, at) (point_if (nat_eq c.count 0) (SendWakeStore t) (PushLoad (Pusher.Sender t)) refl refl)
-outside_from c s (SendPushLook t seen) at before =
+outside_from c s (SendPushRecheck t seen) at before =
     rw (at, at) (outside_if (nat_eq c.push.next 0) (ends (seat c.seats s) Answer.Sent)
     (goes_on (seat c.seats s) (PushedHandoffExchange (Pusher.Sender t) seen)) refl refl)
 outside_from c s (SendWakeStore t) at before = rw (at, at) refl
@@ -111,8 +111,8 @@ outside_from c s (PushExchange pusher seen) at before =
     rw (at, at) (point_if (same_link c.push seen) (PushedHandoffLoad pusher) (LinkStore pusher c.push) refl refl)
 outside_from c s (PushedHandoffLoad pusher) at before =
     rw (at, at) (outside_if (nat_eq c.handoff.seat 0) (pushed (seat c.seats s) pusher)
-    (goes_on (seat c.seats s) (looks pusher c.handoff))
-    (of_pushed (seat c.seats s) pusher) (of_looks pusher c.handoff))
+    (goes_on (seat c.seats s) (found_posted pusher c.handoff))
+    (of_pushed (seat c.seats s) pusher) (of_found_posted pusher c.handoff))
 outside_from c s (PushedHandoffExchange pusher seen) at before =
     rw (at, at) (outside_if (same_handoff c.handoff seen) (goes_on (seat c.seats s)
     (take (carrier_of pusher) s (oldest c.popped))) (pushed (seat c.seats s) pusher)
@@ -120,7 +120,7 @@ outside_from c s (PushedHandoffExchange pusher seen) at before =
 outside_from c s (ReleaseOwnerStore Waiter) at before = absurd (false≢true (sym before))
 outside_from c s (ReleaseCountSubtract Waiter) at before = absurd (false≢true (sym before))
 outside_from c s (ReleaseHandoffStore Waiter) at before = absurd (false≢true (sym before))
-outside_from c s (ReleasePushLook Waiter) at before = absurd (false≢true (sym before))
+outside_from c s (ReleasePushRecheck Waiter) at before = absurd (false≢true (sym before))
 outside_from c s (ReleaseHandoffExchange Waiter) at before = absurd (false≢true (sym before))
 outside_from c s (WaitWakeStore released) at before = absurd (false≢true (sym before))
 outside_from c s (ReleaseOwnerStore Unlocker) at before = rw (at, at) refl
@@ -129,7 +129,7 @@ outside_from c s (ReleaseCountSubtract Unlocker) at before =
     (goes_on (seat c.seats s) (take (Carrier.Releaser Unlocker) s (oldest c.popped)))
     refl (of_take (Carrier.Releaser Unlocker) s (oldest c.popped) refl))
 outside_from c s (ReleaseHandoffStore Unlocker) at before = rw (at, at) refl
-outside_from c s (ReleasePushLook Unlocker) at before =
+outside_from c s (ReleasePushRecheck Unlocker) at before =
     rw (at, at) (outside_if (nat_eq c.push.next 0) (releases (seat c.seats s) Unlocker Unlocked.Posted)
     (goes_on (seat c.seats s) (ReleaseHandoffExchange Unlocker)) refl refl)
 outside_from c s (ReleaseHandoffExchange Unlocker) at before =

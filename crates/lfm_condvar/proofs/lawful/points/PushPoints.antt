@@ -4,13 +4,13 @@ use Rattle.std.proofs.lemmas.Bool.{cases_Bool, false≢true}
 use Rattle.lfm_protocol.specs.declared.answers.Answer.{Answer}
 use Rattle.lfm_protocol.specs.declared.points.Carrier.{Carrier}
 use Rattle.lfm_protocol.specs.declared.points.Point.{Point}
-use Rattle.lfm_protocol.specs.declared.points.Point.TheVariants.{Rest, SendCountAdd, SendPushLook, SendWakeStore, PushLoad, LinkStore, PushExchange, PushedHandoffLoad, PushedHandoffExchange, TakeClearHead, TakeLinkLoad, GrantWakeStore}
+use Rattle.lfm_protocol.specs.declared.points.Point.TheVariants.{Rest, SendCountAdd, SendPushRecheck, SendWakeStore, PushLoad, LinkStore, PushExchange, PushedHandoffLoad, PushedHandoffExchange, TakeClearHead, TakeLinkLoad, GrantWakeStore}
 use Rattle.lfm_protocol.specs.declared.points.Pusher.{Pusher}
 use Rattle.lfm_protocol.specs.declared.seats.SeatState.{SeatState}
 use Rattle.lfm_words.specs.declared.handoffs.Handoff.{Handoff}
 use Rattle.lfm_words.specs.declared.pop_lists.Record.{Record}
 use Rattle.lfm_words.specs.Popped.{oldest}
-use Rattle.lfm_protocol.specs.After.{same_link, same_handoff, pushed, granted, looks, carrier_of, serves, take, once_cleared, loaded}
+use Rattle.lfm_protocol.specs.After.{same_link, same_handoff, pushed, granted, found_posted, carrier_of, serves, take, once_cleared, loaded}
 use Rattle.lfm_protocol.specs.Begin.{Stepped, goes_on, ends}
 use Rattle.lfm_protocol.specs.Core.{Core}
 use Rattle.lfm_protocol.specs.Seats.{seat, link}
@@ -48,9 +48,9 @@ of_granted : (x : SeatState) (carrier : Carrier) (r : Record) → carries_for_se
 of_granted x Carrier.Sender r sender = refl
 of_granted x _ r sender = absurd (false≢true sender)
 
-of_looks : (pusher : Pusher) (found : Handoff) → is_sender pusher ≡ true → to_push (looks pusher found) ≡ None
-of_looks Pusher.Locker found sender = absurd (false≢true sender)
-of_looks (Pusher.Sender t) found sender = refl
+of_found_posted : (pusher : Pusher) (found : Handoff) → is_sender pusher ≡ true → to_push (found_posted pusher found) ≡ None
+of_found_posted Pusher.Locker found sender = absurd (false≢true sender)
+of_found_posted (Pusher.Sender t) found sender = refl
 
 of_serves : (carrier : Carrier) (s : ℕ) (r : Record) → carries_for_send carrier ≡ true → to_push (serves carrier s r) ≡ None
 of_serves Carrier.Sender s r sender = refl
@@ -81,8 +81,8 @@ still_at c s (SendCountAdd u) at before =
       | inl first ↦ no_more c s (SendCountAdd u) _ (rw (at, at, first) refl)
       | inr later ↦ λ t some. (rw (at, at, later) at some, refl)
     ]
-still_at c s (SendPushLook u seen) at before =
-    no_more c s (SendPushLook u seen) _ (rw (at, at) (none_if (nat_eq c.push.next 0) (ends (seat c.seats s) Answer.Sent)
+still_at c s (SendPushRecheck u seen) at before =
+    no_more c s (SendPushRecheck u seen) _ (rw (at, at) (none_if (nat_eq c.push.next 0) (ends (seat c.seats s) Answer.Sent)
     (goes_on (seat c.seats s) (PushedHandoffExchange (Pusher.Sender u) seen)) refl refl))
 still_at c s (SendWakeStore u) at before = no_more c s (SendWakeStore u) _ (rw (at, at) refl)
 still_at c s (PushLoad pusher) at before = λ t some. (rw (at, at) at some, refl)
@@ -94,8 +94,8 @@ still_at c s (PushExchange pusher seen) at before =
     ]
 still_at c s (PushedHandoffLoad pusher) at before =
     no_more c s (PushedHandoffLoad pusher) _ (rw (at, at) (none_if (nat_eq c.handoff.seat 0) (pushed (seat c.seats s) pusher)
-    (goes_on (seat c.seats s) (looks pusher c.handoff))
-    (of_pushed (seat c.seats s) pusher before) (of_looks pusher c.handoff before)))
+    (goes_on (seat c.seats s) (found_posted pusher c.handoff))
+    (of_pushed (seat c.seats s) pusher before) (of_found_posted pusher c.handoff before)))
 still_at c s (PushedHandoffExchange pusher seen) at before =
     no_more c s (PushedHandoffExchange pusher seen) _ (rw (at, at) (none_if (same_handoff c.handoff seen)
     (goes_on (seat c.seats s) (take (carrier_of pusher) s (oldest c.popped))) (pushed (seat c.seats s) pusher)

@@ -5,13 +5,13 @@ use Rattle.std.specs.Prelude.{Option, Some, None, nat_eq}
 use Rattle.lfm_protocol.specs.declared.answers.Answer.{Answer}
 use Rattle.lfm_protocol.specs.declared.points.Carrier.{Carrier}
 use Rattle.lfm_protocol.specs.declared.points.Point.{Point}
-use Rattle.lfm_protocol.specs.declared.points.Point.TheVariants.{Rest, SendCountAdd, SendPushLook, SendWakeStore, PushLoad, LinkStore, PushExchange, PushedHandoffLoad, PushedHandoffExchange, TakeClearHead, TakeLinkLoad, GrantWakeStore}
+use Rattle.lfm_protocol.specs.declared.points.Point.TheVariants.{Rest, SendCountAdd, SendPushRecheck, SendWakeStore, PushLoad, LinkStore, PushExchange, PushedHandoffLoad, PushedHandoffExchange, TakeClearHead, TakeLinkLoad, GrantWakeStore}
 use Rattle.lfm_protocol.specs.declared.points.Pusher.{Pusher}
 use Rattle.lfm_protocol.specs.declared.seats.SeatState.{SeatState}
 use Rattle.lfm_words.specs.declared.handoffs.Handoff.{Handoff}
 use Rattle.lfm_words.specs.declared.pop_lists.Record.{Record}
 use Rattle.lfm_words.specs.Popped.{oldest}
-use Rattle.lfm_protocol.specs.After.{same_link, same_handoff, pushed, granted, looks, carrier_of, serves, take, once_cleared, loaded}
+use Rattle.lfm_protocol.specs.After.{same_link, same_handoff, pushed, granted, found_posted, carrier_of, serves, take, once_cleared, loaded}
 use Rattle.lfm_protocol.specs.Begin.{Stepped, goes_on, ends}
 use Rattle.lfm_protocol.specs.Core.{Core}
 use Rattle.lfm_protocol.specs.Seats.{seat, link}
@@ -36,9 +36,9 @@ of_granted : (x : SeatState) (carrier : Carrier) (r : Record) → carries_for_se
 of_granted x Carrier.Sender r sender = refl
 of_granted x _ r sender = absurd (false≢true sender)
 
-of_looks : (pusher : Pusher) (found : Handoff) → is_sender pusher ≡ true → sends_at (looks pusher found) ≡ true
-of_looks Pusher.Locker found sender = absurd (false≢true sender)
-of_looks (Pusher.Sender t) found sender = refl
+of_found_posted : (pusher : Pusher) (found : Handoff) → is_sender pusher ≡ true → sends_at (found_posted pusher found) ≡ true
+of_found_posted Pusher.Locker found sender = absurd (false≢true sender)
+of_found_posted (Pusher.Sender t) found sender = refl
 
 of_serves : (carrier : Carrier) (s : ℕ) (r : Record) → carries_for_send carrier ≡ true → sends_at (serves carrier s r) ≡ true
 of_serves Carrier.Sender s r sender = refl
@@ -59,7 +59,7 @@ sends_from : (c : Core) (s : ℕ) (p : Point) → (seat c.seats s).point ≡ p �
 sends_from c s Rest at before = rw (at, at) refl
 sends_from c s (SendCountAdd t) at before =
     rw (at, at) (point_if (nat_eq c.count 0) (SendWakeStore t) (PushLoad (Pusher.Sender t)) refl refl)
-sends_from c s (SendPushLook t seen) at before =
+sends_from c s (SendPushRecheck t seen) at before =
     rw (at, at) (sends_if (nat_eq c.push.next 0) (ends (seat c.seats s) Answer.Sent)
     (goes_on (seat c.seats s) (PushedHandoffExchange (Pusher.Sender t) seen)) refl refl)
 sends_from c s (SendWakeStore t) at before = rw (at, at) refl
@@ -69,8 +69,8 @@ sends_from c s (PushExchange pusher seen) at before =
     rw (at, at) (point_if (same_link c.push seen) (PushedHandoffLoad pusher) (LinkStore pusher c.push) before before)
 sends_from c s (PushedHandoffLoad pusher) at before =
     rw (at, at) (sends_if (nat_eq c.handoff.seat 0) (pushed (seat c.seats s) pusher)
-    (goes_on (seat c.seats s) (looks pusher c.handoff))
-    (of_pushed (seat c.seats s) pusher before) (of_looks pusher c.handoff before))
+    (goes_on (seat c.seats s) (found_posted pusher c.handoff))
+    (of_pushed (seat c.seats s) pusher before) (of_found_posted pusher c.handoff before))
 sends_from c s (PushedHandoffExchange pusher seen) at before =
     rw (at, at) (sends_if (same_handoff c.handoff seen) (goes_on (seat c.seats s) (take (carrier_of pusher) s (oldest c.popped)))
     (pushed (seat c.seats s) pusher)

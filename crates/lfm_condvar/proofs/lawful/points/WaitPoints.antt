@@ -5,7 +5,7 @@ use Rattle.std.specs.Prelude.{Option, Some, None, nat_eq}
 use Rattle.lfm_model.specs.declared.answers.Unlocked.{Unlocked}
 use Rattle.lfm_protocol.specs.declared.points.Carrier.{Carrier}
 use Rattle.lfm_protocol.specs.declared.points.Point.{Point}
-use Rattle.lfm_protocol.specs.declared.points.Point.TheVariants.{Asleep, ReleaseOwnerStore, ReleaseCountSubtract, ReleaseHandoffStore, ReleasePushLook, ReleaseHandoffExchange, WaitWakeStore, TakeClearHead, TakeLinkLoad, GrantWakeStore}
+use Rattle.lfm_protocol.specs.declared.points.Point.TheVariants.{Asleep, ReleaseOwnerStore, ReleaseCountSubtract, ReleaseHandoffStore, ReleasePushRecheck, ReleaseHandoffExchange, WaitWakeStore, TakeClearHead, TakeLinkLoad, GrantWakeStore}
 use Rattle.lfm_protocol.specs.declared.points.Releaser.TheVariants.{Waiter}
 use Rattle.lfm_protocol.specs.declared.points.Sleeper.{Sleeper}
 use Rattle.lfm_protocol.specs.declared.seats.SeatState.{SeatState}
@@ -67,7 +67,7 @@ waits_from c s (ReleaseCountSubtract Waiter) at before last =
     (goes_on (seat c.seats s) (take (Carrier.Releaser Waiter) s (oldest c.popped)))
     refl (of_take (Carrier.Releaser Waiter) s (oldest c.popped) refl))
 waits_from c s (ReleaseHandoffStore Waiter) at before last = rw (at, at) refl
-waits_from c s (ReleasePushLook Waiter) at before last =
+waits_from c s (ReleasePushRecheck Waiter) at before last =
     rw (at, at) (waits_if (nat_eq c.push.next 0) (releases (seat c.seats s) Waiter Unlocked.Posted)
     (goes_on (seat c.seats s) (ReleaseHandoffExchange Waiter)) refl refl)
 waits_from c s (ReleaseHandoffExchange Waiter) at before last =

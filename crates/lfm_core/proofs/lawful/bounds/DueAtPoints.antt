@@ -4,7 +4,7 @@ use Rattle.std.proofs.Common.{◌≡◌, ℕ, Bool, true, false, ◌+◌, ◌≤
 use Rattle.std.proofs.lemmas.Bool.{cases_Bool, false≢true}
 use Rattle.lfm_protocol.specs.declared.points.Carrier.{Carrier}
 use Rattle.lfm_protocol.specs.declared.points.Point.{Point}
-use Rattle.lfm_protocol.specs.declared.points.Point.TheVariants.{Rest, Asleep, LockCountAdd, LockOwnerLoad, LockCountSubtract, TryCountExchange, TryOwnerLoad, TryHandoffLoad, TryHandoffExchange, TryCountAdd, SendWakeExchange, SendCountAdd, SendPushLook, SendWakeStore, PushLoad, LinkStore, PushExchange, PushedHandoffLoad, PushedHandoffExchange, ReleaseOwnerStore, ReleaseCountSubtract, ReleaseHandoffStore, ReleasePushLook, ReleaseHandoffExchange, WaitWakeStore, TakeClearHead, TakeLinkLoad, GrantWakeStore, EnterOwnerStore, ReceiveWakeLoad, ReceiveWakeStore}
+use Rattle.lfm_protocol.specs.declared.points.Point.TheVariants.{Rest, Asleep, LockCountAdd, LockOwnerLoad, LockCountSubtract, TryCountExchange, TryOwnerLoad, TryHandoffLoad, TryHandoffExchange, TryCountAdd, SendWakeExchange, SendCountAdd, SendPushRecheck, SendWakeStore, PushLoad, LinkStore, PushExchange, PushedHandoffLoad, PushedHandoffExchange, ReleaseOwnerStore, ReleaseCountSubtract, ReleaseHandoffStore, ReleasePushRecheck, ReleaseHandoffExchange, WaitWakeStore, TakeClearHead, TakeLinkLoad, GrantWakeStore, EnterOwnerStore, ReceiveWakeLoad, ReceiveWakeStore}
 use Rattle.lfm_protocol.specs.declared.points.Pusher.{Pusher}
 use Rattle.lfm_protocol.specs.declared.points.Releaser.{Releaser}
 use Rattle.lfm_protocol.specs.declared.points.Releaser.TheVariants.{Unlocker, Waiter}
@@ -53,7 +53,7 @@ due_at push seats room (TryHandoffExchange seen) = 3
 due_at push seats room TryCountAdd = 2
 due_at push seats room (SendWakeExchange t) = seats + 9
 due_at push seats room (SendCountAdd t) = seats + 8
-due_at push seats room (SendPushLook t seen) = seats + 3
+due_at push seats room (SendPushRecheck t seen) = seats + 3
 due_at push seats room (SendWakeStore t) = 1
 due_at push seats room (PushLoad pusher) = seats + 7
 due_at push seats room (LinkStore pusher seen) = seats + 6 + again_unless (same_link push seen)
@@ -63,7 +63,7 @@ due_at push seats room (PushedHandoffExchange pusher seen) = due_to_exchange sea
 due_at push seats room (ReleaseOwnerStore releaser) = seats + 7 + waits_on releaser
 due_at push seats room (ReleaseCountSubtract releaser) = seats + 6 + waits_on releaser
 due_at push seats room (ReleaseHandoffStore releaser) = seats + 4 + waits_on releaser
-due_at push seats room (ReleasePushLook releaser) = seats + 3 + waits_on releaser
+due_at push seats room (ReleasePushRecheck releaser) = seats + 3 + waits_on releaser
 due_at push seats room (ReleaseHandoffExchange releaser) = seats + 2 + waits_on releaser
 due_at push seats room (WaitWakeStore released) = 1
 due_at push seats room (TakeClearHead carrier) = due_to_clear seats carrier
@@ -80,7 +80,7 @@ changes_at LockCountAdd = 2
 changes_at LockOwnerLoad = 2
 changes_at (SendWakeExchange t) = 2
 changes_at (SendCountAdd t) = 2
-changes_at (SendPushLook t seen) = 1
+changes_at (SendPushRecheck t seen) = 1
 changes_at (PushLoad pusher) = 2
 changes_at (LinkStore pusher seen) = 2
 changes_at (PushExchange pusher seen) = 2
@@ -89,7 +89,7 @@ changes_at (PushedHandoffExchange pusher seen) = 1
 changes_at (ReleaseOwnerStore releaser) = 1
 changes_at (ReleaseCountSubtract releaser) = 1
 changes_at (ReleaseHandoffStore releaser) = 1
-changes_at (ReleasePushLook releaser) = 1
+changes_at (ReleasePushRecheck releaser) = 1
 changes_at (ReleaseHandoffExchange releaser) = 1
 changes_at (TakeClearHead carrier) = 1
 changes_at _ = 0
@@ -133,7 +133,7 @@ due_at-le push seats room (PushedHandoffExchange pusher seen) few = omega (arith
 due_at-le push seats room (ReleaseOwnerStore releaser) few = omega (arith, waits_on-le releaser)
 due_at-le push seats room (ReleaseCountSubtract releaser) few = omega (arith, waits_on-le releaser)
 due_at-le push seats room (ReleaseHandoffStore releaser) few = omega (arith, waits_on-le releaser)
-due_at-le push seats room (ReleasePushLook releaser) few = omega (arith, waits_on-le releaser)
+due_at-le push seats room (ReleasePushRecheck releaser) few = omega (arith, waits_on-le releaser)
 due_at-le push seats room (ReleaseHandoffExchange releaser) few = omega (arith, waits_on-le releaser)
 due_at-le push seats room (TakeClearHead carrier) few = omega (arith, due_to_clear-le seats carrier)
 due_at-le push seats room (TakeLinkLoad carrier next) few = omega (arith, few, due_to_walk-le room carrier)
@@ -145,7 +145,7 @@ changes_at-le LockCountAdd = omega arith
 changes_at-le LockOwnerLoad = omega arith
 changes_at-le (SendWakeExchange t) = omega arith
 changes_at-le (SendCountAdd t) = omega arith
-changes_at-le (SendPushLook t seen) = omega arith
+changes_at-le (SendPushRecheck t seen) = omega arith
 changes_at-le (PushLoad pusher) = omega arith
 changes_at-le (LinkStore pusher seen) = omega arith
 changes_at-le (PushExchange pusher seen) = omega arith
@@ -154,7 +154,7 @@ changes_at-le (PushedHandoffExchange pusher seen) = omega arith
 changes_at-le (ReleaseOwnerStore releaser) = omega arith
 changes_at-le (ReleaseCountSubtract releaser) = omega arith
 changes_at-le (ReleaseHandoffStore releaser) = omega arith
-changes_at-le (ReleasePushLook releaser) = omega arith
+changes_at-le (ReleasePushRecheck releaser) = omega arith
 changes_at-le (ReleaseHandoffExchange releaser) = omega arith
 changes_at-le (TakeClearHead carrier) = omega arith
 changes_at-le _ = omega arith

@@ -12,7 +12,7 @@ use Rattle.lfm_protocol.specs.declared.answers.Turn.TheVariants.{Ended}
 use Rattle.lfm_protocol.specs.declared.points.Carrier.{Carrier}
 use Rattle.lfm_protocol.specs.declared.points.Entrant.{Entrant}
 use Rattle.lfm_protocol.specs.declared.points.Point.{Point}
-use Rattle.lfm_protocol.specs.declared.points.Point.TheVariants.{Rest, Asleep, LockCountAdd, LockOwnerLoad, LockCountSubtract, TryCountExchange, TryOwnerLoad, TryHandoffLoad, TryHandoffExchange, TryCountAdd, SendWakeExchange, SendCountAdd, SendPushLook, SendWakeStore, PushLoad, LinkStore, PushExchange, PushedHandoffLoad, PushedHandoffExchange, ReleaseOwnerStore, ReleaseCountSubtract, ReleaseHandoffStore, ReleasePushLook, ReleaseHandoffExchange, WaitWakeStore, TakeClearHead, TakeLinkLoad, GrantWakeStore, EnterOwnerStore, ReceiveWakeLoad, ReceiveWakeStore}
+use Rattle.lfm_protocol.specs.declared.points.Point.TheVariants.{Rest, Asleep, LockCountAdd, LockOwnerLoad, LockCountSubtract, TryCountExchange, TryOwnerLoad, TryHandoffLoad, TryHandoffExchange, TryCountAdd, SendWakeExchange, SendCountAdd, SendPushRecheck, SendWakeStore, PushLoad, LinkStore, PushExchange, PushedHandoffLoad, PushedHandoffExchange, ReleaseOwnerStore, ReleaseCountSubtract, ReleaseHandoffStore, ReleasePushRecheck, ReleaseHandoffExchange, WaitWakeStore, TakeClearHead, TakeLinkLoad, GrantWakeStore, EnterOwnerStore, ReceiveWakeLoad, ReceiveWakeStore}
 use Rattle.lfm_protocol.specs.declared.points.Pusher.{Pusher}
 use Rattle.lfm_protocol.specs.declared.points.Releaser.{Releaser}
 use Rattle.lfm_protocol.specs.declared.points.Releaser.TheVariants.{Unlocker, Waiter}
@@ -24,7 +24,7 @@ use Rattle.lfm_words.specs.declared.pop_lists.Record.{Record}
 use Rattle.lfm_words.specs.declared.wakes.Wake.{Wake}
 use Rattle.lfm_words.specs.declared.wakes.Wake.TheVariants.{Grant}
 use Rattle.lfm_words.specs.Popped.{oldest}
-use Rattle.lfm_protocol.specs.After.{same_link, same_handoff, busy, deepens, how_granted, loaded, releases, pushed, granted, serves, take, once_cleared, carrier_of, receives, claims, looks}
+use Rattle.lfm_protocol.specs.After.{same_link, same_handoff, busy, deepens, how_granted, loaded, releases, pushed, granted, serves, take, once_cleared, carrier_of, receives, claims, found_posted}
 use Rattle.lfm_protocol.specs.Begin.{Stepped, goes_on, ends}
 use Rattle.lfm_protocol.specs.Core.{Core}
 use Rattle.lfm_protocol.specs.Points.{kind}
@@ -109,9 +109,9 @@ of_take push seats room carrier s (Some r) =
     let due = few.0 in
     (omega (arith, due, few_to_serve seats carrier), few.1)
 
-of_looks : (push : Link) (seats room : ℕ) (pusher : Pusher) (n : Handoff) → Within push seats room (seats + 3) 1 (looks pusher n)
-of_looks push seats room Pusher.Locker n = (omega arith, omega arith)
-of_looks push seats room (Pusher.Sender t) n = (omega arith, omega arith)
+of_found_posted : (push : Link) (seats room : ℕ) (pusher : Pusher) (n : Handoff) → Within push seats room (seats + 3) 1 (found_posted pusher n)
+of_found_posted push seats room Pusher.Locker n = (omega arith, omega arith)
+of_found_posted push seats room (Pusher.Sender t) n = (omega arith, omega arith)
 
 of_tried : (push : Link) (seats room : ℕ) (x : SeatState) (succeeded : Bool)
     → Within push seats room 2 0 (if succeeded then goes_on x TryCountAdd else busy x).seat.point
@@ -234,9 +234,9 @@ at_point c s room before (SendCountAdd t) at inside stands few =
     (spends c.push (length c.seats) before room (length c.seats + 7) 2 (SendCountAdd t) _
     (of_points c.push (length c.seats) room (length c.seats + 7) 2 (nat_eq c.count 0) (SendWakeStore t) (PushLoad (Pusher.Sender t))
     (omega arith, omega arith) (omega arith, omega arith)) (omega arith) (omega arith))
-at_point c s room before (SendPushLook t seen) at inside stands few =
+at_point c s room before (SendPushRecheck t seen) at inside stands few =
     rw (at, at)
-    (spends c.push (length c.seats) before room (length c.seats + 2) 1 (SendPushLook t seen) _
+    (spends c.push (length c.seats) before room (length c.seats + 2) 1 (SendPushRecheck t seen) _
     (of_turns c.push (length c.seats) room (length c.seats + 2) 1 (nat_eq c.push.next 0) (ends (seat c.seats s) Sent)
     (goes_on (seat c.seats s) (PushedHandoffExchange (Pusher.Sender t) seen))
     (omega arith, omega arith) (omega arith, omega arith)) (omega arith) (omega arith))
@@ -256,8 +256,8 @@ at_point c s room before (PushedHandoffLoad pusher) at inside stands few =
     rw (at, at)
     (spends c.push (length c.seats) before room (length c.seats + 3) 1 (PushedHandoffLoad pusher) _
     (of_turns c.push (length c.seats) room (length c.seats + 3) 1 (nat_eq c.handoff.seat 0) (pushed (seat c.seats s) pusher)
-    (goes_on (seat c.seats s) (looks pusher c.handoff))
-    (of_pushed c.push (length c.seats) room (length c.seats + 3) 1 (seat c.seats s) pusher) (of_looks c.push (length c.seats) room pusher c.handoff)) (omega arith) (omega arith))
+    (goes_on (seat c.seats s) (found_posted pusher c.handoff))
+    (of_pushed c.push (length c.seats) room (length c.seats + 3) 1 (seat c.seats s) pusher) (of_found_posted c.push (length c.seats) room pusher c.handoff)) (omega arith) (omega arith))
 at_point c s room before (PushedHandoffExchange pusher seen) at inside stands few =
     rw (at, at)
     (spends c.push (length c.seats) before room (due_to_clear (length c.seats) (carrier_of pusher)) 1 (PushedHandoffExchange pusher seen) _
@@ -278,11 +278,11 @@ at_point c s room before (ReleaseCountSubtract releaser) at inside stands few =
     (of_take c.push (length c.seats) room (Carrier.Releaser releaser) s (oldest c.popped))) (omega arith) (omega arith))
 at_point c s room before (ReleaseHandoffStore releaser) at inside stands few =
     rw (at, at)
-    (spends c.push (length c.seats) before room (length c.seats + 3 + waits_on releaser) 1 (ReleaseHandoffStore releaser) (ReleasePushLook releaser)
+    (spends c.push (length c.seats) before room (length c.seats + 3 + waits_on releaser) 1 (ReleaseHandoffStore releaser) (ReleasePushRecheck releaser)
     (omega arith, omega arith) (omega arith) (omega arith))
-at_point c s room before (ReleasePushLook releaser) at inside stands few =
+at_point c s room before (ReleasePushRecheck releaser) at inside stands few =
     rw (at, at)
-    (spends c.push (length c.seats) before room (length c.seats + 2 + waits_on releaser) 1 (ReleasePushLook releaser) _
+    (spends c.push (length c.seats) before room (length c.seats + 2 + waits_on releaser) 1 (ReleasePushRecheck releaser) _
     (of_turns c.push (length c.seats) room (length c.seats + 2 + waits_on releaser) 1 (nat_eq c.push.next 0) (releases (seat c.seats s) releaser Posted)
     (goes_on (seat c.seats s) (ReleaseHandoffExchange releaser))
     (of_release c.push (length c.seats) room (length c.seats + 2 + waits_on releaser) 1 (seat c.seats s) releaser Posted (omega arith))

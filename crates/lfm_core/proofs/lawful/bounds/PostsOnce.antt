@@ -3,7 +3,7 @@ use Rattle.std.proofs.Common.{◌≡◌, ℕ, Bool, true, false, ◌+◌, ◌≤
 use Rattle.lfm_model.specs.declared.answers.Unlocked.{Unlocked}
 use Rattle.lfm_protocol.specs.declared.points.Carrier.{Carrier}
 use Rattle.lfm_protocol.specs.declared.points.Point.{Point}
-use Rattle.lfm_protocol.specs.declared.points.Point.TheVariants.{LockCountAdd, LockOwnerLoad, TryCountExchange, TryOwnerLoad, TryHandoffLoad, TryHandoffExchange, TryCountAdd, SendWakeExchange, SendCountAdd, SendPushLook, LinkStore, PushExchange, PushedHandoffLoad, PushedHandoffExchange, ReleaseOwnerStore, ReleaseCountSubtract, ReleaseHandoffStore, ReleasePushLook, ReleaseHandoffExchange, TakeClearHead, TakeLinkLoad, GrantWakeStore, ReceiveWakeLoad}
+use Rattle.lfm_protocol.specs.declared.points.Point.TheVariants.{LockCountAdd, LockOwnerLoad, TryCountExchange, TryOwnerLoad, TryHandoffLoad, TryHandoffExchange, TryCountAdd, SendWakeExchange, SendCountAdd, SendPushRecheck, LinkStore, PushExchange, PushedHandoffLoad, PushedHandoffExchange, ReleaseOwnerStore, ReleaseCountSubtract, ReleaseHandoffStore, ReleasePushRecheck, ReleaseHandoffExchange, TakeClearHead, TakeLinkLoad, GrantWakeStore, ReceiveWakeLoad}
 use Rattle.lfm_protocol.specs.declared.points.Pusher.{Pusher}
 use Rattle.lfm_protocol.specs.declared.points.Releaser.{Releaser}
 use Rattle.lfm_protocol.specs.declared.points.Releaser.TheVariants.{Unlocker, Waiter}
@@ -14,7 +14,7 @@ use Rattle.lfm_words.specs.declared.pop_lists.Record.{Record}
 use Rattle.lfm_words.specs.declared.wakes.Wake.{Wake}
 use Rattle.lfm_words.specs.declared.wakes.Wake.TheVariants.{Grant}
 use Rattle.lfm_words.specs.Popped.{oldest}
-use Rattle.lfm_protocol.specs.After.{same_link, same_handoff, busy, loaded, releases, pushed, granted, serves, take, carrier_of, receives, claims, looks}
+use Rattle.lfm_protocol.specs.After.{same_link, same_handoff, busy, loaded, releases, pushed, granted, serves, take, carrier_of, receives, claims, found_posted}
 use Rattle.lfm_protocol.specs.Begin.{Stepped, goes_on}
 use Rattle.lfm_protocol.specs.Core.{Core}
 use Rattle.lfm_core.specs.laws.Laws.{post_weight, CallsPostOnce}
@@ -84,9 +84,9 @@ of_tried : (x : SeatState) (succeeded : Bool) → posts_left (if succeeded then 
 of_tried x true = refl
 of_tried x false = refl
 
-of_looks : (pusher : Pusher) (n : Handoff) → posts_left (looks pusher n) ≡ 0
-of_looks Pusher.Locker n = refl
-of_looks (Pusher.Sender t) n = refl
+of_found_posted : (pusher : Pusher) (n : Handoff) → posts_left (found_posted pusher n) ≡ 0
+of_found_posted Pusher.Locker n = refl
+of_found_posted (Pusher.Sender t) n = refl
 
 of_received : (x : SeatState) (sleeper : Sleeper) (w : Wake) → posts_left (receives x sleeper w).seat.point ≡ 0
 of_received x sleeper (Grant stamp) = refl
@@ -113,13 +113,13 @@ none_left c s TryHandoffLoad at none = rw (at, at) (of_turns (nat_eq c.handoff.s
 none_left c s (TryHandoffExchange seen) at none = rw (at, at) (of_tried (seat c.seats s) (same_handoff c.handoff seen))
 none_left c s (SendWakeExchange t) at none = rw (at, at) (of_claims (seat c.seats s) t (wake c.wakes t))
 none_left c s (SendCountAdd t) at none = rw (at, at) (of_points (nat_eq c.count 0) _ _ refl refl)
-none_left c s (SendPushLook t seen) at none = rw (at, at) (of_turns (nat_eq c.push.next 0) _ _ refl refl)
+none_left c s (SendPushRecheck t seen) at none = rw (at, at) (of_turns (nat_eq c.push.next 0) _ _ refl refl)
 none_left c s (PushExchange pusher seen) at none =
     rw (at, at) (of_points (same_link c.push seen) (PushedHandoffLoad pusher) (LinkStore pusher c.push) refl refl)
-none_left c s (PushedHandoffLoad pusher) at none = rw (at, at) (of_turns (nat_eq c.handoff.seat 0) _ _ (of_pushed (seat c.seats s) pusher) (of_looks pusher c.handoff))
+none_left c s (PushedHandoffLoad pusher) at none = rw (at, at) (of_turns (nat_eq c.handoff.seat 0) _ _ (of_pushed (seat c.seats s) pusher) (of_found_posted pusher c.handoff))
 none_left c s (PushedHandoffExchange pusher seen) at none =
     rw (at, at) (of_turns _ _ _ (of_pusher_take pusher s (oldest c.popped)) (of_pushed (seat c.seats s) pusher))
-none_left c s (ReleasePushLook releaser) at none = rw (at, at) (of_turns (nat_eq c.push.next 0) _ _ (of_release (seat c.seats s) releaser _) refl)
+none_left c s (ReleasePushRecheck releaser) at none = rw (at, at) (of_turns (nat_eq c.push.next 0) _ _ (of_release (seat c.seats s) releaser _) refl)
 none_left c s (ReleaseHandoffExchange releaser) at none =
     rw (at, at) (of_turns _ _ _ (of_retake releaser s (oldest c.popped)) (of_release (seat c.seats s) releaser _))
 none_left c s (TakeLinkLoad carrier next) at none =

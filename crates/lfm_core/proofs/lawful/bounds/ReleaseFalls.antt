@@ -5,7 +5,7 @@ use Rattle.std.proofs.lemmas.Bool.{cases_Bool, false≢true}
 use Rattle.lfm_model.specs.declared.answers.Unlocked.{Unlocked}
 use Rattle.lfm_protocol.specs.declared.points.Carrier.{Carrier}
 use Rattle.lfm_protocol.specs.declared.points.Point.{Point}
-use Rattle.lfm_protocol.specs.declared.points.Point.TheVariants.{Rest, Asleep, ReleaseOwnerStore, ReleaseCountSubtract, ReleaseHandoffStore, ReleasePushLook, ReleaseHandoffExchange, WaitWakeStore, TakeClearHead, TakeLinkLoad, GrantWakeStore}
+use Rattle.lfm_protocol.specs.declared.points.Point.TheVariants.{Rest, Asleep, ReleaseOwnerStore, ReleaseCountSubtract, ReleaseHandoffStore, ReleasePushRecheck, ReleaseHandoffExchange, WaitWakeStore, TakeClearHead, TakeLinkLoad, GrantWakeStore}
 use Rattle.lfm_protocol.specs.declared.points.Releaser.{Releaser}
 use Rattle.lfm_protocol.specs.declared.points.Releaser.TheVariants.{Unlocker, Waiter}
 use Rattle.lfm_protocol.specs.declared.seats.SeatState.{SeatState}
@@ -40,7 +40,7 @@ among_release (Asleep sleeper) = true
 among_release (ReleaseOwnerStore releaser) = true
 among_release (ReleaseCountSubtract releaser) = true
 among_release (ReleaseHandoffStore releaser) = true
-among_release (ReleasePushLook releaser) = true
+among_release (ReleasePushRecheck releaser) = true
 among_release (ReleaseHandoffExchange releaser) = true
 among_release (WaitWakeStore released) = true
 among_release (TakeClearHead carrier) = is_releasing carrier
@@ -65,7 +65,7 @@ steps_left seats room (ReleaseOwnerStore releaser) = seats + 7 + waits_on releas
 steps_left seats room (ReleaseCountSubtract releaser) = seats + 6 + waits_on releaser
 steps_left seats room (TakeClearHead carrier) = steps_from_clear seats carrier
 steps_left seats room (ReleaseHandoffStore releaser) = seats + 4 + waits_on releaser
-steps_left seats room (ReleasePushLook releaser) = seats + 3 + waits_on releaser
+steps_left seats room (ReleasePushRecheck releaser) = seats + 3 + waits_on releaser
 steps_left seats room (ReleaseHandoffExchange releaser) = seats + 2 + waits_on releaser
 steps_left seats room (TakeLinkLoad carrier next) = room + wait_of carrier
 steps_left seats room (GrantWakeStore carrier r) = 1 + wait_of carrier
@@ -156,7 +156,7 @@ at_point c s room before (ReleaseCountSubtract releaser) at among inside walks f
     (of_release (length c.seats) room (length c.seats + 5 + waits_on releaser) (seat c.seats s) releaser Free (omega arith))
     (of_take (length c.seats) room releaser s (oldest c.popped))) (omega arith))
 at_point c s room before (ReleaseHandoffStore releaser) at among inside walks few = rw (at, at) (refl, omega arith)
-at_point c s room before (ReleasePushLook releaser) at among inside walks few =
+at_point c s room before (ReleasePushRecheck releaser) at among inside walks few =
     rw (at, at)
     (lowers (length c.seats) room (length c.seats + 2 + waits_on releaser) _ _
     (of_turns (length c.seats) room (length c.seats + 2 + waits_on releaser) (nat_eq c.push.next 0) (releases (seat c.seats s) releaser Posted)

@@ -3,7 +3,7 @@ use Rattle.std.proofs.Common.{◌≡◌, ℕ, suc, Bool, true, false, ◌+◌, �
 use Rattle.std.proofs.lemmas.Bool.{false≢true, eq-eqb}
 use Rattle.lfm_protocol.specs.declared.points.Carrier.{Carrier}
 use Rattle.lfm_protocol.specs.declared.points.Point.{Point}
-use Rattle.lfm_protocol.specs.declared.points.Point.TheVariants.{LockCountAdd, LockOwnerLoad, TryCountExchange, TryOwnerLoad, TryHandoffLoad, TryHandoffExchange, TryCountAdd, SendWakeExchange, SendCountAdd, SendPushLook, PushLoad, LinkStore, PushExchange, PushedHandoffLoad, PushedHandoffExchange, ReleaseOwnerStore, ReleaseCountSubtract, ReleaseHandoffStore, ReleasePushLook, ReleaseHandoffExchange, TakeClearHead, TakeLinkLoad, GrantWakeStore, ReceiveWakeLoad, ReceiveWakeStore}
+use Rattle.lfm_protocol.specs.declared.points.Point.TheVariants.{LockCountAdd, LockOwnerLoad, TryCountExchange, TryOwnerLoad, TryHandoffLoad, TryHandoffExchange, TryCountAdd, SendWakeExchange, SendCountAdd, SendPushRecheck, PushLoad, LinkStore, PushExchange, PushedHandoffLoad, PushedHandoffExchange, ReleaseOwnerStore, ReleaseCountSubtract, ReleaseHandoffStore, ReleasePushRecheck, ReleaseHandoffExchange, TakeClearHead, TakeLinkLoad, GrantWakeStore, ReceiveWakeLoad, ReceiveWakeStore}
 use Rattle.lfm_protocol.specs.declared.points.Pusher.{Pusher}
 use Rattle.lfm_protocol.specs.declared.points.Releaser.{Releaser}
 use Rattle.lfm_protocol.specs.declared.points.Releaser.TheVariants.{Unlocker, Waiter}
@@ -15,7 +15,7 @@ use Rattle.lfm_words.specs.declared.links.Link.{Link}
 use Rattle.lfm_words.specs.declared.pop_lists.Record.{Record}
 use Rattle.lfm_words.specs.declared.wakes.Wake.{Wake}
 use Rattle.lfm_words.specs.declared.wakes.Wake.TheVariants.{Grant}
-use Rattle.lfm_protocol.specs.After.{same_link, releases, pushed, granted, looks, carrier_of, serves, take, once_cleared, receives, claims, loaded, drops_oldest_at, after_count_exchange_at, after_count_add_at, after_count_subtract_at, after_owner_load_at, after_owner_store_at, after_push_load_at, after_push_exchange_at, after_clear_head_at, after_link_load_at, after_link_store_at, after_handoff_load_at, after_handoff_store_at, after_handoff_exchange_at, after_wake_load_at, after_wake_store_at, after_wake_exchange_at}
+use Rattle.lfm_protocol.specs.After.{same_link, releases, pushed, granted, found_posted, carrier_of, serves, take, once_cleared, receives, claims, loaded, drops_oldest_at, after_count_exchange_at, after_count_add_at, after_count_subtract_at, after_owner_load_at, after_owner_store_at, after_push_load_at, after_push_exchange_at, after_clear_head_at, after_link_load_at, after_link_store_at, after_handoff_load_at, after_handoff_store_at, after_handoff_exchange_at, after_wake_load_at, after_wake_store_at, after_wake_exchange_at}
 use Rattle.lfm_protocol.specs.Stores.{expected_push_at}
 use Rattle.lfm_protocol.specs.Begin.{Stepped}
 use Rattle.lfm_protocol.specs.Core.{Core, drops_if}
@@ -106,9 +106,9 @@ link_store-le push room pusher = rw (same_link_self push) (omega arith)
 
 pub push_load_lower : (push : Link) (room : ℕ) (x : SeatState) (p : Point) → Lower push room (left_at push room p) (after_push_load_at x push p)
 push_load_lower push room x (PushLoad pusher) goes = omega (arith, link_store-le push room pusher)
-push_load_lower push room x (SendPushLook t seen) goes =
+push_load_lower push room x (SendPushRecheck t seen) goes =
     either push room (room + 5) (nat_eq push.next 0) _ _ (λ none. absurd (false≢true none)) (λ some. omega arith) goes
-push_load_lower push room x (ReleasePushLook releaser) goes =
+push_load_lower push room x (ReleasePushRecheck releaser) goes =
     either push room (room + 5) (nat_eq push.next 0) _ _ (releases_lower push room (room + 5) x releaser Unlocked.Posted (omega arith)) (λ some. omega arith) goes
 push_load_lower push room x _ goes = absurd (false≢true goes)
 
@@ -143,13 +143,13 @@ pub link_store_lower : (push : Link) (room : ℕ) (x : SeatState) (p : Point) �
 link_store_lower push room x (LinkStore pusher seen) goes = omega arith
 link_store_lower push room x _ goes = absurd (false≢true goes)
 
-looks-le : (push : Link) (room : ℕ) (pusher : Pusher) (found : Handoff) → left_at push room (looks pusher found) < room + 6
-looks-le push room Pusher.Locker found = omega arith
-looks-le push room (Pusher.Sender t) found = omega arith
+found_posted-le : (push : Link) (room : ℕ) (pusher : Pusher) (found : Handoff) → left_at push room (found_posted pusher found) < room + 6
+found_posted-le push room Pusher.Locker found = omega arith
+found_posted-le push room (Pusher.Sender t) found = omega arith
 
 pub handoff_load_lower : (push : Link) (room : ℕ) (x : SeatState) (found : Handoff) (p : Point) → Lower push room (left_at push room p) (after_handoff_load_at x found p)
 handoff_load_lower push room x found (PushedHandoffLoad pusher) goes =
-    either push room (room + 6) (nat_eq found.seat 0) _ _ (pushed_lower push room (room + 6) x pusher) (λ some. looks-le push room pusher found) goes
+    either push room (room + 6) (nat_eq found.seat 0) _ _ (pushed_lower push room (room + 6) x pusher) (λ some. found_posted-le push room pusher found) goes
 handoff_load_lower push room x found TryHandoffLoad goes =
     either push room 4 (nat_eq found.seat 0) _ _ (λ none. absurd (false≢true none)) (λ some. omega arith) goes
 handoff_load_lower push room x found _ goes = absurd (false≢true goes)

@@ -3,7 +3,7 @@
 use Rattle.std.proofs.Common.{ℕ, Bool, true, false, ◌+◌, ◌≤◌, length, if◌then◌else◌, arith}
 use Rattle.lfm_protocol.specs.declared.points.Carrier.{Carrier}
 use Rattle.lfm_protocol.specs.declared.points.Point.{Point}
-use Rattle.lfm_protocol.specs.declared.points.Point.TheVariants.{Rest, Asleep, LockCountAdd, LockOwnerLoad, LockCountSubtract, TryCountExchange, TryOwnerLoad, TryHandoffLoad, TryHandoffExchange, TryCountAdd, SendWakeExchange, SendCountAdd, SendPushLook, SendWakeStore, PushLoad, LinkStore, PushExchange, PushedHandoffLoad, PushedHandoffExchange, ReleaseOwnerStore, ReleaseCountSubtract, ReleaseHandoffStore, ReleasePushLook, ReleaseHandoffExchange, WaitWakeStore, TakeClearHead, TakeLinkLoad, GrantWakeStore, EnterOwnerStore, ReceiveWakeLoad, ReceiveWakeStore}
+use Rattle.lfm_protocol.specs.declared.points.Point.TheVariants.{Rest, Asleep, LockCountAdd, LockOwnerLoad, LockCountSubtract, TryCountExchange, TryOwnerLoad, TryHandoffLoad, TryHandoffExchange, TryCountAdd, SendWakeExchange, SendCountAdd, SendPushRecheck, SendWakeStore, PushLoad, LinkStore, PushExchange, PushedHandoffLoad, PushedHandoffExchange, ReleaseOwnerStore, ReleaseCountSubtract, ReleaseHandoffStore, ReleasePushRecheck, ReleaseHandoffExchange, WaitWakeStore, TakeClearHead, TakeLinkLoad, GrantWakeStore, EnterOwnerStore, ReceiveWakeLoad, ReceiveWakeStore}
 use Rattle.lfm_words.specs.declared.links.Link.{Link}
 use Rattle.lfm_protocol.specs.After.{same_link}
 use Rattle.lfm_protocol.specs.Core.{Core}
@@ -32,7 +32,7 @@ left_at push room (TryHandoffExchange seen) = 3
 left_at push room TryCountAdd = 2
 left_at push room (SendWakeExchange t) = room + 11
 left_at push room (SendCountAdd t) = room + 10
-left_at push room (SendPushLook t seen) = room + 5
+left_at push room (SendPushRecheck t seen) = room + 5
 left_at push room (SendWakeStore t) = 1
 left_at push room (PushLoad pusher) = room + 9
 left_at push room (LinkStore pusher seen) = room + 8 + again_unless (same_link push seen)
@@ -42,7 +42,7 @@ left_at push room (PushedHandoffExchange pusher seen) = room + 4
 left_at push room (ReleaseOwnerStore releaser) = room + 9
 left_at push room (ReleaseCountSubtract releaser) = room + 8
 left_at push room (ReleaseHandoffStore releaser) = room + 6
-left_at push room (ReleasePushLook releaser) = room + 5
+left_at push room (ReleasePushRecheck releaser) = room + 5
 left_at push room (ReleaseHandoffExchange releaser) = room + 4
 left_at push room (WaitWakeStore released) = 1
 left_at push room (TakeClearHead carrier) = left_of_carrier room carrier

@@ -15,7 +15,7 @@ use Rattle.lfm_protocol.specs.declared.answers.Turn.TheVariants.{Open, Ended, Re
 use Rattle.lfm_protocol.specs.declared.points.Carrier.{Carrier}
 use Rattle.lfm_protocol.specs.declared.points.Entrant.{Entrant}
 use Rattle.lfm_protocol.specs.declared.points.Point.{Point}
-use Rattle.lfm_protocol.specs.declared.points.Point.TheVariants.{Rest, Asleep, LockCountAdd, LockOwnerLoad, LockCountSubtract, TryCountExchange, TryOwnerLoad, TryHandoffLoad, TryHandoffExchange, TryCountAdd, SendWakeExchange, SendCountAdd, SendPushLook, SendWakeStore, PushLoad, LinkStore, PushExchange, PushedHandoffLoad, PushedHandoffExchange, ReleaseOwnerStore, ReleaseCountSubtract, ReleaseHandoffStore, ReleasePushLook, ReleaseHandoffExchange, WaitWakeStore, TakeClearHead, TakeLinkLoad, GrantWakeStore, EnterOwnerStore, ReceiveWakeLoad, ReceiveWakeStore}
+use Rattle.lfm_protocol.specs.declared.points.Point.TheVariants.{Rest, Asleep, LockCountAdd, LockOwnerLoad, LockCountSubtract, TryCountExchange, TryOwnerLoad, TryHandoffLoad, TryHandoffExchange, TryCountAdd, SendWakeExchange, SendCountAdd, SendPushRecheck, SendWakeStore, PushLoad, LinkStore, PushExchange, PushedHandoffLoad, PushedHandoffExchange, ReleaseOwnerStore, ReleaseCountSubtract, ReleaseHandoffStore, ReleasePushRecheck, ReleaseHandoffExchange, WaitWakeStore, TakeClearHead, TakeLinkLoad, GrantWakeStore, EnterOwnerStore, ReceiveWakeLoad, ReceiveWakeStore}
 use Rattle.lfm_protocol.specs.declared.points.Pusher.{Pusher}
 use Rattle.lfm_protocol.specs.declared.points.Releaser.{Releaser}
 use Rattle.lfm_protocol.specs.declared.points.Releaser.TheVariants.{Unlocker, Waiter}
@@ -25,7 +25,7 @@ use Rattle.lfm_words.specs.declared.handoffs.Handoff.{Handoff}
 use Rattle.lfm_words.specs.declared.pop_lists.Record.{Record}
 use Rattle.lfm_words.specs.declared.wakes.Wake.{Wake}
 use Rattle.lfm_words.specs.Popped.{oldest}
-use Rattle.lfm_protocol.specs.After.{same_link, same_handoff, deepens, busy, releases, pushed, granted, looks, carrier_of, serves, take, once_cleared, held, receives, claims, loaded, how_granted}
+use Rattle.lfm_protocol.specs.After.{same_link, same_handoff, deepens, busy, releases, pushed, granted, found_posted, carrier_of, serves, take, once_cleared, held, receives, claims, loaded, how_granted}
 use Rattle.lfm_protocol.specs.Begin.{Stepped, goes_on, ends}
 use Rattle.lfm_protocol.specs.Core.{Core}
 use Rattle.lfm_protocol.specs.Seats.{seat, link, wake}
@@ -69,7 +69,7 @@ call_at (TryHandoffExchange seen) = TryLock
 call_at TryCountAdd = TryLock
 call_at (SendWakeExchange t) = SendLock 0
 call_at (SendCountAdd t) = SendLock 0
-call_at (SendPushLook t seen) = SendLock 0
+call_at (SendPushRecheck t seen) = SendLock 0
 call_at (SendWakeStore t) = SendLock 0
 call_at (PushLoad pusher) = call_of_pusher pusher
 call_at (LinkStore pusher seen) = call_of_pusher pusher
@@ -79,7 +79,7 @@ call_at (PushedHandoffExchange pusher seen) = call_of_pusher pusher
 call_at (ReleaseOwnerStore releaser) = call_of_releaser releaser
 call_at (ReleaseCountSubtract releaser) = call_of_releaser releaser
 call_at (ReleaseHandoffStore releaser) = call_of_releaser releaser
-call_at (ReleasePushLook releaser) = call_of_releaser releaser
+call_at (ReleasePushRecheck releaser) = call_of_releaser releaser
 call_at (ReleaseHandoffExchange releaser) = call_of_releaser releaser
 call_at (WaitWakeStore answer) = StartWait
 call_at (TakeClearHead carrier) = call_of_carrier carrier
@@ -140,9 +140,9 @@ either x call may_end b p q first second = goes x call may_end _ (next_if call b
 
 -- Points that come next
 
-next_looks : (pusher : Pusher) (found : Handoff) → IsNext (call_of_pusher pusher) (looks pusher found)
-next_looks Pusher.Locker found = record { here = refl; silent = refl }
-next_looks (Pusher.Sender t) found = record { here = refl; silent = refl }
+next_found_posted : (pusher : Pusher) (found : Handoff) → IsNext (call_of_pusher pusher) (found_posted pusher found)
+next_found_posted Pusher.Locker found = record { here = refl; silent = refl }
+next_found_posted (Pusher.Sender t) found = record { here = refl; silent = refl }
 
 next_serves : (carrier : Carrier) (s : ℕ) (r : Record) → IsNext (call_of_carrier carrier) (serves carrier s r)
 next_serves Carrier.Locker s r =
@@ -212,7 +212,7 @@ again x = record { follows = (tt, refl); silent = λ e. refl; told = refl }
 -- a release may end with the step at this point
 abbrev pub may_end_at : Point → Bool
 may_end_at (ReleaseCountSubtract releaser) = true
-may_end_at (ReleasePushLook releaser) = true
+may_end_at (ReleasePushRecheck releaser) = true
 may_end_at (ReleaseHandoffExchange releaser) = true
 may_end_at (GrantWakeStore carrier oldest) = true
 may_end_at _ = false
@@ -244,7 +244,7 @@ step_follows c s TryCountAdd at inside = rw (at, at) (goes (seat c.seats s) TryL
 step_follows c s (SendWakeExchange t) at inside = rw (at, at) (claims_target (seat c.seats s) t (wake c.wakes t))
 step_follows c s (SendCountAdd t) at inside =
     rw (at, at) (either (seat c.seats s) (SendLock 0) false (nat_eq c.count 0) (SendWakeStore t) (PushLoad (Pusher.Sender t)) (here (SendLock 0) _ refl refl) (here (SendLock 0) _ refl refl))
-step_follows c s (SendPushLook t seen) at inside =
+step_follows c s (SendPushRecheck t seen) at inside =
     rw (at, at) (follows_if (SendLock 0) false (nat_eq c.push.next 0) (ends (seat c.seats s) Answer.Sent) (goes_on (seat c.seats s) (PushedHandoffExchange (Pusher.Sender t) seen))
     (sent (seat c.seats s) false) (goes (seat c.seats s) (SendLock 0) false (PushedHandoffExchange (Pusher.Sender t) seen) (here (SendLock 0) _ refl refl)))
 step_follows c s (SendWakeStore t) at inside = rw (at, at) (sent (seat c.seats s) false)
@@ -254,8 +254,8 @@ step_follows c s (PushExchange pusher seen) at inside =
     rw (at, at) (either (seat c.seats s) (call_of_pusher pusher) false (same_link c.push seen) (PushedHandoffLoad pusher) (LinkStore pusher c.push)
     (here _ _ refl refl) (here _ _ refl refl))
 step_follows c s (PushedHandoffLoad pusher) at inside =
-    rw (at, at) (follows_if (call_of_pusher pusher) false (nat_eq c.handoff.seat 0) (pushed (seat c.seats s) pusher) (goes_on (seat c.seats s) (looks pusher c.handoff))
-    (pushes (seat c.seats s) pusher) (goes (seat c.seats s) (call_of_pusher pusher) false (looks pusher c.handoff) (next_looks pusher c.handoff)))
+    rw (at, at) (follows_if (call_of_pusher pusher) false (nat_eq c.handoff.seat 0) (pushed (seat c.seats s) pusher) (goes_on (seat c.seats s) (found_posted pusher c.handoff))
+    (pushes (seat c.seats s) pusher) (goes (seat c.seats s) (call_of_pusher pusher) false (found_posted pusher c.handoff) (next_found_posted pusher c.handoff)))
 step_follows c s (PushedHandoffExchange pusher seen) at inside =
     let next : Point = take (carrier_of pusher) s (oldest c.popped) in
     rw (at, at) (follows_if (call_of_pusher pusher) false (same_handoff c.handoff seen) (goes_on (seat c.seats s) next) (pushed (seat c.seats s) pusher)
@@ -266,7 +266,7 @@ step_follows c s (ReleaseCountSubtract releaser) at inside =
     rw (at, at) (follows_if (call_of_releaser releaser) true (nat_eq c.count 1) (releases (seat c.seats s) releaser Unlocked.Free) (goes_on (seat c.seats s) next)
     (released (seat c.seats s) releaser Unlocked.Free) (goes (seat c.seats s) (call_of_releaser releaser) true next (next_take (Carrier.Releaser releaser) s (oldest c.popped))))
 step_follows c s (ReleaseHandoffStore releaser) at inside = rw (at, at) (record { follows = refl; silent = λ e. refl; told = refl })
-step_follows c s (ReleasePushLook releaser) at inside =
+step_follows c s (ReleasePushRecheck releaser) at inside =
     rw (at, at) (follows_if (call_of_releaser releaser) true (nat_eq c.push.next 0) (releases (seat c.seats s) releaser Unlocked.Posted) (goes_on (seat c.seats s) (ReleaseHandoffExchange releaser))
     (released (seat c.seats s) releaser Unlocked.Posted) (goes (seat c.seats s) (call_of_releaser releaser) true (ReleaseHandoffExchange releaser) (here _ _ refl refl)))
 step_follows c s (ReleaseHandoffExchange releaser) at inside =

@@ -6,7 +6,7 @@ use Rattle.std.specs.Prelude.{Option, Some, None}
 use Rattle.lfm_protocol.specs.declared.answers.Turn.TheVariants.{Open}
 use Rattle.lfm_protocol.specs.declared.points.Carrier.{Carrier}
 use Rattle.lfm_protocol.specs.declared.points.Point.{Point}
-use Rattle.lfm_protocol.specs.declared.points.Point.TheVariants.{Rest, SendCountAdd, SendPushLook, PushLoad, LinkStore, PushExchange, PushedHandoffLoad, PushedHandoffExchange, TakeClearHead, TakeLinkLoad, GrantWakeStore}
+use Rattle.lfm_protocol.specs.declared.points.Point.TheVariants.{Rest, SendCountAdd, SendPushRecheck, PushLoad, LinkStore, PushExchange, PushedHandoffLoad, PushedHandoffExchange, TakeClearHead, TakeLinkLoad, GrantWakeStore}
 use Rattle.lfm_protocol.specs.declared.points.Pusher.{Pusher}
 use Rattle.lfm_words.specs.declared.links.Link.{Link}
 use Rattle.lfm_words.specs.declared.pop_lists.Record.{Record}
@@ -50,7 +50,7 @@ asks_target t depth s p (exchanges seen at) = rw at refl
 abbrev is_past_push : Point → Bool
 is_past_push Rest = true
 is_past_push (PushedHandoffLoad (Pusher.Sender t)) = true
-is_past_push (SendPushLook t seen) = true
+is_past_push (SendPushRecheck t seen) = true
 is_past_push (PushedHandoffExchange (Pusher.Sender t) seen) = true
 is_past_push (TakeClearHead Carrier.Sender) = true
 is_past_push (TakeLinkLoad Carrier.Sender next) = true
@@ -70,7 +70,7 @@ stays_past_push : (c : Core) (s : ℕ) (p : Point) → (seat c.seats s).point �
 stays_past_push c s Rest at inside past = absurd (false≢true inside)
 stays_past_push c s (PushedHandoffLoad (Pusher.Sender t)) at inside past =
     rw (at, at) (of_turns IsPastPush (nat_eq c.handoff.seat 0) _ _ refl refl)
-stays_past_push c s (SendPushLook t seen) at inside past = rw (at, at) (of_turns IsPastPush (nat_eq c.push.next 0) _ _ refl refl)
+stays_past_push c s (SendPushRecheck t seen) at inside past = rw (at, at) (of_turns IsPastPush (nat_eq c.push.next 0) _ _ refl refl)
 stays_past_push c s (PushedHandoffExchange (Pusher.Sender t) seen) at inside past =
     rw (at, at) (of_turns IsPastPush (same_handoff c.handoff seen) _ _ (past_take s (oldest c.popped)) refl)
 stays_past_push c s (TakeClearHead Carrier.Sender) at inside past = rw (at, at) refl

@@ -18,7 +18,7 @@ use Rattle.lfm_protocol.specs.declared.limits.Limits.{Limits}
 use Rattle.lfm_protocol.specs.declared.points.Carrier.{Carrier}
 use Rattle.lfm_protocol.specs.declared.points.Entrant.{Entrant}
 use Rattle.lfm_protocol.specs.declared.points.Point.{Point}
-use Rattle.lfm_protocol.specs.declared.points.Point.TheVariants.{Rest, Asleep, LockCountAdd, LockOwnerLoad, LockCountSubtract, TryCountExchange, TryOwnerLoad, TryHandoffLoad, TryHandoffExchange, TryCountAdd, SendWakeExchange, SendCountAdd, SendPushLook, SendWakeStore, PushLoad, LinkStore, PushExchange, PushedHandoffLoad, PushedHandoffExchange, ReleaseOwnerStore, ReleaseCountSubtract, ReleaseHandoffStore, ReleasePushLook, ReleaseHandoffExchange, WaitWakeStore, TakeClearHead, TakeLinkLoad, GrantWakeStore, EnterOwnerStore, ReceiveWakeLoad, ReceiveWakeStore}
+use Rattle.lfm_protocol.specs.declared.points.Point.TheVariants.{Rest, Asleep, LockCountAdd, LockOwnerLoad, LockCountSubtract, TryCountExchange, TryOwnerLoad, TryHandoffLoad, TryHandoffExchange, TryCountAdd, SendWakeExchange, SendCountAdd, SendPushRecheck, SendWakeStore, PushLoad, LinkStore, PushExchange, PushedHandoffLoad, PushedHandoffExchange, ReleaseOwnerStore, ReleaseCountSubtract, ReleaseHandoffStore, ReleasePushRecheck, ReleaseHandoffExchange, WaitWakeStore, TakeClearHead, TakeLinkLoad, GrantWakeStore, EnterOwnerStore, ReceiveWakeLoad, ReceiveWakeStore}
 use Rattle.lfm_protocol.specs.declared.points.Pusher.{Pusher}
 use Rattle.lfm_protocol.specs.declared.points.Releaser.{Releaser}
 use Rattle.lfm_protocol.specs.declared.points.Releaser.TheVariants.{Unlocker, Waiter}
@@ -28,7 +28,7 @@ use Rattle.lfm_words.specs.declared.handoffs.Handoff.{Handoff}
 use Rattle.lfm_words.specs.declared.pop_lists.Record.{Record}
 use Rattle.lfm_words.specs.declared.wakes.Wake.{Wake}
 use Rattle.lfm_words.specs.Popped.{oldest}
-use Rattle.lfm_protocol.specs.After.{same_link, same_handoff, busy, releases, pushed, granted, looks, carrier_of, serves, take, once_cleared, held, receives, claims, loaded}
+use Rattle.lfm_protocol.specs.After.{same_link, same_handoff, busy, releases, pushed, granted, found_posted, carrier_of, serves, take, once_cleared, held, receives, claims, loaded}
 use Rattle.lfm_protocol.specs.Begin as Begin
 use Rattle.lfm_protocol.specs.Begin.{Stepped, goes_on, ends, refuses, charges, begin_entry, begin_unlock, begin_wait, begin_awake, begin_asleep}
 use Rattle.lfm_protocol.specs.Core.{Core}
@@ -150,9 +150,9 @@ past_entered x Entrant.Locker (How.Queued stamp) = record { leads = refl }
 past_entered x Entrant.Trier how = record { leads = refl }
 past_entered x Entrant.Receiver how = record { leads = refl }
 
-past_looks : (depth : ℕ) (pusher : Pusher) (found : Handoff) → IsPastEffect depth (looks pusher found)
-past_looks depth Pusher.Locker found = refl
-past_looks depth (Pusher.Sender t) found = refl
+past_found_posted : (depth : ℕ) (pusher : Pusher) (found : Handoff) → IsPastEffect depth (found_posted pusher found)
+past_found_posted depth Pusher.Locker found = refl
+past_found_posted depth (Pusher.Sender t) found = refl
 
 past_if : (depth : ℕ) (b : Bool) (p q : Point) → IsPastEffect depth p → IsPastEffect depth q → IsPastEffect depth (if b then p else q)
 past_if depth true p q first second = first
@@ -231,7 +231,7 @@ step_effects c g s TryCountAdd fits at inside = rw (at, at) (record { leads = re
 step_effects c g s (SendWakeExchange t) fits at inside = rw (at, at) (claims_target (seat c.seats s) t (wake c.wakes t))
 step_effects c g s (SendCountAdd t) fits at inside =
     rw (at, at) (points_if 0 (Some Runs.ask) (seat c.seats s) (nat_eq c.count 0) (SendWakeStore t) (PushLoad (Pusher.Sender t)) (record { leads = refl }) (record { leads = refl }))
-step_effects c g s (SendPushLook t seen) fits at inside =
+step_effects c g s (SendPushRecheck t seen) fits at inside =
     rw (at, at) (turns_if 1 None (nat_eq c.push.next 0) _ _ (record { leads = refl }) (record { leads = refl }))
 step_effects c g s (SendWakeStore t) fits at inside = rw (at, at) (record { leads = refl })
 step_effects c g s (PushLoad pusher) fits at inside = rw (at, at) (record { leads = refl })
@@ -240,8 +240,8 @@ step_effects c g s (PushExchange pusher seen) fits at inside =
     rw (at, at) (cases_points_if 1 (seat c.seats s) (same_link c.push seen) (Some Runs.queue) None (PushedHandoffLoad pusher) (LinkStore pusher c.push)
     (record { leads = refl }) (record { leads = refl }))
 step_effects c g s (PushedHandoffLoad pusher) fits at inside =
-    rw (at, at) (turns_if 1 None (nat_eq c.handoff.seat 0) (pushed (seat c.seats s) pusher) (goes_on (seat c.seats s) (looks pusher c.handoff))
-    (past_pushed (seat c.seats s) None pusher refl) (past (seat c.seats s) None (looks pusher c.handoff) refl (past_looks _ pusher c.handoff)))
+    rw (at, at) (turns_if 1 None (nat_eq c.handoff.seat 0) (pushed (seat c.seats s) pusher) (goes_on (seat c.seats s) (found_posted pusher c.handoff))
+    (past_pushed (seat c.seats s) None pusher refl) (past (seat c.seats s) None (found_posted pusher c.handoff) refl (past_found_posted _ pusher c.handoff)))
 step_effects c g s (PushedHandoffExchange pusher seen) fits at inside =
     let next : Point = take (carrier_of pusher) s (oldest c.popped) in
     rw (at, at) (cases_turns_if 1 (same_handoff c.handoff seen) (Some Runs.take) None (goes_on (seat c.seats s) next) (pushed (seat c.seats s) pusher)
@@ -253,7 +253,7 @@ step_effects c g s (ReleaseCountSubtract releaser) fits at inside =
     (past_released (seat c.seats s) (Some Runs.leave) releaser Unlocked.Free refl (λ n e. cc))
     (past (seat c.seats s) (Some Runs.leave) next refl (past_take _ (Carrier.Releaser releaser) s (oldest c.popped))))
 step_effects c g s (ReleaseHandoffStore releaser) fits at inside = rw (at, at) (record { leads = refl })
-step_effects c g s (ReleasePushLook releaser) fits at inside =
+step_effects c g s (ReleasePushRecheck releaser) fits at inside =
     rw (at, at) (turns_if 1 None (nat_eq c.push.next 0) (releases (seat c.seats s) releaser Unlocked.Posted) (goes_on (seat c.seats s) (ReleaseHandoffExchange releaser))
     (past_released (seat c.seats s) None releaser Unlocked.Posted refl (λ n e. cc)) (record { leads = refl }))
 step_effects c g s (ReleaseHandoffExchange releaser) fits at inside =

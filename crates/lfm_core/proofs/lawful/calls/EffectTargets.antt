@@ -11,14 +11,14 @@ use Rattle.lfm_protocol.specs.declared.answers.Why.TheVariants.{By}
 use Rattle.lfm_protocol.specs.declared.limits.Limits.{Limits}
 use Rattle.lfm_protocol.specs.declared.points.Carrier.{Carrier}
 use Rattle.lfm_protocol.specs.declared.points.Point.{Point}
-use Rattle.lfm_protocol.specs.declared.points.Point.TheVariants.{Rest, Asleep, LockCountAdd, LockOwnerLoad, TryCountExchange, TryOwnerLoad, TryHandoffLoad, TryHandoffExchange, SendWakeExchange, SendCountAdd, SendPushLook, LinkStore, PushExchange, PushedHandoffLoad, PushedHandoffExchange, ReleaseCountSubtract, ReleasePushLook, ReleaseHandoffExchange, TakeClearHead, TakeLinkLoad, GrantWakeStore, ReceiveWakeLoad}
+use Rattle.lfm_protocol.specs.declared.points.Point.TheVariants.{Rest, Asleep, LockCountAdd, LockOwnerLoad, TryCountExchange, TryOwnerLoad, TryHandoffLoad, TryHandoffExchange, SendWakeExchange, SendCountAdd, SendPushRecheck, LinkStore, PushExchange, PushedHandoffLoad, PushedHandoffExchange, ReleaseCountSubtract, ReleasePushRecheck, ReleaseHandoffExchange, TakeClearHead, TakeLinkLoad, GrantWakeStore, ReceiveWakeLoad}
 use Rattle.lfm_protocol.specs.declared.points.Pusher.{Pusher}
 use Rattle.lfm_protocol.specs.declared.seats.SeatState.{SeatState}
 use Rattle.lfm_words.specs.declared.handoffs.Handoff.{Handoff}
 use Rattle.lfm_words.specs.declared.pop_lists.Record.{Record}
 use Rattle.lfm_words.specs.declared.wakes.Wake.{Wake}
 use Rattle.lfm_words.specs.Popped.{oldest}
-use Rattle.lfm_protocol.specs.After.{same_link, same_handoff, pushed, loaded, looks, carrier_of, serves, take, once_cleared, claims}
+use Rattle.lfm_protocol.specs.After.{same_link, same_handoff, pushed, loaded, found_posted, carrier_of, serves, take, once_cleared, claims}
 use Rattle.lfm_protocol.specs.Begin as Begin
 use Rattle.lfm_protocol.specs.Core.{Core, limits}
 use Rattle.lfm_protocol.specs.Seats.{seat, link, wake, is_seat}
@@ -52,9 +52,9 @@ no_target_pushed : (x : SeatState) (pusher : Pusher) → HasNoTarget (pushed x p
 no_target_pushed x Pusher.Locker = refl
 no_target_pushed x (Pusher.Sender t) = refl
 
-no_target_looks : (pusher : Pusher) (found : Handoff) → HasNoTarget (looks pusher found)
-no_target_looks Pusher.Locker found = refl
-no_target_looks (Pusher.Sender t) found = refl
+no_target_found_posted : (pusher : Pusher) (found : Handoff) → HasNoTarget (found_posted pusher found)
+no_target_found_posted Pusher.Locker found = refl
+no_target_found_posted (Pusher.Sender t) found = refl
 
 no_target_serves : (carrier : Carrier) (s : ℕ) (r : Record) → HasNoTarget (serves carrier s r)
 no_target_serves Carrier.Locker s r = of_points HasNoTarget (nat_eq r.seat s) _ _ refl refl
@@ -88,16 +88,16 @@ no_target c s TryOwnerLoad at inside other = rw (at, at) (of_turns HasNoTarget (
 no_target c s TryHandoffLoad at inside other = rw (at, at) (of_turns HasNoTarget (nat_eq c.handoff.seat 0) _ _ refl refl)
 no_target c s (TryHandoffExchange seen) at inside other = rw (at, at) (of_turns HasNoTarget (same_handoff c.handoff seen) _ _ refl refl)
 no_target c s (SendCountAdd t) at inside other = rw (at, at) (of_points HasNoTarget (nat_eq c.count 0) _ _ refl refl)
-no_target c s (SendPushLook t seen) at inside other = rw (at, at) (of_turns HasNoTarget (nat_eq c.push.next 0) _ _ refl refl)
+no_target c s (SendPushRecheck t seen) at inside other = rw (at, at) (of_turns HasNoTarget (nat_eq c.push.next 0) _ _ refl refl)
 no_target c s (PushExchange pusher seen) at inside other =
     rw (at, at) (of_points HasNoTarget (same_link c.push seen) (PushedHandoffLoad pusher) (LinkStore pusher c.push) refl refl)
 no_target c s (PushedHandoffLoad pusher) at inside other =
-    rw (at, at) (of_turns HasNoTarget (nat_eq c.handoff.seat 0) _ _ (no_target_pushed (seat c.seats s) pusher) (no_target_looks pusher c.handoff))
+    rw (at, at) (of_turns HasNoTarget (nat_eq c.handoff.seat 0) _ _ (no_target_pushed (seat c.seats s) pusher) (no_target_found_posted pusher c.handoff))
 no_target c s (PushedHandoffExchange pusher seen) at inside other =
     rw (at, at) (of_turns HasNoTarget _ _ _ (no_target_take (carrier_of pusher) s (oldest c.popped)) (no_target_pushed (seat c.seats s) pusher))
 no_target c s (ReleaseCountSubtract releaser) at inside other =
     rw (at, at) (of_turns HasNoTarget (nat_eq c.count 1) _ _ (of_release HasNoTarget (seat c.seats s) releaser _ refl refl) (no_target_take (Carrier.Releaser releaser) s (oldest c.popped)))
-no_target c s (ReleasePushLook releaser) at inside other =
+no_target c s (ReleasePushRecheck releaser) at inside other =
     rw (at, at) (of_turns HasNoTarget (nat_eq c.push.next 0) _ _ (of_release HasNoTarget (seat c.seats s) releaser _ refl refl) refl)
 no_target c s (ReleaseHandoffExchange releaser) at inside other =
     rw (at, at)

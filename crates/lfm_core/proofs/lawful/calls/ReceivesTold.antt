@@ -12,7 +12,7 @@ use Rattle.lfm_protocol.specs.declared.answers.Why.TheVariants.{By}
 use Rattle.lfm_protocol.specs.declared.points.Carrier.{Carrier}
 use Rattle.lfm_protocol.specs.declared.points.Entrant.{Entrant}
 use Rattle.lfm_protocol.specs.declared.points.Point.{Point}
-use Rattle.lfm_protocol.specs.declared.points.Point.TheVariants.{Rest, Asleep, PushLoad, LinkStore, PushExchange, PushedHandoffLoad, PushedHandoffExchange, ReleaseOwnerStore, ReleaseCountSubtract, ReleaseHandoffStore, ReleasePushLook, ReleaseHandoffExchange, TakeClearHead, TakeLinkLoad, GrantWakeStore, EnterOwnerStore, ReceiveWakeLoad, ReceiveWakeStore}
+use Rattle.lfm_protocol.specs.declared.points.Point.TheVariants.{Rest, Asleep, PushLoad, LinkStore, PushExchange, PushedHandoffLoad, PushedHandoffExchange, ReleaseOwnerStore, ReleaseCountSubtract, ReleaseHandoffStore, ReleasePushRecheck, ReleaseHandoffExchange, TakeClearHead, TakeLinkLoad, GrantWakeStore, EnterOwnerStore, ReceiveWakeLoad, ReceiveWakeStore}
 use Rattle.lfm_protocol.specs.declared.points.Pusher.{Pusher}
 use Rattle.lfm_protocol.specs.declared.points.Releaser.{Releaser}
 use Rattle.lfm_protocol.specs.declared.points.Releaser.TheVariants.{Unlocker, Waiter}
@@ -73,7 +73,7 @@ receives_at (PushedHandoffExchange pusher seen) inside e = absurd (pusher_other 
 receives_at (ReleaseOwnerStore releaser) inside e = absurd (releaser_other releaser e)
 receives_at (ReleaseCountSubtract releaser) inside e = absurd (releaser_other releaser e)
 receives_at (ReleaseHandoffStore releaser) inside e = absurd (releaser_other releaser e)
-receives_at (ReleasePushLook releaser) inside e = absurd (releaser_other releaser e)
+receives_at (ReleasePushRecheck releaser) inside e = absurd (releaser_other releaser e)
 receives_at (ReleaseHandoffExchange releaser) inside e = absurd (releaser_other releaser e)
 receives_at (TakeClearHead carrier) inside e = absurd (carrier_other carrier e)
 receives_at (TakeLinkLoad carrier next) inside e = absurd (carrier_other carrier e)

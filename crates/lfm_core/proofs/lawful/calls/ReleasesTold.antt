@@ -10,7 +10,7 @@ use Rattle.lfm_protocol.specs.declared.answers.Turn.TheVariants.{Open}
 use Rattle.lfm_protocol.specs.declared.points.Carrier.{Carrier}
 use Rattle.lfm_protocol.specs.declared.points.Entrant.{Entrant}
 use Rattle.lfm_protocol.specs.declared.points.Point.{Point}
-use Rattle.lfm_protocol.specs.declared.points.Point.TheVariants.{Rest, Asleep, ReleaseCountSubtract, ReleasePushLook, ReleaseHandoffExchange, GrantWakeStore, EnterOwnerStore}
+use Rattle.lfm_protocol.specs.declared.points.Point.TheVariants.{Rest, Asleep, ReleaseCountSubtract, ReleasePushRecheck, ReleaseHandoffExchange, GrantWakeStore, EnterOwnerStore}
 use Rattle.lfm_protocol.specs.declared.points.Releaser.{Releaser}
 use Rattle.lfm_protocol.specs.declared.points.Releaser.TheVariants.{Unlocker, Waiter}
 use Rattle.lfm_protocol.specs.declared.seats.SeatState.{SeatState}
@@ -97,7 +97,7 @@ frees c g s releaser answer at fits test e =
           absurd (goes_silent (seat c.seats s) next answer (next_take (Carrier.Releaser releaser) s (oldest c.popped)).silent (rw (at, at, ne_eqb c.count 1 more) at e))
     ]
 
-posts : (c : Core) (g : Ghost) (s : ℕ) (releaser : Releaser) (answer : Unlocked) → (seat c.seats s).point ≡ ReleasePushLook releaser → Fits c g
+posts : (c : Core) (g : Ghost) (s : ℕ) (releaser : Releaser) (answer : Unlocked) → (seat c.seats s).point ≡ ReleasePushRecheck releaser → Fits c g
     → ended (stepped c s) ≡ Some answer → Released c (step c s).core s answer
 posts c g s releaser answer at fits e =
     elim (cases_eq c.push.next 0) [
@@ -144,7 +144,7 @@ silent_ends c s p answer at inside stays e =
 ends_at : (c : Core) (g : Ghost) (s : ℕ) (p : Point) (answer : Unlocked) → (seat c.seats s).point ≡ p → Fits c g → is_seat c.seats s ≡ true
     → ended (stepped c s) ≡ Some answer → Released c (step c s).core s answer
 ends_at c g s (ReleaseCountSubtract releaser) answer at fits test e = frees c g s releaser answer at fits test e
-ends_at c g s (ReleasePushLook releaser) answer at fits test e = posts c g s releaser answer at fits e
+ends_at c g s (ReleasePushRecheck releaser) answer at fits test e = posts c g s releaser answer at fits e
 ends_at c g s (ReleaseHandoffExchange releaser) answer at fits test e = loses c g s releaser answer at fits e
 ends_at c g s (GrantWakeStore carrier r) answer at fits test e =
     grants_by c s carrier r answer (seat c.seats s) (grant c g s carrier r at fits test) (rw (at, at) at e)

@@ -11,7 +11,7 @@ use Rattle.lfm_protocol.specs.declared.kinds.Kind.{Kind}
 use Rattle.lfm_protocol.specs.declared.points.Carrier.{Carrier}
 use Rattle.lfm_protocol.specs.declared.points.Entrant.{Entrant}
 use Rattle.lfm_protocol.specs.declared.points.Point.{Point}
-use Rattle.lfm_protocol.specs.declared.points.Point.TheVariants.{Rest, Asleep, LockCountAdd, LockOwnerLoad, LockCountSubtract, TryCountExchange, TryOwnerLoad, TryHandoffLoad, TryHandoffExchange, TryCountAdd, SendWakeExchange, SendCountAdd, SendPushLook, SendWakeStore, PushLoad, LinkStore, PushExchange, PushedHandoffLoad, PushedHandoffExchange, ReleaseOwnerStore, ReleaseCountSubtract, ReleaseHandoffStore, ReleasePushLook, ReleaseHandoffExchange, WaitWakeStore, TakeClearHead, TakeLinkLoad, GrantWakeStore, EnterOwnerStore, ReceiveWakeLoad, ReceiveWakeStore}
+use Rattle.lfm_protocol.specs.declared.points.Point.TheVariants.{Rest, Asleep, LockCountAdd, LockOwnerLoad, LockCountSubtract, TryCountExchange, TryOwnerLoad, TryHandoffLoad, TryHandoffExchange, TryCountAdd, SendWakeExchange, SendCountAdd, SendPushRecheck, SendWakeStore, PushLoad, LinkStore, PushExchange, PushedHandoffLoad, PushedHandoffExchange, ReleaseOwnerStore, ReleaseCountSubtract, ReleaseHandoffStore, ReleasePushRecheck, ReleaseHandoffExchange, WaitWakeStore, TakeClearHead, TakeLinkLoad, GrantWakeStore, EnterOwnerStore, ReceiveWakeLoad, ReceiveWakeStore}
 use Rattle.lfm_protocol.specs.declared.points.Pusher.{Pusher}
 use Rattle.lfm_protocol.specs.declared.points.Releaser.{Releaser}
 use Rattle.lfm_protocol.specs.declared.points.Releaser.TheVariants.{Unlocker, Waiter}
@@ -20,7 +20,7 @@ use Rattle.lfm_protocol.specs.declared.seats.SeatState.{SeatState}
 use Rattle.lfm_words.specs.declared.pop_lists.Record.{Record}
 use Rattle.lfm_words.specs.declared.wakes.Wake.{Wake}
 use Rattle.lfm_words.specs.Popped.{oldest}
-use Rattle.lfm_protocol.specs.After.{same_link, same_handoff, busy, releases, pushed, granted, looks, carrier_of, serves, take, once_cleared, held, receives, claims, loaded, how_granted}
+use Rattle.lfm_protocol.specs.After.{same_link, same_handoff, busy, releases, pushed, granted, found_posted, carrier_of, serves, take, once_cleared, held, receives, claims, loaded, how_granted}
 use Rattle.lfm_protocol.specs.Begin.{Stepped, goes_on, ends}
 use Rattle.lfm_protocol.specs.Core.{Core}
 use Rattle.lfm_protocol.specs.Points.{kind, target}
@@ -155,7 +155,7 @@ step_counts c g s (TryHandoffExchange seen) fits at stays =
 step_counts c g s TryCountAdd fits at stays = rw (at, at) (goes (seat c.seats s) (EnterOwnerStore Entrant.Trier How.Free))
 step_counts c g s (SendWakeExchange t) fits at stays = rw (at, at) (claims_target (seat c.seats s) t (wake c.wakes t))
 step_counts c g s (SendCountAdd t) fits at stays = rw (at, at) (goes (seat c.seats s) (if nat_eq c.count 0 then SendWakeStore t else PushLoad (Pusher.Sender t)))
-step_counts c g s (SendPushLook t seen) fits at stays =
+step_counts c g s (SendPushRecheck t seen) fits at stays =
     rw (at, at) (counts_if (seat c.seats s).takes (seat c.seats s).depth (nat_eq c.push.next 0) (ends (seat c.seats s) Answer.Sent) (goes_on (seat c.seats s) (PushedHandoffExchange (Pusher.Sender t) seen))
     (sent (seat c.seats s)) (goes (seat c.seats s) (PushedHandoffExchange (Pusher.Sender t) seen)))
 step_counts c g s (SendWakeStore t) fits at stays = rw (at, at) (sent (seat c.seats s))
@@ -164,8 +164,8 @@ step_counts c g s (LinkStore pusher seen) fits at stays = rw (at, at) (goes (sea
 step_counts c g s (PushExchange pusher seen) fits at stays = rw (at, at) (goes (seat c.seats s) (if same_link c.push seen then PushedHandoffLoad pusher else LinkStore pusher c.push))
 step_counts c g s (PushedHandoffLoad pusher) fits at stays =
     let deep = rw at at (fits.each s).depth in
-    rw (at, at) (counts_if (seat c.seats s).takes (seat c.seats s).depth (nat_eq c.handoff.seat 0) (pushed (seat c.seats s) pusher) (goes_on (seat c.seats s) (looks pusher c.handoff))
-    (pushes (seat c.seats s) pusher deep) (goes (seat c.seats s) (looks pusher c.handoff)))
+    rw (at, at) (counts_if (seat c.seats s).takes (seat c.seats s).depth (nat_eq c.handoff.seat 0) (pushed (seat c.seats s) pusher) (goes_on (seat c.seats s) (found_posted pusher c.handoff))
+    (pushes (seat c.seats s) pusher deep) (goes (seat c.seats s) (found_posted pusher c.handoff)))
 step_counts c g s (PushedHandoffExchange pusher seen) fits at stays =
     let none = rw at at (fits.each s).depth in
     let next : Point = take (carrier_of pusher) s (oldest c.popped) in
@@ -178,7 +178,7 @@ step_counts c g s (ReleaseCountSubtract releaser) fits at stays =
     rw (at, at) (counts_if (seat c.seats s).takes (seat c.seats s).depth (nat_eq c.count 1) (releases (seat c.seats s) releaser Unlocked.Free) (goes_on (seat c.seats s) next)
     (released (seat c.seats s) releaser Unlocked.Free refl none) (goes (seat c.seats s) next))
 step_counts c g s (ReleaseHandoffStore releaser) fits at stays = rw (at, at) (record { paid = omega arith; deep = refl })
-step_counts c g s (ReleasePushLook releaser) fits at stays =
+step_counts c g s (ReleasePushRecheck releaser) fits at stays =
     let none = rw at at (fits.each s).depth in
     rw (at, at) (counts_if (seat c.seats s).takes (seat c.seats s).depth (nat_eq c.push.next 0) (releases (seat c.seats s) releaser Unlocked.Posted) (goes_on (seat c.seats s) (ReleaseHandoffExchange releaser))
     (released (seat c.seats s) releaser Unlocked.Posted refl none) (goes (seat c.seats s) (ReleaseHandoffExchange releaser)))

@@ -4,7 +4,7 @@ use Rattle.std.proofs.lemmas.Bool.{cases_Bool, eqb-true, eq-eqb, ne_eqb}
 use Rattle.lfm_model.specs.declared.answers.How.{How}
 use Rattle.lfm_protocol.specs.declared.points.Entrant.{Entrant}
 use Rattle.lfm_protocol.specs.declared.points.Point.{Point}
-use Rattle.lfm_protocol.specs.declared.points.Point.TheVariants.{Rest, Asleep, LockCountAdd, LockOwnerLoad, TryCountExchange, TryOwnerLoad, TryHandoffExchange, SendWakeExchange, SendCountAdd, SendPushLook, SendWakeStore, PushLoad, LinkStore, PushExchange, PushedHandoffLoad, PushedHandoffExchange, EnterOwnerStore, ReceiveWakeLoad, ReceiveWakeStore}
+use Rattle.lfm_protocol.specs.declared.points.Point.TheVariants.{Rest, Asleep, LockCountAdd, LockOwnerLoad, TryCountExchange, TryOwnerLoad, TryHandoffExchange, SendWakeExchange, SendCountAdd, SendPushRecheck, SendWakeStore, PushLoad, LinkStore, PushExchange, PushedHandoffLoad, PushedHandoffExchange, EnterOwnerStore, ReceiveWakeLoad, ReceiveWakeStore}
 use Rattle.lfm_protocol.specs.declared.points.Pusher.{Pusher}
 use Rattle.lfm_protocol.specs.declared.points.Sleeper.TheVariants as Sleeper
 use Rattle.lfm_protocol.specs.declared.seats.SeatState.{SeatState}
@@ -26,7 +26,7 @@ use Rattle.lfm_core.proofs.lawful.read.CountRead.{counted_read}
 
 -- each number that was read was posted
 numbers_known : (c : Core) (g : Ghost) (s posts : ℕ) (p : Point) → KnowsAt c g s posts p → ReadBefore c.seats p
-numbers_known c g s posts (SendPushLook t seen) knows = knows.before
+numbers_known c g s posts (SendPushRecheck t seen) knows = knows.before
 numbers_known c g s posts (PushedHandoffExchange pusher seen) knows = knows.0.before
 numbers_known c g s posts (TryHandoffExchange seen) knows = knows.before
 numbers_known c g s posts _ knows = tt

@@ -4,7 +4,7 @@ use Rattle.std.proofs.lemmas.Bool.{cases_eq, eq-eqb, ne_eqb}
 use Rattle.lfm_model.specs.declared.answers.How.{How}
 use Rattle.lfm_protocol.specs.declared.points.Entrant.{Entrant}
 use Rattle.lfm_protocol.specs.declared.points.Point.{Point}
-use Rattle.lfm_protocol.specs.declared.points.Point.TheVariants.{Rest, Asleep, LockCountAdd, LockOwnerLoad, LockCountSubtract, TryCountExchange, TryOwnerLoad, TryHandoffLoad, TryHandoffExchange, TryCountAdd, SendWakeExchange, SendCountAdd, SendPushLook, SendWakeStore, PushLoad, LinkStore, PushExchange, PushedHandoffLoad, PushedHandoffExchange, ReleaseOwnerStore, ReleaseCountSubtract, ReleaseHandoffStore, ReleasePushLook, ReleaseHandoffExchange, WaitWakeStore, TakeClearHead, TakeLinkLoad, GrantWakeStore, EnterOwnerStore, ReceiveWakeLoad, ReceiveWakeStore}
+use Rattle.lfm_protocol.specs.declared.points.Point.TheVariants.{Rest, Asleep, LockCountAdd, LockOwnerLoad, LockCountSubtract, TryCountExchange, TryOwnerLoad, TryHandoffLoad, TryHandoffExchange, TryCountAdd, SendWakeExchange, SendCountAdd, SendPushRecheck, SendWakeStore, PushLoad, LinkStore, PushExchange, PushedHandoffLoad, PushedHandoffExchange, ReleaseOwnerStore, ReleaseCountSubtract, ReleaseHandoffStore, ReleasePushRecheck, ReleaseHandoffExchange, WaitWakeStore, TakeClearHead, TakeLinkLoad, GrantWakeStore, EnterOwnerStore, ReceiveWakeLoad, ReceiveWakeStore}
 use Rattle.lfm_protocol.specs.declared.points.Pusher.{Pusher}
 use Rattle.lfm_protocol.specs.declared.seats.SeatState.{SeatState}
 use Rattle.lfm_words.specs.declared.pop_lists.Record.{Record}
@@ -84,7 +84,7 @@ serves_walks c g s depth posts (TryHandoffExchange seen) e knows some = absurd (
 serves_walks c g s depth posts TryCountAdd e knows some = absurd (cc)
 serves_walks c g s depth posts (SendWakeExchange t) e knows some = absurd (by_depth_serves depth s s false e)
 serves_walks c g s depth posts (SendCountAdd t) e knows some = absurd (by_depth_serves depth s s false e)
-serves_walks c g s depth posts (SendPushLook t seen) e knows some = absurd (cc)
+serves_walks c g s depth posts (SendPushRecheck t seen) e knows some = absurd (cc)
 serves_walks c g s depth posts (SendWakeStore t) e knows some = absurd (cc)
 serves_walks c g s depth posts (PushLoad pusher) e knows some = absurd (pusher_serves depth s pusher e)
 serves_walks c g s depth posts (LinkStore pusher seen) e knows some = absurd (pusher_serves depth s pusher e)
@@ -94,7 +94,7 @@ serves_walks c g s depth posts (PushedHandoffExchange pusher seen) e knows some 
 serves_walks c g s depth posts (ReleaseOwnerStore releaser) e knows some = absurd (cc)
 serves_walks c g s depth posts (ReleaseCountSubtract releaser) e knows some = absurd (cc)
 serves_walks c g s depth posts (ReleaseHandoffStore releaser) e knows some = absurd (some knows.0)
-serves_walks c g s depth posts (ReleasePushLook releaser) e knows some = absurd (cc)
+serves_walks c g s depth posts (ReleasePushRecheck releaser) e knows some = absurd (cc)
 serves_walks c g s depth posts (ReleaseHandoffExchange releaser) e knows some = absurd (cc)
 serves_walks c g s depth posts (WaitWakeStore released) e knows some = absurd (cc)
 serves_walks c g s depth posts (TakeClearHead carrier) e knows some = absurd (some knows.0)

@@ -2,7 +2,7 @@
 use Rattle.std.proofs.Common.{◌≡◌, ◌≢◌, ℕ, ◌<◌, List, [], length, refl, sym, ap, ◌∙◌, arith}
 use Rattle.std.proofs.Math.Bool.{or-false}
 use Rattle.lfm_protocol.specs.declared.points.Point.{Point}
-use Rattle.lfm_protocol.specs.declared.points.Point.TheVariants.{SendPushLook, PushedHandoffLoad, ReleasePushLook}
+use Rattle.lfm_protocol.specs.declared.points.Point.TheVariants.{SendPushRecheck, PushedHandoffLoad, ReleasePushRecheck}
 use Rattle.lfm_protocol.specs.declared.points.Pusher.{Pusher}
 use Rattle.lfm_protocol.specs.declared.seats.SeatState.{SeatState}
 use Rattle.lfm_words.specs.declared.pop_lists.Record.{Record}
@@ -48,8 +48,8 @@ pusher_waits c g s (Pusher.Sender t) fits place awaits watches = waits_told c g 
 watches_told : (c : Core) (g : Ghost) (s : ℕ) (x : SeatState) (p : Point) → Fits c g → g.place ≡ posted → StandsAt g.place x.depth s (g.standing s) p
     → WatchesAt c g s x p → Watches c s x p
 watches_told c g s x (PushedHandoffLoad pusher) fits place stands watches = pusher_waits c g s pusher fits place stands watches
-watches_told c g s x (SendPushLook t seen) fits place stands watches = (watches.0, head_posted c g fits place (queue_of_queued c g t fits watches.1))
-watches_told c g s x (ReleasePushLook releaser) fits place stands watches = (watches.0, head_posted c g fits place watches.1)
+watches_told c g s x (SendPushRecheck t seen) fits place stands watches = (watches.0, head_posted c g fits place (queue_of_queued c g t fits watches.1))
+watches_told c g s x (ReleasePushRecheck releaser) fits place stands watches = (watches.0, head_posted c g fits place watches.1)
 watches_told c g s x _ fits place stands watches = watches
 
 pub watched_read : (c : Core) (g : Ghost) → Fits c g → Watched c

@@ -7,7 +7,7 @@ use Rattle.lfm_protocol.specs.declared.kinds.Kind.{Kind}
 use Rattle.lfm_protocol.specs.declared.points.Carrier.{Carrier}
 use Rattle.lfm_protocol.specs.declared.points.Entrant.{Entrant}
 use Rattle.lfm_protocol.specs.declared.points.Point.{Point}
-use Rattle.lfm_protocol.specs.declared.points.Point.TheVariants.{Rest, Asleep, LockCountAdd, LockOwnerLoad, LockCountSubtract, TryCountExchange, TryOwnerLoad, TryHandoffLoad, TryHandoffExchange, TryCountAdd, SendWakeExchange, SendCountAdd, SendPushLook, SendWakeStore, PushLoad, LinkStore, PushExchange, PushedHandoffLoad, PushedHandoffExchange, ReleaseOwnerStore, ReleaseCountSubtract, ReleaseHandoffStore, ReleasePushLook, ReleaseHandoffExchange, WaitWakeStore, TakeClearHead, TakeLinkLoad, GrantWakeStore, EnterOwnerStore, ReceiveWakeLoad, ReceiveWakeStore}
+use Rattle.lfm_protocol.specs.declared.points.Point.TheVariants.{Rest, Asleep, LockCountAdd, LockOwnerLoad, LockCountSubtract, TryCountExchange, TryOwnerLoad, TryHandoffLoad, TryHandoffExchange, TryCountAdd, SendWakeExchange, SendCountAdd, SendPushRecheck, SendWakeStore, PushLoad, LinkStore, PushExchange, PushedHandoffLoad, PushedHandoffExchange, ReleaseOwnerStore, ReleaseCountSubtract, ReleaseHandoffStore, ReleasePushRecheck, ReleaseHandoffExchange, WaitWakeStore, TakeClearHead, TakeLinkLoad, GrantWakeStore, EnterOwnerStore, ReceiveWakeLoad, ReceiveWakeStore}
 use Rattle.lfm_protocol.specs.declared.points.Pusher.{Pusher}
 use Rattle.lfm_protocol.specs.declared.points.Releaser.{Releaser}
 use Rattle.lfm_protocol.specs.declared.points.Releaser.TheVariants.{Unlocker, Waiter}
@@ -20,7 +20,7 @@ use Rattle.lfm_words.specs.Popped.{oldest}
 use Rattle.std.specs.Prelude.{Option, Some, None, nat_eq}
 use Rattle.lfm_model.specs.declared.answers.How.{How}
 use Rattle.lfm_protocol.specs.declared.answers.Answer.{Answer}
-use Rattle.lfm_protocol.specs.After.{same_link, same_handoff, releases, pushed, granted, looks, carrier_of, serves, take, once_cleared, receives, loaded, how_granted}
+use Rattle.lfm_protocol.specs.After.{same_link, same_handoff, releases, pushed, granted, found_posted, carrier_of, serves, take, once_cleared, receives, loaded, how_granted}
 use Rattle.lfm_protocol.specs.Begin.{Stepped, goes_on, ends}
 use Rattle.lfm_protocol.specs.Core.{Core}
 use Rattle.lfm_protocol.specs.Points.{kind, target}
@@ -76,9 +76,9 @@ plain_receives : (x : SeatState) (sleeper : Sleeper) (w : Wake) → IsPlain (rec
 plain_receives x sleeper (Wake.Grant stamp) = record { untried = refl; made_so = λ why e. cc }
 plain_receives x sleeper _ = record { untried = refl; made_so = λ why e. cc }
 
-untried_looks : (pusher : Pusher) (found : Handoff) → tries (looks pusher found) ≡ false
-untried_looks Pusher.Locker found = refl
-untried_looks (Pusher.Sender t) found = refl
+untried_found_posted : (pusher : Pusher) (found : Handoff) → tries (found_posted pusher found) ≡ false
+untried_found_posted Pusher.Locker found = refl
+untried_found_posted (Pusher.Sender t) found = refl
 
 untried_serves : (carrier : Carrier) (s : ℕ) (r : Record) → tries (serves carrier s r) ≡ false
 untried_serves Carrier.Locker s r =
@@ -125,7 +125,7 @@ plain_at c s LockCountSubtract at plain = rw (at, at) (record { untried = refl; 
 plain_at c s TryCountAdd at plain = rw (at, at) (plain_goes (seat c.seats s) (EnterOwnerStore Entrant.Trier How.Free) refl)
 plain_at c s (SendCountAdd t) at plain =
     rw (at, at) (plain_either (seat c.seats s) (nat_eq c.count 0) (SendWakeStore t) (PushLoad (Pusher.Sender t)) refl refl)
-plain_at c s (SendPushLook t seen) at plain =
+plain_at c s (SendPushRecheck t seen) at plain =
     rw (at, at) (plain_if (nat_eq c.push.next 0) (ends (seat c.seats s) Answer.Sent) (goes_on (seat c.seats s) (PushedHandoffExchange (Pusher.Sender t) seen))
     (plain_ends (seat c.seats s) Answer.Sent) (plain_goes (seat c.seats s) (PushedHandoffExchange (Pusher.Sender t) seen) refl))
 plain_at c s (SendWakeStore t) at plain = rw (at, at) (record { untried = refl; made_so = λ why e. cc })
@@ -134,8 +134,8 @@ plain_at c s (LinkStore pusher seen) at plain = rw (at, at) (plain_goes (seat c.
 plain_at c s (PushExchange pusher seen) at plain =
     rw (at, at) (plain_either (seat c.seats s) (same_link c.push seen) (PushedHandoffLoad pusher) (LinkStore pusher c.push) refl refl)
 plain_at c s (PushedHandoffLoad pusher) at plain =
-    rw (at, at) (plain_if (nat_eq c.handoff.seat 0) (pushed (seat c.seats s) pusher) (goes_on (seat c.seats s) (looks pusher c.handoff)) (plain_pushed (seat c.seats s) pusher)
-    (plain_goes (seat c.seats s) (looks pusher c.handoff) (untried_looks pusher c.handoff)))
+    rw (at, at) (plain_if (nat_eq c.handoff.seat 0) (pushed (seat c.seats s) pusher) (goes_on (seat c.seats s) (found_posted pusher c.handoff)) (plain_pushed (seat c.seats s) pusher)
+    (plain_goes (seat c.seats s) (found_posted pusher c.handoff) (untried_found_posted pusher c.handoff)))
 plain_at c s (PushedHandoffExchange pusher seen) at plain =
     let next : Point = take (carrier_of pusher) s (oldest c.popped) in
     rw (at, at) (plain_if (same_handoff c.handoff seen) (goes_on (seat c.seats s) next) (pushed (seat c.seats s) pusher)
@@ -146,7 +146,7 @@ plain_at c s (ReleaseCountSubtract releaser) at plain =
     rw (at, at) (plain_if (nat_eq c.count 1) (releases (seat c.seats s) releaser Unlocked.Free) (goes_on (seat c.seats s) next) (plain_releases (seat c.seats s) releaser Unlocked.Free)
     (plain_goes (seat c.seats s) next (untried_take (Carrier.Releaser releaser) s (oldest c.popped))))
 plain_at c s (ReleaseHandoffStore releaser) at plain = rw (at, at) (record { untried = refl; made_so = λ why e. cc })
-plain_at c s (ReleasePushLook releaser) at plain =
+plain_at c s (ReleasePushRecheck releaser) at plain =
     rw (at, at) (plain_if (nat_eq c.push.next 0) (releases (seat c.seats s) releaser Unlocked.Posted) (goes_on (seat c.seats s) (ReleaseHandoffExchange releaser))
     (plain_releases (seat c.seats s) releaser Unlocked.Posted) (plain_goes (seat c.seats s) (ReleaseHandoffExchange releaser) refl))
 plain_at c s (ReleaseHandoffExchange releaser) at plain =

@@ -28,9 +28,9 @@ RefusedFor c s p refusal =
 
 -- A try_lock that finds the mutex busy
 
-look_refused : (c : Core) (g : Ghost) (s : ℕ) (refusal : Refusal) → (seat c.seats s).point ≡ TryHandoffLoad → Fits c g
+handoff_load_refused : (c : Core) (g : Ghost) (s : ℕ) (refusal : Refusal) → (seat c.seats s).point ≡ TryHandoffLoad → Fits c g
     → (made c s).turn ≡ Refused (By refusal) → RefusedFor c s TryHandoffLoad refusal
-look_refused c g s refusal at fits turn =
+handoff_load_refused c g s refusal at fits turn =
     elim (cases_eq c.handoff.seat 0) [
       | inl none ↦
           let e = same_refusal Refusal.Busy refusal (rw (at, at, eq-eqb c.handoff.seat 0 none) at turn) in
@@ -77,7 +77,7 @@ made_refused c g s refusal Rest at fits turn = absurd (idle_refused refusal (rw 
 made_refused c g s refusal (Asleep sleeper) at fits turn = absurd (idle_refused refusal (rw at at turn))
 made_refused c g s refusal TryCountExchange at fits turn = absurd (open_refused refusal (rw (at, at) at turn))
 made_refused c g s refusal TryOwnerLoad at fits turn = absurd (owner_unrefused c s refusal at turn)
-made_refused c g s refusal TryHandoffLoad at fits turn = look_refused c g s refusal at fits turn
+made_refused c g s refusal TryHandoffLoad at fits turn = handoff_load_refused c g s refusal at fits turn
 made_refused c g s refusal (TryHandoffExchange seen) at fits turn = exchange_refused c g s seen refusal at fits turn
 made_refused c g s refusal (SendWakeExchange t) at fits turn = send_refused c s t refusal (wake c.wakes t) at refl turn
 made_refused c g s refusal _ at fits turn = absurd ((plain_at c s _ at refl).made_so (By refusal) (sym (turn_made c s) ∙ turn))

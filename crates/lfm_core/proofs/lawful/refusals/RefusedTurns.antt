@@ -122,8 +122,8 @@ owner_by c s at =
       | inr other ↦ rw (at, at, ne_eqb c.owner s other) tt
     ]
 
-look_by : (c : Core) (s : ℕ) → (seat c.seats s).point ≡ TryHandoffLoad → IsByMutex (made c s).turn
-look_by c s at =
+refused_by : (c : Core) (s : ℕ) → (seat c.seats s).point ≡ TryHandoffLoad → IsByMutex (made c s).turn
+refused_by c s at =
     elim (cases_eq c.handoff.seat 0) [
       | inl none ↦ rw (at, at, eq-eqb c.handoff.seat 0 none) tt
       | inr some ↦ rw (at, at, ne_eqb c.handoff.seat 0 some) tt
@@ -134,7 +134,7 @@ step_why c s why Rest at turn = idle_why Rest why refl (rw at at turn)
 step_why c s why (Asleep sleeper) at turn = idle_why (Asleep sleeper) why refl (rw at at turn)
 step_why c s why TryCountExchange at turn = step_by_why TryCountExchange why (made c s).turn (rw (at, at) tt) turn
 step_why c s why TryOwnerLoad at turn = step_by_why TryOwnerLoad why (made c s).turn (owner_by c s at) turn
-step_why c s why TryHandoffLoad at turn = step_by_why TryHandoffLoad why (made c s).turn (look_by c s at) turn
+step_why c s why TryHandoffLoad at turn = step_by_why TryHandoffLoad why (made c s).turn (refused_by c s at) turn
 step_why c s why (TryHandoffExchange seen) at turn =
     elim (cases_Bool (same_handoff c.handoff seen)) [
       | inl same ↦ step_by_why (TryHandoffExchange seen) why (made c s).turn (rw (at, at, same) tt) turn

@@ -98,10 +98,10 @@ goes_by c d s t (Some Kind.WakeStore) own found front = rw own refl
 goes_by c d s t (Some Kind.WakeExchange) own found front = rw (own, found (Word.Wake t) refl) refl
 
 same_stepped : (c d : Core) (s : ℕ) → LooksSame c d s → stepped d s ≡ stepped c s
-same_stepped c d s looks =
+same_stepped c d s sees =
     let t : ℕ = target (seat c.seats s).point s in
     let k : Option Kind = kind_of c s in
-    ap (λ x. stepped_by d s (target x.point s) (kind x.point)) looks.own ∙ goes_by c d s t k looks.own looks.word looks.record_to_serve
+    ap (λ x. stepped_by d s (target x.point s) (kind x.point)) sees.own ∙ goes_by c d s t k sees.own sees.word sees.record_to_serve
 
 turn_of : (c : Core) (s t : ℕ) (k : Option Kind) → (step_of c s t k).turn ≡ (stepped_by c s t k).turn
 turn_of c s t None = refl
@@ -126,7 +126,7 @@ turn_made : (c : Core) (s : ℕ) → (made c s).turn ≡ (stepped c s).turn
 turn_made c s = turn_of c s (target (seat c.seats s).point s) (kind_of c s)
 
 pub steps_see_one_word_and_one_seat : StepsSeeOneWordAndOneSeat
-steps_see_one_word_and_one_seat c d s is there looks =
-    let same = same_stepped c d s looks in
+steps_see_one_word_and_one_seat c d s is there sees =
+    let same = same_stepped c d s sees in
     rw (test_of_seat c.seats s is, test_of_seat d.seats s there)
     (turn_made d s ∙ ap (λ m. m.turn) same ∙ sym (turn_made c s), own_made d s there ∙ ap (λ m. m.seat) same ∙ sym (own_made c s is))

@@ -7,7 +7,7 @@ use Rattle.lfm_model.specs.declared.answers.How.{How}
 use Rattle.lfm_protocol.specs.declared.points.Carrier.{Carrier}
 use Rattle.lfm_protocol.specs.declared.points.Entrant.{Entrant}
 use Rattle.lfm_protocol.specs.declared.points.Point.{Point}
-use Rattle.lfm_protocol.specs.declared.points.Point.TheVariants.{Asleep, TryHandoffExchange, SendWakeExchange, SendCountAdd, SendPushLook, SendWakeStore, PushLoad, LinkStore, PushExchange, PushedHandoffLoad, PushedHandoffExchange, ReleaseHandoffStore, ReleasePushLook, ReleaseHandoffExchange, TakeClearHead, TakeLinkLoad, GrantWakeStore, EnterOwnerStore, ReceiveWakeLoad}
+use Rattle.lfm_protocol.specs.declared.points.Point.TheVariants.{Asleep, TryHandoffExchange, SendWakeExchange, SendCountAdd, SendPushRecheck, SendWakeStore, PushLoad, LinkStore, PushExchange, PushedHandoffLoad, PushedHandoffExchange, ReleaseHandoffStore, ReleasePushRecheck, ReleaseHandoffExchange, TakeClearHead, TakeLinkLoad, GrantWakeStore, EnterOwnerStore, ReceiveWakeLoad}
 use Rattle.lfm_protocol.specs.declared.points.Pusher.{Pusher}
 use Rattle.lfm_protocol.specs.declared.points.Sleeper.TheVariants as Sleeper
 use Rattle.lfm_protocol.specs.declared.seats.SeatState.{SeatState}
@@ -124,7 +124,7 @@ KnowsAt_seen c d g h t depth posts x (PushedHandoffExchange pusher seen) sees mo
 KnowsAt_seen c d g h t depth posts x (TryHandoffExchange seen) sees most claims stands knows = sees.old seen knows
 KnowsAt_seen c d g h t depth posts x (SendWakeExchange u) sees most claims stands knows = sees.seats u knows
 KnowsAt_seen c d g h t depth posts x (SendCountAdd u) sees most claims stands knows = (knows.0, sees.claim u knows.1)
-KnowsAt_seen c d g h t depth posts x (SendPushLook u seen) sees most claims stands knows = sees.old seen knows
+KnowsAt_seen c d g h t depth posts x (SendPushRecheck u seen) sees most claims stands knows = sees.old seen knows
 KnowsAt_seen c d g h t depth posts x (SendWakeStore u) sees most claims stands knows = knows
 KnowsAt_seen c d g h t depth posts x (ReleaseHandoffStore releaser) sees most claims stands knows =
     let carrier = sees.carrier (sym claims) in
@@ -237,9 +237,9 @@ watches_as_seen g h (Pusher.Sender u) still watches = still u watches
 pub WatchesAt_seen : (c d : Core) (g h : Ghost) (t : ℕ) (x : SeatState) (at : Point) → d.handoff ≡ c.handoff → (HasQueue g → HasQueue h)
     → ((u : ℕ) → is_queued (g.standing u) ≡ true → is_queued (h.standing u) ≡ true) → WatchesAt c g t x at → WatchesAt d h t x at
 WatchesAt_seen c d g h t x (PushedHandoffLoad pusher) same queue still watches = watches_as_seen g h pusher still watches
-WatchesAt_seen c d g h t x (SendPushLook u seen) same queue still watches = (same ∙ watches.0, still u watches.1)
+WatchesAt_seen c d g h t x (SendPushRecheck u seen) same queue still watches = (same ∙ watches.0, still u watches.1)
 WatchesAt_seen c d g h t x (PushedHandoffExchange pusher seen) same queue still watches = same ∙ watches
-WatchesAt_seen c d g h t x (ReleasePushLook releaser) same queue still watches = (same ∙ watches.0, queue watches.1)
+WatchesAt_seen c d g h t x (ReleasePushRecheck releaser) same queue still watches = (same ∙ watches.0, queue watches.1)
 WatchesAt_seen c d g h t x (ReleaseHandoffExchange releaser) same queue still watches = same ∙ watches
 WatchesAt_seen c d g h t x _ same queue still watches = watches
 

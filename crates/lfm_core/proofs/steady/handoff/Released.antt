@@ -2,7 +2,7 @@
 use Rattle.std.proofs.Common.{◌≡◌, ℕ, [], refl, sym, ◌∙◌, arith}
 use Rattle.lfm_model.specs.declared.answers.Unlocked.{Unlocked}
 use Rattle.lfm_protocol.specs.declared.points.Point.{Point}
-use Rattle.lfm_protocol.specs.declared.points.Point.TheVariants.{Rest, ReleasePushLook, WaitWakeStore}
+use Rattle.lfm_protocol.specs.declared.points.Point.TheVariants.{Rest, ReleasePushRecheck, WaitWakeStore}
 use Rattle.lfm_protocol.specs.declared.points.Releaser.{Releaser}
 use Rattle.lfm_protocol.specs.declared.points.Releaser.TheVariants.{Unlocker, Waiter}
 use Rattle.lfm_protocol.specs.declared.seats.SeatState.{SeatState}
@@ -24,12 +24,12 @@ released takes posts p releaser answer = (releases (record { depth = 0; takes = 
 
 -- a seat fits there that fits at the look after a post, and that watches no handoff
 pub released_own : (c : Core) (h : Ghost) (s takes posts : ℕ) (w : Wake) (p : Point) (releaser : Releaser) (answer : Unlocked)
-    → SeatFits c h s (record { depth = 0; takes = takes; posts = posts; point = ReleasePushLook releaser }) w → (h.place ≡ posted → h.watcher ≡ s → ⊥)
+    → SeatFits c h s (record { depth = 0; takes = takes; posts = posts; point = ReleasePushRecheck releaser }) w → (h.place ≡ posted → h.watcher ≡ s → ⊥)
     → SeatFits c h s (released takes posts p releaser answer) w
 released_own c h s takes posts w p Unlocker answer fits unwatched =
     record {
       claims = fits.claims;
-      woken = fits.woken ∙ wake_by_same (grant_at h.place s) h.place (h.standing s) (h.standing s) s (ReleasePushLook Unlocker) Rest refl;
+      woken = fits.woken ∙ wake_by_same (grant_at h.place s) h.place (h.standing s) (h.standing s) s (ReleasePushRecheck Unlocker) Rest refl;
       granted = fits.granted;
       entered = fits.entered;
       listed = fits.listed;
@@ -45,7 +45,7 @@ released_own c h s takes posts w p Unlocker answer fits unwatched =
 released_own c h s takes posts w p Waiter answer fits unwatched =
     record {
       claims = fits.claims;
-      woken = fits.woken ∙ wake_by_same (grant_at h.place s) h.place (h.standing s) (h.standing s) s (ReleasePushLook Waiter) (WaitWakeStore answer) refl;
+      woken = fits.woken ∙ wake_by_same (grant_at h.place s) h.place (h.standing s) (h.standing s) s (ReleasePushRecheck Waiter) (WaitWakeStore answer) refl;
       granted = fits.granted;
       entered = fits.entered;
       listed = fits.listed;

@@ -6,7 +6,7 @@ use Rattle.lfm_model.specs.Abstract as Abstract
 use Rattle.lfm_model.specs.AbstractRuns as Case
 use Rattle.lfm_model.specs.declared.answers.Unlocked.TheVariants.{TakenOver}
 use Rattle.lfm_protocol.specs.declared.points.Carrier.TheVariants as Carrier
-use Rattle.lfm_protocol.specs.declared.points.Point.TheVariants.{Rest, Asleep, PushedHandoffExchange, TryHandoffExchange, TryCountAdd, ReleaseHandoffExchange, ReleasePushLook, TakeClearHead}
+use Rattle.lfm_protocol.specs.declared.points.Point.TheVariants.{Rest, Asleep, PushedHandoffExchange, TryHandoffExchange, TryCountAdd, ReleaseHandoffExchange, ReleasePushRecheck, TakeClearHead}
 use Rattle.lfm_protocol.specs.declared.points.Pusher.{Pusher}
 use Rattle.lfm_protocol.specs.declared.points.Releaser.{Releaser}
 use Rattle.lfm_protocol.specs.declared.points.Sleeper.TheVariants as Sleeper
@@ -292,7 +292,7 @@ poster_loses c g s releaser takes posts is at lost fits =
           (released_errands c s takes posts (ReleaseHandoffExchange releaser) releaser TakenOver (rw at) (rw at) (rw at))
           (released_own c g s takes posts (wake c.wakes s) (ReleaseHandoffExchange releaser) releaser TakenOver (record {
             claims = here.claims;
-            woken = here.woken ∙ wake_by_same (grant_at g.place s) g.place (g.standing s) (g.standing s) s (ReleaseHandoffExchange releaser) (ReleasePushLook releaser) refl;
+            woken = here.woken ∙ wake_by_same (grant_at g.place s) g.place (g.standing s) (g.standing s) s (ReleaseHandoffExchange releaser) (ReleasePushRecheck releaser) refl;
             granted = here.granted;
             entered = here.entered;
             listed = here.listed;

@@ -5,7 +5,7 @@ use Rattle.lfm_model.specs.Abstract.{AbstractMutex, HasSomebody, Moves, carried}
 use Rattle.lfm_model.specs.Abstract as Abstract
 use Rattle.lfm_model.specs.AbstractRuns as Case
 use Rattle.lfm_model.specs.declared.answers.Unlocked.TheVariants.{Posted}
-use Rattle.lfm_protocol.specs.declared.points.Point.TheVariants.{ReleaseHandoffStore, ReleasePushLook, ReleaseHandoffExchange}
+use Rattle.lfm_protocol.specs.declared.points.Point.TheVariants.{ReleaseHandoffStore, ReleasePushRecheck, ReleaseHandoffExchange}
 use Rattle.lfm_protocol.specs.declared.points.Releaser.{Releaser}
 use Rattle.lfm_protocol.specs.declared.seats.SeatState.{SeatState}
 use Rattle.lfm_words.specs.declared.handoffs.Handoff.{Handoff}
@@ -48,7 +48,7 @@ handoff_stored c g s watcher releaser takes posts is at watched fits =
     let work : g.popped < g.asking + g.pushed = rw place at fits.words.work in
     let seen = rw place at here in
     let h : Ghost = record g { place = posted; watcher = watcher } in
-    let y : SeatState = record { depth = 0; takes = takes; posts = posts + 1; point = ReleasePushLook releaser } in
+    let y : SeatState = record { depth = 0; takes = takes; posts = posts + 1; point = ReleasePushRecheck releaser } in
     rw (at, at) (record {
       to = h;
       fits = posts_handoff c g s y watcher is fits (record {
@@ -113,25 +113,25 @@ head_of_queue c g fits at some zero =
     nobody_queued c g g.pushed fits (rw newest at stands)
 
 -- nobody was pushed: whoever watches is another seat
-look_finds_none : (c : Core) (g : Ghost) (s : ℕ) (releaser : Releaser) (takes posts : ℕ) → IsSeat c.seats s
-    → seat c.seats s ≡ record { depth = 0; takes = takes; posts = posts; point = ReleasePushLook releaser } → c.push.next ≡ 0 → Fits c g → Kept c g s
-look_finds_none c g s releaser takes posts is at empty fits =
+recheck_finds_none : (c : Core) (g : Ghost) (s : ℕ) (releaser : Releaser) (takes posts : ℕ) → IsSeat c.seats s
+    → seat c.seats s ≡ record { depth = 0; takes = takes; posts = posts; point = ReleasePushRecheck releaser } → c.push.next ≡ 0 → Fits c g → Kept c g s
+recheck_finds_none c g s releaser takes posts is at empty fits =
     let here = rw at at (fits.each s) in
-    let x : SeatState = record { depth = 0; takes = takes; posts = posts; point = ReleasePushLook releaser } in
+    let x : SeatState = record { depth = 0; takes = takes; posts = posts; point = ReleasePushRecheck releaser } in
     let unwatched : g.place ≡ posted → g.watcher ≡ s → ⊥ = λ at who. head_of_queue c g fits at (here.watches at who).1 empty in
     rw (at, at, eq-eqb c.push.next 0 empty) (record {
       to = g;
-      fits = view_moves c g s (released takes posts (ReleasePushLook releaser) releaser Posted) is fits
-          (released_errands c s takes posts (ReleasePushLook releaser) releaser Posted (rw at) (rw at) (rw at))
-          (released_own c g s takes posts (wake c.wakes s) (ReleasePushLook releaser) releaser Posted here unwatched);
+      fits = view_moves c g s (released takes posts (ReleasePushRecheck releaser) releaser Posted) is fits
+          (released_errands c s takes posts (ReleasePushRecheck releaser) releaser Posted (rw at) (rw at) (rw at))
+          (released_own c g s takes posts (wake c.wakes s) (ReleasePushRecheck releaser) releaser Posted here unwatched);
       goes = record { place = refl; asking = λ x. refl; waiting = refl };
       history = released_history g g s x releaser Posted (history_stays g g refl refl refl refl);
     })
 
 -- somebody was pushed, so the post is to be taken back
-look_finds_some : (c : Core) (g : Ghost) (s : ℕ) (releaser : Releaser) (takes posts : ℕ) → IsSeat c.seats s
-    → seat c.seats s ≡ record { depth = 0; takes = takes; posts = posts; point = ReleasePushLook releaser } → c.push.next ≢ 0 → Fits c g → Kept c g s
-look_finds_some c g s releaser takes posts is at some fits =
+recheck_finds_some : (c : Core) (g : Ghost) (s : ℕ) (releaser : Releaser) (takes posts : ℕ) → IsSeat c.seats s
+    → seat c.seats s ≡ record { depth = 0; takes = takes; posts = posts; point = ReleasePushRecheck releaser } → c.push.next ≢ 0 → Fits c g → Kept c g s
+recheck_finds_some c g s releaser takes posts is at some fits =
     let here = rw at at (fits.each s) in
     let own : Handoff = record { seat = s; post = posts } in
     let y : SeatState = record { depth = 0; takes = takes; posts = posts; point = ReleaseHandoffExchange releaser } in
@@ -140,7 +140,7 @@ look_finds_some c g s releaser takes posts is at some fits =
       to = g;
       fits = view_moves c g s y is fits (record { asks_same = rw at; claims_same = rw at; posts_same = rw at }) (record {
         claims = here.claims;
-        woken = here.woken ∙ wake_by_same (grant_at g.place s) g.place (g.standing s) (g.standing s) s (ReleasePushLook releaser) (ReleaseHandoffExchange releaser) refl;
+        woken = here.woken ∙ wake_by_same (grant_at g.place s) g.place (g.standing s) (g.standing s) s (ReleasePushRecheck releaser) (ReleaseHandoffExchange releaser) refl;
         granted = here.granted;
         entered = here.entered;
         listed = here.listed;
@@ -157,11 +157,11 @@ look_finds_some c g s releaser takes posts is at some fits =
       history = history_stays g g refl refl refl refl;
     })
 
-pub at_ReleasePushLook : (c : Core) (g : Ghost) (s : ℕ) (releaser : Releaser) → IsSeat c.seats s → (seat c.seats s).point ≡ ReleasePushLook releaser → Fits c g → Kept c g s
-at_ReleasePushLook c g s releaser is at fits =
+pub at_ReleasePushRecheck : (c : Core) (g : Ghost) (s : ℕ) (releaser : Releaser) → IsSeat c.seats s → (seat c.seats s).point ≡ ReleasePushRecheck releaser → Fits c g → Kept c g s
+at_ReleasePushRecheck c g s releaser is at fits =
     let here = rw at at (fits.each s) in
-    let written = seat_at (seat c.seats s) 0 (ReleasePushLook releaser) here.depth at in
+    let written = seat_at (seat c.seats s) 0 (ReleasePushRecheck releaser) here.depth at in
     elim (cases_eq c.push.next 0) [
-      | inl empty ↦ look_finds_none c g s releaser _ _ is written empty fits
-      | inr some ↦ look_finds_some c g s releaser _ _ is written some fits
+      | inl empty ↦ recheck_finds_none c g s releaser _ _ is written empty fits
+      | inr some ↦ recheck_finds_some c g s releaser _ _ is written some fits
     ]

@@ -1,7 +1,7 @@
 -- The steps of a pusher that change no word: it loads the push word, and once it has pushed, the handoff word.
 use Rattle.std.proofs.Common.{◌≡◌, ◌≢◌, ℕ, true, false, refl, ◌∙◌, arith, inl, inr}
 use Rattle.std.proofs.lemmas.Bool.{cases_eq, eq-eqb, ne_eqb}
-use Rattle.lfm_protocol.specs.declared.points.Point.TheVariants.{Rest, Asleep, PushLoad, LinkStore, PushedHandoffLoad, PushedHandoffExchange, SendPushLook}
+use Rattle.lfm_protocol.specs.declared.points.Point.TheVariants.{Rest, Asleep, PushLoad, LinkStore, PushedHandoffLoad, PushedHandoffExchange, SendPushRecheck}
 use Rattle.lfm_protocol.specs.declared.points.Pusher.{Pusher}
 use Rattle.lfm_protocol.specs.declared.points.Sleeper.TheVariants as Sleeper
 use Rattle.lfm_protocol.specs.declared.seats.SeatState.{SeatState}
@@ -111,13 +111,13 @@ own_finds c g s x w old fits =
     }
 
 -- and a sender, which then owns nothing, looks whether somebody is queued
-own_looks : (c : Core) (g : Ghost) (s t : ℕ) (x : SeatState) (w : Wake) → IsOld c.seats c.handoff → g.place ≡ posted
+own_rechecks : (c : Core) (g : Ghost) (s t : ℕ) (x : SeatState) (w : Wake) → IsOld c.seats c.handoff → g.place ≡ posted
     → SeatFits c g s (record x { point = PushedHandoffLoad (Pusher.Sender t) }) w
-    → SeatFits c g s (record x { point = SendPushLook t c.handoff }) w
-own_looks c g s t x w old is fits =
+    → SeatFits c g s (record x { point = SendPushRecheck t c.handoff }) w
+own_rechecks c g s t x w old is fits =
     record {
       claims = rw is;
-      woken = fits.woken ∙ wake_by_same (grant_at g.place s) g.place (g.standing s) (g.standing s) s (PushedHandoffLoad (Pusher.Sender t)) (SendPushLook t c.handoff) refl;
+      woken = fits.woken ∙ wake_by_same (grant_at g.place s) g.place (g.standing s) (g.standing s) s (PushedHandoffLoad (Pusher.Sender t)) (SendPushRecheck t c.handoff) refl;
       granted = fits.granted;
       entered = fits.entered;
       listed = fits.listed;
@@ -156,20 +156,20 @@ at_PushedHandoffLoad c g s (Pusher.Sender t) is at fits =
           (record { asks_same = rw at; claims_same = rw at; posts_same = refl })
           (own_ends c g s t x w (not_posted c g.place fits.words.handoff none) here))
       | inr some ↦ rw (at, at, ne_eqb c.handoff.seat 0 some)
-          (moves_quietly c g s (record x { point = SendPushLook t c.handoff }) is fits
+          (moves_quietly c g s (record x { point = SendPushRecheck t c.handoff }) is fits
           (record { asks_same = rw at; claims_same = rw at; posts_same = refl })
-          (own_looks c g s t x w (stands_old c g fits some) (posted_of c.seats g.place c.handoff (omega (arith, some)) fits.words.handoff) here))
+          (own_rechecks c g s t x w (stands_old c g fits some) (posted_of c.seats g.place c.handoff (omega (arith, some)) fits.words.handoff) here))
     ]
 
 -- A sender's look at the push word
 
 -- nobody is queued: it ends
-own_looked : (c : Core) (g : Ghost) (s t : ℕ) (seen : Handoff) (x : SeatState) (w : Wake) → (g.place ≡ posted → is_queued (g.standing t) ≢ true)
-    → SeatFits c g s (record x { point = SendPushLook t seen }) w → SeatFits c g s (record x { point = Rest }) w
-own_looked c g s t seen x w none fits =
+own_rechecked : (c : Core) (g : Ghost) (s t : ℕ) (seen : Handoff) (x : SeatState) (w : Wake) → (g.place ≡ posted → is_queued (g.standing t) ≢ true)
+    → SeatFits c g s (record x { point = SendPushRecheck t seen }) w → SeatFits c g s (record x { point = Rest }) w
+own_rechecked c g s t seen x w none fits =
     record {
       claims = rw fits.depth fits.claims;
-      woken = fits.woken ∙ wake_by_same (grant_at g.place s) g.place (g.standing s) (g.standing s) s (SendPushLook t seen) Rest refl;
+      woken = fits.woken ∙ wake_by_same (grant_at g.place s) g.place (g.standing s) (g.standing s) s (SendPushRecheck t seen) Rest refl;
       granted = fits.granted;
       entered = fits.entered;
       listed = fits.listed;
@@ -185,12 +185,12 @@ own_looked c g s t seen x w none fits =
 
 -- somebody is: it tries to take the handoff
 own_tries : (c : Core) (g : Ghost) (s t : ℕ) (seen : Handoff) (x : SeatState) (w : Wake) → HasQueue g
-    → SeatFits c g s (record x { point = SendPushLook t seen }) w
+    → SeatFits c g s (record x { point = SendPushRecheck t seen }) w
     → SeatFits c g s (record x { point = PushedHandoffExchange (Pusher.Sender t) seen }) w
 own_tries c g s t seen x w some fits =
     record {
       claims = fits.claims;
-      woken = fits.woken ∙ wake_by_same (grant_at g.place s) g.place (g.standing s) (g.standing s) s (SendPushLook t seen) (PushedHandoffExchange (Pusher.Sender t) seen) refl;
+      woken = fits.woken ∙ wake_by_same (grant_at g.place s) g.place (g.standing s) (g.standing s) s (SendPushRecheck t seen) (PushedHandoffExchange (Pusher.Sender t) seen) refl;
       granted = fits.granted;
       entered = fits.entered;
       listed = fits.listed;
@@ -204,16 +204,16 @@ own_tries c g s t seen x w some fits =
       watches = λ is watcher. (fits.watches is watcher).0;
     }
 
-pub at_SendPushLook : (c : Core) (g : Ghost) (s t : ℕ) (seen : Handoff) → IsSeat c.seats s → (seat c.seats s).point ≡ SendPushLook t seen → Fits c g → Kept c g s
-at_SendPushLook c g s t seen is at fits =
+pub at_SendPushRecheck : (c : Core) (g : Ghost) (s t : ℕ) (seen : Handoff) → IsSeat c.seats s → (seat c.seats s).point ≡ SendPushRecheck t seen → Fits c g → Kept c g s
+at_SendPushRecheck c g s t seen is at fits =
     let x = seat c.seats s in
     let w = wake c.wakes s in
-    let here = fits_at c g s x w (SendPushLook t seen) at (fits.each s) in
+    let here = fits_at c g s x w (SendPushRecheck t seen) at (fits.each s) in
     elim (cases_eq c.push.next 0) [
       | inl none ↦ rw (at, at, eq-eqb c.push.next 0 none)
           (moves_quietly c g s (record x { point = Rest }) is fits
           (record { asks_same = rw at; claims_same = rw at; posts_same = refl })
-          (own_looked c g s t seen x w (none_queued c g t fits none) here))
+          (own_rechecked c g s t seen x w (none_queued c g t fits none) here))
       | inr some ↦ rw (at, at, ne_eqb c.push.next 0 some)
           (moves_quietly c g s (record x { point = PushedHandoffExchange (Pusher.Sender t) seen }) is fits
           (record { asks_same = rw at; claims_same = rw at; posts_same = refl })

@@ -94,10 +94,10 @@ try_deepens c g s d takes posts is at fits =
     })
 
 -- it is another, or nobody
-try_looks : (c : Core) (g : Ghost) (s takes posts : ℕ) → IsSeat c.seats s
+try_goes_on : (c : Core) (g : Ghost) (s takes posts : ℕ) → IsSeat c.seats s
     → seat c.seats s ≡ record { depth = 0; takes = takes; posts = posts; point = TryOwnerLoad } → Fits c g
     → Fits (put c s (record { depth = 0; takes = takes; posts = posts; point = TryHandoffLoad })) g
-try_looks c g s takes posts is at fits =
+try_goes_on c g s takes posts is at fits =
     let here = rw at at (fits.each s) in
     view_moves c g s _ is fits (record { asks_same = rw at refl; claims_same = rw at refl; posts_same = rw at refl })
     (record {
@@ -121,7 +121,7 @@ try_owner_load_at : (c : Core) (g : Ghost) (s depth takes posts : ℕ) → IsSea
 try_owner_load_at c g s zero takes posts is at fits =
     let here = rw at at (fits.each s) in
     let other : nat_eq c.owner s ≡ false = ne_eqb c.owner s (λ e. owner_of-held g.place s is.above (sym fits.words.owner ∙ e) (sym here.claims)) in
-    rw (at, at, other) (view_kept g _ (try_looks c g s takes posts is at fits))
+    rw (at, at, other) (view_kept g _ (try_goes_on c g s takes posts is at fits))
 try_owner_load_at c g s (suc d) takes posts is at fits =
     let here = rw at at (fits.each s) in
     let place : g.place ≡ owned s false = place_of_claim g.place (owned s false) s (λ e. cc) (rw (eqb-suc-zero d) at here.claims) in

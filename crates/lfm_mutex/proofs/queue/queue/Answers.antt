@@ -15,7 +15,7 @@ use Rattle.lfm_mutex.specs.calls.FailedPushes.{Spends}
 use Rattle.lfm_mutex.specs.calls.Runs.{opens}
 use Rattle.lfm_mutex.specs.calls.Straight.{Course}
 use Rattle.lfm_mutex.proofs.runs.Courses.{course_none, course_next, course_join}
-use Rattle.lfm_mutex.proofs.runs.QueuePoints.{exchanged, slept, looked, posted_for}
+use Rattle.lfm_mutex.proofs.runs.QueuePoints.{exchanged, slept, found_one, posted_for}
 use Rattle.lfm_mutex.proofs.runs.Spending.{spends_any, spends_join, spends_more, spends_within}
 use Rattle.lfm_mutex.proofs.runs.StraightPoints.{fit_after, not_owned}
 use Rattle.lfm_table.proofs.tables.StepFacts.{made_of}
@@ -60,8 +60,8 @@ returns-then-handoff-ne0-clause-made g c =
     let fit3 = fit_after g.T.Kept.follows g.T.Kept.fits s.number l.new.place.table_id.words l.new.place.id s.limits p2 l.ensures.step.0 w.new.place.me a l.new.place.me a l.ensures.step.1 (opens p3) refl in
     let so3 = course_next g.T.Kept.follows g.T.Kept.fits s.number p0 a s.place.me.0 l.new.place.table_id.words l.new.place.id s.limits p3 found.result l.new.place.me a found.new.place.me a found.new.place.table_id.words found.new.place.id (opens p4) so2 fit3 found.ensures.step (ap (λ (z : Link). stepped_by (made_of 0 t ps (PushExchange Pusher.Locker z)) s.number found.result (oldest_in a)) u.ensures.holds ∙ exchanged 0 t ps s.number w.result found.result (oldest_in a) c.if-found-word.false) (λ e. cc) refl in
     let fit4 = fit_after g.T.Kept.follows g.T.Kept.fits s.number found.new.place.table_id.words found.new.place.id s.limits p3 found.result l.new.place.me a found.new.place.me a found.ensures.step (opens p4) (ap (λ (z : Link). stepped_by (made_of 0 t ps (PushExchange Pusher.Locker z)) s.number found.result (oldest_in a)) u.ensures.holds ∙ exchanged 0 t ps s.number w.result found.result (oldest_in a) c.if-found-word.false) in
-    let so4 = course_next g.T.Kept.follows g.T.Kept.fits s.number p0 a s.place.me.0 found.new.place.table_id.words found.new.place.id s.limits p4 k.result found.new.place.me a k.new.place.me a k.new.place.table_id.words k.new.place.id (opens q) so3 fit4 k.ensures.step (looked 0 t ps s.number k.result (oldest_in a) c.if-handoff-ne0.true) (λ e. cc) refl in
-    let stood : c.stand_after_look.new.standing ≡ q = c.stand_after_look.ensures ∙ ap (λ (z : SeatState). (stepped_by (record z { point = p4.point }) s.number k.result None).seat) at in
+    let so4 = course_next g.T.Kept.follows g.T.Kept.fits s.number p0 a s.place.me.0 found.new.place.table_id.words found.new.place.id s.limits p4 k.result found.new.place.me a k.new.place.me a k.new.place.table_id.words k.new.place.id (opens q) so3 fit4 k.ensures.step (found_one 0 t ps s.number k.result (oldest_in a) c.if-handoff-ne0.true) (λ e. cc) refl in
+    let stood : c.stand_beside_post.new.standing ≡ q = c.stand_beside_post.ensures ∙ ap (λ (z : SeatState). (stepped_by (record z { point = p4.point }) s.number k.result None).seat) at in
     let last = course_join g.T.Kept.follows g.T.Kept.fits s.number p0 a s.place.me.0 q r.standing a r.moving k.new.place.me.0 r.place.me.0 (Ended (Answer.Asked c.ask_on-then-handoff-ne0.result.0)) so4
     (subst (λ (x : SeatState). Course g.T.Kept.follows g.T.Kept.fits s.number x a k.new.place.me.0 (Ended (Answer.Asked c.ask_on-then-handoff-ne0.result.0)) r.standing r.moving r.place.me.0) stood c.ask_on-then-handoff-ne0.ensures.made) in
     subst (λ (x : SeatState). Course g.T.Kept.follows g.T.Kept.fits s.number x a s.place.me.0 (Ended (Answer.Asked c.ask_on-then-handoff-ne0.result.0)) r.standing r.moving r.place.me.0) (sym at) last
@@ -126,7 +126,7 @@ returns-then-handoff-ne0-clause-spends g c =
     let sum2 = spends_join (n + 8) (n + 6) (n + 5) s.place.me.0.trail w.new.place.me.0.trail l.new.place.me.0.trail sum1 one2 in
     let sum3 = spends_join (n + 8) (n + 5) (n + 4) s.place.me.0.trail l.new.place.me.0.trail found.new.place.me.0.trail sum2 one3 in
     let sum4 = spends_join (n + 8) (n + 4) (n + 3) s.place.me.0.trail found.new.place.me.0.trail k.new.place.me.0.trail sum3 one4 in
-    let stood : c.stand_after_look.new.standing ≡ made_of 0 t ps (PushedHandoffExchange Pusher.Locker (handoff_of k.result)) = c.stand_after_look.ensures ∙ ap (λ (z : SeatState). (stepped_by (record z { point = p4.point }) s.number k.result None).seat) at ∙ posted_for 0 t ps s.number k.result c.if-handoff-ne0.true in
+    let stood : c.stand_beside_post.new.standing ≡ made_of 0 t ps (PushedHandoffExchange Pusher.Locker (handoff_of k.result)) = c.stand_beside_post.ensures ∙ ap (λ (z : SeatState). (stepped_by (record z { point = p4.point }) s.number k.result None).seat) at ∙ posted_for 0 t ps s.number k.result c.if-handoff-ne0.true in
     let rest = subst (λ (z : SeatState). Spends (due n (length k.new.place.me.0.popped) z.point) 0 k.new.place.me.0.trail r.place.me.0.trail) stood on.ensures.spends in
     subst (λ (z : SeatState). Spends (due n (length s.place.me.0.popped) z.point) 0 s.place.me.0.trail r.place.me.0.trail) (sym at) (spends_join (n + 8) (n + 3) 0 s.place.me.0.trail k.new.place.me.0.trail r.place.me.0.trail sum4 rest)
 

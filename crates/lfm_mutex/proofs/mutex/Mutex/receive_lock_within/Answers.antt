@@ -4,7 +4,7 @@ use Rattle.lfm_protocol.specs.declared.answers.Turn.TheVariants.{Refused}
 use Rattle.lfm_protocol.specs.declared.answers.Why.{Why}
 use Rattle.lfm_mutex.specs.calls.Sight.{Sight, sight, Receives}
 use Rattle.lfm_mutex.specs.calls.Trails.{Makes}
-use Rattle.lfm_mutex.proofs.runs.MadeCalls.{looks_more, refused_receive, first_look}
+use Rattle.lfm_mutex.proofs.runs.MadeCalls.{finds_none_more, refused_receive, first_receive}
 use Rattle.lfm_mutex.proofs.mutex.Mutex.receive_lock_within.Goals as goal
 
 pub loop-preserved : goal.loop-preserved
@@ -15,7 +15,7 @@ loop-preserved g c = let i = c.loop.invariant in let s = c.try_receive.new.seat 
       belongs = search rules;
       beside = search rules;
       seen = search rules;
-      looked = (i.looked.0 ++ sight s ∷ [], looks_more c.args.self.now.limits (sight c.args.seat.now) i.looked.0 (sight c.loop.seat) (sight s) i.looked.1 made);
+      received = (i.received.0 ++ sight s ∷ [], finds_none_more c.args.self.now.limits (sight c.args.seat.now) i.received.0 (sight c.loop.seat) (sight s) i.received.1 made);
       first = inr (ap (λ (z : Sight g.row.T.Denot). z.asleep) (sym i.seen) ∙ told.0, ap (λ (z : Sight g.row.T.Denot). z.in_call) (sym i.seen) ∙ told.1);
       wake = search rules;
     }
@@ -23,7 +23,7 @@ loop-preserved g c = let i = c.loop.invariant in let s = c.try_receive.new.seat 
 pub returns-in-Err-clause-steps : goal.returns-in-Err-clause-steps
 returns-in-Err-clause-steps g c = let i = c.loop.invariant in let s = c.try_receive.new.seat in
     let told = refused_receive g.T.Kept.follows g.T.Kept.fits (sight c.loop.seat) (sight s) c.in-Err.refusal c.in-Err.ensures.receives in
-    let same = first_look (sight c.args.seat.now) (sight c.loop.seat) c.loop.seat.place.me.0.trail i.first i.seen told.0 in
+    let same = first_receive (sight c.args.seat.now) (sight c.loop.seat) c.loop.seat.place.me.0.trail i.first i.seen told.0 in
     subst (λ (z : Sight g.row.T.Denot). (cause : Why) × Makes c.args.self.now.limits Call.Receive z (sight s) (Refused cause)) same c.in-Err.ensures.steps
 
 pub returns-in-Ok-Some-clause-receives : goal.returns-in-Ok-Some-clause-receives
@@ -31,4 +31,4 @@ returns-in-Ok-Some-clause-receives g c = let s = c.try_receive.new.seat in
     rw c.in-Ok-Some.field-0-is at (subst (λ (z : Sight g.row.T.Denot). Receives g.T.Kept.follows g.T.Kept.fits z (sight s) (Ok c.in-Ok-Some.field-0)) c.loop.invariant.seen c.in-Ok-Some.ensures.receives)
 
 pub returns-in-Ok-Some-clause-steps : goal.returns-in-Ok-Some-clause-steps
-returns-in-Ok-Some-clause-steps g c = let i = c.loop.invariant in (i.looked.0, sight c.loop.seat, i.looked.1, rw c.in-Ok-Some.field-0-is at c.in-Ok-Some.ensures.steps)
+returns-in-Ok-Some-clause-steps g c = let i = c.loop.invariant in (i.received.0, sight c.loop.seat, i.received.1, rw c.in-Ok-Some.field-0-is at c.in-Ok-Some.ensures.steps)

@@ -1,4 +1,4 @@
-//! How the seat of a call of lock that found others is queued: it loads the owner, pushes its record and looks for a post. It
+//! How the seat of a call of lock that found others is queued: it loads the owner, pushes its record and loads the handoff word. It
 //! is made straight on; where the push word has changed, or a handoff is posted, the seat goes on from its point as any call
 //! does.
 ghost use Rattle.std.specs.Prelude.{◌≡◌, ◌<◌, ◌^◌, None, length};

@@ -210,7 +210,9 @@ impl SeatState {
                 releaser,
                 Unlocked::Posted,
             ),
-            Point::ReleasePushRecheck(releaser) => self.go_on(Point::ReleaseHandoffExchange(releaser)),
+            Point::ReleasePushRecheck(releaser) => self.go_on(Point::ReleaseHandoffExchange(
+                releaser,
+            )),
             _ => Turn::Refused(Why::Idle),
         }
     }

@@ -55,7 +55,7 @@ pub(crate) fn loaded(seat: SeatNo, link: Link) -> Record
 }
 
 impl Pusher {
-    /// The point of a pusher that has found this handoff posted. A sender looks at the push word before it takes it over.
+    /// The point of a pusher that has found this handoff posted. A sender rechecks the push word before it takes it over.
     pub(crate) fn point_at_post(self, found: Handoff) -> Point
         ensures { result ≡ found_posted self found }
     {

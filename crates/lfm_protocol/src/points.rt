@@ -159,9 +159,8 @@ impl Point {
             Point::LockCountSubtract | Point::ReleaseCountSubtract(_) => Some(Kind::CountSubtract),
             Point::LockOwnerLoad | Point::TryOwnerLoad => Some(Kind::OwnerLoad),
             Point::ReleaseOwnerStore(_) | Point::EnterOwnerStore(_, _) => Some(Kind::OwnerStore),
-            Point::PushLoad(_) | Point::SendPushRecheck(_, _) | Point::ReleasePushRecheck(_) => Some(
-                Kind::PushLoad,
-            ),
+            Point::PushLoad(_) | Point::SendPushRecheck(_, _) | Point::ReleasePushRecheck(_) =>
+                Some(Kind::PushLoad),
             Point::PushExchange(_, _) => Some(Kind::PushExchange),
             Point::TakeClearHead(_) => Some(Kind::ClearHead),
             Point::TakeLinkLoad(_, _) => Some(Kind::LinkLoad),

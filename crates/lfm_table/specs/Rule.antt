@@ -305,7 +305,7 @@ module _ {T : Type 0} (follows : ℕ → T → T → Type 0) (suits : T → ℕ 
     pub sees : SeesChange p.point n
     pub hands : Hands (carries_value p) (carries_value (stepped_by p m.0.number n (oldest popped)).seat) p.point a popped m m'
 
--- a look at the owner, which changes nothing but the trail
+-- a load of the owner word that is no step of a call, which changes nothing but the trail
 abbrev pub ReadsOwner : {T : Type 0} → Me (Option (Moving T)) (View T) → ℕ → Me (Option (Moving T)) (View T) → Type 0
 ReadsOwner m n m' =
     (m' ≡ (record m.0 { trail = m.0.trail ++ seen TryOwnerLoad n ∷ [] }, m.1)) × (0 < m.0.number) × (n ≡ m.0.number → 0 < m.0.standing.depth) × (0 < m.0.standing.depth → n ≡ m.0.number)

@@ -60,7 +60,7 @@ impl<T: Kept, B: Plain<T>> Play<Option<MovingBox<T>>, View<T>> for Stepped<B> {
     ghost then = { λ _. Advanced T.follows T.fits B.standing B.hand };
 }
 
-/// A look at the owner.
+/// A load of the owner word that is no step of a call.
 pub struct OwnerRead;
 
 impl<T: Kept> Play<Option<MovingBox<T>>, View<T>> for OwnerRead {

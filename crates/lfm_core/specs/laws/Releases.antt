@@ -37,7 +37,7 @@ pub record Grants (c d : Core) (t : ℕ) : Type 0 where
   pub oldest : queue_of c ≡ record { seat = t; stamp = stamp } ∷ queue_of d
   pub word : wake d.wakes t ≡ Grant stamp
 
--- the look at the push word found no record that was pushed since the post
+-- the recheck found no record that was pushed since the post
 pub record FindsNobody (c d : Core) (s : ℕ) : Type 0 where
   pub kind : kind (seat c.seats s).point ≡ Some PushLoad
   pub empty : c.push.next ≡ 0

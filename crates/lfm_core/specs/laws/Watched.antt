@@ -15,7 +15,7 @@ IsQueued c t = Any (λ r. r.seat ≡ t) (queue_of c)
 -- the call of seat s, at this point, is one of:
 -- a lock or send whose seat asks or waits, and that has not loaded the handoff after its push;
 -- a lock that has loaded this handoff and not yet tried to take it, or a send that has and sees that the push list isn't empty;
--- the call that posted it, before its look while the push list isn't empty, or past a look that found records
+-- the call that posted it, before its recheck while the push list isn't empty, or past a recheck that found records
 abbrev pub Watches : Core → ℕ → SeatState → Point → Type 0
 Watches c s x LockOwnerLoad = x.depth ≡ 0
 Watches c s x (PushLoad pusher) = ⊤

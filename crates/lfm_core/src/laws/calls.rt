@@ -55,7 +55,7 @@ pub fn receivers_loaded_their_grant()
 {}
 
 /// The last step of a release did what it answers. Free: it took the count from 1 to 0. Granted: the oldest record, of the
-/// named seat, left the queue, and its stamp is in the wake word of that seat. Posted: the look found nobody. TakenOver:
+/// named seat, left the queue, and its stamp is in the wake word of that seat. Posted: the recheck found nobody. TakenOver:
 /// its own post stood no more.
 ///
 /// Definition: `ReleasesAnswerWhatTheyDid` in `specs/laws/Releases.antt`. Proof: `proofs/lawful/calls/ReleasesTold.antt`.

@@ -1,4 +1,4 @@
--- Splitting a seat off, joining it again, a look at the owner, the start and the end.
+-- Splitting a seat off, joining it again, a reading of the owner, the start and the end.
 use Rattle.std.specs.List.{insert}
 use Rattle.std.specs.Prelude.{true, false, ⊤}
 use Rattle.std.proofs.Common.{◌≡◌, ◌≢◌, ℕ, zero, suc, ◌*◌, ◌+◌, ◌<◌, ◌≤◌, List, [], ◌∷◌, ◌++◌, map, length, get_or, set, replicate, sym, refl, ap, ◌∙◌, subst, ◌⊎◌, ⊎_elim, inl, inr, arith, Option, Some, None, length-set, length-append, tests}

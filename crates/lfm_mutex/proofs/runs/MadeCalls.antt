@@ -35,7 +35,7 @@ makes l call n n' p p' v v' a a' turn same called =
     made l call (sight_of n p v a) (sight_of n' p' v' a') turn
     (p, p', shows n p v a, shows n' p' v' a', leads (begin p l call).turn n (errand_of call) (begin p l call).seat p' v v' turn called)
 
--- one more look
+-- one more receive
 pub finds_none_more : {T : Type 0} (l : Limits) (s : Sight T) (ms : List (Sight T)) (m t : Sight T) → FindNone l s ms m → Makes l Call.Receive m t (Ended (Answer.Got None)) → FindNone l s (ms ++ t ∷ []) t
 finds_none_more l s [] m t first last = (subst (λ (z : Sight _). Makes l Call.Receive z t (Ended (Answer.Got None))) first last, refl)
 finds_none_more l s (x ∷ ms) m t first last = (first.0, finds_none_more l x ms m t first.1 last)
@@ -45,7 +45,7 @@ pub refused_receive : {T : Type 0} (follows : ℕ → T → T → Type 0) (fits 
 refused_receive follows fits m t Refusal.NotWaiting told = told
 refused_receive follows fits m t _ told = absurd told
 
--- a seat that looked before sleeps, so a look that is refused is the first
+-- a seat that received before sleeps, so a receive that is refused is the first
 pub first_receive : {T : Type 0} (s m : Sight T) (trail : List Seen) → ((m ≡ s) ⊎ ((s.asleep ≡ true) × (s.in_call ≡ false))) → m ≡ record s { trail = trail } → (m.asleep ≡ false ⊎ (m.in_call ≡ true)) → m ≡ s
 first_receive s m trail (inl same) seen refused = same
 first_receive s m trail (inr sleeps) seen (inl awake) = absurd (false≢true (sym awake ∙ ((λ i. (seen i).asleep) ∙ sleeps.0)))

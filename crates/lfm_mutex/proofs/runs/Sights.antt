@@ -543,7 +543,7 @@ may_leave {T} follows fits n p v a named deep may x is =
       λ y found. subst (λ (k : ℕ). follows k y x.value) (sym named) (m.1 y (deep_by p.depth v.last v.found deep ∙ found)),
     )
 
--- A seat as it is made, and a look at the owner
+-- A seat as it is made, and a reading of the owner
 
 pub fresh_sight : {T : Type 0} (x : T) (k n : ℕ) (l : Limits) (p : SeatState) (m : Me (Option (Moving T)) (View T)) (a : Option (Moving T)) (all : Limits) → Fresh x k n l p m a all → sight_of n p m.0 (value_in a) ≡ new_sight x all.seats k
 fresh_sight {T} x k n l p m a all f =

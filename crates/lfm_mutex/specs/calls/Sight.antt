@@ -128,7 +128,7 @@ abbrev pub Names : Option ℕ → ℕ → Type 0
 Names (Some k) n = k ≡ n
 Names None n = IsSeatNo n → ⊥
 
--- a look at the owner word: one load, which tells the caller whether it holds
+-- a reading of the owner word: one load, which tells the caller whether it holds
 abbrev pub TellsOwner : {T : Type 0} → Sight T → Sight T → Option ℕ → Type 0
 TellsOwner s t r =
     (n : ℕ) × (t ≡ record s { trail = s.trail ++ seen TryOwnerLoad n ∷ [] }) × Names r n × (r ≡ Some s.number → 0 < s.depth) × (0 < s.depth → r ≡ Some s.number)

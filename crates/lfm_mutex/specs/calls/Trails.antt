@@ -51,12 +51,12 @@ module _ {T : Type 0} (l : Limits) where
   MakesCall answer call s t (Ok a) = Makes call s t (Ended (answer a))
   MakesCall answer call s t (Err refusal) = (cause : Why) × Makes call s t (Refused cause)
 
-  -- looks at the wake word that found no grant, one after another
+  -- receives that found no grant, one after another
   abbrev pub FindNone : Sight T → List (Sight T) → Sight T → Type 0
   FindNone s [] t = t ≡ s
   FindNone s (m ∷ ms) t = Makes Call.Receive s m (Ended (Answer.Got None)) × FindNone m ms t
 
-  -- some looks that found none, and one that found the grant
+  -- some receives that found none, and one that found the grant
   abbrev pub WaitsFor : How → Sight T → Sight T → Type 0
   WaitsFor how s t = (ms : List (Sight T)) × (m : Sight T) × FindNone s ms m × Makes Call.Receive m t (Ended (Answer.Got (Some how)))
 

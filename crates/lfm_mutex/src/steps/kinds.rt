@@ -232,7 +232,7 @@ pub fn exchange_handoff<T: Kept>(mutex: &Mutex<T>, seat: &mut Seat<T>) -> Turn
     make_within(mutex, seat, Kind::HandoffExchange)
 }
 
-/// Loads the seat's own wake word: a receive looks for its grant.
+/// Loads the seat's own wake word: a receive finds its grant there, or none.
 pub fn load_wake<T: Kept>(mutex: &Mutex<T>, seat: &mut Seat<T>) -> Turn
     requires belongs { OfMutex seat.old mutex.now }
     requires is_next { kind_of (state_of seat.old).point ≡ Some KindNow.WakeLoad }

@@ -22,7 +22,7 @@ use Rattle.lfm_core.proofs.steady.frames.Quiet.{wake_by_same}
 abbrev pub released : ℕ → ℕ → Point → Releaser → Unlocked → SeatState
 released takes posts p releaser answer = (releases (record { depth = 0; takes = takes; posts = posts; point = p }) releaser answer).seat
 
--- a seat fits there that fits at the look after a post, and that watches no handoff
+-- a seat fits there that fits at the recheck after a post, and that watches no handoff
 pub released_own : (c : Core) (h : Ghost) (s takes posts : ℕ) (w : Wake) (p : Point) (releaser : Releaser) (answer : Unlocked)
     → SeatFits c h s (record { depth = 0; takes = takes; posts = posts; point = ReleasePushRecheck releaser }) w → (h.place ≡ posted → h.watcher ≡ s → ⊥)
     → SeatFits c h s (released takes posts p releaser answer) w

@@ -1,4 +1,4 @@
--- The steps of a release that posts the responsibility and then looks whether somebody was pushed.
+-- The steps of a release that posts the responsibility and then rechecks whether somebody was pushed.
 use Rattle.std.proofs.Common.{◌≡◌, ◌≢◌, ℕ, ◌+◌, ◌<◌, Some, refl, sym, ap, subst, ◌∙◌, eqb, length, ◌⊎◌, inl, inr, arith}
 use Rattle.std.proofs.lemmas.Bool.{cases_eq, cases_lt, eq-eqb, ne_eqb, cond-false}
 use Rattle.lfm_model.specs.Abstract.{AbstractMutex, HasSomebody, Moves, carried}
@@ -37,7 +37,7 @@ queued_for c g s watcher none who watched =
       | inr asking ↦ let some = subst (λ (w : ℕ). 0 < asks_for (seat c.seats w) w) who asking in absurd (omega arith)
     ]
 
--- Watched from its first moment: by the poster, which is yet to look, where somebody is queued; otherwise by a seat that asks,
+-- Watched from its first moment: by the poster, which is yet to recheck, where somebody is queued; otherwise by a seat that asks,
 -- or that is to push one
 handoff_stored : (c : Core) (g : Ghost) (s watcher : ℕ) (releaser : Releaser) (takes posts : ℕ) → IsSeat c.seats s
     → seat c.seats s ≡ record { depth = 0; takes = takes; posts = posts; point = ReleaseHandoffStore releaser }
@@ -95,7 +95,7 @@ at_ReleaseHandoffStore c g s releaser is at fits =
       | inr none ↦ store_watched c g s releaser _ _ is written fits (asker c g fits (omega arith))
     ]
 
--- The look
+-- The recheck
 
 -- no seat has the number 0, so none is queued there
 nobody_queued : (c : Core) (g : Ghost) (stamp : ℕ) → Fits c g → g.standing 0 ≡ queued stamp → ⊥

@@ -110,7 +110,7 @@ own_finds c g s x w old fits =
       watches = λ is watcher. refl;
     }
 
--- and a sender, which then owns nothing, looks whether somebody is queued
+-- and a sender, which then owns nothing, rechecks whether somebody is queued
 own_rechecks : (c : Core) (g : Ghost) (s t : ℕ) (x : SeatState) (w : Wake) → IsOld c.seats c.handoff → g.place ≡ posted
     → SeatFits c g s (record x { point = PushedHandoffLoad (Pusher.Sender t) }) w
     → SeatFits c g s (record x { point = SendPushRecheck t c.handoff }) w
@@ -161,7 +161,7 @@ at_PushedHandoffLoad c g s (Pusher.Sender t) is at fits =
           (own_rechecks c g s t x w (stands_old c g fits some) (posted_of c.seats g.place c.handoff (omega (arith, some)) fits.words.handoff) here))
     ]
 
--- A sender's look at the push word
+-- A sender's recheck
 
 -- nobody is queued: it ends
 own_rechecked : (c : Core) (g : Ghost) (s t : ℕ) (seen : Handoff) (x : SeatState) (w : Wake) → (g.place ≡ posted → is_queued (g.standing t) ≢ true)

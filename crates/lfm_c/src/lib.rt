@@ -10,8 +10,11 @@
 
 ghost use Rattle.std.specs.Borrow.{full_share, sem};
 ghost use Rattle.std.specs.Ptr.{lies_at, room_at};
-ghost use Rattle.std.specs.Prelude.{None};
+ghost use Rattle.std.specs.Mem.{type_size};
+ghost use Rattle.std.specs.Prelude.{◌≡◌, None};
 ghost use base.Fml.{fsep};
+ghost use denote.Param.{layout};
+ghost use prog.Memory.{align, capped};
 ghost use Rattle.lfm_c.specs.declared.handles.MutexHandle.{MutexHandle as MutexNow};
 ghost use Rattle.lfm_c.specs.declared.handles.SeatHandle.{SeatHandle as SeatNow};
 ghost use Rattle.lfm_c.specs.contracts.handles.MutexHandle.{the_row as mutex_row};
@@ -32,25 +35,33 @@ use std::mem::{align_of, size_of};
 
 /// How many bytes the handle of a mutex has.
 #[unsafe(no_mangle)]
-pub extern "C" fn lfm_c_mutex_size() -> usize {
+pub extern "C" fn lfm_c_mutex_size() -> usize
+    ensures { result ≡ capped (type_size mutex_row) }
+{
     size_of::<MutexHandle>()
 }
 
 /// To how many bytes the handle of a mutex is aligned.
 #[unsafe(no_mangle)]
-pub extern "C" fn lfm_c_mutex_align() -> usize {
+pub extern "C" fn lfm_c_mutex_align() -> usize
+    ensures { result ≡ capped (align (layout mutex_row)) }
+{
     align_of::<MutexHandle>()
 }
 
 /// How many bytes the handle of a seat has.
 #[unsafe(no_mangle)]
-pub extern "C" fn lfm_c_seat_size() -> usize {
+pub extern "C" fn lfm_c_seat_size() -> usize
+    ensures { result ≡ capped (type_size seat_row) }
+{
     size_of::<SeatHandle>()
 }
 
 /// To how many bytes the handle of a seat is aligned.
 #[unsafe(no_mangle)]
-pub extern "C" fn lfm_c_seat_align() -> usize {
+pub extern "C" fn lfm_c_seat_align() -> usize
+    ensures { result ≡ capped (align (layout seat_row)) }
+{
     align_of::<SeatHandle>()
 }
 

@@ -1,6 +1,6 @@
 -- What rounds make of a seat.
 use Rattle.std.specs.Prelude.{⊤}
-use Rattle.std.proofs.Common.{◌≡◌, ◌⊎◌, Bool, true, false, ℕ, suc, ◌+◌, ◌<◌, ◌∙◌, Result, Ok, Err, IfOk, is_err, true≢false, inl, inr, refl, sym, subst, arith}
+use Rattle.std.proofs.Common.{◌≡◌, Bool, true, false, ℕ, suc, ◌+◌, ◌<◌, ◌∙◌, Result, Ok, Err, IfOk, is_err, true≢false, inr, refl, sym, subst, arith}
 use Rattle.std.specs.Fn.{Shared}
 use Rattle.lfm_model.specs.declared.refusals.Refusal.{Refusal}
 use Rattle.lfm_mutex.specs.declared.mutex.Mutex.{Mutex}

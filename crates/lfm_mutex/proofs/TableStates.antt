@@ -28,7 +28,6 @@ module _ {T : Type 0} (follows : ℕ → T → T → Type 0) (fits : T → ℕ �
   pub tables_stand : TablesStand follows fits
   tables_stand s h =
       let tells = tells_value h.core h.ghost_state h.fits in (
-        h.core,
         abstract h.ghost_state,
         record {
           core = core_of follows fits s h;

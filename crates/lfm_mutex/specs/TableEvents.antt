@@ -1,4 +1,5 @@
--- A step of a running seat is one event of the core. No law of a table between two steps stands here.
+-- A step of a running seat is one event of the core that the table is, and leads to the core that the table is then. No law of a
+-- table between two steps stands here.
 use Rattle.std.specs.Prelude.{◌≡◌, ℕ, ◌+◌, Option, length, set, slice_index}
 use mathlib.Core.Option.{some}
 use lib.ListN.{get_elem?}
@@ -8,6 +9,7 @@ use Rattle.lfm_protocol.specs.Core.{Core, put}
 use Rattle.lfm_protocol.specs.Seats.{with_entry}
 use Rattle.lfm_protocol.specs.Step.{made}
 use Rattle.lfm_words.specs.Popped.{oldest}
+use Rattle.lfm_core.specs.steady.Steady.{Steady}
 use Rattle.lfm_core.specs.table.Words.{words, index, written, stepped_by, popped_by_step}
 use Rattle.lfm_mutex.specs.Laws.{IsCore}
 use Rattle.lfm_table.specs.declared.rule.Moving.{Moving}
@@ -24,8 +26,17 @@ pub record IsEvent (c : Core) (k : ℕ) (p : SeatState) (n : ℕ) : Type 0 where
   pub popped_are : (made (put c k p) k).core.popped ≡ popped_by_step p k n c.popped
   pub turn_is : (made (put c k p) k).turn ≡ (stepped_by p k n (oldest c.popped)).turn
 
+-- what that event makes of the core is steady, and is the core of each table that comes of this one by the write of that word and by
+-- the new view of that seat, the one at place j
+pub record LeadsOn {T : Type 0} (s : State (Option (Moving T)) (View T)) (c : Core) (j : ℕ) (p : SeatState) (n : ℕ) : Type 0 where
+  pub steady : Steady (made (put c (j + 1) p) (j + 1)).core
+  pub next :
+      (t : State (Option (Moving T)) (View T)) (w : View T) → t.words ≡ set s.words (index p (length c.seats) (j + 1)) (written p (j + 1) n)
+      → t.views ≡ set s.views j w → w.standing ≡ (stepped_by p (j + 1) n (oldest c.popped)).seat → IsCore t (made (put c (j + 1) p) (j + 1)).core
+
 module _ {T : Type 0} (follows : ℕ → T → T → Type 0) (fits : T → ℕ → Type 0) where
+  -- the core is the one of which `TablesStand` speaks
   abbrev pub TablesStepAsTheCore : Type 0
   TablesStepAsTheCore =
-      (s : State (Option (Moving T)) (View T)) (j : ℕ) (v : View T) (p : SeatState) → Held follows fits s → get_elem? s.views j ≡ some v
-      → Became v.standing v.limits p → (c : Core) × IsCore s c × ((n : ℕ) × IsEvent c (j + 1) p n)
+      (s : State (Option (Moving T)) (View T)) (h : Held follows fits s) (j : ℕ) (v : View T) (p : SeatState) → get_elem? s.views j ≡ some v
+      → Became v.standing v.limits p → (n : ℕ) × IsEvent h.core (j + 1) p n × LeadsOn s h.core j p n

@@ -72,7 +72,8 @@ pub fn closes_have_one_value<T: Kept>()
 {}
 
 /// Each atomic step of a running seat is one event of the core, at the state that the table is: the word, the seat, the pop
-/// list and the turn become what the core's step makes of them.
+/// list and the turn become what the core's step makes of them. The state after it is steady, and it is the one that the table
+/// then is, once it has that word and the seat's new view.
 ///
 /// Definition: `TablesStepAsTheCore` in `specs/TableEvents.antt`. Proof: `proofs/TableEvents.antt`.
 pub fn tables_step_as_the_core<T: Kept>()

@@ -1,5 +1,5 @@
 -- The seat's own methods at the points at which a lock queues its seat, as equations.
-use Rattle.std.proofs.Common.{◌≡◌, ◌≢◌, ℕ, ◌%◌, if◌then◌else◌, nat_eq, ap, ◌∙◌, refl, Option, None}
+use Rattle.std.proofs.Common.{◌≡◌, ◌≢◌, ℕ, ◌%◌, if◌then◌else◌, nat_eq, ap, refl, Option, None}
 use Rattle.std.specs.Prelude.{Bool, true, false}
 use Rattle.std.proofs.lemmas.Bool.{ne_eqb, eq-eqb}
 use Rattle.lfm_model.specs.declared.answers.Asked.{Asked}
@@ -8,7 +8,7 @@ use Rattle.lfm_words.specs.declared.pop_lists.Record.{Record}
 use Rattle.lfm_protocol.specs.declared.answers.Answer.{Answer}
 use Rattle.lfm_protocol.specs.declared.answers.Turn.TheVariants.{Ended}
 use Rattle.lfm_protocol.specs.declared.points.Point.{Point}
-use Rattle.lfm_protocol.specs.declared.points.Point.TheVariants.{Asleep, LinkStore, LockOwnerLoad, PushExchange, PushLoad, PushedHandoffExchange, PushedHandoffLoad}
+use Rattle.lfm_protocol.specs.declared.points.Point.TheVariants.{Asleep, LinkStore, LockOwnerLoad, PushExchange, PushedHandoffExchange, PushedHandoffLoad}
 use Rattle.lfm_protocol.specs.declared.points.Pusher.{Pusher}
 use Rattle.lfm_protocol.specs.declared.points.Sleeper.{Sleeper}
 use Rattle.lfm_protocol.specs.Begin.{Stepped}

@@ -1,5 +1,5 @@
 -- The seat's own methods at the points at which an unlock serves the oldest queued seat, as equations.
-use Rattle.std.proofs.Common.{◌≡◌, ◌≢◌, ℕ, nat_eq, refl, Option}
+use Rattle.std.proofs.Common.{◌≡◌, ◌≢◌, ℕ, refl, Option}
 use Rattle.std.proofs.lemmas.Bool.{ne_eqb, eq-eqb}
 use Rattle.lfm_model.specs.declared.answers.Unlocked.{Unlocked}
 use Rattle.lfm_words.specs.declared.pop_lists.Record.{Record}

@@ -1,5 +1,5 @@
 -- A section: a seat comes to hold, a closure changes the value, and the seat gives that hold up.
-use Rattle.std.specs.Prelude.{◌≡◌, ℕ, Option, Some, Result, Ok, Err}
+use Rattle.std.specs.Prelude.{◌≡◌, ℕ, Some, Result, Ok, Err}
 use Rattle.lfm_model.specs.declared.answers.Locked.{Locked}
 use Rattle.lfm_model.specs.declared.answers.Unlocked.{Unlocked}
 use Rattle.lfm_model.specs.declared.refusals.Refusal.{Refusal}

@@ -1,4 +1,4 @@
-use Rattle.std.proofs.Common.{◌≢◌, ◌∙◌, sym, ℕ, ◌+◌, ◌≤◌, length, None, ap, subst, arith}
+use Rattle.std.proofs.Common.{◌≢◌, ◌∙◌, ℕ, ◌+◌, ◌≤◌, length, None, ap, subst, arith}
 use Rattle.lfm_protocol.specs.declared.answers.Turn.TheVariants.{Open}
 use Rattle.lfm_protocol.specs.Points.{kind}
 use Rattle.lfm_table.specs.Grants.{granted_at}

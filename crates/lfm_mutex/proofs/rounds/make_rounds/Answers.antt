@@ -1,4 +1,4 @@
-use Rattle.std.proofs.Common.{◌≡◌, ◌+◌, refl, subst, arith, inl}
+use Rattle.std.proofs.Common.{◌≡◌, refl, subst, arith, inl}
 use Rattle.lfm_mutex.specs.Rounds.{RoundGives, RoundsLead}
 use Rattle.lfm_mutex.proofs.RoundEnds.{ends, goes_on, no_refusal, the_refusal}
 use Rattle.lfm_mutex.proofs.rounds.make_rounds.Goals as goal

@@ -1,4 +1,4 @@
-use Rattle.std.proofs.Common.{◌≡◌, refl, sym, ap, subst, ◌∙◌}
+use Rattle.std.proofs.Common.{◌≡◌, refl, sym, subst}
 use Rattle.lfm_model.specs.declared.answers.Unlocked.{Unlocked}
 use Rattle.lfm_words.specs.declared.pop_lists.Record.{Record}
 use Rattle.lfm_protocol.specs.declared.answers.Answer.{Answer}
@@ -12,7 +12,6 @@ use Rattle.lfm_mutex.proofs.runs.Courses.{course_none, course_next}
 use Rattle.lfm_mutex.proofs.runs.ServePoints.{unlocker, granted_to}
 use Rattle.lfm_table.proofs.tables.StepFacts.{made_of}
 use Rattle.lfm_mutex.proofs.runs.WakeUps.{wakes_one}
-use Rattle.lfm_table.specs.Grants.{granted_at}
 use Rattle.lfm_mutex.proofs.serve.grant.Goals as goal
 
 pub returns-clause-made : goal.returns-clause-made

@@ -1,4 +1,4 @@
-use Rattle.std.proofs.Common.{◌≡◌, ◌+◌, ◌≤◌, length, refl, sym, ap, subst, ◌∙◌, arith}
+use Rattle.std.proofs.Common.{◌≡◌, refl, sym, ap, subst, ◌∙◌}
 use Rattle.lfm_words.specs.declared.links.Link.{Link}
 use Rattle.lfm_words.specs.declared.pop_lists.Record.{Record}
 use Rattle.lfm_protocol.specs.declared.answers.Answer.{Answer}
@@ -6,13 +6,11 @@ use Rattle.lfm_protocol.specs.declared.answers.Turn.TheVariants.{Ended}
 use Rattle.lfm_protocol.specs.declared.points.Point.TheVariants.{GrantWakeStore, ReleaseHandoffStore, TakeClearHead, TakeLinkLoad}
 use Rattle.lfm_protocol.specs.declared.points.Releaser.TheVariants.{Unlocker}
 use Rattle.lfm_protocol.specs.declared.seats.SeatState.{SeatState}
-use Rattle.lfm_core.specs.table.Words.{stepped_by, link_of}
 use Rattle.lfm_table.specs.Steps.{oldest_in}
 use Rattle.lfm_table.specs.Straight.{Fit}
-use Rattle.lfm_mutex.specs.calls.Runs.{opens, weight}
+use Rattle.lfm_mutex.specs.calls.Runs.{opens}
 use Rattle.lfm_mutex.specs.calls.Straight.{Course}
 use Rattle.lfm_mutex.proofs.runs.Courses.{course_none, course_next, course_join}
-use Rattle.lfm_mutex.proofs.runs.Running.{bounded_more}
 use Rattle.lfm_mutex.proofs.runs.ServePoints.{unlocker, cleared_none, cleared_some, last_link, more_links}
 use Rattle.lfm_mutex.proofs.runs.StraightPoints.{fit_after}
 use Rattle.lfm_table.proofs.tables.StepFacts.{made_of}

@@ -120,8 +120,8 @@ pub fn lists_are_in_order()
     ensures { ListsAreInOrder }
 {}
 
-/// No lost wake-up: at every moment, each seat whose wake word is WAITING stands in the list of some condvar. So from the
-/// step by which it falls asleep until a wake claims it, every wake of that condvar which takes the lock finds it.
+/// No lost wake-up: at every moment, each seat whose wake word is WAITING stands in the list of some condvar. Where the
+/// lock of a condvar is free, `waiters_are_listed` says that it is the one on which the seat waits.
 ///
 /// Definition: `SleepersAreListed` in `specs/laws/Laws.antt`. Proof: `proofs/lawful/reached/SleepersListed.antt`.
 pub fn sleepers_are_listed()

@@ -16,7 +16,7 @@ use lfm_model::{How, Refusal};
 use lfm_mutex::{Kept, Mutex, Seat};
 use std::sync::Wait;
 
-// A waiter is sent after a time that nobody knows, so it sleeps after its first look.
+// A waiter is sent after a time that nobody knows, so it sleeps after its first receive.
 const LOOKS: u32 = 0;
 
 // Lends the list in hand to `enlist`.

@@ -1,4 +1,4 @@
-//! The calls of a seat that sleeps: `try_receive` looks once whether it was granted the mutex, and `receive_lock` waits for it.
+//! The calls of a seat that sleeps: `try_receive` tells whether it was granted the mutex, and `receive_lock` waits for it.
 //! Nothing is held while a seat waits, and how often it looks before it sleeps is bounded.
 ghost use Rattle.std.specs.Prelude.{◌≡◌, ◌<◌};
 ghost use Rattle.lfm_protocol.specs.declared.answers.Answer.TheVariants as Answered;
@@ -110,8 +110,8 @@ pub fn receive_asleep<T: Kept>(
 }
 
 impl<T: Kept> Mutex<T> {
-    /// Waits until the seat, which sleeps, is granted the mutex, and answers how it came to hold. It looks at the wake
-    /// word once and as often more as the pace of the mutex says, and then sleeps until it is woken.
+    /// Waits until the seat, which sleeps, is granted the mutex, and answers how it came to hold. It makes a
+    /// receive, then looks as often as the pace of the mutex says, and then sleeps until it is woken.
     ///
     /// Refuses with NotWaiting where the seat doesn't sleep, or a call of it is open.
     pub fn receive_lock<R: Wait>(&self, rt: &R, seat: &mut Seat<T>) -> Result<How, Refusal>
@@ -124,8 +124,8 @@ impl<T: Kept> Mutex<T> {
         self.receive_lock_within(rt, seat, self.pace.looks_at(count))
     }
 
-    /// `receive_lock` with so many looks before it sleeps. With none it sleeps after its first look, as suits a seat
-    /// whose grant is not expected soon.
+    /// `receive_lock` with so many looks before it sleeps. With none it sleeps after its first receive, as suits a
+    /// seat whose grant is not expected soon.
     #[inline(never)]
     pub fn receive_lock_within<R: Wait>(
         &self,
@@ -168,7 +168,7 @@ impl<T: Kept> Mutex<T> {
         0
     }
 
-    /// One look at the wake word of a seat that sleeps: how it came to hold, or None where it was not granted the mutex
+    /// One load of the wake word of a seat that sleeps: how it came to hold, or None where it was not granted the mutex
     /// and sleeps on.
     ///
     /// Refuses with NotWaiting where the seat doesn't sleep, or a call of it is open. It never waits, and makes at most 3

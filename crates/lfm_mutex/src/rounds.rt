@@ -34,8 +34,12 @@ fn make_rounds<T: Kept, F: Fn(u64, &mut Seat<T>) -> Result<(), Refusal>>(
 }
 
 impl<T: Kept> Mutex<T> {
-    /// Starts a thread for each seat. Each calls the closure with the numbers from 0 on, so many times, and its seat, until a
-    /// call is refused. It joins all threads, and returns all seats, in their order. It sleeps until all threads have ended.
+    /// Starts a thread for each seat. Each calls the closure with the numbers from 0 on, so many times, and its seat, until the
+    /// closure answers Err. It joins all threads, and returns all seats, in their order. It sleeps until all threads have ended.
+    ///
+    /// What the closure answered is not kept: `run` returns Ok with all seats also where a thread stopped early. Whoever needs to
+    /// know gives each seat takes enough, or counts the rounds. The closure leaves its seat one of this mutex, which holds as
+    /// often as before, and sleeps only if it slept before.
     ///
     /// No call is made before all threads have been started. Where a request for memory is refused, or a thread can't be
     /// started, no call is made at all, and all seats are handed back.

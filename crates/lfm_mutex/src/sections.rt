@@ -28,8 +28,8 @@ fn change<T: Kept, U, F: FnOnce(&mut T) -> U>(seat: &mut Seat<T>, f: F) -> U
 
 impl<T: Kept> Mutex<T> {
     /// Comes to hold as `lock` does, gives the closure the value, and gives that hold up as `unlock` does, so that the seat
-    /// holds as often as before. Returns what the closure returned. What the closure leaves has to suit the mutex, which it
-    /// always does where the value is a number or a bool.
+    /// holds as often as before. Returns what the closure returned. What the closure leaves has to follow what was found
+    /// and to suit the mutex, as `Kept` of its type says; of a u64 or a bool, anything does.
     ///
     /// Refuses as `lock`: Asleep, DepthFull, Spent, in this order. Then the closure is not called, and nothing has changed. It
     /// sleeps and wakes where these two calls do, and takes no memory.

@@ -19,7 +19,7 @@ pub enum Call {
     StartWait,
     /// Queues the seat with this number, which `StartWait` has put to sleep, or grants it the mutex where that is free.
     SendLock(u64),
-    /// Looks once whether the sleeping seat was granted the mutex. With a grant it wakes and holds.
+    /// Loads once whether the sleeping seat was granted the mutex. With a grant it wakes and holds.
     Receive,
 }
 

@@ -1,4 +1,5 @@
-//! The wake-up that the store of a grant leaves to be made. It can't be let go: whoever has it wakes the seat, or hands it on.
+//! The wake-up that the store of a grant leaves to be made. It can't be dropped: whoever has it spends it by `wake`, hands it on, or turns
+//! it into the number of its seat.
 ghost use Rattle.std.specs.Prelude.{◌≡◌, None};
 ghost use Rattle.lfm_table.specs.Grants.{owed};
 
@@ -9,8 +10,8 @@ use std::marker::Model;
 /// That a seat was granted the mutex, and is still to be woken. Only the step that stores a grant makes one. A contract sees
 /// the number of the seat.
 ///
-/// The type has no `Drop`, so a wake-up has to be moved on wherever it is: to `parking::wake`, or to a caller. A path that
-/// forgets it does not compile.
+/// The type has no `Drop`, so a wake-up has to be moved on wherever it is: to `parking::wake`, to a caller, or into a seat's number.
+/// A path that does none of these does not compile. No clause says that `parking::wake` wakes the seat.
 ///
 /// ```
 /// let (found, wake_up) = store_wake::<T, B>(table, place, plain, hand, number, seats);

@@ -1,5 +1,5 @@
-//! Linearization points: each call has one event of its own seat by which it acts on the abstract mutex. These laws hold of every
-//! steady state, so of every state that a schedule reaches and of every `State`.
+//! Linearization points: each call has one event of its own seat that counts as its effect. That a call queues, posts or serves is not
+//! counted. These laws hold of every steady state, so of every state that a schedule reaches and of every `State`.
 ghost use Rattle.lfm_core.specs.laws.Effects.{CallsTakeEffectOnce, ChangesAreOfOpenCalls, EffectsAreOfCalls, EffectsAreTheCallers, OpenCallsHaveBegun};
 ghost use Rattle.lfm_core.specs.laws.InSchedules.{CallsTakeEffectOnceInSchedules, EffectsAreOfCallsInSchedules, EffectsAreTheCallersInSchedules};
 

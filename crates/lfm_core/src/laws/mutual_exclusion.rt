@@ -1,4 +1,4 @@
-//! Mutual exclusion: at most one seat owns the mutex, and it is never lost.
+//! Mutual exclusion: at most one seat owns the mutex, and no step loses or doubles the responsibility for it.
 ghost use Rattle.lfm_core.specs.laws.InSchedules.{
   OneSeatOwnsInSchedules,
   OneHasTheResponsibilityInSchedules,
@@ -16,7 +16,7 @@ pub fn one_seat_owns()
     ensures schedules { OneSeatOwnsInSchedules }
 {}
 
-/// With a count above 0, words and points show one place of the responsibility, and no second one.
+/// With a count above 0, words, depths and points show one place of the responsibility, and no second one.
 ///
 /// Definitions: `OneHasTheResponsibility` in `specs/laws/Laws.antt`, and `OneHasTheResponsibilityInSchedules` in
 /// `specs/laws/InSchedules.antt`. Proofs: `proofs/lawful/states/Owning.antt` and `proofs/lawful/runs/InSchedules.antt`.

@@ -1,4 +1,4 @@
-/* Each refusal, in one thread, and that a refused call has changed nothing. */
+/* Each refusal, in one thread, and that a refused call has changed nothing; and that memory of calloc is aligned enough. */
 #include "expect.h"
 
 static lfm_mutex mutex;
@@ -208,6 +208,41 @@ static void condition_variables(void) {
   both_back();
 }
 
+/* A condition variable knows no seats beyond those that its mutex had when it was opened. */
+static void a_mutex_that_is_opened_anew(void) {
+  static lfm_condvar condvar;
+  EXPECT(lfm_mutex_new(&mutex, 1, 100), LFM_DONE);
+  EXPECT(lfm_condvar_new(&condvar, &mutex), LFM_DONE);
+  EXPECT(lfm_mutex_close(&mutex), LFM_DONE);
+  EXPECT(lfm_mutex_new(&mutex, 2, 100), LFM_DONE);
+  EXPECT(lfm_seat_take(&mutex, &first), LFM_DONE);
+  EXPECT(lfm_seat_take(&mutex, &second), LFM_DONE);
+  EXPECT(lfm_wake_one(&condvar, &first), LFM_NOBODY);
+  EXPECT(lfm_wake_one(&condvar, &second), LFM_FOREIGN);
+  EXPECT(lfm_lock(&second), LFM_DONE);
+  EXPECT(lfm_wait(&condvar, &second), LFM_FOREIGN);
+  EXPECT(lfm_depth(&second), 1);
+  EXPECT(lfm_unlock(&second), LFM_DONE);
+  EXPECT(lfm_condvar_close(&condvar), LFM_DONE);
+  both_back();
+}
+
+/* What calloc gives is aligned to 16 bytes, and need not be to a cache line. */
+static void memory_of_calloc(void) {
+  char *room = (char *)calloc(1, sizeof(lfm_mutex) + sizeof(lfm_seat) + 2 * LFM_LINE);
+  EXPECT(room == NULL, 0);
+  char *odd = room + (LFM_LINE + 16 - (uintptr_t)room % LFM_LINE) % LFM_LINE;
+  lfm_mutex *own = (lfm_mutex *)(void *)odd;
+  lfm_seat *seat = (lfm_seat *)(void *)(odd + sizeof(lfm_mutex));
+  EXPECT(lfm_mutex_new(own, 1, 100), LFM_DONE);
+  EXPECT(lfm_seat_take(own, seat), LFM_DONE);
+  EXPECT(lfm_lock(seat), LFM_DONE);
+  EXPECT(lfm_unlock(seat), LFM_DONE);
+  EXPECT(lfm_seat_give(seat), LFM_DONE);
+  EXPECT(lfm_mutex_close(own), LFM_DONE);
+  free(room);
+}
+
 int main(void) {
   what_is_blank();
   what_the_library_calls_blank();
@@ -218,5 +253,7 @@ int main(void) {
   calls_of_a_sleeping_seat();
   sends();
   condition_variables();
+  a_mutex_that_is_opened_anew();
+  memory_of_calloc();
   return 0;
 }

@@ -1,11 +1,11 @@
 /* Ligdrosa for C: a recursive mutex that hands itself on in the order of its queue, and a condition variable.
  *
  * The calls of the mutex are those of a static library, liblfm_c.a, whose code is proved. It neither sleeps nor wakes. This
- * header adds what isn't proved: how a thread sleeps until its seat is granted the mutex, how it is woken, and the list of
- * those that wait at a condition variable.
+ * header adds what isn't proved: how a thread sleeps until its seat is granted the mutex, how it is woken, how seats are taken and
+ * given back, and the list of those that wait at a condition variable.
  *
  *     static lfm_mutex mutex;
- *     static lfm_seat seat;                          one for each thread, which lies still
+ *     static _Thread_local lfm_seat seat;            one for each thread (thread_local in C++), given back before the thread ends
  *
  *     lfm_mutex_new(&mutex, 4, 1000000);             4 seats, each of which takes the mutex at most a million times
  *     lfm_seat_take(&mutex, &seat);
@@ -53,8 +53,8 @@ typedef enum lfm_status {
   LFM_GRANTED = 5,  /* the mutex was given up to the oldest queued seat */
   LFM_NOBODY = 6,   /* nobody waited who could have been woken */
 
-  LFM_BLANK = 16,        /* null, a mutex that is not open, or a seat that is not taken */
-  LFM_TAKEN = 17,        /* the mutex is open, or the seat taken, already */
+  LFM_BLANK = 16,        /* null, a mutex or condition variable that is not open, or a seat that is not taken */
+  LFM_TAKEN = 17,        /* the mutex or condition variable is open, or the seat taken, already */
   LFM_LIMIT = 18,        /* not 1 to 4,095 seats, or not 1 to 2^36 takes for each */
   LFM_NO_MEMORY = 19,    /* memory was refused */
   LFM_NO_SEAT = 20,      /* all seats are taken */
@@ -71,7 +71,7 @@ typedef enum lfm_status {
   LFM_SPENT = 36,        /* the seat has no take left */
   LFM_NO_SUCH_SEAT = 37, /* no seat has this number */
   LFM_NOT_WAITING = 38,  /* the seat doesn't sleep, or doesn't wait to be sent */
-  LFM_BUSY = 39          /* another seat holds the mutex, or asked for it first */
+  LFM_BUSY = 39          /* at some moment of the call another seat held the mutex, asked for it or was giving it up */
 } lfm_status;
 
 /* Whether the call was refused. */
@@ -100,9 +100,11 @@ uint64_t lfm_c_unlock(void *seat);
 uint64_t lfm_c_start_wait(void *seat);
 uint64_t lfm_c_send(void *seat, uint64_t number);
 
-enum { LFM_LINE = 64, LFM_MUTEX_BYTES = 128, LFM_SEAT_BYTES = 256 };
+enum { LFM_LINE = 64, LFM_ALIGNMENT = 16, LFM_MUTEX_BYTES = 128, LFM_SEAT_BYTES = 256 };
 
-#define LFM_ALIGNED __attribute__((aligned(64)))
+/* What programs make is aligned as memory of malloc is. So that no two of them share a cache line wherever they lie, each ends with
+ * a line that nothing uses. */
+#define LFM_ALIGNED __attribute__((aligned(16)))
 
 /* How often a seat looks whether it is granted the mutex, before its thread sleeps. Zero is allowed. */
 #ifndef LFM_LOOKS
@@ -113,7 +115,7 @@ enum { LFM_LINE = 64, LFM_MUTEX_BYTES = 128, LFM_SEAT_BYTES = 256 };
 typedef struct lfm_bell {
   uint32_t rings;
   uint32_t sleeps;
-} LFM_ALIGNED lfm_bell;
+} __attribute__((aligned(64))) lfm_bell;
 
 /* A mutex. `bells` has one bell for each seat, by its number, and is null while the mutex is not open. */
 typedef struct lfm_mutex {
@@ -121,6 +123,7 @@ typedef struct lfm_mutex {
   lfm_bell *bells;
   uint64_t seats;
   uint32_t taking; /* 1 while a seat is taken or given back */
+  unsigned char apart[LFM_LINE];
 } LFM_ALIGNED lfm_mutex;
 
 /* What one thread uses a mutex with. `mutex` is null while the seat is not taken. */
@@ -128,6 +131,7 @@ typedef struct lfm_seat {
   unsigned char handle[LFM_SEAT_BYTES];
   lfm_mutex *mutex;
   lfm_bell *bell;
+  unsigned char apart[LFM_LINE];
 } LFM_ALIGNED lfm_seat;
 
 /* ThreadSanitizer doesn't see into the library, so it is told what a lock and an unlock order. */
@@ -221,12 +225,12 @@ static inline lfm_status lfm_receive(lfm_seat *seat, uint32_t looks) {
 /* The mutex */
 
 /* Opens a mutex with this many seats, 1 to 4,095, each of which may take it as often as the budget says, 1 to 2^36.
- * Refused: LFM_BLANK (null), LFM_TAKEN, LFM_OTHER_HEADER, LFM_LIMIT, LFM_NO_MEMORY. No call after it takes memory. */
+ * Refused: LFM_BLANK (null), LFM_TAKEN, LFM_OTHER_HEADER, LFM_LIMIT, LFM_NO_MEMORY. No other call of a mutex takes memory. */
 static inline lfm_status lfm_mutex_new(lfm_mutex *mutex, uint64_t seats, uint64_t budget) {
   if (!mutex) return LFM_BLANK;
   if (mutex->bells) return LFM_TAKEN;
-  if (lfm_c_mutex_size() > LFM_MUTEX_BYTES || lfm_c_mutex_align() > LFM_LINE) return LFM_OTHER_HEADER;
-  if (lfm_c_seat_size() > LFM_SEAT_BYTES || lfm_c_seat_align() > LFM_LINE) return LFM_OTHER_HEADER;
+  if (lfm_c_mutex_size() > LFM_MUTEX_BYTES || lfm_c_mutex_align() > LFM_ALIGNMENT) return LFM_OTHER_HEADER;
+  if (lfm_c_seat_size() > LFM_SEAT_BYTES || lfm_c_seat_align() > LFM_ALIGNMENT) return LFM_OTHER_HEADER;
   memset(mutex->handle, 0, LFM_MUTEX_BYTES);
   lfm_status status = (lfm_status)lfm_c_open(mutex->handle, seats, budget);
   if (status != LFM_DONE) return status;
@@ -247,8 +251,10 @@ static inline void lfm_begin_taking(lfm_mutex *mutex) {
 
 static inline void lfm_end_taking(lfm_mutex *mutex) { __atomic_store_n(&mutex->taking, 0, __ATOMIC_RELEASE); }
 
-/* Takes a seat of the mutex. A seat that was given back keeps its number and the takes that it has made.
- * Refused: LFM_BLANK, LFM_TAKEN, LFM_NO_SEAT. Other threads may take and give back seats at the same time. */
+/* Takes a seat of the mutex: the one that was given back last, or else the next that was never taken. A seat that was given back keeps
+ * its number and the takes that it has made, so one without takes is refused as LFM_SPENT until the mutex is closed and opened anew.
+ * Refused: LFM_BLANK, LFM_TAKEN, LFM_NO_SEAT. Other threads may take and give back seats at the same time: each waits for the other,
+ * and yields its processor meanwhile. */
 static inline lfm_status lfm_seat_take(lfm_mutex *mutex, lfm_seat *seat) {
   if (!mutex || !seat || !mutex->bells) return LFM_BLANK;
   if (seat->mutex) return LFM_TAKEN;
@@ -295,7 +301,8 @@ static inline lfm_status lfm_lock(lfm_seat *seat) {
   return lfm_gained(seat, status);
 }
 
-/* As lfm_lock where that needs no sleep, and else refused as LFM_BUSY. */
+/* Gains the mutex or deepens the hold, and never sleeps: LFM_DONE or LFM_AGAIN. It may come before seats that are queued.
+ * Refused: LFM_BLANK, LFM_SEAT_ASLEEP, LFM_DEPTH_FULL, LFM_SPENT, and LFM_BUSY, which gives the take back. */
 static inline lfm_status lfm_try_lock(lfm_seat *seat) {
   if (!seat || !seat->mutex) return LFM_BLANK;
   return lfm_gained(seat, (lfm_status)lfm_c_try_lock(seat->handle));
@@ -338,7 +345,8 @@ static inline void lfm_condvar_free(lfm_condvar *condvar) {
   condvar->of = NULL;
 }
 
-/* Opens a condition variable for the seats of this mutex. Its own mutex allows each of them 2^36 waits and wakes.
+/* Opens a condition variable for the seats of this mutex, which is closed after it. Its own mutex allows each of them 2^36 waits and
+ * wakes.
  * Refused: LFM_BLANK, LFM_TAKEN, LFM_NO_MEMORY. No call after it takes memory. */
 static inline lfm_status lfm_condvar_new(lfm_condvar *condvar, lfm_mutex *mutex) {
   if (!condvar || !mutex || !mutex->bells) return LFM_BLANK;
@@ -346,7 +354,7 @@ static inline lfm_status lfm_condvar_new(lfm_condvar *condvar, lfm_mutex *mutex)
   uint64_t seats = mutex->seats;
   lfm_status status = lfm_mutex_new(&condvar->list, seats, (uint64_t)1 << 36);
   if (status != LFM_DONE) return status;
-  condvar->seats = (lfm_seat *)aligned_alloc(LFM_LINE, (seats + 1) * sizeof(lfm_seat));
+  condvar->seats = (lfm_seat *)malloc((seats + 1) * sizeof(lfm_seat));
   condvar->waiting = (uint64_t *)malloc(seats * sizeof(uint64_t));
   if (condvar->seats) memset(condvar->seats, 0, (seats + 1) * sizeof(lfm_seat));
   if (!condvar->seats || !condvar->waiting) {
@@ -370,11 +378,14 @@ static inline lfm_status lfm_condvar_close(lfm_condvar *condvar) {
 
 static inline lfm_status lfm_condvar_refuses(lfm_condvar *condvar, lfm_seat *seat) {
   if (!condvar || !condvar->of || !seat || !seat->mutex) return LFM_BLANK;
-  return seat->mutex == condvar->of ? LFM_DONE : LFM_FOREIGN;
+  /* a mutex that was closed and opened anew in between may have more seats */
+  bool is_known = seat->mutex == condvar->of && lfm_c_number(seat->handle) <= condvar->list.seats;
+  return is_known ? LFM_DONE : LFM_FOREIGN;
 }
 
-/* Gives the mutex up, which the seat holds once, waits until a wake, and gains the mutex again, for one take: LFM_DONE. There is
- * no wake without a caller of lfm_wake_one or lfm_wake_all. Where the seat's own state refuses it, it has locked the list: it costs
+/* Gives the mutex up, which the seat holds once, waits until a wake, and gains the mutex again, for one take: LFM_DONE. It
+ * returns after a call of lfm_wake_one or lfm_wake_all alone, but another seat may hold the mutex in between: wait in a loop that tests
+ * what is waited for. Where the seat's own state refuses it, it has locked the list: it costs
  * one of the condition variable's 2^36 takes, and may have slept.
  * Refused: LFM_BLANK, LFM_FOREIGN, LFM_SEAT_ASLEEP, LFM_NOT_OWNER, LFM_NESTED, LFM_SPENT. */
 static inline lfm_status lfm_wait(lfm_condvar *condvar, lfm_seat *seat) {
@@ -386,7 +397,7 @@ static inline lfm_status lfm_wait(lfm_condvar *condvar, lfm_seat *seat) {
   lfm_giving_up(seat);
   status = lfm_told(seat->mutex, lfm_c_start_wait(seat->handle));
   if (!lfm_is_refused(status)) {
-    condvar->waiting[(condvar->first + condvar->count) % condvar->of->seats] = lfm_c_number(seat->handle);
+    condvar->waiting[(condvar->first + condvar->count) % condvar->list.seats] = lfm_c_number(seat->handle);
     condvar->count++;
   }
   lfm_unlock(by);
@@ -399,7 +410,7 @@ static inline lfm_status lfm_send_oldest(lfm_condvar *condvar, lfm_seat *seat) {
   if (condvar->count == 0) return LFM_NOBODY;
   lfm_status status = lfm_told(seat->mutex, lfm_c_send(seat->handle, condvar->waiting[condvar->first]));
   if (lfm_is_refused(status)) return status;
-  condvar->first = (condvar->first + 1) % condvar->of->seats;
+  condvar->first = (condvar->first + 1) % condvar->list.seats;
   condvar->count--;
   return LFM_DONE;
 }
@@ -416,7 +427,8 @@ static inline lfm_status lfm_wake(lfm_condvar *condvar, lfm_seat *seat, bool all
   return status;
 }
 
-/* Wakes the seat that has waited longest, if any: LFM_DONE or LFM_NOBODY. The caller's seat may hold the mutex or not.
+/* Wakes the seat that has waited longest, if any: LFM_DONE or LFM_NOBODY. The caller's seat may hold the mutex or not. It costs one
+ * take of the condition variable, and may sleep until the list is free.
  * Refused: LFM_BLANK, LFM_FOREIGN, LFM_SEAT_ASLEEP, LFM_SPENT (of the condition variable's own 2^36). */
 static inline lfm_status lfm_wake_one(lfm_condvar *condvar, lfm_seat *seat) { return lfm_wake(condvar, seat, false); }
 

@@ -121,8 +121,8 @@ OWN void own_keep_spare(const own_mutex *mutex) {
 }
 
 OWN int own_open(own_mutex *mutex) {
-  mutex->by = (lfm_mutex *)aligned_alloc(LFM_LINE, sizeof(lfm_mutex));
-  mutex->seats = (lfm_seat *)aligned_alloc(LFM_LINE, (OWN_SEATS + 1) * sizeof(lfm_seat));
+  mutex->by = (lfm_mutex *)malloc(sizeof(lfm_mutex));
+  mutex->seats = (lfm_seat *)malloc((OWN_SEATS + 1) * sizeof(lfm_seat));
   if (!mutex->by || !mutex->seats) return ENOMEM;
   memset(mutex->by, 0, sizeof(lfm_mutex));
   memset(mutex->seats, 0, (OWN_SEATS + 1) * sizeof(lfm_seat));
@@ -241,7 +241,7 @@ OWN int own_cond_destroy(own_cond *cond) {
 OWN int own_bind(own_cond *cond, own_mutex *mutex) {
   if (cond->by && cond->which == mutex->which) return 0;
   if (cond->by && cond->by->count != 0) return EINVAL;
-  lfm_condvar *by = (lfm_condvar *)aligned_alloc(LFM_LINE, sizeof(lfm_condvar));
+  lfm_condvar *by = (lfm_condvar *)malloc(sizeof(lfm_condvar));
   if (!by) return ENOMEM;
   memset(by, 0, sizeof *by);
   if (lfm_condvar_new(by, mutex->by) != LFM_DONE) return ENOMEM;

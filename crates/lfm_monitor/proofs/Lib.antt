@@ -6,6 +6,7 @@ pub mod Holding
 pub mod Knowing
 pub mod Moving
 pub mod NewSeats
+pub mod Paces
 pub mod Places
 pub mod Refusing
 pub mod Returning

@@ -4,6 +4,7 @@ use mathlib.Core.Option.{some}
 use lib.ListN.{get_elem?}
 use Rattle.lfm_protocol.specs.declared.limits.Limits.{Limits}
 use Rattle.lfm_protocol.specs.Limits.{max_budget}
+use Rattle.lfm_mutex.specs.declared.pace.Pace.{Pace}
 use Rattle.lfm_mutex.specs.calls.Sight.{new_sight}
 use Rattle.lfm_condvar.specs.declared.condvar.Condvar.{Condvar}
 use Rattle.lfm_condvar.specs.declared.cond_seat.CondSeat.{CondSeat}
@@ -18,6 +19,21 @@ condition_limits seats = record { seats = seats; budget = max_budget }
 -- these are the conditions of a monitor with so many passes
 abbrev pub AreConditions : ℕ → List Condvar → Type 0
 AreConditions seats conditions = (i : ℕ) (v : Condvar) → get_elem? conditions i ≡ some v → cond_limits v ≡ condition_limits seats
+
+-- these conditions all have this pace
+abbrev pub ArePaced : Pace → List Condvar → Type 0
+ArePaced pace conditions = (i : ℕ) (v : Condvar) → get_elem? conditions i ≡ some v → v.inner.pace ≡ pace
+
+-- both are one condvar, whose pace may be another
+pub record SameButPace (u v : Condvar) : Type 0 where
+  pub table : v.inner.table ≡ u.inner.table
+  pub limits : v.inner.limits ≡ u.inner.limits
+  pub seats : v.seats ≡ u.seats
+
+-- both are one list of conditions, whose paces may be others
+pub record SameButPaces (us vs : List Condvar) : Type 0 where
+  pub long : length vs ≡ length us
+  pub each : (i : ℕ) (v : Condvar) → get_elem? vs i ≡ some v → (u : Condvar) × (get_elem? us i ≡ some u) × SameButPace u v
 
 -- there is a cond seat for each condition, at the same place
 pub record OfConditions (seats : List CondSeat) (conditions : List Condvar) : Type 0 where

@@ -19,6 +19,7 @@ pub mod pass;
 mod place_of;
 mod receive;
 mod run;
+mod set_pace;
 mod try_enter;
 mod wait;
 mod wake;

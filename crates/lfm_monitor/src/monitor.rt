@@ -1,5 +1,5 @@
-//! The monitor. Its calls are in `enter`, `try_enter`, `receive`, `apply`, `apply_until`, `leave`, `hold`, `run`, `wait`,
-//! `wake` and `close`.
+//! The monitor. Its calls are in `set_pace`, `enter`, `try_enter`, `receive`, `apply`, `apply_until`, `leave`, `hold`, `run`,
+//! `wait`, `wake` and `close`.
 ghost use Rattle.std.specs.Prelude.{◌≡◌};
 ghost use Rattle.lfm_mutex.specs.Belongs.{limits_of};
 ghost use Rattle.lfm_monitor.specs.CondSeats.{AreConditions};
@@ -7,7 +7,7 @@ ghost use Rattle.lfm_monitor.specs.CondSeats.{AreConditions};
 use crate::journaled::Journaled;
 use lfm_condvar::Condvar;
 use lfm_model::Object;
-use lfm_mutex::{Mutex, Pace};
+use lfm_mutex::Mutex;
 use std::snapshot::Snapshot;
 
 /// A guarded object with a journal: at most one pass at a time holds it, and applies ops to it. Its calls are made through a
@@ -44,14 +44,4 @@ pub struct Monitor<O: Object> {
     pub(crate) conditions: Vec<Condvar>,
     pub ghost shared: { (limits_of mutex).budget ≡ share },
     pub ghost wide: { AreConditions (limits_of mutex).seats conditions.items },
-}
-
-impl<O: Object> Monitor<O> {
-    /// Sets how long a pass that waits for the monitor looks before it sleeps. It is set before threads share the monitor.
-    pub fn set_pace(&mut self, pace: Pace)
-        ensures pace { self.new.mutex.pace ≡ pace }
-        ensures same { (self.new.mutex.table ≡ self.old.mutex.table) × (self.new.mutex.limits ≡ self.old.mutex.limits) × (self.new.opening ≡ self.old.opening) × (self.new.share ≡ self.old.share) × (self.new.conditions ≡ self.old.conditions) }
-    {
-        self.mutex.set_pace(pace);
-    }
 }

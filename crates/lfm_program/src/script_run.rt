@@ -9,17 +9,18 @@ ghost use Rattle.lfm_script.specs.script.Limits.{header_allowed, lines_allowed};
 ghost use Rattle.lfm_text.specs.Text.{max_lines};
 ghost use Rattle.lfm_model.specs.Journals.{LawfulJournal, after_all};
 ghost use Rattle.lfm_model.specs.Totals.{total_after};
-ghost use Rattle.std.specs.Prelude.{◌≡◌, ◌⊎◌, ◌<◌, IfErr, IfOk, length, true};
+ghost use Rattle.std.specs.Prelude.{◌≡◌, ◌⊎◌, ◌<◌, ℕ, IfErr, IfOk, length, true};
 
 use crate::gates::Gate;
 use crate::performed::Performed;
 use crate::workers::{Worked, WorkerEnd, run_workers};
 use lfm_model::{Entry, NewFault, Refusal, Total, TotalOp, lawful, replay};
 use lfm_monitor::{MAX_ENTRIES, Monitor, Pass};
+use lfm_mutex::Pace;
 use lfm_script::{Row, Script, WorkFault, commands_by_worker, rows_of};
 use std::alloc::{AllocError, Global};
 use std::sync::Wait;
-use std::thread::Threads;
+use std::thread::{Threads, available_parallelism};
 
 /// What a script came to when all its workers had ended.
 #[derive(Drop)]
@@ -34,10 +35,21 @@ pub(crate) struct ScriptRun {
     pub succeeded: bool,
 }
 
+// Sets the monitor's pace for the processors that this program may use. Where their number can't be told, its pace stays.
+fn set_pace<R: Threads>(rt: &R, monitor: &mut Monitor<Total>)
+    ensures { (workers conditions : ℕ) (passes : _) → MadeReady workers conditions monitor.old passes → MadeReady workers conditions monitor.new passes }
+{
+    let Ok(processors) = available_parallelism(rt) else {
+        return;
+    };
+    monitor.set_pace(Pace::for_processors(processors.get() as u64));
+}
+
 // A monitor over a total of 0 with the script's conditions, and a pass for each worker. Each pass has the same share of the
-// entries that a journal may have room for. Memory where a request for it was refused. A script is within a monitor's limits,
-// so there is no other fault.
-fn monitor_of(
+// entries that a journal may have room for. The monitor has the pace for the processors that this program may use. Memory
+// where a request for it was refused. A script is within a monitor's limits, so there is no other fault.
+fn monitor_of<R: Threads>(
+    rt: &R,
     alloc: Global,
     script: &Script,
 ) -> Result<(Monitor<Total>, Vec<Pass<Total>>), WorkFault>
@@ -47,7 +59,10 @@ fn monitor_of(
 {
     let share = MAX_ENTRIES / script.workers;
     match Monitor::new(alloc, script.workers, share, script.conditions, Total(0)) {
-        Ok(made) => Ok(made),
+        Ok((mut monitor, passes)) => {
+            set_pace(rt, &mut monitor);
+            Ok((monitor, passes))
+        }
         Err(NewFault::Memory) => Err(WorkFault::Memory),
         Err(NewFault::Limit) => unreachable!(),
     }
@@ -127,7 +142,7 @@ pub(crate) fn run_script<R: Threads + Wait + Sync, G: Gate>(
     ensures fault { IfErr result (λ e. (e ≡ Fault.Memory) ⊎ ((e ≡ Fault.Stuck) × StopsSome (G.stops gate.now))) }
 {
     let commands = commands_by_worker(alloc, script.workers, &script.lines)?;
-    let (monitor, passes) = monitor_of(alloc, script)?;
+    let (monitor, passes) = monitor_of(rt, alloc, script)?;
     let worked = run_workers(rt, alloc, &monitor, passes, &commands, gate)?;
     let (passes, refusals) = divide(alloc, worked)?;
     let Ok((total, journal)) = monitor.close(passes) else {

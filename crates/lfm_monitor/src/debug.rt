@@ -16,10 +16,11 @@ impl<O: Object> Debug for Monitor<O> {
     }
 }
 
-/// What the pass knows of the journal. Its seat isn't told, and neither is the object that it may have in hand.
+/// The pass's seat, and what the pass knows of the journal. The object that it may have in hand isn't told.
 impl<O: Object> Debug for Pass<O> {
     fn fmt<W: Write>(&self, f: &mut Formatter<W>) -> Result {
         f.debug_struct("Pass")
+            .field("seat", &self.seat)
             .field("seen_len", &self.seen)
             .field("mine", &self.mine)
             .finish_non_exhaustive()

@@ -81,7 +81,8 @@ public:
   explicit seat_lock(lfm_seat &s) noexcept : of(&s) {}
   // Throws as lfm_lock refuses.
   void lock() { made(lfm_lock(of)); }
-  // False where another seat holds the mutex or asked for it first. Throws as lfm_try_lock refuses else.
+  // False where at some moment of the call another seat held the mutex, asked for it or was giving it up. Throws as lfm_try_lock
+  // refuses else.
   bool try_lock() {
     lfm_status status = lfm_try_lock(of);
     if (status == LFM_BUSY) return false;
@@ -93,7 +94,9 @@ public:
 };
 
 // A mutex that finds the seat of the calling thread by itself. A thread takes a seat at its first lock and gives it back when it
-// ends, so as many threads may use it at a time as it has seats: more are refused as LFM_NO_SEAT, by an exception.
+// ends, so as many threads may use it at a time as it has seats: more are refused as LFM_NO_SEAT, by an exception. A thread that takes
+// over a seat goes on with that seat's takes, and a seat without takes is refused as LFM_SPENT: 2^36 are enough for 19 hours of a lock
+// in each microsecond.
 class recursive_mutex {
   // The mutex lies here as long as it or the seat of a thread is there.
   struct shared {
@@ -153,7 +156,8 @@ public:
   void unlock() { seat_lock(*own()).unlock(); }
 };
 
-// A condition variable of one mutex. There is no wake without a notify.
+// A condition variable of one mutex. A wait returns after a notify alone, but another thread may hold the mutex in between: wait in a
+// loop that tests what is waited for.
 class condition_variable {
   lfm_condvar raw{};
   recursive_mutex *of;

@@ -1,21 +1,21 @@
--- A step of a running seat is one event of the core that the table is, and leads to the core that the table is then. No law of a
--- table between two steps stands here.
+-- A step of a running seat is one event of the core that the table is, and leads to the core that the table is then. No law of a table
+-- between two steps stands here.
 use Rattle.std.specs.Prelude.{◌≡◌, ℕ, ◌+◌, Option, length, set, slice_index}
 use mathlib.Core.Option.{some}
 use lib.ListN.{get_elem?}
-use Rattle.atomic_table.specs.Table.{State}
+use Rattle.atomic_table.specs.Table.{Act, Me, State, Valid, carried_after, stepped}
 use Rattle.lfm_protocol.specs.declared.seats.SeatState.{SeatState}
 use Rattle.lfm_protocol.specs.Core.{Core, put}
 use Rattle.lfm_protocol.specs.Seats.{with_entry}
 use Rattle.lfm_protocol.specs.Step.{made}
 use Rattle.lfm_words.specs.Popped.{oldest}
-use Rattle.lfm_core.specs.steady.Steady.{Steady}
 use Rattle.lfm_core.specs.table.Words.{words, index, written, stepped_by, popped_by_step}
-use Rattle.lfm_mutex.specs.Laws.{IsCore}
 use Rattle.lfm_table.specs.declared.rule.Moving.{Moving}
+use Rattle.lfm_table.specs.declared.seat_view.Role.TheVariants.{User}
 use Rattle.lfm_table.specs.declared.seat_view.View.{View}
-use Rattle.lfm_table.specs.Rule.{Held}
+use Rattle.lfm_table.specs.Rule.{Advanced, Held}
 use Rattle.lfm_table.specs.Settled.{Became}
+use Rattle.lfm_table.specs.Steps.{Ready}
 
 -- seat k, having become p by begins, makes the core's step: one word, found to be n, becomes what p and n say, the seat, the pop
 -- list and the turn are those that the running seat makes of n
@@ -26,17 +26,23 @@ pub record IsEvent (c : Core) (k : ℕ) (p : SeatState) (n : ℕ) : Type 0 where
   pub popped_are : (made (put c k p) k).core.popped ≡ popped_by_step p k n c.popped
   pub turn_is : (made (put c k p) k).turn ≡ (stepped_by p k n (oldest c.popped)).turn
 
--- what that event makes of the core is steady, and is the core of each table that comes of this one by the write of that word and by
--- the new view of that seat, the one at place j
-pub record LeadsOn {T : Type 0} (s : State (Option (Moving T)) (View T)) (c : Core) (j : ℕ) (p : SeatState) (n : ℕ) : Type 0 where
-  pub steady : Steady (made (put c (j + 1) p) (j + 1)).core
-  pub next :
-      (t : State (Option (Moving T)) (View T)) (w : View T) → t.words ≡ set s.words (index p (length c.seats) (j + 1)) (written p (j + 1) n)
-      → t.views ≡ set s.views j w → w.standing ≡ (stepped_by p (j + 1) n (oldest c.popped)).seat → IsCore t (made (put c (j + 1) p) (j + 1)).core
-
 module _ {T : Type 0} (follows : ℕ → T → T → Type 0) (fits : T → ℕ → Type 0) where
   -- the core is the one of which `TablesStand` speaks
   abbrev pub TablesStepAsTheCore : Type 0
   TablesStepAsTheCore =
       (s : State (Option (Moving T)) (View T)) (h : Held follows fits s) (j : ℕ) (v : View T) (p : SeatState) → get_elem? s.views j ≡ some v
-      → Became v.standing v.limits p → (n : ℕ) × IsEvent h.core (j + 1) p n × LeadsOn s h.core j p n
+      → Became v.standing v.limits p → (n : ℕ) × IsEvent h.core (j + 1) p n
+
+  -- the rule holds of this table, and its core is this one
+  abbrev pub HoldsOf : Core → State (Option (Moving T)) (View T) → Type 0
+  HoldsOf c s = (h : Held follows fits s) × (h.core ≡ c)
+
+  -- a seat whose view stands at place j and which has the value a in its own memory, having become p by begins, makes its step: it finds n,
+  -- has a new view, and takes the moving value or gives it back, so that the rule holds of what the core's step makes of the core
+  abbrev pub TablesGoOnAsTheCore : Type 0
+  TablesGoOnAsTheCore =
+      (s : State (Option (Moving T)) (View T)) (c : Core) (j : ℕ) (me : Me (Option (Moving T)) (View T)) (p : SeatState) (a : Option T) → HoldsOf c s
+      → get_elem? s.views j ≡ some me.0 → me.0.role ≡ User → Became me.0.standing me.0.limits p → Ready follows fits p a me
+      → (n : ℕ) × (w : View T) × (act : Act (Option (Moving T))) × (n ≡ slice_index s.words (index p me.0.limits.seats me.0.number)) × Valid s.homes me.1 act
+      × HoldsOf (made (put c me.0.number p) me.0.number).core (stepped s (index p me.0.limits.seats me.0.number) (written p me.0.number n) j me.1 w act)
+      × Advanced follows fits p a me n (w, carried_after me.1 act)

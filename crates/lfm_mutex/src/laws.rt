@@ -4,7 +4,7 @@
 //! seat knows of its mutex.
 ghost use Rattle.lfm_mutex.specs.Laws.{KnowsItsMutex, PostsAreWatched, QuietTablesRest, TablesAreSteady, TakesFindARecord};
 ghost use Rattle.lfm_mutex.specs.TableStates.{RestingTablesAreFree, TablesStand};
-ghost use Rattle.lfm_mutex.specs.TableEvents.{TablesStepAsTheCore};
+ghost use Rattle.lfm_mutex.specs.TableEvents.{TablesGoOnAsTheCore, TablesStepAsTheCore};
 ghost use Rattle.lfm_mutex.specs.EndedHolds.{HoldsAreNumbered, OneLastValue};
 
 use lfm_table::Kept;
@@ -72,12 +72,20 @@ pub fn closes_have_one_value<T: Kept>()
 {}
 
 /// Each atomic step of a running seat is one event of the core, at the state that the table is: the word, the seat, the pop
-/// list and the turn become what the core's step makes of them. The state after it is steady, and it is the one that the table
-/// then is, once it has that word and the seat's new view.
+/// list and the turn become what the core's step makes of them.
 ///
 /// Definition: `TablesStepAsTheCore` in `specs/TableEvents.antt`. Proof: `proofs/TableEvents.antt`.
 pub fn tables_step_as_the_core<T: Kept>()
     ensures { TablesStepAsTheCore T.follows T.fits }
+{}
+
+/// Each atomic step of a running seat leads from the state of the core that the table is to the state that the core's step makes
+/// of it: the seat has a new view, and takes the moving value or gives it back, so that the table is that state then. So the
+/// steps of a running mutex, in the order in which they are made, are events of one run of the core.
+///
+/// Definition: `TablesGoOnAsTheCore` in `specs/TableEvents.antt`. Proof: `proofs/TableEvents.antt`.
+pub fn tables_go_on_as_the_core<T: Kept>()
+    ensures { TablesGoOnAsTheCore T.follows T.fits }
 {}
 
 /// A seat is seen with as many seats as its mutex has. So the paths of a gain, and those of a close, go through seats of that

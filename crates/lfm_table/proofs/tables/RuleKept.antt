@@ -19,7 +19,8 @@ use Rattle.lfm_protocol.specs.declared.points.Releaser.{Releaser}
 use Rattle.lfm_protocol.specs.declared.seats.SeatState.{SeatState}
 use Rattle.lfm_protocol.specs.Begin as Begin
 use Rattle.lfm_core.specs.table.Carried.{carries_value, move, move_of, MovesValue, TableStep}
-use Rattle.lfm_protocol.specs.Core.{Core, limits}
+use Rattle.lfm_protocol.specs.Core.{Core, limits, put}
+use Rattle.lfm_protocol.specs.Step.{made}
 use Rattle.lfm_core.specs.laws.Events.{answered_by}
 use Rattle.lfm_core.specs.steady.Ghost.{Ghost}
 use Rattle.lfm_core.specs.steady.EventOutcome.{abstract}
@@ -370,8 +371,12 @@ module _ {T : Type 0} (follows : ℕ → T → T → Type 0) (suits : T → ℕ 
         hands = hands;
       }
 
+      -- the rule holds, of the core that the core's step makes
+      abbrev HeldAfter : State S (View T) → Type 0
+      HeldAfter t = (after : Ruled t) × (after.core ≡ (made (put c num p) num).core)
+
       abbrev Done : Type 0
-      Done = (w : View T) × (b : Act S) × Valid s.homes me.1 b × Ruled (stepped s i (f n) id me.1 w b) × Advanced follows suits p a me (k n) (w, carried_after me.1 b)
+      Done = (w : View T) × (b : Act S) × Valid s.homes me.1 b × HeldAfter (stepped s i (f n) id me.1 w b) × Advanced follows suits p a me (k n) (w, carried_after me.1 b)
 
       abbrev MovedBy : Bool → Bool → Type 0
       MovedBy b b' = MovesValue c.seats ts.after.seats num (move_of b b')
@@ -425,7 +430,7 @@ module _ {T : Type 0} (follows : ℕ → T → T → Type 0) (suits : T → ℕ 
             w,
             takes 0 (Some x.value),
             x.here,
-            record {
+            (record {
               core = ts.after;
               ghost_state = ts.ghost_after;
               holds_ended = holds_after;
@@ -457,7 +462,7 @@ module _ {T : Type 0} (follows : ℕ → T → T → Type 0) (suits : T → ℕ 
               numbered = numbered_now (Some x.value.value);
               root = root_on s h id me.0 at user w refl root;
               others = others_on s h id me.0 at user w refl root;
-            },
+            }, ts.is_made),
             tells (Some x.value.value) ((0, Some x.value) ∷ me.1)
                 (subst (λ (t : Bool × Bool). Hands follows suits t.0 t.1 p.point a c.popped me (w, (0, Some x.value) ∷ me.1)) (λ q. (sym before q, sym after q)) (
                   x.value,
@@ -488,7 +493,7 @@ module _ {T : Type 0} (follows : ℕ → T → T → Type 0) (suits : T → ℕ 
             w,
             gives,
             tt,
-            record {
+            (record {
               core = ts.after;
               ghost_state = ts.ghost_after;
               holds_ended = holds_after;
@@ -515,7 +520,7 @@ module _ {T : Type 0} (follows : ℕ → T → T → Type 0) (suits : T → ℕ 
               numbered = numbered_now me.0.found;
               root = root_on s h id me.0 at user w refl root;
               others = others_on s h id me.0 at user w refl root;
-            },
+            }, ts.is_made),
             tells me.0.found (rest me.1) (subst (λ (t : Bool × Bool). Hands follows suits t.0 t.1 p.point a c.popped me (w, rest me.1)) (λ q. (sym before q, sym after q)) (ap rest ld.1)),
           )
 
@@ -533,7 +538,7 @@ module _ {T : Type 0} (follows : ℕ → T → T → Type 0) (suits : T → ℕ 
             w,
             keeps,
             tt,
-            record {
+            (record {
               core = ts.after;
               ghost_state = ts.ghost_after;
               holds_ended = holds_after;
@@ -571,7 +576,7 @@ module _ {T : Type 0} (follows : ℕ → T → T → Type 0) (suits : T → ℕ 
               numbered = numbered_now me.0.found;
               root = root_on s h id me.0 at user w refl root;
               others = others_on s h id me.0 at user w refl root;
-            },
+            }, ts.is_made),
             tells me.0.found me.1 (subst (λ (t : Bool × Bool). Hands follows suits t.0 t.1 p.point a c.popped me (w, me.1)) (λ q. (sym before q, sym after q)) refl),
           )
 
@@ -649,7 +654,7 @@ module _ {T : Type 0} (follows : ℕ → T → T → Type 0) (suits : T → ℕ 
             w,
             keeps,
             tt,
-            record {
+            (record {
               core = ts.after;
               ghost_state = ts.ghost_after;
               holds_ended = holds_after;
@@ -668,7 +673,7 @@ module _ {T : Type 0} (follows : ℕ → T → T → Type 0) (suits : T → ℕ 
               numbered = numbered_now found;
               root = root_on s h id me.0 at user w refl root;
               others = others_on s h id me.0 at user w refl root;
-            },
+            }, ts.is_made),
             tells found me.1 (subst (λ (t : Bool × Bool). Hands follows suits t.0 t.1 p.point a c.popped me (w, me.1)) (λ q. (sym before q, sym after q)) (refl, refl)),
           )
 
@@ -681,6 +686,10 @@ module _ {T : Type 0} (follows : ℕ → T → T → Type 0) (suits : T → ℕ 
       done : Done
       done = by_move (carries_value p) (carries_value st.seat) refl refl moved
 
+    -- a step of any kind leads to the core that the core's step makes
+    pub led_on : (s : State S (View T)) (h : Ruled s) (at : get_elem? s.views id ≡ some me.0) → Done s h at
+    led_on s h at = done s h at
+
     -- a step of any kind
     pub allowed : Allows Ruled slots id me i f (λ n m'. Advanced follows suits p a me (k n) m')
-    allowed s h sized at small = done s h at
+    allowed s h sized at small = let d = done s h at in (d.0, d.1, d.2, d.3.0, d.4)

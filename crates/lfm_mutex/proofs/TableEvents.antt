@@ -1,5 +1,5 @@
 -- A step at a table is an event of the core, and leads to the core after it, from the rule of the table.
-use Rattle.std.proofs.Common.{ℕ, ◌+◌, slice_index, refl, sym, ap, ◌∙◌, subst, arith}
+use Rattle.std.proofs.Common.{ℕ, ◌+◌, ◌*◌, replicate, slice_index, refl, sym, ap, ◌∙◌, subst, arith}
 use Rattle.lfm_protocol.specs.declared.limits.Limits.{Limits}
 use Rattle.lfm_protocol.specs.declared.seats.SeatState.{SeatState}
 use Rattle.lfm_protocol.specs.Core.{Core, limits, put}
@@ -14,7 +14,8 @@ use Rattle.lfm_core.proofs.table.Narrow.{narrow_with}
 use Rattle.lfm_core.proofs.table.Settled.{settles_keeps, settles_narrow}
 use Rattle.lfm_table.proofs.tables.SettledKept.{settles_of}
 use Rattle.lfm_table.proofs.tables.RuleKept.{led_on, length_at}
-use Rattle.lfm_mutex.specs.TableEvents.{IsEvent, TablesGoOnAsTheCore, TablesStepAsTheCore}
+use Rattle.lfm_mutex.proofs.ends.Seats.{joins, joins_keep, reads_owner_of, splits, splits_keep, starts, starts_at}
+use Rattle.lfm_mutex.specs.TableEvents.{IsEvent, OtherStepsKeepTheCore, TablesGoOnAsTheCore, TablesOpenAtTheStart, TablesStepAsTheCore}
 
 event_of : (c : Core) (g : Ghost) (s : ℕ) (p : SeatState) → IsSeat c.seats s → Fits c g → AreNarrow c.seats → Settles (seat c.seats s) (limits c) p
     → IsEvent c s p (found_at c s p)
@@ -44,3 +45,17 @@ module _ {T : Type 0} (follows : ℕ → T → T → Type 0) (fits : T → ℕ �
       let h = holds.0 in
       let on = led_on follows fits 1 j me p a (index p me.0.limits.seats me.0.number) (λ n. written p me.0.number n) (λ n. n) user became refl (λ n. refl) (λ n e. refl) ready s h at in
       (slice_index s.words (index p me.0.limits.seats me.0.number), on.0, on.1, refl, on.2, (on.3.0, on.3.1 ∙ ap (λ (x : Core). (made (put x me.0.number p) me.0.number).core) holds.1), on.4)
+
+  pub tables_open_at_the_start : TablesOpenAtTheStart follows fits
+  tables_open_at_the_start l x allowed none room suits =
+      let ws = replicate (4 + 2 * l.seats) 0 in (starts follows fits l ws x allowed refl none room suits, starts_at follows fits l ws x allowed refl none room suits)
+
+  pub other_steps_keep_the_core : OtherStepsKeepTheCore follows fits
+  other_steps_keep_the_core c = (
+    (λ v user room s holds at. (splits follows fits v user room s holds.0 at, splits_keep follows fits v user room s holds.0 at ∙ holds.1)),
+    (λ v w other user uses rests flat s holds at apart there. (
+      joins follows fits v w other user uses rests flat s holds.0 at apart there,
+      joins_keep follows fits v w other user uses rests flat s holds.0 at apart there ∙ holds.1,
+    )),
+    (λ slots id me user. reads_owner_of follows fits c slots id me user),
+  )

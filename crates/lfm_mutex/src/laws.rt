@@ -4,7 +4,7 @@
 //! seat knows of its mutex.
 ghost use Rattle.lfm_mutex.specs.Laws.{KnowsItsMutex, PostsAreWatched, QuietTablesRest, TablesAreSteady, TakesFindARecord};
 ghost use Rattle.lfm_mutex.specs.TableStates.{RestingTablesAreFree, TablesStand};
-ghost use Rattle.lfm_mutex.specs.TableEvents.{TablesGoOnAsTheCore, TablesStepAsTheCore};
+ghost use Rattle.lfm_mutex.specs.TableEvents.{OtherStepsKeepTheCore, TablesGoOnAsTheCore, TablesOpenAtTheStart, TablesStepAsTheCore};
 ghost use Rattle.lfm_mutex.specs.EndedHolds.{HoldsAreNumbered, OneLastValue};
 
 use lfm_table::Kept;
@@ -86,6 +86,21 @@ pub fn tables_step_as_the_core<T: Kept>()
 /// Definition: `TablesGoOnAsTheCore` in `specs/TableEvents.antt`. Proof: `proofs/TableEvents.antt`.
 pub fn tables_go_on_as_the_core<T: Kept>()
     ensures { TablesGoOnAsTheCore T.follows T.fits }
+{}
+
+/// The table of a new mutex is the state of the core at its start.
+///
+/// Definition: `TablesOpenAtTheStart` in `specs/TableEvents.antt`. Proof: `proofs/TableEvents.antt`.
+pub fn tables_open_at_the_start<T: Kept>()
+    ensures { TablesOpenAtTheStart T.follows T.fits }
+{}
+
+/// What else is done at the table of a running mutex leaves the state of the core that it is: a seat is split off by `new`, or
+/// joined again by `close`, or loads the owner word for `owner`.
+///
+/// Definition: `OtherStepsKeepTheCore` in `specs/TableEvents.antt`. Proof: `proofs/TableEvents.antt`.
+pub fn other_steps_keep_the_core<T: Kept>()
+    ensures { OtherStepsKeepTheCore T.follows T.fits }
 {}
 
 /// A seat is seen with as many seats as its mutex has. So the paths of a gain, and those of a close, go through seats of that

@@ -10,7 +10,7 @@ use lib.ListN.{get_elem?}
 use lib.Seq.{set-get_or}
 use mathlib.Core.Logic.{dite}
 use native.Mathlib.Decide.{ℕ_discrete}
-use Rattle.atomic_table.specs.Table.{State, Me, keeps, Allows, Splits, Joins, opening}
+use Rattle.atomic_table.specs.Table.{State, Me, keeps, Allows, Splits, Joins, opening, stepped}
 use Rattle.atomic_table.proofs.Lists.{at_set, set_here, set_else, at_last, at_longer}
 use Rattle.lfm_words.specs.declared.wakes.Wake.TheVariants.{Quiet}
 use Rattle.lfm_words.specs.Words.{link_word, wake_word}
@@ -272,43 +272,75 @@ module _ {T : Type 0} (follows : ℕ → T → T → Type 0) (suits : T → ℕ 
             (λ (w : (j ≢ 0) × (get_elem? s.views j ≡ some z)). h.others j z w.1 is) (at_set s.views 0 j b z u.1)) (at_set vs other j (joined w) z e);
       }
 
-  pub reads_owner : (slots id : ℕ) (me : Me (Option (Moving T)) (View T)) → me.0.role ≡ User → Allows (Held follows suits) slots id me 1 (λ n. n) (ReadsOwner me)
-  reads_owner slots id me user s h sized at small = let n = get_or s.words 1 0 in let w : View T = record me.0 { trail = me.0.trail ++ seen TryOwnerLoad n ∷ [] } in
-      let q = quiet follows suits h.core h.ghost_state h.holds_ended s.homes s.views (parts s h) id me.0 w at refl refl refl refl refl refl refl refl refl refl refl in
-      let sits = h.each id me.0 at in
-      let l = length_at s.views id me.0 at in
-      let is : IsSeat h.core.seats me.0.number = record { above = omega (arith, sits.number); within = omega (arith, sits.number, h.few, l) } in
-      let told = owner_told h.core h.ghost_state me.0.number is h.fits in
-      let found : n ≡ h.core.owner = ap (λ (ws : List ℕ). get_or ws 1 0) h.words_are in
-      let stands : seat h.core.seats me.0.number ≡ me.0.standing = ap (λ m. seat h.core.seats m) sits.number ∙ sits.standing in
-      let same : SameRoot me.0 w = record { number = refl; limits_are = refl; opening = refl; made = refl; joined_are = refl } in (
-        w,
-        keeps,
-        tt,
-        subst (λ (ws : List ℕ). Held follows suits record { words = ws; homes = s.homes; views = set s.views id w }) (sym (set-get_or s.words 1 0)) record {
-          core = h.core;
-          ghost_state = h.ghost_state;
-          holds_ended = h.holds_ended;
-          fits = h.fits;
-          narrow = h.narrow;
-          words_are = h.words_are;
-          deep = h.deep;
-          few = q.few;
-          each = q.each;
-          later = q.later;
-          home = q.home;
-          outside = q.outside;
-          numbered = q.numbered;
-          root = root_on follows suits s h id me.0 at user w refl same;
-          others = others_on follows suits s h id me.0 at user w refl same;
-        },
-        (
+  -- both keep the core
+  pub splits_keep : (v : View T) (user : v.role ≡ User) (room : v.made + 2 ≤ v.limits.seats) (s : State (Option (Moving T)) (View T)) (h : Held follows suits s) (at : get_elem? s.views 0 ≡ some v)
+      → (splits v user room s h at).core ≡ h.core
+  unfolding splits
+  splits_keep v user room s h at = refl
+
+  pub joins_keep : (v w : View T) (other : ℕ) (user : v.role ≡ User) (uses : w.role ≡ User) (rests : w.standing.point ≡ Rest) (flat : w.standing.depth ≡ 0) (s : State (Option (Moving T)) (View T)) (h : Held follows suits s)
+      (at : get_elem? s.views 0 ≡ some v) (apart : ¬ (other ≡ 0)) (there : get_elem? (set s.views 0 (with_joined v w)) other ≡ some w) → (joins v w other user uses rests flat s h at apart there).core ≡ h.core
+  unfolding joins
+  joins_keep v w other user uses rests flat s h at apart there = refl
+
+  -- A load of the owner word
+
+  module _ (id : ℕ) (me : Me (Option (Moving T)) (View T)) (user : me.0.role ≡ User) (s : State (Option (Moving T)) (View T)) (h : Held follows suits s) (at : get_elem? s.views id ≡ some me.0) where
+    abbrev Found : ℕ
+    Found = get_or s.words 1 0
+
+    abbrev Seen : View T
+    Seen = record me.0 { trail = me.0.trail ++ seen TryOwnerLoad Found ∷ [] }
+
+    -- the rule goes on holding, of the same core
+    owner_keeps : (after : Held follows suits (stepped s 1 Found id me.1 Seen keeps)) × (after.core ≡ h.core)
+    owner_keeps =
+        let q = quiet follows suits h.core h.ghost_state h.holds_ended s.homes s.views (parts s h) id me.0 Seen at refl refl refl refl refl refl refl refl refl refl refl in
+        let same : SameRoot me.0 Seen = record { number = refl; limits_are = refl; opening = refl; made = refl; joined_are = refl } in
+        subst (λ (ws : List ℕ). (after : Held follows suits record { words = ws; homes = s.homes; views = set s.views id Seen }) × (after.core ≡ h.core)) (sym (set-get_or s.words 1 0)) (
+          record {
+            core = h.core;
+            ghost_state = h.ghost_state;
+            holds_ended = h.holds_ended;
+            fits = h.fits;
+            narrow = h.narrow;
+            words_are = h.words_are;
+            deep = h.deep;
+            few = q.few;
+            each = q.each;
+            later = q.later;
+            home = q.home;
+            outside = q.outside;
+            numbered = q.numbered;
+            root = root_on follows suits s h id me.0 at user Seen refl same;
+            others = others_on follows suits s h id me.0 at user Seen refl same;
+          },
+          refl,
+        )
+
+    -- what it tells
+    owner_tells : ReadsOwner me Found (Seen, me.1)
+    owner_tells =
+        let sits = h.each id me.0 at in
+        let l = length_at s.views id me.0 at in let few = h.few in
+        let is : IsSeat h.core.seats me.0.number = record { above = omega (arith, sits.number); within = omega (arith, sits.number, few, l) } in
+        let told = owner_told h.core h.ghost_state me.0.number is h.fits in
+        let found : Found ≡ h.core.owner = ap (λ (ws : List ℕ). get_or ws 1 0) h.words_are in
+        let stands : seat h.core.seats me.0.number ≡ me.0.standing = ap (λ m. seat h.core.seats m) sits.number ∙ sits.standing in (
           refl,
           omega (arith, sits.number),
           (λ e. subst (λ (x : SeatState). 0 < x.depth) stands (told.0 (sym found ∙ e))),
           (λ d. found ∙ told.1 (subst (λ (x : SeatState). 0 < x.depth) (sym stands) d)),
-        ),
-      )
+        )
+
+  pub reads_owner : (slots id : ℕ) (me : Me (Option (Moving T)) (View T)) → me.0.role ≡ User → Allows (Held follows suits) slots id me 1 (λ n. n) (ReadsOwner me)
+  reads_owner slots id me user s h sized at small = (Seen id me user s h at, keeps, tt, (owner_keeps id me user s h at).0, owner_tells id me user s h at)
+
+  pub reads_owner_of : (c : Core) (slots id : ℕ) (me : Me (Option (Moving T)) (View T)) → me.0.role ≡ User
+      → Allows (λ s. (h : Held follows suits s) × (h.core ≡ c)) slots id me 1 (λ n. n) (ReadsOwner me)
+  reads_owner_of c slots id me user s holds sized at small =
+      let h = holds.0 in let on = owner_keeps id me user s h at in
+      (Seen id me user s h at, keeps, tt, (on.0, on.1 ∙ holds.1), owner_tells id me user s h at)
 
 -- The start
 
@@ -393,6 +425,11 @@ starts {T} follows suits l ws x allowed are none_popped room fit =
       root = λ v e. subst (Roots (k ∷ [])) (one_view k v 0 e).1 record { user = refl; made = refl; back = refl; kept = λ i g is. absurd (some-ne-none g (sym is)); gone = λ j z at is. absurd (not_both z.role (ap (λ (u : View T). u.role) (sym (one_view k z j at).1)) is) };
       others = λ j v e is. absurd (not_both v.role (ap (λ (u : View T). u.role) (sym (one_view k v j e).1)) is);
     }
+
+pub starts_at : {T : Type 0} (follows : ℕ → T → T → Type 0) (suits : T → ℕ → Type 0) (l : Limits) (ws : List ℕ) (x : Moving T) (allowed : are_in_limits l.seats l.budget ≡ true) (are : ws ≡ replicate (4 + 2 * l.seats) 0)
+    (none_popped : x.popped.records ≡ []) (room : x.popped.room ≡ l.seats) (fit : suits x.value 0) → (starts follows suits l ws x allowed are none_popped room fit).core ≡ start l
+unfolding starts
+starts_at follows suits l ws x allowed are none_popped room fit = refl
 
 -- A seat that has done nothing
 

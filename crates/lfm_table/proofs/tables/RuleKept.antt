@@ -430,39 +430,42 @@ module _ {T : Type 0} (follows : ℕ → T → T → Type 0) (suits : T → ℕ 
             w,
             takes 0 (Some x.value),
             x.here,
-            (record {
-              core = ts.after;
-              ghost_state = ts.ghost_after;
-              holds_ended = holds_after;
-              fits = ts.fits;
-              narrow = ts.narrow;
-              words_are = words_after;
-              deep = length-set s.homes 0 none ∙ h.deep;
-              few = let l = length-set s.views id w in omega (arith, l, h.few, long);
-              each = sits_on (Some x.value.value);
-              later = later_on (Some x.value.value);
-              home = λ nobody. absurd (false≢true (sym (nobody num) ∙ did.1));
-              outside = λ j z e one. ⊎_elim
-                  (λ (t : (j ≡ id) × (w ≡ z)). subst (λ (u : ℕ × View T). WithSeat follows suits ts.after ts.ghost_after holds_after (set s.views id w) u.0 u.1) (λ q. (sym t.0 q, t.1 q)) (record {
-                    value = x.value.value;
-                    found = refl;
-                    popped = sym popped_is;
-                    answered = refl;
-                    holds = refl;
-                    leads = leads_off s h id me.0 at user w refl root x.value.value (λ j z l e ok is_last. x.leads j z l e tt is_last);
-                    awaits = awaits_on s h id me.0 at user w refl root x.value.value x.awaits;
-                    shallow = λ deep. (
-                      subst (λ (m : ℕ). suits x.value.value m) (sym (same_answers deep)) x.fits,
-                      λ l is_last. x.leads id me.0 l at tt (sym kept ∙ is_last),
-                    );
-                    left = λ deep. left_kept (Some x.value.value) x.value.value (not_release p.depth p.point (core.depth_at c g num p is h.fits settles) shallow) x.left;
-                  }))
-                  (λ (t : (j ≢ id) × (get_elem? s.views j ≡ some z)). absurd (not_after (Some x.value.value) j z e (ap carries_value (other_after j t.0) ∙ did.0 (j + 1)) one))
-                  (at_set s.views id j w z e);
-              numbered = numbered_now (Some x.value.value);
-              root = root_on s h id me.0 at user w refl root;
-              others = others_on s h id me.0 at user w refl root;
-            }, ts.is_made),
+            (
+              record {
+                core = ts.after;
+                ghost_state = ts.ghost_after;
+                holds_ended = holds_after;
+                fits = ts.fits;
+                narrow = ts.narrow;
+                words_are = words_after;
+                deep = length-set s.homes 0 none ∙ h.deep;
+                few = let l = length-set s.views id w in omega (arith, l, h.few, long);
+                each = sits_on (Some x.value.value);
+                later = later_on (Some x.value.value);
+                home = λ nobody. absurd (false≢true (sym (nobody num) ∙ did.1));
+                outside = λ j z e one. ⊎_elim
+                    (λ (t : (j ≡ id) × (w ≡ z)). subst (λ (u : ℕ × View T). WithSeat follows suits ts.after ts.ghost_after holds_after (set s.views id w) u.0 u.1) (λ q. (sym t.0 q, t.1 q)) (record {
+                      value = x.value.value;
+                      found = refl;
+                      popped = sym popped_is;
+                      answered = refl;
+                      holds = refl;
+                      leads = leads_off s h id me.0 at user w refl root x.value.value (λ j z l e ok is_last. x.leads j z l e tt is_last);
+                      awaits = awaits_on s h id me.0 at user w refl root x.value.value x.awaits;
+                      shallow = λ deep. (
+                        subst (λ (m : ℕ). suits x.value.value m) (sym (same_answers deep)) x.fits,
+                        λ l is_last. x.leads id me.0 l at tt (sym kept ∙ is_last),
+                      );
+                      left = λ deep. left_kept (Some x.value.value) x.value.value (not_release p.depth p.point (core.depth_at c g num p is h.fits settles) shallow) x.left;
+                    }))
+                    (λ (t : (j ≢ id) × (get_elem? s.views j ≡ some z)). absurd (not_after (Some x.value.value) j z e (ap carries_value (other_after j t.0) ∙ did.0 (j + 1)) one))
+                    (at_set s.views id j w z e);
+                numbered = numbered_now (Some x.value.value);
+                root = root_on s h id me.0 at user w refl root;
+                others = others_on s h id me.0 at user w refl root;
+              },
+              ts.is_made,
+            ),
             tells (Some x.value.value) ((0, Some x.value) ∷ me.1)
                 (subst (λ (t : Bool × Bool). Hands follows suits t.0 t.1 p.point a c.popped me (w, (0, Some x.value) ∷ me.1)) (λ q. (sym before q, sym after q)) (
                   x.value,
@@ -493,34 +496,37 @@ module _ {T : Type 0} (follows : ℕ → T → T → Type 0) (suits : T → ℕ 
             w,
             gives,
             tt,
-            (record {
-              core = ts.after;
-              ghost_state = ts.ghost_after;
-              holds_ended = holds_after;
-              fits = ts.fits;
-              narrow = ts.narrow;
-              words_are = words_after;
-              deep = ap length put ∙ length-set s.homes 0 (some (Some x)) ∙ h.deep;
-              few = let l = length-set s.views id w in omega (arith, l, h.few, long);
-              each = sits_on me.0.found;
-              later = later_on me.0.found;
-              home = λ nobody. record {
-                value = x;
-                here = ap (λ hs. get_elem? hs 0) put ∙ set_here s.homes 0 (some (Some x)) room;
-                records = ld.3 ∙ ap (λ (l : List Record). popped_by_step p num (k n) l) out.popped ∙ sym popped_is;
-                room = ld.4 ∙ seats_are ∙ sym long;
-                leads = leads_all s h id me.0 at user w refl root x.value
-                    (λ l is_last. subst (λ (y : T). Reached follows me.0.limits.seats (id + 1) l y) same (known.1 l (sym kept ∙ is_last)))
-                    (subst (λ (y : T). LeadsToValue follows (λ j. j ≢ id) s.views y) same out.leads);
-                awaits = awaits_on s h id me.0 at user w refl root x.value (subst (λ (y : T). Awaits follows s.views y) same out.awaits);
-                left = left_kept me.0.found x.value other (subst (λ (y : T). LeftIn s.views h.holds_ended y) same (out.left (became_depth me.0.standing me.0.limits p to shallow)));
-                fits = subst (λ (t : T × ℕ). suits t.0 t.1) (λ q. (same q, (out.answered ∙ sym (same_answers flat)) q)) known.0;
-              };
-              outside = λ j z e one. absurd (not_after me.0.found j z e (did.1 (j + 1)) one);
-              numbered = numbered_now me.0.found;
-              root = root_on s h id me.0 at user w refl root;
-              others = others_on s h id me.0 at user w refl root;
-            }, ts.is_made),
+            (
+              record {
+                core = ts.after;
+                ghost_state = ts.ghost_after;
+                holds_ended = holds_after;
+                fits = ts.fits;
+                narrow = ts.narrow;
+                words_are = words_after;
+                deep = ap length put ∙ length-set s.homes 0 (some (Some x)) ∙ h.deep;
+                few = let l = length-set s.views id w in omega (arith, l, h.few, long);
+                each = sits_on me.0.found;
+                later = later_on me.0.found;
+                home = λ nobody. record {
+                  value = x;
+                  here = ap (λ hs. get_elem? hs 0) put ∙ set_here s.homes 0 (some (Some x)) room;
+                  records = ld.3 ∙ ap (λ (l : List Record). popped_by_step p num (k n) l) out.popped ∙ sym popped_is;
+                  room = ld.4 ∙ seats_are ∙ sym long;
+                  leads = leads_all s h id me.0 at user w refl root x.value
+                      (λ l is_last. subst (λ (y : T). Reached follows me.0.limits.seats (id + 1) l y) same (known.1 l (sym kept ∙ is_last)))
+                      (subst (λ (y : T). LeadsToValue follows (λ j. j ≢ id) s.views y) same out.leads);
+                  awaits = awaits_on s h id me.0 at user w refl root x.value (subst (λ (y : T). Awaits follows s.views y) same out.awaits);
+                  left = left_kept me.0.found x.value other (subst (λ (y : T). LeftIn s.views h.holds_ended y) same (out.left (became_depth me.0.standing me.0.limits p to shallow)));
+                  fits = subst (λ (t : T × ℕ). suits t.0 t.1) (λ q. (same q, (out.answered ∙ sym (same_answers flat)) q)) known.0;
+                };
+                outside = λ j z e one. absurd (not_after me.0.found j z e (did.1 (j + 1)) one);
+                numbered = numbered_now me.0.found;
+                root = root_on s h id me.0 at user w refl root;
+                others = others_on s h id me.0 at user w refl root;
+              },
+              ts.is_made,
+            ),
             tells me.0.found (rest me.1) (subst (λ (t : Bool × Bool). Hands follows suits t.0 t.1 p.point a c.popped me (w, rest me.1)) (λ q. (sym before q, sym after q)) (ap rest ld.1)),
           )
 
@@ -538,45 +544,48 @@ module _ {T : Type 0} (follows : ℕ → T → T → Type 0) (suits : T → ℕ 
             w,
             keeps,
             tt,
-            (record {
-              core = ts.after;
-              ghost_state = ts.ghost_after;
-              holds_ended = holds_after;
-              fits = ts.fits;
-              narrow = ts.narrow;
-              words_are = words_after;
-              deep = h.deep;
-              few = let l = length-set s.views id w in omega (arith, l, h.few, long);
-              each = sits_on me.0.found;
-              later = later_on me.0.found;
-              home = λ nobody. let x = h.home (λ t. sym (did t) ∙ nobody t) in record {
-                value = x.value;
-                here = x.here;
-                records = x.records ∙ list_same;
-                room = x.room ∙ sym long;
-                leads = leads_on s h id me.0 at user w refl root (λ _. ⊤) x.value.value kept x.leads;
-                awaits = awaits_on s h id me.0 at user w refl root x.value.value x.awaits;
-                left = left_kept me.0.found x.value.value (not_release p.depth p.point (core.depth_at c g num p is h.fits settles) shallow) x.left;
-                fits = subst (λ (m : ℕ). suits x.value.value m) (sym (same_answers flat)) x.fits;
-              };
-              outside = λ j z e one. ⊎_elim
-                  (λ (t : (j ≡ id) × (w ≡ z)). absurd (none_here (ap (λ (u : View T). carries_value u.standing) t.1 ∙ one)))
-                  (λ (t : (j ≢ id) × (get_elem? s.views j ≡ some z)). let o = h.outside j z t.1 one in record {
-                    value = o.value;
-                    found = o.found;
-                    popped = o.popped ∙ list_same;
-                    answered = o.answered ∙ sym (same_answers flat);
-                    holds = o.holds ∙ sym (same_holds (not_release p.depth p.point (core.depth_at c g num p is h.fits settles) shallow));
-                    leads = leads_on s h id me.0 at user w refl root (λ q. q ≢ j) o.value kept o.leads;
-                    awaits = awaits_on s h id me.0 at user w refl root o.value o.awaits;
-                    shallow = o.shallow;
-                    left = λ low. left_kept me.0.found o.value (not_release p.depth p.point (core.depth_at c g num p is h.fits settles) shallow) (o.left low);
-                  })
-                  (at_set s.views id j w z e);
-              numbered = numbered_now me.0.found;
-              root = root_on s h id me.0 at user w refl root;
-              others = others_on s h id me.0 at user w refl root;
-            }, ts.is_made),
+            (
+              record {
+                core = ts.after;
+                ghost_state = ts.ghost_after;
+                holds_ended = holds_after;
+                fits = ts.fits;
+                narrow = ts.narrow;
+                words_are = words_after;
+                deep = h.deep;
+                few = let l = length-set s.views id w in omega (arith, l, h.few, long);
+                each = sits_on me.0.found;
+                later = later_on me.0.found;
+                home = λ nobody. let x = h.home (λ t. sym (did t) ∙ nobody t) in record {
+                  value = x.value;
+                  here = x.here;
+                  records = x.records ∙ list_same;
+                  room = x.room ∙ sym long;
+                  leads = leads_on s h id me.0 at user w refl root (λ _. ⊤) x.value.value kept x.leads;
+                  awaits = awaits_on s h id me.0 at user w refl root x.value.value x.awaits;
+                  left = left_kept me.0.found x.value.value (not_release p.depth p.point (core.depth_at c g num p is h.fits settles) shallow) x.left;
+                  fits = subst (λ (m : ℕ). suits x.value.value m) (sym (same_answers flat)) x.fits;
+                };
+                outside = λ j z e one. ⊎_elim
+                    (λ (t : (j ≡ id) × (w ≡ z)). absurd (none_here (ap (λ (u : View T). carries_value u.standing) t.1 ∙ one)))
+                    (λ (t : (j ≢ id) × (get_elem? s.views j ≡ some z)). let o = h.outside j z t.1 one in record {
+                      value = o.value;
+                      found = o.found;
+                      popped = o.popped ∙ list_same;
+                      answered = o.answered ∙ sym (same_answers flat);
+                      holds = o.holds ∙ sym (same_holds (not_release p.depth p.point (core.depth_at c g num p is h.fits settles) shallow));
+                      leads = leads_on s h id me.0 at user w refl root (λ q. q ≢ j) o.value kept o.leads;
+                      awaits = awaits_on s h id me.0 at user w refl root o.value o.awaits;
+                      shallow = o.shallow;
+                      left = λ low. left_kept me.0.found o.value (not_release p.depth p.point (core.depth_at c g num p is h.fits settles) shallow) (o.left low);
+                    })
+                    (at_set s.views id j w z e);
+                numbered = numbered_now me.0.found;
+                root = root_on s h id me.0 at user w refl root;
+                others = others_on s h id me.0 at user w refl root;
+              },
+              ts.is_made,
+            ),
             tells me.0.found me.1 (subst (λ (t : Bool × Bool). Hands follows suits t.0 t.1 p.point a c.popped me (w, me.1)) (λ q. (sym before q, sym after q)) refl),
           )
 
@@ -654,26 +663,29 @@ module _ {T : Type 0} (follows : ℕ → T → T → Type 0) (suits : T → ℕ 
             w,
             keeps,
             tt,
-            (record {
-              core = ts.after;
-              ghost_state = ts.ghost_after;
-              holds_ended = holds_after;
-              fits = ts.fits;
-              narrow = ts.narrow;
-              words_are = words_after;
-              deep = h.deep;
-              few = let l = length-set s.views id w in omega (arith, l, h.few, long);
-              each = sits_on found;
-              later = later_on found;
-              home = λ nobody. absurd (false≢true (sym (nobody num) ∙ ap carries_value mine_after ∙ after));
-              outside = λ j z e one. ⊎_elim
-                  (λ (t : (j ≡ id) × (w ≡ z)). subst (λ (u : ℕ × View T). WithSeat follows suits ts.after ts.ghost_after holds_after (set s.views id w) u.0 u.1) (λ q. (sym t.0 q, t.1 q)) (goes_on before w refl root refl))
-                  (λ (t : (j ≢ id) × (get_elem? s.views j ≡ some z)). absurd (alone j z before t.1 t.0 one))
-                  (at_set s.views id j w z e);
-              numbered = numbered_now found;
-              root = root_on s h id me.0 at user w refl root;
-              others = others_on s h id me.0 at user w refl root;
-            }, ts.is_made),
+            (
+              record {
+                core = ts.after;
+                ghost_state = ts.ghost_after;
+                holds_ended = holds_after;
+                fits = ts.fits;
+                narrow = ts.narrow;
+                words_are = words_after;
+                deep = h.deep;
+                few = let l = length-set s.views id w in omega (arith, l, h.few, long);
+                each = sits_on found;
+                later = later_on found;
+                home = λ nobody. absurd (false≢true (sym (nobody num) ∙ ap carries_value mine_after ∙ after));
+                outside = λ j z e one. ⊎_elim
+                    (λ (t : (j ≡ id) × (w ≡ z)). subst (λ (u : ℕ × View T). WithSeat follows suits ts.after ts.ghost_after holds_after (set s.views id w) u.0 u.1) (λ q. (sym t.0 q, t.1 q)) (goes_on before w refl root refl))
+                    (λ (t : (j ≢ id) × (get_elem? s.views j ≡ some z)). absurd (alone j z before t.1 t.0 one))
+                    (at_set s.views id j w z e);
+                numbered = numbered_now found;
+                root = root_on s h id me.0 at user w refl root;
+                others = others_on s h id me.0 at user w refl root;
+              },
+              ts.is_made,
+            ),
             tells found me.1 (subst (λ (t : Bool × Bool). Hands follows suits t.0 t.1 p.point a c.popped me (w, me.1)) (λ q. (sym before q, sym after q)) (refl, refl)),
           )
 

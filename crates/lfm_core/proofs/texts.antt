@@ -1,4 +1,4 @@
--- Lemmas of schedules and traces: reading and spelling lines, and writing what came of them.
+-- Lemmas of schedules and traces: reading and spelling lines, which events they are, and writing what came of them.
 pub mod Decoding
 pub mod LineEvents
 pub mod Lines

@@ -1,4 +1,4 @@
--- Schedules and traces as text.
+-- Schedules and traces as text, and which events the lines of a schedule are.
 pub mod Faults
 pub mod Lines
 pub mod LineEvents

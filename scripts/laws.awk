@@ -40,8 +40,8 @@ function fault(text) {
 }
 
 # The links of one half of a comment's last paragraph. A name in backquotes stands in the file that is named next; a file
-# without a name before it is linked by its own name. The file with the proofs of all forms for schedules is linked once, in
-# the head of the page.
+# without a name before it is linked by its own name. A file is one of the law's crate where its path does not begin with
+# crates/. The file with the proofs of all forms for schedules is linked once, in the head of the page.
 function links_of(text, crate, name_of_law,    list, part, count, parts, i, pending, names, file, base, at) {
   list = ""
   pending = 0
@@ -49,7 +49,7 @@ function links_of(text, crate, name_of_law,    list, part, count, parts, i, pend
   for (i = 2; i <= count; i += 2) {
     part = parts[i]
     if (part !~ /\.antt$/) { names[++pending] = part; continue }
-    file = crate "/" part
+    file = part ~ /^crates\// ? part : crate "/" part
     base = part
     sub(/.*\//, "", base)
     sub(/\.antt$/, "", base)

@@ -1,4 +1,1 @@
 pub mod texts
-pub mod steady
-pub mod lawful
-pub mod table

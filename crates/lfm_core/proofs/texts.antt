@@ -1,5 +1,6 @@
--- Lemmas of schedules and traces: reading and spelling lines, and writing what came of them.
+-- Lemmas of schedules and traces: reading and spelling lines, which events they are, and writing what came of them.
 pub mod Decoding
+pub mod LineEvents
 pub mod Lines
 pub mod Plans
 pub mod Queued

@@ -14,7 +14,4 @@ pub use Rattle.lfm_protocol.specs.Place
 pub use Rattle.lfm_text.specs.Text
 pub use Rattle.lfm_text.specs.Taking
 pub use Rattle.lfm_text.specs.Writing
-pub mod steady
-pub mod laws
 pub mod text
-pub mod table

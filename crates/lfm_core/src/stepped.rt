@@ -2,7 +2,7 @@
 //! each turn keeps it so. The turns and readers themselves are the machine's.
 ghost use Rattle.std.specs.Prelude.{◌≡◌, ◌≤◌, true, false, length, reverse, slice_get, vec_capacity, IfOk, IfErr};
 ghost use Rattle.std.specs.Option.{option_map};
-ghost use Rattle.lfm_core.specs.laws.Lawful.{Lawful};
+ghost use Rattle.lfm_laws.specs.laws.Lawful.{Lawful};
 ghost use Rattle.lfm_protocol.specs.Limits.{are_in_limits, max_seats};
 ghost use Rattle.lfm_protocol.specs.Turns.{longest_call};
 ghost use Rattle.lfm_protocol.specs.Place.{place_of};
@@ -28,7 +28,7 @@ pub struct State {
 
 impl Model for State {
     ghost use Rattle.lfm_protocol.specs.Core.{Core};
-    ghost use Rattle.lfm_core.specs.steady.Steady.{Steady};
+    ghost use Rattle.lfm_laws.specs.steady.Steady.{Steady};
 
     ghost Value = { Core };
 
@@ -80,7 +80,7 @@ impl State {
 
 /// What the invariant says, and what it says in words and points.
 impl State {
-    ghost use Rattle.lfm_core.specs.steady.Steady.{Steady};
+    ghost use Rattle.lfm_laws.specs.steady.Steady.{Steady};
 
     /// Every state is steady. `laws::every_state_is_steady` tells it to callers.
     pub(crate) fn steady(&self)

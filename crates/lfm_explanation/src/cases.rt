@@ -1,6 +1,6 @@
 //! The abstract case of a step: what it does to the responsibility and to the queue.
 ghost use Rattle.std.specs.Prelude.{◌≡◌, Some, None, if◌then◌else◌};
-ghost use Rattle.lfm_core.specs.laws.Events.{asks_at, enters_by, case_of_step};
+ghost use Rattle.lfm_laws.specs.laws.Events.{asks_at, enters_by, case_of_step};
 ghost use Rattle.lfm_explanation.specs.Cases.{abstract_case};
 ghost use Rattle.lfm_protocol.specs.Seats.{seat};
 

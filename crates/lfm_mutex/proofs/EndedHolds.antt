@@ -4,9 +4,9 @@ use mathlib.Core.Option.{some, some-injective}
 use lib.ListN.{get_elem?}
 use mathlib.Core.Logic.{dite}
 use native.Mathlib.Decide.{ℕ_discrete}
-use Rattle.lfm_core.specs.steady.EventOutcome.{abstract}
-use Rattle.lfm_core.proofs.lawful.read.Readings.{reads_ghost}
-use Rattle.lfm_core.proofs.table.Values.{carried_by_none, tells_value}
+use Rattle.lfm_laws.specs.steady.EventOutcome.{abstract}
+use Rattle.lfm_laws.proofs.lawful.read.Readings.{reads_ghost}
+use Rattle.lfm_laws.proofs.table.Values.{carried_by_none, tells_value}
 use Rattle.lfm_mutex.proofs.LawsHeld.{core_of}
 use Rattle.lfm_mutex.specs.Close.{EndedLast, NoneHasEnded, LeftByLastHold}
 use Rattle.lfm_mutex.specs.EndedHolds.{LeftByHold, HoldsAreNumbered, OneLastValue}

@@ -5,13 +5,13 @@ use Rattle.lfm_protocol.specs.declared.seats.SeatState.{SeatState}
 use Rattle.lfm_protocol.specs.Core.{Core, limits, put}
 use Rattle.lfm_protocol.specs.Seats.{seat, IsSeat}
 use Rattle.lfm_protocol.specs.Step.{made}
-use Rattle.lfm_core.specs.steady.Ghost.{Ghost}
-use Rattle.lfm_core.specs.steady.Steady.{Fits}
-use Rattle.lfm_core.specs.table.Settles.{Settles}
-use Rattle.lfm_core.specs.table.Words.{AreNarrow, index, written}
-use Rattle.lfm_core.proofs.table.TableSteps.{found_at, put_popped, put_seats, put_turn, put_words}
-use Rattle.lfm_core.proofs.table.Narrow.{narrow_with}
-use Rattle.lfm_core.proofs.table.Settled.{settles_keeps, settles_narrow}
+use Rattle.lfm_laws.specs.steady.Ghost.{Ghost}
+use Rattle.lfm_laws.specs.steady.Steady.{Fits}
+use Rattle.lfm_laws.specs.table.Settles.{Settles}
+use Rattle.lfm_laws.specs.table.Words.{AreNarrow, index, written}
+use Rattle.lfm_laws.proofs.table.TableSteps.{found_at, put_popped, put_seats, put_turn, put_words}
+use Rattle.lfm_laws.proofs.table.Narrow.{narrow_with}
+use Rattle.lfm_laws.proofs.table.Settled.{settles_keeps, settles_narrow}
 use Rattle.lfm_table.proofs.tables.SettledKept.{settles_of}
 use Rattle.lfm_table.proofs.tables.RuleKept.{led_on, length_at}
 use Rattle.lfm_mutex.proofs.ends.Seats.{joins, joins_keep, reads_owner_of, splits, splits_keep, starts, starts_at}

@@ -6,10 +6,10 @@ use Rattle.atomic_table.specs.Table.{State}
 use Rattle.lfm_protocol.specs.declared.points.Point.TheVariants.{Rest}
 use Rattle.lfm_protocol.specs.declared.seats.SeatState.{SeatState}
 use Rattle.lfm_protocol.specs.Seats.{seat}
-use Rattle.lfm_core.specs.steady.EventOutcome.{abstract}
-use Rattle.lfm_core.proofs.lawful.read.Readings.{reads_ghost}
-use Rattle.lfm_core.proofs.steady.frames.Entries.{seat_zero}
-use Rattle.lfm_core.proofs.table.Values.{carried_by_none, tells_value}
+use Rattle.lfm_laws.specs.steady.EventOutcome.{abstract}
+use Rattle.lfm_laws.proofs.lawful.read.Readings.{reads_ghost}
+use Rattle.lfm_laws.proofs.steady.frames.Entries.{seat_zero}
+use Rattle.lfm_laws.proofs.table.Values.{carried_by_none, tells_value}
 use Rattle.lfm_mutex.proofs.LawsHeld.{core_of, steady_of}
 use Rattle.lfm_mutex.proofs.ends.Ends.{there_or_past}
 use Rattle.lfm_mutex.proofs.ends.FreeWords.{free_core}

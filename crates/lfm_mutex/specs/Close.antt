@@ -6,7 +6,7 @@ use Rattle.lfm_model.specs.declared.refusals.Missing.{Missing}
 use Rattle.lfm_model.specs.declared.refusals.Missing.TheVariants.{NotBack, Holding, Asleep}
 use Rattle.lfm_protocol.specs.Core.{Core}
 use Rattle.lfm_protocol.specs.Seats.{unposted}
-use Rattle.lfm_core.specs.table.Words.{words}
+use Rattle.lfm_laws.specs.table.Words.{words}
 use Rattle.lfm_mutex.specs.calls.Sight.{Sight}
 
 -- the seat that is named

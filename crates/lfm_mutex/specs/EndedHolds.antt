@@ -7,8 +7,8 @@ use lib.ListN.{get_elem?}
 use Rattle.atomic_table.specs.Table.{State}
 use Rattle.lfm_model.specs.Abstract.{AbstractMutex}
 use Rattle.lfm_protocol.specs.Core.{Core}
-use Rattle.lfm_core.specs.laws.Reading.{Reads}
-use Rattle.lfm_core.specs.table.Carried.{carries_value, out_with}
+use Rattle.lfm_laws.specs.laws.Reading.{Reads}
+use Rattle.lfm_laws.specs.table.Carried.{carries_value, out_with}
 use Rattle.lfm_mutex.specs.Close.{LeftByLastHold}
 use Rattle.lfm_mutex.specs.Laws.{IsCore}
 use Rattle.lfm_mutex.specs.calls.Sight.{Sight}

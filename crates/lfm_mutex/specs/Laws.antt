@@ -7,11 +7,11 @@ use Rattle.lfm_protocol.specs.declared.points.Carrier.{Carrier}
 use Rattle.lfm_protocol.specs.declared.points.Point.TheVariants.{TakeClearHead}
 use Rattle.lfm_protocol.specs.Core.{Core}
 use Rattle.lfm_protocol.specs.Seats.{seat, unposted}
-use Rattle.lfm_core.specs.laws.Lawful.{Lawful}
-use Rattle.lfm_core.specs.laws.Laws.{IsQuiet, IsHeld, IsGranted, has_won}
-use Rattle.lfm_core.specs.laws.Watched.{Watched}
-use Rattle.lfm_core.specs.steady.Steady.{Steady}
-use Rattle.lfm_core.specs.table.Words.{words}
+use Rattle.lfm_laws.specs.laws.Lawful.{Lawful}
+use Rattle.lfm_laws.specs.laws.Laws.{IsQuiet, IsHeld, IsGranted, has_won}
+use Rattle.lfm_laws.specs.laws.Watched.{Watched}
+use Rattle.lfm_laws.specs.steady.Steady.{Steady}
+use Rattle.lfm_laws.specs.table.Words.{words}
 use Rattle.lfm_table.specs.declared.rule.Moving.{Moving}
 use Rattle.lfm_table.specs.declared.seat_view.View.{View}
 use Rattle.lfm_table.specs.Rule.{Held}

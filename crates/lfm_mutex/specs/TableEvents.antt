@@ -12,7 +12,7 @@ use Rattle.lfm_protocol.specs.Core.{Core, put}
 use Rattle.lfm_protocol.specs.Seats.{with_entry}
 use Rattle.lfm_protocol.specs.Step.{made, start}
 use Rattle.lfm_words.specs.Popped.{oldest}
-use Rattle.lfm_core.specs.table.Words.{words, index, written, stepped_by, popped_by_step}
+use Rattle.lfm_laws.specs.table.Words.{words, index, written, stepped_by, popped_by_step}
 use Rattle.lfm_table.specs.declared.rule.Moving.{Moving}
 use Rattle.lfm_table.specs.declared.seat_view.Role.TheVariants.{User}
 use Rattle.lfm_table.specs.declared.seat_view.View.{View}

@@ -8,9 +8,9 @@ use Rattle.lfm_model.specs.Abstract.{AbstractMutex}
 use Rattle.lfm_protocol.specs.declared.points.Point.TheVariants.{Rest}
 use Rattle.lfm_protocol.specs.Core.{Core, limits}
 use Rattle.lfm_protocol.specs.Seats.{seat, absent}
-use Rattle.lfm_core.specs.laws.Reading.{Reads}
-use Rattle.lfm_core.specs.steady.Steady.{Steady}
-use Rattle.lfm_core.specs.table.Carried.{TellsValue, out_with}
+use Rattle.lfm_laws.specs.laws.Reading.{Reads}
+use Rattle.lfm_laws.specs.steady.Steady.{Steady}
+use Rattle.lfm_laws.specs.table.Carried.{TellsValue, out_with}
 use Rattle.lfm_mutex.specs.Close.{IsFree}
 use Rattle.lfm_mutex.specs.Laws.{IsCore}
 use Rattle.lfm_table.specs.declared.rule.Moving.{Moving}

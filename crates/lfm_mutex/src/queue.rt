@@ -6,7 +6,7 @@ ghost use Rattle.lfm_protocol.specs.declared.answers.Answer.TheVariants as Answe
 ghost use Rattle.lfm_protocol.specs.declared.answers.Turn.TheVariants.{Ended};
 ghost use Rattle.lfm_protocol.specs.declared.points.Point.TheVariants.{LockOwnerLoad, PushExchange, PushedHandoffLoad};
 ghost use Rattle.lfm_protocol.specs.declared.points.Pusher.{Pusher as PusherNow};
-ghost use Rattle.lfm_core.specs.table.Words.{stepped_by};
+ghost use Rattle.lfm_laws.specs.table.Words.{stepped_by};
 ghost use Rattle.lfm_mutex.specs.calls.Due.{due};
 ghost use Rattle.lfm_mutex.specs.calls.FailedPushes.{Spends};
 ghost use Rattle.lfm_mutex.specs.calls.Straight.{Course};

@@ -3,7 +3,7 @@
 ghost use Rattle.std.specs.Prelude.{◌≡◌, ◌<◌, ◌-◌, Some, None, MatchOption};
 ghost use Rattle.std.specs.Coded.{Coded-set};
 ghost use Rattle.lfm_table.specs.Props.{IsReady-prop, Became-prop};
-ghost use Rattle.lfm_core.specs.table.Ready.{IsReady};
+ghost use Rattle.lfm_laws.specs.table.Ready.{IsReady};
 ghost use Rattle.lfm_table.specs.Rule.{value_in, put_value};
 ghost use Rattle.lfm_table.specs.Seats.{Seated, Rooted};
 ghost use Rattle.lfm_table.specs.Settled.{Became};

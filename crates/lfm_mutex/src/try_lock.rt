@@ -6,7 +6,7 @@ ghost use Rattle.lfm_protocol.specs.declared.answers.Call.{Call as CallNow};
 ghost use Rattle.lfm_protocol.specs.declared.points.Entrant.{Entrant as EntrantNow};
 ghost use Rattle.lfm_protocol.specs.declared.points.Point.TheVariants.{Rest, TryHandoffLoad, EnterOwnerStore};
 ghost use Rattle.lfm_protocol.specs.Limits.{max_depth};
-ghost use Rattle.lfm_core.specs.table.Words.{stepped_by};
+ghost use Rattle.lfm_laws.specs.table.Words.{stepped_by};
 ghost use Rattle.lfm_mutex.specs.Belongs.{Beside, OfMutex, limits_of};
 ghost use Rattle.lfm_mutex.specs.calls.Runs.{errand, trying, Ends};
 ghost use Rattle.lfm_mutex.specs.calls.Sight.{sight, Locks};

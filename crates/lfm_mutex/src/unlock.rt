@@ -6,7 +6,7 @@ ghost use Rattle.lfm_protocol.specs.declared.answers.Call.{Call as CallNow};
 ghost use Rattle.lfm_protocol.specs.declared.answers.Turn.TheVariants.{Ended};
 ghost use Rattle.lfm_protocol.specs.declared.points.Point.TheVariants.{Rest, ReleaseCountSubtract};
 ghost use Rattle.lfm_protocol.specs.declared.points.Releaser.TheVariants.{Unlocker as UnlockerNow};
-ghost use Rattle.lfm_core.specs.table.Words.{stepped_by};
+ghost use Rattle.lfm_laws.specs.table.Words.{stepped_by};
 ghost use Rattle.lfm_table.specs.Steps.{oldest_in};
 ghost use Rattle.lfm_mutex.specs.Belongs.{Beside, OfMutex, limits_of};
 ghost use Rattle.lfm_mutex.specs.calls.Runs.{errand, is_release, releasing, weight};

@@ -1,5 +1,5 @@
 //! The program `lfm_states`: it finds every state that a mutex of two seats can reach, and measures in all of them what the laws
-//! of `lfm_core` bound.
+//! of `lfm_laws` bound.
 //!
 //! It shows what no proof says: that the bounds are reached. It is run by `scripts/search_states`.
 #![tactic(auto)]

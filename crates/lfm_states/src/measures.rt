@@ -1,7 +1,7 @@
 //! What is measured: how often something happens in one call, between two ends of calls, or while a record is queued, and what an
 //! event does to such a count.
 ghost use Rattle.std.specs.Prelude.{◌≡◌};
-ghost use Rattle.lfm_core.specs.laws.Progress.{changed_push};
+ghost use Rattle.lfm_laws.specs.laws.Progress.{changed_push};
 ghost use Rattle.lfm_states.specs.Measures.{counts_call, weight_of};
 
 use crate::events::Event;

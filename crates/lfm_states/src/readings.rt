@@ -1,9 +1,9 @@
 //! What a state of two seats holds, as plain data that can be kept and compared: all words, all data of the seats, and the queue.
 //! The links, the points and the queue determine the pop list, so two states with the same reading are the same.
 ghost use Rattle.std.specs.Prelude.{◌≡◌};
-ghost use Rattle.lfm_core.specs.laws.Grants.{grant_weight};
-ghost use Rattle.lfm_core.specs.laws.Overtaking.{enters_at, releases_at};
-ghost use Rattle.lfm_core.specs.laws.Schedules.{is_call};
+ghost use Rattle.lfm_laws.specs.laws.Grants.{grant_weight};
+ghost use Rattle.lfm_laws.specs.laws.Overtaking.{enters_at, releases_at};
+ghost use Rattle.lfm_laws.specs.laws.Schedules.{is_call};
 ghost use Rattle.lfm_protocol.specs.Seats.{seat, link, wake};
 
 use crate::points::PointNumbers;

@@ -17,7 +17,7 @@ pub struct Row {
     pub known: u64,
     /// The bound of the law.
     pub bound: u64,
-    /// The law's name in `lfm_core::laws`.
+    /// The law's name in `lfm_laws`.
     pub law: &'static str,
 }
 

@@ -1,7 +1,7 @@
 //! Which calls serve a queued record when they begin, in the words of the law of service.
 ghost use Rattle.std.specs.Prelude.{◌≡◌, ℕ, true, false};
-ghost use Rattle.lfm_core.specs.laws.Schedules.{begins};
-ghost use Rattle.lfm_core.specs.laws.Service.{Serves};
+ghost use Rattle.lfm_laws.specs.laws.Schedules.{begins};
+ghost use Rattle.lfm_laws.specs.laws.Service.{Serves};
 ghost use Rattle.lfm_protocol.specs.Core.{Core};
 ghost use Rattle.lfm_protocol.specs.Seats.{wake};
 

@@ -1,8 +1,8 @@
 //! What the measures ask of a point: whether a call is open there, and what its step counts. These are the words of the laws.
 ghost use Rattle.std.specs.Prelude.{◌≡◌};
-ghost use Rattle.lfm_core.specs.laws.Grants.{grant_weight};
-ghost use Rattle.lfm_core.specs.laws.Overtaking.{enters_at, releases_at};
-ghost use Rattle.lfm_core.specs.laws.Schedules.{is_call};
+ghost use Rattle.lfm_laws.specs.laws.Grants.{grant_weight};
+ghost use Rattle.lfm_laws.specs.laws.Overtaking.{enters_at, releases_at};
+ghost use Rattle.lfm_laws.specs.laws.Schedules.{is_call};
 
 use lfm_core::points::Point;
 

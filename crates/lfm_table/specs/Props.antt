@@ -10,10 +10,10 @@ use Rattle.lfm_words.specs.declared.links.Link.{Link}
 use Rattle.lfm_words.specs.declared.wakes.Wake.{Wake}
 use Rattle.lfm_words.specs.declared.wakes.Wake.TheVariants.{Grant}
 use Rattle.lfm_words.specs.Words.{IsSmallWake}
-use Rattle.lfm_core.specs.table.Ready.{IsReady, PacksLink, PacksHandoff}
+use Rattle.lfm_laws.specs.table.Ready.{IsReady, PacksLink, PacksHandoff}
 use Rattle.lfm_protocol.specs.Room.{HasNumbers}
 use Rattle.lfm_protocol.specs.Stores.{stored_link, expected_push, exchanged_push, stored_handoff, expected_handoff, stored_wake}
-use Rattle.lfm_core.specs.table.Settles.{begun}
+use Rattle.lfm_laws.specs.table.Settles.{begun}
 use Rattle.lfm_table.specs.Settled.{Became, calls_to}
 
 HasNumbers-prop : (x : SeatState) (q : Point) → IsProp (HasNumbers x q)

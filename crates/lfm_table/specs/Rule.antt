@@ -16,16 +16,16 @@ use Rattle.lfm_protocol.specs.declared.points.Point.{Point}
 use Rattle.lfm_protocol.specs.declared.points.Point.TheVariants.{Rest, TryOwnerLoad, PushExchange, ReleaseOwnerStore, TakeLinkLoad, EnterOwnerStore}
 use Rattle.lfm_protocol.specs.declared.points.Pusher.{Pusher}
 use Rattle.lfm_protocol.specs.declared.seats.SeatState.{SeatState}
-use Rattle.lfm_core.specs.table.Carried.{carries_value}
+use Rattle.lfm_laws.specs.table.Carried.{carries_value}
 use Rattle.lfm_protocol.specs.Core.{Core, limits}
-use Rattle.lfm_core.specs.laws.Events.{answered_by}
-use Rattle.lfm_core.specs.steady.Ghost.{Ghost}
+use Rattle.lfm_laws.specs.laws.Events.{answered_by}
+use Rattle.lfm_laws.specs.steady.Ghost.{Ghost}
 use Rattle.lfm_protocol.specs.Points.{kind}
-use Rattle.lfm_core.specs.table.Ready.{IsReady}
+use Rattle.lfm_laws.specs.table.Ready.{IsReady}
 use Rattle.lfm_protocol.specs.Room.{PopFits}
 use Rattle.lfm_protocol.specs.Seats.{seat, absent}
-use Rattle.lfm_core.specs.steady.Steady.{DepthAt, IsSeen, Fits}
-use Rattle.lfm_core.specs.table.Words.{words, stepped_by, popped_by_step, link_of, AreNarrow}
+use Rattle.lfm_laws.specs.steady.Steady.{DepthAt, IsSeen, Fits}
+use Rattle.lfm_laws.specs.table.Words.{words, stepped_by, popped_by_step, link_of, AreNarrow}
 use Rattle.lfm_table.specs.declared.seat_view.Role.{Role}
 use Rattle.lfm_table.specs.declared.seat_view.Role.TheVariants.{User, Retired}
 use Rattle.lfm_table.specs.declared.seat_view.Seen.{Seen}

@@ -7,7 +7,7 @@ use Rattle.lfm_protocol.specs.declared.points.Point.{Point}
 use Rattle.lfm_protocol.specs.declared.points.Point.TheVariants.{LockCountAdd, TryCountExchange, ReleaseOwnerStore, SendWakeExchange, ReceiveWakeLoad}
 use Rattle.lfm_protocol.specs.declared.points.Releaser.TheVariants.{Unlocker, Waiter}
 use Rattle.lfm_protocol.specs.declared.seats.SeatState.{SeatState}
-use Rattle.lfm_core.specs.table.Settles.{begun}
+use Rattle.lfm_laws.specs.table.Settles.{begun}
 
 -- so many calls of unlock
 abbrev pub unlocks : ℕ → List Call

@@ -13,10 +13,10 @@ use Rattle.lfm_protocol.specs.declared.points.Releaser.{Releaser}
 use Rattle.lfm_protocol.specs.declared.seats.SeatState.{SeatState}
 use Rattle.lfm_protocol.specs.After.{drops_oldest, loaded}
 use Rattle.lfm_protocol.specs.Limits.{max_seats}
-use Rattle.lfm_core.specs.table.Carried.{carries_value}
+use Rattle.lfm_laws.specs.table.Carried.{carries_value}
 use Rattle.lfm_protocol.specs.Points.{kind, target}
-use Rattle.lfm_core.specs.table.Ready.{IsReady}
-use Rattle.lfm_core.specs.table.Words.{stepped_by, popped_by_step, popped_if, link_of}
+use Rattle.lfm_laws.specs.table.Ready.{IsReady}
+use Rattle.lfm_laws.specs.table.Words.{stepped_by, popped_by_step, popped_if, link_of}
 use Rattle.lfm_table.specs.declared.seat_view.Role.TheVariants.{User}
 use Rattle.lfm_table.specs.declared.seat_view.View.{View}
 use Rattle.lfm_table.specs.declared.rule.Moving.{Moving}

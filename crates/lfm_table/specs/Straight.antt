@@ -3,8 +3,8 @@ use Rattle.std.specs.Prelude.{ℕ, Option}
 use Rattle.atomic_table.specs.Table.{Me}
 use Rattle.lfm_protocol.specs.declared.limits.Limits.{Limits}
 use Rattle.lfm_protocol.specs.declared.seats.SeatState.{SeatState}
-use Rattle.lfm_core.specs.table.Ready.{IsReady}
-use Rattle.lfm_core.specs.table.Words.{stepped_by}
+use Rattle.lfm_laws.specs.table.Ready.{IsReady}
+use Rattle.lfm_laws.specs.table.Words.{stepped_by}
 use Rattle.lfm_table.specs.declared.seat_view.View.{View}
 use Rattle.lfm_table.specs.declared.rule.Moving.{Moving}
 use Rattle.lfm_table.specs.Seats.{Seated, Rooted}

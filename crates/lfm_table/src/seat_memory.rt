@@ -4,10 +4,10 @@ ghost use Rattle.std.specs.Prelude.{◌≡◌, ◌<◌, ◌≤◌, ◌∷◌, �
 ghost use Rattle.atomic_table.specs.Table.{rest};
 ghost use Rattle.lfm_model.specs.SeatNumbers.{IsSeatNo};
 ghost use Rattle.lfm_protocol.specs.declared.kinds.Kind.{Kind};
-ghost use Rattle.lfm_core.specs.table.Carried.{carries_value};
+ghost use Rattle.lfm_laws.specs.table.Carried.{carries_value};
 ghost use Rattle.lfm_protocol.specs.Points.{kind, target};
 ghost use Rattle.lfm_protocol.specs.Room.{HasNumbers};
-ghost use Rattle.lfm_core.specs.table.Words.{stepped_by};
+ghost use Rattle.lfm_laws.specs.table.Words.{stepped_by};
 ghost use Rattle.lfm_table.specs.declared.rule.Moving.{Moving};
 ghost use Rattle.lfm_table.specs.Rule.{is_carried};
 ghost use Rattle.lfm_table.specs.Steps.{gives_at, dropped, kept_out, put_in, with_record, Took, oldest_in};

@@ -7,8 +7,8 @@ ghost use Rattle.lfm_protocol.specs.declared.points.Point.TheVariants.{ReleaseOw
 ghost use Rattle.lfm_protocol.specs.declared.points.Releaser.{Releaser};
 ghost use Rattle.lfm_protocol.specs.After.{drops_oldest};
 ghost use Rattle.lfm_protocol.specs.Points.{kind};
-ghost use Rattle.lfm_core.specs.table.Carried.{carries_value};
-ghost use Rattle.lfm_core.specs.table.Words.{stepped_by};
+ghost use Rattle.lfm_laws.specs.table.Carried.{carries_value};
+ghost use Rattle.lfm_laws.specs.table.Words.{stepped_by};
 ghost use Rattle.lfm_table.specs.Grants.{granted_at};
 ghost use Rattle.lfm_table.specs.Steps.{gives_at, MayBeLeft};
 ghost use Rattle.lfm_table.specs.Straight.{Fit, MadeStep};

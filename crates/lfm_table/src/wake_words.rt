@@ -1,7 +1,7 @@
 //! What the number in a wake word says, for steps that look at it as it was found. How a state is packed is said by `Wake`
 //! alone. No step stands here.
 ghost use Rattle.std.specs.Prelude.{◌≡◌, ◌-◌, ◌/◌, ◌≤◌};
-ghost use Rattle.lfm_core.specs.table.Words.{wake_of};
+ghost use Rattle.lfm_laws.specs.table.Words.{wake_of};
 
 use lfm_words::Wake;
 

@@ -5,7 +5,7 @@ use Rattle.lfm_protocol.specs.declared.answers.Call.TheVariants.{StartWait}
 use Rattle.lfm_words.specs.declared.wakes.Wake.TheVariants.{Waiting}
 use Rattle.lfm_protocol.specs.Turns.{is_open}
 use Rattle.lfm_protocol.specs.Seats.{wake}
-use Rattle.lfm_core.specs.steady.Steady.{Fits}
+use Rattle.lfm_laws.specs.steady.Steady.{Fits}
 use Rattle.lfm_condvar.specs.laws.Condvars.{Waiter, Stage, outside, locking_to_wait, starting, receiving, locking_to_wake, claiming, sending, unlocking, CondvarCore, point_of}
 use Rattle.lfm_condvar.proofs.lawful.Invariant.{CondvarGhost, StartsAt, Locks, StartingFits, ReceivingFits, ClaimingFits, SendingFits, UnlockingFits, StageFits, IsPending, CondvarFits, CoreFits}
 use Rattle.lfm_condvar.proofs.lawful.Tickets.{waiters_of}

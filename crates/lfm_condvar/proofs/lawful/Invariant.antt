@@ -10,11 +10,11 @@ use Rattle.lfm_protocol.specs.declared.points.Pusher.{Pusher}
 use Rattle.lfm_protocol.specs.declared.points.Releaser.{Releaser}
 use Rattle.lfm_protocol.specs.declared.points.Sleeper.{Sleeper}
 use Rattle.lfm_words.specs.declared.wakes.Wake.TheVariants.{Waiting}
-use Rattle.lfm_core.specs.steady.Ghost.{Ghost}
+use Rattle.lfm_laws.specs.steady.Ghost.{Ghost}
 use Rattle.lfm_protocol.specs.Turns.{is_open}
 use Rattle.lfm_protocol.specs.Core.{Core}
 use Rattle.lfm_protocol.specs.Seats.{seat, wake, IsSeat}
-use Rattle.lfm_core.specs.steady.Steady.{Fits}
+use Rattle.lfm_laws.specs.steady.Steady.{Fits}
 use Rattle.lfm_protocol.specs.Step.{begin}
 use Rattle.lfm_condvar.specs.laws.Condvars.{Waiter, Stage, outside, locking_to_wait, starting, receiving, locking_to_wake, claiming, sending, unlocking, CondvarCore, point_of}
 use Rattle.lfm_condvar.proofs.lawful.Tickets.{waiters_of}

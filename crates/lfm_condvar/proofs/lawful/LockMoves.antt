@@ -7,9 +7,9 @@ use Rattle.lfm_protocol.specs.declared.points.Point.TheVariants.{Rest, Asleep}
 use Rattle.lfm_protocol.specs.Seats.{seat, is_seat}
 use Rattle.lfm_protocol.specs.Step.{begin, step}
 use Rattle.lfm_protocol.specs.Turns.{is_open}
-use Rattle.lfm_core.specs.laws.Schedules.{is_call}
-use Rattle.lfm_core.proofs.lawful.touched.OneSeat.{steps_touch_one_word_and_one_seat, begins_touch_one_seat}
-use Rattle.lfm_core.proofs.steady.frames.Sums.{changed_same, changed_other}
+use Rattle.lfm_laws.specs.laws.Schedules.{is_call}
+use Rattle.lfm_laws.proofs.lawful.touched.OneSeat.{steps_touch_one_word_and_one_seat, begins_touch_one_seat}
+use Rattle.lfm_laws.proofs.steady.frames.Sums.{changed_same, changed_other}
 use Rattle.lfm_condvar.specs.laws.Condvars.{Waiter, Condvar, Stage, outside, locking_to_wait, starting, receiving, locking_to_wake, claiming, sending, unlocking, CondvarCore, point_of, is_listed, put_stage, put_mutex, put_condvar, put_holder}
 use Rattle.lfm_condvar.specs.laws.Events.{CondvarEvent, begins, waits, wakes, makes, is_outside, is_own_call, is_rest, mutex_begins, enlisted, enlists, gives_back, receives_at, sends_next, removed, goes_on, happens}
 use Rattle.lfm_condvar.specs.laws.Stages.{has_lock}

@@ -3,10 +3,10 @@ use Rattle.std.proofs.Common.{◌≡◌, ◌≢◌, ◌⊎◌, ℕ, ◌-◌, ◌
 use Rattle.std.proofs.lemmas.Bool.{cases_eq}
 use Rattle.lfm_words.specs.declared.wakes.Wake.TheVariants.{Waiting}
 use Rattle.lfm_protocol.specs.Core.{Core}
-use Rattle.lfm_core.specs.steady.Ghost.{Ghost}
+use Rattle.lfm_laws.specs.steady.Ghost.{Ghost}
 use Rattle.lfm_protocol.specs.Seats.{wake}
-use Rattle.lfm_core.specs.steady.Steady.{Fits}
-use Rattle.lfm_core.proofs.steady.frames.Sums.{changed_same, changed_other}
+use Rattle.lfm_laws.specs.steady.Steady.{Fits}
+use Rattle.lfm_laws.proofs.steady.frames.Sums.{changed_same, changed_other}
 use Rattle.lfm_condvar.specs.laws.Condvars.{Condvar, Stage, CondvarCore, put_stage, put_mutex}
 use Rattle.lfm_condvar.specs.laws.Claims.{Claim, claims_on}
 use Rattle.lfm_condvar.proofs.lawful.Invariant.{CondvarGhost, StageFits, IsPending, CondvarFits, CoreFits, claims_told}

@@ -2,11 +2,11 @@
 use Rattle.std.proofs.Common.{◌≡◌, ℕ, zero, suc, replicate, Bool, false, List, [], ◌∷◌, ◌++◌, nat_eq, refl, sym, ap, ◌∙◌, inl, inr, arith, append_assoc}
 use Rattle.std.proofs.lemmas.Bool.{cases_Bool}
 use Rattle.lfm_protocol.specs.declared.limits.Limits.{Limits}
-use Rattle.lfm_core.specs.steady.Ghost.{Ghost}
+use Rattle.lfm_laws.specs.steady.Ghost.{Ghost}
 use Rattle.lfm_protocol.specs.Seats.{entry, absent}
-use Rattle.lfm_core.specs.steady.Steady.{Fits}
+use Rattle.lfm_laws.specs.steady.Steady.{Fits}
 use Rattle.lfm_protocol.specs.Step.{start}
-use Rattle.lfm_core.proofs.steady.Start.{start_steady, few_seats, small_budget}
+use Rattle.lfm_laws.proofs.steady.Start.{start_steady, few_seats, small_budget}
 use Rattle.lfm_condvar.specs.laws.Condvars.{Stage, outside, locking_to_wait, starting, receiving, locking_to_wake, claiming, sending, unlocking, CondvarCore, point_of, condvar_start}
 use Rattle.lfm_condvar.specs.laws.Claims.{Claim, claimed_at, claimed_in, claim_record, claims_on}
 use Rattle.lfm_condvar.specs.laws.Events.{CondvarEvent, begins, waits, wakes, makes, goes_on, happens, run_of}
@@ -18,7 +18,7 @@ use Rattle.lfm_condvar.proofs.lawful.events.MutexEvents.{at_begins, at_waits, at
 use Rattle.lfm_condvar.proofs.lawful.Invariant.{CondvarGhost, is_of_condvar, StartsAt, StartingFits, SendingFits, StageFits, CoreFits, claims_told}
 use Rattle.lfm_condvar.proofs.lawful.events.LockEvents.{wait_gives_back, at_unlocking, at_locking_to_wake, at_removes}
 use Rattle.lfm_condvar.proofs.lawful.mutex.OwnSeat.{waits_in_call}
-use Rattle.lfm_core.specs.laws.Schedules.{is_call}
+use Rattle.lfm_laws.specs.laws.Schedules.{is_call}
 
 -- Steps of calls
 

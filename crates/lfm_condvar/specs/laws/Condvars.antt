@@ -6,7 +6,7 @@ use Rattle.lfm_protocol.specs.declared.points.Point.{Point}
 use Rattle.lfm_protocol.specs.Core.{Core}
 use Rattle.lfm_protocol.specs.Seats.{seat}
 use Rattle.lfm_protocol.specs.Step.{start}
-use Rattle.lfm_core.specs.steady.Numbered.{changed}
+use Rattle.lfm_laws.specs.steady.Numbered.{changed}
 
 -- a seat of the user mutex in the list of a condvar, and the ticket of its wait
 pub record Waiter : Type 0 where

@@ -9,8 +9,8 @@ use Rattle.lfm_protocol.specs.declared.points.Point.TheVariants.{Rest, Asleep}
 use Rattle.lfm_protocol.specs.Seats.{is_seat}
 use Rattle.lfm_protocol.specs.Step.{begin, step}
 use Rattle.lfm_protocol.specs.Turns.{is_open}
-use Rattle.lfm_core.specs.laws.Schedules as Schedules
-use Rattle.lfm_core.specs.laws.Schedules.{is_call}
+use Rattle.lfm_laws.specs.laws.Schedules as Schedules
+use Rattle.lfm_laws.specs.laws.Schedules.{is_call}
 use Rattle.lfm_condvar.specs.laws.Condvars.{Waiter, Condvar, Stage, outside, locking_to_wait, starting, receiving, locking_to_wake, claiming, sending, unlocking, CondvarCore, point_of, put_stage, put_condvar, put_mutex, put_holder, is_listed, condvar_start}
 
 pub data CondvarEvent : Type 0 where

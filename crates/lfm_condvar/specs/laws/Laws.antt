@@ -8,8 +8,8 @@ use Rattle.lfm_protocol.specs.Limits.{are_in_limits}
 use Rattle.lfm_protocol.specs.Seats.{seat, wake}
 use Rattle.lfm_protocol.specs.Step.{step}
 use Rattle.lfm_protocol.specs.Turns.{is_open}
-use Rattle.lfm_core.specs.laws.Laws.{IsReached}
-use Rattle.lfm_core.specs.laws.Schedules as Schedules
+use Rattle.lfm_laws.specs.laws.Laws.{IsReached}
+use Rattle.lfm_laws.specs.laws.Schedules as Schedules
 use Rattle.lfm_condvar.specs.laws.Claims.{claim_record, claims_on, seats_with}
 use Rattle.lfm_condvar.specs.laws.Condvars.{Waiter, Condvar, outside, locking_to_wait, receiving, unlocking, CondvarCore, point_of, put_mutex, is_listed, condvar_start}
 use Rattle.lfm_condvar.specs.laws.Events.{CondvarEvent, as_event, is_own_event, happens, run_of, reached}

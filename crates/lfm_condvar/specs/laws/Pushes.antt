@@ -1,7 +1,7 @@
 -- The pushes of a run: each record that the send of a wake put into the push list of the user mutex, for its target.
 use Rattle.std.specs.Prelude.{ℕ, ◌++◌, List, [], ◌∷◌, map}
 use Rattle.lfm_words.specs.declared.pop_lists.Record.{Record}
-use Rattle.lfm_core.specs.laws.Events.{pushed_by}
+use Rattle.lfm_laws.specs.laws.Events.{pushed_by}
 use Rattle.lfm_condvar.specs.laws.Claims.{Claim}
 use Rattle.lfm_condvar.specs.laws.Condvars.{Stage, sending, CondvarCore}
 use Rattle.lfm_condvar.specs.laws.Events.{CondvarEvent, makes, happens}

@@ -1,5 +1,5 @@
 -- A whole text is read as a schedule just where it spells it, and Limit is answered just where it is too long or out of range.
-use Rattle.std.proofs.Common.{◌≡◌, ◌≢◌, ◌≤◌, ◌<◌, ◌^◌, ◌⊎◌, inl, inr, ℕ, Bool, true, false, cond, List, Result, Ok, Err, refl, ◌∙◌, ap, arith, tests}
+use Rattle.std.proofs.Common.{◌≡◌, ◌≢◌, ◌≤◌, ◌<◌, ◌^◌, ◌⊎◌, inl, inr, ℕ, Bool, true, false, cond, List, Result, Ok, Err, refl, ◌∙◌, arith, tests}
 use Rattle.lfm_core.specs.declared.text.schedule.Line.{Line}
 use Rattle.lfm_core.specs.declared.text.faults.ReplayFault.{ReplayFault}
 use Rattle.lfm_core.specs.declared.text.faults.ReplayFault.TheVariants.{Syntax, Limit}
@@ -10,7 +10,7 @@ use Rattle.lfm_protocol.specs.Limits.{max_seats, max_budget, are_in_limits}
 use Rattle.lfm_core.specs.text.Spelling.{line_spelling, header_spelling, plan_spelling, IsWritable, IsWritablePlan, SpellsFirst, SpellsWritable, SpellsPlan, SpellsOutOfRange}
 use Rattle.lfm_text.proofs.FirstFaults.{AreApart}
 use Rattle.lfm_text.proofs.Spelled.{AreSpelled, Says, said_all, said_only, limit_only, written}
-use Rattle.lfm_core.proofs.texts.Decoding.{line_decodes, spelled_decodes, spelled_header_decodes, no_feed_in_line, no_feed_in_header}
+use Rattle.lfm_core.proofs.texts.Decoding.{spelled_decodes, spelled_header_decodes, no_feed_in_line, no_feed_in_header}
 use Rattle.lfm_core.proofs.texts.Spelled.{line_only, header_only}
 
 -- the faults of schedules are told apart

@@ -7,7 +7,7 @@ use Rattle.lfm_core.specs.declared.text.schedule.Line.{Line}
 use Rattle.lfm_protocol.specs.Core.{Core, Moved}
 use Rattle.lfm_protocol.specs.Step.{begin}
 use Rattle.lfm_protocol.specs.Turns.{longest_call}
-pub use Rattle.lfm_core.specs.laws.Schedules.{steps}
+pub use Rattle.lfm_laws.specs.laws.Schedules.{steps}
 
 abbrev pub act_moved : Core → ℕ → Act → Moved
 act_moved c s (Begin call) = begin c s call

@@ -1,68 +1,17 @@
-//! The invariant: every state is steady, each turn keeps it so, and an atomic step touches one word and one seat. A mutex that runs
-//! on shared words stands on these.
-ghost use Rattle.lfm_core.specs.laws.Steadiness.{
-  StatesAreSteady,
-  StepsKeepSteady,
-  StepsTouchOneWordAndOneSeat,
-  BeginsTouchOneSeat,
-  StepsSeeOneWordAndOneSeat,
-  StepsAtATable,
-  ReachedAreNarrow,
-};
-ghost use Rattle.lfm_core.specs.steady.Steady.{Steady};
+//! The invariant: each `State` is steady. The laws of all states and turns are passed on.
+ghost use Rattle.lfm_laws.specs.steady.Steady.{Steady};
 
 use crate::stepped::State;
-
-/// Every reached state is steady.
-///
-/// Definition: `StatesAreSteady` in `specs/laws/Steadiness.antt`, with the invariant in `specs/steady/Steady.antt`. Proof:
-/// `proofs/lawful/runs/KeptSteady.antt`.
-pub fn states_are_steady()
-    ensures { StatesAreSteady }
-{}
+pub use lfm_laws::steadiness::{
+    begins_touch_one_seat, states_are_steady, steps_at_a_table, steps_keep_steady,
+    steps_touch_one_word_and_one_seat,
+};
 
 /// Every value of type `State` is steady.
 ///
-/// Definition: `Steady` in `specs/steady/Steady.antt`. Proof: the invariant that `State` carries.
+/// Definition: `Steady` in `crates/lfm_laws/specs/steady/Steady.antt`. Proof: the invariant that `State` carries.
 pub fn every_state_is_steady(state: &State)
     ensures { Steady state.now }
 {
     state.steady();
 }
-
-/// Let any ghost fit a state. After a begin or a step a ghost fits again. Between the two lies the case of the event, and
-/// the records of pushes, of records that left and of answers grow by what the event says.
-///
-/// Definition: `StepsKeepSteady` in `specs/laws/Steadiness.antt`. Proof: `proofs/lawful/runs/KeptSteady.antt`, which goes by
-/// point in `proofs/steady/StepsKept.antt`.
-pub fn steps_keep_steady()
-    ensures { StepsKeepSteady }
-{}
-
-/// A step changes only the word that the table of kinds names for its point, none if it is a load, and only the seat that
-/// makes it. What it answers, and what its seat becomes, depend on that word, that seat and the oldest record of the pop
-/// list alone.
-///
-/// Definitions: `StepsTouchOneWordAndOneSeat` and `StepsSeeOneWordAndOneSeat` in `specs/laws/Steadiness.antt`. Proof:
-/// `proofs/lawful/touched/OneSeat.antt`, which goes by word in `proofs/lawful/touched/OneWord.antt`.
-pub fn steps_touch_one_word_and_one_seat()
-    ensures touches { StepsTouchOneWordAndOneSeat }
-    ensures sees { StepsSeeOneWordAndOneSeat }
-{}
-
-/// A begin changes its seat alone.
-///
-/// Definition: `BeginsTouchOneSeat` in `specs/laws/Steadiness.antt`. Proof: `proofs/lawful/touched/OneSeat.antt`.
-pub fn begins_touch_one_seat()
-    ensures { BeginsTouchOneSeat }
-{}
-
-/// A step at a list of packed numbers changes the one number of its place, the seat, the pop list and the ghost as the step
-/// of the core does. Its premise, that seat numbers which were read are below 65,536, holds of every reached state.
-///
-/// Definitions: `StepsAtATable` and `ReachedAreNarrow` in `specs/laws/Steadiness.antt`, with `TableStep` in
-/// `specs/table/Carried.antt`. Proofs: `proofs/table/TableSteps.antt` and `proofs/lawful/runs/KeptSteady.antt`.
-pub fn steps_at_a_table()
-    ensures step { StepsAtATable }
-    ensures narrow { ReachedAreNarrow }
-{}

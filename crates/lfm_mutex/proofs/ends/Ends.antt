@@ -17,10 +17,10 @@ use Rattle.lfm_protocol.specs.declared.points.Point.TheVariants.{Rest, Asleep}
 use Rattle.lfm_protocol.specs.declared.points.Sleeper.{Sleeper}
 use Rattle.lfm_protocol.specs.declared.seats.SeatState.{SeatState}
 use Rattle.lfm_protocol.specs.Begin as Begin
-use Rattle.lfm_core.specs.table.Carried.{carries_value}
+use Rattle.lfm_laws.specs.table.Carried.{carries_value}
 use Rattle.lfm_protocol.specs.Seats.{seat}
-use Rattle.lfm_core.specs.table.Settles.{begun}
-use Rattle.lfm_core.proofs.steady.frames.Entries.{seat_zero}
+use Rattle.lfm_laws.specs.table.Settles.{begun}
+use Rattle.lfm_laws.proofs.steady.frames.Entries.{seat_zero}
 use Rattle.lfm_model.specs.declared.refusals.Missing.{Missing}
 use Rattle.lfm_model.specs.declared.refusals.Missing.TheVariants.{NotBack, Holding, Asleep as Sleeping}
 use Rattle.lfm_table.specs.declared.seat_view.Role.{Role}

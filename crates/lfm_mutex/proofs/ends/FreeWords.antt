@@ -4,10 +4,10 @@ use Rattle.std.proofs.lemmas.Bool.{cases_eq}
 use Rattle.lfm_protocol.specs.declared.points.Point.TheVariants.{Rest, Asleep}
 use Rattle.lfm_protocol.specs.Core.{Core}
 use Rattle.lfm_protocol.specs.Seats.{seat}
-use Rattle.lfm_core.specs.laws.Laws.{IsHeld, IsGranted}
-use Rattle.lfm_core.specs.steady.Ghost.{Ghost}
-use Rattle.lfm_core.specs.steady.Steady.{Fits, Steady, cleared}
-use Rattle.lfm_core.proofs.lawful.states.StateLaws.{quiescent_states_rest}
+use Rattle.lfm_laws.specs.laws.Laws.{IsHeld, IsGranted}
+use Rattle.lfm_laws.specs.steady.Ghost.{Ghost}
+use Rattle.lfm_laws.specs.steady.Steady.{Fits, Steady, cleared}
+use Rattle.lfm_laws.proofs.lawful.states.StateLaws.{quiescent_states_rest}
 use Rattle.lfm_mutex.specs.Close.{IsFree}
 
 empty : {A : Type 0} (l : List A) → length l ≡ 0 → l ≡ []

@@ -17,18 +17,18 @@ use Rattle.lfm_words.specs.Words.{link_word, wake_word}
 use Rattle.lfm_protocol.specs.declared.limits.Limits.{Limits}
 use Rattle.lfm_protocol.specs.declared.points.Point.TheVariants.{Rest, TryOwnerLoad}
 use Rattle.lfm_protocol.specs.declared.seats.SeatState.{SeatState}
-use Rattle.lfm_core.specs.table.Carried.{carries_value}
+use Rattle.lfm_laws.specs.table.Carried.{carries_value}
 use Rattle.lfm_protocol.specs.Core.{Core, limits}
-use Rattle.lfm_core.specs.steady.Ghost.{Ghost}
+use Rattle.lfm_laws.specs.steady.Ghost.{Ghost}
 use Rattle.lfm_protocol.specs.Limits.{are_in_limits}
 use Rattle.lfm_protocol.specs.Seats.{seat, entry, absent, no_link, IsSeat}
-use Rattle.lfm_core.specs.steady.Steady.{Fits}
+use Rattle.lfm_laws.specs.steady.Steady.{Fits}
 use Rattle.lfm_protocol.specs.Step.{start}
-use Rattle.lfm_core.specs.table.Words.{words}
-use Rattle.lfm_core.proofs.steady.Start.{start_steady, few_seats, small_budget}
-use Rattle.lfm_core.proofs.table.Starts.{start_narrow}
-use Rattle.lfm_core.proofs.table.Ready.{packs_none, packs_unposted}
-use Rattle.lfm_core.specs.table.Ready.{IsReady}
+use Rattle.lfm_laws.specs.table.Words.{words}
+use Rattle.lfm_laws.proofs.steady.Start.{start_steady, few_seats, small_budget}
+use Rattle.lfm_laws.proofs.table.Starts.{start_narrow}
+use Rattle.lfm_laws.proofs.table.Ready.{packs_none, packs_unposted}
+use Rattle.lfm_laws.specs.table.Ready.{IsReady}
 use Rattle.lfm_table.specs.declared.seat_view.Role.{Role}
 use Rattle.lfm_table.specs.declared.seat_view.Role.TheVariants.{User, Retired}
 use Rattle.lfm_table.specs.declared.seat_view.Joined.{Joined}

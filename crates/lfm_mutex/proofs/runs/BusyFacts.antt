@@ -8,7 +8,7 @@ use Rattle.lfm_protocol.specs.declared.points.Point.TheVariants.{Rest, TryCountE
 use Rattle.lfm_protocol.specs.declared.seats.SeatState.{SeatState}
 use Rattle.lfm_protocol.specs.After.{same_handoff, busy}
 use Rattle.lfm_protocol.specs.Begin.{goes_on}
-use Rattle.lfm_core.specs.table.Words.{handoff_of}
+use Rattle.lfm_laws.specs.table.Words.{handoff_of}
 use Rattle.lfm_mutex.specs.calls.Runs.{end_of, trail_of}
 use Rattle.lfm_table.specs.Rule.{seen}
 use Rattle.lfm_model.specs.declared.refusals.Refusal.{Refusal}

@@ -19,7 +19,7 @@ use Rattle.lfm_table.specs.Rule.{value_in, LastHold, last_hold}
 use Rattle.lfm_mutex.specs.calls.Runs.{errand_of, is_releasing, is_release, Ends, Ran, CalledBy, Holds, opens}
 use Rattle.lfm_table.specs.Seats.{Seated}
 use Rattle.lfm_mutex.specs.calls.Sight.{Concludes, sight_of}
-use Rattle.lfm_core.specs.table.Words.{stepped_by}
+use Rattle.lfm_laws.specs.table.Words.{stepped_by}
 use Rattle.lfm_table.specs.Steps.{Event, oldest_in}
 use Rattle.lfm_table.specs.Straight.{Fit, MadeStep}
 use Rattle.lfm_mutex.specs.calls.Straight.{Course, ComesTo}

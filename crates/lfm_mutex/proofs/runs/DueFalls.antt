@@ -19,8 +19,8 @@ use Rattle.lfm_protocol.specs.After.{same_link, same_handoff, pushed, claims, ta
 use Rattle.lfm_protocol.specs.Begin.{Stepped, goes_on, ends}
 use Rattle.lfm_protocol.specs.Points.{kind}
 use Rattle.lfm_protocol.specs.Room.{PopFits}
-use Rattle.lfm_core.specs.steady.Views.{waits_on}
-use Rattle.lfm_core.specs.table.Words.{stepped_by, handoff_of, wake_of, link_of}
+use Rattle.lfm_laws.specs.steady.Views.{waits_on}
+use Rattle.lfm_laws.specs.table.Words.{stepped_by, handoff_of, wake_of, link_of}
 use Rattle.lfm_table.specs.Rule.{CollectsWithin}
 use Rattle.lfm_table.proofs.tables.StepFacts.{made_of}
 use Rattle.lfm_mutex.specs.calls.Due.{due}

@@ -15,7 +15,7 @@ use Rattle.lfm_protocol.specs.declared.points.Sleeper.{Sleeper}
 use Rattle.lfm_protocol.specs.declared.seats.SeatState.{SeatState}
 use Rattle.lfm_protocol.specs.After.{same_link, same_handoff, releases, pushed, granted, receives, claims, carrier_of, take, serves, once_cleared, busy, found_posted, loaded}
 use Rattle.lfm_protocol.specs.Begin.{Stepped, goes_on}
-use Rattle.lfm_core.specs.table.Words.{stepped_by, handoff_of, wake_of, link_of}
+use Rattle.lfm_laws.specs.table.Words.{stepped_by, handoff_of, wake_of, link_of}
 use Rattle.lfm_table.proofs.tables.StepFacts.{made_of}
 use Rattle.lfm_mutex.specs.calls.Runs.{is_release}
 

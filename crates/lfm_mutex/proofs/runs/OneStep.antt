@@ -18,9 +18,9 @@ use Rattle.lfm_protocol.specs.declared.points.Point.TheVariants.{ReleaseOwnerSto
 use Rattle.lfm_protocol.specs.declared.points.Releaser.{Releaser}
 use Rattle.lfm_protocol.specs.declared.seats.SeatState.{SeatState}
 use Rattle.lfm_protocol.specs.Points.{kind}
-use Rattle.lfm_core.specs.steady.Steady.{DepthAt}
-use Rattle.lfm_core.specs.table.Carried.{carries_value}
-use Rattle.lfm_core.specs.table.Words.{stepped_by}
+use Rattle.lfm_laws.specs.steady.Steady.{DepthAt}
+use Rattle.lfm_laws.specs.table.Carried.{carries_value}
+use Rattle.lfm_laws.specs.table.Words.{stepped_by}
 use Rattle.lfm_table.specs.declared.seat_view.View.{View}
 use Rattle.lfm_table.specs.declared.rule.Moving.{Moving}
 use Rattle.lfm_table.specs.Rule.{value_in, LastHold, last_hold, is_carried}

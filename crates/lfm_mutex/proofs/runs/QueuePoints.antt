@@ -12,8 +12,8 @@ use Rattle.lfm_protocol.specs.declared.points.Point.TheVariants.{Asleep, LinkSto
 use Rattle.lfm_protocol.specs.declared.points.Pusher.{Pusher}
 use Rattle.lfm_protocol.specs.declared.points.Sleeper.{Sleeper}
 use Rattle.lfm_protocol.specs.Begin.{Stepped}
-use Rattle.lfm_core.specs.table.Carried.{carries_value}
-use Rattle.lfm_core.specs.table.Words.{stepped_by, handoff_of, link_of}
+use Rattle.lfm_laws.specs.table.Carried.{carries_value}
+use Rattle.lfm_laws.specs.table.Words.{stepped_by, handoff_of, link_of}
 use Rattle.lfm_mutex.specs.calls.Runs.{opens}
 use Rattle.lfm_table.proofs.tables.StepFacts.{made_of}
 

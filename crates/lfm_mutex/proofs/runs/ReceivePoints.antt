@@ -15,8 +15,8 @@ use Rattle.lfm_protocol.specs.declared.seats.SeatState.{SeatState}
 use Rattle.lfm_protocol.specs.After.{after_wake_load, how_granted}
 use Rattle.lfm_protocol.specs.Begin as Begin
 use Rattle.lfm_protocol.specs.Begin.{Stepped}
-use Rattle.lfm_core.specs.table.Carried.{carries_value}
-use Rattle.lfm_core.specs.table.Words.{stepped_by}
+use Rattle.lfm_laws.specs.table.Carried.{carries_value}
+use Rattle.lfm_laws.specs.table.Words.{stepped_by}
 use Rattle.lfm_mutex.specs.calls.Runs.{opens}
 use Rattle.lfm_table.proofs.tables.StepFacts.{made_of}
 

@@ -21,9 +21,9 @@ use Rattle.lfm_protocol.specs.After.{same_link, same_handoff, releases, pushed, 
 use Rattle.lfm_protocol.specs.Begin.{Stepped, goes_on}
 use Rattle.lfm_protocol.specs.Points.{kind}
 use Rattle.lfm_protocol.specs.Room.{PopFits}
-use Rattle.lfm_core.specs.steady.Steady.{IsSeen}
-use Rattle.lfm_core.specs.steady.Views.{waits_on}
-use Rattle.lfm_core.specs.table.Words.{stepped_by, handoff_of, wake_of, link_of}
+use Rattle.lfm_laws.specs.steady.Steady.{IsSeen}
+use Rattle.lfm_laws.specs.steady.Views.{waits_on}
+use Rattle.lfm_laws.specs.table.Words.{stepped_by, handoff_of, wake_of, link_of}
 use Rattle.lfm_mutex.specs.calls.Runs.{Errand, locking, trying, releasing, sending, receiving, nothing, pushes, carries_for, errand, IsTurn, left, clearing, collecting, granting, weight, how_held, is_release}
 use Rattle.lfm_table.specs.Rule.{CollectsWithin}
 use Rattle.lfm_mutex.proofs.runs.FirstPoints.{no_first, later_releases_not}

@@ -22,18 +22,18 @@ use Rattle.lfm_protocol.specs.declared.points.Point.{Point}
 use Rattle.lfm_protocol.specs.declared.points.Point.TheVariants.{Rest, Asleep, LockCountAdd, TryCountExchange, SendWakeExchange, ReleaseOwnerStore, EnterOwnerStore, TakeLinkLoad}
 use Rattle.lfm_protocol.specs.declared.seats.SeatState.{SeatState}
 use Rattle.lfm_protocol.specs.Begin.{Stepped, goes_on, refuses, charges}
-use Rattle.lfm_core.specs.table.Carried.{carries_value}
+use Rattle.lfm_laws.specs.table.Carried.{carries_value}
 use Rattle.lfm_protocol.specs.Place.{carries}
 use Rattle.lfm_protocol.specs.Points.{kind, target}
-use Rattle.lfm_core.specs.table.Ready.{IsReady, PacksLink}
+use Rattle.lfm_laws.specs.table.Ready.{IsReady, PacksLink}
 use Rattle.lfm_protocol.specs.Room.{PopFits}
-use Rattle.lfm_core.specs.steady.Steady.{DepthAt}
-use Rattle.lfm_core.specs.laws.Events.{answered, answered_by}
+use Rattle.lfm_laws.specs.steady.Steady.{DepthAt}
+use Rattle.lfm_laws.specs.laws.Events.{answered, answered_by}
 use Rattle.lfm_protocol.specs.After.{held}
 use Rattle.lfm_model.specs.declared.answers.How.{How}
 use Rattle.lfm_protocol.specs.declared.points.Entrant.{Entrant}
 use Rattle.lfm_protocol.specs.Stores.{expected_push_at}
-use Rattle.lfm_core.specs.table.Words.{stepped_by, popped_of}
+use Rattle.lfm_laws.specs.table.Words.{stepped_by, popped_of}
 use Rattle.lfm_table.specs.declared.seat_view.Seen.{Seen}
 use Rattle.lfm_table.specs.declared.seat_view.View.{View}
 use Rattle.lfm_table.specs.declared.rule.Moving.{Moving}

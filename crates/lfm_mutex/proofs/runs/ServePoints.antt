@@ -9,7 +9,7 @@ use Rattle.lfm_protocol.specs.declared.points.Carrier.{Carrier}
 use Rattle.lfm_protocol.specs.declared.points.Point.TheVariants.{GrantWakeStore, ReleaseHandoffStore, Rest, TakeClearHead, TakeLinkLoad}
 use Rattle.lfm_protocol.specs.declared.points.Releaser.TheVariants.{Unlocker}
 use Rattle.lfm_protocol.specs.After.{loaded}
-use Rattle.lfm_core.specs.table.Words.{stepped_by, link_of}
+use Rattle.lfm_laws.specs.table.Words.{stepped_by, link_of}
 use Rattle.lfm_mutex.specs.calls.Runs.{opens}
 use Rattle.lfm_table.proofs.tables.StepFacts.{made_of}
 

@@ -23,7 +23,7 @@ use Rattle.lfm_protocol.specs.After.{same_handoff, busy, receives}
 use Rattle.lfm_protocol.specs.Begin as Begin
 use Rattle.lfm_protocol.specs.Begin.{Stepped, goes_on, refuses}
 use Rattle.lfm_protocol.specs.Points.{kind}
-use Rattle.lfm_core.specs.table.Words.{stepped_by, stepped_of, handoff_of, wake_of}
+use Rattle.lfm_laws.specs.table.Words.{stepped_by, stepped_of, handoff_of, wake_of}
 use Rattle.lfm_table.proofs.tables.StepFacts.{made_of}
 use Rattle.lfm_mutex.specs.calls.Runs.{end_of, trail_of, opens}
 use Rattle.lfm_mutex.specs.calls.Sight.{Sight, Locks, Receives, BusySeen}

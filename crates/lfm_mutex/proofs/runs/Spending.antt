@@ -4,7 +4,7 @@ use Rattle.lfm_words.specs.Popped.{oldest}
 use Rattle.lfm_protocol.specs.declared.answers.Turn.{Turn}
 use Rattle.lfm_protocol.specs.declared.seats.SeatState.{SeatState}
 use Rattle.lfm_protocol.specs.Points.{kind}
-use Rattle.lfm_core.specs.table.Ready.{IsReady}
+use Rattle.lfm_laws.specs.table.Ready.{IsReady}
 use Rattle.lfm_table.specs.declared.rule.Moving.{Moving}
 use Rattle.lfm_table.specs.declared.seat_view.Seen.{Seen}
 use Rattle.lfm_table.specs.declared.seat_view.View.{View}

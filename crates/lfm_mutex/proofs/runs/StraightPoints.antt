@@ -21,11 +21,11 @@ use Rattle.lfm_model.specs.declared.answers.Locked.{Locked}
 use Rattle.lfm_model.specs.declared.answers.Unlocked.{Unlocked}
 use Rattle.lfm_protocol.specs.After.{take, busy}
 use Rattle.lfm_protocol.specs.Place.{carries}
-use Rattle.lfm_core.specs.table.Carried.{carries_value}
+use Rattle.lfm_laws.specs.table.Carried.{carries_value}
 use Rattle.lfm_protocol.specs.declared.seats.SeatState.{SeatState}
 use Rattle.lfm_protocol.specs.Begin as Begin
 use Rattle.lfm_protocol.specs.Begin.{Stepped}
-use Rattle.lfm_core.specs.table.Words.{stepped_by, handoff_of}
+use Rattle.lfm_laws.specs.table.Words.{stepped_by, handoff_of}
 use Rattle.lfm_table.specs.declared.seat_view.View.{View}
 use Rattle.lfm_table.specs.declared.rule.Moving.{Moving}
 use Rattle.lfm_mutex.specs.calls.Runs.{opens, errand, releasing, is_release}

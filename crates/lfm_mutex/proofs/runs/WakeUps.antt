@@ -13,8 +13,8 @@ use Rattle.lfm_protocol.specs.declared.points.Point.TheVariants.{GrantWakeStore,
 use Rattle.lfm_protocol.specs.declared.points.Releaser.TheVariants.{Unlocker, Waiter}
 use Rattle.lfm_protocol.specs.declared.seats.SeatState.{SeatState}
 use Rattle.lfm_protocol.specs.Points.{target}
-use Rattle.lfm_core.specs.table.Ready.{IsReady}
-use Rattle.lfm_core.specs.table.Words.{stepped_by}
+use Rattle.lfm_laws.specs.table.Ready.{IsReady}
+use Rattle.lfm_laws.specs.table.Words.{stepped_by}
 use Rattle.lfm_table.specs.declared.rule.Moving.{Moving}
 use Rattle.lfm_table.specs.declared.seat_view.Seen.{Seen}
 use Rattle.lfm_table.specs.declared.seat_view.View.{View}

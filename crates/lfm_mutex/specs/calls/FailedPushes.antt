@@ -4,7 +4,7 @@ use Rattle.std.specs.Prelude.{◌≡◌, ℕ, ◌+◌, ◌*◌, ◌≤◌, List,
 use Rattle.lfm_protocol.specs.declared.points.Point.{Point}
 use Rattle.lfm_protocol.specs.declared.points.Point.TheVariants.{PushExchange}
 use Rattle.lfm_protocol.specs.After.{same_link}
-use Rattle.lfm_core.specs.table.Words.{link_of}
+use Rattle.lfm_laws.specs.table.Words.{link_of}
 use Rattle.lfm_table.specs.declared.seat_view.Seen.{Seen}
 use Rattle.lfm_mutex.specs.calls.Sight.{Sight}
 

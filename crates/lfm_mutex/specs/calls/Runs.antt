@@ -24,8 +24,8 @@ use Rattle.lfm_protocol.specs.declared.points.Releaser.{Releaser}
 use Rattle.lfm_protocol.specs.declared.points.Releaser.TheVariants.{Unlocker, Waiter}
 use Rattle.lfm_protocol.specs.declared.seats.SeatState.{SeatState}
 use Rattle.lfm_protocol.specs.Begin.{Stepped}
-use Rattle.lfm_core.specs.steady.Views.{waits_on}
-use Rattle.lfm_core.specs.table.Words.{stepped_by}
+use Rattle.lfm_laws.specs.steady.Views.{waits_on}
+use Rattle.lfm_laws.specs.table.Words.{stepped_by}
 use Rattle.lfm_table.specs.declared.seat_view.Seen.{Seen}
 use Rattle.lfm_table.specs.declared.seat_view.View.{View}
 use Rattle.lfm_table.specs.declared.rule.Moving.{Moving}

@@ -10,7 +10,7 @@ use Rattle.lfm_protocol.specs.declared.kinds.Kind.{Kind}
 use Rattle.lfm_protocol.specs.declared.limits.Limits.{Limits}
 use Rattle.lfm_protocol.specs.declared.seats.SeatState.{SeatState}
 use Rattle.lfm_protocol.specs.Begin.{begin}
-use Rattle.lfm_core.specs.table.Words.{stepped_by}
+use Rattle.lfm_laws.specs.table.Words.{stepped_by}
 use Rattle.lfm_table.specs.Rule.{seen}
 use Rattle.lfm_mutex.specs.calls.Runs.{how_held, is_release}
 use Rattle.lfm_mutex.specs.calls.Sight.{Sight, is_asleep, is_in_call, Finds}

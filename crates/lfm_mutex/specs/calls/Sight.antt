@@ -18,7 +18,7 @@ use Rattle.lfm_protocol.specs.declared.points.Point.TheVariants.{Rest, Asleep, S
 use Rattle.lfm_protocol.specs.declared.seats.SeatState.{SeatState}
 use Rattle.lfm_protocol.specs.After.{same_handoff}
 use Rattle.lfm_protocol.specs.Limits.{max_depth}
-use Rattle.lfm_core.specs.table.Words.{handoff_of, wake_of}
+use Rattle.lfm_laws.specs.table.Words.{handoff_of, wake_of}
 use Rattle.lfm_mutex.specs.declared.seat.Seat.{Seat}
 use Rattle.lfm_table.specs.declared.seat_view.Seen.{Seen}
 use Rattle.lfm_table.specs.declared.seat_view.View.{View}

@@ -5,7 +5,7 @@ use Rattle.atomic_table.specs.Table.{Me, Allows}
 use Rattle.lfm_protocol.specs.declared.kinds.Kind.{Kind}
 use Rattle.lfm_protocol.specs.declared.seats.SeatState.{SeatState}
 use Rattle.lfm_protocol.specs.Points.{kind, target}
-use Rattle.lfm_core.specs.table.Words.{index_by, written_by}
+use Rattle.lfm_laws.specs.table.Words.{index_by, written_by}
 use Rattle.lfm_table.specs.declared.seat_view.View.{View}
 use Rattle.lfm_table.specs.declared.rule.Moving.{Moving}
 use Rattle.lfm_table.specs.Rule.{Held, Advanced}

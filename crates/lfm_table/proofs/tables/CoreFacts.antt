@@ -10,24 +10,24 @@ use Rattle.lfm_protocol.specs.declared.points.Point.{Point}
 use Rattle.lfm_protocol.specs.declared.points.Point.TheVariants.{Rest, Asleep, LockCountAdd, LockOwnerLoad, LockCountSubtract, TryCountExchange, TryOwnerLoad, TryHandoffLoad, TryHandoffExchange, TryCountAdd, SendWakeExchange, SendCountAdd, SendPushRecheck, SendWakeStore, PushLoad, LinkStore, PushExchange, PushedHandoffLoad, PushedHandoffExchange, ReleaseOwnerStore, ReleaseCountSubtract, ReleaseHandoffStore, ReleasePushRecheck, ReleaseHandoffExchange, WaitWakeStore, TakeClearHead, TakeLinkLoad, GrantWakeStore, EnterOwnerStore, ReceiveWakeLoad, ReceiveWakeStore}
 use Rattle.lfm_protocol.specs.declared.points.Pusher.{Pusher}
 use Rattle.lfm_protocol.specs.declared.seats.SeatState.{SeatState}
-use Rattle.lfm_core.specs.table.Carried.{carries_value}
+use Rattle.lfm_laws.specs.table.Carried.{carries_value}
 use Rattle.lfm_protocol.specs.Core.{Core, put, limits}
-use Rattle.lfm_core.specs.steady.Ghost.{apart, Responsibility, nobody, owned, granted, posted, entering, accepting, leaving, serving, Ghost}
+use Rattle.lfm_laws.specs.steady.Ghost.{apart, Responsibility, nobody, owned, granted, posted, entering, accepting, leaving, serving, Ghost}
 use Rattle.lfm_protocol.specs.Points.{kind}
 use Rattle.lfm_protocol.specs.Room.{PopFits}
 use Rattle.lfm_protocol.specs.Seats.{seat, IsSeat}
-use Rattle.lfm_core.specs.table.Settles.{Settles}
-use Rattle.lfm_core.specs.steady.Steady.{DepthOfPusher, DepthAt, IsSeen, Fits, owner_of, queued_unit}
-use Rattle.lfm_core.specs.steady.Views.{claim_at, claim_of_pusher, claim_to_enter, held_by}
-use Rattle.lfm_core.specs.table.Words.{link_of}
-use Rattle.lfm_core.proofs.steady.frames.Entries.{seat-with_same, length-with_entry}
-use Rattle.lfm_core.proofs.steady.frames.Sums.{sum_bound_less}
-use Rattle.lfm_core.proofs.steady.Room.{has_room_of_fits, queued_unit-le}
-use Rattle.lfm_core.proofs.table.Answered.{answered_at_hold}
-use Rattle.lfm_core.proofs.table.Exact.{push_narrow}
-use Rattle.lfm_core.proofs.table.Packing.{link_packed}
-use Rattle.lfm_core.proofs.table.Settled.{settles_keeps, is_seat-with}
-use Rattle.lfm_core.proofs.table.Values.{carried_as_held}
+use Rattle.lfm_laws.specs.table.Settles.{Settles}
+use Rattle.lfm_laws.specs.steady.Steady.{DepthOfPusher, DepthAt, IsSeen, Fits, owner_of, queued_unit}
+use Rattle.lfm_laws.specs.steady.Views.{claim_at, claim_of_pusher, claim_to_enter, held_by}
+use Rattle.lfm_laws.specs.table.Words.{link_of}
+use Rattle.lfm_laws.proofs.steady.frames.Entries.{seat-with_same, length-with_entry}
+use Rattle.lfm_laws.proofs.steady.frames.Sums.{sum_bound_less}
+use Rattle.lfm_laws.proofs.steady.Room.{has_room_of_fits, queued_unit-le}
+use Rattle.lfm_laws.proofs.table.Answered.{answered_at_hold}
+use Rattle.lfm_laws.proofs.table.Exact.{push_narrow}
+use Rattle.lfm_laws.proofs.table.Packing.{link_packed}
+use Rattle.lfm_laws.proofs.table.Settled.{settles_keeps, is_seat-with}
+use Rattle.lfm_laws.proofs.table.Values.{carried_as_held}
 use Rattle.lfm_table.specs.Rule.{CollectsWithin}
 
 -- The owner word

@@ -18,23 +18,23 @@ use Rattle.lfm_protocol.specs.declared.points.Pusher.{Pusher}
 use Rattle.lfm_protocol.specs.declared.points.Releaser.{Releaser}
 use Rattle.lfm_protocol.specs.declared.seats.SeatState.{SeatState}
 use Rattle.lfm_protocol.specs.Begin as Begin
-use Rattle.lfm_core.specs.table.Carried.{carries_value, move, move_of, MovesValue, TableStep}
+use Rattle.lfm_laws.specs.table.Carried.{carries_value, move, move_of, MovesValue, TableStep}
 use Rattle.lfm_protocol.specs.Core.{Core, limits, put}
 use Rattle.lfm_protocol.specs.Step.{made}
-use Rattle.lfm_core.specs.laws.Events.{answered_by}
-use Rattle.lfm_core.specs.steady.Ghost.{Ghost}
-use Rattle.lfm_core.specs.steady.EventOutcome.{abstract}
+use Rattle.lfm_laws.specs.laws.Events.{answered_by}
+use Rattle.lfm_laws.specs.steady.Ghost.{Ghost}
+use Rattle.lfm_laws.specs.steady.EventOutcome.{abstract}
 use Rattle.lfm_protocol.specs.Place.{carries}
 use Rattle.lfm_protocol.specs.Points.{kind, target}
-use Rattle.lfm_core.specs.table.Ready.{IsReady}
+use Rattle.lfm_laws.specs.table.Ready.{IsReady}
 use Rattle.lfm_protocol.specs.Room.{PopFits}
 use Rattle.lfm_protocol.specs.Seats.{seat, with_entry, absent, IsSeat}
-use Rattle.lfm_core.specs.table.Settles.{Settles}
-use Rattle.lfm_core.specs.steady.Steady.{IsSeen}
-use Rattle.lfm_core.specs.table.Words.{words, index, index_by, written, stepped_by, popped_by_step, link_of}
-use Rattle.lfm_core.proofs.steady.frames.Entries.{seat-with_same, seat-with_other, length-with_entry}
-use Rattle.lfm_core.proofs.table.TableSteps.{table_step, found_at}
-use Rattle.lfm_core.proofs.table.Values.{tells_value, carried_alone}
+use Rattle.lfm_laws.specs.table.Settles.{Settles}
+use Rattle.lfm_laws.specs.steady.Steady.{IsSeen}
+use Rattle.lfm_laws.specs.table.Words.{words, index, index_by, written, stepped_by, popped_by_step, link_of}
+use Rattle.lfm_laws.proofs.steady.frames.Entries.{seat-with_same, seat-with_other, length-with_entry}
+use Rattle.lfm_laws.proofs.table.TableSteps.{table_step, found_at}
+use Rattle.lfm_laws.proofs.table.Values.{tells_value, carried_alone}
 use Rattle.lfm_table.specs.declared.seat_view.Role.{Role}
 use Rattle.lfm_table.specs.declared.seat_view.Role.TheVariants.{User, Retired}
 use Rattle.lfm_table.specs.declared.seat_view.Joined.{Joined}

@@ -14,11 +14,11 @@ use Rattle.lfm_protocol.specs.declared.points.Releaser.{Releaser}
 use Rattle.lfm_protocol.specs.declared.seats.SeatState.{SeatState}
 use Rattle.lfm_protocol.specs.After.{drops_oldest}
 use Rattle.lfm_protocol.specs.Begin as Begin
-use Rattle.lfm_core.specs.table.Carried.{carries_value}
+use Rattle.lfm_laws.specs.table.Carried.{carries_value}
 use Rattle.lfm_protocol.specs.Points.{kind, target}
-use Rattle.lfm_core.specs.table.Ready.{IsReady}
-use Rattle.lfm_core.specs.table.Words.{stepped_by, popped_by_step, popped_if}
-use Rattle.lfm_core.proofs.table.Unread.{oldest_unread}
+use Rattle.lfm_laws.specs.table.Ready.{IsReady}
+use Rattle.lfm_laws.specs.table.Words.{stepped_by, popped_by_step, popped_if}
+use Rattle.lfm_laws.proofs.table.Unread.{oldest_unread}
 use Rattle.lfm_table.specs.declared.seat_view.View.{View}
 use Rattle.lfm_table.specs.declared.rule.Moving.{Moving}
 use Rattle.lfm_table.specs.Rule.{value_in, in_hand, is_carried, left_by, Hands, Advanced}

@@ -11,7 +11,7 @@ use Rattle.lfm_protocol.specs.declared.points.Sleeper.{Sleeper}
 use Rattle.lfm_protocol.specs.declared.seats.SeatState.{SeatState}
 use Rattle.lfm_protocol.specs.Begin.{Stepped, begin_entry, begin_unlock, begin_wait, begin_send, begin_awake, begin_asleep, begin_at, charges, goes_on, refuses}
 use Rattle.lfm_protocol.specs.Begin as Begin
-use Rattle.lfm_core.specs.table.Settles.{begun, Settles}
+use Rattle.lfm_laws.specs.table.Settles.{begun, Settles}
 use Rattle.lfm_model.specs.declared.refusals.Refusal.{Refusal}
 use Rattle.lfm_table.specs.Settled.{unlocks, opened, calls_to, Became}
 

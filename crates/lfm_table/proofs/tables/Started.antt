@@ -5,9 +5,9 @@ use Rattle.lfm_protocol.specs.declared.answers.Call.{Call}
 use Rattle.lfm_protocol.specs.declared.limits.Limits.{Limits}
 use Rattle.lfm_protocol.specs.declared.seats.SeatState.{SeatState}
 use Rattle.lfm_protocol.specs.Begin as Begin
-use Rattle.lfm_core.specs.table.Carried.{carries_value}
-use Rattle.lfm_core.specs.table.Ready.{IsReady}
-use Rattle.lfm_core.proofs.table.ReadyBegins.{settles_ready}
+use Rattle.lfm_laws.specs.table.Carried.{carries_value}
+use Rattle.lfm_laws.specs.table.Ready.{IsReady}
+use Rattle.lfm_laws.proofs.table.ReadyBegins.{settles_ready}
 use Rattle.lfm_table.specs.declared.seat_view.View.{View}
 use Rattle.lfm_table.specs.declared.rule.Moving.{Moving}
 use Rattle.lfm_table.specs.Rule.{in_hand}

@@ -24,13 +24,13 @@ use Rattle.lfm_protocol.specs.declared.seats.SeatState.{SeatState}
 use Rattle.lfm_protocol.specs.After.{same_handoff, releases, pushed, granted, receives, claims, carrier_of, take, busy, found_posted, serves, once_cleared, drops_oldest, drops_oldest_at, how_granted}
 use Rattle.lfm_protocol.specs.Begin.{Stepped, goes_on, ends, refuses, charges, begin_awake, begin_asleep, begin_at}
 use Rattle.lfm_protocol.specs.Begin as Begin
-use Rattle.lfm_core.specs.table.Carried.{carries_value}
-use Rattle.lfm_core.specs.laws.Events.{answered_by}
+use Rattle.lfm_laws.specs.table.Carried.{carries_value}
+use Rattle.lfm_laws.specs.laws.Events.{answered_by}
 use Rattle.lfm_protocol.specs.Place.{carries}
 use Rattle.lfm_protocol.specs.Points.{kind, target}
-use Rattle.lfm_core.specs.table.Settles.{begun}
-use Rattle.lfm_core.specs.steady.Steady.{DepthAt}
-use Rattle.lfm_core.specs.table.Words.{stepped_of, stepped_by, popped_of, popped_by_step, popped_if, handoff_of, wake_of, link_of}
+use Rattle.lfm_laws.specs.table.Settles.{begun}
+use Rattle.lfm_laws.specs.steady.Steady.{DepthAt}
+use Rattle.lfm_laws.specs.table.Words.{stepped_of, stepped_by, popped_of, popped_by_step, popped_if, handoff_of, wake_of, link_of}
 use Rattle.lfm_table.specs.Rule.{left_by}
 use Rattle.lfm_table.specs.Settled.{Became, calls_to}
 use Rattle.lfm_table.specs.Steps.{stores, gives_at, add_by}

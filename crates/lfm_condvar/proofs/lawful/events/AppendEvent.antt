@@ -3,10 +3,10 @@ use Rattle.std.proofs.Common.{◌≡◌, ◌≢◌, ℕ, suc, true, false, ◌+�
 use Rattle.std.proofs.lemmas.Bool.{cases_eq, eq-eqb, ne_eqb}
 use Rattle.lfm_protocol.specs.declared.answers.Call.TheVariants.{StartWait}
 use Rattle.lfm_protocol.specs.Turns.{is_open}
-use Rattle.lfm_core.specs.steady.Numbered.{changed}
+use Rattle.lfm_laws.specs.steady.Numbered.{changed}
 use Rattle.lfm_protocol.specs.Seats.{IsSeat}
 use Rattle.lfm_protocol.specs.Step.{begin}
-use Rattle.lfm_core.proofs.steady.frames.Sums.{changed_same, changed_other}
+use Rattle.lfm_laws.proofs.steady.frames.Sums.{changed_same, changed_other}
 use Rattle.lfm_condvar.specs.laws.Condvars.{Condvar, locking_to_wait, starting, CondvarCore, put_stage, put_holder, is_listed}
 use Rattle.lfm_condvar.specs.laws.Events.{enlisted, enlists, takes_lock}
 use Rattle.lfm_condvar.proofs.lawful.Invariant.{CondvarGhost, CoreFits, claims_told}

@@ -2,11 +2,11 @@
 use Rattle.std.proofs.Common.{◌≡◌, ◌≢◌, ◌≤◌, ℕ, suc, Bool, ◌+◌, [], ◌∷◌, ◌++◌, refl, sym, ap, ◌∙◌, inl, inr, arith}
 use Rattle.std.proofs.lemmas.Bool.{cases_eq, eq-eqb, ne_eqb}
 use Rattle.lfm_words.specs.declared.wakes.Wake.TheVariants.{Waiting, Claimed}
-use Rattle.lfm_core.specs.steady.Numbered.{changed}
+use Rattle.lfm_laws.specs.steady.Numbered.{changed}
 use Rattle.lfm_protocol.specs.Seats.{wake}
 use Rattle.lfm_protocol.specs.Step.{made}
-use Rattle.lfm_core.proofs.steady.StepsKept.{made_keeps}
-use Rattle.lfm_core.proofs.steady.frames.Sums.{changed_same, changed_other}
+use Rattle.lfm_laws.proofs.steady.StepsKept.{made_keeps}
+use Rattle.lfm_laws.proofs.steady.frames.Sums.{changed_same, changed_other}
 use Rattle.lfm_condvar.specs.laws.Condvars.{Waiter, starting, receiving, claiming, sending, CondvarCore, point_of, put_stage, put_mutex}
 use Rattle.lfm_condvar.specs.laws.Claims.{Claim, claim_of, claimed_at, claims_on}
 use Rattle.lfm_condvar.specs.laws.Events.{claims_waiter}

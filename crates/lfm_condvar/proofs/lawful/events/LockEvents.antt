@@ -7,10 +7,10 @@ use Rattle.lfm_protocol.specs.declared.points.Point.TheVariants.{Rest, Asleep}
 use Rattle.lfm_protocol.specs.declared.points.Sleeper.{Sleeper}
 use Rattle.lfm_words.specs.declared.wakes.Wake.TheVariants.{Waiting}
 use Rattle.lfm_protocol.specs.Core.{Core}
-use Rattle.lfm_core.specs.laws.Schedules.{is_call}
+use Rattle.lfm_laws.specs.laws.Schedules.{is_call}
 use Rattle.lfm_protocol.specs.Seats.{wake, IsSeat}
 use Rattle.lfm_protocol.specs.Step.{begin}
-use Rattle.lfm_core.proofs.steady.frames.Sums.{changed_same, changed_other}
+use Rattle.lfm_laws.proofs.steady.frames.Sums.{changed_same, changed_other}
 use Rattle.lfm_condvar.specs.laws.Condvars.{Waiter, Condvar, Stage, outside, starting, receiving, locking_to_wake, claiming, sending, unlocking, CondvarCore, point_of, put_stage, put_mutex, put_condvar, put_holder}
 use Rattle.lfm_condvar.specs.laws.Events.{gives_back, sends_next, removed, removes, takes_lock}
 use Rattle.lfm_condvar.proofs.lawful.Invariant.{CondvarGhost, StartingFits, SendingFits, UnlockingFits, LockingToWakeFits, IsPending, CoreFits}

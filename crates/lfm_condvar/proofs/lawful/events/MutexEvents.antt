@@ -9,7 +9,7 @@ use Rattle.lfm_protocol.specs.Core.{Core}
 use Rattle.lfm_protocol.specs.Turns.{is_open}
 use Rattle.lfm_protocol.specs.Seats.{seat, is_seat}
 use Rattle.lfm_protocol.specs.Step.{begin, step}
-use Rattle.lfm_core.proofs.steady.frames.Seated.{seat_of_test}
+use Rattle.lfm_laws.proofs.steady.frames.Seated.{seat_of_test}
 use Rattle.lfm_condvar.specs.laws.Condvars.{Waiter, Stage, outside, locking_to_wait, starting, receiving, locking_to_wake, sending, CondvarCore, point_of, put_stage, put_mutex}
 use Rattle.lfm_condvar.specs.laws.Events.{mutex_steps, is_own_call, is_outside, is_rest, begins_call, begins_wait, begins_wake, receives_at}
 use Rattle.lfm_condvar.proofs.lawful.Invariant.{CondvarGhost, is_of_condvar, comes_to_hold, waits_at, Locks, StartingFits, ReceivingFits, SendingFits, IsPending, CoreFits}

@@ -10,12 +10,12 @@ use Rattle.lfm_protocol.specs.Begin as Begin
 use Rattle.lfm_protocol.specs.Core.{Core, limits}
 use Rattle.lfm_protocol.specs.Seats.{seat, wake, is_seat, IsSeat}
 use Rattle.lfm_protocol.specs.Step.{made, step, begin}
-use Rattle.lfm_core.specs.steady.Ghost.{Ghost}
-use Rattle.lfm_core.specs.steady.Steady.{Fits}
-use Rattle.lfm_core.proofs.lawful.touched.OneSeat.{steps_touch_one_word_and_one_seat, begins_touch_one_seat}
-use Rattle.lfm_core.proofs.steady.Begins.{begin_keeps}
-use Rattle.lfm_core.proofs.steady.StepsKept.{made_keeps}
-use Rattle.lfm_core.proofs.steady.frames.Seated.{seat_of_test, test_of_seat}
+use Rattle.lfm_laws.specs.steady.Ghost.{Ghost}
+use Rattle.lfm_laws.specs.steady.Steady.{Fits}
+use Rattle.lfm_laws.proofs.lawful.touched.OneSeat.{steps_touch_one_word_and_one_seat, begins_touch_one_seat}
+use Rattle.lfm_laws.proofs.steady.Begins.{begin_keeps}
+use Rattle.lfm_laws.proofs.steady.StepsKept.{made_keeps}
+use Rattle.lfm_laws.proofs.steady.frames.Seated.{seat_of_test, test_of_seat}
 use Rattle.lfm_condvar.proofs.lawful.Invariant.{claims_at, waits_at}
 use Rattle.lfm_condvar.proofs.lawful.mutex.WakeWords.{stays_waiting, has_waited}
 

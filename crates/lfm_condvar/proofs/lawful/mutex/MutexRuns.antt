@@ -5,8 +5,8 @@ use Rattle.lfm_protocol.specs.declared.points.Point.{Point}
 use Rattle.lfm_protocol.specs.declared.points.Point.TheVariants.{Rest, Asleep}
 use Rattle.lfm_protocol.specs.Core.{Core}
 use Rattle.lfm_protocol.specs.Turns.{is_open}
-use Rattle.lfm_core.specs.laws.Schedules as Schedules
-use Rattle.lfm_core.specs.laws.Schedules.{Event, is_call}
+use Rattle.lfm_laws.specs.laws.Schedules as Schedules
+use Rattle.lfm_laws.specs.laws.Schedules.{Event, is_call}
 use Rattle.lfm_protocol.specs.Seats.{is_seat}
 use Rattle.lfm_protocol.specs.Step.{begin}
 use Rattle.lfm_condvar.specs.laws.Condvars.{Waiter, Stage, outside, locking_to_wait, starting, receiving, locking_to_wake, claiming, sending, unlocking, CondvarCore, point_of, is_listed, put_condvar, put_holder, condvar_start}

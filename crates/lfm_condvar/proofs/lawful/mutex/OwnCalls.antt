@@ -2,7 +2,7 @@
 use Rattle.std.proofs.Common.{◌≡◌, suc, true, List, [], ◌∷◌, refl, ap, ◌∙◌, arith}
 use Rattle.std.proofs.lemmas.Bool.{false≢true}
 use Rattle.std.specs.Prelude.{All, map}
-use Rattle.lfm_core.specs.laws.Schedules as Schedules
+use Rattle.lfm_laws.specs.laws.Schedules as Schedules
 use Rattle.lfm_condvar.specs.laws.Condvars.{Stage, outside, CondvarCore, put_mutex}
 use Rattle.lfm_condvar.specs.laws.Events.{as_event, is_outside, is_own_event, happens, goes_on, run_of}
 use Rattle.lfm_condvar.specs.laws.Laws.{reached_by, OwnCallsAreFree}

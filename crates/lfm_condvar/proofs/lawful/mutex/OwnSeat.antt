@@ -15,13 +15,13 @@ use Rattle.lfm_protocol.specs.Begin as Begin
 use Rattle.lfm_protocol.specs.Begin.{Stepped, goes_on, refuses, charges, begin_entry, begin_unlock, begin_wait, begin_awake, begin_asleep}
 use Rattle.lfm_protocol.specs.Core.{Core, limits}
 use Rattle.lfm_protocol.specs.Turns.{is_open}
-use Rattle.lfm_core.specs.laws.Schedules.{is_call}
+use Rattle.lfm_laws.specs.laws.Schedules.{is_call}
 use Rattle.lfm_protocol.specs.Seats.{seat, wake, is_seat, IsSeat}
 use Rattle.lfm_protocol.specs.Step.{made, step, begin}
-use Rattle.lfm_core.specs.steady.Steady.{sleeps_as_waiter}
-use Rattle.lfm_core.proofs.lawful.bounds.Leaving.{own_made}
-use Rattle.lfm_core.proofs.steady.frames.Entries.{seat-with_same}
-use Rattle.lfm_core.proofs.steady.frames.Seated.{seat_of_test, test_of_seat}
+use Rattle.lfm_laws.specs.steady.Steady.{sleeps_as_waiter}
+use Rattle.lfm_laws.proofs.lawful.bounds.Leaving.{own_made}
+use Rattle.lfm_laws.proofs.steady.frames.Entries.{seat-with_same}
+use Rattle.lfm_laws.proofs.steady.frames.Seated.{seat_of_test, test_of_seat}
 use Rattle.lfm_condvar.specs.laws.Events.{is_own_call, is_rest}
 use Rattle.lfm_condvar.proofs.lawful.Invariant.{is_of_condvar, claims_at, sends_at, waits_at}
 use Rattle.lfm_condvar.proofs.lawful.points.SendPoints.{stays_sending}

@@ -8,16 +8,16 @@ use Rattle.lfm_words.specs.declared.pop_lists.Record.{Record}
 use Rattle.lfm_words.specs.declared.wakes.Wake.{Wake}
 use Rattle.lfm_words.specs.declared.wakes.Wake.TheVariants.{Quiet, Waiting, Claimed, Grant}
 use Rattle.lfm_protocol.specs.Core.{Core}
-use Rattle.lfm_core.specs.steady.Ghost.{entering, apart, queued, Ghost}
+use Rattle.lfm_laws.specs.steady.Ghost.{entering, apart, queued, Ghost}
 use Rattle.lfm_protocol.specs.Seats.{seat, wake, entry, with_entry, IsSeat}
-use Rattle.lfm_core.specs.steady.Steady.{Fits, sleeps_as_waiter}
+use Rattle.lfm_laws.specs.steady.Steady.{Fits, sleeps_as_waiter}
 use Rattle.lfm_protocol.specs.Step.{claims_word, made}
-use Rattle.lfm_core.specs.steady.Views.{claim, is_entered}
-use Rattle.lfm_core.proofs.steady.frames.Entries.{entry-with_same, entry-with_other, length-with_entry, entry_past}
-use Rattle.lfm_core.proofs.steady.frames.Frames.{place_of_claim}
-use Rattle.lfm_core.proofs.steady.queue.Popping.{first_of}
-use Rattle.lfm_core.proofs.steady.frames.Seated.{seat_of_point}
-use Rattle.lfm_core.proofs.steady.grant.Wakings.{IsWaiting, waiting_of}
+use Rattle.lfm_laws.specs.steady.Views.{claim, is_entered}
+use Rattle.lfm_laws.proofs.steady.frames.Entries.{entry-with_same, entry-with_other, length-with_entry, entry_past}
+use Rattle.lfm_laws.proofs.steady.frames.Frames.{place_of_claim}
+use Rattle.lfm_laws.proofs.steady.queue.Popping.{first_of}
+use Rattle.lfm_laws.proofs.steady.frames.Seated.{seat_of_point}
+use Rattle.lfm_laws.proofs.steady.grant.Wakings.{IsWaiting, waiting_of}
 use Rattle.lfm_condvar.proofs.lawful.Invariant.{claims_at, waits_at}
 
 -- what a wake word that is WAITING tells of its seat

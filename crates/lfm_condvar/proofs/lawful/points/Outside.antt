@@ -21,7 +21,7 @@ use Rattle.lfm_protocol.specs.After.{same_link, same_handoff, releases, pushed, 
 use Rattle.lfm_protocol.specs.Begin.{Stepped, goes_on, ends}
 use Rattle.lfm_protocol.specs.Core.{Core}
 use Rattle.lfm_protocol.specs.Seats.{seat, link, wake}
-use Rattle.lfm_core.proofs.lawful.bounds.Leaving.{stepped}
+use Rattle.lfm_laws.proofs.lawful.bounds.Leaving.{stepped}
 use Rattle.lfm_condvar.proofs.lawful.Invariant.{carries_to_wait, is_of_condvar}
 
 outside_if : (b : Bool) (m n : Stepped) → is_of_condvar m.seat.point ≡ false → is_of_condvar n.seat.point ≡ false

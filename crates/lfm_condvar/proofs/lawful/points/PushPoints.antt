@@ -14,8 +14,8 @@ use Rattle.lfm_protocol.specs.After.{same_link, same_handoff, pushed, granted, f
 use Rattle.lfm_protocol.specs.Begin.{Stepped, goes_on, ends}
 use Rattle.lfm_protocol.specs.Core.{Core}
 use Rattle.lfm_protocol.specs.Seats.{seat, link}
-use Rattle.lfm_core.specs.laws.Events.{pushed_at_point}
-use Rattle.lfm_core.proofs.lawful.bounds.Leaving.{stepped}
+use Rattle.lfm_laws.specs.laws.Events.{pushed_at_point}
+use Rattle.lfm_laws.proofs.lawful.bounds.Leaving.{stepped}
 use Rattle.lfm_condvar.proofs.lawful.Invariant.{is_sender, carries_for_send, sends_at}
 
 abbrev pub sent_to : Pusher → Option ℕ

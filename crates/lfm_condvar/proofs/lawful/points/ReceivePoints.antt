@@ -12,9 +12,9 @@ use Rattle.lfm_protocol.specs.After.{receives}
 use Rattle.lfm_protocol.specs.Core.{Core}
 use Rattle.lfm_protocol.specs.Seats.{seat, wake, is_seat}
 use Rattle.lfm_protocol.specs.Step.{step, begin}
-use Rattle.lfm_core.proofs.lawful.bounds.Leaving.{stepped, own_made}
-use Rattle.lfm_core.proofs.steady.frames.Entries.{seat-with_same}
-use Rattle.lfm_core.proofs.steady.frames.Seated.{seat_of_point, seat_of_test, test_of_seat}
+use Rattle.lfm_laws.proofs.lawful.bounds.Leaving.{stepped, own_made}
+use Rattle.lfm_laws.proofs.steady.frames.Entries.{seat-with_same}
+use Rattle.lfm_laws.proofs.steady.frames.Seated.{seat_of_point, seat_of_test, test_of_seat}
 use Rattle.lfm_condvar.proofs.lawful.Invariant.{claims_at, waits_at, comes_to_hold_at, comes_to_hold}
 
 pub receives_unclaimed : (depth : ℕ) (p : Point) → comes_to_hold_at depth p ≡ true → claims_at p ≡ false

@@ -15,7 +15,7 @@ use Rattle.lfm_protocol.specs.After.{same_link, same_handoff, pushed, granted, f
 use Rattle.lfm_protocol.specs.Begin.{Stepped, goes_on, ends}
 use Rattle.lfm_protocol.specs.Core.{Core}
 use Rattle.lfm_protocol.specs.Seats.{seat, link}
-use Rattle.lfm_core.proofs.lawful.bounds.Leaving.{stepped}
+use Rattle.lfm_laws.proofs.lawful.bounds.Leaving.{stepped}
 use Rattle.lfm_condvar.proofs.lawful.Invariant.{is_sender, carries_for_send, sends_at}
 
 sends_if : (b : Bool) (m n : Stepped) → sends_at m.seat.point ≡ true → sends_at n.seat.point ≡ true

@@ -15,11 +15,11 @@ use Rattle.lfm_words.specs.Popped.{oldest}
 use Rattle.lfm_protocol.specs.After.{same_handoff, releases, granted, serves, take, once_cleared, loaded}
 use Rattle.lfm_protocol.specs.Begin.{Stepped, goes_on}
 use Rattle.lfm_protocol.specs.Core.{Core}
-use Rattle.lfm_core.specs.steady.Ghost.{Ghost}
+use Rattle.lfm_laws.specs.steady.Ghost.{Ghost}
 use Rattle.lfm_protocol.specs.Seats.{seat, link, wake, IsSeat}
-use Rattle.lfm_core.specs.steady.Steady.{Fits}
+use Rattle.lfm_laws.specs.steady.Steady.{Fits}
 use Rattle.lfm_protocol.specs.Step.{made}
-use Rattle.lfm_core.proofs.lawful.bounds.Leaving.{stepped, own_made}
+use Rattle.lfm_laws.proofs.lawful.bounds.Leaving.{stepped, own_made}
 use Rattle.lfm_condvar.proofs.lawful.Invariant.{carries_to_wait, waits_at, StartsAt}
 use Rattle.lfm_condvar.proofs.lawful.mutex.WakeWords.{ends_waiting}
 

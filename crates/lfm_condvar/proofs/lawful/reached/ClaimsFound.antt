@@ -9,7 +9,7 @@ use Rattle.lfm_protocol.specs.Core.{Core}
 use Rattle.lfm_protocol.specs.Seats.{seat, wake, is_seat}
 use Rattle.lfm_protocol.specs.Step.{step, begin}
 use Rattle.lfm_protocol.specs.Turns.{is_open}
-use Rattle.lfm_core.proofs.steady.frames.Seated.{seat_of_point}
+use Rattle.lfm_laws.proofs.steady.frames.Seated.{seat_of_point}
 use Rattle.lfm_condvar.specs.laws.Condvars.{Stage, outside, locking_to_wait, starting, receiving, locking_to_wake, claiming, sending, unlocking, CondvarCore, point_of}
 use Rattle.lfm_condvar.specs.laws.Laws.{reached_by, ClaimsNeverFail}
 use Rattle.lfm_condvar.proofs.lawful.Invariant.{CondvarGhost, claims_at, StartsAt, StageFits, CoreFits}

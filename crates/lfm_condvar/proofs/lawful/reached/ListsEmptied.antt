@@ -3,8 +3,8 @@ use Rattle.std.proofs.Common.{◌≡◌, ℕ, Bool, true, false, ◌&&◌, List,
 use Rattle.std.proofs.lemmas.Bool.{eq-eqb, and_parts, false≢true}
 use Rattle.lfm_protocol.specs.Step.{step}
 use Rattle.lfm_protocol.specs.Turns.{is_open}
-use Rattle.lfm_core.specs.laws.Schedules.{is_call}
-use Rattle.lfm_core.proofs.steady.frames.Sums.{changed_same}
+use Rattle.lfm_laws.specs.laws.Schedules.{is_call}
+use Rattle.lfm_laws.proofs.steady.frames.Sums.{changed_same}
 use Rattle.lfm_condvar.specs.laws.Condvars.{Waiter, Condvar, Stage, outside, locking_to_wait, starting, receiving, locking_to_wake, claiming, sending, unlocking, CondvarCore, point_of, put_condvar}
 use Rattle.lfm_condvar.specs.laws.Events.{CondvarEvent, makes, is_outside, sends_next, removed, goes_on, happens}
 use Rattle.lfm_condvar.specs.laws.Laws.{CondvarRun, reached_by, WakesEmptyTheList}

@@ -4,8 +4,8 @@ use Rattle.std.proofs.lemmas.Bool.{cases_eq, false≢true}
 use Rattle.lfm_protocol.specs.declared.limits.Limits.{Limits}
 use Rattle.lfm_protocol.specs.Step.{step}
 use Rattle.lfm_protocol.specs.Turns.{is_open}
-use Rattle.lfm_core.specs.laws.Schedules.{is_call}
-use Rattle.lfm_core.proofs.steady.frames.Sums.{changed_same}
+use Rattle.lfm_laws.specs.laws.Schedules.{is_call}
+use Rattle.lfm_laws.proofs.steady.frames.Sums.{changed_same}
 use Rattle.lfm_condvar.specs.laws.Condvars.{Waiter, Stage, outside, locking_to_wait, starting, receiving, locking_to_wake, claiming, sending, unlocking, CondvarCore, point_of, put_stage, put_condvar, put_holder, condvar_start}
 use Rattle.lfm_condvar.specs.laws.Events.{CondvarEvent, makes, is_outside, mutex_steps, sends_next, removed, goes_on, happens, run_of}
 use Rattle.lfm_condvar.specs.laws.Laws.{reached_by, LocksAreGivenBack}

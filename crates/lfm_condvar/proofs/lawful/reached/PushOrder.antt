@@ -8,11 +8,11 @@ use Rattle.lfm_protocol.specs.declared.points.Point.TheVariants.{Rest, Asleep}
 use Rattle.lfm_protocol.specs.Seats.{seat, is_seat}
 use Rattle.lfm_protocol.specs.Step.{begin}
 use Rattle.lfm_protocol.specs.Turns.{is_open}
-use Rattle.lfm_core.specs.laws.Events.{pushed_by}
-use Rattle.lfm_core.specs.laws.Schedules.{is_call}
-use Rattle.lfm_core.proofs.lawful.bounds.Leaving.{own_made}
-use Rattle.lfm_core.proofs.steady.Start.{start_steady, few_seats, small_budget}
-use Rattle.lfm_core.proofs.steady.frames.Sums.{changed_same}
+use Rattle.lfm_laws.specs.laws.Events.{pushed_by}
+use Rattle.lfm_laws.specs.laws.Schedules.{is_call}
+use Rattle.lfm_laws.proofs.lawful.bounds.Leaving.{own_made}
+use Rattle.lfm_laws.proofs.steady.Start.{start_steady, few_seats, small_budget}
+use Rattle.lfm_laws.proofs.steady.frames.Sums.{changed_same}
 use Rattle.lfm_condvar.specs.laws.Claims.{claimed_at, claimed_in, claim_record, claims_on}
 use Rattle.lfm_condvar.specs.laws.Condvars.{Waiter, Stage, outside, locking_to_wait, starting, receiving, locking_to_wake, claiming, sending, unlocking, CondvarCore, point_of, is_listed, put_stage, put_condvar, put_holder, condvar_start}
 use Rattle.lfm_condvar.specs.laws.Events.{CondvarEvent, begins, waits, wakes, makes, is_outside, is_own_call, is_rest, mutex_begins, mutex_steps, receives_at, sends_next, removed, goes_on, happens, run_of}

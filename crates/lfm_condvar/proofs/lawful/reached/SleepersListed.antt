@@ -10,7 +10,7 @@ use Rattle.lfm_protocol.specs.Core.{Core}
 use Rattle.lfm_protocol.specs.Seats.{seat, wake, is_seat}
 use Rattle.lfm_protocol.specs.Step.{begin}
 use Rattle.lfm_protocol.specs.Turns.{is_open}
-use Rattle.lfm_core.specs.steady.Steady.{sleeps_as_waiter}
+use Rattle.lfm_laws.specs.steady.Steady.{sleeps_as_waiter}
 use Rattle.lfm_condvar.specs.laws.Condvars.{Stage, outside, locking_to_wait, starting, receiving, locking_to_wake, claiming, sending, unlocking, CondvarCore, point_of}
 use Rattle.lfm_condvar.specs.laws.Laws.{reached_by, IsListed, SleepersAreListed}
 use Rattle.lfm_condvar.proofs.lawful.Invariant.{CondvarGhost, sends_at, ReceivingFits, StageFits, CoreFits}

@@ -13,7 +13,7 @@ use Rattle.lfm_table.specs.Rule.{value_in, last_hold}
 use Rattle.lfm_mutex.specs.calls.Sight.{Concludes}
 use Rattle.lfm_mutex.proofs.runs.Sights.{concludes_now, stays_now, concludes_join, stays_join}
 use Rattle.lfm_words.specs.Popped.{oldest}
-use Rattle.lfm_core.specs.table.Ready.{IsReady}
+use Rattle.lfm_laws.specs.table.Ready.{IsReady}
 use Rattle.lfm_table.specs.Grants.{granted_at}
 use Rattle.lfm_table.specs.Steps.{StepLeadsTo}
 use Rattle.lfm_mutex.specs.calls.WakeUps.{Wakes, first_of, may_grant}

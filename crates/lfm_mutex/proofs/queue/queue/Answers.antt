@@ -7,7 +7,7 @@ use Rattle.lfm_protocol.specs.declared.points.Point.TheVariants.{Asleep, LinkSto
 use Rattle.lfm_protocol.specs.declared.points.Pusher.{Pusher}
 use Rattle.lfm_protocol.specs.declared.points.Sleeper.{Sleeper}
 use Rattle.lfm_protocol.specs.declared.seats.SeatState.{SeatState}
-use Rattle.lfm_core.specs.table.Words.{stepped_by, handoff_of}
+use Rattle.lfm_laws.specs.table.Words.{stepped_by, handoff_of}
 use Rattle.lfm_table.specs.Steps.{oldest_in}
 use Rattle.lfm_table.specs.Straight.{Fit}
 use Rattle.lfm_mutex.specs.calls.Due.{due}

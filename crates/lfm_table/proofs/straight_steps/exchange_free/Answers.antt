@@ -1,8 +1,8 @@
 use Rattle.std.proofs.Common.{◌≡◌, ℕ, refl, sym, ap, subst, ◌∙◌, None}
 use Rattle.std.specs.Prelude.{true}
 use Rattle.lfm_protocol.specs.declared.kinds.Kind.{Kind}
-use Rattle.lfm_core.specs.table.Carried.{carries_value}
-use Rattle.lfm_core.specs.table.Words.{stepped_by}
+use Rattle.lfm_laws.specs.table.Carried.{carries_value}
+use Rattle.lfm_laws.specs.table.Words.{stepped_by}
 use Rattle.lfm_table.specs.Rule.{value_in, Advanced}
 use Rattle.lfm_table.proofs.tables.StraightSteps.{drops_by, gives_by, gained_slot, gained, idled}
 use Rattle.lfm_table.proofs.straight_steps.exchange_free.Goals as goal

@@ -1,4 +1,4 @@
-use Rattle.lfm_core.proofs.lawful.runs.LineEvents.{lines_are_events}
+use Rattle.lfm_core.proofs.texts.LineEvents.{lines_are_events}
 use Rattle.lfm_core.proofs.laws.schedules.lines_are_events.Goals as goal
 
 pub returns : goal.returns

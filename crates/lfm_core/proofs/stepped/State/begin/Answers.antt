@@ -1,4 +1,4 @@
-use Rattle.lfm_core.proofs.steady.Begins.{begin_keeps}
+use Rattle.lfm_laws.proofs.steady.Begins.{begin_keeps}
 use Rattle.lfm_core.proofs.stepped.State.begin.Goals as goal
 
 pub invariant_of-self : goal.invariant_of-self

@@ -1,5 +1,5 @@
 use Rattle.std.proofs.Common.{ap, arith, length}
-use Rattle.lfm_core.proofs.lawful.read.QueueRead.{queue_few}
+use Rattle.lfm_laws.proofs.lawful.read.QueueRead.{queue_few}
 use Rattle.lfm_core.proofs.stepped.State.gather.Goals as goal
 
 pub gather-requires : goal.gather-requires

@@ -1,4 +1,4 @@
-use Rattle.lfm_core.proofs.lawful.states.StateLaws.{steady_is_lawful}
+use Rattle.lfm_laws.proofs.lawful.states.StateLaws.{steady_is_lawful}
 use Rattle.lfm_core.proofs.stepped.State.law.Goals as goal
 
 pub returns : goal.returns

@@ -1,6 +1,6 @@
 use Rattle.std.proofs.Common.{rules, sym, true, ◌≡◌}
 use Rattle.lfm_protocol.specs.Limits.{are_in_limits}
-use Rattle.lfm_core.proofs.steady.Start.{start_steady, few_seats, small_budget}
+use Rattle.lfm_laws.proofs.steady.Start.{start_steady, few_seats, small_budget}
 use Rattle.lfm_core.proofs.stepped.State.new.Goals as goal
 
 pub invariant_of-result : goal.invariant_of-result

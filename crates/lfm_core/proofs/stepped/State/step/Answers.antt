@@ -1,6 +1,6 @@
 use Rattle.std.proofs.Common.{rules}
-use Rattle.lfm_core.proofs.lawful.bounds.CallsEnd.{steady_step}
-use Rattle.lfm_core.proofs.steady.Room.{steady_has_room}
+use Rattle.lfm_laws.proofs.lawful.bounds.CallsEnd.{steady_step}
+use Rattle.lfm_laws.proofs.steady.Room.{steady_has_room}
 use Rattle.lfm_core.proofs.stepped.State.step.Goals as goal
 
 pub step-requires : goal.step-requires

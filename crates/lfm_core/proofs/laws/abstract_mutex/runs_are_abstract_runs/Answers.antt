@@ -1,5 +1,0 @@
-use Rattle.lfm_core.proofs.lawful.runs.AbstractBridge.{runs_are_abstract_runs}
-use Rattle.lfm_core.proofs.laws.abstract_mutex.runs_are_abstract_runs.Goals as goal
-
-pub returns : goal.returns
-returns c = runs_are_abstract_runs

@@ -1,5 +1,0 @@
-use Rattle.lfm_core.proofs.lawful.calls.RecursiveCalls.{recursive_calls_load_the_owner}
-use Rattle.lfm_core.proofs.laws.calls.recursive_calls_load_the_owner.Goals as goal
-
-pub returns : goal.returns
-returns c = recursive_calls_load_the_owner

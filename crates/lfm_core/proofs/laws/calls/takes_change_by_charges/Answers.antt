@@ -1,5 +1,0 @@
-use Rattle.lfm_core.proofs.lawful.calls.TakesCounted.{takes_change_by_charges}
-use Rattle.lfm_core.proofs.laws.calls.takes_change_by_charges.Goals as goal
-
-pub returns : goal.returns
-returns c = takes_change_by_charges

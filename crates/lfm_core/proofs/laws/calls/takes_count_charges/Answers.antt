@@ -1,5 +1,0 @@
-use Rattle.lfm_core.proofs.lawful.calls.TakesCounted.{takes_count_charges}
-use Rattle.lfm_core.proofs.laws.calls.takes_count_charges.Goals as goal
-
-pub returns : goal.returns
-returns c = takes_count_charges

@@ -1,9 +1,0 @@
-use Rattle.lfm_core.proofs.lawful.runs.InSchedules.{calls_post_once_in_schedules}
-use Rattle.lfm_core.proofs.lawful.bounds.PostsOnce.{calls_post_once}
-use Rattle.lfm_core.proofs.laws.handoffs.calls_post_once.Goals as goal
-
-pub returns-clause-steady : goal.returns-clause-steady
-returns-clause-steady c = calls_post_once
-
-pub returns-clause-schedules : goal.returns-clause-schedules
-returns-clause-schedules c = calls_post_once_in_schedules

@@ -1,9 +1,0 @@
-use Rattle.lfm_core.proofs.lawful.runs.InSchedules.{quiescent_states_rest_in_schedules}
-use Rattle.lfm_core.proofs.lawful.states.StateLaws.{quiescent_states_rest}
-use Rattle.lfm_core.proofs.laws.handoffs.quiescent_states_rest.Goals as goal
-
-pub returns-clause-steady : goal.returns-clause-steady
-returns-clause-steady c = quiescent_states_rest
-
-pub returns-clause-schedules : goal.returns-clause-schedules
-returns-clause-schedules c = quiescent_states_rest_in_schedules

@@ -1,9 +1,0 @@
-use Rattle.lfm_core.proofs.lawful.runs.InSchedules.{one_seat_owns_in_schedules}
-use Rattle.lfm_core.proofs.lawful.states.Owning.{one_seat_owns}
-use Rattle.lfm_core.proofs.laws.mutual_exclusion.one_seat_owns.Goals as goal
-
-pub returns-clause-steady : goal.returns-clause-steady
-returns-clause-steady c = one_seat_owns
-
-pub returns-clause-schedules : goal.returns-clause-schedules
-returns-clause-schedules c = one_seat_owns_in_schedules

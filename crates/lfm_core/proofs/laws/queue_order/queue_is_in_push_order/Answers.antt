@@ -1,9 +1,0 @@
-use Rattle.lfm_core.proofs.lawful.runs.InSchedules.{queue_is_in_push_order_in_schedules}
-use Rattle.lfm_core.proofs.lawful.runs.PushOrder.{queue_is_in_push_order}
-use Rattle.lfm_core.proofs.laws.queue_order.queue_is_in_push_order.Goals as goal
-
-pub returns-clause-steady : goal.returns-clause-steady
-returns-clause-steady c = queue_is_in_push_order
-
-pub returns-clause-schedules : goal.returns-clause-schedules
-returns-clause-schedules c = queue_is_in_push_order_in_schedules

@@ -1,5 +1,0 @@
-use Rattle.lfm_core.proofs.lawful.refusals.RefusedSteps.{steps_are_refused_for_cause}
-use Rattle.lfm_core.proofs.laws.refusals.steps_are_refused_for_cause.Goals as goal
-
-pub returns : goal.returns
-returns c = steps_are_refused_for_cause

@@ -1,5 +1,0 @@
-use Rattle.lfm_core.proofs.lawful.refusals.BusyTries.{tries_see_a_holder}
-use Rattle.lfm_core.proofs.laws.refusals.tries_see_a_holder.Goals as goal
-
-pub returns : goal.returns
-returns c = tries_see_a_holder

@@ -1,5 +1,0 @@
-use Rattle.lfm_core.proofs.lawful.touched.OneSeat.{begins_touch_one_seat}
-use Rattle.lfm_core.proofs.laws.steadiness.begins_touch_one_seat.Goals as goal
-
-pub returns : goal.returns
-returns c = begins_touch_one_seat

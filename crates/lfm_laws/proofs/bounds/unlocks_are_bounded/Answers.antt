@@ -1,0 +1,9 @@
+use Rattle.lfm_laws.proofs.lawful.runs.InSchedules.{unlocks_are_bounded_in_schedules}
+use Rattle.lfm_laws.proofs.lawful.bounds.ReleaseBounds.{unlocks_are_bounded}
+use Rattle.lfm_laws.proofs.bounds.unlocks_are_bounded.Goals as goal
+
+pub returns-clause-steady : goal.returns-clause-steady
+returns-clause-steady c = unlocks_are_bounded
+
+pub returns-clause-schedules : goal.returns-clause-schedules
+returns-clause-schedules c = unlocks_are_bounded_in_schedules

@@ -1,0 +1,29 @@
+-- The ranges in which the numbers of every steady state lie, so that no step wraps any.
+use Rattle.std.specs.Prelude.{◌≡◌, ℕ, true, ◌+◌, ◌*◌, ◌≤◌, List, length}
+use Rattle.lfm_protocol.specs.declared.limits.Limits.{Limits}
+use Rattle.lfm_protocol.specs.Core.{Core, limits}
+use Rattle.lfm_protocol.specs.Limits.{are_in_limits, max_depth}
+use Rattle.lfm_protocol.specs.Room.{HasRoom}
+use Rattle.lfm_laws.specs.laws.Schedules.{Event, reached}
+use Rattle.lfm_laws.specs.steady.Steady.{Steady}
+use Rattle.lfm_protocol.specs.Seats.{seat, IsSeat}
+
+-- among N seats of budget B the stamp is at most N * B and the count at most N + 1; each seat holds at most 65,535 times, has
+-- charged at most B takes, and has posted at most as often as it has charged one
+pub record IsInRange (c : Core) : Type 0 where
+  pub stamp : c.push.stamp ≤ length c.seats * c.budget
+  pub count : c.count ≤ length c.seats + 1
+  pub depth : (s : ℕ) → (seat c.seats s).depth ≤ max_depth
+  pub takes : (s : ℕ) → (seat c.seats s).takes ≤ c.budget
+  pub posts : (s : ℕ) → (seat c.seats s).posts ≤ (seat c.seats s).takes
+
+abbrev pub NumbersStayInRange : Type 0
+NumbersStayInRange = (c : Core) → Steady c → IsInRange c
+
+-- the next step of each seat wraps no number, and the seats that it touches are there
+abbrev pub StepsHaveRoom : Type 0
+StepsHaveRoom = (c : Core) (s : ℕ) → Steady c → IsSeat c.seats s → HasRoom c s
+
+-- the number of seats and the budget stay those of the start
+abbrev pub LimitsStay : Type 0
+LimitsStay = (l : Limits) (events : List Event) → are_in_limits l.seats l.budget ≡ true → limits (reached l events) ≡ l

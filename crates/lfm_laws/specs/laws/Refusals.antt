@@ -1,0 +1,146 @@
+-- Why a turn is refused: the cause of each refusal, told by the state before the turn. The causes of one turn exclude each
+-- other, so they also tell the order in which they are looked at. Each law here is the contract of a public function of `laws`.
+use Rattle.std.specs.Prelude.{◌≡◌, ◌≢◌, ◌⊎◌, ⊤, ℕ, true, false, ◌-◌, ◌<◌, List}
+use Rattle.lfm_model.specs.declared.refusals.Refusal.{Refusal}
+use Rattle.lfm_protocol.specs.declared.answers.Call.{Call}
+use Rattle.lfm_protocol.specs.declared.answers.Call.TheVariants.{Lock, TryLock, Unlock, StartWait, SendLock, Receive}
+use Rattle.lfm_protocol.specs.declared.answers.Turn.TheVariants.{Refused}
+use Rattle.lfm_protocol.specs.declared.answers.Why.{Why}
+use Rattle.lfm_protocol.specs.declared.answers.Why.TheVariants.{By}
+use Rattle.lfm_protocol.specs.declared.points.Point.{Point}
+use Rattle.lfm_protocol.specs.declared.points.Point.TheVariants.{Rest, TryCountExchange, TryOwnerLoad, TryHandoffLoad, TryHandoffExchange, SendWakeExchange}
+use Rattle.lfm_protocol.specs.declared.points.Sleeper.{Sleeper}
+use Rattle.lfm_protocol.specs.declared.seats.SeatState.{SeatState}
+use Rattle.lfm_words.specs.declared.wakes.Wake.TheVariants.{Waiting}
+use Rattle.lfm_protocol.specs.After.{same_handoff}
+use Rattle.lfm_protocol.specs.Core.{Core, put}
+use Rattle.lfm_protocol.specs.Limits.{max_depth}
+use Rattle.lfm_laws.specs.laws.Schedules.{Event, begins, makes, happens, is_call}
+use Rattle.lfm_laws.specs.steady.Steady.{Steady}
+use Rattle.lfm_protocol.specs.Seats.{seat, wake, is_seat, IsSeat}
+use Rattle.lfm_protocol.specs.Step.{begin, step}
+
+-- Calls that begin
+
+-- the seat sleeps
+pub record Sleeps (p : Point) : Type 0 where
+  pub sleeper : Sleeper
+  pub here : p ≡ Point.Asleep sleeper
+
+-- a lock or a try_lock: asleep, as deep as may be, or a new hold with no take left
+abbrev pub CauseToEnter : ℕ → SeatState → Refusal → Type 0
+CauseToEnter budget x Refusal.Asleep = Sleeps x.point
+CauseToEnter budget x Refusal.DepthFull = (x.point ≡ Rest) × (x.depth ≡ max_depth)
+CauseToEnter budget x Refusal.Spent = (x.point ≡ Rest) × (x.depth ≡ 0) × (x.takes ≡ budget)
+CauseToEnter budget x _ = ⊥
+
+-- an unlock: asleep, or without a hold
+abbrev pub CauseToUnlock : SeatState → Refusal → Type 0
+CauseToUnlock x Refusal.Asleep = Sleeps x.point
+CauseToUnlock x Refusal.NotOwner = (x.point ≡ Rest) × (x.depth ≡ 0)
+CauseToUnlock x _ = ⊥
+
+-- a start_wait: asleep, without a hold, with more than one, or with one and no take left
+abbrev pub CauseToWait : ℕ → SeatState → Refusal → Type 0
+CauseToWait budget x Refusal.Asleep = Sleeps x.point
+CauseToWait budget x Refusal.NotOwner = (x.point ≡ Rest) × (x.depth ≡ 0)
+CauseToWait budget x Refusal.Nested = (x.point ≡ Rest) × (1 < x.depth)
+CauseToWait budget x Refusal.Spent = (x.point ≡ Rest) × (x.depth ≡ 1) × (x.takes ≡ budget)
+CauseToWait budget x _ = ⊥
+
+-- a send_lock: asleep, or to a number that no seat has
+abbrev pub CauseToSend : List SeatState → ℕ → SeatState → Refusal → Type 0
+CauseToSend seats t x Refusal.Asleep = Sleeps x.point
+CauseToSend seats t x Refusal.NoSuchSeat = (x.point ≡ Rest) × (is_seat seats t ≡ false)
+CauseToSend seats t x _ = ⊥
+
+-- a receive: awake
+abbrev pub CauseToReceive : SeatState → Refusal → Type 0
+CauseToReceive x Refusal.NotWaiting = x.point ≡ Rest
+CauseToReceive x _ = ⊥
+
+-- the mutex has this cause to refuse the call to a seat that is x
+abbrev pub CauseToBegin : Core → SeatState → Call → Refusal → Type 0
+CauseToBegin c x Lock refusal = CauseToEnter c.budget x refusal
+CauseToBegin c x TryLock refusal = CauseToEnter c.budget x refusal
+CauseToBegin c x Unlock refusal = CauseToUnlock x refusal
+CauseToBegin c x StartWait refusal = CauseToWait c.budget x refusal
+CauseToBegin c x (SendLock t) refusal = CauseToSend c.seats t x refusal
+CauseToBegin c x Receive refusal = CauseToReceive x refusal
+
+-- a call that is refused changes nothing, for whatever cause
+abbrev pub RefusedBeginsChangeNothing : Type 0
+RefusedBeginsChangeNothing = (c : Core) (s : ℕ) (call : Call) (why : Why) → (begin c s call).turn ≡ Refused why → (begin c s call).core ≡ c
+
+-- the mutex refuses a call just where it has the cause
+abbrev pub BeginsAreRefusedForCause : Type 0
+BeginsAreRefusedForCause =
+    (c : Core) (s : ℕ) (call : Call) (refusal : Refusal) → Steady c → IsSeat c.seats s
+    → ((begin c s call).turn ≡ Refused (By refusal) → CauseToBegin c (seat c.seats s) call refusal)
+    × (CauseToBegin c (seat c.seats s) call refusal → (begin c s call).turn ≡ Refused (By refusal))
+
+-- Steps
+
+-- the mutex has this cause to refuse the step at this point: a try_lock has found nothing posted, or has lost what it found;
+-- the target of a send does not wait
+abbrev pub CauseOfStep : Core → Point → Refusal → Type 0
+CauseOfStep c TryHandoffLoad Refusal.Busy = c.handoff.seat ≡ 0
+CauseOfStep c (TryHandoffExchange seen) Refusal.Busy = same_handoff c.handoff seen ≡ false
+CauseOfStep c (SendWakeExchange t) Refusal.NotWaiting = wake c.wakes t ≢ Waiting
+CauseOfStep c _ _ = ⊥
+
+-- the seat once its call has ended by this refusal: a try_lock that finds the mutex busy has its charge back
+abbrev pub ended_by : Refusal → SeatState → SeatState
+ended_by Refusal.Busy x = record x { point = Rest; takes = x.takes - 1 }
+ended_by _ x = record x { point = Rest }
+
+-- there is a charge to give back
+abbrev pub WasCharged : Refusal → SeatState → Type 0
+WasCharged Refusal.Busy x = 0 < x.takes
+WasCharged _ x = ⊤
+
+-- the mutex refuses a step just where it has the cause; then the call has ended, and nothing but its seat has changed
+abbrev pub StepsAreRefusedForCause : Type 0
+StepsAreRefusedForCause =
+    (c : Core) (s : ℕ) (refusal : Refusal) → Steady c
+    → ((step c s).turn ≡ Refused (By refusal)
+    → CauseOfStep c (seat c.seats s).point refusal
+    × WasCharged refusal (seat c.seats s)
+    × ((step c s).core ≡ put c s (ended_by refusal (seat c.seats s))))
+    × (CauseOfStep c (seat c.seats s).point refusal → (step c s).turn ≡ Refused (By refusal))
+
+-- Turns
+
+-- the cause to refuse an event: no seat has the number, a call is open where one would begin, none is open where a step would
+-- be made, or the mutex has its cause
+abbrev pub CauseToRefuse : Core → Event → Why → Type 0
+CauseToRefuse c (begins s call) Why.NoSuchSeat = is_seat c.seats s ≡ false
+CauseToRefuse c (begins s call) Why.InCall = is_call (seat c.seats s).point ≡ true
+CauseToRefuse c (begins s call) Why.Idle = ⊥
+CauseToRefuse c (begins s call) (By refusal) = IsSeat c.seats s × CauseToBegin c (seat c.seats s) call refusal
+CauseToRefuse c (makes s) Why.NoSuchSeat = is_seat c.seats s ≡ false
+CauseToRefuse c (makes s) Why.InCall = ⊥
+CauseToRefuse c (makes s) Why.Idle = IsSeat c.seats s × (is_call (seat c.seats s).point ≡ false)
+CauseToRefuse c (makes s) (By refusal) = CauseOfStep c (seat c.seats s).point refusal
+
+-- every event is refused just where there is the cause
+abbrev pub TurnsAreRefusedForCause : Type 0
+TurnsAreRefusedForCause =
+    (c : Core) (e : Event) (why : Why) → Steady c
+    → ((happens c e).turn ≡ Refused why → CauseToRefuse c e why) × (CauseToRefuse c e why → (happens c e).turn ≡ Refused why)
+
+-- Busy
+
+-- how an event brings seat s to a point from which Busy may follow: by its own step at the point before, which saw a count
+-- above 0; or then an owner that is not s, which has no hold; or then the posted handoff that it will expect
+abbrev pub TriesBy : Core → ℕ → Event → Point → Type 0
+TriesBy c s e TryOwnerLoad = (e ≡ makes s) × ((seat c.seats s).point ≡ TryCountExchange) × (0 < c.count)
+TriesBy c s e TryHandoffLoad = (e ≡ makes s) × ((seat c.seats s).point ≡ TryOwnerLoad) × (c.owner ≢ s) × ((seat c.seats s).depth ≡ 0)
+TriesBy c s e (TryHandoffExchange seen) = (e ≡ makes s) × ((seat c.seats s).point ≡ TryHandoffLoad) × (c.handoff ≡ seen) × (0 < seen.seat)
+TriesBy c s e _ = ⊤
+
+-- an event leaves a seat as it is, or brings it to such a point only so
+abbrev pub TriesSeeAHolder : Type 0
+TriesSeeAHolder =
+    (c : Core) (e : Event) (s : ℕ) → Steady c
+    → (seat (happens c e).core.seats s ≡ seat c.seats s) ⊎ TriesBy c s e (seat (happens c e).core.seats s).point

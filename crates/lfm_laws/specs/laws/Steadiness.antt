@@ -1,0 +1,56 @@
+-- What a mutex that runs stands on: every state is steady, and each turn keeps it so, by the one abstract case of its step; a
+-- step touches one word and one seat, and goes by these; and so it is at a table of packed words.
+use Rattle.std.specs.Prelude.{◌≡◌, ℕ, length, slice_index}
+use Rattle.lfm_protocol.specs.declared.answers.Call.{Call}
+use Rattle.lfm_protocol.specs.declared.seats.SeatState.{SeatState}
+use Rattle.lfm_laws.specs.laws.Cases.{case_of_event}
+use Rattle.lfm_protocol.specs.Core.{Core, limits}
+use Rattle.lfm_laws.specs.laws.Laws.{IsReached}
+use Rattle.lfm_laws.specs.laws.Schedules.{Event, happens, pushed_in, popped_in, answered_in}
+use Rattle.lfm_laws.specs.laws.Touched.{StepTouches, BeginTouches, LooksSame}
+use Rattle.lfm_protocol.specs.Seats.{seat, IsSeat}
+use Rattle.lfm_laws.specs.steady.Ghost.{Ghost}
+use Rattle.lfm_laws.specs.steady.EventOutcome.{EventOutcome}
+use Rattle.lfm_laws.specs.steady.Steady.{Fits, Steady}
+use Rattle.lfm_protocol.specs.Step.{begin, step}
+use Rattle.lfm_laws.specs.table.Carried.{TableStep}
+use Rattle.lfm_laws.specs.table.Settles.{Settles}
+use Rattle.lfm_laws.specs.table.Words.{words, index, AreNarrow}
+
+-- the states of schedules
+
+abbrev pub StatesAreSteady : Type 0
+StatesAreSteady = (c : Core) → IsReached c → Steady c
+
+-- whatever ghost fits a state, a call that begins and a step lead to a state that a ghost fits again, and between both ghosts
+-- lies the one abstract case of the event
+abbrev pub StepsKeepSteady : Type 0
+StepsKeepSteady =
+    (c : Core) (g : Ghost) (e : Event) → Fits c g
+    → EventOutcome g (happens c e).core (case_of_event c e) (pushed_in c e) (popped_in c e) (answered_in c e)
+
+-- one word and one seat
+
+abbrev pub StepsTouchOneWordAndOneSeat : Type 0
+StepsTouchOneWordAndOneSeat = (c : Core) (s : ℕ) → StepTouches c (step c s).core s
+
+abbrev pub BeginsTouchOneSeat : Type 0
+BeginsTouchOneSeat = (c : Core) (s : ℕ) (call : Call) → BeginTouches c (begin c s call).core s
+
+-- where these look the same, the step answers the same and leads its seat to the same point
+abbrev pub StepsSeeOneWordAndOneSeat : Type 0
+StepsSeeOneWordAndOneSeat =
+    (c d : Core) (s : ℕ) → IsSeat c.seats s → IsSeat d.seats s → LooksSame c d s
+    → ((step d s).turn ≡ (step c s).turn) × (seat (step d s).core.seats s ≡ seat (step c s).core.seats s)
+
+-- at a table of packed words
+
+-- a seat that has become p finds the number at the place of its word
+abbrev pub StepsAtATable : Type 0
+StepsAtATable =
+    (c : Core) (g : Ghost) (s : ℕ) (p : SeatState) → IsSeat c.seats s → Fits c g → AreNarrow c.seats → Settles (seat c.seats s) (limits c) p
+    → TableStep c g s p (slice_index (words c) (index p (length c.seats) s))
+
+-- the premise of the step at a table holds of every state that a schedule reaches
+abbrev pub ReachedAreNarrow : Type 0
+ReachedAreNarrow = (c : Core) → IsReached c → AreNarrow c.seats

@@ -1,0 +1,33 @@
+//! Refinement: each state stands for a state of the abstract mutex, and each run for one of its runs.
+ghost use Rattle.lfm_laws.specs.laws.InSchedules.{
+  StatesAreLawfulInSchedules,
+  EventsAreTheirCasesInSchedules,
+};
+ghost use Rattle.lfm_laws.specs.laws.Laws.{StatesAreLawful, RunsAreAbstractRuns, EventsAreTheirCases};
+
+/// Each state has a reading, and its words agree with it.
+///
+/// Definitions: `StatesAreLawful` in `specs/laws/Laws.antt`, and `StatesAreLawfulInSchedules` in
+/// `specs/laws/InSchedules.antt`. Proofs: `proofs/lawful/states/StateLaws.antt` and `proofs/lawful/runs/InSchedules.antt`.
+pub fn states_are_lawful()
+    ensures steady { StatesAreLawful }
+    ensures schedules { StatesAreLawfulInSchedules }
+{}
+
+/// From the start on, the readings of a run are a run of the abstract mutex which begins free. So the laws of the abstract
+/// mutex hold of every schedule.
+///
+/// Definition: `RunsAreAbstractRuns` in `specs/laws/Laws.antt`. Proof: `proofs/lawful/runs/AbstractBridge.antt`.
+pub fn runs_are_abstract_runs()
+    ensures { RunsAreAbstractRuns }
+{}
+
+/// Each step does to the reading the case that is named for it, or nothing where none is named. A begin does nothing to it.
+///
+/// Definitions: `EventsAreTheirCases` in `specs/laws/Laws.antt`, and `EventsAreTheirCasesInSchedules` in
+/// `specs/laws/InSchedules.antt`. Proofs: `proofs/lawful/runs/AbstractBridge.antt` and
+/// `proofs/lawful/runs/InSchedules.antt`.
+pub fn events_are_their_cases()
+    ensures steady { EventsAreTheirCases }
+    ensures schedules { EventsAreTheirCasesInSchedules }
+{}

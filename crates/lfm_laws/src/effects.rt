@@ -1,0 +1,50 @@
+//! Linearization points: each call has one event of its own seat that counts as its effect. That a call queues, posts or serves is not
+//! counted. These laws hold of every steady state, so of every state that a schedule reaches and of every `State`.
+ghost use Rattle.lfm_laws.specs.laws.Effects.{CallsTakeEffectOnce, ChangesAreOfOpenCalls, EffectsAreOfCalls, EffectsAreTheCallers, OpenCallsHaveBegun};
+ghost use Rattle.lfm_laws.specs.laws.InSchedules.{CallsTakeEffectOnceInSchedules, EffectsAreOfCallsInSchedules, EffectsAreTheCallersInSchedules};
+
+/// A call has one effect between its begin and its end, whatever the others do in between: its seat or the target of its send
+/// asks, its seat accepts a post, takes up its grant or releases, or holds once more or once less. A call that is refused has
+/// none, nor has a `receive` that finds no grant. A call that is open has had one at most.
+///
+/// Definitions: `CallsTakeEffectOnce` in `specs/laws/Effects.antt`, and `CallsTakeEffectOnceInSchedules` in
+/// `specs/laws/InSchedules.antt`. Proofs: `proofs/lawful/calls/EffectsOnce.antt` and `proofs/lawful/runs/InSchedules.antt`.
+pub fn calls_take_effect_once()
+    ensures steady { CallsTakeEffectOnce }
+    ensures schedules { CallsTakeEffectOnceInSchedules }
+{}
+
+/// What changes the abstract mutex (who owns it, who asks for it, who is queued) is a step of a seat whose call is open.
+///
+/// Definition: `ChangesAreOfOpenCalls` in `specs/laws/Effects.antt`. Proof: `proofs/lawful/calls/EffectsOwned.antt`.
+pub fn changes_are_of_open_calls()
+    ensures { ChangesAreOfOpenCalls }
+{}
+
+/// Each effect of a seat is a step of its open call, or the begin of a call that ends at once.
+///
+/// Definitions: `EffectsAreOfCalls` in `specs/laws/Effects.antt`, and `EffectsAreOfCallsInSchedules` in
+/// `specs/laws/InSchedules.antt`. Proofs: `proofs/lawful/calls/EffectsOwned.antt` and `proofs/lawful/runs/InSchedules.antt`.
+pub fn effects_are_of_calls()
+    ensures steady { EffectsAreOfCalls }
+    ensures schedules { EffectsAreOfCallsInSchedules }
+{}
+
+/// The effect of an open call on the abstract mutex is of its kind and names its seat: a `lock` or `try_lock` asks for its seat,
+/// or a `try_lock` accepts a post for it, an `unlock` or `start_wait` releases it, a `receive` takes up its grant. A `send_lock`
+/// asks for its target.
+///
+/// Definitions: `EffectsAreTheCallers` in `specs/laws/Effects.antt`, and `EffectsAreTheCallersInSchedules` in
+/// `specs/laws/InSchedules.antt`. Proofs: `proofs/lawful/calls/EffectsOwned.antt` and `proofs/lawful/runs/InSchedules.antt`.
+pub fn effects_are_the_callers()
+    ensures steady { EffectsAreTheCallers }
+    ensures schedules { EffectsAreTheCallersInSchedules }
+{}
+
+/// A seat that is in a call after a schedule has begun it in that schedule, and the call has been open since. So the laws above,
+/// which tell a call from its begin on, are about every open call.
+///
+/// Definition: `OpenCallsHaveBegun` in `specs/laws/Effects.antt`. Proof: `proofs/lawful/calls/OpenCalls.antt`.
+pub fn open_calls_have_begun()
+    ensures { OpenCallsHaveBegun }
+{}

@@ -1,0 +1,88 @@
+//! No lost wake-up: posts that are watched, sleepers that can still be woken, and takes that find a waiter. These laws are told
+//! of words and steps. That the park of a thread ends once its grant is stored is only tested.
+ghost use Rattle.lfm_laws.specs.laws.Grants.{CallsGrantOnce};
+ghost use Rattle.lfm_laws.specs.laws.InSchedules.{
+  HandoffsAreWatchedInSchedules,
+  QuiescentStatesRestInSchedules,
+  SleepersAreReachableInSchedules,
+  TakesFindARecordInSchedules,
+  WonPostsHaveARecordInSchedules,
+  FailedPushesSeeChangeInSchedules,
+  CallsPostOnceInSchedules,
+  CallsGrantOnceInSchedules,
+};
+ghost use Rattle.lfm_laws.specs.laws.Laws.{HandoffsAreWatched, QuiescentStatesRest, SleepersAreReachable, TakesFindARecord, WonPostsHaveARecord, FailedPushesSeeChange, CallsPostOnce};
+
+/// While a post stands, some open call will see it, or has seen it and not yet tried for it.
+///
+/// Definitions: `HandoffsAreWatched` in `specs/laws/Laws.antt`, and `HandoffsAreWatchedInSchedules` in
+/// `specs/laws/InSchedules.antt`. Proofs: `proofs/lawful/states/StateLaws.antt` and `proofs/lawful/runs/InSchedules.antt`.
+pub fn handoffs_are_watched()
+    ensures steady { HandoffsAreWatched }
+    ensures schedules { HandoffsAreWatchedInSchedules }
+{}
+
+/// Without an open call nothing is posted. If the count is above 0 then, a seat owns, or a sleeping seat has its grant.
+///
+/// Definitions: `QuiescentStatesRest` in `specs/laws/Laws.antt`, and `QuiescentStatesRestInSchedules` in
+/// `specs/laws/InSchedules.antt`. Proofs: `proofs/lawful/states/StateLaws.antt` and `proofs/lawful/runs/InSchedules.antt`.
+pub fn quiescent_states_rest()
+    ensures steady { QuiescentStatesRest }
+    ensures schedules { QuiescentStatesRestInSchedules }
+{}
+
+/// A seat that sleeps is queued, or has its grant, or is WAITING for a send, or is on its way by a send that has claimed
+/// it.
+///
+/// Definitions: `SleepersAreReachable` in `specs/laws/Laws.antt`, and `SleepersAreReachableInSchedules` in
+/// `specs/laws/InSchedules.antt`. Proofs: `proofs/lawful/states/Sleepers.antt` and `proofs/lawful/runs/InSchedules.antt`.
+pub fn sleepers_are_reachable()
+    ensures steady { SleepersAreReachable }
+    ensures schedules { SleepersAreReachableInSchedules }
+{}
+
+/// A `lock`, `unlock` or `send_lock` that has won a post finds a record when it clears the push list.
+///
+/// Definitions: `TakesFindARecord` in `specs/laws/Laws.antt`, and `TakesFindARecordInSchedules` in
+/// `specs/laws/InSchedules.antt`. Proofs: `proofs/lawful/states/StateLaws.antt` and `proofs/lawful/runs/InSchedules.antt`.
+pub fn takes_find_a_record()
+    ensures steady { TakesFindARecord }
+    ensures schedules { TakesFindARecordInSchedules }
+{}
+
+/// At the exchange that wins a post in a `lock`, `unlock` or `send_lock`, the push list has a record and the pop list has
+/// none.
+///
+/// Definitions: `WonPostsHaveARecord` in `specs/laws/Laws.antt`, and `WonPostsHaveARecordInSchedules` in
+/// `specs/laws/InSchedules.antt`. Proofs: `proofs/lawful/states/WonPosts.antt` and `proofs/lawful/runs/InSchedules.antt`.
+pub fn won_posts_have_a_record()
+    ensures steady { WonPostsHaveARecord }
+    ensures schedules { WonPostsHaveARecordInSchedules }
+{}
+
+/// A push exchange fails only where the stamp has risen since, or the head was cleared.
+///
+/// Definitions: `FailedPushesSeeChange` in `specs/laws/Laws.antt`, and `FailedPushesSeeChangeInSchedules` in
+/// `specs/laws/InSchedules.antt`. Proofs: `proofs/lawful/states/StateLaws.antt` and `proofs/lawful/runs/InSchedules.antt`.
+pub fn failed_pushes_see_change()
+    ensures steady { FailedPushesSeeChange }
+    ensures schedules { FailedPushesSeeChangeInSchedules }
+{}
+
+/// No call posts twice, whatever the others do in between.
+///
+/// Definitions: `CallsPostOnce` in `specs/laws/Laws.antt`, and `CallsPostOnceInSchedules` in `specs/laws/InSchedules.antt`.
+/// Proofs: `proofs/lawful/bounds/PostsOnce.antt` and `proofs/lawful/runs/InSchedules.antt`.
+pub fn calls_post_once()
+    ensures steady { CallsPostOnce }
+    ensures schedules { CallsPostOnceInSchedules }
+{}
+
+/// A call grants the mutex to one seat at most: none stores two grants, however the other seats interleave with it.
+///
+/// Definitions: `CallsGrantOnce` in `specs/laws/Grants.antt`, and `CallsGrantOnceInSchedules` in
+/// `specs/laws/InSchedules.antt`. Proofs: `proofs/lawful/bounds/GrantsOnce.antt` and `proofs/lawful/runs/InSchedules.antt`.
+pub fn calls_grant_once()
+    ensures steady { CallsGrantOnce }
+    ensures schedules { CallsGrantOnceInSchedules }
+{}

@@ -1,0 +1,44 @@
+//! Mutual exclusion: at most one seat owns the mutex, and no step loses or doubles the responsibility for it.
+ghost use Rattle.lfm_laws.specs.laws.InSchedules.{
+  OneSeatOwnsInSchedules,
+  OneHasTheResponsibilityInSchedules,
+  PlacesAreReadInSchedules,
+  CountIsZeroWhereFreeInSchedules,
+};
+ghost use Rattle.lfm_laws.specs.laws.Laws.{OneSeatOwns, OneHasTheResponsibility, CountIsZeroWhereFree, PlacesAreRead};
+
+/// Two seats that both have a depth are the same seat, in every steady state and after every schedule.
+///
+/// Definitions: `OneSeatOwns` in `specs/laws/Laws.antt`, and `OneSeatOwnsInSchedules` in `specs/laws/InSchedules.antt`.
+/// Proofs: `proofs/lawful/states/Owning.antt` and `proofs/lawful/runs/InSchedules.antt`.
+pub fn one_seat_owns()
+    ensures steady { OneSeatOwns }
+    ensures schedules { OneSeatOwnsInSchedules }
+{}
+
+/// With a count above 0, words, depths and points show one place of the responsibility, and no second one.
+///
+/// Definitions: `OneHasTheResponsibility` in `specs/laws/Laws.antt`, and `OneHasTheResponsibilityInSchedules` in
+/// `specs/laws/InSchedules.antt`. Proofs: `proofs/lawful/states/Owning.antt` and `proofs/lawful/runs/InSchedules.antt`.
+pub fn one_has_the_responsibility()
+    ensures steady { OneHasTheResponsibility }
+    ensures schedules { OneHasTheResponsibilityInSchedules }
+{}
+
+/// The count is 0 exactly where the place is free.
+///
+/// Definitions: `CountIsZeroWhereFree` in `specs/laws/Laws.antt`, and `CountIsZeroWhereFreeInSchedules` in
+/// `specs/laws/InSchedules.antt`. Proofs: `proofs/lawful/states/CountLaws.antt` and `proofs/lawful/runs/InSchedules.antt`.
+pub fn count_is_zero_where_free()
+    ensures steady { CountIsZeroWhereFree }
+    ensures schedules { CountIsZeroWhereFreeInSchedules }
+{}
+
+/// The place that a trace prints is that of the abstract mutex which the state stands for.
+///
+/// Definitions: `PlacesAreRead` in `specs/laws/Laws.antt`, and `PlacesAreReadInSchedules` in `specs/laws/InSchedules.antt`.
+/// Proofs: `proofs/lawful/states/CountLaws.antt` and `proofs/lawful/runs/InSchedules.antt`.
+pub fn places_are_read()
+    ensures steady { PlacesAreRead }
+    ensures schedules { PlacesAreReadInSchedules }
+{}

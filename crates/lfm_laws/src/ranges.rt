@@ -1,0 +1,24 @@
+//! The ranges of all numbers: nothing wraps.
+ghost use Rattle.lfm_laws.specs.laws.Ranges.{NumbersStayInRange, StepsHaveRoom, LimitsStay};
+
+/// Among N seats of budget B the stamp is at most N · B, and the count at most N + 1. A seat's depth is at most 65,535, its
+/// takes at most B, its posts at most its takes.
+///
+/// Definition: `NumbersStayInRange` in `specs/laws/Ranges.antt`. Proof: `proofs/lawful/states/RangesRead.antt`.
+pub fn numbers_stay_in_range()
+    ensures { NumbersStayInRange }
+{}
+
+/// The next step of each seat wraps no number, and touches only seats that are there.
+///
+/// Definition: `StepsHaveRoom` in `specs/laws/Ranges.antt`. Proof: `proofs/lawful/states/RangesRead.antt`.
+pub fn steps_have_room()
+    ensures { StepsHaveRoom }
+{}
+
+/// Nothing changes the number of seats or the budget.
+///
+/// Definition: `LimitsStay` in `specs/laws/Ranges.antt`. Proof: `proofs/lawful/runs/LimitsKept.antt`.
+pub fn limits_stay()
+    ensures { LimitsStay }
+{}

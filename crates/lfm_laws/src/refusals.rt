@@ -1,0 +1,65 @@
+//! Refusals: a call or step is refused exactly where there is the cause, and a call that is refused changes nothing.
+ghost use Rattle.lfm_laws.specs.laws.BusyMoments.{BusyWasBusy};
+ghost use Rattle.lfm_laws.specs.laws.InSchedules.{BusyWasBusyInSchedules};
+ghost use Rattle.lfm_laws.specs.laws.OutsideSteps.{AnsweredOutside, RunsStayWithoutOutsideSteps, StepsOutsideOfCallsChangeNothing};
+ghost use Rattle.lfm_laws.specs.laws.Refusals.{RefusedBeginsChangeNothing, BeginsAreRefusedForCause, StepsAreRefusedForCause, TurnsAreRefusedForCause, TriesSeeAHolder};
+
+/// A begin that is refused leaves the whole state as it was.
+///
+/// Definition: `RefusedBeginsChangeNothing` in `specs/laws/Refusals.antt`. Proof: `proofs/lawful/refusals/RefusedCalls.antt`.
+pub fn refused_begins_change_nothing()
+    ensures { RefusedBeginsChangeNothing }
+{}
+
+/// A step of a seat that has no call open, or of a number that no seat has, leaves the whole state as it was: each word,
+/// record and seat. Only such a step is refused as Idle or NoSuchSeat. So a run comes to the same state without it.
+///
+/// Definitions: `StepsOutsideOfCallsChangeNothing`, `AnsweredOutside` and `RunsStayWithoutOutsideSteps` in
+/// `specs/laws/OutsideSteps.antt`. Proof: `proofs/lawful/refusals/OutsideSteps.antt`.
+pub fn steps_outside_of_calls_change_nothing()
+    ensures state { StepsOutsideOfCallsChangeNothing }
+    ensures answered { AnsweredOutside }
+    ensures runs { RunsStayWithoutOutsideSteps }
+{}
+
+/// The mutex refuses a call exactly where the seat and the state have the cause that is named for this call and this
+/// refusal; at most one cause holds.
+///
+/// Definition: `BeginsAreRefusedForCause` in `specs/laws/Refusals.antt`. Proof: `proofs/lawful/refusals/RefusedCalls.antt`.
+pub fn begins_are_refused_for_cause()
+    ensures { BeginsAreRefusedForCause }
+{}
+
+/// Two kinds of step can be refused: Busy, of a `try_lock` that finds no post or loses it; NotWaiting, of a send whose
+/// target does not wait. Then the call is over, and only its seat has changed; Busy has given the take back.
+///
+/// Definition: `StepsAreRefusedForCause` in `specs/laws/Refusals.antt`. Proof: `proofs/lawful/refusals/RefusedSteps.antt`.
+pub fn steps_are_refused_for_cause()
+    ensures { StepsAreRefusedForCause }
+{}
+
+/// A begin or a step is refused exactly if there is its cause. NoSuchSeat: no such seat. InCall: a call of the seat is open.
+/// Idle: no call of it is. Any other refusal is one of the call itself.
+///
+/// Definition: `TurnsAreRefusedForCause` in `specs/laws/Refusals.antt`. Proof: `proofs/lawful/refusals/RefusedTurns.antt`.
+pub fn turns_are_refused_for_cause()
+    ensures { TurnsAreRefusedForCause }
+{}
+
+/// A `try_lock` comes to its handoff load only by steps of its own. They saw a count above 0, and then, without a hold of
+/// its own, an owner word that is not its seat. It comes to its exchange only by having seen that very post.
+///
+/// Definition: `TriesSeeAHolder` in `specs/laws/Refusals.antt`. Proof: `proofs/lawful/refusals/BusyTries.antt`.
+pub fn tries_see_a_holder()
+    ensures { TriesSeeAHolder }
+{}
+
+/// Busy is linearizable: at some moment between the begin of a `try_lock` and its answer Busy there was nothing to take. The
+/// count was above 0, and nothing was posted.
+///
+/// Definitions: `BusyWasBusy` in `specs/laws/BusyMoments.antt`, and `BusyWasBusyInSchedules` in
+/// `specs/laws/InSchedules.antt`. Proofs: `proofs/lawful/refusals/BusyMoments.antt` and `proofs/lawful/runs/InSchedules.antt`.
+pub fn busy_was_busy()
+    ensures steady { BusyWasBusy }
+    ensures schedules { BusyWasBusyInSchedules }
+{}

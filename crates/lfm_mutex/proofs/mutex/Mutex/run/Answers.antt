@@ -10,3 +10,9 @@ returns-clause-rounds g c = if_ok _ _ c.share.result (λ v gives j t at. let x =
 
 pub returns-clause-belongs : goal.returns-clause-belongs
 returns-clause-belongs g c = if_ok _ _ c.share.result (λ v gives j t at. let x = gives j t at in subst (λ m. OfMutex t m) x.2.shows x.2.met.0) c.share.ensures.gives
+
+pub returns-clause-count : goal.returns-clause-count
+returns-clause-count g c = c.share.ensures.count
+
+pub returns-clause-back : goal.returns-clause-back
+returns-clause-back g c = c.share.ensures.back

@@ -1,5 +1,5 @@
 -- What a seat is after a section: the hold that it came to is given up again.
-use Rattle.std.proofs.Common.{◌≡◌, ℕ, ◌+◌, ◌∙◌, Ok, false, sym, ap, arith}
+use Rattle.std.proofs.Common.{◌≡◌, ℕ, ◌+◌, ◌<◌, ◌∙◌, Ok, false, sym, ap, arith}
 use Rattle.lfm_model.specs.declared.answers.How.{How}
 use Rattle.lfm_model.specs.declared.answers.Locked.{Locked}
 use Rattle.lfm_model.specs.declared.answers.Unlocked.{Unlocked}
@@ -40,3 +40,19 @@ module _ {T : Type 0} (follows : ℕ → T → T → Type 0) (fits : T → ℕ �
   pub stands_after_try : (locked : Locked) (u : Unlocked) → Locks follows fits budget s held (Ok locked) → Unlocks (with_value held x) t (Ok u) → StandsAs s t
   stands_after_try (Locked.Held how) u l e = after_gain how u l e
   stands_after_try (Locked.Again d) u l e = after_deepening d u l e
+
+module _ {T : Type 0} (follows : ℕ → T → T → Type 0) (fits : T → ℕ → Type 0) (budget : ℕ) (s held : Sight T) where
+  deepened_holds : (d : ℕ) → Deepens s held d → 0 < held.depth
+  deepened_holds d p = let a = p.3 in let b : held.depth ≡ d = ap (λ m. m.depth) p.4 in omega arith
+
+  gained_holds : (how : How) → Gains follows fits budget how s held → 0 < held.depth
+  gained_holds how g = let a = g.4 in omega arith
+
+  -- whoever has locked holds
+  pub holds_after_lock : (locked : Locked) → LocksWaiting follows fits budget s held (Ok locked) → 0 < held.depth
+  holds_after_lock (Locked.Held how) l = gained_holds how l
+  holds_after_lock (Locked.Again d) l = deepened_holds d l
+
+  pub holds_after_try : (locked : Locked) → Locks follows fits budget s held (Ok locked) → 0 < held.depth
+  holds_after_try (Locked.Held how) l = gained_holds how l
+  holds_after_try (Locked.Again d) l = deepened_holds d l

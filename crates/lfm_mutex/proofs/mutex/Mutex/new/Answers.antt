@@ -1,4 +1,4 @@
-use Rattle.std.proofs.Common.{rules, ◌≡◌, ℕ, ◌+◌, ap, ◌∙◌, sym, refl, subst, arith, length}
+use Rattle.std.proofs.Common.{rules, ◌≡◌, ℕ, ◌+◌, ap, ◌∙◌, sym, refl, subst, arith, length, true≢false}
 use Rattle.std.specs.Prelude.{true}
 use Rattle.atomic_table.specs.Table.{Splits}
 use Rattle.lfm_protocol.specs.declared.limits.Limits.{Limits}
@@ -89,3 +89,6 @@ loop-i-init g c = search rules
 
 pub returns-clause-belongs : goal.returns-clause-belongs
 returns-clause-belongs g c = λ j s at. ((returns-clause-seats g c).1 j s at).0
+
+pub returns-then-not-are_allowed-clause-memory : goal.returns-then-not-are_allowed-clause-memory
+returns-then-not-are_allowed-clause-memory g c = λ allowed. absurd (true≢false (sym allowed ∙ sym c.if-not-are_allowed.ensures))

@@ -1,4 +1,6 @@
-use Rattle.std.proofs.Common.{rules, Ok, refl}
+use Rattle.std.proofs.Common.{◌≡◌, rules, Ok, refl}
+use Rattle.lfm_protocol.specs.declared.answers.Answer.{Answer}
+use Rattle.lfm_protocol.specs.declared.answers.Turn.TheVariants.{Ended}
 use Rattle.lfm_mutex.specs.calls.Sight.{sight}
 use Rattle.lfm_mutex.proofs.runs.ShortCalls.{receives_few}
 use Rattle.lfm_mutex.proofs.mutex.Mutex.try_receive.Goals as goal
@@ -13,3 +15,9 @@ returns-then-seat-eq0-clause-bounded g c = let r = c.receive_asleep in
 
 pub expect_none-requires : goal.expect_none-requires
 expect_none-requires g c = c.run-turn.ensures.none refl
+
+pub returns-in-Ended-Got-clause-receives : goal.returns-in-Ended-Got-clause-receives
+returns-in-Ended-Got-clause-receives g c = let e : c.run-turn.result.0 ≡ Ended (Answer.Got c.in-Ended-Got.got) = search rules in rw e at c.run-turn.ensures.turned
+
+pub returns-in-Ended-Got-clause-steps : goal.returns-in-Ended-Got-clause-steps
+returns-in-Ended-Got-clause-steps g c = let e : c.run-turn.result.0 ≡ Ended (Answer.Got c.in-Ended-Got.got) = search rules in rw e at c.run-turn.ensures.made

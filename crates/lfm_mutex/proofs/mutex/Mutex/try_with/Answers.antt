@@ -1,9 +1,12 @@
-use Rattle.std.proofs.Common.{subst, sym, Ok}
+use Rattle.std.proofs.Common.{◌≡◌, ap, arith, length, rules, subst, sym, Ok}
 use Rattle.lfm_mutex.specs.Belongs.{limits_of}
 use Rattle.lfm_mutex.specs.calls.Sections.{UnlocksSo, with_value}
 use Rattle.lfm_mutex.specs.calls.Sight.{MayRelease, sight}
-use Rattle.lfm_mutex.proofs.SectionEnds.{stands_after_try}
+use Rattle.lfm_mutex.proofs.SectionEnds.{stands_after_try, holds_after_try}
 use Rattle.lfm_mutex.proofs.mutex.Mutex.try_with.Goals as goal
+
+pub change-answer-requires-clause-holds : goal.change-answer-requires-clause-holds
+change-answer-requires-clause-holds g c κs within = holds_after_try g.T.Kept.follows g.T.Kept.fits (limits_of c.args.self.now).budget (sight c.args.seat.now) (sight c.try_lock.new.seat) c.in_ok-_locked._locked c.in_ok-_locked.ensures.locks
 
 -- what the closure made of what was found may be left
 pub unlock-requires-clause-leaves : goal.unlock-requires-clause-leaves
@@ -30,3 +33,9 @@ returns-clause-section g c = let x = c.change-answer.ensures.changes in record {
 pub returns-clause-same : goal.returns-clause-same
 returns-clause-same g c = stands_after_try g.T.Kept.follows g.T.Kept.fits (limits_of c.args.self.now).budget (sight c.args.seat.now) (sight c.try_lock.new.seat) (sight c.unlock.new.seat)
     c.change-answer.ensures.changes.1 c.in_ok-_locked._locked c.in-Ok.field-0 c.in_ok-_locked.ensures.locks (left g c).0
+
+pub returns-clause-bounded : goal.returns-clause-bounded
+returns-clause-bounded g c = let a = c.in_ok-_locked.ensures.bounded in let b = c.in-Ok.ensures.bounded in let e = ap (λ s. length s.trail) c.change-answer.ensures.changes.4 in omega arith
+
+pub unreachable-requires : goal.unreachable-requires
+unreachable-requires g c = search rules

@@ -2,8 +2,11 @@ use Rattle.std.proofs.Common.{subst, sym, Ok}
 use Rattle.lfm_mutex.specs.Belongs.{limits_of}
 use Rattle.lfm_mutex.specs.calls.Sections.{UnlocksSo, with_value}
 use Rattle.lfm_mutex.specs.calls.Sight.{MayRelease, sight}
-use Rattle.lfm_mutex.proofs.SectionEnds.{stands_after_lock}
+use Rattle.lfm_mutex.proofs.SectionEnds.{stands_after_lock, holds_after_lock}
 use Rattle.lfm_mutex.proofs.mutex.Mutex.with.Goals as goal
+
+pub change-answer-requires-clause-holds : goal.change-answer-requires-clause-holds
+change-answer-requires-clause-holds g c κs within = holds_after_lock g.T.Kept.follows g.T.Kept.fits (limits_of c.args.self.now).budget (sight c.args.seat.now) (sight c.lock.new.seat) c.in_ok-_locked._locked c.in_ok-_locked.ensures.locks
 
 -- what the closure made of what was found may be left
 pub unlock-requires-clause-leaves : goal.unlock-requires-clause-leaves

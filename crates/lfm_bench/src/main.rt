@@ -4,11 +4,10 @@
 //! It tells how fast they are on one machine. No proof says anything about time.
 #![tactic(auto)]
 
-mod alone;
-mod conditions;
+mod bench;
 mod measure;
 mod peers;
-mod together;
+mod tables;
 mod workloads;
 
 use crate::measure::Plan;
@@ -16,7 +15,5 @@ use std::io;
 
 fn main(rt: HostRuntime) -> io::Result<()> {
     let plan = Plan::from_arguments(&rt)?;
-    alone::measure(&rt, plan)?;
-    together::measure(&rt, plan)?;
-    conditions::measure(&rt, plan)
+    tables::measure(&rt, plan)
 }

@@ -1,6 +1,6 @@
 //! The bare atomic steps of the mutex's calls, over a table whose rule says nothing: what the steps alone cost, with no
 //! mutex and no promise.
-ghost use Rattle.std.specs.Prelude.{◌≡◌, ◌≤◌, IfOk};
+ghost use Rattle.std.specs.Prelude.{◌≡◌, ◌≤◌, ◌<◌, IfOk};
 
 use atomic_table::{Play, Seat, Shared, Table, TableRule};
 use std::alloc::{AllocError, Global};
@@ -17,6 +17,17 @@ impl<S> TableRule<S, (), ()> for Anything {
 
 impl<S> Play<S, ()> for Anything {
     ghost then = { λ _ _ _ _. Unit {0} };
+}
+
+/// Who holds a mutex when the calls of a workload start.
+#[derive(Clone, Copy)]
+pub enum Start {
+    /// Nobody.
+    Free,
+    /// The one who makes the calls.
+    Held,
+    /// Another.
+    HeldByOther,
 }
 
 /// The words of no mutex.
@@ -83,38 +94,34 @@ impl<'a> Steps<'a> {
     /// A lock and an unlock that meet nobody: add, store, store, subtract. Returns whether the count was as they leave it.
     #[inline(always)]
     pub fn pair(&mut self) -> bool {
-        if self.table.fetch_add::<Anything>(&mut self.seat, COUNT, 1) != 0 {
+        if self.add(COUNT) != 0 {
             return false;
         }
-        self.table.store::<Anything>(&mut self.seat, OWNER, SELF);
-        self.table.store::<Anything>(&mut self.seat, OWNER, 0);
-        self.table.fetch_sub::<Anything>(&mut self.seat, COUNT, 1) == 1
+        self.store(OWNER, SELF);
+        self.store(OWNER, 0);
+        self.subtract(COUNT) == 1
     }
 
     /// A try_lock that gains the mutex, and its unlock: compare-exchange, store, store, subtract. Returns whether the count
     /// was as they leave it.
     #[inline(always)]
     pub fn hit(&mut self) -> bool {
-        if self
-            .table
-            .compare_exchange::<Anything>(&mut self.seat, COUNT, 0, 1)
-            != 0
-        {
+        if self.exchange(COUNT, 0, 1) != 0 {
             return false;
         }
-        self.table.store::<Anything>(&mut self.seat, OWNER, SELF);
-        self.table.store::<Anything>(&mut self.seat, OWNER, 0);
-        self.table.fetch_sub::<Anything>(&mut self.seat, COUNT, 1) == 1
+        self.store(OWNER, SELF);
+        self.store(OWNER, 0);
+        self.subtract(COUNT) == 1
     }
 
     /// A lock of a holder, whose unlock makes no step: add, load, subtract. Returns whether the seat was the owner.
     #[inline(always)]
     pub fn again(&mut self) -> bool {
-        if self.table.fetch_add::<Anything>(&mut self.seat, COUNT, 1) == 0 {
+        if self.add(COUNT) == 0 {
             return false;
         }
-        let owner = self.table.load::<Anything>(&mut self.seat, OWNER);
-        self.table.fetch_sub::<Anything>(&mut self.seat, COUNT, 1);
+        let owner = self.load(OWNER);
+        self.subtract(COUNT);
         owner == SELF
     }
 
@@ -122,15 +129,11 @@ impl<'a> Steps<'a> {
     /// the owner and no handoff was posted.
     #[inline(always)]
     pub fn miss(&mut self) -> bool {
-        if self
-            .table
-            .compare_exchange::<Anything>(&mut self.seat, COUNT, 0, 1)
-            == 0
-        {
+        if self.exchange(COUNT, 0, 1) == 0 {
             return false;
         }
-        let owner = self.table.load::<Anything>(&mut self.seat, OWNER);
-        let handoff = self.table.load::<Anything>(&mut self.seat, HANDOFF);
+        let owner = self.load(OWNER);
+        let handoff = self.load(HANDOFF);
         owner == OTHER && handoff == 0
     }
 
@@ -154,56 +157,84 @@ impl<'a> Steps<'a> {
 
     #[inline(always)]
     fn queue(&mut self) -> bool {
-        self.table.fetch_add::<Anything>(&mut self.seat, COUNT, 1);
-        let owner = self.table.load::<Anything>(&mut self.seat, OWNER);
-        let push = self.table.load::<Anything>(&mut self.seat, PUSH);
-        self.table.store::<Anything>(&mut self.seat, LINK, push);
+        self.add(COUNT);
+        let owner = self.load(OWNER);
+        let push = self.load(PUSH);
+        self.store(LINK, push);
         let pushed = push.wrapping_add(SEATS).wrapping_add(1 + OTHER);
-        let found = self
-            .table
-            .compare_exchange::<Anything>(&mut self.seat, PUSH, push, pushed);
-        let handoff = self.table.load::<Anything>(&mut self.seat, HANDOFF);
+        let found = self.exchange(PUSH, push, pushed);
+        let handoff = self.load(HANDOFF);
         owner != 0 && found == push && handoff == 0
     }
 
     #[inline(always)]
     fn serve(&mut self) -> bool {
-        self.table.store::<Anything>(&mut self.seat, OWNER, 0);
-        let count = self.table.fetch_sub::<Anything>(&mut self.seat, COUNT, 1);
+        self.store(OWNER, 0);
+        let count = self.subtract(COUNT);
         let head = self
             .table
             .fetch_and::<Anything>(&mut self.seat, PUSH, !SEATS);
-        let link = self.table.load::<Anything>(&mut self.seat, LINK);
-        self.table.store::<Anything>(&mut self.seat, WAKE, GRANT);
+        let link = self.load(LINK);
+        self.store(WAKE, GRANT);
         self.table.wake_one(WAKE);
         count == 2 && head & SEATS == OTHER && link & SEATS == 0
     }
 
     #[inline(always)]
     fn receive(&mut self) -> bool {
-        let wake = self.table.load::<Anything>(&mut self.seat, WAKE);
-        self.table.store::<Anything>(&mut self.seat, WAKE, 0);
-        self.table.store::<Anything>(&mut self.seat, OWNER, SELF);
+        let wake = self.load(WAKE);
+        self.store(WAKE, 0);
+        self.store(OWNER, SELF);
         wake == GRANT
     }
 
-    /// Sets the words as they are while this seat holds.
-    pub fn hold(&mut self) {
-        self.set(1, SELF);
+    /// Sets the words as they are where calls start so.
+    pub fn begin(&mut self, start: Start) {
+        let (count, owner) = match start {
+            Start::Free => (0, 0),
+            Start::Held => (1, SELF),
+            Start::HeldByOther => (1, OTHER),
+        };
+        self.store(COUNT, count);
+        self.store(OWNER, owner);
     }
 
-    /// Sets the words as they are while another seat holds.
-    pub fn be_held(&mut self) {
-        self.set(1, OTHER);
+    #[inline(always)]
+    fn load(&mut self, word: usize) -> u64
+        requires { word < 8 }
+    {
+        self.table.load::<Anything>(&mut self.seat, word)
     }
 
-    /// Sets the words as they are while nobody holds.
-    pub fn be_free(&mut self) {
-        self.set(0, 0);
+    #[inline(always)]
+    fn store(&mut self, word: usize, value: u64)
+        requires { word < 8 }
+    {
+        self.table.store::<Anything>(&mut self.seat, word, value);
     }
 
-    fn set(&mut self, count: u64, owner: u64) {
-        self.table.store::<Anything>(&mut self.seat, COUNT, count);
-        self.table.store::<Anything>(&mut self.seat, OWNER, owner);
+    /// Adds 1. Returns what was there before.
+    #[inline(always)]
+    fn add(&mut self, word: usize) -> u64
+        requires { word < 8 }
+    {
+        self.table.fetch_add::<Anything>(&mut self.seat, word, 1)
+    }
+
+    /// Subtracts 1. Returns what was there before.
+    #[inline(always)]
+    fn subtract(&mut self, word: usize) -> u64
+        requires { word < 8 }
+    {
+        self.table.fetch_sub::<Anything>(&mut self.seat, word, 1)
+    }
+
+    /// Puts a word in the place of another that is to be there. Returns what was there before.
+    #[inline(always)]
+    fn exchange(&mut self, word: usize, old: u64, new: u64) -> u64
+        requires { word < 8 }
+    {
+        self.table
+            .compare_exchange::<Anything>(&mut self.seat, word, old, new)
     }
 }

@@ -14,40 +14,27 @@ pub struct Turns {
     pub worked: bool,
 }
 
-/// What came of a round.
-#[derive(Clone, Copy)]
-pub struct Contest {
-    /// A call is an acquisition by any thread. It is exact where the value under the mutex is how often it was acquired.
-    pub sample: Sample,
-    /// The most acquisitions of a thread, in hundredths of the fewest, or of 1 where those are 0.
-    pub fairness: u64,
-}
-
-impl Contest {
-    /// What these threads did, where the value was 0 before and this after them.
-    pub fn of(turns: &[Turns], value: Option<u64>) -> Contest
-        ensures { result.sample.exact ≡ true → value ≡ Some result.sample.calls }
-    {
-        let mut calls = 0u64;
-        let mut nanoseconds = 0;
-        let mut most = 0;
-        let mut fewest = u64::MAX;
-        let mut worked = true;
-        for one in turns {
-            calls = calls.saturating_add(one.acquisitions);
-            nanoseconds = nanoseconds.max(one.nanoseconds);
-            most = most.max(one.acquisitions);
-            fewest = fewest.min(one.acquisitions);
-            worked &= one.worked;
-        }
-        let sample = Sample {
-            nanoseconds,
-            calls,
-            exact: worked && value == Some(calls),
-        };
-        Contest {
-            sample,
-            fairness: hundredths(most, fewest.max(1)),
-        }
+/// What these threads did in a round, where the value was 0 before and this after them. A call is an acquisition by any of
+/// them. It is exact where the value is how often the mutex was acquired.
+pub fn contest(turns: &[Turns], value: Option<u64>) -> Sample
+    ensures { result.exact ≡ true → value ≡ Some result.calls }
+{
+    let mut calls = 0u64;
+    let mut nanoseconds = 0;
+    let mut most = 0;
+    let mut fewest = u64::MAX;
+    let mut worked = true;
+    for one in turns {
+        calls = calls.saturating_add(one.acquisitions);
+        nanoseconds = nanoseconds.max(one.nanoseconds);
+        most = most.max(one.acquisitions);
+        fewest = fewest.min(one.acquisitions);
+        worked &= one.worked;
+    }
+    Sample {
+        nanoseconds,
+        calls,
+        exact: worked && value == Some(calls),
+        fairness: hundredths(most, fewest.max(1)),
     }
 }

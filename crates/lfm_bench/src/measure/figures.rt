@@ -7,6 +7,9 @@ use std::alloc::{AllocError, Global};
 use std::io;
 use std::time::{CpuClock, Duration};
 
+/// The fairness of those who don't contend.
+pub const EVEN: u64 = 100;
+
 /// One round of a measurement.
 #[derive(Clone, Copy)]
 pub struct Sample {
@@ -16,6 +19,8 @@ pub struct Sample {
     pub calls: u64,
     /// Whether each call did what it was to do.
     pub exact: bool,
+    /// The most calls of a thread, in hundredths of the fewest, or of 1 where those are 0.
+    pub fairness: u64,
 }
 
 impl Sample {
@@ -59,6 +64,7 @@ impl Stopwatch {
             nanoseconds,
             calls,
             exact: done == calls,
+            fairness: EVEN,
         })
     }
 }
@@ -164,6 +170,7 @@ fn quartiles_in_order(figures: &[u64]) -> Option<Quartiles>
 #[derive(Drop)]
 pub struct Figures {
     costs: Series,
+    fairness: Series,
     exact: bool,
 }
 
@@ -174,6 +181,7 @@ impl Figures {
     {
         Figures {
             costs: Series::new(alloc),
+            fairness: Series::new(alloc),
             exact: true,
         }
     }
@@ -183,7 +191,8 @@ impl Figures {
         ensures { self.new.exact ≡ (self.old.exact && sample.exact) }
     {
         self.exact = self.exact && sample.exact;
-        self.costs.add(sample.cost())
+        self.costs.add(sample.cost())?;
+        self.fairness.add(sample.fairness)
     }
 
     /// Whether each call of each round did what it was to do.
@@ -196,5 +205,10 @@ impl Figures {
     /// The quartiles of what a call took on average in a round, in picoseconds. None where there was no round.
     pub fn costs(&mut self) -> Option<Quartiles> {
         self.costs.quartiles()
+    }
+
+    /// The median of the fairness of a round. 0 where there was no round.
+    pub fn fairness(&mut self) -> u64 {
+        self.fairness.median()
     }
 }

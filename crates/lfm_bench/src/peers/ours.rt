@@ -4,6 +4,7 @@ ghost use Rattle.lfm_mutex.specs.Belongs.{OfMutex, limits_of};
 ghost use mathlib.Core.Option.{some};
 ghost use lib.ListN.{get_elem?};
 
+use crate::measure::Start;
 use lfm_model::{Asked, Locked, Refusal};
 use lfm_mutex::{Mutex, Pace, Seat};
 use std::alloc::AllocError;
@@ -133,4 +134,32 @@ pub fn last_user<'a>(mutex: &'a Mutex<u64>, seats: &mut Vec<Seat<u64>>) -> Optio
 {
     let seat = seats.pop()?;
     Some(User::new(mutex, seat))
+}
+
+/// Two users of one mutex.
+#[derive(Drop)]
+pub struct Users<'a> {
+    /// The one who makes the calls.
+    pub user: User<'a>,
+    pub other: User<'a>,
+}
+
+impl Users<'_> {
+    /// Locks where somebody holds when the calls start. Returns whether it is as it is to be.
+    pub fn begin<R: Wait>(&mut self, rt: &R, start: Start) -> bool {
+        match start {
+            Start::Free => true,
+            Start::Held => self.user.lock(rt),
+            Start::HeldByOther => self.other.lock(rt),
+        }
+    }
+
+    /// Unlocks what `begin` locked. Returns whether it was held.
+    pub fn end(&mut self, start: Start) -> bool {
+        match start {
+            Start::Free => true,
+            Start::Held => self.user.unlock(),
+            Start::HeldByOther => self.other.unlock(),
+        }
+    }
 }

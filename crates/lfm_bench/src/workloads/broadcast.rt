@@ -5,8 +5,8 @@
 ghost use Rattle.std.specs.Prelude.{◌≡◌, ◌*◌, ◌%◌, ◌^◌, Some, IfSome, true};
 ghost use Rattle.lfm_bench.specs.Broadcasts.{made, ended};
 
-use crate::measure::Sample;
 use crate::measure::wall_clock::{now, since};
+use crate::measure::{EVEN, Round, Sample};
 use crate::peers::ours::no_seat;
 use crate::peers::participants::{Participant, Places, Shared, Side};
 use crate::peers::standard::wait_until;
@@ -113,14 +113,24 @@ fn sample(load: Load, calls: Calls, holds: &[u64]) -> Sample
         nanoseconds: calls.nanoseconds,
         calls: load.broadcasts,
         exact,
+        fairness: EVEN,
     }
 }
 
-/// Our mutex and condvars.
-pub fn ours<R: Threads + Sync + Wait + Clock + AllocGlobal>(
+/// A round.
+pub fn round<R: Threads + Sync + Wait + Clock + AllocGlobal>(
     rt: &R,
     load: Load,
-) -> io::Result<Sample> {
+) -> io::Result<Round> {
+    Ok(Round {
+        ours: ours(rt, load)?,
+        bare: None,
+        standard: Some(standard(rt, load)?),
+    })
+}
+
+/// Our mutex and condvars.
+fn ours<R: Threads + Sync + Wait + Clock + AllocGlobal>(rt: &R, load: Load) -> io::Result<Sample> {
     let (shared, free) = Shared::new(rt, load.threads.saturating_add(1))?;
     let mut places = Places::new(&shared, free);
     let caller = places.next(Side::Second).ok_or(no_seat())?;
@@ -222,7 +232,7 @@ struct StandardPeer {
 }
 
 /// Std's mutex and condvars.
-pub fn standard<R: Threads + Sync + Wait + Clock + AllocGlobal>(
+fn standard<R: Threads + Sync + Wait + Clock + AllocGlobal>(
     rt: &R,
     load: Load,
 ) -> Result<Sample, AllocError> {

@@ -6,7 +6,7 @@ ghost use mathlib.Core.Option.{some};
 ghost use lib.ListN.{get_elem?};
 
 use crate::measure::wall_clock::{now, since};
-use crate::measure::{Busy, Contest, Gate, Turns};
+use crate::measure::{Busy, Gate, Round, Sample, Turns, contest};
 use crate::peers::ours::{User, last_user, new_mutex, no_seat};
 use lfm_mutex::{Mutex, Seat};
 use std::alloc::AllocError;
@@ -31,11 +31,20 @@ pub struct Load {
     pub window: Duration,
 }
 
-/// A round with our mutex.
-pub fn ours<R: Threads + Sync + Wait + Clock + AllocGlobal>(
+/// A round.
+pub fn round<R: Threads + Sync + Wait + Clock + AllocGlobal>(
     rt: &R,
     load: Load,
-) -> io::Result<Contest> {
+) -> io::Result<Round> {
+    Ok(Round {
+        ours: ours(rt, load)?,
+        bare: None,
+        standard: Some(standard(rt, load)?),
+    })
+}
+
+/// A round with our mutex.
+fn ours<R: Threads + Sync + Wait + Clock + AllocGlobal>(rt: &R, load: Load) -> io::Result<Sample> {
     let (mutex, seats) = new_mutex(rt, load.threads.saturating_add(1))?;
     over_seats(rt, load, &mutex, seats)
 }
@@ -46,7 +55,7 @@ fn over_seats<R: Threads + Sync + Wait + Clock>(
     load: Load,
     mutex: &Mutex<u64>,
     mut seats: Vec<Seat<u64>>,
-) -> io::Result<Contest>
+) -> io::Result<Sample>
     requires { (j : ℕ) (s : _) → get_elem? seats.items j ≡ some s → OfMutex s mutex.now }
 {
     let mut reader = last_user(mutex, &mut seats).ok_or(no_seat())?;
@@ -56,7 +65,7 @@ fn over_seats<R: Threads + Sync + Wait + Clock>(
     } else {
         None
     };
-    Ok(Contest::of(&turns, value))
+    Ok(contest(&turns, value))
 }
 
 /// The turns of these seats of our mutex, while the gate is open.
@@ -138,13 +147,13 @@ fn take_turns<R: Wait + Clock>(rt: &R, load: Load, gate: &Gate, mut user: User) 
 }
 
 /// A round with std's mutex.
-pub fn standard<R: Threads + Sync + Wait + Clock + AllocGlobal>(
+fn standard<R: Threads + Sync + Wait + Clock + AllocGlobal>(
     rt: &R,
     load: Load,
-) -> io::Result<Contest> {
+) -> io::Result<Sample> {
     let mutex = std::sync::Mutex::new(0u64);
     let turns = standard_turns(rt, load, &mutex)?;
-    Ok(Contest::of(&turns, Some(mutex.into_inner())))
+    Ok(contest(&turns, Some(mutex.into_inner())))
 }
 
 /// The turns of all threads at std's mutex.

@@ -1,35 +1,26 @@
 //! One thread passes a mutex from one seat to another and back: each time the other seat queues, the holder grants it the
-//! mutex and makes the wake-up call, and the other takes it up. A call is one hand-off. std's mutex has no such calls.
+//! mutex and makes the wake-up call, and the other takes it up. std's mutex has no such calls.
 
-use crate::measure::{Sample, Steps, Stopwatch};
-use crate::peers::ours::User;
+use crate::measure::{Round, Sample, Start, Steps};
+use crate::peers::ours::{User, Users};
+use crate::workloads::alone::{Call, Peers, round};
 use std::io;
 use std::sync::Wait;
 use std::time::CpuClock;
 
-/// Our `ask`, `unlock` and `try_receive`, so many times, or once less where that is an odd number.
-pub fn ours<R: Wait + CpuClock>(
-    rt: &R,
-    user: &mut User,
-    other: &mut User,
-    calls: u64,
-) -> io::Result<Sample> {
-    let pairs = calls / 2;
-    let held = user.lock(rt);
-    let watch = Stopwatch::start(rt)?;
-    let done = our_pairs(user, other, pairs);
-    let sample = watch.stop(rt, pairs * 2, done.wrapping_mul(2))?;
-    let left = user.unlock();
-    Ok(sample.provided(held && left))
-}
+/// `ask`, `unlock` and `try_receive`, from one seat to the other and back.
+struct TwoHandoffs;
 
-/// The bare steps of them.
-pub fn bare<R: CpuClock>(rt: &R, steps: &mut Steps, calls: u64) -> io::Result<Sample> {
-    let pairs = calls / 2;
-    steps.hold();
-    let watch = Stopwatch::start(rt)?;
-    let done = bare_pairs(steps, pairs);
-    watch.stop(rt, pairs * 2, done.wrapping_mul(2))
+impl Call for TwoHandoffs {
+    #[inline(always)]
+    fn ours<R: Wait>(_rt: &R, users: &mut Users) -> bool {
+        pass(&mut users.user, &mut users.other) && pass(&mut users.other, &mut users.user)
+    }
+
+    #[inline(always)]
+    fn bare(steps: &mut Steps) -> bool {
+        steps.handoff() && steps.handoff()
+    }
 }
 
 // The mutex goes from a holder to a seat that queues for it.
@@ -38,24 +29,28 @@ fn pass(holder: &mut User, next: &mut User) -> bool {
     next.queue() && holder.unlock() && next.receive()
 }
 
-#[inline(never)]
-fn our_pairs(user: &mut User, other: &mut User, pairs: u64) -> u64 {
-    let mut done = 0u64;
-    for _ in 0..pairs {
-        if pass(user, other) && pass(other, user) {
-            done = done.wrapping_add(1);
-        }
-    }
-    done
+/// A round of so many hand-offs, or one less where that is an odd number. A call is one hand-off.
+pub fn round_of_handoffs<R: Wait + CpuClock>(
+    rt: &R,
+    peers: &mut Peers,
+    handoffs: u64,
+) -> io::Result<Round> {
+    let round = round::<R, TwoHandoffs>(rt, peers, Start::Held, handoffs / 2)?;
+    let bare = match round.bare {
+        Some(bare) => Some(halves(bare)),
+        None => None,
+    };
+    Ok(Round {
+        ours: halves(round.ours),
+        bare,
+        ..round
+    })
 }
 
-#[inline(never)]
-fn bare_pairs(steps: &mut Steps, pairs: u64) -> u64 {
-    let mut done = 0u64;
-    for _ in 0..pairs {
-        if steps.handoff() && steps.handoff() {
-            done = done.wrapping_add(1);
-        }
+/// The same sample, with two calls for each of its calls.
+fn halves(sample: Sample) -> Sample {
+    Sample {
+        calls: sample.calls.saturating_mul(2),
+        ..sample
     }
-    done
 }

@@ -2,15 +2,38 @@
 //! seat grants it the mutex. A call is one look. What is measured is the processor time of its thread, of which parking takes
 //! almost nothing. std's mutex has no such call.
 
-use crate::measure::{Gate, Sample, Steps, Stopwatch};
+use crate::measure::{Gate, Round, Sample, Start, Steps, Stopwatch};
 use crate::peers::ours::{User, last_user, new_mutex, no_seat};
 use std::sync::Wait;
 use std::thread::{Threads, join};
 use std::time::{Clock, CpuClock, Duration};
 use std::{io, thread};
 
+/// The seat that looks is granted the mutex after so many times the time of its bare looks, and this while in nanoseconds, which
+/// covers the start of a thread.
+const LOOKING: u64 = 8;
+
+const STARTING: u64 = 1_000_000;
+
+/// A round of so many looks.
+pub fn round<R: Threads + Sync + Wait + Clock + CpuClock + AllocGlobal>(
+    rt: &R,
+    steps: &mut Steps,
+    looks: u64,
+) -> io::Result<Round> {
+    let looks = u32::try_from(looks).unwrap_or(u32::MAX);
+    let bare = bare(rt, steps, looks)?;
+    let longest = bare.nanoseconds.saturating_mul(LOOKING);
+    let longest = Duration::from_nanos(longest.saturating_add(STARTING));
+    Ok(Round {
+        ours: ours(rt, looks, longest)?,
+        bare: Some(bare),
+        standard: None,
+    })
+}
+
 /// The looks of a seat of our mutex: at most so many, and fewer where they take longer than this.
-pub fn ours<R: Threads + Sync + Wait + Clock + CpuClock + AllocGlobal>(
+fn ours<R: Threads + Sync + Wait + Clock + CpuClock + AllocGlobal>(
     rt: &R,
     looks: u32,
     longest: Duration,
@@ -64,20 +87,15 @@ fn grant_after<R: Clock>(rt: &R, gate: &Gate, wait: Duration, mut holder: User) 
 }
 
 /// The bare loads of them, with their pauses.
-pub fn bare<R: CpuClock>(rt: &R, steps: &mut Steps, looks: u32) -> io::Result<Sample> {
-    steps.be_held();
-    let watch = Stopwatch::start(rt)?;
-    let done = bare_looks(steps, looks);
-    watch.stop(rt, u64::from(looks), done)
-}
-
 #[inline(never)]
-fn bare_looks(steps: &Steps, looks: u32) -> u64 {
+fn bare<R: CpuClock>(rt: &R, steps: &mut Steps, looks: u32) -> io::Result<Sample> {
+    steps.begin(Start::HeldByOther);
+    let watch = Stopwatch::start(rt)?;
     let mut done = 0u64;
     for _ in 0..looks {
         if steps.look() {
             done = done.wrapping_add(1);
         }
     }
-    done
+    watch.stop(rt, u64::from(looks), done)
 }

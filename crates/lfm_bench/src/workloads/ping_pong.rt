@@ -3,7 +3,7 @@
 ghost use Rattle.std.specs.Prelude.{◌≡◌, ◌*◌, ◌%◌, ◌^◌, Some, true};
 
 use crate::measure::wall_clock::{now, since};
-use crate::measure::{Gate, Sample};
+use crate::measure::{EVEN, Gate, Round, Sample};
 use crate::peers::ours::no_seat;
 use crate::peers::participants::{Participant, Places, Shared, Side};
 use crate::peers::standard::wait_until;
@@ -29,14 +29,24 @@ fn sample(first: TurnsTaken, second: TurnsTaken, turns: u64, number: Option<u64>
         nanoseconds: first.nanoseconds.max(second.nanoseconds),
         calls: turns,
         exact: first.made == turns && second.made == turns && number == Some(turns.wrapping_mul(2)),
+        fairness: EVEN,
     }
 }
 
-/// Our mutex and condvars, with so many turns of each thread.
-pub fn ours<R: Threads + Sync + Wait + Clock + AllocGlobal>(
+/// A round of so many turns of each thread.
+pub fn round<R: Threads + Sync + Wait + Clock + AllocGlobal>(
     rt: &R,
     turns: u64,
-) -> io::Result<Sample> {
+) -> io::Result<Round> {
+    Ok(Round {
+        ours: ours(rt, turns)?,
+        bare: None,
+        standard: Some(standard(rt, turns)),
+    })
+}
+
+/// Our mutex and condvars, with so many turns of each thread.
+fn ours<R: Threads + Sync + Wait + Clock + AllocGlobal>(rt: &R, turns: u64) -> io::Result<Sample> {
     let (shared, free) = Shared::new(rt, 3)?;
     let mut places = Places::new(&shared, free);
     let reader = places.next(Side::First);
@@ -108,7 +118,7 @@ fn our_turns<R: Wait + Clock>(
 }
 
 /// Std's mutex and condvars, with so many turns of each thread.
-pub fn standard<R: Threads + Sync + Wait + Clock>(rt: &R, turns: u64) -> Sample {
+fn standard<R: Threads + Sync + Wait + Clock>(rt: &R, turns: u64) -> Sample {
     let mutex = Mutex::new(0u64);
     let (ping, pong) = standard_pair(rt, turns, &mutex);
     sample(ping, pong, turns, Some(mutex.into_inner()))

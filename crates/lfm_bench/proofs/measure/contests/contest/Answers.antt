@@ -1,5 +1,5 @@
 use Rattle.std.proofs.Common.{rules}
-use Rattle.lfm_bench.proofs.measure.contests.Contest.of.Goals as goal
+use Rattle.lfm_bench.proofs.measure.contests.contest.Goals as goal
 
 pub returns : goal.returns
 returns c = search rules

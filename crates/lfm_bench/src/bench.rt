@@ -1,0 +1,94 @@
+//! Those who are measured, and a round of each workload.
+
+use crate::measure::{Plan, Round, Start, StepTime};
+use crate::workloads::alone::{Peers, round, round_of_all};
+use crate::workloads::handoffs::round_of_handoffs;
+use crate::workloads::hits::Hit;
+use crate::workloads::misses::Miss;
+use crate::workloads::pairs::Pair;
+use crate::workloads::recursive::Again;
+use crate::workloads::{Calls, Workload, broadcast, contended, looks, ping_pong};
+use std::io;
+use std::sync::Wait;
+use std::thread::Threads;
+use std::time::{Clock, CpuClock, Duration};
+
+/// There are fewer looks than calls in a round, since a look has pauses.
+const CALLS_OF_LOOK: u64 = 10;
+
+/// About how many locks by one thread take as long as a round trip, and the fewest round trips of a round.
+const CALLS_OF_TRIP: u64 = 100;
+
+const FEWEST_TRIPS: u64 = 20;
+
+/// The same of a broadcast.
+const CALLS_OF_BROADCAST: u64 = 5_000;
+
+const FEWEST_BROADCASTS: u64 = 4;
+
+/// Those who are measured, and how much.
+#[derive(Drop)]
+pub struct Bench<'a> {
+    /// Those who are measured by what one thread does. The others are made in each round.
+    pub peers: Peers<'a>,
+    pub plan: Plan,
+}
+
+impl Bench<'_> {
+    /// A round of one workload.
+    pub fn round<R: Threads + Sync + Wait + Clock + CpuClock + AllocGlobal>(
+        &mut self,
+        rt: &R,
+        step: StepTime,
+        workload: Workload,
+    ) -> io::Result<Round> {
+        let calls = self.plan.calls;
+        match workload {
+            Workload::Contended {
+                threads,
+                inside,
+                outside,
+            } => {
+                let load = contended::Load {
+                    threads,
+                    inside: step.steps(inside),
+                    outside: step.steps(outside),
+                    window: Duration::from_millis(self.plan.milliseconds),
+                };
+                contended::round(rt, load)
+            }
+            Workload::PingPong => {
+                ping_pong::round(rt, (calls / CALLS_OF_TRIP).max(FEWEST_TRIPS))
+            }
+            Workload::Broadcast(threads) => {
+                let broadcasts = (calls / CALLS_OF_BROADCAST).max(FEWEST_BROADCASTS);
+                broadcast::round(
+                    rt,
+                    broadcast::Load {
+                        threads,
+                        broadcasts,
+                    },
+                )
+            }
+            Workload::Alone(calls) => self.round_of_one_thread(rt, calls),
+        }
+    }
+
+    /// A round of one thread's calls.
+    fn round_of_one_thread<R: Threads + Sync + Wait + Clock + CpuClock + AllocGlobal>(
+        &mut self,
+        rt: &R,
+        calls: Calls,
+    ) -> io::Result<Round> {
+        let many = self.plan.calls;
+        let peers = &mut self.peers;
+        match calls {
+            Calls::Pairs => round_of_all::<R, Pair>(rt, peers, Start::Free, many),
+            Calls::Recursive => round::<R, Again>(rt, peers, Start::Held, many),
+            Calls::Hits => round_of_all::<R, Hit>(rt, peers, Start::Free, many),
+            Calls::Misses => round_of_all::<R, Miss>(rt, peers, Start::HeldByOther, many),
+            Calls::Handoffs => round_of_handoffs(rt, peers, many),
+            Calls::Looks => looks::round(rt, &mut peers.steps, many / CALLS_OF_LOOK),
+        }
+    }
+}

@@ -40,7 +40,7 @@ pub fn on_one_condvar<R: Wait + Abort>(
     number: u64,
     steps: &[(By, Step)],
 ) -> Option<Numbers> {
-    let (mutex, condvar, mut hand) = in_hand_of_one_condvar(alloc, number)?;
+    let (mutex, condvar, mut hand) = in_hand_of_one_condvar(alloc, 8, number)?;
     let called = Called {
         mutex: &mutex,
         one: &condvar,

@@ -94,11 +94,15 @@ pub fn in_hand_of_two_condvars(
     Some((mutex, one_condvar, other_condvar, hand))
 }
 
-/// A mutex round this number, and a condvar for both of its seats. All seats are in hand.
-pub fn in_hand_of_one_condvar(alloc: Global, number: u64) -> Option<(Mutex<u64>, Condvar, InHand)>
+/// A mutex round this number, whose seats may take so often, and a condvar for both of them. All seats are in hand.
+pub fn in_hand_of_one_condvar(
+    alloc: Global,
+    budget: u64,
+    number: u64,
+) -> Option<(Mutex<u64>, Condvar, InHand)>
     ensures { IfSome result (λ r. OfCalled r.2 r.0 r.1 r.1) }
 {
-    let (mutex, first, second) = mutex_of_two(alloc, 8, number)?;
+    let (mutex, first, second) = mutex_of_two(alloc, budget, number)?;
     let (condvar, one, other) = condvar_of_two(alloc, 4)?;
     let hand = InHand {
         first,

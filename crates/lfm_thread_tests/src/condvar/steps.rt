@@ -10,10 +10,10 @@ use crate::condvar::calls::{
 };
 use crate::condvar::in_hand::{Called, InHand};
 use crate::condvar::refused_calls::{wait, wake};
+use crate::seeing::answers;
 use lfm_condvar::{CondSeat, Condvar};
 use lfm_model::{Asked, How, Refusal, SeatNo, Unlocked};
 use lfm_mutex::{Holder, Mutex, Seat};
-use std::fmt::Debug;
 use std::process::Abort;
 use std::sync::Wait;
 
@@ -48,11 +48,6 @@ pub enum By {
     FirstOnOther,
     Second,
     SecondOnOther,
-}
-
-/// Sees that the step with this place among the steps answers as it must.
-fn answers<R: Abort, T: PartialEq + Debug>(rt: &R, at: usize, answer: &T, wanted: &T) {
-    assert_eq!(*rt; *answer, *wanted, "step {at}");
 }
 
 /// Makes a step with this place among the steps, and sees that it answers as it must.

@@ -2,9 +2,9 @@
 ghost use Rattle.lfm_thread_tests.specs.Ours.{Ours};
 
 use crate::monitor::calls::apply_until;
+use crate::seeing::answers;
 use lfm_model::{Asked, How, Locked, Refusal, SeatNo, Total, TotalOp, Unlocked};
 use lfm_monitor::{Monitor, Pass};
-use std::fmt::Debug;
 use std::process::Abort;
 use std::sync::Wait;
 
@@ -36,11 +36,6 @@ pub enum Step {
 pub enum By {
     First,
     Second,
-}
-
-/// Sees that the step with this place among the steps answers as it must.
-fn answers<R: Abort, T: PartialEq + Debug>(rt: &R, at: usize, answer: &T, wanted: &T) {
-    assert_eq!(*rt; *answer, *wanted, "step {at}");
 }
 
 /// Makes a step with this place among the steps, and sees that it answers as it must.

@@ -8,6 +8,9 @@ mod calls;
 #[cfg(test)]
 mod dealing;
 #[cfg(test)]
+mod driving;
+pub mod in_hand;
+#[cfg(test)]
 mod limits;
 #[cfg(test)]
 mod many_waiters;
@@ -23,11 +26,11 @@ mod refusals;
 #[cfg(test)]
 mod refused_calls;
 #[cfg(test)]
-mod refused_steps;
-#[cfg(test)]
 mod repeated_waits;
 #[cfg(test)]
 mod shared_calls;
+#[cfg(test)]
+mod steps;
 #[cfg(test)]
 mod two_condvars;
 #[cfg(test)]

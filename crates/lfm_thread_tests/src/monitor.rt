@@ -8,6 +8,8 @@ mod conditions;
 #[cfg(test)]
 pub mod counted;
 #[cfg(test)]
+mod driving;
+#[cfg(test)]
 mod limits;
 #[cfg(test)]
 mod monitors;

@@ -8,6 +8,11 @@ pub fn sees<R: Abort, T: PartialEq + Debug>(rt: &R, what: &str, found: &T, wante
     assert_eq!(rt; *found, *wanted, "{what}");
 }
 
+/// Sees that the step with this place among the steps answers as it must.
+pub fn answers<R: Abort, T: PartialEq + Debug>(rt: &R, at: usize, answer: &T, wanted: &T) {
+    assert_eq!(*rt; *answer, *wanted, "step {at}");
+}
+
 /// Sees that this holds.
 pub fn holds<R: Abort>(rt: &R, what: &str, condition: bool) {
     assert!(rt; condition, "{what}");

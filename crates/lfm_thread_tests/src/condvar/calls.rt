@@ -33,6 +33,14 @@ pub fn unlock(mutex: &Mutex<u64>, seat: &mut Seat<u64>) -> Result<Unlocked, Refu
     mutex.unlock(seat)
 }
 
+/// `send_lock`.
+pub fn send_lock(mutex: &Mutex<u64>, seat: &mut Seat<u64>, to: SeatNo) -> Result<(), Refusal>
+    requires { OfMutex seat.old mutex.now }
+    ensures { OfMutex seat.new mutex.now }
+{
+    mutex.send_lock(seat, to)
+}
+
 /// `wake_one`.
 pub fn wake_one<R: Wait>(
     rt: &R,

@@ -1,11 +1,13 @@
-//! A mutex and a condvar that have two seats each, and a condvar that has one.
+//! A mutex and a condvar that have two seats each, and a condvar that has one, with seats in hand.
 ghost use Rattle.std.specs.Prelude.{◌≡◌, ℕ, [], IfSome};
 ghost use Rattle.lfm_mutex.specs.Belongs.{OfMutex, limits_of};
 ghost use Rattle.lfm_condvar.specs.Belongs.{OfCondvar, cond_limits};
+ghost use Rattle.lfm_thread_tests.specs.Hands.{OfCalled};
 ghost use mathlib.Core.Option.{some};
 ghost use lib.ListN.{get_elem?};
 
 use crate::condvar::dealing::last_cond_seat;
+use crate::condvar::in_hand::InHand;
 use lfm_condvar::{CondSeat, Condvar};
 use lfm_mutex::{Kept, Mutex, Seat};
 use std::alloc::Global;
@@ -71,6 +73,57 @@ pub fn condvar_of_one(alloc: Global) -> Option<(Condvar, CondSeat)>
     };
     let seat = last_cond_seat(&condvar, &mut seats)?;
     Some((condvar, seat))
+}
+
+/// A mutex round 7, whose seats may take so often, and two condvars for seat 1 alone. All seats are in hand.
+pub fn in_hand_of_two_condvars(
+    alloc: Global,
+    budget: u64,
+) -> Option<(Mutex<u64>, Condvar, Condvar, InHand)>
+    ensures { IfSome result (λ r. OfCalled r.3 r.0 r.1 r.2) }
+{
+    let (mutex, first, second) = mutex_of_two(alloc, budget, 7u64)?;
+    let (one_condvar, one) = condvar_of_one(alloc)?;
+    let (other_condvar, other) = condvar_of_one(alloc)?;
+    let hand = InHand {
+        first,
+        second,
+        one,
+        other,
+    };
+    Some((mutex, one_condvar, other_condvar, hand))
+}
+
+/// A mutex round this number, whose seats may take so often, and a condvar for both of them. All seats are in hand.
+pub fn in_hand_of_one_condvar(
+    alloc: Global,
+    budget: u64,
+    number: u64,
+) -> Option<(Mutex<u64>, Condvar, InHand)>
+    ensures { IfSome result (λ r. OfCalled r.2 r.0 r.1 r.1) }
+{
+    let (mutex, first, second) = mutex_of_two(alloc, budget, number)?;
+    let (condvar, one, other) = condvar_of_two(alloc, 4)?;
+    let hand = InHand {
+        first,
+        second,
+        one,
+        other,
+    };
+    Some((mutex, condvar, hand))
+}
+
+/// Hands the cond seat back, in this empty list, which must close the condvar that has one: returns its numbers.
+pub fn closed_by_one(
+    condvar: Condvar,
+    cond: CondSeat,
+    mut room: Vec<CondSeat>,
+) -> Option<(u64, u64)>
+    requires cond { OfCondvar cond condvar }
+    requires empty { room.items ≡ [] }
+{
+    room.push(cond).ok()?;
+    condvar.close(room).ok()
 }
 
 /// Hands both cond seats back, in this empty list, which must close the condvar: returns its numbers.

@@ -1,9 +1,11 @@
 //! A seat that waits is sent past the condvar: its place in the list stays behind.
 ghost use Rattle.lfm_mutex.specs.Belongs.{OfMutex};
 ghost use Rattle.lfm_condvar.specs.Belongs.{OfCondvar};
+ghost use Rattle.lfm_thread_tests.specs.Hands.{OfCalled};
 
 use crate::condvar::calls::{wait, wake_one};
-use crate::condvar::pairs::{closed, condvar_of_two, mutex_of_two};
+use crate::condvar::in_hand::InHand;
+use crate::condvar::pairs::{closed, in_hand_of_one_condvar};
 use crate::seeing::{holds, sees};
 use lfm_condvar::{CondSeat, Condvar};
 use lfm_model::{Refusal, SeatNo};
@@ -11,7 +13,7 @@ use lfm_mutex::{Mutex, Seat};
 use std::process::Abort;
 use std::sync::Wait;
 use std::test::Fail;
-use std::thread::join;
+use std::thread::{Threads, join};
 
 /// The most often that a thread sends before it gives up.
 const MOST_SENDS: u64 = 1_000_000_000;
@@ -98,26 +100,46 @@ fn the_first_wait_was_sent<R: Abort>(rt: &R, waited: &Waited, sent: &Sent) {
     holds(rt, "the second wait was refused as Busy", waited.busy);
 }
 
+/// One thread waits twice with the first seat, and another sends that with the second. Returns the cond seat that is left too.
+fn sends_past<R: Threads + Wait + Sync>(
+    rt: &R,
+    mutex: &Mutex<u64>,
+    condvar: &Condvar,
+    hand: InHand,
+) -> (Waited, Sent, CondSeat)
+    requires { OfCalled hand mutex.now condvar.now condvar.now }
+    ensures waited { OfCondvar result.0.cond condvar.now }
+    ensures sent { OfMutex result.1.seat mutex.now }
+    ensures left { OfCondvar result.2 condvar.now }
+{
+    let InHand {
+        first: seat_1,
+        second: seat_2,
+        one: cond_1,
+        other: cond_2,
+    } = hand;
+    let (waited, sent) = join(
+        rt,
+        move || -> Waited
+            requires { OfMutex seat_1 mutex.now × OfCondvar cond_1 condvar.now }
+            ensures { OfCondvar result.cond condvar.entry.now }
+        { wait_twice(rt, mutex, condvar, seat_1, cond_1) },
+        move || -> Sent
+            requires { OfMutex seat_2 mutex.now }
+            ensures { OfMutex result.seat mutex.entry.now }
+        { send_the_other(mutex, seat_2) },
+    );
+    (waited, sent, cond_2)
+}
+
 #[test]
 fn a_send_past_the_condvar(rt: HostRuntime) -> Result<(), Fail> {
-    let (mutex, seat_1, seat_2) = mutex_of_two(rt.alloc(), 8, 0u64).ok_or("a mutex")?;
-    let (condvar, cond_1, mut cond_2) = condvar_of_two(rt.alloc(), 4).ok_or("a condvar")?;
-    let (r, m, v) = (&rt, &mutex, &condvar);
-    let (waited, mut sent) = join(
-        &rt,
-        move || -> Waited
-            requires { OfMutex seat_1 m.now × OfCondvar cond_1 v.now }
-            ensures { OfMutex result.seat m.entry.now × OfCondvar result.cond v.entry.now }
-        { wait_twice(r, m, v, seat_1, cond_1) },
-        move || -> Sent
-            requires { OfMutex seat_2 m.now }
-            ensures { OfMutex result.seat m.entry.now }
-        { send_the_other(m, seat_2) },
-    );
+    let (mutex, condvar, hand) = in_hand_of_one_condvar(rt.alloc(), 8, 0).ok_or("seats")?;
+    let (waited, mut sent, mut cond) = sends_past(&rt, &mutex, &condvar, hand);
     the_first_wait_was_sent(&rt, &waited, &sent);
-    let woke = wake_one(&rt, &condvar, &mut cond_2, &mutex, &mut sent.seat);
-    assert!(rt; matches!(woke, Err(Refusal::NotWaiting)));
-    let numbers = closed(condvar, waited.cond, cond_2, Vec::new(rt.alloc()));
-    assert_eq!(rt; numbers, Some((0, 1)));
+    let woke = wake_one(&rt, &condvar, &mut cond, &mutex, &mut sent.seat);
+    sees(&rt, "the wake", &woke, &Err(Refusal::NotWaiting));
+    let numbers = closed(condvar, waited.cond, cond, Vec::new(rt.alloc()));
+    sees(&rt, "the numbers", &numbers, &Some((0, 1)));
     Ok(())
 }

@@ -2,10 +2,12 @@
 ghost use Rattle.std.specs.Prelude.{◌≤◌};
 ghost use Rattle.lfm_mutex.specs.Belongs.{OfMutex, limits_of};
 ghost use Rattle.lfm_condvar.specs.Belongs.{OfCondvar, cond_limits};
+ghost use Rattle.lfm_thread_tests.specs.Hands.{OfCalled};
 
 use crate::adding::add_one;
 use crate::condvar::calls::{unlock, wait, wake_all, wake_one};
-use crate::condvar::pairs::{closed, condvar_of_two, mutex_of_two};
+use crate::condvar::in_hand::InHand;
+use crate::condvar::pairs::{closed, in_hand_of_one_condvar};
 use crate::seeing::{holds, sees};
 use lfm_condvar::{CondSeat, Condvar};
 use lfm_model::{Refusal, SeatNo};
@@ -13,7 +15,7 @@ use lfm_mutex::{Mutex, Seat};
 use std::process::Abort;
 use std::sync::Wait;
 use std::test::Fail;
-use std::thread::join;
+use std::thread::{Threads, join};
 
 /// The most often that a thread reads before it gives up.
 const MOST_READS: u64 = 1_000_000_000;
@@ -151,27 +153,44 @@ fn one_wake_ended_the_wait<R: Abort>(rt: &R, woke: &Woke, waited: &Waited) {
     sees(rt, "the depth after the wait", &waited.depth, &1);
 }
 
+/// One thread waits with the second seat, and another wakes it with the first, once its calls have answered alone.
+fn wakes_the_other<R: Threads + Wait + Abort + Sync>(
+    rt: &R,
+    mutex: &Mutex<u64>,
+    condvar: &Condvar,
+    hand: InHand,
+) -> (Woke, Waited)
+    requires { OfCalled hand mutex.now condvar.now condvar.now }
+    ensures { OfCondvar result.0.cond condvar.now × OfCondvar result.1.cond condvar.now }
+{
+    let InHand {
+        first: mut seat_1,
+        second: seat_2,
+        one: mut cond_1,
+        other: cond_2,
+    } = hand;
+    alone(rt, mutex, condvar, &mut seat_1, &mut cond_1);
+    join(
+        rt,
+        move || -> Woke
+            requires { OfMutex seat_1 mutex.now × OfCondvar cond_1 condvar.now × (cond_limits condvar.now).seats ≤ (limits_of mutex.now).seats }
+            ensures { OfCondvar result.cond condvar.entry.now }
+        { read_and_wake(rt, mutex, condvar, seat_1, cond_1) },
+        move || -> Waited
+            requires { OfMutex seat_2 mutex.now × OfCondvar cond_2 condvar.now }
+            ensures { OfCondvar result.cond condvar.entry.now }
+        { add_and_wait(rt, mutex, condvar, seat_2, cond_2) },
+    )
+}
+
 #[test]
 fn a_condition_variable(rt: HostRuntime) -> Result<(), Fail> {
-    let (mutex, mut seat_1, seat_2) = mutex_of_two(rt.alloc(), 1_000_000_000, 0u64).ok_or(
-        "a mutex",
+    let (mutex, condvar, hand) = in_hand_of_one_condvar(rt.alloc(), 1_000_000_000, 0).ok_or(
+        "seats",
     )?;
-    let (condvar, mut cond_1, cond_2) = condvar_of_two(rt.alloc(), 4).ok_or("a condvar")?;
-    alone(&rt, &mutex, &condvar, &mut seat_1, &mut cond_1);
-    let (r, m, v) = (&rt, &mutex, &condvar);
-    let (woke, waited) = join(
-        &rt,
-        move || -> Woke
-            requires { OfMutex seat_1 m.now × OfCondvar cond_1 v.now × (cond_limits v.now).seats ≤ (limits_of m.now).seats }
-            ensures { OfMutex result.seat m.entry.now × OfCondvar result.cond v.entry.now }
-        { read_and_wake(r, m, v, seat_1, cond_1) },
-        move || -> Waited
-            requires { OfMutex seat_2 m.now × OfCondvar cond_2 v.now }
-            ensures { OfMutex result.seat m.entry.now × OfCondvar result.cond v.entry.now }
-        { add_and_wait(r, m, v, seat_2, cond_2) },
-    );
+    let (woke, waited) = wakes_the_other(&rt, &mutex, &condvar, hand);
     one_wake_ended_the_wait(&rt, &woke, &waited);
     let numbers = closed(condvar, woke.cond, waited.cond, Vec::new(rt.alloc()));
-    assert_eq!(rt; numbers, Some((1, 1)));
+    sees(&rt, "the numbers", &numbers, &Some((1, 1)));
     Ok(())
 }

@@ -1,36 +1,29 @@
 //! Waits and wakes that a monitor refuses, each for the first of its causes, and what its calls answer where nobody waits.
-use crate::monitor::passes::{monitor_of_one, monitor_of_two};
-use crate::monitor::steps::{By, Step, make_all, make_alone};
+use crate::monitor::driving::{one_makes, two_make};
+use crate::monitor::steps::{By, Step};
 use lfm_model::{Asked, How, Locked, Refusal, SeatNo, TotalOp, Unlocked};
 use std::test::Fail;
 
-/// Nobody waits, and the pass doesn't hold; then it holds once and twice.
-const AWAKE: [Step; 9] = [
-    Step::WakeAll(1, Ok(0)),
-    Step::WakeOne(1, Ok(None)),
-    Step::WakeOne(2, Err(Refusal::NoSuchSeat)),
-    Step::Wait(1, Err(Refusal::NotOwner)),
-    Step::Enter(Ok(Locked::Held(How::Free))),
-    Step::Wait(2, Err(Refusal::NoSuchSeat)),
-    Step::Wait(0, Err(Refusal::NoSuchSeat)),
-    Step::Enter(Ok(Locked::Again(2))),
-    Step::Wait(1, Err(Refusal::Nested)),
-];
-
-/// A pass that sleeps is refused everything but a receive.
-const ASLEEP: [Step; 5] = [
-    Step::Ask(Ok(Asked::Asleep)),
-    Step::Enter(Err(Refusal::Asleep)),
-    Step::Wait(2, Err(Refusal::Asleep)),
-    Step::WakeOne(2, Err(Refusal::Asleep)),
-    Step::WakeAll(2, Err(Refusal::Asleep)),
-];
-
-/// None of these calls has written anything but the first take of the first pass. It gives its two holds up to the second
-/// pass, and that leaves.
-fn both_leave() -> [(By, Step); 10] {
+/// Nobody waits, and the first pass doesn't hold; then it holds once and twice. The second sleeps, and is refused everything
+/// but a receive. None of these calls has written anything but the first take of the first pass. It gives its two holds up to
+/// the second pass, and that leaves.
+fn refused_and_left() -> [(By, Step); 24] {
     let to_second = Ok(Unlocked::Granted(SeatNo::known(2)));
     [
+        (By::First, Step::WakeAll(1, Ok(0))),
+        (By::First, Step::WakeOne(1, Ok(None))),
+        (By::First, Step::WakeOne(2, Err(Refusal::NoSuchSeat))),
+        (By::First, Step::Wait(1, Err(Refusal::NotOwner))),
+        (By::First, Step::Enter(Ok(Locked::Held(How::Free)))),
+        (By::First, Step::Wait(2, Err(Refusal::NoSuchSeat))),
+        (By::First, Step::Wait(0, Err(Refusal::NoSuchSeat))),
+        (By::First, Step::Enter(Ok(Locked::Again(2)))),
+        (By::First, Step::Wait(1, Err(Refusal::Nested))),
+        (By::Second, Step::Ask(Ok(Asked::Asleep))),
+        (By::Second, Step::Enter(Err(Refusal::Asleep))),
+        (By::Second, Step::Wait(2, Err(Refusal::Asleep))),
+        (By::Second, Step::WakeOne(2, Err(Refusal::Asleep))),
+        (By::Second, Step::WakeAll(2, Err(Refusal::Asleep))),
         (By::First, Step::Mine(1)),
         (By::Second, Step::Mine(0)),
         (By::First, Step::Depth(2)),
@@ -46,11 +39,7 @@ fn both_leave() -> [(By, Step); 10] {
 
 #[test]
 fn conditions(rt: HostRuntime) -> Result<(), Fail> {
-    let (monitor, mut first, mut second) = monitor_of_two(rt.alloc(), 8, 1).ok_or("a monitor")?;
-    make_alone(&rt, &monitor, &mut first, &AWAKE);
-    make_alone(&rt, &monitor, &mut second, &ASLEEP);
-    make_all(&rt, &monitor, &mut first, &mut second, &both_leave());
-    Ok(())
+    two_make(&rt, rt.alloc(), 8, 1, &refused_and_left())
 }
 
 /// The pass uses up its two entries while it holds. Then the take that ends a wait could not be written; that there is no
@@ -69,7 +58,6 @@ const SPENT: [Step; 9] = [
 
 #[test]
 fn a_pass_without_an_entry_may_not_wait(rt: HostRuntime) -> Result<(), Fail> {
-    let (monitor, mut pass) = monitor_of_one(rt.alloc(), 2, 1).ok_or("a monitor")?;
-    make_alone(&rt, &monitor, &mut pass, &SPENT);
+    one_makes(&rt, rt.alloc(), 2, 1, &SPENT)?;
     Ok(())
 }

@@ -2,15 +2,22 @@
 ghost use Rattle.lfm_monitor.specs.Belongs.{OfMonitor};
 ghost use Rattle.std.specs.Prelude.{◌≡◌, [], IfSome};
 
-use crate::monitor::passes::{closed_by_two, monitor_of_one, monitor_of_two};
-use crate::monitor::steps::{By, Step, make_all, make_alone};
+use crate::monitor::driving::one_makes;
+use crate::monitor::passes::{closed_by_two, monitor_of_two};
+use crate::monitor::steps::{By, Step, make_all};
 use crate::seeing::sees;
 use lfm_model::{
     Asked, Entry, How, Locked, Missing, Refusal, SeatNo, Total, TotalOp, Unlocked, What, lawful,
     replay,
 };
 use lfm_monitor::{Monitor, Pass};
+use std::alloc::Global;
+use std::process::Abort;
+use std::sync::Wait;
 use std::test::Fail;
+
+/// The object and the journal of a monitor that is closed.
+type Closed = (Total, Vec<Entry<TotalOp>>);
 
 /// Hands the first of two passes back, which must not close the monitor yet: returns what is missing, and all three again.
 fn kept_alone(
@@ -77,20 +84,21 @@ fn turns() -> [(By, Step); 17] {
     ]
 }
 
+/// The two passes of a new monitor take their turns, and are handed back. Returns what was missing before the second was, and
+/// what the monitor is closed with.
+fn taken_in_turns<R: Wait + Abort>(rt: &R, alloc: Global) -> Option<(Missing, Closed)> {
+    let (monitor, mut first, mut second) = monitor_of_two(alloc, 8, 0)?;
+    make_all(rt, &monitor, &mut first, &mut second, &turns());
+    let (monitor, first, second, missing) = kept_alone(monitor, first, second, Vec::new(alloc))?;
+    let closed = closed_by_two(monitor, first, second, Vec::new(alloc))?;
+    Some((missing, closed))
+}
+
 #[test]
 fn a_monitor_in_one_thread(rt: HostRuntime) -> Result<(), Fail> {
-    let (monitor, mut first, mut second) = monitor_of_two(rt.alloc(), 8, 0).ok_or("a monitor")?;
-    make_all(&rt, &monitor, &mut first, &mut second, &turns());
-    let room = Vec::new(rt.alloc());
-    let (monitor, first, second, missing) = kept_alone(monitor, first, second, room).ok_or(
-        "it was closed without pass 2",
-    )?;
+    let (missing, (total, journal)) = taken_in_turns(&rt, rt.alloc()).ok_or("it was closed")?;
     let wanted = Missing::NotBack(SeatNo::known(2));
     sees(&rt, "what is missing", &missing, &wanted);
-    let room = Vec::new(rt.alloc());
-    let (total, journal) = closed_by_two(monitor, first, second, room).ok_or(
-        "both passes were back",
-    )?;
     sees(&rt, "the total", &total, &Total(12));
     assert_eq!(rt; journal.as_slice(), written().as_slice());
     Ok(())
@@ -109,13 +117,12 @@ fn a_journal_is_replayed(rt: HostRuntime) -> Result<(), Fail> {
 // The one entry goes to the take, so the pass may write no op, and not enter again.
 #[test]
 fn one_entry(rt: HostRuntime) -> Result<(), Fail> {
-    let (monitor, mut pass) = monitor_of_one(rt.alloc(), 1, 0).ok_or("a monitor")?;
     let steps = [
         Step::TryEnter(Ok(Locked::Held(How::Free))),
         Step::Apply(TotalOp::Read, Err(Refusal::Spent)),
         Step::Leave(Ok(Unlocked::Free)),
         Step::Enter(Err(Refusal::Spent)),
     ];
-    make_alone(&rt, &monitor, &mut pass, &steps);
+    one_makes(&rt, rt.alloc(), 1, 0, &steps)?;
     Ok(())
 }

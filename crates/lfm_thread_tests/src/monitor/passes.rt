@@ -52,17 +52,18 @@ pub fn monitor_of_two(
     Some((monitor, first, second))
 }
 
-/// Hands the one pass back, in this empty list, which must close the monitor: returns its object and its journal.
+/// Hands the one pass back, in this empty list, which must close the monitor: returns its object.
 pub fn closed_by_one(
     monitor: Monitor<Total>,
     pass: Pass<Total>,
     mut room: Vec<Pass<Total>>,
-) -> Option<(Total, Vec<Entry<TotalOp>>)>
+) -> Option<Total>
     requires belongs { OfMonitor pass monitor }
     requires empty { room.items ≡ [] }
 {
     room.push(pass).ok()?;
-    monitor.close(room).ok()
+    let (total, _) = monitor.close(room).ok()?;
+    Some(total)
 }
 
 /// Hands both passes back, in this empty list, which must close the monitor: returns its object and its journal.

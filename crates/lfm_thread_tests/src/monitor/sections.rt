@@ -2,7 +2,7 @@
 //! others. A pass never holds more after a section than before it.
 use crate::monitor::calls::{deepen, hold};
 use crate::monitor::passes::monitor_of_two;
-use crate::monitor::steps::{Step, make_alone};
+use crate::monitor::steps::{By, Step, make_all, make_alone};
 use crate::seeing::sees;
 use lfm_model::{Asked, How, Locked, Refusal, SeatNo, Total, TotalOp, Unlocked};
 use lfm_monitor::{CriticalSection, Monitor, Pass};
@@ -287,18 +287,22 @@ fn hold_without_an_entry_executes_nothing(rt: HostRuntime) -> Result<(), Fail> {
 #[test]
 fn hold_of_a_sleeping_pass_executes_nothing(rt: HostRuntime) -> Result<(), Fail> {
     let (monitor, mut first, mut second) = monitor_of_two(rt.alloc(), 4, 0).ok_or("a monitor")?;
-    make_alone(&rt, &monitor, &mut first, &[HOLDS]);
-    let asleep = Step::Ask(Ok(Asked::Asleep));
-    make_alone(&rt, &monitor, &mut second, &[asleep]);
+    let before = [
+        (By::First, HOLDS),
+        (By::Second, Step::Ask(Ok(Asked::Asleep))),
+    ];
+    make_all(&rt, &monitor, &mut first, &mut second, &before);
     let never = Makes {
         steps: &NEVER,
         answers: Ok(7),
     };
     let refused = hold(&rt, &monitor, &mut second, 0, &never);
     sees(&rt, "the answer", &refused, &Err(Refusal::Asleep));
-    let granted = Step::Leave(Ok(Unlocked::Granted(SeatNo::known(2))));
-    make_alone(&rt, &monitor, &mut first, &[granted]);
-    let received = Step::TryReceive(Ok(Some(How::Queued(1))));
-    make_alone(&rt, &monitor, &mut second, &[received]);
+    let granted = Ok(Unlocked::Granted(SeatNo::known(2)));
+    let after = [
+        (By::First, Step::Leave(granted)),
+        (By::Second, Step::TryReceive(Ok(Some(How::Queued(1))))),
+    ];
+    make_all(&rt, &monitor, &mut first, &mut second, &after);
     Ok(())
 }

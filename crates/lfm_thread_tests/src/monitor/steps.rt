@@ -1,9 +1,10 @@
 //! Calls of the passes of a monitor, each with what it must answer, made in order by one thread. No test stands here.
 ghost use Rattle.lfm_thread_tests.specs.Ours.{Ours};
 
+use crate::monitor::calls::apply_until;
+use crate::seeing::answers;
 use lfm_model::{Asked, How, Locked, Refusal, SeatNo, Total, TotalOp, Unlocked};
 use lfm_monitor::{Monitor, Pass};
-use std::fmt::Debug;
 use std::process::Abort;
 use std::sync::Wait;
 
@@ -15,6 +16,8 @@ pub enum Step {
     Enter(Result<Locked, Refusal>),
     TryReceive(Result<Option<How>, Refusal>),
     Apply(TotalOp, Result<u64, Refusal>),
+    /// `apply_until`, on the condition with this number, of an op whose reply is to be at least this.
+    ApplyUntil(u64, TotalOp, u64, Result<u64, Refusal>),
     Leave(Result<Unlocked, Refusal>),
     /// The first number of these three is that of the condition.
     Wait(u64, Result<(How, u64), Refusal>),
@@ -35,11 +38,6 @@ pub enum By {
     Second,
 }
 
-/// Sees that the step with this place among the steps answers as it must.
-fn answers<R: Abort, T: PartialEq + Debug>(rt: &R, at: usize, answer: &T, wanted: &T) {
-    assert_eq!(*rt; *answer, *wanted, "step {at}");
-}
-
 /// Makes a step with this place among the steps, and sees that it answers as it must.
 fn make<R: Wait + Abort>(
     rt: &R,
@@ -57,6 +55,10 @@ fn make<R: Wait + Abort>(
         Step::Enter(wanted) => answers(rt, at, &monitor.enter(rt, pass), &wanted),
         Step::TryReceive(wanted) => answers(rt, at, &monitor.try_receive(pass), &wanted),
         Step::Apply(op, wanted) => answers(rt, at, &monitor.apply(pass, op), &wanted),
+        Step::ApplyUntil(condition, op, least, wanted) => {
+            let reply = apply_until(rt, monitor, pass, condition, op, least);
+            answers(rt, at, &reply, &wanted)
+        }
         Step::Leave(wanted) => answers(rt, at, &monitor.leave(pass), &wanted),
         Step::Wait(condition, wanted) => {
             answers(rt, at, &monitor.wait(rt, pass, condition), &wanted)

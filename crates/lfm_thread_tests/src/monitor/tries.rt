@@ -1,9 +1,8 @@
 //! Ops that a pass makes until the reply is what it looks for: at once, after waits, and refused.
-ghost use Rattle.lfm_thread_tests.specs.Ours.{Ours};
 
 use crate::monitor::calls::apply_until;
-use crate::monitor::passes::{closed_by_one, monitor_of_one, monitor_of_two};
-use crate::monitor::steps::{Step, make_alone};
+use crate::monitor::driving::{one_makes, two_make};
+use crate::monitor::steps::{By, Step};
 use crate::seeing::sees;
 use lfm_model::{
     Asked, Entry, How, Locked, Refusal, SeatNo, Total, TotalOp, Unlocked, What, replay,
@@ -11,7 +10,6 @@ use lfm_model::{
 use lfm_monitor::{CriticalSection, Monitor, Pass};
 use std::alloc::{AllocError, Global};
 use std::ops::ControlFlow;
-use std::process::Abort;
 use std::sync::Wait;
 use std::test::Fail;
 
@@ -19,97 +17,84 @@ const ENTERS: Step = Step::Enter(Ok(Locked::Held(How::Free)));
 
 #[test]
 fn try_that_goes_well_at_once(rt: HostRuntime) -> Result<(), Fail> {
-    // the take and one op, and no entry for a wait
-    let (monitor, mut pass) = monitor_of_one(rt.alloc(), 2, 0).ok_or("a monitor")?;
-    make_alone(&rt, &monitor, &mut pass, &[ENTERS]);
-    let reply = apply_until(&rt, &monitor, &mut pass, 1, TotalOp::Add(5), 5);
-    sees(&rt, "the reply", &reply, &Ok(5));
-    let after = [
+    let steps = [
+        ENTERS,
+        Step::ApplyUntil(1, TotalOp::Add(5), 5, Ok(5)),
         Step::Depth(1),
         Step::Mine(2),
         Step::Leave(Ok(Unlocked::Free)),
     ];
-    make_alone(&rt, &monitor, &mut pass, &after);
+    // the take and one op, and no entry for a wait
+    one_makes(&rt, rt.alloc(), 2, 0, &steps)?;
     Ok(())
 }
 
 #[test]
 fn try_of_a_deeper_hold_that_goes_well_at_once(rt: HostRuntime) -> Result<(), Fail> {
-    let (monitor, mut pass) = monitor_of_one(rt.alloc(), 8, 1).ok_or("a monitor")?;
-    let deeper = Step::Enter(Ok(Locked::Again(2)));
-    make_alone(&rt, &monitor, &mut pass, &[ENTERS, deeper]);
-    let reply = apply_until(&rt, &monitor, &mut pass, 1, TotalOp::Read, 0);
-    sees(&rt, "the reply", &reply, &Ok(0));
-    make_alone(&rt, &monitor, &mut pass, &[Step::Depth(2), Step::Mine(2)]);
+    let steps = [
+        ENTERS,
+        Step::Enter(Ok(Locked::Again(2))),
+        Step::ApplyUntil(1, TotalOp::Read, 0, Ok(0)),
+        Step::Depth(2),
+        Step::Mine(2),
+    ];
+    one_makes(&rt, rt.alloc(), 8, 1, &steps)?;
     Ok(())
 }
 
-/// A try of an op that is looked for in vain, by a pass that then holds so often, with so many entries: the refusal of its
-/// wait.
-fn in_vain<R: Wait + Abort>(
-    rt: &R,
-    monitor: &Monitor<Total>,
-    pass: &mut Pass<Total>,
-    condition: u64,
-    depth: u32,
-    mine: u64,
-) -> Option<Refusal>
-    requires { Ours pass.old monitor.now }
-    ensures { Ours pass.new monitor.now }
-{
-    let reply = apply_until(rt, monitor, pass, condition, TotalOp::Add(1), 1_000);
-    make_alone(rt, monitor, pass, &[Step::Depth(depth), Step::Mine(mine)]);
-    reply.err()
+/// A try of an op that is looked for in vain, on the condition with this number, and the refusal of its wait.
+fn in_vain(condition: u64, refusal: Refusal) -> Step {
+    Step::ApplyUntil(condition, TotalOp::Add(1), 1_000, Err(refusal))
+}
+
+/// There is no such condition, then the hold is deeper, then there is no entry for the wait, and then none for the op.
+fn refused_waits() -> [Step; 16] {
+    [
+        ENTERS,
+        in_vain(2, Refusal::NoSuchSeat),
+        Step::Depth(1),
+        Step::Mine(2),
+        Step::Enter(Ok(Locked::Again(2))),
+        in_vain(1, Refusal::Nested),
+        Step::Depth(2),
+        Step::Mine(3),
+        Step::Leave(Ok(Unlocked::Still(1))),
+        in_vain(1, Refusal::Spent),
+        Step::Depth(1),
+        Step::Mine(4),
+        in_vain(1, Refusal::Spent),
+        Step::Depth(1),
+        Step::Mine(4),
+        Step::Leave(Ok(Unlocked::Free)),
+    ]
 }
 
 #[test]
 fn try_whose_wait_is_refused_was_made(rt: HostRuntime) -> Result<(), Fail> {
-    let (monitor, mut pass) = monitor_of_one(rt.alloc(), 4, 1).ok_or("a monitor")?;
-    make_alone(&rt, &monitor, &mut pass, &[ENTERS]);
-    let not_there = in_vain(&rt, &monitor, &mut pass, 2, 1, 2);
-    sees(
-        &rt,
-        "no such condition",
-        &not_there,
-        &Some(Refusal::NoSuchSeat),
-    );
-    let deeper = Step::Enter(Ok(Locked::Again(2)));
-    make_alone(&rt, &monitor, &mut pass, &[deeper]);
-    let nested = in_vain(&rt, &monitor, &mut pass, 1, 2, 3);
-    sees(&rt, "a deeper hold", &nested, &Some(Refusal::Nested));
-    make_alone(
-        &rt,
-        &monitor,
-        &mut pass,
-        &[Step::Leave(Ok(Unlocked::Still(1)))],
-    );
-    let spent = in_vain(&rt, &monitor, &mut pass, 1, 1, 4);
-    sees(&rt, "no entry for the wait", &spent, &Some(Refusal::Spent));
-    let not_made = in_vain(&rt, &monitor, &mut pass, 1, 1, 4);
-    sees(&rt, "no entry for the op", &not_made, &Some(Refusal::Spent));
-    make_alone(&rt, &monitor, &mut pass, &[Step::Leave(Ok(Unlocked::Free))]);
+    let total = one_makes(&rt, rt.alloc(), 4, 1, &refused_waits())?;
     // each of the three ops that were made has added 1
-    let (total, _) = closed_by_one(monitor, pass, Vec::new(rt.alloc())).ok_or("it is closed")?;
-    sees(&rt, "the total", &total, &Total(3));
+    sees(&rt, "the total", &total, &Some(Total(3)));
     Ok(())
+}
+
+/// The first pass doesn't hold, and then holds; the second sleeps.
+fn not_made() -> [(By, Step); 9] {
+    [
+        (By::First, in_vain(1, Refusal::NotOwner)),
+        (By::First, Step::Depth(0)),
+        (By::First, Step::Mine(0)),
+        (By::First, ENTERS),
+        (By::Second, Step::Ask(Ok(Asked::Asleep))),
+        (By::Second, in_vain(1, Refusal::Asleep)),
+        (By::Second, Step::Depth(0)),
+        (By::Second, Step::Mine(0)),
+        (By::First, Step::Apply(TotalOp::Read, Ok(0))),
+    ]
 }
 
 #[test]
 fn try_that_is_refused_was_not_made(rt: HostRuntime) -> Result<(), Fail> {
-    let (monitor, mut first, mut second) = monitor_of_two(rt.alloc(), 4, 1).ok_or("a monitor")?;
-    let not_owner = in_vain(&rt, &monitor, &mut first, 1, 0, 0);
-    sees(&rt, "it doesn't hold", &not_owner, &Some(Refusal::NotOwner));
-    make_alone(&rt, &monitor, &mut first, &[ENTERS]);
-    make_alone(&rt, &monitor, &mut second, &[Step::Ask(Ok(Asked::Asleep))]);
-    let asleep = in_vain(&rt, &monitor, &mut second, 1, 0, 0);
-    sees(&rt, "it sleeps", &asleep, &Some(Refusal::Asleep));
-    make_alone(
-        &rt,
-        &monitor,
-        &mut first,
-        &[Step::Apply(TotalOp::Read, Ok(0))],
-    );
-    Ok(())
+    two_make(&rt, rt.alloc(), 4, 1, &not_made())
 }
 
 /// The conditions of the monitor: on the first one the second pass waits until the first has begun, and on the second one the

@@ -1,9 +1,10 @@
 //! How a schedule is driven through the core's state and through a running mutex, where each line stands beside the turn that
 //! it is to end with. No test stands here.
 ghost use Rattle.std.specs.Prelude.{All};
+ghost use Rattle.lfm_core.specs.text.Grammar.{HasFewSteps};
 ghost use Rattle.lfm_mutex.specs.Belongs.{OfMutex};
 
-use lfm_core::{Line, State, Turn, read_schedule, run};
+use lfm_core::{Line, Schedule, State, Turn, read_schedule, run};
 use lfm_explanation::follow;
 use lfm_mutex::{Mutex, Seat};
 use std::alloc::{AllocError, Global};
@@ -57,13 +58,26 @@ fn are_turns(expected: &[Driven], turns: &[Turn]) -> bool {
     as_expected
 }
 
+/// Whether each line ends with its turn, of the core's state.
+fn runs_as(alloc: Global, schedule: &Schedule, expected: &[Driven]) -> Result<bool, Fail>
+    requires { All (λ l. HasFewSteps l.act) schedule.now.lines.items }
+{
+    let mut state = State::new(alloc, schedule.seats, schedule.budget)?;
+    let turns = run(alloc, &mut state, schedule.lines.as_slice())?;
+    Ok(are_turns(expected, &turns))
+}
+
+/// Whether each line ends with its turn, of a new running mutex.
+fn drives_new_as(alloc: Global, schedule: &Schedule, expected: &[Driven]) -> Result<bool, Fail> {
+    let (mutex, mut seats) = Mutex::new(alloc, schedule.seats, schedule.budget, 0u64)?;
+    Ok(drives_as(&mutex, seats.as_mut_slice(), &schedule.lines, expected))
+}
+
 /// Whether each line ends with its turn, of the core's state and of a running mutex of these sizes.
 pub fn goes(alloc: Global, sizes: &str, expected: &[Driven]) -> Result<bool, Fail> {
     let text = schedule_of(alloc, sizes, expected)?;
     let schedule = read_schedule(alloc, &text)?;
-    let mut state = State::new(alloc, schedule.seats, schedule.budget)?;
-    let turns = run(alloc, &mut state, schedule.lines.as_slice())?;
-    let (mutex, mut seats) = Mutex::new(alloc, schedule.seats, schedule.budget, 0u64)?;
-    let driven = drives_as(&mutex, seats.as_mut_slice(), &schedule.lines, expected);
-    Ok(driven && are_turns(expected, &turns))
+    let runs = runs_as(alloc, &schedule, expected)?;
+    let drives = drives_new_as(alloc, &schedule, expected)?;
+    Ok(runs && drives)
 }

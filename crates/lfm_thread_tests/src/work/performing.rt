@@ -65,7 +65,7 @@ fn alone<R: AllocGlobal + Wait>(
     let (monitor, mut pass) = monitor_of_one(rt.alloc(), entries, 1)?;
     let outcome = performed(rt, &monitor, &mut pass, commands, &OpenGate);
     let (mine, depth) = (pass.mine(), pass.depth());
-    let (total, _) = closed_by_one(monitor, pass, Vec::new(rt.alloc()))?;
+    let total = closed_by_one(monitor, pass, Vec::new(rt.alloc()))?;
     Some((outcome, mine, depth, total))
 }
 
@@ -80,7 +80,7 @@ fn adds_until_spent<R: AllocGlobal + Wait>(
     let first_mine = pass.mine();
     let second = performed(rt, &monitor, &mut pass, &[Command::Add(1)], &OpenGate);
     let (second_mine, depth) = (pass.mine(), pass.depth());
-    let (total, _) = closed_by_one(monitor, pass, Vec::new(rt.alloc()))?;
+    let total = closed_by_one(monitor, pass, Vec::new(rt.alloc()))?;
     Some(((first, first_mine), (second, second_mine), depth, total))
 }
 

@@ -106,9 +106,9 @@ enum { LFM_LINE = 64, LFM_ALIGNMENT = 16, LFM_MUTEX_BYTES = 128, LFM_SEAT_BYTES 
  * a line that nothing uses. */
 #define LFM_ALIGNED __attribute__((aligned(16)))
 
-/* How often a seat looks whether it is granted the mutex, before its thread sleeps. With its call and its pause a look lasts some 13 ns,
- * and all of them about as long as two wake-ups by the system: with fewer, one thread that sleeps soon makes all that queue behind it
- * sleep too. Zero is allowed, and right where there is one processor. */
+/* How often a seat looks whether it is granted the mutex, before its thread sleeps. All its looks, each with a call and a pause, last
+ * about as long as two wake-ups by the system: with fewer, one thread that sleeps soon makes all that queue behind it sleep too. Zero is
+ * allowed, and right if there is one processor. */
 #ifndef LFM_LOOKS
 #define LFM_LOOKS 1200
 #endif
@@ -385,10 +385,9 @@ static inline lfm_status lfm_condvar_refuses(lfm_condvar *condvar, lfm_seat *sea
   return is_known ? LFM_DONE : LFM_FOREIGN;
 }
 
-/* Gives the mutex up, which the seat holds once, waits until a wake, and gains the mutex again, for one take: LFM_DONE. It
- * returns after a call of lfm_wake_one or lfm_wake_all alone, but another seat may hold the mutex in between: wait in a loop that tests
- * what is waited for. Where the seat's own state refuses it, it has locked the list: it costs
- * one of the condition variable's 2^36 takes, and may have slept.
+/* Gives the mutex up, which the seat holds once, waits until a wake, and gains the mutex again, for one take: LFM_DONE. It returns only
+ * after a call of lfm_wake_one or lfm_wake_all, but another seat may hold the mutex in between: wait in a loop that tests what is waited
+ * for. If the seat's own state refuses the wait, that still costs one of the condition variable's 2^36 takes, and may have slept.
  * Refused: LFM_BLANK, LFM_FOREIGN, LFM_SEAT_ASLEEP, LFM_NOT_OWNER, LFM_NESTED, LFM_SPENT. */
 static inline lfm_status lfm_wait(lfm_condvar *condvar, lfm_seat *seat) {
   lfm_status status = lfm_condvar_refuses(condvar, seat);

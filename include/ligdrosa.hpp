@@ -1,14 +1,15 @@
 // Ligdrosa for C++17, over ligdrosa.h, which says what a program promises.
 //
-// lfm::recursive_mutex is used as std::recursive_mutex, and lfm::condition_variable as std::condition_variable:
+// lfm::recursive_mutex is used as std::recursive_mutex, and lfm::condition_variable as std::condition_variable, without waits that
+// are timed:
 //
-//     lfm::recursive_mutex mutex(8);             // at most 8 threads at a time
-//     lfm::condition_variable full(mutex);
+//     lfm::recursive_mutex mutex(8);             // 8 seats, one for each living thread that has locked it
+//     lfm::condition_variable filled(mutex);
 //
 //     std::unique_lock lock(mutex);
-//     full.wait(lock, [&] { return !queue.empty(); });
+//     filled.wait(lock, [&] { return !queue.empty(); });
 //
-// Where a thread is to have its seat in hand, lfm::mutex gives lfm::seat, and lfm::seat_lock is the seat as a Lockable. The
+// If a thread is to have its seat in hand, lfm::mutex gives lfm::seat, and lfm::seat_lock is the seat as a Lockable. The
 // locks of the standard library take both, and so does std::condition_variable_any.
 #pragma once
 
@@ -156,7 +157,7 @@ public:
   void unlock() { seat_lock(*own()).unlock(); }
 };
 
-// A condition variable of one mutex. A wait returns after a notify alone, but another thread may hold the mutex in between: wait in a
+// A condition variable of one mutex. A wait returns only after a notify, but another thread may hold the mutex in between: wait in a
 // loop that tests what is waited for.
 class condition_variable {
   lfm_condvar raw{};

@@ -43,7 +43,7 @@ impl<T> Caller<T> for Seat<T> {}
 impl<T> Caller<T> for Guard<'_, T> {}
 
 impl Condvar {
-    /// A condition variable of the mutex that has this seat, for as many seats as are given. Refused: `Limit`, `Memory`.
+    /// A condition variable of the mutex that has this seat, for its seats 1 to `seats`. Refused: `Limit`, `Memory`.
     pub fn new<T>(seat: &Seat<T>, seats: usize) -> Result<Condvar, Refusal> {
         Ok(Condvar {
             of: seat.core().clone(),

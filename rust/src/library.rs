@@ -32,7 +32,7 @@ pub enum Refusal {
     Limit,
     /// Memory was refused.
     Memory,
-    /// The seat is of another mutex.
+    /// The seat is of another mutex, or its number is above the seats that the condition variable was made for.
     Foreign,
     /// The library is of another version than this crate.
     OtherVersion,
@@ -42,7 +42,7 @@ pub enum Refusal {
     DepthFull,
     /// The seat has no take left.
     Spent,
-    /// Another seat holds the mutex, or asked for it first.
+    /// At some moment of the call another seat held the mutex, asked for it, or was giving it up.
     Busy,
     /// A status that no call of this crate is refused by.
     Other(u64),

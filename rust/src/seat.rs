@@ -214,7 +214,7 @@ impl<T> Seat<T> {
         Ok(Guard(self))
     }
 
-    /// As `lock` where that needs no sleep, and else refused as `Busy`.
+    /// Gains the mutex without a sleep, perhaps before seats that are queued. Refused: as `lock`, and `Busy`.
     pub fn try_lock(&mut self) -> Result<Guard<'_, T>, Refusal> {
         self.place.try_lock()?;
         Ok(Guard(self))

@@ -29,8 +29,8 @@ module _ {T : Type 0} where
   Enlists user by s t v w (Err Refusal.Busy) = MayWait user.budget s × (s.number ≤ v.seats) × (0 < times s.number v.list.items) × (w ≡ v) × (t ≡ s)
   Enlists user by s t v w (Err r) = WaitRefused user.budget s r × (w ≡ v) × (t ≡ s)
 
-  -- How begin_wait ends, with a cond seat that is seen as c before and as d after, of a condvar with the limits `own`. The list is
-  -- given back, and the user seat sleeps: it was put at the end of the list in the very hold in which it made start_wait
+  -- How begin_wait ends, with a cond seat that is seen as c before and as d after, of a condvar with the limits `own`. In one
+  -- hold, which has ended, the user seat was put at the end of the list. It sleeps; that start_wait came in it is not said
   abbrev pub BeginWaitEnds : Limits → Limits → Sight Waiters → Sight Waiters → Sight T → Sight T → Result ℕ Refusal → Type 0
   BeginWaitEnds user own c d s t (Ok ticket) = (v : Waiters) × (w : Waiters) × HeldOnce own.budget c d v w × Enlists user c.number s t v w (Ok ticket) × StepsOfOneHold own c d
   BeginWaitEnds user own c d s t (Err Refusal.Spent) = (s.asleep ≡ false) × (s.depth ≡ 1) × (user.budget ≤ s.takes ⊎ (own.budget ≤ c.takes)) × (d ≡ c) × (t ≡ s)

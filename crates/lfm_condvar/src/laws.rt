@@ -52,23 +52,22 @@ pub fn claims_are_in_order()
 {}
 
 /// The order goes on in the user mutex: the records that the wakes of a condvar push into its push list, for their targets,
-/// go up by ticket, each for a seat that was claimed with this ticket. A target that finds the mutex free gains it without
-/// one.
+/// go up by ticket, each for a seat that was claimed with this ticket. That each claimed seat is pushed is not said.
 ///
 /// Definition: `PushesAreInOrder` in `specs/laws/Laws.antt`. Proof: `proofs/lawful/reached/PushOrder.antt`.
 pub fn pushes_are_in_order()
     ensures { PushesAreInOrder }
 {}
 
-/// The lock of a condvar is held by just the seat whose call has taken it and not yet given it back. Every wake gives it
-/// back: after its last event the lock is free.
+/// The lock of a condvar is held by just the seat whose call has taken it and not yet given it back. After the last event of
+/// a wake it is free.
 ///
 /// Definition: `LocksAreGivenBack` in `specs/laws/Laws.antt`. Proof: `proofs/lawful/reached/LocksBack.antt`.
 pub fn locks_are_given_back()
     ensures { LocksAreGivenBack }
 {}
 
-/// A wake of all goes on until nobody is left: where it sends no more, the list is empty, and it gives the lock back next.
+/// Where a wake of all sends no more, the list is empty, and it gives the lock back next.
 ///
 /// Definition: `WakesEmptyTheList` in `specs/laws/Laws.antt`. Proof: `proofs/lawful/reached/ListsEmptied.antt`.
 pub fn wakes_empty_the_list()
@@ -82,23 +81,22 @@ pub fn waits_are_new()
     ensures { WaitsAreNew }
 {}
 
-/// Each `wait` that ends was ended by the one send of its ticket: just one claim was made with this ticket, and for its own
-/// seat.
+/// Where a `wait` is about to end, just one claim was made with its ticket, and for its own seat.
 ///
 /// Definition: `WaitsAreSent` in `specs/laws/Laws.antt`. Proof: `proofs/lawful/reached/WaitsSent.antt`.
 pub fn waits_are_sent()
     ensures { WaitsAreSent }
 {}
 
-/// Nothing else ends a `wait`: once it has given the lock back, its wake word is WAITING as long as no claim was made with
-/// its ticket.
+/// Once a `wait` has given the lock back, its wake word is WAITING and no claim was made with its ticket, or just one claim
+/// was, for its own seat.
 ///
 /// Definition: `WaitsSleepUntilSent` in `specs/laws/Laws.antt`. Proof: `proofs/lawful/reached/WaitsSent.antt`.
 pub fn waits_sleep_until_sent()
     ensures { WaitsSleepUntilSent }
 {}
 
-/// A `wait` that ends holds the user mutex, at depth 1.
+/// A `wait` that is about to end holds the user mutex, at depth 1.
 ///
 /// Definition: `WaitsEndHolding` in `specs/laws/Laws.antt`. Proof: `proofs/lawful/reached/WaitsSent.antt`.
 pub fn waits_end_holding()
@@ -120,32 +118,32 @@ pub fn lists_are_in_order()
     ensures { ListsAreInOrder }
 {}
 
-/// No lost wake-up: at every moment, each seat whose wake word is WAITING stands in the list of some condvar. Where the
-/// lock of a condvar is free, `waiters_are_listed` says that it is the one on which the seat waits.
+/// At every moment, each seat whose wake word is WAITING stands in the list of some condvar. Where the lock of a condvar is
+/// free, `waiters_are_listed` says that it is the one on which the seat waits.
 ///
 /// Definition: `SleepersAreListed` in `specs/laws/Laws.antt`. Proof: `proofs/lawful/reached/SleepersListed.antt`.
 pub fn sleepers_are_listed()
     ensures { SleepersAreListed }
 {}
 
-/// No `wait` is lost: wherever the lock of a condvar is free, its list has just the seats whose `wait` no wake has claimed
-/// yet, each with its ticket. So a wake finds every one of them.
+/// Wherever the lock of a condvar is free, its list has just the seats whose `wait` has given the lock back and whose ticket
+/// no wake has claimed yet, each with this ticket. So a wake finds every one of them.
 ///
 /// Definition: `WaitersAreListed` in `specs/laws/Laws.antt`. Proof: `proofs/lawful/reached/ListOrder.antt`.
 pub fn waiters_are_listed()
     ensures { WaitersAreListed }
 {}
 
-/// The user mutex goes as a schedule of its own would: calls and single steps of it do what events on condvars do to it. So
-/// all laws of every schedule hold of it.
+/// At every moment the user mutex is in a state that a schedule of the mutex alone reaches. So all laws of reached states
+/// hold of it.
 ///
 /// Definition: `CoresAreReached` in `specs/laws/Laws.antt`. Proof: `proofs/lawful/mutex/MutexRuns.antt`.
 pub fn cores_are_reached()
     ensures { CoresAreReached }
 {}
 
-/// Calls on condvars hinder nothing else: every call but `start_wait` and `send_lock`, and every step, of seats that are in
-/// no call on a condvar does to the user mutex what it does in a schedule of the mutex alone, and changes no condvar.
+/// Every call but `start_wait` and `send_lock`, and every step, of seats that are in no call on a condvar does to the user
+/// mutex what it does in a schedule of the mutex alone, and changes no condvar.
 ///
 /// Definition: `OwnCallsAreFree` in `specs/laws/Laws.antt`. Proof: `proofs/lawful/mutex/OwnCalls.antt`.
 pub fn own_calls_are_free()

@@ -5,7 +5,7 @@ ghost use Rattle.lfm_laws.specs.laws.InSchedules.{
 };
 ghost use Rattle.lfm_laws.specs.laws.Laws.{StatesAreLawful, RunsAreAbstractRuns, EventsAreTheirCases};
 
-/// Each state has a reading, and its words agree with it.
+/// Each steady state has a reading, with which its words agree.
 ///
 /// Definitions: `StatesAreLawful` in `specs/laws/Laws.antt`, and `StatesAreLawfulInSchedules` in
 /// `specs/laws/InSchedules.antt`. Proofs: `proofs/lawful/states/StateLaws.antt` and `proofs/lawful/runs/InSchedules.antt`.

@@ -68,8 +68,8 @@ pub fn pushes_alone_fail_once()
     ensures schedules { PushesAloneFailOnceInSchedules }
 {}
 
-/// Alone, a `try_lock` of a seat without a hold and with a take left ends `Held Free`: in two steps where the count is 0,
-/// in six where a post stands.
+/// Alone, a `try_lock` of a seat that rests, without a hold and with a take left, ends `Held Free`: within two steps where
+/// the count is 0, within six where a post stands.
 ///
 /// Definitions: `TriesAloneHold` in `specs/laws/Laws.antt`, and `TriesAloneHoldInSchedules` in
 /// `specs/laws/InSchedules.antt`. Proofs: `proofs/lawful/bounds/TriesAlone.antt` and `proofs/lawful/runs/InSchedules.antt`.
@@ -116,8 +116,8 @@ pub fn some_call_ends()
     ensures schedules { SomeCallEndsInSchedules }
 {}
 
-/// From each state of N seats, some steps of the open calls, 5N + 5 for each of them at most, lead to a state without an
-/// open call. Nothing is posted then, and if the count is above 0 a seat owns, or a sleeping seat has its grant.
+/// From each state of N seats, some steps, at most 5N + 5 times as many as calls are open, lead to a state without an open
+/// call. Nothing is posted then, and if the count is above 0 a seat owns, or a sleeping seat has its grant.
 ///
 /// Definitions: `NoStateIsStuck` in `specs/laws/Progress.antt`, and `NoStateIsStuckInSchedules` in
 /// `specs/laws/InSchedules.antt`. Proofs: `proofs/lawful/bounds/Resting.antt` and `proofs/lawful/runs/InSchedules.antt`.

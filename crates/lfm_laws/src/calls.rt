@@ -1,5 +1,5 @@
 //! What a call charges, how deep its seat holds, and what it answers. These laws hold of every steady state, so of every state
-//! that a schedule reaches and of every `State`.
+//! that a schedule reaches.
 ghost use Rattle.lfm_laws.specs.laws.Charges.{TakesChangeByCharges, TakesCountCharges};
 ghost use Rattle.lfm_laws.specs.laws.ClaimedSeats.{ClaimedSeatsArePushed, ClaimedSeatsAreQueued};
 ghost use Rattle.lfm_laws.specs.laws.Depths.{DepthCountsHolds};
@@ -39,15 +39,15 @@ pub fn recursive_calls_load_the_owner()
     ensures { RecursiveCallsLoadTheOwner }
 {}
 
-/// A `lock` that holds by a queued record took its own record, the oldest, from the queue, with that stamp. A `lock` that
-/// holds as Free, and each `try_lock` that holds, took none.
+/// With the step that answers Held, a `lock` that holds by a queued record took its own record, the oldest, from the queue,
+/// with that stamp. A `lock` that holds as Free, and each `try_lock` that answers Held, took none with it.
 ///
 /// Definition: `HoldersTookTheirRecord` in `specs/laws/Entries.antt`. Proof: `proofs/lawful/calls/HeldTold.antt`.
 pub fn holders_took_their_record()
     ensures { HoldersTookTheirRecord }
 {}
 
-/// A `receive` that holds has found that grant in its wake word; one that ends None found none.
+/// A `receive` that holds has found that grant in its wake word; one that ends None found none with its last step.
 ///
 /// Definition: `ReceiversLoadedTheirGrant` in `specs/laws/Entries.antt`. Proof: `proofs/lawful/calls/ReceivesTold.antt`.
 pub fn receivers_loaded_their_grant()
@@ -55,16 +55,16 @@ pub fn receivers_loaded_their_grant()
 {}
 
 /// The last step of a release did what it answers. Free: it took the count from 1 to 0. Granted: the oldest record, of the
-/// named seat, left the queue, and its stamp is in the wake word of that seat. Posted: the recheck found nobody. TakenOver:
-/// its own post stood no more.
+/// named seat, left the queue, and its stamp is in the wake word of that seat. Posted: the recheck found the push list
+/// empty. TakenOver: its own post stood no more.
 ///
 /// Definition: `ReleasesAnswerWhatTheyDid` in `specs/laws/Releases.antt`. Proof: `proofs/lawful/calls/ReleasesTold.antt`.
 pub fn releases_answer_what_they_did()
     ensures { ReleasesAnswerWhatTheyDid }
 {}
 
-/// Where a record leaves the queue by a step, the answer says so: a lock holds by its own record or has granted another's,
-/// a send was sent, a release has Granted its seat.
+/// Where the oldest record leaves the queue by a step, that step ends a lock, which holds by this record, its own, or sleeps,
+/// and the record is another's; or it ends a send, with Sent; or a release, with Granted and the record's seat.
 ///
 /// Definition: `ServedRecordsAreTold` in `specs/laws/Releases.antt`. Proof: `proofs/lawful/calls/ReleasesTold.antt`.
 pub fn served_records_are_told()

@@ -1,11 +1,11 @@
 //! Linearization points: each call has one event of its own seat that counts as its effect. That a call queues, posts or serves is not
-//! counted. These laws hold of every steady state, so of every state that a schedule reaches and of every `State`.
+//! counted. These laws hold of every steady state, so of every state that a schedule reaches. The last is of schedules alone.
 ghost use Rattle.lfm_laws.specs.laws.Effects.{CallsTakeEffectOnce, ChangesAreOfOpenCalls, EffectsAreOfCalls, EffectsAreTheCallers, OpenCallsHaveBegun};
 ghost use Rattle.lfm_laws.specs.laws.InSchedules.{CallsTakeEffectOnceInSchedules, EffectsAreOfCallsInSchedules, EffectsAreTheCallersInSchedules};
 
-/// A call has one effect between its begin and its end, whatever the others do in between: its seat or the target of its send
-/// asks, its seat accepts a post, takes up its grant or releases, or holds once more or once less. A call that is refused has
-/// none, nor has a `receive` that finds no grant. A call that is open has had one at most.
+/// A call has one effect from its begin to its end, whatever the others do in between: its seat or the target of its send
+/// asks, its seat accepts a post, takes up its grant or releases, or its depth changes and is above 0 before and after. A
+/// call that is refused has none, nor has a `receive` that finds no grant. A call that is open has had one at most.
 ///
 /// Definitions: `CallsTakeEffectOnce` in `specs/laws/Effects.antt`, and `CallsTakeEffectOnceInSchedules` in
 /// `specs/laws/InSchedules.antt`. Proofs: `proofs/lawful/calls/EffectsOnce.antt` and `proofs/lawful/runs/InSchedules.antt`.
@@ -14,7 +14,8 @@ pub fn calls_take_effect_once()
     ensures schedules { CallsTakeEffectOnceInSchedules }
 {}
 
-/// What changes the abstract mutex (who owns it, who asks for it, who is queued) is a step of a seat whose call is open.
+/// Each event that has a case, and so each that changes the abstract mutex (`events_are_their_cases`), is a step of a seat
+/// whose call is open.
 ///
 /// Definition: `ChangesAreOfOpenCalls` in `specs/laws/Effects.antt`. Proof: `proofs/lawful/calls/EffectsOwned.antt`.
 pub fn changes_are_of_open_calls()

@@ -1,4 +1,4 @@
-//! No lost wake-up: posts that are watched, sleepers that can still be woken, and takes that find a waiter. These laws are told
+//! No lost wake-up: posts that are watched, where a seat that sleeps stands, and takes that find a record. These laws are told
 //! of words and steps. That the park of a thread ends once its grant is stored is only tested.
 ghost use Rattle.lfm_laws.specs.laws.Grants.{CallsGrantOnce};
 ghost use Rattle.lfm_laws.specs.laws.InSchedules.{
@@ -13,7 +13,7 @@ ghost use Rattle.lfm_laws.specs.laws.InSchedules.{
 };
 ghost use Rattle.lfm_laws.specs.laws.Laws.{HandoffsAreWatched, QuiescentStatesRest, SleepersAreReachable, TakesFindARecord, WonPostsHaveARecord, FailedPushesSeeChange, CallsPostOnce};
 
-/// While a post stands, some open call will see it, or has seen it and not yet tried for it.
+/// While a post stands, some open call has yet to load it, or has made or seen it and not yet tried for it.
 ///
 /// Definitions: `HandoffsAreWatched` in `specs/laws/Laws.antt`, and `HandoffsAreWatchedInSchedules` in
 /// `specs/laws/InSchedules.antt`. Proofs: `proofs/lawful/states/StateLaws.antt` and `proofs/lawful/runs/InSchedules.antt`.
@@ -31,8 +31,8 @@ pub fn quiescent_states_rest()
     ensures schedules { QuiescentStatesRestInSchedules }
 {}
 
-/// A seat that sleeps is queued, or has its grant, or is WAITING for a send, or is on its way by a send that has claimed
-/// it.
+/// A seat that sleeps, with no call open, is queued, or has its grant, or is WAITING for a send, or is on its way by a send
+/// that has claimed it.
 ///
 /// Definitions: `SleepersAreReachable` in `specs/laws/Laws.antt`, and `SleepersAreReachableInSchedules` in
 /// `specs/laws/InSchedules.antt`. Proofs: `proofs/lawful/states/Sleepers.antt` and `proofs/lawful/runs/InSchedules.antt`.

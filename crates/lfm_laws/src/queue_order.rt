@@ -21,7 +21,8 @@ pub fn queue_is_in_push_order()
     ensures schedules { QueueIsInPushOrderInSchedules }
 {}
 
-/// Each successful push has the stamp after the one before. The first has stamp 1.
+/// Each successful push of a run has the stamp after the one before, and the first the stamp after that of the push word,
+/// which is 0 at the start.
 ///
 /// Definitions: `StampsAreConsecutive` in `specs/laws/Laws.antt`, and `StampsAreConsecutiveInSchedules` in
 /// `specs/laws/InSchedules.antt`. Proofs: `proofs/lawful/runs/PushOrder.antt` and `proofs/lawful/runs/InSchedules.antt`.
@@ -30,16 +31,15 @@ pub fn stamps_are_consecutive()
     ensures schedules { StampsAreConsecutiveInSchedules }
 {}
 
-/// The answers `Held Queued` of a run are the records that left the queue, in that order. Only the last of them may have no
-/// answer yet.
+/// The answers `Held Queued` of a run from the start are the records that left the queue, in that order. Only the last of
+/// them may have no answer yet.
 ///
 /// Definition: `AnswersAreTheRecords` in `specs/laws/Laws.antt`. Proof: `proofs/lawful/runs/PushOrder.antt`.
 pub fn answers_are_the_records()
     ensures { AnswersAreTheRecords }
 {}
 
-/// As long as a queued record has not left, the seats that come to own are those of the records that leave before it, and
-/// one more at most.
+/// As long as a queued record has not left, seats come to own at most as often as records leave the queue, and once more.
 ///
 /// Definitions: `QueuedSeatsAreOvertakenOnce` in `specs/laws/Overtaking.antt`, and `QueuedSeatsAreOvertakenOnceInSchedules`
 /// in `specs/laws/InSchedules.antt`. Proofs: `proofs/lawful/bounds/Overtaken.antt` and
@@ -49,8 +49,8 @@ pub fn queued_seats_are_overtaken_once()
     ensures schedules { QueuedSeatsAreOvertakenOnceInSchedules }
 {}
 
-/// As long as a queued record has not left, seats stop owning once for each of the records that leave before it, and once
-/// more at most. So behind k records a seat waits for k + 1 releases at most.
+/// As long as a queued record has not left, seats stop owning at most as often as records leave the queue, and once more.
+/// So behind k records a queued seat waits for k + 1 releases at most.
 ///
 /// Definitions: `QueuedSeatsWaitForFewReleases` in `specs/laws/Overtaking.antt`, and
 /// `QueuedSeatsWaitForFewReleasesInSchedules` in `specs/laws/InSchedules.antt`. Proofs:

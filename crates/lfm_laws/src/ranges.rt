@@ -16,7 +16,7 @@ pub fn steps_have_room()
     ensures { StepsHaveRoom }
 {}
 
-/// Nothing changes the number of seats or the budget.
+/// After each run from the start, the number of seats and the budget are those of the start.
 ///
 /// Definition: `LimitsStay` in `specs/laws/Ranges.antt`. Proof: `proofs/lawful/runs/LimitsKept.antt`.
 pub fn limits_stay()

@@ -1,5 +1,5 @@
-//! The invariant: every state is steady, each turn keeps it so, and an atomic step touches one word and one seat. A mutex that runs
-//! on shared words stands on these.
+//! The invariant: every reached state is steady, each turn keeps a state so, and an atomic step touches one word, one seat and,
+//! at three kinds of step, the pop list. A mutex that runs on shared words stands on these.
 ghost use Rattle.lfm_laws.specs.laws.Steadiness.{
   StatesAreSteady,
   StepsKeepSteady,
@@ -27,9 +27,9 @@ pub fn steps_keep_steady()
     ensures { StepsKeepSteady }
 {}
 
-/// A step changes only the word that the table of kinds names for its point, none if it is a load, and only the seat that
-/// makes it. What it answers, and what its seat becomes, depend on that word, that seat and the oldest record of the pop
-/// list alone.
+/// A step changes only the word that the table of kinds names for its point, none if it is a load; only the seat that makes
+/// it; and the pop list only if it is a link load, an owner store or a wake store. What it answers, and what its seat
+/// becomes, depend on that word, that seat and the oldest record of the pop list alone.
 ///
 /// Definitions: `StepsTouchOneWordAndOneSeat` and `StepsSeeOneWordAndOneSeat` in `specs/laws/Steadiness.antt`. Proof:
 /// `proofs/lawful/touched/OneSeat.antt`, which goes by word in `proofs/lawful/touched/OneWord.antt`.
@@ -45,8 +45,9 @@ pub fn begins_touch_one_seat()
     ensures { BeginsTouchOneSeat }
 {}
 
-/// A step at a list of packed numbers changes the one number of its place, the seat, the pop list and the ghost as the step
-/// of the core does. Its premise, that seat numbers which were read are below 65,536, holds of every reached state.
+/// A step at a list of packed numbers changes the one number of its place, the seat and the pop list as the step of the core
+/// does, and a ghost fits again. One of its premises, that seat numbers which were read are below 65,536, holds of every
+/// reached state.
 ///
 /// Definitions: `StepsAtATable` and `ReachedAreNarrow` in `specs/laws/Steadiness.antt`, with `TableStep` in
 /// `specs/table/Carried.antt`. Proofs: `proofs/table/TableSteps.antt` and `proofs/lawful/runs/KeptSteady.antt`.

@@ -1,6 +1,6 @@
--- The holds that have ended at a table, and that a close has one value to give back. Holds are numbered 1, 2, 3 and on over all seats,
--- in the order in which they end, and of each seat the number of the one that it ended last is known. No law of words or of steps
--- stands here.
+-- The holds that have ended at a table, and that a close has no second value to give back. Holds are numbered 1, 2, 3 and on
+-- over all seats, in the order in which they end, and of each seat the number of the one that it ended last is known. No law of
+-- words or of steps stands here.
 use Rattle.std.specs.Prelude.{◌≡◌, ℕ, ◌<◌, List, length, Option, Some, None, true}
 use mathlib.Core.Option.{some}
 use lib.ListN.{get_elem?}
@@ -35,7 +35,7 @@ module _ {T : Type 0} (follows : ℕ → T → T → Type 0) (fits : T → ℕ �
   abbrev pub HoldsAreNumbered : Type 0
   HoldsAreNumbered = (s : State (Option (Moving T)) (View T)) → Held follows fits s → (c : Core) × (a : AbstractMutex) × (n : ℕ) × HaveEnded s c a n
 
--- of some seats, no two with the same number, the last hold of all left one value
+-- of some seats, no two with the same number, the last hold of all left at most one value
 abbrev pub OneLastValue : Type 0 → Type 0
 OneLastValue T =
     (seats : List (Sight T)) (v w : T) → 0 < length seats → ((i j : ℕ) (s t : Sight T) → get_elem? seats i ≡ some s → get_elem? seats j ≡ some t → s.number ≡ t.number → i ≡ j)

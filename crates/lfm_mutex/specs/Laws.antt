@@ -26,7 +26,7 @@ pub record IsCore {T : Type 0} (s : State (Option (Moving T)) (View T)) (c : Cor
   pub seats_are : (j : ℕ) (v : View T) → get_elem? s.views j ≡ some v → seat c.seats (j + 1) ≡ v.standing
 
 module _ {T : Type 0} (follows : ℕ → T → T → Type 0) (fits : T → ℕ → Type 0) where
-  -- at every moment words and seats are a steady state of the core, so every law of the core holds of them
+  -- at every moment words and seats are a steady state of the core, so every law of steady states holds of them
   abbrev pub TablesAreSteady : Type 0
   TablesAreSteady = (s : State (Option (Moving T)) (View T)) → Held follows fits s → (c : Core) × IsCore s c × Steady c × Lawful c
 

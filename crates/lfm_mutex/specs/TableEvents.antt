@@ -1,5 +1,5 @@
--- A step of a running seat is one event of the core that the table is, and leads to the core that the table is then. No law of a table
--- between two steps stands here.
+-- A step of a running seat, which may have begun calls before it, is the core's at the core that the table is, and leads to the
+-- core that the table is then. No law of a table between two steps stands here.
 use Rattle.std.specs.Prelude.{◌≡◌, ℕ, ◌+◌, ◌*◌, ◌≤◌, [], ◌∷◌, Option, Some, true, length, replicate, set, slice_index}
 use mathlib.Core.Option.{some}
 use lib.ListN.{get_elem?}
@@ -56,7 +56,7 @@ module _ {T : Type 0} (follows : ℕ → T → T → Type 0) (fits : T → ℕ �
       (l : Limits) (x : Moving T) → are_in_limits l.seats l.budget ≡ true → x.popped.records ≡ [] → x.popped.room ≡ l.seats → fits x.value 0
       → HoldsOf (start l) (opening (replicate (4 + 2 * l.seats) 0) (Some x ∷ []) (first_view l x.value))
 
-  -- what else is done at a table keeps its core: a seat is split off, or joined again, or a seat loads the owner word for `owner`
+  -- these keep the core of a table: a seat is split off, or joined again, or a seat loads the owner word for `owner`
   abbrev pub OtherStepsKeepTheCore : Type 0
   OtherStepsKeepTheCore =
       (c : Core)

@@ -1,4 +1,4 @@
-//! The laws of the running mutex. Each function here does nothing: its contract is the law. They are facts of the rule that
+//! The laws of the running mutex. Each function here does nothing: its contract is the law. Most are facts of the rule that
 //! the table keeps at every moment, whatever threads step on it: `Held` in `specs/Rule.antt` of `lfm_table`. That each atomic
 //! step keeps the rule is asked, and proved, at each of the steps in `table_steps` of `lfm_table`. The last law is of what a
 //! seat knows of its mutex.
@@ -17,7 +17,7 @@ pub fn tables_are_steady<T: Kept>()
     ensures { TablesAreSteady T.follows T.fits }
 {}
 
-/// No lost wake-up: while a post stands, some open call will see it, or has seen it and not yet tried for it.
+/// While a post stands, some open call has yet to load it, or has made or seen it and not yet tried for it.
 ///
 /// Definition: `PostsAreWatched` in `specs/Laws.antt`. Proof: `proofs/LawsHeld.antt`.
 pub fn posts_are_watched<T: Kept>()
@@ -39,8 +39,8 @@ pub fn takes_find_a_record<T: Kept>()
 {}
 
 /// At every moment the table is one steady state of the core, with the limits of its seats, and a seat that has not been
-/// split off yet is at rest in it. The moving value is out with the seat that owns or carries, and is else at home, beside
-/// the pop list.
+/// split off yet is at rest in it. The moving value is out with the seat that owns or carries, and is else at home, with the
+/// pop list of that state.
 ///
 /// Definition: `TablesStand` in `specs/TableStates.antt`. Proof: `proofs/TableStates.antt`.
 pub fn tables_stand<T: Kept>()
@@ -54,34 +54,35 @@ pub fn resting_tables_are_free<T: Kept>()
     ensures { RestingTablesAreFree T.follows T.fits }
 {}
 
-/// The holds that have ended are numbered 1, 2, 3 and on over all seats. At every moment no two seats have ended their last
-/// holds with the same number, the greatest number is how many holds have ended, and the value at home is what the hold of
-/// that number left.
+/// At every moment there is a number n such that the seats have ended their last holds with numbers up to n, no two above 0
+/// the same, and one with n if n is above 0. A seat that owns or carries knows n as how many holds have ended. The value at
+/// home, or with a seat that carries and does not own, is what a seat with the number n has as its last.
 ///
 /// Definition: `HoldsAreNumbered` in `specs/EndedHolds.antt`. Proof: `proofs/EndedHolds.antt`.
 pub fn holds_are_numbered<T: Kept>()
     ensures { HoldsAreNumbered T.follows T.fits }
 {}
 
-/// A close has one value to give back: of some seats, no two with the same number, the last hold of all left one value, or
-/// where none has ended there is one opening value.
+/// A close has no second value to give back: of some seats, no two with the same number, the last hold of all left at most
+/// one value, and where none has ended there is at most one opening value.
 ///
 /// Definition: `OneLastValue` in `specs/EndedHolds.antt`. Proof: `proofs/EndedHolds.antt`.
 pub fn closes_have_one_value<T: Kept>()
     ensures { OneLastValue T }
 {}
 
-/// Each atomic step of a running seat is one event of the core, at the state that the table is: the word, the seat, the pop
-/// list and the turn become what the core's step makes of them.
+/// Let a seat of the table have begun calls since its last step, or none. At the state that the table is, with these begins,
+/// the core's step leaves the word, the seat, the pop list and the turn that a running seat makes of the number that it
+/// finds.
 ///
 /// Definition: `TablesStepAsTheCore` in `specs/TableEvents.antt`. Proof: `proofs/TableEvents.antt`.
 pub fn tables_step_as_the_core<T: Kept>()
     ensures { TablesStepAsTheCore T.follows T.fits }
 {}
 
-/// Each atomic step of a running seat leads from the state of the core that the table is to the state that the core's step makes
-/// of it: the seat has a new view, and takes the moving value or gives it back, so that the table is that state then. So the
-/// steps of a running mutex, in the order in which they are made, are events of one run of the core.
+/// Each atomic step of a running seat leads from the state of the core that the table is, with the begins before this step, to
+/// the state that the core's step makes of it: the seat has a new view, and takes the moving value or gives it back, so that
+/// the table is that state then.
 ///
 /// Definition: `TablesGoOnAsTheCore` in `specs/TableEvents.antt`. Proof: `proofs/TableEvents.antt`.
 pub fn tables_go_on_as_the_core<T: Kept>()
@@ -95,16 +96,16 @@ pub fn tables_open_at_the_start<T: Kept>()
     ensures { TablesOpenAtTheStart T.follows T.fits }
 {}
 
-/// What else is done at the table of a running mutex leaves the state of the core that it is: a seat is split off by `new`, or
-/// joined again by `close`, or loads the owner word for `owner`.
+/// A seat that is split off by `new`, is joined again by `close`, or loads the owner word for `owner`, keeps the state of the
+/// core that the table is.
 ///
 /// Definition: `OtherStepsKeepTheCore` in `specs/TableEvents.antt`. Proof: `proofs/TableEvents.antt`.
 pub fn other_steps_keep_the_core<T: Kept>()
     ensures { OtherStepsKeepTheCore T.follows T.fits }
 {}
 
-/// A seat is seen with as many seats as its mutex has. So the paths of a gain, and those of a close, go through seats of that
-/// mutex alone.
+/// A seat is seen with as many seats as its mutex has. So where a contract of a gain or a close speaks of steps of seats of 1
+/// to N, N is the number of seats of that mutex.
 ///
 /// Definition: `KnowsItsMutex` in `specs/Laws.antt`. Proof: `proofs/LawsHeld.antt`.
 pub fn seats_know_their_mutex<T: Kept>()

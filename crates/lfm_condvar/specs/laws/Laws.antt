@@ -40,7 +40,7 @@ pushes_of r v = claims_on v (push_record (condvar_start r.limits) r.events)
 
 -- The user mutex
 
--- calls and single steps of the user mutex alone reach the same state of it, so all laws of schedules hold of it
+-- calls and single steps of a mutex alone reach the state of the user mutex, so all laws of reached states hold of it
 abbrev pub CoresAreReached : Type 0
 CoresAreReached = (r : CondvarRun) → IsReached (reached_by r).mutex
 
@@ -88,7 +88,7 @@ LocksAreGivenBack =
 
 -- Wakes
 
--- a wake of all goes on to send until nobody is in the list, and then gives the lock back
+-- where a wake of all sends no more, nobody is in the list, and it gives the lock back next
 abbrev pub WakesEmptyTheList : Type 0
 WakesEmptyTheList =
     (r : CondvarRun) (s v : ℕ) (e : CondvarEvent) → sends_all v ((reached_by r).stage s) ≡ true
@@ -109,7 +109,7 @@ WaitsAreSent =
     (r : CondvarRun) (s v ticket : ℕ) → (reached_by r).stage s ≡ receiving v ticket → point_of (reached_by r) s ≡ Rest
     → claims_with r v ticket ≡ s ∷ []
 
--- a wait that has given the lock back is WAITING until that claim: nothing else ends it
+-- of a wait that has given the lock back, no claim was made and it is WAITING, or just that claim was made
 abbrev pub WaitsSleepUntilSent : Type 0
 WaitsSleepUntilSent =
     (r : CondvarRun) (s v ticket : ℕ) → (reached_by r).stage s ≡ receiving v ticket

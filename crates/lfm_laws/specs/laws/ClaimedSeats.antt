@@ -1,5 +1,6 @@
 -- What becomes of a seat that a send has claimed, where the send finds the count above 0 as it adds the seat: the send pushes the
--- record of the seat, and so the seat comes last in the queue. Each law here is a clause of a public function of `laws`.
+-- record of the seat, and so the seat comes last in the queue. Each law here is a clause of a public function of
+-- `lfm_laws`.
 use Rattle.std.specs.Prelude.{◌≡◌, ◌⊎◌, ℕ, ◌<◌, ◌++◌, List, [], ◌∷◌, nat_eq, if◌then◌else◌}
 use Rattle.lfm_protocol.specs.declared.answers.Answer.{Answer}
 use Rattle.lfm_protocol.specs.declared.answers.Turn.TheVariants.{Ended}

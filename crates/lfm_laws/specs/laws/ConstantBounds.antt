@@ -1,5 +1,5 @@
 -- Wait-free tries and receives: how many steps these calls make at most, by constants that no number of seats changes. Each law
--- here is a clause of a public function of `laws`.
+-- here is a clause of a public function of `lfm_laws`.
 use Rattle.std.specs.Prelude.{◌≡◌, ℕ, false, ◌≤◌, List}
 use Rattle.lfm_protocol.specs.declared.answers.Call.TheVariants.{TryLock, Receive}
 use Rattle.lfm_protocol.specs.Core.{Core}

@@ -33,7 +33,7 @@ effects_of_case (Some take_up) = 1
 effects_of_case (Some release) = 1
 effects_of_case _ = 0
 
--- a seat holds before and after, and not as deep: it has one hold more, or one less
+-- a seat holds before and after, and not as deep
 abbrev pub effects_of_depth : ℕ → ℕ → ℕ
 effects_of_depth before after =
     if nat_eq before 0 then 0 else (if nat_eq after 0 then 0 else (if nat_eq after before then 0 else 1))
@@ -64,7 +64,7 @@ TurnsEffects (Ended answer) n = AnswersEffects answer n
 TurnsEffects (Refused why) n = n ≡ 0
 
 -- from its begin on a call has as many effects as its turns say: where it ends or is refused at once, and else before and after each
--- step of its seat, whatever the others do in between. So the one effect of a call is between its begin and its end
+-- step of its seat, whatever the others do in between. So a call has its one effect from its begin to its end
 abbrev pub CallsTakeEffectOnce : Type 0
 CallsTakeEffectOnce =
     (c : Core) (s : ℕ) (call : Call) (events : List Event) → Steady c
@@ -113,7 +113,7 @@ IsOfOpenCall c e s = (e ≡ makes s) × (is_call (seat c.seats s).point ≡ true
 abbrev pub IsOfEndedCall : Core → Event → ℕ → Type 0
 IsOfEndedCall c e s = (call : Call) × (answer : Answer) × (e ≡ begins s call) × ((begin c s call).turn ≡ Ended answer)
 
--- whatever changes the abstract mutex is a step of one seat, whose call is open
+-- an event that has a case is a step of one seat, whose call is open
 abbrev pub ChangesAreOfOpenCalls : Type 0
 ChangesAreOfOpenCalls = (c : Core) (e : Event) (case : Case) → case_of_event c e ≡ Some case → (s : ℕ) × IsOfOpenCall c e s
 

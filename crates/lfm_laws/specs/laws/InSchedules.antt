@@ -86,14 +86,13 @@ StampsAreConsecutiveInSchedules =
     (c : Core) (events : List Event) → IsReached c
     → (k : ℕ) (d : Record) → k < length (push_record c events) → (slice_index_or (push_record c events) k d).stamp ≡ c.push.stamp + (k + 1)
 
--- while some record that was queued has not left the queue, the seats that come to own are those of the records that leave it
--- before that one, and one more at most
+-- while a record that was queued has not left the queue, seats come to own at most as often as records leave it, and once more
 abbrev pub QueuedSeatsAreOvertakenOnceInSchedules : Type 0
 QueuedSeatsAreOvertakenOnceInSchedules =
     (c : Core) (events : List Event) (k : ℕ) → IsReached c → k < length (queue_of c) → length (popped_record c events) ≤ k
     → entries_of_run c events ≤ length (popped_record c events) + 1
 
--- and a seat stops owning once for each of them, and once more at most
+-- and they stop owning at most as often as records leave it, and once more
 abbrev pub QueuedSeatsWaitForFewReleasesInSchedules : Type 0
 QueuedSeatsWaitForFewReleasesInSchedules =
     (c : Core) (events : List Event) (k : ℕ) → IsReached c → k < length (queue_of c) → length (popped_record c events) ≤ k
@@ -123,7 +122,7 @@ abbrev pub QuiescentStatesRestInSchedules : Type 0
 QuiescentStatesRestInSchedules =
     (c : Core) → IsReached c → IsQuiet c → (c.handoff ≡ unposted) × (0 < c.count → IsHeld c ⊎ IsGranted c)
 
--- a seat that sleeps is queued, granted, WAITING for a send, or on the way by one
+-- a seat that sleeps, with no call open, is queued, granted, WAITING for a send, or on the way by one
 abbrev pub SleepersAreReachableInSchedules : Type 0
 SleepersAreReachableInSchedules =
     (c : Core) (t : ℕ) (since : Sleeper) → IsReached c → (seat c.seats t).point ≡ Asleep since
@@ -244,7 +243,7 @@ SomeCallEndsInSchedules =
     (c : Core) (events : List Event) → IsReached c
     → steps_of_run c events ≤ (5 * length c.seats + 5) * (length c.seats + ended_in_run c events)
 
--- from each state some steps of the open calls lead to one without an open call
+-- from each state some steps lead to one without an open call
 abbrev pub NoStateIsStuckInSchedules : Type 0
 NoStateIsStuckInSchedules = (c : Core) → IsReached c → ComesToRest c
 

@@ -1,5 +1,5 @@
 -- The laws of every steady state, and of all that calls and single steps make of it. A state that a schedule reaches is steady,
--- for every number of seats and budget in their limits. Each law is the contract of a public function of `laws`.
+-- for every number of seats and budget in their limits. Each law is a clause of a public function of `lfm_laws`.
 use Rattle.std.specs.Prelude.{◌≡◌, ◌⊎◌, ℕ, Bool, true, false, ◌+◌, ◌<◌, ◌≤◌, ◌++◌, Some, List, [], ◌∷◌, length, slice_index_or}
 use Rattle.lfm_model.specs.Abstract.{AbstractMutex, AbstractPlace, all_free, free, owner, passed, posted, carried}
 use Rattle.lfm_model.specs.AbstractRuns.{IsRun, take}
@@ -131,7 +131,7 @@ abbrev pub QuiescentStatesRest : Type 0
 QuiescentStatesRest =
     (c : Core) → Steady c → IsQuiet c → (c.handoff ≡ unposted) × (0 < c.count → IsHeld c ⊎ IsGranted c)
 
--- no seat sleeps where no grant can come: it is queued, granted, WAITING for a send, or on the way by one
+-- a seat that sleeps, with no call open, is queued, granted, WAITING for a send, or on the way by one
 abbrev pub SleepersAreReachable : Type 0
 SleepersAreReachable =
     (c : Core) (t : ℕ) (since : Sleeper) → Steady c → (seat c.seats t).point ≡ Asleep since

@@ -36,15 +36,14 @@ releases_at _ = 0
 abbrev pub releases_of_run : Core → List Event → ℕ
 releases_of_run c events = weight_of_run releases_at c events
 
--- while some record that was queued has not left the queue, the seats that come to own are those of the records that leave it
--- before that one, and one more at most
+-- while a record that was queued has not left the queue, seats come to own at most as often as records leave it, and once more
 abbrev pub QueuedSeatsAreOvertakenOnce : Type 0
 QueuedSeatsAreOvertakenOnce =
     (c : Core) (events : List Event) (k : ℕ) → Steady c → k < length (queue_of c) → length (popped_record c events) ≤ k
     → entries_of_run c events ≤ length (popped_record c events) + 1
 
--- and a seat stops owning once for each of them, and once more at most: so a seat stops owning k + 1 times at most before a record
--- that has k before it leaves the queue
+-- and they stop owning at most as often as records leave it, and once more: so a seat stops owning k + 1 times at most before a
+-- record that has k before it leaves the queue
 abbrev pub QueuedSeatsWaitForFewReleases : Type 0
 QueuedSeatsWaitForFewReleases =
     (c : Core) (events : List Event) (k : ℕ) → Steady c → k < length (queue_of c) → length (popped_record c events) ≤ k

@@ -109,7 +109,7 @@ abbrev pub all_make : List ℕ → List Event
 all_make [] = []
 all_make (s ∷ later) = makes s ∷ all_make later
 
--- some steps of the calls that are open, 5N + 5 for each of them at most, lead to a state without an open call. Nothing is
+-- some steps, at most 5N + 5 times as many as calls are open, lead to a state without an open call. Nothing is
 -- posted then, and if the count is above 0 a seat owns or a grant waits for a seat that sleeps
 pub record ComesToRest (c : Core) : Type 0 where
   pub seats : List ℕ

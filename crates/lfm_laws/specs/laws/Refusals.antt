@@ -1,5 +1,6 @@
 -- Why a turn is refused: the cause of each refusal, told by the state before the turn. The causes of one turn exclude each
--- other, so they also tell the order in which they are looked at. Each law here is the contract of a public function of `laws`.
+-- other, so they also tell the order in which they are looked at. Each law here is the contract of a public function of
+-- `lfm_laws`.
 use Rattle.std.specs.Prelude.{◌≡◌, ◌≢◌, ◌⊎◌, ⊤, ℕ, true, false, ◌-◌, ◌<◌, List}
 use Rattle.lfm_model.specs.declared.refusals.Refusal.{Refusal}
 use Rattle.lfm_protocol.specs.declared.answers.Call.{Call}
@@ -68,7 +69,7 @@ CauseToBegin c x StartWait refusal = CauseToWait c.budget x refusal
 CauseToBegin c x (SendLock t) refusal = CauseToSend c.seats t x refusal
 CauseToBegin c x Receive refusal = CauseToReceive x refusal
 
--- a call that is refused changes nothing, for whatever cause
+-- a begin that is refused changes nothing, for whatever cause
 abbrev pub RefusedBeginsChangeNothing : Type 0
 RefusedBeginsChangeNothing = (c : Core) (s : ℕ) (call : Call) (why : Why) → (begin c s call).turn ≡ Refused why → (begin c s call).core ≡ c
 

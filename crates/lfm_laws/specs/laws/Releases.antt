@@ -37,7 +37,7 @@ pub record Grants (c d : Core) (t : ℕ) : Type 0 where
   pub oldest : queue_of c ≡ record { seat = t; stamp = stamp } ∷ queue_of d
   pub word : wake d.wakes t ≡ Grant stamp
 
--- the recheck found no record that was pushed since the post
+-- the recheck found the push list empty
 pub record FindsNobody (c d : Core) (s : ℕ) : Type 0 where
   pub kind : kind (seat c.seats s).point ≡ Some PushLoad
   pub empty : c.push.next ≡ 0
@@ -74,15 +74,15 @@ ReleasesAnswerWhatTheyDid =
 
 -- Each record that leaves the queue is told
 
--- how the turn of seat s, which leads it to this point, tells that it took this record from the queue: a lock holds by its own
--- record, or sleeps and has granted another's; a send was sent; a release answers whom it granted
+-- with which turn of seat s, which leads it to this point, this record leaves the queue: a lock holds by it, its own, or sleeps
+-- and it is another's; a send was sent; a release answers whom it granted
 abbrev pub TellsServed : Turn → Point → ℕ → Record → Type 0
 TellsServed (Ended (Answer.Asked (Asked.Held how))) p s r = (how ≡ How.Queued r.stamp) × (r.seat ≡ s)
 TellsServed (Ended (Answer.Asked Asked.Asleep)) p s r = r.seat ≢ s
 TellsServed (Ended Answer.Sent) p s r = ⊤
 TellsServed turn p s r = release_ended turn p ≡ Some (Granted r.seat)
 
--- where the oldest record leaves the queue by a step, the turn tells so; with an unlock or a start_wait it is answered as Granted
+-- where the oldest record leaves the queue by a step, the turn is such a one; with an unlock or a start_wait it is Granted
 abbrev pub ServedRecordsAreTold : Type 0
 ServedRecordsAreTold =
     (c : Core) (s : ℕ) (r : Record) → Steady c → queue_of c ≡ r ∷ queue_of (step c s).core

@@ -1,5 +1,5 @@
--- What a mutex that runs stands on: every state is steady, and each turn keeps it so, by the one abstract case of its step; a
--- step touches one word and one seat, and goes by these; and so it is at a table of packed words.
+-- What a mutex that runs stands on: every reached state is steady, and each turn keeps a state so, by the one abstract case of
+-- its step; a step touches one word, one seat and the pop list, and goes by these; and so it is at a table of packed words.
 use Rattle.std.specs.Prelude.{◌≡◌, ℕ, length, slice_index}
 use Rattle.lfm_protocol.specs.declared.answers.Call.{Call}
 use Rattle.lfm_protocol.specs.declared.seats.SeatState.{SeatState}
@@ -29,7 +29,7 @@ StepsKeepSteady =
     (c : Core) (g : Ghost) (e : Event) → Fits c g
     → EventOutcome g (happens c e).core (case_of_event c e) (pushed_in c e) (popped_in c e) (answered_in c e)
 
--- one word and one seat
+-- one word, one seat and the pop list
 
 abbrev pub StepsTouchOneWordAndOneSeat : Type 0
 StepsTouchOneWordAndOneSeat = (c : Core) (s : ℕ) → StepTouches c (step c s).core s

@@ -1,5 +1,5 @@
--- What a turn touches: a step the word that the table of kinds names, and the seat that makes it; a call that begins its seat
--- alone. And what a step goes by: that word, its seat, and the oldest record of the pop list.
+-- What a turn touches: a step the word that the table of kinds names, the seat that makes it and, at three kinds, the pop list;
+-- a call that begins its seat alone. And what a step goes by: that word, its seat, and the oldest record of the pop list.
 use Rattle.std.specs.Prelude.{◌≡◌, ◌≢◌, ℕ, Bool, true, false, Option, Some, None, length}
 use Rattle.lfm_protocol.specs.declared.kinds.Kind.{Kind}
 use Rattle.lfm_protocol.specs.declared.kinds.Word.{Word}

@@ -1,4 +1,4 @@
--- Who will see a posted handoff, or has seen it and not yet tried to take it.
+-- Which call has yet to load a posted handoff, or has made or seen it and not yet tried to take it.
 use Rattle.std.specs.Prelude.{◌≡◌, ℕ, ◌<◌, Any, ⊤}
 use Rattle.lfm_protocol.specs.declared.points.Point.{Point}
 use Rattle.lfm_protocol.specs.declared.points.Point.TheVariants.{LockOwnerLoad, SendPushRecheck, PushLoad, LinkStore, PushExchange, PushedHandoffLoad, PushedHandoffExchange, ReleasePushRecheck, ReleaseHandoffExchange}

@@ -25,7 +25,7 @@ pub data Standing : Type 0 where
 
 -- Each stamp up to `pushed` was pushed for one seat; the first `popped` of them have left the queue, and of the next ones a
 -- carrier has cleared `walk` from the push word and not yet walked them. `asking` tells how many seats ask, `watcher` the
--- seat that is to see a posted handoff, `answered` how many seats came to hold by a queued record, and `pushes` how often each
+-- seat whose call watches a post, `answered` how many seats came to hold by a queued record, and `pushes` how often each
 -- seat was pushed.
 pub record Ghost : Type 0 where
   pub place : Responsibility

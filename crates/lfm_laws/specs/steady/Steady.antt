@@ -174,7 +174,7 @@ abbrev pub WatchesAsPusher : Ghost → Pusher → Type 0
 WatchesAsPusher g Pusher.Locker = ⊤
 WatchesAsPusher g (Pusher.Sender t) = is_queued (g.standing t) ≡ true
 
--- seat s will see the handoff, or has seen it and not yet tried to take it
+-- the call of seat s has yet to load the handoff, or has made or seen it and not yet tried to take it
 abbrev pub WatchesAt : Core → Ghost → ℕ → SeatState → Point → Type 0
 WatchesAt c g s x LockOwnerLoad = x.depth ≡ 0
 WatchesAt c g s x (PushLoad pusher) = ⊤

@@ -3,7 +3,7 @@
  *
  * A seat's ask may grant the mutex to another seat, which sleeps, and the answer of that ask alone tells that it is to be woken. That is
  * rare, so the asks of the header are seen here: the test tells how many seats they named, and how many of these slept. */
-#define LFM_LOOKS 0
+#define LFM_LOOK_NANOSECONDS 0
 #define lfm_c_ask seen_ask
 #include "expect.h"
 #undef lfm_c_ask

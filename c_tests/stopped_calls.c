@@ -8,7 +8,7 @@
  * A thread is stopped by the processor's trap flag: after each instruction of an ask comes a signal, whose handler waits if the next
  * instruction is an atomic operation that is not allowed yet. So the test needs an x86-64. */
 #define _GNU_SOURCE
-#define LFM_LOOKS 0
+#define LFM_LOOK_NANOSECONDS 0
 #define lfm_c_ask stopped_ask
 #include "expect.h"
 #undef lfm_c_ask

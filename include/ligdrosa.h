@@ -37,6 +37,7 @@
 #include <stdlib.h>
 #include <string.h>
 #include <sys/syscall.h>
+#include <time.h>
 #include <unistd.h>
 
 #ifdef __cplusplus
@@ -101,16 +102,17 @@ uint64_t lfm_c_start_wait(void *seat);
 uint64_t lfm_c_send(void *seat, uint64_t number);
 
 enum { LFM_LINE = 64, LFM_ALIGNMENT = 16, LFM_MUTEX_BYTES = 128, LFM_SEAT_BYTES = 256 };
+enum { LFM_MONOTONIC = 1 /* CLOCK_MONOTONIC of Linux */, LFM_PAUSES_PER_LOOK = 4, LFM_LOOKS_PER_TIME = 16 /* between two readings of the clock */ };
 
 /* What programs make is aligned as memory of malloc is. So that no two of them share a cache line wherever they lie, each ends with
  * a line that nothing uses. */
 #define LFM_ALIGNED __attribute__((aligned(16)))
 
-/* How often a seat looks whether it is granted the mutex, before its thread sleeps. All its looks, each with a call and a pause, last
- * about as long as two wake-ups by the system: with fewer, one thread that sleeps soon makes all that queue behind it sleep too. Zero is
- * allowed, and right if there is one processor. */
-#ifndef LFM_LOOKS
-#define LFM_LOOKS 1200
+/* For how many nanoseconds a seat that asks for the mutex looks whether it is granted it, before its thread sleeps: about as long as two
+ * wake-ups by the system. If it is shorter, one thread that sleeps soon makes all that queue behind it sleep too. Zero is allowed. A
+ * seat does not look where the program may use one processor only, or where more seats are asking than it has processors. */
+#ifndef LFM_LOOK_NANOSECONDS
+#define LFM_LOOK_NANOSECONDS 20000
 #endif
 
 /* How often a seat was told that it is granted the mutex, and whether its thread sleeps. Each has a cache line of its own. */
@@ -125,7 +127,10 @@ typedef struct lfm_mutex {
   lfm_bell *bells;
   uint64_t seats;
   uint32_t taking; /* 1 while a seat is taken or given back */
+  uint32_t near;   /* how many seats may be asking where one looks at all: as many as there are processors, none if there is one */
   unsigned char apart[LFM_LINE];
+  uint32_t asking; /* how many seats are queued by lfm_lock */
+  unsigned char apart_from_others[LFM_LINE];
 } LFM_ALIGNED lfm_mutex;
 
 /* What one thread uses a mutex with. `mutex` is null while the seat is not taken. */
@@ -171,15 +176,17 @@ static inline void lfm_giving_up(lfm_seat *seat) {
  * Each grant is rung for. One call grants the mutex to one seat at most, and its answer names that seat, which is proved. So whoever
  * made the call rings that seat's bell as soon as it has the answer, before its own thread sleeps.
  *
- * No ring is missed. A seat's thread reads how often the bell has rung, looks for a grant, and sleeps only while the bell has rung no
- * more than that. A grant is stored before its ring. So either the ring comes before the reading, and the look finds the grant; or it
- * comes after it, and the system's own comparison finds another number of rings; or it comes when the thread is asleep, and
- * then it finds `sleeps` set and wakes it.
+ * No ring is missed. A seat's thread reads how often the bell has rung, makes a receive, and looks or sleeps only while the bell has
+ * rung no more than that. A grant is stored before its ring. So either the ring comes before the reading, and the receive finds the
+ * grant; or it comes after it, and a look or the system's own comparison finds another number of rings; or it comes when the thread is
+ * asleep, and then it finds `sleeps` set and wakes it.
  *
  * Who rings has a seat that is in a call, and a mutex is closed only after all seats are back, so the bell is still there. */
 
 #ifndef __cplusplus
-long syscall(long number, ...); /* strict C11 leaves it undeclared */
+/* strict C11 leaves these undeclared */
+long syscall(long number, ...);
+int clock_gettime(int clock, struct timespec *now);
 #endif
 
 static inline void lfm_futex(uint32_t *word, int operation, uint32_t value) {
@@ -206,22 +213,58 @@ static inline void lfm_pause(void) {
 #endif
 }
 
-/* Sleeps until the seat, which is asleep, is granted the mutex. */
-static inline lfm_status lfm_receive(lfm_seat *seat, uint32_t looks) {
+static inline uint64_t lfm_nanoseconds(void) {
+  struct timespec now;
+  clock_gettime(LFM_MONOTONIC, &now);
+  return (uint64_t)now.tv_sec * 1000000000 + (uint64_t)now.tv_nsec;
+}
+
+/* Looks for so many nanoseconds whether the bell rings again, after it has rung `seen` times. A look loads the bell alone, which no other
+ * seat's steps touch, after some pauses. */
+static inline bool lfm_hears(lfm_bell *bell, uint32_t seen, uint64_t nanoseconds) {
+  if (nanoseconds == 0) return false;
+  uint64_t begun = lfm_nanoseconds();
+  do {
+    for (int look = 0; look < LFM_LOOKS_PER_TIME; look++) {
+      for (int pause = 0; pause < LFM_PAUSES_PER_LOOK; pause++) lfm_pause();
+      if (__atomic_load_n(&bell->rings, __ATOMIC_SEQ_CST) != seen) return true;
+    }
+  } while (lfm_nanoseconds() - begun < nanoseconds);
+  return false;
+}
+
+/* Sleeps until the seat, which is asleep, is granted the mutex, after it has looked for so many nanoseconds. */
+static inline lfm_status lfm_receive(lfm_seat *seat, uint64_t nanoseconds) {
   lfm_bell *bell = seat->bell;
   for (;;) {
     uint32_t seen = __atomic_load_n(&bell->rings, __ATOMIC_SEQ_CST);
     lfm_status status = (lfm_status)lfm_c_receive(seat->handle);
     if (status != LFM_ASLEEP) return status;
-    if (looks > 0) {
-      looks--;
-      lfm_pause();
-      continue;
-    }
+    if (lfm_hears(bell, seen, nanoseconds)) continue;
+    nanoseconds = 0;
     __atomic_store_n(&bell->sleeps, 1, __ATOMIC_SEQ_CST);
     lfm_futex(&bell->rings, FUTEX_WAIT, seen);
     __atomic_store_n(&bell->sleeps, 0, __ATOMIC_SEQ_CST);
   }
+}
+
+/* The same for a seat whose grant may come soon: it looks first, unless so many are asking that it would only keep a processor from
+ * them. */
+static inline lfm_status lfm_receive_soon(lfm_seat *seat) {
+  uint32_t *asking = &seat->mutex->asking;
+  bool is_near = __atomic_add_fetch(asking, 1, __ATOMIC_RELAXED) <= seat->mutex->near;
+  lfm_status status = lfm_receive(seat, is_near ? LFM_LOOK_NANOSECONDS : 0);
+  __atomic_sub_fetch(asking, 1, __ATOMIC_RELAXED);
+  return status;
+}
+
+/* How many processors the calling thread may use; 8 where the system doesn't tell. */
+static inline uint32_t lfm_processors(void) {
+  unsigned long mask[128];
+  uint32_t count = 0;
+  long bytes = syscall(SYS_sched_getaffinity, 0, sizeof mask, mask);
+  for (long i = 0; i < bytes / (long)sizeof mask[0]; i++) count += (uint32_t)__builtin_popcountl(mask[i]);
+  return count ? count : 8;
 }
 
 /* The mutex */
@@ -244,6 +287,9 @@ static inline lfm_status lfm_mutex_new(lfm_mutex *mutex, uint64_t seats, uint64_
   }
   memset(mutex->bells, 0, bytes);
   mutex->seats = seats;
+  mutex->near = lfm_processors();
+  if (mutex->near == 1) mutex->near = 0;
+  mutex->asking = 0;
   return LFM_DONE;
 }
 
@@ -299,7 +345,7 @@ static inline lfm_status lfm_mutex_close(lfm_mutex *mutex) {
 static inline lfm_status lfm_lock(lfm_seat *seat) {
   if (!seat || !seat->mutex) return LFM_BLANK;
   lfm_status status = lfm_told(seat->mutex, lfm_c_ask(seat->handle));
-  if (__builtin_expect(status == LFM_ASLEEP, 0)) status = lfm_receive(seat, LFM_LOOKS);
+  if (__builtin_expect(status == LFM_ASLEEP, 0)) status = lfm_receive_soon(seat);
   return lfm_gained(seat, status);
 }
 

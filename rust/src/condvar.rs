@@ -1,7 +1,7 @@
 //! A condition variable: those that wait, the oldest first, guarded by a mutex of its own.
 use crate::library::Refusal;
 use crate::seat::{places, Core, Guard, Place, Seat};
-use std::{cell::UnsafeCell, collections::VecDeque, sync::Arc};
+use std::{cell::UnsafeCell, collections::VecDeque, sync::Arc, time::Duration};
 
 /// The greatest number of takes that a seat may be allowed.
 const MOST_TAKES: u64 = 1 << 36;
@@ -84,7 +84,7 @@ impl Condvar {
         }
         by.unlock();
         started?;
-        seat.place.receive(0);
+        seat.place.receive(Duration::ZERO);
         Ok(())
     }
 

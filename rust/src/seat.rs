@@ -4,13 +4,19 @@ use crate::sleep::Bell;
 use std::{
     cell::UnsafeCell,
     ffi::c_void,
+    num::NonZeroUsize,
     ops::{Deref, DerefMut},
-    sync::{Arc, Mutex},
+    sync::{
+        atomic::{AtomicUsize, Ordering::Relaxed},
+        Arc, Mutex,
+    },
+    thread,
+    time::Duration,
 };
 
-/// How often a seat looks whether it is granted the mutex, before its thread sleeps: about as long as two wake-ups by the
-/// system. With fewer looks, one thread that sleeps soon makes all that queue behind it sleep too.
-const LOOKS: u32 = 1_200;
+/// For how long a seat that asks for the mutex looks whether it is granted it, before its thread sleeps: about as long as two
+/// wake-ups by the system. If it is shorter, one thread that sleeps soon makes all that queue behind it sleep too.
+const LOOK_TIME: Duration = Duration::from_micros(20);
 
 const MUTEX_BYTES: usize = 128;
 const SEAT_BYTES: usize = 256;
@@ -30,10 +36,26 @@ impl<const N: usize> Bytes<N> {
     }
 }
 
+/// A number on a cache line of its own.
+#[derive(Default)]
+#[repr(align(64))]
+struct Count(AtomicUsize);
+
+/// How many seats may be asking where one looks at all: as many as there are processors, none if there is one.
+fn near() -> usize {
+    match thread::available_parallelism().map_or(8, NonZeroUsize::get) {
+        1 => 0,
+        processors => processors,
+    }
+}
+
 /// A mutex of the library, with a bell for each seat.
 pub(crate) struct Core {
     handle: Bytes<MUTEX_BYTES>,
     bells: Vec<Bell>,
+    near: usize,
+    /// How many seats are queued by `lock`.
+    asking: Count,
     /// Held while a seat is taken or given back, which one thread at a time may do.
     taking: Mutex<()>,
 }
@@ -47,6 +69,8 @@ impl Core {
         let core = Core {
             handle: Bytes::new(),
             bells: (0..=seats.min(4095)).map(|_| Bell::default()).collect(),
+            near: near(),
+            asking: Count::default(),
             taking: Mutex::new(()),
         };
         unsafe {
@@ -115,30 +139,37 @@ impl Place {
         unsafe { lfm_c_number(self.at()) }
     }
 
-    /// Sleeps until the seat, which is asleep, is granted the mutex.
-    pub(crate) fn receive(&mut self, looks: u32) -> u64 {
+    /// Sleeps until the seat, which is asleep, is granted the mutex, after it has looked for so long.
+    pub(crate) fn receive(&mut self, look_time: Duration) -> u64 {
         let bell = &self.core.bells[self.number() as usize];
-        let mut looks = looks;
+        let mut look_time = look_time;
         loop {
             let seen = bell.rings();
             let status = unsafe { lfm_c_receive(self.at()) };
             if status != ASLEEP {
                 return status;
             }
-            if looks > 0 {
-                looks -= 1;
-                std::hint::spin_loop();
-                continue;
+            if !bell.hears(seen, look_time) {
+                look_time = Duration::ZERO;
+                bell.sleep(seen);
             }
-            bell.sleep(seen);
         }
+    }
+
+    /// The same for a seat whose grant may come soon: it looks first, unless so many are asking that it would only keep a
+    /// processor from them.
+    fn receive_soon(&mut self) -> u64 {
+        let is_near = self.core.asking.0.fetch_add(1, Relaxed) < self.core.near;
+        let status = self.receive(if is_near { LOOK_TIME } else { Duration::ZERO });
+        self.core.asking.0.fetch_sub(1, Relaxed);
+        status
     }
 
     pub(crate) fn lock(&mut self) -> Result<u64, Refusal> {
         let answer = unsafe { lfm_c_ask(self.at()) };
         let status = self.core.told(answer);
         made(if status == ASLEEP {
-            self.receive(LOOKS)
+            self.receive_soon()
         } else {
             status
         })

@@ -1,11 +1,13 @@
 //! How threads sleep and wake: one bell for each seat, on a cache line of its own.
 //!
 //! A call grants the mutex to one seat at most, and its answer names that seat, so its caller rings that bell. A seat's thread
-//! reads how often its bell has rung, looks for a grant, and sleeps only while the bell has rung no more than that. A grant is stored
-//! before its ring, so a ring is never missed.
+//! reads how often its bell has rung, makes a receive, and looks or sleeps only while the bell has rung no more than that. A grant
+//! is stored before its ring, so a ring is never missed.
 use std::{
     ffi::{c_int, c_long},
+    hint::spin_loop,
     sync::atomic::{AtomicU32, Ordering::SeqCst},
+    time::{Duration, Instant},
 };
 
 extern "C" {
@@ -18,6 +20,10 @@ const FUTEX: c_long = 202;
 const FUTEX: c_long = 98;
 const WAIT_PRIVATE: c_int = 128;
 const WAKE_PRIVATE: c_int = 129;
+
+const PAUSES_PER_LOOK: u32 = 4;
+/// Looks between two readings of the clock.
+const LOOKS_PER_TIME: u32 = 16;
 
 /// A bell: how often it has rung, and whether its seat's thread sleeps.
 #[derive(Default)]
@@ -39,6 +45,26 @@ impl Bell {
         if self.sleeps.load(SeqCst) != 0 {
             let one: c_int = 1;
             unsafe { syscall(FUTEX, self.rings.as_ptr(), WAKE_PRIVATE, one) };
+        }
+    }
+
+    /// Looks for so long whether it rings again, after it has rung so often. A look loads the bell alone, which no other seat's
+    /// steps touch, after some pauses.
+    pub fn hears(&self, seen: u32, time: Duration) -> bool {
+        if time.is_zero() {
+            return false;
+        }
+        let begun = Instant::now();
+        loop {
+            for _ in 0..LOOKS_PER_TIME {
+                (0..PAUSES_PER_LOOK).for_each(|_| spin_loop());
+                if self.rings() != seen {
+                    return true;
+                }
+            }
+            if begun.elapsed() >= time {
+                return false;
+            }
         }
     }
 

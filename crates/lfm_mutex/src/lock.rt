@@ -27,7 +27,7 @@ use lfm_model::{Asked, How, Locked, Refusal};
 use lfm_protocol::points::{Entrant, Point, Pusher};
 use lfm_protocol::{Answer, Call, MAX_DEPTH, SeatState, Turn, Why};
 use lfm_table::straight_steps::{add_free, add_held, load_held, store_held, subtract_held};
-use lfm_table::{Kept, WakeUp};
+use lfm_table::{Kept, SeatData, WakeUp};
 use std::sync::Wait;
 
 /// Makes the steps of the open call of lock to its end.
@@ -92,23 +92,18 @@ pub fn ask_free<T: Kept>(
 {
     let _budget = budget;
     let table = &mutex.table.shared;
-    let limits = seat.limits;
     let takes = seat.standing.takes + 1;
-    let posts = seat.standing.posts;
-    let begun = SeatState {
-        depth: 0,
-        takes,
-        posts,
-        point: Point::LockCountAdd,
+    let mut data = SeatData {
+        number: seat.number,
+        limits: seat.limits,
+        standing: SeatState {
+            depth: 0,
+            takes,
+            posts: seat.standing.posts,
+            point: Point::LockCountAdd,
+        },
     };
-    let found = add_free(
-        table,
-        &mut seat.place,
-        &mut seat.moving,
-        seat.number,
-        limits,
-        &begun,
-    );
+    let found = add_free(table, &mut seat.place, &mut seat.moving, &data);
     if found != 0 {
         stand_loading(&mut seat.standing, takes);
         return queue(mutex, seat);
@@ -116,20 +111,8 @@ pub fn ask_free<T: Kept>(
     // Written here, where the value has just been moved: each stretch between two atomic steps that has writes costs time.
     seat.standing.depth = 1;
     seat.standing.takes = takes;
-    let entering = SeatState {
-        depth: 0,
-        takes,
-        posts,
-        point: Point::EnterOwnerStore(Entrant::Locker, How::Free),
-    };
-    store_held(
-        table,
-        &mut seat.place,
-        &seat.moving,
-        seat.number,
-        limits,
-        &entering,
-    );
+    data.standing.point = Point::EnterOwnerStore(Entrant::Locker, How::Free);
+    store_held(table, &mut seat.place, &seat.moving, &data);
     (Asked::Held(How::Free), None)
 }
 
@@ -146,57 +129,31 @@ pub fn ask_again<T: Kept>(mutex: &Mutex<T>, seat: &mut Seat<T>) -> (Asked, Optio
     ensures wakes { Wakes (limits_of mutex.now).seats result.1 (sight seat.old).trail (sight seat.new).trail }
 {
     let table = &mutex.table.shared;
-    let limits = seat.limits;
     let number = seat.number;
-    let SeatState {
-        depth,
-        takes,
-        posts,
-        point: _,
-    } = seat.standing;
-    let begun = SeatState {
-        depth,
-        takes,
-        posts,
-        point: Point::LockCountAdd,
+    let depth = seat.standing.depth;
+    let mut data = SeatData {
+        number,
+        limits: seat.limits,
+        standing: SeatState {
+            depth,
+            takes: seat.standing.takes,
+            posts: seat.standing.posts,
+            point: Point::LockCountAdd,
+        },
     };
-    let found = add_held(table, &mut seat.place, &seat.moving, number, limits, &begun);
+    let found = add_held(table, &mut seat.place, &seat.moving, &data);
     if found == 0 {
         stand_entering(&mut seat.standing);
         return ask_on(mutex, seat);
     }
-    let counted = SeatState {
-        depth,
-        takes,
-        posts,
-        point: Point::LockOwnerLoad,
-    };
-    let owner = load_held(
-        table,
-        &mut seat.place,
-        &seat.moving,
-        number,
-        limits,
-        &counted,
-    );
+    data.standing.point = Point::LockOwnerLoad;
+    let owner = load_held(table, &mut seat.place, &seat.moving, &data);
     if owner != number {
         stand_pushing(&mut seat.standing);
         return ask_on(mutex, seat);
     }
-    let owning = SeatState {
-        depth,
-        takes,
-        posts,
-        point: Point::LockCountSubtract,
-    };
-    subtract_held(
-        table,
-        &mut seat.place,
-        &seat.moving,
-        number,
-        limits,
-        &owning,
-    );
+    data.standing.point = Point::LockCountSubtract;
+    subtract_held(table, &mut seat.place, &seat.moving, &data);
     seat.standing.depth = depth + 1;
     (Asked::Again(depth + 1), None)
 }

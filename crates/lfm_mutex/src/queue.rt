@@ -22,7 +22,7 @@ use lfm_table::seat_memory::advance;
 use lfm_table::straight_steps::{
     exchange_push_free, load_free, load_handoff_free, load_push_free, store_link_free,
 };
-use lfm_table::{Kept, WakeUp};
+use lfm_table::{Kept, SeatData, WakeUp};
 use lfm_words::{Link, unpack_link};
 
 // The points at which the generic run goes on. They are written out of line, since a point takes as long as a step.
@@ -57,85 +57,31 @@ pub(crate) fn queue<T: Kept>(mutex: &Mutex<T>, seat: &mut Seat<T>) -> (Asked, Op
     ensures wakes { Wakes seat.old.limits.seats result.1 seat.old.place.me.0.trail seat.new.place.me.0.trail }
 {
     let table = &mutex.table.shared;
-    let limits = seat.limits;
     let number = seat.number;
-    let takes = seat.standing.takes;
-    let posts = seat.standing.posts;
-    let counted = SeatState {
-        depth: 0,
-        takes,
-        posts,
-        point: Point::LockOwnerLoad,
-    };
-    load_free(
-        table,
-        &mut seat.place,
-        &seat.moving,
+    let mut data = SeatData {
         number,
-        limits,
-        &counted,
-    );
-    let pushing = SeatState {
-        depth: 0,
-        takes,
-        posts,
-        point: Point::PushLoad(Pusher::Locker),
+        limits: seat.limits,
+        standing: SeatState {
+            depth: 0,
+            takes: seat.standing.takes,
+            posts: seat.standing.posts,
+            point: Point::LockOwnerLoad,
+        },
     };
-    let word = load_push_free(
-        table,
-        &mut seat.place,
-        &seat.moving,
-        number,
-        limits,
-        &pushing,
-    );
+    load_free(table, &mut seat.place, &seat.moving, &data);
+    data.standing.point = Point::PushLoad(Pusher::Locker);
+    let word = load_push_free(table, &mut seat.place, &seat.moving, &data);
     let seen = unpack_link(word);
-    let linking = SeatState {
-        depth: 0,
-        takes,
-        posts,
-        point: Point::LinkStore(Pusher::Locker, seen),
-    };
-    store_link_free(
-        table,
-        &mut seat.place,
-        &seat.moving,
-        number,
-        limits,
-        &linking,
-    );
-    let linked = SeatState {
-        depth: 0,
-        takes,
-        posts,
-        point: Point::PushExchange(Pusher::Locker, seen),
-    };
-    let found = exchange_push_free(
-        table,
-        &mut seat.place,
-        &seat.moving,
-        number,
-        limits,
-        &linked,
-    );
+    data.standing.point = Point::LinkStore(Pusher::Locker, seen);
+    store_link_free(table, &mut seat.place, &seat.moving, &data);
+    data.standing.point = Point::PushExchange(Pusher::Locker, seen);
+    let found = exchange_push_free(table, &mut seat.place, &seat.moving, &data);
     if found != word {
         stand_after_push(&mut seat.standing, number, seen, found);
         return ask_on(mutex, seat);
     }
-    let pushed = SeatState {
-        depth: 0,
-        takes,
-        posts,
-        point: Point::PushedHandoffLoad(Pusher::Locker),
-    };
-    let handoff = load_handoff_free(
-        table,
-        &mut seat.place,
-        &seat.moving,
-        number,
-        limits,
-        &pushed,
-    );
+    data.standing.point = Point::PushedHandoffLoad(Pusher::Locker);
+    let handoff = load_handoff_free(table, &mut seat.place, &seat.moving, &data);
     if handoff % 65_536 != 0 {
         stand_beside_post(&mut seat.standing, number, handoff);
         return ask_on(mutex, seat);

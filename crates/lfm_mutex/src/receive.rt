@@ -21,7 +21,7 @@ use lfm_table::layout::{COUNT, wake_at};
 use lfm_table::parking::park;
 use lfm_table::straight_steps::{load_grant, store_held, store_wake_held};
 use lfm_table::wake_words::{FIRST_GRANT, stamp_in};
-use lfm_table::{Kept, WakeUp};
+use lfm_table::{Kept, SeatData, WakeUp};
 use std::hint::spin_loop;
 use std::sync::Wait;
 
@@ -53,59 +53,28 @@ pub fn receive_asleep<T: Kept>(
     ensures made { ComesTo T.follows T.fits (limits_of mutex.now) CallNow.Receive (sight seat.old) (sight seat.new) (Ended (Answered.Got result)) }
 {
     let table = &mutex.table.shared;
-    let limits = seat.limits;
-    let number = seat.number;
-    let takes = seat.standing.takes;
-    let posts = seat.standing.posts;
-    let begun = SeatState {
-        depth: 0,
-        takes,
-        posts,
-        point: Point::ReceiveWakeLoad(sleeper),
+    let mut data = SeatData {
+        number: seat.number,
+        limits: seat.limits,
+        standing: SeatState {
+            depth: 0,
+            takes: seat.standing.takes,
+            posts: seat.standing.posts,
+            point: Point::ReceiveWakeLoad(sleeper),
+        },
     };
-    let found = load_grant(
-        table,
-        &mut seat.place,
-        &mut seat.moving,
-        number,
-        limits,
-        &begun,
-    );
+    let found = load_grant(table, &mut seat.place, &mut seat.moving, &data);
     if found < FIRST_GRANT {
         return None;
     }
     let stamp = stamp_in(found);
-    let granted = SeatState {
-        depth: 0,
-        takes,
-        posts,
-        point: Point::ReceiveWakeStore(stamp),
-    };
-    store_wake_held(
-        table,
-        &mut seat.place,
-        &seat.moving,
-        number,
-        limits,
-        &granted,
-    );
+    data.standing.point = Point::ReceiveWakeStore(stamp);
+    store_wake_held(table, &mut seat.place, &seat.moving, &data);
     seat.standing.depth = 1;
     seat.standing.point = Point::Rest;
     let how = how_by(stamp);
-    let entering = SeatState {
-        depth: 0,
-        takes,
-        posts,
-        point: Point::EnterOwnerStore(Entrant::Receiver, how),
-    };
-    store_held(
-        table,
-        &mut seat.place,
-        &seat.moving,
-        number,
-        limits,
-        &entering,
-    );
+    data.standing.point = Point::EnterOwnerStore(Entrant::Receiver, how);
+    store_held(table, &mut seat.place, &seat.moving, &data);
     Some(how)
 }
 

@@ -18,7 +18,7 @@ use lfm_model::{SeatNo, Unlocked};
 use lfm_protocol::SeatState;
 use lfm_protocol::points::{Carrier, Point, Releaser};
 use lfm_table::straight_steps::{clear_head_held, grant_oldest, load_link_held};
-use lfm_table::{Kept, WakeUp};
+use lfm_table::{Kept, SeatData, WakeUp};
 use lfm_words::{Record, unpack_link};
 
 // Whether this is an unlock that found others in the count.
@@ -40,14 +40,13 @@ fn grant<T: Kept>(mutex: &Mutex<T>, seat: &mut Seat<T>, next: SeatNo) -> (Unlock
     ensures bounded { length seat.new.place.me.0.trail ≤ length seat.old.place.me.0.trail + weight seat.old.limits.seats (length seat.old.place.me.0.popped) seat.old.standing.point }
     ensures wakes { Wakes seat.old.limits.seats result.1 seat.old.place.me.0.trail seat.new.place.me.0.trail }
 {
-    let wake_up = grant_oldest(
-        &mutex.table.shared,
-        &mut seat.place,
-        &mut seat.moving,
-        seat.number,
-        seat.limits,
-        &seat.standing,
-    );
+    let table = &mutex.table.shared;
+    let data = SeatData {
+        number: seat.number,
+        limits: seat.limits,
+        standing: seat.standing,
+    };
+    let wake_up = grant_oldest(table, &mut seat.place, &mut seat.moving, &data);
     seat.standing.point = Point::Rest;
     (Unlocked::Granted(next), wake_up)
 }
@@ -65,44 +64,25 @@ fn serve_pushed<T: Kept>(mutex: &Mutex<T>, seat: &mut Seat<T>) -> (Unlocked, Opt
     ensures wakes { Wakes seat.old.limits.seats result.1 seat.old.place.me.0.trail seat.new.place.me.0.trail }
 {
     let table = &mutex.table.shared;
-    let limits = seat.limits;
-    let number = seat.number;
-    let takes = seat.standing.takes;
-    let posts = seat.standing.posts;
     let carrier = Carrier::Releaser(Releaser::Unlocker);
-    let clearing = SeatState {
-        depth: 0,
-        takes,
-        posts,
-        point: Point::TakeClearHead(carrier),
+    let mut data = SeatData {
+        number: seat.number,
+        limits: seat.limits,
+        standing: SeatState {
+            depth: 0,
+            takes: seat.standing.takes,
+            posts: seat.standing.posts,
+            point: Point::TakeClearHead(carrier),
+        },
     };
-    let push = clear_head_held(
-        table,
-        &mut seat.place,
-        &seat.moving,
-        number,
-        limits,
-        &clearing,
-    );
+    let push = clear_head_held(table, &mut seat.place, &seat.moving, &data);
     let next = unpack_link(push).next;
     if next == 0 {
         seat.standing.point = Point::ReleaseHandoffStore(Releaser::Unlocker);
         return unlock_on(mutex, seat);
     }
-    let loading = SeatState {
-        depth: 0,
-        takes,
-        posts,
-        point: Point::TakeLinkLoad(carrier, next),
-    };
-    let word = load_link_held(
-        table,
-        &mut seat.place,
-        &mut seat.moving,
-        number,
-        limits,
-        &loading,
-    );
+    data.standing.point = Point::TakeLinkLoad(carrier, next);
+    let word = load_link_held(table, &mut seat.place, &mut seat.moving, &data);
     let link = unpack_link(word);
     if link.next != 0 {
         seat.standing.point = Point::TakeLinkLoad(carrier, link.next);

@@ -24,7 +24,7 @@ use lfm_table::seat_memory::advance;
 use lfm_table::straight_steps::{
     exchange_free, exchange_held, load_free, load_handoff_free, load_held, store_held,
 };
-use lfm_table::{Kept, WakeUp};
+use lfm_table::{Kept, SeatData, WakeUp};
 
 /// Makes the steps of the open call of try_lock to its end.
 #[inline(always)]
@@ -89,65 +89,31 @@ pub fn try_free<T: Kept>(
 {
     let _budget = budget;
     let table = &mutex.table.shared;
-    let limits = seat.limits;
     let number = seat.number;
     let takes = seat.standing.takes + 1;
-    let posts = seat.standing.posts;
-    let begun = SeatState {
-        depth: 0,
-        takes,
-        posts,
-        point: Point::TryCountExchange,
-    };
-    let found = exchange_free(
-        table,
-        &mut seat.place,
-        &mut seat.moving,
+    let mut data = SeatData {
         number,
-        limits,
-        &begun,
-    );
+        limits: seat.limits,
+        standing: SeatState {
+            depth: 0,
+            takes,
+            posts: seat.standing.posts,
+            point: Point::TryCountExchange,
+        },
+    };
+    let found = exchange_free(table, &mut seat.place, &mut seat.moving, &data);
     if found == 0 {
         // Written here, where the value has just been moved: each stretch between two atomic steps that has writes costs time.
         seat.standing.depth = 1;
         seat.standing.takes = takes;
-        let entering = SeatState {
-            depth: 0,
-            takes,
-            posts,
-            point: Point::EnterOwnerStore(Entrant::Trier, How::Free),
-        };
-        store_held(
-            table,
-            &mut seat.place,
-            &seat.moving,
-            number,
-            limits,
-            &entering,
-        );
+        data.standing.point = Point::EnterOwnerStore(Entrant::Trier, How::Free);
+        store_held(table, &mut seat.place, &seat.moving, &data);
         return Ok(Locked::Held(How::Free));
     }
-    let counted = SeatState {
-        depth: 0,
-        takes,
-        posts,
-        point: Point::TryOwnerLoad,
-    };
-    load_free(
-        table,
-        &mut seat.place,
-        &seat.moving,
-        number,
-        limits,
-        &counted,
-    );
-    let owned = SeatState {
-        depth: 0,
-        takes,
-        posts,
-        point: Point::TryHandoffLoad,
-    };
-    let handoff = load_handoff_free(table, &mut seat.place, &seat.moving, number, limits, &owned);
+    data.standing.point = Point::TryOwnerLoad;
+    load_free(table, &mut seat.place, &seat.moving, &data);
+    data.standing.point = Point::TryHandoffLoad;
+    let handoff = load_handoff_free(table, &mut seat.place, &seat.moving, &data);
     if handoff % 65_536 != 0 {
         stand_exchanging(&mut seat.standing, takes, number, handoff);
         return try_on(mutex, seat);
@@ -166,39 +132,25 @@ pub fn try_again<T: Kept>(mutex: &Mutex<T>, seat: &mut Seat<T>) -> Result<Locked
     ensures made { ComesTo T.follows T.fits (limits_of mutex.now) CallNow.TryLock (sight seat.old) (sight seat.new) (try_turn result) }
 {
     let table = &mutex.table.shared;
-    let limits = seat.limits;
     let number = seat.number;
-    let SeatState {
-        depth,
-        takes,
-        posts,
-        point: _,
-    } = seat.standing;
-    let begun = SeatState {
-        depth,
-        takes,
-        posts,
-        point: Point::TryCountExchange,
+    let depth = seat.standing.depth;
+    let mut data = SeatData {
+        number,
+        limits: seat.limits,
+        standing: SeatState {
+            depth,
+            takes: seat.standing.takes,
+            posts: seat.standing.posts,
+            point: Point::TryCountExchange,
+        },
     };
-    let found = exchange_held(table, &mut seat.place, &seat.moving, number, limits, &begun);
+    let found = exchange_held(table, &mut seat.place, &seat.moving, &data);
     if found == 0 {
         stand_entering(&mut seat.standing);
         return try_on(mutex, seat);
     }
-    let counted = SeatState {
-        depth,
-        takes,
-        posts,
-        point: Point::TryOwnerLoad,
-    };
-    let owner = load_held(
-        table,
-        &mut seat.place,
-        &seat.moving,
-        number,
-        limits,
-        &counted,
-    );
+    data.standing.point = Point::TryOwnerLoad;
+    let owner = load_held(table, &mut seat.place, &seat.moving, &data);
     if owner != number {
         stand_loading(&mut seat.standing);
         return try_on(mutex, seat);

@@ -25,7 +25,7 @@ use lfm_protocol::{Answer, Call, SeatState, Turn, Why};
 use lfm_table::moving_box::MovingBox;
 use lfm_table::seat_memory::oldest_of;
 use lfm_table::straight_steps::{store_held, subtract_last};
-use lfm_table::{Kept, WakeUp};
+use lfm_table::{Kept, SeatData, WakeUp};
 
 /// Makes the steps of the open call of unlock to its end, once its seat has given up the owner word.
 #[inline(always)]
@@ -75,40 +75,23 @@ pub fn unlock_last<T: Kept>(mutex: &Mutex<T>, seat: &mut Seat<T>) -> (Unlocked, 
     ensures wakes { Wakes (limits_of mutex.now).seats result.1 (sight seat.old).trail (sight seat.new).trail }
 {
     let table = &mutex.table.shared;
-    let limits = seat.limits;
     let number = seat.number;
-    let takes = seat.standing.takes;
-    let posts = seat.standing.posts;
-    let ending = SeatState {
-        depth: 1,
-        takes,
-        posts,
-        point: Point::ReleaseOwnerStore(Releaser::Unlocker),
-    };
-    store_held(
-        table,
-        &mut seat.place,
-        &seat.moving,
+    let mut data = SeatData {
         number,
-        limits,
-        &ending,
-    );
+        limits: seat.limits,
+        standing: SeatState {
+            depth: 1,
+            takes: seat.standing.takes,
+            posts: seat.standing.posts,
+            point: Point::ReleaseOwnerStore(Releaser::Unlocker),
+        },
+    };
+    store_held(table, &mut seat.place, &seat.moving, &data);
     // Written here, where the value is about to be moved: each stretch between two atomic steps that has writes costs time.
     seat.standing.depth = 0;
-    let ended = SeatState {
-        depth: 0,
-        takes,
-        posts,
-        point: Point::ReleaseCountSubtract(Releaser::Unlocker),
-    };
-    let found = subtract_last(
-        table,
-        &mut seat.place,
-        &mut seat.moving,
-        number,
-        limits,
-        &ended,
-    );
+    data.standing.depth = 0;
+    data.standing.point = Point::ReleaseCountSubtract(Releaser::Unlocker);
+    let found = subtract_last(table, &mut seat.place, &mut seat.moving, &data);
     if found != 1 {
         stand_carrying(&mut seat.standing, &seat.moving, number, found);
         return serve(mutex, seat);

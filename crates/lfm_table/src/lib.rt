@@ -9,6 +9,7 @@ pub mod layout;
 pub mod moving_box;
 pub mod parking;
 pub mod rule;
+pub mod seat_data;
 pub mod seat_memory;
 pub mod seat_view;
 pub mod straight_steps;
@@ -17,4 +18,5 @@ pub mod wake_up;
 pub mod wake_words;
 
 pub use kept::Kept;
+pub use seat_data::SeatData;
 pub use wake_up::WakeUp;

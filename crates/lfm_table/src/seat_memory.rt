@@ -15,6 +15,7 @@ ghost use Rattle.lfm_table.specs.Steps.{gives_at, dropped, kept_out, put_in, wit
 use crate::kept::Kept;
 use crate::layout::SLOT;
 use crate::moving_box::MovingBox;
+use crate::seat_data::SeatData;
 use crate::table_steps::{Place, SharedTable};
 use crate::wake_words::{FIRST_GRANT, state_in};
 use lfm_model::SeatNo;
@@ -38,9 +39,10 @@ pub fn gives(point: Point) -> bool
 
 /// The value is out with a seat of these data after its step, which found this number. So a seat knows before it moves on
 /// whether to take the value out of its slot.
-pub fn carries_after(standing: &SeatState, number: u64, found: u64) -> bool
-    ensures { result ≡ carries_value (stepped_by standing.now number found None).seat }
+pub fn carries_after(seat: &SeatData, found: u64) -> bool
+    ensures { result ≡ carries_value (stepped_by seat.now.standing seat.now.number found None).seat }
 {
+    let standing = &seat.standing;
     if standing.depth != 0 {
         return true;
     }
@@ -48,11 +50,11 @@ pub fn carries_after(standing: &SeatState, number: u64, found: u64) -> bool
         Point::LockCountAdd | Point::TryCountExchange | Point::SendCountAdd(_) => found == 0,
         Point::ReleaseCountSubtract(_) => found != 1,
         Point::ReceiveWakeLoad(_) => found >= FIRST_GRANT,
-        Point::TryOwnerLoad => found == number,
+        Point::TryOwnerLoad => found == seat.number,
         Point::TryHandoffExchange(_)
         | Point::PushedHandoffExchange(_, _)
         | Point::ReleaseHandoffExchange(_) => {
-            unpack_handoff(found) == standing.expected_handoff(number)
+            unpack_handoff(found) == standing.expected_handoff(seat.number)
         }
         Point::ReleaseOwnerStore(_)
         | Point::LockCountSubtract
@@ -159,22 +161,17 @@ pub fn prepare<T: Kept>(
 }
 
 /// Puts the record of a link that was loaded into the pop list.
-pub fn add_loaded<T: Drop>(
-    moving: &mut Option<MovingBox<T>>,
-    standing: &SeatState,
-    number: u64,
-    found: u64,
-)
-    requires target { IsSeatNo (target standing.now.point number) }
-    requires room { kind standing.now.point ≡ Some Kind.LinkLoad → (x : Moving T) → moving.old ≡ Some x → length x.popped.records < x.popped.room }
-    ensures { moving.new ≡ with_record standing.now number found moving.old }
+pub fn add_loaded<T: Drop>(moving: &mut Option<MovingBox<T>>, seat: &SeatData, found: u64)
+    requires target { IsSeatNo (target seat.now.standing.point seat.now.number) }
+    requires room { kind seat.now.standing.point ≡ Some Kind.LinkLoad → (x : Moving T) → moving.old ≡ Some x → length x.popped.records < x.popped.room }
+    ensures { moving.new ≡ with_record seat.now.standing seat.now.number found moving.old }
 {
-    if standing.point.kind() != Some(Kind::LinkLoad) {
+    if seat.standing.point.kind() != Some(Kind::LinkLoad) {
         return;
     }
-    let seat = SeatNo::known(standing.point.target(number));
+    let target = SeatNo::known(seat.standing.point.target(seat.number));
     match moving {
-        Some(moving) => moving.add_older(seat, unpack_link(found).stamp),
+        Some(moving) => moving.add_older(target, unpack_link(found).stamp),
         None => {}
     }
 }
@@ -185,19 +182,18 @@ pub fn settle<T: Kept>(
     table: &SharedTable<T>,
     place: &mut Place<T>,
     moving: &mut Option<MovingBox<T>>,
-    standing: &SeatState,
-    number: u64,
+    seat: &SeatData,
     found: u64,
 )
     requires table { place.old.table_id ≡ table.now.table_id }
-    requires slot { is_carried moving.old ≡ false → carries_value (stepped_by standing.now number found None).seat ≡ true → (x : Option (Moving T)) × (place.old.me.1 ≡ (0, x) ∷ rest place.old.me.1) }
+    requires slot { is_carried moving.old ≡ false → carries_value (stepped_by seat.now.standing seat.now.number found None).seat ≡ true → (x : Option (Moving T)) × (place.old.me.1 ≡ (0, x) ∷ rest place.old.me.1) }
     ensures table { (place.new.table_id ≡ place.old.table_id) × (place.new.id ≡ place.old.id) }
-    ensures took { Took (is_carried moving.old) (carries_value (stepped_by standing.now number found None).seat) moving.old place.old.me moving.new place.new.me }
+    ensures took { Took (is_carried moving.old) (carries_value (stepped_by seat.now.standing seat.now.number found None).seat) moving.old place.old.me moving.new place.new.me }
 {
     if moving.is_some() {
         return;
     }
-    if !carries_after(standing, number, found) {
+    if !carries_after(seat, found) {
         return;
     }
     let taken = table.exchange(place, SLOT, None);

@@ -1,6 +1,6 @@
-//! The atomic steps of a call that is made straight on, each by itself. The seat's plain data at the step, `plain`, are for
-//! the proof alone: a caller makes them up on the spot, no step reads more of them than their point, and the data that the
-//! seat keeps are not written.
+//! The atomic steps of a call that is made straight on, each by itself. A caller makes up the seat's data, `seat`, and moves
+//! their point on from step to step. No step reads more of where the seat stands than that point, the rest is for the proof
+//! alone, and the data that the seat keeps are not written.
 ghost use Rattle.std.specs.Prelude.{◌≡◌, ◌≢◌, ◌<◌, ◌≤◌, ℕ, Some, None, true, false};
 ghost use Rattle.lfm_protocol.specs.declared.kinds.Kind.{Kind as KindNow};
 ghost use Rattle.lfm_protocol.specs.declared.points.Point.TheVariants.{ReleaseOwnerStore};
@@ -15,6 +15,7 @@ ghost use Rattle.lfm_table.specs.Straight.{Fit, MadeStep};
 
 use crate::kept::Kept;
 use crate::moving_box::MovingBox;
+use crate::seat_data::SeatData;
 use crate::seat_memory::{add_loaded, drop_oldest, put_out, take_out};
 use crate::table_steps::{
     Place, SharedTable, add_count, clear_head, exchange_count, exchange_push, load_handoff,
@@ -23,7 +24,6 @@ use crate::table_steps::{
 };
 use crate::wake_up::WakeUp;
 use crate::wake_words::FIRST_GRANT;
-use lfm_protocol::{Limits, SeatState};
 use std::marker::Brand;
 
 /// Adds 1 to the count, for a seat that doesn't hold, which comes to carry the value just where it found 0.
@@ -32,20 +32,18 @@ pub fn add_free<T: Kept>(
     table: &SharedTable<T>,
     place: &mut Place<T>,
     moving: &mut Option<MovingBox<T>>,
-    number: u64,
-    limits: Limits,
-    plain: &SeatState,
+    seat: &SeatData,
 ) -> u64
     requires table { place.old.table_id ≡ table.now.table_id }
-    requires fit { Fit number place.old.table_id.words place.old.id limits plain.now place.old.me moving.old }
-    requires kind { kind plain.now.point ≡ Some KindNow.CountAdd }
-    requires free { carries_value plain.now ≡ false }
-    requires gains { carries_value (stepped_by plain.now number 0 None).seat ≡ true }
-    requires idles { (n : ℕ) → n ≢ 0 → carries_value (stepped_by plain.now number n None).seat ≡ false }
+    requires fit { Fit seat.now.number place.old.table_id.words place.old.id seat.now.limits seat.now.standing place.old.me moving.old }
+    requires kind { kind seat.now.standing.point ≡ Some KindNow.CountAdd }
+    requires free { carries_value seat.now.standing ≡ false }
+    requires gains { carries_value (stepped_by seat.now.standing seat.now.number 0 None).seat ≡ true }
+    requires idles { (n : ℕ) → n ≢ 0 → carries_value (stepped_by seat.now.standing seat.now.number n None).seat ≡ false }
     ensures table { place.new.table_id ≡ place.old.table_id }
-    ensures step { MadeStep T.follows T.fits number place.new.table_id.words place.new.id limits plain.now result place.old.me moving.old place.new.me moving.new }
+    ensures step { MadeStep T.follows T.fits seat.now.number place.new.table_id.words place.new.id seat.now.limits seat.now.standing result place.old.me moving.old place.new.me moving.new }
 {
-    let found = add_count::<T, Brand>(table, place, plain, &*moving, number, limits.seats);
+    let found = add_count::<T, Brand>(table, place, seat, &*moving);
     if found != 0 {
         return found;
     }
@@ -59,18 +57,16 @@ pub fn add_held<T: Kept>(
     table: &SharedTable<T>,
     place: &mut Place<T>,
     moving: &Option<MovingBox<T>>,
-    number: u64,
-    limits: Limits,
-    plain: &SeatState,
+    seat: &SeatData,
 ) -> u64
     requires table { place.old.table_id ≡ table.now.table_id }
-    requires fit { Fit number place.old.table_id.words place.old.id limits plain.now place.old.me moving.now }
-    requires kind { kind plain.now.point ≡ Some KindNow.CountAdd }
-    requires held { carries_value plain.now ≡ true }
+    requires fit { Fit seat.now.number place.old.table_id.words place.old.id seat.now.limits seat.now.standing place.old.me moving.now }
+    requires kind { kind seat.now.standing.point ≡ Some KindNow.CountAdd }
+    requires held { carries_value seat.now.standing ≡ true }
     ensures table { place.new.table_id ≡ place.old.table_id }
-    ensures step { MadeStep T.follows T.fits number place.new.table_id.words place.new.id limits plain.now result place.old.me moving.now place.new.me moving.now }
+    ensures step { MadeStep T.follows T.fits seat.now.number place.new.table_id.words place.new.id seat.now.limits seat.now.standing result place.old.me moving.now place.new.me moving.now }
 {
-    add_count::<T, Brand>(table, place, plain, moving, number, limits.seats)
+    add_count::<T, Brand>(table, place, seat, moving)
 }
 
 /// Stores the owner, for a seat that carries the value.
@@ -79,20 +75,18 @@ pub fn store_held<T: Kept>(
     table: &SharedTable<T>,
     place: &mut Place<T>,
     moving: &Option<MovingBox<T>>,
-    number: u64,
-    limits: Limits,
-    plain: &SeatState,
+    seat: &SeatData,
 )
     requires table { place.old.table_id ≡ table.now.table_id }
-    requires fit { Fit number place.old.table_id.words place.old.id limits plain.now place.old.me moving.now }
-    requires kind { kind plain.now.point ≡ Some KindNow.OwnerStore }
-    requires held { carries_value plain.now ≡ true }
-    requires keeps { drops_oldest plain.now ≡ false }
-    requires leaves { (r : Releaser) → plain.now.point ≡ ReleaseOwnerStore r → MayBeLeft T.follows T.fits moving.now place.old.me.0 }
+    requires fit { Fit seat.now.number place.old.table_id.words place.old.id seat.now.limits seat.now.standing place.old.me moving.now }
+    requires kind { kind seat.now.standing.point ≡ Some KindNow.OwnerStore }
+    requires held { carries_value seat.now.standing ≡ true }
+    requires keeps { drops_oldest seat.now.standing ≡ false }
+    requires leaves { (r : Releaser) → seat.now.standing.point ≡ ReleaseOwnerStore r → MayBeLeft T.follows T.fits moving.now place.old.me.0 }
     ensures table { place.new.table_id ≡ place.old.table_id }
-    ensures step { (n : ℕ) × MadeStep T.follows T.fits number place.new.table_id.words place.new.id limits plain.now n place.old.me moving.now place.new.me moving.now }
+    ensures step { (n : ℕ) × MadeStep T.follows T.fits seat.now.number place.new.table_id.words place.new.id seat.now.limits seat.now.standing n place.old.me moving.now place.new.me moving.now }
 {
-    store_owner::<T, Brand>(table, place, plain, moving, number, limits.seats);
+    store_owner::<T, Brand>(table, place, seat, moving);
 }
 
 /// Loads the owner, for a seat that holds.
@@ -101,18 +95,16 @@ pub fn load_held<T: Kept>(
     table: &SharedTable<T>,
     place: &mut Place<T>,
     moving: &Option<MovingBox<T>>,
-    number: u64,
-    limits: Limits,
-    plain: &SeatState,
+    seat: &SeatData,
 ) -> u64
     requires table { place.old.table_id ≡ table.now.table_id }
-    requires fit { Fit number place.old.table_id.words place.old.id limits plain.now place.old.me moving.now }
-    requires kind { kind plain.now.point ≡ Some KindNow.OwnerLoad }
-    requires held { carries_value plain.now ≡ true }
+    requires fit { Fit seat.now.number place.old.table_id.words place.old.id seat.now.limits seat.now.standing place.old.me moving.now }
+    requires kind { kind seat.now.standing.point ≡ Some KindNow.OwnerLoad }
+    requires held { carries_value seat.now.standing ≡ true }
     ensures table { place.new.table_id ≡ place.old.table_id }
-    ensures step { MadeStep T.follows T.fits number place.new.table_id.words place.new.id limits plain.now result place.old.me moving.now place.new.me moving.now }
+    ensures step { MadeStep T.follows T.fits seat.now.number place.new.table_id.words place.new.id seat.now.limits seat.now.standing result place.old.me moving.now place.new.me moving.now }
 {
-    load_owner::<T, Brand>(table, place, plain, moving, number, limits.seats)
+    load_owner::<T, Brand>(table, place, seat, moving)
 }
 
 /// Subtracts 1 from the count, for a seat that goes on holding.
@@ -121,19 +113,17 @@ pub fn subtract_held<T: Kept>(
     table: &SharedTable<T>,
     place: &mut Place<T>,
     moving: &Option<MovingBox<T>>,
-    number: u64,
-    limits: Limits,
-    plain: &SeatState,
+    seat: &SeatData,
 )
     requires table { place.old.table_id ≡ table.now.table_id }
-    requires fit { Fit number place.old.table_id.words place.old.id limits plain.now place.old.me moving.now }
-    requires kind { kind plain.now.point ≡ Some KindNow.CountSubtract }
-    requires held { carries_value plain.now ≡ true }
-    requires keeps { gives_at plain.now.point ≡ false }
+    requires fit { Fit seat.now.number place.old.table_id.words place.old.id seat.now.limits seat.now.standing place.old.me moving.now }
+    requires kind { kind seat.now.standing.point ≡ Some KindNow.CountSubtract }
+    requires held { carries_value seat.now.standing ≡ true }
+    requires keeps { gives_at seat.now.standing.point ≡ false }
     ensures table { place.new.table_id ≡ place.old.table_id }
-    ensures step { (n : ℕ) × MadeStep T.follows T.fits number place.new.table_id.words place.new.id limits plain.now n place.old.me moving.now place.new.me moving.now }
+    ensures step { (n : ℕ) × MadeStep T.follows T.fits seat.now.number place.new.table_id.words place.new.id seat.now.limits seat.now.standing n place.old.me moving.now place.new.me moving.now }
 {
-    subtract_count::<T, Brand>(table, place, plain, moving, number, limits.seats);
+    subtract_count::<T, Brand>(table, place, seat, moving);
 }
 
 /// Subtracts 1 from the count with the value in its slot, for a seat that has given up the owner word. The seat takes the
@@ -143,21 +133,19 @@ pub fn subtract_last<T: Kept>(
     table: &SharedTable<T>,
     place: &mut Place<T>,
     moving: &mut Option<MovingBox<T>>,
-    number: u64,
-    limits: Limits,
-    plain: &SeatState,
+    seat: &SeatData,
 ) -> u64
     requires table { place.old.table_id ≡ table.now.table_id }
-    requires fit { Fit number place.old.table_id.words place.old.id limits plain.now place.old.me moving.old }
-    requires kind { kind plain.now.point ≡ Some KindNow.CountSubtract }
-    requires gives { gives_at plain.now.point ≡ true }
-    requires leaves { carries_value (stepped_by plain.now number 1 None).seat ≡ false }
-    requires carries { (n : ℕ) → n ≢ 1 → carries_value (stepped_by plain.now number n None).seat ≡ true }
+    requires fit { Fit seat.now.number place.old.table_id.words place.old.id seat.now.limits seat.now.standing place.old.me moving.old }
+    requires kind { kind seat.now.standing.point ≡ Some KindNow.CountSubtract }
+    requires gives { gives_at seat.now.standing.point ≡ true }
+    requires leaves { carries_value (stepped_by seat.now.standing seat.now.number 1 None).seat ≡ false }
+    requires carries { (n : ℕ) → n ≢ 1 → carries_value (stepped_by seat.now.standing seat.now.number n None).seat ≡ true }
     ensures table { place.new.table_id ≡ place.old.table_id }
-    ensures step { MadeStep T.follows T.fits number place.new.table_id.words place.new.id limits plain.now result place.old.me moving.old place.new.me moving.new }
+    ensures step { MadeStep T.follows T.fits seat.now.number place.new.table_id.words place.new.id seat.now.limits seat.now.standing result place.old.me moving.old place.new.me moving.new }
 {
     put_out(table, place, moving);
-    let found = subtract_count::<T, Brand>(table, place, plain, &None, number, limits.seats);
+    let found = subtract_count::<T, Brand>(table, place, seat, &None);
     if found == 1 {
         return 1;
     }
@@ -171,20 +159,18 @@ pub fn exchange_free<T: Kept>(
     table: &SharedTable<T>,
     place: &mut Place<T>,
     moving: &mut Option<MovingBox<T>>,
-    number: u64,
-    limits: Limits,
-    plain: &SeatState,
+    seat: &SeatData,
 ) -> u64
     requires table { place.old.table_id ≡ table.now.table_id }
-    requires fit { Fit number place.old.table_id.words place.old.id limits plain.now place.old.me moving.old }
-    requires kind { kind plain.now.point ≡ Some KindNow.CountExchange }
-    requires free { carries_value plain.now ≡ false }
-    requires gains { carries_value (stepped_by plain.now number 0 None).seat ≡ true }
-    requires idles { (n : ℕ) → n ≢ 0 → carries_value (stepped_by plain.now number n None).seat ≡ false }
+    requires fit { Fit seat.now.number place.old.table_id.words place.old.id seat.now.limits seat.now.standing place.old.me moving.old }
+    requires kind { kind seat.now.standing.point ≡ Some KindNow.CountExchange }
+    requires free { carries_value seat.now.standing ≡ false }
+    requires gains { carries_value (stepped_by seat.now.standing seat.now.number 0 None).seat ≡ true }
+    requires idles { (n : ℕ) → n ≢ 0 → carries_value (stepped_by seat.now.standing seat.now.number n None).seat ≡ false }
     ensures table { place.new.table_id ≡ place.old.table_id }
-    ensures step { MadeStep T.follows T.fits number place.new.table_id.words place.new.id limits plain.now result place.old.me moving.old place.new.me moving.new }
+    ensures step { MadeStep T.follows T.fits seat.now.number place.new.table_id.words place.new.id seat.now.limits seat.now.standing result place.old.me moving.old place.new.me moving.new }
 {
-    let found = exchange_count::<T, Brand>(table, place, plain, &*moving, number, limits.seats);
+    let found = exchange_count::<T, Brand>(table, place, seat, &*moving);
     if found != 0 {
         return found;
     }
@@ -198,18 +184,16 @@ pub fn exchange_held<T: Kept>(
     table: &SharedTable<T>,
     place: &mut Place<T>,
     moving: &Option<MovingBox<T>>,
-    number: u64,
-    limits: Limits,
-    plain: &SeatState,
+    seat: &SeatData,
 ) -> u64
     requires table { place.old.table_id ≡ table.now.table_id }
-    requires fit { Fit number place.old.table_id.words place.old.id limits plain.now place.old.me moving.now }
-    requires kind { kind plain.now.point ≡ Some KindNow.CountExchange }
-    requires held { carries_value plain.now ≡ true }
+    requires fit { Fit seat.now.number place.old.table_id.words place.old.id seat.now.limits seat.now.standing place.old.me moving.now }
+    requires kind { kind seat.now.standing.point ≡ Some KindNow.CountExchange }
+    requires held { carries_value seat.now.standing ≡ true }
     ensures table { place.new.table_id ≡ place.old.table_id }
-    ensures step { MadeStep T.follows T.fits number place.new.table_id.words place.new.id limits plain.now result place.old.me moving.now place.new.me moving.now }
+    ensures step { MadeStep T.follows T.fits seat.now.number place.new.table_id.words place.new.id seat.now.limits seat.now.standing result place.old.me moving.now place.new.me moving.now }
 {
-    exchange_count::<T, Brand>(table, place, plain, moving, number, limits.seats)
+    exchange_count::<T, Brand>(table, place, seat, moving)
 }
 
 /// Loads the owner, for a seat that doesn't hold, and so finds another.
@@ -218,21 +202,19 @@ pub fn load_free<T: Kept>(
     table: &SharedTable<T>,
     place: &mut Place<T>,
     moving: &Option<MovingBox<T>>,
-    number: u64,
-    limits: Limits,
-    plain: &SeatState,
+    seat: &SeatData,
 ) -> u64
     requires table { place.old.table_id ≡ table.now.table_id }
-    requires fit { Fit number place.old.table_id.words place.old.id limits plain.now place.old.me moving.now }
-    requires kind { kind plain.now.point ≡ Some KindNow.OwnerLoad }
-    requires flat { plain.now.depth ≡ 0 }
-    requires free { carries_value plain.now ≡ false }
-    requires idles { (n : ℕ) → n ≢ number → carries_value (stepped_by plain.now number n None).seat ≡ false }
+    requires fit { Fit seat.now.number place.old.table_id.words place.old.id seat.now.limits seat.now.standing place.old.me moving.now }
+    requires kind { kind seat.now.standing.point ≡ Some KindNow.OwnerLoad }
+    requires flat { seat.now.standing.depth ≡ 0 }
+    requires free { carries_value seat.now.standing ≡ false }
+    requires idles { (n : ℕ) → n ≢ seat.now.number → carries_value (stepped_by seat.now.standing seat.now.number n None).seat ≡ false }
     ensures table { place.new.table_id ≡ place.old.table_id }
-    ensures other { result ≢ number }
-    ensures step { MadeStep T.follows T.fits number place.new.table_id.words place.new.id limits plain.now result place.old.me moving.now place.new.me moving.now }
+    ensures other { result ≢ seat.now.number }
+    ensures step { MadeStep T.follows T.fits seat.now.number place.new.table_id.words place.new.id seat.now.limits seat.now.standing result place.old.me moving.now place.new.me moving.now }
 {
-    load_owner::<T, Brand>(table, place, plain, moving, number, limits.seats)
+    load_owner::<T, Brand>(table, place, seat, moving)
 }
 
 /// Loads the handoff, for a seat that doesn't hold.
@@ -241,19 +223,17 @@ pub fn load_handoff_free<T: Kept>(
     table: &SharedTable<T>,
     place: &mut Place<T>,
     moving: &Option<MovingBox<T>>,
-    number: u64,
-    limits: Limits,
-    plain: &SeatState,
+    seat: &SeatData,
 ) -> u64
     requires table { place.old.table_id ≡ table.now.table_id }
-    requires fit { Fit number place.old.table_id.words place.old.id limits plain.now place.old.me moving.now }
-    requires kind { kind plain.now.point ≡ Some KindNow.HandoffLoad }
-    requires free { carries_value plain.now ≡ false }
-    requires idles { (n : ℕ) → carries_value (stepped_by plain.now number n None).seat ≡ false }
+    requires fit { Fit seat.now.number place.old.table_id.words place.old.id seat.now.limits seat.now.standing place.old.me moving.now }
+    requires kind { kind seat.now.standing.point ≡ Some KindNow.HandoffLoad }
+    requires free { carries_value seat.now.standing ≡ false }
+    requires idles { (n : ℕ) → carries_value (stepped_by seat.now.standing seat.now.number n None).seat ≡ false }
     ensures table { place.new.table_id ≡ place.old.table_id }
-    ensures step { MadeStep T.follows T.fits number place.new.table_id.words place.new.id limits plain.now result place.old.me moving.now place.new.me moving.now }
+    ensures step { MadeStep T.follows T.fits seat.now.number place.new.table_id.words place.new.id seat.now.limits seat.now.standing result place.old.me moving.now place.new.me moving.now }
 {
-    load_handoff::<T, Brand>(table, place, plain, moving, number, limits.seats)
+    load_handoff::<T, Brand>(table, place, seat, moving)
 }
 
 /// Loads the push word, for a seat that doesn't hold.
@@ -262,19 +242,17 @@ pub fn load_push_free<T: Kept>(
     table: &SharedTable<T>,
     place: &mut Place<T>,
     moving: &Option<MovingBox<T>>,
-    number: u64,
-    limits: Limits,
-    plain: &SeatState,
+    seat: &SeatData,
 ) -> u64
     requires table { place.old.table_id ≡ table.now.table_id }
-    requires fit { Fit number place.old.table_id.words place.old.id limits plain.now place.old.me moving.now }
-    requires kind { kind plain.now.point ≡ Some KindNow.PushLoad }
-    requires free { carries_value plain.now ≡ false }
-    requires idles { (n : ℕ) → carries_value (stepped_by plain.now number n None).seat ≡ false }
+    requires fit { Fit seat.now.number place.old.table_id.words place.old.id seat.now.limits seat.now.standing place.old.me moving.now }
+    requires kind { kind seat.now.standing.point ≡ Some KindNow.PushLoad }
+    requires free { carries_value seat.now.standing ≡ false }
+    requires idles { (n : ℕ) → carries_value (stepped_by seat.now.standing seat.now.number n None).seat ≡ false }
     ensures table { place.new.table_id ≡ place.old.table_id }
-    ensures step { MadeStep T.follows T.fits number place.new.table_id.words place.new.id limits plain.now result place.old.me moving.now place.new.me moving.now }
+    ensures step { MadeStep T.follows T.fits seat.now.number place.new.table_id.words place.new.id seat.now.limits seat.now.standing result place.old.me moving.now place.new.me moving.now }
 {
-    load_push::<T, Brand>(table, place, plain, moving, number, limits.seats)
+    load_push::<T, Brand>(table, place, seat, moving)
 }
 
 /// Exchanges the push word, for a seat that doesn't hold.
@@ -283,19 +261,17 @@ pub fn exchange_push_free<T: Kept>(
     table: &SharedTable<T>,
     place: &mut Place<T>,
     moving: &Option<MovingBox<T>>,
-    number: u64,
-    limits: Limits,
-    plain: &SeatState,
+    seat: &SeatData,
 ) -> u64
     requires table { place.old.table_id ≡ table.now.table_id }
-    requires fit { Fit number place.old.table_id.words place.old.id limits plain.now place.old.me moving.now }
-    requires kind { kind plain.now.point ≡ Some KindNow.PushExchange }
-    requires free { carries_value plain.now ≡ false }
-    requires idles { (n : ℕ) → carries_value (stepped_by plain.now number n None).seat ≡ false }
+    requires fit { Fit seat.now.number place.old.table_id.words place.old.id seat.now.limits seat.now.standing place.old.me moving.now }
+    requires kind { kind seat.now.standing.point ≡ Some KindNow.PushExchange }
+    requires free { carries_value seat.now.standing ≡ false }
+    requires idles { (n : ℕ) → carries_value (stepped_by seat.now.standing seat.now.number n None).seat ≡ false }
     ensures table { place.new.table_id ≡ place.old.table_id }
-    ensures step { MadeStep T.follows T.fits number place.new.table_id.words place.new.id limits plain.now result place.old.me moving.now place.new.me moving.now }
+    ensures step { MadeStep T.follows T.fits seat.now.number place.new.table_id.words place.new.id seat.now.limits seat.now.standing result place.old.me moving.now place.new.me moving.now }
 {
-    exchange_push::<T, Brand>(table, place, plain, moving, number, limits.seats)
+    exchange_push::<T, Brand>(table, place, seat, moving)
 }
 
 /// Stores the link, for a seat that doesn't hold.
@@ -304,19 +280,17 @@ pub fn store_link_free<T: Kept>(
     table: &SharedTable<T>,
     place: &mut Place<T>,
     moving: &Option<MovingBox<T>>,
-    number: u64,
-    limits: Limits,
-    plain: &SeatState,
+    seat: &SeatData,
 )
     requires table { place.old.table_id ≡ table.now.table_id }
-    requires fit { Fit number place.old.table_id.words place.old.id limits plain.now place.old.me moving.now }
-    requires kind { kind plain.now.point ≡ Some KindNow.LinkStore }
-    requires free { carries_value plain.now ≡ false }
-    requires idles { (n : ℕ) → carries_value (stepped_by plain.now number n None).seat ≡ false }
+    requires fit { Fit seat.now.number place.old.table_id.words place.old.id seat.now.limits seat.now.standing place.old.me moving.now }
+    requires kind { kind seat.now.standing.point ≡ Some KindNow.LinkStore }
+    requires free { carries_value seat.now.standing ≡ false }
+    requires idles { (n : ℕ) → carries_value (stepped_by seat.now.standing seat.now.number n None).seat ≡ false }
     ensures table { place.new.table_id ≡ place.old.table_id }
-    ensures step { (n : ℕ) × MadeStep T.follows T.fits number place.new.table_id.words place.new.id limits plain.now n place.old.me moving.now place.new.me moving.now }
+    ensures step { (n : ℕ) × MadeStep T.follows T.fits seat.now.number place.new.table_id.words place.new.id seat.now.limits seat.now.standing n place.old.me moving.now place.new.me moving.now }
 {
-    store_link::<T, Brand>(table, place, plain, moving, number, limits.seats);
+    store_link::<T, Brand>(table, place, seat, moving);
 }
 
 /// Clears the head of the push word, for a seat that carries the value.
@@ -325,18 +299,16 @@ pub fn clear_head_held<T: Kept>(
     table: &SharedTable<T>,
     place: &mut Place<T>,
     moving: &Option<MovingBox<T>>,
-    number: u64,
-    limits: Limits,
-    plain: &SeatState,
+    seat: &SeatData,
 ) -> u64
     requires table { place.old.table_id ≡ table.now.table_id }
-    requires fit { Fit number place.old.table_id.words place.old.id limits plain.now place.old.me moving.now }
-    requires kind { kind plain.now.point ≡ Some KindNow.ClearHead }
-    requires held { carries_value plain.now ≡ true }
+    requires fit { Fit seat.now.number place.old.table_id.words place.old.id seat.now.limits seat.now.standing place.old.me moving.now }
+    requires kind { kind seat.now.standing.point ≡ Some KindNow.ClearHead }
+    requires held { carries_value seat.now.standing ≡ true }
     ensures table { place.new.table_id ≡ place.old.table_id }
-    ensures step { MadeStep T.follows T.fits number place.new.table_id.words place.new.id limits plain.now result place.old.me moving.now place.new.me moving.now }
+    ensures step { MadeStep T.follows T.fits seat.now.number place.new.table_id.words place.new.id seat.now.limits seat.now.standing result place.old.me moving.now place.new.me moving.now }
 {
-    clear_head::<T, Brand>(table, place, plain, moving, number, limits.seats)
+    clear_head::<T, Brand>(table, place, seat, moving)
 }
 
 /// Stores the seat's own wake word, for a seat that carries the value and goes on carrying it.
@@ -345,20 +317,18 @@ pub fn store_wake_held<T: Kept>(
     table: &SharedTable<T>,
     place: &mut Place<T>,
     moving: &Option<MovingBox<T>>,
-    number: u64,
-    limits: Limits,
-    plain: &SeatState,
+    seat: &SeatData,
 )
     requires table { place.old.table_id ≡ table.now.table_id }
-    requires fit { Fit number place.old.table_id.words place.old.id limits plain.now place.old.me moving.now }
-    requires kind { kind plain.now.point ≡ Some KindNow.WakeStore }
-    requires held { carries_value plain.now ≡ true }
-    requires keeps { drops_oldest plain.now ≡ false }
-    requires stays { gives_at plain.now.point ≡ false }
+    requires fit { Fit seat.now.number place.old.table_id.words place.old.id seat.now.limits seat.now.standing place.old.me moving.now }
+    requires kind { kind seat.now.standing.point ≡ Some KindNow.WakeStore }
+    requires held { carries_value seat.now.standing ≡ true }
+    requires keeps { drops_oldest seat.now.standing ≡ false }
+    requires stays { gives_at seat.now.standing.point ≡ false }
     ensures table { place.new.table_id ≡ place.old.table_id }
-    ensures step { (n : ℕ) × MadeStep T.follows T.fits number place.new.table_id.words place.new.id limits plain.now n place.old.me moving.now place.new.me moving.now }
+    ensures step { (n : ℕ) × MadeStep T.follows T.fits seat.now.number place.new.table_id.words place.new.id seat.now.limits seat.now.standing n place.old.me moving.now place.new.me moving.now }
 {
-    let (_, wake_up) = store_wake::<T, Brand>(table, place, plain, moving, number, limits.seats);
+    let (_, wake_up) = store_wake::<T, Brand>(table, place, seat, moving);
     WakeUp::expect_none(wake_up);
 }
 
@@ -368,20 +338,18 @@ pub fn load_grant<T: Kept>(
     table: &SharedTable<T>,
     place: &mut Place<T>,
     moving: &mut Option<MovingBox<T>>,
-    number: u64,
-    limits: Limits,
-    plain: &SeatState,
+    seat: &SeatData,
 ) -> u64
     requires table { place.old.table_id ≡ table.now.table_id }
-    requires fit { Fit number place.old.table_id.words place.old.id limits plain.now place.old.me moving.old }
-    requires kind { kind plain.now.point ≡ Some KindNow.WakeLoad }
-    requires free { carries_value plain.now ≡ false }
-    requires gains { (n : ℕ) → 2 < n → carries_value (stepped_by plain.now number n None).seat ≡ true }
-    requires idles { (n : ℕ) → n ≤ 2 → carries_value (stepped_by plain.now number n None).seat ≡ false }
+    requires fit { Fit seat.now.number place.old.table_id.words place.old.id seat.now.limits seat.now.standing place.old.me moving.old }
+    requires kind { kind seat.now.standing.point ≡ Some KindNow.WakeLoad }
+    requires free { carries_value seat.now.standing ≡ false }
+    requires gains { (n : ℕ) → 2 < n → carries_value (stepped_by seat.now.standing seat.now.number n None).seat ≡ true }
+    requires idles { (n : ℕ) → n ≤ 2 → carries_value (stepped_by seat.now.standing seat.now.number n None).seat ≡ false }
     ensures table { place.new.table_id ≡ place.old.table_id }
-    ensures step { MadeStep T.follows T.fits number place.new.table_id.words place.new.id limits plain.now result place.old.me moving.old place.new.me moving.new }
+    ensures step { MadeStep T.follows T.fits seat.now.number place.new.table_id.words place.new.id seat.now.limits seat.now.standing result place.old.me moving.old place.new.me moving.new }
 {
-    let found = load_wake::<T, Brand>(table, place, plain, &*moving, number, limits.seats);
+    let found = load_wake::<T, Brand>(table, place, seat, &*moving);
     if found < FIRST_GRANT {
         return found;
     }
@@ -395,19 +363,17 @@ pub fn load_link_held<T: Kept>(
     table: &SharedTable<T>,
     place: &mut Place<T>,
     moving: &mut Option<MovingBox<T>>,
-    number: u64,
-    limits: Limits,
-    plain: &SeatState,
+    seat: &SeatData,
 ) -> u64
     requires table { place.old.table_id ≡ table.now.table_id }
-    requires fit { Fit number place.old.table_id.words place.old.id limits plain.now place.old.me moving.old }
-    requires kind { kind plain.now.point ≡ Some KindNow.LinkLoad }
-    requires held { carries_value plain.now ≡ true }
+    requires fit { Fit seat.now.number place.old.table_id.words place.old.id seat.now.limits seat.now.standing place.old.me moving.old }
+    requires kind { kind seat.now.standing.point ≡ Some KindNow.LinkLoad }
+    requires held { carries_value seat.now.standing ≡ true }
     ensures table { place.new.table_id ≡ place.old.table_id }
-    ensures step { MadeStep T.follows T.fits number place.new.table_id.words place.new.id limits plain.now result place.old.me moving.old place.new.me moving.new }
+    ensures step { MadeStep T.follows T.fits seat.now.number place.new.table_id.words place.new.id seat.now.limits seat.now.standing result place.old.me moving.old place.new.me moving.new }
 {
-    let found = load_link::<T, Brand>(table, place, plain, &*moving, number, limits.seats);
-    add_loaded(moving, plain, number, found);
+    let found = load_link::<T, Brand>(table, place, seat, &*moving);
+    add_loaded(moving, seat, found);
     found
 }
 
@@ -418,21 +384,19 @@ pub fn grant_oldest<T: Kept>(
     table: &SharedTable<T>,
     place: &mut Place<T>,
     moving: &mut Option<MovingBox<T>>,
-    number: u64,
-    limits: Limits,
-    plain: &SeatState,
+    seat: &SeatData,
 ) -> Option<WakeUp>
     requires table { place.old.table_id ≡ table.now.table_id }
-    requires fit { Fit number place.old.table_id.words place.old.id limits plain.now place.old.me moving.old }
-    requires kind { kind plain.now.point ≡ Some KindNow.WakeStore }
-    requires gives { gives_at plain.now.point ≡ true }
-    requires leaves { (n : ℕ) → carries_value (stepped_by plain.now number n None).seat ≡ false }
+    requires fit { Fit seat.now.number place.old.table_id.words place.old.id seat.now.limits seat.now.standing place.old.me moving.old }
+    requires kind { kind seat.now.standing.point ≡ Some KindNow.WakeStore }
+    requires gives { gives_at seat.now.standing.point ≡ true }
+    requires leaves { (n : ℕ) → carries_value (stepped_by seat.now.standing seat.now.number n None).seat ≡ false }
     ensures table { place.new.table_id ≡ place.old.table_id }
-    ensures step { (n : ℕ) × MadeStep T.follows T.fits number place.new.table_id.words place.new.id limits plain.now n place.old.me moving.old place.new.me moving.new }
-    ensures wakes { result ≡ granted_at plain.now.point }
+    ensures step { (n : ℕ) × MadeStep T.follows T.fits seat.now.number place.new.table_id.words place.new.id seat.now.limits seat.now.standing n place.old.me moving.old place.new.me moving.new }
+    ensures wakes { result ≡ granted_at seat.now.standing.point }
 {
-    drop_oldest(moving, plain);
+    drop_oldest(moving, &seat.standing);
     put_out(table, place, moving);
-    let (_, wake_up) = store_wake::<T, Brand>(table, place, plain, &None, number, limits.seats);
+    let (_, wake_up) = store_wake::<T, Brand>(table, place, seat, &None);
     wake_up
 }

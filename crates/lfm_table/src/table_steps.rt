@@ -1,8 +1,8 @@
 //! The atomic step of each kind, at the packed word: one operation of the table, which answers the number that it found, or
 //! that it stored. Nothing here moves the seat on.
 //!
-//! `plain` is the seat's plain data before the step and `hand` what the seat has in its own memory: contracts speak of both,
-//! and B tells them to the play of the step.
+//! `seat` are the seat's own data before the step and `hand` what the seat has in its own memory: contracts speak of both, and
+//! B tells them to the play of the step.
 ghost use Rattle.std.specs.Prelude.{◌≡◌, ◌≢◌, Some};
 ghost use Rattle.lfm_protocol.specs.declared.kinds.Kind.{Kind as KindNow};
 ghost use Rattle.lfm_protocol.specs.Points.{kind, kind as kind_of};
@@ -14,11 +14,11 @@ use crate::kept::Kept;
 use crate::layout::{COUNT, HANDOFF, OWNER, PUSH, link_at, wake_at};
 use crate::moving_box::MovingBox;
 use crate::rule::{Key, MutexRule, Plain, Stepped};
+use crate::seat_data::SeatData;
 use crate::seat_view::View;
 use crate::wake_up::WakeUp;
 use atomic_table::Shared;
 use lfm_model::SeatNo;
-use lfm_protocol::SeatState;
 use lfm_protocol::kinds::Kind;
 use lfm_words::{Wake, pack_handoff, pack_link};
 
@@ -35,20 +35,18 @@ const STAMP: u64 = 0xffff_ffff_ffff_0000;
 pub fn exchange_count<T: Kept, B: Plain<T>>(
     table: &SharedTable<T>,
     place: &mut Place<T>,
-    plain: &SeatState,
+    seat: &SeatData,
     hand: &Option<MovingBox<T>>,
-    number: u64,
-    seats: u64,
 ) -> u64
-    requires plain { (B.standing ≡ plain.now) × (B.hand ≡ value_in hand.now) }
+    requires plain { (B.standing ≡ seat.now.standing) × (B.hand ≡ value_in hand.now) }
     requires table { place.old.table_id ≡ table.now.table_id }
-    requires can { CanMake T.follows T.fits plain.now (value_in hand.now) number seats table.now.table_id.words place.old.me }
-    requires kind { kind plain.now.point ≡ Some KindNow.CountExchange }
+    requires can { CanMake T.follows T.fits seat.now.standing (value_in hand.now) seat.now.number seat.now.limits.seats table.now.table_id.words place.old.me }
+    requires kind { kind seat.now.standing.point ≡ Some KindNow.CountExchange }
     ensures table { (place.new.table_id ≡ place.old.table_id) × (place.new.id ≡ place.old.id) }
-    ensures step { Advanced T.follows T.fits plain.now (value_in hand.now) place.old.me result place.new.me }
+    ensures step { Advanced T.follows T.fits seat.now.standing (value_in hand.now) place.old.me result place.new.me }
 {
     let _hand = hand;
-    let _plain = plain;
+    let _seat = seat;
     table.compare_exchange::<Stepped<B>>(place, COUNT, 0, 1)
 }
 
@@ -56,20 +54,18 @@ pub fn exchange_count<T: Kept, B: Plain<T>>(
 pub fn add_count<T: Kept, B: Plain<T>>(
     table: &SharedTable<T>,
     place: &mut Place<T>,
-    plain: &SeatState,
+    seat: &SeatData,
     hand: &Option<MovingBox<T>>,
-    number: u64,
-    seats: u64,
 ) -> u64
-    requires plain { (B.standing ≡ plain.now) × (B.hand ≡ value_in hand.now) }
+    requires plain { (B.standing ≡ seat.now.standing) × (B.hand ≡ value_in hand.now) }
     requires table { place.old.table_id ≡ table.now.table_id }
-    requires can { CanMake T.follows T.fits plain.now (value_in hand.now) number seats table.now.table_id.words place.old.me }
-    requires kind { kind plain.now.point ≡ Some KindNow.CountAdd }
+    requires can { CanMake T.follows T.fits seat.now.standing (value_in hand.now) seat.now.number seat.now.limits.seats table.now.table_id.words place.old.me }
+    requires kind { kind seat.now.standing.point ≡ Some KindNow.CountAdd }
     ensures table { (place.new.table_id ≡ place.old.table_id) × (place.new.id ≡ place.old.id) }
-    ensures step { Advanced T.follows T.fits plain.now (value_in hand.now) place.old.me result place.new.me }
+    ensures step { Advanced T.follows T.fits seat.now.standing (value_in hand.now) place.old.me result place.new.me }
 {
     let _hand = hand;
-    let _plain = plain;
+    let _seat = seat;
     table.fetch_add::<Stepped<B>>(place, COUNT, 1)
 }
 
@@ -77,20 +73,18 @@ pub fn add_count<T: Kept, B: Plain<T>>(
 pub fn subtract_count<T: Kept, B: Plain<T>>(
     table: &SharedTable<T>,
     place: &mut Place<T>,
-    plain: &SeatState,
+    seat: &SeatData,
     hand: &Option<MovingBox<T>>,
-    number: u64,
-    seats: u64,
 ) -> u64
-    requires plain { (B.standing ≡ plain.now) × (B.hand ≡ value_in hand.now) }
+    requires plain { (B.standing ≡ seat.now.standing) × (B.hand ≡ value_in hand.now) }
     requires table { place.old.table_id ≡ table.now.table_id }
-    requires can { CanMake T.follows T.fits plain.now (value_in hand.now) number seats table.now.table_id.words place.old.me }
-    requires kind { kind plain.now.point ≡ Some KindNow.CountSubtract }
+    requires can { CanMake T.follows T.fits seat.now.standing (value_in hand.now) seat.now.number seat.now.limits.seats table.now.table_id.words place.old.me }
+    requires kind { kind seat.now.standing.point ≡ Some KindNow.CountSubtract }
     ensures table { (place.new.table_id ≡ place.old.table_id) × (place.new.id ≡ place.old.id) }
-    ensures step { Advanced T.follows T.fits plain.now (value_in hand.now) place.old.me result place.new.me }
+    ensures step { Advanced T.follows T.fits seat.now.standing (value_in hand.now) place.old.me result place.new.me }
 {
     let _hand = hand;
-    let _plain = plain;
+    let _seat = seat;
     table.fetch_sub::<Stepped<B>>(place, COUNT, 1)
 }
 
@@ -98,20 +92,18 @@ pub fn subtract_count<T: Kept, B: Plain<T>>(
 pub fn load_owner<T: Kept, B: Plain<T>>(
     table: &SharedTable<T>,
     place: &mut Place<T>,
-    plain: &SeatState,
+    seat: &SeatData,
     hand: &Option<MovingBox<T>>,
-    number: u64,
-    seats: u64,
 ) -> u64
-    requires plain { (B.standing ≡ plain.now) × (B.hand ≡ value_in hand.now) }
+    requires plain { (B.standing ≡ seat.now.standing) × (B.hand ≡ value_in hand.now) }
     requires table { place.old.table_id ≡ table.now.table_id }
-    requires can { CanMake T.follows T.fits plain.now (value_in hand.now) number seats table.now.table_id.words place.old.me }
-    requires kind { kind plain.now.point ≡ Some KindNow.OwnerLoad }
+    requires can { CanMake T.follows T.fits seat.now.standing (value_in hand.now) seat.now.number seat.now.limits.seats table.now.table_id.words place.old.me }
+    requires kind { kind seat.now.standing.point ≡ Some KindNow.OwnerLoad }
     ensures table { (place.new.table_id ≡ place.old.table_id) × (place.new.id ≡ place.old.id) }
-    ensures step { Advanced T.follows T.fits plain.now (value_in hand.now) place.old.me result place.new.me }
+    ensures step { Advanced T.follows T.fits seat.now.standing (value_in hand.now) place.old.me result place.new.me }
 {
     let _hand = hand;
-    let _plain = plain;
+    let _seat = seat;
     table.load::<Stepped<B>>(place, OWNER)
 }
 
@@ -119,20 +111,18 @@ pub fn load_owner<T: Kept, B: Plain<T>>(
 pub fn store_owner<T: Kept, B: Plain<T>>(
     table: &SharedTable<T>,
     place: &mut Place<T>,
-    plain: &SeatState,
+    seat: &SeatData,
     hand: &Option<MovingBox<T>>,
-    number: u64,
-    seats: u64,
 ) -> u64
-    requires plain { (B.standing ≡ plain.now) × (B.hand ≡ value_in hand.now) }
+    requires plain { (B.standing ≡ seat.now.standing) × (B.hand ≡ value_in hand.now) }
     requires table { place.old.table_id ≡ table.now.table_id }
-    requires can { CanMake T.follows T.fits plain.now (value_in hand.now) number seats table.now.table_id.words place.old.me }
-    requires kind { kind plain.now.point ≡ Some KindNow.OwnerStore }
+    requires can { CanMake T.follows T.fits seat.now.standing (value_in hand.now) seat.now.number seat.now.limits.seats table.now.table_id.words place.old.me }
+    requires kind { kind seat.now.standing.point ≡ Some KindNow.OwnerStore }
     ensures table { (place.new.table_id ≡ place.old.table_id) × (place.new.id ≡ place.old.id) }
-    ensures step { Advanced T.follows T.fits plain.now (value_in hand.now) place.old.me result place.new.me }
+    ensures step { Advanced T.follows T.fits seat.now.standing (value_in hand.now) place.old.me result place.new.me }
 {
     let _hand = hand;
-    let new = plain.stored_owner(number);
+    let new = seat.standing.stored_owner(seat.number);
     table.store::<Stepped<B>>(place, OWNER, new);
     new
 }
@@ -141,20 +131,18 @@ pub fn store_owner<T: Kept, B: Plain<T>>(
 pub fn load_push<T: Kept, B: Plain<T>>(
     table: &SharedTable<T>,
     place: &mut Place<T>,
-    plain: &SeatState,
+    seat: &SeatData,
     hand: &Option<MovingBox<T>>,
-    number: u64,
-    seats: u64,
 ) -> u64
-    requires plain { (B.standing ≡ plain.now) × (B.hand ≡ value_in hand.now) }
+    requires plain { (B.standing ≡ seat.now.standing) × (B.hand ≡ value_in hand.now) }
     requires table { place.old.table_id ≡ table.now.table_id }
-    requires can { CanMake T.follows T.fits plain.now (value_in hand.now) number seats table.now.table_id.words place.old.me }
-    requires kind { kind plain.now.point ≡ Some KindNow.PushLoad }
+    requires can { CanMake T.follows T.fits seat.now.standing (value_in hand.now) seat.now.number seat.now.limits.seats table.now.table_id.words place.old.me }
+    requires kind { kind seat.now.standing.point ≡ Some KindNow.PushLoad }
     ensures table { (place.new.table_id ≡ place.old.table_id) × (place.new.id ≡ place.old.id) }
-    ensures step { Advanced T.follows T.fits plain.now (value_in hand.now) place.old.me result place.new.me }
+    ensures step { Advanced T.follows T.fits seat.now.standing (value_in hand.now) place.old.me result place.new.me }
 {
     let _hand = hand;
-    let _plain = plain;
+    let _seat = seat;
     table.load::<Stepped<B>>(place, PUSH)
 }
 
@@ -162,21 +150,19 @@ pub fn load_push<T: Kept, B: Plain<T>>(
 pub fn exchange_push<T: Kept, B: Plain<T>>(
     table: &SharedTable<T>,
     place: &mut Place<T>,
-    plain: &SeatState,
+    seat: &SeatData,
     hand: &Option<MovingBox<T>>,
-    number: u64,
-    seats: u64,
 ) -> u64
-    requires plain { (B.standing ≡ plain.now) × (B.hand ≡ value_in hand.now) }
+    requires plain { (B.standing ≡ seat.now.standing) × (B.hand ≡ value_in hand.now) }
     requires table { place.old.table_id ≡ table.now.table_id }
-    requires can { CanMake T.follows T.fits plain.now (value_in hand.now) number seats table.now.table_id.words place.old.me }
-    requires kind { kind plain.now.point ≡ Some KindNow.PushExchange }
+    requires can { CanMake T.follows T.fits seat.now.standing (value_in hand.now) seat.now.number seat.now.limits.seats table.now.table_id.words place.old.me }
+    requires kind { kind seat.now.standing.point ≡ Some KindNow.PushExchange }
     ensures table { (place.new.table_id ≡ place.old.table_id) × (place.new.id ≡ place.old.id) }
-    ensures step { Advanced T.follows T.fits plain.now (value_in hand.now) place.old.me result place.new.me }
+    ensures step { Advanced T.follows T.fits seat.now.standing (value_in hand.now) place.old.me result place.new.me }
 {
     let _hand = hand;
-    let old = plain.expected_push();
-    let new = plain.exchanged_push(number);
+    let old = seat.standing.expected_push();
+    let new = seat.standing.exchanged_push(seat.number);
     let expected = pack_link(old.stamp, old.next);
     let pushed = pack_link(new.stamp, new.next);
     table.compare_exchange::<Stepped<B>>(place, PUSH, expected, pushed)
@@ -186,20 +172,18 @@ pub fn exchange_push<T: Kept, B: Plain<T>>(
 pub fn clear_head<T: Kept, B: Plain<T>>(
     table: &SharedTable<T>,
     place: &mut Place<T>,
-    plain: &SeatState,
+    seat: &SeatData,
     hand: &Option<MovingBox<T>>,
-    number: u64,
-    seats: u64,
 ) -> u64
-    requires plain { (B.standing ≡ plain.now) × (B.hand ≡ value_in hand.now) }
+    requires plain { (B.standing ≡ seat.now.standing) × (B.hand ≡ value_in hand.now) }
     requires table { place.old.table_id ≡ table.now.table_id }
-    requires can { CanMake T.follows T.fits plain.now (value_in hand.now) number seats table.now.table_id.words place.old.me }
-    requires kind { kind plain.now.point ≡ Some KindNow.ClearHead }
+    requires can { CanMake T.follows T.fits seat.now.standing (value_in hand.now) seat.now.number seat.now.limits.seats table.now.table_id.words place.old.me }
+    requires kind { kind seat.now.standing.point ≡ Some KindNow.ClearHead }
     ensures table { (place.new.table_id ≡ place.old.table_id) × (place.new.id ≡ place.old.id) }
-    ensures step { Advanced T.follows T.fits plain.now (value_in hand.now) place.old.me result place.new.me }
+    ensures step { Advanced T.follows T.fits seat.now.standing (value_in hand.now) place.old.me result place.new.me }
 {
     let _hand = hand;
-    let _plain = plain;
+    let _seat = seat;
     table.fetch_and::<Stepped<B>>(place, PUSH, STAMP)
 }
 
@@ -207,20 +191,18 @@ pub fn clear_head<T: Kept, B: Plain<T>>(
 pub fn load_link<T: Kept, B: Plain<T>>(
     table: &SharedTable<T>,
     place: &mut Place<T>,
-    plain: &SeatState,
+    seat: &SeatData,
     hand: &Option<MovingBox<T>>,
-    number: u64,
-    seats: u64,
 ) -> u64
-    requires plain { (B.standing ≡ plain.now) × (B.hand ≡ value_in hand.now) }
+    requires plain { (B.standing ≡ seat.now.standing) × (B.hand ≡ value_in hand.now) }
     requires table { place.old.table_id ≡ table.now.table_id }
-    requires can { CanMake T.follows T.fits plain.now (value_in hand.now) number seats table.now.table_id.words place.old.me }
-    requires kind { kind plain.now.point ≡ Some KindNow.LinkLoad }
+    requires can { CanMake T.follows T.fits seat.now.standing (value_in hand.now) seat.now.number seat.now.limits.seats table.now.table_id.words place.old.me }
+    requires kind { kind seat.now.standing.point ≡ Some KindNow.LinkLoad }
     ensures table { (place.new.table_id ≡ place.old.table_id) × (place.new.id ≡ place.old.id) }
-    ensures step { Advanced T.follows T.fits plain.now (value_in hand.now) place.old.me result place.new.me }
+    ensures step { Advanced T.follows T.fits seat.now.standing (value_in hand.now) place.old.me result place.new.me }
 {
     let _hand = hand;
-    let t = plain.point.target(number);
+    let t = seat.standing.point.target(seat.number);
     table.load::<Stepped<B>>(place, link_at(t))
 }
 
@@ -228,21 +210,19 @@ pub fn load_link<T: Kept, B: Plain<T>>(
 pub fn store_link<T: Kept, B: Plain<T>>(
     table: &SharedTable<T>,
     place: &mut Place<T>,
-    plain: &SeatState,
+    seat: &SeatData,
     hand: &Option<MovingBox<T>>,
-    number: u64,
-    seats: u64,
 ) -> u64
-    requires plain { (B.standing ≡ plain.now) × (B.hand ≡ value_in hand.now) }
+    requires plain { (B.standing ≡ seat.now.standing) × (B.hand ≡ value_in hand.now) }
     requires table { place.old.table_id ≡ table.now.table_id }
-    requires can { CanMake T.follows T.fits plain.now (value_in hand.now) number seats table.now.table_id.words place.old.me }
-    requires kind { kind plain.now.point ≡ Some KindNow.LinkStore }
+    requires can { CanMake T.follows T.fits seat.now.standing (value_in hand.now) seat.now.number seat.now.limits.seats table.now.table_id.words place.old.me }
+    requires kind { kind seat.now.standing.point ≡ Some KindNow.LinkStore }
     ensures table { (place.new.table_id ≡ place.old.table_id) × (place.new.id ≡ place.old.id) }
-    ensures step { Advanced T.follows T.fits plain.now (value_in hand.now) place.old.me result place.new.me }
+    ensures step { Advanced T.follows T.fits seat.now.standing (value_in hand.now) place.old.me result place.new.me }
 {
     let _hand = hand;
-    let t = plain.point.target(number);
-    let link = plain.stored_link();
+    let t = seat.standing.point.target(seat.number);
+    let link = seat.standing.stored_link();
     let new = pack_link(link.stamp, link.next);
     table.store::<Stepped<B>>(place, link_at(t), new);
     new
@@ -252,20 +232,18 @@ pub fn store_link<T: Kept, B: Plain<T>>(
 pub fn load_handoff<T: Kept, B: Plain<T>>(
     table: &SharedTable<T>,
     place: &mut Place<T>,
-    plain: &SeatState,
+    seat: &SeatData,
     hand: &Option<MovingBox<T>>,
-    number: u64,
-    seats: u64,
 ) -> u64
-    requires plain { (B.standing ≡ plain.now) × (B.hand ≡ value_in hand.now) }
+    requires plain { (B.standing ≡ seat.now.standing) × (B.hand ≡ value_in hand.now) }
     requires table { place.old.table_id ≡ table.now.table_id }
-    requires can { CanMake T.follows T.fits plain.now (value_in hand.now) number seats table.now.table_id.words place.old.me }
-    requires kind { kind plain.now.point ≡ Some KindNow.HandoffLoad }
+    requires can { CanMake T.follows T.fits seat.now.standing (value_in hand.now) seat.now.number seat.now.limits.seats table.now.table_id.words place.old.me }
+    requires kind { kind seat.now.standing.point ≡ Some KindNow.HandoffLoad }
     ensures table { (place.new.table_id ≡ place.old.table_id) × (place.new.id ≡ place.old.id) }
-    ensures step { Advanced T.follows T.fits plain.now (value_in hand.now) place.old.me result place.new.me }
+    ensures step { Advanced T.follows T.fits seat.now.standing (value_in hand.now) place.old.me result place.new.me }
 {
     let _hand = hand;
-    let _plain = plain;
+    let _seat = seat;
     table.load::<Stepped<B>>(place, HANDOFF)
 }
 
@@ -273,20 +251,18 @@ pub fn load_handoff<T: Kept, B: Plain<T>>(
 pub fn store_handoff<T: Kept, B: Plain<T>>(
     table: &SharedTable<T>,
     place: &mut Place<T>,
-    plain: &SeatState,
+    seat: &SeatData,
     hand: &Option<MovingBox<T>>,
-    number: u64,
-    seats: u64,
 ) -> u64
-    requires plain { (B.standing ≡ plain.now) × (B.hand ≡ value_in hand.now) }
+    requires plain { (B.standing ≡ seat.now.standing) × (B.hand ≡ value_in hand.now) }
     requires table { place.old.table_id ≡ table.now.table_id }
-    requires can { CanMake T.follows T.fits plain.now (value_in hand.now) number seats table.now.table_id.words place.old.me }
-    requires kind { kind plain.now.point ≡ Some KindNow.HandoffStore }
+    requires can { CanMake T.follows T.fits seat.now.standing (value_in hand.now) seat.now.number seat.now.limits.seats table.now.table_id.words place.old.me }
+    requires kind { kind seat.now.standing.point ≡ Some KindNow.HandoffStore }
     ensures table { (place.new.table_id ≡ place.old.table_id) × (place.new.id ≡ place.old.id) }
-    ensures step { Advanced T.follows T.fits plain.now (value_in hand.now) place.old.me result place.new.me }
+    ensures step { Advanced T.follows T.fits seat.now.standing (value_in hand.now) place.old.me result place.new.me }
 {
     let _hand = hand;
-    let handoff = plain.stored_handoff(number);
+    let handoff = seat.standing.stored_handoff(seat.number);
     let new = pack_handoff(handoff.seat, handoff.post);
     table.store::<Stepped<B>>(place, HANDOFF, new);
     new
@@ -296,20 +272,18 @@ pub fn store_handoff<T: Kept, B: Plain<T>>(
 pub fn exchange_handoff<T: Kept, B: Plain<T>>(
     table: &SharedTable<T>,
     place: &mut Place<T>,
-    plain: &SeatState,
+    seat: &SeatData,
     hand: &Option<MovingBox<T>>,
-    number: u64,
-    seats: u64,
 ) -> u64
-    requires plain { (B.standing ≡ plain.now) × (B.hand ≡ value_in hand.now) }
+    requires plain { (B.standing ≡ seat.now.standing) × (B.hand ≡ value_in hand.now) }
     requires table { place.old.table_id ≡ table.now.table_id }
-    requires can { CanMake T.follows T.fits plain.now (value_in hand.now) number seats table.now.table_id.words place.old.me }
-    requires kind { kind plain.now.point ≡ Some KindNow.HandoffExchange }
+    requires can { CanMake T.follows T.fits seat.now.standing (value_in hand.now) seat.now.number seat.now.limits.seats table.now.table_id.words place.old.me }
+    requires kind { kind seat.now.standing.point ≡ Some KindNow.HandoffExchange }
     ensures table { (place.new.table_id ≡ place.old.table_id) × (place.new.id ≡ place.old.id) }
-    ensures step { Advanced T.follows T.fits plain.now (value_in hand.now) place.old.me result place.new.me }
+    ensures step { Advanced T.follows T.fits seat.now.standing (value_in hand.now) place.old.me result place.new.me }
 {
     let _hand = hand;
-    let handoff = plain.expected_handoff(number);
+    let handoff = seat.standing.expected_handoff(seat.number);
     let expected = pack_handoff(handoff.seat, handoff.post);
     table.compare_exchange::<Stepped<B>>(place, HANDOFF, expected, 0)
 }
@@ -318,21 +292,19 @@ pub fn exchange_handoff<T: Kept, B: Plain<T>>(
 pub fn load_wake<T: Kept, B: Plain<T>>(
     table: &SharedTable<T>,
     place: &mut Place<T>,
-    plain: &SeatState,
+    seat: &SeatData,
     hand: &Option<MovingBox<T>>,
-    number: u64,
-    seats: u64,
 ) -> u64
-    requires plain { (B.standing ≡ plain.now) × (B.hand ≡ value_in hand.now) }
+    requires plain { (B.standing ≡ seat.now.standing) × (B.hand ≡ value_in hand.now) }
     requires table { place.old.table_id ≡ table.now.table_id }
-    requires can { CanMake T.follows T.fits plain.now (value_in hand.now) number seats table.now.table_id.words place.old.me }
-    requires kind { kind plain.now.point ≡ Some KindNow.WakeLoad }
+    requires can { CanMake T.follows T.fits seat.now.standing (value_in hand.now) seat.now.number seat.now.limits.seats table.now.table_id.words place.old.me }
+    requires kind { kind seat.now.standing.point ≡ Some KindNow.WakeLoad }
     ensures table { (place.new.table_id ≡ place.old.table_id) × (place.new.id ≡ place.old.id) }
-    ensures step { Advanced T.follows T.fits plain.now (value_in hand.now) place.old.me result place.new.me }
+    ensures step { Advanced T.follows T.fits seat.now.standing (value_in hand.now) place.old.me result place.new.me }
 {
     let _hand = hand;
-    let t = plain.point.target(number);
-    table.load::<Stepped<B>>(place, wake_at(seats, t))
+    let t = seat.standing.point.target(seat.number);
+    table.load::<Stepped<B>>(place, wake_at(seat.limits.seats, t))
 }
 
 /// Stores the wake word that the point names. Where that is a grant, the wake-up of its seat is handed out beside what was
@@ -340,24 +312,22 @@ pub fn load_wake<T: Kept, B: Plain<T>>(
 pub fn store_wake<T: Kept, B: Plain<T>>(
     table: &SharedTable<T>,
     place: &mut Place<T>,
-    plain: &SeatState,
+    seat: &SeatData,
     hand: &Option<MovingBox<T>>,
-    number: u64,
-    seats: u64,
 ) -> (u64, Option<WakeUp>)
-    requires plain { (B.standing ≡ plain.now) × (B.hand ≡ value_in hand.now) }
+    requires plain { (B.standing ≡ seat.now.standing) × (B.hand ≡ value_in hand.now) }
     requires table { place.old.table_id ≡ table.now.table_id }
-    requires can { CanMake T.follows T.fits plain.now (value_in hand.now) number seats table.now.table_id.words place.old.me }
-    requires kind { kind plain.now.point ≡ Some KindNow.WakeStore }
+    requires can { CanMake T.follows T.fits seat.now.standing (value_in hand.now) seat.now.number seat.now.limits.seats table.now.table_id.words place.old.me }
+    requires kind { kind seat.now.standing.point ≡ Some KindNow.WakeStore }
     ensures table { (place.new.table_id ≡ place.old.table_id) × (place.new.id ≡ place.old.id) }
-    ensures step { Advanced T.follows T.fits plain.now (value_in hand.now) place.old.me result.0 place.new.me }
-    ensures wakes { result.1 ≡ granted_at plain.now.point }
+    ensures step { Advanced T.follows T.fits seat.now.standing (value_in hand.now) place.old.me result.0 place.new.me }
+    ensures wakes { result.1 ≡ granted_at seat.now.standing.point }
 {
     let _hand = hand;
-    let t = plain.point.target(number);
-    let new = plain.stored_wake();
+    let t = seat.standing.point.target(seat.number);
+    let new = seat.standing.stored_wake();
     let word = new.to_word();
-    table.store::<Stepped<B>>(place, wake_at(seats, t), word);
+    table.store::<Stepped<B>>(place, wake_at(seat.limits.seats, t), word);
     (word, WakeUp::owed(new, SeatNo::known(t)))
 }
 
@@ -365,23 +335,21 @@ pub fn store_wake<T: Kept, B: Plain<T>>(
 pub fn exchange_wake<T: Kept, B: Plain<T>>(
     table: &SharedTable<T>,
     place: &mut Place<T>,
-    plain: &SeatState,
+    seat: &SeatData,
     hand: &Option<MovingBox<T>>,
-    number: u64,
-    seats: u64,
 ) -> u64
-    requires plain { (B.standing ≡ plain.now) × (B.hand ≡ value_in hand.now) }
+    requires plain { (B.standing ≡ seat.now.standing) × (B.hand ≡ value_in hand.now) }
     requires table { place.old.table_id ≡ table.now.table_id }
-    requires can { CanMake T.follows T.fits plain.now (value_in hand.now) number seats table.now.table_id.words place.old.me }
-    requires kind { kind plain.now.point ≡ Some KindNow.WakeExchange }
+    requires can { CanMake T.follows T.fits seat.now.standing (value_in hand.now) seat.now.number seat.now.limits.seats table.now.table_id.words place.old.me }
+    requires kind { kind seat.now.standing.point ≡ Some KindNow.WakeExchange }
     ensures table { (place.new.table_id ≡ place.old.table_id) × (place.new.id ≡ place.old.id) }
-    ensures step { Advanced T.follows T.fits plain.now (value_in hand.now) place.old.me result place.new.me }
+    ensures step { Advanced T.follows T.fits seat.now.standing (value_in hand.now) place.old.me result place.new.me }
 {
     let _hand = hand;
-    let t = plain.point.target(number);
+    let t = seat.standing.point.target(seat.number);
     let waiting = Wake::Waiting.to_word();
     let claimed = Wake::Claimed.to_word();
-    table.compare_exchange::<Stepped<B>>(place, wake_at(seats, t), waiting, claimed)
+    table.compare_exchange::<Stepped<B>>(place, wake_at(seat.limits.seats, t), waiting, claimed)
 }
 
 // The atomic step at the seat's point, which is of this kind and stores no wake word: the number that it found, or stored.
@@ -390,38 +358,34 @@ fn make_other<T: Kept, B: Plain<T>>(
     kind: Kind,
     table: &SharedTable<T>,
     place: &mut Place<T>,
-    plain: &SeatState,
+    seat: &SeatData,
     hand: &Option<MovingBox<T>>,
-    number: u64,
-    seats: u64,
 ) -> u64
-    requires plain { (B.standing ≡ plain.now) × (B.hand ≡ value_in hand.now) }
+    requires plain { (B.standing ≡ seat.now.standing) × (B.hand ≡ value_in hand.now) }
     requires table { place.old.table_id ≡ table.now.table_id }
-    requires can { CanMake T.follows T.fits plain.now (value_in hand.now) number seats table.now.table_id.words place.old.me }
-    requires is_next { kind_of plain.now.point ≡ Some kind }
+    requires can { CanMake T.follows T.fits seat.now.standing (value_in hand.now) seat.now.number seat.now.limits.seats table.now.table_id.words place.old.me }
+    requires is_next { kind_of seat.now.standing.point ≡ Some kind }
     requires other { kind ≢ KindNow.WakeStore }
     ensures table { (place.new.table_id ≡ place.old.table_id) × (place.new.id ≡ place.old.id) }
-    ensures step { Advanced T.follows T.fits plain.now (value_in hand.now) place.old.me result place.new.me }
+    ensures step { Advanced T.follows T.fits seat.now.standing (value_in hand.now) place.old.me result place.new.me }
 {
     match kind {
-        Kind::CountExchange => exchange_count::<T, B>(table, place, plain, hand, number, seats),
-        Kind::CountAdd => add_count::<T, B>(table, place, plain, hand, number, seats),
-        Kind::CountSubtract => subtract_count::<T, B>(table, place, plain, hand, number, seats),
-        Kind::OwnerLoad => load_owner::<T, B>(table, place, plain, hand, number, seats),
-        Kind::OwnerStore => store_owner::<T, B>(table, place, plain, hand, number, seats),
-        Kind::PushLoad => load_push::<T, B>(table, place, plain, hand, number, seats),
-        Kind::PushExchange => exchange_push::<T, B>(table, place, plain, hand, number, seats),
-        Kind::ClearHead => clear_head::<T, B>(table, place, plain, hand, number, seats),
-        Kind::LinkLoad => load_link::<T, B>(table, place, plain, hand, number, seats),
-        Kind::LinkStore => store_link::<T, B>(table, place, plain, hand, number, seats),
-        Kind::HandoffLoad => load_handoff::<T, B>(table, place, plain, hand, number, seats),
-        Kind::HandoffStore => store_handoff::<T, B>(table, place, plain, hand, number, seats),
-        Kind::HandoffExchange => {
-            exchange_handoff::<T, B>(table, place, plain, hand, number, seats)
-        }
-        Kind::WakeLoad => load_wake::<T, B>(table, place, plain, hand, number, seats),
+        Kind::CountExchange => exchange_count::<T, B>(table, place, seat, hand),
+        Kind::CountAdd => add_count::<T, B>(table, place, seat, hand),
+        Kind::CountSubtract => subtract_count::<T, B>(table, place, seat, hand),
+        Kind::OwnerLoad => load_owner::<T, B>(table, place, seat, hand),
+        Kind::OwnerStore => store_owner::<T, B>(table, place, seat, hand),
+        Kind::PushLoad => load_push::<T, B>(table, place, seat, hand),
+        Kind::PushExchange => exchange_push::<T, B>(table, place, seat, hand),
+        Kind::ClearHead => clear_head::<T, B>(table, place, seat, hand),
+        Kind::LinkLoad => load_link::<T, B>(table, place, seat, hand),
+        Kind::LinkStore => store_link::<T, B>(table, place, seat, hand),
+        Kind::HandoffLoad => load_handoff::<T, B>(table, place, seat, hand),
+        Kind::HandoffStore => store_handoff::<T, B>(table, place, seat, hand),
+        Kind::HandoffExchange => { exchange_handoff::<T, B>(table, place, seat, hand) }
+        Kind::WakeLoad => load_wake::<T, B>(table, place, seat, hand),
         Kind::WakeStore => unreachable!(),
-        Kind::WakeExchange => exchange_wake::<T, B>(table, place, plain, hand, number, seats),
+        Kind::WakeExchange => exchange_wake::<T, B>(table, place, seat, hand),
     }
 }
 
@@ -431,23 +395,21 @@ pub fn make_step<T: Kept, B: Plain<T>>(
     kind: Kind,
     table: &SharedTable<T>,
     place: &mut Place<T>,
-    plain: &SeatState,
+    seat: &SeatData,
     hand: &Option<MovingBox<T>>,
-    number: u64,
-    seats: u64,
 ) -> (u64, Option<WakeUp>)
-    requires plain { (B.standing ≡ plain.now) × (B.hand ≡ value_in hand.now) }
+    requires plain { (B.standing ≡ seat.now.standing) × (B.hand ≡ value_in hand.now) }
     requires table { place.old.table_id ≡ table.now.table_id }
-    requires can { CanMake T.follows T.fits plain.now (value_in hand.now) number seats table.now.table_id.words place.old.me }
-    requires is_next { kind_of plain.now.point ≡ Some kind }
+    requires can { CanMake T.follows T.fits seat.now.standing (value_in hand.now) seat.now.number seat.now.limits.seats table.now.table_id.words place.old.me }
+    requires is_next { kind_of seat.now.standing.point ≡ Some kind }
     ensures table { (place.new.table_id ≡ place.old.table_id) × (place.new.id ≡ place.old.id) }
-    ensures step { Advanced T.follows T.fits plain.now (value_in hand.now) place.old.me result.0 place.new.me }
-    ensures wakes { result.1 ≡ granted_at plain.now.point }
+    ensures step { Advanced T.follows T.fits seat.now.standing (value_in hand.now) place.old.me result.0 place.new.me }
+    ensures wakes { result.1 ≡ granted_at seat.now.standing.point }
 {
     match kind {
-        Kind::WakeStore => store_wake::<T, B>(table, place, plain, hand, number, seats),
+        Kind::WakeStore => store_wake::<T, B>(table, place, seat, hand),
         _ => {
-            let found = make_other::<T, B>(kind, table, place, plain, hand, number, seats);
+            let found = make_other::<T, B>(kind, table, place, seat, hand);
             (found, None)
         }
     }

@@ -14,7 +14,7 @@ use std::marker::Model;
 /// A path that does none of these does not compile. No clause says that `parking::wake` wakes the seat.
 ///
 /// ```
-/// let (found, wake_up) = store_wake::<T, B>(table, place, plain, hand, number, seats);
+/// let (found, wake_up) = store_wake::<T, B>(table, place, seat, hand);
 /// match wake_up {
 ///     Some(wake_up) => wake(table, seats, wake_up),
 ///     None => {}

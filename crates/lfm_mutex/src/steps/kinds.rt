@@ -21,7 +21,7 @@ use lfm_protocol::Turn;
 use lfm_protocol::kinds::Kind;
 use lfm_table::seat_memory::{add_loaded, advance, drop_oldest, gives, oldest_of, prepare, settle};
 use lfm_table::table_steps::make_step;
-use lfm_table::{Kept, WakeUp};
+use lfm_table::{Kept, SeatData, WakeUp};
 use std::marker::Brand;
 
 /// Makes the step at the seat's point, which is of this kind, with all that the proofs of the calls need of it, and hands out
@@ -41,27 +41,17 @@ pub(crate) fn make_of<T: Kept>(
     ensures wakes { result.1 ≡ granted_at seat.old.standing.point }
 {
     let table = &mutex.table.shared;
+    let data = SeatData {
+        number: seat.number,
+        limits: seat.limits,
+        standing: seat.standing,
+    };
     let may_give = gives(seat.standing.point);
     drop_oldest(&mut seat.moving, &seat.standing);
     prepare(table, &mut seat.place, &mut seat.moving, may_give);
-    let (found, wake_up) = make_step::<T, Brand>(
-        kind,
-        table,
-        &mut seat.place,
-        &seat.standing,
-        &seat.moving,
-        seat.number,
-        seat.limits.seats,
-    );
-    add_loaded(&mut seat.moving, &seat.standing, seat.number, found);
-    settle(
-        table,
-        &mut seat.place,
-        &mut seat.moving,
-        &seat.standing,
-        seat.number,
-        found,
-    );
+    let (found, wake_up) = make_step::<T, Brand>(kind, table, &mut seat.place, &data, &seat.moving);
+    add_loaded(&mut seat.moving, &data, found);
+    settle(table, &mut seat.place, &mut seat.moving, &data, found);
     let oldest = oldest_of(&seat.moving);
     let turn = advance(&mut seat.standing, seat.number, found, oldest);
     (turn, wake_up)

@@ -1,6 +1,6 @@
 -- Which steps store a grant.
 use Rattle.std.proofs.Common.{◌≡◌, ◌≢◌, ℕ, sym, refl, Some, None}
-use Rattle.std.specs.Prelude.{true, false}
+use Rattle.std.specs.Prelude.{false}
 use Rattle.std.proofs.lemmas.Bool.{false≢true}
 use Rattle.lfm_protocol.specs.declared.kinds.Kind.{Kind}
 use Rattle.lfm_protocol.specs.declared.points.Point.{Point}

@@ -1,26 +1,22 @@
 -- The two steps of a call that serves a queued seat which change the pop list: the load of a link, and the store of a grant.
-use Rattle.std.proofs.Common.{◌≡◌, ◌≢◌, ℕ, List, ◌∷◌, sym, refl, ap, ◌∙◌, subst, Option, Some, None}
-use Rattle.std.specs.Prelude.{Bool, true, false}
-use Rattle.std.proofs.lemmas.Bool.{false≢true}
+use Rattle.std.proofs.Common.{◌≡◌, ◌≢◌, ℕ, ◌∷◌, sym, refl, ap, ◌∙◌, subst, Option, Some, None}
+use Rattle.std.specs.Prelude.{true, false}
 use Rattle.atomic_table.specs.Table.{Me, rest}
-use Rattle.lfm_words.specs.declared.pop_lists.Record.{Record}
 use Rattle.lfm_protocol.specs.declared.kinds.Kind.{Kind}
 use Rattle.lfm_protocol.specs.declared.limits.Limits.{Limits}
-use Rattle.lfm_protocol.specs.declared.points.Point.{Point}
-use Rattle.lfm_protocol.specs.declared.points.Point.TheVariants.{ReleaseOwnerStore, GrantWakeStore, EnterOwnerStore, SendWakeStore, ReleaseCountSubtract, ReleaseHandoffStore}
+use Rattle.lfm_protocol.specs.declared.points.Point.TheVariants.{ReleaseOwnerStore}
 use Rattle.lfm_protocol.specs.declared.points.Releaser.{Releaser}
 use Rattle.lfm_protocol.specs.declared.seats.SeatState.{SeatState}
-use Rattle.lfm_protocol.specs.After.{drops_oldest, drops_oldest_at}
-use Rattle.lfm_protocol.specs.Points.{kind, target}
+use Rattle.lfm_protocol.specs.Points.{kind}
 use Rattle.lfm_laws.specs.table.Carried.{carries_value}
-use Rattle.lfm_laws.specs.table.Words.{stepped_by, popped_if}
+use Rattle.lfm_laws.specs.table.Words.{stepped_by}
 use Rattle.lfm_table.specs.declared.seat_view.View.{View}
 use Rattle.lfm_table.specs.declared.rule.Moving.{Moving}
 use Rattle.lfm_table.specs.Rule.{value_in, is_carried, Advanced}
 use Rattle.lfm_table.specs.Seats.{Rooted}
-use Rattle.lfm_table.specs.Steps.{gives_at, MayBeLeft, CanMake, dropped, kept_out, put_in, add_by, with_record, Took, oldest_in}
+use Rattle.lfm_table.specs.Steps.{gives_at, CanMake, dropped, kept_out, put_in, with_record, oldest_in}
 use Rattle.lfm_table.specs.Straight.{Fit, MadeStep}
-use Rattle.lfm_table.proofs.tables.SeatKept.{made, can_make, slot_there, own_slot}
+use Rattle.lfm_table.proofs.tables.SeatKept.{made, can_make, own_slot}
 use Rattle.lfm_table.proofs.tables.StepFacts.{keeps_value}
 use Rattle.lfm_table.proofs.tables.StraightSteps.{drops_same, drops_by, gives_by, leaves_by, took_none}
 

@@ -1,4 +1,4 @@
-use Rattle.std.proofs.Common.{◌≡◌, ℕ, ◌∷◌, ap, subst, sym, ◌∙◌, Option, None}
+use Rattle.std.proofs.Common.{ℕ, ◌∷◌, ap, subst, sym, ◌∙◌, Option, None}
 use Rattle.atomic_table.specs.Table.{rest}
 use Rattle.lfm_protocol.specs.declared.kinds.Kind.{Kind}
 use Rattle.lfm_table.specs.declared.rule.Moving.{Moving}
@@ -9,19 +9,19 @@ use Rattle.lfm_table.proofs.tables.StraightSteps.{leaves_by}
 use Rattle.lfm_table.proofs.straight_steps.grant_oldest.Goals as goal
 
 pub put_out-requires-clause-slot : goal.put_out-requires-clause-slot
-put_out-requires-clause-slot g c κs within = granting_place g.T.Kept.follows g.T.Kept.fits c.args.number c.args.place.now.table_id.words c.args.place.now.id c.args.limits c.args.plain.now c.args.place.now.me c.args.moving.now c.requires.fit c.requires.gives
+put_out-requires-clause-slot g c κs within = granting_place g.T.Kept.follows g.T.Kept.fits c.args.seat.now.number c.args.place.now.table_id.words c.args.place.now.id c.args.seat.now.limits c.args.seat.now.standing c.args.place.now.me c.args.moving.now c.requires.fit c.requires.gives
 
 pub store_wake-wake_up-requires-clause-can : goal.store_wake-wake_up-requires-clause-can
 store_wake-wake_up-requires-clause-can g c κs within =
     let is_m = c.put_out.ensures.slot ∙ (λ i. (c.args.place.now.me.0, (0, c.drop_oldest.ensures i) ∷ rest c.args.place.now.me.1)) in
-    subst (λ (w : ℕ). CanMake g.T.Kept.follows g.T.Kept.fits c.args.plain.now None c.args.number c.args.limits.seats w c.put_out.new.place.me) (ap (λ t. t.words) c.requires.table)
-    (can_grant g.T.Kept.follows g.T.Kept.fits c.args.number c.args.place.now.table_id.words c.args.place.now.id c.args.limits c.args.plain.now c.args.place.now.me c.args.moving.now c.requires.fit c.requires.gives c.put_out.new.place.me is_m (λ r. leaves_by c.args.plain.now.point Kind.WakeStore r c.requires.kind (λ e. cc)))
+    subst (λ (w : ℕ). CanMake g.T.Kept.follows g.T.Kept.fits c.args.seat.now.standing None c.args.seat.now.number c.args.seat.now.limits.seats w c.put_out.new.place.me) (ap (λ t. t.words) c.requires.table)
+    (can_grant g.T.Kept.follows g.T.Kept.fits c.args.seat.now.number c.args.place.now.table_id.words c.args.place.now.id c.args.seat.now.limits c.args.seat.now.standing c.args.place.now.me c.args.moving.now c.requires.fit c.requires.gives c.put_out.new.place.me is_m (λ r. leaves_by c.args.seat.now.standing.point Kind.WakeStore r c.requires.kind (λ e. cc)))
 
 pub returns-clause-step : goal.returns-clause-step
 returns-clause-step g c = let f = c.store_wake-wake_up in
     let is_m = c.put_out.ensures.slot ∙ (λ i. (c.args.place.now.me.0, (0, c.drop_oldest.ensures i) ∷ rest c.args.place.now.me.1)) in
-    subst (λ (a : Option (Moving g.row.T.Denot)). (n : ℕ) × MadeStep g.T.Kept.follows g.T.Kept.fits c.args.number f.new.place.table_id.words f.new.place.id c.args.limits c.args.plain.now n c.args.place.now.me c.args.moving.now f.new.place.me a) (sym c.put_out.ensures.moving) (
+    subst (λ (a : Option (Moving g.row.T.Denot)). (n : ℕ) × MadeStep g.T.Kept.follows g.T.Kept.fits c.args.seat.now.number f.new.place.table_id.words f.new.place.id c.args.seat.now.limits c.args.seat.now.standing n c.args.place.now.me c.args.moving.now f.new.place.me a) (sym c.put_out.ensures.moving) (
       f.result.0,
-      granted g.T.Kept.follows g.T.Kept.fits c.args.number c.args.place.now.table_id.words c.args.place.now.id c.args.limits c.args.plain.now c.args.place.now.me c.args.moving.now c.requires.fit c.requires.gives c.put_out.new.place.me is_m f.result.0 f.new.place.me f.ensures.step (c.requires.leaves f.result.0) f.new.place.table_id.words f.new.place.id
+      granted g.T.Kept.follows g.T.Kept.fits c.args.seat.now.number c.args.place.now.table_id.words c.args.place.now.id c.args.seat.now.limits c.args.seat.now.standing c.args.place.now.me c.args.moving.now c.requires.fit c.requires.gives c.put_out.new.place.me is_m f.result.0 f.new.place.me f.ensures.step (c.requires.leaves f.result.0) f.new.place.table_id.words f.new.place.id
           (ap (λ t. t.words) (f.ensures.table.0 ∙ c.put_out.ensures.table.0)) (f.ensures.table.1 ∙ c.put_out.ensures.table.1),
     )

@@ -9,5 +9,5 @@ returns-clause-other g c = let f = c.load_owner in
 
 pub returns-clause-step : goal.returns-clause-step
 returns-clause-step g c = let f = c.load_owner in
-    let other : f.result ≢ c.args.number = (λ z. let deep = (f.ensures.step.owner c.requires.kind).0 (z ∙ sym c.requires.fit.seated.named) in let flat = c.requires.flat in absurd (omega (arith, deep, flat))) in
-    idled g.T.Kept.follows g.T.Kept.fits c.args.number c.args.place.now.table_id.words c.args.place.now.id c.args.limits c.args.plain.now c.args.place.now.me c.args.moving.now c.requires.fit Kind.OwnerLoad c.requires.kind refl (drops_by c.args.plain.now.point Kind.OwnerLoad c.requires.kind refl (λ e. cc)) (gives_by c.args.plain.now.point Kind.OwnerLoad c.requires.kind refl (λ e. cc)) f.result f.new.place.me f.ensures.step f.new.place.table_id.words f.new.place.id (ap (λ t. t.words) f.ensures.table.0) f.ensures.table.1 c.requires.free (c.requires.idles f.result other)
+    let other : f.result ≢ c.args.seat.now.number = (λ z. let deep = (f.ensures.step.owner c.requires.kind).0 (z ∙ sym c.requires.fit.seated.named) in let flat = c.requires.flat in absurd (omega (arith, deep, flat))) in
+    idled g.T.Kept.follows g.T.Kept.fits c.args.seat.now.number c.args.place.now.table_id.words c.args.place.now.id c.args.seat.now.limits c.args.seat.now.standing c.args.place.now.me c.args.moving.now c.requires.fit Kind.OwnerLoad c.requires.kind refl (drops_by c.args.seat.now.standing.point Kind.OwnerLoad c.requires.kind refl (λ e. cc)) (gives_by c.args.seat.now.standing.point Kind.OwnerLoad c.requires.kind refl (λ e. cc)) f.result f.new.place.me f.ensures.step f.new.place.table_id.words f.new.place.id (ap (λ t. t.words) f.ensures.table.0) f.ensures.table.1 c.requires.free (c.requires.idles f.result other)

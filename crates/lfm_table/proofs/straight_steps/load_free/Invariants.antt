@@ -2,4 +2,4 @@ use Rattle.lfm_table.specs.Rule.{value_in}
 use Rattle.lfm_table.proofs.straight_steps.load_free.Given as goal
 
 abbrev pub ghosts-load_owner : goal.ghosts-load_owner
-ghosts-load_owner g a = record { standing = a.plain.now; hand = value_in a.hand.now }
+ghosts-load_owner g a = record { standing = a.seat.now.standing; hand = value_in a.hand.now }

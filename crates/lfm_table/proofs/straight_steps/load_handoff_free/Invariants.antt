@@ -2,4 +2,4 @@ use Rattle.lfm_table.specs.Rule.{value_in}
 use Rattle.lfm_table.proofs.straight_steps.load_handoff_free.Given as goal
 
 abbrev pub ghosts-load_handoff : goal.ghosts-load_handoff
-ghosts-load_handoff g a = record { standing = a.plain.now; hand = value_in a.hand.now }
+ghosts-load_handoff g a = record { standing = a.seat.now.standing; hand = value_in a.hand.now }

@@ -6,9 +6,9 @@ use Rattle.lfm_table.proofs.straight_steps.load_link_held.Goals as goal
 
 pub load_link-found-requires-clause-can : goal.load_link-found-requires-clause-can
 load_link-found-requires-clause-can g c κs within =
-    subst (λ (w : ℕ). CanMake g.T.Kept.follows g.T.Kept.fits c.args.plain.now (value_in c.args.moving.now) c.args.number c.args.limits.seats w c.args.place.now.me) (ap (λ t. t.words) c.requires.table)
-    (can_load g.T.Kept.follows g.T.Kept.fits c.args.number c.args.place.now.table_id.words c.args.place.now.id c.args.limits c.args.plain.now c.args.place.now.me c.args.moving.now c.requires.fit c.requires.kind)
+    subst (λ (w : ℕ). CanMake g.T.Kept.follows g.T.Kept.fits c.args.seat.now.standing (value_in c.args.moving.now) c.args.seat.now.number c.args.seat.now.limits.seats w c.args.place.now.me) (ap (λ t. t.words) c.requires.table)
+    (can_load g.T.Kept.follows g.T.Kept.fits c.args.seat.now.number c.args.place.now.table_id.words c.args.place.now.id c.args.seat.now.limits c.args.seat.now.standing c.args.place.now.me c.args.moving.now c.requires.fit c.requires.kind)
 
 pub returns-clause-step : goal.returns-clause-step
 returns-clause-step g c = let f = c.load_link-found in
-    loaded g.T.Kept.follows g.T.Kept.fits c.args.number c.args.place.now.table_id.words c.args.place.now.id c.args.limits c.args.plain.now c.args.place.now.me c.args.moving.now c.requires.fit c.requires.kind f.result f.new.place.me f.ensures.step c.add_loaded.new.moving c.add_loaded.ensures c.requires.held f.new.place.table_id.words f.new.place.id (ap (λ t. t.words) f.ensures.table.0) f.ensures.table.1
+    loaded g.T.Kept.follows g.T.Kept.fits c.args.seat.now.number c.args.place.now.table_id.words c.args.place.now.id c.args.seat.now.limits c.args.seat.now.standing c.args.place.now.me c.args.moving.now c.requires.fit c.requires.kind f.result f.new.place.me f.ensures.step c.add_loaded.new.moving c.add_loaded.ensures c.requires.held f.new.place.table_id.words f.new.place.id (ap (λ t. t.words) f.ensures.table.0) f.ensures.table.1

@@ -6,7 +6,7 @@ use Rattle.lfm_table.proofs.straight_steps.store_wake_held.Goals as goal
 
 pub returns-clause-step : goal.returns-clause-step
 returns-clause-step g c = let f = c.store_wake-wake_up in
-    (f.result.0, kept g.T.Kept.follows g.T.Kept.fits c.args.number c.args.place.now.table_id.words c.args.place.now.id c.args.limits c.args.plain.now c.args.place.now.me c.args.moving.now c.requires.fit Kind.WakeStore c.requires.kind refl c.requires.keeps c.requires.stays f.result.0 f.new.place.me f.ensures.step f.new.place.table_id.words f.new.place.id (ap (λ t. t.words) f.ensures.table.0) f.ensures.table.1 c.requires.held)
+    (f.result.0, kept g.T.Kept.follows g.T.Kept.fits c.args.seat.now.number c.args.place.now.table_id.words c.args.place.now.id c.args.seat.now.limits c.args.seat.now.standing c.args.place.now.me c.args.moving.now c.requires.fit Kind.WakeStore c.requires.kind refl c.requires.keeps c.requires.stays f.result.0 f.new.place.me f.ensures.step f.new.place.table_id.words f.new.place.id (ap (λ t. t.words) f.ensures.table.0) f.ensures.table.1 c.requires.held)
 
 pub expect_none-requires : goal.expect_none-requires
-expect_none-requires g c = c.store_wake-wake_up.ensures.wakes ∙ none_kept c.args.plain.now.point c.requires.stays
+expect_none-requires g c = c.store_wake-wake_up.ensures.wakes ∙ none_kept c.args.seat.now.standing.point c.requires.stays

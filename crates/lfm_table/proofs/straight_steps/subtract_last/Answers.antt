@@ -10,25 +10,25 @@ use Rattle.lfm_table.proofs.straight_steps.subtract_last.Goals as goal
 pub subtract_count-found-requires-clause-can : goal.subtract_count-found-requires-clause-can
 subtract_count-found-requires-clause-can g c κs within =
     let is_m = c.put_out.ensures.slot in
-    subst (λ (w : ℕ). CanMake g.T.Kept.follows g.T.Kept.fits c.args.plain.now None c.args.number c.args.limits.seats w c.put_out.new.place.me) (ap (λ t. t.words) c.requires.table)
-    (can_give g.T.Kept.follows g.T.Kept.fits c.args.number c.args.place.now.table_id.words c.args.place.now.id c.args.limits c.args.plain.now c.args.place.now.me c.args.moving.now c.requires.fit Kind.CountSubtract c.requires.kind refl (drops_by c.args.plain.now.point Kind.CountSubtract c.requires.kind refl (λ e. cc)) c.requires.gives c.put_out.new.place.me is_m (λ r. leaves_by c.args.plain.now.point Kind.CountSubtract r c.requires.kind (λ e. cc)))
+    subst (λ (w : ℕ). CanMake g.T.Kept.follows g.T.Kept.fits c.args.seat.now.standing None c.args.seat.now.number c.args.seat.now.limits.seats w c.put_out.new.place.me) (ap (λ t. t.words) c.requires.table)
+    (can_give g.T.Kept.follows g.T.Kept.fits c.args.seat.now.number c.args.place.now.table_id.words c.args.place.now.id c.args.seat.now.limits c.args.seat.now.standing c.args.place.now.me c.args.moving.now c.requires.fit Kind.CountSubtract c.requires.kind refl (drops_by c.args.seat.now.standing.point Kind.CountSubtract c.requires.kind refl (λ e. cc)) c.requires.gives c.put_out.new.place.me is_m (λ r. leaves_by c.args.seat.now.standing.point Kind.CountSubtract r c.requires.kind (λ e. cc)))
 
 pub returns-then-found-eq1-clause-step : goal.returns-then-found-eq1-clause-step
 returns-then-found-eq1-clause-step g c = let f = c.subtract_count-found in
     let is_m = c.put_out.ensures.slot in
-    subst (λ (a : Option (Moving g.row.T.Denot)). MadeStep g.T.Kept.follows g.T.Kept.fits c.args.number f.new.place.table_id.words f.new.place.id c.args.limits c.args.plain.now 1 c.args.place.now.me c.args.moving.now f.new.place.me a) (sym c.put_out.ensures.moving)
-    (given g.T.Kept.follows g.T.Kept.fits c.args.number c.args.place.now.table_id.words c.args.place.now.id c.args.limits c.args.plain.now c.args.place.now.me c.args.moving.now c.requires.fit Kind.CountSubtract c.requires.kind refl (drops_by c.args.plain.now.point Kind.CountSubtract c.requires.kind refl (λ e. cc)) c.requires.gives c.put_out.new.place.me is_m 1 f.new.place.me
-    (subst (λ (n : ℕ). Advanced g.T.Kept.follows g.T.Kept.fits c.args.plain.now None c.put_out.new.place.me n f.new.place.me) c.if-found-eq1.true f.ensures.step)
+    subst (λ (a : Option (Moving g.row.T.Denot)). MadeStep g.T.Kept.follows g.T.Kept.fits c.args.seat.now.number f.new.place.table_id.words f.new.place.id c.args.seat.now.limits c.args.seat.now.standing 1 c.args.place.now.me c.args.moving.now f.new.place.me a) (sym c.put_out.ensures.moving)
+    (given g.T.Kept.follows g.T.Kept.fits c.args.seat.now.number c.args.place.now.table_id.words c.args.place.now.id c.args.seat.now.limits c.args.seat.now.standing c.args.place.now.me c.args.moving.now c.requires.fit Kind.CountSubtract c.requires.kind refl (drops_by c.args.seat.now.standing.point Kind.CountSubtract c.requires.kind refl (λ e. cc)) c.requires.gives c.put_out.new.place.me is_m 1 f.new.place.me
+    (subst (λ (n : ℕ). Advanced g.T.Kept.follows g.T.Kept.fits c.args.seat.now.standing None c.put_out.new.place.me n f.new.place.me) c.if-found-eq1.true f.ensures.step)
     f.new.place.table_id.words f.new.place.id (ap (λ t. t.words) (f.ensures.table.0 ∙ c.put_out.ensures.table.0)) (f.ensures.table.1 ∙ c.put_out.ensures.table.1) c.requires.leaves)
 
 pub take_out-requires-clause-slot : goal.take_out-requires-clause-slot
 take_out-requires-clause-slot g c κs within = let f = c.subtract_count-found in
     let is_m = c.put_out.ensures.slot in
-    given_slot g.T.Kept.follows g.T.Kept.fits c.args.number c.args.place.now.table_id.words c.args.place.now.id c.args.limits c.args.plain.now c.args.place.now.me c.args.moving.now c.requires.fit Kind.CountSubtract c.requires.kind refl (drops_by c.args.plain.now.point Kind.CountSubtract c.requires.kind refl (λ e. cc)) c.requires.gives c.put_out.new.place.me is_m f.result f.new.place.me f.ensures.step (c.requires.carries f.result c.if-found-eq1.false)
+    given_slot g.T.Kept.follows g.T.Kept.fits c.args.seat.now.number c.args.place.now.table_id.words c.args.place.now.id c.args.seat.now.limits c.args.seat.now.standing c.args.place.now.me c.args.moving.now c.requires.fit Kind.CountSubtract c.requires.kind refl (drops_by c.args.seat.now.standing.point Kind.CountSubtract c.requires.kind refl (λ e. cc)) c.requires.gives c.put_out.new.place.me is_m f.result f.new.place.me f.ensures.step (c.requires.carries f.result c.if-found-eq1.false)
 
 pub returns-clause-step : goal.returns-clause-step
 returns-clause-step g c = let f = c.subtract_count-found in let x = c.take_out in
     let is_m = c.put_out.ensures.slot in
-    taken_back g.T.Kept.follows g.T.Kept.fits c.args.number c.args.place.now.table_id.words c.args.place.now.id c.args.limits c.args.plain.now c.args.place.now.me c.args.moving.now c.requires.fit Kind.CountSubtract c.requires.kind refl (drops_by c.args.plain.now.point Kind.CountSubtract c.requires.kind refl (λ e. cc)) c.requires.gives c.put_out.new.place.me is_m f.result f.new.place.me f.ensures.step x.new.place.table_id.words x.new.place.id
+    taken_back g.T.Kept.follows g.T.Kept.fits c.args.seat.now.number c.args.place.now.table_id.words c.args.place.now.id c.args.seat.now.limits c.args.seat.now.standing c.args.place.now.me c.args.moving.now c.requires.fit Kind.CountSubtract c.requires.kind refl (drops_by c.args.seat.now.standing.point Kind.CountSubtract c.requires.kind refl (λ e. cc)) c.requires.gives c.put_out.new.place.me is_m f.result f.new.place.me f.ensures.step x.new.place.table_id.words x.new.place.id
     (ap (λ t. t.words) (x.ensures.table.0 ∙ (f.ensures.table.0 ∙ c.put_out.ensures.table.0))) (x.ensures.table.1 ∙ (f.ensures.table.1 ∙ c.put_out.ensures.table.1)) (c.requires.carries f.result c.if-found-eq1.false) x.new.moving x.new.place.me
     x.ensures.took

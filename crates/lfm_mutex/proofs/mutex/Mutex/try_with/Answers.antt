@@ -1,4 +1,4 @@
-use Rattle.std.proofs.Common.{◌≡◌, ap, arith, length, rules, subst, sym, Ok}
+use Rattle.std.proofs.Common.{ap, arith, length, rules, subst, sym, Ok}
 use Rattle.lfm_mutex.specs.Belongs.{limits_of}
 use Rattle.lfm_mutex.specs.calls.Sections.{UnlocksSo, with_value}
 use Rattle.lfm_mutex.specs.calls.Sight.{MayRelease, sight}

@@ -1,7 +1,7 @@
 //! How an unlock that found others in the count serves the oldest queued seat: from the pop list, or from the push list where
 //! that holds one record. It is made straight on; where the push list is empty or longer, the seat goes on from its point as any
 //! call does.
-ghost use Rattle.std.specs.Prelude.{◌≡◌, ◌+◌, ◌≤◌, ℕ, length, true, false};
+ghost use Rattle.std.specs.Prelude.{◌≡◌, ◌+◌, ◌≤◌, length, true, false};
 ghost use Rattle.lfm_protocol.specs.declared.answers.Answer.TheVariants as Answered;
 ghost use Rattle.lfm_protocol.specs.declared.answers.Turn.TheVariants.{Ended};
 ghost use Rattle.lfm_protocol.specs.declared.points.Carrier.{Carrier as CarrierNow};
@@ -28,11 +28,16 @@ fn is_unlocker(carrier: Carrier) -> bool
     matches!(carrier, Carrier::Releaser(Releaser::Unlocker))
 }
 
-// Stores the grant for the seat of the oldest record, `next`, which ends the unlock.
+// Stores the grant for `next`, the seat of the oldest record, which ends the unlock.
 #[inline(always)]
-fn grant<T: Kept>(mutex: &Mutex<T>, seat: &mut Seat<T>, next: SeatNo) -> (Unlocked, Option<WakeUp>)
+fn grant<T: Kept>(
+    mutex: &Mutex<T>,
+    seat: &mut Seat<T>,
+    next: SeatNo,
+    stamp: u64,
+) -> (Unlocked, Option<WakeUp>)
     requires belongs { seat.old.place.table_id ≡ mutex.now.table.shared.table_id }
-    requires stands { (stamp : ℕ) × (seat.old.standing.point ≡ GrantWakeStore (CarrierNow.Releaser UnlockerNow) (record { seat = next; stamp = stamp })) }
+    requires stands { seat.old.standing.point ≡ GrantWakeStore (CarrierNow.Releaser UnlockerNow) (record { seat = next; stamp = stamp }) }
     requires flat { seat.old.standing.depth ≡ 0 }
     ensures belongs { seat.new.place.table_id ≡ seat.old.place.table_id }
     ensures same { (seat.new.number ≡ seat.old.number) × (seat.new.limits ≡ seat.old.limits) }
@@ -44,7 +49,15 @@ fn grant<T: Kept>(mutex: &Mutex<T>, seat: &mut Seat<T>, next: SeatNo) -> (Unlock
     let data = SeatData {
         number: seat.number,
         limits: seat.limits,
-        standing: seat.standing,
+        standing: SeatState {
+            depth: 0,
+            takes: seat.standing.takes,
+            posts: seat.standing.posts,
+            point: Point::GrantWakeStore(
+                Carrier::Releaser(Releaser::Unlocker),
+                Record { seat: next, stamp },
+            ),
+        },
     };
     let wake_up = grant_oldest(table, &mut seat.place, &mut seat.moving, &data);
     seat.standing.point = Point::Rest;
@@ -96,7 +109,7 @@ fn serve_pushed<T: Kept>(mutex: &Mutex<T>, seat: &mut Seat<T>) -> (Unlocked, Opt
             stamp: link.stamp,
         },
     );
-    grant(mutex, seat, oldest)
+    grant(mutex, seat, oldest, link.stamp)
 }
 
 /// Makes the steps of an open unlock that found others in the count, to its end.
@@ -117,7 +130,7 @@ pub(crate) fn serve<T: Kept>(mutex: &Mutex<T>, seat: &mut Seat<T>) -> (Unlocked,
     match seat.standing.point {
         Point::GrantWakeStore(carrier, oldest) => {
             if is_unlocker(carrier) {
-                return grant(mutex, seat, oldest.seat);
+                return grant(mutex, seat, oldest.seat, oldest.stamp);
             }
         }
         Point::TakeClearHead(carrier) => {

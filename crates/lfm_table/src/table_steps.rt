@@ -3,6 +3,7 @@
 //!
 //! `seat` are the seat's own data before the step and `hand` what the seat has in its own memory: contracts speak of both, and
 //! B tells them to the play of the step.
+//! The steps are inlined, so that of data which a call makes up on the spot nothing is left but what its steps read.
 ghost use Rattle.std.specs.Prelude.{◌≡◌, ◌≢◌, Some};
 ghost use Rattle.lfm_protocol.specs.declared.kinds.Kind.{Kind as KindNow};
 ghost use Rattle.lfm_protocol.specs.Points.{kind, kind as kind_of};
@@ -32,6 +33,7 @@ pub type SharedTable<T> = Shared<Option<MovingBox<T>>, View<T>, Key<T>, MutexRul
 const STAMP: u64 = 0xffff_ffff_ffff_0000;
 
 /// Exchanges from 0 to 1 at the count.
+#[inline(always)]
 pub fn exchange_count<T: Kept, B: Plain<T>>(
     table: &SharedTable<T>,
     place: &mut Place<T>,
@@ -51,6 +53,7 @@ pub fn exchange_count<T: Kept, B: Plain<T>>(
 }
 
 /// Makes 1 more at the count.
+#[inline(always)]
 pub fn add_count<T: Kept, B: Plain<T>>(
     table: &SharedTable<T>,
     place: &mut Place<T>,
@@ -70,6 +73,7 @@ pub fn add_count<T: Kept, B: Plain<T>>(
 }
 
 /// Makes 1 less at the count.
+#[inline(always)]
 pub fn subtract_count<T: Kept, B: Plain<T>>(
     table: &SharedTable<T>,
     place: &mut Place<T>,
@@ -89,6 +93,7 @@ pub fn subtract_count<T: Kept, B: Plain<T>>(
 }
 
 /// Loads the owner.
+#[inline(always)]
 pub fn load_owner<T: Kept, B: Plain<T>>(
     table: &SharedTable<T>,
     place: &mut Place<T>,
@@ -108,6 +113,7 @@ pub fn load_owner<T: Kept, B: Plain<T>>(
 }
 
 /// Stores the owner.
+#[inline(always)]
 pub fn store_owner<T: Kept, B: Plain<T>>(
     table: &SharedTable<T>,
     place: &mut Place<T>,
@@ -128,6 +134,7 @@ pub fn store_owner<T: Kept, B: Plain<T>>(
 }
 
 /// Loads the push word.
+#[inline(always)]
 pub fn load_push<T: Kept, B: Plain<T>>(
     table: &SharedTable<T>,
     place: &mut Place<T>,
@@ -147,6 +154,7 @@ pub fn load_push<T: Kept, B: Plain<T>>(
 }
 
 /// Exchanges what was seen of the push word for the new head.
+#[inline(always)]
 pub fn exchange_push<T: Kept, B: Plain<T>>(
     table: &SharedTable<T>,
     place: &mut Place<T>,
@@ -169,6 +177,7 @@ pub fn exchange_push<T: Kept, B: Plain<T>>(
 }
 
 /// Clears the head of the push word, whose stamp stays.
+#[inline(always)]
 pub fn clear_head<T: Kept, B: Plain<T>>(
     table: &SharedTable<T>,
     place: &mut Place<T>,
@@ -188,6 +197,7 @@ pub fn clear_head<T: Kept, B: Plain<T>>(
 }
 
 /// Loads the link that the point names.
+#[inline(always)]
 pub fn load_link<T: Kept, B: Plain<T>>(
     table: &SharedTable<T>,
     place: &mut Place<T>,
@@ -207,6 +217,7 @@ pub fn load_link<T: Kept, B: Plain<T>>(
 }
 
 /// Stores the link of the seat that is pushed.
+#[inline(always)]
 pub fn store_link<T: Kept, B: Plain<T>>(
     table: &SharedTable<T>,
     place: &mut Place<T>,
@@ -229,6 +240,7 @@ pub fn store_link<T: Kept, B: Plain<T>>(
 }
 
 /// Loads the handoff.
+#[inline(always)]
 pub fn load_handoff<T: Kept, B: Plain<T>>(
     table: &SharedTable<T>,
     place: &mut Place<T>,
@@ -248,6 +260,7 @@ pub fn load_handoff<T: Kept, B: Plain<T>>(
 }
 
 /// Stores the handoff.
+#[inline(always)]
 pub fn store_handoff<T: Kept, B: Plain<T>>(
     table: &SharedTable<T>,
     place: &mut Place<T>,
@@ -269,6 +282,7 @@ pub fn store_handoff<T: Kept, B: Plain<T>>(
 }
 
 /// Exchanges the handoff that was seen for none.
+#[inline(always)]
 pub fn exchange_handoff<T: Kept, B: Plain<T>>(
     table: &SharedTable<T>,
     place: &mut Place<T>,
@@ -289,6 +303,7 @@ pub fn exchange_handoff<T: Kept, B: Plain<T>>(
 }
 
 /// Loads the wake word of this seat.
+#[inline(always)]
 pub fn load_wake<T: Kept, B: Plain<T>>(
     table: &SharedTable<T>,
     place: &mut Place<T>,
@@ -309,6 +324,7 @@ pub fn load_wake<T: Kept, B: Plain<T>>(
 
 /// Stores the wake word that the point names. Where that is a grant, the wake-up of its seat is handed out beside what was
 /// stored.
+#[inline(always)]
 pub fn store_wake<T: Kept, B: Plain<T>>(
     table: &SharedTable<T>,
     place: &mut Place<T>,
@@ -332,6 +348,7 @@ pub fn store_wake<T: Kept, B: Plain<T>>(
 }
 
 /// Exchanges WAITING for CLAIMED in the wake word of the target.
+#[inline(always)]
 pub fn exchange_wake<T: Kept, B: Plain<T>>(
     table: &SharedTable<T>,
     place: &mut Place<T>,

@@ -5,4 +5,4 @@ use Rattle.lfm_mutex.proofs.serve.serve.Goals as goal
 
 pub grant-requires-clause-stands : goal.grant-requires-clause-stands
 grant-requires-clause-stands g c κs within = let x = c.in-GrantWakeStore in
-    (x.oldest.stamp, x.is ∙ ap (λ (z : Carrier). GrantWakeStore z x.oldest) (c.is_unlocker.ensures c.if-is_unlocker.true))
+    x.is ∙ ap (λ (z : Carrier). GrantWakeStore z x.oldest) (c.is_unlocker.ensures c.if-is_unlocker.true)

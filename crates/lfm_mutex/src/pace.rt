@@ -1,16 +1,38 @@
 //! How long a seat looks for its grant before it sleeps. No atomic step stands here.
-ghost use Rattle.std.specs.Prelude.{◌≡◌, ◌≤◌, ◌<◌};
+ghost use Rattle.std.specs.Prelude.{◌≡◌, ◌≤◌, ◌<◌, IfOk};
 
-/// How often a seat looks at its wake word before it sleeps, where its mutex is not told otherwise. With its pauses this lasts
-/// 15 to 25 microseconds.
-pub const LOOKS_BEFORE_SLEEP: u32 = 250;
+use std::hint::spin_loop;
+use std::io;
+use std::thread::{Threads, available_parallelism};
+use std::time::{Clock, Duration, Instant};
+
+/// How often a seat looks at its wake word before it sleeps, where its mutex is not told otherwise. A look takes 25 to 100
+/// nanoseconds on the machines that were measured, so this lasts 20 to 80 microseconds.
+pub const LOOKS_BEFORE_SLEEP: u32 = 800;
+
+// So many pauses before each look leave the line of the word to the seat that is to store the grant.
+const PAUSES_PER_LOOK: u32 = 4;
+
+// Looks that are made to see how long they take, and how often they are made, so that one run at least is not interrupted.
+const LOOKS_TIMED: u32 = 200;
+
+const TIMES: u32 = 5;
+
+// How long a seat should look, in nanoseconds: about two wake-ups by the system.
+const LOOKING: u64 = 20_000;
+
+// The bounds of what a measurement gives.
+const FEWEST_LOOKS: u64 = 100;
+
+const MOST_LOOKS: u64 = 4_000;
 
 /// How long a seat that waits for the mutex looks at its wake word before it sleeps. A grant mostly comes within some 20
 /// microseconds, and a sleep and a wake-up cost far more than the looks; but where many seats are ahead, or one processor
-/// has to serve both, each look is lost time.
+/// has to serve both, each look is lost time. Where the looks last less than two wake-ups, one thread that sleeps soon
+/// makes all that queue behind it sleep too.
 ///
 /// ```
-/// mutex.set_pace(Pace::for_processors(1));
+/// mutex.set_pace(Pace::of_machine(&rt)?);
 /// ```
 #[derive(Clone, Copy, Debug, PartialEq, Eq)]
 pub struct Pace {
@@ -31,12 +53,25 @@ impl Pace {
     /// otherwise has the pace for eight.
     pub fn for_processors(processors: u64) -> Pace
         ensures one { processors ≤ 1 → result.looks ≡ 0 }
-        ensures more { 1 < processors → (result.looks ≡ 250) × (result.near ≡ processors) }
+        ensures more { 1 < processors → (result.looks ≡ 800) × (result.near ≡ processors) }
     {
         if processors <= 1 {
             return Pace::new(0, 0);
         }
         Pace::new(LOOKS_BEFORE_SLEEP, processors)
+    }
+
+    /// The pace for the processors that this program may use, with 100 to 4,000 looks, as many as last some 20 microseconds
+    /// here. It makes some looks to see how long they take. An error where the processors or the time can't be told.
+    pub fn of_machine<R: Threads + Clock>(rt: &R) -> io::Result<Pace>
+        ensures { IfOk result (λ p. (p.near ≤ 1 → p.looks ≡ 0) × (1 < p.near → (100 ≤ p.looks) × (p.looks ≤ 4_000))) }
+    {
+        let processors = available_parallelism(rt)?.get() as u64;
+        if processors > 1 {
+            let looks = looks_lasting(shortest(rt)?);
+            return Ok(Pace::new(looks, processors));
+        }
+        Ok(Pace::new(0, 0))
     }
 
     /// How often a seat looks.
@@ -60,4 +95,34 @@ impl Pace {
     {
         if count <= self.near { self.looks } else { 0 }
     }
+}
+
+// The pauses before a look.
+#[inline(always)]
+pub(crate) fn pause() {
+    for _ in 0..PAUSES_PER_LOOK {
+        spin_loop();
+    }
+}
+
+// The shortest time that the looks took.
+fn shortest<R: Clock>(rt: &R) -> io::Result<Duration> {
+    let mut shortest = Duration::MAX;
+    for _ in 0..TIMES {
+        let begun = Instant::now(rt)?;
+        for _ in 0..LOOKS_TIMED {
+            pause();
+        }
+        shortest = shortest.min(Instant::now(rt)?.duration_since(begun));
+    }
+    Ok(shortest)
+}
+
+// How many looks last as long as a seat should look, where LOOKS_TIMED of them took so long.
+fn looks_lasting(time: Duration) -> u32
+    ensures { (100 ≤ result) × (result ≤ 4_000) }
+{
+    let nanoseconds = u64::try_from(time.as_nanos()).unwrap_or(u64::MAX);
+    let looks = LOOKING * LOOKS_TIMED as u64 / nanoseconds.max(1);
+    looks.clamp(FEWEST_LOOKS, MOST_LOOKS) as u32
 }

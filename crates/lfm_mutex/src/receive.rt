@@ -13,6 +13,7 @@ ghost use Rattle.lfm_mutex.specs.calls.Trails.{ReceivesBy, MakesAtMost, MakesCal
 
 use crate::calls::run;
 use crate::mutex::Mutex;
+use crate::pace::pause;
 use crate::seat::Seat;
 use lfm_model::{How, Refusal};
 use lfm_protocol::points::{Entrant, Point, Sleeper};
@@ -22,11 +23,7 @@ use lfm_table::parking::park;
 use lfm_table::straight_steps::{load_grant, store_held, store_wake_held};
 use lfm_table::wake_words::{FIRST_GRANT, stamp_in};
 use lfm_table::{Kept, SeatData, WakeUp};
-use std::hint::spin_loop;
 use std::sync::Wait;
-
-// So many pauses before each look leave the line of the word to the seat that is to store the grant.
-const PAUSES_PER_LOOK: u32 = 4;
 
 // How the mutex is gained by a grant of this stamp.
 fn how_by(stamp: u64) -> How
@@ -126,9 +123,7 @@ impl<T: Kept> Mutex<T> {
         requires { wake < self.now.table.shared.table_id.words }
     {
         for made in 0..looks {
-            for _ in 0..PAUSES_PER_LOOK {
-                spin_loop();
-            }
+            pause();
             if self.table.shared.peek(wake) >= FIRST_GRANT {
                 return looks - made - 1;
             }

@@ -10,26 +10,21 @@ use lfm_mutex::{Mutex, Pace, Seat};
 use std::alloc::AllocError;
 use std::io;
 use std::sync::Wait;
-use std::thread::{Threads, available_parallelism};
+use std::thread::Threads;
+use std::time::Clock;
 
 /// How many takes each seat may make: more than any run asks for.
 pub const BUDGET: u64 = 1 << 36;
 
-/// The pace for the processors that this program may use.
-pub fn pace<R: Threads>(rt: &R) -> io::Result<Pace> {
-    let processors = available_parallelism(rt)?;
-    Ok(Pace::for_processors(processors.get() as u64))
-}
-
-/// A mutex round 0 with so many seats, of that pace. It takes memory.
-pub fn new_mutex<R: Threads + AllocGlobal>(
+/// A mutex round 0 with so many seats, of the pace of this machine. It takes memory.
+pub fn new_mutex<R: Threads + Clock + AllocGlobal>(
     rt: &R,
     seats: u64,
 ) -> io::Result<(Mutex<u64>, Vec<Seat<u64>>)>
     ensures limits { IfOk result (λ r. (limits_of r.0).seats ≡ seats) }
     ensures seats { IfOk result (λ r. (j : ℕ) (s : _) → get_elem? r.1.items j ≡ some s → OfMutex s r.0) }
 {
-    let pace = pace(rt)?;
+    let pace = Pace::of_machine(rt)?;
     let Ok((mut mutex, seats)) = Mutex::new(rt.alloc(), seats, BUDGET, 0u64) else {
         return Err(AllocError.into());
     };

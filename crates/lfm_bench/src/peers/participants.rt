@@ -6,7 +6,7 @@ ghost use Rattle.lfm_condvar.specs.Belongs.{OfCondvar, cond_limits};
 ghost use mathlib.Core.Option.{some};
 ghost use lib.ListN.{get_elem?};
 
-use crate::peers::ours::{BUDGET, new_mutex, pace};
+use crate::peers::ours::{BUDGET, new_mutex};
 use lfm_condvar::{CondSeat, Condvar};
 use lfm_model::Locked;
 use lfm_mutex::{Mutex, Pace, Seat};
@@ -14,6 +14,7 @@ use std::alloc::{AllocError, Global};
 use std::io;
 use std::sync::Wait;
 use std::thread::Threads;
+use std::time::Clock;
 
 /// A condvar with so many seats, of this pace. It takes memory.
 fn new_condvar(
@@ -49,14 +50,13 @@ pub struct FreeSeats {
 }
 
 impl Shared {
-    /// A mutex round 0, and two condvars, for so many threads, of the pace for the processors that this program may use. It takes
-    /// memory.
-    pub fn new<R: Threads + AllocGlobal>(rt: &R, threads: u64) -> io::Result<(Shared, FreeSeats)>
+    /// A mutex round 0, and two condvars, for so many threads, of the pace of this machine. It takes memory.
+    pub fn new<R: Threads + Clock + AllocGlobal>(rt: &R, threads: u64) -> io::Result<(Shared, FreeSeats)>
         ensures seats { IfOk result (λ r. (j : ℕ) (s : _) → get_elem? r.1.seats.items j ≡ some s → OfMutex s r.0.mutex) }
         ensures first { IfOk result (λ r. (j : ℕ) (s : _) → get_elem? r.1.first_seats.items j ≡ some s → OfCondvar s r.0.first) }
         ensures second { IfOk result (λ r. (j : ℕ) (s : _) → get_elem? r.1.second_seats.items j ≡ some s → OfCondvar s r.0.second) }
     {
-        let pace = pace(rt)?;
+        let pace = Pace::of_machine(rt)?;
         let (mutex, seats) = new_mutex(rt, threads)?;
         let (first, first_seats) = new_condvar(rt.alloc(), threads, pace)?;
         let (second, second_seats) = new_condvar(rt.alloc(), threads, pace)?;

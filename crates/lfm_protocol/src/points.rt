@@ -180,6 +180,7 @@ impl Point {
     }
 
     /// The seat whose link or wake word a step of seat s touches; s itself where it touches neither.
+    #[inline(always)]
     pub fn target(self, s: u64) -> u64
         ensures { result ≡ target self s }
     {

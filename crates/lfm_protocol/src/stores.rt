@@ -98,6 +98,7 @@ impl SeatState {
 
     /// What a wake store writes: a grant of the record's stamp, a grant of 0 for a target without a record, WAITING as a
     /// wait begins, or QUIET as a grant is taken up.
+    #[inline(always)]
     pub fn stored_wake(&self) -> Wake
         ensures { result ≡ stored_wake self.now }
     {

@@ -13,17 +13,19 @@ pub const LOOKS_BEFORE_SLEEP: u32 = 800;
 // So many pauses before each look leave the line of the word to the seat that is to store the grant.
 const PAUSES_PER_LOOK: u32 = 4;
 
-// Looks that are made to see how long they take, and how often they are made, so that one run at least is not interrupted.
+// How long a seat should look, in nanoseconds: about two wake-ups by the system.
+const LOOK_NANOSECONDS: u64 = 20_000;
+
+// So many looks are made to see how long they take.
 const LOOKS_TIMED: u32 = 200;
 
-const TIMES: u32 = 5;
+// So often they are made, so that once at least nothing interrupts them.
+const RUNS_TIMED: u32 = 5;
 
-// How long a seat should look, in nanoseconds: about two wake-ups by the system.
-const LOOKING: u64 = 20_000;
-
-// The bounds of what a measurement gives.
+// The fewest looks that a measurement gives.
 const FEWEST_LOOKS: u64 = 100;
 
+// The most looks that a measurement gives.
 const MOST_LOOKS: u64 = 4_000;
 
 /// How long a seat that waits for the mutex looks at its wake word before it sleeps. A grant mostly comes within some 20
@@ -108,7 +110,7 @@ pub(crate) fn pause() {
 // The shortest time that the looks took.
 fn shortest<R: Clock>(rt: &R) -> io::Result<Duration> {
     let mut shortest = Duration::MAX;
-    for _ in 0..TIMES {
+    for _ in 0..RUNS_TIMED {
         let begun = Instant::now(rt)?;
         for _ in 0..LOOKS_TIMED {
             pause();
@@ -123,6 +125,6 @@ fn looks_lasting(time: Duration) -> u32
     ensures { (100 ≤ result) × (result ≤ 4_000) }
 {
     let nanoseconds = u64::try_from(time.as_nanos()).unwrap_or(u64::MAX);
-    let looks = LOOKING * LOOKS_TIMED as u64 / nanoseconds.max(1);
+    let looks = LOOK_NANOSECONDS * LOOKS_TIMED as u64 / nanoseconds.max(1);
     looks.clamp(FEWEST_LOOKS, MOST_LOOKS) as u32
 }

@@ -9,6 +9,7 @@ use std::io;
 use std::rt::Env;
 use std::sync::Wait;
 use std::thread::Threads;
+use std::time::Clock;
 
 /// The status of a run in which nothing was lost.
 const EXACT: u8 = 0;
@@ -20,7 +21,7 @@ const NOT_EXACT: u8 = 1;
 const USAGE: u8 = 2;
 
 /// Does what the command line asks for, and gives the exit status. Messages go to standard error.
-pub fn run<R: Env + AllocGlobal + Print + Eprint + Threads + Wait + Sync>(rt: &R) -> u8 {
+pub fn run<R: Env + AllocGlobal + Print + Eprint + Threads + Wait + Sync + Clock>(rt: &R) -> u8 {
     match requested(rt) {
         Request::Run(plan) => status(rt, plan),
         Request::Refused(load, refusal) => {
@@ -58,7 +59,10 @@ fn status_of(exact: bool) -> u8
 }
 
 /// The status of a run of this plan.
-fn status<R: AllocGlobal + Print + Eprint + Threads + Wait + Sync>(rt: &R, plan: Plan) -> u8 {
+fn status<R: AllocGlobal + Print + Eprint + Threads + Wait + Sync + Clock>(
+    rt: &R,
+    plan: Plan,
+) -> u8 {
     match made(rt, plan) {
         Ok(exact) => status_of(exact),
         Err(_) => {
@@ -69,7 +73,10 @@ fn status<R: AllocGlobal + Print + Eprint + Threads + Wait + Sync>(rt: &R, plan:
 }
 
 /// Makes a run of this plan and says what it left. Returns whether nothing was lost.
-fn made<R: AllocGlobal + Print + Threads + Wait + Sync>(rt: &R, plan: Plan) -> io::Result<bool> {
+fn made<R: AllocGlobal + Print + Threads + Wait + Sync + Clock>(
+    rt: &R,
+    plan: Plan,
+) -> io::Result<bool> {
     let sums = match plan.load() {
         Load::Buffer => buffer::run(rt, plan)?,
         Load::Lock | Load::Mixed | Load::PingPong | Load::Broadcast => running::run(rt, plan)?,

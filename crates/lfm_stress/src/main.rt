@@ -9,7 +9,6 @@ mod buffer;
 mod commands;
 mod dealing;
 mod loads;
-mod pace;
 mod parts;
 mod plan;
 mod progress;

@@ -4,21 +4,25 @@ ghost use Rattle.lfm_stress.specs.Parts.{OfShared};
 
 use crate::dealing::shared_by;
 use crate::loads::{broadcast, lock, mixed, ping_pong};
-use crate::pace::pace;
 use crate::parts::{Part, Shared};
 use crate::plan::{Load, Plan};
 use crate::progress::{TENTHS, Tenth};
 use crate::sums::Sums;
+use lfm_mutex::Pace;
 use std::alloc::AllocError;
 use std::io;
 use std::sync::Wait;
 use std::thread::{Threads, map_vec};
+use std::time::Clock;
 
 /// Makes a run of this plan, and says after each tenth how far it is. It takes memory, starts threads and joins them all.
-/// An error where the number of processors can't be told, a line is not written, or no memory is found. The number is 0 where
+/// An error where the number of processors or the time can't be told, a line is not written, or no memory is found. The number is 0 where
 /// a seat holds at the end, or is not back.
-pub fn run<R: Threads + Wait + Sync + AllocGlobal + Print>(rt: &R, plan: Plan) -> io::Result<Sums> {
-    let Some((shared, parts)) = shared_by(rt.alloc(), pace(rt)?, plan.seats()) else {
+pub fn run<R: Threads + Wait + Sync + Clock + AllocGlobal + Print>(
+    rt: &R,
+    plan: Plan,
+) -> io::Result<Sums> {
+    let Some((shared, parts)) = shared_by(rt.alloc(), Pace::of_machine(rt)?, plan.seats()) else {
         return Err(AllocError.into());
     };
     let parts = run_tenths(rt, &shared, plan, parts)?;

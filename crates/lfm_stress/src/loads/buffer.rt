@@ -5,7 +5,6 @@ ghost use Rattle.std.specs.Prelude.{◌≡◌, ◌+◌, ◌*◌, ◌≤◌, All,
 ghost use Rattle.lfm_monitor.specs.Belongs.{OfMonitor};
 
 use crate::buffer::{Buffer, BufferOp, BufferReply};
-use crate::pace::pace;
 use crate::plan::Plan;
 use crate::progress::{TENTHS, Tenth};
 use crate::sums::Sums;
@@ -17,6 +16,7 @@ use std::io;
 use std::sync::Wait;
 use std::sync::atomic::{AtomicU64, Ordering};
 use std::thread::{Threads, map_vec};
+use std::time::Clock;
 
 /// Two threads put in, and two take out.
 const MOVERS: u64 = 4;
@@ -37,9 +37,12 @@ pub struct Delivery {
 }
 
 /// Sends the items of this plan through the buffer, and says after each tenth how far it is. It takes memory, starts threads
-/// and joins them all. An error where the number of processors can't be told, a line is not written, or no memory is found.
-pub fn run<R: Threads + Wait + Sync + AllocGlobal + Print>(rt: &R, plan: Plan) -> io::Result<Sums> {
-    let pace = pace(rt)?;
+/// and joins them all. An error where the number of processors or the time can't be told, a line is not written, or no memory is found.
+pub fn run<R: Threads + Wait + Sync + Clock + AllocGlobal + Print>(
+    rt: &R,
+    plan: Plan,
+) -> io::Result<Sums> {
+    let pace = Pace::of_machine(rt)?;
     let mut made = 0u64;
     let mut number = 0u64;
     for done in 0..TENTHS {

@@ -51,7 +51,10 @@ pub struct FreeSeats {
 
 impl Shared {
     /// A mutex round 0, and two condvars, for so many threads, of the pace of this machine. It takes memory.
-    pub fn new<R: Threads + Clock + AllocGlobal>(rt: &R, threads: u64) -> io::Result<(Shared, FreeSeats)>
+    pub fn new<R: Threads + Clock + AllocGlobal>(
+        rt: &R,
+        threads: u64,
+    ) -> io::Result<(Shared, FreeSeats)>
         ensures seats { IfOk result (λ r. (j : ℕ) (s : _) → get_elem? r.1.seats.items j ≡ some s → OfMutex s r.0.mutex) }
         ensures first { IfOk result (λ r. (j : ℕ) (s : _) → get_elem? r.1.first_seats.items j ≡ some s → OfCondvar s r.0.first) }
         ensures second { IfOk result (λ r. (j : ℕ) (s : _) → get_elem? r.1.second_seats.items j ≡ some s → OfCondvar s r.0.second) }

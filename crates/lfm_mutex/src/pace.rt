@@ -6,8 +6,8 @@ use std::io;
 use std::thread::{Threads, available_parallelism};
 use std::time::{Clock, Duration, Instant};
 
-/// How often a seat looks at its wake word before it sleeps, where its mutex is not told otherwise. A look took 20 to 100
-/// nanoseconds on the machines that were measured, so this lasts some 15 to 80 microseconds.
+/// How often a seat looks at its wake word before it sleeps, where its mutex is not told otherwise. How long that lasts
+/// differs by the processor; where it is short it still lasts about two wake-ups by the system.
 pub const LOOKS_BEFORE_SLEEP: u32 = 800;
 
 // So many pauses before each look leave the line of the word to the seat that is to store the grant.

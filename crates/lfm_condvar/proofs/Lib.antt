@@ -5,4 +5,3 @@ pub mod ListFacts
 pub mod OneHold
 pub mod Repeating
 pub mod Sent
-pub mod lawful

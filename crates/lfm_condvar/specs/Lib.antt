@@ -5,4 +5,3 @@ pub mod Lists
 pub mod Repeated
 pub mod Waits
 pub mod Wakes
-pub mod laws

@@ -1,0 +1,28 @@
+//! The laws of condition variables over the core. Each function here does nothing: its contract is the law, and its comment
+//! names the definition of the law and the file that proves it.
+//!
+//! The laws speak of one user mutex under any number of condvars, and of every list of calls that begin and of single
+//! steps, by any seats in any order, for every number of seats and every budget in their limits. A `wait` takes the lock of
+//! its condvar, adds its seat to the list, makes the steps of `start_wait`, gives the lock back, and receives until it
+//! holds. A wake takes the lock, makes the steps of `send_lock` for the oldest waiter, takes it off the list, goes on to
+//! the next one if it wakes all, and gives the lock back. The lock is one atomic lock here. All other calls of the mutex
+//! may come between any two steps; but a `start_wait` comes from a `wait` alone and a `send_lock` from a wake alone, which
+//! is the premise. The definitions are those of `specs/Condvars.antt`, `specs/Events.antt` and `specs/Claims.antt`.
+#![tactic(auto)]
+
+pub mod claims;
+pub mod lists;
+pub mod user_mutex;
+pub mod waits;
+
+pub use claims::{
+    claims_are_in_order, claims_never_fail, pushes_are_in_order, tickets_are_claimed_once,
+};
+pub use lists::{
+    lists_are_in_order, locks_are_given_back, sleepers_are_listed, waiters_are_listed,
+    wakes_empty_the_list,
+};
+pub use user_mutex::{cores_are_reached, own_calls_are_free};
+pub use waits::{
+    waits_are_new, waits_are_sent, waits_can_end, waits_end_holding, waits_sleep_until_sent,
+};

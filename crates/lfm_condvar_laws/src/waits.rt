@@ -1,0 +1,38 @@
+//! The laws of a `wait`: that it is new, sleeps until it is sent, and ends holding.
+ghost use Rattle.lfm_condvar_laws.specs.Laws.{WaitsAreNew, WaitsAreSent, WaitsSleepUntilSent, WaitsEndHolding, WaitsCanEnd};
+
+/// No `wait` finds its seat in the list when it has taken the lock. So none is refused as Busy.
+///
+/// Definition: `WaitsAreNew` in `specs/Laws.antt`. Proof: `proofs/reached/ListOrder.antt`.
+pub fn waits_are_new()
+    ensures { WaitsAreNew }
+{}
+
+/// Where a `wait` is about to end, just one claim was made with its ticket, and for its own seat.
+///
+/// Definition: `WaitsAreSent` in `specs/Laws.antt`. Proof: `proofs/reached/WaitsSent.antt`.
+pub fn waits_are_sent()
+    ensures { WaitsAreSent }
+{}
+
+/// Once a `wait` has given the lock back, its wake word is WAITING and no claim was made with its ticket, or just one claim
+/// was, for its own seat.
+///
+/// Definition: `WaitsSleepUntilSent` in `specs/Laws.antt`. Proof: `proofs/reached/WaitsSent.antt`.
+pub fn waits_sleep_until_sent()
+    ensures { WaitsSleepUntilSent }
+{}
+
+/// A `wait` that is about to end holds the user mutex, at depth 1.
+///
+/// Definition: `WaitsEndHolding` in `specs/Laws.antt`. Proof: `proofs/reached/WaitsSent.antt`.
+pub fn waits_end_holding()
+    ensures { WaitsEndHolding }
+{}
+
+/// There is a run in which a `wait` is about to end. So the other laws speak of something that happens.
+///
+/// Definition: `WaitsCanEnd` in `specs/Laws.antt`. Proof: `proofs/reached/OneWait.antt`.
+pub fn waits_can_end()
+    ensures { WaitsCanEnd }
+{}

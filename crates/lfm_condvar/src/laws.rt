@@ -1,7 +1,14 @@
 //! The laws of condition variables over the core of the user mutex. They stand in `lfm_condvar_laws`, and are passed on.
 
-pub use lfm_condvar_laws::claims::{claims_are_in_order, claims_never_fail, pushes_are_in_order, tickets_are_claimed_once};
-pub use lfm_condvar_laws::lists::{lists_are_in_order, locks_are_given_back, sleepers_are_listed, waiters_are_listed, wakes_empty_the_list};
+pub use lfm_condvar_laws::claims::{
+    claims_are_in_order, claims_never_fail, pushes_are_in_order, tickets_are_claimed_once,
+};
+pub use lfm_condvar_laws::lists::{
+    lists_are_in_order, locks_are_given_back, sleepers_are_listed, waiters_are_listed,
+    wakes_empty_the_list,
+};
 pub use lfm_condvar_laws::user_mutex::{cores_are_reached, own_calls_are_free};
-pub use lfm_condvar_laws::waits::{waits_are_new, waits_are_sent, waits_can_end, waits_end_holding, waits_sleep_until_sent};
+pub use lfm_condvar_laws::waits::{
+    waits_are_new, waits_are_sent, waits_can_end, waits_end_holding, waits_sleep_until_sent,
+};
 pub use lfm_condvar_laws::{claims, lists, user_mutex, waits};

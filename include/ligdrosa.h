@@ -17,20 +17,21 @@
  *     lfm_mutex_close(&mutex);
  *
  * Each call answers a status. Null, a mutex that is not open and a seat that is not taken are answered by LFM_BLANK, and a call
- * that is refused has changed nothing, but where it says so. What a program promises, and nothing checks:
+ * that is refused has changed nothing, but where it says so. Only calls that open or close change errno. What a program promises,
+ * and nothing checks:
  *
  *   - An lfm_mutex, lfm_seat or lfm_condvar is zero before its first call (static, calloc, `= {0}`), lies still while it is in
  *     use, and is touched by these calls alone.
  *   - A seat is in one call at a time. It goes from one thread to another by a lock, a thread's start or join, or the like.
- *   - No call comes from a signal handler, or from a forked child.
+ *   - All calls of a mutex come from one process: none from a forked child, and none from a signal handler.
  *   - A mutex or condition variable is closed after all other calls of it have returned.
  *
  * It needs Linux, and gcc or clang with C11 or C++11. Link liblfm_c.a and then liblibc_c.a. */
 #ifndef LIGDROSA_H
 #define LIGDROSA_H
 
+#include <errno.h>
 #include <linux/futex.h>
-#include <sched.h>
 #include <stdbool.h>
 #include <stddef.h>
 #include <stdint.h>
@@ -126,7 +127,7 @@ typedef struct lfm_mutex {
   unsigned char handle[LFM_MUTEX_BYTES];
   lfm_bell *bells;
   uint64_t seats;
-  uint32_t taking; /* 1 while a seat is taken or given back */
+  uint32_t taking; /* while a seat is taken or given back 1, or 2 where another thread may sleep until that is done; else 0 */
   uint32_t near;   /* how many seats may be asking where one looks at all: as many as there are processors, none if there is one */
   unsigned char apart[LFM_LINE];
   uint32_t asking; /* how many seats are queued by lfm_lock */
@@ -190,7 +191,9 @@ int clock_gettime(int clock, struct timespec *now);
 #endif
 
 static inline void lfm_futex(uint32_t *word, int operation, uint32_t value) {
+  int before = errno;
   syscall(SYS_futex, word, operation | FUTEX_PRIVATE_FLAG, value, NULL, NULL, 0);
+  errno = before;
 }
 
 static inline void lfm_ring(lfm_mutex *mutex, uint64_t number) {
@@ -293,16 +296,22 @@ static inline lfm_status lfm_mutex_new(lfm_mutex *mutex, uint64_t seats, uint64_
   return LFM_DONE;
 }
 
+/* One thread at a time takes a seat or gives one back. The others sleep until it has ended, so that it ends also where they have a
+ * higher priority. */
 static inline void lfm_begin_taking(lfm_mutex *mutex) {
-  while (__atomic_exchange_n(&mutex->taking, 1, __ATOMIC_ACQUIRE)) sched_yield();
+  uint32_t found = 0;
+  if (__atomic_compare_exchange_n(&mutex->taking, &found, 1, false, __ATOMIC_ACQUIRE, __ATOMIC_RELAXED)) return;
+  while (__atomic_exchange_n(&mutex->taking, 2, __ATOMIC_ACQUIRE)) lfm_futex(&mutex->taking, FUTEX_WAIT, 2);
 }
 
-static inline void lfm_end_taking(lfm_mutex *mutex) { __atomic_store_n(&mutex->taking, 0, __ATOMIC_RELEASE); }
+static inline void lfm_end_taking(lfm_mutex *mutex) {
+  if (__atomic_exchange_n(&mutex->taking, 0, __ATOMIC_RELEASE) == 2) lfm_futex(&mutex->taking, FUTEX_WAKE, 1);
+}
 
 /* Takes a seat of the mutex: the one that was given back last, or else the next that was never taken. A seat that was given back keeps
  * its number and the takes that it has made, so one without takes is refused as LFM_SPENT until the mutex is closed and opened anew.
- * Refused: LFM_BLANK, LFM_TAKEN, LFM_NO_SEAT. Other threads may take and give back seats at the same time: each waits for the other,
- * and yields its processor meanwhile. */
+ * Refused: LFM_BLANK, LFM_TAKEN, LFM_NO_SEAT. Other threads may take and give back seats at the same time: each may sleep until the
+ * other is done. */
 static inline lfm_status lfm_seat_take(lfm_mutex *mutex, lfm_seat *seat) {
   if (!mutex || !seat || !mutex->bells) return LFM_BLANK;
   if (seat->mutex) return LFM_TAKEN;

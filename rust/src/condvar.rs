@@ -19,8 +19,18 @@ unsafe impl Send for Condvar {}
 unsafe impl Sync for Condvar {}
 
 mod sealed {
+    /// What `seat` is called with. It has no name outside of this crate, so no program can call it by its bound: that could put
+    /// another seat in the place of one that holds, and reach a value that it doesn't hold.
+    ///
+    /// ```compile_fail,E0061
+    /// fn seat_of<T, C: ligdrosa::Caller<T>>(by: &mut C) -> &mut ligdrosa::Seat<T> {
+    ///     by.seat()
+    /// }
+    /// ```
+    pub struct Inside;
+
     pub trait Sealed<T> {
-        fn seat(&mut self) -> &mut super::Seat<T>;
+        fn seat(&mut self, _: Inside) -> &mut super::Seat<T>;
     }
 }
 
@@ -28,13 +38,13 @@ mod sealed {
 pub trait Caller<T>: sealed::Sealed<T> {}
 
 impl<T> sealed::Sealed<T> for Seat<T> {
-    fn seat(&mut self) -> &mut Seat<T> {
+    fn seat(&mut self, _: sealed::Inside) -> &mut Seat<T> {
         self
     }
 }
 
 impl<T> sealed::Sealed<T> for Guard<'_, T> {
-    fn seat(&mut self) -> &mut Seat<T> {
+    fn seat(&mut self, _: sealed::Inside) -> &mut Seat<T> {
         self.0
     }
 }
@@ -120,11 +130,11 @@ impl Condvar {
 
     /// Wakes the seat that has waited longest, and answers how many were woken: 0 or 1. Refused: `Foreign`, `Spent`.
     pub fn wake_one<T>(&self, by: &mut impl Caller<T>) -> Result<usize, Refusal> {
-        self.wake(by.seat(), 1)
+        self.wake(by.seat(sealed::Inside), 1)
     }
 
     /// Wakes all that wait now, and answers how many. Refused: `Foreign`, `Spent`.
     pub fn wake_all<T>(&self, by: &mut impl Caller<T>) -> Result<usize, Refusal> {
-        self.wake(by.seat(), usize::MAX)
+        self.wake(by.seat(sealed::Inside), usize::MAX)
     }
 }

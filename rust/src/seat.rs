@@ -64,25 +64,31 @@ pub(crate) struct Core {
 unsafe impl Send for Core {}
 unsafe impl Sync for Core {}
 
+/// Whether the handles of the library fit into the room that is kept for them.
+fn is_known() -> bool {
+    unsafe {
+        lfm_c_mutex_size() <= MUTEX_BYTES
+            && lfm_c_seat_size() <= SEAT_BYTES
+            && lfm_c_mutex_align() <= LINE
+            && lfm_c_seat_align() <= LINE
+    }
+}
+
 impl Core {
-    fn new(seats: usize, budget: u64) -> Result<Core, Refusal> {
-        let core = Core {
+    /// A mutex that is opened where it lies, since the library may count on it that a handle lies still.
+    fn open(seats: usize, budget: u64) -> Result<Arc<Core>, Refusal> {
+        // before there is a handle, which is closed when it is dropped
+        if !is_known() {
+            return Err(Refusal::OtherVersion);
+        }
+        let core = Arc::new(Core {
             handle: Bytes::new(),
             bells: (0..=seats.min(4095)).map(|_| Bell::default()).collect(),
             near: near(),
             asking: Count::default(),
             taking: Mutex::new(()),
-        };
-        unsafe {
-            if lfm_c_mutex_size() > MUTEX_BYTES
-                || lfm_c_seat_size() > SEAT_BYTES
-                || lfm_c_mutex_align() > LINE
-                || lfm_c_seat_align() > LINE
-            {
-                return Err(Refusal::OtherVersion);
-            }
-            made(lfm_c_open(core.handle.at(), seats as u64, budget))?;
-        }
+        });
+        made(unsafe { lfm_c_open(core.handle.at(), seats as u64, budget) })?;
         Ok(core)
     }
 
@@ -112,7 +118,7 @@ unsafe impl Send for Place {}
 
 /// A mutex's seats, in the order of their numbers.
 pub(crate) fn places(seats: usize, budget: u64) -> Result<Vec<Place>, Refusal> {
-    let core = Arc::new(Core::new(seats, budget)?);
+    let core = Core::open(seats, budget)?;
     (0..seats).map(|_| Place::take(&core)).collect()
 }
 

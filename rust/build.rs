@@ -1,4 +1,5 @@
-//! Links the archives that scripts/build_c puts into out/, or into the folder that LIGDROSA_OUT names.
+//! Links the archives that scripts/build_c puts into out/, or into the folder that LIGDROSA_OUT names, and links them anew where they
+//! have changed.
 use std::{env, path::PathBuf};
 
 fn main() {
@@ -7,6 +8,9 @@ fn main() {
         PathBuf::from(env::var_os("CARGO_MANIFEST_DIR").unwrap_or_default()).join("../out");
     let out = env::var_os("LIGDROSA_OUT").map_or(beside, PathBuf::from);
     println!("cargo:rustc-link-search=native={}", out.display());
-    println!("cargo:rustc-link-lib=static=lfm_c");
-    println!("cargo:rustc-link-lib=static=libc_c");
+    for archive in ["lfm_c", "libc_c"] {
+        println!("cargo:rustc-link-lib=static={archive}");
+        let file = out.join(format!("lib{archive}.a"));
+        println!("cargo:rerun-if-changed={}", file.display());
+    }
 }

@@ -266,7 +266,8 @@ impl<T> Seat<T> {
     }
 }
 
-/// While it lives, its seat holds the mutex. Dropped, it gives one hold up.
+/// While it lives, its seat holds the mutex. Dropped, it gives one hold up. So it does where a panic drops it: the next seat finds
+/// the value as the panic left it, and nothing tells of that.
 pub struct Guard<'a, T>(pub(crate) &'a mut Seat<T>);
 
 impl<T> Guard<'_, T> {

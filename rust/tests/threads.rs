@@ -1,6 +1,12 @@
 //! Threads count together, and pass numbers through a buffer.
 use ligdrosa::{mutex, Condvar, Refusal, Seat};
-use std::{collections::VecDeque, sync::Arc, thread};
+use std::{
+    collections::VecDeque,
+    mem,
+    panic::{catch_unwind, AssertUnwindSafe},
+    sync::Arc,
+    thread,
+};
 
 #[test]
 fn threads_count_together() {
@@ -40,6 +46,30 @@ fn a_hold_is_deepened() {
     drop(guard);
     assert_eq!(*second.try_lock().unwrap(), 8);
     assert_eq!((first.left(), second.left()), (2, 2));
+}
+
+#[test]
+fn a_panic_gives_its_hold_up() {
+    let mut seats = mutex(2, 3, 7u64).unwrap();
+    let (first, second) = seats.split_at_mut(1);
+    let panics = || {
+        let mut guard = first[0].lock().unwrap();
+        *guard.again().unwrap() += 1;
+        panic!("while it holds");
+    };
+    assert!(catch_unwind(AssertUnwindSafe(panics)).is_err());
+    assert_eq!(*second[0].try_lock().unwrap(), 8);
+}
+
+#[test]
+fn a_forgotten_guard_holds_on() {
+    let mut seats = mutex(2, 3, ()).unwrap();
+    let mut second = seats.pop().unwrap();
+    let mut first = seats.pop().unwrap();
+    mem::forget(first.lock().unwrap());
+    assert_eq!(first.lock().unwrap().depth(), 2);
+    drop(first);
+    assert_eq!(second.try_lock().err(), Some(Refusal::Busy));
 }
 
 #[test]

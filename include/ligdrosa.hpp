@@ -160,24 +160,33 @@ public:
 // A condition variable of one mutex. A wait returns only after a notify, but another thread may hold the mutex in between: wait in a
 // loop that tests what is waited for.
 class condition_variable {
-  lfm_condvar raw{};
+  // The condition variable lies here until the last wait has returned. It may end earlier, as std::condition_variable may: once all that
+  // wait are notified. A thread that goes on may be so quick that another's wait still gives the list back.
+  struct shared {
+    lfm_condvar raw{};
+    ~shared() { lfm_condvar_close(&raw); }
+  };
+
+  std::shared_ptr<shared> state = std::make_shared<shared>();
   recursive_mutex *of;
 
 public:
   // Throws as lfm_condvar_new refuses.
-  explicit condition_variable(recursive_mutex &mutex) : of(&mutex) { made(lfm_condvar_new(&raw, mutex.native_handle())); }
+  explicit condition_variable(recursive_mutex &mutex) : of(&mutex) { made(lfm_condvar_new(&state->raw, mutex.native_handle())); }
   condition_variable(const condition_variable &) = delete;
   condition_variable &operator=(const condition_variable &) = delete;
-  ~condition_variable() { lfm_condvar_close(&raw); }
 
   // Throws as lfm_wait refuses: LFM_FOREIGN where the lock is of another mutex, LFM_NESTED where it is not the thread's only hold.
-  void wait(std::unique_lock<recursive_mutex> &lock) { made(lfm_wait(&raw, lock.mutex()->own())); }
+  void wait(std::unique_lock<recursive_mutex> &lock) {
+    std::shared_ptr<shared> kept = state;
+    made(lfm_wait(&kept->raw, lock.mutex()->own()));
+  }
   template <class Predicate> void wait(std::unique_lock<recursive_mutex> &lock, Predicate predicate) {
     while (!predicate()) wait(lock);
   }
   // Wakes the thread that has waited longest, or all; a thread that calls them needs a seat, as for a lock.
-  void notify_one() { made(lfm_wake_one(&raw, of->own())); }
-  void notify_all() { made(lfm_wake_all(&raw, of->own())); }
+  void notify_one() { made(lfm_wake_one(&state->raw, of->own())); }
+  void notify_all() { made(lfm_wake_all(&state->raw, of->own())); }
 };
 
 } // namespace lfm

@@ -20,6 +20,7 @@
 #include <mutex>
 #include <stdexcept>
 #include <string>
+#include <utility>
 
 #include "ligdrosa.h"
 
@@ -98,6 +99,9 @@ public:
 // ends, so as many threads may use it at a time as it has seats: more are refused as LFM_NO_SEAT, by an exception. A thread that takes
 // over a seat goes on with that seat's takes, and a seat without takes is refused as LFM_SPENT: 2^36 are enough for 19 hours of a lock
 // in each microsecond.
+//
+// A shared object that hides its symbols finds seats by itself: a thread has another seat there than elsewhere, so what it locks in one
+// place it can't lock once more, or unlock, in the other.
 class recursive_mutex {
   // The mutex lies here as long as it or the seat of a thread is there.
   struct shared {
@@ -117,19 +121,15 @@ class recursive_mutex {
     }
   };
 
-  // Numbers tell mutexes apart, since a new one may lie where another one lay.
-  static uint64_t next_number() {
-    static std::atomic<uint64_t> last{0};
-    return ++last;
-  }
+  // The seats of a thread, by where their mutexes lie. A seat keeps its mutex there, so no other can come to lie there meanwhile.
+  using own_seats = std::map<const shared *, own_seat>;
 
-  static std::map<uint64_t, own_seat> &seats() {
-    thread_local std::map<uint64_t, own_seat> all;
+  static own_seats &seats() {
+    thread_local own_seats all;
     return all;
   }
 
   std::shared_ptr<shared> state = std::make_shared<shared>();
-  uint64_t number = next_number();
 
 public:
   // Throws as lfm_mutex_new refuses.
@@ -144,10 +144,10 @@ public:
   // The calling thread's seat. Throws LFM_NO_SEAT where too many threads have one.
   lfm_seat *own() {
     auto &all = seats();
-    auto at = all.find(number);
+    auto at = all.find(state.get());
     if (at == all.end()) {
       for (auto old = all.begin(); old != all.end();) old = old->second.of->is_gone ? all.erase(old) : std::next(old);
-      at = all.emplace(number, own_seat(state)).first;
+      at = all.emplace(state.get(), own_seat(state)).first;
     }
     return at->second.raw.get();
   }

@@ -1,4 +1,5 @@
-// What ends early or late: a condition variable that ends while a wait of it is about to return.
+// What ends early or late: a condition variable that ends while a wait of it is about to return, and objects that lock when they end, after
+// the seats of their thread were given back.
 //
 // The calls of the library are seen here, so that threads meet where they seldom would: a thread that begins to wait holds the list until
 // another has asked for it, and when it has given the list to that one, it goes on only once the condition variable has ended.
@@ -66,7 +67,48 @@ static void a_condition_variable_that_ends_early() {
   waiter.join();
 }
 
+// One seat for the first thread, and one for another at a time.
+static lfm::recursive_mutex of_the_program(2);
+static int ended; // guarded by it
+
+struct locks_at_its_end {
+  bool is_there = false;
+  ~locks_at_its_end() {
+    std::lock_guard<lfm::recursive_mutex> lock(of_the_program), again(of_the_program);
+    ended++;
+  }
+};
+
+// It ends with the program, when the seats of the first thread were given back.
+static locks_at_its_end at_exit;
+
+// Objects that are made before a thread takes its seat end after that is given back. Each of many threads finds a seat.
+static void objects_that_end_late() {
+  const int THREADS = 10;
+  for (int i = 0; i < THREADS; i++)
+    std::thread([] {
+      thread_local locks_at_its_end early;
+      early.is_there = true;
+      std::lock_guard<lfm::recursive_mutex> lock(of_the_program);
+    }).join();
+  std::lock_guard<lfm::recursive_mutex> lock(of_the_program);
+  EXPECT(ended, THREADS);
+}
+
+// A hold that ends after the thread's other seats were given back.
+static void a_hold_that_ends_late() {
+  for (int i = 0; i < 10; i++)
+    std::thread([] {
+      thread_local std::unique_lock<lfm::recursive_mutex> held;
+      held = std::unique_lock<lfm::recursive_mutex>(of_the_program);
+    }).join();
+  EXPECT(of_the_program.try_lock(), true);
+  of_the_program.unlock();
+}
+
 int main() {
   a_condition_variable_that_ends_early();
+  objects_that_end_late();
+  a_hold_that_ends_late();
   return 0;
 }

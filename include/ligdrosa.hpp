@@ -42,6 +42,13 @@ inline lfm_status made(lfm_status status) {
   return status;
 }
 
+// Whether a try has gained the mutex, or an exception where it was refused for another cause than LFM_BUSY.
+inline bool has_gained(lfm_status status) {
+  if (status == LFM_BUSY) return false;
+  made(status);
+  return true;
+}
+
 // The greatest number of takes that a seat may be allowed.
 inline constexpr uint64_t most_takes = uint64_t(1) << 36;
 
@@ -85,24 +92,24 @@ public:
   void lock() { made(lfm_lock(of)); }
   // False where at some moment of the call another seat held the mutex, asked for it or was giving it up. Throws as lfm_try_lock
   // refuses else.
-  bool try_lock() {
-    lfm_status status = lfm_try_lock(of);
-    if (status == LFM_BUSY) return false;
-    made(status);
-    return true;
-  }
+  bool try_lock() { return has_gained(lfm_try_lock(of)); }
   // Throws as lfm_unlock refuses.
   void unlock() { made(lfm_unlock(of)); }
 };
 
-// A mutex that finds the seat of the calling thread by itself. A thread takes a seat at its first lock and gives it back when it
-// ends, so as many threads may use it at a time as it has seats: more are refused as LFM_NO_SEAT, by an exception. A thread that takes
-// over a seat goes on with that seat's takes, and a seat without takes is refused as LFM_SPENT: 2^36 are enough for 19 hours of a lock
-// in each microsecond.
+// A mutex that finds the seat of the calling thread by itself. A thread takes a seat at its first call and gives it back when its
+// objects end, so as many threads may use it at a time as it has seats: more are refused as LFM_NO_SEAT, by an exception. A thread that
+// takes over a seat goes on with that seat's takes, and a seat without takes is refused as LFM_SPENT: 2^36 are enough for 19 hours of a
+// lock in each microsecond.
+//
+// Objects of a thread that end after its seats are given back may lock too, and so may objects that end with the program: a call takes a
+// seat then, and gives it back once it doesn't hold.
 //
 // A shared object that hides its symbols finds seats by itself: a thread has another seat there than elsewhere, so what it locks in one
 // place it can't lock once more, or unlock, in the other.
 class recursive_mutex {
+  friend class condition_variable;
+
   // The mutex lies here as long as it or the seat of a thread is there.
   struct shared {
     lfm_mutex raw{};
@@ -116,7 +123,7 @@ class recursive_mutex {
     own_seat(std::shared_ptr<shared> mutex) : of(std::move(mutex)), raw(new lfm_seat()) { made(lfm_seat_take(&of->raw, raw.get())); }
     own_seat(own_seat &&) = default;
     ~own_seat() {
-      // A thread that ends while it holds leaves its seat, and with it the mutex.
+      // Where it holds, the mutex has ended before the hold: both are left.
       if (raw && lfm_is_refused(lfm_seat_give(raw.get()))) raw.release();
     }
   };
@@ -124,37 +131,79 @@ class recursive_mutex {
   // The seats of a thread, by where their mutexes lie. A seat keeps its mutex there, so no other can come to lie there meanwhile.
   using own_seats = std::map<const shared *, own_seat>;
 
-  static own_seats &seats() {
-    thread_local own_seats all;
-    return all;
+  // What a thread has. It has no destructor, so that it is there for objects of the thread that end late.
+  struct own_thread {
+    own_seats *all; // null where there is none
+    bool is_ending; // the seats of the thread were given back, as its objects end
+  };
+
+  static own_thread &here() {
+    thread_local own_thread it{};
+    return it;
   }
 
+  // Gives back the thread's seats for which the test holds.
+  template <class Test> static void give_back(Test is_over) {
+    own_seats &all = *here().all;
+    for (auto at = all.begin(); at != all.end();) at = is_over(at->second) ? all.erase(at) : std::next(at);
+  }
+
+  // Gives back each seat of the thread that doesn't hold, when its objects end, and from there on after each call. One that holds is kept,
+  // for an object that gives the hold up later.
+  static void leave() {
+    give_back([](const own_seat &seat) { return lfm_depth(seat.raw.get()) == 0; });
+    if (!here().all->empty()) return;
+    delete here().all;
+    here().all = nullptr;
+  }
+
+  struct at_end {
+    ~at_end() {
+      here().is_ending = true;
+      leave();
+    }
+  };
+
   std::shared_ptr<shared> state = std::make_shared<shared>();
+
+  // Takes a seat for the calling thread, which has none.
+  own_seat &take() {
+    if (!here().all) here().all = new own_seats();
+    thread_local at_end ends;
+    give_back([](const own_seat &seat) { return seat.of->is_gone.load(); });
+    return here().all->emplace(state.get(), own_seat(state)).first->second;
+  }
+
+  own_seat &find() {
+    if (!here().all) return take();
+    auto at = here().all->find(state.get());
+    return at == here().all->end() ? take() : at->second;
+  }
+
+  // Makes a call with the calling thread's seat.
+  template <class Call> lfm_status by_own(Call call) {
+    lfm_status status = call(own());
+    if (here().is_ending) leave();
+    return status;
+  }
 
 public:
   // Throws as lfm_mutex_new refuses.
   explicit recursive_mutex(uint64_t most_threads = 64, uint64_t budget = most_takes) { made(lfm_mutex_new(&state->raw, most_threads, budget)); }
   recursive_mutex(const recursive_mutex &) = delete;
   recursive_mutex &operator=(const recursive_mutex &) = delete;
-  // The thread's seats are left alone: at the end of a program they may have ended before.
+  // Each thread gives its seat back by itself, at its end or where it takes another.
   ~recursive_mutex() { state->is_gone = true; }
 
   lfm_mutex *native_handle() noexcept { return &state->raw; }
 
-  // The calling thread's seat. Throws LFM_NO_SEAT where too many threads have one.
-  lfm_seat *own() {
-    auto &all = seats();
-    auto at = all.find(state.get());
-    if (at == all.end()) {
-      for (auto old = all.begin(); old != all.end();) old = old->second.of->is_gone ? all.erase(old) : std::next(old);
-      at = all.emplace(state.get(), own_seat(state)).first;
-    }
-    return at->second.raw.get();
-  }
+  // The calling thread's seat. Throws LFM_NO_SEAT where too many threads have one. While the thread's objects end, it is there until the
+  // next call of a recursive_mutex.
+  lfm_seat *own() { return find().raw.get(); }
 
-  void lock() { seat_lock(*own()).lock(); }
-  bool try_lock() { return seat_lock(*own()).try_lock(); }
-  void unlock() { seat_lock(*own()).unlock(); }
+  void lock() { made(by_own(lfm_lock)); }
+  bool try_lock() { return has_gained(by_own(lfm_try_lock)); }
+  void unlock() { made(by_own(lfm_unlock)); }
 };
 
 // A condition variable of one mutex. A wait returns only after a notify, but another thread may hold the mutex in between: wait in a
@@ -179,14 +228,18 @@ public:
   // Throws as lfm_wait refuses: LFM_FOREIGN where the lock is of another mutex, LFM_NESTED where it is not the thread's only hold.
   void wait(std::unique_lock<recursive_mutex> &lock) {
     std::shared_ptr<shared> kept = state;
-    made(lfm_wait(&kept->raw, lock.mutex()->own()));
+    made(lock.mutex()->by_own([&](lfm_seat *seat) { return lfm_wait(&kept->raw, seat); }));
   }
   template <class Predicate> void wait(std::unique_lock<recursive_mutex> &lock, Predicate predicate) {
     while (!predicate()) wait(lock);
   }
   // Wakes the thread that has waited longest, or all; a thread that calls them needs a seat, as for a lock.
-  void notify_one() { made(lfm_wake_one(&state->raw, of->own())); }
-  void notify_all() { made(lfm_wake_all(&state->raw, of->own())); }
+  void notify_one() {
+    made(of->by_own([&](lfm_seat *seat) { return lfm_wake_one(&state->raw, seat); }));
+  }
+  void notify_all() {
+    made(of->by_own([&](lfm_seat *seat) { return lfm_wake_all(&state->raw, seat); }));
+  }
 };
 
 } // namespace lfm

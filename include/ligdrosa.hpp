@@ -133,8 +133,10 @@ class recursive_mutex {
 
   // What a thread has. It has no destructor, so that it is there for objects of the thread that end late.
   struct own_thread {
-    own_seats *all; // null where there is none
-    bool is_ending; // the seats of the thread were given back, as its objects end
+    const shared *last; // the mutex that the thread called last, or null
+    lfm_seat *seat;     // the seat of that mutex
+    own_seats *all;     // null where there is none
+    bool is_ending;     // the seats of the thread were given back, as its objects end
   };
 
   static own_thread &here() {
@@ -145,6 +147,7 @@ class recursive_mutex {
   // Gives back the thread's seats for which the test holds.
   template <class Test> static void give_back(Test is_over) {
     own_seats &all = *here().all;
+    here().last = nullptr;
     for (auto at = all.begin(); at != all.end();) at = is_over(at->second) ? all.erase(at) : std::next(at);
   }
 
@@ -174,7 +177,7 @@ class recursive_mutex {
     return here().all->emplace(state.get(), own_seat(state)).first->second;
   }
 
-  own_seat &find() {
+  __attribute__((noinline)) own_seat &find() {
     if (!here().all) return take();
     auto at = here().all->find(state.get());
     return at == here().all->end() ? take() : at->second;
@@ -199,11 +202,23 @@ public:
 
   // The calling thread's seat. Throws LFM_NO_SEAT where too many threads have one. While the thread's objects end, it is there until the
   // next call of a recursive_mutex.
-  lfm_seat *own() { return find().raw.get(); }
+  lfm_seat *own() {
+    own_thread &mine = here();
+    if (mine.last == state.get()) return mine.seat;
+    mine.seat = find().raw.get();
+    mine.last = state.get();
+    return mine.seat;
+  }
 
-  void lock() { made(by_own(lfm_lock)); }
-  bool try_lock() { return has_gained(by_own(lfm_try_lock)); }
-  void unlock() { made(by_own(lfm_unlock)); }
+  void lock() {
+    made(by_own([](lfm_seat *seat) { return lfm_lock(seat); }));
+  }
+  bool try_lock() {
+    return has_gained(by_own([](lfm_seat *seat) { return lfm_try_lock(seat); }));
+  }
+  void unlock() {
+    made(by_own([](lfm_seat *seat) { return lfm_unlock(seat); }));
+  }
 };
 
 // A condition variable of one mutex. A wait returns only after a notify, but another thread may hold the mutex in between: wait in a

@@ -24,9 +24,11 @@
  *     use, and is touched by these calls alone.
  *   - A seat is in one call at a time. It goes from one thread to another by a lock, a thread's start or join, or the like.
  *   - All calls of a mutex come from one process: none from a forked child, and none from a signal handler.
- *   - A mutex or condition variable is closed after all other calls of it have returned.
+ *   - While a mutex or condition variable is opened or closed, no other call of it is made: each has returned before, or begins after.
+ *   - A call that has begun is left to return: no signal handler jumps out of it, and its thread is not cancelled asynchronously. No call
+ *     is a cancellation point.
  *
- * It needs Linux, and gcc or clang with C11 or C++11. Link liblfm_c.a and then liblibc_c.a. */
+ * It needs Linux with addresses of 64 bits, and gcc or clang with C11 or C++11. Link liblfm_c.a and then liblibc_c.a. */
 #ifndef LIGDROSA_H
 #define LIGDROSA_H
 

@@ -180,9 +180,9 @@ static inline void lfm_giving_up(lfm_seat *seat) {
  * made the call rings that seat's bell as soon as it has the answer, before its own thread sleeps.
  *
  * No ring is missed. A seat's thread reads how often the bell has rung, makes a receive, and looks or sleeps only while the bell has
- * rung no more than that. A grant is stored before its ring. So either the ring comes before the reading, and the receive finds the
- * grant; or it comes after it, and a look or the system's own comparison finds another number of rings; or it comes when the thread is
- * asleep, and then it finds `sleeps` set and wakes it.
+ * rung no more than that. A grant is stored before its ring. So if the ring comes before the reading, the receive finds the grant. Else
+ * a look finds another number of rings. The last look comes after `sleeps` is set, so a ring that it doesn't find will find `sleeps` set, and
+ * wakes the thread. If the thread is not asleep by then, the system compares the number of rings and doesn't put it to sleep.
  *
  * Who rings has a seat that is in a call, and a mutex is closed only after all seats are back, so the bell is still there. */
 
@@ -248,7 +248,7 @@ static inline lfm_status lfm_receive(lfm_seat *seat, uint64_t nanoseconds) {
     if (lfm_hears(bell, seen, nanoseconds)) continue;
     nanoseconds = 0;
     __atomic_store_n(&bell->sleeps, 1, __ATOMIC_SEQ_CST);
-    lfm_futex(&bell->rings, FUTEX_WAIT, seen);
+    if (__atomic_load_n(&bell->rings, __ATOMIC_SEQ_CST) == seen) lfm_futex(&bell->rings, FUTEX_WAIT, seen);
     __atomic_store_n(&bell->sleeps, 0, __ATOMIC_SEQ_CST);
   }
 }

@@ -2,7 +2,7 @@
 //!
 //! A call grants the mutex to one seat at most, and its answer names that seat, so its caller rings that bell. A seat's thread
 //! reads how often its bell has rung, makes a receive, and looks or sleeps only while the bell has rung no more than that. A grant
-//! is stored before its ring, so a ring is never missed.
+//! is stored before its ring, and the last look comes after the thread has said that it sleeps, so a ring is never missed.
 use std::{
     ffi::{c_int, c_long},
     hint::spin_loop,
@@ -72,7 +72,9 @@ impl Bell {
     pub fn sleep(&self, seen: u32) {
         let forever: *const u8 = std::ptr::null();
         self.sleeps.store(1, SeqCst);
-        unsafe { syscall(FUTEX, self.rings.as_ptr(), WAIT_PRIVATE, seen, forever) };
+        if self.rings() == seen {
+            unsafe { syscall(FUTEX, self.rings.as_ptr(), WAIT_PRIVATE, seen, forever) };
+        }
         self.sleeps.store(0, SeqCst);
     }
 }

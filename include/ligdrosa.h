@@ -187,9 +187,12 @@ static inline void lfm_giving_up(lfm_seat *seat) {
  * Who rings has a seat that is in a call, and a mutex is closed only after all seats are back, so the bell is still there. */
 
 #ifndef __cplusplus
-/* strict C11 leaves these undeclared */
+/* strict C11 leaves these undeclared, and else they are declared a second time */
+#pragma GCC diagnostic push
+#pragma GCC diagnostic ignored "-Wredundant-decls"
 long syscall(long number, ...);
 int clock_gettime(int clock, struct timespec *now);
+#pragma GCC diagnostic pop
 #endif
 
 static inline void lfm_futex(uint32_t *word, int operation, uint32_t value) {

@@ -65,7 +65,8 @@ public:
   lfm_mutex *native_handle() noexcept { return &raw; }
 };
 
-// A seat of a mutex, for one thread at a time.
+// A seat of a mutex, for one thread at a time. It ends when it doesn't hold: one that holds is not given back, and nobody else gains the
+// mutex any more.
 class seat {
   lfm_seat raw{};
 

@@ -2,10 +2,11 @@
 //! to one call at a time. A static library may neither sleep nor wake, so no call here does: include/ligdrosa.h sleeps where a
 //! call answers that the seat does, and wakes the seat that a call names.
 //!
-//! An export tells what the call of the mutex answered by a status in the low 8 bits. Its clause says what the status means: the
-//! mutex's own clause of that call. An `ask`, `unlock`, `start_wait` or `send` may grant the mutex to another seat, one at most. The
-//! number of that seat stands above the status, and 0 where there is none, and the clause says that it is the seat of the wake-up which
-//! the call leaves. So on this side no wake-up is lost: the caller has to wake the seat that an answer names.
+//! An export tells what the call of the mutex answered by a status in the low 8 bits. Its clause says what the status means: it is
+//! the mutex's own clause of that call's answers and refusals; those of its steps are not passed on. An `ask`, `unlock`,
+//! `start_wait` or `send` may grant the mutex to another seat, one at most. The number of that seat stands above the status, and 0
+//! where there is none, and the clause says that it is the seat of the wake-up which the call leaves. So on this side no wake-up is
+//! lost: the caller has to wake the seat that an answer names.
 #![tactic(auto)]
 
 ghost use Rattle.std.specs.Borrow.{full_share, sem};

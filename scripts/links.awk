@@ -21,7 +21,8 @@ function plain(text,    count, parts, i, kept) {
 }
 
 FNR == 1 { in_code = 0 }
-FNR == 1 || /^ *$/ { in_span = 0 }
+# no code goes on from one row of a table, heading or item of a list into the next
+FNR == 1 || /^ *($|\||#|[-*+] |[0-9]+\. )/ { in_span = 0 }
 
 /^ *(```|~~~)/ { in_code = !in_code; next }
 in_code { next }

@@ -18,7 +18,7 @@ fail() {
 # make_work_folder   makes the folder `work`, which is removed when the script ends; where no folder can be made, that is the
 # script's one failure, and its last line is still a count
 make_work_folder() {
-  if ! work=$(mktemp -d); then
+  if ! work=$(realpath -e -- "$(mktemp -d)"); then
     fail 'mktemp makes no folder'
     finish
     exit 1

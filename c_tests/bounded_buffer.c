@@ -5,7 +5,8 @@ enum { PRODUCERS = 2, CONSUMERS = 2, EACH = 10000, PLACES = 4 };
 static lfm_mutex mutex;
 static lfm_condvar not_empty, not_full;
 static lfm_seat seats[PRODUCERS + CONSUMERS];
-static uint64_t buffer[PLACES], first, count, sum, taken;
+static uint64_t buffer[PLACES], first, count, taken;
+static bool is_out[PRODUCERS * EACH];
 
 static void put(lfm_seat *seat, uint64_t number) {
   EXPECT(lfm_lock(seat), LFM_DONE);
@@ -21,7 +22,9 @@ static bool take(lfm_seat *seat) {
   while (count == 0 && taken < (uint64_t)PRODUCERS * EACH) EXPECT(lfm_wait(&not_empty, seat), LFM_DONE);
   bool there = count != 0;
   if (there) {
-    sum += buffer[first];
+    uint64_t number = buffer[first];
+    EXPECT(number < (uint64_t)PRODUCERS * EACH && !is_out[number], true);
+    is_out[number] = true;
     first = (first + 1) % PLACES;
     count--;
     taken++;
@@ -50,9 +53,7 @@ int main(void) {
   EXPECT(lfm_condvar_new(&not_empty, &mutex), LFM_DONE);
   EXPECT(lfm_condvar_new(&not_full, &mutex), LFM_DONE);
   in_threads(PRODUCERS + CONSUMERS, work);
-  uint64_t all = (uint64_t)PRODUCERS * EACH;
-  EXPECT(taken, all);
-  EXPECT(sum, all * (all - 1) / 2);
+  EXPECT(taken, (uint64_t)PRODUCERS * EACH);
   EXPECT(lfm_condvar_close(&not_full), LFM_DONE);
   EXPECT(lfm_condvar_close(&not_empty), LFM_DONE);
   EXPECT(lfm_mutex_close(&mutex), LFM_DONE);

@@ -208,6 +208,27 @@ static void condition_variables(void) {
   both_back();
 }
 
+/* What keeps a seat from a wait is told, and then nothing is listed and the seat holds on. */
+static void waits_that_a_seat_refuses(void) {
+  static lfm_condvar condvar;
+  two_seats_of(1);
+  EXPECT(lfm_condvar_new(&condvar, &mutex), LFM_DONE);
+  EXPECT(lfm_lock(&first), LFM_DONE);
+  EXPECT(lfm_c_ask(second.handle), LFM_ASLEEP);
+  EXPECT(lfm_wait(&condvar, &second), LFM_SEAT_ASLEEP);
+  EXPECT(lfm_wait(&condvar, &first), LFM_SPENT);
+  EXPECT(lfm_depth(&first), 1);
+  EXPECT(lfm_wake_all(&condvar, &first), LFM_NOBODY);
+  EXPECT(lfm_unlock(&first), LFM_GRANTED);
+  EXPECT(lfm_c_receive(second.handle), LFM_DONE);
+  EXPECT(lfm_unlock(&second), LFM_DONE);
+  condvar.count = 1; /* as while a seat waits */
+  EXPECT(lfm_condvar_close(&condvar), LFM_WAITED_FOR);
+  condvar.count = 0;
+  EXPECT(lfm_condvar_close(&condvar), LFM_DONE);
+  both_back();
+}
+
 /* A condition variable knows no seats beyond those that its mutex had when it was opened. */
 static void a_mutex_that_is_opened_anew(void) {
   static lfm_condvar condvar;
@@ -253,6 +274,7 @@ int main(void) {
   calls_of_a_sleeping_seat();
   sends();
   condition_variables();
+  waits_that_a_seat_refuses();
   a_mutex_that_is_opened_anew();
   memory_of_calloc();
   return 0;

@@ -73,6 +73,7 @@ static void *watch(void *at) {
 int main(int argc, char **argv) {
   unsigned seconds = argc > 1 ? (unsigned)atoi(argv[1]) : 3;
   unsigned threads = argc > 2 ? (unsigned)atoi(argv[2]) : 4;
+  EXPECT(threads <= MOST, true);
   EXPECT(lfm_mutex_new(&mutex, threads, (uint64_t)1 << 36), LFM_DONE);
   for (unsigned i = 0; i < threads; i++) EXPECT(lfm_seat_take(&mutex, &seats[i]), LFM_DONE);
   pthread_t watcher;

@@ -1,4 +1,4 @@
-//! Threads count together, and pass numbers through a buffer.
+//! Threads count together, and pass numbers through a buffer, each once. What is refused, and what a guard and a panic do.
 use ligdrosa::{mutex, Condvar, Refusal, Seat};
 use std::{
     collections::VecDeque,
@@ -68,6 +68,10 @@ fn a_forgotten_guard_holds_on() {
     let mut first = seats.pop().unwrap();
     mem::forget(first.lock().unwrap());
     assert_eq!(first.lock().unwrap().depth(), 2);
+    for _ in 1..65_535 {
+        mem::forget(first.lock().unwrap());
+    }
+    assert_eq!(first.lock().err(), Some(Refusal::DepthFull));
     drop(first);
     assert_eq!(second.try_lock().err(), Some(Refusal::Busy));
 }
@@ -77,9 +81,12 @@ fn refusals() {
     assert_eq!(mutex(0, 1, ()).err(), Some(Refusal::Limit));
     assert_eq!(mutex(4096, 1, ()).err(), Some(Refusal::Limit));
     assert_eq!(mutex(1, 0, ()).err(), Some(Refusal::Limit));
+    assert_eq!(mutex(1, (1 << 36) + 1, ()).err(), Some(Refusal::Limit));
     let mut seats = mutex(1, 1, ()).unwrap();
     drop(seats[0].lock().unwrap());
     assert_eq!(seats[0].lock().err(), Some(Refusal::Spent));
+    assert_eq!(seats[0].try_lock().err(), Some(Refusal::Spent));
+    assert_eq!(Condvar::new(&seats[0], 0).err(), Some(Refusal::Limit));
     let condvar = Condvar::new(&seats[0], 1).unwrap();
     assert_eq!(condvar.wake_one(&mut seats[0]), Ok(0));
     let mut others = mutex(1, 5, ()).unwrap();
@@ -94,6 +101,16 @@ fn refusals() {
         condvar.wait(&mut guard.again().unwrap()),
         Err(Refusal::Nested)
     );
+}
+
+#[test]
+fn refusals_of_waits_and_wakes() {
+    let mut seats = mutex(2, 1, ()).unwrap();
+    let of_the_first = Condvar::new(&seats[0], 1).unwrap();
+    assert_eq!(of_the_first.wake_one(&mut seats[1]), Err(Refusal::Foreign));
+    let mut guard = seats[0].lock().unwrap();
+    assert_eq!(of_the_first.wait(&mut guard), Err(Refusal::Spent));
+    assert_eq!(guard.depth(), 1);
 }
 
 struct Buffer {
@@ -114,16 +131,16 @@ fn numbers_pass_a_bounded_buffer() {
     let consume = |mut seat: Seat<Buffer>| {
         let (not_empty, not_full) = (not_empty.clone(), not_full.clone());
         thread::spawn(move || {
-            let mut sum = 0;
+            let mut numbers = Vec::new();
             loop {
                 let mut guard = seat.lock().unwrap();
                 while guard.numbers.is_empty() && guard.left != 0 {
                     not_empty.wait(&mut guard).unwrap();
                 }
                 let Some(number) = guard.numbers.pop_front() else {
-                    return sum;
+                    return numbers;
                 };
-                sum += number;
+                numbers.push(number);
                 guard.left -= 1;
                 if guard.left == 0 {
                     not_empty.wake_all(&mut guard).unwrap();
@@ -142,6 +159,10 @@ fn numbers_pass_a_bounded_buffer() {
         guard.numbers.push_back(number);
         not_empty.wake_one(&mut guard).unwrap();
     }
-    let sum: u64 = consumers.into_iter().map(|c| c.join().unwrap()).sum();
-    assert_eq!(sum, ALL * (ALL + 1) / 2);
+    let mut numbers: Vec<u64> = consumers
+        .into_iter()
+        .flat_map(|c| c.join().unwrap())
+        .collect();
+    numbers.sort_unstable();
+    assert!(numbers.into_iter().eq(1..=ALL));
 }

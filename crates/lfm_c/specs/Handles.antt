@@ -1,6 +1,9 @@
 -- What each export does to the handles that it is given, and what its answer tells. A handle is x before and y after.
-use Rattle.std.specs.Prelude.{◌≡◌, ◌⊎◌, ⊤, ℕ, ◌-◌, ◌<◌, ◌≤◌, List, [], ◌∷◌, ◌++◌, true, false, Option, Some, None, Result, vec_len}
+use lib.ListN.{get_elem?}
+use mathlib.Core.Option.{some}
+use Rattle.std.specs.Prelude.{◌≡◌, ◌⊎◌, ⊤, ℕ, ◌+◌, ◌-◌, ◌<◌, ◌≤◌, All, List, [], ◌∷◌, ◌++◌, map, reverse, true, false, Option, Some, None, Result, vec_len}
 use Rattle.std.specs.Arc.{arc_value}
+use Rattle.lfm_model.specs.SeatNumbers.{IsSeatNo}
 use Rattle.lfm_model.specs.declared.answers.Asked.{Asked}
 use Rattle.lfm_model.specs.declared.answers.How.{How}
 use Rattle.lfm_model.specs.declared.answers.Locked.{Locked}
@@ -8,19 +11,25 @@ use Rattle.lfm_model.specs.declared.answers.Unlocked.{Unlocked}
 use Rattle.lfm_model.specs.declared.refusals.Missing.{Missing}
 use Rattle.lfm_model.specs.declared.refusals.NewFault.{NewFault}
 use Rattle.lfm_model.specs.declared.refusals.Refusal.{Refusal}
+use Rattle.lfm_protocol.specs.declared.answers.Answer.{Answer}
+use Rattle.lfm_protocol.specs.declared.answers.Call.{Call}
 use Rattle.lfm_protocol.specs.declared.limits.Limits.{Limits}
 use Rattle.lfm_protocol.specs.Limits.{are_in_limits}
-use Rattle.lfm_mutex.specs.Belongs.{Beside, limits_of}
+use Rattle.lfm_mutex.specs.declared.mutex.Mutex.{Mutex}
+use Rattle.lfm_mutex.specs.declared.seat.Seat.{Seat}
+use Rattle.lfm_mutex.specs.Belongs.{Beside, OfMutex, limits_of}
 use Rattle.lfm_mutex.specs.Close.{AllStand, FirstMissing}
+use Rattle.lfm_mutex.specs.calls.FailedPushes.{MakesBesideFailures}
 use Rattle.lfm_mutex.specs.calls.Sight as Sight
-use Rattle.lfm_mutex.specs.calls.Sight.{Sight, sight}
+use Rattle.lfm_mutex.specs.calls.Sight.{Sight, new_sight, sight}
+use Rattle.lfm_mutex.specs.calls.Trails.{MakesAtMost, MakesCall}
 use Rattle.lfm_mutex.specs.calls.WakeUps.{Wakes}
 use Rattle.lfm_c.specs.declared.handles.MutexHandle.{MutexHandle}
 use Rattle.lfm_c.specs.declared.handles.SeatHandle.{SeatHandle}
 use Rattle.lfm_c.specs.declared.handles.Seated.{Seated}
 use Rattle.lfm_c.specs.declared.handles.Whole.{Whole}
 use Rattle.lfm_c.specs.declared.status.Status.{Status}
-use Rattle.lfm_c.specs.Status.{asked, code, code_of_refusal, faulted, hindered, locked, received, sent, told, unlocked}
+use Rattle.lfm_c.specs.Status.{asked, code, code_of_refusal, faulted, hindered, locked, received, refused_target, sent, told, unlocked}
 
 -- the number that a mutex of this library guards may change in any way
 abbrev pub Follows : ℕ → ℕ → ℕ → Type 0
@@ -41,26 +50,33 @@ abbrev pub WakesOf : (Limits → Sight ℕ → Sight ℕ → Status → Type 0) 
 WakesOf P l s t n = (status : Status) × (w : Option ℕ) × P l s t status × Wakes l.seats w s.trail t.trail × (n ≡ told status w)
 
 abbrev pub TellsAsk : SeatHandle → SeatHandle → ℕ → Type 0
-TellsAsk x y n = OfSeated (WakesOf (λ l s t status. (r : Result Asked Refusal) × Sight.Asks Follows Fits l.budget s t r × (status ≡ asked r))) x.seated y.seated n
+TellsAsk x y n =
+    OfSeated (WakesOf (λ l s t status. (r : Result Asked Refusal) × Sight.Asks Follows Fits l.budget s t r × MakesCall l (λ a. Answer.Asked a) Call.Lock s t r × MakesBesideFailures (l.seats + 9) s t × (status ≡ asked r))) x.seated y.seated n
 
 abbrev pub TellsReceive : SeatHandle → SeatHandle → ℕ → Type 0
-TellsReceive x y n = OfSeated (λ l s t k. (r : Result (Option How) Refusal) × Sight.Receives Follows Fits s t r × (k ≡ code (received r))) x.seated y.seated n
+TellsReceive x y n =
+    OfSeated (λ l s t k. (r : Result (Option How) Refusal) × Sight.Receives Follows Fits s t r × MakesCall l (λ a. Answer.Got a) Call.Receive s t r × MakesAtMost 3 s t × (k ≡ code (received r))) x.seated y.seated n
 
 abbrev pub TellsTry : SeatHandle → SeatHandle → ℕ → Type 0
-TellsTry x y n = OfSeated (λ l s t k. (r : Result Locked Refusal) × Sight.Locks Follows Fits l.budget s t r × (k ≡ code (locked r))) x.seated y.seated n
+TellsTry x y n =
+    OfSeated (λ l s t k. (r : Result Locked Refusal) × Sight.Locks Follows Fits l.budget s t r × MakesCall l (λ a. Answer.Locked a) Call.TryLock s t r × MakesAtMost 6 s t × (k ≡ code (locked r))) x.seated y.seated n
 
 abbrev pub TellsUnlock : SeatHandle → SeatHandle → ℕ → Type 0
-TellsUnlock x y n = OfSeated (WakesOf (λ l s t status. (r : Result Unlocked Refusal) × Sight.Unlocks s t r × (status ≡ unlocked r))) x.seated y.seated n
+TellsUnlock x y n =
+    OfSeated (WakesOf (λ l s t status. (r : Result Unlocked Refusal) × Sight.Unlocks s t r × MakesCall l (λ a. Answer.Unlocked a) Call.Unlock s t r × MakesAtMost (l.seats + 7) s t × (status ≡ unlocked r))) x.seated y.seated n
 
 abbrev pub TellsWait : SeatHandle → SeatHandle → ℕ → Type 0
-TellsWait x y n = OfSeated (WakesOf (λ l s t status. (r : Result Unlocked Refusal) × Sight.StartsWait l.budget s t r × (status ≡ unlocked r))) x.seated y.seated n
+TellsWait x y n =
+    OfSeated (WakesOf (λ l s t status. (r : Result Unlocked Refusal) × Sight.StartsWait l.budget s t r × MakesCall l (λ a. Answer.Waiting a) Call.StartWait s t r × MakesAtMost (l.seats + 8) s t × (status ≡ unlocked r))) x.seated y.seated n
 
 abbrev pub SendsTo : ℕ → Limits → Sight ℕ → Sight ℕ → Status → Type 0
-SendsTo target l s t status = (r : Result ⊤ Refusal) × Sight.Sends l.seats s target t r × (status ≡ sent r)
+SendsTo target l s t status =
+    (r : Result ⊤ Refusal) × Sight.Sends l.seats s target t r × MakesCall l (λ a. Answer.Sent) (Call.SendLock target) s t r × MakesBesideFailures (l.seats + 9) s t × (status ≡ sent r)
 
--- no seat has the number 0 or one above the greatest seat number
+-- a number that no seat can have is refused before the mutex is called
 abbrev pub TellsSend : SeatHandle → ℕ → SeatHandle → ℕ → Type 0
-TellsSend x target y n = OfSeated (λ l s t k. WakesOf (SendsTo target) l s t k ⊎ ((t ≡ s) × (k ≡ code_of_refusal Refusal.NoSuchSeat))) x.seated y.seated n
+TellsSend x target y n =
+    OfSeated (λ l s t k. WakesOf (SendsTo target) l s t k ⊎ ((IsSeatNo target → ⊥) × (t ≡ s) × (k ≡ code_of_refusal (refused_target s.asleep)))) x.seated y.seated n
 
 -- a reader of a seat, which leaves the handle as it is, and answers 0 of a blank one
 abbrev pub ReadsSeated : (Seated → ℕ) → Option Seated → ℕ → Type 0
@@ -76,9 +92,15 @@ TellsDepth x y n = (y ≡ x) × ReadsSeated (λ a. (sight a.seat).depth) x.seate
 abbrev pub TellsLeft : SeatHandle → SeatHandle → ℕ → Type 0
 TellsLeft x y n = (y ≡ x) × ReadsSeated (λ a. (limits_of (arc_value a.mutex)).budget - (sight a.seat).takes) x.seated n
 
--- a mutex with all its seats
+-- the seats of a new mutex, in order from seat 1 on
+abbrev pub AreNew : ℕ → Mutex ℕ → List (Seat ℕ) → Type 0
+AreNew seats m all = (j : ℕ) (s : Seat ℕ) → get_elem? all j ≡ some s → OfMutex s m × (sight s ≡ new_sight 0 seats (j + 1))
+
+-- a new mutex with all its seats, each of which has this very mutex; the first is taken next, and so stands last
 abbrev pub Opened : ℕ → ℕ → Whole → Type 0
-Opened seats budget w = (limits_of (arc_value w.mutex) ≡ record { seats = seats; budget = budget }) × (w.count ≡ seats) × (vec_len w.seats ≡ seats)
+Opened seats budget w =
+    (limits_of (arc_value w.mutex) ≡ record { seats = seats; budget = budget }) × (w.count ≡ seats) × (vec_len w.seats ≡ seats)
+    × All (λ a. arc_value a.mutex ≡ arc_value w.mutex) w.seats.items × AreNew seats (arc_value w.mutex) (reverse (map (λ a. a.seat) w.seats.items))
 
 -- why no mutex is opened
 abbrev pub Faults : ℕ → ℕ → NewFault → Type 0
@@ -118,13 +140,13 @@ TellsTake m s m' s' n = TakesInto m.whole s.seated m'.whole s'.seated n
 abbrev pub StaysOut : Whole → Seated → ℕ → Type 0
 StaysOut w a n =
     ((n ≡ code Status.Foreign) × (w.count ≤ vec_len w.seats))
-    ⊎ (((n ≡ code Status.Holding) × (0 < (sight a.seat).depth))
-    ⊎ ((n ≡ code_of_refusal Refusal.Asleep) × ((sight a.seat).depth ≡ 0) × ((sight a.seat).asleep ≡ true)))
+    ⊎ (((n ≡ code Status.Holding) × (vec_len w.seats < w.count) × (0 < (sight a.seat).depth))
+    ⊎ ((n ≡ code_of_refusal Refusal.Asleep) × (vec_len w.seats < w.count) × ((sight a.seat).depth ≡ 0) × ((sight a.seat).asleep ≡ true)))
 
 abbrev pub GivesOf : Whole → Seated → Option Whole → Option Seated → ℕ → Type 0
 GivesOf w a None t n = ⊥
 GivesOf w a (Some v) (Some b) n = (v ≡ w) × (b ≡ a) × StaysOut w a n
-GivesOf w a (Some v) None n = Leaving (w.seats.items ++ a ∷ []) w v × ((sight a.seat).asleep ≡ false) × ((sight a.seat).depth ≡ 0) × (n ≡ code Status.Done)
+GivesOf w a (Some v) None n = Leaving (w.seats.items ++ a ∷ []) w v × (vec_len w.seats < w.count) × ((sight a.seat).asleep ≡ false) × ((sight a.seat).depth ≡ 0) × (n ≡ code Status.Done)
 
 abbrev pub GivesBack : Option Whole → Option Seated → Option Whole → Option Seated → ℕ → Type 0
 GivesBack None s v t n = (v ≡ None) × (t ≡ s) × (n ≡ code Status.Blank)

@@ -1,5 +1,5 @@
 -- The numbers by which exports tell C what a call answered.
-use Rattle.std.specs.Prelude.{ℕ, ◌+◌, ◌*◌, Result, Ok, Err, Option, Some, None, ⊤}
+use Rattle.std.specs.Prelude.{ℕ, ◌+◌, ◌*◌, Bool, true, false, Result, Ok, Err, Option, Some, None, ⊤}
 use Rattle.lfm_model.specs.declared.answers.Asked.{Asked}
 use Rattle.lfm_model.specs.declared.answers.How.{How}
 use Rattle.lfm_model.specs.declared.answers.Locked.{Locked}
@@ -78,6 +78,11 @@ unlocked (Err r) = Status.Refused r
 abbrev pub sent : Result ⊤ Refusal → Status
 sent (Ok u) = Status.Done
 sent (Err r) = Status.Refused r
+
+-- why a send to a number that no seat can have is refused, by whether the sender sleeps
+abbrev pub refused_target : Bool → Refusal
+refused_target true = Asleep
+refused_target false = NoSuchSeat
 
 -- what keeps a mutex from being ended, and above the low 8 bits the seat that does
 abbrev pub hindered : Missing → ℕ

@@ -1,17 +1,21 @@
 //! The calls of a seat. Each is the mutex's own, made without waking. Its answer is told as a number, with the seat that it leaves to
 //! be woken.
-ghost use Rattle.std.specs.Prelude.{◌≡◌, Option};
+ghost use Rattle.std.specs.Prelude.{◌≡◌, ◌+◌, Option};
 ghost use Rattle.std.specs.Arc.{arc_value};
+ghost use Rattle.lfm_protocol.specs.declared.answers.Answer.TheVariants as Answered;
+ghost use Rattle.lfm_protocol.specs.declared.answers.Call.{Call};
 ghost use Rattle.lfm_mutex.specs.Belongs.{Beside, limits_of};
+ghost use Rattle.lfm_mutex.specs.calls.FailedPushes.{MakesBesideFailures};
 ghost use Rattle.lfm_mutex.specs.calls.Sight.{sight, Asks, Locks, Receives, Sends, StartsWait, Unlocks};
+ghost use Rattle.lfm_mutex.specs.calls.Trails.{MakesAtMost, MakesCall};
 ghost use Rattle.lfm_mutex.specs.calls.WakeUps.{Wakes};
 ghost use Rattle.lfm_c.specs.Handles.{Follows, Fits, TellsAsk, TellsReceive, TellsTry, TellsUnlock, TellsWait, TellsSend};
-ghost use Rattle.lfm_c.specs.Status.{asked as asked_of, received as received_of, locked as locked_of, released as released_of, unlocked as unlocked_of, sent as sent_of, told as told_of};
+ghost use Rattle.lfm_c.specs.Status.{asked as asked_of, received as received_of, locked as locked_of, released as released_of, unlocked as unlocked_of, sent as sent_of, told as told_of, refused_target};
 
 use crate::handles::{SeatHandle, Seated};
 use crate::status::Status;
 use lfm_model::{Asked, How, Locked, Refusal, SeatNo, Unlocked};
-use lfm_mutex::WakeUp;
+use lfm_mutex::{Seat, WakeUp};
 
 // The status, and above it the seat of the wake-up, which is the caller's to make from here on.
 fn told(status: Status, wake_up: Option<WakeUp>) -> u64
@@ -84,10 +88,22 @@ fn sent(answer: Result<(), Refusal>) -> Status
     }
 }
 
+// Why a send of this seat to a number that no seat can have is refused.
+fn without_target(seat: &Seat<u64>) -> Status
+    ensures { result ≡ Status.Refused (refused_target (sight seat.now).asleep) }
+{
+    if seat.asleep() {
+        return Status::Refused(Refusal::Asleep);
+    }
+    Status::Refused(Refusal::NoSuchSeat)
+}
+
 impl Seated {
     fn ask(&mut self) -> (Result<Asked, Refusal>, Option<WakeUp>)
         ensures same { (self.new.mutex ≡ self.old.mutex) × Beside self.old.seat self.new.seat }
         ensures asks { Asks Follows Fits (limits_of (arc_value self.old.mutex)).budget (sight self.old.seat) (sight self.new.seat) result.0 }
+        ensures steps { MakesCall (limits_of (arc_value self.old.mutex)) (λ a. Answered.Asked a) Call.Lock (sight self.old.seat) (sight self.new.seat) result.0 }
+        ensures bounded { MakesBesideFailures ((limits_of (arc_value self.old.mutex)).seats + 9) (sight self.old.seat) (sight self.new.seat) }
         ensures wakes { Wakes (limits_of (arc_value self.old.mutex)).seats result.1 (sight self.old.seat).trail (sight self.new.seat).trail }
     {
         self.mutex.ask_without_waking(&mut self.seat)
@@ -96,6 +112,8 @@ impl Seated {
     fn receive(&mut self) -> Result<Option<How>, Refusal>
         ensures same { (self.new.mutex ≡ self.old.mutex) × Beside self.old.seat self.new.seat }
         ensures receives { Receives Follows Fits (sight self.old.seat) (sight self.new.seat) result }
+        ensures steps { MakesCall (limits_of (arc_value self.old.mutex)) (λ a. Answered.Got a) Call.Receive (sight self.old.seat) (sight self.new.seat) result }
+        ensures bounded { MakesAtMost 3 (sight self.old.seat) (sight self.new.seat) }
     {
         self.mutex.try_receive(&mut self.seat)
     }
@@ -103,6 +121,8 @@ impl Seated {
     fn try_lock(&mut self) -> Result<Locked, Refusal>
         ensures same { (self.new.mutex ≡ self.old.mutex) × Beside self.old.seat self.new.seat }
         ensures locks { Locks Follows Fits (limits_of (arc_value self.old.mutex)).budget (sight self.old.seat) (sight self.new.seat) result }
+        ensures steps { MakesCall (limits_of (arc_value self.old.mutex)) (λ a. Answered.Locked a) Call.TryLock (sight self.old.seat) (sight self.new.seat) result }
+        ensures bounded { MakesAtMost 6 (sight self.old.seat) (sight self.new.seat) }
     {
         self.mutex.try_lock(&mut self.seat)
     }
@@ -110,6 +130,8 @@ impl Seated {
     fn unlock(&mut self) -> (Result<Unlocked, Refusal>, Option<WakeUp>)
         ensures same { (self.new.mutex ≡ self.old.mutex) × Beside self.old.seat self.new.seat }
         ensures unlocks { Unlocks (sight self.old.seat) (sight self.new.seat) result.0 }
+        ensures steps { MakesCall (limits_of (arc_value self.old.mutex)) (λ a. Answered.Unlocked a) Call.Unlock (sight self.old.seat) (sight self.new.seat) result.0 }
+        ensures bounded { MakesAtMost ((limits_of (arc_value self.old.mutex)).seats + 7) (sight self.old.seat) (sight self.new.seat) }
         ensures wakes { Wakes (limits_of (arc_value self.old.mutex)).seats result.1 (sight self.old.seat).trail (sight self.new.seat).trail }
     {
         self.mutex.unlock_without_waking(&mut self.seat)
@@ -118,6 +140,8 @@ impl Seated {
     fn start_wait(&mut self) -> (Result<Unlocked, Refusal>, Option<WakeUp>)
         ensures same { (self.new.mutex ≡ self.old.mutex) × Beside self.old.seat self.new.seat }
         ensures waits { StartsWait (limits_of (arc_value self.old.mutex)).budget (sight self.old.seat) (sight self.new.seat) result.0 }
+        ensures steps { MakesCall (limits_of (arc_value self.old.mutex)) (λ a. Answered.Waiting a) Call.StartWait (sight self.old.seat) (sight self.new.seat) result.0 }
+        ensures bounded { MakesAtMost ((limits_of (arc_value self.old.mutex)).seats + 8) (sight self.old.seat) (sight self.new.seat) }
         ensures wakes { Wakes (limits_of (arc_value self.old.mutex)).seats result.1 (sight self.old.seat).trail (sight self.new.seat).trail }
     {
         self.mutex.start_wait_without_waking(&mut self.seat)
@@ -126,6 +150,8 @@ impl Seated {
     fn send(&mut self, target: SeatNo) -> (Result<(), Refusal>, Option<WakeUp>)
         ensures same { (self.new.mutex ≡ self.old.mutex) × Beside self.old.seat self.new.seat }
         ensures sends { Sends (limits_of (arc_value self.old.mutex)).seats (sight self.old.seat) target (sight self.new.seat) result.0 }
+        ensures steps { MakesCall (limits_of (arc_value self.old.mutex)) (λ a. Answered.Sent) (Call.SendLock target) (sight self.old.seat) (sight self.new.seat) result.0 }
+        ensures bounded { MakesBesideFailures ((limits_of (arc_value self.old.mutex)).seats + 9) (sight self.old.seat) (sight self.new.seat) }
         ensures wakes { Wakes (limits_of (arc_value self.old.mutex)).seats result.1 (sight self.old.seat).trail (sight self.new.seat).trail }
     {
         self.mutex.send_lock_without_waking(&mut self.seat, target)
@@ -193,7 +219,7 @@ pub fn send(handle: &mut SeatHandle, number: u64) -> u64
         return Status::Blank.code();
     };
     let Some(target) = SeatNo::new(number) else {
-        return Status::Refused(Refusal::NoSuchSeat).code();
+        return without_target(&seated.seat).code();
     };
     let (answer, wake_up) = seated.send(target);
     told(sent(answer), wake_up)

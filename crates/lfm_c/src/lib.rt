@@ -2,11 +2,11 @@
 //! to one call at a time. A static library may neither sleep nor wake, so no call here does: include/ligdrosa.h sleeps where a
 //! call answers that the seat does, and wakes the seat that a call names.
 //!
-//! An export tells what the call of the mutex answered by a status in the low 8 bits. Its clause says what the status means: it is
-//! the mutex's own clause of that call's answers and refusals; those of its steps are not passed on. An `ask`, `unlock`,
-//! `start_wait` or `send` may grant the mutex to another seat, one at most. The number of that seat stands above the status, and 0
-//! where there is none, and the clause says that it is the seat of the wake-up which the call leaves. So on this side no wake-up is
-//! lost: the caller has to wake the seat that an answer names.
+//! An export tells what the call of the mutex answered by a status in the low 8 bits. Its clause says what the status means: the
+//! mutex's own clauses of that call's answers, steps and bound hold of it. An `ask`, `unlock`, `start_wait` or `send` may grant the
+//! mutex to another seat, one at most. The number of that seat stands above the status, and 0 where there is none, and the clause
+//! says that it is the seat of the wake-up which the call leaves. So on this side no wake-up is lost: the caller has to wake the seat
+//! that an answer names.
 #![tactic(auto)]
 
 ghost use Rattle.std.specs.Borrow.{full_share, sem};
@@ -207,7 +207,7 @@ pub unsafe extern "C" fn lfm_c_start_wait(seat: *mut u8) -> u64
 }
 
 /// `send_lock` of the seat to the seat with this number: Done, or Blank, or why it is refused. Above it is the number of the seat to be
-/// woken, or 0: the seat that was sent, where it was granted the mutex at once.
+/// woken, or 0: the seat that was sent, where it was granted the mutex at once, or a third one, to which a posted hand-off was passed.
 #[unsafe(no_mangle)]
 pub unsafe extern "C" fn lfm_c_send(seat: *mut u8, number: u64) -> u64
     ghost x: { SeatNow }

@@ -1,5 +1,5 @@
 //! How a mutex is opened, and its seats are taken and given back.
-ghost use Rattle.std.specs.Prelude.{◌≡◌, ◌≤◌, ◌<◌, All, ◌++◌, ◌∷◌, [], IfOk, IfErr, MatchBool, MatchOption, Some, false, true, vec_len};
+ghost use Rattle.std.specs.Prelude.{◌≡◌, ◌≤◌, ◌<◌, All, ◌++◌, ◌∷◌, [], map, reverse, IfOk, IfErr, MatchBool, MatchOption, Some, false, true, vec_len};
 ghost use Rattle.std.specs.Arc.{arc_value};
 ghost use Rattle.std.specs.Vec.{vec_capacity};
 ghost use Rattle.lfm_mutex.specs.Belongs.{OfMutex};
@@ -24,6 +24,8 @@ fn seated(
     requires belong { All (λ s. OfMutex s (arc_value mutex.now)) seats.items }
     ensures all { IfOk result (λ v. vec_len v ≡ vec_len seats) }
     ensures room { IfOk result (λ v. vec_len seats ≤ vec_capacity v) }
+    ensures mutex { IfOk result (λ v. All (λ a. arc_value a.mutex ≡ arc_value mutex.now) v.items) }
+    ensures order { IfOk result (λ v. reverse (map (λ a. a.seat) v.items) ≡ seats.items) }
 {
     let mut seats = seats;
     let count = seats.len();

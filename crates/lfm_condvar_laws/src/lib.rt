@@ -7,7 +7,8 @@
 //! holds. A wake takes the lock, makes the steps of `send_lock` for the oldest waiter, takes it off the list, goes on to
 //! the next one if it wakes all, and gives the lock back. The lock is one atomic lock here. All other calls of the mutex
 //! may come between any two steps; but a `start_wait` comes from a `wait` alone and a `send_lock` from a wake alone, which
-//! is the premise. The definitions are those of `specs/Condvars.antt`, `specs/Events.antt` and `specs/Claims.antt`.
+//! is the premise. The definitions are those of `specs/Condvars.antt`, `specs/Events.antt`, `specs/Claims.antt` and
+//! `specs/Pushes.antt`.
 #![tactic(auto)]
 
 pub mod claims;

@@ -6,7 +6,7 @@ use Rattle.lfm_model.specs.declared.refusals.Refusal.{Refusal}
 use Rattle.lfm_protocol.specs.declared.answers.Answer.{Answer}
 use Rattle.lfm_protocol.specs.declared.answers.Call.{Call}
 use Rattle.lfm_protocol.specs.declared.limits.Limits.{Limits}
-use Rattle.lfm_mutex.specs.calls.Sight.{Sight, StartsWait, WaitRefused, Wakes}
+use Rattle.lfm_mutex.specs.calls.Sight.{Sight, StartsWait, WaitRefused, TakesUp}
 use Rattle.lfm_mutex.specs.calls.Trails.{MakesAtMost, MakesCall, ReceivesBy}
 use Rattle.lfm_condvar.specs.declared.waiters.Waiters.{Waiters}
 use Rattle.lfm_condvar.specs.Holds.{StepsOfOneHold, HeldOnce}
@@ -41,7 +41,7 @@ module _ {T : Type 0} where
 module _ {T : Type 0} (follows : ℕ → T → T → Type 0) (fits : T → ℕ → Type 0) where
   -- the seat, which slept, has come to hold, by receives alone
   abbrev pub ComesBack : Limits → How → Sight T → Sight T → Type 0
-  ComesBack user how s t = Wakes follows fits how s t × ReceivesBy user s t (Ok how)
+  ComesBack user how s t = TakesUp follows fits how s t × ReceivesBy user s t (Ok how)
 
   -- How wait ends: refused as begin_wait is, or made by it, after which the user seat is seen as m, and by receives
   abbrev pub WaitEnds : Limits → Limits → Sight Waiters → Sight Waiters → Sight T → Sight T → Result (How × ℕ) Refusal → Type 0

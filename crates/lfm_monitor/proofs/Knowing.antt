@@ -13,7 +13,7 @@ use Rattle.lfm_model.specs.declared.seat_numbers.SeatNo.{SeatNo}
 use Rattle.lfm_mutex.specs.declared.mutex.Mutex.{Mutex}
 use Rattle.lfm_mutex.specs.declared.seat.Seat.{Seat}
 use Rattle.lfm_mutex.specs.Belongs.{Beside, OfMutex}
-use Rattle.lfm_mutex.specs.calls.Sight.{Sight, sight, Gains, Locks, Wakes, Finds, Suits, MayLeave, Unlocks, IsLeft, LeavesOff, Deepens as MutexDeepens}
+use Rattle.lfm_mutex.specs.calls.Sight.{Sight, sight, Gains, Locks, TakesUp, Finds, Suits, MayLeave, Unlocks, IsLeft, LeavesOff, Deepens as MutexDeepens}
 use Rattle.lfm_monitor.specs.declared.journaled.Journaled.{Journaled}
 use Rattle.lfm_monitor.specs.Journaled.{JournalFits, JournalFollows, SameOpening}
 use Rattle.lfm_monitor.specs.Passes.{Left, InHand, Sleeps, PassKept, Began, Enters, ComesIn, LeaveEnds, journal_of, known_to, found_or, journal_at}
@@ -68,7 +68,7 @@ module _ {O A R : Type 0} {K : _} where
   pub gained : (how : How) (budget : ℕ) (s t : Sight (Journaled O A R K)) → Gains JournalFollows JournalFits budget how s t → Comes how s t
   gained how budget s t g = record { start = g.1; number = g.3; deep = g.4; awake = g.6; sends = g.7; finds = g.8 }
 
-  pub woken : (how : How) (s t : Sight (Journaled O A R K)) (seen mine : ℕ) → PassKept s seen mine → Wakes JournalFollows JournalFits how s t → Comes how s t
+  pub woken : (how : How) (s t : Sight (Journaled O A R K)) (seen mine : ℕ) → PassKept s seen mine → TakesUp JournalFollows JournalFits how s t → Comes how s t
   woken how s t seen mine kept w = record { start = (kept.sleeps w.0).out; number = w.3; deep = w.4; awake = w.2; sends = w.6; finds = w.7 }
 
   stamp_next : (how : How) (w : Journaled O A R K) (k : ℕ) → Suits JournalFollows JournalFits how w k → MayTake (queued_from 0 w.journal.items) how

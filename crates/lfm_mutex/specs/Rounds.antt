@@ -1,5 +1,5 @@
 -- The rounds that each seat makes in a thread of its own, and what they make of it.
-use Rattle.std.specs.Prelude.{◌≡◌, ◌⊎◌, ⊤, ℕ, zero, suc, ◌<◌, List, Result, Ok, Err}
+use Rattle.std.specs.Prelude.{◌≡◌, ◌⊎◌, ⊤, ℕ, zero, suc, ◌<◌, Result, Ok, Err}
 use Rattle.std.specs.Fn.{Shared}
 use Rattle.lfm_model.specs.declared.refusals.Refusal.{Refusal}
 use Rattle.lfm_mutex.specs.declared.mutex.Mutex.{Mutex}
@@ -8,8 +8,6 @@ use Rattle.lfm_mutex.specs.Belongs.{OfMutex}
 use Rattle.lfm_mutex.specs.calls.Sections.{StandsAs}
 use Rattle.lfm_mutex.specs.calls.Sight.{sight}
 use denote.Ref.{MutBor}
-use mathlib.Core.Option.{some}
-use lib.ListN.{get_elem?}
 
 module _ {F T : Type 0} (g : Shared F (ℕ × (MutBor (Seat T) × Unit {0})) (Result ⊤ Refusal × (MutBor (Seat T) × Unit {0}))) (f : F) where
   -- round i, made with the seat s, may answer y and leave t
@@ -37,7 +35,3 @@ module _ {F T : Type 0} (g : Shared F (ℕ × (MutBor (Seat T) × Unit {0})) (Re
     -- the seat s has become t: it is the mutex's, stands as before, and has made its rounds
     abbrev pub HasRounded : Seat T → Seat T → Type 0
     HasRounded s t = OfMutex t mutex × StandsAs (sight s) (sight t) × RoundsEnd rounds s t
-
-    -- so has each of these seats, in their order
-    abbrev pub AllHaveRounded : List (Seat T) → List (Seat T) → Type 0
-    AllHaveRounded ss ts = (j : ℕ) (t : Seat T) → get_elem? ts j ≡ some t → (s : Seat T) × (get_elem? ss j ≡ some s) × HasRounded s t

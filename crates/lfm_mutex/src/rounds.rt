@@ -2,7 +2,8 @@
 ghost use Rattle.std.specs.Prelude.{◌≡◌, IfErr, IfOk, vec_len};
 ghost use Rattle.lfm_mutex.specs.AllSeats.{SeatsOf};
 ghost use Rattle.lfm_mutex.specs.Belongs.{OfMutex};
-ghost use Rattle.lfm_mutex.specs.Rounds.{AllHaveRounded, HasRounded, KeepsRound, MayRound};
+ghost use Rattle.lfm_threads.specs.Together.{AllGiven};
+ghost use Rattle.lfm_mutex.specs.Rounds.{HasRounded, KeepsRound, MayRound};
 
 use crate::mutex::Mutex;
 use crate::seat::Seat;
@@ -60,7 +61,7 @@ impl<T: Kept> Mutex<T> {
         requires callable { MayRound F.Fn f.now rounds self.now }
         requires keeps { KeepsRound F.Fn f.now rounds self.now }
         ensures count { IfOk result (λ v. vec_len v ≡ vec_len seats) }
-        ensures rounds { IfOk result (λ v. AllHaveRounded F.Fn f.now rounds self.now seats.items v.items) }
+        ensures rounds { IfOk result (λ v. AllGiven (HasRounded F.Fn f.now rounds self.now) seats.items v.items) }
         ensures belongs { IfOk result (λ v. SeatsOf v.items self.now) }
         ensures back { IfErr result (λ e. e.jobs.items ≡ seats.items) }
     {

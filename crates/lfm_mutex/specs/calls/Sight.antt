@@ -250,20 +250,20 @@ module _ {T : Type 0} (follows : ℕ → T → T → Type 0) (fits : T → ℕ �
   LocksWaiting budget s t (Ok (Locked.Again d)) = Deepens s t d
   LocksWaiting budget s t (Err r) = LockRefused budget s r × (t ≡ s)
 
-  abbrev pub Wakes : How → Sight T → Sight T → Type 0
-  Wakes how s t =
+  abbrev pub TakesUp : How → Sight T → Sight T → Type 0
+  TakesUp how s t =
       (s.asleep ≡ true) × (s.in_call ≡ false) × (t.asleep ≡ false) × (t.number ≡ s.number) × (t.depth ≡ 1) × (t.takes ≡ s.takes) × (t.sends ≡ s.sends) × Finds how s t
 
   -- how try_receive ends
   abbrev pub Receives : Sight T → Sight T → Result (Option How) Refusal → Type 0
-  Receives s t (Ok (Some how)) = Wakes how s t
+  Receives s t (Ok (Some how)) = TakesUp how s t
   Receives s t (Ok None) = (s.asleep ≡ true) × (s.in_call ≡ false) × (t ≡ record s { trail = t.trail })
   Receives s t (Err Refusal.NotWaiting) = (s.asleep ≡ false ⊎ (s.in_call ≡ true)) × (t ≡ s)
   Receives s t (Err r) = ⊥
 
   -- how receive_lock ends
   abbrev pub ReceivesLock : Sight T → Sight T → Result How Refusal → Type 0
-  ReceivesLock s t (Ok how) = Wakes how s t
+  ReceivesLock s t (Ok how) = TakesUp how s t
   ReceivesLock s t (Err Refusal.NotWaiting) = (s.asleep ≡ false ⊎ (s.in_call ≡ true)) × (t ≡ s)
   ReceivesLock s t (Err r) = ⊥
 

@@ -1,7 +1,6 @@
 -- Holds that are given up one after another.
-use Rattle.std.proofs.Common.{◌≡◌, ℕ, ◌+◌, ◌<◌, List, Result, Ok, Err, inl, refl, sym, ◌∙◌, ap, arith}
+use Rattle.std.proofs.Common.{◌≡◌, ℕ, ◌+◌, ◌<◌, Result, Ok, Err, inl, refl, sym, ◌∙◌, ap, arith}
 use Rattle.lfm_model.specs.declared.answers.Unlocked.{Unlocked}
-use Rattle.lfm_model.specs.declared.journals.Entry.{Entry}
 use Rattle.lfm_model.specs.declared.refusals.Refusal.{Refusal}
 use Rattle.lfm_mutex.specs.calls.Sight.{Sight}
 use Rattle.lfm_monitor.specs.declared.journaled.Journaled.{Journaled}
@@ -68,7 +67,7 @@ module _ {O A R : Type 0} {K : _} where
     cond_seats = cond_seats ∙ before.cond_seats;
   }
 
-module _ {O A R U : Type 0} {K : _} (m : Monitor O A R K) (makes : List (Entry A) → List (Entry A) → Result U Refusal → Type 0) where
+module _ {O A R U : Type 0} {K : _} (m : Monitor O A R K) (makes : Pass O A R K → Pass O A R K → Result U Refusal → Type 0) where
   -- a section that was executed, whatever it answered
   pub held : (p q : Pass O A R K) (r : Result U Refusal) → Holds m makes p q r → HoldEnds m makes p q r
   held p q (Ok x) h = h

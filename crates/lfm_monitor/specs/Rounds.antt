@@ -1,8 +1,7 @@
 -- Rounds: in each the pass executes a critical section in a hold of its own.
-use Rattle.std.specs.Prelude.{◌≡◌, ◌⊎◌, ℕ, zero, suc, ◌<◌, ⊤, List, Result, Ok, Err}
+use Rattle.std.specs.Prelude.{◌≡◌, ◌⊎◌, ℕ, zero, suc, ◌<◌, ⊤, Result, Ok, Err}
 use Rattle.std.specs.declared.ops.ControlFlow.{ControlFlow}
 use Rattle.std.specs.declared.ops.ControlFlow.TheVariants.{Continue, Break}
-use Rattle.lfm_model.specs.declared.journals.Entry.{Entry}
 use Rattle.lfm_model.specs.declared.refusals.Refusal.{Refusal}
 use Rattle.lfm_monitor.specs.declared.monitor.Monitor.{Monitor}
 use Rattle.lfm_monitor.specs.declared.pass.Pass.{Pass}
@@ -14,7 +13,7 @@ EndsRounds (Ok (Continue x)) = ⊥
 EndsRounds (Ok (Break x)) = ⊤
 EndsRounds (Err r) = ⊤
 
-module _ {O A R : Type 0} {K : _} (m : Monitor O A R K) (makes : ℕ → List (Entry A) → List (Entry A) → Result (ControlFlow ⊤ ⊤) Refusal → Type 0) where
+module _ {O A R : Type 0} {K : _} (m : Monitor O A R K) (makes : ℕ → Pass O A R K → Pass O A R K → Result (ControlFlow ⊤ ⊤) Refusal → Type 0) where
   -- so many rounds, numbered from 0, led the pass from one to the other, and after each of them there was to be a further one
   abbrev pub AllGoOn : ℕ → Pass O A R K → Pass O A R K → Type 0
   AllGoOn zero p q = q ≡ p

@@ -1,12 +1,12 @@
 -- Critical sections: a pass enters, a section is executed, and the pass gives up what it holds more than before.
-use Rattle.std.specs.Prelude.{◌≡◌, ◌⊎◌, ℕ, ◌<◌, ◌≤◌, List, min, Result, Ok, Err}
+use Rattle.std.specs.Prelude.{◌≡◌, ◌⊎◌, ℕ, ◌<◌, ◌≤◌, min, Result, Ok, Err}
 use Rattle.lfm_model.specs.declared.answers.Locked.{Locked}
-use Rattle.lfm_model.specs.declared.journals.Entry.{Entry}
 use Rattle.lfm_model.specs.declared.refusals.Refusal.{Refusal}
 use Rattle.lfm_monitor.specs.declared.monitor.Monitor.{Monitor}
 use Rattle.lfm_monitor.specs.declared.pass.Pass.{Pass}
-use Rattle.lfm_monitor.specs.Belongs.{OfMonitor, cond_seats_of, mine_of, pass_sight, seen_of, share_of}
+use Rattle.lfm_monitor.specs.Belongs.{OfMonitor, cond_seats_of, mine_of, mutex_limits, pass_sight, seen_of, share_of}
 use Rattle.lfm_monitor.specs.Passes.{EnterEnds, EnterRefused, journal_of}
+use Rattle.lfm_monitor.specs.Steps.{ByLocking, ByUnlocks}
 
 module _ {O A R : Type 0} {K : _} where
   -- nothing that a pass tells of itself is other than it was
@@ -30,18 +30,20 @@ module _ {O A R : Type 0} {K : _} where
   abbrev pub GivesUpTo : ℕ → Pass O A R K → Pass O A R K → Type 0
   GivesUpTo depth p q = GivesUp p q × ((pass_sight q).depth ≡ min (pass_sight p).depth depth)
 
-module _ {O A R U : Type 0} {K : _} (m : Monitor O A R K) (makes : List (Entry A) → List (Entry A) → Result U Refusal → Type 0) where
-  -- The pass entered as `enter` does. The section made of its journal what it may make, and answered r. Then the pass gave up its holds down
-  -- to the depth that it began with
+module _ {O A R U : Type 0} {K : _} (m : Monitor O A R K) (makes : Pass O A R K → Pass O A R K → Result U Refusal → Type 0) where
+  -- The pass entered as `enter` does, by its steps. From there the section made of it what it may make, and answered r. Then the pass gave up
+  -- its holds down to the depth that it began with, by the steps of `leave` alone
   pub record Holds (p q : Pass O A R K) (r : Result U Refusal) : Type 0 where
     pub entered : Pass O A R K
     pub executed : Pass O A R K
     pub locked : Locked
     pub enters : EnterEnds (share_of m) (pass_sight p) (pass_sight entered) (mine_of p) (mine_of entered) (Ok locked)
+    pub steps : ByLocking (mutex_limits m) (pass_sight p) (pass_sight entered) (Ok locked)
     pub keeps : (seen_of entered ≡ seen_of p) × (cond_seats_of entered ≡ cond_seats_of p)
     pub belong : OfMonitor entered m × OfMonitor executed m
-    pub executes : makes (journal_of (pass_sight entered)) (journal_of (pass_sight executed)) r
+    pub executes : makes entered executed r
     pub leaves : GivesUpTo (pass_sight p).depth executed q
+    pub left : (n : ℕ) × ByUnlocks (mutex_limits m) n (pass_sight executed) (pass_sight q)
 
   -- how `hold` ends: with what the section answered, or refused as `enter` is, with nothing changed
   abbrev pub HoldEnds : Pass O A R K → Pass O A R K → Result U Refusal → Type 0

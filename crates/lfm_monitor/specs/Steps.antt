@@ -1,8 +1,10 @@
 -- The atomic steps of a monitor's calls: each makes those of one call of the mutex, on the pass's seat.
-use Rattle.std.specs.Prelude.{◌≡◌, Result, Ok, Err}
+use Rattle.std.specs.Prelude.{◌≡◌, ℕ, zero, suc, Result, Ok, Err}
 use Rattle.lfm_model.specs.declared.answers.Locked.{Locked}
+use Rattle.lfm_model.specs.declared.answers.Unlocked.{Unlocked}
 use Rattle.lfm_model.specs.declared.refusals.Refusal.{Refusal}
 use Rattle.lfm_protocol.specs.declared.answers.Answer.{Answer}
+use Rattle.lfm_protocol.specs.declared.answers.Answer.TheVariants as Answered
 use Rattle.lfm_protocol.specs.declared.answers.Call.{Call}
 use Rattle.lfm_protocol.specs.declared.answers.Turn.TheVariants.{Ended, Refused}
 use Rattle.lfm_protocol.specs.declared.answers.Why.{Why}
@@ -22,3 +24,8 @@ module _ {T : Type 0} (l : Limits) where
   abbrev pub ByLocking : Sight T → Sight T → Result Locked Refusal → Type 0
   ByLocking s t (Ok locked) = LocksBy l s t (Ok locked)
   ByLocking s t (Err r) = t ≡ s
+
+  -- the seat has made the steps of so many unlocks, one after another, and no others
+  abbrev pub ByUnlocks : ℕ → Sight T → Sight T → Type 0
+  ByUnlocks zero s t = t ≡ s
+  ByUnlocks (suc n) s t = (u : Sight T) × (x : Unlocked) × ByUnlocks n s u × BySteps (λ y. Answered.Unlocked y) Call.Unlock u t (Ok x)

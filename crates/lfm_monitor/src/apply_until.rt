@@ -39,6 +39,7 @@ impl<O: Object> Monitor<O> {
         requires belongs { OfMonitor pass.old self.now }
         requires callable { F.IsAlwaysCallable done }
         ensures belongs { OfMonitor pass.new self.now }
+        ensures number { (pass_sight pass.new).number ≡ (pass_sight pass.old).number }
         ensures done { IfOk result (λ r. FnReturnsAt F.Fn done r true) }
         ensures applied { IfOk result (λ r. AppliedLast O.after O.reply self.now op pass.new r) }
         ensures depth { (pass_sight pass.new).depth ≡ (pass_sight pass.old).depth }

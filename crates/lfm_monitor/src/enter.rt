@@ -21,6 +21,7 @@ impl<O: Object> Monitor<O> {
     pub fn ask(&self, pass: &mut Pass<O>) -> Result<Asked, Refusal>
         requires belongs { OfMonitor pass.old self.now }
         ensures belongs { OfMonitor pass.new self.now }
+        ensures number { (pass_sight pass.new).number ≡ (pass_sight pass.old).number }
         ensures enters { AskEnds (share_of self.now) (pass_sight pass.old) (pass_sight pass.new) (mine_of pass.old) (mine_of pass.new) result }
         ensures seen { seen_of pass.new ≡ seen_of pass.old }
         ensures conditions { cond_seats_of pass.new ≡ cond_seats_of pass.old }
@@ -48,6 +49,7 @@ impl<O: Object> Monitor<O> {
     pub fn enter<R: Wait>(&self, rt: &R, pass: &mut Pass<O>) -> Result<Locked, Refusal>
         requires belongs { OfMonitor pass.old self.now }
         ensures belongs { OfMonitor pass.new self.now }
+        ensures number { (pass_sight pass.new).number ≡ (pass_sight pass.old).number }
         ensures enters { EnterEnds (share_of self.now) (pass_sight pass.old) (pass_sight pass.new) (mine_of pass.old) (mine_of pass.new) result }
         ensures seen { seen_of pass.new ≡ seen_of pass.old }
         ensures conditions { cond_seats_of pass.new ≡ cond_seats_of pass.old }

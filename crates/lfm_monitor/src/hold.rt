@@ -1,10 +1,10 @@
 //! `hold`: a critical section is executed in a hold of its own, which ends whatever the section answered.
-ghost use Rattle.lfm_model.specs.declared.journals.Entry.{Entry};
 ghost use Rattle.lfm_model.specs.declared.refusals.Refusal.{Refusal};
-ghost use Rattle.lfm_monitor.specs.Belongs.{OfMonitor, pass_sight};
-ghost use Rattle.lfm_monitor.specs.Passes.{journal_of};
+ghost use Rattle.lfm_monitor.specs.declared.pass.Pass.{Pass};
+ghost use Rattle.lfm_monitor.specs.Belongs.{OfMonitor, mutex_limits, pass_sight};
 ghost use Rattle.lfm_monitor.specs.Sections.{GivesUpTo, HoldEnds};
-ghost use Rattle.std.specs.Prelude.{◌≤◌, ℕ, List, Result};
+ghost use Rattle.lfm_monitor.specs.Steps.{ByUnlocks};
+ghost use Rattle.std.specs.Prelude.{◌≤◌, ℕ, Result};
 
 use crate::monitor::Monitor;
 use crate::pass::Pass;
@@ -29,8 +29,8 @@ pub trait CriticalSection<O: Object, R: Wait>: Sync {
     /// What the section answers.
     type Answer;
 
-    // What the section may make of the journal in hand, in the round with this number, and what it then answers.
-    ghost makes: { Self → ℕ → List (Entry O.Op) → List (Entry O.Op) → Result Self.Answer Refusal → Type 0 } = { λ _ _ _ _ _. Unit {0} };
+    // What the section may make of its pass, in the round with this number, and what it then answers.
+    ghost makes: { Self → ℕ → {K : _} → Pass O O.Op O.Reply K → Pass O O.Op O.Reply K → Result Self.Answer Refusal → Type 0 } = { λ _ _ _ _ _. Unit {0} };
 
     /// Executes the section once, with the number of the round.
     fn execute(
@@ -42,7 +42,7 @@ pub trait CriticalSection<O: Object, R: Wait>: Sync {
     ) -> Result<Self::Answer, Refusal>
         requires { OfMonitor pass.old monitor.now }
         ensures belongs { OfMonitor pass.new monitor.now }
-        ensures makes { makes self.now round (journal_of (pass_sight pass.old)) (journal_of (pass_sight pass.new)) result };
+        ensures makes { makes self.now round pass.old pass.new result };
 }
 
 impl<O: Object> Monitor<O> {
@@ -51,6 +51,7 @@ impl<O: Object> Monitor<O> {
         requires belongs { OfMonitor pass.old self.now }
         ensures belongs { OfMonitor pass.new self.now }
         ensures leaves { GivesUpTo depth pass.old pass.new }
+        ensures steps { (n : ℕ) × ByUnlocks (mutex_limits self.now) n (pass_sight pass.old) (pass_sight pass.new) }
     {
         'holds: while pass.depth() > depth {
             match self.leave(pass) {
@@ -75,7 +76,7 @@ impl<O: Object> Monitor<O> {
         requires belongs { OfMonitor pass.old self.now }
         ensures belongs { OfMonitor pass.new self.now }
         ensures no_more { (pass_sight pass.new).depth ≤ (pass_sight pass.old).depth }
-        ensures holds { HoldEnds self.now (λ js ks r. S.makes section.now round js ks r) pass.old pass.new result }
+        ensures holds { HoldEnds self.now (λ p q r. S.makes section.now round p q r) pass.old pass.new result }
     {
         let depth = pass.depth();
         let _locked = self.enter(rt, pass)?;

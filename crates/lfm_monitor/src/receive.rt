@@ -19,6 +19,7 @@ impl<O: Object> Monitor<O> {
     pub fn try_receive(&self, pass: &mut Pass<O>) -> Result<Option<How>, Refusal>
         requires belongs { OfMonitor pass.old self.now }
         ensures belongs { OfMonitor pass.new self.now }
+        ensures number { (pass_sight pass.new).number ≡ (pass_sight pass.old).number }
         ensures enters { ReceiveEnds (pass_sight pass.old) (pass_sight pass.new) (mine_of pass.old) (mine_of pass.new) result }
         ensures seen { seen_of pass.new ≡ seen_of pass.old }
         ensures conditions { cond_seats_of pass.new ≡ cond_seats_of pass.old }

@@ -26,7 +26,7 @@ impl<O: Object> Monitor<O> {
     ) -> Pass<O>
         requires { OfMonitor pass self.now }
         ensures belongs { OfMonitor result self.now }
-        ensures rounds { MakesRounds self.now (λ i js ks r. S.makes section.now i js ks r) rounds pass result }
+        ensures rounds { MakesRounds self.now (λ i p q r. S.makes section.now i p q r) rounds pass result }
     {
         'rounds: for round in 0..rounds {
             match self.hold(rt, &mut pass, round, section) {
@@ -55,7 +55,7 @@ impl<O: Object> Monitor<O> {
         requires belongs { (j : ℕ) (p : _) → get_elem? passes.items j ≡ some p → OfMonitor p self.now }
         ensures count { IfOk result (λ v. vec_len v ≡ vec_len passes) }
         ensures belongs { IfOk result (λ v. (j : ℕ) (p : _) → get_elem? v.items j ≡ some p → OfMonitor p self.now) }
-        ensures rounds { IfOk result (λ v. AllGiven (λ p q. MakesRounds self.now (λ i js ks r. S.makes section.now i js ks r) rounds p q) passes.items v.items) }
+        ensures rounds { IfOk result (λ v. AllGiven (λ p q. MakesRounds self.now (λ i before after r. S.makes section.now i before after r) rounds p q) passes.items v.items) }
         ensures back { IfErr result (λ e. e.jobs.items ≡ passes.items) }
     {
         let passes = share(
@@ -64,7 +64,7 @@ impl<O: Object> Monitor<O> {
             passes,
             &|monitor: &Monitor<O>, pass: Pass<O>| -> Pass<O>
                 requires { OfMonitor pass monitor.now }
-                ensures { OfMonitor result monitor.now × MakesRounds monitor.now (λ i js ks r. S.makes section.entry.now i js ks r) rounds pass result }
+                ensures { OfMonitor result monitor.now × MakesRounds monitor.now (λ i p q r. S.makes section.entry.now i p q r) rounds pass result }
             { monitor.make_rounds(rt, pass, rounds, section) },
         )?;
         Ok(passes)

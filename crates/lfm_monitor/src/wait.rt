@@ -55,6 +55,7 @@ impl<O: Object> Monitor<O> {
     ) -> Result<(How, u64), Refusal>
         requires belongs { OfMonitor pass.old self.now }
         ensures belongs { OfMonitor pass.new self.now }
+        ensures number { (pass_sight pass.new).number ≡ (pass_sight pass.old).number }
         ensures waits { WaitEnds (mutex_limits self.now) (condition_limits (passes_of self.now)) (share_of self.now) (conditions_of self.now) condition (cond_seats_of pass.old) (cond_seats_of pass.new) (pass_sight pass.old) (pass_sight pass.new) (mine_of pass.old) result }
         ensures returns { WaitReturns (pass_sight pass.old) (pass_sight pass.new) (seen_of pass.old) (seen_of pass.new) (mine_of pass.old) (mine_of pass.new) result }
     {

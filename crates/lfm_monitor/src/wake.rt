@@ -29,6 +29,7 @@ impl<O: Object> Monitor<O> {
     ) -> Result<Option<(SeatNo, u64)>, Refusal>
         requires belongs { OfMonitor pass.old self.now }
         ensures belongs { OfMonitor pass.new self.now }
+        ensures number { (pass_sight pass.new).number ≡ (pass_sight pass.old).number }
         ensures wakes { WakeOneEnds (passes_of self.now) (condition_limits (passes_of self.now)) (conditions_of self.now) condition (cond_seats_of pass.old) (cond_seats_of pass.new) (pass_sight pass.old) (pass_sight pass.new) result }
         ensures sends { OnlySends (pass_sight pass.old) (pass_sight pass.new) }
         ensures steps { SendsBy (mutex_limits self.now) (pass_sight pass.old) (pass_sight pass.new) result }
@@ -60,6 +61,7 @@ impl<O: Object> Monitor<O> {
     ) -> Result<u64, Refusal>
         requires belongs { OfMonitor pass.old self.now }
         ensures belongs { OfMonitor pass.new self.now }
+        ensures number { (pass_sight pass.new).number ≡ (pass_sight pass.old).number }
         ensures wakes { WakeAllEnds (passes_of self.now) (condition_limits (passes_of self.now)) (conditions_of self.now) condition (cond_seats_of pass.old) (cond_seats_of pass.new) (pass_sight pass.old) (pass_sight pass.new) result }
         ensures sends { OnlySends (pass_sight pass.old) (pass_sight pass.new) }
         ensures steps { SendsBy (mutex_limits self.now) (pass_sight pass.old) (pass_sight pass.new) result }

@@ -7,7 +7,7 @@ use Rattle.lfm_monitor.proofs.Trying.{applied_depth, handed_on, waited_depth}
 use Rattle.lfm_monitor.proofs.monitor.Monitor.apply_until.Goals as goal
 
 pub tries-init : goal.tries-init
-tries-init g c = record { belongs = c.requires.belongs; depth = refl; tries = (zero, refl) }
+tries-init g c = record { belongs = c.requires.belongs; depth = refl; number = refl; tries = (zero, refl) }
 
 -- one more try was in vain
 pub tries-preserved : goal.tries-preserved
@@ -15,6 +15,7 @@ tries-preserved g c = let i = c.tries.invariant in let a = c.in_ok-reply.ensures
   belongs = w.belongs;
   depth = waited_depth c.in_ok-_waited._waited (pass_sight p) (pass_sight q) (seen_of p) (seen_of q) (mine_of p) (mine_of q) w.returns
       ∙ (applied_depth g.O.Object.after g.O.Object.reply (share_of c.args.self.now) c.args.op c.in_ok-reply.reply (pass_sight l) (pass_sight p) (mine_of l) (mine_of p) a.applies ∙ i.depth);
+  number = w.number ∙ (a.number ∙ i.number);
   tries = (
     suc i.tries.0,
     (

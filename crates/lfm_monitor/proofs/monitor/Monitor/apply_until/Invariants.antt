@@ -9,5 +9,6 @@ abbrev pub invariant-tries : goal.invariant-tries
 invariant-tries g l = record {
   belongs : OfMonitor l.pass l.self;
   depth : (pass_sight l.pass).depth ≡ (pass_sight l.fn.pass).depth;
+  number : (pass_sight l.pass).number ≡ (pass_sight l.fn.pass).number;
   tries : (n : ℕ) × AllInVain g.O.Object.after g.O.Object.reply l.self l.condition l.op (λ r b. FnReturnsAt g.F.Fn l.done r b) n l.fn.pass l.pass;
 }

@@ -1,6 +1,7 @@
 use Rattle.std.proofs.Common.{refl}
 use Rattle.lfm_mutex.specs.calls.Sight.{sight}
 use Rattle.lfm_monitor.specs.Belongs.{mutex_limits, opening_of, passes_of, share_of}
+use Rattle.lfm_monitor.proofs.Holding.{leaves_one}
 use Rattle.lfm_monitor.proofs.Knowing.{may_leave, given_up, gave_up, leave_ends, left_it, left_of, still, of_next}
 use Rattle.lfm_monitor.proofs.Refusing.{leave_refused, refused_steps, same_began, same_kept, still_began}
 use Rattle.lfm_monitor.proofs.monitor.Monitor.leave.Goals as goal
@@ -19,9 +20,11 @@ invariant_of-pass-2 g c = let p = c.args.pass.now in let s = sight p.seat in let
 
 pub returns : goal.returns
 returns g c = let p = c.args.pass.now in let m = c.args.self.now in let s = sight p.seat in let t = sight c.unlock.new.seat in
-    let left = given_up c.in_ok-unlocked.unlocked c.in-Free.is in let u = gave_up c.in_ok-unlocked.unlocked s t left c.in_ok-unlocked.ensures.unlocks in record {
+    let left = given_up c.in_ok-unlocked.unlocked c.in-Free.is in let u = gave_up c.in_ok-unlocked.unlocked s t left c.in_ok-unlocked.ensures.unlocks in
+    let ends = leave_ends c.in_ok-unlocked.unlocked s t p.seen p.mine c.journal_len-length.result left p.kept c.in_ok-unlocked.ensures.unlocks c.journal_len-length.ensures in record {
       belongs = (of_next m.mutex p.seat c.unlock.new.seat c.requires.belongs.0 c.unlock.ensures.belongs, left_of (opening_of m) (passes_of m) (share_of m) s t p.seen p.mine p.kept c.requires.belongs.1 u.0, c.requires.belongs.2);
-      leaves = leave_ends c.in_ok-unlocked.unlocked s t p.seen p.mine c.journal_len-length.result left p.kept c.in_ok-unlocked.ensures.unlocks c.journal_len-length.ensures;
+      number = (leaves_one c.in_ok-unlocked.unlocked s t p.seen c.journal_len-length.result ends).number;
+      leaves = ends;
       mine = refl;
       conditions = refl;
       steps = c.in_ok-unlocked.ensures.steps;

@@ -6,5 +6,5 @@ use Rattle.lfm_monitor.proofs.monitor.Monitor.make_rounds.Given as goal
 abbrev pub invariant-rounds : goal.invariant-rounds
 invariant-rounds g l = record {
   belongs : OfMonitor l.pass l.self;
-  rounds : AllGoOn l.self (λ i js ks r. g.S.CriticalSection.makes l.section i js ks r) l.round l.fn.pass l.pass;
+  rounds : AllGoOn l.self (λ i p q r. g.S.CriticalSection.makes l.section i p q r) l.round l.fn.pass l.pass;
 }

@@ -24,4 +24,4 @@ returns-clause-belongs g c = λ j q at. let x = c.in_ok-passes.ensures.gives j q
 
 pub returns-clause-rounds : goal.returns-clause-rounds
 returns-clause-rounds g c = λ j q at. let x = c.in_ok-passes.ensures.gives j q at in
-    (x.0, x.1, subst (λ (m : Monitor _ _ _ _). MakesRounds m (λ i js ks r. g.S.CriticalSection.makes c.args.section.now i js ks r) c.args.rounds x.0 q) x.2.shows x.2.met.1)
+    (x.0, x.1, subst (λ (m : Monitor _ _ _ _). MakesRounds m (λ i p q r. g.S.CriticalSection.makes c.args.section.now i p q r) c.args.rounds x.0 q) x.2.shows x.2.met.1)

@@ -1,4 +1,4 @@
-use Rattle.std.proofs.Common.{Ok, Err, refl, sym, subst, arith}
+use Rattle.std.proofs.Common.{Ok, Err, refl, sym, ap, subst, arith}
 use Rattle.lfm_protocol.specs.declared.limits.Limits.{Limits}
 use Rattle.lfm_mutex.specs.calls.Sight.{Sight, sight}
 use Rattle.lfm_condvar.specs.Belongs.{cond_limits, cond_sight}
@@ -31,6 +31,7 @@ returns-in-Err g c = let p = c.args.pass.now in let m = c.args.self.now in let n
         subst (λ (u : Sight _). Began (opening_of m) (passes_of m) (share_of m) u) (sym same) c.requires.belongs.1,
         still_of_conditions (cond_seats_of p) (conditions_in m) n y v c.requires.belongs.2 a.condition e.belongs.0,
       );
+      number = ap (λ (u : Sight _). u.number) same;
       waits = refused (mutex_limits m) (condition_limits (passes_of m)) (share_of m) (conditions_of m) c.args.condition (cond_seats_of p) _ s t p.mine c.in-Err.refusal m.shared c.in_default.ensures (let b = o.1 in omega arith)
           (n, x, y, c.in-Some-place_of.ensures.0, a.seat, refl, ends);
       returns = (same, refl, refl);
@@ -58,6 +59,7 @@ returns g c = let p = c.args.pass.now in let m = c.args.self.now in let k = c.in
     let back = returned r s h.0 c.wait.new.seat c.write_took.new.seat p.seen p.mine n (opening_of m) (passes_of m) (share_of m) p.kept c.in_default.ensures.0 c.in_default.ensures.1 c.journal_len-length.ensures h.1 w in
     let ends = subst (λ (l : Limits). WaitEnds JournalFollows JournalFits (mutex_limits m) l (cond_sight x) (cond_sight y) s t (Ok r)) a.limits c.in-Ok.ensures.waits in record {
       belongs = (of_next m.mutex c.wait.new.seat c.write_took.new.seat (of_next m.mutex p.seat c.wait.new.seat c.requires.belongs.0 e.belongs.1) w.6, back.of, still_of_conditions (cond_seats_of p) (conditions_in m) k y v c.requires.belongs.2 a.condition e.belongs.0);
+      number = back.waits.2;
       waits = (c.in_default.ensures, (k, x, y, c.in-Some-place_of.ensures.0, a.seat, refl, (t, ends, (w.0, w.1, w.2, w.3, w.4, w.5))));
       returns = back.waits;
     }
@@ -65,12 +67,13 @@ returns g c = let p = c.args.pass.now in let m = c.args.self.now in let k = c.in
 pub returns-in-Some : goal.returns-in-Some
 returns-in-Some g c = let p = c.args.pass.now in let m = c.args.self.now in record {
   belongs = c.requires.belongs;
+  number = refl;
   waits = barred (mutex_limits m) (condition_limits (passes_of m)) (share_of m) (conditions_of m) c.args.condition (cond_seats_of p) (sight p.seat) p.mine _ c.in-Some.ensures;
   returns = (refl, refl, refl);
 }
 
 pub returns-in_default-place_of : goal.returns-in_default-place_of
-returns-in_default-place_of g c = record { belongs = c.requires.belongs; waits = (c.in_default.ensures, c.in_default-place_of.ensures, refl, refl); returns = (refl, refl, refl) }
+returns-in_default-place_of g c = record { belongs = c.requires.belongs; number = refl; waits = (c.in_default.ensures, c.in_default-place_of.ensures, refl, refl); returns = (refl, refl, refl) }
 
 pub invariant_of-pass : goal.invariant_of-pass
 invariant_of-pass g c = let p = c.args.pass.now in let m = c.args.self.now in let s = sight p.seat in let t = sight c.wait.new.seat in record {

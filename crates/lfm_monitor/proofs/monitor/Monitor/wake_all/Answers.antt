@@ -1,7 +1,7 @@
 use Rattle.std.proofs.Common.{refl, sym, ap, subst, arith}
 use Rattle.lfm_protocol.specs.declared.limits.Limits.{Limits}
 use Rattle.lfm_mutex.specs.Belongs.{limits_of}
-use Rattle.lfm_mutex.specs.calls.Sight.{sight}
+use Rattle.lfm_mutex.specs.calls.Sight.{Sight, sight}
 use Rattle.lfm_condvar.specs.Belongs.{cond_limits, cond_sight}
 use Rattle.lfm_condvar.specs.Wakes.{WakeAllEnds}
 use Rattle.lfm_monitor.specs.Belongs.{cond_seats_of, conditions_in, conditions_of, opening_of, passes_of, share_of}
@@ -26,6 +26,7 @@ returns g c = let p = c.args.pass.now in let m = c.args.self.now in let n = c.in
     let t = sight c.wake_all.new.seat in let e = c.wake_all.ensures in let a = at_place p m n x v c.requires.belongs c.in-Some.ensures.1 c.index_mut-cond.ensures.value c.index.ensures in
     let sent = all_sent (limits_of m.mutex).seats (cond_limits v) (cond_sight x) (cond_sight y) s t c.wake_all.result e.wakes in record {
       belongs = (of_next m.mutex p.seat c.wake_all.new.seat c.requires.belongs.0 e.belongs.1, sent_began (opening_of m) (passes_of m) (share_of m) s t c.requires.belongs.1 sent, still_of_conditions (cond_seats_of p) (conditions_in m) n y v c.requires.belongs.2 a.condition e.belongs.0);
+      number = ap (λ (u : Sight _). u.number) sent;
       wakes = wakes_all (passes_of m) (condition_limits (passes_of m)) (conditions_of m) c.args.condition (cond_seats_of p) _ s t c.wake_all.result (sym c.if-asleep.ensures)
           (n, x, y, c.in-Some.ensures.0, a.seat, refl, subst (λ (l : Limits). WakeAllEnds (passes_of m) l (cond_sight x) (cond_sight y) s t c.wake_all.result) a.limits e.wakes);
       sends = sent;
@@ -34,7 +35,7 @@ returns g c = let p = c.args.pass.now in let m = c.args.self.now in let n = c.in
     }
 
 pub returns-then-asleep : goal.returns-then-asleep
-returns-then-asleep g c = record { belongs = c.requires.belongs; wakes = (sym c.if-asleep.ensures, refl, refl); sends = refl; steps = refl; same = (refl, refl) }
+returns-then-asleep g c = record { belongs = c.requires.belongs; number = refl; wakes = (sym c.if-asleep.ensures, refl, refl); sends = refl; steps = refl; same = (refl, refl) }
 
 pub returns-in_default : goal.returns-in_default
-returns-in_default g c = record { belongs = c.requires.belongs; wakes = ((sym c.if-asleep.ensures, c.in_default.ensures), refl, refl); sends = refl; steps = refl; same = (refl, refl) }
+returns-in_default g c = record { belongs = c.requires.belongs; number = refl; wakes = ((sym c.if-asleep.ensures, c.in_default.ensures), refl, refl); sends = refl; steps = refl; same = (refl, refl) }

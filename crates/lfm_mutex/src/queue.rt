@@ -20,7 +20,7 @@ use lfm_protocol::SeatState;
 use lfm_protocol::points::{Point, Pusher, Sleeper};
 use lfm_table::seat_memory::advance;
 use lfm_table::straight_steps::{
-    exchange_push_free, load_free, load_handoff_free, load_push_free, store_link_free,
+    exchange_push_kept, load_free, load_handoff_kept, load_push_kept, store_link_kept,
 };
 use lfm_table::{Kept, SeatData, WakeUp};
 use lfm_words::{Link, unpack_link};
@@ -70,18 +70,18 @@ pub(crate) fn queue<T: Kept>(mutex: &Mutex<T>, seat: &mut Seat<T>) -> (Asked, Op
     };
     load_free(table, &mut seat.place, &seat.moving, &data);
     data.standing.point = Point::PushLoad(Pusher::Locker);
-    let word = load_push_free(table, &mut seat.place, &seat.moving, &data);
+    let word = load_push_kept(table, &mut seat.place, &seat.moving, &data);
     let seen = unpack_link(word);
     data.standing.point = Point::LinkStore(Pusher::Locker, seen);
-    store_link_free(table, &mut seat.place, &seat.moving, &data);
+    store_link_kept(table, &mut seat.place, &seat.moving, &data);
     data.standing.point = Point::PushExchange(Pusher::Locker, seen);
-    let found = exchange_push_free(table, &mut seat.place, &seat.moving, &data);
+    let found = exchange_push_kept(table, &mut seat.place, &seat.moving, &data);
     if found != word {
         stand_after_push(&mut seat.standing, number, seen, found);
         return ask_on(mutex, seat);
     }
     data.standing.point = Point::PushedHandoffLoad(Pusher::Locker);
-    let handoff = load_handoff_free(table, &mut seat.place, &seat.moving, &data);
+    let handoff = load_handoff_kept(table, &mut seat.place, &seat.moving, &data);
     if handoff % 65_536 != 0 {
         stand_beside_post(&mut seat.standing, number, handoff);
         return ask_on(mutex, seat);

@@ -20,7 +20,7 @@ use lfm_protocol::points::{Entrant, Point, Sleeper};
 use lfm_protocol::{Answer, Call, SeatState, Turn};
 use lfm_table::layout::{COUNT, wake_at};
 use lfm_table::parking::park;
-use lfm_table::straight_steps::{load_grant, store_held, store_wake_held};
+use lfm_table::straight_steps::{load_grant, store_held, store_wake_kept};
 use lfm_table::wake_words::{FIRST_GRANT, stamp_in};
 use lfm_table::{Kept, SeatData, WakeUp};
 use std::sync::Wait;
@@ -66,7 +66,7 @@ pub fn receive_asleep<T: Kept>(
     }
     let stamp = stamp_in(found);
     data.standing.point = Point::ReceiveWakeStore(stamp);
-    store_wake_held(table, &mut seat.place, &seat.moving, &data);
+    store_wake_kept(table, &mut seat.place, &seat.moving, &data);
     seat.standing.depth = 1;
     seat.standing.point = Point::Rest;
     let how = how_by(stamp);

@@ -22,7 +22,7 @@ use lfm_protocol::points::{Entrant, Point};
 use lfm_protocol::{Answer, Call, MAX_DEPTH, SeatState, Turn, Why};
 use lfm_table::seat_memory::advance;
 use lfm_table::straight_steps::{
-    exchange_free, exchange_held, load_free, load_handoff_free, load_held, store_held,
+    exchange_free, exchange_held, load_free, load_handoff_kept, load_held, store_held,
 };
 use lfm_table::{Kept, SeatData, WakeUp};
 
@@ -113,7 +113,7 @@ pub fn try_free<T: Kept>(
     data.standing.point = Point::TryOwnerLoad;
     load_free(table, &mut seat.place, &seat.moving, &data);
     data.standing.point = Point::TryHandoffLoad;
-    let handoff = load_handoff_free(table, &mut seat.place, &seat.moving, &data);
+    let handoff = load_handoff_kept(table, &mut seat.place, &seat.moving, &data);
     if handoff % 65_536 != 0 {
         stand_exchanging(&mut seat.standing, takes, number, handoff);
         return try_on(mutex, seat);

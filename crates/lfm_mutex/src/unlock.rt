@@ -1,66 +1,25 @@
 //! `unlock`. Where nobody waits it is made straight on: with its atomic steps and the few fields that change, and with no copy
 //! of the seat's data. Where a step finds more, the seat goes on from its point as any call does.
-ghost use Rattle.std.specs.Prelude.{◌≡◌, ◌+◌, ◌<◌, ◌≤◌, length, false};
+ghost use Rattle.std.specs.Prelude.{◌≡◌, ◌+◌, ◌<◌};
 ghost use Rattle.lfm_protocol.specs.declared.answers.Answer.TheVariants as Answered;
 ghost use Rattle.lfm_protocol.specs.declared.answers.Call.{Call as CallNow};
 ghost use Rattle.lfm_protocol.specs.declared.answers.Turn.TheVariants.{Ended};
-ghost use Rattle.lfm_protocol.specs.declared.points.Point.TheVariants.{Rest, ReleaseCountSubtract};
-ghost use Rattle.lfm_protocol.specs.declared.points.Releaser.TheVariants.{Unlocker as UnlockerNow};
-ghost use Rattle.lfm_laws.specs.table.Words.{stepped_by};
-ghost use Rattle.lfm_table.specs.Steps.{oldest_in};
+ghost use Rattle.lfm_protocol.specs.declared.points.Point.TheVariants.{Rest};
 ghost use Rattle.lfm_mutex.specs.Belongs.{Beside, OfMutex, limits_of};
-ghost use Rattle.lfm_mutex.specs.calls.Runs.{errand, is_release, releasing, weight};
 ghost use Rattle.lfm_mutex.specs.calls.Sight.{sight, MayLeave, MayRelease, Unlocks};
-ghost use Rattle.lfm_mutex.specs.calls.Straight.{Course, ComesTo};
+ghost use Rattle.lfm_mutex.specs.calls.Straight.{ComesTo};
 ghost use Rattle.lfm_mutex.specs.calls.Trails.{MakesAtMost, MakesCall};
 ghost use Rattle.lfm_mutex.specs.calls.WakeUps.{Wakes};
 
-use crate::calls::{asleep, finish, release};
+use crate::calls::{asleep, release};
 use crate::mutex::Mutex;
 use crate::seat::Seat;
-use crate::serve::serve;
+use crate::serve::{serve, stand_serving};
 use lfm_model::{Refusal, Unlocked};
 use lfm_protocol::points::{Point, Releaser};
 use lfm_protocol::{Answer, Call, SeatState, Turn, Why};
-use lfm_table::moving_box::MovingBox;
-use lfm_table::seat_memory::oldest_of;
 use lfm_table::straight_steps::{store_held, subtract_last};
 use lfm_table::{Kept, SeatData, WakeUp};
-
-/// Makes the steps of the open call of unlock to its end, once its seat has given up the owner word.
-#[inline(always)]
-pub(crate) fn unlock_on<T: Kept>(mutex: &Mutex<T>, seat: &mut Seat<T>) -> (Unlocked, Option<WakeUp>)
-    requires belongs { seat.old.place.table_id ≡ mutex.now.table.shared.table_id }
-    requires unlocks { errand seat.old.standing.point ≡ releasing UnlockerNow }
-    requires keeps { is_release seat.old.standing.point ≡ false }
-    ensures belongs { seat.new.place.table_id ≡ seat.old.place.table_id }
-    ensures same { (seat.new.number ≡ seat.old.number) × (seat.new.limits ≡ seat.old.limits) }
-    ensures made { Course T.follows T.fits seat.old.number seat.old.standing seat.old.moving seat.old.place.me.0 (Ended (Answered.Unlocked result.0)) seat.new.standing seat.new.moving seat.new.place.me.0 }
-    ensures bounded { length seat.new.place.me.0.trail ≤ length seat.old.place.me.0.trail + weight seat.old.limits.seats (length seat.old.place.me.0.popped) seat.old.standing.point }
-    ensures wakes { Wakes seat.old.limits.seats result.1 seat.old.place.me.0.trail seat.new.place.me.0.trail }
-{
-    let (turn, wake_up) = finish(mutex, seat);
-    match turn {
-        Turn::Ended(Answer::Unlocked(unlocked)) => (unlocked, wake_up),
-        _ => unreachable!(),
-    }
-}
-
-// Moves the seat's own data on by a count that was more than 1, out of line.
-#[inline(never)]
-fn stand_carrying<T: Kept>(
-    standing: &mut SeatState,
-    moving: &Option<MovingBox<T>>,
-    number: u64,
-    found: u64,
-)
-    ensures { standing.new ≡ (stepped_by (record standing.old { depth = 0; point = ReleaseCountSubtract UnlockerNow }) number found (oldest_in moving.now)).seat }
-{
-    let oldest = oldest_of(moving);
-    standing.depth = 0;
-    standing.point = Point::ReleaseCountSubtract(Releaser::Unlocker);
-    standing.after_count_subtract(number, found, oldest);
-}
 
 /// `unlock` of a seat that is awake and holds once.
 #[inline(always)]
@@ -75,9 +34,8 @@ pub fn unlock_last<T: Kept>(mutex: &Mutex<T>, seat: &mut Seat<T>) -> (Unlocked, 
     ensures wakes { Wakes (limits_of mutex.now).seats result.1 (sight seat.old).trail (sight seat.new).trail }
 {
     let table = &mutex.table.shared;
-    let number = seat.number;
     let mut data = SeatData {
-        number,
+        number: seat.number,
         limits: seat.limits,
         standing: SeatState {
             depth: 1,
@@ -93,8 +51,8 @@ pub fn unlock_last<T: Kept>(mutex: &Mutex<T>, seat: &mut Seat<T>) -> (Unlocked, 
     data.standing.point = Point::ReleaseCountSubtract(Releaser::Unlocker);
     let found = subtract_last(table, &mut seat.place, &mut seat.moving, &data);
     if found != 1 {
-        stand_carrying(&mut seat.standing, &seat.moving, number, found);
-        return serve(mutex, seat);
+        stand_serving(&mut seat.standing, &seat.moving, Releaser::Unlocker);
+        return serve(mutex, seat, Releaser::Unlocker);
     }
     (Unlocked::Free, None)
 }

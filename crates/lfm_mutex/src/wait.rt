@@ -1,18 +1,96 @@
-//! `start_wait`: the mutex is given up, and the seat sleeps until it is sent.
-ghost use Rattle.std.specs.Prelude.{◌+◌};
+//! `start_wait`: the mutex is given up, and the seat sleeps until it is sent. It is made straight on as `unlock` is, and where a step
+//! finds more than `serve` does, the seat goes on from its point as any call does.
+ghost use Rattle.std.specs.Prelude.{◌≡◌, ◌+◌, ◌<◌};
 ghost use Rattle.lfm_protocol.specs.declared.answers.Answer.TheVariants as Answered;
 ghost use Rattle.lfm_protocol.specs.declared.answers.Call.{Call as CallNow};
+ghost use Rattle.lfm_protocol.specs.declared.answers.Turn.TheVariants.{Ended};
+ghost use Rattle.lfm_protocol.specs.declared.points.Point.TheVariants.{Rest};
 ghost use Rattle.lfm_mutex.specs.Belongs.{Beside, OfMutex, limits_of};
+ghost use Rattle.lfm_mutex.specs.calls.Straight.{ComesTo};
 ghost use Rattle.lfm_mutex.specs.calls.Trails.{MakesCall, MakesAtMost};
 ghost use Rattle.lfm_mutex.specs.calls.WakeUps.{Wakes};
-ghost use Rattle.lfm_mutex.specs.calls.Sight.{sight, MayRelease, StartsWait};
+ghost use Rattle.lfm_mutex.specs.calls.Sight.{sight, MayLeave, MayRelease, StartsWait};
 
-use crate::calls::release;
+use crate::calls::{asleep, release};
 use crate::mutex::Mutex;
 use crate::seat::Seat;
+use crate::serve::{serve, stand_serving};
 use lfm_model::{Refusal, Unlocked};
-use lfm_protocol::{Answer, Call, Turn, Why};
-use lfm_table::{Kept, WakeUp};
+use lfm_protocol::points::{Point, Releaser, Sleeper};
+use lfm_protocol::{Answer, Call, SeatState, Turn, Why};
+use lfm_table::straight_steps::{store_held, store_wake_kept, subtract_last};
+use lfm_table::{Kept, SeatData, WakeUp};
+
+/// `start_wait` of a seat that is awake, holds once, and has a take left.
+#[inline(always)]
+pub fn wait_last<T: Kept>(
+    mutex: &Mutex<T>,
+    seat: &mut Seat<T>,
+    budget: u64,
+) -> (Unlocked, Option<WakeUp>)
+    requires belongs { OfMutex seat.old mutex.now }
+    requires rests { seat.old.standing.point ≡ Rest }
+    requires one { seat.old.standing.depth ≡ 1 }
+    requires budget { budget ≡ seat.old.limits.budget }
+    requires charged { seat.old.standing.takes < budget }
+    requires leaves { MayLeave T.follows T.fits (sight seat.old) }
+    ensures belongs { Beside seat.old seat.new }
+    ensures made { ComesTo T.follows T.fits (limits_of mutex.now) CallNow.StartWait (sight seat.old) (sight seat.new) (Ended (Answered.Waiting result.0)) }
+    ensures bounded { MakesAtMost ((limits_of mutex.now).seats + 8) (sight seat.old) (sight seat.new) }
+    ensures wakes { Wakes (limits_of mutex.now).seats result.1 (sight seat.old).trail (sight seat.new).trail }
+{
+    let _budget = budget;
+    let table = &mutex.table.shared;
+    let takes = seat.standing.takes + 1;
+    let mut data = SeatData {
+        number: seat.number,
+        limits: seat.limits,
+        standing: SeatState {
+            depth: 1,
+            takes,
+            posts: seat.standing.posts,
+            point: Point::ReleaseOwnerStore(Releaser::Waiter),
+        },
+    };
+    store_held(table, &mut seat.place, &seat.moving, &data);
+    // Written here, where the value is about to be moved: each stretch between two atomic steps that has writes costs time.
+    seat.standing.depth = 0;
+    seat.standing.takes = takes;
+    data.standing.depth = 0;
+    data.standing.point = Point::ReleaseCountSubtract(Releaser::Waiter);
+    let found = subtract_last(table, &mut seat.place, &mut seat.moving, &data);
+    if found != 1 {
+        stand_serving(&mut seat.standing, &seat.moving, Releaser::Waiter);
+        return serve(mutex, seat, Releaser::Waiter);
+    }
+    data.standing.point = Point::WaitWakeStore(Unlocked::Free);
+    store_wake_kept(table, &mut seat.place, &seat.moving, &data);
+    seat.standing.point = Point::Asleep(Sleeper::Waiter);
+    (Unlocked::Free, None)
+}
+
+/// `start_wait` by the generic run of its steps.
+#[inline(always)]
+fn wait_any<T: Kept>(
+    mutex: &Mutex<T>,
+    seat: &mut Seat<T>,
+) -> (Result<Unlocked, Refusal>, Option<WakeUp>)
+    requires belongs { OfMutex seat.old mutex.now }
+    requires leaves { MayRelease T.follows T.fits (sight seat.old) }
+    ensures belongs { Beside seat.old seat.new }
+    ensures waits { StartsWait (limits_of mutex.now).budget (sight seat.old) (sight seat.new) result.0 }
+    ensures steps { MakesCall (limits_of mutex.now) (λ x. Answered.Waiting x) CallNow.StartWait (sight seat.old) (sight seat.new) result.0 }
+    ensures bounded { MakesAtMost ((limits_of mutex.now).seats + 8) (sight seat.old) (sight seat.new) }
+    ensures wakes { Wakes (limits_of mutex.now).seats result.1 (sight seat.old).trail (sight seat.new).trail }
+{
+    let (turn, wake_up) = release(mutex, seat, Call::StartWait);
+    match turn {
+        Turn::Ended(Answer::Waiting(released)) => (Ok(released), wake_up),
+        Turn::Refused(Why::By(refusal)) => (Err(refusal), wake_up),
+        Turn::Refused(_) => (Err(Refusal::Asleep), wake_up),
+        _ => unreachable!(),
+    }
+}
 
 impl<T: Kept> Mutex<T> {
     /// Gives up the mutex as `unlock` does, and falls asleep until another seat sends this one. It charges the take
@@ -48,12 +126,16 @@ impl<T: Kept> Mutex<T> {
         ensures bounded { MakesAtMost ((limits_of self.now).seats + 8) (sight seat.old) (sight seat.new) }
         ensures wakes { Wakes (limits_of self.now).seats result.1 (sight seat.old).trail (sight seat.new).trail }
     {
-        let (turn, wake_up) = release(self, seat, Call::StartWait);
-        match turn {
-            Turn::Ended(Answer::Waiting(released)) => (Ok(released), wake_up),
-            Turn::Refused(Why::By(refusal)) => (Err(refusal), wake_up),
-            Turn::Refused(_) => (Err(Refusal::Asleep), wake_up),
-            _ => unreachable!(),
+        if asleep(&seat.standing) {
+            return wait_any(self, seat);
         }
+        if seat.standing.depth == 1 {
+            let budget = seat.limits.budget;
+            if seat.standing.takes < budget {
+                let (released, wake_up) = wait_last(self, seat, budget);
+                return (Ok(released), wake_up);
+            }
+        }
+        wait_any(self, seat)
     }
 }

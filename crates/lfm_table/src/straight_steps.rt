@@ -18,8 +18,8 @@ use crate::moving_box::MovingBox;
 use crate::seat_data::SeatData;
 use crate::seat_memory::{add_loaded, drop_oldest, put_out, take_out};
 use crate::table_steps::{
-    Place, SharedTable, add_count, clear_head, exchange_count, exchange_push, load_handoff,
-    load_link, load_owner, load_push, load_wake, store_link, store_owner, store_wake,
+    Place, SharedTable, add_count, clear_head, exchange_count, exchange_push, exchange_wake,
+    load_handoff, load_link, load_owner, load_push, load_wake, store_link, store_owner, store_wake,
     subtract_count,
 };
 use crate::wake_up::WakeUp;
@@ -217,9 +217,9 @@ pub fn load_free<T: Kept>(
     load_owner::<T, Brand>(table, place, seat, moving)
 }
 
-/// Loads the handoff, for a seat that doesn't hold.
+/// Loads the handoff, for a seat that goes on carrying the value or not, as it did.
 #[inline(always)]
-pub fn load_handoff_free<T: Kept>(
+pub fn load_handoff_kept<T: Kept>(
     table: &SharedTable<T>,
     place: &mut Place<T>,
     moving: &Option<MovingBox<T>>,
@@ -228,17 +228,16 @@ pub fn load_handoff_free<T: Kept>(
     requires table { place.old.table_id ≡ table.now.table_id }
     requires fit { Fit seat.now.number place.old.table_id.words place.old.id seat.now.limits seat.now.standing place.old.me moving.now }
     requires kind { kind seat.now.standing.point ≡ Some KindNow.HandoffLoad }
-    requires free { carries_value seat.now.standing ≡ false }
-    requires idles { (n : ℕ) → carries_value (stepped_by seat.now.standing seat.now.number n None).seat ≡ false }
+    requires stays { (n : ℕ) → carries_value (stepped_by seat.now.standing seat.now.number n None).seat ≡ carries_value seat.now.standing }
     ensures table { place.new.table_id ≡ place.old.table_id }
     ensures step { MadeStep T.follows T.fits seat.now.number place.new.table_id.words place.new.id seat.now.limits seat.now.standing result place.old.me moving.now place.new.me moving.now }
 {
     load_handoff::<T, Brand>(table, place, seat, moving)
 }
 
-/// Loads the push word, for a seat that doesn't hold.
+/// Loads the push word, for a seat that goes on carrying the value or not, as it did.
 #[inline(always)]
-pub fn load_push_free<T: Kept>(
+pub fn load_push_kept<T: Kept>(
     table: &SharedTable<T>,
     place: &mut Place<T>,
     moving: &Option<MovingBox<T>>,
@@ -247,17 +246,16 @@ pub fn load_push_free<T: Kept>(
     requires table { place.old.table_id ≡ table.now.table_id }
     requires fit { Fit seat.now.number place.old.table_id.words place.old.id seat.now.limits seat.now.standing place.old.me moving.now }
     requires kind { kind seat.now.standing.point ≡ Some KindNow.PushLoad }
-    requires free { carries_value seat.now.standing ≡ false }
-    requires idles { (n : ℕ) → carries_value (stepped_by seat.now.standing seat.now.number n None).seat ≡ false }
+    requires stays { (n : ℕ) → carries_value (stepped_by seat.now.standing seat.now.number n None).seat ≡ carries_value seat.now.standing }
     ensures table { place.new.table_id ≡ place.old.table_id }
     ensures step { MadeStep T.follows T.fits seat.now.number place.new.table_id.words place.new.id seat.now.limits seat.now.standing result place.old.me moving.now place.new.me moving.now }
 {
     load_push::<T, Brand>(table, place, seat, moving)
 }
 
-/// Exchanges the push word, for a seat that doesn't hold.
+/// Exchanges the push word, for a seat that goes on carrying the value or not, as it did.
 #[inline(always)]
-pub fn exchange_push_free<T: Kept>(
+pub fn exchange_push_kept<T: Kept>(
     table: &SharedTable<T>,
     place: &mut Place<T>,
     moving: &Option<MovingBox<T>>,
@@ -266,17 +264,16 @@ pub fn exchange_push_free<T: Kept>(
     requires table { place.old.table_id ≡ table.now.table_id }
     requires fit { Fit seat.now.number place.old.table_id.words place.old.id seat.now.limits seat.now.standing place.old.me moving.now }
     requires kind { kind seat.now.standing.point ≡ Some KindNow.PushExchange }
-    requires free { carries_value seat.now.standing ≡ false }
-    requires idles { (n : ℕ) → carries_value (stepped_by seat.now.standing seat.now.number n None).seat ≡ false }
+    requires stays { (n : ℕ) → carries_value (stepped_by seat.now.standing seat.now.number n None).seat ≡ carries_value seat.now.standing }
     ensures table { place.new.table_id ≡ place.old.table_id }
     ensures step { MadeStep T.follows T.fits seat.now.number place.new.table_id.words place.new.id seat.now.limits seat.now.standing result place.old.me moving.now place.new.me moving.now }
 {
     exchange_push::<T, Brand>(table, place, seat, moving)
 }
 
-/// Stores the link, for a seat that doesn't hold.
+/// Stores the link, for a seat that goes on carrying the value or not, as it did.
 #[inline(always)]
-pub fn store_link_free<T: Kept>(
+pub fn store_link_kept<T: Kept>(
     table: &SharedTable<T>,
     place: &mut Place<T>,
     moving: &Option<MovingBox<T>>,
@@ -285,8 +282,7 @@ pub fn store_link_free<T: Kept>(
     requires table { place.old.table_id ≡ table.now.table_id }
     requires fit { Fit seat.now.number place.old.table_id.words place.old.id seat.now.limits seat.now.standing place.old.me moving.now }
     requires kind { kind seat.now.standing.point ≡ Some KindNow.LinkStore }
-    requires free { carries_value seat.now.standing ≡ false }
-    requires idles { (n : ℕ) → carries_value (stepped_by seat.now.standing seat.now.number n None).seat ≡ false }
+    requires stays { (n : ℕ) → carries_value (stepped_by seat.now.standing seat.now.number n None).seat ≡ carries_value seat.now.standing }
     ensures table { place.new.table_id ≡ place.old.table_id }
     ensures step { (n : ℕ) × MadeStep T.follows T.fits seat.now.number place.new.table_id.words place.new.id seat.now.limits seat.now.standing n place.old.me moving.now place.new.me moving.now }
 {
@@ -311,9 +307,9 @@ pub fn clear_head_held<T: Kept>(
     clear_head::<T, Brand>(table, place, seat, moving)
 }
 
-/// Stores the seat's own wake word, for a seat that carries the value and goes on carrying it.
+/// Stores the seat's own wake word, for a seat that goes on carrying the value or not, as it did.
 #[inline(always)]
-pub fn store_wake_held<T: Kept>(
+pub fn store_wake_kept<T: Kept>(
     table: &SharedTable<T>,
     place: &mut Place<T>,
     moving: &Option<MovingBox<T>>,
@@ -322,14 +318,32 @@ pub fn store_wake_held<T: Kept>(
     requires table { place.old.table_id ≡ table.now.table_id }
     requires fit { Fit seat.now.number place.old.table_id.words place.old.id seat.now.limits seat.now.standing place.old.me moving.now }
     requires kind { kind seat.now.standing.point ≡ Some KindNow.WakeStore }
-    requires held { carries_value seat.now.standing ≡ true }
     requires keeps { drops_oldest seat.now.standing ≡ false }
-    requires stays { gives_at seat.now.standing.point ≡ false }
+    requires grants_none { gives_at seat.now.standing.point ≡ false }
+    requires stays { (n : ℕ) → carries_value (stepped_by seat.now.standing seat.now.number n None).seat ≡ carries_value seat.now.standing }
     ensures table { place.new.table_id ≡ place.old.table_id }
     ensures step { (n : ℕ) × MadeStep T.follows T.fits seat.now.number place.new.table_id.words place.new.id seat.now.limits seat.now.standing n place.old.me moving.now place.new.me moving.now }
 {
     let (_, wake_up) = store_wake::<T, Brand>(table, place, seat, moving);
     WakeUp::expect_none(wake_up);
+}
+
+/// Exchanges the wake word of the target, for a seat that goes on carrying the value or not, as it did.
+#[inline(always)]
+pub fn exchange_wake_kept<T: Kept>(
+    table: &SharedTable<T>,
+    place: &mut Place<T>,
+    moving: &Option<MovingBox<T>>,
+    seat: &SeatData,
+) -> u64
+    requires table { place.old.table_id ≡ table.now.table_id }
+    requires fit { Fit seat.now.number place.old.table_id.words place.old.id seat.now.limits seat.now.standing place.old.me moving.now }
+    requires kind { kind seat.now.standing.point ≡ Some KindNow.WakeExchange }
+    requires stays { (n : ℕ) → carries_value (stepped_by seat.now.standing seat.now.number n None).seat ≡ carries_value seat.now.standing }
+    ensures table { place.new.table_id ≡ place.old.table_id }
+    ensures step { MadeStep T.follows T.fits seat.now.number place.new.table_id.words place.new.id seat.now.limits seat.now.standing result place.old.me moving.now place.new.me moving.now }
+{
+    exchange_wake::<T, Brand>(table, place, seat, moving)
 }
 
 /// Loads the seat's own wake word, for a seat that sleeps, which comes to carry the value just where it found a grant.
@@ -377,10 +391,10 @@ pub fn load_link_held<T: Kept>(
     found
 }
 
-/// Stores a grant in the wake word of the seat of the oldest record, and takes that record out of the pop list, for a seat that
-/// gives the value away by it. It hands out the wake-up of the seat that it granted.
+/// Stores a grant in the wake word of another seat, for a seat that gives the value away by it. Where it is for the oldest record, it
+/// takes that out of the pop list. It hands out the wake-up of the seat that it granted.
 #[inline(always)]
-pub fn grant_oldest<T: Kept>(
+pub fn store_grant<T: Kept>(
     table: &SharedTable<T>,
     place: &mut Place<T>,
     moving: &mut Option<MovingBox<T>>,

@@ -9,17 +9,16 @@ use Rattle.lfm_protocol.specs.declared.answers.Call.{Call}
 use Rattle.lfm_protocol.specs.declared.limits.Limits.{Limits}
 use Rattle.lfm_protocol.specs.declared.points.Entrant.{Entrant}
 use Rattle.lfm_protocol.specs.declared.points.Point.{Point}
-use Rattle.lfm_protocol.specs.declared.points.Point.TheVariants.{Rest, LockCountAdd, LockOwnerLoad, LockCountSubtract, EnterOwnerStore, PushLoad, TryCountExchange, TryOwnerLoad, TryHandoffLoad, TryHandoffExchange, ReleaseOwnerStore, ReleaseCountSubtract}
+use Rattle.lfm_protocol.specs.declared.points.Point.TheVariants.{Rest, LockCountAdd, LockOwnerLoad, LockCountSubtract, EnterOwnerStore, PushLoad, TryCountExchange, TryOwnerLoad, TryHandoffLoad, TryHandoffExchange, ReleaseOwnerStore}
 use Rattle.lfm_protocol.specs.declared.points.Pusher.{Pusher}
-use Rattle.lfm_protocol.specs.declared.points.Releaser.TheVariants.{Unlocker}
-use Rattle.lfm_protocol.specs.declared.points.Carrier.{Carrier}
+use Rattle.lfm_protocol.specs.declared.points.Releaser.TheVariants.{Unlocker, Waiter}
 use Rattle.lfm_protocol.specs.declared.answers.Answer.{Answer}
 use Rattle.lfm_protocol.specs.declared.answers.Turn.TheVariants.{Open, Ended, Refused}
 use Rattle.lfm_protocol.specs.declared.answers.Why.{Why}
 use Rattle.lfm_model.specs.declared.refusals.Refusal.{Refusal}
 use Rattle.lfm_model.specs.declared.answers.Locked.{Locked}
 use Rattle.lfm_model.specs.declared.answers.Unlocked.{Unlocked}
-use Rattle.lfm_protocol.specs.After.{take, busy}
+use Rattle.lfm_protocol.specs.After.{busy}
 use Rattle.lfm_protocol.specs.Place.{carries}
 use Rattle.lfm_laws.specs.table.Carried.{carries_value}
 use Rattle.lfm_protocol.specs.declared.seats.SeatState.{SeatState}
@@ -28,7 +27,7 @@ use Rattle.lfm_protocol.specs.Begin.{Stepped}
 use Rattle.lfm_laws.specs.table.Words.{stepped_by, handoff_of}
 use Rattle.lfm_table.specs.declared.seat_view.View.{View}
 use Rattle.lfm_table.specs.declared.rule.Moving.{Moving}
-use Rattle.lfm_mutex.specs.calls.Runs.{opens, errand, releasing, is_release}
+use Rattle.lfm_mutex.specs.calls.Runs.{opens}
 use Rattle.lfm_mutex.specs.calls.Sight.{is_asleep}
 use Rattle.lfm_table.specs.Steps.{Event, oldest_in}
 use Rattle.lfm_table.specs.Straight.{Fit, MadeStep}
@@ -38,19 +37,6 @@ use Rattle.lfm_table.proofs.tables.StepFacts.{made_of}
 pub awake_rests : (q : Point) → is_asleep q ≡ false → q ≡ Rest
 awake_rests Rest e = refl
 awake_rests _ e = absurd (false≢true (sym e))
-
--- a releaser that takes the oldest record
-taking : (s : ℕ) (o : Option Record) → carries (take (Carrier.Releaser Unlocker) s o) ≡ true
-taking s None = refl
-taking s (Some r) = refl
-
-takes_for : (s : ℕ) (o : Option Record) → errand (take (Carrier.Releaser Unlocker) s o) ≡ releasing Unlocker
-takes_for s None = refl
-takes_for s (Some r) = refl
-
-takes_on : (s : ℕ) (o : Option Record) → is_release (take (Carrier.Releaser Unlocker) s o) ≡ false
-takes_on s None = refl
-takes_on s (Some r) = refl
 
 -- Begins
 
@@ -88,6 +74,12 @@ begins_try_again p l rests held room =
 
 pub begins_last : (p : SeatState) (l : Limits) → p.point ≡ Rest → p.depth ≡ 1 → Begin.begin p l Call.Unlock ≡ opens (made_of 1 p.takes p.posts (ReleaseOwnerStore Unlocker))
 begins_last p l rests one = ap (λ (x : SeatState). Begin.begin x l Call.Unlock) (λ i. record { depth = one i; takes = p.takes; posts = p.posts; point = rests i })
+
+pub begins_wait : (p : SeatState) (l : Limits) → p.point ≡ Rest → p.depth ≡ 1 → p.takes < l.budget → Begin.begin p l Call.StartWait ≡ opens (made_of 1 (p.takes + 1) p.posts (ReleaseOwnerStore Waiter))
+begins_wait p l rests one charged =
+    let h = below p.takes l.budget charged in
+    let e : Begin.begin (made_of 1 p.takes p.posts Rest) l Call.StartWait ≡ opens (made_of 1 (p.takes + 1) p.posts (ReleaseOwnerStore Waiter)) = rw h refl in
+    ap (λ (x : SeatState). Begin.begin x l Call.StartWait) (λ i. record { depth = one i; takes = p.takes; posts = p.posts; point = rests i }) ∙ e
 
 pub begins_still : (p : SeatState) (l : Limits) → p.point ≡ Rest → 1 < p.depth → Begin.begin p l Call.Unlock ≡ record { seat = record p { depth = p.depth - 1 }; turn = Ended (Answer.Unlocked (Unlocked.Still (p.depth - 1))) }
 begins_still p l rests deep =
@@ -135,21 +127,6 @@ handoff_idles_if false t ps q e = e
 
 pub handoff_idles : (t ps s n : ℕ) (o : Option Record) → carries_value (stepped_by (made_of 0 t ps TryHandoffLoad) s n o).seat ≡ false
 handoff_idles t ps s n o = handoff_idles_if (nat_eq (n % 65536) 0) t ps (TryHandoffExchange (handoff_of n)) refl
-
-pub freed : (d t ps s n : ℕ) (o : Option Record) → n ≡ 1 → stepped_by (made_of d t ps (ReleaseCountSubtract Unlocker)) s n o ≡ record { seat = made_of d t ps Rest; turn = Ended (Answer.Unlocked Unlocked.Free) }
-freed d t ps s n o e = rw e refl
-
-pub not_freed : (d t ps s n : ℕ) (o : Option Record) → n ≢ 1 → (stepped_by (made_of d t ps (ReleaseCountSubtract Unlocker)) s n o).turn ≡ Open
-not_freed d t ps s n o e = let h = ne_eqb n 1 e in rw h refl
-
-pub goes_on_carrying : (t ps s n : ℕ) (o : Option Record) → n ≢ 1 → carries_value (stepped_by (made_of 0 t ps (ReleaseCountSubtract Unlocker)) s n o).seat ≡ true
-goes_on_carrying t ps s n o e = let h = ne_eqb n 1 e in rw h (taking s o)
-
-pub goes_on_releasing : (t ps s n : ℕ) (o : Option Record) → n ≢ 1 → errand (stepped_by (made_of 0 t ps (ReleaseCountSubtract Unlocker)) s n o).seat.point ≡ releasing Unlocker
-goes_on_releasing t ps s n o e = let h = ne_eqb n 1 e in rw h (takes_for s o)
-
-pub goes_on_keeping : (t ps s n : ℕ) (o : Option Record) → n ≢ 1 → is_release (stepped_by (made_of 0 t ps (ReleaseCountSubtract Unlocker)) s n o).seat.point ≡ false
-goes_on_keeping t ps s n o e = let h = ne_eqb n 1 e in rw h (takes_on s o)
 
 pub added_none : (d t ps s n : ℕ) (o : Option Record) → n ≡ 0 → stepped_by (made_of d t ps LockCountAdd) s n o ≡ opens (made_of d t ps (EnterOwnerStore Entrant.Locker How.Free))
 added_none d t ps s n o e = rw e refl

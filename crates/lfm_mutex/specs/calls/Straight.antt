@@ -2,6 +2,7 @@
 use Rattle.std.specs.Prelude.{◌≡◌, ℕ, Option, Some, Result, Ok, Err}
 use Rattle.lfm_model.specs.declared.answers.How.{How}
 use Rattle.lfm_model.specs.declared.answers.Locked.{Locked}
+use Rattle.lfm_model.specs.declared.answers.Unlocked.{Unlocked}
 use Rattle.lfm_model.specs.declared.refusals.Refusal.{Refusal}
 use Rattle.lfm_protocol.specs.declared.answers.Answer.{Answer}
 use Rattle.lfm_protocol.specs.declared.answers.Call.{Call}
@@ -9,6 +10,7 @@ use Rattle.lfm_protocol.specs.declared.answers.Turn.{Turn}
 use Rattle.lfm_protocol.specs.declared.answers.Turn.TheVariants.{Ended, Refused}
 use Rattle.lfm_protocol.specs.declared.answers.Why.{Why}
 use Rattle.lfm_protocol.specs.declared.limits.Limits.{Limits}
+use Rattle.lfm_protocol.specs.declared.points.Releaser.{Releaser}
 use Rattle.lfm_protocol.specs.declared.seats.SeatState.{SeatState}
 use Rattle.lfm_table.specs.declared.seat_view.View.{View}
 use Rattle.lfm_table.specs.declared.rule.Moving.{Moving}
@@ -21,6 +23,11 @@ use Rattle.lfm_mutex.specs.calls.Trails.{Made}
 abbrev pub try_turn : Result Locked Refusal → Turn
 try_turn (Ok locked) = Ended (Answer.Locked locked)
 try_turn (Err refusal) = Refused (Why.By refusal)
+
+-- how a call that releases has ended
+abbrev pub release_turn : Releaser → Unlocked → Turn
+release_turn Releaser.Unlocker released = Ended (Answer.Unlocked released)
+release_turn Releaser.Waiter released = Ended (Answer.Waiting released)
 
 -- a seat that was p0, with a0 in hand, has made some steps of its call, and is p with a in hand
 pub record Course {T : Type 0} (follows : ℕ → T → T → Type 0) (suits : T → ℕ → Type 0) (number : ℕ) (p0 : SeatState) (a0 : Option (Moving T)) (v0 : View T) (turn : Turn) (p : SeatState) (a : Option (Moving T)) (v : View T) : Type 0 where

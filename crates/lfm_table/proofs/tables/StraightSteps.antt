@@ -122,6 +122,11 @@ module _ {T : Type 0} (follows : ℕ → T → T → Type 0) (suits : T → ℕ 
     can_keep leaves = can_now false flat a m refl refl leaves
 
     module _ (n : ℕ) (m1 : Now) (did : Advanced follows suits p (value_in a) m n m1) (words' id' : ℕ) (same_words : words' ≡ words) (same_id : id' ≡ id) where
+      -- the seat goes on carrying the value or not, as it did
+      pub stayed : carries_value (stepped_by p number n None).seat ≡ carries_value p → MadeStep follows suits number words' id' l p n m a m1 a
+      stayed same =
+          made_now false flat a m refl refl n m1 did words' id' same_words same_id a m1 (took_none (is_carried a) (carries_value (stepped_by p number n None).seat) a m1 (fit.seated.moved ∙ sym same))
+
       -- the seat has the value in hand, and keeps it
       pub kept : carries_value p ≡ true → MadeStep follows suits number words' id' l p n m a m1 a
       kept before =

@@ -25,7 +25,7 @@ use Rattle.lfm_mutex.proofs.queue.queue.Goals as goal
 pub returns-then-found-word-clause-made : goal.returns-then-found-word-clause-made
 returns-then-found-word-clause-made g c =
     let s = c.args.seat.now in let t = s.standing.takes in let ps = s.standing.posts in let a = s.moving in
-    let h = c.load_free in let w = c.load_push_free-word in let l = c.store_link_free in let found = c.exchange_push_free-found in let u = c.unpack_link-seen in
+    let h = c.load_free in let w = c.load_push_kept-word in let l = c.store_link_kept in let found = c.exchange_push_kept-found in let u = c.unpack_link-seen in
     let p0 = made_of 0 t ps LockOwnerLoad in let p1 = made_of 0 t ps (PushLoad Pusher.Locker) in let p2 = made_of 0 t ps (LinkStore Pusher.Locker u.result) in let p3 = made_of 0 t ps (PushExchange Pusher.Locker u.result) in
     let at : s.standing ≡ p0 = (λ i. record { depth = c.requires.flat i; takes = t; posts = ps; point = c.requires.stands i }) in
     let fit0 = subst (λ (x : SeatState). Fit s.number s.place.table_id.words s.place.id s.limits x s.place.me a) at (record { seated = s.seated; became = s.became; ready = s.ready; rooted = s.rooted }) in
@@ -46,7 +46,7 @@ returns-then-found-word-clause-made g c =
 pub returns-then-handoff-ne0-clause-made : goal.returns-then-handoff-ne0-clause-made
 returns-then-handoff-ne0-clause-made g c =
     let s = c.args.seat.now in let t = s.standing.takes in let ps = s.standing.posts in let a = s.moving in
-    let h = c.load_free in let w = c.load_push_free-word in let l = c.store_link_free in let found = c.exchange_push_free-found in let k = c.load_handoff_free-handoff in let u = c.unpack_link-seen in
+    let h = c.load_free in let w = c.load_push_kept-word in let l = c.store_link_kept in let found = c.exchange_push_kept-found in let k = c.load_handoff_kept-handoff in let u = c.unpack_link-seen in
     let p0 = made_of 0 t ps LockOwnerLoad in let p1 = made_of 0 t ps (PushLoad Pusher.Locker) in let p2 = made_of 0 t ps (LinkStore Pusher.Locker u.result) in let p3 = made_of 0 t ps (PushExchange Pusher.Locker u.result) in let p4 = made_of 0 t ps (PushedHandoffLoad Pusher.Locker) in
     let at : s.standing ≡ p0 = (λ i. record { depth = c.requires.flat i; takes = t; posts = ps; point = c.requires.stands i }) in
     let fit0 = subst (λ (x : SeatState). Fit s.number s.place.table_id.words s.place.id s.limits x s.place.me a) at (record { seated = s.seated; became = s.became; ready = s.ready; rooted = s.rooted }) in
@@ -69,7 +69,7 @@ returns-then-handoff-ne0-clause-made g c =
 pub returns-clause-made : goal.returns-clause-made
 returns-clause-made g c =
     let s = c.args.seat.now in let t = s.standing.takes in let ps = s.standing.posts in let a = s.moving in
-    let h = c.load_free in let w = c.load_push_free-word in let l = c.store_link_free in let found = c.exchange_push_free-found in let k = c.load_handoff_free-handoff in let u = c.unpack_link-seen in
+    let h = c.load_free in let w = c.load_push_kept-word in let l = c.store_link_kept in let found = c.exchange_push_kept-found in let k = c.load_handoff_kept-handoff in let u = c.unpack_link-seen in
     let p0 = made_of 0 t ps LockOwnerLoad in let p1 = made_of 0 t ps (PushLoad Pusher.Locker) in let p2 = made_of 0 t ps (LinkStore Pusher.Locker u.result) in let p3 = made_of 0 t ps (PushExchange Pusher.Locker u.result) in let p4 = made_of 0 t ps (PushedHandoffLoad Pusher.Locker) in
     let at : s.standing ≡ p0 = (λ i. record { depth = c.requires.flat i; takes = t; posts = ps; point = c.requires.stands i }) in
     let fit0 = subst (λ (x : SeatState). Fit s.number s.place.table_id.words s.place.id s.limits x s.place.me a) at (record { seated = s.seated; became = s.became; ready = s.ready; rooted = s.rooted }) in
@@ -87,7 +87,7 @@ returns-clause-made g c =
 pub returns-then-found-word-clause-spends : goal.returns-then-found-word-clause-spends
 returns-then-found-word-clause-spends g c =
     let s = c.args.seat.now in let t = s.standing.takes in let ps = s.standing.posts in let a = s.moving in
-    let h = c.load_free in let w = c.load_push_free-word in let l = c.store_link_free in let found = c.exchange_push_free-found in let u = c.unpack_link-seen in
+    let h = c.load_free in let w = c.load_push_kept-word in let l = c.store_link_kept in let found = c.exchange_push_kept-found in let u = c.unpack_link-seen in
     let p0 = made_of 0 t ps LockOwnerLoad in let p1 = made_of 0 t ps (PushLoad Pusher.Locker) in let p2 = made_of 0 t ps (LinkStore Pusher.Locker u.result) in let p3 = made_of 0 t ps (PushExchange Pusher.Locker u.result) in
     let at : s.standing ≡ p0 = (λ i. record { depth = c.requires.flat i; takes = t; posts = ps; point = c.requires.stands i }) in
     let fit0 = subst (λ (x : SeatState). Fit s.number s.place.table_id.words s.place.id s.limits x s.place.me a) at (record { seated = s.seated; became = s.became; ready = s.ready; rooted = s.rooted }) in
@@ -112,7 +112,7 @@ returns-then-found-word-clause-spends g c =
 pub returns-then-handoff-ne0-clause-spends : goal.returns-then-handoff-ne0-clause-spends
 returns-then-handoff-ne0-clause-spends g c =
     let s = c.args.seat.now in let t = s.standing.takes in let ps = s.standing.posts in let a = s.moving in
-    let h = c.load_free in let w = c.load_push_free-word in let l = c.store_link_free in let found = c.exchange_push_free-found in let k = c.load_handoff_free-handoff in let u = c.unpack_link-seen in
+    let h = c.load_free in let w = c.load_push_kept-word in let l = c.store_link_kept in let found = c.exchange_push_kept-found in let k = c.load_handoff_kept-handoff in let u = c.unpack_link-seen in
     let p0 = made_of 0 t ps LockOwnerLoad in let p1 = made_of 0 t ps (PushLoad Pusher.Locker) in let p2 = made_of 0 t ps (LinkStore Pusher.Locker u.result) in let p3 = made_of 0 t ps (PushExchange Pusher.Locker u.result) in let p4 = made_of 0 t ps (PushedHandoffLoad Pusher.Locker) in
     let at : s.standing ≡ p0 = (λ i. record { depth = c.requires.flat i; takes = t; posts = ps; point = c.requires.stands i }) in
     let fit0 = subst (λ (x : SeatState). Fit s.number s.place.table_id.words s.place.id s.limits x s.place.me a) at (record { seated = s.seated; became = s.became; ready = s.ready; rooted = s.rooted }) in
@@ -132,18 +132,18 @@ returns-then-handoff-ne0-clause-spends g c =
 
 pub returns-then-found-word-clause-wakes : goal.returns-then-found-word-clause-wakes
 returns-then-found-word-clause-wakes g c =
-    let s = c.args.seat.now in let h = c.load_free in let w = c.load_push_free-word in let l = c.store_link_free in let found = c.exchange_push_free-found in let on = c.ask_on in
+    let s = c.args.seat.now in let h = c.load_free in let w = c.load_push_kept-word in let l = c.store_link_kept in let found = c.exchange_push_kept-found in let on = c.ask_on in
     wakes_after s.limits.seats on.result.1 s.place.me.0.trail found.new.place.me.0.trail on.new.seat.place.me.0.trail
     (grants_none g.T.Kept.follows g.T.Kept.fits _ _ _ _ _ _ _ found.ensures.step.event refl ∙ (grants_none g.T.Kept.follows g.T.Kept.fits _ _ _ _ _ _ _ l.ensures.step.1.event refl ∙ (grants_none g.T.Kept.follows g.T.Kept.fits _ _ _ _ _ _ _ w.ensures.step.event refl ∙ grants_none g.T.Kept.follows g.T.Kept.fits _ _ _ _ _ _ _ h.ensures.step.event refl))) on.ensures.wakes
 
 pub returns-then-handoff-ne0-clause-wakes : goal.returns-then-handoff-ne0-clause-wakes
 returns-then-handoff-ne0-clause-wakes g c =
-    let s = c.args.seat.now in let h = c.load_free in let w = c.load_push_free-word in let l = c.store_link_free in let found = c.exchange_push_free-found in let k = c.load_handoff_free-handoff in let on = c.ask_on-then-handoff-ne0 in
+    let s = c.args.seat.now in let h = c.load_free in let w = c.load_push_kept-word in let l = c.store_link_kept in let found = c.exchange_push_kept-found in let k = c.load_handoff_kept-handoff in let on = c.ask_on-then-handoff-ne0 in
     wakes_after s.limits.seats on.result.1 s.place.me.0.trail k.new.place.me.0.trail on.new.seat.place.me.0.trail
     (grants_none g.T.Kept.follows g.T.Kept.fits _ _ _ _ _ _ _ k.ensures.step.event refl ∙ (grants_none g.T.Kept.follows g.T.Kept.fits _ _ _ _ _ _ _ found.ensures.step.event refl ∙ (grants_none g.T.Kept.follows g.T.Kept.fits _ _ _ _ _ _ _ l.ensures.step.1.event refl ∙ (grants_none g.T.Kept.follows g.T.Kept.fits _ _ _ _ _ _ _ w.ensures.step.event refl ∙ grants_none g.T.Kept.follows g.T.Kept.fits _ _ _ _ _ _ _ h.ensures.step.event refl)))) on.ensures.wakes
 
 pub returns-clause-wakes : goal.returns-clause-wakes
 returns-clause-wakes g c =
-    let s = c.args.seat.now in let h = c.load_free in let w = c.load_push_free-word in let l = c.store_link_free in let found = c.exchange_push_free-found in let k = c.load_handoff_free-handoff in
+    let s = c.args.seat.now in let h = c.load_free in let w = c.load_push_kept-word in let l = c.store_link_kept in let found = c.exchange_push_kept-found in let k = c.load_handoff_kept-handoff in
     wakes_none s.limits.seats s.place.me.0.trail k.new.place.me.0.trail
     (grants_none g.T.Kept.follows g.T.Kept.fits _ _ _ _ _ _ _ k.ensures.step.event refl ∙ (grants_none g.T.Kept.follows g.T.Kept.fits _ _ _ _ _ _ _ found.ensures.step.event refl ∙ (grants_none g.T.Kept.follows g.T.Kept.fits _ _ _ _ _ _ _ l.ensures.step.1.event refl ∙ (grants_none g.T.Kept.follows g.T.Kept.fits _ _ _ _ _ _ _ w.ensures.step.event refl ∙ grants_none g.T.Kept.follows g.T.Kept.fits _ _ _ _ _ _ _ h.ensures.step.event refl))))

@@ -37,7 +37,7 @@ returns-clause-made g c =
     let p0 = made_of 0 t ps (ReceiveWakeLoad w) in
     let begins = begins_receive s.standing s.limits w c.requires.sleeps c.requires.flat in
     let fit = fit_begun s.number s.place.table_id.words s.place.id s.limits s.place.me s.moving s.standing p0 Call.Receive (record { seated = s.seated; became = s.became; ready = s.ready; rooted = s.rooted }) begins in
-    let f = c.load_grant-found in let h = c.store_wake_held in let k = c.store_held in
+    let f = c.load_grant-found in let h = c.store_wake_kept in let k = c.store_held in
     let stamp = c.stamp_in-stamp.result in let how = c.how_by-how.result in
     let p1 = made_of 0 t ps (ReceiveWakeStore stamp) in let p2 = made_of 0 t ps (EnterOwnerStore Entrant.Receiver how) in
     let is1 = granted t ps s.number f.result (oldest_in f.new.moving) w (omega (arith, c.if-found-lt-FIRST_GRANT.false)) ∙ ap (λ (x : ℕ). opens (made_of 0 t ps (ReceiveWakeStore x))) (sym c.stamp_in-stamp.ensures) in

@@ -45,7 +45,7 @@ returns-then-handoff-ne0-clause-made g c =
     let begins = begins_try_free s.standing s.limits c.requires.rests c.requires.flat (subst (λ (b : ℕ). s.standing.takes < b) c.requires.budget c.requires.charged) in
     let fit = fit_begun s.number s.place.table_id.words s.place.id s.limits s.place.me s.moving s.standing p0 Call.TryLock (record { seated = s.seated; became = s.became; ready = s.ready; rooted = s.rooted }) begins in
     let f = c.exchange_free-found in
-    let h = c.load_free in let k = c.load_handoff_free-handoff in
+    let h = c.load_free in let k = c.load_handoff_kept-handoff in
     let p1 = made_of 0 t ps TryOwnerLoad in let p2 = made_of 0 t ps TryHandoffLoad in
     let is1 = exchanged_some 0 t ps s.number f.result (oldest_in f.new.moving) c.if-found-eq0.false in
     let is2 = try_not_owned 0 t ps s.number h.result (oldest_in f.new.moving) h.ensures.other in
@@ -68,7 +68,7 @@ returns-clause-made g c =
     let begins = begins_try_free s.standing s.limits c.requires.rests c.requires.flat (subst (λ (b : ℕ). s.standing.takes < b) c.requires.budget c.requires.charged) in
     let fit = fit_begun s.number s.place.table_id.words s.place.id s.limits s.place.me s.moving s.standing p0 Call.TryLock (record { seated = s.seated; became = s.became; ready = s.ready; rooted = s.rooted }) begins in
     let f = c.exchange_free-found in
-    let h = c.load_free in let k = c.load_handoff_free-handoff in
+    let h = c.load_free in let k = c.load_handoff_kept-handoff in
     let p1 = made_of 0 t ps TryOwnerLoad in let p2 = made_of 0 t ps TryHandoffLoad in
     let is1 = exchanged_some 0 t ps s.number f.result (oldest_in f.new.moving) c.if-found-eq0.false in
     let is2 = try_not_owned 0 t ps s.number h.result (oldest_in f.new.moving) h.ensures.other in
@@ -87,7 +87,7 @@ returns-clause-made g c =
 pub invariant_of-seat-then-handoff-ne0 : goal.invariant_of-seat-then-handoff-ne0
 invariant_of-seat-then-handoff-ne0 g c =
     let s = c.args.seat.now in let t = s.standing.takes + 1 in let ps = s.standing.posts in
-    let f = c.exchange_free-found in let k = c.load_handoff_free-handoff in
+    let f = c.exchange_free-found in let k = c.load_handoff_kept-handoff in
     let q = made_of 0 t ps (TryHandoffExchange (handoff_of k.result)) in
     let at : c.stand_exchanging.new.standing ≡ q = c.stand_exchanging.ensures ∙ ap (λ (z : Stepped). z.seat) (posted 0 t ps s.number k.result None c.if-handoff-ne0.true) in
     let fit = subst (λ (x : SeatState). Fit s.number k.new.place.table_id.words k.new.place.id s.limits x k.new.place.me f.new.moving) (ap (λ (z : Stepped). z.seat) (posted 0 t ps s.number k.result (oldest_in f.new.moving) c.if-handoff-ne0.true) ∙ sym at) k.ensures.step.fit in

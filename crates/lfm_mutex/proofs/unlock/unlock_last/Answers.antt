@@ -4,7 +4,9 @@ use Rattle.lfm_protocol.specs.declared.answers.Answer.{Answer}
 use Rattle.lfm_protocol.specs.declared.answers.Call.{Call}
 use Rattle.lfm_protocol.specs.declared.answers.Turn.TheVariants.{Ended}
 use Rattle.lfm_protocol.specs.declared.points.Point.TheVariants.{Rest, ReleaseOwnerStore, ReleaseCountSubtract}
+use Rattle.lfm_protocol.specs.declared.points.Carrier.{Carrier}
 use Rattle.lfm_protocol.specs.declared.points.Releaser.TheVariants.{Unlocker}
+use Rattle.lfm_protocol.specs.After.{take}
 use Rattle.lfm_protocol.specs.declared.seats.SeatState.{SeatState}
 use Rattle.lfm_laws.specs.table.Words.{stepped_by}
 use Rattle.lfm_table.specs.Rule.{value_in}
@@ -16,7 +18,8 @@ use Rattle.lfm_mutex.specs.calls.Straight.{Course, ComesTo}
 use Rattle.lfm_mutex.proofs.runs.Courses.{course_none, course_next, course_join, gives_up}
 use Rattle.lfm_mutex.proofs.runs.Running.{trail_grows, bounded_more}
 use Rattle.lfm_mutex.proofs.runs.Sights.{may_leave}
-use Rattle.lfm_mutex.proofs.runs.StraightPoints.{begins_last, fit_begun, freed, not_freed}
+use Rattle.lfm_mutex.proofs.runs.StraightPoints.{begins_last, fit_begun}
+use Rattle.lfm_mutex.proofs.runs.ServePoints.{freed, not_freed}
 use Rattle.lfm_table.proofs.tables.StepFacts.{made_of}
 use Rattle.lfm_protocol.specs.Begin.{Stepped}
 use Rattle.lfm_mutex.proofs.runs.WakeUps.{grants_none, wakes_after, wakes_none}
@@ -39,12 +42,12 @@ returns-then-found-ne1-clause-made g c =
     let e : Event g.T.Kept.follows g.T.Kept.fits p1 s.moving h.new.place.me.0 st.turn st.seat f.new.moving b.me.0 = f.ensures.step.event in
     let fit1 : Fit s.number h.new.place.table_id.words h.new.place.id s.limits p1 h.new.place.me s.moving = h.ensures.step.1.fit in
     let r = c.serve.new.seat in let turn = Ended (Answer.Unlocked c.serve.result.0) in
-    let open_still : st ≡ opens st.seat = (λ i. record { seat = st.seat; turn = not_freed 0 t ps s.number f.result (oldest_in f.new.moving) c.if-found-ne1.true i }) in
-    let same : c.stand_carrying.new.standing ≡ st.seat = c.stand_carrying.ensures in
-    let so = course_next g.T.Kept.follows g.T.Kept.fits s.number p1 s.moving h.new.place.me.0 h.new.place.table_id.words h.new.place.id s.limits p1 f.result h.new.place.me s.moving b.me f.new.moving b.table_id.words b.id (opens st.seat)
-    (course_none g.T.Kept.follows g.T.Kept.fits s.number p1 s.moving h.new.place.me.0) fit1 f.ensures.step open_still (λ e. cc) refl in
-    gives_up g.T.Kept.follows g.T.Kept.fits s.number s.place.table_id.words s.place.id h.new.place.table_id.words h.new.place.id r.number h.ensures.step.0 s.limits p0 p1 s.place.me h.new.place.me s.moving fit refl h.ensures.step.1 refl c.args.mutex.now.limits s.standing r.standing turn r.moving r.place.me.0 c.requires.belongs.1 c.serve.ensures.same.0 begins refl
-    (course_join g.T.Kept.follows g.T.Kept.fits s.number p1 s.moving h.new.place.me.0 st.seat r.standing f.new.moving r.moving b.me.0 r.place.me.0 turn so
+    let q = made_of 0 t ps (take (Carrier.Releaser Unlocker) 0 (oldest_in f.new.moving)) in
+    let same : c.stand_serving.new.standing ≡ q = c.stand_serving.ensures in
+    let so = course_next g.T.Kept.follows g.T.Kept.fits s.number p1 s.moving h.new.place.me.0 h.new.place.table_id.words h.new.place.id s.limits p1 f.result h.new.place.me s.moving b.me f.new.moving b.table_id.words b.id (opens q)
+    (course_none g.T.Kept.follows g.T.Kept.fits s.number p1 s.moving h.new.place.me.0) fit1 f.ensures.step (not_freed Unlocker 0 t ps s.number f.result (oldest_in f.new.moving) c.if-found-ne1.true) (λ e. cc) refl in
+    gives_up g.T.Kept.follows g.T.Kept.fits s.number s.place.table_id.words s.place.id h.new.place.table_id.words h.new.place.id r.number h.ensures.step.0 s.limits p0 p1 s.place.me h.new.place.me s.moving fit Unlocker refl h.ensures.step.1 refl Call.Unlock c.args.mutex.now.limits s.standing r.standing turn r.moving r.place.me.0 refl c.requires.belongs.1 c.serve.ensures.same.0 begins refl
+    (course_join g.T.Kept.follows g.T.Kept.fits s.number p1 s.moving h.new.place.me.0 q r.standing f.new.moving r.moving b.me.0 r.place.me.0 turn so
     (subst (λ (x : SeatState). Course g.T.Kept.follows g.T.Kept.fits s.number x f.new.moving b.me.0 turn r.standing r.moving r.place.me.0) same c.serve.ensures.made))
 
 pub returns-clause-made : goal.returns-clause-made
@@ -61,10 +64,10 @@ returns-clause-made g c =
     let turn = Ended (Answer.Unlocked Unlocked.Free) in
     let so = course_next g.T.Kept.follows g.T.Kept.fits s.number p1 s.moving h.new.place.me.0 h.new.place.table_id.words h.new.place.id s.limits p1 f.result h.new.place.me s.moving b.me f.new.moving b.table_id.words b.id
     (record { seat = made_of 0 t ps Rest; turn = turn })
-    (course_none g.T.Kept.follows g.T.Kept.fits s.number p1 s.moving h.new.place.me.0) fit1 f.ensures.step (freed 0 t ps s.number f.result (oldest_in f.new.moving) c.if-found-ne1.false) (λ e. cc) refl in
+    (course_none g.T.Kept.follows g.T.Kept.fits s.number p1 s.moving h.new.place.me.0) fit1 f.ensures.step (freed Unlocker 0 t ps s.number f.result (oldest_in f.new.moving) c.if-found-ne1.false) (λ e. cc) refl in
     subst (λ (x : SeatState). ComesTo g.T.Kept.follows g.T.Kept.fits c.args.mutex.now.limits Call.Unlock (sight_of s.number s.standing s.place.me.0 (value_in s.moving)) (sight_of s.number x b.me.0 (value_in f.new.moving)) turn)
     (λ i. record { depth = 0; takes = t; posts = ps; point = sym c.requires.rests i })
-    (gives_up g.T.Kept.follows g.T.Kept.fits s.number s.place.table_id.words s.place.id h.new.place.table_id.words h.new.place.id s.number h.ensures.step.0 s.limits p0 p1 s.place.me h.new.place.me s.moving fit refl h.ensures.step.1 refl c.args.mutex.now.limits s.standing (made_of 0 t ps Rest) turn f.new.moving b.me.0 c.requires.belongs.1 refl begins refl so)
+    (gives_up g.T.Kept.follows g.T.Kept.fits s.number s.place.table_id.words s.place.id h.new.place.table_id.words h.new.place.id s.number h.ensures.step.0 s.limits p0 p1 s.place.me h.new.place.me s.moving fit Unlocker refl h.ensures.step.1 refl Call.Unlock c.args.mutex.now.limits s.standing (made_of 0 t ps Rest) turn f.new.moving b.me.0 refl c.requires.belongs.1 refl begins refl so)
 
 pub returns-then-found-ne1-clause-bounded : goal.returns-then-found-ne1-clause-bounded
 returns-then-found-ne1-clause-bounded g c =
@@ -76,7 +79,7 @@ returns-then-found-ne1-clause-bounded g c =
     let fit1 : Fit s.number h.new.place.table_id.words h.new.place.id s.limits p1 h.new.place.me s.moving = h.ensures.step.1.fit in
     let one = trail_grows g.T.Kept.follows g.T.Kept.fits p0 first.seat s.place.me.0 h.new.place.me.0 s.moving s.moving first.turn h.ensures.step.1.event in
     let most = bounded_more g.T.Kept.follows g.T.Kept.fits s.limits.seats s.number p1 st.seat h.new.place.me.0 b.me.0 s.moving f.new.moving st.turn (λ e. cc) (ap (λ l. l.seats) fit1.seated.limits_are) fit1.ready f.ensures.step.event in
-    let then = subst (λ (x : SeatState). length r.place.me.0.trail ≤ length b.me.0.trail + weight s.limits.seats (length b.me.0.popped) x.point) c.stand_carrying.ensures c.serve.ensures.bounded in
+    let then = subst (λ (x : SeatState). length r.place.me.0.trail ≤ length b.me.0.trail + weight s.limits.seats (length b.me.0.popped) x.point) (c.stand_serving.ensures ∙ ap (λ (z : Stepped). z.seat) (sym (not_freed Unlocker 0 t ps s.number f.result (oldest_in f.new.moving) c.if-found-ne1.true))) c.serve.ensures.bounded in
     let same = ap (λ l. l.seats) c.requires.belongs.1 in
     omega (arith, one, most, then, same)
 
@@ -96,7 +99,7 @@ invariant_of-seat-else-found-ne1 g c =
     let s = c.args.seat.now in let t = s.standing.takes in let ps = s.standing.posts in
     let f = c.subtract_last-found in let b = f.new.place in
     let fit = subst (λ (x : SeatState). Fit s.number b.table_id.words b.id s.limits x b.me f.new.moving)
-    (ap (λ (z : Stepped). z.seat) (freed 0 t ps s.number f.result (oldest_in f.new.moving) c.if-found-ne1.false) ∙ (λ i. record { depth = 0; takes = t; posts = ps; point = sym c.requires.rests i })) f.ensures.step.fit in
+    (ap (λ (z : Stepped). z.seat) (freed Unlocker 0 t ps s.number f.result (oldest_in f.new.moving) c.if-found-ne1.false) ∙ (λ i. record { depth = 0; takes = t; posts = ps; point = sym c.requires.rests i })) f.ensures.step.fit in
     record { seated = fit.seated; became = fit.became; ready = fit.ready; rooted = fit.rooted }
 
 pub returns-then-found-ne1-clause-wakes : goal.returns-then-found-ne1-clause-wakes

@@ -1,10 +1,16 @@
 use Rattle.lfm_mutex.proofs.mutex.Mutex.start_wait_without_waking.Goals as goal
 
-pub returns-in-Ended-Waiting-clause-waits : goal.returns-in-Ended-Waiting-clause-waits
-returns-in-Ended-Waiting-clause-waits g c = rw (c.in-Ended-Waiting.is, c.in-Ended-Waiting.field-0-is) at c.release-turn.ensures.turned
+pub wait_last-released-requires-clause-leaves : goal.wait_last-released-requires-clause-leaves
+wait_last-released-requires-clause-leaves g c κs within = c.requires.leaves c.if-seat-eq1.true
 
-pub returns-in-Ended-Waiting-clause-steps : goal.returns-in-Ended-Waiting-clause-steps
-returns-in-Ended-Waiting-clause-steps g c = rw (c.in-Ended-Waiting.is, c.in-Ended-Waiting.field-0-is) at c.release-turn.ensures.made
+pub returns-then-seat-budget-clause-waits : goal.returns-then-seat-budget-clause-waits
+returns-then-seat-budget-clause-waits g c = c.wait_last-released.ensures.made.turned
 
-pub returns-in-Ended-Waiting-clause-wakes : goal.returns-in-Ended-Waiting-clause-wakes
-returns-in-Ended-Waiting-clause-wakes g c = c.release-turn.ensures.wakes
+pub returns-then-seat-budget-clause-steps : goal.returns-then-seat-budget-clause-steps
+returns-then-seat-budget-clause-steps g c = c.wait_last-released.ensures.made.made
+
+pub returns-then-seat-budget-clause-bounded : goal.returns-then-seat-budget-clause-bounded
+returns-then-seat-budget-clause-bounded g c = c.wait_last-released.ensures.bounded
+
+pub returns-then-seat-budget-clause-wakes : goal.returns-then-seat-budget-clause-wakes
+returns-then-seat-budget-clause-wakes g c = c.wait_last-released.ensures.wakes

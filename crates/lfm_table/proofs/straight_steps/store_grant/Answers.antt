@@ -6,7 +6,7 @@ use Rattle.lfm_table.specs.Steps.{CanMake}
 use Rattle.lfm_table.specs.Straight.{MadeStep}
 use Rattle.lfm_table.proofs.tables.ServingSteps.{granting_place, can_grant, granted}
 use Rattle.lfm_table.proofs.tables.StraightSteps.{leaves_by}
-use Rattle.lfm_table.proofs.straight_steps.grant_oldest.Goals as goal
+use Rattle.lfm_table.proofs.straight_steps.store_grant.Goals as goal
 
 pub put_out-requires-clause-slot : goal.put_out-requires-clause-slot
 put_out-requires-clause-slot g c κs within = granting_place g.T.Kept.follows g.T.Kept.fits c.args.seat.now.number c.args.place.now.table_id.words c.args.place.now.id c.args.seat.now.limits c.args.seat.now.standing c.args.place.now.me c.args.moving.now c.requires.fit c.requires.gives

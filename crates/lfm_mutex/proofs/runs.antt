@@ -9,7 +9,9 @@ pub mod QueuePoints
 pub mod ReceivePoints
 pub mod RunFacts
 pub mod Running
+pub mod SendEnds
 pub mod SendFacts
+pub mod SendPoints
 pub mod ServePoints
 pub mod ShortCalls
 pub mod SightFacts

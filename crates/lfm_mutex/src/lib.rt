@@ -14,6 +14,7 @@ mod open;
 mod owner;
 mod pace;
 mod queue;
+mod queue_target;
 mod receive;
 mod rounds;
 pub mod seat;

@@ -1,12 +1,12 @@
 //! How the seat of a call of lock that found others is queued: it loads the owner, pushes its record and loads the handoff word. It
 //! is made straight on; where the push word has changed, or a handoff is posted, the seat goes on from its point as any call
 //! does.
-ghost use Rattle.std.specs.Prelude.{◌≡◌, ◌<◌, ◌^◌, None, length};
+ghost use Rattle.std.specs.Prelude.{◌≡◌, length};
 ghost use Rattle.lfm_protocol.specs.declared.answers.Answer.TheVariants as Answered;
 ghost use Rattle.lfm_protocol.specs.declared.answers.Turn.TheVariants.{Ended};
 ghost use Rattle.lfm_protocol.specs.declared.points.Point.TheVariants.{LockOwnerLoad, PushExchange, PushedHandoffLoad};
-ghost use Rattle.lfm_protocol.specs.declared.points.Pusher.{Pusher as PusherNow};
-ghost use Rattle.lfm_laws.specs.table.Words.{stepped_by};
+ghost use Rattle.lfm_protocol.specs.After.{after_handoff_load, after_push_exchange};
+ghost use Rattle.lfm_laws.specs.table.Words.{handoff_of, link_of};
 ghost use Rattle.lfm_mutex.specs.calls.Due.{due};
 ghost use Rattle.lfm_mutex.specs.calls.FailedPushes.{Spends};
 ghost use Rattle.lfm_mutex.specs.calls.Straight.{Course};
@@ -18,30 +18,28 @@ use crate::seat::Seat;
 use lfm_model::Asked;
 use lfm_protocol::SeatState;
 use lfm_protocol::points::{Point, Pusher, Sleeper};
-use lfm_table::seat_memory::advance;
 use lfm_table::straight_steps::{
     exchange_push_kept, load_free, load_handoff_kept, load_push_kept, store_link_kept,
 };
 use lfm_table::{Kept, SeatData, WakeUp};
-use lfm_words::{Link, unpack_link};
+use lfm_words::{Link, unpack_handoff, unpack_link};
 
 // The points at which the generic run goes on. They are written out of line, since a point takes as long as a step.
 
 #[inline(never)]
-fn stand_after_push(standing: &mut SeatState, number: u64, seen: Link, found: u64)
-    requires { seen.stamp < 2 ^ 48 }
-    ensures { standing.new ≡ (stepped_by (record standing.old { point = PushExchange PusherNow.Locker seen }) number found None).seat }
+pub(crate) fn stand_after_push(standing: &mut SeatState, pusher: Pusher, seen: Link, found: u64)
+    ensures { standing.new ≡ (after_push_exchange (record standing.old { point = PushExchange pusher seen }) (link_of found)).seat }
 {
-    standing.point = Point::PushExchange(Pusher::Locker, seen);
-    advance(standing, number, found, None);
+    standing.point = Point::PushExchange(pusher, seen);
+    standing.after_push_exchange(unpack_link(found));
 }
 
 #[inline(never)]
-fn stand_beside_post(standing: &mut SeatState, number: u64, found: u64)
-    ensures { standing.new ≡ (stepped_by (record standing.old { point = PushedHandoffLoad PusherNow.Locker }) number found None).seat }
+pub(crate) fn stand_beside_post(standing: &mut SeatState, pusher: Pusher, found: u64)
+    ensures { standing.new ≡ (after_handoff_load (record standing.old { point = PushedHandoffLoad pusher }) (handoff_of found)).seat }
 {
-    standing.point = Point::PushedHandoffLoad(Pusher::Locker);
-    advance(standing, number, found, None);
+    standing.point = Point::PushedHandoffLoad(pusher);
+    standing.after_handoff_load(unpack_handoff(found));
 }
 
 /// Makes the steps of an open call of lock that found others in the count, to its end, for a seat that doesn't hold.
@@ -57,9 +55,8 @@ pub(crate) fn queue<T: Kept>(mutex: &Mutex<T>, seat: &mut Seat<T>) -> (Asked, Op
     ensures wakes { Wakes seat.old.limits.seats result.1 seat.old.place.me.0.trail seat.new.place.me.0.trail }
 {
     let table = &mutex.table.shared;
-    let number = seat.number;
     let mut data = SeatData {
-        number,
+        number: seat.number,
         limits: seat.limits,
         standing: SeatState {
             depth: 0,
@@ -77,13 +74,13 @@ pub(crate) fn queue<T: Kept>(mutex: &Mutex<T>, seat: &mut Seat<T>) -> (Asked, Op
     data.standing.point = Point::PushExchange(Pusher::Locker, seen);
     let found = exchange_push_kept(table, &mut seat.place, &seat.moving, &data);
     if found != word {
-        stand_after_push(&mut seat.standing, number, seen, found);
+        stand_after_push(&mut seat.standing, Pusher::Locker, seen, found);
         return ask_on(mutex, seat);
     }
     data.standing.point = Point::PushedHandoffLoad(Pusher::Locker);
     let handoff = load_handoff_kept(table, &mut seat.place, &seat.moving, &data);
     if handoff % 65_536 != 0 {
-        stand_beside_post(&mut seat.standing, number, handoff);
+        stand_beside_post(&mut seat.standing, Pusher::Locker, handoff);
         return ask_on(mutex, seat);
     }
     seat.standing.point = Point::Asleep(Sleeper::Locker);

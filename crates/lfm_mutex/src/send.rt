@@ -1,19 +1,198 @@
-//! `send_lock`: a seat that waits is made a locker, on its behalf.
-ghost use Rattle.std.specs.Prelude.{◌+◌};
+//! `send_lock`: a seat that waits is made a locker, on its behalf. Where the mutex is free, or no handoff is posted, it is made straight
+//! on; where a step finds more, the seat goes on from its point as any call does.
+ghost use Rattle.std.specs.Prelude.{◌≡◌, ◌+◌, ◌<◌, ◌≤◌, length};
 ghost use Rattle.lfm_protocol.specs.declared.answers.Answer.TheVariants as Answered;
 ghost use Rattle.lfm_protocol.specs.declared.answers.Call.{Call as CallNow};
+ghost use Rattle.lfm_protocol.specs.declared.points.Point.TheVariants.{Rest, PushLoad, SendCountAdd};
+ghost use Rattle.lfm_protocol.specs.declared.points.Pusher.{Pusher as PusherNow};
 ghost use Rattle.lfm_mutex.specs.Belongs.{Beside, OfMutex, limits_of};
-ghost use Rattle.lfm_mutex.specs.calls.FailedPushes.{MakesBesideFailures};
+ghost use Rattle.lfm_mutex.specs.calls.Due.{due};
+ghost use Rattle.lfm_mutex.specs.calls.FailedPushes.{Spends, MakesBesideFailures};
+ghost use Rattle.lfm_mutex.specs.calls.Runs.{errand, sending, Ends};
+ghost use Rattle.lfm_mutex.specs.calls.Straight.{Course, ComesTo, send_turn};
 ghost use Rattle.lfm_mutex.specs.calls.Trails.{MakesCall};
 ghost use Rattle.lfm_mutex.specs.calls.WakeUps.{Wakes};
 ghost use Rattle.lfm_mutex.specs.calls.Sight.{sight, Sends};
 
-use crate::calls::run;
+use crate::calls::{asleep, finish, run};
 use crate::mutex::Mutex;
+use crate::queue_target::queue_target;
 use crate::seat::Seat;
 use lfm_model::{Refusal, SeatNo};
-use lfm_protocol::{Answer, Call, Turn, Why};
-use lfm_table::{Kept, WakeUp};
+use lfm_protocol::points::{Point, Pusher};
+use lfm_protocol::{Answer, Call, SeatState, Turn, Why};
+use lfm_table::straight_steps::{add_free, add_held, exchange_wake_kept, store_grant};
+use lfm_table::{Kept, SeatData, WakeUp};
+use lfm_words::Wake;
+
+/// Makes the steps of the open call of send_lock to its end.
+#[inline(always)]
+pub(crate) fn send_on<T: Kept>(
+    mutex: &Mutex<T>,
+    seat: &mut Seat<T>,
+) -> (Result<(), Refusal>, Option<WakeUp>)
+    requires belongs { seat.old.place.table_id ≡ mutex.now.table.shared.table_id }
+    requires sends { errand seat.old.standing.point ≡ sending }
+    ensures belongs { seat.new.place.table_id ≡ seat.old.place.table_id }
+    ensures same { (seat.new.number ≡ seat.old.number) × (seat.new.limits ≡ seat.old.limits) }
+    ensures ends { Ends sending (send_turn result.0) }
+    ensures made { Course T.follows T.fits seat.old.number seat.old.standing seat.old.moving seat.old.place.me.0 (send_turn result.0) seat.new.standing seat.new.moving seat.new.place.me.0 }
+    ensures spends { Spends (due seat.old.limits.seats (length seat.old.place.me.0.popped) seat.old.standing.point) 0 seat.old.place.me.0.trail seat.new.place.me.0.trail }
+    ensures wakes { Wakes seat.old.limits.seats result.1 seat.old.place.me.0.trail seat.new.place.me.0.trail }
+{
+    let (turn, wake_up) = finish(mutex, seat);
+    match turn {
+        Turn::Ended(Answer::Sent) => (Ok(()), wake_up),
+        Turn::Refused(Why::By(refusal)) => (Err(refusal), wake_up),
+        _ => unreachable!(),
+    }
+}
+
+// The point at which the record of the target is pushed. It is written out of line, since a point takes as long as a step.
+#[inline(never)]
+fn stand_pushing(standing: &mut SeatState, target: u64)
+    ensures { standing.new ≡ record standing.old { point = PushLoad (PusherNow.Sender target) } }
+{
+    standing.point = Point::PushLoad(Pusher::Sender(target));
+}
+
+// Makes the steps of an open send that has claimed its target, to its end, for a seat that doesn't hold.
+#[inline(always)]
+fn send_free<T: Kept>(
+    mutex: &Mutex<T>,
+    seat: &mut Seat<T>,
+    target: u64,
+) -> (Result<(), Refusal>, Option<WakeUp>)
+    requires belongs { seat.old.place.table_id ≡ mutex.now.table.shared.table_id }
+    requires stands { seat.old.standing.point ≡ SendCountAdd target }
+    requires flat { seat.old.standing.depth ≡ 0 }
+    ensures belongs { seat.new.place.table_id ≡ seat.old.place.table_id }
+    ensures same { (seat.new.number ≡ seat.old.number) × (seat.new.limits ≡ seat.old.limits) }
+    ensures ends { Ends sending (send_turn result.0) }
+    ensures made { Course T.follows T.fits seat.old.number seat.old.standing seat.old.moving seat.old.place.me.0 (send_turn result.0) seat.new.standing seat.new.moving seat.new.place.me.0 }
+    ensures spends { Spends (due seat.old.limits.seats (length seat.old.place.me.0.popped) seat.old.standing.point) 0 seat.old.place.me.0.trail seat.new.place.me.0.trail }
+    ensures wakes { Wakes seat.old.limits.seats result.1 seat.old.place.me.0.trail seat.new.place.me.0.trail }
+{
+    let table = &mutex.table.shared;
+    let mut data = SeatData {
+        number: seat.number,
+        limits: seat.limits,
+        standing: SeatState {
+            depth: 0,
+            takes: seat.standing.takes,
+            posts: seat.standing.posts,
+            point: Point::SendCountAdd(target),
+        },
+    };
+    let found = add_free(table, &mut seat.place, &mut seat.moving, &data);
+    if found != 0 {
+        stand_pushing(&mut seat.standing, target);
+        return queue_target(mutex, seat, target);
+    }
+    data.standing.point = Point::SendWakeStore(target);
+    let wake_up = store_grant(table, &mut seat.place, &mut seat.moving, &data);
+    seat.standing.point = Point::Rest;
+    (Ok(()), wake_up)
+}
+
+// The same for a seat that holds. It finds itself in the count; that a 0 never comes is left to the general run.
+#[inline(always)]
+fn send_held<T: Kept>(
+    mutex: &Mutex<T>,
+    seat: &mut Seat<T>,
+    target: u64,
+) -> (Result<(), Refusal>, Option<WakeUp>)
+    requires belongs { seat.old.place.table_id ≡ mutex.now.table.shared.table_id }
+    requires stands { seat.old.standing.point ≡ SendCountAdd target }
+    requires held { 0 < seat.old.standing.depth }
+    ensures belongs { seat.new.place.table_id ≡ seat.old.place.table_id }
+    ensures same { (seat.new.number ≡ seat.old.number) × (seat.new.limits ≡ seat.old.limits) }
+    ensures ends { Ends sending (send_turn result.0) }
+    ensures made { Course T.follows T.fits seat.old.number seat.old.standing seat.old.moving seat.old.place.me.0 (send_turn result.0) seat.new.standing seat.new.moving seat.new.place.me.0 }
+    ensures spends { Spends (due seat.old.limits.seats (length seat.old.place.me.0.popped) seat.old.standing.point) 0 seat.old.place.me.0.trail seat.new.place.me.0.trail }
+    ensures wakes { Wakes seat.old.limits.seats result.1 seat.old.place.me.0.trail seat.new.place.me.0.trail }
+{
+    let table = &mutex.table.shared;
+    let data = SeatData {
+        number: seat.number,
+        limits: seat.limits,
+        standing: SeatState {
+            depth: seat.standing.depth,
+            takes: seat.standing.takes,
+            posts: seat.standing.posts,
+            point: Point::SendCountAdd(target),
+        },
+    };
+    let found = add_held(table, &mut seat.place, &seat.moving, &data);
+    if found == 0 {
+        seat.standing.point = Point::SendWakeStore(target);
+        return send_on(mutex, seat);
+    }
+    stand_pushing(&mut seat.standing, target);
+    queue_target(mutex, seat, target)
+}
+
+/// `send_lock` of a seat that is awake, to a seat of its mutex.
+#[inline(always)]
+pub fn send_awake<T: Kept>(
+    mutex: &Mutex<T>,
+    seat: &mut Seat<T>,
+    target: u64,
+) -> (Result<(), Refusal>, Option<WakeUp>)
+    requires belongs { OfMutex seat.old mutex.now }
+    requires rests { seat.old.standing.point ≡ Rest }
+    requires above { 0 < target }
+    requires within { target ≤ seat.old.limits.seats }
+    ensures belongs { Beside seat.old seat.new }
+    ensures made { ComesTo T.follows T.fits (limits_of mutex.now) (CallNow.SendLock target) (sight seat.old) (sight seat.new) (send_turn result.0) }
+    ensures bounded { MakesBesideFailures ((limits_of mutex.now).seats + 9) (sight seat.old) (sight seat.new) }
+    ensures wakes { Wakes (limits_of mutex.now).seats result.1 (sight seat.old).trail (sight seat.new).trail }
+{
+    let table = &mutex.table.shared;
+    let data = SeatData {
+        number: seat.number,
+        limits: seat.limits,
+        standing: SeatState {
+            depth: seat.standing.depth,
+            takes: seat.standing.takes,
+            posts: seat.standing.posts,
+            point: Point::SendWakeExchange(target),
+        },
+    };
+    let found = exchange_wake_kept(table, &mut seat.place, &seat.moving, &data);
+    let waiting = Wake::Waiting.to_word();
+    if found != waiting {
+        return (Err(Refusal::NotWaiting), None);
+    }
+    seat.standing.point = Point::SendCountAdd(target);
+    if seat.standing.depth == 0 {
+        return send_free(mutex, seat, target);
+    }
+    send_held(mutex, seat, target)
+}
+
+/// `send_lock` by the generic run of its steps.
+#[inline(always)]
+fn send_any<T: Kept>(
+    mutex: &Mutex<T>,
+    seat: &mut Seat<T>,
+    target: SeatNo,
+) -> (Result<(), Refusal>, Option<WakeUp>)
+    requires belongs { OfMutex seat.old mutex.now }
+    ensures belongs { Beside seat.old seat.new }
+    ensures sends { Sends (limits_of mutex.now).seats (sight seat.old) target (sight seat.new) result.0 }
+    ensures steps { MakesCall (limits_of mutex.now) (λ x. Answered.Sent) (CallNow.SendLock target) (sight seat.old) (sight seat.new) result.0 }
+    ensures bounded { MakesBesideFailures ((limits_of mutex.now).seats + 9) (sight seat.old) (sight seat.new) }
+    ensures wakes { Wakes (limits_of mutex.now).seats result.1 (sight seat.old).trail (sight seat.new).trail }
+{
+    let (turn, wake_up) = run(mutex, seat, Call::SendLock(target.get()));
+    match turn {
+        Turn::Ended(Answer::Sent) => (Ok(()), wake_up),
+        Turn::Refused(Why::By(refusal)) => (Err(refusal), wake_up),
+        Turn::Refused(_) => (Err(Refusal::Asleep), wake_up),
+        _ => unreachable!(),
+    }
+}
 
 impl<T: Kept> Mutex<T> {
     /// Makes a seat that waits since its `start_wait` a locker, on its behalf: it gains the mutex or queues. The caller
@@ -49,12 +228,13 @@ impl<T: Kept> Mutex<T> {
         ensures bounded { MakesBesideFailures ((limits_of self.now).seats + 9) (sight seat.old) (sight seat.new) }
         ensures wakes { Wakes (limits_of self.now).seats result.1 (sight seat.old).trail (sight seat.new).trail }
     {
-        let (turn, wake_up) = run(self, seat, Call::SendLock(target.get()));
-        match turn {
-            Turn::Ended(Answer::Sent) => (Ok(()), wake_up),
-            Turn::Refused(Why::By(refusal)) => (Err(refusal), wake_up),
-            Turn::Refused(_) => (Err(Refusal::Asleep), wake_up),
-            _ => unreachable!(),
+        if asleep(&seat.standing) {
+            return send_any(self, seat, target);
         }
+        let number = target.get();
+        if number <= seat.limits.seats {
+            return send_awake(self, seat, number);
+        }
+        send_any(self, seat, target)
     }
 }

@@ -1,5 +1,5 @@
 //! How a release that found others in the count serves the oldest queued seat: from the pop list, or from the push list where
-//! that holds one record. It is made straight on, of an `unlock` as of a `start_wait`; where the push list is empty or longer, the
+//! that holds one record. It is made straight on, for an `unlock` as for a `start_wait`; where the push list is empty or longer, the
 //! seat goes on from its point as any call does.
 ghost use Rattle.std.specs.Prelude.{◌≡◌, ◌+◌, ◌≤◌, length, false};
 ghost use Rattle.lfm_protocol.specs.declared.points.Carrier.{Carrier as CarrierNow};
@@ -22,7 +22,7 @@ use lfm_table::straight_steps::{clear_head_held, load_link_held, store_grant, st
 use lfm_table::{Kept, SeatData, WakeUp};
 use lfm_words::{Record, unpack_link};
 
-// Makes the steps of the open call that releases to its end, once its seat has given up the owner word.
+// Makes the steps of an open release to its end, once its seat has given up the owner word.
 #[inline(always)]
 fn release_on<T: Kept>(
     mutex: &Mutex<T>,
@@ -63,7 +63,7 @@ pub(crate) fn stand_serving<T: Kept>(
     };
 }
 
-// Stores the grant for the seat of the oldest record. That ends an unlock; a start_wait stores its own wake word as well.
+// Stores the grant for the seat of the oldest record. That ends an unlock; a start_wait then stores its own wake word.
 #[inline(always)]
 fn grant<T: Kept>(
     mutex: &Mutex<T>,

@@ -1,5 +1,5 @@
-//! `start_wait`: the mutex is given up, and the seat sleeps until it is sent. It is made straight on as `unlock` is, and where a step
-//! finds more than `serve` does, the seat goes on from its point as any call does.
+//! `start_wait`: the mutex is given up, and the seat sleeps until it is sent. It is made straight on as `unlock` is; where a step finds
+//! more, the seat goes on from its point as any call does.
 ghost use Rattle.std.specs.Prelude.{◌≡◌, ◌+◌, ◌<◌};
 ghost use Rattle.lfm_protocol.specs.declared.answers.Answer.TheVariants as Answered;
 ghost use Rattle.lfm_protocol.specs.declared.answers.Call.{Call as CallNow};

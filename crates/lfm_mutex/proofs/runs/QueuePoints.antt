@@ -21,8 +21,8 @@ pub owner_idles : (t ps s n : ℕ) (o : Option Record) → n ≢ s → carries_v
 owner_idles t ps s n o other = let h = ne_eqb n s other in rw h refl
 
 -- the push word is as it was loaded
-pub exchanged : (d t ps s w n : ℕ) (o : Option Record) → n ≡ w → stepped_by (made_of d t ps (PushExchange Pusher.Locker (link_of w))) s n o ≡ opens (made_of d t ps (PushedHandoffLoad Pusher.Locker))
-exchanged d t ps s w n o same =
+pub exchanged : (u : Pusher) (d t ps s w n : ℕ) (o : Option Record) → n ≡ w → stepped_by (made_of d t ps (PushExchange u (link_of w))) s n o ≡ opens (made_of d t ps (PushedHandoffLoad u))
+exchanged u d t ps s w n o same =
     let stamp = eq-eqb (link_of n).stamp (link_of w).stamp (ap (λ (m : ℕ). (link_of m).stamp) same) in
     let next = eq-eqb (link_of n).next (link_of w).next (ap (λ (m : ℕ). (link_of m).next) same) in
     rw (stamp, next) refl

@@ -1,5 +1,5 @@
 -- A call that is made straight on: its steps so far, and what it comes to.
-use Rattle.std.specs.Prelude.{◌≡◌, ℕ, Option, Some, Result, Ok, Err}
+use Rattle.std.specs.Prelude.{◌≡◌, ⊤, ℕ, Option, Some, Result, Ok, Err}
 use Rattle.lfm_model.specs.declared.answers.How.{How}
 use Rattle.lfm_model.specs.declared.answers.Locked.{Locked}
 use Rattle.lfm_model.specs.declared.answers.Unlocked.{Unlocked}
@@ -28,6 +28,11 @@ try_turn (Err refusal) = Refused (Why.By refusal)
 abbrev pub release_turn : Releaser → Unlocked → Turn
 release_turn Releaser.Unlocker released = Ended (Answer.Unlocked released)
 release_turn Releaser.Waiter released = Ended (Answer.Waiting released)
+
+-- how a call of send_lock has ended
+abbrev pub send_turn : Result ⊤ Refusal → Turn
+send_turn (Ok sent) = Ended Answer.Sent
+send_turn (Err refusal) = Refused (Why.By refusal)
 
 -- a seat that was p0, with a0 in hand, has made some steps of its call, and is p with a in hand
 pub record Course {T : Type 0} (follows : ℕ → T → T → Type 0) (suits : T → ℕ → Type 0) (number : ℕ) (p0 : SeatState) (a0 : Option (Moving T)) (v0 : View T) (turn : Turn) (p : SeatState) (a : Option (Moving T)) (v : View T) : Type 0 where

@@ -58,8 +58,8 @@ returns-then-handoff-ne0-clause-made g c =
     let fit2 = fit_after g.T.Kept.follows g.T.Kept.fits s.number w.new.place.table_id.words w.new.place.id s.limits p1 w.result h.new.place.me a w.new.place.me a w.ensures.step (opens p2) (ap (λ (z : Link). opens (made_of 0 t ps (LinkStore Pusher.Locker z))) (sym u.ensures.holds)) in
     let so2 = course_next g.T.Kept.follows g.T.Kept.fits s.number p0 a s.place.me.0 w.new.place.table_id.words w.new.place.id s.limits p2 l.ensures.step.0 w.new.place.me a l.new.place.me a l.new.place.table_id.words l.new.place.id (opens p3) so1 fit2 l.ensures.step.1 refl (λ e. cc) refl in
     let fit3 = fit_after g.T.Kept.follows g.T.Kept.fits s.number l.new.place.table_id.words l.new.place.id s.limits p2 l.ensures.step.0 w.new.place.me a l.new.place.me a l.ensures.step.1 (opens p3) refl in
-    let so3 = course_next g.T.Kept.follows g.T.Kept.fits s.number p0 a s.place.me.0 l.new.place.table_id.words l.new.place.id s.limits p3 found.result l.new.place.me a found.new.place.me a found.new.place.table_id.words found.new.place.id (opens p4) so2 fit3 found.ensures.step (ap (λ (z : Link). stepped_by (made_of 0 t ps (PushExchange Pusher.Locker z)) s.number found.result (oldest_in a)) u.ensures.holds ∙ exchanged 0 t ps s.number w.result found.result (oldest_in a) c.if-found-word.false) (λ e. cc) refl in
-    let fit4 = fit_after g.T.Kept.follows g.T.Kept.fits s.number found.new.place.table_id.words found.new.place.id s.limits p3 found.result l.new.place.me a found.new.place.me a found.ensures.step (opens p4) (ap (λ (z : Link). stepped_by (made_of 0 t ps (PushExchange Pusher.Locker z)) s.number found.result (oldest_in a)) u.ensures.holds ∙ exchanged 0 t ps s.number w.result found.result (oldest_in a) c.if-found-word.false) in
+    let so3 = course_next g.T.Kept.follows g.T.Kept.fits s.number p0 a s.place.me.0 l.new.place.table_id.words l.new.place.id s.limits p3 found.result l.new.place.me a found.new.place.me a found.new.place.table_id.words found.new.place.id (opens p4) so2 fit3 found.ensures.step (ap (λ (z : Link). stepped_by (made_of 0 t ps (PushExchange Pusher.Locker z)) s.number found.result (oldest_in a)) u.ensures.holds ∙ exchanged Pusher.Locker 0 t ps s.number w.result found.result (oldest_in a) c.if-found-word.false) (λ e. cc) refl in
+    let fit4 = fit_after g.T.Kept.follows g.T.Kept.fits s.number found.new.place.table_id.words found.new.place.id s.limits p3 found.result l.new.place.me a found.new.place.me a found.ensures.step (opens p4) (ap (λ (z : Link). stepped_by (made_of 0 t ps (PushExchange Pusher.Locker z)) s.number found.result (oldest_in a)) u.ensures.holds ∙ exchanged Pusher.Locker 0 t ps s.number w.result found.result (oldest_in a) c.if-found-word.false) in
     let so4 = course_next g.T.Kept.follows g.T.Kept.fits s.number p0 a s.place.me.0 found.new.place.table_id.words found.new.place.id s.limits p4 k.result found.new.place.me a k.new.place.me a k.new.place.table_id.words k.new.place.id (opens q) so3 fit4 k.ensures.step (found_one 0 t ps s.number k.result (oldest_in a) c.if-handoff-ne0.true) (λ e. cc) refl in
     let stood : c.stand_beside_post.new.standing ≡ q = c.stand_beside_post.ensures ∙ ap (λ (z : SeatState). (stepped_by (record z { point = p4.point }) s.number k.result None).seat) at in
     let last = course_join g.T.Kept.follows g.T.Kept.fits s.number p0 a s.place.me.0 q r.standing a r.moving k.new.place.me.0 r.place.me.0 (Ended (Answer.Asked c.ask_on-then-handoff-ne0.result.0)) so4
@@ -79,8 +79,8 @@ returns-clause-made g c =
     let fit2 = fit_after g.T.Kept.follows g.T.Kept.fits s.number w.new.place.table_id.words w.new.place.id s.limits p1 w.result h.new.place.me a w.new.place.me a w.ensures.step (opens p2) (ap (λ (z : Link). opens (made_of 0 t ps (LinkStore Pusher.Locker z))) (sym u.ensures.holds)) in
     let so2 = course_next g.T.Kept.follows g.T.Kept.fits s.number p0 a s.place.me.0 w.new.place.table_id.words w.new.place.id s.limits p2 l.ensures.step.0 w.new.place.me a l.new.place.me a l.new.place.table_id.words l.new.place.id (opens p3) so1 fit2 l.ensures.step.1 refl (λ e. cc) refl in
     let fit3 = fit_after g.T.Kept.follows g.T.Kept.fits s.number l.new.place.table_id.words l.new.place.id s.limits p2 l.ensures.step.0 w.new.place.me a l.new.place.me a l.ensures.step.1 (opens p3) refl in
-    let so3 = course_next g.T.Kept.follows g.T.Kept.fits s.number p0 a s.place.me.0 l.new.place.table_id.words l.new.place.id s.limits p3 found.result l.new.place.me a found.new.place.me a found.new.place.table_id.words found.new.place.id (opens p4) so2 fit3 found.ensures.step (ap (λ (z : Link). stepped_by (made_of 0 t ps (PushExchange Pusher.Locker z)) s.number found.result (oldest_in a)) u.ensures.holds ∙ exchanged 0 t ps s.number w.result found.result (oldest_in a) c.if-found-word.false) (λ e. cc) refl in
-    let fit4 = fit_after g.T.Kept.follows g.T.Kept.fits s.number found.new.place.table_id.words found.new.place.id s.limits p3 found.result l.new.place.me a found.new.place.me a found.ensures.step (opens p4) (ap (λ (z : Link). stepped_by (made_of 0 t ps (PushExchange Pusher.Locker z)) s.number found.result (oldest_in a)) u.ensures.holds ∙ exchanged 0 t ps s.number w.result found.result (oldest_in a) c.if-found-word.false) in
+    let so3 = course_next g.T.Kept.follows g.T.Kept.fits s.number p0 a s.place.me.0 l.new.place.table_id.words l.new.place.id s.limits p3 found.result l.new.place.me a found.new.place.me a found.new.place.table_id.words found.new.place.id (opens p4) so2 fit3 found.ensures.step (ap (λ (z : Link). stepped_by (made_of 0 t ps (PushExchange Pusher.Locker z)) s.number found.result (oldest_in a)) u.ensures.holds ∙ exchanged Pusher.Locker 0 t ps s.number w.result found.result (oldest_in a) c.if-found-word.false) (λ e. cc) refl in
+    let fit4 = fit_after g.T.Kept.follows g.T.Kept.fits s.number found.new.place.table_id.words found.new.place.id s.limits p3 found.result l.new.place.me a found.new.place.me a found.ensures.step (opens p4) (ap (λ (z : Link). stepped_by (made_of 0 t ps (PushExchange Pusher.Locker z)) s.number found.result (oldest_in a)) u.ensures.holds ∙ exchanged Pusher.Locker 0 t ps s.number w.result found.result (oldest_in a) c.if-found-word.false) in
     let so4 = course_next g.T.Kept.follows g.T.Kept.fits s.number p0 a s.place.me.0 found.new.place.table_id.words found.new.place.id s.limits p4 k.result found.new.place.me a k.new.place.me a k.new.place.table_id.words k.new.place.id (record { seat = made_of 0 t ps (Asleep Sleeper.Locker); turn = Ended (Answer.Asked Asked.Asleep) }) so3 fit4 k.ensures.step (slept 0 t ps s.number k.result (oldest_in a) c.if-handoff-ne0.false) (λ e. cc) refl in
     subst (λ (x : SeatState). Course g.T.Kept.follows g.T.Kept.fits s.number x a s.place.me.0 (Ended (Answer.Asked Asked.Asleep)) (record x { point = Asleep Sleeper.Locker }) a k.new.place.me.0) (sym at) so4
 

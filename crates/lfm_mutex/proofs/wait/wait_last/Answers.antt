@@ -10,12 +10,10 @@ use Rattle.lfm_protocol.specs.declared.points.Sleeper.{Sleeper}
 use Rattle.lfm_protocol.specs.After.{take}
 use Rattle.lfm_protocol.specs.declared.seats.SeatState.{SeatState}
 use Rattle.lfm_laws.specs.table.Words.{stepped_by}
-use Rattle.lfm_table.specs.Rule.{value_in}
 use Rattle.lfm_table.specs.Steps.{Event, oldest_in}
 use Rattle.lfm_mutex.specs.calls.Runs.{opens, weight}
-use Rattle.lfm_mutex.specs.calls.Sight.{sight_of}
 use Rattle.lfm_table.specs.Straight.{Fit}
-use Rattle.lfm_mutex.specs.calls.Straight.{Course, ComesTo}
+use Rattle.lfm_mutex.specs.calls.Straight.{Course}
 use Rattle.lfm_mutex.proofs.runs.Courses.{course_none, course_next, course_join, gives_up}
 use Rattle.lfm_mutex.proofs.runs.Running.{trail_grows, bounded_more}
 use Rattle.lfm_mutex.proofs.runs.Sights.{may_leave}

@@ -1,26 +1,15 @@
-use Rattle.std.proofs.Common.{◌≡◌, rules}
+use Rattle.std.proofs.Common.{ℕ, subst}
 use Rattle.lfm_protocol.specs.declared.answers.Answer.{Answer}
-use Rattle.lfm_protocol.specs.declared.answers.Turn.TheVariants.{Ended, Refused}
-use Rattle.lfm_protocol.specs.declared.answers.Why.{Why}
+use Rattle.lfm_protocol.specs.declared.answers.Call.{Call}
+use Rattle.lfm_mutex.specs.calls.Sight.{sight, Sends}
+use Rattle.lfm_mutex.specs.calls.Trails.{MakesCall}
+use Rattle.lfm_mutex.proofs.runs.SendEnds.{send_sends, send_makes}
 use Rattle.lfm_mutex.proofs.mutex.Mutex.send_lock_without_waking.Goals as goal
 
-pub returns-in-Ended-Sent-clause-sends : goal.returns-in-Ended-Sent-clause-sends
-returns-in-Ended-Sent-clause-sends g c = let e : c.run-turn.result.0 ≡ Ended Answer.Sent = search rules in rw (e, c.get.ensures.value) at c.run-turn.ensures.turned
+pub returns-then-number-seat-clause-sends : goal.returns-then-number-seat-clause-sends
+returns-then-number-seat-clause-sends g c = let l = c.args.self.now.limits in let s = sight c.args.seat.now in let x = c.send_awake in let t = sight x.new.seat in
+    subst (λ (u : ℕ). Sends l.seats s u t x.result.0) c.get-number.ensures.value (send_sends g.T.Kept.follows g.T.Kept.fits l s t c.get-number.result x.result.0 x.ensures.made)
 
-pub returns-in-Ended-Sent-clause-steps : goal.returns-in-Ended-Sent-clause-steps
-returns-in-Ended-Sent-clause-steps g c = let e : c.run-turn.result.0 ≡ Ended Answer.Sent = search rules in rw (e, c.get.ensures.value) at c.run-turn.ensures.made
-
-pub returns-in-Ended-Sent-clause-bounded : goal.returns-in-Ended-Sent-clause-bounded
-returns-in-Ended-Sent-clause-bounded g c = c.run-turn.ensures.bounded
-
-pub returns-in-Ended-Sent-clause-wakes : goal.returns-in-Ended-Sent-clause-wakes
-returns-in-Ended-Sent-clause-wakes g c = c.run-turn.ensures.wakes
-
-pub returns-in-Refused-By-clause-sends : goal.returns-in-Refused-By-clause-sends
-returns-in-Refused-By-clause-sends g c = let e : c.run-turn.result.0 ≡ Refused (Why.By c.in-Refused-By.refusal) = search rules in rw (e, c.get.ensures.value) at c.run-turn.ensures.turned
-
-pub returns-in-Refused-By-clause-steps : goal.returns-in-Refused-By-clause-steps
-returns-in-Refused-By-clause-steps g c = let e : c.run-turn.result.0 ≡ Refused (Why.By c.in-Refused-By.refusal) = search rules in rw (e, c.get.ensures.value) at c.run-turn.ensures.made
-
-pub returns-in-Refused : goal.returns-in-Refused
-returns-in-Refused g c = search rules
+pub returns-then-number-seat-clause-steps : goal.returns-then-number-seat-clause-steps
+returns-then-number-seat-clause-steps g c = let l = c.args.self.now.limits in let s = sight c.args.seat.now in let x = c.send_awake in let t = sight x.new.seat in
+    subst (λ (u : ℕ). MakesCall l (λ y. Answer.Sent) (Call.SendLock u) s t x.result.0) c.get-number.ensures.value (send_makes g.T.Kept.follows g.T.Kept.fits l s t c.get-number.result x.result.0 x.ensures.made)

@@ -1,5 +1,5 @@
 -- What a worker's commands add, by its pass.
-use Rattle.std.specs.Prelude.{◌≡◌, ◌<◌, ⊤, ℕ, false, List, ◌++◌, length, take, Result, Ok, Err}
+use Rattle.std.specs.Prelude.{◌≡◌, ⊤, ℕ, false, List, ◌++◌, Result, Ok, Err}
 use Rattle.lfm_model.specs.declared.objects.Total.{Total}
 use Rattle.lfm_model.specs.declared.objects.TotalOp.{TotalOp}
 use Rattle.lfm_model.specs.declared.refusals.Refusal.{Refusal}
@@ -7,10 +7,8 @@ use Rattle.lfm_model.specs.Journals.{own}
 use Rattle.lfm_mutex.specs.calls.Sight.{Sight}
 use Rattle.lfm_monitor.specs.declared.journaled.Journaled.{Journaled}
 use Rattle.lfm_monitor.specs.Passes.{journal_of}
-use Rattle.lfm_program.specs.declared.performed.Performed.{Performed}
-use Rattle.lfm_program.specs.declared.performed.Performed.TheVariants.{Done, Refused, Stuck}
 use Rattle.lfm_script.specs.declared.script.Command.{Command}
-use Rattle.lfm_script.specs.Adds.{adds, all_adds, command_adds}
+use Rattle.lfm_script.specs.Adds.{adds, command_adds}
 
 module _ {R : Type 0} {K : _} where
   -- the numbers that the pass's own entries add
@@ -26,9 +24,3 @@ module _ {R : Type 0} {K : _} where
   abbrev pub CommandEnds : Command → Sight (Journaled Total TotalOp R K) → Sight (Journaled Total TotalOp R K) → Result ⊤ Refusal → Type 0
   CommandEnds m s t (Ok u) = own_adds t ≡ own_adds s ++ command_adds m
   CommandEnds m s t (Err r) = own_adds t ≡ own_adds s
-
--- the adds of the commands, in order: all where it is done, and else those of the commands before the one that was not made
-abbrev pub AllPerformed : List Command → List ℕ → List ℕ → Performed → Type 0
-AllPerformed ms old new Done = new ≡ old ++ all_adds ms
-AllPerformed ms old new (Refused r) = (i : ℕ) × (i < length ms) × (new ≡ old ++ all_adds (take i ms))
-AllPerformed ms old new Stuck = (i : ℕ) × (i < length ms) × (new ≡ old ++ all_adds (take i ms))

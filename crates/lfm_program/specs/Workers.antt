@@ -1,5 +1,5 @@
 -- What a worker's thread gives back.
-use Rattle.std.specs.Prelude.{◌≡◌, ◌+◌, ◌<◌, ℕ, List, length}
+use Rattle.std.specs.Prelude.{◌≡◌, ◌+◌, ◌<◌, ◌≤◌, ℕ, List, ◌++◌, length, take}
 use Rattle.lfm_model.specs.declared.objects.Total.{Total}
 use Rattle.lfm_model.specs.declared.objects.TotalOp.{TotalOp}
 use Rattle.lfm_mutex.specs.Close.{Idle}
@@ -7,20 +7,27 @@ use Rattle.lfm_monitor.specs.declared.monitor.Monitor.{Monitor}
 use Rattle.lfm_monitor.specs.declared.pass.Pass.{Pass}
 use Rattle.lfm_monitor.specs.Belongs.{OfMonitor, pass_sight}
 use Rattle.lfm_program.specs.declared.performed.Performed.{Performed}
-use Rattle.lfm_program.specs.declared.performed.Performed.TheVariants.{Stuck}
+use Rattle.lfm_program.specs.declared.performed.Performed.TheVariants.{Done, Stuck}
 use Rattle.lfm_script.specs.declared.script.Command.{Command}
+use Rattle.lfm_script.specs.Adds.{all_adds}
+use Rattle.lfm_script.specs.script.Commands.{commands_of}
+use Rattle.lfm_script.specs.script.Grammar.{Plan}
 use Rattle.lfm_program.specs.declared.workers.WorkerEnd.{WorkerEnd}
-use Rattle.lfm_program.specs.declared.workers.WorkerEnd.TheVariants.{CalledOff, Performed as LetGo}
+use Rattle.lfm_program.specs.declared.workers.WorkerEnd.TheVariants.{Performed as LetGo}
 use Rattle.lfm_program.specs.Causes.{RefusedForCause}
-use Rattle.lfm_program.specs.Performs.{AllPerformed, own_adds}
+use Rattle.lfm_program.specs.Performs.{own_adds}
 
--- the gate that stops these stops this worker before one of so many commands
+-- a gate that stops these stops this worker before one of so many commands
 abbrev pub StopsOne : (ℕ → ℕ → Type 0) → ℕ → ℕ → Type 0
 StopsOne stops worker count = (i : ℕ) × (i < count) × stops worker (i + 1)
 
--- it stops some worker
-abbrev pub StopsSome : (ℕ → ℕ → Type 0) → Type 0
-StopsSome stops = (worker : ℕ) × (command : ℕ) × stops worker command
+-- it stops a worker of the script before one of its commands
+abbrev pub StopsIn : (ℕ → ℕ → Type 0) → Plan → Type 0
+StopsIn stops p = (w : ℕ) × (0 < w) × (w ≤ p.workers) × StopsOne stops w (length (commands_of w p.lines))
+
+-- it stops this worker before one of these commands, and to the old numbers just those of the commands before that one were added
+abbrev pub StoppedAt : (ℕ → ℕ → Type 0) → ℕ → List Command → List ℕ → List ℕ → Type 0
+StoppedAt stops worker ms old new = (i : ℕ) × (i < length ms) × (new ≡ old ++ all_adds (take i ms)) × stops worker (i + 1)
 
 module _ {R : Type 0} {K : _} where
   -- The pass p of the monitor has become q by the commands of a worker, at a gate that stops these. Of one whose start was called
@@ -29,9 +36,9 @@ module _ {R : Type 0} {K : _} where
     pub belongs : OfMonitor q m
     pub idle : Idle (pass_sight q)
     pub number : (pass_sight q).number ≡ (pass_sight p).number
-    pub adds : (r : Performed) → end ≡ LetGo r → AllPerformed ms (own_adds (pass_sight p)) (own_adds (pass_sight q)) r
+    pub done : end ≡ LetGo Done → own_adds (pass_sight q) ≡ own_adds (pass_sight p) ++ all_adds ms
     pub refused : (r : Performed) → end ≡ LetGo r → RefusedForCause m ms (own_adds (pass_sight p)) q r
-    pub stopped : end ≡ LetGo Stuck → StopsOne stops (pass_sight p).number (length ms)
+    pub stopped : end ≡ LetGo Stuck → StoppedAt stops (pass_sight p).number ms (own_adds (pass_sight p)) (own_adds (pass_sight q))
 
   -- the pass is one of the monitor's, and neither holds nor sleeps
   abbrev pub ReadyFor : Monitor Total TotalOp R K → Pass Total TotalOp R K → Type 0

@@ -2,9 +2,10 @@
 ghost use Rattle.lfm_monitor.specs.Belongs.{OfMonitor, pass_sight};
 ghost use Rattle.lfm_mutex.specs.Close.{Idle};
 ghost use Rattle.lfm_program.specs.Causes.{RefusedForCause};
-ghost use Rattle.lfm_program.specs.Performs.{AllPerformed, own_adds};
-ghost use Rattle.lfm_program.specs.Workers.{StopsOne};
-ghost use Rattle.std.specs.Prelude.{◌≡◌, length};
+ghost use Rattle.lfm_program.specs.Performs.{own_adds};
+ghost use Rattle.lfm_program.specs.Workers.{StoppedAt};
+ghost use Rattle.lfm_script.specs.Adds.{all_adds};
+ghost use Rattle.std.specs.Prelude.{◌≡◌, ◌++◌};
 
 mod command;
 
@@ -34,7 +35,7 @@ pub enum Performed {
 /// NoSuchSeat where there is no such condition, and as Busy as `wait` of the monitor. A wake is refused as NoSuchSeat, as
 /// Spent where its seat of the condition has no take left, and as NotWaiting as `wake_one` of the monitor.
 ///
-/// Stuck is answered only before a command at which the gate stops this worker.
+/// Stuck is answered just before a command at which the gate stops this worker: those before it, and no others, were made.
 ///
 /// It may sleep: where it enters, where it waits and where it wakes. A script's wait that nobody ends doesn't return. It takes
 /// no memory.
@@ -50,9 +51,9 @@ pub fn perform<G: Gate, R: Wait>(
     ensures belongs { OfMonitor pass.new monitor.now }
     ensures idle { Idle (pass_sight pass.new) }
     ensures number { (pass_sight pass.new).number ≡ (pass_sight pass.old).number }
-    ensures adds { AllPerformed commands.now (own_adds (pass_sight pass.old)) (own_adds (pass_sight pass.new)) result }
+    ensures done { result ≡ Performed.Done → own_adds (pass_sight pass.new) ≡ own_adds (pass_sight pass.old) ++ all_adds commands.now }
     ensures refused { RefusedForCause monitor.now commands.now (own_adds (pass_sight pass.old)) pass.new result }
-    ensures stopped { result ≡ Performed.Stuck → StopsOne (G.stops gate.now) (pass_sight pass.old).number (length commands.now) }
+    ensures stopped { result ≡ Performed.Stuck → StoppedAt (G.stops gate.now) (pass_sight pass.old).number commands.now (own_adds (pass_sight pass.old)) (own_adds (pass_sight pass.new)) }
 {
     let worker = pass.number().get();
     'performing: for (index, command) in commands.iter().enumerate() {

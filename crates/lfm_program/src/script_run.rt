@@ -1,7 +1,7 @@
 //! The run of a script: its workers on a monitor over a total, and what its journal tells once all have ended.
 ghost use Rattle.lfm_script.specs.Report.{report_text};
 ghost use Rattle.lfm_program.specs.ScriptRuns.{Divides, EndsSo, HasStopped, MadeReady, are_none};
-ghost use Rattle.lfm_program.specs.Workers.{StopsSome};
+ghost use Rattle.lfm_program.specs.Workers.{StopsIn};
 ghost use Rattle.lfm_script.specs.Runs.{IsReport};
 ghost use Rattle.lfm_script.specs.declared.faults.WorkFault.TheVariants as Fault;
 ghost use Rattle.lfm_script.specs.script.Grammar.{script_of};
@@ -128,7 +128,7 @@ fn is_lawful(alloc: Global, total: Total, journal: &[Entry<TotalOp>]) -> Result<
 /// Runs a script: each worker in a thread of its own, by `perform`. Returns when all have ended, which may be never where a
 /// wait of the script is ended by nobody.
 ///
-/// Stuck where the gate stopped a worker. Memory where a request for memory was refused or a worker could not be started.
+/// Stuck where the gate stopped a worker before one of its commands. Memory where a request for memory was refused or a worker could not be started.
 pub(crate) fn run_script<R: Threads + Wait + Sync, G: Gate>(
     rt: &R,
     alloc: Global,
@@ -139,7 +139,7 @@ pub(crate) fn run_script<R: Threads + Wait + Sync, G: Gate>(
     requires lines { lines_allowed script.now.workers script.now.conditions script.now.lines.items ≡ true }
     requires few { length script.now.lines.items < max_lines }
     ensures report { IfOk result (λ r. IsReport (script_of script.now) (report_text r.rows.items r.total r.lawful) r.succeeded) }
-    ensures fault { IfErr result (λ e. (e ≡ Fault.Memory) ⊎ ((e ≡ Fault.Stuck) × StopsSome (G.stops gate.now))) }
+    ensures fault { IfErr result (λ e. (e ≡ Fault.Memory) ⊎ ((e ≡ Fault.Stuck) × StopsIn (G.stops gate.now) (script_of script.now))) }
 {
     let commands = commands_by_worker(alloc, script.workers, &script.lines)?;
     let (monitor, passes) = monitor_of(rt, alloc, script)?;

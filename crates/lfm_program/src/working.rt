@@ -4,7 +4,7 @@ ghost use Rattle.std.specs.Prelude.{◌≡◌, ◌≢◌, ◌<◌, true, length,
 ghost use Rattle.lfm_text.specs.Text.{max_lines};
 ghost use Rattle.lfm_text.specs.Writing.{Writes};
 ghost use Rattle.lfm_script.specs.Report.{fault_text, report_text, script_text};
-ghost use Rattle.lfm_program.specs.Workers.{StopsSome};
+ghost use Rattle.lfm_program.specs.Workers.{StopsIn};
 ghost use Rattle.lfm_program.specs.Works.{SomeWork, TellsWork, Works};
 ghost use Rattle.lfm_script.specs.script.Grammar.{Plan, script_in, script_of};
 ghost use Rattle.lfm_script.specs.script.Limits.{header_allowed, lines_allowed};
@@ -49,9 +49,9 @@ fn work_script<R: Threads + Wait + Sync, G: Gate, W: Write>(
     requires header { header_allowed script.now.workers script.now.conditions ≡ true }
     requires lines { lines_allowed script.now.workers script.now.conditions script.now.lines.items ≡ true }
     requires few { length script.now.lines.items < max_lines }
-    ensures told { TellsWork result (Ok (script_of script.now)) (W.contents writer.old) (W.contents writer.new) }
+    ensures told { TellsWork (G.stops gate.now) result (Ok (script_of script.now))
+        (W.contents writer.old) (W.contents writer.new) }
     ensures no_read { result ≢ Err WorkFault.Read }
-    ensures stuck { result ≡ Err WorkFault.Stuck → StopsSome (G.stops gate.now) }
 {
     let run = run_script(rt, alloc, script, gate)?;
     write_run(writer, &run)?;
@@ -66,9 +66,9 @@ fn work_input<R: Threads + Wait + Sync, G: Gate, W: Write>(
     writer: &mut W,
     gate: &G,
 ) -> Result<bool, WorkFault>
-    ensures told { Works result input.now (W.contents writer.old) (W.contents writer.new) }
+    ensures told { Works (G.stops gate.now) result input.now
+        (W.contents writer.old) (W.contents writer.new) }
     ensures no_read { result ≢ Err WorkFault.Read }
-    ensures stuck { result ≡ Err WorkFault.Stuck → StopsSome (G.stops gate.now) }
 {
     match read_script(alloc, input) {
         Ok(script) => work_script(rt, alloc, &script, writer, gate),
@@ -85,10 +85,10 @@ fn work_input<R: Threads + Wait + Sync, G: Gate, W: Write>(
 /// rounded down. It sleeps until all workers have ended.
 ///
 /// The faults, and what is written before each of them:
-/// - Read and Memory: nothing. Read is a failure of the reader. Memory is a request that was refused, or a worker that could
+/// - Read and Memory: nothing. Read is a failure of the reader, before the input was past a limit. Memory is a request that was refused, or a worker that could
 ///   not be started.
 /// - Syntax and Limit: the line of the fault, and nothing else. `read_script` says which comes when.
-/// - Stuck: nothing. The gate stopped a worker, so it never comes with an `OpenGate`.
+/// - Stuck: nothing. The gate stopped a worker before one of its commands, so it never comes with an `OpenGate`.
 /// - Write: a prefix of the text. The writer failed, took no byte, or failed to flush.
 ///
 /// Every request for memory precedes the first write. After the last line the writer is flushed.
@@ -100,16 +100,16 @@ pub fn work<R: Threads + Wait + Sync, G: Gate, I: Read, W: Write>(
     gate: &G,
 ) -> Result<bool, WorkFault>
     // Some input was read, and this is its run. It says nothing of a reader's or a writer's bytes that are not known.
-    ensures some { SomeWork result (I.remaining reader.old) (I.remaining reader.new)
+    ensures some { SomeWork (G.stops gate.now) result (I.remaining reader.old) (I.remaining reader.new)
         (W.contents writer.old) (W.contents writer.new) }
     // Where it is known what the reader has: this is the run of just that.
     ensures exact { IfSome (I.remaining reader.old) (λ input.
-        Works result input (W.contents writer.old) (W.contents writer.new)) }
+        Works (G.stops gate.now) result input (W.contents writer.old) (W.contents writer.new)) }
     // Where no worker was refused, what is written is a function of the script.
     ensures script { IfSome (I.remaining reader.old) (λ input. (p : Plan) → script_in input ≡ Ok p → result ≡ Ok true →
         Appends (W.contents writer.old) (W.contents writer.new) (script_text p)) }
-    // It is stuck only by a gate that stops some worker.
-    ensures stuck { result ≡ Err WorkFault.Stuck → StopsSome (G.stops gate.now) }
+    // It is stuck only by a gate that stops some worker before a command of its own.
+    ensures stuck { result ≡ Err WorkFault.Stuck → (p : Plan) × StopsIn (G.stops gate.now) p }
 {
     let input = read_input(alloc, reader)?;
     work_input(rt, alloc, &input, writer, gate)

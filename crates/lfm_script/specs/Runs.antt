@@ -1,5 +1,5 @@
 -- The report of a run in which each worker made its first commands.
-use Rattle.std.specs.Prelude.{ℕ, Bool, true, false, ◌≡◌, ◌⊎◌, ◌<◌, ◌≤◌, ⊤, List, take, length, sum, Option, None, Some, is_some}
+use Rattle.std.specs.Prelude.{ℕ, Bool, true, false, ◌≡◌, ◌⊎◌, ◌<◌, ◌≤◌, ◌/◌, ⊤, List, take, length, sum, Option, None, Some, is_some}
 use mathlib.Core.Option.{some}
 use lib.ListN.{get_elem?}
 use Rattle.lfm_model.specs.declared.refusals.Refusal.{Refusal}
@@ -48,13 +48,17 @@ MayMeet conditions (Until condition k) _ = ⊥
 MayMeet conditions (One condition) r = WakeMayMeet conditions condition r
 MayMeet conditions (All condition) r = WakeMayMeet conditions condition r
 
+-- the most entries of a journal of a run
+abbrev pub max_journal : ℕ
+max_journal = 1048576
+
 -- a worker that has made the first i of these commands was refused at the next, as that may be refused
 abbrev pub RefusedAt : ℕ → List Command → ℕ → Refusal → Type 0
 RefusedAt conditions ms i r = (c : Command) × (get_elem? ms i ≡ some c) × MayMeet conditions c r
 
 -- The text of a run in which each worker made its first commands: all of them where it was not refused, and else those before
--- the one at which it was. There is a lawful journal of just these adds, by the workers alone. The verdict is that none was
--- refused.
+-- the one at which it was. There is a lawful journal of just these adds, by the workers alone, each with no more than its share of
+-- the entries. The verdict is that none was refused.
 pub record IsReport (p : Plan) (text : List ℕ) (verdict : Bool) : Type 0 where
   pub made : ℕ → ℕ
   pub refused : ℕ → Option Refusal
@@ -63,6 +67,7 @@ pub record IsReport (p : Plan) (text : List ℕ) (verdict : Bool) : Type 0 where
   pub journal : List (Entry TotalOp)
   pub lawful : LawfulJournal journal
   pub within : Within p.workers journal
+  pub shares : (w : ℕ) → 0 < w → w ≤ p.workers → length (own w journal) ≤ max_journal / p.workers
   pub run : IsRunOfMade p made journal
   pub none : verdict ≡ true → (w : ℕ) → 0 < w → w ≤ p.workers → refused w ≡ None
   pub some : verdict ≡ false → (w : ℕ) × (0 < w) × (w ≤ p.workers) × (is_some (refused w) ≡ true)

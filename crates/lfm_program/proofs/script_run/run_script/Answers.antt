@@ -1,4 +1,4 @@
-use Rattle.std.proofs.Common.{◌⊎◌, ◌+◌, inl, inr, ⊎_elim, ap, arith, length, subst, sym, true, ◌∙◌, ◌≡◌, ◌<◌, ◌^◌, ℕ}
+use Rattle.std.proofs.Common.{◌⊎◌, inl, inr, ⊎_elim, ap, arith, length, subst, sym, true, ◌∙◌, ◌≡◌, ◌<◌, ◌^◌, ℕ}
 use Rattle.lfm_model.specs.Journals.{LawfulJournal, Within, after_all}
 use Rattle.lfm_model.specs.Totals.{total_after}
 use Rattle.lfm_monitor.specs.Belongs.{pass_sight, passes_of}
@@ -9,10 +9,10 @@ use Rattle.lfm_script.specs.script.Grammar.{script_of}
 use Rattle.lfm_script.specs.script.Limits.{header_allowed, lines_allowed}
 use Rattle.std.specs.List.{sum}
 use Rattle.lfm_script.specs.declared.faults.WorkFault.TheVariants.{Memory, Stuck}
-use Rattle.lfm_program.specs.Workers.{StopsSome}
+use Rattle.lfm_program.specs.Workers.{StopsIn}
 use Rattle.lfm_program.proofs.Threads.{fault_is}
 use Rattle.lfm_program.proofs.JournalEnds.{none_missing}
-use Rattle.lfm_program.proofs.RunEnds.{and_true, both_true, by_workers, collected, ran, reported}
+use Rattle.lfm_program.proofs.RunEnds.{and_true, both_true, by_workers, collected, in_shares, ran, reported, stopped_in}
 use Rattle.lfm_script.proofs.RunReports.{adds_made}
 use Rattle.lfm_program.proofs.script_run.run_script.Goals as goal
 
@@ -77,17 +77,24 @@ returns-clause-report g c =
     (let a = c.in-Ok.ensures.whole in let b = c.in-Ok.journal.ok in omega arith) in
     let is_allowed = both_true (header_allowed plan.workers plan.conditions) (lines_allowed plan.workers plan.conditions plan.lines) c.requires.header c.requires.lines in
     let made = ran c.in_ok-monitor.monitor plan rs ps es c.in_ok-monitor.ensures.ready.conditions_are back (λ j q at. (c.in-Ok.ensures.mine j q at).0) in
+    let shares = in_shares c.in_ok-monitor.monitor plan rs ps es c.in_ok-monitor.ensures.ready.share back (λ j q at. (c.in-Ok.ensures.mine j q at).1) in
     let rows = subst (λ xs. c.in_ok-rows.rows.items ≡ rows_from (run_row xs (refusal_at rs)) 1 plan.workers) c.deref-4.ensures.value
     (subst (λ (n : ℕ). c.in_ok-rows.rows.items ≡ rows_from (run_row c.deref-4.result.now (refusal_at rs)) 1 n) back.as_many
     (subst (λ qs. c.in_ok-rows.rows.items ≡ rows_from (run_row c.deref-4.result.now (refusal_at qs)) 1 (length qs)) c.deref-3.ensures.value c.in_ok-rows.ensures)) in
     let total_is = c.in-Ok.ensures.legal.0 ∙ ap (λ o. after_all total_after o es) c.in_ok-monitor.ensures.ready.opening in
     let lawful_is : c.in_ok-lawful.lawful ≡ true = c.in_ok-lawful.ensures.complete (subst LawfulJournal (sym c.deref-5.ensures.value) c.in-Ok.ensures.legal.1)
     (subst (λ xs. c.in-Ok.total ≡ after_all total_after (record { 0 = 0 }) xs) (sym c.deref-5.ensures.value) total_is) in
-    reported plan rs es c.in_ok-rows.rows.items c.in-Ok.total _ c.in_ok-lawful.lawful _ is_allowed c.requires.few within c.in-Ok.ensures.legal.1 made back.as_many rows c.in-Ok.ensures.legal.0
+    reported plan rs es c.in_ok-rows.rows.items c.in-Ok.total _ c.in_ok-lawful.lawful _ is_allowed c.requires.few within c.in-Ok.ensures.legal.1 shares made back.as_many rows c.in-Ok.ensures.legal.0
     c.in_ok-monitor.ensures.ready.opening lawful_is (and_true c.none_refused.result c.in_ok-lawful.lawful (are_none rs) (c.none_refused.ensures ∙ ap are_none c.deref-6.ensures.value) lawful_is)
 
 -- the worker that was stopped tells which command the gate stops
 pub returns-in_err-passes-clause-fault : goal.returns-in_err-passes-clause-fault
 returns-in_err-passes-clause-fault g c =
-    fault_is (λ e. (e ≡ Memory) ⊎ ((e ≡ Stuck) × StopsSome (g.G.Gate.stops c.args.gate.now))) c.from_residual-in_err-passes.result _ c.from_residual-in_err-passes.ensures.1
-    (⊎_elim inl (λ s. inr (s.0, (let t = c.in_ok-worked.ensures.each s.1.0 s.1.1 s.1.2 in let k = t.4.stopped s.1.3 in ((pass_sight t.0).number, k.0 + 1, k.2)))) c.in_err-passes.ensures.fault)
+    let many : length c.deref-2.result.now ≡ c.args.script.now.workers = (let a = ap length c.deref-2.ensures.value in let b = c.in_ok-commands.ensures.count in let d = c.in_ok-commands.commands.ok in omega arith) in
+    let stops = g.G.Gate.stops c.args.gate.now in let plan = script_of c.args.script.now in
+    fault_is (λ e. (e ≡ Memory) ⊎ ((e ≡ Stuck) × StopsIn stops plan)) c.from_residual-in_err-passes.result _ c.from_residual-in_err-passes.ensures.1
+    (⊎_elim inl (λ s. inr (
+      s.0,
+      stopped_in c.in_ok-monitor.monitor stops plan c.deref-2.result.now c.in_ok-commands.commands.items c.deref.result.now c.in_ok-monitor.passes.items c.in_ok-worked.worked.items
+          c.in_ok-monitor.ensures.ready c.deref-2.ensures.value c.deref.ensures.value many c.in_ok-commands.ensures.each c.in_ok-worked.ensures.each s.1,
+    )) c.in_err-passes.ensures.fault)

@@ -29,10 +29,11 @@ pub trait CriticalSection<O: Object, R: Wait>: Sync {
     /// What the section answers.
     type Answer;
 
-    // What the section may make of its pass, in the round with this number, and what it then answers.
+    // What the section may make of its pass, in the round with this number, and what it then answers. `hold` and `run` tell their
+    // callers so.
     ghost makes: { Self → ℕ → {K : _} → Pass O O.Op O.Reply K → Pass O O.Op O.Reply K → Result Self.Answer Refusal → Type 0 } = { λ _ _ _ _ _. Unit {0} };
 
-    /// Executes the section once, with the number of the round.
+    /// Executes the section once, with the number of the round. The pass stays one of the monitor's, and keeps its number.
     fn execute(
         &self,
         rt: &R,

@@ -1,8 +1,10 @@
 //! How a monitor is made: a mutex round the object with an empty journal, its conditions, and a pass for each of its seats.
 ghost use Rattle.lfm_model.specs.declared.refusals.NewFault.{NewFault};
 ghost use Rattle.lfm_monitor.specs.Begun.{InLimits, NewPass};
-ghost use Rattle.lfm_monitor.specs.Belongs.{OfMonitor, conditions_of, mine_of, opening_of, passes_of, seen_of, share_of};
+ghost use Rattle.lfm_monitor.specs.Belongs.{OfMonitor, conditions_in, conditions_of, mine_of, opening_of, passes_of, seen_of, share_of};
+ghost use Rattle.lfm_monitor.specs.CondSeats.{ArePaced};
 ghost use Rattle.lfm_monitor.specs.Passes.{PassKept};
+ghost use Rattle.lfm_mutex.specs.Paces.{usual_pace};
 ghost use Rattle.lfm_mutex.specs.calls.Sight.{sight};
 ghost use Rattle.std.specs.Prelude.{◌≡◌, ◌+◌, ◌↔◌, ℕ, IfErr, IfOk, IsTrue, [], vec_capacity, vec_len};
 ghost use lib.ListN.{get_elem?};
@@ -80,6 +82,7 @@ impl<O: Object> Monitor<O> {
         ensures monitor { IfOk result (λ r. (opening_of r.0 ≡ object) × (passes_of r.0 ≡ seats) × (share_of r.0 ≡ entries_per_seat) × (conditions_of r.0 ≡ conditions)) }
         ensures belongs { IfOk result (λ r. (j : ℕ) (p : _) → get_elem? r.1.items j ≡ some p → OfMonitor p r.0) }
         ensures passes { IfOk result (λ r. (vec_len r.1 ≡ seats) × ((j : ℕ) (p : _) → get_elem? r.1.items j ≡ some p → NewPass r.0 (j + 1) p)) }
+        ensures pace { IfOk result (λ r. (r.0.mutex.pace ≡ usual_pace) × ArePaced usual_pace (conditions_in r.0)) }
         ensures limit { (InLimits seats entries_per_seat conditions → ⊥) → IfErr result (λ e. e ≡ NewFault.Limit) × IfOk result (λ _. ⊥) }
         ensures memory { InLimits seats entries_per_seat conditions → IfErr result (λ e. e ≡ NewFault.Memory) }
     {

@@ -5,6 +5,7 @@ pub mod Close
 pub mod EndedHolds
 pub mod Fresh
 pub mod Laws
+pub mod Paces
 pub mod Rounds
 pub mod ValueMut
 pub mod TableEvents

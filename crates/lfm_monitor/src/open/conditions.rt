@@ -1,7 +1,8 @@
 //! The conditions of a new monitor, and the cond seats of each of its passes.
 ghost use Rattle.std.specs.Prelude.{◌≡◌, ◌+◌, ℕ, IfErr, IfOk, true, vec_len};
 ghost use Rattle.lfm_model.specs.declared.refusals.NewFault.{NewFault};
-ghost use Rattle.lfm_monitor.specs.CondSeats.{AreConditions, AreNewOf};
+ghost use Rattle.lfm_monitor.specs.CondSeats.{AreConditions, AreNewOf, ArePaced};
+ghost use Rattle.lfm_mutex.specs.Paces.{usual_pace};
 ghost use Rattle.lfm_protocol.specs.Limits.{are_in_limits, max_budget};
 ghost use lib.ListN.{get_elem?};
 ghost use mathlib.Core.Option.{some};
@@ -21,6 +22,7 @@ pub fn new_conditions(
     requires { are_in_limits passes max_budget ≡ true }
     ensures conditions { IfOk result (λ r. (vec_len r.0 ≡ count) × AreConditions passes r.0.items) }
     ensures seats { IfOk result (λ r. (vec_len r.1 ≡ passes) × ((j : ℕ) (l : _) → get_elem? r.1.items j ≡ some l → AreNewOf passes (j + 1) l.items r.0.items)) }
+    ensures paced { IfOk result (λ r. ArePaced usual_pace r.0.items) }
     ensures memory { IfErr result (λ e. e ≡ NewFault.Memory) }
 {
     let Ok(mut conditions) = Vec::with_capacity(alloc, count as usize) else {

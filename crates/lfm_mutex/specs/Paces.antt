@@ -1,0 +1,6 @@
+-- How long a seat looks that waits for a new mutex.
+use Rattle.lfm_mutex.specs.declared.pace.Pace.{Pace}
+
+-- 800 looks, where at most 8 seats hold or wait
+abbrev pub usual_pace : Pace
+usual_pace = record { looks = 800; near = 8 }

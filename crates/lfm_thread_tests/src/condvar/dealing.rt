@@ -14,6 +14,7 @@ use std::alloc::Global;
 
 const NOTHING: Seen = Seen {
     waits: 0,
+    turns: 0,
     ticket: 0,
     number: 0,
     woken: None,

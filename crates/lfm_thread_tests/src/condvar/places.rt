@@ -25,6 +25,8 @@ pub struct Place {
 pub struct Seen {
     /// How often it waited.
     pub waits: u64,
+    /// How many turns it took that were its own.
+    pub turns: u64,
     /// The ticket of its latest wait. 0 where it didn't wait.
     pub ticket: u64,
     /// The number that it left.

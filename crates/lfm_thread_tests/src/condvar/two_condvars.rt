@@ -5,7 +5,7 @@ ghost use Rattle.lfm_thread_tests.specs.Places.{OfShared};
 use crate::adding::add_one;
 use crate::condvar::dealing::{Left, shared_by};
 use crate::condvar::parts::{Part, take_parts};
-use crate::condvar::places::{Place, Shared};
+use crate::condvar::places::{Place, Seen, Shared};
 use crate::condvar::shared_calls::Side;
 use crate::seeing::sees;
 use std::process::Abort;
@@ -31,6 +31,13 @@ fn wait_for_turn<R: Wait>(rt: &R, shared: &Shared, place: &mut Place, side: Side
     }
 }
 
+/// Counts the turn, if it is the place's own.
+fn count_turn(seen: &mut Seen, is_own: bool) {
+    if is_own {
+        seen.turns = seen.turns.wrapping_add(1);
+    }
+}
+
 /// One turn: adds 1 to the number, and wakes one of the other side.
 fn take_turn<R: Wait>(rt: &R, shared: &Shared, place: &mut Place, side: Side)
     requires { OfShared place.old shared.now }
@@ -38,6 +45,8 @@ fn take_turn<R: Wait>(rt: &R, shared: &Shared, place: &mut Place, side: Side)
 {
     let _ = shared.lock(rt, place);
     wait_for_turn(rt, shared, place, side);
+    let is_own = Side::of(place.number()) == side;
+    count_turn(&mut place.seen, is_own);
     let _ = add_one(&mut place.seat);
     let _ = shared.wake_one(rt, place, side.other());
     let _ = shared.unlock(place);
@@ -72,6 +81,15 @@ fn all_waits(places: &[Place]) -> u64 {
     waits
 }
 
+/// How many turns were taken by whom they were for.
+fn all_turns(places: &[Place]) -> u64 {
+    let mut turns = 0u64;
+    for place in places {
+        turns = turns.wrapping_add(place.seen.turns);
+    }
+    turns
+}
+
 /// All turns were taken, each condvar sent as many as it had added, and together they sent each wait.
 fn each_wait_was_sent<R: Abort>(rt: &R, left: &Left, waits: u64) {
     sees(rt, "the number", &left.number, &ALL_TURNS);
@@ -96,6 +114,12 @@ fn two_condvars_of_one_mutex(rt: HostRuntime) -> Result<(), Fail> {
     let (shared, places) = shared_by(rt.alloc(), 4).ok_or("places")?;
     let places = take_parts(&rt, &shared, places, &TakesTurns)?;
     let waits = all_waits(&places);
+    sees(
+        &rt,
+        "the turns taken in turn",
+        &all_turns(&places),
+        &ALL_TURNS,
+    );
     let left = shared.close(rt.alloc(), places).ok_or("all are back")?;
     each_wait_was_sent(&rt, &left, waits);
     Ok(())

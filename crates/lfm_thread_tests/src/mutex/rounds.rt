@@ -3,7 +3,7 @@ ghost use Rattle.lfm_mutex.specs.Belongs.{OfMutex};
 ghost use Rattle.lfm_mutex.specs.calls.Sections.{StandsAs};
 ghost use Rattle.lfm_mutex.specs.calls.Sight.{sight};
 
-use crate::seeing::sees;
+use crate::seeing::{holds, sees};
 use lfm_model::Refusal;
 use lfm_mutex::{Mutex, Seat};
 use std::alloc::Global;
@@ -182,6 +182,7 @@ fn sections_that_never_wait(rt: HostRuntime) -> Result<(), Fail> {
     };
     let total = rounded(&rt, rt.alloc(), 1_000, 1_000, &tries)?;
     let executed = executed.load(Ordering::SeqCst);
+    holds(&rt, "a section was executed", executed > 0);
     sees(&rt, "the value", &total, &executed);
     let all = executed.wrapping_add(busy.load(Ordering::SeqCst));
     sees(&rt, "all sections", &all, &4_000);

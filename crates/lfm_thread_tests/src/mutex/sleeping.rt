@@ -25,8 +25,8 @@ struct Report {
     held: bool,
     /// The time until then.
     took: Duration,
-    /// The processor time that the thread used until then.
-    busy: Duration,
+    /// The processor time that the thread used until then. None where it can't be told.
+    busy: Option<Duration>,
 }
 
 /// Holds the mutex a while after both threads have come to the barrier.
@@ -39,8 +39,8 @@ fn hold<R: Wait + Clock>(rt: &R, mutex: &Mutex<u64>, seat: &mut Seat<u64>, both:
     let _ = mutex.unlock(seat);
 }
 
-fn busy_until_now<R: CpuClock>(rt: &R) -> Duration {
-    rt.thread_cpu_time().unwrap_or(Duration::ZERO)
+fn busy_until_now<R: CpuClock>(rt: &R) -> Option<Duration> {
+    rt.thread_cpu_time().ok()
 }
 
 fn time_now<R: Clock>(rt: &R) -> Duration {
@@ -59,11 +59,12 @@ fn wait<R: Wait + Clock + CpuClock>(
     both.wait(rt);
     let (began, busy) = (time_now(rt), busy_until_now(rt));
     let held = mutex.lock(rt, seat).is_ok();
-    Report {
-        held,
-        took: time_now(rt).saturating_sub(began),
-        busy: busy_until_now(rt).saturating_sub(busy),
-    }
+    let (took, busy_now) = (time_now(rt).saturating_sub(began), busy_until_now(rt));
+    let busy = match (busy, busy_now) {
+        (Some(before), Some(after)) => Some(after.saturating_sub(before)),
+        _ => None,
+    };
+    Report { held, took, busy }
 }
 
 /// Seat 1 holds, and the other waits.
@@ -97,10 +98,13 @@ fn reports<R: Threads + Wait + Clock + CpuClock + Sync>(
 /// Sees that a thread came to hold, and took hardly any processor time until then.
 fn sees_slept<R: Abort>(rt: &R, report: Report) {
     assert!(rt; report.held);
+    let Some(busy) = report.busy else {
+        panic!(rt; "the processor time can't be told")
+    };
     assert!(rt;
-        report.busy < Duration::from_millis(MOST_BUSY),
+        busy < Duration::from_millis(MOST_BUSY),
         "{:?} in {:?}",
-        report.busy,
+        busy,
         report.took
     );
 }

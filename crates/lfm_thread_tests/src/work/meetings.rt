@@ -4,7 +4,7 @@ use lfm_program::{Gate, Meet, OpenGate};
 use std::thread::join;
 
 /// More turns than a thread needs to be started.
-const MANY_TURNS: u64 = 100_000_000;
+const MANY_TURNS: u64 = 10_000_000_000;
 
 #[test]
 fn two_meet(rt: HostRuntime) {
@@ -45,7 +45,7 @@ fn the_second_comes_alone(rt: HostRuntime) {
 
 #[test]
 fn one_comes_twice(rt: HostRuntime) {
-    let gate = Meet::new(MANY_TURNS / 100);
+    let gate = Meet::new(MANY_TURNS / 10_000);
     let at_gate = &gate;
     // Both threads come as worker 1: neither may take the other for worker 2.
     let (first, second) = join(

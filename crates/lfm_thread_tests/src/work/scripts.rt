@@ -8,7 +8,7 @@ use std::test::Fail;
 use std::thread::Threads;
 
 /// More turns than a thread needs to be started.
-const MANY_TURNS: u64 = 100_000_000;
+const MANY_TURNS: u64 = 10_000_000_000;
 
 /// Worker 1 waits until worker 2 has added.
 pub const WAITING: &[u8; 40] = b"workers 2 1\n1 until 1 3\n2 add 3\n2 all 1\n";

@@ -33,7 +33,7 @@ pub trait CriticalSection<O: Object, R: Wait>: Sync {
     // callers so.
     ghost makes: { Self → ℕ → {K : _} → Pass O O.Op O.Reply K → Pass O O.Op O.Reply K → Result Self.Answer Refusal → Type 0 } = { λ _ _ _ _ _. Unit {0} };
 
-    /// Executes the section once, with the number of the round. The pass stays one of the monitor's, and keeps its number.
+    /// Executes the section once, with the number of the round. The pass stays one of the monitor's.
     fn execute(
         &self,
         rt: &R,

@@ -128,7 +128,8 @@ fn is_lawful(alloc: Global, total: Total, journal: &[Entry<TotalOp>]) -> Result<
 /// Runs a script: each worker in a thread of its own, by `perform`. Returns when all have ended, which may be never where a
 /// wait of the script is ended by nobody.
 ///
-/// Stuck where the gate stopped a worker before one of its commands. Memory where a request for memory was refused or a worker could not be started.
+/// Stuck where the gate stopped a worker before one of its commands. Memory where a request for memory was refused or a worker
+/// could not be started.
 pub(crate) fn run_script<R: Threads + Wait + Sync, G: Gate>(
     rt: &R,
     alloc: Global,

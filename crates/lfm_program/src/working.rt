@@ -85,8 +85,8 @@ fn work_input<R: Threads + Wait + Sync, G: Gate, W: Write>(
 /// rounded down. It sleeps until all workers have ended.
 ///
 /// The faults, and what is written before each of them:
-/// - Read and Memory: nothing. Read is a failure of the reader, before the input was past a limit. Memory is a request that was refused, or a worker that could
-///   not be started.
+/// - Read and Memory: nothing. Read is a failure of the reader, before the input was past a limit. Memory is a request that was
+///   refused, or a worker that could not be started.
 /// - Syntax and Limit: the line of the fault, and nothing else. `read_script` says which comes when.
 /// - Stuck: nothing. The gate stopped a worker before one of its commands, so it never comes with an `OpenGate`.
 /// - Write: a prefix of the text. The writer failed, took no byte, or failed to flush.

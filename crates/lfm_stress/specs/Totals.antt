@@ -14,13 +14,14 @@ additions_of PingPong threads turns = threads * turns
 additions_of Broadcast threads turns = (threads * 2 + 1) * turns
 additions_of Buffer threads turns = turns
 
--- how many of them may be left out: every other turn of `mixed`, from the first on, may meet another's hold
-abbrev pub misses_of : Load → ℕ → ℕ → ℕ
-misses_of Lock threads turns = 0
-misses_of Mixed threads turns = threads * ((turns + 1) / 2)
-misses_of PingPong threads turns = 0
-misses_of Broadcast threads turns = 0
-misses_of Buffer threads turns = 0
+-- how many of them must be made at least: of `mixed` those of the turns that lock, and that of the first turn of all, a try that
+-- finds the mutex free; of another load all
+abbrev pub least_of : Load → ℕ → ℕ → ℕ
+least_of Lock threads turns = additions_of Lock threads turns
+least_of Mixed threads turns = threads * (turns / 2) + 1
+least_of PingPong threads turns = additions_of PingPong threads turns
+least_of Broadcast threads turns = additions_of Broadcast threads turns
+least_of Buffer threads turns = additions_of Buffer threads turns
 
 -- how many threads are woken in broadcasts
 abbrev pub woken_of : Load → ℕ → ℕ → ℕ
@@ -42,7 +43,7 @@ number_of Buffer made = made * (made + 1) / 2
 -- is that of the additions
 abbrev pub is_exact : Load → ℕ → ℕ → Sums → Bool
 is_exact load threads turns sums =
-    nat_le sums.made (additions_of load threads turns)
-    && nat_le (additions_of load threads turns) (sums.made + misses_of load threads turns)
+    nat_le (least_of load threads turns) sums.made
+    && nat_le sums.made (additions_of load threads turns)
     && nat_eq sums.woken (woken_of load threads turns)
     && nat_eq sums.number (number_of load sums.made)

@@ -1,6 +1,6 @@
 //! What a run leaves, and whether nothing was lost.
 ghost use Rattle.std.specs.Prelude.{◌≡◌, ◌≤◌};
-ghost use Rattle.lfm_stress.specs.Totals.{additions_of, misses_of, woken_of, number_of, is_exact};
+ghost use Rattle.lfm_stress.specs.Totals.{additions_of, least_of, woken_of, number_of, is_exact};
 
 use crate::plan::{Load, Plan};
 use std::io;
@@ -28,13 +28,14 @@ fn additions_of(plan: Plan) -> u64
     }
 }
 
-/// How many of them may be left out.
-fn misses_of(plan: Plan) -> u64
-    ensures { result ≡ misses_of plan.load plan.threads plan.turns }
+/// How many of them must be made at least. In `mixed` these are those of the turns that lock, and that of the first turn of all, a
+/// try that finds the mutex free.
+fn least_of(plan: Plan) -> u64
+    ensures { result ≡ least_of plan.load plan.threads plan.turns }
 {
     match plan.load() {
-        Load::Mixed => plan.threads() * ((plan.turns() + 1) / 2),
-        Load::Lock | Load::PingPong | Load::Broadcast | Load::Buffer => 0,
+        Load::Mixed => plan.threads() * (plan.turns() / 2) + 1,
+        Load::Lock | Load::PingPong | Load::Broadcast | Load::Buffer => additions_of(plan),
     }
 }
 
@@ -66,9 +67,8 @@ impl Sums {
     pub fn is_exact(self, plan: Plan) -> bool
         ensures { result ≡ is_exact plan.load plan.threads plan.turns self }
     {
-        let additions = additions_of(plan);
-        self.made <= additions
-            && additions <= self.made + misses_of(plan)
+        least_of(plan) <= self.made
+            && self.made <= additions_of(plan)
             && self.woken == woken_of(plan)
             && self.number == number_of(plan, self.made)
     }

@@ -1,6 +1,6 @@
 // A producer and two consumers at a buffer, with lfm::condition_variable and with std::condition_variable_any: each number comes out
 // once. And a lock of two mutexes at a time, of seats in hand, of more threads than there are seats, and of mutexes that end before or
-// after the threads that used them.
+// after the threads that used them; and that refusals are thrown.
 #include <atomic>
 #include <condition_variable>
 #include <deque>
@@ -67,6 +67,16 @@ static void two_at_a_time() {
   EXPECT(total, 10000);
 }
 
+// By what a call is refused, or LFM_DONE.
+template <class Call> static lfm_status refusal_of(Call call) {
+  try {
+    call();
+  } catch (const lfm::refused &why) {
+    return why.status();
+  }
+  return LFM_DONE;
+}
+
 static void seats_in_hand() {
   lfm::mutex mutex(2);
   lfm::seat first(mutex), second(mutex);
@@ -77,12 +87,7 @@ static void seats_in_hand() {
   lock.unlock();
   EXPECT(other.try_lock(), true);
   other.unlock();
-  try {
-    one.unlock();
-    EXPECT(true, false);
-  } catch (const lfm::refused &why) {
-    EXPECT(why.status(), LFM_NOT_OWNER);
-  }
+  EXPECT(refusal_of([&] { one.unlock(); }), LFM_NOT_OWNER);
 }
 
 static void seats_of_threads() {
@@ -93,14 +98,40 @@ static void seats_of_threads() {
   for (int i = 0; i < 10; i++) std::thread([&] { EXPECT(mutex.try_lock(), false); }).join();
   std::thread([&] {
     EXPECT(mutex.try_lock(), false);
-    std::thread([&] {
-      try {
-        mutex.lock();
-        EXPECT(true, false);
-      } catch (const lfm::refused &why) {
-        EXPECT(why.status(), LFM_NO_SEAT);
-      }
-    }).join();
+    std::thread([&] { EXPECT(refusal_of([&] { mutex.lock(); }), LFM_NO_SEAT); }).join();
+  }).join();
+}
+
+static void refusals_of_seats() {
+  EXPECT(refusal_of([] { lfm::mutex none(0); }), LFM_LIMIT);
+  lfm::mutex mutex(1, 1);
+  lfm::seat only(mutex);
+  EXPECT(refusal_of([&] { lfm::seat another(mutex); }), LFM_NO_SEAT);
+  lfm::seat_lock lock(only);
+  lock.lock();
+  lock.unlock();
+  EXPECT(refusal_of([&] { lock.lock(); }), LFM_SPENT);
+  EXPECT(refusal_of([&] { lock.try_lock(); }), LFM_SPENT);
+}
+
+static void refusals_of_threads() {
+  EXPECT(refusal_of([] { lfm::recursive_mutex none(4096); }), LFM_LIMIT);
+  lfm::recursive_mutex mutex(1, 3), other(1, 3);
+  EXPECT(refusal_of([&] { mutex.unlock(); }), LFM_NOT_OWNER);
+  {
+    lfm::condition_variable condition(mutex);
+    std::unique_lock<lfm::recursive_mutex> lock(mutex), of_other(other);
+    EXPECT(refusal_of([&] { condition.wait(of_other); }), LFM_FOREIGN);
+    std::unique_lock<lfm::recursive_mutex> again(mutex);
+    EXPECT(refusal_of([&] { condition.wait(again); }), LFM_NESTED);
+  }
+  for (int i = 0; i < 2; i++) std::lock_guard<lfm::recursive_mutex> lock(mutex);
+  EXPECT(refusal_of([&] { mutex.lock(); }), LFM_SPENT);
+  EXPECT(refusal_of([&] { mutex.try_lock(); }), LFM_SPENT);
+  std::thread([&] {
+    lfm::condition_variable condition(mutex);
+    EXPECT(refusal_of([&] { condition.notify_one(); }), LFM_NO_SEAT);
+    EXPECT(refusal_of([&] { condition.notify_all(); }), LFM_NO_SEAT);
   }).join();
 }
 
@@ -138,6 +169,8 @@ int main() {
   two_at_a_time();
   seats_in_hand();
   seats_of_threads();
+  refusals_of_seats();
+  refusals_of_threads();
   mutexes_that_end();
   return 0;
 }

@@ -1,8 +1,44 @@
-/* Each refusal, in one thread, and that a refused call has changed nothing; and that memory of calloc is aligned enough. */
+/* Each refusal, in one thread, and that a refused call has changed nothing; and that memory of calloc is aligned enough. Refused memory
+ * has a test of its own.
+ *
+ * What the library tells of its handles is seen here, so that it can be of another version. */
+#define lfm_c_mutex_size seen_mutex_size
+#define lfm_c_mutex_align seen_mutex_align
+#define lfm_c_seat_size seen_seat_size
+#define lfm_c_seat_align seen_seat_align
 #include "expect.h"
+#undef lfm_c_mutex_size
+#undef lfm_c_mutex_align
+#undef lfm_c_seat_size
+#undef lfm_c_seat_align
+size_t lfm_c_mutex_size(void);
+size_t lfm_c_mutex_align(void);
+size_t lfm_c_seat_size(void);
+size_t lfm_c_seat_align(void);
 
 static lfm_mutex mutex;
 static lfm_seat first, second, third;
+
+enum { MUTEX_SIZE, MUTEX_ALIGN, SEAT_SIZE, SEAT_ALIGN, ALL };
+static int too_much = ALL; /* which of these is one more than the header has room for */
+
+static size_t seen(int which, size_t told, size_t room) { return which == too_much ? room + 1 : told; }
+size_t seen_mutex_size(void) { return seen(MUTEX_SIZE, lfm_c_mutex_size(), LFM_MUTEX_BYTES); }
+size_t seen_mutex_align(void) { return seen(MUTEX_ALIGN, lfm_c_mutex_align(), LFM_ALIGNMENT); }
+size_t seen_seat_size(void) { return seen(SEAT_SIZE, lfm_c_seat_size(), LFM_SEAT_BYTES); }
+size_t seen_seat_align(void) { return seen(SEAT_ALIGN, lfm_c_seat_align(), LFM_ALIGNMENT); }
+
+/* It is refused before there is a handle, for which there may be too little room. */
+static void a_library_of_another_version(void) {
+  static lfm_mutex own;
+  static const lfm_mutex blank;
+  for (too_much = 0; too_much < ALL; too_much++) {
+    EXPECT(lfm_mutex_new(&own, 1, 1), LFM_OTHER_HEADER);
+    EXPECT(memcmp(&own, &blank, sizeof own), 0);
+  }
+  EXPECT(lfm_mutex_new(&own, 1, 1), LFM_DONE);
+  EXPECT(lfm_mutex_close(&own), LFM_DONE);
+}
 
 static void what_is_blank(void) {
   static lfm_mutex blank;
@@ -16,8 +52,11 @@ static void what_is_blank(void) {
   EXPECT(lfm_seat_give(&seat), LFM_BLANK);
   EXPECT(lfm_lock(NULL), LFM_BLANK);
   EXPECT(lfm_lock(&seat), LFM_BLANK);
+  EXPECT(lfm_try_lock(NULL), LFM_BLANK);
   EXPECT(lfm_try_lock(&seat), LFM_BLANK);
+  EXPECT(lfm_unlock(NULL), LFM_BLANK);
   EXPECT(lfm_unlock(&seat), LFM_BLANK);
+  EXPECT(lfm_number(NULL) + lfm_depth(NULL) + lfm_left(NULL), 0);
   EXPECT(lfm_number(&seat) + lfm_depth(&seat) + lfm_left(&seat), 0);
 }
 
@@ -49,6 +88,7 @@ static void limits(void) {
 static void seats_taken_and_back(void) {
   EXPECT(lfm_mutex_new(&mutex, 2, 100), LFM_DONE);
   EXPECT(lfm_mutex_new(&mutex, 2, 100), LFM_TAKEN);
+  EXPECT(lfm_seat_take(&mutex, NULL), LFM_BLANK);
   EXPECT(lfm_seat_take(&mutex, &first), LFM_DONE);
   EXPECT(lfm_seat_take(&mutex, &first), LFM_TAKEN);
   EXPECT(lfm_seat_take(&mutex, &second), LFM_DONE);
@@ -180,10 +220,14 @@ static void condition_variables(void) {
   static lfm_mutex other;
   static lfm_seat foreign;
   EXPECT(lfm_condvar_new(NULL, &mutex), LFM_BLANK);
+  EXPECT(lfm_condvar_new(&condvar, NULL), LFM_BLANK);
   EXPECT(lfm_condvar_new(&condvar, &mutex), LFM_BLANK);
+  EXPECT(lfm_condvar_close(NULL), LFM_BLANK);
   EXPECT(lfm_condvar_close(&condvar), LFM_BLANK);
+  EXPECT(lfm_wait(NULL, &first), LFM_BLANK);
   EXPECT(lfm_wait(&condvar, &first), LFM_BLANK);
   EXPECT(lfm_wake_one(&condvar, &first), LFM_BLANK);
+  EXPECT(lfm_wake_all(&condvar, &first), LFM_BLANK);
   two_seats_of(10);
   EXPECT(lfm_condvar_new(&condvar, &mutex), LFM_DONE);
   EXPECT(lfm_condvar_new(&condvar, &mutex), LFM_TAKEN);
@@ -191,7 +235,9 @@ static void condition_variables(void) {
   EXPECT(lfm_seat_take(&other, &foreign), LFM_DONE);
   EXPECT(lfm_wait(&condvar, &foreign), LFM_FOREIGN);
   EXPECT(lfm_wake_all(&condvar, &foreign), LFM_FOREIGN);
+  EXPECT(lfm_wait(&condvar, NULL), LFM_BLANK);
   EXPECT(lfm_wait(&condvar, &third), LFM_BLANK);
+  EXPECT(lfm_wake_one(&condvar, &third), LFM_BLANK);
   EXPECT(lfm_wait(&condvar, &first), LFM_NOT_OWNER);
   EXPECT(lfm_wake_one(&condvar, &first), LFM_NOBODY);
   EXPECT(lfm_wake_all(&condvar, &first), LFM_NOBODY);
@@ -219,12 +265,39 @@ static void waits_that_a_seat_refuses(void) {
   EXPECT(lfm_wait(&condvar, &first), LFM_SPENT);
   EXPECT(lfm_depth(&first), 1);
   EXPECT(lfm_wake_all(&condvar, &first), LFM_NOBODY);
+  condvar.waiting[0] = 1; /* as while the first seat waits */
+  condvar.count = 1;
+  EXPECT(lfm_wake_one(&condvar, &second), LFM_SEAT_ASLEEP);
+  EXPECT(lfm_wake_all(&condvar, &second), LFM_SEAT_ASLEEP);
+  EXPECT(condvar.count, 1);
+  EXPECT(lfm_condvar_close(&condvar), LFM_WAITED_FOR);
+  condvar.count = 0;
   EXPECT(lfm_unlock(&first), LFM_GRANTED);
   EXPECT(lfm_c_receive(second.handle), LFM_DONE);
   EXPECT(lfm_unlock(&second), LFM_DONE);
-  condvar.count = 1; /* as while a seat waits */
-  EXPECT(lfm_condvar_close(&condvar), LFM_WAITED_FOR);
-  condvar.count = 0;
+  EXPECT(lfm_condvar_close(&condvar), LFM_DONE);
+  both_back();
+}
+
+/* A condition variable's own mutex is opened anew with few takes, since 2^36 are too many to spend here. */
+static void a_condition_variable_without_takes(void) {
+  static lfm_condvar condvar;
+  two_seats_of(10);
+  EXPECT(lfm_condvar_new(&condvar, &mutex), LFM_DONE);
+  for (int i = 1; i <= 2; i++) EXPECT(lfm_seat_give(&condvar.seats[i]), LFM_DONE);
+  EXPECT(lfm_mutex_close(&condvar.list), LFM_DONE);
+  EXPECT(lfm_mutex_new(&condvar.list, 2, 1), LFM_DONE);
+  for (int i = 1; i <= 2; i++) EXPECT(lfm_seat_take(&condvar.list, &condvar.seats[i]), LFM_DONE);
+  EXPECT(lfm_wake_one(&condvar, &first), LFM_NOBODY);
+  EXPECT(lfm_wake_one(&condvar, &first), LFM_SPENT);
+  EXPECT(lfm_wake_all(&condvar, &first), LFM_SPENT);
+  /* held twice, so that a wait that is begun all the same is refused for that, and doesn't sleep for ever */
+  EXPECT(lfm_lock(&first), LFM_DONE);
+  EXPECT(lfm_lock(&first), LFM_AGAIN);
+  EXPECT(lfm_wait(&condvar, &first), LFM_SPENT);
+  EXPECT(lfm_depth(&first), 2);
+  EXPECT(lfm_unlock(&first), LFM_STILL);
+  EXPECT(lfm_unlock(&first), LFM_DONE);
   EXPECT(lfm_condvar_close(&condvar), LFM_DONE);
   both_back();
 }
@@ -267,6 +340,7 @@ static void memory_of_calloc(void) {
 int main(void) {
   what_is_blank();
   what_the_library_calls_blank();
+  a_library_of_another_version();
   limits();
   seats_taken_and_back();
   a_seat_of_another_mutex();
@@ -275,6 +349,7 @@ int main(void) {
   sends();
   condition_variables();
   waits_that_a_seat_refuses();
+  a_condition_variable_without_takes();
   a_mutex_that_is_opened_anew();
   memory_of_calloc();
   return 0;

@@ -3,7 +3,8 @@
  * The answer of such an ask is all that tells whom to wake. It takes three seats: the first gives the mutex up while the second has begun to
  * ask, so it posts; the second is queued; then the third takes the post over and finds the second in the queue, which sleeps by then.
  * Threads that run freely meet so seldom. Here the second and the third are stopped before each of their operations in turn, in all ways, and
- * the test fails where no ask has granted the mutex to a seat that sleeps, and where a seat is not woken.
+ * the test fails where no ask has granted the mutex to a seat that sleeps, where a seat is not woken, and where no unlock of the first has
+ * told that it posted.
  *
  * A thread is stopped by the processor's trap flag: after each instruction of an ask comes a signal, whose handler waits if the next
  * instruction is an atomic operation that is not allowed yet. So the test needs an x86-64. */
@@ -32,6 +33,7 @@ static lfm_mutex mutex;
 static lfm_seat seats[3];
 static __thread caller *own;
 static unsigned total, named, named_asleep; /* the seats that asks have named, and those that slept */
+static unsigned posted;                     /* how often the first seat's unlock told that it posted */
 static unsigned runs[3];                    /* the stops of this run */
 
 static int seen(int *word) { return __atomic_load_n(word, __ATOMIC_SEQ_CST); }
@@ -95,7 +97,9 @@ static void run(int i, int j, int k) {
   alarm(LIMIT);
   EXPECT(lfm_lock(&seats[0]), LFM_DONE);
   begin(&second, &seats[1], i);
-  EXPECT(lfm_is_refused(lfm_unlock(&seats[0])), false);
+  lfm_status status = lfm_unlock(&seats[0]);
+  EXPECT(lfm_is_refused(status), false);
+  if (status == LFM_POSTED) posted++;
   allow(&second, j);
   begin(&third, &seats[2], k);
   allow(&second, ALL);
@@ -124,8 +128,9 @@ int main(void) {
       for (int k = 0; k < STOPS; k++, count++) run(i, j, k);
   EXPECT(total, 2 * count);
   EXPECT(named_asleep != 0, true);
+  EXPECT(posted != 0, true);
   for (int i = 0; i < 3; i++) EXPECT(lfm_seat_give(&seats[i]), LFM_DONE);
   EXPECT(lfm_mutex_close(&mutex), LFM_DONE);
-  printf("%u runs; asks named %u seats, of which %u slept\n", count, named, named_asleep);
+  printf("%u runs; the first posted in %u; asks named %u seats, of which %u slept\n", count, posted, named, named_asleep);
   return 0;
 }

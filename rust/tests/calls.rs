@@ -8,6 +8,8 @@ thread_local! {
     static UNUSUAL: Cell<(&'static str, usize)> = const { Cell::new(("", 0)) };
     /// The calls that were made with a handle.
     static MADE: RefCell<Vec<&'static str>> = const { RefCell::new(Vec::new()) };
+    /// Where the handles of these calls lay, each with what it is of.
+    static HANDLES: RefCell<Vec<(&'static str, usize)>> = const { RefCell::new(Vec::new()) };
 }
 
 /// The calls that tell how much room a handle needs, with the room that there is.
@@ -26,9 +28,10 @@ fn usual(call: &str) -> usize {
     room.map_or(0, |(_, bytes)| *bytes)
 }
 
-fn answer(call: &'static str, handles: &[usize]) -> usize {
+fn answer(call: &'static str, handles: &[(&'static str, usize)]) -> usize {
     if !handles.is_empty() {
         MADE.with_borrow_mut(|made| made.push(call));
+        HANDLES.with_borrow_mut(|all| all.extend(handles));
     }
     match UNUSUAL.get() {
         (name, told) if name == call => told,
@@ -40,7 +43,7 @@ macro_rules! calls {
     ($($name:ident($($handle:ident)*))*) => {
         $(#[no_mangle]
         extern "C" fn $name($($handle: usize),*) -> usize {
-            answer(stringify!($name), &[$($handle),*])
+            answer(stringify!($name), &[$((stringify!($handle), $handle)),*])
         })*
     };
 }
@@ -100,4 +103,33 @@ fn a_condition_variable_without_takes() {
         assert_eq!(condvar.wake_all(seat), Err(Refusal::Spent));
     });
     assert!(!MADE.take().contains(&"lfm_c_unlock"));
+}
+
+/// The library may count on it that a handle lies still, from the call that opens it or makes it blank to the last one.
+#[test]
+fn handles_lie_still() {
+    MADE.take();
+    HANDLES.take();
+    let mut seats = mutex(1, 1, ()).unwrap();
+    let mut seat = seats.pop().unwrap();
+    drop(seat.lock().unwrap());
+    let moved = Box::new(seat);
+    drop(moved);
+    assert_eq!(
+        MADE.take(),
+        [
+            "lfm_c_open",
+            "lfm_c_blank_seat",
+            "lfm_c_take_seat",
+            "lfm_c_ask",
+            "lfm_c_unlock",
+            "lfm_c_give_seat",
+            "lfm_c_close"
+        ]
+    );
+    let mut handles = HANDLES.take();
+    handles.sort_unstable();
+    handles.dedup();
+    let kinds: Vec<_> = handles.into_iter().map(|(of, _)| of).collect();
+    assert_eq!(kinds, ["mutex", "seat"]);
 }

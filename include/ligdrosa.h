@@ -489,7 +489,7 @@ static inline lfm_status lfm_wake(lfm_condvar *condvar, lfm_seat *seat, bool all
 }
 
 /* Wakes the seat that has waited longest, if any: LFM_DONE or LFM_NOBODY. The caller's seat may hold the mutex or not. It costs one
- * take of the condition variable, and may sleep until the list is free.
+ * take of the condition variable, and may sleep until the list is free. Where nobody waits, a seat that sleeps is told so, not refused.
  * Refused: LFM_BLANK, LFM_FOREIGN, LFM_SEAT_ASLEEP, LFM_SPENT (of the condition variable's own 2^36). */
 static inline lfm_status lfm_wake_one(lfm_condvar *condvar, lfm_seat *seat) { return lfm_wake(condvar, seat, false); }
 

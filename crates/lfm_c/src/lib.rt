@@ -24,10 +24,10 @@ ghost use Rattle.lfm_c.specs.Handles.{TellsAsk, TellsClose, TellsDepth, TellsGiv
 ghost use Rattle.lfm_c.specs.Leaves.{leaves};
 
 mod calls;
-mod closing;
+mod close;
 pub mod crossing;
 mod handles;
-mod opening;
+mod open;
 mod reading;
 mod status;
 
@@ -75,7 +75,7 @@ pub unsafe extern "C" fn lfm_c_open(mutex: *mut u8, seats: u64, budget: u64) -> 
     requires* { sem 𝓛 (lies_at mutex_row full_share mutex x) }
     ensures* { sem 𝓛 (leaves (λ (y : MutexNow). lies_at mutex_row full_share mutex y) (λ y. TellsOpen x seats budget y result)) }
 {
-    opening::open(&mut *(mutex as *mut MutexHandle), seats, budget)
+    open::open(&mut *(mutex as *mut MutexHandle), seats, budget)
 }
 
 /// Takes the next seat of the mutex: the first is seat 1, and a seat that was given back comes before those not yet taken.
@@ -87,7 +87,7 @@ pub unsafe extern "C" fn lfm_c_take_seat(mutex: *mut u8, seat: *mut u8) -> u64
     requires* { sem 𝓛 (fsep (lies_at mutex_row full_share mutex x.0) (lies_at seat_row full_share seat x.1)) }
     ensures* { sem 𝓛 (leaves (λ (y : MutexNow × SeatNow). fsep (lies_at mutex_row full_share mutex y.0) (lies_at seat_row full_share seat y.1)) (λ y. TellsTake x.0 x.1 y.0 y.1 result)) }
 {
-    opening::take_seat(
+    open::take_seat(
         &mut *(mutex as *mut MutexHandle),
         &mut *(seat as *mut SeatHandle),
     )
@@ -103,7 +103,7 @@ pub unsafe extern "C" fn lfm_c_give_seat(mutex: *mut u8, seat: *mut u8) -> u64
     requires* { sem 𝓛 (fsep (lies_at mutex_row full_share mutex x.0) (lies_at seat_row full_share seat x.1)) }
     ensures* { sem 𝓛 (leaves (λ (y : MutexNow × SeatNow). fsep (lies_at mutex_row full_share mutex y.0) (lies_at seat_row full_share seat y.1)) (λ y. TellsGive x.0 x.1 y.0 y.1 result)) }
 {
-    opening::give_seat(
+    open::give_seat(
         &mut *(mutex as *mut MutexHandle),
         &mut *(seat as *mut SeatHandle),
     )
@@ -121,7 +121,7 @@ pub unsafe extern "C" fn lfm_c_close(mutex: *mut u8) -> u64
     requires* { sem 𝓛 (lies_at mutex_row full_share mutex x) }
     ensures* { sem 𝓛 (leaves (λ (y : MutexNow). lies_at mutex_row full_share mutex y) (λ y. TellsClose x y result)) }
 {
-    closing::close(&mut *(mutex as *mut MutexHandle))
+    close::close(&mut *(mutex as *mut MutexHandle))
 }
 
 /// The seat's number, 1 to 4,095, and 0 where the handle is blank.

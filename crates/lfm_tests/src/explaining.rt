@@ -1,7 +1,7 @@
 //! Explanations of a schedule that fail at a read or a write.
-use crate::devices::{FailingReader, FailingWriter, Failure};
 use lfm_core::ReplayFault;
 use lfm_explanation::explain;
+use lfm_test_tools::devices::{FailingReader, FailingWriter, Failure};
 
 /// A lock of a free mutex, and a second lock that begins.
 const INPUT: &[u8; 25] = b"seats 1\n1 lock\n1 *\n1 lock";

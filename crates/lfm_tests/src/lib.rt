@@ -4,24 +4,16 @@
 #![tactic(auto)]
 
 #[cfg(test)]
-mod counted;
-#[cfg(test)]
-mod devices;
-#[cfg(test)]
 mod explaining;
 #[cfg(test)]
 mod out_of_memory;
 #[cfg(test)]
 mod packing;
 #[cfg(test)]
-mod refused_memory;
-#[cfg(test)]
 mod replaying;
 #[cfg(test)]
 mod running;
 #[cfg(test)]
 mod scripts;
-#[cfg(test)]
-mod seeing;
 #[cfg(test)]
 mod stepping;

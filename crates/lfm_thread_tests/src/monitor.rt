@@ -6,8 +6,6 @@ mod calls;
 #[cfg(test)]
 mod conditions;
 #[cfg(test)]
-pub mod counted;
-#[cfg(test)]
 mod driving;
 #[cfg(test)]
 mod limits;

@@ -1,4 +1,4 @@
--- Each handle lies where C's pointer says. It is lent to `opening::open` for a new lifetime, and comes back as the call left it.
+-- Each handle lies where C's pointer says. It is lent to `open::open` for a new lifetime, and comes back as the call left it.
 -- scripts/write_c_walks writes this file.
 use Rattle.std.proofs.Common.{ℕ, [], ◌∷◌, ◌++◌, refl, w64}
 use Rattle.std.proofs.raw_atomic.Walks.{proved}
@@ -37,8 +37,8 @@ use Rattle.lfm_c.specs.Handles.{TellsOpen}
 use Rattle.lfm_c.specs.contracts.lfm_c_open as f
 use Rattle.lfm_c.proofs.lfm_c_open.Statement.{statement}
 use Rattle.lfm_c.proofs.lfm_c_open.Code as code
-use Rattle.lfm_c.specs.contracts.opening.open as g
-use Rattle.lfm_c.proofs.opening.open.Met.{met}
+use Rattle.lfm_c.specs.contracts.open.open as g
+use Rattle.lfm_c.proofs.open.open.Met.{met}
 
 abbrev stayed : Stays f.ended.signature.params f.ended.kept
 stayed = (stay_dropped _ yes, (stay_dropped _ yes, (stay_dropped _ yes, tt)))
@@ -68,7 +68,7 @@ lfm_c_open_spec 𝓤 𝓛 𝓜 𝓡 wired =
     nothing ! $ owned ! u64 (Is u64) (uint_Makes 𝓛 w64) k1 _ (refl, are.1.1.0.1) $ fjoin ! $ owned ! u64 (Is u64) (uint_Makes 𝓛 w64) k0 _ (refl, are.1.0.1) $ fjoin ! $ move ! (1 ∷ 0 ∷ []) $ fjoin ! $
     nothing ! $ move ! (3 ∷ 0 ∷ []) $ join ! $ join ! $
     nothing ! $ move ! (1 ∷ 0 ∷ []) $ join ! $ use1 𝓛 (raw (G.pre z)) (id⊢ 𝓤 _) $
-    calls_at ! (framed 𝓤 𝓛.H 𝓜 𝓣) G (met 𝓤 𝓛 𝓜 𝓡 (code.calls-lfm_c::opening::open 𝓡.env wired)) z
+    calls_at ! (framed 𝓤 𝓛.H 𝓜 𝓣) G (met 𝓤 𝓛 𝓜 𝓡 (code.calls-lfm_c::open::open 𝓡.env wired)) z
     (and_then ! (get ! refl) (and_then ! (get ! refl) (and_then ! (get ! refl) (no_more !)))) (λ v.
     use1 𝓛 (later (some (λ (u : ℕ). ((‵ (flft κ0 full_share) ⊛ ‵ ftrue) ⊛ ‵ (u64.own_val u (v ∷ []))) ⊛
     some (λ (ws : (MutexHandle × (Unit {0} × (Unit {0} × Unit {0})))). ‵ (lasts g.ended z.0.0 z.0.3 ws) ⊛ raw (fact 𝓤 (TellsOpen x k0 k1 ws.0 u)))))) (id⊢ 𝓤 _) $

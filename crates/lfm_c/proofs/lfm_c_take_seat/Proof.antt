@@ -1,4 +1,4 @@
--- Each handle lies where C's pointer says. It is lent to `opening::take_seat` for a new lifetime, and comes back as the call left it.
+-- Each handle lies where C's pointer says. It is lent to `open::take_seat` for a new lifetime, and comes back as the call left it.
 -- scripts/write_c_walks writes this file.
 use Rattle.std.proofs.Common.{ℕ, [], ◌∷◌, ◌++◌, refl, w64}
 use Rattle.std.proofs.raw_atomic.Walks.{proved}
@@ -39,8 +39,8 @@ use Rattle.lfm_c.specs.Handles.{TellsTake}
 use Rattle.lfm_c.specs.contracts.lfm_c_take_seat as f
 use Rattle.lfm_c.proofs.lfm_c_take_seat.Statement.{statement}
 use Rattle.lfm_c.proofs.lfm_c_take_seat.Code as code
-use Rattle.lfm_c.specs.contracts.opening.take_seat as g
-use Rattle.lfm_c.proofs.opening.take_seat.Met.{met}
+use Rattle.lfm_c.specs.contracts.open.take_seat as g
+use Rattle.lfm_c.proofs.open.take_seat.Met.{met}
 
 abbrev stayed : Stays f.ended.signature.params f.ended.kept
 stayed = (stay_dropped _ yes, (stay_dropped _ yes, tt))
@@ -76,7 +76,7 @@ lfm_c_take_seat_spec 𝓤 𝓛 𝓜 𝓡 wired =
     nothing ! $ move ! (1 ∷ 0 ∷ []) $ fjoin ! $ move ! (3 ∷ 0 ∷ []) $ fjoin ! $
     nothing ! $ move ! (3 ∷ 0 ∷ []) $ join ! $ move ! (4 ∷ 0 ∷ []) $ join ! $ join ! $
     nothing ! $ move ! (1 ∷ 0 ∷ []) $ join ! $ use1 𝓛 (raw (G.pre z)) (id⊢ 𝓤 _) $
-    calls_at ! (framed 𝓤 𝓛.H 𝓜 𝓣) G (met 𝓤 𝓛 𝓜 𝓡 (code.calls-lfm_c::opening::take_seat 𝓡.env wired)) z
+    calls_at ! (framed 𝓤 𝓛.H 𝓜 𝓣) G (met 𝓤 𝓛 𝓜 𝓡 (code.calls-lfm_c::open::take_seat 𝓡.env wired)) z
     (and_then ! (get ! refl) (and_then ! (get ! refl) (no_more !))) (λ v.
     use1 𝓛 (later (some (λ (u : ℕ). ((‵ (flft κ0 full_share) ⊛ (‵ (flft κ1 full_share) ⊛ ‵ ftrue)) ⊛ ‵ (u64.own_val u (v ∷ []))) ⊛
     some (λ (ws : (MutexHandle × (SeatHandle × Unit {0}))). ‵ (lasts g.ended z.0.0 z.0.3 ws) ⊛ raw (fact 𝓤 (TellsTake x.0 x.1 ws.0 ws.1.0 u)))))) (id⊢ 𝓤 _) $

@@ -1,99 +1,12 @@
-//! Readers and writers that fail, and what a run of a script makes of them.
+//! What a run of a script makes of readers and writers that fail, or give without end.
 use crate::work::scripts::{WAITED, WAITING, answered};
 use lfm_program::{OpenGate, WorkFault};
-use std::io;
-use std::io::{ErrorKind, Read, Write};
+use lfm_test_tools::devices::{
+    EndlessReader, FailingReader, FailingWriter, Failure, UnflushedWriter,
+};
 use std::process::Abort;
 use std::sync::Wait;
 use std::thread::Threads;
-
-/// Gives its bytes one at a time, and fails at the read that comes after `reads` others.
-#[derive(Drop)]
-struct FailingReader<'a> {
-    bytes: &'a [u8],
-    reads: u64,
-}
-
-impl Read for FailingReader<'_> {
-    fn read(&mut self, buf: &mut [u8]) -> io::Result<usize> {
-        if self.reads == 0 {
-            return Err(io::Error::from(ErrorKind::Interrupted));
-        }
-        self.reads -= 1;
-        match (self.bytes.split_first(), buf.first_mut()) {
-            (Some((byte, rest)), Some(place)) => {
-                *place = *byte;
-                self.bytes = rest;
-                Ok(1)
-            }
-            _ => Ok(0),
-        }
-    }
-}
-
-/// Gives this byte without end.
-#[derive(Drop)]
-struct EndlessReader {
-    byte: u8,
-}
-
-impl Read for EndlessReader {
-    fn read(&mut self, buf: &mut [u8]) -> io::Result<usize> {
-        buf.fill(self.byte);
-        Ok(buf.len())
-    }
-}
-
-/// How a writer fails that has no room left.
-#[derive(Clone, Copy)]
-enum Failure {
-    Error,
-    TakesNothing,
-}
-
-/// Takes three bytes at a time, and fails once it has `room` bytes.
-#[derive(Drop)]
-struct FailingWriter {
-    bytes: Vec<u8>,
-    room: usize,
-    failure: Failure,
-}
-
-impl Write for FailingWriter {
-    fn write(&mut self, buf: &[u8]) -> io::Result<usize> {
-        let left = self.room.saturating_sub(self.bytes.len());
-        let count = buf.len().min(3).min(left);
-        if count == 0 {
-            return match self.failure {
-                Failure::Error => Err(io::Error::from(ErrorKind::Other)),
-                Failure::TakesNothing => Ok(0),
-            };
-        }
-        self.bytes.extend_from_slice(&buf[..count])?;
-        Ok(count)
-    }
-
-    fn flush(&mut self) -> io::Result<()> {
-        Ok(())
-    }
-}
-
-/// Takes all bytes, and fails where it is flushed.
-#[derive(Drop)]
-struct UnflushedWriter {
-    bytes: Vec<u8>,
-}
-
-impl Write for UnflushedWriter {
-    fn write(&mut self, buf: &[u8]) -> io::Result<usize> {
-        self.bytes.extend_from_slice(buf)?;
-        Ok(buf.len())
-    }
-
-    fn flush(&mut self) -> io::Result<()> {
-        Err(io::Error::from(ErrorKind::Other))
-    }
-}
 
 /// The run of a script that can't be read to its end: what it answers, and how many bytes it writes.
 fn read_in_part<R: AllocGlobal + Threads + Wait + Sync>(

@@ -2,7 +2,7 @@ use Rattle.std.proofs.Common.{rules, ap, ◌∙◌, sym, get_or, ◌≢◌, ◌�
 use Rattle.lfm_mutex.specs.calls.Sight.{sight}
 use Rattle.lfm_mutex.specs.Close.{Idle, Lacks}
 use Rattle.lfm_mutex.proofs.ends.Ends.{up_to, each_of, item_at, hindered_at}
-use Rattle.lfm_c.proofs.closing.hinders_at.Goals as goal
+use Rattle.lfm_c.proofs.close.hinders_at.Goals as goal
 
 pub returns-in-Some : goal.returns-in-Some
 returns-in-Some c = hindered_at (λ a. sight a.seat) c.args.seats.now.items c.loop-seat.seat-index c.seat-item.result c.args.number c.in-Some.missing

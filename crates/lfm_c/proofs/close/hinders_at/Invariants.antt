@@ -3,7 +3,7 @@ use mathlib.Core.Option.{some}
 use lib.ListN.{get_elem?}
 use Rattle.lfm_mutex.specs.calls.Sight.{sight}
 use Rattle.lfm_mutex.specs.Close.{Has, Idle}
-use Rattle.lfm_c.proofs.closing.hinders_at.Given as goal
+use Rattle.lfm_c.proofs.close.hinders_at.Given as goal
 
 abbrev pub invariant-loop-seat : goal.invariant-loop-seat
 invariant-loop-seat l = record {

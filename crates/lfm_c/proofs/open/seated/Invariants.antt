@@ -4,7 +4,7 @@ use Rattle.std.specs.Arc.{arc_value}
 use Rattle.std.specs.Vec.{vec_capacity}
 use Rattle.lfm_mutex.specs.Belongs.{OfMutex}
 use Rattle.lfm_c.specs.declared.handles.Seated.{Seated}
-use Rattle.lfm_c.proofs.opening.seated.Given as goal
+use Rattle.lfm_c.proofs.open.seated.Given as goal
 
 abbrev pub invariant-loop-seat : goal.invariant-loop-seat
 invariant-loop-seat l =

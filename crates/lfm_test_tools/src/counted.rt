@@ -1,8 +1,9 @@
-//! An object that counts how often such an object was dropped. No test stands here.
+//! A value that counts how often such a value was dropped.
 use lfm_model::{Object, TotalOp};
+use lfm_table::Kept;
 use std::sync::atomic::{AtomicU64, Ordering};
 
-/// An object that no op changes, and whose drops are counted.
+/// A value for a mutex or a journal, which no op changes, and whose drops are counted.
 pub struct Counted<'a> {
     pub drops: &'a AtomicU64,
 }
@@ -12,6 +13,12 @@ impl Drop for Counted<'_> {
         self.drops.fetch_add(1, Ordering::SeqCst);
         let Counted { drops: _ } = self;
     }
+}
+
+impl Kept for Counted<'_> {
+    ghost fits = { λ _ _. Unit {0} };
+
+    ghost follows = { λ _ _ _. Unit {0} };
 }
 
 impl Object for Counted<'_> {

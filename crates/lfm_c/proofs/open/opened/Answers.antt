@@ -2,7 +2,7 @@ use Rattle.std.proofs.Common.{ℕ, All, sym, subst}
 use Rattle.lfm_mutex.specs.Belongs.{OfMutex}
 use Rattle.lfm_mutex.specs.declared.mutex.Mutex.{Mutex}
 use Rattle.lfm_mutex.proofs.Lists.{all_by_place}
-use Rattle.lfm_c.proofs.opening.opened.Goals as goal
+use Rattle.lfm_c.proofs.open.opened.Goals as goal
 
 pub seated-requires : goal.seated-requires
 seated-requires c = record {

@@ -1,8 +1,6 @@
-//! What tests share: how they see what they find, what they say of refused memory, devices that fail, and a value whose drops
-//! are counted. Only tests call it, so no test and nothing that a user needs stands here.
+//! What tests share: readers and writers that fail, or give without end, and a value whose drops are counted. Only tests call it,
+//! so nothing that a user needs stands here.
 #![tactic(auto)]
 
 pub mod counted;
 pub mod devices;
-pub mod refused_memory;
-pub mod seeing;

@@ -10,10 +10,14 @@ mod out_of_memory;
 #[cfg(test)]
 mod packing;
 #[cfg(test)]
+mod refused_memory;
+#[cfg(test)]
 mod replaying;
 #[cfg(test)]
 mod running;
 #[cfg(test)]
 mod scripts;
+#[cfg(test)]
+mod seeing;
 #[cfg(test)]
 mod stepping;

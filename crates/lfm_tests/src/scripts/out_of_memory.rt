@@ -1,7 +1,7 @@
 //! The calls that ask for memory. Each test whose name contains `memory` passes also where a request was refused, and says
 //! then that memory was refused. A script lets each single request of these tests fail in turn.
+use crate::refused_memory::sees_memory;
 use lfm_script::{Command, Script, ScriptLine, WorkFault, commands_by_worker, read_script};
-use lfm_test_tools::refused_memory::sees_memory;
 use std::alloc::Global;
 use std::process::Abort;
 

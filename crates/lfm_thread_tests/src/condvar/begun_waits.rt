@@ -3,8 +3,8 @@
 
 use crate::condvar::driving::on_one_condvar;
 use crate::condvar::steps::{By, Step};
+use crate::seeing::sees;
 use lfm_model::{Asked, How, Refusal, SeatNo, Unlocked};
-use lfm_test_tools::seeing::sees;
 use std::test::Fail;
 
 /// The first seat begins to wait, and finds nothing that has sent it. The second seat sends it, and it comes to hold by a

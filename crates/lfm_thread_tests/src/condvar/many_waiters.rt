@@ -6,7 +6,7 @@ use crate::condvar::dealing::{Left, shared_by};
 use crate::condvar::parts::{Part, take_parts};
 use crate::condvar::places::{Place, Shared};
 use crate::condvar::shared_calls::Side;
-use lfm_test_tools::seeing::sees;
+use crate::seeing::sees;
 use std::process::Abort;
 use std::sync::Wait;
 use std::test::Fail;

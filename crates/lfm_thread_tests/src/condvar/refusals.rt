@@ -4,8 +4,8 @@
 
 use crate::condvar::driving::on_two_condvars;
 use crate::condvar::steps::{By, Step};
+use crate::seeing::sees;
 use lfm_model::{Asked, How, Refusal, SeatNo, Unlocked};
-use lfm_test_tools::seeing::sees;
 use std::test::Fail;
 
 /// The other cond seat gives its one take for a wake of nobody, and then has none left. The first seat doesn't hold, and then

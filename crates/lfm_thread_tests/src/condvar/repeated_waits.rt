@@ -9,9 +9,9 @@ use crate::condvar::parts::{Part, take_parts};
 use crate::condvar::places::{Place, Shared};
 use crate::condvar::shared_calls::Side;
 use crate::condvar::steps::{By, Step};
+use crate::seeing::sees;
 use lfm_model::{Asked, How, Refusal, SeatNo, Unlocked};
 use lfm_mutex::Holder;
-use lfm_test_tools::seeing::sees;
 use std::sync::Wait;
 use std::test::Fail;
 

@@ -10,10 +10,10 @@ use crate::condvar::calls::{
 };
 use crate::condvar::in_hand::{Called, InHand};
 use crate::condvar::refused_calls::{wait, wake};
+use crate::seeing::answers;
 use lfm_condvar::{CondSeat, Condvar};
 use lfm_model::{Asked, How, Refusal, SeatNo, Unlocked};
 use lfm_mutex::{Holder, Mutex, Seat};
-use lfm_test_tools::seeing::answers;
 use std::process::Abort;
 use std::sync::Wait;
 

@@ -5,12 +5,12 @@ ghost use Rattle.std.specs.Prelude.{◌≡◌, [], IfSome};
 use crate::monitor::driving::one_makes;
 use crate::monitor::passes::{closed_by_two, monitor_of_two};
 use crate::monitor::steps::{By, Step, make_all};
+use crate::seeing::sees;
 use lfm_model::{
     Asked, Entry, How, Locked, Missing, Refusal, SeatNo, Total, TotalOp, Unlocked, What, lawful,
     replay,
 };
 use lfm_monitor::{Monitor, Pass};
-use lfm_test_tools::seeing::sees;
 use std::alloc::Global;
 use std::process::Abort;
 use std::sync::Wait;

@@ -3,9 +3,9 @@
 use crate::monitor::calls::{deepen, hold};
 use crate::monitor::passes::monitor_of_two;
 use crate::monitor::steps::{By, Step, make_all, make_alone};
+use crate::seeing::sees;
 use lfm_model::{Asked, How, Locked, Refusal, SeatNo, Total, TotalOp, Unlocked};
 use lfm_monitor::{CriticalSection, Monitor, Pass};
-use lfm_test_tools::seeing::sees;
 use std::alloc::Global;
 use std::process::Abort;
 use std::sync::Wait;

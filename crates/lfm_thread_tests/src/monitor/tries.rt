@@ -3,11 +3,11 @@
 use crate::monitor::calls::apply_until;
 use crate::monitor::driving::{one_makes, two_make};
 use crate::monitor::steps::{By, Step};
+use crate::seeing::sees;
 use lfm_model::{
     Asked, Entry, How, Locked, Refusal, SeatNo, Total, TotalOp, Unlocked, What, replay,
 };
 use lfm_monitor::{CriticalSection, Monitor, Pass};
-use lfm_test_tools::seeing::sees;
 use std::alloc::{AllocError, Global};
 use std::ops::ControlFlow;
 use std::sync::Wait;

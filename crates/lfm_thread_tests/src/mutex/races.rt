@@ -2,9 +2,9 @@
 ghost use Rattle.std.specs.Prelude.{◌<◌, ◌≤◌};
 
 use crate::mutex::driving::goes;
+use crate::seeing::holds;
 use lfm_core::{Answer, Turn, Why};
 use lfm_model::{Asked, How, Locked, Refusal, SeatNo, Unlocked};
-use lfm_test_tools::seeing::holds;
 use std::test::Fail;
 
 const OPEN: Turn = Turn::Open;

@@ -3,9 +3,9 @@ ghost use Rattle.std.specs.Prelude.{All, IfOk};
 ghost use Rattle.lfm_mutex.specs.Belongs.{OfMutex};
 
 use crate::adding::add_one;
+use crate::seeing::{holds, sees};
 use lfm_model::{Locked, Refusal};
 use lfm_mutex::{Holder, Mutex, Seat};
-use lfm_test_tools::seeing::{holds, sees};
 use std::alloc::{AllocError, Global};
 use std::sync::Wait;
 use std::test::Fail;

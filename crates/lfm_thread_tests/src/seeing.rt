@@ -1,5 +1,5 @@
-//! How tests compare what they find with what they want. A comparison that ends the test where it fails is proved here
-//! once, so that a test with many of them is a row of plain calls.
+//! How these tests compare what they find with what they want. A comparison that ends the test where it fails is proved
+//! here once, so that a test is a row of plain calls.
 use std::fmt::Debug;
 use std::process::Abort;
 

@@ -6,4 +6,5 @@ pub mod TableEvents
 pub mod TableStates
 pub mod Lists
 mod SectionEnds
+mod BargingEnds
 mod RoundEnds

@@ -1,5 +1,5 @@
 -- What belongs to a mutex, and what its own data are. Contracts name a mutex and its seats by these words alone.
-use Rattle.std.specs.Prelude.{◌≡◌, ℕ}
+use Rattle.std.specs.Prelude.{◌≡◌, ℕ, ◌+◌}
 use Rattle.lfm_protocol.specs.declared.limits.Limits.{Limits}
 use Rattle.lfm_protocol.specs.declared.seats.SeatState.{SeatState}
 use Rattle.lfm_mutex.specs.declared.seat.Seat.{Seat}
@@ -24,3 +24,7 @@ budget_of s = s.limits.budget
 -- the seat's own data, as the core has them
 abbrev pub state_of : {T : Type 0} → Seat T → SeatState
 state_of s = s.standing
+
+-- how often a seat tries at most before it queues: at each spin and after each nap of the mutex's pace
+abbrev pub tries_of : {T : Type 0} → Mutex T → ℕ
+tries_of m = m.pace.spins + m.pace.naps

@@ -7,4 +7,5 @@ pub mod Straight
 pub mod FailedPushes
 pub mod Due
 pub mod Sections
+pub mod Barging
 pub mod WakeUps

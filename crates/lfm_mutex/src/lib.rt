@@ -3,6 +3,7 @@
 //! steps of other seats, each as `Kept` of the value allows it.
 #![tactic(auto)]
 
+mod barging;
 mod calls;
 mod close;
 mod debug;

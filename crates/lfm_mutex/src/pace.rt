@@ -10,6 +10,15 @@ use std::time::{Clock, Duration, Instant};
 /// differs by the processor; where it is short it still lasts about two wake-ups by the system.
 pub const LOOKS_BEFORE_SLEEP: u32 = 800;
 
+// How often a seat looks at the count before it queues, with twice as many pauses each time: some 8 microseconds in all.
+const SPINS: u32 = 12;
+
+// How often a seat then sleeps for a little, before it queues.
+const NAPS: u32 = 4;
+
+// Where no more than these hold or wait, they are no crowd, on however few processors.
+const FEW: u64 = 8;
+
 // So many pauses before each look leave the line of the word to the seat that is to store the grant.
 const PAUSES_PER_LOOK: u32 = 4;
 
@@ -38,29 +47,49 @@ const MOST_LOOKS: u64 = 4_000;
 /// ```
 #[derive(Clone, Copy, Debug, PartialEq, Eq)]
 pub struct Pace {
-    looks: u32,
-    near: u64,
+    pub(crate) looks: u32,
+    pub(crate) near: u64,
+    pub(crate) spins: u32,
+    pub(crate) naps: u32,
 }
 
 impl Pace {
     /// So many looks, made only where the mutex counts at most `near` seats that hold or wait, the seat itself among them.
     pub fn new(looks: u32, near: u64) -> Pace
-        ensures { (result.looks ≡ looks) × (result.near ≡ near) }
+        ensures { (result.looks ≡ looks) × (result.near ≡ near) × (result.spins ≡ 0) × (result.naps ≡ 0) }
     {
-        Pace { looks, near }
+        Pace {
+            looks,
+            near,
+            spins: 0,
+            naps: 0,
+        }
+    }
+
+    /// The same, with so many spins and then naps before a seat queues that locks by `lock_barging`.
+    pub fn with_barging(self, spins: u32, naps: u32) -> Pace
+        ensures { result ≡ record self { spins = spins; naps = naps } }
+    {
+        Pace {
+            looks: self.looks,
+            near: self.near,
+            spins,
+            naps,
+        }
     }
 
     /// The pace for a machine of so many processors: with one, a seat sleeps at once; with more, it looks
     /// `LOOKS_BEFORE_SLEEP` times where no more seats hold or wait than there are processors. A mutex that is not told
     /// otherwise has the pace for eight.
     pub fn for_processors(processors: u64) -> Pace
-        ensures one { processors ≤ 1 → result.looks ≡ 0 }
-        ensures more { 1 < processors → (result.looks ≡ 800) × (result.near ≡ processors) }
+        ensures one { processors ≤ 1 → (result.looks ≡ 0) × (result.spins ≡ 0) }
+        ensures more { 1 < processors → (result.looks ≡ 800) × (result.near ≡ processors) × (result.spins ≡ 12) }
+        ensures naps { result.naps ≡ 4 }
     {
         if processors <= 1 {
-            return Pace::new(0, 0);
+            return Pace::new(0, 0).with_barging(0, NAPS);
         }
-        Pace::new(LOOKS_BEFORE_SLEEP, processors)
+        Pace::new(LOOKS_BEFORE_SLEEP, processors).with_barging(SPINS, NAPS)
     }
 
     /// The pace for the processors that this program may use, with 100 to 4,000 looks, as many as last some 20 microseconds
@@ -71,9 +100,9 @@ impl Pace {
         let processors = available_parallelism(rt)?.get() as u64;
         if processors > 1 {
             let looks = looks_lasting(shortest(rt)?);
-            return Ok(Pace::new(looks, processors));
+            return Ok(Pace::new(looks, processors).with_barging(SPINS, NAPS));
         }
-        Ok(Pace::new(0, 0))
+        Ok(Pace::new(0, 0).with_barging(0, NAPS))
     }
 
     /// How often a seat looks.
@@ -90,6 +119,25 @@ impl Pace {
         self.near
     }
 
+    /// How often a seat looks at the count before it queues.
+    pub fn spins(self) -> u32
+        ensures { result ≡ self.spins }
+    {
+        self.spins
+    }
+
+    /// How often a seat then sleeps for a little, before it queues.
+    pub fn naps(self) -> u32
+        ensures { result ≡ self.naps }
+    {
+        self.naps
+    }
+
+    // So many hold or wait that a nap would only keep a seat from its place in the queue: more than twice as many as are near.
+    pub(crate) fn is_crowded(self, count: u64) -> bool {
+        count > FEW.max(self.near.saturating_mul(2))
+    }
+
     // The looks of a seat that finds this count.
     pub(crate) fn looks_at(self, count: u64) -> u32
         ensures near { count ≤ self.near → result ≡ self.looks }
@@ -102,7 +150,13 @@ impl Pace {
 // The pauses before a look.
 #[inline(always)]
 pub(crate) fn pause() {
-    for _ in 0..PAUSES_PER_LOOK {
+    pause_for(PAUSES_PER_LOOK);
+}
+
+// So many pauses.
+#[inline(always)]
+pub(crate) fn pause_for(pauses: u32) {
+    for _ in 0..pauses {
         spin_loop();
     }
 }

@@ -1,8 +1,8 @@
 //! Sections: a seat comes to hold, a closure changes the value, and the seat gives that hold up.
 ghost use Rattle.std.specs.Prelude.{◌≡◌, ◌+◌, ◌<◌, Some};
 ghost use Rattle.std.specs.Fn.{FnOnceReturnsAtMut};
-ghost use Rattle.lfm_mutex.specs.Belongs.{Beside, OfMutex, limits_of};
-ghost use Rattle.lfm_mutex.specs.calls.Sections.{LocksSo, SectionEnds, SectionKeeps, StandsAs, TriesSo, with_value};
+ghost use Rattle.lfm_mutex.specs.Belongs.{Beside, OfMutex, limits_of, tries_of};
+ghost use Rattle.lfm_mutex.specs.calls.Sections.{BargesSo, SectionEnds, SectionKeeps, StandsAs, TriesSo, with_value};
 ghost use Rattle.lfm_mutex.specs.calls.Sight.{sight};
 ghost use Rattle.lfm_mutex.specs.calls.Trails.{MakesAtMost};
 
@@ -27,7 +27,7 @@ fn change<T: Kept, U, F: FnOnce(&mut T) -> U>(seat: &mut Seat<T>, f: F) -> U
 }
 
 impl<T: Kept> Mutex<T> {
-    /// Comes to hold as `lock` does, gives the closure the value, and gives that hold up as `unlock` does, so that the seat
+    /// Comes to hold as `lock_barging` does, gives the closure the value, and gives that hold up as `unlock` does, so that the seat
     /// holds as often as before. Returns what the closure returned. What the closure leaves has to follow what was found
     /// and to suit the mutex, as `Kept` of its type says; of a u64 or a bool, anything does.
     ///
@@ -49,12 +49,12 @@ impl<T: Kept> Mutex<T> {
     ) -> Result<U, Refusal>
         requires belongs { OfMutex seat.old self.now }
         requires callable { F.IsAlwaysCallable f }
-        requires keeps { SectionKeeps T.follows T.fits (limits_of self.now) (LocksSo T.follows T.fits (limits_of self.now) (sight seat.old)) (λ v u w. FnOnceReturnsAtMut F.FnOnce f v u w) }
+        requires keeps { SectionKeeps T.follows T.fits (limits_of self.now) (BargesSo T.follows T.fits (limits_of self.now) (tries_of self.now) (sight seat.old)) (λ v u w. FnOnceReturnsAtMut F.FnOnce f v u w) }
         ensures belongs { Beside seat.old seat.new }
-        ensures section { SectionEnds T.follows T.fits (limits_of self.now) (LocksSo T.follows T.fits (limits_of self.now) (sight seat.old)) (λ v u w. FnOnceReturnsAtMut F.FnOnce f v u w) (sight seat.new) result }
+        ensures section { SectionEnds T.follows T.fits (limits_of self.now) (BargesSo T.follows T.fits (limits_of self.now) (tries_of self.now) (sight seat.old)) (λ v u w. FnOnceReturnsAtMut F.FnOnce f v u w) (sight seat.new) result }
         ensures same { StandsAs (sight seat.old) (sight seat.new) }
     {
-        let _locked = self.lock(rt, seat)?;
+        let _locked = self.lock_barging(rt, seat)?;
         let answer = change(seat, f);
         match self.unlock(seat) {
             Ok(_) => Ok(answer),

@@ -6,6 +6,7 @@ use Rattle.lfm_model.specs.declared.refusals.Refusal.{Refusal}
 use Rattle.lfm_protocol.specs.declared.answers.Answer.{Answer}
 use Rattle.lfm_protocol.specs.declared.answers.Call.{Call}
 use Rattle.lfm_protocol.specs.declared.limits.Limits.{Limits}
+use Rattle.lfm_mutex.specs.calls.Barging.{BargesBy}
 use Rattle.lfm_mutex.specs.calls.Sight.{Sight, Locks, LocksWaiting, MayRelease, Unlocks}
 use Rattle.lfm_mutex.specs.calls.Trails.{LocksBy, MakesCall}
 
@@ -25,6 +26,10 @@ module _ {T : Type 0} (follows : ℕ → T → T → Type 0) (fits : T → ℕ �
   -- the same of lock
   abbrev pub LocksSo : Sight T → Sight T → Result Locked Refusal → Type 0
   LocksSo s t r = LocksWaiting follows fits l.budget s t r × LocksBy l s t r
+
+  -- of lock_barging, which makes n tries at most
+  abbrev pub BargesSo : ℕ → Sight T → Sight T → Result Locked Refusal → Type 0
+  BargesSo n s t r = LocksWaiting follows fits l.budget s t r × BargesBy l n s t r
 
   -- and of try_lock
   abbrev pub TriesSo : Sight T → Sight T → Result Locked Refusal → Type 0

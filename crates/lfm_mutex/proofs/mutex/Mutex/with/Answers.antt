@@ -6,7 +6,7 @@ use Rattle.lfm_mutex.proofs.SectionEnds.{stands_after_lock, holds_after_lock}
 use Rattle.lfm_mutex.proofs.mutex.Mutex.with.Goals as goal
 
 pub change-answer-requires-clause-holds : goal.change-answer-requires-clause-holds
-change-answer-requires-clause-holds g c κs within = holds_after_lock g.T.Kept.follows g.T.Kept.fits (limits_of c.args.self.now).budget (sight c.args.seat.now) (sight c.lock.new.seat) c.in_ok-_locked._locked c.in_ok-_locked.ensures.locks
+change-answer-requires-clause-holds g c κs within = holds_after_lock g.T.Kept.follows g.T.Kept.fits (limits_of c.args.self.now).budget (sight c.args.seat.now) (sight c.lock_barging.new.seat) c.in_ok-_locked._locked c.in_ok-_locked.ensures.locks
 
 -- what the closure made of what was found may be left
 pub unlock-requires-clause-leaves : goal.unlock-requires-clause-leaves
@@ -14,12 +14,12 @@ unlock-requires-clause-leaves g c κs within = let x = c.change-answer.ensures.c
     subst (λ s. MayRelease g.T.Kept.follows g.T.Kept.fits s) (sym x.4) (c.requires.keeps _ c.in_ok-_locked._locked x.0 x.1 _ (c.in_ok-_locked.ensures.locks, c.in_ok-_locked.ensures.steps) x.2 x.3)
 
 -- it is left so
-left : (g : _) (c : goal.In-Ok g) → UnlocksSo (limits_of c.args.self.now) (with_value (sight c.lock.new.seat) c.change-answer.ensures.changes.1) (sight c.unlock.new.seat) (Ok c.in-Ok.field-0)
+left : (g : _) (c : goal.In-Ok g) → UnlocksSo (limits_of c.args.self.now) (with_value (sight c.lock_barging.new.seat) c.change-answer.ensures.changes.1) (sight c.unlock.new.seat) (Ok c.in-Ok.field-0)
 left g c = subst (λ s. UnlocksSo (limits_of c.args.self.now) s (sight c.unlock.new.seat) (Ok c.in-Ok.field-0)) c.change-answer.ensures.changes.4 (c.in-Ok.ensures.unlocks, c.in-Ok.ensures.steps)
 
 pub returns-clause-section : goal.returns-clause-section
 returns-clause-section g c = let x = c.change-answer.ensures.changes in record {
-  held = sight c.lock.new.seat;
+  held = sight c.lock_barging.new.seat;
   locked = c.in_ok-_locked._locked;
   found = x.0;
   left = x.1;
@@ -31,5 +31,5 @@ returns-clause-section g c = let x = c.change-answer.ensures.changes in record {
 }
 
 pub returns-clause-same : goal.returns-clause-same
-returns-clause-same g c = stands_after_lock g.T.Kept.follows g.T.Kept.fits (limits_of c.args.self.now).budget (sight c.args.seat.now) (sight c.lock.new.seat) (sight c.unlock.new.seat)
+returns-clause-same g c = stands_after_lock g.T.Kept.follows g.T.Kept.fits (limits_of c.args.self.now).budget (sight c.args.seat.now) (sight c.lock_barging.new.seat) (sight c.unlock.new.seat)
     c.change-answer.ensures.changes.1 c.in_ok-_locked._locked c.in-Ok.field-0 c.in_ok-_locked.ensures.locks (left g c).0

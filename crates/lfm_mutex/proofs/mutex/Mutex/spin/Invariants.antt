@@ -1,0 +1,11 @@
+use Rattle.std.proofs.Common.{◌≡◌, None}
+use Rattle.lfm_mutex.specs.calls.Barging.{TriesBy}
+use Rattle.lfm_mutex.specs.calls.Sight.{sight}
+use Rattle.lfm_mutex.proofs.mutex.Mutex.spin.Given as goal
+
+abbrev pub invariant-spins : goal.invariant-spins
+invariant-spins g l = record {
+  belongs : (l.seat.place.table_id ≡ l.self.table.shared.table_id) × (l.seat.limits ≡ l.self.limits);
+  beside : (l.seat.place.table_id ≡ l.fn.seat.place.table_id) × (l.seat.limits ≡ l.fn.seat.limits);
+  tries : TriesBy l.self.limits l.made (sight l.fn.seat) (sight l.seat) None;
+}

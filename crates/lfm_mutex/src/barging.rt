@@ -1,5 +1,6 @@
-//! `lock_barging`: `lock` of a seat that tries for a while before it queues. A seat that only tries has made no claim: each try
-//! that fails gives its charge back and leaves the seat as it was. From the push on the order of the queue holds, as for `lock`.
+//! `lock_barging`: `lock` of a seat that tries before it queues. Such a seat makes no claim while it tries: each try that fails
+//! gives its charge back and leaves the seat as it was. From the push on the order of the queue holds, as it does for `lock`.
+//! Linux's mutex spins so before it queues (optimistic spinning), and parking_lot and absl do so too.
 ghost use Rattle.std.specs.Prelude.{◌≡◌, ◌<◌, IsTrue};
 ghost use Rattle.lfm_mutex.specs.Belongs.{Beside, OfMutex, limits_of, tries_of};
 ghost use Rattle.lfm_mutex.specs.calls.Barging.{BargesBy, GainsIf, MayTry, TriesBy};
@@ -11,22 +12,21 @@ use crate::seat::Seat;
 use lfm_model::{How, Locked, Refusal};
 use lfm_table::Kept;
 use lfm_table::layout::{COUNT, wake_at};
+use lfm_table::parking::park_for;
 use std::sync::Wait;
 use std::time::Duration;
 
 // How long a nap lasts, in microseconds.
 const NAP_MICROSECONDS: u64 = 20;
 
-// Where the mutex counts more than its holder and one more, somebody queues already, and spins are for nothing.
-const HOLDER_AND_ONE_WAITER: u64 = 2;
-
-// Before a spin there are twice as many pauses as before the last one, up to 2 to the power of this.
+// After each spin there are twice as many pauses as after the one before, up to 2 to the power of this.
 const MOST_DOUBLINGS: u32 = 8;
 
-// A parked thread sees the low bits of its word alone.
-const PARKED_BITS: u64 = 0x1_0000_0000;
+// If the mutex counts more than its holder and one more seat, others queue or spin already. More spins would only take the
+// cache line of the count away from the holder.
+const HOLDER_AND_ONE_MORE: u64 = 2;
 
-/// Whether the seat is awake, doesn't hold and has a take left, so that a try of it gains the mutex or is refused as Busy.
+// Whether the seat is awake, doesn't hold and has a take left. A try of such a seat gains the mutex or is refused as Busy.
 #[inline(always)]
 fn may_try<T: Kept>(seat: &Seat<T>) -> bool
     ensures { IsTrue result → MayTry seat.now.limits.budget (sight seat.now) }
@@ -35,12 +35,21 @@ fn may_try<T: Kept>(seat: &Seat<T>) -> bool
 }
 
 impl<T: Kept> Mutex<T> {
-    /// `lock`, with the same answers and refusals, of a seat that tries before it queues: it looks at the count as often as the
-    /// pace of the mutex says, with pauses in between and then with naps, and makes a `try_lock` where the count is 0. So it
-    /// gains a mutex that is given up and taken often without a sleep, also where others queue. Each try is made by one look, so
-    /// it queues after so many of its own looks and naps at most; from there no seat that queues later comes before it.
+    /// Gains the mutex, or deepens the hold, with the answers and refusals of `lock`. A seat that doesn't hold tries first, as
+    /// often as the mutex's pace says: it looks at the count, which is no atomic step of the protocol, and makes a `try_lock` if
+    /// the count is 0. Between its looks it pauses, and later naps. If no try gains the mutex, it queues as by `lock`.
     ///
-    /// Refuses as `lock`: Asleep, DepthFull, Spent, in this order. A seat that holds deepens its hold, as `lock` does.
+    /// So a thread may come before threads that are queued, as by `try_lock`, and a mutex that is released and acquired often is
+    /// gained without a sleep. What stays bounded is how often a thread tries: at most once for each spin and each nap of the
+    /// pace. After that it queues, and no thread that queues later is served before it.
+    ///
+    /// Refuses, as `lock` and in this order: Asleep, DepthFull, Spent. A gain is charged one take, and a try that fails none. It
+    /// may sleep, wakes as `lock` does, and takes no memory.
+    ///
+    /// ```
+    /// mutex.set_pace(Pace::of_machine(&rt)?);
+    /// let locked = mutex.lock_barging(&rt, &mut seat)?;
+    /// ```
     #[inline(always)]
     pub fn lock_barging<R: Wait>(&self, rt: &R, seat: &mut Seat<T>) -> Result<Locked, Refusal>
         requires belongs { OfMutex seat.old self.now }
@@ -72,7 +81,8 @@ impl<T: Kept> Mutex<T> {
         }
     }
 
-    // Looks as often as the pace says, with more pauses in between each time, so that the line of the count is the holder's.
+    // Looks as often as the pace says, with more pauses after each look than after the one before, so that the holder keeps the
+    // cache line of the count for most of the time.
     #[inline(always)]
     fn spin(&self, seat: &mut Seat<T>) -> Option<How>
         requires belongs { OfMutex seat.old self.now }
@@ -87,7 +97,7 @@ impl<T: Kept> Mutex<T> {
                 Some(how) => return Some(how),
                 None => {}
             }
-            if count > HOLDER_AND_ONE_WAITER {
+            if count > HOLDER_AND_ONE_MORE {
                 return None;
             }
             pause_for(1 << made.min(MOST_DOUBLINGS));
@@ -95,7 +105,8 @@ impl<T: Kept> Mutex<T> {
         None
     }
 
-    // Sleeps as often as the pace says, and looks after each nap. Where too many hold or wait, it stops.
+    // Naps as often as the pace says, and looks after each nap. It stops if a crowd holds or waits: then a nap would only keep the
+    // seat from its place in the queue.
     #[inline(never)]
     fn nap<R: Wait>(&self, rt: &R, seat: &mut Seat<T>) -> Option<How>
         requires belongs { OfMutex seat.old self.now }
@@ -106,10 +117,15 @@ impl<T: Kept> Mutex<T> {
     {
         let wake = wake_at(seat.limits.seats, seat.number);
         'naps: for _made in 0..self.pace.naps {
-            if self.pace.is_crowded(self.table.shared.peek(COUNT)) {
+            if self.pace.is_crowd(self.table.shared.peek(COUNT)) {
                 return None;
             }
-            self.park_briefly(rt, wake);
+            park_for(
+                rt,
+                &self.table.shared,
+                wake,
+                Duration::from_micros(NAP_MICROSECONDS),
+            );
             let count = self.table.shared.peek(COUNT);
             match self.try_if_free(seat, count) {
                 Some(how) => return Some(how),
@@ -119,17 +135,7 @@ impl<T: Kept> Mutex<T> {
         None
     }
 
-    // Parks for a nap on the wake word of a seat that doesn't sleep. Nobody stores a grant there meanwhile; a wake-up that is still
-    // under way for an earlier one ends the nap early, which does no harm.
-    fn park_briefly<R: Wait>(&self, rt: &R, wake: usize)
-        requires { wake < self.now.table.shared.table_id.words }
-    {
-        let table = &self.table.shared;
-        let seen = (table.peek(wake) % PARKED_BITS) as u32;
-        table.park_timeout(rt, wake, seen, Duration::from_micros(NAP_MICROSECONDS));
-    }
-
-    // A try where the count that was found is 0, and none else.
+    // One try if the count that was found is 0, and none otherwise. A look costs the holder less than a try that fails.
     #[inline(always)]
     fn try_if_free(&self, seat: &mut Seat<T>, count: u64) -> Option<How>
         requires belongs { OfMutex seat.old self.now }

@@ -1,4 +1,5 @@
-//! How long a seat looks for its grant before it sleeps. No atomic step stands here.
+//! How a seat waits: how often it tries before it queues, and how long it then looks for its grant before it parks. No atomic
+//! step stands here.
 ghost use Rattle.std.specs.Prelude.{◌≡◌, ◌≤◌, ◌<◌, IfOk};
 
 use std::hint::spin_loop;
@@ -6,29 +7,29 @@ use std::io;
 use std::thread::{Threads, available_parallelism};
 use std::time::{Clock, Duration, Instant};
 
-/// How often a seat looks at its wake word before it sleeps, where its mutex is not told otherwise. How long that lasts
+/// How often a queued seat looks at its wake word before it parks, if its mutex is not told otherwise. How long that lasts
 /// differs by the processor; where it is short it still lasts about two wake-ups by the system.
 pub const LOOKS_BEFORE_SLEEP: u32 = 800;
 
-// How often a seat looks at the count before it queues, with twice as many pauses each time: some 8 microseconds in all.
+// How often a seat looks at the count before it queues. With the pauses after each look this lasts some 8 microseconds.
 const SPINS: u32 = 12;
 
-// How often a seat then sleeps for a little, before it queues.
+// How often it then naps.
 const NAPS: u32 = 4;
 
-// Where no more than these hold or wait, they are no crowd, on however few processors.
+// So few seats are no crowd, however few processors there are.
 const FEW: u64 = 8;
 
-// So many pauses before each look leave the line of the word to the seat that is to store the grant.
+// These pauses before each look leave the cache line of the word to the seat that is to store the grant.
 const PAUSES_PER_LOOK: u32 = 4;
 
-// How long a seat should look, in nanoseconds: about two wake-ups by the system.
+// How long a queued seat should look, in nanoseconds: about two wake-ups by the system.
 const LOOK_NANOSECONDS: u64 = 20_000;
 
-// So many looks are made to see how long they take.
+// How many looks are made to see how long they take.
 const LOOKS_TIMED: u32 = 200;
 
-// So often they are made, so that once at least nothing interrupts them.
+// How often they are made, so that nothing interrupts them at least once.
 const RUNS_TIMED: u32 = 5;
 
 // The fewest looks that a measurement gives.
@@ -37,10 +38,17 @@ const FEWEST_LOOKS: u64 = 100;
 // The most looks that a measurement gives.
 const MOST_LOOKS: u64 = 4_000;
 
-/// How long a seat that waits for the mutex looks at its wake word before it sleeps. A grant mostly comes within some 20
-/// microseconds, and a sleep and a wake-up cost far more than the looks; but where many seats are ahead, or one processor
-/// has to serve both, each look is lost time. Where the looks last less than two wake-ups, one thread that sleeps soon
-/// makes all that queue behind it sleep too.
+/// How a seat waits for the mutex. It has two parts.
+///
+/// *Before it queues*, a seat that doesn't hold and locks by `lock_barging` spins and then naps. A spin is a look at the count
+/// with pauses after it; a nap is a sleep of some 20 microseconds with a look after it. It tries to gain the mutex if a look finds
+/// it free. It spins no longer if more than two seats hold or wait, and doesn't nap if more than twice as many as `near` (and more
+/// than 8) do. `lock` makes neither.
+///
+/// *Once it has queued*, a seat looks at its wake word before it parks. A grant mostly comes within some 20 microseconds, and to
+/// park and be woken costs far more than the looks. But if many seats are ahead, or one processor has to serve both, each look is
+/// lost time: so it looks only if at most `near` seats hold or wait. If the looks last less than two wake-ups, one thread that
+/// parks soon makes all that queue behind it park too.
 ///
 /// ```
 /// mutex.set_pace(Pace::of_machine(&rt)?);
@@ -54,7 +62,8 @@ pub struct Pace {
 }
 
 impl Pace {
-    /// So many looks, made only where the mutex counts at most `near` seats that hold or wait, the seat itself among them.
+    /// A pace with this number of looks, made only if the mutex counts at most `near` seats that hold or wait, the seat itself
+    /// among them. It has no spins and no naps: with it `lock_barging` is `lock`.
     pub fn new(looks: u32, near: u64) -> Pace
         ensures { (result.looks ≡ looks) × (result.near ≡ near) × (result.spins ≡ 0) × (result.naps ≡ 0) }
     {
@@ -66,7 +75,7 @@ impl Pace {
         }
     }
 
-    /// The same, with so many spins and then naps before a seat queues that locks by `lock_barging`.
+    /// The same pace, with this number of spins and then naps for a seat that locks by `lock_barging`, before it queues.
     pub fn with_barging(self, spins: u32, naps: u32) -> Pace
         ensures { result ≡ record self { spins = spins; naps = naps } }
     {
@@ -78,9 +87,10 @@ impl Pace {
         }
     }
 
-    /// The pace for a machine of so many processors: with one, a seat sleeps at once; with more, it looks
-    /// `LOOKS_BEFORE_SLEEP` times where no more seats hold or wait than there are processors. A mutex that is not told
-    /// otherwise has the pace for eight.
+    /// The pace for a machine with this number of processors. With one, a seat naps 4 times before it queues, and then parks at
+    /// once, since who spins there keeps the holder from its work. With more, it spins 12 times and naps 4 times, and once it has
+    /// queued it looks `LOOKS_BEFORE_SLEEP` times if no more seats hold or wait than there are processors. A mutex that is not
+    /// told otherwise has the pace for eight.
     pub fn for_processors(processors: u64) -> Pace
         ensures one { processors ≤ 1 → (result.looks ≡ 0) × (result.spins ≡ 0) }
         ensures more { 1 < processors → (result.looks ≡ 800) × (result.near ≡ processors) × (result.spins ≡ 12) }
@@ -92,10 +102,12 @@ impl Pace {
         Pace::new(LOOKS_BEFORE_SLEEP, processors).with_barging(SPINS, NAPS)
     }
 
-    /// The pace for the processors that this program may use, with 100 to 4,000 looks, as many as last some 20 microseconds
-    /// here. It makes some looks to see how long they take. An error where the processors or the time can't be told.
+    /// The pace for the processors that this program may use: that of `for_processors`, but with as many looks as last some 20
+    /// microseconds here, from 100 to 4,000. It makes some looks to see how long they take. It ends with an error if the system
+    /// doesn't tell the processors or the time.
     pub fn of_machine<R: Threads + Clock>(rt: &R) -> io::Result<Pace>
-        ensures { IfOk result (λ p. (p.near ≤ 1 → p.looks ≡ 0) × (1 < p.near → (100 ≤ p.looks) × (p.looks ≤ 4_000))) }
+        ensures looks { IfOk result (λ p. (p.near ≤ 1 → p.looks ≡ 0) × (1 < p.near → (100 ≤ p.looks) × (p.looks ≤ 4_000))) }
+        ensures spins { IfOk result (λ p. (p.near ≤ 1 → p.spins ≡ 0) × (1 < p.near → p.spins ≡ 12) × (p.naps ≡ 4)) }
     {
         let processors = available_parallelism(rt)?.get() as u64;
         if processors > 1 {
@@ -105,36 +117,36 @@ impl Pace {
         Ok(Pace::new(0, 0).with_barging(0, NAPS))
     }
 
-    /// How often a seat looks.
+    /// How often a queued seat looks before it parks.
     pub fn looks(self) -> u32
         ensures { result ≡ self.looks }
     {
         self.looks
     }
 
-    /// How many seats may hold or wait where a seat looks at all.
+    /// A queued seat looks only if at most this number of seats hold or wait.
     pub fn near(self) -> u64
         ensures { result ≡ self.near }
     {
         self.near
     }
 
-    /// How often a seat looks at the count before it queues.
+    /// How often a seat spins before it queues.
     pub fn spins(self) -> u32
         ensures { result ≡ self.spins }
     {
         self.spins
     }
 
-    /// How often a seat then sleeps for a little, before it queues.
+    /// How often a seat naps before it queues, after its spins.
     pub fn naps(self) -> u32
         ensures { result ≡ self.naps }
     {
         self.naps
     }
 
-    // So many hold or wait that a nap would only keep a seat from its place in the queue: more than twice as many as are near.
-    pub(crate) fn is_crowded(self, count: u64) -> bool {
+    // Whether more hold or wait than two for each processor.
+    pub(crate) fn is_crowd(self, count: u64) -> bool {
         count > FEW.max(self.near.saturating_mul(2))
     }
 
@@ -153,7 +165,7 @@ pub(crate) fn pause() {
     pause_for(PAUSES_PER_LOOK);
 }
 
-// So many pauses.
+// This number of pauses.
 #[inline(always)]
 pub(crate) fn pause_for(pauses: u32) {
     for _ in 0..pauses {

@@ -13,6 +13,7 @@ use crate::table_steps::SharedTable;
 use crate::wake_up::WakeUp;
 use crate::wake_words::FIRST_GRANT;
 use std::sync::Wait;
+use std::time::Duration;
 
 /// Wakes the thread that parks on the wake word of the seat that was granted, if one does. It is one call of the system.
 pub fn wake<T: Kept>(table: &SharedTable<T>, seats: u64, wake_up: WakeUp)
@@ -31,5 +32,16 @@ pub fn park<T: Kept, R: Wait>(rt: &R, table: &SharedTable<T>, word: usize)
     let seen = table.peek(word);
     if seen < FIRST_GRANT {
         table.park(rt, word, seen as u32);
+    }
+}
+
+/// `park` for at most this time. A seat that doesn't sleep may nap so on its own wake word: no grant is stored there meanwhile, and a
+/// wake-up that is still under way for an earlier grant ends the nap early, which does no harm.
+pub fn park_for<T: Kept, R: Wait>(rt: &R, table: &SharedTable<T>, word: usize, time: Duration)
+    requires inside { word < table.now.table_id.words }
+{
+    let seen = table.peek(word);
+    if seen < FIRST_GRANT {
+        table.park_timeout(rt, word, seen as u32, time);
     }
 }

@@ -1,4 +1,4 @@
--- How a seat locks that tries before it queues: some tries that fail, and then one that holds, or the steps of lock.
+-- How a seat locks that tries before it queues: by tries that fail, and then by one that holds or by the steps of lock.
 use Rattle.std.specs.Prelude.{◌≡◌, ◌⊎◌, ⊤, ℕ, ◌<◌, ◌≤◌, List, [], ◌∷◌, ◌++◌, length, false, Option, Some, None, Result, Ok, Err}
 use Rattle.lfm_model.specs.declared.answers.How.{How}
 use Rattle.lfm_model.specs.declared.answers.Locked.{Locked}
@@ -14,7 +14,7 @@ use Rattle.lfm_mutex.specs.calls.Trails.{Seen, LocksBy, Makes, MakesCall}
 abbrev pub MayTry : {T : Type 0} → ℕ → Sight T → Type 0
 MayTry budget s = (s.asleep ≡ false) × (s.depth ≡ 0) × (s.takes < budget)
 
--- where a try held, the seat has come to hold as by lock
+-- if a try held, the seat has come to hold as by lock
 abbrev pub GainsIf : {T : Type 0} → (ℕ → T → T → Type 0) → (T → ℕ → Type 0) → ℕ → Sight T → Sight T → Option How → Type 0
 GainsIf follows fits budget s t None = ⊤
 GainsIf follows fits budget s t (Some how) = Gains follows fits budget how s t
@@ -27,18 +27,18 @@ module _ {T : Type 0} (l : Limits) where
     pub finds : (new : List Seen) × (t.trail ≡ s.trail ++ new) × BusySeen s.number new
     pub makes : MakesCall l (λ x. Answer.Locked x) Call.TryLock s t (Err Refusal.Busy)
 
-  -- tries that failed, one after another; the seat was seen as each of these after one
+  -- tries that failed, one after another. The list has how the seat was seen after each of them
   abbrev pub FailedTries : Sight T → List (Sight T) → Sight T → Type 0
   FailedTries s [] t = t ≡ s
   FailedTries s (m ∷ ms) t = FailedTry s m × FailedTries m ms t
 
-  -- n tries at most, and no other steps: all failed, or all but the last, which held
+  -- at most n tries, and no other steps: all of them failed, or all but the last, which held
   abbrev pub TriesBy : ℕ → Sight T → Sight T → Option How → Type 0
   TriesBy n s t None = (ms : List (Sight T)) × (length ms ≤ n) × FailedTries s ms t
   TriesBy n s t (Some how) = (ms : List (Sight T)) × (m : Sight T) × (length ms < n) × FailedTries s ms m × Makes l Call.TryLock m t (Ended (Answer.Locked (Locked.Held how)))
 
-  -- The steps of lock_barging, which makes n tries at most: a try held; or all failed, and then the steps of lock were made. Where it
-  -- deepens a hold or is refused they are those of lock alone
+  -- The steps of lock_barging, which makes at most n tries: a try held; or all failed, and then the steps of lock were made. If it deepens
+  -- a hold or is refused, they are those of lock alone
   abbrev pub BargesBy : ℕ → Sight T → Sight T → Result Locked Refusal → Type 0
   BargesBy n s t (Ok (Locked.Held how)) = TriesBy n s t (Some how) ⊎ ((m : Sight T) × TriesBy n s m None × LocksBy l m t (Ok (Locked.Held how)))
   BargesBy n s t (Ok (Locked.Again d)) = LocksBy l s t (Ok (Locked.Again d))

@@ -25,11 +25,11 @@ pub returns-in-Some-clause-tries : goal.returns-in-Some-clause-tries
 returns-in-Some-clause-tries g c = let l = c.args.self.now.limits in let s = sight c.args.seat.now in let t = sight c.try_if_free.new.seat in let below = c.naps-test.true in
     tries_fewer l (c.naps._made + 1) c.args.self.now.pace.naps s t (Some c.in-Some.how) (omega arith) (tries_join l c.naps._made 1 s (sight c.naps.seat) t (Some c.in-Some.how) c.naps.invariant.tries c.in-Some.ensures.tries)
 
-pub returns-then-is_crowded-clause-gains : goal.returns-then-is_crowded-clause-gains
-returns-then-is_crowded-clause-gains g c = tt
+pub returns-then-is_crowd-clause-gains : goal.returns-then-is_crowd-clause-gains
+returns-then-is_crowd-clause-gains g c = tt
 
-pub returns-then-is_crowded-clause-tries : goal.returns-then-is_crowded-clause-tries
-returns-then-is_crowded-clause-tries g c = let below = c.naps-test.true in
+pub returns-then-is_crowd-clause-tries : goal.returns-then-is_crowd-clause-tries
+returns-then-is_crowd-clause-tries g c = let below = c.naps-test.true in
     tries_fewer c.args.self.now.limits c.naps._made c.args.self.now.pace.naps (sight c.args.seat.now) (sight c.naps.seat) None (omega arith) c.naps.invariant.tries
 
 pub returns-clause-gains : goal.returns-clause-gains

@@ -24,11 +24,11 @@ pub returns-in-Some-clause-tries : goal.returns-in-Some-clause-tries
 returns-in-Some-clause-tries g c = let l = c.args.self.now.limits in let s = sight c.args.seat.now in let t = sight c.try_if_free.new.seat in let below = c.spins-test.true in
     tries_fewer l (c.spins.made + 1) c.args.self.now.pace.spins s t (Some c.in-Some.how) (omega arith) (tries_join l c.spins.made 1 s (sight c.spins.seat) t (Some c.in-Some.how) c.spins.invariant.tries c.in-Some.ensures.tries)
 
-pub returns-then-count-gt-HOLDER_AND_ONE_WAITER-clause-gains : goal.returns-then-count-gt-HOLDER_AND_ONE_WAITER-clause-gains
-returns-then-count-gt-HOLDER_AND_ONE_WAITER-clause-gains g c = tt
+pub returns-then-count-gt-HOLDER_AND_ONE_MORE-clause-gains : goal.returns-then-count-gt-HOLDER_AND_ONE_MORE-clause-gains
+returns-then-count-gt-HOLDER_AND_ONE_MORE-clause-gains g c = tt
 
-pub returns-then-count-gt-HOLDER_AND_ONE_WAITER-clause-tries : goal.returns-then-count-gt-HOLDER_AND_ONE_WAITER-clause-tries
-returns-then-count-gt-HOLDER_AND_ONE_WAITER-clause-tries g c = let l = c.args.self.now.limits in let s = sight c.args.seat.now in let t = sight c.try_if_free.new.seat in let below = c.spins-test.true in
+pub returns-then-count-gt-HOLDER_AND_ONE_MORE-clause-tries : goal.returns-then-count-gt-HOLDER_AND_ONE_MORE-clause-tries
+returns-then-count-gt-HOLDER_AND_ONE_MORE-clause-tries g c = let l = c.args.self.now.limits in let s = sight c.args.seat.now in let t = sight c.try_if_free.new.seat in let below = c.spins-test.true in
     tries_fewer l (c.spins.made + 1) c.args.self.now.pace.spins s t None (omega arith) (tries_join l c.spins.made 1 s (sight c.spins.seat) t None c.spins.invariant.tries c.in-None.ensures.tries)
 
 pub returns-clause-gains : goal.returns-clause-gains

@@ -177,7 +177,8 @@ static inline void lfm_giving_up(lfm_seat *seat) {
 /* How threads sleep and wake.
  *
  * Each grant is rung for. One call grants the mutex to one seat at most, and its answer names that seat, which is proved. So whoever
- * made the call rings that seat's bell as soon as it has the answer, before its own thread sleeps.
+ * made the call rings that seat's bell before its own thread sleeps. A wait and a wake first give back the list of the condition variable,
+ * which never sleeps. The woken thread may need the list at once, and would sleep again if it were still held.
  *
  * No ring is missed. A seat's thread reads how often the bell has rung, makes a receive, and looks or sleeps only while the bell has
  * rung no more than that. A grant is stored before its ring. So if the ring comes before the reading, the receive finds the grant. Else
@@ -207,10 +208,14 @@ static inline void lfm_ring(lfm_mutex *mutex, uint64_t number) {
   if (__atomic_load_n(&bell->sleeps, __ATOMIC_SEQ_CST)) lfm_futex(&bell->rings, FUTEX_WAKE, 1);
 }
 
+/* The two parts of an answer: the status, and the number of the seat that it names, or 0. */
+static inline lfm_status lfm_status_of(uint64_t answer) { return (lfm_status)(answer & 255); }
+static inline uint64_t lfm_named(uint64_t answer) { return answer >> 8; }
+
 /* Rings for the seat that an answer names, and gives the status. */
 static inline lfm_status lfm_told(lfm_mutex *mutex, uint64_t answer) {
-  if (__builtin_expect(answer > 255, 0)) lfm_ring(mutex, answer >> 8);
-  return (lfm_status)(answer & 255);
+  if (__builtin_expect(lfm_named(answer) != 0, 0)) lfm_ring(mutex, lfm_named(answer));
+  return lfm_status_of(answer);
 }
 
 static inline void lfm_pause(void) {
@@ -347,7 +352,7 @@ static inline lfm_status lfm_seat_give(lfm_seat *seat) {
  * holds or sleeps can't be given back, so a mutex that is held or asked for is refused. */
 static inline lfm_status lfm_mutex_close(lfm_mutex *mutex) {
   if (!mutex || !mutex->bells) return LFM_BLANK;
-  lfm_status status = (lfm_status)(lfm_c_close(mutex->handle) & 255);
+  lfm_status status = lfm_status_of(lfm_c_close(mutex->handle));
   if (status != LFM_DONE) return status;
   free(mutex->bells);
   mutex->bells = NULL;
@@ -456,23 +461,30 @@ static inline lfm_status lfm_wait(lfm_condvar *condvar, lfm_seat *seat) {
   status = lfm_lock(by);
   if (lfm_is_refused(status)) return status;
   lfm_giving_up(seat);
-  status = lfm_told(seat->mutex, lfm_c_start_wait(seat->handle));
-  if (!lfm_is_refused(status)) {
+  uint64_t answer = lfm_c_start_wait(seat->handle);
+  if (!lfm_is_refused(lfm_status_of(answer))) {
     condvar->waiting[(condvar->first + condvar->count) % condvar->list.seats] = lfm_c_number(seat->handle);
     condvar->count++;
   }
   lfm_unlock(by);
+  status = lfm_told(seat->mutex, answer); /* after the list is given back */
   if (lfm_is_refused(status)) return status;
   return lfm_gained(seat, lfm_receive(seat, 0));
 }
 
-/* Sends the oldest of those that wait, whose seat then gains the mutex or is queued. The list's mutex is held. */
-static inline lfm_status lfm_send_oldest(lfm_condvar *condvar, lfm_seat *seat) {
+/* Sends the oldest of those that wait, whose seat then gains the mutex or is queued. The list's mutex is held. `granted` is the number
+ * of the seat that the caller rings for once it has given the list back, or 0. A wake grants the mutex again only after the seat of its
+ * last grant has gained it and given it up. That seat is rung for at once, so that the caller keeps one number alone. */
+static inline lfm_status lfm_send_oldest(lfm_condvar *condvar, lfm_seat *seat, uint64_t *granted) {
   if (condvar->count == 0) return LFM_NOBODY;
-  lfm_status status = lfm_told(seat->mutex, lfm_c_send(seat->handle, condvar->waiting[condvar->first]));
+  uint64_t answer = lfm_c_send(seat->handle, condvar->waiting[condvar->first]);
+  lfm_status status = lfm_status_of(answer);
   if (lfm_is_refused(status)) return status;
   condvar->first = (condvar->first + 1) % condvar->list.seats;
   condvar->count--;
+  if (lfm_named(answer) == 0) return LFM_DONE;
+  if (*granted != 0) lfm_ring(seat->mutex, *granted);
+  *granted = lfm_named(answer);
   return LFM_DONE;
 }
 
@@ -482,9 +494,11 @@ static inline lfm_status lfm_wake(lfm_condvar *condvar, lfm_seat *seat, bool all
   lfm_seat *by = &condvar->seats[lfm_c_number(seat->handle)];
   status = lfm_lock(by);
   if (lfm_is_refused(status)) return status;
-  status = lfm_send_oldest(condvar, seat);
-  while (all && status == LFM_DONE && condvar->count != 0) status = lfm_send_oldest(condvar, seat);
+  uint64_t granted = 0;
+  status = lfm_send_oldest(condvar, seat, &granted);
+  while (all && status == LFM_DONE && condvar->count != 0) status = lfm_send_oldest(condvar, seat, &granted);
   lfm_unlock(by);
+  if (granted != 0) lfm_ring(seat->mutex, granted);
   return status;
 }
 

@@ -1,7 +1,8 @@
-//! A condition variable: those that wait, the oldest first, guarded by a mutex of its own.
+//! A condition variable: those that wait, the oldest first, guarded by a mutex of its own. A wait and a wake ring only after they have
+//! given the list back: the thread that is woken may need the list at once, and would sleep again if it were still held.
 use crate::library::Refusal;
-use crate::seat::{places, Core, Guard, Place, Seat};
-use std::{cell::UnsafeCell, collections::VecDeque, sync::Arc, time::Duration};
+use crate::seat::{places, Core, Guard, Place, Seat, WakeUp};
+use std::{cell::UnsafeCell, collections::VecDeque, mem, sync::Arc, time::Duration};
 
 /// The greatest number of takes that a seat may be allowed.
 const MOST_TAKES: u64 = 1 << 36;
@@ -93,19 +94,29 @@ impl Condvar {
             unsafe { self.list() }.push_back(seat.number());
         }
         by.unlock();
-        started?;
+        // after the list is given back
+        seat.place.wake(started?);
         seat.place.receive(Duration::ZERO);
         Ok(())
     }
 
-    /// Sends the oldest of those that wait, whose seat then gains the mutex or is queued. The list's mutex is held.
-    unsafe fn send_oldest<T>(&self, seat: &mut Seat<T>) -> Result<bool, Refusal> {
+    /// Sends the oldest of those that wait, whose seat then gains the mutex or is queued. The list's mutex is held. `left` is the
+    /// wake-up that the caller makes once it has given the list back. A wake grants the mutex again only after the seat of its last
+    /// grant has gained it and given it up. That seat is rung for at once, so that the caller keeps one wake-up alone.
+    unsafe fn send_oldest<T>(
+        &self,
+        seat: &mut Seat<T>,
+        left: &mut WakeUp,
+    ) -> Result<bool, Refusal> {
         let list = self.list();
         let Some(&number) = list.front() else {
             return Ok(false);
         };
-        seat.place.send(number)?;
+        let wake_up = seat.place.send(number)?;
         list.pop_front();
+        if wake_up.is_some() {
+            seat.place.wake(mem::replace(left, wake_up));
+        }
         Ok(true)
     }
 
@@ -114,8 +125,9 @@ impl Condvar {
         by.lock()?;
         let mut woken = 0;
         let mut refused = None;
+        let mut left = WakeUp::default();
         while woken < most {
-            match unsafe { self.send_oldest(seat) } {
+            match unsafe { self.send_oldest(seat, &mut left) } {
                 Ok(true) => woken += 1,
                 Ok(false) => break,
                 Err(refusal) => {
@@ -125,6 +137,7 @@ impl Condvar {
             }
         }
         by.unlock();
+        seat.place.wake(left);
         refused.map_or(Ok(woken), Err)
     }
 

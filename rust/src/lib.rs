@@ -19,6 +19,12 @@ mod library;
 mod seat;
 mod sleep;
 
+#[cfg(test)]
+#[path = "../tests/seen_calls/mod.rs"]
+mod seen_calls;
+#[cfg(test)]
+mod wake_order;
+
 pub use condvar::{Caller, Condvar};
 pub use library::Refusal;
 pub use seat::{mutex, Guard, Seat};

@@ -80,6 +80,11 @@ impl fmt::Display for Refusal {
 
 impl std::error::Error for Refusal {}
 
+/// The status that an answer tells. Above it stands the number of the seat that the call granted the mutex, or 0.
+pub fn status_of(answer: u64) -> u64 {
+    answer & 255
+}
+
 /// The status of a call that was made, or why it was refused.
 pub fn made(status: u64) -> Result<u64, Refusal> {
     if status < 16 {

@@ -4,7 +4,7 @@ use crate::sleep::Bell;
 use std::{
     cell::UnsafeCell,
     ffi::c_void,
-    num::NonZeroUsize,
+    num::{NonZeroU64, NonZeroUsize},
     ops::{Deref, DerefMut},
     sync::{
         atomic::{AtomicUsize, Ordering::Relaxed},
@@ -92,12 +92,23 @@ impl Core {
         Ok(core)
     }
 
+    /// Rings the bell of the seat that was granted the mutex, if there is one.
+    fn wake(&self, wake_up: WakeUp) {
+        if let Some(number) = wake_up.0 {
+            self.bells[number.get() as usize].ring();
+        }
+    }
+
+    /// How often the bell of each seat has rung, by the seats' numbers.
+    #[cfg(test)]
+    pub(crate) fn rings(&self) -> Vec<u32> {
+        self.bells.iter().map(Bell::rings).collect()
+    }
+
     /// Rings for the seat that an answer names, and gives the status.
     fn told(&self, answer: u64) -> u64 {
-        if answer > 255 {
-            self.bells[(answer >> 8) as usize].ring();
-        }
-        answer & 255
+        self.wake(WakeUp::of(answer));
+        status_of(answer)
     }
 }
 
@@ -105,6 +116,24 @@ impl Drop for Core {
     fn drop(&mut self) {
         // Where a seat was not given back, the library keeps its memory.
         unsafe { lfm_c_close(self.handle.at()) };
+    }
+}
+
+/// The wake-up that a call leaves: the number of the seat that it granted the mutex, if there is one. The bell of that seat is to be
+/// rung before the caller's thread sleeps.
+#[derive(Default)]
+#[must_use = "the thread of a seat that is granted the mutex sleeps until its bell is rung"]
+pub(crate) struct WakeUp(Option<NonZeroU64>);
+
+impl WakeUp {
+    /// What an answer tells above its status.
+    fn of(answer: u64) -> WakeUp {
+        WakeUp(NonZeroU64::new(answer >> 8))
+    }
+
+    /// Whether there is a seat to wake.
+    pub(crate) fn is_some(&self) -> bool {
+        self.0.is_some()
     }
 }
 
@@ -190,16 +219,21 @@ impl Place {
         self.core.told(answer);
     }
 
-    /// Gives the mutex up, and leaves the seat asleep until it is sent.
-    pub(crate) fn start_wait(&mut self) -> Result<u64, Refusal> {
+    /// Gives the mutex up, and leaves the seat asleep until it is sent. The wake-up is the caller's to make.
+    pub(crate) fn start_wait(&mut self) -> Result<WakeUp, Refusal> {
         let answer = unsafe { lfm_c_start_wait(self.at()) };
-        made(self.core.told(answer))
+        made(status_of(answer)).map(|_| WakeUp::of(answer))
     }
 
-    /// Sends a seat that waits.
-    pub(crate) fn send(&mut self, number: u64) -> Result<u64, Refusal> {
+    /// Sends a seat that waits. The wake-up is the caller's to make.
+    pub(crate) fn send(&mut self, number: u64) -> Result<WakeUp, Refusal> {
         let answer = unsafe { lfm_c_send(self.at(), number) };
-        made(self.core.told(answer))
+        made(status_of(answer)).map(|_| WakeUp::of(answer))
+    }
+
+    /// Makes a wake-up that a call of this seat has left.
+    pub(crate) fn wake(&self, wake_up: WakeUp) {
+        self.core.wake(wake_up);
     }
 }
 

@@ -1,8 +1,9 @@
 //! How threads sleep and wake: one bell for each seat, on a cache line of its own.
 //!
-//! A call grants the mutex to one seat at most, and its answer names that seat, so its caller rings that bell. A seat's thread
-//! reads how often its bell has rung, makes a receive, and looks or sleeps only while the bell has rung no more than that. A grant
-//! is stored before its ring, and the last look comes after the thread has said that it sleeps, so a ring is never missed.
+//! A call grants the mutex to one seat at most, and its answer names that seat, so its caller rings that bell, before its own thread
+//! sleeps. A seat's thread reads how often its bell has rung, makes a receive, and looks or sleeps only while the bell has rung no
+//! more than that. A grant is stored before its ring, and the last look comes after the thread has said that it sleeps, so a ring
+//! is never missed.
 use std::{
     ffi::{c_int, c_long},
     hint::spin_loop,

@@ -1,68 +1,9 @@
-//! What this crate makes of the library's calls. This program has the calls itself, so it links no library: it sees which are made, and
-//! tells what a library seldom tells. Each test has a thread of its own.
+//! What this crate makes of the library's calls, which a test program has itself: it sees which are made, and tells what a library
+//! seldom tells. Each test has a thread of its own.
+mod seen_calls;
+
 use ligdrosa::{mutex, Condvar, Refusal};
-use std::cell::{Cell, RefCell};
-
-thread_local! {
-    /// The call that tells something else than usual, and what.
-    static UNUSUAL: Cell<(&'static str, usize)> = const { Cell::new(("", 0)) };
-    /// The calls that were made with a handle.
-    static MADE: RefCell<Vec<&'static str>> = const { RefCell::new(Vec::new()) };
-    /// Where the handles of these calls lay, each with what it is of.
-    static HANDLES: RefCell<Vec<(&'static str, usize)>> = const { RefCell::new(Vec::new()) };
-}
-
-/// The calls that tell how much room a handle needs, with the room that there is.
-const ROOMS: [(&str, usize); 4] = [
-    ("lfm_c_mutex_size", 128),
-    ("lfm_c_mutex_align", 64),
-    ("lfm_c_seat_size", 256),
-    ("lfm_c_seat_align", 64),
-];
-
-fn usual(call: &str) -> usize {
-    if call == "lfm_c_number" {
-        return 1;
-    }
-    let room = ROOMS.iter().find(|(name, _)| *name == call);
-    room.map_or(0, |(_, bytes)| *bytes)
-}
-
-fn answer(call: &'static str, handles: &[(&'static str, usize)]) -> usize {
-    if !handles.is_empty() {
-        MADE.with_borrow_mut(|made| made.push(call));
-        HANDLES.with_borrow_mut(|all| all.extend(handles));
-    }
-    match UNUSUAL.get() {
-        (name, told) if name == call => told,
-        _ => usual(call),
-    }
-}
-
-macro_rules! calls {
-    ($($name:ident($($handle:ident)*))*) => {
-        $(#[no_mangle]
-        extern "C" fn $name($($handle: usize),*) -> usize {
-            answer(stringify!($name), &[$((stringify!($handle), $handle)),*])
-        })*
-    };
-}
-
-calls! {
-    lfm_c_mutex_size() lfm_c_mutex_align() lfm_c_seat_size() lfm_c_seat_align()
-    lfm_c_open(mutex) lfm_c_close(mutex)
-    lfm_c_blank_seat(seat) lfm_c_take_seat(mutex seat) lfm_c_give_seat(mutex seat)
-    lfm_c_number(seat) lfm_c_depth(seat) lfm_c_left(seat)
-    lfm_c_ask(seat) lfm_c_receive(seat) lfm_c_try_lock(seat) lfm_c_unlock(seat) lfm_c_start_wait(seat) lfm_c_send(seat)
-}
-
-/// What the function gives where a call tells something else than usual.
-fn where_it_tells<A>(call: &'static str, told: usize, act: impl FnOnce() -> A) -> A {
-    UNUSUAL.set((call, told));
-    let result = act();
-    UNUSUAL.set(("", 0));
-    result
-}
+use seen_calls::{where_it_tells, HANDLES, MADE, ROOMS};
 
 fn refusal_of_mutex() -> Option<Refusal> {
     mutex(1, 1, ()).err()

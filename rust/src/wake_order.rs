@@ -1,0 +1,94 @@
+//! In which order a wait and a wake ring and give the list of the condition variable back. They ring last, so that the thread that they
+//! wake finds the list free. The test program has the library's calls itself, and one thread makes them all, so no answer depends on
+//! when a thread runs.
+use crate::seat::Core;
+use crate::seen_calls::{where_it_answers, where_it_tells};
+use crate::{mutex, Condvar, Refusal, Seat};
+use std::{cell::RefCell, rc::Rc, sync::Arc};
+
+/// A seat has been granted the mutex by the call that answers this.
+fn granted(number: u64) -> u64 {
+    256 * number
+}
+
+/// Two seats, and a condition variable of their mutex.
+fn two_seats() -> (Seat<()>, Seat<()>, Condvar) {
+    let mut seats = mutex(2, 9, ()).unwrap();
+    let condvar = Condvar::new(&seats[0], 2).unwrap();
+    let second = seats.pop().unwrap();
+    (seats.pop().unwrap(), second, condvar)
+}
+
+/// Puts the seat into the list so often. The waits end at once, since a receive is usually answered by a hold.
+fn have_wait(seat: &mut Seat<()>, condvar: &Condvar, times: usize) {
+    let mut guard = seat.lock().unwrap();
+    (0..times).for_each(|_| condvar.wait(&mut guard).unwrap());
+}
+
+/// What the function gives, and how often the bells had rung when it gave the list back.
+fn with_rings_at_the_unlock<A>(core: &Arc<Core>, act: impl FnOnce() -> A) -> (A, Vec<u32>) {
+    let rings = Rc::new(RefCell::default());
+    let (seen, core) = (rings.clone(), core.clone());
+    let unlock = move || {
+        seen.replace(core.rings());
+        0
+    };
+    (where_it_answers("lfm_c_unlock", unlock, act), rings.take())
+}
+
+#[test]
+fn a_wait_rings_after_the_list() {
+    let (mut first, _second, condvar) = two_seats();
+    let core = first.core().clone();
+    let mut guard = first.lock().unwrap();
+    let wait = || where_it_tells("lfm_c_start_wait", granted(2), || condvar.wait(&mut guard));
+    assert_eq!(
+        with_rings_at_the_unlock(&core, wait),
+        (Ok(()), vec![0, 0, 0])
+    );
+    assert_eq!(core.rings(), [0, 0, 1]);
+}
+
+#[test]
+fn a_wake_rings_after_the_list() {
+    let (mut first, mut second, condvar) = two_seats();
+    let core = first.core().clone();
+    have_wait(&mut first, &condvar, 1);
+    let wake = || where_it_tells("lfm_c_send", granted(1), || condvar.wake_one(&mut second));
+    assert_eq!(
+        with_rings_at_the_unlock(&core, wake),
+        (Ok(1), vec![0, 0, 0])
+    );
+    assert_eq!(core.rings(), [0, 1, 0]);
+}
+
+#[test]
+fn a_wake_that_grants_twice_rings_for_both() {
+    let (mut first, mut second, condvar) = two_seats();
+    let core = first.core().clone();
+    have_wait(&mut first, &condvar, 2);
+    let mut numbers = [1, 2].into_iter();
+    let send = move || granted(numbers.next().unwrap());
+    let wake = || where_it_answers("lfm_c_send", send, || condvar.wake_all(&mut second));
+    assert_eq!(
+        with_rings_at_the_unlock(&core, wake),
+        (Ok(2), vec![0, 1, 0])
+    );
+    assert_eq!(core.rings(), [0, 1, 1]);
+}
+
+#[test]
+fn a_wake_that_is_refused_rings_for_those_it_sent() {
+    let (mut first, mut second, condvar) = two_seats();
+    let core = first.core().clone();
+    have_wait(&mut first, &condvar, 2);
+    let mut answers = [granted(1), 38].into_iter();
+    let send = move || answers.next().unwrap();
+    let wake = || where_it_answers("lfm_c_send", send, || condvar.wake_all(&mut second));
+    let refusal = Err(Refusal::Other(38));
+    assert_eq!(
+        with_rings_at_the_unlock(&core, wake),
+        (refusal, vec![0, 0, 0])
+    );
+    assert_eq!(core.rings(), [0, 1, 0]);
+}

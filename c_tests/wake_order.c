@@ -23,7 +23,7 @@ static lfm_condvar condvar;
 static lfm_seat seats[SEATS + 1];            /* by their numbers */
 static uint32_t rung_before_list[SEATS + 1]; /* how often each bell had rung when the list was last taken */
 static uint32_t rung_under_list[SEATS + 1];  /* how often each bell rang while the list was last held */
-static void (*before_receive)(void), (*before_send)(void); /* what other seats do before the next receive or send */
+static void (*before_receive)(void), (*before_send)(void); /* calls of other seats before the next receive or send */
 
 static bool is_of_list(void *handle) {
   for (int i = 1; i <= SEATS; i++)
@@ -31,9 +31,10 @@ static bool is_of_list(void *handle) {
   return false;
 }
 
-static void at_once(void (**what)(void)) {
-  void (*now)(void) = *what;
-  *what = NULL;
+/* Makes these calls, and forgets them first: they may make a receive or a send that is seen. */
+static void make_once(void (**calls)(void)) {
+  void (*now)(void) = *calls;
+  *calls = NULL;
   if (now) now();
 }
 
@@ -51,12 +52,12 @@ uint64_t seen_unlock(void *handle) {
 }
 
 uint64_t seen_receive(void *handle) {
-  at_once(&before_receive);
+  make_once(&before_receive);
   return lfm_c_receive(handle);
 }
 
 uint64_t seen_send(void *handle, uint64_t number) {
-  at_once(&before_send);
+  make_once(&before_send);
   return lfm_c_send(handle, number);
 }
 
@@ -85,8 +86,8 @@ static void expect_rung_under_list(uint32_t first, uint32_t second, uint32_t thi
   EXPECT(rung_under_list[3], third);
 }
 
-/* Has the seats 1 and on wait, as many as are said, up to where their threads sleep. */
-static void have_wait(uint64_t count) {
+/* Lets the seats from 1 to `count` wait, up to the moment at which their threads would sleep. */
+static void let_wait(uint64_t count) {
   for (uint64_t i = 1; i <= count; i++) {
     EXPECT(lfm_lock(&seats[i]), LFM_DONE);
     EXPECT(lfm_c_start_wait(seats[i].handle), LFM_DONE);
@@ -125,7 +126,7 @@ static void a_wait(void) {
 
 static void a_wake_of_one(void) {
   open_all();
-  have_wait(1);
+  let_wait(1);
   EXPECT(lfm_wake_one(&condvar, &seats[3]), LFM_DONE);
   expect_rung_under_list(0, 0, 0);
   expect_rung(1, 0, 0);
@@ -135,7 +136,7 @@ static void a_wake_of_one(void) {
 
 static void a_wake_of_all(void) {
   open_all();
-  have_wait(2);
+  let_wait(2);
   EXPECT(lfm_wake_all(&condvar, &seats[3]), LFM_DONE);
   expect_rung_under_list(0, 0, 0);
   expect_rung(1, 0, 0);
@@ -150,7 +151,7 @@ static void after_the_first_send(void) { before_send = first_is_through; }
 
 static void a_wake_that_grants_twice(void) {
   open_all();
-  have_wait(2);
+  let_wait(2);
   before_send = after_the_first_send;
   EXPECT(lfm_wake_all(&condvar, &seats[3]), LFM_DONE);
   EXPECT(before_send == NULL, true);
@@ -163,7 +164,7 @@ static void a_wake_that_grants_twice(void) {
 /* The first send grants the mutex, and the second is refused, since its seat doesn't wait. */
 static void a_wake_that_is_refused(void) {
   open_all();
-  have_wait(1);
+  let_wait(1);
   condvar.waiting[1] = 2;
   condvar.count = 2;
   EXPECT(lfm_wake_all(&condvar, &seats[3]), LFM_NOT_WAITING);

@@ -6,7 +6,7 @@ use crate::seen_calls::{where_it_answers, where_it_tells};
 use crate::{mutex, Condvar, Refusal, Seat};
 use std::{cell::RefCell, rc::Rc, sync::Arc};
 
-/// A seat has been granted the mutex by the call that answers this.
+/// The answer of a call that was made and granted the mutex to the seat with this number.
 fn granted(number: u64) -> u64 {
     256 * number
 }
@@ -19,41 +19,49 @@ fn two_seats() -> (Seat<()>, Seat<()>, Condvar) {
     (seats.pop().unwrap(), second, condvar)
 }
 
-/// Puts the seat into the list so often. The waits end at once, since a receive is usually answered by a hold.
-fn have_wait(seat: &mut Seat<()>, condvar: &Condvar, times: usize) {
+/// Puts the seat into the list this many times. The waits end at once, since a receive usually answers that the seat holds.
+fn let_wait(seat: &mut Seat<()>, condvar: &Condvar, times: usize) {
     let mut guard = seat.lock().unwrap();
     (0..times).for_each(|_| condvar.wait(&mut guard).unwrap());
 }
 
-/// What the function gives, and how often the bells had rung when it gave the list back.
-fn with_rings_at_the_unlock<A>(core: &Arc<Core>, act: impl FnOnce() -> A) -> (A, Vec<u32>) {
+/// What the function gives, and how often each bell had rung when it made this call.
+fn with_rings_at<A>(
+    call: &'static str,
+    core: &Arc<Core>,
+    act: impl FnOnce() -> A,
+) -> (A, Vec<u32>) {
     let rings = Rc::new(RefCell::default());
     let (seen, core) = (rings.clone(), core.clone());
-    let unlock = move || {
+    let answer = move || {
         seen.replace(core.rings());
         0
     };
-    (where_it_answers("lfm_c_unlock", unlock, act), rings.take())
+    (where_it_answers(call, answer, act), rings.take())
+}
+
+/// The same for the call that gives the list back.
+fn with_rings_at_the_unlock<A>(core: &Arc<Core>, act: impl FnOnce() -> A) -> (A, Vec<u32>) {
+    with_rings_at("lfm_c_unlock", core, act)
 }
 
 #[test]
-fn a_wait_rings_after_the_list() {
+fn a_wait_rings_after_the_list_and_before_it_sleeps() {
     let (mut first, _second, condvar) = two_seats();
     let core = first.core().clone();
     let mut guard = first.lock().unwrap();
     let wait = || where_it_tells("lfm_c_start_wait", granted(2), || condvar.wait(&mut guard));
-    assert_eq!(
-        with_rings_at_the_unlock(&core, wait),
-        (Ok(()), vec![0, 0, 0])
-    );
-    assert_eq!(core.rings(), [0, 0, 1]);
+    let (waited, rings) =
+        with_rings_at_the_unlock(&core, || with_rings_at("lfm_c_receive", &core, wait));
+    assert_eq!(rings, [0, 0, 0]);
+    assert_eq!(waited, (Ok(()), vec![0, 0, 1]));
 }
 
 #[test]
 fn a_wake_rings_after_the_list() {
     let (mut first, mut second, condvar) = two_seats();
     let core = first.core().clone();
-    have_wait(&mut first, &condvar, 1);
+    let_wait(&mut first, &condvar, 1);
     let wake = || where_it_tells("lfm_c_send", granted(1), || condvar.wake_one(&mut second));
     assert_eq!(
         with_rings_at_the_unlock(&core, wake),
@@ -66,7 +74,7 @@ fn a_wake_rings_after_the_list() {
 fn a_wake_that_grants_twice_rings_for_both() {
     let (mut first, mut second, condvar) = two_seats();
     let core = first.core().clone();
-    have_wait(&mut first, &condvar, 2);
+    let_wait(&mut first, &condvar, 2);
     let mut numbers = [1, 2].into_iter();
     let send = move || granted(numbers.next().unwrap());
     let wake = || where_it_answers("lfm_c_send", send, || condvar.wake_all(&mut second));
@@ -81,7 +89,7 @@ fn a_wake_that_grants_twice_rings_for_both() {
 fn a_wake_that_is_refused_rings_for_those_it_sent() {
     let (mut first, mut second, condvar) = two_seats();
     let core = first.core().clone();
-    have_wait(&mut first, &condvar, 2);
+    let_wait(&mut first, &condvar, 2);
     let mut answers = [granted(1), 38].into_iter();
     let send = move || answers.next().unwrap();
     let wake = || where_it_answers("lfm_c_send", send, || condvar.wake_all(&mut second));

@@ -27,22 +27,22 @@ module _ {T : Type 0} where
   counted_once user by s t v w (Err NotWaiting) b e = same_count v w by e.1
   counted_once user by s t v w (Err Busy) b e = same_count v w by e.3
 
-  busy_ends : (user own : Limits) (c d : Sight Waiters) (s t : Sight T) → (v : Waiters) × (w : Waiters) × HeldOnce own.budget c d v w × Enlists user c.number s t v w (Err Busy) × StepsOfOneHold own c d → BeginWaitEnds user own c d s t (Err Busy)
-  busy_ends user own c d s t h = h
+  busy_ends : (user own : Limits) (tries : ℕ) (c d : Sight Waiters) (s t : Sight T) → (v : Waiters) × (w : Waiters) × HeldOnce own.budget c d v w × Enlists user c.number s t v w (Err Busy) × StepsOfOneHold own tries c d → BeginWaitEnds user own tries c d s t (Err Busy)
+  busy_ends user own tries c d s t h = h
 
   -- a wait that was refused under the inner mutex was refused as Busy
-  pub ends_busy : (user own : Limits) (c d : Sight Waiters) (s t : Sight T) (r : Refusal) → r ≡ Busy
-      → (v : Waiters) × (w : Waiters) × HeldOnce own.budget c d v w × Enlists user c.number s t v w (Err r) × StepsOfOneHold own c d → BeginWaitEnds user own c d s t (Err r)
-  ends_busy user own c d s t r e = subst (λ (x : Refusal). (v : Waiters) × (w : Waiters) × HeldOnce own.budget c d v w × Enlists user c.number s t v w (Err x) × StepsOfOneHold own c d → BeginWaitEnds user own c d s t (Err x)) (sym e) (busy_ends user own c d s t)
+  pub ends_busy : (user own : Limits) (tries : ℕ) (c d : Sight Waiters) (s t : Sight T) (r : Refusal) → r ≡ Busy
+      → (v : Waiters) × (w : Waiters) × HeldOnce own.budget c d v w × Enlists user c.number s t v w (Err r) × StepsOfOneHold own tries c d → BeginWaitEnds user own tries c d s t (Err r)
+  ends_busy user own tries c d s t r e = subst (λ (x : Refusal). (v : Waiters) × (w : Waiters) × HeldOnce own.budget c d v w × Enlists user c.number s t v w (Err x) × StepsOfOneHold own tries c d → BeginWaitEnds user own tries c d s t (Err x)) (sym e) (busy_ends user own tries c d s t)
 
   -- how begin_wait ends by the one hold in which the seat was enlisted, or refused as Busy
-  pub ends_enlisted : (user own : Limits) (c d : Sight Waiters) (s t : Sight T) (r : Result ℕ Refusal) → IfErr r (λ x. x ≡ Busy)
-      → (v : Waiters) × (w : Waiters) × HeldOnce own.budget c d v w × Enlists user c.number s t v w r × StepsOfOneHold own c d → BeginWaitEnds user own c d s t r
-  ends_enlisted user own c d s t (Ok k) busy h = h
-  ends_enlisted user own c d s t (Err x) busy h = ends_busy user own c d s t x busy h
+  pub ends_enlisted : (user own : Limits) (tries : ℕ) (c d : Sight Waiters) (s t : Sight T) (r : Result ℕ Refusal) → IfErr r (λ x. x ≡ Busy)
+      → (v : Waiters) × (w : Waiters) × HeldOnce own.budget c d v w × Enlists user c.number s t v w r × StepsOfOneHold own tries c d → BeginWaitEnds user own tries c d s t r
+  ends_enlisted user own tries c d s t (Ok k) busy h = h
+  ends_enlisted user own tries c d s t (Err x) busy h = ends_busy user own tries c d s t x busy h
 
   -- a wait is refused as begin_wait was
-  pub ends_refused : (follows : ℕ → T → T → Type 0) (fits : T → ℕ → Type 0) (user own : Limits) (c d : Sight Waiters) (s t : Sight T) (r : Result (How × ℕ) Refusal) (x : Refusal) → IsErrAnd r (λ y. y ≡ x)
-      → BeginWaitEnds user own c d s t (Err x) → WaitEnds follows fits user own c d s t r
-  ends_refused follows fits user own c d s t (Ok y) x is h = absurd is
-  ends_refused follows fits user own c d s t (Err y) x is h = subst (λ (z : Refusal). BeginWaitEnds user own c d s t (Err z)) (sym is) h
+  pub ends_refused : (follows : ℕ → T → T → Type 0) (fits : T → ℕ → Type 0) (user own : Limits) (tries : ℕ) (c d : Sight Waiters) (s t : Sight T) (r : Result (How × ℕ) Refusal) (x : Refusal) → IsErrAnd r (λ y. y ≡ x)
+      → BeginWaitEnds user own tries c d s t (Err x) → WaitEnds follows fits user own tries c d s t r
+  ends_refused follows fits user own tries c d s t (Ok y) x is h = absurd is
+  ends_refused follows fits user own tries c d s t (Err y) x is h = subst (λ (z : Refusal). BeginWaitEnds user own tries c d s t (Err z)) (sym is) h

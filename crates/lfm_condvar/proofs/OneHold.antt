@@ -98,8 +98,8 @@ may_leave_it limits s t u x v w h r = let same : x ≡ v = one_some t.value x v 
     may_leave limits s u v w m (subst (λ (i : ℕ). WaitersFollow i v w) (sym (ap (λ (y : Sight Waiters). y.number) r.1)) r.2)
 
 -- it took the steps of one lock and one unlock
-pub held_by : (own : Limits) (s t u z : Sight Waiters) (v w : Waiters) → LocksList own s t → Rewrites t u v w → LeavesList own u z → StepsOfOneHold own s z
-held_by own s t u z v w l r k = record {
+pub held_by : (own : Limits) (tries : ℕ) (s t u z : Sight Waiters) (v w : Waiters) → LocksList own tries s t → Rewrites t u v w → LeavesList own u z → StepsOfOneHold own tries s z
+held_by own tries s t u z v w l r k = record {
   locked = t;
   changed = u;
   locks = l;

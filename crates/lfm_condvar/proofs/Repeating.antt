@@ -24,9 +24,9 @@ module _ {T : Type 0} (says : T → Bool → Type 0) where
   looked s v true is said = λ w at. let same : Some v ≡ Some w = sym is ∙ at in let e : v ≡ w = cc in subst (λ u. says u true) e said
   looked s v false is said = (v, is, said)
 
-module _ {T : Type 0} (user own : Limits) where
+module _ {T : Type 0} (user own : Limits) (tries : ℕ) where
   -- a wait that is refused leaves the user seat as it was
-  pub stays : (r : Refusal) (c d : Sight Waiters) (s t : Sight T) → BeginWaitEnds user own c d s t (Err r) → t ≡ s
+  pub stays : (r : Refusal) (c d : Sight Waiters) (s t : Sight T) → BeginWaitEnds user own tries c d s t (Err r) → t ≡ s
   stays Refusal.Busy c d s t h = h.3.4
   stays Refusal.Asleep c d s t h = h.2
   stays Refusal.NotOwner c d s t h = h.2
@@ -36,11 +36,11 @@ module _ {T : Type 0} (user own : Limits) where
   stays Refusal.NoSuchSeat c d s t h = h.4
   stays Refusal.NotWaiting c d s t h = h.2
 
-module _ {T : Type 0} (follows : ℕ → T → T → Type 0) (fits : T → ℕ → Type 0) (user own : Limits) where
+module _ {T : Type 0} (follows : ℕ → T → T → Type 0) (fits : T → ℕ → Type 0) (user own : Limits) (tries : ℕ) where
   -- a wait ends at the depth at which it began
-  pub as_deep : (r : How × ℕ) (c d : Sight Waiters) (s t : Sight T) → WaitEnds follows fits user own c d s t (Ok r) → t.depth ≡ s.depth
+  pub as_deep : (r : How × ℕ) (c d : Sight Waiters) (s t : Sight T) → WaitEnds follows fits user own tries c d s t (Ok r) → t.depth ≡ s.depth
   as_deep r c d s t h = let asleep = h.1.3.2.1 in h.2.0.4 ∙ sym asleep.1.1
 
   -- after a wait the seat may leave what it found
-  pub may_again : (r : How × ℕ) (c d : Sight Waiters) (s t : Sight T) → FoundMayBeLeft follows fits → WaitEnds follows fits user own c d s t (Ok r) → MayRelease follows fits t
+  pub may_again : (r : How × ℕ) (c d : Sight Waiters) (s t : Sight T) → FoundMayBeLeft follows fits → WaitEnds follows fits user own tries c d s t (Ok r) → MayRelease follows fits t
   may_again r c d s t keeps h = λ _. let woken = h.2.0 in keeps r.0 h.0 t woken.7 woken.3

@@ -116,24 +116,24 @@ module _ {T : Type 0} where
   some_by A B n user xs s m t v w Busy aw o a b = absurd o
 
   -- a wake whose hold of the inner mutex came
-  pub one_ends : (n : ℕ) (own : Limits) (c d : Sight Waiters) (s t : Sight T) (v w : Waiters) (r : Result (Option (ℕ × ℕ)) Refusal) → s.asleep ≡ false → HeldOnce own.budget c d v w → StepsOfOneHold own c d → SendsOldest n s t v w r → WakeOneEnds n own c d s t r
-  one_ends n own c d s t v w (Ok p) aw h k o = (v, w, h, o, k)
-  one_ends n own c d s t v w (Err Asleep) aw h k o = let no = sym aw ∙ o.0 in cc
-  one_ends n own c d s t v w (Err NotWaiting) aw h k o = (v, w, h, o, k)
-  one_ends n own c d s t v w (Err NotOwner) aw h k o = absurd o
-  one_ends n own c d s t v w (Err Nested) aw h k o = absurd o
-  one_ends n own c d s t v w (Err DepthFull) aw h k o = absurd o
-  one_ends n own c d s t v w (Err Spent) aw h k o = absurd o
-  one_ends n own c d s t v w (Err NoSuchSeat) aw h k o = absurd o
-  one_ends n own c d s t v w (Err Busy) aw h k o = absurd o
+  pub one_ends : (n : ℕ) (own : Limits) (tries : ℕ) (c d : Sight Waiters) (s t : Sight T) (v w : Waiters) (r : Result (Option (ℕ × ℕ)) Refusal) → s.asleep ≡ false → HeldOnce own.budget c d v w → StepsOfOneHold own tries c d → SendsOldest n s t v w r → WakeOneEnds n own tries c d s t r
+  one_ends n own tries c d s t v w (Ok p) aw h k o = (v, w, h, o, k)
+  one_ends n own tries c d s t v w (Err Asleep) aw h k o = let no = sym aw ∙ o.0 in cc
+  one_ends n own tries c d s t v w (Err NotWaiting) aw h k o = (v, w, h, o, k)
+  one_ends n own tries c d s t v w (Err NotOwner) aw h k o = absurd o
+  one_ends n own tries c d s t v w (Err Nested) aw h k o = absurd o
+  one_ends n own tries c d s t v w (Err DepthFull) aw h k o = absurd o
+  one_ends n own tries c d s t v w (Err Spent) aw h k o = absurd o
+  one_ends n own tries c d s t v w (Err NoSuchSeat) aw h k o = absurd o
+  one_ends n own tries c d s t v w (Err Busy) aw h k o = absurd o
 
-  pub all_end : (n : ℕ) (own : Limits) (c d : Sight Waiters) (s t : Sight T) (v w : Waiters) (r : Result ℕ Refusal) → HeldOnce own.budget c d v w → StepsOfOneHold own c d → SendsAll n s t v w r → WakeAllEnds n own c d s t r
-  all_end n own c d s t v w (Ok p) h k o = (v, w, h, o, k)
-  all_end n own c d s t v w (Err NotWaiting) h k o = (v, w, h, o, k)
-  all_end n own c d s t v w (Err Asleep) h k o = absurd o
-  all_end n own c d s t v w (Err NotOwner) h k o = absurd o
-  all_end n own c d s t v w (Err Nested) h k o = absurd o
-  all_end n own c d s t v w (Err DepthFull) h k o = absurd o
-  all_end n own c d s t v w (Err Spent) h k o = absurd o
-  all_end n own c d s t v w (Err NoSuchSeat) h k o = absurd o
-  all_end n own c d s t v w (Err Busy) h k o = absurd o
+  pub all_end : (n : ℕ) (own : Limits) (tries : ℕ) (c d : Sight Waiters) (s t : Sight T) (v w : Waiters) (r : Result ℕ Refusal) → HeldOnce own.budget c d v w → StepsOfOneHold own tries c d → SendsAll n s t v w r → WakeAllEnds n own tries c d s t r
+  all_end n own tries c d s t v w (Ok p) h k o = (v, w, h, o, k)
+  all_end n own tries c d s t v w (Err NotWaiting) h k o = (v, w, h, o, k)
+  all_end n own tries c d s t v w (Err Asleep) h k o = absurd o
+  all_end n own tries c d s t v w (Err NotOwner) h k o = absurd o
+  all_end n own tries c d s t v w (Err Nested) h k o = absurd o
+  all_end n own tries c d s t v w (Err DepthFull) h k o = absurd o
+  all_end n own tries c d s t v w (Err Spent) h k o = absurd o
+  all_end n own tries c d s t v w (Err NoSuchSeat) h k o = absurd o
+  all_end n own tries c d s t v w (Err Busy) h k o = absurd o

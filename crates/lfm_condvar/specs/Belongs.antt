@@ -1,7 +1,7 @@
 -- What belongs to a condvar, and how its seats are seen. Contracts name a condvar and its seats by these words alone.
-use Rattle.std.specs.Prelude.{◌≡◌}
+use Rattle.std.specs.Prelude.{◌≡◌, ℕ}
 use Rattle.lfm_protocol.specs.declared.limits.Limits.{Limits}
-use Rattle.lfm_mutex.specs.Belongs.{OfMutex, limits_of}
+use Rattle.lfm_mutex.specs.Belongs.{OfMutex, limits_of, tries_of}
 use Rattle.lfm_mutex.specs.calls.Sight.{Sight, sight}
 use Rattle.lfm_condvar.specs.declared.condvar.Condvar.{Condvar}
 use Rattle.lfm_condvar.specs.declared.cond_seat.CondSeat.{CondSeat}
@@ -11,6 +11,10 @@ use Rattle.lfm_condvar.specs.Holds.{MadeFor}
 -- how many seats the condvar has, and how many waits and wakes each of them may make
 abbrev pub cond_limits : Condvar → Limits
 cond_limits v = limits_of v.inner
+
+-- how often a cond seat tries at most before it queues for the list
+abbrev pub cond_tries : Condvar → ℕ
+cond_tries v = tries_of v.inner
 
 -- how a cond seat is seen
 abbrev pub cond_sight : CondSeat → Sight Waiters

@@ -7,8 +7,9 @@ use Rattle.lfm_protocol.specs.declared.answers.Answer.{Answer}
 use Rattle.lfm_protocol.specs.declared.answers.Call.{Call}
 use Rattle.lfm_protocol.specs.declared.answers.Turn.TheVariants.{Ended}
 use Rattle.lfm_protocol.specs.declared.limits.Limits.{Limits}
+use Rattle.lfm_mutex.specs.calls.Barging.{BargesBy}
 use Rattle.lfm_mutex.specs.calls.Sight.{Sight}
-use Rattle.lfm_mutex.specs.calls.Trails.{LocksBy, Makes, MakesAtMost}
+use Rattle.lfm_mutex.specs.calls.Trails.{Makes, MakesAtMost}
 use Rattle.lfm_condvar.specs.declared.waiters.Waiters.{Waiters}
 use Rattle.lfm_condvar.specs.Keeping.{WaitersFollow, Since}
 
@@ -40,20 +41,20 @@ pub record HeldOnce (budget : ℕ) (s t : Sight Waiters) (v w : Waiters) : Type 
   pub number : t.number ≡ s.number
   pub found : t.found ≡ Some v
 
--- The cond seat locks the inner mutex, by the steps of lock alone
-abbrev pub LocksList : Limits → Sight Waiters → Sight Waiters → Type 0
-LocksList own s t = (how : How) × LocksBy own s t (Ok (Locked.Held how))
+-- The cond seat locks the inner mutex, by the steps of lock_barging alone, which makes so many tries at most
+abbrev pub LocksList : Limits → ℕ → Sight Waiters → Sight Waiters → Type 0
+LocksList own tries s t = (how : How) × BargesBy own tries s t (Ok (Locked.Held how))
 
 -- and gives it back, by the steps of unlock alone
 abbrev pub LeavesList : Limits → Sight Waiters → Sight Waiters → Type 0
 LeavesList own s t = (u : Unlocked) × Makes own Call.Unlock s t (Ended (Answer.Unlocked u)) × MakesAtMost (own.seats + 7) s t
 
--- The steps of the cond seat in one hold: it locks the inner mutex once, and gives it back once. In between it changes the list in
--- hand, and nothing else of it is other than it was
-pub record StepsOfOneHold (own : Limits) (s t : Sight Waiters) : Type 0 where
+-- The steps of the cond seat in one hold: it locks the inner mutex once, with so many tries at most, and gives it back once. In
+-- between it changes the list in hand, and nothing else of it is other than it was
+pub record StepsOfOneHold (own : Limits) (tries : ℕ) (s t : Sight Waiters) : Type 0 where
   pub locked : Sight Waiters
   pub changed : Sight Waiters
-  pub locks : LocksList own s locked
+  pub locks : LocksList own tries s locked
   pub changes : changed ≡ record locked { value = changed.value }
   pub leaves : LeavesList own changed t
 

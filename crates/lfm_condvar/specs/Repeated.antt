@@ -1,5 +1,6 @@
 -- How `wait_while` ends. A user seat is seen as s before and as t after, its mutex has the limits `user`, and the cond seat, of a
--- condvar with the limits `own`, is seen as c before and as d after. `says v b`: the condition may answer b at the value v.
+-- condvar with the limits `own`, is seen as c before and as d after, and tries so often at most before it queues for the list.
+-- `says v b`: the condition may answer b at the value v.
 use Rattle.std.specs.Prelude.{◌≡◌, ℕ, zero, suc, ⊤, Bool, true, false, Some, Result, Ok, Err}
 use Rattle.lfm_model.specs.declared.answers.How.{How}
 use Rattle.lfm_model.specs.declared.refusals.Refusal.{Refusal}
@@ -22,13 +23,13 @@ module _ {T : Type 0} (says : T → Bool → Type 0) where
   abbrev pub WouldWait : Sight T → Type 0
   WouldWait s = (v : T) → s.value ≡ Some v → says v true
 
-module _ {T : Type 0} (follows : ℕ → T → T → Type 0) (fits : T → ℕ → Type 0) (user own : Limits) (says : T → Bool → Type 0) where
+module _ {T : Type 0} (follows : ℕ → T → T → Type 0) (fits : T → ℕ → Type 0) (user own : Limits) (tries : ℕ) (says : T → Bool → Type 0) where
   -- so many waits, before each of which the condition held
   abbrev pub AllWaited : ℕ → Sight Waiters → Sight Waiters → Sight T → Sight T → Type 0
   AllWaited zero c d s t = (d ≡ c) × (t ≡ s)
   AllWaited (suc n) c d s t =
-      (e : Sight Waiters) × (m : Sight T) × (waited : How × ℕ) × AllWaited n c e s m × WouldWait says m × WaitEnds follows fits user own e d m t (Ok waited)
+      (e : Sight Waiters) × (m : Sight T) × (waited : How × ℕ) × AllWaited n c e s m × WouldWait says m × WaitEnds follows fits user own tries e d m t (Ok waited)
 
   abbrev pub WaitWhileEnds : Sight Waiters → Sight Waiters → Sight T → Sight T → Result ⊤ Refusal → Type 0
   WaitWhileEnds c d s t (Ok x) = (n : ℕ) × AllWaited n c d s t × NeedNotWait says t
-  WaitWhileEnds c d s t (Err r) = (n : ℕ) × (e : Sight Waiters) × (m : Sight T) × AllWaited n c e s m × WouldWait says m × WaitEnds follows fits user own e d m t (Err r)
+  WaitWhileEnds c d s t (Err r) = (n : ℕ) × (e : Sight Waiters) × (m : Sight T) × AllWaited n c e s m × WouldWait says m × WaitEnds follows fits user own tries e d m t (Err r)

@@ -29,14 +29,15 @@ module _ {T : Type 0} where
   Enlists user by s t v w (Err Refusal.Busy) = MayWait user.budget s × (s.number ≤ v.seats) × (0 < times s.number v.list.items) × (w ≡ v) × (t ≡ s)
   Enlists user by s t v w (Err r) = WaitRefused user.budget s r × (w ≡ v) × (t ≡ s)
 
-  -- How begin_wait ends, with a cond seat that is seen as c before and as d after, of a condvar with the limits `own`. In one
-  -- hold, which has ended, the user seat was put at the end of the list. It sleeps; that start_wait came in it is not said
-  abbrev pub BeginWaitEnds : Limits → Limits → Sight Waiters → Sight Waiters → Sight T → Sight T → Result ℕ Refusal → Type 0
-  BeginWaitEnds user own c d s t (Ok ticket) = (v : Waiters) × (w : Waiters) × HeldOnce own.budget c d v w × Enlists user c.number s t v w (Ok ticket) × StepsOfOneHold own c d
-  BeginWaitEnds user own c d s t (Err Refusal.Spent) = (s.asleep ≡ false) × (s.depth ≡ 1) × (user.budget ≤ s.takes ⊎ (own.budget ≤ c.takes)) × (d ≡ c) × (t ≡ s)
-  BeginWaitEnds user own c d s t (Err Refusal.NoSuchSeat) = MayWait user.budget s × (c.takes < own.budget) × (own.seats < s.number) × (d ≡ c) × (t ≡ s)
-  BeginWaitEnds user own c d s t (Err Refusal.Busy) = (v : Waiters) × (w : Waiters) × HeldOnce own.budget c d v w × Enlists user c.number s t v w (Err Refusal.Busy) × StepsOfOneHold own c d
-  BeginWaitEnds user own c d s t (Err r) = WaitRefused user.budget s r × (d ≡ c) × (t ≡ s)
+  -- How begin_wait ends, with a cond seat that is seen as c before and as d after, of a condvar with the limits `own`, and which
+  -- tries so often at most before it queues for the list. In one hold, which has ended, the user seat was put at the end of the
+  -- list. It sleeps; that start_wait came in it is not said
+  abbrev pub BeginWaitEnds : Limits → Limits → ℕ → Sight Waiters → Sight Waiters → Sight T → Sight T → Result ℕ Refusal → Type 0
+  BeginWaitEnds user own tries c d s t (Ok ticket) = (v : Waiters) × (w : Waiters) × HeldOnce own.budget c d v w × Enlists user c.number s t v w (Ok ticket) × StepsOfOneHold own tries c d
+  BeginWaitEnds user own tries c d s t (Err Refusal.Spent) = (s.asleep ≡ false) × (s.depth ≡ 1) × (user.budget ≤ s.takes ⊎ (own.budget ≤ c.takes)) × (d ≡ c) × (t ≡ s)
+  BeginWaitEnds user own tries c d s t (Err Refusal.NoSuchSeat) = MayWait user.budget s × (c.takes < own.budget) × (own.seats < s.number) × (d ≡ c) × (t ≡ s)
+  BeginWaitEnds user own tries c d s t (Err Refusal.Busy) = (v : Waiters) × (w : Waiters) × HeldOnce own.budget c d v w × Enlists user c.number s t v w (Err Refusal.Busy) × StepsOfOneHold own tries c d
+  BeginWaitEnds user own tries c d s t (Err r) = WaitRefused user.budget s r × (d ≡ c) × (t ≡ s)
 
 module _ {T : Type 0} (follows : ℕ → T → T → Type 0) (fits : T → ℕ → Type 0) where
   -- the seat, which slept, has come to hold, by receives alone
@@ -44,6 +45,6 @@ module _ {T : Type 0} (follows : ℕ → T → T → Type 0) (fits : T → ℕ �
   ComesBack user how s t = TakesUp follows fits how s t × ReceivesBy user s t (Ok how)
 
   -- How wait ends: refused as begin_wait is, or made by it, after which the user seat is seen as m, and by receives
-  abbrev pub WaitEnds : Limits → Limits → Sight Waiters → Sight Waiters → Sight T → Sight T → Result (How × ℕ) Refusal → Type 0
-  WaitEnds user own c d s t (Ok r) = (m : Sight T) × BeginWaitEnds user own c d s m (Ok r.1) × ComesBack user r.0 m t
-  WaitEnds user own c d s t (Err r) = BeginWaitEnds user own c d s t (Err r)
+  abbrev pub WaitEnds : Limits → Limits → ℕ → Sight Waiters → Sight Waiters → Sight T → Sight T → Result (How × ℕ) Refusal → Type 0
+  WaitEnds user own tries c d s t (Ok r) = (m : Sight T) × BeginWaitEnds user own tries c d s m (Ok r.1) × ComesBack user r.0 m t
+  WaitEnds user own tries c d s t (Err r) = BeginWaitEnds user own tries c d s t (Err r)

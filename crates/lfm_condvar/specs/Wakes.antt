@@ -49,7 +49,8 @@ module _ {T : Type 0} where
       (sent : List (ℕ × Sight T)) × (m : Sight T) × (x : ℕ) × (cause : Why) × SendsInTurn user s sent m × Makes user (Call.SendLock x) m t (Refused cause)
   SendsBy user s t (Err r) = t ≡ s
 
-  -- How the wakes end, with a cond seat that is seen as c before and as d after, of a condvar with the limits `own`
+  -- How the wakes end, with a cond seat that is seen as c before and as d after, of a condvar with the limits `own`, and which tries
+  -- so often at most before it queues for the list
 
   -- before the inner mutex was locked
   abbrev pub WakeRefused : Limits → Sight Waiters → Sight Waiters → Sight T → Sight T → Refusal → Type 0
@@ -57,12 +58,12 @@ module _ {T : Type 0} where
   WakeRefused own c d s t Refusal.Spent = (s.asleep ≡ false) × (own.budget ≤ c.takes) × (d ≡ c) × (t ≡ s)
   WakeRefused own c d s t r = ⊥
 
-  abbrev pub WakeOneEnds : ℕ → Limits → Sight Waiters → Sight Waiters → Sight T → Sight T → Result (Option (ℕ × ℕ)) Refusal → Type 0
-  WakeOneEnds n own c d s t (Err Refusal.Asleep) = WakeRefused own c d s t Refusal.Asleep
-  WakeOneEnds n own c d s t (Err Refusal.Spent) = WakeRefused own c d s t Refusal.Spent
-  WakeOneEnds n own c d s t r = (v : Waiters) × (w : Waiters) × HeldOnce own.budget c d v w × SendsOldest n s t v w r × StepsOfOneHold own c d
+  abbrev pub WakeOneEnds : ℕ → Limits → ℕ → Sight Waiters → Sight Waiters → Sight T → Sight T → Result (Option (ℕ × ℕ)) Refusal → Type 0
+  WakeOneEnds n own tries c d s t (Err Refusal.Asleep) = WakeRefused own c d s t Refusal.Asleep
+  WakeOneEnds n own tries c d s t (Err Refusal.Spent) = WakeRefused own c d s t Refusal.Spent
+  WakeOneEnds n own tries c d s t r = (v : Waiters) × (w : Waiters) × HeldOnce own.budget c d v w × SendsOldest n s t v w r × StepsOfOneHold own tries c d
 
-  abbrev pub WakeAllEnds : ℕ → Limits → Sight Waiters → Sight Waiters → Sight T → Sight T → Result ℕ Refusal → Type 0
-  WakeAllEnds n own c d s t (Err Refusal.Asleep) = WakeRefused own c d s t Refusal.Asleep
-  WakeAllEnds n own c d s t (Err Refusal.Spent) = WakeRefused own c d s t Refusal.Spent
-  WakeAllEnds n own c d s t r = (v : Waiters) × (w : Waiters) × HeldOnce own.budget c d v w × SendsAll n s t v w r × StepsOfOneHold own c d
+  abbrev pub WakeAllEnds : ℕ → Limits → ℕ → Sight Waiters → Sight Waiters → Sight T → Sight T → Result ℕ Refusal → Type 0
+  WakeAllEnds n own tries c d s t (Err Refusal.Asleep) = WakeRefused own c d s t Refusal.Asleep
+  WakeAllEnds n own tries c d s t (Err Refusal.Spent) = WakeRefused own c d s t Refusal.Spent
+  WakeAllEnds n own tries c d s t r = (v : Waiters) × (w : Waiters) × HeldOnce own.budget c d v w × SendsAll n s t v w r × StepsOfOneHold own tries c d

@@ -1,7 +1,7 @@
 //! One hold of the inner mutex: a cond seat locks it, and gives it back with the list that it made.
 ghost use Rattle.std.specs.Prelude.{◌≡◌, ◌≤◌, IfErr, IfOk, false};
 ghost use Rattle.lfm_model.specs.declared.refusals.Refusal.TheVariants.{Spent};
-ghost use Rattle.lfm_mutex.specs.Belongs.{Beside, OfMutex, limits_of};
+ghost use Rattle.lfm_mutex.specs.Belongs.{Beside, OfMutex, limits_of, tries_of};
 ghost use Rattle.lfm_mutex.specs.calls.Sight.{sight, LeavesOff, MayLeave};
 ghost use Rattle.lfm_condvar.specs.Holds.{CondKept, InHand, LeavesList, LocksList, MadeFor};
 ghost use Rattle.lfm_condvar.specs.Keeping.{WaitersFollow};
@@ -11,7 +11,7 @@ use lfm_model::{Locked, Refusal};
 use lfm_mutex::{Mutex, Seat};
 use std::sync::Wait;
 
-/// Locks the inner mutex. It is refused as Spent alone.
+/// Locks the inner mutex: the cond seat tries as often as the pace says, and then queues. It is refused as Spent alone.
 pub fn lock_list<R: Wait>(
     inner: &Mutex<Waiters>,
     rt: &R,
@@ -22,10 +22,10 @@ pub fn lock_list<R: Wait>(
     requires kept { CondKept (sight cond.old) }
     ensures belongs { Beside cond.old cond.new }
     ensures held { IfOk result (λ _. (v : _) × InHand (limits_of inner.now) (sight cond.old) (sight cond.new) v v) }
-    ensures steps { IfOk result (λ _. LocksList (limits_of inner.now) (sight cond.old) (sight cond.new)) }
+    ensures steps { IfOk result (λ _. LocksList (limits_of inner.now) (tries_of inner.now) (sight cond.old) (sight cond.new)) }
     ensures refused { IfErr result (λ r. (r ≡ Spent) × ((limits_of inner.now).budget ≤ (sight cond.old).takes) × (sight cond.new ≡ sight cond.old)) }
 {
-    let locked = match inner.lock(rt, cond) {
+    let locked = match inner.lock_barging(rt, cond) {
         Ok(locked) => locked,
         Err(refusal) => return Err(refusal),
     };

@@ -3,7 +3,7 @@ ghost use Rattle.std.specs.Prelude.{◌≡◌, ◌<◌, ◌≤◌, ℕ, Some, If
 ghost use Rattle.lfm_model.specs.declared.refusals.Refusal.TheVariants.{Busy};
 ghost use Rattle.lfm_mutex.specs.Belongs.{Beside, OfMutex, limits_of};
 ghost use Rattle.lfm_mutex.specs.calls.Sight.{sight, MayRelease};
-ghost use Rattle.lfm_condvar.specs.Belongs.{OfCondvar, cond_limits, cond_sight};
+ghost use Rattle.lfm_condvar.specs.Belongs.{OfCondvar, cond_limits, cond_sight, cond_tries};
 ghost use Rattle.lfm_condvar.specs.Holds.{StepsOfOneHold, HeldOnce, Rewrites};
 ghost use Rattle.lfm_condvar.specs.Waits.{BeginWaitEnds, Enlists, MayWait, WaitEnds};
 
@@ -55,7 +55,7 @@ impl Condvar {
         requires known { (sight seat.old).number ≤ (cond_limits self.now).seats }
         ensures belongs { OfCondvar cond.new self.now × Beside seat.old seat.new }
         ensures enlists { (v : _) × (w : _) × HeldOnce (cond_limits self.now).budget (cond_sight cond.old) (cond_sight cond.new) v w × Enlists (limits_of mutex.now) (cond_sight cond.old).number (sight seat.old) (sight seat.new) v w result }
-        ensures steps { StepsOfOneHold (cond_limits self.now) (cond_sight cond.old) (cond_sight cond.new) }
+        ensures steps { StepsOfOneHold (cond_limits self.now) (cond_tries self.now) (cond_sight cond.old) (cond_sight cond.new) }
         ensures busy { IfErr result (λ r. r ≡ Busy) }
     {
         match lock_list(&self.inner, rt, &mut cond.seat) {
@@ -84,7 +84,7 @@ impl Condvar {
         requires belongs { OfCondvar cond.old self.now × OfMutex seat.old mutex.now }
         requires leaves { MayRelease T.follows T.fits (sight seat.old) }
         ensures belongs { OfCondvar cond.new self.now × Beside seat.old seat.new }
-        ensures begins { BeginWaitEnds (limits_of mutex.now) (cond_limits self.now) (cond_sight cond.old) (cond_sight cond.new) (sight seat.old) (sight seat.new) result }
+        ensures begins { BeginWaitEnds (limits_of mutex.now) (cond_limits self.now) (cond_tries self.now) (cond_sight cond.old) (cond_sight cond.new) (sight seat.old) (sight seat.new) result }
     {
         if let Some(refusal) = bars_wait(seat) {
             return Err(refusal);
@@ -117,7 +117,7 @@ impl Condvar {
         requires belongs { OfCondvar cond.old self.now × OfMutex seat.old mutex.now }
         requires leaves { MayRelease T.follows T.fits (sight seat.old) }
         ensures belongs { OfCondvar cond.new self.now × Beside seat.old seat.new }
-        ensures waits { WaitEnds T.follows T.fits (limits_of mutex.now) (cond_limits self.now) (cond_sight cond.old) (cond_sight cond.new) (sight seat.old) (sight seat.new) result }
+        ensures waits { WaitEnds T.follows T.fits (limits_of mutex.now) (cond_limits self.now) (cond_tries self.now) (cond_sight cond.old) (cond_sight cond.new) (sight seat.old) (sight seat.new) result }
     {
         let ticket = self.begin_wait(rt, cond, mutex, seat)?;
         match mutex.receive_lock_within(rt, seat, LOOKS) {

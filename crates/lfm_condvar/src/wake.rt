@@ -2,7 +2,7 @@
 ghost use Rattle.std.specs.Prelude.{◌≡◌, ◌<◌, ◌≤◌, ℕ, Some, false};
 ghost use Rattle.lfm_mutex.specs.Belongs.{Beside, OfMutex, limits_of};
 ghost use Rattle.lfm_mutex.specs.calls.Sight.{sight};
-ghost use Rattle.lfm_condvar.specs.Belongs.{OfCondvar, cond_limits, cond_sight};
+ghost use Rattle.lfm_condvar.specs.Belongs.{OfCondvar, cond_limits, cond_sight, cond_tries};
 ghost use Rattle.lfm_condvar.specs.Holds.{Rewrites};
 ghost use Rattle.lfm_condvar.specs.Keeping.{WaitersFollow};
 ghost use Rattle.lfm_condvar.specs.Wakes.{SendsAll, SendsBy, SendsOldest, WakeAllEnds, WakeOneEnds};
@@ -101,7 +101,7 @@ impl Condvar {
         requires belongs { OfCondvar cond.old self.now × OfMutex seat.old mutex.now }
         requires wide { (cond_limits self.now).seats ≤ (limits_of mutex.now).seats }
         ensures belongs { OfCondvar cond.new self.now × Beside seat.old seat.new }
-        ensures wakes { WakeOneEnds (limits_of mutex.now).seats (cond_limits self.now) (cond_sight cond.old) (cond_sight cond.new) (sight seat.old) (sight seat.new) result }
+        ensures wakes { WakeOneEnds (limits_of mutex.now).seats (cond_limits self.now) (cond_tries self.now) (cond_sight cond.old) (cond_sight cond.new) (sight seat.old) (sight seat.new) result }
         ensures steps { SendsBy (limits_of mutex.now) (sight seat.old) (sight seat.new) result }
     {
         if seat.asleep() {
@@ -134,7 +134,7 @@ impl Condvar {
         requires belongs { OfCondvar cond.old self.now × OfMutex seat.old mutex.now }
         requires wide { (cond_limits self.now).seats ≤ (limits_of mutex.now).seats }
         ensures belongs { OfCondvar cond.new self.now × Beside seat.old seat.new }
-        ensures wakes { WakeAllEnds (limits_of mutex.now).seats (cond_limits self.now) (cond_sight cond.old) (cond_sight cond.new) (sight seat.old) (sight seat.new) result }
+        ensures wakes { WakeAllEnds (limits_of mutex.now).seats (cond_limits self.now) (cond_tries self.now) (cond_sight cond.old) (cond_sight cond.new) (sight seat.old) (sight seat.new) result }
         ensures steps { SendsBy (limits_of mutex.now) (sight seat.old) (sight seat.new) result }
     {
         if seat.asleep() {

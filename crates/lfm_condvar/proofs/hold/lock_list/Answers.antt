@@ -10,7 +10,7 @@ use Rattle.lfm_condvar.specs.Keeping.{WaitersFollow}
 use Rattle.lfm_condvar.proofs.hold.lock_list.Goals as goal
 
 pub returns-clause-held : goal.returns-clause-held
-returns-clause-held g c = got c.in-Held.field-0 (limits_of c.args.inner.now) (sight c.args.cond.now) (sight c.lock.new.seat) c.requires.kept c.requires.made (rw c.in-Held.is at c.in-Ok.ensures.locks)
+returns-clause-held g c = got c.in-Held.field-0 (limits_of c.args.inner.now) (sight c.args.cond.now) (sight c.lock_barging.new.seat) c.requires.kept c.requires.made (rw c.in-Held.is at c.in-Ok.ensures.locks)
 
 pub returns-clause-steps : goal.returns-clause-steps
 returns-clause-steps g c = (c.in-Held.field-0, rw c.in-Held.is at c.in-Ok.ensures.steps)
@@ -27,4 +27,4 @@ spent_alone budget s t NotWaiting kept e = absurd e.0
 spent_alone budget s t Busy kept e = absurd e.0
 
 pub returns-in-Err-clause-refused : goal.returns-in-Err-clause-refused
-returns-in-Err-clause-refused g c = spent_alone (limits_of c.args.inner.now).budget (sight c.args.cond.now) (sight c.lock.new.seat) c.in-Err.refusal c.requires.kept c.in-Err.ensures.locks
+returns-in-Err-clause-refused g c = spent_alone (limits_of c.args.inner.now).budget (sight c.args.cond.now) (sight c.lock_barging.new.seat) c.in-Err.refusal c.requires.kept c.in-Err.ensures.locks

@@ -1,7 +1,7 @@
 use Rattle.std.proofs.Common.{◌≡◌, ◌≤◌, ℕ, Result, Ok, Err, refl, sym, ap, ◌∙◌, subst, arith}
 use Rattle.lfm_mutex.specs.Belongs.{limits_of}
 use Rattle.lfm_mutex.specs.calls.Sight.{Sight, sight}
-use Rattle.lfm_condvar.specs.Belongs.{cond_limits, cond_sight}
+use Rattle.lfm_condvar.specs.Belongs.{cond_limits, cond_sight, cond_tries}
 use Rattle.lfm_condvar.specs.Waits.{Enlists, MayWait}
 use Rattle.lfm_condvar.proofs.OneHold.{held_by, one_hold, one_some}
 use Rattle.std.specs.Prelude.{IfErr}
@@ -18,7 +18,7 @@ returns-clause-enlists g c = let a = c.args in let h = c.in-Ok.ensures.held in l
 
 pub returns-clause-steps : goal.returns-clause-steps
 returns-clause-steps g c = let a = c.args in let e = c.enlist_in_hand-enlisted.ensures.enlists in
-    held_by (cond_limits a.self.now) (cond_sight a.cond.now) (sight c.lock_list.new.cond) (sight c.enlist_in_hand-enlisted.new.cond) (sight c.leave_list.new.cond) e.0 e.1 c.in-Ok.ensures.steps e.2 c.leave_list.ensures.steps
+    held_by (cond_limits a.self.now) (cond_tries a.self.now) (cond_sight a.cond.now) (sight c.lock_list.new.cond) (sight c.enlist_in_hand-enlisted.new.cond) (sight c.leave_list.new.cond) e.0 e.1 c.in-Ok.ensures.steps e.2 c.leave_list.ensures.steps
 
 -- a seat that could make start_wait, and has a number of the condvar's, is refused as Busy alone
 only_busy : {T : Type 0} (user : Limits) (by : ℕ) (s t : Sight T) (v w : Waiters) (r : Result ℕ Refusal) → MayWait user.budget s → s.number ≤ v.seats → Enlists user by s t v w r → IfErr r (λ x. x ≡ Busy)

@@ -1,12 +1,12 @@
 use Rattle.lfm_mutex.specs.Belongs.{limits_of}
 use Rattle.lfm_mutex.specs.calls.Sight.{sight}
-use Rattle.lfm_condvar.specs.Belongs.{cond_limits, cond_sight}
+use Rattle.lfm_condvar.specs.Belongs.{cond_limits, cond_sight, cond_tries}
 use Rattle.lfm_condvar.proofs.Enlisted.{ends_refused}
 use Rattle.lfm_condvar.proofs.condvar.Condvar.wait.Goals as goal
 
 pub returns-in_err-ticket-clause-waits : goal.returns-in_err-ticket-clause-waits
 returns-in_err-ticket-clause-waits g c =
-    ends_refused g.T.Kept.follows g.T.Kept.fits (limits_of c.args.mutex.now) (cond_limits c.args.self.now) (cond_sight c.args.cond.now) _ (sight c.args.seat.now) _ _ _ c.from_residual.ensures.1
+    ends_refused g.T.Kept.follows g.T.Kept.fits (limits_of c.args.mutex.now) (cond_limits c.args.self.now) (cond_tries c.args.self.now) (cond_sight c.args.cond.now) _ (sight c.args.seat.now) _ _ _ c.from_residual.ensures.1
     c.in_err-ticket.ensures.begins
 
 pub returns-clause-waits : goal.returns-clause-waits

@@ -3,7 +3,7 @@ use Rattle.std.specs.Fn.{FnReturnsAt}
 use Rattle.lfm_model.specs.declared.refusals.Refusal.{Refusal}
 use Rattle.lfm_mutex.specs.Belongs.{limits_of}
 use Rattle.lfm_mutex.specs.calls.Sight.{Sight, sight}
-use Rattle.lfm_condvar.specs.Belongs.{cond_limits, cond_sight}
+use Rattle.lfm_condvar.specs.Belongs.{cond_limits, cond_sight, cond_tries}
 use Rattle.lfm_condvar.specs.Repeated.{NeedNotWait, WaitWhileEnds, WouldWait}
 use Rattle.lfm_condvar.proofs.Repeating.{as_deep, handed_on, if_true, may_again, stays}
 use Rattle.lfm_condvar.proofs.condvar.Condvar.wait_while.Goals as goal
@@ -13,22 +13,22 @@ waits-init g c = record { belongs = c.requires.belongs; beside = (refl, refl); l
 
 -- one more wait was needed
 pub waits-preserved : goal.waits-preserved
-waits-preserved g c = let i = c.waits.invariant in let e = c.in_ok-_waited.ensures in let user = limits_of c.args.mutex.now in let own = cond_limits c.args.self.now in
+waits-preserved g c = let i = c.waits.invariant in let e = c.in_ok-_waited.ensures in let user = limits_of c.args.mutex.now in let own = cond_limits c.args.self.now in let tries = cond_tries c.args.self.now in
     let c' = cond_sight c.waits.cond in let d = cond_sight c.wait.new.cond in let s = sight c.waits.seat in let t = sight c.wait.new.seat in
     let says = (λ (v : _) (b : _). FnReturnsAt g.F.Fn c.args.condition v b) in let must : c.must_wait.result ≡ true = cc in record {
       belongs = (e.belongs.0, (e.belongs.1.0 ∙ i.belongs.1.0, e.belongs.1.1 ∙ i.belongs.1.1));
       beside = (e.belongs.1.0 ∙ i.beside.0, e.belongs.1.1 ∙ i.beside.1);
-      leaves = may_again g.T.Kept.follows g.T.Kept.fits user own c.in_ok-_waited._waited c' d s t c.requires.keeps e.waits;
-      depth = as_deep g.T.Kept.follows g.T.Kept.fits user own c.in_ok-_waited._waited c' d s t e.waits ∙ i.depth;
+      leaves = may_again g.T.Kept.follows g.T.Kept.fits user own tries c.in_ok-_waited._waited c' d s t c.requires.keeps e.waits;
+      depth = as_deep g.T.Kept.follows g.T.Kept.fits user own tries c.in_ok-_waited._waited c' d s t e.waits ∙ i.depth;
       waits = (suc i.waits.0, (c', s, c.in_ok-_waited._waited, i.waits.1, if_true c.must_wait.result (WouldWait says s) (NeedNotWait says s) must c.must_wait.ensures, e.waits));
     }
 
 pub returns-in_err-_waited-clause-depth : goal.returns-in_err-_waited-clause-depth
 returns-in_err-_waited-clause-depth g c =
-    ap (λ (u : Sight _). u.depth) (stays (limits_of c.args.mutex.now) (cond_limits c.args.self.now) _ (cond_sight c.waits.cond) (cond_sight c.wait.new.cond) (sight c.waits.seat) (sight c.wait.new.seat) c.in_err-_waited.ensures.waits) ∙ c.waits.invariant.depth
+    ap (λ (u : Sight _). u.depth) (stays (limits_of c.args.mutex.now) (cond_limits c.args.self.now) (cond_tries c.args.self.now) _ (cond_sight c.waits.cond) (cond_sight c.wait.new.cond) (sight c.waits.seat) (sight c.wait.new.seat) c.in_err-_waited.ensures.waits) ∙ c.waits.invariant.depth
 
 pub returns-in_err-_waited-clause-waits : goal.returns-in_err-_waited-clause-waits
-returns-in_err-_waited-clause-waits g c = let i = c.waits.invariant in let e = c.in_err-_waited.ensures in let user = limits_of c.args.mutex.now in let own = cond_limits c.args.self.now in let s = sight c.waits.seat in
+returns-in_err-_waited-clause-waits g c = let i = c.waits.invariant in let e = c.in_err-_waited.ensures in let user = limits_of c.args.mutex.now in let own = cond_limits c.args.self.now in let tries = cond_tries c.args.self.now in let s = sight c.waits.seat in
     let says = (λ (v : _) (b : _). FnReturnsAt g.F.Fn c.args.condition v b) in let must : c.must_wait.result ≡ true = cc in
-    handed_on (λ (q : Result _ Refusal). WaitWhileEnds g.T.Kept.follows g.T.Kept.fits user own says (cond_sight c.args.cond.now) (cond_sight c.wait.new.cond) (sight c.args.seat.now) (sight c.wait.new.seat) q) _ _ c.from_residual.ensures.1
+    handed_on (λ (q : Result _ Refusal). WaitWhileEnds g.T.Kept.follows g.T.Kept.fits user own tries says (cond_sight c.args.cond.now) (cond_sight c.wait.new.cond) (sight c.args.seat.now) (sight c.wait.new.seat) q) _ _ c.from_residual.ensures.1
     (i.waits.0, (cond_sight c.waits.cond), s, i.waits.1, if_true c.must_wait.result (WouldWait says s) (NeedNotWait says s) must c.must_wait.ensures, e.waits)

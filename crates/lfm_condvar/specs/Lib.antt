@@ -1,4 +1,5 @@
 pub mod Belongs
+pub mod HeldBack
 pub mod Holds
 pub mod Keeping
 pub mod Lists

@@ -3,6 +3,7 @@ ghost use Rattle.std.specs.Prelude.{◌≡◌, ◌<◌, ◌≤◌, ℕ, Some, If
 ghost use Rattle.lfm_model.specs.declared.refusals.Refusal.TheVariants.{Busy};
 ghost use Rattle.lfm_mutex.specs.Belongs.{Beside, OfMutex, limits_of};
 ghost use Rattle.lfm_mutex.specs.calls.Sight.{sight, MayRelease};
+ghost use Rattle.lfm_mutex.specs.calls.WakeUps.{Wakes};
 ghost use Rattle.lfm_condvar.specs.Belongs.{OfCondvar, cond_limits, cond_sight, cond_tries};
 ghost use Rattle.lfm_condvar.specs.Holds.{StepsOfOneHold, HeldOnce, Rewrites};
 ghost use Rattle.lfm_condvar.specs.Waits.{BeginWaitEnds, Enlists, MayWait, WaitEnds};
@@ -10,53 +11,55 @@ ghost use Rattle.lfm_condvar.specs.Waits.{BeginWaitEnds, Enlists, MayWait, WaitE
 use crate::cond_seat::CondSeat;
 use crate::condvar::Condvar;
 use crate::hold::{leave_list, lock_list};
-use crate::waiters::enlist::enlist;
-use crate::waiters::{Waiters, bars_wait};
+use crate::waiters::{Waiters, bars_wait, enlist_without_waking};
 use lfm_model::{How, Refusal};
-use lfm_mutex::{Kept, Mutex, Seat};
+use lfm_mutex::{Kept, Mutex, Seat, WakeUp};
 use std::sync::Wait;
 
 // A waiter is sent after a time that nobody knows, so it sleeps after its first receive.
 const LOOKS: u32 = 0;
 
-// Lends the list in hand to `enlist`.
+// Lends the list in hand to `enlist_without_waking`.
 fn enlist_in_hand<T: Kept>(
     cond: &mut Seat<Waiters>,
     mutex: &Mutex<T>,
     seat: &mut Seat<T>,
-) -> Result<u64, Refusal>
+) -> (Result<u64, Refusal>, Option<WakeUp>)
     requires belongs { OfMutex seat.old mutex.now }
     requires held { 0 < (sight cond.old).depth }
     requires may { (v : _) → (sight cond.old).value ≡ Some v → ((sight cond.old).number ≤ v.seats) × (slice_index v.counts.items (sight cond.old).number < v.budget) }
     requires leaves { MayRelease T.follows T.fits (sight seat.old) }
     ensures belongs { Beside cond.old cond.new × Beside seat.old seat.new }
-    ensures enlists { (v : _) × (w : _) × Rewrites (sight cond.old) (sight cond.new) v w × Enlists (limits_of mutex.now) (sight cond.old).number (sight seat.old) (sight seat.new) v w result }
+    ensures enlists { (v : _) × (w : _) × Rewrites (sight cond.old) (sight cond.new) v w × Enlists (limits_of mutex.now) (sight cond.old).number (sight seat.old) (sight seat.new) v w result.0 }
+    ensures wakes { Wakes (limits_of mutex.now).seats result.1 (sight seat.old).trail (sight seat.new).trail }
 {
     let by = cond.number();
     let Some(waiters) = cond.value_mut() else {
         unreachable!()
     };
-    enlist(waiters, by, mutex, seat)
+    enlist_without_waking(waiters, by, mutex, seat)
 }
 
 impl Condvar {
-    // Enlists the user seat in one hold of the inner mutex. Only Busy is left to refuse it.
+    // Enlists the user seat in one hold of the inner mutex. Only Busy is left to refuse it. The wake-up of the seat that is
+    // granted the user mutex is handed out, so that its thread doesn't wake while the list is held.
     fn enlist_in_one_hold<T: Kept, R: Wait>(
         &self,
         rt: &R,
         cond: &mut CondSeat,
         mutex: &Mutex<T>,
         seat: &mut Seat<T>,
-    ) -> Result<u64, Refusal>
+    ) -> (Result<u64, Refusal>, Option<WakeUp>)
         requires belongs { OfCondvar cond.old self.now × OfMutex seat.old mutex.now }
         requires leaves { MayRelease T.follows T.fits (sight seat.old) }
         requires may { MayWait (limits_of mutex.now).budget (sight seat.old) }
         requires spare { (cond_sight cond.old).takes < (cond_limits self.now).budget }
         requires known { (sight seat.old).number ≤ (cond_limits self.now).seats }
         ensures belongs { OfCondvar cond.new self.now × Beside seat.old seat.new }
-        ensures enlists { (v : _) × (w : _) × HeldOnce (cond_limits self.now).budget (cond_sight cond.old) (cond_sight cond.new) v w × Enlists (limits_of mutex.now) (cond_sight cond.old).number (sight seat.old) (sight seat.new) v w result }
+        ensures enlists { (v : _) × (w : _) × HeldOnce (cond_limits self.now).budget (cond_sight cond.old) (cond_sight cond.new) v w × Enlists (limits_of mutex.now) (cond_sight cond.old).number (sight seat.old) (sight seat.new) v w result.0 }
         ensures steps { StepsOfOneHold (cond_limits self.now) (cond_tries self.now) (cond_sight cond.old) (cond_sight cond.new) }
-        ensures busy { IfErr result (λ r. r ≡ Busy) }
+        ensures busy { IfErr result.0 (λ r. r ≡ Busy) }
+        ensures wakes { Wakes (limits_of mutex.now).seats result.1 (sight seat.old).trail (sight seat.new).trail }
     {
         match lock_list(&self.inner, rt, &mut cond.seat) {
             Ok(()) => {}
@@ -73,7 +76,7 @@ impl Condvar {
     /// waited on this condvar, and on.
     ///
     /// Refuses as `wait`, in the same order, and costs what `wait` costs. It may sleep until it has the list. It takes no
-    /// memory, and wakes the seat that it grants a mutex, if any.
+    /// memory, and wakes the seat that it grants a mutex, if any: one that is granted the user mutex after the list is given back.
     pub fn begin_wait<T: Kept, R: Wait>(
         &self,
         rt: &R,
@@ -95,7 +98,9 @@ impl Condvar {
         if seat.number().get() > self.seats {
             return Err(Refusal::NoSuchSeat);
         }
-        self.enlist_in_one_hold(rt, cond, mutex, seat)
+        let (ticket, wake_up) = self.enlist_in_one_hold(rt, cond, mutex, seat);
+        mutex.wake(wake_up);
+        ticket
     }
 
     /// Gives up the user mutex, which the seat holds at depth 1, and waits until another seat sends this one by a wake. It

@@ -8,9 +8,10 @@ mod debug;
 pub mod enlist;
 mod send;
 
-pub(crate) use enlist::bars_wait;
+pub(crate) use enlist::{bars_wait, enlist_without_waking};
 use lfm_model::SeatNo;
 pub use send::send_oldest;
+pub(crate) use send::send_oldest_without_waking;
 use std::alloc::{AllocError, Global};
 use std::collections::VecDeque;
 

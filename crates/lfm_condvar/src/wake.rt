@@ -1,64 +1,92 @@
-//! How waiters are woken: in one hold of the inner mutex the oldest, or all, oldest first, are made lockers of the user mutex.
+//! How waiters are woken: in one hold of the inner mutex the oldest, or all, oldest first, are made lockers of the user mutex. The
+//! thread of one that is granted it is woken after that hold.
 ghost use Rattle.std.specs.Prelude.{◌≡◌, ◌<◌, ◌≤◌, ℕ, Some, false};
 ghost use Rattle.lfm_mutex.specs.Belongs.{Beside, OfMutex, limits_of};
 ghost use Rattle.lfm_mutex.specs.calls.Sight.{sight};
+ghost use Rattle.lfm_mutex.specs.calls.WakeUps.{Wakes};
 ghost use Rattle.lfm_condvar.specs.Belongs.{OfCondvar, cond_limits, cond_sight, cond_tries};
 ghost use Rattle.lfm_condvar.specs.Holds.{Rewrites};
 ghost use Rattle.lfm_condvar.specs.Keeping.{WaitersFollow};
+ghost use Rattle.lfm_condvar.specs.HeldBack.{HoldsLastBack, later_of};
 ghost use Rattle.lfm_condvar.specs.Wakes.{SendsAll, SendsBy, SendsOldest, WakeAllEnds, WakeOneEnds};
 
 use crate::cond_seat::CondSeat;
 use crate::condvar::Condvar;
 use crate::hold::{leave_list, lock_list};
-use crate::waiters::{Waiters, send_oldest};
+use crate::waiters::{Waiters, send_oldest_without_waking};
 use lfm_model::{Refusal, SeatNo};
-use lfm_mutex::{Kept, Mutex, Seat};
+use lfm_mutex::{Kept, Mutex, Seat, WakeUp};
 use std::sync::Wait;
 
-// Sends all that wait, oldest first, up to one that doesn't wait to be sent, and counts them.
-fn send_all<T: Kept>(
-    waiters: &mut Waiters,
+// The later of two wake-ups, which is held back. The earlier one is spent at once, since there is no memory to keep it in.
+fn hold_back<T: Kept>(
     mutex: &Mutex<T>,
-    seat: &mut Seat<T>,
-) -> Result<u64, Refusal>
-    requires belongs { OfMutex seat.old mutex.now }
-    requires wide { waiters.old.seats ≤ (limits_of mutex.now).seats }
-    requires awake { (sight seat.old).asleep ≡ false }
-    ensures belongs { Beside seat.old seat.new }
-    ensures sends { SendsAll (limits_of mutex.now).seats (sight seat.old) (sight seat.new) waiters.old waiters.new result }
-    ensures steps { SendsBy (limits_of mutex.now) (sight seat.old) (sight seat.new) result }
-    ensures follows { (s : ℕ) → WaitersFollow s waiters.old waiters.new }
+    held: Option<WakeUp>,
+    next: Option<WakeUp>,
+) -> Option<WakeUp>
+    requires inside { (t : ℕ) → held ≡ Some t → t ≤ (limits_of mutex.now).seats }
+    ensures later { result ≡ later_of held next }
 {
-    let mut sent = 0u64;
-    'sends: loop {
-        let oldest = match send_oldest(waiters, mutex, seat) {
-            Ok(oldest) => oldest,
-            Err(refusal) => return Err(refusal),
-        };
-        match oldest {
-            Some(_) => sent += 1,
-            None => return Ok(sent),
+    match next {
+        None => held,
+        Some(wake_up) => {
+            mutex.wake(held);
+            Some(wake_up)
         }
     }
 }
 
-// Lends the list in hand to `send_oldest`.
+// Sends all that wait, oldest first, up to one that doesn't wait to be sent, and counts them. The wake-up of the last seat that was
+// granted the user mutex is handed out. Mostly it is the only one: a second seat is granted the mutex only if the first has given it
+// up meanwhile, and the first is then awake already.
+fn send_all<T: Kept>(
+    waiters: &mut Waiters,
+    mutex: &Mutex<T>,
+    seat: &mut Seat<T>,
+) -> (Result<u64, Refusal>, Option<WakeUp>)
+    requires belongs { OfMutex seat.old mutex.now }
+    requires wide { waiters.old.seats ≤ (limits_of mutex.now).seats }
+    requires awake { (sight seat.old).asleep ≡ false }
+    ensures belongs { Beside seat.old seat.new }
+    ensures sends { SendsAll (limits_of mutex.now).seats (sight seat.old) (sight seat.new) waiters.old waiters.new result.0 }
+    ensures steps { SendsBy (limits_of mutex.now) (sight seat.old) (sight seat.new) result.0 }
+    ensures follows { (s : ℕ) → WaitersFollow s waiters.old waiters.new }
+    ensures wakes { HoldsLastBack (limits_of mutex.now).seats result.1 (sight seat.old).trail (sight seat.new).trail }
+{
+    let mut sent = 0u64;
+    let mut held = None;
+    'sends: loop {
+        let (answer, wake_up) = send_oldest_without_waking(waiters, mutex, seat);
+        held = hold_back(mutex, held, wake_up);
+        let oldest = match answer {
+            Ok(oldest) => oldest,
+            Err(refusal) => return (Err(refusal), held),
+        };
+        match oldest {
+            Some(_) => sent += 1,
+            None => return (Ok(sent), held),
+        }
+    }
+}
+
+// Lends the list in hand to `send_oldest_without_waking`.
 fn send_oldest_in_hand<T: Kept>(
     cond: &mut Seat<Waiters>,
     mutex: &Mutex<T>,
     seat: &mut Seat<T>,
-) -> Result<Option<(SeatNo, u64)>, Refusal>
+) -> (Result<Option<(SeatNo, u64)>, Refusal>, Option<WakeUp>)
     requires belongs { OfMutex seat.old mutex.now }
     requires held { 0 < (sight cond.old).depth }
     requires wide { (v : _) → (sight cond.old).value ≡ Some v → v.seats ≤ (limits_of mutex.now).seats }
     ensures belongs { Beside cond.old cond.new × Beside seat.old seat.new }
-    ensures sends { (v : _) × (w : _) × Rewrites (sight cond.old) (sight cond.new) v w × SendsOldest (limits_of mutex.now).seats (sight seat.old) (sight seat.new) v w result }
-    ensures steps { SendsBy (limits_of mutex.now) (sight seat.old) (sight seat.new) result }
+    ensures sends { (v : _) × (w : _) × Rewrites (sight cond.old) (sight cond.new) v w × SendsOldest (limits_of mutex.now).seats (sight seat.old) (sight seat.new) v w result.0 }
+    ensures steps { SendsBy (limits_of mutex.now) (sight seat.old) (sight seat.new) result.0 }
+    ensures wakes { Wakes (limits_of mutex.now).seats result.1 (sight seat.old).trail (sight seat.new).trail }
 {
     let Some(waiters) = cond.value_mut() else {
         unreachable!()
     };
-    send_oldest(waiters, mutex, seat)
+    send_oldest_without_waking(waiters, mutex, seat)
 }
 
 // Lends the list in hand to `send_all`.
@@ -66,14 +94,15 @@ fn send_all_in_hand<T: Kept>(
     cond: &mut Seat<Waiters>,
     mutex: &Mutex<T>,
     seat: &mut Seat<T>,
-) -> Result<u64, Refusal>
+) -> (Result<u64, Refusal>, Option<WakeUp>)
     requires belongs { OfMutex seat.old mutex.now }
     requires held { 0 < (sight cond.old).depth }
     requires wide { (v : _) → (sight cond.old).value ≡ Some v → v.seats ≤ (limits_of mutex.now).seats }
     requires awake { (sight seat.old).asleep ≡ false }
     ensures belongs { Beside cond.old cond.new × Beside seat.old seat.new }
-    ensures sends { (v : _) × (w : _) × Rewrites (sight cond.old) (sight cond.new) v w × SendsAll (limits_of mutex.now).seats (sight seat.old) (sight seat.new) v w result }
-    ensures steps { SendsBy (limits_of mutex.now) (sight seat.old) (sight seat.new) result }
+    ensures sends { (v : _) × (w : _) × Rewrites (sight cond.old) (sight cond.new) v w × SendsAll (limits_of mutex.now).seats (sight seat.old) (sight seat.new) v w result.0 }
+    ensures steps { SendsBy (limits_of mutex.now) (sight seat.old) (sight seat.new) result.0 }
+    ensures wakes { HoldsLastBack (limits_of mutex.now).seats result.1 (sight seat.old).trail (sight seat.new).trail }
 {
     let Some(waiters) = cond.value_mut() else {
         unreachable!()
@@ -90,7 +119,7 @@ impl Condvar {
     /// condvar brings. It stays in the list, and that costs the cond seat its take.
     ///
     /// A wake costs the cond seat one take, and the user seat none. It takes no memory, may sleep until it has the inner
-    /// mutex, and wakes the seat that it grants a mutex, if any.
+    /// mutex, and wakes the seat that it grants a mutex, if any: one that is granted the user mutex after the list is given back.
     pub fn wake_one<T: Kept, R: Wait>(
         &self,
         rt: &R,
@@ -111,8 +140,9 @@ impl Condvar {
             Ok(()) => {}
             Err(refusal) => return Err(refusal),
         }
-        let sent = send_oldest_in_hand(&mut cond.seat, mutex, seat);
+        let (sent, wake_up) = send_oldest_in_hand(&mut cond.seat, mutex, seat);
         leave_list(&self.inner, &mut cond.seat);
+        mutex.wake(wake_up);
         sent
     }
 
@@ -123,7 +153,8 @@ impl Condvar {
     /// in the list; the earlier ones were sent.
     ///
     /// It costs the cond seat one take, however many are sent. It takes no memory, may sleep until it has the inner mutex,
-    /// and wakes the seats that it grants a mutex, if any.
+    /// and wakes the seats that it grants a mutex, if any: the last one that is granted the user mutex after the list is given
+    /// back, and an earlier one when the next is granted it.
     pub fn wake_all<T: Kept, R: Wait>(
         &self,
         rt: &R,
@@ -144,8 +175,9 @@ impl Condvar {
             Ok(()) => {}
             Err(refusal) => return Err(refusal),
         }
-        let sent = send_all_in_hand(&mut cond.seat, mutex, seat);
+        let (sent, last) = send_all_in_hand(&mut cond.seat, mutex, seat);
         leave_list(&self.inner, &mut cond.seat);
+        mutex.wake(last);
         sent
     }
 }

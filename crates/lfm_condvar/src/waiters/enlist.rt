@@ -2,12 +2,13 @@
 ghost use Rattle.std.specs.Prelude.{◌≡◌, ◌<◌, ◌≤◌, MatchOption, slice_index};
 ghost use Rattle.lfm_mutex.specs.Belongs.{Beside, OfMutex, budget_of, limits_of};
 ghost use Rattle.lfm_mutex.specs.calls.Sight.{sight, MayRelease, WaitRefused};
+ghost use Rattle.lfm_mutex.specs.calls.WakeUps.{Wakes};
 ghost use Rattle.lfm_condvar.specs.Keeping.{WaitersFollow};
 ghost use Rattle.lfm_condvar.specs.Waits.{Enlists, MayWait};
 
 use crate::waiters::Waiters;
 use lfm_model::{Refusal, SeatNo};
-use lfm_mutex::{Kept, Mutex, Seat};
+use lfm_mutex::{Kept, Mutex, Seat, WakeUp};
 
 /// Why the seat can't make `start_wait`, if it can't.
 pub(crate) fn bars_wait<T: Kept>(seat: &Seat<T>) -> Option<Refusal>
@@ -48,19 +49,41 @@ pub fn enlist<T: Kept>(
     ensures enlists { Enlists (limits_of mutex.now) by (sight seat.old) (sight seat.new) waiters.old waiters.new result }
     ensures follows { WaitersFollow by waiters.old waiters.new }
 {
+    let (ticket, wake_up) = enlist_without_waking(waiters, by, mutex, seat);
+    mutex.wake(wake_up);
+    ticket
+}
+
+/// `enlist`, with the same answers and refusals, which hands its caller the wake-up of the seat that it granted the user mutex,
+/// if any. The caller spends it once the list is given back: a thread that is woken before would wait for the list.
+pub(crate) fn enlist_without_waking<T: Kept>(
+    waiters: &mut Waiters,
+    by: SeatNo,
+    mutex: &Mutex<T>,
+    seat: &mut Seat<T>,
+) -> (Result<u64, Refusal>, Option<WakeUp>)
+    requires belongs { OfMutex seat.old mutex.now }
+    requires by { (by ≤ waiters.old.seats) × (slice_index waiters.old.counts.items by < waiters.old.budget) }
+    requires leaves { MayRelease T.follows T.fits (sight seat.old) }
+    ensures belongs { Beside seat.old seat.new }
+    ensures enlists { Enlists (limits_of mutex.now) by (sight seat.old) (sight seat.new) waiters.old waiters.new result.0 }
+    ensures follows { WaitersFollow by waiters.old waiters.new }
+    ensures wakes { Wakes (limits_of mutex.now).seats result.1 (sight seat.old).trail (sight seat.new).trail }
+{
     if let Some(refusal) = bars_wait(seat) {
-        return Err(refusal);
+        return (Err(refusal), None);
     }
     let number = seat.number();
     if number.get() > waiters.seats() {
-        return Err(Refusal::NoSuchSeat);
+        return (Err(Refusal::NoSuchSeat), None);
     }
     if waiters.has(number) {
-        return Err(Refusal::Busy);
+        return (Err(Refusal::Busy), None);
     }
     let ticket = waiters.append(by, number);
-    match mutex.start_wait(seat) {
-        Ok(_) => Ok(ticket),
+    let (released, wake_up) = mutex.start_wait_without_waking(seat);
+    match released {
+        Ok(_) => (Ok(ticket), wake_up),
         Err(_) => unreachable!(),
     }
 }

@@ -2,12 +2,13 @@
 ghost use Rattle.std.specs.Prelude.{◌≡◌, ◌≤◌, ℕ};
 ghost use Rattle.lfm_mutex.specs.Belongs.{Beside, OfMutex, limits_of};
 ghost use Rattle.lfm_mutex.specs.calls.Sight.{sight};
+ghost use Rattle.lfm_mutex.specs.calls.WakeUps.{Wakes};
 ghost use Rattle.lfm_condvar.specs.Keeping.{WaitersFollow};
 ghost use Rattle.lfm_condvar.specs.Wakes.{SendsBy, SendsOldest};
 
 use crate::waiters::Waiters;
 use lfm_model::{Refusal, SeatNo};
-use lfm_mutex::{Kept, Mutex, Seat};
+use lfm_mutex::{Kept, Mutex, Seat, WakeUp};
 
 /// Makes `send_lock` for the seat that has waited longest, and removes it from the list: both or, where it refuses, neither.
 /// It answers that seat and its ticket, and None where the list is empty. The list is lent to it while the inner mutex is
@@ -28,17 +29,38 @@ pub fn send_oldest<T: Kept>(
     ensures steps { SendsBy (limits_of mutex.now) (sight seat.old) (sight seat.new) result }
     ensures follows { (s : ℕ) → WaitersFollow s waiters.old waiters.new }
 {
+    let (sent, wake_up) = send_oldest_without_waking(waiters, mutex, seat);
+    mutex.wake(wake_up);
+    sent
+}
+
+/// `send_oldest`, with the same answers and refusals, which hands its caller the wake-up of the seat that it granted the user
+/// mutex, if any. The caller spends it once the list is given back: a thread that is woken before would wait for the list.
+pub(crate) fn send_oldest_without_waking<T: Kept>(
+    waiters: &mut Waiters,
+    mutex: &Mutex<T>,
+    seat: &mut Seat<T>,
+) -> (Result<Option<(SeatNo, u64)>, Refusal>, Option<WakeUp>)
+    requires belongs { OfMutex seat.old mutex.now }
+    requires wide { waiters.old.seats ≤ (limits_of mutex.now).seats }
+    ensures belongs { Beside seat.old seat.new }
+    ensures sends { SendsOldest (limits_of mutex.now).seats (sight seat.old) (sight seat.new) waiters.old waiters.new result.0 }
+    ensures steps { SendsBy (limits_of mutex.now) (sight seat.old) (sight seat.new) result.0 }
+    ensures follows { (s : ℕ) → WaitersFollow s waiters.old waiters.new }
+    ensures wakes { Wakes (limits_of mutex.now).seats result.1 (sight seat.old).trail (sight seat.new).trail }
+{
     if seat.asleep() {
-        return Err(Refusal::Asleep);
+        return (Err(Refusal::Asleep), None);
     }
     let Some(oldest) = waiters.oldest() else {
-        return Ok(None);
+        return (Ok(None), None);
     };
-    match mutex.send_lock(seat, oldest.seat) {
+    let (sent, wake_up) = mutex.send_lock_without_waking(seat, oldest.seat);
+    match sent {
         Ok(()) => {
             let _ = waiters.take_oldest();
-            Ok(Some((oldest.seat, oldest.ticket)))
+            (Ok(Some((oldest.seat, oldest.ticket))), wake_up)
         }
-        Err(refusal) => Err(refusal),
+        Err(refusal) => (Err(refusal), wake_up),
     }
 }

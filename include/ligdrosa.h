@@ -177,8 +177,8 @@ static inline void lfm_giving_up(lfm_seat *seat) {
 /* How threads sleep and wake.
  *
  * Each grant is rung for. One call grants the mutex to one seat at most, and its answer names that seat, which is proved. So whoever
- * made the call rings that seat's bell before its own thread sleeps. A wait and a wake first give back the list of the condition variable,
- * which never sleeps. The woken thread may need the list at once, and would sleep again if it were still held.
+ * made the call rings that seat's bell before its own thread sleeps. A wait and a wake give the list of the condition variable back before
+ * they ring, and that never sleeps. The woken thread may need the list at once, and would sleep again if the list were still held.
  *
  * No ring is missed. A seat's thread reads how often the bell has rung, makes a receive, and looks or sleeps only while the bell has
  * rung no more than that. A grant is stored before its ring. So if the ring comes before the reading, the receive finds the grant. Else

@@ -214,7 +214,7 @@ static inline uint64_t lfm_named(uint64_t answer) { return answer >> 8; }
 
 /* Rings for the seat that an answer names, and gives the status. */
 static inline lfm_status lfm_told(lfm_mutex *mutex, uint64_t answer) {
-  if (__builtin_expect(lfm_named(answer) != 0, 0)) lfm_ring(mutex, lfm_named(answer));
+  if (__builtin_expect(answer > 255, 0)) lfm_ring(mutex, lfm_named(answer));
   return lfm_status_of(answer);
 }
 

@@ -1,9 +1,9 @@
 //! `lock_barging`: `lock` of a seat that tries before it queues. Such a seat makes no claim while it tries: each try that fails
 //! gives its charge back and leaves the seat as it was. From the push on the order of the queue holds, as it does for `lock`.
 //! Linux's mutex spins so before it queues (optimistic spinning), and parking_lot and absl do so too.
-ghost use Rattle.std.specs.Prelude.{◌≡◌, ◌<◌, IsTrue};
+ghost use Rattle.std.specs.Prelude.{◌≡◌, ◌<◌, MatchBool, None};
 ghost use Rattle.lfm_mutex.specs.Belongs.{Beside, OfMutex, limits_of, tries_of};
-ghost use Rattle.lfm_mutex.specs.calls.Barging.{BargesBy, GainsIf, MayTry, TriesBy};
+ghost use Rattle.lfm_mutex.specs.calls.Barging.{BargesBy, FailedTry, GainsIf, MayTry, TriesBy};
 ghost use Rattle.lfm_mutex.specs.calls.Sight.{sight, LocksWaiting};
 
 use crate::mutex::Mutex;
@@ -29,7 +29,7 @@ const HOLDER_AND_ONE_MORE: u64 = 2;
 // Whether the seat is awake, doesn't hold and has a take left. A try of such a seat gains the mutex or is refused as Busy.
 #[inline(always)]
 fn may_try<T: Kept>(seat: &Seat<T>) -> bool
-    ensures { IsTrue result → MayTry seat.now.limits.budget (sight seat.now) }
+    ensures { MatchBool result (MayTry seat.now.limits.budget (sight seat.now)) (MayTry seat.now.limits.budget (sight seat.now) → ⊥) }
 {
     seat.takes() < seat.limits.budget && seat.depth() == 0 && !seat.asleep()
 }
@@ -143,6 +143,7 @@ impl<T: Kept> Mutex<T> {
         ensures belongs { Beside seat.old seat.new }
         ensures gains { GainsIf T.follows T.fits (limits_of self.now).budget (sight seat.old) (sight seat.new) result }
         ensures tries { TriesBy (limits_of self.now) 1 (sight seat.old) (sight seat.new) result }
+        ensures tried { count ≡ 0 → result ≡ None → FailedTry (limits_of self.now) (sight seat.old) (sight seat.new) }
     {
         if count != 0 {
             return None;

@@ -117,22 +117,29 @@ impl<T: Kept> Mutex<T> {
     {
         let wake = wake_at(seat.limits.seats, seat.number);
         'naps: for _made in 0..self.pace.naps {
-            if self.pace.is_crowd(self.table.shared.peek(COUNT)) {
+            let found = self.table.shared.peek(COUNT);
+            if self.pace.is_crowd(found) {
                 return None;
             }
-            park_for(
-                rt,
-                &self.table.shared,
-                wake,
-                Duration::from_micros(NAP_MICROSECONDS),
-            );
-            let count = self.table.shared.peek(COUNT);
+            let count = self.count_after_nap(rt, wake, found);
             match self.try_if_free(seat, count) {
                 Some(how) => return Some(how),
                 None => {}
             }
         }
         None
+    }
+
+    // The count after a nap. If none was found, the mutex is free, and there is no nap.
+    fn count_after_nap<R: Wait>(&self, rt: &R, wake: usize, found: u64) -> u64
+        requires { wake < self.now.table.shared.table_id.words }
+    {
+        if found == 0 {
+            return 0;
+        }
+        let nap = Duration::from_micros(NAP_MICROSECONDS);
+        park_for(rt, &self.table.shared, wake, nap);
+        self.table.shared.peek(COUNT)
     }
 
     // One try if the count that was found is 0, and none otherwise. A look costs the holder less than a try that fails.

@@ -14,6 +14,9 @@ pub const LOOKS_BEFORE_SLEEP: u32 = 800;
 // How often a seat looks at the count before it queues. With the pauses after each look this lasts some 8 microseconds.
 const SPINS: u32 = 12;
 
+// With one processor it looks once. Further spins would keep the holder from its work.
+const SPINS_OF_ONE_PROCESSOR: u32 = 1;
+
 // How often it then naps.
 const NAPS: u32 = 4;
 
@@ -41,8 +44,8 @@ const MOST_LOOKS: u64 = 4_000;
 /// How a seat waits for the mutex. It has two parts.
 ///
 /// *Before it queues*, a seat that doesn't hold and locks by `lock_barging` spins and then naps. A spin is a look at the count
-/// with pauses after it; a nap is a sleep of some 20 microseconds with a look after it. It tries to gain the mutex if a look finds
-/// it free. It spins no longer if more than two seats hold or wait, and doesn't nap if more than twice as many as `near` (and more
+/// with pauses after it; a nap is a look, a sleep of some 20 microseconds if the mutex is not free, and another look. It tries to
+/// gain the mutex if a look finds it free. It spins no longer if more than two seats hold or wait, and doesn't nap if more than twice as many as `near` (and more
 /// than 8) do. `lock` makes neither.
 ///
 /// *Once it has queued*, a seat looks at its wake word before it parks. A grant mostly comes within some 20 microseconds, and to
@@ -87,17 +90,17 @@ impl Pace {
         }
     }
 
-    /// The pace for a machine with this number of processors. With one, a seat naps 4 times before it queues, and then parks at
-    /// once, since who spins there keeps the holder from its work. With more, it spins 12 times and naps 4 times, and once it has
-    /// queued it looks `LOOKS_BEFORE_SLEEP` times if no more seats hold or wait than there are processors. A mutex that is not
-    /// told otherwise has the pace for eight.
+    /// The pace for a machine with this number of processors. With one, a seat spins once and naps 4 times before it queues, and
+    /// then parks at once: further spins and looks would keep the holder from its work. With more, it spins 12 times and naps 4
+    /// times, and once it has queued it looks `LOOKS_BEFORE_SLEEP` times if no more seats hold or wait than there are processors.
+    /// A mutex that is not told otherwise has the pace for eight.
     pub fn for_processors(processors: u64) -> Pace
-        ensures one { processors ≤ 1 → (result.looks ≡ 0) × (result.spins ≡ 0) }
+        ensures one { processors ≤ 1 → (result.looks ≡ 0) × (result.spins ≡ 1) }
         ensures more { 1 < processors → (result.looks ≡ 800) × (result.near ≡ processors) × (result.spins ≡ 12) }
         ensures naps { result.naps ≡ 4 }
     {
         if processors <= 1 {
-            return Pace::new(0, 0).with_barging(0, NAPS);
+            return Pace::new(0, 0).with_barging(SPINS_OF_ONE_PROCESSOR, NAPS);
         }
         Pace::new(LOOKS_BEFORE_SLEEP, processors).with_barging(SPINS, NAPS)
     }
@@ -107,14 +110,14 @@ impl Pace {
     /// doesn't tell the processors or the time.
     pub fn of_machine<R: Threads + Clock>(rt: &R) -> io::Result<Pace>
         ensures looks { IfOk result (λ p. (p.near ≤ 1 → p.looks ≡ 0) × (1 < p.near → (100 ≤ p.looks) × (p.looks ≤ 4_000))) }
-        ensures spins { IfOk result (λ p. (p.near ≤ 1 → p.spins ≡ 0) × (1 < p.near → p.spins ≡ 12) × (p.naps ≡ 4)) }
+        ensures spins { IfOk result (λ p. (p.near ≤ 1 → p.spins ≡ 1) × (1 < p.near → p.spins ≡ 12) × (p.naps ≡ 4)) }
     {
         let processors = available_parallelism(rt)?.get() as u64;
         if processors > 1 {
             let looks = looks_lasting(shortest(rt)?);
             return Ok(Pace::new(looks, processors).with_barging(SPINS, NAPS));
         }
-        Ok(Pace::new(0, 0).with_barging(0, NAPS))
+        Ok(Pace::new(0, 0).with_barging(SPINS_OF_ONE_PROCESSOR, NAPS))
     }
 
     /// How often a queued seat looks before it parks.

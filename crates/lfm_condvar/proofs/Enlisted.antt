@@ -4,14 +4,21 @@ use Rattle.lfm_model.specs.declared.refusals.Refusal.{Refusal}
 use Rattle.lfm_model.specs.declared.refusals.Refusal.TheVariants.{Asleep, NotOwner, Nested, DepthFull, Spent, NoSuchSeat, NotWaiting, Busy}
 use Rattle.lfm_protocol.specs.declared.limits.Limits.{Limits}
 use Rattle.lfm_mutex.specs.calls.Sight.{Sight}
+use Rattle.lfm_condvar.specs.declared.wait.Enlisted.{Enlisted}
 use Rattle.lfm_condvar.specs.declared.waiters.Waiters.{Waiters}
 use Rattle.lfm_condvar.specs.Holds.{StepsOfOneHold, HeldOnce}
 use Rattle.lfm_condvar.specs.Waits.{BeginWaitEnds, Enlists, WaitEnds}
 use Rattle.lfm_model.specs.declared.answers.How.{How}
-use Rattle.std.specs.Prelude.{IfErr, IsErrAnd}
+use Rattle.std.specs.Prelude.{IfErr, IfOk, IsErrAnd, Some}
 
 same_count : (v w : Waiters) (by : ℕ) → w ≡ v → slice_index w.counts.items by ≤ slice_index v.counts.items by + 1
 same_count v w by e = let q = ap (λ (y : Waiters). slice_index y.counts.items by) e in omega arith
+
+-- the number of waiters was counted in the list that the cond seat found
+pub found_ahead : (d : Sight Waiters) (v : Waiters) (r : Result Enlisted Refusal) → d.found ≡ Some v → IfOk r (λ e. e.ahead ≡ length v.list.items)
+    → IfOk r (λ e. (w : Waiters) × (d.found ≡ Some w) × (e.ahead ≡ length w.list.items))
+found_ahead d v (Ok e) found ahead = (v, found, ahead)
+found_ahead d v (Err x) found ahead = tt
 
 module _ {T : Type 0} where
   -- no more than one ticket was counted for the cond seat

@@ -1,5 +1,5 @@
--- The wake-up that is held back while one send is made after another.
-use Rattle.std.proofs.Common.{◌≡◌, ℕ, Option, Some, None, List, [], ◌∷◌, ◌++◌, refl, sym, ap, subst, ◌∙◌, append_assoc, append-nil}
+-- The wake-up that is held back while one waiter is sent after another.
+use Rattle.std.proofs.Common.{◌≡◌, ℕ, Option, Some, None, List, [], ◌∷◌, ◌++◌, sym, ap, subst, ◌∙◌, append_assoc, append-nil}
 use Rattle.lfm_mutex.specs.calls.Trails.{Seen}
 use Rattle.lfm_mutex.specs.calls.WakeUps.{Wakes, as_list, grants_of}
 use Rattle.lfm_condvar.specs.HeldBack.{HoldsLastBack, later_of}

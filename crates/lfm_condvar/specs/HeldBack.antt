@@ -1,4 +1,4 @@
--- The wake-up that a call holds back which sends more than one.
+-- The wake-up that a call holds back while it sends one waiter after another.
 use Rattle.std.specs.Prelude.{◌≡◌, ℕ, ◌≤◌, List, [], ◌++◌, Option, Some, None}
 use Rattle.lfm_mutex.specs.calls.Trails.{Seen}
 use Rattle.lfm_mutex.specs.calls.WakeUps.{as_list, grants_of}
@@ -9,7 +9,7 @@ later_of held None = held
 later_of held (Some t) = Some t
 
 -- The steps from one trail to the other granted the user mutex to these seats in turn: those that were woken meanwhile, and the last
--- one, whose wake-up is held back. Where no wake-up is held back, no seat was granted it
+-- one, whose wake-up is held back. If no wake-up is held back, no seat was granted it
 pub record HoldsLastBack (seats : ℕ) (wake_up : Option ℕ) (before after : List Seen) : Type 0 where
   pub woken : List ℕ
   pub granted : grants_of after ≡ grants_of before ++ (woken ++ as_list wake_up)

@@ -41,7 +41,7 @@ pub record HeldOnce (budget : ℕ) (s t : Sight Waiters) (v w : Waiters) : Type 
   pub number : t.number ≡ s.number
   pub found : t.found ≡ Some v
 
--- The cond seat locks the inner mutex, by the steps of lock_barging alone, which makes so many tries at most
+-- The cond seat locks the inner mutex, by the steps of lock_barging alone, with at most `tries` tries
 abbrev pub LocksList : Limits → ℕ → Sight Waiters → Sight Waiters → Type 0
 LocksList own tries s t = (how : How) × BargesBy own tries s t (Ok (Locked.Held how))
 
@@ -49,7 +49,7 @@ LocksList own tries s t = (how : How) × BargesBy own tries s t (Ok (Locked.Held
 abbrev pub LeavesList : Limits → Sight Waiters → Sight Waiters → Type 0
 LeavesList own s t = (u : Unlocked) × Makes own Call.Unlock s t (Ended (Answer.Unlocked u)) × MakesAtMost (own.seats + 7) s t
 
--- The steps of the cond seat in one hold: it locks the inner mutex once, with so many tries at most, and gives it back once. In
+-- The steps of the cond seat in one hold: it locks the inner mutex once, with at most `tries` tries, and gives it back once. In
 -- between it changes the list in hand, and nothing else of it is other than it was
 pub record StepsOfOneHold (own : Limits) (tries : ℕ) (s t : Sight Waiters) : Type 0 where
   pub locked : Sight Waiters

@@ -1,6 +1,6 @@
 -- How `wait_while` ends. A user seat is seen as s before and as t after, its mutex has the limits `user`, and the cond seat, of a
--- condvar with the limits `own`, is seen as c before and as d after, and tries so often at most before it queues for the list.
--- `says v b`: the condition may answer b at the value v.
+-- condvar with the limits `own`, is seen as c before and as d after, and makes at most `tries` tries before it queues for the
+-- list. `says v b`: the condition may answer b at the value v.
 use Rattle.std.specs.Prelude.{◌≡◌, ℕ, zero, suc, ⊤, Bool, true, false, Some, Result, Ok, Err}
 use Rattle.lfm_model.specs.declared.answers.How.{How}
 use Rattle.lfm_model.specs.declared.refusals.Refusal.{Refusal}

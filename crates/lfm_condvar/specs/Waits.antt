@@ -8,10 +8,16 @@ use Rattle.lfm_protocol.specs.declared.answers.Call.{Call}
 use Rattle.lfm_protocol.specs.declared.limits.Limits.{Limits}
 use Rattle.lfm_mutex.specs.calls.Sight.{Sight, StartsWait, WaitRefused, TakesUp}
 use Rattle.lfm_mutex.specs.calls.Trails.{MakesAtMost, MakesCall, ReceivesBy}
+use Rattle.lfm_condvar.specs.declared.wait.Enlisted.{Enlisted}
 use Rattle.lfm_condvar.specs.declared.waiters.Waiters.{Waiters}
 use Rattle.lfm_condvar.specs.Holds.{StepsOfOneHold, HeldOnce}
 use Rattle.lfm_condvar.specs.Keeping.{Appended}
 use Rattle.lfm_condvar.specs.Lists.{times}
+
+-- the ticket of a seat that was put into the list, or why it was refused
+abbrev pub ticket_of : Result Enlisted Refusal → Result ℕ Refusal
+ticket_of (Ok e) = Ok e.ticket
+ticket_of (Err r) = Err r
 
 module _ {T : Type 0} where
   -- the seat could make start_wait
@@ -29,8 +35,8 @@ module _ {T : Type 0} where
   Enlists user by s t v w (Err Refusal.Busy) = MayWait user.budget s × (s.number ≤ v.seats) × (0 < times s.number v.list.items) × (w ≡ v) × (t ≡ s)
   Enlists user by s t v w (Err r) = WaitRefused user.budget s r × (w ≡ v) × (t ≡ s)
 
-  -- How begin_wait ends, with a cond seat that is seen as c before and as d after, of a condvar with the limits `own`, and which
-  -- tries so often at most before it queues for the list. In one hold, which has ended, the user seat was put at the end of the
+  -- How begin_wait ends, with a cond seat that is seen as c before and as d after, of a condvar with the limits `own`. The cond seat
+  -- makes at most `tries` tries before it queues for the list. In one hold, which has ended, the user seat was put at the end of the
   -- list. It sleeps; that start_wait came in it is not said
   abbrev pub BeginWaitEnds : Limits → Limits → ℕ → Sight Waiters → Sight Waiters → Sight T → Sight T → Result ℕ Refusal → Type 0
   BeginWaitEnds user own tries c d s t (Ok ticket) = (v : Waiters) × (w : Waiters) × HeldOnce own.budget c d v w × Enlists user c.number s t v w (Ok ticket) × StepsOfOneHold own tries c d

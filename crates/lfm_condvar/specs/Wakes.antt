@@ -49,8 +49,8 @@ module _ {T : Type 0} where
       (sent : List (ℕ × Sight T)) × (m : Sight T) × (x : ℕ) × (cause : Why) × SendsInTurn user s sent m × Makes user (Call.SendLock x) m t (Refused cause)
   SendsBy user s t (Err r) = t ≡ s
 
-  -- How the wakes end, with a cond seat that is seen as c before and as d after, of a condvar with the limits `own`, and which tries
-  -- so often at most before it queues for the list
+  -- How the wakes end, with a cond seat that is seen as c before and as d after, of a condvar with the limits `own`. The
+  -- cond seat makes at most `tries` tries before it queues for the list
 
   -- before the inner mutex was locked
   abbrev pub WakeRefused : Limits → Sight Waiters → Sight Waiters → Sight T → Sight T → Refusal → Type 0

@@ -31,8 +31,9 @@ pub struct Condvar {
 }
 
 impl Condvar {
-    /// Sets how long a seat that waits for the condvar's list looks before it sleeps; a seat that waits to be sent sleeps at
-    /// once. It is set before threads share the condvar.
+    /// Sets how often a seat that waits for the condvar's list tries before it queues, and how long it looks before it sleeps.
+    /// A seat that waits to be sent looks by the pace of the user mutex, as `wait` says. It is set before threads share the
+    /// condvar.
     pub fn set_pace(&mut self, pace: Pace)
         ensures pace { self.new.inner.pace ≡ pace }
         ensures same { (self.new.inner.table ≡ self.old.inner.table) × (self.new.inner.limits ≡ self.old.inner.limits) × (self.new.seats ≡ self.old.seats) }

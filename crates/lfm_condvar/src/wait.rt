@@ -1,43 +1,71 @@
-//! How a seat waits: it is enlisted in one hold of the inner mutex, and sleeps until it is sent.
-ghost use Rattle.std.specs.Prelude.{◌≡◌, ◌<◌, ◌≤◌, ℕ, Some, IfErr, slice_index};
+//! How a seat waits: it is enlisted in one hold of the inner mutex, and sleeps until it is sent. If it waits alone, it looks for a
+//! while before it sleeps.
+ghost use Rattle.std.specs.Prelude.{◌≡◌, ◌<◌, ◌≤◌, ℕ, Some, IfErr, IfOk, length, slice_index};
 ghost use Rattle.lfm_model.specs.declared.refusals.Refusal.TheVariants.{Busy};
 ghost use Rattle.lfm_mutex.specs.Belongs.{Beside, OfMutex, limits_of};
 ghost use Rattle.lfm_mutex.specs.calls.Sight.{sight, MayRelease};
 ghost use Rattle.lfm_mutex.specs.calls.WakeUps.{Wakes};
 ghost use Rattle.lfm_condvar.specs.Belongs.{OfCondvar, cond_limits, cond_sight, cond_tries};
 ghost use Rattle.lfm_condvar.specs.Holds.{StepsOfOneHold, HeldOnce, Rewrites};
-ghost use Rattle.lfm_condvar.specs.Waits.{BeginWaitEnds, Enlists, MayWait, WaitEnds};
+ghost use Rattle.lfm_condvar.specs.Waits.{BeginWaitEnds, Enlists, MayWait, WaitEnds, ticket_of};
 
 use crate::cond_seat::CondSeat;
 use crate::condvar::Condvar;
 use crate::hold::{leave_list, lock_list};
 use crate::waiters::{Waiters, bars_wait, enlist_without_waking};
 use lfm_model::{How, Refusal};
-use lfm_mutex::{Kept, Mutex, Seat, WakeUp};
+use lfm_mutex::{Kept, Mutex, Pace, Seat, WakeUp};
 use std::sync::Wait;
 
-// A waiter is sent after a time that nobody knows, so it sleeps after its first receive.
-const LOOKS: u32 = 0;
+/// A user seat that was put into the list: its ticket, and how many seats waited ahead of it then.
+#[derive(Clone, Copy)]
+pub(crate) struct Enlisted {
+    ticket: u64,
+    ahead: usize,
+}
 
-// Lends the list in hand to `enlist_without_waking`.
+// A seat that was put into the list with this ticket and this many ahead of it, or why it was refused.
+fn with_ahead(ticket: Result<u64, Refusal>, ahead: usize) -> Result<Enlisted, Refusal>
+    ensures ticket { ticket_of result ≡ ticket }
+    ensures ahead { IfOk result (λ e. e.ahead ≡ ahead) }
+{
+    match ticket {
+        Ok(ticket) => Ok(Enlisted { ticket, ahead }),
+        Err(refusal) => Err(refusal),
+    }
+}
+
+// How often a seat looks before it sleeps, if this many seats waited ahead of it. A seat that waits alone may be sent soon, as when
+// two threads take turns, and its looks then cost less than a sleep and a wake-up. If several seats wait, most of them wait for
+// long, and their looks would take the processors from the threads that are to wake them.
+fn looks_behind(pace: Pace, ahead: usize) -> u32
+    ensures alone { ahead ≡ 0 → result ≡ pace.looks }
+    ensures behind { 0 < ahead → result ≡ 0 }
+{
+    if ahead == 0 { pace.looks() } else { 0 }
+}
+
+// Lends the list in hand to `enlist_without_waking`, and counts those that wait there.
 fn enlist_in_hand<T: Kept>(
     cond: &mut Seat<Waiters>,
     mutex: &Mutex<T>,
     seat: &mut Seat<T>,
-) -> (Result<u64, Refusal>, Option<WakeUp>)
+) -> (Result<Enlisted, Refusal>, Option<WakeUp>)
     requires belongs { OfMutex seat.old mutex.now }
     requires held { 0 < (sight cond.old).depth }
     requires may { (v : _) → (sight cond.old).value ≡ Some v → ((sight cond.old).number ≤ v.seats) × (slice_index v.counts.items (sight cond.old).number < v.budget) }
     requires leaves { MayRelease T.follows T.fits (sight seat.old) }
     ensures belongs { Beside cond.old cond.new × Beside seat.old seat.new }
-    ensures enlists { (v : _) × (w : _) × Rewrites (sight cond.old) (sight cond.new) v w × Enlists (limits_of mutex.now) (sight cond.old).number (sight seat.old) (sight seat.new) v w result.0 }
+    ensures enlists { (v : _) × (w : _) × Rewrites (sight cond.old) (sight cond.new) v w × Enlists (limits_of mutex.now) (sight cond.old).number (sight seat.old) (sight seat.new) v w (ticket_of result.0) × IfOk result.0 (λ e. e.ahead ≡ length v.list.items) }
     ensures wakes { Wakes (limits_of mutex.now).seats result.1 (sight seat.old).trail (sight seat.new).trail }
 {
     let by = cond.number();
     let Some(waiters) = cond.value_mut() else {
         unreachable!()
     };
-    enlist_without_waking(waiters, by, mutex, seat)
+    let ahead = waiters.waiting();
+    let (ticket, wake_up) = enlist_without_waking(waiters, by, mutex, seat);
+    (with_ahead(ticket, ahead), wake_up)
 }
 
 impl Condvar {
@@ -49,16 +77,16 @@ impl Condvar {
         cond: &mut CondSeat,
         mutex: &Mutex<T>,
         seat: &mut Seat<T>,
-    ) -> (Result<u64, Refusal>, Option<WakeUp>)
+    ) -> (Result<Enlisted, Refusal>, Option<WakeUp>)
         requires belongs { OfCondvar cond.old self.now × OfMutex seat.old mutex.now }
         requires leaves { MayRelease T.follows T.fits (sight seat.old) }
         requires may { MayWait (limits_of mutex.now).budget (sight seat.old) }
         requires spare { (cond_sight cond.old).takes < (cond_limits self.now).budget }
         requires known { (sight seat.old).number ≤ (cond_limits self.now).seats }
         ensures belongs { OfCondvar cond.new self.now × Beside seat.old seat.new }
-        ensures enlists { (v : _) × (w : _) × HeldOnce (cond_limits self.now).budget (cond_sight cond.old) (cond_sight cond.new) v w × Enlists (limits_of mutex.now) (cond_sight cond.old).number (sight seat.old) (sight seat.new) v w result.0 }
+        ensures enlists { (v : _) × (w : _) × HeldOnce (cond_limits self.now).budget (cond_sight cond.old) (cond_sight cond.new) v w × Enlists (limits_of mutex.now) (cond_sight cond.old).number (sight seat.old) (sight seat.new) v w (ticket_of result.0) × IfOk result.0 (λ e. e.ahead ≡ length v.list.items) }
         ensures steps { StepsOfOneHold (cond_limits self.now) (cond_tries self.now) (cond_sight cond.old) (cond_sight cond.new) }
-        ensures busy { IfErr result.0 (λ r. r ≡ Busy) }
+        ensures busy { IfErr (ticket_of result.0) (λ r. r ≡ Busy) }
         ensures wakes { Wakes (limits_of mutex.now).seats result.1 (sight seat.old).trail (sight seat.new).trail }
     {
         match lock_list(&self.inner, rt, &mut cond.seat) {
@@ -76,7 +104,8 @@ impl Condvar {
     /// waited on this condvar, and on.
     ///
     /// Refuses as `wait`, in the same order, and costs what `wait` costs. It may sleep until it has the list. It takes no
-    /// memory, and wakes the seat that it grants a mutex, if any: one that is granted the user mutex after the list is given back.
+    /// memory, and wakes the seat that it grants a mutex, if any. A seat that is granted the user mutex is woken after the list
+    /// is given back.
     pub fn begin_wait<T: Kept, R: Wait>(
         &self,
         rt: &R,
@@ -89,6 +118,26 @@ impl Condvar {
         ensures belongs { OfCondvar cond.new self.now × Beside seat.old seat.new }
         ensures begins { BeginWaitEnds (limits_of mutex.now) (cond_limits self.now) (cond_tries self.now) (cond_sight cond.old) (cond_sight cond.new) (sight seat.old) (sight seat.new) result }
     {
+        match self.begin_wait_counted(rt, cond, mutex, seat) {
+            Ok(enlisted) => Ok(enlisted.ticket),
+            Err(refusal) => Err(refusal),
+        }
+    }
+
+    // `begin_wait`, which also answers how many waited ahead of the seat in the list that the cond seat found.
+    fn begin_wait_counted<T: Kept, R: Wait>(
+        &self,
+        rt: &R,
+        cond: &mut CondSeat,
+        mutex: &Mutex<T>,
+        seat: &mut Seat<T>,
+    ) -> Result<Enlisted, Refusal>
+        requires belongs { OfCondvar cond.old self.now × OfMutex seat.old mutex.now }
+        requires leaves { MayRelease T.follows T.fits (sight seat.old) }
+        ensures belongs { OfCondvar cond.new self.now × Beside seat.old seat.new }
+        ensures begins { BeginWaitEnds (limits_of mutex.now) (cond_limits self.now) (cond_tries self.now) (cond_sight cond.old) (cond_sight cond.new) (sight seat.old) (sight seat.new) (ticket_of result) }
+        ensures ahead { IfOk result (λ e. (v : _) × ((cond_sight cond.new).found ≡ Some v) × (e.ahead ≡ length v.list.items)) }
+    {
         if let Some(refusal) = bars_wait(seat) {
             return Err(refusal);
         }
@@ -98,9 +147,9 @@ impl Condvar {
         if seat.number().get() > self.seats {
             return Err(Refusal::NoSuchSeat);
         }
-        let (ticket, wake_up) = self.enlist_in_one_hold(rt, cond, mutex, seat);
+        let (enlisted, wake_up) = self.enlist_in_one_hold(rt, cond, mutex, seat);
         mutex.wake(wake_up);
-        ticket
+        enlisted
     }
 
     /// Gives up the user mutex, which the seat holds at depth 1, and waits until another seat sends this one by a wake. It
@@ -111,7 +160,9 @@ impl Condvar {
     /// seats). Then Busy: the user seat still stands in the list, which only a send past this condvar brings. It is seen
     /// under the inner mutex, costs the cond seat its take, and changes nothing else.
     ///
-    /// A wait costs each seat one take. It takes no memory, sleeps, and wakes the seat that it grants a mutex, if any.
+    /// A wait costs each seat one take. It takes no memory, sleeps, and wakes the seat that it grants a mutex, if any. If no
+    /// seat waited when it was put into the list, it looks before it sleeps, as often as the pace of the user mutex says;
+    /// otherwise it sleeps at once.
     pub fn wait<T: Kept, R: Wait>(
         &self,
         rt: &R,
@@ -124,9 +175,10 @@ impl Condvar {
         ensures belongs { OfCondvar cond.new self.now × Beside seat.old seat.new }
         ensures waits { WaitEnds T.follows T.fits (limits_of mutex.now) (cond_limits self.now) (cond_tries self.now) (cond_sight cond.old) (cond_sight cond.new) (sight seat.old) (sight seat.new) result }
     {
-        let ticket = self.begin_wait(rt, cond, mutex, seat)?;
-        match mutex.receive_lock_within(rt, seat, LOOKS) {
-            Ok(how) => Ok((how, ticket)),
+        let enlisted = self.begin_wait_counted(rt, cond, mutex, seat)?;
+        let looks = looks_behind(mutex.pace(), enlisted.ahead);
+        match mutex.receive_lock_within(rt, seat, looks) {
+            Ok(how) => Ok((how, enlisted.ticket)),
             Err(_) => unreachable!(),
         }
     }

@@ -77,6 +77,13 @@ impl Waiters {
         (self.sent, self.added)
     }
 
+    /// How many user seats wait.
+    pub(crate) fn waiting(&self) -> usize
+        ensures { result ≡ length self.now.list.items }
+    {
+        self.list.len()
+    }
+
     /// Whether the user seat stands in the list.
     pub(crate) fn has(&self, seat: SeatNo) -> bool
         ensures { MatchBool result (0 < times seat self.now.list.items) (times seat self.now.list.items ≡ 0) }

@@ -1,5 +1,5 @@
 //! How waiters are woken: in one hold of the inner mutex the oldest, or all, oldest first, are made lockers of the user mutex. The
-//! thread of one that is granted it is woken after that hold.
+//! thread of a waiter that is granted the user mutex is woken after that hold.
 ghost use Rattle.std.specs.Prelude.{◌≡◌, ◌<◌, ◌≤◌, ℕ, Some, false};
 ghost use Rattle.lfm_mutex.specs.Belongs.{Beside, OfMutex, limits_of};
 ghost use Rattle.lfm_mutex.specs.calls.Sight.{sight};
@@ -18,7 +18,7 @@ use lfm_model::{Refusal, SeatNo};
 use lfm_mutex::{Kept, Mutex, Seat, WakeUp};
 use std::sync::Wait;
 
-// The later of two wake-ups, which is held back. The earlier one is spent at once, since there is no memory to keep it in.
+// Holds back the later of two wake-ups, if there are two, and spends the earlier one at once: no memory is taken to keep both.
 fn hold_back<T: Kept>(
     mutex: &Mutex<T>,
     held: Option<WakeUp>,
@@ -37,8 +37,8 @@ fn hold_back<T: Kept>(
 }
 
 // Sends all that wait, oldest first, up to one that doesn't wait to be sent, and counts them. The wake-up of the last seat that was
-// granted the user mutex is handed out. Mostly it is the only one: a second seat is granted the mutex only if the first has given it
-// up meanwhile, and the first is then awake already.
+// granted the user mutex is handed out. Mostly it is the only one: another waiter is granted the mutex only if the mutex
+// has been given up since, while the list is still held.
 fn send_all<T: Kept>(
     waiters: &mut Waiters,
     mutex: &Mutex<T>,
@@ -119,7 +119,8 @@ impl Condvar {
     /// condvar brings. It stays in the list, and that costs the cond seat its take.
     ///
     /// A wake costs the cond seat one take, and the user seat none. It takes no memory, may sleep until it has the inner
-    /// mutex, and wakes the seat that it grants a mutex, if any: one that is granted the user mutex after the list is given back.
+    /// mutex, and wakes the seat that it grants a mutex, if any. A seat that is granted the user mutex is woken after the inner
+    /// mutex is given back.
     pub fn wake_one<T: Kept, R: Wait>(
         &self,
         rt: &R,
@@ -153,8 +154,8 @@ impl Condvar {
     /// in the list; the earlier ones were sent.
     ///
     /// It costs the cond seat one take, however many are sent. It takes no memory, may sleep until it has the inner mutex,
-    /// and wakes the seats that it grants a mutex, if any: the last one that is granted the user mutex after the list is given
-    /// back, and an earlier one when the next is granted it.
+    /// and wakes the seats that it grants a mutex, if any. Of the seats that are granted the user mutex, mostly one, the last is
+    /// woken after the inner mutex is given back, and each other one when the next is granted it.
     pub fn wake_all<T: Kept, R: Wait>(
         &self,
         rt: &R,

@@ -35,7 +35,8 @@ pub fn send_oldest<T: Kept>(
 }
 
 /// `send_oldest`, with the same answers and refusals, which hands its caller the wake-up of the seat that it granted the user
-/// mutex, if any. The caller spends it once the list is given back: a thread that is woken before would wait for the list.
+/// mutex, if any. The caller spends it after the list is given back, since a thread that wakes earlier would have to wait for
+/// the list.
 pub(crate) fn send_oldest_without_waking<T: Kept>(
     waiters: &mut Waiters,
     mutex: &Mutex<T>,

@@ -2,7 +2,7 @@ use Rattle.std.proofs.Common.{◌≡◌, ◌≤◌, ℕ, Result, Ok, Err, refl, 
 use Rattle.lfm_mutex.specs.Belongs.{limits_of}
 use Rattle.lfm_mutex.specs.calls.Sight.{Sight, sight}
 use Rattle.lfm_condvar.specs.Belongs.{cond_limits, cond_sight, cond_tries}
-use Rattle.lfm_condvar.specs.Waits.{Enlists, MayWait}
+use Rattle.lfm_condvar.specs.Waits.{Enlists, MayWait, ticket_of}
 use Rattle.lfm_condvar.proofs.OneHold.{held_by, one_hold, one_some}
 use Rattle.std.specs.Prelude.{IfErr}
 use Rattle.lfm_model.specs.declared.refusals.Refusal.{Refusal}
@@ -14,7 +14,7 @@ use Rattle.lfm_condvar.proofs.condvar.Condvar.enlist_in_one_hold.Goals as goal
 pub returns-clause-enlists : goal.returns-clause-enlists
 returns-clause-enlists g c = let a = c.args in let h = c.in-Ok.ensures.held in let e = c.enlist_in_hand-enlisted.ensures.enlists in let l = c.leave_list.ensures in
     let d = one_hold (cond_limits a.self.now) (cond_sight a.cond.now) (sight c.lock_list.new.cond) (sight c.enlist_in_hand-enlisted.new.cond) (sight c.leave_list.new.cond) h.0 e.0 e.1 h.1 e.2 l.leaves l.keeps.0 l.keeps.1 in
-    (e.0, e.1, d.held, subst (λ (i : ℕ). Enlists (limits_of a.mutex.now) i (sight a.seat.now) (sight c.enlist_in_hand-enlisted.new.seat) e.0 e.1 c.enlist_in_hand-enlisted.result.0) h.1.number e.3)
+    (e.0, e.1, d.held, subst (λ (i : ℕ). Enlists (limits_of a.mutex.now) i (sight a.seat.now) (sight c.enlist_in_hand-enlisted.new.seat) e.0 e.1 (ticket_of c.enlist_in_hand-enlisted.result.0)) h.1.number e.3, e.4)
 
 pub returns-clause-steps : goal.returns-clause-steps
 returns-clause-steps g c = let a = c.args in let e = c.enlist_in_hand-enlisted.ensures.enlists in
@@ -36,7 +36,7 @@ pub returns-clause-busy : goal.returns-clause-busy
 returns-clause-busy g c = let a = c.args in let h = c.in-Ok.ensures.held in let e = c.enlist_in_hand-enlisted.ensures.enlists in
     let same : h.0 ≡ e.0 = one_some (sight c.lock_list.new.cond).value h.0 e.0 h.1.value e.2.0 in
     let seats = ap (λ (y : Waiters). y.seats) same in let made = h.1.seats in let within = c.requires.known in
-    only_busy (limits_of a.mutex.now) (sight c.lock_list.new.cond).number (sight a.seat.now) (sight c.enlist_in_hand-enlisted.new.seat) e.0 e.1 c.enlist_in_hand-enlisted.result.0 c.requires.may (omega arith) e.3
+    only_busy (limits_of a.mutex.now) (sight c.lock_list.new.cond).number (sight a.seat.now) (sight c.enlist_in_hand-enlisted.new.seat) e.0 e.1 (ticket_of c.enlist_in_hand-enlisted.result.0) c.requires.may (omega arith) e.3
 
 pub invariant_of-cond : goal.invariant_of-cond
 invariant_of-cond g c = let a = c.args in let h = c.in-Ok.ensures.held in let e = c.enlist_in_hand-enlisted.ensures.enlists in let l = c.leave_list.ensures in

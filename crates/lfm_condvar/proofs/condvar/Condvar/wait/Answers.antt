@@ -4,10 +4,10 @@ use Rattle.lfm_condvar.specs.Belongs.{cond_limits, cond_sight, cond_tries}
 use Rattle.lfm_condvar.proofs.Enlisted.{ends_refused}
 use Rattle.lfm_condvar.proofs.condvar.Condvar.wait.Goals as goal
 
-pub returns-in_err-ticket-clause-waits : goal.returns-in_err-ticket-clause-waits
-returns-in_err-ticket-clause-waits g c =
+pub returns-in_err-enlisted-clause-waits : goal.returns-in_err-enlisted-clause-waits
+returns-in_err-enlisted-clause-waits g c =
     ends_refused g.T.Kept.follows g.T.Kept.fits (limits_of c.args.mutex.now) (cond_limits c.args.self.now) (cond_tries c.args.self.now) (cond_sight c.args.cond.now) _ (sight c.args.seat.now) _ _ _ c.from_residual.ensures.1
-    c.in_err-ticket.ensures.begins
+    c.in_err-enlisted.ensures.begins
 
 pub returns-clause-waits : goal.returns-clause-waits
-returns-clause-waits g c = let r = c.in-Ok.ensures in (sight c.begin_wait.new.seat, c.in_ok-ticket.ensures.begins, (r.receives, r.steps))
+returns-clause-waits g c = let r = c.in-Ok.ensures in (sight c.begin_wait_counted.new.seat, c.in_ok-enlisted.ensures.begins, (r.receives, r.steps))

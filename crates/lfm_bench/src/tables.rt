@@ -1,15 +1,9 @@
 //! The tables of the program: what is measured, and what is shown of it.
-ghost use Rattle.std.specs.Prelude.{◌≡◌, ℕ};
-ghost use Rattle.lfm_mutex.specs.Belongs.{OfMutex};
-ghost use mathlib.Core.Option.{some};
-ghost use lib.ListN.{get_elem?};
-
 use crate::bench::Bench;
 use crate::measure::{Column, Line, Mode, Peer, Plan, Row, StepTime, Steps, bare_table};
-use crate::peers::ours::{Users, last_user, new_mutex, no_seat};
+use crate::peers::ours::{FreeSeats, Users, new_mutex};
 use crate::workloads::alone::Peers;
 use crate::workloads::{Calls, Workload};
-use lfm_mutex::{Mutex, Seat};
 use std::alloc::{AllocError, Global};
 use std::io;
 use std::sync::Wait;
@@ -55,9 +49,9 @@ const ALONE: [Shape; 6] = [
 const COLUMNS_ALONE: [Column; 5] = [
     Column::Costs(Peer::Ours),
     Column::Costs(Peer::Bare),
-    Column::RatioTo(Peer::Bare),
+    Column::Ratio(Peer::Ours, Peer::Bare),
     Column::Costs(Peer::Standard),
-    Column::RatioTo(Peer::Standard),
+    Column::Ratio(Peer::Ours, Peer::Standard),
 ];
 
 /// The rows of several threads at a mutex. They have no bare steps, since what several threads do is no fixed chain of them.
@@ -136,12 +130,15 @@ const TOGETHER: [Shape; 9] = [
     },
 ];
 
-const COLUMNS_TOGETHER: [Column; 5] = [
+const COLUMNS_TOGETHER: [Column; 8] = [
     Column::Costs(Peer::Ours),
     Column::Fairness(Peer::Ours),
+    Column::Costs(Peer::Barging),
+    Column::Fairness(Peer::Barging),
     Column::Costs(Peer::Standard),
     Column::Fairness(Peer::Standard),
-    Column::RatioTo(Peer::Standard),
+    Column::Ratio(Peer::Ours, Peer::Standard),
+    Column::Ratio(Peer::Barging, Peer::Standard),
 ];
 
 /// The rows of condition variables.
@@ -163,7 +160,7 @@ const CONDITIONS: [Shape; 3] = [
 const COLUMNS_OF_CONDITIONS: [Column; 3] = [
     Column::Costs(Peer::Ours),
     Column::Costs(Peer::Standard),
-    Column::RatioTo(Peer::Standard),
+    Column::Ratio(Peer::Ours, Peer::Standard),
 ];
 
 /// A table that is measured and printed.
@@ -181,24 +178,11 @@ pub fn measure<R: Threads + Sync + Wait + Clock + CpuClock + AllocGlobal + Print
     plan: Plan,
 ) -> io::Result<()> {
     let (mutex, seats) = new_mutex(rt, 2)?;
-    measure_over(rt, plan, &mutex, seats)
-}
-
-/// The same, where one thread uses this mutex of two seats.
-fn measure_over<R: Threads + Sync + Wait + Clock + CpuClock + AllocGlobal + Print>(
-    rt: &R,
-    plan: Plan,
-    mutex: &Mutex<u64>,
-    mut seats: Vec<Seat<u64>>,
-) -> io::Result<()>
-    requires { (j : ℕ) (s : _) → get_elem? seats.items j ≡ some s → OfMutex s mutex.now }
-{
+    let mut seats = FreeSeats::new(&mutex, seats);
     let (table, seat) = bare_table(rt.alloc())?;
     let standard = std::sync::Mutex::new(0u64);
-    let (other, user) = (last_user(mutex, &mut seats), last_user(mutex, &mut seats));
-    let (Some(other), Some(user)) = (other, user) else {
-        return Err(no_seat());
-    };
+    let other = seats.next_user()?;
+    let user = seats.next_user()?;
     let peers = Peers {
         users: Users { user, other },
         steps: Steps::new(&table.shared, seat),

@@ -9,8 +9,10 @@ use std::io;
 /// Who is measured.
 #[derive(Clone, Copy)]
 pub enum Peer {
-    /// Our mutex and condvars.
+    /// Our mutex and condvars. Several threads lock it by `lock`, in order.
     Ours,
+    /// The same, where they lock it by `lock_barging`.
+    Barging,
     /// The bare steps of our mutex's calls.
     Bare,
     /// Std's mutex and condvars.
@@ -24,8 +26,8 @@ pub enum Column {
     Costs(Peer),
     /// The most calls of a thread over the fewest.
     Fairness(Peer),
-    /// How many times the median of this peer that of ours is.
-    RatioTo(Peer),
+    /// How many times the median of the second peer that of the first is.
+    Ratio(Peer, Peer),
 }
 
 impl Column {
@@ -33,11 +35,12 @@ impl Column {
     pub fn add_titles(self, line: &mut Line) -> Result<(), AllocError> {
         let peer = match self {
             Column::Fairness(_) => return line.add("fairness"),
-            Column::RatioTo(_) => return line.add("ratio"),
+            Column::Ratio(_, _) => return line.add("ratio"),
             Column::Costs(peer) => peer,
         };
         line.add(match peer {
             Peer::Ours => "ours",
+            Peer::Barging => "barging",
             Peer::Bare => "bare",
             Peer::Standard => "std",
         })?;
@@ -49,6 +52,7 @@ impl Column {
 #[derive(Clone, Copy)]
 pub struct Round {
     pub ours: Sample,
+    pub barging: Option<Sample>,
     pub bare: Option<Sample>,
     pub standard: Option<Sample>,
 }
@@ -60,6 +64,7 @@ pub struct Row {
     /// What is measured.
     pub workload: Workload,
     ours: Figures,
+    barging: Figures,
     bare: Figures,
     standard: Figures,
 }
@@ -71,6 +76,7 @@ impl Row {
             name,
             workload,
             ours: Figures::new(alloc),
+            barging: Figures::new(alloc),
             bare: Figures::new(alloc),
             standard: Figures::new(alloc),
         }
@@ -79,6 +85,9 @@ impl Row {
     /// Adds what a round gave.
     pub fn add(&mut self, round: Round) -> Result<(), AllocError> {
         self.ours.add(round.ours)?;
+        if let Some(barging) = round.barging {
+            self.barging.add(barging)?;
+        }
         if let Some(bare) = round.bare {
             self.bare.add(bare)?;
         }
@@ -90,7 +99,10 @@ impl Row {
 
     /// Prints the name, and whether each call did what it was to do.
     pub fn print_check<R: Print>(&self, rt: &R) -> io::Result<()> {
-        let exact = self.ours.is_exact() && self.bare.is_exact() && self.standard.is_exact();
+        let exact = self.ours.is_exact()
+            && self.barging.is_exact()
+            && self.bare.is_exact()
+            && self.standard.is_exact();
         let name = self.name;
         let verdict = if exact { "exact" } else { "not exact" };
         println!(rt; "{name}: {verdict}")
@@ -110,11 +122,11 @@ impl Row {
         match column {
             Column::Costs(peer) => line.add_costs(self.costs(peer)),
             Column::Fairness(peer) => line.add_times(Some(self.fairness(peer))),
-            Column::RatioTo(peer) => {
-                let (Some(ours), Some(others)) = (self.costs(Peer::Ours), self.costs(peer)) else {
+            Column::Ratio(peer, other) => {
+                let (Some(costs), Some(others)) = (self.costs(peer), self.costs(other)) else {
                     return line.add_times(None);
                 };
-                line.add_times(Some(hundredths(ours.median, others.median)))
+                line.add_times(Some(hundredths(costs.median, others.median)))
             }
         }
     }
@@ -122,6 +134,7 @@ impl Row {
     fn costs(&mut self, peer: Peer) -> Option<Quartiles> {
         match peer {
             Peer::Ours => self.ours.costs(),
+            Peer::Barging => self.barging.costs(),
             Peer::Bare => self.bare.costs(),
             Peer::Standard => self.standard.costs(),
         }
@@ -130,6 +143,7 @@ impl Row {
     fn fairness(&mut self, peer: Peer) -> u64 {
         match peer {
             Peer::Ours => self.ours.fairness(),
+            Peer::Barging => self.barging.fairness(),
             Peer::Bare => self.bare.fairness(),
             Peer::Standard => self.standard.fairness(),
         }

@@ -1,5 +1,5 @@
 //! Our mutex, as a thread uses it.
-ghost use Rattle.std.specs.Prelude.{◌≡◌, ℕ, IfOk};
+ghost use Rattle.std.specs.Prelude.{◌≡◌, ℕ, IfOk, IfSome};
 ghost use Rattle.lfm_mutex.specs.Belongs.{OfMutex, limits_of};
 ghost use mathlib.Core.Option.{some};
 ghost use lib.ListN.{get_elem?};
@@ -32,6 +32,15 @@ pub fn new_mutex<R: Threads + Clock + AllocGlobal>(
     Ok((mutex, seats))
 }
 
+/// How several threads lock our mutex.
+#[derive(Clone, Copy)]
+pub enum Locking {
+    /// By `lock`, which serves in order.
+    InOrder,
+    /// By `lock_barging`, which tries for a while before it queues.
+    Barging,
+}
+
 /// A mutex and one of its seats.
 #[derive(Drop)]
 pub struct User<'a> {
@@ -52,6 +61,16 @@ impl<'a> User<'a> {
     #[inline(always)]
     pub fn lock<R: Wait>(&mut self, rt: &R) -> bool {
         let locked = self.mutex.lock(rt, &mut self.seat);
+        matches!(locked, Ok(Locked::Held(_)))
+    }
+
+    /// Locks in this way. Returns whether the mutex was gained, and not held before.
+    #[inline(always)]
+    pub fn lock_by<R: Wait>(&mut self, rt: &R, locking: Locking) -> bool {
+        let locked = match locking {
+            Locking::InOrder => self.mutex.lock(rt, &mut self.seat),
+            Locking::Barging => self.mutex.lock_barging(rt, &mut self.seat),
+        };
         matches!(locked, Ok(Locked::Held(_)))
     }
 
@@ -111,9 +130,14 @@ impl<'a> User<'a> {
         }
     }
 
-    /// The value in hand, where the seat holds.
-    pub fn value(&self) -> Option<u64> {
-        self.seat.value().copied()
+    /// The value under the mutex, which the user locks and unlocks. None where it does not gain the mutex.
+    pub fn final_value<R: Wait>(&mut self, rt: &R) -> Option<u64> {
+        if !self.lock(rt) {
+            return None;
+        }
+        let value = self.seat.value().copied();
+        self.unlock();
+        value
     }
 }
 
@@ -122,13 +146,40 @@ pub fn no_seat() -> io::Error {
     io::ErrorKind::NotFound.into()
 }
 
-/// The user of the last of these seats, which are the mutex's. None where there is none.
-pub fn last_user<'a>(mutex: &'a Mutex<u64>, seats: &mut Vec<Seat<u64>>) -> Option<User<'a>>
+/// A mutex, with its seats that no thread has yet.
+#[derive(Drop)]
+pub struct FreeSeats<'a> {
+    mutex: &'a Mutex<u64>,
+    seats: Vec<Seat<u64>>,
+    ghost of_mutex: { (j : ℕ) (s : _) → get_elem? seats.items j ≡ some s → OfMutex s mutex.now },
+}
+
+impl<'a> FreeSeats<'a> {
+    /// All these seats, which are the mutex's.
+    pub fn new(mutex: &'a Mutex<u64>, seats: Vec<Seat<u64>>) -> FreeSeats<'a>
+        requires { (j : ℕ) (s : _) → get_elem? seats.items j ≡ some s → OfMutex s mutex.now }
+    {
+        FreeSeats { mutex, seats }
+    }
+
+    /// The user of one of them. An error where there is none left.
+    pub fn next_user(&mut self) -> io::Result<User<'a>> {
+        let Some(seat) = last_seat(self.mutex, &mut self.seats) else {
+            return Err(no_seat());
+        };
+        Ok(User::new(self.mutex, seat))
+    }
+}
+
+/// The last of these seats, which are the mutex's. None where there is none.
+pub fn last_seat(mutex: &Mutex<u64>, seats: &mut Vec<Seat<u64>>) -> Option<Seat<u64>>
     requires { (j : ℕ) (s : _) → get_elem? seats.old.items j ≡ some s → OfMutex s mutex.now }
-    ensures { (j : ℕ) (s : _) → get_elem? seats.new.items j ≡ some s → OfMutex s mutex.now }
+    ensures one { IfSome result (λ s. OfMutex s mutex.now) }
+    ensures rest { (j : ℕ) (s : _) → get_elem? seats.new.items j ≡ some s → OfMutex s mutex.now }
 {
+    let _mutex = mutex;
     let seat = seats.pop()?;
-    Some(User::new(mutex, seat))
+    Some(seat)
 }
 
 /// Two users of one mutex.

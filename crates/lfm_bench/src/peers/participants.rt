@@ -6,7 +6,7 @@ ghost use Rattle.lfm_condvar.specs.Belongs.{OfCondvar, cond_limits};
 ghost use mathlib.Core.Option.{some};
 ghost use lib.ListN.{get_elem?};
 
-use crate::peers::ours::{BUDGET, new_mutex};
+use crate::peers::ours::{BUDGET, last_seat, new_mutex};
 use lfm_condvar::{CondSeat, Condvar};
 use lfm_model::Locked;
 use lfm_mutex::{Mutex, Pace, Seat};
@@ -43,7 +43,7 @@ pub struct Shared {
 
 /// The seats of a mutex and its two condvars that no thread has yet.
 #[derive(Drop)]
-pub struct FreeSeats {
+pub struct SeatsOfShared {
     seats: Vec<Seat<u64>>,
     first_seats: Vec<CondSeat>,
     second_seats: Vec<CondSeat>,
@@ -54,7 +54,7 @@ impl Shared {
     pub fn new<R: Threads + Clock + AllocGlobal>(
         rt: &R,
         threads: u64,
-    ) -> io::Result<(Shared, FreeSeats)>
+    ) -> io::Result<(Shared, SeatsOfShared)>
         ensures seats { IfOk result (λ r. (j : ℕ) (s : _) → get_elem? r.1.seats.items j ≡ some s → OfMutex s r.0.mutex) }
         ensures first { IfOk result (λ r. (j : ℕ) (s : _) → get_elem? r.1.first_seats.items j ≡ some s → OfCondvar s r.0.first) }
         ensures second { IfOk result (λ r. (j : ℕ) (s : _) → get_elem? r.1.second_seats.items j ≡ some s → OfCondvar s r.0.second) }
@@ -68,7 +68,7 @@ impl Shared {
             first,
             second,
         };
-        let free = FreeSeats {
+        let free = SeatsOfShared {
             seats,
             first_seats,
             second_seats,
@@ -91,12 +91,12 @@ pub struct Places<'a> {
 
 impl<'a> Places<'a> {
     /// All the seats, which are those of the mutex and the condvars.
-    pub fn new(shared: &'a Shared, free: FreeSeats) -> Places<'a>
+    pub fn new(shared: &'a Shared, free: SeatsOfShared) -> Places<'a>
         requires seats { (j : ℕ) (s : _) → get_elem? free.seats.items j ≡ some s → OfMutex s shared.now.mutex }
         requires first { (j : ℕ) (s : _) → get_elem? free.first_seats.items j ≡ some s → OfCondvar s shared.now.first }
         requires second { (j : ℕ) (s : _) → get_elem? free.second_seats.items j ≡ some s → OfCondvar s shared.now.second }
     {
-        let FreeSeats {
+        let SeatsOfShared {
             seats,
             first_seats,
             second_seats,
@@ -126,17 +126,6 @@ impl<'a> Places<'a> {
             second_seat,
         })
     }
-}
-
-/// The last of these seats, which are the mutex's. None where there is none.
-fn last_seat(mutex: &Mutex<u64>, seats: &mut Vec<Seat<u64>>) -> Option<Seat<u64>>
-    requires { (j : ℕ) (s : _) → get_elem? seats.old.items j ≡ some s → OfMutex s mutex.now }
-    ensures one { IfSome result (λ s. OfMutex s mutex.now) }
-    ensures rest { (j : ℕ) (s : _) → get_elem? seats.new.items j ≡ some s → OfMutex s mutex.now }
-{
-    let _mutex = mutex;
-    let seat = seats.pop()?;
-    Some(seat)
 }
 
 /// The last of these cond seats, which are the condvar's. None where there is none.

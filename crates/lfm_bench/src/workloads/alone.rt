@@ -59,6 +59,7 @@ pub fn round<R: Wait + CpuClock, C: Call>(
     let bare = bare_calls::<R, C>(rt, &mut peers.steps, calls)?;
     Ok(Round {
         ours: ours.provided(held && left),
+        barging: None,
         bare: Some(bare),
         standard: None,
     })

@@ -124,6 +124,7 @@ pub fn round<R: Threads + Sync + Wait + Clock + AllocGlobal>(
 ) -> io::Result<Round> {
     Ok(Round {
         ours: ours(rt, load)?,
+        barging: None,
         bare: None,
         standard: Some(standard(rt, load)?),
     })

@@ -1,18 +1,13 @@
 //! Several threads take turns at one mutex for a fixed time. In a turn a thread gains the mutex, adds 1 to the value under
 //! it, works for a while, unlocks, and works for a while outside.
-ghost use Rattle.std.specs.Prelude.{◌≡◌, ℕ};
-ghost use Rattle.lfm_mutex.specs.Belongs.{OfMutex};
-ghost use mathlib.Core.Option.{some};
-ghost use lib.ListN.{get_elem?};
 
 use crate::measure::wall_clock::{now, since};
 use crate::measure::{Busy, Gate, Round, Sample, Turns, contest};
-use crate::peers::ours::{User, last_user, new_mutex, no_seat};
-use lfm_mutex::{Mutex, Seat};
+use crate::peers::ours::{FreeSeats, Locking, User, new_mutex};
 use std::alloc::AllocError;
 use std::io;
-use std::sync::Wait;
-use std::thread::{Threads, join, map_indices, map_vec};
+use std::sync::{Mutex, Wait};
+use std::thread::{Threads, join, map_vec};
 use std::time::{Clock, Duration};
 
 /// The most turns that a thread takes.
@@ -31,119 +26,78 @@ pub struct Load {
     pub window: Duration,
 }
 
+/// A thread that takes turns at a mutex.
+trait Contender {
+    /// Gains the mutex, adds 1 to the value, makes so many steps of work, and unlocks. Returns whether it gained the mutex.
+    fn hold<R: Wait>(&mut self, rt: &R, busy: &mut Busy, steps: u64) -> bool;
+}
+
+/// A thread at our mutex.
+#[derive(Drop)]
+struct OurThread<'a> {
+    user: User<'a>,
+    locking: Locking,
+}
+
+impl Contender for OurThread<'_> {
+    #[inline(always)]
+    fn hold<R: Wait>(&mut self, rt: &R, busy: &mut Busy, steps: u64) -> bool {
+        let gained = self.user.lock_by(rt, self.locking);
+        if gained {
+            self.user.add_one();
+            busy.work(steps);
+        }
+        self.user.unlock();
+        gained
+    }
+}
+
+/// A thread at std's mutex.
+#[derive(Drop)]
+struct StandardThread<'a> {
+    mutex: &'a Mutex<u64>,
+}
+
+impl Contender for StandardThread<'_> {
+    #[inline(always)]
+    fn hold<R: Wait>(&mut self, rt: &R, busy: &mut Busy, steps: u64) -> bool {
+        let mut guard = self.mutex.lock(rt);
+        *guard = guard.wrapping_add(1);
+        busy.work(steps);
+        drop(guard);
+        true
+    }
+}
+
 /// A round.
 pub fn round<R: Threads + Sync + Wait + Clock + AllocGlobal>(
     rt: &R,
     load: Load,
 ) -> io::Result<Round> {
     Ok(Round {
-        ours: ours(rt, load)?,
+        ours: ours(rt, load, Locking::InOrder)?,
+        barging: Some(ours(rt, load, Locking::Barging)?),
         bare: None,
         standard: Some(standard(rt, load)?),
     })
 }
 
 /// A round with our mutex.
-fn ours<R: Threads + Sync + Wait + Clock + AllocGlobal>(rt: &R, load: Load) -> io::Result<Sample> {
+fn ours<R: Threads + Sync + Wait + Clock + AllocGlobal>(
+    rt: &R,
+    load: Load,
+    locking: Locking,
+) -> io::Result<Sample> {
     let (mutex, seats) = new_mutex(rt, load.threads.saturating_add(1))?;
-    over_seats(rt, load, &mutex, seats)
-}
-
-/// A round with our mutex and all its seats. The last of them is the one that reads the value after all.
-fn over_seats<R: Threads + Sync + Wait + Clock>(
-    rt: &R,
-    load: Load,
-    mutex: &Mutex<u64>,
-    mut seats: Vec<Seat<u64>>,
-) -> io::Result<Sample>
-    requires { (j : ℕ) (s : _) → get_elem? seats.items j ≡ some s → OfMutex s mutex.now }
-{
-    let mut reader = last_user(mutex, &mut seats).ok_or(no_seat())?;
-    let turns = our_turns(rt, load, mutex, seats)?;
-    let value = if reader.lock(rt) {
-        reader.value()
-    } else {
-        None
-    };
-    Ok(contest(&turns, value))
-}
-
-/// The turns of these seats of our mutex, while the gate is open.
-fn our_turns<R: Threads + Sync + Wait + Clock>(
-    rt: &R,
-    load: Load,
-    mutex: &Mutex<u64>,
-    seats: Vec<Seat<u64>>,
-) -> Result<Vec<Turns>, AllocError>
-    requires { (j : ℕ) (s : _) → get_elem? seats.items j ≡ some s → OfMutex s mutex.now }
-{
-    let gate = Gate::new(load.threads);
-    let shared = &gate;
-    let (_, turns) = join(
-        rt,
-        move || shared.shut_after(rt, load.window),
-        move || -> Result<Vec<Turns>, AllocError>
-            requires { (j : ℕ) (s : _) → get_elem? seats.items j ≡ some s → OfMutex s mutex.now }
-        { our_parts(rt, load, shared, mutex, seats) },
-    );
-    turns
-}
-
-/// The turns of these seats of our mutex, a thread for each of them.
-fn our_parts<R: Threads + Sync + Wait + Clock>(
-    rt: &R,
-    load: Load,
-    gate: &Gate,
-    mutex: &Mutex<u64>,
-    seats: Vec<Seat<u64>>,
-) -> Result<Vec<Turns>, AllocError>
-    requires { (j : ℕ) (s : _) → get_elem? seats.items j ≡ some s → OfMutex s mutex.now }
-{
-    map_vec(
-        rt,
-        seats,
-        &|seat: Seat<u64>| -> Turns
-            requires { OfMutex seat mutex.now }
-        { our_part(rt, load, gate, mutex, seat) },
-    )
-}
-
-/// The turns of one seat of our mutex.
-fn our_part<R: Wait + Clock>(
-    rt: &R,
-    load: Load,
-    gate: &Gate,
-    mutex: &Mutex<u64>,
-    seat: Seat<u64>,
-) -> Turns
-    requires { OfMutex seat mutex.now }
-{
-    take_turns(rt, load, gate, User::new(mutex, seat))
-}
-
-/// The turns of one user.
-fn take_turns<R: Wait + Clock>(rt: &R, load: Load, gate: &Gate, mut user: User) -> Turns {
-    let mut busy = Busy::new();
-    let mut acquisitions = 0u64;
-    gate.pass();
-    let start = now(rt);
-    for _ in 0..MOST_TURNS {
-        if gate.is_shut() {
-            break;
-        }
-        if user.lock(rt) {
-            user.add_one();
-            busy.work(load.inside);
-            acquisitions = acquisitions.wrapping_add(1);
-        }
-        user.unlock();
-        busy.work(load.outside);
+    let mut seats = FreeSeats::new(&mutex, seats);
+    let mut reader = seats.next_user()?;
+    let mut contenders = Vec::new(rt.alloc());
+    for _ in 0..load.threads {
+        let user = seats.next_user()?;
+        contenders.push(OurThread { user, locking })?;
     }
-    Turns {
-        acquisitions,
-        nanoseconds: since(rt, start),
-        worked: busy.is_sound(),
-    }
+    let turns = turns_of(rt, load, contenders)?;
+    Ok(contest(&turns, reader.final_value(rt)))
 }
 
 /// A round with std's mutex.
@@ -151,41 +105,37 @@ fn standard<R: Threads + Sync + Wait + Clock + AllocGlobal>(
     rt: &R,
     load: Load,
 ) -> io::Result<Sample> {
-    let mutex = std::sync::Mutex::new(0u64);
-    let turns = standard_turns(rt, load, &mutex)?;
+    let mutex = Mutex::new(0u64);
+    let mut contenders = Vec::new(rt.alloc());
+    for _ in 0..load.threads {
+        contenders.push(StandardThread { mutex: &mutex })?;
+    }
+    let turns = turns_of(rt, load, contenders)?;
     Ok(contest(&turns, Some(mutex.into_inner())))
 }
 
-/// The turns of all threads at std's mutex.
-fn standard_turns<R: Threads + Sync + Wait + Clock + AllocGlobal>(
+/// The turns of these threads, while the gate is open.
+fn turns_of<R: Threads + Sync + Wait + Clock, C: Contender + Send + Drop>(
     rt: &R,
     load: Load,
-    mutex: &std::sync::Mutex<u64>,
-) -> io::Result<Vec<Turns>> {
+    contenders: Vec<C>,
+) -> Result<Vec<Turns>, AllocError> {
     let gate = Gate::new(load.threads);
     let shared = &gate;
-    let alloc = rt.alloc();
     let (_, turns) = join(
         rt,
         move || shared.shut_after(rt, load.window),
-        move || {
-            map_indices(
-                rt,
-                alloc,
-                load.threads as usize,
-                &|_| standard_part(rt, load, shared, mutex),
-            )
-        },
+        move || map_vec(rt, contenders, &|one| take_turns(rt, load, shared, one)),
     );
-    Ok(turns?)
+    turns
 }
 
-/// The turns of one thread at std's mutex.
-fn standard_part<R: Wait + Clock>(
+/// The turns of one thread.
+fn take_turns<R: Wait + Clock, C: Contender + Drop>(
     rt: &R,
     load: Load,
     gate: &Gate,
-    mutex: &std::sync::Mutex<u64>,
+    mut contender: C,
 ) -> Turns {
     let mut busy = Busy::new();
     let mut acquisitions = 0u64;
@@ -195,11 +145,9 @@ fn standard_part<R: Wait + Clock>(
         if gate.is_shut() {
             break;
         }
-        let mut guard = mutex.lock(rt);
-        *guard = guard.wrapping_add(1);
-        busy.work(load.inside);
-        drop(guard);
-        acquisitions = acquisitions.wrapping_add(1);
+        if contender.hold(rt, &mut busy, load.inside) {
+            acquisitions = acquisitions.wrapping_add(1);
+        }
         busy.work(load.outside);
     }
     Turns {

@@ -3,7 +3,7 @@
 //! almost nothing. std's mutex has no such call.
 
 use crate::measure::{Gate, Round, Sample, Start, Steps, Stopwatch};
-use crate::peers::ours::{User, last_user, new_mutex, no_seat};
+use crate::peers::ours::{FreeSeats, User, new_mutex};
 use std::sync::Wait;
 use std::thread::{Threads, join};
 use std::time::{Clock, CpuClock, Duration};
@@ -27,6 +27,7 @@ pub fn round<R: Threads + Sync + Wait + Clock + CpuClock + AllocGlobal>(
     let longest = Duration::from_nanos(longest.saturating_add(STARTING));
     Ok(Round {
         ours: ours(rt, looks, longest)?,
+        barging: None,
         bare: Some(bare),
         standard: None,
     })
@@ -38,9 +39,10 @@ fn ours<R: Threads + Sync + Wait + Clock + CpuClock + AllocGlobal>(
     looks: u32,
     longest: Duration,
 ) -> io::Result<Sample> {
-    let (mutex, mut seats) = new_mutex(rt, 2)?;
-    let holder = last_user(&mutex, &mut seats).ok_or(no_seat())?;
-    let sleeper = last_user(&mutex, &mut seats).ok_or(no_seat())?;
+    let (mutex, seats) = new_mutex(rt, 2)?;
+    let mut seats = FreeSeats::new(&mutex, seats);
+    let holder = seats.next_user()?;
+    let sleeper = seats.next_user()?;
     our_round(rt, looks, longest, holder, sleeper)
 }
 

@@ -40,6 +40,7 @@ pub fn round<R: Threads + Sync + Wait + Clock + AllocGlobal>(
 ) -> io::Result<Round> {
     Ok(Round {
         ours: ours(rt, turns)?,
+        barging: None,
         bare: None,
         standard: Some(standard(rt, turns)),
     })

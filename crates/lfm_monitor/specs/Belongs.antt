@@ -1,7 +1,7 @@
 -- What belongs to a monitor. Contracts name a monitor and its passes by these words alone.
 use Rattle.std.specs.Prelude.{◌≡◌, ℕ, List, length}
 use Rattle.lfm_protocol.specs.declared.limits.Limits.{Limits}
-use Rattle.lfm_mutex.specs.Belongs.{OfMutex, limits_of}
+use Rattle.lfm_mutex.specs.Belongs.{OfMutex, limits_of, tries_of}
 use Rattle.lfm_mutex.specs.calls.Sight.{Sight, sight}
 use Rattle.lfm_condvar.specs.declared.condvar.Condvar.{Condvar}
 use Rattle.lfm_condvar.specs.declared.cond_seat.CondSeat.{CondSeat}
@@ -19,6 +19,10 @@ module _ {O A R : Type 0} {K : _} where
   -- how many seats its mutex has, and how many takes each may make
   abbrev pub mutex_limits : Monitor O A R K → Limits
   mutex_limits m = limits_of m.mutex
+
+  -- how often a pass tries its mutex at most before it queues, in a call that tries before it queues
+  abbrev pub tries_in : Monitor O A R K → ℕ
+  tries_in m = tries_of m.mutex
 
   -- how many passes the monitor has
   abbrev pub passes_of : Monitor O A R K → ℕ

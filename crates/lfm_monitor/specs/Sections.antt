@@ -4,9 +4,9 @@ use Rattle.lfm_model.specs.declared.answers.Locked.{Locked}
 use Rattle.lfm_model.specs.declared.refusals.Refusal.{Refusal}
 use Rattle.lfm_monitor.specs.declared.monitor.Monitor.{Monitor}
 use Rattle.lfm_monitor.specs.declared.pass.Pass.{Pass}
-use Rattle.lfm_monitor.specs.Belongs.{OfMonitor, cond_seats_of, mine_of, mutex_limits, pass_sight, seen_of, share_of}
+use Rattle.lfm_monitor.specs.Belongs.{OfMonitor, cond_seats_of, mine_of, mutex_limits, pass_sight, seen_of, share_of, tries_in}
 use Rattle.lfm_monitor.specs.Passes.{EnterEnds, EnterRefused, journal_of}
-use Rattle.lfm_monitor.specs.Steps.{ByLocking, ByUnlocks}
+use Rattle.lfm_monitor.specs.Steps.{ByBarging, ByUnlocks}
 
 module _ {O A R : Type 0} {K : _} where
   -- nothing that a pass tells of itself is other than it was
@@ -31,14 +31,14 @@ module _ {O A R : Type 0} {K : _} where
   GivesUpTo depth p q = GivesUp p q × ((pass_sight q).depth ≡ min (pass_sight p).depth depth)
 
 module _ {O A R U : Type 0} {K : _} (m : Monitor O A R K) (makes : Pass O A R K → Pass O A R K → Result U Refusal → Type 0) where
-  -- The pass entered as `enter` does, by its steps. From there the section made of it what it may make, and answered r. Then the pass gave up
-  -- its holds down to the depth that it began with, by the steps of `leave` alone
+  -- The pass entered as `enter` does, by the steps of a lock that tries before it queues. From there the section made of it what it may
+  -- make, and answered r. Then the pass gave up its holds down to the depth that it began with, by the steps of `leave` alone
   pub record Holds (p q : Pass O A R K) (r : Result U Refusal) : Type 0 where
     pub entered : Pass O A R K
     pub executed : Pass O A R K
     pub locked : Locked
     pub enters : EnterEnds (share_of m) (pass_sight p) (pass_sight entered) (mine_of p) (mine_of entered) (Ok locked)
-    pub steps : ByLocking (mutex_limits m) (pass_sight p) (pass_sight entered) (Ok locked)
+    pub steps : ByBarging (mutex_limits m) (tries_in m) (pass_sight p) (pass_sight entered) (Ok locked)
     pub keeps : (seen_of entered ≡ seen_of p) × (cond_seats_of entered ≡ cond_seats_of p)
     pub belong : OfMonitor entered m × OfMonitor executed m
     pub executes : makes entered executed r

@@ -9,8 +9,10 @@ use Rattle.lfm_protocol.specs.declared.answers.Call.{Call}
 use Rattle.lfm_protocol.specs.declared.answers.Turn.TheVariants.{Ended, Refused}
 use Rattle.lfm_protocol.specs.declared.answers.Why.{Why}
 use Rattle.lfm_protocol.specs.declared.limits.Limits.{Limits}
+use Rattle.lfm_mutex.specs.calls.Barging.{BargesBy}
 use Rattle.lfm_mutex.specs.calls.Sight.{Sight}
 use Rattle.lfm_mutex.specs.calls.Trails.{Makes, LocksBy}
+use Rattle.lfm_monitor.specs.declared.enter.Locking.{Locking}
 
 module _ {T : Type 0} (l : Limits) where
   -- the seat has made the steps of this call of the mutex, and the answer is what the last of them says; refused as Busy, it has
@@ -24,6 +26,16 @@ module _ {T : Type 0} (l : Limits) where
   abbrev pub ByLocking : Sight T → Sight T → Result Locked Refusal → Type 0
   ByLocking s t (Ok locked) = LocksBy l s t (Ok locked)
   ByLocking s t (Err r) = t ≡ s
+
+  -- the same of lock_barging, which makes n tries at most before it queues
+  abbrev pub ByBarging : ℕ → Sight T → Sight T → Result Locked Refusal → Type 0
+  ByBarging n s t (Ok locked) = BargesBy l n s t (Ok locked)
+  ByBarging n s t (Err r) = t ≡ s
+
+  -- the steps of the one of these two locks that is chosen
+  abbrev pub ByLockingAs : Locking → ℕ → Sight T → Sight T → Result Locked Refusal → Type 0
+  ByLockingAs Locking.InOrder n s t r = ByLocking s t r
+  ByLockingAs Locking.Barging n s t r = ByBarging n s t r
 
   -- the seat has made the steps of so many unlocks, one after another, and no others
   abbrev pub ByUnlocks : ℕ → Sight T → Sight T → Type 0

@@ -1,16 +1,31 @@
-//! `enter`, and `ask`, which is `enter` up to the point where it would sleep. Each hold that begins is written down.
+//! `enter`, and `ask`, which is `enter` up to the point where it would sleep. Each hold that begins is written down. `hold` enters
+//! by a private form of `enter`, which tries before it queues.
 ghost use Rattle.lfm_protocol.specs.declared.answers.Answer.TheVariants as Answered;
 ghost use Rattle.lfm_protocol.specs.declared.answers.Call.{Call};
-ghost use Rattle.lfm_monitor.specs.Belongs.{OfMonitor, cond_seats_of, mine_of, mutex_limits, pass_sight, seen_of, share_of};
+ghost use Rattle.lfm_mutex.specs.Belongs.{Beside, OfMutex};
+ghost use Rattle.lfm_mutex.specs.calls.Sight.{LocksWaiting, sight};
+ghost use Rattle.lfm_monitor.specs.Belongs.{OfMonitor, cond_seats_of, mine_of, mutex_limits, pass_sight, seen_of, share_of, tries_in};
+ghost use Rattle.lfm_monitor.specs.Journaled.{JournalFits, JournalFollows};
 ghost use Rattle.lfm_monitor.specs.Passes.{AskEnds, EnterEnds};
-ghost use Rattle.lfm_monitor.specs.Steps.{ByLocking, BySteps};
+ghost use Rattle.lfm_monitor.specs.Steps.{ByLocking, ByLockingAs, BySteps};
 ghost use Rattle.std.specs.Prelude.{◌≡◌};
 
+use crate::journaled::Journaled;
 use crate::monitor::Monitor;
 use crate::pass::Pass;
 use crate::write::write_took;
 use lfm_model::{Asked, Locked, Object, Refusal};
+use lfm_mutex::Seat;
 use std::sync::Wait;
+
+/// How a pass that is to hold locks the mutex of the monitor.
+#[derive(Clone, Copy)]
+pub(crate) enum Locking {
+    // By `lock`: it queues at once where another holds.
+    InOrder,
+    // By `lock_barging`: it tries for as long as the pace says before it queues.
+    Barging,
+}
 
 impl<O: Object> Monitor<O> {
     /// `enter` up to the point where it would sleep: gains the monitor, deepens the hold, or queues the pass, which then sleeps
@@ -55,10 +70,29 @@ impl<O: Object> Monitor<O> {
         ensures conditions { cond_seats_of pass.new ≡ cond_seats_of pass.old }
         ensures steps { ByLocking (mutex_limits self.now) (pass_sight pass.old) (pass_sight pass.new) result }
     {
+        self.enter_by(rt, pass, Locking::InOrder)
+    }
+
+    // `enter`, with the mutex locked in this way.
+    #[inline(always)]
+    pub(crate) fn enter_by<R: Wait>(
+        &self,
+        rt: &R,
+        pass: &mut Pass<O>,
+        locking: Locking,
+    ) -> Result<Locked, Refusal>
+        requires belongs { OfMonitor pass.old self.now }
+        ensures belongs { OfMonitor pass.new self.now }
+        ensures number { (pass_sight pass.new).number ≡ (pass_sight pass.old).number }
+        ensures enters { EnterEnds (share_of self.now) (pass_sight pass.old) (pass_sight pass.new) (mine_of pass.old) (mine_of pass.new) result }
+        ensures seen { seen_of pass.new ≡ seen_of pass.old }
+        ensures conditions { cond_seats_of pass.new ≡ cond_seats_of pass.old }
+        ensures steps { ByLockingAs (mutex_limits self.now) locking (tries_in self.now) (pass_sight pass.old) (pass_sight pass.new) result }
+    {
         if pass.lacks_entry(self.share) {
             return Err(Refusal::Spent);
         }
-        let locked = self.mutex.lock(rt, &mut pass.seat)?;
+        let locked = self.lock_by(rt, &mut pass.seat, locking)?;
         let how = match locked {
             Locked::Again(depth) => return Ok(Locked::Again(depth)),
             Locked::Held(how) => how,
@@ -66,5 +100,24 @@ impl<O: Object> Monitor<O> {
         write_took(&mut pass.seat, how);
         pass.mine += 1;
         Ok(Locked::Held(how))
+    }
+
+    // Locks the mutex in this way.
+    #[inline(always)]
+    fn lock_by<R: Wait>(
+        &self,
+        rt: &R,
+        seat: &mut Seat<Journaled<O>>,
+        locking: Locking,
+    ) -> Result<Locked, Refusal>
+        requires belongs { OfMutex seat.old self.now.mutex }
+        ensures belongs { Beside seat.old seat.new }
+        ensures locks { LocksWaiting JournalFollows JournalFits (mutex_limits self.now).budget (sight seat.old) (sight seat.new) result }
+        ensures steps { ByLockingAs (mutex_limits self.now) locking (tries_in self.now) (sight seat.old) (sight seat.new) result }
+    {
+        match locking {
+            Locking::InOrder => self.mutex.lock(rt, seat),
+            Locking::Barging => self.mutex.lock_barging(rt, seat),
+        }
     }
 }

@@ -6,6 +6,7 @@ ghost use Rattle.lfm_monitor.specs.Sections.{GivesUpTo, HoldEnds};
 ghost use Rattle.lfm_monitor.specs.Steps.{ByUnlocks};
 ghost use Rattle.std.specs.Prelude.{◌≤◌, ℕ, Result};
 
+use crate::enter::Locking;
 use crate::monitor::Monitor;
 use crate::pass::Pass;
 use lfm_model::{Object, Refusal};
@@ -80,7 +81,7 @@ impl<O: Object> Monitor<O> {
         ensures holds { HoldEnds self.now (λ p q r. S.makes section.now round p q r) pass.old pass.new result }
     {
         let depth = pass.depth();
-        let _locked = self.enter(rt, pass)?;
+        let _locked = self.enter_by(rt, pass, Locking::Barging)?;
         let answer = section.execute(rt, self, pass, round);
         self.leave_down_to(pass, depth);
         answer

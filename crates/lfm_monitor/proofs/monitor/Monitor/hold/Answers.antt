@@ -7,7 +7,7 @@ use Rattle.lfm_monitor.proofs.monitor.Monitor.hold.Goals as goal
 pub returns-clause-holds : goal.returns-clause-holds
 returns-clause-holds g c = let e = c.in_ok-_locked.ensures in let x = c.execute-answer in
     held {U = g.row.S-Answer.Denot} c.args.self.now (λ p q r. g.S.CriticalSection.makes c.args.section.now c.args.round p q r) c.args.pass.now c.leave_down_to.new.pass x.result record {
-      entered = c.enter.new.pass;
+      entered = c.enter_by.new.pass;
       executed = x.new.pass;
       locked = c.in_ok-_locked._locked;
       enters = e.enters;

@@ -8,12 +8,12 @@ use Rattle.lfm_monitor.specs.declared.journaled.Journaled.{Journaled}
 use Rattle.lfm_monitor.specs.Conditions.{WaitEnds, WaitRefused}
 
 module _ {O A R : Type 0} {K : _} where
-  pub barred : (user own : Limits) (share count condition : ℕ) (cs : List CondSeat) (s : Sight (Journaled O A R K)) (mine : ℕ) (r : Refusal) → WaitRefused share s mine r → WaitEnds user own share count condition cs cs s s mine (Err r)
-  barred user own share count condition cs s mine Refusal.Asleep h = (h, refl, refl)
-  barred user own share count condition cs s mine Refusal.NotOwner h = (h, refl, refl)
-  barred user own share count condition cs s mine Refusal.Nested h = (h, refl, refl)
-  barred user own share count condition cs s mine Refusal.DepthFull h = (h, refl, refl)
-  barred user own share count condition cs s mine Refusal.Spent h = (inl (h, refl), refl)
-  barred user own share count condition cs s mine Refusal.NoSuchSeat h = absurd h
-  barred user own share count condition cs s mine Refusal.NotWaiting h = (h, refl, refl)
-  barred user own share count condition cs s mine Refusal.Busy h = absurd h
+  pub barred : (user own : Limits) (tries share count condition : ℕ) (cs : List CondSeat) (s : Sight (Journaled O A R K)) (mine : ℕ) (r : Refusal) → WaitRefused share s mine r → WaitEnds user own tries share count condition cs cs s s mine (Err r)
+  barred user own tries share count condition cs s mine Refusal.Asleep h = (h, refl, refl)
+  barred user own tries share count condition cs s mine Refusal.NotOwner h = (h, refl, refl)
+  barred user own tries share count condition cs s mine Refusal.Nested h = (h, refl, refl)
+  barred user own tries share count condition cs s mine Refusal.DepthFull h = (h, refl, refl)
+  barred user own tries share count condition cs s mine Refusal.Spent h = (inl (h, refl), refl)
+  barred user own tries share count condition cs s mine Refusal.NoSuchSeat h = absurd h
+  barred user own tries share count condition cs s mine Refusal.NotWaiting h = (h, refl, refl)
+  barred user own tries share count condition cs s mine Refusal.Busy h = absurd h

@@ -34,10 +34,10 @@ module _ {O A R : Type 0} {K : _} where
       (λ z. record { out = w.1.3; quiet = w.5; room = λ l at. let e = (left_of opening seats share s m seen mine kept of w.1 l at).2 in omega arith }) long
 
   -- what the condvar's wait tells of it
-  pub waited : (user own : Limits) (c d : Sight Waiters) (s t : Sight (Journaled O A R K)) (r : How × ℕ) (seen mine n : ℕ) (opening : O) (seats share : ℕ) → PassKept s seen mine → Began opening seats share s → mine < share
-      → ((v : Journaled O A R K) → s.value ≡ Some v → n ≡ length v.journal.items) → CondWaitEnds JournalFollows JournalFits user own c d s t (Ok r)
+  pub waited : (user own : Limits) (tries : ℕ) (c d : Sight Waiters) (s t : Sight (Journaled O A R K)) (r : How × ℕ) (seen mine n : ℕ) (opening : O) (seats share : ℕ) → PassKept s seen mine → Began opening seats share s → mine < share
+      → ((v : Journaled O A R K) → s.value ≡ Some v → n ≡ length v.journal.items) → CondWaitEnds JournalFollows JournalFits user own tries c d s t (Ok r)
       → (m : Sight (Journaled O A R K)) × SleepsAndComes r.0 s m t n mine opening seats share
-  waited user own c d s t r seen mine n opening seats share kept of room long h = let m = h.0 in let w = h.1.3.2.1 in let back = h.2.0 in let in_sleep = slept h.1.3.2.0 user.budget s m seen mine n opening seats share kept of room w long in (
+  waited user own tries c d s t r seen mine n opening seats share kept of room long h = let m = h.0 in let w = h.1.3.2.1 in let back = h.2.0 in let in_sleep = slept h.1.3.2.0 user.budget s m seen mine n opening seats share kept of room w long in (
     m,
     record {
       kept = in_sleep;
@@ -81,27 +81,27 @@ module _ {O A R : Type 0} {K : _} where
   }
 
   -- a refusal of the condvar's wait leaves the user seat as it was
-  pub wait_refused : (user own : Limits) (c d : Sight Waiters) (s t : Sight (Journaled O A R K)) (r : Refusal) → CondWaitEnds JournalFollows JournalFits user own c d s t (Err r) → t ≡ s
-  wait_refused user own c d s t Refusal.Asleep h = h.2
-  wait_refused user own c d s t Refusal.NotOwner h = h.2
-  wait_refused user own c d s t Refusal.Nested h = h.2
-  wait_refused user own c d s t Refusal.DepthFull h = h.2
-  wait_refused user own c d s t Refusal.Spent h = h.4
-  wait_refused user own c d s t Refusal.NoSuchSeat h = h.4
-  wait_refused user own c d s t Refusal.NotWaiting h = h.2
-  wait_refused user own c d s t Refusal.Busy h = h.3.4
+  pub wait_refused : (user own : Limits) (tries : ℕ) (c d : Sight Waiters) (s t : Sight (Journaled O A R K)) (r : Refusal) → CondWaitEnds JournalFollows JournalFits user own tries c d s t (Err r) → t ≡ s
+  wait_refused user own tries c d s t Refusal.Asleep h = h.2
+  wait_refused user own tries c d s t Refusal.NotOwner h = h.2
+  wait_refused user own tries c d s t Refusal.Nested h = h.2
+  wait_refused user own tries c d s t Refusal.DepthFull h = h.2
+  wait_refused user own tries c d s t Refusal.Spent h = h.4
+  wait_refused user own tries c d s t Refusal.NoSuchSeat h = h.4
+  wait_refused user own tries c d s t Refusal.NotWaiting h = h.2
+  wait_refused user own tries c d s t Refusal.Busy h = h.3.4
 
   -- how wait ends where the pass may wait, and the condvar refused it
-  pub refused : (user own : Limits) (share count condition : ℕ) (cs ds : List CondSeat) (s t : Sight (Journaled O A R K)) (mine : ℕ) (r : Refusal) → user.budget ≡ share → MayWait share s mine → s.number ≤ own.seats
-      → OnCondition condition cs ds (λ c d. CondWaitEnds JournalFollows JournalFits user own c d s t (Err r)) → WaitEnds user own share count condition cs ds s t mine (Err r)
-  refused user own share count condition cs ds s t mine Refusal.Asleep spent may named h = absurd (let a = may.0 in let b = h.6.0 in cc)
-  refused user own share count condition cs ds s t mine Refusal.NotOwner spent may named h = absurd (let a = may.1 in let b = h.6.0.1 in omega arith)
-  refused user own share count condition cs ds s t mine Refusal.Nested spent may named h = absurd (let a = may.1 in let b = h.6.0.1 in omega arith)
-  refused user own share count condition cs ds s t mine Refusal.DepthFull spent may named h = absurd h.6.0
-  refused user own share count condition cs ds s t mine Refusal.Spent spent may named h = (
+  pub refused : (user own : Limits) (tries share count condition : ℕ) (cs ds : List CondSeat) (s t : Sight (Journaled O A R K)) (mine : ℕ) (r : Refusal) → user.budget ≡ share → MayWait share s mine → s.number ≤ own.seats
+      → OnCondition condition cs ds (λ c d. CondWaitEnds JournalFollows JournalFits user own tries c d s t (Err r)) → WaitEnds user own tries share count condition cs ds s t mine (Err r)
+  refused user own tries share count condition cs ds s t mine Refusal.Asleep spent may named h = absurd (let a = may.0 in let b = h.6.0 in cc)
+  refused user own tries share count condition cs ds s t mine Refusal.NotOwner spent may named h = absurd (let a = may.1 in let b = h.6.0.1 in omega arith)
+  refused user own tries share count condition cs ds s t mine Refusal.Nested spent may named h = absurd (let a = may.1 in let b = h.6.0.1 in omega arith)
+  refused user own tries share count condition cs ds s t mine Refusal.DepthFull spent may named h = absurd h.6.0
+  refused user own tries share count condition cs ds s t mine Refusal.Spent spent may named h = (
     inr (may, (h.0, h.1, h.2, h.3, h.4, h.5, ⊎_elim (λ q. absurd (let a = may.2 in let b = spent in omega arith)) (λ q. (q, h.6.3)) h.6.2)),
     h.6.4,
   )
-  refused user own share count condition cs ds s t mine Refusal.NoSuchSeat spent may named h = absurd (let a = h.6.2 in omega arith)
-  refused user own share count condition cs ds s t mine Refusal.NotWaiting spent may named h = absurd h.6.0
-  refused user own share count condition cs ds s t mine Refusal.Busy spent may named h = (may, h)
+  refused user own tries share count condition cs ds s t mine Refusal.NoSuchSeat spent may named h = absurd (let a = h.6.2 in omega arith)
+  refused user own tries share count condition cs ds s t mine Refusal.NotWaiting spent may named h = absurd h.6.0
+  refused user own tries share count condition cs ds s t mine Refusal.Busy spent may named h = (may, h)

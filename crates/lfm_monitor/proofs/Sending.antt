@@ -46,27 +46,27 @@ module _ {T : Type 0} where
   sent_all n s t v w (Err Refusal.Busy) h = absurd h
 
   -- what a wake changes of the user seat
-  pub one_sent : (n : ℕ) (own : Limits) (c d : Sight Waiters) (s t : Sight T) (r : Result (Option (ℕ × ℕ)) Refusal) → CondWakeOneEnds n own c d s t r → OnlySends s t
-  one_sent n own c d s t (Ok x) h = sent_oldest n s t h.0 h.1 (Ok x) h.3
-  one_sent n own c d s t (Err Refusal.Asleep) h = only s t s.trail s.sends h.2
-  one_sent n own c d s t (Err Refusal.NotOwner) h = absurd h.3
-  one_sent n own c d s t (Err Refusal.Nested) h = absurd h.3
-  one_sent n own c d s t (Err Refusal.DepthFull) h = absurd h.3
-  one_sent n own c d s t (Err Refusal.Spent) h = only s t s.trail s.sends h.3
-  one_sent n own c d s t (Err Refusal.NoSuchSeat) h = absurd h.3
-  one_sent n own c d s t (Err Refusal.NotWaiting) h = sent_oldest n s t h.0 h.1 (Err Refusal.NotWaiting) h.3
-  one_sent n own c d s t (Err Refusal.Busy) h = absurd h.3
+  pub one_sent : (n : ℕ) (own : Limits) (tries : ℕ) (c d : Sight Waiters) (s t : Sight T) (r : Result (Option (ℕ × ℕ)) Refusal) → CondWakeOneEnds n own tries c d s t r → OnlySends s t
+  one_sent n own tries c d s t (Ok x) h = sent_oldest n s t h.0 h.1 (Ok x) h.3
+  one_sent n own tries c d s t (Err Refusal.Asleep) h = only s t s.trail s.sends h.2
+  one_sent n own tries c d s t (Err Refusal.NotOwner) h = absurd h.3
+  one_sent n own tries c d s t (Err Refusal.Nested) h = absurd h.3
+  one_sent n own tries c d s t (Err Refusal.DepthFull) h = absurd h.3
+  one_sent n own tries c d s t (Err Refusal.Spent) h = only s t s.trail s.sends h.3
+  one_sent n own tries c d s t (Err Refusal.NoSuchSeat) h = absurd h.3
+  one_sent n own tries c d s t (Err Refusal.NotWaiting) h = sent_oldest n s t h.0 h.1 (Err Refusal.NotWaiting) h.3
+  one_sent n own tries c d s t (Err Refusal.Busy) h = absurd h.3
 
-  pub all_sent : (n : ℕ) (own : Limits) (c d : Sight Waiters) (s t : Sight T) (r : Result ℕ Refusal) → CondWakeAllEnds n own c d s t r → OnlySends s t
-  all_sent n own c d s t (Ok k) h = sent_all n s t h.0 h.1 (Ok k) h.3
-  all_sent n own c d s t (Err Refusal.Asleep) h = only s t s.trail s.sends h.2
-  all_sent n own c d s t (Err Refusal.NotOwner) h = absurd h.3
-  all_sent n own c d s t (Err Refusal.Nested) h = absurd h.3
-  all_sent n own c d s t (Err Refusal.DepthFull) h = absurd h.3
-  all_sent n own c d s t (Err Refusal.Spent) h = only s t s.trail s.sends h.3
-  all_sent n own c d s t (Err Refusal.NoSuchSeat) h = absurd h.3
-  all_sent n own c d s t (Err Refusal.NotWaiting) h = sent_all n s t h.0 h.1 (Err Refusal.NotWaiting) h.3
-  all_sent n own c d s t (Err Refusal.Busy) h = absurd h.3
+  pub all_sent : (n : ℕ) (own : Limits) (tries : ℕ) (c d : Sight Waiters) (s t : Sight T) (r : Result ℕ Refusal) → CondWakeAllEnds n own tries c d s t r → OnlySends s t
+  all_sent n own tries c d s t (Ok k) h = sent_all n s t h.0 h.1 (Ok k) h.3
+  all_sent n own tries c d s t (Err Refusal.Asleep) h = only s t s.trail s.sends h.2
+  all_sent n own tries c d s t (Err Refusal.NotOwner) h = absurd h.3
+  all_sent n own tries c d s t (Err Refusal.Nested) h = absurd h.3
+  all_sent n own tries c d s t (Err Refusal.DepthFull) h = absurd h.3
+  all_sent n own tries c d s t (Err Refusal.Spent) h = only s t s.trail s.sends h.3
+  all_sent n own tries c d s t (Err Refusal.NoSuchSeat) h = absurd h.3
+  all_sent n own tries c d s t (Err Refusal.NotWaiting) h = sent_all n s t h.0 h.1 (Err Refusal.NotWaiting) h.3
+  all_sent n own tries c d s t (Err Refusal.Busy) h = absurd h.3
 
 module _ {O A R : Type 0} {K : _} where
   -- a pass that has sent others knows what it knew
@@ -85,26 +85,26 @@ module _ {O A R : Type 0} {K : _} where
   sent_began opening seats share s t of is = subst (λ (u : Sight (Journaled O A R K)). Began opening seats share u) (sym is) of
 
   -- how a wake of the monitor ends that was made on the condvar of its condition
-  pub wakes_one : (n : ℕ) (own : Limits) (count condition : ℕ) (cs ds : List CondSeat) (s t : Sight (Journaled O A R K)) (r : Result (Option (ℕ × ℕ)) Refusal) → s.asleep ≡ false
-      → OnCondition condition cs ds (λ c d. CondWakeOneEnds n own c d s t r) → WakeOneEnds n own count condition cs ds s t r
-  wakes_one n own count condition cs ds s t (Ok x) awake h = h
-  wakes_one n own count condition cs ds s t (Err Refusal.Asleep) awake h = absurd (let q = h.6.0 in cc)
-  wakes_one n own count condition cs ds s t (Err Refusal.NotOwner) awake h = h
-  wakes_one n own count condition cs ds s t (Err Refusal.Nested) awake h = h
-  wakes_one n own count condition cs ds s t (Err Refusal.DepthFull) awake h = h
-  wakes_one n own count condition cs ds s t (Err Refusal.Spent) awake h = h
-  wakes_one n own count condition cs ds s t (Err Refusal.NoSuchSeat) awake h = absurd h.6.3
-  wakes_one n own count condition cs ds s t (Err Refusal.NotWaiting) awake h = h
-  wakes_one n own count condition cs ds s t (Err Refusal.Busy) awake h = h
+  pub wakes_one : (n : ℕ) (own : Limits) (tries count condition : ℕ) (cs ds : List CondSeat) (s t : Sight (Journaled O A R K)) (r : Result (Option (ℕ × ℕ)) Refusal) → s.asleep ≡ false
+      → OnCondition condition cs ds (λ c d. CondWakeOneEnds n own tries c d s t r) → WakeOneEnds n own tries count condition cs ds s t r
+  wakes_one n own tries count condition cs ds s t (Ok x) awake h = h
+  wakes_one n own tries count condition cs ds s t (Err Refusal.Asleep) awake h = absurd (let q = h.6.0 in cc)
+  wakes_one n own tries count condition cs ds s t (Err Refusal.NotOwner) awake h = h
+  wakes_one n own tries count condition cs ds s t (Err Refusal.Nested) awake h = h
+  wakes_one n own tries count condition cs ds s t (Err Refusal.DepthFull) awake h = h
+  wakes_one n own tries count condition cs ds s t (Err Refusal.Spent) awake h = h
+  wakes_one n own tries count condition cs ds s t (Err Refusal.NoSuchSeat) awake h = absurd h.6.3
+  wakes_one n own tries count condition cs ds s t (Err Refusal.NotWaiting) awake h = h
+  wakes_one n own tries count condition cs ds s t (Err Refusal.Busy) awake h = h
 
-  pub wakes_all : (n : ℕ) (own : Limits) (count condition : ℕ) (cs ds : List CondSeat) (s t : Sight (Journaled O A R K)) (r : Result ℕ Refusal) → s.asleep ≡ false
-      → OnCondition condition cs ds (λ c d. CondWakeAllEnds n own c d s t r) → WakeAllEnds n own count condition cs ds s t r
-  wakes_all n own count condition cs ds s t (Ok k) awake h = h
-  wakes_all n own count condition cs ds s t (Err Refusal.Asleep) awake h = absurd (let q = h.6.0 in cc)
-  wakes_all n own count condition cs ds s t (Err Refusal.NotOwner) awake h = h
-  wakes_all n own count condition cs ds s t (Err Refusal.Nested) awake h = h
-  wakes_all n own count condition cs ds s t (Err Refusal.DepthFull) awake h = h
-  wakes_all n own count condition cs ds s t (Err Refusal.Spent) awake h = h
-  wakes_all n own count condition cs ds s t (Err Refusal.NoSuchSeat) awake h = absurd h.6.3
-  wakes_all n own count condition cs ds s t (Err Refusal.NotWaiting) awake h = h
-  wakes_all n own count condition cs ds s t (Err Refusal.Busy) awake h = h
+  pub wakes_all : (n : ℕ) (own : Limits) (tries count condition : ℕ) (cs ds : List CondSeat) (s t : Sight (Journaled O A R K)) (r : Result ℕ Refusal) → s.asleep ≡ false
+      → OnCondition condition cs ds (λ c d. CondWakeAllEnds n own tries c d s t r) → WakeAllEnds n own tries count condition cs ds s t r
+  wakes_all n own tries count condition cs ds s t (Ok k) awake h = h
+  wakes_all n own tries count condition cs ds s t (Err Refusal.Asleep) awake h = absurd (let q = h.6.0 in cc)
+  wakes_all n own tries count condition cs ds s t (Err Refusal.NotOwner) awake h = h
+  wakes_all n own tries count condition cs ds s t (Err Refusal.Nested) awake h = h
+  wakes_all n own tries count condition cs ds s t (Err Refusal.DepthFull) awake h = h
+  wakes_all n own tries count condition cs ds s t (Err Refusal.Spent) awake h = h
+  wakes_all n own tries count condition cs ds s t (Err Refusal.NoSuchSeat) awake h = absurd h.6.3
+  wakes_all n own tries count condition cs ds s t (Err Refusal.NotWaiting) awake h = h
+  wakes_all n own tries count condition cs ds s t (Err Refusal.Busy) awake h = h

@@ -1,6 +1,7 @@
 -- How `wait` and the wakes end, on a condition of the monitor. The pass's seat is seen as s before and as t after; its cond seats
--- are cs before and ds after. The mutex of the monitor has the limits `user`, and each of its conditions the limits `own`; a pass
--- may write `share` entries, and take the monitor as often.
+-- are cs before and ds after. The mutex of the monitor has the limits `user`, and each of its conditions the limits `own`; for the
+-- list of a condition a pass makes `tries` tries at most before it queues. A pass may write `share` entries, and take the monitor
+-- as often.
 use Rattle.std.specs.Prelude.{◌≡◌, ◌⊎◌, ℕ, ◌+◌, ◌<◌, ◌≤◌, List, [], ◌∷◌, ◌++◌, length, true, false, slice_set, Option, Some, Result, Ok, Err}
 use mathlib.Core.Option.{some}
 use lib.ListN.{get_elem?}
@@ -58,15 +59,15 @@ module _ {O A R : Type 0} {K : _} where
 
   -- How wait ends, of a pass with so many entries. Between s and t it is seen as m: it waited as on a condvar, and then its take was
   -- written
-  abbrev pub WaitEnds : Limits → Limits → ℕ → ℕ → ℕ → List CondSeat → List CondSeat → Sight (Journaled O A R K) → Sight (Journaled O A R K) → ℕ → Result (How × ℕ) Refusal → Type 0
-  WaitEnds user own share count condition cs ds s t mine (Ok r) =
-      MayWait share s mine × OnCondition condition cs ds (λ c d. (m : Sight (Journaled O A R K)) × CondWaitEnds JournalFollows JournalFits user own c d s m (Ok r) × Adds (Took r.0) m t)
-  WaitEnds user own share count condition cs ds s t mine (Err Refusal.NoSuchSeat) = MayWait share s mine × IsMissing count condition × (ds ≡ cs) × (t ≡ s)
-  WaitEnds user own share count condition cs ds s t mine (Err Refusal.Spent) =
+  abbrev pub WaitEnds : Limits → Limits → ℕ → ℕ → ℕ → ℕ → List CondSeat → List CondSeat → Sight (Journaled O A R K) → Sight (Journaled O A R K) → ℕ → Result (How × ℕ) Refusal → Type 0
+  WaitEnds user own tries share count condition cs ds s t mine (Ok r) =
+      MayWait share s mine × OnCondition condition cs ds (λ c d. (m : Sight (Journaled O A R K)) × CondWaitEnds JournalFollows JournalFits user own tries c d s m (Ok r) × Adds (Took r.0) m t)
+  WaitEnds user own tries share count condition cs ds s t mine (Err Refusal.NoSuchSeat) = MayWait share s mine × IsMissing count condition × (ds ≡ cs) × (t ≡ s)
+  WaitEnds user own tries share count condition cs ds s t mine (Err Refusal.Spent) =
       (WaitRefused share s mine Refusal.Spent × (ds ≡ cs) ⊎ (MayWait share s mine × OnCondition condition cs ds (IsSpent own))) × (t ≡ s)
-  WaitEnds user own share count condition cs ds s t mine (Err Refusal.Busy) =
-      MayWait share s mine × OnCondition condition cs ds (λ c d. CondWaitEnds JournalFollows JournalFits user own c d s t (Err Refusal.Busy))
-  WaitEnds user own share count condition cs ds s t mine (Err r) = WaitRefused share s mine r × (ds ≡ cs) × (t ≡ s)
+  WaitEnds user own tries share count condition cs ds s t mine (Err Refusal.Busy) =
+      MayWait share s mine × OnCondition condition cs ds (λ c d. CondWaitEnds JournalFollows JournalFits user own tries c d s t (Err Refusal.Busy))
+  WaitEnds user own tries share count condition cs ds s t mine (Err r) = WaitRefused share s mine r × (ds ≡ cs) × (t ≡ s)
 
   -- What a wait is to its pass: it leaves, and comes in again. A refusal leaves it as it was
   abbrev pub WaitReturns : Sight (Journaled O A R K) → Sight (Journaled O A R K) → ℕ → ℕ → ℕ → ℕ → Result (How × ℕ) Refusal → Type 0
@@ -82,13 +83,13 @@ module _ {O A R : Type 0} {K : _} where
   WakeRefused count condition s _ = ⊥
 
   -- how wake_one ends, of a monitor with n passes
-  abbrev pub WakeOneEnds : ℕ → Limits → ℕ → ℕ → List CondSeat → List CondSeat → Sight (Journaled O A R K) → Sight (Journaled O A R K) → Result (Option (ℕ × ℕ)) Refusal → Type 0
-  WakeOneEnds n own count condition cs ds s t (Err Refusal.Asleep) = WakeRefused count condition s Refusal.Asleep × (ds ≡ cs) × (t ≡ s)
-  WakeOneEnds n own count condition cs ds s t (Err Refusal.NoSuchSeat) = WakeRefused count condition s Refusal.NoSuchSeat × (ds ≡ cs) × (t ≡ s)
-  WakeOneEnds n own count condition cs ds s t r = OnCondition condition cs ds (λ c d. CondWakeOneEnds n own c d s t r)
+  abbrev pub WakeOneEnds : ℕ → Limits → ℕ → ℕ → ℕ → List CondSeat → List CondSeat → Sight (Journaled O A R K) → Sight (Journaled O A R K) → Result (Option (ℕ × ℕ)) Refusal → Type 0
+  WakeOneEnds n own tries count condition cs ds s t (Err Refusal.Asleep) = WakeRefused count condition s Refusal.Asleep × (ds ≡ cs) × (t ≡ s)
+  WakeOneEnds n own tries count condition cs ds s t (Err Refusal.NoSuchSeat) = WakeRefused count condition s Refusal.NoSuchSeat × (ds ≡ cs) × (t ≡ s)
+  WakeOneEnds n own tries count condition cs ds s t r = OnCondition condition cs ds (λ c d. CondWakeOneEnds n own tries c d s t r)
 
   -- how wake_all ends, of a monitor with n passes
-  abbrev pub WakeAllEnds : ℕ → Limits → ℕ → ℕ → List CondSeat → List CondSeat → Sight (Journaled O A R K) → Sight (Journaled O A R K) → Result ℕ Refusal → Type 0
-  WakeAllEnds n own count condition cs ds s t (Err Refusal.Asleep) = WakeRefused count condition s Refusal.Asleep × (ds ≡ cs) × (t ≡ s)
-  WakeAllEnds n own count condition cs ds s t (Err Refusal.NoSuchSeat) = WakeRefused count condition s Refusal.NoSuchSeat × (ds ≡ cs) × (t ≡ s)
-  WakeAllEnds n own count condition cs ds s t r = OnCondition condition cs ds (λ c d. CondWakeAllEnds n own c d s t r)
+  abbrev pub WakeAllEnds : ℕ → Limits → ℕ → ℕ → ℕ → List CondSeat → List CondSeat → Sight (Journaled O A R K) → Sight (Journaled O A R K) → Result ℕ Refusal → Type 0
+  WakeAllEnds n own tries count condition cs ds s t (Err Refusal.Asleep) = WakeRefused count condition s Refusal.Asleep × (ds ≡ cs) × (t ≡ s)
+  WakeAllEnds n own tries count condition cs ds s t (Err Refusal.NoSuchSeat) = WakeRefused count condition s Refusal.NoSuchSeat × (ds ≡ cs) × (t ≡ s)
+  WakeAllEnds n own tries count condition cs ds s t r = OnCondition condition cs ds (λ c d. CondWakeAllEnds n own tries c d s t r)

@@ -4,7 +4,7 @@ use Rattle.lfm_model.specs.declared.answers.How.{How}
 use Rattle.lfm_model.specs.declared.refusals.Refusal.{Refusal}
 use Rattle.lfm_monitor.specs.declared.monitor.Monitor.{Monitor}
 use Rattle.lfm_monitor.specs.declared.pass.Pass.{Pass}
-use Rattle.lfm_monitor.specs.Belongs.{OfMonitor, cond_seats_of, conditions_of, mine_of, mutex_limits, pass_sight, passes_of, seen_of, share_of}
+use Rattle.lfm_monitor.specs.Belongs.{OfMonitor, cond_seats_of, conditions_of, mine_of, mutex_limits, pass_sight, passes_of, seen_of, share_of, tries_in}
 use Rattle.lfm_monitor.specs.CondSeats.{condition_limits}
 use Rattle.lfm_monitor.specs.Conditions.{WaitEnds, WaitReturns}
 use Rattle.lfm_monitor.specs.Passes.{ApplyEnds}
@@ -13,7 +13,7 @@ module _ {O A R : Type 0} {K : _} where
   -- how a wait of the pass on this condition ended
   abbrev pub Waits : Monitor O A R K → ℕ → Pass O A R K → Pass O A R K → Result (How × ℕ) Refusal → Type 0
   Waits m condition p q r =
-      WaitEnds (mutex_limits m) (condition_limits (passes_of m)) (share_of m) (conditions_of m) condition (cond_seats_of p) (cond_seats_of q) (pass_sight p) (pass_sight q) (mine_of p) r
+      WaitEnds (mutex_limits m) (condition_limits (passes_of m)) (tries_in m) (share_of m) (conditions_of m) condition (cond_seats_of p) (cond_seats_of q) (pass_sight p) (pass_sight q) (mine_of p) r
       × WaitReturns (pass_sight p) (pass_sight q) (seen_of p) (seen_of q) (mine_of p) (mine_of q) r
 
 module _ {O A R : Type 0} {K : _} (after : O → A → O) (reply : O → A → R) (m : Monitor O A R K) where

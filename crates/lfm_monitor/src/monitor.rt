@@ -2,7 +2,7 @@
 //! `wait`, `wake` and `close`.
 ghost use Rattle.std.specs.Prelude.{◌≡◌};
 ghost use Rattle.lfm_mutex.specs.Belongs.{limits_of};
-ghost use Rattle.lfm_monitor.specs.CondSeats.{AreConditions};
+ghost use Rattle.lfm_monitor.specs.CondSeats.{AreConditions, ArePaced};
 
 use crate::journaled::Journaled;
 use lfm_condvar::Condvar;
@@ -44,4 +44,5 @@ pub struct Monitor<O: Object> {
     pub(crate) conditions: Vec<Condvar>,
     pub ghost shared: { (limits_of mutex).budget ≡ share },
     pub ghost wide: { AreConditions (limits_of mutex).seats conditions.items },
+    pub ghost paced: { ArePaced mutex.pace conditions.items },
 }

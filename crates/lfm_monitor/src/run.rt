@@ -39,8 +39,8 @@ impl<O: Object> Monitor<O> {
     }
 
     /// Starts a thread for each pass. Each makes so many rounds, numbered from 0: in each it executes the section in a hold of
-    /// its own, until the section breaks off or is refused, or `hold` is. It sleeps until all threads have ended, and hands the
-    /// passes back, in their order.
+    /// its own, until the section breaks off or is refused, or `hold` is. Each hold is one of `hold`, so a thread tries before it
+    /// queues. `run` sleeps until all threads have ended, and hands the passes back, in their order.
     ///
     /// No round is made before all threads have been started, so sections may wait for one another. Where a request for memory
     /// is refused (Memory), or a thread can't be started (Thread), no round is made, and all passes are handed back as they

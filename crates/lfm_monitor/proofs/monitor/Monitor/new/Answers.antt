@@ -1,8 +1,9 @@
 use Rattle.std.proofs.Common.{ap, arith, rules, subst, sym, ◌+◌, ◌∙◌}
+use Rattle.lfm_mutex.specs.declared.pace.Pace.{Pace}
 use Rattle.lfm_mutex.specs.Belongs.{limits_of}
 use Rattle.lfm_mutex.specs.calls.Sight.{new_sight}
 use Rattle.lfm_monitor.specs.Belongs.{cond_seats_of}
-use Rattle.lfm_monitor.specs.CondSeats.{AreNewSeats, AreConditions}
+use Rattle.lfm_monitor.specs.CondSeats.{AreNewSeats, AreConditions, ArePaced}
 use Rattle.lfm_monitor.proofs.Places.{in_range}
 use Rattle.lfm_monitor.proofs.Starting.{new_kept, new_of}
 use Rattle.lfm_monitor.proofs.monitor.Monitor.new.Goals as goal
@@ -45,3 +46,6 @@ invariant_of-monitor-clause-shared g c = ap (λ l. l.budget) c.in-Ok-new.ensures
 
 pub invariant_of-monitor-clause-wide : goal.invariant_of-monitor-clause-wide
 invariant_of-monitor-clause-wide g c = let e = c.in-Ok-new.ensures in subst (λ n. AreConditions n c.in_ok-conditions.conditions.items) (sym (ap (λ l. l.seats) e.limits.0)) c.in_ok-conditions.ensures.conditions.1
+
+pub invariant_of-monitor-clause-paced : goal.invariant_of-monitor-clause-paced
+invariant_of-monitor-clause-paced g c = subst (λ (pace : Pace). ArePaced pace c.in_ok-conditions.conditions.items) (sym c.in-Ok-new.ensures.pace) c.in_ok-conditions.ensures.paced

@@ -1,14 +1,14 @@
-use Rattle.std.proofs.Common.{refl, sym, ap, subst, arith}
+use Rattle.std.proofs.Common.{ℕ, refl, sym, ap, arith}
 use Rattle.lfm_protocol.specs.declared.limits.Limits.{Limits}
 use Rattle.lfm_mutex.specs.Belongs.{limits_of}
 use Rattle.lfm_mutex.specs.calls.Sight.{Sight, sight}
-use Rattle.lfm_condvar.specs.Belongs.{cond_limits, cond_sight}
+use Rattle.lfm_condvar.specs.Belongs.{cond_limits, cond_sight, cond_tries}
 use Rattle.lfm_condvar.specs.Wakes.{WakeAllEnds}
-use Rattle.lfm_monitor.specs.Belongs.{cond_seats_of, conditions_in, conditions_of, opening_of, passes_of, share_of}
+use Rattle.lfm_monitor.specs.Belongs.{cond_seats_of, conditions_in, conditions_of, opening_of, passes_of, share_of, tries_in}
 use Rattle.lfm_monitor.specs.CondSeats.{condition_limits}
 use Rattle.lfm_monitor.proofs.Knowing.{of_next}
 use Rattle.lfm_monitor.proofs.Sending.{all_sent, sent_kept, sent_began, wakes_all}
-use Rattle.lfm_monitor.proofs.UsedConditions.{at_place, still_of_conditions}
+use Rattle.lfm_monitor.proofs.UsedConditions.{as_told, at_place, still_of_conditions}
 use Rattle.lfm_monitor.proofs.monitor.Monitor.wake_all.Goals as goal
 
 pub wake_all-requires-clause-belongs : goal.wake_all-requires-clause-belongs
@@ -19,16 +19,16 @@ wake_all-requires-clause-wide g c κs within = let a = at_place c.args.pass.now 
 
 pub invariant_of-pass-2 : goal.invariant_of-pass-2
 invariant_of-pass-2 g c = let p = c.args.pass.now in let s = sight p.seat in let t = sight c.wake_all.new.seat in
-    record { kept = sent_kept s t p.seen p.mine p.kept (all_sent (limits_of c.args.self.now.mutex).seats (cond_limits c.index.result.now) (cond_sight c.index_mut-cond.result.now) (cond_sight c.wake_all.new.cond) s t c.wake_all.result c.wake_all.ensures.wakes) }
+    record { kept = sent_kept s t p.seen p.mine p.kept (all_sent (limits_of c.args.self.now.mutex).seats (cond_limits c.index.result.now) (cond_tries c.index.result.now) (cond_sight c.index_mut-cond.result.now) (cond_sight c.wake_all.new.cond) s t c.wake_all.result c.wake_all.ensures.wakes) }
 
 pub returns : goal.returns
 returns g c = let p = c.args.pass.now in let m = c.args.self.now in let n = c.in-Some.place in let x = c.index_mut-cond.result.now in let y = c.wake_all.new.cond in let v = c.index.result.now in let s = sight p.seat in
     let t = sight c.wake_all.new.seat in let e = c.wake_all.ensures in let a = at_place p m n x v c.requires.belongs c.in-Some.ensures.1 c.index_mut-cond.ensures.value c.index.ensures in
-    let sent = all_sent (limits_of m.mutex).seats (cond_limits v) (cond_sight x) (cond_sight y) s t c.wake_all.result e.wakes in record {
+    let sent = all_sent (limits_of m.mutex).seats (cond_limits v) (cond_tries v) (cond_sight x) (cond_sight y) s t c.wake_all.result e.wakes in record {
       belongs = (of_next m.mutex p.seat c.wake_all.new.seat c.requires.belongs.0 e.belongs.1, sent_began (opening_of m) (passes_of m) (share_of m) s t c.requires.belongs.1 sent, still_of_conditions (cond_seats_of p) (conditions_in m) n y v c.requires.belongs.2 a.condition e.belongs.0);
       number = ap (λ (u : Sight _). u.number) sent;
-      wakes = wakes_all (passes_of m) (condition_limits (passes_of m)) (conditions_of m) c.args.condition (cond_seats_of p) _ s t c.wake_all.result (sym c.if-asleep.ensures)
-          (n, x, y, c.in-Some.ensures.0, a.seat, refl, subst (λ (l : Limits). WakeAllEnds (passes_of m) l (cond_sight x) (cond_sight y) s t c.wake_all.result) a.limits e.wakes);
+      wakes = wakes_all (passes_of m) (condition_limits (passes_of m)) (tries_in m) (conditions_of m) c.args.condition (cond_seats_of p) _ s t c.wake_all.result (sym c.if-asleep.ensures)
+          (n, x, y, c.in-Some.ensures.0, a.seat, refl, as_told p m n x v (λ (l : Limits) (tries : ℕ). WakeAllEnds (passes_of m) l tries (cond_sight x) (cond_sight y) s t c.wake_all.result) a e.wakes);
       sends = sent;
       steps = e.steps;
       same = (refl, refl);

@@ -8,13 +8,12 @@ use Rattle.lfm_protocol.specs.declared.answers.Answer.TheVariants as Answered
 use Rattle.lfm_protocol.specs.declared.answers.Call.{Call}
 use Rattle.lfm_protocol.specs.declared.limits.Limits.{Limits}
 use Rattle.lfm_mutex.specs.calls.Sight.{Sight, Asks, Deepens, LockRefused, Locks, LocksWaiting, Receives}
-use Rattle.lfm_mutex.specs.calls.Barging.{BargesBy}
-use Rattle.lfm_mutex.specs.calls.Trails.{LocksBy, MakesCall}
+use Rattle.lfm_mutex.specs.calls.Trails.{MakesCall}
 use Rattle.lfm_monitor.specs.declared.enter.Locking.{Locking}
 use Rattle.lfm_monitor.specs.declared.journaled.Journaled.{Journaled}
 use Rattle.lfm_monitor.specs.Journaled.{JournalFits, JournalFollows}
 use Rattle.lfm_monitor.specs.Passes.{AskEnds, Began, EnterEnds, EnterRefused, PassKept, ReceiveEnds, TryEnds}
-use Rattle.lfm_monitor.specs.Steps.{ByBarging, ByLocking, ByLockingAs, BySteps}
+use Rattle.lfm_monitor.specs.Steps.{ByLockingAs, BySteps}
 use Rattle.lfm_monitor.proofs.Knowing.{room_left}
 
 awake : (b : Bool) → (b ≡ true → false ≡ true) → b ≡ false
@@ -36,21 +35,13 @@ module _ {O A R : Type 0} {K : _} where
   enter_refused budget share mine (Ok u) r s t is h e = absurd e
   enter_refused budget share mine (Err y) r s t is h e = subst (λ (x : Refusal). EnterEnds share s t mine mine (Err x)) (sym e) (lock_refused budget share mine r s is h.0, h.1, refl)
 
-  enter_none : (l : Limits) (locking : Locking) (n : ℕ) (r : Refusal) (s t : Sight (Journaled O A R K)) → t ≡ s → ByLockingAs l locking n s t (Err r)
+  pub enter_none : (l : Limits) (locking : Locking) (n : ℕ) (r : Refusal) (s t : Sight (Journaled O A R K)) → t ≡ s → ByLockingAs l locking n s t (Err r)
   enter_none l Locking.InOrder n r s t same = same
   enter_none l Locking.Barging n r s t same = same
 
   pub enter_steps : (l : Limits) (locking : Locking) (n budget : ℕ) (q : Result Locked Refusal) (r : Refusal) (s t : Sight (Journaled O A R K)) → LocksWaiting JournalFollows JournalFits budget s t (Err r) → IsErrAnd q (λ y. y ≡ r) → ByLockingAs l locking n s t q
   enter_steps l locking n budget (Ok u) r s t h e = absurd e
   enter_steps l locking n budget (Err y) r s t h e = enter_none l locking n y s t h.1
-
-  pub by_locking : (l : Limits) (budget : ℕ) (r : Result Locked Refusal) (s t : Sight (Journaled O A R K)) → LocksWaiting JournalFollows JournalFits budget s t r → LocksBy l s t r → ByLocking l s t r
-  pub by_locking l budget (Ok u) s t h made = made
-  pub by_locking l budget (Err r) s t h made = h.1
-
-  pub by_barging : (l : Limits) (n budget : ℕ) (r : Result Locked Refusal) (s t : Sight (Journaled O A R K)) → LocksWaiting JournalFollows JournalFits budget s t r → BargesBy l n s t r → ByBarging l n s t r
-  pub by_barging l n budget (Ok u) s t h made = made
-  pub by_barging l n budget (Err r) s t h made = h.1
 
   ask_ends : (budget share mine : ℕ) (r : Refusal) (s t : Sight (Journaled O A R K)) → budget ≡ share → Asks JournalFollows JournalFits budget s t (Err r) → AskEnds share s t mine mine (Err r)
   ask_ends budget share mine r s t is h = (lock_refused budget share mine r s is h.0, h.1, refl)

@@ -3,7 +3,7 @@ use Rattle.lfm_mutex.specs.Belongs.{limits_of}
 use Rattle.lfm_mutex.specs.calls.Sight.{sight}
 use Rattle.lfm_monitor.specs.Belongs.{mutex_limits, opening_of, passes_of, share_of, tries_in}
 use Rattle.lfm_monitor.proofs.Trails.{locked_rewritten}
-use Rattle.lfm_monitor.proofs.Asking.{again_began, enter_refused, enter_steps}
+use Rattle.lfm_monitor.proofs.Asking.{again_began, enter_none, enter_refused, enter_steps}
 use Rattle.lfm_monitor.proofs.Refusing.{same_began, same_kept}
 use Rattle.lfm_monitor.proofs.Knowing.{gained, may_all, room_left, arrived, again, of_next}
 use Rattle.lfm_monitor.proofs.monitor.Monitor.enter_by.Goals as goal
@@ -100,7 +100,7 @@ pub returns-then-lacks_entry-clause-conditions : goal.returns-then-lacks_entry-c
 returns-then-lacks_entry-clause-conditions g c = refl
 
 pub returns-then-lacks_entry-clause-steps : goal.returns-then-lacks_entry-clause-steps
-returns-then-lacks_entry-clause-steps g c = refl
+returns-then-lacks_entry-clause-steps g c = let m = c.args.self.now in let s = sight c.args.pass.now.seat in enter_none (mutex_limits m) c.args.locking (tries_in m) _ s s refl
 
 pub returns-clause-seen : goal.returns-clause-seen
 returns-clause-seen g c = refl

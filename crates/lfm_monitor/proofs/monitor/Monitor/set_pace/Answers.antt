@@ -1,8 +1,7 @@
 use Rattle.std.proofs.Common.{refl, sym, ◌∙◌, ap, subst, arith}
-use Rattle.lfm_mutex.specs.declared.pace.Pace.{Pace}
 use Rattle.lfm_condvar.specs.declared.condvar.Condvar.{Condvar}
 use Rattle.lfm_monitor.specs.Belongs.{conditions_in}
-use Rattle.lfm_monitor.specs.CondSeats.{AreConditions, ArePaced}
+use Rattle.lfm_monitor.specs.CondSeats.{AreConditions}
 use Rattle.lfm_monitor.proofs.Paces.{all_paced, all_set, none_set, one_paced, one_set, still_conditions, still_of_monitor}
 use Rattle.lfm_monitor.proofs.Places.{stands}
 use Rattle.lfm_monitor.proofs.monitor.Monitor.set_pace.Goals as goal
@@ -27,7 +26,7 @@ invariant_of-self-clause-wide g c = let limits = c.set_pace.ensures.same.1 in le
 -- all conditions have the pace that the mutex has
 pub invariant_of-self-clause-paced : goal.invariant_of-self-clause-paced
 invariant_of-self-clause-paced g c = let i = c.setting.invariant in let all = all_paced c.args.pace c.args.self.now.conditions c.setting.condition-items c.setting.condition-index i.same (let t = c.setting-test.false in let l = c.setting.auto.condition-items in omega arith) i.paced in
-    subst (λ (pace : Pace). ArePaced pace _) (sym c.set_pace.ensures.pace) all
+    λ j v at. all j v at ∙ sym c.set_pace.ensures.pace
 
 pub returns : goal.returns
 returns g c = let same = c.set_pace.ensures.same in let i = c.setting.invariant in let all = all_set c.args.self.now.conditions c.setting.condition-items i.same in record {

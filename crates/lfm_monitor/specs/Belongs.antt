@@ -20,7 +20,7 @@ module _ {O A R : Type 0} {K : _} where
   abbrev pub mutex_limits : Monitor O A R K → Limits
   mutex_limits m = limits_of m.mutex
 
-  -- how often a pass tries its mutex at most before it queues, in a call that tries before it queues
+  -- how often a pass tries at most before it queues, for the monitor in a call that tries at all, and for the list of a condition
   abbrev pub tries_in : Monitor O A R K → ℕ
   tries_in m = tries_of m.mutex
 

@@ -1,7 +1,7 @@
 -- How `wait` and the wakes end, on a condition of the monitor. The pass's seat is seen as s before and as t after; its cond seats
--- are cs before and ds after. The mutex of the monitor has the limits `user`, and each of its conditions the limits `own`; for the
--- list of a condition a pass makes `tries` tries at most before it queues. A pass may write `share` entries, and take the monitor
--- as often.
+-- are cs before and ds after. The mutex of the monitor has the limits `user`, and each of its conditions the limits `own`. A pass
+-- makes at most `tries` tries before it queues for the list of a condition. It may write `share` entries, and take the monitor as
+-- often.
 use Rattle.std.specs.Prelude.{◌≡◌, ◌⊎◌, ℕ, ◌+◌, ◌<◌, ◌≤◌, List, [], ◌∷◌, ◌++◌, length, true, false, slice_set, Option, Some, Result, Ok, Err}
 use mathlib.Core.Option.{some}
 use lib.ListN.{get_elem?}

@@ -27,12 +27,12 @@ module _ {T : Type 0} (l : Limits) where
   ByLocking s t (Ok locked) = LocksBy l s t (Ok locked)
   ByLocking s t (Err r) = t ≡ s
 
-  -- the same of lock_barging, which makes n tries at most before it queues
+  -- the same of lock_barging, which makes at most n tries before it queues
   abbrev pub ByBarging : ℕ → Sight T → Sight T → Result Locked Refusal → Type 0
   ByBarging n s t (Ok locked) = BargesBy l n s t (Ok locked)
   ByBarging n s t (Err r) = t ≡ s
 
-  -- the steps of the one of these two locks that is chosen
+  -- the steps of a lock that is made in this way
   abbrev pub ByLockingAs : Locking → ℕ → Sight T → Sight T → Result Locked Refusal → Type 0
   ByLockingAs Locking.InOrder n s t r = ByLocking s t r
   ByLockingAs Locking.Barging n s t r = ByBarging n s t r

@@ -1,4 +1,4 @@
-//! How long the waiters of a monitor look before they sleep.
+//! How the waiters of a monitor wait: how often they try before they queue, and how long they look before they sleep.
 ghost use Rattle.lfm_monitor.specs.Belongs.{OfMonitor, conditions_in};
 ghost use Rattle.lfm_monitor.specs.CondSeats.{ArePaced, SameButPaces};
 ghost use Rattle.std.specs.Prelude.{◌≡◌};
@@ -8,8 +8,12 @@ use lfm_model::Object;
 use lfm_mutex::Pace;
 
 impl<O: Object> Monitor<O> {
-    /// Sets how long a pass that waits for the monitor, or for the list of a condition, looks before it sleeps; a pass that
-    /// waits to be sent sleeps at once. The passes of the monitor stay its passes. It is set before threads share the monitor.
+    /// Sets the pace of the monitor's mutex and of the list of each condition: how often a pass tries before it queues, and how
+    /// long a queued pass looks before it sleeps. For the monitor a pass tries in `hold` and `run` alone, and for a list in each
+    /// wait and wake. A pass that waits to be sent also looks before it sleeps if no other waited on its condition when it came;
+    /// otherwise it sleeps at once.
+    ///
+    /// The passes of the monitor stay its passes. The pace is set before threads share the monitor.
     pub fn set_pace(&mut self, pace: Pace)
         ensures pace { (self.new.mutex.pace ≡ pace) × ArePaced pace (conditions_in self.new) }
         ensures same { (self.new.mutex.table ≡ self.old.mutex.table) × (self.new.mutex.limits ≡ self.old.mutex.limits) × (self.new.opening ≡ self.old.opening) × (self.new.share ≡ self.old.share) × SameButPaces (conditions_in self.old) (conditions_in self.new) }

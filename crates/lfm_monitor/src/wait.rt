@@ -46,7 +46,9 @@ impl<O: Object> Monitor<O> {
     /// else.
     ///
     /// A wait costs the pass one take and one entry, which is kept for it while it sleeps, and its seat of this condition
-    /// one take. It takes no memory, sleeps, and wakes the pass that it grants the monitor, if any.
+    /// one take. It takes no memory, and sleeps. If no other pass waits on the condition when this one is put into its list, this
+    /// one looks before it sleeps, as often as the pace says; otherwise it sleeps at once. A wait wakes the pass that it grants
+    /// the monitor, if any, after it has given the list back.
     pub fn wait<R: Wait>(
         &self,
         rt: &R,

@@ -20,7 +20,7 @@ impl<O: Object> Monitor<O> {
     /// this condition its take.
     ///
     /// A wake costs the pass's seat of this condition one take, and takes no memory. It may sleep until it has the
-    /// condition's list, and wakes the pass that it grants the monitor, if any.
+    /// condition's list, and wakes the pass that it grants the monitor, if any, after it has given the list back.
     pub fn wake_one<R: Wait>(
         &self,
         rt: &R,
@@ -52,7 +52,8 @@ impl<O: Object> Monitor<O> {
     /// those behind it in the list; the earlier ones were sent.
     ///
     /// It costs the pass's seat of this condition one take, however many are sent, and takes no memory. It may sleep
-    /// until it has the condition's list, and wakes the passes that it grants the monitor, if any.
+    /// until it has the condition's list, and wakes the passes that it grants the monitor, if any. The last of these is woken
+    /// after the list is given back.
     pub fn wake_all<R: Wait>(
         &self,
         rt: &R,

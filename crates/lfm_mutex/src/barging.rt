@@ -9,6 +9,7 @@ ghost use Rattle.lfm_mutex.specs.calls.Sight.{sight, LocksWaiting};
 use crate::mutex::Mutex;
 use crate::pace::pause_for;
 use crate::seat::Seat;
+use crate::try_lock::try_free;
 use lfm_model::{How, Locked, Refusal};
 use lfm_table::Kept;
 use lfm_table::layout::{COUNT, wake_at};
@@ -142,7 +143,8 @@ impl<T: Kept> Mutex<T> {
         self.table.shared.peek(COUNT)
     }
 
-    // One try if the count that was found is 0, and none otherwise. A look costs the holder less than a try that fails.
+    // One try if the count that was found is 0, and none otherwise. A look costs the holder less than a try that fails. It is the fast
+    // path of `try_lock` at once: what that call asks of its seat is known.
     #[inline(always)]
     fn try_if_free(&self, seat: &mut Seat<T>, count: u64) -> Option<How>
         requires belongs { OfMutex seat.old self.now }
@@ -155,7 +157,8 @@ impl<T: Kept> Mutex<T> {
         if count != 0 {
             return None;
         }
-        match self.try_lock(seat) {
+        let budget = seat.limits.budget;
+        match try_free(self, seat, budget) {
             Ok(Locked::Held(how)) => Some(how),
             Ok(Locked::Again(_)) => unreachable!(),
             Err(_) => None,

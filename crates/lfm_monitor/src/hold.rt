@@ -72,7 +72,7 @@ impl<O: Object> Monitor<O> {
     /// a try.
     ///
     /// Refuses as `enter`, and then the section is not executed and nothing has changed: Asleep, DepthFull, Spent, in this
-    /// order. It may nap, and sleeps where `enter` does. It wakes whom `enter` and `leave` wake, and takes no memory.
+    /// order. It may nap, and sleeps as `enter` does. It wakes whom `enter` and `leave` wake, and takes no memory.
     pub fn hold<R: Wait, S: CriticalSection<O, R>>(
         &self,
         rt: &R,

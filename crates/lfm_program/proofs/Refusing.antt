@@ -20,7 +20,7 @@ use Rattle.lfm_condvar.specs.Wakes.{WakeAllEnds as CondWakeAllEnds, WakeOneEnds 
 use Rattle.lfm_monitor.specs.declared.journaled.Journaled.{Journaled}
 use Rattle.lfm_monitor.specs.declared.monitor.Monitor.{Monitor}
 use Rattle.lfm_monitor.specs.declared.pass.Pass.{Pass}
-use Rattle.lfm_monitor.specs.Belongs.{cond_seats_of, conditions_of, mine_of, mutex_limits, pass_sight, passes_of, share_of}
+use Rattle.lfm_monitor.specs.Belongs.{cond_seats_of, conditions_of, mine_of, mutex_limits, pass_sight, passes_of, share_of, tries_in}
 use Rattle.lfm_monitor.specs.CondSeats.{condition_limits}
 use Rattle.lfm_monitor.specs.Conditions.{IsSpent, OnCondition, WaitEnds, WakeAllEnds, WakeOneEnds}
 use Rattle.lfm_monitor.specs.Journaled.{JournalFits, JournalFollows}
@@ -68,7 +68,7 @@ module _ {R : Type 0} {K : _} where
 
   -- a wait is refused to a pass that holds once, and which has an entry
   pub not_waited_for : (m : Monitor Total TotalOp R K) (p q : Pass Total TotalOp R K) (condition k : ℕ) (r : Refusal) → HoldsOnce (pass_sight p)
-      → WaitEnds (mutex_limits m) (condition_limits (passes_of m)) (share_of m) (conditions_of m) condition (cond_seats_of p) (cond_seats_of q) (pass_sight p) (pass_sight q) (mine_of p) (Err r)
+      → WaitEnds (mutex_limits m) (condition_limits (passes_of m)) (tries_in m) (share_of m) (conditions_of m) condition (cond_seats_of p) (cond_seats_of q) (pass_sight p) (pass_sight q) (mine_of p) (Err r)
       → mine_of q ≡ mine_of p → HasCause (Until condition k) m q r
   not_waited_for m p q condition k Spent h e mine = ⊎_elim
       (λ w. inl (⊎_elim (λ l. inr (let a = ap (λ u. u.takes) e.1 in omega arith)) (λ l. inl (let a = mine in omega arith)) w.0.2))
@@ -76,7 +76,7 @@ module _ {R : Type 0} {K : _} where
       e.0
   not_waited_for m p q condition k NoSuchSeat h e mine = e.1
   not_waited_for m p q condition k Busy h e mine =
-      used_at condition (cond_seats_of p) (cond_seats_of q) (λ c d. CondWaitEnds JournalFollows JournalFits (mutex_limits m) (condition_limits (passes_of m)) c d (pass_sight p) (pass_sight q) (Err Busy))
+      used_at condition (cond_seats_of p) (cond_seats_of q) (λ c d. CondWaitEnds JournalFollows JournalFits (mutex_limits m) (condition_limits (passes_of m)) (tries_in m) c d (pass_sight p) (pass_sight q) (Err Busy))
       (FoundListed (pass_sight q).number) e.1 (λ c d u. (
         u.0,
         u.2.found,
@@ -110,12 +110,12 @@ module _ {R : Type 0} {K : _} where
 
   -- a wake is refused to a pass that is awake
   pub not_woke_one : (m : Monitor Total TotalOp R K) (p q : Pass Total TotalOp R K) (condition : ℕ) (r : Refusal) → Idle (pass_sight p)
-      → WakeOneEnds (passes_of m) (condition_limits (passes_of m)) (conditions_of m) condition (cond_seats_of p) (cond_seats_of q) (pass_sight p) (pass_sight q) (Err r)
+      → WakeOneEnds (passes_of m) (condition_limits (passes_of m)) (tries_in m) (conditions_of m) condition (cond_seats_of p) (cond_seats_of q) (pass_sight p) (pass_sight q) (Err r)
       → WakeHasCause condition m q r
   not_woke_one m p q condition NoSuchSeat idle e = e.0.1
   not_woke_one m p q condition Spent idle e =
-      used_at condition (cond_seats_of p) (cond_seats_of q) (λ c d. CondWakeOneEnds (passes_of m) (condition_limits (passes_of m)) c d (pass_sight p) (pass_sight q) (Err Spent)) HasNoTake e (λ c d u. let a = ap (λ (x : Sight Waiters). x.takes) u.2 in let b = u.1 in omega arith)
-  not_woke_one m p q condition NotWaiting idle e = used_at condition (cond_seats_of p) (cond_seats_of q) (λ c d. CondWakeOneEnds (passes_of m) (condition_limits (passes_of m)) c d (pass_sight p) (pass_sight q) (Err NotWaiting)) (FoundNotWaiting (passes_of m) (pass_sight q)) e (λ c d u. let o = u.3.1 in (u.0, [], o.0, o.1, pass_sight p, u.2.found, o.2, o.3))
+      used_at condition (cond_seats_of p) (cond_seats_of q) (λ c d. CondWakeOneEnds (passes_of m) (condition_limits (passes_of m)) (tries_in m) c d (pass_sight p) (pass_sight q) (Err Spent)) HasNoTake e (λ c d u. let a = ap (λ (x : Sight Waiters). x.takes) u.2 in let b = u.1 in omega arith)
+  not_woke_one m p q condition NotWaiting idle e = used_at condition (cond_seats_of p) (cond_seats_of q) (λ c d. CondWakeOneEnds (passes_of m) (condition_limits (passes_of m)) (tries_in m) c d (pass_sight p) (pass_sight q) (Err NotWaiting)) (FoundNotWaiting (passes_of m) (pass_sight q)) e (λ c d u. let o = u.3.1 in (u.0, [], o.0, o.1, pass_sight p, u.2.found, o.2, o.3))
   not_woke_one m p q condition Asleep idle e = absurd (true≢false (sym e.0 ∙ idle.1))
   not_woke_one m p q condition NotOwner idle e = absurd e.6.3
   not_woke_one m p q condition Nested idle e = absurd e.6.3
@@ -123,12 +123,12 @@ module _ {R : Type 0} {K : _} where
   not_woke_one m p q condition Busy idle e = absurd e.6.3
 
   pub not_woke_all : (m : Monitor Total TotalOp R K) (p q : Pass Total TotalOp R K) (condition : ℕ) (r : Refusal) → Idle (pass_sight p)
-      → WakeAllEnds (passes_of m) (condition_limits (passes_of m)) (conditions_of m) condition (cond_seats_of p) (cond_seats_of q) (pass_sight p) (pass_sight q) (Err r)
+      → WakeAllEnds (passes_of m) (condition_limits (passes_of m)) (tries_in m) (conditions_of m) condition (cond_seats_of p) (cond_seats_of q) (pass_sight p) (pass_sight q) (Err r)
       → WakeHasCause condition m q r
   not_woke_all m p q condition NoSuchSeat idle e = e.0.1
   not_woke_all m p q condition Spent idle e =
-      used_at condition (cond_seats_of p) (cond_seats_of q) (λ c d. CondWakeAllEnds (passes_of m) (condition_limits (passes_of m)) c d (pass_sight p) (pass_sight q) (Err Spent)) HasNoTake e (λ c d u. let a = ap (λ (x : Sight Waiters). x.takes) u.2 in let b = u.1 in omega arith)
-  not_woke_all m p q condition NotWaiting idle e = used_at condition (cond_seats_of p) (cond_seats_of q) (λ c d. CondWakeAllEnds (passes_of m) (condition_limits (passes_of m)) c d (pass_sight p) (pass_sight q) (Err NotWaiting)) (FoundNotWaiting (passes_of m) (pass_sight q)) e (λ c d u. let o = u.3.4 in
+      used_at condition (cond_seats_of p) (cond_seats_of q) (λ c d. CondWakeAllEnds (passes_of m) (condition_limits (passes_of m)) (tries_in m) c d (pass_sight p) (pass_sight q) (Err Spent)) HasNoTake e (λ c d u. let a = ap (λ (x : Sight Waiters). x.takes) u.2 in let b = u.1 in omega arith)
+  not_woke_all m p q condition NotWaiting idle e = used_at condition (cond_seats_of p) (cond_seats_of q) (λ c d. CondWakeAllEnds (passes_of m) (condition_limits (passes_of m)) (tries_in m) c d (pass_sight p) (pass_sight q) (Err NotWaiting)) (FoundNotWaiting (passes_of m) (pass_sight q)) e (λ c d u. let o = u.3.4 in
       (u.0, u.3.0, o.0, o.1, u.3.1, u.2.found, u.3.2.list ∙ ap (λ xs. u.3.0 ++ xs) o.2, o.3))
   not_woke_all m p q condition Asleep idle e = absurd (true≢false (sym e.0 ∙ idle.1))
   not_woke_all m p q condition NotOwner idle e = absurd e.6.3

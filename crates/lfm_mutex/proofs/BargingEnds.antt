@@ -1,5 +1,5 @@
 -- What a seat is after tries that failed, and how they and what comes after them are one lock_barging.
-use Rattle.std.proofs.Common.{◌≡◌, inr, ℕ, ◌+◌, ◌≤◌, ◌∙◌, List, [], ◌∷◌, ◌++◌, length-append, Option, Some, None, Result, Ok, Err, refl, sym, ap, subst, arith}
+use Rattle.std.proofs.Common.{◌≡◌, inl, inr, ℕ, ◌+◌, ◌≤◌, ◌∙◌, List, [], ◌∷◌, ◌++◌, length-append, Option, Some, None, Result, Ok, Err, refl, sym, ap, subst, arith}
 use Rattle.std.proofs.lemmas.Bool.{false≢true}
 use Rattle.lfm_model.specs.declared.answers.How.{How}
 use Rattle.lfm_model.specs.declared.answers.Locked.{Locked}
@@ -81,3 +81,10 @@ module _ {T : Type 0} (follows : ℕ → T → T → Type 0) (fits : T → ℕ �
   barges_after n s m t (Ok (Locked.Held how)) free e g made = inr (m, e, made)
   barges_after n s m t (Ok (Locked.Again d)) free e g made = let a = (still_may_try l n s m e free).1 in let b = g.1 in absurd (omega arith)
   barges_after n s m t (Err refusal) free e g made = absurd (lock_refused m t refusal (still_may_try l n s m e free) g)
+
+  -- tries that failed, and a lock_barging after them
+  pub barges_on : (a b n : ℕ) (s m t : Sight T) (r : Result Locked Refusal) → MayTry l.budget s → a + b ≤ n → TriesBy l a s m None → LocksWaiting follows fits l.budget m t r → BargesBy l b m t r → BargesBy l n s t r
+  barges_on a b n s m t (Ok (Locked.Held how)) free few e g (inl held) = inl (tries_fewer l (a + b) n s t (Some how) few (tries_join l a b s m t (Some how) e held))
+  barges_on a b n s m t (Ok (Locked.Held how)) free few e g (inr (u, failed, made)) = inr (u, tries_fewer l (a + b) n s u None few (tries_join l a b s m u None e failed), made)
+  barges_on a b n s m t (Ok (Locked.Again d)) free few e g made = let x = (still_may_try l a s m e free).1 in let y = g.1 in absurd (omega arith)
+  barges_on a b n s m t (Err refusal) free few e g made = absurd (lock_refused m t refusal (still_may_try l a s m e free) g)

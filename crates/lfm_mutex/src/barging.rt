@@ -1,7 +1,7 @@
 //! `lock_barging`: `lock` of a seat that tries before it queues. Such a seat makes no claim while it tries: each try that fails
 //! gives its charge back and leaves the seat as it was. From the push on the order of the queue holds, as it does for `lock`.
 //! Linux's mutex spins so before it queues (optimistic spinning), and parking_lot and absl do so too.
-ghost use Rattle.std.specs.Prelude.{◌≡◌, ◌<◌, MatchBool, None};
+ghost use Rattle.std.specs.Prelude.{◌≡◌, ◌+◌, ◌-◌, ◌<◌, MatchBool, None};
 ghost use Rattle.lfm_mutex.specs.Belongs.{Beside, OfMutex, limits_of, tries_of};
 ghost use Rattle.lfm_mutex.specs.calls.Barging.{BargesBy, FailedTry, GainsIf, MayTry, TriesBy};
 ghost use Rattle.lfm_mutex.specs.calls.Sight.{sight, LocksWaiting};
@@ -20,7 +20,7 @@ use std::time::Duration;
 // How long a nap lasts, in microseconds.
 const NAP_MICROSECONDS: u64 = 20;
 
-// After each spin there are twice as many pauses as after the one before, up to 2 to the power of this.
+// Before each look there are twice as many pauses as before the one before it, up to 2 to the power of this.
 const MOST_DOUBLINGS: u32 = 8;
 
 // If the mutex counts more than its holder and one more seat, others queue or spin already. More spins would only take the
@@ -37,11 +37,12 @@ fn may_try<T: Kept>(seat: &Seat<T>) -> bool
 
 impl<T: Kept> Mutex<T> {
     /// Gains the mutex, or deepens the hold, with the answers and refusals of `lock`. A seat that doesn't hold tries first, as
-    /// often as the mutex's pace says: it looks at the count, which is no atomic step of the protocol, and makes a `try_lock` if
-    /// the count is 0. Between its looks it pauses, and later naps. If no try gains the mutex, it queues as by `lock`.
+    /// often as the mutex's pace says. It makes a `try_lock` at once, and later ones if it looks at the count and finds 0. A look is
+    /// no atomic step of the protocol. Between its looks it pauses, and later naps. If no try gains the mutex, it queues as by
+    /// `lock`.
     ///
-    /// So a thread may come before threads that are queued, as by `try_lock`, and a mutex that is released and acquired often is
-    /// gained without a sleep. What stays bounded is how often a thread tries: at most once for each spin and each nap of the
+    /// So a thread may come before threads that came earlier and still try. It comes before one that is queued only by accepting
+    /// a post, as `try_lock` may. What stays bounded is how often a thread tries: at most once for each spin and each nap of the
     /// pace. After that it queues, and no thread that queues later is served before it.
     ///
     /// Refuses, as `lock` and in this order: Asleep, DepthFull, Spent. A gain is charged one take, and a try that fails none. It
@@ -61,20 +62,51 @@ impl<T: Kept> Mutex<T> {
         if !may_try(seat) {
             return self.lock(rt, seat);
         }
-        match self.barge(rt, seat) {
+        match self.try_first(seat) {
+            Some(how) => Ok(Locked::Held(how)),
+            None => self.barge(rt, seat),
+        }
+    }
+
+    // The fast path: the try of the first spin. It is made without a look, since mostly nobody holds, and a look before it would be
+    // one more load of a cache line that another processor has.
+    #[inline(always)]
+    fn try_first(&self, seat: &mut Seat<T>) -> Option<How>
+        requires belongs { OfMutex seat.old self.now }
+        requires free { MayTry (limits_of self.now).budget (sight seat.old) }
+        ensures belongs { Beside seat.old seat.new }
+        ensures gains { GainsIf T.follows T.fits (limits_of self.now).budget (sight seat.old) (sight seat.new) result }
+        ensures tries { TriesBy (limits_of self.now) (self.now.pace.spins - (self.now.pace.spins - 1)) (sight seat.old) (sight seat.new) result }
+    {
+        if self.pace.spins == 0 {
+            return None;
+        }
+        self.try_if_free(seat, 0)
+    }
+
+    // The slow path: spins, then naps, and queues at last.
+    #[inline(never)]
+    fn barge<R: Wait>(&self, rt: &R, seat: &mut Seat<T>) -> Result<Locked, Refusal>
+        requires belongs { OfMutex seat.old self.now }
+        requires free { MayTry (limits_of self.now).budget (sight seat.old) }
+        ensures belongs { Beside seat.old seat.new }
+        ensures locks { LocksWaiting T.follows T.fits (limits_of self.now).budget (sight seat.old) (sight seat.new) result }
+        ensures steps { BargesBy (limits_of self.now) (self.now.pace.spins - 1 + self.now.pace.naps) (sight seat.old) (sight seat.new) result }
+    {
+        match self.spin_and_nap(rt, seat) {
             Some(how) => Ok(Locked::Held(how)),
             None => self.lock(rt, seat),
         }
     }
 
-    // Tries for as long as the pace says.
+    // Tries for as long as the pace says, after the first try.
     #[inline(always)]
-    fn barge<R: Wait>(&self, rt: &R, seat: &mut Seat<T>) -> Option<How>
+    fn spin_and_nap<R: Wait>(&self, rt: &R, seat: &mut Seat<T>) -> Option<How>
         requires belongs { OfMutex seat.old self.now }
         requires free { MayTry (limits_of self.now).budget (sight seat.old) }
         ensures belongs { Beside seat.old seat.new }
         ensures gains { GainsIf T.follows T.fits (limits_of self.now).budget (sight seat.old) (sight seat.new) result }
-        ensures tries { TriesBy (limits_of self.now) (tries_of self.now) (sight seat.old) (sight seat.new) result }
+        ensures tries { TriesBy (limits_of self.now) (self.now.pace.spins - 1 + self.now.pace.naps) (sight seat.old) (sight seat.new) result }
     {
         match self.spin(seat) {
             Some(how) => Some(how),
@@ -82,17 +114,18 @@ impl<T: Kept> Mutex<T> {
         }
     }
 
-    // Looks as often as the pace says, with more pauses after each look than after the one before, so that the holder keeps the
-    // cache line of the count for most of the time.
+    // Looks as often as the pace says, with more pauses before each look than before the one before it, so that the holder keeps
+    // the cache line of the count for most of the time.
     #[inline(always)]
     fn spin(&self, seat: &mut Seat<T>) -> Option<How>
         requires belongs { OfMutex seat.old self.now }
         requires free { MayTry (limits_of self.now).budget (sight seat.old) }
         ensures belongs { Beside seat.old seat.new }
         ensures gains { GainsIf T.follows T.fits (limits_of self.now).budget (sight seat.old) (sight seat.new) result }
-        ensures tries { TriesBy (limits_of self.now) self.now.pace.spins (sight seat.old) (sight seat.new) result }
+        ensures tries { TriesBy (limits_of self.now) (self.now.pace.spins - 1) (sight seat.old) (sight seat.new) result }
     {
-        'spins: for made in 0..self.pace.spins {
+        'spins: for made in 1..self.pace.spins {
+            pause_for(1 << (made - 1).min(MOST_DOUBLINGS));
             let count = self.table.shared.peek(COUNT);
             match self.try_if_free(seat, count) {
                 Some(how) => return Some(how),
@@ -101,14 +134,13 @@ impl<T: Kept> Mutex<T> {
             if count > HOLDER_AND_ONE_MORE {
                 return None;
             }
-            pause_for(1 << made.min(MOST_DOUBLINGS));
         }
         None
     }
 
     // Naps as often as the pace says, and looks after each nap. It stops if a crowd holds or waits: then a nap would only keep the
     // seat from its place in the queue.
-    #[inline(never)]
+    #[inline(always)]
     fn nap<R: Wait>(&self, rt: &R, seat: &mut Seat<T>) -> Option<How>
         requires belongs { OfMutex seat.old self.now }
         requires free { MayTry (limits_of self.now).budget (sight seat.old) }

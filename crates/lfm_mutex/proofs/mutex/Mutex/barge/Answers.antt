@@ -1,19 +1,12 @@
-use Rattle.std.proofs.Common.{◌+◌, Some, arith}
+use Rattle.std.proofs.Common.{◌+◌, ◌-◌}
 use Rattle.lfm_mutex.specs.calls.Sight.{sight}
-use Rattle.lfm_mutex.proofs.BargingEnds.{gains_after, still_may_try, tries_fewer, tries_join}
+use Rattle.lfm_mutex.proofs.BargingEnds.{barges_after, locks_after}
 use Rattle.lfm_mutex.proofs.mutex.Mutex.barge.Goals as goal
 
-pub nap-requires-clause-free : goal.nap-requires-clause-free
-nap-requires-clause-free g c κs within = still_may_try c.args.self.now.limits c.args.self.now.pace.spins (sight c.args.seat.now) (sight c.spin.new.seat) c.in-None.ensures.tries c.requires.free
+pub returns-in-None-clause-locks : goal.returns-in-None-clause-locks
+returns-in-None-clause-locks g c = let m = c.args.self.now in
+    locks_after g.T.Kept.follows g.T.Kept.fits m.limits (m.pace.spins - 1 + m.pace.naps) (sight c.args.seat.now) (sight c.spin_and_nap.new.seat) (sight c.lock.new.seat) c.lock.result c.requires.free c.in-None.ensures.tries c.lock.ensures.locks
 
-pub returns-in-Some-clause-tries : goal.returns-in-Some-clause-tries
-returns-in-Some-clause-tries g c = let p = c.args.self.now.pace in
-    tries_fewer c.args.self.now.limits p.spins (p.spins + p.naps) (sight c.args.seat.now) (sight c.spin.new.seat) (Some c.in-Some.how) (omega arith) c.in-Some.ensures.tries
-
-pub returns-in-None-clause-gains : goal.returns-in-None-clause-gains
-returns-in-None-clause-gains g c =
-    gains_after g.T.Kept.follows g.T.Kept.fits c.args.self.now.limits c.args.self.now.pace.spins (sight c.args.seat.now) (sight c.spin.new.seat) (sight c.nap.new.seat) c.nap.result c.in-None.ensures.tries c.nap.ensures.gains
-
-pub returns-in-None-clause-tries : goal.returns-in-None-clause-tries
-returns-in-None-clause-tries g c = let p = c.args.self.now.pace in
-    tries_join c.args.self.now.limits p.spins p.naps (sight c.args.seat.now) (sight c.spin.new.seat) (sight c.nap.new.seat) c.nap.result c.in-None.ensures.tries c.nap.ensures.tries
+pub returns-in-None-clause-steps : goal.returns-in-None-clause-steps
+returns-in-None-clause-steps g c = let m = c.args.self.now in
+    barges_after g.T.Kept.follows g.T.Kept.fits m.limits (m.pace.spins - 1 + m.pace.naps) (sight c.args.seat.now) (sight c.spin_and_nap.new.seat) (sight c.lock.new.seat) c.lock.result c.requires.free c.in-None.ensures.tries c.lock.ensures.locks c.lock.ensures.steps

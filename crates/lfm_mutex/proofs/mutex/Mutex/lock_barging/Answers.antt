@@ -1,14 +1,21 @@
-use Rattle.std.proofs.Common.{rules}
-use Rattle.lfm_mutex.specs.Belongs.{tries_of}
+use Rattle.std.proofs.Common.{◌+◌, ◌-◌, Some, inl, arith, rules}
 use Rattle.lfm_mutex.specs.calls.Barging.{MayTry}
 use Rattle.lfm_mutex.specs.calls.Sight.{sight}
-use Rattle.lfm_mutex.proofs.BargingEnds.{barges_after, locks_after}
+use Rattle.lfm_mutex.proofs.BargingEnds.{barges_on, locks_after, still_may_try, tries_fewer}
 use Rattle.lfm_mutex.proofs.mutex.Mutex.lock_barging.Goals as goal
+
+pub barge-requires-clause-free : goal.barge-requires-clause-free
+barge-requires-clause-free g c κs within = let m = c.args.self.now in let free : MayTry m.limits.budget (sight c.args.seat.now) = search rules in
+    still_may_try m.limits (m.pace.spins - (m.pace.spins - 1)) (sight c.args.seat.now) (sight c.try_first.new.seat) c.in-None.ensures.tries free
+
+pub returns-in-Some-clause-steps : goal.returns-in-Some-clause-steps
+returns-in-Some-clause-steps g c = let p = c.args.self.now.pace in
+    inl (tries_fewer c.args.self.now.limits (p.spins - (p.spins - 1)) (p.spins + p.naps) (sight c.args.seat.now) (sight c.try_first.new.seat) (Some c.in-Some.how) (omega arith) c.in-Some.ensures.tries)
 
 pub returns-in-None-clause-locks : goal.returns-in-None-clause-locks
 returns-in-None-clause-locks g c = let m = c.args.self.now in let free : MayTry m.limits.budget (sight c.args.seat.now) = search rules in
-    locks_after g.T.Kept.follows g.T.Kept.fits m.limits (tries_of m) (sight c.args.seat.now) (sight c.barge.new.seat) (sight c.lock-in-None.new.seat) c.lock-in-None.result free c.in-None.ensures.tries c.lock-in-None.ensures.locks
+    locks_after g.T.Kept.follows g.T.Kept.fits m.limits (m.pace.spins - (m.pace.spins - 1)) (sight c.args.seat.now) (sight c.try_first.new.seat) (sight c.barge.new.seat) c.barge.result free c.in-None.ensures.tries c.barge.ensures.locks
 
 pub returns-in-None-clause-steps : goal.returns-in-None-clause-steps
 returns-in-None-clause-steps g c = let m = c.args.self.now in let free : MayTry m.limits.budget (sight c.args.seat.now) = search rules in
-    barges_after g.T.Kept.follows g.T.Kept.fits m.limits (tries_of m) (sight c.args.seat.now) (sight c.barge.new.seat) (sight c.lock-in-None.new.seat) c.lock-in-None.result free c.in-None.ensures.tries c.lock-in-None.ensures.locks c.lock-in-None.ensures.steps
+    barges_on g.T.Kept.follows g.T.Kept.fits m.limits (m.pace.spins - (m.pace.spins - 1)) (m.pace.spins - 1 + m.pace.naps) (m.pace.spins + m.pace.naps) (sight c.args.seat.now) (sight c.try_first.new.seat) (sight c.barge.new.seat) c.barge.result free (omega arith) c.in-None.ensures.tries c.barge.ensures.locks c.barge.ensures.steps

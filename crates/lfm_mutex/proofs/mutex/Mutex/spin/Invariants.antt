@@ -1,4 +1,4 @@
-use Rattle.std.proofs.Common.{◌≡◌, None}
+use Rattle.std.proofs.Common.{◌≡◌, ◌≤◌, ◌-◌, None}
 use Rattle.lfm_mutex.specs.calls.Barging.{TriesBy}
 use Rattle.lfm_mutex.specs.calls.Sight.{sight}
 use Rattle.lfm_mutex.proofs.mutex.Mutex.spin.Given as goal
@@ -7,5 +7,6 @@ abbrev pub invariant-spins : goal.invariant-spins
 invariant-spins g l = record {
   belongs : (l.seat.place.table_id ≡ l.self.table.shared.table_id) × (l.seat.limits ≡ l.self.limits);
   beside : (l.seat.place.table_id ≡ l.fn.seat.place.table_id) × (l.seat.limits ≡ l.fn.seat.limits);
-  tries : TriesBy l.self.limits l.made (sight l.fn.seat) (sight l.seat) None;
+  after_the_first : (1 ≤ l.made) × (l.made - 1 ≤ l.self.pace.spins - 1);
+  tries : TriesBy l.self.limits (l.made - 1) (sight l.fn.seat) (sight l.seat) None;
 }

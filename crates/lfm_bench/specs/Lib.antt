@@ -1,2 +1,3 @@
 pub mod Broadcasts
+pub mod Deliveries
 pub mod Quartiles

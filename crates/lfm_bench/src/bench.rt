@@ -5,9 +5,9 @@ use crate::workloads::alone::{Peers, round, round_of_all};
 use crate::workloads::handoffs::round_of_handoffs;
 use crate::workloads::hits::Hit;
 use crate::workloads::misses::Miss;
-use crate::workloads::pairs::Pair;
+use crate::workloads::pairs::{Addition, BargingPair, Pair};
 use crate::workloads::recursive::Again;
-use crate::workloads::{Calls, Workload, broadcast, contended, looks, ping_pong};
+use crate::workloads::{Calls, Workload, broadcast, contended, looks, ping_pong, queue};
 use std::io;
 use std::sync::Wait;
 use std::thread::Threads;
@@ -25,6 +25,11 @@ const FEWEST_TRIPS: u64 = 20;
 const CALLS_OF_BROADCAST: u64 = 5_000;
 
 const FEWEST_BROADCASTS: u64 = 4;
+
+/// The same of a number that goes through a queue, and the fewest of a thread.
+const CALLS_OF_NUMBER: u64 = 10;
+
+const FEWEST_NUMBERS: u64 = 20;
 
 /// Those who are measured, and how much.
 #[derive(Drop)]
@@ -46,14 +51,15 @@ impl Bench<'_> {
         match workload {
             Workload::Contended {
                 threads,
-                inside,
-                outside,
+                work,
+                watching,
             } => {
                 let load = contended::Load {
                     threads,
-                    inside: step.steps(inside),
-                    outside: step.steps(outside),
+                    inside: step.steps(work.inside),
+                    outside: step.steps(work.outside),
                     window: Duration::from_millis(self.plan.milliseconds),
+                    watching,
                 };
                 contended::round(rt, load)
             }
@@ -62,13 +68,16 @@ impl Bench<'_> {
             }
             Workload::Broadcast(threads) => {
                 let broadcasts = (calls / CALLS_OF_BROADCAST).max(FEWEST_BROADCASTS);
-                broadcast::round(
-                    rt,
-                    broadcast::Load {
-                        threads,
-                        broadcasts,
-                    },
-                )
+                let load = broadcast::Load {
+                    threads,
+                    broadcasts,
+                };
+                broadcast::round(rt, load)
+            }
+            Workload::Queue(threads) => {
+                let numbers = calls / CALLS_OF_NUMBER / threads.max(1);
+                let numbers = numbers.max(FEWEST_NUMBERS);
+                queue::round(rt, queue::Load { threads, numbers })
             }
             Workload::Alone(calls) => self.round_of_one_thread(rt, calls),
         }
@@ -84,6 +93,8 @@ impl Bench<'_> {
         let peers = &mut self.peers;
         match calls {
             Calls::Pairs => round_of_all::<R, Pair>(rt, peers, Start::Free, many),
+            Calls::BargingPairs => round::<R, BargingPair>(rt, peers, Start::Free, many),
+            Calls::Additions => round_of_all::<R, Addition>(rt, peers, Start::Free, many),
             Calls::Recursive => round::<R, Again>(rt, peers, Start::Held, many),
             Calls::Hits => round_of_all::<R, Hit>(rt, peers, Start::Free, many),
             Calls::Misses => round_of_all::<R, Miss>(rt, peers, Start::HeldByOther, many),

@@ -1,4 +1,5 @@
 //! Who is measured: our mutex and condvars, and std's.
+pub mod guarded;
 pub mod ours;
 pub mod participants;
 pub mod standard;

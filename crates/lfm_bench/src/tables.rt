@@ -1,9 +1,11 @@
 //! The tables of the program: what is measured, and what is shown of it.
 use crate::bench::Bench;
-use crate::measure::{Column, Line, Mode, Peer, Plan, Row, StepTime, Steps, bare_table};
+use crate::measure::{
+    Column, Line, Measure, Mode, Peer, Plan, Row, StepTime, Steps, Watching, bare_table,
+};
 use crate::peers::ours::{FreeSeats, Users, new_mutex};
 use crate::workloads::alone::Peers;
-use crate::workloads::{Calls, Workload};
+use crate::workloads::{Calls, Work, Workload};
 use std::alloc::{AllocError, Global};
 use std::io;
 use std::sync::Wait;
@@ -11,173 +13,146 @@ use std::thread::Threads;
 use std::time::{Clock, CpuClock};
 
 /// The name of a row, and what it measures.
-#[derive(Clone, Copy)]
-struct Shape {
-    name: &'static str,
-    workload: Workload,
-}
+type Shape = (&'static str, Workload);
 
 /// The rows of one thread.
-const ALONE: [Shape; 6] = [
-    Shape {
-        name: "lock and unlock",
-        workload: Workload::Alone(Calls::Pairs),
-    },
-    Shape {
-        name: "recursive lock and unlock",
-        workload: Workload::Alone(Calls::Recursive),
-    },
-    Shape {
-        name: "try_lock hit and unlock",
-        workload: Workload::Alone(Calls::Hits),
-    },
-    Shape {
-        name: "try_lock miss",
-        workload: Workload::Alone(Calls::Misses),
-    },
-    Shape {
-        name: "hand-off by one thread",
-        workload: Workload::Alone(Calls::Handoffs),
-    },
-    Shape {
-        name: "a look",
-        workload: Workload::Alone(Calls::Looks),
-    },
-];
-
-/// What is shown of them.
-const COLUMNS_ALONE: [Column; 5] = [
-    Column::Costs(Peer::Ours),
-    Column::Costs(Peer::Bare),
-    Column::Ratio(Peer::Ours, Peer::Bare),
-    Column::Costs(Peer::Standard),
-    Column::Ratio(Peer::Ours, Peer::Standard),
-];
-
-/// The rows of several threads at a mutex. They have no bare steps, since what several threads do is no fixed chain of them.
-const TOGETHER: [Shape; 9] = [
-    Shape {
-        name: "2 threads, short",
-        workload: Workload::Contended {
-            threads: 2,
-            inside: 0,
-            outside: 0,
-        },
-    },
-    Shape {
-        name: "4 threads, short",
-        workload: Workload::Contended {
-            threads: 4,
-            inside: 0,
-            outside: 0,
-        },
-    },
-    Shape {
-        name: "8 threads, short",
-        workload: Workload::Contended {
-            threads: 8,
-            inside: 0,
-            outside: 0,
-        },
-    },
-    Shape {
-        name: "2 threads, long",
-        workload: Workload::Contended {
-            threads: 2,
-            inside: 500,
-            outside: 0,
-        },
-    },
-    Shape {
-        name: "4 threads, long",
-        workload: Workload::Contended {
-            threads: 4,
-            inside: 500,
-            outside: 0,
-        },
-    },
-    Shape {
-        name: "8 threads, long",
-        workload: Workload::Contended {
-            threads: 8,
-            inside: 500,
-            outside: 0,
-        },
-    },
-    Shape {
-        name: "2 threads, thinking",
-        workload: Workload::Contended {
-            threads: 2,
-            inside: 0,
-            outside: 1_000,
-        },
-    },
-    Shape {
-        name: "4 threads, thinking",
-        workload: Workload::Contended {
-            threads: 4,
-            inside: 0,
-            outside: 1_000,
-        },
-    },
-    Shape {
-        name: "8 threads, thinking",
-        workload: Workload::Contended {
-            threads: 8,
-            inside: 0,
-            outside: 1_000,
-        },
-    },
-];
-
-const COLUMNS_TOGETHER: [Column; 8] = [
-    Column::Costs(Peer::Ours),
-    Column::Fairness(Peer::Ours),
-    Column::Costs(Peer::Barging),
-    Column::Fairness(Peer::Barging),
-    Column::Costs(Peer::Standard),
-    Column::Fairness(Peer::Standard),
-    Column::Ratio(Peer::Ours, Peer::Standard),
-    Column::Ratio(Peer::Barging, Peer::Standard),
+const ALONE: [Shape; 8] = [
+    ("lock and unlock", Workload::Alone(Calls::Pairs)),
+    (
+        "lock_barging and unlock",
+        Workload::Alone(Calls::BargingPairs),
+    ),
+    ("with that adds 1", Workload::Alone(Calls::Additions)),
+    (
+        "recursive lock and unlock",
+        Workload::Alone(Calls::Recursive),
+    ),
+    (
+        "try_lock that holds, and unlock",
+        Workload::Alone(Calls::Hits),
+    ),
+    ("try_lock that is refused", Workload::Alone(Calls::Misses)),
+    ("hand-off by one thread", Workload::Alone(Calls::Handoffs)),
+    ("a look", Workload::Alone(Calls::Looks)),
 ];
 
 /// The rows of condition variables.
-const CONDITIONS: [Shape; 3] = [
-    Shape {
-        name: "ping-pong, a round trip",
-        workload: Workload::PingPong,
+const CONDITIONS: [Shape; 5] = [
+    ("ping-pong, a round trip", Workload::PingPong),
+    ("wake_all of 4 that wait", Workload::Broadcast(4)),
+    ("wake_all of 32 that wait", Workload::Broadcast(32)),
+    ("bounded queue, 1 to 1", Workload::Queue(1)),
+    ("bounded queue, 4 to 4", Workload::Queue(4)),
+];
+
+/// What several threads do: each work has a row for each number of threads. They have no bare steps, since what they do is no
+/// fixed chain of them.
+const WORKS: [Work; 3] = [
+    Work {
+        name: "short section",
+        inside: 0,
+        outside: 0,
     },
-    Shape {
-        name: "broadcast to 4",
-        workload: Workload::Broadcast(4),
+    Work {
+        name: "0.5 us section",
+        inside: 500,
+        outside: 0,
     },
-    Shape {
-        name: "broadcast to 32",
-        workload: Workload::Broadcast(32),
+    Work {
+        name: "1 us between",
+        inside: 0,
+        outside: 1_000,
     },
 ];
 
-const COLUMNS_OF_CONDITIONS: [Column; 3] = [
-    Column::Costs(Peer::Ours),
-    Column::Costs(Peer::Standard),
-    Column::Ratio(Peer::Ours, Peer::Standard),
-];
+/// How many threads there are.
+const THREADS: [u64; 3] = [2, 4, 8];
 
-/// A table that is measured and printed.
-#[derive(Clone, Copy)]
-struct Table<'a> {
+/// What is shown of some rows.
+struct View<'a> {
     /// What the figures are.
     head: &'a str,
+    measure: Measure,
     columns: &'a [Column],
-    shapes: &'a [Shape],
 }
+
+const VIEWS_ALONE: [View<'static>; 1] = [View {
+    head: "nanoseconds a call",
+    measure: Measure::Cost,
+    columns: &[
+        Column::Median(Peer::Ours),
+        Column::Spread(Peer::Ours),
+        Column::Median(Peer::Bare),
+        Column::Spread(Peer::Bare),
+        Column::Ratio(Peer::Ours, Peer::Bare),
+        Column::Median(Peer::Standard),
+        Column::Spread(Peer::Standard),
+        Column::Ratio(Peer::Ours, Peer::Standard),
+    ],
+}];
+
+/// What is shown of each measure of several threads.
+const IN_BOTH_WAYS: [Column; 8] = [
+    Column::Median(Peer::InOrder),
+    Column::Spread(Peer::InOrder),
+    Column::Ratio(Peer::InOrder, Peer::Standard),
+    Column::Median(Peer::Barging),
+    Column::Spread(Peer::Barging),
+    Column::Ratio(Peer::Barging, Peer::Standard),
+    Column::Median(Peer::Standard),
+    Column::Spread(Peer::Standard),
+];
+
+/// The same of the fairness, of which a ratio says nothing.
+const FAIRNESS_IN_BOTH_WAYS: [Column; 3] = [
+    Column::Median(Peer::InOrder),
+    Column::Median(Peer::Barging),
+    Column::Median(Peer::Standard),
+];
+
+const VIEWS_TOGETHER: [View<'static>; 3] = [
+    View {
+        head: "nanoseconds an acquisition",
+        measure: Measure::Cost,
+        columns: &IN_BOTH_WAYS,
+    },
+    View {
+        head: "most over fewest",
+        measure: Measure::Fairness,
+        columns: &FAIRNESS_IN_BOTH_WAYS,
+    },
+    View {
+        head: "processor time, ns",
+        measure: Measure::ProcessorTime,
+        columns: &IN_BOTH_WAYS,
+    },
+];
+
+const VIEWS_OF_WAITS: [View<'static>; 2] = [
+    View {
+        head: "99.9 % of waits, us",
+        measure: Measure::LongWait,
+        columns: &IN_BOTH_WAYS,
+    },
+    View {
+        head: "longest wait, us",
+        measure: Measure::LongestWait,
+        columns: &IN_BOTH_WAYS,
+    },
+];
+
+const VIEWS_OF_CONDITIONS: [View<'static>; 1] = [View {
+    head: "nanoseconds",
+    measure: Measure::Cost,
+    columns: &IN_BOTH_WAYS,
+}];
 
 /// Measures and prints one table after the other.
 pub fn measure<R: Threads + Sync + Wait + Clock + CpuClock + AllocGlobal + Print>(
     rt: &R,
     plan: Plan,
 ) -> io::Result<()> {
-    let (mutex, seats) = new_mutex(rt, 2)?;
+    let (mutex, seats) = new_mutex(rt, 2, 0u64)?;
     let mut seats = FreeSeats::new(&mutex, seats);
     let (table, seat) = bare_table(rt.alloc())?;
     let standard = std::sync::Mutex::new(0u64);
@@ -195,53 +170,57 @@ fn measure_all<R: Threads + Sync + Wait + Clock + CpuClock + AllocGlobal + Print
     rt: &R,
     bench: &mut Bench,
 ) -> io::Result<()> {
-    let alone = Table {
-        head: "nanoseconds a call",
-        columns: &COLUMNS_ALONE,
-        shapes: &ALONE,
-    };
-    let together = Table {
-        head: "nanoseconds an acquisition",
-        columns: &COLUMNS_TOGETHER,
-        shapes: &TOGETHER,
-    };
-    let conditions = Table {
-        head: "nanoseconds",
-        columns: &COLUMNS_OF_CONDITIONS,
-        shapes: &CONDITIONS,
-    };
-    measure_table(rt, bench, alone)?;
-    measure_table(rt, bench, together)?;
-    measure_table(rt, bench, conditions)
-}
-
-fn measure_table<R: Threads + Sync + Wait + Clock + CpuClock + AllocGlobal + Print>(
-    rt: &R,
-    bench: &mut Bench,
-    table: Table,
-) -> io::Result<()> {
-    let mut rows = rows_of(rt.alloc(), table.shapes)?;
-    measure_rows(rt, bench, &mut rows)?;
-    match bench.plan.mode {
-        Mode::Times => print_times(rt, table, &mut rows),
-        Mode::Check => print_checks(rt, &rows),
-    }
+    let alloc = rt.alloc();
+    measure_rows(rt, bench, rows_of(alloc, &ALONE)?, &VIEWS_ALONE)?;
+    let together = rows_together(alloc, Watching::Nothing)?;
+    measure_rows(rt, bench, together, &VIEWS_TOGETHER)?;
+    let watched = rows_together(alloc, Watching::Waits)?;
+    measure_rows(rt, bench, watched, &VIEWS_OF_WAITS)?;
+    measure_rows(
+        rt,
+        bench,
+        rows_of(alloc, &CONDITIONS)?,
+        &VIEWS_OF_CONDITIONS,
+    )
 }
 
 /// Rows without a figure.
 fn rows_of(alloc: Global, shapes: &[Shape]) -> Result<Vec<Row>, AllocError> {
     let mut rows = Vec::new(alloc);
-    for shape in shapes {
-        rows.push(Row::new(alloc, shape.name, shape.workload))?;
+    for (name, workload) in shapes {
+        let name = String::from_str(alloc, name)?;
+        rows.push(Row::new(alloc, name, *workload))?;
     }
     Ok(rows)
 }
 
-/// Makes all rounds. Each measures every row once.
-fn measure_rows<R: Threads + Sync + Wait + Clock + CpuClock + AllocGlobal>(
+/// Rows of several threads, without a figure.
+fn rows_together(alloc: Global, watching: Watching) -> Result<Vec<Row>, AllocError> {
+    let watched = match watching {
+        Watching::Nothing => "",
+        Watching::Waits => ", waits",
+    };
+    let mut rows = Vec::new(alloc);
+    for work in WORKS {
+        for threads in THREADS {
+            let name = format!(in alloc; "{threads} threads, {}{watched}", work.name)?;
+            let workload = Workload::Contended {
+                threads,
+                work,
+                watching,
+            };
+            rows.push(Row::new(alloc, name, workload))?;
+        }
+    }
+    Ok(rows)
+}
+
+/// Makes all rounds, each of which measures every row once, and prints what came of them.
+fn measure_rows<R: Threads + Sync + Wait + Clock + CpuClock + AllocGlobal + Print>(
     rt: &R,
     bench: &mut Bench,
-    rows: &mut Vec<Row>,
+    mut rows: Vec<Row>,
+    views: &[View],
 ) -> io::Result<()> {
     let step = StepTime::measure(rt)?;
     for _ in 0..bench.plan.rounds {
@@ -249,21 +228,26 @@ fn measure_rows<R: Threads + Sync + Wait + Clock + CpuClock + AllocGlobal>(
             row.add(bench.round(rt, step, row.workload)?)?;
         }
     }
-    Ok(())
+    match bench.plan.mode {
+        Mode::Times => print_views(rt, views, &mut rows),
+        Mode::Check => print_checks(rt, &rows),
+    }
 }
 
-fn print_times<R: Print + AllocGlobal>(
+fn print_views<R: Print + AllocGlobal>(
     rt: &R,
-    table: Table,
+    views: &[View],
     rows: &mut Vec<Row>,
 ) -> io::Result<()> {
-    let mut head = Line::new(rt.alloc(), table.head)?;
-    for column in table.columns {
-        column.add_titles(&mut head)?;
-    }
-    head.print(rt)?;
-    for row in rows.iter_mut() {
-        row.print(rt, table.columns)?;
+    for view in views {
+        let mut head = Line::new(rt.alloc(), view.head)?;
+        for column in view.columns {
+            head.add(column.title())?;
+        }
+        head.print(rt)?;
+        for row in rows.iter_mut() {
+            row.print(rt, view.measure, view.columns)?;
+        }
     }
     Ok(())
 }

@@ -8,25 +8,38 @@ pub mod looks;
 pub mod misses;
 pub mod pairs;
 pub mod ping_pong;
+pub mod queue;
 pub mod recursive;
+
+use crate::measure::Watching;
 
 /// What is measured.
 #[derive(Clone, Copy)]
 pub enum Workload {
     /// The calls of one thread.
     Alone(Calls),
-    /// Several threads take turns.
+    /// So many threads take turns.
     Contended {
         threads: u64,
-        /// How long a thread works while it holds the mutex, in nanoseconds.
-        inside: u64,
-        /// How long it works between two holds, in nanoseconds.
-        outside: u64,
+        work: Work,
+        watching: Watching,
     },
     /// Two threads wake each other.
     PingPong,
     /// A thread wakes so many others, all at once.
     Broadcast(u64),
+    /// So many threads put numbers into a bounded queue, and as many take them out.
+    Queue(u64),
+}
+
+/// The work of threads that take turns.
+#[derive(Clone, Copy)]
+pub struct Work {
+    pub name: &'static str,
+    /// How long a thread works while it holds the mutex, in nanoseconds.
+    pub inside: u64,
+    /// How long it works between two holds, in nanoseconds.
+    pub outside: u64,
 }
 
 /// The calls of one thread.
@@ -34,7 +47,11 @@ pub enum Workload {
 pub enum Calls {
     /// It locks and unlocks.
     Pairs,
-    /// The same within a hold.
+    /// It locks by `lock_barging`, and unlocks.
+    BargingPairs,
+    /// It adds 1 by `with`.
+    Additions,
+    /// It locks and unlocks within a hold.
     Recursive,
     /// It gains the mutex by try_lock, and unlocks.
     Hits,

@@ -1,40 +1,53 @@
 //! What came of a round in which several threads took turns at one mutex.
 ghost use Rattle.std.specs.Prelude.{◌≡◌, Some, true};
 
-use crate::measure::figures::{Sample, hundredths};
+use crate::measure::figures::{Contest, Sample, hundredths};
+use crate::measure::waits::Waits;
 
 /// What one thread did.
-#[derive(Clone, Copy)]
+#[derive(Drop)]
 pub struct Turns {
     /// How often it acquired the mutex.
     pub acquisitions: u64,
     /// For how many nanoseconds it took turns.
     pub nanoseconds: u64,
+    /// How much processor time it used for that, in nanoseconds.
+    pub processor_nanoseconds: u64,
     /// Whether it did its work.
     pub worked: bool,
+    /// How long it waited for the mutex.
+    pub waits: Waits,
 }
 
 /// What these threads did in a round, where the value was 0 before and this after them. A call is an acquisition by any of
-/// them. It is exact where the value is how often the mutex was acquired.
-pub fn contest(turns: &[Turns], value: Option<u64>) -> Sample
+/// them. It is exact where the value is how often the mutex was acquired. `waits` are none, to which those of all threads are
+/// added.
+pub fn contest(turns: &[Turns], mut waits: Waits, value: Option<u64>) -> Sample
     ensures { result.exact ≡ true → value ≡ Some result.calls }
 {
     let mut calls = 0u64;
     let mut nanoseconds = 0;
+    let mut processor_nanoseconds = 0u64;
     let mut most = 0;
     let mut fewest = u64::MAX;
     let mut worked = true;
     for one in turns {
         calls = calls.saturating_add(one.acquisitions);
         nanoseconds = nanoseconds.max(one.nanoseconds);
+        processor_nanoseconds = processor_nanoseconds.saturating_add(one.processor_nanoseconds);
         most = most.max(one.acquisitions);
         fewest = fewest.min(one.acquisitions);
         worked &= one.worked;
+        waits.add(&one.waits);
     }
     Sample {
         nanoseconds,
         calls,
         exact: worked && value == Some(calls),
-        fairness: hundredths(most, fewest.max(1)),
+        contest: Contest {
+            fairness: hundredths(most, fewest.max(1)),
+            processor_nanoseconds,
+            waits: waits.times(),
+        },
     }
 }

@@ -7,9 +7,6 @@ use std::alloc::{AllocError, Global};
 use std::io;
 use std::time::{CpuClock, Duration};
 
-/// The fairness of those who don't contend.
-pub const EVEN: u64 = 100;
-
 /// One round of a measurement.
 #[derive(Clone, Copy)]
 pub struct Sample {
@@ -19,11 +16,55 @@ pub struct Sample {
     pub calls: u64,
     /// Whether each call did what it was to do.
     pub exact: bool,
+    /// What it tells of threads that contend, and nothing of others.
+    pub contest: Contest,
+}
+
+/// What a sample tells of threads that contend.
+#[derive(Clone, Copy)]
+pub struct Contest {
     /// The most calls of a thread, in hundredths of the fewest, or of 1 where those are 0.
     pub fairness: u64,
+    /// How much processor time the threads used together, in nanoseconds.
+    pub processor_nanoseconds: u64,
+    /// How long they waited for the mutex.
+    pub waits: WaitTimes,
+}
+
+/// How long threads waited for a mutex, in nanoseconds.
+#[derive(Clone, Copy)]
+pub struct WaitTimes {
+    /// 999 of 1,000 waits took no longer than this.
+    pub most: u64,
+    pub longest: u64,
+}
+
+impl Contest {
+    /// Nobody contended.
+    pub const NONE: Contest = Contest {
+        fairness: 100,
+        processor_nanoseconds: 0,
+        waits: WaitTimes {
+            most: 0,
+            longest: 0,
+        },
+    };
 }
 
 impl Sample {
+    /// A sample of so many calls that took so much time together, of no contest.
+    pub fn of_calls(nanoseconds: u64, calls: u64, exact: bool) -> Sample
+        ensures calls { result.calls ≡ calls }
+        ensures exact { result.exact ≡ exact }
+    {
+        Sample {
+            nanoseconds,
+            calls,
+            exact,
+            contest: Contest::NONE,
+        }
+    }
+
     /// The same sample, exact only where this holds as well.
     pub fn provided(self, holds: bool) -> Sample
         ensures { result ≡ record self { exact = self.exact && holds } }
@@ -36,7 +77,7 @@ impl Sample {
 
     /// What one call took on average, in picoseconds.
     pub fn cost(&self) -> u64 {
-        per(self.nanoseconds.saturating_mul(1_000), self.calls)
+        picoseconds_per(self.nanoseconds, self.calls)
     }
 }
 
@@ -60,12 +101,7 @@ impl Stopwatch {
     {
         let spent = rt.thread_cpu_time()?.saturating_sub(self.start);
         let nanoseconds = u64::try_from(spent.as_nanos()).unwrap_or(u64::MAX);
-        Ok(Sample {
-            nanoseconds,
-            calls,
-            exact: done == calls,
-            fairness: EVEN,
-        })
+        Ok(Sample::of_calls(nanoseconds, calls, done == calls))
     }
 }
 
@@ -75,6 +111,11 @@ pub fn per(total: u64, parts: u64) -> u64
     ensures none { parts ≡ 0 → result ≡ 0 }
 {
     if parts == 0 { 0 } else { total / parts }
+}
+
+/// How many picoseconds of these nanoseconds each call has.
+fn picoseconds_per(nanoseconds: u64, calls: u64) -> u64 {
+    per(nanoseconds.saturating_mul(1_000), calls)
 }
 
 /// How many hundredths of the base this amount is, rounded down. 0 where the base is 0.
@@ -166,11 +207,29 @@ fn quartiles_in_order(figures: &[u64]) -> Option<Quartiles>
     })
 }
 
+/// What is measured in a round.
+#[derive(Clone, Copy)]
+pub enum Measure {
+    /// What a call took on average, in picoseconds.
+    Cost,
+    /// The most calls of a thread, in hundredths of the fewest.
+    Fairness,
+    /// What processor time a call used on average, in picoseconds.
+    ProcessorTime,
+    /// What 999 of 1,000 waits took at most, in nanoseconds.
+    LongWait,
+    /// What the longest wait took, in nanoseconds.
+    LongestWait,
+}
+
 /// The figures of one of those who are measured by a workload.
 #[derive(Drop)]
 pub struct Figures {
     costs: Series,
     fairness: Series,
+    processor_times: Series,
+    long_waits: Series,
+    longest_waits: Series,
     exact: bool,
 }
 
@@ -182,6 +241,9 @@ impl Figures {
         Figures {
             costs: Series::new(alloc),
             fairness: Series::new(alloc),
+            processor_times: Series::new(alloc),
+            long_waits: Series::new(alloc),
+            longest_waits: Series::new(alloc),
             exact: true,
         }
     }
@@ -190,9 +252,21 @@ impl Figures {
     pub fn add(&mut self, sample: Sample) -> Result<(), AllocError>
         ensures { self.new.exact ≡ (self.old.exact && sample.exact) }
     {
+        let contest = sample.contest;
         self.exact = self.exact && sample.exact;
         self.costs.add(sample.cost())?;
-        self.fairness.add(sample.fairness)
+        self.fairness.add(contest.fairness)?;
+        self.processor_times.add(picoseconds_per(contest.processor_nanoseconds, sample.calls))?;
+        self.long_waits.add(contest.waits.most)?;
+        self.longest_waits.add(contest.waits.longest)
+    }
+
+    /// Adds the figures of a round, where there are any.
+    pub fn add_if_any(&mut self, sample: Option<Sample>) -> Result<(), AllocError> {
+        match sample {
+            Some(sample) => self.add(sample),
+            None => Ok(()),
+        }
     }
 
     /// Whether each call of each round did what it was to do.
@@ -202,13 +276,14 @@ impl Figures {
         self.exact
     }
 
-    /// The quartiles of what a call took on average in a round, in picoseconds. None where there was no round.
-    pub fn costs(&mut self) -> Option<Quartiles> {
-        self.costs.quartiles()
-    }
-
-    /// The median of the fairness of a round. 0 where there was no round.
-    pub fn fairness(&mut self) -> u64 {
-        self.fairness.median()
+    /// The quartiles of a measure. None where there was no round.
+    pub fn quartiles(&mut self, measure: Measure) -> Option<Quartiles> {
+        match measure {
+            Measure::Cost => self.costs.quartiles(),
+            Measure::Fairness => self.fairness.quartiles(),
+            Measure::ProcessorTime => self.processor_times.quartiles(),
+            Measure::LongWait => self.long_waits.quartiles(),
+            Measure::LongestWait => self.longest_waits.quartiles(),
+        }
     }
 }

@@ -1,6 +1,6 @@
 //! A line of a table, as it is printed.
 
-use crate::measure::figures::Quartiles;
+use crate::measure::figures::{Measure, Quartiles};
 use std::alloc::{AllocError, Global};
 use std::io;
 
@@ -14,7 +14,7 @@ pub struct Line {
 impl Line {
     /// A line with this name and no cell.
     pub fn new(alloc: Global, name: &str) -> Result<Line, AllocError> {
-        let text = format!(in alloc; "{name:<26}")?;
+        let text = format!(in alloc; "{name:<32}")?;
         Ok(Line { alloc, text })
     }
 
@@ -24,25 +24,36 @@ impl Line {
         self.text.push_str(&cell)
     }
 
-    /// Adds what a call took, in nanoseconds with one decimal, rounded down, and the spread of that in percent: a cell for the
-    /// median and one for the spread.
-    pub fn add_costs(&mut self, costs: Option<Quartiles>) -> Result<(), AllocError> {
-        let Some(costs) = costs else {
-            self.add("-")?;
+    /// Adds the median of a measure: hundredths as a number with two decimals; a time in nanoseconds, or of a wait in microseconds,
+    /// with one decimal, rounded down. None where nobody was measured.
+    pub fn add_median(
+        &mut self,
+        measure: Measure,
+        quartiles: Option<Quartiles>,
+    ) -> Result<(), AllocError> {
+        let Some(quartiles) = quartiles else {
             return self.add("-");
         };
-        let (whole, tenths) = (costs.median / 1_000, costs.median % 1_000 / 100);
-        let nanoseconds = format!(in self.alloc; "{whole}.{tenths}")?;
-        self.add(&nanoseconds)?;
-        let percent = format!(in self.alloc; "{}%", costs.spread())?;
+        if matches!(measure, Measure::Fairness) {
+            return self.add_hundredths(quartiles.median);
+        }
+        // a thousand of what the series has, picoseconds or nanoseconds of a wait, are one of what is shown
+        let (whole, tenths) = (quartiles.median / 1_000, quartiles.median % 1_000 / 100);
+        let text = format!(in self.alloc; "{whole}.{tenths}")?;
+        self.add(&text)
+    }
+
+    /// Adds how far figures spread, in percent. None where nobody was measured.
+    pub fn add_spread(&mut self, quartiles: Option<Quartiles>) -> Result<(), AllocError> {
+        let Some(quartiles) = quartiles else {
+            return self.add("-");
+        };
+        let percent = format!(in self.alloc; "{}%", quartiles.spread())?;
         self.add(&percent)
     }
 
-    /// Adds hundredths, as a number with two decimals. None where there are none to show.
-    pub fn add_times(&mut self, hundredths: Option<u64>) -> Result<(), AllocError> {
-        let Some(hundredths) = hundredths else {
-            return self.add("-");
-        };
+    /// Adds hundredths, as a number with two decimals.
+    pub fn add_hundredths(&mut self, hundredths: u64) -> Result<(), AllocError> {
         let text = format!(in self.alloc; "{}.{:02}", hundredths / 100, hundredths % 100)?;
         self.add(&text)
     }

@@ -1,6 +1,6 @@
 //! A row of a table: a workload with the figures of those who are measured by it, and the columns in which they are printed.
 
-use crate::measure::figures::{Figures, Quartiles, Sample, hundredths};
+use crate::measure::figures::{Figures, Measure, Quartiles, Sample, hundredths};
 use crate::measure::line::Line;
 use crate::workloads::Workload;
 use std::alloc::{AllocError, Global};
@@ -9,9 +9,11 @@ use std::io;
 /// Who is measured.
 #[derive(Clone, Copy)]
 pub enum Peer {
-    /// Our mutex and condvars. Several threads lock it by `lock`, in order.
+    /// One thread that uses our mutex.
     Ours,
-    /// The same, where they lock it by `lock_barging`.
+    /// Several threads that lock our mutex by `lock`.
+    InOrder,
+    /// Several threads that lock our mutex by `lock_barging`.
     Barging,
     /// The bare steps of our mutex's calls.
     Bare,
@@ -19,51 +21,70 @@ pub enum Peer {
     Standard,
 }
 
+impl Peer {
+    /// The title of its columns.
+    fn title(self) -> &'static str {
+        match self {
+            Peer::Ours => "ours",
+            Peer::InOrder => "in order",
+            Peer::Barging => "barging",
+            Peer::Bare => "bare",
+            Peer::Standard => "std",
+        }
+    }
+}
+
 /// What is shown of each row.
 #[derive(Clone, Copy)]
 pub enum Column {
-    /// What a call took, and the spread of that: two cells.
-    Costs(Peer),
-    /// The most calls of a thread over the fewest.
-    Fairness(Peer),
+    /// The median of this peer.
+    Median(Peer),
+    /// How far its rounds spread.
+    Spread(Peer),
     /// How many times the median of the second peer that of the first is.
     Ratio(Peer, Peer),
 }
 
 impl Column {
-    /// Adds the titles of its cells.
-    pub fn add_titles(self, line: &mut Line) -> Result<(), AllocError> {
-        let peer = match self {
-            Column::Fairness(_) => return line.add("fairness"),
-            Column::Ratio(_, _) => return line.add("ratio"),
-            Column::Costs(peer) => peer,
-        };
-        line.add(match peer {
-            Peer::Ours => "ours",
-            Peer::Barging => "barging",
-            Peer::Bare => "bare",
-            Peer::Standard => "std",
-        })?;
-        line.add("spread")
+    /// Its title.
+    pub fn title(self) -> &'static str {
+        match self {
+            Column::Median(peer) => peer.title(),
+            Column::Spread(_) => "spread",
+            Column::Ratio(_, _) => "ratio",
+        }
     }
 }
 
 /// What one round of a workload gave. Who has no such call has no sample.
 #[derive(Clone, Copy)]
 pub struct Round {
-    pub ours: Sample,
+    pub ours: Option<Sample>,
+    pub in_order: Option<Sample>,
     pub barging: Option<Sample>,
     pub bare: Option<Sample>,
     pub standard: Option<Sample>,
 }
 
+impl Round {
+    /// Nobody has such a call.
+    pub const NONE: Round = Round {
+        ours: None,
+        in_order: None,
+        barging: None,
+        bare: None,
+        standard: None,
+    };
+}
+
 /// A workload, and the figures of those who are measured by it. Who has no such call has figures of no round.
 #[derive(Drop)]
 pub struct Row {
-    name: &'static str,
+    name: String,
     /// What is measured.
     pub workload: Workload,
     ours: Figures,
+    in_order: Figures,
     barging: Figures,
     bare: Figures,
     standard: Figures,
@@ -71,11 +92,12 @@ pub struct Row {
 
 impl Row {
     /// A row without a figure.
-    pub fn new(alloc: Global, name: &'static str, workload: Workload) -> Row {
+    pub fn new(alloc: Global, name: String, workload: Workload) -> Row {
         Row {
             name,
             workload,
             ours: Figures::new(alloc),
+            in_order: Figures::new(alloc),
             barging: Figures::new(alloc),
             bare: Figures::new(alloc),
             standard: Figures::new(alloc),
@@ -84,68 +106,67 @@ impl Row {
 
     /// Adds what a round gave.
     pub fn add(&mut self, round: Round) -> Result<(), AllocError> {
-        self.ours.add(round.ours)?;
-        if let Some(barging) = round.barging {
-            self.barging.add(barging)?;
-        }
-        if let Some(bare) = round.bare {
-            self.bare.add(bare)?;
-        }
-        match round.standard {
-            Some(standard) => self.standard.add(standard),
-            None => Ok(()),
-        }
+        self.ours.add_if_any(round.ours)?;
+        self.in_order.add_if_any(round.in_order)?;
+        self.barging.add_if_any(round.barging)?;
+        self.bare.add_if_any(round.bare)?;
+        self.standard.add_if_any(round.standard)
     }
 
     /// Prints the name, and whether each call did what it was to do.
     pub fn print_check<R: Print>(&self, rt: &R) -> io::Result<()> {
         let exact = self.ours.is_exact()
+            && self.in_order.is_exact()
             && self.barging.is_exact()
             && self.bare.is_exact()
             && self.standard.is_exact();
-        let name = self.name;
+        let name = self.name.as_str();
         let verdict = if exact { "exact" } else { "not exact" };
         println!(rt; "{name}: {verdict}")
     }
 
-    /// Prints the figures in these columns.
-    pub fn print<R: Print + AllocGlobal>(&mut self, rt: &R, columns: &[Column]) -> io::Result<()> {
-        let mut line = Line::new(rt.alloc(), self.name)?;
+    /// Prints the figures of a measure in these columns.
+    pub fn print<R: Print + AllocGlobal>(
+        &mut self,
+        rt: &R,
+        measure: Measure,
+        columns: &[Column],
+    ) -> io::Result<()> {
+        let mut line = Line::new(rt.alloc(), &self.name)?;
         for column in columns {
-            self.add_cells(*column, &mut line)?;
+            self.add_cell(measure, *column, &mut line)?;
         }
         line.print(rt)
     }
 
-    /// Adds the cells of a column.
-    fn add_cells(&mut self, column: Column, line: &mut Line) -> Result<(), AllocError> {
+    /// Adds the cell of a column.
+    fn add_cell(
+        &mut self,
+        measure: Measure,
+        column: Column,
+        line: &mut Line,
+    ) -> Result<(), AllocError> {
         match column {
-            Column::Costs(peer) => line.add_costs(self.costs(peer)),
-            Column::Fairness(peer) => line.add_times(Some(self.fairness(peer))),
+            Column::Median(peer) => line.add_median(measure, self.quartiles(peer, measure)),
+            Column::Spread(peer) => line.add_spread(self.quartiles(peer, measure)),
             Column::Ratio(peer, other) => {
-                let (Some(costs), Some(others)) = (self.costs(peer), self.costs(other)) else {
-                    return line.add_times(None);
+                let figures = self.quartiles(peer, measure);
+                let others = self.quartiles(other, measure);
+                let (Some(figures), Some(others)) = (figures, others) else {
+                    return line.add("-");
                 };
-                line.add_times(Some(hundredths(costs.median, others.median)))
+                line.add_hundredths(hundredths(figures.median, others.median))
             }
         }
     }
 
-    fn costs(&mut self, peer: Peer) -> Option<Quartiles> {
+    fn quartiles(&mut self, peer: Peer, measure: Measure) -> Option<Quartiles> {
         match peer {
-            Peer::Ours => self.ours.costs(),
-            Peer::Barging => self.barging.costs(),
-            Peer::Bare => self.bare.costs(),
-            Peer::Standard => self.standard.costs(),
-        }
-    }
-
-    fn fairness(&mut self, peer: Peer) -> u64 {
-        match peer {
-            Peer::Ours => self.ours.fairness(),
-            Peer::Barging => self.barging.fairness(),
-            Peer::Bare => self.bare.fairness(),
-            Peer::Standard => self.standard.fairness(),
+            Peer::Ours => self.ours.quartiles(measure),
+            Peer::InOrder => self.in_order.quartiles(measure),
+            Peer::Barging => self.barging.quartiles(measure),
+            Peer::Bare => self.bare.quartiles(measure),
+            Peer::Standard => self.standard.quartiles(measure),
         }
     }
 }

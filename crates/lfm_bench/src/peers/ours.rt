@@ -6,7 +6,7 @@ ghost use lib.ListN.{get_elem?};
 
 use crate::measure::Start;
 use lfm_model::{Asked, Locked, Refusal};
-use lfm_mutex::{Mutex, Pace, Seat};
+use lfm_mutex::{Kept, Mutex, Pace, Seat};
 use std::alloc::AllocError;
 use std::io;
 use std::sync::Wait;
@@ -16,16 +16,18 @@ use std::time::Clock;
 /// How many takes each seat may make: more than any run asks for.
 pub const BUDGET: u64 = 1 << 36;
 
-/// A mutex round 0 with so many seats, of the pace of this machine. It takes memory.
-pub fn new_mutex<R: Threads + Clock + AllocGlobal>(
+/// A mutex round this value with so many seats, of the pace of this machine. It takes memory.
+pub fn new_mutex<R: Threads + Clock + AllocGlobal, T: Kept>(
     rt: &R,
     seats: u64,
-) -> io::Result<(Mutex<u64>, Vec<Seat<u64>>)>
+    value: T,
+) -> io::Result<(Mutex<T>, Vec<Seat<T>>)>
+    requires { T.fits value 0 }
     ensures limits { IfOk result (λ r. (limits_of r.0).seats ≡ seats) }
     ensures seats { IfOk result (λ r. (j : ℕ) (s : _) → get_elem? r.1.items j ≡ some s → OfMutex s r.0) }
 {
     let pace = Pace::of_machine(rt)?;
-    let Ok((mut mutex, seats)) = Mutex::new(rt.alloc(), seats, BUDGET, 0u64) else {
+    let Ok((mut mutex, seats)) = Mutex::new(rt.alloc(), seats, BUDGET, value) else {
         return Err(AllocError.into());
     };
     mutex.set_pace(pace);
@@ -72,6 +74,15 @@ impl<'a> User<'a> {
             Locking::Barging => self.mutex.lock_barging(rt, &mut self.seat),
         };
         matches!(locked, Ok(Locked::Held(_)))
+    }
+
+    /// `with`, whose closure adds 1 to the value. Returns whether it was not refused.
+    #[inline(always)]
+    pub fn add_one_within<R: Wait>(&mut self, rt: &R) -> bool {
+        let added = self.mutex.with(rt, &mut self.seat, |value| {
+            *value = value.wrapping_add(1);
+        });
+        added.is_ok()
     }
 
     /// `lock` of a seat that is to hold already. Returns whether its hold was deepened.
@@ -172,7 +183,7 @@ impl<'a> FreeSeats<'a> {
 }
 
 /// The last of these seats, which are the mutex's. None where there is none.
-pub fn last_seat(mutex: &Mutex<u64>, seats: &mut Vec<Seat<u64>>) -> Option<Seat<u64>>
+pub fn last_seat<T: Kept>(mutex: &Mutex<T>, seats: &mut Vec<Seat<T>>) -> Option<Seat<T>>
     requires { (j : ℕ) (s : _) → get_elem? seats.old.items j ≡ some s → OfMutex s mutex.now }
     ensures one { IfSome result (λ s. OfMutex s mutex.now) }
     ensures rest { (j : ℕ) (s : _) → get_elem? seats.new.items j ≡ some s → OfMutex s mutex.now }

@@ -6,7 +6,8 @@ ghost use Rattle.lfm_condvar.specs.Belongs.{OfCondvar, cond_limits};
 ghost use mathlib.Core.Option.{some};
 ghost use lib.ListN.{get_elem?};
 
-use crate::peers::ours::{BUDGET, last_seat, new_mutex};
+use crate::peers::guarded::{Guarded, Operation};
+use crate::peers::ours::{BUDGET, Locking, last_seat, new_mutex, no_seat};
 use lfm_condvar::{CondSeat, Condvar};
 use lfm_model::Locked;
 use lfm_mutex::{Mutex, Pace, Seat};
@@ -32,10 +33,10 @@ fn new_condvar(
     Ok((condvar, cond_seats))
 }
 
-/// A mutex that guards a number, and two condvars on it.
+/// A mutex, and two condvars on it.
 #[derive(Drop)]
 pub struct Shared {
-    mutex: Mutex<u64>,
+    mutex: Mutex<Guarded>,
     first: Condvar,
     second: Condvar,
     ghost wide: { ((cond_limits first).seats ≤ (limits_of mutex).seats) × ((cond_limits second).seats ≤ (limits_of mutex).seats) },
@@ -44,13 +45,13 @@ pub struct Shared {
 /// The seats of a mutex and its two condvars that no thread has yet.
 #[derive(Drop)]
 pub struct SeatsOfShared {
-    seats: Vec<Seat<u64>>,
+    seats: Vec<Seat<Guarded>>,
     first_seats: Vec<CondSeat>,
     second_seats: Vec<CondSeat>,
 }
 
 impl Shared {
-    /// A mutex round 0, and two condvars, for so many threads, of the pace of this machine. It takes memory.
+    /// A mutex and two condvars for so many threads, of the pace of this machine. It takes memory.
     pub fn new<R: Threads + Clock + AllocGlobal>(
         rt: &R,
         threads: u64,
@@ -60,7 +61,7 @@ impl Shared {
         ensures second { IfOk result (λ r. (j : ℕ) (s : _) → get_elem? r.1.second_seats.items j ≡ some s → OfCondvar s r.0.second) }
     {
         let pace = Pace::of_machine(rt)?;
-        let (mutex, seats) = new_mutex(rt, threads)?;
+        let (mutex, seats) = new_mutex(rt, threads, Guarded::new())?;
         let (first, first_seats) = new_condvar(rt.alloc(), threads, pace)?;
         let (second, second_seats) = new_condvar(rt.alloc(), threads, pace)?;
         let shared = Shared {
@@ -81,7 +82,8 @@ impl Shared {
 #[derive(Drop)]
 pub struct Places<'a> {
     shared: &'a Shared,
-    seats: Vec<Seat<u64>>,
+    locking: Locking,
+    seats: Vec<Seat<Guarded>>,
     first_seats: Vec<CondSeat>,
     second_seats: Vec<CondSeat>,
     ghost of_mutex: { (j : ℕ) (s : _) → get_elem? seats.items j ≡ some s → OfMutex s shared.now.mutex },
@@ -90,8 +92,8 @@ pub struct Places<'a> {
 }
 
 impl<'a> Places<'a> {
-    /// All the seats, which are those of the mutex and the condvars.
-    pub fn new(shared: &'a Shared, free: SeatsOfShared) -> Places<'a>
+    /// All the seats, which are those of the mutex and the condvars, for threads that lock in this way.
+    pub fn new(shared: &'a Shared, free: SeatsOfShared, locking: Locking) -> Places<'a>
         requires seats { (j : ℕ) (s : _) → get_elem? free.seats.items j ≡ some s → OfMutex s shared.now.mutex }
         requires first { (j : ℕ) (s : _) → get_elem? free.first_seats.items j ≡ some s → OfCondvar s shared.now.first }
         requires second { (j : ℕ) (s : _) → get_elem? free.second_seats.items j ≡ some s → OfCondvar s shared.now.second }
@@ -103,23 +105,25 @@ impl<'a> Places<'a> {
         } = free;
         Places {
             shared,
+            locking,
             seats,
             first_seats,
             second_seats,
         }
     }
 
-    /// One more thread, which waits on this condvar. None where there is no seat left.
-    pub fn next(&mut self, waits_on: Side) -> Option<Participant<'a>> {
+    /// One more thread, which waits on this condvar. An error where there is no seat left.
+    pub fn next(&mut self, waits_on: Side) -> io::Result<Participant<'a>> {
         let seat = last_seat(&self.shared.mutex, &mut self.seats);
         let first_seat = last_cond_seat(&self.shared.first, &mut self.first_seats);
         let second_seat = last_cond_seat(&self.shared.second, &mut self.second_seats);
         let (Some(seat), Some(first_seat), Some(second_seat)) = (seat, first_seat, second_seat)
         else {
-            return None;
+            return Err(no_seat());
         };
-        Some(Participant {
+        Ok(Participant {
             shared: self.shared,
+            locking: self.locking,
             waits_on,
             seat,
             first_seat,
@@ -150,8 +154,9 @@ pub enum Side {
 #[derive(Drop)]
 pub struct Participant<'a> {
     shared: &'a Shared,
+    locking: Locking,
     waits_on: Side,
-    seat: Seat<u64>,
+    seat: Seat<Guarded>,
     first_seat: CondSeat,
     second_seat: CondSeat,
     ghost of_mutex: { OfMutex seat shared.now.mutex },
@@ -160,9 +165,13 @@ pub struct Participant<'a> {
 }
 
 impl<'a> Participant<'a> {
-    /// `lock`. Returns whether the mutex was gained, and not held before.
+    /// Locks in its way. Returns whether the mutex was gained, and not held before.
     pub fn lock<R: Wait>(&mut self, rt: &R) -> bool {
-        let locked = self.shared.mutex.lock(rt, &mut self.seat);
+        let mutex = &self.shared.mutex;
+        let locked = match self.locking {
+            Locking::InOrder => mutex.lock(rt, &mut self.seat),
+            Locking::Barging => mutex.lock_barging(rt, &mut self.seat),
+        };
         matches!(locked, Ok(Locked::Held(_)))
     }
 
@@ -171,19 +180,29 @@ impl<'a> Participant<'a> {
         self.shared.mutex.unlock(&mut self.seat).is_ok()
     }
 
-    /// Waits, while it holds the mutex, until the number is at least this. Returns whether it is so.
-    pub fn wait_until<R: Wait>(&mut self, rt: &R, number: u64) -> bool {
+    /// Waits, while it holds the mutex, until it can do this, and does it. Returns what it gives, or None where a call was refused.
+    pub fn wait_and_apply<R: Wait>(&mut self, rt: &R, operation: Operation) -> Option<u64> {
         for _ in rt.forever() {
-            match self.value() {
-                None => return false,
-                Some(value) if value >= number => return true,
-                Some(_) => {}
+            if let Some(number) = self.apply(operation) {
+                return Some(number);
             }
             if !self.wait(rt) {
-                return false;
+                return None;
             }
         }
-        false
+        None
+    }
+
+    /// In one hold of the mutex it waits until it can do this, does it, and wakes one that waits on the other condvar. Returns
+    /// what it gives, or None where a call was refused.
+    pub fn lock_and_apply<R: Wait>(&mut self, rt: &R, operation: Operation) -> Option<u64> {
+        if !self.lock(rt) {
+            return None;
+        }
+        let number = self.wait_and_apply(rt, operation)?;
+        self.wake_one(rt);
+        self.unlock();
+        Some(number)
     }
 
     /// `wait`. Returns whether it was not refused.
@@ -237,15 +256,11 @@ impl<'a> Participant<'a> {
         woken.unwrap_or(0)
     }
 
-    /// Adds 1 to the number in hand.
-    pub fn add_one(&mut self) {
-        if let Some(value) = self.seat.value_mut() {
-            *value = value.wrapping_add(1);
+    /// Does this to what the mutex guards. Returns what it gives, or None where it can't be done yet or the seat doesn't hold.
+    pub fn apply(&mut self, operation: Operation) -> Option<u64> {
+        match self.seat.value_mut() {
+            Some(guarded) => guarded.apply(operation),
+            None => None,
         }
-    }
-
-    /// The number in hand, where the seat holds.
-    pub fn value(&self) -> Option<u64> {
-        self.seat.value().copied()
     }
 }

@@ -58,10 +58,9 @@ pub fn round<R: Wait + CpuClock, C: Call>(
     peers.steps.begin(start);
     let bare = bare_calls::<R, C>(rt, &mut peers.steps, calls)?;
     Ok(Round {
-        ours: ours.provided(held && left),
-        barging: None,
+        ours: Some(ours.provided(held && left)),
         bare: Some(bare),
-        standard: None,
+        ..Round::NONE
     })
 }
 

@@ -5,9 +5,10 @@
 ghost use Rattle.std.specs.Prelude.{◌≡◌, ◌*◌, ◌%◌, ◌^◌, Some, IfSome, true};
 ghost use Rattle.lfm_bench.specs.Broadcasts.{made, ended};
 
-use crate::measure::wall_clock::{now, since};
-use crate::measure::{EVEN, Round, Sample};
-use crate::peers::ours::no_seat;
+use crate::measure::clocks::{now, since};
+use crate::measure::{Round, Sample};
+use crate::peers::guarded::Operation;
+use crate::peers::ours::Locking;
 use crate::peers::participants::{Participant, Places, Shared, Side};
 use crate::peers::standard::wait_until;
 use std::alloc::AllocError;
@@ -88,16 +89,6 @@ struct Calls {
     number: Option<u64>,
 }
 
-/// Whether all of these numbers are this one.
-fn all_are(numbers: &[u64], due: u64) -> bool {
-    for &number in numbers {
-        if number != due {
-            return false;
-        }
-    }
-    true
-}
-
 /// What the caller and the threads did, of whom each says how often it held. It is exact where each held once for each
 /// broadcast and once before, the number is right, and as many were woken.
 fn sample(load: Load, calls: Calls, holds: &[u64]) -> Sample
@@ -105,16 +96,12 @@ fn sample(load: Load, calls: Calls, holds: &[u64]) -> Sample
     ensures woken { result.exact ≡ true → IfSome calls.woken (λ w. w ≡ load.broadcasts * load.threads % 2 ^ 64) }
 {
     let all = load.broadcasts.wrapping_mul(load.threads);
-    let exact = all_are(holds, load.broadcasts.wrapping_add(1))
+    let due = load.broadcasts.wrapping_add(1);
+    let exact = holds.iter().all(|held| *held == due)
         && holds.len() as u64 == load.threads
         && calls.number == Some(load.ended(load.broadcasts))
         && calls.woken.unwrap_or(all) == all;
-    Sample {
-        nanoseconds: calls.nanoseconds,
-        calls: load.broadcasts,
-        exact,
-        fairness: EVEN,
-    }
+    Sample::of_calls(calls.nanoseconds, load.broadcasts, exact)
 }
 
 /// A round.
@@ -123,18 +110,22 @@ pub fn round<R: Threads + Sync + Wait + Clock + AllocGlobal>(
     load: Load,
 ) -> io::Result<Round> {
     Ok(Round {
-        ours: ours(rt, load)?,
-        barging: None,
-        bare: None,
+        in_order: Some(ours(rt, load, Locking::InOrder)?),
+        barging: Some(ours(rt, load, Locking::Barging)?),
         standard: Some(standard(rt, load)?),
+        ..Round::NONE
     })
 }
 
 /// Our mutex and condvars.
-fn ours<R: Threads + Sync + Wait + Clock + AllocGlobal>(rt: &R, load: Load) -> io::Result<Sample> {
+fn ours<R: Threads + Sync + Wait + Clock + AllocGlobal>(
+    rt: &R,
+    load: Load,
+    locking: Locking,
+) -> io::Result<Sample> {
     let (shared, free) = Shared::new(rt, load.threads.saturating_add(1))?;
-    let mut places = Places::new(&shared, free);
-    let caller = places.next(Side::Second).ok_or(no_seat())?;
+    let mut places = Places::new(&shared, free, locking);
+    let caller = places.next(Side::Second)?;
     Ok(our_round(rt, load, caller, places)?)
 }
 
@@ -175,8 +166,8 @@ fn all_our_holds<R: Threads + Sync + Wait + Clock + AllocGlobal>(
 fn our_part<R: Wait + Clock>(rt: &R, load: Load, times: &Times, places: &Mutex<Places>) -> u64 {
     let taken = places.lock(rt).next(Side::First);
     match taken {
-        Some(one) => our_holds(rt, load, times, one),
-        None => 0,
+        Ok(one) => our_holds(rt, load, times, one),
+        Err(_) => 0,
     }
 }
 
@@ -185,12 +176,12 @@ fn our_holds<R: Wait + Clock>(rt: &R, load: Load, times: &Times, mut one: Partic
     let mut held = 0u64;
     one.lock(rt);
     for broadcast in 0..=load.broadcasts {
-        if !one.wait_until(rt, load.made(broadcast)) {
+        let number = one.wait_and_apply(rt, Operation::AddOneTo(load.made(broadcast)));
+        if number.is_none() {
             break;
         }
-        one.add_one();
         held = held.wrapping_add(1);
-        if one.value() == Some(load.ended(broadcast)) {
+        if number == Some(load.ended(broadcast)) {
             times.end(rt);
             one.wake_one(rt);
         }
@@ -204,18 +195,19 @@ fn our_calls<R: Wait + Clock>(rt: &R, load: Load, times: &Times, mut caller: Par
     let mut nanoseconds = 0u64;
     let mut woken = 0u64;
     caller.lock(rt);
-    caller.wait_until(rt, load.ended(0));
+    let mut number = caller.wait_and_apply(rt, Operation::ReadFrom(load.ended(0)));
     for broadcast in 0..load.broadcasts {
         thread::sleep(rt, Duration::from_micros(SETTLING));
-        caller.add_one();
+        caller.apply(Operation::AddOneTo(0));
         let called = times.now(rt);
         woken = woken.wrapping_add(caller.wake_all(rt));
-        if !caller.wait_until(rt, load.ended(broadcast.wrapping_add(1))) {
+        let due = load.ended(broadcast.wrapping_add(1));
+        number = caller.wait_and_apply(rt, Operation::ReadFrom(due));
+        if number.is_none() {
             break;
         }
         nanoseconds = nanoseconds.saturating_add(times.taken(called));
     }
-    let number = caller.value();
     caller.unlock();
     Calls {
         nanoseconds,

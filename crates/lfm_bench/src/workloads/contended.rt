@@ -1,14 +1,14 @@
 //! Several threads take turns at one mutex for a fixed time. In a turn a thread gains the mutex, adds 1 to the value under
 //! it, works for a while, unlocks, and works for a while outside.
 
-use crate::measure::wall_clock::{now, since};
-use crate::measure::{Busy, Gate, Round, Sample, Turns, contest};
+use crate::measure::clocks::{now, processor_time, since};
+use crate::measure::{Busy, Gate, Round, Sample, Turns, Waits, Watching, contest};
 use crate::peers::ours::{FreeSeats, Locking, User, new_mutex};
 use std::alloc::AllocError;
 use std::io;
 use std::sync::{Mutex, Wait};
 use std::thread::{Threads, join, map_vec};
-use std::time::{Clock, Duration};
+use std::time::{Clock, CpuClock, Duration};
 
 /// The most turns that a thread takes.
 const MOST_TURNS: u64 = 1 << 32;
@@ -24,12 +24,23 @@ pub struct Load {
     pub outside: u64,
     /// For how long turns are taken.
     pub window: Duration,
+    /// Whether waits for the mutex are timed.
+    pub watching: Watching,
+}
+
+/// What a thread does while it holds the mutex, and how long it waited for it.
+#[derive(Drop)]
+struct Holds {
+    busy: Busy,
+    /// How many steps of work it makes in a hold.
+    inside: u64,
+    waits: Waits,
 }
 
 /// A thread that takes turns at a mutex.
 trait Contender {
-    /// Gains the mutex, adds 1 to the value, makes so many steps of work, and unlocks. Returns whether it gained the mutex.
-    fn hold<R: Wait>(&mut self, rt: &R, busy: &mut Busy, steps: u64) -> bool;
+    /// Gains the mutex, adds 1 to the value, works, and unlocks. Returns whether it gained the mutex.
+    fn hold<R: Wait + Clock>(&mut self, rt: &R, holds: &mut Holds) -> bool;
 }
 
 /// A thread at our mutex.
@@ -41,11 +52,13 @@ struct OurThread<'a> {
 
 impl Contender for OurThread<'_> {
     #[inline(always)]
-    fn hold<R: Wait>(&mut self, rt: &R, busy: &mut Busy, steps: u64) -> bool {
+    fn hold<R: Wait + Clock>(&mut self, rt: &R, holds: &mut Holds) -> bool {
+        let begin = holds.waits.begin(rt);
         let gained = self.user.lock_by(rt, self.locking);
+        holds.waits.end(rt, begin);
         if gained {
             self.user.add_one();
-            busy.work(steps);
+            holds.busy.work(holds.inside);
         }
         self.user.unlock();
         gained
@@ -60,35 +73,37 @@ struct StandardThread<'a> {
 
 impl Contender for StandardThread<'_> {
     #[inline(always)]
-    fn hold<R: Wait>(&mut self, rt: &R, busy: &mut Busy, steps: u64) -> bool {
+    fn hold<R: Wait + Clock>(&mut self, rt: &R, holds: &mut Holds) -> bool {
+        let begin = holds.waits.begin(rt);
         let mut guard = self.mutex.lock(rt);
+        holds.waits.end(rt, begin);
         *guard = guard.wrapping_add(1);
-        busy.work(steps);
+        holds.busy.work(holds.inside);
         drop(guard);
         true
     }
 }
 
 /// A round.
-pub fn round<R: Threads + Sync + Wait + Clock + AllocGlobal>(
+pub fn round<R: Threads + Sync + Wait + Clock + CpuClock + AllocGlobal>(
     rt: &R,
     load: Load,
 ) -> io::Result<Round> {
     Ok(Round {
-        ours: ours(rt, load, Locking::InOrder)?,
+        in_order: Some(ours(rt, load, Locking::InOrder)?),
         barging: Some(ours(rt, load, Locking::Barging)?),
-        bare: None,
         standard: Some(standard(rt, load)?),
+        ..Round::NONE
     })
 }
 
 /// A round with our mutex.
-fn ours<R: Threads + Sync + Wait + Clock + AllocGlobal>(
+fn ours<R: Threads + Sync + Wait + Clock + CpuClock + AllocGlobal>(
     rt: &R,
     load: Load,
     locking: Locking,
 ) -> io::Result<Sample> {
-    let (mutex, seats) = new_mutex(rt, load.threads.saturating_add(1))?;
+    let (mutex, seats) = new_mutex(rt, load.threads.saturating_add(1), 0u64)?;
     let mut seats = FreeSeats::new(&mutex, seats);
     let mut reader = seats.next_user()?;
     let mut contenders = Vec::new(rt.alloc());
@@ -97,11 +112,12 @@ fn ours<R: Threads + Sync + Wait + Clock + AllocGlobal>(
         contenders.push(OurThread { user, locking })?;
     }
     let turns = turns_of(rt, load, contenders)?;
-    Ok(contest(&turns, reader.final_value(rt)))
+    let waits = Waits::new(rt.alloc(), load.watching)?;
+    Ok(contest(&turns, waits, reader.final_value(rt)))
 }
 
 /// A round with std's mutex.
-fn standard<R: Threads + Sync + Wait + Clock + AllocGlobal>(
+fn standard<R: Threads + Sync + Wait + Clock + CpuClock + AllocGlobal>(
     rt: &R,
     load: Load,
 ) -> io::Result<Sample> {
@@ -111,48 +127,71 @@ fn standard<R: Threads + Sync + Wait + Clock + AllocGlobal>(
         contenders.push(StandardThread { mutex: &mutex })?;
     }
     let turns = turns_of(rt, load, contenders)?;
-    Ok(contest(&turns, Some(mutex.into_inner())))
+    let waits = Waits::new(rt.alloc(), load.watching)?;
+    Ok(contest(&turns, waits, Some(mutex.into_inner())))
+}
+
+/// A thread, and what it does in its turns.
+#[derive(Drop)]
+struct Task<C> {
+    contender: C,
+    holds: Holds,
 }
 
 /// The turns of these threads, while the gate is open.
-fn turns_of<R: Threads + Sync + Wait + Clock, C: Contender + Send + Drop>(
+fn turns_of<R: Threads + Sync + Wait + Clock + CpuClock + AllocGlobal, C: Contender + Send + Drop>(
     rt: &R,
     load: Load,
     contenders: Vec<C>,
 ) -> Result<Vec<Turns>, AllocError> {
     let gate = Gate::new(load.threads);
     let shared = &gate;
+    let mut tasks = Vec::new(rt.alloc());
+    for contender in contenders {
+        let holds = Holds {
+            busy: Busy::new(),
+            inside: load.inside,
+            waits: Waits::new(rt.alloc(), load.watching)?,
+        };
+        tasks.push(Task { contender, holds })?;
+    }
     let (_, turns) = join(
         rt,
         move || shared.shut_after(rt, load.window),
-        move || map_vec(rt, contenders, &|one| take_turns(rt, load, shared, one)),
+        move || map_vec(rt, tasks, &|task| take_turns(rt, load, shared, task)),
     );
     turns
 }
 
 /// The turns of one thread.
-fn take_turns<R: Wait + Clock, C: Contender + Drop>(
+fn take_turns<R: Wait + Clock + CpuClock, C: Contender + Drop>(
     rt: &R,
     load: Load,
     gate: &Gate,
-    mut contender: C,
+    task: Task<C>,
 ) -> Turns {
-    let mut busy = Busy::new();
+    let Task {
+        mut contender,
+        mut holds,
+    } = task;
     let mut acquisitions = 0u64;
     gate.pass();
     let start = now(rt);
+    let used = processor_time(rt);
     for _ in 0..MOST_TURNS {
         if gate.is_shut() {
             break;
         }
-        if contender.hold(rt, &mut busy, load.inside) {
+        if contender.hold(rt, &mut holds) {
             acquisitions = acquisitions.wrapping_add(1);
         }
-        busy.work(load.outside);
+        holds.busy.work(load.outside);
     }
     Turns {
         acquisitions,
         nanoseconds: since(rt, start),
-        worked: busy.is_sound(),
+        processor_nanoseconds: processor_time(rt).saturating_sub(used),
+        worked: holds.busy.is_sound(),
+        waits: holds.waits,
     }
 }

@@ -36,13 +36,9 @@ pub fn round_of_handoffs<R: Wait + CpuClock>(
     handoffs: u64,
 ) -> io::Result<Round> {
     let round = round::<R, TwoHandoffs>(rt, peers, Start::Held, handoffs / 2)?;
-    let bare = match round.bare {
-        Some(bare) => Some(halves(bare)),
-        None => None,
-    };
     Ok(Round {
-        ours: halves(round.ours),
-        bare,
+        ours: round.ours.map(halves),
+        bare: round.bare.map(halves),
         ..round
     })
 }

@@ -26,10 +26,9 @@ pub fn round<R: Threads + Sync + Wait + Clock + CpuClock + AllocGlobal>(
     let longest = bare.nanoseconds.saturating_mul(LOOKING);
     let longest = Duration::from_nanos(longest.saturating_add(STARTING));
     Ok(Round {
-        ours: ours(rt, looks, longest)?,
-        barging: None,
+        ours: Some(ours(rt, looks, longest)?),
         bare: Some(bare),
-        standard: None,
+        ..Round::NONE
     })
 }
 
@@ -39,7 +38,7 @@ fn ours<R: Threads + Sync + Wait + Clock + CpuClock + AllocGlobal>(
     looks: u32,
     longest: Duration,
 ) -> io::Result<Sample> {
-    let (mutex, seats) = new_mutex(rt, 2)?;
+    let (mutex, seats) = new_mutex(rt, 2, 0u64)?;
     let mut seats = FreeSeats::new(&mutex, seats);
     let holder = seats.next_user()?;
     let sleeper = seats.next_user()?;

@@ -2,9 +2,10 @@
 //! other has had its turn, adds 1 to the number under the mutex, wakes the other, and unlocks.
 ghost use Rattle.std.specs.Prelude.{◌≡◌, ◌*◌, ◌%◌, ◌^◌, Some, true};
 
-use crate::measure::wall_clock::{now, since};
-use crate::measure::{EVEN, Gate, Round, Sample};
-use crate::peers::ours::no_seat;
+use crate::measure::clocks::{now, since};
+use crate::measure::{Gate, Round, Sample};
+use crate::peers::guarded::Operation;
+use crate::peers::ours::Locking;
 use crate::peers::participants::{Participant, Places, Shared, Side};
 use crate::peers::standard::wait_until;
 use std::io;
@@ -25,12 +26,10 @@ fn sample(first: TurnsTaken, second: TurnsTaken, turns: u64, number: Option<u64>
     ensures made { result.exact ≡ true → (first.made ≡ turns) × (second.made ≡ turns) }
     ensures number { result.exact ≡ true → number ≡ Some (turns * 2 % 2 ^ 64) }
 {
-    Sample {
-        nanoseconds: first.nanoseconds.max(second.nanoseconds),
-        calls: turns,
-        exact: first.made == turns && second.made == turns && number == Some(turns.wrapping_mul(2)),
-        fairness: EVEN,
-    }
+    let exact = first.made == turns
+        && second.made == turns
+        && number == Some(turns.wrapping_mul(2));
+    Sample::of_calls(first.nanoseconds.max(second.nanoseconds), turns, exact)
 }
 
 /// A round of so many turns of each thread.
@@ -39,41 +38,27 @@ pub fn round<R: Threads + Sync + Wait + Clock + AllocGlobal>(
     turns: u64,
 ) -> io::Result<Round> {
     Ok(Round {
-        ours: ours(rt, turns)?,
-        barging: None,
-        bare: None,
+        in_order: Some(ours(rt, turns, Locking::InOrder)?),
+        barging: Some(ours(rt, turns, Locking::Barging)?),
         standard: Some(standard(rt, turns)),
+        ..Round::NONE
     })
 }
 
-/// Our mutex and condvars, with so many turns of each thread.
-fn ours<R: Threads + Sync + Wait + Clock + AllocGlobal>(rt: &R, turns: u64) -> io::Result<Sample> {
-    let (shared, free) = Shared::new(rt, 3)?;
-    let mut places = Places::new(&shared, free);
-    let reader = places.next(Side::First);
-    let first = places.next(Side::First);
-    let second = places.next(Side::Second);
-    let (Some(reader), Some(first), Some(second)) = (reader, first, second) else {
-        return Err(no_seat());
-    };
-    Ok(our_round(rt, turns, reader, first, second))
-}
-
-/// The turns of two participants, and a look at the number after them.
-fn our_round<R: Threads + Sync + Wait + Clock>(
+/// Our mutex and condvars, with so many turns of each thread, and a look at the number after them.
+fn ours<R: Threads + Sync + Wait + Clock + AllocGlobal>(
     rt: &R,
     turns: u64,
-    mut reader: Participant,
-    first: Participant,
-    second: Participant,
-) -> Sample {
+    locking: Locking,
+) -> io::Result<Sample> {
+    let (shared, free) = Shared::new(rt, 3)?;
+    let mut places = Places::new(&shared, free, locking);
+    let mut reader = places.next(Side::First)?;
+    let first = places.next(Side::First)?;
+    let second = places.next(Side::Second)?;
     let (ping, pong) = our_pair(rt, turns, first, second);
-    let number = if reader.lock(rt) {
-        reader.value()
-    } else {
-        None
-    };
-    sample(ping, pong, turns, number)
+    let number = reader.lock_and_apply(rt, Operation::ReadFrom(0));
+    Ok(sample(ping, pong, turns, number))
 }
 
 /// The turns of two participants, of whom the first begins.
@@ -105,12 +90,12 @@ fn our_turns<R: Wait + Clock>(
     let start = now(rt);
     for turn in 0..turns {
         let due = turn.wrapping_mul(2).wrapping_add(first);
-        if participant.lock(rt) && participant.wait_until(rt, due) {
-            participant.add_one();
+        if participant
+            .lock_and_apply(rt, Operation::AddOneTo(due))
+            .is_some()
+        {
             made = made.wrapping_add(1);
         }
-        participant.wake_one(rt);
-        participant.unlock();
     }
     TurnsTaken {
         made,

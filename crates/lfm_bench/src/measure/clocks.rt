@@ -1,6 +1,6 @@
-//! Time by the wall clock, for threads that sleep.
+//! Time by the wall clock, for threads that sleep, and the processor time that they use.
 
-use std::time::{Clock, Instant};
+use std::time::{Clock, CpuClock, Instant};
 
 /// The time now. None where the clock can't be read.
 pub fn now<R: Clock>(rt: &R) -> Option<Instant> {
@@ -13,4 +13,12 @@ pub fn since<R: Clock>(rt: &R, start: Option<Instant>) -> u64 {
         return 0;
     };
     u64::try_from(end.duration_since(start).as_nanos()).unwrap_or(u64::MAX)
+}
+
+/// The processor time that this thread has used, in nanoseconds. 0 where that can't be read.
+pub fn processor_time<R: CpuClock>(rt: &R) -> u64 {
+    match rt.thread_cpu_time() {
+        Ok(time) => u64::try_from(time.as_nanos()).unwrap_or(u64::MAX),
+        Err(_) => 0,
+    }
 }

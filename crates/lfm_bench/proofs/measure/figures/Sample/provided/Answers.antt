@@ -1,8 +1,0 @@
-use Rattle.std.proofs.Common.{rules}
-use Rattle.lfm_bench.proofs.measure.figures.Sample.provided.Goals as goal
-
-pub returns-then-self : goal.returns-then-self
-returns-then-self c = search rules
-
-pub returns-else-self : goal.returns-else-self
-returns-else-self c = search rules

@@ -1,0 +1,108 @@
+//! What a mutex guards whose threads wait on condvars: a number that they count up, and a bounded queue of numbers.
+
+use lfm_mutex::Kept;
+
+/// How many numbers the queue has room for.
+const ROOM: u64 = 16;
+
+/// A bounded queue of numbers, first in, first out.
+#[derive(Drop)]
+pub struct Queue {
+    slots: [u64; 16],
+    /// How many numbers were put in so far. The next one goes to the slot with this number, less all multiples of the room.
+    put: u64,
+    /// How many were taken out.
+    taken: u64,
+}
+
+impl Queue {
+    /// A queue with nothing in it.
+    pub fn new() -> Queue {
+        Queue {
+            slots: [0; 16],
+            put: 0,
+            taken: 0,
+        }
+    }
+
+    /// Puts this number in. Returns it, or None where there is no room.
+    #[inline(always)]
+    pub fn put(&mut self, number: u64) -> Option<u64> {
+        if self.put.wrapping_sub(self.taken) >= ROOM {
+            return None;
+        }
+        self.slots[(self.put % ROOM) as usize] = number;
+        self.put = self.put.wrapping_add(1);
+        Some(number)
+    }
+
+    /// Takes the number out that was put in first of those that are there. None where nothing is there.
+    #[inline(always)]
+    pub fn take(&mut self) -> Option<u64> {
+        if self.put == self.taken {
+            return None;
+        }
+        let number = self.slots[(self.taken % ROOM) as usize];
+        self.taken = self.taken.wrapping_add(1);
+        Some(number)
+    }
+}
+
+/// What the mutex guards.
+#[derive(Drop)]
+pub struct Guarded {
+    number: u64,
+    queue: Queue,
+}
+
+// Whatever a thread leaves in it may be left.
+impl Kept for Guarded {
+    ghost fits = { λ _ _. Unit {0} };
+
+    ghost follows = { λ _ _ _. Unit {0} };
+}
+
+/// What a thread does that holds the mutex.
+#[derive(Clone, Copy)]
+pub enum Operation {
+    /// It reads the number, once that is at least this.
+    ReadFrom(u64),
+    /// It adds 1 to the number, once that is at least this, and reads it then.
+    AddOneTo(u64),
+    /// It puts this number into the queue, once there is room.
+    Put(u64),
+    /// It takes a number out of the queue, once one is there.
+    Take,
+}
+
+impl Guarded {
+    /// The number is 0, and the queue has nothing in it.
+    pub fn new() -> Guarded {
+        Guarded {
+            number: 0,
+            queue: Queue::new(),
+        }
+    }
+
+    /// Does this. Returns the number that was read, put in or taken out, or None where it can't be done yet.
+    #[inline(always)]
+    pub fn apply(&mut self, operation: Operation) -> Option<u64> {
+        match operation {
+            Operation::ReadFrom(least) => {
+                if self.number < least {
+                    return None;
+                }
+                Some(self.number)
+            }
+            Operation::AddOneTo(least) => {
+                if self.number < least {
+                    return None;
+                }
+                self.number = self.number.wrapping_add(1);
+                Some(self.number)
+            }
+            Operation::Put(number) => self.queue.put(number),
+            Operation::Take => self.queue.take(),
+        }
+    }
+}

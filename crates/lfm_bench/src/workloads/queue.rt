@@ -1,0 +1,217 @@
+//! As many threads put numbers into a bounded queue as take them out. A mutex guards the queue, with two condvars: on the first
+//! waits who finds it full, on the second who finds it empty. Each number that goes in is to come out once.
+ghost use Rattle.std.specs.Prelude.{◌≡◌, true};
+ghost use Rattle.lfm_bench.specs.Deliveries.{CountUp, IsEachOnce};
+
+use crate::measure::clocks::{now, since};
+use crate::measure::{Gate, Round, Sample};
+use crate::peers::guarded::{Operation, Queue};
+use crate::peers::ours::Locking;
+use crate::peers::participants::{Participant, Places, Shared, Side};
+use std::alloc::{AllocError, Global};
+use std::io;
+use std::sync::{Condvar, Mutex, Wait};
+use std::thread::{Threads, map_vec};
+use std::time::Clock;
+
+/// How much is done.
+#[derive(Clone, Copy)]
+pub struct Load {
+    /// How many threads put numbers in, and as many take them out.
+    pub threads: u64,
+    /// How many numbers each of them puts in or takes out.
+    pub numbers: u64,
+}
+
+/// A thread that puts numbers in or takes them out.
+trait Mover {
+    /// Puts this number in, as soon as there is room. Returns whether it was put in.
+    fn put<R: Wait>(&mut self, rt: &R, number: u64) -> bool;
+
+    /// Takes a number out, as soon as one is there.
+    fn take<R: Wait>(&mut self, rt: &R) -> Option<u64>;
+}
+
+impl Mover for Participant<'_> {
+    fn put<R: Wait>(&mut self, rt: &R, number: u64) -> bool {
+        self.lock_and_apply(rt, Operation::Put(number)).is_some()
+    }
+
+    fn take<R: Wait>(&mut self, rt: &R) -> Option<u64> {
+        self.lock_and_apply(rt, Operation::Take)
+    }
+}
+
+/// Std's mutex and the condvars on it.
+#[derive(Drop)]
+struct StandardQueue {
+    queue: Mutex<Queue>,
+    not_full: Condvar,
+    not_empty: Condvar,
+}
+
+impl Mover for &StandardQueue {
+    fn put<R: Wait>(&mut self, rt: &R, number: u64) -> bool {
+        let mut queue = self.queue.lock(rt);
+        for _ in rt.forever() {
+            if queue.put(number).is_some() {
+                break;
+            }
+            queue = self.not_full.wait(rt, queue);
+        }
+        self.not_empty.notify_one();
+        true
+    }
+
+    fn take<R: Wait>(&mut self, rt: &R) -> Option<u64> {
+        let mut queue = self.queue.lock(rt);
+        for _ in rt.forever() {
+            if let Some(number) = queue.take() {
+                self.not_full.notify_one();
+                return Some(number);
+            }
+            queue = self.not_empty.wait(rt, queue);
+        }
+        None
+    }
+}
+
+/// What one thread does: it puts in the numbers from `first` on, or takes as many out.
+#[derive(Clone, Copy)]
+enum Task {
+    Put { first: u64 },
+    Take,
+}
+
+/// The numbers that a thread took out, and for how many nanoseconds it worked.
+#[derive(Drop)]
+struct Delivery {
+    numbers: Vec<u64>,
+    nanoseconds: u64,
+}
+
+/// A round.
+pub fn round<R: Threads + Sync + Wait + Clock + AllocGlobal>(
+    rt: &R,
+    load: Load,
+) -> io::Result<Round> {
+    Ok(Round {
+        in_order: Some(ours(rt, load, Locking::InOrder)?),
+        barging: Some(ours(rt, load, Locking::Barging)?),
+        standard: Some(standard(rt, load)?),
+        ..Round::NONE
+    })
+}
+
+/// Our mutex and condvars.
+fn ours<R: Threads + Sync + Wait + Clock + AllocGlobal>(
+    rt: &R,
+    load: Load,
+    locking: Locking,
+) -> io::Result<Sample> {
+    let (shared, free) = Shared::new(rt, load.threads.saturating_mul(2))?;
+    let mut places = Places::new(&shared, free, locking);
+    let mut movers = Vec::new(rt.alloc());
+    for place in 0..load.threads {
+        let first = place.wrapping_mul(load.numbers);
+        movers.push((places.next(Side::First)?, Task::Put { first }))?;
+        movers.push((places.next(Side::Second)?, Task::Take))?;
+    }
+    Ok(moved(rt, load, movers)?)
+}
+
+/// Std's mutex and condvars.
+fn standard<R: Threads + Sync + Wait + Clock + AllocGlobal>(
+    rt: &R,
+    load: Load,
+) -> io::Result<Sample> {
+    let shared = StandardQueue {
+        queue: Mutex::new(Queue::new()),
+        not_full: Condvar::new(),
+        not_empty: Condvar::new(),
+    };
+    let mut movers = Vec::new(rt.alloc());
+    for place in 0..load.threads {
+        let first = place.wrapping_mul(load.numbers);
+        movers.push((&shared, Task::Put { first }))?;
+        movers.push((&shared, Task::Take))?;
+    }
+    Ok(moved(rt, load, movers)?)
+}
+
+/// What these threads move together.
+fn moved<R: Threads + Sync + Wait + Clock + AllocGlobal, M: Mover + Send + Drop>(
+    rt: &R,
+    load: Load,
+    movers: Vec<(M, Task)>,
+) -> Result<Sample, AllocError> {
+    let gate = Gate::new(load.threads.saturating_mul(2));
+    let shared = &gate;
+    let alloc = rt.alloc();
+    let deliveries = map_vec(
+        rt,
+        movers,
+        &|(mover, task)| work(rt, alloc, load, shared, mover, task),
+    )?;
+    let mut numbers = Vec::new(alloc);
+    let mut nanoseconds = 0;
+    for delivery in deliveries {
+        let delivery = delivery?;
+        nanoseconds = nanoseconds.max(delivery.nanoseconds);
+        numbers.extend_from_slice(&delivery.numbers)?;
+    }
+    Ok(sample(load, nanoseconds, &mut numbers))
+}
+
+/// What one thread does, and the numbers that it took out.
+fn work<R: Wait + Clock, M: Mover + Drop>(
+    rt: &R,
+    alloc: Global,
+    load: Load,
+    gate: &Gate,
+    mut mover: M,
+    task: Task,
+) -> Result<Delivery, AllocError> {
+    let mut numbers = Vec::with_capacity(alloc, load.numbers as usize)?;
+    gate.pass();
+    let start = now(rt);
+    for turn in 0..load.numbers {
+        match task {
+            Task::Put { first } => {
+                mover.put(rt, first.wrapping_add(turn));
+            }
+            Task::Take => {
+                if let Some(number) = mover.take(rt) {
+                    numbers.push(number)?;
+                }
+            }
+        }
+    }
+    Ok(Delivery {
+        numbers,
+        nanoseconds: since(rt, start),
+    })
+}
+
+/// What came of a round in which these numbers were taken out. A call is a number that is moved. It is exact where all numbers
+/// that went in came out, each once.
+fn sample(load: Load, nanoseconds: u64, numbers: &mut Vec<u64>) -> Sample
+    ensures { result.exact ≡ true → IsEachOnce numbers.old.items }
+{
+    let calls = load.threads.saturating_mul(load.numbers);
+    numbers.sort_unstable();
+    let exact = numbers.len() as u64 == calls && are_in_turn(numbers);
+    Sample::of_calls(nanoseconds, calls, exact)
+}
+
+/// Whether these numbers are 0, 1, 2 and on.
+fn are_in_turn(numbers: &[u64]) -> bool
+    ensures { result ≡ true → CountUp numbers.now }
+{
+    for place in 0..numbers.len() {
+        if numbers[place] != place as u64 {
+            return false;
+        }
+    }
+    true
+}

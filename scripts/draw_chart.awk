@@ -14,12 +14,17 @@ what == "chart" {
   if (wanted) {
     title = parts[2]
     notes = parts[3]
+    longest = parts[4] + 0
   }
 }
 
 what == "series" && wanted {
   series = many
-  for (i = 1; i <= many; i++) series_name[i] = parts[i]
+  solid = 1
+  for (i = 1; i <= many; i++) {
+    if (sub(/^[*]/, "", parts[i])) solid = i
+    series_name[i] = parts[i]
+  }
 }
 
 what == "row" && wanted {
@@ -30,20 +35,28 @@ what == "row" && wanted {
     if (parts[1 + i] + 0 > greatest) greatest = parts[1 + i] + 0
   }
   note[rows] = parts[series + 2]
+  if (length(note[rows]) > longest_note) longest_note = length(note[rows])
 }
 
 # ---- drawing
 
-# ours is solid, std's is striped, and what stands between is hollow
+# the last series is striped, and what is neither solid nor striped is hollow
 function draw_bar(x, y, length_of, i) {
-  printf "<rect x=\"%d\" y=\"%d\" width=\"%.1f\" height=\"12\" %s/>\n", x, y, length_of, i == 1 ? "class=\"own\"" : i == series ? "fill=\"url(#stripes)\" class=\"edge\"" : "class=\"box plain\""
+  printf "<rect x=\"%d\" y=\"%d\" width=\"%.1f\" height=\"12\" %s/>\n", x, y, length_of, i == solid ? "class=\"own\"" : i == series ? "fill=\"url(#stripes)\" class=\"edge\"" : "class=\"box plain\""
 }
 
-function draw_row(r, y,    i) {
+# the gap that shows where a bar is cut off
+function draw_cut(x, y) {
+  printf "<path d=\"M%d %dL%d %dL%d %dL%d %dz\" class=\"back\"/>\n", x - 18, y + 14, x - 12, y - 2, x - 8, y - 2, x - 14, y + 14
+}
+
+function draw_row(r, y,    i, length_of) {
   label(left - 12, y + 10, "ink", "end", escape(row_name[r]))
   for (i = 1; i <= series; i++) if (figure[r, i] != "") {
-    draw_bar(left, y, figure[r, i] * across / greatest, i)
-    label(left + figure[r, i] * across / greatest + 8, y + 10, "soft", "", figure[r, i])
+    length_of = (figure[r, i] + 0 > longest ? longest : figure[r, i]) * across / longest
+    draw_bar(left, y, length_of, i)
+    if (figure[r, i] + 0 > longest) draw_cut(left + length_of, y)
+    label(left + length_of + 8, y + 10, "soft", "", figure[r, i])
     y += 16
   }
 }
@@ -55,9 +68,11 @@ function height_of(r,    i, bars) {
 
 END {
   if (!rows) exit 1
+  if (!longest) longest = greatest
   left = 250
   across = 360
-  width = left + across + 170
+  # beside the longest bar stand its number and a note
+  width = left + across + (longest_note > 14 ? 72 + longest_note * 7 : 170)
   height = 56
   for (r = 1; r <= rows; r++) height += height_of(r)
   open_picture(title, width, height + 36)

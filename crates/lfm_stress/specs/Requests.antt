@@ -3,11 +3,13 @@ use Rattle.std.specs.Prelude.{◌≡◌, ℕ, List, Some, ⊤}
 use Rattle.lfm_text.specs.Text.{number_of}
 use Rattle.lfm_stress.specs.declared.arguments.Request.{Request}
 use Rattle.lfm_stress.specs.declared.arguments.Request.TheVariants.{Run, Refused, Other, Unread}
+use Rattle.lfm_stress.specs.declared.plan.Locking.{Locking}
 use Rattle.lfm_stress.specs.Ranges.{refusal_of}
 
--- these two words, the threads and the turns, may be asked so: the plan has their numbers, and a refusal is that of their numbers
-abbrev pub AsksFor : Request → List ℕ → List ℕ → Type 0
-AsksFor (Run p) threads turns = (number_of threads ≡ Some p.threads) × (number_of turns ≡ Some p.turns)
-AsksFor (Refused load why) threads turns = (t n : ℕ) × (number_of threads ≡ Some t) × (number_of turns ≡ Some n) × (refusal_of load t n ≡ Some why)
-AsksFor Other threads turns = ⊤
-AsksFor Unread threads turns = ⊥
+-- this locking and these two words, the threads and the turns, may be asked so: the plan has the locking and their numbers, and a
+-- refusal is that of their numbers
+abbrev pub AsksFor : Request → Locking → List ℕ → List ℕ → Type 0
+AsksFor (Run p) locking threads turns = (p.locking ≡ locking) × (number_of threads ≡ Some p.threads) × (number_of turns ≡ Some p.turns)
+AsksFor (Refused load why) locking threads turns = (t n : ℕ) × (number_of threads ≡ Some t) × (number_of turns ≡ Some n) × (refusal_of load t n ≡ Some why)
+AsksFor Other locking threads turns = ⊤
+AsksFor Unread locking threads turns = ⊥

@@ -1,7 +1,7 @@
 //! What the command line asks for.
 ghost use Rattle.lfm_stress.specs.Requests.{AsksFor};
 
-use crate::plan::{Load, OutOfRange, Plan};
+use crate::plan::{Load, Locking, OutOfRange, Plan};
 use lfm_text::read_number;
 use std::env;
 use std::io::ErrorKind;
@@ -14,7 +14,7 @@ pub enum Request {
     Run(Plan),
     /// A run whose numbers are out of range.
     Refused(Load, OutOfRange),
-    /// Something else: there are not three words, or no load has this name, or a word is no number.
+    /// Something else: there are not four words, or no load or locking has this name, or a word is no number.
     Other,
     /// Nothing can be told: the arguments themselves found no memory.
     Unread,
@@ -28,16 +28,26 @@ pub fn requested<R: Env + AllocGlobal>(rt: &R) -> Request {
         Err(_) => return Request::Other,
     };
     let _name = words.next();
-    let (load, threads, turns) = (words.next(), words.next(), words.next());
-    let (Some(load), Some(threads), Some(turns), None) = (load, threads, turns, words.next()) else {
+    let (load, locking) = (words.next(), words.next());
+    let (threads, turns) = (words.next(), words.next());
+    let (Some(load), Some(locking), Some(threads), Some(turns), None) = (
+        load,
+        locking,
+        threads,
+        turns,
+        words.next(),
+    ) else {
         return Request::Other;
     };
-    asked(load.as_str(), threads.as_str(), turns.as_str())
+    let Some(locking) = Locking::named(locking.as_str()) else {
+        return Request::Other;
+    };
+    asked(load.as_str(), locking, threads.as_str(), turns.as_str())
 }
 
-/// What three words ask for.
-fn asked(load: &str, threads: &str, turns: &str) -> Request
-    ensures { AsksFor result threads.now turns.now }
+/// What the name of a load and two numbers ask for, of threads that lock so.
+fn asked(load: &str, locking: Locking, threads: &str, turns: &str) -> Request
+    ensures { AsksFor result locking threads.now turns.now }
 {
     let load = Load::named(load);
     let threads = read_number(threads.as_bytes());
@@ -45,7 +55,7 @@ fn asked(load: &str, threads: &str, turns: &str) -> Request
     let (Some(load), Some(threads), Some(turns)) = (load, threads, turns) else {
         return Request::Other;
     };
-    match Plan::new(load, threads, turns) {
+    match Plan::new(load, locking, threads, turns) {
         Ok(plan) => Request::Run(plan),
         Err(refusal) => Request::Refused(load, refusal),
     }

@@ -30,7 +30,7 @@ pub fn run<R: Env + AllocGlobal + Print + Eprint + Threads + Wait + Sync + Clock
         }
         Request::Other => {
             let _ = rt.eprintln(
-                "usage: lfm_stress lock|mixed|ping_pong|broadcast|buffer THREADS COUNT",
+                "usage: lfm_stress lock|mixed|ping_pong|broadcast|buffer in_order|barging THREADS COUNT",
             );
             USAGE
         }

@@ -7,6 +7,7 @@ ghost use mathlib.Core.Option.{some};
 ghost use lib.ListN.{get_elem?};
 
 use crate::parts::{Part, Shared};
+use crate::plan::Locking;
 use lfm_condvar::{CondSeat, Condvar};
 use lfm_mutex::{Mutex, Pace, Seat};
 use std::alloc::Global;
@@ -47,15 +48,21 @@ fn new_condvar(alloc: Global, pace: Pace, seats: u64) -> Option<(Condvar, Vec<Co
     Some((condvar, seats))
 }
 
-/// A mutex round 0 and two condvars, all of this pace, with a part for each of so many threads. It takes memory; None where it
-/// finds none, or where there are too many threads.
-pub fn shared_by(alloc: Global, pace: Pace, threads: u64) -> Option<(Shared, Vec<Part>)>
+/// A mutex round 0, which is locked so, and two condvars, all of this pace, with a part for each of so many threads. It takes
+/// memory; None where it finds none, or where there are too many threads.
+pub fn shared_by(
+    alloc: Global,
+    pace: Pace,
+    locking: Locking,
+    threads: u64,
+) -> Option<(Shared, Vec<Part>)>
     ensures { IfSome result (λ r. All (λ p. OfShared p r.0) r.1.items) }
 {
     let (mutex, seats) = new_mutex(alloc, pace, threads)?;
     let (first, first_seats) = new_condvar(alloc, pace, threads)?;
     let (second, second_seats) = new_condvar(alloc, pace, threads)?;
     let shared = Shared {
+        locking,
         mutex,
         first,
         second,

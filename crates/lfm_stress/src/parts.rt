@@ -5,6 +5,7 @@ ghost use Rattle.lfm_mutex.specs.Belongs.{Beside};
 ghost use Rattle.lfm_mutex.specs.declared.seat.Seat.{Seat};
 ghost use Rattle.lfm_stress.specs.Parts.{OfShared};
 
+use crate::plan::Locking;
 use lfm_condvar::{CondSeat, Condvar};
 use lfm_model::Locked;
 use lfm_mutex::{Holder, Mutex, Seat};
@@ -17,9 +18,10 @@ pub enum Side {
     Second,
 }
 
-/// A mutex that guards a number, and two condvars on it.
+/// A mutex that guards a number, how it is locked, and two condvars on it.
 #[derive(Drop)]
 pub struct Shared {
+    pub locking: Locking,
     pub mutex: Mutex<u64>,
     pub first: Condvar,
     pub second: Condvar,
@@ -68,12 +70,15 @@ fn add_one(seat: &mut Seat<u64>) -> u64
 }
 
 impl Shared {
-    /// `lock`. Returns whether the mutex was gained, and not held before.
+    /// `lock` or `lock_barging`. Returns whether the mutex was gained, and not held before.
     pub fn lock<R: Wait>(&self, rt: &R, part: &mut Part) -> bool
         requires { OfShared part.old self.now }
         ensures { OfShared part.new self.now }
     {
-        let locked = self.mutex.lock(rt, &mut part.seat);
+        let locked = match self.locking {
+            Locking::InOrder => self.mutex.lock(rt, &mut part.seat),
+            Locking::Barging => self.mutex.lock_barging(rt, &mut part.seat),
+        };
         matches!(locked, Ok(Locked::Held(_)))
     }
 

@@ -1,4 +1,5 @@
-//! What a run does: a load, by how many threads, and how often. The turns of `buffer` are the items that go through it.
+//! What a run does: a load, how its threads lock, by how many threads, and how often. The turns of `buffer` are the items that go
+//! through it.
 ghost use Rattle.std.specs.Prelude.{◌≡◌, ◌≤◌, IfOk, IfErr, None, Some};
 ghost use Rattle.lfm_stress.specs.Ranges.{most_threads, least_threads, most_turns, refusal_of, seats_of};
 
@@ -91,6 +92,34 @@ impl Load {
     }
 }
 
+/// How the threads of a run come to hold the mutex or the monitor.
+#[derive(Clone, Copy, Debug, PartialEq, Eq)]
+pub enum Locking {
+    /// By `lock` and `enter`: a thread queues at once.
+    InOrder,
+    /// By `lock_barging` and `hold`: a thread tries for a bounded while before it queues.
+    Barging,
+}
+
+impl Locking {
+    /// The locking of this name. None where none has it.
+    pub fn named(name: &str) -> Option<Locking> {
+        match name {
+            "in_order" => Some(Locking::InOrder),
+            "barging" => Some(Locking::Barging),
+            _ => None,
+        }
+    }
+
+    /// The name.
+    pub fn name(self) -> &'static str {
+        match self {
+            Locking::InOrder => "in_order",
+            Locking::Barging => "barging",
+        }
+    }
+}
+
 /// Why a plan is refused.
 #[derive(Clone, Copy, Debug, PartialEq, Eq)]
 pub enum OutOfRange {
@@ -117,6 +146,7 @@ pub fn refusal_of(load: Load, threads: u64, turns: u64) -> Option<OutOfRange>
 #[derive(Clone, Copy)]
 pub struct Plan {
     load: Load,
+    locking: Locking,
     threads: u64,
     turns: u64,
     ghost threads_fit: { threads ≤ 4094 },
@@ -124,16 +154,17 @@ pub struct Plan {
 }
 
 impl Plan {
-    /// The plan of this load, so many threads and so many turns of each. It is refused where one of the numbers is out of
-    /// range, the threads first.
-    pub fn new(load: Load, threads: u64, turns: u64) -> Result<Plan, OutOfRange>
-        ensures allowed { IfOk result (λ p. (p.load ≡ load) × (p.threads ≡ threads) × (p.turns ≡ turns) × (refusal_of load threads turns ≡ None)) }
+    /// The plan of this load, of threads that lock so, so many of them and so many turns of each. It is refused where one of the
+    /// numbers is out of range, the threads first.
+    pub fn new(load: Load, locking: Locking, threads: u64, turns: u64) -> Result<Plan, OutOfRange>
+        ensures allowed { IfOk result (λ p. (p.load ≡ load) × (p.locking ≡ locking) × (p.threads ≡ threads) × (p.turns ≡ turns) × (refusal_of load threads turns ≡ None)) }
         ensures refused { IfErr result (λ e. refusal_of load threads turns ≡ Some e) }
     {
         match refusal_of(load, threads, turns) {
             Some(refusal) => Err(refusal),
             None => Ok(Plan {
                 load,
+                locking,
                 threads,
                 turns,
             }),
@@ -145,6 +176,13 @@ impl Plan {
         ensures { result ≡ self.load }
     {
         self.load
+    }
+
+    /// How the threads come to hold.
+    pub fn locking(self) -> Locking
+        ensures { result ≡ self.locking }
+    {
+        self.locking
     }
 
     /// How many threads take part.

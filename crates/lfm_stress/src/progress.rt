@@ -39,8 +39,9 @@ impl Tenth {
 
     /// Says that this tenth is made.
     pub fn print<R: Print>(self, rt: &R, plan: Plan) -> io::Result<()> {
-        let (name, threads, turns) = (plan.load().name(), plan.threads(), plan.turns());
+        let (load, locking) = (plan.load().name(), plan.locking().name());
+        let (threads, turns) = (plan.threads(), plan.turns());
         let made = self.to;
-        println!(rt; "{name}, {threads} threads: {made} of {turns} turns")
+        println!(rt; "{load}, {locking}, {threads} threads: {made} of {turns} turns")
     }
 }

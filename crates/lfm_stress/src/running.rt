@@ -22,7 +22,8 @@ pub fn run<R: Threads + Wait + Sync + Clock + AllocGlobal + Print>(
     rt: &R,
     plan: Plan,
 ) -> io::Result<Sums> {
-    let Some((shared, parts)) = shared_by(rt.alloc(), Pace::of_machine(rt)?, plan.seats()) else {
+    let pace = Pace::of_machine(rt)?;
+    let Some((shared, parts)) = shared_by(rt.alloc(), pace, plan.locking(), plan.seats()) else {
         return Err(AllocError.into());
     };
     let parts = run_tenths(rt, &shared, plan, parts)?;

@@ -75,7 +75,8 @@ impl Sums {
 
     /// Says what a run of this plan left, and whether nothing was lost.
     pub fn print<R: Print>(self, rt: &R, plan: Plan) -> io::Result<()> {
-        let (name, threads) = (plan.load().name(), plan.threads());
+        let (load, locking) = (plan.load().name(), plan.locking().name());
+        let threads = plan.threads();
         let Sums {
             made,
             woken,
@@ -87,7 +88,7 @@ impl Sums {
             "NOT EXACT"
         };
         println!(rt;
-            "{name}, {threads} threads: {made} made, {woken} woken, total {number}: {verdict}"
+            "{load}, {locking}, {threads} threads: {made} made, {woken} woken, total {number}: {verdict}"
         )
     }
 }

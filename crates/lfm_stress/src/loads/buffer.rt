@@ -5,11 +5,11 @@ ghost use Rattle.std.specs.Prelude.{◌≡◌, ◌+◌, ◌*◌, ◌≤◌, All,
 ghost use Rattle.lfm_monitor.specs.Belongs.{OfMonitor};
 
 use crate::buffer::{Buffer, BufferOp, BufferReply};
-use crate::plan::Plan;
+use crate::plan::{Locking, Plan};
 use crate::progress::{TENTHS, Tenth};
 use crate::sums::Sums;
 use lfm_model::{Refusal, replay};
-use lfm_monitor::{Monitor, Pass};
+use lfm_monitor::{CriticalSection, Monitor, Pass};
 use lfm_mutex::Pace;
 use std::alloc::{AllocError, Global};
 use std::io;
@@ -30,10 +30,24 @@ const NOT_FULL: u64 = 2;
 #[derive(Drop)]
 pub struct Delivery {
     tenth: Tenth,
+    /// How the threads come to hold the monitor.
+    locking: Locking,
     /// How many items were got.
     got: AtomicU64,
     /// Their sum.
     sum: AtomicU64,
+}
+
+impl Delivery {
+    /// The items of this tenth, of which none is got yet.
+    fn new(tenth: Tenth, locking: Locking) -> Delivery {
+        Delivery {
+            tenth,
+            locking,
+            got: AtomicU64::new(0),
+            sum: AtomicU64::new(0),
+        }
+    }
 }
 
 /// Sends the items of this plan through the buffer, and says after each tenth how far it is. It takes memory, starts threads
@@ -47,7 +61,8 @@ pub fn run<R: Threads + Wait + Sync + Clock + AllocGlobal + Print>(
     let mut number = 0u64;
     for done in 0..TENTHS {
         let tenth = Tenth::of(plan, done);
-        let sums = move_tenth(rt, rt.alloc(), pace, tenth)?;
+        let delivery = Delivery::new(tenth, plan.locking());
+        let sums = move_tenth(rt, rt.alloc(), pace, delivery)?;
         made = made.wrapping_add(sums.made);
         number = number.wrapping_add(sums.number);
         tenth.print(rt, plan)?;
@@ -59,18 +74,13 @@ pub fn run<R: Threads + Wait + Sync + Clock + AllocGlobal + Print>(
     })
 }
 
-/// Sends the items of a tenth through the buffer. An item counts where a thread got it, and the journal has it in its turn.
+/// Sends these items through the buffer. One counts where a thread got it, and the journal has it in its turn.
 fn move_tenth<R: Threads + Wait + Sync>(
     rt: &R,
     alloc: Global,
     pace: Pace,
-    tenth: Tenth,
+    delivery: Delivery,
 ) -> Result<Sums, AllocError> {
-    let delivery = Delivery {
-        tenth,
-        got: AtomicU64::new(0),
-        sum: AtomicU64::new(0),
-    };
     let made = moved(rt, alloc, pace, &delivery)?;
     Ok(Sums {
         made: made.min(delivery.got.load(Ordering::SeqCst)),
@@ -158,7 +168,7 @@ fn work<R: Wait>(
             continue;
         }
         let moved = if number <= 2 {
-            put(rt, monitor, &mut pass, turn.wrapping_add(1))
+            put(rt, monitor, delivery, &mut pass, turn.wrapping_add(1))
         } else {
             take(rt, monitor, delivery, &mut pass)
         };
@@ -169,24 +179,75 @@ fn work<R: Wait>(
     pass
 }
 
-/// Puts an item into the buffer, as soon as there is room, and wakes one that waits to take it.
+/// A section that puts an item into the buffer, or takes one out, as soon as there is room or an item, and wakes one that waits
+/// for that. It answers the item that was taken out, and 0 where one was put in.
+#[derive(Clone, Copy)]
+struct Move {
+    op: BufferOp,
+}
+
+impl<R: Wait> CriticalSection<Buffer, R> for Move {
+    type Answer = u64;
+
+    fn execute(
+        &self,
+        rt: &R,
+        monitor: &Monitor<Buffer>,
+        pass: &mut Pass<Buffer>,
+        round: u64,
+    ) -> Result<u64, Refusal> {
+        let _round = round;
+        let (needed, brought) = match self.op {
+            BufferOp::Put(_) => (NOT_FULL, NOT_EMPTY),
+            BufferOp::Take => (NOT_EMPTY, NOT_FULL),
+        };
+        let item = make(rt, monitor, pass, self.op, needed)?;
+        monitor.wake_one(rt, pass, brought)?;
+        Ok(item)
+    }
+}
+
+/// Makes a move in a hold of the monitor that begins as the delivery says. Returns what it answers.
+fn execute<R: Wait>(
+    rt: &R,
+    monitor: &Monitor<Buffer>,
+    delivery: &Delivery,
+    pass: &mut Pass<Buffer>,
+    section: Move,
+) -> Result<u64, Refusal>
+    requires { OfMonitor pass.old monitor.now }
+    ensures { OfMonitor pass.new monitor.now }
+{
+    match delivery.locking {
+        Locking::InOrder => {
+            monitor.enter(rt, pass)?;
+            let item = section.execute(rt, monitor, pass, 0)?;
+            monitor.leave(pass)?;
+            Ok(item)
+        }
+        Locking::Barging => monitor.hold(rt, pass, 0, &section),
+    }
+}
+
+/// Puts this item into the buffer.
 fn put<R: Wait>(
     rt: &R,
     monitor: &Monitor<Buffer>,
+    delivery: &Delivery,
     pass: &mut Pass<Buffer>,
     item: u64,
 ) -> Result<(), Refusal>
     requires { OfMonitor pass.old monitor.now }
     ensures { OfMonitor pass.new monitor.now }
 {
-    monitor.enter(rt, pass)?;
-    make(rt, monitor, pass, BufferOp::Put(item), NOT_FULL)?;
-    monitor.wake_one(rt, pass, NOT_EMPTY)?;
-    monitor.leave(pass)?;
+    let section = Move {
+        op: BufferOp::Put(item),
+    };
+    execute(rt, monitor, delivery, pass, section)?;
     Ok(())
 }
 
-/// Takes an item out of the buffer, as soon as one is there, wakes one that waits to put another in, and counts the item.
+/// Takes an item out of the buffer, and counts it.
 fn take<R: Wait>(
     rt: &R,
     monitor: &Monitor<Buffer>,
@@ -196,10 +257,8 @@ fn take<R: Wait>(
     requires { OfMonitor pass.old monitor.now }
     ensures { OfMonitor pass.new monitor.now }
 {
-    monitor.enter(rt, pass)?;
-    let item = make(rt, monitor, pass, BufferOp::Take, NOT_EMPTY)?;
-    monitor.wake_one(rt, pass, NOT_FULL)?;
-    monitor.leave(pass)?;
+    let section = Move { op: BufferOp::Take };
+    let item = execute(rt, monitor, delivery, pass, section)?;
     delivery.got.fetch_add(1, Ordering::SeqCst);
     delivery.sum.fetch_add(item, Ordering::SeqCst);
     Ok(())

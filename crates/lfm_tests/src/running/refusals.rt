@@ -10,6 +10,7 @@ use lfm_mutex::{Mutex, Seat};
 use lfm_test_tools::counted::Counted;
 use std::alloc::Global;
 use std::process::Abort;
+use std::sync::Wait;
 use std::sync::atomic::{AtomicU64, Ordering};
 use std::test::Fail;
 
@@ -70,7 +71,7 @@ fn leave<R: Abort>(rt: &R, mutex: &Mutex<u64>, seat: &mut Seat<u64>)
 }
 
 /// Makes all holds that one seat with one take may make, and what is refused at each depth.
-fn refuses_in_order<R: Abort>(rt: &R, mutex: &Mutex<u64>, seat: &mut Seat<u64>)
+fn refuses_in_order<R: Abort + Wait>(rt: &R, mutex: &Mutex<u64>, seat: &mut Seat<u64>)
     requires { OfMutex seat.old mutex.now }
 {
     let held = [
@@ -85,6 +86,8 @@ fn refuses_in_order<R: Abort>(rt: &R, mutex: &Mutex<u64>, seat: &mut Seat<u64>)
         Step::StartWait(Err(Refusal::Nested)),
     ];
     make_alone(rt, mutex, seat, &full);
+    let barged = mutex.lock_barging(rt, seat);
+    sees(rt, "barging", &barged, &Err(Refusal::DepthFull));
     leave(rt, mutex, seat);
     let spent = [
         Step::Unlock(Ok(Unlocked::Free)),
@@ -93,6 +96,8 @@ fn refuses_in_order<R: Abort>(rt: &R, mutex: &Mutex<u64>, seat: &mut Seat<u64>)
         Step::StartWait(Err(Refusal::NotOwner)),
     ];
     make_alone(rt, mutex, seat, &spent);
+    let barged = mutex.lock_barging(rt, seat);
+    sees(rt, "barging", &barged, &Err(Refusal::Spent));
 }
 
 #[test]

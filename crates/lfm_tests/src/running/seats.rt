@@ -36,7 +36,14 @@ fn take_one(mutex: &Mutex<u64>, mut seats: Vec<Seat<u64>>) -> Option<Seat<u64>>
 pub fn pair(alloc: Global) -> Result<(Mutex<u64>, Seat<u64>, Seat<u64>), Fail>
     ensures { IfOk result (λ r. OfMutex r.1 r.0 × OfMutex r.2 r.0) }
 {
-    let (mutex, seats) = Mutex::new(alloc, 2, 8, 0u64)?;
+    pair_with(alloc, 8)
+}
+
+/// A mutex of two seats, each of which may take so often, and its seats.
+pub fn pair_with(alloc: Global, budget: u64) -> Result<(Mutex<u64>, Seat<u64>, Seat<u64>), Fail>
+    ensures { IfOk result (λ r. OfMutex r.1 r.0 × OfMutex r.2 r.0) }
+{
+    let (mutex, seats) = Mutex::new(alloc, 2, budget, 0u64)?;
     let Some((first, second)) = take_two(&mutex, seats) else {
         return Err(Fail::new("two seats"));
     };

@@ -16,6 +16,7 @@ fn section_answers_and_leaves(rt: HostRuntime) -> Result<(), Fail> {
     sees(&rt, "the takes", &first.takes(), &1);
     let found = mutex.try_with(&mut second, |total| *total);
     sees(&rt, "what the other seat found", &found, &Ok(5));
+    sees(&rt, "the other seat's depth", &second.depth(), &0);
     let value = closed(mutex, first, second, Vec::new(rt.alloc()));
     sees(&rt, "the value", &value, &Some(5));
     Ok(())
@@ -72,10 +73,13 @@ fn section_of_a_holder_deepens_its_hold(rt: HostRuntime) -> Result<(), Fail> {
     let inner = mutex.with(&rt, &mut seat, |value| *value = 2);
     sees(&rt, "the section", &inner, &Ok(()));
     sees(&rt, "the depth", &seat.depth(), &1);
+    let tried = mutex.try_with(&mut seat, |value| *value = value.wrapping_mul(3));
+    sees(&rt, "the section that tries", &tried, &Ok(()));
+    sees(&rt, "the depth after it", &seat.depth(), &1);
     let unlocked = mutex.unlock(&mut seat);
     sees(&rt, "the unlock", &unlocked, &Ok(Unlocked::Free));
     let value = closed_alone(mutex, seat, Vec::new(rt.alloc()));
-    sees(&rt, "the value", &value, &Some(2));
+    sees(&rt, "the value", &value, &Some(6));
     Ok(())
 }
 

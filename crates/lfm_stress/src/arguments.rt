@@ -45,7 +45,7 @@ pub fn requested<R: Env + AllocGlobal>(rt: &R) -> Request {
     asked(load.as_str(), locking, threads.as_str(), turns.as_str())
 }
 
-/// What the name of a load and two numbers ask for, of threads that lock so.
+/// What the name of a load, a locking and two numbers ask for.
 fn asked(load: &str, locking: Locking, threads: &str, turns: &str) -> Request
     ensures { AsksFor result locking threads.now turns.now }
 {

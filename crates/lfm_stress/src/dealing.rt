@@ -48,8 +48,8 @@ fn new_condvar(alloc: Global, pace: Pace, seats: u64) -> Option<(Condvar, Vec<Co
     Some((condvar, seats))
 }
 
-/// A mutex round 0, which is locked so, and two condvars, all of this pace, with a part for each of so many threads. It takes
-/// memory; None where it finds none, or where there are too many threads.
+/// A mutex round 0 with this locking, and two condvars, all of this pace, and a part for each of the threads. It takes memory;
+/// None if it finds none, or if there are too many threads.
 pub fn shared_by(
     alloc: Global,
     pace: Pace,

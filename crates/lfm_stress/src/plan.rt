@@ -102,7 +102,7 @@ pub enum Locking {
 }
 
 impl Locking {
-    /// The locking of this name. None where none has it.
+    /// The locking of this name. None if no locking has it.
     pub fn named(name: &str) -> Option<Locking> {
         match name {
             "in_order" => Some(Locking::InOrder),
@@ -154,7 +154,7 @@ pub struct Plan {
 }
 
 impl Plan {
-    /// The plan of this load, of threads that lock so, so many of them and so many turns of each. It is refused where one of the
+    /// The plan of this load and this locking, with this number of threads and of turns of each. It is refused if one of the
     /// numbers is out of range, the threads first.
     pub fn new(load: Load, locking: Locking, threads: u64, turns: u64) -> Result<Plan, OutOfRange>
         ensures allowed { IfOk result (λ p. (p.load ≡ load) × (p.locking ≡ locking) × (p.threads ≡ threads) × (p.turns ≡ turns) × (refusal_of load threads turns ≡ None)) }

@@ -74,7 +74,7 @@ pub fn run<R: Threads + Wait + Sync + Clock + AllocGlobal + Print>(
     })
 }
 
-/// Sends these items through the buffer. One counts where a thread got it, and the journal has it in its turn.
+/// Sends these items through the buffer. An item counts if a thread got it and the journal has it in its turn.
 fn move_tenth<R: Threads + Wait + Sync>(
     rt: &R,
     alloc: Global,
@@ -179,8 +179,8 @@ fn work<R: Wait>(
     pass
 }
 
-/// A section that puts an item into the buffer, or takes one out, as soon as there is room or an item, and wakes one that waits
-/// for that. It answers the item that was taken out, and 0 where one was put in.
+/// A section that puts an item into the buffer, or takes one out, as soon as it can. Then it wakes one that waits for what the
+/// move brought: an item, or room. It answers the item that was taken out, or 0 if one was put in.
 #[derive(Clone, Copy)]
 struct Move {
     op: BufferOp,
@@ -207,7 +207,7 @@ impl<R: Wait> CriticalSection<Buffer, R> for Move {
     }
 }
 
-/// Makes a move in a hold of the monitor that begins as the delivery says. Returns what it answers.
+/// Makes a move in a hold of the monitor that begins by the delivery's locking. Returns what the move answers.
 fn execute<R: Wait>(
     rt: &R,
     monitor: &Monitor<Buffer>,

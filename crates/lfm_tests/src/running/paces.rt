@@ -1,11 +1,10 @@
-//! What a pace says: how often a seat looks for its grant, where how many are counted, and how often it spins and naps before it
-//! queues.
+//! What a pace says: how often a seat spins and naps before it queues, and how often it then looks.
 use crate::running::seats::alone;
 use crate::seeing::{holds, sees};
 use lfm_mutex::Pace;
 use std::test::Fail;
 
-/// The looks of a pace, how many seats may be counted where one looks, the spins and the naps.
+/// The looks of a pace, how many seats are near, its spins and its naps.
 fn numbers(pace: Pace) -> (u32, u64, u32, u32) {
     (pace.looks(), pace.near(), pace.spins(), pace.naps())
 }

@@ -39,7 +39,7 @@ pub fn pair(alloc: Global) -> Result<(Mutex<u64>, Seat<u64>, Seat<u64>), Fail>
     pair_with(alloc, 8)
 }
 
-/// A mutex of two seats, each of which may take so often, and its seats.
+/// A mutex of two seats, with this budget of takes each, and its seats.
 pub fn pair_with(alloc: Global, budget: u64) -> Result<(Mutex<u64>, Seat<u64>, Seat<u64>), Fail>
     ensures { IfOk result (λ r. OfMutex r.1 r.0 × OfMutex r.2 r.0) }
 {

@@ -18,21 +18,21 @@ use std::time::{Clock, Duration};
 /// How long seat 1 holds each time, in milliseconds.
 const HELD: u64 = 1;
 
-/// So many holds are made where seat 2 may never come from the queue.
+/// How many holds seat 1 makes if nobody may queue.
 const SOME_HOLDS: u64 = 20;
 
-/// So many holds are made at most where it must.
+/// How many holds seat 1 makes at most until somebody queues.
 const MANY_HOLDS: u64 = 20_000;
 
-/// How often seat 1 holds at most, and whether it has ended.
+/// How many holds seat 1 makes at most, and whether it has ended.
 #[derive(Drop)]
 struct Holding {
     holds: u64,
     ended: AtomicBool,
 }
 
-/// Holds the mutex again and again, each time for a while, until an unlock finds a seat in the queue. It tries, so that it
-/// doesn't queue itself. Returns whether an unlock found one.
+/// Holds the mutex at most this many times, each time for a while, until an unlock finds a seat in the queue. Returns whether one
+/// did. The seat gains the mutex by `try_lock`, so that it never queues itself.
 fn hold_until_one_queues<R: Wait + Clock>(
     rt: &R,
     mutex: &Mutex<u64>,
@@ -58,8 +58,8 @@ fn hold_until_one_queues<R: Wait + Clock>(
     unreachable!()
 }
 
-/// Locks by `lock_barging` again and again, until it comes to hold from the queue or seat 1 has ended. Returns whether it was the
-/// first of all seats that came from the queue.
+/// Locks by `lock_barging` again and again, until the seat comes to hold from the queue or seat 1 has ended. Returns whether the seat
+/// was the first to come from the queue.
 fn barge_until_queued<R: Wait>(
     rt: &R,
     mutex: &Mutex<u64>,
@@ -112,8 +112,8 @@ fn take_parts<R: Threads + Wait + Clock + Sync>(
     thread::map_vec(rt, seats, &|seat| take_part(rt, mutex, seat, &holding))
 }
 
-/// Seat 1 holds so often at most, and seat 2 barges at this pace. Returns whether seat 1 gave the mutex to a queued seat, and
-/// whether seat 2 came from the queue.
+/// Seat 1 holds at most this many times, and seat 2 barges at this pace. Returns whether seat 1 found a seat in the queue, and whether
+/// seat 2 came from the queue.
 fn barged<R: Threads + Wait + Clock + Sync>(
     rt: &R,
     alloc: Global,

@@ -5,7 +5,7 @@ ghost use Rattle.lfm_mutex.specs.Belongs.{OfMutex};
 use lfm_mutex::{Mutex, Pace, Seat};
 use std::alloc::Global;
 
-/// A mutex round 0 of this pace, and so many seats, each of which may take so often.
+/// A mutex round 0 of this pace, and its seats, with this number of seats and this budget of each.
 pub fn paced(
     alloc: Global,
     pace: Pace,

@@ -22,7 +22,7 @@ enum Barging {
     AllSeats,
 }
 
-/// How threads lock: so many, each so often, which is its budget.
+/// How many threads lock, how often each does, which is its budget, and how.
 #[derive(Clone, Copy)]
 struct Run {
     threads: u64,

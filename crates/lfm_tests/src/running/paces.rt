@@ -18,7 +18,7 @@ fn paces(rt: HostRuntime) {
     let none = barging.with_barging(0, 0);
     sees(&rt, "with none again", &numbers(none), &(3, 2, 0, 0));
     let one = Pace::for_processors(1);
-    sees(&rt, "for one processor", &numbers(one), &(0, 0, 0, 4));
+    sees(&rt, "for one processor", &numbers(one), &(0, 0, 1, 4));
     let four = Pace::for_processors(4);
     sees(&rt, "for four", &numbers(four), &(800, 4, 12, 4));
 }
@@ -27,7 +27,7 @@ fn paces(rt: HostRuntime) {
 fn pace_of_this_machine(rt: HostRuntime) -> Result<(), Fail> {
     let pace = Pace::of_machine(&rt)?;
     let (looks, near, spins, naps) = numbers(pace);
-    let spins_wanted = if near == 0 { 0 } else { 12 };
+    let spins_wanted = if near == 0 { 1 } else { 12 };
     sees(&rt, "the spins", &spins, &spins_wanted);
     sees(&rt, "the naps", &naps, &4);
     let looks_fit = looks == 0 || (near > 1 && looks >= 100 && looks <= 4_000);

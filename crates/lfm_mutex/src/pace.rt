@@ -11,10 +11,10 @@ use std::time::{Clock, Duration, Instant};
 /// differs by the processor; where it is short it still lasts about two wake-ups by the system.
 pub const LOOKS_BEFORE_SLEEP: u32 = 800;
 
-// How often a seat looks at the count before it queues. With the pauses after each look this lasts some 8 microseconds.
+// How often a seat spins before it queues. With the pauses this lasts some 8 microseconds.
 const SPINS: u32 = 12;
 
-// With one processor it looks once. Further spins would keep the holder from its work.
+// With one processor it tries once. Further spins would keep the holder from its work.
 const SPINS_OF_ONE_PROCESSOR: u32 = 1;
 
 // How often it then naps.
@@ -43,10 +43,10 @@ const MOST_LOOKS: u64 = 4_000;
 
 /// How a seat waits for the mutex. It has two parts.
 ///
-/// *Before it queues*, a seat that doesn't hold and locks by `lock_barging` spins and then naps. A spin is a look at the count
-/// with pauses after it; a nap is a look, a sleep of some 20 microseconds if the mutex is not free, and another look. It tries to
-/// gain the mutex if a look finds it free. It spins no longer if more than two seats hold or wait, and doesn't nap if more than twice as many as `near` (and more
-/// than 8) do. `lock` makes neither.
+/// *Before it queues*, a seat that doesn't hold and locks by `lock_barging` spins and then naps. The first spin is a try to gain
+/// the mutex. Each further one is some pauses and a look at the count, and a try if the mutex is free. A nap is a look, a sleep of
+/// some 20 microseconds if the mutex is not free, and another look, with a try if it is free then. A seat spins no longer if more
+/// than two seats hold or wait. It naps no longer if more than 8 do, and more than twice as many as `near`. `lock` makes neither.
 ///
 /// *Once it has queued*, a seat looks at its wake word before it parks. A grant mostly comes within some 20 microseconds, and to
 /// park and be woken costs far more than the looks. But if many seats are ahead, or one processor has to serve both, each look is

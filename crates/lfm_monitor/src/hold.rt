@@ -67,9 +67,9 @@ impl<O: Object> Monitor<O> {
     /// began and did not give up are given up, so that the pass holds no more than before.
     ///
     /// It enters with the answers and refusals of `enter`. But a pass that doesn't hold tries before it queues, as `lock_barging`
-    /// of the mutex does: at most once for each spin and each nap of the monitor's pace. So it may come before passes that are
-    /// queued. If no try gains the monitor, it queues, and no pass that queues later is served before it. `enter` queues without
-    /// a try.
+    /// of the mutex does: at most once for each spin and each nap of the monitor's pace. So it may come before passes that came
+    /// earlier and still try. If no try gains the monitor, it queues, and no pass that queues later is served before it. `enter`
+    /// queues without a try.
     ///
     /// Refuses as `enter`, and then the section is not executed and nothing has changed: Asleep, DepthFull, Spent, in this
     /// order. It may nap, and sleeps as `enter` does. It wakes whom `enter` and `leave` wake, and takes no memory.

@@ -2,7 +2,7 @@
 
 use std::time::{Clock, CpuClock, Instant};
 
-/// The time now. None where the clock can't be read.
+/// The time now. None if the clock can't be read.
 pub fn now<R: Clock>(rt: &R) -> Option<Instant> {
     Instant::now(rt).ok()
 }

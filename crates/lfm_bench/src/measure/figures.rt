@@ -171,7 +171,7 @@ impl Series {
         Ok(())
     }
 
-    /// The quartiles of all figures. None where there is none.
+    /// The quartiles of all figures. None if there is none.
     pub fn quartiles(&mut self) -> Option<Quartiles>
         ensures places { IfSome result (λ q. AreQuartiles q self.old.values.items) }
         ensures none { IfNone result (vec_len self.old.values ≡ 0) }
@@ -190,7 +190,7 @@ impl Series {
     }
 }
 
-/// The quartiles of figures that are in order. None where there is none.
+/// The quartiles of figures that are in order. None if there is none.
 fn quartiles_in_order(figures: &[u64]) -> Option<Quartiles>
     ensures places { IfSome result (λ q. StandIn q figures.now) }
     ensures none { IfNone result (length figures.now ≡ 0) }
@@ -261,7 +261,7 @@ impl Figures {
         self.longest_waits.add(contest.waits.longest)
     }
 
-    /// Adds the figures of a round, where there are any.
+    /// Adds the figures of a round, if there are any.
     pub fn add_if_any(&mut self, sample: Option<Sample>) -> Result<(), AllocError> {
         match sample {
             Some(sample) => self.add(sample),
@@ -276,7 +276,7 @@ impl Figures {
         self.exact
     }
 
-    /// The quartiles of a measure. None where there was no round.
+    /// The quartiles of a measure. None if there was no round.
     pub fn quartiles(&mut self, measure: Measure) -> Option<Quartiles> {
         match measure {
             Measure::Cost => self.costs.quartiles(),

@@ -25,7 +25,7 @@ impl Line {
     }
 
     /// Adds the median of a measure: hundredths as a number with two decimals; a time in nanoseconds, or of a wait in microseconds,
-    /// with one decimal, rounded down. None where nobody was measured.
+    /// with one decimal, rounded down. None if nobody was measured.
     pub fn add_median(
         &mut self,
         measure: Measure,
@@ -43,7 +43,7 @@ impl Line {
         self.add(&text)
     }
 
-    /// Adds how far figures spread, in percent. None where nobody was measured.
+    /// Adds how far figures spread, in percent. None if nobody was measured.
     pub fn add_spread(&mut self, quartiles: Option<Quartiles>) -> Result<(), AllocError> {
         let Some(quartiles) = quartiles else {
             return self.add("-");

@@ -24,13 +24,13 @@ pub enum Watching {
 /// The waits of some threads that are over. Those of a workload whose waits are not timed are none.
 #[derive(Drop)]
 pub struct Waits {
-    /// How many there were of each class. Empty where they are not timed.
+    /// How many there were of each class. Empty if they are not timed.
     counts: Vec<u64>,
     longest: u64,
 }
 
 impl Waits {
-    /// No waits. It takes memory where they are timed.
+    /// No waits. It takes memory if they are timed.
     pub fn new(alloc: Global, watching: Watching) -> Result<Waits, AllocError> {
         let counts = match watching {
             Watching::Nothing => Vec::new(alloc),
@@ -39,7 +39,7 @@ impl Waits {
         Ok(Waits { counts, longest: 0 })
     }
 
-    /// When a wait begins. None where it is not timed.
+    /// When a wait begins. None if it is not timed.
     #[inline(always)]
     pub fn begin<R: Clock>(&self, rt: &R) -> Option<Instant> {
         if self.counts.is_empty() {

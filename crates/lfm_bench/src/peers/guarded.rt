@@ -25,7 +25,7 @@ impl Queue {
         }
     }
 
-    /// Puts this number in. Returns it, or None where there is no room.
+    /// Puts this number in. Returns it, or None if there is no room.
     #[inline(always)]
     pub fn put(&mut self, number: u64) -> Option<u64> {
         if self.put.wrapping_sub(self.taken) >= ROOM {
@@ -36,7 +36,7 @@ impl Queue {
         Some(number)
     }
 
-    /// Takes the number out that was put in first of those that are there. None where nothing is there.
+    /// Takes the number out that was put in first of those that are there. None if nothing is there.
     #[inline(always)]
     pub fn take(&mut self) -> Option<u64> {
         if self.put == self.taken {
@@ -84,7 +84,7 @@ impl Guarded {
         }
     }
 
-    /// Does this. Returns the number that was read, put in or taken out, or None where it can't be done yet.
+    /// Does this. Returns the number that was read, put in or taken out, or None if it can't be done yet.
     #[inline(always)]
     pub fn apply(&mut self, operation: Operation) -> Option<u64> {
         match operation {

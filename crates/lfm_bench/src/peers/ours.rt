@@ -141,7 +141,7 @@ impl<'a> User<'a> {
         }
     }
 
-    /// The value under the mutex, which the user locks and unlocks. None where it does not gain the mutex.
+    /// The value under the mutex, which the user locks and unlocks. None if it does not gain the mutex.
     pub fn final_value<R: Wait>(&mut self, rt: &R) -> Option<u64> {
         if !self.lock(rt) {
             return None;
@@ -173,7 +173,7 @@ impl<'a> FreeSeats<'a> {
         FreeSeats { mutex, seats }
     }
 
-    /// The user of one of them. An error where there is none left.
+    /// The user of one of them. An error if there is none left.
     pub fn next_user(&mut self) -> io::Result<User<'a>> {
         let Some(seat) = last_seat(self.mutex, &mut self.seats) else {
             return Err(no_seat());
@@ -182,7 +182,7 @@ impl<'a> FreeSeats<'a> {
     }
 }
 
-/// The last of these seats, which are the mutex's. None where there is none.
+/// The last of these seats, which are the mutex's. None if there is none.
 pub fn last_seat<T: Kept>(mutex: &Mutex<T>, seats: &mut Vec<Seat<T>>) -> Option<Seat<T>>
     requires { (j : ℕ) (s : _) → get_elem? seats.old.items j ≡ some s → OfMutex s mutex.now }
     ensures one { IfSome result (λ s. OfMutex s mutex.now) }

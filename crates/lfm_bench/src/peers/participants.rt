@@ -112,7 +112,7 @@ impl<'a> Places<'a> {
         }
     }
 
-    /// One more thread, which waits on this condvar. An error where there is no seat left.
+    /// One more thread, which waits on this condvar. An error if there is no seat left.
     pub fn next(&mut self, waits_on: Side) -> io::Result<Participant<'a>> {
         let seat = last_seat(&self.shared.mutex, &mut self.seats);
         let first_seat = last_cond_seat(&self.shared.first, &mut self.first_seats);
@@ -132,7 +132,7 @@ impl<'a> Places<'a> {
     }
 }
 
-/// The last of these cond seats, which are the condvar's. None where there is none.
+/// The last of these cond seats, which are the condvar's. None if there is none.
 fn last_cond_seat(condvar: &Condvar, seats: &mut Vec<CondSeat>) -> Option<CondSeat>
     requires { (j : ℕ) (s : _) → get_elem? seats.old.items j ≡ some s → OfCondvar s condvar.now }
     ensures one { IfSome result (λ s. OfCondvar s condvar.now) }
@@ -180,7 +180,7 @@ impl<'a> Participant<'a> {
         self.shared.mutex.unlock(&mut self.seat).is_ok()
     }
 
-    /// Waits, while it holds the mutex, until it can do this, and does it. Returns what it gives, or None where a call was refused.
+    /// Waits, while it holds the mutex, until it can do this, and does it. Returns what it gives, or None if a call was refused.
     pub fn wait_and_apply<R: Wait>(&mut self, rt: &R, operation: Operation) -> Option<u64> {
         for _ in rt.forever() {
             if let Some(number) = self.apply(operation) {
@@ -194,7 +194,7 @@ impl<'a> Participant<'a> {
     }
 
     /// In one hold of the mutex it waits until it can do this, does it, and wakes one that waits on the other condvar. Returns
-    /// what it gives, or None where a call was refused.
+    /// what it gives, or None if a call was refused.
     pub fn lock_and_apply<R: Wait>(&mut self, rt: &R, operation: Operation) -> Option<u64> {
         if !self.lock(rt) {
             return None;
@@ -256,7 +256,7 @@ impl<'a> Participant<'a> {
         woken.unwrap_or(0)
     }
 
-    /// Does this to what the mutex guards. Returns what it gives, or None where it can't be done yet or the seat doesn't hold.
+    /// Does this to what the mutex guards. Returns what it gives, or None if it can't be done yet or the seat doesn't hold.
     pub fn apply(&mut self, operation: Operation) -> Option<u64> {
         match self.seat.value_mut() {
             Some(guarded) => guarded.apply(operation),

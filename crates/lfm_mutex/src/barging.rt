@@ -15,6 +15,7 @@ use lfm_table::Kept;
 use lfm_table::layout::{COUNT, wake_at};
 use lfm_table::parking::park_for;
 use std::sync::Wait;
+use std::thread::yield_now;
 use std::time::Duration;
 
 // How long a nap lasts, in microseconds.
@@ -149,12 +150,16 @@ impl<T: Kept> Mutex<T> {
         ensures tries { TriesBy (limits_of self.now) self.now.pace.naps (sight seat.old) (sight seat.new) result }
     {
         let wake = wake_at(seat.limits.seats, seat.number);
-        'naps: for _made in 0..self.pace.naps {
+        'naps: for made in 0..self.pace.naps {
             let found = self.table.shared.peek(COUNT);
             if self.pace.is_crowd(found) {
                 return None;
             }
-            let count = self.count_after_nap(rt, wake, found);
+            let count = if made == 0 && self.pace.is_for_one_processor() {
+                self.count_after_yield()
+            } else {
+                self.count_after_nap(rt, wake, found)
+            };
             match self.try_if_free(seat, count) {
                 Some(how) => return Some(how),
                 None => {}
@@ -172,6 +177,13 @@ impl<T: Kept> Mutex<T> {
         }
         let nap = Duration::from_micros(NAP_MICROSECONDS);
         park_for(rt, &self.table.shared, wake, nap);
+        self.table.shared.peek(COUNT)
+    }
+
+    // The count after the other threads that can run have run. With one processor, whoever holds the mutex or was granted it needs
+    // that processor, and mostly has released the mutex by then.
+    fn count_after_yield(&self) -> u64 {
+        yield_now();
         self.table.shared.peek(COUNT)
     }
 

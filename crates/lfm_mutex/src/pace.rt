@@ -148,6 +148,11 @@ impl Pace {
         self.naps
     }
 
+    // Whether the seat has one processor to run on, as far as the pace says.
+    pub(crate) fn is_for_one_processor(self) -> bool {
+        self.near <= 1
+    }
+
     // Whether more hold or wait than two for each processor.
     pub(crate) fn is_crowd(self, count: u64) -> bool {
         count > FEW.max(self.near.saturating_mul(2))

@@ -7,6 +7,6 @@ abbrev pub invariant-naps : goal.invariant-naps
 invariant-naps g l = record {
   belongs : (l.seat.place.table_id ≡ l.self.table.shared.table_id) × (l.seat.limits ≡ l.self.limits);
   beside : (l.seat.place.table_id ≡ l.fn.seat.place.table_id) × (l.seat.limits ≡ l.fn.seat.limits);
-  tries : TriesBy l.self.limits l._made (sight l.fn.seat) (sight l.seat) None;
+  tries : TriesBy l.self.limits l.made (sight l.fn.seat) (sight l.seat) None;
   wake : l.wake < l.self.table.shared.table_id.words;
 }

@@ -1,5 +1,5 @@
-//! How a seat waits: it is enlisted in one hold of the inner mutex, and sleeps until it is sent. If it waits alone, it looks for a
-//! while before it sleeps.
+//! How a seat waits: it is enlisted in one hold of the inner mutex, and sleeps until it is sent. If it waits alone,
+//! beside at most one other thread, it looks for a while before it sleeps.
 ghost use Rattle.std.specs.Prelude.{◌≡◌, ◌<◌, ◌≤◌, ℕ, Some, IfErr, IfOk, length, slice_index};
 ghost use Rattle.lfm_model.specs.declared.refusals.Refusal.TheVariants.{Busy};
 ghost use Rattle.lfm_mutex.specs.Belongs.{Beside, OfMutex, limits_of};
@@ -35,14 +35,20 @@ fn with_ahead(ticket: Result<u64, Refusal>, ahead: usize) -> Result<Enlisted, Re
     }
 }
 
-// How often a seat looks before it sleeps, if this many seats waited ahead of it. A seat that waits alone may be sent soon, as when
-// two threads take turns, and its looks then cost less than a sleep and a wake-up. If several seats wait, most of them wait for
-// long, and their looks would take the processors from the threads that are to wake them.
-fn looks_behind(pace: Pace, ahead: usize) -> u32
-    ensures alone { ahead ≡ 0 → result ≡ pace.looks }
+// How often a seat looks before it sleeps, if this many seats waited ahead of it, and the user mutex counts this many. A seat that
+// waits alone beside one other thread may be sent soon, as when two threads take turns, and its looks then cost less than a sleep
+// and a wake-up. If several seats wait, or were just sent, most of them wait for long, and looks would take the processors from the
+// threads that are to go on.
+fn looks_behind(pace: Pace, ahead: usize, counted: u64) -> u32
+    ensures alone { ahead ≡ 0 → counted ≤ 1 → result ≡ pace.looks }
     ensures behind { 0 < ahead → result ≡ 0 }
+    ensures beside { 1 < counted → result ≡ 0 }
 {
-    if ahead == 0 { pace.looks() } else { 0 }
+    if ahead == 0 && counted <= 1 {
+        pace.looks()
+    } else {
+        0
+    }
 }
 
 // Lends the list in hand to `enlist_without_waking`, and counts those that wait there.
@@ -161,8 +167,8 @@ impl Condvar {
     /// under the inner mutex, costs the cond seat its take, and changes nothing else.
     ///
     /// A wait costs each seat one take. It takes no memory, sleeps, and wakes the seat that it grants a mutex, if any. If no
-    /// seat waited when it was put into the list, it looks before it sleeps, as often as the pace of the user mutex says;
-    /// otherwise it sleeps at once.
+    /// other seat waited when it was put into the list, and at most one holds or wants the user mutex, it looks before it sleeps,
+    /// as often as the pace of the user mutex says. Otherwise it sleeps at once.
     pub fn wait<T: Kept, R: Wait>(
         &self,
         rt: &R,
@@ -176,7 +182,7 @@ impl Condvar {
         ensures waits { WaitEnds T.follows T.fits (limits_of mutex.now) (cond_limits self.now) (cond_tries self.now) (cond_sight cond.old) (cond_sight cond.new) (sight seat.old) (sight seat.new) result }
     {
         let enlisted = self.begin_wait_counted(rt, cond, mutex, seat)?;
-        let looks = looks_behind(mutex.pace(), enlisted.ahead);
+        let looks = looks_behind(mutex.pace(), enlisted.ahead, mutex.count());
         match mutex.receive_lock_within(rt, seat, looks) {
             Ok(how) => Ok((how, enlisted.ticket)),
             Err(_) => unreachable!(),

@@ -10,8 +10,7 @@ use lfm_mutex::Pace;
 impl<O: Object> Monitor<O> {
     /// Sets the pace of the monitor's mutex and of the list of each condition: how often a pass tries before it queues, and how
     /// long a queued pass looks before it sleeps. For the monitor a pass tries in `hold` and `run` alone, and for a list in each
-    /// wait and wake. A pass that waits to be sent also looks before it sleeps if no other waited on its condition when it came;
-    /// otherwise it sleeps at once.
+    /// wait and wake. A pass that waits to be sent looks before it sleeps if it waits alone, as `wait` says.
     ///
     /// The passes of the monitor stay its passes. The pace is set before threads share the monitor.
     pub fn set_pace(&mut self, pace: Pace)

@@ -6,6 +6,7 @@ use crate::pace::Pace;
 use atomic_table::Table;
 use lfm_protocol::Limits;
 use lfm_table::Kept;
+use lfm_table::layout::COUNT;
 use lfm_table::moving_box::MovingBox;
 use lfm_table::rule::{Key, MutexRule};
 use lfm_table::seat_view::View;
@@ -47,14 +48,20 @@ pub struct Mutex<T: Kept> {
 }
 
 impl<T: Kept> Mutex<T> {
-    /// How long a seat that waits for this mutex looks before it sleeps.
+    /// How many seats hold the mutex or want it, as one look finds: those that queue count, and those that spin or nap don't. It is
+    /// a hint, since it may change at once. A look is no atomic step of the protocol.
+    pub fn count(&self) -> u64 {
+        self.table.shared.peek(COUNT)
+    }
+
+    /// How a seat waits for this mutex.
     pub fn pace(&self) -> Pace
         ensures { result ≡ self.now.pace }
     {
         self.pace
     }
 
-    /// Sets how long a seat that waits for this mutex looks before it sleeps. It is set before threads share the mutex.
+    /// Sets how a seat waits for this mutex. It is set before threads share the mutex.
     pub fn set_pace(&mut self, pace: Pace)
         ensures pace { self.new.pace ≡ pace }
         ensures same { (self.new.table ≡ self.old.table) × (self.new.limits ≡ self.old.limits) }

@@ -18,14 +18,14 @@ use std::sync::Wait;
 use std::thread::yield_now;
 use std::time::Duration;
 
-// How long a nap lasts, in microseconds.
+// How long a nap is to last, in microseconds. The system may add some 50.
 const NAP_MICROSECONDS: u64 = 20;
 
 // Before each look there are twice as many pauses as before the one before it, up to 2 to the power of this.
 const MOST_DOUBLINGS: u32 = 8;
 
-// If the mutex counts more than its holder and one more seat, others queue or spin already. More spins would only take the
-// cache line of the count away from the holder.
+// If the mutex counts more than its holder and one more seat, others queue already. More spins would only take the cache line of
+// the count away from the holder.
 const HOLDER_AND_ONE_MORE: u64 = 2;
 
 // Whether the seat is awake, doesn't hold and has a take left. A try of such a seat gains the mutex or is refused as Busy.
@@ -37,10 +37,10 @@ fn may_try<T: Kept>(seat: &Seat<T>) -> bool
 }
 
 impl<T: Kept> Mutex<T> {
-    /// Gains the mutex, or deepens the hold, with the answers and refusals of `lock`. A seat that doesn't hold tries first, as
-    /// often as the mutex's pace says. It makes a `try_lock` at once, and later ones if it looks at the count and finds 0. A look is
-    /// no atomic step of the protocol. Between its looks it pauses, and later naps. If no try gains the mutex, it queues as by
-    /// `lock`.
+    /// Gains the mutex, or deepens the hold, with the answers and refusals of `lock`. A seat that doesn't hold tries first, at most
+    /// as often as the mutex's pace says. If the pace has spins, it makes a `try_lock` at once. It makes later ones if it looks at
+    /// the count and finds 0. A look is no atomic step of the protocol. Between its looks it pauses, and later naps. If no try gains
+    /// the mutex, it queues as by `lock`.
     ///
     /// So a thread may come before threads that came earlier and still try. It comes before one that is queued only by accepting
     /// a post, as `try_lock` may. What stays bounded is how often a thread tries: at most once for each spin and each nap of the
@@ -139,8 +139,8 @@ impl<T: Kept> Mutex<T> {
         None
     }
 
-    // Naps as often as the pace says, and looks after each nap. It stops if a crowd holds or waits: then a nap would only keep the
-    // seat from its place in the queue.
+    // Naps as often as the pace says, and looks before and after each nap. It stops if a crowd holds or waits: then a nap would only
+    // keep the seat from its place in the queue.
     #[inline(always)]
     fn nap<R: Wait>(&self, rt: &R, seat: &mut Seat<T>) -> Option<How>
         requires belongs { OfMutex seat.old self.now }
@@ -155,10 +155,12 @@ impl<T: Kept> Mutex<T> {
             if self.pace.is_crowd(found) {
                 return None;
             }
-            let count = if made == 0 && self.pace.is_for_one_processor() {
+            let count = if found == 0 {
+                0
+            } else if made == 0 && self.pace.is_for_one_processor() {
                 self.count_after_yield()
             } else {
-                self.count_after_nap(rt, wake, found)
+                self.count_after_nap(rt, wake)
             };
             match self.try_if_free(seat, count) {
                 Some(how) => return Some(how),
@@ -168,13 +170,10 @@ impl<T: Kept> Mutex<T> {
         None
     }
 
-    // The count after a nap. If none was found, the mutex is free, and there is no nap.
-    fn count_after_nap<R: Wait>(&self, rt: &R, wake: usize, found: u64) -> u64
+    // The count after a nap.
+    fn count_after_nap<R: Wait>(&self, rt: &R, wake: usize) -> u64
         requires { wake < self.now.table.shared.table_id.words }
     {
-        if found == 0 {
-            return 0;
-        }
         let nap = Duration::from_micros(NAP_MICROSECONDS);
         park_for(rt, &self.table.shared, wake, nap);
         self.table.shared.peek(COUNT)

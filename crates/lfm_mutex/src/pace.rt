@@ -11,7 +11,7 @@ use std::time::{Clock, Duration, Instant};
 /// differs by the processor; where it is short it still lasts about two wake-ups by the system.
 pub const LOOKS_BEFORE_SLEEP: u32 = 800;
 
-// How often a seat spins before it queues. With the pauses this lasts some 8 microseconds.
+// How often a seat spins before it queues. With the pauses this lasted some 8 microseconds on the machine that was measured.
 const SPINS: u32 = 12;
 
 // With one processor it tries once. Further spins would keep the holder from its work.
@@ -46,7 +46,8 @@ const MOST_LOOKS: u64 = 4_000;
 /// *Before it queues*, a seat that doesn't hold and locks by `lock_barging` spins and then naps. The first spin is a try to gain
 /// the mutex. Each further one is some pauses and a look at the count, and a try if the mutex is free. A nap is a look, a sleep of
 /// some 20 microseconds if the mutex is not free, and another look, with a try if it is free then. A seat spins no longer if more
-/// than two seats hold or wait. It naps no longer if more than 8 do, and more than twice as many as `near`. `lock` makes neither.
+/// than two seats hold or wait. It naps no longer if more than 8 do, and more than twice as many as `near`. If `near` is at most
+/// 1, as for one processor, its first nap is a yield. `lock` makes neither.
 ///
 /// *Once it has queued*, a seat looks at its wake word before it parks. A grant mostly comes within some 20 microseconds, and to
 /// park and be woken costs far more than the looks. But if many seats are ahead, or one processor has to serve both, each look is
@@ -95,7 +96,7 @@ impl Pace {
     /// times, and once it has queued it looks `LOOKS_BEFORE_SLEEP` times if no more seats hold or wait than there are processors.
     /// A mutex that is not told otherwise has the pace for eight.
     pub fn for_processors(processors: u64) -> Pace
-        ensures one { processors ≤ 1 → (result.looks ≡ 0) × (result.spins ≡ 1) }
+        ensures one { processors ≤ 1 → (result.looks ≡ 0) × (result.near ≡ 0) × (result.spins ≡ 1) }
         ensures more { 1 < processors → (result.looks ≡ 800) × (result.near ≡ processors) × (result.spins ≡ 12) }
         ensures naps { result.naps ≡ 4 }
     {
@@ -127,7 +128,7 @@ impl Pace {
         self.looks
     }
 
-    /// A queued seat looks only if at most this number of seats hold or wait.
+    /// How many seats are few: a queued seat looks only if at most this number hold or wait.
     pub fn near(self) -> u64
         ensures { result ≡ self.near }
     {

@@ -20,8 +20,8 @@ GainsIf follows fits budget s t None = ⊤
 GainsIf follows fits budget s t (Some how) = Gains follows fits budget how s t
 
 module _ {T : Type 0} (l : Limits) where
-  -- A try that was refused as Busy. It has made the steps of try_lock, which found another seat as the owner and no post to accept; its
-  -- charge is given back, and the seat is as it was
+  -- A try that was refused as Busy. It has made the steps of try_lock, which found the count above 0, not this seat as the owner, and no
+  -- post, or one that was gone when it was to be accepted. Its charge is given back, and the seat is as it was
   pub record FailedTry (s t : Sight T) : Type 0 where
     pub same : t ≡ record s { trail = t.trail }
     pub finds : (new : List Seen) × (t.trail ≡ s.trail ++ new) × BusySeen s.number new

@@ -91,7 +91,8 @@ function chart_of_one_thread(table,    i, name) {
 
 END {
   if (kind == "quiet") chart_of_one_thread("nanoseconds a call")
-  chart(kind == "quiet" ? "several_threads" : kind, place ": nanoseconds an acquisition", "nanoseconds an acquisition", "", 1, "most over fewest")
+  # on one processor a window may end before each thread has had its turn there
+  chart(kind == "quiet" ? "several_threads" : kind, place ": nanoseconds an acquisition", "nanoseconds an acquisition", "", 1, kind == "one_processor" ? "" : "most over fewest")
   if (kind == "quiet") {
     chart("condition_variables", "Condition variables: microseconds", "nanoseconds", "^(ping-pong|wake_all)", 1000, "")
     chart("bounded_queue", "A bounded queue between threads: nanoseconds a number", "nanoseconds", "^bounded queue", 1, "")

@@ -139,8 +139,8 @@ impl<T: Kept> Mutex<T> {
         None
     }
 
-    // Naps as often as the pace says, and looks before and after each nap. It stops if a crowd holds or waits: then a nap would only
-    // keep the seat from its place in the queue.
+    // Naps as often as the pace says, and looks before and after each nap. The first nap is a yield. It stops if a crowd holds or
+    // waits: then a nap would only keep the seat from its place in the queue.
     #[inline(always)]
     fn nap<R: Wait>(&self, rt: &R, seat: &mut Seat<T>) -> Option<How>
         requires belongs { OfMutex seat.old self.now }
@@ -157,7 +157,7 @@ impl<T: Kept> Mutex<T> {
             }
             let count = if found == 0 {
                 0
-            } else if made == 0 && self.pace.is_for_one_processor() {
+            } else if made == 0 {
                 self.count_after_yield()
             } else {
                 self.count_after_nap(rt, wake)
@@ -179,8 +179,8 @@ impl<T: Kept> Mutex<T> {
         self.table.shared.peek(COUNT)
     }
 
-    // The count after the other threads that can run have run. With one processor, whoever holds the mutex or was granted it needs
-    // that processor, and mostly has released the mutex by then.
+    // The count after a yield. The system may have put the thread that holds the mutex, or was just granted it, on this processor.
+    // A yield lets that thread run at once. A sleep instead of it would last some 70 microseconds.
     fn count_after_yield(&self) -> u64 {
         yield_now();
         self.table.shared.peek(COUNT)

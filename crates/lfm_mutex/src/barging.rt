@@ -1,9 +1,9 @@
 //! `lock_barging`: `lock` of a seat that tries before it queues. Such a seat makes no claim while it tries: each try that fails
 //! gives its charge back and leaves the seat as it was. From the push on the order of the queue holds, as it does for `lock`.
 //! Linux's mutex spins so before it queues (optimistic spinning), and parking_lot and absl do so too.
-ghost use Rattle.std.specs.Prelude.{◌≡◌, ◌+◌, ◌-◌, ◌<◌, MatchBool, None};
+ghost use Rattle.std.specs.Prelude.{◌≡◌, ◌+◌, ◌-◌, ◌<◌, MatchBool, None, Some};
 ghost use Rattle.lfm_mutex.specs.Belongs.{Beside, OfMutex, limits_of, tries_of};
-ghost use Rattle.lfm_mutex.specs.calls.Barging.{BargesBy, FailedTry, GainsIf, MayTry, TriesBy};
+ghost use Rattle.lfm_mutex.specs.calls.Barging.{BargesBy, FailedTry, GainsIf, MayTry, TriesBy, TriesFirst, TryHeld};
 ghost use Rattle.lfm_mutex.specs.calls.Sight.{sight, LocksWaiting};
 
 use crate::mutex::Mutex;
@@ -59,6 +59,7 @@ impl<T: Kept> Mutex<T> {
         ensures belongs { Beside seat.old seat.new }
         ensures locks { LocksWaiting T.follows T.fits (limits_of self.now).budget (sight seat.old) (sight seat.new) result }
         ensures steps { BargesBy (limits_of self.now) (tries_of self.now) (sight seat.old) (sight seat.new) result }
+        ensures first { 0 < self.now.pace.spins → MayTry (limits_of self.now).budget (sight seat.old) → TriesFirst (limits_of self.now) (self.now.pace.spins - 1 + self.now.pace.naps) (sight seat.old) (sight seat.new) result }
     {
         if !may_try(seat) {
             return self.lock(rt, seat);
@@ -78,6 +79,8 @@ impl<T: Kept> Mutex<T> {
         ensures belongs { Beside seat.old seat.new }
         ensures gains { GainsIf T.follows T.fits (limits_of self.now).budget (sight seat.old) (sight seat.new) result }
         ensures tries { TriesBy (limits_of self.now) (self.now.pace.spins - (self.now.pace.spins - 1)) (sight seat.old) (sight seat.new) result }
+        ensures held { (how : _) → result ≡ Some how → TryHeld (limits_of self.now) (sight seat.old) (sight seat.new) how }
+        ensures failed { 0 < self.now.pace.spins → result ≡ None → FailedTry (limits_of self.now) (sight seat.old) (sight seat.new) }
     {
         if self.pace.spins == 0 {
             return None;
@@ -195,7 +198,8 @@ impl<T: Kept> Mutex<T> {
         ensures belongs { Beside seat.old seat.new }
         ensures gains { GainsIf T.follows T.fits (limits_of self.now).budget (sight seat.old) (sight seat.new) result }
         ensures tries { TriesBy (limits_of self.now) 1 (sight seat.old) (sight seat.new) result }
-        ensures tried { count ≡ 0 → result ≡ None → FailedTry (limits_of self.now) (sight seat.old) (sight seat.new) }
+        ensures held { (how : _) → result ≡ Some how → TryHeld (limits_of self.now) (sight seat.old) (sight seat.new) how }
+        ensures failed { count ≡ 0 → result ≡ None → FailedTry (limits_of self.now) (sight seat.old) (sight seat.new) }
     {
         if count != 0 {
             return None;

@@ -27,6 +27,10 @@ module _ {T : Type 0} (l : Limits) where
     pub finds : (new : List Seen) × (t.trail ≡ s.trail ++ new) × BusySeen s.number new
     pub makes : MakesCall l (λ x. Answer.Locked x) Call.TryLock s t (Err Refusal.Busy)
 
+  -- the steps of a try that held
+  abbrev pub TryHeld : Sight T → Sight T → How → Type 0
+  TryHeld s t how = Makes l Call.TryLock s t (Ended (Answer.Locked (Locked.Held how)))
+
   -- tries that failed, one after another. The list has how the seat was seen after each of them
   abbrev pub FailedTries : Sight T → List (Sight T) → Sight T → Type 0
   FailedTries s [] t = t ≡ s
@@ -35,7 +39,7 @@ module _ {T : Type 0} (l : Limits) where
   -- at most n tries, and no other steps: all of them failed, or all but the last, which held
   abbrev pub TriesBy : ℕ → Sight T → Sight T → Option How → Type 0
   TriesBy n s t None = (ms : List (Sight T)) × (length ms ≤ n) × FailedTries s ms t
-  TriesBy n s t (Some how) = (ms : List (Sight T)) × (m : Sight T) × (length ms < n) × FailedTries s ms m × Makes l Call.TryLock m t (Ended (Answer.Locked (Locked.Held how)))
+  TriesBy n s t (Some how) = (ms : List (Sight T)) × (m : Sight T) × (length ms < n) × FailedTries s ms m × TryHeld m t how
 
   -- The steps of lock_barging, which makes at most n tries: a try held; or all failed, and then the steps of lock were made. If it deepens
   -- a hold or is refused, they are those of lock alone
@@ -43,3 +47,9 @@ module _ {T : Type 0} (l : Limits) where
   BargesBy n s t (Ok (Locked.Held how)) = TriesBy n s t (Some how) ⊎ ((m : Sight T) × TriesBy n s m None × LocksBy l m t (Ok (Locked.Held how)))
   BargesBy n s t (Ok (Locked.Again d)) = LocksBy l s t (Ok (Locked.Again d))
   BargesBy n s t (Err refusal) = LocksBy l s t (Err refusal)
+
+  -- The first steps of lock_barging are those of a try. It held, and no more steps were made; or it failed, and what came after it is a
+  -- lock_barging that makes at most n tries
+  abbrev pub TriesFirst : ℕ → Sight T → Sight T → Result Locked Refusal → Type 0
+  TriesFirst n s t result =
+      ((how : How) × (result ≡ Ok (Locked.Held how)) × TryHeld s t how) ⊎ ((m : Sight T) × FailedTry s m × BargesBy n m t result)

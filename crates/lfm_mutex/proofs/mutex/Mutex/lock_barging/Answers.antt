@@ -1,4 +1,4 @@
-use Rattle.std.proofs.Common.{◌+◌, ◌-◌, Some, inl, arith, rules}
+use Rattle.std.proofs.Common.{◌+◌, ◌-◌, Some, inl, inr, refl, arith, rules}
 use Rattle.lfm_mutex.specs.calls.Barging.{MayTry}
 use Rattle.lfm_mutex.specs.calls.Sight.{sight}
 use Rattle.lfm_mutex.proofs.BargingEnds.{barges_on, locks_after, still_may_try, tries_fewer}
@@ -19,3 +19,9 @@ returns-in-None-clause-locks g c = let m = c.args.self.now in let free : MayTry 
 pub returns-in-None-clause-steps : goal.returns-in-None-clause-steps
 returns-in-None-clause-steps g c = let m = c.args.self.now in let free : MayTry m.limits.budget (sight c.args.seat.now) = search rules in
     barges_on g.T.Kept.follows g.T.Kept.fits m.limits (m.pace.spins - (m.pace.spins - 1)) (m.pace.spins - 1 + m.pace.naps) (m.pace.spins + m.pace.naps) (sight c.args.seat.now) (sight c.try_first.new.seat) (sight c.barge.new.seat) c.barge.result free (omega arith) c.in-None.ensures.tries c.barge.ensures.locks c.barge.ensures.steps
+
+pub returns-in-Some-clause-first : goal.returns-in-Some-clause-first
+returns-in-Some-clause-first g c = λ spins free. inl (c.in-Some.how, refl, c.in-Some.ensures.held c.in-Some.how refl)
+
+pub returns-in-None-clause-first : goal.returns-in-None-clause-first
+returns-in-None-clause-first g c = λ spins free. inr (sight c.try_first.new.seat, c.in-None.ensures.failed spins refl, c.barge.ensures.steps)

@@ -12,7 +12,7 @@ use crate::seat::Seat;
 use crate::try_lock::try_free;
 use lfm_model::{How, Locked, Refusal};
 use lfm_table::Kept;
-use lfm_table::layout::{COUNT, OWNER, wake_at};
+use lfm_table::layout::{COUNT, wake_at};
 use lfm_table::parking::park_for;
 use std::sync::Wait;
 use std::thread::yield_now;
@@ -142,7 +142,7 @@ impl<T: Kept> Mutex<T> {
         None
     }
 
-    // Naps as often as the pace says, and looks before and after each nap. The first nap may be a yield. It stops if a crowd holds or
+    // Naps as often as the pace says, and looks before and after each nap. The first nap is a yield. It stops if a crowd holds or
     // waits: then a nap would only keep the seat from its place in the queue.
     #[inline(always)]
     fn nap<R: Wait>(&self, rt: &R, seat: &mut Seat<T>) -> Option<How>
@@ -160,7 +160,7 @@ impl<T: Kept> Mutex<T> {
             }
             let count = if found == 0 {
                 0
-            } else if made == 0 && self.may_yield() {
+            } else if made == 0 {
                 self.count_after_yield()
             } else {
                 self.count_after_nap(rt, wake)
@@ -182,14 +182,8 @@ impl<T: Kept> Mutex<T> {
         self.table.shared.peek(COUNT)
     }
 
-    // Whether the next owner may wait for this very processor: with one processor, or if nobody owns the mutex though the count is
-    // not 0. Then mostly a seat was just granted it, and the system likes to wake a thread on the processor of the one that wakes it.
-    fn may_yield(&self) -> bool {
-        self.pace.is_for_one_processor() || self.table.shared.peek(OWNER) == 0
-    }
-
-    // The count after a yield, which lets a thread that waits for this processor run at once. A nap instead of it would last some 70
-    // microseconds, and the mutex would mostly be free for all but a few of them.
+    // The count after a yield. The system may have put the thread that holds the mutex, or was just granted it, on this processor.
+    // A yield lets that thread run at once. A sleep instead of it would last some 70 microseconds.
     fn count_after_yield(&self) -> u64 {
         yield_now();
         self.table.shared.peek(COUNT)

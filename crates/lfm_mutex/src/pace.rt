@@ -47,8 +47,7 @@ const MOST_LOOKS: u64 = 4_000;
 /// the mutex. Each further one is some pauses and a look at the count, and a try if the mutex is free. A nap is a look, a sleep of
 /// some 20 microseconds if the mutex is not free, and another look, with a try if it is free then. A seat spins no longer if more
 /// than two seats hold or wait. It naps no longer if more than 8 do, and more than twice as many as `near`. Its first nap is a
-/// yield if the next owner may wait for the same processor: if `near` is at most 1, as for one processor, or if the mutex is taken and
-/// nobody owns it yet. `lock` makes neither.
+/// yield, which lets a holder run that waits for the same processor. `lock` makes neither.
 ///
 /// *Once it has queued*, a seat looks at its wake word before it parks. A grant mostly comes within some 20 microseconds, and to
 /// park and be woken costs far more than the looks. But if many seats are ahead, or one processor has to serve both, each look is
@@ -148,11 +147,6 @@ impl Pace {
         ensures { result ≡ self.naps }
     {
         self.naps
-    }
-
-    // Whether the seat has one processor to run on, as far as the pace says.
-    pub(crate) fn is_for_one_processor(self) -> bool {
-        self.near <= 1
     }
 
     // Whether more hold or wait than two for each processor.

@@ -2,13 +2,13 @@
 use Rattle.std.proofs.Common.{◌≡◌, ◌⊎◌, ℕ, zero, suc, ◌+◌, ◌*◌, ◌<◌, ◌≤◌, List, [], ◌∷◌, ◌++◌, Option, true, length, replicate, reverse, slice_index, refl, sym, ap, ◌∙◌, subst, ⊎_elim, inl, inr, arith}
 use mathlib.Core.Option.{some}
 use lib.ListN.{get_elem?}
-use Rattle.atomic_table.specs.Table.{State}
+use Rattle.atomic_table.specs.Table.{State, stepped}
 use Rattle.lfm_protocol.specs.declared.limits.Limits.{Limits}
-use Rattle.lfm_protocol.specs.Core.{Core}
+use Rattle.lfm_protocol.specs.Core.{Core, put}
 use Rattle.lfm_protocol.specs.Limits.{are_in_limits}
 use Rattle.lfm_protocol.specs.Queue.{chain, chain_of, queue_of, unwalked}
 use Rattle.lfm_protocol.specs.Seats.{absent}
-use Rattle.lfm_protocol.specs.Step.{start}
+use Rattle.lfm_protocol.specs.Step.{made, start}
 use Rattle.lfm_words.specs.declared.links.Link.{Link}
 use Rattle.lfm_words.specs.declared.pop_lists.Record.{Record}
 use Rattle.lfm_laws.specs.laws.Laws.{IsReached}
@@ -22,14 +22,13 @@ use Rattle.lfm_laws.proofs.lawful.runs.Reached.{steady_reached}
 use Rattle.lfm_table.specs.declared.rule.Moving.{Moving}
 use Rattle.lfm_table.specs.declared.seat_view.View.{View}
 use Rattle.lfm_table.specs.Actions.{Action, loads_owner, HasRun, told, events_of, part_of, begins_and_step}
-use Rattle.lfm_table.specs.Rule.{Held}
 use Rattle.lfm_table.proofs.tables.Actions.{led_join, part_join}
 use Rattle.lfm_table.proofs.tables.RuleKept.{led_on}
 use Rattle.lfm_mutex.proofs.LawsHeld.{core_of}
 use Rattle.lfm_mutex.proofs.RunTrails.{answers_told, entries_of_part, pushes_told, rest_is_nil, steps_of_parts}
 use Rattle.lfm_mutex.proofs.ends.Seats.{joins, joins_keep, owner_keeps, owner_tells, splits, splits_keep, starts, starts_at}
 use Rattle.lfm_mutex.specs.Laws.{IsCore}
-use Rattle.lfm_mutex.specs.TableRuns.{HoldsAfter, OwnerLoadsGoOnWithTheRun, SeatsComeAndGoInARun, StepsGoOnWithTheRun, TablesEndCalls, TablesGoThroughReachedStates, TablesRunAsTheAbstractMutex, TablesHaveARun, TablesOpenARun, TablesOvertakeOnce, TablesServeInPushOrder, TrailsTellThePushes, TrailsTellTheAnswers, answers_noted, late_part, pushes_noted, popped_since, pushed_since, state_after}
+use Rattle.lfm_mutex.specs.TableRuns.{HoldsAfter, OtherStepsKeepTheCore, TablesEndCalls, TablesGoOnAsTheCore, TablesGoThroughReachedStates, TablesRunAsTheAbstractMutex, TablesHaveARun, TablesOpenAtTheStart, TablesOvertakeOnce, TablesServeInPushOrder, TrailsTellThePushes, TrailsTellTheAnswers, answers_noted, late_part, pushes_noted, popped_since, pushed_since, state_after}
 
 -- each moment of a run in the limits is a state that a schedule reaches
 reached_after : (l : Limits) (actions : List Action) → are_in_limits l.seats l.budget ≡ true → IsReached (state_after l actions)
@@ -60,47 +59,53 @@ module _ {T : Type 0} (follows : ℕ → T → T → Type 0) (fits : T → ℕ �
   in_limits : (s : St) (l : Limits) (actions : List Action) → HoldsAfter follows fits l actions s → are_in_limits l.seats l.budget ≡ true
   in_limits s l actions holds = ap (λ (k : Limits). are_in_limits k.seats k.budget) (sym holds.1) ∙ holds.0.run.allowed
 
+  led : (s : St) (l : Limits) (actions : List Action) (holds : HoldsAfter follows fits l actions s) → holds.0.core ≡ state_after l actions
+  led s l actions holds = holds.0.run.here ∙ (λ i. state_after (holds.1 i) (holds.2 i))
+
   pub tables_have_a_run : TablesHaveARun follows fits
   tables_have_a_run = (
     (λ s h. (h.opened, h.actions, (h, refl, refl))),
     (λ s l actions holds.
-        let h = holds.0 in let led : h.core ≡ state_after l actions = h.run.here ∙ (λ i. state_after (holds.1 i) (holds.2 i)) in (
-          subst (λ (c : Core). IsCore s c) led (core_of follows fits s h),
-          subst (λ (t : Limits × List Action × Core). HasRun t.0 t.1 t.2 s.views) (λ i. (holds.1 i, holds.2 i, led i)) h.run,
+        let h = holds.0 in let here = led s l actions holds in (
+          subst (λ (c : Core). IsCore s c) here (core_of follows fits s h),
+          subst (λ (t : Limits × List Action × Core). HasRun t.0 t.1 t.2 s.views) (λ i. (holds.1 i, holds.2 i, here i)) h.run,
         )),
   )
 
-  pub tables_open_a_run : TablesOpenARun follows fits
-  tables_open_a_run l x allowed none room suits =
-      let ws = replicate (4 + 2 * l.seats) 0 in let at = starts_at follows fits l ws x allowed refl none room suits in (starts follows fits l ws x allowed refl none room suits, at.1, at.2)
+  pub tables_open_at_the_start : TablesOpenAtTheStart follows fits
+  tables_open_at_the_start l x allowed none room suits =
+      let ws = replicate (4 + 2 * l.seats) 0 in let at = starts_at follows fits l ws x allowed refl none room suits in ((starts follows fits l ws x allowed refl none room suits, at.0, at.1), refl)
 
-  pub steps_go_on_with_the_run : StepsGoOnWithTheRun follows fits
-  steps_go_on_with_the_run s l actions j me p a holds at user became ready =
+  pub tables_go_on_as_the_core : TablesGoOnAsTheCore follows fits
+  tables_go_on_as_the_core s l actions j me p a holds at user became ready =
       let h = holds.0 in
-      let on = led_on follows fits 1 j me p a (index p me.0.limits.seats me.0.number) (λ n. written p me.0.number n) (λ n. told p me.0.number n) user became refl (λ n. refl) (λ n. refl) ready s h at in (
-        slice_index s.words (index p me.0.limits.seats me.0.number),
+      let i = index p me.0.limits.seats me.0.number in
+      let on = led_on follows fits 1 j me p a i (λ n. written p me.0.number n) (λ n. told p me.0.number n) user became refl (λ n. refl) (λ n. refl) ready s h at in
+      let more = actions ++ begins_and_step me.0.number me.0.standing p in
+      let after : St = stepped s i (written p me.0.number (slice_index s.words i)) j me.1 on.0 on.1 in
+      let goes : HoldsAfter follows fits l more after = (on.3.0, on.3.2 ∙ holds.1, on.3.3 ∙ ap (λ (d : List Action). d ++ begins_and_step me.0.number me.0.standing p) holds.2) in (
+        slice_index s.words i,
         on.0,
         on.1,
         refl,
         on.2,
-        (on.3.0, on.3.2 ∙ holds.1, on.3.3 ∙ ap (λ (d : List Action). d ++ begins_and_step me.0.number me.0.standing p) holds.2),
+        goes,
+        sym (led after l more goes) ∙ (on.3.1 ∙ ap (λ (c : Core). (made (put c me.0.number p) me.0.number).core) (led s l actions holds)),
         on.4,
       )
 
-  pub owner_loads_go_on_with_the_run : OwnerLoadsGoOnWithTheRun follows fits
-  owner_loads_go_on_with_the_run s l actions j me holds at user =
-      let h = holds.0 in
-      let on = owner_keeps follows fits j me user s h at in
-      let tells = owner_tells follows fits j me user s h at in
-      let placed : j + 1 ≡ me.0.number = sym (h.each j me.0 at).number in
-      (_, (on.0, on.2 ∙ holds.1, on.3 ∙ (λ i. holds.2 i ++ loads_owner (placed i) ∷ [])), tells)
-
-  pub seats_come_and_go_in_a_run : SeatsComeAndGoInARun follows fits
-  seats_come_and_go_in_a_run l actions = (
-    (λ v user room s holds at. let kept = splits_keep follows fits v user room s holds.0 at in (splits follows fits v user room s holds.0 at, kept.1 ∙ holds.1, kept.2 ∙ holds.2)),
+  pub other_steps_keep_the_core : OtherStepsKeepTheCore follows fits
+  other_steps_keep_the_core l actions = (
+    (λ v user room s holds at. let kept = splits_keep follows fits v user room s holds.0 at in (splits follows fits v user room s holds.0 at, kept.0 ∙ holds.1, kept.1 ∙ holds.2)),
     (λ v w other user uses rests flat s holds at apart there.
         let kept = joins_keep follows fits v w other user uses rests flat s holds.0 at apart there in
-        (joins follows fits v w other user uses rests flat s holds.0 at apart there, kept.1 ∙ holds.1, kept.2 ∙ holds.2)),
+        (joins follows fits v w other user uses rests flat s holds.0 at apart there, kept.0 ∙ holds.1, kept.1 ∙ holds.2)),
+    (λ s j me holds at user.
+        let h = holds.0 in
+        let on = owner_keeps follows fits j me user s h at in
+        let tells = owner_tells follows fits j me user s h at in
+        let placed : j + 1 ≡ me.0.number = sym (h.each j me.0 at).number in
+        (_, (on.0, on.1 ∙ holds.1, on.2 ∙ (λ i. holds.2 i ++ loads_owner (placed i) ∷ [])), led_join (start l) actions (loads_owner me.0.number ∷ []), tells)),
   )
 
   trail_parts : (s : St) (l : Limits) (early late : List Action) (j : ℕ) (v : View T) → HoldsAfter follows fits l (early ++ late) s → get_elem? s.views j ≡ some v

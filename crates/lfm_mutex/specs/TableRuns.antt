@@ -14,10 +14,10 @@ use Rattle.lfm_protocol.specs.declared.points.Point.TheVariants.{EnterOwnerStore
 use Rattle.lfm_protocol.specs.declared.seats.SeatState.{SeatState}
 use Rattle.lfm_protocol.specs.Limits.{are_in_limits}
 use Rattle.lfm_protocol.specs.After.{same_link}
-use Rattle.lfm_protocol.specs.Core.{Core}
+use Rattle.lfm_protocol.specs.Core.{Core, put}
 use Rattle.lfm_protocol.specs.Points.{pushed_seat}
 use Rattle.lfm_protocol.specs.Queue.{queue_of}
-use Rattle.lfm_protocol.specs.Step.{start}
+use Rattle.lfm_protocol.specs.Step.{made, start}
 use Rattle.lfm_words.specs.declared.pop_lists.Record.{Record}
 use Rattle.lfm_laws.specs.laws.Cases.{ReadsRun}
 use Rattle.lfm_laws.specs.laws.Events.{pushed_by}
@@ -25,7 +25,7 @@ use Rattle.lfm_laws.specs.laws.Laws.{IsReached}
 use Rattle.lfm_laws.specs.laws.Overtaking.{enters_at, entries_of_run, releases_of_run, entries_of_seat}
 use Rattle.lfm_laws.specs.laws.Progress.{steps_of_run, ended_in_run}
 use Rattle.lfm_laws.specs.laws.Reading.{Reads}
-use Rattle.lfm_laws.specs.laws.Schedules.{begins, makes, is_call, reached, run_of, push_record, popped_record, answer_record}
+use Rattle.lfm_laws.specs.laws.Schedules.{makes, is_call, reached, run_of, push_record, popped_record, answer_record}
 use Rattle.lfm_laws.specs.table.Words.{index, link_of, written}
 use Rattle.lfm_mutex.specs.Laws.{IsCore}
 use Rattle.lfm_table.specs.declared.rule.Moving.{Moving}
@@ -109,34 +109,33 @@ module _ {T : Type 0} (follows : ℕ → T → T → Type 0) (fits : T → ℕ �
 
   -- How a run goes on
 
-  -- a table at its opening has the empty run
-  abbrev pub TablesOpenARun : Type 0
-  TablesOpenARun =
+  -- a table at its opening is the core at its start, and has the empty run
+  abbrev pub TablesOpenAtTheStart : Type 0
+  TablesOpenAtTheStart =
       (l : Limits) (x : Moving T) → are_in_limits l.seats l.budget ≡ true → x.popped.records ≡ [] → x.popped.room ≡ l.seats → fits x.value 0
-      → HoldsAfter l [] (opening (replicate (4 + 2 * l.seats) 0) (Some x ∷ []) (first_view l x.value))
+      → HoldsAfter l [] (opening (replicate (4 + 2 * l.seats) 0) (Some x ∷ []) (first_view l x.value)) × (state_after l [] ≡ start l)
 
-  -- a seat that has become p by begins makes its step: the run goes on by these begins and the step
-  abbrev pub StepsGoOnWithTheRun : Type 0
-  StepsGoOnWithTheRun =
+  -- A seat whose view stands at place j and which has the value a in its own memory, having become p by begins, makes its step: it finds n,
+  -- has a new view, and takes the moving value or gives it back. The run goes on by these begins and the step, to the core that the core's
+  -- step makes.
+  abbrev pub TablesGoOnAsTheCore : Type 0
+  TablesGoOnAsTheCore =
       (s : State (Option (Moving T)) (View T)) (l : Limits) (actions : List Action) (j : ℕ) (me : Me (Option (Moving T)) (View T)) (p : SeatState) (a : Option T) → HoldsAfter l actions s
       → get_elem? s.views j ≡ some me.0 → me.0.role ≡ User → Became me.0.standing me.0.limits p → Ready follows fits p a me
       → (n : ℕ) × (w : View T) × (act : Act (Option (Moving T))) × (n ≡ slice_index s.words (index p me.0.limits.seats me.0.number)) × Valid s.homes me.1 act
       × HoldsAfter l (actions ++ begins_and_step me.0.number me.0.standing p) (stepped s (index p me.0.limits.seats me.0.number) (written p me.0.number n) j me.1 w act)
+      × (state_after l (actions ++ begins_and_step me.0.number me.0.standing p) ≡ (made (put (state_after l actions) me.0.number p) me.0.number).core)
       × Advanced follows fits p a me (told p me.0.number n) (w, carried_after me.1 act)
 
-  -- a seat loads the owner word for `owner`: the run goes on by this load
-  abbrev pub OwnerLoadsGoOnWithTheRun : Type 0
-  OwnerLoadsGoOnWithTheRun =
-      (s : State (Option (Moving T)) (View T)) (l : Limits) (actions : List Action) (j : ℕ) (me : Me (Option (Moving T)) (View T)) → HoldsAfter l actions s
-      → get_elem? s.views j ≡ some me.0 → me.0.role ≡ User
-      → (w : View T) × HoldsAfter l (actions ++ loads_owner me.0.number ∷ []) (stepped s 1 (slice_index s.words 1) j me.1 w keeps) × ReadsOwner me (slice_index s.words 1) (w, me.1)
-
-  -- seats that are split off and joined again leave the run as it is
-  abbrev pub SeatsComeAndGoInARun : Type 0
-  SeatsComeAndGoInARun =
+  -- These keep the core: seats are split off and joined again, which is no action, and a seat loads the owner word for `owner`, which is one.
+  abbrev pub OtherStepsKeepTheCore : Type 0
+  OtherStepsKeepTheCore =
       (l : Limits) (actions : List Action)
       → ((v : View T) → v.role ≡ User → v.made + 2 ≤ v.limits.seats → Splits (HoldsAfter l actions) 0 v (with_split v) (split_view v))
       × ((v w : View T) (other : ℕ) → v.role ≡ User → w.role ≡ User → w.standing.point ≡ Rest → w.standing.depth ≡ 0 → Joins (HoldsAfter l actions) 0 v other w (with_joined v w) (joined w))
+      × ((s : State (Option (Moving T)) (View T)) (j : ℕ) (me : Me (Option (Moving T)) (View T)) → HoldsAfter l actions s → get_elem? s.views j ≡ some me.0 → me.0.role ≡ User
+      → (w : View T) × HoldsAfter l (actions ++ loads_owner me.0.number ∷ []) (stepped s 1 (slice_index s.words 1) j me.1 w keeps)
+      × (state_after l (actions ++ loads_owner me.0.number ∷ []) ≡ state_after l actions) × ReadsOwner me (slice_index s.words 1) (w, me.1))
 
   -- The laws of schedules
 

@@ -139,7 +139,8 @@ impl<T: Kept> Mutex<T> {
 
     /// Gives the guarded value back, and ends the mutex, where all seats are there, none holds, none sleeps and none is
     /// in a call. It is what the last hold of all left, which is that of the seat whose `ended` is the greatest, or the
-    /// opening value where no hold has ended. Otherwise it hands back the mutex and the seats, and names the first seat
+    /// opening value where no hold has ended. The trails of the seats are then their parts of one run of the core, from the
+    /// start to a free state. Otherwise it hands back the mutex and the seats, and names the first seat
     /// that hinders it, and how. It compares each of the seats' numbers with each handed in, takes no memory and never
     /// waits.
     pub fn close<P: Holder<T>>(self, seats: Vec<P>) -> Result<T, (Mutex<T>, Vec<P>, Missing)>

@@ -304,17 +304,17 @@ module _ {T : Type 0} (follows : ℕ → T → T → Type 0) (suits : T → ℕ 
         run = run_joined h.opened h.actions h.core s.views h.run v w at other at2;
       }
 
-  -- both keep the core, and the run
+  -- both keep the run
   pub splits_keep : (v : View T) (user : v.role ≡ User) (room : v.made + 2 ≤ v.limits.seats) (s : State (Option (Moving T)) (View T)) (h : Held follows suits s) (at : get_elem? s.views 0 ≡ some v)
-      → ((splits v user room s h at).core ≡ h.core) × ((splits v user room s h at).opened ≡ h.opened) × ((splits v user room s h at).actions ≡ h.actions)
+      → ((splits v user room s h at).opened ≡ h.opened) × ((splits v user room s h at).actions ≡ h.actions)
   unfolding splits
-  splits_keep v user room s h at = (refl, refl, refl)
+  splits_keep v user room s h at = (refl, refl)
 
   pub joins_keep : (v w : View T) (other : ℕ) (user : v.role ≡ User) (uses : w.role ≡ User) (rests : w.standing.point ≡ Rest) (flat : w.standing.depth ≡ 0) (s : State (Option (Moving T)) (View T)) (h : Held follows suits s)
       (at : get_elem? s.views 0 ≡ some v) (apart : ¬ (other ≡ 0)) (there : get_elem? (set s.views 0 (with_joined v w)) other ≡ some w)
-      → ((joins v w other user uses rests flat s h at apart there).core ≡ h.core) × ((joins v w other user uses rests flat s h at apart there).opened ≡ h.opened) × ((joins v w other user uses rests flat s h at apart there).actions ≡ h.actions)
+      → ((joins v w other user uses rests flat s h at apart there).opened ≡ h.opened) × ((joins v w other user uses rests flat s h at apart there).actions ≡ h.actions)
   unfolding joins
-  joins_keep v w other user uses rests flat s h at apart there = (refl, refl, refl)
+  joins_keep v w other user uses rests flat s h at apart there = (refl, refl)
 
   -- A load of the owner word
 
@@ -329,12 +329,12 @@ module _ {T : Type 0} (follows : ℕ → T → T → Type 0) (suits : T → ℕ 
     loaded = run_goes_on h.opened h.actions h.core s.views h.run (loads_owner (id + 1) ∷ []) h.core id me.0 Seen (seen TryOwnerLoad Found) at refl refl
         (λ t. owner_load_part h.core (id + 1) t ∙ ap (λ (m : ℕ). if_own (id + 1) t (seen TryOwnerLoad m)) (sym (ap (λ (ws : List ℕ). get_or ws 1 0) h.words_are)))
 
-    -- the rule goes on holding, of the same core, and the run has gone on by this load
-    pub owner_keeps : (after : Held follows suits (stepped s 1 Found id me.1 Seen keeps)) × (after.core ≡ h.core) × (after.opened ≡ h.opened) × (after.actions ≡ h.actions ++ loads_owner (id + 1) ∷ [])
+    -- the rule goes on holding, and the run has gone on by this load
+    pub owner_keeps : (after : Held follows suits (stepped s 1 Found id me.1 Seen keeps)) × (after.opened ≡ h.opened) × (after.actions ≡ h.actions ++ loads_owner (id + 1) ∷ [])
     owner_keeps =
         let q = quiet follows suits h.core h.ghost_state h.holds_ended s.homes s.views (parts s h) id me.0 Seen at refl refl refl refl refl refl refl refl refl refl refl in
         let same : SameRoot me.0 Seen = record { number = refl; limits_are = refl; opening = refl; made = refl; joined_are = refl } in
-        subst (λ (ws : List ℕ). (after : Held follows suits record { words = ws; homes = s.homes; views = set s.views id Seen }) × (after.core ≡ h.core) × (after.opened ≡ h.opened) × (after.actions ≡ h.actions ++ loads_owner (id + 1) ∷ [])) (sym (set-get_or s.words 1 0)) (
+        subst (λ (ws : List ℕ). (after : Held follows suits record { words = ws; homes = s.homes; views = set s.views id Seen }) × (after.opened ≡ h.opened) × (after.actions ≡ h.actions ++ loads_owner (id + 1) ∷ [])) (sym (set-get_or s.words 1 0)) (
           record {
             core = h.core;
             ghost_state = h.ghost_state;
@@ -357,7 +357,6 @@ module _ {T : Type 0} (follows : ℕ → T → T → Type 0) (suits : T → ℕ 
           },
           refl,
           refl,
-          refl,
         )
 
     -- what it tells
@@ -377,12 +376,6 @@ module _ {T : Type 0} (follows : ℕ → T → T → Type 0) (suits : T → ℕ 
 
   pub reads_owner : (slots id : ℕ) (me : Me (Option (Moving T)) (View T)) → me.0.role ≡ User → Allows (Held follows suits) slots id me 1 (λ n. n) (ReadsOwner me)
   reads_owner slots id me user s h sized at small = (Seen id me user s h at, keeps, tt, (owner_keeps id me user s h at).0, owner_tells id me user s h at)
-
-  pub reads_owner_of : (c : Core) (slots id : ℕ) (me : Me (Option (Moving T)) (View T)) → me.0.role ≡ User
-      → Allows (λ s. (h : Held follows suits s) × (h.core ≡ c)) slots id me 1 (λ n. n) (ReadsOwner me)
-  reads_owner_of c slots id me user s holds sized at small =
-      let h = holds.0 in let on = owner_keeps id me user s h at in
-      (Seen id me user s h at, keeps, tt, (on.0, on.1 ∙ holds.1), owner_tells id me user s h at)
 
 -- The start
 
@@ -478,9 +471,9 @@ starts {T} follows suits l ws x allowed are none_popped room fit =
 
 pub starts_at : {T : Type 0} (follows : ℕ → T → T → Type 0) (suits : T → ℕ → Type 0) (l : Limits) (ws : List ℕ) (x : Moving T) (allowed : are_in_limits l.seats l.budget ≡ true) (are : ws ≡ replicate (4 + 2 * l.seats) 0)
     (none_popped : x.popped.records ≡ []) (room : x.popped.room ≡ l.seats) (fit : suits x.value 0)
-    → ((starts follows suits l ws x allowed are none_popped room fit).core ≡ start l) × ((starts follows suits l ws x allowed are none_popped room fit).opened ≡ l) × ((starts follows suits l ws x allowed are none_popped room fit).actions ≡ [])
+    → ((starts follows suits l ws x allowed are none_popped room fit).opened ≡ l) × ((starts follows suits l ws x allowed are none_popped room fit).actions ≡ [])
 unfolding starts
-starts_at follows suits l ws x allowed are none_popped room fit = (refl, refl, refl)
+starts_at follows suits l ws x allowed are none_popped room fit = (refl, refl)
 
 -- A seat that has done nothing
 

@@ -4,7 +4,8 @@
 //! seat knows of its mutex.
 ghost use Rattle.lfm_mutex.specs.Laws.{KnowsItsMutex, PostsAreWatched, QuietTablesRest, TablesAreSteady, TakesFindARecord};
 ghost use Rattle.lfm_mutex.specs.TableStates.{RestingTablesAreFree, TablesStand};
-ghost use Rattle.lfm_mutex.specs.TableEvents.{OtherStepsKeepTheCore, TablesGoOnAsTheCore, TablesOpenAtTheStart, TablesStepAsTheCore};
+ghost use Rattle.lfm_mutex.specs.TableEvents.{TablesStepAsTheCore};
+ghost use Rattle.lfm_mutex.specs.TableRuns.{OtherStepsKeepTheCore, TablesGoOnAsTheCore, TablesOpenAtTheStart};
 ghost use Rattle.lfm_mutex.specs.EndedHolds.{HoldsAreNumbered, OneLastValue};
 
 use lfm_table::Kept;
@@ -71,9 +72,8 @@ pub fn closes_have_one_value<T: Kept>()
     ensures { OneLastValue T }
 {}
 
-/// Let a seat of the table have begun calls since its last step, or none. At the state that the table is, with these begins,
-/// the core's step leaves the word, the seat, the pop list and the turn that a running seat makes of the number that it
-/// finds.
+/// At the state that the table is, with the calls that a seat has begun since its last step, the core's step leaves the word,
+/// the seat, the pop list and the turn that the running seat makes of the number that it finds.
 ///
 /// Definition: `TablesStepAsTheCore` in `specs/TableEvents.antt`. Proof: `proofs/TableEvents.antt`.
 pub fn tables_step_as_the_core<T: Kept>()
@@ -81,25 +81,24 @@ pub fn tables_step_as_the_core<T: Kept>()
 {}
 
 /// Each atomic step of a running seat leads from the state of the core that the table is, with the begins before this step, to
-/// the state that the core's step makes of it: the seat has a new view, and takes the moving value or gives it back, so that
-/// the table is that state then.
+/// the state that the core's step makes of it. The run goes on by these begins and the step.
 ///
-/// Definition: `TablesGoOnAsTheCore` in `specs/TableEvents.antt`. Proof: `proofs/TableEvents.antt`.
+/// Definition: `TablesGoOnAsTheCore` in `specs/TableRuns.antt`. Proof: `proofs/TableRuns.antt`.
 pub fn tables_go_on_as_the_core<T: Kept>()
     ensures { TablesGoOnAsTheCore T.follows T.fits }
 {}
 
-/// The table of a new mutex is the state of the core at its start.
+/// The table of a new mutex is the state of the core at its start, and its run is empty.
 ///
-/// Definition: `TablesOpenAtTheStart` in `specs/TableEvents.antt`. Proof: `proofs/TableEvents.antt`.
+/// Definition: `TablesOpenAtTheStart` in `specs/TableRuns.antt`. Proof: `proofs/TableRuns.antt`.
 pub fn tables_open_at_the_start<T: Kept>()
     ensures { TablesOpenAtTheStart T.follows T.fits }
 {}
 
 /// A seat that is split off by `new`, is joined again by `close`, or loads the owner word for `owner`, keeps the state of the
-/// core that the table is.
+/// core that the table is. Of these the load alone is in the run.
 ///
-/// Definition: `OtherStepsKeepTheCore` in `specs/TableEvents.antt`. Proof: `proofs/TableEvents.antt`.
+/// Definition: `OtherStepsKeepTheCore` in `specs/TableRuns.antt`. Proof: `proofs/TableRuns.antt`.
 pub fn other_steps_keep_the_core<T: Kept>()
     ensures { OtherStepsKeepTheCore T.follows T.fits }
 {}

@@ -1,4 +1,4 @@
-use Rattle.lfm_mutex.proofs.TableEvents.{other_steps_keep_the_core}
+use Rattle.lfm_mutex.proofs.TableRuns.{other_steps_keep_the_core}
 use Rattle.lfm_mutex.proofs.laws.other_steps_keep_the_core.Goals as goal
 
 pub returns : goal.returns

@@ -1,4 +1,4 @@
-use Rattle.lfm_mutex.proofs.TableEvents.{tables_go_on_as_the_core}
+use Rattle.lfm_mutex.proofs.TableRuns.{tables_go_on_as_the_core}
 use Rattle.lfm_mutex.proofs.laws.tables_go_on_as_the_core.Goals as goal
 
 pub returns : goal.returns

@@ -1,4 +1,4 @@
-use Rattle.lfm_mutex.proofs.TableEvents.{tables_open_at_the_start}
+use Rattle.lfm_mutex.proofs.TableRuns.{tables_open_at_the_start}
 use Rattle.lfm_mutex.proofs.laws.tables_open_at_the_start.Goals as goal
 
 pub returns : goal.returns

@@ -1,0 +1,72 @@
+//! The laws of the run of a running mutex. The rule of the table carries a run of the core: the actions of all seats since the
+//! table was opened, in order, of which each seat's trail is its part. An action is a call that a seat begins, a step of a
+//! seat, or a load of the owner word by `owner`. How the run goes on is said in `laws`. Each function here does nothing: its
+//! contract is the law.
+ghost use Rattle.lfm_mutex.specs.TableRuns.{
+  TablesEndCalls,
+  TablesGoThroughReachedStates,
+  TablesHaveARun,
+  TablesOvertakeOnce,
+  TablesRunAsTheAbstractMutex,
+  TablesServeInPushOrder,
+  TrailsTellTheAnswers,
+  TrailsTellThePushes,
+};
+
+use lfm_table::Kept;
+
+/// At every moment some run of the core has led from its start to the words and seats of the table, and each trail is its
+/// seat's part of it.
+///
+/// Definition: `TablesHaveARun` in `specs/TableRuns.antt`. Proof: `proofs/TableRuns.antt`.
+pub fn tables_have_a_run<T: Kept>()
+    ensures { TablesHaveARun T.follows T.fits }
+{}
+
+/// Each moment of a table's run is a reached state, from which the events since lead to the table. So every law of schedules is
+/// about it.
+///
+/// Definition: `TablesGoThroughReachedStates` in `specs/TableRuns.antt`. Proof: `proofs/TableRuns.antt`.
+pub fn tables_go_through_reached_states<T: Kept>()
+    ensures { TablesGoThroughReachedStates T.follows T.fits }
+{}
+
+/// Refinement: a table's run, read state by state, is a run of the abstract mutex that begins free.
+///
+/// Definition: `TablesRunAsTheAbstractMutex` in `specs/TableRuns.antt`. Proof: `proofs/TableRuns.antt`.
+pub fn tables_run_as_the_abstract_mutex<T: Kept>()
+    ensures { TablesRunAsTheAbstractMutex T.follows T.fits }
+{}
+
+/// First come, first served, of a table's run: `queue_is_in_push_order` from each moment on. In all, the stamps are 1, 2, 3 and
+/// on, and the answers `Held Queued` are the records that left, or all but the last.
+///
+/// Definition: `TablesServeInPushOrder` in `specs/TableRuns.antt`. Proof: `proofs/TableRuns.antt`.
+pub fn tables_serve_in_push_order<T: Kept>()
+    ensures { TablesServeInPushOrder T.follows T.fits }
+{}
+
+/// From each moment of a table's run on: `queued_seats_are_overtaken_once`, `queued_seats_wait_for_few_releases`, and
+/// `no_seat_overtakes_twice`, also by the seat's trail.
+///
+/// Definition: `TablesOvertakeOnce` in `specs/TableRuns.antt`. Proof: `proofs/TableRuns.antt`.
+pub fn tables_overtake_once<T: Kept>()
+    ensures { TablesOvertakeOnce T.follows T.fits }
+{}
+
+/// Since each moment of a table's run, with k calls ended since, at most (5N + 5)(N + k) steps of calls were made. The trails tell
+/// just these, and the loads for `owner`.
+///
+/// Definition: `TablesEndCalls` in `specs/TableRuns.antt`. Proof: `proofs/TableRuns.antt`.
+pub fn tables_end_calls<T: Kept>()
+    ensures { TablesEndCalls T.follows T.fits }
+{}
+
+/// A seat's trail tells just the records that it pushed in its table's run, and those by which it answered `Held Queued`.
+///
+/// Definitions: `TrailsTellThePushes` and `TrailsTellTheAnswers` in `specs/TableRuns.antt`. Proofs: `proofs/TableRuns.antt` and
+/// `proofs/RunTrails.antt`.
+pub fn trails_tell_the_records<T: Kept>()
+    ensures pushes { TrailsTellThePushes T.follows T.fits }
+    ensures answers { TrailsTellTheAnswers T.follows T.fits }
+{}

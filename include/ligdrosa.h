@@ -81,14 +81,15 @@ typedef enum lfm_status {
 /* Whether the call was refused. */
 static inline bool lfm_is_refused(lfm_status status) { return status >= LFM_BLANK; }
 
-/* The library's own calls. Programs use those below. A handle is memory of the size and alignment that the library tells. A
- * mutex's whose bytes are 0 is blank, and a seat's is made so by a call. A call answers a status in the low 8 bits. Above it an
- * ask, unlock, start_wait or send tells the number of the seat that it granted the mutex and that is to be woken, or 0, and a close
- * that is refused tells the first seat that hinders it. */
+/* The library's own calls. Programs use those below. A handle is memory of the size and alignment that the library tells, and a
+ * call makes it blank before any other is given it. A call answers a status in the low 8 bits. Above it an ask, unlock, start_wait
+ * or send tells the number of the seat that it granted the mutex and that is to be woken, or 0, and a close that is refused tells
+ * the first seat that hinders it. */
 size_t lfm_c_mutex_size(void);
 size_t lfm_c_mutex_align(void);
 size_t lfm_c_seat_size(void);
 size_t lfm_c_seat_align(void);
+void lfm_c_blank_mutex(void *mutex);
 void lfm_c_blank_seat(void *seat);
 uint64_t lfm_c_open(void *mutex, uint64_t seats, uint64_t budget);
 uint64_t lfm_c_take_seat(void *mutex, void *seat);
@@ -289,7 +290,7 @@ static inline lfm_status lfm_mutex_new(lfm_mutex *mutex, uint64_t seats, uint64_
   if (mutex->bells) return LFM_TAKEN;
   if (lfm_c_mutex_size() > LFM_MUTEX_BYTES || lfm_c_mutex_align() > LFM_ALIGNMENT) return LFM_OTHER_HEADER;
   if (lfm_c_seat_size() > LFM_SEAT_BYTES || lfm_c_seat_align() > LFM_ALIGNMENT) return LFM_OTHER_HEADER;
-  memset(mutex->handle, 0, LFM_MUTEX_BYTES);
+  lfm_c_blank_mutex(mutex->handle);
   lfm_status status = (lfm_status)lfm_c_open(mutex->handle, seats, budget);
   if (status != LFM_DONE) return status;
   size_t bytes = (seats + 1) * sizeof(lfm_bell);

@@ -6,6 +6,7 @@ extern "C" {
     pub fn lfm_c_mutex_align() -> usize;
     pub fn lfm_c_seat_size() -> usize;
     pub fn lfm_c_seat_align() -> usize;
+    pub fn lfm_c_blank_mutex(mutex: *mut c_void);
     pub fn lfm_c_blank_seat(seat: *mut c_void);
     pub fn lfm_c_open(mutex: *mut c_void, seats: u64, budget: u64) -> u64;
     pub fn lfm_c_take_seat(mutex: *mut c_void, seat: *mut c_void) -> u64;

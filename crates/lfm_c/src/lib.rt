@@ -32,6 +32,7 @@ mod reading;
 mod status;
 
 use crate::handles::{MutexHandle, SeatHandle};
+use std::alloc::Global;
 use std::mem::{align_of, size_of};
 
 /// How many bytes the handle of a mutex has.
@@ -215,6 +216,15 @@ pub unsafe extern "C" fn lfm_c_send(seat: *mut u8, number: u64) -> u64
     ensures* { sem 𝓛 (leaves (λ (y : SeatNow). lies_at seat_row full_share seat y) (λ y. TellsSend x number y result)) }
 {
     calls::send(&mut *(seat as *mut SeatHandle), number)
+}
+
+/// Writes the blank handle of a mutex. C passes the pointer alone: an allocator has no bytes.
+#[unsafe(no_mangle)]
+pub unsafe extern "C" fn lfm_c_blank_mutex(alloc: Global, mutex: *mut u8)
+    requires* { sem 𝓛 (room_at mutex_row mutex) }
+    ensures* { sem 𝓛 (lies_at mutex_row full_share mutex (record { alloc = alloc; whole = None })) }
+{
+    (mutex as *mut MutexHandle).write(handles::blank_mutex(alloc));
 }
 
 /// Writes the blank handle of a seat.

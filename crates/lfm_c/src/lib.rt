@@ -67,6 +67,24 @@ pub extern "C" fn lfm_c_seat_align() -> usize
     align_of::<SeatHandle>()
 }
 
+/// Writes the blank handle of a mutex. C passes the pointer alone: an allocator has no bytes.
+#[unsafe(no_mangle)]
+pub unsafe extern "C" fn lfm_c_blank_mutex(alloc: Global, mutex: *mut u8)
+    requires* { sem 𝓛 (room_at mutex_row mutex) }
+    ensures* { sem 𝓛 (lies_at mutex_row full_share mutex (record { alloc = alloc; whole = None })) }
+{
+    (mutex as *mut MutexHandle).write(handles::blank_mutex(alloc));
+}
+
+/// Writes the blank handle of a seat.
+#[unsafe(no_mangle)]
+pub unsafe extern "C" fn lfm_c_blank_seat(seat: *mut u8)
+    requires* { sem 𝓛 (room_at seat_row seat) }
+    ensures* { sem 𝓛 (lies_at seat_row full_share seat (record { seated = None })) }
+{
+    (seat as *mut SeatHandle).write(handles::blank_seat());
+}
+
 /// Opens a mutex with this many seats, 1 to 4,095, each of which may take it as often as the budget says, 1 to 2^36.
 ///
 /// Done, or Taken (the handle is not blank), Limit, Memory, which change nothing. No other export takes memory.
@@ -216,22 +234,4 @@ pub unsafe extern "C" fn lfm_c_send(seat: *mut u8, number: u64) -> u64
     ensures* { sem 𝓛 (leaves (λ (y : SeatNow). lies_at seat_row full_share seat y) (λ y. TellsSend x number y result)) }
 {
     calls::send(&mut *(seat as *mut SeatHandle), number)
-}
-
-/// Writes the blank handle of a mutex. C passes the pointer alone: an allocator has no bytes.
-#[unsafe(no_mangle)]
-pub unsafe extern "C" fn lfm_c_blank_mutex(alloc: Global, mutex: *mut u8)
-    requires* { sem 𝓛 (room_at mutex_row mutex) }
-    ensures* { sem 𝓛 (lies_at mutex_row full_share mutex (record { alloc = alloc; whole = None })) }
-{
-    (mutex as *mut MutexHandle).write(handles::blank_mutex(alloc));
-}
-
-/// Writes the blank handle of a seat.
-#[unsafe(no_mangle)]
-pub unsafe extern "C" fn lfm_c_blank_seat(seat: *mut u8)
-    requires* { sem 𝓛 (room_at seat_row seat) }
-    ensures* { sem 𝓛 (lies_at seat_row full_share seat (record { seated = None })) }
-{
-    (seat as *mut SeatHandle).write(handles::blank_seat());
 }

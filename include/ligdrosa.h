@@ -2,7 +2,8 @@
  *
  * The calls of the mutex are those of a static library, liblfm_c.a, whose code is proved. It neither sleeps nor wakes. This
  * header adds what isn't proved: how a thread sleeps until its seat is granted the mutex, how it is woken, how seats are taken and
- * given back, and the list of those that wait at a condition variable.
+ * given back, and the list of those that wait at a condition variable. No call's own contract says that no two seats hold at once:
+ * that follows from the rule that each step of the library keeps (docs/LAWS.md, tables_are_steady and one_seat_owns).
  *
  *     static lfm_mutex mutex;
  *     static _Thread_local lfm_seat seat;            one for each thread (thread_local in C++), given back before the thread ends

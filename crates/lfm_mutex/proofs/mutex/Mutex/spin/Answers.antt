@@ -1,5 +1,4 @@
-use Rattle.std.proofs.Common.{◌≡◌, ◌+◌, ◌-◌, Some, None, sym, subst, arith, rules}
-use Rattle.lfm_mutex.specs.calls.Barging.{TriesBy}
+use Rattle.std.proofs.Common.{◌+◌, ◌-◌, Some, None, arith, rules}
 use Rattle.lfm_mutex.specs.calls.Sight.{sight}
 use Rattle.lfm_mutex.proofs.BargingEnds.{gains_after, no_tries, still_may_try, tries_fewer, tries_join}
 use Rattle.lfm_mutex.proofs.mutex.Mutex.spin.Goals as goal

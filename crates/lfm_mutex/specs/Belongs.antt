@@ -11,7 +11,7 @@ limits_of m = m.limits
 
 -- the seat is one of the mutex's
 abbrev pub OfMutex : {T : Type 0} → Seat T → Mutex T → Type 0
-OfMutex s m = (s.place.table_id ≡ m.table.shared.table_id) × (s.limits ≡ m.limits)
+OfMutex s m = (s.place.table_id ≡ m.table.table_id) × (s.limits ≡ m.limits)
 
 -- both are seats of one mutex
 abbrev pub Beside : {T : Type 0} → Seat T → Seat T → Type 0

@@ -12,7 +12,7 @@ use crate::seat::Seat;
 use crate::try_lock::try_free;
 use lfm_model::{How, Locked, Refusal};
 use lfm_table::Kept;
-use lfm_table::layout::{COUNT, wake_at};
+use lfm_table::layout::wake_at;
 use lfm_table::parking::park_for;
 use std::sync::Wait;
 use std::thread::yield_now;
@@ -130,7 +130,7 @@ impl<T: Kept> Mutex<T> {
     {
         'spins: for made in 1..self.pace.spins {
             pause_for(1 << (made - 1).min(MOST_DOUBLINGS));
-            let count = self.table.shared.peek(COUNT);
+            let count = self.table.look_at_count();
             match self.try_if_free(seat, count) {
                 Some(how) => return Some(how),
                 None => {}
@@ -154,7 +154,7 @@ impl<T: Kept> Mutex<T> {
     {
         let wake = wake_at(seat.limits.seats, seat.number);
         'naps: for made in 0..self.pace.naps {
-            let found = self.table.shared.peek(COUNT);
+            let found = self.table.look_at_count();
             if self.pace.is_crowd(found) {
                 return None;
             }
@@ -175,18 +175,18 @@ impl<T: Kept> Mutex<T> {
 
     // The count after a nap.
     fn count_after_nap<R: Wait>(&self, rt: &R, wake: usize) -> u64
-        requires { wake < self.now.table.shared.table_id.words }
+        requires { wake < self.now.table.table_id.words }
     {
         let nap = Duration::from_micros(NAP_MICROSECONDS);
-        park_for(rt, &self.table.shared, wake, nap);
-        self.table.shared.peek(COUNT)
+        park_for(rt, &self.table, wake, nap);
+        self.table.look_at_count()
     }
 
     // The count after a yield. The system may have put the thread that holds the mutex, or was just granted it, on this processor.
     // A yield lets that thread run at once. A sleep instead of it would last some 70 microseconds.
     fn count_after_yield(&self) -> u64 {
         yield_now();
-        self.table.shared.peek(COUNT)
+        self.table.look_at_count()
     }
 
     // One try if the count that was found is 0, and none otherwise. A look costs the holder less than a try that fails. It is the fast

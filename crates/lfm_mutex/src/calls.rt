@@ -39,7 +39,7 @@ fn either(first: Option<WakeUp>, then: Option<WakeUp>) -> Option<WakeUp>
 /// Makes the steps of the open call to its end.
 #[inline(never)]
 pub fn finish<T: Kept>(mutex: &Mutex<T>, seat: &mut Seat<T>) -> (Turn, Option<WakeUp>)
-    requires belongs { seat.old.place.table_id ≡ mutex.now.table.shared.table_id }
+    requires belongs { seat.old.place.table_id ≡ mutex.now.table.table_id }
     requires open { errand seat.old.standing.point ≢ nothing }
     requires keeps { is_release seat.old.standing.point ≡ false }
     ensures belongs { seat.new.place.table_id ≡ seat.old.place.table_id }
@@ -106,7 +106,7 @@ pub fn release<T: Kept>(mutex: &Mutex<T>, seat: &mut Seat<T>, call: Call) -> (Tu
 
 /// Makes the steps of the open call, of which the first may be the store that ends a hold.
 fn finish_release<T: Kept>(mutex: &Mutex<T>, seat: &mut Seat<T>) -> (Turn, Option<WakeUp>)
-    requires belongs { seat.old.place.table_id ≡ mutex.now.table.shared.table_id }
+    requires belongs { seat.old.place.table_id ≡ mutex.now.table.table_id }
     requires gives { (r : Releaser) × (seat.old.standing.point ≡ ReleaseOwnerStore r) }
     requires leaves { MayBeLeft T.follows T.fits seat.old.moving seat.old.place.me.0 }
     ensures belongs { seat.new.place.table_id ≡ seat.old.place.table_id }

@@ -1,8 +1,7 @@
 //! How a mutex is closed: all seats are joined into seat 1, and the value is taken out of the table.
-ghost use Rattle.std.specs.Prelude.{◌≡◌, ◌<◌, ◌≤◌, ℕ, [], Some, IfErr, IfOk, MatchOption, vec_len};
+ghost use Rattle.std.specs.Prelude.{◌≡◌, ◌<◌, ◌≤◌, ℕ, [], Some, IfErr, IfOk, MatchOption, length, vec_len};
 ghost use mathlib.Core.Option.{some};
 ghost use lib.ListN.{get_elem?};
-ghost use Rattle.std.specs.Slots.{IsFull, slots_items, slots_len};
 ghost use Rattle.lfm_model.specs.SeatNumbers.{IsSeatNo};
 ghost use Rattle.lfm_protocol.specs.declared.points.Point.TheVariants.{Rest};
 ghost use Rattle.lfm_table.specs.declared.seat_view.Role.TheVariants.{User};
@@ -15,14 +14,12 @@ ghost use Rattle.lfm_table.specs.Rule.{with_joined};
 use crate::holder::Holder;
 use crate::mutex::Mutex;
 use crate::seat::Seat;
-use atomic_table::Closed;
 use lfm_model::{Missing, SeatNo};
 use lfm_table::Kept;
-use lfm_table::layout::SLOT;
 use lfm_table::moving_box::MovingBox;
-use lfm_table::rule::{JoinedView, SeatJoin};
-use lfm_table::table_steps::{Place, SharedTable};
-use std::alloc::Global;
+use lfm_table::rule::JoinedView;
+use lfm_table::shared_table::closing::ClosedTable;
+use lfm_table::shared_table::{Place, SharedTable};
 use std::marker::Brand;
 
 // Why this seat can't be joined.
@@ -109,19 +106,16 @@ fn retire<T: Kept, B: JoinedView<T>>(table: &SharedTable<T>, root: &mut Place<T>
     ensures table { (root.new.table_id ≡ root.old.table_id) × (root.new.id ≡ root.old.id) }
     ensures joined { root.new.me ≡ (with_joined root.old.me.0 place.me.0, root.old.me.1) }
 {
-    table.join_seat::<SeatJoin<B>>(root, place);
+    table.join_seat::<B>(root, place);
 }
 
 // Takes what lies in the slot of a table, which is closed while nobody counts, nothing is posted and nobody is queued.
-fn take_slot<T: Kept>(closed: Closed<Option<MovingBox<T>>, Global>) -> Option<MovingBox<T>>
-    requires free { AreFree (slots_items closed.words) }
-    requires slot { (slots_len closed.slots ≡ 1) × IsFull closed.slots }
-    ensures { get_elem? (slots_items closed.slots) 0 ≡ some result }
+fn take_slot<T: Kept>(closed: ClosedTable<T>) -> Option<MovingBox<T>>
+    requires free { AreFree closed.words }
+    requires slot { length closed.slots ≡ 1 }
+    ensures { get_elem? closed.slots 0 ≡ some result }
 {
-    let mut closed = closed;
-    let slot = closed.take(SLOT);
-    closed.free();
-    slot
+    closed.into_slot()
 }
 
 impl<T: Kept> Mutex<T> {
@@ -168,7 +162,7 @@ impl<T: Kept> Mutex<T> {
         let mut root = into_place::<T, P>(seats.remove(at));
         while let Some(seat) = seats.pop() {
             let place = into_place::<T, P>(seat);
-            retire::<T, Brand>(&table.shared, &mut root, place);
+            retire::<T, Brand>(&table, &mut root, place);
         }
         let Some(moving) = take_slot(table.close_with(root)) else {
             unreachable!()

@@ -33,7 +33,7 @@ use std::sync::Wait;
 /// Makes the steps of the open call of lock to its end.
 #[inline(always)]
 pub(crate) fn ask_on<T: Kept>(mutex: &Mutex<T>, seat: &mut Seat<T>) -> (Asked, Option<WakeUp>)
-    requires belongs { seat.old.place.table_id ≡ mutex.now.table.shared.table_id }
+    requires belongs { seat.old.place.table_id ≡ mutex.now.table.table_id }
     requires locks { errand seat.old.standing.point ≡ locking }
     ensures belongs { seat.new.place.table_id ≡ seat.old.place.table_id }
     ensures same { (seat.new.number ≡ seat.old.number) × (seat.new.limits ≡ seat.old.limits) }
@@ -91,7 +91,7 @@ pub fn ask_free<T: Kept>(
     ensures wakes { Wakes (limits_of mutex.now).seats result.1 (sight seat.old).trail (sight seat.new).trail }
 {
     let _budget = budget;
-    let table = &mutex.table.shared;
+    let table = &mutex.table;
     let takes = seat.standing.takes + 1;
     let mut data = SeatData {
         number: seat.number,
@@ -128,7 +128,7 @@ pub fn ask_again<T: Kept>(mutex: &Mutex<T>, seat: &mut Seat<T>) -> (Asked, Optio
     ensures bounded { MakesBesideFailures ((limits_of mutex.now).seats + 9) (sight seat.old) (sight seat.new) }
     ensures wakes { Wakes (limits_of mutex.now).seats result.1 (sight seat.old).trail (sight seat.new).trail }
 {
-    let table = &mutex.table.shared;
+    let table = &mutex.table;
     let number = seat.number;
     let depth = seat.standing.depth;
     let mut data = SeatData {

@@ -3,17 +3,9 @@ ghost use Rattle.std.specs.Prelude.{◌≡◌, ◌+◌, ◌*◌, ◌<◌, ◌≤
 ghost use Rattle.lfm_protocol.specs.Limits.{max_seats};
 
 use crate::pace::Pace;
-use atomic_table::Table;
 use lfm_protocol::Limits;
 use lfm_table::Kept;
-use lfm_table::layout::COUNT;
-use lfm_table::moving_box::MovingBox;
-use lfm_table::rule::{Key, MutexRule};
-use lfm_table::seat_view::View;
-use std::alloc::Global;
-
-/// The words of a mutex, with the rule that they and its seats keep.
-pub(crate) type WordTable<T> = Table<Option<MovingBox<T>>, View<T>, Key<T>, MutexRule, Global>;
+use lfm_table::shared_table::SharedTable;
 
 /// A mutex round a value of type T: at most one seat at a time holds it, and reaches the value. Its calls are made through a
 /// shared reference and one of its seats. A call with the seat of another mutex breaks the condition that every call has.
@@ -38,11 +30,11 @@ pub(crate) type WordTable<T> = Table<Option<MovingBox<T>>, View<T>, Key<T>, Mute
 /// ```
 #[derive(Drop)]
 pub struct Mutex<T: Kept> {
-    pub(crate) table: WordTable<T>,
+    pub(crate) table: SharedTable<T>,
     pub(crate) limits: Limits,
     pub(crate) pace: Pace,
-    pub ghost words: { table.shared.table_id.words ≡ 4 + 2 * limits.seats },
-    pub ghost slots: { table.shared.table_id.slots ≡ 1 },
+    pub ghost words: { table.table_id.words ≡ 4 + 2 * limits.seats },
+    pub ghost slots: { table.table_id.slots ≡ 1 },
     pub ghost some: { 0 < limits.seats },
     pub ghost few: { limits.seats ≤ max_seats },
 }
@@ -51,7 +43,7 @@ impl<T: Kept> Mutex<T> {
     /// How many seats hold the mutex or want it, as one look finds: those that queue count, and those that spin or nap don't. It is
     /// a hint, since it may change at once. A look is no atomic step of the protocol.
     pub fn count(&self) -> u64 {
-        self.table.shared.peek(COUNT)
+        self.table.look_at_count()
     }
 
     /// How a seat waits for this mutex.

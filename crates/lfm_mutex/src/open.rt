@@ -11,17 +11,16 @@ ghost use Rattle.lfm_mutex.specs.Paces.{usual_pace};
 ghost use Rattle.lfm_mutex.specs.calls.Sight.{sight, new_sight};
 ghost use Rattle.lfm_table.specs.Rule.{first_view};
 
-use crate::mutex::{Mutex, WordTable};
+use crate::mutex::Mutex;
 use crate::pace::Pace;
 use crate::seat::Seat;
-use atomic_table::Table;
 use lfm_model::NewFault;
 use lfm_protocol::points::Point;
 use lfm_protocol::{Limits, SeatState};
 use lfm_table::Kept;
 use lfm_table::moving_box::MovingBox;
-use lfm_table::rule::{Key, SeatSplit};
-use lfm_table::table_steps::Place;
+use lfm_table::rule::Key;
+use lfm_table::shared_table::{Place, SharedTable};
 use lfm_words::PopList;
 use std::alloc::Global;
 use std::snapshot::Snapshot;
@@ -46,10 +45,10 @@ fn laid_out<T: Kept>(
     alloc: Global,
     limits: Limits,
     value: T,
-) -> Result<(WordTable<T>, Place<T>), NewFault>
+) -> Result<(SharedTable<T>, Place<T>), NewFault>
     requires allowed { are_in_limits limits.seats limits.budget ≡ true }
     requires fits { T.fits value 0 }
-    ensures ok { IfOk result (λ r. (r.0.shared.table_id.words ≡ 4 + 2 * limits.seats) × (r.0.shared.table_id.slots ≡ 1) × (r.1.table_id ≡ r.0.shared.table_id) × (r.1.id ≡ 0) × (r.1.me ≡ (first_view limits value, []))) }
+    ensures ok { IfOk result (λ r. (r.0.table_id.words ≡ 4 + 2 * limits.seats) × (r.0.table_id.slots ≡ 1) × (r.1.table_id ≡ r.0.table_id) × (r.1.id ≡ 0) × (r.1.me ≡ (first_view limits value, []))) }
     ensures err { IfErr result (λ e. e ≡ NewFault.Memory) }
 {
     let about = Key {
@@ -69,7 +68,7 @@ fn laid_out<T: Kept>(
     let Ok(words) = Vec::from_elem(alloc, 0u64, 4 + 2 * limits.seats as usize) else {
         return Err(NewFault::Memory);
     };
-    let Ok(laid) = Table::new(alloc, words.as_slice(), slots, &about) else {
+    let Ok(laid) = SharedTable::new(alloc, words.as_slice(), slots, &about) else {
         return Err(NewFault::Memory);
     };
     Ok(laid)
@@ -108,7 +107,7 @@ impl<T: Kept> Mutex<T> {
             Err(fault) => return Err(fault),
         };
         for i in 1..seats {
-            let place = table.shared.split_seat::<SeatSplit>(&mut root);
+            let place = table.split_seat(&mut root);
             all.push_reserved(Seat {
                 place,
                 number: i + 1,

@@ -7,8 +7,6 @@ use crate::mutex::Mutex;
 use crate::seat::Seat;
 use lfm_model::SeatNo;
 use lfm_table::Kept;
-use lfm_table::layout::OWNER;
-use lfm_table::rule::OwnerRead;
 
 impl<T: Kept> Mutex<T> {
     /// The seat that the owner word names, by one load; None where no seat owns the mutex. It answers the caller's own
@@ -19,7 +17,7 @@ impl<T: Kept> Mutex<T> {
         ensures belongs { Beside seat.old seat.new }
         ensures tells { TellsOwner (sight seat.old) (sight seat.new) result }
     {
-        let found = self.table.shared.load::<OwnerRead>(&mut seat.place, OWNER);
+        let found = self.table.read_owner(&mut seat.place);
         SeatNo::new(found)
     }
 }

@@ -45,7 +45,7 @@ pub(crate) fn stand_beside_post(standing: &mut SeatState, pusher: Pusher, found:
 /// Makes the steps of an open call of lock that found others in the count, to its end, for a seat that doesn't hold.
 #[inline(never)]
 pub(crate) fn queue<T: Kept>(mutex: &Mutex<T>, seat: &mut Seat<T>) -> (Asked, Option<WakeUp>)
-    requires belongs { seat.old.place.table_id ≡ mutex.now.table.shared.table_id }
+    requires belongs { seat.old.place.table_id ≡ mutex.now.table.table_id }
     requires stands { seat.old.standing.point ≡ LockOwnerLoad }
     requires flat { seat.old.standing.depth ≡ 0 }
     ensures belongs { seat.new.place.table_id ≡ seat.old.place.table_id }
@@ -54,7 +54,7 @@ pub(crate) fn queue<T: Kept>(mutex: &Mutex<T>, seat: &mut Seat<T>) -> (Asked, Op
     ensures spends { Spends (due seat.old.limits.seats (length seat.old.place.me.0.popped) seat.old.standing.point) 0 seat.old.place.me.0.trail seat.new.place.me.0.trail }
     ensures wakes { Wakes seat.old.limits.seats result.1 seat.old.place.me.0.trail seat.new.place.me.0.trail }
 {
-    let table = &mutex.table.shared;
+    let table = &mutex.table;
     let mut data = SeatData {
         number: seat.number,
         limits: seat.limits,

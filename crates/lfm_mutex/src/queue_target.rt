@@ -29,7 +29,7 @@ pub(crate) fn queue_target<T: Kept>(
     seat: &mut Seat<T>,
     target: u64,
 ) -> (Result<(), Refusal>, Option<WakeUp>)
-    requires belongs { seat.old.place.table_id ≡ mutex.now.table.shared.table_id }
+    requires belongs { seat.old.place.table_id ≡ mutex.now.table.table_id }
     requires stands { seat.old.standing.point ≡ PushLoad (PusherNow.Sender target) }
     ensures belongs { seat.new.place.table_id ≡ seat.old.place.table_id }
     ensures same { (seat.new.number ≡ seat.old.number) × (seat.new.limits ≡ seat.old.limits) }
@@ -38,7 +38,7 @@ pub(crate) fn queue_target<T: Kept>(
     ensures spends { Spends (due seat.old.limits.seats (length seat.old.place.me.0.popped) seat.old.standing.point) 0 seat.old.place.me.0.trail seat.new.place.me.0.trail }
     ensures wakes { Wakes seat.old.limits.seats result.1 seat.old.place.me.0.trail seat.new.place.me.0.trail }
 {
-    let table = &mutex.table.shared;
+    let table = &mutex.table;
     let pusher = Pusher::Sender(target);
     let mut data = SeatData {
         number: seat.number,

@@ -18,7 +18,7 @@ use crate::seat::Seat;
 use lfm_model::{How, Refusal};
 use lfm_protocol::points::{Entrant, Point, Sleeper};
 use lfm_protocol::{Answer, Call, SeatState, Turn};
-use lfm_table::layout::{COUNT, wake_at};
+use lfm_table::layout::wake_at;
 use lfm_table::parking::park;
 use lfm_table::straight_steps::{load_grant, store_held, store_wake_kept};
 use lfm_table::wake_words::{FIRST_GRANT, stamp_in};
@@ -49,7 +49,7 @@ pub fn receive_asleep<T: Kept>(
     ensures belongs { Beside seat.old seat.new }
     ensures made { ComesTo T.follows T.fits (limits_of mutex.now) CallNow.Receive (sight seat.old) (sight seat.new) (Ended (Answered.Got result)) }
 {
-    let table = &mutex.table.shared;
+    let table = &mutex.table;
     let mut data = SeatData {
         number: seat.number,
         limits: seat.limits,
@@ -86,7 +86,7 @@ impl<T: Kept> Mutex<T> {
         ensures receives { ReceivesLock T.follows T.fits (sight seat.old) (sight seat.new) result }
         ensures steps { ReceivesBy (limits_of self.now) (sight seat.old) (sight seat.new) result }
     {
-        let count = self.table.shared.peek(COUNT);
+        let count = self.table.look_at_count();
         self.receive_lock_within(rt, seat, self.pace.looks_at(count))
     }
 
@@ -120,15 +120,15 @@ impl<T: Kept> Mutex<T> {
     // Waits for a grant in the wake word: looks while some looks are left, and then sleeps while the word is no grant. A look
     // is a load, so it makes no step of the seat, and is kept off the line of the word by some pauses.
     fn await_grant<R: Wait>(&self, rt: &R, wake: usize, looks: u32) -> u32
-        requires { wake < self.now.table.shared.table_id.words }
+        requires { wake < self.now.table.table_id.words }
     {
         for made in 0..looks {
             pause();
-            if self.table.shared.peek(wake) >= FIRST_GRANT {
+            if self.table.look_at_wake(wake) >= FIRST_GRANT {
                 return looks - made - 1;
             }
         }
-        park(rt, &self.table.shared, wake);
+        park(rt, &self.table, wake);
         0
     }
 

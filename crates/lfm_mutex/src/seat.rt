@@ -13,7 +13,7 @@ use lfm_protocol::points::Point;
 use lfm_protocol::{Limits, SeatState};
 use lfm_table::Kept;
 use lfm_table::moving_box::MovingBox;
-use lfm_table::table_steps::Place;
+use lfm_table::shared_table::Place;
 
 /// What one thread uses the mutex with. A seat may move between threads, and each call borrows it for its whole length.
 /// Dropped while it holds or sleeps, it keeps what it holds: nobody else gains that.

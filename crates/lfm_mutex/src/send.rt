@@ -31,7 +31,7 @@ pub(crate) fn send_on<T: Kept>(
     mutex: &Mutex<T>,
     seat: &mut Seat<T>,
 ) -> (Result<(), Refusal>, Option<WakeUp>)
-    requires belongs { seat.old.place.table_id ≡ mutex.now.table.shared.table_id }
+    requires belongs { seat.old.place.table_id ≡ mutex.now.table.table_id }
     requires sends { errand seat.old.standing.point ≡ sending }
     ensures belongs { seat.new.place.table_id ≡ seat.old.place.table_id }
     ensures same { (seat.new.number ≡ seat.old.number) × (seat.new.limits ≡ seat.old.limits) }
@@ -63,7 +63,7 @@ fn send_free<T: Kept>(
     seat: &mut Seat<T>,
     target: u64,
 ) -> (Result<(), Refusal>, Option<WakeUp>)
-    requires belongs { seat.old.place.table_id ≡ mutex.now.table.shared.table_id }
+    requires belongs { seat.old.place.table_id ≡ mutex.now.table.table_id }
     requires stands { seat.old.standing.point ≡ SendCountAdd target }
     requires flat { seat.old.standing.depth ≡ 0 }
     ensures belongs { seat.new.place.table_id ≡ seat.old.place.table_id }
@@ -73,7 +73,7 @@ fn send_free<T: Kept>(
     ensures spends { Spends (due seat.old.limits.seats (length seat.old.place.me.0.popped) seat.old.standing.point) 0 seat.old.place.me.0.trail seat.new.place.me.0.trail }
     ensures wakes { Wakes seat.old.limits.seats result.1 seat.old.place.me.0.trail seat.new.place.me.0.trail }
 {
-    let table = &mutex.table.shared;
+    let table = &mutex.table;
     let mut data = SeatData {
         number: seat.number,
         limits: seat.limits,
@@ -102,7 +102,7 @@ fn send_held<T: Kept>(
     seat: &mut Seat<T>,
     target: u64,
 ) -> (Result<(), Refusal>, Option<WakeUp>)
-    requires belongs { seat.old.place.table_id ≡ mutex.now.table.shared.table_id }
+    requires belongs { seat.old.place.table_id ≡ mutex.now.table.table_id }
     requires stands { seat.old.standing.point ≡ SendCountAdd target }
     requires held { 0 < seat.old.standing.depth }
     ensures belongs { seat.new.place.table_id ≡ seat.old.place.table_id }
@@ -112,7 +112,7 @@ fn send_held<T: Kept>(
     ensures spends { Spends (due seat.old.limits.seats (length seat.old.place.me.0.popped) seat.old.standing.point) 0 seat.old.place.me.0.trail seat.new.place.me.0.trail }
     ensures wakes { Wakes seat.old.limits.seats result.1 seat.old.place.me.0.trail seat.new.place.me.0.trail }
 {
-    let table = &mutex.table.shared;
+    let table = &mutex.table;
     let data = SeatData {
         number: seat.number,
         limits: seat.limits,
@@ -148,7 +148,7 @@ pub fn send_awake<T: Kept>(
     ensures bounded { MakesBesideFailures ((limits_of mutex.now).seats + 9) (sight seat.old) (sight seat.new) }
     ensures wakes { Wakes (limits_of mutex.now).seats result.1 (sight seat.old).trail (sight seat.new).trail }
 {
-    let table = &mutex.table.shared;
+    let table = &mutex.table;
     let data = SeatData {
         number: seat.number,
         limits: seat.limits,

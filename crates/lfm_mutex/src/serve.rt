@@ -29,7 +29,7 @@ fn release_on<T: Kept>(
     seat: &mut Seat<T>,
     releaser: Releaser,
 ) -> (Unlocked, Option<WakeUp>)
-    requires belongs { seat.old.place.table_id ≡ mutex.now.table.shared.table_id }
+    requires belongs { seat.old.place.table_id ≡ mutex.now.table.table_id }
     requires releases { errand seat.old.standing.point ≡ releasing releaser }
     requires keeps { is_release seat.old.standing.point ≡ false }
     ensures belongs { seat.new.place.table_id ≡ seat.old.place.table_id }
@@ -71,7 +71,7 @@ fn grant<T: Kept>(
     releaser: Releaser,
     oldest: Record,
 ) -> (Unlocked, Option<WakeUp>)
-    requires belongs { seat.old.place.table_id ≡ mutex.now.table.shared.table_id }
+    requires belongs { seat.old.place.table_id ≡ mutex.now.table.table_id }
     requires stands { seat.old.standing.point ≡ GrantWakeStore (CarrierNow.Releaser releaser) oldest }
     requires flat { seat.old.standing.depth ≡ 0 }
     ensures belongs { seat.new.place.table_id ≡ seat.old.place.table_id }
@@ -80,7 +80,7 @@ fn grant<T: Kept>(
     ensures bounded { length seat.new.place.me.0.trail ≤ length seat.old.place.me.0.trail + weight seat.old.limits.seats (length seat.old.place.me.0.popped) seat.old.standing.point }
     ensures wakes { Wakes seat.old.limits.seats result.1 seat.old.place.me.0.trail seat.new.place.me.0.trail }
 {
-    let table = &mutex.table.shared;
+    let table = &mutex.table;
     let Record { seat: next, stamp } = oldest;
     let mut data = SeatData {
         number: seat.number,
@@ -114,7 +114,7 @@ fn serve_pushed<T: Kept>(
     seat: &mut Seat<T>,
     releaser: Releaser,
 ) -> (Unlocked, Option<WakeUp>)
-    requires belongs { seat.old.place.table_id ≡ mutex.now.table.shared.table_id }
+    requires belongs { seat.old.place.table_id ≡ mutex.now.table.table_id }
     requires stands { seat.old.standing.point ≡ TakeClearHead (CarrierNow.Releaser releaser) }
     requires flat { seat.old.standing.depth ≡ 0 }
     ensures belongs { seat.new.place.table_id ≡ seat.old.place.table_id }
@@ -123,7 +123,7 @@ fn serve_pushed<T: Kept>(
     ensures bounded { length seat.new.place.me.0.trail ≤ length seat.old.place.me.0.trail + weight seat.old.limits.seats (length seat.old.place.me.0.popped) seat.old.standing.point }
     ensures wakes { Wakes seat.old.limits.seats result.1 seat.old.place.me.0.trail seat.new.place.me.0.trail }
 {
-    let table = &mutex.table.shared;
+    let table = &mutex.table;
     let carrier = Carrier::Releaser(releaser);
     let mut data = SeatData {
         number: seat.number,
@@ -161,7 +161,7 @@ pub(crate) fn serve<T: Kept>(
     seat: &mut Seat<T>,
     releaser: Releaser,
 ) -> (Unlocked, Option<WakeUp>)
-    requires belongs { seat.old.place.table_id ≡ mutex.now.table.shared.table_id }
+    requires belongs { seat.old.place.table_id ≡ mutex.now.table.table_id }
     requires stands { seat.old.standing.point ≡ take (CarrierNow.Releaser releaser) 0 (oldest_in seat.old.moving) }
     requires flat { seat.old.standing.depth ≡ 0 }
     ensures belongs { seat.new.place.table_id ≡ seat.old.place.table_id }

@@ -73,7 +73,7 @@ pub fn next<T: Kept>(mutex: &Mutex<T>, seat: &mut Seat<T>) -> Turn
 
 /// `start`, with all that the proofs of the calls need of it.
 pub(crate) fn begin_call<T: Kept>(mutex: &Mutex<T>, seat: &mut Seat<T>, call: Call) -> Turn
-    requires belongs { seat.old.place.table_id ≡ mutex.now.table.shared.table_id }
+    requires belongs { seat.old.place.table_id ≡ mutex.now.table.table_id }
     ensures same { (seat.new.place ≡ seat.old.place) × (seat.new.number ≡ seat.old.number) × (seat.new.limits ≡ seat.old.limits) × (seat.new.moving ≡ seat.old.moving) }
     ensures seat { seat.new.standing ≡ (begin seat.old.standing seat.old.limits call).seat }
     ensures turn { result ≡ (begin seat.old.standing seat.old.limits call).turn }
@@ -86,7 +86,7 @@ pub(crate) fn begin_call<T: Kept>(mutex: &Mutex<T>, seat: &mut Seat<T>, call: Ca
 /// `next`, with all that the proofs of the calls need of it. It wakes nobody, and hands out the wake-up of the seat that it
 /// granted.
 pub(crate) fn make_next<T: Kept>(mutex: &Mutex<T>, seat: &mut Seat<T>) -> (Turn, Option<WakeUp>)
-    requires belongs { seat.old.place.table_id ≡ mutex.now.table.shared.table_id }
+    requires belongs { seat.old.place.table_id ≡ mutex.now.table.table_id }
     requires leaves { (r : Releaser) → seat.old.standing.point ≡ ReleaseOwnerStore r → MayBeLeft T.follows T.fits seat.old.moving seat.old.place.me.0 }
     ensures belongs { seat.new.place.table_id ≡ seat.old.place.table_id }
     ensures same { (seat.new.number ≡ seat.old.number) × (seat.new.limits ≡ seat.old.limits) }

@@ -29,7 +29,7 @@ use lfm_table::{Kept, SeatData, WakeUp};
 /// Makes the steps of the open call of try_lock to its end.
 #[inline(always)]
 fn try_on<T: Kept>(mutex: &Mutex<T>, seat: &mut Seat<T>) -> Result<Locked, Refusal>
-    requires belongs { seat.old.place.table_id ≡ mutex.now.table.shared.table_id }
+    requires belongs { seat.old.place.table_id ≡ mutex.now.table.table_id }
     requires tries { errand seat.old.standing.point ≡ trying }
     ensures belongs { seat.new.place.table_id ≡ seat.old.place.table_id }
     ensures same { (seat.new.number ≡ seat.old.number) × (seat.new.limits ≡ seat.old.limits) }
@@ -88,7 +88,7 @@ pub fn try_free<T: Kept>(
     ensures made { ComesTo T.follows T.fits (limits_of mutex.now) CallNow.TryLock (sight seat.old) (sight seat.new) (try_turn result) }
 {
     let _budget = budget;
-    let table = &mutex.table.shared;
+    let table = &mutex.table;
     let number = seat.number;
     let takes = seat.standing.takes + 1;
     let mut data = SeatData {
@@ -131,7 +131,7 @@ pub fn try_again<T: Kept>(mutex: &Mutex<T>, seat: &mut Seat<T>) -> Result<Locked
     ensures belongs { Beside seat.old seat.new }
     ensures made { ComesTo T.follows T.fits (limits_of mutex.now) CallNow.TryLock (sight seat.old) (sight seat.new) (try_turn result) }
 {
-    let table = &mutex.table.shared;
+    let table = &mutex.table;
     let number = seat.number;
     let depth = seat.standing.depth;
     let mut data = SeatData {

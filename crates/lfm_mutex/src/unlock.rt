@@ -33,7 +33,7 @@ pub fn unlock_last<T: Kept>(mutex: &Mutex<T>, seat: &mut Seat<T>) -> (Unlocked, 
     ensures bounded { MakesAtMost ((limits_of mutex.now).seats + 7) (sight seat.old) (sight seat.new) }
     ensures wakes { Wakes (limits_of mutex.now).seats result.1 (sight seat.old).trail (sight seat.new).trail }
 {
-    let table = &mutex.table.shared;
+    let table = &mutex.table;
     let mut data = SeatData {
         number: seat.number,
         limits: seat.limits,

@@ -40,7 +40,7 @@ pub fn wait_last<T: Kept>(
     ensures wakes { Wakes (limits_of mutex.now).seats result.1 (sight seat.old).trail (sight seat.new).trail }
 {
     let _budget = budget;
-    let table = &mutex.table.shared;
+    let table = &mutex.table;
     let takes = seat.standing.takes + 1;
     let mut data = SeatData {
         number: seat.number,

@@ -14,7 +14,7 @@ impl<T: Kept> Mutex<T> {
         requires { (t : ℕ) → wake_up ≡ Some t → t ≤ (limits_of self.now).seats }
     {
         match wake_up {
-            Some(wake_up) => wake(&self.table.shared, self.limits.seats, wake_up),
+            Some(wake_up) => wake(&self.table, self.limits.seats, wake_up),
             None => {}
         }
     }

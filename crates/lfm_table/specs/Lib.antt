@@ -4,6 +4,7 @@ pub mod Grants
 pub mod Props
 pub mod Reach
 pub mod Rule
+pub mod SeenTable
 pub mod Seats
 pub mod Settled
 pub mod Steps

@@ -12,6 +12,7 @@ pub mod rule;
 pub mod seat_data;
 pub mod seat_memory;
 pub mod seat_view;
+pub mod shared_table;
 pub mod straight_steps;
 pub mod table_steps;
 pub mod wake_up;

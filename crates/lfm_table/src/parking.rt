@@ -9,7 +9,7 @@ ghost use Rattle.lfm_protocol.specs.Limits.{max_seats};
 
 use crate::kept::Kept;
 use crate::layout::wake_at;
-use crate::table_steps::SharedTable;
+use crate::shared_table::SharedTable;
 use crate::wake_up::WakeUp;
 use crate::wake_words::FIRST_GRANT;
 use std::sync::Wait;

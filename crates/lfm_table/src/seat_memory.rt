@@ -16,7 +16,7 @@ use crate::kept::Kept;
 use crate::layout::SLOT;
 use crate::moving_box::MovingBox;
 use crate::seat_data::SeatData;
-use crate::table_steps::{Place, SharedTable};
+use crate::shared_table::{Place, SharedTable};
 use crate::wake_words::{FIRST_GRANT, state_in};
 use lfm_model::SeatNo;
 use lfm_protocol::kinds::Kind;

@@ -17,10 +17,10 @@ use crate::kept::Kept;
 use crate::moving_box::MovingBox;
 use crate::seat_data::SeatData;
 use crate::seat_memory::{add_loaded, drop_oldest, put_out, take_out};
+use crate::shared_table::{Place, SharedTable};
 use crate::table_steps::{
-    Place, SharedTable, add_count, clear_head, exchange_count, exchange_push, exchange_wake,
-    load_handoff, load_link, load_owner, load_push, load_wake, store_link, store_owner, store_wake,
-    subtract_count,
+    add_count, clear_head, exchange_count, exchange_push, exchange_wake, load_handoff, load_link,
+    load_owner, load_push, load_wake, store_link, store_owner, store_wake, subtract_count,
 };
 use crate::wake_up::WakeUp;
 use crate::wake_words::FIRST_GRANT;

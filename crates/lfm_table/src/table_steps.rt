@@ -14,20 +14,13 @@ ghost use Rattle.lfm_table.specs.Grants.{granted_at};
 use crate::kept::Kept;
 use crate::layout::{COUNT, HANDOFF, OWNER, PUSH, link_at, wake_at};
 use crate::moving_box::MovingBox;
-use crate::rule::{Key, MutexRule, Plain, Stepped};
+use crate::rule::{Plain, Stepped};
 use crate::seat_data::SeatData;
-use crate::seat_view::View;
+use crate::shared_table::{Place, SharedTable};
 use crate::wake_up::WakeUp;
-use atomic_table::Shared;
 use lfm_model::SeatNo;
 use lfm_protocol::kinds::Kind;
 use lfm_words::{Wake, pack_handoff, pack_link};
-
-/// The seat of the table, which has no bytes.
-pub type Place<T> = atomic_table::Seat<Option<MovingBox<T>>, View<T>>;
-
-/// The table, as its steps need it.
-pub type SharedTable<T> = Shared<Option<MovingBox<T>>, View<T>, Key<T>, MutexRule>;
 
 // All but the head of the push word.
 const STAMP: u64 = 0xffff_ffff_ffff_0000;

@@ -32,7 +32,7 @@ pub(crate) fn make_of<T: Kept>(
     seat: &mut Seat<T>,
     kind: Kind,
 ) -> (Turn, Option<WakeUp>)
-    requires belongs { seat.old.place.table_id ≡ mutex.now.table.shared.table_id }
+    requires belongs { seat.old.place.table_id ≡ mutex.now.table.table_id }
     requires is_next { kind_of seat.old.standing.point ≡ Some kind }
     requires leaves { (r : Releaser) → seat.old.standing.point ≡ ReleaseOwnerStore r → MayBeLeft T.follows T.fits seat.old.moving seat.old.place.me.0 }
     ensures belongs { seat.new.place.table_id ≡ seat.old.place.table_id }
@@ -40,7 +40,7 @@ pub(crate) fn make_of<T: Kept>(
     ensures event { Event T.follows T.fits seat.old.standing seat.old.moving seat.old.place.me.0 result.0 seat.new.standing seat.new.moving seat.new.place.me.0 }
     ensures wakes { result.1 ≡ granted_at seat.old.standing.point }
 {
-    let table = &mutex.table.shared;
+    let table = &mutex.table;
     let data = SeatData {
         number: seat.number,
         limits: seat.limits,
@@ -60,7 +60,7 @@ pub(crate) fn make_of<T: Kept>(
 /// Makes a step of a kind that stores no wake word, with all that the proofs of the calls need of it.
 #[inline(always)]
 pub(crate) fn make_waking_none<T: Kept>(mutex: &Mutex<T>, seat: &mut Seat<T>, kind: Kind) -> Turn
-    requires belongs { seat.old.place.table_id ≡ mutex.now.table.shared.table_id }
+    requires belongs { seat.old.place.table_id ≡ mutex.now.table.table_id }
     requires is_next { kind_of seat.old.standing.point ≡ Some kind }
     requires other { kind ≢ KindNow.WakeStore }
     requires leaves { (r : Releaser) → seat.old.standing.point ≡ ReleaseOwnerStore r → MayBeLeft T.follows T.fits seat.old.moving seat.old.place.me.0 }

@@ -13,7 +13,7 @@ use Rattle.lfm_mutex.proofs.calls.finish.Given as goal
 
 abbrev pub invariant-loop-ended : goal.invariant-loop-ended
 invariant-loop-ended g l = record {
-  belongs : l.seat.place.table_id ≡ l.mutex.table.shared.table_id;
+  belongs : l.seat.place.table_id ≡ l.mutex.table.table_id;
   same : (l.seat.number ≡ l.fn.seat.number) × (l.seat.limits ≡ l.fn.seat.limits) × (l.seat.place.table_id ≡ l.fn.seat.place.table_id);
   call : errand l.seat.standing.point ≡ errand l.fn.seat.standing.point;
   keeps : is_release l.seat.standing.point ≡ false;

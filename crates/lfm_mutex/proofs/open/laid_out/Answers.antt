@@ -5,8 +5,8 @@ use Rattle.lfm_table.specs.Rule.{Held, first_view}
 use Rattle.lfm_mutex.proofs.ends.Seats.{starts}
 use Rattle.lfm_mutex.proofs.open.laid_out.Goals as goal
 
-pub new-requires-3 : goal.new-requires-3
-new-requires-3 g c = let ws = c.as_slice.result.now in let l = c.args.limits in
+pub new-requires-3-clause-kept : goal.new-requires-3-clause-kept
+new-requires-3-clause-kept g c κs within = let ws = c.as_slice.result.now in let l = c.args.limits in
     let x : Moving g.row.T.Denot = record { popped = c.in-Ok.popped; value = c.args.value } in let e : c.push.new.self.items ≡ Some x ∷ [] = search rules in let v : c.of.result.value ≡ c.args.value = search rules in
     let are : ws ≡ replicate (4 + 2 * c.args.limits.seats) 0 = c.as_slice.ensures.value ∙ c.in-Ok-from_elem.ensures.items_if_clones_equal (λ y q. q) in
     let allowed = c.requires.allowed in

@@ -4,10 +4,7 @@ use Rattle.lfm_table.specs.Rule.{value_in}
 use Rattle.lfm_table.proofs.tables.ByKind.{by_kind}
 use Rattle.lfm_table.proofs.table_steps.add_count.Goals as goal
 
-pub fetch_add-requires : goal.fetch_add-requires
-fetch_add-requires g c = (
-  search rules,
-  search rules,
-  by_kind g.T.Kept.follows g.T.Kept.fits c.args.table.now.table_id.slots c.args.place.now.id c.args.place.now.me g.B.Plain.standing c.args.seat.now.standing g.B.Plain.hand (value_in c.args.hand.now) c.args.seat.now.number c.args.seat.now.limits.seats c.args.table.now.table_id.words
-      c.requires.plain.0 c.requires.plain.1 c.requires.can Kind.CountAdd c.requires.kind 0 (λ n. (n + 1) % 2 ^ 64) (λ n. n) refl (λ n. refl) (λ n. refl),
-)
+pub fetch_add-requires-clause-allowed : goal.fetch_add-requires-clause-allowed
+fetch_add-requires-clause-allowed g c κs within =
+    by_kind g.T.Kept.follows g.T.Kept.fits c.args.table.now.table_id.slots c.args.place.now.id c.args.place.now.me g.B.Plain.standing c.args.seat.now.standing g.B.Plain.hand (value_in c.args.hand.now) c.args.seat.now.number c.args.seat.now.limits.seats c.args.table.now.table_id.words
+    c.requires.plain.0 c.requires.plain.1 c.requires.can Kind.CountAdd c.requires.kind 0 (λ n. (n + 1) % 2 ^ 64) (λ n. n) refl (λ n. refl) (λ n. refl)

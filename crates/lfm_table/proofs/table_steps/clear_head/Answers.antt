@@ -6,17 +6,17 @@ use Rattle.lfm_table.proofs.tables.ByKind.{by_kind}
 use Rattle.lfm_table.proofs.tables.AtWord.{told, third_word}
 use Rattle.lfm_table.proofs.table_steps.clear_head.Goals as goal
 
-pub fetch_and-requires : goal.fetch_and-requires
-fetch_and-requires g c = (
-  c.requires.table,
-  third_word c.args.seat.now.limits.seats c.args.table.now.table_id.words c.requires.can.wide,
-  by_kind g.T.Kept.follows g.T.Kept.fits c.args.table.now.table_id.slots c.args.place.now.id c.args.place.now.me g.B.Plain.standing c.args.seat.now.standing g.B.Plain.hand (value_in c.args.hand.now) c.args.seat.now.number c.args.seat.now.limits.seats c.args.table.now.table_id.words
-      c.requires.plain.0 c.requires.plain.1 c.requires.can Kind.ClearHead c.requires.kind 3 (λ n. bit_and n (2 ^ 64 - 2 ^ 16)) (λ n. n) refl (λ n. refl) (λ n. refl),
-)
+pub fetch_and-requires-clause-inside : goal.fetch_and-requires-clause-inside
+fetch_and-requires-clause-inside g c κs within = third_word c.args.seat.now.limits.seats c.args.table.now.table_id.words c.requires.can.wide
+
+pub fetch_and-requires-clause-allowed : goal.fetch_and-requires-clause-allowed
+fetch_and-requires-clause-allowed g c κs within =
+    by_kind g.T.Kept.follows g.T.Kept.fits c.args.table.now.table_id.slots c.args.place.now.id c.args.place.now.me g.B.Plain.standing c.args.seat.now.standing g.B.Plain.hand (value_in c.args.hand.now) c.args.seat.now.number c.args.seat.now.limits.seats c.args.table.now.table_id.words
+    c.requires.plain.0 c.requires.plain.1 c.requires.can Kind.ClearHead c.requires.kind 3 (λ n. bit_and n (2 ^ 64 - 2 ^ 16)) (λ n. n) refl (λ n. refl) (λ n. refl)
 
 pub returns-clause-table : goal.returns-clause-table
-returns-clause-table g c = (c.fetch_and.ensures.0, c.fetch_and.ensures.1)
+returns-clause-table g c = c.fetch_and.ensures.table
 
 pub returns-clause-step : goal.returns-clause-step
 returns-clause-step g c =
-    told g.T.Kept.follows g.T.Kept.fits c.args.place.now.me c.fetch_and.new.seat.me g.B.Plain.standing c.args.seat.now.standing g.B.Plain.hand (value_in c.args.hand.now) c.fetch_and.result c.requires.plain.0 c.requires.plain.1 c.fetch_and.ensures.2
+    told g.T.Kept.follows g.T.Kept.fits c.args.place.now.me c.fetch_and.new.place.me g.B.Plain.standing c.args.seat.now.standing g.B.Plain.hand (value_in c.args.hand.now) c.fetch_and.result c.requires.plain.0 c.requires.plain.1 c.fetch_and.ensures.step

@@ -8,20 +8,20 @@ use Rattle.lfm_table.proofs.tables.ByKind.{by_kind}
 use Rattle.lfm_table.proofs.tables.AtWord.{told, second_word}
 use Rattle.lfm_table.proofs.table_steps.exchange_handoff.Goals as goal
 
-pub compare_exchange-requires : goal.compare_exchange-requires
-compare_exchange-requires g c = (
-  c.requires.table,
-  second_word c.args.seat.now.limits.seats c.args.table.now.table_id.words c.requires.can.wide,
-  by_kind g.T.Kept.follows g.T.Kept.fits c.args.table.now.table_id.slots c.args.place.now.id c.args.place.now.me g.B.Plain.standing c.args.seat.now.standing g.B.Plain.hand (value_in c.args.hand.now) c.args.seat.now.number c.args.seat.now.limits.seats c.args.table.now.table_id.words
-      c.requires.plain.0 c.requires.plain.1 c.requires.can Kind.HandoffExchange c.requires.kind 2 (λ n. either (nat_eq n c.pack_handoff-expected.result) 0 n) (λ n. n) refl (λ n. ap (λ (t : ℕ). either (nat_eq n t) 0 n) (c.pack_handoff-expected.ensures ∙ ap handoff_word c.expected_handoff-handoff.ensures)) (λ n. refl),
-)
+pub compare_exchange-requires-clause-inside : goal.compare_exchange-requires-clause-inside
+compare_exchange-requires-clause-inside g c κs within = second_word c.args.seat.now.limits.seats c.args.table.now.table_id.words c.requires.can.wide
+
+pub compare_exchange-requires-clause-allowed : goal.compare_exchange-requires-clause-allowed
+compare_exchange-requires-clause-allowed g c κs within =
+    by_kind g.T.Kept.follows g.T.Kept.fits c.args.table.now.table_id.slots c.args.place.now.id c.args.place.now.me g.B.Plain.standing c.args.seat.now.standing g.B.Plain.hand (value_in c.args.hand.now) c.args.seat.now.number c.args.seat.now.limits.seats c.args.table.now.table_id.words
+    c.requires.plain.0 c.requires.plain.1 c.requires.can Kind.HandoffExchange c.requires.kind 2 (λ n. either (nat_eq n c.pack_handoff-expected.result) 0 n) (λ n. n) refl (λ n. ap (λ (t : ℕ). either (nat_eq n t) 0 n) (c.pack_handoff-expected.ensures ∙ ap handoff_word c.expected_handoff-handoff.ensures)) (λ n. refl)
 
 pub returns-clause-table : goal.returns-clause-table
-returns-clause-table g c = (c.compare_exchange.ensures.0, c.compare_exchange.ensures.1)
+returns-clause-table g c = c.compare_exchange.ensures.table
 
 pub returns-clause-step : goal.returns-clause-step
 returns-clause-step g c =
-    told g.T.Kept.follows g.T.Kept.fits c.args.place.now.me c.compare_exchange.new.seat.me g.B.Plain.standing c.args.seat.now.standing g.B.Plain.hand (value_in c.args.hand.now) c.compare_exchange.result c.requires.plain.0 c.requires.plain.1 c.compare_exchange.ensures.2
+    told g.T.Kept.follows g.T.Kept.fits c.args.place.now.me c.compare_exchange.new.place.me g.B.Plain.standing c.args.seat.now.standing g.B.Plain.hand (value_in c.args.hand.now) c.compare_exchange.result c.requires.plain.0 c.requires.plain.1 c.compare_exchange.ensures.step
 
 pub pack_handoff-expected-requires-clause-seat : goal.pack_handoff-expected-requires-clause-seat
 pack_handoff-expected-requires-clause-seat g c = subst (λ (h : Handoff). h.seat < 65536) (sym c.expected_handoff-handoff.ensures) c.requires.can.ready.expected_handoff.seat

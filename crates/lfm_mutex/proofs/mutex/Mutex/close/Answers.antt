@@ -5,7 +5,6 @@ use lib.ListN.{get_elem?}
 use mathlib.Core.Logic.{dite}
 use native.Mathlib.Decide.{ℕ_discrete}
 use Rattle.std.specs.List.{remove}
-use Rattle.std.specs.Slots.{slots_items}
 use Rattle.atomic_table.specs.Table.{Final, Seen}
 use Rattle.lfm_table.specs.declared.rule.Moving.{Moving}
 use Rattle.lfm_mutex.specs.Close.{Idle, IsFree}
@@ -83,30 +82,30 @@ loop-seat-preserved g c = let i = c.loop-seat.invariant in let r = c.retire.ensu
 
 pub take_slot-requires-clause-free : goal.take_slot-requires-clause-free
 take_slot-requires-clause-free g c κs within = let i = c.loop-seat.invariant in let v = c.loop-seat.root.me.0 in let n = c.in_default-pop.ensures.cases in let a = i.counts in let z = n.0 in
-    let end : Final (Seen (Held g.T.Kept.follows g.T.Kept.fits) 0 v) (slots_items c.close_with.result.words) (slots_items c.close_with.result.slots) = subst (λ k. Final (Seen (Held g.T.Kept.follows g.T.Kept.fits) k v) (slots_items c.close_with.result.words) (slots_items c.close_with.result.slots)) i.root.0 c.close_with.ensures.values.2 in
-    let e = ends g.T.Kept.follows g.T.Kept.fits v (slots_items c.close_with.result.words) (slots_items c.close_with.result.slots) (omega arith) i.root.3 i.root.4 end in
+    let end : Final (Seen (Held g.T.Kept.follows g.T.Kept.fits) 0 v) c.close_with.result.words c.close_with.result.slots = subst (λ k. Final (Seen (Held g.T.Kept.follows g.T.Kept.fits) k v) c.close_with.result.words c.close_with.result.slots) i.root.0 c.close_with.ensures.values in
+    let e = ends g.T.Kept.follows g.T.Kept.fits v c.close_with.result.words c.close_with.result.slots (omega arith) i.root.3 i.root.4 end in
     e.4
 
 pub take_slot-requires-clause-slot : goal.take_slot-requires-clause-slot
-take_slot-requires-clause-slot g c κs within = (c.close_with.ensures.counts.1 ∙ c.args.self.slots, c.close_with.ensures.values.1)
+take_slot-requires-clause-slot g c κs within = c.close_with.ensures.counts.1 ∙ c.args.self.slots
 
 pub unreachable-requires-in_default-take_slot : goal.unreachable-requires-in_default-take_slot
 unreachable-requires-in_default-take_slot g c = let i = c.loop-seat.invariant in let v = c.loop-seat.root.me.0 in let n = c.in_default-pop.ensures.cases in let a = i.counts in let z = n.0 in
-    let end : Final (Seen (Held g.T.Kept.follows g.T.Kept.fits) 0 v) (slots_items c.close_with.result.words) (slots_items c.close_with.result.slots) = subst (λ k. Final (Seen (Held g.T.Kept.follows g.T.Kept.fits) k v) (slots_items c.close_with.result.words) (slots_items c.close_with.result.slots)) i.root.0 c.close_with.ensures.values.2 in
-    let e = ends g.T.Kept.follows g.T.Kept.fits v (slots_items c.close_with.result.words) (slots_items c.close_with.result.slots) (omega arith) i.root.3 i.root.4 end in
+    let end : Final (Seen (Held g.T.Kept.follows g.T.Kept.fits) 0 v) c.close_with.result.words c.close_with.result.slots = subst (λ k. Final (Seen (Held g.T.Kept.follows g.T.Kept.fits) k v) c.close_with.result.words c.close_with.result.slots) i.root.0 c.close_with.ensures.values in
+    let e = ends g.T.Kept.follows g.T.Kept.fits v c.close_with.result.words c.close_with.result.slots (omega arith) i.root.3 i.root.4 end in
     let was = e.1 in let got = c.take_slot.ensures in let none = c.in_default-take_slot.is in cc
 
 pub returns-clause-sized : goal.returns-clause-sized
 returns-clause-sized g c = let i = c.loop-seat.invariant in let v = c.loop-seat.root.me.0 in let n = c.in_default-pop.ensures.cases in let a = i.counts in let z = n.0 in
-    let end : Final (Seen (Held g.T.Kept.follows g.T.Kept.fits) 0 v) (slots_items c.close_with.result.words) (slots_items c.close_with.result.slots) = subst (λ k. Final (Seen (Held g.T.Kept.follows g.T.Kept.fits) k v) (slots_items c.close_with.result.words) (slots_items c.close_with.result.slots)) i.root.0 c.close_with.ensures.values.2 in
-    let e = ends g.T.Kept.follows g.T.Kept.fits v (slots_items c.close_with.result.words) (slots_items c.close_with.result.slots) (omega arith) i.root.3 i.root.4 end in
+    let end : Final (Seen (Held g.T.Kept.follows g.T.Kept.fits) 0 v) c.close_with.result.words c.close_with.result.slots = subst (λ k. Final (Seen (Held g.T.Kept.follows g.T.Kept.fits) k v) c.close_with.result.words c.close_with.result.slots) i.root.0 c.close_with.ensures.values in
+    let e = ends g.T.Kept.follows g.T.Kept.fits v c.close_with.result.words c.close_with.result.slots (omega arith) i.root.3 i.root.4 end in
     let few = e.3 in let all = i.all in let xs = c.args.seats.items in let m : vec_len c.args.seats ≡ length xs = search rules in let p = pigeons (λ s. (g.P.Holder.seat_of s).number) xs c.args.self.limits.seats (λ k p q. (c.in_default.ensures k p q).0) in omega arith
 
 pub returns-clause-last : goal.returns-clause-last
 returns-clause-last g c =
     let i = c.loop-seat.invariant in let v = c.loop-seat.root.me.0 in let n = c.in_default-pop.ensures.cases in let a = i.counts in let z = n.0 in
-    let end : Final (Seen (Held g.T.Kept.follows g.T.Kept.fits) 0 v) (slots_items c.close_with.result.words) (slots_items c.close_with.result.slots) = subst (λ k. Final (Seen (Held g.T.Kept.follows g.T.Kept.fits) k v) (slots_items c.close_with.result.words) (slots_items c.close_with.result.slots)) i.root.0 c.close_with.ensures.values.2 in
-    let e = ends g.T.Kept.follows g.T.Kept.fits v (slots_items c.close_with.result.words) (slots_items c.close_with.result.slots) (omega arith) i.root.3 i.root.4 end in
+    let end : Final (Seen (Held g.T.Kept.follows g.T.Kept.fits) 0 v) c.close_with.result.words c.close_with.result.slots = subst (λ k. Final (Seen (Held g.T.Kept.follows g.T.Kept.fits) k v) c.close_with.result.words c.close_with.result.slots) i.root.0 c.close_with.ensures.values in
+    let e = ends g.T.Kept.follows g.T.Kept.fits v c.close_with.result.words c.close_with.result.slots (omega arith) i.root.3 i.root.4 end in
     let was = e.1 in let got = c.take_slot.ensures in let some_it = c.in-Some-take_slot.is in let whole : e.0 ≡ c.in-Some-take_slot.moving = cc in let same : e.0.value ≡ c.into_value.result = ap (λ (x : Moving g.row.T.Denot). x.value) whole ∙ sym c.into_value.ensures in
     let from : (j : ℕ) × (s : _) × (get_elem? c.args.seats.items j ≡ some s) × ((g.P.Holder.seat_of s).place.me.0.last ≡ Some e.0.value) × ((g.P.Holder.seat_of s).place.me.0.last_found ≡ None → NoneAtEnd g.T.Kept.follows g.T.Kept.fits v) =
     ⊎_elim (λ t. (i.own.0, i.own.1, i.own.2, i.own.3 ∙ t.0, λ none. t.1 (sym i.own.4 ∙ none))) (λ t. let o = i.only t.0 t.1 t.2 in (o.0, o.1, o.2, o.3 ∙ t.3, λ none. t.4 (sym o.4 ∙ none))) e.6 in
@@ -128,8 +127,8 @@ returns-clause-last g c =
 pub returns-clause-latest : goal.returns-clause-latest
 returns-clause-latest g c =
     let i = c.loop-seat.invariant in let v = c.loop-seat.root.me.0 in let n = c.in_default-pop.ensures.cases in let a = i.counts in let z = n.0 in
-    let end : Final (Seen (Held g.T.Kept.follows g.T.Kept.fits) 0 v) (slots_items c.close_with.result.words) (slots_items c.close_with.result.slots) = subst (λ k. Final (Seen (Held g.T.Kept.follows g.T.Kept.fits) k v) (slots_items c.close_with.result.words) (slots_items c.close_with.result.slots)) i.root.0 c.close_with.ensures.values.2 in
-    let e = ends g.T.Kept.follows g.T.Kept.fits v (slots_items c.close_with.result.words) (slots_items c.close_with.result.slots) (omega arith) i.root.3 i.root.4 end in
+    let end : Final (Seen (Held g.T.Kept.follows g.T.Kept.fits) 0 v) c.close_with.result.words c.close_with.result.slots = subst (λ k. Final (Seen (Held g.T.Kept.follows g.T.Kept.fits) k v) c.close_with.result.words c.close_with.result.slots) i.root.0 c.close_with.ensures.values in
+    let e = ends g.T.Kept.follows g.T.Kept.fits v c.close_with.result.words c.close_with.result.slots (omega arith) i.root.3 i.root.4 end in
     let was = e.1 in let got = c.take_slot.ensures in let some_it = c.in-Some-take_slot.is in let whole : e.0 ≡ c.in-Some-take_slot.moving = cc in let same : e.0.value ≡ c.into_value.result = ap (λ (x : Moving g.row.T.Denot). x.value) whole ∙ sym c.into_value.ensures in
     let latest = e.7 in
     let among : (j : ℕ) (s : _) → get_elem? c.args.seats.items j ≡ some s → Among g.T.Kept.follows g.T.Kept.fits v (g.P.Holder.seat_of s).place.me.0.number (g.P.Holder.seat_of s).place.me.0.last (g.P.Holder.seat_of s).place.me.0.ended =
@@ -162,8 +161,8 @@ returns-clause-reached g c j s l at seen =
     let idle = (let lo = y.rooted.low in let hi = y.rooted.high in let same = ap (λ x. x.seats) b.1 in (c.in_default.ensures y.number lo (omega (arith, hi, same))).1 j s at refl) in
     let is : y.place.me.0.last ≡ Some l = seen_last y.standing.depth y.place.me.0.last y.place.me.0.found (Some l) idle.0 seen in
     let i = c.loop-seat.invariant in let v = c.loop-seat.root.me.0 in let n = c.in_default-pop.ensures.cases in let a = i.counts in let z = n.0 in
-    let end : Final (Seen (Held g.T.Kept.follows g.T.Kept.fits) 0 v) (slots_items c.close_with.result.words) (slots_items c.close_with.result.slots) = subst (λ k. Final (Seen (Held g.T.Kept.follows g.T.Kept.fits) k v) (slots_items c.close_with.result.words) (slots_items c.close_with.result.slots)) i.root.0 c.close_with.ensures.values.2 in
-    let e = ends g.T.Kept.follows g.T.Kept.fits v (slots_items c.close_with.result.words) (slots_items c.close_with.result.slots) (omega arith) i.root.3 i.root.4 end in
+    let end : Final (Seen (Held g.T.Kept.follows g.T.Kept.fits) 0 v) c.close_with.result.words c.close_with.result.slots = subst (λ k. Final (Seen (Held g.T.Kept.follows g.T.Kept.fits) k v) c.close_with.result.words c.close_with.result.slots) i.root.0 c.close_with.ensures.values in
+    let e = ends g.T.Kept.follows g.T.Kept.fits v c.close_with.result.words c.close_with.result.slots (omega arith) i.root.3 i.root.4 end in
     let was = e.1 in let got = c.take_slot.ensures in let some_it = c.in-Some-take_slot.is in let whole : e.0 ≡ c.in-Some-take_slot.moving = cc in let same : e.0.value ≡ c.into_value.result = ap (λ (x : Moving g.row.T.Denot). x.value) whole ∙ sym c.into_value.ensures in let named = y.seated.named in let limited = i.limits ∙ sym (y.seated.limits_are ∙ b.1) in
     subst (λ (t : Limits × ℕ × g.row.T.Denot). Reached g.T.Kept.follows t.0.seats t.1 l t.2) (λ i. (limited i, named i, same i)) (⊎_elim
     (λ u. absurd (let r = length_at c.loop-seat.seats.items u.0 s u.1 in let k : vec_len c.loop-seat.seats ≡ length c.loop-seat.seats.items = search rules in omega arith))

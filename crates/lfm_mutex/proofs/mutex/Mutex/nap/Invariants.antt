@@ -5,8 +5,8 @@ use Rattle.lfm_mutex.proofs.mutex.Mutex.nap.Given as goal
 
 abbrev pub invariant-naps : goal.invariant-naps
 invariant-naps g l = record {
-  belongs : (l.seat.place.table_id ≡ l.self.table.shared.table_id) × (l.seat.limits ≡ l.self.limits);
+  belongs : (l.seat.place.table_id ≡ l.self.table.table_id) × (l.seat.limits ≡ l.self.limits);
   beside : (l.seat.place.table_id ≡ l.fn.seat.place.table_id) × (l.seat.limits ≡ l.fn.seat.limits);
   tries : TriesBy l.self.limits l.made (sight l.fn.seat) (sight l.seat) None;
-  wake : l.wake < l.self.table.shared.table_id.words;
+  wake : l.wake < l.self.table.table_id.words;
 }

@@ -9,13 +9,13 @@ use Rattle.lfm_mutex.proofs.ends.Seats.{splits, and_last, and_first, fresh_seate
 use Rattle.lfm_mutex.proofs.runs.Sights.{fresh_sight}
 use Rattle.lfm_mutex.proofs.mutex.Mutex.new.Goals as goal
 
-pub split_seat-place-requires : goal.split_seat-place-requires
-split_seat-place-requires g c = let k = c.loop-i.invariant in let v = c.loop-i.root.me.0 in let t = c.loop-i-test.true in let m = k.made in let s = ap (λ l. l.seats) k.limits_are in
-    (search rules, search rules, subst (λ i. Splits (Held g.T.Kept.follows g.T.Kept.fits) i v (with_split v) (split_view v)) (sym k.id) (splits g.T.Kept.follows g.T.Kept.fits v k.role (omega arith)))
+pub split_seat-place-requires-clause-allowed : goal.split_seat-place-requires-clause-allowed
+split_seat-place-requires-clause-allowed g c κs within = let k = c.loop-i.invariant in let v = c.loop-i.root.me.0 in let t = c.loop-i-test.true in let m = k.made in let s = ap (λ l. l.seats) k.limits_are in
+    subst (λ i. Splits (Held g.T.Kept.follows g.T.Kept.fits) i v (with_split v) (split_view v)) (sym k.id) (splits g.T.Kept.follows g.T.Kept.fits v k.role (omega arith))
 
 pub invariant_of-push_reserved : goal.invariant_of-push_reserved
 invariant_of-push_reserved g c = let k = c.loop-i.invariant in let r = c.split_seat-place.result in let l : Limits = record { seats = c.args.seats; budget = c.args.budget } in
-    let cut = c.split_seat-place.ensures in let me = cut.4 in let t = c.loop-i-test.true in let m = k.made in
+    let cut = c.split_seat-place.ensures in let me = cut.split.1 in let t = c.loop-i-test.true in let m = k.made in
     let allowed : are_in_limits c.args.seats c.args.budget ≡ true = search rules in
     let facts = limit_facts c.args.seats c.args.budget allowed in
     let named : r.me.0.number ≡ c.loop-i.i + 1 = (let e = ap (λ z. z.0.number) me in omega arith) in
@@ -36,9 +36,9 @@ invariant_of-push_reserved g c = let k = c.loop-i.invariant in let r = c.split_s
     }
 
 pub loop-i-preserved : goal.loop-i-preserved
-loop-i-preserved g c = let v = c.loop-i.invariant in let cut = c.split_seat-place.ensures in let me = cut.2 in let n = v.made in let m = v.room.0 in let l : Limits = record { seats = c.args.seats; budget = c.args.budget } in record {
-  table = cut.0 ∙ v.table;
-  id = cut.1 ∙ v.id;
+loop-i-preserved g c = let v = c.loop-i.invariant in let cut = c.split_seat-place.ensures in let me = cut.split.0 in let n = v.made in let m = v.room.0 in let l : Limits = record { seats = c.args.seats; budget = c.args.budget } in record {
+  table = cut.table.0 ∙ v.table;
+  id = cut.table.1 ∙ v.id;
   role = ap (λ m. m.0.role) me ∙ v.role;
   number = ap (λ m. m.0.number) me ∙ v.number;
   limits_are = ap (λ m. m.0.limits) me ∙ v.limits_are;
@@ -52,8 +52,8 @@ loop-i-preserved g c = let v = c.loop-i.invariant in let cut = c.split_seat-plac
   trail = ap (λ m. m.0.trail) me ∙ v.trail;
   standing = ap (λ m. m.0.standing) me ∙ v.standing;
   room = search rules;
-  fresh = and_last (λ j s. (s.place.table_id ≡ c.in-Ok-laid_out.laid.0.shared.table_id) × Fresh c.args.value (j + 2) s.number s.limits s.standing s.place.me s.moving l) c.loop-i.all.items c.push_reserved.new.self.items _ c.push_reserved.ensures.items
-      (cut.3 ∙ v.table, ((let q : c.loop-i.i + 1 ≡ length c.loop-i.all.items + 2 = omega arith in q), refl, c.at_rest.ensures, refl, ap (λ m. m.0.trail) cut.4, ap (λ m. m.0.last) cut.4 ∙ v.opening, ap (λ m. m.0.last_found) cut.4, ap (λ m. m.0.limits) cut.4 ∙ v.limits_are, ap (λ m. m.0.ended) cut.4)) v.fresh;
+  fresh = and_last (λ j s. (s.place.table_id ≡ c.in-Ok-laid_out.laid.0.table_id) × Fresh c.args.value (j + 2) s.number s.limits s.standing s.place.me s.moving l) c.loop-i.all.items c.push_reserved.new.self.items _ c.push_reserved.ensures.items
+      (cut.table.2 ∙ v.table, ((let q : c.loop-i.i + 1 ≡ length c.loop-i.all.items + 2 = omega arith in q), refl, c.at_rest.ensures, refl, ap (λ m. m.0.trail) cut.split.1, ap (λ m. m.0.last) cut.split.1 ∙ v.opening, ap (λ m. m.0.last_found) cut.split.1, ap (λ m. m.0.limits) cut.split.1 ∙ v.limits_are, ap (λ m. m.0.ended) cut.split.1)) v.fresh;
 }
 
 pub invariant_of-first : goal.invariant_of-first
@@ -79,8 +79,8 @@ invariant_of-first g c = let k = c.loop-i.invariant in let r = c.loop-i.root in 
 pub returns-clause-seats : goal.returns-clause-seats
 returns-clause-seats g c = let v = c.loop-i.invariant in let l : Limits = record { seats = c.args.seats; budget = c.args.budget } in (
   search rules,
-  λ j s e. let f = (and_first (λ j s. (s.place.table_id ≡ c.in-Ok-laid_out.laid.0.shared.table_id) × Fresh c.args.value (j + 1) s.number s.limits s.standing s.place.me s.moving l) c.loop-i.all.items _ _ c.in-Ok-insert.ensures.items
-      (v.table, (refl, refl, c.at_rest-2.ensures, refl, v.trail, v.last, v.found, v.limits_are, v.ended)) (λ j y e. subst (λ (n : ℕ). (y.place.table_id ≡ c.in-Ok-laid_out.laid.0.shared.table_id) × Fresh c.args.value n y.number y.limits y.standing y.place.me y.moving l) (let q : j + 2 ≡ j + 1 + 1 = omega arith in q) (v.fresh j y e))) j s e in
+  λ j s e. let f = (and_first (λ j s. (s.place.table_id ≡ c.in-Ok-laid_out.laid.0.table_id) × Fresh c.args.value (j + 1) s.number s.limits s.standing s.place.me s.moving l) c.loop-i.all.items _ _ c.in-Ok-insert.ensures.items
+      (v.table, (refl, refl, c.at_rest-2.ensures, refl, v.trail, v.last, v.found, v.limits_are, v.ended)) (λ j y e. subst (λ (n : ℕ). (y.place.table_id ≡ c.in-Ok-laid_out.laid.0.table_id) × Fresh c.args.value n y.number y.limits y.standing y.place.me y.moving l) (let q : j + 2 ≡ j + 1 + 1 = omega arith in q) (v.fresh j y e))) j s e in
       ((f.0, f.1.1), fresh_sight c.args.value (j + 1) s.number s.limits s.standing s.place.me s.moving l f.1),
 )
 

@@ -8,7 +8,7 @@ use Rattle.lfm_mutex.proofs.mutex.Mutex.new.Given as goal
 
 abbrev pub invariant-loop-i : goal.invariant-loop-i
 invariant-loop-i g l = record {
-  table : l.root.table_id ≡ l.table.shared.table_id;
+  table : l.root.table_id ≡ l.table.table_id;
   id : l.root.id ≡ 0;
   role : l.root.me.0.role ≡ User;
   number : l.root.me.0.number ≡ 1;
@@ -23,5 +23,5 @@ invariant-loop-i g l = record {
   trail : l.root.me.0.trail ≡ [];
   standing : l.root.me.0.standing ≡ absent;
   room : (length l.all.items + 1 ≡ l.i) × (vec_len l.all + 1 ≡ l.i) × (l.seats ≤ vec_capacity l.all);
-  fresh : (j : ℕ) (s : _) → get_elem? l.all.items j ≡ some s → (s.place.table_id ≡ l.table.shared.table_id) × Fresh l.fn.value (j + 2) s.number s.limits s.standing s.place.me s.moving l.limits;
+  fresh : (j : ℕ) (s : _) → get_elem? l.all.items j ≡ some s → (s.place.table_id ≡ l.table.table_id) × Fresh l.fn.value (j + 2) s.number s.limits s.standing s.place.me s.moving l.limits;
 }

@@ -1,15 +1,15 @@
-use Rattle.std.proofs.Common.{rules, sym, ap, ◌∙◌, arith}
+use Rattle.std.proofs.Common.{sym, ap, ◌∙◌, arith}
 use Rattle.lfm_table.specs.Rule.{value_in}
 use Rattle.lfm_mutex.proofs.ends.Seats.{reads_owner, depth_seen}
 use Rattle.lfm_mutex.proofs.runs.Sights.{owner_read_sight, owner_told}
 use Rattle.lfm_mutex.proofs.mutex.Mutex.owner.Goals as goal
 
-pub load-found-requires : goal.load-found-requires
-load-found-requires g c = (search rules, search rules, reads_owner g.T.Kept.follows g.T.Kept.fits _ _ _ c.args.seat.now.seated.user)
+pub read_owner-found-requires-clause-allowed : goal.read_owner-found-requires-clause-allowed
+read_owner-found-requires-clause-allowed g c κs within = reads_owner g.T.Kept.follows g.T.Kept.fits _ _ _ c.args.seat.now.seated.user
 
 pub returns-clause-tells : goal.returns-clause-tells
-returns-clause-tells g c = let s = c.args.seat.now in let n = c.load-found.result in let told = c.load-found.ensures.2 in
+returns-clause-tells g c = let s = c.args.seat.now in let n = c.read_owner-found.result in let told = c.read_owner-found.ensures.read in
     let deep = depth_seen s.place.me.0.standing s.limits s.standing s.became in
     let low = s.rooted.low in let high = s.rooted.high in let few = s.rooted.few in
     let own = owner_told c.new.result n s.number s.standing.depth c.new.ensures.valid c.new.ensures.value low (omega (arith, high, few)) (λ is. deep.1 (told.2 (is ∙ sym s.seated.named))) (λ d. told.3 (deep.0 d) ∙ s.seated.named) in
-    (n, owner_read_sight s.number n s.standing s.place.me.0 c.load-found.new.seat.me.0 (value_in s.moving) (ap (λ m. m.0) told.0), own.0, own.1, own.2)
+    (n, owner_read_sight s.number n s.standing s.place.me.0 c.read_owner-found.new.place.me.0 (value_in s.moving) (ap (λ m. m.0) told.0), own.0, own.1, own.2)

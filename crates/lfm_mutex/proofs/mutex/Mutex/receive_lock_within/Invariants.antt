@@ -5,10 +5,10 @@ use Rattle.lfm_mutex.proofs.mutex.Mutex.receive_lock_within.Given as goal
 
 abbrev pub invariant-loop : goal.invariant-loop
 invariant-loop g l = record {
-  belongs : (l.seat.place.table_id ≡ l.self.table.shared.table_id) × (l.seat.limits ≡ l.self.limits);
+  belongs : (l.seat.place.table_id ≡ l.self.table.table_id) × (l.seat.limits ≡ l.self.limits);
   beside : (l.seat.place.table_id ≡ l.fn.seat.place.table_id) × (l.seat.limits ≡ l.fn.seat.limits);
   seen : sight l.seat ≡ record (sight l.fn.seat) { trail = l.seat.place.me.0.trail };
   received : (ms : List (Sight g.row.T.Denot)) × FindNone l.self.limits (sight l.fn.seat) ms (sight l.seat);
   first : (sight l.seat ≡ sight l.fn.seat) ⊎ (((sight l.fn.seat).asleep ≡ true) × ((sight l.fn.seat).in_call ≡ false));
-  wake : l.wake < l.self.table.shared.table_id.words;
+  wake : l.wake < l.self.table.table_id.words;
 }

@@ -1,0 +1,200 @@
+//! The words of a mutex as a table, and a seat at it. Their fields are private, so an operation on a word is made by a function of
+//! this crate alone. The functions here are for this crate's own steps. A crate above uses those steps, and the functions of the
+//! files `opening`, `looks` and `closing`.
+ghost use Rattle.std.specs.Prelude.{◌≡◌, ◌+◌, ◌-◌, ◌%◌, ◌^◌, ◌<◌, ◌∷◌, ◌==◌, Option, bit_and};
+ghost use mathlib.Core.Option.{none};
+ghost use prog.Atomic.{either};
+ghost use Rattle.atomic_table.specs.Table.{step, Allows, rest};
+ghost use Rattle.lfm_table.specs.declared.rule.Moving.{Moving};
+ghost use Rattle.lfm_table.specs.Rule.{Held};
+
+pub mod closing;
+pub mod looks;
+pub mod opening;
+
+use crate::kept::Kept;
+use crate::moving_box::MovingBox;
+use crate::rule::{Key, MutexRule};
+use crate::seat_view::View;
+use atomic_table::{Play, Seat, Table};
+use std::alloc::Global;
+use std::marker::Model;
+use std::sync::Wait;
+use std::time::Duration;
+
+/// A seat of the table, which has no bytes.
+#[derive(Drop)]
+pub struct Place<T: Drop> {
+    seat: Seat<Option<MovingBox<T>>, View<T>>,
+}
+
+impl<T: Drop> Model for Place<T> {
+    ghost use Rattle.lfm_table.specs.SeenTable.{SeenPlace};
+
+    ghost Value = { SeenPlace T };
+
+    ghost view = { λ p. record { table_id = p.seat.table_id; id = p.seat.id; me = p.seat.me } };
+}
+
+/// The words of a mutex, with the rule that they and its seats keep.
+#[derive(Drop)]
+pub struct SharedTable<T: Kept> {
+    table: Table<Option<MovingBox<T>>, View<T>, Key<T>, MutexRule, Global>,
+}
+
+impl<T: Kept> Model for SharedTable<T> {
+    ghost use Rattle.lfm_table.specs.SeenTable.{SeenTable};
+
+    ghost Value = { SeenTable };
+
+    ghost view = { λ t. record { table_id = t.table.shared.table_id } };
+}
+
+// The operations on a word. Each asks, as the kit's table does, that the rule is kept whatever the table is.
+impl<T: Kept> SharedTable<T> {
+    #[inline(always)]
+    pub(crate) fn load<M: Play<Option<MovingBox<T>>, View<T>>>(
+        &self,
+        place: &mut Place<T>,
+        word: usize,
+    ) -> u64
+        requires table { place.old.table_id ≡ self.now.table_id }
+        requires inside { word < self.now.table_id.words }
+        requires allowed { Allows (Held T.follows T.fits) self.now.table_id.slots place.old.id place.old.me word (λ n. n) (M.then (step self.now.table_id.slots word 0 0 none) place.old.me) }
+        ensures table { (place.new.table_id ≡ place.old.table_id) × (place.new.id ≡ place.old.id) }
+        ensures step { M.then (step self.now.table_id.slots word 0 0 none) place.old.me result place.new.me }
+    {
+        self.table.shared.load::<M>(&mut place.seat, word)
+    }
+
+    #[inline(always)]
+    pub(crate) fn store<M: Play<Option<MovingBox<T>>, View<T>>>(
+        &self,
+        place: &mut Place<T>,
+        word: usize,
+        new: u64,
+    )
+        requires table { place.old.table_id ≡ self.now.table_id }
+        requires inside { word < self.now.table_id.words }
+        requires allowed { Allows (Held T.follows T.fits) self.now.table_id.slots place.old.id place.old.me word (λ _. new) (λ _. M.then (step self.now.table_id.slots word new 0 none) place.old.me new) }
+        ensures table { (place.new.table_id ≡ place.old.table_id) × (place.new.id ≡ place.old.id) }
+        ensures step { M.then (step self.now.table_id.slots word new 0 none) place.old.me new place.new.me }
+    {
+        self.table.shared.store::<M>(&mut place.seat, word, new);
+    }
+
+    #[inline(always)]
+    pub(crate) fn fetch_add<M: Play<Option<MovingBox<T>>, View<T>>>(
+        &self,
+        place: &mut Place<T>,
+        word: usize,
+        k: u64,
+    ) -> u64
+        requires table { place.old.table_id ≡ self.now.table_id }
+        requires inside { word < self.now.table_id.words }
+        requires allowed { Allows (Held T.follows T.fits) self.now.table_id.slots place.old.id place.old.me word (λ n. (n + k) % 2 ^ 64) (M.then (step self.now.table_id.slots word k 0 none) place.old.me) }
+        ensures table { (place.new.table_id ≡ place.old.table_id) × (place.new.id ≡ place.old.id) }
+        ensures step { M.then (step self.now.table_id.slots word k 0 none) place.old.me result place.new.me }
+    {
+        self.table.shared.fetch_add::<M>(&mut place.seat, word, k)
+    }
+
+    #[inline(always)]
+    pub(crate) fn fetch_sub<M: Play<Option<MovingBox<T>>, View<T>>>(
+        &self,
+        place: &mut Place<T>,
+        word: usize,
+        k: u64,
+    ) -> u64
+        requires table { place.old.table_id ≡ self.now.table_id }
+        requires inside { word < self.now.table_id.words }
+        requires allowed { Allows (Held T.follows T.fits) self.now.table_id.slots place.old.id place.old.me word (λ n. (n + (2 ^ 64 - k)) % 2 ^ 64) (M.then (step self.now.table_id.slots word k 0 none) place.old.me) }
+        ensures table { (place.new.table_id ≡ place.old.table_id) × (place.new.id ≡ place.old.id) }
+        ensures step { M.then (step self.now.table_id.slots word k 0 none) place.old.me result place.new.me }
+    {
+        self.table.shared.fetch_sub::<M>(&mut place.seat, word, k)
+    }
+
+    #[inline(always)]
+    pub(crate) fn fetch_and<M: Play<Option<MovingBox<T>>, View<T>>>(
+        &self,
+        place: &mut Place<T>,
+        word: usize,
+        k: u64,
+    ) -> u64
+        requires table { place.old.table_id ≡ self.now.table_id }
+        requires inside { word < self.now.table_id.words }
+        requires allowed { Allows (Held T.follows T.fits) self.now.table_id.slots place.old.id place.old.me word (λ n. bit_and n k) (M.then (step self.now.table_id.slots word k 0 none) place.old.me) }
+        ensures table { (place.new.table_id ≡ place.old.table_id) × (place.new.id ≡ place.old.id) }
+        ensures step { M.then (step self.now.table_id.slots word k 0 none) place.old.me result place.new.me }
+    {
+        self.table.shared.fetch_and::<M>(&mut place.seat, word, k)
+    }
+
+    /// Returns the word as it was, which has become `new` if it was `old`.
+    #[inline(always)]
+    pub(crate) fn compare_exchange<M: Play<Option<MovingBox<T>>, View<T>>>(
+        &self,
+        place: &mut Place<T>,
+        word: usize,
+        old: u64,
+        new: u64,
+    ) -> u64
+        requires table { place.old.table_id ≡ self.now.table_id }
+        requires inside { word < self.now.table_id.words }
+        requires allowed { Allows (Held T.follows T.fits) self.now.table_id.slots place.old.id place.old.me word (λ n. either (n == old) new n) (M.then (step self.now.table_id.slots word old new none) place.old.me) }
+        ensures table { (place.new.table_id ≡ place.old.table_id) × (place.new.id ≡ place.old.id) }
+        ensures step { M.then (step self.now.table_id.slots word old new none) place.old.me result place.new.me }
+    {
+        self.table
+            .shared
+            .compare_exchange::<M>(&mut place.seat, word, old, new)
+    }
+}
+
+// What is no operation on a word: the slot that a seat has, a load that tells nothing, sleep and wake.
+impl<T: Kept> SharedTable<T> {
+    /// A plain read and write of the slot that the seat took last.
+    #[inline(always)]
+    pub(crate) fn exchange(
+        &self,
+        place: &mut Place<T>,
+        slot: usize,
+        new: Option<MovingBox<T>>,
+    ) -> Option<MovingBox<T>>
+        requires table { place.old.table_id ≡ self.now.table_id }
+        requires slot { (old : Option (Moving T)) × (place.old.me.1 ≡ (slot, old) ∷ rest place.old.me.1) }
+        ensures table { (place.new.table_id ≡ place.old.table_id) × (place.new.id ≡ place.old.id) }
+        ensures slot { (place.old.me.1 ≡ (slot, result) ∷ rest place.old.me.1) × (place.new.me ≡ (place.old.me.0, (slot, new) ∷ rest place.old.me.1)) }
+    {
+        self.table.shared.exchange(&mut place.seat, slot, new)
+    }
+
+    #[inline(always)]
+    pub(crate) fn peek(&self, word: usize) -> u64
+        requires { word < self.now.table_id.words }
+    {
+        self.table.shared.peek(word)
+    }
+
+    /// Sleeps if the low 32 bits of the word are `expected`, until a wake. It may also return for no reason.
+    pub(crate) fn park<R: Wait>(&self, rt: &R, word: usize, expected: u32)
+        requires { word < self.now.table_id.words }
+    {
+        self.table.shared.park(rt, word, expected);
+    }
+
+    /// The same for at most this time.
+    pub(crate) fn park_timeout<R: Wait>(&self, rt: &R, word: usize, expected: u32, time: Duration)
+        requires { word < self.now.table_id.words }
+    {
+        self.table.shared.park_timeout(rt, word, expected, time);
+    }
+
+    /// Wakes one thread that parks on the word, if one does.
+    pub(crate) fn wake_one(&self, word: usize)
+        requires { word < self.now.table_id.words }
+    {
+        self.table.shared.wake_one(word);
+    }
+}

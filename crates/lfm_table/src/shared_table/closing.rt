@@ -1,0 +1,74 @@
+//! How a table ends: its seats are joined into seat 1, and what lies in its slot is taken out.
+ghost use Rattle.std.specs.Prelude.{◌≡◌, ◌<◌, [], length};
+ghost use mathlib.Core.Option.{some};
+ghost use lib.ListN.{get_elem?};
+ghost use Rattle.atomic_table.specs.Table.{Final, Joins, Seen};
+ghost use Rattle.lfm_table.specs.Rule.{Held, joined, with_joined};
+
+use crate::kept::Kept;
+use crate::layout::SLOT;
+use crate::moving_box::MovingBox;
+use crate::rule::{JoinedView, SeatJoin};
+use crate::shared_table::{Place, SharedTable};
+use atomic_table::Closed;
+use std::alloc::Global;
+use std::marker::Model;
+
+/// The table once no thread shares it any more. It can't be dropped: what lies in its slot has to be taken out.
+pub struct ClosedTable<T: Drop> {
+    closed: Closed<Option<MovingBox<T>>, Global>,
+}
+
+impl<T: Drop> Model for ClosedTable<T> {
+    ghost use Rattle.std.specs.Slots.{IsFull, slots_items};
+    ghost use Rattle.lfm_table.specs.SeenTable.{SeenClosed};
+
+    ghost Value = { SeenClosed T };
+
+    ghost view = { λ c. record { words = slots_items c.closed.words; slots = slots_items c.closed.slots } };
+
+    ghost invariant = { λ c. IsFull c.closed.slots };
+}
+
+impl<T: Kept> SharedTable<T> {
+    /// Joins a seat into seat 1. What is loaded for it is ignored.
+    pub fn join_seat<B: JoinedView<T>>(&self, root: &mut Place<T>, place: Place<T>)
+        requires table { (root.old.table_id ≡ self.now.table_id) × (place.table_id ≡ self.now.table_id) × (0 < self.now.table_id.words) }
+        requires free { place.me.1 ≡ [] }
+        requires allowed { Joins (Held T.follows T.fits) root.old.id root.old.me.0 place.id place.me.0 (with_joined root.old.me.0 place.me.0) (joined B.view) }
+        ensures table { (root.new.table_id ≡ root.old.table_id) × (root.new.id ≡ root.old.id) }
+        ensures joined { root.new.me ≡ (with_joined root.old.me.0 place.me.0, root.old.me.1) }
+    {
+        let Place { seat } = place;
+        self.table
+            .shared
+            .join_seat::<SeatJoin<B>>(&mut root.seat, seat);
+    }
+
+    /// Ends the table. Its last state keeps the rule, and has what seat 1 knows.
+    pub fn close_with(self, root: Place<T>) -> ClosedTable<T>
+        requires table { root.table_id ≡ self.table_id }
+        ensures counts { (length result.words ≡ self.table_id.words) × (length result.slots ≡ self.table_id.slots) }
+        ensures values { Final (Seen (Held T.follows T.fits) root.id root.me.0) result.words result.slots }
+    {
+        let SharedTable { table } = self;
+        let Place { seat } = root;
+        ClosedTable {
+            closed: table.close_with(seat),
+        }
+    }
+}
+
+impl<T: Drop> ClosedTable<T> {
+    /// What lies in the one slot.
+    pub fn into_slot(self) -> Option<MovingBox<T>>
+        requires { length self.slots ≡ 1 }
+        ensures { get_elem? self.slots 0 ≡ some result }
+    {
+        let ClosedTable { closed } = self;
+        let mut closed = closed;
+        let slot = closed.take(SLOT);
+        closed.free();
+        slot
+    }
+}

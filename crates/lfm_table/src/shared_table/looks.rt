@@ -1,0 +1,39 @@
+//! What a thread may see of a word outside the steps of its calls. A look is a load that tells a proof nothing, and no trail has it.
+//! A read of the owner word is told by the trail of its seat.
+ghost use Rattle.std.specs.Prelude.{◌≡◌, ◌<◌};
+ghost use Rattle.atomic_table.specs.Table.{Allows};
+ghost use Rattle.lfm_table.specs.Rule.{Held, ReadsOwner};
+
+use crate::kept::Kept;
+use crate::layout::{COUNT, OWNER};
+use crate::rule::OwnerRead;
+use crate::shared_table::{Place, SharedTable};
+
+impl<T: Kept> SharedTable<T> {
+    /// What one look finds at the count.
+    #[inline(always)]
+    pub fn look_at_count(&self) -> u64
+        requires { 0 < self.now.table_id.words }
+    {
+        self.peek(COUNT)
+    }
+
+    /// What one look finds at this wake word.
+    #[inline(always)]
+    pub fn look_at_wake(&self, word: usize) -> u64
+        requires { word < self.now.table_id.words }
+    {
+        self.peek(word)
+    }
+
+    /// What one load finds at the owner word.
+    #[inline(always)]
+    pub fn read_owner(&self, place: &mut Place<T>) -> u64
+        requires table { (place.old.table_id ≡ self.now.table_id) × (1 < self.now.table_id.words) }
+        requires allowed { Allows (Held T.follows T.fits) self.now.table_id.slots place.old.id place.old.me 1 (λ n. n) (ReadsOwner place.old.me) }
+        ensures table { (place.new.table_id ≡ place.old.table_id) × (place.new.id ≡ place.old.id) }
+        ensures read { ReadsOwner place.old.me result place.new.me }
+    {
+        self.load::<OwnerRead>(place, OWNER)
+    }
+}

@@ -2,7 +2,7 @@
 ghost use Rattle.std.specs.Prelude.{◌≡◌, ℕ, IfErr, IfOk, Some};
 ghost use mathlib.Core.Option.{some};
 ghost use lib.ListN.{get_elem?};
-ghost use Rattle.lfm_mutex.specs.Close.{AllStand, FirstMissing, LeftLast, LeftByLastHold};
+ghost use Rattle.lfm_mutex.specs.Close.{AllStand, FirstMissing, HaveRun, LeftLast, LeftByLastHold};
 ghost use Rattle.lfm_condvar.specs.Belongs.{OfCondvar, SameCondvar, cond_limits, cond_sight};
 ghost use Rattle.lfm_condvar.specs.Keeping.{Since};
 
@@ -13,7 +13,8 @@ use lfm_model::Missing;
 impl Condvar {
     /// Ends the condvar and answers how many tickets were sent, and how many were added, where all its cond seats are there.
     /// The numbers are those of the list that the last hold of all left, which is that of the cond seat whose `ended` is the
-    /// greatest, or 0 and 0 where none has had the list. Otherwise it hands back the condvar and the cond seats, and names
+    /// greatest, or 0 and 0 where none has had the list. The trails of the cond seats are then their parts of one run of the
+    /// inner mutex, from the start to a free state. Otherwise it hands back the condvar and the cond seats, and names
     /// the first that isn't. It compares each of the seats' numbers with each handed in, takes no memory and never waits.
     pub fn close(
         self,
@@ -23,6 +24,7 @@ impl Condvar {
         ensures missing { IfErr result (λ e. SameCondvar self e.0 × (e.1 ≡ seats) × FirstMissing (λ s. cond_sight s) seats.items (cond_limits self).seats e.2) }
         ensures all { IfOk result (λ _. AllStand (λ s. cond_sight s) seats.items (cond_limits self).seats) }
         ensures numbers { IfOk result (λ r. (w : _) × (r.0 ≡ w.sent) × (r.1 ≡ w.added) × ((j : ℕ) (s : _) (l : _) → get_elem? seats.items j ≡ some s → (cond_sight s).last ≡ Some l → Since (cond_sight s).number l w) × LeftLast (λ s. cond_sight s) seats.items w × LeftByLastHold (λ s. cond_sight s) seats.items w) }
+        ensures run { IfOk result (λ _. HaveRun (λ s. cond_sight s) (cond_limits self) seats.items) }
     {
         let Condvar {
             inner,

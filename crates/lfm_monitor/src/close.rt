@@ -1,8 +1,8 @@
 //! How a monitor is closed.
 ghost use Rattle.lfm_model.specs.Journals.{LawfulJournal, after_all, own, total};
-ghost use Rattle.lfm_monitor.specs.Belongs.{SameMonitor, OfMonitor, mine_of, opening_of, pass_sight, passes_of};
+ghost use Rattle.lfm_monitor.specs.Belongs.{SameMonitor, OfMonitor, mine_of, mutex_limits, opening_of, pass_sight, passes_of};
 ghost use Rattle.lfm_monitor.specs.Passes.{GoesOnTo, journal_of};
-ghost use Rattle.lfm_mutex.specs.Close.{AllStand, FirstMissing};
+ghost use Rattle.lfm_mutex.specs.Close.{AllStand, FirstMissing, HaveRun};
 ghost use Rattle.std.specs.Prelude.{◌≡◌, ℕ, IfErr, IfOk, length, vec_len};
 ghost use lib.ListN.{get_elem?};
 ghost use mathlib.Core.Option.{some};
@@ -15,7 +15,8 @@ use lfm_model::{Entry, Missing, Object};
 impl<O: Object> Monitor<O> {
     /// Gives the object and the journal back, and ends the monitor, where all passes are there, none holds and none sleeps.
     /// The journal is lawful, its replay from the opening object gives the object, and it has the entries that the passes
-    /// wrote, each once. It begins with what a pass left last, whichever pass it is, and goes on with entries of others.
+    /// wrote, each once. It begins with what a pass left last, whichever pass it is, and goes on with entries of others. The
+    /// trails of the passes are their parts of one run of the mutex, from the start to a free state.
     ///
     /// Otherwise it hands back the monitor and the passes, and names the first pass that hinders it, and how. It takes no
     /// memory and never waits.
@@ -32,6 +33,7 @@ impl<O: Object> Monitor<O> {
         ensures mine { IfOk result (λ r. (j : ℕ) (p : _) → get_elem? passes.items j ≡ some p → (own (pass_sight p).number r.1.items ≡ own (pass_sight p).number (journal_of (pass_sight p))) × (mine_of p ≡ length (own (pass_sight p).number r.1.items))) }
         ensures order { IfOk result (λ r. (j : ℕ) (p : _) → get_elem? passes.items j ≡ some p → GoesOnTo (pass_sight p) r.1.items) }
         ensures whole { IfOk result (λ r. vec_len r.1 ≡ total (λ p. mine_of p) passes.items) }
+        ensures run { IfOk result (λ _. HaveRun (λ p. pass_sight p) (mutex_limits self) passes.items) }
     {
         let Monitor {
             mutex,

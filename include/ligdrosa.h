@@ -238,7 +238,7 @@ static inline uint64_t lfm_nanoseconds(void) {
   return (uint64_t)now.tv_sec * 1000000000 + (uint64_t)now.tv_nsec;
 }
 
-/* Looks for so many nanoseconds whether the bell rings again, after it has rung `seen` times. A look loads the bell alone, which no other
+/* Looks for this many nanoseconds whether the bell rings again, after it has rung `seen` times. A look loads the bell alone, which no other
  * seat's steps touch, after some pauses. */
 static inline bool lfm_hears(lfm_bell *bell, uint32_t seen, uint64_t nanoseconds) {
   if (nanoseconds == 0) return false;
@@ -252,7 +252,7 @@ static inline bool lfm_hears(lfm_bell *bell, uint32_t seen, uint64_t nanoseconds
   return false;
 }
 
-/* Sleeps until the seat, which is asleep, is granted the mutex, after it has looked for so many nanoseconds. */
+/* Sleeps until the seat, which is asleep, is granted the mutex, after it has looked for this many nanoseconds. */
 static inline lfm_status lfm_receive(lfm_seat *seat, uint64_t nanoseconds) {
   lfm_bell *bell = seat->bell;
   for (;;) {

@@ -1,4 +1,4 @@
-use Rattle.std.proofs.Common.{nat_eq, refl, rules}
+use Rattle.std.proofs.Common.{nat_eq, refl}
 use prog.Atomic.{either}
 use Rattle.lfm_protocol.specs.declared.kinds.Kind.{Kind}
 use Rattle.lfm_table.specs.Rule.{value_in}

@@ -1,4 +1,4 @@
-use Rattle.std.proofs.Common.{ℕ, nat_eq, refl, ap, ◌∙◌, rules}
+use Rattle.std.proofs.Common.{ℕ, nat_eq, refl, ap, ◌∙◌}
 use prog.Atomic.{either}
 use Rattle.lfm_protocol.specs.declared.kinds.Kind.{Kind}
 use Rattle.lfm_words.specs.Words.{link_word}

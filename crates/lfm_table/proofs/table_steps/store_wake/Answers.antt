@@ -1,4 +1,4 @@
-use Rattle.std.proofs.Common.{◌+◌, ap, ◌∙◌, rules, arith, true≢false}
+use Rattle.std.proofs.Common.{◌+◌, ap, ◌∙◌, arith, true≢false}
 use Rattle.lfm_protocol.specs.declared.kinds.Kind.{Kind}
 use Rattle.lfm_words.specs.Words.{wake_word}
 use Rattle.lfm_table.specs.Grants.{owed}

@@ -1,6 +1,6 @@
 -- What the rule of the table says of a running mutex, from the laws of the core, and what a seat knows of its mutex.
 use Rattle.std.proofs.Common.{ℕ, Option, ap, ◌∙◌}
-use Rattle.atomic_table.specs.Table.{State}
+use Rattle.lfm_table.specs.Table.{State}
 use Rattle.lfm_laws.specs.steady.Steady.{Steady}
 use Rattle.lfm_laws.proofs.lawful.states.StateLaws as StateLaws
 use Rattle.lfm_laws.proofs.lawful.states.StateLaws.{states_are_lawful, handoffs_are_watched, quiescent_states_rest}

@@ -4,7 +4,7 @@
 use Rattle.std.specs.Prelude.{◌≡◌, ℕ, ◌<◌, List, length, Option, Some, None, true}
 use mathlib.Core.Option.{some}
 use lib.ListN.{get_elem?}
-use Rattle.atomic_table.specs.Table.{State}
+use Rattle.lfm_table.specs.Table.{State}
 use Rattle.lfm_model.specs.Abstract.{AbstractMutex}
 use Rattle.lfm_protocol.specs.Core.{Core}
 use Rattle.lfm_laws.specs.laws.Reading.{Reads}

@@ -1,6 +1,6 @@
 -- A seat as it begins.
 use Rattle.std.specs.Prelude.{◌≡◌, ℕ, [], Option, Some, None}
-use Rattle.atomic_table.specs.Table.{Me}
+use Rattle.lfm_table.specs.Table.{Me}
 use Rattle.lfm_protocol.specs.declared.limits.Limits.{Limits}
 use Rattle.lfm_protocol.specs.declared.seats.SeatState.{SeatState}
 use Rattle.lfm_protocol.specs.Seats.{absent}

@@ -3,7 +3,7 @@
 use Rattle.std.specs.Prelude.{◌≡◌, ◌⊎◌, ℕ, ◌+◌, ◌*◌, ◌<◌, ◌≤◌, List, [], ◌∷◌, ◌++◌, Option, Some, true, length, replicate, slice_index, slice_index_or, nat_eq, if◌then◌else◌, filter, flat_map, sum_by}
 use mathlib.Core.Option.{some}
 use lib.ListN.{get_elem?}
-use Rattle.atomic_table.specs.Table.{Act, Joins, Me, Splits, State, Valid, carried_after, keeps, opening, stepped}
+use Rattle.lfm_table.specs.Table.{Act, Joins, Me, Splits, State, Valid, carried_after, keeps, opening, stepped}
 use Rattle.lfm_model.specs.Abstract.{AbstractMutex, all_free}
 use Rattle.lfm_model.specs.AbstractRuns.{IsRun}
 use Rattle.lfm_model.specs.Sums.{sum_to}

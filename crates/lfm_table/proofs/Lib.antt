@@ -1,1 +1,2 @@
+pub use Rattle.atomic_table.proofs.Lists
 pub mod tables

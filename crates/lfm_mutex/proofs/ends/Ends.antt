@@ -7,8 +7,8 @@ use mathlib.Core.Option.{some, some-injective, some-ne-none}
 use lib.ListN.{get_elem?}
 use mathlib.Core.Logic.{dite}
 use native.Mathlib.Decide.{ℕ_discrete}
-use Rattle.atomic_table.specs.Table.{State, Me, Final, Seen}
-use Rattle.atomic_table.proofs.Lists.{at_last, at_longer, at_index}
+use Rattle.lfm_table.specs.Table.{State, Me, Final, Seen}
+use Rattle.lfm_table.proofs.Lists.{at_last, at_longer, at_index}
 use Rattle.lfm_protocol.specs.declared.answers.Call.{Call}
 use Rattle.lfm_protocol.specs.declared.answers.Call.TheVariants.{Receive}
 use Rattle.lfm_protocol.specs.declared.limits.Limits.{Limits}

@@ -10,8 +10,8 @@ use lib.ListN.{get_elem?}
 use lib.Seq.{set-get_or}
 use mathlib.Core.Logic.{dite}
 use native.Mathlib.Decide.{ℕ_discrete}
-use Rattle.atomic_table.specs.Table.{State, Me, keeps, Allows, Splits, Joins, opening, stepped}
-use Rattle.atomic_table.proofs.Lists.{at_set, set_here, set_else, at_last, at_longer}
+use Rattle.lfm_table.specs.Table.{State, Me, keeps, Allows, Splits, Joins, opening, stepped}
+use Rattle.lfm_table.proofs.Lists.{at_set, set_here, set_else, at_last, at_longer}
 use Rattle.lfm_words.specs.declared.wakes.Wake.TheVariants.{Quiet}
 use Rattle.lfm_words.specs.Words.{link_word, wake_word}
 use Rattle.lfm_protocol.specs.declared.limits.Limits.{Limits}

@@ -2,7 +2,7 @@
 use Rattle.std.proofs.Common.{◌≡◌, ◌≢◌, ℕ, ◌+◌, ◌-◌, ◌<◌, ◌≤◌, ◌%◌, if◌then◌else◌, nat_eq, nat_lt, sym, refl, ap, ◌∙◌, subst, arith, tests, Option}
 use Rattle.std.specs.Prelude.{Bool, true, false}
 use Rattle.std.proofs.lemmas.Bool.{ne_eqb, eq-eqb, false≢true}
-use Rattle.atomic_table.specs.Table.{Me}
+use Rattle.lfm_table.specs.Table.{Me}
 use Rattle.lfm_model.specs.declared.answers.How.{How}
 use Rattle.lfm_words.specs.declared.pop_lists.Record.{Record}
 use Rattle.lfm_protocol.specs.declared.answers.Call.{Call}

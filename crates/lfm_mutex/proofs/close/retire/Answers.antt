@@ -1,5 +1,5 @@
 use Rattle.std.proofs.Common.{ℕ, sym, subst}
-use Rattle.atomic_table.specs.Table.{Joins}
+use Rattle.lfm_table.specs.Table.{Joins}
 use Rattle.lfm_table.specs.declared.seat_view.View.{View}
 use Rattle.lfm_table.specs.Rule.{Held, with_joined, joined}
 use Rattle.lfm_mutex.proofs.ends.Seats.{joins}

@@ -1,5 +1,5 @@
 use Rattle.std.proofs.Common.{rules, ◌≡◌, [], ◌∷◌, ◌+◌, ◌*◌, List, replicate, ap, ◌∙◌, sym, subst, Some, Option}
-use Rattle.atomic_table.specs.Table.{opening}
+use Rattle.lfm_table.specs.Table.{opening}
 use Rattle.lfm_table.specs.declared.rule.Moving.{Moving}
 use Rattle.lfm_table.specs.Rule.{Held, first_view}
 use Rattle.lfm_mutex.proofs.ends.Seats.{starts}

@@ -5,7 +5,7 @@ use lib.ListN.{get_elem?}
 use mathlib.Core.Logic.{dite}
 use native.Mathlib.Decide.{ℕ_discrete}
 use Rattle.std.specs.List.{remove}
-use Rattle.atomic_table.specs.Table.{Final, Seen}
+use Rattle.lfm_table.specs.Table.{Final, Seen}
 use Rattle.lfm_table.specs.declared.rule.Moving.{Moving}
 use Rattle.lfm_mutex.specs.Close.{Idle, IsFree}
 use Rattle.lfm_table.specs.Reach.{Reached}

@@ -1,6 +1,6 @@
 use Rattle.std.proofs.Common.{rules, ◌≡◌, ℕ, ◌+◌, ap, ◌∙◌, sym, refl, subst, arith, length, true≢false}
 use Rattle.std.specs.Prelude.{true}
-use Rattle.atomic_table.specs.Table.{Splits}
+use Rattle.lfm_table.specs.Table.{Splits}
 use Rattle.lfm_protocol.specs.declared.limits.Limits.{Limits}
 use Rattle.lfm_protocol.specs.Limits.{are_in_limits}
 use Rattle.lfm_mutex.specs.Fresh.{Fresh}

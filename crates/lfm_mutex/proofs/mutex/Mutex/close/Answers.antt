@@ -171,8 +171,8 @@ returns-clause-reached g c j s l at seen =
 pub returns-clause-run : goal.returns-clause-run
 returns-clause-run g c =
     let i = c.loop-seat.invariant in let v = c.loop-seat.root.me.0 in let n = c.in_default-pop.ensures.cases in let a = i.counts in let z = n.0 in
-    let end : Final (Seen (Held g.T.Kept.follows g.T.Kept.fits) 0 v) (slots_items c.close_with.result.words) (slots_items c.close_with.result.slots) = subst (λ k. Final (Seen (Held g.T.Kept.follows g.T.Kept.fits) k v) (slots_items c.close_with.result.words) (slots_items c.close_with.result.slots)) i.root.0 c.close_with.ensures.values.2 in
-    let e = ends g.T.Kept.follows g.T.Kept.fits v (slots_items c.close_with.result.words) (slots_items c.close_with.result.slots) (omega arith) i.root.3 i.root.4 end in
+    let end : Final (Seen (Held g.T.Kept.follows g.T.Kept.fits) 0 v) c.close_with.result.words c.close_with.result.slots = subst (λ k. Final (Seen (Held g.T.Kept.follows g.T.Kept.fits) k v) c.close_with.result.words c.close_with.result.slots) i.root.0 c.close_with.ensures.values in
+    let e = ends g.T.Kept.follows g.T.Kept.fits v c.close_with.result.words c.close_with.result.slots (omega arith) i.root.3 i.root.4 end in
     let run = e.8 in record {
       actions = run.actions;
       allowed = subst (λ (l : Limits). are_in_limits l.seats l.budget ≡ true) i.limits run.allowed;

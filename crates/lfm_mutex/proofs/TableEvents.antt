@@ -12,6 +12,7 @@ use Rattle.lfm_laws.specs.table.Words.{AreNarrow, index, written}
 use Rattle.lfm_laws.proofs.table.TableSteps.{found_at, put_popped, put_seats, put_turn, put_words}
 use Rattle.lfm_laws.proofs.table.Narrow.{narrow_with}
 use Rattle.lfm_laws.proofs.table.Settled.{settles_keeps, settles_narrow}
+use Rattle.lfm_table.specs.Actions.{told}
 use Rattle.lfm_table.proofs.tables.SettledKept.{settles_of}
 use Rattle.lfm_table.proofs.tables.RuleKept.{led_on, length_at}
 use Rattle.lfm_mutex.proofs.ends.Seats.{joins, joins_keep, reads_owner_of, splits, splits_keep, starts, starts_at}
@@ -43,19 +44,19 @@ module _ {T : Type 0} (follows : ℕ → T → T → Type 0) (fits : T → ℕ �
   pub tables_go_on_as_the_core : TablesGoOnAsTheCore follows fits
   tables_go_on_as_the_core s c j me p a holds at user became ready =
       let h = holds.0 in
-      let on = led_on follows fits 1 j me p a (index p me.0.limits.seats me.0.number) (λ n. written p me.0.number n) (λ n. n) user became refl (λ n. refl) (λ n e. refl) ready s h at in
+      let on = led_on follows fits 1 j me p a (index p me.0.limits.seats me.0.number) (λ n. written p me.0.number n) (λ n. told p me.0.number n) user became refl (λ n. refl) (λ n. refl) ready s h at in
       (slice_index s.words (index p me.0.limits.seats me.0.number), on.0, on.1, refl, on.2, (on.3.0, on.3.1 ∙ ap (λ (x : Core). (made (put x me.0.number p) me.0.number).core) holds.1), on.4)
 
   pub tables_open_at_the_start : TablesOpenAtTheStart follows fits
   tables_open_at_the_start l x allowed none room suits =
-      let ws = replicate (4 + 2 * l.seats) 0 in (starts follows fits l ws x allowed refl none room suits, starts_at follows fits l ws x allowed refl none room suits)
+      let ws = replicate (4 + 2 * l.seats) 0 in (starts follows fits l ws x allowed refl none room suits, (starts_at follows fits l ws x allowed refl none room suits).0)
 
   pub other_steps_keep_the_core : OtherStepsKeepTheCore follows fits
   other_steps_keep_the_core c = (
-    (λ v user room s holds at. (splits follows fits v user room s holds.0 at, splits_keep follows fits v user room s holds.0 at ∙ holds.1)),
+    (λ v user room s holds at. (splits follows fits v user room s holds.0 at, (splits_keep follows fits v user room s holds.0 at).0 ∙ holds.1)),
     (λ v w other user uses rests flat s holds at apart there. (
       joins follows fits v w other user uses rests flat s holds.0 at apart there,
-      joins_keep follows fits v w other user uses rests flat s holds.0 at apart there ∙ holds.1,
+      (joins_keep follows fits v w other user uses rests flat s holds.0 at apart there).0 ∙ holds.1,
     )),
     (λ slots id me user. reads_owner_of follows fits c slots id me user),
   )

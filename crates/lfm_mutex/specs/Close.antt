@@ -4,8 +4,13 @@ use mathlib.Core.Option.{some}
 use lib.ListN.{get_elem?}
 use Rattle.lfm_model.specs.declared.refusals.Missing.{Missing}
 use Rattle.lfm_model.specs.declared.refusals.Missing.TheVariants.{NotBack, Holding, Asleep}
+use Rattle.lfm_protocol.specs.declared.limits.Limits.{Limits}
 use Rattle.lfm_protocol.specs.Core.{Core}
+use Rattle.lfm_protocol.specs.Limits.{are_in_limits}
 use Rattle.lfm_protocol.specs.Seats.{unposted}
+use Rattle.lfm_protocol.specs.Step.{start}
+use Rattle.lfm_laws.specs.laws.Schedules.{reached}
+use Rattle.lfm_table.specs.Actions.{Action, events_of, part_of}
 use Rattle.lfm_laws.specs.table.Words.{words}
 use Rattle.lfm_mutex.specs.calls.Sight.{Sight}
 
@@ -78,3 +83,13 @@ pub record IsFree (c : Core) : Type 0 where
 -- these are the words of a mutex that is free
 abbrev pub AreFree : List ℕ → Type 0
 AreFree ws = (c : Core) × (ws ≡ words c) × IsFree c
+
+module _ {A : Type 0} {T : Type 0} (look : A → Sight T) (l : Limits) (seats : List A) where
+  -- Since the opening with these limits some actions of these seats, and of nobody else, have led from the start to a free state. The trail
+  -- of each seat is its part of them.
+  pub record HaveRun : Type 0 where
+    pub actions : List Action
+    pub allowed : are_in_limits l.seats l.budget ≡ true
+    pub free : IsFree (reached l (events_of actions))
+    pub trails : (i : ℕ) (s : A) → get_elem? seats i ≡ some s → (look s).trail ≡ part_of (start l) (look s).number actions
+    pub others : (t : ℕ) → (t ≡ 0) ⊎ (l.seats < t) → part_of (start l) t actions ≡ []

@@ -9,5 +9,6 @@ pub mod Paces
 pub mod Rounds
 pub mod ValueMut
 pub mod TableEvents
+pub mod TableRuns
 pub mod TableStates
 pub use Rattle.lfm_table.specs.Reach

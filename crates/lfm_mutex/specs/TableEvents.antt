@@ -16,6 +16,7 @@ use Rattle.lfm_laws.specs.table.Words.{words, index, written, stepped_by, popped
 use Rattle.lfm_table.specs.declared.rule.Moving.{Moving}
 use Rattle.lfm_table.specs.declared.seat_view.Role.TheVariants.{User}
 use Rattle.lfm_table.specs.declared.seat_view.View.{View}
+use Rattle.lfm_table.specs.Actions.{told}
 use Rattle.lfm_table.specs.Rule.{Advanced, Held, ReadsOwner, first_view, joined, split_view, with_joined, with_split}
 use Rattle.lfm_table.specs.Settled.{Became}
 use Rattle.lfm_table.specs.Steps.{Ready}
@@ -48,7 +49,7 @@ module _ {T : Type 0} (follows : ℕ → T → T → Type 0) (fits : T → ℕ �
       → get_elem? s.views j ≡ some me.0 → me.0.role ≡ User → Became me.0.standing me.0.limits p → Ready follows fits p a me
       → (n : ℕ) × (w : View T) × (act : Act (Option (Moving T))) × (n ≡ slice_index s.words (index p me.0.limits.seats me.0.number)) × Valid s.homes me.1 act
       × HoldsOf (made (put c me.0.number p) me.0.number).core (stepped s (index p me.0.limits.seats me.0.number) (written p me.0.number n) j me.1 w act)
-      × Advanced follows fits p a me n (w, carried_after me.1 act)
+      × Advanced follows fits p a me (told p me.0.number n) (w, carried_after me.1 act)
 
   -- a table at its opening is the core at its start
   abbrev pub TablesOpenAtTheStart : Type 0

@@ -7,7 +7,7 @@ ghost use Rattle.lfm_model.specs.SeatNumbers.{IsSeatNo};
 ghost use Rattle.lfm_protocol.specs.declared.points.Point.TheVariants.{Rest};
 ghost use Rattle.lfm_table.specs.declared.seat_view.Role.TheVariants.{User};
 ghost use Rattle.lfm_mutex.specs.Belongs.{OfMutex, limits_of};
-ghost use Rattle.lfm_mutex.specs.Close.{AreFree, Idle, Hinders, named, Lacks, Stands, Hindered, FirstMissing, AllStand, LeftLast, LeftByLastHold};
+ghost use Rattle.lfm_mutex.specs.Close.{AreFree, Idle, Hinders, named, Lacks, Stands, Hindered, FirstMissing, AllStand, LeftLast, LeftByLastHold, HaveRun};
 ghost use Rattle.lfm_table.specs.Reach.{Reached};
 ghost use Rattle.lfm_mutex.specs.calls.Sight.{sight};
 ghost use Rattle.lfm_table.specs.Rule.{with_joined};
@@ -150,6 +150,7 @@ impl<T: Kept> Mutex<T> {
         ensures last { IfOk result (λ v. LeftLast (λ p. sight (P.seat_of p)) seats.items v) }
         ensures latest { IfOk result (λ v. LeftByLastHold (λ p. sight (P.seat_of p)) seats.items v) }
         ensures reached { IfOk result (λ v. (j : ℕ) (s : _) (l : T) → get_elem? seats.items j ≡ some s → (sight (P.seat_of s)).last ≡ Some l → Reached T.follows (sight (P.seat_of s)).seats (sight (P.seat_of s)).number l v) }
+        ensures run { IfOk result (λ _. HaveRun (λ p. sight (P.seat_of p)) (limits_of self) seats.items) }
     {
         if let Some(missing) = self.missing(&seats) {
             return Err((self, seats, missing));

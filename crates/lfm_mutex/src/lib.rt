@@ -18,6 +18,7 @@ mod queue;
 mod queue_target;
 mod receive;
 mod rounds;
+pub mod run_laws;
 pub mod seat;
 mod sections;
 mod send;

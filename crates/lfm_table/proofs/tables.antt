@@ -2,6 +2,7 @@
 pub mod AtWord
 pub mod ByKind
 pub mod CoreFacts
+pub mod Actions
 pub mod Granted
 pub mod Numbered
 pub mod RuleKept

@@ -28,10 +28,11 @@ use Rattle.lfm_laws.specs.steady.Steady.{DepthAt, IsSeen, Fits}
 use Rattle.lfm_laws.specs.table.Words.{words, stepped_by, popped_by_step, link_of, AreNarrow}
 use Rattle.lfm_table.specs.declared.seat_view.Role.{Role}
 use Rattle.lfm_table.specs.declared.seat_view.Role.TheVariants.{User, Retired}
-use Rattle.lfm_table.specs.declared.seat_view.Seen.{Seen}
 use Rattle.lfm_table.specs.declared.seat_view.Joined.{Joined}
 use Rattle.lfm_table.specs.declared.seat_view.View.{View}
 use Rattle.lfm_table.specs.declared.rule.Moving.{Moving}
+pub use Rattle.lfm_table.specs.Actions.{seen}
+use Rattle.lfm_table.specs.Actions.{Action, HasRun}
 use Rattle.lfm_table.specs.Reach.{Reached}
 
 -- Views
@@ -83,7 +84,7 @@ split_view v =
     }
 
 abbrev pub joined_of : {T : Type 0} → View T → Joined T
-joined_of w = record { number = w.number; last = w.last; found = w.last_found; ended = w.ended }
+joined_of w = record { number = w.number; last = w.last; found = w.last_found; ended = w.ended; trail = w.trail }
 
 -- v once it has taken in w
 abbrev pub with_joined : {T : Type 0} → View T → View T → View T
@@ -113,9 +114,6 @@ no_view =
       joined = [];
     }
 
-abbrev pub seen : Point → ℕ → Seen
-seen point n = record { point = point; found = n }
-
 abbrev pub retired_at : Role → ℕ
 retired_at Retired = 1
 retired_at _ = 0
@@ -132,7 +130,7 @@ pub record Roots {T : Type 0} (views : List (View T)) (k : View T) : Type 0 wher
   pub user : k.role ≡ User
   pub made : length views ≡ k.made + 1
   pub back : sum_over retired views ≡ length k.joined
-  pub kept : (i : ℕ) (g : Joined T) → get_elem? k.joined i ≡ some g → (j : ℕ) × (z : View T) × (get_elem? views j ≡ some z) × (z.role ≡ Retired) × (z.number ≡ g.number) × (z.last ≡ g.last) × (z.last_found ≡ g.found) × (z.ended ≡ g.ended)
+  pub kept : (i : ℕ) (g : Joined T) → get_elem? k.joined i ≡ some g → (j : ℕ) × (z : View T) × (get_elem? views j ≡ some z) × (z.role ≡ Retired) × (z.number ≡ g.number) × (z.last ≡ g.last) × (z.last_found ≡ g.found) × (z.ended ≡ g.ended) × (z.trail ≡ g.trail)
   pub gone : (j : ℕ) (z : View T) → get_elem? views j ≡ some z → z.role ≡ Retired → (i : ℕ) × (get_elem? k.joined i ≡ some (joined_of z))
 
 -- no seat has ended a hold
@@ -246,7 +244,7 @@ module _ {T : Type 0} (follows : ℕ → T → T → Type 0) (suits : T → ℕ 
     pub shallow : v.standing.depth ≡ 0 → suits value v.answered × ((l : T) → v.last ≡ Some l → Reached follows v.limits.seats (j + 1) l value)
     pub left : v.standing.depth ≡ 0 → LeftIn views n value
 
-  -- words and views are a steady state of the core, and the value is where the core says
+  -- words and views are a steady state of the core, to which a run from its start has led, and the value is where the core says
   pub record Held (s : State (Option (Moving T)) (View T)) : Type 0 where
     pub core : Core
     pub ghost_state : Ghost
@@ -263,6 +261,9 @@ module _ {T : Type 0} (follows : ℕ → T → T → Type 0) (suits : T → ℕ 
     pub numbered : AreNumbered s.views holds_ended
     pub root : (k : View T) → get_elem? s.views 0 ≡ some k → Roots s.views k
     pub others : (j : ℕ) (v : View T) → get_elem? s.views j ≡ some v → v.role ≡ Retired → (v.standing.point ≡ Rest) × (v.standing.depth ≡ 0)
+    pub opened : Limits
+    pub actions : List Action
+    pub run : HasRun opened actions core s.views
 
   -- what a step does with the slot and with what is noted of the value, by whether its seat carries before and after
   abbrev pub Hands : Bool → Bool → Point → Option T → List Record → Mine → Mine → Type 0

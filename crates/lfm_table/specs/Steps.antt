@@ -20,16 +20,9 @@ use Rattle.lfm_laws.specs.table.Words.{stepped_by, popped_by_step, popped_if, li
 use Rattle.lfm_table.specs.declared.seat_view.Role.TheVariants.{User}
 use Rattle.lfm_table.specs.declared.seat_view.View.{View}
 use Rattle.lfm_table.specs.declared.rule.Moving.{Moving}
+pub use Rattle.lfm_table.specs.Actions.{stores}
 use Rattle.lfm_table.specs.Rule.{value_in, Advanced}
 use Rattle.lfm_table.specs.Settled.{Became}
-
--- the kinds of step that find nothing
-abbrev pub stores : Option Kind → Bool
-stores (Some Kind.OwnerStore) = true
-stores (Some Kind.LinkStore) = true
-stores (Some Kind.HandoffStore) = true
-stores (Some Kind.WakeStore) = true
-stores _ = false
 
 -- a step at this point may give the value away
 abbrev pub gives_at : Point → Bool

@@ -16,13 +16,14 @@ pub struct Seen {
     pub found: u64,
 }
 
-/// A seat that was joined, with the value that it left last, the one that it had found before that, and the number of the
-/// hold that it ended then.
+/// A seat that was joined, with the value that it left last, the one that it had found before that, the number of the hold
+/// that it ended then, and its steps.
 pub struct Joined<T> {
     pub number: u64,
     pub last: Option<T>,
     pub found: Option<T>,
     pub ended: u64,
+    pub trail: LinkedList<Seen>,
 }
 
 /// What a seat of the table knows. No value of it is ever made: it is for proofs alone.

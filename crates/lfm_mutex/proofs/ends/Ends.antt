@@ -1,6 +1,6 @@
 -- Lists of seats as they come back, and the end of a table.
 use Rattle.std.specs.List.{remove}
-use Rattle.std.specs.Prelude.{Bool, false}
+use Rattle.std.specs.Prelude.{Bool, true, false}
 use Rattle.std.proofs.lemmas.Bool.{false≢true}
 use Rattle.std.proofs.Common.{◌≡◌, ◌≢◌, ℕ, zero, suc, eqb, eq-eqb, ne_eqb, if◌then◌else◌, ◌+◌, ◌<◌, ◌≤◌, List, [], ◌∷◌, ◌++◌, length, get_or, sym, refl, ap, ◌∙◌, subst, ◌⊎◌, ⊎_elim, inl, inr, arith, Option, Some, None}
 use mathlib.Core.Option.{some, some-injective, some-ne-none}
@@ -18,7 +18,13 @@ use Rattle.lfm_protocol.specs.declared.points.Sleeper.{Sleeper}
 use Rattle.lfm_protocol.specs.declared.seats.SeatState.{SeatState}
 use Rattle.lfm_protocol.specs.Begin as Begin
 use Rattle.lfm_laws.specs.table.Carried.{carries_value}
+use Rattle.lfm_protocol.specs.Core.{limits}
+use Rattle.lfm_protocol.specs.Limits.{are_in_limits}
 use Rattle.lfm_protocol.specs.Seats.{seat}
+use Rattle.lfm_protocol.specs.Step.{start}
+use Rattle.lfm_laws.specs.laws.Schedules.{reached}
+use Rattle.lfm_laws.proofs.lawful.runs.LimitsKept.{limits_stay}
+use Rattle.lfm_table.specs.Actions.{Action, events_of, part_of}
 use Rattle.lfm_laws.specs.table.Settles.{begun}
 use Rattle.lfm_laws.proofs.steady.frames.Entries.{seat_zero}
 use Rattle.lfm_model.specs.declared.refusals.Missing.{Missing}
@@ -28,7 +34,7 @@ use Rattle.lfm_table.specs.declared.seat_view.Role.TheVariants.{User, Retired}
 use Rattle.lfm_table.specs.declared.seat_view.Joined.{Joined}
 use Rattle.lfm_table.specs.declared.seat_view.View.{View}
 use Rattle.lfm_table.specs.declared.rule.Moving.{Moving}
-use Rattle.lfm_mutex.specs.Close.{Hinders, Hindered, named, AreFree}
+use Rattle.lfm_mutex.specs.Close.{Hinders, Hindered, named, AreFree, IsFree}
 use Rattle.lfm_mutex.proofs.ends.FreeWords.{free_core}
 use Rattle.lfm_table.specs.Reach.{Reached}
 use Rattle.lfm_mutex.specs.calls.Sight.{Sight, is_asleep, by_depth}
@@ -189,8 +195,33 @@ module _ {T : Type 0} (follows : ℕ → T → T → Type 0) (suits : T → ℕ 
       (λ (u : left.1.role ≡ User). let one = last_user s h v at back left.0 left.1 left.2 u in inl (ap (λ (z : View T). z.last) one ∙ left.3, λ none. none_end s h v at (left.4 (sym (ap (λ (z : View T). z.last_found) one) ∙ none))))
       (λ (u : left.1.role ≡ Retired). let a = (h.root v at).gone left.0 left.1 left.2 u in inr (a.0, joined_of left.1, a.1, left.3, λ none. none_end s h v at (left.4 none))) (is_user left.1.role)
 
+  -- the trails at the end are the parts of one run, which has led from the start to a free state
+  pub record EndsRun (v : View T) : Type 0 where
+    pub actions : List Action
+    pub allowed : are_in_limits v.limits.seats v.limits.budget ≡ true
+    pub free : IsFree (reached v.limits (events_of actions))
+    pub own : v.trail ≡ part_of (start v.limits) v.number actions
+    pub joined : (i : ℕ) (g : Joined T) → get_elem? v.joined i ≡ some g → g.trail ≡ part_of (start v.limits) g.number actions
+    pub others : (t : ℕ) → (t ≡ 0) ⊎ (v.limits.seats < t) → part_of (start v.limits) t actions ≡ []
+
+  ends_run : (s : St) (h : Held follows suits s) (v : View T) → get_elem? s.views 0 ≡ some v → IsFree h.core → EndsRun v
+  ends_run s h v at free =
+      let opened : h.opened ≡ v.limits = sym (limits_stay h.opened (events_of h.actions) h.run.allowed) ∙ (ap limits (sym h.run.here) ∙ sym (h.each 0 v at).limits_are) in
+      record {
+        actions = h.actions;
+        allowed = subst (λ (l : Limits). are_in_limits l.seats l.budget ≡ true) opened h.run.allowed;
+        free = subst IsFree (h.run.here ∙ ap (λ (l : Limits). reached l (events_of h.actions)) opened) free;
+        own = h.run.trails 0 v at ∙ (λ q. part_of (start (opened q)) (sym (h.each 0 v at).number q) h.actions);
+        others = λ t out.
+            let many : v.limits.seats ≡ length h.core.seats = ap (λ (l : Limits). l.seats) (h.each 0 v at).limits_are in
+            let most : length s.views ≤ length h.core.seats = h.few in
+            (λ q. part_of (start (sym opened q)) t h.actions)
+            ∙ h.run.others t (⊎_elim (λ (none : t ≡ 0). inl none) (λ (far : v.limits.seats < t). inr (omega (arith, far, most, many))) out);
+        joined = λ i g e. let a = (h.root v at).kept i g e in sym a.8 ∙ (h.run.trails a.0 a.1 a.2 ∙ (λ q. part_of (start (opened q)) ((sym (h.each a.0 a.1 a.2).number ∙ a.4) q) h.actions));
+      }
+
   pub ends : (v : View T) (ws : List ℕ) (xs : List (Option (Moving T))) → v.made ≤ length v.joined → v.standing.point ≡ Rest → v.standing.depth ≡ 0 → Final (Seen (Held follows suits) 0 v) ws xs
-      → (x : Moving T) × (get_elem? xs 0 ≡ some (Some x)) × ReachesAll v x.value × (length v.joined ≤ v.made) × AreFree ws × (x.popped.records ≡ []) × LeftAtEnd v x.value × LatestAtEnd v x.value
+      → (x : Moving T) × (get_elem? xs 0 ≡ some (Some x)) × ReachesAll v x.value × (length v.joined ≤ v.made) × AreFree ws × (x.popped.records ≡ []) × LeftAtEnd v x.value × LatestAtEnd v x.value × EndsRun v
   ends v ws xs back rests flat end = let s = end.0 in let h = end.1.0 in let at = end.1.1 in let all = all_rest s h v at back rests flat in let free = free_core h.core h.ghost_state h.fits all in let x = h.home (λ t. resting (seat h.core.seats t) (all t).0 (all t).1) in let k = h.root v at in
       let each : (j : ℕ) (z : View T) (l : T) → get_elem? s.views j ≡ some z → z.last ≡ Some l → Reached follows v.limits.seats z.number l x.value.value =
       (λ j z l e is. subst (λ (t : Limits × ℕ). Reached follows t.0.seats t.1 l x.value.value) (λ i. (((h.each j z e).limits_are ∙ sym (h.each 0 v at).limits_are) i, sym (h.each j z e).number i)) (x.leads j z l e tt is)) in (
@@ -202,6 +233,7 @@ module _ {T : Type 0} (follows : ℕ → T → T → Type 0) (suits : T → ℕ 
         x.records ∙ free.popped,
         left_last s h v at back x.value.value x.left,
         latest s h v at back x.value.value x.left,
+        ends_run s h v at free,
       )
 
 -- an item that was taken from the end of a list

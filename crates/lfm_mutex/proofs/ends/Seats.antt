@@ -34,11 +34,13 @@ use Rattle.lfm_table.specs.declared.seat_view.Role.TheVariants.{User, Retired}
 use Rattle.lfm_table.specs.declared.seat_view.Joined.{Joined}
 use Rattle.lfm_table.specs.declared.seat_view.View.{View}
 use Rattle.lfm_table.specs.declared.rule.Moving.{Moving}
+use Rattle.lfm_table.specs.Actions.{Action, loads_owner, if_own, HasRun}
 use Rattle.lfm_table.specs.Reach.{Reached}
 use Rattle.lfm_table.specs.Rule.{sum_over, retired, retired_at, split_view, with_split, with_joined, joined, joined_of, first_view, LeadsToValue, Awaits, NoneEnded, LeftIn, AreNumbered, Roots, Sits, AtHome, WithSeat, Held, SameRoot, ReadsOwner, seen}
 use Rattle.lfm_table.specs.Seats.{Seated}
 use Rattle.lfm_table.specs.Settled.{Became}
 use Rattle.lfm_table.proofs.tables.CoreFacts.{owner_told}
+use Rattle.lfm_table.proofs.tables.Actions.{run_goes_on, owner_load_part, run_stays}
 use Rattle.lfm_table.proofs.tables.Numbered.{numbered_same}
 use Rattle.lfm_table.proofs.tables.SettledKept.{became_same}
 use Rattle.lfm_table.proofs.tables.StepFacts.{became_depth}
@@ -196,6 +198,30 @@ module _ {T : Type 0} (follows : ℕ → T → T → Type 0) (suits : T → ℕ 
   parts : (s : St) (h : Held follows suits s) → Parts follows suits h.core h.ghost_state h.holds_ended s.homes s.views
   parts s h = record { few = h.few; each = h.each; later = h.later; home = h.home; outside = h.outside; numbered = h.numbered }
 
+  -- the trails are as they were
+
+  same_set : (views : List (View T)) (i : ℕ) (x y : View T) → get_elem? views i ≡ some x → y.trail ≡ x.trail → (j : ℕ) (z : View T) → get_elem? (set views i y) j ≡ some z
+      → (v : View T) × (get_elem? views j ≡ some v) × (z.trail ≡ v.trail)
+  same_set views i x y at same j z e = ⊎_elim
+      (λ (t : (j ≡ i) × (y ≡ z)). (x, ap (get_elem? views) t.0 ∙ at, ap (λ (u : View T). u.trail) (sym t.1) ∙ same))
+      (λ (t : (j ≢ i) × (get_elem? views j ≡ some z)). (z, t.1, refl))
+      (at_set views i j y z e)
+
+  run_split : (o : Limits) (actions : List Action) (c : Core) (views : List (View T)) → HasRun o actions c views → (v : View T) → get_elem? views 0 ≡ some v → HasRun o actions c (set views 0 (with_split v) ++ split_view v ∷ [])
+  run_split o actions c views run v at =
+      let vs = set views 0 (with_split v) in let l = length-set views 0 (with_split v) in let n = length-append vs (split_view v ∷ []) in
+      run_stays o actions c views run (vs ++ split_view v ∷ []) (omega (arith, l, n)) (λ j z e. ⊎_elim
+      (λ (u : get_elem? vs j ≡ some z). inl (same_set views 0 v (with_split v) at refl j z u))
+      (λ (u : (j ≡ length vs) × (split_view v ≡ z)). inr ((let q = u.0 in omega (arith, l, q)), ap (λ (y : View T). y.trail) (sym u.1)))
+      (at_end vs (split_view v) z j e))
+
+  run_joined : (o : Limits) (actions : List Action) (c : Core) (views : List (View T)) → HasRun o actions c views → (v w : View T) → get_elem? views 0 ≡ some v → (other : ℕ)
+      → get_elem? (set views 0 (with_joined v w)) other ≡ some w → HasRun o actions c (set (set views 0 (with_joined v w)) other (joined w))
+  run_joined o actions c views run v w at other at2 =
+      let vs = set views 0 (with_joined v w) in let l = length-set views 0 (with_joined v w) in let n = length-set vs other (joined w) in
+      run_stays o actions c views run (set vs other (joined w)) (omega (arith, l, n)) (λ j z e.
+      let a = same_set vs other w (joined w) at2 refl j z e in let b = same_set views 0 v (with_joined v w) at refl j a.0 a.1 in inl (b.0, b.1, a.2 ∙ b.2))
+
   pub splits : (v : View T) → v.role ≡ User → v.made + 2 ≤ v.limits.seats → Splits (Held follows suits) 0 v (with_split v) (split_view v)
   splits v user room s h at = let k = h.root v at in let l = with_split v in let r = split_view v in let vs = set s.views 0 l in let here = length_at s.views 0 v at in
       let long : length vs ≡ v.made + 1 = length-set s.views 0 l ∙ k.made in
@@ -223,12 +249,15 @@ module _ {T : Type 0} (follows : ℕ → T → T → Type 0) (suits : T → ℕ 
           made = omega arith;
           back = let m : sum_over retired (vs ++ r ∷ []) ≡ sum_over retired s.views = omega arith in m ∙ k.back;
           kept = λ i g is. let a = k.kept i g is in let apart : 0 ≢ a.0 = (λ z. not_both v.role user (ap (λ (y : View T). y.role) (some-injective v a.1 (sym at ∙ subst (λ (i : ℕ). get_elem? s.views i ≡ some a.1) (sym z) a.2)) ∙ a.3)) in
-              let low = length_at s.views a.0 a.1 a.2 in let len = length-set s.views 0 l in (a.0, a.1, get_end vs r a.0 (omega arith) ∙ (set_else s.views 0 a.0 l (λ z. apart (sym z)) ∙ a.2), a.3, a.4, a.5, a.6, a.7);
+              let low = length_at s.views a.0 a.1 a.2 in let len = length-set s.views 0 l in (a.0, a.1, get_end vs r a.0 (omega arith) ∙ (set_else s.views 0 a.0 l (λ z. apart (sym z)) ∙ a.2), a.3, a.4, a.5, a.6, a.7, a.8);
           gone = λ j z e is. ⊎_elim (λ u. ⊎_elim (λ (w : (j ≡ 0) × (l ≡ z)). absurd (not_both z.role (ap (λ (y : View T). y.role) (sym w.1) ∙ user) is))
               (λ (w : (j ≢ 0) × (get_elem? s.views j ≡ some z)). k.gone j z w.1 is) (at_set s.views 0 j l z u)) (λ (w : (j ≡ length vs) × (r ≡ z)). absurd (not_both z.role (ap (λ (y : View T). y.role) (sym w.1)) is)) (at_end vs r z j e);
         };
         others = λ j z e is. ⊎_elim (λ u. ⊎_elim (λ (w : (j ≡ 0) × (l ≡ z)). absurd (not_both z.role (ap (λ (y : View T). y.role) (sym w.1) ∙ user) is))
             (λ (w : (j ≢ 0) × (get_elem? s.views j ≡ some z)). h.others j z w.1 is) (at_set s.views 0 j l z u)) (λ (w : (j ≡ length vs) × (r ≡ z)). absurd (not_both z.role (ap (λ (y : View T). y.role) (sym w.1)) is)) (at_end vs r z j e);
+        opened = h.opened;
+        actions = h.actions;
+        run = run_split h.opened h.actions h.core s.views h.run v at;
       }
 
   pub joins : (v w : View T) (other : ℕ) → v.role ≡ User → w.role ≡ User → w.standing.point ≡ Rest → w.standing.depth ≡ 0 → Joins (Held follows suits) 0 v other w (with_joined v w) (joined w)
@@ -259,8 +288,8 @@ module _ {T : Type 0} (follows : ℕ → T → T → Type 0) (suits : T → ℕ 
               let apart0 : 0 ≢ a.0 = (λ z. not_both v.role user (ap (λ (y : View T). y.role) (some-injective v a.1 (sym at ∙ subst (λ (i : ℕ). get_elem? s.views i ≡ some a.1) (sym z) a.2)) ∙ a.3)) in
               let in1 : get_elem? vs a.0 ≡ some a.1 = set_else s.views 0 a.0 b (λ z. apart0 (sym z)) ∙ a.2 in
               let apart2 : other ≢ a.0 = (λ z. not_both w.role uses (ap (λ (y : View T). y.role) (some-injective w a.1 (sym at2 ∙ subst (λ (i : ℕ). get_elem? vs i ≡ some a.1) (sym z) in1)) ∙ a.3)) in
-              (a.0, a.1, set_else vs other a.0 (joined w) (λ z. apart2 (sym z)) ∙ in1, a.3, a.4, a.5, a.6, a.7))
-              (λ (u : (i ≡ length v.joined) × (joined_of w ≡ g)). (other, joined w, set_here vs other (joined w) (length_at vs other w at2), refl, ap (λ (y : Joined T). y.number) u.1, ap (λ (y : Joined T). y.last) u.1, ap (λ (y : Joined T). y.found) u.1, ap (λ (y : Joined T). y.ended) u.1))
+              (a.0, a.1, set_else vs other a.0 (joined w) (λ z. apart2 (sym z)) ∙ in1, a.3, a.4, a.5, a.6, a.7, a.8))
+              (λ (u : (i ≡ length v.joined) × (joined_of w ≡ g)). (other, joined w, set_here vs other (joined w) (length_at vs other w at2), refl, ap (λ (y : Joined T). y.number) u.1, ap (λ (y : Joined T). y.last) u.1, ap (λ (y : Joined T). y.found) u.1, ap (λ (y : Joined T). y.ended) u.1, ap (λ (y : Joined T). y.trail) u.1))
               (at_end v.joined (joined_of w) g i is);
           gone = λ j z e is. ⊎_elim
               (λ (u : (j ≡ other) × (joined w ≡ z)). (length v.joined, at_last v.joined (joined_of w) (length v.joined) refl ∙ ap (λ (y : View T). some (joined_of y)) u.1))
@@ -270,18 +299,22 @@ module _ {T : Type 0} (follows : ℕ → T → T → Type 0) (suits : T → ℕ 
         others = λ j z e is. ⊎_elim (λ (u : (j ≡ other) × (joined w ≡ z)). subst (λ (y : View T). (y.standing.point ≡ Rest) × (y.standing.depth ≡ 0)) u.1 (rests, flat))
             (λ (u : (j ≢ other) × (get_elem? vs j ≡ some z)). ⊎_elim (λ (w : (j ≡ 0) × (b ≡ z)). absurd (not_both z.role (ap (λ (y : View T). y.role) (sym w.1) ∙ user) is))
             (λ (w : (j ≢ 0) × (get_elem? s.views j ≡ some z)). h.others j z w.1 is) (at_set s.views 0 j b z u.1)) (at_set vs other j (joined w) z e);
+        opened = h.opened;
+        actions = h.actions;
+        run = run_joined h.opened h.actions h.core s.views h.run v w at other at2;
       }
 
-  -- both keep the core
+  -- both keep the core, and the run
   pub splits_keep : (v : View T) (user : v.role ≡ User) (room : v.made + 2 ≤ v.limits.seats) (s : State (Option (Moving T)) (View T)) (h : Held follows suits s) (at : get_elem? s.views 0 ≡ some v)
-      → (splits v user room s h at).core ≡ h.core
+      → ((splits v user room s h at).core ≡ h.core) × ((splits v user room s h at).opened ≡ h.opened) × ((splits v user room s h at).actions ≡ h.actions)
   unfolding splits
-  splits_keep v user room s h at = refl
+  splits_keep v user room s h at = (refl, refl, refl)
 
   pub joins_keep : (v w : View T) (other : ℕ) (user : v.role ≡ User) (uses : w.role ≡ User) (rests : w.standing.point ≡ Rest) (flat : w.standing.depth ≡ 0) (s : State (Option (Moving T)) (View T)) (h : Held follows suits s)
-      (at : get_elem? s.views 0 ≡ some v) (apart : ¬ (other ≡ 0)) (there : get_elem? (set s.views 0 (with_joined v w)) other ≡ some w) → (joins v w other user uses rests flat s h at apart there).core ≡ h.core
+      (at : get_elem? s.views 0 ≡ some v) (apart : ¬ (other ≡ 0)) (there : get_elem? (set s.views 0 (with_joined v w)) other ≡ some w)
+      → ((joins v w other user uses rests flat s h at apart there).core ≡ h.core) × ((joins v w other user uses rests flat s h at apart there).opened ≡ h.opened) × ((joins v w other user uses rests flat s h at apart there).actions ≡ h.actions)
   unfolding joins
-  joins_keep v w other user uses rests flat s h at apart there = refl
+  joins_keep v w other user uses rests flat s h at apart there = (refl, refl, refl)
 
   -- A load of the owner word
 
@@ -292,12 +325,16 @@ module _ {T : Type 0} (follows : ℕ → T → T → Type 0) (suits : T → ℕ 
     abbrev Seen : View T
     Seen = record me.0 { trail = me.0.trail ++ seen TryOwnerLoad Found ∷ [] }
 
-    -- the rule goes on holding, of the same core
-    owner_keeps : (after : Held follows suits (stepped s 1 Found id me.1 Seen keeps)) × (after.core ≡ h.core)
+    loaded : HasRun h.opened (h.actions ++ loads_owner (id + 1) ∷ []) h.core (set s.views id Seen)
+    loaded = run_goes_on h.opened h.actions h.core s.views h.run (loads_owner (id + 1) ∷ []) h.core id me.0 Seen (seen TryOwnerLoad Found) at refl refl
+        (λ t. owner_load_part h.core (id + 1) t ∙ ap (λ (m : ℕ). if_own (id + 1) t (seen TryOwnerLoad m)) (sym (ap (λ (ws : List ℕ). get_or ws 1 0) h.words_are)))
+
+    -- the rule goes on holding, of the same core, and the run has gone on by this load
+    pub owner_keeps : (after : Held follows suits (stepped s 1 Found id me.1 Seen keeps)) × (after.core ≡ h.core) × (after.opened ≡ h.opened) × (after.actions ≡ h.actions ++ loads_owner (id + 1) ∷ [])
     owner_keeps =
         let q = quiet follows suits h.core h.ghost_state h.holds_ended s.homes s.views (parts s h) id me.0 Seen at refl refl refl refl refl refl refl refl refl refl refl in
         let same : SameRoot me.0 Seen = record { number = refl; limits_are = refl; opening = refl; made = refl; joined_are = refl } in
-        subst (λ (ws : List ℕ). (after : Held follows suits record { words = ws; homes = s.homes; views = set s.views id Seen }) × (after.core ≡ h.core)) (sym (set-get_or s.words 1 0)) (
+        subst (λ (ws : List ℕ). (after : Held follows suits record { words = ws; homes = s.homes; views = set s.views id Seen }) × (after.core ≡ h.core) × (after.opened ≡ h.opened) × (after.actions ≡ h.actions ++ loads_owner (id + 1) ∷ [])) (sym (set-get_or s.words 1 0)) (
           record {
             core = h.core;
             ghost_state = h.ghost_state;
@@ -314,12 +351,17 @@ module _ {T : Type 0} (follows : ℕ → T → T → Type 0) (suits : T → ℕ 
             numbered = q.numbered;
             root = root_on follows suits s h id me.0 at user Seen refl same;
             others = others_on follows suits s h id me.0 at user Seen refl same;
+            opened = h.opened;
+            actions = h.actions ++ loads_owner (id + 1) ∷ [];
+            run = loaded;
           },
+          refl,
+          refl,
           refl,
         )
 
     -- what it tells
-    owner_tells : ReadsOwner me Found (Seen, me.1)
+    pub owner_tells : ReadsOwner me Found (Seen, me.1)
     owner_tells =
         let sits = h.each id me.0 at in
         let l = length_at s.views id me.0 at in let few = h.few in
@@ -424,12 +466,21 @@ starts {T} follows suits l ws x allowed are none_popped room fit =
       };
       root = λ v e. subst (Roots (k ∷ [])) (one_view k v 0 e).1 record { user = refl; made = refl; back = refl; kept = λ i g is. absurd (some-ne-none g (sym is)); gone = λ j z at is. absurd (not_both z.role (ap (λ (u : View T). u.role) (sym (one_view k z j at).1)) is) };
       others = λ j v e is. absurd (not_both v.role (ap (λ (u : View T). u.role) (sym (one_view k v j e).1)) is);
+      opened = l;
+      actions = [];
+      run = record {
+        allowed = allowed;
+        here = refl;
+        trails = λ j v e. ap (λ (u : View T). u.trail) (sym (one_view k v j e).1);
+        others = λ t out. refl;
+      };
     }
 
 pub starts_at : {T : Type 0} (follows : ℕ → T → T → Type 0) (suits : T → ℕ → Type 0) (l : Limits) (ws : List ℕ) (x : Moving T) (allowed : are_in_limits l.seats l.budget ≡ true) (are : ws ≡ replicate (4 + 2 * l.seats) 0)
-    (none_popped : x.popped.records ≡ []) (room : x.popped.room ≡ l.seats) (fit : suits x.value 0) → (starts follows suits l ws x allowed are none_popped room fit).core ≡ start l
+    (none_popped : x.popped.records ≡ []) (room : x.popped.room ≡ l.seats) (fit : suits x.value 0)
+    → ((starts follows suits l ws x allowed are none_popped room fit).core ≡ start l) × ((starts follows suits l ws x allowed are none_popped room fit).opened ≡ l) × ((starts follows suits l ws x allowed are none_popped room fit).actions ≡ [])
 unfolding starts
-starts_at follows suits l ws x allowed are none_popped room fit = refl
+starts_at follows suits l ws x allowed are none_popped room fit = (refl, refl, refl)
 
 -- A seat that has done nothing
 

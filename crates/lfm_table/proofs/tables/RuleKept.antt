@@ -29,7 +29,7 @@ use Rattle.lfm_protocol.specs.Points.{kind, target}
 use Rattle.lfm_laws.specs.table.Ready.{IsReady}
 use Rattle.lfm_protocol.specs.Room.{PopFits}
 use Rattle.lfm_protocol.specs.Seats.{seat, with_entry, absent, IsSeat}
-use Rattle.lfm_laws.specs.table.Settles.{Settles}
+use Rattle.lfm_laws.specs.table.Settles.{Settles, begun}
 use Rattle.lfm_laws.specs.steady.Steady.{IsSeen}
 use Rattle.lfm_laws.specs.table.Words.{words, index, index_by, written, stepped_by, popped_by_step, link_of}
 use Rattle.lfm_laws.proofs.steady.frames.Entries.{seat-with_same, seat-with_other, length-with_entry}
@@ -42,9 +42,11 @@ use Rattle.lfm_table.specs.declared.seat_view.View.{View}
 use Rattle.lfm_table.specs.declared.rule.Moving.{Moving}
 use Rattle.lfm_table.specs.Reach.{IsOther, Leads, Reached}
 use Rattle.lfm_table.specs.Rule.{seen, retired, retired_at, sum_over, Roots, left_by, Sits, LeadsToValue, Awaits, NoneEnded, LeftIn, AreNumbered, SameRoot, WithSeat, Held, Hands, Knows, CollectsWithin, Advanced}
-use Rattle.lfm_table.specs.Settled.{Became}
+use Rattle.lfm_table.specs.Settled.{Became, calls_to}
+use Rattle.lfm_table.specs.Actions.{Action, HasRun, begins_and_step, if_own, told, told_of}
 use Rattle.lfm_table.specs.Steps.{stores, Ready}
 use Rattle.lfm_table.proofs.tables.CoreFacts as core
+use Rattle.lfm_table.proofs.tables.Actions.{run_goes_on, step_run, step_part}
 use Rattle.lfm_table.proofs.tables.Numbered.{left_own, numbered_same, numbered_next}
 use Rattle.lfm_table.proofs.tables.SettledKept.{settles_of}
 use Rattle.lfm_table.proofs.tables.StepFacts.{release_of, released, shallow_step, no_answer, empty_depth, left_same, left_new, not_release, carrying, list_stays, told_by, told_list, became_depth}
@@ -118,10 +120,10 @@ module _ {T : Type 0} (follows : ℕ → T → T → Type 0) (suits : T → ℕ 
         (λ (t : (j ≢ id) × (get_elem? s.views j ≡ some z)). t.1) (at_set s.views id j w z e)
 
     abbrev AreKept : List (View T) → List (Joined T) → Type 0
-    AreKept views joined = (i : ℕ) (g : Joined T) → get_elem? joined i ≡ some g → (j : ℕ) × (z : View T) × (get_elem? views j ≡ some z) × (z.role ≡ Retired) × (z.number ≡ g.number) × (z.last ≡ g.last) × (z.last_found ≡ g.found) × (z.ended ≡ g.ended)
+    AreKept views joined = (i : ℕ) (g : Joined T) → get_elem? joined i ≡ some g → (j : ℕ) × (z : View T) × (get_elem? views j ≡ some z) × (z.role ≡ Retired) × (z.number ≡ g.number) × (z.last ≡ g.last) × (z.last_found ≡ g.found) × (z.ended ≡ g.ended) × (z.trail ≡ g.trail)
 
     kept_on : (g : List (Joined T)) → AreKept s.views g → AreKept vs g
-    kept_on g old i x e = let a = old i x e in (a.0, a.1, stay_gone a.0 a.1 a.2 a.3, a.3, a.4, a.5, a.6, a.7)
+    kept_on g old i x e = let a = old i x e in (a.0, a.1, stay_gone a.0 a.1 a.2 a.3, a.3, a.4, a.5, a.6, a.7, a.8)
 
     roots_on : (k z : View T) → Roots s.views k → z.role ≡ k.role → z.made ≡ k.made → z.joined ≡ k.joined → Roots vs z
     roots_on k z r role made joined = record {
@@ -206,7 +208,7 @@ module _ {T : Type 0} (follows : ℕ → T → T → Type 0) (suits : T → ℕ 
   -- One step
 
   module _ (slots id : ℕ) (me : Mine) (p : SeatState) (a : Option T) (i : ℕ) (f k : ℕ → ℕ) (user : me.0.role ≡ User) (to : Became me.0.standing me.0.limits p)
-      (word : i ≡ index p me.0.limits.seats me.0.number) (writes : (n : ℕ) → f n ≡ written p me.0.number n) (finds : (n : ℕ) → stores (kind p.point) ≡ false → k n ≡ n)
+      (word : i ≡ index p me.0.limits.seats me.0.number) (writes : (n : ℕ) → f n ≡ written p me.0.number n) (finds : (n : ℕ) → k n ≡ told p me.0.number n)
       (ready : Ready follows suits p a me) where
     module _ (s : State S (View T)) (h : Ruled s) (at : get_elem? s.views id ≡ some me.0) where
       abbrev c : Core
@@ -242,6 +244,10 @@ module _ {T : Type 0} (follows : ℕ → T → T → Type 0) (suits : T → ℕ 
       n_is : found_at c num p ≡ n
       n_is = ap (λ (t : List ℕ × ℕ). get_or t.0 t.1 0) (λ j. (sym h.words_are j, (ap (λ m. index p m num) (sym seats_are) ∙ sym word) j))
 
+      -- a step that stores nothing notes what it found
+      found_of : stores (kind p.point) ≡ false → k n ≡ n
+      found_of no_store = finds n ∙ ap (λ (b : Bool). told_of b (written p num n) n) no_store
+
       ts : TableStep c g num p n
       ts = subst (λ (m : ℕ). TableStep c g num p m) n_is (table_step c g num p is h.fits h.narrow settles)
 
@@ -249,13 +255,13 @@ module _ {T : Type 0} (follows : ℕ → T → T → Type 0) (suits : T → ℕ 
       st = stepped_by p num (k n) (oldest c.popped)
 
       st_is : stepped_by p num n (oldest c.popped) ≡ st
-      st_is = told_by p num n (k n) (oldest c.popped) (kind p.point) (finds n)
+      st_is = told_by p num n (k n) (oldest c.popped) (kind p.point) found_of
 
       abbrev popped_after : List Record
       popped_after = popped_by_step p num (k n) c.popped
 
       popped_is : ts.after.popped ≡ popped_after
-      popped_is = ts.popped_are ∙ told_list p (target p.point num) n (k n) c.popped (kind p.point) (finds n)
+      popped_is = ts.popped_are ∙ told_list p (target p.point num) n (k n) c.popped (kind p.point) found_of
 
       seats_after : ts.after.seats ≡ with_entry c.seats num st.seat
       seats_after = ts.seats_are ∙ ap (λ z. with_entry c.seats num z.seat) st_is
@@ -309,6 +315,21 @@ module _ {T : Type 0} (follows : ℕ → T → T → Type 0) (suits : T → ℕ 
       abbrev next_view : Option T → View T
       next_view found = record me.0 { standing = st.seat; trail = me.0.trail ++ seen p.point (k n) ∷ []; last = left_by p.point a me.0.last; last_found = left_by p.point me.0.found me.0.last_found; ended = left_by p.point (me.0.holds_ended + 1) me.0.ended; found = found; holds_ended = holds_after; popped = popped_after; answered = ts.ghost_after.answered }
 
+      -- the run goes on by the calls that the seat began since its last step, and by the step
+      abbrev pub actions_now : List Action
+      actions_now = begins_and_step num me.0.standing p
+
+      leads_here : p ≡ begun me.0.standing (limits c) (calls_to me.0.standing p)
+      leads_here = to.leads ∙ ap (λ (l : Limits). begun me.0.standing l (calls_to me.0.standing p)) sits.limits_are
+
+      told_is : told p num (found_at c num p) ≡ k n
+      told_is = ap (told p num) n_is ∙ sym (finds n)
+
+      run_on : (found : Option T) → HasRun h.opened (h.actions ++ actions_now) ts.after (set s.views id (next_view found))
+      run_on found = run_goes_on h.opened h.actions c s.views h.run actions_now ts.after id me.0 (next_view found) (seen p.point (k n)) at
+          (ts.is_made ∙ sym (step_run c num me.0.standing p is here leads_here)) refl
+          (λ t. step_part c num me.0.standing p is here leads_here t ∙ (λ j. if_own (placed j) t (seen p.point (told_is j))))
+
       same_root : (found : Option T) → SameRoot me.0 (next_view found)
       same_root found = record { number = refl; limits_are = refl; opening = refl; made = refl; joined_are = refl }
 
@@ -333,7 +354,7 @@ module _ {T : Type 0} (follows : ℕ → T → T → Type 0) (suits : T → ℕ 
           other_after j (λ e. omega (arith, e, far, same, l)) ∙ h.later j (omega (arith, far, same))
 
       load : (b : Option Kind) → kind p.point ≡ b → stores b ≡ false → k n ≡ n
-      load b e no_store = finds n (ap stores e ∙ no_store)
+      load b e no_store = found_of (ap stores e ∙ no_store)
 
       owner_of_load : kind p.point ≡ Some Kind.OwnerLoad → k n ≡ c.owner
       owner_of_load is_load = load (Some Kind.OwnerLoad) is_load refl ∙ (sym n_is ∙ ap (λ (q : Option Kind). get_or (words c) (index_by (length c.seats) (target p.point num) q) 0) is_load)
@@ -371,9 +392,9 @@ module _ {T : Type 0} (follows : ℕ → T → T → Type 0) (suits : T → ℕ 
         hands = hands;
       }
 
-      -- the rule holds, of the core that the core's step makes
+      -- the rule holds, of the core that the core's step makes, and the run has gone on by just this
       abbrev HeldAfter : State S (View T) → Type 0
-      HeldAfter t = (after : Ruled t) × (after.core ≡ (made (put c num p) num).core)
+      HeldAfter t = (after : Ruled t) × (after.core ≡ (made (put c num p) num).core) × (after.opened ≡ h.opened) × (after.actions ≡ h.actions ++ actions_now)
 
       abbrev Done : Type 0
       Done = (w : View T) × (b : Act S) × Valid s.homes me.1 b × HeldAfter (stepped s i (f n) id me.1 w b) × Advanced follows suits p a me (k n) (w, carried_after me.1 b)
@@ -463,8 +484,13 @@ module _ {T : Type 0} (follows : ℕ → T → T → Type 0) (suits : T → ℕ 
                 numbered = numbered_now (Some x.value.value);
                 root = root_on s h id me.0 at user w refl root;
                 others = others_on s h id me.0 at user w refl root;
+                opened = h.opened;
+                actions = h.actions ++ actions_now;
+                run = run_on (Some x.value.value);
               },
               ts.is_made,
+              refl,
+              refl,
             ),
             tells (Some x.value.value) ((0, Some x.value) ∷ me.1)
                 (subst (λ (t : Bool × Bool). Hands follows suits t.0 t.1 p.point a c.popped me (w, (0, Some x.value) ∷ me.1)) (λ q. (sym before q, sym after q)) (
@@ -524,8 +550,13 @@ module _ {T : Type 0} (follows : ℕ → T → T → Type 0) (suits : T → ℕ 
                 numbered = numbered_now me.0.found;
                 root = root_on s h id me.0 at user w refl root;
                 others = others_on s h id me.0 at user w refl root;
+                opened = h.opened;
+                actions = h.actions ++ actions_now;
+                run = run_on me.0.found;
               },
               ts.is_made,
+              refl,
+              refl,
             ),
             tells me.0.found (rest me.1) (subst (λ (t : Bool × Bool). Hands follows suits t.0 t.1 p.point a c.popped me (w, rest me.1)) (λ q. (sym before q, sym after q)) (ap rest ld.1)),
           )
@@ -583,8 +614,13 @@ module _ {T : Type 0} (follows : ℕ → T → T → Type 0) (suits : T → ℕ 
                 numbered = numbered_now me.0.found;
                 root = root_on s h id me.0 at user w refl root;
                 others = others_on s h id me.0 at user w refl root;
+                opened = h.opened;
+                actions = h.actions ++ actions_now;
+                run = run_on me.0.found;
               },
               ts.is_made,
+              refl,
+              refl,
             ),
             tells me.0.found me.1 (subst (λ (t : Bool × Bool). Hands follows suits t.0 t.1 p.point a c.popped me (w, me.1)) (λ q. (sym before q, sym after q)) refl),
           )
@@ -683,8 +719,13 @@ module _ {T : Type 0} (follows : ℕ → T → T → Type 0) (suits : T → ℕ 
                 numbered = numbered_now found;
                 root = root_on s h id me.0 at user w refl root;
                 others = others_on s h id me.0 at user w refl root;
+                opened = h.opened;
+                actions = h.actions ++ actions_now;
+                run = run_on found;
               },
               ts.is_made,
+              refl,
+              refl,
             ),
             tells found me.1 (subst (λ (t : Bool × Bool). Hands follows suits t.0 t.1 p.point a c.popped me (w, me.1)) (λ q. (sym before q, sym after q)) (refl, refl)),
           )
@@ -698,7 +739,7 @@ module _ {T : Type 0} (follows : ℕ → T → T → Type 0) (suits : T → ℕ 
       done : Done
       done = by_move (carries_value p) (carries_value st.seat) refl refl moved
 
-    -- a step of any kind leads to the core that the core's step makes
+    -- a step of any kind leads to the core that the core's step makes, and adds itself to the run
     pub led_on : (s : State S (View T)) (h : Ruled s) (at : get_elem? s.views id ≡ some me.0) → Done s h at
     led_on s h at = done s h at
 

@@ -13,7 +13,7 @@ compare_exchange-requires g c = (
   c.requires.table,
   second_word c.args.seat.now.limits.seats c.args.table.now.table_id.words c.requires.can.wide,
   by_kind g.T.Kept.follows g.T.Kept.fits c.args.table.now.table_id.slots c.args.place.now.id c.args.place.now.me g.B.Plain.standing c.args.seat.now.standing g.B.Plain.hand (value_in c.args.hand.now) c.args.seat.now.number c.args.seat.now.limits.seats c.args.table.now.table_id.words
-      c.requires.plain.0 c.requires.plain.1 c.requires.can Kind.HandoffExchange c.requires.kind 2 (λ n. either (nat_eq n c.pack_handoff-expected.result) 0 n) (λ n. n) refl (λ n. ap (λ (t : ℕ). either (nat_eq n t) 0 n) (c.pack_handoff-expected.ensures ∙ ap handoff_word c.expected_handoff-handoff.ensures)) (λ n e. refl),
+      c.requires.plain.0 c.requires.plain.1 c.requires.can Kind.HandoffExchange c.requires.kind 2 (λ n. either (nat_eq n c.pack_handoff-expected.result) 0 n) (λ n. n) refl (λ n. ap (λ (t : ℕ). either (nat_eq n t) 0 n) (c.pack_handoff-expected.ensures ∙ ap handoff_word c.expected_handoff-handoff.ensures)) (λ n. refl),
 )
 
 pub returns-clause-table : goal.returns-clause-table

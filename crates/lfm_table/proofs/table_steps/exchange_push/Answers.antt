@@ -11,5 +11,5 @@ compare_exchange-requires g c = (
   search rules,
   search rules,
   by_kind g.T.Kept.follows g.T.Kept.fits c.args.table.now.table_id.slots c.args.place.now.id c.args.place.now.me g.B.Plain.standing c.args.seat.now.standing g.B.Plain.hand (value_in c.args.hand.now) c.args.seat.now.number c.args.seat.now.limits.seats c.args.table.now.table_id.words
-      c.requires.plain.0 c.requires.plain.1 c.requires.can Kind.PushExchange c.requires.kind 3 (λ n. either (nat_eq n c.pack_link-expected.result) c.pack_link-pushed.result n) (λ n. n) refl (λ n. ap (λ (t : ℕ × ℕ). either (nat_eq n t.0) t.1 n) (λ i. ((c.pack_link-expected.ensures ∙ ap link_word c.expected_push-old.ensures) i, (c.pack_link-pushed.ensures ∙ ap link_word c.exchanged_push-new.ensures) i))) (λ n e. refl),
+      c.requires.plain.0 c.requires.plain.1 c.requires.can Kind.PushExchange c.requires.kind 3 (λ n. either (nat_eq n c.pack_link-expected.result) c.pack_link-pushed.result n) (λ n. n) refl (λ n. ap (λ (t : ℕ × ℕ). either (nat_eq n t.0) t.1 n) (λ i. ((c.pack_link-expected.ensures ∙ ap link_word c.expected_push-old.ensures) i, (c.pack_link-pushed.ensures ∙ ap link_word c.exchanged_push-new.ensures) i))) (λ n. refl),
 )

@@ -9,5 +9,5 @@ load-requires g c = (
   search rules,
   search rules,
   by_kind g.T.Kept.follows g.T.Kept.fits c.args.table.now.table_id.slots c.args.place.now.id c.args.place.now.me g.B.Plain.standing c.args.seat.now.standing g.B.Plain.hand (value_in c.args.hand.now) c.args.seat.now.number c.args.seat.now.limits.seats c.args.table.now.table_id.words
-      c.requires.plain.0 c.requires.plain.1 c.requires.can Kind.OwnerLoad c.requires.kind 1 (λ n. n) (λ n. n) refl (λ n. refl) (λ n e. refl),
+      c.requires.plain.0 c.requires.plain.1 c.requires.can Kind.OwnerLoad c.requires.kind 1 (λ n. n) (λ n. n) refl (λ n. refl) (λ n. refl),
 )

@@ -10,7 +10,7 @@ load-requires g c = (
   c.requires.table,
   third_word c.args.seat.now.limits.seats c.args.table.now.table_id.words c.requires.can.wide,
   by_kind g.T.Kept.follows g.T.Kept.fits c.args.table.now.table_id.slots c.args.place.now.id c.args.place.now.me g.B.Plain.standing c.args.seat.now.standing g.B.Plain.hand (value_in c.args.hand.now) c.args.seat.now.number c.args.seat.now.limits.seats c.args.table.now.table_id.words
-      c.requires.plain.0 c.requires.plain.1 c.requires.can Kind.PushLoad c.requires.kind 3 (λ n. n) (λ n. n) refl (λ n. refl) (λ n e. refl),
+      c.requires.plain.0 c.requires.plain.1 c.requires.can Kind.PushLoad c.requires.kind 3 (λ n. n) (λ n. n) refl (λ n. refl) (λ n. refl),
 )
 
 pub returns-clause-table : goal.returns-clause-table

@@ -1,4 +1,4 @@
-use Rattle.std.proofs.Common.{◌+◌, ap, ◌∙◌, rules, arith, true≢false}
+use Rattle.std.proofs.Common.{◌+◌, refl, ap, ◌∙◌, rules, arith}
 use Rattle.lfm_protocol.specs.declared.kinds.Kind.{Kind}
 use Rattle.lfm_words.specs.Words.{link_word}
 use Rattle.lfm_table.specs.Rule.{value_in}
@@ -10,5 +10,5 @@ store-requires g c = (
   search rules,
   let r = c.requires.can.ready in let w = c.requires.can.wide in let t = c.target-t.ensures in let e = ap (λ t. t.words) c.requires.table in let i = c.link_at.ensures in omega (arith, r.within, w, t, e, i),
   by_kind g.T.Kept.follows g.T.Kept.fits c.args.table.now.table_id.slots c.args.place.now.id c.args.place.now.me g.B.Plain.standing c.args.seat.now.standing g.B.Plain.hand (value_in c.args.hand.now) c.args.seat.now.number c.args.seat.now.limits.seats c.args.table.now.table_id.words
-      c.requires.plain.0 c.requires.plain.1 c.requires.can Kind.LinkStore c.requires.kind c.link_at.result (λ _. c.pack_link-new.result) (λ _. c.pack_link-new.result) (c.link_at.ensures ∙ ap (λ t. 3 + t) c.target-t.ensures) (λ n. c.pack_link-new.ensures ∙ ap link_word c.stored_link-link.ensures) (λ n e. absurd (true≢false e)),
+      c.requires.plain.0 c.requires.plain.1 c.requires.can Kind.LinkStore c.requires.kind c.link_at.result (λ _. c.pack_link-new.result) (λ _. c.pack_link-new.result) (c.link_at.ensures ∙ ap (λ t. 3 + t) c.target-t.ensures) (λ n. c.pack_link-new.ensures ∙ ap link_word c.stored_link-link.ensures) (λ n. refl),
 )

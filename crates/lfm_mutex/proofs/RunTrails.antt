@@ -1,0 +1,353 @@
+-- What a seat's part of a run tells: how often the seat comes to own, how many steps it makes, which records it pushes, and by which it
+-- answers that it holds.
+use Rattle.std.proofs.Common.{◌≡◌, ◌≢◌, ◌⊎◌, ℕ, zero, suc, Bool, true, false, Option, inl, inr, ◌+◌, ◌<◌, ◌≤◌, List, [], ◌∷◌, ◌++◌, length, filter, nat_eq, slice_index, refl, sym, ap, ◌∙◌, subst, ⊎_elim, append-nil, arith, if◌then◌else◌}
+use Rattle.std.proofs.lemmas.Bool.{cases_Bool, cases_eq, cases_lt, eq-eqb, ne_eqb}
+use Rattle.std.proofs.lemmas.Grind.{flat_map-append}
+use Rattle.std.proofs.lemmas.List.Elements.{filter-append}
+use Rattle.std.proofs.lemmas.List.Sums.{sum_by-append}
+use Rattle.lfm_model.specs.Sums.{sum_to}
+use Rattle.lfm_model.specs.declared.answers.How.{How}
+use Rattle.lfm_model.specs.declared.answers.Unlocked.{Unlocked}
+use Rattle.lfm_protocol.specs.declared.answers.Turn.TheVariants.{Ended}
+use Rattle.lfm_protocol.specs.declared.points.Carrier.{Carrier}
+use Rattle.lfm_protocol.specs.declared.points.Entrant.{Entrant}
+use Rattle.lfm_protocol.specs.declared.points.Point.{Point}
+use Rattle.lfm_protocol.specs.declared.points.Point.TheVariants.{TryOwnerLoad, TryHandoffLoad, TryHandoffExchange, TryCountAdd, SendWakeExchange, SendPushRecheck, PushExchange, PushedHandoffLoad, PushedHandoffExchange, ReleaseCountSubtract, ReleasePushRecheck, ReleaseHandoffExchange, GrantWakeStore, EnterOwnerStore, ReceiveWakeLoad}
+use Rattle.lfm_protocol.specs.declared.points.Pusher.{Pusher}
+use Rattle.lfm_protocol.specs.declared.points.Releaser.{Releaser}
+use Rattle.lfm_protocol.specs.declared.points.Releaser.TheVariants.{Unlocker, Waiter}
+use Rattle.lfm_protocol.specs.declared.points.Sleeper.{Sleeper}
+use Rattle.lfm_protocol.specs.declared.seats.SeatState.{SeatState}
+use Rattle.lfm_protocol.specs.After.{same_link, same_handoff, busy, releases, pushed, granted, receives, claims, held, take, carrier_of, found_posted}
+use Rattle.lfm_protocol.specs.Begin.{Stepped, goes_on}
+use Rattle.lfm_protocol.specs.Core.{Core}
+use Rattle.lfm_protocol.specs.Points.{kind, target, pushed_seat}
+use Rattle.lfm_protocol.specs.Seats.{seat, is_seat}
+use Rattle.lfm_protocol.specs.Step.{start, step}
+use Rattle.lfm_words.specs.declared.links.Link.{Link}
+use Rattle.lfm_words.specs.declared.pop_lists.Record.{Record}
+use Rattle.lfm_words.specs.declared.wakes.Wake.{Wake}
+use Rattle.lfm_words.specs.declared.wakes.Wake.TheVariants.{Waiting, Grant}
+use Rattle.lfm_words.specs.Popped.{oldest}
+use Rattle.lfm_laws.specs.laws.Events.{answered_by, pushed_at_point, pushed_by}
+use Rattle.lfm_laws.specs.laws.Laws.{IsReached}
+use Rattle.lfm_laws.specs.laws.Overtaking.{enters_at, entries_of_seat}
+use Rattle.lfm_laws.specs.laws.Progress.{stepped_in, steps_of_run}
+use Rattle.lfm_laws.specs.laws.Schedules.{Event, answer_record, answered_in, begins, makes, happens, is_call, run_of}
+use Rattle.lfm_laws.specs.steady.Ghost.{Ghost}
+use Rattle.lfm_laws.specs.steady.Steady.{Fits, Steady}
+use Rattle.lfm_laws.specs.table.Words.{words, handoff_of, index_by, link_of, stepped_by, wake_of, written_by}
+use Rattle.lfm_laws.proofs.lawful.runs.KeptSteady.{reached_are_narrow}
+use Rattle.lfm_laws.proofs.lawful.runs.Reached.{absent_tested, run_keeps, steady_reached}
+use Rattle.lfm_laws.proofs.steady.frames.Entries.{seat_or_absent}
+use Rattle.lfm_laws.proofs.steady.frames.SameSeats.{seats-begin, seats-step}
+use Rattle.lfm_laws.proofs.steady.frames.Seated.{seat_of_test}
+use Rattle.lfm_laws.proofs.steady.frames.Sums.{sum_agrees, sum_update}
+use Rattle.lfm_laws.proofs.table.Exact.{push_narrow}
+use Rattle.lfm_laws.proofs.table.Made.{turn_of_step}
+use Rattle.lfm_laws.proofs.table.Packing.{link_packed}
+use Rattle.lfm_table.specs.declared.seat_view.Seen.{Seen}
+use Rattle.lfm_table.specs.Actions.{Action, event, loads_owner, seen, stores, told_of, events_of, after_action, if_own, noted, noted_of, part_of}
+use Rattle.lfm_table.proofs.tables.StepFacts.{made_of}
+use Rattle.lfm_mutex.specs.TableRuns.{answer_noted, answers_noted, entries_told, owner_loads, own_push, own_pushes, push_noted, pushes_noted, steps_told}
+
+-- What is noted by one seat
+
+plus_none : (n : ℕ) → n ≡ 0 + n
+plus_none n = omega arith
+
+same_if : {A : Type 0} (b : Bool) (x : A) → x ≡ (if b then x else x)
+same_if true x = refl
+same_if false x = refl
+
+-- Entries
+
+own_entry : (c : Core) (s t : ℕ) → (if nat_eq s t then enters_at (seat c.seats t).point else 0) ≡ entries_told (if_own s t (noted c s))
+own_entry c s t = ⊎_elim
+    (λ (e : s ≡ t). rw (eq-eqb s t e) (ap (λ (m : ℕ). enters_at (seat c.seats m).point) (sym e) ∙ plus_none (enters_at (seat c.seats s).point)))
+    (λ (n : s ≢ t). rw (ne_eqb s t n) refl)
+    (cases_eq s t)
+
+owner_load_entry : (s t n : ℕ) → entries_told (if_own s t (seen TryOwnerLoad n)) ≡ 0
+owner_load_entry s t n = ⊎_elim
+    (λ (e : s ≡ t). rw (eq-eqb s t e) refl)
+    (λ (n : s ≢ t). rw (ne_eqb s t n) refl)
+    (cases_eq s t)
+
+first_entry : (c : Core) (t : ℕ) (d : Action) (later : List Action)
+    → entries_of_seat c t (events_of (d ∷ later)) ≡ entries_told (noted_of c t d) + entries_of_seat (after_action c d) t (events_of later)
+first_entry c t (event (begins s call)) later = refl
+first_entry c t (event (makes s)) later = ap (λ (n : ℕ). n + entries_of_seat (happens c (makes s)).core t (events_of later)) (own_entry c s t)
+first_entry c t (loads_owner s) later = let z = owner_load_entry s t c.owner in omega (arith, z)
+
+-- a seat comes to own as often as its part tells
+pub entries_of_part : (c : Core) (t : ℕ) (actions : List Action) → entries_of_seat c t (events_of actions) ≡ entries_told (part_of c t actions)
+entries_of_part c t [] = refl
+entries_of_part c t (d ∷ later) =
+    first_entry c t d later
+    ∙ (ap (λ (n : ℕ). entries_told (noted_of c t d) + n) (entries_of_part (after_action c d) t later)
+    ∙ sym (sum_by-append (λ (x : Seen). enters_at x.point) (noted_of c t d) (part_of (after_action c d) t later)))
+
+-- Steps
+
+abbrev step_unit : Point → ℕ
+step_unit q = if is_call q then 1 else 0
+
+none_summed : (n : ℕ) → sum_to (λ (t : ℕ). 0) n ≡ 0
+none_summed zero = refl
+none_summed (suc n) = let below = none_summed n in omega (arith, below)
+
+sum_adds : (n : ℕ) (f g : ℕ → ℕ) → sum_to (λ (t : ℕ). f t + g t) n ≡ sum_to f n + sum_to g n
+sum_adds zero f g = refl
+sum_adds (suc n) f g = let below = sum_adds n f g in omega (arith, below)
+
+-- a sum in which only the seat s counts
+sum_of_one : (n s k : ℕ) → 0 < s → s ≤ n → sum_to (λ (t : ℕ). if nat_eq s t then k else 0) n ≡ k
+sum_of_one n s k above within =
+    let one : ℕ → ℕ = λ (t : ℕ). if nat_eq s t then k else 0 in
+    let own : one s ≡ k = rw (eq-eqb s s refl) refl in
+    let all = sum_update n s (λ (t : ℕ). 0) one above within (λ (j : ℕ) (other : j ≢ s). rw (ne_eqb s j (λ e. other (sym e))) refl) in
+    let none = none_summed n in
+    omega (arith, own, all, none)
+
+own_steps : (s t : ℕ) (x : Seen) → steps_told (if_own s t x) ≡ (if nat_eq s t then step_unit x.point else 0)
+own_steps s t x = ⊎_elim
+    (λ (e : s ≡ t). rw (eq-eqb s t e) (sym (plus_none (step_unit x.point))))
+    (λ (n : s ≢ t). rw (ne_eqb s t n) refl)
+    (cases_eq s t)
+
+summed_own : (n s : ℕ) (x : Seen) → 0 < s → s ≤ n → sum_to (λ (t : ℕ). steps_told (if_own s t x)) n ≡ step_unit x.point
+summed_own n s x above within =
+    sum_agrees n (λ (t : ℕ). if nat_eq s t then step_unit x.point else 0) (λ (t : ℕ). steps_told (if_own s t x)) (λ (t : ℕ). own_steps s t x)
+    ∙ sum_of_one n s (step_unit x.point) above within
+
+-- who is no seat makes no step of a call
+summed_absent : (n s : ℕ) (x : Seen) → step_unit x.point ≡ 0 → sum_to (λ (t : ℕ). steps_told (if_own s t x)) n ≡ step_unit x.point
+summed_absent n s x none =
+    sum_agrees n (λ (t : ℕ). 0) (λ (t : ℕ). steps_told (if_own s t x))
+    (λ (t : ℕ). own_steps s t x ∙ (ap (λ (k : ℕ). if nat_eq s t then k else 0) none ∙ sym (same_if (nat_eq s t) 0)))
+    ∙ (none_summed n ∙ sym none)
+
+pub rest_is_nil : {A : Type 0} (xs ys : List A) → xs ++ ys ≡ [] → ys ≡ []
+rest_is_nil [] ys e = e
+rest_is_nil (x ∷ xs) ys e = absurd (let n = ap length e in omega (arith, n))
+
+noted_by_seat : (s : ℕ) (x : Seen) (later : List Seen) → if_own s s x ++ later ≢ []
+noted_by_seat s x later = rw (eq-eqb s s refl) (λ e. let n = ap length e in omega (arith, n))
+
+seats_stay : (c : Core) (d : Action) → length (after_action c d).seats ≡ length c.seats
+seats_stay c (event (begins s call)) = seats-begin c s call
+seats_stay c (event (makes s)) = seats-step c s
+seats_stay c (loads_owner s) = refl
+
+is_place : (n s : ℕ) → ((0 < s) × (s ≤ n)) ⊎ ((s ≡ 0) ⊎ (n < s))
+is_place n zero = inr (inl refl)
+is_place n (suc m) = ⊎_elim (λ (far : n < suc m). inr (inr far)) (λ (within : suc m ≤ n). inl (omega arith, within)) (cases_lt n (suc m))
+
+-- nobody but the seats 1 to n has a part in these actions
+abbrev OnlySeats : ℕ → Core → List Action → Type 0
+OnlySeats n c actions = (t : ℕ) → (t ≡ 0) ⊎ (n < t) → part_of c t actions ≡ []
+
+step_summed : (c : Core) (s : ℕ) → sum_to (λ (t : ℕ). steps_told (if_own s t (noted c s))) (length c.seats) ≡ stepped_in c (makes s)
+step_summed c s =
+    elim (seat_or_absent c.seats s) [
+      | inl is ↦ summed_own (length c.seats) s (noted c s) is.above is.within
+      | inr none ↦ summed_absent (length c.seats) s (noted c s) (ap (λ (x : SeatState). step_unit x.point) none)
+    ]
+
+-- the steps that an action is, and the loads for `owner`
+abbrev made_by : Core → Action → ℕ
+made_by c (event e) = stepped_in c e
+made_by c (loads_owner s) = 1
+
+action_summed : (n : ℕ) (c : Core) (d : Action) (later : List Action) → length c.seats ≡ n → OnlySeats n c (d ∷ later) → sum_to (λ (t : ℕ). steps_told (noted_of c t d)) n ≡ made_by c d
+action_summed n c (event (begins s call)) later many only = none_summed n
+action_summed n c (event (makes s)) later many only = subst (λ (m : ℕ). sum_to (λ (t : ℕ). steps_told (if_own s t (noted c s))) m ≡ stepped_in c (makes s)) many (step_summed c s)
+action_summed n c (loads_owner s) later many only = ⊎_elim
+    (λ (is : (0 < s) × (s ≤ n)). summed_own n s (seen TryOwnerLoad c.owner) is.0 is.1)
+    (λ (out : (s ≡ 0) ⊎ (n < s)). absurd (noted_by_seat s (seen TryOwnerLoad c.owner) (part_of c s later) (only s out)))
+    (is_place n s)
+
+made_first : (c : Core) (d : Action) (later : List Action)
+    → made_by c d + (steps_of_run (after_action c d) (events_of later) + owner_loads later) ≡ steps_of_run c (events_of (d ∷ later)) + owner_loads (d ∷ later)
+made_first c (event e) later = omega arith
+made_first c (loads_owner s) later = omega arith
+
+-- the parts of all seats tell the steps of the run, and the loads for `owner`
+pub steps_of_parts : (n : ℕ) (c : Core) (actions : List Action) → length c.seats ≡ n → OnlySeats n c actions
+    → sum_to (λ (t : ℕ). steps_told (part_of c t actions)) n ≡ steps_of_run c (events_of actions) + owner_loads actions
+steps_of_parts n c [] many only = none_summed n
+steps_of_parts n c (d ∷ later) many only =
+    let next = after_action c d in
+    let rest = steps_of_parts n next later (seats_stay c d ∙ many) (λ t out. rest_is_nil (noted_of c t d) (part_of next t later) (only t out)) in
+    let here = action_summed n c d later many only in
+    let apart =
+    sum_agrees n (λ (t : ℕ). steps_told (noted_of c t d) + steps_told (part_of next t later)) (λ (t : ℕ). steps_told (part_of c t (d ∷ later)))
+    (λ (t : ℕ). sum_by-append (λ (x : Seen). step_unit x.point) (noted_of c t d) (part_of next t later))
+    ∙ sum_adds n (λ (t : ℕ). steps_told (noted_of c t d)) (λ (t : ℕ). steps_told (part_of next t later)) in
+    apart ∙ ((λ i. here i + rest i) ∙ made_first c d later)
+
+-- Pushes
+
+pushes_join : (t : ℕ) (xs ys : List Seen) → pushes_noted t (xs ++ ys) ≡ pushes_noted t xs ++ pushes_noted t ys
+pushes_join t xs ys = flat_map-append (λ (x : Seen). push_noted t x.point x.found) xs ys
+
+-- the number that is noted at this point
+abbrev noted_at : Core → ℕ → SeatState → ℕ → Point → ℕ
+noted_at c s x seats q =
+    told_of (stores (kind q)) (written_by x s (slice_index (words c) (index_by seats (target q s) (kind q))) (kind q)) (slice_index (words c) (index_by seats (target q s) (kind q)))
+
+push_told : (c : Core) (g : Ghost) (s : ℕ) (x : SeatState) (seats : ℕ) → Fits c g → (q : Point) → pushed_at_point c s q ≡ push_noted s q (noted_at c s x seats q)
+push_told c g s x seats fits (PushExchange pusher old) =
+    ap (λ (l : Link). if same_link l old then record { seat = pushed_seat pusher s; stamp = old.stamp + 1 } ∷ [] else []) (sym (link_packed c.push (push_narrow c g fits)))
+push_told c g s x seats fits _ = refl
+
+own_told : (c : Core) (g : Ghost) (s t : ℕ) → Fits c g → (if nat_eq s t then pushed_by c s else []) ≡ pushes_noted t (if_own s t (noted c s))
+own_told c g s t fits = ⊎_elim
+    (λ (e : s ≡ t). rw (eq-eqb s t e)
+    (push_told c g s (seat c.seats s) _ fits (seat c.seats s).point
+    ∙ (ap (λ (m : ℕ). push_noted m (seat c.seats s).point (noted c s).found) e ∙ sym (append-nil (push_noted t (seat c.seats s).point (noted c s).found)))))
+    (λ (n : s ≢ t). rw (ne_eqb s t n) refl)
+    (cases_eq s t)
+
+owner_load_pushes : (s t n : ℕ) → [] ≡ pushes_noted t (if_own s t (seen TryOwnerLoad n))
+owner_load_pushes s t n = ⊎_elim
+    (λ (e : s ≡ t). rw (eq-eqb s t e) refl)
+    (λ (n : s ≢ t). rw (ne_eqb s t n) refl)
+    (cases_eq s t)
+
+action_told : (c : Core) (g : Ghost) (t : ℕ) (d : Action) → Fits c g → own_push c t d ≡ pushes_noted t (noted_of c t d)
+action_told c g t (event (begins s call)) fits = refl
+action_told c g t (event (makes s)) fits = own_told c g s t fits
+action_told c g t (loads_owner s) fits = owner_load_pushes s t c.owner
+
+action_keeps : (c : Core) (d : Action) → Steady c → Steady (after_action c d)
+action_keeps c (event e) steady = run_keeps c (e ∷ []) steady
+action_keeps c (loads_owner s) steady = steady
+
+-- the records that a seat pushes are those that its part tells
+pub pushes_told : (c : Core) (t : ℕ) (actions : List Action) → Steady c → own_pushes c t actions ≡ pushes_noted t (part_of c t actions)
+pushes_told c t [] steady = refl
+pushes_told c t (d ∷ later) steady =
+    (λ i. action_told c steady.ghost_state t d steady.fits i ++ pushes_told (after_action c d) t later (action_keeps c d steady) i)
+    ∙ sym (pushes_join t (noted_of c t d) (part_of (after_action c d) t later))
+
+-- Answers
+
+module _ (d t ps s n : ℕ) (o : Option Record) where
+  none_if : (b : Bool) (u v : Stepped) → answered_by s u.turn ≡ [] → answered_by s v.turn ≡ [] → answered_by s (if b then u else v).turn ≡ []
+  none_if true u v first second = first
+  none_if false u v first second = second
+
+  none_releases : (q : Point) (r : Releaser) (answer : Unlocked) → answered_by s (releases (made_of d t ps q) r answer).turn ≡ []
+  none_releases q Unlocker answer = refl
+  none_releases q Waiter answer = refl
+
+  none_pushed : (q : Point) (pusher : Pusher) → answered_by s (pushed (made_of d t ps q) pusher).turn ≡ []
+  none_pushed q Pusher.Locker = refl
+  none_pushed q (Pusher.Sender u) = refl
+
+  none_granted : (q : Point) (carrier : Carrier) (oldest : Record) → answered_by s (granted (made_of d t ps q) carrier oldest).turn ≡ []
+  none_granted q Carrier.Locker oldest = refl
+  none_granted q (Carrier.Releaser r) oldest = none_releases q r (Unlocked.Granted oldest.seat)
+  none_granted q (Carrier.Reclaimer r) oldest = none_releases q r (Unlocked.Granted oldest.seat)
+  none_granted q Carrier.Sender oldest = refl
+
+  none_receives : (q : Point) (sleeper : Sleeper) (w : Wake) → answered_by s (receives (made_of d t ps q) sleeper w).turn ≡ []
+  none_receives q sleeper (Grant stamp) = refl
+  none_receives q sleeper _ = refl
+
+  none_claims : (q : Point) (u : ℕ) (w : Wake) → answered_by s (claims (made_of d t ps q) u w).turn ≡ []
+  none_claims q u Waiting = refl
+  none_claims q u _ = refl
+
+  entered : (entrant : Entrant) (how : How) → answered_by s (Ended (held entrant how)) ≡ answer_noted s (EnterOwnerStore entrant how)
+  entered Entrant.Locker How.Free = refl
+  entered Entrant.Trier How.Free = refl
+  entered Entrant.Receiver How.Free = refl
+  entered Entrant.Locker (How.Queued stamp) = refl
+  entered Entrant.Trier (How.Queued stamp) = refl
+  entered Entrant.Receiver (How.Queued stamp) = refl
+
+  answer_at : (q : Point) → answered_by s (stepped_by (made_of d t ps q) s n o).turn ≡ answer_noted s q
+  answer_at TryOwnerLoad = none_if (nat_eq n s) _ (goes_on (made_of d t ps TryOwnerLoad) TryHandoffLoad) refl refl
+  answer_at TryHandoffLoad = none_if (nat_eq (handoff_of n).seat 0) (busy (made_of d t ps TryHandoffLoad)) _ refl refl
+  answer_at (TryHandoffExchange old) = none_if (same_handoff (handoff_of n) old) (goes_on (made_of d t ps (TryHandoffExchange old)) TryCountAdd) (busy (made_of d t ps (TryHandoffExchange old))) refl refl
+  answer_at (SendWakeExchange u) = none_claims (SendWakeExchange u) u (wake_of n)
+  answer_at (SendPushRecheck u old) = none_if (nat_eq (link_of n).next 0) _ (goes_on (made_of d t ps (SendPushRecheck u old)) (PushedHandoffExchange (Pusher.Sender u) old)) refl refl
+  answer_at (PushedHandoffLoad pusher) =
+      none_if (nat_eq (handoff_of n).seat 0) (pushed (made_of d t ps (PushedHandoffLoad pusher)) pusher) (goes_on (made_of d t ps (PushedHandoffLoad pusher)) (found_posted pusher (handoff_of n))) (none_pushed (PushedHandoffLoad pusher) pusher) refl
+  answer_at (PushedHandoffExchange pusher old) =
+      none_if (same_handoff (handoff_of n) old) (goes_on (made_of d t ps (PushedHandoffExchange pusher old)) (take (carrier_of pusher) s o)) (pushed (made_of d t ps (PushedHandoffExchange pusher old)) pusher) refl (none_pushed (PushedHandoffExchange pusher old) pusher)
+  answer_at (ReleaseCountSubtract r) =
+      none_if (nat_eq n 1) (releases (made_of d t ps (ReleaseCountSubtract r)) r Unlocked.Free) (goes_on (made_of d t ps (ReleaseCountSubtract r)) (take (Carrier.Releaser r) s o)) (none_releases (ReleaseCountSubtract r) r Unlocked.Free) refl
+  answer_at (ReleasePushRecheck r) =
+      none_if (nat_eq (link_of n).next 0) (releases (made_of d t ps (ReleasePushRecheck r)) r Unlocked.Posted) (goes_on (made_of d t ps (ReleasePushRecheck r)) (ReleaseHandoffExchange r)) (none_releases (ReleasePushRecheck r) r Unlocked.Posted) refl
+  answer_at (ReleaseHandoffExchange r) =
+      none_if (same_handoff (handoff_of n) (record { seat = s; post = ps })) (goes_on (made_of d t ps (ReleaseHandoffExchange r)) (take (Carrier.Reclaimer r) s o)) (releases (made_of d t ps (ReleaseHandoffExchange r)) r Unlocked.TakenOver)
+      refl (none_releases (ReleaseHandoffExchange r) r Unlocked.TakenOver)
+  answer_at (GrantWakeStore carrier oldest) = none_granted (GrantWakeStore carrier oldest) carrier oldest
+  answer_at (EnterOwnerStore entrant how) = entered entrant how
+  answer_at (ReceiveWakeLoad sleeper) = none_receives (ReceiveWakeLoad sleeper) sleeper (wake_of n)
+  answer_at _ = refl
+
+run_join : (c : Core) (xs ys : List Event) → run_of c (xs ++ ys) ≡ run_of (run_of c xs) ys
+run_join c [] ys = refl
+run_join c (e ∷ xs) ys = run_join (happens c e).core xs ys
+
+reached_next : (c : Core) (e : Event) → IsReached c → IsReached (happens c e).core
+reached_next c e is = record {
+  limits = is.limits;
+  events = is.events ++ e ∷ [];
+  allowed = is.allowed;
+  here = ap (λ (b : Core). (happens b e).core) is.here ∙ sym (run_join (start is.limits) is.events (e ∷ []));
+}
+
+step_answer : (c : Core) (s : ℕ) → IsReached c → answered_by s (step c s).turn ≡ answer_noted s (seat c.seats s).point
+step_answer c s is = elim (cases_Bool (is_seat c.seats s)) [
+  | inl here ↦
+      let steady = steady_reached c is in
+      let x = seat c.seats s in
+      rw here (ap (answered_by s) (turn_of_step c steady.ghost_state s (seat_of_test c.seats s here) steady.fits (reached_are_narrow c is)) ∙ answer_at x.depth x.takes x.posts s _ (oldest c.popped) x.point)
+  | inr none ↦ rw (none, absent_tested c.seats s none) refl
+]
+
+-- of the answers by seat s, those of seat t
+abbrev of_seat : ℕ → Record → Bool
+of_seat t r = nat_eq r.seat t
+
+answers_of_seat : (s t : ℕ) (q : Point) → filter (of_seat t) (answer_noted s q) ≡ (if nat_eq s t then answer_noted s q else [])
+answers_of_seat s t (EnterOwnerStore entrant (How.Queued stamp)) = refl
+answers_of_seat s t (EnterOwnerStore entrant How.Free) = same_if (nat_eq s t) []
+answers_of_seat s t _ = same_if (nat_eq s t) []
+
+answer_of_step : (s t : ℕ) (x : Seen) → (if nat_eq s t then answer_noted s x.point else []) ≡ answers_noted t (if_own s t x)
+answer_of_step s t x = ⊎_elim
+    (λ (e : s ≡ t). rw (eq-eqb s t e) (ap (λ (m : ℕ). answer_noted m x.point) e ∙ sym (append-nil (answer_noted t x.point))))
+    (λ (n : s ≢ t). rw (ne_eqb s t n) refl)
+    (cases_eq s t)
+
+event_answers : (c : Core) (t : ℕ) (e : Event) → IsReached c → filter (of_seat t) (answered_in c e) ≡ answers_noted t (noted_of c t (event e))
+event_answers c t (begins s call) is = refl
+event_answers c t (makes s) is = ap (filter (of_seat t)) (step_answer c s is) ∙ (answers_of_seat s t (seat c.seats s).point ∙ answer_of_step s t (noted c s))
+
+owner_load_answers : (s t n : ℕ) → [] ≡ answers_noted t (if_own s t (seen TryOwnerLoad n))
+owner_load_answers s t n = ⊎_elim
+    (λ (e : s ≡ t). rw (eq-eqb s t e) refl)
+    (λ (n : s ≢ t). rw (ne_eqb s t n) refl)
+    (cases_eq s t)
+
+answers_join : (t : ℕ) (xs ys : List Seen) → answers_noted t (xs ++ ys) ≡ answers_noted t xs ++ answers_noted t ys
+answers_join t xs ys = flat_map-append (λ (x : Seen). answer_noted t x.point) xs ys
+
+-- the answers Held(Queued) of a seat are those that its part tells
+pub answers_told : (c : Core) (t : ℕ) (actions : List Action) → IsReached c → filter (of_seat t) (answer_record c (events_of actions)) ≡ answers_noted t (part_of c t actions)
+answers_told c t [] is = refl
+answers_told c t (event e ∷ later) is =
+    filter-append (of_seat t) (answered_in c e) (answer_record (happens c e).core (events_of later))
+    ∙ ((λ i. event_answers c t e is i ++ answers_told (happens c e).core t later (reached_next c e is) i)
+    ∙ sym (answers_join t (noted_of c t (event e)) (part_of (happens c e).core t later)))
+answers_told c t (loads_owner s ∷ later) is =
+    answers_told c t later is
+    ∙ (ap (λ (l : List Record). l ++ answers_noted t (part_of c t later)) (owner_load_answers s t c.owner)
+    ∙ sym (answers_join t (noted_of c t (loads_owner s)) (part_of c t later)))

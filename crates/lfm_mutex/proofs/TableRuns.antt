@@ -1,0 +1,169 @@
+-- The run of a table goes on with each atomic step, and what the laws say of runs of the core is so of it.
+use Rattle.std.proofs.Common.{◌≡◌, ◌⊎◌, ℕ, zero, suc, ◌+◌, ◌*◌, ◌<◌, ◌≤◌, List, [], ◌∷◌, ◌++◌, Option, true, length, replicate, reverse, slice_index, refl, sym, ap, ◌∙◌, subst, ⊎_elim, inl, inr, arith}
+use mathlib.Core.Option.{some}
+use lib.ListN.{get_elem?}
+use Rattle.atomic_table.specs.Table.{State}
+use Rattle.lfm_protocol.specs.declared.limits.Limits.{Limits}
+use Rattle.lfm_protocol.specs.Core.{Core}
+use Rattle.lfm_protocol.specs.Limits.{are_in_limits}
+use Rattle.lfm_protocol.specs.Queue.{chain, chain_of, queue_of, unwalked}
+use Rattle.lfm_protocol.specs.Seats.{absent}
+use Rattle.lfm_protocol.specs.Step.{start}
+use Rattle.lfm_words.specs.declared.links.Link.{Link}
+use Rattle.lfm_words.specs.declared.pop_lists.Record.{Record}
+use Rattle.lfm_laws.specs.laws.Laws.{IsReached}
+use Rattle.lfm_laws.specs.laws.Progress.{ended_in_run, steps_of_run}
+use Rattle.lfm_laws.specs.table.Words.{index, written}
+use Rattle.lfm_laws.proofs.lawful.runs.AbstractBridge.{runs_are_abstract_runs}
+use Rattle.lfm_laws.proofs.lawful.runs.InSchedules.{queue_is_in_push_order_in_schedules, stamps_are_consecutive_in_schedules, queued_seats_are_overtaken_once_in_schedules, queued_seats_wait_for_few_releases_in_schedules, no_seat_overtakes_twice_in_schedules, some_call_ends_in_schedules}
+use Rattle.lfm_laws.proofs.lawful.runs.LimitsKept.{limits_stay}
+use Rattle.lfm_laws.proofs.lawful.runs.PushOrder.{answers_are_the_records}
+use Rattle.lfm_laws.proofs.lawful.runs.Reached.{steady_reached}
+use Rattle.lfm_table.specs.declared.rule.Moving.{Moving}
+use Rattle.lfm_table.specs.declared.seat_view.View.{View}
+use Rattle.lfm_table.specs.Actions.{Action, loads_owner, HasRun, told, events_of, part_of, begins_and_step}
+use Rattle.lfm_table.specs.Rule.{Held}
+use Rattle.lfm_table.proofs.tables.Actions.{led_join, part_join}
+use Rattle.lfm_table.proofs.tables.RuleKept.{led_on}
+use Rattle.lfm_mutex.proofs.LawsHeld.{core_of}
+use Rattle.lfm_mutex.proofs.RunTrails.{answers_told, entries_of_part, pushes_told, rest_is_nil, steps_of_parts}
+use Rattle.lfm_mutex.proofs.ends.Seats.{joins, joins_keep, owner_keeps, owner_tells, splits, splits_keep, starts, starts_at}
+use Rattle.lfm_mutex.specs.Laws.{IsCore}
+use Rattle.lfm_mutex.specs.TableRuns.{HoldsAfter, OwnerLoadsGoOnWithTheRun, SeatsComeAndGoInARun, StepsGoOnWithTheRun, TablesEndCalls, TablesGoThroughReachedStates, TablesRunAsTheAbstractMutex, TablesHaveARun, TablesOpenARun, TablesOvertakeOnce, TablesServeInPushOrder, TrailsTellThePushes, TrailsTellTheAnswers, answers_noted, late_part, pushes_noted, popped_since, pushed_since, state_after}
+
+-- each moment of a run in the limits is a state that a schedule reaches
+reached_after : (l : Limits) (actions : List Action) → are_in_limits l.seats l.budget ≡ true → IsReached (state_after l actions)
+reached_after l actions allowed = record { limits = l; events = events_of actions; allowed = allowed; here = refl }
+
+none_before : (n : ℕ) → 0 + n ≡ n
+none_before n = omega arith
+
+-- nobody is queued at the start
+
+none_unwalked : (n : ℕ) → unwalked (replicate n absent) ≡ 0
+none_unwalked zero = refl
+none_unwalked (suc n) = none_unwalked n
+
+none_linked : (most : ℕ) (links : List Link) → chain_of most links 0 ≡ []
+none_linked zero links = refl
+none_linked (suc most) links = refl
+
+start_queue : (l : Limits) → queue_of (start l) ≡ []
+start_queue l =
+    (λ i. reverse (chain (start l).links (none_unwalked l.seats i)) ++ reverse (chain (start l).links 0))
+    ∙ (λ i. reverse (none_linked (length (start l).links) (start l).links i) ++ reverse (none_linked (length (start l).links) (start l).links i))
+
+module _ {T : Type 0} (follows : ℕ → T → T → Type 0) (fits : T → ℕ → Type 0) where
+  abbrev St : Type 0
+  St = State (Option (Moving T)) (View T)
+
+  in_limits : (s : St) (l : Limits) (actions : List Action) → HoldsAfter follows fits l actions s → are_in_limits l.seats l.budget ≡ true
+  in_limits s l actions holds = ap (λ (k : Limits). are_in_limits k.seats k.budget) (sym holds.1) ∙ holds.0.run.allowed
+
+  pub tables_have_a_run : TablesHaveARun follows fits
+  tables_have_a_run = (
+    (λ s h. (h.opened, h.actions, (h, refl, refl))),
+    (λ s l actions holds.
+        let h = holds.0 in let led : h.core ≡ state_after l actions = h.run.here ∙ (λ i. state_after (holds.1 i) (holds.2 i)) in (
+          subst (λ (c : Core). IsCore s c) led (core_of follows fits s h),
+          subst (λ (t : Limits × List Action × Core). HasRun t.0 t.1 t.2 s.views) (λ i. (holds.1 i, holds.2 i, led i)) h.run,
+        )),
+  )
+
+  pub tables_open_a_run : TablesOpenARun follows fits
+  tables_open_a_run l x allowed none room suits =
+      let ws = replicate (4 + 2 * l.seats) 0 in let at = starts_at follows fits l ws x allowed refl none room suits in (starts follows fits l ws x allowed refl none room suits, at.1, at.2)
+
+  pub steps_go_on_with_the_run : StepsGoOnWithTheRun follows fits
+  steps_go_on_with_the_run s l actions j me p a holds at user became ready =
+      let h = holds.0 in
+      let on = led_on follows fits 1 j me p a (index p me.0.limits.seats me.0.number) (λ n. written p me.0.number n) (λ n. told p me.0.number n) user became refl (λ n. refl) (λ n. refl) ready s h at in (
+        slice_index s.words (index p me.0.limits.seats me.0.number),
+        on.0,
+        on.1,
+        refl,
+        on.2,
+        (on.3.0, on.3.2 ∙ holds.1, on.3.3 ∙ ap (λ (d : List Action). d ++ begins_and_step me.0.number me.0.standing p) holds.2),
+        on.4,
+      )
+
+  pub owner_loads_go_on_with_the_run : OwnerLoadsGoOnWithTheRun follows fits
+  owner_loads_go_on_with_the_run s l actions j me holds at user =
+      let h = holds.0 in
+      let on = owner_keeps follows fits j me user s h at in
+      let tells = owner_tells follows fits j me user s h at in
+      let placed : j + 1 ≡ me.0.number = sym (h.each j me.0 at).number in
+      (_, (on.0, on.2 ∙ holds.1, on.3 ∙ (λ i. holds.2 i ++ loads_owner (placed i) ∷ [])), tells)
+
+  pub seats_come_and_go_in_a_run : SeatsComeAndGoInARun follows fits
+  seats_come_and_go_in_a_run l actions = (
+    (λ v user room s holds at. let kept = splits_keep follows fits v user room s holds.0 at in (splits follows fits v user room s holds.0 at, kept.1 ∙ holds.1, kept.2 ∙ holds.2)),
+    (λ v w other user uses rests flat s holds at apart there.
+        let kept = joins_keep follows fits v w other user uses rests flat s holds.0 at apart there in
+        (joins follows fits v w other user uses rests flat s holds.0 at apart there, kept.1 ∙ holds.1, kept.2 ∙ holds.2)),
+  )
+
+  trail_parts : (s : St) (l : Limits) (early late : List Action) (j : ℕ) (v : View T) → HoldsAfter follows fits l (early ++ late) s → get_elem? s.views j ≡ some v
+      → v.trail ≡ part_of (start l) (j + 1) early ++ late_part l early late (j + 1)
+  trail_parts s l early late j v holds at =
+      holds.0.run.trails j v at ∙ ((λ i. part_of (start (holds.1 i)) (j + 1) (holds.2 i)) ∙ part_join (start l) (j + 1) early late)
+
+  pub tables_go_through_reached_states : TablesGoThroughReachedStates follows fits
+  tables_go_through_reached_states s l early late holds =
+      (reached_after l early (in_limits s l (early ++ late) holds), led_join (start l) early late, (λ j v at. trail_parts s l early late j v holds at))
+
+  pub tables_run_as_the_abstract_mutex : TablesRunAsTheAbstractMutex follows fits
+  tables_run_as_the_abstract_mutex s l actions holds = runs_are_abstract_runs l (events_of actions) (in_limits s l actions holds)
+
+  order : (l : Limits) (early late : List Action) → are_in_limits l.seats l.budget ≡ true
+      → queue_of (state_after l early) ++ pushed_since l early late ≡ popped_since l early late ++ queue_of (state_after l (early ++ late))
+  order l early late allowed =
+      queue_is_in_push_order_in_schedules (state_after l early) (events_of late) (reached_after l early allowed)
+      ∙ ap (λ (c : Core). popped_since l early late ++ queue_of c) (sym (led_join (start l) early late))
+
+  pub tables_serve_in_push_order : TablesServeInPushOrder follows fits
+  tables_serve_in_push_order s l actions holds =
+      let allowed = in_limits s l actions holds in (
+        (λ early late is. order l early late allowed ∙ ap (λ (d : List Action). popped_since l early late ++ queue_of (state_after l d)) (sym is)),
+        ap (λ (q : List Record). q ++ pushed_since l [] actions) (sym (start_queue l)) ∙ order l [] actions allowed,
+        (λ k d low. stamps_are_consecutive_in_schedules (start l) (events_of actions) (reached_after l [] allowed) k d low ∙ none_before (k + 1)),
+        answers_are_the_records l (events_of actions) allowed,
+      )
+
+  pub tables_overtake_once : TablesOvertakeOnce follows fits
+  tables_overtake_once s l early late k holds low few =
+      let reached = reached_after l early (in_limits s l (early ++ late) holds) in (
+        queued_seats_are_overtaken_once_in_schedules (state_after l early) (events_of late) k reached low few,
+        queued_seats_wait_for_few_releases_in_schedules (state_after l early) (events_of late) k reached low few,
+        (λ t.
+            let once = no_seat_overtakes_twice_in_schedules (state_after l early) t (events_of late) k reached low few in
+            (once, subst (λ (n : ℕ). n ≤ 1) (entries_of_part (state_after l early) t late) once)),
+      )
+
+  -- nobody but the seats has a part in the late actions
+  only_seats : (s : St) (l : Limits) (early late : List Action) → HoldsAfter follows fits l (early ++ late) s → (t : ℕ) → (t ≡ 0) ⊎ (l.seats < t) → late_part l early late t ≡ []
+  only_seats s l early late holds t out =
+      let h = holds.0 in
+      let many : length h.core.seats ≡ l.seats =
+      ap (λ (c : Core). length c.seats) h.run.here ∙ (ap (λ (k : Limits). k.seats) (limits_stay h.opened (events_of h.actions) h.run.allowed) ∙ ap (λ (k : Limits). k.seats) holds.1) in
+      let most : length s.views ≤ length h.core.seats = h.few in
+      let all = h.run.others t (⊎_elim (λ (none : t ≡ 0). inl none) (λ (far : l.seats < t). inr (omega (arith, far, most, many))) out) in
+      rest_is_nil (part_of (start l) t early) (late_part l early late t) (sym (part_join (start l) t early late) ∙ ((λ i. part_of (start (sym holds.1 i)) t (sym holds.2 i)) ∙ all))
+
+  pub tables_end_calls : TablesEndCalls follows fits
+  tables_end_calls s l early late holds =
+      let allowed = in_limits s l (early ++ late) holds in
+      let seats : length (state_after l early).seats ≡ l.seats = ap (λ (k : Limits). k.seats) (limits_stay l (events_of early) allowed) in (
+        subst (λ (n : ℕ). steps_of_run (state_after l early) (events_of late) ≤ (5 * n + 5) * (n + ended_in_run (state_after l early) (events_of late))) seats
+            (some_call_ends_in_schedules (state_after l early) (events_of late) (reached_after l early allowed)),
+        steps_of_parts l.seats (state_after l early) late seats (only_seats s l early late holds),
+      )
+
+  pub trails_tell_the_pushes : TrailsTellThePushes follows fits
+  trails_tell_the_pushes s l actions j v holds at =
+      let steady = steady_reached (start l) (reached_after l [] (in_limits s l actions holds)) in
+      pushes_told (start l) (j + 1) actions steady ∙ ap (pushes_noted (j + 1)) (sym (trail_parts s l [] actions j v holds at))
+
+  pub trails_tell_the_answers : TrailsTellTheAnswers follows fits
+  trails_tell_the_answers s l actions j v holds at =
+      answers_told (start l) (j + 1) actions (reached_after l [] (in_limits s l actions holds)) ∙ ap (answers_noted (j + 1)) (sym (trail_parts s l [] actions j v holds at))

@@ -1,0 +1,196 @@
+-- The run of a running mutex, which the rule of its table carries: how it goes on, what the laws of schedules say of it, and what a
+-- trail tells of it.
+use Rattle.std.specs.Prelude.{◌≡◌, ◌⊎◌, ℕ, ◌+◌, ◌*◌, ◌<◌, ◌≤◌, List, [], ◌∷◌, ◌++◌, Option, Some, true, length, replicate, slice_index, slice_index_or, nat_eq, if◌then◌else◌, filter, flat_map, sum_by}
+use mathlib.Core.Option.{some}
+use lib.ListN.{get_elem?}
+use Rattle.atomic_table.specs.Table.{Act, Joins, Me, Splits, State, Valid, carried_after, keeps, opening, stepped}
+use Rattle.lfm_model.specs.Abstract.{AbstractMutex, all_free}
+use Rattle.lfm_model.specs.AbstractRuns.{IsRun}
+use Rattle.lfm_model.specs.Sums.{sum_to}
+use Rattle.lfm_model.specs.declared.answers.How.{How}
+use Rattle.lfm_protocol.specs.declared.limits.Limits.{Limits}
+use Rattle.lfm_protocol.specs.declared.points.Point.{Point}
+use Rattle.lfm_protocol.specs.declared.points.Point.TheVariants.{EnterOwnerStore, PushExchange, Rest}
+use Rattle.lfm_protocol.specs.declared.seats.SeatState.{SeatState}
+use Rattle.lfm_protocol.specs.Limits.{are_in_limits}
+use Rattle.lfm_protocol.specs.After.{same_link}
+use Rattle.lfm_protocol.specs.Core.{Core}
+use Rattle.lfm_protocol.specs.Points.{pushed_seat}
+use Rattle.lfm_protocol.specs.Queue.{queue_of}
+use Rattle.lfm_protocol.specs.Step.{start}
+use Rattle.lfm_words.specs.declared.pop_lists.Record.{Record}
+use Rattle.lfm_laws.specs.laws.Cases.{ReadsRun}
+use Rattle.lfm_laws.specs.laws.Events.{pushed_by}
+use Rattle.lfm_laws.specs.laws.Laws.{IsReached}
+use Rattle.lfm_laws.specs.laws.Overtaking.{enters_at, entries_of_run, releases_of_run, entries_of_seat}
+use Rattle.lfm_laws.specs.laws.Progress.{steps_of_run, ended_in_run}
+use Rattle.lfm_laws.specs.laws.Reading.{Reads}
+use Rattle.lfm_laws.specs.laws.Schedules.{begins, makes, is_call, reached, run_of, push_record, popped_record, answer_record}
+use Rattle.lfm_laws.specs.table.Words.{index, link_of, written}
+use Rattle.lfm_mutex.specs.Laws.{IsCore}
+use Rattle.lfm_table.specs.declared.rule.Moving.{Moving}
+use Rattle.lfm_table.specs.declared.seat_view.Role.TheVariants.{User}
+use Rattle.lfm_table.specs.declared.seat_view.View.{View}
+use Rattle.lfm_table.specs.declared.seat_view.Seen.{Seen}
+use Rattle.lfm_table.specs.Actions.{Action, event, loads_owner, HasRun, told, events_of, after_action, part_of, begins_and_step}
+use Rattle.lfm_table.specs.Rule.{Advanced, Held, ReadsOwner, first_view, joined, split_view, with_joined, with_split}
+use Rattle.lfm_table.specs.Settled.{Became}
+use Rattle.lfm_table.specs.Steps.{Ready}
+
+-- the state to which these actions lead from the start
+abbrev pub state_after : Limits → List Action → Core
+state_after l actions = reached l (events_of actions)
+
+-- the records that the late actions push, those that leave the queue by them, and those by which they answer Held(Queued)
+abbrev pub pushed_since : Limits → List Action → List Action → List Record
+pushed_since l early late = push_record (state_after l early) (events_of late)
+
+abbrev pub popped_since : Limits → List Action → List Action → List Record
+popped_since l early late = popped_record (state_after l early) (events_of late)
+
+abbrev pub answered_since : Limits → List Action → List Action → List Record
+answered_since l early late = answer_record (state_after l early) (events_of late)
+
+-- the part of seat t in the late actions
+abbrev pub late_part : Limits → List Action → List Action → ℕ → List Seen
+late_part l early late t = part_of (state_after l early) t late
+
+-- how many of these actions load the owner word for `owner`
+abbrev pub owner_loads : List Action → ℕ
+owner_loads [] = 0
+owner_loads (event e ∷ later) = owner_loads later
+owner_loads (loads_owner s ∷ later) = 1 + owner_loads later
+
+-- the records that seat t pushes by these actions
+abbrev pub own_push : Core → ℕ → Action → List Record
+own_push c t (event (makes s)) = if nat_eq s t then pushed_by c s else []
+own_push c t _ = []
+
+abbrev pub own_pushes : Core → ℕ → List Action → List Record
+own_pushes c t [] = []
+own_pushes c t (a ∷ later) = own_push c t a ++ own_pushes (after_action c a) t later
+
+-- What a trail tells
+
+-- how often its seat comes to own
+abbrev pub entries_told : List Seen → ℕ
+entries_told trail = sum_by (λ (x : Seen). enters_at x.point) trail
+
+-- how many steps of calls it has, with the loads for `owner`
+abbrev pub steps_told : List Seen → ℕ
+steps_told trail = sum_by (λ (x : Seen). if is_call x.point then 1 else 0) trail
+
+-- the record that seat t pushes by a step at this point which finds n: an exchange of the push word that finds what it expects
+abbrev pub push_noted : ℕ → Point → ℕ → List Record
+push_noted t (PushExchange pusher old) n = if same_link (link_of n) old then record { seat = pushed_seat pusher t; stamp = old.stamp + 1 } ∷ [] else []
+push_noted t _ n = []
+
+abbrev pub pushes_noted : ℕ → List Seen → List Record
+pushes_noted t trail = flat_map (λ (x : Seen). push_noted t x.point x.found) trail
+
+-- the record by which seat t answers Held(Queued) with a step at this point
+abbrev pub answer_noted : ℕ → Point → List Record
+answer_noted t (EnterOwnerStore entrant (How.Queued stamp)) = record { seat = t; stamp = stamp } ∷ []
+answer_noted t _ = []
+
+abbrev pub answers_noted : ℕ → List Seen → List Record
+answers_noted t trail = flat_map (λ (x : Seen). answer_noted t x.point) trail
+
+module _ {T : Type 0} (follows : ℕ → T → T → Type 0) (fits : T → ℕ → Type 0) where
+  -- the rule holds of this table, which was opened with these limits, and these actions are its run
+  abbrev pub HoldsAfter : Limits → List Action → State (Option (Moving T)) (View T) → Type 0
+  HoldsAfter l actions s = (h : Held follows fits s) × (h.opened ≡ l) × (h.actions ≡ actions)
+
+  -- whenever the rule holds there is a run; words and seats are the state to which it leads, and trails are its parts
+  abbrev pub TablesHaveARun : Type 0
+  TablesHaveARun =
+      ((s : State (Option (Moving T)) (View T)) → Held follows fits s → (l : Limits) × (actions : List Action) × HoldsAfter l actions s)
+      × ((s : State (Option (Moving T)) (View T)) (l : Limits) (actions : List Action) → HoldsAfter l actions s → IsCore s (state_after l actions) × HasRun l actions (state_after l actions) s.views)
+
+  -- How a run goes on
+
+  -- a table at its opening has the empty run
+  abbrev pub TablesOpenARun : Type 0
+  TablesOpenARun =
+      (l : Limits) (x : Moving T) → are_in_limits l.seats l.budget ≡ true → x.popped.records ≡ [] → x.popped.room ≡ l.seats → fits x.value 0
+      → HoldsAfter l [] (opening (replicate (4 + 2 * l.seats) 0) (Some x ∷ []) (first_view l x.value))
+
+  -- a seat that has become p by begins makes its step: the run goes on by these begins and the step
+  abbrev pub StepsGoOnWithTheRun : Type 0
+  StepsGoOnWithTheRun =
+      (s : State (Option (Moving T)) (View T)) (l : Limits) (actions : List Action) (j : ℕ) (me : Me (Option (Moving T)) (View T)) (p : SeatState) (a : Option T) → HoldsAfter l actions s
+      → get_elem? s.views j ≡ some me.0 → me.0.role ≡ User → Became me.0.standing me.0.limits p → Ready follows fits p a me
+      → (n : ℕ) × (w : View T) × (act : Act (Option (Moving T))) × (n ≡ slice_index s.words (index p me.0.limits.seats me.0.number)) × Valid s.homes me.1 act
+      × HoldsAfter l (actions ++ begins_and_step me.0.number me.0.standing p) (stepped s (index p me.0.limits.seats me.0.number) (written p me.0.number n) j me.1 w act)
+      × Advanced follows fits p a me (told p me.0.number n) (w, carried_after me.1 act)
+
+  -- a seat loads the owner word for `owner`: the run goes on by this load
+  abbrev pub OwnerLoadsGoOnWithTheRun : Type 0
+  OwnerLoadsGoOnWithTheRun =
+      (s : State (Option (Moving T)) (View T)) (l : Limits) (actions : List Action) (j : ℕ) (me : Me (Option (Moving T)) (View T)) → HoldsAfter l actions s
+      → get_elem? s.views j ≡ some me.0 → me.0.role ≡ User
+      → (w : View T) × HoldsAfter l (actions ++ loads_owner me.0.number ∷ []) (stepped s 1 (slice_index s.words 1) j me.1 w keeps) × ReadsOwner me (slice_index s.words 1) (w, me.1)
+
+  -- seats that are split off and joined again leave the run as it is
+  abbrev pub SeatsComeAndGoInARun : Type 0
+  SeatsComeAndGoInARun =
+      (l : Limits) (actions : List Action)
+      → ((v : View T) → v.role ≡ User → v.made + 2 ≤ v.limits.seats → Splits (HoldsAfter l actions) 0 v (with_split v) (split_view v))
+      × ((v w : View T) (other : ℕ) → v.role ≡ User → w.role ≡ User → w.standing.point ≡ Rest → w.standing.depth ≡ 0 → Joins (HoldsAfter l actions) 0 v other w (with_joined v w) (joined w))
+
+  -- The laws of schedules
+
+  -- Each moment of the run is a state that a schedule reaches. The events since lead from it to the state that the table is, and each trail
+  -- is its early part and then its late one. So every law of schedules is about the table.
+  abbrev pub TablesGoThroughReachedStates : Type 0
+  TablesGoThroughReachedStates =
+      (s : State (Option (Moving T)) (View T)) (l : Limits) (early late : List Action) → HoldsAfter l (early ++ late) s
+      → IsReached (state_after l early) × (state_after l (early ++ late) ≡ run_of (state_after l early) (events_of late))
+      × ((j : ℕ) (v : View T) → get_elem? s.views j ≡ some v → v.trail ≡ part_of (start l) (j + 1) early ++ late_part l early late (j + 1))
+
+  -- Refinement. The run, read state by state, is a run of the abstract mutex from the state in which nobody holds, asks or waits.
+  abbrev pub TablesRunAsTheAbstractMutex : Type 0
+  TablesRunAsTheAbstractMutex =
+      (s : State (Option (Moving T)) (View T)) (l : Limits) (actions : List Action) → HoldsAfter l actions s
+      → Reads (start l) all_free × ((later : List AbstractMutex) × ReadsRun (start l) (events_of actions) later × IsRun (all_free ∷ later))
+
+  -- First come, first served. From each earlier moment on, what was queued and what was pushed since is, in one order, what has left the
+  -- queue since and what is queued now. Of the whole run the stamps are 1, 2, 3 and so on, and the answers are what has left the queue, or
+  -- all of it but the last.
+  abbrev pub TablesServeInPushOrder : Type 0
+  TablesServeInPushOrder =
+      (s : State (Option (Moving T)) (View T)) (l : Limits) (actions : List Action) → HoldsAfter l actions s
+      → ((early late : List Action) → actions ≡ early ++ late → queue_of (state_after l early) ++ pushed_since l early late ≡ popped_since l early late ++ queue_of (state_after l actions))
+      × (pushed_since l [] actions ≡ popped_since l [] actions ++ queue_of (state_after l actions))
+      × ((k : ℕ) (d : Record) → k < length (pushed_since l [] actions) → (slice_index_or (pushed_since l [] actions) k d).stamp ≡ k + 1)
+      × ((popped_since l [] actions ≡ answered_since l [] actions) ⊎ ((last : Record) × (popped_since l [] actions ≡ answered_since l [] actions ++ last ∷ [])))
+
+  -- Overtaking. While a record that was queued at an earlier moment has not left the queue, seats have come to own, and have stopped owning,
+  -- at most as often as records have left it, and once more. No seat has come to own twice, nor does its trail since then tell that.
+  abbrev pub TablesOvertakeOnce : Type 0
+  TablesOvertakeOnce =
+      (s : State (Option (Moving T)) (View T)) (l : Limits) (early late : List Action) (k : ℕ) → HoldsAfter l (early ++ late) s
+      → k < length (queue_of (state_after l early)) → length (popped_since l early late) ≤ k
+      → (entries_of_run (state_after l early) (events_of late) ≤ length (popped_since l early late) + 1)
+      × (releases_of_run (state_after l early) (events_of late) ≤ length (popped_since l early late) + 1)
+      × ((t : ℕ) → (entries_of_seat (state_after l early) t (events_of late) ≤ 1) × (entries_told (late_part l early late t) ≤ 1))
+
+  -- Lock freedom. Since an earlier moment calls have made at most (5N + 5)(N + k) steps, k being the number of those that have ended since.
+  -- The trails of the N seats have gone on by just these steps, and by the loads for `owner`.
+  abbrev pub TablesEndCalls : Type 0
+  TablesEndCalls =
+      (s : State (Option (Moving T)) (View T)) (l : Limits) (early late : List Action) → HoldsAfter l (early ++ late) s
+      → (steps_of_run (state_after l early) (events_of late) ≤ (5 * l.seats + 5) * (l.seats + ended_in_run (state_after l early) (events_of late)))
+      × (sum_to (λ (t : ℕ). steps_told (late_part l early late t)) l.seats ≡ steps_of_run (state_after l early) (events_of late) + owner_loads late)
+
+  -- the records that a seat has pushed in the run are those that its trail tells
+  abbrev pub TrailsTellThePushes : Type 0
+  TrailsTellThePushes =
+      (s : State (Option (Moving T)) (View T)) (l : Limits) (actions : List Action) (j : ℕ) (v : View T) → HoldsAfter l actions s → get_elem? s.views j ≡ some v
+      → own_pushes (start l) (j + 1) actions ≡ pushes_noted (j + 1) v.trail
+
+  -- and of the answers Held(Queued) of the run, those of the seat are the ones that its trail tells
+  abbrev pub TrailsTellTheAnswers : Type 0
+  TrailsTellTheAnswers =
+      (s : State (Option (Moving T)) (View T)) (l : Limits) (actions : List Action) (j : ℕ) (v : View T) → HoldsAfter l actions s → get_elem? s.views j ≡ some v
+      → filter (λ (r : Record). nat_eq r.seat (j + 1)) (answered_since l [] actions) ≡ answers_noted (j + 1) v.trail

@@ -1,0 +1,101 @@
+-- The run of a table: the actions of its seats since its opening, in order, and what each seat notes of them in its trail. An action is
+-- an event of the core, or a load of the owner word by `owner`.
+use Rattle.std.specs.Prelude.{◌≡◌, ◌⊎◌, ℕ, ◌+◌, ◌<◌, List, [], ◌∷◌, ◌++◌, length, nat_eq, slice_index, if◌then◌else◌, Option, Some, Bool, true, false}
+use mathlib.Core.Option.{some}
+use lib.ListN.{get_elem?}
+use Rattle.lfm_protocol.specs.declared.answers.Call.{Call}
+use Rattle.lfm_protocol.specs.declared.kinds.Kind.{Kind}
+use Rattle.lfm_protocol.specs.declared.limits.Limits.{Limits}
+use Rattle.lfm_protocol.specs.declared.points.Point.{Point}
+use Rattle.lfm_protocol.specs.declared.points.Point.TheVariants.{TryOwnerLoad}
+use Rattle.lfm_protocol.specs.declared.seats.SeatState.{SeatState}
+use Rattle.lfm_protocol.specs.Core.{Core}
+use Rattle.lfm_protocol.specs.Limits.{are_in_limits}
+use Rattle.lfm_protocol.specs.Points.{kind}
+use Rattle.lfm_protocol.specs.Seats.{seat}
+use Rattle.lfm_protocol.specs.Step.{start}
+use Rattle.lfm_laws.specs.laws.Schedules.{Event, begins, makes, happens, reached}
+use Rattle.lfm_laws.specs.table.Words.{words, index, written}
+use Rattle.lfm_table.specs.declared.seat_view.Seen.{Seen}
+use Rattle.lfm_table.specs.declared.seat_view.View.{View}
+use Rattle.lfm_table.specs.Settled.{calls_to}
+
+-- What is noted
+
+abbrev pub seen : Point → ℕ → Seen
+seen point n = record { point = point; found = n }
+
+-- a step of this kind stores, and finds nothing
+abbrev pub stores : Option Kind → Bool
+stores (Some Kind.OwnerStore) = true
+stores (Some Kind.LinkStore) = true
+stores (Some Kind.HandoffStore) = true
+stores (Some Kind.WakeStore) = true
+stores _ = false
+
+-- what is noted of a step that stored the first number, or found the second
+abbrev pub told_of : Bool → ℕ → ℕ → ℕ
+told_of true stored found = stored
+told_of false stored found = found
+
+-- the number that seat s, being x, notes of its step: what it stored, or else n, which it found
+abbrev pub told : SeatState → ℕ → ℕ → ℕ
+told x s n = told_of (stores (kind x.point)) (written x s n) n
+
+-- what seat s, being x, notes of its step at the words of c, among this many seats
+abbrev pub noted_as : Core → ℕ → SeatState → ℕ → Seen
+noted_as c s x seats = seen x.point (told x s (slice_index (words c) (index x seats s)))
+
+-- what seat s notes of its next step
+abbrev pub noted : Core → ℕ → Seen
+noted c s = noted_as c s (seat c.seats s) (length c.seats)
+
+-- Actions
+
+-- an event of the core, or a load of the owner word by this seat, for `owner`, which is no step of a call
+pub data Action : Type 0 where
+  event : Event → Action
+  loads_owner : ℕ → Action
+
+-- the events among these actions
+abbrev pub events_of : List Action → List Event
+events_of [] = []
+events_of (event e ∷ later) = e ∷ events_of later
+events_of (loads_owner s ∷ later) = events_of later
+
+-- the state after an action
+abbrev pub after_action : Core → Action → Core
+after_action c (event e) = (happens c e).core
+after_action c (loads_owner s) = c
+
+-- what seat t has of a note that seat s makes
+abbrev pub if_own : ℕ → ℕ → Seen → List Seen
+if_own s t x = if nat_eq s t then x ∷ [] else []
+
+-- what seat t notes of an action; of a begin nothing
+abbrev pub noted_of : Core → ℕ → Action → List Seen
+noted_of c t (event (begins s call)) = []
+noted_of c t (event (makes s)) = if_own s t (noted c s)
+noted_of c t (loads_owner s) = if_own s t (seen TryOwnerLoad c.owner)
+
+-- the part of seat t in a run: what it notes of its actions, in order
+abbrev pub part_of : Core → ℕ → List Action → List Seen
+part_of c t [] = []
+part_of c t (d ∷ later) = noted_of c t d ++ part_of (after_action c d) t later
+
+-- seat s begins these calls, the last of them first in the list
+abbrev pub begins_of : ℕ → List Call → List Action
+begins_of s [] = []
+begins_of s (call ∷ calls) = begins_of s calls ++ event (begins s call) ∷ []
+
+-- seat s, being x, begins the calls by which it becomes p, and makes its step
+abbrev pub begins_and_step : ℕ → SeatState → SeatState → List Action
+begins_and_step s x p = begins_of s (calls_to x p) ++ event (makes s) ∷ []
+
+-- A table that was opened with these limits has this run: the actions have led from the start to its core, and each trail is its seat's
+-- part of them. Who is no seat there has no part.
+pub record HasRun {T : Type 0} (l : Limits) (actions : List Action) (c : Core) (views : List (View T)) : Type 0 where
+  pub allowed : are_in_limits l.seats l.budget ≡ true
+  pub here : c ≡ reached l (events_of actions)
+  pub trails : (j : ℕ) (v : View T) → get_elem? views j ≡ some v → v.trail ≡ part_of (start l) (j + 1) actions
+  pub others : (t : ℕ) → (t ≡ 0) ⊎ (length views < t) → part_of (start l) t actions ≡ []

@@ -4,7 +4,7 @@ use Rattle.lfm_model.specs.declared.refusals.Refusal.{Refusal}
 use Rattle.lfm_model.specs.declared.refusals.Refusal.TheVariants.{Asleep, NotOwner, Nested, DepthFull, Spent, NoSuchSeat, NotWaiting, Busy}
 use Rattle.lfm_protocol.specs.declared.limits.Limits.{Limits}
 use Rattle.lfm_mutex.specs.calls.Sight.{Sight}
-use Rattle.lfm_condvar.specs.declared.wait.Enlisted.{Enlisted}
+use Rattle.lfm_condvar.specs.declared.cond_seat.hold.enlist.Enlisted.{Enlisted}
 use Rattle.lfm_condvar.specs.declared.waiters.Waiters.{Waiters}
 use Rattle.lfm_condvar.specs.Holds.{StepsOfOneHold, HeldOnce}
 use Rattle.lfm_condvar.specs.Waits.{BeginWaitEnds, Enlists, WaitEnds}

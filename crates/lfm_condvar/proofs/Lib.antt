@@ -3,6 +3,7 @@ pub mod Enlisted
 pub mod Followed
 pub mod HeldBack
 pub mod ListFacts
+pub mod Modelled
 pub mod OneHold
 pub mod Repeating
 pub mod Sent

@@ -13,7 +13,7 @@ pub go_on_more : (k : ℕ) (ws : List Waiter) (w : Waiter) → GoOnFrom k ws →
 go_on_more k [] w g e = (omega arith, tt)
 go_on_more k (x ∷ ws) w g e = (g.0, go_on_more (k + 1) ws w g.1 (omega arith))
 
-times_more : (s : ℕ) (ws : List Waiter) (w : Waiter) → times s (ws ++ w ∷ []) ≡ times s ws + one_at w.seat s
+pub times_more : (s : ℕ) (ws : List Waiter) (w : Waiter) → times s (ws ++ w ∷ []) ≡ times s ws + one_at w.seat s
 times_more s [] w = omega arith
 times_more s (x ∷ ws) w = let h = times_more s ws w in omega arith
 

@@ -3,6 +3,7 @@ pub mod HeldBack
 pub mod Holds
 pub mod Keeping
 pub mod Lists
+pub mod Modelled
 pub mod Repeated
 pub mod Waits
 pub mod Wakes

@@ -8,7 +8,7 @@ use Rattle.lfm_protocol.specs.declared.answers.Call.{Call}
 use Rattle.lfm_protocol.specs.declared.limits.Limits.{Limits}
 use Rattle.lfm_mutex.specs.calls.Sight.{Sight, StartsWait, WaitRefused, TakesUp}
 use Rattle.lfm_mutex.specs.calls.Trails.{MakesAtMost, MakesCall, ReceivesBy}
-use Rattle.lfm_condvar.specs.declared.wait.Enlisted.{Enlisted}
+use Rattle.lfm_condvar.specs.declared.cond_seat.hold.enlist.Enlisted.{Enlisted}
 use Rattle.lfm_condvar.specs.declared.waiters.Waiters.{Waiters}
 use Rattle.lfm_condvar.specs.Holds.{StepsOfOneHold, HeldOnce}
 use Rattle.lfm_condvar.specs.Keeping.{Appended}

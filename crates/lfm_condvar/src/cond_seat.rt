@@ -1,16 +1,22 @@
-//! A seat of a condvar: what one thread uses it with.
-ghost use Rattle.std.specs.Prelude.{◌≡◌};
+//! A seat of a condvar: what one thread uses it with. It holds a seat of the inner mutex, which is private to this module. So
+//! nobody locks the inner mutex but `hold`, by whose calls it is given back before they return.
+ghost use Rattle.std.specs.Prelude.{◌≡◌, ◌≤◌, ℕ, [], vec_capacity, vec_len};
+ghost use mathlib.Core.Option.{some};
+ghost use lib.ListN.{get_elem?};
 ghost use Rattle.lfm_mutex.specs.calls.Sight.{sight};
 ghost use Rattle.lfm_condvar.specs.Holds.{CondKept};
 
+mod hold;
+
 use crate::waiters::Waiters;
+pub(crate) use hold::Enlisted;
 use lfm_mutex::{Holder, Seat};
 
 /// A cond seat: what one thread uses a condvar with. It may move between threads, and each call borrows it for its whole
 /// length. Between calls it holds nothing.
 #[derive(Drop)]
 pub struct CondSeat {
-    pub(crate) seat: Seat<Waiters>,
+    seat: Seat<Waiters>,
     pub ghost kept: { CondKept (sight seat) },
 }
 
@@ -24,4 +30,21 @@ impl Holder<Waiters> for CondSeat {
     fn into_seat(self) -> Seat<Waiters> {
         self.seat
     }
+}
+
+/// Each seat of an inner mutex as a cond seat.
+pub(crate) fn as_cond_seats(
+    seats: Vec<Seat<Waiters>>,
+    mut cond_seats: Vec<CondSeat>,
+) -> Vec<CondSeat>
+    requires room { vec_len seats ≤ vec_capacity cond_seats }
+    requires none { cond_seats.items ≡ [] }
+    requires kept { (j : ℕ) (s : _) → get_elem? seats.items j ≡ some s → CondKept (sight s) }
+    ensures len { vec_len result ≡ vec_len seats }
+    ensures wraps { (j : ℕ) (s : _) → get_elem? result.items j ≡ some s → get_elem? seats.items j ≡ some s.seat }
+{
+    'wrapped: for seat in seats {
+        cond_seats.push_reserved(CondSeat { seat });
+    }
+    cond_seats
 }

@@ -2,6 +2,7 @@
 
 use crate::cond_seat::CondSeat;
 use crate::condvar::Condvar;
+use lfm_mutex::Holder;
 use std::fmt::{Debug, Formatter, Result, Write};
 
 /// How many seats it has. Its list belongs to the seat that holds it, so it isn't told.
@@ -17,8 +18,8 @@ impl Debug for Condvar {
 impl Debug for CondSeat {
     fn fmt<W: Write>(&self, f: &mut Formatter<W>) -> Result {
         f.debug_struct("CondSeat")
-            .field("number", &self.seat.number().get())
-            .field("left", &self.seat.left())
+            .field("number", &self.seat().number().get())
+            .field("left", &self.seat().left())
             .finish_non_exhaustive()
     }
 }

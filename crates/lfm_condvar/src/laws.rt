@@ -1,4 +1,6 @@
-//! The laws of condition variables over the core of the user mutex. They stand in `lfm_condvar_laws`, and are passed on.
+//! The laws of condition variables over the core of the user mutex. They stand in `lfm_condvar_laws`, and are passed on. The law
+//! here is of the list of a running condvar.
+ghost use Rattle.lfm_condvar.specs.Modelled.{ListsGoAsTheModel};
 
 pub use lfm_condvar_laws::claims::{
     claims_are_in_order, claims_never_fail, pushes_are_in_order, tickets_are_claimed_once,
@@ -12,3 +14,13 @@ pub use lfm_condvar_laws::waits::{
     waits_are_new, waits_are_sent, waits_can_end, waits_end_holding, waits_sleep_until_sent,
 };
 pub use lfm_condvar_laws::{claims, lists, user_mutex, waits};
+use lfm_mutex::Kept;
+
+/// The list of a running condvar goes as that of the model. `enlist` puts an unlisted seat at its end, with the model's ticket,
+/// and refuses a listed one as Busy. A send sends and removes the oldest. A send of all goes on to an empty list, or to a seat that
+/// was not waiting.
+///
+/// Definition: `ListsGoAsTheModel` in `specs/Modelled.antt`. Proof: `proofs/Modelled.antt`.
+pub fn lists_go_as_the_model<T: Kept>()
+    ensures { ListsGoAsTheModel T }
+{}

@@ -1,36 +1,21 @@
 //! How a condvar is made: an inner mutex round an empty list, and a cond seat for each of its seats.
-ghost use Rattle.std.specs.Prelude.{◌≡◌, ◌+◌, ◌≤◌, ℕ, IfErr, IfOk, [], true, false, vec_capacity, vec_len};
+ghost use Rattle.std.specs.Prelude.{◌≡◌, ◌+◌, ℕ, IfErr, IfOk, true, false, vec_len};
 ghost use mathlib.Core.Option.{some};
 ghost use lib.ListN.{get_elem?};
 ghost use Rattle.lfm_model.specs.declared.refusals.NewFault.{NewFault};
 ghost use Rattle.lfm_protocol.specs.Limits.{are_in_limits};
 ghost use Rattle.lfm_mutex.specs.Paces.{usual_pace};
-ghost use Rattle.lfm_mutex.specs.calls.Sight.{new_sight, sight};
+ghost use Rattle.lfm_mutex.specs.calls.Sight.{new_sight};
 ghost use Rattle.lfm_condvar.specs.Belongs.{OfCondvar, cond_limits, cond_sight};
-ghost use Rattle.lfm_condvar.specs.Holds.{CondKept};
 ghost use Rattle.lfm_condvar.specs.Keeping.{IsNew};
 
-use crate::cond_seat::CondSeat;
+use crate::cond_seat::{CondSeat, as_cond_seats};
 use crate::condvar::Condvar;
 use crate::waiters::Waiters;
 use lfm_model::NewFault;
-use lfm_mutex::{Mutex, Seat};
+use lfm_mutex::Mutex;
 use lfm_protocol::Limits;
 use std::alloc::Global;
-
-// Each seat of an inner mutex as a cond seat.
-fn as_cond_seats(seats: Vec<Seat<Waiters>>, mut cond_seats: Vec<CondSeat>) -> Vec<CondSeat>
-    requires room { vec_len seats ≤ vec_capacity cond_seats }
-    requires none { cond_seats.items ≡ [] }
-    requires kept { (j : ℕ) (s : _) → get_elem? seats.items j ≡ some s → CondKept (sight s) }
-    ensures len { vec_len result ≡ vec_len seats }
-    ensures wraps { (j : ℕ) (s : _) → get_elem? result.items j ≡ some s → get_elem? seats.items j ≡ some s.seat }
-{
-    'wrapped: for seat in seats {
-        cond_seats.push_reserved(CondSeat { seat });
-    }
-    cond_seats
-}
 
 impl Condvar {
     /// A condvar on which nobody waits, and its cond seats in order, numbered from 1. `seats` is 1 to 4,095, and `budget`,

@@ -1,4 +1,5 @@
-//! The list of those that wait, with its tickets. Only `enlist` and `send_oldest` change it.
+//! The list of those that wait, with its tickets. Only `enlist` and `send_oldest` change it, with or without waking: the fields,
+//! and what appends or takes off, are private to this module, of which these calls are children.
 ghost use Rattle.std.specs.Prelude.{All, ◌≡◌, ℕ, ◌+◌, ◌<◌, ◌≤◌, ◌++◌, [], ◌∷◌, Some, IfOk, MatchBool, MatchOption, length, slice_index, sum, vec_len};
 ghost use Rattle.std.specs.VecDeque.{deque_capacity, deque_len};
 ghost use Rattle.lfm_protocol.specs.Limits.{max_budget, max_seats};
@@ -103,8 +104,8 @@ impl Waiters {
         self.list.front().copied()
     }
 
-    /// Puts a user seat that is not there at the end with the next ticket, and counts it for the cond seat `by`.
-    pub(crate) fn append(&mut self, by: SeatNo, seat: SeatNo) -> u64
+    // Puts a user seat that is not there at the end with the next ticket, and counts it for the cond seat `by`.
+    fn append(&mut self, by: SeatNo, seat: SeatNo) -> u64
         requires by { (by ≤ self.old.seats) × (slice_index self.old.counts.items by < self.old.budget) }
         requires seat { (0 < seat) × (seat ≤ self.old.seats) × (times seat self.old.list.items ≡ 0) }
         ensures appended { Appended by seat self.old self.new }

@@ -1,4 +1,5 @@
-//! One hold of the inner mutex: a cond seat locks it, and gives it back with the list that it made.
+//! One hold of the inner mutex: a cond seat locks it, and gives it back with the list that it made. Both are private to this
+//! module, and to its children, which offer whole holds alone.
 ghost use Rattle.std.specs.Prelude.{◌≡◌, ◌≤◌, IfErr, IfOk, false};
 ghost use Rattle.lfm_model.specs.declared.refusals.Refusal.TheVariants.{Spent};
 ghost use Rattle.lfm_mutex.specs.Belongs.{Beside, OfMutex, limits_of, tries_of};
@@ -6,13 +7,17 @@ ghost use Rattle.lfm_mutex.specs.calls.Sight.{sight, LeavesOff, MayLeave};
 ghost use Rattle.lfm_condvar.specs.Holds.{CondKept, InHand, LeavesList, LocksList, MadeFor};
 ghost use Rattle.lfm_condvar.specs.Keeping.{WaitersFollow};
 
+mod enlist;
+mod send;
+
 use crate::waiters::Waiters;
+pub(crate) use enlist::Enlisted;
 use lfm_model::{Locked, Refusal};
 use lfm_mutex::{Mutex, Seat};
 use std::sync::Wait;
 
-/// Locks the inner mutex: the cond seat tries as often as the pace says, and then queues. It is refused as Spent alone.
-pub fn lock_list<R: Wait>(
+// Locks the inner mutex: the cond seat tries as often as the pace says, and then queues. It is refused as Spent alone.
+fn lock_list<R: Wait>(
     inner: &Mutex<Waiters>,
     rt: &R,
     cond: &mut Seat<Waiters>,
@@ -35,8 +40,8 @@ pub fn lock_list<R: Wait>(
     }
 }
 
-/// Gives the inner mutex back.
-pub fn leave_list(inner: &Mutex<Waiters>, cond: &mut Seat<Waiters>)
+// Gives the inner mutex back.
+fn leave_list(inner: &Mutex<Waiters>, cond: &mut Seat<Waiters>)
     requires belongs { OfMutex cond.old inner.now }
     requires held { ((sight cond.old).depth ≡ 1) × ((sight cond.old).asleep ≡ false) }
     requires leaves { MayLeave WaitersFollow (λ _ _. Unit {0}) (sight cond.old) }

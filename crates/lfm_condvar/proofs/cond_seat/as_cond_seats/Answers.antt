@@ -6,7 +6,7 @@ use Rattle.std.proofs.lemmas.Iterator.Consumers.{YieldsList-turn}
 use Rattle.std.proofs.lemmas.List.{length_push}
 use Rattle.lfm_condvar.specs.declared.cond_seat.CondSeat.{CondSeat}
 use Rattle.lfm_condvar.proofs.Begins.{and_last, at_place}
-use Rattle.lfm_condvar.proofs.open.as_cond_seats.Goals as goal
+use Rattle.lfm_condvar.proofs.cond_seat.as_cond_seats.Goals as goal
 
 pub invariant_of-push_reserved : goal.invariant_of-push_reserved
 invariant_of-push_reserved c = let b = c.into_iter-seat-iterator.ensures.into_iter_gives in let xs = c.args.seats.items in

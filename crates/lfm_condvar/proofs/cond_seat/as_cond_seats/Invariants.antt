@@ -1,7 +1,7 @@
 use Rattle.std.proofs.Common.{◌≡◌, ◌≤◌, ℕ, length, vec_len, vec_capacity}
 use mathlib.Core.Option.{some}
 use lib.ListN.{get_elem?}
-use Rattle.lfm_condvar.proofs.open.as_cond_seats.Given as goal
+use Rattle.lfm_condvar.proofs.cond_seat.as_cond_seats.Given as goal
 
 abbrev pub invariant-wrapped : goal.invariant-wrapped
 invariant-wrapped l = record {

@@ -6,7 +6,7 @@ use Rattle.lfm_mutex.specs.calls.Sight.{sight}
 use Rattle.lfm_condvar.specs.Keeping.{WaitersFollow}
 use Rattle.lfm_condvar.specs.Waits.{Enlists}
 use Rattle.lfm_condvar.proofs.Enlisted.{counted_once}
-use Rattle.lfm_condvar.proofs.wait.enlist_in_hand.Goals as goal
+use Rattle.lfm_condvar.proofs.cond_seat.hold.enlist.enlist_in_hand.Goals as goal
 
 pub enlist_without_waking-ticket-requires-clause-by : goal.enlist_without_waking-ticket-requires-clause-by
 enlist_without_waking-ticket-requires-clause-by g c κs within = rw c.number-by.ensures (c.requires.may c.in-Some.waiters.now c.in-Some.ensures.value.1)

@@ -1,6 +1,6 @@
 use Rattle.lfm_mutex.specs.calls.Sight.{sight}
 use Rattle.lfm_condvar.proofs.Sent.{same_count}
-use Rattle.lfm_condvar.proofs.wake.send_oldest_in_hand.Goals as goal
+use Rattle.lfm_condvar.proofs.cond_seat.hold.send.send_oldest_in_hand.Goals as goal
 
 pub returns-clause-belongs : goal.returns-clause-belongs
 returns-clause-belongs g c = let h = rw c.in-Some.is at (c.value_mut.follows.holds c.send_oldest_without_waking.new.waiters) in ((cc, cc), c.send_oldest_without_waking.ensures.belongs)

@@ -6,7 +6,7 @@ use Rattle.lfm_condvar.specs.declared.waiters.Waiter.{Waiter}
 use Rattle.lfm_condvar.specs.HeldBack.{HoldsLastBack}
 use Rattle.lfm_condvar.specs.Keeping.{WaitersFollow, Taken}
 use Rattle.lfm_condvar.specs.Wakes.{SendsInTurn, SentEach}
-use Rattle.lfm_condvar.proofs.wake.send_all.Given as goal
+use Rattle.lfm_condvar.proofs.cond_seat.hold.send.send_all.Given as goal
 
 abbrev pub invariant-sends : goal.invariant-sends
 invariant-sends g l = record {

@@ -4,10 +4,10 @@ use Rattle.lfm_mutex.specs.calls.Sight.{sight}
 use Rattle.lfm_condvar.specs.Belongs.{cond_limits, cond_sight, cond_tries}
 use Rattle.lfm_condvar.proofs.OneHold.{held_by, one_hold}
 use Rattle.lfm_condvar.proofs.Sent.{one_ends}
-use Rattle.lfm_condvar.proofs.condvar.Condvar.wake_one.Goals as goal
+use Rattle.lfm_condvar.proofs.condvar.Condvar.send_oldest_in_one_hold.Goals as goal
 
-pub returns-clause-wakes : goal.returns-clause-wakes
-returns-clause-wakes g c = let a = c.args in let h = c.in-Ok.ensures.held in let e = c.send_oldest_in_hand-sent.ensures.sends in let l = c.leave_list.ensures in
+pub returns-clause-sends : goal.returns-clause-sends
+returns-clause-sends g c = let a = c.args in let h = c.in-Ok.ensures.held in let e = c.send_oldest_in_hand-sent.ensures.sends in let l = c.leave_list.ensures in
     let d = one_hold (cond_limits a.self.now) (cond_sight a.cond.now) (sight c.lock_list.new.cond) (sight c.send_oldest_in_hand-sent.new.cond) (sight c.leave_list.new.cond) h.0 e.0 e.1 h.1 e.2 l.leaves l.keeps.0 l.keeps.1 in
     let k = held_by (cond_limits a.self.now) (cond_tries a.self.now) (cond_sight a.cond.now) (sight c.lock_list.new.cond) (sight c.send_oldest_in_hand-sent.new.cond) (sight c.leave_list.new.cond) e.0 e.1 c.in-Ok.ensures.steps e.2 l.steps in
     one_ends (limits_of a.mutex.now).seats (cond_limits a.self.now) (cond_tries a.self.now) (cond_sight a.cond.now) _ (sight a.seat.now) (sight c.send_oldest_in_hand-sent.new.seat) e.0 e.1 c.send_oldest_in_hand-sent.result.0 (search rules) d.held k e.3

@@ -4,7 +4,7 @@ use Rattle.lfm_mutex.specs.calls.Sight.{sight}
 use Rattle.lfm_condvar.specs.Lists.{waiter}
 use Rattle.lfm_condvar.proofs.HeldBack.{held_more}
 use Rattle.lfm_condvar.proofs.Sent.{all_sent, awake_still, follows_more, in_turn, sent_more, some_by, some_sent, taken_more}
-use Rattle.lfm_condvar.proofs.wake.send_all.Goals as goal
+use Rattle.lfm_condvar.proofs.cond_seat.hold.send.send_all.Goals as goal
 
 pub sends-preserved : goal.sends-preserved
 sends-preserved g c = let i = c.sends.invariant in let o = c.send_oldest_without_waking-answer in let is : o.result.0 ≡ Ok (Some c.in-Some.field-0) = search rules in let told = rw is at o.ensures.sends in let p = c.in-Some.field-0 in let x = waiter p.0 p.1 in

@@ -7,7 +7,7 @@ use Rattle.lfm_model.specs.declared.refusals.Refusal.TheVariants.{Asleep, NotOwn
 use Rattle.lfm_condvar.specs.declared.waiters.Waiters.{Waiters}
 use Rattle.lfm_condvar.specs.Holds.{CondKept}
 use Rattle.lfm_condvar.specs.Keeping.{WaitersFollow}
-use Rattle.lfm_condvar.proofs.hold.lock_list.Goals as goal
+use Rattle.lfm_condvar.proofs.cond_seat.hold.lock_list.Goals as goal
 
 pub returns-clause-held : goal.returns-clause-held
 returns-clause-held g c = got c.in-Held.field-0 (limits_of c.args.inner.now) (sight c.args.cond.now) (sight c.lock_barging.new.seat) c.requires.kept c.requires.made (rw c.in-Held.is at c.in-Ok.ensures.locks)

@@ -60,8 +60,12 @@ static void what_is_blank(void) {
   EXPECT(lfm_number(&seat) + lfm_depth(&seat) + lfm_left(&seat), 0);
 }
 
+/* A call makes a handle blank, whatever bytes lay there. */
 static void what_the_library_calls_blank(void) {
   static LFM_ALIGNED unsigned char a[LFM_MUTEX_BYTES], b[LFM_SEAT_BYTES];
+  memset(a, 0xA5, sizeof a);
+  memset(b, 0xA5, sizeof b);
+  lfm_c_blank_mutex(a);
   lfm_c_blank_seat(b);
   EXPECT(lfm_c_take_seat(a, b), LFM_BLANK);
   EXPECT(lfm_c_give_seat(a, b), LFM_BLANK);
@@ -73,6 +77,20 @@ static void what_the_library_calls_blank(void) {
   EXPECT(lfm_c_start_wait(b), LFM_BLANK);
   EXPECT(lfm_c_send(b, 1), LFM_BLANK);
   EXPECT(lfm_c_number(b) + lfm_c_depth(b) + lfm_c_left(b), 0);
+  EXPECT(lfm_c_open(a, 1, 1), LFM_DONE);
+  EXPECT(lfm_c_open(a, 1, 1), LFM_TAKEN);
+  EXPECT(lfm_c_take_seat(a, b), LFM_DONE);
+  EXPECT(lfm_c_give_seat(a, b), LFM_DONE);
+  EXPECT(lfm_c_close(a), LFM_DONE);
+}
+
+/* It is opened all the same, as one whose bytes are 0 is: the header sees by `bells` alone that it is not open. */
+static void a_mutex_with_any_handle(void) {
+  static lfm_mutex own;
+  memset(own.handle, 0xA5, sizeof own.handle);
+  EXPECT(lfm_mutex_new(&own, 0, 1), LFM_LIMIT);
+  EXPECT(lfm_mutex_new(&own, 1, 1), LFM_DONE);
+  EXPECT(lfm_mutex_close(&own), LFM_DONE);
 }
 
 static void limits(void) {
@@ -340,6 +358,7 @@ static void memory_of_calloc(void) {
 int main(void) {
   what_is_blank();
   what_the_library_calls_blank();
+  a_mutex_with_any_handle();
   a_library_of_another_version();
   limits();
   seats_taken_and_back();

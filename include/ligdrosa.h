@@ -2,7 +2,8 @@
  *
  * The calls of the mutex are those of a static library, liblfm_c.a, whose code is proved. It neither sleeps nor wakes. This
  * header adds what isn't proved: how a thread sleeps until its seat is granted the mutex, how it is woken, how seats are taken and
- * given back, and the list of those that wait at a condition variable.
+ * given back, and the list of those that wait at a condition variable. No call's own contract says that no two seats hold at once:
+ * that follows from the rule that each step of the library keeps (docs/LAWS.md, tables_are_steady and one_seat_owns).
  *
  *     static lfm_mutex mutex;
  *     static _Thread_local lfm_seat seat;            one for each thread (thread_local in C++), given back before the thread ends
@@ -49,6 +50,7 @@ extern "C" {
 
 /* What a call tells. Below LFM_BLANK the call was made, from there on it was refused. */
 typedef enum lfm_status {
+  /* scripts/write_c_sides writes the numbers from here */
   LFM_DONE = 0,     /* made: the seat holds the mutex, or gave it up and nobody else asked */
   LFM_AGAIN = 1,    /* the seat held before, and holds once more */
   LFM_STILL = 2,    /* the seat holds once less, and holds on */
@@ -76,33 +78,37 @@ typedef enum lfm_status {
   LFM_NO_SUCH_SEAT = 37, /* no seat has this number */
   LFM_NOT_WAITING = 38,  /* the seat doesn't sleep, or doesn't wait to be sent */
   LFM_BUSY = 39          /* at some moment of the call another seat held the mutex, asked for it or was giving it up */
+  /* to here */
 } lfm_status;
 
 /* Whether the call was refused. */
 static inline bool lfm_is_refused(lfm_status status) { return status >= LFM_BLANK; }
 
-/* The library's own calls. Programs use those below. A handle is memory of the size and alignment that the library tells. A
- * mutex's whose bytes are 0 is blank, and a seat's is made so by a call. A call answers a status in the low 8 bits. Above it an
- * ask, unlock, start_wait or send tells the number of the seat that it granted the mutex and that is to be woken, or 0, and a close
- * that is refused tells the first seat that hinders it. */
+/* The library's own calls. Programs use those below. A handle is memory of the size and alignment that the library tells, and a
+ * call makes it blank before any other is given it. A call answers a status in the low 8 bits. Above it an ask, unlock, start_wait
+ * or send tells the number of the seat that it granted the mutex and that is to be woken, or 0, and a close that is refused tells
+ * the first seat that hinders it. A seat's number, depth and takes left are plain numbers, and 0 of a blank handle. */
+/* scripts/write_c_sides writes the exports from here */
 size_t lfm_c_mutex_size(void);
 size_t lfm_c_mutex_align(void);
 size_t lfm_c_seat_size(void);
 size_t lfm_c_seat_align(void);
+void lfm_c_blank_mutex(void *mutex);
 void lfm_c_blank_seat(void *seat);
 uint64_t lfm_c_open(void *mutex, uint64_t seats, uint64_t budget);
 uint64_t lfm_c_take_seat(void *mutex, void *seat);
 uint64_t lfm_c_give_seat(void *mutex, void *seat);
 uint64_t lfm_c_close(void *mutex);
-uint64_t lfm_c_number(void *seat); /* 1 to 4,095; 0 of a blank handle */
-uint64_t lfm_c_depth(void *seat);  /* 0 to 65,535; 0 of a blank handle */
-uint64_t lfm_c_left(void *seat);   /* 0 to 2^36; 0 of a blank handle */
+uint64_t lfm_c_number(void *seat);
+uint64_t lfm_c_depth(void *seat);
+uint64_t lfm_c_left(void *seat);
 uint64_t lfm_c_ask(void *seat);
 uint64_t lfm_c_receive(void *seat);
 uint64_t lfm_c_try_lock(void *seat);
 uint64_t lfm_c_unlock(void *seat);
 uint64_t lfm_c_start_wait(void *seat);
 uint64_t lfm_c_send(void *seat, uint64_t number);
+/* to here */
 
 enum { LFM_LINE = 64, LFM_ALIGNMENT = 16, LFM_MUTEX_BYTES = 128, LFM_SEAT_BYTES = 256 };
 enum { LFM_MONOTONIC = 1 /* CLOCK_MONOTONIC of Linux */, LFM_PAUSES_PER_LOOK = 4, LFM_LOOKS_PER_TIME = 16 /* between two readings of the clock */ };
@@ -289,7 +295,7 @@ static inline lfm_status lfm_mutex_new(lfm_mutex *mutex, uint64_t seats, uint64_
   if (mutex->bells) return LFM_TAKEN;
   if (lfm_c_mutex_size() > LFM_MUTEX_BYTES || lfm_c_mutex_align() > LFM_ALIGNMENT) return LFM_OTHER_HEADER;
   if (lfm_c_seat_size() > LFM_SEAT_BYTES || lfm_c_seat_align() > LFM_ALIGNMENT) return LFM_OTHER_HEADER;
-  memset(mutex->handle, 0, LFM_MUTEX_BYTES);
+  lfm_c_blank_mutex(mutex->handle);
   lfm_status status = (lfm_status)lfm_c_open(mutex->handle, seats, budget);
   if (status != LFM_DONE) return status;
   size_t bytes = (seats + 1) * sizeof(lfm_bell);

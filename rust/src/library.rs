@@ -2,10 +2,12 @@
 use std::{ffi::c_void, fmt};
 
 extern "C" {
+    // scripts/write_c_sides writes the exports from here
     pub fn lfm_c_mutex_size() -> usize;
     pub fn lfm_c_mutex_align() -> usize;
     pub fn lfm_c_seat_size() -> usize;
     pub fn lfm_c_seat_align() -> usize;
+    pub fn lfm_c_blank_mutex(mutex: *mut c_void);
     pub fn lfm_c_blank_seat(seat: *mut c_void);
     pub fn lfm_c_open(mutex: *mut c_void, seats: u64, budget: u64) -> u64;
     pub fn lfm_c_take_seat(mutex: *mut c_void, seat: *mut c_void) -> u64;
@@ -20,10 +22,21 @@ extern "C" {
     pub fn lfm_c_unlock(seat: *mut c_void) -> u64;
     pub fn lfm_c_start_wait(seat: *mut c_void) -> u64;
     pub fn lfm_c_send(seat: *mut c_void, number: u64) -> u64;
+    // to here
 }
 
+// scripts/write_c_sides writes the numbers from here
 /// The seat sleeps.
 pub const ASLEEP: u64 = 3;
+/// The first of the numbers that tell why a call was refused.
+const BLANK: u64 = 16;
+const LIMIT: u64 = 18;
+const NO_MEMORY: u64 = 19;
+const NESTED: u64 = 34;
+const DEPTH_FULL: u64 = 35;
+const SPENT: u64 = 36;
+const BUSY: u64 = 39;
+// to here
 
 /// Why a call was refused. A refused call has changed nothing.
 #[derive(Clone, Copy, Debug, PartialEq, Eq)]
@@ -51,12 +64,12 @@ pub enum Refusal {
 impl Refusal {
     fn of(status: u64) -> Refusal {
         match status {
-            18 => Refusal::Limit,
-            19 => Refusal::Memory,
-            34 => Refusal::Nested,
-            35 => Refusal::DepthFull,
-            36 => Refusal::Spent,
-            39 => Refusal::Busy,
+            LIMIT => Refusal::Limit,
+            NO_MEMORY => Refusal::Memory,
+            NESTED => Refusal::Nested,
+            DEPTH_FULL => Refusal::DepthFull,
+            SPENT => Refusal::Spent,
+            BUSY => Refusal::Busy,
             other => Refusal::Other(other),
         }
     }
@@ -87,7 +100,7 @@ pub fn status_of(answer: u64) -> u64 {
 
 /// The status of a call that was made, or why it was refused.
 pub fn made(status: u64) -> Result<u64, Refusal> {
-    if status < 16 {
+    if status < BLANK {
         Ok(status)
     } else {
         Err(Refusal::of(status))

@@ -26,7 +26,7 @@ const LINE: usize = 64;
 struct Bytes<const N: usize>(UnsafeCell<[u8; N]>);
 
 impl<const N: usize> Bytes<N> {
-    /// Zero bytes, which are the blank handle of a mutex.
+    /// Room for a handle, which a call of the library makes blank.
     fn new() -> Bytes<N> {
         Bytes(UnsafeCell::new([0; N]))
     }
@@ -88,7 +88,10 @@ impl Core {
             asking: Count::default(),
             taking: Mutex::new(()),
         });
-        made(unsafe { lfm_c_open(core.handle.at(), seats as u64, budget) })?;
+        unsafe {
+            lfm_c_blank_mutex(core.handle.at());
+            made(lfm_c_open(core.handle.at(), seats as u64, budget))?;
+        }
         Ok(core)
     }
 

@@ -59,6 +59,7 @@ fn handles_lie_still() {
     assert_eq!(
         MADE.take(),
         [
+            "lfm_c_blank_mutex",
             "lfm_c_open",
             "lfm_c_blank_seat",
             "lfm_c_take_seat",

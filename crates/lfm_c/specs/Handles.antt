@@ -29,7 +29,7 @@ use Rattle.lfm_c.specs.declared.handles.SeatHandle.{SeatHandle}
 use Rattle.lfm_c.specs.declared.handles.Seated.{Seated}
 use Rattle.lfm_c.specs.declared.handles.Whole.{Whole}
 use Rattle.lfm_c.specs.declared.status.Status.{Status}
-use Rattle.lfm_c.specs.Status.{asked, code, code_of_refusal, faulted, hindered, locked, received, refused_target, sent, told, unlocked}
+use Rattle.lfm_c.specs.Status.{asked, code, code_of_refusal, faulted, hindered, locked, received, refused_target, sent, told, unlocked, Names}
 
 -- the number that a mutex of this library guards may change in any way
 abbrev pub Follows : ℕ → ℕ → ℕ → Type 0
@@ -47,7 +47,7 @@ OfSeated P (Some a) (Some b) n = (b.mutex ≡ a.mutex) × Beside a.seat b.seat �
 -- A call of this sort that may grant another seat the mutex. Its answer names the seat of the wake-up that it leaves: the one that its
 -- steps granted, just where they granted one.
 abbrev pub WakesOf : (Limits → Sight ℕ → Sight ℕ → Status → Type 0) → Limits → Sight ℕ → Sight ℕ → ℕ → Type 0
-WakesOf P l s t n = (status : Status) × (w : Option ℕ) × P l s t status × Wakes l.seats w s.trail t.trail × (n ≡ told status w)
+WakesOf P l s t n = (status : Status) × (w : Option ℕ) × P l s t status × Wakes l.seats w s.trail t.trail × (n ≡ told status w) × Names w n
 
 abbrev pub TellsAsk : SeatHandle → SeatHandle → ℕ → Type 0
 TellsAsk x y n =

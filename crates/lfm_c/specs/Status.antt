@@ -1,5 +1,5 @@
 -- The numbers by which exports tell C what a call answered.
-use Rattle.std.specs.Prelude.{ℕ, ◌+◌, ◌*◌, Bool, true, false, Result, Ok, Err, Option, Some, None, ⊤}
+use Rattle.std.specs.Prelude.{ℕ, ◌+◌, ◌*◌, ◌<◌, ◌≤◌, Bool, true, false, Result, Ok, Err, Option, Some, None, ⊤}
 use Rattle.lfm_model.specs.declared.answers.Asked.{Asked}
 use Rattle.lfm_model.specs.declared.answers.How.{How}
 use Rattle.lfm_model.specs.declared.answers.Locked.{Locked}
@@ -41,6 +41,11 @@ code (Status.Refused r) = code_of_refusal r
 abbrev pub told : Status → Option ℕ → ℕ
 told status None = code status
 told status (Some seat) = code status + 256 * seat
+
+-- an answer is above its low 8 bits just where there is a wake-up, so none is told as no seat's
+abbrev pub Names : Option ℕ → ℕ → Type 0
+Names None n = n < 256
+Names (Some seat) n = 256 ≤ n
 
 -- what `ask` answered
 abbrev pub asked : Result Asked Refusal → Status

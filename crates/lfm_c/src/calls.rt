@@ -10,7 +10,7 @@ ghost use Rattle.lfm_mutex.specs.calls.Sight.{sight, Asks, Locks, Receives, Send
 ghost use Rattle.lfm_mutex.specs.calls.Trails.{MakesAtMost, MakesCall};
 ghost use Rattle.lfm_mutex.specs.calls.WakeUps.{Wakes};
 ghost use Rattle.lfm_c.specs.Handles.{Follows, Fits, TellsAsk, TellsReceive, TellsTry, TellsUnlock, TellsWait, TellsSend};
-ghost use Rattle.lfm_c.specs.Status.{asked as asked_of, received as received_of, locked as locked_of, released as released_of, unlocked as unlocked_of, sent as sent_of, told as told_of, refused_target};
+ghost use Rattle.lfm_c.specs.Status.{asked as asked_of, received as received_of, locked as locked_of, released as released_of, unlocked as unlocked_of, sent as sent_of, told as told_of, refused_target, Names};
 
 use crate::handles::{SeatHandle, Seated};
 use crate::status::Status;
@@ -19,7 +19,8 @@ use lfm_mutex::{Seat, WakeUp};
 
 // The status, and above it the seat of the wake-up, which is the caller's to make from here on.
 fn told(status: Status, wake_up: Option<WakeUp>) -> u64
-    ensures { result ≡ told_of status wake_up }
+    ensures is { result ≡ told_of status wake_up }
+    ensures names { Names wake_up result }
 {
     match wake_up {
         Some(wake_up) => status.code() + 256 * wake_up.into_seat().get(),

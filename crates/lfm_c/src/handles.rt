@@ -43,7 +43,14 @@ pub struct MutexHandle {
     pub whole: Option<Whole>,
 }
 
-/// A blank handle.
+/// A mutex's blank handle, which takes its memory from this allocator once it is opened.
+pub fn blank_mutex(alloc: Global) -> MutexHandle
+    ensures { result ≡ record { alloc = alloc; whole = None } }
+{
+    MutexHandle { alloc, whole: None }
+}
+
+/// A seat's blank handle.
 pub fn blank_seat() -> SeatHandle
     ensures { result ≡ record { seated = None } }
 {

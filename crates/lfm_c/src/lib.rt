@@ -32,6 +32,7 @@ mod reading;
 mod status;
 
 use crate::handles::{MutexHandle, SeatHandle};
+use std::alloc::Global;
 use std::mem::{align_of, size_of};
 
 /// How many bytes the handle of a mutex has.
@@ -64,6 +65,24 @@ pub extern "C" fn lfm_c_seat_align() -> usize
     ensures { result ≡ capped (align (layout seat_row)) }
 {
     align_of::<SeatHandle>()
+}
+
+/// Writes the blank handle of a mutex. C passes the pointer alone: an allocator has no bytes.
+#[unsafe(no_mangle)]
+pub unsafe extern "C" fn lfm_c_blank_mutex(alloc: Global, mutex: *mut u8)
+    requires* { sem 𝓛 (room_at mutex_row mutex) }
+    ensures* { sem 𝓛 (lies_at mutex_row full_share mutex (record { alloc = alloc; whole = None })) }
+{
+    (mutex as *mut MutexHandle).write(handles::blank_mutex(alloc));
+}
+
+/// Writes the blank handle of a seat.
+#[unsafe(no_mangle)]
+pub unsafe extern "C" fn lfm_c_blank_seat(seat: *mut u8)
+    requires* { sem 𝓛 (room_at seat_row seat) }
+    ensures* { sem 𝓛 (lies_at seat_row full_share seat (record { seated = None })) }
+{
+    (seat as *mut SeatHandle).write(handles::blank_seat());
 }
 
 /// Opens a mutex with this many seats, 1 to 4,095, each of which may take it as often as the budget says, 1 to 2^36.
@@ -215,13 +234,4 @@ pub unsafe extern "C" fn lfm_c_send(seat: *mut u8, number: u64) -> u64
     ensures* { sem 𝓛 (leaves (λ (y : SeatNow). lies_at seat_row full_share seat y) (λ y. TellsSend x number y result)) }
 {
     calls::send(&mut *(seat as *mut SeatHandle), number)
-}
-
-/// Writes the blank handle of a seat.
-#[unsafe(no_mangle)]
-pub unsafe extern "C" fn lfm_c_blank_seat(seat: *mut u8)
-    requires* { sem 𝓛 (room_at seat_row seat) }
-    ensures* { sem 𝓛 (lies_at seat_row full_share seat (record { seated = None })) }
-{
-    (seat as *mut SeatHandle).write(handles::blank_seat());
 }

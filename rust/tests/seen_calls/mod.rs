@@ -73,6 +73,11 @@ calls! {
 }
 
 #[no_mangle]
+extern "C" fn lfm_c_blank_mutex(mutex: *mut c_void) {
+    answer("lfm_c_blank_mutex", &[("mutex", mutex)]);
+}
+
+#[no_mangle]
 extern "C" fn lfm_c_blank_seat(seat: *mut c_void) {
     answer("lfm_c_blank_seat", &[("seat", seat)]);
 }

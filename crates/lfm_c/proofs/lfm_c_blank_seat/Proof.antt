@@ -1,4 +1,5 @@
--- There is room where C's pointer says. The blank handle is made, and written there.
+-- There is room where C's pointer says. `handles::blank_seat` makes the blank handle, which is written there.
+-- scripts/write_c_sides writes this file.
 use Rattle.std.specs.Prelude.{None}
 use Rattle.std.proofs.Common.{◌≡◌, [], ◌∷◌, ◌++◌, refl}
 use Rattle.std.proofs.raw_atomic.Walks.{proved}

@@ -1,5 +1,5 @@
 -- Each handle lies where C's pointer says. It is lent to `calls::unlock` for a new lifetime, and comes back as the call left it.
--- scripts/write_c_walks writes this file.
+-- scripts/write_c_sides writes this file.
 use Rattle.std.proofs.Common.{ℕ, [], ◌∷◌, ◌++◌, refl, w64}
 use Rattle.std.proofs.raw_atomic.Walks.{proved}
 use base.Fraction.{full_share}

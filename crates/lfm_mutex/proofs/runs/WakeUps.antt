@@ -1,6 +1,6 @@
 -- The wake-up of a call: what its steps have granted, step by step, and that no call grants twice.
 use Rattle.std.proofs.Common.{◌≡◌, ℕ, ◌≤◌, Option, Some, None, List, [], ◌∷◌, ◌++◌, refl, sym, ap, subst, ◌∙◌, append_assoc, append-nil}
-use Rattle.std.specs.Prelude.{false}
+use Rattle.std.specs.Prelude.{◌<◌, false}
 use Rattle.std.proofs.lemmas.Bool.{false≢true}
 use Rattle.lfm_model.specs.declared.answers.Unlocked.{Unlocked}
 use Rattle.lfm_words.specs.declared.pop_lists.Record.{Record}
@@ -35,11 +35,15 @@ grants_join : (xs ys : List Seen) → grants_of (xs ++ ys) ≡ grants_of xs ++ g
 grants_join [] ys = refl
 grants_join (x ∷ xs) ys = ap (λ (l : List ℕ). as_list (granted_at x.point) ++ l) (grants_join xs ys) ∙ sym (append_assoc (as_list (granted_at x.point)) (grants_of xs) (grants_of ys))
 
--- a seat that is granted is one of the table's
+-- a seat that is granted is the one whose word the step touches
+target_of : (q : Point) (s t : ℕ) → granted_at q ≡ Some t → target q s ≡ t
+target_of (GrantWakeStore carrier oldest) s t is = cc
+target_of (SendWakeStore u) s t is = cc
+target_of _ s t is = absurd (none_some t is)
+
+-- so it is one of the table's
 pub within_of : (q : Point) (s t seats : ℕ) → granted_at q ≡ Some t → target q s ≤ seats → t ≤ seats
-within_of (GrantWakeStore carrier oldest) s t seats is most = let e : oldest.seat ≡ t = cc in subst (λ (n : ℕ). n ≤ seats) e most
-within_of (SendWakeStore u) s t seats is most = let e : u ≡ t = cc in subst (λ (n : ℕ). n ≤ seats) e most
-within_of _ s t seats is most = absurd (none_some t is)
+within_of q s t seats is most = subst (λ (n : ℕ). n ≤ seats) (target_of q s t is) most
 
 -- One step
 
@@ -54,22 +58,28 @@ module _ {T : Type 0} (follows : ℕ → T → T → Type 0) (suits : T → ℕ 
   pub wakes_one : (seats s : ℕ) (wake_up : Option ℕ) → wake_up ≡ granted_at p.point → IsReady seats s p → Wakes seats wake_up v.trail w.trail
   wakes_one seats s wake_up is ready = record {
     granted = step_grants ∙ ap (λ (o : Option ℕ). grants_of v.trail ++ as_list o) (sym is);
+    above = λ t some. subst (λ (n : ℕ). 0 < n) (target_of p.point s t (sym is ∙ some)) ready.above;
     inside = λ t some. within_of p.point s t seats (sym is ∙ some) ready.within;
   }
 
 -- Steps in a row
 
 pub wakes_none : (seats : ℕ) (t u : List Seen) → grants_of u ≡ grants_of t → Wakes seats None t u
-wakes_none seats t u same = record { granted = same ∙ sym (append-nil (grants_of t)); inside = λ n some. absurd (none_some n some) }
+wakes_none seats t u same = record {
+  granted = same ∙ sym (append-nil (grants_of t));
+  above = λ n some. absurd (none_some n some);
+  inside = λ n some. absurd (none_some n some);
+}
 
 -- steps that grant nothing, and then others
 pub wakes_after : (seats : ℕ) (wake_up : Option ℕ) (t u v : List Seen) → grants_of u ≡ grants_of t → Wakes seats wake_up u v → Wakes seats wake_up t v
-wakes_after seats wake_up t u v same wakes = record { granted = wakes.granted ∙ ap (λ (l : List ℕ). l ++ as_list wake_up) same; inside = wakes.inside }
+wakes_after seats wake_up t u v same wakes = record { granted = wakes.granted ∙ ap (λ (l : List ℕ). l ++ as_list wake_up) same; above = wakes.above; inside = wakes.inside }
 
 pub wakes_join : (seats : ℕ) (first then : Option ℕ) (t u v : List Seen) → ((n : ℕ) → first ≡ Some n → then ≡ None) → Wakes seats first t u → Wakes seats then u v → Wakes seats (first_of first then) t v
 wakes_join seats None then t u v one h k = wakes_after seats then t u v (h.granted ∙ append-nil (grants_of t)) k
 wakes_join seats (Some n) then t u v one h k = record {
   granted = k.granted ∙ (ap (λ (o : Option ℕ). grants_of u ++ as_list o) (one n refl) ∙ (append-nil (grants_of u) ∙ h.granted));
+  above = h.above;
   inside = h.inside;
 }
 

@@ -1,5 +1,5 @@
 -- The seats that the steps of a trail granted the mutex, and the wake-up that a call hands out for its grant.
-use Rattle.std.specs.Prelude.{◌≡◌, ℕ, ◌≤◌, List, [], ◌∷◌, ◌++◌, Option, Some, None, Bool, true, false}
+use Rattle.std.specs.Prelude.{◌≡◌, ℕ, ◌<◌, ◌≤◌, List, [], ◌∷◌, ◌++◌, Option, Some, None, Bool, true, false}
 use Rattle.lfm_table.specs.declared.seat_view.Seen.{Seen}
 use Rattle.lfm_table.specs.Grants.{granted_at}
 use Rattle.lfm_mutex.specs.calls.Runs.{Errand, trying, receiving, nothing}
@@ -18,10 +18,11 @@ abbrev pub grants_of : List Seen → List ℕ
 grants_of [] = []
 grants_of (step ∷ steps) = as_list (granted_at step.point) ++ grants_of steps
 
--- the steps from one trail to the other stored a grant just where there is a wake-up, which is for the seat that was granted, one of
--- so many
+-- the steps from one trail to the other stored a grant just where there is a wake-up, which is for the seat that was granted, one of 1
+-- to `seats`
 pub record Wakes (seats : ℕ) (wake_up : Option ℕ) (before after : List Seen) : Type 0 where
   pub granted : grants_of after ≡ grants_of before ++ as_list wake_up
+  pub above : (t : ℕ) → wake_up ≡ Some t → 0 < t
   pub inside : (t : ℕ) → wake_up ≡ Some t → t ≤ seats
 
 -- a call of this errand may grant another seat the mutex

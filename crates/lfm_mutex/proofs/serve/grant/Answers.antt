@@ -66,4 +66,4 @@ returns-in-Waiter-clause-wakes g c =
     let p0 = made_of 0 t ps (GrantWakeStore (Carrier.Releaser u) r) in
     let at : s.standing ≡ p0 = (λ i. record { depth = c.requires.flat i; takes = t; posts = ps; point = c.requires.stands i }) in
     let one = wakes_one g.T.Kept.follows g.T.Kept.fits _ _ _ _ _ _ _ f.ensures.step.1.event s.limits.seats s.number f.result f.ensures.wakes (subst (λ (x : SeatState). IsReady s.limits.seats s.number x) at s.ready) in
-    record { granted = grants_none g.T.Kept.follows g.T.Kept.fits _ _ _ _ _ _ _ c.store_wake_kept.ensures.step.1.event refl ∙ one.granted; inside = one.inside }
+    record { granted = grants_none g.T.Kept.follows g.T.Kept.fits _ _ _ _ _ _ _ c.store_wake_kept.ensures.step.1.event refl ∙ one.granted; above = one.above; inside = one.inside }

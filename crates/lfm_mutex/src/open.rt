@@ -18,10 +18,10 @@ use atomic_table::Table;
 use lfm_model::NewFault;
 use lfm_protocol::points::Point;
 use lfm_protocol::{Limits, SeatState};
-use lfm_table::Kept;
 use lfm_table::moving_box::MovingBox;
 use lfm_table::rule::{Key, SeatSplit};
 use lfm_table::table_steps::Place;
+use lfm_table::{Kept, Woken};
 use lfm_words::PopList;
 use std::alloc::Global;
 use std::snapshot::Snapshot;
@@ -115,6 +115,7 @@ impl<T: Kept> Mutex<T> {
                 limits,
                 standing: at_rest(),
                 moving: None,
+                woken: Woken::new(),
             });
         }
         let first = Seat {
@@ -123,6 +124,7 @@ impl<T: Kept> Mutex<T> {
             limits,
             standing: at_rest(),
             moving: None,
+            woken: Woken::new(),
         };
         let Ok(()) = all.insert(0, first) else {
             unreachable!()

@@ -20,3 +20,4 @@ pub mod Spending
 pub mod StraightPoints
 pub mod TryEnds
 pub mod WakeUps
+pub mod Woken

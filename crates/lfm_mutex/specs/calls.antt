@@ -9,3 +9,4 @@ pub mod Due
 pub mod Sections
 pub mod Barging
 pub mod WakeUps
+pub mod Woken

@@ -13,6 +13,7 @@ ghost use Rattle.lfm_mutex.specs.calls.Trails.{Made, MakesAtMost};
 ghost use Rattle.lfm_mutex.specs.calls.Sight.{sight, is_asleep, Concludes, MayRelease, Stays, Turned};
 ghost use Rattle.lfm_mutex.specs.calls.WakeUps.{Wakes, first_of, may_grant};
 ghost use Rattle.lfm_table.specs.Steps.{MayBeLeft};
+ghost use Rattle.lfm_mutex.specs.calls.Woken.{WakesNobody};
 
 use crate::mutex::Mutex;
 use crate::seat::Seat;
@@ -43,6 +44,7 @@ pub fn finish<T: Kept>(mutex: &Mutex<T>, seat: &mut Seat<T>) -> (Turn, Option<Wa
     requires open { errand seat.old.standing.point ≢ nothing }
     requires keeps { is_release seat.old.standing.point ≡ false }
     ensures belongs { seat.new.place.table_id ≡ seat.old.place.table_id }
+    ensures woken { WakesNobody seat.old seat.new }
     ensures same { (seat.new.number ≡ seat.old.number) × (seat.new.limits ≡ seat.old.limits) }
     ensures ends { Ends (errand seat.old.standing.point) result.0 }
     ensures last { last_hold seat.new.place.me.0 ≡ last_hold seat.old.place.me.0 }
@@ -72,6 +74,7 @@ pub fn run<T: Kept>(mutex: &Mutex<T>, seat: &mut Seat<T>, call: Call) -> (Turn, 
     requires belongs { OfMutex seat.old mutex.now }
     requires keeps { is_releasing (errand_of call) ≡ false }
     ensures belongs { Beside seat.old seat.new }
+    ensures woken { WakesNobody seat.old seat.new }
     ensures answers { Answers (errand_of call) result.0 }
     ensures turned { Turned T.follows T.fits mutex.now.limits call (sight seat.old) (sight seat.new) result.0 }
     ensures made { Made mutex.now.limits call (sight seat.old) (sight seat.new) result.0 }
@@ -92,6 +95,7 @@ pub fn release<T: Kept>(mutex: &Mutex<T>, seat: &mut Seat<T>, call: Call) -> (Tu
     requires gives { is_releasing (errand_of call) ≡ true }
     requires leaves { MayRelease T.follows T.fits (sight seat.old) }
     ensures belongs { Beside seat.old seat.new }
+    ensures woken { WakesNobody seat.old seat.new }
     ensures answers { Answers (errand_of call) result.0 }
     ensures turned { Turned T.follows T.fits mutex.now.limits call (sight seat.old) (sight seat.new) result.0 }
     ensures made { Made mutex.now.limits call (sight seat.old) (sight seat.new) result.0 }
@@ -110,6 +114,7 @@ fn finish_release<T: Kept>(mutex: &Mutex<T>, seat: &mut Seat<T>) -> (Turn, Optio
     requires gives { (r : Releaser) × (seat.old.standing.point ≡ ReleaseOwnerStore r) }
     requires leaves { MayBeLeft T.follows T.fits seat.old.moving seat.old.place.me.0 }
     ensures belongs { seat.new.place.table_id ≡ seat.old.place.table_id }
+    ensures woken { WakesNobody seat.old seat.new }
     ensures same { (seat.new.number ≡ seat.old.number) × (seat.new.limits ≡ seat.old.limits) }
     ensures ends { Ends (errand seat.old.standing.point) result.0 }
     ensures last { last_hold seat.new.place.me.0 ≡ (value_in seat.old.moving, seat.old.place.me.0.found, seat.old.place.me.0.limits, seat.old.place.me.0.holds_ended + 1) }

@@ -79,6 +79,7 @@ fn into_place<T: Kept, P: Holder<T>>(holder: P) -> Place<T>
         limits: _,
         standing: _,
         moving: _,
+        woken: _,
     } = holder.into_seat();
     place
 }

@@ -18,6 +18,7 @@ ghost use Rattle.lfm_mutex.specs.calls.Sight.{sight, Asks, LocksWaiting};
 ghost use Rattle.lfm_mutex.specs.calls.Straight.{Course, ComesTo};
 ghost use Rattle.lfm_mutex.specs.calls.Trails.{MakesCall, LocksBy};
 ghost use Rattle.lfm_mutex.specs.calls.WakeUps.{Wakes};
+ghost use Rattle.lfm_mutex.specs.calls.Woken.{WakesNobody, WokenAsGranted};
 
 use crate::calls::{asleep, finish, run};
 use crate::mutex::Mutex;
@@ -36,6 +37,7 @@ pub(crate) fn ask_on<T: Kept>(mutex: &Mutex<T>, seat: &mut Seat<T>) -> (Asked, O
     requires belongs { seat.old.place.table_id ≡ mutex.now.table.table_id }
     requires locks { errand seat.old.standing.point ≡ locking }
     ensures belongs { seat.new.place.table_id ≡ seat.old.place.table_id }
+    ensures woken { WakesNobody seat.old seat.new }
     ensures same { (seat.new.number ≡ seat.old.number) × (seat.new.limits ≡ seat.old.limits) }
     ensures made { Course T.follows T.fits seat.old.number seat.old.standing seat.old.moving seat.old.place.me.0 (Ended (Answered.Asked result.0)) seat.new.standing seat.new.moving seat.new.place.me.0 }
     ensures spends { Spends (due seat.old.limits.seats (length seat.old.place.me.0.popped) seat.old.standing.point) 0 seat.old.place.me.0.trail seat.new.place.me.0.trail }
@@ -86,6 +88,7 @@ pub fn ask_free<T: Kept>(
     requires budget { budget ≡ seat.old.limits.budget }
     requires charged { seat.old.standing.takes < budget }
     ensures belongs { Beside seat.old seat.new }
+    ensures woken { WakesNobody seat.old seat.new }
     ensures made { ComesTo T.follows T.fits (limits_of mutex.now) CallNow.Lock (sight seat.old) (sight seat.new) (Ended (Answered.Asked result.0)) }
     ensures bounded { MakesBesideFailures ((limits_of mutex.now).seats + 9) (sight seat.old) (sight seat.new) }
     ensures wakes { Wakes (limits_of mutex.now).seats result.1 (sight seat.old).trail (sight seat.new).trail }
@@ -124,6 +127,7 @@ pub fn ask_again<T: Kept>(mutex: &Mutex<T>, seat: &mut Seat<T>) -> (Asked, Optio
     requires held { 0 < seat.old.standing.depth }
     requires room { seat.old.standing.depth < max_depth }
     ensures belongs { Beside seat.old seat.new }
+    ensures woken { WakesNobody seat.old seat.new }
     ensures made { ComesTo T.follows T.fits (limits_of mutex.now) CallNow.Lock (sight seat.old) (sight seat.new) (Ended (Answered.Asked result.0)) }
     ensures bounded { MakesBesideFailures ((limits_of mutex.now).seats + 9) (sight seat.old) (sight seat.new) }
     ensures wakes { Wakes (limits_of mutex.now).seats result.1 (sight seat.old).trail (sight seat.new).trail }
@@ -166,6 +170,7 @@ fn ask_any<T: Kept>(
 ) -> (Result<Asked, Refusal>, Option<WakeUp>)
     requires belongs { OfMutex seat.old mutex.now }
     ensures belongs { Beside seat.old seat.new }
+    ensures woken { WakesNobody seat.old seat.new }
     ensures asks { Asks T.follows T.fits (limits_of mutex.now).budget (sight seat.old) (sight seat.new) result.0 }
     ensures steps { MakesCall (limits_of mutex.now) (λ x. Answered.Asked x) CallNow.Lock (sight seat.old) (sight seat.new) result.0 }
     ensures bounded { MakesBesideFailures ((limits_of mutex.now).seats + 9) (sight seat.old) (sight seat.new) }
@@ -193,12 +198,13 @@ impl<T: Kept> Mutex<T> {
     pub fn ask(&self, seat: &mut Seat<T>) -> Result<Asked, Refusal>
         requires belongs { OfMutex seat.old self.now }
         ensures belongs { Beside seat.old seat.new }
+        ensures woken { WokenAsGranted seat.old seat.new }
         ensures asks { Asks T.follows T.fits (limits_of self.now).budget (sight seat.old) (sight seat.new) result }
         ensures steps { MakesCall (limits_of self.now) (λ x. Answered.Asked x) CallNow.Lock (sight seat.old) (sight seat.new) result }
         ensures bounded { MakesBesideFailures ((limits_of self.now).seats + 9) (sight seat.old) (sight seat.new) }
     {
         let (asked, wake_up) = self.ask_without_waking(seat);
-        self.wake(wake_up);
+        self.wake_seat(wake_up, &mut seat.woken);
         asked
     }
 
@@ -208,6 +214,7 @@ impl<T: Kept> Mutex<T> {
     pub fn ask_without_waking(&self, seat: &mut Seat<T>) -> (Result<Asked, Refusal>, Option<WakeUp>)
         requires belongs { OfMutex seat.old self.now }
         ensures belongs { Beside seat.old seat.new }
+        ensures woken { WakesNobody seat.old seat.new }
         ensures asks { Asks T.follows T.fits (limits_of self.now).budget (sight seat.old) (sight seat.new) result.0 }
         ensures steps { MakesCall (limits_of self.now) (λ x. Answered.Asked x) CallNow.Lock (sight seat.old) (sight seat.new) result.0 }
         ensures bounded { MakesBesideFailures ((limits_of self.now).seats + 9) (sight seat.old) (sight seat.new) }
@@ -238,6 +245,7 @@ impl<T: Kept> Mutex<T> {
     pub fn lock<R: Wait>(&self, rt: &R, seat: &mut Seat<T>) -> Result<Locked, Refusal>
         requires belongs { OfMutex seat.old self.now }
         ensures belongs { Beside seat.old seat.new }
+        ensures woken { WokenAsGranted seat.old seat.new }
         ensures locks { LocksWaiting T.follows T.fits (limits_of self.now).budget (sight seat.old) (sight seat.new) result }
         ensures steps { LocksBy (limits_of self.now) (sight seat.old) (sight seat.new) result }
     {

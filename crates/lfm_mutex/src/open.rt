@@ -17,10 +17,10 @@ use crate::seat::Seat;
 use lfm_model::NewFault;
 use lfm_protocol::points::Point;
 use lfm_protocol::{Limits, SeatState};
-use lfm_table::Kept;
 use lfm_table::moving_box::MovingBox;
 use lfm_table::rule::Key;
 use lfm_table::shared_table::{Place, SharedTable};
+use lfm_table::{Kept, Woken};
 use lfm_words::PopList;
 use std::alloc::Global;
 use std::snapshot::Snapshot;
@@ -114,6 +114,7 @@ impl<T: Kept> Mutex<T> {
                 limits,
                 standing: at_rest(),
                 moving: None,
+                woken: Woken::new(),
             });
         }
         let first = Seat {
@@ -122,6 +123,7 @@ impl<T: Kept> Mutex<T> {
             limits,
             standing: at_rest(),
             moving: None,
+            woken: Woken::new(),
         };
         let Ok(()) = all.insert(0, first) else {
             unreachable!()

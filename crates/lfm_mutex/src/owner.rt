@@ -2,6 +2,7 @@
 ghost use Rattle.std.specs.Prelude.{◌≡◌};
 ghost use Rattle.lfm_mutex.specs.Belongs.{Beside, OfMutex};
 ghost use Rattle.lfm_mutex.specs.calls.Sight.{sight, TellsOwner};
+ghost use Rattle.lfm_mutex.specs.calls.Woken.{WokenAsGranted};
 
 use crate::mutex::Mutex;
 use crate::seat::Seat;
@@ -15,6 +16,7 @@ impl<T: Kept> Mutex<T> {
     pub fn owner(&self, seat: &mut Seat<T>) -> Option<SeatNo>
         requires belongs { OfMutex seat.old self.now }
         ensures belongs { Beside seat.old seat.new }
+        ensures woken { WokenAsGranted seat.old seat.new }
         ensures tells { TellsOwner (sight seat.old) (sight seat.new) result }
     {
         let found = self.table.read_owner(&mut seat.place);

@@ -8,6 +8,7 @@ ghost use Rattle.lfm_mutex.specs.calls.FailedPushes.{Spends};
 ghost use Rattle.lfm_mutex.specs.calls.Runs.{sending, Ends};
 ghost use Rattle.lfm_mutex.specs.calls.Straight.{Course, send_turn};
 ghost use Rattle.lfm_mutex.specs.calls.WakeUps.{Wakes};
+ghost use Rattle.lfm_mutex.specs.calls.Woken.{WakesNobody};
 
 use crate::mutex::Mutex;
 use crate::queue::{stand_after_push, stand_beside_post};
@@ -32,6 +33,7 @@ pub(crate) fn queue_target<T: Kept>(
     requires belongs { seat.old.place.table_id ≡ mutex.now.table.table_id }
     requires stands { seat.old.standing.point ≡ PushLoad (PusherNow.Sender target) }
     ensures belongs { seat.new.place.table_id ≡ seat.old.place.table_id }
+    ensures woken { WakesNobody seat.old seat.new }
     ensures same { (seat.new.number ≡ seat.old.number) × (seat.new.limits ≡ seat.old.limits) }
     ensures ends { Ends sending (send_turn result.0) }
     ensures made { Course T.follows T.fits seat.old.number seat.old.standing seat.old.moving seat.old.place.me.0 (send_turn result.0) seat.new.standing seat.new.moving seat.new.place.me.0 }

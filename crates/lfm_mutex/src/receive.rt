@@ -10,6 +10,7 @@ ghost use Rattle.lfm_mutex.specs.Belongs.{Beside, OfMutex, limits_of};
 ghost use Rattle.lfm_mutex.specs.calls.Sight.{sight, ReceivesLock, Receives};
 ghost use Rattle.lfm_mutex.specs.calls.Straight.{ComesTo};
 ghost use Rattle.lfm_mutex.specs.calls.Trails.{ReceivesBy, MakesAtMost, MakesCall};
+ghost use Rattle.lfm_mutex.specs.calls.Woken.{WakesNobody, WokenAsGranted};
 
 use crate::calls::run;
 use crate::mutex::Mutex;
@@ -47,6 +48,7 @@ pub fn receive_asleep<T: Kept>(
     requires sleeps { seat.old.standing.point ≡ Asleep sleeper }
     requires flat { seat.old.standing.depth ≡ 0 }
     ensures belongs { Beside seat.old seat.new }
+    ensures woken { WakesNobody seat.old seat.new }
     ensures made { ComesTo T.follows T.fits (limits_of mutex.now) CallNow.Receive (sight seat.old) (sight seat.new) (Ended (Answered.Got result)) }
 {
     let table = &mutex.table;
@@ -83,6 +85,7 @@ impl<T: Kept> Mutex<T> {
     pub fn receive_lock<R: Wait>(&self, rt: &R, seat: &mut Seat<T>) -> Result<How, Refusal>
         requires belongs { OfMutex seat.old self.now }
         ensures belongs { Beside seat.old seat.new }
+        ensures woken { WokenAsGranted seat.old seat.new }
         ensures receives { ReceivesLock T.follows T.fits (sight seat.old) (sight seat.new) result }
         ensures steps { ReceivesBy (limits_of self.now) (sight seat.old) (sight seat.new) result }
     {
@@ -101,6 +104,7 @@ impl<T: Kept> Mutex<T> {
     ) -> Result<How, Refusal>
         requires belongs { OfMutex seat.old self.now }
         ensures belongs { Beside seat.old seat.new }
+        ensures woken { WokenAsGranted seat.old seat.new }
         ensures receives { ReceivesLock T.follows T.fits (sight seat.old) (sight seat.new) result }
         ensures steps { ReceivesBy (limits_of self.now) (sight seat.old) (sight seat.new) result }
     {
@@ -140,6 +144,7 @@ impl<T: Kept> Mutex<T> {
     pub fn try_receive(&self, seat: &mut Seat<T>) -> Result<Option<How>, Refusal>
         requires belongs { OfMutex seat.old self.now }
         ensures belongs { Beside seat.old seat.new }
+        ensures woken { WokenAsGranted seat.old seat.new }
         ensures receives { Receives T.follows T.fits (sight seat.old) (sight seat.new) result }
         ensures steps { MakesCall (limits_of self.now) (λ x. Answered.Got x) CallNow.Receive (sight seat.old) (sight seat.new) result }
         ensures bounded { MakesAtMost 3 (sight seat.old) (sight seat.new) }

@@ -11,9 +11,9 @@ ghost use Rattle.lfm_table.specs.Settled.{Became};
 use lfm_model::SeatNo;
 use lfm_protocol::points::Point;
 use lfm_protocol::{Limits, SeatState};
-use lfm_table::Kept;
 use lfm_table::moving_box::MovingBox;
 use lfm_table::shared_table::Place;
+use lfm_table::{Kept, Woken};
 
 /// What one thread uses the mutex with. A seat may move between threads, and each call borrows it for its whole length.
 /// Dropped while it holds or sleeps, it keeps what it holds: nobody else gains that.
@@ -36,6 +36,8 @@ pub struct Seat<T: Drop> {
     pub(crate) standing: SeatState,
     /// The pop list and the guarded value: here exactly while the seat carries the responsibility.
     pub(crate) moving: Option<MovingBox<T>>,
+    /// The seats that calls with this one have woken.
+    pub(crate) woken: Woken,
     pub ghost seated: { Seated number limits standing place.me moving },
     pub ghost became: { Became place.me.0.standing limits standing } by { Became-prop (Coded-set standing-code) place.me.0.standing limits standing },
     pub ghost ready: { IsReady limits.seats number standing } by { IsReady-prop limits.seats number standing },

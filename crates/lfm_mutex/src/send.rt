@@ -13,6 +13,7 @@ ghost use Rattle.lfm_mutex.specs.calls.Straight.{Course, ComesTo, send_turn};
 ghost use Rattle.lfm_mutex.specs.calls.Trails.{MakesCall};
 ghost use Rattle.lfm_mutex.specs.calls.WakeUps.{Wakes};
 ghost use Rattle.lfm_mutex.specs.calls.Sight.{sight, Sends};
+ghost use Rattle.lfm_mutex.specs.calls.Woken.{WakesNobody, WokenAsGranted};
 
 use crate::calls::{asleep, finish, run};
 use crate::mutex::Mutex;
@@ -34,6 +35,7 @@ pub(crate) fn send_on<T: Kept>(
     requires belongs { seat.old.place.table_id ≡ mutex.now.table.table_id }
     requires sends { errand seat.old.standing.point ≡ sending }
     ensures belongs { seat.new.place.table_id ≡ seat.old.place.table_id }
+    ensures woken { WakesNobody seat.old seat.new }
     ensures same { (seat.new.number ≡ seat.old.number) × (seat.new.limits ≡ seat.old.limits) }
     ensures ends { Ends sending (send_turn result.0) }
     ensures made { Course T.follows T.fits seat.old.number seat.old.standing seat.old.moving seat.old.place.me.0 (send_turn result.0) seat.new.standing seat.new.moving seat.new.place.me.0 }
@@ -67,6 +69,7 @@ fn send_free<T: Kept>(
     requires stands { seat.old.standing.point ≡ SendCountAdd target }
     requires flat { seat.old.standing.depth ≡ 0 }
     ensures belongs { seat.new.place.table_id ≡ seat.old.place.table_id }
+    ensures woken { WakesNobody seat.old seat.new }
     ensures same { (seat.new.number ≡ seat.old.number) × (seat.new.limits ≡ seat.old.limits) }
     ensures ends { Ends sending (send_turn result.0) }
     ensures made { Course T.follows T.fits seat.old.number seat.old.standing seat.old.moving seat.old.place.me.0 (send_turn result.0) seat.new.standing seat.new.moving seat.new.place.me.0 }
@@ -106,6 +109,7 @@ fn send_held<T: Kept>(
     requires stands { seat.old.standing.point ≡ SendCountAdd target }
     requires held { 0 < seat.old.standing.depth }
     ensures belongs { seat.new.place.table_id ≡ seat.old.place.table_id }
+    ensures woken { WakesNobody seat.old seat.new }
     ensures same { (seat.new.number ≡ seat.old.number) × (seat.new.limits ≡ seat.old.limits) }
     ensures ends { Ends sending (send_turn result.0) }
     ensures made { Course T.follows T.fits seat.old.number seat.old.standing seat.old.moving seat.old.place.me.0 (send_turn result.0) seat.new.standing seat.new.moving seat.new.place.me.0 }
@@ -144,6 +148,7 @@ pub fn send_awake<T: Kept>(
     requires above { 0 < target }
     requires within { target ≤ seat.old.limits.seats }
     ensures belongs { Beside seat.old seat.new }
+    ensures woken { WakesNobody seat.old seat.new }
     ensures made { ComesTo T.follows T.fits (limits_of mutex.now) (CallNow.SendLock target) (sight seat.old) (sight seat.new) (send_turn result.0) }
     ensures bounded { MakesBesideFailures ((limits_of mutex.now).seats + 9) (sight seat.old) (sight seat.new) }
     ensures wakes { Wakes (limits_of mutex.now).seats result.1 (sight seat.old).trail (sight seat.new).trail }
@@ -180,6 +185,7 @@ fn send_any<T: Kept>(
 ) -> (Result<(), Refusal>, Option<WakeUp>)
     requires belongs { OfMutex seat.old mutex.now }
     ensures belongs { Beside seat.old seat.new }
+    ensures woken { WakesNobody seat.old seat.new }
     ensures sends { Sends (limits_of mutex.now).seats (sight seat.old) target (sight seat.new) result.0 }
     ensures steps { MakesCall (limits_of mutex.now) (λ x. Answered.Sent) (CallNow.SendLock target) (sight seat.old) (sight seat.new) result.0 }
     ensures bounded { MakesBesideFailures ((limits_of mutex.now).seats + 9) (sight seat.old) (sight seat.new) }
@@ -205,12 +211,13 @@ impl<T: Kept> Mutex<T> {
     pub fn send_lock(&self, seat: &mut Seat<T>, target: SeatNo) -> Result<(), Refusal>
         requires belongs { OfMutex seat.old self.now }
         ensures belongs { Beside seat.old seat.new }
+        ensures woken { WokenAsGranted seat.old seat.new }
         ensures sends { Sends (limits_of self.now).seats (sight seat.old) target (sight seat.new) result }
         ensures steps { MakesCall (limits_of self.now) (λ x. Answered.Sent) (CallNow.SendLock target) (sight seat.old) (sight seat.new) result }
         ensures bounded { MakesBesideFailures ((limits_of self.now).seats + 9) (sight seat.old) (sight seat.new) }
     {
         let (sent, wake_up) = self.send_lock_without_waking(seat, target);
-        self.wake(wake_up);
+        self.wake_seat(wake_up, &mut seat.woken);
         sent
     }
 
@@ -223,6 +230,7 @@ impl<T: Kept> Mutex<T> {
     ) -> (Result<(), Refusal>, Option<WakeUp>)
         requires belongs { OfMutex seat.old self.now }
         ensures belongs { Beside seat.old seat.new }
+        ensures woken { WakesNobody seat.old seat.new }
         ensures sends { Sends (limits_of self.now).seats (sight seat.old) target (sight seat.new) result.0 }
         ensures steps { MakesCall (limits_of self.now) (λ x. Answered.Sent) (CallNow.SendLock target) (sight seat.old) (sight seat.new) result.0 }
         ensures bounded { MakesBesideFailures ((limits_of self.now).seats + 9) (sight seat.old) (sight seat.new) }

@@ -9,6 +9,7 @@ ghost use Rattle.lfm_table.specs.Steps.{oldest_in};
 ghost use Rattle.lfm_mutex.specs.calls.Runs.{errand, is_release, releasing, weight};
 ghost use Rattle.lfm_mutex.specs.calls.Straight.{Course, release_turn};
 ghost use Rattle.lfm_mutex.specs.calls.WakeUps.{Wakes};
+ghost use Rattle.lfm_mutex.specs.calls.Woken.{WakesNobody};
 
 use crate::calls::finish;
 use crate::mutex::Mutex;
@@ -33,6 +34,7 @@ fn release_on<T: Kept>(
     requires releases { errand seat.old.standing.point ≡ releasing releaser }
     requires keeps { is_release seat.old.standing.point ≡ false }
     ensures belongs { seat.new.place.table_id ≡ seat.old.place.table_id }
+    ensures woken { WakesNobody seat.old seat.new }
     ensures same { (seat.new.number ≡ seat.old.number) × (seat.new.limits ≡ seat.old.limits) }
     ensures made { Course T.follows T.fits seat.old.number seat.old.standing seat.old.moving seat.old.place.me.0 (release_turn releaser result.0) seat.new.standing seat.new.moving seat.new.place.me.0 }
     ensures bounded { length seat.new.place.me.0.trail ≤ length seat.old.place.me.0.trail + weight seat.old.limits.seats (length seat.old.place.me.0.popped) seat.old.standing.point }
@@ -75,6 +77,7 @@ fn grant<T: Kept>(
     requires stands { seat.old.standing.point ≡ GrantWakeStore (CarrierNow.Releaser releaser) oldest }
     requires flat { seat.old.standing.depth ≡ 0 }
     ensures belongs { seat.new.place.table_id ≡ seat.old.place.table_id }
+    ensures woken { WakesNobody seat.old seat.new }
     ensures same { (seat.new.number ≡ seat.old.number) × (seat.new.limits ≡ seat.old.limits) }
     ensures made { Course T.follows T.fits seat.old.number seat.old.standing seat.old.moving seat.old.place.me.0 (release_turn releaser result.0) seat.new.standing seat.new.moving seat.new.place.me.0 }
     ensures bounded { length seat.new.place.me.0.trail ≤ length seat.old.place.me.0.trail + weight seat.old.limits.seats (length seat.old.place.me.0.popped) seat.old.standing.point }
@@ -118,6 +121,7 @@ fn serve_pushed<T: Kept>(
     requires stands { seat.old.standing.point ≡ TakeClearHead (CarrierNow.Releaser releaser) }
     requires flat { seat.old.standing.depth ≡ 0 }
     ensures belongs { seat.new.place.table_id ≡ seat.old.place.table_id }
+    ensures woken { WakesNobody seat.old seat.new }
     ensures same { (seat.new.number ≡ seat.old.number) × (seat.new.limits ≡ seat.old.limits) }
     ensures made { Course T.follows T.fits seat.old.number seat.old.standing seat.old.moving seat.old.place.me.0 (release_turn releaser result.0) seat.new.standing seat.new.moving seat.new.place.me.0 }
     ensures bounded { length seat.new.place.me.0.trail ≤ length seat.old.place.me.0.trail + weight seat.old.limits.seats (length seat.old.place.me.0.popped) seat.old.standing.point }
@@ -165,6 +169,7 @@ pub(crate) fn serve<T: Kept>(
     requires stands { seat.old.standing.point ≡ take (CarrierNow.Releaser releaser) 0 (oldest_in seat.old.moving) }
     requires flat { seat.old.standing.depth ≡ 0 }
     ensures belongs { seat.new.place.table_id ≡ seat.old.place.table_id }
+    ensures woken { WakesNobody seat.old seat.new }
     ensures same { (seat.new.number ≡ seat.old.number) × (seat.new.limits ≡ seat.old.limits) }
     ensures made { Course T.follows T.fits seat.old.number seat.old.standing seat.old.moving seat.old.place.me.0 (release_turn releaser result.0) seat.new.standing seat.new.moving seat.new.place.me.0 }
     ensures bounded { length seat.new.place.me.0.trail ≤ length seat.old.place.me.0.trail + weight seat.old.limits.seats (length seat.old.place.me.0.popped) seat.old.standing.point }

@@ -11,6 +11,7 @@ ghost use Rattle.lfm_mutex.specs.calls.SeatSteps.{Begins, StepsOn};
 ghost use Rattle.lfm_mutex.specs.calls.Sight.{sight, MayLeave};
 ghost use Rattle.lfm_table.specs.Grants.{granted_at};
 ghost use Rattle.lfm_table.specs.Steps.{MayBeLeft, StepLeadsTo};
+ghost use Rattle.lfm_mutex.specs.calls.Woken.{WakesNobody, WokenAsGranted};
 
 use crate::mutex::Mutex;
 use crate::seat::Seat;
@@ -34,6 +35,7 @@ pub use crate::steps::kinds::{
 pub fn start<T: Kept>(mutex: &Mutex<T>, seat: &mut Seat<T>, call: Call) -> Turn
     requires belongs { OfMutex seat.old mutex.now }
     ensures belongs { Beside seat.old seat.new }
+    ensures woken { WokenAsGranted seat.old seat.new }
     ensures begins { Begins (limits_of mutex.now) call (state_of seat.old) (sight seat.old) result (state_of seat.new) (sight seat.new) }
 {
     begin_call(mutex, seat, call)
@@ -48,6 +50,7 @@ pub fn next<T: Kept>(mutex: &Mutex<T>, seat: &mut Seat<T>) -> Turn
     requires belongs { OfMutex seat.old mutex.now }
     requires leaves { is_release (state_of seat.old).point ≡ true → MayLeave T.follows T.fits (sight seat.old) }
     ensures belongs { Beside seat.old seat.new }
+    ensures woken { WokenAsGranted seat.old seat.new }
     ensures steps { StepsOn T.follows T.fits (kind (state_of seat.old).point) (state_of seat.old) (sight seat.old) result (state_of seat.new) (sight seat.new) }
 {
     match seat.standing.point.kind() {
@@ -75,6 +78,7 @@ pub fn next<T: Kept>(mutex: &Mutex<T>, seat: &mut Seat<T>) -> Turn
 pub(crate) fn begin_call<T: Kept>(mutex: &Mutex<T>, seat: &mut Seat<T>, call: Call) -> Turn
     requires belongs { seat.old.place.table_id ≡ mutex.now.table.table_id }
     ensures same { (seat.new.place ≡ seat.old.place) × (seat.new.number ≡ seat.old.number) × (seat.new.limits ≡ seat.old.limits) × (seat.new.moving ≡ seat.old.moving) }
+    ensures woken { WakesNobody seat.old seat.new }
     ensures seat { seat.new.standing ≡ (begin seat.old.standing seat.old.limits call).seat }
     ensures turn { result ≡ (begin seat.old.standing seat.old.limits call).turn }
 {
@@ -89,6 +93,7 @@ pub(crate) fn make_next<T: Kept>(mutex: &Mutex<T>, seat: &mut Seat<T>) -> (Turn,
     requires belongs { seat.old.place.table_id ≡ mutex.now.table.table_id }
     requires leaves { (r : Releaser) → seat.old.standing.point ≡ ReleaseOwnerStore r → MayBeLeft T.follows T.fits seat.old.moving seat.old.place.me.0 }
     ensures belongs { seat.new.place.table_id ≡ seat.old.place.table_id }
+    ensures woken { WakesNobody seat.old seat.new }
     ensures same { (seat.new.number ≡ seat.old.number) × (seat.new.limits ≡ seat.old.limits) }
     ensures event { StepLeadsTo (kind seat.old.standing.point) T.follows T.fits seat.old.standing seat.old.moving seat.old.place.me result.0 seat.new.standing seat.new.moving seat.new.place.me }
     ensures wakes { result.1 ≡ granted_at seat.old.standing.point }

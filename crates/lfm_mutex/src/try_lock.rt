@@ -13,6 +13,7 @@ ghost use Rattle.lfm_mutex.specs.calls.Sight.{sight, Locks};
 ghost use Rattle.lfm_mutex.specs.calls.Straight.{Course, ComesTo, try_turn};
 ghost use Rattle.lfm_protocol.specs.declared.answers.Answer.TheVariants as Answered;
 ghost use Rattle.lfm_mutex.specs.calls.Trails.{MakesAtMost, MakesCall};
+ghost use Rattle.lfm_mutex.specs.calls.Woken.{WakesNobody, WokenAsGranted};
 
 use crate::calls::{asleep, finish, run};
 use crate::mutex::Mutex;
@@ -32,6 +33,7 @@ fn try_on<T: Kept>(mutex: &Mutex<T>, seat: &mut Seat<T>) -> Result<Locked, Refus
     requires belongs { seat.old.place.table_id ≡ mutex.now.table.table_id }
     requires tries { errand seat.old.standing.point ≡ trying }
     ensures belongs { seat.new.place.table_id ≡ seat.old.place.table_id }
+    ensures woken { WakesNobody seat.old seat.new }
     ensures same { (seat.new.number ≡ seat.old.number) × (seat.new.limits ≡ seat.old.limits) }
     ensures ends { Ends trying (try_turn result) }
     ensures made { Course T.follows T.fits seat.old.number seat.old.standing seat.old.moving seat.old.place.me.0 (try_turn result) seat.new.standing seat.new.moving seat.new.place.me.0 }
@@ -85,6 +87,7 @@ pub fn try_free<T: Kept>(
     requires budget { budget ≡ seat.old.limits.budget }
     requires charged { seat.old.standing.takes < budget }
     ensures belongs { Beside seat.old seat.new }
+    ensures woken { WakesNobody seat.old seat.new }
     ensures made { ComesTo T.follows T.fits (limits_of mutex.now) CallNow.TryLock (sight seat.old) (sight seat.new) (try_turn result) }
 {
     let _budget = budget;
@@ -129,6 +132,7 @@ pub fn try_again<T: Kept>(mutex: &Mutex<T>, seat: &mut Seat<T>) -> Result<Locked
     requires held { 0 < seat.old.standing.depth }
     requires room { seat.old.standing.depth < max_depth }
     ensures belongs { Beside seat.old seat.new }
+    ensures woken { WakesNobody seat.old seat.new }
     ensures made { ComesTo T.follows T.fits (limits_of mutex.now) CallNow.TryLock (sight seat.old) (sight seat.new) (try_turn result) }
 {
     let table = &mutex.table;
@@ -164,6 +168,7 @@ pub fn try_again<T: Kept>(mutex: &Mutex<T>, seat: &mut Seat<T>) -> Result<Locked
 fn try_lock_any<T: Kept>(mutex: &Mutex<T>, seat: &mut Seat<T>) -> Result<Locked, Refusal>
     requires belongs { OfMutex seat.old mutex.now }
     ensures belongs { Beside seat.old seat.new }
+    ensures woken { WakesNobody seat.old seat.new }
     ensures locks { Locks T.follows T.fits (limits_of mutex.now).budget (sight seat.old) (sight seat.new) result }
     ensures steps { MakesCall (limits_of mutex.now) (λ x. Answered.Locked x) CallNow.TryLock (sight seat.old) (sight seat.new) result }
 {
@@ -188,6 +193,7 @@ impl<T: Kept> Mutex<T> {
     pub fn try_lock(&self, seat: &mut Seat<T>) -> Result<Locked, Refusal>
         requires belongs { OfMutex seat.old self.now }
         ensures belongs { Beside seat.old seat.new }
+        ensures woken { WokenAsGranted seat.old seat.new }
         ensures locks { Locks T.follows T.fits (limits_of self.now).budget (sight seat.old) (sight seat.new) result }
         ensures steps { MakesCall (limits_of self.now) (λ x. Answered.Locked x) CallNow.TryLock (sight seat.old) (sight seat.new) result }
         ensures bounded { MakesAtMost 6 (sight seat.old) (sight seat.new) }

@@ -10,6 +10,7 @@ ghost use Rattle.lfm_mutex.specs.calls.Sight.{sight, MayLeave, MayRelease, Unloc
 ghost use Rattle.lfm_mutex.specs.calls.Straight.{ComesTo};
 ghost use Rattle.lfm_mutex.specs.calls.Trails.{MakesAtMost, MakesCall};
 ghost use Rattle.lfm_mutex.specs.calls.WakeUps.{Wakes};
+ghost use Rattle.lfm_mutex.specs.calls.Woken.{WakesNobody, WokenAsGranted};
 
 use crate::calls::{asleep, release};
 use crate::mutex::Mutex;
@@ -29,6 +30,7 @@ pub fn unlock_last<T: Kept>(mutex: &Mutex<T>, seat: &mut Seat<T>) -> (Unlocked, 
     requires one { seat.old.standing.depth ≡ 1 }
     requires leaves { MayLeave T.follows T.fits (sight seat.old) }
     ensures belongs { Beside seat.old seat.new }
+    ensures woken { WakesNobody seat.old seat.new }
     ensures made { ComesTo T.follows T.fits (limits_of mutex.now) CallNow.Unlock (sight seat.old) (sight seat.new) (Ended (Answered.Unlocked result.0)) }
     ensures bounded { MakesAtMost ((limits_of mutex.now).seats + 7) (sight seat.old) (sight seat.new) }
     ensures wakes { Wakes (limits_of mutex.now).seats result.1 (sight seat.old).trail (sight seat.new).trail }
@@ -64,6 +66,7 @@ pub fn unlock_once<T: Kept>(mutex: &Mutex<T>, seat: &mut Seat<T>) -> Unlocked
     requires rests { seat.old.standing.point ≡ Rest }
     requires deep { 1 < seat.old.standing.depth }
     ensures belongs { Beside seat.old seat.new }
+    ensures woken { WakesNobody seat.old seat.new }
     ensures made { ComesTo T.follows T.fits (limits_of mutex.now) CallNow.Unlock (sight seat.old) (sight seat.new) (Ended (Answered.Unlocked result)) }
     ensures bounded { MakesAtMost ((limits_of mutex.now).seats + 7) (sight seat.old) (sight seat.new) }
 {
@@ -81,6 +84,7 @@ fn unlock_any<T: Kept>(
     requires belongs { OfMutex seat.old mutex.now }
     requires leaves { MayRelease T.follows T.fits (sight seat.old) }
     ensures belongs { Beside seat.old seat.new }
+    ensures woken { WakesNobody seat.old seat.new }
     ensures unlocks { Unlocks (sight seat.old) (sight seat.new) result.0 }
     ensures steps { MakesCall (limits_of mutex.now) (λ x. Answered.Unlocked x) CallNow.Unlock (sight seat.old) (sight seat.new) result.0 }
     ensures bounded { MakesAtMost ((limits_of mutex.now).seats + 7) (sight seat.old) (sight seat.new) }
@@ -107,12 +111,13 @@ impl<T: Kept> Mutex<T> {
         requires belongs { OfMutex seat.old self.now }
         requires leaves { MayRelease T.follows T.fits (sight seat.old) }
         ensures belongs { Beside seat.old seat.new }
+        ensures woken { WokenAsGranted seat.old seat.new }
         ensures unlocks { Unlocks (sight seat.old) (sight seat.new) result }
         ensures steps { MakesCall (limits_of self.now) (λ x. Answered.Unlocked x) CallNow.Unlock (sight seat.old) (sight seat.new) result }
         ensures bounded { MakesAtMost ((limits_of self.now).seats + 7) (sight seat.old) (sight seat.new) }
     {
         let (unlocked, wake_up) = self.unlock_without_waking(seat);
-        self.wake(wake_up);
+        self.wake_seat(wake_up, &mut seat.woken);
         unlocked
     }
 
@@ -126,6 +131,7 @@ impl<T: Kept> Mutex<T> {
         requires belongs { OfMutex seat.old self.now }
         requires leaves { MayRelease T.follows T.fits (sight seat.old) }
         ensures belongs { Beside seat.old seat.new }
+        ensures woken { WakesNobody seat.old seat.new }
         ensures unlocks { Unlocks (sight seat.old) (sight seat.new) result.0 }
         ensures steps { MakesCall (limits_of self.now) (λ x. Answered.Unlocked x) CallNow.Unlock (sight seat.old) (sight seat.new) result.0 }
         ensures bounded { MakesAtMost ((limits_of self.now).seats + 7) (sight seat.old) (sight seat.new) }

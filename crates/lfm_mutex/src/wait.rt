@@ -10,6 +10,7 @@ ghost use Rattle.lfm_mutex.specs.calls.Straight.{ComesTo};
 ghost use Rattle.lfm_mutex.specs.calls.Trails.{MakesCall, MakesAtMost};
 ghost use Rattle.lfm_mutex.specs.calls.WakeUps.{Wakes};
 ghost use Rattle.lfm_mutex.specs.calls.Sight.{sight, MayLeave, MayRelease, StartsWait};
+ghost use Rattle.lfm_mutex.specs.calls.Woken.{WakesNobody, WokenAsGranted};
 
 use crate::calls::{asleep, release};
 use crate::mutex::Mutex;
@@ -35,6 +36,7 @@ pub fn wait_last<T: Kept>(
     requires charged { seat.old.standing.takes < budget }
     requires leaves { MayLeave T.follows T.fits (sight seat.old) }
     ensures belongs { Beside seat.old seat.new }
+    ensures woken { WakesNobody seat.old seat.new }
     ensures made { ComesTo T.follows T.fits (limits_of mutex.now) CallNow.StartWait (sight seat.old) (sight seat.new) (Ended (Answered.Waiting result.0)) }
     ensures bounded { MakesAtMost ((limits_of mutex.now).seats + 8) (sight seat.old) (sight seat.new) }
     ensures wakes { Wakes (limits_of mutex.now).seats result.1 (sight seat.old).trail (sight seat.new).trail }
@@ -78,6 +80,7 @@ fn wait_any<T: Kept>(
     requires belongs { OfMutex seat.old mutex.now }
     requires leaves { MayRelease T.follows T.fits (sight seat.old) }
     ensures belongs { Beside seat.old seat.new }
+    ensures woken { WakesNobody seat.old seat.new }
     ensures waits { StartsWait (limits_of mutex.now).budget (sight seat.old) (sight seat.new) result.0 }
     ensures steps { MakesCall (limits_of mutex.now) (λ x. Answered.Waiting x) CallNow.StartWait (sight seat.old) (sight seat.new) result.0 }
     ensures bounded { MakesAtMost ((limits_of mutex.now).seats + 8) (sight seat.old) (sight seat.new) }
@@ -103,12 +106,13 @@ impl<T: Kept> Mutex<T> {
         requires belongs { OfMutex seat.old self.now }
         requires leaves { MayRelease T.follows T.fits (sight seat.old) }
         ensures belongs { Beside seat.old seat.new }
+        ensures woken { WokenAsGranted seat.old seat.new }
         ensures waits { StartsWait (limits_of self.now).budget (sight seat.old) (sight seat.new) result }
         ensures steps { MakesCall (limits_of self.now) (λ x. Answered.Waiting x) CallNow.StartWait (sight seat.old) (sight seat.new) result }
         ensures bounded { MakesAtMost ((limits_of self.now).seats + 8) (sight seat.old) (sight seat.new) }
     {
         let (released, wake_up) = self.start_wait_without_waking(seat);
-        self.wake(wake_up);
+        self.wake_seat(wake_up, &mut seat.woken);
         released
     }
 
@@ -121,6 +125,7 @@ impl<T: Kept> Mutex<T> {
         requires belongs { OfMutex seat.old self.now }
         requires leaves { MayRelease T.follows T.fits (sight seat.old) }
         ensures belongs { Beside seat.old seat.new }
+        ensures woken { WakesNobody seat.old seat.new }
         ensures waits { StartsWait (limits_of self.now).budget (sight seat.old) (sight seat.new) result.0 }
         ensures steps { MakesCall (limits_of self.now) (λ x. Answered.Waiting x) CallNow.StartWait (sight seat.old) (sight seat.new) result.0 }
         ensures bounded { MakesAtMost ((limits_of self.now).seats + 8) (sight seat.old) (sight seat.new) }

@@ -1,10 +1,14 @@
 //! `wake`, by which a call ends that was made without waking.
-ghost use Rattle.std.specs.Prelude.{◌≡◌, ℕ, ◌≤◌, Some};
-ghost use Rattle.lfm_mutex.specs.Belongs.{limits_of};
+ghost use Rattle.std.specs.Prelude.{◌≡◌, ℕ, ◌≤◌, ◌++◌, Some};
+ghost use Rattle.lfm_mutex.specs.Belongs.{Beside, limits_of};
+ghost use Rattle.lfm_mutex.specs.calls.Sight.{sight};
+ghost use Rattle.lfm_mutex.specs.calls.WakeUps.{as_list};
+ghost use Rattle.lfm_mutex.specs.calls.Woken.{woken_of};
 
 use crate::mutex::Mutex;
+use crate::seat::Seat;
 use lfm_table::parking::wake;
-use lfm_table::{Kept, WakeUp};
+use lfm_table::{Kept, WakeUp, Woken};
 
 impl<T: Kept> Mutex<T> {
     /// Wakes the thread of the seat that a call of this mutex has granted it, if there is such a seat and its thread parks. It
@@ -13,8 +17,29 @@ impl<T: Kept> Mutex<T> {
     pub fn wake(&self, wake_up: Option<WakeUp>)
         requires { (t : ℕ) → wake_up ≡ Some t → t ≤ (limits_of self.now).seats }
     {
+        let mut woken = Woken::new();
+        self.wake_seat(wake_up, &mut woken);
+    }
+
+    /// `wake`, for a call that was made with this seat: the seat that it wakes is the next that this one has woken.
+    #[inline(always)]
+    pub fn wake_from(&self, seat: &mut Seat<T>, wake_up: Option<WakeUp>)
+        requires { (t : ℕ) → wake_up ≡ Some t → t ≤ (limits_of self.now).seats }
+        ensures belongs { Beside seat.old seat.new }
+        ensures same { sight seat.new ≡ sight seat.old }
+        ensures woken { woken_of seat.new ≡ woken_of seat.old ++ as_list wake_up }
+    {
+        self.wake_seat(wake_up, &mut seat.woken);
+    }
+
+    // `wake`, which adds to the seats that were woken.
+    #[inline(always)]
+    pub(crate) fn wake_seat(&self, wake_up: Option<WakeUp>, woken: &mut Woken)
+        requires { (t : ℕ) → wake_up ≡ Some t → t ≤ (limits_of self.now).seats }
+        ensures { woken.new.seats ≡ woken.old.seats ++ as_list wake_up }
+    {
         match wake_up {
-            Some(wake_up) => wake(&self.table, self.limits.seats, wake_up),
+            Some(wake_up) => wake(&self.table, self.limits.seats, wake_up, woken),
             None => {}
         }
     }

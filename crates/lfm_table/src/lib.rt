@@ -17,7 +17,9 @@ pub mod straight_steps;
 pub mod table_steps;
 pub mod wake_up;
 pub mod wake_words;
+pub mod woken;
 
 pub use kept::Kept;
 pub use seat_data::SeatData;
 pub use wake_up::WakeUp;
+pub use woken::Woken;

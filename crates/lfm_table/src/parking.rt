@@ -4,7 +4,7 @@
 //! bits of the word are the ones that it loaded. In these bits a grant differs from every other state, so one that is stored
 //! before the thread sleeps keeps it awake. One that is stored later leaves a wake-up, which can't be let go and ends in
 //! `wake`. That the system then does what it is called for is not proved.
-ghost use Rattle.std.specs.Prelude.{◌≡◌, ◌+◌, ◌*◌, ◌<◌, ◌≤◌};
+ghost use Rattle.std.specs.Prelude.{◌≡◌, ◌+◌, ◌*◌, ◌<◌, ◌≤◌, [], ◌∷◌, ◌++◌};
 ghost use Rattle.lfm_protocol.specs.Limits.{max_seats};
 
 use crate::kept::Kept;
@@ -12,15 +12,19 @@ use crate::layout::wake_at;
 use crate::shared_table::SharedTable;
 use crate::wake_up::WakeUp;
 use crate::wake_words::FIRST_GRANT;
+use crate::woken::Woken;
 use std::sync::Wait;
 use std::time::Duration;
 
-/// Wakes the thread that parks on the wake word of the seat that was granted, if one does. It is one call of the system.
-pub fn wake<T: Kept>(table: &SharedTable<T>, seats: u64, wake_up: WakeUp)
+/// Wakes the thread that parks on the wake word of the seat that was granted, if one does. It is one call of the system. The seat is
+/// the next of those that were woken.
+pub fn wake<T: Kept>(table: &SharedTable<T>, seats: u64, wake_up: WakeUp, woken: &mut Woken)
     requires few { seats ≤ max_seats }
     requires wide { 4 + 2 * seats ≡ table.now.table_id.words }
     requires inside { wake_up ≤ seats }
+    ensures { woken.new.seats ≡ woken.old.seats ++ wake_up ∷ [] }
 {
+    *woken = Woken::and(woken, &wake_up);
     let seat = wake_up.into_seat().get();
     table.wake_one(wake_at(seats, seat));
 }

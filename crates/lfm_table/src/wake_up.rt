@@ -11,12 +11,12 @@ use std::marker::Model;
 /// the number of the seat.
 ///
 /// The type has no `Drop`, so a wake-up has to be moved on wherever it is: to `parking::wake`, to a caller, or into a seat's number.
-/// A path that does none of these does not compile. No clause says that `parking::wake` wakes the seat.
+/// A path that does none of these does not compile. `parking::wake` adds the seat to those that were woken.
 ///
 /// ```
 /// let (found, wake_up) = store_wake::<T, B>(table, place, seat, hand);
 /// match wake_up {
-///     Some(wake_up) => wake(table, seats, wake_up),
+///     Some(wake_up) => wake(table, seats, wake_up, &mut woken),
 ///     None => {}
 /// }
 /// ```

@@ -29,7 +29,7 @@ use Rattle.lfm_mutex.specs.calls.Runs.{end_of, trail_of, opens}
 use Rattle.lfm_mutex.specs.calls.Sight.{Sight, Locks, Receives, BusySeen}
 use Rattle.lfm_mutex.specs.calls.Trails.{Seen, CallEnds, MakesCall, MakesAtMost}
 
-abbrev left_at : Point → ℕ
+abbrev pub left_at : Point → ℕ
 left_at TryCountExchange = 6
 left_at TryOwnerLoad = 5
 left_at TryHandoffLoad = 4
@@ -40,7 +40,7 @@ left_at (ReceiveWakeLoad sleeper) = 3
 left_at (ReceiveWakeStore stamp) = 2
 left_at _ = 0
 
-abbrev is_short : Point → Bool
+abbrev pub is_short : Point → Bool
 is_short Rest = true
 is_short (Asleep sleeper) = true
 is_short TryCountExchange = true
@@ -54,7 +54,7 @@ is_short (ReceiveWakeStore stamp) = true
 is_short _ = false
 
 -- at a point of these calls, with so many steps left at most
-abbrev Short : ℕ → Point → Type 0
+abbrev pub Short : ℕ → Point → Type 0
 Short k p = (is_short p ≡ true) × (left_at p ≤ k)
 
 short_if : (k : ℕ) (b : Bool) (p q : Point) → Short k p → Short k q → Short k (if b then p else q)
@@ -70,13 +70,13 @@ short_receives x sleeper (Grant stamp) = (refl, omega arith)
 short_receives x sleeper _ = (refl, omega arith)
 
 -- a step at a point of these leads to another of them, with fewer left; else the seat is at no step
-abbrev StepsShort : ℕ → Stepped → Type 0
+abbrev pub StepsShort : ℕ → Stepped → Type 0
 StepsShort k st = (j : ℕ) × (j + 1 ≤ k) × Short j st.seat.point
 
-abbrev GoesShort : ℕ → Point → Stepped → Type 0
+abbrev pub GoesShort : ℕ → Point → Stepped → Type 0
 GoesShort k q st = (kind q ≡ None) ⊎ StepsShort k st
 
-short_step_at : (d t ps s n k : ℕ) (o : Option Record) (q : Point) → Short k q → GoesShort k q (stepped_by (made_of d t ps q) s n o)
+pub short_step_at : (d t ps s n k : ℕ) (o : Option Record) (q : Point) → Short k q → GoesShort k q (stepped_by (made_of d t ps q) s n o)
 short_step_at d t ps s n k o Rest short = inl refl
 short_step_at d t ps s n k o (Asleep sleeper) short = inl refl
 short_step_at d t ps s n k o TryCountExchange short = inr (5, short.1, short_if 5 (nat_eq n 0) _ _ (refl, omega arith) (refl, omega arith))
@@ -89,7 +89,7 @@ short_step_at d t ps s n k o (ReceiveWakeLoad sleeper) short = inr (2, short.1, 
 short_step_at d t ps s n k o (ReceiveWakeStore stamp) short = inr (1, short.1, (refl, omega arith))
 short_step_at d t ps s n k o _ short = absurd (false≢true short.0)
 
-idle_step : (x : SeatState) (s n : ℕ) (o : Option Record) → kind x.point ≡ None → stepped_by x s n o ≡ record { seat = x; turn = Refused Idle }
+pub idle_step : (x : SeatState) (s n : ℕ) (o : Option Record) → kind x.point ≡ None → stepped_by x s n o ≡ record { seat = x; turn = Refused Idle }
 idle_step x s n o none = ap (λ (k : Option Kind). stepped_of x s n o k) none
 
 -- a seat at no step stays idle
@@ -112,14 +112,14 @@ long_as s x (f ∷ finds) = let h = long_as s (stepped_by x s f.0 f.1).seat find
 
 -- Where the calls begin
 
-abbrev OpensShort : ℕ → Stepped → Type 0
+abbrev pub OpensShort : ℕ → Stepped → Type 0
 OpensShort k st = st.turn ≡ Open → Short k st.seat.point
 
 opens_if : (k : ℕ) (b : Bool) (u v : Stepped) → OpensShort k u → OpensShort k v → OpensShort k (if b then u else v)
 opens_if k true u v first second = first
 opens_if k false u v first second = second
 
-try_opens : (x : SeatState) (l : Limits) (p : Point) → OpensShort 6 (Begin.begin_at x l Call.TryLock p)
+pub try_opens : (x : SeatState) (l : Limits) (p : Point) → OpensShort 6 (Begin.begin_at x l Call.TryLock p)
 try_opens x l Rest =
     opens_if 6 (nat_lt 65534 x.depth) (refuses x Refusal.DepthFull) _ (λ e. absurd (cc))
     (opens_if 6 (nat_eq x.depth 0) _ (goes_on x TryCountExchange)
@@ -127,7 +127,7 @@ try_opens x l Rest =
 try_opens x l (Asleep sleeper) = λ e. absurd (cc)
 try_opens x l _ = λ e. absurd (cc)
 
-receive_opens : (x : SeatState) (l : Limits) (p : Point) → OpensShort 3 (Begin.begin_at x l Call.Receive p)
+pub receive_opens : (x : SeatState) (l : Limits) (p : Point) → OpensShort 3 (Begin.begin_at x l Call.Receive p)
 receive_opens x l Rest = λ e. absurd (cc)
 receive_opens x l (Asleep sleeper) = λ e. (refl, omega arith)
 receive_opens x l _ = λ e. absurd (cc)

@@ -31,7 +31,7 @@ none_some t e = cc
 ended_open : (answer : Answer) → Ended answer ≡ Open → ⊥
 ended_open answer e = cc
 
-grants_join : (xs ys : List Seen) → grants_of (xs ++ ys) ≡ grants_of xs ++ grants_of ys
+pub grants_join : (xs ys : List Seen) → grants_of (xs ++ ys) ≡ grants_of xs ++ grants_of ys
 grants_join [] ys = refl
 grants_join (x ∷ xs) ys = ap (λ (l : List ℕ). as_list (granted_at x.point) ++ l) (grants_join xs ys) ∙ sym (append_assoc (as_list (granted_at x.point)) (grants_of xs) (grants_of ys))
 

@@ -49,6 +49,7 @@ loop-ended-preserved g c = let l = c.loop-ended.seat in let i = c.loop-ended.inv
     record {
       wakes = wakes;
       none = none;
+      woken = c.make_next-turn.ensures.woken ∙ i.woken;
       once = λ t some. let r = once_more l.standing l.place.me.0.number e.found (oldest e.did.popped) c.loop-ended.owed c.make_next-turn.result.1 i.once owes (sym e.turn_is) t (sym c.either-owed.ensures ∙ some) in (r.0, ap (λ x. x.point) e.seat_is ∙ r.1);
       bounded = subst (λ (n : ℕ). length s.place.me.0.trail + weight n (length s.place.me.0.popped) s.standing.point ≤ length first.place.me.0.trail + weight first.limits.seats (length first.place.me.0.popped) first.standing.point) (ap (λ l. l.seats) (sym c.make_next-turn.ensures.same.1))
           (omega (arith, less, kept));
@@ -83,6 +84,7 @@ returns-in_default g c = let l = c.loop-ended.seat in let i = c.loop-ended.invar
     record {
       wakes = wakes;
       none = none;
+      woken = c.make_next-turn.ensures.woken ∙ i.woken;
       bounded = omega (arith, less, kept);
       spends = spends_within due0 due0 due2 0 first.place.me.0.trail s.place.me.0.trail (omega arith) (omega arith) spends;
       concludes = concludes_join first.standing l.standing s.standing c.make_next-turn.result.0 i.concludes told;

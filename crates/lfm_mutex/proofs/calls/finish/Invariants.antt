@@ -9,12 +9,14 @@ use Rattle.lfm_mutex.specs.calls.Sight.{Concludes, Stays}
 use Rattle.lfm_model.specs.declared.answers.Unlocked.{Unlocked}
 use Rattle.lfm_protocol.specs.declared.points.Point.TheVariants.{WaitWakeStore}
 use Rattle.lfm_mutex.specs.calls.WakeUps.{Wakes, may_grant}
+use Rattle.lfm_mutex.specs.calls.Woken.{WakesNobody}
 use Rattle.lfm_mutex.proofs.calls.finish.Given as goal
 
 abbrev pub invariant-loop-ended : goal.invariant-loop-ended
 invariant-loop-ended g l = record {
   belongs : l.seat.place.table_id ≡ l.mutex.table.table_id;
   same : (l.seat.number ≡ l.fn.seat.number) × (l.seat.limits ≡ l.fn.seat.limits) × (l.seat.place.table_id ≡ l.fn.seat.place.table_id);
+  woken : WakesNobody l.fn.seat l.seat;
   call : errand l.seat.standing.point ≡ errand l.fn.seat.standing.point;
   keeps : is_release l.seat.standing.point ≡ false;
   last : last_hold l.seat.place.me.0 ≡ last_hold l.fn.seat.place.me.0;

@@ -13,3 +13,6 @@ returns-clause-changes g c = let h = rw c.in-Some.is at (c.value_mut.follows.hol
   search rules,
   h.0,
 )
+
+pub returns-clause-woken : goal.returns-clause-woken
+returns-clause-woken g c = let h = rw c.in-Some.is at (c.value_mut.follows.holds c.f.new.arg2) in ap (λ w. w.seats) h.5

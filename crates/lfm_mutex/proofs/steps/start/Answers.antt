@@ -5,6 +5,8 @@ use Rattle.lfm_mutex.specs.calls.SeatSteps.{Begins}
 use Rattle.lfm_mutex.specs.calls.Sight.{sight}
 use Rattle.lfm_table.specs.declared.seat_view.View.{View}
 use Rattle.lfm_mutex.proofs.runs.OneStep.{begins_seen}
+use Rattle.lfm_mutex.specs.calls.WakeUps.{grants_of}
+use Rattle.lfm_mutex.proofs.runs.Woken.{woken_none}
 use Rattle.lfm_mutex.proofs.steps.start.Goals as goal
 
 pub returns-clause-begins : goal.returns-clause-begins
@@ -12,3 +14,6 @@ returns-clause-begins g c = let s = c.args.seat.now in let b = c.begin_call.new.
     let became : Became s.place.me.0.standing s.limits b.standing = subst (λ (t : View g.row.T.Denot × Limits). Became t.0.standing t.1 b.standing) (λ i. (ap (λ p. p.me.0) same.0 i, same.2 i)) b.became in
     subst (λ (l : Limits). Begins l c.args.call s.standing (sight s) c.begin_call.result b.standing (sight b)) c.requires.belongs.1
     (c.begin_call.ensures.turn, c.begin_call.ensures.seat, begins_seen s.number b.number s.limits s.standing b.standing s.place.me.0 b.place.me.0 s.moving b.moving s.became became same.1 (ap (λ p. p.me.0) same.0) same.3)
+
+pub returns-clause-woken : goal.returns-clause-woken
+returns-clause-woken g c = woken_none c.args.seat.now c.begin_call.new.seat c.begin_call.ensures.woken (ap (λ p. grants_of p.me.0.trail) c.begin_call.ensures.same.0)

@@ -1,7 +1,10 @@
-use Rattle.std.proofs.Common.{sym, ap, ◌∙◌, arith}
-use Rattle.lfm_table.specs.Rule.{value_in}
+use Rattle.std.proofs.Common.{sym, ap, ◌∙◌, arith, [], ◌∷◌, append-nil}
+use Rattle.lfm_protocol.specs.declared.points.Point.TheVariants.{TryOwnerLoad}
+use Rattle.lfm_table.specs.Rule.{seen, value_in}
+use Rattle.lfm_mutex.proofs.runs.WakeUps.{grants_join}
 use Rattle.lfm_mutex.proofs.ends.Seats.{reads_owner, depth_seen}
 use Rattle.lfm_mutex.proofs.runs.Sights.{owner_read_sight, owner_told}
+use Rattle.lfm_mutex.specs.calls.WakeUps.{grants_of}
 use Rattle.lfm_mutex.proofs.mutex.Mutex.owner.Goals as goal
 
 pub read_owner-found-requires-clause-allowed : goal.read_owner-found-requires-clause-allowed
@@ -13,3 +16,7 @@ returns-clause-tells g c = let s = c.args.seat.now in let n = c.read_owner-found
     let low = s.rooted.low in let high = s.rooted.high in let few = s.rooted.few in
     let own = owner_told c.new.result n s.number s.standing.depth c.new.ensures.valid c.new.ensures.value low (omega (arith, high, few)) (λ is. deep.1 (told.2 (is ∙ sym s.seated.named))) (λ d. told.3 (deep.0 d) ∙ s.seated.named) in
     (n, owner_read_sight s.number n s.standing s.place.me.0 c.read_owner-found.new.place.me.0 (value_in s.moving) (ap (λ m. m.0) told.0), own.0, own.1, own.2)
+
+pub returns-clause-woken : goal.returns-clause-woken
+returns-clause-woken g c = let s = c.args.seat.now in let told = c.read_owner-found.ensures.read in
+    ([], sym (append-nil s.woken.seats), ap (λ m. grants_of m.0.trail) told.0 ∙ grants_join s.place.me.0.trail (seen TryOwnerLoad c.read_owner-found.result ∷ []))

@@ -1,11 +1,15 @@
-use Rattle.std.proofs.Common.{[], Ok, ap, inr, rules, subst, sym, ◌++◌, ◌∙◌, ◌∷◌}
+use Rattle.std.proofs.Common.{[], Ok, ap, inr, rules, subst, sym, ◌++◌, ◌∙◌, ◌∷◌, inl, refl}
 use Rattle.lfm_protocol.specs.declared.answers.Call.{Call}
 use Rattle.lfm_protocol.specs.declared.answers.Turn.TheVariants.{Refused}
 use Rattle.lfm_protocol.specs.declared.answers.Why.{Why}
 use Rattle.lfm_mutex.specs.calls.Sight.{Sight, sight, Receives}
 use Rattle.lfm_mutex.specs.calls.Trails.{Makes}
 use Rattle.lfm_mutex.proofs.runs.MadeCalls.{finds_none_more, refused_receive, first_receive}
+use Rattle.lfm_mutex.proofs.runs.Woken.{woken_join, woken_none}
 use Rattle.lfm_mutex.proofs.mutex.Mutex.receive_lock_within.Goals as goal
+
+pub loop-init : goal.loop-init
+loop-init g c = record { belongs = search rules; beside = search rules; woken = woken_none c.args.seat.now c.args.seat.now refl refl; seen = refl; received = ([], refl); first = inl refl; wake = search rules }
 
 pub loop-preserved : goal.loop-preserved
 loop-preserved g c = let i = c.loop.invariant in let s = c.try_receive.new.seat in
@@ -14,6 +18,7 @@ loop-preserved g c = let i = c.loop.invariant in let s = c.try_receive.new.seat 
     record {
       belongs = search rules;
       beside = search rules;
+      woken = woken_join c.args.seat.now c.loop.seat s i.woken c.try_receive.ensures.woken;
       seen = search rules;
       received = (i.received.0 ++ sight s ∷ [], finds_none_more c.args.self.now.limits (sight c.args.seat.now) i.received.0 (sight c.loop.seat) (sight s) i.received.1 made);
       first = inr (ap (λ (z : Sight g.row.T.Denot). z.asleep) (sym i.seen) ∙ told.0, ap (λ (z : Sight g.row.T.Denot). z.in_call) (sym i.seen) ∙ told.1);
@@ -32,3 +37,9 @@ returns-in-Ok-Some-clause-receives g c = let s = c.try_receive.new.seat in
 
 pub returns-in-Ok-Some-clause-steps : goal.returns-in-Ok-Some-clause-steps
 returns-in-Ok-Some-clause-steps g c = let i = c.loop.invariant in (i.received.0, sight c.loop.seat, i.received.1, rw c.in-Ok-Some.field-0-is at c.in-Ok-Some.ensures.steps)
+
+pub returns-in-Err-clause-woken : goal.returns-in-Err-clause-woken
+returns-in-Err-clause-woken g c = woken_join c.args.seat.now c.loop.seat c.try_receive.new.seat c.loop.invariant.woken c.try_receive.ensures.woken
+
+pub returns-in-Ok-Some-clause-woken : goal.returns-in-Ok-Some-clause-woken
+returns-in-Ok-Some-clause-woken g c = woken_join c.args.seat.now c.loop.seat c.try_receive.new.seat c.loop.invariant.woken c.try_receive.ensures.woken

@@ -1,10 +1,10 @@
-use Rattle.std.proofs.Common.{◌+◌, ◌-◌, Some, None, arith, rules}
+use Rattle.std.proofs.Common.{◌+◌, ◌-◌, Some, None, arith, rules, refl, ◌∙◌}
 use Rattle.lfm_mutex.specs.calls.Sight.{sight}
 use Rattle.lfm_mutex.proofs.BargingEnds.{gains_after, no_tries, still_may_try, tries_fewer, tries_join}
 use Rattle.lfm_mutex.proofs.mutex.Mutex.spin.Goals as goal
 
 pub spins-init : goal.spins-init
-spins-init g c = record { belongs = search rules; beside = search rules; after_the_first = (omega arith, omega arith); tries = no_tries c.args.self.now.limits 0 (sight c.args.seat.now) }
+spins-init g c = record { belongs = search rules; beside = search rules; woken = refl; after_the_first = (omega arith, omega arith); tries = no_tries c.args.self.now.limits 0 (sight c.args.seat.now) }
 
 pub try_if_free-requires-clause-free : goal.try_if_free-requires-clause-free
 try_if_free-requires-clause-free g c κs within = still_may_try c.args.self.now.limits (c.spins.made - 1) (sight c.args.seat.now) (sight c.spins.seat) c.spins.invariant.tries c.requires.free
@@ -13,6 +13,7 @@ pub spins-preserved : goal.spins-preserved
 spins-preserved g c = let after = c.spins.invariant.after_the_first.0 in let below = c.spins-test.true in let l = c.args.self.now.limits in let s = sight c.args.seat.now in let t = sight c.try_if_free.new.seat in record {
   belongs = search rules;
   beside = search rules;
+  woken = c.try_if_free.ensures.woken ∙ c.spins.invariant.woken;
   after_the_first = (omega arith, omega arith);
   tries = tries_fewer l (c.spins.made - 1 + 1) (c.spins.made + 1 - 1) s t None (omega arith) (tries_join l (c.spins.made - 1) 1 s (sight c.spins.seat) t None c.spins.invariant.tries c.in-None.ensures.tries);
 }

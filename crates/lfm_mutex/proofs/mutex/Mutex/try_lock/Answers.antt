@@ -1,6 +1,7 @@
 use Rattle.lfm_mutex.specs.calls.Sight.{sight}
 use Rattle.lfm_mutex.proofs.runs.ShortCalls.{tries_few}
 use Rattle.lfm_mutex.proofs.runs.TryEnds.{try_locks, try_makes}
+use Rattle.lfm_mutex.proofs.runs.Woken.{woken_none, try_lock_grants}
 use Rattle.lfm_mutex.proofs.mutex.Mutex.try_lock.Goals as goal
 
 pub returns-then-seat-budget-clause-locks : goal.returns-then-seat-budget-clause-locks
@@ -37,3 +38,12 @@ returns-then-seat-budget-clause-bounded g c = let l = c.args.self.now.limits in 
 pub returns-then-seat-lt-MAX_DEPTH-clause-bounded : goal.returns-then-seat-lt-MAX_DEPTH-clause-bounded
 returns-then-seat-lt-MAX_DEPTH-clause-bounded g c = let l = c.args.self.now.limits in let s = sight c.args.seat.now in let t = sight c.try_again.new.seat in
     tries_few g.T.Kept.follows g.T.Kept.fits l s t c.try_again.result (try_locks g.T.Kept.follows g.T.Kept.fits l s t c.try_again.result c.try_again.ensures.made) (try_makes g.T.Kept.follows g.T.Kept.fits l s t c.try_again.result c.try_again.ensures.made)
+
+pub returns-then-seat-budget-clause-woken : goal.returns-then-seat-budget-clause-woken
+returns-then-seat-budget-clause-woken g c = let r = c.try_free in woken_none c.args.seat.now r.new.seat r.ensures.woken (try_lock_grants c.args.self.now.limits (sight c.args.seat.now) (sight r.new.seat) r.result (returns-then-seat-budget-clause-steps g c))
+
+pub returns-then-seat-lt-MAX_DEPTH-clause-woken : goal.returns-then-seat-lt-MAX_DEPTH-clause-woken
+returns-then-seat-lt-MAX_DEPTH-clause-woken g c = let r = c.try_again in woken_none c.args.seat.now r.new.seat r.ensures.woken (try_lock_grants c.args.self.now.limits (sight c.args.seat.now) (sight r.new.seat) r.result (returns-then-seat-lt-MAX_DEPTH-clause-steps g c))
+
+pub returns-then-asleep-clause-woken : goal.returns-then-asleep-clause-woken
+returns-then-asleep-clause-woken g c = let r = c.try_lock_any in woken_none c.args.seat.now r.new.seat r.ensures.woken (try_lock_grants c.args.self.now.limits (sight c.args.seat.now) (sight r.new.seat) r.result (c.try_lock_any.ensures.steps))

@@ -3,6 +3,7 @@ use Rattle.lfm_protocol.specs.declared.answers.Answer.{Answer}
 use Rattle.lfm_protocol.specs.declared.answers.Turn.TheVariants.{Ended}
 use Rattle.lfm_mutex.specs.calls.Sight.{sight}
 use Rattle.lfm_mutex.proofs.runs.ShortCalls.{receives_few}
+use Rattle.lfm_mutex.proofs.runs.Woken.{woken_none, try_receive_grants}
 use Rattle.lfm_mutex.proofs.mutex.Mutex.try_receive.Goals as goal
 
 pub returns-in-Ended-Got-clause-bounded : goal.returns-in-Ended-Got-clause-bounded
@@ -21,3 +22,9 @@ returns-in-Ended-Got-clause-receives g c = let e : c.run-turn.result.0 ≡ Ended
 
 pub returns-in-Ended-Got-clause-steps : goal.returns-in-Ended-Got-clause-steps
 returns-in-Ended-Got-clause-steps g c = let e : c.run-turn.result.0 ≡ Ended (Answer.Got c.in-Ended-Got.got) = search rules in rw e at c.run-turn.ensures.made
+
+pub returns-then-seat-eq0-clause-woken : goal.returns-then-seat-eq0-clause-woken
+returns-then-seat-eq0-clause-woken g c = let r = c.receive_asleep in woken_none c.args.seat.now r.new.seat r.ensures.woken (try_receive_grants c.args.self.now.limits (sight c.args.seat.now) (sight r.new.seat) (Ok r.result) r.ensures.made.made)
+
+pub returns-in-Ended-Got-clause-woken : goal.returns-in-Ended-Got-clause-woken
+returns-in-Ended-Got-clause-woken g c = let r = c.run-turn in woken_none c.args.seat.now r.new.seat r.ensures.woken (try_receive_grants c.args.self.now.limits (sight c.args.seat.now) (sight r.new.seat) (Ok c.in-Ended-Got.got) (returns-in-Ended-Got-clause-steps g c))

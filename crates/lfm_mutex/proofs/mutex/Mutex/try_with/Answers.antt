@@ -3,6 +3,8 @@ use Rattle.lfm_mutex.specs.Belongs.{limits_of}
 use Rattle.lfm_mutex.specs.calls.Sections.{UnlocksSo, with_value}
 use Rattle.lfm_mutex.specs.calls.Sight.{MayRelease, sight}
 use Rattle.lfm_mutex.proofs.SectionEnds.{stands_after_try, holds_after_try}
+use Rattle.lfm_mutex.specs.calls.WakeUps.{grants_of}
+use Rattle.lfm_mutex.proofs.runs.Woken.{woken_none, woken_join}
 use Rattle.lfm_mutex.proofs.mutex.Mutex.try_with.Goals as goal
 
 pub change-answer-requires-clause-holds : goal.change-answer-requires-clause-holds
@@ -39,3 +41,7 @@ returns-clause-bounded g c = let a = c.in_ok-_locked.ensures.bounded in let b = 
 
 pub unreachable-requires : goal.unreachable-requires
 unreachable-requires g c = search rules
+
+pub returns-clause-woken : goal.returns-clause-woken
+returns-clause-woken g c = let f = c.try_lock.new.seat in let k = c.change-answer in
+    woken_join c.args.seat.now f c.unlock.new.seat c.try_lock.ensures.woken (woken_join f k.new.seat c.unlock.new.seat (woken_none f k.new.seat k.ensures.woken (ap (λ s. grants_of s.trail) k.ensures.changes.4)) c.unlock.ensures.woken)

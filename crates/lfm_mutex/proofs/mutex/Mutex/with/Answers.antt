@@ -1,8 +1,10 @@
-use Rattle.std.proofs.Common.{subst, sym, Ok}
+use Rattle.std.proofs.Common.{subst, sym, Ok, ap}
 use Rattle.lfm_mutex.specs.Belongs.{limits_of}
 use Rattle.lfm_mutex.specs.calls.Sections.{UnlocksSo, with_value}
 use Rattle.lfm_mutex.specs.calls.Sight.{MayRelease, sight}
 use Rattle.lfm_mutex.proofs.SectionEnds.{stands_after_lock, holds_after_lock}
+use Rattle.lfm_mutex.specs.calls.WakeUps.{grants_of}
+use Rattle.lfm_mutex.proofs.runs.Woken.{woken_none, woken_join}
 use Rattle.lfm_mutex.proofs.mutex.Mutex.with.Goals as goal
 
 pub change-answer-requires-clause-holds : goal.change-answer-requires-clause-holds
@@ -33,3 +35,7 @@ returns-clause-section g c = let x = c.change-answer.ensures.changes in record {
 pub returns-clause-same : goal.returns-clause-same
 returns-clause-same g c = stands_after_lock g.T.Kept.follows g.T.Kept.fits (limits_of c.args.self.now).budget (sight c.args.seat.now) (sight c.lock_barging.new.seat) (sight c.unlock.new.seat)
     c.change-answer.ensures.changes.1 c.in_ok-_locked._locked c.in-Ok.field-0 c.in_ok-_locked.ensures.locks (left g c).0
+
+pub returns-clause-woken : goal.returns-clause-woken
+returns-clause-woken g c = let f = c.lock_barging.new.seat in let k = c.change-answer in
+    woken_join c.args.seat.now f c.unlock.new.seat c.lock_barging.ensures.woken (woken_join f k.new.seat c.unlock.new.seat (woken_none f k.new.seat k.ensures.woken (ap (λ s. grants_of s.trail) k.ensures.changes.4)) c.unlock.ensures.woken)

@@ -1,6 +1,9 @@
 use Rattle.std.proofs.Common.{sym, ◌∙◌, Some}
 use Rattle.std.proofs.lemmas.Bool.{false≢true}
 use Rattle.lfm_mutex.proofs.runs.OneStep.{steps_on, leaves_at, keeps_at}
+use Rattle.lfm_table.proofs.tables.Granted.{none_beside}
+use Rattle.lfm_mutex.proofs.runs.WakeUps.{grants_none}
+use Rattle.lfm_mutex.proofs.runs.Woken.{woken_none}
 use Rattle.lfm_mutex.proofs.steps.kinds.make_within.Goals as goal
 
 pub make_waking_none-requires-clause-leaves : goal.make_waking_none-requires-clause-leaves
@@ -10,3 +13,7 @@ make_waking_none-requires-clause-leaves g c κs within = let s = c.args.seat.now
 pub returns-clause-steps : goal.returns-clause-steps
 returns-clause-steps g c = let s = c.args.seat.now in let b = c.make_waking_none.new.seat in
     steps_on g.T.Kept.follows g.T.Kept.fits (Some c.args.kind) s.number b.number s.limits s.standing b.standing s.place.me b.place.me s.moving b.moving c.make_waking_none.result s.seated c.make_waking_none.ensures.same.0 c.requires.is_next c.make_waking_none.ensures.event
+
+pub returns-clause-woken : goal.returns-clause-woken
+returns-clause-woken g c = let s = c.args.seat.now in let f = c.make_waking_none in
+    woken_none s f.new.seat f.ensures.woken (grants_none g.T.Kept.follows g.T.Kept.fits _ _ _ _ _ _ _ f.ensures.event (none_beside s.standing.point c.args.kind c.requires.is_next c.requires.other))

@@ -1,6 +1,9 @@
 use Rattle.std.proofs.Common.{Some}
 use Rattle.lfm_protocol.specs.declared.kinds.Kind.{Kind}
 use Rattle.lfm_mutex.proofs.runs.OneStep.{steps_on, leaves_at}
+use Rattle.lfm_table.proofs.tables.Granted.{none_beside}
+use Rattle.lfm_mutex.proofs.runs.WakeUps.{grants_none}
+use Rattle.lfm_mutex.proofs.runs.Woken.{woken_none}
 use Rattle.lfm_mutex.proofs.steps.kinds.store_owner.Goals as goal
 
 pub make_waking_none-requires-clause-leaves : goal.make_waking_none-requires-clause-leaves
@@ -12,3 +15,7 @@ returns-clause-steps g c = let s = c.args.seat.now in let b = c.make_waking_none
 
 pub make_waking_none-requires-clause-is_next : goal.make_waking_none-requires-clause-is_next
 make_waking_none-requires-clause-is_next g c κs within = c.requires.is_next
+
+pub returns-clause-woken : goal.returns-clause-woken
+returns-clause-woken g c = let s = c.args.seat.now in let f = c.make_waking_none in
+    woken_none s f.new.seat f.ensures.woken (grants_none g.T.Kept.follows g.T.Kept.fits _ _ _ _ _ _ _ f.ensures.event (none_beside s.standing.point Kind.OwnerStore c.requires.is_next (λ e. cc)))

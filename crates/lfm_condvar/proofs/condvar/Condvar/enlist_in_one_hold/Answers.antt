@@ -1,4 +1,4 @@
-use Rattle.std.proofs.Common.{◌≡◌, ◌≤◌, ℕ, Result, Ok, Err, refl, sym, ap, ◌∙◌, subst, arith}
+use Rattle.std.proofs.Common.{rules, ◌≡◌, ◌≤◌, ℕ, Result, Ok, Err, refl, sym, ap, ◌∙◌, subst, arith}
 use Rattle.lfm_mutex.specs.Belongs.{limits_of}
 use Rattle.lfm_mutex.specs.calls.Sight.{Sight, sight}
 use Rattle.lfm_condvar.specs.Belongs.{cond_limits, cond_sight, cond_tries}
@@ -39,5 +39,4 @@ returns-clause-busy g c = let a = c.args in let h = c.in-Ok.ensures.held in let 
     only_busy (limits_of a.mutex.now) (sight c.lock_list.new.cond).number (sight a.seat.now) (sight c.enlist_in_hand-enlisted.new.seat) e.0 e.1 (ticket_of c.enlist_in_hand-enlisted.result.0) c.requires.may (omega arith) e.3
 
 pub invariant_of-cond : goal.invariant_of-cond
-invariant_of-cond g c = let a = c.args in let h = c.in-Ok.ensures.held in let e = c.enlist_in_hand-enlisted.ensures.enlists in let l = c.leave_list.ensures in
-    record { kept = (one_hold (cond_limits a.self.now) (cond_sight a.cond.now) (sight c.lock_list.new.cond) (sight c.enlist_in_hand-enlisted.new.cond) (sight c.leave_list.new.cond) h.0 e.0 e.1 h.1 e.2 l.leaves l.keeps.0 l.keeps.1).kept }
+invariant_of-cond g c = search rules

@@ -65,7 +65,7 @@ still_conditions seats us vs same wide i v at = let e = same.each i v at in e.2.
 -- the cond seats of a condition stay its cond seats
 still_of_condvar : (c : CondSeat) (u v : Condvar) → SameButPace u v → OfCondvar c u → OfCondvar c v
 still_of_condvar c u v same of = (
-  (of.0.0 ∙ ap (λ t. t.shared.table_id) (sym same.table), of.0.1 ∙ sym same.limits),
+  (of.0.0 ∙ ap (λ t. t.table_id) (sym same.table), of.0.1 ∙ sym same.limits),
   subst (λ l. MadeFor l (cond_sight c)) (sym same.limits) of.1,
 )
 
@@ -80,7 +80,7 @@ module _ {O A R : Type 0} {K : _} where
   pub still_of_monitor : (p : Pass O A R K) (m : Monitor O A R K) (mutex : Mutex (Journaled O A R K)) (conditions : List Condvar) → mutex.table ≡ m.mutex.table → mutex.limits ≡ m.mutex.limits → SameButPaces (conditions_in m) conditions
       → OfMonitor p m → OfMutex p.seat mutex × Began (opening_of m) (limits_of mutex).seats (share_of m) (sight p.seat) × OfConditions (cond_seats_of p) conditions
   still_of_monitor p m mutex conditions table limits same of = (
-    (of.0.0 ∙ ap (λ t. t.shared.table_id) (sym table), of.0.1 ∙ sym limits),
+    (of.0.0 ∙ ap (λ t. t.table_id) (sym table), of.0.1 ∙ sym limits),
     (λ l is. let began = of.1 l is in (began.0, began.1 ∙ ap (λ l. l.seats) (sym limits), began.2)),
     still_of_these (cond_seats_of p) (conditions_in m) conditions same of.2,
   )

@@ -3,15 +3,21 @@ use Rattle.std.specs.Prelude.{◌≡◌, ℕ, ◌≤◌, List, [], ◌++◌, Opt
 use Rattle.lfm_mutex.specs.calls.Trails.{Seen}
 use Rattle.lfm_mutex.specs.calls.WakeUps.{as_list, grants_of}
 
+-- of two, the one that is spent when the second is held back
+abbrev pub earlier_of : Option ℕ → Option ℕ → Option ℕ
+earlier_of held None = None
+earlier_of held (Some t) = held
+
 -- the second of two, if it is there
 abbrev pub later_of : Option ℕ → Option ℕ → Option ℕ
 later_of held None = held
 later_of held (Some t) = Some t
 
--- The steps from one trail to the other granted the user mutex to these seats in turn: those that were woken meanwhile, and the last
--- one, whose wake-up is held back. If no wake-up is held back, no seat was granted it
-pub record HoldsLastBack (seats : ℕ) (wake_up : Option ℕ) (before after : List Seen) : Type 0 where
+-- The steps from one trail to the other granted the user mutex to these seats in turn: those that were woken meanwhile, which the list
+-- `had` has become `has` by, and the last one, whose wake-up is held back. If no wake-up is held back, no seat was granted it
+pub record HoldsLastBack (seats : ℕ) (wake_up : Option ℕ) (before after : List Seen) (had has : List ℕ) : Type 0 where
   pub woken : List ℕ
+  pub told : has ≡ had ++ woken
   pub granted : grants_of after ≡ grants_of before ++ (woken ++ as_list wake_up)
   pub last : wake_up ≡ None → woken ≡ []
   pub inside : (t : ℕ) → wake_up ≡ Some t → t ≤ seats

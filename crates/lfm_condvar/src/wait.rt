@@ -3,6 +3,7 @@
 ghost use Rattle.std.specs.Prelude.{◌≡◌, ◌<◌, ◌≤◌, Some, IfOk, length};
 ghost use Rattle.lfm_mutex.specs.Belongs.{Beside, OfMutex, limits_of};
 ghost use Rattle.lfm_mutex.specs.calls.Sight.{sight, MayRelease};
+ghost use Rattle.lfm_mutex.specs.calls.Woken.{WokenAsGranted};
 ghost use Rattle.lfm_condvar.specs.Belongs.{OfCondvar, cond_limits, cond_sight, cond_tries};
 ghost use Rattle.lfm_condvar.specs.Waits.{BeginWaitEnds, WaitEnds, ticket_of};
 
@@ -48,6 +49,7 @@ impl Condvar {
         requires belongs { OfCondvar cond.old self.now × OfMutex seat.old mutex.now }
         requires leaves { MayRelease T.follows T.fits (sight seat.old) }
         ensures belongs { OfCondvar cond.new self.now × Beside seat.old seat.new }
+        ensures woken { WokenAsGranted seat.old seat.new }
         ensures begins { BeginWaitEnds (limits_of mutex.now) (cond_limits self.now) (cond_tries self.now) (cond_sight cond.old) (cond_sight cond.new) (sight seat.old) (sight seat.new) result }
     {
         match self.begin_wait_counted(rt, cond, mutex, seat) {
@@ -67,6 +69,7 @@ impl Condvar {
         requires belongs { OfCondvar cond.old self.now × OfMutex seat.old mutex.now }
         requires leaves { MayRelease T.follows T.fits (sight seat.old) }
         ensures belongs { OfCondvar cond.new self.now × Beside seat.old seat.new }
+        ensures woken { WokenAsGranted seat.old seat.new }
         ensures begins { BeginWaitEnds (limits_of mutex.now) (cond_limits self.now) (cond_tries self.now) (cond_sight cond.old) (cond_sight cond.new) (sight seat.old) (sight seat.new) (ticket_of result) }
         ensures ahead { IfOk result (λ e. (v : _) × ((cond_sight cond.new).found ≡ Some v) × (e.ahead ≡ length v.list.items)) }
     {
@@ -80,7 +83,7 @@ impl Condvar {
             return Err(Refusal::NoSuchSeat);
         }
         let (enlisted, wake_up) = self.enlist_in_one_hold(rt, cond, mutex, seat);
-        mutex.wake(wake_up);
+        mutex.wake_from(seat, wake_up);
         enlisted
     }
 
@@ -105,6 +108,7 @@ impl Condvar {
         requires belongs { OfCondvar cond.old self.now × OfMutex seat.old mutex.now }
         requires leaves { MayRelease T.follows T.fits (sight seat.old) }
         ensures belongs { OfCondvar cond.new self.now × Beside seat.old seat.new }
+        ensures woken { WokenAsGranted seat.old seat.new }
         ensures waits { WaitEnds T.follows T.fits (limits_of mutex.now) (cond_limits self.now) (cond_tries self.now) (cond_sight cond.old) (cond_sight cond.new) (sight seat.old) (sight seat.new) result }
     {
         let enlisted = self.begin_wait_counted(rt, cond, mutex, seat)?;

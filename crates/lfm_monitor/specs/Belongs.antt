@@ -3,6 +3,7 @@ use Rattle.std.specs.Prelude.{◌≡◌, ℕ, List, length}
 use Rattle.lfm_protocol.specs.declared.limits.Limits.{Limits}
 use Rattle.lfm_mutex.specs.Belongs.{OfMutex, limits_of, tries_of}
 use Rattle.lfm_mutex.specs.calls.Sight.{Sight, sight}
+use Rattle.lfm_mutex.specs.calls.Woken.{WokenAsGranted}
 use Rattle.lfm_condvar.specs.declared.condvar.Condvar.{Condvar}
 use Rattle.lfm_condvar.specs.declared.cond_seat.CondSeat.{CondSeat}
 use Rattle.lfm_monitor.specs.declared.journaled.Journaled.{Journaled}
@@ -55,6 +56,10 @@ module _ {O A R : Type 0} {K : _} where
   -- the pass's seat as the mutex shows it
   abbrev pub pass_sight : Pass O A R K → Sight (Journaled O A R K)
   pass_sight p = sight p.seat
+
+  -- from one to the other, the pass has woken just those that it granted the monitor, in order
+  abbrev pub PassWokenAsGranted : Pass O A R K → Pass O A R K → Type 0
+  PassWokenAsGranted p q = WokenAsGranted p.seat q.seat
 
   -- the journal's length when the pass left last
   abbrev pub seen_of : Pass O A R K → ℕ

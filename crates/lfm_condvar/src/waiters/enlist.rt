@@ -3,6 +3,7 @@ ghost use Rattle.std.specs.Prelude.{◌≡◌, ◌<◌, ◌≤◌, MatchOption, 
 ghost use Rattle.lfm_mutex.specs.Belongs.{Beside, OfMutex, budget_of, limits_of};
 ghost use Rattle.lfm_mutex.specs.calls.Sight.{sight, MayRelease, WaitRefused};
 ghost use Rattle.lfm_mutex.specs.calls.WakeUps.{Wakes};
+ghost use Rattle.lfm_mutex.specs.calls.Woken.{WakesNobody, WokenAsGranted};
 ghost use Rattle.lfm_condvar.specs.Keeping.{WaitersFollow};
 ghost use Rattle.lfm_condvar.specs.Waits.{Enlists, MayWait};
 
@@ -46,11 +47,12 @@ pub fn enlist<T: Kept>(
     requires by { (by ≤ waiters.old.seats) × (slice_index waiters.old.counts.items by < waiters.old.budget) }
     requires leaves { MayRelease T.follows T.fits (sight seat.old) }
     ensures belongs { Beside seat.old seat.new }
+    ensures woken { WokenAsGranted seat.old seat.new }
     ensures enlists { Enlists (limits_of mutex.now) by (sight seat.old) (sight seat.new) waiters.old waiters.new result }
     ensures follows { WaitersFollow by waiters.old waiters.new }
 {
     let (ticket, wake_up) = enlist_without_waking(waiters, by, mutex, seat);
-    mutex.wake(wake_up);
+    mutex.wake_from(seat, wake_up);
     ticket
 }
 
@@ -66,6 +68,7 @@ pub(crate) fn enlist_without_waking<T: Kept>(
     requires by { (by ≤ waiters.old.seats) × (slice_index waiters.old.counts.items by < waiters.old.budget) }
     requires leaves { MayRelease T.follows T.fits (sight seat.old) }
     ensures belongs { Beside seat.old seat.new }
+    ensures woken { WakesNobody seat.old seat.new }
     ensures enlists { Enlists (limits_of mutex.now) by (sight seat.old) (sight seat.new) waiters.old waiters.new result.0 }
     ensures follows { WaitersFollow by waiters.old waiters.new }
     ensures wakes { Wakes (limits_of mutex.now).seats result.1 (sight seat.old).trail (sight seat.new).trail }

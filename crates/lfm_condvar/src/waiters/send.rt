@@ -3,6 +3,7 @@ ghost use Rattle.std.specs.Prelude.{◌≡◌, ◌≤◌, ℕ};
 ghost use Rattle.lfm_mutex.specs.Belongs.{Beside, OfMutex, limits_of};
 ghost use Rattle.lfm_mutex.specs.calls.Sight.{sight};
 ghost use Rattle.lfm_mutex.specs.calls.WakeUps.{Wakes};
+ghost use Rattle.lfm_mutex.specs.calls.Woken.{WakesNobody, WokenAsGranted};
 ghost use Rattle.lfm_condvar.specs.Keeping.{WaitersFollow};
 ghost use Rattle.lfm_condvar.specs.Wakes.{SendsBy, SendsOldest};
 
@@ -25,12 +26,13 @@ pub fn send_oldest<T: Kept>(
     requires belongs { OfMutex seat.old mutex.now }
     requires wide { waiters.old.seats ≤ (limits_of mutex.now).seats }
     ensures belongs { Beside seat.old seat.new }
+    ensures woken { WokenAsGranted seat.old seat.new }
     ensures sends { SendsOldest (limits_of mutex.now).seats (sight seat.old) (sight seat.new) waiters.old waiters.new result }
     ensures steps { SendsBy (limits_of mutex.now) (sight seat.old) (sight seat.new) result }
     ensures follows { (s : ℕ) → WaitersFollow s waiters.old waiters.new }
 {
     let (sent, wake_up) = send_oldest_without_waking(waiters, mutex, seat);
-    mutex.wake(wake_up);
+    mutex.wake_from(seat, wake_up);
     sent
 }
 
@@ -45,6 +47,7 @@ pub(crate) fn send_oldest_without_waking<T: Kept>(
     requires belongs { OfMutex seat.old mutex.now }
     requires wide { waiters.old.seats ≤ (limits_of mutex.now).seats }
     ensures belongs { Beside seat.old seat.new }
+    ensures woken { WakesNobody seat.old seat.new }
     ensures sends { SendsOldest (limits_of mutex.now).seats (sight seat.old) (sight seat.new) waiters.old waiters.new result.0 }
     ensures steps { SendsBy (limits_of mutex.now) (sight seat.old) (sight seat.new) result.0 }
     ensures follows { (s : ℕ) → WaitersFollow s waiters.old waiters.new }

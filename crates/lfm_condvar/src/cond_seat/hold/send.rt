@@ -1,12 +1,13 @@
 //! How waiters are sent in one hold of the inner mutex.
-ghost use Rattle.std.specs.Prelude.{◌≡◌, ◌<◌, ◌≤◌, ℕ, Some, false};
+ghost use Rattle.std.specs.Prelude.{◌≡◌, ◌<◌, ◌≤◌, ◌++◌, ℕ, Some, false};
 ghost use Rattle.lfm_mutex.specs.Belongs.{Beside, OfMutex, limits_of};
 ghost use Rattle.lfm_mutex.specs.calls.Sight.{sight};
-ghost use Rattle.lfm_mutex.specs.calls.WakeUps.{Wakes};
+ghost use Rattle.lfm_mutex.specs.calls.WakeUps.{Wakes, as_list};
+ghost use Rattle.lfm_mutex.specs.calls.Woken.{WakesNobody, woken_of};
 ghost use Rattle.lfm_condvar.specs.Belongs.{OfCondvar, cond_limits, cond_sight, cond_tries};
 ghost use Rattle.lfm_condvar.specs.Holds.{Rewrites};
 ghost use Rattle.lfm_condvar.specs.Keeping.{WaitersFollow};
-ghost use Rattle.lfm_condvar.specs.HeldBack.{HoldsLastBack, later_of};
+ghost use Rattle.lfm_condvar.specs.HeldBack.{HoldsLastBack, earlier_of, later_of};
 ghost use Rattle.lfm_condvar.specs.Wakes.{SendsAll, SendsBy, SendsOldest, WakeAllEnds, WakeOneEnds};
 
 use super::{leave_list, lock_list};
@@ -20,16 +21,20 @@ use std::sync::Wait;
 // Holds back the later of two wake-ups, if there are two, and spends the earlier one at once: no memory is taken to keep both.
 fn hold_back<T: Kept>(
     mutex: &Mutex<T>,
+    seat: &mut Seat<T>,
     held: Option<WakeUp>,
     next: Option<WakeUp>,
 ) -> Option<WakeUp>
     requires inside { (t : ℕ) → held ≡ Some t → t ≤ (limits_of mutex.now).seats }
+    ensures belongs { Beside seat.old seat.new }
+    ensures same { sight seat.new ≡ sight seat.old }
     ensures later { result ≡ later_of held next }
+    ensures woken { woken_of seat.new ≡ woken_of seat.old ++ as_list (earlier_of held next) }
 {
     match next {
         None => held,
         Some(wake_up) => {
-            mutex.wake(held);
+            mutex.wake_from(seat, held);
             Some(wake_up)
         }
     }
@@ -50,13 +55,13 @@ fn send_all<T: Kept>(
     ensures sends { SendsAll (limits_of mutex.now).seats (sight seat.old) (sight seat.new) waiters.old waiters.new result.0 }
     ensures steps { SendsBy (limits_of mutex.now) (sight seat.old) (sight seat.new) result.0 }
     ensures follows { (s : ℕ) → WaitersFollow s waiters.old waiters.new }
-    ensures wakes { HoldsLastBack (limits_of mutex.now).seats result.1 (sight seat.old).trail (sight seat.new).trail }
+    ensures wakes { HoldsLastBack (limits_of mutex.now).seats result.1 (sight seat.old).trail (sight seat.new).trail (woken_of seat.old) (woken_of seat.new) }
 {
     let mut sent = 0u64;
     let mut held = None;
     'sends: loop {
         let (answer, wake_up) = send_oldest_without_waking(waiters, mutex, seat);
-        held = hold_back(mutex, held, wake_up);
+        held = hold_back(mutex, seat, held, wake_up);
         let oldest = match answer {
             Ok(oldest) => oldest,
             Err(refusal) => return (Err(refusal), held),
@@ -78,6 +83,7 @@ fn send_oldest_in_hand<T: Kept>(
     requires held { 0 < (sight cond.old).depth }
     requires wide { (v : _) → (sight cond.old).value ≡ Some v → v.seats ≤ (limits_of mutex.now).seats }
     ensures belongs { Beside cond.old cond.new × Beside seat.old seat.new }
+    ensures woken { WakesNobody seat.old seat.new }
     ensures sends { (v : _) × (w : _) × Rewrites (sight cond.old) (sight cond.new) v w × SendsOldest (limits_of mutex.now).seats (sight seat.old) (sight seat.new) v w result.0 }
     ensures steps { SendsBy (limits_of mutex.now) (sight seat.old) (sight seat.new) result.0 }
     ensures wakes { Wakes (limits_of mutex.now).seats result.1 (sight seat.old).trail (sight seat.new).trail }
@@ -101,7 +107,7 @@ fn send_all_in_hand<T: Kept>(
     ensures belongs { Beside cond.old cond.new × Beside seat.old seat.new }
     ensures sends { (v : _) × (w : _) × Rewrites (sight cond.old) (sight cond.new) v w × SendsAll (limits_of mutex.now).seats (sight seat.old) (sight seat.new) v w result.0 }
     ensures steps { SendsBy (limits_of mutex.now) (sight seat.old) (sight seat.new) result.0 }
-    ensures wakes { HoldsLastBack (limits_of mutex.now).seats result.1 (sight seat.old).trail (sight seat.new).trail }
+    ensures wakes { HoldsLastBack (limits_of mutex.now).seats result.1 (sight seat.old).trail (sight seat.new).trail (woken_of seat.old) (woken_of seat.new) }
 {
     let Some(waiters) = cond.value_mut() else {
         unreachable!()
@@ -123,6 +129,7 @@ impl Condvar {
         requires wide { (cond_limits self.now).seats ≤ (limits_of mutex.now).seats }
         requires awake { (sight seat.old).asleep ≡ false }
         ensures belongs { OfCondvar cond.new self.now × Beside seat.old seat.new }
+        ensures woken { WakesNobody seat.old seat.new }
         ensures sends { WakeOneEnds (limits_of mutex.now).seats (cond_limits self.now) (cond_tries self.now) (cond_sight cond.old) (cond_sight cond.new) (sight seat.old) (sight seat.new) result.0 }
         ensures steps { SendsBy (limits_of mutex.now) (sight seat.old) (sight seat.new) result.0 }
         ensures wakes { Wakes (limits_of mutex.now).seats result.1 (sight seat.old).trail (sight seat.new).trail }
@@ -151,7 +158,7 @@ impl Condvar {
         ensures belongs { OfCondvar cond.new self.now × Beside seat.old seat.new }
         ensures sends { WakeAllEnds (limits_of mutex.now).seats (cond_limits self.now) (cond_tries self.now) (cond_sight cond.old) (cond_sight cond.new) (sight seat.old) (sight seat.new) result.0 }
         ensures steps { SendsBy (limits_of mutex.now) (sight seat.old) (sight seat.new) result.0 }
-        ensures wakes { HoldsLastBack (limits_of mutex.now).seats result.1 (sight seat.old).trail (sight seat.new).trail }
+        ensures wakes { HoldsLastBack (limits_of mutex.now).seats result.1 (sight seat.old).trail (sight seat.new).trail (woken_of seat.old) (woken_of seat.new) }
     {
         match lock_list(&self.inner, rt, &mut cond.seat) {
             Ok(()) => {}

@@ -2,6 +2,7 @@ use Rattle.lfm_mutex.specs.Belongs.{limits_of}
 use Rattle.lfm_mutex.specs.calls.Sight.{sight}
 use Rattle.lfm_condvar.specs.Belongs.{cond_limits, cond_sight, cond_tries}
 use Rattle.lfm_condvar.proofs.Enlisted.{ends_refused}
+use Rattle.lfm_mutex.proofs.runs.Woken.{woken_join}
 use Rattle.lfm_condvar.proofs.condvar.Condvar.wait.Goals as goal
 
 pub returns-in_err-enlisted-clause-waits : goal.returns-in_err-enlisted-clause-waits
@@ -11,3 +12,6 @@ returns-in_err-enlisted-clause-waits g c =
 
 pub returns-clause-waits : goal.returns-clause-waits
 returns-clause-waits g c = let r = c.in-Ok.ensures in (sight c.begin_wait_counted.new.seat, c.in_ok-enlisted.ensures.begins, (r.receives, r.steps))
+
+pub returns-clause-woken : goal.returns-clause-woken
+returns-clause-woken g c = woken_join c.args.seat.now c.begin_wait_counted.new.seat c.receive_lock_within.new.seat c.begin_wait_counted.ensures.woken c.receive_lock_within.ensures.woken

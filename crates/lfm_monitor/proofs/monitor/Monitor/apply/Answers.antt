@@ -2,6 +2,8 @@ use Rattle.std.proofs.Common.{ap, arith, refl, sym}
 use Rattle.lfm_mutex.specs.calls.Sight.{sight}
 use Rattle.lfm_monitor.specs.Belongs.{opening_of, passes_of, share_of}
 use Rattle.lfm_monitor.proofs.Knowing.{may_did, did}
+use Rattle.lfm_mutex.specs.calls.WakeUps.{grants_of}
+use Rattle.lfm_mutex.proofs.runs.Woken.{woken_join, woken_none}
 use Rattle.lfm_monitor.proofs.monitor.Monitor.apply.Goals as goal
 
 pub write_did-reply-requires-clause-may : goal.write_did-reply-requires-clause-may
@@ -18,3 +20,15 @@ returns-clause-applies g c = let e = c.write_did-reply.ensures in let w = e.writ
 
 pub returns-then-pass-self-clause-applies : goal.returns-then-pass-self-clause-applies
 returns-then-pass-self-clause-applies g c = (sym c.if-asleep.ensures, omega arith, c.if-pass-self.true, refl, refl)
+
+pub returns-clause-woken : goal.returns-clause-woken
+returns-clause-woken g c = let p = c.args.pass.now in let w = c.write_did-reply in woken_none p.seat w.new.seat w.ensures.writes.7 (ap (λ u. grants_of u.trail) w.ensures.writes.3)
+
+pub returns-then-asleep-clause-woken : goal.returns-then-asleep-clause-woken
+returns-then-asleep-clause-woken g c = woken_none c.args.pass.now.seat c.args.pass.now.seat refl refl
+
+pub returns-then-depth-eq0-clause-woken : goal.returns-then-depth-eq0-clause-woken
+returns-then-depth-eq0-clause-woken g c = woken_none c.args.pass.now.seat c.args.pass.now.seat refl refl
+
+pub returns-then-pass-self-clause-woken : goal.returns-then-pass-self-clause-woken
+returns-then-pass-self-clause-woken g c = woken_none c.args.pass.now.seat c.args.pass.now.seat refl refl

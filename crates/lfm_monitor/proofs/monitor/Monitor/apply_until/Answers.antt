@@ -4,10 +4,11 @@ use Rattle.lfm_model.specs.declared.refusals.Refusal.{Refusal}
 use Rattle.lfm_monitor.specs.Belongs.{mine_of, pass_sight, seen_of, share_of}
 use Rattle.lfm_monitor.specs.Tries.{ApplyUntilEnds}
 use Rattle.lfm_monitor.proofs.Trying.{applied_depth, handed_on, waited_depth}
+use Rattle.lfm_mutex.proofs.runs.Woken.{woken_join, woken_none}
 use Rattle.lfm_monitor.proofs.monitor.Monitor.apply_until.Goals as goal
 
 pub tries-init : goal.tries-init
-tries-init g c = record { belongs = c.requires.belongs; depth = refl; number = refl; tries = (zero, refl) }
+tries-init g c = record { belongs = c.requires.belongs; woken = woken_none c.args.pass.now.seat c.args.pass.now.seat refl refl; depth = refl; number = refl; tries = (zero, refl) }
 
 -- one more try was in vain
 pub tries-preserved : goal.tries-preserved
@@ -16,6 +17,7 @@ tries-preserved g c = let i = c.tries.invariant in let a = c.in_ok-reply.ensures
   depth = waited_depth c.in_ok-_waited._waited (pass_sight p) (pass_sight q) (seen_of p) (seen_of q) (mine_of p) (mine_of q) w.returns
       ∙ (applied_depth g.O.Object.after g.O.Object.reply (share_of c.args.self.now) c.args.op c.in_ok-reply.reply (pass_sight l) (pass_sight p) (mine_of l) (mine_of p) a.applies ∙ i.depth);
   number = w.number ∙ (a.number ∙ i.number);
+  woken = woken_join c.args.pass.now.seat l.seat q.seat i.woken (woken_join l.seat p.seat q.seat a.woken w.woken);
   tries = (
     suc i.tries.0,
     (
@@ -50,3 +52,12 @@ returns-then-accepts-clause-applied g c = let a = c.in_ok-reply.ensures in (c.tr
 pub returns-then-accepts-clause-tries : goal.returns-then-accepts-clause-tries
 returns-then-accepts-clause-tries g c = let i = c.tries.invariant in let a = c.in_ok-reply.ensures in
     (i.tries.0, c.tries.pass, i.belongs, i.tries.1, ((a.applies, a.seen, a.conditions), subst (λ b. FnReturnsAt g.F.Fn c.args.done c.in_ok-reply.reply b) c.if-accepts.true c.accepts.ensures))
+
+pub returns-in_err-reply-clause-woken : goal.returns-in_err-reply-clause-woken
+returns-in_err-reply-clause-woken g c = woken_join c.args.pass.now.seat c.tries.pass.seat c.apply.new.pass.seat c.tries.invariant.woken c.apply.ensures.woken
+
+pub returns-then-accepts-clause-woken : goal.returns-then-accepts-clause-woken
+returns-then-accepts-clause-woken g c = woken_join c.args.pass.now.seat c.tries.pass.seat c.apply.new.pass.seat c.tries.invariant.woken c.apply.ensures.woken
+
+pub returns-in_err-_waited-clause-woken : goal.returns-in_err-_waited-clause-woken
+returns-in_err-_waited-clause-woken g c = woken_join c.args.pass.now.seat c.apply.new.pass.seat c.wait.new.pass.seat (woken_join c.args.pass.now.seat c.tries.pass.seat c.apply.new.pass.seat c.tries.invariant.woken c.apply.ensures.woken) c.wait.ensures.woken

@@ -7,6 +7,8 @@ use Rattle.lfm_monitor.proofs.Trails.{rewritten}
 use Rattle.lfm_monitor.proofs.Asking.{again_began, ask_refused, ask_steps, last_began}
 use Rattle.lfm_monitor.proofs.Refusing.{same_began, same_kept}
 use Rattle.lfm_monitor.proofs.Knowing.{gained, may_all, room_left, arrived, again, asleep, of_next}
+use Rattle.lfm_mutex.specs.calls.WakeUps.{grants_of}
+use Rattle.lfm_mutex.proofs.runs.Woken.{woken_join, woken_none}
 use Rattle.lfm_monitor.proofs.monitor.Monitor.ask.Goals as goal
 
 pub write_took-requires-clause-may : goal.write_took-requires-clause-may
@@ -135,3 +137,18 @@ returns-in-Asleep-clause-conditions g c = refl
 pub overflow_add-pass : goal.overflow_add-pass
 overflow_add-pass g c = let p = c.args.pass.now in let m = c.args.self.now in let gains = rw c.in-Held.is at c.in_ok-asked.ensures.asks in
     let room : p.mine < m.share = room_left m.share p.mine (λ h. c.if-lacks_entry.ensures.1 (gains.0, gains.1, h)) in omega arith
+
+pub returns-then-lacks_entry-clause-woken : goal.returns-then-lacks_entry-clause-woken
+returns-then-lacks_entry-clause-woken g c = woken_none c.args.pass.now.seat c.args.pass.now.seat refl refl
+
+pub returns-in_err-asked-clause-woken : goal.returns-in_err-asked-clause-woken
+returns-in_err-asked-clause-woken g c = c.ask.ensures.woken
+
+pub returns-in-Again-clause-woken : goal.returns-in-Again-clause-woken
+returns-in-Again-clause-woken g c = c.ask.ensures.woken
+
+pub returns-in-Asleep-clause-woken : goal.returns-in-Asleep-clause-woken
+returns-in-Asleep-clause-woken g c = c.ask.ensures.woken
+
+pub returns-clause-woken : goal.returns-clause-woken
+returns-clause-woken g c = let p = c.args.pass.now in woken_join p.seat c.ask.new.seat c.write_took.new.seat c.ask.ensures.woken (woken_none c.ask.new.seat c.write_took.new.seat c.write_took.ensures.7 (ap (λ u. grants_of u.trail) c.write_took.ensures.3))

@@ -25,6 +25,7 @@ returns g c = let p = c.args.pass.now in let m = c.args.self.now in let s = sigh
       belongs = (of_next m.mutex p.seat c.unlock.new.seat c.requires.belongs.0 c.unlock.ensures.belongs, left_of (opening_of m) (passes_of m) (share_of m) s t p.seen p.mine p.kept c.requires.belongs.1 u.0, c.requires.belongs.2);
       number = (leaves_one c.in_ok-unlocked.unlocked s t p.seen c.journal_len-length.result ends).number;
       leaves = ends;
+      woken = c.unlock.ensures.woken;
       mine = refl;
       conditions = refl;
       steps = c.in_ok-unlocked.ensures.steps;
@@ -80,3 +81,9 @@ returns-in-Still-clause-steps g c = rw c.in-Still.is at c.in_ok-unlocked.ensures
 
 pub returns-in-Still-clause-bounded : goal.returns-in-Still-clause-bounded
 returns-in-Still-clause-bounded g c = c.in_ok-unlocked.ensures.bounded
+
+pub returns-in_err-unlocked-clause-woken : goal.returns-in_err-unlocked-clause-woken
+returns-in_err-unlocked-clause-woken g c = c.unlock.ensures.woken
+
+pub returns-in-Still-clause-woken : goal.returns-in-Still-clause-woken
+returns-in-Still-clause-woken g c = c.unlock.ensures.woken

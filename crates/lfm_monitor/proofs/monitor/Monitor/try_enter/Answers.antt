@@ -6,6 +6,8 @@ use Rattle.lfm_monitor.specs.Belongs.{mutex_limits, opening_of, passes_of, share
 use Rattle.lfm_monitor.proofs.Asking.{again_began, last_began, try_enter_refused, try_enter_steps}
 use Rattle.lfm_monitor.proofs.Trails.{rewritten}
 use Rattle.lfm_monitor.proofs.Knowing.{gained, may_all, room_left, arrived, again, looked, of_next, try_refused}
+use Rattle.lfm_mutex.specs.calls.WakeUps.{grants_of}
+use Rattle.lfm_mutex.proofs.runs.Woken.{woken_join, woken_none}
 use Rattle.lfm_monitor.proofs.monitor.Monitor.try_enter.Goals as goal
 
 pub write_took-requires-clause-may : goal.write_took-requires-clause-may
@@ -124,3 +126,15 @@ returns-clause-bounded g c = let same = ap (λ u. length u.trail) c.write_took.e
 
 pub returns-then-lacks_entry-clause-bounded : goal.returns-then-lacks_entry-clause-bounded
 returns-then-lacks_entry-clause-bounded g c = omega arith
+
+pub returns-then-lacks_entry-clause-woken : goal.returns-then-lacks_entry-clause-woken
+returns-then-lacks_entry-clause-woken g c = woken_none c.args.pass.now.seat c.args.pass.now.seat refl refl
+
+pub returns-in_err-locked-clause-woken : goal.returns-in_err-locked-clause-woken
+returns-in_err-locked-clause-woken g c = c.try_lock.ensures.woken
+
+pub returns-in-Again-clause-woken : goal.returns-in-Again-clause-woken
+returns-in-Again-clause-woken g c = c.try_lock.ensures.woken
+
+pub returns-clause-woken : goal.returns-clause-woken
+returns-clause-woken g c = let p = c.args.pass.now in woken_join p.seat c.try_lock.new.seat c.write_took.new.seat c.try_lock.ensures.woken (woken_none c.try_lock.new.seat c.write_took.new.seat c.write_took.ensures.7 (ap (λ u. grants_of u.trail) c.write_took.ensures.3))

@@ -6,6 +6,8 @@ use Rattle.lfm_monitor.proofs.Asking.{last_began, receive_refused, receive_steps
 use Rattle.lfm_monitor.proofs.Refusing.{same_began, same_kept}
 use Rattle.lfm_monitor.proofs.Trails.{rewritten}
 use Rattle.lfm_monitor.proofs.Knowing.{some_of, woken, may_all, arrived, looked, of_next}
+use Rattle.lfm_mutex.specs.calls.WakeUps.{grants_of}
+use Rattle.lfm_mutex.proofs.runs.Woken.{woken_join, woken_none}
 use Rattle.lfm_monitor.proofs.monitor.Monitor.try_receive.Goals as goal
 
 pub write_took-requires-clause-may : goal.write_took-requires-clause-may
@@ -94,3 +96,12 @@ returns-clause-conditions g c = refl
 pub overflow_add-pass : goal.overflow_add-pass
 overflow_add-pass g c = let p = c.args.pass.now in let m = c.args.self.now in let wakes = rw c.in-Some.is at c.in_ok-received.ensures.receives in let s = sight p.seat in let l = some_of s.last p.kept.there in
     let room : p.mine < m.share = (let r = (p.kept.sleeps wakes.0).room l.0 l.1 in let e = (c.requires.belongs.1 l.0 l.1).2 in omega arith) in omega arith
+
+pub returns-in_err-received-clause-woken : goal.returns-in_err-received-clause-woken
+returns-in_err-received-clause-woken g c = c.try_receive.ensures.woken
+
+pub returns-in-None-clause-woken : goal.returns-in-None-clause-woken
+returns-in-None-clause-woken g c = c.try_receive.ensures.woken
+
+pub returns-clause-woken : goal.returns-clause-woken
+returns-clause-woken g c = let p = c.args.pass.now in woken_join p.seat c.try_receive.new.seat c.write_took.new.seat c.try_receive.ensures.woken (woken_none c.try_receive.new.seat c.write_took.new.seat c.write_took.ensures.7 (ap (λ u. grants_of u.trail) c.write_took.ensures.3))

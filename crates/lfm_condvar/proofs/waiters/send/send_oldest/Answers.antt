@@ -1,0 +1,19 @@
+use Rattle.std.proofs.Common.{ℕ, List, ◌++◌, ◌∙◌, ap, subst, sym}
+use Rattle.lfm_mutex.specs.Belongs.{limits_of}
+use Rattle.lfm_mutex.specs.calls.Sight.{sight}
+use Rattle.lfm_mutex.specs.calls.WakeUps.{as_list, grants_of}
+use Rattle.lfm_condvar.specs.Wakes.{SendsBy, SendsOldest}
+use Rattle.lfm_condvar.proofs.waiters.send.send_oldest.Goals as goal
+
+pub returns-clause-sends : goal.returns-clause-sends
+returns-clause-sends g c = let o = c.send_oldest_without_waking-sent in let a = c.args in subst (λ z. SendsOldest (limits_of a.mutex.now).seats (sight a.seat.now) z a.waiters.now o.new.waiters o.result.0) (sym c.wake_from.ensures.same) o.ensures.sends
+
+pub returns-clause-steps : goal.returns-clause-steps
+returns-clause-steps g c = let o = c.send_oldest_without_waking-sent in let a = c.args in subst (λ z. SendsBy (limits_of a.mutex.now) (sight a.seat.now) z o.result.0) (sym c.wake_from.ensures.same) o.ensures.steps
+
+pub returns-clause-woken : goal.returns-clause-woken
+returns-clause-woken g c = let o = c.send_oldest_without_waking-sent in (
+  as_list o.result.1,
+  c.wake_from.ensures.woken ∙ ap (λ (l : List ℕ). l ++ as_list o.result.1) o.ensures.woken,
+  ap (λ z. grants_of z.trail) c.wake_from.ensures.same ∙ o.ensures.wakes.granted,
+)

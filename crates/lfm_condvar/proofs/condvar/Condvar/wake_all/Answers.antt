@@ -1,7 +1,7 @@
-use Rattle.std.proofs.Common.{[], append-nil, ℕ, List, ◌++◌, ◌∙◌, ap, subst, sym}
+use Rattle.std.proofs.Common.{[], append-nil, ◌∙◌, ap, subst, sym}
 use Rattle.lfm_mutex.specs.Belongs.{limits_of}
 use Rattle.lfm_mutex.specs.calls.Sight.{sight}
-use Rattle.lfm_mutex.specs.calls.WakeUps.{as_list, grants_of}
+use Rattle.lfm_mutex.specs.calls.WakeUps.{grants_of}
 use Rattle.lfm_condvar.specs.Belongs.{cond_limits, cond_sight, cond_tries}
 use Rattle.lfm_condvar.specs.Wakes.{SendsBy, WakeAllEnds}
 use Rattle.lfm_mutex.specs.calls.Woken.{woken_of}

@@ -3,7 +3,7 @@ use Rattle.lfm_mutex.specs.calls.Sight.{sight}
 use Rattle.lfm_monitor.specs.Belongs.{opening_of, passes_of, share_of}
 use Rattle.lfm_monitor.proofs.Knowing.{may_did, did}
 use Rattle.lfm_mutex.specs.calls.WakeUps.{grants_of}
-use Rattle.lfm_mutex.proofs.runs.Woken.{woken_join, woken_none}
+use Rattle.lfm_mutex.proofs.runs.Woken.{woken_none}
 use Rattle.lfm_monitor.proofs.monitor.Monitor.apply.Goals as goal
 
 pub write_did-reply-requires-clause-may : goal.write_did-reply-requires-clause-may

@@ -19,8 +19,12 @@ use std::sync::Wait;
 use std::thread::yield_now;
 use std::time::Duration;
 
-// How long a nap is to last, in microseconds. The system may add some 50.
+/// How long the first nap is to last, in microseconds. Each further one is to last twice as long as the one before it. The system may
+/// add some 50.
 const NAP_MICROSECONDS: u64 = 20;
+
+/// After this number of doublings the naps grow no longer.
+const MOST_NAP_DOUBLINGS: u32 = 5;
 
 // Before each look there are twice as many pauses as before the one before it, up to 2 to the power of this.
 const MOST_DOUBLINGS: u32 = 8;
@@ -148,8 +152,9 @@ impl<T: Kept> Mutex<T> {
         None
     }
 
-    // Naps as often as the pace says, and looks before and after each nap. The first nap is a yield. It stops if a crowd holds or
-    // waits: then a nap would only keep the seat from its place in the queue.
+    /// Naps as often as the pace says, and looks before and after each nap. Threads that sleep leave the processors to the holder, and
+    /// a queue that has formed can empty meanwhile: so each nap is longer than the one before it. It stops if a crowd holds or waits:
+    /// then a nap would only keep the seat from its place in the queue.
     #[inline(always)]
     fn nap<R: Wait>(&self, rt: &R, seat: &mut Seat<T>) -> Option<How>
         requires belongs { OfMutex seat.old self.now }
@@ -167,10 +172,10 @@ impl<T: Kept> Mutex<T> {
             }
             let count = if found == 0 {
                 0
-            } else if made == 0 {
+            } else if made == 0 && self.is_handed_over(found) {
                 self.count_after_yield()
             } else {
-                self.count_after_nap(rt, wake)
+                self.count_after_nap(rt, wake, made)
             };
             match self.try_if_free(seat, count) {
                 Some(how) => return Some(how),
@@ -180,17 +185,24 @@ impl<T: Kept> Mutex<T> {
         None
     }
 
-    // The count after a nap.
-    fn count_after_nap<R: Wait>(&self, rt: &R, wake: usize) -> u64
+    /// Whether the mutex was handed over to a seat whose thread has not run since: this count is one seat, and none owns.
+    fn is_handed_over(&self, count: u64) -> bool {
+        count == 1 && self.table.look_at_owner() == 0
+    }
+
+    /// The count after a nap, before which this number of naps were made.
+    fn count_after_nap<R: Wait>(&self, rt: &R, wake: usize, made: u32) -> u64
         requires { wake < self.now.table.table_id.words }
     {
-        let nap = Duration::from_micros(NAP_MICROSECONDS);
+        let doublings = made.min(MOST_NAP_DOUBLINGS);
+        let nap = Duration::from_micros(NAP_MICROSECONDS << doublings);
         park_for(rt, &self.table, wake, nap);
         self.table.look_at_count()
     }
 
-    // The count after a yield. The system may have put the thread that holds the mutex, or was just granted it, on this processor.
-    // A yield lets that thread run at once. A sleep instead of it would last some 70 microseconds.
+    /// The count after a yield. The system may have put the thread that the mutex was handed to on this processor. A yield lets it run
+    /// at once, and a nap would outlast its section. On a busy processor a yield gives a whole time slice away, so it is made only
+    /// here.
     fn count_after_yield(&self) -> u64 {
         yield_now();
         self.table.look_at_count()

@@ -18,6 +18,14 @@ impl<T: Kept> SharedTable<T> {
         self.peek(COUNT)
     }
 
+    /// What one look finds at the owner word.
+    #[inline(always)]
+    pub fn look_at_owner(&self) -> u64
+        requires { 1 < self.now.table_id.words }
+    {
+        self.peek(OWNER)
+    }
+
     /// What one look finds at this wake word.
     #[inline(always)]
     pub fn look_at_wake(&self, word: usize) -> u64

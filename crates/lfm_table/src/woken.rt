@@ -17,7 +17,7 @@ impl Model for Woken {
     ghost also_owns = { λ _. ftrue };
 }
 
-// A struct with `also_owns` has neither by itself. This one owns nothing.
+/// A struct with `also_owns` has neither by itself. This one owns nothing.
 unsafe impl Send for Woken {}
 
 unsafe impl Sync for Woken {}
@@ -30,7 +30,7 @@ impl Woken {
         Woken { seal: () }
     }
 
-    // With the seat of this wake-up as the last. Only `parking::wake` calls it.
+    /// With the seat of this wake-up as the last. Only `parking::wake` calls it.
     pub(crate) fn and(_before: &Woken, _wake_up: &WakeUp) -> Woken
         ensures { result.seats ≡ _before.now.seats ++ _wake_up.now ∷ [] }
     {

@@ -19,17 +19,17 @@ use std::sync::Wait;
 use std::thread::yield_now;
 use std::time::Duration;
 
-// How long a nap is to last, in microseconds. The system may add some 50.
+/// How long a nap is to last, in microseconds. The system may add some 50.
 const NAP_MICROSECONDS: u64 = 20;
 
-// Before each look there are twice as many pauses as before the one before it, up to 2 to the power of this.
+/// Before each look there are twice as many pauses as before the one before it, up to 2 to the power of this.
 const MOST_DOUBLINGS: u32 = 8;
 
-// If the mutex counts more than its holder and one more seat, others queue already. More spins would only take the cache line of
-// the count away from the holder.
+/// If the mutex counts more than its holder and one more seat, others queue already. More spins would only take the cache line of
+/// the count away from the holder.
 const HOLDER_AND_ONE_MORE: u64 = 2;
 
-// Whether the seat is awake, doesn't hold and has a take left. A try of such a seat gains the mutex or is refused as Busy.
+/// Whether the seat is awake, doesn't hold and has a take left. A try of such a seat gains the mutex or is refused as Busy.
 #[inline(always)]
 fn may_try<T: Kept>(seat: &Seat<T>) -> bool
     ensures { MatchBool result (MayTry seat.now.limits.budget (sight seat.now)) (MayTry seat.now.limits.budget (sight seat.now) → ⊥) }
@@ -72,8 +72,8 @@ impl<T: Kept> Mutex<T> {
         }
     }
 
-    // The fast path: the try of the first spin. It is made without a look, since mostly nobody holds, and a look before it would be
-    // one more load of a cache line that another processor has.
+    /// The fast path: the try of the first spin. It is made without a look, since mostly nobody holds, and a look before it would be
+    /// one more load of a cache line that another processor has.
     #[inline(always)]
     fn try_first(&self, seat: &mut Seat<T>) -> Option<How>
         requires belongs { OfMutex seat.old self.now }
@@ -91,7 +91,7 @@ impl<T: Kept> Mutex<T> {
         self.try_if_free(seat, 0)
     }
 
-    // The slow path: spins, then naps, and queues at last.
+    /// The slow path: spins, then naps, and queues at last.
     #[inline(never)]
     fn barge<R: Wait>(&self, rt: &R, seat: &mut Seat<T>) -> Result<Locked, Refusal>
         requires belongs { OfMutex seat.old self.now }
@@ -107,7 +107,7 @@ impl<T: Kept> Mutex<T> {
         }
     }
 
-    // Tries for as long as the pace says, after the first try.
+    /// Tries for as long as the pace says, after the first try.
     #[inline(always)]
     fn spin_and_nap<R: Wait>(&self, rt: &R, seat: &mut Seat<T>) -> Option<How>
         requires belongs { OfMutex seat.old self.now }
@@ -123,8 +123,8 @@ impl<T: Kept> Mutex<T> {
         }
     }
 
-    // Looks as often as the pace says, with more pauses before each look than before the one before it, so that the holder keeps
-    // the cache line of the count for most of the time.
+    /// Looks as often as the pace says, with more pauses before each look than before the one before it, so that the holder keeps
+    /// the cache line of the count for most of the time.
     #[inline(always)]
     fn spin(&self, seat: &mut Seat<T>) -> Option<How>
         requires belongs { OfMutex seat.old self.now }
@@ -148,8 +148,8 @@ impl<T: Kept> Mutex<T> {
         None
     }
 
-    // Naps as often as the pace says, and looks before and after each nap. The first nap is a yield. It stops if a crowd holds or
-    // waits: then a nap would only keep the seat from its place in the queue.
+    /// Naps as often as the pace says, and looks before and after each nap. The first nap is a yield. It stops if a crowd holds or
+    /// waits: then a nap would only keep the seat from its place in the queue.
     #[inline(always)]
     fn nap<R: Wait>(&self, rt: &R, seat: &mut Seat<T>) -> Option<How>
         requires belongs { OfMutex seat.old self.now }
@@ -180,7 +180,7 @@ impl<T: Kept> Mutex<T> {
         None
     }
 
-    // The count after a nap.
+    /// The count after a nap.
     fn count_after_nap<R: Wait>(&self, rt: &R, wake: usize) -> u64
         requires { wake < self.now.table.table_id.words }
     {
@@ -189,15 +189,15 @@ impl<T: Kept> Mutex<T> {
         self.table.look_at_count()
     }
 
-    // The count after a yield. The system may have put the thread that holds the mutex, or was just granted it, on this processor.
-    // A yield lets that thread run at once. A sleep instead of it would last some 70 microseconds.
+    /// The count after a yield. The system may have put the thread that holds the mutex, or was just granted it, on this processor.
+    /// A yield lets that thread run at once. A sleep instead of it would last some 70 microseconds.
     fn count_after_yield(&self) -> u64 {
         yield_now();
         self.table.look_at_count()
     }
 
-    // One try if the count that was found is 0, and none otherwise. A look costs the holder less than a try that fails. It is the fast
-    // path of `try_lock` at once: what that call asks of its seat is known.
+    /// One try if the count that was found is 0, and none otherwise. A look costs the holder less than a try that fails. It calls
+    /// the fast path of `try_lock` directly: what that path requires of the seat is known here.
     #[inline(always)]
     fn try_if_free(&self, seat: &mut Seat<T>, count: u64) -> Option<How>
         requires belongs { OfMutex seat.old self.now }

@@ -41,7 +41,7 @@ made_of d t ps q = record { depth = d; takes = t; posts = ps; point = q }
 
 -- Depth 0
 
--- where the seat is at depth 0 after its step, it was so before, and has answered no hold
+-- if the seat is at depth 0 after its step, it was so before, and has answered no hold
 abbrev pub Shallow : ℕ → ℕ → Stepped → Type 0
 Shallow d s st = (st.seat.depth ≡ 0 → d ≡ 0) × (st.seat.depth ≡ 0 → answered_by s st.turn ≡ [])
 
@@ -251,7 +251,7 @@ begun_depth x l (call ∷ calls) e = begun_depth x l calls (begin_depth (begun x
 pub became_depth : (x : SeatState) (l : Limits) (p : SeatState) → Became x l p → p.depth ≡ 0 → x.depth ≡ 0
 became_depth x l p b e = begun_depth x l (calls_to x p) (ap (λ y. y.depth) (sym b.leads) ∙ e)
 
--- What carries goes on carrying, but where it gives
+-- What carries goes on carrying, unless it gives
 
 nonzero_carries : (x : SeatState) → x.depth ≢ 0 → carries_value x ≡ true
 nonzero_carries x some = rw (ne_eqb x.depth 0 some) refl

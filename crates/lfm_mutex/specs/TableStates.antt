@@ -32,7 +32,7 @@ module _ {T : Type 0} (follows : ℕ → T → T → Type 0) (fits : T → ℕ �
   abbrev pub TablesStand : Type 0
   TablesStand = (s : State (Option (Moving T)) (View T)) (h : Held follows fits s) → (a : AbstractMutex) × TableIs s h.core a
 
-  -- where each seat rests and none holds, the count is 0, nothing is posted and nobody is queued
+  -- if each seat rests and none holds, the count is 0, nothing is posted and nobody is queued
   abbrev pub RestingTablesAreFree : Type 0
   RestingTablesAreFree =
       (s : State (Option (Moving T)) (View T)) → Held follows fits s

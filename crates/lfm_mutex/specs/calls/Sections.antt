@@ -10,7 +10,7 @@ use Rattle.lfm_mutex.specs.calls.Barging.{BargesBy}
 use Rattle.lfm_mutex.specs.calls.Sight.{Sight, Locks, LocksWaiting, MayRelease, Unlocks}
 use Rattle.lfm_mutex.specs.calls.Trails.{LocksBy, MakesCall}
 
--- the seat is the one that it was, holds as often, and sleeps only where it did
+-- the seat is the one that it was, holds as often, and sleeps only if it did
 abbrev pub StandsAs : {T : Type 0} → Sight T → Sight T → Type 0
 StandsAs s t = (t.number ≡ s.number) × (t.depth ≡ s.depth) × (t.asleep ≡ s.asleep)
 

@@ -1,4 +1,4 @@
-//! A condvar, its seats and its list as text, for who looks for a fault.
+//! `{:?}` of a condvar and of its seats, for debugging.
 
 use crate::cond_seat::CondSeat;
 use crate::condvar::Condvar;

@@ -1,4 +1,4 @@
-//! The list of those that wait as text, for who looks for a fault.
+//! `{:?}` of the list of those that wait, for debugging.
 
 use crate::waiters::Waiters;
 use std::fmt::{Debug, Formatter, Result, Write};

@@ -70,7 +70,7 @@ fn taken_in_order(replies: &[BufferReply]) -> Option<u64> {
 }
 
 fn main(rt: HostRuntime) -> anyhow::Result<()> {
-    // a monitor with two passes, each of which may write so many entries, and two conditions, round an empty buffer
+    // a monitor with two passes, each of which may write `ENTRIES` entries, and two conditions, round an empty buffer
     let (monitor, passes) = Monitor::new(rt.alloc(), 2, ENTRIES, 2, Buffer::new())?;
     let Ok(passes) = monitor.run(&rt, passes, NUMBERS, &Roles) else {
         bail!("a thread could not be started");

@@ -86,7 +86,7 @@ fn received(replies: &[ChannelReply]) -> (u64, u64) {
 }
 
 fn main(rt: HostRuntime) -> anyhow::Result<()> {
-    // a monitor with a pass for each thread, each of which may write so many entries, and two conditions, round the channel
+    // a monitor with a pass for each thread, each of which may write `ENTRIES` entries, and two conditions, round the channel
     let channel = Channel::new(SENDERS);
     let (monitor, passes) = Monitor::new(rt.alloc(), SENDERS + 1, ENTRIES, 2, channel)?;
     let Ok(passes) = monitor.run(&rt, passes, ROUNDS, &Roles) else {

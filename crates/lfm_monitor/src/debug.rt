@@ -1,4 +1,4 @@
-//! A monitor and its passes as text, for who looks for a fault.
+//! `{:?}` of a monitor and of its passes, for debugging.
 
 use crate::monitor::Monitor;
 use crate::pass::Pass;

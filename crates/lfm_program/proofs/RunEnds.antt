@@ -44,7 +44,8 @@ use Rattle.lfm_program.proofs.JournalEnds.{Chosen, at_place, choose, total_is_su
 use Rattle.lfm_program.proofs.Refusals.{may_meet}
 use Rattle.lfm_program.proofs.Threads.{read_here}
 
--- The numbers are those that the first i commands add: all commands where none was refused, and else those before the one that was
+-- The numbers are those that the first i commands add: all commands if none was refused, and otherwise those before the one that
+-- was
 abbrev pub MadeBy : ℕ → List Command → Option Refusal → List ℕ → ℕ → Type 0
 MadeBy conditions ms r ks i = (ks ≡ all_adds (take i ms)) × (r ≡ None → length ms ≤ i) × ((x : Refusal) → r ≡ Some x → RefusedAt conditions ms i x)
 

@@ -17,7 +17,7 @@ use Rattle.lfm_program.specs.declared.workers.WorkerEnd.TheVariants.{Performed a
 use Rattle.lfm_program.specs.Causes.{RefusedForCause}
 use Rattle.lfm_program.specs.Performs.{own_adds}
 
--- a gate that stops these stops this worker before one of so many commands
+-- a gate that stops these stops this worker before one of this number of commands
 abbrev pub StopsOne : (ℕ → ℕ → Type 0) → ℕ → ℕ → Type 0
 StopsOne stops worker count = (i : ℕ) × (i < count) × stops worker (i + 1)
 

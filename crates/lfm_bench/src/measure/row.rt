@@ -56,7 +56,7 @@ impl Column {
     }
 }
 
-/// What one round of a workload gave. Who has no such call has no sample.
+/// What one round of a workload gave. A peer without such a call has no sample.
 #[derive(Clone, Copy)]
 pub struct Round {
     pub ours: Option<Sample>,
@@ -77,7 +77,7 @@ impl Round {
     };
 }
 
-/// A workload, and the figures of those who are measured by it. Who has no such call has figures of no round.
+/// A workload, and the figures of those who are measured by it. A peer without such a call has figures of no round.
 #[derive(Drop)]
 pub struct Row {
     name: String,

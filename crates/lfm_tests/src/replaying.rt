@@ -26,12 +26,12 @@ fn outcome<R: Read, W: Write>(
     replay(alloc, reader, writer)
 }
 
-/// Sees that these bytes were written.
+/// Checks that these bytes were written.
 fn sees_bytes<A: Abort>(rt: &A, written: &[u8], wanted: &[u8]) {
     assert_eq!(rt; written, wanted);
 }
 
-/// Sees that a replay of what this reader gives ends with this outcome, and that it writes these bytes.
+/// Checks that a replay of what this reader gives ends with this outcome, and that it writes these bytes.
 fn replays_as<A: Abort, R: Read>(
     rt: &A,
     alloc: Global,
@@ -82,7 +82,7 @@ fn fails_at_each_read(rt: HostRuntime) {
     }
 }
 
-/// Sees that a replay fails by a writer that fails so once it has so many bytes, which are the first of the trace.
+/// Checks that a replay fails by a writer that fails in this way once it has `room` bytes, which are the first of the trace.
 fn fails_after<A: Abort>(rt: &A, alloc: Global, failure: Failure, room: usize, trace: &[u8]) {
     let mut reader = INPUT.as_slice();
     let mut writer = FailingWriter {
@@ -104,7 +104,7 @@ fn fails_after_each_written_byte(rt: HostRuntime) {
     }
 }
 
-/// Sees that a replay of this input fails at the flush, after it wrote this.
+/// Checks that a replay of this input fails at the flush, after it wrote this.
 fn fails_flushed<A: Abort>(rt: &A, alloc: Global, input: &[u8], output: &[u8]) {
     let mut reader = input;
     let mut writer = UnflushedWriter {
@@ -115,7 +115,7 @@ fn fails_flushed<A: Abort>(rt: &A, alloc: Global, input: &[u8], output: &[u8]) {
     sees_bytes(rt, writer.bytes.as_slice(), output);
 }
 
-// No contract can say that a writer was flushed: one that holds its bytes back has them either way.
+/// No contract can say that a writer was flushed: one that holds its bytes back has them either way.
 #[test]
 fn fails_at_the_flush(rt: HostRuntime) {
     fails_flushed(&rt, rt.alloc(), INPUT, OUTPUT);
@@ -136,7 +136,7 @@ fn ends_an_endless_input(rt: HostRuntime) {
     }
 }
 
-/// Sees that a replay makes so many reads of these bytes, which go past a limit, and that a byte less is within it.
+/// Checks that a replay makes this number of reads of these bytes, which go past a limit, and that a byte less is within it.
 fn ends_past_a_limit<A: Abort>(rt: &A, alloc: Global, line_feeds: u64, reads: u64)
     requires { 0 < reads }
 {
@@ -159,7 +159,7 @@ fn ends_past_a_limit<A: Abort>(rt: &A, alloc: Global, line_feeds: u64, reads: u6
     sees(rt, "the outcome within it", &ended, &Err(ReplayFault::Read));
 }
 
-// The reader fails at the read after the first byte that is past a limit, so no such read may be made.
+/// The reader fails at the read after the first byte that is past a limit, so no such read may be made.
 #[test]
 fn reads_no_byte_after_the_first_past_a_limit(rt: HostRuntime) {
     // 65,536 lines and one line feed more, the same and a byte of a line more, and a byte too many

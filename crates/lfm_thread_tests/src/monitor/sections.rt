@@ -55,7 +55,7 @@ impl<R: Wait> CriticalSection<Total, R> for AddsToSome {
     }
 }
 
-/// Enters so many times more, and gives none of these holds up. In each it adds 1, where it is to. Answers how often the pass
+/// Enters this number of times more, and gives none of these holds up. In each it adds 1, if it is to. Answers how often the pass
 /// holds then.
 #[derive(Clone, Copy)]
 struct Deepens {
@@ -97,7 +97,7 @@ impl<R: Wait> CriticalSection<Total, R> for TellsRound {
     }
 }
 
-/// Enters so many times more, and executes a section inside of this one, in round 9.
+/// Enters this number of times more, and executes a section inside of this one, in round 9.
 #[derive(Clone, Copy)]
 struct Nests {
     holds: u64,
@@ -119,8 +119,8 @@ impl<R: Wait> CriticalSection<Total, R> for Nests {
     }
 }
 
-/// A pass of a new monitor that may write so many entries makes the first steps, executes the section in round 8, which must
-/// answer so, and makes the last steps. Then nobody holds.
+/// A pass of a new monitor that may write this number of entries makes the first steps, executes the section in round 8, which
+/// must answer so, and makes the last steps. Then nobody holds.
 fn executes<R: Wait + Abort, S: CriticalSection<Total, R, Answer = u64>>(
     rt: &R,
     alloc: Global,
@@ -183,7 +183,7 @@ fn holds_that_a_section_keeps_are_given_up(rt: HostRuntime) -> Result<(), Fail> 
     executes(&rt, rt.alloc(), 4, &[], &section, Ok(4), &after)
 }
 
-// The take and two ops use the entries up, so the third op is refused, three holds deeper than the section began.
+/// The take and two ops use the entries up, so the third op is refused, three holds deeper than the section began.
 #[test]
 fn refusal_without_an_entry_gives_all_holds_up(rt: HostRuntime) -> Result<(), Fail> {
     let section = Deepens {
@@ -236,7 +236,7 @@ fn section_may_leave_by_itself(rt: HostRuntime) -> Result<(), Fail> {
     executes(&rt, rt.alloc(), 1, &[], &section, Ok(7), &[Step::Depth(0)])
 }
 
-// What the section gives up beyond its own hold isn't taken back.
+/// What the section gives up beyond its own hold isn't taken back.
 #[test]
 fn section_may_leave_the_hold_of_its_holder(rt: HostRuntime) -> Result<(), Fail> {
     let not_owner = Err(Refusal::NotOwner);
@@ -260,7 +260,7 @@ fn rounds_and_sections_inside_of_sections(rt: HostRuntime) -> Result<(), Fail> {
     executes(&rt, rt.alloc(), 1, &[], &section, Ok(2_009), &after)
 }
 
-// At the greatest depth the inner section can't be executed.
+/// At the greatest depth the inner section can't be executed.
 #[test]
 fn refused_section_inside_of_a_section(rt: HostRuntime) -> Result<(), Fail> {
     let section = Nests { holds: 65_534 };

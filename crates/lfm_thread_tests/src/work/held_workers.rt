@@ -22,7 +22,7 @@ impl Gate for ClosedGate {
     }
 }
 
-/// Holds worker 2 before its first command, and stops it there where worker 1 comes to its second meanwhile.
+/// Holds worker 2 before its first command, and stops it there if worker 1 comes to its second meanwhile.
 #[derive(Drop)]
 struct HoldingGate {
     passed_by: AtomicBool,
@@ -62,7 +62,7 @@ fn alone_at_the_meeting(rt: HostRuntime) {
     comes_to(&rt, script, &gate, Err(WorkFault::Stuck), b"", 5);
 }
 
-// Worker 1 waits until worker 2 has added 3, so it makes no second command while worker 2 is held.
+/// Worker 1 waits until worker 2 has added 3, so it makes no second command while worker 2 is held.
 #[test]
 fn a_held_gate(rt: HostRuntime) {
     let gate = HoldingGate {

@@ -22,9 +22,9 @@ use std::sync::Wait;
 /// How a pass that is to hold locks the mutex of the monitor.
 #[derive(Clone, Copy)]
 pub(crate) enum Locking {
-    // By `lock`: it queues at once if another pass holds.
+    /// By `lock`: it queues at once if another pass holds.
     InOrder,
-    // By `lock_barging`: it tries for as long as the pace says before it queues.
+    /// By `lock_barging`: it tries for as long as the pace says before it queues.
     Barging,
 }
 

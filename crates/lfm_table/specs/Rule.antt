@@ -221,7 +221,7 @@ module _ {T : Type 0} (follows : ℕ → T → T → Type 0) (suits : T → ℕ 
   abbrev pub Mine : Type 0
   Mine = Me (Option (Moving T)) (View T)
 
-  -- the value at home, if n holds have ended
+  -- the value in its slot, if n holds have ended
   pub record AtHome (c : Core) (g : Ghost) (n : ℕ) (homes : List (maybe.Option (Option (Moving T)))) (views : List (View T)) : Type 0 where
     pub value : Moving T
     pub here : get_elem? homes 0 ≡ some (some (Some value))

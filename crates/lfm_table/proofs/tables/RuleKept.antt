@@ -392,7 +392,7 @@ module _ {T : Type 0} (follows : ℕ → T → T → Type 0) (suits : T → ℕ 
         hands = hands;
       }
 
-      -- the rule holds, of the core that the core's step makes, and the run has gone on by just this
+      -- the rule holds, of the core that the core's step makes, and the run has gone on by exactly this
       abbrev HeldAfter : State S (View T) → Type 0
       HeldAfter t = (after : Ruled t) × (after.core ≡ (made (put c num p) num).core) × (after.opened ≡ h.opened) × (after.actions ≡ h.actions ++ actions_now)
 
@@ -439,7 +439,7 @@ module _ {T : Type 0} (follows : ℕ → T → T → Type 0) (suits : T → ℕ 
             (numbered_same s.views id me.0 (next_view found) at (length_at s.views id me.0 at) refl h.holds_ended (left_same p.point a me.0.last other) (left_same p.point (me.0.holds_ended + 1) me.0.ended other) h.numbered)
       ]
 
-      -- The value leaves its home
+      -- The value leaves its slot
 
       gains : carries_value p ≡ false → carries_value st.seat ≡ true → MovedBy false true → Done
       gains before after did =
@@ -502,7 +502,7 @@ module _ {T : Type 0} (follows : ℕ → T → T → Type 0) (suits : T → ℕ 
                 )),
           )
 
-      -- it goes home
+      -- it goes into its slot
 
       give : carries_value p ≡ true → carries_value st.seat ≡ false → MovedBy true false → Done
       give before after did =
@@ -561,7 +561,7 @@ module _ {T : Type 0} (follows : ℕ → T → T → Type 0) (suits : T → ℕ 
             tells me.0.found (rest me.1) (subst (λ (t : Bool × Bool). Hands follows suits t.0 t.1 p.point a c.popped me (w, rest me.1)) (λ q. (sym before q, sym after q)) (ap rest ld.1)),
           )
 
-      -- it stays at home, or with another seat
+      -- it stays in its slot, or with another seat
 
       leaves_be : carries_value p ≡ false → carries_value st.seat ≡ false → MovedBy false false → Done
       leaves_be before after did =

@@ -73,7 +73,7 @@ module _ {A : Type 0} {T : Type 0} (look : A → Sight T) (seats : List A) where
   abbrev pub AllStand : ℕ → Type 0
   AllStand n = (k : ℕ) → 0 < k → k ≤ n → Stands k
 
--- nobody counts, nothing is posted and nobody is queued
+-- the count is 0, nothing is posted and nobody is queued
 pub record IsFree (c : Core) : Type 0 where
   pub count : c.count ≡ 0
   pub handoff : c.handoff ≡ unposted

@@ -21,7 +21,7 @@ use Rattle.lfm_table.specs.Rule.{AreNumbered, Held}
 abbrev pub LeftByHold : {T : Type 0} → List (View T) → ℕ → T → Type 0
 LeftByHold {T} views n w = (j : ℕ) × (v : View T) × (get_elem? views j ≡ some v) × (v.ended ≡ n) × (v.last ≡ Some w)
 
--- At the table, which is this state of the core and reads as this abstract mutex, n holds have ended: the value at home is what
+-- At the table, which is this state of the core and reads as this abstract mutex, n holds have ended: the value in its slot is what
 -- the last of them left, and so is the value that a seat carries which doesn't hold
 pub record HaveEnded {T : Type 0} (s : State (Option (Moving T)) (View T)) (c : Core) (a : AbstractMutex) (n : ℕ) : Type 0 where
   pub core : IsCore s c

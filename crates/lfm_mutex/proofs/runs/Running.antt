@@ -129,7 +129,7 @@ collects_same k j n (TakeLinkLoad (Carrier.Reclaimer releaser) next) same within
 collects_same k j n (TakeLinkLoad Carrier.Sender next) same within = let e = same refl in omega (arith, e, within)
 collects_same k j n _ same within = tt
 
--- what a step needs, with n seats and the pop list has k records before it and k' after it
+-- what a step needs, with n seats, and k records in the pop list before it and k' after it
 -- room: the pop list has room for a record that joins it
 -- within: a seat that has no record of its own leaves room for one more
 -- grows: only a load of a link adds a record

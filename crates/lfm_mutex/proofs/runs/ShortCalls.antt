@@ -1,4 +1,4 @@
--- The calls that no other seat can prolong, try_lock and try_receive: their steps alone, whatever they find, are so few.
+-- The calls that no other seat can prolong, try_lock and try_receive: they make few steps, whatever those find.
 use Rattle.std.proofs.Common.{◌≡◌, ◌≢◌, ◌⊎◌, inl, inr, ℕ, ◌+◌, ◌≤◌, List, [], ◌∷◌, ◌++◌, length, length-append, Bool, true, false, nat_eq, Option, None, Result, Ok, Err, refl, sym, ap, ◌∙◌, arith, if◌then◌else◌}
 use Rattle.std.specs.Prelude.{nat_lt}
 use Rattle.std.proofs.lemmas.Bool.{false≢true}
@@ -69,7 +69,7 @@ short_receives : (x : SeatState) (sleeper : Sleeper) (w : Wake) → Short 2 (rec
 short_receives x sleeper (Grant stamp) = (refl, omega arith)
 short_receives x sleeper _ = (refl, omega arith)
 
--- a step at a point of these leads to another of them, with fewer left; else the seat is at no step
+-- a step at a point of these leads to another of them, with fewer left; otherwise the seat is at no step
 abbrev pub StepsShort : ℕ → Stepped → Type 0
 StepsShort k st = (j : ℕ) × (j + 1 ≤ k) × Short j st.seat.point
 

@@ -14,7 +14,7 @@ use Rattle.lfm_mutex.specs.calls.Trails.{LocksBy, MakesCall}
 abbrev pub StandsAs : {T : Type 0} → Sight T → Sight T → Type 0
 StandsAs s t = (t.number ≡ s.number) × (t.depth ≡ s.depth) × (t.asleep ≡ s.asleep)
 
--- it has another value in hand, and is else as it was
+-- it has another value in hand, and is otherwise as it was
 abbrev pub with_value : {T : Type 0} → Sight T → T → Sight T
 with_value s x = record s { value = Some x }
 

@@ -53,7 +53,7 @@ typedef enum lfm_status {
   /* scripts/write_c_sides writes the numbers from here */
   LFM_DONE = 0,     /* made: the seat holds the mutex, or gave it up and nobody else asked */
   LFM_AGAIN = 1,    /* the seat held before, and holds once more */
-  LFM_STILL = 2,    /* the seat holds once less, and holds on */
+  LFM_STILL = 2,    /* the seat holds once less, and still holds */
   LFM_ASLEEP = 3,   /* the seat sleeps until it is granted the mutex; no call of this header answers it */
   LFM_POSTED = 4,   /* the mutex was given up to a seat that had begun to ask */
   LFM_GRANTED = 5,  /* the mutex was given up to the oldest queued seat */

@@ -5,7 +5,7 @@ use crate::condvar::Condvar;
 use lfm_mutex::Holder;
 use std::fmt::{Debug, Formatter, Result, Write};
 
-/// How many seats it has. Its list belongs to the seat that holds it, so it isn't told.
+/// How many seats it has. Its list belongs to the seat that holds it, so it isn't shown.
 impl Debug for Condvar {
     fn fmt<W: Write>(&self, f: &mut Formatter<W>) -> Result {
         f.debug_struct("Condvar")

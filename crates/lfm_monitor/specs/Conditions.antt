@@ -34,7 +34,7 @@ OnCondition condition cs ds used =
 abbrev pub IsSpent : Limits → Sight Waiters → Sight Waiters → Type 0
 IsSpent own c d = (own.budget ≤ c.takes) × (d ≡ c)
 
--- nothing of the seat has changed but what it did and whom it sent
+-- nothing of the seat has changed but what it did and the seats that it sent
 abbrev pub OnlySends : {T : Type 0} → Sight T → Sight T → Type 0
 OnlySends s t = t ≡ record s { trail = t.trail; sends = t.sends }
 

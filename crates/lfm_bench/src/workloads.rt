@@ -1,4 +1,4 @@
-//! The workloads. Each file has one, and measures those who have its calls.
+//! The workloads. Each file has one, and measures the peers that have its calls.
 pub mod alone;
 pub mod broadcast;
 pub mod contended;

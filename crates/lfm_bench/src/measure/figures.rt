@@ -222,7 +222,7 @@ pub enum Measure {
     LongestWait,
 }
 
-/// The figures of one of those who are measured by a workload.
+/// The figures of a peer that is measured by a workload.
 #[derive(Drop)]
 pub struct Figures {
     costs: Series,

@@ -8,7 +8,7 @@ use std::time::{Clock, Duration};
 /// How often a thread looks whether the others are there, before it goes on without them.
 const LOOKS: u64 = 100_000;
 
-/// How often the one who shuts the gate looks whether all have passed, before it goes on without them.
+/// How often the thread that shuts the gate looks whether all have passed, before it goes on without them.
 const GLANCES: u64 = 1_000;
 
 /// How long it sleeps between two of its looks, in microseconds.

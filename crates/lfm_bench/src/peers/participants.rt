@@ -1,5 +1,5 @@
 //! Our mutex with two condvars on it, as several threads use them. Each thread waits on one of the condvars, and wakes those
-//! who wait on the other.
+//! that wait on the other.
 ghost use Rattle.std.specs.Prelude.{◌≡◌, ◌≤◌, ℕ, IfOk, IfSome};
 ghost use Rattle.lfm_mutex.specs.Belongs.{OfMutex, limits_of};
 ghost use Rattle.lfm_condvar.specs.Belongs.{OfCondvar, cond_limits};
@@ -150,7 +150,7 @@ pub enum Side {
     Second,
 }
 
-/// A thread's seats. It waits on one of the condvars, and wakes those who wait on the other.
+/// A thread's seats. It waits on one of the condvars, and wakes those that wait on the other.
 #[derive(Drop)]
 pub struct Participant<'a> {
     shared: &'a Shared,

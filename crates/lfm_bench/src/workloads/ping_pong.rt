@@ -61,7 +61,7 @@ fn ours<R: Threads + Sync + Wait + Clock + AllocGlobal>(
     Ok(sample(ping, pong, turns, number))
 }
 
-/// The turns of two participants, of whom the first begins.
+/// The turns of two participants, of which the first begins.
 fn our_pair<R: Threads + Sync + Wait + Clock>(
     rt: &R,
     turns: u64,

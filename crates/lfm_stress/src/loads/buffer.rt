@@ -27,7 +27,7 @@ const NOT_EMPTY: u64 = 1;
 
 const NOT_FULL: u64 = 2;
 
-/// The items of a tenth, and what those who take them out have got of them.
+/// The items of a tenth, and what the threads that take them out have got of them.
 #[derive(Drop)]
 pub struct Delivery {
     tenth: Tenth,

@@ -105,8 +105,8 @@ impl Waiters {
     }
 
     /// Puts a user seat that is not there at the end with the next ticket, and counts it for the cond seat `by`. It takes no
-    /// memory and can't fail: the list has room for every seat (`room`), and each stands in it at most once. No count is above the
-    /// budget, so the tickets, of which the counts are the sum, never wrap.
+    /// memory and can't fail: the list has room for every seat (`room`), and each stands in it at most once. No count is above
+    /// the budget, and `added` is their sum, so the tickets never wrap.
     fn append(&mut self, by: SeatNo, seat: SeatNo) -> u64
         requires by { (by ≤ self.old.seats) × (slice_index self.old.counts.items by < self.old.budget) }
         requires seat { (0 < seat) × (seat ≤ self.old.seats) × (times seat self.old.list.items ≡ 0) }

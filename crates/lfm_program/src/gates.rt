@@ -20,7 +20,7 @@ pub trait Gate: Sync {
 pub struct OpenGate;
 
 impl Gate for OpenGate {
-    /// It stops nobody.
+    // It stops nobody.
     ghost stops = { λ _ _ _. ⊥ };
 
     fn before(&self, _worker: u64, _command: u64) -> bool
@@ -88,7 +88,7 @@ impl Meet {
 }
 
 impl Gate for Meet {
-    /// It stops workers 1 and 2 alone, before their first command.
+    // It stops workers 1 and 2 alone, before their first command.
     ghost stops = { λ _ worker command. (command ≡ 1) × (worker ≡ 1 ⊎ (worker ≡ 2)) };
 
     fn before(&self, worker: u64, command: u64) -> bool

@@ -17,7 +17,7 @@ impl Model for Woken {
     ghost also_owns = { λ _. ftrue };
 }
 
-/// A struct with `also_owns` has neither by itself. This one owns nothing.
+// A struct with `also_owns` has neither by itself. This one owns nothing.
 unsafe impl Send for Woken {}
 
 unsafe impl Sync for Woken {}

@@ -183,7 +183,7 @@ fn holds_that_a_section_keeps_are_given_up(rt: HostRuntime) -> Result<(), Fail> 
     executes(&rt, rt.alloc(), 4, &[], &section, Ok(4), &after)
 }
 
-/// The take and two ops use the entries up, so the third op is refused, three holds deeper than the section began.
+// The take and two ops use the entries up, so the third op is refused, three holds deeper than the section began.
 #[test]
 fn refusal_without_an_entry_gives_all_holds_up(rt: HostRuntime) -> Result<(), Fail> {
     let section = Deepens {
@@ -236,7 +236,7 @@ fn section_may_leave_by_itself(rt: HostRuntime) -> Result<(), Fail> {
     executes(&rt, rt.alloc(), 1, &[], &section, Ok(7), &[Step::Depth(0)])
 }
 
-/// What the section gives up beyond its own hold isn't taken back.
+// What the section gives up beyond its own hold isn't taken back.
 #[test]
 fn section_may_leave_the_hold_of_its_holder(rt: HostRuntime) -> Result<(), Fail> {
     let not_owner = Err(Refusal::NotOwner);
@@ -260,7 +260,7 @@ fn rounds_and_sections_inside_of_sections(rt: HostRuntime) -> Result<(), Fail> {
     executes(&rt, rt.alloc(), 1, &[], &section, Ok(2_009), &after)
 }
 
-/// At the greatest depth the inner section can't be executed.
+// At the greatest depth the inner section can't be executed.
 #[test]
 fn refused_section_inside_of_a_section(rt: HostRuntime) -> Result<(), Fail> {
     let section = Nests { holds: 65_534 };

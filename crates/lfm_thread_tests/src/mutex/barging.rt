@@ -125,7 +125,7 @@ fn barged<R: Threads + Wait + Clock + Sync>(
     Ok(came)
 }
 
-/// The naps outlast the holds on any machine.
+// The naps outlast the holds on any machine.
 #[test]
 fn seat_that_may_try_does_not_queue(rt: HostRuntime) -> Result<(), Fail> {
     let pace = Pace::new(0, 0).with_barging(12, u32::MAX);

@@ -111,7 +111,7 @@ impl<R: Wait> Round<R> for AddsNumber {
     }
 }
 
-/// Rounds 0 to 99 of three seats, and 0 to 9 of seat 2.
+// Rounds 0 to 99 of three seats, and 0 to 9 of seat 2.
 #[test]
 fn refusal_ends_the_rounds_of_one_seat(rt: HostRuntime) -> Result<(), Fail> {
     let total = rounded(&rt, rt.alloc(), 100, 100, &AddsNumber)?;

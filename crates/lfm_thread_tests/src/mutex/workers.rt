@@ -261,7 +261,7 @@ fn barge_beside_threads_that_lock(rt: HostRuntime) -> Result<(), Fail> {
     sees_locked(&rt, rt.alloc(), run)
 }
 
-/// Seat 2 is granted the mutex in some rounds, and naps on the same word in the next.
+// Seat 2 is granted the mutex in some rounds, and naps on the same word in the next.
 #[test]
 fn nap_after_a_grant(rt: HostRuntime) -> Result<(), Fail> {
     let run = Run {

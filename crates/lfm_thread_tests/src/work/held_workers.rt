@@ -62,7 +62,7 @@ fn alone_at_the_meeting(rt: HostRuntime) {
     comes_to(&rt, script, &gate, Err(WorkFault::Stuck), b"", 5);
 }
 
-/// Worker 1 waits until worker 2 has added 3, so it makes no second command while worker 2 is held.
+// Worker 1 waits until worker 2 has added 3, so it makes no second command while worker 2 is held.
 #[test]
 fn a_held_gate(rt: HostRuntime) {
     let gate = HoldingGate {

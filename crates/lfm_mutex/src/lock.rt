@@ -112,7 +112,7 @@ pub fn ask_free<T: Kept>(
         stand_loading(&mut seat.standing, takes);
         return queue(mutex, seat);
     }
-    // All plain writes stand in this one gap between two steps: see `straight_steps`.
+    // The plain writes stand together, in this gap between two steps: see `straight_steps`.
     seat.standing.depth = 1;
     seat.standing.takes = takes;
     data.standing.point = Point::EnterOwnerStore(Entrant::Locker, How::Free);

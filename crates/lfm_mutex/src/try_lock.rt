@@ -106,7 +106,7 @@ pub fn try_free<T: Kept>(
     };
     let found = exchange_free(table, &mut seat.place, &mut seat.moving, &data);
     if found == 0 {
-        // All plain writes stand in this one gap between two steps: see `straight_steps`.
+        // The plain writes stand together, in this gap between two steps: see `straight_steps`.
         seat.standing.depth = 1;
         seat.standing.takes = takes;
         data.standing.point = Point::EnterOwnerStore(Entrant::Trier, How::Free);

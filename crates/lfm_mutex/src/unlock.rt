@@ -48,7 +48,7 @@ pub fn unlock_last<T: Kept>(mutex: &Mutex<T>, seat: &mut Seat<T>) -> (Unlocked, 
         },
     };
     store_held(table, &mut seat.place, &seat.moving, &data);
-    // All plain writes stand in this one gap between two steps: see `straight_steps`.
+    // The plain writes stand together, in this gap between two steps: see `straight_steps`.
     seat.standing.depth = 0;
     data.standing.depth = 0;
     data.standing.point = Point::ReleaseCountSubtract(Releaser::Unlocker);

@@ -55,7 +55,7 @@ pub fn wait_last<T: Kept>(
         },
     };
     store_held(table, &mut seat.place, &seat.moving, &data);
-    // All plain writes stand in this one gap between two steps: see `straight_steps`.
+    // The plain writes stand together, in this gap between two steps: see `straight_steps`.
     seat.standing.depth = 0;
     seat.standing.takes = takes;
     data.standing.depth = 0;

@@ -1,6 +1,6 @@
-//! The atomic steps of the fast paths, each by itself. A fast path stores hardly a point: it hands each step a `SeatData` that it
-//! makes up on the spot, `seat`, with the step's point in it. After inlining, only what the step reads of it is left. The proof
-//! needs the rest.
+//! The atomic steps of the fast paths, each by itself. A fast path hardly ever stores a point: it hands each step a `SeatData`
+//! that it makes up on the spot, `seat`, with the step's point in it. After inlining, only what the step reads of it is left. The
+//! proof needs the rest.
 //!
 //! An atomic step waits for the plain writes before it. So a fast path makes its writes in one gap between two steps, in which
 //! the value moves anyway.
@@ -156,7 +156,8 @@ pub fn subtract_last<T: Kept>(
     found
 }
 
-/// Exchanges the count from 0 to 1, for a seat that doesn't hold. It comes to carry the value exactly if it found 0.
+/// Compare-and-exchange of the count from 0 to 1, for a seat that doesn't hold. It comes to carry the value exactly if it found
+/// 0.
 #[inline(always)]
 pub fn exchange_free<T: Kept>(
     table: &SharedTable<T>,
@@ -181,7 +182,7 @@ pub fn exchange_free<T: Kept>(
     0
 }
 
-/// Exchanges the count from 0 to 1, for a seat that holds.
+/// Compare-and-exchange of the count from 0 to 1, for a seat that holds.
 #[inline(always)]
 pub fn exchange_held<T: Kept>(
     table: &SharedTable<T>,
@@ -256,7 +257,7 @@ pub fn load_push_kept<T: Kept>(
     load_push::<T, Brand>(table, place, seat, moving)
 }
 
-/// Exchanges the push word, for a seat that goes on carrying the value or not, as it did.
+/// Compare-and-exchange of the push word, for a seat that goes on carrying the value or not, as it did.
 #[inline(always)]
 pub fn exchange_push_kept<T: Kept>(
     table: &SharedTable<T>,
@@ -331,7 +332,7 @@ pub fn store_wake_kept<T: Kept>(
     WakeUp::expect_none(wake_up);
 }
 
-/// Exchanges the wake word of the target, for a seat that goes on carrying the value or not, as it did.
+/// Compare-and-exchange of the wake word of the target, for a seat that goes on carrying the value or not, as it did.
 #[inline(always)]
 pub fn exchange_wake_kept<T: Kept>(
     table: &SharedTable<T>,

@@ -25,7 +25,7 @@ use lfm_words::{Wake, pack_handoff, pack_link};
 /// All but the head of the push word.
 const STAMP: u64 = 0xffff_ffff_ffff_0000;
 
-/// Exchanges from 0 to 1 at the count.
+/// Compare-and-exchange of the count from 0 to 1.
 #[inline(always)]
 pub fn exchange_count<T: Kept, B: Plain<T>>(
     table: &SharedTable<T>,
@@ -45,7 +45,7 @@ pub fn exchange_count<T: Kept, B: Plain<T>>(
     table.compare_exchange::<Stepped<B>>(place, COUNT, 0, 1)
 }
 
-/// Makes 1 more at the count.
+/// Adds 1 to the count.
 #[inline(always)]
 pub fn add_count<T: Kept, B: Plain<T>>(
     table: &SharedTable<T>,
@@ -65,7 +65,7 @@ pub fn add_count<T: Kept, B: Plain<T>>(
     table.fetch_add::<Stepped<B>>(place, COUNT, 1)
 }
 
-/// Makes 1 less at the count.
+/// Subtracts 1 from the count.
 #[inline(always)]
 pub fn subtract_count<T: Kept, B: Plain<T>>(
     table: &SharedTable<T>,
@@ -146,7 +146,7 @@ pub fn load_push<T: Kept, B: Plain<T>>(
     table.load::<Stepped<B>>(place, PUSH)
 }
 
-/// Exchanges what was seen of the push word for the new head.
+/// Compare-and-exchange of the push word that was seen for the new head.
 #[inline(always)]
 pub fn exchange_push<T: Kept, B: Plain<T>>(
     table: &SharedTable<T>,
@@ -274,7 +274,7 @@ pub fn store_handoff<T: Kept, B: Plain<T>>(
     new
 }
 
-/// Exchanges the handoff that was seen for none.
+/// Compare-and-exchange of the handoff that was seen for none.
 #[inline(always)]
 pub fn exchange_handoff<T: Kept, B: Plain<T>>(
     table: &SharedTable<T>,
@@ -339,7 +339,7 @@ pub fn store_wake<T: Kept, B: Plain<T>>(
     (word, WakeUp::owed(new, SeatNo::known(t)))
 }
 
-/// Exchanges WAITING for CLAIMED in the wake word of the target.
+/// Compare-and-exchange of WAITING for CLAIMED in the wake word of the target.
 #[inline(always)]
 pub fn exchange_wake<T: Kept, B: Plain<T>>(
     table: &SharedTable<T>,

@@ -229,7 +229,7 @@ impl<'a> Steps<'a> {
         self.table.fetch_sub::<Anything>(&mut self.seat, word, 1)
     }
 
-    /// Exchanges the word `old`, which is to be there, for `new`. Returns what was there before.
+    /// Compare-and-exchange of `old`, which is to be there, for `new`. Returns what was there before.
     #[inline(always)]
     fn exchange(&mut self, word: usize, old: u64, new: u64) -> u64
         requires { word < 8 }

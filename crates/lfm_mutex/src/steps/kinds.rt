@@ -95,7 +95,7 @@ fn make_within<T: Kept>(mutex: &Mutex<T>, seat: &mut Seat<T>, kind: Kind) -> Tur
     make_waking_none(mutex, seat, kind)
 }
 
-/// Exchanges 0 for 1 at the count, and finds the count: the first step of a `try_lock`.
+/// Compare-and-exchange of the count from 0 to 1, which finds the count: the first step of a `try_lock`.
 pub fn exchange_count<T: Kept>(mutex: &Mutex<T>, seat: &mut Seat<T>) -> Turn
     requires belongs { OfMutex seat.old mutex.now }
     requires is_next { kind_of (state_of seat.old).point ≡ Some KindNow.CountExchange }
@@ -165,7 +165,7 @@ pub fn load_push<T: Kept>(mutex: &Mutex<T>, seat: &mut Seat<T>) -> Turn
     make_within(mutex, seat, Kind::PushLoad)
 }
 
-/// Exchanges the push word that was seen for one that has the pushed record as its newest.
+/// Compare-and-exchange of the push word that was seen for one that has the pushed record as its newest.
 pub fn exchange_push<T: Kept>(mutex: &Mutex<T>, seat: &mut Seat<T>) -> Turn
     requires belongs { OfMutex seat.old mutex.now }
     requires is_next { kind_of (state_of seat.old).point ≡ Some KindNow.PushExchange }
@@ -233,7 +233,7 @@ pub fn store_handoff<T: Kept>(mutex: &Mutex<T>, seat: &mut Seat<T>) -> Turn
     make_within(mutex, seat, Kind::HandoffStore)
 }
 
-/// Exchanges an expected post for none in the handoff word: the post is accepted, taken over, or taken back.
+/// Compare-and-exchange of an expected post for none in the handoff word: the post is accepted, taken over, or taken back.
 pub fn exchange_handoff<T: Kept>(mutex: &Mutex<T>, seat: &mut Seat<T>) -> Turn
     requires belongs { OfMutex seat.old mutex.now }
     requires is_next { kind_of (state_of seat.old).point ≡ Some KindNow.HandoffExchange }
@@ -268,7 +268,7 @@ pub fn store_wake<T: Kept>(mutex: &Mutex<T>, seat: &mut Seat<T>) -> Turn
     turn
 }
 
-/// Exchanges the wake word of a seat that waits, so that this sender alone sends it.
+/// Compare-and-exchange of the wake word of a seat that waits, so that this sender alone sends it.
 pub fn exchange_wake<T: Kept>(mutex: &Mutex<T>, seat: &mut Seat<T>) -> Turn
     requires belongs { OfMutex seat.old mutex.now }
     requires is_next { kind_of (state_of seat.old).point ≡ Some KindNow.WakeExchange }

@@ -18,7 +18,7 @@
  *     lfm_mutex_close(&mutex);
  *
  * Each call answers a status. Null, a mutex that is not open and a seat that is not taken are answered by LFM_BLANK, and a call
- * that is refused has changed nothing, but where it says so. Only calls that open or close change errno. What a program promises,
+ * that is refused has changed nothing, unless it says so. Only calls that open or close change errno. What a program promises,
  * and nothing checks:
  *
  *   - An lfm_mutex, lfm_seat or lfm_condvar is zero before its first call (static, calloc, `= {0}`), lies still while it is in
@@ -53,11 +53,11 @@ typedef enum lfm_status {
   /* scripts/write_c_sides writes the numbers from here */
   LFM_DONE = 0,     /* made: the seat holds the mutex, or gave it up and nobody else asked */
   LFM_AGAIN = 1,    /* the seat held before, and holds once more */
-  LFM_STILL = 2,    /* the seat holds once less, and holds on */
+  LFM_STILL = 2,    /* the seat holds once less, and still holds */
   LFM_ASLEEP = 3,   /* the seat sleeps until it is granted the mutex; no call of this header answers it */
   LFM_POSTED = 4,   /* the mutex was given up to a seat that had begun to ask */
   LFM_GRANTED = 5,  /* the mutex was given up to the oldest queued seat */
-  LFM_NOBODY = 6,   /* nobody waited who could have been woken */
+  LFM_NOBODY = 6,   /* nobody waited, so nobody was woken */
 
   LFM_BLANK = 16,        /* null, a mutex or condition variable that is not open, or a seat that is not taken */
   LFM_TAKEN = 17,        /* the mutex or condition variable is open, or the seat taken, already */
@@ -117,9 +117,9 @@ enum { LFM_MONOTONIC = 1 /* CLOCK_MONOTONIC of Linux */, LFM_PAUSES_PER_LOOK = 4
  * a line that nothing uses. */
 #define LFM_ALIGNED __attribute__((aligned(16)))
 
-/* For how many nanoseconds a seat that asks for the mutex looks whether it is granted it, before its thread sleeps: about as long as two
- * wake-ups by the system. If it is shorter, one thread that sleeps soon makes all that queue behind it sleep too. Zero is allowed. A
- * seat does not look where the program may use one processor only, or where more seats are asking than it has processors. */
+/* For how many nanoseconds a queued seat spins, looking whether it is granted the mutex, before its thread sleeps: about as long as two
+ * wake-ups by the system. If it is shorter, one thread that sleeps soon makes all that queue behind it sleep too. 0 means: sleep at
+ * once. With one processor a seat never spins, nor if more seats are asking than the program has processors. */
 #ifndef LFM_LOOK_NANOSECONDS
 #define LFM_LOOK_NANOSECONDS 20000
 #endif
@@ -135,8 +135,8 @@ typedef struct lfm_mutex {
   unsigned char handle[LFM_MUTEX_BYTES];
   lfm_bell *bells;
   uint64_t seats;
-  uint32_t taking; /* while a seat is taken or given back 1, or 2 where another thread may sleep until that is done; else 0 */
-  uint32_t near;   /* how many seats may be asking where one looks at all: as many as there are processors, none if there is one */
+  uint32_t taking; /* while a seat is taken or given back 1, or 2 if another thread may sleep until that is done; else 0 */
+  uint32_t near;   /* a seat spins only if at most this number are asking: as many as there are processors, none if there is one */
   unsigned char apart[LFM_LINE];
   uint32_t asking; /* how many seats are queued by lfm_lock */
   unsigned char apart_from_others[LFM_LINE];
@@ -182,7 +182,7 @@ static inline void lfm_giving_up(lfm_seat *seat) {
 
 /* How threads sleep and wake.
  *
- * Each grant is rung for. One call grants the mutex to one seat at most, and its answer names that seat, which is proved. So whoever
+ * Each grant is rung for. One call grants the mutex to at most one seat, and its answer names that seat, which is proved. So whoever
  * made the call rings that seat's bell before its own thread sleeps. A wait and a wake give the list of the condition variable back before
  * they ring, and that never sleeps. The woken thread may need the list at once, and would sleep again if the list were still held.
  *
@@ -191,10 +191,10 @@ static inline void lfm_giving_up(lfm_seat *seat) {
  * a look finds another number of rings. The last look comes after `sleeps` is set, so a ring that it doesn't find will find `sleeps` set, and
  * wakes the thread. If the thread is not asleep by then, the system compares the number of rings and doesn't put it to sleep.
  *
- * Who rings has a seat that is in a call, and a mutex is closed only after all seats are back, so the bell is still there. */
+ * The ringer's own seat is in a call, and a mutex is closed only after all seats are back: so the bell outlives the ring. */
 
 #ifndef __cplusplus
-/* strict C11 leaves these undeclared, and else they are declared a second time */
+/* strict C11 leaves these undeclared; otherwise they are declared a second time */
 #pragma GCC diagnostic push
 #pragma GCC diagnostic ignored "-Wredundant-decls"
 long syscall(long number, ...);
@@ -267,8 +267,8 @@ static inline lfm_status lfm_receive(lfm_seat *seat, uint64_t nanoseconds) {
   }
 }
 
-/* The same for a seat whose grant may come soon: it looks first, unless so many are asking that it would only keep a processor from
- * them. */
+/* The same for a seat whose grant may come soon: it spins first, unless more than `near` seats are asking. Then it would only keep a
+ * processor from them. */
 static inline lfm_status lfm_receive_soon(lfm_seat *seat) {
   uint32_t *asking = &seat->mutex->asking;
   bool is_near = __atomic_add_fetch(asking, 1, __ATOMIC_RELAXED) <= seat->mutex->near;
@@ -277,7 +277,7 @@ static inline lfm_status lfm_receive_soon(lfm_seat *seat) {
   return status;
 }
 
-/* How many processors the calling thread may use; 8 where the system doesn't tell. */
+/* How many processors the calling thread may use; 8 if the system doesn't tell. */
 static inline uint32_t lfm_processors(void) {
   unsigned long mask[128];
   uint32_t count = 0;
@@ -312,7 +312,7 @@ static inline lfm_status lfm_mutex_new(lfm_mutex *mutex, uint64_t seats, uint64_
   return LFM_DONE;
 }
 
-/* One thread at a time takes a seat or gives one back. The others sleep until it has ended, so that it ends also where they have a
+/* One thread at a time takes a seat or gives one back. The others sleep until it is done, so that it gets done even if they have a
  * higher priority. */
 static inline void lfm_begin_taking(lfm_mutex *mutex) {
   uint32_t found = 0;
@@ -354,7 +354,7 @@ static inline lfm_status lfm_seat_give(lfm_seat *seat) {
   return LFM_DONE;
 }
 
-/* Ends the mutex and gives its memory back. Refused: LFM_BLANK, and LFM_NOT_BACK where one of its seats is not given back. A seat that
+/* Ends the mutex and gives its memory back. Refused: LFM_BLANK, and LFM_NOT_BACK if one of its seats is not given back. A seat that
  * holds or sleeps can't be given back, so a mutex that is held or asked for is refused. */
 static inline lfm_status lfm_mutex_close(lfm_mutex *mutex) {
   if (!mutex || !mutex->bells) return LFM_BLANK;
@@ -381,7 +381,7 @@ static inline lfm_status lfm_try_lock(lfm_seat *seat) {
   return lfm_gained(seat, (lfm_status)lfm_c_try_lock(seat->handle));
 }
 
-/* Gives one hold up: LFM_STILL where the seat holds on, else LFM_DONE, LFM_POSTED or LFM_GRANTED. It never sleeps.
+/* Gives one hold up: LFM_STILL if the seat still holds, else LFM_DONE, LFM_POSTED or LFM_GRANTED. It never sleeps.
  * Refused: LFM_BLANK, LFM_SEAT_ASLEEP, LFM_NOT_OWNER. */
 static inline lfm_status lfm_unlock(lfm_seat *seat) {
   if (!seat || !seat->mutex) return LFM_BLANK;
@@ -509,7 +509,7 @@ static inline lfm_status lfm_wake(lfm_condvar *condvar, lfm_seat *seat, bool all
 }
 
 /* Wakes the seat that has waited longest, if any: LFM_DONE or LFM_NOBODY. The caller's seat may hold the mutex or not. It costs one
- * take of the condition variable, and may sleep until the list is free. Where nobody waits, a seat that sleeps is told so, not refused.
+ * take of the condition variable, and may sleep until the list is free. If nobody waits, a seat that sleeps is told so, not refused.
  * Refused: LFM_BLANK, LFM_FOREIGN, LFM_SEAT_ASLEEP, LFM_SPENT (of the condition variable's own 2^36). */
 static inline lfm_status lfm_wake_one(lfm_condvar *condvar, lfm_seat *seat) { return lfm_wake(condvar, seat, false); }
 

@@ -36,13 +36,13 @@ public:
   lfm_status status() const noexcept { return told; }
 };
 
-// The status, or an exception where the call was refused.
+// The status, or an exception if the call was refused.
 inline lfm_status made(lfm_status status) {
   if (lfm_is_refused(status)) throw refused(status);
   return status;
 }
 
-// Whether a try has gained the mutex, or an exception where it was refused for another cause than LFM_BUSY.
+// Whether a try has gained the mutex, or an exception if it was refused for another cause than LFM_BUSY.
 inline bool has_gained(lfm_status status) {
   if (status == LFM_BUSY) return false;
   made(status);
@@ -91,8 +91,8 @@ public:
   explicit seat_lock(lfm_seat &s) noexcept : of(&s) {}
   // Throws as lfm_lock refuses.
   void lock() { made(lfm_lock(of)); }
-  // False where at some moment of the call another seat held the mutex, asked for it or was giving it up. Throws as lfm_try_lock
-  // refuses else.
+  // False if at some moment of the call another seat held the mutex, asked for it or was giving it up. Otherwise throws as
+  // lfm_try_lock refuses.
   bool try_lock() { return has_gained(lfm_try_lock(of)); }
   // Throws as lfm_unlock refuses.
   void unlock() { made(lfm_unlock(of)); }
@@ -124,7 +124,7 @@ class recursive_mutex {
     own_seat(std::shared_ptr<shared> mutex) : of(std::move(mutex)), raw(new lfm_seat()) { made(lfm_seat_take(&of->raw, raw.get())); }
     own_seat(own_seat &&) = default;
     ~own_seat() {
-      // Where it holds, the mutex has ended before the hold: both are left.
+      // If it holds, the mutex has ended before the hold: both are leaked.
       if (raw && lfm_is_refused(lfm_seat_give(raw.get()))) raw.release();
     }
   };
@@ -196,12 +196,12 @@ public:
   explicit recursive_mutex(uint64_t most_threads = 64, uint64_t budget = most_takes) { made(lfm_mutex_new(&state->raw, most_threads, budget)); }
   recursive_mutex(const recursive_mutex &) = delete;
   recursive_mutex &operator=(const recursive_mutex &) = delete;
-  // Each thread gives its seat back by itself, at its end or where it takes another.
+  // Each thread gives its seat back by itself, at its end or as it takes another.
   ~recursive_mutex() { state->is_gone = true; }
 
   lfm_mutex *native_handle() noexcept { return &state->raw; }
 
-  // The calling thread's seat. Throws LFM_NO_SEAT where too many threads have one. While the thread's objects end, it is there until the
+  // The calling thread's seat. Throws LFM_NO_SEAT if too many threads have one. While the thread's objects end, it is there until the
   // next call of a recursive_mutex.
   lfm_seat *own() {
     own_thread &mine = here();
@@ -241,7 +241,7 @@ public:
   condition_variable(const condition_variable &) = delete;
   condition_variable &operator=(const condition_variable &) = delete;
 
-  // Throws as lfm_wait refuses: LFM_FOREIGN where the lock is of another mutex, LFM_NESTED where it is not the thread's only hold.
+  // Throws as lfm_wait refuses: LFM_FOREIGN if the lock is of another mutex, LFM_NESTED if it is not the thread's only hold.
   void wait(std::unique_lock<recursive_mutex> &lock) {
     std::shared_ptr<shared> kept = state;
     made(lock.mutex()->by_own([&](lfm_seat *seat) { return lfm_wait(&kept->raw, seat); }));

@@ -15,7 +15,7 @@ fail() {
   printf 'FAILED %s\n' "$*"
 }
 
-# make_work_folder   makes the folder `work`, which is removed when the script ends; where no folder can be made, that is the
+# make_work_folder   makes the folder `work`, which is removed when the script ends; if no folder can be made, that is the
 # script's one failure, and its last line is still a count
 make_work_folder() {
   if ! work=$(realpath -e -- "$(mktemp -d)"); then
@@ -26,7 +26,7 @@ make_work_folder() {
   trap 'rm -rf -- "$work"' EXIT
 }
 
-# finish   prints the count; its status is 0 where something passed and nothing failed
+# finish   prints the count; its status is 0 if something passed and nothing failed
 finish() {
   printf '%d passed, %d failed\n' "$passed" "$failed"
   [ "$failed" = 0 ] && [ "$passed" != 0 ]

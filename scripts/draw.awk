@@ -246,7 +246,7 @@ function draw_row(row,    x, y, kind, text_x) {
   } else label(text_x, y + 4, "ink halo slant", "", escape(row_name[row] (row_detail[row] == "" ? "" : " " row_detail[row])))
 }
 
-# a value at the side: dark where it has changed, light where it has not
+# a value at the side: dark if it has changed, light if it has not
 function draw_value(x, y, now, before) {
   label(x, y + 4, now == before ? "soft" : "ink", "", escape(now))
 }

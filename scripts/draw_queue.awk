@@ -11,7 +11,7 @@ function read_pair(pair,    parts) {
   pair_seat = parts[2] == "none" ? 0 : parts[2]
 }
 
-# what stands behind the arrow, or all that was found where nothing was written
+# what stands behind the arrow, or all that was found if nothing was written
 function last_pair(text,    at) {
   at = index(text, " -> ")
   if (at) text = substr(text, at + 4)

@@ -40,7 +40,7 @@ function fault(text) {
 }
 
 # The links of one half of a comment's last paragraph. A name in backquotes stands in the file that is named next; a file
-# without a name before it is linked by its own name. A file is one of the law's crate where its path does not begin with
+# without a name before it is linked by its own name. A file is one of the law's crate if its path does not begin with
 # crates/. The file with the proofs of all forms for schedules is linked once, in the head of the page.
 function links_of(text, crate, name_of_law,    list, part, count, parts, i, pending, names, file, base, at) {
   list = ""

@@ -1,7 +1,7 @@
 # shellcheck shell=bash
 # Chooses the processors that a script runs on, and starts busy programs: sourced by the scripts that measure or stress.
 
-# first_processors COUNT   the first so many of the processors that this script may run on, with commas between them
+# first_processors COUNT   the first COUNT of the processors that this script may run on, with commas between them
 first_processors() {
   local from to
   taskset -cp "$$" | sed 's/.*: *//' | tr ',' '\n' | while IFS=- read -r from to; do
@@ -9,7 +9,7 @@ first_processors() {
   done | head -n "$1" | paste -sd,
 }
 
-# busy_programs COUNT COMMAND..   starts so many programs that do nothing but compute, each by the command, and keeps their
+# busy_programs COUNT COMMAND..   starts COUNT programs that do nothing but compute, each by the command, and keeps their
 # numbers in `busy`
 busy_programs() {
   local started

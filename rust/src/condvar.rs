@@ -12,7 +12,7 @@ pub struct Condvar {
     of: Arc<Core>,
     /// The list's seats. The user's seat n uses the list's seat n, so no two calls use one.
     seats: Vec<UnsafeCell<Place>>,
-    /// The numbers of the seats that wait, touched by who holds the list's mutex.
+    /// The numbers of the seats that wait, touched only by a holder of the list's mutex.
     waiting: UnsafeCell<VecDeque<u64>>,
 }
 
@@ -77,14 +77,14 @@ impl Condvar {
         Ok(unsafe { &mut *place.get() })
     }
 
-    /// The list, for who holds its mutex.
+    /// The list, for a holder of its mutex.
     #[allow(clippy::mut_from_ref)]
     unsafe fn list(&self) -> &mut VecDeque<u64> {
         &mut *self.waiting.get()
     }
 
-    /// Gives the mutex up, waits until a wake, and gains the mutex again, for one take. Refused: `Foreign`, `Nested` where the
-    /// seat holds more than once, `Spent`.
+    /// Gives the mutex up, waits until a wake, and gains the mutex again, for one take. Refused: `Foreign`, `Nested` if the seat
+    /// holds more than once, `Spent`.
     pub fn wait<T>(&self, guard: &mut Guard<'_, T>) -> Result<(), Refusal> {
         let seat = &mut *guard.0;
         let by = self.beside(seat)?;

@@ -43,7 +43,7 @@ const BUSY: u64 = 39;
 pub enum Refusal {
     /// Not 1 to 4,095 seats, or not 1 to 2^36 takes for each.
     Limit,
-    /// Memory was refused to the library. Where it is refused to this crate, the program ends, as elsewhere in Rust.
+    /// Memory was refused to the library. If it is refused to this crate, the program ends, as elsewhere in Rust.
     Memory,
     /// The seat is of another mutex, or its number is above the seats that the condition variable was made for.
     Foreign,

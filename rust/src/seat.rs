@@ -14,7 +14,7 @@ use std::{
     time::Duration,
 };
 
-/// For how long a seat that asks for the mutex looks whether it is granted it, before its thread sleeps: about as long as two
+/// For how long a queued seat spins, looking whether it is granted the mutex, before its thread sleeps: about as long as two
 /// wake-ups by the system. If it is shorter, one thread that sleeps soon makes all that queue behind it sleep too.
 const LOOK_TIME: Duration = Duration::from_micros(20);
 
@@ -41,7 +41,7 @@ impl<const N: usize> Bytes<N> {
 #[repr(align(64))]
 struct Count(AtomicUsize);
 
-/// How many seats may be asking where one looks at all: as many as there are processors, none if there is one.
+/// A seat spins only if at most this number are asking: as many as there are processors, none if there is one.
 fn near() -> usize {
     match thread::available_parallelism().map_or(8, NonZeroUsize::get) {
         1 => 0,
@@ -117,7 +117,7 @@ impl Core {
 
 impl Drop for Core {
     fn drop(&mut self) {
-        // Where a seat was not given back, the library keeps its memory.
+        // If a seat was not given back, the library keeps its memory.
         unsafe { lfm_c_close(self.handle.at()) };
     }
 }
@@ -177,7 +177,7 @@ impl Place {
         unsafe { lfm_c_number(self.at()) }
     }
 
-    /// Sleeps until the seat, which is asleep, is granted the mutex, after it has looked for so long.
+    /// Sleeps until the seat, which is asleep, is granted the mutex, after it has looked for `look_time`.
     pub(crate) fn receive(&mut self, look_time: Duration) -> u64 {
         let bell = &self.core.bells[self.number() as usize];
         let mut look_time = look_time;
@@ -194,8 +194,8 @@ impl Place {
         }
     }
 
-    /// The same for a seat whose grant may come soon: it looks first, unless so many are asking that it would only keep a
-    /// processor from them.
+    /// The same for a seat whose grant may come soon: it spins first, unless more than `near` seats are asking. Then it would only
+    /// keep a processor from them.
     fn receive_soon(&mut self) -> u64 {
         let is_near = self.core.asking.0.fetch_add(1, Relaxed) < self.core.near;
         let status = self.receive(if is_near { LOOK_TIME } else { Duration::ZERO });
@@ -222,13 +222,13 @@ impl Place {
         self.core.told(answer);
     }
 
-    /// Gives the mutex up, and leaves the seat asleep until it is sent. The wake-up is the caller's to make.
+    /// Gives the mutex up, and leaves the seat asleep until it is sent. The caller has to make the wake-up.
     pub(crate) fn start_wait(&mut self) -> Result<WakeUp, Refusal> {
         let answer = unsafe { lfm_c_start_wait(self.at()) };
         made(status_of(answer)).map(|_| WakeUp::of(answer))
     }
 
-    /// Sends a seat that waits. The wake-up is the caller's to make.
+    /// Sends a seat that waits. The caller has to make the wake-up.
     pub(crate) fn send(&mut self, number: u64) -> Result<WakeUp, Refusal> {
         let answer = unsafe { lfm_c_send(self.at(), number) };
         made(status_of(answer)).map(|_| WakeUp::of(answer))
@@ -282,7 +282,7 @@ impl<T> Seat<T> {
         unsafe { lfm_c_left(self.place.at()) }
     }
 
-    /// Gains the mutex, for one take, and sleeps until then. Refused: `Spent`, and `DepthFull` where guards were forgotten.
+    /// Gains the mutex, for one take, and sleeps until then. Refused: `Spent`, and `DepthFull` if guards were forgotten.
     pub fn lock(&mut self) -> Result<Guard<'_, T>, Refusal> {
         self.place.lock()?;
         Ok(Guard(self))
@@ -303,8 +303,8 @@ impl<T> Seat<T> {
     }
 }
 
-/// While it lives, its seat holds the mutex. Dropped, it gives one hold up. So it does where a panic drops it: the next seat finds
-/// the value as the panic left it, and nothing tells of that.
+/// While it lives, its seat holds the mutex. Dropped, it gives one hold up, even if a panic drops it: the next seat finds the value
+/// as the panic left it, and nothing tells of that.
 pub struct Guard<'a, T>(pub(crate) &'a mut Seat<T>);
 
 impl<T> Guard<'_, T> {

@@ -1,6 +1,6 @@
 //! How threads sleep and wake: one bell for each seat, on a cache line of its own.
 //!
-//! A call grants the mutex to one seat at most, and its answer names that seat, so its caller rings that bell, before its own thread
+//! A call grants the mutex to at most one seat, and its answer names that seat. So its caller rings that bell, before its own thread
 //! sleeps. A seat's thread reads how often its bell has rung, makes a receive, and looks or sleeps only while the bell has rung no
 //! more than that. A grant is stored before its ring, and the last look comes after the thread has said that it sleeps, so a ring
 //! is never missed.
@@ -49,8 +49,8 @@ impl Bell {
         }
     }
 
-    /// Looks for so long whether it rings again, after it has rung so often. A look loads the bell alone, which no other seat's
-    /// steps touch, after some pauses.
+    /// Looks for this time whether it rings again, after it has rung `seen` times. A look loads the bell alone, which no other
+    /// seat's steps touch, after some pauses.
     pub fn hears(&self, seen: u32, time: Duration) -> bool {
         if time.is_zero() {
             return false;
@@ -69,7 +69,7 @@ impl Bell {
         }
     }
 
-    /// Sleeps while it has rung just so often. It may return for no cause.
+    /// Sleeps while it has rung exactly `seen` times. It may return for no cause.
     pub fn sleep(&self, seen: u32) {
         let forever: *const u8 = std::ptr::null();
         self.sleeps.store(1, SeqCst);

@@ -1,5 +1,5 @@
 //! A producer and a consumer: one thread puts the numbers 1, 2, 3 and on into a bounded buffer, and another takes them out.
-//! A monitor guards the buffer. Who finds it full, or empty, waits on a condition until the other thread wakes it.
+//! A monitor guards the buffer. A thread that finds it full, or empty, waits on a condition until the other thread wakes it.
 #![tactic(auto)]
 
 mod buffer;
@@ -14,11 +14,12 @@ use std::sync::Wait;
 /// How many numbers go through the buffer.
 const NUMBERS: u64 = 10_000;
 
-/// How many entries of the journal a thread may write. A number costs it four at most: it enters and tries, and if that was
-/// in vain it waits, enters again and tries once more.
+/// How many entries of the journal a thread may write. A number costs it four at most: it enters and tries, and if that fails it
+/// waits, enters again and tries once more.
 const ENTRIES: u64 = 40_000;
 
-/// The conditions of the monitor: on the first one waits who found the buffer empty, on the second who found it full.
+/// The conditions of the monitor: a thread that found the buffer empty waits on the first, and one that found it full on the
+/// second.
 const NOT_EMPTY: u64 = 1;
 
 const NOT_FULL: u64 = 2;
@@ -55,7 +56,7 @@ impl<R: Wait> CriticalSection<Buffer, R> for Roles {
     }
 }
 
-/// How many numbers were taken, where they are 1, 2, 3 and on.
+/// How many numbers were taken, if they are 1, 2, 3 and on.
 fn taken_in_order(replies: &[BufferReply]) -> Option<u64> {
     let mut last = 0u64;
     for reply in replies {
@@ -70,7 +71,7 @@ fn taken_in_order(replies: &[BufferReply]) -> Option<u64> {
 }
 
 fn main(rt: HostRuntime) -> anyhow::Result<()> {
-    // a monitor with two passes, each of which may write so many entries, and two conditions, round an empty buffer
+    // a monitor with two passes, each of which may write `ENTRIES` entries, and two conditions, round an empty buffer
     let (monitor, passes) = Monitor::new(rt.alloc(), 2, ENTRIES, 2, Buffer::new())?;
     let Ok(passes) = monitor.run(&rt, passes, NUMBERS, &Roles) else {
         bail!("a thread could not be started");

@@ -41,7 +41,7 @@ impl Cache {
     }
 }
 
-// Whatever a thread leaves in it may be left.
+/// A thread may leave anything in it.
 impl Kept for Cache {
     ghost fits = { λ _ _. Unit {0} };
 

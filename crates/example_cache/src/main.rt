@@ -34,8 +34,8 @@ fn sum_of_divisors(number: u64) -> u64 {
     sum
 }
 
-/// The sum of the divisors, from the cache where it is there and no other seat holds the mutex. Else it is added up, and put
-/// into the cache where no other seat holds the mutex then.
+/// The sum of the divisors, from the cache if it is there and no other seat holds the mutex. Otherwise it is added up, and put
+/// into the cache if no other seat holds the mutex then.
 fn look_up(mutex: &Mutex<Cache>, seat: &mut Seat<Cache>, number: u64) -> Result<u64, Refusal>
     requires { OfMutex seat.old mutex.now }
     ensures belongs { OfMutex seat.new mutex.now }
@@ -56,7 +56,7 @@ fn look_up(mutex: &Mutex<Cache>, seat: &mut Seat<Cache>, number: u64) -> Result<
 fn main(rt: HostRuntime) -> anyhow::Result<()> {
     let (mutex, seats) = Mutex::new(rt.alloc(), 4, BUDGET, Cache::new())?;
     let total = AtomicU64::new(0);
-    // where a thread can't be started, none looks anything up, and the program ends with an error
+    // if a thread can't be started, none looks anything up, and the program ends with an error
     let seats = mutex.run(
         &rt,
         seats,

@@ -45,7 +45,7 @@ pub enum ChannelReply {
 }
 
 impl Channel {
-    /// A channel with nothing in it, for so many senders.
+    /// A channel with nothing in it, for this number of senders.
     pub fn new(senders: u64) -> Channel {
         Channel {
             slots: [0; 4],

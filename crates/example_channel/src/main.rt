@@ -1,5 +1,5 @@
 //! Four threads send numbers through a channel, and a fifth receives them until all senders have closed their ends. A monitor
-//! guards the channel. Who finds it full, or empty, waits on a condition until another thread wakes it.
+//! guards the channel. A thread that finds it full, or empty, waits on a condition until another thread wakes it.
 #![tactic(auto)]
 
 mod channel;
@@ -25,7 +25,8 @@ const ROUNDS: u64 = 1_001;
 /// all the wakes of its condition.
 const ENTRIES: u64 = 5_000;
 
-/// The conditions of the monitor: on the first one waits who found the channel empty, on the second who found it full.
+/// The conditions of the monitor: a thread that found the channel empty waits on the first, and one that found it full on the
+/// second.
 const NOT_EMPTY: u64 = 1;
 
 const NOT_FULL: u64 = 2;
@@ -86,7 +87,7 @@ fn received(replies: &[ChannelReply]) -> (u64, u64) {
 }
 
 fn main(rt: HostRuntime) -> anyhow::Result<()> {
-    // a monitor with a pass for each thread, each of which may write so many entries, and two conditions, round the channel
+    // a monitor with a pass for each thread, each of which may write `ENTRIES` entries, and two conditions, round the channel
     let channel = Channel::new(SENDERS);
     let (monitor, passes) = Monitor::new(rt.alloc(), SENDERS + 1, ENTRIES, 2, channel)?;
     let Ok(passes) = monitor.run(&rt, passes, ROUNDS, &Roles) else {

@@ -3,7 +3,7 @@ use Rattle.std.specs.Prelude.{◌≡◌, ◌-◌, ◌/◌, ℕ, List, length, sl
 use Rattle.std.specs.Ordering.{nat_cmp}
 use Rattle.lfm_bench.specs.declared.measure.figures.Quartiles.{Quartiles}
 
--- the median stands in the middle, the upper of two where the number of figures is even, and as many stand before the lower one as
+-- the median stands in the middle, the upper of two if the number of figures is even, and as many stand before the lower one as
 -- after the upper one: a quarter of all
 pub record StandIn (q : Quartiles) (sorted : List ℕ) : Type 0 where
   pub lower : q.lower ≡ slice_index sorted (length sorted / 4)

@@ -1,4 +1,4 @@
-//! Those who are measured, and a round of each workload.
+//! The peers that are measured, and a round of each workload.
 
 use crate::measure::{Plan, Round, Start, StepTime};
 use crate::workloads::alone::{Peers, round, round_of_all};
@@ -31,10 +31,10 @@ const CALLS_OF_NUMBER: u64 = 10;
 
 const FEWEST_NUMBERS: u64 = 20;
 
-/// Those who are measured, and how much.
+/// The peers that are measured, and how much.
 #[derive(Drop)]
 pub struct Bench<'a> {
-    /// Those who are measured by what one thread does. The others are made in each round.
+    /// The peers that are measured by what one thread does. The others are made in each round.
     pub peers: Peers<'a>,
     pub plan: Plan,
 }

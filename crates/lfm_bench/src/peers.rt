@@ -1,4 +1,4 @@
-//! Who is measured: our mutex and condvars, and std's.
+//! The peers that are measured: our mutex and condvars, and std's.
 pub mod guarded;
 pub mod ours;
 pub mod participants;

@@ -1,4 +1,4 @@
-//! The workloads. Each file has one, and measures those who have its calls.
+//! The workloads. Each file has one, and measures the peers that have its calls.
 pub mod alone;
 pub mod broadcast;
 pub mod contended;
@@ -18,7 +18,7 @@ use crate::measure::Watching;
 pub enum Workload {
     /// The calls of one thread.
     Alone(Calls),
-    /// So many threads take turns.
+    /// This number of threads take turns.
     Contended {
         threads: u64,
         work: Work,
@@ -26,9 +26,9 @@ pub enum Workload {
     },
     /// Two threads wake each other.
     PingPong,
-    /// A thread wakes so many others, all at once.
+    /// A thread wakes this number of others, all at once.
     Broadcast(u64),
-    /// So many threads put numbers into a bounded queue, and as many take them out.
+    /// This number of threads put numbers into a bounded queue, and as many take them out.
     Queue(u64),
 }
 
@@ -55,7 +55,7 @@ pub enum Calls {
     Recursive,
     /// It gains the mutex by try_lock, and unlocks.
     Hits,
-    /// It tries in vain to gain a mutex that is held.
+    /// It tries to gain a mutex that is held, and fails.
     Misses,
     /// It passes the mutex from one seat to another.
     Handoffs,

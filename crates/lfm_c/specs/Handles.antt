@@ -38,14 +38,14 @@ Follows s v w = Unit {0}
 abbrev pub Fits : ℕ → ℕ → Type 0
 Fits v k = Unit {0}
 
--- A call of a seat, P, which answers n: of a blank handle it tells just that. The seat's mutex stays.
+-- A call of a seat, P, which answers n: of a blank handle it tells only that it is blank. The seat's mutex stays.
 abbrev pub OfSeated : (Limits → Sight ℕ → Sight ℕ → ℕ → Type 0) → Option Seated → Option Seated → ℕ → Type 0
 OfSeated P None y n = (y ≡ None) × (n ≡ code Status.Blank)
 OfSeated P (Some a) None n = ⊥
 OfSeated P (Some a) (Some b) n = (b.mutex ≡ a.mutex) × Beside a.seat b.seat × P (limits_of (arc_value a.mutex)) (sight a.seat) (sight b.seat) n
 
--- A call of this sort that may grant another seat the mutex. Its answer names the seat of the wake-up that it leaves: the one that its
--- steps granted, just where they granted one.
+-- A call of this sort that may grant another seat the mutex. Its answer names the seat of the wake-up that it leaves: the one that
+-- its steps granted, exactly if they granted one.
 abbrev pub WakesOf : (Limits → Sight ℕ → Sight ℕ → Status → Type 0) → Limits → Sight ℕ → Sight ℕ → ℕ → Type 0
 WakesOf P l s t n = (status : Status) × (w : Option ℕ) × P l s t status × Wakes l.seats w s.trail t.trail × (n ≡ told status w) × Names w n
 
@@ -156,8 +156,8 @@ GivesBack (Some w) (Some a) v t n = GivesOf w a v t n
 abbrev pub TellsGive : MutexHandle → SeatHandle → MutexHandle → SeatHandle → ℕ → Type 0
 TellsGive m s m' s' n = GivesBack m.whole s.seated m'.whole s'.seated n
 
--- A mutex is ended where each of its seats is back, and none of them holds or sleeps. Else the first that hinders it is named, as a close
--- of the mutex names it.
+-- A mutex is ended if each of its seats is back, and none of them holds or sleeps. Otherwise the first that hinders it is named, as
+-- a close of the mutex names it.
 abbrev pub ClosesWhole : Option Whole → Option Whole → ℕ → Type 0
 ClosesWhole None v n = (v ≡ None) × (n ≡ code Status.Blank)
 ClosesWhole (Some w) (Some v) n = (v ≡ w) × (m : Missing) × FirstMissing (λ a. sight a.seat) w.seats.items (limits_of (arc_value w.mutex)).seats m × (n ≡ hindered m)

@@ -42,7 +42,7 @@ abbrev pub told : Status → Option ℕ → ℕ
 told status None = code status
 told status (Some seat) = code status + 256 * seat
 
--- an answer is above its low 8 bits just where there is a wake-up, so none is told as no seat's
+-- an answer is above its low 8 bits exactly if there is a wake-up, so no wake-up is told as one of no seat
 abbrev pub Names : Option ℕ → ℕ → Type 0
 Names None n = n < 256
 Names (Some seat) n = 256 ≤ n

@@ -1,5 +1,5 @@
-//! The calls of a seat. Each is the mutex's own, made without waking. Its answer is told as a number, with the seat that it leaves to
-//! be woken.
+//! The calls of a seat. Each is the mutex's own call without waking. It answers a number: the status, and the seat that is left
+//! to be woken.
 ghost use Rattle.std.specs.Prelude.{◌≡◌, ◌+◌, Option};
 ghost use Rattle.std.specs.Arc.{arc_value};
 ghost use Rattle.lfm_protocol.specs.declared.answers.Answer.TheVariants as Answered;
@@ -17,7 +17,7 @@ use crate::status::Status;
 use lfm_model::{Asked, How, Locked, Refusal, SeatNo, Unlocked};
 use lfm_mutex::{Seat, WakeUp};
 
-// The status, and above it the seat of the wake-up, which is the caller's to make from here on.
+/// The status, and above it the seat of the wake-up, which the caller has to make from here on.
 fn told(status: Status, wake_up: Option<WakeUp>) -> u64
     ensures is { result ≡ told_of status wake_up }
     ensures names { Names wake_up result }
@@ -89,7 +89,7 @@ fn sent(answer: Result<(), Refusal>) -> Status
     }
 }
 
-// Why a send of this seat to a number that no seat can have is refused.
+/// Why a send of this seat to a number that no seat can have is refused.
 fn without_target(seat: &Seat<u64>) -> Status
     ensures { result ≡ Status.Refused (refused_target (sight seat.now).asleep) }
 {

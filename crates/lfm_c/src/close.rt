@@ -18,7 +18,7 @@ fn number_of(seated: &Seated) -> u64
     seated.seat.number().get()
 }
 
-// Why a mutex can't be ended with this seat.
+/// Why a mutex can't be ended with this seat.
 fn hinders(seated: &Seated) -> Option<Missing>
     ensures { MatchOption result (Idle (sight seated.now.seat)) (λ m. Hinders m (sight seated.now.seat)) }
 {
@@ -31,7 +31,7 @@ fn hinders(seated: &Seated) -> Option<Missing>
     None
 }
 
-// What keeps the seat with this number from being back.
+/// What keeps the seat with this number from being back.
 fn hinders_at(seats: &Vec<Seated>, number: u64) -> Option<Missing>
     requires number { IsSeatNo number }
     ensures { MatchOption result (Stands (λ a. sight a.seat) seats.now.items number) (λ m. (named m ≡ number) × Hindered (λ a. sight a.seat) seats.now.items m) }
@@ -54,7 +54,7 @@ fn hinders_at(seats: &Vec<Seated>, number: u64) -> Option<Missing>
 }
 
 impl Whole {
-    // The first thing that keeps the mutex from being ended.
+    /// The first thing that keeps the mutex from being ended.
     fn missing(&self) -> Option<Missing>
         ensures { MatchOption result (AllStand (λ a. sight a.seat) self.now.seats.items (limits_of (arc_value self.now.mutex)).seats) (FirstMissing (λ a. sight a.seat) self.now.seats.items (limits_of (arc_value self.now.mutex)).seats) }
     {
@@ -67,7 +67,7 @@ impl Whole {
     }
 }
 
-// The status, and above it the seat that is named.
+/// The status, and above it the seat that is named.
 fn hindered(missing: Missing) -> u64
     ensures { result ≡ hindered_of missing }
 {
@@ -78,7 +78,7 @@ fn hindered(missing: Missing) -> u64
     }
 }
 
-/// Ends the mutex, where each of its seats is back.
+/// Ends the mutex if each of its seats is back.
 pub fn close(handle: &mut MutexHandle) -> u64
     ensures told { TellsClose handle.old handle.new result }
 {

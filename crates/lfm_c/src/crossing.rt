@@ -1,4 +1,4 @@
-//! Handles may go from one thread to another: the functions here are proved only where their types are `Send`.
+//! Handles may go from one thread to another: the functions here are proved only if their types are `Send`.
 ghost use Rattle.std.specs.Prelude.{◌≡◌};
 
 use crate::handles::{MutexHandle, SeatHandle};

@@ -1,11 +1,11 @@
 //! A recursive mutex for programs in C. The handle of a mutex, and one for each seat, lie in memory of the caller, who gives each
-//! to one call at a time. A static library may neither sleep nor wake, so no call here does: include/ligdrosa.h sleeps where a
-//! call answers that the seat does, and wakes the seat that a call names.
+//! to one call at a time. A static library may neither sleep nor wake, so no call here does: include/ligdrosa.h sleeps if a call
+//! answers that the seat does, and wakes the seat that a call names.
 //!
 //! An export tells what the call of the mutex answered by a status in the low 8 bits. Its clause says what the status means: the
-//! mutex's own clauses of that call's answers, steps and bound hold of it. An `ask`, `unlock`, `start_wait` or `send` may grant the
-//! mutex to another seat, one at most. The number of that seat stands above the status, and 0 where there is none, and the clause
-//! says that it is the seat of the wake-up which the call leaves. So on this side no wake-up is lost: the caller has to wake the seat
+//! mutex's own clauses of that call's answers, steps and bound hold of it. An `ask`, `unlock`, `start_wait` or `send` may grant
+//! the mutex to at most one other seat. The number of that seat stands above the status, 0 if there is none, and the clause says
+//! that it is the seat of the wake-up which the call leaves. So on this side no wake-up is lost: the caller has to wake the seat
 //! that an answer names.
 #![tactic(auto)]
 
@@ -114,8 +114,8 @@ pub unsafe extern "C" fn lfm_c_take_seat(mutex: *mut u8, seat: *mut u8) -> u64
 
 /// Gives the seat back to its mutex, and leaves its handle blank. The seat keeps its number and its takes.
 ///
-/// Done, or Blank, Foreign (all seats of this mutex are back, so the seat is another's), Holding, Asleep, which change nothing. That
-/// the seat is of this mutex is else the caller's to know.
+/// Done, or Blank, Foreign (all seats of this mutex are back, so the seat is another's), Holding, Asleep, which change nothing.
+/// Otherwise the caller has to know that the seat is of this mutex.
 #[unsafe(no_mangle)]
 pub unsafe extern "C" fn lfm_c_give_seat(mutex: *mut u8, seat: *mut u8) -> u64
     ghost x: { MutexNow × SeatNow }
@@ -128,12 +128,12 @@ pub unsafe extern "C" fn lfm_c_give_seat(mutex: *mut u8, seat: *mut u8) -> u64
     )
 }
 
-/// Ends the mutex where each of its seats is back, and gives its memory back.
+/// Ends the mutex if each of its seats is back, and gives its memory back.
 ///
-/// Done, or Blank, NotBack, Holding, Asleep, which change nothing. Above one of the last three stands the number of the first seat, from 1
-/// on, that is not back, holds or sleeps, as `close` of the mutex names it. That `close` is not called: it has to know of each seat that it
-/// is one of this mutex. A seat comes back from C, and nothing that runs tells whose it is, so here seats are known by their numbers
-/// alone. What the mutex guards, a number that nothing reads, is dropped with it.
+/// Done, or Blank, NotBack, Holding, Asleep, which change nothing. Above one of the last three stands the number of the first
+/// seat, from 1 on, that is not back, holds or sleeps, as `close` of the mutex names it. That `close` is not called here, since
+/// it requires that each seat is one of this mutex. Nothing that runs tells whose seat comes back from C, so here seats are known
+/// by their numbers alone. What the mutex guards, a number that nothing reads, is dropped with it.
 #[unsafe(no_mangle)]
 pub unsafe extern "C" fn lfm_c_close(mutex: *mut u8) -> u64
     ghost x: { MutexNow }
@@ -143,7 +143,7 @@ pub unsafe extern "C" fn lfm_c_close(mutex: *mut u8) -> u64
     close::close(&mut *(mutex as *mut MutexHandle))
 }
 
-/// The seat's number, 1 to 4,095, and 0 where the handle is blank.
+/// The seat's number, 1 to 4,095, or 0 if the handle is blank.
 #[unsafe(no_mangle)]
 pub unsafe extern "C" fn lfm_c_number(seat: *mut u8) -> u64
     ghost x: { SeatNow }
@@ -153,7 +153,7 @@ pub unsafe extern "C" fn lfm_c_number(seat: *mut u8) -> u64
     reading::number(&mut *(seat as *mut SeatHandle))
 }
 
-/// How often the seat holds, 0 to 65,535, and 0 where the handle is blank.
+/// How often the seat holds, 0 to 65,535, and 0 if the handle is blank.
 #[unsafe(no_mangle)]
 pub unsafe extern "C" fn lfm_c_depth(seat: *mut u8) -> u64
     ghost x: { SeatNow }
@@ -163,7 +163,7 @@ pub unsafe extern "C" fn lfm_c_depth(seat: *mut u8) -> u64
     reading::depth(&mut *(seat as *mut SeatHandle))
 }
 
-/// How many takes the seat has left, 0 to 2^36, and 0 where the handle is blank.
+/// How many takes the seat has left, 0 to 2^36, and 0 if the handle is blank.
 #[unsafe(no_mangle)]
 pub unsafe extern "C" fn lfm_c_left(seat: *mut u8) -> u64
     ghost x: { SeatNow }
@@ -226,7 +226,8 @@ pub unsafe extern "C" fn lfm_c_start_wait(seat: *mut u8) -> u64
 }
 
 /// `send_lock` of the seat to the seat with this number: Done, or Blank, or why it is refused. Above it is the number of the seat to be
-/// woken, or 0: the seat that was sent, where it was granted the mutex at once, or a third one, to which a posted hand-off was passed.
+/// woken, or 0: the seat that was sent, if it was granted the mutex at once, or a third one, to which a posted hand-off was
+/// passed.
 #[unsafe(no_mangle)]
 pub unsafe extern "C" fn lfm_c_send(seat: *mut u8, number: u64) -> u64
     ghost x: { SeatNow }

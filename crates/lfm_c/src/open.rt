@@ -15,7 +15,7 @@ use lfm_mutex::{Mutex, Seat};
 use std::alloc::{AllocError, Global};
 use std::sync::Arc;
 
-// Gives each seat the mutex. The first seat comes last.
+/// Gives each seat the mutex. The first seat comes last.
 fn seated(
     alloc: Global,
     mutex: &Arc<Mutex<u64>, Global>,
@@ -37,7 +37,7 @@ fn seated(
     Ok(all)
 }
 
-// A mutex, with each of its seats.
+/// A mutex, with each of its seats.
 fn opened(alloc: Global, seats: u64, budget: u64) -> Result<Whole, NewFault>
     ensures ok { IfOk result (λ w. Opened seats budget w × (are_in_limits seats budget ≡ true)) }
     ensures fault { IfErr result (λ e. Faults seats budget e) }
@@ -60,7 +60,7 @@ fn opened(alloc: Global, seats: u64, budget: u64) -> Result<Whole, NewFault>
     })
 }
 
-/// Opens a mutex where the handle is blank.
+/// Opens a mutex if the handle is blank.
 pub fn open(handle: &mut MutexHandle, seats: u64, budget: u64) -> u64
     ensures told { TellsOpen handle.old seats budget handle.new result }
 {
@@ -78,7 +78,7 @@ pub fn open(handle: &mut MutexHandle, seats: u64, budget: u64) -> u64
 }
 
 impl Whole {
-    // The next seat that is left to take.
+    /// The next seat that is left to take.
     fn next(&mut self) -> Option<Seated>
         ensures { MatchOption result ((self.new ≡ self.old) × (vec_len self.old.seats ≡ 0)) (λ a. (self.old.seats.items ≡ self.new.seats.items ++ a ∷ []) × (self.new.mutex ≡ self.old.mutex) × (self.new.count ≡ self.old.count)) }
     {
@@ -91,7 +91,7 @@ impl Whole {
         Some(seated)
     }
 
-    // Puts a seat back.
+    /// Puts a seat back.
     fn put(&mut self, seated: Seated)
         requires { vec_len self.old.seats < self.old.count }
         ensures { Leaving (self.old.seats.items ++ seated ∷ []) self.old self.new }
@@ -125,7 +125,7 @@ pub fn take_seat(mutex: &mut MutexHandle, seat: &mut SeatHandle) -> u64
     }
 }
 
-// Why the seat can't go back to the mutex.
+/// Why the seat can't go back to the mutex.
 fn stays(whole: &Whole, seated: &Seated) -> Option<Status>
     ensures { MatchOption result ((vec_len whole.now.seats < whole.now.count) × ((sight seated.now.seat).asleep ≡ false) × ((sight seated.now.seat).depth ≡ 0)) (λ k. StaysOut whole.now seated.now (code k)) }
 {

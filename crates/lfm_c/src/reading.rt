@@ -3,7 +3,7 @@ ghost use Rattle.lfm_c.specs.Handles.{TellsNumber, TellsDepth, TellsLeft};
 
 use crate::handles::SeatHandle;
 
-/// The seat's number, 1 to 4,095, and 0 where the handle is blank.
+/// The seat's number, 1 to 4,095, or 0 if the handle is blank.
 pub fn number(handle: &mut SeatHandle) -> u64
     ensures told { TellsNumber handle.old handle.new result }
 {
@@ -13,7 +13,7 @@ pub fn number(handle: &mut SeatHandle) -> u64
     }
 }
 
-/// How often the seat holds, 0 to 65,535, and 0 where the handle is blank.
+/// How often the seat holds, 0 to 65,535, and 0 if the handle is blank.
 pub fn depth(handle: &mut SeatHandle) -> u64
     ensures told { TellsDepth handle.old handle.new result }
 {
@@ -23,7 +23,7 @@ pub fn depth(handle: &mut SeatHandle) -> u64
     }
 }
 
-/// How many takes the seat has left, and 0 where the handle is blank.
+/// How many takes the seat has left, and 0 if the handle is blank.
 pub fn left(handle: &mut SeatHandle) -> u64
     ensures told { TellsLeft handle.old handle.new result }
 {

@@ -11,7 +11,7 @@ pub enum Status {
     Done,
     /// The seat held before, and holds once more.
     Again,
-    /// The seat holds once less, and holds on.
+    /// The seat holds once less, and still holds.
     Still,
     /// The seat sleeps.
     Asleep,

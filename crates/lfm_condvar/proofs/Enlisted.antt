@@ -1,4 +1,4 @@
--- What is so once a seat was enlisted, or refused.
+-- What holds once a seat was enlisted, or refused.
 use Rattle.std.proofs.Common.{◌≡◌, ℕ, ◌+◌, ◌<◌, ◌≤◌, List, Result, Ok, Err, sym, ap, ◌∙◌, subst, arith, length, get_or, get_or-set_same, slice_index}
 use Rattle.lfm_model.specs.declared.refusals.Refusal.{Refusal}
 use Rattle.lfm_model.specs.declared.refusals.Refusal.TheVariants.{Asleep, NotOwner, Nested, DepthFull, Spent, NoSuchSeat, NotWaiting, Busy}

@@ -34,7 +34,7 @@ once_more ws w once none k = let m = times_more k ws w in dite (ℕ_discrete w.s
     (λ e. let x = one_most w.seat k in let z : times k ws ≡ 0 = ap (λ j. times j ws) (sym e) ∙ none in omega arith)
     (λ ne. let x = one_other w.seat k ne in let o = once k in omega arith)
 
--- what at most so many each add up to
+-- what numbers of at most b each add up to
 pub sum_within : (b : ℕ) (xs : List ℕ) → All (λ x. x ≤ b) xs → sum xs ≤ length xs * b
 sum_within b xs h = sum_by-le (λ x. x) b xs h
 

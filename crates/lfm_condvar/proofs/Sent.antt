@@ -1,4 +1,4 @@
--- What is so once waiters were sent, or one of them was not waiting.
+-- What holds once waiters were sent, or one of them was not waiting.
 use Rattle.std.proofs.Common.{◌≡◌, ℕ, ◌+◌, ◌≤◌, List, [], ◌∷◌, ◌++◌, false, Option, None, Result, Ok, Err, refl, sym, ap, ◌∙◌, subst, arith, length, slice_index, append_assoc, length-append}
 use Rattle.std.specs.Prelude.{⊤, map}
 use Rattle.lfm_model.specs.declared.refusals.Refusal.{Refusal}
@@ -33,7 +33,7 @@ follows_none s v = (refl, refl, omega arith, omega arith, λ k ne. refl)
 pub follows_more : (s : ℕ) (u v w : Waiters) → WaitersFollow s u v → WaitersFollow s v w → WaitersFollow s u w
 follows_more s u v w a b = let p = a.2 in let q = a.3 in let x = b.2 in let y = b.3 in (b.0 ∙ a.0, b.1 ∙ a.1, omega arith, omega arith, λ k ne. b.4 k ne ∙ a.4 k ne)
 
--- who counts nothing for anybody keeps every count
+-- a change that counts nothing for anybody keeps every count
 pub same_count : (v w : Waiters) (k : ℕ) → ((s : ℕ) → WaitersFollow s v w) → slice_index w.counts.items k ≤ slice_index v.counts.items k + 1
 same_count v w k f = let same = (f (k + 1)).4 k (λ q. omega arith) in omega arith
 

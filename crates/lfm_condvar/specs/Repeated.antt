@@ -24,7 +24,7 @@ module _ {T : Type 0} (says : T → Bool → Type 0) where
   WouldWait s = (v : T) → s.value ≡ Some v → says v true
 
 module _ {T : Type 0} (follows : ℕ → T → T → Type 0) (fits : T → ℕ → Type 0) (user own : Limits) (tries : ℕ) (says : T → Bool → Type 0) where
-  -- so many waits, before each of which the condition held
+  -- this number of waits, before each of which the condition held
   abbrev pub AllWaited : ℕ → Sight Waiters → Sight Waiters → Sight T → Sight T → Type 0
   AllWaited zero c d s t = (d ≡ c) × (t ≡ s)
   AllWaited (suc n) c d s t =

@@ -42,7 +42,7 @@ module _ {T : Type 0} where
   SendsInTurn user s [] t = t ≡ s
   SendsInTurn user s (x ∷ xs) t = Sends user.seats s x.0 x.1 (Ok tt) × Makes user (Call.SendLock x.0) s x.1 (Ended Answer.Sent) × SendsInTurn user x.1 xs t
 
-  -- The steps of a call that sends, and ends so: those of some sends, and where the last was refused as NotWaiting those of that one
+  -- The steps of a call that sends, and ends so: those of some sends, and if the last was refused as NotWaiting, those of that one
   abbrev pub SendsBy : {A : Type 0} → Limits → Sight T → Sight T → Result A Refusal → Type 0
   SendsBy user s t (Ok a) = (sent : List (ℕ × Sight T)) × SendsInTurn user s sent t
   SendsBy user s t (Err Refusal.NotWaiting) =

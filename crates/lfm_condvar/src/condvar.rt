@@ -6,7 +6,7 @@ use crate::waiters::Waiters;
 use lfm_mutex::{Mutex, Pace};
 
 /// A condition variable: user seats that wait, and are sent in the order in which they came. It is used with one user mutex;
-/// that every call names the same one is left to the caller. A call with the seat of another condvar or mutex breaks the
+/// the caller has to name the same one in every call. A call with the seat of another condvar or mutex breaks the
 /// condition that every call has.
 ///
 /// Both of these calls are compiled in the crate `lfm_thread_tests`:
@@ -18,7 +18,7 @@ use lfm_mutex::{Mutex, Pace};
 /// condvar.wake_one(rt, cond, mutex, seat)
 /// ```
 ///
-/// `wait_while` waits for as long as what the mutex guards is so, here as long as the number is 0:
+/// `wait_while` waits while a condition on the guarded value holds, here that the number is 0:
 ///
 /// ```
 /// condvar.wait_while(&rt, &mut cond, &mutex, &mut seat, |number| *number == 0)?;

@@ -1,11 +1,11 @@
-//! A condvar, its seats and its list as text, for who looks for a fault.
+//! `{:?}` of a condvar and of its seats, for debugging.
 
 use crate::cond_seat::CondSeat;
 use crate::condvar::Condvar;
 use lfm_mutex::Holder;
 use std::fmt::{Debug, Formatter, Result, Write};
 
-/// How many seats it has. Its list belongs to the seat that holds it, so it isn't told.
+/// How many seats it has. Its list belongs to the seat that holds it, so it isn't shown.
 impl Debug for Condvar {
     fn fmt<W: Write>(&self, f: &mut Formatter<W>) -> Result {
         f.debug_struct("Condvar")

@@ -22,8 +22,8 @@ impl Condvar {
     /// how many waits and wakes each cond seat may make, 1 to 2^36. A user seat may wait on it if its number is at most
     /// `seats`.
     ///
-    /// Outside these limits it answers Limit, and asks for no memory. It answers Memory where a request for memory was
-    /// refused. No other call of a condvar takes memory.
+    /// Outside these limits it answers Limit, and asks for no memory. It answers Memory if a request for memory was refused. No
+    /// other call of a condvar takes memory.
     pub fn new(alloc: Global, seats: u64, budget: u64) -> Result<(Condvar, Vec<CondSeat>), NewFault>
         ensures limits { IfOk result (λ r. (cond_limits r.0 ≡ record { seats = seats; budget = budget }) × (are_in_limits seats budget ≡ true)) }
         ensures belongs { IfOk result (λ r. (j : ℕ) (s : _) → get_elem? r.1.items j ≡ some s → OfCondvar s r.0) }

@@ -14,10 +14,10 @@ use lfm_model::{How, Refusal};
 use lfm_mutex::{Holder, Kept, Mutex, Pace, Seat};
 use std::sync::Wait;
 
-// How often a seat looks before it sleeps, if this many seats waited ahead of it, and the user mutex counts this many. A seat that
-// waits alone beside one other thread may be sent soon, as when two threads take turns, and its looks then cost less than a sleep
-// and a wake-up. If several seats wait, or were just sent, most of them wait for long, and looks would take the processors from the
-// threads that are to go on.
+/// How often a seat looks before it sleeps, by the number of seats that waited ahead of it, and the count of the user mutex. A
+/// seat that waits alone beside one other thread may be sent soon, as when two threads take turns, and its looks then cost less
+/// than a sleep and a wake-up. If several seats wait, or were just sent, most of them wait for long, and looks would take the
+/// processors from the threads that are to go on.
 fn looks_behind(pace: Pace, ahead: usize, counted: u64) -> u32
     ensures alone { ahead ≡ 0 → counted ≤ 1 → result ≡ pace.looks }
     ensures behind { 0 < ahead → result ≡ 0 }
@@ -58,7 +58,7 @@ impl Condvar {
         }
     }
 
-    // `begin_wait`, which also answers how many waited ahead of the seat in the list that the cond seat found.
+    /// `begin_wait`, which also answers how many waited ahead of the seat in the list that the cond seat found.
     fn begin_wait_counted<T: Kept, R: Wait>(
         &self,
         rt: &R,

@@ -23,8 +23,8 @@ pub(crate) struct Waiter {
     pub(crate) ticket: u64,
 }
 
-/// Those that wait, the oldest first, and how many tickets each cond seat added. A cond seat's number is its place among
-/// the counts; nobody is at place 0. Its fields are this module's own.
+/// Those that wait, the oldest first, and how many tickets each cond seat added. A cond seat's number is its index in the counts;
+/// index 0 stands for nobody. Its fields are this module's own.
 #[derive(Drop)]
 pub struct Waiters {
     list: VecDeque<Waiter>,
@@ -97,14 +97,16 @@ impl Waiters {
         false
     }
 
-    // The one that has waited longest.
+    /// The one that has waited longest.
     fn oldest(&self) -> Option<Waiter>
         ensures { MatchOption result (self.now.list.items ≡ []) (λ w. (rest : _) × (self.now.list.items ≡ w ∷ rest)) }
     {
         self.list.front().copied()
     }
 
-    // Puts a user seat that is not there at the end with the next ticket, and counts it for the cond seat `by`.
+    /// Puts a user seat that is not there at the end with the next ticket, and counts it for the cond seat `by`. It takes no
+    /// memory and can't fail: the list has room for every seat (`room`), and each stands in it at most once. No count is above
+    /// the budget, and `added` is their sum, so the tickets never wrap.
     fn append(&mut self, by: SeatNo, seat: SeatNo) -> u64
         requires by { (by ≤ self.old.seats) × (slice_index self.old.counts.items by < self.old.budget) }
         requires seat { (0 < seat) × (seat ≤ self.old.seats) × (times seat self.old.list.items ≡ 0) }
@@ -120,7 +122,7 @@ impl Waiters {
         ticket
     }
 
-    // Takes the oldest out.
+    /// Takes the oldest out.
     fn take_oldest(&mut self) -> Option<Waiter>
         ensures taken { MatchOption result (self.old.list.items ≡ []) (λ w. Taken (w ∷ []) self.old self.new × (w.ticket ≡ self.old.sent + 1)) }
         ensures follows { (s : ℕ) → WaitersFollow s self.old self.new }

@@ -14,7 +14,7 @@ use lfm_mutex::{Kept, Mutex, Seat};
 use std::sync::Wait;
 
 impl Condvar {
-    /// Sends the seat that has waited longest, by `send_lock` of the user mutex, and answers it with its ticket; None where
+    /// Sends the seat that has waited longest, by `send_lock` of the user mutex, and answers it with its ticket, or None if
     /// nobody waits. The caller need not hold the user mutex.
     ///
     /// Refuses, in this order, before anything is changed: Asleep (the user seat sleeps, or a call of it is open) and Spent

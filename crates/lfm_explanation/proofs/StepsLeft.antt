@@ -13,6 +13,6 @@ module _ (most i : ℕ) (c : Core) (s : ℕ) (more : i < most) where
   pub stops : is_open (step c s).turn ≡ false → steps (most - i) c s ≡ step c s
   stops closed = rw (one_less, closed) refl
 
-  -- the call goes on, so the rest is made from where the step led
+  -- the call goes on, so the rest is made from what the step led to
   pub goes_on : is_open (step c s).turn ≡ true → steps (most - i) c s ≡ steps (most - (i + 1)) (step c s).core s
   goes_on lasts = rw (one_less, lasts) refl

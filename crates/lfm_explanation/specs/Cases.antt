@@ -17,7 +17,7 @@ named_case Enter = Abstract.enter
 named_case Release = Abstract.release
 named_case Leave = Abstract.leave
 
--- the same where there is one
+-- the same if there is one
 abbrev pub abstract_case : Option Case → Option Abstract.Case
 abstract_case None = None
 abstract_case (Some case) = Some (named_case case)

@@ -73,14 +73,14 @@ fn case_of_entry(entrant: Entrant, how: How) -> Case
     }
 }
 
-/// This case where it comes.
+/// This case, if it comes.
 fn only_if(comes: bool, case: Case) -> Option<Case>
     ensures { result ≡ if comes then Some case else None }
 {
     if comes { Some(case) } else { None }
 }
 
-/// The case of the step that seat s makes next; none where it leaves the abstract mutex as it is.
+/// The case of the step that seat s makes next; none if it leaves the abstract mutex as it is.
 pub fn next_case(state: &State, s: u64) -> Option<Case>
     ensures { abstract_case result ≡ case_of_step state.now s }
 {

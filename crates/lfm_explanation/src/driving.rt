@@ -15,7 +15,7 @@ use lfm_text::{flush, read_input, write_line_feed, write_number, write_text};
 use std::alloc::Global;
 use std::io::{Read, Write};
 
-/// The seat makes up to this number of steps, and stops where its call ends or a step is refused.
+/// The seat makes up to this number of steps, and stops as its call ends or a step is refused.
 fn make_steps(mutex: &Mutex<u64>, seat: &mut Seat<u64>, most: u64) -> Turn
     requires belongs { OfMutex seat.old mutex.now }
     ensures belongs { Beside seat.old seat.new }
@@ -41,8 +41,8 @@ fn follow_seat(mutex: &Mutex<u64>, seat: &mut Seat<u64>, act: Act, longest: u64)
     }
 }
 
-/// Does what a line says on a running mutex of which these are all the seats, in order. Returns the last turn: NoSuchSeat
-/// where no seat has the line's number.
+/// Does what a line says on a running mutex of which these are all the seats, in order. Returns the last turn: NoSuchSeat if no
+/// seat has the line's number.
 pub fn follow(mutex: &Mutex<u64>, seats: &mut [Seat<u64>], line: &Line) -> Turn
     requires belong { All (λ s. OfMutex s mutex.now) seats.old }
     ensures belong { All (λ s. OfMutex s mutex.now) seats.new }
@@ -100,8 +100,8 @@ fn drive_schedule<W: Write>(
 /// it, as a replay has it, without the state. Returns whether no line was refused.
 ///
 /// Faults, their order and the flush are those of a replay: Syntax and Limit are written as a line of their own and then
-/// answered; Read and Memory come before anything is written, Write after a prefix of the text. Memory is asked for for the
-/// input, the lines of the schedule and the mutex, and before the first byte is written.
+/// answered; Read and Memory come before anything is written, Write after a prefix of the text. Memory for the input, the lines
+/// of the schedule and the mutex is asked for before the first byte is written.
 pub fn drive<R: Read, W: Write>(
     alloc: Global,
     reader: &mut R,

@@ -16,7 +16,7 @@ use lfm_words::Record;
 use std::alloc::Global;
 use std::io::{Read, Write};
 
-/// Seat s makes up to this many steps, each with its line, and stops where its call ends or a step is refused. The last
+/// Seat s makes up to this many steps, each with its line, and stops as its call ends or a step is refused. The last
 /// turn is answered.
 fn steps_shown<W: Write>(
     writer: &mut W,

@@ -41,7 +41,7 @@ struct Coming {
 }
 
 impl Coming {
-    /// The step that seat s makes next; none where no call of it is open.
+    /// The step that seat s makes next; none if no call of it is open.
     fn of(state: &State, s: u64) -> Option<Coming> {
         let kind = state.point(s).kind()?;
         let target = state.point(s).target(s);
@@ -74,8 +74,7 @@ impl Coming {
         )
     }
 
-    /// Whether the responsibility goes somewhere by this case. It stays where a record is queued, and where a further
-    /// seat asks.
+    /// Whether the responsibility goes somewhere by this case. It stays as a record is queued, and as a further seat asks.
     fn moves(&self, case: Case) -> bool {
         match case {
             Case::Queue => false,
@@ -104,7 +103,7 @@ pub fn begin_shown<W: Write>(
     Ok(turn)
 }
 
-/// Seat s makes the step at its point, and the line of it is written. Nothing is written where no call of it is open.
+/// Seat s makes the step at its point, and the line of it is written. Nothing is written if no call of it is open.
 pub fn step_shown<W: Write>(
     writer: &mut W,
     number: u64,
@@ -193,7 +192,7 @@ fn write_operation<W: Write>(
     Ok(())
 }
 
-/// Writes the abstract case, and the new place of the responsibility where it went somewhere.
+/// Writes the abstract case, and the new place of the responsibility, if it went somewhere.
 fn write_case<W: Write>(writer: &mut W, coming: &Coming, state: &State) -> Result<(), WriteFault> {
     let Some(case) = coming.case else {
         return Ok(());

@@ -30,7 +30,7 @@ pub fn kind_name(kind: Kind) -> &'static str {
 }
 
 /// The call and the number of the step at a point, as in `lock 6`. A step of taking a record has the number of the step
-/// that began to take in front, as in `unlock 2 take 1`. No text where no call is open.
+/// that began to take in front, as in `unlock 2 take 1`. No text if no call is open.
 pub fn step_name(point: Point) -> &'static str {
     match point {
         Point::Rest | Point::Asleep(_) => "",

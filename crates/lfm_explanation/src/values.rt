@@ -12,7 +12,7 @@ use std::io::Write;
 /// What a word holds.
 #[derive(Clone, Copy, Debug, PartialEq, Eq)]
 pub enum Value {
-    /// Of the count word, and of the owner word, where 0 is nobody.
+    /// Of the count word, and of the owner word, in which 0 is nobody.
     Number(u64),
     /// Of the handoff word.
     Handoff(Handoff),
@@ -53,7 +53,7 @@ fn write_numbered<W: Write>(writer: &mut W, name: &[u8], number: u64) -> Result<
     write_number(writer, number)
 }
 
-/// Writes a stamp and a seat, as in `(1, 2)`; the seat is `none` where it is 0.
+/// Writes a stamp and a seat, as in `(1, 2)`; the seat is `none` if it is 0.
 fn write_link<W: Write>(writer: &mut W, link: Link) -> Result<(), WriteFault> {
     write_numbered(writer, b"(", link.stamp)?;
     write_text(writer, b", ")?;

@@ -44,7 +44,7 @@ module _ {O A R : Type 0} {K : _} {P : Type 0} (seat : P → Sight (Journaled O 
   mine_ends opening seats share v p b = let l = some_of (seat p).last (kept p).there in let f = (found (seat p).seats (seat p).number l.0 v (b.leads l.0 l.1)).1 in
       ((kept p).left b.idle l.0 l.1).mine_is ∙ ap length (sym (own_kept (seat p).number l.0.journal.items v.journal.items f))
 
-  -- the journal is just the entries that the passes made, each once
+  -- the journal is exactly the entries that the passes made, each once
   pub whole : (opening : O) (n share : ℕ) (v : Journaled O A R K) (ps : List P) → length ps ≡ n → 0 < n
       → ((k : ℕ) → 0 < k → k ≤ n → (i : ℕ) × (p : P) × (get_elem? ps i ≡ some p) × ((seat p).number ≡ k))
       → ((j : ℕ) (p : P) → get_elem? ps j ≡ some p → Back opening n share v p) → length v.journal.items ≡ total mine ps

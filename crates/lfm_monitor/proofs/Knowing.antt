@@ -33,7 +33,7 @@ one_some o x y e f = let q : Some x ≡ Some y = sym e ∙ f in cc
 pub room_left : (share mine : ℕ) → (share ≤ mine → false ≡ true) → mine < share
 room_left share mine h = let no : share ≤ mine → ⊥ = (λ q. let e = h q in cc) in omega arith
 
--- a seat that is as it was is so but for its trail
+-- a seat that is as it was has changed at most its trail
 pub same_trail : {T : Type 0} (s t : Sight T) → t ≡ s → t ≡ record s { trail = t.trail }
 same_trail s t e = e ∙ ap (λ (u : Sight _). record s { trail = u.trail }) (sym e)
 

@@ -1,4 +1,4 @@
--- A pass may move to another thread, and the monitor may be used by several, where the object and its ops may move.
+-- A pass may move to another thread, and the monitor may be used by several, if the object and its ops may move.
 use Rattle.lfm_condvar.specs.contracts.condvar.Condvar as Condvar
 use Rattle.lfm_condvar.specs.contracts.cond_seat.CondSeat as CondSeat
 use Rattle.lfm_condvar.proofs.condvar.Condvar.TheSendSync as CondvarSend

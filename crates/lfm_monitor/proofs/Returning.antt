@@ -91,7 +91,7 @@ module _ {O A R : Type 0} {K : _} where
   wait_refused user own tries c d s t Refusal.NotWaiting h = h.2
   wait_refused user own tries c d s t Refusal.Busy h = h.3.4
 
-  -- how wait ends where the pass may wait, and the condvar refused it
+  -- how wait ends if the pass may wait, and the condvar refused it
   pub refused : (user own : Limits) (tries share count condition : ℕ) (cs ds : List CondSeat) (s t : Sight (Journaled O A R K)) (mine : ℕ) (r : Refusal) → user.budget ≡ share → MayWait share s mine → s.number ≤ own.seats
       → OnCondition condition cs ds (λ c d. CondWaitEnds JournalFollows JournalFits user own tries c d s t (Err r)) → WaitEnds user own tries share count condition cs ds s t mine (Err r)
   refused user own tries share count condition cs ds s t mine Refusal.Asleep spent may named h = absurd (let a = may.0 in let b = h.6.0 in cc)

@@ -57,7 +57,7 @@ module _ {O A R : Type 0} {K : _} where
   abbrev pub pass_sight : Pass O A R K → Sight (Journaled O A R K)
   pass_sight p = sight p.seat
 
-  -- from one to the other, the pass has woken just those that it granted the monitor, in order
+  -- from one to the other, the pass has woken exactly those that it granted the monitor, in order
   abbrev pub PassWokenAsGranted : Pass O A R K → Pass O A R K → Type 0
   PassWokenAsGranted p q = WokenAsGranted p.seat q.seat
 

@@ -12,11 +12,11 @@ use Rattle.lfm_condvar.specs.declared.waiters.Waiters.{Waiters}
 use Rattle.lfm_condvar.specs.Belongs.{OfCondvar, cond_limits, cond_sight}
 use Rattle.lfm_condvar.specs.Keeping.{IsNew}
 
--- what a condition of a monitor with so many passes allows: a seat for each, and as many waits and wakes as can be
+-- what a condition of a monitor with this number of passes allows: a seat for each, and as many waits and wakes as can be
 abbrev pub condition_limits : ℕ → Limits
 condition_limits seats = record { seats = seats; budget = max_budget }
 
--- these are the conditions of a monitor with so many passes
+-- these are the conditions of a monitor with this number of passes
 abbrev pub AreConditions : ℕ → List Condvar → Type 0
 AreConditions seats conditions = (i : ℕ) (v : Condvar) → get_elem? conditions i ≡ some v → cond_limits v ≡ condition_limits seats
 
@@ -40,7 +40,7 @@ pub record OfConditions (seats : List CondSeat) (conditions : List Condvar) : Ty
   pub long : length seats ≡ length conditions
   pub each : (i : ℕ) (c : CondSeat) (v : Condvar) → get_elem? seats i ≡ some c → get_elem? conditions i ≡ some v → OfCondvar c v
 
--- the cond seat with this number, one of so many, has done nothing, and nobody has waited on its condition
+-- the cond seat with this number, one of `passes`, has done nothing, and nobody has waited on its condition
 abbrev pub IsNewSeat : ℕ → ℕ → CondSeat → Type 0
 IsNewSeat passes number c = (nobody : Waiters) × IsNew nobody × (cond_sight c ≡ new_sight nobody passes number)
 
@@ -48,6 +48,6 @@ IsNewSeat passes number c = (nobody : Waiters) × IsNew nobody × (cond_sight c 
 abbrev pub AreNewSeats : ℕ → ℕ → List CondSeat → Type 0
 AreNewSeats passes number seats = (i : ℕ) (c : CondSeat) → get_elem? seats i ≡ some c → IsNewSeat passes number c
 
--- the cond seats of a new pass with this number, one of so many
+-- the cond seats of a new pass with this number, one of `passes`
 abbrev pub AreNewOf : ℕ → ℕ → List CondSeat → List Condvar → Type 0
 AreNewOf passes number seats conditions = OfConditions seats conditions × AreNewSeats passes number seats

@@ -34,7 +34,7 @@ OnCondition condition cs ds used =
 abbrev pub IsSpent : Limits → Sight Waiters → Sight Waiters → Type 0
 IsSpent own c d = (own.budget ≤ c.takes) × (d ≡ c)
 
--- nothing of the seat has changed but what it did and whom it sent
+-- nothing of the seat has changed but what it did and the seats that it sent
 abbrev pub OnlySends : {T : Type 0} → Sight T → Sight T → Type 0
 OnlySends s t = t ≡ record s { trail = t.trail; sends = t.sends }
 
@@ -57,8 +57,8 @@ module _ {O A R : Type 0} {K : _} where
   WaitRefused share s mine Refusal.Spent = (s.asleep ≡ false) × (s.depth ≡ 1) × (share ≤ s.takes ⊎ (share ≤ mine))
   WaitRefused share s mine _ = ⊥
 
-  -- How wait ends, of a pass with so many entries. Between s and t it is seen as m: it waited as on a condvar, and then its take was
-  -- written
+  -- How wait ends, of a pass with this number of entries. Between s and t it is seen as m: it waited as on a condvar, and then its
+  -- take was written
   abbrev pub WaitEnds : Limits → Limits → ℕ → ℕ → ℕ → ℕ → List CondSeat → List CondSeat → Sight (Journaled O A R K) → Sight (Journaled O A R K) → ℕ → Result (How × ℕ) Refusal → Type 0
   WaitEnds user own tries share count condition cs ds s t mine (Ok r) =
       MayWait share s mine × OnCondition condition cs ds (λ c d. (m : Sight (Journaled O A R K)) × CondWaitEnds JournalFollows JournalFits user own tries c d s m (Ok r) × Adds (Took r.0) m t)

@@ -31,7 +31,7 @@ module _ {O A R : Type 0} {K : _} where
   abbrev pub journal_of : Sight (Journaled O A R K) → List (Entry A)
   journal_of s = journal_at (known_to s)
 
-  -- the pass is one of a monitor that began with this object, and has so many seats and so many entries for each
+  -- the pass is one of a monitor that began with this object, and has this number of seats and this number of entries for each
   abbrev pub Began : O → ℕ → ℕ → Sight (Journaled O A R K) → Type 0
   Began opening seats share s = (l : Journaled O A R K) → s.last ≡ Some l → (l.opening.value ≡ opening) × (l.seats ≡ seats) × (l.share ≡ share)
 

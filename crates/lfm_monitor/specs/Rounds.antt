@@ -14,7 +14,8 @@ EndsRounds (Ok (Break x)) = ⊤
 EndsRounds (Err r) = ⊤
 
 module _ {O A R : Type 0} {K : _} (m : Monitor O A R K) (makes : ℕ → Pass O A R K → Pass O A R K → Result (ControlFlow ⊤ ⊤) Refusal → Type 0) where
-  -- so many rounds, numbered from 0, led the pass from one to the other, and after each of them there was to be a further one
+  -- this number of rounds, numbered from 0, led the pass from one to the other, and after each of them there was to be a further
+  -- one
   abbrev pub AllGoOn : ℕ → Pass O A R K → Pass O A R K → Type 0
   AllGoOn zero p q = q ≡ p
   AllGoOn (suc n) p q = (l : Pass O A R K) × AllGoOn n p l × HoldEnds m (makes n) l q (Ok (Continue tt))
@@ -23,6 +24,6 @@ module _ {O A R : Type 0} {K : _} (m : Monitor O A R K) (makes : ℕ → Pass O 
   abbrev pub EndsAt : ℕ → Pass O A R K → Pass O A R K → Type 0
   EndsAt n p q = (l : Pass O A R K) × (r : Result (ControlFlow ⊤ ⊤) Refusal) × AllGoOn n p l × HoldEnds m (makes n) l q r × EndsRounds r
 
-  -- all of so many rounds were made, or one before was the last
+  -- all of this number of rounds were made, or an earlier one was the last
   abbrev pub MakesRounds : ℕ → Pass O A R K → Pass O A R K → Type 0
   MakesRounds rounds p q = AllGoOn rounds p q ⊎ ((n : ℕ) × (n < rounds) × EndsAt n p q)

@@ -13,8 +13,8 @@ module _ {O A R : Type 0} {K : _} where
   abbrev pub SamePass : Pass O A R K → Pass O A R K → Type 0
   SamePass p q = (pass_sight q ≡ pass_sight p) × (mine_of q ≡ mine_of p) × (seen_of q ≡ seen_of p) × (cond_seats_of q ≡ cond_seats_of p)
 
-  -- The pass has given up some of its holds, or none, and has woken just those that it granted the monitor. The journal that it has in
-  -- hand, or left, is the one that it had in hand, and nothing else of it is other than it was
+  -- The pass has given up some of its holds, or none, and has woken exactly those that it granted the monitor. The journal that it
+  -- has in hand, or left, is the one that it had in hand, and nothing else of it is other than it was
   pub record GivesUp (p q : Pass O A R K) : Type 0 where
     pub no_more : (pass_sight q).depth ≤ (pass_sight p).depth
     pub number : (pass_sight q).number ≡ (pass_sight p).number

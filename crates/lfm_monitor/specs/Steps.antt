@@ -37,7 +37,7 @@ module _ {T : Type 0} (l : Limits) where
   ByLockingAs Locking.InOrder n s t r = ByLocking s t r
   ByLockingAs Locking.Barging n s t r = ByBarging n s t r
 
-  -- the seat has made the steps of so many unlocks, one after another, and no others
+  -- the seat has made the steps of this number of unlocks, one after another, and no others
   abbrev pub ByUnlocks : ℕ → Sight T → Sight T → Type 0
   ByUnlocks zero s t = t ≡ s
   ByUnlocks (suc n) s t = (u : Sight T) × (x : Unlocked) × ByUnlocks n s u × BySteps (λ y. Answered.Unlocked y) Call.Unlock u t (Ok x)

@@ -27,7 +27,7 @@ module _ {O A R : Type 0} {K : _} (after : O → A → O) (reply : O → A → R
   AppliedLast op q r = (p : Pass O A R K) × OfMonitor p m × Tries op p q (Ok r)
 
   module _ (condition : ℕ) (op : A) (says : R → Bool → Type 0) where
-    -- a try in vain: the pass made the op, its reply was not what was looked for, and the pass waited on the condition
+    -- a failed try: the pass made the op, its reply was not what was looked for, and the pass waited on the condition
     pub record InVain (p q : Pass O A R K) : Type 0 where
       pub tried : Pass O A R K
       pub replied : R
@@ -36,16 +36,16 @@ module _ {O A R : Type 0} {K : _} (after : O → A → O) (reply : O → A → R
       pub other : says replied false
       pub waits : Waits m condition tried q (Ok waited)
 
-    -- so many tries in vain led the pass from one to the other
+    -- this number of failed tries led the pass from one to the other
     abbrev pub AllInVain : ℕ → Pass O A R K → Pass O A R K → Type 0
     AllInVain zero p q = q ≡ p
     AllInVain (suc n) p q = (m : Pass O A R K) × AllInVain n p m × InVain m q
 
-    -- how the last try ended: with the reply that was looked for, or refused, or in vain and its wait was refused
+    -- how the last try ended: with the reply that was looked for, or refused, or failed and its wait was refused
     abbrev pub LastEnds : Pass O A R K → Pass O A R K → Result R Refusal → Type 0
     LastEnds p q (Ok r) = Tries op p q (Ok r) × says r true
     LastEnds p q (Err r) = Tries op p q (Err r) ⊎ ((tried : Pass O A R K) × (replied : R) × Tries op p tried (Ok replied) × says replied false × Waits m condition tried q (Err r))
 
-    -- some tries in vain, and the last one
+    -- some failed tries, and the last one
     abbrev pub ApplyUntilEnds : Pass O A R K → Pass O A R K → Result R Refusal → Type 0
     ApplyUntilEnds p q r = (n : ℕ) × (last : Pass O A R K) × OfMonitor last m × AllInVain n p last × LastEnds last q r

@@ -9,7 +9,7 @@ use crate::pass::Pass;
 use lfm_model::{Object, Refusal};
 use std::sync::Wait;
 
-// Whether the closure says true.
+/// Whether the closure says true.
 fn accepts<T, F: Fn(&T) -> bool>(done: &F, reply: &T) -> bool
     requires { F.IsAlwaysCallable done.now }
     ensures { FnReturnsAt F.Fn done.now reply.now result }
@@ -18,12 +18,13 @@ fn accepts<T, F: Fn(&T) -> bool>(done: &F, reply: &T) -> bool
 }
 
 impl<O: Object> Monitor<O> {
-    /// Applies the op, for which the pass holds the monitor at depth 1, again and again until its reply is what `done` looks
-    /// for, and answers that reply. Before each further try it waits on this condition, so that others can change the object.
-    /// The last that the pass did is this op with this reply, and the pass holds as before.
+    /// Applies the op, for which the pass holds the monitor at depth 1, again and again until `done` accepts its reply, and
+    /// answers that reply. Before each further try it waits on this condition, so that others can change the object. The last
+    /// that the pass did is this op with this reply, and the pass holds as before.
     ///
-    /// A try is refused as `apply` is: Asleep, NotOwner, Spent, in this order. After a try in vain the wait may be refused, as
-    /// `wait` is: Nested, Spent, NoSuchSeat, Spent, Busy, in this order. Then the op was made in vain, and the pass holds on.
+    /// A try is refused as `apply` is: Asleep, NotOwner, Spent, in this order. If the reply is not accepted, the wait may be
+    /// refused, as `wait` is: Nested, Spent, NoSuchSeat, Spent, Busy, in this order. The op has then been made, and the pass
+    /// still holds.
     ///
     /// A try costs the pass one entry, and a wait one take and one entry. It takes no memory, and sleeps and wakes as `wait`.
     pub fn apply_until<R: Wait, F: Fn(&O::Reply) -> bool>(

@@ -13,7 +13,7 @@ use crate::pass::Pass;
 use lfm_model::{Entry, Missing, Object};
 
 impl<O: Object> Monitor<O> {
-    /// Gives the object and the journal back, and ends the monitor, where all passes are there, none holds and none sleeps.
+    /// Gives the object and the journal back, and ends the monitor, if all passes are there, none holds and none sleeps.
     /// The journal is lawful, its replay from the opening object gives the object, and it has the entries that the passes
     /// wrote, each once. It begins with what a pass left last, whichever pass it is, and goes on with entries of others. The
     /// trails of the passes are their parts of one run of the mutex, from the start to a free state.

@@ -1,4 +1,4 @@
-//! A monitor and its passes as text, for who looks for a fault.
+//! `{:?}` of a monitor and of its passes, for debugging.
 
 use crate::monitor::Monitor;
 use crate::pass::Pass;
@@ -6,7 +6,7 @@ use lfm_model::Object;
 use std::fmt::{Debug, Formatter, Result, Write};
 
 /// How many entries each pass may write, and how many conditions there are. The object belongs to the pass that holds it, so it
-/// isn't told.
+/// isn't shown.
 impl<O: Object> Debug for Monitor<O> {
     fn fmt<W: Write>(&self, f: &mut Formatter<W>) -> Result {
         f.debug_struct("Monitor")
@@ -16,7 +16,7 @@ impl<O: Object> Debug for Monitor<O> {
     }
 }
 
-/// The pass's seat, and what the pass knows of the journal. The object that it may have in hand isn't told.
+/// The pass's seat, and what the pass knows of the journal. The object that it may have in hand isn't shown.
 impl<O: Object> Debug for Pass<O> {
     fn fmt<W: Write>(&self, f: &mut Formatter<W>) -> Result {
         f.debug_struct("Pass")

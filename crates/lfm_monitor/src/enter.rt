@@ -1,5 +1,5 @@
-//! `enter`, and `ask`, which is `enter` up to the point where it would sleep. Each hold that begins is written down. `hold` enters
-//! by a private form of `enter`, which tries before it queues.
+//! `enter`, and `ask`, which is `enter` up to the point at which it would sleep. Each hold that begins is written down. `hold`
+//! enters by a private form of `enter`, which tries before it queues.
 ghost use Rattle.lfm_protocol.specs.declared.answers.Answer.TheVariants as Answered;
 ghost use Rattle.lfm_protocol.specs.declared.answers.Call.{Call};
 ghost use Rattle.lfm_mutex.specs.Belongs.{Beside, OfMutex};
@@ -22,15 +22,15 @@ use std::sync::Wait;
 /// How a pass that is to hold locks the mutex of the monitor.
 #[derive(Clone, Copy)]
 pub(crate) enum Locking {
-    // By `lock`: it queues at once if another pass holds.
+    /// By `lock`: it queues at once if another pass holds.
     InOrder,
-    // By `lock_barging`: it tries for as long as the pace says before it queues.
+    /// By `lock_barging`: it tries for as long as the pace says before it queues.
     Barging,
 }
 
 impl<O: Object> Monitor<O> {
-    /// `enter` up to the point where it would sleep: gains the monitor, deepens the hold, or queues the pass, which then sleeps
-    /// until a receive tells it that it holds. While it sleeps, one of its entries is kept for its take.
+    /// `enter` up to the point at which it would sleep: gains the monitor, deepens the hold, or queues the pass, which then
+    /// sleeps until a receive tells it that it holds. While it sleeps, one of its entries is kept for its take.
     ///
     /// Refuses, in this order: Asleep, DepthFull, Spent, each as `try_enter`. It never waits and takes no memory. It may
     /// wake a pass, as `ask` of the mutex may wake a seat.
@@ -58,7 +58,7 @@ impl<O: Object> Monitor<O> {
         Ok(Asked::Held(how))
     }
 
-    /// Gains the monitor, or deepens the hold: sleeps until the pass holds, where another holds or asked before. A gain is
+    /// Gains the monitor, or deepens the hold. If another pass holds or asked before, it sleeps until the pass holds. A gain is
     /// written down as the pass's take.
     ///
     /// Refuses, in this order: Asleep, DepthFull, Spent, each as `try_enter`. It takes no memory. It may wake a pass, as
@@ -76,7 +76,7 @@ impl<O: Object> Monitor<O> {
         self.enter_by(rt, pass, Locking::InOrder)
     }
 
-    // `enter`, with the mutex locked in this way.
+    /// `enter`, with the mutex locked in this way.
     #[inline(always)]
     pub(crate) fn enter_by<R: Wait>(
         &self,
@@ -106,7 +106,7 @@ impl<O: Object> Monitor<O> {
         Ok(Locked::Held(how))
     }
 
-    // Locks the mutex in this way.
+    /// Locks the mutex in this way.
     #[inline(always)]
     fn lock_by<R: Wait>(
         &self,

@@ -30,8 +30,8 @@ pub trait CriticalSection<O: Object, R: Wait>: Sync {
     /// What the section answers.
     type Answer;
 
-    // What the section may make of its pass, in the round with this number, and what it then answers. `hold` and `run` tell their
-    // callers so.
+    /// What the section may make of its pass, in the round with this number, and what it then answers. `hold` and `run` tell their
+    /// callers so.
     ghost makes: { Self → ℕ → {K : _} → Pass O O.Op O.Reply K → Pass O O.Op O.Reply K → Result Self.Answer Refusal → Type 0 } = { λ _ _ _ _ _. Unit {0} };
 
     /// Executes the section once, with the number of the round. The pass stays one of the monitor's.
@@ -48,7 +48,7 @@ pub trait CriticalSection<O: Object, R: Wait>: Sync {
 }
 
 impl<O: Object> Monitor<O> {
-    // Gives up each hold of the pass above this depth.
+    /// Gives up each hold of the pass above this depth.
     fn leave_down_to(&self, pass: &mut Pass<O>, depth: u32)
         requires belongs { OfMonitor pass.old self.now }
         ensures belongs { OfMonitor pass.new self.now }

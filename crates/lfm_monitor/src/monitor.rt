@@ -12,12 +12,12 @@ use std::snapshot::Snapshot;
 
 /// A guarded object with a journal: at most one pass at a time holds it, and applies ops to it. Its calls are made through a
 /// shared reference and one of its passes. A call with the pass of another monitor breaks the condition that every call has.
-/// It has so many conditions, on which passes wait and are woken, numbered from 1.
+/// It has up to 16 conditions, numbered from 1, on which passes wait and are woken.
 ///
 /// These lines are compiled in the crate `example_bounded_buffer`:
 ///
 /// ```
-/// // a monitor with two passes, each of which may write so many entries, and two conditions, round an empty buffer
+/// // a monitor with two passes, each of which may write `ENTRIES` entries, and two conditions, round an empty buffer
 /// let (monitor, passes) = Monitor::new(rt.alloc(), 2, ENTRIES, 2, Buffer::new())?;
 /// let Ok(passes) = monitor.run(&rt, passes, NUMBERS, &Roles) else {
 ///     bail!("a thread could not be started");

@@ -32,7 +32,7 @@ pub const MAX_ENTRIES: u64 = 1_048_576;
 /// The most conditions of a monitor.
 pub const MAX_CONDITIONS: u64 = 16;
 
-// Whether a monitor may have so many passes, so many entries for each, and so many conditions.
+/// Whether a monitor may have these numbers of passes, of entries for each pass, and of conditions.
 fn are_allowed(seats: u64, share: u64, conditions: u64) -> bool
     ensures { IsTrue result ↔ InLimits seats share conditions }
 {
@@ -43,7 +43,7 @@ fn are_allowed(seats: u64, share: u64, conditions: u64) -> bool
         && conditions <= MAX_CONDITIONS
 }
 
-// A pass for each seat, with the cond seats at its place, in order, in the room that is there for them.
+/// A pass for each seat, with the cond seats at its place, in order, in the room that is there for them.
 fn with_seats<O: Object>(
     mut passes: Vec<Pass<O>>,
     seats: Vec<Seat<Journaled<O>>>,
@@ -70,7 +70,7 @@ impl<O: Object> Monitor<O> {
     /// `entries_per_seat` entries, 1 or more, and take the monitor as often; all together may write at most 1,048,576. There
     /// are `conditions` conditions, 0 to 16, on which passes may wait. The journal's whole room is reserved here.
     ///
-    /// Outside these limits it answers Limit, and asks for no memory. It answers Memory where a request for memory was refused.
+    /// Outside these limits it answers Limit, and asks for no memory. It answers Memory if a request for memory was refused.
     /// On a fault the object is dropped. No other call of a monitor takes memory.
     pub fn new(
         alloc: Global,

@@ -12,9 +12,9 @@ use lfm_mutex::Seat;
 /// while it holds or sleeps, it keeps what it holds: nobody else gains that.
 ///
 /// ```
-/// // the pass holds a monitor round a bounded buffer: it puts a number in as soon as there is room, and wakes who waits for it
-/// monitor.apply_until(rt, pass, NOT_FULL, BufferOp::Put(7), |reply| *reply != BufferReply::Full)?;
-/// monitor.wake_one(rt, pass, NOT_EMPTY)?;
+/// // the pass holds a monitor round a bounded buffer: it puts a number in as soon as there is room, and wakes one that waits for
+/// it monitor.apply_until(rt, pass, NOT_FULL, BufferOp::Put(7), |reply| *reply != BufferReply::Full)?; monitor.wake_one(rt, pass,
+/// NOT_EMPTY)?;
 /// ```
 #[derive(Drop)]
 pub struct Pass<O: Object> {
@@ -55,7 +55,7 @@ impl<O: Object> Pass<O> {
         self.mine
     }
 
-    // The length of the journal in hand.
+    /// The length of the journal in hand.
     pub(crate) fn journal_len(&self) -> u64
         ensures { (v : _) → (sight self.now.seat).value ≡ Some v → result ≡ length v.journal.items }
     {
@@ -65,7 +65,7 @@ impl<O: Object> Pass<O> {
         }
     }
 
-    // Whether a call that will come to hold finds no entry left for its take.
+    /// Whether a call that will come to hold finds no entry left for its take.
     pub(crate) fn lacks_entry(&self, share: u64) -> bool
         ensures { IsTrue result ↔ (((sight self.now.seat).asleep ≡ false) × ((sight self.now.seat).depth ≡ 0) × (share ≤ self.now.mine)) }
     {

@@ -7,7 +7,7 @@ use crate::monitor::Monitor;
 use lfm_model::Object;
 
 impl<O: Object> Monitor<O> {
-    /// The place of the condition with this number, which is one less; None where there is no such condition.
+    /// The index of the condition with this number, which is one less, or None if there is no such condition.
     pub(crate) fn place_of(&self, condition: u64) -> Option<usize>
         ensures { MatchOption result (IsMissing (conditions_of self.now) condition) (λ n. (condition ≡ n + 1) × (n < conditions_of self.now)) }
     {

@@ -12,10 +12,10 @@ use crate::write::write_took;
 use lfm_model::{How, Object, Refusal};
 
 impl<O: Object> Monitor<O> {
-    /// One receive of a pass that sleeps: how it came to hold, which is written down as its take, or None where it was not granted
+    /// One receive of a pass that sleeps: how it came to hold, which is written down as its take, or None if it was not granted
     /// the monitor and sleeps on.
     ///
-    /// Refuses with NotWaiting where the pass doesn't sleep. It never waits and takes no memory.
+    /// Refuses with NotWaiting if the pass doesn't sleep. It never waits and takes no memory.
     pub fn try_receive(&self, pass: &mut Pass<O>) -> Result<Option<How>, Refusal>
         requires belongs { OfMonitor pass.old self.now }
         ensures belongs { OfMonitor pass.new self.now }

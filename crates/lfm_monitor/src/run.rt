@@ -16,7 +16,7 @@ use std::sync::Wait;
 use std::thread::Threads;
 
 impl<O: Object> Monitor<O> {
-    // Executes the section in one hold after another, until it breaks off or is refused, and hands the pass back.
+    /// Executes the section in one hold after another, until it breaks off or is refused, and hands the pass back.
     fn make_rounds<R: Wait, S: CriticalSection<O, R, Answer = ControlFlow<()>>>(
         &self,
         rt: &R,
@@ -38,13 +38,12 @@ impl<O: Object> Monitor<O> {
         pass
     }
 
-    /// Starts a thread for each pass. Each makes so many rounds, numbered from 0: in each it executes the section in a hold of
-    /// its own, until the section breaks off or is refused, or `hold` is. Each hold is one of `hold`, so a thread tries before it
-    /// queues. `run` sleeps until all threads have ended, and hands the passes back, in their order.
+    /// Starts a thread for each pass. Each makes `rounds` rounds, numbered from 0. In each it executes the section in a hold of
+    /// its own. It stops early if the section breaks off or is refused, or if `hold` is. Each hold is one of `hold`, so a thread
+    /// tries before it queues. `run` sleeps until all threads have ended, and hands the passes back, in their order.
     ///
-    /// No round is made before all threads have been started, so sections may wait for one another. Where a request for memory
-    /// is refused (Memory), or a thread can't be started (Thread), no round is made, and all passes are handed back as they
-    /// were.
+    /// No round is made before all threads have been started, so sections may wait for one another. If a request for memory is
+    /// refused (Memory), or a thread can't be started (Thread), no round is made, and all passes are handed back as they were.
     pub fn run<R: Threads + Wait + Sync, S: CriticalSection<O, R, Answer = ControlFlow<()>>>(
         &self,
         rt: &R,

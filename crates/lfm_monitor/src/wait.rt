@@ -13,7 +13,7 @@ use lfm_model::{How, Object, Refusal};
 use std::sync::Wait;
 
 impl<O: Object> Pass<O> {
-    // Why the pass can't wait on any condition, if it can't.
+    /// Why the pass can't wait on any condition, if it can't.
     fn bars_wait(&self, share: u64) -> Option<Refusal>
         requires { budget_of self.now.seat ≡ share }
         ensures { MatchOption result (MayWait share (sight self.now.seat) self.now.mine) (λ r. WaitRefused share (sight self.now.seat) self.now.mine r) }

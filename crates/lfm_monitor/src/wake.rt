@@ -11,7 +11,7 @@ use lfm_model::{Object, Refusal, SeatNo};
 use std::sync::Wait;
 
 impl<O: Object> Monitor<O> {
-    /// Sends the pass that has waited longest on this condition, and answers it with its ticket; None where nobody waits.
+    /// Sends the pass that has waited longest on this condition, and answers it with its ticket, or None if nobody waits.
     /// The caller need not hold the monitor.
     ///
     /// Refuses, in this order, before anything is changed: Asleep, NoSuchSeat (there is no such condition) and Spent (the

@@ -121,7 +121,7 @@ summed_own n s x above within =
     sum_agrees n (λ (t : ℕ). if nat_eq s t then step_unit x.point else 0) (λ (t : ℕ). steps_told (if_own s t x)) (λ (t : ℕ). own_steps s t x)
     ∙ sum_of_one n s (step_unit x.point) above within
 
--- who is no seat makes no step of a call
+-- a number that is no seat's makes no step of a call
 summed_absent : (n s : ℕ) (x : Seen) → step_unit x.point ≡ 0 → sum_to (λ (t : ℕ). steps_told (if_own s t x)) n ≡ step_unit x.point
 summed_absent n s x none =
     sum_agrees n (λ (t : ℕ). 0) (λ (t : ℕ). steps_told (if_own s t x))

@@ -1,4 +1,4 @@
--- The run of a table goes on with each atomic step, and what the laws say of runs of the core is so of it.
+-- The run of a table goes on with each atomic step, and what the laws say of runs of the core holds of it.
 use Rattle.std.proofs.Common.{◌≡◌, ◌⊎◌, ℕ, zero, suc, ◌+◌, ◌*◌, ◌<◌, ◌≤◌, List, [], ◌∷◌, ◌++◌, Option, true, length, replicate, reverse, slice_index, refl, sym, ap, ◌∙◌, subst, ⊎_elim, inl, inr, arith}
 use mathlib.Core.Option.{some}
 use lib.ListN.{get_elem?}

@@ -1,4 +1,4 @@
--- The states of a table, from its rule: which state of the core it is, and that it is free where all seats rest.
+-- The states of a table, from its rule: which state of the core it is, and that it is free if all seats rest.
 use Rattle.std.proofs.Common.{◌≡◌, ℕ, zero, suc, ◌+◌, sym, refl, subst, ⊎_elim, arith, Option}
 use mathlib.Core.Option.{some}
 use lib.ListN.{get_elem?}

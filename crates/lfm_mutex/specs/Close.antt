@@ -34,7 +34,7 @@ module _ {A : Type 0} {T : Type 0} (look : A → Sight T) (seats : List A) where
   abbrev pub NoneHasHeld : Type 0
   NoneHasHeld = (i : ℕ) (s : A) → get_elem? seats i ≡ some s → (look s).found ≡ None
 
-  -- A seat that has held left this value last. Where none has, it is the opening value, which each seat has as its last.
+  -- A seat that has held left this value last. If none has, it is the opening value, which each seat has as its last.
   abbrev pub LeftLast : T → Type 0
   LeftLast v = (i : ℕ) × (s : A) × (get_elem? seats i ≡ some s) × ((look s).last ≡ Some v) × ((look s).found ≡ None → NoneHasHeld)
 
@@ -47,7 +47,7 @@ module _ {A : Type 0} {T : Type 0} (look : A → Sight T) (seats : List A) where
   abbrev pub NoneHasEnded : T → Type 0
   NoneHasEnded v = (j : ℕ) (t : A) → get_elem? seats j ≡ some t → ((look t).ended ≡ 0) × ((look t).last ≡ Some v)
 
-  -- The last hold of all left this value. Where none has ended, it is the opening value
+  -- The last hold of all left this value. If none has ended, it is the opening value
   abbrev pub LeftByLastHold : T → Type 0
   LeftByLastHold v = EndedLast v ⊎ NoneHasEnded v
 
@@ -73,7 +73,7 @@ module _ {A : Type 0} {T : Type 0} (look : A → Sight T) (seats : List A) where
   abbrev pub AllStand : ℕ → Type 0
   AllStand n = (k : ℕ) → 0 < k → k ≤ n → Stands k
 
--- nobody counts, nothing is posted and nobody is queued
+-- the count is 0, nothing is posted and nobody is queued
 pub record IsFree (c : Core) : Type 0 where
   pub count : c.count ≡ 0
   pub handoff : c.handoff ≡ unposted

@@ -16,12 +16,12 @@ use Rattle.lfm_table.specs.declared.rule.Moving.{Moving}
 use Rattle.lfm_table.specs.declared.seat_view.View.{View}
 use Rattle.lfm_table.specs.Rule.{AreNumbered, Held}
 
--- the hold of this number left this value; where the number is 0, none has ended, and it is what a seat has as its last from the
+-- the hold of this number left this value; if the number is 0, none has ended, and it is what a seat has as its last from the
 -- beginning
 abbrev pub LeftByHold : {T : Type 0} → List (View T) → ℕ → T → Type 0
 LeftByHold {T} views n w = (j : ℕ) × (v : View T) × (get_elem? views j ≡ some v) × (v.ended ≡ n) × (v.last ≡ Some w)
 
--- At the table, which is this state of the core and reads as this abstract mutex, so many holds have ended: the value at home is what
+-- At the table, which is this state of the core and reads as this abstract mutex, n holds have ended: the value in its slot is what
 -- the last of them left, and so is the value that a seat carries which doesn't hold
 pub record HaveEnded {T : Type 0} (s : State (Option (Moving T)) (View T)) (c : Core) (a : AbstractMutex) (n : ℕ) : Type 0 where
   pub core : IsCore s c

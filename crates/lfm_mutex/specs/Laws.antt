@@ -34,7 +34,7 @@ module _ {T : Type 0} (follows : ℕ → T → T → Type 0) (fits : T → ℕ �
   abbrev pub PostsAreWatched : Type 0
   PostsAreWatched = (s : State (Option (Moving T)) (View T)) → Held follows fits s → (c : Core) × IsCore s c × Watched c
 
-  -- while no call is open, nothing is posted, and where the count is above 0 a seat holds or a grant waits
+  -- while no call is open, nothing is posted, and if the count is above 0, a seat holds or a grant waits
   abbrev pub QuietTablesRest : Type 0
   QuietTablesRest =
       (s : State (Option (Moving T)) (View T)) → Held follows fits s → (c : Core) × IsCore s c × (IsQuiet c → (c.handoff ≡ unposted) × (0 < c.count → IsHeld c ⊎ IsGranted c))

@@ -14,12 +14,12 @@ module _ {F T : Type 0} (g : Shared F (ℕ × (MutBor (Seat T) × Unit {0})) (Re
   abbrev pub RoundGives : ℕ → Seat T → Result ⊤ Refusal → Seat T → Type 0
   RoundGives i s y t = (p : MutBor (Seat T)) × (q : MutBor (Seat T)) × (p.now ≡ s) × (q.now ≡ t) × g.post f (i, (p, tt)) (y, (q, tt))
 
-  -- so many rounds, from round 0 on and none of them refused, have made t of s
+  -- this number of rounds, from round 0 on and none of them refused, have made t of s
   abbrev pub RoundsLead : ℕ → Seat T → Seat T → Type 0
   RoundsLead zero s t = t ≡ s
   RoundsLead (suc n) s t = (m : Seat T) × RoundsLead n s m × RoundGives n m (Ok tt) t
 
-  -- the seat s has become t by so many rounds, or by those before one that was refused, and that one
+  -- the seat s has become t by this number of rounds, or by those before one that was refused, and that one
   abbrev pub RoundsEnd : ℕ → Seat T → Seat T → Type 0
   RoundsEnd rounds s t = RoundsLead rounds s t ⊎ ((n : ℕ) × (m : Seat T) × (r : Refusal) × (n < rounds) × RoundsLead n s m × RoundGives n m (Err r) t)
 

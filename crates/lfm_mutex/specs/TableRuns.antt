@@ -175,7 +175,7 @@ module _ {T : Type 0} (follows : ℕ → T → T → Type 0) (fits : T → ℕ �
       × ((t : ℕ) → (entries_of_seat (state_after l early) t (events_of late) ≤ 1) × (entries_told (late_part l early late t) ≤ 1))
 
   -- Lock freedom. Since an earlier moment calls have made at most (5N + 5)(N + k) steps, k being the number of those that have ended since.
-  -- The trails of the N seats have gone on by just these steps, and by the loads for `owner`.
+  -- The trails of the N seats have gone on by exactly these steps, and by the loads for `owner`.
   abbrev pub TablesEndCalls : Type 0
   TablesEndCalls =
       (s : State (Option (Moving T)) (View T)) (l : Limits) (early late : List Action) → HoldsAfter l (early ++ late) s

@@ -26,14 +26,14 @@ const NAP_MICROSECONDS: u64 = 20;
 /// After this number of doublings the naps grow no longer.
 const MOST_NAP_DOUBLINGS: u32 = 5;
 
-// Before each look there are twice as many pauses as before the one before it, up to 2 to the power of this.
+/// Before each look there are twice as many pauses as before the one before it, up to 2 to the power of this.
 const MOST_DOUBLINGS: u32 = 8;
 
-// If the mutex counts more than its holder and one more seat, others queue already. More spins would only take the cache line of
-// the count away from the holder.
+/// If the mutex counts more than its holder and one more seat, others queue already. More spins would only take the cache line of
+/// the count away from the holder.
 const HOLDER_AND_ONE_MORE: u64 = 2;
 
-// Whether the seat is awake, doesn't hold and has a take left. A try of such a seat gains the mutex or is refused as Busy.
+/// Whether the seat is awake, doesn't hold and has a take left. A try of such a seat gains the mutex or is refused as Busy.
 #[inline(always)]
 fn may_try<T: Kept>(seat: &Seat<T>) -> bool
     ensures { MatchBool result (MayTry seat.now.limits.budget (sight seat.now)) (MayTry seat.now.limits.budget (sight seat.now) → ⊥) }
@@ -76,8 +76,8 @@ impl<T: Kept> Mutex<T> {
         }
     }
 
-    // The fast path: the try of the first spin. It is made without a look, since mostly nobody holds, and a look before it would be
-    // one more load of a cache line that another processor has.
+    /// The fast path: the try of the first spin. It is made without a look, since mostly nobody holds, and a look before it would be
+    /// one more load of a cache line that another processor has.
     #[inline(always)]
     fn try_first(&self, seat: &mut Seat<T>) -> Option<How>
         requires belongs { OfMutex seat.old self.now }
@@ -95,7 +95,7 @@ impl<T: Kept> Mutex<T> {
         self.try_if_free(seat, 0)
     }
 
-    // The slow path: spins, then naps, and queues at last.
+    /// The slow path: spins, then naps, and queues at last.
     #[inline(never)]
     fn barge<R: Wait>(&self, rt: &R, seat: &mut Seat<T>) -> Result<Locked, Refusal>
         requires belongs { OfMutex seat.old self.now }
@@ -111,7 +111,7 @@ impl<T: Kept> Mutex<T> {
         }
     }
 
-    // Tries for as long as the pace says, after the first try.
+    /// Tries for as long as the pace says, after the first try.
     #[inline(always)]
     fn spin_and_nap<R: Wait>(&self, rt: &R, seat: &mut Seat<T>) -> Option<How>
         requires belongs { OfMutex seat.old self.now }
@@ -127,8 +127,8 @@ impl<T: Kept> Mutex<T> {
         }
     }
 
-    // Looks as often as the pace says, with more pauses before each look than before the one before it, so that the holder keeps
-    // the cache line of the count for most of the time.
+    /// Looks as often as the pace says, with more pauses before each look than before the one before it, so that the holder keeps
+    /// the cache line of the count for most of the time.
     #[inline(always)]
     fn spin(&self, seat: &mut Seat<T>) -> Option<How>
         requires belongs { OfMutex seat.old self.now }
@@ -208,8 +208,8 @@ impl<T: Kept> Mutex<T> {
         self.table.look_at_count()
     }
 
-    // One try if the count that was found is 0, and none otherwise. A look costs the holder less than a try that fails. It is the fast
-    // path of `try_lock` at once: what that call asks of its seat is known.
+    /// One try if the count that was found is 0, and none otherwise. A look costs the holder less than a try that fails. It calls
+    /// the fast path of `try_lock` directly: what that path requires of the seat is known here.
     #[inline(always)]
     fn try_if_free(&self, seat: &mut Seat<T>, count: u64) -> Option<How>
         requires belongs { OfMutex seat.old self.now }

@@ -1,5 +1,6 @@
-//! How a call is made by its steps: it begins, and makes them to the end. Each public call has a file of its own. None of these
-//! takes memory or wakes a seat: where a step grants another seat the mutex, its wake-up is handed out with the turn.
+//! The slow path: a call begins, and makes one step after another until it ends. Each public call has a file of its own. None of
+//! these functions takes memory or wakes a seat: if a step grants another seat the mutex, its wake-up is handed out with the
+//! turn.
 ghost use Rattle.std.specs.Prelude.{◌≡◌, ◌≢◌, ◌+◌, ◌≤◌, ℕ, length, false, true, Some, None};
 ghost use Rattle.lfm_model.specs.declared.answers.How.{How as HowNow};
 ghost use Rattle.lfm_protocol.specs.declared.points.Point.TheVariants.{ReleaseOwnerStore};
@@ -23,7 +24,7 @@ use lfm_protocol::points::Point;
 use lfm_protocol::{Call, SeatState, Turn};
 use lfm_table::{Kept, WakeUp};
 
-// The one wake-up of two sets of steps, of which one at most has granted.
+/// The wake-up of two sequences of steps, of which at most one has granted.
 fn either(first: Option<WakeUp>, then: Option<WakeUp>) -> Option<WakeUp>
     requires { (t : ℕ) → first ≡ Some t → then ≡ None }
     ensures { result ≡ first_of first then }
@@ -108,7 +109,7 @@ pub fn release<T: Kept>(mutex: &Mutex<T>, seat: &mut Seat<T>, call: Call) -> (Tu
     }
 }
 
-/// Makes the steps of the open call, of which the first may be the store that ends a hold.
+/// Makes the steps of an open release to its end. The first of them is the store that ends the hold.
 fn finish_release<T: Kept>(mutex: &Mutex<T>, seat: &mut Seat<T>) -> (Turn, Option<WakeUp>)
     requires belongs { seat.old.place.table_id ≡ mutex.now.table.table_id }
     requires gives { (r : Releaser) × (seat.old.standing.point ≡ ReleaseOwnerStore r) }
@@ -129,7 +130,7 @@ fn finish_release<T: Kept>(mutex: &Mutex<T>, seat: &mut Seat<T>) -> (Turn, Optio
     }
 }
 
-/// The seat sleeps, or a call of it is open.
+/// Whether the seat sleeps, or a call of it is open.
 #[inline(always)]
 pub fn asleep(standing: &SeatState) -> bool
     ensures { result ≡ is_asleep standing.now.point }

@@ -22,7 +22,7 @@ use lfm_table::shared_table::closing::ClosedTable;
 use lfm_table::shared_table::{Place, SharedTable};
 use std::marker::Brand;
 
-// Why this seat can't be joined.
+/// Why this seat can't be joined.
 fn hinders<T: Kept>(seat: &Seat<T>) -> Option<Missing>
     ensures { MatchOption result (Idle (sight seat.now)) (λ m. Hinders m (sight seat.now)) }
 {
@@ -47,7 +47,7 @@ fn hinders_one<T: Kept, P: Holder<T>>(holder: &P) -> Option<Missing>
     hinders(holder.seat())
 }
 
-// What keeps the seat with this number from being joined.
+/// What keeps the seat with this number from being joined.
 fn hinders_at<T: Kept, P: Holder<T>>(seats: &Vec<P>, number: u64) -> Option<Missing>
     requires number { IsSeatNo number }
     ensures { MatchOption result (Stands (λ p. sight (P.seat_of p)) seats.now.items number) (λ m. (named m ≡ number) × Hindered (λ p. sight (P.seat_of p)) seats.now.items m) }
@@ -69,7 +69,7 @@ fn hinders_at<T: Kept, P: Holder<T>>(seats: &Vec<P>, number: u64) -> Option<Miss
     }
 }
 
-// Dropping a seat's other fields here keeps the callers' proofs from splitting.
+/// Dropping a seat's other fields here keeps the callers' proofs from splitting.
 fn into_place<T: Kept, P: Holder<T>>(holder: P) -> Place<T>
     ensures { result ≡ (P.seat_of holder).place }
 {
@@ -84,7 +84,7 @@ fn into_place<T: Kept, P: Holder<T>>(holder: P) -> Place<T>
     place
 }
 
-// Where seat 1 lies.
+/// Where seat 1 lies.
 fn first_place<T: Kept, P: Holder<T>>(seats: &Vec<P>) -> Option<usize>
     ensures { MatchOption result (Lacks (λ p. sight (P.seat_of p)) seats.now.items 1) (λ i. (s : _) × (get_elem? seats.now.items i ≡ some s) × ((P.seat_of s).number ≡ 1)) }
 {
@@ -98,7 +98,7 @@ fn first_place<T: Kept, P: Holder<T>>(seats: &Vec<P>) -> Option<usize>
     None
 }
 
-// Joins a seat that carries nothing.
+/// Joins a seat that carries nothing.
 fn retire<T: Kept, B: JoinedView<T>>(table: &SharedTable<T>, root: &mut Place<T>, place: Place<T>)
     requires view { B.view ≡ place.me.0 }
     requires table { (root.old.table_id ≡ table.now.table_id) × (place.table_id ≡ table.now.table_id) × (0 < table.now.table_id.words) }
@@ -110,7 +110,7 @@ fn retire<T: Kept, B: JoinedView<T>>(table: &SharedTable<T>, root: &mut Place<T>
     table.join_seat::<B>(root, place);
 }
 
-// Takes what lies in the slot of a table, which is closed while nobody counts, nothing is posted and nobody is queued.
+/// Takes what lies in the slot of a closed table. Its count is 0, nothing is posted and nobody is queued.
 fn take_slot<T: Kept>(closed: ClosedTable<T>) -> Option<MovingBox<T>>
     requires free { AreFree closed.words }
     requires slot { length closed.slots ≡ 1 }
@@ -120,7 +120,7 @@ fn take_slot<T: Kept>(closed: ClosedTable<T>) -> Option<MovingBox<T>>
 }
 
 impl<T: Kept> Mutex<T> {
-    // The first thing that keeps the mutex from being closed.
+    /// The first thing that keeps the mutex from being closed.
     fn missing<P: Holder<T>>(&self, seats: &Vec<P>) -> Option<Missing>
         ensures { MatchOption result (AllStand (λ p. sight (P.seat_of p)) seats.now.items (limits_of self.now).seats) (FirstMissing (λ p. sight (P.seat_of p)) seats.now.items (limits_of self.now).seats) }
     {
@@ -132,12 +132,11 @@ impl<T: Kept> Mutex<T> {
         None
     }
 
-    /// Gives the guarded value back, and ends the mutex, where all seats are there, none holds, none sleeps and none is
-    /// in a call. It is what the last hold of all left, which is that of the seat whose `ended` is the greatest, or the
-    /// opening value where no hold has ended. The trails of the seats are then their parts of one run of the core, from the
-    /// start to a free state. Otherwise it hands back the mutex and the seats, and names the first seat
-    /// that hinders it, and how. It compares each of the seats' numbers with each handed in, takes no memory and never
-    /// waits.
+    /// Gives the guarded value back, and ends the mutex, if all seats are there and none holds, sleeps or is in a call. The value
+    /// is what the last hold of all left, which is that of the seat with the greatest `ended`, or the opening value if no hold
+    /// has ended. The trails of the seats are then their parts of one run of the core, from the start to a free state. Otherwise
+    /// it hands back the mutex and the seats, and names the first seat that hinders it, and how. It compares each seat number of
+    /// the mutex with each seat handed in, takes no memory and never waits.
     pub fn close<P: Holder<T>>(self, seats: Vec<P>) -> Result<T, (Mutex<T>, Vec<P>, Missing)>
         requires belongs { (j : ℕ) (s : _) → get_elem? seats.items j ≡ some s → OfMutex (P.seat_of s) self }
         ensures missing { IfErr result (λ e. (e.0 ≡ self) × (e.1 ≡ seats) × FirstMissing (λ p. sight (P.seat_of p)) seats.items (limits_of self).seats e.2) }

@@ -48,7 +48,7 @@ pub fn tables_stand<T: Kept>()
     ensures { TablesStand T.follows T.fits }
 {}
 
-/// Where every seat rests and none holds, the count is 0, nothing is posted and nobody is queued.
+/// If every seat rests and none holds, the count is 0, nothing is posted and nobody is queued.
 ///
 /// Definition: `RestingTablesAreFree` in `specs/TableStates.antt`. Proof: `proofs/TableStates.antt`.
 pub fn resting_tables_are_free<T: Kept>()
@@ -64,8 +64,8 @@ pub fn holds_are_numbered<T: Kept>()
     ensures { HoldsAreNumbered T.follows T.fits }
 {}
 
-/// A close has no second value to give back: of some seats, no two with the same number, the last hold of all left at most
-/// one value, and where none has ended there is at most one opening value.
+/// A close has no second value to give back: of some seats, no two with the same number, the last hold of all left at most one
+/// value, and if none has ended, there is at most one opening value.
 ///
 /// Definition: `OneLastValue` in `specs/EndedHolds.antt`. Proof: `proofs/EndedHolds.antt`.
 pub fn closes_have_one_value<T: Kept>()
@@ -103,8 +103,8 @@ pub fn other_steps_keep_the_core<T: Kept>()
     ensures { OtherStepsKeepTheCore T.follows T.fits }
 {}
 
-/// A seat is seen with as many seats as its mutex has. So where a contract of a gain or a close speaks of steps of seats of 1
-/// to N, N is the number of seats of that mutex.
+/// A seat is seen with as many seats as its mutex has. So if a contract of a gain or a close speaks of steps of seats of 1 to N, N
+/// is the number of seats of that mutex.
 ///
 /// Definition: `KnowsItsMutex` in `specs/Laws.antt`. Proof: `proofs/LawsHeld.antt`.
 pub fn seats_know_their_mutex<T: Kept>()

@@ -1,6 +1,6 @@
-//! The running mutex: a verified lock-free, sleeping, recursive mutex over a table of atomic words. Its words and seats
-//! are a steady state of the core at every moment. Each holder finds a value that follows from the one that it left last by
-//! steps of other seats, each as `Kept` of the value allows it.
+//! The running mutex: a verified lock-free, sleeping, recursive mutex over a table of atomic words. Its words and seats are a
+//! steady state of the core at every moment. Each holder finds a value that follows from the one that it left last by steps of
+//! other seats, each of which `Kept` of the value allows.
 #![tactic(auto)]
 
 mod barging;

@@ -1,6 +1,6 @@
-//! `lock`, and `ask`, which is `lock` up to the point where it would sleep. Where `ask` meets no other seat it is made straight
-//! on: with its atomic steps and the few fields that change, and with no copy of the seat's data. Where a step finds more, the
-//! seat goes on from its point as any call does.
+//! `lock`, and `ask`, which is `lock` up to the point at which it would sleep. Fast path: the mutex is free, the seat holds it
+//! already, or the seat queues (`queue`). It makes its atomic steps one after another, writes only the fields that change, and
+//! makes no copy of the seat's data. Everything else is the slow path (`calls::finish`).
 ghost use Rattle.std.specs.Prelude.{◌≡◌, ◌+◌, ◌<◌, length};
 ghost use Rattle.lfm_model.specs.declared.answers.How.{How as HowNow};
 ghost use Rattle.lfm_protocol.specs.declared.answers.Answer.TheVariants as Answered;
@@ -31,7 +31,7 @@ use lfm_table::straight_steps::{add_free, add_held, load_held, store_held, subtr
 use lfm_table::{Kept, SeatData, WakeUp};
 use std::sync::Wait;
 
-/// Makes the steps of the open call of lock to its end.
+/// The slow path of an open `lock`, from the seat's point to the end of the call.
 #[inline(always)]
 pub(crate) fn ask_on<T: Kept>(mutex: &Mutex<T>, seat: &mut Seat<T>) -> (Asked, Option<WakeUp>)
     requires belongs { seat.old.place.table_id ≡ mutex.now.table.table_id }
@@ -50,7 +50,8 @@ pub(crate) fn ask_on<T: Kept>(mutex: &Mutex<T>, seat: &mut Seat<T>) -> (Asked, O
     }
 }
 
-// The points at which the generic run goes on. They are written out of line, since a point takes as long as a step.
+// The points at which the slow path takes over. Each is stored out of line: a `Point` has several words, and to write one costs
+// as much as an atomic step, so the fast path must not.
 
 #[inline(never)]
 fn stand_loading(standing: &mut SeatState, takes: u64)
@@ -75,7 +76,7 @@ fn stand_pushing(standing: &mut SeatState)
     standing.point = Point::PushLoad(Pusher::Locker);
 }
 
-/// `ask` of a seat that is awake, doesn't hold, and has a take left.
+/// Fast path of `ask`: the seat is awake, doesn't hold, and has a take left.
 #[inline(always)]
 pub fn ask_free<T: Kept>(
     mutex: &Mutex<T>,
@@ -111,7 +112,7 @@ pub fn ask_free<T: Kept>(
         stand_loading(&mut seat.standing, takes);
         return queue(mutex, seat);
     }
-    // Written here, where the value has just been moved: each stretch between two atomic steps that has writes costs time.
+    // The plain writes stand together, in this gap between two steps: see `straight_steps`.
     seat.standing.depth = 1;
     seat.standing.takes = takes;
     data.standing.point = Point::EnterOwnerStore(Entrant::Locker, How::Free);
@@ -119,7 +120,7 @@ pub fn ask_free<T: Kept>(
     (Asked::Held(How::Free), None)
 }
 
-/// `ask` of a seat that is awake and holds, below the greatest depth.
+/// Fast path of `ask`: the seat is awake and holds, below the greatest depth.
 #[inline(always)]
 pub fn ask_again<T: Kept>(mutex: &Mutex<T>, seat: &mut Seat<T>) -> (Asked, Option<WakeUp>)
     requires belongs { OfMutex seat.old mutex.now }
@@ -162,7 +163,7 @@ pub fn ask_again<T: Kept>(mutex: &Mutex<T>, seat: &mut Seat<T>) -> (Asked, Optio
     (Asked::Again(depth + 1), None)
 }
 
-/// `ask` by the generic run of its steps.
+/// The whole of `ask` by the slow path. Only a call that is refused comes here.
 #[inline(always)]
 fn ask_any<T: Kept>(
     mutex: &Mutex<T>,
@@ -186,14 +187,14 @@ fn ask_any<T: Kept>(
 }
 
 impl<T: Kept> Mutex<T> {
-    /// `lock` up to the point where it would sleep: gains the mutex, deepens the hold, or queues the seat, which then
-    /// sleeps until a receive tells it that it holds. A seat that gains the mutex or queues is charged one take.
+    /// `lock` up to the point at which it would sleep: gains the mutex, deepens the hold, or queues the seat, which then sleeps
+    /// until a receive tells it that it holds. A seat that gains the mutex or queues is charged one take.
     ///
-    /// Refuses, in this order: Asleep (the seat sleeps, or a call of it is open), DepthFull (it holds at depth 65,535),
-    /// Spent (it doesn't hold, and has no take left). It never waits. Where it takes a posted hand-off over and an older
-    /// record than its own is queued, it grants the mutex to the seat of that record, and wakes it. It makes at most 9 atomic
-    /// steps more than the mutex has seats, and two for each exchange of the push word that fails because another seat has
-    /// changed the word. As `lock` of LFthreads' mutex and of OSv's lfmutex.
+    /// Refuses, in this order: Asleep (the seat sleeps, or a call of it is open), DepthFull (it holds at depth 65,535), Spent (it
+    /// doesn't hold, and has no take left). It never waits. If it takes over a posted hand-off and a record older than its own is
+    /// queued, it grants the mutex to the seat of that record and wakes it. It makes at most 9 atomic steps more than the mutex
+    /// has seats, and two for each exchange of the push word that fails because another seat has changed the word. As `lock` of
+    /// LFthreads' mutex and of OSv's lfmutex.
     #[inline(always)]
     pub fn ask(&self, seat: &mut Seat<T>) -> Result<Asked, Refusal>
         requires belongs { OfMutex seat.old self.now }
@@ -238,7 +239,7 @@ impl<T: Kept> Mutex<T> {
         ask_any(self, seat)
     }
 
-    /// Gains the mutex, or deepens the hold: `ask`, and then `receive_lock` where it answered Asleep.
+    /// Gains the mutex, or deepens the hold: `ask`, and then `receive_lock` if that answered Asleep.
     ///
     /// Refuses as `ask`: Asleep, DepthFull, Spent, in this order. It may wake a seat, as `ask` may.
     #[inline(always)]

@@ -25,10 +25,10 @@ use lfm_words::PopList;
 use std::alloc::Global;
 use std::snapshot::Snapshot;
 
-// Neither a mutex nor its seats can ask how many processors there are.
+/// Neither a mutex nor its seats can ask how many processors there are.
 const USUAL_PROCESSORS: u64 = 8;
 
-// A seat that has done nothing.
+/// A seat that has done nothing.
 fn at_rest() -> SeatState
     ensures { result ≡ absent }
 {
@@ -40,7 +40,7 @@ fn at_rest() -> SeatState
     }
 }
 
-// The table of a mutex that nobody holds or wants, and its first seat.
+/// The table of a mutex that nobody holds or wants, and its first seat.
 fn laid_out<T: Kept>(
     alloc: Global,
     limits: Limits,
@@ -75,12 +75,12 @@ fn laid_out<T: Kept>(
 }
 
 impl<T: Kept> Mutex<T> {
-    /// A mutex round this value, and its seats in order, numbered from 1. `seats` is 1 to 4,095, and `budget`, how many
-    /// takes each seat may make, 1 to 2^36. The value has to suit a mutex that has had no queued take. The pace is the usual one
-    /// until `set_pace`.
+    /// A mutex round this value, and its seats in order, numbered from 1. `seats` is 1 to 4,095, and `budget`, how many takes
+    /// each seat may make, 1 to 2^36. The value has to suit a mutex that has had no queued take. The pace is the usual one until
+    /// `set_pace`.
     ///
-    /// Outside these limits it answers Limit, and asks for no memory. It answers Memory where a request for memory was
-    /// refused. On a fault the value is dropped. No other call of a mutex takes memory.
+    /// Outside these limits it answers Limit, and asks for no memory. It answers Memory if a request for memory was refused. On a
+    /// fault the value is dropped. No other call of a mutex takes memory.
     pub fn new(
         alloc: Global,
         seats: u64,

@@ -7,38 +7,38 @@ use std::io;
 use std::thread::{Threads, available_parallelism};
 use std::time::{Clock, Duration, Instant};
 
-/// How often a queued seat looks at its wake word before it parks, if its mutex is not told otherwise. How long that lasts
-/// differs by the processor; where it is short it still lasts about two wake-ups by the system.
+/// How often a queued seat looks at its wake word before it parks, unless its mutex is told otherwise. How long that lasts
+/// depends on the processor, but even on a fast one it is about two wake-ups by the system.
 pub const LOOKS_BEFORE_SLEEP: u32 = 800;
 
-// How often a seat spins before it queues. With the pauses this lasted some 8 microseconds on the machine that was measured.
+/// How often a seat spins before it queues. With the pauses this lasted some 8 microseconds on the machine that was measured.
 const SPINS: u32 = 12;
 
-// With one processor it tries once. Further spins would keep the holder from its work.
+/// With one processor it tries once. Further spins would keep the holder from its work.
 const SPINS_OF_ONE_PROCESSOR: u32 = 1;
 
-// How often it then naps.
+/// How often it then naps.
 const NAPS: u32 = 6;
 
-// So few seats are no crowd, however few processors there are.
+/// This number of seats is no crowd, however few processors there are.
 const FEW: u64 = 8;
 
-// These pauses before each look leave the cache line of the word to the seat that is to store the grant.
+/// These pauses before each look leave the cache line of the word to the seat that is to store the grant.
 const PAUSES_PER_LOOK: u32 = 4;
 
-// How long a queued seat should look, in nanoseconds: about two wake-ups by the system.
+/// How long a queued seat should look, in nanoseconds: about two wake-ups by the system.
 const LOOK_NANOSECONDS: u64 = 20_000;
 
-// How many looks are made to see how long they take.
+/// Looks per timing run.
 const LOOKS_TIMED: u32 = 200;
 
-// How often they are made, so that nothing interrupts them at least once.
+/// Timing runs. The shortest counts, since an interruption only adds.
 const RUNS_TIMED: u32 = 5;
 
-// The fewest looks that a measurement gives.
+/// The fewest looks that a measurement gives.
 const FEWEST_LOOKS: u64 = 100;
 
-// The most looks that a measurement gives.
+/// The most looks that a measurement gives.
 const MOST_LOOKS: u64 = 4_000;
 
 /// How a seat waits for the mutex. It has two parts.
@@ -150,12 +150,12 @@ impl Pace {
         self.naps
     }
 
-    // Whether more hold or wait than two for each processor.
+    /// Whether more hold or wait than two for each processor.
     pub(crate) fn is_crowd(self, count: u64) -> bool {
         count > FEW.max(self.near.saturating_mul(2))
     }
 
-    // The looks of a seat that finds this count.
+    /// The looks of a seat that finds this count.
     pub(crate) fn looks_at(self, count: u64) -> u32
         ensures near { count ≤ self.near → result ≡ self.looks }
         ensures far { self.near < count → result ≡ 0 }
@@ -164,13 +164,13 @@ impl Pace {
     }
 }
 
-// The pauses before a look.
+/// The pauses before a look.
 #[inline(always)]
 pub(crate) fn pause() {
     pause_for(PAUSES_PER_LOOK);
 }
 
-// This number of pauses.
+/// This number of pauses.
 #[inline(always)]
 pub(crate) fn pause_for(pauses: u32) {
     for _ in 0..pauses {
@@ -178,7 +178,7 @@ pub(crate) fn pause_for(pauses: u32) {
     }
 }
 
-// The shortest time that the looks took.
+/// The shortest time that the looks took.
 fn shortest<R: Clock>(rt: &R) -> io::Result<Duration> {
     let mut shortest = Duration::MAX;
     for _ in 0..RUNS_TIMED {
@@ -191,7 +191,7 @@ fn shortest<R: Clock>(rt: &R) -> io::Result<Duration> {
     Ok(shortest)
 }
 
-// How many looks last as long as a seat should look, where LOOKS_TIMED of them took so long.
+/// How many looks last as long as a seat should look, if LOOKS_TIMED of them took this time.
 fn looks_lasting(time: Duration) -> u32
     ensures { (100 ≤ result) × (result ≤ 4_000) }
 {

@@ -1,6 +1,5 @@
-//! How the seat of a call of lock that found others is queued: it loads the owner, pushes its record and loads the handoff word. It
-//! is made straight on; where the push word has changed, or a handoff is posted, the seat goes on from its point as any call
-//! does.
+//! How the seat of a `lock` that found others is queued: it loads the owner, pushes its record and loads the handoff word. Fast
+//! path: the push word is as it was seen, and no handoff is posted. Everything else is the slow path (`calls::finish`).
 ghost use Rattle.std.specs.Prelude.{◌≡◌, length};
 ghost use Rattle.lfm_protocol.specs.declared.answers.Answer.TheVariants as Answered;
 ghost use Rattle.lfm_protocol.specs.declared.answers.Turn.TheVariants.{Ended};
@@ -25,7 +24,7 @@ use lfm_table::straight_steps::{
 use lfm_table::{Kept, SeatData, WakeUp};
 use lfm_words::{Link, unpack_handoff, unpack_link};
 
-// The points at which the generic run goes on. They are written out of line, since a point takes as long as a step.
+// The points at which the slow path takes over, stored out of line as in `lock`.
 
 #[inline(never)]
 pub(crate) fn stand_after_push(standing: &mut SeatState, pusher: Pusher, seen: Link, found: u64)
@@ -43,7 +42,7 @@ pub(crate) fn stand_beside_post(standing: &mut SeatState, pusher: Pusher, found:
     standing.after_handoff_load(unpack_handoff(found));
 }
 
-/// Makes the steps of an open call of lock that found others in the count, to its end, for a seat that doesn't hold.
+/// Makes the steps of an open `lock` that found others in the count, to its end. The seat doesn't hold.
 #[inline(never)]
 pub(crate) fn queue<T: Kept>(mutex: &Mutex<T>, seat: &mut Seat<T>) -> (Asked, Option<WakeUp>)
     requires belongs { seat.old.place.table_id ≡ mutex.now.table.table_id }

@@ -1,5 +1,5 @@
-//! How a send that found others in the count queues its target: it pushes the record of the target and loads the handoff word. It is
-//! made straight on; where the push word has changed, or a handoff is posted, the seat goes on from its point as any call does.
+//! How a send that found others in the count queues its target: it pushes the record of the target and loads the handoff word.
+//! Fast path: the push word is as it was seen, and no handoff is posted. Everything else is the slow path (`calls::finish`).
 ghost use Rattle.std.specs.Prelude.{◌≡◌, length};
 ghost use Rattle.lfm_protocol.specs.declared.points.Point.TheVariants.{PushLoad};
 ghost use Rattle.lfm_protocol.specs.declared.points.Pusher.{Pusher as PusherNow};

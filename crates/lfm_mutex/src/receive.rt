@@ -26,7 +26,7 @@ use lfm_table::wake_words::{FIRST_GRANT, stamp_in};
 use lfm_table::{Kept, SeatData, WakeUp};
 use std::sync::Wait;
 
-// How the mutex is gained by a grant of this stamp.
+/// How the mutex is gained by a grant of this stamp.
 fn how_by(stamp: u64) -> How
     ensures { result ≡ how_granted stamp }
 {
@@ -78,10 +78,10 @@ pub fn receive_asleep<T: Kept>(
 }
 
 impl<T: Kept> Mutex<T> {
-    /// Waits until the seat, which sleeps, is granted the mutex, and answers how it came to hold. It makes a
-    /// receive, then looks as often as the pace of the mutex says, and then sleeps until it is woken.
+    /// Waits until the seat, which sleeps, is granted the mutex, and answers how it came to hold. It makes a receive, then looks
+    /// as often as the pace of the mutex says, and then sleeps until it is woken.
     ///
-    /// Refuses with NotWaiting where the seat doesn't sleep, or a call of it is open.
+    /// Refuses with NotWaiting if the seat doesn't sleep, or if a call of it is open.
     pub fn receive_lock<R: Wait>(&self, rt: &R, seat: &mut Seat<T>) -> Result<How, Refusal>
         requires belongs { OfMutex seat.old self.now }
         ensures belongs { Beside seat.old seat.new }
@@ -93,8 +93,8 @@ impl<T: Kept> Mutex<T> {
         self.receive_lock_within(rt, seat, self.pace.looks_at(count))
     }
 
-    /// `receive_lock` with so many looks before it sleeps. With none it sleeps after its first receive, as suits a
-    /// seat whose grant is not expected soon.
+    /// `receive_lock` with this number of looks before it sleeps. With 0 it sleeps after its first receive, which suits a seat
+    /// whose grant is not expected soon.
     #[inline(never)]
     pub fn receive_lock_within<R: Wait>(
         &self,
@@ -121,8 +121,8 @@ impl<T: Kept> Mutex<T> {
         unreachable!()
     }
 
-    // Waits for a grant in the wake word: looks while some looks are left, and then sleeps while the word is no grant. A look
-    // is a load, so it makes no step of the seat, and is kept off the line of the word by some pauses.
+    /// Waits for a grant in the wake word: looks while looks are left, and then sleeps while the word is no grant. A look is a
+    /// load and no step of the seat. The pauses between looks leave the cache line of the word to the seat that grants.
     fn await_grant<R: Wait>(&self, rt: &R, wake: usize, looks: u32) -> u32
         requires { wake < self.now.table.table_id.words }
     {
@@ -136,11 +136,11 @@ impl<T: Kept> Mutex<T> {
         0
     }
 
-    /// One load of the wake word of a seat that sleeps: how it came to hold, or None where it was not granted the mutex
-    /// and sleeps on.
+    /// One load of the wake word of a seat that sleeps: how it came to hold, or None if it was not granted the mutex and sleeps
+    /// on.
     ///
-    /// Refuses with NotWaiting where the seat doesn't sleep, or a call of it is open. It never waits, and makes at most 3
-    /// atomic steps.
+    /// Refuses with NotWaiting if the seat doesn't sleep, or if a call of it is open. It never waits, and makes at most 3 atomic
+    /// steps.
     pub fn try_receive(&self, seat: &mut Seat<T>) -> Result<Option<How>, Refusal>
         requires belongs { OfMutex seat.old self.now }
         ensures belongs { Beside seat.old seat.new }

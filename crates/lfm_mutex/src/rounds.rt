@@ -1,4 +1,4 @@
-//! Each seat makes its rounds in a thread of its own.
+//! `run`: each seat makes its rounds in a thread of its own.
 ghost use Rattle.std.specs.Prelude.{◌≡◌, IfErr, IfOk, vec_len};
 ghost use Rattle.lfm_mutex.specs.AllSeats.{SeatsOf};
 ghost use Rattle.lfm_mutex.specs.Belongs.{OfMutex};
@@ -13,7 +13,7 @@ use lfm_threads::{NotStarted, share};
 use std::sync::Wait;
 use std::thread::Threads;
 
-// Makes so many rounds with the seat, or fewer where one is refused.
+/// Makes this number of rounds with the seat, or fewer if one is refused.
 fn make_rounds<T: Kept, F: Fn(u64, &mut Seat<T>) -> Result<(), Refusal>>(
     mutex: &Mutex<T>,
     mut seat: Seat<T>,
@@ -35,15 +35,16 @@ fn make_rounds<T: Kept, F: Fn(u64, &mut Seat<T>) -> Result<(), Refusal>>(
 }
 
 impl<T: Kept> Mutex<T> {
-    /// Starts a thread for each seat. Each calls the closure with the numbers from 0 on, so many times, and its seat, until the
-    /// closure answers Err. It joins all threads, and returns all seats, in their order. It sleeps until all threads have ended.
+    /// Starts a thread for each seat. Each thread calls the closure with its round, from 0 to `rounds - 1`, and its seat, and
+    /// stops early at the first Err. It joins all threads, and returns all seats, in their order. It sleeps until all threads
+    /// have ended.
     ///
-    /// What the closure answered is not kept: `run` returns Ok with all seats also where a thread stopped early. Whoever needs to
+    /// What the closure answered is not kept: `run` returns Ok with all seats also if a thread stopped early. Whoever needs to
     /// know gives each seat takes enough, or counts the rounds. The closure leaves its seat one of this mutex, which holds as
     /// often as before, and sleeps only if it slept before.
     ///
-    /// No call is made before all threads have been started. Where a request for memory is refused, or a thread can't be
-    /// started, no call is made at all, and all seats are handed back.
+    /// No call is made before all threads have been started. If a request for memory is refused, or a thread can't be started, no
+    /// call is made at all, and all seats are handed back.
     ///
     /// ```
     /// let seats = mutex.run(&rt, seats, 1_000, &|_: u64, seat: &mut Seat<u64>| -> Result<(), Refusal>

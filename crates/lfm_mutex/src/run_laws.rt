@@ -54,15 +54,15 @@ pub fn tables_overtake_once<T: Kept>()
     ensures { TablesOvertakeOnce T.follows T.fits }
 {}
 
-/// Since each moment of a table's run, with k calls ended since, at most (5N + 5)(N + k) steps of calls were made. The trails tell
-/// just these, and the loads for `owner`.
+/// Since each moment of a table's run, with k calls ended since, at most (5N + 5)(N + k) steps of calls were made. The trails
+/// tell exactly these, and the loads for `owner`.
 ///
 /// Definition: `TablesEndCalls` in `specs/TableRuns.antt`. Proof: `proofs/TableRuns.antt`.
 pub fn tables_end_calls<T: Kept>()
     ensures { TablesEndCalls T.follows T.fits }
 {}
 
-/// A seat's trail tells just the records that it pushed in its table's run, and those by which it answered `Held Queued`.
+/// A seat's trail tells exactly the records that it pushed in its table's run, and those by which it answered `Held Queued`.
 ///
 /// Definitions: `TrailsTellThePushes` and `TrailsTellTheAnswers` in `specs/TableRuns.antt`. Proofs: `proofs/TableRuns.antt` and
 /// `proofs/RunTrails.antt`.

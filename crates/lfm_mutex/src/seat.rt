@@ -15,13 +15,13 @@ use lfm_table::moving_box::MovingBox;
 use lfm_table::shared_table::Place;
 use lfm_table::{Kept, Woken};
 
-/// What one thread uses the mutex with. A seat may move between threads, and each call borrows it for its whole length.
-/// Dropped while it holds or sleeps, it keeps what it holds: nobody else gains that.
+/// What one thread uses the mutex with. A seat may move between threads, and each call borrows it for its whole length. Dropped
+/// while it holds or sleeps, it keeps what it holds: nobody else gains that.
 ///
 /// These lines are compiled in the crate `example_cache`:
 ///
 /// ```
-/// // the sum from the cache that the mutex guards, where it is there and no other seat holds the mutex
+/// // the sum from the cache that the mutex guards, if it is there and no other seat holds the mutex
 /// match mutex.try_with(seat, |cache| cache.find(number)) {
 ///     Ok(Some(sum)) => return Ok(sum),
 ///     Ok(None) | Err(Refusal::Busy) => {}
@@ -84,7 +84,7 @@ impl<T: Kept> Seat<T> {
         !matches!(self.standing.point, Point::Rest)
     }
 
-    /// The guarded value, Some exactly where the depth is 1 or more.
+    /// The guarded value, Some exactly if the depth is 1 or more.
     pub fn value(&self) -> Option<&T>
         ensures { MatchOption result ((sight self.now).depth ≡ 0) (λ x. (0 < (sight self.now).depth) × ((sight self.now).value ≡ Some x.now)) }
     {

@@ -13,7 +13,7 @@ use lfm_model::Refusal;
 use lfm_table::Kept;
 use std::sync::Wait;
 
-// Changes the value that the seat has in hand.
+/// Changes the value that the seat has in hand.
 #[inline(always)]
 fn change<T: Kept, U, F: FnOnce(&mut T) -> U>(seat: &mut Seat<T>, f: F) -> U
     requires holds { 0 < (sight seat.old).depth }
@@ -29,12 +29,12 @@ fn change<T: Kept, U, F: FnOnce(&mut T) -> U>(seat: &mut Seat<T>, f: F) -> U
 }
 
 impl<T: Kept> Mutex<T> {
-    /// Comes to hold as `lock_barging` does, gives the closure the value, and gives that hold up as `unlock` does, so that the seat
-    /// holds as often as before. Returns what the closure returned. What the closure leaves has to follow what was found
-    /// and to suit the mutex, as `Kept` of its type says; of a u64 or a bool, anything does.
+    /// Comes to hold as `lock_barging` does, gives the closure the value, and gives that hold up as `unlock` does, so that the
+    /// seat holds as often as before. Returns what the closure returned. What the closure leaves has to follow what was found and
+    /// to suit the mutex, as `Kept` of its type says; of a u64 or a bool, anything does.
     ///
     /// Refuses as `lock`: Asleep, DepthFull, Spent, in this order. Then the closure is not called, and nothing has changed. It
-    /// sleeps and wakes where these two calls do, and takes no memory.
+    /// sleeps and wakes as these two calls do, and takes no memory.
     ///
     /// ```
     /// let total = mutex.with(&rt, &mut seat, |total| {

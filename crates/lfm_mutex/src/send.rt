@@ -1,5 +1,5 @@
-//! `send_lock`: a seat that waits is made a locker, on its behalf. Where the mutex is free, or no handoff is posted, it is made straight
-//! on; where a step finds more, the seat goes on from its point as any call does.
+//! `send_lock`: a seat that waits is made a locker, on its behalf. Fast path: the target gains a free mutex, or is queued while
+//! no handoff is posted (`queue_target`). Everything else is the slow path (`calls::finish`).
 ghost use Rattle.std.specs.Prelude.{◌≡◌, ◌+◌, ◌<◌, ◌≤◌, length};
 ghost use Rattle.lfm_protocol.specs.declared.answers.Answer.TheVariants as Answered;
 ghost use Rattle.lfm_protocol.specs.declared.answers.Call.{Call as CallNow};
@@ -26,7 +26,7 @@ use lfm_table::straight_steps::{add_free, add_held, exchange_wake_kept, store_gr
 use lfm_table::{Kept, SeatData, WakeUp};
 use lfm_words::Wake;
 
-/// Makes the steps of the open call of send_lock to its end.
+/// The slow path of an open `send_lock`, from the seat's point to the end of the call.
 #[inline(always)]
 pub(crate) fn send_on<T: Kept>(
     mutex: &Mutex<T>,
@@ -50,7 +50,7 @@ pub(crate) fn send_on<T: Kept>(
     }
 }
 
-// The point at which the record of the target is pushed. It is written out of line, since a point takes as long as a step.
+/// The point at which the record of the target is pushed, stored out of line as in `lock`.
 #[inline(never)]
 fn stand_pushing(standing: &mut SeatState, target: u64)
     ensures { standing.new ≡ record standing.old { point = PushLoad (PusherNow.Sender target) } }
@@ -58,7 +58,7 @@ fn stand_pushing(standing: &mut SeatState, target: u64)
     standing.point = Point::PushLoad(Pusher::Sender(target));
 }
 
-// Makes the steps of an open send that has claimed its target, to its end, for a seat that doesn't hold.
+/// Makes the steps of an open send that has claimed its target, to its end, for a seat that doesn't hold.
 #[inline(always)]
 fn send_free<T: Kept>(
     mutex: &Mutex<T>,
@@ -98,7 +98,8 @@ fn send_free<T: Kept>(
     (Ok(()), wake_up)
 }
 
-// The same for a seat that holds. It finds itself in the count; that a 0 never comes is left to the general run.
+/// The same for a seat that holds, so that the count is at least 1. That is a fact of the invariant, not of this contract; the
+/// slow path handles a 0.
 #[inline(always)]
 fn send_held<T: Kept>(
     mutex: &Mutex<T>,
@@ -136,7 +137,7 @@ fn send_held<T: Kept>(
     queue_target(mutex, seat, target)
 }
 
-/// `send_lock` of a seat that is awake, to a seat of its mutex.
+/// Fast path of `send_lock`: the seat is awake, and the target is a seat of its mutex.
 #[inline(always)]
 pub fn send_awake<T: Kept>(
     mutex: &Mutex<T>,
@@ -176,7 +177,7 @@ pub fn send_awake<T: Kept>(
     send_held(mutex, seat, target)
 }
 
-/// `send_lock` by the generic run of its steps.
+/// The whole of `send_lock` by the slow path. Only a call that is refused comes here.
 #[inline(always)]
 fn send_any<T: Kept>(
     mutex: &Mutex<T>,

@@ -1,6 +1,5 @@
-//! How a release that found others in the count serves the oldest queued seat: from the pop list, or from the push list where
-//! that holds one record. It is made straight on, for an `unlock` as for a `start_wait`; where the push list is empty or longer, the
-//! seat goes on from its point as any call does.
+//! How a release that found others in the count serves the oldest queued seat, for an `unlock` as for a `start_wait`. Fast path:
+//! the pop list has a record, or the push list has exactly one. Everything else is the slow path (`calls::finish`).
 ghost use Rattle.std.specs.Prelude.{◌≡◌, ◌+◌, ◌≤◌, length, false};
 ghost use Rattle.lfm_protocol.specs.declared.points.Carrier.{Carrier as CarrierNow};
 ghost use Rattle.lfm_protocol.specs.declared.points.Point.TheVariants.{GrantWakeStore, TakeClearHead};
@@ -23,7 +22,7 @@ use lfm_table::straight_steps::{clear_head_held, load_link_held, store_grant, st
 use lfm_table::{Kept, SeatData, WakeUp};
 use lfm_words::{Record, unpack_link};
 
-// Makes the steps of an open release to its end, once its seat has given up the owner word.
+/// The slow path of an open release whose seat has given up the owner word, from the seat's point to the end of the call.
 #[inline(always)]
 fn release_on<T: Kept>(
     mutex: &Mutex<T>,
@@ -49,7 +48,7 @@ fn release_on<T: Kept>(
     }
 }
 
-/// The point of a release that found others in the count. It is written out of line, since a point takes as long as a step.
+/// The point of a release that found others in the count, stored out of line as in `lock`.
 #[inline(never)]
 pub(crate) fn stand_serving<T: Kept>(
     standing: &mut SeatState,
@@ -65,7 +64,7 @@ pub(crate) fn stand_serving<T: Kept>(
     };
 }
 
-// Stores the grant for the seat of the oldest record. That ends an unlock; a start_wait then stores its own wake word.
+/// Stores the grant for the seat of the oldest record. That ends an `unlock`; a `start_wait` then stores its own wake word.
 #[inline(always)]
 fn grant<T: Kept>(
     mutex: &Mutex<T>,
@@ -110,7 +109,9 @@ fn grant<T: Kept>(
     }
 }
 
-// Clears the push list, and serves its record where it holds one.
+/// Clears the push list, and serves its record if it has exactly one. Then the record's link names no older one, so it is the
+/// oldest as soon as it is loaded, and the pop list is empty again after the grant. If the push list was empty, a seat is still on
+/// its way, and the release posts. In a longer list the oldest record is the last to be loaded, after one step for each.
 #[inline(always)]
 fn serve_pushed<T: Kept>(
     mutex: &Mutex<T>,

@@ -29,9 +29,9 @@ pub use crate::steps::kinds::{
     store_owner, store_wake, subtract_count,
 };
 
-/// Begins a call: makes the checks in the order of the refusals, charges the take, and sets the first point. It answers
-/// what the core's `begin` answers for these data of the seat: Open where steps follow, the answer where none does, the
-/// refusal, or InCall where a call of the seat is open. It touches no word and never waits.
+/// Begins a call: makes the checks in the order of the refusals, charges the take, and sets the first point. It answers what the
+/// core's `begin` answers for these data of the seat: Open if steps follow, the answer if none does, the refusal, or InCall if a
+/// call of the seat is open. It touches no word and never waits.
 pub fn start<T: Kept>(mutex: &Mutex<T>, seat: &mut Seat<T>, call: Call) -> Turn
     requires belongs { OfMutex seat.old mutex.now }
     ensures belongs { Beside seat.old seat.new }
@@ -41,9 +41,9 @@ pub fn start<T: Kept>(mutex: &Mutex<T>, seat: &mut Seat<T>, call: Call) -> Turn
     begin_call(mutex, seat, call)
 }
 
-/// Makes the one atomic step at the seat's point: one operation on one word, and then the seat's own method of the core
-/// for that kind of step. It answers Open where the call goes on, the answer or refusal that ends the call, or Idle where
-/// no call of the seat is open. At the store that ends a hold, what is in hand has to follow what was found.
+/// Makes the one atomic step at the seat's point: one operation on one word, and then the seat's own method of the core for that
+/// kind of step. It answers Open if the call goes on, the answer or refusal that ends the call, or Idle if no call of the seat is
+/// open. At the store that ends a hold, what is in hand has to follow what was found.
 ///
 /// It never waits, and wakes the seat whose grant it stores.
 pub fn next<T: Kept>(mutex: &Mutex<T>, seat: &mut Seat<T>) -> Turn

@@ -1,5 +1,5 @@
-//! `try_lock`. It is made straight on where the mutex is free, where the seat holds it, and where another seat does and no handoff
-//! is posted. Where a handoff is posted, the seat goes on from its point as any call does.
+//! `try_lock`. Fast path: the mutex is free, the seat holds it, or another seat does and no handoff is posted. Everything else is
+//! the slow path (`calls::finish`).
 ghost use Rattle.std.specs.Prelude.{◌≡◌, ◌<◌, None};
 ghost use Rattle.lfm_model.specs.declared.answers.How.{How as HowNow};
 ghost use Rattle.lfm_protocol.specs.declared.answers.Call.{Call as CallNow};
@@ -27,7 +27,7 @@ use lfm_table::straight_steps::{
 };
 use lfm_table::{Kept, SeatData, WakeUp};
 
-/// Makes the steps of the open call of try_lock to its end.
+/// The slow path of an open `try_lock`, from the seat's point to the end of the call.
 #[inline(always)]
 fn try_on<T: Kept>(mutex: &Mutex<T>, seat: &mut Seat<T>) -> Result<Locked, Refusal>
     requires belongs { seat.old.place.table_id ≡ mutex.now.table.table_id }
@@ -47,7 +47,7 @@ fn try_on<T: Kept>(mutex: &Mutex<T>, seat: &mut Seat<T>) -> Result<Locked, Refus
     }
 }
 
-// The points at which the generic run goes on. They are written out of line, since a point takes as long as a step.
+// The points at which the slow path takes over, stored out of line as in `lock`.
 
 #[inline(never)]
 fn stand_exchanging(standing: &mut SeatState, takes: u64, number: u64, found: u64)
@@ -74,7 +74,7 @@ fn stand_loading(standing: &mut SeatState)
     standing.point = Point::TryHandoffLoad;
 }
 
-/// `try_lock` of a seat that is awake, doesn't hold, and has a take left.
+/// Fast path of `try_lock`: the seat is awake, doesn't hold, and has a take left.
 #[inline(always)]
 pub fn try_free<T: Kept>(
     mutex: &Mutex<T>,
@@ -106,7 +106,7 @@ pub fn try_free<T: Kept>(
     };
     let found = exchange_free(table, &mut seat.place, &mut seat.moving, &data);
     if found == 0 {
-        // Written here, where the value has just been moved: each stretch between two atomic steps that has writes costs time.
+        // The plain writes stand together, in this gap between two steps: see `straight_steps`.
         seat.standing.depth = 1;
         seat.standing.takes = takes;
         data.standing.point = Point::EnterOwnerStore(Entrant::Trier, How::Free);
@@ -124,7 +124,7 @@ pub fn try_free<T: Kept>(
     Err(Refusal::Busy)
 }
 
-/// `try_lock` of a seat that is awake and holds, below the greatest depth.
+/// Fast path of `try_lock`: the seat is awake and holds, below the greatest depth.
 #[inline(always)]
 pub fn try_again<T: Kept>(mutex: &Mutex<T>, seat: &mut Seat<T>) -> Result<Locked, Refusal>
     requires belongs { OfMutex seat.old mutex.now }
@@ -163,7 +163,7 @@ pub fn try_again<T: Kept>(mutex: &Mutex<T>, seat: &mut Seat<T>) -> Result<Locked
     Ok(Locked::Again(depth + 1))
 }
 
-/// `try_lock` by the generic run of its steps.
+/// The whole of `try_lock` by the slow path. Only a call that is refused at its start comes here.
 #[inline(always)]
 fn try_lock_any<T: Kept>(mutex: &Mutex<T>, seat: &mut Seat<T>) -> Result<Locked, Refusal>
     requires belongs { OfMutex seat.old mutex.now }
@@ -183,12 +183,12 @@ fn try_lock_any<T: Kept>(mutex: &Mutex<T>, seat: &mut Seat<T>) -> Result<Locked,
 }
 
 impl<T: Kept> Mutex<T> {
-    /// Gains the mutex or deepens the hold without queueing. A gain is charged one take. A post that no one has accepted
-    /// is accepted.
+    /// Gains the mutex or deepens the hold without queueing. A gain is charged one take. A post that no one has accepted is
+    /// accepted.
     ///
-    /// Refuses, in this order: Asleep, DepthFull and Spent as `ask`, and Busy, where the count was not 0, another seat
-    /// was the owner, and no post stood there or another call was faster to accept it; Busy gives its charge back. It
-    /// never waits and wakes nobody. Whatever others do, it makes at most 6 atomic steps. As `trylock` of OSv's lfmutex.
+    /// Refuses, in this order: Asleep, DepthFull and Spent as `ask`, and Busy: the count was not 0, another seat was the owner,
+    /// and no post stood there or another call was faster to accept it. Busy gives its charge back. It never waits and wakes
+    /// nobody. Whatever others do, it makes at most 6 atomic steps. As `trylock` of OSv's lfmutex.
     #[inline(always)]
     pub fn try_lock(&self, seat: &mut Seat<T>) -> Result<Locked, Refusal>
         requires belongs { OfMutex seat.old self.now }

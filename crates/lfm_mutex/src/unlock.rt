@@ -1,5 +1,6 @@
-//! `unlock`. Where nobody waits it is made straight on: with its atomic steps and the few fields that change, and with no copy
-//! of the seat's data. Where a step finds more, the seat goes on from its point as any call does.
+//! `unlock`. Fast path: the seat holds more than once, nobody waits, or the oldest queued seat is served (`serve`). It makes its
+//! atomic steps one after another, writes only the fields that change, and makes no copy of the seat's data. Everything else is
+//! the slow path (`calls::finish`).
 ghost use Rattle.std.specs.Prelude.{◌≡◌, ◌+◌, ◌<◌};
 ghost use Rattle.lfm_protocol.specs.declared.answers.Answer.TheVariants as Answered;
 ghost use Rattle.lfm_protocol.specs.declared.answers.Call.{Call as CallNow};
@@ -22,7 +23,7 @@ use lfm_protocol::{Answer, Call, SeatState, Turn, Why};
 use lfm_table::straight_steps::{store_held, subtract_last};
 use lfm_table::{Kept, SeatData, WakeUp};
 
-/// `unlock` of a seat that is awake and holds once.
+/// Fast path of `unlock`: the seat is awake and holds once.
 #[inline(always)]
 pub fn unlock_last<T: Kept>(mutex: &Mutex<T>, seat: &mut Seat<T>) -> (Unlocked, Option<WakeUp>)
     requires belongs { OfMutex seat.old mutex.now }
@@ -47,7 +48,7 @@ pub fn unlock_last<T: Kept>(mutex: &Mutex<T>, seat: &mut Seat<T>) -> (Unlocked, 
         },
     };
     store_held(table, &mut seat.place, &seat.moving, &data);
-    // Written here, where the value is about to be moved: each stretch between two atomic steps that has writes costs time.
+    // The plain writes stand together, in this gap between two steps: see `straight_steps`.
     seat.standing.depth = 0;
     data.standing.depth = 0;
     data.standing.point = Point::ReleaseCountSubtract(Releaser::Unlocker);
@@ -59,7 +60,7 @@ pub fn unlock_last<T: Kept>(mutex: &Mutex<T>, seat: &mut Seat<T>) -> (Unlocked, 
     (Unlocked::Free, None)
 }
 
-/// `unlock` of a seat that is awake and holds more than once.
+/// Fast path of `unlock`: the seat is awake and holds more than once.
 #[inline(always)]
 pub fn unlock_once<T: Kept>(mutex: &Mutex<T>, seat: &mut Seat<T>) -> Unlocked
     requires belongs { OfMutex seat.old mutex.now }
@@ -75,7 +76,7 @@ pub fn unlock_once<T: Kept>(mutex: &Mutex<T>, seat: &mut Seat<T>) -> Unlocked
     Unlocked::Still(seat.standing.depth)
 }
 
-/// `unlock` by the generic run of its steps.
+/// The whole of `unlock` by the slow path. Only a call that is refused comes here.
 #[inline(always)]
 fn unlock_any<T: Kept>(
     mutex: &Mutex<T>,

@@ -1,5 +1,5 @@
-//! `start_wait`: the mutex is given up, and the seat sleeps until it is sent. It is made straight on as `unlock` is; where a step finds
-//! more, the seat goes on from its point as any call does.
+//! `start_wait`: the mutex is given up, and the seat sleeps until it is sent. Its fast path is that of `unlock`, with the store
+//! of the seat's own wake word at the end. Everything else is the slow path (`calls::finish`).
 ghost use Rattle.std.specs.Prelude.{◌≡◌, ◌+◌, ◌<◌};
 ghost use Rattle.lfm_protocol.specs.declared.answers.Answer.TheVariants as Answered;
 ghost use Rattle.lfm_protocol.specs.declared.answers.Call.{Call as CallNow};
@@ -22,7 +22,7 @@ use lfm_protocol::{Answer, Call, SeatState, Turn, Why};
 use lfm_table::straight_steps::{store_held, store_wake_kept, subtract_last};
 use lfm_table::{Kept, SeatData, WakeUp};
 
-/// `start_wait` of a seat that is awake, holds once, and has a take left.
+/// Fast path of `start_wait`: the seat is awake, holds once, and has a take left.
 #[inline(always)]
 pub fn wait_last<T: Kept>(
     mutex: &Mutex<T>,
@@ -55,7 +55,7 @@ pub fn wait_last<T: Kept>(
         },
     };
     store_held(table, &mut seat.place, &seat.moving, &data);
-    // Written here, where the value is about to be moved: each stretch between two atomic steps that has writes costs time.
+    // The plain writes stand together, in this gap between two steps: see `straight_steps`.
     seat.standing.depth = 0;
     seat.standing.takes = takes;
     data.standing.depth = 0;
@@ -71,7 +71,7 @@ pub fn wait_last<T: Kept>(
     (Unlocked::Free, None)
 }
 
-/// `start_wait` by the generic run of its steps.
+/// The whole of `start_wait` by the slow path. Only a call that is refused comes here.
 #[inline(always)]
 fn wait_any<T: Kept>(
     mutex: &Mutex<T>,

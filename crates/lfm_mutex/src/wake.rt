@@ -1,4 +1,4 @@
-//! `wake`, by which a call ends that was made without waking.
+//! `wake`, which completes a call that was made without waking.
 ghost use Rattle.std.specs.Prelude.{◌≡◌, ℕ, ◌≤◌, ◌++◌, Some};
 ghost use Rattle.lfm_mutex.specs.Belongs.{Beside, limits_of};
 ghost use Rattle.lfm_mutex.specs.calls.Sight.{sight};
@@ -32,7 +32,7 @@ impl<T: Kept> Mutex<T> {
         self.wake_seat(wake_up, &mut seat.woken);
     }
 
-    // `wake`, which adds to the seats that were woken.
+    /// `wake`, which adds to the seats that were woken.
     #[inline(always)]
     pub(crate) fn wake_seat(&self, wake_up: Option<WakeUp>, woken: &mut Woken)
         requires { (t : ℕ) → wake_up ≡ Some t → t ≤ (limits_of self.now).seats }

@@ -44,13 +44,13 @@ module _ {A : Type 0} where
   own_least n [] = let a = sum_none n in omega arith
   own_least n (e ∷ es) = let a = one_more n e es in let b = own_least n es in let c = one_or_none e.seat n in omega arith
 
-  -- where they are the whole journal, each entry is by one of the seats
+  -- if they are the whole journal, each entry is by one of the seats
   pub within_counted : (n : ℕ) (es : List (Entry A)) → length es ≤ sum_to (λ s. length (own s es)) n → Within n es
   within_counted n [] h = tt
   within_counted n (e ∷ es) h = let a = one_more n e es in let b = own_least n es in let c = one_or_none e.seat n in
       let here = one_inside e.seat n (omega arith) in (here.0, (here.1, within_counted n es (omega arith)))
 
--- the sum over items, where that of each is that of its number
+-- the sum over items, if that of each is that of its number
 pub total_is_sum : {A : Type 0} (f : A → ℕ) (g : ℕ → ℕ) (xs : List A) (k : ℕ) → ((j : ℕ) (x : A) → get_elem? xs j ≡ some x → f x ≡ g (k + j + 1)) → sum_to g (k + length xs) ≡ sum_to g k + total f xs
 total_is_sum f g [] k each = let e : k + 0 ≡ k = omega arith in let a = ap (sum_to g) e in omega arith
 total_is_sum f g (x ∷ xs) k each =

@@ -44,7 +44,8 @@ use Rattle.lfm_program.proofs.JournalEnds.{Chosen, at_place, choose, total_is_su
 use Rattle.lfm_program.proofs.Refusals.{may_meet}
 use Rattle.lfm_program.proofs.Threads.{read_here}
 
--- The numbers are those that the first i commands add: all commands where none was refused, and else those before the one that was
+-- The numbers are those that the first i commands add: all commands if none was refused, and otherwise those before the one that
+-- was
 abbrev pub MadeBy : ℕ → List Command → Option Refusal → List ℕ → ℕ → Type 0
 MadeBy conditions ms r ks i = (ks ≡ all_adds (take i ms)) × (r ≡ None → length ms ≤ i) × ((x : Refusal) → r ≡ Some x → RefusedAt conditions ms i x)
 
@@ -124,7 +125,7 @@ module _ {R : Type 0} {K : _} where
     pub as_many : length rs ≡ p.workers
     pub each : (j : ℕ) (q : Pass Total TotalOp R K) → get_elem? ps j ≡ some q → GivesBack m p.lines rs j q
 
-  -- a journal that is just what these passes wrote is by the workers alone
+  -- a journal that is exactly what these passes wrote is by the workers alone
   pub by_workers : (m : Monitor Total TotalOp R K) (p : Plan) (rs : List (Option Refusal)) (ps : List (Pass Total TotalOp R K)) (es : List (Entry TotalOp)) → AllBack m p rs ps
       → ((j : ℕ) (q : Pass Total TotalOp R K) → get_elem? ps j ≡ some q → mine_of q ≡ length (own (pass_sight q).number es)) → length es ≡ total (λ q. mine_of q) ps → Within p.workers es
   by_workers m p rs ps es back mine whole =

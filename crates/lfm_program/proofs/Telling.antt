@@ -60,7 +60,7 @@ same_script xs (Some ys) taken takes =
       | inr fits ↦ ap script_in (takes.taken ∙ ap (λ l. taken ++ l) (takes.whole fits) ∙ append-nil taken)
     ]
 
--- what was answered of an input that was taken, where no read failed
+-- what was answered of an input that was taken, if no read failed
 pub some : (stops : ℕ → ℕ → Type 0) (r : Result Bool WorkFault) (input : List ℕ) (before after old new : Option (List ℕ)) → r ≢ Err Read
     → Takes before after input → Works stops r input old new → SomeWork stops r before after old new
 some stops (Ok b) input before after old new no_read takes p = record { input = input; takes = takes; works = p }
@@ -78,7 +78,7 @@ exact stops None after taken r old new takes p = tt
 exact stops (Some xs) after taken r old new takes p =
     let same : script_in xs ≡ script_in taken = same_script xs after taken takes in subst (λ s. TellsWork stops r s old new) (sym same) p
 
--- where no worker was refused, the script's own report was written
+-- if no worker was refused, the script's own report was written
 pub script_written : (stops : ℕ → ℕ → Type 0) (r : Result Bool WorkFault) (input : List ℕ) (p : Plan) (old new : Option (List ℕ)) → Works stops r input old new → script_in input ≡ Ok p → r ≡ Ok true
     → Appends old new (script_text p)
 script_written stops r input p old new works says ok =

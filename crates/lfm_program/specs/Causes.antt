@@ -55,8 +55,8 @@ module _ {R : Type 0} {K : _} where
   WakeHasCause condition m p Refusal.NotWaiting = AtCondition condition (cond_seats_of p) (FoundNotWaiting (passes_of m) (pass_sight p))
   WakeHasCause condition m p _ = ⊥
 
-  -- Why a command is refused, by what is true of its pass then. The condition is missing just where the refusal is NoSuchSeat; but an
-  -- until of a pass that is used up is Spent, whether the condition is there or not
+  -- Why a command is refused, by what is true of its pass then. The condition is missing exactly if the refusal is NoSuchSeat; but
+  -- an until of a pass that is used up is Spent, whether the condition is there or not
   abbrev pub HasCause : Command → Monitor Total TotalOp R K → Pass Total TotalOp R K → Refusal → Type 0
   HasCause (Add k) m p Refusal.Spent = IsUsedUp m p
   HasCause (Add k) m p _ = ⊥
@@ -67,7 +67,7 @@ module _ {R : Type 0} {K : _} where
   HasCause (One condition) m p r = WakeHasCause condition m p r
   HasCause (All condition) m p r = WakeHasCause condition m p r
 
-  -- Where a worker was refused: there is the cause to refuse one of its commands so, and to the old numbers its pass has added those
+  -- If a worker was refused: there is the cause to refuse one of its commands so, and to the old numbers its pass has added those
   -- of the commands before that one
   abbrev pub RefusedForCause : Monitor Total TotalOp R K → List Command → List ℕ → Pass Total TotalOp R K → Performed → Type 0
   RefusedForCause m ms old p (Refused r) =

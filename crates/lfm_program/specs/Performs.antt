@@ -20,7 +20,7 @@ module _ {R : Type 0} {K : _} where
     pub depth : s.depth ≡ 1
     pub awake : s.asleep ≡ false
 
-  -- how one command ends: its number is added, or nothing where it was refused
+  -- how one command ends: its number is added, or nothing if it was refused
   abbrev pub CommandEnds : Command → Sight (Journaled Total TotalOp R K) → Sight (Journaled Total TotalOp R K) → Result ⊤ Refusal → Type 0
   CommandEnds m s t (Ok u) = own_adds t ≡ own_adds s ++ command_adds m
   CommandEnds m s t (Err r) = own_adds t ≡ own_adds s

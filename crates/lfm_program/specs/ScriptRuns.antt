@@ -29,7 +29,7 @@ abbrev pub EndsSo : WorkerEnd → Option Refusal → Type 0
 EndsSo end None = end ≡ LetGo Done
 EndsSo end (Some r) = end ≡ LetGo (Refused r)
 
--- the refusals are those of the workers, none of whom was stopped
+-- the refusals are those of the workers, none of which was stopped
 pub record Divides (ws : List Worked) (passes : List _) (refusals : List (Option Refusal)) : Type 0 where
   pub many : length passes ≡ length ws
   pub as_many : length refusals ≡ length ws

@@ -17,7 +17,7 @@ use Rattle.lfm_program.specs.declared.workers.WorkerEnd.TheVariants.{Performed a
 use Rattle.lfm_program.specs.Causes.{RefusedForCause}
 use Rattle.lfm_program.specs.Performs.{own_adds}
 
--- a gate that stops these stops this worker before one of so many commands
+-- a gate that stops these stops this worker before one of this number of commands
 abbrev pub StopsOne : (ℕ → ℕ → Type 0) → ℕ → ℕ → Type 0
 StopsOne stops worker count = (i : ℕ) × (i < count) × stops worker (i + 1)
 
@@ -25,7 +25,8 @@ StopsOne stops worker count = (i : ℕ) × (i < count) × stops worker (i + 1)
 abbrev pub StopsIn : (ℕ → ℕ → Type 0) → Plan → Type 0
 StopsIn stops p = (w : ℕ) × (0 < w) × (w ≤ p.workers) × StopsOne stops w (length (commands_of w p.lines))
 
--- it stops this worker before one of these commands, and to the old numbers just those of the commands before that one were added
+-- it stops this worker before one of these commands, and to the old numbers exactly those of the commands before that one were
+-- added
 abbrev pub StoppedAt : (ℕ → ℕ → Type 0) → ℕ → List Command → List ℕ → List ℕ → Type 0
 StoppedAt stops worker ms old new = (i : ℕ) × (i < length ms) × (new ≡ old ++ all_adds (take i ms)) × stops worker (i + 1)
 

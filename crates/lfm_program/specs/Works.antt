@@ -23,7 +23,7 @@ pub record PrefixReport (p : Plan) (old new : Option (List ℕ)) : Type 0 where
   pub report : IsReport p text verdict
   pub appended : AppendsPrefix old new text
 
--- What was written and answered for what an input says, at a gate that stops these: its fault's line, or a report, or nothing where
+-- What was written and answered for what an input says, at a gate that stops these: its fault's line, or a report, or nothing if
 -- the gate stops a worker of the script before one of its commands
 abbrev pub TellsWork : (ℕ → ℕ → Type 0) → Result Bool WorkFault → Result Plan WorkFault → Option (List ℕ) → Option (List ℕ) → Type 0
 TellsWork stops (Ok b) (Ok p) old new = SomeReport p b old new

@@ -1,4 +1,4 @@
-//! Gates: they are asked before each command of a worker whether it goes on.
+//! Gates: before each command of a worker, a gate says whether it goes on.
 
 ghost use Rattle.std.specs.Prelude.{◌≡◌, ◌≢◌, ◌⊎◌, ℕ, false, IsTrue};
 
@@ -7,7 +7,7 @@ use std::sync::atomic::{AtomicU64, Ordering};
 
 /// Is asked before each command of each worker, by the threads of all workers.
 pub trait Gate: Sync {
-    // The gate may stop the worker of this number before its command of this number.
+    /// The gate may stop the worker of this number before its command of this number.
     ghost stops: { Self → ℕ → ℕ → Type 0 };
 
     /// Whether the worker of this number makes its command of this number. Both are counted from 1.
@@ -42,12 +42,12 @@ const BOTH: u64 = 3;
 /// One of them came alone and gave up. Marks of later arrivals may join it.
 const GIVEN_UP: u64 = 4;
 
-/// A gate that holds the first commands of workers 1 and 2 until both have arrived, for at most so many turns each.
+/// A gate that holds the first commands of workers 1 and 2 until both have arrived.
 ///
-/// It takes no runtime and never sleeps: each of the two takes at most so many turns. A first command of worker 1 or 2 is
-/// answered true where both have arrived. It is answered false where its worker saw only its own mark in all its turns and
-/// gave up, or where the other had given up before. After one answer false no later arrival is answered true, also not of
-/// a worker that arrives again. All other commands and workers are answered true at once.
+/// It needs no runtime and never sleeps: each of the two looks for the other at most `limit` times. A first command of worker 1
+/// or 2 is answered true if both have arrived. It is answered false if its worker saw only its own mark in all its looks and gave
+/// up, or if the other had given up before. After one answer false no later arrival is answered true, not even that of a worker
+/// that arrives again. All other commands and workers are answered true at once.
 #[derive(Drop)]
 pub struct Meet {
     arrived: CachePadded<AtomicU64>,
@@ -55,7 +55,7 @@ pub struct Meet {
 }
 
 impl Meet {
-    /// A gate at which nobody has arrived yet. `limit` is the number of turns; at 0 the first to come gives up at once.
+    /// A gate at which nobody has arrived yet. With a `limit` of 0 the first to come gives up at once.
     pub fn new(limit: u64) -> Meet {
         Meet {
             arrived: CachePadded::new(AtomicU64::new(0)),
@@ -78,8 +78,8 @@ impl Meet {
                 return true;
             }
         }
-        // Another thread of the same mark may have given up meanwhile, so a failed exchange alone doesn't tell that the
-        // other worker came.
+        // Another thread of the same mark may have given up meanwhile, so a failed exchange alone doesn't mean that the other
+        // worker came.
         match arrived.compare_exchange(mark, GIVEN_UP, Ordering::SeqCst, Ordering::SeqCst) {
             Ok(_) => false,
             Err(seen) => seen == BOTH,

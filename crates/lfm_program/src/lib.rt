@@ -1,5 +1,5 @@
-//! The run of a script of workers, each a thread, round one monitor. What such a script is and what is reported of it stands
-//! in `lfm_script`, whose names are passed on, as are those of `lfm_core` for the end of a replay.
+//! The run of a script of workers, each a thread, round one monitor. `lfm_script` has what a script is and what is reported of
+//! it. Its names are re-exported here, and so are those of `lfm_core` for the end of a replay.
 #![tactic(auto)]
 
 pub mod gates;

@@ -31,11 +31,11 @@ pub(crate) struct ScriptRun {
     pub total: u64,
     /// Whether the journal is lawful and its replay from 0 gives the total.
     pub lawful: bool,
-    /// Whether it is, and no worker was refused.
+    /// Whether it is lawful so, and no worker was refused.
     pub succeeded: bool,
 }
 
-// Sets the monitor's pace for the processors that this program may use. Where their number can't be told, its pace stays.
+/// Sets the monitor's pace for the processors that this program may use. If their number can't be told, its pace stays.
 fn set_pace<R: Threads>(rt: &R, monitor: &mut Monitor<Total>)
     ensures { (workers conditions : ℕ) (passes : _) → MadeReady workers conditions monitor.old passes → MadeReady workers conditions monitor.new passes }
 {
@@ -45,9 +45,9 @@ fn set_pace<R: Threads>(rt: &R, monitor: &mut Monitor<Total>)
     monitor.set_pace(Pace::for_processors(processors.get() as u64));
 }
 
-// A monitor over a total of 0 with the script's conditions, and a pass for each worker. Each pass has the same share of the
-// entries that a journal may have room for. The monitor has the pace for the processors that this program may use. Memory
-// where a request for it was refused. A script is within a monitor's limits, so there is no other fault.
+/// A monitor over a total of 0 with the script's conditions, and a pass for each worker. Each pass has the same share of the
+/// entries that a journal may have room for. The monitor has the pace for the processors that this program may use. Memory if a
+/// request for it was refused. A script is within a monitor's limits, so there is no other fault.
 fn monitor_of<R: Threads>(
     rt: &R,
     alloc: Global,
@@ -68,7 +68,7 @@ fn monitor_of<R: Threads>(
     }
 }
 
-// Why a worker was refused, if it was. Stuck where the gate stopped it, and Memory where its start was called off.
+/// Why a worker was refused, if it was. Stuck if the gate stopped it, and Memory if its start was called off.
 fn refusal_in(end: WorkerEnd) -> Result<Option<Refusal>, WorkFault>
     ensures refused { IfOk result (λ r. EndsSo end r) }
     ensures stopped { IfErr result (λ e. (e ≡ Fault.Memory) ⊎ ((e ≡ Fault.Stuck) × (end ≡ WorkerEnd.Performed Performed.Stuck))) }
@@ -81,8 +81,8 @@ fn refusal_in(end: WorkerEnd) -> Result<Option<Refusal>, WorkFault>
     }
 }
 
-// The passes of the workers, and why each was refused, if it was, both in order. Stuck where the gate stopped one; Memory
-// where a request for it was refused.
+/// The passes of the workers, and why each was refused, if it was, both in order. Stuck if the gate stopped one; Memory if a
+/// request for it was refused.
 fn divide(
     alloc: Global,
     worked: Vec<Worked>,
@@ -101,7 +101,7 @@ fn divide(
     Ok((passes, refusals))
 }
 
-// Whether none of the workers was refused.
+/// Whether none of the workers was refused.
 fn none_refused(refusals: &[Option<Refusal>]) -> bool
     ensures { result ≡ are_none refusals.now }
 {
@@ -113,7 +113,7 @@ fn none_refused(refusals: &[Option<Refusal>]) -> bool
     true
 }
 
-// Whether the journal is lawful, and its replay from 0 gives the total. Makes one request for memory, for the replies.
+/// Whether the journal is lawful, and its replay from 0 gives the total. Makes one request for memory, for the replies.
 fn is_lawful(alloc: Global, total: Total, journal: &[Entry<TotalOp>]) -> Result<bool, AllocError>
     ensures complete { LawfulJournal journal.now → total ≡ after_all total_after (record { 0 = 0 }) journal.now → IfOk result (λ b. b ≡ true) }
     ensures sound { IfOk result (λ b. b ≡ true → LawfulJournal journal.now × (total ≡ after_all total_after (record { 0 = 0 }) journal.now)) }
@@ -125,11 +125,11 @@ fn is_lawful(alloc: Global, total: Total, journal: &[Entry<TotalOp>]) -> Result<
     Ok(replayed == total)
 }
 
-/// Runs a script: each worker in a thread of its own, by `perform`. Returns when all have ended, which may be never where a
-/// wait of the script is ended by nobody.
+/// Runs a script: each worker in a thread of its own, by `perform`. Returns when all have ended, which may be never if nobody
+/// ends a wait of the script.
 ///
-/// Stuck where the gate stopped a worker before one of its commands. Memory where a request for memory was refused or a worker
-/// could not be started.
+/// Stuck if the gate stopped a worker before one of its commands. Memory if a request for memory was refused or a worker could
+/// not be started.
 pub(crate) fn run_script<R: Threads + Wait + Sync, G: Gate>(
     rt: &R,
     alloc: Global,

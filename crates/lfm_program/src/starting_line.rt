@@ -1,8 +1,8 @@
-//! The line at which workers wait until all of them stand there.
+//! The line at which workers wait until all of them have been started.
 
 use std::sync::{Condvar, Mutex, Wait};
 
-// Whether the workers at a starting line may go.
+/// Whether the workers at a starting line may go.
 #[derive(Clone, Copy, Debug, PartialEq, Eq)]
 enum Start {
     /// Not yet.
@@ -29,7 +29,7 @@ impl StartingLine {
         }
     }
 
-    /// Sleeps while the line is closed. Returns whether there is something to do: false where the start was called off.
+    /// Sleeps while the line is closed. Returns whether there is something to do: false if the start was called off.
     pub fn wait<R: Wait>(&self, rt: &R) -> bool {
         let start = self
             .changed
@@ -37,12 +37,12 @@ impl StartingLine {
         *start == Start::Go
     }
 
-    /// Lets all go, those who sleep here and those who come later. It wakes who sleeps here.
+    /// Lets all go, those that sleep here and those that come later. It wakes those that sleep here.
     pub fn let_go<R: Wait>(&self, rt: &R) {
         self.open(rt, Start::Go);
     }
 
-    /// Calls the start off: who sleeps here, or comes later, has nothing to do. It wakes who sleeps here.
+    /// Calls the start off: those that sleep here, or come later, have nothing to do. It wakes those that sleep here.
     pub fn call_off<R: Wait>(&self, rt: &R) {
         self.open(rt, Start::CalledOff);
     }

@@ -47,7 +47,7 @@ impl<G: Gate> Promise<Worked> for Assignment<G> {
     ghost kept_by = { λ a r. WorksAs a.monitor.value (G.stops a.gate.value) a.commands.value.items a.pass.value r.pass r.end };
 }
 
-// A worker's thread: it makes its commands once the line is opened, and none where the start is called off.
+/// A worker's thread: it makes its commands once the line is opened, and none if the start is called off.
 fn run_worker<G: Gate, R: Wait>(
     rt: &R,
     line: &StartingLine,
@@ -72,7 +72,7 @@ fn run_worker<G: Gate, R: Wait>(
     }
 }
 
-// Waits for the workers that were started, and gives what came back where all were.
+/// Waits for the workers that were started, and gives what came back if all were.
 fn join_all<R: Threads, G: Gate>(
     rt: &R,
     handles: Vec<PromisedHandle<Worked, Assignment<G>>>,
@@ -98,8 +98,8 @@ fn join_all<R: Threads, G: Gate>(
 /// Runs the workers, each with the pass and the commands at its place, all from one starting line, and returns what came back
 /// from each, in order. It sleeps until all have ended.
 ///
-/// Memory where a request for it was refused, or a worker could not be started; then those that were started made no command,
-/// or what they made is lost with their passes.
+/// Memory if a request for it was refused, or a worker could not be started. Then those that were started made no command, or
+/// what they made is lost with their passes.
 pub(crate) fn run_workers<R: Threads + Wait + Sync, G: Gate>(
     rt: &R,
     alloc: Global,

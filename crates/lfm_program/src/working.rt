@@ -102,10 +102,10 @@ pub fn work<R: Threads + Wait + Sync, G: Gate, I: Read, W: Write>(
     // Some input was read, and this is its run. It says nothing of a reader's or a writer's bytes that are not known.
     ensures some { SomeWork (G.stops gate.now) result (I.remaining reader.old) (I.remaining reader.new)
         (W.contents writer.old) (W.contents writer.new) }
-    // Where it is known what the reader has: this is the run of just that.
+    // If it is known what the reader has, this is the run of exactly that.
     ensures exact { IfSome (I.remaining reader.old) (λ input.
         Works (G.stops gate.now) result input (W.contents writer.old) (W.contents writer.new)) }
-    // Where no worker was refused, what is written is a function of the script.
+    // If no worker was refused, what is written is a function of the script.
     ensures script { IfSome (I.remaining reader.old) (λ input. (p : Plan) → script_in input ≡ Ok p → result ≡ Ok true →
         Appends (W.contents writer.old) (W.contents writer.new) (script_text p)) }
     // It is stuck only by a gate that stops some worker before a command of its own.

@@ -28,7 +28,7 @@ most_turns PingPong = 1000000000
 most_turns Broadcast = 1000000000
 most_turns Buffer = 800000
 
--- what keeps the load from being run by so many threads, each in so many turns
+-- what keeps the load from being run by this number of threads, each in this number of turns
 abbrev pub refusal_of : Load → ℕ → ℕ → Option OutOfRange
 refusal_of load threads turns =
     if nat_lt threads (least_threads load) then Some OutOfRange.Threads

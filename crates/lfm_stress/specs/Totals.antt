@@ -5,8 +5,8 @@ use Rattle.lfm_stress.specs.declared.plan.Load.{Load}
 use Rattle.lfm_stress.specs.declared.plan.Load.TheVariants.{Lock, Mixed, PingPong, Broadcast, Buffer}
 use Rattle.lfm_stress.specs.declared.sums.Sums.{Sums}
 
--- how many additions so many threads make, each in so many turns. In a broadcast each thread that waits adds 1 as it comes and
--- 1 as it was woken, and the one that wakes adds 1. Of the buffer's items it is how many are taken out.
+-- how many additions this number of threads make, each in this number of turns. In a broadcast each thread that waits adds 1 as it
+-- comes and 1 as it was woken, and the one that wakes adds 1. Of the buffer's items it is how many are taken out.
 abbrev pub additions_of : Load → ℕ → ℕ → ℕ
 additions_of Lock threads turns = threads * turns
 additions_of Mixed threads turns = threads * turns
@@ -31,7 +31,7 @@ woken_of PingPong threads turns = 0
 woken_of Broadcast threads turns = threads * turns
 woken_of Buffer threads turns = 0
 
--- the number after so many additions, and the sum of so many items, which are 1, 2, 3 and on
+-- the number after this number of additions, or the sum of this number of items, which are 1, 2, 3 and on
 abbrev pub number_of : Load → ℕ → ℕ
 number_of Lock made = made
 number_of Mixed made = made

@@ -23,7 +23,7 @@ struct Seats {
     second: Vec<CondSeat>,
 }
 
-/// A mutex round 0 with so many seats, of this pace. It takes memory; None where it finds none, or where there are too many
+/// A mutex round 0 with this number of seats, of this pace. It takes memory; None if it finds none, or if there are too many
 /// seats.
 fn new_mutex(alloc: Global, pace: Pace, seats: u64) -> Option<(Mutex<u64>, Vec<Seat<u64>>)>
     ensures limits { IfSome result (λ r. (limits_of r.0).seats ≡ seats) }
@@ -36,7 +36,7 @@ fn new_mutex(alloc: Global, pace: Pace, seats: u64) -> Option<(Mutex<u64>, Vec<S
     Some((mutex, seats))
 }
 
-/// A condvar with so many seats, of this pace. It takes memory; None where it finds none, or where there are too many seats.
+/// A condvar with this number of seats, of this pace. It takes memory; None if it finds none, or if there are too many seats.
 fn new_condvar(alloc: Global, pace: Pace, seats: u64) -> Option<(Condvar, Vec<CondSeat>)>
     ensures limits { IfSome result (λ r. (cond_limits r.0).seats ≡ seats) }
     ensures seats { IfSome result (λ r. (j : ℕ) (s : _) → get_elem? r.1.items j ≡ some s → OfCondvar s r.0) }
@@ -76,7 +76,7 @@ pub fn shared_by(
     Some((shared, parts))
 }
 
-// The last of these seats, which are the mutex's.
+/// The last of these seats, which are the mutex's.
 fn last_seat(mutex: &Mutex<u64>, seats: &mut Vec<Seat<u64>>) -> Option<Seat<u64>>
     requires { (j : ℕ) (s : _) → get_elem? seats.old.items j ≡ some s → OfMutex s mutex.now }
     ensures one { IfSome result (λ s. OfMutex s mutex.now) }
@@ -87,7 +87,7 @@ fn last_seat(mutex: &Mutex<u64>, seats: &mut Vec<Seat<u64>>) -> Option<Seat<u64>
     Some(seat)
 }
 
-// The last of these cond seats, which are the condvar's.
+/// The last of these cond seats, which are the condvar's.
 fn last_cond_seat(condvar: &Condvar, seats: &mut Vec<CondSeat>) -> Option<CondSeat>
     requires { (j : ℕ) (s : _) → get_elem? seats.old.items j ≡ some s → OfCondvar s condvar.now }
     ensures one { IfSome result (λ s. OfCondvar s condvar.now) }
@@ -98,7 +98,7 @@ fn last_cond_seat(condvar: &Condvar, seats: &mut Vec<CondSeat>) -> Option<CondSe
     Some(seat)
 }
 
-// So many parts, of seats that all are those of the mutex and its condvars.
+/// A part for each of the threads, of seats that all are those of the mutex and its condvars.
 fn dealt(shared: &Shared, threads: u64, seats: Seats, mut parts: Vec<Part>) -> Option<Vec<Part>>
     requires seats { (j : ℕ) (s : _) → get_elem? seats.seats.items j ≡ some s → OfMutex s shared.now.mutex }
     requires first { (j : ℕ) (s : _) → get_elem? seats.first.items j ≡ some s → OfCondvar s shared.now.first }

@@ -52,13 +52,13 @@ impl Holder<u64> for Part {
 }
 
 impl Part {
-    /// The number in hand. 0 where the seat doesn't hold.
+    /// The number in hand, or 0 if the seat doesn't hold.
     pub fn number(&self) -> u64 {
         self.seat.value().copied().unwrap_or(0)
     }
 }
 
-/// Adds 1 to the number in hand, and returns it. 0 where the seat doesn't hold.
+/// Adds 1 to the number in hand, and returns it; 0 if the seat doesn't hold.
 fn add_one(seat: &mut Seat<u64>) -> u64
     ensures { Beside seat.old seat.new }
 {
@@ -99,7 +99,7 @@ impl Shared {
         self.mutex.unlock(&mut part.seat).is_ok()
     }
 
-    /// Adds 1 to the number in hand, and counts that. Returns the number. 0, with nothing counted, where the seat doesn't hold.
+    /// Adds 1 to the number in hand, and counts that. Returns the number; 0, with nothing counted, if the seat doesn't hold.
     pub fn add_one(&self, part: &mut Part) -> u64
         requires { OfShared part.old self.now }
         ensures { OfShared part.new self.now }
@@ -111,7 +111,7 @@ impl Shared {
         number
     }
 
-    // `wait` on one of the condvars. Returns whether it was not refused.
+    /// `wait` on one of the condvars. Returns whether it was not refused.
     fn wait<R: Wait>(&self, rt: &R, part: &mut Part, side: Side) -> bool
         requires { OfShared part.old self.now }
         ensures { OfShared part.new self.now }

@@ -36,7 +36,7 @@ pub enum Load {
 }
 
 impl Load {
-    /// The load of this name. None where no load has it.
+    /// The load of this name. None if no load has it.
     pub fn named(name: &str) -> Option<Load> {
         match name {
             "lock" => Some(Load::Lock),
@@ -129,7 +129,7 @@ pub enum OutOfRange {
     Turns,
 }
 
-/// What keeps this load from being run by so many threads in so many turns each, the threads first. None where nothing does.
+/// What keeps this load from being run with this number of threads and of turns of each, the threads first. None if nothing does.
 pub fn refusal_of(load: Load, threads: u64, turns: u64) -> Option<OutOfRange>
     ensures { result ≡ refusal_of load threads turns }
 {

@@ -15,7 +15,7 @@ pub struct Tenth {
     pub to: u64,
 }
 
-/// How many turns of so many are made after so many tenths.
+/// How many of `turns` turns are made after this number of tenths.
 fn until(turns: u64, tenths: u64) -> u64
     requires turns { turns ≤ 1000000000 }
     requires tenths { tenths ≤ 10 }
@@ -25,7 +25,7 @@ fn until(turns: u64, tenths: u64) -> u64
 }
 
 impl Tenth {
-    /// The turns of the tenth that comes after so many of them.
+    /// The turns of the tenth that comes after `done` of them.
     pub fn of(plan: Plan, done: u64) -> Tenth
         requires { done + 1 ≤ 10 }
         ensures { (result.from ≡ until plan.turns done) × (result.to ≡ until plan.turns (done + 1)) }

@@ -49,7 +49,7 @@ fn woken_of(plan: Plan) -> u64
     }
 }
 
-/// The number after so many additions, and the sum of so many items, which are 1, 2, 3 and on.
+/// The number after `made` additions, or the sum of `made` items, which are 1, 2, 3 and on.
 fn number_of(plan: Plan, made: u64) -> u64
     requires { made ≤ additions_of plan.load plan.threads plan.turns }
     ensures { result ≡ number_of plan.load made }

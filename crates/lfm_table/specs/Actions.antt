@@ -93,7 +93,7 @@ abbrev pub begins_and_step : ℕ → SeatState → SeatState → List Action
 begins_and_step s x p = begins_of s (calls_to x p) ++ event (makes s) ∷ []
 
 -- A table that was opened with these limits has this run: the actions have led from the start to its core, and each trail is its seat's
--- part of them. Who is no seat there has no part.
+-- part of them. A number that is no seat's has no part.
 pub record HasRun {T : Type 0} (l : Limits) (actions : List Action) (c : Core) (views : List (View T)) : Type 0 where
   pub allowed : are_in_limits l.seats l.budget ≡ true
   pub here : c ≡ reached l (events_of actions)

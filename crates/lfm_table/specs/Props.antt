@@ -51,6 +51,6 @@ IsReady-prop seats s x u v =
       stored_wake = IsSmallWake-prop (stored_wake x) u.stored_wake v.stored_wake i;
     }
 
--- where an equation between the data of two seats has one proof
+-- if an equation between the data of two seats has one proof
 pub Became-prop : ((a b : SeatState) → IsProp (a ≡ b)) → (x : SeatState) (l : Limits) (p : SeatState) → IsProp (Became x l p)
 Became-prop one x l p u v = λ i. record { deep = le_prop u.deep v.deep i; leads = one p (begun x l (calls_to x p)) u.leads v.leads i }

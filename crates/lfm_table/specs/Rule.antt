@@ -137,12 +137,12 @@ pub record Roots {T : Type 0} (views : List (View T)) (k : View T) : Type 0 wher
 abbrev pub NoneEnded : {T : Type 0} → List (View T) → Type 0
 NoneEnded {T} views = (j : ℕ) (v : View T) → get_elem? views j ≡ some v → v.last_found ≡ None
 
--- Where so many holds have ended, this value was left by the last of them. Where none has, it is the opening value, which each seat
+-- If n holds have ended, this value was left by the last of them. If none has, it is the opening value, which each seat
 -- has as its last.
 abbrev pub LeftIn : {T : Type 0} → List (View T) → ℕ → T → Type 0
 LeftIn {T} views n w = (j : ℕ) × (v : View T) × (get_elem? views j ≡ some v) × (v.last ≡ Some w) × (v.last_found ≡ None → NoneEnded views) × (v.ended ≡ n)
 
--- The holds that the seats ended last, where so many have ended
+-- The holds that the seats ended last, if n have ended
 -- within: they are numbered up to that
 -- greatest: one of them has that number
 -- differ: no two have the same number
@@ -187,7 +187,7 @@ last_hold v = (v.last, v.last_found, v.limits, v.ended)
 
 -- The rule
 
--- a seat that releases or sends has no record of its own, so beside the record that it loads next the pop list has at most so many
+-- a seat that releases or sends has no record of its own, so the pop list has neither such a record nor the one that is loaded next
 abbrev pub CollectsWithin : ℕ → ℕ → Point → Type 0
 CollectsWithin popped seats (TakeLinkLoad (Carrier.Releaser releaser) next) = popped + 2 ≤ seats
 CollectsWithin popped seats (TakeLinkLoad (Carrier.Reclaimer releaser) next) = popped + 2 ≤ seats
@@ -221,7 +221,7 @@ module _ {T : Type 0} (follows : ℕ → T → T → Type 0) (suits : T → ℕ 
   abbrev pub Mine : Type 0
   Mine = Me (Option (Moving T)) (View T)
 
-  -- the value at home, where so many holds have ended
+  -- the value in its slot, if n holds have ended
   pub record AtHome (c : Core) (g : Ghost) (n : ℕ) (homes : List (maybe.Option (Option (Moving T)))) (views : List (View T)) : Type 0 where
     pub value : Moving T
     pub here : get_elem? homes 0 ≡ some (some (Some value))
@@ -232,7 +232,7 @@ module _ {T : Type 0} (follows : ℕ → T → T → Type 0) (suits : T → ℕ 
     pub left : LeftIn views n value.value
     pub fits : suits value.value g.answered
 
-  -- the value that the seat at place j, whose view is v, carries, where so many holds have ended
+  -- the value that the seat at place j, whose view is v, carries, if n holds have ended
   pub record WithSeat (c : Core) (g : Ghost) (n : ℕ) (views : List (View T)) (j : ℕ) (v : View T) : Type 0 where
     pub value : T
     pub found : v.found ≡ Some value
@@ -273,7 +273,7 @@ module _ {T : Type 0} (follows : ℕ → T → T → Type 0) (suits : T → ℕ 
   Hands true false q a popped m m' = m'.1 ≡ []
   Hands true true q a popped m m' = (m'.1 ≡ m.1) × (m'.0.found ≡ left_by q a m.0.found)
 
-  -- what a carrier at depth 0 knows of the value: where no later hold has ended than its own last one, it is what it left then
+  -- what a carrier at depth 0 knows of the value: if no later hold has ended than its own last one, it is what it left then
   abbrev pub Knows : View T → Type 0
   Knows v =
       (y : T) → v.found ≡ Some y → suits y v.answered × ((l : T) → v.last ≡ Some l → Reached follows v.limits.seats v.number l y) × (v.ended ≤ v.holds_ended) × (v.ended ≡ v.holds_ended → v.last ≡ Some y)

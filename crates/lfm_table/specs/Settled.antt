@@ -9,7 +9,7 @@ use Rattle.lfm_protocol.specs.declared.points.Releaser.TheVariants.{Unlocker, Wa
 use Rattle.lfm_protocol.specs.declared.seats.SeatState.{SeatState}
 use Rattle.lfm_laws.specs.table.Settles.{begun}
 
--- so many calls of unlock
+-- this number of calls of unlock
 abbrev pub unlocks : ℕ → List Call
 unlocks zero = []
 unlocks (suc n) = Unlock ∷ unlocks n

@@ -1,4 +1,4 @@
--- A seat between the steps of a call that is made straight on: its plain data are as the steps leave them, wherever they stand.
+-- A seat between the steps of a fast path: its plain data are as the steps leave them, wherever they stand.
 use Rattle.std.specs.Prelude.{ℕ, Option}
 use Rattle.atomic_table.specs.Table.{Me}
 use Rattle.lfm_protocol.specs.declared.limits.Limits.{Limits}

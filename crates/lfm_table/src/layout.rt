@@ -26,7 +26,7 @@ pub fn link_at(seat: u64) -> usize
     PUSH + seat as usize
 }
 
-/// The place of the wake word of this seat, which is one of so many seats, at most 4,095.
+/// The place of the wake word of this seat, in a mutex with this number of seats, at most 4,095.
 #[inline(always)]
 pub fn wake_at(seats: u64, seat: u64) -> usize
     requires few { seats ≤ max_seats }

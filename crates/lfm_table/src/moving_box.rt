@@ -26,7 +26,7 @@ impl<T: Drop> Model for MovingBox<T> {
 }
 
 impl<T: Drop> MovingBox<T> {
-    /// The pop list and the value in one piece of memory, for which this asks. Both are dropped where it is refused.
+    /// The pop list and the value in one piece of memory, for which this asks. Both are dropped if it is refused.
     pub fn new(alloc: Global, popped: PopList, value: T) -> Result<MovingBox<T>, AllocError>
         ensures { IfOk result (λ m. m ≡ record { popped = popped; value = value }) }
     {

@@ -1,9 +1,9 @@
 //! How the thread of a seat that sleeps parks on the seat's wake word, and how it is woken. Neither changes a word.
 //!
-//! No grant is missed. A thread parks only where it has loaded a word that is no grant, and it sleeps only while the low 32
-//! bits of the word are the ones that it loaded. In these bits a grant differs from every other state, so one that is stored
-//! before the thread sleeps keeps it awake. One that is stored later leaves a wake-up, which can't be let go and ends in
-//! `wake`. That the system then does what it is called for is not proved.
+//! No grant is missed. A thread parks only after it has loaded a word that is no grant, and it sleeps only while the low 32 bits
+//! of the word are the ones that it loaded. In these bits a grant differs from every other state, so one that is stored before
+//! the thread sleeps keeps it awake. One that is stored later leaves a wake-up, which can't be let go and ends in `wake`. That
+//! the system then does what it is called for is not proved.
 ghost use Rattle.std.specs.Prelude.{◌≡◌, ◌+◌, ◌*◌, ◌<◌, ◌≤◌, [], ◌∷◌, ◌++◌};
 ghost use Rattle.lfm_protocol.specs.Limits.{max_seats};
 
@@ -29,7 +29,7 @@ pub fn wake<T: Kept>(table: &SharedTable<T>, seats: u64, wake_up: WakeUp, woken:
     table.wake_one(wake_at(seats, seat));
 }
 
-/// Parks on this wake word where it is no grant, until a wake-up. It may also return for no reason.
+/// Parks on this wake word if it is no grant, until a wake-up. It may also return for no reason.
 pub fn park<T: Kept, R: Wait>(rt: &R, table: &SharedTable<T>, word: usize)
     requires inside { word < table.now.table_id.words }
 {

@@ -37,8 +37,9 @@ pub fn gives(point: Point) -> bool
     )
 }
 
-/// The value is out with a seat of these data after its step, which found this number. So a seat knows before it moves on
-/// whether to take the value out of its slot.
+/// Whether the seat carries the value after its step, which found this number: told before the seat moves on. A seat that carries
+/// goes on carrying unless the step gives the value away (see `gives`). One that doesn't carry gains the value only by what it
+/// found: a count of 0, a grant, a post that it wins, or itself as the owner.
 pub fn carries_after(seat: &SeatData, found: u64) -> bool
     ensures { result ≡ carries_value (stepped_by seat.now.standing seat.now.number found None).seat }
 {
@@ -77,14 +78,14 @@ pub fn oldest_of<T: Drop>(moving: &Option<MovingBox<T>>) -> Option<Record>
     }
 }
 
-// An assignment drops what was there, which splits a proof in two.
+/// A function of its own, since an assignment also drops the old value: its callers would be proved once for each case.
 pub fn put<T: Drop>(moving: &mut Option<MovingBox<T>>, new: Option<MovingBox<T>>)
     ensures { moving.new ≡ new }
 {
     *moving = new;
 }
 
-/// Takes the oldest record out of the pop list, where the step at the seat's point takes it.
+/// Takes the oldest record out of the pop list, if the step at the seat's point takes it.
 pub fn drop_oldest<T: Drop>(moving: &mut Option<MovingBox<T>>, standing: &SeatState)
     ensures { moving.new ≡ dropped standing.now moving.old }
 {
@@ -140,7 +141,7 @@ pub fn take_out<T: Kept>(
     put(moving, taken);
 }
 
-/// Puts the value into the slot where the step may give it away.
+/// Puts the value into the slot if the step may give it away.
 pub fn prepare<T: Kept>(
     table: &SharedTable<T>,
     place: &mut Place<T>,
@@ -176,8 +177,8 @@ pub fn add_loaded<T: Drop>(moving: &mut Option<MovingBox<T>>, seat: &SeatData, f
     }
 }
 
-/// Takes the value out of the slot where the seat carries it after its step and has none in hand. Only a seat that has none
-/// in hand has to learn whether it carries.
+/// Takes the value out of the slot if the seat carries it after its step and has none in hand. It looks at the hand first, so
+/// only a seat with none in hand has to learn whether it carries.
 pub fn settle<T: Kept>(
     table: &SharedTable<T>,
     place: &mut Place<T>,

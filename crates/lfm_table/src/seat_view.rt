@@ -10,7 +10,7 @@ pub enum Role {
     Retired,
 }
 
-/// One atomic step, with the number that it found, or that it stored where it finds nothing.
+/// One atomic step, with the number that it found. A store finds nothing, and has the number that it stored.
 pub struct Seen {
     pub point: Point,
     pub found: u64,

@@ -50,7 +50,7 @@ impl<T: Kept> Model for SharedTable<T> {
     ghost view = { λ t. record { table_id = t.table.shared.table_id } };
 }
 
-// The operations on a word. Each asks, as the kit's table does, that the rule is kept whatever the table is.
+/// The operations on a word. Each asks, as the kit's table does, that the rule is kept whatever the table is.
 impl<T: Kept> SharedTable<T> {
     #[inline(always)]
     pub(crate) fn load<M: Play<Option<MovingBox<T>>, View<T>>>(
@@ -152,7 +152,7 @@ impl<T: Kept> SharedTable<T> {
     }
 }
 
-// What is no operation on a word: the slot that a seat has, a load that tells nothing, sleep and wake.
+/// What is no operation on a word: the slot that a seat has, a load that tells nothing, sleep and wake.
 impl<T: Kept> SharedTable<T> {
     /// A plain read and write of the slot that the seat took last.
     #[inline(always)]

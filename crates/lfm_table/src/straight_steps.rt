@@ -1,6 +1,9 @@
-//! The atomic steps of a call that is made straight on, each by itself. A caller makes up the seat's data, `seat`, and moves
-//! their point on from step to step. No step reads more of where the seat stands than that point, the rest is for the proof
-//! alone, and the data that the seat keeps are not written.
+//! The atomic steps of the fast paths, each by itself. A fast path hardly ever stores a point: it hands each step a `SeatData`
+//! that it makes up on the spot, `seat`, with the step's point in it. After inlining, only what the step reads of it is left. The
+//! proof needs the rest.
+//!
+//! An atomic step waits for the plain writes before it. So a fast path makes its writes in one gap between two steps, in which
+//! the value moves anyway.
 ghost use Rattle.std.specs.Prelude.{◌≡◌, ◌≢◌, ◌<◌, ◌≤◌, ℕ, Some, None, true, false};
 ghost use Rattle.lfm_protocol.specs.declared.kinds.Kind.{Kind as KindNow};
 ghost use Rattle.lfm_protocol.specs.declared.points.Point.TheVariants.{ReleaseOwnerStore};
@@ -26,7 +29,7 @@ use crate::wake_up::WakeUp;
 use crate::wake_words::FIRST_GRANT;
 use std::marker::Brand;
 
-/// Adds 1 to the count, for a seat that doesn't hold, which comes to carry the value just where it found 0.
+/// Adds 1 to the count, for a seat that doesn't hold. It comes to carry the value exactly if it found 0.
 #[inline(always)]
 pub fn add_free<T: Kept>(
     table: &SharedTable<T>,
@@ -126,8 +129,8 @@ pub fn subtract_held<T: Kept>(
     subtract_count::<T, Brand>(table, place, seat, moving);
 }
 
-/// Subtracts 1 from the count with the value in its slot, for a seat that has given up the owner word. The seat takes the
-/// value out again where it found more than its own 1.
+/// Subtracts 1 from the count, for a seat that has given up the owner word. The value is in its slot by then: if the count was 1,
+/// the next seat may come in and take it at once. If the count was more, this seat takes the value out again.
 #[inline(always)]
 pub fn subtract_last<T: Kept>(
     table: &SharedTable<T>,
@@ -153,7 +156,8 @@ pub fn subtract_last<T: Kept>(
     found
 }
 
-/// Exchanges the count from 0 to 1, for a seat that doesn't hold, which comes to carry the value just where it found 0.
+/// Compare-and-exchange of the count from 0 to 1, for a seat that doesn't hold. It comes to carry the value exactly if it found
+/// 0.
 #[inline(always)]
 pub fn exchange_free<T: Kept>(
     table: &SharedTable<T>,
@@ -178,7 +182,7 @@ pub fn exchange_free<T: Kept>(
     0
 }
 
-/// Exchanges the count from 0 to 1, for a seat that holds.
+/// Compare-and-exchange of the count from 0 to 1, for a seat that holds.
 #[inline(always)]
 pub fn exchange_held<T: Kept>(
     table: &SharedTable<T>,
@@ -253,7 +257,7 @@ pub fn load_push_kept<T: Kept>(
     load_push::<T, Brand>(table, place, seat, moving)
 }
 
-/// Exchanges the push word, for a seat that goes on carrying the value or not, as it did.
+/// Compare-and-exchange of the push word, for a seat that goes on carrying the value or not, as it did.
 #[inline(always)]
 pub fn exchange_push_kept<T: Kept>(
     table: &SharedTable<T>,
@@ -328,7 +332,7 @@ pub fn store_wake_kept<T: Kept>(
     WakeUp::expect_none(wake_up);
 }
 
-/// Exchanges the wake word of the target, for a seat that goes on carrying the value or not, as it did.
+/// Compare-and-exchange of the wake word of the target, for a seat that goes on carrying the value or not, as it did.
 #[inline(always)]
 pub fn exchange_wake_kept<T: Kept>(
     table: &SharedTable<T>,
@@ -346,7 +350,7 @@ pub fn exchange_wake_kept<T: Kept>(
     exchange_wake::<T, Brand>(table, place, seat, moving)
 }
 
-/// Loads the seat's own wake word, for a seat that sleeps, which comes to carry the value just where it found a grant.
+/// Loads the seat's own wake word, for a seat that sleeps. It comes to carry the value exactly if it found a grant.
 #[inline(always)]
 pub fn load_grant<T: Kept>(
     table: &SharedTable<T>,
@@ -391,8 +395,9 @@ pub fn load_link_held<T: Kept>(
     found
 }
 
-/// Stores a grant in the wake word of another seat, for a seat that gives the value away by it. Where it is for the oldest record, it
-/// takes that out of the pop list. It hands out the wake-up of the seat that it granted.
+/// Stores a grant in the wake word of another seat, for a seat that gives the value away by it, and hands out the wake-up of the
+/// seat that it granted. Once the grant is stored, that seat may take the value and the pop list, which lie in the slot together.
+/// So the record that the grant serves, if there is one, leaves the pop list first, and then both go into the slot.
 #[inline(always)]
 pub fn store_grant<T: Kept>(
     table: &SharedTable<T>,

@@ -1,9 +1,9 @@
-//! The atomic step of each kind, at the packed word: one operation of the table, which answers the number that it found, or
-//! that it stored. Nothing here moves the seat on.
+//! The atomic step of each kind, at the packed word: one operation of the table, which answers the number that it found, or that
+//! it stored. Nothing here moves the seat on.
 //!
-//! `seat` are the seat's own data before the step and `hand` what the seat has in its own memory: contracts speak of both, and
-//! B tells them to the play of the step.
-//! The steps are inlined, so that of data which a call makes up on the spot nothing is left but what its steps read.
+//! `seat` are the seat's own data before the step, and `hand` is what the seat has in its own memory. Contracts speak of both,
+//! and B tells them to the play of the step. `hand` and parts of `seat` are read by contracts alone; `let _hand = hand;` uses
+//! them. The steps are inlined, so that of data which a call makes up on the spot nothing is left but what its steps read.
 ghost use Rattle.std.specs.Prelude.{◌≡◌, ◌≢◌, Some};
 ghost use Rattle.lfm_protocol.specs.declared.kinds.Kind.{Kind as KindNow};
 ghost use Rattle.lfm_protocol.specs.Points.{kind, kind as kind_of};
@@ -22,10 +22,10 @@ use lfm_model::SeatNo;
 use lfm_protocol::kinds::Kind;
 use lfm_words::{Wake, pack_handoff, pack_link};
 
-// All but the head of the push word.
+/// All but the head of the push word.
 const STAMP: u64 = 0xffff_ffff_ffff_0000;
 
-/// Exchanges from 0 to 1 at the count.
+/// Compare-and-exchange of the count from 0 to 1.
 #[inline(always)]
 pub fn exchange_count<T: Kept, B: Plain<T>>(
     table: &SharedTable<T>,
@@ -45,7 +45,7 @@ pub fn exchange_count<T: Kept, B: Plain<T>>(
     table.compare_exchange::<Stepped<B>>(place, COUNT, 0, 1)
 }
 
-/// Makes 1 more at the count.
+/// Adds 1 to the count.
 #[inline(always)]
 pub fn add_count<T: Kept, B: Plain<T>>(
     table: &SharedTable<T>,
@@ -65,7 +65,7 @@ pub fn add_count<T: Kept, B: Plain<T>>(
     table.fetch_add::<Stepped<B>>(place, COUNT, 1)
 }
 
-/// Makes 1 less at the count.
+/// Subtracts 1 from the count.
 #[inline(always)]
 pub fn subtract_count<T: Kept, B: Plain<T>>(
     table: &SharedTable<T>,
@@ -146,7 +146,7 @@ pub fn load_push<T: Kept, B: Plain<T>>(
     table.load::<Stepped<B>>(place, PUSH)
 }
 
-/// Exchanges what was seen of the push word for the new head.
+/// Compare-and-exchange of the push word that was seen for the new head.
 #[inline(always)]
 pub fn exchange_push<T: Kept, B: Plain<T>>(
     table: &SharedTable<T>,
@@ -274,7 +274,7 @@ pub fn store_handoff<T: Kept, B: Plain<T>>(
     new
 }
 
-/// Exchanges the handoff that was seen for none.
+/// Compare-and-exchange of the handoff that was seen for none.
 #[inline(always)]
 pub fn exchange_handoff<T: Kept, B: Plain<T>>(
     table: &SharedTable<T>,
@@ -315,8 +315,7 @@ pub fn load_wake<T: Kept, B: Plain<T>>(
     table.load::<Stepped<B>>(place, wake_at(seat.limits.seats, t))
 }
 
-/// Stores the wake word that the point names. Where that is a grant, the wake-up of its seat is handed out beside what was
-/// stored.
+/// Stores the wake word that the point names. If that is a grant, the wake-up of its seat is handed out beside what was stored.
 #[inline(always)]
 pub fn store_wake<T: Kept, B: Plain<T>>(
     table: &SharedTable<T>,
@@ -340,7 +339,7 @@ pub fn store_wake<T: Kept, B: Plain<T>>(
     (word, WakeUp::owed(new, SeatNo::known(t)))
 }
 
-/// Exchanges WAITING for CLAIMED in the wake word of the target.
+/// Compare-and-exchange of WAITING for CLAIMED in the wake word of the target.
 #[inline(always)]
 pub fn exchange_wake<T: Kept, B: Plain<T>>(
     table: &SharedTable<T>,
@@ -362,7 +361,7 @@ pub fn exchange_wake<T: Kept, B: Plain<T>>(
     table.compare_exchange::<Stepped<B>>(place, wake_at(seat.limits.seats, t), waiting, claimed)
 }
 
-// The atomic step at the seat's point, which is of this kind and stores no wake word: the number that it found, or stored.
+/// The atomic step at the seat's point, which is of this kind and stores no wake word: the number that it found, or stored.
 #[inline(always)]
 fn make_other<T: Kept, B: Plain<T>>(
     kind: Kind,

@@ -33,7 +33,7 @@ impl Model for WakeUp {
 }
 
 impl WakeUp {
-    // What the store of this state in the wake word of this seat leaves to be made: a wake-up where it was a grant.
+    /// What the store of this state in the wake word of this seat leaves to be made: a wake-up if it was a grant.
     pub(crate) fn owed(stored: Wake, seat: SeatNo) -> Option<WakeUp>
         ensures { result ≡ owed stored seat }
     {

@@ -1,5 +1,5 @@
-//! What the number in a wake word says, for steps that look at it as it was found. How a state is packed is said by `Wake`
-//! alone. No step stands here.
+//! What the number in a wake word says, for steps that look at the number as it was found. `Wake` alone packs a state. These
+//! functions read any number, also one that no state is packed as. No step stands here.
 ghost use Rattle.std.specs.Prelude.{◌≡◌, ◌-◌, ◌/◌, ◌≤◌};
 ghost use Rattle.lfm_laws.specs.table.Words.{wake_of};
 
@@ -20,7 +20,7 @@ pub fn state_in(word: u64) -> Wake
     }
 }
 
-/// The stamp that a grant names: that of the queued record of its seat, or 0 where it had none.
+/// The stamp that a grant names: that of the queued record of its seat, or 0 if it had none.
 #[inline(always)]
 pub fn stamp_in(word: u64) -> u64
     requires { 3 ≤ word }

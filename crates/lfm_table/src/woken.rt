@@ -30,7 +30,7 @@ impl Woken {
         Woken { seal: () }
     }
 
-    // With the seat of this wake-up as the last. Only `parking::wake` calls it.
+    /// With the seat of this wake-up as the last. Only `parking::wake` calls it.
     pub(crate) fn and(_before: &Woken, _wake_up: &WakeUp) -> Woken
         ensures { result.seats ≡ _before.now.seats ++ _wake_up.now ∷ [] }
     {

@@ -1,4 +1,4 @@
-//! A value that counts how often such a value was dropped.
+//! A value that counts its drops.
 use lfm_model::{Object, TotalOp};
 use lfm_table::Kept;
 use std::sync::atomic::{AtomicU64, Ordering};

@@ -39,7 +39,7 @@ impl Read for EndlessReader {
     }
 }
 
-/// Gives one byte a read: so many line feeds, and then zeros. Fails at the read that comes after `reads` others.
+/// Gives one byte a read: first `line_feeds` line feeds, and then zeros. Fails at the read that comes after `reads` others.
 #[derive(Drop)]
 pub struct SingleBytes {
     pub line_feeds: u64,
@@ -95,7 +95,7 @@ impl Write for FailingWriter {
     }
 }
 
-/// Takes all bytes, and fails where it is flushed.
+/// Takes all bytes, and fails as it is flushed.
 #[derive(Drop)]
 pub struct UnflushedWriter {
     pub bytes: Vec<u8>,

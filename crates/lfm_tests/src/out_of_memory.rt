@@ -1,6 +1,6 @@
-//! The calls that ask for memory. Each test whose name contains `memory` passes also where a request was refused: it sees
-//! then that nothing was changed or written, and says that memory was refused. A script lets each single request of these
-//! tests fail in turn.
+//! The calls that ask for memory. Each test whose name contains `memory` passes also if a request was refused: it then checks
+//! that nothing was changed or written, and says that memory was refused. A script lets each single request of these tests fail
+//! in turn.
 ghost use Rattle.std.specs.Prelude.{All, IfSome};
 ghost use Rattle.lfm_core.specs.text.Grammar.{HasFewSteps};
 
@@ -43,25 +43,25 @@ fn schedule_and_memory(rt: HostRuntime) {
     }
 }
 
-/// What two seats do from where a post stands beside a record: the locker takes the post over, and owns.
+/// What two seats do once there is a post and a record: the locker takes the post over, and owns.
 const REST: &[u8; 26] = b"seats 2 1\n1 .\n2 +2\n1 *\n2 *";
 
-/// Sees that a call of a seat begins.
+/// Checks that a call of a seat begins.
 fn begins<R: Abort>(rt: &R, state: &mut State, seat: u64, call: Call) {
     sees(rt, "a begin", &state.begin(seat, call), &Turn::Open);
 }
 
-/// Sees that a seat makes so many steps, and that its call goes on.
+/// Checks that a seat makes this number of steps, and that its call goes on.
 fn goes_on<R: Abort>(rt: &R, state: &mut State, seat: u64, steps: u64) {
     sees(rt, "steps", &state.steps(seat, steps), &Turn::Open);
 }
 
-/// Sees that a call of a seat ends with this turn.
+/// Checks that a call of a seat ends with this turn.
 fn ends<R: Abort>(rt: &R, state: &mut State, seat: u64, turn: Turn) {
     sees(rt, "an end", &state.steps(seat, 9), &turn);
 }
 
-/// Brings a state of two seats to where seat 1 has posted and seat 2 has queued, each in a call.
+/// Brings a state of two seats so far that seat 1 has posted and seat 2 has queued, each in a call.
 fn post_beside_a_record<R: Abort>(rt: &R, state: &mut State) {
     let held = Turn::Ended(Answer::Asked(Asked::Held(How::Free)));
     begins(rt, state, 1, Call::Lock);
@@ -75,7 +75,7 @@ fn post_beside_a_record<R: Abort>(rt: &R, state: &mut State) {
     goes_on(rt, state, 1, 1);
 }
 
-/// Sees the depth, the takes and the posts of a seat.
+/// Checks the depth, the takes and the posts of a seat.
 fn sees_seat<R: Abort>(rt: &R, state: &State, seat: u64, wanted: (u64, u64, u64)) {
     let found = (
         u64::from(state.depth(seat)),
@@ -85,7 +85,7 @@ fn sees_seat<R: Abort>(rt: &R, state: &State, seat: u64, wanted: (u64, u64, u64)
     sees(rt, "a seat", &found, &wanted);
 }
 
-/// Sees that the readers of a state tell of that post and of that record.
+/// Checks that the readers of a state tell of that post and of that record.
 fn sees_post_beside_a_record<R: Abort>(rt: &R, state: &State) {
     let posted = Handoff { seat: 1, post: 1 };
     let record = Some((SeatNo::known(2), 1));
@@ -100,14 +100,14 @@ fn sees_post_beside_a_record<R: Abort>(rt: &R, state: &State) {
     sees_seat(rt, state, 2, (0, 1, 0));
 }
 
-/// Sees the last turns of the four lines.
+/// Checks the last turns of the four lines.
 fn sees_rest<R: Abort>(rt: &R, turns: &[Turn]) {
     let taken = Turn::Ended(Answer::Unlocked(Unlocked::TakenOver));
     let held = Turn::Ended(Answer::Asked(Asked::Held(How::Queued(1))));
     assert_eq!(*rt; turns, [Turn::Open, Turn::Open, taken, held].as_slice());
 }
 
-/// The lines that come after, and a state of two seats. Where memory is refused, this says so, and there are none.
+/// The lines that come after, and a state of two seats. If memory is refused, this says so, and there are none.
 fn rest_and_state<R: Abort + Print>(rt: &R, alloc: Global) -> Option<(Schedule, State)>
     ensures { IfSome result (λ r. All (λ l. HasFewSteps l.act) r.0.lines.items) }
 {

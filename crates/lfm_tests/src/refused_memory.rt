@@ -1,4 +1,4 @@
-//! What a test says on standard output where its call answered that memory was refused. A script that refuses memory looks
+//! What a test says on standard output if its call answered that memory was refused. A script that refuses memory looks
 //! for that line: a test that passes without it got another answer, although a request was refused.
 use crate::seeing::sees;
 use std::fmt::Debug;
@@ -10,7 +10,7 @@ pub fn tells_refused<R: Abort + Print>(rt: &R) {
     assert!(rt; told.is_ok(), "the line was not written");
 }
 
-/// Sees that a fault is that of refused memory, and says so.
+/// Checks that a fault is that of refused memory, and says so.
 pub fn sees_memory<R: Abort + Print, F: PartialEq + Debug>(rt: &R, fault: &F, memory: &F) {
     sees(rt, "the fault", fault, memory);
     tells_refused(rt);

@@ -26,12 +26,12 @@ fn outcome<R: Read, W: Write>(
     replay(alloc, reader, writer)
 }
 
-/// Sees that these bytes were written.
+/// Checks that these bytes were written.
 fn sees_bytes<A: Abort>(rt: &A, written: &[u8], wanted: &[u8]) {
     assert_eq!(rt; written, wanted);
 }
 
-/// Sees that a replay of what this reader gives ends with this outcome, and that it writes these bytes.
+/// Checks that a replay of what this reader gives ends with this outcome, and that it writes these bytes.
 fn replays_as<A: Abort, R: Read>(
     rt: &A,
     alloc: Global,
@@ -82,7 +82,7 @@ fn fails_at_each_read(rt: HostRuntime) {
     }
 }
 
-/// Sees that a replay fails by a writer that fails so once it has so many bytes, which are the first of the trace.
+/// Checks that a replay fails by a writer that fails in this way once it has `room` bytes, which are the first of the trace.
 fn fails_after<A: Abort>(rt: &A, alloc: Global, failure: Failure, room: usize, trace: &[u8]) {
     let mut reader = INPUT.as_slice();
     let mut writer = FailingWriter {
@@ -104,7 +104,7 @@ fn fails_after_each_written_byte(rt: HostRuntime) {
     }
 }
 
-/// Sees that a replay of this input fails at the flush, after it wrote this.
+/// Checks that a replay of this input fails at the flush, after it wrote this.
 fn fails_flushed<A: Abort>(rt: &A, alloc: Global, input: &[u8], output: &[u8]) {
     let mut reader = input;
     let mut writer = UnflushedWriter {
@@ -136,7 +136,7 @@ fn ends_an_endless_input(rt: HostRuntime) {
     }
 }
 
-/// Sees that a replay makes so many reads of these bytes, which go past a limit, and that a byte less is within it.
+/// Checks that a replay makes this number of reads of these bytes, which go past a limit, and that a byte less is within it.
 fn ends_past_a_limit<A: Abort>(rt: &A, alloc: Global, line_feeds: u64, reads: u64)
     requires { 0 < reads }
 {

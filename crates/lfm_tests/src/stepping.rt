@@ -10,7 +10,7 @@ fn again(depth: u32) -> Turn {
     Turn::Ended(Answer::Asked(Asked::Again(depth)))
 }
 
-/// Sees what a state is after one seat gained it by two turns.
+/// Checks what a state is after one seat gained it by two turns.
 fn sees_a_hold<R: Abort>(rt: &R, state: &State, turns: &[Turn]) {
     let held = Turn::Ended(Answer::Asked(Asked::Held(How::Free)));
     sees(rt, "two turns", &turns.len(), &2);
@@ -80,7 +80,7 @@ fn limits(rt: HostRuntime) {
     );
 }
 
-/// Sees what a state of three seats is after seat 1 served seat 2 and queued behind seat 3.
+/// Checks what a state of three seats is after seat 1 served seat 2 and queued behind seat 3.
 fn sees_a_queue<R: Abort>(rt: &R, state: &State, turns: &[Turn]) {
     let granted = Turn::Ended(Answer::Unlocked(Unlocked::Granted(SeatNo::known(2))));
     sees(
@@ -124,13 +124,13 @@ fn a_queue(rt: HostRuntime) -> Result<(), Fail> {
     Ok(())
 }
 
-/// Sees that a lock by seat 1 begins, and ends with this turn.
+/// Checks that a lock by seat 1 begins, and ends with this turn.
 fn locks<R: Abort>(rt: &R, state: &mut State, ended: Turn) {
     sees(rt, "lock begins", &state.begin(1, Call::Lock), &Turn::Open);
     sees(rt, "lock ends", &state.steps(1, 9), &ended);
 }
 
-/// Sees that no seat deepens a hold that is as deep as it may be.
+/// Checks that no seat deepens a hold that is as deep as it may be.
 fn sees_full<R: Abort>(rt: &R, state: &mut State) {
     let full = Turn::Refused(Why::By(Refusal::DepthFull));
     sees(rt, "lock", &state.begin(1, Call::Lock), &full);

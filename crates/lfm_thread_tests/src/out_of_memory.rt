@@ -1,6 +1,6 @@
-//! Memory that runs out while a condvar or a monitor is made, in the rounds of a mutex and in the run of a script, also where
-//! a thread is started. Each test whose name contains `memory` passes also where a request was refused: it sees then that
-//! nothing was written, and says that memory was refused. A script lets each single request of these tests fail in turn.
+//! Memory that runs out while a condvar or a monitor is made, in the rounds of a mutex and in the run of a script, also as a
+//! thread is started. Each test whose name contains `memory` passes also if a request was refused: it then checks that nothing
+//! was written, and says that memory was refused. A script lets each single request of these tests fail in turn.
 ghost use Rattle.lfm_mutex.specs.AllSeats.{SeatsOf};
 ghost use Rattle.lfm_mutex.specs.Belongs.{OfMutex};
 
@@ -27,7 +27,7 @@ fn condvar_and_memory(rt: HostRuntime) {
     }
 }
 
-/// Makes a monitor, or sees that memory was refused and the object dropped.
+/// Makes a monitor, or checks that memory was refused and the object dropped.
 fn makes_monitor_or_drops_object<R: Abort + Print>(
     rt: &R,
     alloc: Global,
@@ -94,7 +94,7 @@ fn rounds_or_hands_back<R: Abort + Print + Threads + Wait + Sync>(
     );
     let (seats, wanted) = match run {
         Ok(seats) => (seats, 2),
-        // refused before a thread was started, or where one was to be
+        // refused before a thread was started, or as one was to be
         Err(not_started) => {
             tells_refused(rt);
             (not_started.jobs, 0)

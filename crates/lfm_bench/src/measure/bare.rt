@@ -188,7 +188,7 @@ impl<'a> Steps<'a> {
         wake == GRANT
     }
 
-    /// Sets the words as they are where calls start so.
+    /// Sets the words as they are when calls start so.
     pub fn begin(&mut self, start: Start) {
         let (count, owner) = match start {
             Start::Free => (0, 0),
@@ -229,7 +229,7 @@ impl<'a> Steps<'a> {
         self.table.fetch_sub::<Anything>(&mut self.seat, word, 1)
     }
 
-    /// Puts a word in the place of another that is to be there. Returns what was there before.
+    /// Compare-and-exchange of `old`, which is to be there, for `new`. Returns what was there before.
     #[inline(always)]
     fn exchange(&mut self, word: usize, old: u64, new: u64) -> u64
         requires { word < 8 }

@@ -22,7 +22,7 @@ impl Busy {
         Busy { state: 1 }
     }
 
-    /// Makes so many steps.
+    /// Makes this number of steps.
     #[inline(never)]
     pub fn work(&mut self, steps: u64) {
         let mut state = self.state;
@@ -62,7 +62,7 @@ impl StepTime {
         })
     }
 
-    /// How many steps take about so long.
+    /// How many steps take about this time.
     pub fn steps(&self, nanoseconds: u64) -> u64 {
         per(nanoseconds.saturating_mul(1_000), self.picoseconds)
     }

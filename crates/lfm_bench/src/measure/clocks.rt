@@ -7,7 +7,7 @@ pub fn now<R: Clock>(rt: &R) -> Option<Instant> {
     Instant::now(rt).ok()
 }
 
-/// The nanoseconds since then. 0 where the clock couldn't be read.
+/// The nanoseconds since then. 0 if the clock couldn't be read.
 pub fn since<R: Clock>(rt: &R, start: Option<Instant>) -> u64 {
     let (Some(start), Some(end)) = (start, now(rt)) else {
         return 0;
@@ -15,7 +15,7 @@ pub fn since<R: Clock>(rt: &R, start: Option<Instant>) -> u64 {
     u64::try_from(end.duration_since(start).as_nanos()).unwrap_or(u64::MAX)
 }
 
-/// The processor time that this thread has used, in nanoseconds. 0 where that can't be read.
+/// The processor time that this thread has used, in nanoseconds. 0 if that can't be read.
 pub fn processor_time<R: CpuClock>(rt: &R) -> u64 {
     match rt.thread_cpu_time() {
         Ok(time) => u64::try_from(time.as_nanos()).unwrap_or(u64::MAX),

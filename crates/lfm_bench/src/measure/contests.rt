@@ -19,9 +19,8 @@ pub struct Turns {
     pub waits: Waits,
 }
 
-/// What these threads did in a round, where the value was 0 before and this after them. A call is an acquisition by any of
-/// them. It is exact where the value is how often the mutex was acquired. `waits` are none, to which those of all threads are
-/// added.
+/// What these threads did in a round. The value was 0 before it, and is this after it. A call is an acquisition by any of them.
+/// It is exact if the value is the number of acquisitions. `waits` are none, to which those of all threads are added.
 pub fn contest(turns: &[Turns], mut waits: Waits, value: Option<u64>) -> Sample
     ensures { result.exact ≡ true → value ≡ Some result.calls }
 {

@@ -23,7 +23,7 @@ pub struct Sample {
 /// What a sample tells of threads that contend.
 #[derive(Clone, Copy)]
 pub struct Contest {
-    /// The most calls of a thread, in hundredths of the fewest, or of 1 where those are 0.
+    /// The most calls of a thread, in hundredths of the fewest, or of 1 if those are 0.
     pub fairness: u64,
     /// How much processor time the threads used together, in nanoseconds.
     pub processor_nanoseconds: u64,
@@ -52,7 +52,7 @@ impl Contest {
 }
 
 impl Sample {
-    /// A sample of so many calls that took so much time together, of no contest.
+    /// A sample, of no contest, of this number of calls that took this time together.
     pub fn of_calls(nanoseconds: u64, calls: u64, exact: bool) -> Sample
         ensures calls { result.calls ≡ calls }
         ensures exact { result.exact ≡ exact }
@@ -65,7 +65,7 @@ impl Sample {
         }
     }
 
-    /// The same sample, exact only where this holds as well.
+    /// The same sample, exact only if this holds as well.
     pub fn provided(self, holds: bool) -> Sample
         ensures { result ≡ record self { exact = self.exact && holds } }
     {
@@ -105,7 +105,7 @@ impl Stopwatch {
     }
 }
 
-/// How much of a total each part has, rounded down. 0 where there are no parts.
+/// How much of a total each part has, rounded down. 0 if there are no parts.
 pub fn per(total: u64, parts: u64) -> u64
     ensures share { 0 < parts → result ≡ total / parts }
     ensures none { parts ≡ 0 → result ≡ 0 }
@@ -118,7 +118,7 @@ fn picoseconds_per(nanoseconds: u64, calls: u64) -> u64 {
     per(nanoseconds.saturating_mul(1_000), calls)
 }
 
-/// How many hundredths of the base this amount is, rounded down. 0 where the base is 0.
+/// How many hundredths of the base this amount is, rounded down. 0 if the base is 0.
 pub fn hundredths(amount: u64, base: u64) -> u64
     ensures ratio { 0 < base → amount * 100 < 2 ^ 64 → result ≡ amount * 100 / base }
     ensures none { base ≡ 0 → result ≡ 0 }
@@ -132,13 +132,13 @@ pub fn hundredths(amount: u64, base: u64) -> u64
 pub struct Quartiles {
     /// As many figures stand before this one as stand after the upper one: a quarter of all, rounded down.
     pub lower: u64,
-    /// The figure in the middle, the upper of two where their number is even.
+    /// The figure in the middle, the upper of two if their number is even.
     pub median: u64,
     pub upper: u64,
 }
 
 impl Quartiles {
-    /// How far apart the lower and the upper one are, in hundredths of the median, rounded down. 0 where the median is 0.
+    /// How far apart the lower and the upper one are, in hundredths of the median, rounded down. 0 if the median is 0.
     pub fn spread(self) -> u64
         ensures share { 0 < self.median → (self.upper - self.lower) * 100 < 2 ^ 64 → result ≡ (self.upper - self.lower) * 100 / self.median }
         ensures none { self.median ≡ 0 → result ≡ 0 }
@@ -181,7 +181,7 @@ impl Series {
         Some(quartiles)
     }
 
-    /// The median of all figures. 0 where there is none.
+    /// The median of all figures. 0 if there is none.
     pub fn median(&mut self) -> u64 {
         match self.quartiles() {
             Some(quartiles) => quartiles.median,
@@ -222,7 +222,7 @@ pub enum Measure {
     LongestWait,
 }
 
-/// The figures of one of those who are measured by a workload.
+/// The figures of a peer that is measured by a workload.
 #[derive(Drop)]
 pub struct Figures {
     costs: Series,

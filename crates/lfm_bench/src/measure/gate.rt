@@ -8,13 +8,13 @@ use std::time::{Clock, Duration};
 /// How often a thread looks whether the others are there, before it goes on without them.
 const LOOKS: u64 = 100_000;
 
-/// How often the one who shuts the gate looks whether all have passed, before it goes on without them.
+/// How often the thread that shuts the gate looks whether all have passed, before it goes on without them.
 const GLANCES: u64 = 1_000;
 
 /// How long it sleeps between two of its looks, in microseconds.
 const GLANCE: u64 = 50;
 
-/// A gate that so many threads pass together, and that is shut once. Nobody waits at it forever.
+/// A gate that a number of threads pass together, and that is shut once. Nobody waits at it forever.
 #[derive(Drop)]
 pub struct Gate {
     expected: u64,
@@ -23,7 +23,7 @@ pub struct Gate {
 }
 
 impl Gate {
-    /// A gate for so many threads.
+    /// A gate for this number of threads.
     pub fn new(expected: u64) -> Gate {
         Gate {
             expected,
@@ -49,7 +49,7 @@ impl Gate {
         self.shut.load(Ordering::SeqCst)
     }
 
-    /// Shuts the gate, so long after all threads have passed it.
+    /// Shuts the gate, this long after all threads have passed it.
     pub fn shut_after<R: Clock>(&self, rt: &R, window: Duration) {
         for _ in 0..GLANCES {
             if self.is_passed() {

@@ -25,7 +25,7 @@ pub struct Plan {
 }
 
 impl Plan {
-    /// What is measured where no argument says otherwise: about 25 seconds.
+    /// What is measured if no argument says otherwise: about 25 seconds.
     const USUAL: Plan = Plan {
         mode: Mode::Times,
         rounds: 15,
@@ -56,7 +56,7 @@ impl Plan {
         Ok(plan)
     }
 
-    /// The plan with the number that stands at this place of the command line.
+    /// The plan with the number at this place of the command line.
     fn with(self, place: usize, number: u64) -> Plan {
         match place {
             1 => Plan {

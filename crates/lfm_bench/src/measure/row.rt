@@ -1,4 +1,4 @@
-//! A row of a table: a workload with the figures of those who are measured by it, and the columns in which they are printed.
+//! A row of a table: a workload with the figures of the peers that are measured by it, and the columns in which they are printed.
 
 use crate::measure::figures::{Figures, Measure, Quartiles, Sample, hundredths};
 use crate::measure::line::Line;
@@ -6,7 +6,7 @@ use crate::workloads::Workload;
 use std::alloc::{AllocError, Global};
 use std::io;
 
-/// Who is measured.
+/// A peer that is measured.
 #[derive(Clone, Copy)]
 pub enum Peer {
     /// One thread that uses our mutex.
@@ -56,7 +56,7 @@ impl Column {
     }
 }
 
-/// What one round of a workload gave. Who has no such call has no sample.
+/// What one round of a workload gave. A peer without such a call has no sample.
 #[derive(Clone, Copy)]
 pub struct Round {
     pub ours: Option<Sample>,
@@ -77,7 +77,7 @@ impl Round {
     };
 }
 
-/// A workload, and the figures of those who are measured by it. Who has no such call has figures of no round.
+/// A workload, and the figures of the peers that are measured by it. A peer without such a call has figures of no round.
 #[derive(Drop)]
 pub struct Row {
     name: String,

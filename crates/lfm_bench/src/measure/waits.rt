@@ -11,7 +11,7 @@ const PARTS: u64 = 8;
 /// How many classes there are: one for each time below 8 nanoseconds, and 8 for each of 61 powers of two.
 const CLASSES: usize = 496;
 
-/// Of so many waits one may be longer than most are.
+/// Of this number of waits one may be longer than most are.
 const MANY: u64 = 1_000;
 
 /// Whether the waits of a workload are timed.
@@ -57,7 +57,7 @@ impl Waits {
         }
     }
 
-    /// Counts a wait of so many nanoseconds.
+    /// Counts a wait of this number of nanoseconds.
     fn count(&mut self, nanoseconds: u64) {
         self.longest = self.longest.max(nanoseconds);
         if let Some(count) = self.counts.get_mut(class_of(nanoseconds)) {
@@ -95,7 +95,7 @@ impl Waits {
     }
 }
 
-/// The class of a wait of so many nanoseconds: its first four bits, after 8 classes for each of the bits that follow them.
+/// The class of a wait of this number of nanoseconds: its first four bits, after 8 classes for each of the bits that follow them.
 fn class_of(nanoseconds: u64) -> usize {
     let following = 60u32.saturating_sub(nanoseconds.leading_zeros());
     let first = nanoseconds.wrapping_shr(following);

@@ -55,7 +55,7 @@ pub struct Guarded {
     queue: Queue,
 }
 
-// Whatever a thread leaves in it may be left.
+/// A thread may leave anything in it.
 impl Kept for Guarded {
     ghost fits = { λ _ _. Unit {0} };
 

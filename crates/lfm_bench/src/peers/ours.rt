@@ -16,7 +16,7 @@ use std::time::Clock;
 /// How many takes each seat may make: more than any run asks for.
 pub const BUDGET: u64 = 1 << 36;
 
-/// A mutex round this value with so many seats, of the pace of this machine. It takes memory.
+/// A mutex round this value with this number of seats, of the pace of this machine. It takes memory.
 pub fn new_mutex<R: Threads + Clock + AllocGlobal, T: Kept>(
     rt: &R,
     seats: u64,
@@ -202,7 +202,7 @@ pub struct Users<'a> {
 }
 
 impl Users<'_> {
-    /// Locks where somebody holds when the calls start. Returns whether it is as it is to be.
+    /// Locks if somebody holds when the calls start. Returns whether the mutex is as it is to be.
     pub fn begin<R: Wait>(&mut self, rt: &R, start: Start) -> bool {
         match start {
             Start::Free => true,

@@ -1,5 +1,5 @@
 //! Our mutex with two condvars on it, as several threads use them. Each thread waits on one of the condvars, and wakes those
-//! who wait on the other.
+//! that wait on the other.
 ghost use Rattle.std.specs.Prelude.{◌≡◌, ◌≤◌, ℕ, IfOk, IfSome};
 ghost use Rattle.lfm_mutex.specs.Belongs.{OfMutex, limits_of};
 ghost use Rattle.lfm_condvar.specs.Belongs.{OfCondvar, cond_limits};
@@ -17,7 +17,7 @@ use std::sync::Wait;
 use std::thread::Threads;
 use std::time::Clock;
 
-/// A condvar with so many seats, of this pace. It takes memory.
+/// A condvar with this number of seats, of this pace. It takes memory.
 fn new_condvar(
     alloc: Global,
     seats: u64,
@@ -51,7 +51,7 @@ pub struct SeatsOfShared {
 }
 
 impl Shared {
-    /// A mutex and two condvars for so many threads, of the pace of this machine. It takes memory.
+    /// A mutex and two condvars for this number of threads, of the pace of this machine. It takes memory.
     pub fn new<R: Threads + Clock + AllocGlobal>(
         rt: &R,
         threads: u64,
@@ -150,7 +150,7 @@ pub enum Side {
     Second,
 }
 
-/// A thread's seats. It waits on one of the condvars, and wakes those who wait on the other.
+/// A thread's seats. It waits on one of the condvars, and wakes those that wait on the other.
 #[derive(Drop)]
 pub struct Participant<'a> {
     shared: &'a Shared,
@@ -239,7 +239,7 @@ impl<'a> Participant<'a> {
         woken.is_ok()
     }
 
-    /// `wake_all` of the other condvar. Returns how many were woken, and 0 where it was refused.
+    /// `wake_all` of the other condvar. Returns how many were woken, or 0 if it was refused.
     pub fn wake_all<R: Wait>(&mut self, rt: &R) -> u64 {
         let mutex = &self.shared.mutex;
         let seat = &mut self.seat;

@@ -1,5 +1,5 @@
-//! What the workloads of one thread have in common: so many calls in a row are made and timed, by our mutex, by its bare
-//! steps, and by std's mutex where it has such calls.
+//! What the workloads of one thread have in common: a number of calls in a row is made and timed, by our mutex, by its bare
+//! steps, and by std's mutex if it has such calls.
 
 use crate::measure::{Round, Sample, Start, Steps, Stopwatch};
 use crate::peers::ours::Users;

@@ -18,7 +18,7 @@ use std::thread::{Threads, join, map_indices};
 use std::time::{Clock, Duration, Instant};
 use std::{io, thread};
 
-/// How long the caller sleeps before a broadcast, so that all who wait are asleep, in microseconds.
+/// How long the caller sleeps before a broadcast, so that all that wait are asleep, in microseconds.
 const SETTLING: u64 = 50;
 
 /// How much is done.
@@ -73,7 +73,7 @@ impl Times {
         self.ended.store(self.now(rt), Ordering::SeqCst);
     }
 
-    /// The time from the call of a broadcast until all had held, where they have.
+    /// The time from the call of a broadcast until all had held, if they have.
     fn taken(&self, called: u64) -> u64 {
         self.ended.load(Ordering::SeqCst).saturating_sub(called)
     }
@@ -83,14 +83,14 @@ impl Times {
 #[derive(Clone, Copy)]
 struct Calls {
     nanoseconds: u64,
-    /// How many were woken, where the condvar says so.
+    /// How many were woken, if the condvar says so.
     woken: Option<u64>,
     /// The number after all.
     number: Option<u64>,
 }
 
-/// What the caller and the threads did, of whom each says how often it held. It is exact where each held once for each
-/// broadcast and once before, the number is right, and as many were woken.
+/// What the caller and the threads did, of which each says how often it held. It is exact if each held once for each broadcast
+/// and once before, the number is right, and as many were woken.
 fn sample(load: Load, calls: Calls, holds: &[u64]) -> Sample
     ensures number { result.exact ≡ true → calls.number ≡ Some (ended load load.broadcasts) }
     ensures woken { result.exact ≡ true → IfSome calls.woken (λ w. w ≡ load.broadcasts * load.threads % 2 ^ 64) }

@@ -23,13 +23,13 @@ impl Call for TwoHandoffs {
     }
 }
 
-// The mutex goes from a holder to a seat that queues for it.
+/// The mutex goes from a holder to a seat that queues for it.
 #[inline(always)]
 fn pass(holder: &mut User, next: &mut User) -> bool {
     next.queue() && holder.unlock() && next.receive()
 }
 
-/// A round of so many hand-offs, or one less where that is an odd number. A call is one hand-off.
+/// A round of this number of hand-offs, or one less if that is an odd number. A call is one hand-off.
 pub fn round_of_handoffs<R: Wait + CpuClock>(
     rt: &R,
     peers: &mut Peers,

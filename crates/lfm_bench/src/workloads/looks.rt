@@ -1,6 +1,6 @@
-//! A seat that sleeps looks so many times, in vain, whether it was granted the mutex. Then it parks, until the thread of another
-//! seat grants it the mutex. A call is one look. What is measured is the processor time of its thread, of which parking takes
-//! almost nothing. std's mutex has no such call.
+//! A seat that sleeps looks a number of times whether it was granted the mutex, which it was not. Then it parks, until the thread
+//! of another seat grants it the mutex. A call is one look. What is measured is the processor time of its thread, of which
+//! parking takes almost nothing. std's mutex has no such call.
 
 use crate::measure::{Gate, Round, Sample, Start, Steps, Stopwatch};
 use crate::peers::ours::{FreeSeats, User, new_mutex};
@@ -9,13 +9,13 @@ use std::thread::{Threads, join};
 use std::time::{Clock, CpuClock, Duration};
 use std::{io, thread};
 
-/// The seat that looks is granted the mutex after so many times the time of its bare looks, and this while in nanoseconds, which
-/// covers the start of a thread.
+/// The seat that looks is granted the mutex after `LOOKING` times the time of its bare looks and `STARTING` nanoseconds, which
+/// cover the start of a thread.
 const LOOKING: u64 = 8;
 
 const STARTING: u64 = 1_000_000;
 
-/// A round of so many looks.
+/// A round of this number of looks.
 pub fn round<R: Threads + Sync + Wait + Clock + CpuClock + AllocGlobal>(
     rt: &R,
     steps: &mut Steps,
@@ -32,7 +32,7 @@ pub fn round<R: Threads + Sync + Wait + Clock + CpuClock + AllocGlobal>(
     })
 }
 
-/// The looks of a seat of our mutex: at most so many, and fewer where they take longer than this.
+/// The looks of a seat of our mutex: at most this number, and fewer if they take longer than this.
 fn ours<R: Threads + Sync + Wait + Clock + CpuClock + AllocGlobal>(
     rt: &R,
     looks: u32,
@@ -45,7 +45,7 @@ fn ours<R: Threads + Sync + Wait + Clock + CpuClock + AllocGlobal>(
     our_round(rt, looks, longest, holder, sleeper)
 }
 
-/// The looks of the sleeper, which is granted the mutex so long after it began to look.
+/// The looks of the sleeper, which is granted the mutex this long after it began to look.
 fn our_round<R: Threads + Sync + Wait + Clock + CpuClock>(
     rt: &R,
     looks: u32,
@@ -56,7 +56,7 @@ fn our_round<R: Threads + Sync + Wait + Clock + CpuClock>(
     let begun = holder.lock(rt) && sleeper.queue();
     let gate = Gate::new(2);
     let start = &gate;
-    // where no thread can be started, the grant comes first, and nobody waits for ever
+    // if no thread can be started, the grant comes first, and nobody waits for ever
     let (sample, granted) = join(
         rt,
         move || our_looks(rt, start, looks, sleeper),
@@ -80,7 +80,7 @@ fn our_looks<R: Wait + CpuClock>(
     Ok(sample.provided(received && left))
 }
 
-/// The holder's unlock, so long after the other began to look. Returns whether it held.
+/// The holder's unlock, this long after the other began to look. Returns whether it held.
 fn grant_after<R: Clock>(rt: &R, gate: &Gate, wait: Duration, mut holder: User) -> bool {
     gate.pass();
     thread::sleep(rt, wait);

@@ -1,4 +1,4 @@
-//! One thread tries in vain to gain a mutex that is held.
+//! One thread tries to gain a mutex that is held, and fails.
 
 use crate::measure::Steps;
 use crate::peers::ours::Users;

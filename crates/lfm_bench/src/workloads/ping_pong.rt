@@ -20,8 +20,8 @@ struct TurnsTaken {
     nanoseconds: u64,
 }
 
-/// What two threads did that were each to take so many turns, where the number was 0 before and this after them. A call is
-/// a turn of each. It is exact where each took its turns, and the number is how many there were.
+/// What two threads did that were each to take `turns` turns. The number was 0 before them, and is this after them. A call is a
+/// turn of each. It is exact if each took its turns, and the number is how many there were.
 fn sample(first: TurnsTaken, second: TurnsTaken, turns: u64, number: Option<u64>) -> Sample
     ensures made { result.exact ≡ true → (first.made ≡ turns) × (second.made ≡ turns) }
     ensures number { result.exact ≡ true → number ≡ Some (turns * 2 % 2 ^ 64) }
@@ -32,7 +32,7 @@ fn sample(first: TurnsTaken, second: TurnsTaken, turns: u64, number: Option<u64>
     Sample::of_calls(first.nanoseconds.max(second.nanoseconds), turns, exact)
 }
 
-/// A round of so many turns of each thread.
+/// A round of this number of turns of each thread.
 pub fn round<R: Threads + Sync + Wait + Clock + AllocGlobal>(
     rt: &R,
     turns: u64,
@@ -45,7 +45,7 @@ pub fn round<R: Threads + Sync + Wait + Clock + AllocGlobal>(
     })
 }
 
-/// Our mutex and condvars, with so many turns of each thread, and a look at the number after them.
+/// Our mutex and condvars, with this number of turns of each thread, and a look at the number after them.
 fn ours<R: Threads + Sync + Wait + Clock + AllocGlobal>(
     rt: &R,
     turns: u64,
@@ -61,7 +61,7 @@ fn ours<R: Threads + Sync + Wait + Clock + AllocGlobal>(
     Ok(sample(ping, pong, turns, number))
 }
 
-/// The turns of two participants, of whom the first begins.
+/// The turns of two participants, of which the first begins.
 fn our_pair<R: Threads + Sync + Wait + Clock>(
     rt: &R,
     turns: u64,
@@ -103,7 +103,7 @@ fn our_turns<R: Wait + Clock>(
     }
 }
 
-/// Std's mutex and condvars, with so many turns of each thread.
+/// Std's mutex and condvars, with this number of turns of each thread.
 fn standard<R: Threads + Sync + Wait + Clock>(rt: &R, turns: u64) -> Sample {
     let mutex = Mutex::new(0u64);
     let (ping, pong) = standard_pair(rt, turns, &mutex);

@@ -1,5 +1,5 @@
-//! As many threads put numbers into a bounded queue as take them out. A mutex guards the queue, with two condvars: on the first
-//! waits who finds it full, on the second who finds it empty. Each number that goes in is to come out once.
+//! As many threads put numbers into a bounded queue as take them out. A mutex guards the queue, with two condvars: a thread that
+//! finds it full waits on the first, and one that finds it empty on the second. Each number that goes in is to come out once.
 ghost use Rattle.std.specs.Prelude.{◌≡◌, true};
 ghost use Rattle.lfm_bench.specs.Deliveries.{CountUp, IsEachOnce};
 
@@ -193,8 +193,8 @@ fn work<R: Wait + Clock, M: Mover + Drop>(
     })
 }
 
-/// What came of a round in which these numbers were taken out. A call is a number that is moved. It is exact where all numbers
-/// that went in came out, each once.
+/// What came of a round in which these numbers were taken out. A call is a number that is moved. It is exact if all numbers that
+/// went in came out, each once.
 fn sample(load: Load, nanoseconds: u64, numbers: &mut Vec<u64>) -> Sample
     ensures { result.exact ≡ true → IsEachOnce numbers.old.items }
 {

@@ -16,7 +16,7 @@ use lfm_model::{Locked, Refusal};
 use lfm_mutex::{Mutex, Seat};
 use std::sync::Wait;
 
-// Locks the inner mutex: the cond seat tries as often as the pace says, and then queues. It is refused as Spent alone.
+/// Locks the inner mutex: the cond seat tries as often as the pace says, and then queues. It is refused as Spent alone.
 fn lock_list<R: Wait>(
     inner: &Mutex<Waiters>,
     rt: &R,
@@ -40,7 +40,7 @@ fn lock_list<R: Wait>(
     }
 }
 
-// Gives the inner mutex back.
+/// Gives the inner mutex back.
 fn leave_list(inner: &Mutex<Waiters>, cond: &mut Seat<Waiters>)
     requires belongs { OfMutex cond.old inner.now }
     requires held { ((sight cond.old).depth ≡ 1) × ((sight cond.old).asleep ≡ false) }

@@ -1,9 +1,9 @@
-//! The list of those that wait as text, for who looks for a fault.
+//! `{:?}` of the list of those that wait, for debugging.
 
 use crate::waiters::Waiters;
 use std::fmt::{Debug, Formatter, Result, Write};
 
-/// Who waits, the oldest first, and how many tickets were sent and added.
+/// Those that wait, the oldest first, and how many tickets were sent and added.
 impl Debug for Waiters {
     fn fmt<W: Write>(&self, f: &mut Formatter<W>) -> Result {
         f.debug_struct("Waiters")

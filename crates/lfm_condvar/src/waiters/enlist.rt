@@ -11,7 +11,8 @@ use crate::waiters::Waiters;
 use lfm_model::{Refusal, SeatNo};
 use lfm_mutex::{Kept, Mutex, Seat, WakeUp};
 
-/// Why the seat can't make `start_wait`, if it can't.
+/// Why the seat can't make `start_wait`, if it can't. `wait` asks before it locks the list, so that a refusal costs nothing.
+/// `enlist` asks too, since others call it.
 pub(crate) fn bars_wait<T: Kept>(seat: &Seat<T>) -> Option<Refusal>
     ensures { MatchOption result (MayWait (budget_of seat.now) (sight seat.now)) (λ r. WaitRefused (budget_of seat.now) (sight seat.now) r) }
 {
@@ -31,7 +32,7 @@ pub(crate) fn bars_wait<T: Kept>(seat: &Seat<T>) -> Option<Refusal>
 }
 
 /// Puts the user seat, which holds its mutex, at the end of the list with the next ticket, counts the ticket for the cond
-/// seat `by`, and makes `start_wait`: both or, where it refuses, neither. It answers the ticket. The list is lent to it while
+/// seat `by`, and makes `start_wait`: both or, if it refuses, neither. It answers the ticket. The list is lent to it while
 /// the inner mutex is held.
 ///
 /// Refuses, in this order: Asleep, NotOwner, Nested and Spent as `start_wait`, NoSuchSeat (the condvar has fewer seats than

@@ -13,7 +13,8 @@ use lfm_model::NewFault;
 use lfm_protocol::MAX_BUDGET;
 use std::alloc::Global;
 
-/// So many conditions for so many passes, and the cond seats of each pass in order: one of each condition, in their order.
+/// This number of conditions, each with a cond seat for every pass; and the cond seats of each pass, one of each condition, in
+/// their order.
 pub fn new_conditions(
     alloc: Global,
     passes: u64,

@@ -114,7 +114,7 @@ module _ {T : Type 0} (follows : ℕ → T → T → Type 0) (suits : T → ℕ 
   abbrev IsResting : SeatState → Type 0
   IsResting x = (x.point ≡ Rest) × (x.depth ≡ 0)
 
-  -- where all seats are back, the view of seat 1 is the only one that was not joined
+  -- if all seats are back, the view of seat 1 is the only one that was not joined
   last_user : (s : St) (h : Held follows suits s) (v : View T) → get_elem? s.views 0 ≡ some v → v.made ≤ length v.joined → (j : ℕ) (z : View T) → get_elem? s.views j ≡ some z → z.role ≡ User → v ≡ z
   last_user s h v at back j z e u =
       let k = h.root v at in let r = roles s.views in let one : used v ≡ 1 = ap used_at k.user in let e0 = k.made in let e1 = k.back in
@@ -122,7 +122,7 @@ module _ {T : Type 0} (follows : ℕ → T → T → Type 0) (suits : T → ℕ 
       (λ zero_j. some-injective v z (sym at ∙ subst (λ (i : ℕ). get_elem? s.views i ≡ some z) zero_j e))
       (λ other. absurd (let one' : used z ≡ 1 = ap used_at u in let b = total_two used s.views 0 j v z at e other in omega arith))
 
-  -- where all seats are back, all of them rest
+  -- if all seats are back, all of them rest
   all_rest : (s : St) (h : Held follows suits s) (v : View T) → get_elem? s.views 0 ≡ some v → v.made ≤ length v.joined → v.standing.point ≡ Rest → v.standing.depth ≡ 0 → (t : ℕ) → IsResting (seat h.core.seats t)
   all_rest s h v at back rests flat zero = subst IsResting (sym (seat_zero h.core.seats)) (refl, refl)
   all_rest s h v at back rests flat (suc j) =
@@ -150,7 +150,7 @@ module _ {T : Type 0} (follows : ℕ → T → T → Type 0) (suits : T → ℕ 
   Among v number last ended =
       ((v.number ≡ number) × (v.last ≡ last) × (v.ended ≡ ended)) ⊎ ((i : ℕ) × (g : Joined T) × (get_elem? v.joined i ≡ some g) × (g.number ≡ number) × (g.last ≡ last) × (g.ended ≡ ended))
 
-  -- so many holds have ended, and this seat left the value at the end with the last of them, or none has left any
+  -- this number of holds have ended, and this seat left the value at the end with the last of them, or none has left any
   pub record LatestAtEnd (v : View T) (w : T) : Type 0 where
     pub seat : ℕ
     pub count : ℕ
@@ -254,7 +254,7 @@ item_at l m i x here is same = at_index l i x here (is ∙ ap (λ z. get_or z i 
 pub each_of : {A : Type 0} (P : A → Type 0) (l : List A) (i : ℕ) → length l ≤ i → ((j : ℕ) (y : A) → j < i → get_elem? l j ≡ some y → P y) → (j : ℕ) (y : A) → get_elem? l j ≡ some y → P y
 each_of P l i far below j y e = let r = length_at l j y e in below j y (omega arith) e
 
--- what is left where one item is taken out
+-- what is left if one item is taken out
 pub in_removed : {A : Type 0} (xs : List A) (i j : ℕ) (y : A) → get_elem? (remove xs i) j ≡ some y → (k : ℕ) × (get_elem? xs k ≡ some y)
 in_removed [] zero j y e = absurd (some-ne-none y (sym e))
 in_removed [] (suc i) j y e = absurd (some-ne-none y (sym e))

@@ -57,7 +57,7 @@ module _ {T : Type 0} (follows : ℕ → T → T → Type 0) (suits : T → ℕ 
         held = λ how is. holds_now follows suits s l p q m w a b turn (last_hold v0) was so.last e how is;
       }
 
-  -- the steps that the generic run makes from there on
+  -- the steps that the slow path makes from there on
   pub course_join : (p q : SeatState) (a b : Option (Moving T)) (v w : View T) (turn : Turn) → CourseNow Open p a v → Course follows suits s p a v turn q b w → CourseNow turn q b w
   course_join p q a b v w turn so then = record {
     ran = ran_join s p0 p q v0 v w turn so.ran then.ran;

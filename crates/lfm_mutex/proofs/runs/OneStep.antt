@@ -41,7 +41,7 @@ Both d k = ((d ≡ 0) × (k ≡ 0)) ⊎ ((0 < d) × (0 < k))
 both_same : (d k : ℕ) → k ≡ d → Both d k
 both_same d k same = elim (cases_eq d 0) [ inl z ↦ inl (z, same ∙ z) | inr some ↦ inr (omega (arith, some), omega (arith, some, same)) ]
 
--- a step that gains nothing holds afterwards exactly where it did before
+-- a step that gains nothing holds afterwards exactly if it did before
 both : (x p : SeatState) (turn : Turn) → Concludes x turn p → how_held turn ≡ None → Both x.depth p.depth
 both x p Open c none = both_same x.depth p.depth c.0
 both x p (Ended (Answer.Asked (Asked.Held how))) c none = absurd (cc)

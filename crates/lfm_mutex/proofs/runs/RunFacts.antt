@@ -235,7 +235,7 @@ left_falls found old e is small =
       ]
     ]
 
--- where a record is collected, there is one step less to make than there was room
+-- if a record is collected, one step less is to be made than there was room
 weight_collects : (n k : ℕ) (carrier : Carrier) (next : ℕ) → k < n → CollectsWithin k n (TakeLinkLoad carrier next) → (collecting (n - (k + 1)) carrier < collecting (n - k) carrier) × (granting carrier < collecting (n - k) carrier)
 weight_collects n k Carrier.Locker next room within = (omega (arith, room), omega (arith, room))
 weight_collects n k (Carrier.Releaser u) next room within = (omega (arith, room), omega (arith, within))

@@ -129,7 +129,7 @@ collects_same k j n (TakeLinkLoad (Carrier.Reclaimer releaser) next) same within
 collects_same k j n (TakeLinkLoad Carrier.Sender next) same within = let e = same refl in omega (arith, e, within)
 collects_same k j n _ same within = tt
 
--- what a step needs, where there are n seats and the pop list has k records before it and k' after it
+-- what a step needs, with n seats, and k records in the pop list before it and k' after it
 -- room: the pop list has room for a record that joins it
 -- within: a seat that has no record of its own leaves room for one more
 -- grows: only a load of a link adds a record
@@ -359,7 +359,7 @@ begun_release p q l call is is_open is_q =
     let told = subst (λ (t : Turn). ToldRelease t (Begin.begin p l call).seat.point) is_open (told_at p l call p.point is) in
     (told.0, ap (λ (x : SeatState). x.point) is_q ∙ told.1)
 
--- so many steps follow the begin of a release
+-- this number of steps follows the begin of a release
 weight_released : (n k : ℕ) (call : Call) (r : Releaser) → releasing r ≡ errand_of call → weight n k (ReleaseOwnerStore r) ≡ release_steps n call
 weight_released n k Call.Unlock Unlocker is = omega arith
 weight_released n k Call.Unlock Waiter is = absurd (cc)

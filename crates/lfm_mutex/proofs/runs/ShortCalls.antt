@@ -1,4 +1,4 @@
--- The calls that no other seat can prolong, try_lock and try_receive: their steps alone, whatever they find, are so few.
+-- The calls that no other seat can prolong, try_lock and try_receive: they make few steps, whatever those find.
 use Rattle.std.proofs.Common.{◌≡◌, ◌≢◌, ◌⊎◌, inl, inr, ℕ, ◌+◌, ◌≤◌, List, [], ◌∷◌, ◌++◌, length, length-append, Bool, true, false, nat_eq, Option, None, Result, Ok, Err, refl, sym, ap, ◌∙◌, arith, if◌then◌else◌}
 use Rattle.std.specs.Prelude.{nat_lt}
 use Rattle.std.proofs.lemmas.Bool.{false≢true}
@@ -53,7 +53,7 @@ is_short (ReceiveWakeLoad sleeper) = true
 is_short (ReceiveWakeStore stamp) = true
 is_short _ = false
 
--- at a point of these calls, with so many steps left at most
+-- at a point of these calls, with at most this number of steps left
 abbrev pub Short : ℕ → Point → Type 0
 Short k p = (is_short p ≡ true) × (left_at p ≤ k)
 
@@ -69,7 +69,7 @@ short_receives : (x : SeatState) (sleeper : Sleeper) (w : Wake) → Short 2 (rec
 short_receives x sleeper (Grant stamp) = (refl, omega arith)
 short_receives x sleeper _ = (refl, omega arith)
 
--- a step at a point of these leads to another of them, with fewer left; else the seat is at no step
+-- a step at a point of these leads to another of them, with fewer left; otherwise the seat is at no step
 abbrev pub StepsShort : ℕ → Stepped → Type 0
 StepsShort k st = (j : ℕ) × (j + 1 ≤ k) × Short j st.seat.point
 
@@ -97,7 +97,7 @@ idle_run : (s : ℕ) (x : SeatState) (finds : List (ℕ × Option Record)) → k
 idle_run s x [] none = refl
 idle_run s x (f ∷ finds) none = ap (λ (z : Stepped). (end_of s z finds).turn) (idle_step x s f.0 f.1 none) ∙ idle_run s x finds none
 
--- a run that doesn't end idle has so many steps at most
+-- a run that doesn't end idle has at most this number of steps
 short_run : (s : ℕ) (finds : List (ℕ × Option Record)) (k : ℕ) (st : Stepped) → Short k st.seat.point → (end_of s st finds).turn ≢ Refused Idle → length finds ≤ k
 short_run s [] k st short some = omega arith
 short_run s (f ∷ finds) k st short some =
@@ -110,7 +110,7 @@ long_as : (s : ℕ) (x : SeatState) (finds : List (ℕ × Option Record)) → le
 long_as s x [] = refl
 long_as s x (f ∷ finds) = let h = long_as s (stepped_by x s f.0 f.1).seat finds in omega (arith, h)
 
--- Where the calls begin
+-- The points at which the calls begin
 
 abbrev pub OpensShort : ℕ → Stepped → Type 0
 OpensShort k st = st.turn ≡ Open → Short k st.seat.point

@@ -32,7 +32,7 @@ spends_join i j k t u v first second =
       omega (arith, long, fails, most, more),
     )
 
--- where more was due, or less is left
+-- if more was due, or less is left
 pub spends_within : (i i' j j' : ℕ) (t u : List Seen) → i ≤ i' → j' ≤ j → Spends i j t u → Spends i' j' t u
 spends_within i i' j j' t u more less spends = let most = spends.2 in (spends.0, spends.1, omega (arith, more, less, most))
 

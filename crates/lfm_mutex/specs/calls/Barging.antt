@@ -1,4 +1,4 @@
--- How a seat locks that tries before it queues: by tries that fail, and then by one that holds or by the steps of lock.
+-- How a seat that tries before it queues locks: by tries that fail, and then by one that holds or by the steps of lock.
 use Rattle.std.specs.Prelude.{◌≡◌, ◌⊎◌, ⊤, ℕ, ◌<◌, ◌≤◌, List, [], ◌∷◌, ◌++◌, length, false, Option, Some, None, Result, Ok, Err}
 use Rattle.lfm_model.specs.declared.answers.How.{How}
 use Rattle.lfm_model.specs.declared.answers.Locked.{Locked}

@@ -6,7 +6,7 @@ use Rattle.lfm_protocol.specs.declared.points.Point.TheVariants.{LockCountAdd, L
 use Rattle.lfm_protocol.specs.declared.points.Pusher.{Pusher}
 use Rattle.lfm_mutex.specs.calls.Runs.{weight}
 
--- at this point, where there are n seats and the pop list has k records
+-- at this point, with n seats and k records in the pop list
 abbrev pub due : ℕ → ℕ → Point → ℕ
 due n k LockCountAdd = n + 9
 due n k LockOwnerLoad = n + 8

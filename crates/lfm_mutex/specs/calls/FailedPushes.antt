@@ -8,7 +8,7 @@ use Rattle.lfm_laws.specs.table.Words.{link_of}
 use Rattle.lfm_table.specs.declared.seat_view.Seen.{Seen}
 use Rattle.lfm_mutex.specs.calls.Sight.{Sight}
 
--- 1 where a step at this point is a push exchange that found another word
+-- 1 if a step at this point is a push exchange that found another word
 abbrev pub failed_push : ℕ → Point → ℕ
 failed_push found (PushExchange pusher expected) = if same_link (link_of found) expected then 0 else 1
 failed_push found _ = 0
@@ -21,6 +21,6 @@ failed_pushes (step ∷ steps) = failed_push step.found step.point + failed_push
 abbrev pub Spends : ℕ → ℕ → List Seen → List Seen → Type 0
 Spends due still before after = (new : List Seen) × (after ≡ before ++ new) × (length new + still ≤ due + 2 * failed_pushes new)
 
--- the seat has made so many steps at most, and two for each of them that failed to push
+-- the seat has made at most this number of steps, and two for each of them that failed to push
 abbrev pub MakesBesideFailures : {T : Type 0} → ℕ → Sight T → Sight T → Type 0
 MakesBesideFailures k s t = (new : List Seen) × (t.trail ≡ s.trail ++ new) × (length new ≤ k + 2 * failed_pushes new)

@@ -121,7 +121,7 @@ clearing n (Carrier.Releaser releaser) = n + 5 + waits_on releaser
 clearing n (Carrier.Reclaimer releaser) = n + 1 + waits_on releaser
 clearing n _ = n + 4
 
--- where the pop list has room for so many records
+-- while the pop list has room for this number of records
 abbrev pub collecting : ℕ → Carrier → ℕ
 collecting room (Carrier.Releaser releaser) = room + waits_on releaser
 collecting room (Carrier.Reclaimer releaser) = room + waits_on releaser
@@ -132,7 +132,7 @@ granting (Carrier.Releaser releaser) = 1 + waits_on releaser
 granting (Carrier.Reclaimer releaser) = 1 + waits_on releaser
 granting _ = 2
 
--- at this point, where there are n seats and the pop list has k records
+-- at this point, with n seats and k records in the pop list
 abbrev pub weight : ℕ → ℕ → Point → ℕ
 weight n k Rest = 0
 weight n k (Asleep sleeper) = 0
@@ -173,7 +173,7 @@ release_steps n _ = n + 7
 
 -- Runs
 
--- where these finds lead to, each with the oldest record that the pop list had
+-- what these finds lead to, each with the oldest record that the pop list had
 abbrev pub end_of : ℕ → Stepped → List (ℕ × Option Record) → Stepped
 end_of s st [] = st
 end_of s st (f ∷ finds) = end_of s (stepped_by st.seat s f.0 f.1) finds
@@ -259,7 +259,7 @@ Counts How.Free k answered = k ≡ answered
 Counts (How.Queued stamp) k answered = (k + 1 ≡ stamp) × (answered ≡ stamp)
 
 -- the seat has come to hold, and of its last hold before that stands what `before` says: what it has in hand was reached from what it
--- left then, and is just that where no later hold than that one has ended; and it suits
+-- left then, and is exactly that if no later hold than that one has ended; and it suits
 pub record Holds {T : Type 0} (follows : ℕ → T → T → Type 0) (suits : T → ℕ → Type 0) (s : ℕ) (before : LastHold T) (how : How) (p : SeatState) (a : Option (Moving T)) (v : View T) : Type 0 where
   pub depth : p.depth ≡ 1
   pub rests : p.point ≡ Rest

@@ -10,11 +10,11 @@ use Rattle.lfm_mutex.specs.calls.Barging.{BargesBy}
 use Rattle.lfm_mutex.specs.calls.Sight.{Sight, Locks, LocksWaiting, MayRelease, Unlocks}
 use Rattle.lfm_mutex.specs.calls.Trails.{LocksBy, MakesCall}
 
--- the seat is the one that it was, holds as often, and sleeps only where it did
+-- the seat is the one that it was, holds as often, and sleeps only if it did
 abbrev pub StandsAs : {T : Type 0} → Sight T → Sight T → Type 0
 StandsAs s t = (t.number ≡ s.number) × (t.depth ≡ s.depth) × (t.asleep ≡ s.asleep)
 
--- it has another value in hand, and is else as it was
+-- it has another value in hand, and is otherwise as it was
 abbrev pub with_value : {T : Type 0} → Sight T → T → Sight T
 with_value s x = record s { value = Some x }
 

@@ -103,7 +103,7 @@ sight_of n p v a =
 abbrev pub sight : {T : Type 0} → Seat T → Sight T
 sight s = sight_of s.number s.standing s.place.me.0 (value_in s.moving)
 
--- a seat as it is made, one of so many
+-- a seat as it is made, one of this number of seats
 abbrev pub new_sight : {T : Type 0} → T → ℕ → ℕ → Sight T
 new_sight x seats n =
     record {
@@ -209,8 +209,8 @@ module _ {T : Type 0} (follows : ℕ → T → T → Type 0) (fits : T → ℕ �
   Suits How.Free w k = fits w k
   Suits (How.Queued x) w k = (j : ℕ) × (x ≡ j + 1) × (k ≡ x) × fits w j
 
-  -- The seat has come to hold, and found a value that what it left last leads to. Where no later hold has ended than its own last one, it
-  -- finds what it left
+  -- The seat has come to hold, and found a value that what it left last leads to. If no later hold has ended than its own last one,
+  -- it finds what it left
   abbrev pub Finds : How → Sight T → Sight T → Type 0
   Finds how s t =
       (w : T) × (t.value ≡ Some w) × (t.last ≡ Some w) × ((l : T) → s.last ≡ Some l → Reached follows t.seats s.number l w) × Suits how w t.queued × (t.found ≡ Some w) × (t.ended ≡ s.ended) × (s.ended ≤ t.holds_ended)

@@ -1,4 +1,4 @@
--- A call that is made straight on: its steps so far, and what it comes to.
+-- A call on its fast path: its steps so far, and what it comes to.
 use Rattle.std.specs.Prelude.{◌≡◌, ⊤, ℕ, Option, Some, Result, Ok, Err}
 use Rattle.lfm_model.specs.declared.answers.How.{How}
 use Rattle.lfm_model.specs.declared.answers.Locked.{Locked}

@@ -31,7 +31,7 @@ CallEnds Open n q trail turn y trail' =
     (finds : List (ℕ × Option Record)) × (end_of n (opens q) finds ≡ record { seat = y; turn = turn }) × (trail' ≡ trail ++ trail_of n q finds)
 CallEnds first n q trail turn y trail' = (turn ≡ first) × (y ≡ q) × (trail' ≡ trail)
 
--- the seat has made so many steps at most
+-- the seat has made at most this number of steps
 abbrev pub MakesAtMost : {T : Type 0} → ℕ → Sight T → Sight T → Type 0
 MakesAtMost k s t = length t.trail ≤ length s.trail + k
 
@@ -65,7 +65,7 @@ module _ {T : Type 0} (l : Limits) where
   ReceivesBy s t (Ok how) = WaitsFor how s t
   ReceivesBy s t (Err refusal) = (cause : Why) × Makes Call.Receive s t (Refused cause)
 
-  -- the steps of lock: those of ask, and where that fell asleep those of receive_lock
+  -- the steps of lock: those of ask, and if that fell asleep, those of receive_lock
   abbrev pub LocksBy : Sight T → Sight T → Result Locked Refusal → Type 0
   LocksBy s t (Ok (Locked.Held how)) =
       Makes Call.Lock s t (Ended (Answer.Asked (Asked.Held how))) ⊎ ((m : Sight T) × Makes Call.Lock s m (Ended (Answer.Asked Asked.Asleep)) × WaitsFor how m t)

@@ -18,8 +18,8 @@ abbrev pub grants_of : List Seen → List ℕ
 grants_of [] = []
 grants_of (step ∷ steps) = as_list (granted_at step.point) ++ grants_of steps
 
--- the steps from one trail to the other stored a grant just where there is a wake-up, which is for the seat that was granted, one of 1
--- to `seats`
+-- the steps from one trail to the other stored a grant exactly if there is a wake-up, which is for the seat that was granted, one
+-- of 1 to `seats`
 pub record Wakes (seats : ℕ) (wake_up : Option ℕ) (before after : List Seen) : Type 0 where
   pub granted : grants_of after ≡ grants_of before ++ as_list wake_up
   pub above : (t : ℕ) → wake_up ≡ Some t → 0 < t

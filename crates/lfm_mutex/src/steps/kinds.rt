@@ -1,8 +1,8 @@
-//! The atomic step of each kind by itself: one operation on one word, and then the seat's own method of the core for that
-//! kind. Each has the condition that the seat's point is of its kind, and is one event of the core.
+//! The atomic step of each kind by itself: one operation on one word, and then the seat's own method of the core for that kind.
+//! Each has the condition that the seat's point is of its kind, and is one event of the core.
 //!
-//! Each answers Open where the call goes on, and else the answer or refusal that ends the call. None of them waits or takes
-//! memory, and `store_wake` alone wakes a seat.
+//! Each answers Open if the call goes on, and else the answer or refusal that ends the call. None of them waits or takes memory,
+//! and `store_wake` alone wakes a seat.
 ghost use Rattle.std.specs.Prelude.{◌≡◌, ◌≢◌, true, false, Some};
 ghost use Rattle.lfm_protocol.specs.declared.kinds.Kind.{Kind as KindNow};
 ghost use Rattle.lfm_protocol.specs.declared.points.Point.TheVariants.{ReleaseOwnerStore};
@@ -25,8 +25,8 @@ use lfm_table::table_steps::make_step;
 use lfm_table::{Kept, SeatData, WakeUp};
 use std::marker::Brand;
 
-/// Makes the step at the seat's point, which is of this kind, with all that the proofs of the calls need of it, and hands out
-/// the wake-up of the seat that it granted. It is inlined, so where the kind is a constant nothing of the other kinds is left.
+/// Makes the step at the seat's point, which is of this kind, with all that the proofs of the calls need of it, and hands out the
+/// wake-up of the seat that it granted. It is inlined, so with a constant kind nothing of the other kinds is left.
 #[inline(always)]
 pub(crate) fn make_of<T: Kept>(
     mutex: &Mutex<T>,
@@ -48,10 +48,15 @@ pub(crate) fn make_of<T: Kept>(
         limits: seat.limits,
         standing: seat.standing,
     };
+    // What the step may give away leaves this seat's hands before it: once the word is stored, the next owner may come. So the
+    // record that the step serves leaves the pop list, and then the value, with that list, goes into its slot.
     let may_give = gives(seat.standing.point);
     drop_oldest(&mut seat.moving, &seat.standing);
     prepare(table, &mut seat.place, &mut seat.moving, may_give);
     let (found, wake_up) = make_step::<T, Brand>(kind, table, &mut seat.place, &data, &seat.moving);
+    // What the step has brought is taken in after it: the record of a loaded link, or the value, if the seat carries it now.
+    // `settle` tells that by `carries_after` before the seat moves on, since `advance`, the proved transition, needs the oldest
+    // record, which lies with the value.
     add_loaded(&mut seat.moving, &data, found);
     settle(table, &mut seat.place, &mut seat.moving, &data, found);
     let oldest = oldest_of(&seat.moving);
@@ -90,7 +95,7 @@ fn make_within<T: Kept>(mutex: &Mutex<T>, seat: &mut Seat<T>, kind: Kind) -> Tur
     make_waking_none(mutex, seat, kind)
 }
 
-/// Exchanges 0 for 1 at the count, and finds the count: the first step of a `try_lock`.
+/// Compare-and-exchange of the count from 0 to 1, which finds the count: the first step of a `try_lock`.
 pub fn exchange_count<T: Kept>(mutex: &Mutex<T>, seat: &mut Seat<T>) -> Turn
     requires belongs { OfMutex seat.old mutex.now }
     requires is_next { kind_of (state_of seat.old).point ≡ Some KindNow.CountExchange }
@@ -136,8 +141,8 @@ pub fn load_owner<T: Kept>(mutex: &Mutex<T>, seat: &mut Seat<T>) -> Turn
     make_within(mutex, seat, Kind::OwnerLoad)
 }
 
-/// Stores the owner word: 0 where a release ends a hold, else the seat's own number where it comes to hold.
-/// At the store that ends a hold, what is in hand has to follow what was found.
+/// Stores the owner word: 0 as a release ends a hold, or the seat's own number as it comes to hold. At the store that ends a
+/// hold, what is in hand has to follow what was found.
 pub fn store_owner<T: Kept>(mutex: &Mutex<T>, seat: &mut Seat<T>) -> Turn
     requires belongs { OfMutex seat.old mutex.now }
     requires is_next { kind_of (state_of seat.old).point ≡ Some KindNow.OwnerStore }
@@ -160,7 +165,7 @@ pub fn load_push<T: Kept>(mutex: &Mutex<T>, seat: &mut Seat<T>) -> Turn
     make_within(mutex, seat, Kind::PushLoad)
 }
 
-/// Exchanges the push word that was seen for one that has the pushed record as its newest.
+/// Compare-and-exchange of the push word that was seen for one that has the pushed record as its newest.
 pub fn exchange_push<T: Kept>(mutex: &Mutex<T>, seat: &mut Seat<T>) -> Turn
     requires belongs { OfMutex seat.old mutex.now }
     requires is_next { kind_of (state_of seat.old).point ≡ Some KindNow.PushExchange }
@@ -228,7 +233,7 @@ pub fn store_handoff<T: Kept>(mutex: &Mutex<T>, seat: &mut Seat<T>) -> Turn
     make_within(mutex, seat, Kind::HandoffStore)
 }
 
-/// Exchanges an expected post for none in the handoff word: the post is accepted, taken over, or taken back.
+/// Compare-and-exchange of an expected post for none in the handoff word: the post is accepted, taken over, or taken back.
 pub fn exchange_handoff<T: Kept>(mutex: &Mutex<T>, seat: &mut Seat<T>) -> Turn
     requires belongs { OfMutex seat.old mutex.now }
     requires is_next { kind_of (state_of seat.old).point ≡ Some KindNow.HandoffExchange }
@@ -263,7 +268,7 @@ pub fn store_wake<T: Kept>(mutex: &Mutex<T>, seat: &mut Seat<T>) -> Turn
     turn
 }
 
-/// Exchanges the wake word of a seat that waits, so that this sender alone sends it.
+/// Compare-and-exchange of the wake word of a seat that waits, so that this sender alone sends it.
 pub fn exchange_wake<T: Kept>(mutex: &Mutex<T>, seat: &mut Seat<T>) -> Turn
     requires belongs { OfMutex seat.old mutex.now }
     requires is_next { kind_of (state_of seat.old).point ≡ Some KindNow.WakeExchange }

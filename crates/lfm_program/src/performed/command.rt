@@ -10,7 +10,7 @@ use lfm_monitor::{Monitor, Pass};
 use lfm_script::Command;
 use std::sync::Wait;
 
-// Enters, adds the number and leaves.
+/// Enters, adds the number and leaves.
 fn add<R: Wait>(
     rt: &R,
     monitor: &Monitor<Total>,
@@ -32,7 +32,7 @@ fn add<R: Wait>(
     Ok(())
 }
 
-// Reads the total, and waits on the condition until it is at least the bound. The pass holds the monitor whenever it reads.
+/// Reads the total, and waits on the condition until it is at least the bound. The pass holds the monitor whenever it reads.
 fn wait_for<R: Wait>(
     rt: &R,
     monitor: &Monitor<Total>,
@@ -58,7 +58,7 @@ fn wait_for<R: Wait>(
     unreachable!()
 }
 
-// Enters, waits on the condition until the total is at least the bound, and leaves.
+/// Enters, waits on the condition until the total is at least the bound, and leaves.
 fn until<R: Wait>(
     rt: &R,
     monitor: &Monitor<Total>,
@@ -80,7 +80,7 @@ fn until<R: Wait>(
     waited
 }
 
-// Wakes the pass that has waited longest on the condition, if any.
+/// Wakes the pass that has waited longest on the condition, if any.
 fn wake_one<R: Wait>(
     rt: &R,
     monitor: &Monitor<Total>,
@@ -99,7 +99,7 @@ fn wake_one<R: Wait>(
     Ok(())
 }
 
-// Wakes all that wait on the condition.
+/// Wakes all that wait on the condition.
 fn wake_all<R: Wait>(
     rt: &R,
     monitor: &Monitor<Total>,
@@ -118,8 +118,8 @@ fn wake_all<R: Wait>(
     Ok(())
 }
 
-/// Makes one command. A refusal is that of the call of the monitor that was refused. Where the pass held the monitor then, it
-/// has left it.
+/// Makes one command. A refusal is that of the call of the monitor that was refused. If the pass held the monitor then, it has
+/// left it.
 pub(crate) fn make<R: Wait>(
     rt: &R,
     monitor: &Monitor<Total>,

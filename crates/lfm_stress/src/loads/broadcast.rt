@@ -10,7 +10,7 @@ use crate::parts::{Part, Shared, Side};
 use crate::progress::Tenth;
 use std::sync::Wait;
 
-/// The number once all of so many threads have come to this turn.
+/// The number once all of this number of threads have come to this turn.
 fn come(threads: u64, turn: u64) -> u64
     ensures { result ≡ come threads turn }
 {
@@ -25,7 +25,7 @@ fn woken(threads: u64, turn: u64) -> u64
     come(threads, turn).wrapping_add(1)
 }
 
-/// The turns of one thread in this tenth of a run, in which so many threads wait. The one with seat 1 broadcasts.
+/// The turns of one thread in this tenth of a run, in which this number of threads wait. The one with seat 1 broadcasts.
 pub fn take_turns<R: Wait>(rt: &R, shared: &Shared, tenth: Tenth, threads: u64, part: Part) -> Part
     requires { OfShared part shared.now }
     ensures { OfShared result shared.now }

@@ -21,12 +21,13 @@ use std::time::Clock;
 /// Two threads put in, and two take out.
 const MOVERS: u64 = 4;
 
-/// The conditions of the monitor: on the first one waits who found the buffer empty, on the second who found it full.
+/// The conditions of the monitor: a thread that found the buffer empty waits on the first, and one that found it full on the
+/// second.
 const NOT_EMPTY: u64 = 1;
 
 const NOT_FULL: u64 = 2;
 
-/// The items of a tenth, and what those who take them out have got of them.
+/// The items of a tenth, and what the threads that take them out have got of them.
 #[derive(Drop)]
 pub struct Delivery {
     tenth: Tenth,
@@ -51,7 +52,8 @@ impl Delivery {
 }
 
 /// Sends the items of this plan through the buffer, and says after each tenth how far it is. It takes memory, starts threads
-/// and joins them all. An error where the number of processors or the time can't be told, a line is not written, or no memory is found.
+/// and joins them all. An error if the number of processors or the time can't be told, a line is not written, or no memory is
+/// found.
 pub fn run<R: Threads + Wait + Sync + Clock + AllocGlobal + Print>(
     rt: &R,
     plan: Plan,
@@ -91,7 +93,7 @@ fn move_tenth<R: Threads + Wait + Sync>(
 
 /// How many entries of the journal each thread may write in a tenth. An item costs it two, a take and an op, and so does each
 /// wait. A wait ends by a wake, and each condition has one wake for each item. So a thread with half of the items writes at
-/// most three entries for each item of the tenth, even where it gets all the wakes of its condition.
+/// most three entries for each item of the tenth, even if it gets all the wakes of its condition.
 fn entries_of(tenth: Tenth) -> u64 {
     tenth
         .to
@@ -100,7 +102,8 @@ fn entries_of(tenth: Tenth) -> u64 {
         .saturating_add(8)
 }
 
-/// A monitor round an empty buffer, of this pace, with a pass for each mover, which may write so many entries. It takes memory.
+/// A monitor round an empty buffer, of this pace, with a pass for each mover, which may write this number of entries. It takes
+/// memory.
 fn new_monitor(
     alloc: Global,
     pace: Pace,
@@ -264,8 +267,8 @@ fn take<R: Wait>(
     Ok(())
 }
 
-/// Makes this op of the buffer, which the pass holds, until it isn't in vain. Before each further try it waits on the
-/// condition. Returns the item that was taken out, and 0 where one was put in.
+/// Makes this op of the buffer, which the pass holds, until it succeeds. Before each further try it waits on the condition.
+/// Returns the item that was taken out, or 0 if one was put in.
 fn make<R: Wait>(
     rt: &R,
     monitor: &Monitor<Buffer>,

@@ -1,4 +1,4 @@
-//! `mixed`: in every other turn a thread tries to gain the mutex, and in the turns between it waits for it. Where it gained the
+//! `mixed`: in every other turn a thread tries to gain the mutex, and in the turns between it waits for it. If it gained the
 //! mutex, it adds 1 to the number under it, and gives the mutex on.
 ghost use Rattle.lfm_stress.specs.Parts.{OfShared};
 

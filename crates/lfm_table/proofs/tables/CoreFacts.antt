@@ -52,7 +52,7 @@ entrant_owner s Entrant.Locker (How.Queued stamp) = refl
 entrant_owner s Entrant.Trier how = refl
 entrant_owner s Entrant.Receiver how = refl
 
--- a seat's claim is to own just where it has a depth
+-- a seat's claim is to own exactly if it has a depth
 claim_owner : (d s : ℕ) (q : Point) → DepthAt d q → owner_of (claim_at d s q) ≡ (if nat_eq d 0 then 0 else s)
 claim_owner d s Rest deep = depth_owner d s false (nat_eq d 0)
 claim_owner d s LockCountAdd deep = depth_owner d s false (nat_eq d 0)
@@ -96,7 +96,7 @@ owner_held t s again some e =
 held_owner : (t s : ℕ) (again : Bool) → t ≡ s → owner_of (held_by (owned t again) s) ≡ s
 held_owner t s again e = rw (eq-eqb t s e) e
 
--- the owner word is a seat just where that seat has the place as its owner
+-- the owner word is a seat exactly if that seat has the place as its owner
 owner_by : (place : Responsibility) (s : ℕ) → 0 < s → owner_of place ≡ s → owner_of (held_by place s) ≡ s
 owner_by (owned t again) s some e = held_owner t s again e
 owner_by _ s some e = absurd (omega (arith, some, e))
@@ -114,7 +114,7 @@ owner_of_held (serving t) s some e = absurd (let z = owner_if t s (serving t) re
 zero_or : (d s : ℕ) → 0 < s → (if nat_eq d 0 then 0 else s) ≡ s → 0 < d
 zero_or d s some e = elim (cases_eq d 0) [ inl z ↦ absurd (let f = rw (eq-eqb d 0 z) at e in omega (arith, some, f)) | inr n ↦ omega (arith, n) ]
 
--- the owner word is the seat's number just where it has a depth
+-- the owner word is the seat's number exactly if it has a depth
 pub owner_told : (c : Core) (g : Ghost) (s : ℕ) → IsSeat c.seats s → Fits c g → (c.owner ≡ s → 0 < (seat c.seats s).depth) × (0 < (seat c.seats s).depth → c.owner ≡ s)
 owner_told c g s is fits =
     let x = seat c.seats s in
@@ -148,7 +148,7 @@ module _ (c : Core) (g : Ghost) (s : ℕ) (p : SeatState) (is : IsSeat c.seats s
   pub here : seat d.seats s ≡ p
   here = seat-with_same c.seats s p is
 
-  -- it carries the value where it did
+  -- it carries the value exactly if it did
   pub carried_same : carries_value (seat c.seats s) ≡ carries_value p
   carried_same = carried_as_held c g s fits ∙ sym (carried_as_held d g s settled) ∙ ap carries_value here
 
@@ -173,7 +173,7 @@ module _ (c : Core) (g : Ghost) (s : ℕ) (p : SeatState) (is : IsSeat c.seats s
   collects_at (TakeLinkLoad Carrier.Sender next) at = walk_room d g s settled is_there (rw at at (settled.each s).stands) (rw at at (settled.each s).knows).0
   collects_at _ at = tt
 
-  -- where a releaser or a sender collects, its own seat has no record
+  -- if a releaser or a sender collects, its own seat has no record
   pub collects : CollectsWithin (length c.popped) (length c.seats) p.point
   collects = subst (λ (n : ℕ). CollectsWithin (length c.popped) n p.point) (length-with_entry c.seats s p) (collects_at p.point (ap (λ (x : SeatState). x.point) here))
 

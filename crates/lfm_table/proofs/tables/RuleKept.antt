@@ -142,7 +142,7 @@ module _ {T : Type 0} (follows : ℕ → T → T → Type 0) (suits : T → ℕ 
     pub others_on : (j : ℕ) (z : View T) → get_elem? vs j ≡ some z → z.role ≡ Retired → (z.standing.point ≡ Rest) × (z.standing.depth ≡ 0)
     others_on j z e n = ⊎_elim (λ (t : (j ≡ id) × (w ≡ z)). absurd (not_both z.role (ap (λ (u : View T). u.role) (sym t.1) ∙ same ∙ user) n)) (λ (t : (j ≢ id) × (get_elem? s.views j ≡ some z)). h.others j z t.1 n) (at_set s.views id j w z e)
 
-    -- each view is of a table of so many seats
+    -- each view is of a table with this state's number of seats
     limits_on : (j : ℕ) (z : View T) → get_elem? vs j ≡ some z → z.limits.seats ≡ length h.core.seats
     limits_on j z e = ⊎_elim
         (λ (t : (j ≡ id) × (w ≡ z)). ap (λ (u : View T). u.limits.seats) (sym t.1) ∙ (ap (λ (l : Limits). l.seats) root.limits_are ∙ ap (λ (l : Limits). l.seats) (h.each id v at).limits_are))
@@ -162,13 +162,13 @@ module _ {T : Type 0} (follows : ℕ → T → T → Type 0) (suits : T → ℕ 
         (λ (t : (j ≡ id) × (w ≡ z)). absurd (ok t.0))
         (λ (t : (j ≢ id) × (get_elem? s.views j ≡ some z)). old j z l t.1 ok is) (at_set s.views id j w z e)
 
-    -- what leads to a value, where the seat's last value is as before
+    -- what leads to a value, if the seat's last value is as before
     pub leads_on : (which : ℕ → Type 0) (y : T) → w.last ≡ v.last → LeadsToValue follows which s.views y → LeadsToValue follows which vs y
     leads_on which y same_last old j z l e ok is = ⊎_elim
         (λ (t : (j ≡ id) × (w ≡ z)). subst (λ (n : ℕ). Reached follows n (j + 1) l y) (limited z t.1) (old j v l (subst (λ (i : ℕ). get_elem? s.views i ≡ some v) (sym t.0) at) ok (sym same_last ∙ ap (λ (u : View T). u.last) t.1 ∙ is)))
         (λ (t : (j ≢ id) × (get_elem? s.views j ≡ some z)). old j z l t.1 ok is) (at_set s.views id j w z e)
 
-    -- the same where this seat's own last value leads there
+    -- the same if this seat's own last value leads there
     pub leads_all : (y : T) → ((l : T) → w.last ≡ Some l → Reached follows w.limits.seats (id + 1) l y) → LeadsToValue follows (λ j. j ≢ id) s.views y → LeadsToValue follows (λ _. ⊤) vs y
     leads_all y mine old j z l e ok is = ⊎_elim
         (λ (t : (j ≡ id) × (w ≡ z)). subst (λ (u : ℕ × View T). Reached follows u.1.limits.seats (u.0 + 1) l y) (λ i. (sym t.0 i, t.1 i)) (mine l (ap (λ (u : View T). u.last) t.1 ∙ is)))
@@ -183,7 +183,7 @@ module _ {T : Type 0} (follows : ℕ → T → T → Type 0) (suits : T → ℕ 
         (λ (t : (j ≡ id) × (w ≡ z)). ap (λ (u : View T). u.last_found) (sym t.1) ∙ (same_found ∙ all id v at))
         (λ (t : (j ≢ id) × (get_elem? s.views j ≡ some z)). all j z t.1) (at_set s.views id j w z e)
 
-    -- that some seat left a value last, where what is noted of this seat's last hold is as before
+    -- that some seat left a value last, if what is noted of this seat's last hold is as before
     pub left_on : (n : ℕ) (y : T) → w.last ≡ v.last → w.last_found ≡ v.last_found → w.ended ≡ v.ended → LeftIn s.views n y → LeftIn vs n y
     left_on n y same_last same_found same_ended old = dite (ℕ_discrete old.0 id)
         (λ q. let one : v ≡ old.1 = some-injective v old.1 (sym at ∙ subst (λ (i : ℕ). get_elem? s.views i ≡ some old.1) q old.2) in (
@@ -293,7 +293,7 @@ module _ {T : Type 0} (follows : ℕ → T → T → Type 0) (suits : T → ℕ 
       carried : carries_value me.0.standing ≡ carries_value p
       carried = ap carries_value (sym here) ∙ core.carried_same c g num p is h.fits settles
 
-      -- where the value is out with this seat
+      -- if the value is out with this seat
       was : carries_value p ≡ true → WithSeat follows suits c g h.holds_ended s.views id me.0
       was carries = h.outside id me.0 at (carried ∙ carries)
 
@@ -392,7 +392,7 @@ module _ {T : Type 0} (follows : ℕ → T → T → Type 0) (suits : T → ℕ 
         hands = hands;
       }
 
-      -- the rule holds, of the core that the core's step makes, and the run has gone on by just this
+      -- the rule holds, of the core that the core's step makes, and the run has gone on by exactly this
       abbrev HeldAfter : State S (View T) → Type 0
       HeldAfter t = (after : Ruled t) × (after.core ≡ (made (put c num p) num).core) × (after.opened ≡ h.opened) × (after.actions ≡ h.actions ++ actions_now)
 
@@ -439,7 +439,7 @@ module _ {T : Type 0} (follows : ℕ → T → T → Type 0) (suits : T → ℕ 
             (numbered_same s.views id me.0 (next_view found) at (length_at s.views id me.0 at) refl h.holds_ended (left_same p.point a me.0.last other) (left_same p.point (me.0.holds_ended + 1) me.0.ended other) h.numbered)
       ]
 
-      -- The value leaves its home
+      -- The value leaves its slot
 
       gains : carries_value p ≡ false → carries_value st.seat ≡ true → MovedBy false true → Done
       gains before after did =
@@ -502,7 +502,7 @@ module _ {T : Type 0} (follows : ℕ → T → T → Type 0) (suits : T → ℕ 
                 )),
           )
 
-      -- it goes home
+      -- it goes into its slot
 
       give : carries_value p ≡ true → carries_value st.seat ≡ false → MovedBy true false → Done
       give before after did =
@@ -561,7 +561,7 @@ module _ {T : Type 0} (follows : ℕ → T → T → Type 0) (suits : T → ℕ 
             tells me.0.found (rest me.1) (subst (λ (t : Bool × Bool). Hands follows suits t.0 t.1 p.point a c.popped me (w, rest me.1)) (λ q. (sym before q, sym after q)) (ap rest ld.1)),
           )
 
-      -- it stays at home, or with another seat
+      -- it stays in its slot, or with another seat
 
       leaves_be : carries_value p ≡ false → carries_value st.seat ≡ false → MovedBy false false → Done
       leaves_be before after did =
@@ -743,6 +743,8 @@ module _ {T : Type 0} (follows : ℕ → T → T → Type 0) (suits : T → ℕ 
     pub led_on : (s : State S (View T)) (h : Ruled s) (at : get_elem? s.views id ≡ some me.0) → Done s h at
     led_on s h at = done s h at
 
-    -- a step of any kind
+    -- A step of any kind keeps the rule, as the table asks of an access. Four cases tell whether the seat carries the value before the
+    -- step and after it: the value stays away (leaves_be), comes (gains), goes (give) or stays (keeps_it). In each the core's step leads
+    -- to a steady state (ts). Left to show is that the value is where that state says, and what its holder knows of it.
     pub allowed : Allows Ruled slots id me i f (λ n m'. Advanced follows suits p a me (k n) m')
     allowed s h sized at small = let d = done s h at in (d.0, d.1, d.2, d.3.0, d.4)

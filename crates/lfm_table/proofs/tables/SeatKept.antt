@@ -419,7 +419,7 @@ module _ {T : Type 0} (follows : ℕ → T → T → Type 0) (suits : T → ℕ 
   slot_there n a1 a2 m0 m1 is_a is_m did is_a2 none c =
       slot n m1 (subst (λ (z : S × Mine). Advanced follows suits p (value_in z.0) z.1 n m1) (λ i. (is_a i, is_m i)) did) (ap is_carried (sym (is_a2 ∙ ap (with_record p number n) is_a)) ∙ none) c
 
--- an event, where a call is open
+-- an event, if a call is open
 pub open_event : {T : Type 0} (follows : ℕ → T → T → Type 0) (suits : T → ℕ → Type 0) (k : Option Kind) (p p' : SeatState) (m m' : Me (Option (Moving T)) (View T)) (a a' : Option (Moving T)) (turn : Turn) → k ≢ None
     → Event follows suits p a m.0 turn p' a' m'.0 → StepLeadsTo k follows suits p a m turn p' a' m'
 open_event follows suits None p p' m m' a a' turn some event = absurd (some refl)

@@ -1,4 +1,4 @@
--- What a seat may have become without a step stays so where one more call begins.
+-- What a seat may have become without a step stays so if one more call begins.
 use Rattle.std.proofs.Common.{◌≡◌, ℕ, zero, suc, ◌+◌, ◌-◌, ◌<◌, Bool, true, false, ◌&&◌, List, [], ◌∷◌, nat_eq, refl, sym, ap, subst, ◌∙◌, arith, if◌then◌else◌}
 use Rattle.std.specs.Prelude.{nat_lt}
 use Rattle.lfm_protocol.specs.declared.answers.Call.{Call}

@@ -41,7 +41,7 @@ made_of d t ps q = record { depth = d; takes = t; posts = ps; point = q }
 
 -- Depth 0
 
--- where the seat is at depth 0 after its step, it was so before, and has answered no hold
+-- if the seat is at depth 0 after its step, it was so before, and has answered no hold
 abbrev pub Shallow : ℕ → ℕ → Stepped → Type 0
 Shallow d s st = (st.seat.depth ≡ 0 → d ≡ 0) × (st.seat.depth ≡ 0 → answered_by s st.turn ≡ [])
 
@@ -135,7 +135,7 @@ is_zero d e =
       | inr n ↦ absurd (false≢true (sym (ne_eqb d 0 n) ∙ e))
     ]
 
--- who carries nothing holds nothing
+-- a seat that carries nothing holds nothing
 pub empty_depth : (x : SeatState) → carries_value x ≡ false → x.depth ≡ 0
 empty_depth x e = is_zero x.depth (carries_if (nat_eq x.depth 0) (carries x.point) e)
 
@@ -175,7 +175,7 @@ list_at d t ps s n l (GrantWakeStore carrier oldest) none = absurd (carries_none
 list_at d t ps s n l (TakeLinkLoad carrier next) none = absurd (carries_none (carries_value (made_of d t ps (TakeLinkLoad carrier next))) (carries_at d (TakeLinkLoad carrier next) refl) none)
 list_at d t ps s n l _ none = refl
 
--- who carries nothing leaves the pop list as it is
+-- a seat that carries nothing leaves the pop list as it is
 pub list_stays : (x : SeatState) (s n : ℕ) (l : List Record) → carries_value x ≡ false → popped_by_step x s n l ≡ l
 list_stays x s n l none = list_at x.depth x.takes x.posts s n l x.point none
 
@@ -251,7 +251,7 @@ begun_depth x l (call ∷ calls) e = begun_depth x l calls (begin_depth (begun x
 pub became_depth : (x : SeatState) (l : Limits) (p : SeatState) → Became x l p → p.depth ≡ 0 → x.depth ≡ 0
 became_depth x l p b e = begun_depth x l (calls_to x p) (ap (λ y. y.depth) (sym b.leads) ∙ e)
 
--- What carries goes on carrying, but where it gives
+-- What carries goes on carrying, unless it gives
 
 nonzero_carries : (x : SeatState) → x.depth ≢ 0 → carries_value x ≡ true
 nonzero_carries x some = rw (ne_eqb x.depth 0 some) refl

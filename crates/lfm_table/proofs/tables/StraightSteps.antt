@@ -23,7 +23,7 @@ use Rattle.lfm_table.specs.Straight.{Fit, MadeStep}
 use Rattle.lfm_table.proofs.tables.SeatKept.{made, can_make, slot_there, own_slot}
 use Rattle.lfm_table.proofs.tables.StepFacts.{keeps_value}
 
--- the kinds of step that are made straight on: none of them adds a record to the pop list
+-- the kinds of step on the fast paths: none of them adds a record to the pop list
 abbrev pub is_straight : Kind → Bool
 is_straight Kind.LinkLoad = false
 is_straight _ = true

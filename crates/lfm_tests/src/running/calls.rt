@@ -37,12 +37,12 @@ pub enum By {
     Second,
 }
 
-/// Sees that the step with this place among the steps answers as it must.
+/// Checks that the step with this place among the steps answers as it must.
 fn answers<R: Abort, T: PartialEq + Debug>(rt: &R, at: usize, answer: &T, wanted: &T) {
     assert_eq!(rt; *answer, *wanted, "step {at}");
 }
 
-/// Makes a step with this place among the steps, and sees that it answers as it must.
+/// Makes a step with this place among the steps, and checks that it answers as it must.
 pub fn make<R: Abort>(rt: &R, mutex: &Mutex<u64>, seat: &mut Seat<u64>, at: usize, step: Step)
     requires { OfMutex seat.old mutex.now }
     ensures { OfMutex seat.new mutex.now }

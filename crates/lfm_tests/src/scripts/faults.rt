@@ -3,12 +3,12 @@ use lfm_script::{WorkFault, read_script};
 use std::alloc::{AllocError, Global};
 use std::process::Abort;
 
-/// The fault of a text, where it has one.
+/// The fault of a text, if it has one.
 fn fault_of(alloc: Global, text: &[u8]) -> Option<WorkFault> {
     read_script(alloc, text).err()
 }
 
-/// Sees that each of these texts has this fault, or that none has one.
+/// Checks that each of these texts has this fault, or that none has one.
 fn each_has<R: AllocGlobal + Abort>(rt: &R, texts: &[&[u8]], wanted: Option<WorkFault>) {
     for (index, text) in texts.iter().enumerate() {
         assert_eq!(*rt; fault_of(rt.alloc(), text), wanted, "text {index}");

@@ -1,5 +1,5 @@
-//! The calls that ask for memory. Each test whose name contains `memory` passes also where a request was refused, and says
-//! then that memory was refused. A script lets each single request of these tests fail in turn.
+//! The calls that ask for memory. Each test whose name contains `memory` passes also if a request was refused, and then says so.
+//! A script lets each single request of these tests fail in turn.
 use crate::refused_memory::sees_memory;
 use lfm_script::{Command, Script, ScriptLine, WorkFault, commands_by_worker, read_script};
 use std::alloc::Global;
@@ -10,7 +10,7 @@ fn read(alloc: Global, text: &[u8]) -> Result<Script, WorkFault> {
     read_script(alloc, text)
 }
 
-/// Sees that a script has two workers and one condition, and these lines.
+/// Checks that a script has two workers and one condition, and these lines.
 fn sees_script<R: Abort>(rt: &R, script: &Script, lines: &[ScriptLine]) {
     assert_eq!(*rt; (script.workers, script.conditions), (2, 1));
     assert_eq!(*rt; script.lines.as_slice(), lines);
@@ -45,7 +45,7 @@ fn script_and_memory(rt: HostRuntime) {
     }
 }
 
-/// Sees that worker 1 has one command, worker 2 none, and worker 3 two.
+/// Checks that worker 1 has one command, worker 2 none, and worker 3 two.
 fn sees_commands<R: Abort>(rt: &R, found: (&[Command], &[Command], &[Command])) {
     let (first, second, third) = found;
     assert_eq!(*rt; first, [Command::One(1)].as_slice());

@@ -19,7 +19,7 @@ fn after(number: u64) -> u64 {
         .wrapping_add(1_442_695_040_888_963_407)
 }
 
-/// One of so many, counted from 1, that these bits pick.
+/// The number from 1 to `many` that these bits pick.
 fn one_of(bits: u64, many: u64) -> u64
     requires { 0 < many }
 {
@@ -54,7 +54,7 @@ fn spelled(alloc: Global, line: &ScriptLine) -> Result<String, AllocError> {
     }
 }
 
-/// So many lines by chance, and their text.
+/// This number of lines by chance, and their text.
 fn script_by_chance(
     alloc: Global,
     seed: u64,
@@ -88,7 +88,7 @@ fn read(alloc: Global, text: &str) -> Result<Script, WorkFault> {
     read_script(alloc, text.as_bytes())
 }
 
-/// Sees that a script is the one by chance that has these lines.
+/// Checks that a script is the one by chance that has these lines.
 fn sees_lines<R: Abort>(rt: &R, script: &Script, lines: &[ScriptLine], seed: u64) {
     assert_eq!(*rt; (script.workers, script.conditions), (WORKERS, CONDITIONS));
     assert_eq!(*rt; script.lines.as_slice(), lines, "seed {seed}");
@@ -104,7 +104,7 @@ fn written_scripts_are_read(rt: HostRuntime) -> Result<(), Fail> {
     Ok(())
 }
 
-/// Sees that there are so many workers, and that each has its commands of these lines.
+/// Checks that there is this number of workers, and that each has its commands of these lines.
 fn sees_commands<R: Abort>(
     rt: &R,
     commands: &[Vec<Command>],

@@ -36,7 +36,7 @@ pub struct Left {
     pub second: (u64, u64),
 }
 
-/// A mutex round 0 and two condvars, with a place for each of so many threads.
+/// A mutex round 0 and two condvars, with a place for each of this number of threads.
 pub fn shared_by(alloc: Global, threads: u64) -> Option<(Shared, Vec<Place>)>
     ensures { IfSome result (λ r. All (λ p. OfShared p r.0) r.1.items) }
 {
@@ -64,7 +64,7 @@ pub fn shared_by(alloc: Global, threads: u64) -> Option<(Shared, Vec<Place>)>
 }
 
 impl Shared {
-    /// Ends the mutex and its condvars, where all places are there.
+    /// Ends the mutex and its condvars, if all places are there.
     pub fn close(self, alloc: Global, places: Vec<Place>) -> Option<Left>
         requires { All (λ p. OfShared p self) places.items }
     {
@@ -87,7 +87,7 @@ impl Shared {
     }
 }
 
-// The last of these seats, which are the mutex's.
+/// The last of these seats, which are the mutex's.
 fn last_seat(mutex: &Mutex<u64>, seats: &mut Vec<Seat<u64>>) -> Option<Seat<u64>>
     requires { (j : ℕ) (s : _) → get_elem? seats.old.items j ≡ some s → OfMutex s mutex.now }
     ensures one { IfSome result (λ s. OfMutex s mutex.now) }
@@ -98,7 +98,7 @@ fn last_seat(mutex: &Mutex<u64>, seats: &mut Vec<Seat<u64>>) -> Option<Seat<u64>
     Some(seat)
 }
 
-/// The last of these cond seats, which are the condvar's. None where there is none.
+/// The last of these cond seats, which are the condvar's. None if there is none.
 pub fn last_cond_seat(condvar: &Condvar, seats: &mut Vec<CondSeat>) -> Option<CondSeat>
     requires { (j : ℕ) (s : _) → get_elem? seats.old.items j ≡ some s → OfCondvar s condvar.now }
     ensures one { IfSome result (λ s. OfCondvar s condvar.now) }
@@ -109,7 +109,7 @@ pub fn last_cond_seat(condvar: &Condvar, seats: &mut Vec<CondSeat>) -> Option<Co
     Some(seat)
 }
 
-// So many places, of seats that all are those of the mutex and its condvars.
+/// A place for each of the threads, of seats that all are those of the mutex and its condvars.
 fn placed(shared: &Shared, threads: u64, parts: Parts, mut places: Vec<Place>) -> Option<Vec<Place>>
     requires seats { (j : ℕ) (s : _) → get_elem? parts.seats.items j ≡ some s → OfMutex s shared.now.mutex }
     requires first { (j : ℕ) (s : _) → get_elem? parts.first.items j ≡ some s → OfCondvar s shared.now.first }
@@ -140,7 +140,7 @@ fn placed(shared: &Shared, threads: u64, parts: Parts, mut places: Vec<Place>) -
     Some(places)
 }
 
-// The seats of all places, in these empty lists.
+/// The seats of all places, in these empty lists.
 fn sorted(shared: &Shared, places: Vec<Place>, mut room: Parts) -> Option<Parts>
     requires places { All (λ p. OfShared p shared.now) places.items }
     requires empty { (room.seats.items ≡ []) × (room.first.items ≡ []) × (room.second.items ≡ []) }

@@ -12,7 +12,7 @@ use std::sync::Wait;
 /// The numbers of a condvar that is closed.
 pub type Numbers = (u64, u64);
 
-/// Makes these steps on a mutex round 7, whose seats may take so often, and on two condvars for seat 1 alone, each of which
+/// Makes these steps on a mutex round 7, whose seats may take this often, and on two condvars for seat 1 alone, each of which
 /// has one cond seat that may take once. Returns the numbers of both condvars.
 pub fn on_two_condvars<R: Wait + Abort>(
     rt: &R,

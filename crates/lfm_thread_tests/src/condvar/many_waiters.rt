@@ -13,7 +13,7 @@ use std::test::Fail;
 
 const WAITERS: u64 = 32;
 
-/// Adds 1 to the number, and tells it on the second condvar where all have done so.
+/// Adds 1 to the number, and tells it on the second condvar if all have done so.
 fn come<R: Wait>(rt: &R, shared: &Shared, place: &mut Place)
     requires { OfShared place.old shared.now }
     ensures { OfShared place.new shared.now }

@@ -34,7 +34,7 @@ fn two_cond_seats(condvar: &Condvar, mut seats: Vec<CondSeat>) -> Option<(CondSe
     Some((first, second))
 }
 
-/// A mutex round this value, and its two seats, each of which may take so often.
+/// A mutex round this value, and its two seats, each of which may take this often.
 pub fn mutex_of_two<T: Kept>(
     alloc: Global,
     budget: u64,
@@ -51,7 +51,7 @@ pub fn mutex_of_two<T: Kept>(
     Some((mutex, first, second))
 }
 
-/// A condvar, and its two cond seats, each of which may take so often.
+/// A condvar, and its two cond seats, each of which may take this often.
 pub fn condvar_of_two(alloc: Global, budget: u64) -> Option<(Condvar, CondSeat, CondSeat)>
     ensures seats { IfSome result (λ r. OfCondvar r.1 r.0 × OfCondvar r.2 r.0) }
     ensures two { IfSome result (λ r. (cond_limits r.0).seats ≡ 2) }
@@ -75,7 +75,7 @@ pub fn condvar_of_one(alloc: Global) -> Option<(Condvar, CondSeat)>
     Some((condvar, seat))
 }
 
-/// A mutex round 7, whose seats may take so often, and two condvars for seat 1 alone. All seats are in hand.
+/// A mutex round 7, whose seats may take this often, and two condvars for seat 1 alone. All seats are in hand.
 pub fn in_hand_of_two_condvars(
     alloc: Global,
     budget: u64,
@@ -94,7 +94,7 @@ pub fn in_hand_of_two_condvars(
     Some((mutex, one_condvar, other_condvar, hand))
 }
 
-/// A mutex round this number, whose seats may take so often, and a condvar for both of them. All seats are in hand.
+/// A mutex round this number, whose seats may take this often, and a condvar for both of them. All seats are in hand.
 pub fn in_hand_of_one_condvar(
     alloc: Global,
     budget: u64,

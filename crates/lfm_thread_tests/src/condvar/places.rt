@@ -27,7 +27,7 @@ pub struct Seen {
     pub waits: u64,
     /// How many turns it took that were its own.
     pub turns: u64,
-    /// The ticket of its latest wait. 0 where it didn't wait.
+    /// The ticket of its latest wait. 0 if it didn't wait.
     pub ticket: u64,
     /// The number that it left.
     pub number: u64,

@@ -1,4 +1,4 @@
-//! Calls of a condvar that tell why they were refused, where the readers of the seats answer as before. No test stands here.
+//! Calls of a condvar that tell why they were refused, if the readers of the seats answer as before. No test stands here.
 ghost use Rattle.std.specs.Prelude.{◌≤◌};
 ghost use Rattle.lfm_mutex.specs.Belongs.{OfMutex, limits_of};
 ghost use Rattle.lfm_condvar.specs.Belongs.{OfCondvar, cond_limits};
@@ -40,7 +40,7 @@ impl Readings {
     }
 }
 
-/// Why `wait` is refused, where it is and the readers answer as before.
+/// Why `wait` is refused, if it is and the readers answer as before.
 pub fn wait<R: Wait>(
     rt: &R,
     condvar: &Condvar,
@@ -62,7 +62,7 @@ pub fn wait<R: Wait>(
     waited.err()
 }
 
-/// Why `wake_one` and `wake_all` are refused, where both are for the same cause and the readers answer as before.
+/// Why `wake_one` and `wake_all` are refused, if both are for the same cause and the readers answer as before.
 pub fn wake<R: Wait>(
     rt: &R,
     condvar: &Condvar,

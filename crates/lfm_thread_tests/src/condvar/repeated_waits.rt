@@ -1,4 +1,4 @@
-//! Waits for as long as a condition on the number holds: none where it is false at once, one for each wake that finds it true,
+//! Waits for as long as a condition on the number holds: none if it is false at once, one for each wake that finds it true,
 //! and refusals.
 ghost use Rattle.lfm_thread_tests.specs.Places.{OfShared};
 

@@ -50,7 +50,7 @@ impl Shared {
         self.mutex.unlock(&mut place.seat).is_ok()
     }
 
-    // `wait` on one of the condvars.
+    /// `wait` on one of the condvars.
     fn wait_on<R: Wait>(&self, rt: &R, place: &mut Place, side: Side) -> Result<(How, u64), Refusal>
         requires { OfShared place.old self.now }
         ensures { OfShared place.new self.now }
@@ -143,7 +143,7 @@ impl Shared {
 }
 
 impl Place {
-    /// The number in hand. 0 where the seat doesn't hold.
+    /// The number in hand, or 0 if the seat doesn't hold.
     pub fn number(&self) -> u64 {
         self.seat.value().copied().unwrap_or(0)
     }

@@ -41,7 +41,7 @@ pub enum Step {
     CondTakes(u64),
 }
 
-/// Which of the two seats makes a step. It does so on the one condvar where the other is not named.
+/// Which of the two seats makes a step. It does so on the one condvar if the other is not named.
 #[derive(Clone, Copy)]
 pub enum By {
     First,
@@ -50,7 +50,7 @@ pub enum By {
     SecondOnOther,
 }
 
-/// Makes a step with this place among the steps, and sees that it answers as it must.
+/// Makes a step with this place among the steps, and checks that it answers as it must.
 fn make<R: Wait + Abort>(
     rt: &R,
     condvar: &Condvar,

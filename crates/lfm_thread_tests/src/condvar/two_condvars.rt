@@ -1,5 +1,5 @@
-//! Two condvars on one mutex: four threads take turns, two for even numbers and two for odd ones. Who waits for its turn
-//! waits on the condvar of its side, and each turn wakes one of the other side.
+//! Two condvars on one mutex: four threads take turns, two for even numbers and two for odd ones. A thread that waits for its
+//! turn waits on the condvar of its side, and each turn wakes one of the other side.
 ghost use Rattle.lfm_thread_tests.specs.Places.{OfShared};
 
 use crate::adding::add_one;
@@ -81,7 +81,7 @@ fn all_waits(places: &[Place]) -> u64 {
     waits
 }
 
-/// How many turns were taken by whom they were for.
+/// How many turns were taken by the threads that they were for.
 fn all_turns(places: &[Place]) -> u64 {
     let mut turns = 0u64;
     for place in places {

@@ -38,7 +38,7 @@ struct Woke {
     spent: bool,
 }
 
-/// Reads the number under the mutex. 0 where the seat came not to hold.
+/// Reads the number under the mutex; 0 if the seat did not come to hold.
 fn read<R: Wait>(rt: &R, mutex: &Mutex<u64>, seat: &mut Seat<u64>) -> u64
     requires { OfMutex seat.old mutex.now }
     ensures { OfMutex seat.new mutex.now }

@@ -35,7 +35,7 @@ pub fn apply_until<R: Wait>(
     monitor.apply_until(rt, pass, condition, op, |total| *total >= least)
 }
 
-/// Enters so many times, and adds 1 in each hold where it is to.
+/// Enters this number of times, and adds 1 in each hold if it is to.
 pub fn deepen<R: Wait>(
     rt: &R,
     monitor: &Monitor<Total>,

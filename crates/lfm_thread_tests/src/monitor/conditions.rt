@@ -1,4 +1,4 @@
-//! Waits and wakes that a monitor refuses, each for the first of its causes, and what its calls answer where nobody waits.
+//! Waits and wakes that a monitor refuses, each for the first of its causes, and what its calls answer if nobody waits.
 use crate::monitor::driving::{one_makes, two_make};
 use crate::monitor::steps::{By, Step};
 use lfm_model::{Asked, How, Locked, Refusal, SeatNo, TotalOp, Unlocked};

@@ -8,8 +8,8 @@ use std::process::Abort;
 use std::sync::Wait;
 use std::test::Fail;
 
-/// The one pass of a new monitor, which may write so many entries, makes these steps. Returns the total that the monitor is
-/// closed with. None where it can't be closed.
+/// The one pass of a new monitor, which may write this number of entries, makes these steps. Returns the total that the monitor
+/// is closed with. None if it can't be closed.
 pub fn one_makes<R: Wait + Abort>(
     rt: &R,
     alloc: Global,
@@ -22,7 +22,7 @@ pub fn one_makes<R: Wait + Abort>(
     Ok(closed_by_one(monitor, pass, Vec::new(alloc)))
 }
 
-/// The two passes of a new monitor, each of which may write so many entries, make these steps.
+/// The two passes of a new monitor, each of which may write this number of entries, make these steps.
 pub fn two_make<R: Wait + Abort>(
     rt: &R,
     alloc: Global,

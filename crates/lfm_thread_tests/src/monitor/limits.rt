@@ -6,7 +6,7 @@ use lfm_test_tools::counted::Counted;
 use std::alloc::Global;
 use std::sync::atomic::{AtomicU64, Ordering};
 
-/// Why no monitor of these sizes is made. None where one is.
+/// Why no monitor of these sizes is made. None if one is.
 fn refused(alloc: Global, passes: u64, entries: u64, conditions: u64) -> Option<NewFault> {
     Monitor::new(alloc, passes, entries, conditions, Total(0)).err()
 }

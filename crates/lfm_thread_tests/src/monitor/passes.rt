@@ -25,7 +25,7 @@ fn opened(
     Some((monitor, passes))
 }
 
-/// A monitor round 0 and its one pass, which may write so many entries.
+/// A monitor round 0 and its one pass, which may write this number of entries.
 pub fn monitor_of_one(
     alloc: Global,
     entries: u64,
@@ -38,7 +38,7 @@ pub fn monitor_of_one(
     Some((monitor, pass))
 }
 
-/// A monitor round 0 and its two passes, each of which may write so many entries.
+/// A monitor round 0 and its two passes, each of which may write this number of entries.
 pub fn monitor_of_two(
     alloc: Global,
     entries: u64,

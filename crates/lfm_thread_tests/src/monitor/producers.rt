@@ -1,4 +1,4 @@
-//! Two threads put 4,000 numbers into a slot, and two take them out. A monitor with two conditions guards the slot: who
+//! Two threads put 4,000 numbers into a slot, and two take them out. A monitor with two conditions guards the slot: a thread that
 //! finds it full, or empty, waits on one of them. Each thread ends when it has moved its share.
 use crate::monitor::slot::{Slot, SlotOp, SlotReply};
 use lfm_model::{Refusal, lawful, replay};
@@ -13,9 +13,9 @@ const NUMBERS: u64 = 4_000;
 /// How many pairs of numbers each of the four threads puts in, or takes out.
 const PAIRS: u64 = 1_000;
 
-/// How many entries of the journal a thread may write. A pair costs it two, a take and an op, and so does each wait. A wait
-/// ends by a wake, and each condition has one wake for each pair, 2,000 in all. So a thread writes at most 6,000 entries, even
-/// where it gets all the wakes of its condition. The journal has room for 1,048,576.
+/// How many entries of the journal a thread may write. A pair costs it two, a take and an op, and so does each wait. A wait ends
+/// by a wake, and each condition has one wake for each pair, 2,000 in all. So a thread writes at most 6,000 entries, even if it
+/// gets all the wakes of its condition. The journal has room for 1,048,576.
 const ENTRIES: u64 = 6_000;
 
 /// The condition of those that found the slot empty, and of those that found it full.
@@ -33,8 +33,8 @@ fn op_of(pass: u64, turn: u64) -> SlotOp {
     SlotOp::Put((first, first.wrapping_add(2)))
 }
 
-/// Moves one pair in each of its rounds: makes the pass's op until it isn't in vain, with a wait on a condition before each
-/// further try, and then wakes one who waits on the other condition.
+/// Moves one pair in each of its rounds: makes the pass's op until it succeeds, with a wait on a condition before each further
+/// try, and then wakes one that waits on the other condition.
 struct MovesPairs;
 
 impl<R: Wait> CriticalSection<Slot, R> for MovesPairs {
@@ -58,7 +58,7 @@ impl<R: Wait> CriticalSection<Slot, R> for MovesPairs {
     }
 }
 
-/// The odd and the even number that come next after those that were taken out. None where some number came out of turn: the
+/// The odd and the even number that come next after those that were taken out. None if some number came out of turn: the
 /// odd ones are 1, 3, 5 and on, and the even ones 2, 4, 6 and on, each of them once.
 fn next_numbers(replies: &[SlotReply]) -> Option<(u64, u64)> {
     let mut odd = 1u64;

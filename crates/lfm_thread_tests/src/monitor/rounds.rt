@@ -47,8 +47,8 @@ fn ended(alloc: Global, passes: &[Pass<Total>]) -> Result<Vec<Ended>, AllocError
     Ok(ended)
 }
 
-/// Three passes that may write so many entries make so many rounds, and break off in the last. Returns what is known of each
-/// pass, and the total that the monitor is closed with.
+/// Three passes that may write this number of entries make this number of rounds, and break off in the last. Returns what is
+/// known of each pass, and the total that the monitor is closed with.
 fn rounded<R: Threads + Wait + Sync>(
     rt: &R,
     alloc: Global,
@@ -65,7 +65,7 @@ fn rounded<R: Threads + Wait + Sync>(
     Ok((ended, total))
 }
 
-/// Sees that all three passes are back in their order, and none holds, with so many entries of each, and the total.
+/// Checks that all three passes are back in their order, and none holds, with this number of entries of each, and the total.
 fn sees_ended<R: Abort>(rt: &R, ended: &[Ended], mine: u64, total: Total, wanted: u64) {
     let passes = [(1, 0, mine), (2, 0, mine), (3, 0, mine)];
     assert_eq!(*rt; *ended, *passes.as_slice());

@@ -55,7 +55,7 @@ impl<R: Wait> CriticalSection<Total, R> for AddsToSome {
     }
 }
 
-/// Enters so many times more, and gives none of these holds up. In each it adds 1, where it is to. Answers how often the pass
+/// Enters this number of times more, and gives none of these holds up. In each it adds 1, if it is to. Answers how often the pass
 /// holds then.
 #[derive(Clone, Copy)]
 struct Deepens {
@@ -97,7 +97,7 @@ impl<R: Wait> CriticalSection<Total, R> for TellsRound {
     }
 }
 
-/// Enters so many times more, and executes a section inside of this one, in round 9.
+/// Enters this number of times more, and executes a section inside of this one, in round 9.
 #[derive(Clone, Copy)]
 struct Nests {
     holds: u64,
@@ -119,8 +119,8 @@ impl<R: Wait> CriticalSection<Total, R> for Nests {
     }
 }
 
-/// A pass of a new monitor that may write so many entries makes the first steps, executes the section in round 8, which must
-/// answer so, and makes the last steps. Then nobody holds.
+/// A pass of a new monitor that may write this number of entries makes the first steps, executes the section in round 8, which
+/// must answer so, and makes the last steps. Then nobody holds.
 fn executes<R: Wait + Abort, S: CriticalSection<Total, R, Answer = u64>>(
     rt: &R,
     alloc: Global,

@@ -38,7 +38,7 @@ pub enum By {
     Second,
 }
 
-/// Makes a step with this place among the steps, and sees that it answers as it must.
+/// Makes a step with this place among the steps, and checks that it answers as it must.
 fn make<R: Wait + Abort>(
     rt: &R,
     monitor: &Monitor<Total>,

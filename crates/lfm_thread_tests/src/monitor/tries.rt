@@ -42,7 +42,7 @@ fn try_of_a_deeper_hold_that_goes_well_at_once(rt: HostRuntime) -> Result<(), Fa
     Ok(())
 }
 
-/// A try of an op that is looked for in vain, on the condition with this number, and the refusal of its wait.
+/// A try of an op whose reply is not the one looked for, on the condition with this number, and the refusal of its wait.
 fn in_vain(condition: u64, refusal: Refusal) -> Step {
     Step::ApplyUntil(condition, TotalOp::Add(1), 1_000, Err(refusal))
 }

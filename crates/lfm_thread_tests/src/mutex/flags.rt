@@ -9,7 +9,7 @@ use lfm_mutex::{Mutex, Seat};
 use std::process::Abort;
 use std::test::Fail;
 
-/// Lowers the flag in hand, and returns how it was found. None where the seat doesn't hold.
+/// Lowers the flag in hand, and returns how it was found. None if the seat doesn't hold.
 fn lower(seat: &mut Seat<bool>) -> Option<bool>
     ensures { Beside seat.old seat.new }
 {

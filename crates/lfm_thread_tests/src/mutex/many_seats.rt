@@ -66,7 +66,7 @@ fn hand_over(mutex: &Mutex<u64>, seats: &mut Vec<Seat<u64>>) -> Answers
     (held, asleep, granted, received, free)
 }
 
-/// Sees that each call answered as it must.
+/// Checks that each call answered as it must.
 fn sees_handed_over<R: Abort>(rt: &R, answers: Answers) {
     let (held, asleep, granted, received, free) = answers;
     sees(

@@ -36,8 +36,8 @@ fn are_back(seats: &[Seat<u64>]) -> bool {
     are_back
 }
 
-/// Four seats with this budget make so many rounds, and are handed back in their order. Returns the value that the mutex, made
-/// round 0, is closed with.
+/// Four seats with this budget make this number of rounds, and are handed back in their order. Returns the value that the mutex,
+/// made round 0, is closed with.
 fn rounded<R: Threads + Wait + Sync, M: Round<R>>(
     rt: &R,
     alloc: Global,
@@ -147,7 +147,7 @@ fn sections_that_return_early(rt: HostRuntime) -> Result<(), Fail> {
     Ok(())
 }
 
-/// Adds 1, where it comes to hold at once. Counts the sections that were executed, and those that found the mutex held.
+/// Adds 1, if it comes to hold at once. Counts the sections that were executed, and those that found the mutex held.
 #[derive(Clone, Copy)]
 struct TriesToAdd<'a> {
     executed: &'a AtomicU64,

@@ -14,7 +14,7 @@ use std::time::{Clock, CpuClock, Duration};
 /// How long seat 1 holds, in milliseconds.
 const HELD: u64 = 200;
 
-/// More processor time, in milliseconds, than some thousand looks at a word and a sleep take, also where they are built for
+/// More processor time, in milliseconds, than some thousand looks at a word and a sleep take, even if they are built for
 /// debugging.
 const MOST_BUSY: u64 = 50;
 
@@ -25,7 +25,7 @@ struct Report {
     held: bool,
     /// The time until then.
     took: Duration,
-    /// The processor time that the thread used until then. None where it can't be told.
+    /// The processor time that the thread used until then. None if it can't be told.
     busy: Option<Duration>,
 }
 
@@ -95,7 +95,7 @@ fn reports<R: Threads + Wait + Clock + CpuClock + Sync>(
     thread::map_vec(rt, seats, &|seat| take_part(rt, mutex, seat, &both))
 }
 
-/// Sees that a thread came to hold, and took hardly any processor time until then.
+/// Checks that a thread came to hold, and took hardly any processor time until then.
 fn sees_slept<R: Abort>(rt: &R, report: Report) {
     assert!(rt; report.held);
     let Some(busy) = report.busy else {

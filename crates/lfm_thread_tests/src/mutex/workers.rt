@@ -53,7 +53,7 @@ impl Holder<u64> for Worker {
     }
 }
 
-/// Tries so often. Each hold adds 1 to the value.
+/// Tries this often. Each hold adds 1 to the value.
 fn try_times(mutex: &Mutex<u64>, mut seat: Seat<u64>, times: u64) -> Worker
     requires belongs { OfMutex seat mutex.now }
     ensures { OfMutex result.seat mutex.now }
@@ -145,7 +145,8 @@ fn all_holds(workers: &[Worker]) -> u64 {
     holds
 }
 
-/// So many threads try so often, which is their budget. Returns their holds, and the value that the mutex is closed with.
+/// This number of threads try this often, which is their budget. Returns their holds, and the value that the mutex is closed
+/// with.
 fn tried<R: Threads + Sync>(
     rt: &R,
     alloc: Global,
@@ -199,7 +200,7 @@ fn try_by_two_threads(rt: HostRuntime) -> Result<(), Fail> {
     Ok(())
 }
 
-/// Sees that each thread of a run made all its additions, and was refused as Spent then.
+/// Checks that each thread of a run made all its additions, and was refused as Spent then.
 fn sees_locked<R: Threads + Wait + Sync + Abort>(
     rt: &R,
     alloc: Global,

@@ -22,7 +22,7 @@ impl Gate for ClosedGate {
     }
 }
 
-/// Holds worker 2 before its first command, and stops it there where worker 1 comes to its second meanwhile.
+/// Holds worker 2 before its first command, and stops it there if worker 1 comes to its second meanwhile.
 #[derive(Drop)]
 struct HoldingGate {
     passed_by: AtomicBool,

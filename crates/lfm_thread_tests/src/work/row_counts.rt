@@ -16,7 +16,7 @@ fn did(seat: SeatNo, op: TotalOp) -> Entry<TotalOp>
     }
 }
 
-/// The row of each of three workers, of whom the second was refused.
+/// The row of each of three workers, of which the second was refused.
 fn wanted_rows() -> [Row; 3] {
     [
         Row {

@@ -152,7 +152,7 @@ fn a_spent_worker(rt: HostRuntime) -> Result<(), Fail> {
     Ok(())
 }
 
-/// What is written where the last of 256 workers alone adds.
+/// What is written if the last of 256 workers alone adds.
 fn one_added(alloc: Global) -> Result<String, AllocError> {
     let mut text = String::new(alloc);
     push_idle(alloc, &mut text, 1, 255)?;

@@ -18,9 +18,9 @@ fn go_lets_go(rt: HostRuntime) {
             true
         },
     );
-    // Who waited was let go, and not before.
+    // The thread that waited was let go, and not before.
     assert!(rt; waited);
-    // Who comes later does not wait.
+    // A thread that comes later does not wait.
     assert!(rt; line.wait(&rt));
 }
 

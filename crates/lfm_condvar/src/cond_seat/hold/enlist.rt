@@ -24,7 +24,7 @@ pub(crate) struct Enlisted {
     pub(crate) ahead: usize,
 }
 
-// A seat that was put into the list with this ticket and this many ahead of it, or why it was refused.
+/// A seat that was put into the list with this ticket and this number of seats ahead of it, or why it was refused.
 fn with_ahead(ticket: Result<u64, Refusal>, ahead: usize) -> Result<Enlisted, Refusal>
     ensures ticket { ticket_of result ≡ ticket }
     ensures ahead { IfOk result (λ e. e.ahead ≡ ahead) }
@@ -35,7 +35,7 @@ fn with_ahead(ticket: Result<u64, Refusal>, ahead: usize) -> Result<Enlisted, Re
     }
 }
 
-// Lends the list in hand to `enlist_without_waking`, and counts those that wait there.
+/// Lends the list in hand to `enlist_without_waking`, and counts those that wait there.
 fn enlist_in_hand<T: Kept>(
     cond: &mut Seat<Waiters>,
     mutex: &Mutex<T>,

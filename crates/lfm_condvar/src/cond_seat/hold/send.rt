@@ -18,7 +18,7 @@ use lfm_model::{Refusal, SeatNo};
 use lfm_mutex::{Kept, Mutex, Seat, WakeUp};
 use std::sync::Wait;
 
-// Holds back the later of two wake-ups, if there are two, and spends the earlier one at once: no memory is taken to keep both.
+/// Holds back the later of two wake-ups, if there are two, and spends the earlier one at once: no memory is taken to keep both.
 fn hold_back<T: Kept>(
     mutex: &Mutex<T>,
     seat: &mut Seat<T>,
@@ -40,9 +40,9 @@ fn hold_back<T: Kept>(
     }
 }
 
-// Sends all that wait, oldest first, up to one that doesn't wait to be sent, and counts them. The wake-up of the last seat that was
-// granted the user mutex is handed out. Mostly it is the only one: another waiter is granted the mutex only if the mutex
-// has been given up since, while the list is still held.
+/// Sends all that wait, oldest first, up to one that doesn't wait to be sent, and counts them. The wake-up of the last seat that was
+/// granted the user mutex is handed out. Mostly it is the only one: another waiter is granted the mutex only if the mutex
+/// has been given up since, while the list is still held.
 fn send_all<T: Kept>(
     waiters: &mut Waiters,
     mutex: &Mutex<T>,
@@ -73,7 +73,7 @@ fn send_all<T: Kept>(
     }
 }
 
-// Lends the list in hand to `send_oldest_without_waking`.
+/// Lends the list in hand to `send_oldest_without_waking`.
 fn send_oldest_in_hand<T: Kept>(
     cond: &mut Seat<Waiters>,
     mutex: &Mutex<T>,
@@ -94,7 +94,7 @@ fn send_oldest_in_hand<T: Kept>(
     send_oldest_without_waking(waiters, mutex, seat)
 }
 
-// Lends the list in hand to `send_all`.
+/// Lends the list in hand to `send_all`.
 fn send_all_in_hand<T: Kept>(
     cond: &mut Seat<Waiters>,
     mutex: &Mutex<T>,

@@ -10,7 +10,7 @@ use Rattle.lfm_monitor.proofs.monitor.Monitor.apply_until.Goals as goal
 pub tries-init : goal.tries-init
 tries-init g c = record { belongs = c.requires.belongs; woken = woken_none c.args.pass.now.seat c.args.pass.now.seat refl refl; depth = refl; number = refl; tries = (zero, refl) }
 
--- one more try was in vain
+-- one more try failed
 pub tries-preserved : goal.tries-preserved
 tries-preserved g c = let i = c.tries.invariant in let a = c.in_ok-reply.ensures in let w = c.in_ok-_waited.ensures in let l = c.tries.pass in let p = c.apply.new.pass in let q = c.wait.new.pass in record {
   belongs = w.belongs;

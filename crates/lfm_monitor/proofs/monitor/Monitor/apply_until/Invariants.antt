@@ -4,7 +4,7 @@ use Rattle.lfm_monitor.specs.Belongs.{OfMonitor, PassWokenAsGranted, pass_sight}
 use Rattle.lfm_monitor.specs.Tries.{AllInVain}
 use Rattle.lfm_monitor.proofs.monitor.Monitor.apply_until.Given as goal
 
--- each try so far was in vain
+-- each try so far failed
 abbrev pub invariant-tries : goal.invariant-tries
 invariant-tries g l = record {
   belongs : OfMonitor l.pass l.self;

@@ -19,7 +19,7 @@ taken_more a b c before given rest after n within p q is =
     let same : after ≡ before ++ take n given = is ∙ ap (λ l. before ++ l) (take-append-le n given rest within) in
     subst (Consumes a c) (sym same) (Consumes-then a b c before (take n given) p q)
 
--- the same where a last read failed
+-- the same if a last read failed
 pub taken_kept : (a b c : Option (List ℕ)) (xs : List ℕ) → Consumes a b xs → Keeps b c → Consumes a c xs
 taken_kept None b c xs p q = tt
 taken_kept (Some u) None c xs p q = absurd p

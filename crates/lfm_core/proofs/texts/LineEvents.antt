@@ -89,7 +89,7 @@ open_answers s Open on = refl
 open_answers s (Ended answer) on = absurd (cc)
 open_answers s (Refused why) on = refl
 
--- a begin answers no Held
+-- the start of a call answers no Held
 abbrev IsSilent : ℕ → Stepped → Type 0
 IsSilent s m = answered_by s m.turn ≡ []
 

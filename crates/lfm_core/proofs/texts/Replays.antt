@@ -55,7 +55,7 @@ same_plan xs (Some ys) taken takes =
       | inr fits ↦ ap plan_in (takes.taken ∙ ap (λ l. taken ++ l) (takes.whole fits) ∙ append-nil taken)
     ]
 
--- what was answered of an input that was taken, where no read failed
+-- what was answered of an input that was taken, if no read failed
 pub some : (r : Result Bool ReplayFault) (input : List ℕ) (before after old new : Option (List ℕ)) → r ≢ Err Read
     → Takes before after input → Replays r input old new → SomeReplay r before after old new
 some (Ok b) input before after old new no_read takes p = record { input = input; takes = takes; replays = p }

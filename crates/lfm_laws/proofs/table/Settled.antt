@@ -1,4 +1,4 @@
--- A state is kept where a seat has become another without a step, so a begin and the first step of its call may be told as one.
+-- A state is kept if a seat has become another without a step, so the start of a call and its first step may be told as one.
 use Rattle.std.proofs.Common.{◌≡◌, ℕ, zero, suc, true, ◌+◌, List, [], ◌∷◌, length, refl, ap, arith}
 use Rattle.std.proofs.lemmas.Bool.{lt-ltb}
 use Rattle.std.proofs.lemmas.List.{set-set}

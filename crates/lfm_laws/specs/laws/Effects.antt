@@ -63,8 +63,9 @@ TurnsEffects Open n = n ≤ 1
 TurnsEffects (Ended answer) n = AnswersEffects answer n
 TurnsEffects (Refused why) n = n ≡ 0
 
--- from its begin on a call has as many effects as its turns say: where it ends or is refused at once, and else before and after each
--- step of its seat, whatever the others do in between. So a call has its one effect from its begin to its end
+-- since its start a call has had as many effects as its turns say: at once if it ends or is refused at once, and otherwise
+-- before and after each step of its seat, whatever the others do in between. So a call has its one effect from its start to its
+-- end
 abbrev pub CallsTakeEffectOnce : Type 0
 CallsTakeEffectOnce =
     (c : Core) (s : ℕ) (call : Call) (events : List Event) → Steady c
@@ -122,7 +123,7 @@ abbrev pub EffectsAreOfCalls : Type 0
 EffectsAreOfCalls =
     (c : Core) (s : ℕ) (e : Event) → Steady c → 0 < effects_of c s e → IsOfOpenCall c e s ⊎ IsOfEndedCall c e s
 
--- and where it changes the abstract mutex, the step between the readings is the effect of that call and names its seat or target
+-- and if it changes the abstract mutex, the step between the readings is the effect of that call and names its seat or target
 abbrev pub EffectsAreTheCallers : Type 0
 EffectsAreTheCallers =
     (c : Core) (s : ℕ) (call : Call) (events : List Event) (a b : AbstractMutex) → Steady c

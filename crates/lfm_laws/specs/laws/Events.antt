@@ -53,7 +53,7 @@ case_at c s x (GrantWakeStore carrier oldest) = Some serve
 case_at c s x (SendWakeStore t) = Some enter
 case_at c s x _ = None
 
--- the case of the step that seat s makes next, none where the abstract mutex stays as it is
+-- the case of the step that seat s makes next, none if the abstract mutex stays as it is
 abbrev pub case_of_step : Core → ℕ → Option Case
 case_of_step c s = case_at c s (seat c.seats s) (seat c.seats s).point
 

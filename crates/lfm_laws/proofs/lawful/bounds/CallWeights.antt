@@ -1,4 +1,4 @@
--- What the steps of a call weigh together, where a measure of the seat's point falls by as much with each of its own steps: no
+-- What the steps of a call weigh together, if a measure of the seat's point falls by as much with each of its own steps: no
 -- more than that measure, whatever the others do in between.
 use Rattle.std.proofs.Common.{◌≡◌, ℕ, Bool, true, false, ◌+◌, ◌-◌, ◌≤◌, List, [], ◌∷◌, length, refl, sym, ◌∙◌, inl, inr, arith}
 use Rattle.std.proofs.lemmas.Bool.{cases_Bool, cases_eq, eq-eqb, ne_eqb, false≢true}

@@ -51,7 +51,7 @@ among_tries _ = false
 abbrev pub try_steps_left_among : ℕ → ℕ → Point → ℕ
 try_steps_left_among seats room p = try_steps_left p
 
--- one of these points, with at most so many steps left
+-- one of these points, with at most this number of steps left
 abbrev Within : ℕ → Point → Type 0
 Within steps p = (among_tries p ≡ true) × (try_steps_left p ≤ steps)
 
@@ -94,7 +94,7 @@ tries_fall =
       lower = λ c g s fits inside among. next_within c s (seat c.seats s).point refl inside among;
     }
 
--- Where the calls begin
+-- The points at which the calls begin
 
 at_rest : (steps : ℕ) (p : Point) → is_call p ≡ false → Within steps p
 at_rest steps Rest closed = (refl, omega arith)

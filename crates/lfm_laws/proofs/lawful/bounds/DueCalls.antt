@@ -1,4 +1,4 @@
--- How many calls are still to begin before a queued record is served, where no others begin than unlocks and receives of seats
+-- How many calls are still to begin before a queued record is served, if no others begin than unlocks and receives of seats
 -- that have their grant: no step raises that by more than two for each record that leaves.
 use Rattle.std.proofs.Common.{◌≡◌, ℕ, false, ◌+◌, ◌*◌, ◌≤◌, Option, Some, None, length, nat_eq, refl, sym, ap, ◌∙◌, inl, inr, arith, if◌then◌else◌}
 use Rattle.std.proofs.lemmas.Bool.{cases_Bool, cases_eq, eq-eqb, false≢true}

@@ -1,4 +1,4 @@
--- Each own step of an open call lowers what it has still to do: the steps by one, and the changes of the push word by one where it
+-- Each own step of an open call lowers what it has still to do: the steps by one, and the changes of the push word by one if it
 -- changes it.
 use Rattle.std.proofs.Common.{◌≡◌, ℕ, Bool, true, false, ◌+◌, ◌-◌, ◌≤◌, ◌<◌, Option, Some, None, ◌∷◌, length, nat_eq, refl, sym, arith, inl, inr, if◌then◌else◌}
 use Rattle.std.proofs.lemmas.Bool.{cases_Bool, cases_eq, eq-eqb, ne_eqb, false≢true}
@@ -43,9 +43,9 @@ use Rattle.lfm_laws.proofs.lawful.bounds.StepsFall.{same_link_self}
 use Rattle.lfm_laws.proofs.steady.Room.{steady_has_room}
 use Rattle.lfm_laws.proofs.lawful.bounds.DueAtPoints.{again_unless, due_to_walk, due_to_clear, due_to_exchange, due_at, changes_at, changed_push-le, changed_push_same}
 
--- Where a step leads that leaves the push word
+-- Where a step that leaves the push word as it is leads
 
--- a point where so many steps and changes are due at most
+-- a point at which at most this number of steps and changes are due
 abbrev pub Within : Link → ℕ → ℕ → ℕ → ℕ → Point → Type 0
 Within push seats room steps changes q = (due_at push seats room q ≤ steps) × (changes_at q ≤ changes)
 
@@ -130,7 +130,7 @@ exchange_due : (seats : ℕ) (pusher : Pusher) → 1 + due_to_clear seats (carri
 exchange_due seats Pusher.Locker = omega arith
 exchange_due seats (Pusher.Sender t) = omega arith
 
--- Where it does not
+-- Where a step that may change it leads
 
 link_store_due : (push : Link) (seats room : ℕ) (pusher : Pusher) → Within push seats room (seats + 6) 2 (LinkStore pusher push)
 link_store_due push seats room pusher = rw (same_link_self push) (omega arith, omega arith)

@@ -127,7 +127,7 @@ posting_spare o c g t releaser at fits =
     let place = place_of_claim g.place (serving t) t (λ e. cc) claims in
     rw (place, at) (omega arith)
 
--- an event that weighs so much and by which so many records leave
+-- an event of this weight, by which this number of records leave
 record Passes (o : ℕ) (c d : Core) (g : Ghost) (weighs pops : ℕ) : Type 0 where
   pub to : Ghost
   pub fits : Fits d to

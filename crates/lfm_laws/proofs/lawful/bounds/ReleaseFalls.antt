@@ -33,7 +33,7 @@ is_releasing (Carrier.Releaser releaser) = true
 is_releasing (Carrier.Reclaimer releaser) = true
 is_releasing _ = false
 
--- a point of unlock or start_wait, or one where it has ended
+-- a point of unlock or start_wait, or one at which it has ended
 abbrev pub among_release : Point → Bool
 among_release Rest = true
 among_release (Asleep sleeper) = true
@@ -78,7 +78,7 @@ steps_left_unread seats room room' _ walks = refl
 
 -- Where a step leads
 
--- a point of a release with so many steps left
+-- a point of a release with at most this number of steps left
 abbrev pub Within : ℕ → ℕ → ℕ → Point → Type 0
 Within seats room steps p = (among_release p ≡ true) × (steps_left seats room p ≤ steps)
 

@@ -1,4 +1,4 @@
--- Where no other calls begin than unlocks, and receives of seats that have their grant, few calls begin while a record stays
+-- If no other calls begin than unlocks, and receives of seats that have their grant, few calls begin while a record stays
 -- queued: two for each record before it, and two more. So few steps are made.
 use Rattle.std.proofs.Common.{◌≡◌, ℕ, true, false, ◌+◌, ◌-◌, ◌*◌, ◌≤◌, ◌<◌, List, [], ◌∷◌, length, refl, sym, ap, ◌∙◌, inl, inr, arith}
 use Rattle.std.proofs.lemmas.Bool.{cases_Bool, cases_eq, ne_eqb}

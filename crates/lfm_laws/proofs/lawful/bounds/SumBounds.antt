@@ -26,7 +26,7 @@ sum_spreads (suc n) i a f f' above within most =
           omega (arith, below, here, suc-mul n a)
     ]
 
--- values that are at most so many times others
+-- values of which each is at most k times another
 pub sum_scales : (n k : ℕ) (f g : ℕ → ℕ) → ((j : ℕ) → f j ≤ k * g j) → sum_to f n ≤ k * sum_to g n
 sum_scales zero k f g most = omega arith
 sum_scales (suc n) k f g most =

@@ -207,14 +207,14 @@ no_effect c s x _ other = refl
 -- The walk
 
 module _ (d : Core) (s : ℕ) (a b : AbstractMutex) (steady : Steady d) (is : IsSeat d.seats s) (before : Reads d a) (after : Reads (step d s).core b) where
-  -- an ask where nobody has the mutex
+  -- an ask when nobody has the mutex
   ask_of_free : (x : ℕ) → GoesBy (Some Runs.ask) a b → d.count ≡ 0 → carrying_at s (stepped d s).seat.point ≡ Some (entering x)
       → (effect : AbstractStep a b) × (case_of effect ≡ Runs.ask) × IsAskOf s x effect
   ask_of_free x goes none here =
       let place = carried_so (step d s).core b s (entering x) after (rw (own_after d s is) here) in
       (goes.0, goes.1, asks_free a b s x goes.0 goes.1 ((count_is_zero_where_free d a steady before).0 none) place)
 
-  -- an ask where somebody has it
+  -- an ask when some seat has it
   ask_of_others : (x : ℕ) → GoesBy (Some Runs.ask) a b → d.count ≢ 0 → asks_for (stepped d s).seat s ≡ x
       → (effect : AbstractStep a b) × (case_of effect ≡ Runs.ask) × IsAskOf s x effect
   ask_of_others x goes some here =

@@ -1,4 +1,4 @@
--- The seat whose link a carrier loads next is the newest of the records that are still to be walked, and 0 where there are none.
+-- The seat whose link a carrier loads next is the newest of the records that are still to be walked, and 0 if there are none.
 use Rattle.std.proofs.Common.{◌≡◌, ◌≢◌, ℕ, zero, suc, Bool, false, true, ◌+◌, List, [], ◌∷◌, get_or, refl, sym, ◌∙◌, inl, inr, arith}
 use Rattle.std.proofs.lemmas.Bool.{cases_eq, eq-eqb, ne_eqb}
 use Rattle.lfm_model.specs.declared.answers.How.{How}

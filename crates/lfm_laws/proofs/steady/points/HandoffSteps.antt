@@ -277,7 +277,7 @@ poster_takes c g s releaser takes posts is at won fits =
       history = history_stays g h refl refl refl refl;
     })
 
--- somebody else has taken it over
+-- another call has taken it over
 poster_loses : (c : Core) (g : Ghost) (s : ℕ) (releaser : Releaser) (takes posts : ℕ) → IsSeat c.seats s
     → seat c.seats s ≡ record { depth = 0; takes = takes; posts = posts; point = ReleaseHandoffExchange releaser } → same_handoff c.handoff (record { seat = s; post = posts }) ≡ false → Fits c g
     → Kept c g s

@@ -118,7 +118,7 @@ left c g s releaser takes posts is at one fits =
       history = released_history g h s x releaser Unlocked.Free (history_stays g h refl refl refl refl);
     })
 
--- somebody else asks or is queued, and the pop list is empty
+-- another seat asks or is queued, and the pop list is empty
 leaves_to_clear : (c : Core) (g : Ghost) (s : ℕ) (releaser : Releaser) (takes posts : ℕ) → IsSeat c.seats s
     → seat c.seats s ≡ record { depth = 0; takes = takes; posts = posts; point = ReleaseCountSubtract releaser } → c.count ≢ 1 → c.popped ≡ [] → Fits c g → Kept c g s
 leaves_to_clear c g s releaser takes posts is at more none fits =

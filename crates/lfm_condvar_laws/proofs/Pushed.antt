@@ -13,7 +13,7 @@ use Rattle.lfm_condvar_laws.proofs.points.PushPoints.{to_push}
 abbrev pub Before : Waiter → Waiter → Type 0
 Before first second = first.ticket < second.ticket
 
--- a wake sends this waiter, whom it claimed last; where it may push a record for it yet, the pushed ones have lower tickets
+-- a wake sends this waiter, whom it claimed last; if it may still push a record for it, the pushed ones have lower tickets
 pub record SendFits (k : CondvarCore) (g : CondvarGhost) (pushes : ℕ → List Waiter) (s v : ℕ) (oldest : Waiter) : Type 0 where
   pub last : oldest.ticket ≡ g.claimed v
   pub told : Contains (claims_told g v) oldest
@@ -26,7 +26,7 @@ pub record PushFits (k : CondvarCore) (g : CondvarGhost) (pushes : ℕ → List 
   pub told : (v : ℕ) → All (Contains (claims_told g v)) (pushes v)
   pub sends : (s v : ℕ) (all : Bool) (oldest : Waiter) → k.stage s ≡ sending v all oldest → SendFits k g pushes s v oldest
 
--- so many were claimed as the ghost tells
+-- as many were claimed as the ghost tells
 pub told_count : (g : CondvarGhost) (v : ℕ) → length (claims_told g v) ≡ g.claimed v
 told_count g v = length-waiters (g.given v) 0 (g.claimed v)
 

@@ -141,7 +141,7 @@ waited_at c s t (WaitWakeStore released) at (inl other) word =
 waited_at c s t (WaitWakeStore released) at (inr none) word = absurd (false≢true (sym none))
 waited_at c s t _ at other word = rw at at word
 
--- so where a word is WAITING after a step, it was before, but for a seat that ends its own start_wait
+-- so if a word is WAITING after a step, it was before, but for a seat that ends its own start_wait
 pub has_waited : (c : Core) (s t : ℕ) → (t ≢ s) ⊎ (waits_at (seat c.seats s).point ≡ false)
     → wake (made c s).core.wakes t ≡ Waiting → wake c.wakes t ≡ Waiting
 has_waited c s t other word = waited_at c s t (seat c.seats s).point refl other word

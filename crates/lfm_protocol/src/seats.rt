@@ -78,7 +78,7 @@ impl SeatState {
 /// How a call begins.
 impl SeatState {
     /// Begins a `lock` or a `try_lock` at its first point. Refused as DepthFull at the greatest depth, and then as Spent at
-    /// depth 0 with no take left. A take is charged at depth 0 alone.
+    /// depth 0 with no take left. A take is charged only at depth 0.
     pub(crate) fn begin_entry(&mut self, budget: u64, point: Point) -> Turn
         ensures seat { self.new ≡ (begin_entry self.old budget point).seat }
         ensures turn { result ≡ (begin_entry self.old budget point).turn }

@@ -1,4 +1,4 @@
-//! Progress: a release, a try and a receive are wait-free, each call alone is obstruction-free, and all calls together are
+//! Progress: a release, a try and a receive are wait-free, every call is obstruction-free, and all calls together are
 //! lock-free.
 ghost use Rattle.lfm_laws.specs.laws.ConstantBounds.{ReceivesAreBounded, TriesAreBounded};
 ghost use Rattle.lfm_laws.specs.laws.InSchedules.{

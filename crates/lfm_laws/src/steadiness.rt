@@ -38,7 +38,7 @@ pub fn steps_touch_one_word_and_one_seat()
     ensures sees { StepsSeeOneWordAndOneSeat }
 {}
 
-/// The start of a call changes its seat alone.
+/// The start of a call changes only its seat.
 ///
 /// Definition: `BeginsTouchOneSeat` in `specs/laws/Steadiness.antt`. Proof: `proofs/lawful/touched/OneSeat.antt`.
 pub fn begins_touch_one_seat()

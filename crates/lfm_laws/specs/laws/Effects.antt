@@ -134,10 +134,10 @@ EffectsAreTheCallers =
     × (case_of_step (run_of (begin c s call).core events) s ≡ Some (case_of effect))
     × IsEffectOf call s effect
 
--- The begin of an open call
+-- The start of an open call
 
--- one of these events is the begin of a call of seat s that has been open since
--- earlier, since: the events before and after the begin
+-- one of these events is the start of a call of seat s that has been open since
+-- earlier, since: the events before and after the start
 pub record HasBegun (c : Core) (s : ℕ) (events : List Event) : Type 0 where
   pub call : Call
   pub earlier : List Event
@@ -146,7 +146,7 @@ pub record HasBegun (c : Core) (s : ℕ) (events : List Event) : Type 0 where
   pub opens : (begin (run_of c earlier) s call).turn ≡ Open
   pub stays : StaysInCall (begin (run_of c earlier) s call).core s since
 
--- whoever is in a call after a schedule has begun it in that schedule, so its effects are counted from its begin
+-- a seat that is in a call after a schedule has begun it in that schedule, so its effects are counted from its start
 abbrev pub OpenCallsHaveBegun : Type 0
 OpenCallsHaveBegun =
     (limits : Limits) (events : List Event) (s : ℕ) → is_call (seat (reached limits events).seats s).point ≡ true

@@ -1,5 +1,5 @@
--- What an atomic step does to the abstract mutex, told by the seat's point and what the step finds: its case, the record
--- that it pushes, the record that leaves the queue with it, and the queued record by which it answers that the seat holds.
+-- What an atomic step does to the abstract mutex, by the seat's point and what the step finds: its case, the record that it
+-- pushes, the record that leaves the queue with it, and the queued record by which it answers that the seat holds.
 use Rattle.std.specs.Prelude.{ℕ, ◌+◌, Option, Some, None, List, [], ◌∷◌, nat_eq, if◌then◌else◌}
 use Rattle.lfm_model.specs.AbstractRuns.{Case, ask, queue, serve, post, take, accept, take_up, enter, release, leave}
 use Rattle.lfm_model.specs.declared.answers.Asked.{Asked}

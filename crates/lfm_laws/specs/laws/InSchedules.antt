@@ -1,4 +1,4 @@
--- The headline laws told of schedules: each speaks of every state that some schedule reaches, and of all that calls and single
+-- The headline laws for schedules: each speaks of every state that some schedule reaches, and of all that calls and single
 -- steps make of it. They are the laws of steady states with that premise in the place of the invariant.
 use Rattle.std.specs.Prelude.{◌≡◌, ◌⊎◌, ℕ, true, false, ◌+◌, ◌*◌, ◌<◌, ◌≤◌, ◌++◌, Some, List, [], ◌∷◌, length, slice_index_or}
 use Rattle.lfm_model.specs.Abstract.{AbstractMutex, AbstractPlace, AbstractStep, free}
@@ -154,7 +154,7 @@ CallsGrantOnceInSchedules = (c : Core) (s : ℕ) (events : List Event) → IsRea
 
 -- Linearization points
 
--- a call has as many effects as its turns say: one between its begin and its end, whatever the others do in between
+-- a call has as many effects as its turns say: one between its start and its end, whatever the others do in between
 abbrev pub CallsTakeEffectOnceInSchedules : Type 0
 CallsTakeEffectOnceInSchedules =
     (c : Core) (s : ℕ) (call : Call) (events : List Event) → IsReached c
@@ -249,7 +249,7 @@ NoStateIsStuckInSchedules = (c : Core) → IsReached c → ComesToRest c
 
 -- Refusals
 
--- between the begin of a try_lock and the step that answers Busy, the mutex was neither free nor posted
+-- between the start of a try_lock and the step that answers Busy, the mutex was neither free nor posted
 abbrev pub BusyWasBusyInSchedules : Type 0
 BusyWasBusyInSchedules =
     (c : Core) (s : ℕ) (events : List Event) → IsReached c → (begin c s TryLock).turn ≡ Open

@@ -76,7 +76,7 @@ printed (passed s) = Place.Passed s
 printed posted = Place.Posted
 printed (carried s how) = Place.Carried s
 
--- what the state tells as its place is that of its reading
+-- the place that the state shows is that of its reading
 abbrev pub PlacesAreRead : Type 0
 PlacesAreRead = (c : Core) (a : AbstractMutex) → Steady c → Reads c a → place_of c ≡ printed a.place
 

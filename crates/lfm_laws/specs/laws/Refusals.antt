@@ -1,6 +1,5 @@
--- Why a turn is refused: the cause of each refusal, told by the state before the turn. The causes of one turn exclude each
--- other, so they also tell the order in which they are looked at. Each law here is the contract of a public function of
--- `lfm_laws`.
+-- Why a turn is refused: the cause of each refusal, by the state before the turn. The causes of one turn exclude each other, so
+-- they also tell the order in which they are looked at. Each law here is the contract of a public function of `lfm_laws`.
 use Rattle.std.specs.Prelude.{◌≡◌, ◌≢◌, ◌⊎◌, ⊤, ℕ, true, false, ◌-◌, ◌<◌, List}
 use Rattle.lfm_model.specs.declared.refusals.Refusal.{Refusal}
 use Rattle.lfm_protocol.specs.declared.answers.Call.{Call}
@@ -69,7 +68,7 @@ CauseToBegin c x StartWait refusal = CauseToWait c.budget x refusal
 CauseToBegin c x (SendLock t) refusal = CauseToSend c.seats t x refusal
 CauseToBegin c x Receive refusal = CauseToReceive x refusal
 
--- a begin that is refused changes nothing, for whatever cause
+-- a call that is refused as it starts changes nothing, for whatever cause
 abbrev pub RefusedBeginsChangeNothing : Type 0
 RefusedBeginsChangeNothing = (c : Core) (s : ℕ) (call : Call) (why : Why) → (begin c s call).turn ≡ Refused why → (begin c s call).core ≡ c
 

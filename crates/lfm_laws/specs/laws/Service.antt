@@ -9,7 +9,7 @@ use Rattle.lfm_laws.specs.laws.Progress.{open_calls, steps_of_run}
 use Rattle.lfm_laws.specs.laws.Schedules.{Event, begins, makes, happens, popped_record}
 use Rattle.lfm_laws.specs.steady.Steady.{Steady}
 
--- an event that is a step, the begin of an unlock, or the begin of a receive by a seat that has its grant
+-- an event that is a step, the start of an unlock, or the start of a receive by a seat that has its grant
 abbrev pub Serves : Core → Event → Type 0
 Serves c (makes s) = ⊤
 Serves c (begins s Unlock) = ⊤

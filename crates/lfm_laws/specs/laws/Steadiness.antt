@@ -1,5 +1,6 @@
--- What a mutex that runs stands on: every reached state is steady, and each turn keeps a state so, by the one abstract case of
--- its step; a step touches one word, one seat and the pop list, and goes by these; and so it is at a table of packed words.
+-- What the proofs of a running mutex rest on: every reached state is steady, and each turn keeps a state so, by the one
+-- abstract case of its step; a step touches one word, one seat and the pop list, and goes by these; and so it is at a table of
+-- packed words.
 use Rattle.std.specs.Prelude.{◌≡◌, ℕ, length, slice_index}
 use Rattle.lfm_protocol.specs.declared.answers.Call.{Call}
 use Rattle.lfm_protocol.specs.declared.seats.SeatState.{SeatState}

@@ -22,7 +22,7 @@ use Rattle.lfm_laws.proofs.lawful.bounds.CallWeights.{Falls, weight_le}
 use Rattle.lfm_laws.proofs.lawful.bounds.Leaving.{stepped}
 use Rattle.lfm_laws.proofs.lawful.runs.Reached.{run_keeps}
 
--- how many steps a try_lock or a receive at this point makes yet, at most
+-- how many more steps a try_lock or a receive at this point makes at most
 abbrev pub try_steps_left : Point → ℕ
 try_steps_left TryCountExchange = 6
 try_steps_left TryOwnerLoad = 5

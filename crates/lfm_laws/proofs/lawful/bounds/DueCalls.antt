@@ -42,7 +42,7 @@ abbrev pub receives_due : Point → ℕ
 receives_due (ReceiveWakeLoad sleeper) = 0
 receives_due _ = 1
 
--- who is about to come in owns then; who is sent is granted first
+-- a seat that is about to come in owns then; a seat that is sent is granted first
 abbrev pub entry_due : ℕ → ℕ → ℕ
 entry_due into s = if nat_eq into s then 1 else 2
 

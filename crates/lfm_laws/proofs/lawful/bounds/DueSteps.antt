@@ -167,7 +167,7 @@ clear_spends push seats room room' Carrier.Sender few =
 
 -- The walk
 
--- a link load leaves the pop list with room for one record less
+-- a link load leaves the pop list with room for one record fewer
 walk_spends : (push : Link) (seats room room' : ℕ) (carrier : Carrier) (s : ℕ) (next at : ℕ) (r : Record) → 1 + room' ≡ room
     → 2 + wait_of carrier ≤ due_to_walk room carrier → 1 + due_to_walk room' carrier ≤ due_to_walk room carrier
     → Spends push push seats room room' (TakeLinkLoad carrier at) (if nat_eq next 0 then serves carrier s r else TakeLinkLoad carrier next)
@@ -312,8 +312,8 @@ at_point c s room before (ReceiveWakeStore stamp) at inside stands few =
     rw (at, at)
     (spends c.push (length c.seats) before room 1 0 (ReceiveWakeStore stamp) (EnterOwnerStore Entrant.Receiver (how_granted stamp)) (omega arith, omega arith) (omega arith) (omega arith))
 
--- the room that a walk needs: a carrier other than a locker stands apart from the queue, so two records less than there are
--- seats are in the pop list at most
+-- the room that a walk needs: a carrier other than a locker stands apart from the queue, so the pop list has at most two
+-- records fewer than there are seats
 serve_fits : (c : Core) (g : Ghost) (s : ℕ) (carrier : Carrier) → Fits c g → IsSeat c.seats s → StandsAsCarrier (g.standing s) carrier → 0 < g.walk
     → 1 ≤ room_left c → 2 + wait_of carrier ≤ due_to_walk (room_left c) carrier
 serve_fits c g s Carrier.Locker fits is stands some room = omega (arith, room)

@@ -107,7 +107,7 @@ step_pays k c g s fits enough =
           rw (none, closed) (omega arith)
     ]
 
--- a begin changes what is owed to its own seat alone
+-- the start of a call changes what is owed to its own seat alone
 owed_begun : (k : ℕ) (c : Core) (t s : ℕ) (call : Call) → s ≢ t → owed k (begin c t call).core s ≡ owed k c s
 owed_begun k c t s call other =
     rw (begun_other c t s call other, begun_push c t call, begun_popped c t call, seats-begin c t call) refl

@@ -1,6 +1,6 @@
 -- While a record stays queued, seats come to own by the records before it, and once more at most: by what was on its way to a
--- seat already, or by a post for which no record was seen. A release finds the record, so no other post comes. And who stops
--- to own has come to own, or did so before.
+-- seat already, or by a post for which no record was seen. A release finds the record, so no other post comes. And a seat that
+-- stops owning has come to own, or did so before.
 use Rattle.std.proofs.Common.{◌≡◌, ℕ, false, ◌+◌, ◌-◌, ◌≤◌, ◌<◌, Option, Some, None, List, [], ◌∷◌, length, refl, sym, ap, ◌∙◌, inl, inr, arith}
 use Rattle.std.proofs.lemmas.Bool.{cases_Bool, false≢true}
 use Rattle.std.proofs.lemmas.List.{length-append}

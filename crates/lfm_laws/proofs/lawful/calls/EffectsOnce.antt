@@ -1,4 +1,4 @@
--- A call has one effect at most, and when it is over as many as its turn says.
+-- A call has at most one effect, and when it is over as many as its turn says.
 use Rattle.std.proofs.Common.{◌≡◌, ◌≢◌, ℕ, true, ◌+◌, ◌++◌, List, [], ◌∷◌, nat_eq, refl, sym, ap, inl, inr, arith}
 use Rattle.std.proofs.lemmas.Bool.{cases_Bool, cases_eq, eq-eqb, ne_eqb}
 use Rattle.std.specs.Prelude.{Some, None}

@@ -137,7 +137,7 @@ releases : (a b : AbstractMutex) (s : ℕ) (effect : AbstractStep a b) → case_
 releases a b s (Abstract.release x moves) named after = same_leaver x s (sym moves.after ∙ after)
 releases a b s _ named after = absurd (cc)
 
--- who joins the seats that ask is whom the seat that made the step asks for
+-- the seat that joins those that ask is the one that the acting seat asks for
 joins_so : (d : Core) (s x y : ℕ) (a b : AbstractMutex) → Reads d a → Reads (step d s).core b → HasNothing a y → Joins a b y
     → asks_for (seat (step d s).core.seats s) s ≡ x → y ≡ x
 joins_so d s x y a b before after nothing joins here =

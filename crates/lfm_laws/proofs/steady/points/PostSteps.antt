@@ -112,7 +112,7 @@ head_of_queue c g fits at some zero =
     let stands : g.standing (g.pushed_at g.pushed) ≡ queued g.pushed = (fits.stamps g.pushed some (omega arith)).stands in
     nobody_queued c g g.pushed fits (rw newest at stands)
 
--- nobody was pushed: whoever watches is another seat
+-- nobody was pushed: the watcher is another seat
 recheck_finds_none : (c : Core) (g : Ghost) (s : ℕ) (releaser : Releaser) (takes posts : ℕ) → IsSeat c.seats s
     → seat c.seats s ≡ record { depth = 0; takes = takes; posts = posts; point = ReleasePushRecheck releaser } → c.push.next ≡ 0 → Fits c g → Kept c g s
 recheck_finds_none c g s releaser takes posts is at empty fits =

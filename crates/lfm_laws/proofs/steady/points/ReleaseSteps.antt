@@ -68,7 +68,7 @@ at_ReleaseOwnerStore c g s releaser is at fits =
     let here = rw at at (fits.each s) in
     owner_stored c g s releaser _ _ is (seat_at (seat c.seats s) 1 _ here.depth at) fits
 
--- who has released gives back and goes on as the others let it
+-- a seat that has released gives back and goes on as the others let it
 leaves_by : (a b : AbstractMutex) (s : ℕ) (to : AbstractPlace) → GoesFrom a s to → Moves a b (carried s Abstract.leaving) to → GoesBy (Some Case.leave) a b
 leaves_by a b s to goes moves = (leave s to goes moves, refl)
 

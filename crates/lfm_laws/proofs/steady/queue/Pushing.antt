@@ -137,7 +137,7 @@ sums_pushed seats s u g above within asked sums =
 
 -- The other seats
 
--- a push is seen by a higher stamp alone
+-- a push is seen by its higher stamp alone
 seen_on : (push seen l : Link) (u : ℕ) → push.stamp ≡ seen.stamp → IsSeen push l → IsSeen (record { stamp = seen.stamp + 1; next = u }) l
 seen_on push seen l u same known = record { older = omega (arith, known.older); same = λ e. absurd (omega (arith, known.older)) }
 

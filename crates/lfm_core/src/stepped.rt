@@ -82,14 +82,14 @@ impl State {
 impl State {
     ghost use Rattle.lfm_laws.specs.steady.Steady.{Steady};
 
-    /// Every state is steady. `laws::every_state_is_steady` tells it to callers.
+    /// Every state is steady. `laws::every_state_is_steady` is the same fact for callers.
     pub(crate) fn steady(&self)
         ensures { Steady self.now }
     {
         let _ = &self.machine;
     }
 
-    /// Every state is lawful, since it is steady. `laws::every_state_is_lawful` tells it to callers.
+    /// Every state is lawful, since it is steady. `laws::every_state_is_lawful` is the same fact for callers.
     pub(crate) fn law(&self)
         ensures { Lawful self.now }
     {
@@ -97,7 +97,7 @@ impl State {
     }
 }
 
-/// What a state tells of itself. No reader changes anything or takes memory.
+/// The readers of a state. None changes anything or takes memory.
 impl State {
     /// The number of seats, at most 4,095. Seats are numbered from 1.
     pub fn seats(&self) -> u64

@@ -42,7 +42,7 @@ pub write_failed : (r : Result Bool ReplayFault) (text : List ℕ) (verdict : Re
 write_failed (Ok b) text verdict old new e p = absurd e
 write_failed (Err y) text verdict old new e p = subst (λ x. Tells (Err x) text verdict old new) (sym e) p
 
--- past the limit a text says one thing
+-- a text past the limits is answered Limit
 past_limit : (xs : List ℕ) → is_past_limit xs ≡ true → plan_in xs ≡ Err Limit
 past_limit xs past = rw past refl
 

@@ -44,7 +44,7 @@ one_after xs x ordered below i j d before within =
           (below i d (omega (arith, before, last)))
     ]
 
--- what a seat that sends now did before: it sent the same, and what it may push yet it might push before
+-- a seat that sends now sent the same before, and what it may still push it might push before
 abbrev pub Back : CondvarCore → CondvarCore → ℕ → Type 0
 Back k l s =
     (v : ℕ) (all : Bool) (oldest : Waiter) → l.stage s ≡ sending v all oldest
@@ -87,7 +87,7 @@ all_one : {A : Type 0} (P : A → Type 0) (x : A) → P x → All P (x ∷ [])
 all_one P x holds zero d within = holds
 all_one P x holds (suc i) d within = absurd (omega (arith, within))
 
--- all that is so of each is so of each, in the words that follow from it
+-- if P implies Q, items of which each is a P are each a Q
 all_so : {A : Type 0} (P Q : A → Type 0) (xs : List A) → ((x : A) → P x → Q x) → All P xs → All Q xs
 all_so P Q xs so all i d within = so (get_or xs i d) (all i d within)
 

@@ -121,7 +121,7 @@ WaitsEndHolding =
     (r : CondvarRun) (s v ticket : ℕ) → (reached_by r).stage s ≡ receiving v ticket → point_of (reached_by r) s ≡ Rest
     → (seat (reached_by r).mutex.seats s).depth ≡ 1
 
--- these laws are not of nothing: in some run a wait is about to end
+-- the laws are not vacuous: in some run a wait is about to end
 pub record WaitsCanEnd : Type 0 where
   pub run : CondvarRun
   pub seat : ℕ

@@ -1,4 +1,4 @@
--- A wake word that is WAITING stays so until a send claims its seat, and none becomes so but by the end of a start_wait.
+-- A wake word that is WAITING stays so until a send claims its seat, and only the end of a start_wait makes one so.
 use Rattle.std.proofs.Common.{◌≡◌, ◌≢◌, ◌⊎◌, ℕ, zero, suc, true, false, ◌+◌, List, length, refl, sym, ap, ◌∙◌, inl, inr, arith}
 use Rattle.std.proofs.lemmas.Bool.{cases_eq, cases_lt, eq-eqb, false≢true}
 use Rattle.lfm_protocol.specs.declared.points.Carrier.{Carrier}
@@ -98,7 +98,7 @@ claimed_word c g s u at found is fits =
 pub ends_waiting : (c : Core) (g : Ghost) (s : ℕ) → IsSeat c.seats s → Fits c g → wake (with_entry c.wakes s Waiting) s ≡ Waiting
 ends_waiting c g s is fits = entry-with_same Quiet c.wakes s Waiting is.above (rw fits.sizes.wakes is.within)
 
--- No word becomes WAITING but by the last step of start_wait
+-- Only the last step of start_wait makes a word WAITING
 
 written_or_left : {A : Type 0} (d : A) (xs : List A) (s : ℕ) (x : A)
     → (entry d (with_entry xs s x) s ≡ x) ⊎ (entry d (with_entry xs s x) s ≡ entry d xs s)

@@ -1,4 +1,4 @@
-//! What the report of a run tells of its script. Each law is the contract of a function that does nothing.
+//! What the report of a run says of its script. Each law is the contract of a function that does nothing.
 
 ghost use Rattle.std.specs.Prelude.{◌≡◌, ◌<◌, ℕ, true, length, sum, List, Option, None};
 ghost use Rattle.lfm_model.specs.declared.refusals.Refusal.{Refusal};
@@ -22,8 +22,8 @@ pub fn reports_are_of_scripts()
         run_text p.workers journal (λ w. None) (total_of journal) true ≡ script_text p }
 {}
 
-/// If each worker's entries add what its first commands do, the report tells those commands; and if no worker was refused, it
-/// is the script's own.
+/// If each worker's entries add what its first commands do, the report is that of those commands; and if no worker was refused,
+/// it is the script's own.
 pub fn reports_are_of_commands()
     ensures made { (p : Plan) (made : ℕ → ℕ) (refused : ℕ → Option Refusal) (journal : List (Entry TotalOp)) →
         plan_allowed p ≡ true → length p.lines < max_lines → Within p.workers journal → IsRunOfMade p made journal →

@@ -29,7 +29,7 @@ pub struct Graph {
 }
 
 impl Graph {
-    /// A graph of the start alone.
+    /// A graph that has only the start.
     pub fn new(alloc: Global, start: Reading) -> Result<Graph, AllocError> {
         let mut graph = Graph {
             nodes: Vec::new(alloc),

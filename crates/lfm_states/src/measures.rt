@@ -25,17 +25,17 @@ pub enum Measure {
     Grants,
     /// The steps of all calls from one end of a call to the next.
     StepsWithoutEnd,
-    /// How often seats come to own while the record is queued that was the oldest as the run began.
+    /// How often seats come to own while the record that was the oldest as the run began is queued.
     Entries,
     /// How often one seat does so.
     EntriesOfSeat,
     /// How often seats stop owning meanwhile.
     Releases,
-    /// How many calls begin while the record is queued that was the oldest as the run began, if only serving calls begin.
+    /// How many calls begin while the record that was the oldest as the run began is queued, if only serving calls begin.
     BeginsBesideOldest,
     /// The same of the record that was the second. Both seats are queued as such a run begins, so nobody is pushed behind it.
     BeginsBesideSecond,
-    /// How many steps are made while the record is queued that was the oldest as the run began, if only serving calls begin.
+    /// How many steps are made while the record that was the oldest as the run began is queued, if only serving calls begin.
     StepsBesideOldest,
 }
 
@@ -153,7 +153,7 @@ impl Measure {
         }
     }
 
-    /// Whether the record is still queued beside which calls begin.
+    /// Whether the record beside which calls begin is still queued.
     fn is_still_queued(self, before: &Reading, after: &Reading) -> bool {
         match self {
             Measure::BeginsBesideSecond => after.oldest.seat != 0,

@@ -7,7 +7,7 @@ use crate::weights::is_open;
 use lfm_core::{State, Turn};
 use std::alloc::{AllocError, Global};
 
-/// More states than there are at any budget that is asked for.
+/// More states than there are at either budget.
 const MOST_STATES: usize = 4_000_000;
 
 /// More events than the first path to any state has. With a smaller limit the number of states would come out wrong.

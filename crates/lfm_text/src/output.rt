@@ -1,4 +1,4 @@
-//! Writes texts and numbers to a writer, without a buffer of its own. Nothing here asks for memory.
+//! Writes texts and numbers directly to a writer. Nothing here asks for memory.
 
 ghost use Rattle.std.specs.Prelude.{[], codes, decimal};
 ghost use Rattle.lfm_text.specs.Writing.{Writes};

@@ -3,7 +3,7 @@
 use crate::stepped::State;
 use std::fmt::{Debug, Formatter, Result, Write};
 
-/// What the words of the state hold. The readers tell what each seat holds.
+/// What belongs to no single seat. The readers tell what each seat has.
 impl Debug for State {
     fn fmt<W: Write>(&self, f: &mut Formatter<W>) -> Result {
         f.debug_struct("State")

@@ -14,7 +14,7 @@ pub enum Outcome<P, X> {
     Kept(P),
 }
 
-/// What came of a job, at a starting line that made this decision.
+/// What came of a job, with the decision at its starting line.
 #[derive(Drop)]
 pub struct Arrival<'a, P, X> {
     pub decision: Decision<'a>,

@@ -31,7 +31,7 @@ pub fn depth_counts_holds()
     ensures { DepthCountsHolds }
 {}
 
-/// Of a seat that holds, a `lock` makes exactly three steps and a `try_lock` exactly two, whatever the others do in between;
+/// A `lock` of a seat that holds makes exactly three steps, and a `try_lock` exactly two, whatever the others do in between;
 /// one of these steps loads the owner word.
 ///
 /// Definition: `RecursiveCallsLoadTheOwner` in `specs/laws/Entries.antt`. Proof: `proofs/lawful/calls/RecursiveCalls.antt`.

@@ -1,4 +1,5 @@
-//! Refusals: a call or step is refused exactly if there is the cause, and a call that is refused as it starts changes nothing.
+//! Refusals: a call or step is refused exactly if there is a cause for it, and a call that is refused as it starts changes
+//! nothing.
 ghost use Rattle.lfm_laws.specs.laws.BusyMoments.{BusyWasBusy};
 ghost use Rattle.lfm_laws.specs.laws.InSchedules.{BusyWasBusyInSchedules};
 ghost use Rattle.lfm_laws.specs.laws.OutsideSteps.{AnsweredOutside, RunsStayWithoutOutsideSteps, StepsOutsideOfCallsChangeNothing};
@@ -39,8 +40,8 @@ pub fn steps_are_refused_for_cause()
     ensures { StepsAreRefusedForCause }
 {}
 
-/// The start of a call, or a step, is refused exactly if there is its cause. NoSuchSeat: no such seat. InCall, of a start: a
-/// call of the seat is open. Idle, of a step: none is. Any other refusal is one of the call itself.
+/// The start of a call, or a step, is refused exactly if there is a cause for it. NoSuchSeat: no such seat. InCall, of a start:
+/// a call of the seat is open. Idle, of a step: none is. Any other refusal is one of the call itself.
 ///
 /// Definition: `TurnsAreRefusedForCause` in `specs/laws/Refusals.antt`. Proof: `proofs/lawful/refusals/RefusedTurns.antt`.
 pub fn turns_are_refused_for_cause()

@@ -1,4 +1,5 @@
-//! What the program does with its arguments. The core gets what is read, and the shell gets what the core answers.
+//! What the program does with its arguments: it runs a command from standard input to standard output, and turns its outcome
+//! into the exit status.
 ghost use Rattle.std.specs.Prelude.{◌≢◌, Err};
 
 use lfm_core::{ReplayFault, replay};

@@ -31,8 +31,8 @@ pub fn depth_counts_holds()
     ensures { DepthCountsHolds }
 {}
 
-/// A `lock` of a seat that holds makes exactly three steps, and a `try_lock` exactly two, whatever the others do in between;
-/// one of these steps loads the owner word.
+/// A `lock` of a seat that holds makes exactly three steps, and a `try_lock` two, whatever the others do in between; one of
+/// them loads the owner word.
 ///
 /// Definition: `RecursiveCallsLoadTheOwner` in `specs/laws/Entries.antt`. Proof: `proofs/lawful/calls/RecursiveCalls.antt`.
 pub fn recursive_calls_load_the_owner()

@@ -5,7 +5,7 @@ ghost use Rattle.lfm_laws.specs.laws.InSchedules.{BusyWasBusyInSchedules};
 ghost use Rattle.lfm_laws.specs.laws.OutsideSteps.{AnsweredOutside, RunsStayWithoutOutsideSteps, StepsOutsideOfCallsChangeNothing};
 ghost use Rattle.lfm_laws.specs.laws.Refusals.{RefusedBeginsChangeNothing, BeginsAreRefusedForCause, StepsAreRefusedForCause, TurnsAreRefusedForCause, TriesSeeAHolder};
 
-/// A call that is refused as it starts leaves the whole state as it was.
+/// A call refused as it starts leaves the whole state as it was.
 ///
 /// Definition: `RefusedBeginsChangeNothing` in `specs/laws/Refusals.antt`. Proof: `proofs/lawful/refusals/RefusedCalls.antt`.
 pub fn refused_begins_change_nothing()
@@ -40,8 +40,8 @@ pub fn steps_are_refused_for_cause()
     ensures { StepsAreRefusedForCause }
 {}
 
-/// The start of a call, or a step, is refused exactly if there is a cause for it. NoSuchSeat: no such seat. InCall, of a start:
-/// a call of the seat is open. Idle, of a step: none is. Any other refusal is one of the call itself.
+/// A call or step is refused exactly if there is a cause for it. NoSuchSeat: no such seat. InCall, of a call: another of the
+/// seat is open. Idle, of a step: none is. Any other refusal is one of the call itself.
 ///
 /// Definition: `TurnsAreRefusedForCause` in `specs/laws/Refusals.antt`. Proof: `proofs/lawful/refusals/RefusedTurns.antt`.
 pub fn turns_are_refused_for_cause()

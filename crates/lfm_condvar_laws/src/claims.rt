@@ -25,7 +25,7 @@ pub fn claims_are_in_order()
 {}
 
 /// The order goes on in the user mutex: the records that the wakes of a condvar push into its push list, for their targets, go
-/// up by ticket, each for a seat that was claimed with this ticket. The law does not say that each claimed seat is pushed.
+/// up by ticket, each for a seat that was claimed with this ticket. That each claimed seat is pushed is not part of it.
 ///
 /// Definition: `PushesAreInOrder` in `specs/Laws.antt`. Proof: `proofs/reached/PushOrder.antt`.
 pub fn pushes_are_in_order()

@@ -30,7 +30,7 @@ pub fn waits_end_holding()
     ensures { WaitsEndHolding }
 {}
 
-/// There is a run in which a `wait` is about to end. So the other laws are not vacuous.
+/// There is a run in which a `wait` is about to end: the other laws are not vacuous.
 ///
 /// Definition: `WaitsCanEnd` in `specs/Laws.antt`. Proof: `proofs/reached/OneWait.antt`.
 pub fn waits_can_end()

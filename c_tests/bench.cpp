@@ -1,5 +1,5 @@
 // Times Ligdrosa's mutex and condition variable beside those of pthread (mutexes normal and recursive) and of the standard library, all in
-// one process and in turn, so that what the machine does meanwhile meets all: bench [ROUNDS]. A line has the median of the rounds, the
+// one process and in turn, so that other load on the machine meets all alike: bench [ROUNDS]. A line has the median of the rounds, the
 // least and the greatest: nanoseconds for a lock and an unlock, for a round trip or for a broadcast, and in the rows of fairness
 // how many times as often the thread that gained the mutex most did so as the one that did so least.
 #include <algorithm>
@@ -69,7 +69,7 @@ template <class Lock> static double held(Lock &lock) {
   return nanoseconds;
 }
 
-// Runs the function in so many threads, which begin together, and gives the nanoseconds that they took.
+// Runs the function in this many threads, which begin together, and returns the nanoseconds that they took.
 static double in_threads(int threads, const std::function<void(int)> &work) {
   std::barrier start(threads + 1);
   std::vector<std::thread> all;
@@ -84,7 +84,7 @@ static double in_threads(int threads, const std::function<void(int)> &work) {
   return double(now() - begun);
 }
 
-// So many threads, which hold for `inside` turns of a loop and stay outside for `outside` turns.
+// This many threads, which hold for `inside` turns of a loop and stay outside for `outside` turns.
 template <class Lock> static double together(Lock &lock, int threads, int inside, int outside) {
   const int pairs = 40000 / threads;
   total = 0;
@@ -101,7 +101,7 @@ template <class Lock> static double together(Lock &lock, int threads, int inside
   return nanoseconds / (double(pairs) * threads);
 }
 
-// So many threads with short sections for 50 milliseconds: how many times as often the quickest gained the mutex as the slowest.
+// This many threads with short sections for 50 milliseconds: how many times as often the quickest gained the mutex as the slowest.
 template <class Lock> static double fairness(Lock &lock, int threads) {
   std::vector<uint64_t> gained(size_t(threads), 0);
   in_threads(threads, [&](int thread) {
@@ -134,7 +134,7 @@ template <class Lock, class Condition> static double ping_pong(Lock &lock) {
   return nanoseconds / trips;
 }
 
-// One thread wakes so many that wait, again and again: from the wake until each of them has held the mutex.
+// One thread wakes this many that wait, again and again: the time from the wake until each of them has held the mutex.
 template <class Lock, class Condition> static double broadcast(Lock &lock, int waiters) {
   const int times = 100;
   Condition go(lock), all_wait(lock);

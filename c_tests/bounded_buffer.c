@@ -30,7 +30,7 @@ static bool take(lfm_seat *seat) {
     taken++;
     EXPECT(lfm_is_refused(lfm_wake_one(&not_full, seat)), false);
   }
-  /* the last one taken ends the other consumers, whoever waits */
+  /* after the last number the other consumers end: all that wait are woken */
   if (taken == (uint64_t)PRODUCERS * EACH) EXPECT(lfm_is_refused(lfm_wake_all(&not_empty, seat)), false);
   EXPECT(lfm_is_refused(lfm_unlock(seat)), false);
   return there;

@@ -67,7 +67,7 @@ static void two_at_a_time() {
   EXPECT(total, 10000);
 }
 
-// By what a call is refused, or LFM_DONE.
+// Why a call is refused, or LFM_DONE.
 template <class Call> static lfm_status refusal_of(Call call) {
   try {
     call();
@@ -94,7 +94,7 @@ static void seats_of_threads() {
   lfm::recursive_mutex mutex(2);
   std::lock_guard<lfm::recursive_mutex> lock(mutex), again(mutex);
   EXPECT(lfm_depth(mutex.own()), 2u);
-  // a thread that ends gives its seat back, so many can come one after another
+  // a thread that ends gives its seat back, so many threads can use one seat in turn
   for (int i = 0; i < 10; i++) std::thread([&] { EXPECT(mutex.try_lock(), false); }).join();
   std::thread([&] {
     EXPECT(mutex.try_lock(), false);

@@ -1,7 +1,7 @@
 // What ends early or late: a condition variable that ends while a wait of it is about to return, and objects that lock when they end, after
 // the seats of their thread were given back.
 //
-// The calls of the library are seen here, so that threads meet where they seldom would: a thread that begins to wait holds the list until
+// The test wraps the calls of the library, so that threads meet at points at which they seldom would: a thread that begins to wait holds the list until
 // another has asked for it, and when it has given the list to that one, it goes on only once the condition variable has ended.
 #define lfm_c_ask seen_ask
 #define lfm_c_start_wait seen_start_wait
@@ -17,7 +17,7 @@
 enum stage { AT_ONCE, WAITS, ASKED, GIVEN, ENDED };
 static std::atomic<stage> now{AT_ONCE};
 
-// Where the test stands at the first stage, goes on to the next and waits for the one after it.
+// If the test is at the first stage, goes on to the next and waits for the one after it.
 static void meet(stage at) {
   stage next = stage(at + 1);
   if (!now.compare_exchange_strong(at, next)) return;

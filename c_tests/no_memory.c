@@ -2,7 +2,7 @@
  * --wrap for malloc, realloc, free and aligned_alloc. */
 #include "expect.h"
 
-static long allowed = -1; /* how many more requests are granted; all, below 0 */
+static long allowed = -1; /* how many more requests are granted; all of them if it is below 0 */
 static long given;        /* how many blocks are not given back */
 
 void *__real_malloc(size_t);
@@ -54,7 +54,7 @@ static lfm_status make_mutex(void) { return lfm_mutex_new(&mutex, 3, 100); }
 static lfm_status make_condvar(void) { return lfm_condvar_new(&condvar, &mutex); }
 
 int main(void) {
-  /* 7 of the library's mutex, which scripts/refuse_memory tells, one that its seats share, a list of them, and the bells */
+  /* 7 for the library's mutex, as scripts/refuse_memory counts, and one each for what its seats share, a list of them, and the bells */
   EXPECT(refuse_each(make_mutex), 10);
   allowed = 0; /* no other call asks for memory */
   EXPECT(lfm_seat_take(&mutex, &seat), LFM_DONE);

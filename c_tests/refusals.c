@@ -1,7 +1,7 @@
-/* Each refusal, in one thread, and that a refused call has changed nothing; and that memory of calloc is aligned enough. Refused memory
- * has a test of its own.
+/* Each refusal, in one thread: a refused call changes nothing. And memory of calloc is aligned enough. Refused memory has a test of
+ * its own.
  *
- * What the library tells of its handles is seen here, so that it can be of another version. */
+ * The test wraps the calls that tell the sizes of handles, so that the library can seem to be of another version. */
 #define lfm_c_mutex_size seen_mutex_size
 #define lfm_c_mutex_align seen_mutex_align
 #define lfm_c_seat_size seen_seat_size
@@ -84,7 +84,7 @@ static void what_the_library_calls_blank(void) {
   EXPECT(lfm_c_close(a), LFM_DONE);
 }
 
-/* It is opened all the same, as one whose bytes are 0 is: the header sees by `bells` alone that it is not open. */
+/* It is opened all the same, as one whose bytes are 0 is: the header looks at `bells` alone to see that it is not open. */
 static void a_mutex_with_any_handle(void) {
   static lfm_mutex own;
   memset(own.handle, 0xA5, sizeof own.handle);
@@ -147,7 +147,7 @@ static void both_back(void) {
 }
 
 /* As many seats are given back as the mutex has, and one of them is another mutex's, with a number that is back already. So a seat of
- * its own is missed, whether it holds or not. Once each is where it belongs, both mutexes close. */
+ * its own is missing, whether it holds or not. Once each seat is back at its mutex, both mutexes close. */
 static void a_seat_of_another_mutex(void) {
   static lfm_mutex other;
   two_seats_of(10);
@@ -272,7 +272,7 @@ static void condition_variables(void) {
   both_back();
 }
 
-/* What keeps a seat from a wait is told, and then nothing is listed and the seat holds on. */
+/* A wait that a seat refuses says why; nothing is listed then, and the seat still holds. */
 static void waits_that_a_seat_refuses(void) {
   static lfm_condvar condvar;
   two_seats_of(1);

@@ -1,10 +1,10 @@
 /* Asks that are stopped between their atomic operations, so that one grants the mutex to another seat, which sleeps.
  *
- * The answer of such an ask is all that tells whom to wake. It takes three seats: the first gives the mutex up while the second has begun to
+ * Only the answer of such an ask tells whom to wake. It takes three seats: the first gives the mutex up while the second has begun to
  * ask, so it posts; the second is queued; then the third takes the post over and finds the second in the queue, which sleeps by then.
  * Threads that run freely meet so seldom. Here the second and the third are stopped before each of their operations in turn, in all ways, and
- * the test fails where no ask has granted the mutex to a seat that sleeps, where a seat is not woken, and where no unlock of the first has
- * told that it posted.
+ * the test fails if no ask has granted the mutex to a seat that sleeps, if a seat is not woken, or if no unlock of the first has told
+ * that it posted.
  *
  * A thread is stopped by the processor's trap flag: after each instruction of an ask comes a signal, whose handler waits if the next
  * instruction is an atomic operation that is not allowed yet. So the test needs an x86-64. */
@@ -75,7 +75,7 @@ static void *call(void *at) {
   return NULL;
 }
 
-/* Allows the thread so many operations, and waits until it has been stopped, sleeps or is done. */
+/* Allows the thread this many operations, and waits until it has been stopped, sleeps or is done. */
 static void allow(caller *c, int operations) {
   set(&c->allowed, operations);
   while (seen(&c->begun) <= operations && !seen(&c->is_done) && !__atomic_load_n(&c->seat->bell->sleeps, __ATOMIC_SEQ_CST)) sched_yield();

@@ -1,8 +1,8 @@
 /* In which order a wait and a wake ring and give the list of the condition variable back. They ring last, so that the thread that they
  * wake finds the list free.
  *
- * One thread calls all seats, and the calls of the library are seen here, so no answer depends on when a thread runs. Where another
- * thread would make calls, the test makes them before a receive or a send that is seen. */
+ * One thread makes the calls of all seats, so no answer depends on when a thread runs. The test wraps the calls of the library: it makes
+ * the calls that another thread would make before a receive or a send. */
 #define lfm_c_ask seen_ask
 #define lfm_c_receive seen_receive
 #define lfm_c_unlock seen_unlock
@@ -31,7 +31,7 @@ static bool is_of_list(void *handle) {
   return false;
 }
 
-/* Makes these calls, and forgets them first: they may make a receive or a send that is seen. */
+/* Makes these calls, and forgets them first: they may make a receive or a send themselves. */
 static void make_once(void (**calls)(void)) {
   void (*now)(void) = *calls;
   *calls = NULL;

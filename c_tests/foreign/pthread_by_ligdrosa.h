@@ -26,10 +26,10 @@
 
 enum { OWN_SEATS = 128, OWN_NO_COUNTERPART = 77 };
 
-/* A mutex as a test has it, all zero where it is made by an initializer. */
+/* A mutex as a test has it, all zero if it is made by an initializer. */
 typedef struct own_mutex {
   int kind;
-  int made;            /* 1 where `by` is a mutex */
+  int made;            /* 1 if `by` is a mutex */
   unsigned long which; /* no two mutexes that are made have the same */
   lfm_mutex *by;
   lfm_seat *seats;     /* the seats of the threads, by their numbers */
@@ -64,7 +64,7 @@ OWN int own_misses(const char *what) {
 
 OWN __attribute__((destructor)) void own_tells(void) { fprintf(stderr, "calls of Ligdrosa: %lu\n", own_calls); }
 
-/* No signal of the test's comes while the guard is held, since its handler may make a call. */
+/* Signals of the test are blocked while the guard is held, since their handlers may make calls. */
 OWN void own_enter(sigset_t *before) {
   sigset_t all;
   sigfillset(&all);
@@ -237,7 +237,7 @@ OWN int own_cond_destroy(own_cond *cond) {
   return 0;
 }
 
-/* Opens the condition variable for the mutex, where it isn't; the guard is held. */
+/* Opens the condition variable for the mutex, if it isn't; the guard is held. */
 OWN int own_bind(own_cond *cond, own_mutex *mutex) {
   if (cond->by && cond->which == mutex->which) return 0;
   if (cond->by && cond->by->count != 0) return EINVAL;
@@ -263,7 +263,7 @@ OWN int own_cond_wait(own_cond *cond, own_mutex *mutex) {
   return status != 0 ? status : own_errno(lfm_wait(by, seat));
 }
 
-/* Where nobody has waited yet, there is nobody to wake. */
+/* If nobody has waited yet, there is nobody to wake. */
 OWN int own_cond_wake(own_cond *cond, bool all) {
   lfm_condvar *by = __atomic_load_n(&cond->by, __ATOMIC_SEQ_CST);
   if (!by) return 0;

@@ -13,7 +13,7 @@ static void *exit_later(void *seconds) {
   exit(0);
 }
 
-/* Ends the program with status 0 after so many seconds: for tests that are to wait for ever. */
+/* Ends the program with status 0 after this many seconds: for tests that are to wait for ever. */
 int delayed_exit(int seconds) {
   pthread_t thread;
   return pthread_create(&thread, NULL, exit_later, (void *)(uintptr_t)seconds);

@@ -1,5 +1,5 @@
-//! What this crate makes of the library's calls, which a test program has itself: it sees which are made, and tells what a library
-//! seldom tells. Each test has a thread of its own.
+//! How this crate uses the library's calls. The test program defines those calls itself: it sees which are made, and gives answers that
+//! a library seldom gives. Each test has a thread of its own.
 mod seen_calls;
 
 use ligdrosa::{mutex, Condvar, Refusal};
@@ -46,7 +46,7 @@ fn a_condition_variable_without_takes() {
     assert!(!MADE.take().contains(&"lfm_c_unlock"));
 }
 
-/// The library may count on it that a handle lies still, from the call that opens it or makes it blank to the last one.
+/// The library may rely on it that a handle does not move, from the call that opens it or makes it blank to the last one.
 #[test]
 fn handles_lie_still() {
     MADE.take();

@@ -1,4 +1,5 @@
-//! What the program does with its arguments. What it reads goes to the core, and what the core answers to the shell.
+//! What the program does with its arguments: it runs a command from standard input to standard output, and turns its outcome
+//! into the exit status.
 ghost use Rattle.std.specs.Prelude.{◌≢◌, Err};
 
 use lfm_core::{ReplayFault, replay};
@@ -9,10 +10,10 @@ use std::rt::Env;
 use std::sync::Wait;
 use std::thread::Threads;
 
-/// The line on the usage of the program.
+/// The line that tells the usage of the program.
 const USAGE_LINE: &str = "usage: lfm replay | lfm work";
 
-/// Does what the command line asks for, and gives the exit status. Messages go to standard error.
+/// Does what the command line asks for, and returns the exit status. Messages go to standard error.
 pub fn run<R: Env + AllocGlobal + Input + Print + Eprint + Threads + Wait + Sync>(rt: &R) -> u8 {
     match read_command_line(rt) {
         CommandLine::Word(word) => run_command(rt, word.as_str()),
@@ -21,7 +22,7 @@ pub fn run<R: Env + AllocGlobal + Input + Print + Eprint + Threads + Wait + Sync
     }
 }
 
-/// Does what this command asks for, and gives the exit status.
+/// Does what this command asks for, and returns the exit status.
 fn run_command<R: AllocGlobal + Input + Print + Eprint + Threads + Wait + Sync>(
     rt: &R,
     command: &str,
@@ -41,7 +42,7 @@ fn replay_streams<R: AllocGlobal + Input + Print>(rt: &R) -> Result<bool, Replay
     replay(rt.alloc(), &mut rt.reader(), &mut writer)
 }
 
-/// Runs the script on standard input, and writes its report into standard output. No gate stops a worker.
+/// Runs the script on standard input, and writes its report to standard output. No gate stops a worker.
 fn work_streams<R: AllocGlobal + Input + Print + Threads + Wait + Sync>(
     rt: &R,
 ) -> Result<bool, WorkFault>

@@ -17,8 +17,8 @@ pub record KeepsCondvar (k l : CondvarCore) (g h : CondvarGhost) (v : ℕ) : Typ
   pub claimed : h.claimed v ≡ g.claimed v
 
 -- what an event of seat s leaves: the views and calls of all other seats, each condvar whose lock another seat has, and which
--- seat each ticket was given to; tickets are only added, and claims too; and who waits for a claim goes on waiting
--- until it comes, and no longer
+-- seat each ticket was given to; tickets are only added, and claims too; and a seat that waits for a claim waits until it
+-- comes, and no longer
 pub record Frame (k l : CondvarCore) (g h : CondvarGhost) (s : ℕ) : Type 0 where
   pub leaves : OthersStay k.mutex l.mutex s
   pub stage : (t : ℕ) → t ≢ s → l.stage t ≡ k.stage t

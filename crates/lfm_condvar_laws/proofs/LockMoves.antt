@@ -56,7 +56,7 @@ same_holder k v w x same =
       | inr elsewhere ↦ ap (λ y. y.holder) (changed_other k.condvar v w x elsewhere)
     ]
 
--- the seat takes the lock of condvar v, where it becomes x
+-- the seat takes the lock of condvar v, which becomes x
 takes : (k m : CondvarCore) (s v : ℕ) (d e : Stage) (x : Condvar) → k.stage s ≡ d → m.stage ≡ k.stage → m.condvar ≡ k.condvar
     → ((t : ℕ) → t ≢ s → seat m.mutex.seats t ≡ seat k.mutex.seats t)
     → x.holder ≡ s → has_lock v e ≡ true → ((w : ℕ) → has_lock w d ≡ false)

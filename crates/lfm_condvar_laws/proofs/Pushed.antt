@@ -13,7 +13,7 @@ use Rattle.lfm_condvar_laws.proofs.points.PushPoints.{to_push}
 abbrev pub Before : Waiter → Waiter → Type 0
 Before first second = first.ticket < second.ticket
 
--- a wake sends this waiter, whom it claimed last; where it may push a record for it yet, the pushed ones have lower tickets
+-- a wake sends this waiter, whom it claimed last; if it may still push a record for it, the pushed ones have lower tickets
 pub record SendFits (k : CondvarCore) (g : CondvarGhost) (pushes : ℕ → List Waiter) (s v : ℕ) (oldest : Waiter) : Type 0 where
   pub last : oldest.ticket ≡ g.claimed v
   pub told : Contains (claims_told g v) oldest
@@ -26,7 +26,7 @@ pub record PushFits (k : CondvarCore) (g : CondvarGhost) (pushes : ℕ → List 
   pub told : (v : ℕ) → All (Contains (claims_told g v)) (pushes v)
   pub sends : (s v : ℕ) (all : Bool) (oldest : Waiter) → k.stage s ≡ sending v all oldest → SendFits k g pushes s v oldest
 
--- so many were claimed as the ghost tells
+-- as many were claimed as the ghost tells
 pub told_count : (g : CondvarGhost) (v : ℕ) → length (claims_told g v) ≡ g.claimed v
 told_count g v = length-waiters (g.given v) 0 (g.claimed v)
 
@@ -44,7 +44,7 @@ one_after xs x ordered below i j d before within =
           (below i d (omega (arith, before, last)))
     ]
 
--- what a seat that sends now did before: it sent the same, and what it may push yet it might push before
+-- a seat that sends now sent the same before, and what it may still push it might push before
 abbrev pub Back : CondvarCore → CondvarCore → ℕ → Type 0
 Back k l s =
     (v : ℕ) (all : Bool) (oldest : Waiter) → l.stage s ≡ sending v all oldest
@@ -87,7 +87,7 @@ all_one : {A : Type 0} (P : A → Type 0) (x : A) → P x → All P (x ∷ [])
 all_one P x holds zero d within = holds
 all_one P x holds (suc i) d within = absurd (omega (arith, within))
 
--- all that is so of each is so of each, in the words that follow from it
+-- if P implies Q, items of which each is a P are each a Q
 all_so : {A : Type 0} (P Q : A → Type 0) (xs : List A) → ((x : A) → P x → Q x) → All P xs → All Q xs
 all_so P Q xs so all i d within = so (get_or xs i d) (all i d within)
 

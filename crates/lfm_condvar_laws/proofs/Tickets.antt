@@ -5,12 +5,12 @@ use Rattle.std.specs.List.{range_with_len}
 use Rattle.lfm_condvar_laws.specs.Claims.{seats_with}
 use Rattle.lfm_condvar_laws.specs.Condvars.{Waiter, is_listed}
 
--- so many waiters, whose tickets follow this one and whose seats the function tells
+-- this number of waiters, whose tickets follow this one and whose seats the function tells
 abbrev pub waiters_of : (ℕ → ℕ) → ℕ → ℕ → List Waiter
 waiters_of given last zero = []
 waiters_of given last (suc n) = record { seat = given (last + 1); ticket = last + 1 } ∷ waiters_of given (last + 1) n
 
--- they are the same where the tickets were given to the same seats
+-- they are the same if the tickets were given to the same seats
 pub waiters_agree : (f f' : ℕ → ℕ) (last n : ℕ) → ((ticket : ℕ) → ticket ≤ last + n → f' ticket ≡ f ticket)
     → waiters_of f' last n ≡ waiters_of f last n
 waiters_agree f f' last zero same = refl
@@ -94,7 +94,7 @@ no_seat_above f last zero ticket above = refl
 no_seat_above f last (suc n) ticket above =
     rw (ne_eqb (last + 1) ticket (λ e. omega (arith, e, above))) (no_seat_above f (last + 1) n ticket (omega arith))
 
--- and one of these has just the seat that it was given to
+-- and one of these has exactly the seat that it was given to
 pub one_seat : (f : ℕ → ℕ) (last n ticket : ℕ) → last < ticket → ticket ≤ last + n
     → seats_with ticket (waiters_of f last n) ≡ f ticket ∷ []
 one_seat f last zero ticket above within = absurd (omega (arith, above, within))

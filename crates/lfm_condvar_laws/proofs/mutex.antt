@@ -1,4 +1,4 @@
--- What one begin or one step of the user mutex does to wake words, to other seats and to its own, and runs of them.
+-- What the start of a call and a step of the user mutex do to wake words, to other seats and to its own, and runs of them.
 pub mod WakeWords
 pub mod MutexMoves
 pub mod OwnSeat

@@ -13,8 +13,8 @@ pub record Waiter : Type 0 where
   pub seat : ℕ
   pub ticket : ℕ
 
--- How many waiters were sent, how many were added, and those that are left, oldest first. The inner mutex is seen as one
--- atomic lock: `holder` is the seat whose call has it, 0 where it is free.
+-- How many waiters were sent, how many were added, and those that are left, oldest first. The inner mutex is seen as one atomic
+-- lock: `holder` is the seat whose call has it, 0 if it is free.
 pub record Condvar : Type 0 where
   pub sent : ℕ
   pub added : ℕ

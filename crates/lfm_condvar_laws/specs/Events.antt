@@ -52,12 +52,12 @@ is_rest _ = false
 abbrev pub begins_call : CondvarCore → ℕ → Call → CondvarCore
 begins_call k s call = if is_outside (k.stage s) && is_own_call call then mutex_begins k s call else k
 
--- a wait is refused where start_wait would be
+-- a wait is refused if start_wait would be
 abbrev pub begins_wait : CondvarCore → ℕ → ℕ → CondvarCore
 begins_wait k s v =
     if is_outside (k.stage s) && is_open (begin k.mutex s StartWait).turn then put_stage k s (locking_to_wait v) else k
 
--- a wake is refused where the seat sleeps
+-- a wake is refused if the seat sleeps
 abbrev pub begins_wake : CondvarCore → ℕ → ℕ → Bool → CondvarCore
 begins_wake k s v all =
     if is_outside (k.stage s) && (is_seat k.mutex.seats s && is_rest (point_of k s))
@@ -85,7 +85,7 @@ enlists k s v =
 abbrev pub gives_back : CondvarCore → ℕ → CondvarCore
 gives_back k v = put_holder k v 0
 
--- a wait that has given the lock back: it receives while it sleeps, and ends where it holds
+-- a wait that has given the lock back: it receives while it sleeps, and ends once it holds
 abbrev pub receives_at : CondvarCore → ℕ → Point → CondvarCore
 receives_at k s Rest = put_stage k s outside
 receives_at k s (Asleep sleeper) = mutex_begins k s Receive

@@ -62,7 +62,7 @@ ClaimsNeverFail =
 abbrev pub TicketsAreClaimedOnce : Type 0
 TicketsAreClaimedOnce = (r : CondvarRun) (v ticket : ℕ) → length (claims_with r v ticket) ≤ 1
 
--- the claims of a condvar are of its tickets 1, 2, 3 and on, in order; where its lock is free, as many as count as sent
+-- the claims of a condvar are of its tickets 1, 2, 3 and so on, in order; while its lock is free, as many as count as sent
 abbrev pub ClaimsAreInOrder : Type 0
 ClaimsAreInOrder =
     (r : CondvarRun) (v : ℕ)
@@ -77,7 +77,7 @@ PushesAreInOrder =
 
 -- Locks
 
--- The lock of a condvar is that of the seat whose call has taken it and not given it back. Where a wake has made its last event,
+-- The lock of a condvar is that of the seat whose call has taken it and not given it back. Once a wake has made its last event,
 -- the lock is free
 abbrev pub LocksAreGivenBack : Type 0
 LocksAreGivenBack =
@@ -88,7 +88,7 @@ LocksAreGivenBack =
 
 -- Wakes
 
--- where a wake of all sends no more, nobody is in the list, and it gives the lock back next
+-- once a wake of all sends no more, nobody is in the list, and it gives the lock back next
 abbrev pub WakesEmptyTheList : Type 0
 WakesEmptyTheList =
     (r : CondvarRun) (s v : ℕ) (e : CondvarEvent) → sends_all v ((reached_by r).stage s) ≡ true
@@ -103,25 +103,25 @@ WaitsAreNew =
     (r : CondvarRun) (s v : ℕ) → (reached_by r).stage s ≡ locking_to_wait v → ((reached_by r).condvar v).holder ≡ 0
     → is_listed s ((reached_by r).condvar v).waiters ≡ false
 
--- where a wait is about to end, just one claim was made with its ticket, and for its own seat
+-- when a wait is about to end, exactly one claim was made with its ticket, and for its own seat
 abbrev pub WaitsAreSent : Type 0
 WaitsAreSent =
     (r : CondvarRun) (s v ticket : ℕ) → (reached_by r).stage s ≡ receiving v ticket → point_of (reached_by r) s ≡ Rest
     → claims_with r v ticket ≡ s ∷ []
 
--- of a wait that has given the lock back, no claim was made and it is WAITING, or just that claim was made
+-- of a wait that has given the lock back, no claim was made and it is WAITING, or exactly that claim was made
 abbrev pub WaitsSleepUntilSent : Type 0
 WaitsSleepUntilSent =
     (r : CondvarRun) (s v ticket : ℕ) → (reached_by r).stage s ≡ receiving v ticket
     → (((claims_with r v ticket ≡ []) × (wake (reached_by r).mutex.wakes s ≡ Waiting)) ⊎ (claims_with r v ticket ≡ s ∷ []))
 
--- and where it is about to end, its seat holds the user mutex once
+-- and when it is about to end, its seat holds the user mutex once
 abbrev pub WaitsEndHolding : Type 0
 WaitsEndHolding =
     (r : CondvarRun) (s v ticket : ℕ) → (reached_by r).stage s ≡ receiving v ticket → point_of (reached_by r) s ≡ Rest
     → (seat (reached_by r).mutex.seats s).depth ≡ 1
 
--- these laws are not of nothing: in some run a wait is about to end
+-- the laws are not vacuous: in some run a wait is about to end
 pub record WaitsCanEnd : Type 0 where
   pub run : CondvarRun
   pub seat : ℕ
@@ -142,7 +142,7 @@ pub record IsInOrder (x : Condvar) : Type 0 where
 abbrev pub ListsAreInOrder : Type 0
 ListsAreInOrder = (r : CondvarRun) (v : ℕ) → ((reached_by r).condvar v).holder ≡ 0 → IsInOrder ((reached_by r).condvar v)
 
--- where the lock of a condvar is free, a waiter is listed exactly while its wait receives and no claim was made with its ticket
+-- while the lock of a condvar is free, a waiter is listed exactly while its wait receives and no claim was made with its ticket
 abbrev pub WaitersAreListed : Type 0
 WaitersAreListed =
     (r : CondvarRun) (v : ℕ) (x : Waiter) → ((reached_by r).condvar v).holder ≡ 0

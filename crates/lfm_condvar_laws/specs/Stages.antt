@@ -18,7 +18,7 @@ is_wake v (sending w all oldest) = nat_eq w v
 is_wake v (unlocking w) = nat_eq w v
 is_wake v _ = false
 
--- a wake of all waiters of condvar v, up to where it sends no more
+-- a wake of all waiters of condvar v, until it sends no more
 abbrev pub sends_all : ℕ → Stage → Bool
 sends_all v (locking_to_wake w all) = all && nat_eq w v
 sends_all v (claiming w all oldest) = all && nat_eq w v

@@ -1,4 +1,4 @@
-//! The laws of claims: how the wakes of a condvar claim those who wait, and in which order they push them.
+//! The laws of claims: how the wakes of a condvar claim the waiters, and in which order they push them.
 ghost use Rattle.lfm_condvar_laws.specs.Laws.{ClaimsNeverFail, TicketsAreClaimedOnce, ClaimsAreInOrder, PushesAreInOrder};
 
 /// The claim of a sender never fails: a seat that is about to make the exchange of a `send_lock` finds its target waiting.
@@ -24,8 +24,8 @@ pub fn claims_are_in_order()
     ensures { ClaimsAreInOrder }
 {}
 
-/// The order goes on in the user mutex: the records that the wakes of a condvar push into its push list, for their targets,
-/// go up by ticket, each for a seat that was claimed with this ticket. That each claimed seat is pushed is not said.
+/// The order goes on in the user mutex: the records that the wakes of a condvar push into its push list, for their targets, go
+/// up by ticket, each for a seat that was claimed with this ticket. That each claimed seat is pushed is not part of it.
 ///
 /// Definition: `PushesAreInOrder` in `specs/Laws.antt`. Proof: `proofs/reached/PushOrder.antt`.
 pub fn pushes_are_in_order()

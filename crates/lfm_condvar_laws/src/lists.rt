@@ -1,15 +1,15 @@
-//! The laws of a condvar's list and of its lock: who stands in the list, in which order, and who has the lock.
+//! The laws of a condvar's list and of its lock: which seats stand in the list, in which order, and which seat has the lock.
 ghost use Rattle.lfm_condvar_laws.specs.Laws.{ListsAreInOrder, WaitersAreListed, SleepersAreListed, LocksAreGivenBack, WakesEmptyTheList};
 
-/// Wherever the lock of a condvar is free, the tickets in its list are those after the sent ones and up to the added ones,
-/// in order, and its seats are distinct.
+/// Whenever the lock of a condvar is free, the tickets in its list are those after the sent ones and up to the added ones, in
+/// order, and its seats are distinct.
 ///
 /// Definition: `ListsAreInOrder` in `specs/Laws.antt`. Proof: `proofs/reached/ListOrder.antt`.
 pub fn lists_are_in_order()
     ensures { ListsAreInOrder }
 {}
 
-/// Wherever the lock of a condvar is free, its list has just the seats whose `wait` has given the lock back and whose ticket
+/// Whenever the lock of a condvar is free, its list has exactly the seats whose `wait` has given the lock back and whose ticket
 /// no wake has claimed yet, each with this ticket. So a wake finds every one of them.
 ///
 /// Definition: `WaitersAreListed` in `specs/Laws.antt`. Proof: `proofs/reached/ListOrder.antt`.
@@ -17,7 +17,7 @@ pub fn waiters_are_listed()
     ensures { WaitersAreListed }
 {}
 
-/// At every moment, each seat whose wake word is WAITING stands in the list of some condvar. Where the lock of a condvar is
+/// At every moment, each seat whose wake word is WAITING stands in the list of some condvar. While the lock of a condvar is
 /// free, `waiters_are_listed` says that it is the one on which the seat waits.
 ///
 /// Definition: `SleepersAreListed` in `specs/Laws.antt`. Proof: `proofs/reached/SleepersListed.antt`.
@@ -25,7 +25,7 @@ pub fn sleepers_are_listed()
     ensures { SleepersAreListed }
 {}
 
-/// The lock of a condvar is held by just the seat whose call has taken it and not yet given it back. After the last event of
+/// The lock of a condvar is held by exactly the seat whose call has taken it and not yet given it back. After the last event of
 /// a wake it is free.
 ///
 /// Definition: `LocksAreGivenBack` in `specs/Laws.antt`. Proof: `proofs/reached/LocksBack.antt`.
@@ -33,7 +33,7 @@ pub fn locks_are_given_back()
     ensures { LocksAreGivenBack }
 {}
 
-/// Where a wake of all sends no more, the list is empty, and it gives the lock back next.
+/// Once a wake of all sends no more, the list is empty, and it gives the lock back next.
 ///
 /// Definition: `WakesEmptyTheList` in `specs/Laws.antt`. Proof: `proofs/reached/ListsEmptied.antt`.
 pub fn wakes_empty_the_list()

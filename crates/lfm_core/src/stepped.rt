@@ -1,5 +1,5 @@
-//! The mutex as a state that makes one atomic step at a time. Every state that a caller has is steady: nothing else can be built, and
-//! each turn keeps it so. The turns and readers themselves are the machine's.
+//! The mutex as a state that makes one atomic step at a time. Every state that a caller has is steady: no other can be built,
+//! and each turn keeps it so. The turns and readers themselves are the machine's.
 ghost use Rattle.std.specs.Prelude.{◌≡◌, ◌≤◌, true, false, length, reverse, slice_get, vec_capacity, IfOk, IfErr};
 ghost use Rattle.std.specs.Option.{option_map};
 ghost use Rattle.lfm_laws.specs.laws.Lawful.{Lawful};
@@ -39,9 +39,9 @@ impl Model for State {
 
 /// The turns.
 impl State {
-    /// A mutex at its start, of this many seats (1 to 4,095) with this budget of takes each (1 to 2^36). Outside these
-    /// limits it answers Limit and asks for no memory. It makes four requests for memory, each of the size that is
-    /// needed, and answers Memory where one was refused.
+    /// A mutex at its start, of this many seats (1 to 4,095) with this budget of takes each (1 to 2^36). Outside these limits
+    /// it answers Limit and asks for no memory. It makes four requests for memory, each of the size that is needed, and answers
+    /// Memory if one was refused.
     pub fn new(alloc: Global, seats: u64, budget: u64) -> Result<State, NewFault>
         ensures ok { IfOk result (λ m. m ≡ start (record { seats = seats; budget = budget })) }
         ensures limit { are_in_limits seats budget ≡ false → result ≡ Err NewFault.Limit }
@@ -57,9 +57,9 @@ impl State {
         }
     }
 
-    /// Seat s begins a call: the checks in the order of the refusals, the charge of a take, and the first point. It is
-    /// refused as NoSuchSeat where no seat has this number, then as InCall where a call of the seat is open, then by
-    /// the mutex. A refused turn changes nothing.
+    /// Seat s begins a call: the checks in the order of the refusals, the charge of a take, and the first point. It is refused
+    /// as NoSuchSeat if no seat has this number, then as InCall if a call of the seat is open, then by the mutex. A refused
+    /// turn changes nothing.
     pub fn begin(&mut self, s: u64, call: Call) -> Turn
         ensures core { self.new ≡ (begin self.old s call).core }
         ensures turn { result ≡ (begin self.old s call).turn }
@@ -67,9 +67,9 @@ impl State {
         self.machine.begin(s, call)
     }
 
-    /// Seat s makes the one atomic step at its point. It is refused as NoSuchSeat where no seat has this number, then as
-    /// Idle where no call of the seat is open; both change nothing. Busy and NotWaiting from a step end the call, and
-    /// Busy gives its charge back.
+    /// Seat s makes the one atomic step at its point. It is refused as NoSuchSeat if no seat has this number, then as Idle if
+    /// no call of the seat is open; both change nothing. Busy and NotWaiting from a step end the call, and Busy gives its
+    /// charge back.
     pub fn step(&mut self, s: u64) -> Turn
         ensures core { self.new ≡ (step self.old s).core }
         ensures turn { result ≡ (step self.old s).turn }
@@ -82,14 +82,14 @@ impl State {
 impl State {
     ghost use Rattle.lfm_laws.specs.steady.Steady.{Steady};
 
-    /// Every state is steady. `laws::every_state_is_steady` tells it to callers.
+    /// Every state is steady. `laws::every_state_is_steady` is the same fact for callers.
     pub(crate) fn steady(&self)
         ensures { Steady self.now }
     {
         let _ = &self.machine;
     }
 
-    /// Every state is lawful, since it is steady. `laws::every_state_is_lawful` tells it to callers.
+    /// Every state is lawful, since it is steady. `laws::every_state_is_lawful` is the same fact for callers.
     pub(crate) fn law(&self)
         ensures { Lawful self.now }
     {
@@ -97,7 +97,7 @@ impl State {
     }
 }
 
-/// What a state tells of itself. No reader changes anything or takes memory.
+/// The readers of a state. None changes anything or takes memory.
 impl State {
     /// The number of seats, at most 4,095. Seats are numbered from 1.
     pub fn seats(&self) -> u64
@@ -121,21 +121,21 @@ impl State {
         self.machine.count()
     }
 
-    /// The number of the owning seat; 0 where the owner word is empty.
+    /// The number of the owning seat; 0 if the owner word is empty.
     pub fn owner(&self) -> u64
         ensures { result ≡ self.now.owner }
     {
         self.machine.owner()
     }
 
-    /// The posted handoff; its seat is 0 where none is posted.
+    /// The posted handoff; its seat is 0 if none is posted.
     pub fn handoff(&self) -> Handoff
         ensures { result ≡ self.now.handoff }
     {
         self.machine.handoff()
     }
 
-    /// More steps than any call makes that runs alone.
+    /// No call makes more steps than this while no other seat makes one.
     pub fn longest_call(&self) -> u64
         ensures { result ≡ longest_call self.now }
     {

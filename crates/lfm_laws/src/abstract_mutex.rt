@@ -22,7 +22,8 @@ pub fn runs_are_abstract_runs()
     ensures { RunsAreAbstractRuns }
 {}
 
-/// Each step does to the reading the case that is named for it, or nothing where none is named. A begin does nothing to it.
+/// Each step does to the reading the case that is named for it, or nothing if none is named. Starting a call does nothing to
+/// it.
 ///
 /// Definitions: `EventsAreTheirCases` in `specs/laws/Laws.antt`, and `EventsAreTheirCasesInSchedules` in
 /// `specs/laws/InSchedules.antt`. Proofs: `proofs/lawful/runs/AbstractBridge.antt` and

@@ -1,4 +1,5 @@
-//! Progress: a release, a try and a receive are wait-free, every call is obstruction-free, and all calls together are lock-free.
+//! Progress: a release, a try and a receive are wait-free, every call is obstruction-free, and all calls together are
+//! lock-free.
 ghost use Rattle.lfm_laws.specs.laws.ConstantBounds.{ReceivesAreBounded, TriesAreBounded};
 ghost use Rattle.lfm_laws.specs.laws.InSchedules.{
   UnlocksAreBoundedInSchedules,
@@ -68,8 +69,8 @@ pub fn pushes_alone_fail_once()
     ensures schedules { PushesAloneFailOnceInSchedules }
 {}
 
-/// Alone, a `try_lock` of a seat that rests, without a hold and with a take left, ends `Held Free`: within two steps where
-/// the count is 0, within six where a post stands.
+/// Alone, a `try_lock` of a seat that rests, without a hold and with a take left, ends `Held Free`: within two steps if the
+/// count is 0, within six if a post stands.
 ///
 /// Definitions: `TriesAloneHold` in `specs/laws/Laws.antt`, and `TriesAloneHoldInSchedules` in
 /// `specs/laws/InSchedules.antt`. Proofs: `proofs/lawful/bounds/TriesAlone.antt` and `proofs/lawful/runs/InSchedules.antt`.

@@ -8,8 +8,8 @@ ghost use Rattle.lfm_laws.specs.laws.Entries.{HoldersTookTheirRecord, ReceiversL
 ghost use Rattle.lfm_laws.specs.laws.InSchedules.{ClaimedSeatsAreQueuedInSchedules};
 ghost use Rattle.lfm_laws.specs.laws.Releases.{ReleasesAnswerWhatTheyDid, ServedRecordsAreTold, WaitsAnswerTheirRelease};
 
-/// A seat's takes rise by one where a `lock` or `try_lock` opens at depth 0, and where a `start_wait` opens. They fall by
-/// one at a step that is refused as Busy. No other event changes them.
+/// A seat's takes rise by one when a `lock` or `try_lock` opens at depth 0, and when a `start_wait` opens. They fall by one at
+/// a step that is refused as Busy. No other event changes them.
 ///
 /// Definition: `TakesChangeByCharges` in `specs/laws/Charges.antt`. Proof: `proofs/lawful/calls/TakesCounted.antt`.
 pub fn takes_change_by_charges()
@@ -31,7 +31,7 @@ pub fn depth_counts_holds()
     ensures { DepthCountsHolds }
 {}
 
-/// A `lock` or `try_lock` of a seat that holds makes just its three or two steps, whatever the others do in between; one of
+/// A `lock` of a seat that holds makes exactly three steps, and a `try_lock` two, whatever the others do in between; one of
 /// them loads the owner word.
 ///
 /// Definition: `RecursiveCallsLoadTheOwner` in `specs/laws/Entries.antt`. Proof: `proofs/lawful/calls/RecursiveCalls.antt`.
@@ -63,8 +63,8 @@ pub fn releases_answer_what_they_did()
     ensures { ReleasesAnswerWhatTheyDid }
 {}
 
-/// Where the oldest record leaves the queue by a step, that step ends a lock, which holds by this record, its own, or sleeps,
-/// and the record is another's; or it ends a send, with Sent; or a release, with Granted and the record's seat.
+/// If the oldest record leaves the queue by a step, that step ends a lock, which holds by this record, its own, or sleeps while
+/// the record is another's; or it ends a send, with Sent; or a release, with Granted and the record's seat.
 ///
 /// Definition: `ServedRecordsAreTold` in `specs/laws/Releases.antt`. Proof: `proofs/lawful/calls/ReleasesTold.antt`.
 pub fn served_records_are_told()

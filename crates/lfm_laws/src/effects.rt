@@ -1,11 +1,12 @@
-//! Linearization points: each call has one event of its own seat that counts as its effect. That a call queues, posts or serves is not
-//! counted. These laws hold of every steady state, so of every state that a schedule reaches. The last is of schedules alone.
+//! Linearization points: each call has one event of its own seat that counts as its effect. Queueing, posting and serving are
+//! not counted. These laws hold of every steady state, so of every state that a schedule reaches. The last is of schedules
+//! alone.
 ghost use Rattle.lfm_laws.specs.laws.Effects.{CallsTakeEffectOnce, ChangesAreOfOpenCalls, EffectsAreOfCalls, EffectsAreTheCallers, OpenCallsHaveBegun};
 ghost use Rattle.lfm_laws.specs.laws.InSchedules.{CallsTakeEffectOnceInSchedules, EffectsAreOfCallsInSchedules, EffectsAreTheCallersInSchedules};
 
-/// A call has one effect from its begin to its end, whatever the others do in between: its seat or the target of its send
-/// asks, its seat accepts a post, takes up its grant or releases, or its depth changes and is above 0 before and after. A
-/// call that is refused has none, nor has a `receive` that finds no grant. A call that is open has had one at most.
+/// A call has one effect from its start to its end, whatever the others do in between: its seat or the target of its send asks,
+/// its seat accepts a post, takes up its grant or releases, or its depth changes and is above 0 before and after. A call that
+/// is refused has none, nor has a `receive` that finds no grant. A call that is open has had one at most.
 ///
 /// Definitions: `CallsTakeEffectOnce` in `specs/laws/Effects.antt`, and `CallsTakeEffectOnceInSchedules` in
 /// `specs/laws/InSchedules.antt`. Proofs: `proofs/lawful/calls/EffectsOnce.antt` and `proofs/lawful/runs/InSchedules.antt`.
@@ -22,7 +23,7 @@ pub fn changes_are_of_open_calls()
     ensures { ChangesAreOfOpenCalls }
 {}
 
-/// Each effect of a seat is a step of its open call, or the begin of a call that ends at once.
+/// Each effect of a seat is a step of its open call, or the start of a call that ends at once.
 ///
 /// Definitions: `EffectsAreOfCalls` in `specs/laws/Effects.antt`, and `EffectsAreOfCallsInSchedules` in
 /// `specs/laws/InSchedules.antt`. Proofs: `proofs/lawful/calls/EffectsOwned.antt` and `proofs/lawful/runs/InSchedules.antt`.
@@ -42,8 +43,8 @@ pub fn effects_are_the_callers()
     ensures schedules { EffectsAreTheCallersInSchedules }
 {}
 
-/// A seat that is in a call after a schedule has begun it in that schedule, and the call has been open since. So the laws above,
-/// which tell a call from its begin on, are about every open call.
+/// A seat that is in a call after a schedule has begun it in that schedule, and the call has been open since. So the laws
+/// above, which follow a call from its start, are about every open call.
 ///
 /// Definition: `OpenCallsHaveBegun` in `specs/laws/Effects.antt`. Proof: `proofs/lawful/calls/OpenCalls.antt`.
 pub fn open_calls_have_begun()

@@ -1,5 +1,5 @@
-//! No lost wake-up: posts that are watched, where a seat that sleeps stands, and takes that find a record. These laws are told
-//! of words and steps. That the park of a thread ends once its grant is stored is only tested.
+//! No lost wake-up: posts that are watched, where a seat that sleeps stands, and takes that find a record. These laws speak of
+//! words and steps. That the park of a thread ends once its grant is stored is only tested.
 ghost use Rattle.lfm_laws.specs.laws.Grants.{CallsGrantOnce};
 ghost use Rattle.lfm_laws.specs.laws.InSchedules.{
   HandoffsAreWatchedInSchedules,
@@ -60,7 +60,7 @@ pub fn won_posts_have_a_record()
     ensures schedules { WonPostsHaveARecordInSchedules }
 {}
 
-/// A push exchange fails only where the stamp has risen since, or the head was cleared.
+/// A push exchange fails only if the stamp has risen since, or the head was cleared.
 ///
 /// Definitions: `FailedPushesSeeChange` in `specs/laws/Laws.antt`, and `FailedPushesSeeChangeInSchedules` in
 /// `specs/laws/InSchedules.antt`. Proofs: `proofs/lawful/states/StateLaws.antt` and `proofs/lawful/runs/InSchedules.antt`.

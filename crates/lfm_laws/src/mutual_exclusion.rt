@@ -25,7 +25,7 @@ pub fn one_has_the_responsibility()
     ensures schedules { OneHasTheResponsibilityInSchedules }
 {}
 
-/// The count is 0 exactly where the place is free.
+/// The count is 0 exactly if the place is free.
 ///
 /// Definitions: `CountIsZeroWhereFree` in `specs/laws/Laws.antt`, and `CountIsZeroWhereFreeInSchedules` in
 /// `specs/laws/InSchedules.antt`. Proofs: `proofs/lawful/states/CountLaws.antt` and `proofs/lawful/runs/InSchedules.antt`.

@@ -1,10 +1,11 @@
-//! Refusals: a call or step is refused exactly where there is the cause, and a begin that is refused changes nothing.
+//! Refusals: a call or step is refused exactly if there is a cause for it, and a call that is refused as it starts changes
+//! nothing.
 ghost use Rattle.lfm_laws.specs.laws.BusyMoments.{BusyWasBusy};
 ghost use Rattle.lfm_laws.specs.laws.InSchedules.{BusyWasBusyInSchedules};
 ghost use Rattle.lfm_laws.specs.laws.OutsideSteps.{AnsweredOutside, RunsStayWithoutOutsideSteps, StepsOutsideOfCallsChangeNothing};
 ghost use Rattle.lfm_laws.specs.laws.Refusals.{RefusedBeginsChangeNothing, BeginsAreRefusedForCause, StepsAreRefusedForCause, TurnsAreRefusedForCause, TriesSeeAHolder};
 
-/// A begin that is refused leaves the whole state as it was.
+/// A call refused as it starts leaves the whole state as it was.
 ///
 /// Definition: `RefusedBeginsChangeNothing` in `specs/laws/Refusals.antt`. Proof: `proofs/lawful/refusals/RefusedCalls.antt`.
 pub fn refused_begins_change_nothing()
@@ -22,24 +23,24 @@ pub fn steps_outside_of_calls_change_nothing()
     ensures runs { RunsStayWithoutOutsideSteps }
 {}
 
-/// The mutex refuses a call exactly where the seat and the state have the cause that is named for this call and this
-/// refusal; at most one cause holds.
+/// The mutex refuses a call exactly if the seat and the state have the cause that is named for this call and this refusal; at
+/// most one cause holds.
 ///
 /// Definition: `BeginsAreRefusedForCause` in `specs/laws/Refusals.antt`. Proof: `proofs/lawful/refusals/RefusedCalls.antt`.
 pub fn begins_are_refused_for_cause()
     ensures { BeginsAreRefusedForCause }
 {}
 
-/// The mutex refuses a step of a call exactly where it has one of two causes. Busy: a `try_lock` loads no post, or finds the
-/// one that it loaded gone. NotWaiting: the target of a send does not wait. Then the call is over, and only its seat has
-/// changed; Busy has given the take back.
+/// The mutex refuses a step of a call exactly if it has one of two causes. Busy: a `try_lock` loads no post, or finds the one
+/// that it loaded gone. NotWaiting: the target of a send does not wait. Then the call is over, and only its seat has changed;
+/// Busy has given the take back.
 ///
 /// Definition: `StepsAreRefusedForCause` in `specs/laws/Refusals.antt`. Proof: `proofs/lawful/refusals/RefusedSteps.antt`.
 pub fn steps_are_refused_for_cause()
     ensures { StepsAreRefusedForCause }
 {}
 
-/// A begin or a step is refused exactly if there is its cause. NoSuchSeat: no such seat. InCall, of a begin: a call of the
+/// A call or step is refused exactly if there is a cause for it. NoSuchSeat: no such seat. InCall, of a call: another of the
 /// seat is open. Idle, of a step: none is. Any other refusal is one of the call itself.
 ///
 /// Definition: `TurnsAreRefusedForCause` in `specs/laws/Refusals.antt`. Proof: `proofs/lawful/refusals/RefusedTurns.antt`.
@@ -55,8 +56,8 @@ pub fn tries_see_a_holder()
     ensures { TriesSeeAHolder }
 {}
 
-/// At some moment between the begin of a `try_lock` and its answer Busy there was nothing to take: the count was above 0,
-/// and nothing was posted.
+/// At some moment between the start of a `try_lock` and its answer Busy there was nothing to take: the count was above 0, and
+/// nothing was posted.
 ///
 /// Definitions: `BusyWasBusy` in `specs/laws/BusyMoments.antt`, and `BusyWasBusyInSchedules` in
 /// `specs/laws/InSchedules.antt`. Proofs: `proofs/lawful/refusals/BusyMoments.antt` and `proofs/lawful/runs/InSchedules.antt`.

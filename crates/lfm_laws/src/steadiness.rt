@@ -1,5 +1,5 @@
 //! The invariant: every reached state is steady, each turn keeps a state so, and an atomic step touches one word, one seat and,
-//! at three kinds of step, the pop list. A mutex that runs on shared words stands on these.
+//! at three kinds of step, the pop list. The proofs of a mutex on shared words rest on these.
 ghost use Rattle.lfm_laws.specs.laws.Steadiness.{
   StatesAreSteady,
   StepsKeepSteady,
@@ -18,8 +18,8 @@ pub fn states_are_steady()
     ensures { StatesAreSteady }
 {}
 
-/// Let any ghost fit a state. After a begin or a step a ghost fits again. Between the two lies the case of the event, and
-/// the records of pushes, of records that left and of answers grow by what the event says.
+/// Let any ghost fit a state. After an event a ghost fits again. Between the two lies the case of the event, and the records of
+/// pushes, of records that left and of answers grow by what the event says.
 ///
 /// Definition: `StepsKeepSteady` in `specs/laws/Steadiness.antt`. Proof: `proofs/lawful/runs/KeptSteady.antt`, which goes by
 /// point in `proofs/steady/StepsKept.antt`.
@@ -38,7 +38,7 @@ pub fn steps_touch_one_word_and_one_seat()
     ensures sees { StepsSeeOneWordAndOneSeat }
 {}
 
-/// A begin changes its seat alone.
+/// Starting a call changes only its seat.
 ///
 /// Definition: `BeginsTouchOneSeat` in `specs/laws/Steadiness.antt`. Proof: `proofs/lawful/touched/OneSeat.antt`.
 pub fn begins_touch_one_seat()

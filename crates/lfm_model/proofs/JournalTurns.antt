@@ -43,7 +43,7 @@ module _ {O A R : Type 0} (after : O → A → O) (reply : O → A → R) where
       sym (ap (λ (l : List (Entry A)). kept ++ replies_of after reply o l) (left es i e (Took how) h is what)) ∙ before
 
 module _ {A : Type 0} where
-  -- a journal is lawful exactly where what is left may come after this take and this many queued takes
+  -- a journal is lawful exactly if what is left may come after this take and this many queued takes
   abbrev pub SameFrom : List (Entry A) → Option ℕ → ℕ → List (Entry A) → Type 0
   SameFrom es t k rest = (LawfulJournal es → LawfulFrom t k rest) × (LawfulFrom t k rest → LawfulJournal es)
 

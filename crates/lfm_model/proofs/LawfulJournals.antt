@@ -64,7 +64,7 @@ module _ {A : Type 0} where
   lawful_grows es e =
       (λ h. (lawful_start None 0 es (e ∷ []) h, (lawful_rest None 0 es (e ∷ []) h).0), λ both. lawful_more es e both.0 both.1)
 
-  -- seat s took last among the entries, or before them, where t did
+  -- seat s took last among the entries; or none of them is a take, and t did before them
   abbrev TakenFrom : Option ℕ → ℕ → List (Entry A) → Type 0
   TakenFrom t s es = TookLast s es ⊎ ((t ≡ Some s) × (takes es ≡ []))
 

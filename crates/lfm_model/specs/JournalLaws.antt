@@ -30,6 +30,6 @@ module _ {A : Type 0} where
       (before : List (Entry A)) × (how : How) × (since : List (Entry A))
       × (es ≡ before ++ entry s (Took how) ∷ since) × (takes since ≡ [])
 
-  -- wherever an op stands in the journal, the last take before it is by the same seat
+  -- for each op of the journal, the last take before it is by the same seat
   abbrev pub OpsByTakers : List (Entry A) → Type 0
   OpsByTakers es = (before later : List (Entry A)) (s : ℕ) (op : A) → es ≡ before ++ entry s (Did op) ∷ later → TookLast s before

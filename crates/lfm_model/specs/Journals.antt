@@ -1,4 +1,4 @@
--- What a journal says: the object after its ops and the replies to them, who took last, the stamps, the entries of each
+-- What a journal says: the object after its ops and the replies to them, which seat took last, the stamps, the entries of each
 -- seat, and when it is lawful.
 use Rattle.std.specs.Prelude.{◌≡◌, ℕ, ◌+◌, ◌<◌, ◌≤◌, ◌==◌, List, [], ◌∷◌, ◌++◌, Option, Some, None, suc, zero}
 use Rattle.std.specs.List.{filter, filter_map}
@@ -29,7 +29,7 @@ module _ {O A R : Type 0} (after : O → A → O) (reply : O → A → R) where
   replies_of o [] = []
   replies_of o (e ∷ es) = reply_of o e.what ++ replies_of (after_what after o e.what) es
 
--- after k queued takes, one may come so
+-- after k queued takes, a seat may take next in this way
 abbrev pub MayTake : ℕ → How → Type 0
 MayTake k Free = Unit {0}
 MayTake k (Queued x) = x ≡ k + 1
@@ -81,7 +81,7 @@ module _ {A : Type 0} where
   LawfulFrom t k [] = Unit {0}
   LawfulFrom t k (e ∷ es) = May t k e.seat e.what × LawfulFrom (taker_at t e.seat e.what) (queued_at k e.what) es
 
-  -- each op is by the seat of the last take before it, and the stamps of the queued takes are 1, 2, 3 and on
+  -- each op is by the seat of the last take before it, and the stamps of the queued takes are 1, 2, 3 and so on
   abbrev pub LawfulJournal : List (Entry A) → Type 0
   LawfulJournal es = LawfulFrom None 0 es
 

@@ -1,5 +1,5 @@
-//! Laws of journals: what it means that a journal is lawful, and which object a journal leads to. Each law is the contract
-//! of an empty function.
+//! Laws of journals: what makes a journal lawful, and which object a journal leads to. Each law is the contract of an empty
+//! function.
 ghost use Rattle.lfm_model.specs.JournalLaws.{OpsByTakers, ops};
 ghost use Rattle.lfm_model.specs.Journals.{LawfulJournal, May, after_all, one_to, queued_from, replies_of, stamps, taker_from};
 ghost use Rattle.lfm_model.specs.declared.journals.Entry.{Entry};
@@ -8,7 +8,7 @@ ghost use Rattle.std.specs.Prelude.{◌≡◌, ◌↔◌, ◌++◌, ◌∷◌, �
 
 use crate::objects::Object;
 
-/// The stamps of a lawful journal are 1, 2, 3 and on: as many as it has queued takes.
+/// The stamps of a lawful journal are 1, 2, 3 and so on: as many as it has queued takes.
 pub fn lawful_stamps_are_consecutive<Op>()
     ensures counted { (es : List (Entry Op)) → queued_from 0 es ≡ length (stamps es) }
     ensures stamps { (es : List (Entry Op)) → LawfulJournal es → stamps es ≡ one_to (queued_from 0 es) }
@@ -19,14 +19,14 @@ pub fn lawful_ops_are_by_takers<Op>()
     ensures { (es : List (Entry Op)) → LawfulJournal es → OpsByTakers es }
 {}
 
-/// These two facts are all that it takes: a journal is lawful where its stamps are 1, 2, 3 and on, and each op is by the
-/// seat of the last take before it.
+/// These two facts are enough: a journal is lawful if its stamps are 1, 2, 3 and so on, and each op is by the seat of the last
+/// take before it.
 pub fn journals_by_takers_are_lawful<Op>()
     ensures { (es : List (Entry Op)) → stamps es ≡ one_to (length (stamps es)) → OpsByTakers es → LawfulJournal es }
 {}
 
-/// A journal with one more entry at its end is lawful exactly where it was lawful before and the entry may come next: a take
-/// with the stamp after the last one or without a stamp, or an op by the seat that took last.
+/// A journal with one more entry at its end is lawful exactly if it was lawful before and the entry may come next: a take with
+/// the stamp after the last one or without a stamp, or an op by the seat that took last.
 pub fn lawful_journals_grow_by_what_may_come<Op>()
     ensures { (es : List (Entry Op)) (e : Entry Op) → LawfulJournal (es ++ e ∷ [])
         ↔ (LawfulJournal es × May (taker_from None es) (queued_from 0 es) e.seat e.what) }

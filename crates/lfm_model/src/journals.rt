@@ -25,8 +25,8 @@ pub struct Entry<Op> {
     pub what: What<Op>,
 }
 
-/// The object after the ops of the journal's entries, made in order on the opening object, and its reply to each. Takes
-/// memory for the replies; where that is refused, the object is dropped.
+/// The object after the ops of the journal's entries, made in order on the opening object, and its reply to each. Takes memory
+/// for the replies; if that is refused, the object is dropped.
 pub fn replay<O: Object>(
     alloc: Global,
     opening: O,
@@ -48,8 +48,8 @@ pub fn replay<O: Object>(
     Ok((object, replies))
 }
 
-/// Whether each op of the journal is by the seat of the last take before it, and the stamps of its queued takes are 1, 2, 3
-/// and on.
+/// Whether each op of the journal is by the seat of the last take before it, and the stamps of its queued takes are 1, 2, 3 and
+/// so on.
 pub fn lawful<Op>(entries: &[Entry<Op>]) -> bool
     ensures { IsTrue result ↔ LawfulJournal entries.now }
 {

@@ -30,7 +30,7 @@ pub enum TotalOp {
     Read,
 }
 
-/// A sum as an object. It replies to each op what the total is afterwards.
+/// A sum as an object. It replies to each op with the total after the op.
 #[derive(Clone, Copy, Debug, PartialEq, Eq)]
 pub struct Total(pub u64);
 

@@ -68,7 +68,7 @@ abbrev pub releases : SeatState → Releaser → Unlocked → Stepped
 releases x Unlocker answer = ends x (Answer.Unlocked answer)
 releases x Waiter answer = goes_on x (WaitWakeStore answer)
 
--- the seat has pushed a record, and somebody else has the responsibility
+-- the seat has pushed a record, and another seat has the responsibility
 abbrev pub pushed : SeatState → Pusher → Stepped
 pushed x Pusher.Locker = sleeps x
 pushed x (Pusher.Sender t) = ends x Sent
@@ -80,7 +80,7 @@ granted x (Carrier.Releaser releaser) oldest = releases x releaser (Granted olde
 granted x (Carrier.Reclaimer releaser) oldest = releases x releaser (Granted oldest.seat)
 granted x Carrier.Sender oldest = ends x Sent
 
--- where a pusher goes on that has found this handoff posted
+-- the point of a pusher that has found this handoff posted
 abbrev pub found_posted : Pusher → Handoff → Point
 found_posted Pusher.Locker found = PushedHandoffExchange Pusher.Locker found
 found_posted (Pusher.Sender t) found = SendPushRecheck t found
@@ -90,18 +90,18 @@ abbrev pub carrier_of : Pusher → Carrier
 carrier_of Pusher.Locker = Carrier.Locker
 carrier_of (Pusher.Sender t) = Carrier.Sender
 
--- where the carrier s goes on to serve the oldest record
+-- the point at which the carrier s serves the oldest record
 abbrev pub serves : Carrier → ℕ → Record → Point
 serves Carrier.Locker s oldest =
     if nat_eq oldest.seat s then EnterOwnerStore Entrant.Locker (Queued oldest.stamp) else GrantWakeStore Carrier.Locker oldest
 serves carrier s oldest = GrantWakeStore carrier oldest
 
--- where the carrier s goes on to take the oldest record, if the pop list has one
+-- the point at which the carrier s takes the oldest record, if the pop list has one
 abbrev pub take : Carrier → ℕ → Option Record → Point
 take carrier s None = TakeClearHead carrier
 take carrier s (Some oldest) = serves carrier s oldest
 
--- where the carrier goes on, having cleared a push list of this head
+-- the point of the carrier that has cleared a push list of this head
 abbrev pub once_cleared : Carrier → ℕ → Point
 once_cleared (Carrier.Releaser releaser) head = if nat_eq head 0 then ReleaseHandoffStore releaser else TakeLinkLoad (Carrier.Releaser releaser) head
 once_cleared carrier head = TakeLinkLoad carrier head

@@ -72,7 +72,7 @@ begin_wait x budget =
     then refuses x Refusal.Nested
     else charges x budget (ReleaseOwnerStore Waiter))
 
--- a send to seat t, of so many seats: not charged
+-- a send to seat t, of this number of seats: not charged
 abbrev pub begin_send : SeatState → ℕ → ℕ → Stepped
 begin_send x seats t =
     if nat_lt 0 t && nat_lt t (seats + 1) then goes_on x (SendWakeExchange t) else refuses x Refusal.NoSuchSeat

@@ -47,7 +47,7 @@ abbrev pub pushed_seat : Pusher → ℕ → ℕ
 pushed_seat Locker s = s
 pushed_seat (Sender t) s = t
 
--- the seat whose link or wake word a step of seat s touches; s itself where it touches neither
+-- the seat whose link or wake word a step of seat s touches; s itself if it touches neither
 abbrev pub target : Point → ℕ → ℕ
 target (LinkStore pusher seen) s = pushed_seat pusher s
 target (TakeLinkLoad carrier next) s = next

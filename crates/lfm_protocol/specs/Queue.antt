@@ -16,7 +16,7 @@ is_linked links t = nat_lt 0 t && nat_lt t (length links + 1)
 abbrev pub linked_record : List Link → ℕ → Record
 linked_record links t = record { seat = t; stamp = (link links t).stamp }
 
--- the records from a seat on along the links, newest first, up to so many; 0 ends them
+-- the records from a seat on along the links, newest first, up to this number; 0 ends them
 abbrev pub chain_of : ℕ → List Link → ℕ → List Record
 chain_of zero links t = []
 chain_of (suc most) links t =
@@ -26,12 +26,12 @@ chain_of (suc most) links t =
 abbrev pub chain : List Link → ℕ → List Record
 chain links t = chain_of (length links) links t
 
--- the seat whose link a carrier at this point loads next; 0 where it loads none
+-- the seat whose link a carrier at this point loads next; 0 if it loads none
 abbrev pub unwalked_at : Point → ℕ
 unwalked_at (TakeLinkLoad carrier next) = next
 unwalked_at _ = 0
 
--- the same of the first seat that loads a link next; 0 where none does
+-- the same of the first seat that loads a link next; 0 if none does
 abbrev pub unwalked : List SeatState → ℕ
 unwalked [] = 0
 unwalked (x ∷ seats) = if nat_eq (unwalked_at x.point) 0 then unwalked seats else unwalked_at x.point

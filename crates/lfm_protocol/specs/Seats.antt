@@ -7,7 +7,7 @@ use Rattle.lfm_words.specs.declared.links.Link.{Link}
 use Rattle.lfm_words.specs.declared.wakes.Wake.{Wake}
 use Rattle.lfm_words.specs.declared.wakes.Wake.TheVariants.{Quiet}
 
--- the entry of the seat with this number, or d where no seat has it
+-- the entry of the seat with this number, or d if no seat has it
 unfoldable pub entry : {A : Type 0} → A → List A → ℕ → A
 entry d entries zero = d
 entry d entries (suc n) = slice_index_or entries n d

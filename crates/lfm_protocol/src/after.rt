@@ -1,6 +1,6 @@
-//! How each kind of atomic step moves a seat on, by what the step found in its word. There is one method for each kind,
-//! for stepped and running mutexes alike; the word itself is the caller's. At a point of another kind each method
-//! refuses as Idle and leaves the seat as it is.
+//! How each kind of atomic step moves a seat on, by what the step found in its word. There is one method for each kind, for
+//! stepped and running mutexes alike; the word itself is the caller's. At a point of another kind each method refuses as Idle
+//! and leaves the seat as it is.
 ghost use Rattle.std.specs.Prelude.{◌≡◌, ◌+◌, ◌^◌, ◌<◌};
 ghost use Rattle.lfm_protocol.specs.After.{
   after_count_exchange,
@@ -107,7 +107,7 @@ impl SeatState {
 
 /// How each kind of step moves the seat on.
 impl SeatState {
-    /// Has exchanged the count word from 0 to 1, or found another count.
+    /// After the compare-and-exchange of the count word from 0 to 1, which found this count.
     pub fn after_count_exchange(&mut self, found: u64) -> Turn
         ensures seat { self.new ≡ (after_count_exchange self.old found).seat }
         ensures turn { result ≡ (after_count_exchange self.old found).turn }
@@ -122,7 +122,7 @@ impl SeatState {
         }
     }
 
-    /// Has added 1 to the count word, which held this before.
+    /// After an addition of 1 to the count word, which held this before.
     pub fn after_count_add(&mut self, found: u64) -> Turn
         ensures seat { self.new ≡ (after_count_add self.old found).seat }
         ensures turn { result ≡ (after_count_add self.old found).turn }
@@ -140,7 +140,7 @@ impl SeatState {
         }
     }
 
-    /// Has subtracted 1 from the count word, which held this before. `oldest` is the pop list's oldest record.
+    /// After a subtraction of 1 from the count word, which held this before. `oldest` is the pop list's oldest record.
     pub fn after_count_subtract(&mut self, s: u64, found: u64, oldest: Option<Record>) -> Turn
         requires { HasNumbers self.old self.old.point }
         ensures seat { self.new ≡ (after_count_subtract self.old s found oldest).seat }
@@ -159,7 +159,7 @@ impl SeatState {
         }
     }
 
-    /// Has found this seat in the owner word.
+    /// After a load of the owner word, which held this.
     pub fn after_owner_load(&mut self, s: u64, found: u64) -> Turn
         requires { HasNumbers self.old self.old.point }
         ensures seat { self.new ≡ (after_owner_load self.old s found).seat }
@@ -176,7 +176,7 @@ impl SeatState {
         }
     }
 
-    /// Has stored `stored_owner` in the owner word.
+    /// After a store of `stored_owner` in the owner word.
     pub fn after_owner_store(&mut self) -> Turn
         ensures seat { self.new ≡ (after_owner_store self.old).seat }
         ensures turn { result ≡ (after_owner_store self.old).turn }
@@ -194,7 +194,7 @@ impl SeatState {
         }
     }
 
-    /// Has found this in the push word.
+    /// After a load of the push word, which held this.
     pub fn after_push_load(&mut self, found: Link) -> Turn
         ensures seat { self.new ≡ (after_push_load self.old found).seat }
         ensures turn { result ≡ (after_push_load self.old found).turn }
@@ -217,7 +217,7 @@ impl SeatState {
         }
     }
 
-    /// Has exchanged the push word from `expected_push` to `exchanged_push`, or found something else.
+    /// After the compare-and-exchange of the push word from `expected_push` to `exchanged_push`, which found this.
     pub fn after_push_exchange(&mut self, found: Link) -> Turn
         ensures seat { self.new ≡ (after_push_exchange self.old found).seat }
         ensures turn { result ≡ (after_push_exchange self.old found).turn }
@@ -234,7 +234,7 @@ impl SeatState {
         }
     }
 
-    /// Has cleared the head of the push word, which held this before.
+    /// After a clear of the head of the push word, which held this before.
     pub fn after_clear_head(&mut self, found: Link) -> Turn
         ensures seat { self.new ≡ (after_clear_head self.old found).seat }
         ensures turn { result ≡ (after_clear_head self.old found).turn }
@@ -245,7 +245,8 @@ impl SeatState {
         }
     }
 
-    /// Has found this in the link word of the seat at its point, whose record joins the pop list as the oldest.
+    /// After a load of the link word of the seat at its point, which held this. The record of that seat joins the pop list as
+    /// the oldest.
     pub fn after_link_load(&mut self, s: u64, found: Link) -> Turn
         requires { HasNumbers self.old self.old.point }
         ensures seat { self.new ≡ (after_link_load self.old s found).seat }
@@ -260,7 +261,7 @@ impl SeatState {
         }
     }
 
-    /// Has stored `stored_link` in the link word of the seat that it pushes.
+    /// After a store of `stored_link` in the link word of the seat that it pushes.
     pub fn after_link_store(&mut self) -> Turn
         ensures seat { self.new ≡ (after_link_store self.old).seat }
         ensures turn { result ≡ (after_link_store self.old).turn }
@@ -271,7 +272,7 @@ impl SeatState {
         }
     }
 
-    /// Has found this in the handoff word.
+    /// After a load of the handoff word, which held this.
     pub fn after_handoff_load(&mut self, found: Handoff) -> Turn
         requires { HasNumbers self.old self.old.point }
         ensures seat { self.new ≡ (after_handoff_load self.old found).seat }
@@ -286,7 +287,7 @@ impl SeatState {
         }
     }
 
-    /// Has stored `stored_handoff` in the handoff word.
+    /// After a store of `stored_handoff` in the handoff word.
     pub fn after_handoff_store(&mut self) -> Turn
         requires { HasNumbers self.old self.old.point }
         ensures seat { self.new ≡ (after_handoff_store self.old).seat }
@@ -301,8 +302,8 @@ impl SeatState {
         }
     }
 
-    /// Has exchanged the handoff word from `expected_handoff` to none, or found something else. `oldest` is the pop
-    /// list's oldest record, which is asked for only where the exchange succeeded.
+    /// After the compare-and-exchange of the handoff word from `expected_handoff` to none, which found this. `oldest` is the
+    /// pop list's oldest record, which matters only if the exchange succeeded.
     pub fn after_handoff_exchange(&mut self, s: u64, found: Handoff, oldest: Option<Record>) -> Turn
         requires { HasNumbers self.old self.old.point }
         ensures seat { self.new ≡ (after_handoff_exchange self.old s found oldest).seat }
@@ -327,7 +328,7 @@ impl SeatState {
         }
     }
 
-    /// Has found this in its own wake word.
+    /// After a load of its own wake word, which held this.
     pub fn after_wake_load(&mut self, found: Wake) -> Turn
         ensures seat { self.new ≡ (after_wake_load self.old found).seat }
         ensures turn { result ≡ (after_wake_load self.old found).turn }
@@ -344,7 +345,7 @@ impl SeatState {
         }
     }
 
-    /// Has stored `stored_wake` in the wake word of the seat that its point names.
+    /// After a store of `stored_wake` in the wake word of the seat that its point names.
     pub fn after_wake_store(&mut self) -> Turn
         ensures seat { self.new ≡ (after_wake_store self.old).seat }
         ensures turn { result ≡ (after_wake_store self.old).turn }
@@ -363,7 +364,7 @@ impl SeatState {
         }
     }
 
-    /// Has exchanged its target's wake word from WAITING to CLAIMED, or found another state.
+    /// After the compare-and-exchange of its target's wake word from WAITING to CLAIMED, which found this state.
     pub fn after_wake_exchange(&mut self, found: Wake) -> Turn
         ensures seat { self.new ≡ (after_wake_exchange self.old found).seat }
         ensures turn { result ≡ (after_wake_exchange self.old found).turn }

@@ -9,21 +9,21 @@ use lfm_model::{Asked, How, Locked, Refusal, Unlocked};
 /// A call that a seat may begin. None of them sleeps: a seat that has to wait ends its call asleep.
 #[derive(Clone, Copy, Debug, PartialEq, Eq)]
 pub enum Call {
-    /// Gains the mutex or deepens the hold; where it can do neither, queues the seat and puts it to sleep.
+    /// Gains the mutex or deepens the hold; if it can do neither, queues the seat and puts it to sleep.
     Lock,
-    /// Gains the mutex or deepens the hold; where it can do neither, is refused as Busy.
+    /// Gains the mutex or deepens the hold; if it can do neither, is refused as Busy.
     TryLock,
     /// Gives up one hold. At depth 1 this releases the mutex, and may wake the seat that comes next.
     Unlock,
     /// Releases the mutex at depth 1 and puts the seat to sleep until a `SendLock` names it.
     StartWait,
-    /// Queues the seat with this number, which `StartWait` has put to sleep, or grants it the mutex where that is free.
+    /// Queues the seat with this number, which `StartWait` has put to sleep, or grants it the mutex if that is free.
     SendLock(u64),
     /// Loads once whether the sleeping seat was granted the mutex. With a grant it wakes and holds.
     Receive,
 }
 
-/// What a call returns that has ended and was not refused.
+/// What a call returns that has ended without a refusal.
 #[derive(Clone, Copy, Debug, PartialEq, Eq)]
 pub enum Answer {
     /// Of `Lock`.
@@ -34,7 +34,7 @@ pub enum Answer {
     Unlocked(Unlocked),
     /// Of `StartWait`: the seat sleeps. The payload is what an `Unlock` in its place would have answered.
     Waiting(Unlocked),
-    /// Of `Receive`: how the seat gained the mutex, which it holds at depth 1. None where it found no grant and sleeps on.
+    /// Of `Receive`: how the seat gained the mutex, which it holds at depth 1. None if it found no grant and sleeps on.
     Got(Option<How>),
     /// Of `SendLock`: the target has the mutex granted or its record queued.
     Sent,

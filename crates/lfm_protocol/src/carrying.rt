@@ -1,5 +1,5 @@
-//! The points of a call that carries the responsibility or is about to gain it: which record it serves, and what it does
-//! where there is none. Nothing here changes a seat.
+//! The points of a call that carries the responsibility or is about to gain it: which record it serves, and what it does if
+//! there is none. Nothing here changes a seat.
 ghost use Rattle.std.specs.Prelude.{◌≡◌};
 ghost use Rattle.lfm_protocol.specs.After.{loaded, found_posted, carrier_of, once_cleared, take, serves, held, how_granted};
 
@@ -9,8 +9,8 @@ use lfm_model::{Asked, How, Locked, SeatNo};
 use lfm_words::{Handoff, Link, Record};
 
 impl Carrier {
-    /// The point at which carrier s takes the oldest record: it serves that of the pop list, or clears the push list where
-    /// the pop list has none.
+    /// The point at which carrier s takes the oldest record: it serves that of the pop list, or clears the push list if the pop
+    /// list has none.
     pub(crate) fn point_to_take(self, s: u64, oldest: Option<Record>) -> Point
         ensures { result ≡ take self s oldest }
     {
@@ -33,7 +33,7 @@ impl Carrier {
         }
     }
 
-    /// The point after a clear of the push list, which had this head. A releaser alone may find none, and then posts.
+    /// The point after a clear of the push list, which had this head. Only a releaser may find none, and then it posts.
     pub(crate) fn point_after_clear(self, head: u64) -> Point
         ensures { result ≡ once_cleared self head }
     {
@@ -55,7 +55,7 @@ pub(crate) fn loaded(seat: SeatNo, link: Link) -> Record
 }
 
 impl Pusher {
-    /// The point of a pusher that has found this handoff posted. A sender rechecks the push word before it takes it over.
+    /// The point of a pusher that has found this handoff posted. A sender rechecks the push word before it takes the post over.
     pub(crate) fn point_at_post(self, found: Handoff) -> Point
         ensures { result ≡ found_posted self found }
     {

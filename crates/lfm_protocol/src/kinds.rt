@@ -3,12 +3,12 @@
 ghost use Rattle.std.specs.Prelude.{◌≡◌};
 ghost use Rattle.lfm_protocol.specs.Points.{word};
 
-/// What an atomic step does to its word. An exchange compares first: it writes where the word holds what is expected, and
-/// returns what it found in either case.
+/// What an atomic step does to its word. Each exchange is a compare-and-exchange: it writes only if the word holds what is
+/// expected, and returns what it found in either case.
 #[derive(Clone, Copy, Debug, PartialEq, Eq)]
 pub enum Kind {
     // Of the count word.
-    /// Exchanges 0 for 1.
+    /// Compare-and-exchange of 0 for 1.
     CountExchange,
     /// Adds 1 and gives the count before.
     CountAdd,
@@ -24,7 +24,7 @@ pub enum Kind {
     // Of the push word.
     /// Loads the newest stamp and the head.
     PushLoad,
-    /// Exchanges what was seen for one stamp more, with the pushed seat as head.
+    /// Compare-and-exchange of what was seen for one stamp more, with the pushed seat as head.
     PushExchange,
     /// Sets the head to 0, keeps the stamp, and gives the word before.
     ClearHead,
@@ -40,7 +40,7 @@ pub enum Kind {
     HandoffLoad,
     /// Stores the seat's next post.
     HandoffStore,
-    /// Exchanges an expected post for 0.
+    /// Compare-and-exchange of an expected post for 0.
     HandoffExchange,
 
     // Of the wake word of a seat.
@@ -48,7 +48,7 @@ pub enum Kind {
     WakeLoad,
     /// Stores a grant, WAITING or QUIET.
     WakeStore,
-    /// Exchanges WAITING for CLAIMED.
+    /// Compare-and-exchange of WAITING for CLAIMED.
     WakeExchange,
 }
 
@@ -70,7 +70,7 @@ pub enum Word {
 }
 
 impl Kind {
-    /// The word that a step of this kind touches, t being the seat that the point names as its target.
+    /// The word that a step of this kind touches. t is the seat that the point names as its target.
     pub fn word(self, t: u64) -> Word
         ensures { result ≡ word self t }
     {

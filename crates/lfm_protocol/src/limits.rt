@@ -30,8 +30,7 @@ impl Limits {
     }
 }
 
-/// A number of steps that no call among so many seats exceeds while no other seat makes a step: 16 more than there are
-/// seats.
+/// No call among this number of seats makes more steps than this while no other seat makes one: 16 more than there are seats.
 pub fn longest_call(seats: u64) -> u64
     requires { seats + 16 < 2 ^ 64 }
     ensures { result ≡ seats + 16 }

@@ -1,6 +1,6 @@
-//! The words, the pop list and the seats, and what a turn does to them: it begins a call or makes one atomic step. A
-//! step is the operation of its kind on its word, and then the seat's own method. Nothing here says which words and
-//! points go together: the contracts of turns repeat their definitions, and the invariant belongs to the crates above.
+//! The words, the pop list and the seats, and what a turn does to them: it begins a call or makes one atomic step. A step is
+//! the operation of its kind on its word, and then the seat's own method. Nothing here says which words and points go together:
+//! the contracts of turns repeat their definitions, and the invariant belongs to the crates above.
 ghost use Rattle.std.specs.Prelude.{◌≡◌, ◌+◌, ◌^◌, ◌<◌, ◌≤◌, true, false, length, IfOk, IfErr};
 ghost use Rattle.lfm_protocol.specs.Core.{put, put_link, put_wake, drops_if};
 ghost use Rattle.lfm_protocol.specs.Limits.{max_seats};
@@ -383,8 +383,8 @@ impl Machine {
 
 /// The turns.
 impl Machine {
-    /// A mutex at its start: nobody holds and nothing is queued. It allocates the pop list and the three lists of entries
-    /// at once, and nothing later; it answers AllocError where one of them is refused.
+    /// A mutex at its start: nobody holds and nothing is queued. It allocates the pop list and the three lists of entries at
+    /// once, and nothing later; it answers AllocError if one of them is refused.
     pub fn new(alloc: Global, limits: Limits) -> Result<Machine, AllocError>
         requires { limits.seats ≤ max_seats }
         ensures { IfOk result (λ m. m ≡ start limits) }
@@ -403,8 +403,8 @@ impl Machine {
         })
     }
 
-    /// Seat s begins a call. Refused as NoSuchSeat where no seat has this number, and then as `SeatState::begin`
-    /// refuses it. A refused call changes nothing.
+    /// Seat s begins a call. Refused as NoSuchSeat if no seat has this number, and then as `SeatState::begin` refuses it. A
+    /// refused call changes nothing.
     pub fn begin(&mut self, s: u64, call: Call) -> Turn
         ensures core { self.new ≡ (begin self.old s call).core }
         ensures turn { result ≡ (begin self.old s call).turn }
@@ -422,9 +422,9 @@ impl Machine {
         turn
     }
 
-    /// Seat s makes the one atomic step at its point, for which its numbers have room. Refused as NoSuchSeat where no
-    /// seat has this number, and then as Idle where no call of the seat is open; both change nothing. A step that is
-    /// refused as Busy or NotWaiting has ended its call.
+    /// Seat s makes the one atomic step at its point, for which its numbers have room. Refused as NoSuchSeat if no seat has
+    /// this number, and then as Idle if no call of the seat is open; both change nothing. A step that is refused as Busy or
+    /// NotWaiting has ended its call.
     pub fn step(&mut self, s: u64) -> Turn
         requires { IsSeat self.old.seats s → HasRoom self.old s }
         ensures core { self.new ≡ (step self.old s).core }
@@ -443,6 +443,9 @@ impl Machine {
         ensures core { self.new ≡ (made self.old s).core }
         ensures turn { result ≡ (made self.old s).turn }
     {
+        // All of these go in one order. What a step writes is read from the point, so before the seat leaves it. Then comes the
+        // operation on the word, and with it what the pop list gains or loses. What the operation found decides where the seat
+        // goes, so the seat's method comes last: it moves a copy of the data, which is put back.
         let seat = self.seat(s);
         let t = seat.point.target(s);
         match seat.point.kind() {

@@ -1,6 +1,6 @@
-//! Where a call stands between two atomic steps. A point names the step to come and keeps what earlier steps have read.
-//! Here is also what follows from a point alone: its kind, the seat whose word it touches, and whether the call carries
-//! the responsibility. How a step moves the seat on is in `after`.
+//! Where a call stands between two atomic steps. A point names the step to come and keeps what earlier steps have read. This
+//! file also has what follows from a point alone: its kind, the seat whose word it touches, and whether the call carries the
+//! responsibility. How a step moves the seat on is in `after`.
 ghost use Rattle.std.specs.Prelude.{◌≡◌};
 ghost use Rattle.lfm_protocol.specs.Place.{carries};
 ghost use Rattle.lfm_protocol.specs.Points.{kind, target, pushed_seat};
@@ -81,17 +81,17 @@ pub enum Point {
     // A `try_lock` until it enters.
     /// `try_lock` 1: exchange the count word from 0 to 1.
     TryCountExchange,
-    /// `try_lock` 2: load the owner word, to learn whether this seat holds already.
+    /// `try_lock` 1: compare-and-exchange of the count word from 0 to 1.
     TryOwnerLoad,
     /// `try_lock` 4: load the handoff word, to accept a post in place of Busy.
     TryHandoffLoad,
-    /// `try_lock` 5: exchange the handoff word from the post that was loaded to 0.
+    /// `try_lock` 5: compare-and-exchange of the handoff word from the post that was loaded to 0.
     TryHandoffExchange(Handoff),
     /// `try_lock` 6: add 1 to the count word, the post being accepted.
     TryCountAdd,
 
     // A `send_lock` on its own: the number is its target's.
-    /// `send_lock` 1: exchange the target's wake word from WAITING to CLAIMED.
+    /// `send_lock` 1: compare-and-exchange of the target's wake word from WAITING to CLAIMED.
     SendWakeExchange(u64),
     /// `send_lock` 2: add 1 to the count word, for the target.
     SendCountAdd(u64),
@@ -103,14 +103,15 @@ pub enum Point {
     // The push of a record, by `lock` for its own seat or by `send_lock` for its target.
     /// `lock` 4, `send_lock` 3: load the push word.
     PushLoad(Pusher),
-    /// `lock` 5, `send_lock` 4: store in the pushed seat's link word one stamp more than the push word that was seen, and
-    /// that word's head.
+    /// `lock` 5, `send_lock` 4: store in the pushed seat's link word one stamp more than that of the push word that was seen,
+    /// and that word's head.
     LinkStore(Pusher, Link),
-    /// `lock` 6, `send_lock` 5: exchange the push word from what was seen to one stamp more and the pushed seat.
+    /// `lock` 6, `send_lock` 5: compare-and-exchange of the push word from what was seen to one stamp more and the pushed seat.
     PushExchange(Pusher, Link),
     /// `lock` 7, `send_lock` 6: load the handoff word, the record being pushed.
     PushedHandoffLoad(Pusher),
-    /// `lock` 8, `send_lock` 8: exchange the handoff word from the post that was loaded to 0, which takes it over.
+    /// `lock` 8, `send_lock` 8: compare-and-exchange of the handoff word from the post that was loaded to 0, which takes it
+    /// over.
     PushedHandoffExchange(Pusher, Handoff),
 
     // A release, by `unlock`, or by `start_wait` with the same numbers.
@@ -122,13 +123,13 @@ pub enum Point {
     ReleaseHandoffStore(Releaser),
     /// `unlock` 4: load the push word again, to see whether somebody has pushed meanwhile.
     ReleasePushRecheck(Releaser),
-    /// `unlock` 5: exchange the handoff word from the seat's own post to 0, which takes it back.
+    /// `unlock` 5: compare-and-exchange of the handoff word from the seat's own post to 0, which takes it back.
     ReleaseHandoffExchange(Releaser),
     /// `start_wait` 7: store WAITING in the seat's own wake word. The payload says how it released.
     WaitWakeStore(Unlocked),
 
     // A carrier collects the oldest record, and serves it.
-    /// `take` 1, where the pop list is empty: clear the head of the push word.
+    /// `take` 1, if the pop list is empty: clear the head of the push word.
     TakeClearHead(Carrier),
     /// `take` 2: load the link word of the seat with this number, and put its record on the pop list as the oldest.
     TakeLinkLoad(Carrier, u64),
@@ -146,7 +147,7 @@ pub enum Point {
 }
 
 impl Point {
-    /// The kind of the step. None where no call is open.
+    /// The kind of the step. None if no call is open.
     pub fn kind(self) -> Option<Kind>
         ensures { result ≡ kind self }
     {
@@ -179,7 +180,7 @@ impl Point {
         }
     }
 
-    /// The seat whose link or wake word a step of seat s touches; s itself where it touches neither.
+    /// The seat whose link or wake word a step of seat s touches; s itself if it touches neither.
     #[inline(always)]
     pub fn target(self, s: u64) -> u64
         ensures { result ≡ target self s }
@@ -193,8 +194,7 @@ impl Point {
         }
     }
 
-    /// Whether a call at this point carries the responsibility: an earlier step has gained it, and a later one gives it
-    /// away.
+    /// Whether a call at this point carries the responsibility: an earlier step has gained it, and a later one gives it away.
     pub fn carries(self) -> bool
         ensures { result ≡ carries self }
     {

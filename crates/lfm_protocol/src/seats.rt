@@ -61,7 +61,7 @@ impl SeatState {
         Turn::Ended(answer)
     }
 
-    /// Charges a take and sets the point. Refused as Spent where no take is left.
+    /// Charges a take and sets the point. Refused as Spent if no take is left.
     pub(crate) fn charge(&mut self, budget: u64, point: Point) -> Turn
         ensures seat { self.new ≡ (charges self.old budget point).seat }
         ensures turn { result ≡ (charges self.old budget point).turn }
@@ -78,7 +78,7 @@ impl SeatState {
 /// How a call begins.
 impl SeatState {
     /// Begins a `lock` or a `try_lock` at its first point. Refused as DepthFull at the greatest depth, and then as Spent at
-    /// depth 0 with no take left. A take is charged at depth 0 alone.
+    /// depth 0 with no take left. A take is charged only at depth 0.
     pub(crate) fn begin_entry(&mut self, budget: u64, point: Point) -> Turn
         ensures seat { self.new ≡ (begin_entry self.old budget point).seat }
         ensures turn { result ≡ (begin_entry self.old budget point).turn }
@@ -123,8 +123,7 @@ impl SeatState {
         self.charge(budget, Point::ReleaseOwnerStore(Releaser::Waiter))
     }
 
-    /// Begins a `send_lock` for seat t, of this many seats. Refused as NoSuchSeat where t is none of them. It charges
-    /// nothing.
+    /// Begins a `send_lock` for seat t, of this many seats. Refused as NoSuchSeat if t is none of them. It charges nothing.
     pub(crate) fn begin_send(&mut self, seats: u64, t: u64) -> Turn
         ensures seat { self.new ≡ (begin_send self.old seats t).seat }
         ensures turn { result ≡ (begin_send self.old seats t).turn }
@@ -151,10 +150,9 @@ impl SeatState {
         }
     }
 
-    /// Begins a call, by the seat's data alone: where nothing forbids it, it charges what the call costs and sets its
-    /// first point. Refused as InCall where an earlier call is still open; then as Asleep where the seat sleeps and the
-    /// call is no receive; then by the call's own causes, in the order of `Refusal`. A refused call leaves the seat as
-    /// it is.
+    /// Begins a call, by the seat's data alone: if nothing forbids it, it charges what the call costs and sets its first point.
+    /// Refused as InCall if an earlier call is still open; then as Asleep if the seat sleeps and the call is no receive; then
+    /// by the call's own causes, in the order of `Refusal`. A refused call leaves the seat as it is.
     pub fn begin(&mut self, limits: Limits, call: Call) -> Turn
         ensures seat { self.new ≡ (begin self.old limits call).seat }
         ensures turn { result ≡ (begin self.old limits call).turn }

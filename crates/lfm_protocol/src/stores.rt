@@ -1,5 +1,5 @@
-//! What the storing steps of a seat write, and what its exchanges expect: functions of the seat's data and number alone.
-//! At a point of another kind they return what means none.
+//! What the storing steps of a seat write, and what its exchanges expect: functions of the seat's data and number alone. At a
+//! point of another kind they return the value that means none.
 ghost use Rattle.std.specs.Prelude.{◌≡◌};
 ghost use Rattle.lfm_protocol.specs.After.{drops_oldest};
 ghost use Rattle.lfm_protocol.specs.Room.{HasNumbers};

@@ -1,5 +1,5 @@
--- What the report of a run is, whatever the order of its journal: that of the commands that the workers made, and where
--- all made all of theirs that of the script.
+-- What the report of a run is, whatever the order of its journal: that of the commands that the workers made, and, if all made
+-- all of theirs, that of the script.
 use Rattle.std.proofs.Common.{◌≡◌, ◌≤◌, ◌<◌, ◌+◌, ◌^◌, zero, suc, ℕ, true, List, [], ◌∷◌, take, length, sum, Option, None, refl, sym, ◌∙◌, ap, arith, take_all}
 use Rattle.lfm_model.specs.declared.refusals.Refusal.{Refusal}
 use Rattle.lfm_model.specs.declared.objects.TotalOp.{TotalOp}

@@ -29,6 +29,6 @@ rows_from row w (suc n) = row w ∷ rows_from row (w + 1) n
 abbrev pub run_row : List (Entry TotalOp) → (ℕ → Option Refusal) → ℕ → Row
 run_row journal refused w = row_of w (adds (own w journal)) (refused w)
 
--- the refusal of worker w, where the list has those of the workers from 1 on
+-- the refusal of worker w, if the list has those of the workers from 1 on
 abbrev pub refusal_at : List (Option Refusal) → ℕ → Option Refusal
 refusal_at refusals w = slice_index_or refusals (w - 1) None

@@ -30,14 +30,14 @@ made_total p made = sum_to (λ w. sum (made_adds p made w)) p.workers
 abbrev pub IsRunOfMade : Plan → (ℕ → ℕ) → List (Entry TotalOp) → Type 0
 IsRunOfMade p made journal = (w : ℕ) → 0 < w → w ≤ p.workers → adds (own w journal) ≡ made_adds p made w
 
--- a wake on this condition may be refused so, where there are so many conditions
+-- a wake on this condition may be refused for this cause, with this number of conditions
 abbrev pub WakeMayMeet : ℕ → ℕ → Refusal → Type 0
 WakeMayMeet conditions condition Refusal.NoSuchSeat = condition ≡ 0 ⊎ (conditions < condition)
 WakeMayMeet conditions condition Refusal.Spent = ⊤
 WakeMayMeet conditions condition Refusal.NotWaiting = ⊤
 WakeMayMeet conditions condition _ = ⊥
 
--- the command may be refused so, where there are so many conditions
+-- the command may be refused for this cause, with this number of conditions
 abbrev pub MayMeet : ℕ → Command → Refusal → Type 0
 MayMeet conditions (Add k) Refusal.Spent = ⊤
 MayMeet conditions (Add k) _ = ⊥
@@ -56,9 +56,9 @@ max_journal = 1048576
 abbrev pub RefusedAt : ℕ → List Command → ℕ → Refusal → Type 0
 RefusedAt conditions ms i r = (c : Command) × (get_elem? ms i ≡ some c) × MayMeet conditions c r
 
--- The text of a run in which each worker made its first commands: all of them where it was not refused, and else those before
--- the one at which it was. There is a lawful journal of just these adds, by the workers alone, each with no more than its share of
--- the entries. The verdict is that none was refused.
+-- The text of a run in which each worker made its first commands: all of them if it was not refused, and otherwise those before
+-- the one at which it was. There is a lawful journal of exactly these adds, by the workers alone, each with no more than its
+-- share of the entries. The verdict is that none was refused.
 pub record IsReport (p : Plan) (text : List ℕ) (verdict : Bool) : Type 0 where
   pub made : ℕ → ℕ
   pub refused : ℕ → Option Refusal

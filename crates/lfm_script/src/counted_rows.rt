@@ -1,4 +1,4 @@
-//! The rows of a report, counted from the journal, of which each entry is read once.
+//! The rows of a report, counted from the journal. Each entry of the journal is read once.
 
 ghost use Rattle.std.specs.Prelude.{◌≡◌, ◌+◌, ◌^◌, ◌<◌, ℕ, sum, length, IfOk, slice_index_or};
 ghost use Rattle.lfm_model.specs.Journals.{Within, own};
@@ -41,9 +41,9 @@ fn count_entries(rows: &mut [Row], entries: &[Entry<TotalOp>])
     }
 }
 
-/// A row for each worker from 1 on: how many numbers its entries in the journal add, their sum, and its refusal. There are
-/// as many workers as refusals. Makes one request for memory, of just the rows, and none where there is no worker: the
-/// answer where that is refused.
+/// A row for each worker from 1 on: how many numbers its entries in the journal add, their sum, and its refusal. There are as
+/// many workers as refusals. Makes one request for memory, of exactly the rows, and none if there is no worker; AllocError if
+/// it is refused.
 pub fn rows_of(
     alloc: Global,
     refusals: &[Option<Refusal>],

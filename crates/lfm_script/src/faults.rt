@@ -10,7 +10,7 @@ use thiserror::Error;
 /// Why no script was read or run to its end.
 #[derive(Clone, Copy, Debug, PartialEq, Eq, Drop, Error)]
 pub enum WorkFault {
-    /// The line of this number, counted from 1, is none that a script may have there.
+    /// The line of this number, counted from 1, is not one that a script may have there.
     #[error("line {0} is not a line of a script")]
     Syntax(u64),
     /// The input has too many bytes or lines, or a line names a number that is out of range.

@@ -1,5 +1,5 @@
 //! What a script of workers is and what is reported of its run, and how its outcomes become messages and exit statuses. No
-//! thread, mutex or monitor is used here: what runs a script stands above.
+//! thread, mutex or monitor is used here: the crates above run a script.
 #![tactic(auto)]
 
 mod counted_rows;

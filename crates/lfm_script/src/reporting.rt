@@ -1,4 +1,4 @@
-//! What a program says of the end of a run of workers: a message on standard error, and the exit status.
+//! What a program reports at the end of a run of workers: a message on standard error, and the exit status.
 ghost use Rattle.std.specs.Prelude.{◌≡◌};
 ghost use Rattle.lfm_script.specs.Statuses.{work_status};
 
@@ -6,8 +6,8 @@ use crate::faults::WorkFault;
 use crate::statuses::status;
 use lfm_text::tell_fault;
 
-/// Says on standard error what kept the program of this name from its end, where something did, and gives the exit status
-/// of what it came to. That a message can't be written changes no status.
+/// Prints on standard error what kept the program of this name from its end, if something did, and returns the exit status of
+/// the outcome. A message that can't be written changes no status.
 pub fn report_work<R: Eprint>(
     rt: &R,
     program: &'static str,

@@ -1,8 +1,8 @@
-//! What the report of a run tells of each worker.
+//! What the report of a run says of each worker.
 
 use lfm_model::Refusal;
 
-/// What a report tells of one worker.
+/// What a report says of one worker.
 #[derive(Clone, Copy, Debug, PartialEq, Eq)]
 pub struct Row {
     /// The worker's number, from 1.

@@ -18,7 +18,7 @@ pub const MAX_CONDITIONS: u64 = 16;
 /// The most that one command may add, or wait for.
 pub const MAX_NUMBER: u64 = 1_000_000_000;
 
-/// What a worker does. A condition comes first.
+/// What a worker does. In `Until` the condition comes first.
 #[derive(Clone, Copy, Debug, PartialEq, Eq)]
 pub enum Command {
     /// The worker adds this number to the total.

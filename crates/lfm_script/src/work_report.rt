@@ -32,7 +32,7 @@ fn write_refusal<W: Write>(writer: &mut W, refusal: Refusal) -> Result<(), Write
     Ok(())
 }
 
-/// Writes why a worker was refused, and nothing where it was not.
+/// Writes why a worker was refused, and nothing if it was not.
 fn write_refused<W: Write>(writer: &mut W, refused: Option<Refusal>) -> Result<(), WriteFault>
     ensures { Writes (W.contents writer.old) (W.contents writer.new) (refused_text refused) result }
 {
@@ -85,8 +85,8 @@ fn write_total<W: Write>(writer: &mut W, total: u64, lawful: bool) -> Result<(),
     Ok(())
 }
 
-/// Writes the report: a line for each row in order, a line with the total, and a line `lawful` or `unlawful`. It flushes
-/// nothing. A fault where the writer fails or takes no byte, after a prefix of the report.
+/// Writes the report: a line for each row in order, a line with the total, and a line `lawful` or `unlawful`. It does not
+/// flush. A fault if the writer fails or takes no byte, after a prefix of the report.
 pub fn write_report<W: Write>(
     writer: &mut W,
     rows: &[Row],
@@ -100,9 +100,9 @@ pub fn write_report<W: Write>(
     write_total(writer, total, lawful)
 }
 
-/// Writes the line of a fault of the input: of Syntax with its line's number, or of Limit. Any other fault is none of the
-/// input and has no line: nothing is written. It flushes nothing. A fault where the writer fails or takes no byte, after a
-/// prefix of the line.
+/// Writes the line of a fault of the input: of Syntax with its line's number, or of Limit. Any other fault is none of the input
+/// and has no line: nothing is written. It does not flush. A fault if the writer fails or takes no byte, after a prefix of the
+/// line.
 pub fn write_fault<W: Write>(writer: &mut W, fault: WorkFault) -> Result<(), WriteFault>
     ensures { Writes (W.contents writer.old) (W.contents writer.new) (fault_text fault) result }
 {

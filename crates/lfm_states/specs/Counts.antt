@@ -1,4 +1,4 @@
--- When a count is greater than the one that is kept. Where none is kept, each is.
+-- When a count is greater than the kept one. If none is kept, every count is.
 use Rattle.std.specs.Prelude.{ℕ, Bool, true, nat_lt, Option, Some, None}
 
 abbrev pub is_below : Option ℕ → ℕ → Bool

@@ -11,7 +11,7 @@ pub enum Request {
     Search(u64),
     /// Something else.
     Other,
-    /// Nothing can be told: the arguments themselves found no memory.
+    /// Not known: there was no memory for the arguments.
     Unread,
 }
 

@@ -11,17 +11,17 @@ const AS_KNOWN: u8 = 0;
 /// The status of a search in which a comparison failed, or that did not come to its end.
 const NOT_AS_KNOWN: u8 = 1;
 
-/// The status of a command line that asks for nothing the program does.
+/// The exit status of a command line that asks for nothing the program does.
 const USAGE: u8 = 2;
 
-/// The status where so many comparisons failed.
+/// The exit status after this many failed comparisons.
 fn status_of(failed: u64) -> u8
     ensures { result ≡ (if nat_eq failed 0 then 0 else 1) }
 {
     if failed == 0 { AS_KNOWN } else { NOT_AS_KNOWN }
 }
 
-/// Does what the command line asks for, and gives the exit status. Messages go to standard error.
+/// Does what the command line asks for, and returns the exit status. Messages go to standard error.
 pub fn run<R: Env + AllocGlobal + Print + Eprint>(rt: &R) -> u8 {
     match requested(rt) {
         Request::Search(budget) => match compare(rt, budget) {

@@ -1,4 +1,4 @@
-//! All rows are measured and compared, and a line is printed for each.
+//! Measures and compares all rows, and prints a line for each.
 ghost use Rattle.std.specs.Prelude.{◌≡◌, ◌<◌, true, false};
 
 use crate::counts::greatest;
@@ -52,7 +52,7 @@ pub fn compare<R: AllocGlobal + Print>(rt: &R, budget: u64) -> io::Result<Tally>
     Ok(tally)
 }
 
-/// The greatest count of a row, in calls of either seat. None where the counts do not settle.
+/// The greatest count of a row, in calls of either seat. None if the counts do not settle.
 fn greatest_of_both(alloc: Global, graph: &Graph, row: &Row) -> Result<Option<u64>, AllocError> {
     let first = greatest(alloc, graph, row.measure, 1)?;
     let second = greatest(alloc, graph, row.measure, 2)?;
@@ -62,7 +62,7 @@ fn greatest_of_both(alloc: Global, graph: &Graph, row: &Row) -> Result<Option<u6
     }
 }
 
-/// The count beside so many changes or open calls.
+/// The count beside this many changes or open calls.
 fn count_at(counts: &Option<Vec<u64>>, beside: usize) -> Option<u64> {
     match counts {
         Some(counts) => counts.get(beside).copied(),
@@ -70,7 +70,7 @@ fn count_at(counts: &Option<Vec<u64>>, beside: usize) -> Option<u64> {
     }
 }
 
-/// Whether a greatest count was found, and is as known.
+/// Whether a greatest count was found, and is the known one.
 fn passes(row: &Row, found: Option<u64>) -> bool {
     match found {
         Some(found) => row.is_as_known(found),
@@ -78,7 +78,7 @@ fn passes(row: &Row, found: Option<u64>) -> bool {
     }
 }
 
-/// Says what was found of a row.
+/// Prints what was found of a row.
 fn print_row<R: Print>(rt: &R, row: &Row, found: Option<u64>) -> io::Result<()> {
     let (name, bound, law) = (row.name, row.bound, row.law);
     let Some(count) = found else {

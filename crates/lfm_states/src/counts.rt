@@ -1,5 +1,5 @@
 //! The greatest counts of a measure with which each node is reached. A greater count at a node leads to nothing smaller than a
-//! smaller one does, so the greatest alone is kept. Counts are kept apart by what they are made beside: how often the other seat
+//! smaller one does, so only the greatest is kept. Counts are kept apart by what they are made beside: how often the other seat
 //! has changed the push word, or how many calls were open as the run began.
 ghost use Rattle.std.specs.Prelude.{◌≡◌};
 ghost use Rattle.lfm_states.specs.Counts.{is_below};
@@ -11,21 +11,21 @@ use std::alloc::{AllocError, Global};
 /// Counts are kept beside 0, 1 and 2 such changes or calls.
 pub const CLASSES: usize = 3;
 
-/// The counts do not settle where so many passes over all edges do not do it.
+/// The most passes over all edges. If counts still change in the last of them, they do not settle.
 const MOST_PASSES: u64 = 1_000;
 
 /// The counts of all nodes, and the greatest of all.
 #[derive(Drop)]
 pub struct Counts {
-    /// For each node and each number of these the greatest count. None where no count is open beside so many.
+    /// For each node and each number of changes or calls, the greatest count. None if no count is open beside that number.
     at: Vec<Option<u64>>,
-    /// For each number of these the greatest count.
+    /// For each number of changes or calls, the greatest count.
     greatest: Vec<u64>,
     /// Whether this pass has raised a count.
     raised: bool,
 }
 
-/// Whether a count is above what is kept.
+/// Whether a count is above the kept one.
 fn is_below(kept: Option<u64>, count: u64) -> bool
     ensures { result ≡ is_below kept count }
 {
@@ -41,7 +41,7 @@ fn place(node: usize, beside: usize) -> usize {
 }
 
 impl Counts {
-    /// No count is open at any of so many nodes.
+    /// No count is open at any of this number of nodes.
     fn new(alloc: Global, nodes: usize) -> Result<Counts, AllocError> {
         Ok(Counts {
             at: vec![in alloc; None; nodes.wrapping_mul(CLASSES)]?,
@@ -124,8 +124,8 @@ impl Counts {
     }
 }
 
-/// The greatest counts of a measure in all runs, for calls of this seat, by what they are made beside. None where they do not settle.
-/// It takes memory.
+/// The greatest counts of a measure in all runs, for calls of this seat, by what they are made beside. None if they do not
+/// settle. It takes memory.
 pub fn greatest(
     alloc: Global,
     graph: &Graph,

@@ -7,7 +7,7 @@ use lfm_core::{Call, State, Turn};
 /// How many seats the mutex has.
 pub const SEATS: u64 = 2;
 
-/// How deep a seat holds at most in the search. Deeper holds have no other steps.
+/// How deep a seat holds at most in the search. Deeper holds have no steps of other kinds.
 pub const MOST_DEPTH: u64 = 2;
 
 /// The calls that a seat may begin.

@@ -29,7 +29,7 @@ pub struct Graph {
 }
 
 impl Graph {
-    /// A graph of the start alone.
+    /// A graph that has only the start.
     pub fn new(alloc: Global, start: Reading) -> Result<Graph, AllocError> {
         let mut graph = Graph {
             nodes: Vec::new(alloc),
@@ -41,7 +41,7 @@ impl Graph {
         Ok(graph)
     }
 
-    /// The node that holds this. None where there is none yet.
+    /// The node that holds this. None if there is none yet.
     fn node_of(&self, reading: &Reading) -> Option<usize> {
         let bucket = self.by_code.get(&reading.code())?;
         for node in bucket {
@@ -64,7 +64,7 @@ impl Graph {
         Ok(())
     }
 
-    /// Adds the edge by which this event leads from a node to what was read, and a node for that where it is new.
+    /// Adds the edge by which this event leads from a node to what was read, and a node for that if it is new.
     pub fn add(&mut self, from: usize, event: Event, reading: Reading) -> Result<(), AllocError> {
         let known = self.node_of(&reading);
         let to = match known {

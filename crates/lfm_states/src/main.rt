@@ -1,8 +1,8 @@
 //! The program `lfm_states`: it finds every state that a mutex of two seats can reach, and measures in all of them what the laws
 //! of `lfm_laws` bound.
 //!
-//! It shows what no proof says: which of the bounds are reached, and how near the greatest counts come to the others. It is run by
-//! `scripts/search_states`.
+//! It shows what no proof says: which of the bounds are reached, and how near the greatest counts come to the others.
+//! `scripts/search_states` runs it.
 #![tactic(auto)]
 
 mod arguments;

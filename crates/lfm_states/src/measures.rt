@@ -1,5 +1,5 @@
-//! What is measured: how often something happens in one call, between two ends of calls, or while a record is queued, and what an
-//! event does to such a count.
+//! What is measured: how often something happens in one call, between two ends of calls, or while a record is queued, and what
+//! an event does to such a count.
 ghost use Rattle.std.specs.Prelude.{◌≡◌};
 ghost use Rattle.lfm_laws.specs.laws.Progress.{changed_push};
 ghost use Rattle.lfm_states.specs.Measures.{counts_call, weight_of};
@@ -25,17 +25,17 @@ pub enum Measure {
     Grants,
     /// The steps of all calls from one end of a call to the next.
     StepsWithoutEnd,
-    /// How often seats come to own while the record is queued that was the oldest as the run began.
+    /// How often seats come to own while the record that was the oldest as the run began is queued.
     Entries,
     /// How often one seat does so.
     EntriesOfSeat,
     /// How often seats stop owning meanwhile.
     Releases,
-    /// How many calls begin while the record is queued that was the oldest as the run began, where only serving calls begin.
+    /// How many calls begin while the record that was the oldest as the run began is queued, if only serving calls begin.
     BeginsBesideOldest,
     /// The same of the record that was the second. Both seats are queued as such a run begins, so nobody is pushed behind it.
     BeginsBesideSecond,
-    /// How many steps are made while the record is queued that was the oldest as the run began, where only serving calls begin.
+    /// How many steps are made while the record that was the oldest as the run began is queued, if only serving calls begin.
     StepsBesideOldest,
 }
 
@@ -56,7 +56,7 @@ pub enum Effect {
     Stops,
 }
 
-/// How often the push word has changed: 1, or 0 where it is the same.
+/// How often the push word has changed: 1, or 0 if it is the same.
 fn changed_push(before: Link, after: Link) -> u64
     ensures { result ≡ changed_push before after }
 {
@@ -64,7 +64,7 @@ fn changed_push(before: Link, after: Link) -> u64
 }
 
 impl Measure {
-    /// Whether such a call is counted.
+    /// Whether the measure counts such a call.
     fn counts_call(self, call: Call) -> bool
         ensures { result ≡ counts_call self call }
     {
@@ -76,7 +76,7 @@ impl Measure {
         }
     }
 
-    /// How much a step of the call counts that changes the push word so often and stores so many grants.
+    /// What a step of the call counts if it changes the push word this often and stores this many grants.
     fn weight_of(self, changes: u64, grants: u64) -> u64
         ensures { result ≡ weight_of self changes grants }
     {
@@ -126,7 +126,8 @@ impl Measure {
         }
     }
 
-    /// How much a step of seat s counts while the oldest record is queued, in the measure of one seat only where that is its own.
+    /// What a step of seat s counts while the oldest record is queued; in the measure of one seat, only if the record is its
+    /// own.
     fn weight_beside_record(self, seat: u64, s: u64, before: &Reading) -> u64 {
         match self {
             Measure::EntriesOfSeat if s != seat => 0,
@@ -152,7 +153,7 @@ impl Measure {
         }
     }
 
-    /// Whether the record is still queued beside which calls begin.
+    /// Whether the record beside which calls begin is still queued.
     fn is_still_queued(self, before: &Reading, after: &Reading) -> bool {
         match self {
             Measure::BeginsBesideSecond => after.oldest.seat != 0,
@@ -160,7 +161,7 @@ impl Measure {
         }
     }
 
-    /// What an event does to a count that is made beside a queued record where only serving calls begin.
+    /// What an event does to a count that is made beside a queued record, if only serving calls begin.
     fn effect_of_service(self, event: Event, before: &Reading, after: &Reading) -> Effect {
         let counts_steps = self == Measure::StepsBesideOldest;
         match event {
@@ -178,7 +179,7 @@ impl Measure {
         }
     }
 
-    /// Whether a run may begin at this node, with a count of 0. Elsewhere a count begins as its call does.
+    /// Whether a run may begin at this node, with a count of 0. At other nodes a count begins as its call does.
     pub fn starts_at(self, node: &Reading) -> bool {
         match self {
             Measure::StepsWithoutEnd => true,
@@ -199,7 +200,8 @@ impl Measure {
         }
     }
 
-    /// What an event between these two nodes does to the count, which is that of a call of this seat unless it is of all calls.
+    /// What an event between these two nodes does to the count. Unless it is a count of all calls, it counts a call of this
+    /// seat.
     pub fn effect(self, seat: u64, event: Event, before: &Reading, after: &Reading) -> Effect {
         match self {
             Measure::StepsWithoutEnd => self.effect_on_all(event, after),

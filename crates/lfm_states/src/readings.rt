@@ -64,7 +64,7 @@ impl SeatReading {
     }
 }
 
-/// A queued record; its seat is 0 where there is none.
+/// A queued record; its seat is 0 if there is none.
 #[derive(Clone, Copy, Debug, PartialEq, Eq)]
 pub struct Queued {
     /// The seat that waits.
@@ -114,7 +114,7 @@ impl Reading {
         }
     }
 
-    /// What belongs to a seat: seat 1, or else seat 2.
+    /// What belongs to seat 1 if s is 1, and otherwise to seat 2.
     pub fn seat(&self, s: u64) -> SeatReading {
         if s == 1 { self.seat_1 } else { self.seat_2 }
     }

@@ -1,5 +1,5 @@
 //! The search: it tries each event in each state that was found, until no new state comes. A state cannot be copied, so it is
-//! made again from the start, by the events that first led to it.
+//! rebuilt from the start, by the events that first led to it.
 use crate::events::{CALLS, Event, SEATS, is_left_out};
 use crate::graph::Graph;
 use crate::readings::Reading;
@@ -7,10 +7,10 @@ use crate::weights::is_open;
 use lfm_core::{State, Turn};
 use std::alloc::{AllocError, Global};
 
-/// More states than there are at any budget that is asked for.
+/// More states than there are at either budget.
 const MOST_STATES: usize = 4_000_000;
 
-/// More events than lead to any state first. With fewer the number of states would come out wrong.
+/// More events than the first path to any state has. With a smaller limit the number of states would come out wrong.
 const LONGEST_PATH: usize = 1_000;
 
 /// What a search works with.
@@ -19,7 +19,7 @@ struct Search {
     alloc: Global,
     budget: u64,
     graph: Graph,
-    /// The events that lead to the state that is made again, the last one first.
+    /// The events that lead to the state that is rebuilt, the last one first.
     path: Vec<Event>,
 }
 
@@ -66,7 +66,7 @@ impl Search {
         Ok(())
     }
 
-    /// Tries one event in a state of this node, and gives a state of the node again.
+    /// Tries one event in a state of this node, and returns a state of the node again.
     fn attempt(&mut self, node: usize, state: State, event: Event) -> Result<State, AllocError> {
         let mut state = state;
         let turn = event.happen(&mut state);

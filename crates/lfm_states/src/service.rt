@@ -8,7 +8,7 @@ ghost use Rattle.lfm_protocol.specs.Seats.{wake};
 use lfm_core::Call;
 use lfm_words::Wake;
 
-/// Whether a call serves that begins where its seat has this wake word: an unlock, or a receive of a seat that has its grant.
+/// Whether a call that begins while its seat has this wake word serves: an unlock, or a receive of a seat that has its grant.
 pub fn is_serving(call: Call, word: Wake) -> bool
     ensures serves { (c : Core) (s : ℕ) → wake c.wakes s ≡ word → result ≡ true → Serves c (begins s call) }
     ensures serves_not { (c : Core) (s : ℕ) → wake c.wakes s ≡ word → result ≡ false → Serves c (begins s call) → ⊥ }

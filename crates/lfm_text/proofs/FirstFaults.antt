@@ -7,7 +7,7 @@ none_of : {A : Type 0} (o : Option A) → is_some o ≡ false → o ≡ None
 none_of None e = refl
 none_of (Some x) e = absurd (cc)
 
--- faults of lines tell their numbers and are none of the limits, and a text without a byte is no first line
+-- the fault of a line names its number and is no fault of the limits, and a text without a byte is no first line
 pub record AreApart {H L P F : Type 0} (rules : Rules H L P F) : Type 0 where
   pub number : (m n : ℕ) → rules.syntax_fault m ≡ rules.syntax_fault n → m ≡ n
   pub limit : (n : ℕ) → rules.limit_fault ≢ rules.syntax_fault n

@@ -12,7 +12,7 @@ feed c = cond (c == 10) 1 0
 line_feeds-cons : (c : ℕ) (cs : List ℕ) → line_feeds (c ∷ cs) ≡ feed c + line_feeds cs
 line_feeds-cons c cs = sum_by-cons (λ b. cond (b == 10) 1 0) c cs
 
--- a byte before another is a line of its own only where it is a line feed
+-- a byte before another is a line of its own only if it is a line feed
 line_count-cons : (c d : ℕ) (ds : List ℕ) → line_count (c ∷ d ∷ ds) ≡ feed c + line_count (d ∷ ds)
 line_count-cons c d ds = omega (arith, line_feeds-cons c (d ∷ ds))
 
@@ -63,7 +63,7 @@ is_past_limit-after_feeds xs (c ∷ cs) full some =
 within_limits : (bytes lines : ℕ) → bytes ≤ max_bytes → lines ≤ max_lines → (nat_lt max_bytes bytes || nat_lt max_lines lines) ≡ false
 within_limits bytes lines few_bytes few_lines = grind (arith, tests)
 
--- so few more bytes that each of them may be a line are within the limits
+-- a text stays within the limits if it would even with each further byte as a line of its own
 pub is_past_limit-few_more : (xs ys : List ℕ) → is_past_limit xs ≡ false → length xs + length ys ≤ max_bytes → line_feeds xs + length ys ≤ max_lines
     → is_past_limit (xs ++ ys) ≡ false
 is_past_limit-few_more xs [] fits few_bytes few_lines = rw (append-nil xs) fits

@@ -1,4 +1,4 @@
--- A text says just what its lines spell, in each grammar whose single lines do.
+-- A text says exactly what its lines spell, in each grammar whose single lines do.
 use Rattle.std.proofs.Common.{◌≡◌, ◌≢◌, ◌+◌, ◌<◌, suc, ℕ, Bool, true, false, cond, List, [], ◌∷◌, ◌++◌, Option, Some, None, Result, Ok, Err, All, ◌⊎◌, inl, inr, refl, sym, ◌∙◌, ap, append_assoc, arith, codes}
 use Rattle.std.specs.List.{flat_map}
 use Rattle.std.specs.Str.{bytes_eq}
@@ -20,7 +20,7 @@ choose {A} Spells word text b a rest form others e = by_test (bytes_eq word text
         rw (is_text, ← is_b) form
     by_test false same e = others e
 
--- single lines say just what they spell
+-- single lines say exactly what they spell
 pub record AreSpelled {H L P F : Type 0} (rules : Rules H L P F) (SpellsFirst : List ℕ → H → Type 0) (Spells : List ℕ → L → Type 0) : Type 0 where
   pub first_only : (text : List ℕ) (h : H) → rules.first (words_of text) ≡ Some h → SpellsFirst text h
   pub first_all : (text : List ℕ) (h : H) → SpellsFirst text h → rules.first (words_of text) ≡ Some h

@@ -19,15 +19,15 @@ taken_more a b c before given rest after n within p q is =
     let same : after ≡ before ++ take n given = is ∙ ap (λ l. before ++ l) (take-append-le n given rest within) in
     subst (Consumes a c) (sym same) (Consumes-then a b c before (take n given) p q)
 
--- the same where a last read failed
+-- the same if a last read failed
 pub taken_kept : (a b c : Option (List ℕ)) (xs : List ℕ) → Consumes a b xs → Keeps b c → Consumes a c xs
 taken_kept None b c xs p q = tt
 taken_kept (Some u) None c xs p q = absurd p
 taken_kept (Some u) (Some v) None xs p q = absurd q
 taken_kept (Some u) (Some v) (Some w) xs p q = p ∙ ap (λ l. xs ++ l) (sym q)
 
--- A text was not past a limit when a read gave n more bytes. It asked for no more than could be read within the limits,
--- and one, so without the last byte the text is not past a limit.
+-- A text was not past a limit when a read gave n more bytes. It asked for at most one byte more than the limits still allow, so
+-- without the last byte the text is not past a limit.
 pub none_after_first : (before given rest after : List ℕ) (n : ℕ) → is_past_limit before ≡ false → n ≤ length given → 0 < n
     → length before + n ≤ max_bytes + 1 → line_feeds before + n ≤ max_lines + 1 → after ≡ before ++ take n (given ++ rest)
     → is_past_limit (take (length after - 1) after) ≡ false

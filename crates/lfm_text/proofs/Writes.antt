@@ -102,7 +102,8 @@ failed_after a b c s u fault r p q e =
 
 -- ---- the parts of a text
 
--- r is the answer after the outcome q of the part before these parts: what `?` makes of the fault, or success where no part is left
+-- r is the answer after the outcome q of the part before these parts: what `?` makes of the fault, or success if no part is
+-- left
 abbrev pub Ends : Result (Unit {0}) WriteFault → List (List ℕ) → Result (Unit {0}) WriteFault → Type 0
 Ends (Ok u) parts r = (parts ≡ []) × (r ≡ Ok u)
 Ends (Err fault) parts r = IsErrAnd r (λ y. y ≡ fault)

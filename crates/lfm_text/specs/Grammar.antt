@@ -37,7 +37,7 @@ whole_of_lines rules (first ∷ rest) = whole_from rules (rules.first (words_of 
 abbrev pub said_in : {H L P F : Type 0} → Rules H L P F → List ℕ → Result P F
 said_in rules text = if is_past_limit text then Err rules.limit_fault else whole_of_lines rules (lines_of text)
 
--- whether a text says a line where it stands at this index
+-- whether a text says a line if it stands at this index
 abbrev pub is_line_at : {H L P F : Type 0} → Rules H L P F → ℕ → List ℕ → Bool
 is_line_at rules zero text = is_some (rules.first (words_of text))
 is_line_at rules (suc k) text = is_some (rules.line (words_of text))

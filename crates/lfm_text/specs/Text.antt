@@ -24,7 +24,7 @@ lines_of text = without_empty_last (parts_at 10 text)
 abbrev pub words_of : List ℕ → List (List ℕ)
 words_of line = parts_at 32 line
 
--- what the words are, where there are two to four of them
+-- what the words are, if there are two to four of them
 abbrev pub AreWords : LineWords → List (List ℕ) → Type 0
 AreWords (Two first second) words = words ≡ first.now ∷ second.now ∷ []
 AreWords (Three first second third) words = words ≡ first.now ∷ second.now ∷ third.now ∷ []
@@ -39,7 +39,7 @@ digits_number word = if all_ascii_digits word then Some (digits_value 10 word) e
 abbrev pub max_digits : ℕ
 max_digits = 18
 
--- a number: at most 18 digits, the first of which is a zero only where it stands alone
+-- a number: at most 18 digits, the first of which is a zero only if it stands alone
 abbrev pub number_of : List ℕ → Option ℕ
 number_of [] = None
 number_of (c ∷ []) = digits_number (c ∷ [])

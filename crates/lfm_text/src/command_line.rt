@@ -1,4 +1,4 @@
-//! The command line of a program: what stands on it, the line that tells its usage, and the standard output that a program
+//! The command line of a program: what stands on it, the line that tells the usage, and the standard output that a program
 //! opens once it knows what is asked for.
 ghost use Rattle.std.specs.Prelude.{◌≡◌};
 ghost use Rattle.std.specs.Vec.Iter.{into_iter_items};
@@ -10,7 +10,7 @@ use std::io::{BufWriter, ErrorKind, Printer};
 use std::rt::Env;
 use std::{env, io};
 
-/// The status of a command line that asks for nothing the program does.
+/// The exit status of a command line that asks for nothing the program does.
 const USAGE: u8 = 2;
 
 /// What stands on a command line after the program's name.
@@ -22,7 +22,7 @@ pub enum CommandLine {
     Word(String),
     /// Several words, or one that is not UTF-8.
     Other,
-    /// Nothing can be told: the words themselves found no memory.
+    /// Not known: there was no memory for the words.
     Unread,
 }
 
@@ -47,8 +47,8 @@ pub fn read_command_line<R: Env + AllocGlobal>(rt: &R) -> CommandLine {
     }
 }
 
-/// Tells this usage on standard error, and gives the exit status of a command line that asks for nothing the program does.
-/// That a message can't be written changes nothing.
+/// Prints this usage on standard error, and returns the exit status of a command line that asks for nothing the program does. A
+/// message that can't be written changes nothing.
 pub fn tell_usage<R: Eprint>(rt: &R, usage: &'static str) -> u8
     ensures { result ≡ 2 }
 {

@@ -23,11 +23,9 @@ fn append_reserved(input: &mut Vec<u8>, given: &[u8])
     input.extend_from_slice(given).unwrap();
 }
 
-/// How many bytes the next read asks for, after this many bytes and line feeds: no more than may come within the limits,
-/// and one.
+/// How many bytes the next read asks for, after this many bytes and line feeds: at most one more than the limits still allow.
 ///
-/// Each byte may be a line feed. So a read asks for at most as many bytes as there may be lines yet, and one more: near
-/// the last line the reads get short.
+/// Each byte may be a line feed, so the limit on lines bounds the bytes of a read too: near the last line the reads get short.
 fn next_room(bytes: usize, line_feeds: usize) -> usize
     requires bytes_within { bytes ≤ max_bytes }
     requires lines_within { line_feeds ≤ max_lines }
@@ -41,7 +39,7 @@ fn next_room(bytes: usize, line_feeds: usize) -> usize
     bytes_left.min(lines_left).min(READ_SIZE)
 }
 
-/// Reads once, and answers how many bytes came: 0 at the end. Read where the reader fails.
+/// Reads once, and returns how many bytes came: 0 at the end. Read if the reader fails.
 fn read_once<R: Read>(reader: &mut R, buffer: &mut [u8]) -> Result<usize, InputFault>
     ensures bound { ReadsAtMost result buffer.new }
     ensures bytes { ReadConsumes (R.remaining reader.old) (R.remaining reader.new) result buffer.new }
@@ -56,8 +54,8 @@ fn read_once<R: Read>(reader: &mut R, buffer: &mut [u8]) -> Result<usize, InputF
 /// Reads all bytes of the reader, and no byte after the first that is past a limit: byte 1,048,577, or the first byte
 /// after 65,536 line feeds.
 ///
-/// Makes one request for memory, of 1,048,577 bytes: Memory where it is refused, and then nothing was read. Read where the
-/// reader fails before the text is past a limit. Any error of the reader counts, also an interruption.
+/// Makes one request for memory, of 1,048,577 bytes: Memory if it is refused, and then nothing was read. Read if the reader
+/// fails before the text is past a limit. Any error of the reader counts, even an interruption.
 pub fn read_input<R: Read>(alloc: Global, reader: &mut R) -> Result<Vec<u8>, InputFault>
     ensures ok { IfOk result (λ v. Takes (R.remaining reader.old) (R.remaining reader.new) v.items) }
     ensures read { IsErrOf result InputFault.Read →

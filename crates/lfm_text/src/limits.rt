@@ -35,8 +35,8 @@ pub fn is_past_limit(text: &[u8], line_feeds: usize) -> bool
     text.len() > MAX_BYTES || lines_with(text, line_feeds) > MAX_LINES
 }
 
-/// The number of lines of a text: each line feed ends one, and bytes after the last line feed are one more. `None` where
-/// the text has more than 1,048,576 bytes or more than 65,536 lines.
+/// The number of lines of a text: each line feed ends one, and bytes after the last line feed are one more. `None` if the text
+/// has more than 1,048,576 bytes or more than 65,536 lines.
 pub fn count_lines(text: &[u8]) -> Option<usize>
     ensures within { IfSome result (λ _. is_past_limit text.now ≡ false) }
     ensures lines { IfSome result (λ lines. lines ≡ line_count text.now) }

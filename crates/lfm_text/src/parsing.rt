@@ -8,7 +8,7 @@ ghost use Rattle.lfm_text.specs.Text.{parts_at, lines_of, words_of, AreWords, di
 /// The most digits that a number may have.
 pub const MAX_DIGITS: usize = 18;
 
-/// The words of a line, where there are two to four of them.
+/// The words of a line, if there are two to four of them.
 #[derive(Clone, Copy, Debug)]
 pub enum LineWords<'a> {
     /// Two words.
@@ -32,8 +32,7 @@ fn cut(text: &[u8], separator: u8) -> Option<(&[u8], &[u8])>
     Some((&text[..at], &text[at + 1..]))
 }
 
-/// The first line of a text, without its line feed, and what follows that. `None` where the text is
-/// empty.
+/// The first line of a text, without its line feed, and what follows that. `None` if the text is empty.
 pub fn first_line(text: &[u8]) -> Option<(&[u8], &[u8])>
     ensures none { IfNone result (text.now ≡ []) }
     ensures first { IfSome result (λ x. lines_of text.now ≡ x.0.now ∷ lines_of x.1.now) }
@@ -67,7 +66,7 @@ pub fn split_words(line: &[u8]) -> LineWords<'_>
     }
 }
 
-/// The number that at most 18 digits write. `None` where a byte is no digit.
+/// The number that at most 18 digits write. `None` if a byte is no digit.
 fn read_digits(word: &[u8]) -> Option<u64>
     requires { length word.now ≤ max_digits }
     ensures { result ≡ digits_number word.now }

@@ -3,7 +3,7 @@
 ghost use Rattle.std.specs.Prelude.{◌≡◌, ◌≤◌, ◌<◌, ◌^◌, ◌++◌, ℕ, true, length, List, Some, decimal};
 ghost use Rattle.lfm_text.specs.Text.{number_of, lines_of, line_feeds, line_count, max_lines, is_past_limit};
 
-/// A word is a number exactly where it is the number's decimal text, below 10^18.
+/// A word is a number exactly if it is the number's decimal text, below 10^18.
 pub fn numbers_are_decimals()
     ensures only { (w : List ℕ) (n : ℕ) → number_of w ≡ Some n → (w ≡ decimal n) × (n < 10 ^ 18) }
     ensures all { (n : ℕ) → n < 10 ^ 18 → number_of (decimal n) ≡ Some n }

@@ -30,7 +30,7 @@ module _ {A : Type 0} (all rest next : List A) (x : A) (n : ℕ) (steps : rest �
 pub all_come : {A : Type 0} (all rest : List A) (n : ℕ) → rest ≡ all → n ≡ 0 → (i : ℕ) (y : A) → get_elem? rest i ≡ some y → get_elem? all (n + i) ≡ some y
 all_come all rest n is none i y e = let eq : i ≡ n + i = omega arith in subst (λ (k : ℕ). get_elem? all k ≡ some y) eq (ap (λ l. get_elem? l i) (sym is) ∙ e)
 
--- two lists of one length are the same, where the items of one stand in the other
+-- two lists of one length are the same if the items of one stand in the other
 pub same_items : {A : Type 0} (xs ys : List A) → length xs ≡ length ys → ((j : ℕ) (x : A) → get_elem? xs j ≡ some x → get_elem? ys j ≡ some x) → xs ≡ ys
 same_items [] [] long h = refl
 same_items [] (y ∷ ys) long h = absurd (omega (arith, long))

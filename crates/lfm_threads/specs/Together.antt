@@ -16,7 +16,7 @@ module _ {P X : Type 0} (gives : P → X → Type 0) where
   abbrev pub AllGiven : List P → List X → Type 0
   AllGiven jobs results = (j : ℕ) (x : X) → get_elem? results j ≡ some x → (p : P) × (get_elem? jobs j ≡ some p) × gives p x
 
-  -- the job came to this, where it was so decided at the starting line
+  -- what the job came to, by the decision at the starting line
   abbrev pub Comes : P → Start → Outcome P X → Type 0
   Comes p Start.Go (Made x) = gives p x
   Comes p Start.CalledOff (Kept q) = q ≡ p

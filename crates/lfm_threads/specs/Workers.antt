@@ -1,4 +1,4 @@
--- Who was given a job.
+-- The threads that were given a job.
 use Rattle.std.specs.Prelude.{◌≡◌, ℕ, List}
 use mathlib.Core.Option.{some}
 use lib.ListN.{get_elem?}
@@ -8,7 +8,7 @@ use Rattle.lfm_threads.specs.declared.workers.Worker.TheVariants.{Started, Refus
 use Rattle.lfm_threads.specs.Together.{Arrives}
 
 module _ {P X K : Type 0} (g : Task.Ghosts K P X) (task : K) where
-  -- a thread, or nobody, and then this is what the job came to
+  -- the job was given to a thread; or to nobody, and this is what it came to
   abbrev pub HasJob : ℕ → P → Worker P X K → Type 0
   HasJob line p (Started h) = (h.promise.line.value.start.id ≡ line) × (h.promise.job.value ≡ p) × (h.promise.task.value ≡ task)
   HasJob line p (Refused a) = Arrives (g.gives task) line p a

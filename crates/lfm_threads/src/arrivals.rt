@@ -5,23 +5,23 @@ use crate::starting_line::{Decision, Start, StartingLine};
 use crate::task::Task;
 use std::sync::Wait;
 
-// What a job came to.
+/// What a job came to.
 #[derive(Drop)]
 pub enum Outcome<P, X> {
-    // It was made, and gave this.
+    /// It was made, and gave this.
     Made(X),
-    // It was not begun.
+    /// It was not begun.
     Kept(P),
 }
 
-// What came of a job, at a starting line where this was decided.
+/// What came of a job, with the decision at its starting line.
 #[derive(Drop)]
 pub struct Arrival<'a, P, X> {
     pub decision: Decision<'a>,
     pub outcome: Outcome<P, X>,
 }
 
-// What is done in a thread: it waits at the line, and makes its job where it may go.
+/// The body of a thread: it waits at the line, and makes its job if it may go.
 pub fn arrive<'a, P, X, R: Wait, K: Task<P, X>>(
     rt: &R,
     line: &'a StartingLine,

@@ -1,4 +1,4 @@
-//! What is handed back where no thread was given its job.
+//! What is handed back if no thread was given its job.
 
 use std::error::Error;
 use std::fmt;

@@ -9,7 +9,7 @@ use crate::together::make_together;
 use std::sync::Wait;
 use std::thread::Threads;
 
-// A call with the shared value.
+/// A call with the shared value.
 #[derive(Drop)]
 struct SharedCall<'s, S, F> {
     shared: &'s S,
@@ -30,8 +30,8 @@ impl<'s, S, P, X, F: Fn(&S, P) -> X> Task<P, X> for SharedCall<'s, S, F> {
 /// order of the jobs. No call is made before all threads have been started, so calls may wait for one another. It sleeps until
 /// all threads have ended.
 ///
-/// Where a request for memory is refused (Memory), or a thread can't be started (Thread), no call is made, and all jobs are
-/// handed back.
+/// If a request for memory is refused (Memory), or a thread can't be started (Thread), no call is made, and all jobs are handed
+/// back.
 ///
 /// ```
 /// let counts = share(&rt, &text, words, &|text: &Text, word: Word| text.count(&word))?;

@@ -24,7 +24,7 @@ pub struct StartingLine {
     start: OnceLock<Start>,
 }
 
-/// What was decided at a starting line. All who have asked at one line have the same.
+/// What was decided at a starting line. It is the same for all that ask at one line.
 #[derive(Drop)]
 pub struct Decision<'a> {
     token: OnceToken<'a, Start>,
@@ -40,7 +40,7 @@ impl StartingLine {
         }
     }
 
-    /// Decides, and wakes who sleeps here. Where it was decided before, that stays, and is what is returned.
+    /// Decides, and wakes the threads that sleep here. If it was decided before, that decision stays and is returned.
     pub fn decide<R: Wait>(&self, rt: &R, start: Start) -> Decision<'_>
         ensures { result.token.of ≡ self.now.start.id }
     {

@@ -1,6 +1,6 @@
-//! What is made of jobs.
+//! What a thread does with its job.
 
-/// What is made of a job.
+/// What a thread does with its job.
 pub trait Task<P, X> {
     // The job may be begun.
     ghost takes: { Self → P → Type 0 };

@@ -64,7 +64,7 @@ pub fn make_together<
                 let worker = match started {
                     Ok(handle) => Worker::Started(handle),
                     Err(refused) => {
-                        // What was to be done comes back. It finds the start called off, and hands its job back.
+                        // The jobs come back: each thread finds the start called off, and hands its job back.
                         at_line.decide(rt, Start::CalledOff);
                         Worker::Refused((refused.value)())
                     }

@@ -1,4 +1,4 @@
-//! Who is given a job, and what comes of all jobs.
+//! The threads that were given a job, and what comes of all jobs.
 ghost use Rattle.std.specs.Prelude.{◌≡◌, ◌≤◌, ℕ, List, [], vec_capacity, vec_len};
 ghost use Rattle.lfm_threads.specs.declared.starting_line.Start.{Start as StartNow};
 ghost use Rattle.lfm_threads.specs.Together.{AllGiven, Arrives};
@@ -10,7 +10,7 @@ use crate::task::Task;
 use std::snapshot::Snapshot;
 use std::thread::{Promise, PromisedHandle, Threads};
 
-// What a thread was given. It promises that what comes of it is as the starting line says.
+/// What a thread was given. It promises that the outcome of the job follows the decision at the starting line.
 #[derive(Drop)]
 pub struct Given<P, K> {
     pub line: Snapshot<StartingLine>,
@@ -22,17 +22,17 @@ impl<'a, P, X, K: Task<P, X>> Promise<Arrival<'a, P, X>> for Given<P, K> {
     ghost kept_by = { λ g a. Arrives (K.gives g.task.value) g.line.value.start.id g.job.value a };
 }
 
-// Who was given a job.
+/// To whom a job was given.
 #[derive(Drop)]
 pub enum Worker<'a, P, X, K: Task<P, X>> {
-    // A thread.
+    /// A thread.
     Started(PromisedHandle<Arrival<'a, P, X>, Given<P, K>>),
-    // Nobody: no thread could be started for it. It came to this.
+    /// Nobody: no thread could be started for it. It came to this.
     Refused(Arrival<'a, P, X>),
 }
 
 impl<'a, P: Drop, X: Drop, K: Task<P, X>> Worker<'a, P, X, K> {
-    // What came of the job. It sleeps until its thread, if it has one, has ended.
+    /// What came of the job. It sleeps until its thread, if it has one, has ended.
     pub fn arrival<R: Threads>(self, rt: &R) -> Arrival<'a, P, X>
         ensures { (task : K) (line : ℕ) (p : P) → HasJob K.Task task line p self.entry → Arrives (K.gives task) line p result }
     {
@@ -43,18 +43,18 @@ impl<'a, P: Drop, X: Drop, K: Task<P, X>> Worker<'a, P, X, K> {
     }
 }
 
-// The workers of one starting line, and what was decided there.
+/// The workers of one starting line, and what was decided there.
 #[derive(Drop)]
 pub struct Team<'a, P, X, K: Task<P, X>> {
     pub decision: Decision<'a>,
     pub workers: Vec<Worker<'a, P, X, K>>,
-    // The job that each was given.
+    /// The job that each was given.
     pub jobs: Snapshot<Vec<P>>,
     pub task: Snapshot<K>,
 }
 
 impl<'a, P: Drop, X: Drop, K: Task<P, X>> Team<'a, P, X, K> {
-    // What the jobs gave, in order, where it was decided to go. It sleeps until all threads have ended.
+    /// What the jobs gave, in order, if the decision was to go. It sleeps until all threads have ended.
     pub fn results<R: Threads>(self, rt: &R, mut results: Vec<X>) -> Vec<X>
         requires go { self.decision.start ≡ StartNow.Go }
         requires given { AllHaveJobs K.Task self.task.value self.decision.token.of self.jobs.value.items self.workers.items }
@@ -83,7 +83,7 @@ impl<'a, P: Drop, X: Drop, K: Task<P, X>> Team<'a, P, X, K> {
         results
     }
 
-    // The jobs, in order, where the start was called off. It sleeps until all threads have ended.
+    /// The jobs, in order, if the start was called off. It sleeps until all threads have ended.
     pub fn jobs<R: Threads>(self, rt: &R, mut jobs: Vec<P>) -> Vec<P>
         requires off { self.decision.start ≡ StartNow.CalledOff }
         requires given { AllHaveJobs K.Task self.task.value self.decision.token.of self.jobs.value.items self.workers.items }

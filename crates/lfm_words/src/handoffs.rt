@@ -8,9 +8,9 @@ use crate::links::UPPER;
 /// no number is used twice.
 #[derive(Clone, Copy, Debug, PartialEq, Eq)]
 pub struct Handoff {
-    /// The seat that posted: below 65,536, and 0 where nothing is posted.
+    /// The seat that posted: below 65,536, and 0 if nothing is posted.
     pub seat: u64,
-    /// How many posts that seat had made with this one: below 2^48, and 0 where nothing is posted.
+    /// Which of that seat's posts this is, counted from 1: below 2^48, and 0 if nothing is posted.
     pub post: u64,
 }
 

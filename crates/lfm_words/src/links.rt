@@ -2,15 +2,15 @@
 ghost use Rattle.std.specs.Prelude.{◌≡◌, ◌<◌, ◌^◌};
 ghost use Rattle.lfm_words.specs.Words.{link_word, link_of};
 
-/// What 1 counts in the upper 48 bits of a packed word, above its lower 16.
+/// The weight of the lowest of the upper 48 bits of a packed word: 2^16.
 pub(crate) const UPPER: u64 = 65_536;
 
 /// A stamp and a seat, as the push word and the link words hold them.
 #[derive(Clone, Copy, Debug, PartialEq, Eq)]
 pub struct Link {
-    /// In the push word the newest stamp that was given out, in a link word the stamp of that seat's record: below 2^48.
+    /// In the push word, the newest stamp that was given out; in a link word, the stamp of that seat's record: below 2^48.
     pub stamp: u64,
-    /// In the push word the newest queued seat, in a link word the next older one: below 65,536, and 0 for none.
+    /// In the push word, the newest queued seat; in a link word, the next older one: below 65,536, and 0 for none.
     pub next: u64,
 }
 

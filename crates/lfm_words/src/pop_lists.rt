@@ -20,7 +20,7 @@ pub struct Record {
 /// and `room`, how many of them fit.
 #[derive(Drop)]
 pub struct PopList {
-    // The oldest comes last, so that records are added and taken at the end.
+    /// The oldest comes last, so that records are added and taken at the end.
     records: Vec<Record>,
     room: usize,
 }
@@ -38,8 +38,8 @@ impl Model for PopList {
 }
 
 impl PopList {
-    /// An empty list with memory for this many records, which it allocates here and nowhere later. Answers AllocError where
-    /// the allocator refuses it.
+    /// An empty list with memory for this many records, which it allocates here and nowhere later. Answers AllocError if the
+    /// allocator refuses it.
     pub fn new(alloc: Global, seats: u64) -> Result<PopList, AllocError>
         ensures { IfOk result (λ p. p ≡ record { records = []; room = seats }) }
     {
@@ -75,7 +75,7 @@ impl PopList {
         }
     }
 
-    /// The oldest record. None where the list is empty.
+    /// The oldest record. None if the list is empty.
     pub fn oldest(&self) -> Option<Record>
         ensures { result ≡ oldest self.now.records }
     {
@@ -99,7 +99,7 @@ impl PopList {
         self.records.push_reserved(Record { seat, stamp });
     }
 
-    /// Removes the oldest record and returns its seat and stamp. None where the list is empty.
+    /// Removes the oldest record and returns its seat and stamp. None if the list is empty.
     pub fn take_oldest(&mut self) -> Option<(SeatNo, u64)>
         ensures taken { result ≡ option_map pair_of (oldest self.old.records) }
         ensures records { self.new.records ≡ drop 1 self.old.records }

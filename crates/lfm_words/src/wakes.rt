@@ -11,8 +11,7 @@ pub enum Wake {
     Waiting,
     /// One send has claimed the seat; no other can.
     Claimed,
-    /// The mutex is the seat's to receive. The number is the stamp of its queued record, below 2^48, or 0 where it had
-    /// none.
+    /// The mutex is the seat's to receive. The number is the stamp of its queued record, below 2^48, or 0 if it had none.
     Grant(u64),
 }
 

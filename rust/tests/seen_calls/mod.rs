@@ -1,5 +1,5 @@
-//! The calls of the library, for test programs that have them themselves, and so link no library. Such a program sees which calls are
-//! made, and answers what the library seldom answers. Each of its tests has a thread of its own.
+//! The calls of the library, for test programs that define them themselves, and so link no library. Such a program sees which calls
+//! are made, and gives answers that the library seldom gives. Each of its tests has a thread of its own.
 use std::{cell::RefCell, ffi::c_void};
 
 type Answer = Box<dyn FnMut() -> u64>;
@@ -82,7 +82,7 @@ extern "C" fn lfm_c_blank_seat(seat: *mut c_void) {
     answer("lfm_c_blank_seat", &[("seat", seat)]);
 }
 
-/// What the function gives where a call answers otherwise than usual.
+/// What the function returns if a call answers otherwise than usual.
 pub fn where_it_answers<A>(
     call: &'static str,
     answer: impl FnMut() -> u64 + 'static,
@@ -94,7 +94,7 @@ pub fn where_it_answers<A>(
     result
 }
 
-/// The same where a call tells this each time.
+/// The same if the call answers this each time.
 pub fn where_it_tells<A>(call: &'static str, told: u64, act: impl FnOnce() -> A) -> A {
     where_it_answers(call, move || told, act)
 }

@@ -1,4 +1,4 @@
--- What one begin or one step of the user mutex leaves to all other seats, and what it keeps.
+-- What the start of a call and a step of the user mutex leave to all other seats, and what they keep.
 use Rattle.std.proofs.Common.{◌≡◌, ◌≢◌, ◌⊎◌, ℕ, false, ◌+◌, ◌&&◌, nat_lt, length, refl, sym, ap, ◌∙◌, inl, inr, if◌then◌else◌}
 use Rattle.std.proofs.lemmas.Bool.{cases_Bool}
 use Rattle.lfm_words.specs.declared.wakes.Wake.TheVariants.{Waiting}
@@ -28,7 +28,7 @@ pub record OthersStay (c d : Core) (s : ℕ) : Type 0 where
 leaves_all : (c : Core) (s : ℕ) → OthersStay c c s
 leaves_all c s = record { others = λ t other. refl; size = refl; budget = refl }
 
--- a state that fits again, in which who waits still waits, and no other seat begins to
+-- a state that fits again, in which the seats that wait still wait, and no other seat begins to
 pub record MutexMoves (c d : Core) (s : ℕ) : Type 0 where
   pub to : Ghost
   pub fits : Fits d to
@@ -84,7 +84,7 @@ begin_moves c g s call fits =
       waited = λ t other word. sym (touches.words (Word.Wake t)) ∙ word;
     }
 
--- What a begin of another seat would answer stays
+-- What the start of a call of another seat would answer stays
 
 begin_turn : (c : Core) (t : ℕ) (call : Call)
     → (begin c t call).turn ≡ (if is_seat c.seats t then (Begin.begin (seat c.seats t) (limits c) call).turn else Refused NoSuchSeat)

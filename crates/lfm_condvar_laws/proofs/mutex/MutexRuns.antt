@@ -1,4 +1,4 @@
--- What events on condvars do to the user mutex, calls and single steps of the user mutex do.
+-- Calls and single steps of the user mutex do to it what events on condvars do.
 use Rattle.std.proofs.Common.{◌≡◌, ℕ, Bool, true, false, ◌&&◌, List, [], ◌∷◌, ◌++◌, nat_eq, refl, sym, ap, ◌∙◌, if◌then◌else◌}
 use Rattle.lfm_protocol.specs.declared.answers.Call.TheVariants.{StartWait, SendLock, Receive}
 use Rattle.lfm_protocol.specs.declared.points.Point.{Point}

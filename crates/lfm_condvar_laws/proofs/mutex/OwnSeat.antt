@@ -1,4 +1,4 @@
--- What the acting seat comes to by the begin or the step of a call of the user mutex.
+-- What becomes of the acting seat as it starts a call of the user mutex or makes a step of one.
 use Rattle.std.proofs.Common.{◌≡◌, ℕ, Bool, true, false, ◌+◌, ◌&&◌, nat_eq, nat_lt, length, refl, sym, ap, ◌∙◌, inl, inr, if◌then◌else◌}
 use Rattle.std.proofs.lemmas.Bool.{cases_Bool, false≢true}
 use Rattle.lfm_model.specs.declared.refusals.Refusal.{Refusal}

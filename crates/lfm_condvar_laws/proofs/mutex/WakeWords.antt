@@ -1,4 +1,4 @@
--- A wake word that is WAITING stays so until a send claims its seat, and none becomes so but by the end of a start_wait.
+-- A wake word that is WAITING stays so until a send claims its seat, and only the end of a start_wait makes one so.
 use Rattle.std.proofs.Common.{◌≡◌, ◌≢◌, ◌⊎◌, ℕ, zero, suc, true, false, ◌+◌, List, length, refl, sym, ap, ◌∙◌, inl, inr, arith}
 use Rattle.std.proofs.lemmas.Bool.{cases_eq, cases_lt, eq-eqb, false≢true}
 use Rattle.lfm_protocol.specs.declared.points.Carrier.{Carrier}
@@ -98,7 +98,7 @@ claimed_word c g s u at found is fits =
 pub ends_waiting : (c : Core) (g : Ghost) (s : ℕ) → IsSeat c.seats s → Fits c g → wake (with_entry c.wakes s Waiting) s ≡ Waiting
 ends_waiting c g s is fits = entry-with_same Quiet c.wakes s Waiting is.above (rw fits.sizes.wakes is.within)
 
--- No word becomes WAITING but by the last step of start_wait
+-- Only the last step of start_wait makes a word WAITING
 
 written_or_left : {A : Type 0} (d : A) (xs : List A) (s : ℕ) (x : A)
     → (entry d (with_entry xs s x) s ≡ x) ⊎ (entry d (with_entry xs s x) s ≡ entry d xs s)
@@ -141,7 +141,7 @@ waited_at c s t (WaitWakeStore released) at (inl other) word =
 waited_at c s t (WaitWakeStore released) at (inr none) word = absurd (false≢true (sym none))
 waited_at c s t _ at other word = rw at at word
 
--- so where a word is WAITING after a step, it was before, but for a seat that ends its own start_wait
+-- so if a word is WAITING after a step, it was before, but for a seat that ends its own start_wait
 pub has_waited : (c : Core) (s t : ℕ) → (t ≢ s) ⊎ (waits_at (seat c.seats s).point ≡ false)
     → wake (made c s).core.wakes t ≡ Waiting → wake c.wakes t ≡ Waiting
 has_waited c s t other word = waited_at c s t (seat c.seats s).point refl other word

@@ -22,7 +22,7 @@ abbrev pub sent_to : Pusher → Option ℕ
 sent_to (Pusher.Sender t) = Some t
 sent_to Pusher.Locker = None
 
--- the target of a send that has claimed it and may push a record for it yet
+-- the target of a send that has claimed it and may still push a record for it
 abbrev pub to_push : Point → Option ℕ
 to_push (SendCountAdd t) = Some t
 to_push (PushLoad pusher) = sent_to pusher
@@ -66,7 +66,7 @@ of_cleared : (carrier : Carrier) (head : ℕ) → carries_for_send carrier ≡ t
 of_cleared Carrier.Sender head sender = refl
 of_cleared _ head sender = absurd (false≢true sender)
 
--- a step after which the send may push for t yet: so it was before, and the step pushed nothing
+-- a step after which the send may still push for t: so it was before, and the step pushed nothing
 abbrev pub StillPushes : Core → ℕ → Point → Option ℕ → Type 0
 StillPushes c s p after = (t : ℕ) → after ≡ Some t → (to_push p ≡ Some t) × (pushed_at_point c s p ≡ [])
 

@@ -29,7 +29,7 @@ receives_unstarted depth (ReceiveWakeStore stamp) comes = refl
 receives_unstarted depth (EnterOwnerStore entrant how) comes = refl
 receives_unstarted depth _ comes = absurd (false≢true comes)
 
--- where it rests, it holds once
+-- if it rests, it holds once
 pub holds_once : (x : SeatState) → x.point ≡ Rest → comes_to_hold x ≡ true → x.depth ≡ 1
 holds_once x at comes = eqb-true x.depth 1 (rw at at comes)
 

@@ -69,7 +69,7 @@ in_order k g v fits free =
 pub lists_are_in_order : ListsAreInOrder
 lists_are_in_order r v free = let is = run_reaches r in in_order (reached_by r) is.ghost_state v is.fits free
 
--- Who is listed
+-- Seats that are listed
 
 -- a pending ticket of a condvar whose lock is free is that of a wait that has given the lock back
 receives_pending : (k : CondvarCore) (g : CondvarGhost) (v ticket t : ℕ) → CoreFits k g → (k.condvar v).holder ≡ 0

@@ -1,4 +1,4 @@
--- Who has the lock of a condvar: the seat whose call has taken it and not given it back. A wake ends by giving it back.
+-- Which seat has the lock of a condvar: the one whose call has taken it and not given it back. A wake ends by giving it back.
 use Rattle.std.proofs.Common.{◌≡◌, ℕ, Bool, true, false, ◌<◌, List, [], ◌∷◌, nat_eq, refl, sym, ap, ◌∙◌, inl, inr, arith, if◌then◌else◌}
 use Rattle.std.proofs.lemmas.Bool.{cases_eq, false≢true}
 use Rattle.lfm_protocol.specs.declared.limits.Limits.{Limits}
@@ -13,7 +13,7 @@ use Rattle.lfm_condvar_laws.specs.Stages.{has_lock, is_wake}
 use Rattle.lfm_condvar_laws.proofs.LockMoves.{SeatMoves, LockMoves, actor, event_moves, held_by, same_condvar, stage_by}
 use Rattle.lfm_condvar_laws.proofs.Runs.{run_reaches}
 
--- Who has it
+-- Which seat has it
 
 -- a lock that is not free is that of a call which goes on with it
 abbrev LocksFit : CondvarCore → Type 0

@@ -1,4 +1,4 @@
--- No seat that sleeps is lost: each whose wake word is WAITING stands in the list of a condvar. Told by the stage of its call.
+-- No seat that sleeps is lost: each whose wake word is WAITING stands in the list of a condvar. By the stage of its call.
 use Rattle.std.proofs.Common.{◌≡◌, ℕ, true, false, refl, sym, ap, ◌∙◌, inl, inr, arith}
 use Rattle.std.proofs.lemmas.Bool.{cases_Bool, cases_lt, false≢true}
 use Rattle.lfm_words.specs.declared.wakes.Wake.TheVariants.{Waiting}
@@ -19,7 +19,7 @@ use Rattle.lfm_condvar_laws.proofs.mutex.OwnSeat.{outside_awake}
 use Rattle.lfm_condvar_laws.proofs.mutex.WakeWords.{waiting_tells}
 use Rattle.lfm_condvar_laws.proofs.reached.ListOrder.{given_listed}
 
--- Who is awake
+-- Seats that are awake
 
 awake : (p : Point) → sleeps_as_waiter p ≡ true → sleeps_as_waiter p ≡ false → ⊥
 awake p sleeps wakes = false≢true (sym wakes ∙ sleeps)
@@ -44,7 +44,7 @@ begins_awake c s (ReceiveWakeLoad Sleeper.Waiter) at sleeps opens =
     ]
 begins_awake c s _ at sleeps opens = false≢true sleeps
 
--- Who is listed
+-- Seats that are listed
 
 -- a wait that has given the lock back
 receiving_listed : (k : CondvarCore) (g : CondvarGhost) (s v ticket : ℕ) → CoreFits k g → ReceivingFits k g s v ticket

@@ -1,4 +1,4 @@
--- What lines do to a state, a schedule of events does, and with the same answers.
+-- A schedule of events does to a state what lines do, with the same answers.
 use Rattle.std.proofs.Common.{◌≡◌, ℕ, zero, suc, Bool, true, false, ◌+◌, ◌&&◌, nat_eq, nat_lt, List, [], ◌∷◌, ◌++◌, if◌then◌else◌, refl, sym, ap, ◌∙◌, inl, inr}
 use Rattle.std.proofs.lemmas.Bool.{cases_Bool}
 use Rattle.std.proofs.lemmas.List.{append_assoc, append-nil}
@@ -89,7 +89,7 @@ open_answers s Open on = refl
 open_answers s (Ended answer) on = absurd (cc)
 open_answers s (Refused why) on = refl
 
--- a begin answers no Held
+-- the start of a call answers no Held
 abbrev IsSilent : ℕ → Stepped → Type 0
 IsSilent s m = answered_by s m.turn ≡ []
 

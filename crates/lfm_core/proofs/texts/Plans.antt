@@ -1,4 +1,4 @@
--- A whole text is read as a schedule just where it spells it, and Limit is answered just where it is too long or out of range.
+-- A whole text is read as a schedule exactly if it spells it, and Limit is answered exactly if it is too long or out of range.
 use Rattle.std.proofs.Common.{◌≡◌, ◌≢◌, ◌≤◌, ◌<◌, ◌^◌, ◌⊎◌, inl, inr, ℕ, Bool, true, false, cond, List, Result, Ok, Err, refl, ◌∙◌, arith, tests}
 use Rattle.lfm_core.specs.declared.text.schedule.Line.{Line}
 use Rattle.lfm_core.specs.declared.text.faults.ReplayFault.{ReplayFault}
@@ -13,7 +13,7 @@ use Rattle.lfm_text.proofs.Spelled.{AreSpelled, Says, said_all, said_only, limit
 use Rattle.lfm_core.proofs.texts.Decoding.{spelled_decodes, spelled_header_decodes, no_feed_in_line, no_feed_in_header}
 use Rattle.lfm_core.proofs.texts.Spelled.{line_only, header_only}
 
--- the faults of schedules are told apart
+-- the faults of schedules differ
 pub apart : AreApart schedules
 apart = record { number = λ m n e. cc; limit = λ n e. cc; whole = whole_no_line; empty = refl }
   where
@@ -24,7 +24,7 @@ apart = record { number = λ m n e. cc; limit = λ n e. cc; whole = whole_no_lin
         by_test true = λ e. cc
         by_test false = λ e. cc
 
--- single lines of schedules say just what they spell
+-- single lines of schedules say exactly what they spell
 spelled : AreSpelled schedules SpellsFirst SpellsWritable
 spelled = record {
   first_only = λ text limits e. header_only text limits.seats limits.budget e;

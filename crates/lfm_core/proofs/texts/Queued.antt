@@ -32,7 +32,7 @@ module _ (old mid : Option (List ℕ)) (items rest : List Record) (x : Record) (
       → IsErrAnd r (λ y. y ≡ fault) → Writes old mid (further_text (reverse items)) r
   further_failed fault r p e = rw (oldest_first items rest x is) (failed_within old mid _ (further_text (reverse rest)) fault r p e)
 
--- nothing is left to write where no record is
+-- nothing is left to write if there is no record
 pub none_left : (a : Option (List ℕ)) (items : List Record) → length items ≡ 0 → Writes {T = Unit {0}} a a (further_text (reverse items)) (Ok tt)
 none_left a [] e = written_nothing a tt
 none_left a (x ∷ items) e = absurd (omega (arith, e))

@@ -42,7 +42,7 @@ pub write_failed : (r : Result Bool ReplayFault) (text : List ℕ) (verdict : Re
 write_failed (Ok b) text verdict old new e p = absurd e
 write_failed (Err y) text verdict old new e p = subst (λ x. Tells (Err x) text verdict old new) (sym e) p
 
--- past the limit a text says one thing
+-- a text past the limits is answered Limit
 past_limit : (xs : List ℕ) → is_past_limit xs ≡ true → plan_in xs ≡ Err Limit
 past_limit xs past = rw past refl
 
@@ -55,7 +55,7 @@ same_plan xs (Some ys) taken takes =
       | inr fits ↦ ap plan_in (takes.taken ∙ ap (λ l. taken ++ l) (takes.whole fits) ∙ append-nil taken)
     ]
 
--- what was answered of an input that was taken, where no read failed
+-- what was answered of an input that was taken, if no read failed
 pub some : (r : Result Bool ReplayFault) (input : List ℕ) (before after old new : Option (List ℕ)) → r ≢ Err Read
     → Takes before after input → Replays r input old new → SomeReplay r before after old new
 some (Ok b) input before after old new no_read takes p = record { input = input; takes = takes; replays = p }

@@ -39,7 +39,7 @@ abbrev pub act_of : List ℕ → Option Act
 act_of [] = plain_act_of []
 act_of (c ∷ cs) = if c == 43 then steps_of (number_of cs) else plain_act_of (c ∷ cs)
 
--- a seat and what it does, where both are spelled
+-- a seat and what it does, if both are spelled
 abbrev pub seat_line : Option ℕ → Option Act → Option Line
 seat_line None act = None
 seat_line (Some s) None = None
@@ -58,13 +58,13 @@ line_of (seat ∷ act ∷ []) = seat_line (number_of seat) (act_of act)
 line_of (seat ∷ call ∷ target ∷ []) = send_of seat call target
 line_of _ = None
 
--- a number of seats and a budget, where both are spelled
+-- a number of seats and a budget, if both are spelled
 abbrev pub header : Option ℕ → Option ℕ → Option Limits
 header None budget = None
 header (Some n) None = None
 header (Some n) (Some b) = Some (record { seats = n; budget = b })
 
--- what the words of the first line say: the largest budget where it names none
+-- what the words of the first line say: the largest budget if it names none
 abbrev pub header_of : List (List ℕ) → Option Limits
 header_of (word ∷ seats ∷ []) = if bytes_eq word (codes "seats") then header (number_of seats) (Some max_budget) else None
 header_of (word ∷ seats ∷ budget ∷ []) = if bytes_eq word (codes "seats") then header (number_of seats) (number_of budget) else None

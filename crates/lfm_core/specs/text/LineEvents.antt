@@ -14,7 +14,7 @@ use Rattle.lfm_protocol.specs.Step.{step}
 use Rattle.lfm_core.specs.text.Lines.{line_moved, lines_core, lines_turns}
 use Rattle.lfm_protocol.specs.Turns.{is_open, longest_call}
 
--- at most so many steps of seat s, each but the last of which leaves its call open
+-- at most this number of steps of seat s, each but the last of which leaves its call open
 abbrev pub events_of_steps : ℕ → Core → ℕ → List Event
 events_of_steps zero c s = []
 events_of_steps (suc most) c s =
@@ -34,7 +34,7 @@ abbrev pub events_of_lines : Core → List Line → List Event
 events_of_lines c [] = []
 events_of_lines c (line ∷ lines) = events_of_line c line ++ events_of_lines (run_of c (events_of_line c line)) lines
 
--- the turn of the last of some events, or this one where there are none
+-- the turn of the last of some events, or this one if there are none
 abbrev pub last_turn : Core → List Event → Turn → Turn
 last_turn c [] none = none
 last_turn c (e ∷ later) none = last_turn (happens c e).core later (happens c e).turn

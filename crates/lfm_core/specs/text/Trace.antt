@@ -110,7 +110,7 @@ abbrev pub further_text : List Record → List ℕ
 further_text [] = []
 further_text (r ∷ records) = joined (codes "," ∷ record_text r ∷ []) ++ further_text records
 
--- records joined by commas, and a dash where there is none
+-- records joined by commas, and a dash if there is none
 abbrev pub queue_text : List Record → List ℕ
 queue_text [] = codes "-"
 queue_text (r ∷ records) = record_text r ++ further_text records

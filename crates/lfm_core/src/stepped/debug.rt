@@ -1,9 +1,9 @@
-//! A state as text, for who looks for a fault.
+//! `{:?}` of a state, for debugging.
 
 use crate::stepped::State;
 use std::fmt::{Debug, Formatter, Result, Write};
 
-/// What the state tells of its words. What it tells of each seat, its readers say.
+/// What belongs to no single seat. The readers tell what each seat has.
 impl Debug for State {
     fn fmt<W: Write>(&self, f: &mut Formatter<W>) -> Result {
         f.debug_struct("State")

@@ -1,4 +1,4 @@
-//! The readers of a state's single words and points, for who shows each step. None changes anything or allocates.
+//! The readers of a state's single words and points, for programs that show each step. None changes anything or allocates.
 ghost use Rattle.std.specs.Prelude.{◌≡◌};
 ghost use Rattle.lfm_protocol.specs.Seats.{seat, link, wake};
 
@@ -6,7 +6,7 @@ use crate::stepped::State;
 use lfm_protocol::points::Point;
 use lfm_words::{Link, Wake};
 
-/// A seat that isn't there reads as one at rest with empty words.
+/// For a number that no seat has, each reader answers as for a seat at rest with empty words.
 impl State {
     /// The push word: the newest stamp (0 to 2^48 - 1), and the head of the push list (0 is none).
     pub fn push_word(&self) -> Link

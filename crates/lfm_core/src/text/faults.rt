@@ -12,7 +12,7 @@ use thiserror::Error;
 /// turn.
 #[derive(Clone, Copy, Debug, PartialEq, Eq, Drop, Error)]
 pub enum ReplayFault {
-    /// The line of this number, counted from 1, is none that a schedule may have there.
+    /// The line of this number, counted from 1, is not one that a schedule may have there.
     #[error("line {0} is not a line of a schedule")]
     Syntax(u64),
     /// The input has too many bytes or lines, or the first line names a number that is out of range.

@@ -19,7 +19,7 @@ use lfm_words::Record;
 use std::alloc::Global;
 use std::io::{Read, Write};
 
-/// For each line in turn: runs it, and writes its line of the trace. Returns whether none was refused.
+/// For each line in turn: runs it, and writes its line of the trace. Returns whether no line was refused.
 fn write_lines<W: Write>(
     writer: &mut W,
     state: &mut State,
@@ -42,7 +42,8 @@ fn write_lines<W: Write>(
     Ok(none_refused)
 }
 
-/// Writes the state, then runs the lines, and at the end flushes the writer. Returns whether no line was refused.
+/// Writes the opening state, then runs the lines and writes the trace, and at the end flushes the writer. Returns whether no
+/// line was refused.
 fn write_run<W: Write>(
     writer: &mut W,
     seats: u64,
@@ -120,18 +121,18 @@ fn replay_input<W: Write>(alloc: Global, input: &[u8], writer: &mut W) -> Result
 ///   after the first that is past a limit of length.
 /// - Write: a prefix of the text. The writer failed, took no byte, or failed to flush.
 ///
-/// Any error of the reader or the writer is a failure, also an interruption. After the last line the writer is flushed.
-/// Makes 7 requests for memory, each of them before the first write: one for the input, one for the lines, 4 for the
-/// state, and one for its queue.
+/// Any error of the reader or the writer is a failure, even an interruption. After the last line the writer is flushed. Makes 7
+/// requests for memory, each of them before the first write: one for the input, one for the lines, 4 for the state, and one for
+/// its queue.
 pub fn replay<R: Read, W: Write>(
     alloc: Global,
     reader: &mut R,
     writer: &mut W,
 ) -> Result<bool, ReplayFault>
-    // Some input was read, and this is its replay. It says nothing of a reader's or a writer's bytes that are not known.
+    // Some input was read, and this is its replay. It says nothing of bytes of a reader or a writer that are not known.
     ensures some { SomeReplay result (R.remaining reader.old) (R.remaining reader.new)
         (W.contents writer.old) (W.contents writer.new) }
-    // Where it is known what the reader has: this is the replay of just that.
+    // If it is known what the reader has, this is the replay of exactly that.
     ensures exact { IfSome (R.remaining reader.old) (λ input.
         Replays result input (W.contents writer.old) (W.contents writer.new)) }
     // After these two faults nothing was written, whatever was read.

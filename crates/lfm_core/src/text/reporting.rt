@@ -1,12 +1,12 @@
-//! What a program says of the end of a replay: a message on standard error, and the exit status.
+//! What a program reports at the end of a replay: a message on standard error, and the exit status.
 ghost use Rattle.std.specs.Prelude.{◌≡◌};
 ghost use Rattle.lfm_core.specs.text.Statuses.{replay_status};
 
 use crate::text::faults::ReplayFault;
 use lfm_text::tell_fault;
 
-/// The exit status of a replay: 0 where no line was refused; 1 where a line was refused, or the input
-/// had a fault of syntax or was past a limit; 3 where the reader or the writer failed; 4 where memory was refused.
+/// The exit status of a replay: 0 if no line was refused; 1 if a line was refused, or the input had a fault of syntax or was
+/// past a limit; 3 if the reader or the writer failed; 4 if memory was refused.
 pub fn replay_status(outcome: &Result<bool, ReplayFault>) -> u8
     ensures { result ≡ replay_status outcome.now }
 {
@@ -18,8 +18,8 @@ pub fn replay_status(outcome: &Result<bool, ReplayFault>) -> u8
     }
 }
 
-/// Says on standard error what kept the program of this name from its end, where something did, and gives the exit status
-/// of what it came to. That a message can't be written changes no status.
+/// Prints on standard error what kept the program of this name from its end, if something did, and returns the exit status of
+/// the outcome. A message that can't be written changes no status.
 pub fn report<R: Eprint>(rt: &R, program: &'static str, outcome: &Result<bool, ReplayFault>) -> u8
     ensures { result ≡ replay_status outcome.now }
 {

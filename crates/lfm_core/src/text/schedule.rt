@@ -1,4 +1,4 @@
-//! What a schedule is, and how it is read from its bytes. What its lines do stands beside the runs.
+//! What a schedule is, and how it is read from its bytes. How its lines are run is in `schedule_runs`.
 
 ghost use Rattle.std.specs.Prelude.{◌≡◌, ◌≤◌, ◌<◌, length, All, IfOk, IsErrOf};
 ghost use Rattle.lfm_text.specs.Grammar.{lines_from};
@@ -16,7 +16,7 @@ use std::alloc::Global;
 pub enum Act {
     /// The seat begins this call.
     Begin(Call),
-    /// The seat makes up to this number of steps, 1 to `MAX_STEPS`, and stops where its call ends.
+    /// The seat makes up to this number of steps, 1 to `MAX_STEPS`, and stops when its call ends.
     Steps(u64),
     /// The seat makes steps until its call ends.
     ToEnd,
@@ -96,7 +96,7 @@ fn read_send(seat: &[u8], call: &[u8], target: &[u8]) -> Option<Line>
     })
 }
 
-/// What a line after the first says. `None` where it is no line of a schedule.
+/// What a line after the first says. `None` if it is no line of a schedule.
 fn read_line(text: &[u8]) -> Option<Line>
     ensures { result ≡ line_of (words_of text.now) }
 {
@@ -111,7 +111,7 @@ fn read_line(text: &[u8]) -> Option<Line>
     }
 }
 
-/// The number of seats and the budget that the first line names. `None` where it is no such line.
+/// The number of seats and the budget that the first line names. `None` if it is no such line.
 fn read_header(text: &[u8]) -> Option<Limits>
     ensures { result ≡ header_of (words_of text.now) }
 {
@@ -157,16 +157,16 @@ fn read_lines(alloc: Global, text: &[u8], count: usize) -> Result<Vec<Line>, Rep
 /// Reads a schedule from its bytes.
 ///
 /// A text may have several faults. This one is returned:
-/// 1. Limit, where it is longer than 1,048,576 bytes or has more than 65,536 lines;
-/// 2. Syntax, where some line is none of a schedule, with the number of the first such line. The numbers begin at 1, and
-///    a text without lines has this fault in line 1;
-/// 3. Limit, where the number of seats or the budget is none that a mutex may have.
+/// 1. Limit, if it is longer than 1,048,576 bytes or has more than 65,536 lines;
+/// 2. Syntax, if some line is none of a schedule, with the number of the first such line. The numbers begin at 1, and a text
+///    without lines has this fault in line 1;
+/// 3. Limit, if the number of seats or the budget is none that a mutex may have.
 ///
-/// Makes one request for memory, for the lines after the first, and none where there are no such lines: Memory where it
-/// is refused, before those lines are read. Never Read or Write.
+/// Makes one request for memory, for the lines after the first, and none if there are no such lines: Memory if it is refused,
+/// before those lines are read. Never Read or Write.
 pub fn read_schedule(alloc: Global, text: &[u8]) -> Result<Schedule, ReplayFault>
     ensures exact { Gives plan_of result (plan_in text.now) }
-    // Memory comes only where there are lines to be kept.
+    // Memory comes only if there are lines to be kept.
     ensures memory { IsErrOf result ReplayFault.Memory → 1 < line_count text.now }
 
     ensures few { IfOk result (λ s. length s.lines.items < max_lines) }

@@ -11,8 +11,8 @@ use lfm_protocol::Turn;
 use std::alloc::{AllocError, Global};
 
 impl State {
-    /// Makes up to this many steps of seat s, and stops where its call ends or a step is refused. Returns the last turn;
-    /// without a step that is Open.
+    /// Makes up to this many steps of seat s, and stops when its call ends or a step is refused. Returns the last turn; if no
+    /// step was made, that is Open.
     pub fn steps(&mut self, s: u64, most: u64) -> Turn
         ensures core { self.new ≡ (steps most self.old s).core }
         ensures turn { result ≡ (steps most self.old s).turn }
@@ -58,7 +58,7 @@ fn follow_all(state: &mut State, lines: &[Line], turns: &mut [Turn])
 /// Follows each line in turn, and returns the last turn of each, in their order. A line that asks for steps asks for 1 to
 /// 999.
 ///
-/// Makes one request for memory, for the turns, before the first line: where it is refused, the state is unchanged.
+/// Makes one request for memory, for the turns, before the first line: if it is refused, the state is unchanged.
 pub fn run(alloc: Global, state: &mut State, lines: &[Line]) -> Result<Vec<Turn>, AllocError>
     requires steps { All (λ l. HasFewSteps l.act) lines.now }
     ensures core { IfOk result (λ _. state.new ≡ lines_core state.old lines.now) }

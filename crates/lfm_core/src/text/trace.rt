@@ -300,7 +300,7 @@ pub fn write_opening<W: Write>(
     Ok(())
 }
 
-/// Writes what came of the line with this number, without the state after it.
+/// Writes what came of the line with this number, but not the state after it.
 pub fn write_outcome<W: Write>(
     writer: &mut W,
     number: u64,

@@ -1,4 +1,4 @@
--- Each begin of a call keeps a state steady, with the ghost as it is, and so does a step that is refused.
+-- Each start of a call keeps a state steady, with the ghost as it is, and so does a step that is refused.
 use Rattle.std.proofs.Common.{◌≡◌, ◌≢◌, ℕ, true, false, ◌+◌, ◌-◌, ◌<◌, ◌≤◌, length, refl, sym, ◌∙◌, inl, inr, arith}
 use Rattle.std.proofs.lemmas.Bool.{cases_eq, cases_lt, cases_Bool, ne_eqb, eq-eqb, lt-ltb, le-ltb}
 use Rattle.lfm_protocol.specs.declared.answers.Call.{Call}
@@ -295,7 +295,7 @@ begin_at_keeps c g s call Rest is at fits = begin_awake_keeps c g s call is at f
 begin_at_keeps c g s call (Asleep sleeper) is at fits = begin_asleep_keeps c g s sleeper call is at fits
 begin_at_keeps c g s call _ is at fits = stays c g s is fits
 
--- each begin keeps a state, refused or not
+-- each start of a call keeps a state, refused or not
 pub begin_keeps : (c : Core) (g : Ghost) (s : ℕ) (call : Call) → Fits c g → Fits (begin c s call).core g
 begin_keeps c g s call fits =
     elim (cases_Bool (is_seat c.seats s)) [

@@ -1,5 +1,5 @@
--- How many seats came to hold by a queued record, as a seat sees it that comes to hold: one fewer than the stamp of its own grant
--- or record, and all that were popped where it holds without one.
+-- How many seats came to hold by a queued record, as a seat sees it that comes to hold: one fewer than the stamp of its own
+-- grant or record, and all that were popped if it holds without one.
 use Rattle.std.proofs.Common.{◌≡◌, ◌≢◌, ℕ, zero, suc, ◌+◌, ◌<◌, List, length, refl, sym, ap, ◌∙◌, arith}
 use Rattle.std.proofs.lemmas.Bool.{ne_eqb}
 use Rattle.std.proofs.lemmas.List.{length-append}

@@ -1,4 +1,4 @@
--- Every begin and every step leaves the seat numbers that a seat has read in the lower half of their word.
+-- Every start of a call and every step leaves the seat numbers that a seat has read in the lower half of their word.
 use Rattle.std.proofs.Common.{◌≡◌, ℕ, true, false, nat_eq, nat_lt, ◌&&◌, ◌+◌, ◌-◌, ◌%◌, ◌<◌, Bool, Option, Some, None, List, refl, inl, inr, arith, if◌then◌else◌}
 use Rattle.std.proofs.lemmas.Bool.{cases_eq}
 use Rattle.lfm_protocol.specs.declared.answers.Answer.{Answer}

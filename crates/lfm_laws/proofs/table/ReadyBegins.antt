@@ -1,4 +1,4 @@
--- A seat that is ready for its next step stays so where calls begin: it needs no more than its own data for that.
+-- A seat that is ready for its next step stays so as calls begin: it needs no more than its own data for that.
 use Rattle.std.proofs.Common.{◌≡◌, ℕ, true, false, ◌+◌, ◌-◌, ◌<◌, ◌≤◌, ◌&&◌, ltb, nat_lt, nat_eq, Bool, List, [], ◌∷◌, refl, arith, if◌then◌else◌}
 use Rattle.std.proofs.lemmas.Bool.{and_parts, ltb-true}
 use Rattle.lfm_protocol.specs.declared.answers.Answer.TheVariants as Answer

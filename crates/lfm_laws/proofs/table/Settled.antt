@@ -1,4 +1,4 @@
--- A state is kept where a seat has become another without a step, so a begin and the first step of its call may be told as one.
+-- A state is kept if a seat has become another without a step, so the start of a call and its first step may be told as one.
 use Rattle.std.proofs.Common.{◌≡◌, ℕ, zero, suc, true, ◌+◌, List, [], ◌∷◌, length, refl, ap, arith}
 use Rattle.std.proofs.lemmas.Bool.{lt-ltb}
 use Rattle.std.proofs.lemmas.List.{set-set}
@@ -44,7 +44,7 @@ is_seat-with seats s t x is =
 pub limits-put : (c : Core) (s : ℕ) (x : SeatState) → limits (put c s x) ≡ limits c
 limits-put c s x = ap (λ n. record { seats = n; budget = c.budget }) (length-with_entry c.seats s x)
 
--- A begin, on a state whose seat is x
+-- A start of a call, on a state whose seat is x
 
 begin_from : (c : Core) (g : Ghost) (s : ℕ) (x : SeatState) (call : Call) → IsSeat c.seats s → Fits (put c s x) g
     → Fits (put c s (Begin.begin x (limits c) call).seat) g

@@ -67,7 +67,7 @@ history_by : (g h : Ghost) (pushes pops : List Record) (s : ℕ) (t u : Turn) �
     → GoesOn g h pushes pops (answered_by s u)
 history_by g h pushes pops s t u same goes = rw (← same) goes
 
--- what a seat carries stays where it becomes another without a step
+-- what a seat carries stays if it becomes another without a step
 carried_put : (c : Core) (g : Ghost) (s : ℕ) (p : SeatState) → IsSeat c.seats s → Fits c g → Fits (put c s p) g
     → carries_value (seat c.seats s) ≡ carries_value p
 carried_put c g s p is before fits =

@@ -34,7 +34,7 @@ carries_by false p e = refl
 carries_at : (depth : ℕ) (p : Point) → carries p ≡ true → (if nat_eq depth 0 then carries p else true) ≡ true
 carries_at depth p e = carries_by (nat_eq depth 0) p e
 
--- what is gained with the list is left aside
+-- what is gained with the list is left out
 not_taken : (b : Bool) (x : SeatState) (p q : Point) (fails : Stepped) → carries p ≡ true → carries_value (if b then goes_on x p else fails).seat ≡ false
     → (if b then goes_on x p else fails) ≡ (if b then goes_on x q else fails)
 not_taken true x p q fails taken none = absurd (false≢true (sym none ∙ carries_at x.depth p taken))

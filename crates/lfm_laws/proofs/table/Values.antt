@@ -114,7 +114,7 @@ held_of_out (accepting t) s e = held_here t s (accepting t) refl (some_same t s 
 held_of_out (leaving t) s e = held_here t s (leaving t) refl (some_same t s e)
 held_of_out (serving t) s e = held_here t s (serving t) refl (some_same t s e)
 
--- a seat carries the value just where the place gives it the responsibility
+-- a seat carries the value exactly if the place gives it the responsibility
 pub carried_as_held : (c : Core) (g : Ghost) (s : ℕ) → Fits c g → carries_value (seat c.seats s) ≡ is_claim (held_by g.place s)
 carried_as_held c g s fits =
     let x = seat c.seats s in
@@ -141,13 +141,13 @@ false_of : (b : Bool) → b ≢ true → b ≡ false
 false_of true e = absurd (e refl)
 false_of false e = refl
 
--- where it is at home, no seat carries it
+-- if it is at home, no seat carries it
 pub carried_by_none : (seats : List SeatState) (place : AbstractPlace) → TellsValue seats place → out_with place ≡ None
     → (s : ℕ) → carries_value (seat seats s) ≡ false
 carried_by_none seats place tells home s =
     false_of (carries_value (seat seats s)) (λ e. let f : None ≡ Some s = sym home ∙ tells.out s e in absurd (cc))
 
--- and where no seat does, it is at home
+-- and if no seat does, it is at home
 pub home_of_none : (seats : List SeatState) (place : AbstractPlace) → TellsValue seats place → ((s : ℕ) → carries_value (seat seats s) ≡ false)
     → out_with place ≡ None
 home_of_none seats place tells none =
@@ -155,7 +155,7 @@ home_of_none seats place tells none =
 
 -- Its move by a step of seat s, after which it is y
 
--- where a seat carries it, no other does
+-- if a seat carries it, no other does
 others_none : (seats : List SeatState) (place : AbstractPlace) (s t : ℕ) → TellsValue seats place → carries_value (seat seats s) ≡ true → t ≢ s
     → carries_value (seat seats t) ≡ false
 others_none seats place s t tells here other =

@@ -20,7 +20,7 @@ abbrev pub WasBusy : Core → List Event → Type 0
 WasBusy c [] = IsBusy c
 WasBusy c (e ∷ later) = IsBusy c ⊎ WasBusy (happens c e).core later
 
--- between the begin of a try_lock and the step that answers Busy, whatever the others do in between
+-- between the start of a try_lock and the step that answers Busy, whatever the others do in between
 abbrev pub BusyWasBusy : Type 0
 BusyWasBusy =
     (c : Core) (s : ℕ) (events : List Event) → Steady c → (begin c s TryLock).turn ≡ Open → StaysInCall (begin c s TryLock).core s events

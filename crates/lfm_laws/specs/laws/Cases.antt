@@ -7,7 +7,7 @@ use Rattle.lfm_laws.specs.laws.Events.{case_of_step}
 use Rattle.lfm_laws.specs.laws.Reading.{Reads}
 use Rattle.lfm_laws.specs.laws.Schedules.{Event, begins, makes, happens}
 
--- one abstract state follows from another by the step of this name, or is the same where there is none
+-- one abstract state follows from another by the step of this name, or is the same if there is none
 abbrev pub GoesBy : Option Case → AbstractMutex → AbstractMutex → Type 0
 GoesBy None a b = IsSame a b
 GoesBy (Some case) a b = (step : AbstractStep a b) × (case_of step ≡ case)

@@ -1,6 +1,5 @@
--- What becomes of a seat that a send has claimed, where the send finds the count above 0 as it adds the seat: the send pushes the
--- record of the seat, and so the seat comes last in the queue. Each law here is a clause of a public function of
--- `lfm_laws`.
+-- What becomes of a seat that a send has claimed, if the send finds the count above 0 as it adds the seat: the send pushes the
+-- record of the seat, and so the seat comes last in the queue. Each law here is a clause of a public function of `lfm_laws`.
 use Rattle.std.specs.Prelude.{◌≡◌, ◌⊎◌, ℕ, ◌<◌, ◌++◌, List, [], ◌∷◌, nat_eq, if◌then◌else◌}
 use Rattle.lfm_protocol.specs.declared.answers.Answer.{Answer}
 use Rattle.lfm_protocol.specs.declared.answers.Turn.TheVariants.{Ended}
@@ -60,7 +59,7 @@ abbrev pub HasQueued : Core → ℕ → ℕ → List Event → Type 0
 HasQueued c s t [] = ⊥
 HasQueued c s t (e ∷ later) = ((e ≡ makes s) × ComesLast c (happens c e).core t) ⊎ HasQueued (happens c e).core s t later
 
--- where the send ends, it has brought the seat into the queue so
+-- when the send ends, it has brought the seat into the queue so
 abbrev pub ClaimedSeatsAreQueued : Type 0
 ClaimedSeatsAreQueued =
     (c : Core) (s t : ℕ) (events : List Event) (answer : Answer) → Steady c → IsToCount c s t → StaysInCall (step c s).core s events

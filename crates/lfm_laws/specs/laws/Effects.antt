@@ -63,8 +63,9 @@ TurnsEffects Open n = n ≤ 1
 TurnsEffects (Ended answer) n = AnswersEffects answer n
 TurnsEffects (Refused why) n = n ≡ 0
 
--- from its begin on a call has as many effects as its turns say: where it ends or is refused at once, and else before and after each
--- step of its seat, whatever the others do in between. So a call has its one effect from its begin to its end
+-- since its start a call has had as many effects as its turns say: at once if it ends or is refused at once, and otherwise
+-- before and after each step of its seat, whatever the others do in between. So a call has its one effect from its start to its
+-- end
 abbrev pub CallsTakeEffectOnce : Type 0
 CallsTakeEffectOnce =
     (c : Core) (s : ℕ) (call : Call) (events : List Event) → Steady c
@@ -122,7 +123,7 @@ abbrev pub EffectsAreOfCalls : Type 0
 EffectsAreOfCalls =
     (c : Core) (s : ℕ) (e : Event) → Steady c → 0 < effects_of c s e → IsOfOpenCall c e s ⊎ IsOfEndedCall c e s
 
--- and where it changes the abstract mutex, the step between the readings is the effect of that call and names its seat or target
+-- and if it changes the abstract mutex, the step between the readings is the effect of that call and names its seat or target
 abbrev pub EffectsAreTheCallers : Type 0
 EffectsAreTheCallers =
     (c : Core) (s : ℕ) (call : Call) (events : List Event) (a b : AbstractMutex) → Steady c
@@ -133,10 +134,10 @@ EffectsAreTheCallers =
     × (case_of_step (run_of (begin c s call).core events) s ≡ Some (case_of effect))
     × IsEffectOf call s effect
 
--- The begin of an open call
+-- The start of an open call
 
--- one of these events is the begin of a call of seat s that has been open since
--- earlier, since: the events before and after the begin
+-- one of these events is the start of a call of seat s that has been open since
+-- earlier, since: the events before and after the start
 pub record HasBegun (c : Core) (s : ℕ) (events : List Event) : Type 0 where
   pub call : Call
   pub earlier : List Event
@@ -145,7 +146,7 @@ pub record HasBegun (c : Core) (s : ℕ) (events : List Event) : Type 0 where
   pub opens : (begin (run_of c earlier) s call).turn ≡ Open
   pub stays : StaysInCall (begin (run_of c earlier) s call).core s since
 
--- whoever is in a call after a schedule has begun it in that schedule, so its effects are counted from its begin
+-- a seat that is in a call after a schedule has begun it in that schedule, so its effects are counted from its start
 abbrev pub OpenCallsHaveBegun : Type 0
 OpenCallsHaveBegun =
     (limits : Limits) (events : List Event) (s : ℕ) → is_call (seat (reached limits events).seats s).point ≡ true

@@ -76,7 +76,7 @@ kinds_of_call c s [] = []
 kinds_of_call c s (e ∷ later) =
     if is_call (seat c.seats s).point then kinds_of_event c s e ++ kinds_of_call (happens c e).core s later else []
 
--- a lock or try_lock of a seat that holds makes just these steps until it ends, whatever the others do in between: it never
+-- a lock or try_lock of a seat that holds makes exactly these steps until it ends, whatever the others do in between: it never
 -- holds once more without a load of the owner word
 abbrev pub RecursiveCallsLoadTheOwner : Type 0
 RecursiveCallsLoadTheOwner =

@@ -1,5 +1,5 @@
--- What an atomic step does to the abstract mutex, told by the seat's point and what the step finds: its case, the record
--- that it pushes, the record that leaves the queue with it, and the queued record by which it answers that the seat holds.
+-- What an atomic step does to the abstract mutex, by the seat's point and what the step finds: its case, the record that it
+-- pushes, the record that leaves the queue with it, and the queued record by which it answers that the seat holds.
 use Rattle.std.specs.Prelude.{ℕ, ◌+◌, Option, Some, None, List, [], ◌∷◌, nat_eq, if◌then◌else◌}
 use Rattle.lfm_model.specs.AbstractRuns.{Case, ask, queue, serve, post, take, accept, take_up, enter, release, leave}
 use Rattle.lfm_model.specs.declared.answers.Asked.{Asked}
@@ -53,7 +53,7 @@ case_at c s x (GrantWakeStore carrier oldest) = Some serve
 case_at c s x (SendWakeStore t) = Some enter
 case_at c s x _ = None
 
--- the case of the step that seat s makes next, none where the abstract mutex stays as it is
+-- the case of the step that seat s makes next, none if the abstract mutex stays as it is
 abbrev pub case_of_step : Core → ℕ → Option Case
 case_of_step c s = case_at c s (seat c.seats s) (seat c.seats s).point
 

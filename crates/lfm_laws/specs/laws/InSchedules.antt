@@ -1,4 +1,4 @@
--- The headline laws told of schedules: each speaks of every state that some schedule reaches, and of all that calls and single
+-- The headline laws for schedules: each speaks of every state that some schedule reaches, and of all that calls and single
 -- steps make of it. They are the laws of steady states with that premise in the place of the invariant.
 use Rattle.std.specs.Prelude.{◌≡◌, ◌⊎◌, ℕ, true, false, ◌+◌, ◌*◌, ◌<◌, ◌≤◌, ◌++◌, Some, List, [], ◌∷◌, length, slice_index_or}
 use Rattle.lfm_model.specs.Abstract.{AbstractMutex, AbstractPlace, AbstractStep, free}
@@ -57,7 +57,7 @@ OneHasTheResponsibilityInSchedules =
 abbrev pub PlacesAreReadInSchedules : Type 0
 PlacesAreReadInSchedules = (c : Core) (a : AbstractMutex) → IsReached c → Reads c a → place_of c ≡ printed a.place
 
--- the count is 0 just where nobody has the responsibility
+-- the count is 0 exactly if nobody has the responsibility
 abbrev pub CountIsZeroWhereFreeInSchedules : Type 0
 CountIsZeroWhereFreeInSchedules =
     (c : Core) (a : AbstractMutex) → IsReached c → Reads c a → (c.count ≡ 0 → a.place ≡ free) × (a.place ≡ free → c.count ≡ 0)
@@ -104,7 +104,7 @@ NoSeatOvertakesTwiceInSchedules =
     (c : Core) (t : ℕ) (events : List Event) (k : ℕ) → IsReached c → k < length (queue_of c) → length (popped_record c events) ≤ k
     → entries_of_seat c t events ≤ 1
 
--- where no other calls begin than those that serve, at most so many steps of calls are made as long as a queued record with k
+-- if no other calls begin than those that serve, at most this many steps of calls are made as long as a queued record with k
 -- before it has not left
 abbrev pub QueuedSeatsAreServedSoonInSchedules : Type 0
 QueuedSeatsAreServedSoonInSchedules =
@@ -154,7 +154,7 @@ CallsGrantOnceInSchedules = (c : Core) (s : ℕ) (events : List Event) → IsRea
 
 -- Linearization points
 
--- a call has as many effects as its turns say: one between its begin and its end, whatever the others do in between
+-- a call has as many effects as its turns say: one between its start and its end, whatever the others do in between
 abbrev pub CallsTakeEffectOnceInSchedules : Type 0
 CallsTakeEffectOnceInSchedules =
     (c : Core) (s : ℕ) (call : Call) (events : List Event) → IsReached c
@@ -168,7 +168,7 @@ abbrev pub EffectsAreOfCallsInSchedules : Type 0
 EffectsAreOfCallsInSchedules =
     (c : Core) (s : ℕ) (e : Event) → IsReached c → 0 < effects_of c s e → IsOfOpenCall c e s ⊎ IsOfEndedCall c e s
 
--- and where it changes the abstract mutex, the step between the readings is the effect of that call and names its seat or target
+-- and if it changes the abstract mutex, the step between the readings is the effect of that call and names its seat or target
 abbrev pub EffectsAreTheCallersInSchedules : Type 0
 EffectsAreTheCallersInSchedules =
     (c : Core) (s : ℕ) (call : Call) (events : List Event) (a b : AbstractMutex) → IsReached c
@@ -210,8 +210,8 @@ PushesAloneFailOnceInSchedules =
     (c : Core) (s : ℕ) (pusher : Pusher) (seen : Link) → IsReached c → (seat c.seats s).point ≡ PushExchange pusher seen
     → same_link c.push seen ≡ false → (seat (run_of c (makes s ∷ makes s ∷ makes s ∷ [])).seats s).point ≡ PushedHandoffLoad pusher
 
--- a try_lock of a seat that rests, does not hold and has a take left holds where the count is 0 or a handoff is posted, if its
--- seat alone makes steps
+-- if its seat alone makes steps, a try_lock of a seat that rests, does not hold and has a take left holds when the count is 0
+-- or a handoff is posted
 abbrev pub TriesAloneHoldInSchedules : Type 0
 TriesAloneHoldInSchedules =
     (c : Core) (s : ℕ) → IsReached c → IsSeat c.seats s → (seat c.seats s).point ≡ Rest → (seat c.seats s).depth ≡ 0
@@ -249,7 +249,7 @@ NoStateIsStuckInSchedules = (c : Core) → IsReached c → ComesToRest c
 
 -- Refusals
 
--- between the begin of a try_lock and the step that answers Busy, the mutex was neither free nor posted
+-- between the start of a try_lock and the step that answers Busy, the mutex was neither free nor posted
 abbrev pub BusyWasBusyInSchedules : Type 0
 BusyWasBusyInSchedules =
     (c : Core) (s : ℕ) (events : List Event) → IsReached c → (begin c s TryLock).turn ≡ Open
@@ -258,7 +258,7 @@ BusyWasBusyInSchedules =
 
 -- Sends
 
--- a send that has claimed a seat, and finds the count above 0, has brought the seat into the queue where it ends
+-- a send that has claimed a seat, and finds the count above 0, has brought the seat into the queue when it ends
 abbrev pub ClaimedSeatsAreQueuedInSchedules : Type 0
 ClaimedSeatsAreQueuedInSchedules =
     (c : Core) (s t : ℕ) (events : List Event) (answer : Answer) → IsReached c → IsToCount c s t → StaysInCall (step c s).core s events

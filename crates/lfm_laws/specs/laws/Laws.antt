@@ -63,7 +63,7 @@ RunsAreAbstractRuns =
     (limits : Limits) (events : List Event) → are_in_limits limits.seats limits.budget ≡ true
     → Reads (start limits) all_free × ((later : List AbstractMutex) × ReadsRun (start limits) events later × IsRun (all_free ∷ later))
 
--- step by step, the readings before and after an event go by its case, which is that of `case_of_step` where it is a step
+-- step by step, the readings before and after an event go by its case, which is that of `case_of_step` if it is a step
 abbrev pub EventsAreTheirCases : Type 0
 EventsAreTheirCases =
     (c : Core) (e : Event) (a b : AbstractMutex) → Steady c → Reads c a → Reads (happens c e).core b → GoesBy (case_of_event c e) a b
@@ -76,11 +76,11 @@ printed (passed s) = Place.Passed s
 printed posted = Place.Posted
 printed (carried s how) = Place.Carried s
 
--- what the state tells as its place is that of its reading
+-- the place that the state shows is that of its reading
 abbrev pub PlacesAreRead : Type 0
 PlacesAreRead = (c : Core) (a : AbstractMutex) → Steady c → Reads c a → place_of c ≡ printed a.place
 
--- the count is 0 just where nobody has the responsibility
+-- the count is 0 exactly if nobody has the responsibility
 abbrev pub CountIsZeroWhereFree : Type 0
 CountIsZeroWhereFree = (c : Core) (a : AbstractMutex) → Steady c → Reads c a → (c.count ≡ 0 → a.place ≡ free) × (a.place ≡ free → c.count ≡ 0)
 
@@ -197,8 +197,8 @@ PushesAloneFailOnce =
 
 -- Availability
 
--- a try_lock of a seat that rests, does not hold and has a take left holds where the count is 0 or a handoff is posted, if its
--- seat alone makes steps
+-- if its seat alone makes steps, a try_lock of a seat that rests, does not hold and has a take left holds when the count is 0
+-- or a handoff is posted
 abbrev pub TriesAloneHold : Type 0
 TriesAloneHold =
     (c : Core) (s : ℕ) → Steady c → IsSeat c.seats s → (seat c.seats s).point ≡ Rest → (seat c.seats s).depth ≡ 0 → (seat c.seats s).takes < c.budget

@@ -1,4 +1,4 @@
--- Who comes to own, and who stops owning, while a record is queued.
+-- Which seats come to own, and which stop owning, while a record is queued.
 use Rattle.std.specs.Prelude.{ℕ, ◌+◌, ◌<◌, ◌≤◌, List, [], ◌∷◌, length}
 use Rattle.lfm_protocol.specs.declared.points.Point.{Point}
 use Rattle.lfm_protocol.specs.declared.points.Point.TheVariants.{EnterOwnerStore, ReleaseOwnerStore}

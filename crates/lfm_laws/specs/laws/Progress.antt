@@ -1,5 +1,5 @@
 -- Lock freedom: how many steps an open call makes beside others, and how many all calls of a run make together. A call makes a
--- step again only where its push exchange has failed, and so only where another seat has changed the push word.
+-- step again only if its push exchange has failed, and so only if another seat has changed the push word.
 use Rattle.std.specs.Prelude.{◌≡◌, ◌⊎◌, ℕ, ◌+◌, ◌*◌, ◌<◌, ◌≤◌, List, [], ◌∷◌, length, nat_eq, if◌then◌else◌}
 use Rattle.lfm_words.specs.declared.links.Link.{Link}
 use Rattle.lfm_protocol.specs.After.{same_link}

@@ -20,7 +20,7 @@ carrying_to_enter s Entrant.Locker (How.Queued stamp) = serving
 carrying_to_enter s Entrant.Trier how = entering s
 carrying_to_enter s Entrant.Receiver how = entering s
 
--- what a call of seat s at this point does with the responsibility, where it has gained it and not given it away
+-- what a call of seat s at this point does with the responsibility, if it has gained it and not given it away
 abbrev pub carrying_at : ℕ → Point → Option Carrying
 carrying_at s TryCountAdd = Some (entering s)
 carrying_at s (SendWakeStore t) = Some (entering t)
@@ -41,7 +41,7 @@ pub data Claims (c : Core) (p : AbstractPlace) : Type 0 where
   by_grant : (t stamp : ℕ) → wake c.wakes t ≡ Grant stamp → has_loaded (seat c.seats t).point ≡ false → p ≡ passed t → Claims c p
   by_call : (s : ℕ) (how : Carrying) → carrying_at s (seat c.seats s).point ≡ Some how → p ≡ carried s how → Claims c p
 
--- the one claim of a state is its place, and where there is none, the place is free
+-- the one claim of a state is its place, and if there is none, the place is free
 pub record ReadsPlace (c : Core) (p : AbstractPlace) : Type 0 where
   pub only : (q : AbstractPlace) → Claims c q → q ≡ p
   pub some : p ≢ free → Claims c p

@@ -1,6 +1,5 @@
--- Why a turn is refused: the cause of each refusal, told by the state before the turn. The causes of one turn exclude each
--- other, so they also tell the order in which they are looked at. Each law here is the contract of a public function of
--- `lfm_laws`.
+-- Why a turn is refused: the cause of each refusal, by the state before the turn. The causes of one turn exclude each other, so
+-- they also tell the order in which they are looked at. Each law here is the contract of a public function of `lfm_laws`.
 use Rattle.std.specs.Prelude.{◌≡◌, ◌≢◌, ◌⊎◌, ⊤, ℕ, true, false, ◌-◌, ◌<◌, List}
 use Rattle.lfm_model.specs.declared.refusals.Refusal.{Refusal}
 use Rattle.lfm_protocol.specs.declared.answers.Call.{Call}
@@ -69,11 +68,11 @@ CauseToBegin c x StartWait refusal = CauseToWait c.budget x refusal
 CauseToBegin c x (SendLock t) refusal = CauseToSend c.seats t x refusal
 CauseToBegin c x Receive refusal = CauseToReceive x refusal
 
--- a begin that is refused changes nothing, for whatever cause
+-- a call that is refused as it starts changes nothing, for whatever cause
 abbrev pub RefusedBeginsChangeNothing : Type 0
 RefusedBeginsChangeNothing = (c : Core) (s : ℕ) (call : Call) (why : Why) → (begin c s call).turn ≡ Refused why → (begin c s call).core ≡ c
 
--- the mutex refuses a call just where it has the cause
+-- the mutex refuses a call exactly if it has the cause
 abbrev pub BeginsAreRefusedForCause : Type 0
 BeginsAreRefusedForCause =
     (c : Core) (s : ℕ) (call : Call) (refusal : Refusal) → Steady c → IsSeat c.seats s
@@ -100,7 +99,7 @@ abbrev pub WasCharged : Refusal → SeatState → Type 0
 WasCharged Refusal.Busy x = 0 < x.takes
 WasCharged _ x = ⊤
 
--- the mutex refuses a step just where it has the cause; then the call has ended, and nothing but its seat has changed
+-- the mutex refuses a step exactly if it has the cause; then the call has ended, and nothing but its seat has changed
 abbrev pub StepsAreRefusedForCause : Type 0
 StepsAreRefusedForCause =
     (c : Core) (s : ℕ) (refusal : Refusal) → Steady c
@@ -112,8 +111,8 @@ StepsAreRefusedForCause =
 
 -- Turns
 
--- the cause to refuse an event: no seat has the number, a call is open where one would begin, none is open where a step would
--- be made, or the mutex has its cause
+-- the cause to refuse an event: no seat has the number, a call is open when one would begin, none is open when a step would be
+-- made, or the mutex has its cause
 abbrev pub CauseToRefuse : Core → Event → Why → Type 0
 CauseToRefuse c (begins s call) Why.NoSuchSeat = is_seat c.seats s ≡ false
 CauseToRefuse c (begins s call) Why.InCall = is_call (seat c.seats s).point ≡ true
@@ -124,7 +123,7 @@ CauseToRefuse c (makes s) Why.InCall = ⊥
 CauseToRefuse c (makes s) Why.Idle = IsSeat c.seats s × (is_call (seat c.seats s).point ≡ false)
 CauseToRefuse c (makes s) (By refusal) = CauseOfStep c (seat c.seats s).point refusal
 
--- every event is refused just where there is the cause
+-- every event is refused exactly if there is the cause
 abbrev pub TurnsAreRefusedForCause : Type 0
 TurnsAreRefusedForCause =
     (c : Core) (e : Event) (why : Why) → Steady c

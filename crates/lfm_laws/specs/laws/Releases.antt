@@ -82,7 +82,7 @@ TellsServed (Ended (Answer.Asked Asked.Asleep)) p s r = r.seat ≢ s
 TellsServed (Ended Answer.Sent) p s r = ⊤
 TellsServed turn p s r = release_ended turn p ≡ Some (Granted r.seat)
 
--- where the oldest record leaves the queue by a step, the turn is such a one; with an unlock or a start_wait it is Granted
+-- if the oldest record leaves the queue by a step, the turn is one of these; with an unlock or a start_wait it is Granted
 abbrev pub ServedRecordsAreTold : Type 0
 ServedRecordsAreTold =
     (c : Core) (s : ℕ) (r : Record) → Steady c → queue_of c ≡ r ∷ queue_of (step c s).core

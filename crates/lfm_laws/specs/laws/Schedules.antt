@@ -30,7 +30,7 @@ run_of c (e ∷ later) = run_of (happens c e).core later
 abbrev pub reached : Limits → List Event → Core
 reached limits events = run_of (start limits) events
 
--- up to so many steps of seat s, which stop where its call ends or a step is refused
+-- up to this number of steps of seat s, which stop when its call ends or a step is refused
 abbrev pub steps : ℕ → Core → ℕ → Moved
 steps zero c s = record { core = c; turn = Open }
 steps (suc most) c s = if is_open (step c s).turn then steps most (step c s).core s else step c s
@@ -72,7 +72,7 @@ is_call Rest = false
 is_call (Asleep sleeper) = false
 is_call _ = true
 
--- what a step of seat s weighs, by its point, where the event is one
+-- what a step of seat s weighs, by its point, if the event is one
 abbrev pub weight_of : (Point → ℕ) → Core → ℕ → Event → ℕ
 weight_of weight c s (begins t call) = 0
 weight_of weight c s (makes t) = if nat_eq t s then weight (seat c.seats s).point else 0

@@ -1,4 +1,4 @@
--- How soon a queued seat is served where no other calls begin than those that serve it.
+-- How soon a queued seat is served if no other calls begin than those that serve it.
 use Rattle.std.specs.Prelude.{◌≡◌, ⊤, ℕ, ◌+◌, ◌*◌, ◌<◌, ◌≤◌, List, [], ◌∷◌, length}
 use Rattle.lfm_protocol.specs.declared.answers.Call.TheVariants.{Unlock, Receive}
 use Rattle.lfm_words.specs.declared.wakes.Wake.TheVariants.{Grant}
@@ -9,7 +9,7 @@ use Rattle.lfm_laws.specs.laws.Progress.{open_calls, steps_of_run}
 use Rattle.lfm_laws.specs.laws.Schedules.{Event, begins, makes, happens, popped_record}
 use Rattle.lfm_laws.specs.steady.Steady.{Steady}
 
--- an event that is a step, the begin of an unlock, or the begin of a receive by a seat that has its grant
+-- an event that is a step, the start of an unlock, or the start of a receive by a seat that has its grant
 abbrev pub Serves : Core → Event → Type 0
 Serves c (makes s) = ⊤
 Serves c (begins s Unlock) = ⊤
@@ -21,8 +21,8 @@ abbrev pub OnlyServes : Core → List Event → Type 0
 OnlyServes c [] = ⊤
 OnlyServes c (e ∷ later) = Serves c e × OnlyServes (happens c e).core later
 
--- then at most so many steps of calls are made as long as a queued record with k before it has not left the queue: 5N + 5 for each
--- call that is open, for each unlock and receive by which a record before it is served, and for two more
+-- then at most this many steps of calls are made as long as a queued record with k before it has not left the queue: 5N + 5 for
+-- each call that is open, for each unlock and receive by which a record before it is served, and for two more
 abbrev pub QueuedSeatsAreServedSoon : Type 0
 QueuedSeatsAreServedSoon =
     (c : Core) (events : List Event) (k : ℕ) → Steady c → k < length (queue_of c) → OnlyServes c events → length (popped_record c events) ≤ k

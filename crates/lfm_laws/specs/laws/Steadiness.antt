@@ -1,5 +1,6 @@
--- What a mutex that runs stands on: every reached state is steady, and each turn keeps a state so, by the one abstract case of
--- its step; a step touches one word, one seat and the pop list, and goes by these; and so it is at a table of packed words.
+-- What the proofs of a running mutex rest on: every reached state is steady, and each turn keeps a state so, by the one
+-- abstract case of its step; a step touches one word, one seat and the pop list, and goes by these; and so it is at a table of
+-- packed words.
 use Rattle.std.specs.Prelude.{◌≡◌, ℕ, length, slice_index}
 use Rattle.lfm_protocol.specs.declared.answers.Call.{Call}
 use Rattle.lfm_protocol.specs.declared.seats.SeatState.{SeatState}
@@ -22,7 +23,7 @@ use Rattle.lfm_laws.specs.table.Words.{words, index, AreNarrow}
 abbrev pub StatesAreSteady : Type 0
 StatesAreSteady = (c : Core) → IsReached c → Steady c
 
--- whatever ghost fits a state, a call that begins and a step lead to a state that a ghost fits again, and between both ghosts
+-- if any ghost fits a state, the start of a call and a step lead to a state that a ghost fits again, and between both ghosts
 -- lies the one abstract case of the event
 abbrev pub StepsKeepSteady : Type 0
 StepsKeepSteady =
@@ -37,7 +38,7 @@ StepsTouchOneWordAndOneSeat = (c : Core) (s : ℕ) → StepTouches c (step c s).
 abbrev pub BeginsTouchOneSeat : Type 0
 BeginsTouchOneSeat = (c : Core) (s : ℕ) (call : Call) → BeginTouches c (begin c s call).core s
 
--- where these look the same, the step answers the same and leads its seat to the same point
+-- if these look the same, the step answers the same and leads its seat to the same point
 abbrev pub StepsSeeOneWordAndOneSeat : Type 0
 StepsSeeOneWordAndOneSeat =
     (c d : Core) (s : ℕ) → IsSeat c.seats s → IsSeat d.seats s → LooksSame c d s

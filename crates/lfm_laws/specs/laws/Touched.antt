@@ -17,7 +17,7 @@ SameWord c d Word.Push = d.push ≡ c.push
 SameWord c d (Word.Link t) = link d.links t ≡ link c.links t
 SameWord c d (Word.Wake t) = wake d.wakes t ≡ wake c.wakes t
 
--- the kind of the step that seat s makes next, none where no call of it is open
+-- the kind of the step that seat s makes next, none if no call of it is open
 abbrev pub kind_of : Core → ℕ → Option Kind
 kind_of c s = kind (seat c.seats s).point
 
@@ -46,7 +46,7 @@ may_pop (Some Kind.OwnerStore) = true
 may_pop (Some Kind.WakeStore) = true
 may_pop _ = false
 
--- what stays from c to d where seat s makes its next step
+-- what stays from c to d when seat s makes its next step
 pub record StepTouches (c d : Core) (s : ℕ) : Type 0 where
   pub budget : d.budget ≡ c.budget
   pub seats : length d.seats ≡ length c.seats
@@ -55,7 +55,7 @@ pub record StepTouches (c d : Core) (s : ℕ) : Type 0 where
   pub loaded_words : only_loads (kind_of c s) ≡ true → (w : Word) → SameWord c d w
   pub popped : may_pop (kind_of c s) ≡ false → d.popped ≡ c.popped
 
--- what stays from c to d where seat s begins a call
+-- what stays from c to d when seat s begins a call
 pub record BeginTouches (c d : Core) (s : ℕ) : Type 0 where
   pub budget : d.budget ≡ c.budget
   pub seats : length d.seats ≡ length c.seats

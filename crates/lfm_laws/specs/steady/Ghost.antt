@@ -2,8 +2,8 @@
 -- stands to the queue, and the whole record of the pushes. No code holds any of it.
 use Rattle.std.specs.Prelude.{ℕ, Bool}
 
--- where the responsibility lies, and with what: an owner may be between the add and the subtract of a recursive lock; a
--- granted seat has the stamp of its grant, 0 where the grant is free; who enters brings in a seat, itself or the target of its
+-- where the responsibility lies, and with what: an owner may be between the add and the subtract of a recursive lock; a granted
+-- seat has the stamp of its grant, 0 if the grant is free; an entering call brings in a seat, its own or the target of its
 -- send, by a stamp or 0
 pub data Responsibility : Type 0 where
   nobody : Responsibility

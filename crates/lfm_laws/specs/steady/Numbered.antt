@@ -6,7 +6,7 @@ use Rattle.lfm_words.specs.declared.pop_lists.Record.{Record}
 abbrev pub changed : {A : Type 0} → (ℕ → A) → ℕ → A → ℕ → A
 changed f i x j = if nat_eq j i then x else f j
 
--- so many records, whose stamps follow this one and whose seats the function tells
+-- this number of records, whose stamps follow this one and whose seats the function tells
 abbrev pub records : (ℕ → ℕ) → ℕ → ℕ → List Record
 records pushed_at last zero = []
 records pushed_at last (suc n) = record { seat = pushed_at (last + 1); stamp = last + 1 } ∷ records pushed_at (last + 1) n

@@ -67,7 +67,7 @@ KnowsRecord g (Carrier.Releaser releaser) = ⊤
 KnowsRecord g (Carrier.Reclaimer releaser) = HasQueue g
 KnowsRecord g Carrier.Sender = HasQueue g
 
--- a locker gives its own record to nobody else
+-- a locker gives its own record to no other seat
 abbrev pub GivesAway : ℕ → Record → Carrier → Type 0
 GivesAway s r Carrier.Locker = r.seat ≢ s
 GivesAway s r _ = ⊤
@@ -225,7 +225,7 @@ abbrev pub HandoffFits : List SeatState → Responsibility → Handoff → Type 
 HandoffFits seats posted handoff = IsSeat seats handoff.seat
 HandoffFits seats _ handoff = handoff ≡ unposted
 
--- the newest record that is not cleared, 0 where all are
+-- the newest record that is not cleared, 0 if all are
 abbrev pub newest : ℕ → ℕ → (ℕ → ℕ) → ℕ
 newest up_to pushed pushed_at = if nat_eq up_to pushed then 0 else pushed_at pushed
 
@@ -271,7 +271,7 @@ unanswered (granted s stamp) = if nat_eq stamp 0 then 0 else 1
 unanswered (entering s into stamp) = if nat_eq stamp 0 then 0 else 1
 unanswered _ = 0
 
--- the seat of the record before this one in a part of the queue that begins above a stamp, 0 where this is its first
+-- the seat of the record before this one in a part of the queue that begins above a stamp, 0 if this is its first
 abbrev pub before : (ℕ → ℕ) → ℕ → ℕ → ℕ
 before pushed_at first stamp = if nat_eq stamp (first + 1) then 0 else pushed_at (stamp - 1)
 

@@ -18,12 +18,12 @@ pub use Rattle.lfm_laws.specs.laws.Errands.{asks_for_at, asks_for, claims_for_at
 
 -- The responsibility
 
--- the stamp by which the mutex was gained, 0 where it was free
+-- the stamp by which the mutex was gained, 0 if it was free
 abbrev pub stamp_of : How → ℕ
 stamp_of How.Free = 0
 stamp_of (How.Queued stamp) = stamp
 
--- seat s owns where it has a depth
+-- seat s owns if it has a depth
 abbrev pub by_depth : ℕ → ℕ → Bool → Responsibility
 by_depth depth s again = if nat_eq depth 0 then nobody else owned s again
 

@@ -20,7 +20,7 @@ use Rattle.lfm_laws.specs.table.Words.{words, index, written, stepped_by, popped
 abbrev pub carries_value : SeatState → Bool
 carries_value x = if nat_eq x.depth 0 then carries x.point else true
 
--- the seat with which the value is out, none where it is at home: nobody has the responsibility, or it is granted or posted
+-- the seat with which the value is out, none if it is at home: nobody has the responsibility, or it is granted or posted
 abbrev pub out_with : AbstractPlace → Option ℕ
 out_with free = None
 out_with (owner s) = Some s
@@ -28,7 +28,7 @@ out_with (passed s) = None
 out_with posted = None
 out_with (carried s how) = Some s
 
--- a seat carries the value just where it is out with that seat
+-- a seat carries the value exactly if it is out with that seat
 pub record TellsValue (seats : List SeatState) (place : AbstractPlace) : Type 0 where
   pub out : (s : ℕ) → carries_value (seat seats s) ≡ true → out_with place ≡ Some s
   pub carried : (s : ℕ) → out_with place ≡ Some s → carries_value (seat seats s) ≡ true

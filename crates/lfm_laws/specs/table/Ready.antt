@@ -17,7 +17,7 @@ pub record PacksHandoff (h : Handoff) : Type 0 where
   pub seat : h.seat < 65536
   pub post : h.post < 2 ^ 48
 
--- of seat s, being x, where there are so many seats
+-- of seat s, being x, with this number of seats
 pub record IsReady (seats s : ℕ) (x : SeatState) : Type 0 where
   pub numbers : HasNumbers x x.point
   pub above : 0 < target x.point s

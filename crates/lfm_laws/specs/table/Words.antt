@@ -25,7 +25,7 @@ abbrev pub words : Core → List ℕ
 words c =
     (c.count ∷ c.owner ∷ handoff_word c.handoff ∷ link_word c.push ∷ []) ++ (map link_word c.links ++ map wake_word c.wakes)
 
--- the place of a word in that list, where there are so many seats
+-- the place of a word in that list, with this number of seats
 abbrev pub index_of : ℕ → Word → ℕ
 index_of seats Word.Count = 0
 index_of seats Word.Owner = 1
@@ -110,7 +110,7 @@ popped_of x t n popped _ = popped
 
 -- The step that seat s, being x, makes next
 
--- the place of its word, where there are so many seats
+-- the place of its word, with this number of seats
 abbrev pub index : SeatState → ℕ → ℕ → ℕ
 index x seats s = index_by seats (target x.point s) (kind x.point)
 

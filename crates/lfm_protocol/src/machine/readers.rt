@@ -41,14 +41,14 @@ impl Machine {
         self.owner
     }
 
-    /// The handoff word: the posted number, whose seat is 0 where nothing is posted.
+    /// The handoff word: the posted number, whose seat is 0 if nothing is posted.
     pub fn handoff(&self) -> Handoff
         ensures { result ≡ self.now.handoff }
     {
         self.handoff
     }
 
-    /// A number of steps that a call does not exceed while no other seat makes a step: 16 more than there are seats.
+    /// A call makes at most this many steps while no other seat makes one: 16 more than there are seats.
     pub fn longest_call(&self) -> u64
         ensures { result ≡ longest_call self.now }
     {
@@ -56,7 +56,7 @@ impl Machine {
     }
 }
 
-/// The seats. A number that no seat has reads as a seat at rest, with 0 for each number.
+/// The seats. For a number that no seat has, each reader answers as for a seat at rest, with 0 for each number.
 impl Machine {
     /// How many times seat s holds the mutex: 0 to 65,535.
     pub fn depth(&self, s: u64) -> u64
@@ -79,7 +79,7 @@ impl Machine {
         self.seat_or_absent(s).posts
     }
 
-    /// The data of seat s, or a seat at rest where no seat has this number.
+    /// The data of seat s, or a seat at rest if no seat has this number.
     fn seat_or_absent(&self, s: u64) -> SeatState
         ensures { result ≡ seat self.now.seats s }
     {
@@ -100,9 +100,9 @@ fn is_passed(wake: Wake, point: Point) -> bool
 
 /// Where the responsibility lies.
 impl Machine {
-    /// Where the responsibility lies. Owner where the owner word names a seat, else Posted where a handoff stands. Else
-    /// Passed for the first seat with a grant that it has not loaded. Else Carried for the first seat whose call
-    /// carries it, and Free where there is none. It reads each seat at most twice.
+    /// Where the responsibility lies. Owner if the owner word names a seat, otherwise Posted if a handoff stands. Otherwise
+    /// Passed for the first seat with a grant that it has not loaded. Otherwise Carried for the first seat whose call carries
+    /// it, and Free if there is none. It reads each seat at most twice.
     pub fn place(&self) -> Place
         ensures { result ≡ place_of self.now }
     {
@@ -184,7 +184,7 @@ impl Machine {
         gather_chain(room, Chain::new(&self.links, self.unwalked()));
     }
 
-    /// The seat whose link a carrier loads next, or 0 where no carrier follows the links of a cleared list.
+    /// The seat whose link a carrier loads next, or 0 if no carrier follows the links of a cleared list.
     fn unwalked(&self) -> u64
         ensures { result ≡ unwalked self.now.seats }
     {

@@ -6,8 +6,8 @@ use crate::machine::Machine;
 use crate::points::Point;
 use lfm_words::{Link, Wake};
 
-/// The push word, and the words and points of the seats. A number that no seat has reads as a seat at rest whose words
-/// are 0.
+/// The push word, and the words and points of the seats. For a number that no seat has, each reader answers as for a seat at
+/// rest whose words are 0.
 impl Machine {
     /// The push word: the newest stamp, and the head of the push list.
     pub fn push_word(&self) -> Link
@@ -40,7 +40,7 @@ impl Machine {
         }
     }
 
-    /// Where seat s stands: the atomic step to come, or that no call of it is open.
+    /// Where seat s stands: at the atomic step to come, or at none, since no call of it is open.
     pub fn point(&self, s: u64) -> Point
         ensures { result ≡ (seat self.now.seats s).point }
     {

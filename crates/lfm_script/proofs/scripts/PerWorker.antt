@@ -16,7 +16,7 @@ abbrev pub OthersKeep : {X : Type 0} → (ℕ → List ScriptLine → X → Type
 OthersKeep {X} P = (w : ℕ) (l : ScriptLine) (rest : List ScriptLine) (x : X) → (l.worker == w) ≡ false → P w (l ∷ rest) x → P w rest x
 
 module _ {X : Type 0} (P : ℕ → List ScriptLine → X → Type 0) (others : OthersKeep P) where
-  -- the item of the worker of a line, where that is there
+  -- the item of the worker of a line, if that is there
   pub own : (l : ScriptLine) (rest : List ScriptLine) (workers : ℕ) (xs : List X) (x : X) → is_there l.worker workers ≡ true → x ≡ get_or xs (l.worker - 1) x → Each P workers rest xs → P l.worker rest x
   own l rest workers xs x there is each =
       let some : 0 < l.worker = search (tests, arith, there) in
@@ -78,7 +78,7 @@ counted_one ls l rest n counted =
 
 -- ---- which commands were handed out
 
--- the commands that were handed out and those that are left are all of them, and there is just room for these
+-- the commands that were handed out and those that are left are all of them, and there is exactly room for these
 abbrev pub Handed : List ScriptLine → ℕ → List ScriptLine → Vec Command Global → Type 0
 Handed ls w rest v = (v.items ++ commands_of w rest ≡ commands_of w ls) × (vec_capacity v ≡ length (commands_of w ls))
 

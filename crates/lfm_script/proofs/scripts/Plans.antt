@@ -1,4 +1,4 @@
--- A whole text is read as a script just where it spells it, and Limit is answered just where it is too long or out of range.
+-- A whole text is read as a script exactly if it spells it, and Limit is answered exactly if it is too long or out of range.
 use Rattle.std.proofs.Common.{◌≡◌, ◌≢◌, ◌⊎◌, inl, inr, ℕ, Bool, true, false, cond, List, Result, Ok, Err, refl, ◌∙◌, ap}
 use Rattle.lfm_text.specs.Text.{words_of, is_past_limit}
 use Rattle.lfm_text.proofs.FirstFaults.{AreApart}
@@ -15,7 +15,7 @@ use Rattle.lfm_script.proofs.scripts.Spelled.{line_only, header_only}
 abbrev plan : ℕ × ℕ → List ScriptLine → Plan
 plan h ls = record { workers = h.0; conditions = h.1; lines = ls }
 
--- the faults of scripts are told apart
+-- the faults of scripts differ
 pub apart : AreApart scripts
 apart = record { number = λ m n e. cc; limit = λ n e. cc; whole = whole_no_line; empty = refl }
   where
@@ -26,7 +26,7 @@ apart = record { number = λ m n e. cc; limit = λ n e. cc; whole = whole_no_lin
         by_test true = λ e. cc
         by_test false = λ e. cc
 
--- single lines of scripts say just what they spell
+-- single lines of scripts say exactly what they spell
 spelled : AreSpelled scripts SpellsFirst Spells
 spelled = record {
   first_only = λ text h e. header_only text h.0 h.1 e;

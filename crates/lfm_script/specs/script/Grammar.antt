@@ -19,18 +19,18 @@ short_command_of word k =
     else if bytes_eq word (codes "all") then Some (All k)
     else None
 
--- the same, where the number is spelled
+-- the same, if the number is spelled
 abbrev pub short_command : List ℕ → Option ℕ → Option Command
 short_command word None = None
 short_command word (Some k) = short_command_of word k
 
--- a condition and the number that is waited for, where both are spelled
+-- a condition and the number that is waited for, if both are spelled
 abbrev pub until_command : Option ℕ → Option ℕ → Option Command
 until_command None bound = None
 until_command (Some c) None = None
 until_command (Some c) (Some k) = Some (Until c k)
 
--- a worker and what it does, where both are spelled
+-- a worker and what it does, if both are spelled
 abbrev pub worker_line : Option ℕ → Option Command → Option ScriptLine
 worker_line None command = None
 worker_line (Some w) None = None
@@ -47,7 +47,7 @@ line_of (worker ∷ word ∷ number ∷ []) = worker_line (number_of worker) (sh
 line_of (worker ∷ word ∷ condition ∷ bound ∷ []) = until_of worker word condition bound
 line_of _ = None
 
--- two numbers, where both are spelled
+-- two numbers, if both are spelled
 abbrev pub header : Option ℕ → Option ℕ → Option (ℕ × ℕ)
 header None conditions = None
 header (Some n) None = None
@@ -67,7 +67,7 @@ pub record Plan : Type 0 where
 abbrev pub script_of : Script → Plan
 script_of s = record { workers = s.workers; conditions = s.conditions; lines = s.lines.items }
 
--- whether workers and conditions are so many as they may be, those of all lines are there, and no number is too large
+-- whether the numbers of workers and conditions are allowed, those of all lines are there, and no number is too large
 abbrev pub plan_allowed : Plan → Bool
 plan_allowed p = header_allowed p.workers p.conditions && lines_allowed p.workers p.conditions p.lines
 

@@ -4,7 +4,7 @@ use Rattle.lfm_script.specs.declared.script.Command.{Command}
 use Rattle.lfm_script.specs.declared.script.Command.TheVariants.{Add, Until, One, All}
 use Rattle.lfm_script.specs.declared.script.ScriptLine.{ScriptLine}
 
--- whether there is one of this number, counted from 1, among so many
+-- whether this number, counted from 1, is at most this count
 abbrev pub is_there : ℕ → ℕ → Bool
 is_there number count = nat_lt 0 number && not (nat_lt count number)
 

@@ -1,5 +1,5 @@
-//! The commands of each worker of a script. Its lines are read twice: first they are counted, so that then there is just
-//! the room that the commands need.
+//! The commands of each worker of a script. Its lines are read twice: first they are counted, so that exactly the room that the
+//! commands need is reserved.
 
 ghost use Rattle.std.specs.Prelude.{◌≡◌, ◌<◌, ◌+◌, [], ℕ, length, IfOk, IfErr, Vec, vec_capacity, vec_len, slice_index_or};
 ghost use Rattle.lfm_script.specs.script.Commands.{commands_of};
@@ -28,8 +28,8 @@ fn count_commands(
     Ok(counts)
 }
 
-/// An empty list for each worker, with room for so many commands. Makes one request for memory for all lists, and one for
-/// each that is to have commands.
+/// An empty list for each worker, with room for as many commands as its count says. Makes one request for memory for all lists,
+/// and one for each that is to have commands.
 fn reserve_commands(alloc: Global, counts: &[usize]) -> Result<Vec<Vec<Command>>, AllocError>
     ensures count { IfOk result (λ v. vec_len v ≡ length counts.now) }
     ensures empty { IfOk result (λ v. (i : ℕ) (d : Vec Command Global) → i < length counts.now →
@@ -44,10 +44,10 @@ fn reserve_commands(alloc: Global, counts: &[usize]) -> Result<Vec<Vec<Command>>
     Ok(commands)
 }
 
-/// The commands of the workers from 1 to `workers`, each in the order of the script. Lines of other workers are nobody's.
+/// The commands of the workers from 1 to `workers`, each in the order of the script. Lines of other workers are left out.
 ///
-/// Makes a request for memory for the numbers of commands, one for the lists, and one for each list that is to have
-/// commands, of just its length: Memory where one is refused.
+/// Makes a request for memory for the numbers of commands, one for the lists, and one for each list that is to have commands,
+/// of exactly its length: Memory if one is refused.
 pub fn commands_by_worker(
     alloc: Global,
     workers: u64,

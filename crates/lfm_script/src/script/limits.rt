@@ -5,7 +5,7 @@ ghost use Rattle.lfm_script.specs.script.Limits.{is_there, command_allowed, line
 
 use crate::script::{Command, MAX_CONDITIONS, MAX_NUMBER, MAX_WORKERS, ScriptLine};
 
-/// Whether there is one of this number, counted from 1, among so many.
+/// Whether this number, counted from 1, is at most this count.
 pub fn is_there(number: u64, count: u64) -> bool
     ensures { result ≡ is_there number count }
 {
@@ -39,7 +39,7 @@ pub fn are_lines_allowed(workers: u64, conditions: u64, lines: &[ScriptLine]) ->
     true
 }
 
-/// Whether a script may have so many workers and conditions: 1 to 4,095 workers, and at most 16 conditions.
+/// Whether a script may have this many workers and conditions: 1 to 4,095 workers, and at most 16 conditions.
 pub fn is_header_allowed(workers: u64, conditions: u64) -> bool
     ensures { result ≡ header_allowed workers conditions }
 {

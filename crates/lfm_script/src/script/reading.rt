@@ -43,7 +43,7 @@ fn read_until(worker: &[u8], word: &[u8], condition: &[u8], bound: &[u8]) -> Opt
     })
 }
 
-/// What a line after the first says. `None` where it is no line of a script.
+/// What a line after the first says. `None` if it is no line of a script.
 fn read_line(text: &[u8]) -> Option<ScriptLine>
     ensures { result ≡ line_of (words_of text.now) }
 {
@@ -61,7 +61,7 @@ fn read_line(text: &[u8]) -> Option<ScriptLine>
     }
 }
 
-/// The numbers of workers and conditions that the first line names. `None` where it is no such line.
+/// The numbers of workers and conditions that the first line names. `None` if it is no such line.
 fn read_header(text: &[u8]) -> Option<(u64, u64)>
     ensures { result ≡ header_of (words_of text.now) }
 {
@@ -102,17 +102,17 @@ fn read_lines(alloc: Global, text: &[u8], count: usize) -> Result<Vec<ScriptLine
 /// Reads a script from its bytes.
 ///
 /// A text may have several faults. This one is returned:
-/// 1. Limit, where it is longer than 1,048,576 bytes or has more than 65,536 lines;
-/// 2. Syntax, where some line is none of a script, with the number of the first such line. The numbers begin at 1, and a
-///    text without lines has this fault in line 1;
-/// 3. Limit, where the number of workers is outside 1 to 4,095 or that of conditions is above 16, or where a line names a
-///    worker or a condition that is not there, or has a command add or wait for more than 1,000,000,000.
+/// 1. Limit, if it is longer than 1,048,576 bytes or has more than 65,536 lines;
+/// 2. Syntax, if some line is none of a script, with the number of the first such line. The numbers begin at 1, and a text
+///    without lines has this fault in line 1;
+/// 3. Limit, if the number of workers is outside 1 to 4,095 or that of conditions is above 16, or if a line names a worker or a
+///    condition that is not there, or has a command add or wait for more than 1,000,000,000.
 ///
-/// Makes one request for memory, for the lines after the first, and none where there are no such lines: Memory where it
-/// is refused, before those lines are read. Never Read, Write or Stuck.
+/// Makes one request for memory, for the lines after the first, and none if there are no such lines: Memory if it is refused,
+/// before those lines are read. Never Read, Write or Stuck.
 pub fn read_script(alloc: Global, text: &[u8]) -> Result<Script, WorkFault>
     ensures exact { Gives script_of result (script_in text.now) }
-    // Memory comes only where there are lines to be kept.
+    // Memory comes only if there are lines to be kept.
     ensures memory { IsErrOf result WorkFault.Memory → 1 < line_count text.now }
 
     ensures few { IfOk result (λ s. length s.lines.items < max_lines) }

@@ -1,4 +1,4 @@
--- How many steps an open call makes beside others: what is due to it falls with each own step, and rises by two at most where
+-- How many steps an open call makes beside others: what is due to it falls with each own step, and rises by two at most when
 -- another seat changes the push word.
 use Rattle.std.proofs.Common.{◌≡◌, ℕ, true, false, ◌+◌, ◌*◌, ◌≤◌, List, [], ◌∷◌, length, nat_eq, refl, sym, ◌∙◌, inl, inr, arith, if◌then◌else◌}
 use Rattle.std.proofs.lemmas.Bool.{cases_Bool, cases_eq, eq-eqb, ne_eqb, false≢true}
@@ -72,7 +72,7 @@ begun_push c t call =
       | inr none ↦ rw none refl
     ]
 
--- an event over which seat s has spent so many steps and changes, beside so many changes of others
+-- an event over which seat s has spent this number of steps and changes, beside this number of changes by others
 pub record Spent (c d : Core) (s steps own beside : ℕ) : Type 0 where
   pub steady : Steady d
   pub due : steps + due d s ≤ due c s + 2 * beside

@@ -1,4 +1,4 @@
--- A fact about points, of a step or a begin that branches: it holds where it holds on each branch.
+-- A fact about points, of a step or of the start of a call that branches: it holds if it holds on each branch.
 use Rattle.std.proofs.Common.{ℕ, Bool, true, false, if◌then◌else◌, inl, inr}
 use Rattle.std.proofs.lemmas.Bool.{cases_Bool}
 use Rattle.lfm_model.specs.declared.answers.Unlocked.{Unlocked}

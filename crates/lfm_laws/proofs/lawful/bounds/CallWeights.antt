@@ -1,4 +1,4 @@
--- What the steps of a call weigh together, where a measure of the seat's point falls by as much with each of its own steps: no
+-- What the steps of a call weigh together, if a measure of the seat's point falls by as much with each of its own steps: no
 -- more than that measure, whatever the others do in between.
 use Rattle.std.proofs.Common.{◌≡◌, ℕ, Bool, true, false, ◌+◌, ◌-◌, ◌≤◌, List, [], ◌∷◌, length, refl, sym, ◌∙◌, inl, inr, arith}
 use Rattle.std.proofs.lemmas.Bool.{cases_Bool, cases_eq, eq-eqb, ne_eqb, false≢true}
@@ -28,12 +28,12 @@ walking_serves depth s _ walks = absurd (false≢true walks)
 abbrev pub room_left : Core → ℕ
 room_left c = length c.seats - length c.popped
 
--- what a call at the point of seat s still weighs at most, told by the number of seats, the room of the pop list and the point
+-- what a call at the point of seat s still weighs at most, by the number of seats, the room of the pop list and the point
 abbrev pub measure : (ℕ → ℕ → Point → ℕ) → Core → ℕ → ℕ
 measure most c s = most (length c.seats) (room_left c) (seat c.seats s).point
 
--- `most` bounds the weight of what a call has still to do at each point of these: only a walk reads the room of the pop list,
--- and each own step leads to a point of these again and lowers the measure by its weight
+-- `most` bounds the weight of what a call has still to do at each of these points: only a walk reads the room of the pop list,
+-- and each own step leads to one of these points again and lowers the measure by its weight
 pub record Falls (weight : Point → ℕ) (most : ℕ → ℕ → Point → ℕ) (among : Point → Bool) : Type 0 where
   pub unread : (seats room room' : ℕ) (p : Point) → is_walking p ≡ false → most seats room p ≡ most seats room' p
   pub lower : (c : Core) (g : Ghost) (s : ℕ) → Fits c g → is_call (seat c.seats s).point ≡ true → among (seat c.seats s).point ≡ true

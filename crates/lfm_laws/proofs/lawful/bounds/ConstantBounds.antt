@@ -22,7 +22,7 @@ use Rattle.lfm_laws.proofs.lawful.bounds.CallWeights.{Falls, weight_le}
 use Rattle.lfm_laws.proofs.lawful.bounds.Leaving.{stepped}
 use Rattle.lfm_laws.proofs.lawful.runs.Reached.{run_keeps}
 
--- how many steps a try_lock or a receive at this point makes yet, at most
+-- how many more steps a try_lock or a receive at this point makes at most
 abbrev pub try_steps_left : Point → ℕ
 try_steps_left TryCountExchange = 6
 try_steps_left TryOwnerLoad = 5
@@ -51,7 +51,7 @@ among_tries _ = false
 abbrev pub try_steps_left_among : ℕ → ℕ → Point → ℕ
 try_steps_left_among seats room p = try_steps_left p
 
--- one of these points, with at most so many steps left
+-- one of these points, with at most this number of steps left
 abbrev Within : ℕ → Point → Type 0
 Within steps p = (among_tries p ≡ true) × (try_steps_left p ≤ steps)
 
@@ -94,7 +94,7 @@ tries_fall =
       lower = λ c g s fits inside among. next_within c s (seat c.seats s).point refl inside among;
     }
 
--- Where the calls begin
+-- The points at which the calls begin
 
 at_rest : (steps : ℕ) (p : Point) → is_call p ≡ false → Within steps p
 at_rest steps Rest closed = (refl, omega arith)

@@ -39,7 +39,8 @@ abbrev pub due_to_exchange : ℕ → Pusher → ℕ
 due_to_exchange seats Pusher.Locker = seats + 3
 due_to_exchange seats (Pusher.Sender t) = seats + 2
 
--- how many steps a call at this point makes at most, among so many seats, the pop list having so much room
+-- how many steps a call at this point makes at most, with this number of seats, and room for this number of records in the pop
+-- list
 abbrev pub due_at : Link → ℕ → ℕ → Point → ℕ
 due_at push seats room Rest = 0
 due_at push seats room (Asleep sleeper) = 0
@@ -159,7 +160,7 @@ changes_at-le (ReleaseHandoffExchange releaser) = omega arith
 changes_at-le (TakeClearHead carrier) = omega arith
 changes_at-le _ = omega arith
 
--- where no call is open, nothing is due
+-- if no call is open, nothing is due
 pub none_due : (push : Link) (seats room : ℕ) (p : Point) → is_call p ≡ false → (due_at push seats room p ≡ 0) × (changes_at p ≡ 0)
 none_due push seats room Rest closed = (refl, refl)
 none_due push seats room (Asleep sleeper) closed = (refl, refl)

@@ -1,4 +1,4 @@
--- How many calls are still to begin before a queued record is served, where no others begin than unlocks and receives of seats
+-- How many calls are still to begin before a queued record is served, if no others begin than unlocks and receives of seats
 -- that have their grant: no step raises that by more than two for each record that leaves.
 use Rattle.std.proofs.Common.{◌≡◌, ℕ, false, ◌+◌, ◌*◌, ◌≤◌, Option, Some, None, length, nat_eq, refl, sym, ap, ◌∙◌, inl, inr, arith, if◌then◌else◌}
 use Rattle.std.proofs.lemmas.Bool.{cases_Bool, cases_eq, eq-eqb, false≢true}
@@ -42,7 +42,7 @@ abbrev pub receives_due : Point → ℕ
 receives_due (ReceiveWakeLoad sleeper) = 0
 receives_due _ = 1
 
--- who is about to come in owns then; who is sent is granted first
+-- a seat that is about to come in owns then; a seat that is sent is granted first
 abbrev pub entry_due : ℕ → ℕ → ℕ
 entry_due into s = if nat_eq into s then 1 else 2
 

@@ -1,4 +1,4 @@
--- Each own step of an open call lowers what it has still to do: the steps by one, and the changes of the push word by one where it
+-- Each own step of an open call lowers what it has still to do: the steps by one, and the changes of the push word by one if it
 -- changes it.
 use Rattle.std.proofs.Common.{◌≡◌, ℕ, Bool, true, false, ◌+◌, ◌-◌, ◌≤◌, ◌<◌, Option, Some, None, ◌∷◌, length, nat_eq, refl, sym, arith, inl, inr, if◌then◌else◌}
 use Rattle.std.proofs.lemmas.Bool.{cases_Bool, cases_eq, eq-eqb, ne_eqb, false≢true}
@@ -43,9 +43,9 @@ use Rattle.lfm_laws.proofs.lawful.bounds.StepsFall.{same_link_self}
 use Rattle.lfm_laws.proofs.steady.Room.{steady_has_room}
 use Rattle.lfm_laws.proofs.lawful.bounds.DueAtPoints.{again_unless, due_to_walk, due_to_clear, due_to_exchange, due_at, changes_at, changed_push-le, changed_push_same}
 
--- Where a step leads that leaves the push word
+-- Where a step that leaves the push word as it is leads
 
--- a point where so many steps and changes are due at most
+-- a point at which at most this number of steps and changes are due
 abbrev pub Within : Link → ℕ → ℕ → ℕ → ℕ → Point → Type 0
 Within push seats room steps changes q = (due_at push seats room q ≤ steps) × (changes_at q ≤ changes)
 
@@ -130,7 +130,7 @@ exchange_due : (seats : ℕ) (pusher : Pusher) → 1 + due_to_clear seats (carri
 exchange_due seats Pusher.Locker = omega arith
 exchange_due seats (Pusher.Sender t) = omega arith
 
--- Where it does not
+-- Where a step that may change it leads
 
 link_store_due : (push : Link) (seats room : ℕ) (pusher : Pusher) → Within push seats room (seats + 6) 2 (LinkStore pusher push)
 link_store_due push seats room pusher = rw (same_link_self push) (omega arith, omega arith)
@@ -167,7 +167,7 @@ clear_spends push seats room room' Carrier.Sender few =
 
 -- The walk
 
--- a link load leaves the pop list with room for one record less
+-- a link load leaves the pop list with room for one record fewer
 walk_spends : (push : Link) (seats room room' : ℕ) (carrier : Carrier) (s : ℕ) (next at : ℕ) (r : Record) → 1 + room' ≡ room
     → 2 + wait_of carrier ≤ due_to_walk room carrier → 1 + due_to_walk room' carrier ≤ due_to_walk room carrier
     → Spends push push seats room room' (TakeLinkLoad carrier at) (if nat_eq next 0 then serves carrier s r else TakeLinkLoad carrier next)
@@ -312,8 +312,8 @@ at_point c s room before (ReceiveWakeStore stamp) at inside stands few =
     rw (at, at)
     (spends c.push (length c.seats) before room 1 0 (ReceiveWakeStore stamp) (EnterOwnerStore Entrant.Receiver (how_granted stamp)) (omega arith, omega arith) (omega arith) (omega arith))
 
--- the room that a walk needs: a carrier other than a locker stands apart from the queue, so two records less than there are
--- seats are in the pop list at most
+-- the room that a walk needs: a carrier other than a locker stands apart from the queue, so the pop list has at most two
+-- records fewer than there are seats
 serve_fits : (c : Core) (g : Ghost) (s : ℕ) (carrier : Carrier) → Fits c g → IsSeat c.seats s → StandsAsCarrier (g.standing s) carrier → 0 < g.walk
     → 1 ≤ room_left c → 2 + wait_of carrier ≤ due_to_walk (room_left c) carrier
 serve_fits c g s Carrier.Locker fits is stands some room = omega (arith, room)

@@ -180,7 +180,7 @@ begun_popped c t call =
 
 -- What is left to a seat
 
--- seat s sees the same number of seats and its own view as before, and where it serves the same pop list
+-- seat s sees the same number of seats and its own view as before, and, if it serves, the same pop list
 pub record KeepsSeat (c d : Core) (s : ℕ) : Type 0 where
   pub view : seat d.seats s ≡ seat c.seats s
   pub size : length d.seats ≡ length c.seats

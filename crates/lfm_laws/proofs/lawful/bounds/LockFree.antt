@@ -25,7 +25,8 @@ use Rattle.lfm_laws.proofs.steady.frames.Sums.{sum_update, sum_bound}
 use Rattle.lfm_laws.proofs.steady.frames.SameSeats.{seats-step, seats-begin}
 use Rattle.lfm_laws.proofs.lawful.bounds.SumBounds.{sum_spreads, sum_scales}
 
--- What is owed to all calls: the steps that are due, and what the changes that are left cost the other calls, where each costs k
+-- What is owed to all calls: the steps that are due, and what the changes that are left cost the other calls, at a cost of k
+-- each
 
 abbrev pub owed : ℕ → Core → ℕ → ℕ
 owed k c s = due c s + k * changes_left c s
@@ -106,7 +107,7 @@ step_pays k c g s fits enough =
           rw (none, closed) (omega arith)
     ]
 
--- a begin changes what is owed to its own seat alone
+-- the start of a call changes what is owed to its own seat alone
 owed_begun : (k : ℕ) (c : Core) (t s : ℕ) (call : Call) → s ≢ t → owed k (begin c t call).core s ≡ owed k c s
 owed_begun k c t s call other =
     rw (begun_other c t s call other, begun_push c t call, begun_popped c t call, seats-begin c t call) refl
@@ -117,7 +118,7 @@ owed_open k c t call inside =
     let leaves = begin_leaves c t t call inside in
     rw (leaves.view, begun_push c t call, begun_popped c t call, seats-begin c t call) refl
 
--- and what is owed to its own seat rises by a share where a call opens
+-- and what is owed to its own seat rises by a share if a call opens
 owed_opened : (k share : ℕ) (c : Core) (t : ℕ) (call : Call) → length c.seats + 9 + k * 2 ≤ share
     → owed k (begin c t call).core t ≤ owed k c t + share * opened_at c (begin c t call).core t
 owed_opened k share c t call most =
@@ -213,7 +214,7 @@ unit-le c s =
 open-le : (c : Core) → open_calls c ≤ length c.seats
 open-le c = let most = sum_bound (length c.seats) 1 (open_unit c) (unit-le c) in omega (arith, most)
 
--- a seat has an open call after an event of it, or the event ended it, just where it had one before, or the event opened it
+-- a seat has an open call after an event of it, or the event ended it, exactly if it had one before, or the event opened it
 unit_begun : (c : Core) (t : ℕ) (call : Call) → open_unit (begin c t call).core t ≡ open_unit c t + opened_at c (begin c t call).core t
 unit_begun c t call =
     elim (cases_Bool (is_call (seat c.seats t).point)) [

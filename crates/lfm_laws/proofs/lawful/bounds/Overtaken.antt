@@ -1,6 +1,6 @@
 -- While a record stays queued, seats come to own by the records before it, and once more at most: by what was on its way to a
--- seat already, or by a post for which no record was seen. A release finds the record, so no other post comes. And who stops
--- to own has come to own, or did so before.
+-- seat already, or by a post for which no record was seen. A release finds the record, so no other post comes. And a seat that
+-- stops owning has come to own, or did so before.
 use Rattle.std.proofs.Common.{◌≡◌, ℕ, false, ◌+◌, ◌-◌, ◌≤◌, ◌<◌, Option, Some, None, List, [], ◌∷◌, length, refl, sym, ap, ◌∙◌, inl, inr, arith}
 use Rattle.std.proofs.lemmas.Bool.{cases_Bool, false≢true}
 use Rattle.std.proofs.lemmas.List.{length-append}
@@ -127,7 +127,7 @@ posting_spare o c g t releaser at fits =
     let place = place_of_claim g.place (serving t) t (λ e. cc) claims in
     rw (place, at) (omega arith)
 
--- an event that weighs so much and by which so many records leave
+-- an event of this weight, by which this number of records leave
 record Passes (o : ℕ) (c d : Core) (g : Ghost) (weighs pops : ℕ) : Type 0 where
   pub to : Ghost
   pub fits : Fits d to

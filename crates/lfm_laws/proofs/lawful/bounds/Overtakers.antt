@@ -148,7 +148,7 @@ grant_to t c g h u n some more (Abstract.leave s to goes moves) e = absurd (cc)
 
 -- What can bring seat t in at all
 
--- 1 if the first is above 0, and else the second
+-- 1 if the first is above 0, and otherwise the second
 abbrev either : ℕ → ℕ → ℕ
 either zero m = m
 either (suc n) m = 1
@@ -201,7 +201,7 @@ none_ahead d h t n fits stands within =
     let both = sym stands ∙ same in
     cc)
 
--- and nothing else that can bring it in
+-- and nothing else can bring it in
 none_brings : (t : ℕ) (d : Core) (h : Ghost) (n : ℕ) → Fits d h → h.place ≡ owned t false → h.standing t ≡ apart → h.popped + n ≤ h.pushed → brings t d h n ≡ 0
 none_brings t d h n fits place stands within = rw (none_ahead d h t n fits stands within, place) refl
 
@@ -277,7 +277,7 @@ spends_at t c g h u p pushes answers n at fits some is after goes on within =
       | inr other ↦ rw other (omega (arith, less))
     ]
 
--- an event that weighs so much, before which so many records leave until the end of the run, and after it n
+-- an event of this weight, before which this number of records leave until the end of the run, and after it n
 record Passes (t : ℕ) (c d : Core) (g : Ghost) (weighs pops n : ℕ) : Type 0 where
   pub to : Ghost
   pub fits : Fits d to

@@ -1,4 +1,4 @@
--- The steps that neither serve a record nor post: those at all points but three, where a seat comes in, grants or posts.
+-- The steps that neither serve a record nor post: those at all points but three, at which a seat comes in, grants or posts.
 use Rattle.std.proofs.Common.{◌≡◌, ℕ, suc, Bool, true, false, ◌-◌, Option, Some, None, [], nat_eq, refl, arith, if◌then◌else◌}
 use Rattle.std.proofs.lemmas.Bool.{false≢true}
 use Rattle.lfm_model.specs.AbstractRuns.{Case, case_of}

@@ -22,14 +22,14 @@ use Rattle.lfm_laws.proofs.lawful.bounds.ReleaseFalls.{among_release, steps_left
 use Rattle.lfm_laws.proofs.steady.frames.Seated.{seat_of_test}
 use Rattle.lfm_laws.proofs.steady.frames.SameSeats.{seats-begin}
 
--- Where no call is open, none of these steps are left
+-- If no call is open, none of these steps are left
 
 at_rest : (seats room steps : ℕ) (p : Point) → is_call p ≡ false → Within seats room steps p
 at_rest seats room steps Rest closed = (refl, omega arith)
 at_rest seats room steps (Asleep sleeper) closed = (refl, omega arith)
 at_rest seats room steps _ closed = absurd (false≢true (sym closed))
 
--- Where an unlock and a start_wait begin
+-- The points at which an unlock and a start_wait begin
 
 unlock_awake : (seats room : ℕ) (x : SeatState) → Within seats room (seats + 7) x.point → Within seats room (seats + 7) (begin_unlock x).seat.point
 unlock_awake seats room x here =

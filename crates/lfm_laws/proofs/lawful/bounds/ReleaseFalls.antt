@@ -33,7 +33,7 @@ is_releasing (Carrier.Releaser releaser) = true
 is_releasing (Carrier.Reclaimer releaser) = true
 is_releasing _ = false
 
--- a point of unlock or start_wait, or one where it has ended
+-- a point of unlock or start_wait, or one at which it has ended
 abbrev pub among_release : Point → Bool
 among_release Rest = true
 among_release (Asleep sleeper) = true
@@ -59,7 +59,7 @@ steps_from_clear seats (Carrier.Releaser releaser) = seats + 5 + waits_on releas
 steps_from_clear seats (Carrier.Reclaimer releaser) = seats + 1 + waits_on releaser
 steps_from_clear seats _ = 0
 
--- how many steps a release at this point makes at most, the pop list having so much room
+-- how many steps a release at this point makes at most, with this much room in the pop list
 abbrev pub steps_left : ℕ → ℕ → Point → ℕ
 steps_left seats room (ReleaseOwnerStore releaser) = seats + 7 + waits_on releaser
 steps_left seats room (ReleaseCountSubtract releaser) = seats + 6 + waits_on releaser
@@ -78,7 +78,7 @@ steps_left_unread seats room room' _ walks = refl
 
 -- Where a step leads
 
--- a point of a release with so many steps left
+-- a point of a release with at most this number of steps left
 abbrev pub Within : ℕ → ℕ → ℕ → Point → Type 0
 Within seats room steps p = (among_release p ≡ true) × (steps_left seats room p ≤ steps)
 
@@ -185,7 +185,7 @@ at_point c s room before _ at among inside walks few = absurd (false≢true amon
 
 -- The walk
 
--- a releaser that walks stands apart from the queue, so two records less than there are seats are in the pop list at most
+-- a releaser that walks stands apart from the queue, so the pop list has at most two records fewer than there are seats
 pub walk_room : (c : Core) (g : Ghost) (s : ℕ) → Fits c g → IsSeat c.seats s → g.standing s ≡ apart → 0 < g.walk → length c.popped + 2 ≤ length c.seats
 walk_room c g s fits is stands some =
     let none : queued_unit (g.standing s) + 1 ≤ 1 = rw stands (omega arith) in
@@ -198,7 +198,7 @@ stands_apart standing (Carrier.Releaser releaser) releasing stands = stands
 stands_apart standing (Carrier.Reclaimer releaser) releasing stands = stands
 stands_apart standing Carrier.Sender releasing stands = stands
 
--- past a link load the pop list has room for one record less
+-- past a link load the pop list has room for one record fewer
 of_walked : (seats room : ℕ) (carrier : Carrier) (s next : ℕ) (r : Record) → is_releasing carrier ≡ true → 1 ≤ room
     → Within seats room (room + wait_of carrier) (if nat_eq next 0 then serves carrier s r else TakeLinkLoad carrier next)
 of_walked seats room carrier s next r releasing some =

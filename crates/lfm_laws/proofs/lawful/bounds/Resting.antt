@@ -15,7 +15,7 @@ use Rattle.lfm_laws.proofs.steady.frames.Seated.{seat_of_test}
 use Rattle.lfm_laws.proofs.steady.frames.Sums.{sum_member, sum_witness}
 use Rattle.lfm_laws.proofs.steady.frames.SameSeats.{seats-step}
 
--- where no call is counted as open, none is
+-- if no call is counted as open, none is
 quiet_of_none : (c : Core) → open_calls c ≡ 0 → IsQuiet c
 quiet_of_none c none s =
     elim (cases_Bool (is_call (seat c.seats s).point)) [

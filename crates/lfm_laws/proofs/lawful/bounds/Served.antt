@@ -1,4 +1,4 @@
--- Where no other calls begin than unlocks, and receives of seats that have their grant, few calls begin while a record stays
+-- If no other calls begin than unlocks, and receives of seats that have their grant, few calls begin while a record stays
 -- queued: two for each record before it, and two more. So few steps are made.
 use Rattle.std.proofs.Common.{◌≡◌, ℕ, true, false, ◌+◌, ◌-◌, ◌*◌, ◌≤◌, ◌<◌, List, [], ◌∷◌, length, refl, sym, ap, ◌∙◌, inl, inr, arith}
 use Rattle.std.proofs.lemmas.Bool.{cases_Bool, cases_eq, ne_eqb}
@@ -39,7 +39,7 @@ use Rattle.lfm_laws.proofs.steady.frames.Seated.{seat_of_test}
 use Rattle.lfm_laws.proofs.steady.grant.Wakings.{grant_of_load, wake_to_load, place_of_grant}
 use Rattle.lfm_laws.proofs.lawful.bounds.DueCalls.{unlocks_due, receives_due, due_at, due, due_at-le, step_spends}
 
--- Begins
+-- Starts of calls
 
 same_points : (c d : Core) (p : AbstractPlace) → ((s : ℕ) → (seat d.seats s).point ≡ (seat c.seats s).point) → due_at d p ≡ due_at c p
 same_points c d (owner s) same = ap unlocks_due (same s)
@@ -53,7 +53,7 @@ same_points c d Abstract.posted same = refl
 abbrev BeginSpends : Core → Ghost → ℕ → Call → Type 0
 BeginSpends c g u call = opened_at c (begin c u call).core u + due (begin c u call).core g ≤ due c g
 
--- a begin that leaves its seat at its point opens nothing
+-- a start of a call that leaves its seat at its point opens nothing
 quiet_begin : (c : Core) (g : Ghost) (u : ℕ) (call : Call) → (seat (begin c u call).core.seats u).point ≡ (seat c.seats u).point → BeginSpends c g u call
 quiet_begin c g u call same =
     let points : (s : ℕ) → (seat (begin c u call).core.seats s).point ≡ (seat c.seats s).point =
@@ -71,7 +71,7 @@ begun_view : (c : Core) (u : ℕ) (call : Call) → IsSeat c.seats u → is_seat
     → seat (begin c u call).core.seats u ≡ (Begin.begin (seat c.seats u) (limits c) call).seat
 begun_view c u call is known = rw known (seat-with_same c.seats u (Begin.begin (seat c.seats u) (limits c) call).seat is)
 
--- an owner that begins its unlock
+-- an owner that starts its unlock
 unlock_begins : (c : Core) (g : Ghost) (u : ℕ) → Fits c g → IsSeat c.seats u → is_seat c.seats u ≡ true → (seat c.seats u).point ≡ Rest → (seat c.seats u).depth ≡ 1
     → BeginSpends c g u Unlock
 unlock_begins c g u fits is known at one =
@@ -92,7 +92,7 @@ unlock_rests c g u fits is known at =
       ]
     ]
 
--- a granted seat that begins its receive
+-- a granted seat that starts its receive
 receive_begins : (c : Core) (g : Ghost) (u stamp : ℕ) (sleeper : Sleeper) → Fits c g → IsSeat c.seats u → is_seat c.seats u ≡ true → (seat c.seats u).point ≡ Asleep sleeper
     → wake c.wakes u ≡ Grant stamp → BeginSpends c g u Receive
 receive_begins c g u stamp sleeper fits is known at word =

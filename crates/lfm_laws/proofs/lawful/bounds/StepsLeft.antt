@@ -1,5 +1,5 @@
--- How many steps an open call makes at most while its seat alone makes steps: told by the seat's point, by the push word and
--- by how many records the pop list still has room for.
+-- How many steps an open call makes at most while its seat alone makes steps, by the seat's point, by the push word and by how
+-- many records the pop list still has room for.
 use Rattle.std.proofs.Common.{ℕ, Bool, true, false, ◌+◌, ◌≤◌, length, if◌then◌else◌, arith}
 use Rattle.lfm_protocol.specs.declared.points.Carrier.{Carrier}
 use Rattle.lfm_protocol.specs.declared.points.Point.{Point}

@@ -80,7 +80,7 @@ finds_count c s here above unowned some =
     rw (test_of_seat c.seats s here.is, here.at, here.at, ne_eqb c.count 0 (λ none. omega (arith, none, some)))
     (sees_no_owner (put c s y) s (stands_put c s y here.is) above unowned)
 
--- while a handoff is posted nobody owns, and somebody is counted
+-- while a handoff is posted no seat owns, and some seat is counted
 posted_facts : (c : Core) (g : Ghost) → Fits c g → 0 < c.handoff.seat → (c.owner ≡ 0) × (0 < c.count)
 posted_facts c g fits above =
     let place : g.place ≡ posted = posted_of c.seats g.place c.handoff above fits.words.handoff in

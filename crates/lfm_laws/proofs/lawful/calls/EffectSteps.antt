@@ -90,7 +90,7 @@ LeadsToEffects Open x n = n ≡ effects_before x.depth x.point
 LeadsToEffects (Ended answer) x n = TurnsEffects (Ended answer) n
 LeadsToEffects (Refused why) x n = TurnsEffects (Refused why) n
 
--- so it is after a step of this case, of a call that has had so many before
+-- so it is after a step of this case, of a call that has had this number of effects before
 pub record HasEffects (before : ℕ) (case : Option Case) (m : Stepped) : Type 0 where
   pub leads : LeadsToEffects m.turn m.seat (before + effects_of_case case + effects_told m.turn)
 
@@ -189,7 +189,8 @@ loads_grant : (x : SeatState) (sleeper : Sleeper) (w : Wake) → HasEffects 0 (t
 loads_grant x sleeper (Wake.Grant stamp) = record { leads = refl }
 loads_grant x sleeper _ = record { leads = refl }
 
--- a lock has asked before it loads the owner word just where its seat does not hold, and just then it does not find its number
+-- when it loads the owner word, a lock has asked exactly if its seat does not hold, and exactly then it does not find its
+-- number
 loads_owner : (c : Core) (g : Ghost) (s : ℕ) → Fits c g → (seat c.seats s).point ≡ LockOwnerLoad
     → HasEffects (effects_before (seat c.seats s).depth LockOwnerLoad) None (stepped c s)
 loads_owner c g s fits at =

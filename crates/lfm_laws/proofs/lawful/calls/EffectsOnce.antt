@@ -1,4 +1,4 @@
--- A call has one effect at most, and when it is over as many as its turn says.
+-- A call has at most one effect, and when it is over as many as its turn says.
 use Rattle.std.proofs.Common.{◌≡◌, ◌≢◌, ℕ, true, ◌+◌, ◌++◌, List, [], ◌∷◌, nat_eq, refl, sym, ap, inl, inr, arith}
 use Rattle.std.proofs.lemmas.Bool.{cases_Bool, cases_eq, eq-eqb, ne_eqb}
 use Rattle.std.specs.Prelude.{Some, None}
@@ -29,7 +29,7 @@ use Rattle.lfm_laws.proofs.lawful.runs.Reached.{run_keeps}
 use Rattle.lfm_laws.proofs.steady.frames.Entries.{seat-with_same}
 use Rattle.lfm_laws.proofs.steady.frames.Seated.{seat_of_test}
 
--- A change of the depth is an effect just where the turn tells one
+-- A change of the depth is an effect exactly if the turn tells one
 
 none_before : (before after : ℕ) → before ≡ 0 → effects_of_depth before after ≡ 0
 none_before before after none = rw (eq-eqb before 0 none) refl

@@ -137,7 +137,7 @@ releases : (a b : AbstractMutex) (s : ℕ) (effect : AbstractStep a b) → case_
 releases a b s (Abstract.release x moves) named after = same_leaver x s (sym moves.after ∙ after)
 releases a b s _ named after = absurd (cc)
 
--- who joins the seats that ask is whom the seat that made the step asks for
+-- the seat that joins those that ask is the one that the acting seat asks for
 joins_so : (d : Core) (s x y : ℕ) (a b : AbstractMutex) → Reads d a → Reads (step d s).core b → HasNothing a y → Joins a b y
     → asks_for (seat (step d s).core.seats s) s ≡ x → y ≡ x
 joins_so d s x y a b before after nothing joins here =
@@ -207,14 +207,14 @@ no_effect c s x _ other = refl
 -- The walk
 
 module _ (d : Core) (s : ℕ) (a b : AbstractMutex) (steady : Steady d) (is : IsSeat d.seats s) (before : Reads d a) (after : Reads (step d s).core b) where
-  -- an ask where nobody has the mutex
+  -- an ask when nobody has the mutex
   ask_of_free : (x : ℕ) → GoesBy (Some Runs.ask) a b → d.count ≡ 0 → carrying_at s (stepped d s).seat.point ≡ Some (entering x)
       → (effect : AbstractStep a b) × (case_of effect ≡ Runs.ask) × IsAskOf s x effect
   ask_of_free x goes none here =
       let place = carried_so (step d s).core b s (entering x) after (rw (own_after d s is) here) in
       (goes.0, goes.1, asks_free a b s x goes.0 goes.1 ((count_is_zero_where_free d a steady before).0 none) place)
 
-  -- an ask where somebody has it
+  -- an ask when some seat has it
   ask_of_others : (x : ℕ) → GoesBy (Some Runs.ask) a b → d.count ≢ 0 → asks_for (stepped d s).seat s ≡ x
       → (effect : AbstractStep a b) × (case_of effect ≡ Runs.ask) × IsAskOf s x effect
   ask_of_others x goes some here =

@@ -1,4 +1,4 @@
--- A lock or try_lock of a seat that holds makes just the steps that load the owner word, whatever the others do in between.
+-- A lock or try_lock of a seat that holds makes exactly the steps that load the owner word, whatever the others do in between.
 use Rattle.std.proofs.Common.{◌≡◌, ◌≢◌, ℕ, Bool, true, false, List, [], ◌∷◌, refl, sym, ap, ◌∙◌, inl, inr, arith}
 use Rattle.std.proofs.lemmas.Bool.{cases_Bool, cases_eq, cases_lt, eq-eqb, ne_eqb, lt-ltb, le-ltb, false≢true}
 use Rattle.std.specs.Prelude.{Option, Some}

@@ -1,5 +1,5 @@
--- A release ends with the answer that says what its last step did, and each record that leaves the queue is told by the turn of
--- the step that takes it.
+-- A release ends with the answer that says what its last step did, and the turn of the step that takes a record out of the
+-- queue says which record it is.
 use Rattle.std.proofs.Common.{◌≡◌, ℕ, true, false, ◌<◌, List, [], ◌∷◌, length, refl, sym, ap, ◌∙◌, inl, inr, arith}
 use Rattle.std.proofs.lemmas.Bool.{cases_Bool, cases_eq, eq-eqb, ne_eqb}
 use Rattle.std.specs.Prelude.{Option, Some, None}

@@ -17,7 +17,7 @@ use Rattle.lfm_protocol.specs.Turns.{is_open}
 use Rattle.lfm_laws.specs.laws.Charges.{charge_of}
 use Rattle.lfm_laws.proofs.lawful.calls.SeatSteps.{SaysDepth}
 
--- the seat has charged this where its call has opened, and has the depth that its turn says
+-- the seat has charged this if its call has opened, and has the depth that its turn says
 pub record Begun (x : SeatState) (charge : ℕ) (m : Stepped) : Type 0 where
   pub takes : m.seat.takes ≡ x.takes + (if is_open m.turn then charge else 0)
   pub depth : SaysDepth x.depth m.seat.depth m.turn

@@ -177,7 +177,7 @@ waits_as (EnterOwnerStore Entrant.Trier how) answer e = absurd (cc)
 waits_as (EnterOwnerStore Entrant.Receiver how) answer e = absurd (cc)
 waits_as _ answer e = absurd (cc)
 
--- who answers Waiting is at the last point of a start_wait
+-- a seat that answers Waiting is at the last point of a start_wait
 answers_kept : (c : Core) (s : ℕ) (answer : Unlocked) → is_call (seat c.seats s).point ≡ true → (step c s).turn ≡ Ended (Waiting answer) → (seat c.seats s).point ≡ WaitWakeStore answer
 answers_kept c s answer inside turn =
     let is = seat_of_call c s inside in

@@ -1,5 +1,5 @@
--- The records that hang on a seat: where the link of each record of a part of the queue leads to the record before it, the
--- chain from the newest one on is that part, newest first.
+-- The records that hang on a seat: if the link of each record of a part of the queue leads to the record before it, the chain
+-- from the newest one on is that part, newest first.
 use Rattle.std.proofs.Common.{◌≡◌, ℕ, zero, suc, true, ◌+◌, ◌-◌, ◌<◌, ◌≤◌, List, [], ◌∷◌, length, reverse, refl, ap, ◌∙◌, arith}
 use Rattle.std.proofs.lemmas.Bool.{and_from, lt-ltb, eq-eqb, ne_eqb}
 use Rattle.std.proofs.lemmas.List.{reverse-append}
@@ -28,7 +28,7 @@ chain_one most links t l above within here =
     let linked : is_linked links t ≡ true = and_from _ _ (lt-ltb 0 t above) (lt-ltb t (length links + 1) (omega (arith, within))) in
     rw (linked, here) refl
 
--- the newest of so many records and one more, and the one before it
+-- the newest of n + 1 records, and the one before it
 newest_more : (first n : ℕ) (pushed_at : ℕ → ℕ) → newest first (first + suc n) pushed_at ≡ pushed_at (first + suc n)
 newest_more first n pushed_at = rw (ne_eqb first (first + suc n) (λ e. absurd (omega (arith, e)))) refl
 

@@ -76,7 +76,7 @@ claim_deep depth s _ e fits = absurd (false≢true e)
 
 -- Calls
 
--- the place is carried by seat s where it carries, and otherwise this one
+-- the place is carried by seat s if it carries, and otherwise this one
 abbrev carried_or : ℕ → Option Carrying → AbstractPlace → AbstractPlace
 carried_or s None p = p
 carried_or s (Some how) p = carried s how
@@ -136,7 +136,7 @@ waiter_ungranted : (unentered : Bool) (stamp : ℕ) → cond unentered Waiting C
 waiter_ungranted true stamp e = cc
 waiter_ungranted false stamp e = cc
 
--- a seat that has not loaded its grant reads one only where it is granted
+-- a seat that has not loaded its grant reads one only if it is granted
 wake_ungranted : (place : Responsibility) (standing : Standing) (t stamp : ℕ) (p : Point) → has_loaded p ≡ false → wake_at place standing t p ≢ Grant stamp
 wake_ungranted place standing t stamp (ReceiveWakeStore other) unloaded e = false≢true (sym unloaded)
 wake_ungranted place standing t stamp (Asleep Sleeper.Waiter) unloaded e = waiter_ungranted _ stamp e

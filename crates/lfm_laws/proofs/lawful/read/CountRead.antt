@@ -21,7 +21,7 @@ use Rattle.lfm_laws.proofs.lawful.read.RecordsRead.{length-records}
 
 -- the units of a place, by the point of its seat
 
--- the unit that a call which enters has, 2 where none does
+-- the unit that a call which enters has, 2 if none does
 abbrev entering_unit : Responsibility → ℕ
 entering_unit (entering s into stamp) = 1
 entering_unit (accepting s) = 0
@@ -57,7 +57,7 @@ entering_at depth s (SendWakeStore t) enters = refl
 entering_at depth s (ReceiveWakeStore stamp) enters = refl
 entering_at depth s _ enters = absurd (omega (arith, enters))
 
--- the unit of a recursive lock that an owner has, 2 where none owns
+-- the unit of a recursive lock that an owner has, 2 if none owns
 abbrev recursion_unit : Responsibility → ℕ
 recursion_unit (owned s again) = cond again 1 0
 recursion_unit _ = 2
@@ -126,7 +126,7 @@ pub counted_read : (c : Core) (g : Ghost) → Fits c g → IsCounted c (abstract
 counted_read c g fits =
     omega (arith, fits.words.count, fits.words.parts, fits.sums.asking, waiting_read g, own_read c g g.place fits refl, again_read c g g.place fits refl)
 
--- the count is 0 just where nobody has the responsibility
+-- the count is 0 exactly if nobody has the responsibility
 
 zero_free : (place : Responsibility) (count asking pushed popped : ℕ) → count + popped ≡ asking + pushed + own_unit place + again_unit place → WorkFits place asking pushed popped
     → popped ≤ pushed → count ≡ 0 → abstract_place place ≡ free

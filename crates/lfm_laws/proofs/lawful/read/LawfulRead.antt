@@ -70,7 +70,7 @@ entrant_enters s t z stamp Entrant.Locker (How.Queued x) e = cc
 entrant_enters s t z stamp Entrant.Trier how e = cc
 entrant_enters s t z stamp Entrant.Receiver how e = cc
 
--- who brings in another seat is at the store of its grant
+-- a seat that brings in another is at the store of its grant
 enters_another : (depth s t z stamp : ℕ) (p : Point) → s ≢ t → claim_at depth s p ≡ entering z t stamp → p ≡ SendWakeStore t
 enters_another depth s t z stamp (SendWakeStore u) other e = let same : u ≡ t = cc in rw same
 enters_another depth s t z stamp (EnterOwnerStore entrant how) other e = absurd (other (entrant_enters s t z stamp entrant how e))

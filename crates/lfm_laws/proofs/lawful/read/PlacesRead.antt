@@ -155,7 +155,7 @@ below s k above lower same = absurd (omega arith)
 seat_before : (c : Core) (s : ℕ) → IsSeat c.seats s → s - 1 < length c.seats
 seat_before c s is = omega (arith, is.above, is.within)
 
--- no seat has a grant where the place isn't granted
+-- no seat has a grant if the place isn't granted
 grants_none : (c : Core) (g : Ghost) → Fits c g → ((s : ℕ) → passed s ≢ abstract_place g.place) → position has_grant (zip c.wakes c.seats) ≡ None
 grants_none c g fits none =
     position_none has_grant (zip c.wakes c.seats) (Quiet, absent) (λ k within.

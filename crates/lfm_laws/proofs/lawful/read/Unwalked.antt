@@ -1,4 +1,4 @@
--- The seat whose link a carrier loads next is the newest of the records that are still to be walked, and 0 where there are none.
+-- The seat whose link a carrier loads next is the newest of the records that are still to be walked, and 0 if there are none.
 use Rattle.std.proofs.Common.{◌≡◌, ◌≢◌, ℕ, zero, suc, Bool, false, true, ◌+◌, List, [], ◌∷◌, get_or, refl, sym, ◌∙◌, inl, inr, arith}
 use Rattle.std.proofs.lemmas.Bool.{cases_eq, eq-eqb, ne_eqb}
 use Rattle.lfm_model.specs.declared.answers.How.{How}
@@ -43,7 +43,7 @@ unfolding entry
 unwalked_by seats zero next some here idle = absurd (some (sym here))
 unwalked_by seats (suc n) next some here idle = unwalked_one seats n next some here (λ m other. idle (suc m) (λ e. other (omega (arith, e))))
 
--- who walks serves
+-- a seat that walks serves
 serves_not : (depth s : ℕ) (p : Point) → claim_at depth s p ≢ serving s → unwalked_at p ≡ 0
 serves_not depth s (TakeLinkLoad carrier next) other = absurd (other refl)
 serves_not depth s _ other = refl
@@ -69,7 +69,7 @@ enters_walked c g s Entrant.Locker (How.Queued stamp) e knows = knows.0
 enters_walked c g s Entrant.Trier how e knows = absurd (cc)
 enters_walked c g s Entrant.Receiver how e knows = absurd (cc)
 
--- who serves while something is to be walked walks it
+-- a seat that serves while something is to be walked walks it
 serves_walks : (c : Core) (g : Ghost) (s depth posts : ℕ) (p : Point) → claim_at depth s p ≡ serving s → KnowsAt c g s posts p → g.walk ≢ 0
     → unwalked_at p ≡ g.pushed_at (g.popped + g.walk)
 serves_walks c g s depth posts Rest e knows some = absurd (by_depth_serves depth s s false e)

@@ -19,7 +19,7 @@ use Rattle.lfm_laws.proofs.steady.queue.Serving.{queue_of_queued}
 use Rattle.lfm_laws.proofs.steady.handoff.Handoffs.{posted_of}
 use Rattle.lfm_laws.proofs.steady.queue.Pushers.{newest_is}
 
--- nothing being cleared or popped, the push word leads to the queue
+-- if nothing is being cleared or popped, the push word leads to the queue
 pub head_some : (c : Core) (g : Ghost) → Fits c g → g.walk ≡ 0 → c.popped ≡ [] → HasQueue g → 0 < c.push.next
 head_some c g fits walked empty some =
     let none : length c.popped ≡ 0 = ap length empty in
@@ -31,13 +31,13 @@ head_some c g fits walked empty some =
 pub carried_posted : (p : Responsibility) (walk : ℕ) (popped : List Record) → p ≡ posted → CarriedFits p walk popped → (walk ≡ 0) × (popped ≡ [])
 carried_posted p walk popped place fits = rw place at fits
 
--- while a handoff is posted, somebody's record hangs on the push word
+-- while a handoff is posted, some seat's record hangs on the push word
 pub head_posted : (c : Core) (g : Ghost) → Fits c g → g.place ≡ posted → HasQueue g → 0 < c.push.next
 head_posted c g fits place some =
     let carried = carried_posted g.place g.walk c.popped place fits.words.carried in
     head_some c g fits carried.0 carried.1 some
 
--- nothing is granted while a handoff is posted, so who awaits a grant is queued
+-- nothing is granted while a handoff is posted, so a seat that awaits a grant is queued
 pusher_waits : (c : Core) (g : Ghost) (s : ℕ) (pusher : Pusher) → Fits c g → g.place ≡ posted → AwaitsAsPusher g.place s (g.standing s) pusher
     → WatchesAsPusher g pusher → IsQueued c (pushed_seat pusher s)
 pusher_waits c g s Pusher.Locker fits place awaits watches =

@@ -66,7 +66,7 @@ stores_carry : (s : ℕ) (p : Point) → kind p ≡ Some HandoffStore → carryi
 stores_carry s (ReleaseHandoffStore releaser) e = refl
 stores_carry s _ e = absurd (let a = e in cc)
 
--- who stores a post has the responsibility, and so none stands yet
+-- a seat that stores a post has the responsibility, and so none stands yet
 stores_none : (c : Core) (s : ℕ) → Steady c → 0 < c.handoff.seat → kind (seat c.seats s).point ≢ Some HandoffStore
 stores_none c s steady stands e =
     let l = states_are_lawful c steady in
@@ -167,7 +167,7 @@ was_busy c s (e ∷ later) steady knows refused =
     (λ still. was_busy (happens c e).core s later (run_keeps c (e ∷ []) steady) still refused) next))
     (known c e s steady knows)
 
--- The begin: a try_lock that opens stands before its count exchange
+-- The start: a try_lock that opens stands before its count exchange
 
 abbrev Starts : Stepped → Type 0
 Starts x = x.turn ≡ Open → x.seat.point ≡ TryCountExchange

@@ -1,5 +1,5 @@
--- Every event is refused just for its cause: beside the mutex's own, a number that no seat has, a call inside a call, and a step
--- outside of one.
+-- Every event is refused only for its cause: beside the mutex's own, a number that no seat has, a call inside a call, and a
+-- step outside of one.
 use Rattle.std.proofs.Common.{◌≡◌, ℕ, true, false, Option, None, refl, sym, ◌∙◌, inl, inr}
 use Rattle.std.proofs.lemmas.Bool.{cases_Bool, cases_eq, eq-eqb, ne_eqb, false≢true}
 use Rattle.lfm_protocol.specs.declared.answers.Call.{Call}

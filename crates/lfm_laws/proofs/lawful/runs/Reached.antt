@@ -22,7 +22,7 @@ pub use Rattle.lfm_laws.proofs.steady.StepsKept.{made_keeps}
 pub absent_tested : (seats : List SeatState) (s : ℕ) → is_seat seats s ≡ false → seat seats s ≡ absent
 absent_tested seats s none = sym (entry_absent absent seats s none)
 
--- what an event of a steady state leads to, told as it is for a step
+-- what an event of a steady state leads to, in the form of a step's outcome
 abbrev pub Goes : Core → Ghost → Event → Type 0
 Goes c g e = EventOutcome g (happens c e).core (case_of_event c e) (pushed_in c e) (popped_in c e) (answered_in c e)
 

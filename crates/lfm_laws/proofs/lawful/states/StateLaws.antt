@@ -84,7 +84,7 @@ not_carried c g s p fits quiet place own carried =
     let none : is_carried p ≡ false = rw claims at none in
     false≢true (sym none ∙ carried)
 
--- without an open call, who is to load a grant sleeps
+-- without an open call, a seat that is to load a grant sleeps
 quiet_sleeps : (p : Point) → is_call p ≡ false → LoadsItsGrant p → (since : Sleeper) × (p ≡ Asleep since)
 quiet_sleeps (Asleep since) quiet loads = (since, refl)
 quiet_sleeps Rest quiet loads = absurd loads

@@ -52,7 +52,7 @@ claims_wake : (c : Core) (t u : ℕ) (w : Wake) → u ≢ t → wake (claims_wor
 claims_wake c t u Waiting other = entry-with_other Wake.Quiet c.wakes t u Claimed other
 claims_wake c t u _ other = refl
 
--- Each word, where the step is of a kind that touches another one
+-- Each word, if the step is of a kind that touches another one
 
 count_stays : (c : Core) (s t : ℕ) (k : Option Kind) → word_by t k ≢ Some Word.Count → (step_of c s t k).core.count ≡ c.count
 count_stays c s t (Some Kind.CountExchange) other = absurd (other refl)

@@ -44,7 +44,7 @@ queue_pops g h some at pushed popped =
     let fewer : g.pushed - g.popped ≡ suc (g.pushed - (g.popped + 1)) = omega arith in
     rw (at, pushed, popped, fewer)
 
--- a seat is among the records where one of them is its own
+-- a seat is among the records if one of them is its own
 abbrev pub is_among : (ℕ → ℕ) → ℕ → ℕ → ℕ → Bool
 is_among f k n x = list_any (λ w. eqb w x) (map (λ r. r.seat) (records f k n))
 
@@ -69,7 +69,7 @@ queued_or (claimed agent) = inr refl
 queued_or (asks agent) = inr refl
 queued_or (queued stamp) = inl (stamp, refl)
 
--- a seat waits in the abstract mutex just where it stands queued
+-- a seat waits in the abstract mutex exactly if it stands queued
 pub waits_of : (c : Core) (g : Ghost) → Fits c g → (x : ℕ) → waits (abstract g) x ≡ is_queued (g.standing x)
 waits_of c g fits x =
     let parts : g.popped ≤ g.pushed = omega (arith, fits.words.parts) in

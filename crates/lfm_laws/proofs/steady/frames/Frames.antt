@@ -311,7 +311,7 @@ moves_on c g s y count owner wakes place answered is fits errands sized woken se
       sizes = sizes_after c _ s y refl refl sized refl fits.sizes;
     }
 
--- the words fit as they did, where the count, the owner and the place stay
+-- the words fit as they did, if the count, the owner and the place stay
 pub words_stay : (c : Core) (g : Ghost) (s : ℕ) (y : SeatState) (wakes : List Wake) → WordsFit c g → WordsFit (moved c s y c.count c.owner wakes) g
 words_stay c g s y wakes words =
     record {
@@ -360,7 +360,7 @@ IsOf s (accepting t) = t ≡ s
 IsOf s (leaving t) = t ≡ s
 IsOf s (serving t) = t ≡ s
 
--- Where the claim of a seat, or the place, tells the other
+-- When the claim of a seat, or the place, tells the other
 
 holder_of : (t s : ℕ) (p q : Responsibility) → q ≢ nobody → q ≡ cond (eqb t s) p nobody → p ≡ q
 holder_of t s p q some e =

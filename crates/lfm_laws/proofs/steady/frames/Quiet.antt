@@ -13,7 +13,7 @@ use Rattle.lfm_protocol.specs.Seats.{wake, IsSeat}
 use Rattle.lfm_protocol.specs.declared.seats.SeatState.{SeatState}
 use Rattle.lfm_laws.proofs.steady.frames.Frames.{Errands, view_moves}
 
--- a wake word goes on where it would for a seat to which nothing is granted
+-- a wake word stays the same if it would for a seat to which nothing is granted
 pub wake_by_same : (grant : Option ℕ) (place : Responsibility) (standing later : Standing) (s : ℕ) (p q : Point) → wake_at place standing s p ≡ wake_at place later s q
     → wake_by grant place standing s p ≡ wake_by grant place later s q
 wake_by_same (Some stamp) place standing later s p q same = refl

@@ -1,4 +1,4 @@
--- No begin and no step changes the number of seats.
+-- No start of a call and no step changes the number of seats.
 use Rattle.std.proofs.Common.{◌≡◌, ℕ, Bool, true, false, Option, Some, None, length, refl, ap, if◌then◌else◌, ◌∙◌}
 use Rattle.lfm_protocol.specs.declared.answers.Call.{Call}
 use Rattle.lfm_protocol.specs.declared.kinds.Kind.{Kind}

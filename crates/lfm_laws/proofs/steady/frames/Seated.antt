@@ -34,7 +34,7 @@ seat_of_point seats s moved =
 pub seat_of_stamp : (c : Core) (g : Ghost) (stamp : ℕ) → Fits c g → g.popped < stamp → stamp ≤ g.pushed → IsSeat c.seats (g.pushed_at stamp)
 seat_of_stamp c g stamp fits above within = seat_of_queued c g (g.pushed_at stamp) stamp fits (fits.stamps stamp above within).stands
 
--- the test of a number says just whether a seat has it
+-- the test of a number says exactly whether a seat has it
 pub seat_of_test : (seats : List SeatState) (s : ℕ) → is_seat seats s ≡ true → IsSeat seats s
 seat_of_test seats s is =
     record { above = search (tests, arith, is); within = search (tests, arith, is) }

@@ -46,7 +46,7 @@ pub sum_bound : (n b : ℕ) (f : ℕ → ℕ) → ((i : ℕ) → f i ≤ b) → 
 sum_bound zero b f most = omega arith
 sum_bound (suc n) b f most = let below = sum_bound n b f most in let last = most (suc n) in omega (arith, suc-mul n b)
 
--- the same where one of them is less
+-- the same if one of them is less
 pub sum_bound_less : (n b i : ℕ) (f : ℕ → ℕ) → 0 < i → i ≤ n → ((j : ℕ) → f j ≤ b) → f i + 1 ≤ b → sum_to f n + 1 ≤ n * b
 sum_bound_less zero b i f above within most less = absurd (omega arith)
 sum_bound_less (suc n) b i f above within most less =

@@ -19,7 +19,7 @@ woken_asleep place standing u (Asleep Sleeper.Waiter) sleeps = refl
 woken_asleep place standing u (ReceiveWakeLoad Sleeper.Waiter) sleeps = refl
 woken_asleep place standing u _ sleeps = absurd (cc sleeps)
 
--- its wake word where nothing is granted to it
+-- its wake word if nothing is granted to it
 pub wake_asleep : (c : Core) (g : Ghost) (u : ℕ) (x : SeatState) (w : Wake) → sleeps_as_waiter x.point ≡ true → grant_at g.place u ≡ None → SeatFits c g u x w
     → w ≡ wake_of_waiter g.place (g.standing u) u
 wake_asleep c g u x w sleeps none fits = fits.woken ∙ rw none (woken_asleep g.place (g.standing u) u x.point sleeps)
@@ -57,8 +57,8 @@ claim_asleep depth u (Asleep Sleeper.Waiter) sleeps = refl
 claim_asleep depth u (ReceiveWakeLoad Sleeper.Waiter) sleeps = refl
 claim_asleep depth u _ sleeps = absurd (cc sleeps)
 
--- so it fits where it stands anew, as long as nothing is granted to it: its wake word, its record in the queue and what it pays
--- are to be told
+-- so it fits if it stands anew, as long as nothing is granted to it: its wake word, its record in the queue and what it pays
+-- are premises
 pub sleeper_fits : (c d : Core) (g h : Ghost) (u : ℕ) (x : SeatState) (w v : Wake) → sleeps_as_waiter x.point ≡ true → SeatFits c g u x w
     → d.handoff ≡ c.handoff → d.budget ≡ c.budget → held_by h.place u ≡ held_by g.place u → grant_at h.place u ≡ None
     → v ≡ wake_of_waiter h.place (h.standing u) u → (is_entered h.place u ≡ true → held_by h.place u ≡ nobody → h.standing u ≡ apart)
@@ -84,7 +84,7 @@ sleeper_fits c d g h u x w v sleeps fits handoff budget held none woken entered 
 pub not_apart : (s : ℕ) (standing : Standing) → standing ≡ claimed s → standing ≡ apart → ⊥
 not_apart s standing e f = cc
 
--- nothing is granted to a seat at a point where it doesn't wait for a grant
+-- nothing is granted to a seat at a point at which it doesn't wait for a grant
 pub ungranted_at : (c : Core) (g : Ghost) (s : ℕ) (x : SeatState) (w : Wake) → awaits_grant x.point ≡ false → SeatFits c g s x w → grant_at g.place s ≡ None
 ungranted_at c g s x w awake fits = none_from (grant_at g.place s) (λ some. absurd (cc (fits.granted some).0))
 

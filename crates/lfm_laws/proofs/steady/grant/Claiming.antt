@@ -1,5 +1,5 @@
--- The two steps by which a send changes how its target stands: it claims a seat that waits, and it brings the seat that it
--- has claimed in where the count was 0.
+-- The two steps by which a send changes how its target stands: it claims a seat that waits, and, if the count was 0, it brings
+-- in the seat that it has claimed.
 use Rattle.std.proofs.Common.{◌≡◌, ◌≢◌, ℕ, true, false, ◌+◌, ◌≤◌, List, refl, sym, ap, ◌∙◌, arith}
 use Rattle.std.proofs.lemmas.Bool.{eq-eqb, ne_eqb}
 use Rattle.lfm_protocol.specs.declared.seats.SeatState.{SeatState}
@@ -45,7 +45,7 @@ claimed_fits c g s u x waits here =
     sleeper_fits c c g (claiming g s u) u x Waiting Claimed waits.sleeps here refl refl refl waits.ungranted (rw now refl)
     (λ into none. let f = sym into ∙ waits.unentered in absurd (cc)) (λ stamp e. let f = sym now ∙ e in absurd (cc)) (rw now due) here.watches
 
--- a queued seat stays queued where one stands anew that was not
+-- a queued seat stays queued if a seat stands anew that was not
 queued_on : (g : Ghost) (u : ℕ) (standing : Standing) → is_queued (g.standing u) ≡ false → (t : ℕ) → is_queued (g.standing t) ≡ true
     → is_queued (changed g.standing u standing t) ≡ true
 queued_on g u standing unqueued t is =
@@ -125,7 +125,7 @@ claim_moves c g s u y is fits claims =
       sizes = sizes_after c _ s y refl refl (length-with_entry c.wakes u Claimed) refl fits.sizes;
     }
 
--- The count of a claimed seat where the count was 0
+-- The count of a claimed seat if the count was 0
 
 -- seat s brings seat u in
 abbrev pub bringing : Ghost → ℕ → ℕ → Ghost

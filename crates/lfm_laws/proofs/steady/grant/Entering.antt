@@ -17,7 +17,7 @@ use Rattle.lfm_laws.specs.steady.Views.{claim_to_enter, held_by, grant_at, wake_
 use Rattle.lfm_laws.proofs.steady.frames.Frames.{place_moves}
 use Rattle.lfm_laws.proofs.steady.frames.Histories.{history_stays}
 
--- The count is 0 just where the responsibility lies with nobody
+-- The count is 0 exactly if the responsibility lies with nobody
 
 place_of_none : (p : Responsibility) (count asking pushed popped : ℕ) → popped ≤ pushed → count + popped ≡ asking + pushed + own_unit p + again_unit p
     → WorkFits p asking pushed popped → count ≡ 0 → p ≡ nobody

@@ -16,7 +16,7 @@ use Rattle.lfm_laws.proofs.steady.grant.Granted.{awaits_waiter, granted_seat}
 use Rattle.lfm_laws.proofs.steady.grant.Granting.{Rests, granter, grant_of_other}
 use Rattle.lfm_laws.proofs.steady.handoff.Handing.{handed, each_after_two}
 
--- Who awaits a grant is a seat
+-- A seat that awaits a grant is a seat of the mutex
 
 absent_awaits_none : (x : SeatState) → x ≡ absent → awaits_grant x.point ≡ true → ⊥
 absent_awaits_none x none awaits = false≢true (rw none at awaits)

@@ -1,4 +1,4 @@
--- A seat joins the seats that ask: counted by its own lock, or by the send that has claimed it, where the count was not 0.
+-- A seat joins the seats that ask: counted by its own lock, or, if the count was not 0, by the send that has claimed it.
 use Rattle.std.proofs.Common.{◌≡◌, ◌≢◌, ℕ, true, false, ◌||◌, nat_eq, ◌+◌, ◌<◌, ◌≤◌, Some, None, length, inl, inr, refl, sym, ap, ◌∙◌, arith}
 use Rattle.std.proofs.lemmas.Bool.{cases_eq, eq-eqb, ne_eqb}
 use Rattle.std.proofs.Math.Bool.{or-false}

@@ -1,4 +1,4 @@
--- What stays where one seat moves on with its posts and one seat stands anew.
+-- What stays when one seat moves on with its posts and one seat stands anew.
 use Rattle.std.proofs.Common.{◌≡◌, ◌≢◌, ℕ, false, ◌+◌, ◌<◌, ◌≤◌, List, length, sym, ap, ◌∙◌, inl, inr}
 use Rattle.std.proofs.lemmas.Bool.{cases_eq}
 use Rattle.lfm_protocol.specs.declared.seats.SeatState.{SeatState}

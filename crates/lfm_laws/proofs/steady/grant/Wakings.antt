@@ -37,7 +37,7 @@ no_grant_by : (waits : Bool) (stamp : ℕ) → Grant stamp ≢ cond waits Waitin
 no_grant_by true stamp e = cc
 no_grant_by false stamp e = cc
 
--- a sleeper finds a grant only where it was granted it
+-- a sleeper finds a grant only if it was granted it
 granted_by : (o : Option ℕ) (place : Responsibility) (standing : Standing) (s stamp : ℕ) (sleeper : Sleeper)
     → Grant stamp ≡ wake_by o place standing s (ReceiveWakeLoad sleeper) → o ≡ Some stamp
 granted_by (Some k) place standing s stamp sleeper e = cc

@@ -19,7 +19,7 @@ seat_at x depth p deep at i = record { depth = deep i; takes = x.takes; posts = 
 pub held_own : (s : ℕ) (p q : Responsibility) → p ≡ cond (eqb s s) p q
 held_own s p q = sym (cond-true (eqb s s) p q (eq-eqb s s refl))
 
--- where a record stands in the queue is told by the pushes and pops alone
+-- the pushes and pops alone tell where a record stands in the queue
 pub listed_same : (g h : Ghost) (s stamp : ℕ) → h.pushed_at ≡ g.pushed_at → h.pushed ≡ g.pushed → h.popped ≡ g.popped → QueuedFits g s stamp → QueuedFits h s stamp
 listed_same g h s stamp at pushed popped fits =
     record { above = omega (arith, fits.above); within = omega (arith, fits.within); here = ap (λ f. f stamp) at ∙ fits.here }

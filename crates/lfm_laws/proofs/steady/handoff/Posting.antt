@@ -41,7 +41,7 @@ asker_of c g fits i above (agent, stands) = let whose : asks_for (seat c.seats a
 asker_at : (c : Core) (g : Ghost) → Fits c g → (i : ℕ) × (0 < i) × (i ≤ length c.seats) × (0 < asking_unit (g.standing i)) → (w : ℕ) × (0 < asks_for (seat c.seats w) w)
 asker_at c g fits (i, above, within, some) = asker_of c g fits i above (agent_of (g.standing i) some)
 
--- where some seat asks, some seat is to push it
+-- if some seat asks, some seat is to push it
 pub asker : (c : Core) (g : Ghost) → Fits c g → 0 < g.asking → (w : ℕ) × (0 < asks_for (seat c.seats w) w)
 asker c g fits some = asker_at c g fits (sum_witness (length c.seats) (λ s. asking_unit (g.standing s)) (omega (arith, fits.sums.asking)))
 

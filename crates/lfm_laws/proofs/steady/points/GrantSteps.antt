@@ -31,7 +31,7 @@ use Rattle.lfm_laws.proofs.steady.frames.Seated.{seat_of_queued}
 
 -- A grant of the oldest record
 
--- where a call stands that has granted seat u
+-- the point of a call that has granted seat u
 abbrev released : Releaser → ℕ → Point
 released Unlocker u = Rest
 released Waiter u = WaitWakeStore (Granted u)

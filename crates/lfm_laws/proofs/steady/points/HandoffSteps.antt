@@ -1,4 +1,5 @@
--- The handoff exchanges: who wins one carries the responsibility on, and who loses it sleeps, ends or goes on to wait.
+-- The handoff exchanges: the call that wins one carries the responsibility on, and the one that loses it sleeps, ends or goes
+-- on to wait.
 use Rattle.std.proofs.Common.{◌≡◌, ℕ, Bool, true, false, ◌-◌, ◌<◌, ◌||◌, Some, refl, ap, ◌∙◌, inl, inr, arith}
 use Rattle.std.proofs.lemmas.Bool.{cases_Bool}
 use Rattle.lfm_model.specs.Abstract.{AbstractMutex, Moves, carried}
@@ -39,7 +40,7 @@ or_none : (b : Bool) → (b || false) ≡ true → b ≡ true
 or_none true e = refl
 or_none false e = e
 
--- who has pushed and takes the responsibility over stands and owes as its carrier
+-- a pusher that takes the responsibility over stands and owes as its carrier
 stands_to_carry : (s : ℕ) (standing : Standing) (pusher : Pusher) → AwaitsAsPusher posted s standing pusher → StandsAsCarrier standing (carrier_of pusher)
 stands_to_carry s standing Pusher.Locker stands = or_none (is_queued standing) stands
 stands_to_carry s standing (Pusher.Sender t) stands = stands
@@ -277,7 +278,7 @@ poster_takes c g s releaser takes posts is at won fits =
       history = history_stays g h refl refl refl refl;
     })
 
--- somebody else has taken it over
+-- another call has taken it over
 poster_loses : (c : Core) (g : Ghost) (s : ℕ) (releaser : Releaser) (takes posts : ℕ) → IsSeat c.seats s
     → seat c.seats s ≡ record { depth = 0; takes = takes; posts = posts; point = ReleaseHandoffExchange releaser } → same_handoff c.handoff (record { seat = s; post = posts }) ≡ false → Fits c g
     → Kept c g s

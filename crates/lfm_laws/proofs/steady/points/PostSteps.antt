@@ -37,7 +37,7 @@ queued_for c g s watcher none who watched =
       | inr asking ↦ let some = subst (λ (w : ℕ). 0 < asks_for (seat c.seats w) w) who asking in absurd (omega arith)
     ]
 
--- Watched from its first moment: by the poster, which is yet to recheck, where somebody is queued; otherwise by a seat that asks,
+-- Watched from its first moment: if somebody is queued, by the poster, which is yet to recheck; otherwise by a seat that asks,
 -- or that is to push one
 handoff_stored : (c : Core) (g : Ghost) (s watcher : ℕ) (releaser : Releaser) (takes posts : ℕ) → IsSeat c.seats s
     → seat c.seats s ≡ record { depth = 0; takes = takes; posts = posts; point = ReleaseHandoffStore releaser }
@@ -112,7 +112,7 @@ head_of_queue c g fits at some zero =
     let stands : g.standing (g.pushed_at g.pushed) ≡ queued g.pushed = (fits.stamps g.pushed some (omega arith)).stands in
     nobody_queued c g g.pushed fits (rw newest at stands)
 
--- nobody was pushed: whoever watches is another seat
+-- nobody was pushed: the watcher is another seat
 recheck_finds_none : (c : Core) (g : Ghost) (s : ℕ) (releaser : Releaser) (takes posts : ℕ) → IsSeat c.seats s
     → seat c.seats s ≡ record { depth = 0; takes = takes; posts = posts; point = ReleasePushRecheck releaser } → c.push.next ≡ 0 → Fits c g → Kept c g s
 recheck_finds_none c g s releaser takes posts is at empty fits =

@@ -1,5 +1,5 @@
--- The push exchange: where it finds the push word as it was seen it queues the seat, and where not it goes back to its link
--- store with what it found.
+-- The push exchange: if it finds the push word as it was seen, it queues the seat, and otherwise it goes back to its link store
+-- with what it found.
 use Rattle.std.proofs.Common.{◌≡◌, ℕ, not, ◌+◌, ◌≤◌, ◌<◌, ◌&&◌, Some, [], ◌∷◌, length, refl, sym, ap, ◌∙◌, arith, inl, inr, nat_eq}
 use Rattle.std.proofs.lemmas.Bool.{cases_eq, cases_Bool, eq-eqb, ne_eqb}
 use Rattle.lfm_model.specs.Abstract as Abstract

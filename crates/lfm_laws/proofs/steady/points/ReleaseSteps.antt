@@ -68,7 +68,7 @@ at_ReleaseOwnerStore c g s releaser is at fits =
     let here = rw at at (fits.each s) in
     owner_stored c g s releaser _ _ is (seat_at (seat c.seats s) 1 _ here.depth at) fits
 
--- who has released gives back and goes on as the others let it
+-- a seat that has released gives back and goes on as the others let it
 leaves_by : (a b : AbstractMutex) (s : ℕ) (to : AbstractPlace) → GoesFrom a s to → Moves a b (carried s Abstract.leaving) to → GoesBy (Some Case.leave) a b
 leaves_by a b s to goes moves = (leave s to goes moves, refl)
 
@@ -118,7 +118,7 @@ left c g s releaser takes posts is at one fits =
       history = released_history g h s x releaser Unlocked.Free (history_stays g h refl refl refl refl);
     })
 
--- somebody else asks or is queued, and the pop list is empty
+-- another seat asks or is queued, and the pop list is empty
 leaves_to_clear : (c : Core) (g : Ghost) (s : ℕ) (releaser : Releaser) (takes posts : ℕ) → IsSeat c.seats s
     → seat c.seats s ≡ record { depth = 0; takes = takes; posts = posts; point = ReleaseCountSubtract releaser } → c.count ≢ 1 → c.popped ≡ [] → Fits c g → Kept c g s
 leaves_to_clear c g s releaser takes posts is at more none fits =

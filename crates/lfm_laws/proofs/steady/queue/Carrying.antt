@@ -17,7 +17,7 @@ use Rattle.lfm_laws.proofs.steady.frames.Frames.{Sees, SeatFits_seen, Errands, e
 abbrev pub carried_core : Core → ℕ → List Record → Core
 carried_core c head popped = record c { push = record { stamp = c.push.stamp; next = head }; popped = popped }
 
--- the ghost with so many records to walk
+-- the ghost with this number of records to walk
 abbrev pub walking : Ghost → ℕ → Ghost
 walking g walk = record g { walk = walk }
 

@@ -60,7 +60,8 @@ first_record_is g r stamp here = λ i. record { seat = sym here i; stamp = stamp
 pub queued_injective : (m n : ℕ) → queued m ≡ queued n → m ≡ n
 queued_injective m n e = cc
 
--- the ghost once the record of seat u has left the queue, the responsibility lying here, and so many having answered
+-- the ghost once the record of seat u has left the queue, with the responsibility here, and this number of seats having
+-- answered
 abbrev pub popped_to : Ghost → ℕ → Responsibility → ℕ → Ghost
 popped_to g u place answered =
     record g { place = place; standing = changed g.standing u apart; popped = g.popped + 1; answered = answered }

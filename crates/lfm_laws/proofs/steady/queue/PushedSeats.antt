@@ -1,5 +1,5 @@
--- The two seats that a push changes: the pushed one, which sleeps since its start_wait where another seat pushes it, and the
--- one that pushes.
+-- The two seats that a push changes: the pushed one, which sleeps since its start_wait if another seat pushes it, and the one
+-- that pushes.
 use Rattle.std.proofs.Common.{◌≡◌, ◌≢◌, ℕ, ◌+◌, ◌≤◌, refl, sym, ◌∙◌, arith}
 use Rattle.lfm_protocol.specs.declared.points.Point.TheVariants.{PushExchange, PushedHandoffLoad}
 use Rattle.lfm_protocol.specs.declared.points.Pusher.{Pusher}

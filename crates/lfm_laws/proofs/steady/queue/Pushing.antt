@@ -137,11 +137,11 @@ sums_pushed seats s u g above within asked sums =
 
 -- The other seats
 
--- a push is seen by a higher stamp alone
+-- a push is seen by its higher stamp alone
 seen_on : (push seen l : Link) (u : ℕ) → push.stamp ≡ seen.stamp → IsSeen push l → IsSeen (record { stamp = seen.stamp + 1; next = u }) l
 seen_on push seen l u same known = record { older = omega (arith, known.older); same = λ e. absurd (omega (arith, known.older)) }
 
--- a seat stays queued where another is queued
+-- a seat stays queued when another is queued
 stays_queued : (f : ℕ → Standing) (u v : ℕ) (new : Standing) → is_queued new ≡ true → is_queued (f v) ≡ true → is_queued (changed f u new v) ≡ true
 stays_queued f u v new is was =
     elim (cases_eq v u) [

@@ -1,4 +1,4 @@
--- Where a carrier goes on that has walked a record: to the link of the next one, or to serve the queue's first record.
+-- Where a carrier that has walked a record goes on: to the link of the next one, or to serve the queue's first record.
 use Rattle.std.proofs.Common.{◌≡◌, ◌≢◌, ℕ, ◌+◌, ◌-◌, ◌≤◌, ◌∷◌, refl, sym, ap, ◌∙◌, inl, inr, arith}
 use Rattle.std.proofs.lemmas.Bool.{cases_eq, eq-eqb, ne_eqb}
 use Rattle.lfm_protocol.specs.declared.points.Carrier.{Carrier}

@@ -58,7 +58,7 @@ walked_stamps c g r fits some stamp above within =
       walked = λ upto. old.walked (omega (arith, upto));
     }
 
--- the carrier goes on to a point where it may serve with one record less to walk
+-- the carrier goes on to a point at which it may serve with one record less to walk
 pub walks : (c : Core) (g : Ghost) (s t : ℕ) (carrier : Carrier) (p : Point) → IsSeat c.seats s → (seat c.seats s).point ≡ TakeLinkLoad carrier t → Fits c g → Finds c g t
     → Errands c s (record (seat c.seats s) { point = p })
     → Goes (walked_on c t) (walking g (g.walk - 1)) s (seat c.seats s) (wake c.wakes s) p

@@ -2,7 +2,7 @@ use Rattle.std.proofs.Common.{◌≡◌, ℕ, ◌+◌, ◌<◌, [], length, get_
 use Rattle.lfm_script.specs.Rows.{row_of, refusal_at}
 use Rattle.lfm_script.proofs.counted_rows.rows_of.Given as goal
 
--- so many workers have a row, in which nothing is counted yet
+-- the workers so far have a row, in which nothing is counted yet
 abbrev pub invariant-making : goal.invariant-making
 invariant-making l = record {
   room : vec_capacity l.rows ≡ length l.refusals;

@@ -51,7 +51,7 @@ starting-preserved g c = let i = c.starting.invariant in let steps = c.in-Some.e
       given = each_more _ _ _ _ c.push_reserved.ensures.items i.given (c.in-Some.job, first_comes _ _ _ _ _ steps.0 i.rest, has);
     }
 
--- every job has been given, at the line where it was decided
+-- every job has been given, at the starting line of this decision
 given : (g : _) (c : goal.In-None g) (line : ℕ) (task : _) → line ≡ c.captures.at_line.now.start.id → task ≡ c.captures.task.now
     → AllHaveJobs g.K.Task task line c.of-all_jobs.result.value.items c.starting.workers.items
 given g c line task at is = subst (λ t. AllHaveJobs g.K.Task t line c.of-all_jobs.result.value.items c.starting.workers.items) (sym is)

@@ -2,10 +2,14 @@
 use Rattle.std.proofs.Common.{◌≡◌, ℕ, ◌+◌, ◌≤◌, Option, Some, None, is_some, true, refl, sym, ◌∙◌, ap, subst, arith, slice_index}
 use Rattle.lfm_model.specs.declared.answers.How.{How}
 use Rattle.lfm_protocol.specs.declared.limits.Limits.{Limits}
-use Rattle.lfm_mutex.specs.calls.Sight.{Sight, Gains, LeavesOff, MayLeave}
+use Rattle.lfm_mutex.specs.declared.seat.Seat.{Seat}
+use Rattle.lfm_mutex.specs.calls.Sight.{Sight, sight, Gains, LeavesOff, MayLeave}
+use Rattle.lfm_mutex.specs.calls.WakeUps.{grants_of}
+use Rattle.lfm_mutex.specs.calls.Woken.{WakesNobody, WokenAsGranted}
 use Rattle.lfm_condvar.specs.declared.waiters.Waiters.{Waiters}
 use Rattle.lfm_condvar.specs.Keeping.{WaitersFollow}
 use Rattle.lfm_condvar.specs.Holds.{CountsKnown, CondKept, StepsOfOneHold, HeldOnce, InHand, LeavesList, LocksList, MadeFor, Rewrites}
+use Rattle.lfm_mutex.proofs.runs.Woken.{woken_join, woken_none}
 use Rattle.lfm_condvar.proofs.Followed.{since_reached}
 
 abbrev pub WaitersFit : Waiters → ℕ → Type 0
@@ -106,3 +110,7 @@ held_by own tries s t u z v w l r k = record {
   changes = r.1 ∙ ap (λ o. record t { value = o }) (sym (ap (λ (y : Sight Waiters). y.value) r.1));
   leaves = k;
 }
+
+-- who locks the list, changes it and gives it back wakes those whom the lock and the unlock granted it
+pub woken_in_hold : (c l h d : Seat Waiters) (v w : Waiters) → WokenAsGranted c l → WakesNobody l h → Rewrites (sight l) (sight h) v w → WokenAsGranted h d → WokenAsGranted c d
+woken_in_hold c l h d v w locks nobody r leaves = woken_join c h d (woken_join c l h locks (woken_none l h nobody (ap (λ (s : Sight Waiters). grants_of s.trail) r.1))) leaves

@@ -3,6 +3,7 @@ use Rattle.std.specs.Prelude.{◌≡◌, ℕ}
 use Rattle.lfm_protocol.specs.declared.limits.Limits.{Limits}
 use Rattle.lfm_mutex.specs.Belongs.{OfMutex, limits_of, tries_of}
 use Rattle.lfm_mutex.specs.calls.Sight.{Sight, sight}
+use Rattle.lfm_mutex.specs.calls.Woken.{WokenAsGranted}
 use Rattle.lfm_condvar.specs.declared.condvar.Condvar.{Condvar}
 use Rattle.lfm_condvar.specs.declared.cond_seat.CondSeat.{CondSeat}
 use Rattle.lfm_condvar.specs.declared.waiters.Waiters.{Waiters}
@@ -19,6 +20,10 @@ cond_tries v = tries_of v.inner
 -- how a cond seat is seen
 abbrev pub cond_sight : CondSeat → Sight Waiters
 cond_sight c = sight c.seat
+
+-- from one to the other, the cond seat has woken just those that it granted the list, in order
+abbrev pub CondWokenAsGranted : CondSeat → CondSeat → Type 0
+CondWokenAsGranted c d = WokenAsGranted c.seat d.seat
 
 -- the cond seat is one of the condvar's
 abbrev pub OfCondvar : CondSeat → Condvar → Type 0

@@ -40,7 +40,7 @@ SentAsInTheModel before after x y (Ok (Some p)) = SentAndRemoved before after (r
 SentAsInTheModel before after x y (Ok None) = SentAndRemoved before after [] x y × (y.waiters ≡ [])
 SentAsInTheModel before after x y (Err r) = SentAndRemoved before after [] x y
 
--- a send of all, which ends at an empty list, or at a waiter that was not waiting
+-- a send of all, which ends at an empty list, or is refused while a waiter is left
 abbrev pub AllSentAsInTheModel : List ℕ → List ℕ → Condvar → Condvar → Result ℕ Refusal → Type 0
 AllSentAsInTheModel before after x y (Ok k) = (gone : List Waiter) × SentAndRemoved before after gone x y × (k ≡ length gone) × (y.waiters ≡ [])
 AllSentAsInTheModel before after x y (Err r) = (gone : List Waiter) × SentAndRemoved before after gone x y × (w : Waiter) × (rest : List Waiter) × (y.waiters ≡ w ∷ rest)

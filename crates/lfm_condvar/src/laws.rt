@@ -17,8 +17,8 @@ pub use lfm_condvar_laws::{claims, lists, user_mutex, waits};
 use lfm_mutex::Kept;
 
 /// The list of a running condvar goes as that of the model. `enlist` puts an unlisted seat at its end, with the model's ticket,
-/// and refuses a listed one as Busy. A send sends and removes the oldest. A send of all goes on to an empty list, or a seat that was
-/// not waiting.
+/// and refuses only a listed one as Busy. A send sends and removes the oldest. A send of all sends and removes one after another,
+/// until the list is empty, or until it is refused, with a seat left.
 ///
 /// Definition: `ListsGoAsTheModel` in `specs/Modelled.antt`. Proof: `proofs/Modelled.antt`.
 pub fn lists_go_as_the_model<T: Kept>()

@@ -4,7 +4,7 @@ ghost use Rattle.std.specs.Prelude.{◌≤◌};
 ghost use Rattle.lfm_mutex.specs.Belongs.{Beside, OfMutex, limits_of};
 ghost use Rattle.lfm_mutex.specs.calls.Sight.{sight};
 ghost use Rattle.lfm_mutex.specs.calls.Woken.{WokenAsGranted};
-ghost use Rattle.lfm_condvar.specs.Belongs.{OfCondvar, cond_limits, cond_sight, cond_tries};
+ghost use Rattle.lfm_condvar.specs.Belongs.{CondWokenAsGranted, OfCondvar, cond_limits, cond_sight, cond_tries};
 ghost use Rattle.lfm_condvar.specs.Wakes.{SendsBy, WakeAllEnds, WakeOneEnds};
 
 use crate::cond_seat::CondSeat;
@@ -34,6 +34,7 @@ impl Condvar {
         requires belongs { OfCondvar cond.old self.now × OfMutex seat.old mutex.now }
         requires wide { (cond_limits self.now).seats ≤ (limits_of mutex.now).seats }
         ensures belongs { OfCondvar cond.new self.now × Beside seat.old seat.new }
+        ensures cond_woken { CondWokenAsGranted cond.old cond.new }
         ensures woken { WokenAsGranted seat.old seat.new }
         ensures wakes { WakeOneEnds (limits_of mutex.now).seats (cond_limits self.now) (cond_tries self.now) (cond_sight cond.old) (cond_sight cond.new) (sight seat.old) (sight seat.new) result }
         ensures steps { SendsBy (limits_of mutex.now) (sight seat.old) (sight seat.new) result }
@@ -65,6 +66,7 @@ impl Condvar {
         requires belongs { OfCondvar cond.old self.now × OfMutex seat.old mutex.now }
         requires wide { (cond_limits self.now).seats ≤ (limits_of mutex.now).seats }
         ensures belongs { OfCondvar cond.new self.now × Beside seat.old seat.new }
+        ensures cond_woken { CondWokenAsGranted cond.old cond.new }
         ensures woken { WokenAsGranted seat.old seat.new }
         ensures wakes { WakeAllEnds (limits_of mutex.now).seats (cond_limits self.now) (cond_tries self.now) (cond_sight cond.old) (cond_sight cond.new) (sight seat.old) (sight seat.new) result }
         ensures steps { SendsBy (limits_of mutex.now) (sight seat.old) (sight seat.new) result }

@@ -1,6 +1,6 @@
 //! `wake`, which completes a call that was made without waking.
 ghost use Rattle.std.specs.Prelude.{◌≡◌, ℕ, ◌≤◌, ◌++◌, Some};
-ghost use Rattle.lfm_mutex.specs.Belongs.{Beside, limits_of};
+ghost use Rattle.lfm_mutex.specs.Belongs.{Beside, OfMutex, limits_of};
 ghost use Rattle.lfm_mutex.specs.calls.Sight.{sight};
 ghost use Rattle.lfm_mutex.specs.calls.WakeUps.{as_list};
 ghost use Rattle.lfm_mutex.specs.calls.Woken.{woken_of};
@@ -24,7 +24,8 @@ impl<T: Kept> Mutex<T> {
     /// `wake`, for a call that was made with this seat: the seat that it wakes is the next that this one has woken.
     #[inline(always)]
     pub fn wake_from(&self, seat: &mut Seat<T>, wake_up: Option<WakeUp>)
-        requires { (t : ℕ) → wake_up ≡ Some t → t ≤ (limits_of self.now).seats }
+        requires belongs { OfMutex seat.old self.now }
+        requires inside { (t : ℕ) → wake_up ≡ Some t → t ≤ (limits_of self.now).seats }
         ensures belongs { Beside seat.old seat.new }
         ensures same { sight seat.new ≡ sight seat.old }
         ensures woken { woken_of seat.new ≡ woken_of seat.old ++ as_list wake_up }

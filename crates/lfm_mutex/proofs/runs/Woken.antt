@@ -21,7 +21,7 @@ use Rattle.lfm_mutex.specs.declared.seat.Seat.{Seat}
 use Rattle.lfm_mutex.specs.calls.Barging.{FailedTries, TriesBy}
 use Rattle.lfm_mutex.specs.calls.Runs.{trail_of}
 use Rattle.lfm_mutex.specs.calls.Sight.{Sight, sight}
-use Rattle.lfm_mutex.specs.calls.Trails.{CallEnds, Makes, MakesCall, FindNone, ReceivesBy}
+use Rattle.lfm_mutex.specs.calls.Trails.{CallEnds, Makes, MakesCall}
 use Rattle.lfm_mutex.specs.calls.WakeUps.{as_list, grants_of}
 use Rattle.lfm_mutex.specs.calls.Woken.{woken_of, WakesNobody, WokenAsGranted}
 use Rattle.lfm_mutex.proofs.runs.ShortCalls.{Short, is_short, short_step_at, idle_step, try_opens, receive_opens}
@@ -80,14 +80,6 @@ module _ {T : Type 0} (l : Limits) where
   pub try_receive_grants : (s t : Sight T) (r : Result (Option How) Refusal) → MakesCall l (λ x. Answer.Got x) Call.Receive s t r → GrantsNone s t
   try_receive_grants s t (Ok got) made = receive_grants s t (Ended (Answer.Got got)) made
   try_receive_grants s t (Err refusal) made = receive_grants s t (Refused made.0) made.1
-
-  finds_grant : (s : Sight T) (ms : List (Sight T)) (t : Sight T) → FindNone l s ms t → GrantsNone s t
-  finds_grant s [] t same = ap (λ (z : Sight T). grants_of z.trail) same
-  finds_grant s (m ∷ ms) t finds = finds_grant m ms t finds.1 ∙ receive_grants s m (Ended (Answer.Got None)) finds.0
-
-  pub receive_lock_grants : (s t : Sight T) (r : Result How Refusal) → ReceivesBy l s t r → GrantsNone s t
-  receive_lock_grants s t (Ok how) by = receive_grants by.1 t (Ended (Answer.Got (Some how))) by.3 ∙ finds_grant s by.0 by.1 by.2
-  receive_lock_grants s t (Err refusal) by = receive_grants s t (Refused by.0) by.1
 
   failed_grant : (s : Sight T) (ms : List (Sight T)) (t : Sight T) → FailedTries l s ms t → GrantsNone s t
   failed_grant s [] t same = ap (λ (z : Sight T). grants_of z.trail) same

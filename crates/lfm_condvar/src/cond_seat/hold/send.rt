@@ -4,7 +4,7 @@ ghost use Rattle.lfm_mutex.specs.Belongs.{Beside, OfMutex, limits_of};
 ghost use Rattle.lfm_mutex.specs.calls.Sight.{sight};
 ghost use Rattle.lfm_mutex.specs.calls.WakeUps.{Wakes, as_list};
 ghost use Rattle.lfm_mutex.specs.calls.Woken.{WakesNobody, woken_of};
-ghost use Rattle.lfm_condvar.specs.Belongs.{OfCondvar, cond_limits, cond_sight, cond_tries};
+ghost use Rattle.lfm_condvar.specs.Belongs.{CondWokenAsGranted, OfCondvar, cond_limits, cond_sight, cond_tries};
 ghost use Rattle.lfm_condvar.specs.Holds.{Rewrites};
 ghost use Rattle.lfm_condvar.specs.Keeping.{WaitersFollow};
 ghost use Rattle.lfm_condvar.specs.HeldBack.{HoldsLastBack, earlier_of, later_of};
@@ -25,6 +25,7 @@ fn hold_back<T: Kept>(
     held: Option<WakeUp>,
     next: Option<WakeUp>,
 ) -> Option<WakeUp>
+    requires belongs { OfMutex seat.old mutex.now }
     requires inside { (t : ℕ) → held ≡ Some t → t ≤ (limits_of mutex.now).seats }
     ensures belongs { Beside seat.old seat.new }
     ensures same { sight seat.new ≡ sight seat.old }
@@ -83,6 +84,7 @@ fn send_oldest_in_hand<T: Kept>(
     requires held { 0 < (sight cond.old).depth }
     requires wide { (v : _) → (sight cond.old).value ≡ Some v → v.seats ≤ (limits_of mutex.now).seats }
     ensures belongs { Beside cond.old cond.new × Beside seat.old seat.new }
+    ensures cond_woken { WakesNobody cond.old cond.new }
     ensures woken { WakesNobody seat.old seat.new }
     ensures sends { (v : _) × (w : _) × Rewrites (sight cond.old) (sight cond.new) v w × SendsOldest (limits_of mutex.now).seats (sight seat.old) (sight seat.new) v w result.0 }
     ensures steps { SendsBy (limits_of mutex.now) (sight seat.old) (sight seat.new) result.0 }
@@ -105,6 +107,7 @@ fn send_all_in_hand<T: Kept>(
     requires wide { (v : _) → (sight cond.old).value ≡ Some v → v.seats ≤ (limits_of mutex.now).seats }
     requires awake { (sight seat.old).asleep ≡ false }
     ensures belongs { Beside cond.old cond.new × Beside seat.old seat.new }
+    ensures cond_woken { WakesNobody cond.old cond.new }
     ensures sends { (v : _) × (w : _) × Rewrites (sight cond.old) (sight cond.new) v w × SendsAll (limits_of mutex.now).seats (sight seat.old) (sight seat.new) v w result.0 }
     ensures steps { SendsBy (limits_of mutex.now) (sight seat.old) (sight seat.new) result.0 }
     ensures wakes { HoldsLastBack (limits_of mutex.now).seats result.1 (sight seat.old).trail (sight seat.new).trail (woken_of seat.old) (woken_of seat.new) }
@@ -129,6 +132,7 @@ impl Condvar {
         requires wide { (cond_limits self.now).seats ≤ (limits_of mutex.now).seats }
         requires awake { (sight seat.old).asleep ≡ false }
         ensures belongs { OfCondvar cond.new self.now × Beside seat.old seat.new }
+        ensures cond_woken { CondWokenAsGranted cond.old cond.new }
         ensures woken { WakesNobody seat.old seat.new }
         ensures sends { WakeOneEnds (limits_of mutex.now).seats (cond_limits self.now) (cond_tries self.now) (cond_sight cond.old) (cond_sight cond.new) (sight seat.old) (sight seat.new) result.0 }
         ensures steps { SendsBy (limits_of mutex.now) (sight seat.old) (sight seat.new) result.0 }
@@ -156,6 +160,7 @@ impl Condvar {
         requires wide { (cond_limits self.now).seats ≤ (limits_of mutex.now).seats }
         requires awake { (sight seat.old).asleep ≡ false }
         ensures belongs { OfCondvar cond.new self.now × Beside seat.old seat.new }
+        ensures cond_woken { CondWokenAsGranted cond.old cond.new }
         ensures sends { WakeAllEnds (limits_of mutex.now).seats (cond_limits self.now) (cond_tries self.now) (cond_sight cond.old) (cond_sight cond.new) (sight seat.old) (sight seat.new) result.0 }
         ensures steps { SendsBy (limits_of mutex.now) (sight seat.old) (sight seat.new) result.0 }
         ensures wakes { HoldsLastBack (limits_of mutex.now).seats result.1 (sight seat.old).trail (sight seat.new).trail (woken_of seat.old) (woken_of seat.new) }

@@ -3,7 +3,7 @@ use Rattle.lfm_mutex.specs.Belongs.{limits_of}
 use Rattle.lfm_mutex.specs.calls.Sight.{Sight, sight}
 use Rattle.lfm_condvar.specs.Belongs.{cond_limits, cond_sight, cond_tries}
 use Rattle.lfm_condvar.specs.Waits.{Enlists, MayWait, ticket_of}
-use Rattle.lfm_condvar.proofs.OneHold.{held_by, one_hold, one_some}
+use Rattle.lfm_condvar.proofs.OneHold.{held_by, one_hold, one_some, woken_in_hold}
 use Rattle.std.specs.Prelude.{IfErr}
 use Rattle.lfm_model.specs.declared.refusals.Refusal.{Refusal}
 use Rattle.lfm_model.specs.declared.refusals.Refusal.TheVariants.{Asleep, NotOwner, Nested, DepthFull, Spent, NoSuchSeat, NotWaiting, Busy}
@@ -40,3 +40,7 @@ returns-clause-busy g c = let a = c.args in let h = c.in-Ok.ensures.held in let 
 
 pub invariant_of-cond : goal.invariant_of-cond
 invariant_of-cond g c = search rules
+
+pub returns-clause-cond_woken : goal.returns-clause-cond_woken
+returns-clause-cond_woken g c = let h = c.enlist_in_hand-enlisted in
+    woken_in_hold c.args.cond.now.seat c.lock_list.new.cond h.new.cond c.leave_list.new.cond h.ensures.enlists.0 h.ensures.enlists.1 c.lock_list.ensures.woken h.ensures.cond_woken h.ensures.enlists.2 c.leave_list.ensures.woken

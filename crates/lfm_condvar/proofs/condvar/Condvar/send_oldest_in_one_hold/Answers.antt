@@ -2,7 +2,7 @@ use Rattle.std.proofs.Common.{rules}
 use Rattle.lfm_mutex.specs.Belongs.{limits_of}
 use Rattle.lfm_mutex.specs.calls.Sight.{sight}
 use Rattle.lfm_condvar.specs.Belongs.{cond_limits, cond_sight, cond_tries}
-use Rattle.lfm_condvar.proofs.OneHold.{held_by, one_hold}
+use Rattle.lfm_condvar.proofs.OneHold.{held_by, one_hold, woken_in_hold}
 use Rattle.lfm_condvar.proofs.Sent.{one_ends}
 use Rattle.lfm_condvar.proofs.condvar.Condvar.send_oldest_in_one_hold.Goals as goal
 
@@ -14,3 +14,7 @@ returns-clause-sends g c = let a = c.args in let h = c.in-Ok.ensures.held in let
 
 pub invariant_of-cond-2 : goal.invariant_of-cond-2
 invariant_of-cond-2 g c = search rules
+
+pub returns-clause-cond_woken : goal.returns-clause-cond_woken
+returns-clause-cond_woken g c = let h = c.send_oldest_in_hand-sent in
+    woken_in_hold c.args.cond.now.seat c.lock_list.new.cond h.new.cond c.leave_list.new.cond h.ensures.sends.0 h.ensures.sends.1 c.lock_list.ensures.woken h.ensures.cond_woken h.ensures.sends.2 c.leave_list.ensures.woken

@@ -10,7 +10,7 @@ use Rattle.lfm_mutex.proofs.runs.Woken.{woken_join, woken_none}
 use Rattle.lfm_condvar.proofs.condvar.Condvar.wait_while.Goals as goal
 
 pub waits-init : goal.waits-init
-waits-init g c = record { belongs = c.requires.belongs; beside = (refl, refl); woken = woken_none c.args.seat.now c.args.seat.now refl refl; leaves = c.requires.leaves; depth = refl; waits = (zero, (refl, refl)) }
+waits-init g c = record { belongs = c.requires.belongs; beside = (refl, refl); woken = woken_none c.args.seat.now c.args.seat.now refl refl; cond_woken = woken_none c.args.cond.now.seat c.args.cond.now.seat refl refl; leaves = c.requires.leaves; depth = refl; waits = (zero, (refl, refl)) }
 
 -- one more wait was needed
 pub waits-preserved : goal.waits-preserved
@@ -19,6 +19,7 @@ waits-preserved g c = let i = c.waits.invariant in let e = c.in_ok-_waited.ensur
     let says = (λ (v : _) (b : _). FnReturnsAt g.F.Fn c.args.condition v b) in let must : c.must_wait.result ≡ true = cc in record {
       belongs = (e.belongs.0, (e.belongs.1.0 ∙ i.belongs.1.0, e.belongs.1.1 ∙ i.belongs.1.1));
       woken = woken_join c.args.seat.now c.waits.seat c.wait.new.seat i.woken e.woken;
+      cond_woken = woken_join c.args.cond.now.seat c.waits.cond.seat c.wait.new.cond.seat i.cond_woken e.cond_woken;
       beside = (e.belongs.1.0 ∙ i.beside.0, e.belongs.1.1 ∙ i.beside.1);
       leaves = may_again g.T.Kept.follows g.T.Kept.fits user own tries c.in_ok-_waited._waited c' d s t c.requires.keeps e.waits;
       depth = as_deep g.T.Kept.follows g.T.Kept.fits user own tries c.in_ok-_waited._waited c' d s t e.waits ∙ i.depth;
@@ -37,3 +38,6 @@ returns-in_err-_waited-clause-waits g c = let i = c.waits.invariant in let e = c
 
 pub returns-in_err-_waited-clause-woken : goal.returns-in_err-_waited-clause-woken
 returns-in_err-_waited-clause-woken g c = woken_join c.args.seat.now c.waits.seat c.wait.new.seat c.waits.invariant.woken c.in_err-_waited.ensures.woken
+
+pub returns-in_err-_waited-clause-cond_woken : goal.returns-in_err-_waited-clause-cond_woken
+returns-in_err-_waited-clause-cond_woken g c = woken_join c.args.cond.now.seat c.waits.cond.seat c.wait.new.cond.seat c.waits.invariant.cond_woken c.in_err-_waited.ensures.cond_woken

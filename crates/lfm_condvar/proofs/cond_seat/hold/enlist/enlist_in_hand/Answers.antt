@@ -1,4 +1,4 @@
-use Rattle.std.proofs.Common.{◌≡◌, ◌≤◌, ◌+◌, ℕ, Result, sym, subst, slice_index}
+use Rattle.std.proofs.Common.{◌≡◌, ◌≤◌, ◌+◌, ℕ, Result, sym, subst, slice_index, ap}
 use Rattle.std.specs.Prelude.{IfOk}
 use Rattle.lfm_model.specs.declared.refusals.Refusal.{Refusal}
 use Rattle.lfm_mutex.specs.Belongs.{limits_of}
@@ -26,3 +26,6 @@ returns-clause-enlists g c = let h = rw c.in-Some.is at (c.value_mut.follows.hol
           (subst (λ (i : ℕ). Enlists (limits_of c.args.mutex.now) i (sight c.args.seat.now) (sight c.enlist_without_waking-ticket.new.seat) v w c.enlist_without_waking-ticket.result.0) c.number-by.ensures e.enlists),
       subst (λ (n : ℕ). IfOk c.with_ahead.result (λ x. x.ahead ≡ n)) c.waiting-ahead.ensures c.with_ahead.ensures.ahead,
     )
+
+pub returns-clause-cond_woken : goal.returns-clause-cond_woken
+returns-clause-cond_woken g c = let h = rw c.in-Some.is at (c.value_mut.follows.holds c.enlist_without_waking-ticket.new.waiters) in ap (λ w. w.seats) h.5

@@ -1,3 +1,4 @@
+use Rattle.std.proofs.Common.{ap}
 use Rattle.lfm_mutex.specs.calls.Sight.{sight}
 use Rattle.lfm_condvar.proofs.Sent.{same_count}
 use Rattle.lfm_condvar.proofs.cond_seat.hold.send.send_all_in_hand.Goals as goal
@@ -8,3 +9,6 @@ returns-clause-belongs g c = let h = rw c.in-Some.is at (c.value_mut.follows.hol
 pub returns-clause-sends : goal.returns-clause-sends
 returns-clause-sends g c = let h = rw c.in-Some.is at (c.value_mut.follows.holds c.send_all.new.waiters) in let v = c.in-Some.waiters.now in let w = c.send_all.new.waiters in let k = (sight c.args.cond.now).number in let e = c.send_all.ensures in
     (v, w, (c.in-Some.ensures.value.1, h.0, e.follows k, same_count v w k e.follows), e.sends)
+
+pub returns-clause-cond_woken : goal.returns-clause-cond_woken
+returns-clause-cond_woken g c = let h = rw c.in-Some.is at (c.value_mut.follows.holds c.send_all.new.waiters) in ap (λ w. w.seats) h.5

@@ -1,5 +1,5 @@
 -- The cond seat of one condition is used, and those of the others stay as they are.
-use Rattle.std.proofs.Common.{◌≡◌, ⊎_elim, ℕ, ◌+◌, ◌<◌, List, length, get_or, slice_set, sym, ◌∙◌, ap, subst, arith}
+use Rattle.std.proofs.Common.{◌≡◌, ⊎_elim, ℕ, zero, suc, ◌+◌, ◌<◌, List, [], ◌∷◌, length, get_or, slice_set, refl, sym, ◌∙◌, ap, subst, arith}
 use Rattle.std.proofs.lemmas.List.{length-set}
 use mathlib.Core.Option.{some, some-injective}
 use lib.ListN.{get_elem?}
@@ -7,12 +7,13 @@ use Rattle.lfm_protocol.specs.declared.limits.Limits.{Limits}
 use Rattle.lfm_mutex.specs.declared.pace.Pace.{Pace}
 use Rattle.lfm_condvar.specs.declared.condvar.Condvar.{Condvar}
 use Rattle.lfm_condvar.specs.declared.cond_seat.CondSeat.{CondSeat}
-use Rattle.lfm_condvar.specs.Belongs.{OfCondvar, cond_limits, cond_tries}
+use Rattle.lfm_condvar.specs.Belongs.{CondWokenAsGranted, OfCondvar, cond_limits, cond_tries}
 use Rattle.lfm_monitor.specs.declared.monitor.Monitor.{Monitor}
 use Rattle.lfm_monitor.specs.declared.pass.Pass.{Pass}
 use Rattle.lfm_monitor.specs.Belongs.{OfMonitor, cond_seats_of, conditions_in, passes_of, tries_in}
-use Rattle.lfm_monitor.specs.CondSeats.{OfConditions, condition_limits}
-use Rattle.lfm_monitor.proofs.Places.{stands, stands_or_was}
+use Rattle.lfm_monitor.specs.CondSeats.{CondsWokenAsGranted, OfConditions, condition_limits}
+use Rattle.lfm_mutex.proofs.runs.Woken.{woken_join, woken_none}
+use Rattle.lfm_monitor.proofs.Places.{in_range, stands, stands_or_was}
 
 -- a cond seat of this condition stands in the place of the other
 pub still_of_conditions : (cs : List CondSeat) (vs : List Condvar) (n : ℕ) (d : CondSeat) (v : Condvar) → OfConditions cs vs → get_elem? vs n ≡ some v → OfCondvar d v → OfConditions (slice_set cs n d) vs
@@ -22,6 +23,36 @@ still_of_conditions cs vs n d v of at belongs = record {
       (λ q. let w : v ≡ u = some-injective v u (sym at ∙ (ap (get_elem? vs) (sym q.0) ∙ au)) in subst (λ (x : CondSeat). OfCondvar x u) (sym q.1) (subst (λ (y : Condvar). OfCondvar d y) w belongs))
       (λ q. of.each i c u q.1 au)
       (stands_or_was cs n d i c ac);
+}
+
+-- Cond seats wake those that they granted the list
+
+same_woken : (c d : CondSeat) → c ≡ d → CondWokenAsGranted c d
+same_woken c d e = subst (CondWokenAsGranted c) e (woken_none c.seat c.seat refl refl)
+
+pub conds_woken_none : (cs : List CondSeat) → CondsWokenAsGranted cs cs
+conds_woken_none cs = record { long = refl; each = λ i c d ac ad. same_woken c d (some-injective c d (sym ac ∙ ad)) }
+
+-- one of them was used
+pub conds_woken_one : (cs : List CondSeat) (n : ℕ) (c d : CondSeat) → get_elem? cs n ≡ some c → CondWokenAsGranted c d → CondsWokenAsGranted cs (slice_set cs n d)
+conds_woken_one cs n c d at woken = record {
+  long = length-set cs n d;
+  each = λ i x y ax ay. ⊎_elim
+      (λ q. let w : c ≡ x = some-injective c x (sym at ∙ (ap (get_elem? cs) (sym q.0) ∙ ax)) in subst (λ (z : CondSeat). CondWokenAsGranted z y) w (subst (CondWokenAsGranted c) (sym q.1) woken))
+      (λ q. same_woken x y (some-injective x y (sym ax ∙ q.1)))
+      (stands_or_was cs n d i y ay);
+}
+
+some_stands : {A : Type 0} (xs : List A) (i : ℕ) → i < length xs → (x : A) × (get_elem? xs i ≡ some x)
+some_stands [] i h = absurd (omega arith)
+some_stands (x ∷ xs) zero h = (x, refl)
+some_stands (x ∷ xs) (suc i) h = some_stands xs i (omega arith)
+
+pub conds_woken_join : (cs ms ds : List CondSeat) → CondsWokenAsGranted cs ms → CondsWokenAsGranted ms ds → CondsWokenAsGranted cs ds
+conds_woken_join cs ms ds h k = record {
+  long = k.long ∙ h.long;
+  each = λ i c d ac ad. let m = some_stands ms i (let low = in_range cs i c ac in let e = h.long in omega arith) in
+      woken_join c.seat m.0.seat d.seat (h.each i c m.0 ac m.1) (k.each i m.0 d m.1 ad);
 }
 
 module _ {O A R : Type 0} {K : _} where

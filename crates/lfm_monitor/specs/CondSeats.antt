@@ -9,7 +9,7 @@ use Rattle.lfm_mutex.specs.calls.Sight.{new_sight}
 use Rattle.lfm_condvar.specs.declared.condvar.Condvar.{Condvar}
 use Rattle.lfm_condvar.specs.declared.cond_seat.CondSeat.{CondSeat}
 use Rattle.lfm_condvar.specs.declared.waiters.Waiters.{Waiters}
-use Rattle.lfm_condvar.specs.Belongs.{OfCondvar, cond_limits, cond_sight}
+use Rattle.lfm_condvar.specs.Belongs.{CondWokenAsGranted, OfCondvar, cond_limits, cond_sight}
 use Rattle.lfm_condvar.specs.Keeping.{IsNew}
 
 -- what a condition of a monitor with this number of passes allows: a seat for each, and as many waits and wakes as can be
@@ -39,6 +39,11 @@ pub record SameButPaces (us vs : List Condvar) : Type 0 where
 pub record OfConditions (seats : List CondSeat) (conditions : List Condvar) : Type 0 where
   pub long : length seats ≡ length conditions
   pub each : (i : ℕ) (c : CondSeat) (v : Condvar) → get_elem? seats i ≡ some c → get_elem? conditions i ≡ some v → OfCondvar c v
+
+-- from one list to the other, each cond seat has woken exactly those that it granted the list of its condition, in order
+pub record CondsWokenAsGranted (cs ds : List CondSeat) : Type 0 where
+  pub long : length ds ≡ length cs
+  pub each : (i : ℕ) (c d : CondSeat) → get_elem? cs i ≡ some c → get_elem? ds i ≡ some d → CondWokenAsGranted c d
 
 -- the cond seat with this number, one of `passes`, has done nothing, and nobody has waited on its condition
 abbrev pub IsNewSeat : ℕ → ℕ → CondSeat → Type 0

@@ -1,14 +1,16 @@
-use Rattle.std.proofs.Common.{zero, suc, Result, inl, inr, refl, subst, ◌∙◌}
+use Rattle.std.proofs.Common.{zero, suc, Result, inl, inr, refl, sym, subst, ◌∙◌}
 use Rattle.std.specs.Fn.{FnReturnsAt}
 use Rattle.lfm_model.specs.declared.refusals.Refusal.{Refusal}
-use Rattle.lfm_monitor.specs.Belongs.{mine_of, pass_sight, seen_of, share_of}
+use Rattle.lfm_monitor.specs.Belongs.{cond_seats_of, mine_of, pass_sight, seen_of, share_of}
 use Rattle.lfm_monitor.specs.Tries.{ApplyUntilEnds}
 use Rattle.lfm_monitor.proofs.Trying.{applied_depth, handed_on, waited_depth}
 use Rattle.lfm_mutex.proofs.runs.Woken.{woken_join, woken_none}
+use Rattle.lfm_monitor.specs.CondSeats.{CondsWokenAsGranted}
+use Rattle.lfm_monitor.proofs.UsedConditions.{conds_woken_join, conds_woken_none}
 use Rattle.lfm_monitor.proofs.monitor.Monitor.apply_until.Goals as goal
 
 pub tries-init : goal.tries-init
-tries-init g c = record { belongs = c.requires.belongs; woken = woken_none c.args.pass.now.seat c.args.pass.now.seat refl refl; depth = refl; number = refl; tries = (zero, refl) }
+tries-init g c = record { belongs = c.requires.belongs; woken = woken_none c.args.pass.now.seat c.args.pass.now.seat refl refl; cond_woken = conds_woken_none (cond_seats_of c.args.pass.now); depth = refl; number = refl; tries = (zero, refl) }
 
 -- one more try failed
 pub tries-preserved : goal.tries-preserved
@@ -18,6 +20,7 @@ tries-preserved g c = let i = c.tries.invariant in let a = c.in_ok-reply.ensures
       ∙ (applied_depth g.O.Object.after g.O.Object.reply (share_of c.args.self.now) c.args.op c.in_ok-reply.reply (pass_sight l) (pass_sight p) (mine_of l) (mine_of p) a.applies ∙ i.depth);
   number = w.number ∙ (a.number ∙ i.number);
   woken = woken_join c.args.pass.now.seat l.seat q.seat i.woken (woken_join l.seat p.seat q.seat a.woken w.woken);
+  cond_woken = conds_woken_join (cond_seats_of c.args.pass.now) (cond_seats_of p) (cond_seats_of q) (subst (CondsWokenAsGranted (cond_seats_of c.args.pass.now)) (sym a.conditions) i.cond_woken) w.cond_woken;
   tries = (
     suc i.tries.0,
     (
@@ -61,3 +64,13 @@ returns-then-accepts-clause-woken g c = woken_join c.args.pass.now.seat c.tries.
 
 pub returns-in_err-_waited-clause-woken : goal.returns-in_err-_waited-clause-woken
 returns-in_err-_waited-clause-woken g c = woken_join c.args.pass.now.seat c.apply.new.pass.seat c.wait.new.pass.seat (woken_join c.args.pass.now.seat c.tries.pass.seat c.apply.new.pass.seat c.tries.invariant.woken c.apply.ensures.woken) c.wait.ensures.woken
+
+pub returns-in_err-reply-clause-cond_woken : goal.returns-in_err-reply-clause-cond_woken
+returns-in_err-reply-clause-cond_woken g c = subst (CondsWokenAsGranted (cond_seats_of c.args.pass.now)) (sym c.in_err-reply.ensures.conditions) c.tries.invariant.cond_woken
+
+pub returns-then-accepts-clause-cond_woken : goal.returns-then-accepts-clause-cond_woken
+returns-then-accepts-clause-cond_woken g c = subst (CondsWokenAsGranted (cond_seats_of c.args.pass.now)) (sym c.in_ok-reply.ensures.conditions) c.tries.invariant.cond_woken
+
+pub returns-in_err-_waited-clause-cond_woken : goal.returns-in_err-_waited-clause-cond_woken
+returns-in_err-_waited-clause-cond_woken g c = let p = cond_seats_of c.args.pass.now in let q = cond_seats_of c.apply.new.pass in
+    conds_woken_join p q (cond_seats_of c.wait.new.pass) (subst (CondsWokenAsGranted p) (sym c.in_ok-reply.ensures.conditions) c.tries.invariant.cond_woken) c.in_err-_waited.ensures.cond_woken

@@ -4,6 +4,7 @@
 ghost use Rattle.std.specs.Prelude.{◌≡◌, ◌+◌, ◌-◌, ◌<◌, MatchBool, None, Some};
 ghost use Rattle.lfm_mutex.specs.Belongs.{Beside, OfMutex, limits_of, tries_of};
 ghost use Rattle.lfm_mutex.specs.calls.Barging.{BargesBy, FailedTry, GainsIf, MayTry, TriesBy, TriesFirst, TryHeld};
+ghost use Rattle.lfm_mutex.specs.calls.RunGoesOn.{RunGoesOnFrom};
 ghost use Rattle.lfm_mutex.specs.calls.Sight.{sight, LocksWaiting};
 ghost use Rattle.lfm_mutex.specs.calls.Woken.{WakesNobody, WokenAsGranted};
 
@@ -59,6 +60,7 @@ impl<T: Kept> Mutex<T> {
         requires belongs { OfMutex seat.old self.now }
         ensures belongs { Beside seat.old seat.new }
         ensures woken { WokenAsGranted seat.old seat.new }
+        ensures run { RunGoesOnFrom seat.old seat.new }
         ensures locks { LocksWaiting T.follows T.fits (limits_of self.now).budget (sight seat.old) (sight seat.new) result }
         ensures steps { BargesBy (limits_of self.now) (tries_of self.now) (sight seat.old) (sight seat.new) result }
         ensures first { 0 < self.now.pace.spins → MayTry (limits_of self.now).budget (sight seat.old) → TriesFirst (limits_of self.now) (self.now.pace.spins - 1 + self.now.pace.naps) (sight seat.old) (sight seat.new) result }
@@ -80,6 +82,7 @@ impl<T: Kept> Mutex<T> {
         requires free { MayTry (limits_of self.now).budget (sight seat.old) }
         ensures belongs { Beside seat.old seat.new }
         ensures woken { WakesNobody seat.old seat.new }
+        ensures run { RunGoesOnFrom seat.old seat.new }
         ensures gains { GainsIf T.follows T.fits (limits_of self.now).budget (sight seat.old) (sight seat.new) result }
         ensures tries { TriesBy (limits_of self.now) (self.now.pace.spins - (self.now.pace.spins - 1)) (sight seat.old) (sight seat.new) result }
         ensures held { (how : _) → result ≡ Some how → TryHeld (limits_of self.now) (sight seat.old) (sight seat.new) how }
@@ -98,6 +101,7 @@ impl<T: Kept> Mutex<T> {
         requires free { MayTry (limits_of self.now).budget (sight seat.old) }
         ensures belongs { Beside seat.old seat.new }
         ensures woken { WokenAsGranted seat.old seat.new }
+        ensures run { RunGoesOnFrom seat.old seat.new }
         ensures locks { LocksWaiting T.follows T.fits (limits_of self.now).budget (sight seat.old) (sight seat.new) result }
         ensures steps { BargesBy (limits_of self.now) (self.now.pace.spins - 1 + self.now.pace.naps) (sight seat.old) (sight seat.new) result }
     {
@@ -114,6 +118,7 @@ impl<T: Kept> Mutex<T> {
         requires free { MayTry (limits_of self.now).budget (sight seat.old) }
         ensures belongs { Beside seat.old seat.new }
         ensures woken { WakesNobody seat.old seat.new }
+        ensures run { RunGoesOnFrom seat.old seat.new }
         ensures gains { GainsIf T.follows T.fits (limits_of self.now).budget (sight seat.old) (sight seat.new) result }
         ensures tries { TriesBy (limits_of self.now) (self.now.pace.spins - 1 + self.now.pace.naps) (sight seat.old) (sight seat.new) result }
     {
@@ -131,6 +136,7 @@ impl<T: Kept> Mutex<T> {
         requires free { MayTry (limits_of self.now).budget (sight seat.old) }
         ensures belongs { Beside seat.old seat.new }
         ensures woken { WakesNobody seat.old seat.new }
+        ensures run { RunGoesOnFrom seat.old seat.new }
         ensures gains { GainsIf T.follows T.fits (limits_of self.now).budget (sight seat.old) (sight seat.new) result }
         ensures tries { TriesBy (limits_of self.now) (self.now.pace.spins - 1) (sight seat.old) (sight seat.new) result }
     {
@@ -156,6 +162,7 @@ impl<T: Kept> Mutex<T> {
         requires free { MayTry (limits_of self.now).budget (sight seat.old) }
         ensures belongs { Beside seat.old seat.new }
         ensures woken { WakesNobody seat.old seat.new }
+        ensures run { RunGoesOnFrom seat.old seat.new }
         ensures gains { GainsIf T.follows T.fits (limits_of self.now).budget (sight seat.old) (sight seat.new) result }
         ensures tries { TriesBy (limits_of self.now) self.now.pace.naps (sight seat.old) (sight seat.new) result }
     {
@@ -204,6 +211,7 @@ impl<T: Kept> Mutex<T> {
         requires free { MayTry (limits_of self.now).budget (sight seat.old) }
         ensures belongs { Beside seat.old seat.new }
         ensures woken { WakesNobody seat.old seat.new }
+        ensures run { RunGoesOnFrom seat.old seat.new }
         ensures gains { GainsIf T.follows T.fits (limits_of self.now).budget (sight seat.old) (sight seat.new) result }
         ensures tries { TriesBy (limits_of self.now) 1 (sight seat.old) (sight seat.new) result }
         ensures held { (how : _) → result ≡ Some how → TryHeld (limits_of self.now) (sight seat.old) (sight seat.new) how }

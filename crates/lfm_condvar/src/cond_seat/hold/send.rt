@@ -1,6 +1,7 @@
 //! How waiters are sent in one hold of the inner mutex.
 ghost use Rattle.std.specs.Prelude.{◌≡◌, ◌<◌, ◌≤◌, ◌++◌, ℕ, Some, false};
 ghost use Rattle.lfm_mutex.specs.Belongs.{Beside, OfMutex, limits_of};
+ghost use Rattle.lfm_mutex.specs.calls.RunGoesOn.{RunGoesOnFrom};
 ghost use Rattle.lfm_mutex.specs.calls.Sight.{sight};
 ghost use Rattle.lfm_mutex.specs.calls.WakeUps.{Wakes, as_list};
 ghost use Rattle.lfm_mutex.specs.calls.Woken.{WakesNobody, woken_of};
@@ -27,6 +28,7 @@ fn hold_back<T: Kept>(
 ) -> Option<WakeUp>
     requires inside { (t : ℕ) → held ≡ Some t → t ≤ (limits_of mutex.now).seats }
     ensures belongs { Beside seat.old seat.new }
+    ensures run { RunGoesOnFrom seat.old seat.new }
     ensures same { sight seat.new ≡ sight seat.old }
     ensures later { result ≡ later_of held next }
     ensures woken { woken_of seat.new ≡ woken_of seat.old ++ as_list (earlier_of held next) }
@@ -52,6 +54,7 @@ fn send_all<T: Kept>(
     requires wide { waiters.old.seats ≤ (limits_of mutex.now).seats }
     requires awake { (sight seat.old).asleep ≡ false }
     ensures belongs { Beside seat.old seat.new }
+    ensures run { RunGoesOnFrom seat.old seat.new }
     ensures sends { SendsAll (limits_of mutex.now).seats (sight seat.old) (sight seat.new) waiters.old waiters.new result.0 }
     ensures steps { SendsBy (limits_of mutex.now) (sight seat.old) (sight seat.new) result.0 }
     ensures follows { (s : ℕ) → WaitersFollow s waiters.old waiters.new }
@@ -83,6 +86,7 @@ fn send_oldest_in_hand<T: Kept>(
     requires held { 0 < (sight cond.old).depth }
     requires wide { (v : _) → (sight cond.old).value ≡ Some v → v.seats ≤ (limits_of mutex.now).seats }
     ensures belongs { Beside cond.old cond.new × Beside seat.old seat.new }
+    ensures run { RunGoesOnFrom seat.old seat.new }
     ensures woken { WakesNobody seat.old seat.new }
     ensures sends { (v : _) × (w : _) × Rewrites (sight cond.old) (sight cond.new) v w × SendsOldest (limits_of mutex.now).seats (sight seat.old) (sight seat.new) v w result.0 }
     ensures steps { SendsBy (limits_of mutex.now) (sight seat.old) (sight seat.new) result.0 }
@@ -105,6 +109,7 @@ fn send_all_in_hand<T: Kept>(
     requires wide { (v : _) → (sight cond.old).value ≡ Some v → v.seats ≤ (limits_of mutex.now).seats }
     requires awake { (sight seat.old).asleep ≡ false }
     ensures belongs { Beside cond.old cond.new × Beside seat.old seat.new }
+    ensures run { RunGoesOnFrom seat.old seat.new }
     ensures sends { (v : _) × (w : _) × Rewrites (sight cond.old) (sight cond.new) v w × SendsAll (limits_of mutex.now).seats (sight seat.old) (sight seat.new) v w result.0 }
     ensures steps { SendsBy (limits_of mutex.now) (sight seat.old) (sight seat.new) result.0 }
     ensures wakes { HoldsLastBack (limits_of mutex.now).seats result.1 (sight seat.old).trail (sight seat.new).trail (woken_of seat.old) (woken_of seat.new) }
@@ -129,6 +134,7 @@ impl Condvar {
         requires wide { (cond_limits self.now).seats ≤ (limits_of mutex.now).seats }
         requires awake { (sight seat.old).asleep ≡ false }
         ensures belongs { OfCondvar cond.new self.now × Beside seat.old seat.new }
+        ensures run { RunGoesOnFrom seat.old seat.new }
         ensures woken { WakesNobody seat.old seat.new }
         ensures sends { WakeOneEnds (limits_of mutex.now).seats (cond_limits self.now) (cond_tries self.now) (cond_sight cond.old) (cond_sight cond.new) (sight seat.old) (sight seat.new) result.0 }
         ensures steps { SendsBy (limits_of mutex.now) (sight seat.old) (sight seat.new) result.0 }
@@ -156,6 +162,7 @@ impl Condvar {
         requires wide { (cond_limits self.now).seats ≤ (limits_of mutex.now).seats }
         requires awake { (sight seat.old).asleep ≡ false }
         ensures belongs { OfCondvar cond.new self.now × Beside seat.old seat.new }
+        ensures run { RunGoesOnFrom seat.old seat.new }
         ensures sends { WakeAllEnds (limits_of mutex.now).seats (cond_limits self.now) (cond_tries self.now) (cond_sight cond.old) (cond_sight cond.new) (sight seat.old) (sight seat.new) result.0 }
         ensures steps { SendsBy (limits_of mutex.now) (sight seat.old) (sight seat.new) result.0 }
         ensures wakes { HoldsLastBack (limits_of mutex.now).seats result.1 (sight seat.old).trail (sight seat.new).trail (woken_of seat.old) (woken_of seat.new) }

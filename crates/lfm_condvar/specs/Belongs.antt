@@ -1,7 +1,8 @@
 -- What belongs to a condvar, and how its seats are seen. Contracts name a condvar and its seats by these words alone.
-use Rattle.std.specs.Prelude.{◌≡◌, ℕ}
+use Rattle.std.specs.Prelude.{◌≡◌, ℕ, List}
 use Rattle.lfm_protocol.specs.declared.limits.Limits.{Limits}
 use Rattle.lfm_mutex.specs.Belongs.{OfMutex, limits_of, tries_of}
+use Rattle.lfm_mutex.specs.calls.RunGoesOn.{Action, past_of}
 use Rattle.lfm_mutex.specs.calls.Sight.{Sight, sight}
 use Rattle.lfm_mutex.specs.calls.Woken.{WokenAsGranted}
 use Rattle.lfm_condvar.specs.declared.condvar.Condvar.{Condvar}
@@ -20,6 +21,10 @@ cond_tries v = tries_of v.inner
 -- how a cond seat is seen
 abbrev pub cond_sight : CondSeat → Sight Waiters
 cond_sight c = sight c.seat
+
+-- the actions of all cond seats that it knows: those of the inner mutex's run up to its last step
+abbrev pub cond_past : CondSeat → List Action
+cond_past c = past_of c.seat
 
 -- from one to the other, the cond seat has woken just those that it granted the list, in order
 abbrev pub CondWokenAsGranted : CondSeat → CondSeat → Type 0

@@ -3,7 +3,7 @@ ghost use Rattle.std.specs.Prelude.{◌≡◌, ℕ, IfErr, IfOk, Some};
 ghost use mathlib.Core.Option.{some};
 ghost use lib.ListN.{get_elem?};
 ghost use Rattle.lfm_mutex.specs.Close.{AllStand, FirstMissing, HaveRun, LeftLast, LeftByLastHold};
-ghost use Rattle.lfm_condvar.specs.Belongs.{OfCondvar, SameCondvar, cond_limits, cond_sight};
+ghost use Rattle.lfm_condvar.specs.Belongs.{OfCondvar, SameCondvar, cond_limits, cond_past, cond_sight};
 ghost use Rattle.lfm_condvar.specs.Keeping.{Since};
 
 use crate::cond_seat::CondSeat;
@@ -24,7 +24,7 @@ impl Condvar {
         ensures missing { IfErr result (λ e. SameCondvar self e.0 × (e.1 ≡ seats) × FirstMissing (λ s. cond_sight s) seats.items (cond_limits self).seats e.2) }
         ensures all { IfOk result (λ _. AllStand (λ s. cond_sight s) seats.items (cond_limits self).seats) }
         ensures numbers { IfOk result (λ r. (w : _) × (r.0 ≡ w.sent) × (r.1 ≡ w.added) × ((j : ℕ) (s : _) (l : _) → get_elem? seats.items j ≡ some s → (cond_sight s).last ≡ Some l → Since (cond_sight s).number l w) × LeftLast (λ s. cond_sight s) seats.items w × LeftByLastHold (λ s. cond_sight s) seats.items w) }
-        ensures run { IfOk result (λ _. HaveRun (λ s. cond_sight s) (cond_limits self) seats.items) }
+        ensures run { IfOk result (λ _. HaveRun (λ s. cond_sight s) (λ s. cond_past s) (cond_limits self) seats.items) }
     {
         let Condvar {
             inner,

@@ -2,6 +2,7 @@
 //! beside at most one other thread, it looks for a while before it sleeps.
 ghost use Rattle.std.specs.Prelude.{◌≡◌, ◌<◌, ◌≤◌, Some, IfOk, length};
 ghost use Rattle.lfm_mutex.specs.Belongs.{Beside, OfMutex, limits_of};
+ghost use Rattle.lfm_mutex.specs.calls.RunGoesOn.{RunGoesOnFrom};
 ghost use Rattle.lfm_mutex.specs.calls.Sight.{sight, MayRelease};
 ghost use Rattle.lfm_mutex.specs.calls.Woken.{WokenAsGranted};
 ghost use Rattle.lfm_condvar.specs.Belongs.{CondWokenAsGranted, OfCondvar, cond_limits, cond_sight, cond_tries};
@@ -49,6 +50,7 @@ impl Condvar {
         requires belongs { OfCondvar cond.old self.now × OfMutex seat.old mutex.now }
         requires leaves { MayRelease T.follows T.fits (sight seat.old) }
         ensures belongs { OfCondvar cond.new self.now × Beside seat.old seat.new }
+        ensures run { RunGoesOnFrom seat.old seat.new }
         ensures cond_woken { CondWokenAsGranted cond.old cond.new }
         ensures woken { WokenAsGranted seat.old seat.new }
         ensures begins { BeginWaitEnds (limits_of mutex.now) (cond_limits self.now) (cond_tries self.now) (cond_sight cond.old) (cond_sight cond.new) (sight seat.old) (sight seat.new) result }
@@ -70,6 +72,7 @@ impl Condvar {
         requires belongs { OfCondvar cond.old self.now × OfMutex seat.old mutex.now }
         requires leaves { MayRelease T.follows T.fits (sight seat.old) }
         ensures belongs { OfCondvar cond.new self.now × Beside seat.old seat.new }
+        ensures run { RunGoesOnFrom seat.old seat.new }
         ensures cond_woken { CondWokenAsGranted cond.old cond.new }
         ensures woken { WokenAsGranted seat.old seat.new }
         ensures begins { BeginWaitEnds (limits_of mutex.now) (cond_limits self.now) (cond_tries self.now) (cond_sight cond.old) (cond_sight cond.new) (sight seat.old) (sight seat.new) (ticket_of result) }
@@ -110,6 +113,7 @@ impl Condvar {
         requires belongs { OfCondvar cond.old self.now × OfMutex seat.old mutex.now }
         requires leaves { MayRelease T.follows T.fits (sight seat.old) }
         ensures belongs { OfCondvar cond.new self.now × Beside seat.old seat.new }
+        ensures run { RunGoesOnFrom seat.old seat.new }
         ensures cond_woken { CondWokenAsGranted cond.old cond.new }
         ensures woken { WokenAsGranted seat.old seat.new }
         ensures waits { WaitEnds T.follows T.fits (limits_of mutex.now) (cond_limits self.now) (cond_tries self.now) (cond_sight cond.old) (cond_sight cond.new) (sight seat.old) (sight seat.new) result }

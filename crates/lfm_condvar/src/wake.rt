@@ -2,6 +2,7 @@
 //! thread of a waiter that is granted the user mutex is woken after that hold.
 ghost use Rattle.std.specs.Prelude.{◌≤◌};
 ghost use Rattle.lfm_mutex.specs.Belongs.{Beside, OfMutex, limits_of};
+ghost use Rattle.lfm_mutex.specs.calls.RunGoesOn.{RunGoesOnFrom};
 ghost use Rattle.lfm_mutex.specs.calls.Sight.{sight};
 ghost use Rattle.lfm_mutex.specs.calls.Woken.{WokenAsGranted};
 ghost use Rattle.lfm_condvar.specs.Belongs.{CondWokenAsGranted, OfCondvar, cond_limits, cond_sight, cond_tries};
@@ -34,6 +35,7 @@ impl Condvar {
         requires belongs { OfCondvar cond.old self.now × OfMutex seat.old mutex.now }
         requires wide { (cond_limits self.now).seats ≤ (limits_of mutex.now).seats }
         ensures belongs { OfCondvar cond.new self.now × Beside seat.old seat.new }
+        ensures run { RunGoesOnFrom seat.old seat.new }
         ensures cond_woken { CondWokenAsGranted cond.old cond.new }
         ensures woken { WokenAsGranted seat.old seat.new }
         ensures wakes { WakeOneEnds (limits_of mutex.now).seats (cond_limits self.now) (cond_tries self.now) (cond_sight cond.old) (cond_sight cond.new) (sight seat.old) (sight seat.new) result }
@@ -66,6 +68,7 @@ impl Condvar {
         requires belongs { OfCondvar cond.old self.now × OfMutex seat.old mutex.now }
         requires wide { (cond_limits self.now).seats ≤ (limits_of mutex.now).seats }
         ensures belongs { OfCondvar cond.new self.now × Beside seat.old seat.new }
+        ensures run { RunGoesOnFrom seat.old seat.new }
         ensures cond_woken { CondWokenAsGranted cond.old cond.new }
         ensures woken { WokenAsGranted seat.old seat.new }
         ensures wakes { WakeAllEnds (limits_of mutex.now).seats (cond_limits self.now) (cond_tries self.now) (cond_sight cond.old) (cond_sight cond.new) (sight seat.old) (sight seat.new) result }

@@ -6,8 +6,9 @@ use Rattle.lfm_mutex.specs.calls.Sight.{Sight}
 use Rattle.lfm_monitor.specs.declared.journaled.Journaled.{Journaled}
 use Rattle.lfm_monitor.specs.declared.monitor.Monitor.{Monitor}
 use Rattle.lfm_monitor.specs.declared.pass.Pass.{Pass}
+use Rattle.lfm_mutex.proofs.runs.RunGoesOn.{run_next, run_same}
 use Rattle.lfm_mutex.proofs.runs.Woken.{woken_join, woken_none}
-use Rattle.lfm_monitor.specs.Belongs.{PassWokenAsGranted, cond_seats_of, mine_of, pass_sight, seen_of}
+use Rattle.lfm_monitor.specs.Belongs.{PassRunGoesOnFrom, PassWokenAsGranted, cond_seats_of, mine_of, pass_sight, seen_of}
 use Rattle.lfm_monitor.specs.Passes.{LeaveEnds, journal_of}
 use Rattle.lfm_monitor.specs.Sections.{GivesUp, HoldEnds, Holds}
 
@@ -52,11 +53,11 @@ module _ {O A R : Type 0} {K : _} where
   leaves_one Unlocked.TakenOver s t seen seen' h = given_back s t seen seen' h
 
   pub gives_up_none : (p : Pass O A R K) → GivesUp p p
-  gives_up_none p = record { no_more = omega arith; number = refl; takes = refl; asleep = refl; sends = refl; journal = refl; woken = woken_none p.seat p.seat refl refl; seen = λ _. refl; mine = refl; cond_seats = refl }
+  gives_up_none p = record { no_more = omega arith; number = refl; takes = refl; asleep = refl; sends = refl; journal = refl; woken = woken_none p.seat p.seat refl refl; run = run_same; seen = λ _. refl; mine = refl; cond_seats = refl }
 
   -- some holds were given up, and then one more
-  pub gives_up_one : (p m q : Pass O A R K) → GivesUp p m → LeavesOne (pass_sight m) (pass_sight q) (seen_of m) (seen_of q) → mine_of q ≡ mine_of m → cond_seats_of q ≡ cond_seats_of m → PassWokenAsGranted m q → GivesUp p q
-  gives_up_one p m q before one mine cond_seats woken = let few = before.no_more in let less = one.depth in record {
+  pub gives_up_one : (p m q : Pass O A R K) → GivesUp p m → LeavesOne (pass_sight m) (pass_sight q) (seen_of m) (seen_of q) → mine_of q ≡ mine_of m → cond_seats_of q ≡ cond_seats_of m → PassWokenAsGranted m q → PassRunGoesOnFrom m q → GivesUp p q
+  gives_up_one p m q before one mine cond_seats woken run = let few = before.no_more in let less = one.depth in record {
     no_more = omega arith;
     number = one.number ∙ before.number;
     takes = one.takes ∙ before.takes;
@@ -64,6 +65,7 @@ module _ {O A R : Type 0} {K : _} where
     sends = one.sends ∙ before.sends;
     journal = one.journal ∙ before.journal;
     woken = woken_join p.seat m.seat q.seat before.woken woken;
+    run = run_next before.run run;
     seen = λ deep. one.still deep ∙ before.seen (omega arith);
     mine = mine ∙ before.mine;
     cond_seats = cond_seats ∙ before.cond_seats;

@@ -2,6 +2,7 @@
 use Rattle.std.specs.Prelude.{◌≡◌, ℕ, List, length}
 use Rattle.lfm_protocol.specs.declared.limits.Limits.{Limits}
 use Rattle.lfm_mutex.specs.Belongs.{OfMutex, limits_of, tries_of}
+use Rattle.lfm_mutex.specs.calls.RunGoesOn.{Action, RunGoesOnFrom, past_of}
 use Rattle.lfm_mutex.specs.calls.Sight.{Sight, sight}
 use Rattle.lfm_mutex.specs.calls.Woken.{WokenAsGranted}
 use Rattle.lfm_condvar.specs.declared.condvar.Condvar.{Condvar}
@@ -57,9 +58,17 @@ module _ {O A R : Type 0} {K : _} where
   abbrev pub pass_sight : Pass O A R K → Sight (Journaled O A R K)
   pass_sight p = sight p.seat
 
+  -- the actions of all passes that it knows: those of the mutex's run up to its last step
+  abbrev pub pass_past : Pass O A R K → List Action
+  pass_past p = past_of p.seat
+
   -- from one to the other, the pass has woken exactly those that it granted the monitor, in order
   abbrev pub PassWokenAsGranted : Pass O A R K → Pass O A R K → Type 0
   PassWokenAsGranted p q = WokenAsGranted p.seat q.seat
+
+  -- the run of the monitor's mutex goes on from what the pass knew to what it knows
+  abbrev pub PassRunGoesOnFrom : Pass O A R K → Pass O A R K → Type 0
+  PassRunGoesOnFrom p q = RunGoesOnFrom p.seat q.seat
 
   -- the journal's length when the pass left last
   abbrev pub seen_of : Pass O A R K → ℕ

@@ -4,7 +4,7 @@ use Rattle.lfm_model.specs.declared.answers.Locked.{Locked}
 use Rattle.lfm_model.specs.declared.refusals.Refusal.{Refusal}
 use Rattle.lfm_monitor.specs.declared.monitor.Monitor.{Monitor}
 use Rattle.lfm_monitor.specs.declared.pass.Pass.{Pass}
-use Rattle.lfm_monitor.specs.Belongs.{OfMonitor, PassWokenAsGranted, cond_seats_of, mine_of, mutex_limits, pass_sight, seen_of, share_of, tries_in}
+use Rattle.lfm_monitor.specs.Belongs.{OfMonitor, PassRunGoesOnFrom, PassWokenAsGranted, cond_seats_of, mine_of, mutex_limits, pass_sight, seen_of, share_of, tries_in}
 use Rattle.lfm_monitor.specs.Passes.{EnterEnds, EnterRefused, journal_of}
 use Rattle.lfm_monitor.specs.Steps.{ByBarging, ByUnlocks}
 
@@ -23,6 +23,7 @@ module _ {O A R : Type 0} {K : _} where
     pub sends : (pass_sight q).sends ≡ (pass_sight p).sends
     pub journal : journal_of (pass_sight q) ≡ journal_of (pass_sight p)
     pub woken : PassWokenAsGranted p q
+    pub run : PassRunGoesOnFrom p q
     pub seen : 0 < (pass_sight q).depth → seen_of q ≡ seen_of p
     pub mine : mine_of q ≡ mine_of p
     pub cond_seats : cond_seats_of q ≡ cond_seats_of p
@@ -42,6 +43,7 @@ module _ {O A R U : Type 0} {K : _} (m : Monitor O A R K) (makes : Pass O A R K 
     pub steps : ByBarging (mutex_limits m) (tries_in m) (pass_sight p) (pass_sight entered) (Ok locked)
     pub keeps : (seen_of entered ≡ seen_of p) × (cond_seats_of entered ≡ cond_seats_of p)
     pub woken : PassWokenAsGranted p entered
+    pub run : PassRunGoesOnFrom p entered
     pub belong : OfMonitor entered m × OfMonitor executed m
     pub executes : makes entered executed r
     pub leaves : GivesUpTo (pass_sight p).depth executed q
@@ -50,4 +52,4 @@ module _ {O A R U : Type 0} {K : _} (m : Monitor O A R K) (makes : Pass O A R K 
   -- how `hold` ends: with what the section answered, or refused as `enter` is, with nothing changed
   abbrev pub HoldEnds : Pass O A R K → Pass O A R K → Result U Refusal → Type 0
   HoldEnds p q (Ok x) = Holds p q (Ok x)
-  HoldEnds p q (Err r) = Holds p q (Err r) ⊎ (EnterRefused (share_of m) (pass_sight p) (mine_of p) r × SamePass p q × PassWokenAsGranted p q)
+  HoldEnds p q (Err r) = Holds p q (Err r) ⊎ (EnterRefused (share_of m) (pass_sight p) (mine_of p) r × SamePass p q × PassWokenAsGranted p q × PassRunGoesOnFrom p q)

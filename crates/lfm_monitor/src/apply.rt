@@ -1,5 +1,5 @@
 //! `apply`: a pass that holds makes an op of the object, which is written down.
-ghost use Rattle.lfm_monitor.specs.Belongs.{OfMonitor, PassWokenAsGranted, cond_seats_of, mine_of, pass_sight, seen_of, share_of};
+ghost use Rattle.lfm_monitor.specs.Belongs.{OfMonitor, PassRunGoesOnFrom, PassWokenAsGranted, cond_seats_of, mine_of, pass_sight, seen_of, share_of};
 ghost use Rattle.lfm_monitor.specs.Passes.{ApplyEnds};
 ghost use Rattle.std.specs.Prelude.{◌≡◌};
 
@@ -17,6 +17,7 @@ impl<O: Object> Monitor<O> {
         requires belongs { OfMonitor pass.old self.now }
         ensures belongs { OfMonitor pass.new self.now }
         ensures number { (pass_sight pass.new).number ≡ (pass_sight pass.old).number }
+        ensures run { PassRunGoesOnFrom pass.old pass.new }
         ensures woken { PassWokenAsGranted pass.old pass.new }
         ensures applies { ApplyEnds O.after O.reply (share_of self.now) op (pass_sight pass.old) (pass_sight pass.new) (mine_of pass.old) (mine_of pass.new) result }
         ensures seen { seen_of pass.new ≡ seen_of pass.old }

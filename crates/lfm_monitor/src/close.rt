@@ -1,6 +1,6 @@
 //! How a monitor is closed.
 ghost use Rattle.lfm_model.specs.Journals.{LawfulJournal, after_all, own, total};
-ghost use Rattle.lfm_monitor.specs.Belongs.{SameMonitor, OfMonitor, mine_of, mutex_limits, opening_of, pass_sight, passes_of};
+ghost use Rattle.lfm_monitor.specs.Belongs.{SameMonitor, OfMonitor, mine_of, mutex_limits, opening_of, pass_past, pass_sight, passes_of};
 ghost use Rattle.lfm_monitor.specs.Passes.{GoesOnTo, journal_of};
 ghost use Rattle.lfm_mutex.specs.Close.{AllStand, FirstMissing, HaveRun};
 ghost use Rattle.std.specs.Prelude.{◌≡◌, ℕ, IfErr, IfOk, length, vec_len};
@@ -33,7 +33,7 @@ impl<O: Object> Monitor<O> {
         ensures mine { IfOk result (λ r. (j : ℕ) (p : _) → get_elem? passes.items j ≡ some p → (own (pass_sight p).number r.1.items ≡ own (pass_sight p).number (journal_of (pass_sight p))) × (mine_of p ≡ length (own (pass_sight p).number r.1.items))) }
         ensures order { IfOk result (λ r. (j : ℕ) (p : _) → get_elem? passes.items j ≡ some p → GoesOnTo (pass_sight p) r.1.items) }
         ensures whole { IfOk result (λ r. vec_len r.1 ≡ total (λ p. mine_of p) passes.items) }
-        ensures run { IfOk result (λ _. HaveRun (λ p. pass_sight p) (mutex_limits self) passes.items) }
+        ensures run { IfOk result (λ _. HaveRun (λ p. pass_sight p) (λ p. pass_past p) (mutex_limits self) passes.items) }
     {
         let Monitor {
             mutex,

@@ -1,7 +1,7 @@
 //! `try_receive`: a pass that sleeps finds out whether it was granted the monitor. A hold that begins is written down.
 ghost use Rattle.lfm_protocol.specs.declared.answers.Answer.TheVariants as Answered;
 ghost use Rattle.lfm_protocol.specs.declared.answers.Call.{Call};
-ghost use Rattle.lfm_monitor.specs.Belongs.{OfMonitor, PassWokenAsGranted, cond_seats_of, mine_of, mutex_limits, pass_sight, seen_of};
+ghost use Rattle.lfm_monitor.specs.Belongs.{OfMonitor, PassRunGoesOnFrom, PassWokenAsGranted, cond_seats_of, mine_of, mutex_limits, pass_sight, seen_of};
 ghost use Rattle.lfm_monitor.specs.Passes.{ReceiveEnds};
 ghost use Rattle.lfm_monitor.specs.Steps.{BySteps};
 ghost use Rattle.std.specs.Prelude.{◌≡◌};
@@ -20,6 +20,7 @@ impl<O: Object> Monitor<O> {
         requires belongs { OfMonitor pass.old self.now }
         ensures belongs { OfMonitor pass.new self.now }
         ensures number { (pass_sight pass.new).number ≡ (pass_sight pass.old).number }
+        ensures run { PassRunGoesOnFrom pass.old pass.new }
         ensures woken { PassWokenAsGranted pass.old pass.new }
         ensures enters { ReceiveEnds (pass_sight pass.old) (pass_sight pass.new) (mine_of pass.old) (mine_of pass.new) result }
         ensures seen { seen_of pass.new ≡ seen_of pass.old }

@@ -2,7 +2,7 @@
 ghost use Rattle.lfm_protocol.specs.declared.answers.Answer.TheVariants as Answered;
 ghost use Rattle.lfm_protocol.specs.declared.answers.Call.{Call};
 ghost use Rattle.lfm_mutex.specs.calls.Trails.{MakesAtMost};
-ghost use Rattle.lfm_monitor.specs.Belongs.{OfMonitor, PassWokenAsGranted, cond_seats_of, mine_of, mutex_limits, pass_sight, seen_of, share_of};
+ghost use Rattle.lfm_monitor.specs.Belongs.{OfMonitor, PassRunGoesOnFrom, PassWokenAsGranted, cond_seats_of, mine_of, mutex_limits, pass_sight, seen_of, share_of};
 ghost use Rattle.lfm_monitor.specs.Passes.{TryEnds};
 ghost use Rattle.lfm_monitor.specs.Steps.{BySteps};
 ghost use Rattle.std.specs.Prelude.{◌≡◌};
@@ -22,6 +22,7 @@ impl<O: Object> Monitor<O> {
         requires belongs { OfMonitor pass.old self.now }
         ensures belongs { OfMonitor pass.new self.now }
         ensures number { (pass_sight pass.new).number ≡ (pass_sight pass.old).number }
+        ensures run { PassRunGoesOnFrom pass.old pass.new }
         ensures woken { PassWokenAsGranted pass.old pass.new }
         ensures enters { TryEnds (share_of self.now) (pass_sight pass.old) (pass_sight pass.new) (mine_of pass.old) (mine_of pass.new) result }
         ensures seen { seen_of pass.new ≡ seen_of pass.old }

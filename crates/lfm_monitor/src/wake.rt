@@ -1,6 +1,6 @@
 //! How a pass wakes those that wait on a condition.
 ghost use Rattle.lfm_condvar.specs.Wakes.{SendsBy};
-ghost use Rattle.lfm_monitor.specs.Belongs.{OfMonitor, PassWokenAsGranted, cond_seats_of, conditions_of, mine_of, mutex_limits, pass_sight, passes_of, seen_of, tries_in};
+ghost use Rattle.lfm_monitor.specs.Belongs.{OfMonitor, PassRunGoesOnFrom, PassWokenAsGranted, cond_seats_of, conditions_of, mine_of, mutex_limits, pass_sight, passes_of, seen_of, tries_in};
 ghost use Rattle.lfm_monitor.specs.CondSeats.{CondsWokenAsGranted, condition_limits};
 ghost use Rattle.lfm_monitor.specs.Conditions.{OnlySends, WakeAllEnds, WakeOneEnds};
 ghost use Rattle.std.specs.Prelude.{◌≡◌};
@@ -30,6 +30,7 @@ impl<O: Object> Monitor<O> {
         requires belongs { OfMonitor pass.old self.now }
         ensures belongs { OfMonitor pass.new self.now }
         ensures number { (pass_sight pass.new).number ≡ (pass_sight pass.old).number }
+        ensures run { PassRunGoesOnFrom pass.old pass.new }
         ensures woken { PassWokenAsGranted pass.old pass.new }
         ensures cond_woken { CondsWokenAsGranted (cond_seats_of pass.old) (cond_seats_of pass.new) }
         ensures wakes { WakeOneEnds (passes_of self.now) (condition_limits (passes_of self.now)) (tries_in self.now) (conditions_of self.now) condition (cond_seats_of pass.old) (cond_seats_of pass.new) (pass_sight pass.old) (pass_sight pass.new) result }
@@ -65,6 +66,7 @@ impl<O: Object> Monitor<O> {
         requires belongs { OfMonitor pass.old self.now }
         ensures belongs { OfMonitor pass.new self.now }
         ensures number { (pass_sight pass.new).number ≡ (pass_sight pass.old).number }
+        ensures run { PassRunGoesOnFrom pass.old pass.new }
         ensures woken { PassWokenAsGranted pass.old pass.new }
         ensures cond_woken { CondsWokenAsGranted (cond_seats_of pass.old) (cond_seats_of pass.new) }
         ensures wakes { WakeAllEnds (passes_of self.now) (condition_limits (passes_of self.now)) (tries_in self.now) (conditions_of self.now) condition (cond_seats_of pass.old) (cond_seats_of pass.new) (pass_sight pass.old) (pass_sight pass.new) result }

@@ -46,8 +46,10 @@ use Rattle.lfm_laws.proofs.steady.frames.Sums.{sum_agrees, sum_update}
 use Rattle.lfm_laws.proofs.table.Exact.{push_narrow}
 use Rattle.lfm_laws.proofs.table.Made.{turn_of_step}
 use Rattle.lfm_laws.proofs.table.Packing.{link_packed}
+use Rattle.lfm_table.specs.declared.seat_view.Action.{Action}
+use Rattle.lfm_table.specs.declared.seat_view.Action.TheVariants.{Begins, Makes, LoadsOwner}
 use Rattle.lfm_table.specs.declared.seat_view.Seen.{Seen}
-use Rattle.lfm_table.specs.Actions.{Action, event, loads_owner, seen, stores, told_of, events_of, after_action, if_own, noted, noted_of, part_of}
+use Rattle.lfm_table.specs.Actions.{seen, stores, told_of, events_of, after_action, if_own, noted, noted_of, part_of}
 use Rattle.lfm_table.proofs.tables.StepFacts.{made_of}
 use Rattle.lfm_mutex.specs.TableRuns.{answer_noted, answers_noted, entries_told, owner_loads, own_push, own_pushes, push_noted, pushes_noted, steps_told}
 
@@ -76,9 +78,9 @@ owner_load_entry s t n = ⊎_elim
 
 first_entry : (c : Core) (t : ℕ) (d : Action) (later : List Action)
     → entries_of_seat c t (events_of (d ∷ later)) ≡ entries_told (noted_of c t d) + entries_of_seat (after_action c d) t (events_of later)
-first_entry c t (event (begins s call)) later = refl
-first_entry c t (event (makes s)) later = ap (λ (n : ℕ). n + entries_of_seat (happens c (makes s)).core t (events_of later)) (own_entry c s t)
-first_entry c t (loads_owner s) later = let z = owner_load_entry s t c.owner in omega (arith, z)
+first_entry c t (Begins s call) later = refl
+first_entry c t (Makes s) later = ap (λ (n : ℕ). n + entries_of_seat (happens c (makes s)).core t (events_of later)) (own_entry c s t)
+first_entry c t (LoadsOwner s) later = let z = owner_load_entry s t c.owner in omega (arith, z)
 
 -- a seat comes to own as often as its part tells
 pub entries_of_part : (c : Core) (t : ℕ) (actions : List Action) → entries_of_seat c t (events_of actions) ≡ entries_told (part_of c t actions)
@@ -136,9 +138,9 @@ noted_by_seat : (s : ℕ) (x : Seen) (later : List Seen) → if_own s s x ++ lat
 noted_by_seat s x later = rw (eq-eqb s s refl) (λ e. let n = ap length e in omega (arith, n))
 
 seats_stay : (c : Core) (d : Action) → length (after_action c d).seats ≡ length c.seats
-seats_stay c (event (begins s call)) = seats-begin c s call
-seats_stay c (event (makes s)) = seats-step c s
-seats_stay c (loads_owner s) = refl
+seats_stay c (Begins s call) = seats-begin c s call
+seats_stay c (Makes s) = seats-step c s
+seats_stay c (LoadsOwner s) = refl
 
 is_place : (n s : ℕ) → ((0 < s) × (s ≤ n)) ⊎ ((s ≡ 0) ⊎ (n < s))
 is_place n zero = inr (inl refl)
@@ -157,21 +159,23 @@ step_summed c s =
 
 -- the steps that an action is, and the loads for `owner`
 abbrev made_by : Core → Action → ℕ
-made_by c (event e) = stepped_in c e
-made_by c (loads_owner s) = 1
+made_by c (Begins s call) = stepped_in c (begins s call)
+made_by c (Makes s) = stepped_in c (makes s)
+made_by c (LoadsOwner s) = 1
 
 action_summed : (n : ℕ) (c : Core) (d : Action) (later : List Action) → length c.seats ≡ n → OnlySeats n c (d ∷ later) → sum_to (λ (t : ℕ). steps_told (noted_of c t d)) n ≡ made_by c d
-action_summed n c (event (begins s call)) later many only = none_summed n
-action_summed n c (event (makes s)) later many only = subst (λ (m : ℕ). sum_to (λ (t : ℕ). steps_told (if_own s t (noted c s))) m ≡ stepped_in c (makes s)) many (step_summed c s)
-action_summed n c (loads_owner s) later many only = ⊎_elim
+action_summed n c (Begins s call) later many only = none_summed n
+action_summed n c (Makes s) later many only = subst (λ (m : ℕ). sum_to (λ (t : ℕ). steps_told (if_own s t (noted c s))) m ≡ stepped_in c (makes s)) many (step_summed c s)
+action_summed n c (LoadsOwner s) later many only = ⊎_elim
     (λ (is : (0 < s) × (s ≤ n)). summed_own n s (seen TryOwnerLoad c.owner) is.0 is.1)
     (λ (out : (s ≡ 0) ⊎ (n < s)). absurd (noted_by_seat s (seen TryOwnerLoad c.owner) (part_of c s later) (only s out)))
     (is_place n s)
 
 made_first : (c : Core) (d : Action) (later : List Action)
     → made_by c d + (steps_of_run (after_action c d) (events_of later) + owner_loads later) ≡ steps_of_run c (events_of (d ∷ later)) + owner_loads (d ∷ later)
-made_first c (event e) later = omega arith
-made_first c (loads_owner s) later = omega arith
+made_first c (Begins s call) later = omega arith
+made_first c (Makes s) later = omega arith
+made_first c (LoadsOwner s) later = omega arith
 
 -- the parts of all seats tell the steps of the run, and the loads for `owner`
 pub steps_of_parts : (n : ℕ) (c : Core) (actions : List Action) → length c.seats ≡ n → OnlySeats n c actions
@@ -217,13 +221,14 @@ owner_load_pushes s t n = ⊎_elim
     (cases_eq s t)
 
 action_told : (c : Core) (g : Ghost) (t : ℕ) (d : Action) → Fits c g → own_push c t d ≡ pushes_noted t (noted_of c t d)
-action_told c g t (event (begins s call)) fits = refl
-action_told c g t (event (makes s)) fits = own_told c g s t fits
-action_told c g t (loads_owner s) fits = owner_load_pushes s t c.owner
+action_told c g t (Begins s call) fits = refl
+action_told c g t (Makes s) fits = own_told c g s t fits
+action_told c g t (LoadsOwner s) fits = owner_load_pushes s t c.owner
 
 action_keeps : (c : Core) (d : Action) → Steady c → Steady (after_action c d)
-action_keeps c (event e) steady = run_keeps c (e ∷ []) steady
-action_keeps c (loads_owner s) steady = steady
+action_keeps c (Begins s call) steady = run_keeps c (begins s call ∷ []) steady
+action_keeps c (Makes s) steady = run_keeps c (makes s ∷ []) steady
+action_keeps c (LoadsOwner s) steady = steady
 
 -- the records that a seat pushes are those that its part tells
 pub pushes_told : (c : Core) (t : ℕ) (actions : List Action) → Steady c → own_pushes c t actions ≡ pushes_noted t (part_of c t actions)
@@ -327,9 +332,8 @@ answer_of_step s t x = ⊎_elim
     (λ (n : s ≢ t). rw (ne_eqb s t n) refl)
     (cases_eq s t)
 
-event_answers : (c : Core) (t : ℕ) (e : Event) → IsReached c → filter (of_seat t) (answered_in c e) ≡ answers_noted t (noted_of c t (event e))
-event_answers c t (begins s call) is = refl
-event_answers c t (makes s) is = ap (filter (of_seat t)) (step_answer c s is) ∙ (answers_of_seat s t (seat c.seats s).point ∙ answer_of_step s t (noted c s))
+made_answers : (c : Core) (s t : ℕ) → IsReached c → filter (of_seat t) (answered_in c (makes s)) ≡ answers_noted t (noted_of c t (Makes s))
+made_answers c s t is = ap (filter (of_seat t)) (step_answer c s is) ∙ (answers_of_seat s t (seat c.seats s).point ∙ answer_of_step s t (noted c s))
 
 owner_load_answers : (s t n : ℕ) → [] ≡ answers_noted t (if_own s t (seen TryOwnerLoad n))
 owner_load_answers s t n = ⊎_elim
@@ -343,11 +347,12 @@ answers_join t xs ys = flat_map-append (λ (x : Seen). answer_noted t x.point) x
 -- the answers Held(Queued) of a seat are those that its part tells
 pub answers_told : (c : Core) (t : ℕ) (actions : List Action) → IsReached c → filter (of_seat t) (answer_record c (events_of actions)) ≡ answers_noted t (part_of c t actions)
 answers_told c t [] is = refl
-answers_told c t (event e ∷ later) is =
-    filter-append (of_seat t) (answered_in c e) (answer_record (happens c e).core (events_of later))
-    ∙ ((λ i. event_answers c t e is i ++ answers_told (happens c e).core t later (reached_next c e is) i)
-    ∙ sym (answers_join t (noted_of c t (event e)) (part_of (happens c e).core t later)))
-answers_told c t (loads_owner s ∷ later) is =
+answers_told c t (Begins s call ∷ later) is = answers_told (happens c (begins s call)).core t later (reached_next c (begins s call) is)
+answers_told c t (Makes s ∷ later) is =
+    filter-append (of_seat t) (answered_in c (makes s)) (answer_record (happens c (makes s)).core (events_of later))
+    ∙ ((λ i. made_answers c s t is i ++ answers_told (happens c (makes s)).core t later (reached_next c (makes s) is) i)
+    ∙ sym (answers_join t (noted_of c t (Makes s)) (part_of (happens c (makes s)).core t later)))
+answers_told c t (LoadsOwner s ∷ later) is =
     answers_told c t later is
     ∙ (ap (λ (l : List Record). l ++ answers_noted t (part_of c t later)) (owner_load_answers s t c.owner)
-    ∙ sym (answers_join t (noted_of c t (loads_owner s)) (part_of c t later)))
+    ∙ sym (answers_join t (noted_of c t (LoadsOwner s)) (part_of c t later)))

@@ -20,9 +20,11 @@ use Rattle.lfm_laws.proofs.lawful.runs.LimitsKept.{limits_stay}
 use Rattle.lfm_laws.proofs.lawful.runs.PushOrder.{answers_are_the_records}
 use Rattle.lfm_laws.proofs.lawful.runs.Reached.{steady_reached}
 use Rattle.lfm_table.specs.declared.rule.Moving.{Moving}
+use Rattle.lfm_table.specs.declared.seat_view.Action.{Action}
+use Rattle.lfm_table.specs.declared.seat_view.Action.TheVariants.{LoadsOwner}
 use Rattle.lfm_table.specs.declared.seat_view.View.{View}
-use Rattle.lfm_table.specs.Actions.{Action, loads_owner, HasRun, told, events_of, part_of, begins_and_step}
-use Rattle.lfm_table.proofs.tables.Actions.{led_join, part_join}
+use Rattle.lfm_table.specs.Actions.{HasRun, told, events_of, part_of, begins_and_step}
+use Rattle.lfm_table.proofs.tables.Actions.{led_join, no_part, part_join}
 use Rattle.lfm_table.proofs.tables.RuleKept.{led_on}
 use Rattle.lfm_mutex.proofs.LawsHeld.{core_of}
 use Rattle.lfm_mutex.proofs.RunTrails.{answers_told, entries_of_part, pushes_told, rest_is_nil, steps_of_parts}
@@ -92,6 +94,7 @@ module _ {T : Type 0} (follows : ℕ → T → T → Type 0) (fits : T → ℕ �
         goes,
         sym (led after l more goes) ∙ (on.3.1 ∙ ap (λ (c : Core). (made (put c me.0.number p) me.0.number).core) (led s l actions holds)),
         on.4,
+        on.5 ∙ ap (λ (d : List Action). d ++ begins_and_step me.0.number me.0.standing p) holds.2,
       )
 
   pub other_steps_keep_the_core : OtherStepsKeepTheCore follows fits
@@ -105,7 +108,7 @@ module _ {T : Type 0} (follows : ℕ → T → T → Type 0) (fits : T → ℕ �
         let on = owner_keeps follows fits j me user s h at in
         let tells = owner_tells follows fits j me user s h at in
         let placed : j + 1 ≡ me.0.number = sym (h.each j me.0 at).number in
-        (_, (on.0, on.1 ∙ holds.1, on.2 ∙ (λ i. holds.2 i ++ loads_owner (placed i) ∷ [])), led_join (start l) actions (loads_owner me.0.number ∷ []), tells)),
+        (_, (on.0, on.1 ∙ holds.1, on.2 ∙ (λ i. holds.2 i ++ LoadsOwner (placed i) ∷ [])), led_join (start l) actions (LoadsOwner me.0.number ∷ []), tells)),
   )
 
   trail_parts : (s : St) (l : Limits) (early late : List Action) (j : ℕ) (v : View T) → HoldsAfter follows fits l (early ++ late) s → get_elem? s.views j ≡ some v
@@ -152,7 +155,7 @@ module _ {T : Type 0} (follows : ℕ → T → T → Type 0) (fits : T → ℕ �
       let many : length h.core.seats ≡ l.seats =
       ap (λ (c : Core). length c.seats) h.run.here ∙ (ap (λ (k : Limits). k.seats) (limits_stay h.opened (events_of h.actions) h.run.allowed) ∙ ap (λ (k : Limits). k.seats) holds.1) in
       let most : length s.views ≤ length h.core.seats = h.few in
-      let all = h.run.others t (⊎_elim (λ (none : t ≡ 0). inl none) (λ (far : l.seats < t). inr (omega (arith, far, most, many))) out) in
+      let all = no_part (start h.opened) t h.actions (h.run.others t (⊎_elim (λ (none : t ≡ 0). inl none) (λ (far : l.seats < t). inr (omega (arith, far, most, many))) out)) in
       rest_is_nil (part_of (start l) t early) (late_part l early late t) (sym (part_join (start l) t early late) ∙ ((λ i. part_of (start (sym holds.1 i)) t (sym holds.2 i)) ∙ all))
 
   pub tables_end_calls : TablesEndCalls follows fits

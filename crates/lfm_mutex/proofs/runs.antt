@@ -8,6 +8,7 @@ pub mod OneStep
 pub mod QueuePoints
 pub mod ReceivePoints
 pub mod RunFacts
+pub mod RunGoesOn
 pub mod Running
 pub mod SendEnds
 pub mod SendFacts

@@ -10,7 +10,8 @@ use Rattle.lfm_protocol.specs.Limits.{are_in_limits}
 use Rattle.lfm_protocol.specs.Seats.{unposted}
 use Rattle.lfm_protocol.specs.Step.{start}
 use Rattle.lfm_laws.specs.laws.Schedules.{reached}
-use Rattle.lfm_table.specs.Actions.{Action, events_of, part_of}
+use Rattle.lfm_table.specs.declared.seat_view.Action.{Action}
+use Rattle.lfm_table.specs.Actions.{KnowsRun, events_of, own_of, part_of}
 use Rattle.lfm_laws.specs.table.Words.{words}
 use Rattle.lfm_mutex.specs.calls.Sight.{Sight}
 
@@ -84,12 +85,15 @@ pub record IsFree (c : Core) : Type 0 where
 abbrev pub AreFree : List ℕ → Type 0
 AreFree ws = (c : Core) × (ws ≡ words c) × IsFree c
 
-module _ {A : Type 0} {T : Type 0} (look : A → Sight T) (l : Limits) (seats : List A) where
+module _ {A : Type 0} {T : Type 0} (look : A → Sight T) (past : A → List Action) (l : Limits) (seats : List A) where
   -- Since the opening with these limits some actions of these seats, and of nobody else, have led from the start to a free state. The trail
-  -- of each seat is its part of them.
+  -- of each seat is its part of them. `past` says which actions a seat knew, those up to its last step: they are an early part of the run, and
+  -- the later ones are all of others.
   pub record HaveRun : Type 0 where
     pub actions : List Action
     pub allowed : are_in_limits l.seats l.budget ≡ true
     pub free : IsFree (reached l (events_of actions))
     pub trails : (i : ℕ) (s : A) → get_elem? seats i ≡ some s → (look s).trail ≡ part_of (start l) (look s).number actions
+    pub known : (i : ℕ) (s : A) → get_elem? seats i ≡ some s → KnowsRun l actions (look s).number (past s) (look s).trail
     pub others : (t : ℕ) → (t ≡ 0) ⊎ (l.seats < t) → part_of (start l) t actions ≡ []
+    pub nobody_else : (t : ℕ) → (t ≡ 0) ⊎ (l.seats < t) → own_of t actions ≡ []

@@ -8,4 +8,4 @@ use Rattle.lfm_table.specs.declared.seat_view.View.{View}
 use Rattle.lfm_table.specs.declared.rule.Moving.{Moving}
 
 abbrev pub Fresh : {T : Type 0} → T → ℕ → ℕ → Limits → SeatState → Me (Option (Moving T)) (View T) → Option (Moving T) → Limits → Type 0
-Fresh v k number l p m a all = (number ≡ k) × (l ≡ all) × (p ≡ absent) × (a ≡ None) × (m.0.trail ≡ []) × (m.0.last ≡ Some v) × (m.0.last_found ≡ None) × (m.0.limits ≡ all) × (m.0.ended ≡ 0)
+Fresh v k number l p m a all = (number ≡ k) × (l ≡ all) × (p ≡ absent) × (a ≡ None) × (m.0.trail ≡ []) × (m.0.last ≡ Some v) × (m.0.last_found ≡ None) × (m.0.limits ≡ all) × (m.0.ended ≡ 0) × (m.0.actions ≡ [])

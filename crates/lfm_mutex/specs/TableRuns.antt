@@ -25,14 +25,16 @@ use Rattle.lfm_laws.specs.laws.Laws.{IsReached}
 use Rattle.lfm_laws.specs.laws.Overtaking.{enters_at, entries_of_run, releases_of_run, entries_of_seat}
 use Rattle.lfm_laws.specs.laws.Progress.{steps_of_run, ended_in_run}
 use Rattle.lfm_laws.specs.laws.Reading.{Reads}
-use Rattle.lfm_laws.specs.laws.Schedules.{makes, is_call, reached, run_of, push_record, popped_record, answer_record}
+use Rattle.lfm_laws.specs.laws.Schedules.{is_call, reached, run_of, push_record, popped_record, answer_record}
 use Rattle.lfm_laws.specs.table.Words.{index, link_of, written}
 use Rattle.lfm_mutex.specs.Laws.{IsCore}
 use Rattle.lfm_table.specs.declared.rule.Moving.{Moving}
+use Rattle.lfm_table.specs.declared.seat_view.Action.{Action}
+use Rattle.lfm_table.specs.declared.seat_view.Action.TheVariants.{Makes, LoadsOwner}
 use Rattle.lfm_table.specs.declared.seat_view.Role.TheVariants.{User}
 use Rattle.lfm_table.specs.declared.seat_view.View.{View}
 use Rattle.lfm_table.specs.declared.seat_view.Seen.{Seen}
-use Rattle.lfm_table.specs.Actions.{Action, event, loads_owner, HasRun, told, events_of, after_action, part_of, begins_and_step}
+use Rattle.lfm_table.specs.Actions.{HasRun, told, events_of, after_action, part_of, begins_and_step}
 use Rattle.lfm_table.specs.Rule.{Advanced, Held, ReadsOwner, first_view, joined, split_view, with_joined, with_split}
 use Rattle.lfm_table.specs.Settled.{Became}
 use Rattle.lfm_table.specs.Steps.{Ready}
@@ -58,12 +60,12 @@ late_part l early late t = part_of (state_after l early) t late
 -- how many of these actions load the owner word for `owner`
 abbrev pub owner_loads : List Action → ℕ
 owner_loads [] = 0
-owner_loads (event e ∷ later) = owner_loads later
-owner_loads (loads_owner s ∷ later) = 1 + owner_loads later
+owner_loads (LoadsOwner s ∷ later) = 1 + owner_loads later
+owner_loads (action ∷ later) = owner_loads later
 
 -- the records that seat t pushes by these actions
 abbrev pub own_push : Core → ℕ → Action → List Record
-own_push c t (event (makes s)) = if nat_eq s t then pushed_by c s else []
+own_push c t (Makes s) = if nat_eq s t then pushed_by c s else []
 own_push c t _ = []
 
 abbrev pub own_pushes : Core → ℕ → List Action → List Record
@@ -101,7 +103,8 @@ module _ {T : Type 0} (follows : ℕ → T → T → Type 0) (fits : T → ℕ �
   abbrev pub HoldsAfter : Limits → List Action → State (Option (Moving T)) (View T) → Type 0
   HoldsAfter l actions s = (h : Held follows fits s) × (h.opened ≡ l) × (h.actions ≡ actions)
 
-  -- whenever the rule holds there is a run; words and seats are the state to which it leads, and trails are its parts
+  -- Whenever the rule holds there is a run. Words and seats are the state to which it leads, and trails are its parts. What each seat knows of
+  -- it, the actions up to its last step, is an early part of it, in which the seat's part is its whole trail.
   abbrev pub TablesHaveARun : Type 0
   TablesHaveARun =
       ((s : State (Option (Moving T)) (View T)) → Held follows fits s → (l : Limits) × (actions : List Action) × HoldsAfter l actions s)
@@ -117,7 +120,7 @@ module _ {T : Type 0} (follows : ℕ → T → T → Type 0) (fits : T → ℕ �
 
   -- A seat whose view stands at place j and which has the value a in its own memory, having become p by begins, makes its step: it finds n,
   -- has a new view, and takes the moving value or gives it back. The run goes on by these begins and the step, to the core that the core's
-  -- step makes.
+  -- step makes, and the seat then knows the run up to now.
   abbrev pub TablesGoOnAsTheCore : Type 0
   TablesGoOnAsTheCore =
       (s : State (Option (Moving T)) (View T)) (l : Limits) (actions : List Action) (j : ℕ) (me : Me (Option (Moving T)) (View T)) (p : SeatState) (a : Option T) → HoldsAfter l actions s
@@ -125,7 +128,7 @@ module _ {T : Type 0} (follows : ℕ → T → T → Type 0) (fits : T → ℕ �
       → (n : ℕ) × (w : View T) × (act : Act (Option (Moving T))) × (n ≡ slice_index s.words (index p me.0.limits.seats me.0.number)) × Valid s.homes me.1 act
       × HoldsAfter l (actions ++ begins_and_step me.0.number me.0.standing p) (stepped s (index p me.0.limits.seats me.0.number) (written p me.0.number n) j me.1 w act)
       × (state_after l (actions ++ begins_and_step me.0.number me.0.standing p) ≡ (made (put (state_after l actions) me.0.number p) me.0.number).core)
-      × Advanced follows fits p a me (told p me.0.number n) (w, carried_after me.1 act)
+      × Advanced follows fits p a me (told p me.0.number n) (w, carried_after me.1 act) × (w.actions ≡ actions ++ begins_and_step me.0.number me.0.standing p)
 
   -- These keep the core: seats are split off and joined again, which is no action, and a seat loads the owner word for `owner`, which is one.
   abbrev pub OtherStepsKeepTheCore : Type 0
@@ -134,8 +137,8 @@ module _ {T : Type 0} (follows : ℕ → T → T → Type 0) (fits : T → ℕ �
       → ((v : View T) → v.role ≡ User → v.made + 2 ≤ v.limits.seats → Splits (HoldsAfter l actions) 0 v (with_split v) (split_view v))
       × ((v w : View T) (other : ℕ) → v.role ≡ User → w.role ≡ User → w.standing.point ≡ Rest → w.standing.depth ≡ 0 → Joins (HoldsAfter l actions) 0 v other w (with_joined v w) (joined w))
       × ((s : State (Option (Moving T)) (View T)) (j : ℕ) (me : Me (Option (Moving T)) (View T)) → HoldsAfter l actions s → get_elem? s.views j ≡ some me.0 → me.0.role ≡ User
-      → (w : View T) × HoldsAfter l (actions ++ loads_owner me.0.number ∷ []) (stepped s 1 (slice_index s.words 1) j me.1 w keeps)
-      × (state_after l (actions ++ loads_owner me.0.number ∷ []) ≡ state_after l actions) × ReadsOwner me (slice_index s.words 1) (w, me.1))
+      → (w : View T) × HoldsAfter l (actions ++ LoadsOwner me.0.number ∷ []) (stepped s 1 (slice_index s.words 1) j me.1 w keeps)
+      × (state_after l (actions ++ LoadsOwner me.0.number ∷ []) ≡ state_after l actions) × ReadsOwner me (slice_index s.words 1) (w, me.1))
 
   -- The laws of schedules
 

@@ -10,3 +10,4 @@ pub mod Sections
 pub mod Barging
 pub mod WakeUps
 pub mod Woken
+pub mod RunGoesOn

@@ -4,6 +4,7 @@
 ghost use Rattle.std.specs.Prelude.{◌≡◌, ◌+◌, ◌-◌, ◌<◌, MatchBool, None, Some};
 ghost use Rattle.lfm_mutex.specs.Belongs.{Beside, OfMutex, limits_of, tries_of};
 ghost use Rattle.lfm_mutex.specs.calls.Barging.{BargesBy, FailedTry, GainsIf, MayTry, TriesBy, TriesFirst, TryHeld};
+ghost use Rattle.lfm_mutex.specs.calls.RunGoesOn.{RunGoesOnFrom};
 ghost use Rattle.lfm_mutex.specs.calls.Sight.{sight, LocksWaiting};
 ghost use Rattle.lfm_mutex.specs.calls.Woken.{WakesNobody, WokenAsGranted};
 
@@ -63,6 +64,7 @@ impl<T: Kept> Mutex<T> {
         requires belongs { OfMutex seat.old self.now }
         ensures belongs { Beside seat.old seat.new }
         ensures woken { WokenAsGranted seat.old seat.new }
+        ensures run { RunGoesOnFrom seat.old seat.new }
         ensures locks { LocksWaiting T.follows T.fits (limits_of self.now).budget (sight seat.old) (sight seat.new) result }
         ensures steps { BargesBy (limits_of self.now) (tries_of self.now) (sight seat.old) (sight seat.new) result }
         ensures first { 0 < self.now.pace.spins → MayTry (limits_of self.now).budget (sight seat.old) → TriesFirst (limits_of self.now) (self.now.pace.spins - 1 + self.now.pace.naps) (sight seat.old) (sight seat.new) result }
@@ -84,6 +86,7 @@ impl<T: Kept> Mutex<T> {
         requires free { MayTry (limits_of self.now).budget (sight seat.old) }
         ensures belongs { Beside seat.old seat.new }
         ensures woken { WakesNobody seat.old seat.new }
+        ensures run { RunGoesOnFrom seat.old seat.new }
         ensures gains { GainsIf T.follows T.fits (limits_of self.now).budget (sight seat.old) (sight seat.new) result }
         ensures tries { TriesBy (limits_of self.now) (self.now.pace.spins - (self.now.pace.spins - 1)) (sight seat.old) (sight seat.new) result }
         ensures held { (how : _) → result ≡ Some how → TryHeld (limits_of self.now) (sight seat.old) (sight seat.new) how }
@@ -102,6 +105,7 @@ impl<T: Kept> Mutex<T> {
         requires free { MayTry (limits_of self.now).budget (sight seat.old) }
         ensures belongs { Beside seat.old seat.new }
         ensures woken { WokenAsGranted seat.old seat.new }
+        ensures run { RunGoesOnFrom seat.old seat.new }
         ensures locks { LocksWaiting T.follows T.fits (limits_of self.now).budget (sight seat.old) (sight seat.new) result }
         ensures steps { BargesBy (limits_of self.now) (self.now.pace.spins - 1 + self.now.pace.naps) (sight seat.old) (sight seat.new) result }
     {
@@ -118,6 +122,7 @@ impl<T: Kept> Mutex<T> {
         requires free { MayTry (limits_of self.now).budget (sight seat.old) }
         ensures belongs { Beside seat.old seat.new }
         ensures woken { WakesNobody seat.old seat.new }
+        ensures run { RunGoesOnFrom seat.old seat.new }
         ensures gains { GainsIf T.follows T.fits (limits_of self.now).budget (sight seat.old) (sight seat.new) result }
         ensures tries { TriesBy (limits_of self.now) (self.now.pace.spins - 1 + self.now.pace.naps) (sight seat.old) (sight seat.new) result }
     {
@@ -135,6 +140,7 @@ impl<T: Kept> Mutex<T> {
         requires free { MayTry (limits_of self.now).budget (sight seat.old) }
         ensures belongs { Beside seat.old seat.new }
         ensures woken { WakesNobody seat.old seat.new }
+        ensures run { RunGoesOnFrom seat.old seat.new }
         ensures gains { GainsIf T.follows T.fits (limits_of self.now).budget (sight seat.old) (sight seat.new) result }
         ensures tries { TriesBy (limits_of self.now) (self.now.pace.spins - 1) (sight seat.old) (sight seat.new) result }
     {
@@ -161,6 +167,7 @@ impl<T: Kept> Mutex<T> {
         requires free { MayTry (limits_of self.now).budget (sight seat.old) }
         ensures belongs { Beside seat.old seat.new }
         ensures woken { WakesNobody seat.old seat.new }
+        ensures run { RunGoesOnFrom seat.old seat.new }
         ensures gains { GainsIf T.follows T.fits (limits_of self.now).budget (sight seat.old) (sight seat.new) result }
         ensures tries { TriesBy (limits_of self.now) self.now.pace.naps (sight seat.old) (sight seat.new) result }
     {
@@ -216,6 +223,7 @@ impl<T: Kept> Mutex<T> {
         requires free { MayTry (limits_of self.now).budget (sight seat.old) }
         ensures belongs { Beside seat.old seat.new }
         ensures woken { WakesNobody seat.old seat.new }
+        ensures run { RunGoesOnFrom seat.old seat.new }
         ensures gains { GainsIf T.follows T.fits (limits_of self.now).budget (sight seat.old) (sight seat.new) result }
         ensures tries { TriesBy (limits_of self.now) 1 (sight seat.old) (sight seat.new) result }
         ensures held { (how : _) → result ≡ Some how → TryHeld (limits_of self.now) (sight seat.old) (sight seat.new) how }

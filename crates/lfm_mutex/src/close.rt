@@ -8,6 +8,7 @@ ghost use Rattle.lfm_table.specs.declared.seat_view.Role.TheVariants.{User};
 ghost use Rattle.lfm_mutex.specs.Belongs.{OfMutex, limits_of};
 ghost use Rattle.lfm_mutex.specs.Close.{AreFree, Idle, Hinders, named, Lacks, Stands, Hindered, FirstMissing, AllStand, LeftLast, LeftByLastHold, HaveRun};
 ghost use Rattle.lfm_table.specs.Reach.{Reached};
+ghost use Rattle.lfm_mutex.specs.calls.RunGoesOn.{past_of};
 ghost use Rattle.lfm_mutex.specs.calls.Sight.{sight};
 ghost use Rattle.lfm_table.specs.Rule.{with_joined};
 
@@ -134,7 +135,8 @@ impl<T: Kept> Mutex<T> {
 
     /// Gives the guarded value back, and ends the mutex, if all seats are there and none holds, sleeps or is in a call. The value
     /// is what the last hold of all left, which is that of the seat with the greatest `ended`, or the opening value if no hold
-    /// has ended. The trails of the seats are then their parts of one run of the core, from the start to a free state. Otherwise
+    /// has ended. The trails of the seats are then their parts of one run of the core, from the start to a free state,
+    /// and what each seat knew of the run is an early part of it. Otherwise
     /// it hands back the mutex and the seats, and names the first seat that hinders it, and how. It compares each seat number of
     /// the mutex with each seat handed in, takes no memory and never waits.
     pub fn close<P: Holder<T>>(self, seats: Vec<P>) -> Result<T, (Mutex<T>, Vec<P>, Missing)>
@@ -145,7 +147,7 @@ impl<T: Kept> Mutex<T> {
         ensures last { IfOk result (λ v. LeftLast (λ p. sight (P.seat_of p)) seats.items v) }
         ensures latest { IfOk result (λ v. LeftByLastHold (λ p. sight (P.seat_of p)) seats.items v) }
         ensures reached { IfOk result (λ v. (j : ℕ) (s : _) (l : T) → get_elem? seats.items j ≡ some s → (sight (P.seat_of s)).last ≡ Some l → Reached T.follows (sight (P.seat_of s)).seats (sight (P.seat_of s)).number l v) }
-        ensures run { IfOk result (λ _. HaveRun (λ p. sight (P.seat_of p)) (limits_of self) seats.items) }
+        ensures run { IfOk result (λ _. HaveRun (λ p. sight (P.seat_of p)) (λ p. past_of (P.seat_of p)) (limits_of self) seats.items) }
     {
         if let Some(missing) = self.missing(&seats) {
             return Err((self, seats, missing));

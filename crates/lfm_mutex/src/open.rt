@@ -8,6 +8,7 @@ ghost use Rattle.lfm_protocol.specs.Limits.{are_in_limits};
 ghost use Rattle.lfm_mutex.specs.AllSeats.{SeatsOf};
 ghost use Rattle.lfm_mutex.specs.Belongs.{OfMutex, limits_of};
 ghost use Rattle.lfm_mutex.specs.Paces.{usual_pace};
+ghost use Rattle.lfm_mutex.specs.calls.RunGoesOn.{past_of};
 ghost use Rattle.lfm_mutex.specs.calls.Sight.{sight, new_sight};
 ghost use Rattle.lfm_table.specs.Rule.{first_view};
 
@@ -91,6 +92,7 @@ impl<T: Kept> Mutex<T> {
         ensures limits { IfOk result (λ r. (limits_of r.0 ≡ record { seats = seats; budget = budget }) × (are_in_limits seats budget ≡ true)) }
         ensures seats { IfOk result (λ r. (vec_len r.1 ≡ seats) × ((j : ℕ) (s : _) → get_elem? r.1.items j ≡ some s → OfMutex s r.0 × (sight s ≡ new_sight value seats (j + 1)))) }
         ensures belongs { IfOk result (λ r. SeatsOf r.1.items r.0) }
+        ensures past { IfOk result (λ r. (j : ℕ) (s : _) → get_elem? r.1.items j ≡ some s → past_of s ≡ []) }
         ensures pace { IfOk result (λ r. r.0.pace ≡ usual_pace) }
         ensures limit { are_in_limits seats budget ≡ false → IfErr result (λ e. e ≡ NewFault.Limit) × IfOk result (λ _. ⊥) }
         ensures memory { are_in_limits seats budget ≡ true → IfErr result (λ e. e ≡ NewFault.Memory) }

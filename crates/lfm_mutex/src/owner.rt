@@ -1,6 +1,7 @@
 //! The call that tells which seat owns the mutex.
 ghost use Rattle.std.specs.Prelude.{◌≡◌};
 ghost use Rattle.lfm_mutex.specs.Belongs.{Beside, OfMutex};
+ghost use Rattle.lfm_mutex.specs.calls.RunGoesOn.{RunGoesOnFrom};
 ghost use Rattle.lfm_mutex.specs.calls.Sight.{sight, TellsOwner};
 ghost use Rattle.lfm_mutex.specs.calls.Woken.{WokenAsGranted};
 
@@ -17,6 +18,7 @@ impl<T: Kept> Mutex<T> {
         requires belongs { OfMutex seat.old self.now }
         ensures belongs { Beside seat.old seat.new }
         ensures woken { WokenAsGranted seat.old seat.new }
+        ensures run { RunGoesOnFrom seat.old seat.new }
         ensures tells { TellsOwner (sight seat.old) (sight seat.new) result }
     {
         let found = self.table.read_owner(&mut seat.place);

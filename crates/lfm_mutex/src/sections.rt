@@ -2,6 +2,7 @@
 ghost use Rattle.std.specs.Prelude.{◌≡◌, ◌+◌, ◌<◌, Some};
 ghost use Rattle.std.specs.Fn.{FnOnceReturnsAtMut};
 ghost use Rattle.lfm_mutex.specs.Belongs.{Beside, OfMutex, limits_of, tries_of};
+ghost use Rattle.lfm_mutex.specs.calls.RunGoesOn.{RunGoesOnFrom};
 ghost use Rattle.lfm_mutex.specs.calls.Sections.{BargesSo, SectionEnds, SectionKeeps, StandsAs, TriesSo, with_value};
 ghost use Rattle.lfm_mutex.specs.calls.Sight.{sight};
 ghost use Rattle.lfm_mutex.specs.calls.Trails.{MakesAtMost};
@@ -20,6 +21,7 @@ fn change<T: Kept, U, F: FnOnce(&mut T) -> U>(seat: &mut Seat<T>, f: F) -> U
     requires callable { F.IsAlwaysCallable f }
     ensures belongs { Beside seat.old seat.new }
     ensures woken { WakesNobody seat.old seat.new }
+    ensures run { RunGoesOnFrom seat.old seat.new }
     ensures changes { (v : T) × (w : T) × ((sight seat.old).value ≡ Some v) × FnOnceReturnsAtMut F.FnOnce f v result w × (sight seat.new ≡ with_value (sight seat.old) w) }
 {
     let Some(value) = seat.value_mut() else {
@@ -54,6 +56,7 @@ impl<T: Kept> Mutex<T> {
         requires keeps { SectionKeeps T.follows T.fits (limits_of self.now) (BargesSo T.follows T.fits (limits_of self.now) (tries_of self.now) (sight seat.old)) (λ v u w. FnOnceReturnsAtMut F.FnOnce f v u w) }
         ensures belongs { Beside seat.old seat.new }
         ensures woken { WokenAsGranted seat.old seat.new }
+        ensures run { RunGoesOnFrom seat.old seat.new }
         ensures section { SectionEnds T.follows T.fits (limits_of self.now) (BargesSo T.follows T.fits (limits_of self.now) (tries_of self.now) (sight seat.old)) (λ v u w. FnOnceReturnsAtMut F.FnOnce f v u w) (sight seat.new) result }
         ensures same { StandsAs (sight seat.old) (sight seat.new) }
     {
@@ -87,6 +90,7 @@ impl<T: Kept> Mutex<T> {
         requires keeps { SectionKeeps T.follows T.fits (limits_of self.now) (TriesSo T.follows T.fits (limits_of self.now) (sight seat.old)) (λ v u w. FnOnceReturnsAtMut F.FnOnce f v u w) }
         ensures belongs { Beside seat.old seat.new }
         ensures woken { WokenAsGranted seat.old seat.new }
+        ensures run { RunGoesOnFrom seat.old seat.new }
         ensures section { SectionEnds T.follows T.fits (limits_of self.now) (TriesSo T.follows T.fits (limits_of self.now) (sight seat.old)) (λ v u w. FnOnceReturnsAtMut F.FnOnce f v u w) (sight seat.new) result }
         ensures same { StandsAs (sight seat.old) (sight seat.new) }
         ensures bounded { MakesAtMost ((limits_of self.now).seats + 13) (sight seat.old) (sight seat.new) }

@@ -8,6 +8,7 @@ ghost use Rattle.lfm_protocol.specs.declared.points.Pusher.{Pusher as PusherNow}
 ghost use Rattle.lfm_mutex.specs.Belongs.{Beside, OfMutex, limits_of};
 ghost use Rattle.lfm_mutex.specs.calls.Due.{due};
 ghost use Rattle.lfm_mutex.specs.calls.FailedPushes.{Spends, MakesBesideFailures};
+ghost use Rattle.lfm_mutex.specs.calls.RunGoesOn.{RunGoesOnFrom};
 ghost use Rattle.lfm_mutex.specs.calls.Runs.{errand, sending, Ends};
 ghost use Rattle.lfm_mutex.specs.calls.Straight.{Course, ComesTo, send_turn};
 ghost use Rattle.lfm_mutex.specs.calls.Trails.{MakesCall};
@@ -150,6 +151,7 @@ pub fn send_awake<T: Kept>(
     requires within { target ≤ seat.old.limits.seats }
     ensures belongs { Beside seat.old seat.new }
     ensures woken { WakesNobody seat.old seat.new }
+    ensures run { RunGoesOnFrom seat.old seat.new }
     ensures made { ComesTo T.follows T.fits (limits_of mutex.now) (CallNow.SendLock target) (sight seat.old) (sight seat.new) (send_turn result.0) }
     ensures bounded { MakesBesideFailures ((limits_of mutex.now).seats + 9) (sight seat.old) (sight seat.new) }
     ensures wakes { Wakes (limits_of mutex.now).seats result.1 (sight seat.old).trail (sight seat.new).trail }
@@ -187,6 +189,7 @@ fn send_any<T: Kept>(
     requires belongs { OfMutex seat.old mutex.now }
     ensures belongs { Beside seat.old seat.new }
     ensures woken { WakesNobody seat.old seat.new }
+    ensures run { RunGoesOnFrom seat.old seat.new }
     ensures sends { Sends (limits_of mutex.now).seats (sight seat.old) target (sight seat.new) result.0 }
     ensures steps { MakesCall (limits_of mutex.now) (λ x. Answered.Sent) (CallNow.SendLock target) (sight seat.old) (sight seat.new) result.0 }
     ensures bounded { MakesBesideFailures ((limits_of mutex.now).seats + 9) (sight seat.old) (sight seat.new) }
@@ -213,6 +216,7 @@ impl<T: Kept> Mutex<T> {
         requires belongs { OfMutex seat.old self.now }
         ensures belongs { Beside seat.old seat.new }
         ensures woken { WokenAsGranted seat.old seat.new }
+        ensures run { RunGoesOnFrom seat.old seat.new }
         ensures sends { Sends (limits_of self.now).seats (sight seat.old) target (sight seat.new) result }
         ensures steps { MakesCall (limits_of self.now) (λ x. Answered.Sent) (CallNow.SendLock target) (sight seat.old) (sight seat.new) result }
         ensures bounded { MakesBesideFailures ((limits_of self.now).seats + 9) (sight seat.old) (sight seat.new) }
@@ -232,6 +236,7 @@ impl<T: Kept> Mutex<T> {
         requires belongs { OfMutex seat.old self.now }
         ensures belongs { Beside seat.old seat.new }
         ensures woken { WakesNobody seat.old seat.new }
+        ensures run { RunGoesOnFrom seat.old seat.new }
         ensures sends { Sends (limits_of self.now).seats (sight seat.old) target (sight seat.new) result.0 }
         ensures steps { MakesCall (limits_of self.now) (λ x. Answered.Sent) (CallNow.SendLock target) (sight seat.old) (sight seat.new) result.0 }
         ensures bounded { MakesBesideFailures ((limits_of self.now).seats + 9) (sight seat.old) (sight seat.new) }

@@ -6,6 +6,7 @@ ghost use Rattle.lfm_protocol.specs.declared.points.Releaser.{Releaser};
 ghost use Rattle.lfm_protocol.specs.Begin.{begin};
 ghost use Rattle.lfm_protocol.specs.Points.{kind};
 ghost use Rattle.lfm_mutex.specs.Belongs.{Beside, OfMutex, limits_of, state_of};
+ghost use Rattle.lfm_mutex.specs.calls.RunGoesOn.{RunGoesOnFrom};
 ghost use Rattle.lfm_mutex.specs.calls.Runs.{is_release};
 ghost use Rattle.lfm_mutex.specs.calls.SeatSteps.{Begins, StepsOn};
 ghost use Rattle.lfm_mutex.specs.calls.Sight.{sight, MayLeave};
@@ -36,6 +37,7 @@ pub fn start<T: Kept>(mutex: &Mutex<T>, seat: &mut Seat<T>, call: Call) -> Turn
     requires belongs { OfMutex seat.old mutex.now }
     ensures belongs { Beside seat.old seat.new }
     ensures woken { WokenAsGranted seat.old seat.new }
+    ensures run { RunGoesOnFrom seat.old seat.new }
     ensures begins { Begins (limits_of mutex.now) call (state_of seat.old) (sight seat.old) result (state_of seat.new) (sight seat.new) }
 {
     begin_call(mutex, seat, call)
@@ -51,6 +53,7 @@ pub fn next<T: Kept>(mutex: &Mutex<T>, seat: &mut Seat<T>) -> Turn
     requires leaves { is_release (state_of seat.old).point ≡ true → MayLeave T.follows T.fits (sight seat.old) }
     ensures belongs { Beside seat.old seat.new }
     ensures woken { WokenAsGranted seat.old seat.new }
+    ensures run { RunGoesOnFrom seat.old seat.new }
     ensures steps { StepsOn T.follows T.fits (kind (state_of seat.old).point) (state_of seat.old) (sight seat.old) result (state_of seat.new) (sight seat.new) }
 {
     match seat.standing.point.kind() {

@@ -8,6 +8,7 @@ ghost use Rattle.lfm_protocol.specs.declared.points.Point.TheVariants.{Rest, Try
 ghost use Rattle.lfm_protocol.specs.Limits.{max_depth};
 ghost use Rattle.lfm_laws.specs.table.Words.{stepped_by};
 ghost use Rattle.lfm_mutex.specs.Belongs.{Beside, OfMutex, limits_of};
+ghost use Rattle.lfm_mutex.specs.calls.RunGoesOn.{RunGoesOnFrom};
 ghost use Rattle.lfm_mutex.specs.calls.Runs.{errand, trying, Ends};
 ghost use Rattle.lfm_mutex.specs.calls.Sight.{sight, Locks};
 ghost use Rattle.lfm_mutex.specs.calls.Straight.{Course, ComesTo, try_turn};
@@ -88,6 +89,7 @@ pub fn try_free<T: Kept>(
     requires charged { seat.old.standing.takes < budget }
     ensures belongs { Beside seat.old seat.new }
     ensures woken { WakesNobody seat.old seat.new }
+    ensures run { RunGoesOnFrom seat.old seat.new }
     ensures made { ComesTo T.follows T.fits (limits_of mutex.now) CallNow.TryLock (sight seat.old) (sight seat.new) (try_turn result) }
 {
     let _budget = budget;
@@ -133,6 +135,7 @@ pub fn try_again<T: Kept>(mutex: &Mutex<T>, seat: &mut Seat<T>) -> Result<Locked
     requires room { seat.old.standing.depth < max_depth }
     ensures belongs { Beside seat.old seat.new }
     ensures woken { WakesNobody seat.old seat.new }
+    ensures run { RunGoesOnFrom seat.old seat.new }
     ensures made { ComesTo T.follows T.fits (limits_of mutex.now) CallNow.TryLock (sight seat.old) (sight seat.new) (try_turn result) }
 {
     let table = &mutex.table;
@@ -169,6 +172,7 @@ fn try_lock_any<T: Kept>(mutex: &Mutex<T>, seat: &mut Seat<T>) -> Result<Locked,
     requires belongs { OfMutex seat.old mutex.now }
     ensures belongs { Beside seat.old seat.new }
     ensures woken { WakesNobody seat.old seat.new }
+    ensures run { RunGoesOnFrom seat.old seat.new }
     ensures locks { Locks T.follows T.fits (limits_of mutex.now).budget (sight seat.old) (sight seat.new) result }
     ensures steps { MakesCall (limits_of mutex.now) (λ x. Answered.Locked x) CallNow.TryLock (sight seat.old) (sight seat.new) result }
 {
@@ -194,6 +198,7 @@ impl<T: Kept> Mutex<T> {
         requires belongs { OfMutex seat.old self.now }
         ensures belongs { Beside seat.old seat.new }
         ensures woken { WokenAsGranted seat.old seat.new }
+        ensures run { RunGoesOnFrom seat.old seat.new }
         ensures locks { Locks T.follows T.fits (limits_of self.now).budget (sight seat.old) (sight seat.new) result }
         ensures steps { MakesCall (limits_of self.now) (λ x. Answered.Locked x) CallNow.TryLock (sight seat.old) (sight seat.new) result }
         ensures bounded { MakesAtMost 6 (sight seat.old) (sight seat.new) }

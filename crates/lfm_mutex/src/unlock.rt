@@ -7,6 +7,7 @@ ghost use Rattle.lfm_protocol.specs.declared.answers.Call.{Call as CallNow};
 ghost use Rattle.lfm_protocol.specs.declared.answers.Turn.TheVariants.{Ended};
 ghost use Rattle.lfm_protocol.specs.declared.points.Point.TheVariants.{Rest};
 ghost use Rattle.lfm_mutex.specs.Belongs.{Beside, OfMutex, limits_of};
+ghost use Rattle.lfm_mutex.specs.calls.RunGoesOn.{RunGoesOnFrom};
 ghost use Rattle.lfm_mutex.specs.calls.Sight.{sight, MayLeave, MayRelease, Unlocks};
 ghost use Rattle.lfm_mutex.specs.calls.Straight.{ComesTo};
 ghost use Rattle.lfm_mutex.specs.calls.Trails.{MakesAtMost, MakesCall};
@@ -32,6 +33,7 @@ pub fn unlock_last<T: Kept>(mutex: &Mutex<T>, seat: &mut Seat<T>) -> (Unlocked, 
     requires leaves { MayLeave T.follows T.fits (sight seat.old) }
     ensures belongs { Beside seat.old seat.new }
     ensures woken { WakesNobody seat.old seat.new }
+    ensures run { RunGoesOnFrom seat.old seat.new }
     ensures made { ComesTo T.follows T.fits (limits_of mutex.now) CallNow.Unlock (sight seat.old) (sight seat.new) (Ended (Answered.Unlocked result.0)) }
     ensures bounded { MakesAtMost ((limits_of mutex.now).seats + 7) (sight seat.old) (sight seat.new) }
     ensures wakes { Wakes (limits_of mutex.now).seats result.1 (sight seat.old).trail (sight seat.new).trail }
@@ -68,6 +70,7 @@ pub fn unlock_once<T: Kept>(mutex: &Mutex<T>, seat: &mut Seat<T>) -> Unlocked
     requires deep { 1 < seat.old.standing.depth }
     ensures belongs { Beside seat.old seat.new }
     ensures woken { WakesNobody seat.old seat.new }
+    ensures run { RunGoesOnFrom seat.old seat.new }
     ensures made { ComesTo T.follows T.fits (limits_of mutex.now) CallNow.Unlock (sight seat.old) (sight seat.new) (Ended (Answered.Unlocked result)) }
     ensures bounded { MakesAtMost ((limits_of mutex.now).seats + 7) (sight seat.old) (sight seat.new) }
 {
@@ -86,6 +89,7 @@ fn unlock_any<T: Kept>(
     requires leaves { MayRelease T.follows T.fits (sight seat.old) }
     ensures belongs { Beside seat.old seat.new }
     ensures woken { WakesNobody seat.old seat.new }
+    ensures run { RunGoesOnFrom seat.old seat.new }
     ensures unlocks { Unlocks (sight seat.old) (sight seat.new) result.0 }
     ensures steps { MakesCall (limits_of mutex.now) (λ x. Answered.Unlocked x) CallNow.Unlock (sight seat.old) (sight seat.new) result.0 }
     ensures bounded { MakesAtMost ((limits_of mutex.now).seats + 7) (sight seat.old) (sight seat.new) }
@@ -113,6 +117,7 @@ impl<T: Kept> Mutex<T> {
         requires leaves { MayRelease T.follows T.fits (sight seat.old) }
         ensures belongs { Beside seat.old seat.new }
         ensures woken { WokenAsGranted seat.old seat.new }
+        ensures run { RunGoesOnFrom seat.old seat.new }
         ensures unlocks { Unlocks (sight seat.old) (sight seat.new) result }
         ensures steps { MakesCall (limits_of self.now) (λ x. Answered.Unlocked x) CallNow.Unlock (sight seat.old) (sight seat.new) result }
         ensures bounded { MakesAtMost ((limits_of self.now).seats + 7) (sight seat.old) (sight seat.new) }
@@ -133,6 +138,7 @@ impl<T: Kept> Mutex<T> {
         requires leaves { MayRelease T.follows T.fits (sight seat.old) }
         ensures belongs { Beside seat.old seat.new }
         ensures woken { WakesNobody seat.old seat.new }
+        ensures run { RunGoesOnFrom seat.old seat.new }
         ensures unlocks { Unlocks (sight seat.old) (sight seat.new) result.0 }
         ensures steps { MakesCall (limits_of self.now) (λ x. Answered.Unlocked x) CallNow.Unlock (sight seat.old) (sight seat.new) result.0 }
         ensures bounded { MakesAtMost ((limits_of self.now).seats + 7) (sight seat.old) (sight seat.new) }

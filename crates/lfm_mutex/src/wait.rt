@@ -6,6 +6,7 @@ ghost use Rattle.lfm_protocol.specs.declared.answers.Call.{Call as CallNow};
 ghost use Rattle.lfm_protocol.specs.declared.answers.Turn.TheVariants.{Ended};
 ghost use Rattle.lfm_protocol.specs.declared.points.Point.TheVariants.{Rest};
 ghost use Rattle.lfm_mutex.specs.Belongs.{Beside, OfMutex, limits_of};
+ghost use Rattle.lfm_mutex.specs.calls.RunGoesOn.{RunGoesOnFrom};
 ghost use Rattle.lfm_mutex.specs.calls.Straight.{ComesTo};
 ghost use Rattle.lfm_mutex.specs.calls.Trails.{MakesCall, MakesAtMost};
 ghost use Rattle.lfm_mutex.specs.calls.WakeUps.{Wakes};
@@ -37,6 +38,7 @@ pub fn wait_last<T: Kept>(
     requires leaves { MayLeave T.follows T.fits (sight seat.old) }
     ensures belongs { Beside seat.old seat.new }
     ensures woken { WakesNobody seat.old seat.new }
+    ensures run { RunGoesOnFrom seat.old seat.new }
     ensures made { ComesTo T.follows T.fits (limits_of mutex.now) CallNow.StartWait (sight seat.old) (sight seat.new) (Ended (Answered.Waiting result.0)) }
     ensures bounded { MakesAtMost ((limits_of mutex.now).seats + 8) (sight seat.old) (sight seat.new) }
     ensures wakes { Wakes (limits_of mutex.now).seats result.1 (sight seat.old).trail (sight seat.new).trail }
@@ -81,6 +83,7 @@ fn wait_any<T: Kept>(
     requires leaves { MayRelease T.follows T.fits (sight seat.old) }
     ensures belongs { Beside seat.old seat.new }
     ensures woken { WakesNobody seat.old seat.new }
+    ensures run { RunGoesOnFrom seat.old seat.new }
     ensures waits { StartsWait (limits_of mutex.now).budget (sight seat.old) (sight seat.new) result.0 }
     ensures steps { MakesCall (limits_of mutex.now) (λ x. Answered.Waiting x) CallNow.StartWait (sight seat.old) (sight seat.new) result.0 }
     ensures bounded { MakesAtMost ((limits_of mutex.now).seats + 8) (sight seat.old) (sight seat.new) }
@@ -107,6 +110,7 @@ impl<T: Kept> Mutex<T> {
         requires leaves { MayRelease T.follows T.fits (sight seat.old) }
         ensures belongs { Beside seat.old seat.new }
         ensures woken { WokenAsGranted seat.old seat.new }
+        ensures run { RunGoesOnFrom seat.old seat.new }
         ensures waits { StartsWait (limits_of self.now).budget (sight seat.old) (sight seat.new) result }
         ensures steps { MakesCall (limits_of self.now) (λ x. Answered.Waiting x) CallNow.StartWait (sight seat.old) (sight seat.new) result }
         ensures bounded { MakesAtMost ((limits_of self.now).seats + 8) (sight seat.old) (sight seat.new) }
@@ -126,6 +130,7 @@ impl<T: Kept> Mutex<T> {
         requires leaves { MayRelease T.follows T.fits (sight seat.old) }
         ensures belongs { Beside seat.old seat.new }
         ensures woken { WakesNobody seat.old seat.new }
+        ensures run { RunGoesOnFrom seat.old seat.new }
         ensures waits { StartsWait (limits_of self.now).budget (sight seat.old) (sight seat.new) result.0 }
         ensures steps { MakesCall (limits_of self.now) (λ x. Answered.Waiting x) CallNow.StartWait (sight seat.old) (sight seat.new) result.0 }
         ensures bounded { MakesAtMost ((limits_of self.now).seats + 8) (sight seat.old) (sight seat.new) }

@@ -1,6 +1,7 @@
 //! `wake`, which completes a call that was made without waking.
 ghost use Rattle.std.specs.Prelude.{◌≡◌, ℕ, ◌≤◌, ◌++◌, Some};
 ghost use Rattle.lfm_mutex.specs.Belongs.{Beside, OfMutex, limits_of};
+ghost use Rattle.lfm_mutex.specs.calls.RunGoesOn.{RunGoesOnFrom};
 ghost use Rattle.lfm_mutex.specs.calls.Sight.{sight};
 ghost use Rattle.lfm_mutex.specs.calls.WakeUps.{as_list};
 ghost use Rattle.lfm_mutex.specs.calls.Woken.{woken_of};
@@ -28,6 +29,7 @@ impl<T: Kept> Mutex<T> {
         requires inside { (t : ℕ) → wake_up ≡ Some t → t ≤ (limits_of self.now).seats }
         ensures belongs { Beside seat.old seat.new }
         ensures same { sight seat.new ≡ sight seat.old }
+        ensures run { RunGoesOnFrom seat.old seat.new }
         ensures woken { woken_of seat.new ≡ woken_of seat.old ++ as_list wake_up }
     {
         self.wake_seat(wake_up, &mut seat.woken);

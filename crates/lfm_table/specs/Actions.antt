@@ -1,6 +1,6 @@
--- The run of a table: the actions of its seats since its opening, in order, and what each seat notes of them in its trail. An action is
--- an event of the core, or a load of the owner word by `owner`.
-use Rattle.std.specs.Prelude.{◌≡◌, ◌⊎◌, ℕ, ◌+◌, ◌<◌, List, [], ◌∷◌, ◌++◌, length, nat_eq, slice_index, if◌then◌else◌, Option, Some, Bool, true, false}
+-- The run of a table: the actions of its seats since its opening, in order, what each seat notes of them in its trail, and how the run goes on
+-- from what a seat knows. An action is an event of the core, or a load of the owner word by `owner`.
+use Rattle.std.specs.Prelude.{◌≡◌, ◌⊎◌, ℕ, ◌+◌, ◌<◌, List, [], ◌∷◌, ◌++◌, length, nat_eq, slice_index, filter, if◌then◌else◌, Option, Some, Bool, true, false}
 use mathlib.Core.Option.{some}
 use lib.ListN.{get_elem?}
 use Rattle.lfm_protocol.specs.declared.answers.Call.{Call}
@@ -16,6 +16,8 @@ use Rattle.lfm_protocol.specs.Seats.{seat}
 use Rattle.lfm_protocol.specs.Step.{start}
 use Rattle.lfm_laws.specs.laws.Schedules.{Event, begins, makes, happens, reached}
 use Rattle.lfm_laws.specs.table.Words.{words, index, written}
+use Rattle.lfm_table.specs.declared.seat_view.Action.{Action}
+use Rattle.lfm_table.specs.declared.seat_view.Action.TheVariants.{Begins, Makes, LoadsOwner}
 use Rattle.lfm_table.specs.declared.seat_view.Seen.{Seen}
 use Rattle.lfm_table.specs.declared.seat_view.View.{View}
 use Rattle.lfm_table.specs.Settled.{calls_to}
@@ -52,21 +54,28 @@ noted c s = noted_as c s (seat c.seats s) (length c.seats)
 
 -- Actions
 
--- an event of the core, or a load of the owner word by this seat, for `owner`, which is no step of a call
-pub data Action : Type 0 where
-  event : Event → Action
-  loads_owner : ℕ → Action
+-- the seat that acts
+abbrev pub actor : Action → ℕ
+actor (Begins s call) = s
+actor (Makes s) = s
+actor (LoadsOwner s) = s
+
+-- of these actions, those of seat t
+abbrev pub own_of : ℕ → List Action → List Action
+own_of t actions = filter (λ (a : Action). nat_eq (actor a) t) actions
 
 -- the events among these actions
 abbrev pub events_of : List Action → List Event
 events_of [] = []
-events_of (event e ∷ later) = e ∷ events_of later
-events_of (loads_owner s ∷ later) = events_of later
+events_of (Begins s call ∷ later) = begins s call ∷ events_of later
+events_of (Makes s ∷ later) = makes s ∷ events_of later
+events_of (LoadsOwner s ∷ later) = events_of later
 
 -- the state after an action
 abbrev pub after_action : Core → Action → Core
-after_action c (event e) = (happens c e).core
-after_action c (loads_owner s) = c
+after_action c (Begins s call) = (happens c (begins s call)).core
+after_action c (Makes s) = (happens c (makes s)).core
+after_action c (LoadsOwner s) = c
 
 -- what seat t has of a note that seat s makes
 abbrev pub if_own : ℕ → ℕ → Seen → List Seen
@@ -74,9 +83,9 @@ if_own s t x = if nat_eq s t then x ∷ [] else []
 
 -- what seat t notes of an action; of a begin nothing
 abbrev pub noted_of : Core → ℕ → Action → List Seen
-noted_of c t (event (begins s call)) = []
-noted_of c t (event (makes s)) = if_own s t (noted c s)
-noted_of c t (loads_owner s) = if_own s t (seen TryOwnerLoad c.owner)
+noted_of c t (Begins s call) = []
+noted_of c t (Makes s) = if_own s t (noted c s)
+noted_of c t (LoadsOwner s) = if_own s t (seen TryOwnerLoad c.owner)
 
 -- the part of seat t in a run: what it notes of its actions, in order
 abbrev pub part_of : Core → ℕ → List Action → List Seen
@@ -86,16 +95,49 @@ part_of c t (d ∷ later) = noted_of c t d ++ part_of (after_action c d) t later
 -- seat s begins these calls, the last of them first in the list
 abbrev pub begins_of : ℕ → List Call → List Action
 begins_of s [] = []
-begins_of s (call ∷ calls) = begins_of s calls ++ event (begins s call) ∷ []
+begins_of s (call ∷ calls) = begins_of s calls ++ Begins s call ∷ []
 
 -- seat s, being x, begins the calls by which it becomes p, and makes its step
 abbrev pub begins_and_step : ℕ → SeatState → SeatState → List Action
-begins_and_step s x p = begins_of s (calls_to x p) ++ event (makes s) ∷ []
+begins_and_step s x p = begins_of s (calls_to x p) ++ Makes s ∷ []
 
--- A table that was opened with these limits has this run: the actions have led from the start to its core, and each trail is its seat's
--- part of them. A number that is no seat's has no part.
+-- What seat t, whose trail this is, knows of a run: some early actions of it. The later ones are all of others, and the trail is the seat's
+-- part of the early ones.
+pub record KnowsRun (l : Limits) (actions : List Action) (t : ℕ) (early : List Action) (trail : List Seen) : Type 0 where
+  pub later : List Action
+  pub goes_on : actions ≡ early ++ later
+  pub of_others : own_of t later ≡ []
+  pub trail_is : trail ≡ part_of (start l) t early
+
+-- A table that was opened with these limits has this run: the actions have led from the start to its core, and each trail is its seat's part of
+-- them. Each seat knows those up to its last step, which have led to a state in which it stands as its view says. A number that is no seat's
+-- has done none of them.
 pub record HasRun {T : Type 0} (l : Limits) (actions : List Action) (c : Core) (views : List (View T)) : Type 0 where
   pub allowed : are_in_limits l.seats l.budget ≡ true
   pub here : c ≡ reached l (events_of actions)
   pub trails : (j : ℕ) (v : View T) → get_elem? views j ≡ some v → v.trail ≡ part_of (start l) (j + 1) actions
-  pub others : (t : ℕ) → (t ≡ 0) ⊎ (length views < t) → part_of (start l) t actions ≡ []
+  pub known : (j : ℕ) (v : View T) → get_elem? views j ≡ some v → KnowsRun l actions (j + 1) v.actions v.trail
+  pub stands : (j : ℕ) (v : View T) → get_elem? views j ≡ some v → seat (reached l (events_of v.actions)).seats (j + 1) ≡ v.standing
+  pub others : (t : ℕ) → (t ≡ 0) ⊎ (length views < t) → own_of t actions ≡ []
+
+-- How the run goes on between two views of one seat
+
+-- what the seat whose view is v notes of these actions, which follow those that it knows
+abbrev pub next_part : {T : Type 0} → View T → List Action → List Seen
+next_part v actions = part_of (reached v.limits (events_of v.actions)) v.number actions
+
+-- The run goes on from what the seat knew as its view was v to what it knows as its view is w: the seat's trail has grown by its part of the
+-- actions between.
+pub record RunGoesOn {T : Type 0} (v w : View T) : Type 0 where
+  pub number : w.number ≡ v.number
+  pub limits_are : w.limits ≡ v.limits
+  pub between : List Action
+  pub actions : w.actions ≡ v.actions ++ between
+  pub trail : w.trail ≡ v.trail ++ next_part v between
+
+-- It goes on by what others do, and then by these actions of the seat.
+pub record RunGoesOnBy {T : Type 0} (own : List Action) (v w : View T) : Type 0 where
+  pub others : List Action
+  pub of_others : own_of v.number others ≡ []
+  pub actions : w.actions ≡ v.actions ++ (others ++ own)
+  pub trail : w.trail ≡ v.trail ++ next_part v (others ++ own)

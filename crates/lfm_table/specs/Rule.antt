@@ -26,13 +26,15 @@ use Rattle.lfm_protocol.specs.Room.{PopFits}
 use Rattle.lfm_protocol.specs.Seats.{seat, absent}
 use Rattle.lfm_laws.specs.steady.Steady.{DepthAt, IsSeen, Fits}
 use Rattle.lfm_laws.specs.table.Words.{words, stepped_by, popped_by_step, link_of, AreNarrow}
+use Rattle.lfm_table.specs.declared.seat_view.Action.{Action}
+use Rattle.lfm_table.specs.declared.seat_view.Action.TheVariants.{LoadsOwner}
 use Rattle.lfm_table.specs.declared.seat_view.Role.{Role}
 use Rattle.lfm_table.specs.declared.seat_view.Role.TheVariants.{User, Retired}
 use Rattle.lfm_table.specs.declared.seat_view.Joined.{Joined}
 use Rattle.lfm_table.specs.declared.seat_view.View.{View}
 use Rattle.lfm_table.specs.declared.rule.Moving.{Moving}
 pub use Rattle.lfm_table.specs.Actions.{seen}
-use Rattle.lfm_table.specs.Actions.{Action, HasRun}
+use Rattle.lfm_table.specs.Actions.{HasRun, RunGoesOnBy, begins_and_step}
 use Rattle.lfm_table.specs.Reach.{Reached}
 
 -- Views
@@ -46,6 +48,7 @@ first_view l x =
       limits = l;
       standing = absent;
       trail = [];
+      actions = [];
       last = Some x;
       last_found = None;
       ended = 0;
@@ -71,6 +74,7 @@ split_view v =
       limits = v.limits;
       standing = absent;
       trail = [];
+      actions = [];
       last = v.opening;
       last_found = None;
       ended = 0;
@@ -84,7 +88,7 @@ split_view v =
     }
 
 abbrev pub joined_of : {T : Type 0} → View T → Joined T
-joined_of w = record { number = w.number; last = w.last; found = w.last_found; ended = w.ended; trail = w.trail }
+joined_of w = record { number = w.number; last = w.last; found = w.last_found; ended = w.ended; trail = w.trail; actions = w.actions }
 
 -- v once it has taken in w
 abbrev pub with_joined : {T : Type 0} → View T → View T → View T
@@ -102,6 +106,7 @@ no_view =
       limits = record { seats = 0; budget = 0 };
       standing = absent;
       trail = [];
+      actions = [];
       last = None;
       last_found = None;
       ended = 0;
@@ -130,7 +135,7 @@ pub record Roots {T : Type 0} (views : List (View T)) (k : View T) : Type 0 wher
   pub user : k.role ≡ User
   pub made : length views ≡ k.made + 1
   pub back : sum_over retired views ≡ length k.joined
-  pub kept : (i : ℕ) (g : Joined T) → get_elem? k.joined i ≡ some g → (j : ℕ) × (z : View T) × (get_elem? views j ≡ some z) × (z.role ≡ Retired) × (z.number ≡ g.number) × (z.last ≡ g.last) × (z.last_found ≡ g.found) × (z.ended ≡ g.ended) × (z.trail ≡ g.trail)
+  pub kept : (i : ℕ) (g : Joined T) → get_elem? k.joined i ≡ some g → (j : ℕ) × (z : View T) × (get_elem? views j ≡ some z) × (z.role ≡ Retired) × (z.number ≡ g.number) × (z.last ≡ g.last) × (z.last_found ≡ g.found) × (z.ended ≡ g.ended) × (z.trail ≡ g.trail) × (z.actions ≡ g.actions)
   pub gone : (j : ℕ) (z : View T) → get_elem? views j ≡ some z → z.role ≡ Retired → (i : ℕ) × (get_elem? k.joined i ≡ some (joined_of z))
 
 -- no seat has ended a hold
@@ -289,6 +294,7 @@ module _ {T : Type 0} (follows : ℕ → T → T → Type 0) (suits : T → ℕ 
     pub root : SameRoot m.0 m'.0
     pub standing : m'.0.standing ≡ (stepped_by p m.0.number n (oldest popped)).seat
     pub trail : m'.0.trail ≡ m.0.trail ++ seen p.point n ∷ []
+    pub run : RunGoesOnBy (begins_and_step m.0.number m.0.standing p) m.0 m'.0
     pub last : m'.0.last ≡ left_by p.point a m.0.last
     pub last_found : m'.0.last_found ≡ left_by p.point m.0.found m.0.last_found
     pub ended : m'.0.ended ≡ left_by p.point (m.0.holds_ended + 1) m.0.ended
@@ -306,7 +312,8 @@ module _ {T : Type 0} (follows : ℕ → T → T → Type 0) (suits : T → ℕ 
     pub sees : SeesChange p.point n
     pub hands : Hands (carries_value p) (carries_value (stepped_by p m.0.number n (oldest popped)).seat) p.point a popped m m'
 
--- a load of the owner word that is no step of a call, which changes nothing but the trail
+-- a load of the owner word that is no step of a call, which changes nothing but the trail and the actions
 abbrev pub ReadsOwner : {T : Type 0} → Me (Option (Moving T)) (View T) → ℕ → Me (Option (Moving T)) (View T) → Type 0
 ReadsOwner m n m' =
-    (m' ≡ (record m.0 { trail = m.0.trail ++ seen TryOwnerLoad n ∷ [] }, m.1)) × (0 < m.0.number) × (n ≡ m.0.number → 0 < m.0.standing.depth) × (0 < m.0.standing.depth → n ≡ m.0.number)
+    (m' ≡ (record m.0 { trail = m.0.trail ++ seen TryOwnerLoad n ∷ []; actions = m'.0.actions }, m.1)) × (0 < m.0.number) × (n ≡ m.0.number → 0 < m.0.standing.depth) × (0 < m.0.standing.depth → n ≡ m.0.number)
+    × RunGoesOnBy (LoadsOwner m.0.number ∷ []) m.0 m'.0

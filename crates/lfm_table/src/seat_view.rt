@@ -1,6 +1,6 @@
 //! What a seat knows at the table: its view, which stands in contracts and proofs alone. No code reads it.
 use lfm_protocol::points::Point;
-use lfm_protocol::{Limits, SeatState};
+use lfm_protocol::{Call, Limits, SeatState};
 use lfm_words::Record;
 use std::collections::LinkedList;
 
@@ -16,14 +16,23 @@ pub struct Seen {
     pub found: u64,
 }
 
+/// An action of a table's run. It is an event of the core, in which the seat with this number begins a call or makes its next
+/// step; or it is a load of the owner word by that seat, for `owner`, which is no step of a call.
+pub enum Action {
+    Begins(u64, Call),
+    Makes(u64),
+    LoadsOwner(u64),
+}
+
 /// A seat that was joined, with the value that it left last, the one that it had found before that, the number of the hold
-/// that it ended then, and its steps.
+/// that it ended then, its steps, and the actions of the run up to the last of them.
 pub struct Joined<T> {
     pub number: u64,
     pub last: Option<T>,
     pub found: Option<T>,
     pub ended: u64,
     pub trail: LinkedList<Seen>,
+    pub actions: LinkedList<Action>,
 }
 
 /// What a seat of the table knows. No value of it is ever made: it is for proofs alone.
@@ -35,6 +44,8 @@ pub struct View<T> {
     pub standing: SeatState,
     /// Its steps so far.
     pub trail: LinkedList<Seen>,
+    /// The actions of the table's run up to the seat's last step, by all seats; none before its first.
+    pub actions: LinkedList<Action>,
     /// The value that the seat left last; the opening value before that.
     pub last: Option<T>,
     /// The value that the seat had found when it came to the hold that it ended last; None before that.

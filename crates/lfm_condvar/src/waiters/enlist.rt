@@ -1,6 +1,7 @@
 //! How a user seat gets into the list: it is appended and falls asleep, or neither.
 ghost use Rattle.std.specs.Prelude.{◌≡◌, ◌<◌, ◌≤◌, MatchOption, slice_index};
 ghost use Rattle.lfm_mutex.specs.Belongs.{Beside, OfMutex, budget_of, limits_of};
+ghost use Rattle.lfm_mutex.specs.calls.RunGoesOn.{RunGoesOnFrom};
 ghost use Rattle.lfm_mutex.specs.calls.Sight.{sight, MayRelease, WaitRefused};
 ghost use Rattle.lfm_mutex.specs.calls.WakeUps.{Wakes};
 ghost use Rattle.lfm_mutex.specs.calls.Woken.{WakesNobody, WokenAsGranted};
@@ -48,6 +49,7 @@ pub fn enlist<T: Kept>(
     requires by { (by ≤ waiters.old.seats) × (slice_index waiters.old.counts.items by < waiters.old.budget) }
     requires leaves { MayRelease T.follows T.fits (sight seat.old) }
     ensures belongs { Beside seat.old seat.new }
+    ensures run { RunGoesOnFrom seat.old seat.new }
     ensures woken { WokenAsGranted seat.old seat.new }
     ensures enlists { Enlists (limits_of mutex.now) by (sight seat.old) (sight seat.new) waiters.old waiters.new result }
     ensures follows { WaitersFollow by waiters.old waiters.new }
@@ -69,6 +71,7 @@ pub(crate) fn enlist_without_waking<T: Kept>(
     requires by { (by ≤ waiters.old.seats) × (slice_index waiters.old.counts.items by < waiters.old.budget) }
     requires leaves { MayRelease T.follows T.fits (sight seat.old) }
     ensures belongs { Beside seat.old seat.new }
+    ensures run { RunGoesOnFrom seat.old seat.new }
     ensures woken { WakesNobody seat.old seat.new }
     ensures enlists { Enlists (limits_of mutex.now) by (sight seat.old) (sight seat.new) waiters.old waiters.new result.0 }
     ensures follows { WaitersFollow by waiters.old waiters.new }

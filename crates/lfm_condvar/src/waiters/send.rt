@@ -1,6 +1,7 @@
 //! How a user seat leaves the list: it is sent and removed, or neither.
 ghost use Rattle.std.specs.Prelude.{◌≡◌, ◌≤◌, ℕ};
 ghost use Rattle.lfm_mutex.specs.Belongs.{Beside, OfMutex, limits_of};
+ghost use Rattle.lfm_mutex.specs.calls.RunGoesOn.{RunGoesOnFrom};
 ghost use Rattle.lfm_mutex.specs.calls.Sight.{sight};
 ghost use Rattle.lfm_mutex.specs.calls.WakeUps.{Wakes};
 ghost use Rattle.lfm_mutex.specs.calls.Woken.{WakesNobody, WokenAsGranted};
@@ -25,6 +26,7 @@ pub fn send_oldest<T: Kept>(
     requires belongs { OfMutex seat.old mutex.now }
     requires wide { waiters.old.seats ≤ (limits_of mutex.now).seats }
     ensures belongs { Beside seat.old seat.new }
+    ensures run { RunGoesOnFrom seat.old seat.new }
     ensures woken { WokenAsGranted seat.old seat.new }
     ensures sends { SendsOldest (limits_of mutex.now).seats (sight seat.old) (sight seat.new) waiters.old waiters.new result }
     ensures steps { SendsBy (limits_of mutex.now) (sight seat.old) (sight seat.new) result }
@@ -46,6 +48,7 @@ pub(crate) fn send_oldest_without_waking<T: Kept>(
     requires belongs { OfMutex seat.old mutex.now }
     requires wide { waiters.old.seats ≤ (limits_of mutex.now).seats }
     ensures belongs { Beside seat.old seat.new }
+    ensures run { RunGoesOnFrom seat.old seat.new }
     ensures woken { WakesNobody seat.old seat.new }
     ensures sends { SendsOldest (limits_of mutex.now).seats (sight seat.old) (sight seat.new) waiters.old waiters.new result.0 }
     ensures steps { SendsBy (limits_of mutex.now) (sight seat.old) (sight seat.new) result.0 }

@@ -24,14 +24,16 @@ use Rattle.lfm_protocol.specs.Seats.{seat}
 use Rattle.lfm_protocol.specs.Step.{start}
 use Rattle.lfm_laws.specs.laws.Schedules.{reached}
 use Rattle.lfm_laws.proofs.lawful.runs.LimitsKept.{limits_stay}
-use Rattle.lfm_table.specs.Actions.{Action, events_of, part_of}
+use Rattle.lfm_table.specs.Actions.{KnowsRun, events_of, own_of, part_of}
 use Rattle.lfm_laws.specs.table.Settles.{begun}
 use Rattle.lfm_laws.proofs.steady.frames.Entries.{seat_zero}
 use Rattle.lfm_model.specs.declared.refusals.Missing.{Missing}
 use Rattle.lfm_model.specs.declared.refusals.Missing.TheVariants.{NotBack, Holding, Asleep as Sleeping}
+use Rattle.lfm_table.specs.declared.seat_view.Action.{Action}
 use Rattle.lfm_table.specs.declared.seat_view.Role.{Role}
 use Rattle.lfm_table.specs.declared.seat_view.Role.TheVariants.{User, Retired}
 use Rattle.lfm_table.specs.declared.seat_view.Joined.{Joined}
+use Rattle.lfm_table.specs.declared.seat_view.Seen.{Seen as Trailed}
 use Rattle.lfm_table.specs.declared.seat_view.View.{View}
 use Rattle.lfm_table.specs.declared.rule.Moving.{Moving}
 use Rattle.lfm_mutex.specs.Close.{Hinders, Hindered, named, AreFree, IsFree}
@@ -195,14 +197,16 @@ module _ {T : Type 0} (follows : ℕ → T → T → Type 0) (suits : T → ℕ 
       (λ (u : left.1.role ≡ User). let one = last_user s h v at back left.0 left.1 left.2 u in inl (ap (λ (z : View T). z.last) one ∙ left.3, λ none. none_end s h v at (left.4 (sym (ap (λ (z : View T). z.last_found) one) ∙ none))))
       (λ (u : left.1.role ≡ Retired). let a = (h.root v at).gone left.0 left.1 left.2 u in inr (a.0, joined_of left.1, a.1, left.3, λ none. none_end s h v at (left.4 none))) (is_user left.1.role)
 
-  -- the trails at the end are the parts of one run, which has led from the start to a free state
+  -- The trails at the end are the parts of one run, which has led from the start to a free state. What each seat knew is an early part of it.
   pub record EndsRun (v : View T) : Type 0 where
     pub actions : List Action
     pub allowed : are_in_limits v.limits.seats v.limits.budget ≡ true
     pub free : IsFree (reached v.limits (events_of actions))
     pub own : v.trail ≡ part_of (start v.limits) v.number actions
     pub joined : (i : ℕ) (g : Joined T) → get_elem? v.joined i ≡ some g → g.trail ≡ part_of (start v.limits) g.number actions
-    pub others : (t : ℕ) → (t ≡ 0) ⊎ (v.limits.seats < t) → part_of (start v.limits) t actions ≡ []
+    pub others : (t : ℕ) → (t ≡ 0) ⊎ (v.limits.seats < t) → own_of t actions ≡ []
+    pub own_known : KnowsRun v.limits actions v.number v.actions v.trail
+    pub joined_known : (i : ℕ) (g : Joined T) → get_elem? v.joined i ≡ some g → KnowsRun v.limits actions g.number g.actions g.trail
 
   ends_run : (s : St) (h : Held follows suits s) (v : View T) → get_elem? s.views 0 ≡ some v → IsFree h.core → EndsRun v
   ends_run s h v at free =
@@ -215,9 +219,12 @@ module _ {T : Type 0} (follows : ℕ → T → T → Type 0) (suits : T → ℕ 
         others = λ t out.
             let many : v.limits.seats ≡ length h.core.seats = ap (λ (l : Limits). l.seats) (h.each 0 v at).limits_are in
             let most : length s.views ≤ length h.core.seats = h.few in
-            (λ q. part_of (start (sym opened q)) t h.actions)
-            ∙ h.run.others t (⊎_elim (λ (none : t ≡ 0). inl none) (λ (far : v.limits.seats < t). inr (omega (arith, far, most, many))) out);
+            h.run.others t (⊎_elim (λ (none : t ≡ 0). inl none) (λ (far : v.limits.seats < t). inr (omega (arith, far, most, many))) out);
         joined = λ i g e. let a = (h.root v at).kept i g e in sym a.8 ∙ (h.run.trails a.0 a.1 a.2 ∙ (λ q. part_of (start (opened q)) ((sym (h.each a.0 a.1 a.2).number ∙ a.4) q) h.actions));
+        own_known = subst (λ (t : Limits × ℕ). KnowsRun t.0 h.actions t.1 v.actions v.trail) (λ q. (opened q, sym (h.each 0 v at).number q)) (h.run.known 0 v at);
+        joined_known = λ i g e.
+            let a = (h.root v at).kept i g e in
+            subst (λ (t : Limits × ℕ × List Action × List Trailed). KnowsRun t.0 h.actions t.1 t.2 t.3) (λ q. (opened q, (sym (h.each a.0 a.1 a.2).number ∙ a.4) q, a.9 q, a.8 q)) (h.run.known a.0 a.1 a.2);
       }
 
   pub ends : (v : View T) (ws : List ℕ) (xs : List (Option (Moving T))) → v.made ≤ length v.joined → v.standing.point ≡ Rest → v.standing.depth ≡ 0 → Final (Seen (Held follows suits) 0 v) ws xs

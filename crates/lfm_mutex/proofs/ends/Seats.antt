@@ -21,26 +21,29 @@ use Rattle.lfm_laws.specs.table.Carried.{carries_value}
 use Rattle.lfm_protocol.specs.Core.{Core, limits}
 use Rattle.lfm_laws.specs.steady.Ghost.{Ghost}
 use Rattle.lfm_protocol.specs.Limits.{are_in_limits}
-use Rattle.lfm_protocol.specs.Seats.{seat, entry, absent, no_link, IsSeat}
+use Rattle.lfm_protocol.specs.Seats.{seat, absent, no_link, IsSeat}
 use Rattle.lfm_laws.specs.steady.Steady.{Fits}
 use Rattle.lfm_protocol.specs.Step.{start}
 use Rattle.lfm_laws.specs.table.Words.{words}
+use Rattle.lfm_laws.proofs.lawful.runs.LimitsKept.{limits_stay}
 use Rattle.lfm_laws.proofs.steady.Start.{start_steady, few_seats, small_budget}
 use Rattle.lfm_laws.proofs.table.Starts.{start_narrow}
 use Rattle.lfm_laws.proofs.table.Ready.{packs_none, packs_unposted}
 use Rattle.lfm_laws.specs.table.Ready.{IsReady}
+use Rattle.lfm_table.specs.declared.seat_view.Action.{Action}
+use Rattle.lfm_table.specs.declared.seat_view.Action.TheVariants.{LoadsOwner}
 use Rattle.lfm_table.specs.declared.seat_view.Role.{Role}
 use Rattle.lfm_table.specs.declared.seat_view.Role.TheVariants.{User, Retired}
 use Rattle.lfm_table.specs.declared.seat_view.Joined.{Joined}
 use Rattle.lfm_table.specs.declared.seat_view.View.{View}
 use Rattle.lfm_table.specs.declared.rule.Moving.{Moving}
-use Rattle.lfm_table.specs.Actions.{Action, loads_owner, if_own, HasRun}
+use Rattle.lfm_table.specs.Actions.{HasRun, RunGoesOnBy, events_of, if_own, part_of}
 use Rattle.lfm_table.specs.Reach.{Reached}
 use Rattle.lfm_table.specs.Rule.{sum_over, retired, retired_at, split_view, with_split, with_joined, joined, joined_of, first_view, LeadsToValue, Awaits, NoneEnded, LeftIn, AreNumbered, Roots, Sits, AtHome, WithSeat, Held, SameRoot, ReadsOwner, seen}
 use Rattle.lfm_table.specs.Seats.{Seated}
 use Rattle.lfm_table.specs.Settled.{Became}
 use Rattle.lfm_table.proofs.tables.CoreFacts.{owner_told}
-use Rattle.lfm_table.proofs.tables.Actions.{run_goes_on, owner_load_part, run_stays}
+use Rattle.lfm_table.proofs.tables.Actions.{SaysTheSame, SaysNothing, goes_on_by, knows_none, load_by, owner_load_part, run_goes_on, run_stays, stands_first, starts_absent}
 use Rattle.lfm_table.proofs.tables.Numbered.{numbered_same}
 use Rattle.lfm_table.proofs.tables.SettledKept.{became_same}
 use Rattle.lfm_table.proofs.tables.StepFacts.{became_depth}
@@ -198,21 +201,21 @@ module _ {T : Type 0} (follows : ℕ → T → T → Type 0) (suits : T → ℕ 
   parts : (s : St) (h : Held follows suits s) → Parts follows suits h.core h.ghost_state h.holds_ended s.homes s.views
   parts s h = record { few = h.few; each = h.each; later = h.later; home = h.home; outside = h.outside; numbered = h.numbered }
 
-  -- the trails are as they were
+  -- the views say of the run what they said
 
-  same_set : (views : List (View T)) (i : ℕ) (x y : View T) → get_elem? views i ≡ some x → y.trail ≡ x.trail → (j : ℕ) (z : View T) → get_elem? (set views i y) j ≡ some z
-      → (v : View T) × (get_elem? views j ≡ some v) × (z.trail ≡ v.trail)
+  same_set : (views : List (View T)) (i : ℕ) (x y : View T) → get_elem? views i ≡ some x → SaysTheSame y x → (j : ℕ) (z : View T) → get_elem? (set views i y) j ≡ some z
+      → (v : View T) × (get_elem? views j ≡ some v) × SaysTheSame z v
   same_set views i x y at same j z e = ⊎_elim
-      (λ (t : (j ≡ i) × (y ≡ z)). (x, ap (get_elem? views) t.0 ∙ at, ap (λ (u : View T). u.trail) (sym t.1) ∙ same))
-      (λ (t : (j ≢ i) × (get_elem? views j ≡ some z)). (z, t.1, refl))
+      (λ (t : (j ≡ i) × (y ≡ z)). (x, ap (get_elem? views) t.0 ∙ at, subst (λ (u : View T). SaysTheSame u x) t.1 same))
+      (λ (t : (j ≢ i) × (get_elem? views j ≡ some z)). (z, t.1, (refl, refl, refl)))
       (at_set views i j y z e)
 
   run_split : (o : Limits) (actions : List Action) (c : Core) (views : List (View T)) → HasRun o actions c views → (v : View T) → get_elem? views 0 ≡ some v → HasRun o actions c (set views 0 (with_split v) ++ split_view v ∷ [])
   run_split o actions c views run v at =
       let vs = set views 0 (with_split v) in let l = length-set views 0 (with_split v) in let n = length-append vs (split_view v ∷ []) in
       run_stays o actions c views run (vs ++ split_view v ∷ []) (omega (arith, l, n)) (λ j z e. ⊎_elim
-      (λ (u : get_elem? vs j ≡ some z). inl (same_set views 0 v (with_split v) at refl j z u))
-      (λ (u : (j ≡ length vs) × (split_view v ≡ z)). inr ((let q = u.0 in omega (arith, l, q)), ap (λ (y : View T). y.trail) (sym u.1)))
+      (λ (u : get_elem? vs j ≡ some z). let a = same_set views 0 v (with_split v) at (refl, refl, refl) j z u in inl (a.0, a.1, a.2))
+      (λ (u : (j ≡ length vs) × (split_view v ≡ z)). inr ((let q = u.0 in omega (arith, l, q)), subst SaysNothing u.1 (refl, refl, refl)))
       (at_end vs (split_view v) z j e))
 
   run_joined : (o : Limits) (actions : List Action) (c : Core) (views : List (View T)) → HasRun o actions c views → (v w : View T) → get_elem? views 0 ≡ some v → (other : ℕ)
@@ -220,7 +223,8 @@ module _ {T : Type 0} (follows : ℕ → T → T → Type 0) (suits : T → ℕ 
   run_joined o actions c views run v w at other at2 =
       let vs = set views 0 (with_joined v w) in let l = length-set views 0 (with_joined v w) in let n = length-set vs other (joined w) in
       run_stays o actions c views run (set vs other (joined w)) (omega (arith, l, n)) (λ j z e.
-      let a = same_set vs other w (joined w) at2 refl j z e in let b = same_set views 0 v (with_joined v w) at refl j a.0 a.1 in inl (b.0, b.1, a.2 ∙ b.2))
+      let a = same_set vs other w (joined w) at2 (refl, refl, refl) j z e in let b = same_set views 0 v (with_joined v w) at (refl, refl, refl) j a.0 a.1 in
+      inl (b.0, b.1, (a.2.0 ∙ b.2.0, a.2.1 ∙ b.2.1, a.2.2 ∙ b.2.2)))
 
   pub splits : (v : View T) → v.role ≡ User → v.made + 2 ≤ v.limits.seats → Splits (Held follows suits) 0 v (with_split v) (split_view v)
   splits v user room s h at = let k = h.root v at in let l = with_split v in let r = split_view v in let vs = set s.views 0 l in let here = length_at s.views 0 v at in
@@ -249,7 +253,7 @@ module _ {T : Type 0} (follows : ℕ → T → T → Type 0) (suits : T → ℕ 
           made = omega arith;
           back = let m : sum_over retired (vs ++ r ∷ []) ≡ sum_over retired s.views = omega arith in m ∙ k.back;
           kept = λ i g is. let a = k.kept i g is in let apart : 0 ≢ a.0 = (λ z. not_both v.role user (ap (λ (y : View T). y.role) (some-injective v a.1 (sym at ∙ subst (λ (i : ℕ). get_elem? s.views i ≡ some a.1) (sym z) a.2)) ∙ a.3)) in
-              let low = length_at s.views a.0 a.1 a.2 in let len = length-set s.views 0 l in (a.0, a.1, get_end vs r a.0 (omega arith) ∙ (set_else s.views 0 a.0 l (λ z. apart (sym z)) ∙ a.2), a.3, a.4, a.5, a.6, a.7, a.8);
+              let low = length_at s.views a.0 a.1 a.2 in let len = length-set s.views 0 l in (a.0, a.1, get_end vs r a.0 (omega arith) ∙ (set_else s.views 0 a.0 l (λ z. apart (sym z)) ∙ a.2), a.3, a.4, a.5, a.6, a.7, a.8, a.9);
           gone = λ j z e is. ⊎_elim (λ u. ⊎_elim (λ (w : (j ≡ 0) × (l ≡ z)). absurd (not_both z.role (ap (λ (y : View T). y.role) (sym w.1) ∙ user) is))
               (λ (w : (j ≢ 0) × (get_elem? s.views j ≡ some z)). k.gone j z w.1 is) (at_set s.views 0 j l z u)) (λ (w : (j ≡ length vs) × (r ≡ z)). absurd (not_both z.role (ap (λ (y : View T). y.role) (sym w.1)) is)) (at_end vs r z j e);
         };
@@ -288,8 +292,8 @@ module _ {T : Type 0} (follows : ℕ → T → T → Type 0) (suits : T → ℕ 
               let apart0 : 0 ≢ a.0 = (λ z. not_both v.role user (ap (λ (y : View T). y.role) (some-injective v a.1 (sym at ∙ subst (λ (i : ℕ). get_elem? s.views i ≡ some a.1) (sym z) a.2)) ∙ a.3)) in
               let in1 : get_elem? vs a.0 ≡ some a.1 = set_else s.views 0 a.0 b (λ z. apart0 (sym z)) ∙ a.2 in
               let apart2 : other ≢ a.0 = (λ z. not_both w.role uses (ap (λ (y : View T). y.role) (some-injective w a.1 (sym at2 ∙ subst (λ (i : ℕ). get_elem? vs i ≡ some a.1) (sym z) in1)) ∙ a.3)) in
-              (a.0, a.1, set_else vs other a.0 (joined w) (λ z. apart2 (sym z)) ∙ in1, a.3, a.4, a.5, a.6, a.7, a.8))
-              (λ (u : (i ≡ length v.joined) × (joined_of w ≡ g)). (other, joined w, set_here vs other (joined w) (length_at vs other w at2), refl, ap (λ (y : Joined T). y.number) u.1, ap (λ (y : Joined T). y.last) u.1, ap (λ (y : Joined T). y.found) u.1, ap (λ (y : Joined T). y.ended) u.1, ap (λ (y : Joined T). y.trail) u.1))
+              (a.0, a.1, set_else vs other a.0 (joined w) (λ z. apart2 (sym z)) ∙ in1, a.3, a.4, a.5, a.6, a.7, a.8, a.9))
+              (λ (u : (i ≡ length v.joined) × (joined_of w ≡ g)). (other, joined w, set_here vs other (joined w) (length_at vs other w at2), refl, ap (λ (y : Joined T). y.number) u.1, ap (λ (y : Joined T). y.last) u.1, ap (λ (y : Joined T). y.found) u.1, ap (λ (y : Joined T). y.ended) u.1, ap (λ (y : Joined T). y.trail) u.1, ap (λ (y : Joined T). y.actions) u.1))
               (at_end v.joined (joined_of w) g i is);
           gone = λ j z e is. ⊎_elim
               (λ (u : (j ≡ other) × (joined w ≡ z)). (length v.joined, at_last v.joined (joined_of w) (length v.joined) refl ∙ ap (λ (y : View T). some (joined_of y)) u.1))
@@ -323,18 +327,28 @@ module _ {T : Type 0} (follows : ℕ → T → T → Type 0) (suits : T → ℕ 
     Found = get_or s.words 1 0
 
     abbrev Seen : View T
-    Seen = record me.0 { trail = me.0.trail ++ seen TryOwnerLoad Found ∷ [] }
+    Seen = record me.0 { trail = me.0.trail ++ seen TryOwnerLoad Found ∷ []; actions = h.actions ++ LoadsOwner (id + 1) ∷ [] }
 
-    loaded : HasRun h.opened (h.actions ++ loads_owner (id + 1) ∷ []) h.core (set s.views id Seen)
-    loaded = run_goes_on h.opened h.actions h.core s.views h.run (loads_owner (id + 1) ∷ []) h.core id me.0 Seen (seen TryOwnerLoad Found) at refl refl
-        (λ t. owner_load_part h.core (id + 1) t ∙ ap (λ (m : ℕ). if_own (id + 1) t (seen TryOwnerLoad m)) (sym (ap (λ (ws : List ℕ). get_or ws 1 0) h.words_are)))
+    sits_here : Sits h.core id me.0
+    sits_here = h.each id me.0 at
+
+    load_part : (t : ℕ) → part_of h.core t (LoadsOwner (id + 1) ∷ []) ≡ if_own (id + 1) t (seen TryOwnerLoad Found)
+    load_part t = owner_load_part h.core (id + 1) t ∙ ap (λ (m : ℕ). if_own (id + 1) t (seen TryOwnerLoad m)) (sym (ap (λ (ws : List ℕ). get_or ws 1 0) h.words_are))
+
+    loaded : HasRun h.opened (h.actions ++ LoadsOwner (id + 1) ∷ []) h.core (set s.views id Seen)
+    loaded = run_goes_on h.opened h.actions h.core s.views h.run (LoadsOwner (id + 1) ∷ []) h.core id me.0 Seen (seen TryOwnerLoad Found) at refl refl load_part (load_by (id + 1)) refl sits_here.standing
+
+    loaded_by : RunGoesOnBy (LoadsOwner (id + 1) ∷ []) me.0 Seen
+    loaded_by =
+        let opened : h.opened ≡ me.0.limits = sym (limits_stay h.opened (events_of h.actions) h.run.allowed) ∙ (ap limits (sym h.run.here) ∙ sym sits_here.limits_are) in
+        goes_on_by h.opened h.actions h.core s.views h.run (LoadsOwner (id + 1) ∷ []) h.core id me.0 Seen (seen TryOwnerLoad Found) at refl refl load_part (load_by (id + 1)) refl sits_here.standing sits_here.number opened
 
     -- the rule goes on holding, and the run has gone on by this load
-    pub owner_keeps : (after : Held follows suits (stepped s 1 Found id me.1 Seen keeps)) × (after.opened ≡ h.opened) × (after.actions ≡ h.actions ++ loads_owner (id + 1) ∷ [])
+    pub owner_keeps : (after : Held follows suits (stepped s 1 Found id me.1 Seen keeps)) × (after.opened ≡ h.opened) × (after.actions ≡ h.actions ++ LoadsOwner (id + 1) ∷ [])
     owner_keeps =
         let q = quiet follows suits h.core h.ghost_state h.holds_ended s.homes s.views (parts s h) id me.0 Seen at refl refl refl refl refl refl refl refl refl refl refl in
         let same : SameRoot me.0 Seen = record { number = refl; limits_are = refl; opening = refl; made = refl; joined_are = refl } in
-        subst (λ (ws : List ℕ). (after : Held follows suits record { words = ws; homes = s.homes; views = set s.views id Seen }) × (after.opened ≡ h.opened) × (after.actions ≡ h.actions ++ loads_owner (id + 1) ∷ [])) (sym (set-get_or s.words 1 0)) (
+        subst (λ (ws : List ℕ). (after : Held follows suits record { words = ws; homes = s.homes; views = set s.views id Seen }) × (after.opened ≡ h.opened) × (after.actions ≡ h.actions ++ LoadsOwner (id + 1) ∷ [])) (sym (set-get_or s.words 1 0)) (
           record {
             core = h.core;
             ghost_state = h.ghost_state;
@@ -352,7 +366,7 @@ module _ {T : Type 0} (follows : ℕ → T → T → Type 0) (suits : T → ℕ 
             root = root_on follows suits s h id me.0 at user Seen refl same;
             others = others_on follows suits s h id me.0 at user Seen refl same;
             opened = h.opened;
-            actions = h.actions ++ loads_owner (id + 1) ∷ [];
+            actions = h.actions ++ LoadsOwner (id + 1) ∷ [];
             run = loaded;
           },
           refl,
@@ -372,19 +386,13 @@ module _ {T : Type 0} (follows : ℕ → T → T → Type 0) (suits : T → ℕ 
           omega (arith, sits.number),
           (λ e. subst (λ (x : SeatState). 0 < x.depth) stands (told.0 (sym found ∙ e))),
           (λ d. found ∙ told.1 (subst (λ (x : SeatState). 0 < x.depth) (sym stands) d)),
+          subst (λ (t : ℕ). RunGoesOnBy (LoadsOwner t ∷ []) me.0 Seen) (sym sits.number) loaded_by,
         )
 
   pub reads_owner : (slots id : ℕ) (me : Me (Option (Moving T)) (View T)) → me.0.role ≡ User → Allows (Held follows suits) slots id me 1 (λ n. n) (ReadsOwner me)
   reads_owner slots id me user s h sized at small = (Seen id me user s h at, keeps, tt, (owner_keeps id me user s h at).0, owner_tells id me user s h at)
 
 -- The start
-
-absent_at : (n s : ℕ) → seat (replicate n absent) s ≡ absent
-unfolding entry
-absent_at n zero = refl
-absent_at zero (suc s) = refl
-absent_at (suc n) (suc zero) = refl
-absent_at (suc n) (suc (suc s)) = absent_at n (suc s)
 
 map_replicate : {A : Type 0} (f : A → ℕ) (x : A) (n : ℕ) → f x ≡ 0 → map f (replicate n x) ≡ replicate n 0
 map_replicate f x zero e = refl
@@ -437,9 +445,9 @@ starts {T} follows suits l ws x allowed are none_popped room fit =
       each = λ j v e. let o = one_view k v j e in subst (λ (t : ℕ × View T). Sits (start l) t.0 t.1) (λ i. (sym o.0 i, o.1 i)) (record {
         number = refl;
         limits_are = λ i. record { seats = sym long i; budget = l.budget };
-        standing = absent_at l.seats 1;
+        standing = starts_absent l.seats 1;
       });
-      later = λ j far. absent_at l.seats (j + 1);
+      later = λ j far. starts_absent l.seats (j + 1);
       home = λ nobody. record {
         value = x;
         here = refl;
@@ -465,6 +473,8 @@ starts {T} follows suits l ws x allowed are none_popped room fit =
         allowed = allowed;
         here = refl;
         trails = λ j v e. ap (λ (u : View T). u.trail) (sym (one_view k v j e).1);
+        known = λ j v e. let same = sym (one_view k v j e).1 in knows_none l [] (j + 1) v.actions v.trail refl (ap (λ (u : View T). u.trail) same) (ap (λ (u : View T). u.actions) same);
+        stands = λ j v e. let same = sym (one_view k v j e).1 in stands_first l (j + 1) v.actions v.standing (ap (λ (u : View T). u.actions) same) (ap (λ (u : View T). u.standing) same);
         others = λ t out. refl;
       };
     }

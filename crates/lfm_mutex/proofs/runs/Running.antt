@@ -42,7 +42,9 @@ use Rattle.lfm_mutex.specs.calls.Runs.{Errand, nothing, errand, IsTurn, Ends, we
 use Rattle.lfm_table.specs.Reach.{Reached}
 use Rattle.lfm_table.specs.Seats.{Seated}
 use Rattle.lfm_table.specs.Steps.{Event, StepLeadsTo, ValueGoes}
+use Rattle.lfm_table.proofs.tables.Actions.{run_next, run_same}
 use Rattle.lfm_table.proofs.tables.RuleKept.{some_same}
+use Rattle.lfm_mutex.proofs.runs.RunGoesOn.{run_stepped}
 use Rattle.lfm_mutex.proofs.runs.RunFacts.{turns_step, falls, no_release, no_leaves, how_enters}
 use Rattle.lfm_table.proofs.tables.StepFacts.{left_same, left_new, carrying}
 
@@ -60,7 +62,7 @@ event_of follows suits None p p' m m' a a' turn some event = absurd (some refl)
 event_of follows suits (Some k) p p' m m' a a' turn some event = event
 
 pub ran_none : {T : Type 0} (s : ℕ) (p : SeatState) (v : View T) → Ran s (opens p) v Open p v
-ran_none s p v = record { finds = []; ends = refl; trail = sym (append-nil v.trail); root = record { number = refl; limits_are = refl; opening = refl; made = refl; joined_are = refl } }
+ran_none s p v = record { finds = []; ends = refl; trail = sym (append-nil v.trail); root = record { number = refl; limits_are = refl; opening = refl; made = refl; joined_are = refl }; run = run_same }
 
 module _ {T : Type 0} (follows : ℕ → T → T → Type 0) (suits : T → ℕ → Type 0) (s : ℕ) (p0 : SeatState) (v0 : View T) (p q : SeatState) (v w : View T) (a b : Option (Moving T)) (turn : Turn) (ran : Ran s (opens p0) v0 Open p v) (named : v.number ≡ s)
     (e : Event follows suits p a v turn q b w) where
@@ -83,6 +85,7 @@ module _ {T : Type 0} (follows : ℕ → T → T → Type 0) (suits : T → ℕ 
       made = e.did.root.made ∙ ran.root.made;
       joined_are = e.did.root.joined_are ∙ ran.root.joined_are;
     };
+    run = run_next ran.run (run_stepped e);
   }
 
   pub last_more : is_release p.point ≡ false → last_hold w ≡ last_hold v
@@ -304,6 +307,7 @@ ran_join s p q r u v w turn first second = record {
     made = second.root.made ∙ first.root.made;
     joined_are = second.root.joined_are ∙ first.root.joined_are;
   };
+  run = run_next first.run second.run;
 }
 
 -- the first step of a release

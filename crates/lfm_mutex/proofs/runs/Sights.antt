@@ -550,7 +550,7 @@ fresh_sight {T} x k n l p m a all f =
     ap (λ (t : ℕ × SeatState × Option (Moving T)). sight_of t.0 t.1 m.0 (value_in t.2)) (λ i. (f.0 i, f.2 i, f.3 i))
     ∙ (λ i. record { number = k; seats = (f.7 i).seats; depth = 0; takes = 0; asleep = false; in_call = false; last = f.5 i; found = f.6 i; ended = f.8 i; holds_ended = 0; value = None; queued = 0; trail = f.4 i; sends = sends_of (f.4 i) })
 
-pub owner_read_sight : {T : Type 0} (n k : ℕ) (p : SeatState) (v w : View T) (a : Option T) → w ≡ record v { trail = v.trail ++ seen TryOwnerLoad k ∷ [] } → sight_of n p w a ≡ record (sight_of n p v a) { trail = v.trail ++ seen TryOwnerLoad k ∷ [] }
+pub owner_read_sight : {T : Type 0} (n k : ℕ) (p : SeatState) (v w : View T) (a : Option T) → w ≡ record v { trail = v.trail ++ seen TryOwnerLoad k ∷ []; actions = w.actions } → sight_of n p w a ≡ record (sight_of n p v a) { trail = v.trail ++ seen TryOwnerLoad k ∷ [] }
 owner_read_sight {T} n k p v w a is =
     let sends : sends_of (v.trail ++ seen TryOwnerLoad k ∷ []) ≡ sends_of v.trail = sends_join v.trail (seen TryOwnerLoad k ∷ []) ∙ append-nil (sends_of v.trail) in
     ap (λ (z : View T). sight_of n p z a) is ∙ (λ i. record (sight_of n p v a) { trail = v.trail ++ seen TryOwnerLoad k ∷ []; sends = sends i })

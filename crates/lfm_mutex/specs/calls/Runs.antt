@@ -29,6 +29,7 @@ use Rattle.lfm_laws.specs.table.Words.{stepped_by}
 use Rattle.lfm_table.specs.declared.seat_view.Seen.{Seen}
 use Rattle.lfm_table.specs.declared.seat_view.View.{View}
 use Rattle.lfm_table.specs.declared.rule.Moving.{Moving}
+use Rattle.lfm_table.specs.Actions.{RunGoesOn}
 use Rattle.lfm_table.specs.Reach.{Reached}
 use Rattle.lfm_table.specs.Rule.{LastHold, SameRoot, seen}
 
@@ -183,12 +184,13 @@ abbrev pub trail_of : ℕ → SeatState → List (ℕ × Option Record) → List
 trail_of s x [] = []
 trail_of s x (f ∷ finds) = seen x.point f.0 ∷ trail_of s (stepped_by x s f.0 f.1).seat finds
 
--- the seat has made some steps of its call, which began with st
+-- the seat has made some steps of its call, which began with st, and the table's run has gone on
 pub record Ran {T : Type 0} (s : ℕ) (st : Stepped) (v : View T) (turn : Turn) (p : SeatState) (v' : View T) : Type 0 where
   pub finds : List (ℕ × Option Record)
   pub ends : end_of s st finds ≡ record { seat = p; turn = turn }
   pub trail : v'.trail ≡ v.trail ++ trail_of s st.seat finds
   pub root : SameRoot v v'
+  pub run : RunGoesOn v v'
 
 -- Answers
 

@@ -9,6 +9,7 @@ ghost use Rattle.lfm_protocol.specs.declared.points.Point.TheVariants.{ReleaseOw
 ghost use Rattle.lfm_protocol.specs.declared.points.Releaser.{Releaser};
 ghost use Rattle.lfm_protocol.specs.Points.{kind as kind_of};
 ghost use Rattle.lfm_mutex.specs.Belongs.{Beside, OfMutex, state_of};
+ghost use Rattle.lfm_mutex.specs.calls.RunGoesOn.{RunGoesOnFrom};
 ghost use Rattle.lfm_mutex.specs.calls.Runs.{is_release};
 ghost use Rattle.lfm_mutex.specs.calls.SeatSteps.{StepsOn, stores_owner};
 ghost use Rattle.lfm_mutex.specs.calls.Sight.{sight, MayLeave};
@@ -38,6 +39,7 @@ pub(crate) fn make_of<T: Kept>(
     requires leaves { (r : Releaser) → seat.old.standing.point ≡ ReleaseOwnerStore r → MayBeLeft T.follows T.fits seat.old.moving seat.old.place.me.0 }
     ensures belongs { seat.new.place.table_id ≡ seat.old.place.table_id }
     ensures woken { WakesNobody seat.old seat.new }
+    ensures run { RunGoesOnFrom seat.old seat.new }
     ensures same { (seat.new.number ≡ seat.old.number) × (seat.new.limits ≡ seat.old.limits) }
     ensures event { Event T.follows T.fits seat.old.standing seat.old.moving seat.old.place.me.0 result.0 seat.new.standing seat.new.moving seat.new.place.me.0 }
     ensures wakes { result.1 ≡ granted_at seat.old.standing.point }
@@ -73,6 +75,7 @@ pub(crate) fn make_waking_none<T: Kept>(mutex: &Mutex<T>, seat: &mut Seat<T>, ki
     requires leaves { (r : Releaser) → seat.old.standing.point ≡ ReleaseOwnerStore r → MayBeLeft T.follows T.fits seat.old.moving seat.old.place.me.0 }
     ensures belongs { seat.new.place.table_id ≡ seat.old.place.table_id }
     ensures woken { WakesNobody seat.old seat.new }
+    ensures run { RunGoesOnFrom seat.old seat.new }
     ensures same { (seat.new.number ≡ seat.old.number) × (seat.new.limits ≡ seat.old.limits) }
     ensures event { Event T.follows T.fits seat.old.standing seat.old.moving seat.old.place.me.0 result seat.new.standing seat.new.moving seat.new.place.me.0 }
 {
@@ -90,6 +93,7 @@ fn make_within<T: Kept>(mutex: &Mutex<T>, seat: &mut Seat<T>, kind: Kind) -> Tur
     requires other { kind ≢ KindNow.WakeStore }
     ensures belongs { Beside seat.old seat.new }
     ensures woken { WokenAsGranted seat.old seat.new }
+    ensures run { RunGoesOnFrom seat.old seat.new }
     ensures steps { StepsOn T.follows T.fits (Some kind) (state_of seat.old) (sight seat.old) result (state_of seat.new) (sight seat.new) }
 {
     make_waking_none(mutex, seat, kind)
@@ -101,6 +105,7 @@ pub fn exchange_count<T: Kept>(mutex: &Mutex<T>, seat: &mut Seat<T>) -> Turn
     requires is_next { kind_of (state_of seat.old).point ≡ Some KindNow.CountExchange }
     ensures belongs { Beside seat.old seat.new }
     ensures woken { WokenAsGranted seat.old seat.new }
+    ensures run { RunGoesOnFrom seat.old seat.new }
     ensures steps { StepsOn T.follows T.fits (Some KindNow.CountExchange) (state_of seat.old) (sight seat.old) result (state_of seat.new) (sight seat.new) }
 {
     make_within(mutex, seat, Kind::CountExchange)
@@ -113,6 +118,7 @@ pub fn add_count<T: Kept>(mutex: &Mutex<T>, seat: &mut Seat<T>) -> Turn
     requires is_next { kind_of (state_of seat.old).point ≡ Some KindNow.CountAdd }
     ensures belongs { Beside seat.old seat.new }
     ensures woken { WokenAsGranted seat.old seat.new }
+    ensures run { RunGoesOnFrom seat.old seat.new }
     ensures steps { StepsOn T.follows T.fits (Some KindNow.CountAdd) (state_of seat.old) (sight seat.old) result (state_of seat.new) (sight seat.new) }
 {
     make_within(mutex, seat, Kind::CountAdd)
@@ -125,6 +131,7 @@ pub fn subtract_count<T: Kept>(mutex: &Mutex<T>, seat: &mut Seat<T>) -> Turn
     requires is_next { kind_of (state_of seat.old).point ≡ Some KindNow.CountSubtract }
     ensures belongs { Beside seat.old seat.new }
     ensures woken { WokenAsGranted seat.old seat.new }
+    ensures run { RunGoesOnFrom seat.old seat.new }
     ensures steps { StepsOn T.follows T.fits (Some KindNow.CountSubtract) (state_of seat.old) (sight seat.old) result (state_of seat.new) (sight seat.new) }
 {
     make_within(mutex, seat, Kind::CountSubtract)
@@ -136,6 +143,7 @@ pub fn load_owner<T: Kept>(mutex: &Mutex<T>, seat: &mut Seat<T>) -> Turn
     requires is_next { kind_of (state_of seat.old).point ≡ Some KindNow.OwnerLoad }
     ensures belongs { Beside seat.old seat.new }
     ensures woken { WokenAsGranted seat.old seat.new }
+    ensures run { RunGoesOnFrom seat.old seat.new }
     ensures steps { StepsOn T.follows T.fits (Some KindNow.OwnerLoad) (state_of seat.old) (sight seat.old) result (state_of seat.new) (sight seat.new) }
 {
     make_within(mutex, seat, Kind::OwnerLoad)
@@ -149,6 +157,7 @@ pub fn store_owner<T: Kept>(mutex: &Mutex<T>, seat: &mut Seat<T>) -> Turn
     requires leaves { is_release (state_of seat.old).point ≡ true → MayLeave T.follows T.fits (sight seat.old) }
     ensures belongs { Beside seat.old seat.new }
     ensures woken { WokenAsGranted seat.old seat.new }
+    ensures run { RunGoesOnFrom seat.old seat.new }
     ensures steps { StepsOn T.follows T.fits (Some KindNow.OwnerStore) (state_of seat.old) (sight seat.old) result (state_of seat.new) (sight seat.new) }
 {
     make_waking_none(mutex, seat, Kind::OwnerStore)
@@ -160,6 +169,7 @@ pub fn load_push<T: Kept>(mutex: &Mutex<T>, seat: &mut Seat<T>) -> Turn
     requires is_next { kind_of (state_of seat.old).point ≡ Some KindNow.PushLoad }
     ensures belongs { Beside seat.old seat.new }
     ensures woken { WokenAsGranted seat.old seat.new }
+    ensures run { RunGoesOnFrom seat.old seat.new }
     ensures steps { StepsOn T.follows T.fits (Some KindNow.PushLoad) (state_of seat.old) (sight seat.old) result (state_of seat.new) (sight seat.new) }
 {
     make_within(mutex, seat, Kind::PushLoad)
@@ -171,6 +181,7 @@ pub fn exchange_push<T: Kept>(mutex: &Mutex<T>, seat: &mut Seat<T>) -> Turn
     requires is_next { kind_of (state_of seat.old).point ≡ Some KindNow.PushExchange }
     ensures belongs { Beside seat.old seat.new }
     ensures woken { WokenAsGranted seat.old seat.new }
+    ensures run { RunGoesOnFrom seat.old seat.new }
     ensures steps { StepsOn T.follows T.fits (Some KindNow.PushExchange) (state_of seat.old) (sight seat.old) result (state_of seat.new) (sight seat.new) }
 {
     make_within(mutex, seat, Kind::PushExchange)
@@ -183,6 +194,7 @@ pub fn clear_head<T: Kept>(mutex: &Mutex<T>, seat: &mut Seat<T>) -> Turn
     requires is_next { kind_of (state_of seat.old).point ≡ Some KindNow.ClearHead }
     ensures belongs { Beside seat.old seat.new }
     ensures woken { WokenAsGranted seat.old seat.new }
+    ensures run { RunGoesOnFrom seat.old seat.new }
     ensures steps { StepsOn T.follows T.fits (Some KindNow.ClearHead) (state_of seat.old) (sight seat.old) result (state_of seat.new) (sight seat.new) }
 {
     make_within(mutex, seat, Kind::ClearHead)
@@ -195,6 +207,7 @@ pub fn load_link<T: Kept>(mutex: &Mutex<T>, seat: &mut Seat<T>) -> Turn
     requires is_next { kind_of (state_of seat.old).point ≡ Some KindNow.LinkLoad }
     ensures belongs { Beside seat.old seat.new }
     ensures woken { WokenAsGranted seat.old seat.new }
+    ensures run { RunGoesOnFrom seat.old seat.new }
     ensures steps { StepsOn T.follows T.fits (Some KindNow.LinkLoad) (state_of seat.old) (sight seat.old) result (state_of seat.new) (sight seat.new) }
 {
     make_within(mutex, seat, Kind::LinkLoad)
@@ -206,6 +219,7 @@ pub fn store_link<T: Kept>(mutex: &Mutex<T>, seat: &mut Seat<T>) -> Turn
     requires is_next { kind_of (state_of seat.old).point ≡ Some KindNow.LinkStore }
     ensures belongs { Beside seat.old seat.new }
     ensures woken { WokenAsGranted seat.old seat.new }
+    ensures run { RunGoesOnFrom seat.old seat.new }
     ensures steps { StepsOn T.follows T.fits (Some KindNow.LinkStore) (state_of seat.old) (sight seat.old) result (state_of seat.new) (sight seat.new) }
 {
     make_within(mutex, seat, Kind::LinkStore)
@@ -217,6 +231,7 @@ pub fn load_handoff<T: Kept>(mutex: &Mutex<T>, seat: &mut Seat<T>) -> Turn
     requires is_next { kind_of (state_of seat.old).point ≡ Some KindNow.HandoffLoad }
     ensures belongs { Beside seat.old seat.new }
     ensures woken { WokenAsGranted seat.old seat.new }
+    ensures run { RunGoesOnFrom seat.old seat.new }
     ensures steps { StepsOn T.follows T.fits (Some KindNow.HandoffLoad) (state_of seat.old) (sight seat.old) result (state_of seat.new) (sight seat.new) }
 {
     make_within(mutex, seat, Kind::HandoffLoad)
@@ -228,6 +243,7 @@ pub fn store_handoff<T: Kept>(mutex: &Mutex<T>, seat: &mut Seat<T>) -> Turn
     requires is_next { kind_of (state_of seat.old).point ≡ Some KindNow.HandoffStore }
     ensures belongs { Beside seat.old seat.new }
     ensures woken { WokenAsGranted seat.old seat.new }
+    ensures run { RunGoesOnFrom seat.old seat.new }
     ensures steps { StepsOn T.follows T.fits (Some KindNow.HandoffStore) (state_of seat.old) (sight seat.old) result (state_of seat.new) (sight seat.new) }
 {
     make_within(mutex, seat, Kind::HandoffStore)
@@ -239,6 +255,7 @@ pub fn exchange_handoff<T: Kept>(mutex: &Mutex<T>, seat: &mut Seat<T>) -> Turn
     requires is_next { kind_of (state_of seat.old).point ≡ Some KindNow.HandoffExchange }
     ensures belongs { Beside seat.old seat.new }
     ensures woken { WokenAsGranted seat.old seat.new }
+    ensures run { RunGoesOnFrom seat.old seat.new }
     ensures steps { StepsOn T.follows T.fits (Some KindNow.HandoffExchange) (state_of seat.old) (sight seat.old) result (state_of seat.new) (sight seat.new) }
 {
     make_within(mutex, seat, Kind::HandoffExchange)
@@ -250,6 +267,7 @@ pub fn load_wake<T: Kept>(mutex: &Mutex<T>, seat: &mut Seat<T>) -> Turn
     requires is_next { kind_of (state_of seat.old).point ≡ Some KindNow.WakeLoad }
     ensures belongs { Beside seat.old seat.new }
     ensures woken { WokenAsGranted seat.old seat.new }
+    ensures run { RunGoesOnFrom seat.old seat.new }
     ensures steps { StepsOn T.follows T.fits (Some KindNow.WakeLoad) (state_of seat.old) (sight seat.old) result (state_of seat.new) (sight seat.new) }
 {
     make_within(mutex, seat, Kind::WakeLoad)
@@ -261,6 +279,7 @@ pub fn store_wake<T: Kept>(mutex: &Mutex<T>, seat: &mut Seat<T>) -> Turn
     requires is_next { kind_of (state_of seat.old).point ≡ Some KindNow.WakeStore }
     ensures belongs { Beside seat.old seat.new }
     ensures woken { WokenAsGranted seat.old seat.new }
+    ensures run { RunGoesOnFrom seat.old seat.new }
     ensures steps { StepsOn T.follows T.fits (Some KindNow.WakeStore) (state_of seat.old) (sight seat.old) result (state_of seat.new) (sight seat.new) }
 {
     let (turn, wake_up) = make_of(mutex, seat, Kind::WakeStore);
@@ -274,6 +293,7 @@ pub fn exchange_wake<T: Kept>(mutex: &Mutex<T>, seat: &mut Seat<T>) -> Turn
     requires is_next { kind_of (state_of seat.old).point ≡ Some KindNow.WakeExchange }
     ensures belongs { Beside seat.old seat.new }
     ensures woken { WokenAsGranted seat.old seat.new }
+    ensures run { RunGoesOnFrom seat.old seat.new }
     ensures steps { StepsOn T.follows T.fits (Some KindNow.WakeExchange) (state_of seat.old) (sight seat.old) result (state_of seat.new) (sight seat.new) }
 {
     make_within(mutex, seat, Kind::WakeExchange)

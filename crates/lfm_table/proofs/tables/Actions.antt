@@ -1,7 +1,8 @@
 -- The run of a table goes on: by the begins and the step of a seat, or by a load of the owner word. The part of that seat grows by what
--- it notes, and no other.
-use Rattle.std.proofs.Common.{◌≡◌, ◌≢◌, ◌⊎◌, ℕ, zero, suc, ◌+◌, ◌<◌, ◌≤◌, List, [], ◌∷◌, ◌++◌, length, set, sym, refl, ap, ◌∙◌, subst, ⊎_elim, inl, inr, append_assoc, append-nil, length-set, arith}
-use Rattle.std.proofs.lemmas.Bool.{eq-eqb, ne_eqb}
+-- it notes, and no other. Each seat goes on knowing the actions up to its last step.
+use Rattle.std.proofs.Common.{◌≡◌, ◌≢◌, ◌⊎◌, ℕ, zero, suc, true, false, nat_eq, replicate, ◌+◌, ◌<◌, ◌≤◌, List, [], ◌∷◌, ◌++◌, length, set, sym, refl, ap, ◌∙◌, subst, ⊎_elim, inl, inr, append_assoc, append-nil, length-set, arith}
+use Rattle.std.proofs.lemmas.Bool.{cases_Bool, eq-eqb, ne_eqb}
+use Rattle.std.proofs.lemmas.List.Elements.{filter-append}
 use Rattle.std.proofs.lemmas.List.{set-get_or}
 use mathlib.Core.Option.{some, some-ne-none}
 use lib.ListN.{get_elem?}
@@ -14,14 +15,16 @@ use Rattle.lfm_protocol.specs.Begin as Begin
 use Rattle.lfm_protocol.specs.Core.{Core, limits, put}
 use Rattle.lfm_protocol.specs.Seats.{seat, entry, with_entry, absent, IsSeat}
 use Rattle.lfm_protocol.specs.Step.{begin, step, made, start}
-use Rattle.lfm_laws.specs.laws.Schedules.{Event, begins, makes, happens, run_of}
+use Rattle.lfm_laws.specs.laws.Schedules.{Event, begins, makes, happens, reached, run_of}
 use Rattle.lfm_laws.specs.table.Settles.{begun}
 use Rattle.lfm_laws.proofs.steady.frames.Entries.{seat-with_same, length-with_entry}
 use Rattle.lfm_laws.proofs.table.Settled.{test_of_seat, with_entry-twice, is_seat-with, limits-put}
 use Rattle.lfm_laws.proofs.table.TableSteps.{found_at}
+use Rattle.lfm_table.specs.declared.seat_view.Action.{Action}
+use Rattle.lfm_table.specs.declared.seat_view.Action.TheVariants.{Begins, Makes, LoadsOwner}
 use Rattle.lfm_table.specs.declared.seat_view.Seen.{Seen}
 use Rattle.lfm_table.specs.declared.seat_view.View.{View}
-use Rattle.lfm_table.specs.Actions.{seen, told, noted_as, noted, Action, event, loads_owner, events_of, after_action, if_own, noted_of, part_of, begins_of, begins_and_step, HasRun}
+use Rattle.lfm_table.specs.Actions.{seen, told, noted_as, noted, actor, own_of, events_of, after_action, if_own, noted_of, part_of, begins_of, begins_and_step, KnowsRun, HasRun, next_part, RunGoesOn, RunGoesOnBy}
 use Rattle.lfm_table.specs.Settled.{calls_to}
 
 -- Joins
@@ -32,16 +35,18 @@ run_join c (e ∷ xs) ys = run_join (happens c e).core xs ys
 
 events_join : (xs ys : List Action) → events_of (xs ++ ys) ≡ events_of xs ++ events_of ys
 events_join [] ys = refl
-events_join (event e ∷ xs) ys = ap (λ (l : List Event). e ∷ l) (events_join xs ys)
-events_join (loads_owner s ∷ xs) ys = events_join xs ys
+events_join (Begins s call ∷ xs) ys = ap (λ (l : List Event). begins s call ∷ l) (events_join xs ys)
+events_join (Makes s ∷ xs) ys = ap (λ (l : List Event). makes s ∷ l) (events_join xs ys)
+events_join (LoadsOwner s ∷ xs) ys = events_join xs ys
 
 -- the state after these actions and more
 pub led_join : (c : Core) (xs ys : List Action) → run_of c (events_of (xs ++ ys)) ≡ run_of (run_of c (events_of xs)) (events_of ys)
 led_join c xs ys = ap (run_of c) (events_join xs ys) ∙ run_join c (events_of xs) (events_of ys)
 
 led_first : (c : Core) (d : Action) (later : List Action) → run_of c (events_of (d ∷ later)) ≡ run_of (after_action c d) (events_of later)
-led_first c (event e) later = refl
-led_first c (loads_owner s) later = refl
+led_first c (Begins s call) later = refl
+led_first c (Makes s) later = refl
+led_first c (LoadsOwner s) later = refl
 
 -- a seat's part of these actions and more
 pub part_join : (c : Core) (t : ℕ) (xs ys : List Action) → part_of c t (xs ++ ys) ≡ part_of c t xs ++ part_of (run_of c (events_of xs)) t ys
@@ -71,12 +76,12 @@ begin_put c s x call is =
 begun_run : (c : Core) (s : ℕ) (calls : List Call) → IsSeat c.seats s → run_of c (events_of (begins_of s calls)) ≡ put c s (begun (seat c.seats s) (limits c) calls)
 begun_run c s [] is = sym (put_own c s)
 begun_run c s (call ∷ calls) is =
-    led_join c (begins_of s calls) (event (begins s call) ∷ [])
+    led_join c (begins_of s calls) (Begins s call ∷ [])
     ∙ (ap (λ (d : Core). (begin d s call).core) (begun_run c s calls is) ∙ begin_put c s (begun (seat c.seats s) (limits c) calls) call is)
 
 begun_part : (c : Core) (t s : ℕ) (calls : List Call) → part_of c t (begins_of s calls) ≡ []
 begun_part c t s [] = refl
-begun_part c t s (call ∷ calls) = part_join c t (begins_of s calls) (event (begins s call) ∷ []) ∙ ap (λ (l : List Seen). l ++ []) (begun_part c t s calls)
+begun_part c t s (call ∷ calls) = part_join c t (begins_of s calls) (Begins s call ∷ []) ∙ ap (λ (l : List Seen). l ++ []) (begun_part c t s calls)
 
 -- The step
 
@@ -90,7 +95,7 @@ module _ (c : Core) (s : ℕ) (x p : SeatState) (is : IsSeat c.seats s) (here : 
   -- the begins and the step lead where the core's step leads
   pub step_run : run_of c (events_of (begins_and_step s x p)) ≡ (made (put c s p) s).core
   step_run =
-      led_join c (begins_of s (calls_to x p)) (event (makes s) ∷ [])
+      led_join c (begins_of s (calls_to x p)) (Makes s ∷ [])
       ∙ (ap (λ (d : Core). (step d s).core) begun_here ∙ step_made (put c s p) s (is_seat-with c.seats s s p is))
 
   noted_put : noted (put c s p) s ≡ seen p.point (told p s (found_at c s p))
@@ -99,12 +104,47 @@ module _ (c : Core) (s : ℕ) (x p : SeatState) (is : IsSeat c.seats s) (here : 
   -- and their part is what the seat notes of the step
   pub step_part : (t : ℕ) → part_of c t (begins_and_step s x p) ≡ if_own s t (seen p.point (told p s (found_at c s p)))
   step_part t =
-      part_join c t (begins_of s (calls_to x p)) (event (makes s) ∷ [])
-      ∙ ((λ i. begun_part c t s (calls_to x p) i ++ part_of (begun_here i) t (event (makes s) ∷ []))
+      part_join c t (begins_of s (calls_to x p)) (Makes s ∷ [])
+      ∙ ((λ i. begun_part c t s (calls_to x p) i ++ part_of (begun_here i) t (Makes s ∷ []))
       ∙ (append-nil (if_own s t (noted (put c s p) s)) ∙ ap (if_own s t) noted_put))
 
-pub owner_load_part : (c : Core) (s t : ℕ) → part_of c t (loads_owner s ∷ []) ≡ if_own s t (seen TryOwnerLoad c.owner)
+pub owner_load_part : (c : Core) (s t : ℕ) → part_of c t (LoadsOwner s ∷ []) ≡ if_own s t (seen TryOwnerLoad c.owner)
 owner_load_part c s t = append-nil (if_own s t (seen TryOwnerLoad c.owner))
+
+-- Who acts
+
+own_join : (t : ℕ) (xs ys : List Action) → own_of t (xs ++ ys) ≡ own_of t xs ++ own_of t ys
+own_join t xs ys = filter-append (λ (a : Action). nat_eq (actor a) t) xs ys
+
+other_notes : (c : Core) (t : ℕ) (a : Action) → nat_eq (actor a) t ≡ false → noted_of c t a ≡ []
+other_notes c t (Begins s call) other = refl
+other_notes c t (Makes s) other = rw other refl
+other_notes c t (LoadsOwner s) other = rw other refl
+
+-- whoever has done none of these actions has no part in them
+pub no_part : (c : Core) (t : ℕ) (actions : List Action) → own_of t actions ≡ [] → part_of c t actions ≡ []
+no_part c t [] none = refl
+no_part c t (a ∷ later) none = ⊎_elim
+    (λ (own : nat_eq (actor a) t ≡ true). absurd (let e : a ∷ own_of t later ≡ [] = rw own at none in cc))
+    (λ (other : nat_eq (actor a) t ≡ false). let e : own_of t later ≡ [] = rw other at none in (λ i. other_notes c t a other i ++ no_part (after_action c a) t later e i))
+    (cases_Bool (nat_eq (actor a) t))
+
+begin_by : (s t : ℕ) (call : Call) → s ≢ t → own_of t (Begins s call ∷ []) ≡ []
+begin_by s t call other = rw (ne_eqb s t other) refl
+
+made_by : (s t : ℕ) → s ≢ t → own_of t (Makes s ∷ []) ≡ []
+made_by s t other = rw (ne_eqb s t other) refl
+
+begun_by : (s t : ℕ) (calls : List Call) → s ≢ t → own_of t (begins_of s calls) ≡ []
+begun_by s t [] other = refl
+begun_by s t (call ∷ calls) other = own_join t (begins_of s calls) (Begins s call ∷ []) ∙ (λ i. begun_by s t calls other i ++ begin_by s t call other i)
+
+-- the begins and the step of a seat are nobody else's
+pub step_by : (s t : ℕ) (x p : SeatState) → s ≢ t → own_of t (begins_and_step s x p) ≡ []
+step_by s t x p other = own_join t (begins_of s (calls_to x p)) (Makes s ∷ []) ∙ (λ i. begun_by s t (calls_to x p) other i ++ made_by s t other i)
+
+pub load_by : (s t : ℕ) → s ≢ t → own_of t (LoadsOwner s ∷ []) ≡ []
+load_by s t other = rw (ne_eqb s t other) refl
 
 -- The run of a table
 
@@ -119,10 +159,39 @@ at_place [] i a e = absurd (some-ne-none a (sym e))
 at_place (x ∷ xs) zero a e = omega arith
 at_place (x ∷ xs) (suc i) a e = let h = at_place xs i a e in omega arith
 
+-- a seat that has not stepped stands as at the start
+pub starts_absent : (n s : ℕ) → seat (replicate n absent) s ≡ absent
+unfolding entry
+starts_absent n zero = refl
+starts_absent zero (suc s) = refl
+starts_absent (suc n) (suc zero) = refl
+starts_absent (suc n) (suc (suc s)) = starts_absent n (suc s)
+
+-- a seat that has done nothing knows nothing of the run
+pub knows_none : (l : Limits) (actions : List Action) (t : ℕ) (early : List Action) (trail : List Seen) → own_of t actions ≡ [] → trail ≡ [] → early ≡ [] → KnowsRun l actions t early trail
+knows_none l actions t early trail none no_trail no_actions = record {
+  later = actions;
+  goes_on = ap (λ (d : List Action). d ++ actions) (sym no_actions);
+  of_others = none;
+  trail_is = no_trail ∙ ap (part_of (start l) t) (sym no_actions);
+}
+
+-- and stands as at the start
+pub stands_first : (l : Limits) (t : ℕ) (early : List Action) (x : SeatState) → early ≡ [] → x ≡ absent → seat (reached l (events_of early)).seats t ≡ x
+stands_first l t early x no_actions stands = (λ i. seat (reached l (events_of (no_actions i))).seats t) ∙ (starts_absent l.seats t ∙ sym stands)
+
+-- the view z says of the run what v does
+abbrev pub SaysTheSame : {T : Type 0} → View T → View T → Type 0
+SaysTheSame z v = (z.trail ≡ v.trail) × (z.actions ≡ v.actions) × (z.standing ≡ v.standing)
+
+-- it is that of a seat that has done nothing
+abbrev pub SaysNothing : {T : Type 0} → View T → Type 0
+SaysNothing z = (z.trail ≡ []) × (z.actions ≡ []) × (z.standing ≡ absent)
+
 module _ {T : Type 0} (l : Limits) (actions : List Action) (c : Core) (views : List (View T)) (run : HasRun l actions c views) where
   -- the seat at place id has acted, and notes this of it
   module _ (more : List Action) (d : Core) (id : ℕ) (v w : View T) (x : Seen) (at : get_elem? views id ≡ some v) (leads : d ≡ run_of c (events_of more)) (notes : w.trail ≡ v.trail ++ x ∷ [])
-      (part : (t : ℕ) → part_of c t more ≡ if_own (id + 1) t x) where
+      (part : (t : ℕ) → part_of c t more ≡ if_own (id + 1) t x) (only : (t : ℕ) → id + 1 ≢ t → own_of t more ≡ []) (knows : w.actions ≡ actions ++ more) (stands : seat d.seats (id + 1) ≡ w.standing) where
     parts : (t : ℕ) → part_of (start l) t (actions ++ more) ≡ part_of (start l) t actions ++ if_own (id + 1) t x
     parts t = part_join (start l) t actions more ∙ (ap (λ (b : Core). part_of (start l) t actions ++ part_of b t more) (sym run.here) ∙ ap (λ (q : List Seen). part_of (start l) t actions ++ q) (part t))
 
@@ -132,32 +201,116 @@ module _ {T : Type 0} (l : Limits) (actions : List Action) (c : Core) (views : L
     other_part : (t : ℕ) → id + 1 ≢ t → part_of (start l) t (actions ++ more) ≡ part_of (start l) t actions
     other_part t other = parts t ∙ (ap (λ (q : List Seen). part_of (start l) t actions ++ q) (not_own (id + 1) t x other) ∙ append-nil (part_of (start l) t actions))
 
+    -- these actions are no other seat's
+    still : (t : ℕ) (early : List Action) → id + 1 ≢ t → own_of t early ≡ [] → own_of t (early ++ more) ≡ []
+    still t early other none = own_join t early more ∙ (λ i. none i ++ only t other i)
+
+    leads_on : d ≡ reached l (events_of (actions ++ more))
+    leads_on = leads ∙ (ap (λ (b : Core). run_of b (events_of more)) run.here ∙ sym (led_join (start l) actions more))
+
+    own_trail : w.trail ≡ part_of (start l) (id + 1) (actions ++ more)
+    own_trail = notes ∙ (ap (λ (q : List Seen). q ++ x ∷ []) (run.trails id v at) ∙ sym own_part)
+
+    -- the seat knows the run up to now
+    own_known : KnowsRun l (actions ++ more) (id + 1) w.actions w.trail
+    own_known = record {
+      later = [];
+      goes_on = sym (append-nil (actions ++ more)) ∙ ap (λ (d : List Action). d ++ []) (sym knows);
+      of_others = refl;
+      trail_is = own_trail ∙ ap (part_of (start l) (id + 1)) (sym knows);
+    }
+
+    own_stands : seat (reached l (events_of w.actions)).seats (id + 1) ≡ w.standing
+    own_stands = ap (λ (d : List Action). seat (reached l (events_of d)).seats (id + 1)) knows ∙ (ap (λ (b : Core). seat b.seats (id + 1)) (sym leads_on) ∙ stands)
+
+    other_known : (t : ℕ) (early : List Action) (trail : List Seen) → id + 1 ≢ t → KnowsRun l actions t early trail → KnowsRun l (actions ++ more) t early trail
+    other_known t early trail other k = record {
+      later = k.later ++ more;
+      goes_on = ap (λ (d : List Action). d ++ more) k.goes_on ∙ append_assoc early k.later more;
+      of_others = still t k.later other k.of_others;
+      trail_is = k.trail_is;
+    }
+
     pub run_goes_on : HasRun l (actions ++ more) d (set views id w)
     run_goes_on = record {
       allowed = run.allowed;
-      here = leads ∙ (ap (λ (b : Core). run_of b (events_of more)) run.here ∙ sym (led_join (start l) actions more));
+      here = leads_on;
       trails = λ j z e. ⊎_elim
-          (λ (t : (j ≡ id) × (w ≡ z)). subst (λ (u : ℕ × View T). u.1.trail ≡ part_of (start l) (u.0 + 1) (actions ++ more)) (λ i. (sym t.0 i, t.1 i))
-          (notes ∙ (ap (λ (q : List Seen). q ++ x ∷ []) (run.trails id v at) ∙ sym own_part)))
+          (λ (t : (j ≡ id) × (w ≡ z)). subst (λ (u : ℕ × View T). u.1.trail ≡ part_of (start l) (u.0 + 1) (actions ++ more)) (λ i. (sym t.0 i, t.1 i)) own_trail)
           (λ (t : (j ≢ id) × (get_elem? views j ≡ some z)). run.trails j z t.1 ∙ sym (other_part (j + 1) (λ e. t.0 (omega (arith, e)))))
+          (at_set views id j w z e);
+      known = λ j z e. ⊎_elim
+          (λ (t : (j ≡ id) × (w ≡ z)). subst (λ (u : ℕ × View T). KnowsRun l (actions ++ more) (u.0 + 1) u.1.actions u.1.trail) (λ i. (sym t.0 i, t.1 i)) own_known)
+          (λ (t : (j ≢ id) × (get_elem? views j ≡ some z)). other_known (j + 1) z.actions z.trail (λ e. t.0 (omega (arith, e))) (run.known j z t.1))
+          (at_set views id j w z e);
+      stands = λ j z e. ⊎_elim
+          (λ (t : (j ≡ id) × (w ≡ z)). subst (λ (u : ℕ × View T). seat (reached l (events_of u.1.actions)).seats (u.0 + 1) ≡ u.1.standing) (λ i. (sym t.0 i, t.1 i)) own_stands)
+          (λ (t : (j ≢ id) × (get_elem? views j ≡ some z)). run.stands j z t.1)
           (at_set views id j w z e);
       others = λ t out.
           let same = length-set views id w in let here = at_place views id v at in
           ⊎_elim
-          (λ (none : t ≡ 0). other_part t (λ e. omega (arith, e, none)) ∙ run.others t (inl none))
-          (λ (far : length (set views id w) < t). other_part t (λ e. omega (arith, e, far, same, here)) ∙ run.others t (inr (omega (arith, far, same))))
+          (λ (none : t ≡ 0). still t actions (λ e. omega (arith, e, none)) (run.others t (inl none)))
+          (λ (far : length (set views id w) < t). still t actions (λ e. omega (arith, e, far, same, here)) (run.others t (inr (omega (arith, far, same)))))
           out;
     }
 
-  -- nobody has acted: each view has the trail of one that was there, or is new and has an empty trail
-  pub run_stays : (after : List (View T)) → length views ≤ length after → ((j : ℕ) (z : View T) → get_elem? after j ≡ some z → ((v : View T) × (get_elem? views j ≡ some v) × (z.trail ≡ v.trail)) ⊎ ((length views ≤ j) × (z.trail ≡ [])))
+    -- and has gone on from what the seat knew before
+    pub goes_on_by : v.number ≡ id + 1 → l ≡ v.limits → RunGoesOnBy more v w
+    goes_on_by named limits_are =
+        let k = run.known id v at in
+        let between = k.later ++ more in
+        let led : run_of (reached l (events_of v.actions)) (events_of k.later) ≡ c = sym (led_join (start l) v.actions k.later) ∙ (ap (λ (d : List Action). reached l (events_of d)) (sym k.goes_on) ∙ sym run.here) in
+        let noted : part_of (reached l (events_of v.actions)) (id + 1) between ≡ x ∷ [] =
+        part_join (reached l (events_of v.actions)) (id + 1) k.later more
+        ∙ ((λ i. no_part (reached l (events_of v.actions)) (id + 1) k.later k.of_others i ++ part_of (led i) (id + 1) more) ∙ (part (id + 1) ∙ own (id + 1) x)) in
+        record {
+          others = k.later;
+          of_others = ap (λ (t : ℕ). own_of t k.later) named ∙ k.of_others;
+          actions = knows ∙ (ap (λ (d : List Action). d ++ more) k.goes_on ∙ append_assoc v.actions k.later more);
+          trail = notes ∙ ap (λ (q : List Seen). v.trail ++ q) (sym noted ∙ (λ i. part_of (reached (limits_are i) (events_of v.actions)) (sym named i) between));
+        }
+
+  -- nobody has acted: each view says of the run what one that was there says, or is new
+  pub run_stays : (after : List (View T)) → length views ≤ length after
+      → ((j : ℕ) (z : View T) → get_elem? after j ≡ some z → ((v : View T) × (get_elem? views j ≡ some v) × SaysTheSame z v) ⊎ ((length views ≤ j) × SaysNothing z))
       → HasRun l actions c after
   run_stays after longer same = record {
     allowed = run.allowed;
     here = run.here;
     trails = λ j z e. ⊎_elim
-        (λ (t : (v : View T) × (get_elem? views j ≡ some v) × (z.trail ≡ v.trail)). t.2 ∙ run.trails j t.0 t.1)
-        (λ (t : (length views ≤ j) × (z.trail ≡ [])). let far = t.0 in t.1 ∙ sym (run.others (j + 1) (inr (omega (arith, far)))))
+        (λ (t : (v : View T) × (get_elem? views j ≡ some v) × SaysTheSame z v). t.2.0 ∙ run.trails j t.0 t.1)
+        (λ (t : (length views ≤ j) × SaysNothing z). let far = t.0 in t.1.0 ∙ sym (no_part (start l) (j + 1) actions (run.others (j + 1) (inr (omega (arith, far))))))
+        (same j z e);
+    known = λ j z e. ⊎_elim
+        (λ (t : (v : View T) × (get_elem? views j ≡ some v) × SaysTheSame z v). subst (λ (u : List Action × List Seen). KnowsRun l actions (j + 1) u.0 u.1) (λ i. (sym t.2.1 i, sym t.2.0 i)) (run.known j t.0 t.1))
+        (λ (t : (length views ≤ j) × SaysNothing z). let far = t.0 in knows_none l actions (j + 1) z.actions z.trail (run.others (j + 1) (inr (omega (arith, far)))) t.1.0 t.1.1)
+        (same j z e);
+    stands = λ j z e. ⊎_elim
+        (λ (t : (v : View T) × (get_elem? views j ≡ some v) × SaysTheSame z v). ap (λ (d : List Action). seat (reached l (events_of d)).seats (j + 1)) t.2.1 ∙ (run.stands j t.0 t.1 ∙ sym t.2.2))
+        (λ (t : (length views ≤ j) × SaysNothing z). stands_first l (j + 1) z.actions z.standing t.1.1 t.1.2)
         (same j z e);
     others = λ t out. run.others t (⊎_elim (λ (none : t ≡ 0). inl none) (λ (far : length after < t). inr (omega (arith, far, longer))) out);
   }
+
+-- From one view to the next
+
+pub run_same : {T : Type 0} {v : View T} → RunGoesOn v v
+run_same {T} {v} = record { number = refl; limits_are = refl; between = []; actions = sym (append-nil v.actions); trail = sym (append-nil v.trail) }
+
+pub run_next : {T : Type 0} {u v w : View T} → RunGoesOn u v → RunGoesOn v w → RunGoesOn u w
+run_next {T} {u} {v} {w} g h =
+    let led : reached v.limits (events_of v.actions) ≡ run_of (reached u.limits (events_of u.actions)) (events_of g.between) =
+    (λ i. reached (g.limits_are i) (events_of (g.actions i))) ∙ led_join (start u.limits) u.actions g.between in
+    record {
+      number = h.number ∙ g.number;
+      limits_are = h.limits_are ∙ g.limits_are;
+      between = g.between ++ h.between;
+      actions = h.actions ∙ (ap (λ (d : List Action). d ++ h.between) g.actions ∙ append_assoc u.actions g.between h.between);
+      trail = h.trail ∙ ((λ i. g.trail i ++ part_of (led i) (g.number i) h.between)
+          ∙ (append_assoc u.trail (next_part u g.between) (part_of (run_of (reached u.limits (events_of u.actions)) (events_of g.between)) u.number h.between)
+          ∙ ap (λ (q : List Seen). u.trail ++ q) (sym (part_join (reached u.limits (events_of u.actions)) u.number g.between h.between))));
+    }
+
+pub run_by : {T : Type 0} {own : List Action} {v w : View T} → w.number ≡ v.number → w.limits ≡ v.limits → RunGoesOnBy own v w → RunGoesOn v w
+run_by {T} {own} {v} {w} number limits_are g = record { number = number; limits_are = limits_are; between = g.others ++ own; actions = g.actions; trail = g.trail }

@@ -22,6 +22,8 @@ use Rattle.lfm_laws.specs.table.Carried.{carries_value, move, move_of, MovesValu
 use Rattle.lfm_protocol.specs.Core.{Core, limits, put}
 use Rattle.lfm_protocol.specs.Step.{made}
 use Rattle.lfm_laws.specs.laws.Events.{answered_by}
+use Rattle.lfm_laws.specs.laws.Schedules.{run_of}
+use Rattle.lfm_laws.proofs.lawful.runs.LimitsKept.{limits_stay}
 use Rattle.lfm_laws.specs.steady.Ghost.{Ghost}
 use Rattle.lfm_laws.specs.steady.EventOutcome.{abstract}
 use Rattle.lfm_protocol.specs.Place.{carries}
@@ -35,6 +37,7 @@ use Rattle.lfm_laws.specs.table.Words.{words, index, index_by, written, stepped_
 use Rattle.lfm_laws.proofs.steady.frames.Entries.{seat-with_same, seat-with_other, length-with_entry}
 use Rattle.lfm_laws.proofs.table.TableSteps.{table_step, found_at}
 use Rattle.lfm_laws.proofs.table.Values.{tells_value, carried_alone}
+use Rattle.lfm_table.specs.declared.seat_view.Action.{Action}
 use Rattle.lfm_table.specs.declared.seat_view.Role.{Role}
 use Rattle.lfm_table.specs.declared.seat_view.Role.TheVariants.{User, Retired}
 use Rattle.lfm_table.specs.declared.seat_view.Joined.{Joined}
@@ -43,10 +46,10 @@ use Rattle.lfm_table.specs.declared.rule.Moving.{Moving}
 use Rattle.lfm_table.specs.Reach.{IsOther, Leads, Reached}
 use Rattle.lfm_table.specs.Rule.{seen, retired, retired_at, sum_over, Roots, left_by, Sits, LeadsToValue, Awaits, NoneEnded, LeftIn, AreNumbered, SameRoot, WithSeat, Held, Hands, Knows, CollectsWithin, Advanced}
 use Rattle.lfm_table.specs.Settled.{Became, calls_to}
-use Rattle.lfm_table.specs.Actions.{Action, HasRun, begins_and_step, if_own, told, told_of}
+use Rattle.lfm_table.specs.Actions.{HasRun, RunGoesOnBy, begins_and_step, events_of, if_own, own_of, part_of, told, told_of}
 use Rattle.lfm_table.specs.Steps.{stores, Ready}
 use Rattle.lfm_table.proofs.tables.CoreFacts as core
-use Rattle.lfm_table.proofs.tables.Actions.{run_goes_on, step_run, step_part}
+use Rattle.lfm_table.proofs.tables.Actions.{goes_on_by, run_goes_on, step_by, step_run, step_part}
 use Rattle.lfm_table.proofs.tables.Numbered.{left_own, numbered_same, numbered_next}
 use Rattle.lfm_table.proofs.tables.SettledKept.{settles_of}
 use Rattle.lfm_table.proofs.tables.StepFacts.{release_of, released, shallow_step, no_answer, empty_depth, left_same, left_new, not_release, carrying, list_stays, told_by, told_list, became_depth}
@@ -120,10 +123,10 @@ module _ {T : Type 0} (follows : ℕ → T → T → Type 0) (suits : T → ℕ 
         (λ (t : (j ≢ id) × (get_elem? s.views j ≡ some z)). t.1) (at_set s.views id j w z e)
 
     abbrev AreKept : List (View T) → List (Joined T) → Type 0
-    AreKept views joined = (i : ℕ) (g : Joined T) → get_elem? joined i ≡ some g → (j : ℕ) × (z : View T) × (get_elem? views j ≡ some z) × (z.role ≡ Retired) × (z.number ≡ g.number) × (z.last ≡ g.last) × (z.last_found ≡ g.found) × (z.ended ≡ g.ended) × (z.trail ≡ g.trail)
+    AreKept views joined = (i : ℕ) (g : Joined T) → get_elem? joined i ≡ some g → (j : ℕ) × (z : View T) × (get_elem? views j ≡ some z) × (z.role ≡ Retired) × (z.number ≡ g.number) × (z.last ≡ g.last) × (z.last_found ≡ g.found) × (z.ended ≡ g.ended) × (z.trail ≡ g.trail) × (z.actions ≡ g.actions)
 
     kept_on : (g : List (Joined T)) → AreKept s.views g → AreKept vs g
-    kept_on g old i x e = let a = old i x e in (a.0, a.1, stay_gone a.0 a.1 a.2 a.3, a.3, a.4, a.5, a.6, a.7, a.8)
+    kept_on g old i x e = let a = old i x e in (a.0, a.1, stay_gone a.0 a.1 a.2 a.3, a.3, a.4, a.5, a.6, a.7, a.8, a.9)
 
     roots_on : (k z : View T) → Roots s.views k → z.role ≡ k.role → z.made ≡ k.made → z.joined ≡ k.joined → Roots vs z
     roots_on k z r role made joined = record {
@@ -312,12 +315,12 @@ module _ {T : Type 0} (follows : ℕ → T → T → Type 0) (suits : T → ℕ 
       abbrev holds_after : ℕ
       holds_after = left_by p.point (h.holds_ended + 1) h.holds_ended
 
-      abbrev next_view : Option T → View T
-      next_view found = record me.0 { standing = st.seat; trail = me.0.trail ++ seen p.point (k n) ∷ []; last = left_by p.point a me.0.last; last_found = left_by p.point me.0.found me.0.last_found; ended = left_by p.point (me.0.holds_ended + 1) me.0.ended; found = found; holds_ended = holds_after; popped = popped_after; answered = ts.ghost_after.answered }
-
       -- the run goes on by the calls that the seat began since its last step, and by the step
       abbrev pub actions_now : List Action
       actions_now = begins_and_step num me.0.standing p
+
+      abbrev next_view : Option T → View T
+      next_view found = record me.0 { standing = st.seat; trail = me.0.trail ++ seen p.point (k n) ∷ []; actions = h.actions ++ actions_now; last = left_by p.point a me.0.last; last_found = left_by p.point me.0.found me.0.last_found; ended = left_by p.point (me.0.holds_ended + 1) me.0.ended; found = found; holds_ended = holds_after; popped = popped_after; answered = ts.ghost_after.answered }
 
       leads_here : p ≡ begun me.0.standing (limits c) (calls_to me.0.standing p)
       leads_here = to.leads ∙ ap (λ (l : Limits). begun me.0.standing l (calls_to me.0.standing p)) sits.limits_are
@@ -325,10 +328,26 @@ module _ {T : Type 0} (follows : ℕ → T → T → Type 0) (suits : T → ℕ 
       told_is : told p num (found_at c num p) ≡ k n
       told_is = ap (told p num) n_is ∙ sym (finds n)
 
+      part_now : (t : ℕ) → part_of c t actions_now ≡ if_own (id + 1) t (seen p.point (k n))
+      part_now t = step_part c num me.0.standing p is here leads_here t ∙ (λ j. if_own (placed j) t (seen p.point (told_is j)))
+
+      only_now : (t : ℕ) → id + 1 ≢ t → own_of t actions_now ≡ []
+      only_now t other = step_by num t me.0.standing p (λ e. other (sym placed ∙ e))
+
+      leads_now : ts.after ≡ run_of c (events_of actions_now)
+      leads_now = ts.is_made ∙ sym (step_run c num me.0.standing p is here leads_here)
+
+      stands_now : seat ts.after.seats (id + 1) ≡ st.seat
+      stands_now = ap (λ m. seat ts.after.seats m) (sym placed) ∙ mine_after
+
       run_on : (found : Option T) → HasRun h.opened (h.actions ++ actions_now) ts.after (set s.views id (next_view found))
-      run_on found = run_goes_on h.opened h.actions c s.views h.run actions_now ts.after id me.0 (next_view found) (seen p.point (k n)) at
-          (ts.is_made ∙ sym (step_run c num me.0.standing p is here leads_here)) refl
-          (λ t. step_part c num me.0.standing p is here leads_here t ∙ (λ j. if_own (placed j) t (seen p.point (told_is j))))
+      run_on found = run_goes_on h.opened h.actions c s.views h.run actions_now ts.after id me.0 (next_view found) (seen p.point (k n)) at leads_now refl part_now only_now refl stands_now
+
+      opened_is : h.opened ≡ me.0.limits
+      opened_is = sym (limits_stay h.opened (events_of h.actions) h.run.allowed) ∙ (ap limits (sym h.run.here) ∙ sym sits.limits_are)
+
+      runs_on : (found : Option T) → RunGoesOnBy actions_now me.0 (next_view found)
+      runs_on found = goes_on_by h.opened h.actions c s.views h.run actions_now ts.after id me.0 (next_view found) (seen p.point (k n)) at leads_now refl part_now only_now refl stands_now placed opened_is
 
       same_root : (found : Option T) → SameRoot me.0 (next_view found)
       same_root found = record { number = refl; limits_are = refl; opening = refl; made = refl; joined_are = refl }
@@ -371,6 +390,7 @@ module _ {T : Type 0} (follows : ℕ → T → T → Type 0) (suits : T → ℕ 
         root = same_root found;
         standing = refl;
         trail = refl;
+        run = runs_on found;
         last = refl;
         last_found = refl;
         ended = refl;
@@ -397,7 +417,7 @@ module _ {T : Type 0} (follows : ℕ → T → T → Type 0) (suits : T → ℕ 
       HeldAfter t = (after : Ruled t) × (after.core ≡ (made (put c num p) num).core) × (after.opened ≡ h.opened) × (after.actions ≡ h.actions ++ actions_now)
 
       abbrev Done : Type 0
-      Done = (w : View T) × (b : Act S) × Valid s.homes me.1 b × HeldAfter (stepped s i (f n) id me.1 w b) × Advanced follows suits p a me (k n) (w, carried_after me.1 b)
+      Done = (w : View T) × (b : Act S) × Valid s.homes me.1 b × HeldAfter (stepped s i (f n) id me.1 w b) × Advanced follows suits p a me (k n) (w, carried_after me.1 b) × (w.actions ≡ h.actions ++ actions_now)
 
       abbrev MovedBy : Bool → Bool → Type 0
       MovedBy b b' = MovesValue c.seats ts.after.seats num (move_of b b')
@@ -500,6 +520,7 @@ module _ {T : Type 0} (follows : ℕ → T → T → Type 0) (suits : T → ℕ 
                   x.room ∙ sym seats_are,
                   refl,
                 )),
+            refl,
           )
 
       -- it goes into its slot
@@ -559,6 +580,7 @@ module _ {T : Type 0} (follows : ℕ → T → T → Type 0) (suits : T → ℕ 
               refl,
             ),
             tells me.0.found (rest me.1) (subst (λ (t : Bool × Bool). Hands follows suits t.0 t.1 p.point a c.popped me (w, rest me.1)) (λ q. (sym before q, sym after q)) (ap rest ld.1)),
+            refl,
           )
 
       -- it stays in its slot, or with another seat
@@ -623,6 +645,7 @@ module _ {T : Type 0} (follows : ℕ → T → T → Type 0) (suits : T → ℕ 
               refl,
             ),
             tells me.0.found me.1 (subst (λ (t : Bool × Bool). Hands follows suits t.0 t.1 p.point a c.popped me (w, me.1)) (λ q. (sym before q, sym after q)) refl),
+            refl,
           )
 
       -- it stays with this seat
@@ -728,6 +751,7 @@ module _ {T : Type 0} (follows : ℕ → T → T → Type 0) (suits : T → ℕ 
               refl,
             ),
             tells found me.1 (subst (λ (t : Bool × Bool). Hands follows suits t.0 t.1 p.point a c.popped me (w, me.1)) (λ q. (sym before q, sym after q)) (refl, refl)),
+            refl,
           )
 
       by_move : (b b' : Bool) → carries_value p ≡ b → carries_value st.seat ≡ b' → MovedBy b b' → Done

@@ -2,6 +2,7 @@
 ghost use Rattle.std.specs.Prelude.{◌≡◌, ◌<◌, ◌≤◌, Some, IfErr, IfOk, length, slice_index};
 ghost use Rattle.lfm_model.specs.declared.refusals.Refusal.TheVariants.{Busy};
 ghost use Rattle.lfm_mutex.specs.Belongs.{Beside, OfMutex, limits_of};
+ghost use Rattle.lfm_mutex.specs.calls.RunGoesOn.{RunGoesOnFrom};
 ghost use Rattle.lfm_mutex.specs.calls.Sight.{sight, MayRelease};
 ghost use Rattle.lfm_mutex.specs.calls.WakeUps.{Wakes};
 ghost use Rattle.lfm_mutex.specs.calls.Woken.{WakesNobody};
@@ -46,6 +47,7 @@ fn enlist_in_hand<T: Kept>(
     requires may { (v : _) → (sight cond.old).value ≡ Some v → ((sight cond.old).number ≤ v.seats) × (slice_index v.counts.items (sight cond.old).number < v.budget) }
     requires leaves { MayRelease T.follows T.fits (sight seat.old) }
     ensures belongs { Beside cond.old cond.new × Beside seat.old seat.new }
+    ensures run { RunGoesOnFrom seat.old seat.new }
     ensures cond_woken { WakesNobody cond.old cond.new }
     ensures woken { WakesNobody seat.old seat.new }
     ensures enlists { (v : _) × (w : _) × Rewrites (sight cond.old) (sight cond.new) v w × Enlists (limits_of mutex.now) (sight cond.old).number (sight seat.old) (sight seat.new) v w (ticket_of result.0) × IfOk result.0 (λ e. e.ahead ≡ length v.list.items) }
@@ -76,6 +78,7 @@ impl Condvar {
         requires spare { (cond_sight cond.old).takes < (cond_limits self.now).budget }
         requires known { (sight seat.old).number ≤ (cond_limits self.now).seats }
         ensures belongs { OfCondvar cond.new self.now × Beside seat.old seat.new }
+        ensures run { RunGoesOnFrom seat.old seat.new }
         ensures cond_woken { CondWokenAsGranted cond.old cond.new }
         ensures woken { WakesNobody seat.old seat.new }
         ensures enlists { (v : _) × (w : _) × HeldOnce (cond_limits self.now).budget (cond_sight cond.old) (cond_sight cond.new) v w × Enlists (limits_of mutex.now) (cond_sight cond.old).number (sight seat.old) (sight seat.new) v w (ticket_of result.0) × IfOk result.0 (λ e. e.ahead ≡ length v.list.items) }

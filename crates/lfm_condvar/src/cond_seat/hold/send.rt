@@ -1,6 +1,7 @@
 //! How waiters are sent in one hold of the inner mutex.
 ghost use Rattle.std.specs.Prelude.{◌≡◌, ◌<◌, ◌≤◌, ◌++◌, ℕ, Some, false};
 ghost use Rattle.lfm_mutex.specs.Belongs.{Beside, OfMutex, limits_of};
+ghost use Rattle.lfm_mutex.specs.calls.RunGoesOn.{RunGoesOnFrom};
 ghost use Rattle.lfm_mutex.specs.calls.Sight.{sight};
 ghost use Rattle.lfm_mutex.specs.calls.WakeUps.{Wakes, as_list};
 ghost use Rattle.lfm_mutex.specs.calls.Woken.{WakesNobody, woken_of};
@@ -28,6 +29,7 @@ fn hold_back<T: Kept>(
     requires belongs { OfMutex seat.old mutex.now }
     requires inside { (t : ℕ) → held ≡ Some t → t ≤ (limits_of mutex.now).seats }
     ensures belongs { Beside seat.old seat.new }
+    ensures run { RunGoesOnFrom seat.old seat.new }
     ensures same { sight seat.new ≡ sight seat.old }
     ensures later { result ≡ later_of held next }
     ensures woken { woken_of seat.new ≡ woken_of seat.old ++ as_list (earlier_of held next) }
@@ -53,6 +55,7 @@ fn send_all<T: Kept>(
     requires wide { waiters.old.seats ≤ (limits_of mutex.now).seats }
     requires awake { (sight seat.old).asleep ≡ false }
     ensures belongs { Beside seat.old seat.new }
+    ensures run { RunGoesOnFrom seat.old seat.new }
     ensures sends { SendsAll (limits_of mutex.now).seats (sight seat.old) (sight seat.new) waiters.old waiters.new result.0 }
     ensures steps { SendsBy (limits_of mutex.now) (sight seat.old) (sight seat.new) result.0 }
     ensures follows { (s : ℕ) → WaitersFollow s waiters.old waiters.new }
@@ -84,6 +87,7 @@ fn send_oldest_in_hand<T: Kept>(
     requires held { 0 < (sight cond.old).depth }
     requires wide { (v : _) → (sight cond.old).value ≡ Some v → v.seats ≤ (limits_of mutex.now).seats }
     ensures belongs { Beside cond.old cond.new × Beside seat.old seat.new }
+    ensures run { RunGoesOnFrom seat.old seat.new }
     ensures cond_woken { WakesNobody cond.old cond.new }
     ensures woken { WakesNobody seat.old seat.new }
     ensures sends { (v : _) × (w : _) × Rewrites (sight cond.old) (sight cond.new) v w × SendsOldest (limits_of mutex.now).seats (sight seat.old) (sight seat.new) v w result.0 }
@@ -107,6 +111,7 @@ fn send_all_in_hand<T: Kept>(
     requires wide { (v : _) → (sight cond.old).value ≡ Some v → v.seats ≤ (limits_of mutex.now).seats }
     requires awake { (sight seat.old).asleep ≡ false }
     ensures belongs { Beside cond.old cond.new × Beside seat.old seat.new }
+    ensures run { RunGoesOnFrom seat.old seat.new }
     ensures cond_woken { WakesNobody cond.old cond.new }
     ensures sends { (v : _) × (w : _) × Rewrites (sight cond.old) (sight cond.new) v w × SendsAll (limits_of mutex.now).seats (sight seat.old) (sight seat.new) v w result.0 }
     ensures steps { SendsBy (limits_of mutex.now) (sight seat.old) (sight seat.new) result.0 }
@@ -132,6 +137,7 @@ impl Condvar {
         requires wide { (cond_limits self.now).seats ≤ (limits_of mutex.now).seats }
         requires awake { (sight seat.old).asleep ≡ false }
         ensures belongs { OfCondvar cond.new self.now × Beside seat.old seat.new }
+        ensures run { RunGoesOnFrom seat.old seat.new }
         ensures cond_woken { CondWokenAsGranted cond.old cond.new }
         ensures woken { WakesNobody seat.old seat.new }
         ensures sends { WakeOneEnds (limits_of mutex.now).seats (cond_limits self.now) (cond_tries self.now) (cond_sight cond.old) (cond_sight cond.new) (sight seat.old) (sight seat.new) result.0 }
@@ -160,6 +166,7 @@ impl Condvar {
         requires wide { (cond_limits self.now).seats ≤ (limits_of mutex.now).seats }
         requires awake { (sight seat.old).asleep ≡ false }
         ensures belongs { OfCondvar cond.new self.now × Beside seat.old seat.new }
+        ensures run { RunGoesOnFrom seat.old seat.new }
         ensures cond_woken { CondWokenAsGranted cond.old cond.new }
         ensures sends { WakeAllEnds (limits_of mutex.now).seats (cond_limits self.now) (cond_tries self.now) (cond_sight cond.old) (cond_sight cond.new) (sight seat.old) (sight seat.new) result.0 }
         ensures steps { SendsBy (limits_of mutex.now) (sight seat.old) (sight seat.new) result.0 }

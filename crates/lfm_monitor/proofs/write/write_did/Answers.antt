@@ -3,6 +3,7 @@ use Rattle.lfm_model.specs.Journals.{entry}
 use Rattle.lfm_model.specs.declared.journals.What.TheVariants.{Did}
 use Rattle.lfm_monitor.specs.Writes.{MayWrite}
 use Rattle.lfm_monitor.proofs.Knowing.{one_some}
+use Rattle.lfm_mutex.proofs.runs.RunGoesOn.{run_stays_at}
 use Rattle.lfm_monitor.proofs.write.write_did.Goals as goal
 
 pub did-requires-clause-seat : goal.did-requires-clause-seat
@@ -24,6 +25,7 @@ returns-clause-writes g c = let v = c.in-Some.journaled.now in let h = rw c.in-S
   (ap (λ s. s.value) x.same.0, x.same.1, x.same.2),
   (ap (λ p. p.table_id) h.1, h.3),
   ap (λ w. w.seats) h.5,
+  run_stays_at (ap (λ p. p.me.0) h.1),
 )
 
 pub returns-clause-object : goal.returns-clause-object

@@ -2,6 +2,7 @@ use Rattle.std.proofs.Common.{ℕ, ap, subst, sym, ◌∙◌, ◌++◌, ◌∷�
 use Rattle.lfm_model.specs.Journals.{entry}
 use Rattle.lfm_model.specs.declared.journals.What.TheVariants.{Took}
 use Rattle.lfm_monitor.specs.Writes.{MayWrite}
+use Rattle.lfm_mutex.proofs.runs.RunGoesOn.{run_stays_at}
 use Rattle.lfm_monitor.proofs.write.write_took.Goals as goal
 
 pub took-requires-clause-seat : goal.took-requires-clause-seat
@@ -23,4 +24,5 @@ returns g c = let v = c.in-Some.journaled.now in let h = rw c.in-Some.is at (c.v
   (ap (λ s. s.value) x.same.0, x.same.1, x.same.2),
   (ap (λ p. p.table_id) h.1, h.3),
   ap (λ w. w.seats) h.5,
+  run_stays_at (ap (λ p. p.me.0) h.1),
 )

@@ -12,6 +12,8 @@ use Rattle.lfm_mutex.specs.calls.Trails.{Made}
 use Rattle.lfm_mutex.proofs.runs.MadeCalls.{makes}
 use Rattle.lfm_mutex.specs.calls.WakeUps.{Wakes, grants_of}
 use Rattle.lfm_mutex.proofs.runs.WakeUps.{wakes_none}
+use Rattle.lfm_table.proofs.tables.Actions.{run_next}
+use Rattle.lfm_mutex.proofs.runs.RunGoesOn.{run_stays_at}
 use Rattle.lfm_mutex.proofs.calls.release.Goals as goal
 
 pub finish_release-requires-clause-gives : goal.finish_release-requires-clause-gives
@@ -76,3 +78,9 @@ returns-in-Open-clause-wakes g c = let f = c.finish_release.new.seat in
 pub returns-in_default-clause-wakes : goal.returns-in_default-clause-wakes
 returns-in_default-clause-wakes g c = let s = c.args.seat.now in let b = c.begin_call.new.seat in
     wakes_none c.args.mutex.now.limits.seats s.place.me.0.trail b.place.me.0.trail (ap (λ p. grants_of p.me.0.trail) c.begin_call.ensures.same.0)
+
+pub returns-in-Open-clause-run : goal.returns-in-Open-clause-run
+returns-in-Open-clause-run g c = run_next (run_stays_at (ap (λ p. p.me.0) c.begin_call.ensures.same.0)) c.finish_release.ensures.ran.run
+
+pub returns-in_default-clause-run : goal.returns-in_default-clause-run
+returns-in_default-clause-run g c = run_stays_at (ap (λ p. p.me.0) c.begin_call.ensures.same.0)

@@ -14,6 +14,8 @@ use Rattle.lfm_mutex.specs.calls.Trails.{Made}
 use Rattle.lfm_mutex.proofs.runs.MadeCalls.{makes}
 use Rattle.lfm_mutex.specs.calls.WakeUps.{Wakes, grants_of, may_grant}
 use Rattle.lfm_mutex.proofs.runs.WakeUps.{wakes_none}
+use Rattle.lfm_table.proofs.tables.Actions.{run_next}
+use Rattle.lfm_mutex.proofs.runs.RunGoesOn.{run_stays_at}
 use Rattle.lfm_mutex.proofs.calls.run.Goals as goal
 
 pub returns-in-Open-clause-answers : goal.returns-in-Open-clause-answers
@@ -73,3 +75,9 @@ returns-in_default-clause-wakes g c = let s = c.args.seat.now in let b = c.begin
 pub returns-in-Open-clause-none : goal.returns-in-Open-clause-none
 returns-in-Open-clause-none g c = λ idle. let s = c.args.seat.now in
     c.finish.ensures.none (ap may_grant (ap (λ x. errand x.point) c.in-Open.ensures.seat ∙ begun_open s.standing s.limits c.args.call (sym c.in-Open.ensures.turn)) ∙ idle)
+
+pub returns-in-Open-clause-run : goal.returns-in-Open-clause-run
+returns-in-Open-clause-run g c = run_next (run_stays_at (ap (λ p. p.me.0) c.begin_call.ensures.same.0)) c.finish.ensures.ran.run
+
+pub returns-in_default-clause-run : goal.returns-in_default-clause-run
+returns-in_default-clause-run g c = run_stays_at (ap (λ p. p.me.0) c.begin_call.ensures.same.0)

@@ -21,6 +21,8 @@ use Rattle.lfm_mutex.proofs.runs.Spending.{spends_any, spends_join, spent}
 use Rattle.lfm_mutex.proofs.runs.StraightPoints.{begins_again, fit_begun, added_none, added_some, owned, fit_after}
 use Rattle.lfm_mutex.proofs.runs.WakeUps.{grants_none, wakes_after, wakes_none}
 use Rattle.lfm_mutex.specs.calls.WakeUps.{Wakes}
+use Rattle.lfm_table.proofs.tables.Actions.{run_next}
+use Rattle.lfm_mutex.proofs.runs.RunGoesOn.{run_made}
 use Rattle.lfm_mutex.proofs.lock.ask_again.Goals as goal
 
 pub returns-then-found-eq0-clause-made : goal.returns-then-found-eq0-clause-made
@@ -87,3 +89,9 @@ pub returns-clause-wakes : goal.returns-clause-wakes
 returns-clause-wakes g c =
     let s = c.args.seat.now in let f = c.add_held-found in let h = c.load_held-owner in let k = c.subtract_held in
     wakes_none c.args.mutex.now.limits.seats s.place.me.0.trail k.new.place.me.0.trail (grants_none g.T.Kept.follows g.T.Kept.fits _ _ _ _ _ _ _ k.ensures.step.1.event refl ∙ (grants_none g.T.Kept.follows g.T.Kept.fits _ _ _ _ _ _ _ h.ensures.step.event refl ∙ grants_none g.T.Kept.follows g.T.Kept.fits _ _ _ _ _ _ _ f.ensures.step.event refl))
+
+pub returns-then-found-eq0-clause-run : goal.returns-then-found-eq0-clause-run
+returns-then-found-eq0-clause-run g c = run_next (run_made c.add_held-found.ensures.step) c.ask_on.ensures.made.ran.run
+
+pub returns-clause-run : goal.returns-clause-run
+returns-clause-run g c = run_next (run_made c.add_held-found.ensures.step) (run_next (run_made c.load_held-owner.ensures.step) (run_made c.subtract_held.ensures.step.1))

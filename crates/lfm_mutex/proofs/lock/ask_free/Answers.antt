@@ -22,6 +22,8 @@ use Rattle.lfm_mutex.proofs.runs.StraightPoints.{begins_free, fit_begun, added_n
 use Rattle.lfm_table.specs.Straight.{Fit}
 use Rattle.lfm_mutex.proofs.runs.WakeUps.{grants_none, wakes_after, wakes_none}
 use Rattle.lfm_mutex.specs.calls.WakeUps.{Wakes}
+use Rattle.lfm_table.proofs.tables.Actions.{run_next}
+use Rattle.lfm_mutex.proofs.runs.RunGoesOn.{run_made}
 use Rattle.lfm_mutex.proofs.lock.ask_free.Goals as goal
 
 pub returns-then-found-ne0-clause-made : goal.returns-then-found-ne0-clause-made
@@ -92,3 +94,9 @@ pub returns-clause-wakes : goal.returns-clause-wakes
 returns-clause-wakes g c =
     let s = c.args.seat.now in let f = c.add_free-found in let h = c.store_held in
     wakes_none c.args.mutex.now.limits.seats s.place.me.0.trail h.new.place.me.0.trail (grants_none g.T.Kept.follows g.T.Kept.fits _ _ _ _ _ _ _ h.ensures.step.1.event refl ∙ grants_none g.T.Kept.follows g.T.Kept.fits _ _ _ _ _ _ _ f.ensures.step.event refl)
+
+pub returns-then-found-ne0-clause-run : goal.returns-then-found-ne0-clause-run
+returns-then-found-ne0-clause-run g c = run_next (run_made c.add_free-found.ensures.step) c.queue.ensures.made.ran.run
+
+pub returns-clause-run : goal.returns-clause-run
+returns-clause-run g c = run_next (run_made c.add_free-found.ensures.step) (run_made c.store_held.ensures.step.1)

@@ -16,6 +16,8 @@ use Rattle.lfm_mutex.proofs.runs.Courses.{course_none, course_next, comes}
 use Rattle.lfm_table.proofs.tables.StepFacts.{made_of}
 use Rattle.lfm_mutex.proofs.runs.StraightPoints.{fit_begun, fit_after}
 use Rattle.lfm_mutex.proofs.runs.ReceivePoints.{begins_receive, granted, not_granted, quieted}
+use Rattle.lfm_table.proofs.tables.Actions.{run_next}
+use Rattle.lfm_mutex.proofs.runs.RunGoesOn.{run_made}
 use Rattle.lfm_mutex.proofs.receive.receive_asleep.Goals as goal
 
 pub returns-then-found-lt-FIRST_GRANT-clause-made : goal.returns-then-found-lt-FIRST_GRANT-clause-made
@@ -48,3 +50,9 @@ returns-clause-made g c =
     let fit2 = fit_after g.T.Kept.follows g.T.Kept.fits s.number h.new.place.table_id.words h.new.place.id s.limits p1 h.ensures.step.0 f.new.place.me f.new.moving h.new.place.me f.new.moving h.ensures.step.1 (opens p2) is2 in
     let third = course_next g.T.Kept.follows g.T.Kept.fits s.number p0 s.moving s.place.me.0 h.new.place.table_id.words h.new.place.id s.limits p2 k.ensures.step.0 h.new.place.me f.new.moving k.new.place.me f.new.moving k.new.place.table_id.words k.new.place.id (stepped_by p2 s.number k.ensures.step.0 (oldest_in f.new.moving)) second fit2 k.ensures.step.1 refl (λ e. cc) refl in
     comes g.T.Kept.follows g.T.Kept.fits s.number p0 s.moving s.place.me.0 s.number s.limits c.args.mutex.now.limits Call.Receive s.standing (made_of 1 t ps Rest) (Ended (Answer.Got (Some how))) f.new.moving k.new.place.me.0 c.requires.belongs.1 refl refl begins refl third
+
+pub returns-then-found-lt-FIRST_GRANT-clause-run : goal.returns-then-found-lt-FIRST_GRANT-clause-run
+returns-then-found-lt-FIRST_GRANT-clause-run g c = run_made c.load_grant-found.ensures.step
+
+pub returns-clause-run : goal.returns-clause-run
+returns-clause-run g c = run_next (run_made c.load_grant-found.ensures.step) (run_next (run_made c.store_wake_kept.ensures.step.1) (run_made c.store_held.ensures.step.1))

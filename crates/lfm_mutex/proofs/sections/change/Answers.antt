@@ -1,4 +1,5 @@
 use Rattle.std.proofs.Common.{ap, rules}
+use Rattle.lfm_mutex.proofs.runs.RunGoesOn.{run_stays_at}
 use Rattle.lfm_mutex.proofs.sections.change.Goals as goal
 
 -- what is written through the loan changes the value alone
@@ -16,3 +17,6 @@ returns-clause-changes g c = let h = rw c.in-Some.is at (c.value_mut.follows.hol
 
 pub returns-clause-woken : goal.returns-clause-woken
 returns-clause-woken g c = let h = rw c.in-Some.is at (c.value_mut.follows.holds c.f.new.arg2) in ap (λ w. w.seats) h.5
+
+pub returns-clause-run : goal.returns-clause-run
+returns-clause-run g c = let h = rw c.in-Some.is at (c.value_mut.follows.holds c.f.new.arg2) in run_stays_at (ap (λ p. p.me.0) h.1)

@@ -18,6 +18,8 @@ use Rattle.lfm_mutex.proofs.runs.Spending.{spends_any, spends_join, spent}
 use Rattle.lfm_mutex.proofs.runs.StraightPoints.{fit_begun}
 use Rattle.lfm_table.proofs.tables.StepFacts.{made_of}
 use Rattle.lfm_mutex.proofs.runs.WakeUps.{grants_none, wakes_after, wakes_none}
+use Rattle.lfm_table.proofs.tables.Actions.{run_next}
+use Rattle.lfm_mutex.proofs.runs.RunGoesOn.{run_made}
 use Rattle.lfm_mutex.proofs.send.send_awake.Goals as goal
 
 pub returns-then-found-waiting-clause-made : goal.returns-then-found-waiting-clause-made
@@ -103,3 +105,12 @@ returns-clause-wakes g c =
     let s = c.args.seat.now in let f = c.exchange_wake_kept-found in let on = c.send_held in
     subst (λ (n : ℕ). Wakes n on.result.1 s.place.me.0.trail on.new.seat.place.me.0.trail) (ap (λ l. l.seats) c.requires.belongs.1)
     (wakes_after s.limits.seats on.result.1 s.place.me.0.trail f.new.place.me.0.trail on.new.seat.place.me.0.trail (grants_none g.T.Kept.follows g.T.Kept.fits _ _ _ _ _ _ _ f.ensures.step.event refl) on.ensures.wakes)
+
+pub returns-then-found-waiting-clause-run : goal.returns-then-found-waiting-clause-run
+returns-then-found-waiting-clause-run g c = run_made c.exchange_wake_kept-found.ensures.step
+
+pub returns-then-seat-eq0-clause-run : goal.returns-then-seat-eq0-clause-run
+returns-then-seat-eq0-clause-run g c = run_next (run_made c.exchange_wake_kept-found.ensures.step) c.send_free.ensures.made.ran.run
+
+pub returns-clause-run : goal.returns-clause-run
+returns-clause-run g c = run_next (run_made c.exchange_wake_kept-found.ensures.step) c.send_held.ensures.made.ran.run

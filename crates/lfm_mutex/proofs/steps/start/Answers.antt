@@ -7,6 +7,7 @@ use Rattle.lfm_table.specs.declared.seat_view.View.{View}
 use Rattle.lfm_mutex.proofs.runs.OneStep.{begins_seen}
 use Rattle.lfm_mutex.specs.calls.WakeUps.{grants_of}
 use Rattle.lfm_mutex.proofs.runs.Woken.{woken_none}
+use Rattle.lfm_mutex.proofs.runs.RunGoesOn.{run_stays_at}
 use Rattle.lfm_mutex.proofs.steps.start.Goals as goal
 
 pub returns-clause-begins : goal.returns-clause-begins
@@ -17,3 +18,6 @@ returns-clause-begins g c = let s = c.args.seat.now in let b = c.begin_call.new.
 
 pub returns-clause-woken : goal.returns-clause-woken
 returns-clause-woken g c = woken_none c.args.seat.now c.begin_call.new.seat c.begin_call.ensures.woken (ap (λ p. grants_of p.me.0.trail) c.begin_call.ensures.same.0)
+
+pub returns-clause-run : goal.returns-clause-run
+returns-clause-run g c = run_stays_at (ap (λ p. p.me.0) c.begin_call.ensures.same.0)

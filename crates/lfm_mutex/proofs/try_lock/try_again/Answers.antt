@@ -15,6 +15,8 @@ use Rattle.lfm_mutex.specs.calls.Straight.{Course, ComesTo, try_turn}
 use Rattle.lfm_mutex.proofs.runs.Courses.{course_none, course_next, course_join, comes}
 use Rattle.lfm_table.proofs.tables.StepFacts.{made_of}
 use Rattle.lfm_mutex.proofs.runs.StraightPoints.{begins_try_again, fit_begun, exchanged_none, exchanged_some, try_owned, fit_after}
+use Rattle.lfm_table.proofs.tables.Actions.{run_next}
+use Rattle.lfm_mutex.proofs.runs.RunGoesOn.{run_made}
 use Rattle.lfm_mutex.proofs.try_lock.try_again.Goals as goal
 
 pub returns-then-found-eq0-clause-made : goal.returns-then-found-eq0-clause-made
@@ -47,3 +49,9 @@ returns-clause-made g c =
     subst (λ (x : SeatState). ComesTo g.T.Kept.follows g.T.Kept.fits c.args.mutex.now.limits Call.TryLock (sight_of s.number s.standing s.place.me.0 (value_in s.moving)) (sight_of s.number x h.new.place.me.0 (value_in s.moving)) (Ended (Answer.Locked (Locked.Again (d + 1)))))
     (λ i. record { depth = d + 1; takes = t; posts = ps; point = sym c.requires.rests i })
     (comes g.T.Kept.follows g.T.Kept.fits s.number p0 s.moving s.place.me.0 s.number s.limits c.args.mutex.now.limits Call.TryLock s.standing (made_of (d + 1) t ps Rest) (Ended (Answer.Locked (Locked.Again (d + 1)))) s.moving h.new.place.me.0 c.requires.belongs.1 refl refl begins refl last)
+
+pub returns-then-found-eq0-clause-run : goal.returns-then-found-eq0-clause-run
+returns-then-found-eq0-clause-run g c = run_next (run_made c.exchange_held-found.ensures.step) c.try_on.ensures.made.ran.run
+
+pub returns-clause-run : goal.returns-clause-run
+returns-clause-run g c = run_next (run_made c.exchange_held-found.ensures.step) (run_made c.load_held-owner.ensures.step)

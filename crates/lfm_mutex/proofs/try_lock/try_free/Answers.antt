@@ -20,6 +20,8 @@ use Rattle.lfm_mutex.proofs.runs.Courses.{course_none, course_next, course_join,
 use Rattle.lfm_table.proofs.tables.StepFacts.{made_of}
 use Rattle.lfm_mutex.proofs.runs.StraightPoints.{begins_try_free, fit_begun, exchanged_none, exchanged_some, try_not_owned, posted, unposted, fit_after}
 use Rattle.lfm_table.specs.Straight.{Fit}
+use Rattle.lfm_table.proofs.tables.Actions.{run_next}
+use Rattle.lfm_mutex.proofs.runs.RunGoesOn.{run_made}
 use Rattle.lfm_mutex.proofs.try_lock.try_free.Goals as goal
 
 pub returns-then-found-eq0-clause-made : goal.returns-then-found-eq0-clause-made
@@ -92,3 +94,12 @@ invariant_of-seat-then-handoff-ne0 g c =
     let at : c.stand_exchanging.new.standing ≡ q = c.stand_exchanging.ensures ∙ ap (λ (z : Stepped). z.seat) (posted 0 t ps s.number k.result None c.if-handoff-ne0.true) in
     let fit = subst (λ (x : SeatState). Fit s.number k.new.place.table_id.words k.new.place.id s.limits x k.new.place.me f.new.moving) (ap (λ (z : Stepped). z.seat) (posted 0 t ps s.number k.result (oldest_in f.new.moving) c.if-handoff-ne0.true) ∙ sym at) k.ensures.step.fit in
     record { seated = fit.seated; became = fit.became; ready = fit.ready; rooted = fit.rooted }
+
+pub returns-then-found-eq0-clause-run : goal.returns-then-found-eq0-clause-run
+returns-then-found-eq0-clause-run g c = run_next (run_made c.exchange_free-found.ensures.step) (run_made c.store_held.ensures.step.1)
+
+pub returns-then-handoff-ne0-clause-run : goal.returns-then-handoff-ne0-clause-run
+returns-then-handoff-ne0-clause-run g c = run_next (run_made c.exchange_free-found.ensures.step) (run_next (run_made c.load_free.ensures.step) (run_next (run_made c.load_handoff_kept-handoff.ensures.step) c.try_on.ensures.made.ran.run))
+
+pub returns-clause-run : goal.returns-clause-run
+returns-clause-run g c = run_next (run_made c.exchange_free-found.ensures.step) (run_next (run_made c.load_free.ensures.step) (run_made c.load_handoff_kept-handoff.ensures.step))

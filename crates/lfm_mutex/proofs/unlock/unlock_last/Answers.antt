@@ -24,6 +24,8 @@ use Rattle.lfm_table.proofs.tables.StepFacts.{made_of}
 use Rattle.lfm_protocol.specs.Begin.{Stepped}
 use Rattle.lfm_mutex.proofs.runs.WakeUps.{grants_none, wakes_after, wakes_none}
 use Rattle.lfm_mutex.specs.calls.WakeUps.{Wakes}
+use Rattle.lfm_table.proofs.tables.Actions.{run_next}
+use Rattle.lfm_mutex.proofs.runs.RunGoesOn.{run_made}
 use Rattle.lfm_mutex.proofs.unlock.unlock_last.Goals as goal
 
 pub store_held-requires-clause-leaves : goal.store_held-requires-clause-leaves
@@ -112,3 +114,9 @@ pub returns-clause-wakes : goal.returns-clause-wakes
 returns-clause-wakes g c =
     let s = c.args.seat.now in let h = c.store_held in let f = c.subtract_last-found in
     wakes_none c.args.mutex.now.limits.seats s.place.me.0.trail f.new.place.me.0.trail (grants_none g.T.Kept.follows g.T.Kept.fits _ _ _ _ _ _ _ f.ensures.step.event refl ∙ grants_none g.T.Kept.follows g.T.Kept.fits _ _ _ _ _ _ _ h.ensures.step.1.event refl)
+
+pub returns-then-found-ne1-clause-run : goal.returns-then-found-ne1-clause-run
+returns-then-found-ne1-clause-run g c = run_next (run_made c.store_held.ensures.step.1) (run_next (run_made c.subtract_last-found.ensures.step) c.serve.ensures.made.ran.run)
+
+pub returns-clause-run : goal.returns-clause-run
+returns-clause-run g c = run_next (run_made c.store_held.ensures.step.1) (run_made c.subtract_last-found.ensures.step)

@@ -7,6 +7,7 @@ use Rattle.lfm_protocol.specs.Begin.{Stepped}
 use Rattle.lfm_mutex.proofs.runs.Courses.{unlocks_once}
 use Rattle.lfm_table.proofs.tables.Started as Started
 use Rattle.lfm_mutex.proofs.runs.StraightPoints.{begins_still}
+use Rattle.lfm_table.proofs.tables.Actions.{run_same}
 use Rattle.lfm_mutex.proofs.unlock.unlock_once.Goals as goal
 
 pub invariant_of-seat : goal.invariant_of-seat
@@ -18,3 +19,6 @@ pub returns-clause-made : goal.returns-clause-made
 returns-clause-made g c = let s = c.args.seat.now in
     unlocks_once g.T.Kept.follows g.T.Kept.fits s.number s.limits c.args.mutex.now.limits s.standing (record s.standing { depth = s.standing.depth - 1 }) s.place.me.0 s.moving (Ended (Answer.Unlocked (Unlocked.Still (s.standing.depth - 1)))) c.requires.belongs.1
     (λ e. cc) (begins_still s.standing s.limits c.requires.rests c.requires.deep)
+
+pub returns-clause-run : goal.returns-clause-run
+returns-clause-run g c = run_same

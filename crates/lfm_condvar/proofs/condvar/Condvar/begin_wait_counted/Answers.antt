@@ -5,7 +5,11 @@ use Rattle.lfm_condvar.specs.Waits.{ticket_of, BeginWaitEnds}
 use Rattle.lfm_condvar.proofs.Enlisted.{ends_enlisted, found_ahead}
 use Rattle.std.proofs.Common.{ℕ, List, ◌++◌, ◌∙◌, ap, subst, sym}
 use Rattle.lfm_mutex.specs.calls.WakeUps.{as_list, grants_of}
+use Rattle.lfm_mutex.proofs.runs.RunGoesOn.{run_next}
 use Rattle.lfm_condvar.proofs.condvar.Condvar.begin_wait_counted.Goals as goal
+
+pub returns-clause-run : goal.returns-clause-run
+returns-clause-run g c = run_next c.enlist_in_one_hold-enlisted.ensures.run c.wake_from.ensures.run
 
 pub returns-clause-begins : goal.returns-clause-begins
 returns-clause-begins g c = let e = c.enlist_in_one_hold-enlisted.ensures.enlists in

@@ -3,7 +3,11 @@ use Rattle.lfm_mutex.specs.calls.Sight.{sight}
 use Rattle.lfm_condvar.specs.Belongs.{cond_limits, cond_sight, cond_tries}
 use Rattle.lfm_condvar.proofs.OneHold.{held_by, one_hold, woken_in_hold}
 use Rattle.lfm_condvar.proofs.Sent.{all_end}
+use Rattle.lfm_mutex.proofs.runs.RunGoesOn.{run_same}
 use Rattle.lfm_condvar.proofs.condvar.Condvar.send_all_in_one_hold.Goals as goal
+
+pub returns-in-Err-clause-run : goal.returns-in-Err-clause-run
+returns-in-Err-clause-run g c = run_same
 
 pub returns-clause-sends : goal.returns-clause-sends
 returns-clause-sends g c = let a = c.args in let h = c.in-Ok.ensures.held in let e = c.send_all_in_hand-sent.ensures.sends in let l = c.leave_list.ensures in

@@ -3,7 +3,11 @@ use Rattle.lfm_mutex.specs.calls.Sight.{sight}
 use Rattle.lfm_condvar.specs.Belongs.{cond_limits, cond_sight, cond_tries}
 use Rattle.lfm_condvar.proofs.Enlisted.{ends_refused}
 use Rattle.lfm_mutex.proofs.runs.Woken.{woken_join}
+use Rattle.lfm_mutex.proofs.runs.RunGoesOn.{run_next}
 use Rattle.lfm_condvar.proofs.condvar.Condvar.wait.Goals as goal
+
+pub returns-clause-run : goal.returns-clause-run
+returns-clause-run g c = run_next c.begin_wait_counted.ensures.run c.receive_lock_within.ensures.run
 
 pub returns-in_err-enlisted-clause-waits : goal.returns-in_err-enlisted-clause-waits
 returns-in_err-enlisted-clause-waits g c =

@@ -7,10 +7,14 @@ use Rattle.lfm_condvar.specs.Belongs.{cond_limits, cond_sight, cond_tries}
 use Rattle.lfm_condvar.specs.Repeated.{NeedNotWait, WaitWhileEnds, WouldWait}
 use Rattle.lfm_condvar.proofs.Repeating.{as_deep, handed_on, if_true, may_again, stays}
 use Rattle.lfm_mutex.proofs.runs.Woken.{woken_join, woken_none}
+use Rattle.lfm_mutex.proofs.runs.RunGoesOn.{run_next, run_same}
 use Rattle.lfm_condvar.proofs.condvar.Condvar.wait_while.Goals as goal
 
+pub returns-in_err-_waited-clause-run : goal.returns-in_err-_waited-clause-run
+returns-in_err-_waited-clause-run g c = run_next c.waits.invariant.run c.in_err-_waited.ensures.run
+
 pub waits-init : goal.waits-init
-waits-init g c = record { belongs = c.requires.belongs; beside = (refl, refl); woken = woken_none c.args.seat.now c.args.seat.now refl refl; cond_woken = woken_none c.args.cond.now.seat c.args.cond.now.seat refl refl; leaves = c.requires.leaves; depth = refl; waits = (zero, (refl, refl)) }
+waits-init g c = record { belongs = c.requires.belongs; beside = (refl, refl); run = run_same; woken = woken_none c.args.seat.now c.args.seat.now refl refl; cond_woken = woken_none c.args.cond.now.seat c.args.cond.now.seat refl refl; leaves = c.requires.leaves; depth = refl; waits = (zero, (refl, refl)) }
 
 -- one more wait was needed
 pub waits-preserved : goal.waits-preserved
@@ -21,6 +25,7 @@ waits-preserved g c = let i = c.waits.invariant in let e = c.in_ok-_waited.ensur
       woken = woken_join c.args.seat.now c.waits.seat c.wait.new.seat i.woken e.woken;
       cond_woken = woken_join c.args.cond.now.seat c.waits.cond.seat c.wait.new.cond.seat i.cond_woken e.cond_woken;
       beside = (e.belongs.1.0 ∙ i.beside.0, e.belongs.1.1 ∙ i.beside.1);
+      run = run_next i.run e.run;
       leaves = may_again g.T.Kept.follows g.T.Kept.fits user own tries c.in_ok-_waited._waited c' d s t c.requires.keeps e.waits;
       depth = as_deep g.T.Kept.follows g.T.Kept.fits user own tries c.in_ok-_waited._waited c' d s t e.waits ∙ i.depth;
       waits = (suc i.waits.0, (c', s, c.in_ok-_waited._waited, i.waits.1, if_true c.must_wait.result (WouldWait says s) (NeedNotWait says s) must c.must_wait.ensures, e.waits));

@@ -1,6 +1,7 @@
 use Rattle.std.proofs.Common.{◌≡◌, ℕ}
 use Rattle.std.specs.Fn.{FnReturnsAt}
 use Rattle.lfm_mutex.specs.Belongs.{Beside, OfMutex, limits_of}
+use Rattle.lfm_mutex.specs.calls.RunGoesOn.{RunGoesOnFrom}
 use Rattle.lfm_mutex.specs.calls.Sight.{sight, MayRelease}
 use Rattle.lfm_mutex.specs.calls.Woken.{WokenAsGranted}
 use Rattle.lfm_condvar.specs.Belongs.{CondWokenAsGranted, OfCondvar, cond_limits, cond_sight, cond_tries}
@@ -12,6 +13,7 @@ abbrev pub invariant-waits : goal.invariant-waits
 invariant-waits g l = record {
   belongs : OfCondvar l.cond l.self × OfMutex l.seat l.mutex;
   beside : Beside l.fn.seat l.seat;
+  run : RunGoesOnFrom l.fn.seat l.seat;
   woken : WokenAsGranted l.fn.seat l.seat;
   cond_woken : CondWokenAsGranted l.fn.cond l.cond;
   leaves : MayRelease g.T.Kept.follows g.T.Kept.fits (sight l.seat);

@@ -4,7 +4,14 @@ use Rattle.lfm_mutex.specs.calls.Sight.{sight}
 use Rattle.lfm_mutex.specs.calls.WakeUps.{as_list, grants_of}
 use Rattle.lfm_condvar.specs.Belongs.{cond_limits, cond_sight, cond_tries}
 use Rattle.lfm_condvar.specs.Wakes.{SendsBy, WakeOneEnds}
+use Rattle.lfm_mutex.proofs.runs.RunGoesOn.{run_next, run_same}
 use Rattle.lfm_condvar.proofs.condvar.Condvar.wake_one.Goals as goal
+
+pub returns-clause-run : goal.returns-clause-run
+returns-clause-run g c = run_next c.send_oldest_in_one_hold-sent.ensures.run c.wake_from.ensures.run
+
+pub returns-then-asleep-clause-run : goal.returns-then-asleep-clause-run
+returns-then-asleep-clause-run g c = run_same
 
 pub returns-clause-wakes : goal.returns-clause-wakes
 returns-clause-wakes g c = let o = c.send_oldest_in_one_hold-sent in let a = c.args in subst (λ z. WakeOneEnds (limits_of a.mutex.now).seats (cond_limits a.self.now) (cond_tries a.self.now) (cond_sight a.cond.now) (cond_sight o.new.cond) (sight a.seat.now) z o.result.0) (sym c.wake_from.ensures.same) o.ensures.sends

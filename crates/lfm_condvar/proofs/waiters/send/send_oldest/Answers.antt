@@ -3,7 +3,11 @@ use Rattle.lfm_mutex.specs.Belongs.{limits_of}
 use Rattle.lfm_mutex.specs.calls.Sight.{sight}
 use Rattle.lfm_mutex.specs.calls.WakeUps.{as_list, grants_of}
 use Rattle.lfm_condvar.specs.Wakes.{SendsBy, SendsOldest}
+use Rattle.lfm_mutex.proofs.runs.RunGoesOn.{run_next}
 use Rattle.lfm_condvar.proofs.waiters.send.send_oldest.Goals as goal
+
+pub returns-clause-run : goal.returns-clause-run
+returns-clause-run g c = run_next c.send_oldest_without_waking-sent.ensures.run c.wake_from.ensures.run
 
 pub returns-clause-sends : goal.returns-clause-sends
 returns-clause-sends g c = let o = c.send_oldest_without_waking-sent in let a = c.args in subst (λ z. SendsOldest (limits_of a.mutex.now).seats (sight a.seat.now) z a.waiters.now o.new.waiters o.result.0) (sym c.wake_from.ensures.same) o.ensures.sends

@@ -2,7 +2,14 @@ use Rattle.std.proofs.Common.{rules, ◌≡◌, ℕ, [], ◌∷◌, Option, Ok, 
 use Rattle.lfm_mutex.specs.Belongs.{limits_of}
 use Rattle.lfm_mutex.specs.calls.Sight.{sight}
 use Rattle.lfm_condvar.proofs.Sent.{refused_by}
+use Rattle.lfm_mutex.proofs.runs.RunGoesOn.{run_same}
 use Rattle.lfm_condvar.proofs.waiters.send.send_oldest_without_waking.Goals as goal
+
+pub returns-then-asleep-clause-run : goal.returns-then-asleep-clause-run
+returns-then-asleep-clause-run g c = run_same
+
+pub returns-in_default-clause-run : goal.returns-in_default-clause-run
+returns-in_default-clause-run g c = run_same
 
 pub returns-in-Ok-clause-steps : goal.returns-in-Ok-clause-steps
 returns-in-Ok-clause-steps g c = let o = c.send_lock_without_waking-sent in let t = sight o.new.seat in let is : o.result.0 ≡ Ok tt = search rules in ((c.in-Some.oldest.seat, t) ∷ [], (rw is at o.ensures.sends, rw is at o.ensures.steps, refl))

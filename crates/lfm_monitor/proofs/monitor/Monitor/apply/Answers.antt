@@ -4,7 +4,20 @@ use Rattle.lfm_monitor.specs.Belongs.{opening_of, passes_of, share_of}
 use Rattle.lfm_monitor.proofs.Knowing.{may_did, did}
 use Rattle.lfm_mutex.specs.calls.WakeUps.{grants_of}
 use Rattle.lfm_mutex.proofs.runs.Woken.{woken_none}
+use Rattle.lfm_mutex.proofs.runs.RunGoesOn.{run_same}
 use Rattle.lfm_monitor.proofs.monitor.Monitor.apply.Goals as goal
+
+pub returns-clause-run : goal.returns-clause-run
+returns-clause-run g c = c.write_did-reply.ensures.writes.8
+
+pub returns-then-asleep-clause-run : goal.returns-then-asleep-clause-run
+returns-then-asleep-clause-run g c = run_same
+
+pub returns-then-depth-eq0-clause-run : goal.returns-then-depth-eq0-clause-run
+returns-then-depth-eq0-clause-run g c = run_same
+
+pub returns-then-pass-self-clause-run : goal.returns-then-pass-self-clause-run
+returns-then-pass-self-clause-run g c = run_same
 
 pub write_did-reply-requires-clause-may : goal.write_did-reply-requires-clause-may
 write_did-reply-requires-clause-may g c κs within v is = let p = c.args.pass.now in let m = c.args.self.now in let s = sight p.seat in

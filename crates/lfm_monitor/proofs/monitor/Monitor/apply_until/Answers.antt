@@ -7,10 +7,20 @@ use Rattle.lfm_monitor.proofs.Trying.{applied_depth, handed_on, waited_depth}
 use Rattle.lfm_mutex.proofs.runs.Woken.{woken_join, woken_none}
 use Rattle.lfm_monitor.specs.CondSeats.{CondsWokenAsGranted}
 use Rattle.lfm_monitor.proofs.UsedConditions.{conds_woken_join, conds_woken_none}
+use Rattle.lfm_mutex.proofs.runs.RunGoesOn.{run_next, run_same}
 use Rattle.lfm_monitor.proofs.monitor.Monitor.apply_until.Goals as goal
 
+pub returns-in_err-reply-clause-run : goal.returns-in_err-reply-clause-run
+returns-in_err-reply-clause-run g c = run_next c.tries.invariant.run c.apply.ensures.run
+
+pub returns-then-accepts-clause-run : goal.returns-then-accepts-clause-run
+returns-then-accepts-clause-run g c = run_next c.tries.invariant.run c.apply.ensures.run
+
+pub returns-in_err-_waited-clause-run : goal.returns-in_err-_waited-clause-run
+returns-in_err-_waited-clause-run g c = run_next (run_next c.tries.invariant.run c.apply.ensures.run) c.wait.ensures.run
+
 pub tries-init : goal.tries-init
-tries-init g c = record { belongs = c.requires.belongs; woken = woken_none c.args.pass.now.seat c.args.pass.now.seat refl refl; cond_woken = conds_woken_none (cond_seats_of c.args.pass.now); depth = refl; number = refl; tries = (zero, refl) }
+tries-init g c = record { belongs = c.requires.belongs; run = run_same; woken = woken_none c.args.pass.now.seat c.args.pass.now.seat refl refl; cond_woken = conds_woken_none (cond_seats_of c.args.pass.now); depth = refl; number = refl; tries = (zero, refl) }
 
 -- one more try failed
 pub tries-preserved : goal.tries-preserved
@@ -19,6 +29,7 @@ tries-preserved g c = let i = c.tries.invariant in let a = c.in_ok-reply.ensures
   depth = waited_depth c.in_ok-_waited._waited (pass_sight p) (pass_sight q) (seen_of p) (seen_of q) (mine_of p) (mine_of q) w.returns
       ∙ (applied_depth g.O.Object.after g.O.Object.reply (share_of c.args.self.now) c.args.op c.in_ok-reply.reply (pass_sight l) (pass_sight p) (mine_of l) (mine_of p) a.applies ∙ i.depth);
   number = w.number ∙ (a.number ∙ i.number);
+  run = run_next i.run (run_next a.run w.run);
   woken = woken_join c.args.pass.now.seat l.seat q.seat i.woken (woken_join l.seat p.seat q.seat a.woken w.woken);
   cond_woken = conds_woken_join (cond_seats_of c.args.pass.now) (cond_seats_of p) (cond_seats_of q) (subst (CondsWokenAsGranted (cond_seats_of c.args.pass.now)) (sym a.conditions) i.cond_woken) w.cond_woken;
   tries = (

@@ -9,7 +9,23 @@ use Rattle.lfm_monitor.proofs.Refusing.{same_began, same_kept}
 use Rattle.lfm_monitor.proofs.Knowing.{gained, may_all, room_left, arrived, again, asleep, of_next}
 use Rattle.lfm_mutex.specs.calls.WakeUps.{grants_of}
 use Rattle.lfm_mutex.proofs.runs.Woken.{woken_join, woken_none}
+use Rattle.lfm_mutex.proofs.runs.RunGoesOn.{run_next, run_same}
 use Rattle.lfm_monitor.proofs.monitor.Monitor.ask.Goals as goal
+
+pub returns-then-lacks_entry-clause-run : goal.returns-then-lacks_entry-clause-run
+returns-then-lacks_entry-clause-run g c = run_same
+
+pub returns-in_err-asked-clause-run : goal.returns-in_err-asked-clause-run
+returns-in_err-asked-clause-run g c = c.ask.ensures.run
+
+pub returns-in-Again-clause-run : goal.returns-in-Again-clause-run
+returns-in-Again-clause-run g c = c.ask.ensures.run
+
+pub returns-in-Asleep-clause-run : goal.returns-in-Asleep-clause-run
+returns-in-Asleep-clause-run g c = c.ask.ensures.run
+
+pub returns-clause-run : goal.returns-clause-run
+returns-clause-run g c = run_next c.ask.ensures.run c.write_took.ensures.8
 
 pub write_took-requires-clause-may : goal.write_took-requires-clause-may
 write_took-requires-clause-may g c κs within v is = let p = c.args.pass.now in let m = c.args.self.now in let gains = rw c.in-Held.is at c.in_ok-asked.ensures.asks in let s = sight p.seat in let t = sight c.ask.new.seat in

@@ -13,6 +13,7 @@ returns-clause-holds g c = let e = c.in_ok-_locked.ensures in let x = c.execute-
       enters = e.enters;
       steps = e.steps;
       keeps = (e.seen, e.conditions);
+      run = e.run;
       woken = e.woken;
       belong = (e.belongs, x.ensures.belongs);
       executes = x.ensures.makes;

@@ -6,6 +6,12 @@ use Rattle.lfm_monitor.proofs.Knowing.{may_leave, given_up, gave_up, leave_ends,
 use Rattle.lfm_monitor.proofs.Refusing.{leave_refused, refused_steps, same_began, same_kept, still_began}
 use Rattle.lfm_monitor.proofs.monitor.Monitor.leave.Goals as goal
 
+pub returns-in_err-unlocked-clause-run : goal.returns-in_err-unlocked-clause-run
+returns-in_err-unlocked-clause-run g c = c.unlock.ensures.run
+
+pub returns-in-Still-clause-run : goal.returns-in-Still-clause-run
+returns-in-Still-clause-run g c = c.unlock.ensures.run
+
 pub unlock-requires-clause-leaves : goal.unlock-requires-clause-leaves
 unlock-requires-clause-leaves g c κs within = let p = c.args.pass.now in λ one. may_leave (sight p.seat) p.seen p.mine p.kept
 
@@ -25,6 +31,7 @@ returns g c = let p = c.args.pass.now in let m = c.args.self.now in let s = sigh
       belongs = (of_next m.mutex p.seat c.unlock.new.seat c.requires.belongs.0 c.unlock.ensures.belongs, left_of (opening_of m) (passes_of m) (share_of m) s t p.seen p.mine p.kept c.requires.belongs.1 u.0, c.requires.belongs.2);
       number = (leaves_one c.in_ok-unlocked.unlocked s t p.seen c.journal_len-length.result ends).number;
       leaves = ends;
+      run = c.unlock.ensures.run;
       woken = c.unlock.ensures.woken;
       mine = refl;
       conditions = refl;

@@ -8,7 +8,17 @@ use Rattle.lfm_monitor.proofs.Trails.{rewritten}
 use Rattle.lfm_monitor.proofs.Knowing.{some_of, woken, may_all, arrived, looked, of_next}
 use Rattle.lfm_mutex.specs.calls.WakeUps.{grants_of}
 use Rattle.lfm_mutex.proofs.runs.Woken.{woken_join, woken_none}
+use Rattle.lfm_mutex.proofs.runs.RunGoesOn.{run_next}
 use Rattle.lfm_monitor.proofs.monitor.Monitor.try_receive.Goals as goal
+
+pub returns-in_err-received-clause-run : goal.returns-in_err-received-clause-run
+returns-in_err-received-clause-run g c = c.try_receive.ensures.run
+
+pub returns-in-None-clause-run : goal.returns-in-None-clause-run
+returns-in-None-clause-run g c = c.try_receive.ensures.run
+
+pub returns-clause-run : goal.returns-clause-run
+returns-clause-run g c = run_next c.try_receive.ensures.run c.write_took.ensures.8
 
 pub write_took-requires-clause-may : goal.write_took-requires-clause-may
 write_took-requires-clause-may g c κs within v is = let p = c.args.pass.now in let m = c.args.self.now in let wakes = rw c.in-Some.is at c.in_ok-received.ensures.receives in let s = sight p.seat in let t = sight c.try_receive.new.seat in

@@ -14,6 +14,7 @@ use Rattle.lfm_monitor.proofs.Returning.{refused, returned, wait_refused, waited
 use Rattle.lfm_monitor.proofs.UsedConditions.{as_told, at_place, conds_woken_none, conds_woken_one, still_of_conditions}
 use Rattle.lfm_mutex.specs.calls.WakeUps.{grants_of}
 use Rattle.lfm_mutex.proofs.runs.Woken.{woken_join, woken_none}
+use Rattle.lfm_mutex.proofs.runs.RunGoesOn.{run_next, run_same}
 use Rattle.lfm_monitor.proofs.monitor.Monitor.wait.Goals as goal
 
 pub wait-requires-clause-belongs : goal.wait-requires-clause-belongs
@@ -34,6 +35,7 @@ returns-in-Err g c = let p = c.args.pass.now in let m = c.args.self.now in let n
         still_of_conditions (cond_seats_of p) (conditions_in m) n y v c.requires.belongs.2 a.condition e.belongs.0,
       );
       number = ap (λ (u : Sight _). u.number) same;
+      run = e.run;
       woken = e.woken;
       cond_woken = conds_woken_one (cond_seats_of p) n x y a.seat e.cond_woken;
       waits = refused (mutex_limits m) (condition_limits (passes_of m)) (tries_in m) (share_of m) (conditions_of m) c.args.condition (cond_seats_of p) _ s t p.mine c.in-Err.refusal m.shared c.in_default.ensures (let b = o.1 in omega arith)
@@ -64,6 +66,7 @@ returns g c = let p = c.args.pass.now in let m = c.args.self.now in let k = c.in
     let ends = as_told p m k x v (λ (l : Limits) (tries : ℕ). WaitEnds JournalFollows JournalFits (mutex_limits m) l tries (cond_sight x) (cond_sight y) s t (Ok r)) a c.in-Ok.ensures.waits in record {
       belongs = (of_next m.mutex c.wait.new.seat c.write_took.new.seat (of_next m.mutex p.seat c.wait.new.seat c.requires.belongs.0 e.belongs.1) w.6, back.of, still_of_conditions (cond_seats_of p) (conditions_in m) k y v c.requires.belongs.2 a.condition e.belongs.0);
       number = back.waits.2;
+      run = run_next e.run w.8;
       woken = woken_join p.seat c.wait.new.seat c.write_took.new.seat e.woken (woken_none c.wait.new.seat c.write_took.new.seat w.7 (ap (λ u. grants_of u.trail) w.3));
       cond_woken = conds_woken_one (cond_seats_of p) k x y a.seat e.cond_woken;
       waits = (c.in_default.ensures, (k, x, y, c.in-Some-place_of.ensures.0, a.seat, refl, (t, ends, (w.0, w.1, w.2, w.3, w.4, w.5))));
@@ -74,6 +77,7 @@ pub returns-in-Some : goal.returns-in-Some
 returns-in-Some g c = let p = c.args.pass.now in let m = c.args.self.now in record {
   belongs = c.requires.belongs;
   number = refl;
+  run = run_same;
   woken = woken_none c.args.pass.now.seat c.args.pass.now.seat refl refl;
   cond_woken = conds_woken_none (cond_seats_of p);
   waits = barred (mutex_limits m) (condition_limits (passes_of m)) (tries_in m) (share_of m) (conditions_of m) c.args.condition (cond_seats_of p) (sight p.seat) p.mine _ c.in-Some.ensures;
@@ -81,7 +85,7 @@ returns-in-Some g c = let p = c.args.pass.now in let m = c.args.self.now in reco
 }
 
 pub returns-in_default-place_of : goal.returns-in_default-place_of
-returns-in_default-place_of g c = record { belongs = c.requires.belongs; number = refl; woken = woken_none c.args.pass.now.seat c.args.pass.now.seat refl refl; cond_woken = conds_woken_none (cond_seats_of c.args.pass.now); waits = (c.in_default.ensures, c.in_default-place_of.ensures, refl, refl); returns = (refl, refl, refl) }
+returns-in_default-place_of g c = record { belongs = c.requires.belongs; number = refl; run = run_same; woken = woken_none c.args.pass.now.seat c.args.pass.now.seat refl refl; cond_woken = conds_woken_none (cond_seats_of c.args.pass.now); waits = (c.in_default.ensures, c.in_default-place_of.ensures, refl, refl); returns = (refl, refl, refl) }
 
 pub invariant_of-pass : goal.invariant_of-pass
 invariant_of-pass g c = let p = c.args.pass.now in let m = c.args.self.now in let s = sight p.seat in let t = sight c.wait.new.seat in record {

@@ -10,6 +10,7 @@ use Rattle.lfm_monitor.proofs.Knowing.{of_next}
 use Rattle.lfm_monitor.proofs.Sending.{one_sent, sent_kept, sent_began, wakes_one}
 use Rattle.lfm_monitor.proofs.UsedConditions.{as_told, at_place, conds_woken_none, conds_woken_one, still_of_conditions}
 use Rattle.lfm_mutex.proofs.runs.Woken.{woken_none}
+use Rattle.lfm_mutex.proofs.runs.RunGoesOn.{run_same}
 use Rattle.lfm_monitor.proofs.monitor.Monitor.wake_one.Goals as goal
 
 pub wake_one-requires-clause-belongs : goal.wake_one-requires-clause-belongs
@@ -28,6 +29,7 @@ returns g c = let p = c.args.pass.now in let m = c.args.self.now in let n = c.in
     let sent = one_sent (limits_of m.mutex).seats (cond_limits v) (cond_tries v) (cond_sight x) (cond_sight y) s t c.wake_one.result e.wakes in record {
       belongs = (of_next m.mutex p.seat c.wake_one.new.seat c.requires.belongs.0 e.belongs.1, sent_began (opening_of m) (passes_of m) (share_of m) s t c.requires.belongs.1 sent, still_of_conditions (cond_seats_of p) (conditions_in m) n y v c.requires.belongs.2 a.condition e.belongs.0);
       number = ap (λ (u : Sight _). u.number) sent;
+      run = e.run;
       woken = e.woken;
       cond_woken = conds_woken_one (cond_seats_of p) n x y a.seat e.cond_woken;
       wakes = wakes_one (passes_of m) (condition_limits (passes_of m)) (tries_in m) (conditions_of m) c.args.condition (cond_seats_of p) _ s t c.wake_one.result (sym c.if-asleep.ensures)
@@ -38,7 +40,7 @@ returns g c = let p = c.args.pass.now in let m = c.args.self.now in let n = c.in
     }
 
 pub returns-then-asleep : goal.returns-then-asleep
-returns-then-asleep g c = record { belongs = c.requires.belongs; number = refl; woken = woken_none c.args.pass.now.seat c.args.pass.now.seat refl refl; cond_woken = conds_woken_none (cond_seats_of c.args.pass.now); wakes = (sym c.if-asleep.ensures, refl, refl); sends = refl; steps = refl; same = (refl, refl) }
+returns-then-asleep g c = record { belongs = c.requires.belongs; number = refl; run = run_same; woken = woken_none c.args.pass.now.seat c.args.pass.now.seat refl refl; cond_woken = conds_woken_none (cond_seats_of c.args.pass.now); wakes = (sym c.if-asleep.ensures, refl, refl); sends = refl; steps = refl; same = (refl, refl) }
 
 pub returns-in_default : goal.returns-in_default
-returns-in_default g c = record { belongs = c.requires.belongs; number = refl; woken = woken_none c.args.pass.now.seat c.args.pass.now.seat refl refl; cond_woken = conds_woken_none (cond_seats_of c.args.pass.now); wakes = ((sym c.if-asleep.ensures, c.in_default.ensures), refl, refl); sends = refl; steps = refl; same = (refl, refl) }
+returns-in_default g c = record { belongs = c.requires.belongs; number = refl; run = run_same; woken = woken_none c.args.pass.now.seat c.args.pass.now.seat refl refl; cond_woken = conds_woken_none (cond_seats_of c.args.pass.now); wakes = ((sym c.if-asleep.ensures, c.in_default.ensures), refl, refl); sends = refl; steps = refl; same = (refl, refl) }

@@ -2,6 +2,7 @@ use Rattle.std.proofs.Common.{◌+◌, ◌-◌, Some, None}
 use Rattle.lfm_mutex.specs.calls.Sight.{sight}
 use Rattle.lfm_mutex.proofs.BargingEnds.{barges_after, locks_after}
 use Rattle.lfm_mutex.proofs.runs.Woken.{woken_none, woken_join, tries_grant}
+use Rattle.lfm_table.proofs.tables.Actions.{run_next}
 use Rattle.lfm_mutex.proofs.mutex.Mutex.barge.Goals as goal
 
 pub returns-in-None-clause-locks : goal.returns-in-None-clause-locks
@@ -17,3 +18,6 @@ returns-in-Some-clause-woken g c = let f = c.spin_and_nap in let p = c.args.self
 
 pub returns-in-None-clause-woken : goal.returns-in-None-clause-woken
 returns-in-None-clause-woken g c = let f = c.spin_and_nap in let p = c.args.self.now.pace in woken_join c.args.seat.now f.new.seat c.lock.new.seat (woken_none c.args.seat.now f.new.seat f.ensures.woken (tries_grant c.args.self.now.limits (p.spins - 1 + p.naps) (sight c.args.seat.now) (sight f.new.seat) None c.in-None.ensures.tries)) c.lock.ensures.woken
+
+pub returns-in-None-clause-run : goal.returns-in-None-clause-run
+returns-in-None-clause-run g c = run_next c.spin_and_nap.ensures.run c.lock.ensures.run

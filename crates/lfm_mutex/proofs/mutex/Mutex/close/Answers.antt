@@ -1,5 +1,5 @@
 use Rattle.lfm_mutex.specs.calls.Sight.{sight}
-use Rattle.std.proofs.Common.{Some, None, rules, ◌≡◌, ◌⊎◌, ◌<◌, ℕ, [], ◌∷◌, ◌++◌, length-append, arith, ap, ◌∙◌, sym, refl, subst, length, vec_len, inl, inr, ⊎_elim, true}
+use Rattle.std.proofs.Common.{Some, None, rules, ◌≡◌, ◌⊎◌, ◌<◌, ℕ, List, [], ◌∷◌, ◌++◌, length-append, arith, ap, ◌∙◌, sym, refl, subst, length, vec_len, inl, inr, ⊎_elim, true}
 use mathlib.Core.Option.{some, some-injective}
 use lib.ListN.{get_elem?}
 use mathlib.Core.Logic.{dite}
@@ -17,7 +17,10 @@ use Rattle.lfm_protocol.specs.declared.points.Point.TheVariants.{Rest}
 use Rattle.lfm_protocol.specs.Limits.{are_in_limits}
 use Rattle.lfm_protocol.specs.Step.{start}
 use Rattle.lfm_laws.specs.laws.Schedules.{reached}
-use Rattle.lfm_table.specs.Actions.{events_of, part_of}
+use Rattle.lfm_table.specs.declared.seat_view.Action.{Action}
+use Rattle.lfm_table.specs.declared.seat_view.Seen.{Seen as Trailed}
+use Rattle.lfm_table.specs.Actions.{KnowsRun, events_of, own_of, part_of}
+use Rattle.lfm_table.proofs.tables.Actions.{no_part}
 use Rattle.lfm_mutex.proofs.ends.Ends.{rest_of, seen_last, last_seen, was_last, was_there, at_end_of, longer, free_seat, ends, NoneAtEnd, Among, item_at, in_removed, not_removed, pigeons}
 use Rattle.lfm_mutex.proofs.mutex.Mutex.close.Goals as goal
 
@@ -46,7 +49,7 @@ loop-seat-init g c = let f = c.in-Some-first_place.ensures in let xs = c.args.se
         (let h = (let lo = y.rooted.low in let hi = y.rooted.high in let wide = y.rooted.wide in let t = ap (λ t. t.words) (c.requires.belongs old.0 z old.1).0 in let w = c.args.self.words in (stand y.number (omega arith) (omega arith)).1 old.0 z old.1 refl) in rest_of y.standing.point h.1),
       );
       each = λ j z q. ⊎_elim
-          (λ (u : j ≡ at). let is : p ≡ z = some-injective p z (sym item ∙ (ap (get_elem? xs) (sym u) ∙ q)) in inr (inr (ap (λ p. p.me.0.last) e ∙ ap (λ z. (g.P.Holder.seat_of z).place.me.0.last) is, ap (λ p. p.me.0.number) e ∙ ap (λ z. (g.P.Holder.seat_of z).place.me.0.number) is, ap (λ p. p.me.0.last_found) e ∙ ap (λ z. (g.P.Holder.seat_of z).place.me.0.last_found) is, ap (λ p. p.me.0.ended) e ∙ ap (λ z. (g.P.Holder.seat_of z).place.me.0.ended) is, ap (λ p. p.me.0.trail) e ∙ ap (λ z. (g.P.Holder.seat_of z).place.me.0.trail) is)))
+          (λ (u : j ≡ at). let is : p ≡ z = some-injective p z (sym item ∙ (ap (get_elem? xs) (sym u) ∙ q)) in inr (inr (ap (λ p. p.me.0.last) e ∙ ap (λ z. (g.P.Holder.seat_of z).place.me.0.last) is, ap (λ p. p.me.0.number) e ∙ ap (λ z. (g.P.Holder.seat_of z).place.me.0.number) is, ap (λ p. p.me.0.last_found) e ∙ ap (λ z. (g.P.Holder.seat_of z).place.me.0.last_found) is, ap (λ p. p.me.0.ended) e ∙ ap (λ z. (g.P.Holder.seat_of z).place.me.0.ended) is, ap (λ p. p.me.0.trail) e ∙ ap (λ z. (g.P.Holder.seat_of z).place.me.0.trail) is, ap (λ p. p.me.0.actions) e ∙ ap (λ z. (g.P.Holder.seat_of z).place.me.0.actions) is)))
           (λ (u : (i : ℕ) × (get_elem? (remove xs at) i ≡ some z)). inl (u.0, ap (λ l. get_elem? l u.0) c.remove.ensures.items ∙ u.1)) (not_removed xs at j z q);
       still = λ j z q. in_removed xs at j z (ap (λ l. get_elem? l j) (sym c.remove.ensures.items) ∙ q);
       own = (at, p, item, sym (ap (λ p. p.me.0.last) e), sym (ap (λ p. p.me.0.last_found) e), sym (ap (λ p. p.me.0.number) e), sym (ap (λ p. p.me.0.ended) e));
@@ -72,7 +75,7 @@ loop-seat-preserved g c = let i = c.loop-seat.invariant in let r = c.retire.ensu
       each = λ j z q. ⊎_elim
           (λ (u : (i : ℕ) × (get_elem? c.loop-seat.seats.items i ≡ some z)). ⊎_elim (λ t. inl (u.0, t)) (λ t. inr (inl (length old, ap (λ l. get_elem? l (length old)) joined ∙ (at_end_of old (joined_of (g.P.Holder.seat_of s).place.me.0) ∙ ap (λ w. some (joined_of (g.P.Holder.seat_of w).place.me.0)) t.1))))
           (at_end c.pop.new.self.items s z u.0 (ap (λ l. get_elem? l u.0) (sym c.in-Some-pop.ensures.items) ∙ u.1)))
-          (λ u. ⊎_elim (λ t. inr (inl (t.0, ap (λ l. get_elem? l t.0) joined ∙ longer old (joined_of (g.P.Holder.seat_of s).place.me.0) t.0 (joined_of (g.P.Holder.seat_of z).place.me.0) t.1))) (λ t. inr (inr (ap (λ m. m.0.last) r.joined ∙ t.0, ap (λ m. m.0.number) r.joined ∙ t.1, ap (λ m. m.0.last_found) r.joined ∙ t.2, ap (λ m. m.0.ended) r.joined ∙ t.3, ap (λ m. m.0.trail) r.joined ∙ t.4))) u) (i.each j z q);
+          (λ u. ⊎_elim (λ t. inr (inl (t.0, ap (λ l. get_elem? l t.0) joined ∙ longer old (joined_of (g.P.Holder.seat_of s).place.me.0) t.0 (joined_of (g.P.Holder.seat_of z).place.me.0) t.1))) (λ t. inr (inr (ap (λ m. m.0.last) r.joined ∙ t.0, ap (λ m. m.0.number) r.joined ∙ t.1, ap (λ m. m.0.last_found) r.joined ∙ t.2, ap (λ m. m.0.ended) r.joined ∙ t.3, ap (λ m. m.0.trail) r.joined ∙ t.4, ap (λ m. m.0.actions) r.joined ∙ t.5))) u) (i.each j z q);
       still = λ j z q. i.still j z (was_there _ _ _ _ j c.in-Some-pop.ensures.items q);
       own = (i.own.0, i.own.1, i.own.2, i.own.3 ∙ sym (ap (λ m. m.0.last) r.joined), i.own.4 ∙ sym (ap (λ m. m.0.last_found) r.joined), i.own.5 ∙ sym (ap (λ m. m.0.number) r.joined), i.own.6 ∙ sym (ap (λ m. m.0.ended) r.joined));
       only = λ j z q. ⊎_elim (λ u. i.only j z u)
@@ -177,7 +180,15 @@ returns-clause-run g c =
       actions = run.actions;
       allowed = subst (λ (l : Limits). are_in_limits l.seats l.budget ≡ true) i.limits run.allowed;
       free = subst (λ (l : Limits). IsFree (reached l (events_of run.actions))) i.limits run.free;
-      others = subst (λ (l : Limits). (t : ℕ) → (t ≡ 0) ⊎ (l.seats < t) → part_of (start l) t run.actions ≡ []) i.limits run.others;
+      others = λ t out. no_part (start c.args.self.limits) t run.actions (subst (λ (l : Limits). (t : ℕ) → (t ≡ 0) ⊎ (l.seats < t) → own_of t run.actions ≡ []) i.limits run.others t out);
+      nobody_else = subst (λ (l : Limits). (t : ℕ) → (t ≡ 0) ⊎ (l.seats < t) → own_of t run.actions ≡ []) i.limits run.others;
+      known = λ j s at.
+          let y = g.P.Holder.seat_of s in
+          let known : KnowsRun v.limits run.actions y.place.me.0.number y.place.me.0.actions y.place.me.0.trail = ⊎_elim
+          (λ u. absurd (let r = length_at c.loop-seat.seats.items u.0 s u.1 in let k : vec_len c.loop-seat.seats ≡ length c.loop-seat.seats.items = search rules in omega arith))
+          (λ u. ⊎_elim (λ t. run.joined_known t.0 (joined_of (g.P.Holder.seat_of s).place.me.0) t.1)
+          (λ t. subst (λ (k : ℕ × List Action × List Trailed). KnowsRun v.limits run.actions k.0 k.1 k.2) (λ q. (t.1 q, t.5 q, t.4 q)) run.own_known) u) (i.each j s at) in
+          subst (λ (k : Limits × ℕ). KnowsRun k.0 run.actions k.1 y.place.me.0.actions y.place.me.0.trail) (λ q. (i.limits q, y.seated.named q)) known;
       trails = λ j s at.
           let y = g.P.Holder.seat_of s in
           let part : y.place.me.0.trail ≡ part_of (start v.limits) y.place.me.0.number run.actions = ⊎_elim

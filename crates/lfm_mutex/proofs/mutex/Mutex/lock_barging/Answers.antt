@@ -3,6 +3,7 @@ use Rattle.lfm_mutex.specs.calls.Barging.{MayTry}
 use Rattle.lfm_mutex.specs.calls.Sight.{sight}
 use Rattle.lfm_mutex.proofs.BargingEnds.{barges_on, locks_after, still_may_try, tries_fewer}
 use Rattle.lfm_mutex.proofs.runs.Woken.{woken_none, woken_join, tries_grant}
+use Rattle.lfm_table.proofs.tables.Actions.{run_next}
 use Rattle.lfm_mutex.proofs.mutex.Mutex.lock_barging.Goals as goal
 
 pub barge-requires-clause-free : goal.barge-requires-clause-free
@@ -32,3 +33,6 @@ returns-in-Some-clause-woken g c = let f = c.try_first in let p = c.args.self.no
 
 pub returns-in-None-clause-woken : goal.returns-in-None-clause-woken
 returns-in-None-clause-woken g c = let f = c.try_first in let p = c.args.self.now.pace in woken_join c.args.seat.now f.new.seat c.barge.new.seat (woken_none c.args.seat.now f.new.seat f.ensures.woken (tries_grant c.args.self.now.limits (p.spins - (p.spins - 1)) (sight c.args.seat.now) (sight f.new.seat) None c.in-None.ensures.tries)) c.barge.ensures.woken
+
+pub returns-in-None-clause-run : goal.returns-in-None-clause-run
+returns-in-None-clause-run g c = run_next c.try_first.ensures.run c.barge.ensures.run

@@ -1,10 +1,11 @@
 use Rattle.std.proofs.Common.{◌+◌, Some, None, arith, rules, refl, ◌∙◌}
 use Rattle.lfm_mutex.specs.calls.Sight.{sight}
 use Rattle.lfm_mutex.proofs.BargingEnds.{gains_after, no_tries, still_may_try, tries_fewer, tries_join}
+use Rattle.lfm_table.proofs.tables.Actions.{run_next, run_same}
 use Rattle.lfm_mutex.proofs.mutex.Mutex.nap.Goals as goal
 
 pub naps-init : goal.naps-init
-naps-init g c = record { belongs = search rules; beside = search rules; woken = refl; wake = search rules; tries = no_tries c.args.self.now.limits 0 (sight c.args.seat.now) }
+naps-init g c = record { belongs = search rules; beside = search rules; woken = refl; run = run_same; wake = search rules; tries = no_tries c.args.self.now.limits 0 (sight c.args.seat.now) }
 
 pub try_if_free-requires-clause-free : goal.try_if_free-requires-clause-free
 try_if_free-requires-clause-free g c κs within = still_may_try c.args.self.now.limits c.naps.made (sight c.args.seat.now) (sight c.naps.seat) c.naps.invariant.tries c.requires.free
@@ -14,6 +15,7 @@ naps-preserved g c = record {
   belongs = search rules;
   beside = search rules;
   woken = c.try_if_free.ensures.woken ∙ c.naps.invariant.woken;
+  run = run_next c.naps.invariant.run c.try_if_free.ensures.run;
   wake = search rules;
   tries = tries_join c.args.self.now.limits c.naps.made 1 (sight c.args.seat.now) (sight c.naps.seat) (sight c.try_if_free.new.seat) None c.naps.invariant.tries c.in-None.ensures.tries;
 }
@@ -39,3 +41,6 @@ returns-clause-gains g c = tt
 pub returns-clause-tries : goal.returns-clause-tries
 returns-clause-tries g c = let below = c.naps.auto.made-end in
     tries_fewer c.args.self.now.limits c.naps.made c.args.self.now.pace.naps (sight c.args.seat.now) (sight c.naps.seat) None (omega arith) c.naps.invariant.tries
+
+pub returns-in-Some-clause-run : goal.returns-in-Some-clause-run
+returns-in-Some-clause-run g c = run_next c.naps.invariant.run c.try_if_free.ensures.run

@@ -6,10 +6,11 @@ use Rattle.lfm_mutex.specs.calls.Sight.{Sight, sight, Receives}
 use Rattle.lfm_mutex.specs.calls.Trails.{Makes}
 use Rattle.lfm_mutex.proofs.runs.MadeCalls.{finds_none_more, refused_receive, first_receive}
 use Rattle.lfm_mutex.proofs.runs.Woken.{woken_join, woken_none}
+use Rattle.lfm_table.proofs.tables.Actions.{run_next, run_same}
 use Rattle.lfm_mutex.proofs.mutex.Mutex.receive_lock_within.Goals as goal
 
 pub loop-init : goal.loop-init
-loop-init g c = record { belongs = search rules; beside = search rules; woken = woken_none c.args.seat.now c.args.seat.now refl refl; seen = refl; received = ([], refl); first = inl refl; wake = search rules }
+loop-init g c = record { belongs = search rules; beside = search rules; woken = woken_none c.args.seat.now c.args.seat.now refl refl; run = run_same; seen = refl; received = ([], refl); first = inl refl; wake = search rules }
 
 pub loop-preserved : goal.loop-preserved
 loop-preserved g c = let i = c.loop.invariant in let s = c.try_receive.new.seat in
@@ -19,6 +20,7 @@ loop-preserved g c = let i = c.loop.invariant in let s = c.try_receive.new.seat 
       belongs = search rules;
       beside = search rules;
       woken = woken_join c.args.seat.now c.loop.seat s i.woken c.try_receive.ensures.woken;
+      run = run_next i.run c.try_receive.ensures.run;
       seen = search rules;
       received = (i.received.0 ++ sight s ∷ [], finds_none_more c.args.self.now.limits (sight c.args.seat.now) i.received.0 (sight c.loop.seat) (sight s) i.received.1 made);
       first = inr (ap (λ (z : Sight g.row.T.Denot). z.asleep) (sym i.seen) ∙ told.0, ap (λ (z : Sight g.row.T.Denot). z.in_call) (sym i.seen) ∙ told.1);
@@ -43,3 +45,9 @@ returns-in-Err-clause-woken g c = woken_join c.args.seat.now c.loop.seat c.try_r
 
 pub returns-in-Ok-Some-clause-woken : goal.returns-in-Ok-Some-clause-woken
 returns-in-Ok-Some-clause-woken g c = woken_join c.args.seat.now c.loop.seat c.try_receive.new.seat c.loop.invariant.woken c.try_receive.ensures.woken
+
+pub returns-in-Err-clause-run : goal.returns-in-Err-clause-run
+returns-in-Err-clause-run g c = run_next c.loop.invariant.run c.try_receive.ensures.run
+
+pub returns-in-Ok-Some-clause-run : goal.returns-in-Ok-Some-clause-run
+returns-in-Ok-Some-clause-run g c = run_next c.loop.invariant.run c.try_receive.ensures.run

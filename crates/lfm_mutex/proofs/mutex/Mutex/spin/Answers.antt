@@ -1,10 +1,11 @@
 use Rattle.std.proofs.Common.{◌+◌, ◌-◌, Some, None, arith, rules, refl, ◌∙◌}
 use Rattle.lfm_mutex.specs.calls.Sight.{sight}
 use Rattle.lfm_mutex.proofs.BargingEnds.{gains_after, no_tries, still_may_try, tries_fewer, tries_join}
+use Rattle.lfm_table.proofs.tables.Actions.{run_next, run_same}
 use Rattle.lfm_mutex.proofs.mutex.Mutex.spin.Goals as goal
 
 pub spins-init : goal.spins-init
-spins-init g c = record { belongs = search rules; beside = search rules; woken = refl; after_the_first = (omega arith, omega arith); tries = no_tries c.args.self.now.limits 0 (sight c.args.seat.now) }
+spins-init g c = record { belongs = search rules; beside = search rules; woken = refl; run = run_same; after_the_first = (omega arith, omega arith); tries = no_tries c.args.self.now.limits 0 (sight c.args.seat.now) }
 
 pub try_if_free-requires-clause-free : goal.try_if_free-requires-clause-free
 try_if_free-requires-clause-free g c κs within = still_may_try c.args.self.now.limits (c.spins.made - 1) (sight c.args.seat.now) (sight c.spins.seat) c.spins.invariant.tries c.requires.free
@@ -14,6 +15,7 @@ spins-preserved g c = let after = c.spins.invariant.after_the_first.0 in let bel
   belongs = search rules;
   beside = search rules;
   woken = c.try_if_free.ensures.woken ∙ c.spins.invariant.woken;
+  run = run_next c.spins.invariant.run c.try_if_free.ensures.run;
   after_the_first = (omega arith, omega arith);
   tries = tries_fewer l (c.spins.made - 1 + 1) (c.spins.made + 1 - 1) s t None (omega arith) (tries_join l (c.spins.made - 1) 1 s (sight c.spins.seat) t None c.spins.invariant.tries c.in-None.ensures.tries);
 }
@@ -39,3 +41,9 @@ returns-clause-gains g c = tt
 pub returns-clause-tries : goal.returns-clause-tries
 returns-clause-tries g c =
     tries_fewer c.args.self.now.limits (c.spins.made - 1) (c.args.self.now.pace.spins - 1) (sight c.args.seat.now) (sight c.spins.seat) None c.spins.invariant.after_the_first.1 c.spins.invariant.tries
+
+pub returns-in-Some-clause-run : goal.returns-in-Some-clause-run
+returns-in-Some-clause-run g c = run_next c.spins.invariant.run c.try_if_free.ensures.run
+
+pub returns-then-count-gt-HOLDER_AND_ONE_MORE-clause-run : goal.returns-then-count-gt-HOLDER_AND_ONE_MORE-clause-run
+returns-then-count-gt-HOLDER_AND_ONE_MORE-clause-run g c = run_next c.spins.invariant.run c.try_if_free.ensures.run

@@ -1,6 +1,7 @@
 use Rattle.std.proofs.Common.{◌+◌, ◌-◌, Some, arith}
 use Rattle.lfm_mutex.specs.calls.Sight.{sight}
 use Rattle.lfm_mutex.proofs.BargingEnds.{gains_after, still_may_try, tries_fewer, tries_join}
+use Rattle.lfm_table.proofs.tables.Actions.{run_next}
 use Rattle.lfm_mutex.proofs.mutex.Mutex.spin_and_nap.Goals as goal
 
 pub nap-requires-clause-free : goal.nap-requires-clause-free
@@ -17,3 +18,6 @@ returns-in-None-clause-gains g c =
 pub returns-in-None-clause-tries : goal.returns-in-None-clause-tries
 returns-in-None-clause-tries g c = let p = c.args.self.now.pace in
     tries_join c.args.self.now.limits (p.spins - 1) p.naps (sight c.args.seat.now) (sight c.spin.new.seat) (sight c.nap.new.seat) c.nap.result c.in-None.ensures.tries c.nap.ensures.tries
+
+pub returns-in-None-clause-run : goal.returns-in-None-clause-run
+returns-in-None-clause-run g c = run_next c.spin.ensures.run c.nap.ensures.run

@@ -3,6 +3,7 @@ use Rattle.lfm_table.specs.Rule.{value_in}
 use Rattle.lfm_table.specs.Seats.{Rooted}
 use Rattle.lfm_table.specs.Steps.{kept_out, put_in, CanMake}
 use Rattle.lfm_table.proofs.tables.SeatKept.{can_make, slot_there, made_next}
+use Rattle.lfm_mutex.proofs.runs.RunGoesOn.{run_stepped}
 use Rattle.lfm_mutex.proofs.steps.kinds.make_of.Goals as goal
 
 pub make_step-found-requires-clause-can : goal.make_step-found-requires-clause-can
@@ -43,3 +44,6 @@ returns-clause-event g c = let s = c.args.seat.now in
     c.gives-may_give.ensures c.drop_oldest.ensures c.prepare.ensures.moving c.prepare.ensures.slot c.make_step-found.ensures.step c.add_loaded.ensures c.settle.ensures.took c.oldest_of-oldest.ensures
     c.advance-turn.ensures.seat c.advance-turn.ensures.turn
     in m.event
+
+pub returns-clause-run : goal.returns-clause-run
+returns-clause-run g c = run_stepped (returns-clause-event g c)

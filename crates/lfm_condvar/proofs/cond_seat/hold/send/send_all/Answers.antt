@@ -8,13 +8,21 @@ use Rattle.lfm_condvar.specs.Lists.{waiter}
 use Rattle.lfm_condvar.specs.Wakes.{SendsAll, SendsBy, SendsInTurn, SentEach}
 use Rattle.lfm_condvar.proofs.HeldBack.{held_more}
 use Rattle.lfm_condvar.proofs.Sent.{all_sent, awake_still, follows_more, in_turn, sent_more, some_by, some_sent, taken_more}
+use Rattle.lfm_mutex.proofs.runs.RunGoesOn.{run_next}
 use Rattle.lfm_condvar.proofs.cond_seat.hold.send.send_all.Goals as goal
+
+pub returns-in-Err-clause-run : goal.returns-in-Err-clause-run
+returns-in-Err-clause-run g c = run_next c.sends.invariant.run (run_next c.send_oldest_without_waking-answer.ensures.run c.hold_back-held.ensures.run)
+
+pub returns-in-None-clause-run : goal.returns-in-None-clause-run
+returns-in-None-clause-run g c = run_next c.sends.invariant.run (run_next c.send_oldest_without_waking-answer.ensures.run c.hold_back-held.ensures.run)
 
 pub sends-preserved : goal.sends-preserved
 sends-preserved g c = let i = c.sends.invariant in let o = c.send_oldest_without_waking-answer in let is : o.result.0 ≡ Ok (Some c.in-Some.field-0) = search rules in let told = rw is at o.ensures.sends in let p = c.in-Some.field-0 in let x = waiter p.0 p.1 in
     let s = sight c.args.seat.now in let m = sight c.sends.seat in let t = sight c.send_oldest_without_waking-answer.new.seat in let w = c.send_oldest_without_waking-answer.new.waiters in let n = (limits_of c.args.mutex.now).seats in let same = sym c.hold_back-held.ensures.same in
     record {
       belongs = search rules;
+      run = run_next i.run (run_next o.ensures.run c.hold_back-held.ensures.run);
       wide = (let same = told.0.seats in let wide = i.wide in omega arith);
       gone = (i.gone.0 ++ x ∷ [], taken_more i.gone.0 x c.args.waiters.now c.sends.waiters w i.gone.1 told.0, subst (λ z. SentEach (i.gone.0 ++ x ∷ []) s z) same (sent_more n i.gone.0 x s m t i.gone.2 told.2), (let l = length-append i.gone.0 (x ∷ []) in let k = i.gone.3 in omega arith));
       steps = (let b = rw is at o.ensures.steps in (i.steps.0 ++ b.0, subst (λ z. SendsInTurn (limits_of c.args.mutex.now) s (i.steps.0 ++ b.0) z) same (in_turn (limits_of c.args.mutex.now) i.steps.0 b.0 s m t i.steps.1 b.1)));

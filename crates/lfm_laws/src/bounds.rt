@@ -50,7 +50,7 @@ pub fn tries_and_receives_are_bounded()
 {}
 
 /// An open call whose seat alone makes steps ends within N + 16 of them, N being the number of seats. So `*` makes at most
-/// N + 16 steps.
+/// N + 16 steps. By `calls_end_beside_others` it is N + 9.
 ///
 /// Definitions: `CallsEndAlone` in `specs/laws/Laws.antt`, and `CallsEndAloneInSchedules` in `specs/laws/InSchedules.antt`.
 /// Proofs: `proofs/lawful/bounds/CallsEnd.antt` and `proofs/lawful/runs/InSchedules.antt`.

@@ -20,12 +20,8 @@ use std::sync::Wait;
 use std::thread::yield_now;
 use std::time::Duration;
 
-/// How long the first nap is to last, in microseconds. Each further one is to last twice as long as the one before it. The system may
-/// add some 50.
+/// How long a nap is to last, in microseconds. The system may add some 50.
 const NAP_MICROSECONDS: u64 = 20;
-
-/// After this number of doublings the naps grow no longer.
-const MOST_NAP_DOUBLINGS: u32 = 5;
 
 /// Before each look there are twice as many pauses as before the one before it, up to 2 to the power of this.
 const MOST_DOUBLINGS: u32 = 8;
@@ -159,8 +155,8 @@ impl<T: Kept> Mutex<T> {
     }
 
     /// Naps as often as the pace says, and looks before and after each nap. Threads that sleep leave the processors to the holder, and
-    /// a queue that has formed can empty meanwhile: so each nap is longer than the one before it. It stops if a crowd holds or waits:
-    /// then a nap would only keep the seat from its place in the queue.
+    /// a queue that has formed can empty meanwhile. The first nap is a yield if the mutex was just handed over. It stops if a crowd
+    /// holds or waits: then a nap would only keep the seat from its place in the queue.
     #[inline(always)]
     fn nap<R: Wait>(&self, rt: &R, seat: &mut Seat<T>) -> Option<How>
         requires belongs { OfMutex seat.old self.now }
@@ -182,7 +178,7 @@ impl<T: Kept> Mutex<T> {
             } else if made == 0 && self.is_handed_over(found) {
                 self.count_after_yield()
             } else {
-                self.count_after_nap(rt, wake, made)
+                self.count_after_nap(rt, wake)
             };
             match self.try_if_free(seat, count) {
                 Some(how) => return Some(how),
@@ -197,12 +193,11 @@ impl<T: Kept> Mutex<T> {
         count == 1 && self.table.look_at_owner() == 0
     }
 
-    /// The count after a nap, before which this number of naps were made.
-    fn count_after_nap<R: Wait>(&self, rt: &R, wake: usize, made: u32) -> u64
+    /// The count after a nap.
+    fn count_after_nap<R: Wait>(&self, rt: &R, wake: usize) -> u64
         requires { wake < self.now.table.table_id.words }
     {
-        let doublings = made.min(MOST_NAP_DOUBLINGS);
-        let nap = Duration::from_micros(NAP_MICROSECONDS << doublings);
+        let nap = Duration::from_micros(NAP_MICROSECONDS);
         park_for(rt, &self.table, wake, nap);
         self.table.look_at_count()
     }

@@ -18,7 +18,7 @@ const SPINS: u32 = 12;
 const SPINS_OF_ONE_PROCESSOR: u32 = 1;
 
 /// How often it then naps.
-const NAPS: u32 = 6;
+const NAPS: u32 = 4;
 
 /// This number of seats is no crowd, however few processors there are.
 const FEW: u64 = 8;
@@ -44,11 +44,11 @@ const MOST_LOOKS: u64 = 4_000;
 /// How a seat waits for the mutex. It has two parts.
 ///
 /// *Before it queues*, a seat that doesn't hold and locks by `lock_barging` spins and then naps. The first spin is a try to gain
-/// the mutex. Each further one is some pauses and a look at the count, and a try if the mutex is free. A nap is a look, a sleep if
-/// the mutex is not free, and another look, with a try if it is free then. The first sleep lasts some 20 microseconds, and each further
-/// one twice as long as the one before it, up to 640. A seat spins no longer if more than two seats hold or wait. It naps no longer if
-/// more than 8 do, and more than twice as many as `near`. If the mutex was just handed over to a thread that has not run since, the
-/// first nap is a yield, which lets that thread run on the same processor. `lock` makes neither.
+/// the mutex. Each further one is some pauses and a look at the count, and a try if the mutex is free. A nap is a look, a sleep of
+/// some 20 microseconds if the mutex is not free, and another look, with a try if it is free then. A seat spins no longer if more
+/// than two seats hold or wait. It naps no longer if more than 8 do, and more than twice as many as `near`. If the mutex was just
+/// handed over to a thread that has not run since, the first nap is a yield, which lets that thread run on the same processor.
+/// `lock` makes neither.
 ///
 /// *Once it has queued*, a seat looks at its wake word before it parks. A grant mostly comes within some 20 microseconds, and to
 /// park and be woken costs far more than the looks. But if many seats are ahead, or one processor has to serve both, each look is
@@ -92,14 +92,14 @@ impl Pace {
         }
     }
 
-    /// The pace for a machine with this number of processors. With one, a seat spins once and naps 6 times before it queues, and
-    /// then parks at once: further spins and looks would keep the holder from its work. With more, it spins 12 times and naps 6
+    /// The pace for a machine with this number of processors. With one, a seat spins once and naps 4 times before it queues, and
+    /// then parks at once: further spins and looks would keep the holder from its work. With more, it spins 12 times and naps 4
     /// times, and once it has queued it looks `LOOKS_BEFORE_SLEEP` times if no more seats hold or wait than there are processors.
     /// A mutex that is not told otherwise has the pace for eight.
     pub fn for_processors(processors: u64) -> Pace
         ensures one { processors ≤ 1 → (result.looks ≡ 0) × (result.near ≡ 0) × (result.spins ≡ 1) }
         ensures more { 1 < processors → (result.looks ≡ 800) × (result.near ≡ processors) × (result.spins ≡ 12) }
-        ensures naps { result.naps ≡ 6 }
+        ensures naps { result.naps ≡ 4 }
     {
         if processors <= 1 {
             return Pace::new(0, 0).with_barging(SPINS_OF_ONE_PROCESSOR, NAPS);
@@ -112,7 +112,7 @@ impl Pace {
     /// doesn't tell the processors or the time.
     pub fn of_machine<R: Threads + Clock>(rt: &R) -> io::Result<Pace>
         ensures looks { IfOk result (λ p. (p.near ≤ 1 → p.looks ≡ 0) × (1 < p.near → (100 ≤ p.looks) × (p.looks ≤ 4_000))) }
-        ensures spins { IfOk result (λ p. (p.near ≤ 1 → p.spins ≡ 1) × (1 < p.near → p.spins ≡ 12) × (p.naps ≡ 6)) }
+        ensures spins { IfOk result (λ p. (p.near ≤ 1 → p.spins ≡ 1) × (1 < p.near → p.spins ≡ 12) × (p.naps ≡ 4)) }
     {
         let processors = available_parallelism(rt)?.get() as u64;
         if processors > 1 {

@@ -18,9 +18,9 @@ fn paces(rt: HostRuntime) {
     let none = barging.with_barging(0, 0);
     sees(&rt, "with none again", &numbers(none), &(3, 2, 0, 0));
     let one = Pace::for_processors(1);
-    sees(&rt, "for one processor", &numbers(one), &(0, 0, 1, 6));
+    sees(&rt, "for one processor", &numbers(one), &(0, 0, 1, 4));
     let four = Pace::for_processors(4);
-    sees(&rt, "for four", &numbers(four), &(800, 4, 12, 6));
+    sees(&rt, "for four", &numbers(four), &(800, 4, 12, 4));
 }
 
 #[test]
@@ -29,7 +29,7 @@ fn pace_of_this_machine(rt: HostRuntime) -> Result<(), Fail> {
     let (looks, near, spins, naps) = numbers(pace);
     let spins_wanted = if near == 0 { 1 } else { 12 };
     sees(&rt, "the spins", &spins, &spins_wanted);
-    sees(&rt, "the naps", &naps, &6);
+    sees(&rt, "the naps", &naps, &4);
     let looks_fit = looks == 0 || (near > 1 && looks >= 100 && looks <= 4_000);
     holds(&rt, "the looks", looks_fit);
     Ok(())
@@ -42,7 +42,7 @@ fn pace_of_a_mutex(rt: HostRuntime) -> Result<(), Fail> {
         &rt,
         "of a new one",
         &numbers(mutex.pace()),
-        &(800, 8, 12, 6),
+        &(800, 8, 12, 4),
     );
     let pace = Pace::new(3, 2).with_barging(5, 7);
     mutex.set_pace(pace);

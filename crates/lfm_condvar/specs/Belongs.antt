@@ -22,11 +22,11 @@ cond_tries v = tries_of v.inner
 abbrev pub cond_sight : CondSeat → Sight Waiters
 cond_sight c = sight c.seat
 
--- the actions of all cond seats that it knows: those of the inner mutex's run up to its last step
+-- the actions of all cond seats that it knows: an early part of the inner mutex's run, after which only others have acted
 abbrev pub cond_past : CondSeat → List Action
 cond_past c = past_of c.seat
 
--- from one to the other, the cond seat has woken just those that it granted the list, in order
+-- from one to the other, the cond seat has woken exactly those that it granted the list, in order
 abbrev pub CondWokenAsGranted : CondSeat → CondSeat → Type 0
 CondWokenAsGranted c d = WokenAsGranted c.seat d.seat
 

@@ -12,9 +12,10 @@ use lfm_mutex::Seat;
 /// while it holds or sleeps, it keeps what it holds: nobody else gains that.
 ///
 /// ```
-/// // the pass holds a monitor round a bounded buffer: it puts a number in as soon as there is room, and wakes one that waits for
-/// it monitor.apply_until(rt, pass, NOT_FULL, BufferOp::Put(7), |reply| *reply != BufferReply::Full)?; monitor.wake_one(rt, pass,
-/// NOT_EMPTY)?;
+/// // the pass holds a monitor round a bounded buffer: it puts a number in as soon as there is room, and wakes one that waits
+/// // for it
+/// monitor.apply_until(rt, pass, NOT_FULL, BufferOp::Put(7), |reply| *reply != BufferReply::Full)?;
+/// monitor.wake_one(rt, pass, NOT_EMPTY)?;
 /// ```
 #[derive(Drop)]
 pub struct Pass<O: Object> {

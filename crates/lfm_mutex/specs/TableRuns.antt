@@ -104,7 +104,7 @@ module _ {T : Type 0} (follows : ℕ → T → T → Type 0) (fits : T → ℕ �
   HoldsAfter l actions s = (h : Held follows fits s) × (h.opened ≡ l) × (h.actions ≡ actions)
 
   -- Whenever the rule holds there is a run. Words and seats are the state to which it leads, and trails are its parts. What each seat knows of
-  -- it, the actions up to its last step, is an early part of it, in which the seat's part is its whole trail.
+  -- it is an early part of it, in which the seat's part is its whole trail.
   abbrev pub TablesHaveARun : Type 0
   TablesHaveARun =
       ((s : State (Option (Moving T)) (View T)) → Held follows fits s → (l : Limits) × (actions : List Action) × HoldsAfter l actions s)

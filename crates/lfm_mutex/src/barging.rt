@@ -155,7 +155,7 @@ impl<T: Kept> Mutex<T> {
     }
 
     /// Naps as often as the pace says, and looks before and after each nap. Threads that sleep leave the processors to the holder, and
-    /// a queue that has formed can empty meanwhile. The first nap is a yield if the mutex was just handed over. It stops if a crowd
+    /// a queue that has formed can empty meanwhile. The first nap is a yield if the mutex may just have been handed over. It stops if a crowd
     /// holds or waits: then a nap would only keep the seat from its place in the queue.
     #[inline(always)]
     fn nap<R: Wait>(&self, rt: &R, seat: &mut Seat<T>) -> Option<How>
@@ -188,7 +188,7 @@ impl<T: Kept> Mutex<T> {
         None
     }
 
-    /// Whether the mutex was handed over to a seat whose thread has not run since: this count is one seat, and none owns.
+    /// Whether the mutex may have been handed over to a seat whose thread has not run since: this count is one seat, and none owns.
     fn is_handed_over(&self, count: u64) -> bool {
         count == 1 && self.table.look_at_owner() == 0
     }

@@ -46,9 +46,9 @@ const MOST_LOOKS: u64 = 4_000;
 /// *Before it queues*, a seat that doesn't hold and locks by `lock_barging` spins and then naps. The first spin is a try to gain
 /// the mutex. Each further one is some pauses and a look at the count, and a try if the mutex is free. A nap is a look, a sleep of
 /// some 20 microseconds if the mutex is not free, and another look, with a try if it is free then. A seat spins no longer if more
-/// than two seats hold or wait. It naps no longer if more than 8 do, and more than twice as many as `near`. If the mutex was just
-/// handed over to a thread that has not run since, the first nap is a yield, which lets that thread run on the same processor.
-/// `lock` makes neither.
+/// than two seats hold or wait. It naps no longer if more than 8 do, and more than twice as many as `near`. If one seat
+/// is counted and none owns, the mutex may have been handed over to a thread that has not run since: then the first nap is a yield,
+/// which lets that thread run on the same processor. `lock` makes neither.
 ///
 /// *Once it has queued*, a seat looks at its wake word before it parks. A grant mostly comes within some 20 microseconds, and to
 /// park and be woken costs far more than the looks. But if many seats are ahead, or one processor has to serve both, each look is

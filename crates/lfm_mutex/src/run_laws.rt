@@ -1,6 +1,6 @@
 //! The laws of the run of a running mutex. The rule of the table carries a run of the core: the actions of all seats since the
-//! table was opened, in order, of which each seat's trail is its part. It goes on with the actions that each seat knows, those up
-//! to its last step. An action is a call that a seat begins, a step of a seat, or a load of the owner word by `owner`. How the run
+//! table was opened, in order, of which each seat's trail is its part. It goes on with the actions that each seat knows, by
+//! actions of others. An action is a call that a seat begins, a step of a seat, or a load of the owner word by `owner`. How the run
 //! goes on is said in `laws`. Each function here does nothing: its contract is the law.
 ghost use Rattle.lfm_mutex.specs.TableRuns.{
   TablesEndCalls,
@@ -16,7 +16,7 @@ ghost use Rattle.lfm_mutex.specs.TableRuns.{
 use lfm_table::Kept;
 
 /// At every moment some run of the core has led from its start to the words and seats of the table, and each trail is its
-/// seat's part of it. A seat's view keeps the run up to the seat's last step, and what follows is of others.
+/// seat's part of it. A seat's view keeps an early part of the run, and what follows is of others.
 ///
 /// Definition: `TablesHaveARun` in `specs/TableRuns.antt`. Proof: `proofs/TableRuns.antt`.
 pub fn tables_have_a_run<T: Kept>()

@@ -110,8 +110,8 @@ pub record KnowsRun (l : Limits) (actions : List Action) (t : ℕ) (early : List
   pub trail_is : trail ≡ part_of (start l) t early
 
 -- A table that was opened with these limits has this run: the actions have led from the start to its core, and each trail is its seat's part of
--- them. Each seat knows those up to its last step, which have led to a state in which it stands as its view says. A number that is no seat's
--- has done none of them.
+-- them. Each seat knows an early part of them, which has led to a state in which it stands as its view says; the later ones are all of others.
+-- A number that is no seat's has done none of them.
 pub record HasRun {T : Type 0} (l : Limits) (actions : List Action) (c : Core) (views : List (View T)) : Type 0 where
   pub allowed : are_in_limits l.seats l.budget ≡ true
   pub here : c ≡ reached l (events_of actions)

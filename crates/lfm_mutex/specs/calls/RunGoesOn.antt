@@ -4,7 +4,7 @@ pub use Rattle.lfm_table.specs.declared.seat_view.Action.{Action}
 use Rattle.lfm_table.specs.Actions.{RunGoesOn}
 use Rattle.lfm_mutex.specs.declared.seat.Seat.{Seat}
 
--- the actions of all seats that the seat knows: those of the run up to its last step
+-- the actions of all seats that the seat knows: an early part of the run, after which only others have acted
 abbrev pub past_of : {T : Type 0} → Seat T → List Action
 past_of s = s.place.me.0.actions
 

@@ -119,7 +119,7 @@ enum { LFM_MONOTONIC = 1 /* CLOCK_MONOTONIC of Linux */, LFM_PAUSES_PER_LOOK = 4
 
 /* For how many nanoseconds a queued seat spins, looking whether it is granted the mutex, before its thread sleeps: about as long as two
  * wake-ups by the system. If it is shorter, one thread that sleeps soon makes all that queue behind it sleep too. 0 means: sleep at
- * once. With one processor a seat never spins, nor if more seats are asking than the program has processors. */
+ * once. With one processor a seat never spins, nor if more seats are queued than the program has processors. */
 #ifndef LFM_LOOK_NANOSECONDS
 #define LFM_LOOK_NANOSECONDS 20000
 #endif
@@ -135,10 +135,10 @@ typedef struct lfm_mutex {
   unsigned char handle[LFM_MUTEX_BYTES];
   lfm_bell *bells;
   uint64_t seats;
-  uint32_t taking; /* while a seat is taken or given back 1, or 2 if another thread may sleep until that is done; else 0 */
-  uint32_t near;   /* a seat spins only if at most this number are asking: as many as there are processors, none if there is one */
+  uint32_t seats_lock; /* 0; or 1 while a seat is taken or given back, and 2 if another thread may sleep until that is done */
+  uint32_t near;       /* a seat spins only if at most this number are queued: as many as there are processors, none if there is one */
   unsigned char apart[LFM_LINE];
-  uint32_t asking; /* how many seats are queued by lfm_lock */
+  uint32_t queued; /* how many seats are queued by lfm_lock */
   unsigned char apart_from_others[LFM_LINE];
 } LFM_ALIGNED lfm_mutex;
 
@@ -267,13 +267,13 @@ static inline lfm_status lfm_receive(lfm_seat *seat, uint64_t nanoseconds) {
   }
 }
 
-/* The same for a seat whose grant may come soon: it spins first, unless more than `near` seats are asking. Then it would only keep a
+/* The same for a seat whose grant may come soon: it spins first, unless more than `near` seats are queued. Then it would only keep a
  * processor from them. */
 static inline lfm_status lfm_receive_soon(lfm_seat *seat) {
-  uint32_t *asking = &seat->mutex->asking;
-  bool is_near = __atomic_add_fetch(asking, 1, __ATOMIC_RELAXED) <= seat->mutex->near;
+  uint32_t *queued = &seat->mutex->queued;
+  bool is_near = __atomic_add_fetch(queued, 1, __ATOMIC_RELAXED) <= seat->mutex->near;
   lfm_status status = lfm_receive(seat, is_near ? LFM_LOOK_NANOSECONDS : 0);
-  __atomic_sub_fetch(asking, 1, __ATOMIC_RELAXED);
+  __atomic_sub_fetch(queued, 1, __ATOMIC_RELAXED);
   return status;
 }
 
@@ -308,20 +308,20 @@ static inline lfm_status lfm_mutex_new(lfm_mutex *mutex, uint64_t seats, uint64_
   mutex->seats = seats;
   mutex->near = lfm_processors();
   if (mutex->near == 1) mutex->near = 0;
-  mutex->asking = 0;
+  mutex->queued = 0;
   return LFM_DONE;
 }
 
 /* One thread at a time takes a seat or gives one back. The others sleep until it is done, so that it gets done even if they have a
  * higher priority. */
-static inline void lfm_begin_taking(lfm_mutex *mutex) {
+static inline void lfm_lock_seats(lfm_mutex *mutex) {
   uint32_t found = 0;
-  if (__atomic_compare_exchange_n(&mutex->taking, &found, 1, false, __ATOMIC_ACQUIRE, __ATOMIC_RELAXED)) return;
-  while (__atomic_exchange_n(&mutex->taking, 2, __ATOMIC_ACQUIRE)) lfm_futex(&mutex->taking, FUTEX_WAIT, 2);
+  if (__atomic_compare_exchange_n(&mutex->seats_lock, &found, 1, false, __ATOMIC_ACQUIRE, __ATOMIC_RELAXED)) return;
+  while (__atomic_exchange_n(&mutex->seats_lock, 2, __ATOMIC_ACQUIRE)) lfm_futex(&mutex->seats_lock, FUTEX_WAIT, 2);
 }
 
-static inline void lfm_end_taking(lfm_mutex *mutex) {
-  if (__atomic_exchange_n(&mutex->taking, 0, __ATOMIC_RELEASE) == 2) lfm_futex(&mutex->taking, FUTEX_WAKE, 1);
+static inline void lfm_unlock_seats(lfm_mutex *mutex) {
+  if (__atomic_exchange_n(&mutex->seats_lock, 0, __ATOMIC_RELEASE) == 2) lfm_futex(&mutex->seats_lock, FUTEX_WAKE, 1);
 }
 
 /* Takes a seat of the mutex: the one that was given back last, or else the next that was never taken. A seat that was given back keeps
@@ -332,9 +332,9 @@ static inline lfm_status lfm_seat_take(lfm_mutex *mutex, lfm_seat *seat) {
   if (!mutex || !seat || !mutex->bells) return LFM_BLANK;
   if (seat->mutex) return LFM_TAKEN;
   lfm_c_blank_seat(seat->handle);
-  lfm_begin_taking(mutex);
+  lfm_lock_seats(mutex);
   lfm_status status = (lfm_status)lfm_c_take_seat(mutex->handle, seat->handle);
-  lfm_end_taking(mutex);
+  lfm_unlock_seats(mutex);
   if (status != LFM_DONE) return status;
   seat->mutex = mutex;
   seat->bell = &mutex->bells[lfm_c_number(seat->handle)];
@@ -345,9 +345,9 @@ static inline lfm_status lfm_seat_take(lfm_mutex *mutex, lfm_seat *seat) {
 static inline lfm_status lfm_seat_give(lfm_seat *seat) {
   if (!seat || !seat->mutex) return LFM_BLANK;
   lfm_mutex *mutex = seat->mutex;
-  lfm_begin_taking(mutex);
+  lfm_lock_seats(mutex);
   lfm_status status = (lfm_status)lfm_c_give_seat(mutex->handle, seat->handle);
-  lfm_end_taking(mutex);
+  lfm_unlock_seats(mutex);
   if (status != LFM_DONE) return status;
   seat->mutex = NULL;
   seat->bell = NULL;

@@ -1,7 +1,7 @@
 //! A condition variable: those that wait, the oldest first, guarded by a mutex of its own. A wait and a wake ring only after they have
 //! given the list back: the thread that is woken may need the list at once, and would sleep again if it were still held.
 use crate::library::Refusal;
-use crate::seat::{places, Core, Guard, Place, Seat, WakeUp};
+use crate::seat::{raw_seats, Guard, RawMutex, RawSeat, Seat, WakeUp};
 use std::{cell::UnsafeCell, collections::VecDeque, mem, sync::Arc, time::Duration};
 
 /// The greatest number of takes that a seat may be allowed.
@@ -9,9 +9,9 @@ const MOST_TAKES: u64 = 1 << 36;
 
 /// A condition variable of one mutex. There is no wake without a call of `wake_one` or `wake_all`.
 pub struct Condvar {
-    of: Arc<Core>,
+    of: Arc<RawMutex>,
     /// The list's seats. The user's seat n uses the list's seat n, so no two calls use one.
-    seats: Vec<UnsafeCell<Place>>,
+    seats: Vec<UnsafeCell<RawSeat>>,
     /// The numbers of the seats that wait, touched only by a holder of the list's mutex.
     waiting: UnsafeCell<VecDeque<u64>>,
 }
@@ -57,8 +57,8 @@ impl Condvar {
     /// A condition variable of the mutex that has this seat, for its seats 1 to `seats`. Refused: `Limit`, `Memory`.
     pub fn new<T>(seat: &Seat<T>, seats: usize) -> Result<Condvar, Refusal> {
         Ok(Condvar {
-            of: seat.core().clone(),
-            seats: places(seats, MOST_TAKES)?
+            of: seat.raw_mutex().clone(),
+            seats: raw_seats(seats, MOST_TAKES)?
                 .into_iter()
                 .map(UnsafeCell::new)
                 .collect(),
@@ -68,13 +68,13 @@ impl Condvar {
 
     /// The list's seat that goes with the user's, which its caller has to itself.
     #[allow(clippy::mut_from_ref)]
-    fn beside<T>(&self, seat: &mut Seat<T>) -> Result<&mut Place, Refusal> {
-        if !seat.is_beside(&self.of) {
+    fn list_seat<T>(&self, seat: &mut Seat<T>) -> Result<&mut RawSeat, Refusal> {
+        if !seat.is_of(&self.of) {
             return Err(Refusal::Foreign);
         }
         let at = seat.number() as usize - 1;
-        let place = self.seats.get(at).ok_or(Refusal::Foreign)?;
-        Ok(unsafe { &mut *place.get() })
+        let list_seat = self.seats.get(at).ok_or(Refusal::Foreign)?;
+        Ok(unsafe { &mut *list_seat.get() })
     }
 
     /// The list, for a holder of its mutex.
@@ -87,16 +87,16 @@ impl Condvar {
     /// holds more than once, `Spent`.
     pub fn wait<T>(&self, guard: &mut Guard<'_, T>) -> Result<(), Refusal> {
         let seat = &mut *guard.0;
-        let by = self.beside(seat)?;
+        let by = self.list_seat(seat)?;
         by.lock()?;
-        let started = seat.place.start_wait();
+        let started = seat.raw.start_wait();
         if started.is_ok() {
             unsafe { self.list() }.push_back(seat.number());
         }
         by.unlock();
         // after the list is given back
-        seat.place.wake(started?);
-        seat.place.receive(Duration::ZERO);
+        seat.raw.wake(started?);
+        seat.raw.receive(Duration::ZERO);
         Ok(())
     }
 
@@ -112,16 +112,16 @@ impl Condvar {
         let Some(&number) = list.front() else {
             return Ok(false);
         };
-        let wake_up = seat.place.send(number)?;
+        let wake_up = seat.raw.send(number)?;
         list.pop_front();
         if wake_up.is_some() {
-            seat.place.wake(mem::replace(left, wake_up));
+            seat.raw.wake(mem::replace(left, wake_up));
         }
         Ok(true)
     }
 
     fn wake<T>(&self, seat: &mut Seat<T>, most: usize) -> Result<usize, Refusal> {
-        let by = self.beside(seat)?;
+        let by = self.list_seat(seat)?;
         by.lock()?;
         let mut woken = 0;
         let mut refused = None;
@@ -137,7 +137,7 @@ impl Condvar {
             }
         }
         by.unlock();
-        seat.place.wake(left);
+        seat.raw.wake(left);
         refused.map_or(Ok(woken), Err)
     }
 

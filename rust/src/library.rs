@@ -93,9 +93,14 @@ impl fmt::Display for Refusal {
 
 impl std::error::Error for Refusal {}
 
-/// The status that an answer tells. Above it stands the number of the seat that the call granted the mutex, or 0.
+/// The status that an answer tells.
 pub fn status_of(answer: u64) -> u64 {
     answer & 255
+}
+
+/// The number that an answer tells above its status: that of the seat that the call granted the mutex, or 0.
+pub fn named(answer: u64) -> u64 {
+    answer >> 8
 }
 
 /// The status of a call that was made, or why it was refused.

@@ -41,7 +41,7 @@ impl<const N: usize> Bytes<N> {
 #[repr(align(64))]
 struct Count(AtomicUsize);
 
-/// A seat spins only if at most this number are asking: as many as there are processors, none if there is one.
+/// A seat spins only if at most this number are queued: as many as there are processors, none if there is one.
 fn near() -> usize {
     match thread::available_parallelism().map_or(8, NonZeroUsize::get) {
         1 => 0,
@@ -49,20 +49,20 @@ fn near() -> usize {
     }
 }
 
-/// A mutex of the library, with a bell for each seat.
-pub(crate) struct Core {
+/// A mutex of the library without the value, with a bell for each seat.
+pub(crate) struct RawMutex {
     handle: Bytes<MUTEX_BYTES>,
     bells: Vec<Bell>,
     near: usize,
     /// How many seats are queued by `lock`.
-    asking: Count,
+    queued: Count,
     /// Held while a seat is taken or given back, which one thread at a time may do.
-    taking: Mutex<()>,
+    seats_lock: Mutex<()>,
 }
 
-// The handle may go from thread to thread, and `taking` lets one at a time touch it.
-unsafe impl Send for Core {}
-unsafe impl Sync for Core {}
+// The handle may go from thread to thread, and `seats_lock` lets one at a time touch it.
+unsafe impl Send for RawMutex {}
+unsafe impl Sync for RawMutex {}
 
 /// Whether the handles of the library fit into the room that is kept for them.
 fn is_known() -> bool {
@@ -74,25 +74,25 @@ fn is_known() -> bool {
     }
 }
 
-impl Core {
+impl RawMutex {
     /// A mutex that is opened where it lies, since the library may count on it that a handle lies still.
-    fn open(seats: usize, budget: u64) -> Result<Arc<Core>, Refusal> {
+    fn open(seats: usize, budget: u64) -> Result<Arc<RawMutex>, Refusal> {
         // before there is a handle, which is closed when it is dropped
         if !is_known() {
             return Err(Refusal::OtherVersion);
         }
-        let core = Arc::new(Core {
+        let mutex = Arc::new(RawMutex {
             handle: Bytes::new(),
             bells: (0..=seats.min(4095)).map(|_| Bell::default()).collect(),
             near: near(),
-            asking: Count::default(),
-            taking: Mutex::new(()),
+            queued: Count::default(),
+            seats_lock: Mutex::new(()),
         });
         unsafe {
-            lfm_c_blank_mutex(core.handle.at());
-            made(lfm_c_open(core.handle.at(), seats as u64, budget))?;
+            lfm_c_blank_mutex(mutex.handle.at());
+            made(lfm_c_open(mutex.handle.at(), seats as u64, budget))?;
         }
-        Ok(core)
+        Ok(mutex)
     }
 
     /// Rings the bell of the seat that was granted the mutex, if there is one.
@@ -115,7 +115,7 @@ impl Core {
     }
 }
 
-impl Drop for Core {
+impl Drop for RawMutex {
     fn drop(&mut self) {
         // If a seat was not given back, the library keeps its memory.
         unsafe { lfm_c_close(self.handle.at()) };
@@ -131,7 +131,7 @@ pub(crate) struct WakeUp(Option<NonZeroU64>);
 impl WakeUp {
     /// What an answer tells above its status.
     fn of(answer: u64) -> WakeUp {
-        WakeUp(NonZeroU64::new(answer >> 8))
+        WakeUp(NonZeroU64::new(named(answer)))
     }
 
     /// Whether there is a seat to wake.
@@ -140,32 +140,32 @@ impl WakeUp {
     }
 }
 
-/// A seat of the library, without the value.
-pub(crate) struct Place {
+/// A seat of the library without the value.
+pub(crate) struct RawSeat {
     handle: Box<Bytes<SEAT_BYTES>>,
-    core: Arc<Core>,
+    mutex: Arc<RawMutex>,
 }
 
-unsafe impl Send for Place {}
+unsafe impl Send for RawSeat {}
 
 /// A mutex's seats, in the order of their numbers.
-pub(crate) fn places(seats: usize, budget: u64) -> Result<Vec<Place>, Refusal> {
-    let core = Core::open(seats, budget)?;
-    (0..seats).map(|_| Place::take(&core)).collect()
+pub(crate) fn raw_seats(seats: usize, budget: u64) -> Result<Vec<RawSeat>, Refusal> {
+    let mutex = RawMutex::open(seats, budget)?;
+    (0..seats).map(|_| RawSeat::take(&mutex)).collect()
 }
 
-impl Place {
-    fn take(core: &Arc<Core>) -> Result<Place, Refusal> {
+impl RawSeat {
+    fn take(mutex: &Arc<RawMutex>) -> Result<RawSeat, Refusal> {
         let handle = Box::new(Bytes::new());
-        let taking = core.taking.lock();
+        let locked = mutex.seats_lock.lock();
         unsafe {
             lfm_c_blank_seat(handle.at());
-            made(lfm_c_take_seat(core.handle.at(), handle.at()))?;
+            made(lfm_c_take_seat(mutex.handle.at(), handle.at()))?;
         }
-        drop(taking);
-        Ok(Place {
+        drop(locked);
+        Ok(RawSeat {
             handle,
-            core: core.clone(),
+            mutex: mutex.clone(),
         })
     }
 
@@ -179,7 +179,7 @@ impl Place {
 
     /// Sleeps until the seat, which is asleep, is granted the mutex, after it has looked for `look_time`.
     pub(crate) fn receive(&mut self, look_time: Duration) -> u64 {
-        let bell = &self.core.bells[self.number() as usize];
+        let bell = &self.mutex.bells[self.number() as usize];
         let mut look_time = look_time;
         loop {
             let seen = bell.rings();
@@ -194,18 +194,18 @@ impl Place {
         }
     }
 
-    /// The same for a seat whose grant may come soon: it spins first, unless more than `near` seats are asking. Then it would only
+    /// The same for a seat whose grant may come soon: it spins first, unless more than `near` seats are queued. Then it would only
     /// keep a processor from them.
     fn receive_soon(&mut self) -> u64 {
-        let is_near = self.core.asking.0.fetch_add(1, Relaxed) < self.core.near;
+        let is_near = self.mutex.queued.0.fetch_add(1, Relaxed) < self.mutex.near;
         let status = self.receive(if is_near { LOOK_TIME } else { Duration::ZERO });
-        self.core.asking.0.fetch_sub(1, Relaxed);
+        self.mutex.queued.0.fetch_sub(1, Relaxed);
         status
     }
 
     pub(crate) fn lock(&mut self) -> Result<u64, Refusal> {
         let answer = unsafe { lfm_c_ask(self.at()) };
-        let status = self.core.told(answer);
+        let status = self.mutex.told(answer);
         made(if status == ASLEEP {
             self.receive_soon()
         } else {
@@ -219,7 +219,7 @@ impl Place {
 
     pub(crate) fn unlock(&mut self) {
         let answer = unsafe { lfm_c_unlock(self.at()) };
-        self.core.told(answer);
+        self.mutex.told(answer);
     }
 
     /// Gives the mutex up, and leaves the seat asleep until it is sent. The caller has to make the wake-up.
@@ -236,15 +236,15 @@ impl Place {
 
     /// Makes a wake-up that a call of this seat has left.
     pub(crate) fn wake(&self, wake_up: WakeUp) {
-        self.core.wake(wake_up);
+        self.mutex.wake(wake_up);
     }
 }
 
-impl Drop for Place {
+impl Drop for RawSeat {
     fn drop(&mut self) {
         // A seat that holds, since its guard was forgotten, isn't given back: nobody else gains the mutex.
-        let _taking = self.core.taking.lock();
-        unsafe { lfm_c_give_seat(self.core.handle.at(), self.at()) };
+        let _locked = self.mutex.seats_lock.lock();
+        unsafe { lfm_c_give_seat(self.mutex.handle.at(), self.at()) };
     }
 }
 
@@ -256,7 +256,7 @@ unsafe impl<T: Send> Sync for Value<T> {}
 
 /// What one thread uses a mutex with. Dropped, it is given back.
 pub struct Seat<T> {
-    pub(crate) place: Place,
+    pub(crate) raw: RawSeat,
     value: Arc<Value<T>>,
 }
 
@@ -264,42 +264,42 @@ pub struct Seat<T> {
 /// mutex as often as the budget says, 1 to 2^36. Refused: `Limit`, `Memory`, `OtherVersion`.
 pub fn mutex<T: Send>(seats: usize, budget: u64, value: T) -> Result<Vec<Seat<T>>, Refusal> {
     let value = Arc::new(Value(UnsafeCell::new(value)));
-    let seat = |place| Seat {
-        place,
+    let seat = |raw| Seat {
+        raw,
         value: value.clone(),
     };
-    Ok(places(seats, budget)?.into_iter().map(seat).collect())
+    Ok(raw_seats(seats, budget)?.into_iter().map(seat).collect())
 }
 
 impl<T> Seat<T> {
     /// The seat's number: 1 and on.
     pub fn number(&self) -> u64 {
-        self.place.number()
+        self.raw.number()
     }
 
     /// How many takes the seat has left.
     pub fn left(&self) -> u64 {
-        unsafe { lfm_c_left(self.place.at()) }
+        unsafe { lfm_c_left(self.raw.at()) }
     }
 
     /// Gains the mutex, for one take, and sleeps until then. Refused: `Spent`, and `DepthFull` if guards were forgotten.
     pub fn lock(&mut self) -> Result<Guard<'_, T>, Refusal> {
-        self.place.lock()?;
+        self.raw.lock()?;
         Ok(Guard(self))
     }
 
     /// Gains the mutex without a sleep, perhaps before seats that are queued. Refused: as `lock`, and `Busy`.
     pub fn try_lock(&mut self) -> Result<Guard<'_, T>, Refusal> {
-        self.place.try_lock()?;
+        self.raw.try_lock()?;
         Ok(Guard(self))
     }
 
-    pub(crate) fn is_beside(&self, other: &Arc<Core>) -> bool {
-        Arc::ptr_eq(&self.place.core, other)
+    pub(crate) fn is_of(&self, other: &Arc<RawMutex>) -> bool {
+        Arc::ptr_eq(&self.raw.mutex, other)
     }
 
-    pub(crate) fn core(&self) -> &Arc<Core> {
-        &self.place.core
+    pub(crate) fn raw_mutex(&self) -> &Arc<RawMutex> {
+        &self.raw.mutex
     }
 }
 
@@ -315,13 +315,13 @@ impl<T> Guard<'_, T> {
 
     /// How often the seat holds.
     pub fn depth(&self) -> u64 {
-        unsafe { lfm_c_depth(self.0.place.at()) }
+        unsafe { lfm_c_depth(self.0.raw.at()) }
     }
 }
 
 impl<T> Drop for Guard<'_, T> {
     fn drop(&mut self) {
-        self.0.place.unlock();
+        self.0.raw.unlock();
     }
 }
 

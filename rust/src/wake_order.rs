@@ -1,7 +1,8 @@
 //! In which order a wait and a wake ring and give the list of the condition variable back. They ring last, so that the thread that they
 //! wake finds the list free. The test program has the library's calls itself, and one thread makes them all, so no answer depends on
 //! when a thread runs.
-use crate::seat::Core;
+use crate::seat::RawMutex;
+use crate::seen_calls::status::NOT_WAITING;
 use crate::seen_calls::{where_it_answers, where_it_tells};
 use crate::{mutex, Condvar, Refusal, Seat};
 use std::{cell::RefCell, rc::Rc, sync::Arc};
@@ -28,31 +29,31 @@ fn let_wait(seat: &mut Seat<()>, condvar: &Condvar, times: usize) {
 /// What the function gives, and how often each bell had rung when it made this call.
 fn with_rings_at<A>(
     call: &'static str,
-    core: &Arc<Core>,
+    mutex: &Arc<RawMutex>,
     act: impl FnOnce() -> A,
 ) -> (A, Vec<u32>) {
     let rings = Rc::new(RefCell::default());
-    let (seen, core) = (rings.clone(), core.clone());
+    let (seen, mutex) = (rings.clone(), mutex.clone());
     let answer = move || {
-        seen.replace(core.rings());
+        seen.replace(mutex.rings());
         0
     };
     (where_it_answers(call, answer, act), rings.take())
 }
 
 /// The same for the call that gives the list back.
-fn with_rings_at_the_unlock<A>(core: &Arc<Core>, act: impl FnOnce() -> A) -> (A, Vec<u32>) {
-    with_rings_at("lfm_c_unlock", core, act)
+fn with_rings_at_the_unlock<A>(mutex: &Arc<RawMutex>, act: impl FnOnce() -> A) -> (A, Vec<u32>) {
+    with_rings_at("lfm_c_unlock", mutex, act)
 }
 
 #[test]
 fn a_wait_rings_after_the_list_and_before_it_sleeps() {
     let (mut first, _second, condvar) = two_seats();
-    let core = first.core().clone();
+    let mutex = first.raw_mutex().clone();
     let mut guard = first.lock().unwrap();
     let wait = || where_it_tells("lfm_c_start_wait", granted(2), || condvar.wait(&mut guard));
     let (waited, rings) =
-        with_rings_at_the_unlock(&core, || with_rings_at("lfm_c_receive", &core, wait));
+        with_rings_at_the_unlock(&mutex, || with_rings_at("lfm_c_receive", &mutex, wait));
     assert_eq!(rings, [0, 0, 0]);
     assert_eq!(waited, (Ok(()), vec![0, 0, 1]));
 }
@@ -60,43 +61,43 @@ fn a_wait_rings_after_the_list_and_before_it_sleeps() {
 #[test]
 fn a_wake_rings_after_the_list() {
     let (mut first, mut second, condvar) = two_seats();
-    let core = first.core().clone();
+    let mutex = first.raw_mutex().clone();
     let_wait(&mut first, &condvar, 1);
     let wake = || where_it_tells("lfm_c_send", granted(1), || condvar.wake_one(&mut second));
     assert_eq!(
-        with_rings_at_the_unlock(&core, wake),
+        with_rings_at_the_unlock(&mutex, wake),
         (Ok(1), vec![0, 0, 0])
     );
-    assert_eq!(core.rings(), [0, 1, 0]);
+    assert_eq!(mutex.rings(), [0, 1, 0]);
 }
 
 #[test]
 fn a_wake_that_grants_twice_rings_for_both() {
     let (mut first, mut second, condvar) = two_seats();
-    let core = first.core().clone();
+    let mutex = first.raw_mutex().clone();
     let_wait(&mut first, &condvar, 2);
     let mut numbers = [1, 2].into_iter();
     let send = move || granted(numbers.next().unwrap());
     let wake = || where_it_answers("lfm_c_send", send, || condvar.wake_all(&mut second));
     assert_eq!(
-        with_rings_at_the_unlock(&core, wake),
+        with_rings_at_the_unlock(&mutex, wake),
         (Ok(2), vec![0, 1, 0])
     );
-    assert_eq!(core.rings(), [0, 1, 1]);
+    assert_eq!(mutex.rings(), [0, 1, 1]);
 }
 
 #[test]
 fn a_wake_that_is_refused_rings_for_those_it_sent() {
     let (mut first, mut second, condvar) = two_seats();
-    let core = first.core().clone();
+    let mutex = first.raw_mutex().clone();
     let_wait(&mut first, &condvar, 2);
-    let mut answers = [granted(1), 38].into_iter();
+    let mut answers = [granted(1), NOT_WAITING].into_iter();
     let send = move || answers.next().unwrap();
     let wake = || where_it_answers("lfm_c_send", send, || condvar.wake_all(&mut second));
-    let refusal = Err(Refusal::Other(38));
+    let refusal = Err(Refusal::Other(NOT_WAITING));
     assert_eq!(
-        with_rings_at_the_unlock(&core, wake),
+        with_rings_at_the_unlock(&mutex, wake),
         (refusal, vec![0, 0, 0])
     );
-    assert_eq!(core.rings(), [0, 1, 0]);
+    assert_eq!(mutex.rings(), [0, 1, 0]);
 }

@@ -3,6 +3,7 @@
 mod seen_calls;
 
 use ligdrosa::{mutex, Condvar, Refusal};
+use seen_calls::status::{NO_MEMORY, NO_SEAT, SPENT, TAKEN};
 use seen_calls::{where_it_tells, HANDLES, MADE, ROOMS};
 
 fn refusal_of_mutex() -> Option<Refusal> {
@@ -24,9 +25,9 @@ fn a_library_of_another_version() {
 #[test]
 fn a_library_that_refuses() {
     for (call, told, refusal) in [
-        ("lfm_c_open", 19, Refusal::Memory),
-        ("lfm_c_open", 17, Refusal::Other(17)),
-        ("lfm_c_take_seat", 20, Refusal::Other(20)),
+        ("lfm_c_open", NO_MEMORY, Refusal::Memory),
+        ("lfm_c_open", TAKEN, Refusal::Other(TAKEN)),
+        ("lfm_c_take_seat", NO_SEAT, Refusal::Other(NO_SEAT)),
     ] {
         assert_eq!(where_it_tells(call, told, refusal_of_mutex), Some(refusal));
     }
@@ -39,7 +40,7 @@ fn a_condition_variable_without_takes() {
     let seat = &mut seats[0];
     let condvar = Condvar::new(seat, 1).unwrap();
     MADE.take();
-    where_it_tells("lfm_c_ask", 36, || {
+    where_it_tells("lfm_c_ask", SPENT, || {
         assert_eq!(condvar.wake_one(seat), Err(Refusal::Spent));
         assert_eq!(condvar.wake_all(seat), Err(Refusal::Spent));
     });

@@ -13,6 +13,18 @@ thread_local! {
     pub static HANDLES: RefCell<Vec<(&'static str, usize)>> = const { RefCell::new(Vec::new()) };
 }
 
+/// Statuses that tests let the library answer. No test program needs all of them.
+#[allow(dead_code)]
+pub mod status {
+    // scripts/write_c_sides writes the numbers from here
+    pub const TAKEN: u64 = 17;
+    pub const NO_MEMORY: u64 = 19;
+    pub const NO_SEAT: u64 = 20;
+    pub const SPENT: u64 = 36;
+    pub const NOT_WAITING: u64 = 38;
+    // to here
+}
+
 /// The calls that tell how much room a handle needs, with the room that there is.
 pub const ROOMS: [(&str, u64); 4] = [
     ("lfm_c_mutex_size", 128),

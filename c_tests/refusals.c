@@ -289,6 +289,12 @@ static void waits_that_a_seat_refuses(void) {
   EXPECT(lfm_wake_all(&condvar, &second), LFM_SEAT_ASLEEP);
   EXPECT(condvar.count, 1);
   EXPECT(lfm_condvar_close(&condvar), LFM_WAITED_FOR);
+  condvar.waiting[1] = 2; /* as while all wait, so that the list has no room for another */
+  condvar.count = 2;
+  EXPECT(lfm_wait(&condvar, &second), LFM_SEAT_ASLEEP);
+  EXPECT(condvar.waiting[0], 1);
+  EXPECT(condvar.waiting[1], 2);
+  EXPECT(condvar.count, 2);
   condvar.count = 0;
   EXPECT(lfm_unlock(&first), LFM_GRANTED);
   EXPECT(lfm_c_receive(second.handle), LFM_DONE);
@@ -306,9 +312,18 @@ static void a_condition_variable_without_takes(void) {
   EXPECT(lfm_mutex_close(&condvar.list), LFM_DONE);
   EXPECT(lfm_mutex_new(&condvar.list, 2, 1), LFM_DONE);
   for (int i = 1; i <= 2; i++) EXPECT(lfm_seat_take(&condvar.list, &condvar.seats[i]), LFM_DONE);
+  /* a wake costs nothing if nobody waits */
   EXPECT(lfm_wake_one(&condvar, &first), LFM_NOBODY);
+  EXPECT(lfm_wake_all(&condvar, &first), LFM_NOBODY);
+  EXPECT(lfm_left(&condvar.seats[1]), 1);
+  EXPECT(lfm_lock(&condvar.seats[1]), LFM_DONE);
+  EXPECT(lfm_unlock(&condvar.seats[1]), LFM_DONE);
+  condvar.waiting[0] = 2; /* as while the second seat waits */
+  condvar.count = 1;
   EXPECT(lfm_wake_one(&condvar, &first), LFM_SPENT);
   EXPECT(lfm_wake_all(&condvar, &first), LFM_SPENT);
+  EXPECT(condvar.count, 1);
+  condvar.count = 0;
   /* held twice, so that a wait that is begun all the same is refused for that, and doesn't sleep for ever */
   EXPECT(lfm_lock(&first), LFM_DONE);
   EXPECT(lfm_lock(&first), LFM_AGAIN);

@@ -1,20 +1,23 @@
 /* In which order a wait and a wake ring and give the list of the condition variable back. They ring last, so that the thread that they
- * wake finds the list free.
+ * wake finds the list free. And that a wake finds a wait counted as soon as its seat has given the mutex up.
  *
  * One thread makes the calls of all seats, so no answer depends on when a thread runs. The test wraps the calls of the library: it makes
  * the calls that another thread would make before a receive or a send. */
 #define lfm_c_ask seen_ask
 #define lfm_c_receive seen_receive
 #define lfm_c_unlock seen_unlock
+#define lfm_c_start_wait seen_start_wait
 #define lfm_c_send seen_send
 #include "expect.h"
 #undef lfm_c_ask
 #undef lfm_c_receive
 #undef lfm_c_unlock
+#undef lfm_c_start_wait
 #undef lfm_c_send
 uint64_t lfm_c_ask(void *seat);
 uint64_t lfm_c_receive(void *seat);
 uint64_t lfm_c_unlock(void *seat);
+uint64_t lfm_c_start_wait(void *seat);
 uint64_t lfm_c_send(void *seat, uint64_t number);
 
 enum { SEATS = 3 };
@@ -24,6 +27,7 @@ static lfm_seat seats[SEATS + 1];            /* by their numbers */
 static uint32_t rung_before_list[SEATS + 1]; /* how often each bell had rung when the list was last taken */
 static uint32_t rung_under_list[SEATS + 1];  /* how often each bell rang while the list was last held */
 static void (*before_receive)(void), (*before_send)(void); /* calls of other seats before the next receive or send */
+static uint64_t counted_at_start; /* how many waits were counted when the last wait was about to give the mutex up */
 
 static bool is_of_list(void *handle) {
   for (int i = 1; i <= SEATS; i++)
@@ -49,6 +53,11 @@ uint64_t seen_unlock(void *handle) {
   if (is_of_list(handle))
     for (int i = 1; i <= SEATS; i++) rung_under_list[i] = mutex.bells[i].rings - rung_before_list[i];
   return lfm_c_unlock(handle);
+}
+
+uint64_t seen_start_wait(void *handle) {
+  counted_at_start = condvar.count;
+  return lfm_c_start_wait(handle);
 }
 
 uint64_t seen_receive(void *handle) {
@@ -119,8 +128,17 @@ static void a_wait(void) {
   before_receive = go_on_and_wake;
   EXPECT(lfm_wait(&condvar, &seats[1]), LFM_DONE);
   EXPECT(before_receive == NULL, true);
+  EXPECT(counted_at_start, 1);
   expect_rung(1, 1, 0);
   EXPECT(lfm_unlock(&seats[1]), LFM_DONE);
+  close_all();
+}
+
+static void a_wait_that_is_refused(void) {
+  open_all();
+  EXPECT(lfm_wait(&condvar, &seats[1]), LFM_NOT_OWNER);
+  EXPECT(counted_at_start, 1);
+  EXPECT(condvar.count, 0);
   close_all();
 }
 
@@ -178,6 +196,7 @@ static void a_wake_that_is_refused(void) {
 
 int main(void) {
   a_wait();
+  a_wait_that_is_refused();
   a_wake_of_one();
   a_wake_of_all();
   a_wake_that_grants_twice();

@@ -397,15 +397,18 @@ static inline uint64_t lfm_left(lfm_seat *seat) { return seat && seat->mutex ? l
 /* The condition variable */
 
 /* Those that wait, the oldest first, guarded by a mutex of its own. The user's seat with the number n uses the list's seat n,
- * so no two threads use one. `of` is null while the condition variable is not open. */
+ * so no two threads use one. `of` is null while the condition variable is not open. A wake that finds no count leaves the list alone. */
 typedef struct lfm_condvar {
   lfm_mutex list;
   lfm_mutex *of;
   lfm_seat *seats;   /* the list's seats, by their numbers */
   uint64_t *waiting; /* a ring of the numbers of those that wait, with room for all */
   uint64_t first;
-  uint64_t count;
+  uint64_t count; /* how many wait: stored by a holder of the list, and loaded by a wake before it has the list */
 } LFM_ALIGNED lfm_condvar;
+
+/* Stores how many wait. The list is held. */
+static inline void lfm_condvar_count(lfm_condvar *condvar, uint64_t count) { __atomic_store_n(&condvar->count, count, __ATOMIC_RELAXED); }
 
 static inline void lfm_condvar_free(lfm_condvar *condvar) {
   if (condvar->seats)
@@ -466,12 +469,15 @@ static inline lfm_status lfm_wait(lfm_condvar *condvar, lfm_seat *seat) {
   lfm_seat *by = &condvar->seats[lfm_c_number(seat->handle)];
   status = lfm_lock(by);
   if (lfm_is_refused(status)) return status;
+  /* The wait is counted while its seat still holds the mutex, so whoever gains the mutex next finds it counted. */
+  uint64_t before = condvar->count;
+  lfm_condvar_count(condvar, before + 1);
   lfm_giving_up(seat);
   uint64_t answer = lfm_c_start_wait(seat->handle);
-  if (!lfm_is_refused(lfm_status_of(answer))) {
-    condvar->waiting[(condvar->first + condvar->count) % condvar->list.seats] = lfm_c_number(seat->handle);
-    condvar->count++;
-  }
+  if (lfm_is_refused(lfm_status_of(answer)))
+    lfm_condvar_count(condvar, before);
+  else
+    condvar->waiting[(condvar->first + before) % condvar->list.seats] = lfm_c_number(seat->handle);
   lfm_unlock(by);
   status = lfm_told(seat->mutex, answer); /* after the list is given back */
   if (lfm_is_refused(status)) return status;
@@ -487,7 +493,7 @@ static inline lfm_status lfm_send_oldest(lfm_condvar *condvar, lfm_seat *seat, u
   lfm_status status = lfm_status_of(answer);
   if (lfm_is_refused(status)) return status;
   condvar->first = (condvar->first + 1) % condvar->list.seats;
-  condvar->count--;
+  lfm_condvar_count(condvar, condvar->count - 1);
   if (lfm_named(answer) == 0) return LFM_DONE;
   if (*granted != 0) lfm_ring(seat->mutex, *granted);
   *granted = lfm_named(answer);
@@ -497,6 +503,7 @@ static inline lfm_status lfm_send_oldest(lfm_condvar *condvar, lfm_seat *seat, u
 static inline lfm_status lfm_wake(lfm_condvar *condvar, lfm_seat *seat, bool all) {
   lfm_status status = lfm_condvar_refuses(condvar, seat);
   if (status != LFM_DONE) return status;
+  if (__atomic_load_n(&condvar->count, __ATOMIC_RELAXED) == 0) return LFM_NOBODY;
   lfm_seat *by = &condvar->seats[lfm_c_number(seat->handle)];
   status = lfm_lock(by);
   if (lfm_is_refused(status)) return status;
@@ -508,8 +515,9 @@ static inline lfm_status lfm_wake(lfm_condvar *condvar, lfm_seat *seat, bool all
   return status;
 }
 
-/* Wakes the seat that has waited longest, if any: LFM_DONE or LFM_NOBODY. The caller's seat may hold the mutex or not. It costs one
- * take of the condition variable, and may sleep until the list is free. If nobody waits, a seat that sleeps is told so, not refused.
+/* Wakes the seat that has waited longest, if any: LFM_DONE or LFM_NOBODY. The caller's seat may hold the mutex or not. A thread that gains
+ * the mutex after a wait has given it up finds that wait. If nobody waits, a wake is one load: it costs no take and never sleeps, and a seat
+ * that sleeps is told so, not refused. Else it costs one take of the condition variable, and may sleep until the list is free.
  * Refused: LFM_BLANK, LFM_FOREIGN, LFM_SEAT_ASLEEP, LFM_SPENT (of the condition variable's own 2^36). */
 static inline lfm_status lfm_wake_one(lfm_condvar *condvar, lfm_seat *seat) { return lfm_wake(condvar, seat, false); }
 

@@ -2,7 +2,16 @@
 //! given the list back: the thread that is woken may need the list at once, and would sleep again if it were still held.
 use crate::library::Refusal;
 use crate::seat::{raw_seats, Guard, RawMutex, RawSeat, Seat, WakeUp};
-use std::{cell::UnsafeCell, collections::VecDeque, mem, sync::Arc, time::Duration};
+use std::{
+    cell::UnsafeCell,
+    collections::VecDeque,
+    mem,
+    sync::{
+        atomic::{AtomicUsize, Ordering::Relaxed},
+        Arc,
+    },
+    time::Duration,
+};
 
 /// The greatest number of takes that a seat may be allowed.
 const MOST_TAKES: u64 = 1 << 36;
@@ -14,6 +23,8 @@ pub struct Condvar {
     seats: Vec<UnsafeCell<RawSeat>>,
     /// The numbers of the seats that wait, touched only by a holder of the list's mutex.
     waiting: UnsafeCell<VecDeque<u64>>,
+    /// How many seats wait: stored by a holder of the list, and loaded by a wake before it has the list.
+    pub(crate) count: AtomicUsize,
 }
 
 unsafe impl Send for Condvar {}
@@ -63,6 +74,7 @@ impl Condvar {
                 .map(UnsafeCell::new)
                 .collect(),
             waiting: UnsafeCell::new(VecDeque::with_capacity(seats)),
+            count: AtomicUsize::new(0),
         })
     }
 
@@ -89,10 +101,14 @@ impl Condvar {
         let seat = &mut *guard.0;
         let by = self.list_seat(seat)?;
         by.lock()?;
+        let list = unsafe { self.list() };
+        // The wait is counted while its seat still holds the mutex, so whoever gains the mutex next finds it counted.
+        self.count.store(list.len() + 1, Relaxed);
         let started = seat.raw.start_wait();
         if started.is_ok() {
-            unsafe { self.list() }.push_back(seat.number());
+            list.push_back(seat.number());
         }
+        self.count.store(list.len(), Relaxed);
         by.unlock();
         // after the list is given back
         seat.raw.wake(started?);
@@ -114,6 +130,7 @@ impl Condvar {
         };
         let wake_up = seat.raw.send(number)?;
         list.pop_front();
+        self.count.store(list.len(), Relaxed);
         if wake_up.is_some() {
             seat.raw.wake(mem::replace(left, wake_up));
         }
@@ -122,6 +139,9 @@ impl Condvar {
 
     fn wake<T>(&self, seat: &mut Seat<T>, most: usize) -> Result<usize, Refusal> {
         let by = self.list_seat(seat)?;
+        if self.count.load(Relaxed) == 0 {
+            return Ok(0);
+        }
         by.lock()?;
         let mut woken = 0;
         let mut refused = None;
@@ -141,7 +161,8 @@ impl Condvar {
         refused.map_or(Ok(woken), Err)
     }
 
-    /// Wakes the seat that has waited longest, and answers how many were woken: 0 or 1. Refused: `Foreign`, `Spent`.
+    /// Wakes the seat that has waited longest, and answers how many were woken: 0 or 1. A thread that gains the mutex after a wait has
+    /// given it up finds that wait. If nobody waits, a wake is one load. Refused: `Foreign`, `Spent`.
     pub fn wake_one<T>(&self, by: &mut impl Caller<T>) -> Result<usize, Refusal> {
         self.wake(by.seat(sealed::Inside), 1)
     }

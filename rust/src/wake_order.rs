@@ -1,11 +1,15 @@
 //! In which order a wait and a wake ring and give the list of the condition variable back. They ring last, so that the thread that they
-//! wake finds the list free. The test program has the library's calls itself, and one thread makes them all, so no answer depends on
+//! wake finds the list free. And that a wake finds a wait counted as soon as its seat has given the mutex up. The test program has the library's calls itself, and one thread makes them all, so no answer depends on
 //! when a thread runs.
 use crate::seat::RawMutex;
-use crate::seen_calls::status::NOT_WAITING;
+use crate::seen_calls::status::{NOT_WAITING, SPENT};
 use crate::seen_calls::{where_it_answers, where_it_tells};
 use crate::{mutex, Condvar, Refusal, Seat};
-use std::{cell::RefCell, rc::Rc, sync::Arc};
+use std::{
+    cell::{Cell, RefCell},
+    rc::Rc,
+    sync::{atomic::Ordering::Relaxed, Arc},
+};
 
 /// The answer of a call that was made and granted the mutex to the seat with this number.
 fn granted(number: u64) -> u64 {
@@ -56,6 +60,27 @@ fn a_wait_rings_after_the_list_and_before_it_sleeps() {
         with_rings_at_the_unlock(&mutex, || with_rings_at("lfm_c_receive", &mutex, wait));
     assert_eq!(rings, [0, 0, 0]);
     assert_eq!(waited, (Ok(()), vec![0, 0, 1]));
+}
+
+/// What a wait returns, and how many waits were counted when it was about to give the mutex up and when it had returned.
+fn counted_by_a_wait(status: u64) -> (Result<(), Refusal>, usize, usize) {
+    let (mut first, _second, condvar) = two_seats();
+    let condvar = Rc::new(condvar);
+    let at_start = Rc::new(Cell::new(0));
+    let (seen, counting) = (at_start.clone(), condvar.clone());
+    let start = move || {
+        seen.set(counting.count.load(Relaxed));
+        status
+    };
+    let mut guard = first.lock().unwrap();
+    let waited = where_it_answers("lfm_c_start_wait", start, || condvar.wait(&mut guard));
+    (waited, at_start.get(), condvar.count.load(Relaxed))
+}
+
+#[test]
+fn a_wait_is_counted_before_it_gives_the_mutex_up() {
+    assert_eq!(counted_by_a_wait(granted(2)), (Ok(()), 1, 1));
+    assert_eq!(counted_by_a_wait(SPENT), (Err(Refusal::Spent), 1, 0));
 }
 
 #[test]

@@ -33,12 +33,28 @@ fn a_library_that_refuses() {
     }
 }
 
-/// A condition variable's own mutex has 2^36 takes, which are too many to spend here.
+/// It asks for no mutex, so it costs no take and doesn't sleep.
+#[test]
+fn a_wake_with_nobody_waiting() {
+    let mut seats = mutex(1, 1, ()).unwrap();
+    let seat = &mut seats[0];
+    let condvar = Condvar::new(seat, 1).unwrap();
+    MADE.take();
+    assert_eq!(
+        (condvar.wake_one(seat), condvar.wake_all(seat)),
+        (Ok(0), Ok(0))
+    );
+    assert!(!MADE.take().contains(&"lfm_c_ask"));
+}
+
+/// A condition variable's own mutex has 2^36 takes, which are too many to spend here. The wait ends at once, since a receive usually
+/// answers that the seat holds, and stays listed.
 #[test]
 fn a_condition_variable_without_takes() {
     let mut seats = mutex(1, 1, ()).unwrap();
     let seat = &mut seats[0];
     let condvar = Condvar::new(seat, 1).unwrap();
+    condvar.wait(&mut seat.lock().unwrap()).unwrap();
     MADE.take();
     where_it_tells("lfm_c_ask", SPENT, || {
         assert_eq!(condvar.wake_one(seat), Err(Refusal::Spent));

@@ -172,10 +172,11 @@ static inline lfm_status lfm_gained(lfm_seat *seat, lfm_status status) {
   return status;
 }
 
-/* Before a call that may give the mutex up. */
+/* Before a call that may give the mutex up. If the seat doesn't hold, the call is refused and orders nothing. If it holds more than once, the
+ * call doesn't give the mutex up. */
 static inline void lfm_giving_up(lfm_seat *seat) {
 #ifdef LFM_TELLS_ORDER
-  __tsan_release(seat->mutex);
+  if (lfm_c_depth(seat->handle) == 1) __tsan_release(seat->mutex);
 #endif
   (void)seat;
 }

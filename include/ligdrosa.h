@@ -26,6 +26,7 @@
  *   - A seat is in one call at a time. It goes from one thread to another by a lock, a thread's start or join, or the like.
  *   - All calls of a mutex come from one process: none from a forked child, and none from a signal handler.
  *   - While a mutex or condition variable is opened or closed, no other call of it is made: each has returned before, or begins after.
+ *     But a mutex may be closed while its seats are given back.
  *   - A call that has begun is left to return: no signal handler jumps out of it, and its thread is not cancelled asynchronously. No call
  *     is a cancellation point.
  *
@@ -313,11 +314,16 @@ static inline lfm_status lfm_mutex_new(lfm_mutex *mutex, uint64_t seats, uint64_
   return LFM_DONE;
 }
 
+/* Locks the seats, if no thread takes one or gives one back. */
+static inline bool lfm_try_lock_seats(lfm_mutex *mutex) {
+  uint32_t found = 0;
+  return __atomic_compare_exchange_n(&mutex->seats_lock, &found, 1, false, __ATOMIC_ACQUIRE, __ATOMIC_RELAXED);
+}
+
 /* One thread at a time takes a seat or gives one back. The others sleep until it is done, so that it gets done even if they have a
  * higher priority. */
 static inline void lfm_lock_seats(lfm_mutex *mutex) {
-  uint32_t found = 0;
-  if (__atomic_compare_exchange_n(&mutex->seats_lock, &found, 1, false, __ATOMIC_ACQUIRE, __ATOMIC_RELAXED)) return;
+  if (lfm_try_lock_seats(mutex)) return;
   while (__atomic_exchange_n(&mutex->seats_lock, 2, __ATOMIC_ACQUIRE)) lfm_futex(&mutex->seats_lock, FUTEX_WAIT, 2);
 }
 
@@ -355,11 +361,14 @@ static inline lfm_status lfm_seat_give(lfm_seat *seat) {
   return LFM_DONE;
 }
 
-/* Ends the mutex and gives its memory back. Refused: LFM_BLANK, and LFM_NOT_BACK if one of its seats is not given back. A seat that
- * holds or sleeps can't be given back, so a mutex that is held or asked for is refused. */
+/* Ends the mutex and gives its memory back. It never sleeps. Refused: LFM_BLANK, and LFM_NOT_BACK if one of its seats is not given back.
+ * A seat that holds or sleeps can't be given back, so a mutex that is held or asked for is refused. A seat is not back until the call that
+ * gives it has left the mutex: so a thread may close the mutex beside the last give, again while it is refused, and free its memory. */
 static inline lfm_status lfm_mutex_close(lfm_mutex *mutex) {
   if (!mutex || !mutex->bells) return LFM_BLANK;
+  if (!lfm_try_lock_seats(mutex)) return LFM_NOT_BACK;
   lfm_status status = lfm_status_of(lfm_c_close(mutex->handle));
+  lfm_unlock_seats(mutex);
   if (status != LFM_DONE) return status;
   free(mutex->bells);
   mutex->bells = NULL;

@@ -52,6 +52,16 @@ inline bool has_gained(lfm_status status) {
 // The greatest number of takes that a seat may be allowed.
 inline constexpr uint64_t most_takes = uint64_t(1) << 36;
 
+// The process in which an object was made. A forked child ends the objects of the thread that forked, and no call may be made in it:
+// another thread of the parent may have been taking a seat of the same mutex.
+class process {
+  pid_t made_in = getpid();
+
+public:
+  // Whether it is the process that the caller runs in.
+  bool is_here() const noexcept { return getpid() == made_in; }
+};
+
 // A mutex whose seats are taken in hand. It outlives them.
 class mutex {
   lfm_mutex raw{};
@@ -66,16 +76,19 @@ public:
 };
 
 // A seat of a mutex, for one thread at a time. It ends when it doesn't hold: one that holds is not given back, and nobody else gains the
-// mutex any more.
+// mutex any more. In a forked child it ends without being given back.
 class seat {
   lfm_seat raw{};
+  process of_seat;
 
 public:
   // Throws as lfm_seat_take refuses.
   explicit seat(mutex &of) { made(lfm_seat_take(of.native_handle(), &raw)); }
   seat(const seat &) = delete;
   seat &operator=(const seat &) = delete;
-  ~seat() { lfm_seat_give(&raw); }
+  ~seat() {
+    if (of_seat.is_here()) lfm_seat_give(&raw);
+  }
   lfm_seat *native_handle() noexcept { return &raw; }
   uint64_t number() noexcept { return lfm_number(&raw); }
   uint64_t depth() noexcept { return lfm_depth(&raw); }
@@ -162,7 +175,9 @@ class recursive_mutex {
   }
 
   struct at_end {
+    process of_thread;
     ~at_end() {
+      if (!of_thread.is_here()) return; // the child's copies of the thread's seats are never given back
       here().is_ending = true;
       leave();
     }

@@ -62,6 +62,9 @@ pub enum Refusal {
 }
 
 impl Refusal {
+    /// The refusal that a status tells.
+    #[cold]
+    #[inline(never)]
     fn of(status: u64) -> Refusal {
         match status {
             LIMIT => Refusal::Limit,
@@ -94,16 +97,19 @@ impl fmt::Display for Refusal {
 impl std::error::Error for Refusal {}
 
 /// The status that an answer tells.
+#[inline]
 pub fn status_of(answer: u64) -> u64 {
     answer & 255
 }
 
 /// The number that an answer tells above its status: that of the seat that the call granted the mutex, or 0.
+#[inline]
 pub fn named(answer: u64) -> u64 {
     answer >> 8
 }
 
 /// The status of a call that was made, or why it was refused.
+#[inline]
 pub fn made(status: u64) -> Result<u64, Refusal> {
     if status < BLANK {
         Ok(status)

@@ -8,7 +8,7 @@ use std::{
     ops::{Deref, DerefMut},
     sync::{
         atomic::{AtomicUsize, Ordering::Relaxed},
-        Arc, Mutex,
+        Arc, Mutex, OnceLock,
     },
     thread,
     time::Duration,
@@ -31,6 +31,8 @@ impl<const N: usize> Bytes<N> {
         Bytes(UnsafeCell::new([0; N]))
     }
 
+    /// Where the handle lies.
+    #[inline]
     fn at(&self) -> *mut c_void {
         self.0.get().cast()
     }
@@ -41,12 +43,18 @@ impl<const N: usize> Bytes<N> {
 #[repr(align(64))]
 struct Count(AtomicUsize);
 
-/// A seat spins only if at most this number are queued: as many as there are processors, none if there is one.
+/// A seat spins only if at most this number are queued: as many as there are processors, none if there is one. The processors are counted
+/// once, since std may read files to count them.
 fn near() -> usize {
-    match thread::available_parallelism().map_or(8, NonZeroUsize::get) {
-        1 => 0,
-        processors => processors,
-    }
+    static NEAR: OnceLock<usize> = OnceLock::new();
+    *NEAR.get_or_init(|| {
+        let processors = thread::available_parallelism().map_or(8, NonZeroUsize::get);
+        if processors == 1 {
+            0
+        } else {
+            processors
+        }
+    })
 }
 
 /// A mutex of the library without the value, with a bell for each seat.
@@ -96,10 +104,18 @@ impl RawMutex {
     }
 
     /// Rings the bell of the seat that was granted the mutex, if there is one.
+    #[inline]
     fn wake(&self, wake_up: WakeUp) {
         if let Some(number) = wake_up.0 {
-            self.bells[number.get() as usize].ring();
+            self.ring(number);
         }
+    }
+
+    /// Rings the bell of this seat.
+    #[cold]
+    #[inline(never)]
+    fn ring(&self, number: NonZeroU64) {
+        self.bells[number.get() as usize].ring();
     }
 
     /// How often the bell of each seat has rung, by the seats' numbers.
@@ -109,6 +125,7 @@ impl RawMutex {
     }
 
     /// Rings for the seat that an answer names, and gives the status.
+    #[inline]
     fn told(&self, answer: u64) -> u64 {
         self.wake(WakeUp::of(answer));
         status_of(answer)
@@ -130,6 +147,7 @@ pub(crate) struct WakeUp(Option<NonZeroU64>);
 
 impl WakeUp {
     /// What an answer tells above its status.
+    #[inline]
     fn of(answer: u64) -> WakeUp {
         WakeUp(NonZeroU64::new(named(answer)))
     }
@@ -169,10 +187,14 @@ impl RawSeat {
         })
     }
 
+    /// Where the seat's handle lies.
+    #[inline]
     fn at(&self) -> *mut c_void {
         self.handle.at()
     }
 
+    /// The seat's number: 1 and on.
+    #[inline]
     pub(crate) fn number(&self) -> u64 {
         unsafe { lfm_c_number(self.at()) }
     }
@@ -196,6 +218,8 @@ impl RawSeat {
 
     /// The same for a seat whose grant may come soon: it spins first, unless more than `near` seats are queued. Then it would only
     /// keep a processor from them.
+    #[cold]
+    #[inline(never)]
     fn receive_soon(&mut self) -> u64 {
         let is_near = self.mutex.queued.0.fetch_add(1, Relaxed) < self.mutex.near;
         let status = self.receive(if is_near { LOOK_TIME } else { Duration::ZERO });
@@ -203,6 +227,8 @@ impl RawSeat {
         status
     }
 
+    /// Gains the mutex or deepens the hold, and sleeps until then.
+    #[inline]
     pub(crate) fn lock(&mut self) -> Result<u64, Refusal> {
         let answer = unsafe { lfm_c_ask(self.at()) };
         let status = self.mutex.told(answer);
@@ -213,10 +239,14 @@ impl RawSeat {
         })
     }
 
+    /// Gains the mutex or deepens the hold, without a sleep.
+    #[inline]
     fn try_lock(&mut self) -> Result<u64, Refusal> {
         made(unsafe { lfm_c_try_lock(self.at()) })
     }
 
+    /// Gives one hold up. It is called for a seat that holds, so it isn't refused.
+    #[inline]
     pub(crate) fn unlock(&mut self) {
         let answer = unsafe { lfm_c_unlock(self.at()) };
         self.mutex.told(answer);
@@ -283,12 +313,14 @@ impl<T> Seat<T> {
     }
 
     /// Gains the mutex, for one take, and sleeps until then. Refused: `Spent`, and `DepthFull` if guards were forgotten.
+    #[inline]
     pub fn lock(&mut self) -> Result<Guard<'_, T>, Refusal> {
         self.raw.lock()?;
         Ok(Guard(self))
     }
 
     /// Gains the mutex without a sleep, perhaps before seats that are queued. Refused: as `lock`, and `Busy`.
+    #[inline]
     pub fn try_lock(&mut self) -> Result<Guard<'_, T>, Refusal> {
         self.raw.try_lock()?;
         Ok(Guard(self))
@@ -309,6 +341,7 @@ pub struct Guard<'a, T>(pub(crate) &'a mut Seat<T>);
 
 impl<T> Guard<'_, T> {
     /// Deepens the hold, and costs no take. Refused: `DepthFull`.
+    #[inline]
     pub fn again(&mut self) -> Result<Guard<'_, T>, Refusal> {
         self.0.lock()
     }
@@ -320,6 +353,7 @@ impl<T> Guard<'_, T> {
 }
 
 impl<T> Drop for Guard<'_, T> {
+    #[inline]
     fn drop(&mut self) {
         self.0.raw.unlock();
     }
@@ -328,12 +362,14 @@ impl<T> Drop for Guard<'_, T> {
 impl<T> Deref for Guard<'_, T> {
     type Target = T;
 
+    #[inline]
     fn deref(&self) -> &T {
         unsafe { &*self.0.value.0.get() }
     }
 }
 
 impl<T> DerefMut for Guard<'_, T> {
+    #[inline]
     fn deref_mut(&mut self) -> &mut T {
         unsafe { &mut *self.0.value.0.get() }
     }

@@ -1,13 +1,38 @@
-//! How this crate uses the library's calls. The test program defines those calls itself: it sees which are made, and gives answers that
-//! a library seldom gives. Each test has a thread of its own.
+//! How this crate uses the library's calls, and one of the system. The test program defines those calls itself: it sees which are made,
+//! and gives answers that a library seldom gives. Each test has a thread of its own.
 mod seen_calls;
 
 use ligdrosa::{mutex, Condvar, Refusal};
 use seen_calls::status::{NO_MEMORY, NO_SEAT, SPENT, TAKEN};
 use seen_calls::{where_it_tells, HANDLES, MADE, ROOMS};
+use std::{
+    ffi::{c_int, c_void},
+    sync::atomic::{AtomicUsize, Ordering::SeqCst},
+};
+
+/// How often the program has asked the system for its processors.
+static ASKED_FOR_PROCESSORS: AtomicUsize = AtomicUsize::new(0);
+
+/// The call by which std asks for them first. It fails, and std asks in another way.
+#[no_mangle]
+extern "C" fn sched_getaffinity(_: c_int, _: usize, _: *mut c_void) -> c_int {
+    ASKED_FOR_PROCESSORS.fetch_add(1, SeqCst);
+    -1
+}
 
 fn refusal_of_mutex() -> Option<Refusal> {
     mutex(1, 1, ()).err()
+}
+
+/// Std also reads files to count the processors, which takes longer than the rest of opening a mutex.
+#[test]
+fn the_processors_are_counted_once() {
+    let seats = mutex(1, 1, ()).unwrap();
+    let asked = ASKED_FOR_PROCESSORS.load(SeqCst);
+    assert_ne!(asked, 0);
+    Condvar::new(&seats[0], 1).unwrap();
+    assert_eq!(refusal_of_mutex(), None);
+    assert_eq!(ASKED_FOR_PROCESSORS.load(SeqCst), asked);
 }
 
 /// It is refused before there is a handle, for which there may be too little room.

@@ -1,8 +1,12 @@
-//! Links the archives that scripts/build_c puts into out/, or into the folder that LIGDROSA_OUT names, and links them anew where they
-//! have changed.
+//! Links the archives that scripts/build_c puts into out/, or into the folder that LIGDROSA_OUT names, and links them anew if they have
+//! changed. It sets `tells_order` if the crate is built for ThreadSanitizer.
 use std::{env, path::PathBuf};
 
 fn main() {
+    println!("cargo:rustc-check-cfg=cfg(tells_order)");
+    if env::var("CARGO_CFG_SANITIZE").is_ok_and(|of| of.split(',').any(|name| name == "thread")) {
+        println!("cargo:rustc-cfg=tells_order");
+    }
     println!("cargo:rerun-if-env-changed=LIGDROSA_OUT");
     let beside =
         PathBuf::from(env::var_os("CARGO_MANIFEST_DIR").unwrap_or_default()).join("../out");

@@ -112,8 +112,8 @@ impl Condvar {
         by.unlock();
         // after the list is given back
         seat.raw.wake(started?);
-        seat.raw.receive(Duration::ZERO);
-        Ok(())
+        let status = seat.raw.receive(Duration::ZERO);
+        seat.raw.gained(status).map(|_| ())
     }
 
     /// Sends the oldest of those that wait, whose seat then gains the mutex or is queued. The list's mutex is held. `left` is the

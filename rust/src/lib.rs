@@ -16,6 +16,7 @@
 
 mod condvar;
 mod library;
+mod order;
 mod seat;
 mod sleep;
 

@@ -1,5 +1,6 @@
 //! A mutex by its seats: how they are made, and how a seat locks.
 use crate::library::*;
+use crate::order;
 use crate::sleep::Bell;
 use std::{
     cell::UnsafeCell,
@@ -8,7 +9,7 @@ use std::{
     ops::{Deref, DerefMut},
     sync::{
         atomic::{AtomicUsize, Ordering::Relaxed},
-        Arc, Mutex, OnceLock,
+        Arc, Mutex,
     },
     thread,
     time::Duration,
@@ -43,18 +44,24 @@ impl<const N: usize> Bytes<N> {
 #[repr(align(64))]
 struct Count(AtomicUsize);
 
-/// A seat spins only if at most this number are queued: as many as there are processors, none if there is one. The processors are counted
-/// once, since std may read files to count them.
+/// How many processors the program may use; 8 if the system doesn't tell. They are counted once, since std may read files for it. Threads
+/// that open their first mutexes at the same time may each count.
+fn processors() -> usize {
+    static COUNTED: AtomicUsize = AtomicUsize::new(0);
+    let mut count = COUNTED.load(Relaxed);
+    if count == 0 {
+        count = thread::available_parallelism().map_or(8, NonZeroUsize::get);
+        COUNTED.store(count, Relaxed);
+    }
+    count
+}
+
+/// A seat spins only if at most this number are queued: as many as there are processors, none if there is one.
 fn near() -> usize {
-    static NEAR: OnceLock<usize> = OnceLock::new();
-    *NEAR.get_or_init(|| {
-        let processors = thread::available_parallelism().map_or(8, NonZeroUsize::get);
-        if processors == 1 {
-            0
-        } else {
-            processors
-        }
-    })
+    match processors() {
+        1 => 0,
+        count => count,
+    }
 }
 
 /// A mutex of the library without the value, with a bell for each seat.
@@ -199,6 +206,11 @@ impl RawSeat {
         unsafe { lfm_c_number(self.at()) }
     }
 
+    /// How often the seat holds.
+    fn depth(&self) -> u64 {
+        unsafe { lfm_c_depth(self.at()) }
+    }
+
     /// Sleeps until the seat, which is asleep, is granted the mutex, after it has looked for `look_time`.
     pub(crate) fn receive(&mut self, look_time: Duration) -> u64 {
         let bell = &self.mutex.bells[self.number() as usize];
@@ -231,29 +243,44 @@ impl RawSeat {
     #[inline]
     pub(crate) fn lock(&mut self) -> Result<u64, Refusal> {
         let answer = unsafe { lfm_c_ask(self.at()) };
-        let status = self.mutex.told(answer);
-        made(if status == ASLEEP {
-            self.receive_soon()
-        } else {
-            status
-        })
+        let mut status = self.mutex.told(answer);
+        if status == ASLEEP {
+            status = self.receive_soon();
+        }
+        self.gained(status)
+    }
+
+    /// The status of a call that gains the mutex or deepens the hold, or why it was refused.
+    #[inline]
+    pub(crate) fn gained(&self, status: u64) -> Result<u64, Refusal> {
+        let status = made(status)?;
+        order::acquire(self.mutex.handle.at());
+        Ok(status)
+    }
+
+    /// Before a call that may give the mutex up.
+    #[inline]
+    fn giving_up(&self) {
+        order::release(self.mutex.handle.at(), || self.depth());
     }
 
     /// Gains the mutex or deepens the hold, without a sleep.
     #[inline]
     fn try_lock(&mut self) -> Result<u64, Refusal> {
-        made(unsafe { lfm_c_try_lock(self.at()) })
+        self.gained(unsafe { lfm_c_try_lock(self.at()) })
     }
 
     /// Gives one hold up. It is called for a seat that holds, so it isn't refused.
     #[inline]
     pub(crate) fn unlock(&mut self) {
+        self.giving_up();
         let answer = unsafe { lfm_c_unlock(self.at()) };
         self.mutex.told(answer);
     }
 
     /// Gives the mutex up, and leaves the seat asleep until it is sent. The caller has to make the wake-up.
     pub(crate) fn start_wait(&mut self) -> Result<WakeUp, Refusal> {
+        self.giving_up();
         let answer = unsafe { lfm_c_start_wait(self.at()) };
         made(status_of(answer)).map(|_| WakeUp::of(answer))
     }
@@ -348,7 +375,7 @@ impl<T> Guard<'_, T> {
 
     /// How often the seat holds.
     pub fn depth(&self) -> u64 {
-        unsafe { lfm_c_depth(self.0.raw.at()) }
+        self.0.raw.depth()
     }
 }
 

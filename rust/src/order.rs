@@ -1,0 +1,28 @@
+//! What a lock and an unlock order, told to ThreadSanitizer, which doesn't see into the library. `build.rs` sets `tells_order` if the crate
+//! is built for it. Otherwise these functions do nothing.
+use std::ffi::c_void;
+
+#[cfg(tells_order)]
+extern "C" {
+    fn __tsan_acquire(mutex: *mut c_void);
+    fn __tsan_release(mutex: *mut c_void);
+}
+
+/// After a call that has gained this mutex.
+#[inline]
+pub fn acquire(_mutex: *mut c_void) {
+    #[cfg(tells_order)]
+    unsafe {
+        __tsan_acquire(_mutex)
+    }
+}
+
+/// Before a call that may give this mutex up, by a seat that holds this often. If it doesn't hold, the call is refused and orders nothing.
+/// If it holds more than once, the call doesn't give the mutex up.
+#[inline]
+pub fn release(_mutex: *mut c_void, _depth: impl FnOnce() -> u64) {
+    #[cfg(tells_order)]
+    if _depth() == 1 {
+        unsafe { __tsan_release(_mutex) }
+    }
+}

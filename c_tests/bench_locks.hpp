@@ -19,7 +19,7 @@ struct Seated {
     for (int i = 0; i < MOST; i++) seats.push_back(std::make_unique<lfm::seat>(mutex));
   }
   lfm_seat *seat(int thread) { return seats[size_t(thread)]->native_handle(); }
-  void lock(int thread) { lfm_lock(seat(thread)); }
+  void lock(int thread) { lfm::made(lfm_lock(seat(thread))); }
   bool try_lock(int thread) { return !lfm_is_refused(lfm_try_lock(seat(thread))); }
   void unlock(int thread) { lfm_unlock(seat(thread)); }
 };
@@ -29,7 +29,7 @@ struct SeatedCondition {
   Seated *of;
   explicit SeatedCondition(Seated &lock) : of(&lock) { lfm::made(lfm_condvar_new(&raw, lock.mutex.native_handle())); }
   ~SeatedCondition() { lfm_condvar_close(&raw); }
-  void wait(int thread) { lfm_wait(&raw, of->seat(thread)); }
+  void wait(int thread) { lfm::made(lfm_wait(&raw, of->seat(thread))); }
   void wake_one(int thread) { lfm_wake_one(&raw, of->seat(thread)); }
   void wake_all(int thread) { lfm_wake_all(&raw, of->seat(thread)); }
 };

@@ -111,7 +111,7 @@ static void refusals_of_seats() {
   lock.lock();
   lock.unlock();
   EXPECT(refusal_of([&] { lock.lock(); }), LFM_SPENT);
-  EXPECT(refusal_of([&] { lock.try_lock(); }), LFM_SPENT);
+  EXPECT(refusal_of([&] { (void)lock.try_lock(); }), LFM_SPENT);
 }
 
 static void refusals_of_threads() {
@@ -127,7 +127,7 @@ static void refusals_of_threads() {
   }
   for (int i = 0; i < 2; i++) std::lock_guard<lfm::recursive_mutex> lock(mutex);
   EXPECT(refusal_of([&] { mutex.lock(); }), LFM_SPENT);
-  EXPECT(refusal_of([&] { mutex.try_lock(); }), LFM_SPENT);
+  EXPECT(refusal_of([&] { (void)mutex.try_lock(); }), LFM_SPENT);
   std::thread([&] {
     lfm::condition_variable condition(mutex);
     EXPECT(refusal_of([&] { condition.notify_one(); }), LFM_NO_SEAT);

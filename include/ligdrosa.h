@@ -85,6 +85,9 @@ typedef enum lfm_status {
 /* Whether the call was refused. */
 static inline bool lfm_is_refused(lfm_status status) { return status >= LFM_BLANK; }
 
+/* The compiler warns if the status of such a call is not used. A program that goes on after a refused lock would not hold the mutex. */
+#define LFM_NODISCARD __attribute__((warn_unused_result))
+
 /* The library's own calls. Programs use those below. A handle is memory of the size and alignment that the library tells, and a
  * call makes it blank before any other is given it. A call answers a status in the low 8 bits. Above it an ask, unlock, start_wait
  * or send tells the number of the seat that it granted the mutex and that is to be woken, or 0, and a close that is refused tells
@@ -377,7 +380,7 @@ static inline lfm_status lfm_mutex_close(lfm_mutex *mutex) {
 
 /* Gains the mutex, for one take, or deepens the hold: LFM_DONE or LFM_AGAIN. It sleeps until then.
  * Refused: LFM_BLANK, LFM_SEAT_ASLEEP, LFM_DEPTH_FULL, LFM_SPENT. */
-static inline lfm_status lfm_lock(lfm_seat *seat) {
+LFM_NODISCARD static inline lfm_status lfm_lock(lfm_seat *seat) {
   if (!seat || !seat->mutex) return LFM_BLANK;
   lfm_status status = lfm_told(seat->mutex, lfm_c_ask(seat->handle));
   if (__builtin_expect(status == LFM_ASLEEP, 0)) status = lfm_receive_soon(seat);
@@ -386,7 +389,7 @@ static inline lfm_status lfm_lock(lfm_seat *seat) {
 
 /* Gains the mutex or deepens the hold, and never sleeps: LFM_DONE or LFM_AGAIN. It may come before seats that are queued.
  * Refused: LFM_BLANK, LFM_SEAT_ASLEEP, LFM_DEPTH_FULL, LFM_SPENT, and LFM_BUSY, which gives the take back. */
-static inline lfm_status lfm_try_lock(lfm_seat *seat) {
+LFM_NODISCARD static inline lfm_status lfm_try_lock(lfm_seat *seat) {
   if (!seat || !seat->mutex) return LFM_BLANK;
   return lfm_gained(seat, (lfm_status)lfm_c_try_lock(seat->handle));
 }
@@ -473,7 +476,7 @@ static inline lfm_status lfm_condvar_refuses(lfm_condvar *condvar, lfm_seat *sea
  * after a call of lfm_wake_one or lfm_wake_all, but another seat may hold the mutex in between: wait in a loop that tests what is waited
  * for. If the seat's own state refuses the wait, that still costs one of the condition variable's 2^36 takes, and may have slept.
  * Refused: LFM_BLANK, LFM_FOREIGN, LFM_SEAT_ASLEEP, LFM_NOT_OWNER, LFM_NESTED, LFM_SPENT. */
-static inline lfm_status lfm_wait(lfm_condvar *condvar, lfm_seat *seat) {
+LFM_NODISCARD static inline lfm_status lfm_wait(lfm_condvar *condvar, lfm_seat *seat) {
   lfm_status status = lfm_condvar_refuses(condvar, seat);
   if (status != LFM_DONE) return status;
   lfm_seat *by = &condvar->seats[lfm_c_number(seat->handle)];

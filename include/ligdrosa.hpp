@@ -106,7 +106,7 @@ public:
   void lock() { made(lfm_lock(of)); }
   // False if at some moment of the call another seat held the mutex, asked for it or was giving it up. Otherwise throws as
   // lfm_try_lock refuses.
-  bool try_lock() { return has_gained(lfm_try_lock(of)); }
+  [[nodiscard]] bool try_lock() { return has_gained(lfm_try_lock(of)); }
   // Throws as lfm_unlock refuses.
   void unlock() { made(lfm_unlock(of)); }
 };
@@ -229,7 +229,7 @@ public:
   void lock() {
     made(by_own([](lfm_seat *seat) { return lfm_lock(seat); }));
   }
-  bool try_lock() {
+  [[nodiscard]] bool try_lock() {
     return has_gained(by_own([](lfm_seat *seat) { return lfm_try_lock(seat); }));
   }
   void unlock() {

@@ -363,7 +363,14 @@ impl<T> Seat<T> {
 }
 
 /// While it lives, its seat holds the mutex. Dropped, it gives one hold up, even if a panic drops it: the next seat finds the value
-/// as the panic left it, and nothing tells of that.
+/// as the panic left it, and nothing tells of that. The compiler warns of one that is dropped at once:
+///
+/// ```compile_fail
+/// #![deny(unused_must_use)]
+/// let mut seats = ligdrosa::mutex(1, 1, ()).unwrap();
+/// seats[0].lock().unwrap();
+/// ```
+#[must_use = "a guard that is dropped at once gives its hold up"]
 pub struct Guard<'a, T>(pub(crate) &'a mut Seat<T>);
 
 impl<T> Guard<'_, T> {

@@ -149,7 +149,8 @@ class recursive_mutex {
   struct own_thread {
     const shared *last; // the mutex that the thread called last, or null
     lfm_seat *seat;     // the seat of that mutex
-    own_seats *all;     // null where there is none
+    own_seats *all;     // null if it has none
+    size_t most;        // how many seats it may have before those of ended mutexes are given back
     bool is_ending;     // the seats of the thread were given back, as its objects end
   };
 
@@ -163,6 +164,15 @@ class recursive_mutex {
     own_seats &all = *here().all;
     here().last = nullptr;
     for (auto at = all.begin(); at != all.end();) at = is_over(at->second) ? all.erase(at) : std::next(at);
+  }
+
+  // Gives back the seats of mutexes that have ended, once the thread has twice as many seats as were left the last time, and one more. So
+  // to take a seat doesn't take longer the more seats the thread has.
+  static void give_back_ended() {
+    own_thread &mine = here();
+    if (mine.all->size() <= mine.most) return;
+    give_back([](const own_seat &seat) { return seat.of->is_gone.load(); });
+    mine.most = 2 * mine.all->size();
   }
 
   // Gives back each seat of the thread that doesn't hold, when its objects end, and from there on after each call. One that holds is kept,
@@ -189,7 +199,7 @@ class recursive_mutex {
   own_seat &take() {
     if (!here().all) here().all = new own_seats();
     thread_local at_end ends;
-    give_back([](const own_seat &seat) { return seat.of->is_gone.load(); });
+    give_back_ended();
     return here().all->emplace(state.get(), own_seat(state)).first->second;
   }
 
@@ -211,7 +221,7 @@ public:
   explicit recursive_mutex(uint64_t most_threads = 64, uint64_t budget = most_takes) { made(lfm_mutex_new(&state->raw, most_threads, budget)); }
   recursive_mutex(const recursive_mutex &) = delete;
   recursive_mutex &operator=(const recursive_mutex &) = delete;
-  // Each thread gives its seat back by itself, at its end or as it takes another.
+  // Each thread gives its seat back by itself, at its end or as it takes others.
   ~recursive_mutex() { state->is_gone = true; }
 
   lfm_mutex *native_handle() noexcept { return &state->raw; }

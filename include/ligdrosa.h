@@ -1,12 +1,12 @@
-/* Ligdrosa for C: a recursive mutex that hands itself on in the order of its queue, and a condition variable.
+/* Ligdrosa for C: a recursive mutex that is granted in the order of its queue, and a condition variable.
  *
  * The calls of the mutex are those of a static library, liblfm_c.a, whose code is proved. It neither sleeps nor wakes. This
- * header adds what isn't proved: how a thread sleeps until its seat is granted the mutex, how it is woken, how seats are taken and
- * given back, and the list of those that wait at a condition variable. No call's own contract says that no two seats hold at once:
- * that follows from the rule that each step of the library keeps (docs/LAWS.md, tables_are_steady and one_seat_owns).
+ * header adds what isn't proved: how a thread sleeps until its seat is granted the mutex, how it is woken, how seats are taken
+ * and given back, and the list of those that wait at a condition variable. No call's own contract says that no two seats hold
+ * at once: that follows from the rule that each step of the library keeps (docs/LAWS.md, tables_are_steady and one_seat_owns).
  *
  *     static lfm_mutex mutex;
- *     static _Thread_local lfm_seat seat;            one for each thread (thread_local in C++), given back before the thread ends
+ *     static _Thread_local lfm_seat seat;            one for each thread (thread_local in C++), given back before it ends
  *
  *     lfm_mutex_new(&mutex, 4, 1000000);             4 seats, each of which takes the mutex at most a million times
  *     lfm_seat_take(&mutex, &seat);
@@ -17,18 +17,18 @@
  *     lfm_seat_give(&seat);
  *     lfm_mutex_close(&mutex);
  *
- * Each call answers a status. Null, a mutex that is not open and a seat that is not taken are answered by LFM_BLANK, and a call
+ * Each call answers a status. Null, a mutex that is not open and a seat that is not taken are answered by LFM_BLANK. A call
  * that is refused has changed nothing, unless it says so. Only calls that open or close change errno. What a program promises,
  * and nothing checks:
  *
- *   - An lfm_mutex, lfm_seat or lfm_condvar is zero before its first call (static, calloc, `= {0}`), lies still while it is in
- *     use, and is touched by these calls alone.
+ *   - An lfm_mutex, lfm_seat or lfm_condvar is zero before its first call (static, calloc, `= {0}`), is not moved while it is
+ *     in use, and is touched by these calls alone.
  *   - A seat is in one call at a time. It goes from one thread to another by a lock, a thread's start or join, or the like.
  *   - All calls of a mutex come from one process: none from a forked child, and none from a signal handler.
- *   - While a mutex or condition variable is opened or closed, no other call of it is made: each has returned before, or begins after.
- *     But a mutex may be closed while its seats are given back.
- *   - A call that has begun is left to return: no signal handler jumps out of it, and its thread is not cancelled asynchronously. No call
- *     is a cancellation point.
+ *   - While a mutex or condition variable is opened or closed, no other call of it is made: each has returned before, or
+ *     begins after. But a mutex may be closed while its seats are given back.
+ *   - A call that has begun returns: no signal handler jumps out of it, and its thread is not cancelled asynchronously. No
+ *     call is a cancellation point.
  *
  * It needs Linux with addresses of 64 bits, and gcc or clang with C11 or C++11. Link liblfm_c.a and then liblibc_c.a. */
 #ifndef LIGDROSA_H
@@ -85,13 +85,15 @@ typedef enum lfm_status {
 /* Whether the call was refused. */
 static inline bool lfm_is_refused(lfm_status status) { return status >= LFM_BLANK; }
 
-/* The compiler warns if the status of such a call is not used. A program that goes on after a refused lock would not hold the mutex. */
+/* The compiler warns if the status of such a call is not used. A program that goes on after a refused lock would not hold the
+ * mutex. */
 #define LFM_NODISCARD __attribute__((warn_unused_result))
 
-/* The library's own calls. Programs use those below. A handle is memory of the size and alignment that the library tells, and a
- * call makes it blank before any other is given it. A call answers a status in the low 8 bits. Above it an ask, unlock, start_wait
- * or send tells the number of the seat that it granted the mutex and that is to be woken, or 0, and a close that is refused tells
- * the first seat that hinders it. A seat's number, depth and takes left are plain numbers, and 0 of a blank handle. */
+/* The library's own calls. Programs use those below. A handle is memory of the size and alignment that the library tells, and
+ * a call makes it blank before any other is given it. A call answers a status in the low 8 bits. Above it an ask, unlock,
+ * start_wait or send tells the number of the seat that it granted the mutex and that is to be woken, or 0, and a close that is
+ * refused tells the first seat that hinders it. A seat's number, depth and takes left are plain numbers, and 0 of a blank
+ * handle. */
 /* scripts/write_c_sides writes the exports from here */
 size_t lfm_c_mutex_size(void);
 size_t lfm_c_mutex_align(void);
@@ -115,15 +117,20 @@ uint64_t lfm_c_send(void *seat, uint64_t number);
 /* to here */
 
 enum { LFM_LINE = 64, LFM_ALIGNMENT = 16, LFM_MUTEX_BYTES = 128, LFM_SEAT_BYTES = 256 };
-enum { LFM_MONOTONIC = 1 /* CLOCK_MONOTONIC of Linux */, LFM_PAUSES_PER_LOOK = 4, LFM_LOOKS_PER_TIME = 16 /* between two readings of the clock */ };
+enum {
+  LFM_MONOTONIC = 1, /* CLOCK_MONOTONIC of Linux */
+  LFM_PAUSES_PER_LOOK = 4,
+  LFM_LOOKS_PER_TIME = 16 /* between two readings of the clock */
+};
 
-/* What programs make is aligned as memory of malloc is. So that no two of them share a cache line wherever they lie, each ends with
- * a line that nothing uses. */
+/* What programs make is aligned as memory of malloc is. Each ends with a line that nothing uses, so that no two of them share a
+ * cache line wherever they lie. */
 #define LFM_ALIGNED __attribute__((aligned(16)))
 
-/* For how many nanoseconds a queued seat spins, looking whether it is granted the mutex, before its thread sleeps: about as long as two
- * wake-ups by the system. If it is shorter, one thread that sleeps soon makes all that queue behind it sleep too. 0 means: sleep at
- * once. With one processor a seat never spins, nor if more seats are queued than the program has processors. */
+/* For how many nanoseconds a queued seat spins, looking whether it is granted the mutex, before its thread sleeps: about as
+ * long as two wake-ups by the system. If it is shorter, one thread that sleeps soon makes all that queue behind it sleep too.
+ * 0 means: sleep at once. With one processor a seat never spins, nor if more seats are queued than the program has
+ * processors. */
 #ifndef LFM_LOOK_NANOSECONDS
 #define LFM_LOOK_NANOSECONDS 20000
 #endif
@@ -140,7 +147,7 @@ typedef struct lfm_mutex {
   lfm_bell *bells;
   uint64_t seats;
   uint32_t seats_lock; /* 0; or 1 while a seat is taken or given back, and 2 if another thread may sleep until that is done */
-  uint32_t near;       /* a seat spins only if at most this number are queued: as many as there are processors, none if there is one */
+  uint32_t near;       /* a seat spins only if at most this number are queued: the number of processors, or 0 if there is one */
   unsigned char apart[LFM_LINE];
   uint32_t queued; /* how many seats are queued by lfm_lock */
   unsigned char apart_from_others[LFM_LINE];
@@ -167,7 +174,7 @@ void __tsan_acquire(void *);
 void __tsan_release(void *);
 #endif
 
-/* After a call that may have gained the mutex. */
+/* Tells ThreadSanitizer of a call that may have gained the mutex, after it, and returns the call's status. */
 static inline lfm_status lfm_gained(lfm_seat *seat, lfm_status status) {
 #ifdef LFM_TELLS_ORDER
   if (!lfm_is_refused(status)) __tsan_acquire(seat->mutex);
@@ -176,8 +183,8 @@ static inline lfm_status lfm_gained(lfm_seat *seat, lfm_status status) {
   return status;
 }
 
-/* Before a call that may give the mutex up. If the seat doesn't hold, the call is refused and orders nothing. If it holds more than once, the
- * call doesn't give the mutex up. */
+/* Tells ThreadSanitizer of a call that may give the mutex up, before it. If the seat doesn't hold, the call is refused and
+ * orders nothing. If it holds more than once, the call doesn't give the mutex up. */
 static inline void lfm_giving_up(lfm_seat *seat) {
 #ifdef LFM_TELLS_ORDER
   if (lfm_c_depth(seat->handle) == 1) __tsan_release(seat->mutex);
@@ -187,16 +194,19 @@ static inline void lfm_giving_up(lfm_seat *seat) {
 
 /* How threads sleep and wake.
  *
- * Each grant is rung for. One call grants the mutex to at most one seat, and its answer names that seat, which is proved. So whoever
- * made the call rings that seat's bell before its own thread sleeps. A wait and a wake give the list of the condition variable back before
- * they ring, and that never sleeps. The woken thread may need the list at once, and would sleep again if the list were still held.
+ * Each grant is rung for. One call grants the mutex to at most one seat, and its answer names that seat, which is proved. So
+ * the thread that made the call rings that seat's bell before it sleeps itself. A wait and a wake give the list of the
+ * condition variable back before they ring, and that never sleeps. The woken thread may need the list at once, and would sleep
+ * again if the list were still held.
  *
- * No ring is missed. A seat's thread reads how often the bell has rung, makes a receive, and looks or sleeps only while the bell has
- * rung no more than that. A grant is stored before its ring. So if the ring comes before the reading, the receive finds the grant. Else
- * a look finds another number of rings. The last look comes after `sleeps` is set, so a ring that it doesn't find will find `sleeps` set, and
- * wakes the thread. If the thread is not asleep by then, the system compares the number of rings and doesn't put it to sleep.
+ * No ring is missed. A seat's thread reads how often the bell has rung, makes a receive, and looks or sleeps only while the
+ * bell has rung no more than that. A grant is stored before its ring. If the ring comes before the reading, the receive finds
+ * the grant. Otherwise a look finds another number of rings. The last look comes after `sleeps` is set. So a ring that it
+ * doesn't find will find `sleeps` set, and wakes the thread. If the thread is not asleep by then, the system compares the
+ * number of rings and doesn't put it to sleep.
  *
- * The ringer's own seat is in a call, and a mutex is closed only after all seats are back: so the bell outlives the ring. */
+ * A ring comes from a call of another seat, and a mutex is closed only after all seats are back. So the bell outlives the
+ * ring. */
 
 #ifndef __cplusplus
 /* strict C11 leaves these undeclared; otherwise they are declared a second time */
@@ -207,28 +217,32 @@ int clock_gettime(int clock, struct timespec *now);
 #pragma GCC diagnostic pop
 #endif
 
+/* A call of futex that leaves errno as it was. */
 static inline void lfm_futex(uint32_t *word, int operation, uint32_t value) {
   int before = errno;
   syscall(SYS_futex, word, operation | FUTEX_PRIVATE_FLAG, value, NULL, NULL, 0);
   errno = before;
 }
 
+/* Rings the bell of the seat with this number, and wakes its thread if that sleeps. */
 static inline void lfm_ring(lfm_mutex *mutex, uint64_t number) {
   lfm_bell *bell = &mutex->bells[number];
   __atomic_fetch_add(&bell->rings, 1, __ATOMIC_SEQ_CST);
   if (__atomic_load_n(&bell->sleeps, __ATOMIC_SEQ_CST)) lfm_futex(&bell->rings, FUTEX_WAKE, 1);
 }
 
-/* The two parts of an answer: the status, and the number of the seat that it names, or 0. */
+/* The status that an answer tells. */
 static inline lfm_status lfm_status_of(uint64_t answer) { return (lfm_status)(answer & 255); }
+/* The number of the seat that an answer names above its status, or 0. */
 static inline uint64_t lfm_named(uint64_t answer) { return answer >> 8; }
 
-/* Rings for the seat that an answer names, and gives the status. */
+/* Rings for the seat that an answer names, and returns the status. */
 static inline lfm_status lfm_told(lfm_mutex *mutex, uint64_t answer) {
   if (__builtin_expect(answer > 255, 0)) lfm_ring(mutex, lfm_named(answer));
   return lfm_status_of(answer);
 }
 
+/* Tells the processor that its thread waits in a loop. */
 static inline void lfm_pause(void) {
 #if defined(__x86_64__) || defined(__i386__)
   __builtin_ia32_pause();
@@ -237,14 +251,15 @@ static inline void lfm_pause(void) {
 #endif
 }
 
+/* The time on a clock that is never set. */
 static inline uint64_t lfm_nanoseconds(void) {
   struct timespec now;
   clock_gettime(LFM_MONOTONIC, &now);
   return (uint64_t)now.tv_sec * 1000000000 + (uint64_t)now.tv_nsec;
 }
 
-/* Looks for this many nanoseconds whether the bell rings again, after it has rung `seen` times. A look loads the bell alone, which no other
- * seat's steps touch, after some pauses. */
+/* Looks for this many nanoseconds whether the bell rings again, after it has rung `seen` times. A look loads the bell alone,
+ * which no other seat's steps touch, after some pauses. */
 static inline bool lfm_hears(lfm_bell *bell, uint32_t seen, uint64_t nanoseconds) {
   if (nanoseconds == 0) return false;
   uint64_t begun = lfm_nanoseconds();
@@ -272,8 +287,8 @@ static inline lfm_status lfm_receive(lfm_seat *seat, uint64_t nanoseconds) {
   }
 }
 
-/* The same for a seat whose grant may come soon: it spins first, unless more than `near` seats are queued. Then it would only keep a
- * processor from them. */
+/* The same for a seat whose grant may come soon: it spins first, unless more than `near` seats are queued. Then it would only
+ * keep a processor from them. */
 static inline lfm_status lfm_receive_soon(lfm_seat *seat) {
   uint32_t *queued = &seat->mutex->queued;
   bool is_near = __atomic_add_fetch(queued, 1, __ATOMIC_RELAXED) <= seat->mutex->near;
@@ -323,21 +338,22 @@ static inline bool lfm_try_lock_seats(lfm_mutex *mutex) {
   return __atomic_compare_exchange_n(&mutex->seats_lock, &found, 1, false, __ATOMIC_ACQUIRE, __ATOMIC_RELAXED);
 }
 
-/* One thread at a time takes a seat or gives one back. The others sleep until it is done, so that it gets done even if they have a
- * higher priority. */
+/* One thread at a time takes a seat or gives one back. The others sleep until it is done, so that it gets done even if they
+ * have a higher priority. */
 static inline void lfm_lock_seats(lfm_mutex *mutex) {
   if (lfm_try_lock_seats(mutex)) return;
   while (__atomic_exchange_n(&mutex->seats_lock, 2, __ATOMIC_ACQUIRE)) lfm_futex(&mutex->seats_lock, FUTEX_WAIT, 2);
 }
 
+/* Lets another thread take a seat or give one back, and wakes one that may sleep until then. */
 static inline void lfm_unlock_seats(lfm_mutex *mutex) {
   if (__atomic_exchange_n(&mutex->seats_lock, 0, __ATOMIC_RELEASE) == 2) lfm_futex(&mutex->seats_lock, FUTEX_WAKE, 1);
 }
 
-/* Takes a seat of the mutex: the one that was given back last, or else the next that was never taken. A seat that was given back keeps
- * its number and the takes that it has made, so one without takes is refused as LFM_SPENT until the mutex is closed and opened anew.
- * Refused: LFM_BLANK, LFM_TAKEN, LFM_NO_SEAT. Other threads may take and give back seats at the same time: each may sleep until the
- * other is done. */
+/* Takes a seat of the mutex: the one that was given back last, or else the next that was never taken. A seat that was given
+ * back keeps its number and the takes that it has made. If it has no take left, its locks are refused as LFM_SPENT until the
+ * mutex is closed and opened anew. Other threads may take and give back seats at the same time: each may sleep until the other
+ * is done. Refused: LFM_BLANK, LFM_TAKEN, LFM_NO_SEAT. */
 static inline lfm_status lfm_seat_take(lfm_mutex *mutex, lfm_seat *seat) {
   if (!mutex || !seat || !mutex->bells) return LFM_BLANK;
   if (seat->mutex) return LFM_TAKEN;
@@ -364,9 +380,10 @@ static inline lfm_status lfm_seat_give(lfm_seat *seat) {
   return LFM_DONE;
 }
 
-/* Ends the mutex and gives its memory back. It never sleeps. Refused: LFM_BLANK, and LFM_NOT_BACK if one of its seats is not given back.
- * A seat that holds or sleeps can't be given back, so a mutex that is held or asked for is refused. A seat is not back until the call that
- * gives it has left the mutex: so a thread may close the mutex beside the last give, again while it is refused, and free its memory. */
+/* Ends the mutex and gives its memory back. It never sleeps. Refused: LFM_BLANK, and LFM_NOT_BACK if one of its seats is not
+ * given back. A seat that holds or sleeps can't be given back, so a mutex that is held or asked for is refused. A seat is back
+ * once the call that gives it has left the mutex. So a thread may call this beside the last give until it is not refused, and
+ * then free the memory of the mutex. */
 static inline lfm_status lfm_mutex_close(lfm_mutex *mutex) {
   if (!mutex || !mutex->bells) return LFM_BLANK;
   if (!lfm_try_lock_seats(mutex)) return LFM_NOT_BACK;
@@ -402,15 +419,17 @@ static inline lfm_status lfm_unlock(lfm_seat *seat) {
   return lfm_told(seat->mutex, lfm_c_unlock(seat->handle));
 }
 
-/* The seat's number, 1 and on; how often it holds; how many takes it has left. They are 0 of a seat that is not taken. */
+/* The seat's number, 1 and on, or 0 of a seat that is not taken. */
 static inline uint64_t lfm_number(lfm_seat *seat) { return seat && seat->mutex ? lfm_c_number(seat->handle) : 0; }
+/* How often the seat holds. */
 static inline uint64_t lfm_depth(lfm_seat *seat) { return seat && seat->mutex ? lfm_c_depth(seat->handle) : 0; }
+/* How many takes the seat has left, or 0 of a seat that is not taken. */
 static inline uint64_t lfm_left(lfm_seat *seat) { return seat && seat->mutex ? lfm_c_left(seat->handle) : 0; }
 
 /* The condition variable */
 
 /* Those that wait, the oldest first, guarded by a mutex of its own. The user's seat with the number n uses the list's seat n,
- * so no two threads use one. `of` is null while the condition variable is not open. A wake that finds no count leaves the list alone. */
+ * so no two threads use one. `of` is null while the condition variable is not open. If `count` is 0, a wake does no more. */
 typedef struct lfm_condvar {
   lfm_mutex list;
   lfm_mutex *of;
@@ -421,8 +440,11 @@ typedef struct lfm_condvar {
 } LFM_ALIGNED lfm_condvar;
 
 /* Stores how many wait. The list is held. */
-static inline void lfm_condvar_count(lfm_condvar *condvar, uint64_t count) { __atomic_store_n(&condvar->count, count, __ATOMIC_RELAXED); }
+static inline void lfm_condvar_count(lfm_condvar *condvar, uint64_t count) {
+  __atomic_store_n(&condvar->count, count, __ATOMIC_RELAXED);
+}
 
+/* Gives the memory of a condition variable back, also if it was opened in part. */
 static inline void lfm_condvar_free(lfm_condvar *condvar) {
   if (condvar->seats)
     for (uint64_t i = 1; i <= condvar->list.seats; i++) lfm_seat_give(&condvar->seats[i]);
@@ -434,9 +456,8 @@ static inline void lfm_condvar_free(lfm_condvar *condvar) {
   condvar->of = NULL;
 }
 
-/* Opens a condition variable for the seats of this mutex, which is closed after it. Its own mutex allows each of them 2^36 waits and
- * wakes.
- * Refused: LFM_BLANK, LFM_TAKEN, LFM_NO_MEMORY. No call after it takes memory. */
+/* Opens a condition variable for the seats of this mutex, which is closed after it. Its own mutex allows each of them 2^36
+ * waits and wakes. Refused: LFM_BLANK, LFM_TAKEN, LFM_NO_MEMORY. No call after it takes memory. */
 static inline lfm_status lfm_condvar_new(lfm_condvar *condvar, lfm_mutex *mutex) {
   if (!condvar || !mutex || !mutex->bells) return LFM_BLANK;
   if (condvar->of) return LFM_TAKEN;
@@ -465,6 +486,7 @@ static inline lfm_status lfm_condvar_close(lfm_condvar *condvar) {
   return LFM_DONE;
 }
 
+/* Why a wait or a wake by this seat is refused whatever state the seat is in, or LFM_DONE. */
 static inline lfm_status lfm_condvar_refuses(lfm_condvar *condvar, lfm_seat *seat) {
   if (!condvar || !condvar->of || !seat || !seat->mutex) return LFM_BLANK;
   /* a mutex that was closed and opened anew in between may have more seats */
@@ -472,9 +494,10 @@ static inline lfm_status lfm_condvar_refuses(lfm_condvar *condvar, lfm_seat *sea
   return is_known ? LFM_DONE : LFM_FOREIGN;
 }
 
-/* Gives the mutex up, which the seat holds once, waits until a wake, and gains the mutex again, for one take: LFM_DONE. It returns only
- * after a call of lfm_wake_one or lfm_wake_all, but another seat may hold the mutex in between: wait in a loop that tests what is waited
- * for. If the seat's own state refuses the wait, that still costs one of the condition variable's 2^36 takes, and may have slept.
+/* Gives the mutex up, which the seat holds once, waits until a wake, and gains the mutex again, for one take: LFM_DONE. It
+ * returns only after a call of lfm_wake_one or lfm_wake_all, but another seat may hold the mutex in between: wait in a loop
+ * that tests what is waited for. If the seat's own state refuses the wait, that still costs one of the condition variable's
+ * 2^36 takes, and may have slept.
  * Refused: LFM_BLANK, LFM_FOREIGN, LFM_SEAT_ASLEEP, LFM_NOT_OWNER, LFM_NESTED, LFM_SPENT. */
 LFM_NODISCARD static inline lfm_status lfm_wait(lfm_condvar *condvar, lfm_seat *seat) {
   lfm_status status = lfm_condvar_refuses(condvar, seat);
@@ -497,9 +520,10 @@ LFM_NODISCARD static inline lfm_status lfm_wait(lfm_condvar *condvar, lfm_seat *
   return lfm_gained(seat, lfm_receive(seat, 0));
 }
 
-/* Sends the oldest of those that wait, whose seat then gains the mutex or is queued. The list's mutex is held. `granted` is the number
- * of the seat that the caller rings for once it has given the list back, or 0. A wake grants the mutex again only after the seat of its
- * last grant has gained it and given it up. That seat is rung for at once, so that the caller keeps one number alone. */
+/* Sends the oldest of those that wait, whose seat then gains the mutex or is queued. The list's mutex is held. `granted` is the
+ * number of the seat that the caller rings for once it has given the list back, or 0. A wake grants the mutex again only after
+ * the seat of its last grant has gained it and given it up. That seat is rung for at once, so that the caller keeps one number
+ * alone. */
 static inline lfm_status lfm_send_oldest(lfm_condvar *condvar, lfm_seat *seat, uint64_t *granted) {
   if (condvar->count == 0) return LFM_NOBODY;
   uint64_t answer = lfm_c_send(seat->handle, condvar->waiting[condvar->first]);
@@ -513,6 +537,7 @@ static inline lfm_status lfm_send_oldest(lfm_condvar *condvar, lfm_seat *seat, u
   return LFM_DONE;
 }
 
+/* Wakes the oldest of those that wait, or all. */
 static inline lfm_status lfm_wake(lfm_condvar *condvar, lfm_seat *seat, bool all) {
   lfm_status status = lfm_condvar_refuses(condvar, seat);
   if (status != LFM_DONE) return status;
@@ -528,9 +553,10 @@ static inline lfm_status lfm_wake(lfm_condvar *condvar, lfm_seat *seat, bool all
   return status;
 }
 
-/* Wakes the seat that has waited longest, if any: LFM_DONE or LFM_NOBODY. The caller's seat may hold the mutex or not. A thread that gains
- * the mutex after a wait has given it up finds that wait. If nobody waits, a wake is one load: it costs no take and never sleeps, and a seat
- * that sleeps is told so, not refused. Else it costs one take of the condition variable, and may sleep until the list is free.
+/* Wakes the seat that has waited longest, if any: LFM_DONE or LFM_NOBODY. The caller's seat may hold the mutex or not. A
+ * thread that gains the mutex after a wait has given it up finds that wait. If nobody waits, a wake is one load: it costs no
+ * take and never sleeps, and a seat that sleeps is told so, not refused. Otherwise it costs one take of the condition variable,
+ * and may sleep until the list is free.
  * Refused: LFM_BLANK, LFM_FOREIGN, LFM_SEAT_ASLEEP, LFM_SPENT (of the condition variable's own 2^36). */
 static inline lfm_status lfm_wake_one(lfm_condvar *condvar, lfm_seat *seat) { return lfm_wake(condvar, seat, false); }
 

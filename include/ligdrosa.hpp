@@ -1,13 +1,16 @@
 // Ligdrosa for C++17, over ligdrosa.h, which says what a program promises.
 //
-// lfm::recursive_mutex is used as std::recursive_mutex, and lfm::condition_variable as std::condition_variable, without waits that
-// are timed:
+// lfm::recursive_mutex is used as std::recursive_mutex, and lfm::condition_variable as std::condition_variable, without waits
+// that are timed:
 //
 //     lfm::recursive_mutex mutex(8);             // 8 seats, one for each living thread that has locked it
 //     lfm::condition_variable filled(mutex);
 //
 //     std::unique_lock lock(mutex);
 //     filled.wait(lock, [&] { return !queue.empty(); });
+//
+// Unlike std::recursive_mutex, it is not used before its constructor or after its destructor. So the constructor of a global
+// doesn't lock a global mutex of another file, and a thread that goes on after main doesn't lock one for the first time.
 //
 // If a thread is to have its seat in hand, lfm::mutex gives lfm::seat, and lfm::seat_lock is the seat as a Lockable. The
 // locks of the standard library take both, and so does std::condition_variable_any.
@@ -31,7 +34,8 @@ class refused : public std::runtime_error {
   lfm_status told;
 
 public:
-  explicit refused(lfm_status status) : std::runtime_error("ligdrosa refuses a call: " + std::to_string(status)), told(status) {}
+  explicit refused(lfm_status status)
+      : std::runtime_error("ligdrosa refuses a call: " + std::to_string(status)), told(status) {}
   // Why.
   lfm_status status() const noexcept { return told; }
 };
@@ -52,8 +56,8 @@ inline bool has_gained(lfm_status status) {
 // The greatest number of takes that a seat may be allowed.
 inline constexpr uint64_t most_takes = uint64_t(1) << 36;
 
-// The process in which an object was made. A forked child ends the objects of the thread that forked, and no call may be made in it:
-// another thread of the parent may have been taking a seat of the same mutex.
+// The process in which an object was made. A forked child ends the objects of the thread that forked, but makes no call with
+// them: another thread of the parent may have been in a call of the same mutex, and the child doesn't have that thread.
 class process {
   pid_t made_in = getpid();
 
@@ -62,7 +66,7 @@ public:
   bool is_here() const noexcept { return getpid() == made_in; }
 };
 
-// A mutex whose seats are taken in hand. It outlives them.
+// A mutex whose seats are taken in hand, and all end before it.
 class mutex {
   lfm_mutex raw{};
 
@@ -75,8 +79,8 @@ public:
   lfm_mutex *native_handle() noexcept { return &raw; }
 };
 
-// A seat of a mutex, for one thread at a time. It ends when it doesn't hold: one that holds is not given back, and nobody else gains the
-// mutex any more. In a forked child it ends without being given back.
+// A seat of a mutex, for one thread at a time. It ends while it doesn't hold: one that holds is not given back, and nobody else
+// gains the mutex any more. In a forked child it ends without being given back.
 class seat {
   lfm_seat raw{};
   process of_seat;
@@ -111,30 +115,34 @@ public:
   void unlock() { made(lfm_unlock(of)); }
 };
 
-// A mutex that finds the seat of the calling thread by itself. A thread takes a seat at its first call and gives it back when its
-// objects end, so as many threads may use it at a time as it has seats: more are refused as LFM_NO_SEAT, by an exception. A thread that
-// takes over a seat goes on with that seat's takes, and a seat without takes is refused as LFM_SPENT: 2^36 are enough for 19 hours of a
-// lock in each microsecond.
+// A mutex that finds the seat of the calling thread by itself. A thread takes a seat at its first call and gives it back when
+// its objects end, so as many threads may use it at a time as it has seats: more are refused as LFM_NO_SEAT, by an exception. A
+// thread that comes takes the seat that was given back last, and goes on with that seat's takes. So threads that come one after
+// another share the takes of one seat: 2^36 are 19 hours of a lock in each microsecond. Once they are spent, the lock of each
+// thread that comes is refused as LFM_SPENT, though other seats have takes.
 //
-// Objects of a thread that end after its seats are given back may lock too, and so may objects that end with the program: a call takes a
-// seat then, and gives it back once it doesn't hold.
+// Objects of a thread that end after its seats are given back may lock too, and so may objects that end with the program: a
+// call takes a seat then, and gives it back once it doesn't hold. A forked child gives no seat back.
 //
-// A shared object that hides its symbols finds seats by itself: a thread has another seat there than elsewhere, so what it locks in one
-// place it can't lock once more, or unlock, in the other.
+// A shared object that hides its symbols finds seats by itself: a thread has another seat there than elsewhere, so what it
+// locks in one place it can't lock once more, or unlock, in the other.
 class recursive_mutex {
   friend class condition_variable;
 
-  // The mutex lies here as long as it or the seat of a thread is there.
+  // The mutex, which is closed once the recursive_mutex and the seats of all threads have ended.
   struct shared {
     lfm_mutex raw{};
     std::atomic<bool> is_gone{false}; // the recursive_mutex has ended
     ~shared() { lfm_mutex_close(&raw); }
   };
 
+  // A thread's seat of one mutex.
   struct own_seat {
     std::shared_ptr<shared> of;
     std::unique_ptr<lfm_seat> raw;
-    own_seat(std::shared_ptr<shared> mutex) : of(std::move(mutex)), raw(new lfm_seat()) { made(lfm_seat_take(&of->raw, raw.get())); }
+    own_seat(std::shared_ptr<shared> mutex) : of(std::move(mutex)), raw(new lfm_seat()) {
+      made(lfm_seat_take(&of->raw, raw.get()));
+    }
     own_seat(own_seat &&) = default;
     ~own_seat() {
       // If it holds, the mutex has ended before the hold: both are leaked.
@@ -142,7 +150,7 @@ class recursive_mutex {
     }
   };
 
-  // The seats of a thread, by where their mutexes lie. A seat keeps its mutex there, so no other can come to lie there meanwhile.
+  // The seats of a thread, by the addresses of their mutexes. A seat keeps its mutex, so no other gets that address meanwhile.
   using own_seats = std::map<const shared *, own_seat>;
 
   // What a thread has. It has no destructor, so that it is there for objects of the thread that end late.
@@ -154,6 +162,7 @@ class recursive_mutex {
     bool is_ending;     // the seats of the thread were given back, as its objects end
   };
 
+  // What the calling thread has.
   static own_thread &here() {
     thread_local own_thread it{};
     return it;
@@ -166,8 +175,8 @@ class recursive_mutex {
     for (auto at = all.begin(); at != all.end();) at = is_over(at->second) ? all.erase(at) : std::next(at);
   }
 
-  // Gives back the seats of mutexes that have ended, once the thread has twice as many seats as were left the last time, and one more. So
-  // to take a seat doesn't take longer the more seats the thread has.
+  // Gives back the seats of mutexes that have ended, once the thread has more than twice as many seats as were left the last
+  // time. So it doesn't take longer to take a seat the more seats the thread has.
   static void give_back_ended() {
     own_thread &mine = here();
     if (mine.all->size() <= mine.most) return;
@@ -175,8 +184,8 @@ class recursive_mutex {
     mine.most = 2 * mine.all->size();
   }
 
-  // Gives back each seat of the thread that doesn't hold, when its objects end, and from there on after each call. One that holds is kept,
-  // for an object that gives the hold up later.
+  // Gives back each seat of the thread that doesn't hold, when its objects end, and from there on after each call. One that
+  // holds is kept, for an object that gives the hold up later.
   static void leave() {
     give_back([](const own_seat &seat) { return lfm_depth(seat.raw.get()) == 0; });
     if (!here().all->empty()) return;
@@ -184,6 +193,7 @@ class recursive_mutex {
     here().all = nullptr;
   }
 
+  // Ends with the objects of a thread that has taken a seat, and gives its seats back.
   struct at_end {
     process of_thread;
     ~at_end() {
@@ -203,6 +213,7 @@ class recursive_mutex {
     return here().all->emplace(state.get(), own_seat(state)).first->second;
   }
 
+  // The calling thread's seat, if it is not that of the mutex that the thread called last.
   __attribute__((noinline)) own_seat &find() {
     if (!here().all) return take();
     auto at = here().all->find(state.get());
@@ -218,7 +229,9 @@ class recursive_mutex {
 
 public:
   // Throws as lfm_mutex_new refuses.
-  explicit recursive_mutex(uint64_t most_threads = 64, uint64_t budget = most_takes) { made(lfm_mutex_new(&state->raw, most_threads, budget)); }
+  explicit recursive_mutex(uint64_t most_threads = 64, uint64_t budget = most_takes) {
+    made(lfm_mutex_new(&state->raw, most_threads, budget));
+  }
   recursive_mutex(const recursive_mutex &) = delete;
   recursive_mutex &operator=(const recursive_mutex &) = delete;
   // Each thread gives its seat back by itself, at its end or as it takes others.
@@ -226,8 +239,8 @@ public:
 
   lfm_mutex *native_handle() noexcept { return &state->raw; }
 
-  // The calling thread's seat. Throws LFM_NO_SEAT if too many threads have one. While the thread's objects end, it is there until the
-  // next call of a recursive_mutex.
+  // The calling thread's seat. Throws LFM_NO_SEAT if too many threads have one. While the thread's objects end, it is kept
+  // until the next call of a recursive_mutex.
   lfm_seat *own() {
     own_thread &mine = here();
     if (mine.last == state.get()) return mine.seat;
@@ -236,22 +249,27 @@ public:
     return mine.seat;
   }
 
+  // Throws as lfm_lock refuses, and LFM_NO_SEAT.
   void lock() {
     made(by_own([](lfm_seat *seat) { return lfm_lock(seat); }));
   }
+  // False if at some moment of the call another seat held the mutex, asked for it or was giving it up. Otherwise throws as
+  // lfm_try_lock refuses, and LFM_NO_SEAT.
   [[nodiscard]] bool try_lock() {
     return has_gained(by_own([](lfm_seat *seat) { return lfm_try_lock(seat); }));
   }
+  // Throws as lfm_unlock refuses, and LFM_NO_SEAT.
   void unlock() {
     made(by_own([](lfm_seat *seat) { return lfm_unlock(seat); }));
   }
 };
 
-// A condition variable of one mutex. A wait returns only after a notify, but another thread may hold the mutex in between: wait in a
-// loop that tests what is waited for.
+// A condition variable of one mutex. A wait returns only after a notify, but another thread may hold the mutex in between: wait
+// in a loop that tests what is waited for.
 class condition_variable {
-  // The condition variable lies here until the last wait has returned. It may end earlier, as std::condition_variable may: once all that
-  // wait are notified. A thread that goes on may be so quick that another's wait still gives the list back.
+  // The condition variable, which is closed once the last wait has returned. The object may end earlier, as
+  // std::condition_variable may: once all that wait are notified. A thread that goes on may be so quick that another's wait
+  // still gives the list back.
   struct shared {
     lfm_condvar raw{};
     ~shared() { lfm_condvar_close(&raw); }
@@ -262,7 +280,9 @@ class condition_variable {
 
 public:
   // Throws as lfm_condvar_new refuses.
-  explicit condition_variable(recursive_mutex &mutex) : of(&mutex) { made(lfm_condvar_new(&state->raw, mutex.native_handle())); }
+  explicit condition_variable(recursive_mutex &mutex) : of(&mutex) {
+    made(lfm_condvar_new(&state->raw, mutex.native_handle()));
+  }
   condition_variable(const condition_variable &) = delete;
   condition_variable &operator=(const condition_variable &) = delete;
 
@@ -271,13 +291,16 @@ public:
     std::shared_ptr<shared> kept = state;
     made(lock.mutex()->by_own([&](lfm_seat *seat) { return lfm_wait(&kept->raw, seat); }));
   }
+  // Waits until the predicate is true.
   template <class Predicate> void wait(std::unique_lock<recursive_mutex> &lock, Predicate predicate) {
     while (!predicate()) wait(lock);
   }
-  // Wakes the thread that has waited longest, or all; a thread that calls them needs a seat, as for a lock.
+  // Wakes the thread that has waited longest. The calling thread needs a seat, as for a lock. Throws as lfm_wake_one refuses,
+  // and LFM_NO_SEAT.
   void notify_one() {
     made(of->by_own([&](lfm_seat *seat) { return lfm_wake_one(&state->raw, seat); }));
   }
+  // Wakes all threads that wait. Throws as notify_one does.
   void notify_all() {
     made(of->by_own([&](lfm_seat *seat) { return lfm_wake_all(&state->raw, seat); }));
   }

@@ -1,7 +1,8 @@
-// Times Ligdrosa's mutex and condition variable beside those of pthread (mutexes normal and recursive) and of the standard library, all in
-// one process and in turn, so that other load on the machine meets all alike: bench [ROUNDS]. A line has the median of the rounds, the
-// least and the greatest: nanoseconds for a lock and an unlock, for a round trip or for a broadcast, and in the rows of fairness
-// how many times as often the thread that gained the mutex most did so as the one that did so least.
+// Times Ligdrosa's mutex and condition variable beside those of pthread (mutexes normal and recursive) and of the standard
+// library, all in one process and in turn, so that other load on the machine meets all alike: bench [ROUNDS]. A line has the
+// median of the rounds, the least and the greatest: nanoseconds for a lock and an unlock, for a round trip or for a broadcast,
+// and in the rows of fairness how many times as often the thread that gained the mutex most did so as the one that did so
+// least.
 #include <algorithm>
 #include <barrier>
 #include <chrono>
@@ -19,7 +20,10 @@ static Standard<std::mutex> standard;
 static Standard<std::recursive_mutex> standard_recursive;
 static uint64_t total;
 
-static uint64_t now() { return uint64_t(std::chrono::duration_cast<std::chrono::nanoseconds>(std::chrono::steady_clock::now().time_since_epoch()).count()); }
+static uint64_t now() {
+  auto time = std::chrono::steady_clock::now().time_since_epoch();
+  return uint64_t(std::chrono::duration_cast<std::chrono::nanoseconds>(time).count());
+}
 
 static void turn(int count) {
   for (int i = 0; i < count; i++) __asm__ volatile("" ::: "memory");
@@ -101,7 +105,8 @@ template <class Lock> static double together(Lock &lock, int threads, int inside
   return nanoseconds / (double(pairs) * threads);
 }
 
-// This many threads with short sections for 50 milliseconds: how many times as often the quickest gained the mutex as the slowest.
+// This many threads with short sections for 50 milliseconds: how many times as often the quickest gained the mutex as the
+// slowest.
 template <class Lock> static double fairness(Lock &lock, int threads) {
   std::vector<uint64_t> gained(size_t(threads), 0);
   in_threads(threads, [&](int thread) {
@@ -170,7 +175,8 @@ static void tell(const std::string &what, int rounds, const std::vector<Row> &ro
     for (size_t k = 0; k < rows.size(); k++) times[k].push_back(rows[k].time());
   for (size_t k = 0; k < rows.size(); k++) {
     std::sort(times[k].begin(), times[k].end());
-    std::printf("%-34s %-28s %9.1f  (%.1f to %.1f)\n", what.c_str(), rows[k].name.c_str(), times[k][size_t(rounds) / 2], times[k].front(), times[k].back());
+    double median = times[k][size_t(rounds) / 2], least = times[k].front(), greatest = times[k].back();
+    std::printf("%-34s %-28s %9.1f  (%.1f to %.1f)\n", what.c_str(), rows[k].name.c_str(), median, least, greatest);
   }
   std::fflush(stdout);
 }

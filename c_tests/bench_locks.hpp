@@ -1,5 +1,5 @@
-// The mutexes and condition variables that are measured, in one form: a thread says its number, 0 and on, with each call. What is
-// measured of them stands in bench.cpp.
+// The mutexes and condition variables that are measured, in one form: a thread says its number, 0 and on, with each call. What
+// is measured of them stands in bench.cpp.
 #pragma once
 #include <pthread.h>
 

@@ -1,6 +1,6 @@
-// A producer and two consumers at a buffer, with lfm::condition_variable and with std::condition_variable_any: each number comes out
-// once. And a lock of two mutexes at a time, of seats in hand, of more threads than there are seats, and of mutexes that end before or
-// after the threads that used them; and that refusals are thrown.
+// A producer and two consumers at a buffer, with lfm::condition_variable and with std::condition_variable_any: each number
+// comes out once. And a lock of two mutexes at a time, of seats in hand, of more threads than there are seats, and of mutexes
+// that end before or after the threads that used them; and that refusals are thrown.
 #include <atomic>
 #include <condition_variable>
 #include <deque>

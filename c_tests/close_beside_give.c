@@ -1,7 +1,8 @@
-/* A mutex is closed by one thread while another gives the last seat back. The close is refused until that call has left the mutex, whose
- * memory is given back at once after it.
+/* A mutex is closed by one thread while another gives the last seat back. The close is refused until that call has left the
+ * mutex, whose memory is given back at once after it.
  *
- * The test wraps the give of the library: when the library has the seat, its thread waits until the other has tried to close the mutex. */
+ * The test wraps the give of the library: when the library has the seat, its thread waits until the other has tried to close
+ * the mutex. */
 #define lfm_c_give_seat seen_give_seat
 #include "expect.h"
 #undef lfm_c_give_seat

@@ -1,8 +1,9 @@
-// What ends early or late: a condition variable that ends while a wait of it is about to return, and objects that lock when they end, after
-// the seats of their thread were given back.
+// What ends early or late: a condition variable that ends while a wait of it is about to return, and objects that lock when
+// they end, after the seats of their thread were given back.
 //
-// The test wraps the calls of the library, so that threads meet at points at which they seldom would: a thread that begins to wait holds the list until
-// another has asked for it, and when it has given the list to that one, it goes on only once the condition variable has ended.
+// The test wraps the calls of the library, so that threads meet at points at which they seldom would: a thread that begins to
+// wait holds the list until another has asked for it, and when it has given the list to that one, it goes on only once the
+// condition variable has ended.
 #define lfm_c_ask seen_ask
 #define lfm_c_start_wait seen_start_wait
 #define lfm_c_unlock seen_unlock

@@ -1,4 +1,5 @@
-/* What the tests in C share: a wanted answer, and threads that begin together. A test ends with status 1 at its first wrong answer. */
+/* What the tests in C share: a wanted answer, and threads that begin together. A test ends with status 1 at its first wrong
+ * answer. */
 #ifndef EXPECT_H
 #define EXPECT_H
 #include <pthread.h>
@@ -8,7 +9,8 @@
 
 static inline void wanted(const char *file, int line, const char *what, uint64_t found, uint64_t wanted) {
   if (found == wanted) return;
-  fprintf(stderr, "%s:%d: %s is %llu, and %llu is wanted\n", file, line, what, (unsigned long long)found, (unsigned long long)wanted);
+  fprintf(stderr, "%s:%d: %s is %llu, and %llu is wanted\n", file, line, what, (unsigned long long)found,
+          (unsigned long long)wanted);
   exit(1);
 }
 #define EXPECT(what, is) wanted(__FILE__, __LINE__, #what, (uint64_t)(what), (uint64_t)(is))

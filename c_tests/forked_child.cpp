@@ -1,5 +1,5 @@
-// A child that is forked while another thread takes a seat ends at once. Its one thread has seats of the same mutexes. If it gave them back
-// as its objects end, it would wait for the other thread, which the child doesn't have.
+// A child that is forked while another thread takes a seat ends at once. Its one thread has seats of the same mutexes. If it
+// gave them back as its objects end, it would wait for the other thread, which the child doesn't have.
 //
 // The test wraps the take of the library: once the first thread has its seats, a take stops until the child has ended.
 #define lfm_c_take_seat seen_take_seat

@@ -1,5 +1,5 @@
-/* Each request for memory is refused in turn: the call answers LFM_NO_MEMORY, has changed nothing, and leaks nothing. It is linked with
- * --wrap for malloc, realloc, free and aligned_alloc. */
+/* Each request for memory is refused in turn: the call answers LFM_NO_MEMORY, has changed nothing, and leaks nothing. It is
+ * linked with --wrap for malloc, realloc, free and aligned_alloc. */
 #include "expect.h"
 
 static long allowed = -1; /* how many more requests are granted; all of them if it is below 0 */
@@ -22,7 +22,9 @@ static void *counted(void *block) {
 }
 
 void *__wrap_malloc(size_t size) { return is_refused() ? NULL : counted(__real_malloc(size)); }
-void *__wrap_aligned_alloc(size_t align, size_t size) { return is_refused() ? NULL : counted(__real_aligned_alloc(align, size)); }
+void *__wrap_aligned_alloc(size_t align, size_t size) {
+  return is_refused() ? NULL : counted(__real_aligned_alloc(align, size));
+}
 
 void *__wrap_realloc(void *block, size_t size) {
   if (is_refused()) return NULL;
@@ -54,7 +56,8 @@ static lfm_status make_mutex(void) { return lfm_mutex_new(&mutex, 3, 100); }
 static lfm_status make_condvar(void) { return lfm_condvar_new(&condvar, &mutex); }
 
 int main(void) {
-  /* 7 for the library's mutex, as scripts/refuse_memory counts, and one each for what its seats share, a list of them, and the bells */
+  /* 7 for the library's mutex, as scripts/refuse_memory counts, and one each for what its seats share, a list of them, and the
+   * bells */
   EXPECT(refuse_each(make_mutex), 10);
   allowed = 0; /* no other call asks for memory */
   EXPECT(lfm_seat_take(&mutex, &seat), LFM_DONE);

@@ -1,5 +1,5 @@
-/* Each refusal, in one thread: a refused call changes nothing. And memory of calloc is aligned enough. Refused memory has a test of
- * its own.
+/* Each refusal, in one thread: a refused call changes nothing. And memory of calloc is aligned enough. Refused memory has a
+ * test of its own.
  *
  * The test wraps the calls that tell the sizes of handles, so that the library can seem to be of another version. */
 #define lfm_c_mutex_size seen_mutex_size
@@ -146,8 +146,8 @@ static void both_back(void) {
   EXPECT(lfm_mutex_close(&mutex), LFM_DONE);
 }
 
-/* As many seats are given back as the mutex has, and one of them is another mutex's, with a number that is back already. So a seat of
- * its own is missing, whether it holds or not. Once each seat is back at its mutex, both mutexes close. */
+/* As many seats are given back as the mutex has, and one of them is another mutex's, with a number that is back already. So a
+ * seat of its own is missing, whether it holds or not. Once each seat is back at its mutex, both mutexes close. */
 static void a_seat_of_another_mutex(void) {
   static lfm_mutex other;
   two_seats_of(10);

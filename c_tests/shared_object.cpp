@@ -1,5 +1,5 @@
-// A program and a shared object that hides its symbols each make a mutex, their first. A thread that has a seat of the program's mutex
-// and calls the other gains the other, and not the program's.
+// A program and a shared object that hides its symbols each make a mutex, their first. A thread that has a seat of the
+// program's mutex and calls the other gains the other, and not the program's.
 //
 // This file is compiled twice: with IS_SHARED_OBJECT it makes the shared object.
 #include "ligdrosa.hpp"

@@ -1,8 +1,8 @@
-/* Threads lock, lock again and try at random, and sleep at their first look: soak SECONDS THREADS. The totals are exact, and the
- * test fails if the threads make no progress.
+/* Threads lock, lock again and try at random, and sleep at their first look: soak SECONDS THREADS. The totals are exact, and
+ * the test fails if the threads make no progress.
  *
- * A seat's ask may grant the mutex to another seat, which sleeps, and only the answer of that ask tells that it is to be woken. That is
- * rare, so the test wraps the asks of the header: it prints how many seats they named, and how many of these slept. */
+ * A seat's ask may grant the mutex to another seat, which sleeps, and only the answer of that ask tells that it is to be woken.
+ * That is rare, so the test wraps the asks of the header: it prints how many seats they named, and how many of these slept. */
 #define LFM_LOOK_NANOSECONDS 0
 #define lfm_c_ask seen_ask
 #include "expect.h"

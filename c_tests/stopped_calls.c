@@ -1,13 +1,13 @@
 /* Asks that are stopped between their atomic operations, so that one grants the mutex to another seat, which sleeps.
  *
- * Only the answer of such an ask tells whom to wake. It takes three seats: the first gives the mutex up while the second has begun to
- * ask, so it posts; the second is queued; then the third takes the post over and finds the second in the queue, which sleeps by then.
- * Threads that run freely meet so seldom. Here the second and the third are stopped before each of their operations in turn, in all ways, and
- * the test fails if no ask has granted the mutex to a seat that sleeps, if a seat is not woken, or if no unlock of the first has told
- * that it posted.
+ * Only the answer of such an ask tells whom to wake. It takes three seats: the first gives the mutex up while the second has
+ * begun to ask, so it posts; the second is queued; then the third takes the post over and finds the second in the queue, which
+ * sleeps by then. Threads that run freely meet so seldom. Here the second and the third are stopped before each of their
+ * operations in turn, in all ways, and the test fails if no ask has granted the mutex to a seat that sleeps, if a seat is not
+ * woken, or if no unlock of the first has told that it posted.
  *
- * A thread is stopped by the processor's trap flag: after each instruction of an ask comes a signal, whose handler waits if the next
- * instruction is an atomic operation that is not allowed yet. So the test needs an x86-64. */
+ * A thread is stopped by the processor's trap flag: after each instruction of an ask comes a signal, whose handler waits if the
+ * next instruction is an atomic operation that is not allowed yet. So the test needs an x86-64. */
 #define _GNU_SOURCE
 #define LFM_LOOK_NANOSECONDS 0
 #define lfm_c_ask stopped_ask
@@ -78,7 +78,8 @@ static void *call(void *at) {
 /* Allows the thread this many operations, and waits until it has been stopped, sleeps or is done. */
 static void allow(caller *c, int operations) {
   set(&c->allowed, operations);
-  while (seen(&c->begun) <= operations && !seen(&c->is_done) && !__atomic_load_n(&c->seat->bell->sleeps, __ATOMIC_SEQ_CST)) sched_yield();
+  uint32_t *sleeps = &c->seat->bell->sleeps;
+  while (seen(&c->begun) <= operations && !seen(&c->is_done) && !__atomic_load_n(sleeps, __ATOMIC_SEQ_CST)) sched_yield();
 }
 
 static void begin(caller *c, lfm_seat *seat, int operations) {
@@ -89,8 +90,8 @@ static void begin(caller *c, lfm_seat *seat, int operations) {
   allow(c, operations);
 }
 
-/* The second seat is stopped before its operation i + 1 while the first gives the mutex up, and then before j + 1; the third before k + 1,
- * while the second goes on to its end or falls asleep. */
+/* The second seat is stopped before its operation i + 1 while the first gives the mutex up, and then before j + 1; the third
+ * before k + 1, while the second goes on to its end or falls asleep. */
 static void run(int i, int j, int k) {
   caller second, third;
   runs[0] = (unsigned)i, runs[1] = (unsigned)j, runs[2] = (unsigned)k;

@@ -1,8 +1,8 @@
-/* In which order a wait and a wake ring and give the list of the condition variable back. They ring last, so that the thread that they
- * wake finds the list free. And that a wake finds a wait counted as soon as its seat has given the mutex up.
+/* In which order a wait and a wake ring and give the list of the condition variable back. They ring last, so that the thread
+ * that they wake finds the list free. And that a wake finds a wait counted as soon as its seat has given the mutex up.
  *
- * One thread makes the calls of all seats, so no answer depends on when a thread runs. The test wraps the calls of the library: it makes
- * the calls that another thread would make before a receive or a send. */
+ * One thread makes the calls of all seats, so no answer depends on when a thread runs. The test wraps the calls of the library:
+ * it makes the calls that another thread would make before a receive or a send. */
 #define lfm_c_ask seen_ask
 #define lfm_c_receive seen_receive
 #define lfm_c_unlock seen_unlock
@@ -163,7 +163,8 @@ static void a_wake_of_all(void) {
   close_all();
 }
 
-/* Before the second send of a wake the first seat, which was just sent, gains the mutex and gives it up. So both sends grant it. */
+/* Before the second send of a wake the first seat, which was just sent, gains the mutex and gives it up. So both sends grant
+ * it. */
 static void first_is_through(void) { pass_on(&seats[1], LFM_DONE); }
 static void after_the_first_send(void) { before_send = first_is_through; }
 

@@ -1,5 +1,5 @@
-//! Links the archives that scripts/build_c puts into out/, or into the folder that LIGDROSA_OUT names, and links them anew if they have
-//! changed. It sets `tells_order` if the crate is built for ThreadSanitizer.
+//! Links the archives that scripts/build_c puts into out/, or into the folder that LIGDROSA_OUT names, and links them anew if
+//! they have changed. It sets `tells_order` if the crate is built for ThreadSanitizer.
 use std::{env, path::PathBuf};
 
 fn main() {

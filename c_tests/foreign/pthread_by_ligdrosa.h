@@ -1,14 +1,16 @@
-/* The names of pthread_mutex_t and pthread_cond_t over ligdrosa.h, so that programs that are written for those run over Ligdrosa. It is
- * compiled into a test of one file by -include.
+/* The names of pthread_mutex_t and pthread_cond_t over ligdrosa.h, so that programs that are written for those run over
+ * Ligdrosa. It is compiled into a test of one file by -include.
  *
- * A thread has a number, which another may have once it has ended, and with it a seat of each mutex that one with this number has called.
- * A condition variable is opened for the mutex of its first wait. Attributes are the system's own: of them only the kind counts.
+ * A thread has a number, which another may have once it has ended, and with it a seat of each mutex that one with this number
+ * has called. A condition variable is opened for the mutex of its first wait. Attributes are the system's own: of them only the
+ * kind counts.
  *
- * A call that has no counterpart in Ligdrosa ends the program with status 77, and says what it would have needed. At its end a program
- * says how many calls reached Ligdrosa. The system's own mutex guards how mutexes and seats are made, and nothing else.
+ * A call that has no counterpart in Ligdrosa ends the program with status 77, and says what it would have needed. At its end a
+ * program says how many calls reached Ligdrosa. The system's own mutex guards how mutexes and seats are made, and nothing else.
  *
- * A test may destroy a mutex or a condition variable while a call of another thread is about to return. ligdrosa.h wants that call to have
- * returned, so nothing is closed here: a mutex that was destroyed, and so is free, is kept for the next that is made. */
+ * A test may destroy a mutex or a condition variable while a call of another thread is about to return. ligdrosa.h wants that
+ * call to have returned, so nothing is closed here: a mutex that was destroyed, and so is free, is kept for the next that is
+ * made. */
 #ifndef PTHREAD_BY_LIGDROSA_H
 #define PTHREAD_BY_LIGDROSA_H
 #ifndef _GNU_SOURCE

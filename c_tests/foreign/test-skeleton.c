@@ -1,5 +1,5 @@
-/* The end of a test of the GNU C library, which includes it by this name: the function main, and those functions of that library's own
- * test library which tests that fit call. They are called before they are declared, so they give an int. */
+/* The end of a test of the GNU C library, which includes it by this name: the function main, and those functions of that
+ * library's own test library which tests that fit call. They are called before they are declared, so they give an int. */
 #include <pthread.h>
 #include <stdint.h>
 #include <stdlib.h>

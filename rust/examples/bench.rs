@@ -1,6 +1,7 @@
-//! Times this crate's mutex and condition variable beside the standard library's, in turn: bench [ROUNDS]. A line has the median of the
-//! rounds, the least and the greatest: nanoseconds for a lock and an unlock, for a round trip or for a broadcast, and in the rows
-//! of fairness how many times as often the thread that gained the mutex most did so as the one that did so least.
+//! Times this crate's mutex and condition variable beside the standard library's, in turn: bench [ROUNDS]. A line has the
+//! median of the rounds, the least and the greatest: nanoseconds for a lock and an unlock, for a round trip or for a broadcast,
+//! and in the rows of fairness how many times as often the thread that gained the mutex most did so as the one that did so
+//! least.
 use ligdrosa::{mutex, Condvar, Seat};
 use std::{
     env,
@@ -154,7 +155,8 @@ fn spend(turns: u32) {
     }
 }
 
-/// Runs the function for each party in a thread of its own, all at once, and gives the nanoseconds that they took, and what they answered.
+/// Runs the function for each party in a thread of its own, all at once, and gives the nanoseconds that they took, and what
+/// they answered.
 fn in_threads<P: Party, A: Send>(
     parties: Vec<P>,
     work: impl Fn(usize, P) -> A + Sync,

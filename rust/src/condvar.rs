@@ -1,5 +1,6 @@
-//! A condition variable: those that wait, the oldest first, guarded by a mutex of its own. A wait and a wake ring only after they have
-//! given the list back: the thread that is woken may need the list at once, and would sleep again if it were still held.
+//! A condition variable: those that wait, the oldest first, guarded by a mutex of its own. A wait and a wake ring only after
+//! they have given the list back: the thread that is woken may need the list at once, and would sleep again if it were still
+//! held.
 use crate::library::Refusal;
 use crate::seat::{raw_seats, Guard, RawMutex, RawSeat, Seat, WakeUp};
 use std::{
@@ -18,6 +19,7 @@ const MOST_TAKES: u64 = 1 << 36;
 
 /// A condition variable of one mutex. There is no wake without a call of `wake_one` or `wake_all`.
 pub struct Condvar {
+    /// The mutex whose seats wait at it.
     of: Arc<RawMutex>,
     /// The list's seats. The user's seat n uses the list's seat n, so no two calls use one.
     seats: Vec<UnsafeCell<RawSeat>>,
@@ -27,9 +29,13 @@ pub struct Condvar {
     pub(crate) count: AtomicUsize,
 }
 
+// SAFETY: any thread may use it. Each of the list's seats is used by the call that has the user's seat of that number, and the
+// list by the holder of its mutex.
 unsafe impl Send for Condvar {}
+// SAFETY: as for `Send`.
 unsafe impl Sync for Condvar {}
 
+/// What a program may name, but not call.
 mod sealed {
     /// What `seat` is called with. It has no name outside of this crate, so no program can call it by its bound: that could put
     /// another seat in the place of one that holds, and reach a value that it doesn't hold.
@@ -41,7 +47,9 @@ mod sealed {
     /// ```
     pub struct Inside;
 
+    /// Gives the seat that wakes.
     pub trait Sealed<T> {
+        /// The seat itself, or that of a guard.
         fn seat(&mut self, _: Inside) -> &mut super::Seat<T>;
     }
 }
@@ -86,21 +94,27 @@ impl Condvar {
         }
         let at = seat.number() as usize - 1;
         let list_seat = self.seats.get(at).ok_or(Refusal::Foreign)?;
+        // SAFETY: the list's seat of this number is used by the call that has the user's seat of it alone.
         Ok(unsafe { &mut *list_seat.get() })
     }
 
-    /// The list, for a holder of its mutex.
+    /// The list.
+    ///
+    /// # Safety
+    ///
+    /// The caller holds the list's mutex, and has no other reference to the list.
     #[allow(clippy::mut_from_ref)]
     unsafe fn list(&self) -> &mut VecDeque<u64> {
         &mut *self.waiting.get()
     }
 
-    /// Gives the mutex up, waits until a wake, and gains the mutex again, for one take. Refused: `Foreign`, `Nested` if the seat
-    /// holds more than once, `Spent`.
+    /// Gives the mutex up, waits until a wake, and gains the mutex again, for one take. Refused: `Foreign`, `Nested` if the
+    /// seat holds more than once, `Spent`.
     pub fn wait<T>(&self, guard: &mut Guard<'_, T>) -> Result<(), Refusal> {
         let seat = &mut *guard.0;
         let by = self.list_seat(seat)?;
         by.lock()?;
+        // SAFETY: `by` holds the list's mutex.
         let list = unsafe { self.list() };
         // The wait is counted while its seat still holds the mutex, so whoever gains the mutex next finds it counted.
         self.count.store(list.len() + 1, Relaxed);
@@ -110,15 +124,19 @@ impl Condvar {
         }
         self.count.store(list.len(), Relaxed);
         by.unlock();
-        // after the list is given back
+        // After the list is given back.
         seat.raw.wake(started?);
         let status = seat.raw.receive(Duration::ZERO);
         seat.raw.gained(status).map(|_| ())
     }
 
-    /// Sends the oldest of those that wait, whose seat then gains the mutex or is queued. The list's mutex is held. `left` is the
-    /// wake-up that the caller makes once it has given the list back. A wake grants the mutex again only after the seat of its last
-    /// grant has gained it and given it up. That seat is rung for at once, so that the caller keeps one wake-up alone.
+    /// Sends the oldest of those that wait, whose seat then gains the mutex or is queued. `left` is the wake-up that the caller
+    /// makes once it has given the list back. A wake grants the mutex again only after the seat of its last grant has gained it
+    /// and given it up. That seat is rung for at once, so that the caller keeps one wake-up alone.
+    ///
+    /// # Safety
+    ///
+    /// As for `list`.
     unsafe fn send_oldest<T>(
         &self,
         seat: &mut Seat<T>,
@@ -137,6 +155,7 @@ impl Condvar {
         Ok(true)
     }
 
+    /// Wakes the oldest of those that wait, this many at most.
     fn wake<T>(&self, seat: &mut Seat<T>, most: usize) -> Result<usize, Refusal> {
         let by = self.list_seat(seat)?;
         if self.count.load(Relaxed) == 0 {
@@ -147,6 +166,7 @@ impl Condvar {
         let mut refused = None;
         let mut left = WakeUp::default();
         while woken < most {
+            // SAFETY: `by` holds the list's mutex.
             match unsafe { self.send_oldest(seat, &mut left) } {
                 Ok(true) => woken += 1,
                 Ok(false) => break,
@@ -161,8 +181,8 @@ impl Condvar {
         refused.map_or(Ok(woken), Err)
     }
 
-    /// Wakes the seat that has waited longest, and answers how many were woken: 0 or 1. A thread that gains the mutex after a wait has
-    /// given it up finds that wait. If nobody waits, a wake is one load. Refused: `Foreign`, `Spent`.
+    /// Wakes the seat that has waited longest, and answers how many were woken: 0 or 1. A thread that gains the mutex after a
+    /// wait has given it up finds that wait. If nobody waits, a wake is one load. Refused: `Foreign`, `Spent`.
     pub fn wake_one<T>(&self, by: &mut impl Caller<T>) -> Result<usize, Refusal> {
         self.wake(by.seat(sealed::Inside), 1)
     }

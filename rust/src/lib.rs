@@ -1,8 +1,8 @@
 //! A recursive mutex round a value, and a condition variable, over Ligdrosa's static library, whose code is proved. What isn't
 //! proved is this crate: it puts threads to sleep and wakes them, as include/ligdrosa.h does for C.
 //!
-//! `scripts/build_c` makes the library, for Linux. A mutex is used through its seats. A [`Seat`] is `Send` and not `Sync`, and a
-//! [`Guard`] borrows it, so the borrow checker sees that a seat is in one call at a time.
+//! `scripts/build_c` makes the library, for Linux. A mutex is used through its seats. A [`Seat`] is `Send` and not `Sync`, and
+//! a [`Guard`] borrows it, so the borrow checker sees that a seat is in one call at a time.
 //!
 //! ```
 //! let seats = ligdrosa::mutex(2, 1_000, 0u64)?;

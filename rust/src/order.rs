@@ -1,5 +1,5 @@
-//! What a lock and an unlock order, told to ThreadSanitizer, which doesn't see into the library. `build.rs` sets `tells_order` if the crate
-//! is built for it. Otherwise these functions do nothing.
+//! What a lock and an unlock order, told to ThreadSanitizer, which doesn't see into the library. `build.rs` sets `tells_order`
+//! if the crate is built for it. Otherwise these functions do nothing.
 use std::ffi::c_void;
 
 #[cfg(tells_order)]
@@ -11,18 +11,20 @@ extern "C" {
 /// After a call that has gained this mutex.
 #[inline]
 pub fn acquire(_mutex: *mut c_void) {
+    // SAFETY: ThreadSanitizer takes any address as a name.
     #[cfg(tells_order)]
     unsafe {
         __tsan_acquire(_mutex)
     }
 }
 
-/// Before a call that may give this mutex up, by a seat that holds this often. If it doesn't hold, the call is refused and orders nothing.
-/// If it holds more than once, the call doesn't give the mutex up.
+/// Before a call that may give this mutex up, by a seat that holds this often. If it doesn't hold, the call is refused and
+/// orders nothing. If it holds more than once, the call doesn't give the mutex up.
 #[inline]
 pub fn release(_mutex: *mut c_void, _depth: impl FnOnce() -> u64) {
     #[cfg(tells_order)]
     if _depth() == 1 {
+        // SAFETY: as for `acquire`.
         unsafe { __tsan_release(_mutex) }
     }
 }

@@ -19,10 +19,16 @@ use std::{
 /// wake-ups by the system. If it is shorter, one thread that sleeps soon makes all that queue behind it sleep too.
 const LOOK_TIME: Duration = Duration::from_micros(20);
 
+/// The room that is kept for the handle of a mutex.
 const MUTEX_BYTES: usize = 128;
+
+/// The room that is kept for the handle of a seat.
 const SEAT_BYTES: usize = 256;
+
+/// The bytes of a cache line, to which handles are aligned.
 const LINE: usize = 64;
 
+/// Room for a handle, on cache lines of its own.
 #[repr(C, align(64))]
 struct Bytes<const N: usize>(UnsafeCell<[u8; N]>);
 
@@ -44,8 +50,8 @@ impl<const N: usize> Bytes<N> {
 #[repr(align(64))]
 struct Count(AtomicUsize);
 
-/// How many processors the program may use; 8 if the system doesn't tell. They are counted once, since std may read files for it. Threads
-/// that open their first mutexes at the same time may each count.
+/// How many processors the program may use; 8 if the system doesn't tell. They are counted once, since std may read files for
+/// it. Threads that open their first mutexes at the same time may each count.
 fn processors() -> usize {
     static COUNTED: AtomicUsize = AtomicUsize::new(0);
     let mut count = COUNTED.load(Relaxed);
@@ -67,7 +73,9 @@ fn near() -> usize {
 /// A mutex of the library without the value, with a bell for each seat.
 pub(crate) struct RawMutex {
     handle: Bytes<MUTEX_BYTES>,
+    /// The bells of the seats, by their numbers. No seat has the first.
     bells: Vec<Bell>,
+    /// A seat spins only if at most this number are queued.
     near: usize,
     /// How many seats are queued by `lock`.
     queued: Count,
@@ -75,12 +83,15 @@ pub(crate) struct RawMutex {
     seats_lock: Mutex<()>,
 }
 
-// The handle may go from thread to thread, and `seats_lock` lets one at a time touch it.
+// SAFETY: a call of the library with the handle may come from any thread. There is one such call at a time: of those that take
+// or give a seat by `seats_lock`, and the last closes the mutex, when nothing else refers to it.
 unsafe impl Send for RawMutex {}
+// SAFETY: as for `Send`.
 unsafe impl Sync for RawMutex {}
 
 /// Whether the handles of the library fit into the room that is kept for them.
 fn is_known() -> bool {
+    // SAFETY: these calls return numbers and require nothing.
     unsafe {
         lfm_c_mutex_size() <= MUTEX_BYTES
             && lfm_c_seat_size() <= SEAT_BYTES
@@ -90,9 +101,9 @@ fn is_known() -> bool {
 }
 
 impl RawMutex {
-    /// A mutex that is opened where it lies, since the library may count on it that a handle lies still.
+    /// A mutex that is opened in its final place, since the library may rely on it that a handle is not moved.
     fn open(seats: usize, budget: u64) -> Result<Arc<RawMutex>, Refusal> {
-        // before there is a handle, which is closed when it is dropped
+        // Before there is a handle, which is closed when it is dropped.
         if !is_known() {
             return Err(Refusal::OtherVersion);
         }
@@ -103,6 +114,8 @@ impl RawMutex {
             queued: Count::default(),
             seats_lock: Mutex::new(()),
         });
+        // SAFETY: the handle has room enough, as was just tested, and nobody else refers to it. It is made blank before it is
+        // opened.
         unsafe {
             lfm_c_blank_mutex(mutex.handle.at());
             made(lfm_c_open(mutex.handle.at(), seats as u64, budget))?;
@@ -131,7 +144,7 @@ impl RawMutex {
         self.bells.iter().map(Bell::rings).collect()
     }
 
-    /// Rings for the seat that an answer names, and gives the status.
+    /// Rings for the seat that an answer names, and returns the status.
     #[inline]
     fn told(&self, answer: u64) -> u64 {
         self.wake(WakeUp::of(answer));
@@ -142,18 +155,19 @@ impl RawMutex {
 impl Drop for RawMutex {
     fn drop(&mut self) {
         // If a seat was not given back, the library keeps its memory.
+        // SAFETY: the handle was made blank, and nobody else refers to it.
         unsafe { lfm_c_close(self.handle.at()) };
     }
 }
 
-/// The wake-up that a call leaves: the number of the seat that it granted the mutex, if there is one. The bell of that seat is to be
-/// rung before the caller's thread sleeps.
+/// The wake-up that a call leaves: the number of the seat that it granted the mutex, if there is one. The bell of that seat is
+/// to be rung before the caller's thread sleeps.
 #[derive(Default)]
 #[must_use = "the thread of a seat that is granted the mutex sleeps until its bell is rung"]
 pub(crate) struct WakeUp(Option<NonZeroU64>);
 
 impl WakeUp {
-    /// What an answer tells above its status.
+    /// The wake-up that an answer names.
     #[inline]
     fn of(answer: u64) -> WakeUp {
         WakeUp(NonZeroU64::new(named(answer)))
@@ -171,6 +185,7 @@ pub(crate) struct RawSeat {
     mutex: Arc<RawMutex>,
 }
 
+// SAFETY: a call of the library with the handle may come from any thread, and one at a time has the seat.
 unsafe impl Send for RawSeat {}
 
 /// A mutex's seats, in the order of their numbers.
@@ -180,9 +195,11 @@ pub(crate) fn raw_seats(seats: usize, budget: u64) -> Result<Vec<RawSeat>, Refus
 }
 
 impl RawSeat {
+    /// Takes a seat of this mutex.
     fn take(mutex: &Arc<RawMutex>) -> Result<RawSeat, Refusal> {
         let handle = Box::new(Bytes::new());
         let locked = mutex.seats_lock.lock();
+        // SAFETY: both handles have room enough, the mutex is open, and `locked` lets one thread at a time make the call.
         unsafe {
             lfm_c_blank_seat(handle.at());
             made(lfm_c_take_seat(mutex.handle.at(), handle.at()))?;
@@ -203,11 +220,13 @@ impl RawSeat {
     /// The seat's number: 1 and on.
     #[inline]
     pub(crate) fn number(&self) -> u64 {
+        // SAFETY: the handle is this seat's, which has one call at a time.
         unsafe { lfm_c_number(self.at()) }
     }
 
     /// How often the seat holds.
     fn depth(&self) -> u64 {
+        // SAFETY: as for `number`.
         unsafe { lfm_c_depth(self.at()) }
     }
 
@@ -217,6 +236,7 @@ impl RawSeat {
         let mut look_time = look_time;
         loop {
             let seen = bell.rings();
+            // SAFETY: as for `number`.
             let status = unsafe { lfm_c_receive(self.at()) };
             if status != ASLEEP {
                 return status;
@@ -228,8 +248,8 @@ impl RawSeat {
         }
     }
 
-    /// The same for a seat whose grant may come soon: it spins first, unless more than `near` seats are queued. Then it would only
-    /// keep a processor from them.
+    /// The same for a seat whose grant may come soon: it spins first, unless more than `near` seats are queued. Then it would
+    /// only keep a processor from them.
     #[cold]
     #[inline(never)]
     fn receive_soon(&mut self) -> u64 {
@@ -242,6 +262,7 @@ impl RawSeat {
     /// Gains the mutex or deepens the hold, and sleeps until then.
     #[inline]
     pub(crate) fn lock(&mut self) -> Result<u64, Refusal> {
+        // SAFETY: as for `number`.
         let answer = unsafe { lfm_c_ask(self.at()) };
         let mut status = self.mutex.told(answer);
         if status == ASLEEP {
@@ -250,7 +271,7 @@ impl RawSeat {
         self.gained(status)
     }
 
-    /// The status of a call that gains the mutex or deepens the hold, or why it was refused.
+    /// The status of a call that may have gained the mutex, or why it was refused. ThreadSanitizer is told if it was made.
     #[inline]
     pub(crate) fn gained(&self, status: u64) -> Result<u64, Refusal> {
         let status = made(status)?;
@@ -258,7 +279,7 @@ impl RawSeat {
         Ok(status)
     }
 
-    /// Before a call that may give the mutex up.
+    /// Tells ThreadSanitizer of a call that may give the mutex up, before it.
     #[inline]
     fn giving_up(&self) {
         order::release(self.mutex.handle.at(), || self.depth());
@@ -267,6 +288,7 @@ impl RawSeat {
     /// Gains the mutex or deepens the hold, without a sleep.
     #[inline]
     fn try_lock(&mut self) -> Result<u64, Refusal> {
+        // SAFETY: as for `number`.
         self.gained(unsafe { lfm_c_try_lock(self.at()) })
     }
 
@@ -274,6 +296,7 @@ impl RawSeat {
     #[inline]
     pub(crate) fn unlock(&mut self) {
         self.giving_up();
+        // SAFETY: as for `number`.
         let answer = unsafe { lfm_c_unlock(self.at()) };
         self.mutex.told(answer);
     }
@@ -281,12 +304,14 @@ impl RawSeat {
     /// Gives the mutex up, and leaves the seat asleep until it is sent. The caller has to make the wake-up.
     pub(crate) fn start_wait(&mut self) -> Result<WakeUp, Refusal> {
         self.giving_up();
+        // SAFETY: as for `number`.
         let answer = unsafe { lfm_c_start_wait(self.at()) };
         made(status_of(answer)).map(|_| WakeUp::of(answer))
     }
 
     /// Sends a seat that waits. The caller has to make the wake-up.
     pub(crate) fn send(&mut self, number: u64) -> Result<WakeUp, Refusal> {
+        // SAFETY: as for `number`.
         let answer = unsafe { lfm_c_send(self.at(), number) };
         made(status_of(answer)).map(|_| WakeUp::of(answer))
     }
@@ -301,14 +326,17 @@ impl Drop for RawSeat {
     fn drop(&mut self) {
         // A seat that holds, since its guard was forgotten, isn't given back: nobody else gains the mutex.
         let _locked = self.mutex.seats_lock.lock();
+        // SAFETY: the seat is one of this mutex, and `_locked` lets one thread at a time make the call.
         unsafe { lfm_c_give_seat(self.mutex.handle.at(), self.at()) };
     }
 }
 
+/// The guarded value, which the seats share.
 struct Value<T>(UnsafeCell<T>);
 
-// The value is reached by the seat that holds the mutex, and there is one at a time.
+// SAFETY: the value is reached by the seat that holds the mutex, and there is one at a time.
 unsafe impl<T: Send> Send for Value<T> {}
+// SAFETY: as for `Send`.
 unsafe impl<T: Send> Sync for Value<T> {}
 
 /// What one thread uses a mutex with. Dropped, it is given back.
@@ -336,6 +364,7 @@ impl<T> Seat<T> {
 
     /// How many takes the seat has left.
     pub fn left(&self) -> u64 {
+        // SAFETY: the handle is this seat's, which has one call at a time.
         unsafe { lfm_c_left(self.raw.at()) }
     }
 
@@ -353,17 +382,19 @@ impl<T> Seat<T> {
         Ok(Guard(self))
     }
 
+    /// Whether this is a seat of that mutex.
     pub(crate) fn is_of(&self, other: &Arc<RawMutex>) -> bool {
         Arc::ptr_eq(&self.raw.mutex, other)
     }
 
+    /// The seat's mutex without the value.
     pub(crate) fn raw_mutex(&self) -> &Arc<RawMutex> {
         &self.raw.mutex
     }
 }
 
-/// While it lives, its seat holds the mutex. Dropped, it gives one hold up, even if a panic drops it: the next seat finds the value
-/// as the panic left it, and nothing tells of that. The compiler warns of one that is dropped at once:
+/// While it lives, its seat holds the mutex. Dropped, it gives one hold up, even if a panic drops it: the next seat finds the
+/// value as the panic left it, and nothing tells of that. The compiler warns of one that is dropped at once:
 ///
 /// ```compile_fail
 /// #![deny(unused_must_use)]
@@ -398,6 +429,7 @@ impl<T> Deref for Guard<'_, T> {
 
     #[inline]
     fn deref(&self) -> &T {
+        // SAFETY: the seat holds the mutex while the guard lives, so no other reaches the value.
         unsafe { &*self.0.value.0.get() }
     }
 }
@@ -405,6 +437,7 @@ impl<T> Deref for Guard<'_, T> {
 impl<T> DerefMut for Guard<'_, T> {
     #[inline]
     fn deref_mut(&mut self) -> &mut T {
+        // SAFETY: as for `deref`. A guard of a deeper hold borrows this one.
         unsafe { &mut *self.0.value.0.get() }
     }
 }

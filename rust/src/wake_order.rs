@@ -1,6 +1,6 @@
-//! In which order a wait and a wake ring and give the list of the condition variable back. They ring last, so that the thread that they
-//! wake finds the list free. And that a wake finds a wait counted as soon as its seat has given the mutex up. The test program has the library's calls itself, and one thread makes them all, so no answer depends on
-//! when a thread runs.
+//! In which order a wait and a wake ring and give the list of the condition variable back. They ring last, so that the thread
+//! that they wake finds the list free. And that a wake finds a wait counted as soon as its seat has given the mutex up. The
+//! test program has the library's calls itself, and one thread makes them all, so no answer depends on when a thread runs.
 use crate::seat::RawMutex;
 use crate::seen_calls::status::{NOT_WAITING, SPENT};
 use crate::seen_calls::{where_it_answers, where_it_tells};

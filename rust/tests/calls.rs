@@ -1,5 +1,5 @@
-//! How this crate uses the library's calls, and one of the system. The test program defines those calls itself: it sees which are made,
-//! and gives answers that a library seldom gives. Each test has a thread of its own.
+//! How this crate uses the library's calls, and one of the system. The test program defines those calls itself: it sees which
+//! are made, and gives answers that a library seldom gives. Each test has a thread of its own.
 mod seen_calls;
 
 use ligdrosa::{mutex, Condvar, Refusal};
@@ -24,8 +24,8 @@ fn refusal_of_mutex() -> Option<Refusal> {
     mutex(1, 1, ()).err()
 }
 
-/// To count the processors, std also reads files, which takes longer than all else when a mutex is opened. Each thread of the other tests
-/// may count once beside this one, so the second mutex is opened some times.
+/// To count the processors, std also reads files, which takes longer than all else when a mutex is opened. Each thread of the
+/// other tests may count once beside this one, so the second mutex is opened some times.
 #[test]
 fn the_processors_are_counted_once() {
     let asked_for_a_mutex = || {
@@ -75,8 +75,8 @@ fn a_wake_with_nobody_waiting() {
     assert!(!MADE.take().contains(&"lfm_c_ask"));
 }
 
-/// A condition variable's own mutex has 2^36 takes, which are too many to spend here. The wait ends at once, since a receive usually
-/// answers that the seat holds, and stays listed.
+/// A condition variable's own mutex has 2^36 takes, which are too many to spend here. The wait ends at once, since a receive
+/// usually answers that the seat holds, and stays listed.
 #[test]
 fn a_condition_variable_without_takes() {
     let mut seats = mutex(1, 1, ()).unwrap();

@@ -1,5 +1,5 @@
-//! The calls of the library, for test programs that define them themselves, and so link no library. Such a program sees which calls
-//! are made, and gives answers that the library seldom gives. Each of its tests has a thread of its own.
+//! The calls of the library, for test programs that define them themselves, and so link no library. Such a program sees which
+//! calls are made, and gives answers that the library seldom gives. Each of its tests has a thread of its own.
 use std::{cell::RefCell, ffi::c_void};
 
 type Answer = Box<dyn FnMut() -> u64>;

@@ -1,9 +1,12 @@
-/* Each request for memory is refused in turn: the call answers LFM_NO_MEMORY, has changed nothing, and leaks nothing. It is
- * linked with --wrap for malloc, realloc, free and aligned_alloc. */
+/* How much memory a mutex and a condition variable take. And each request for memory is refused in turn: the call answers
+ * LFM_NO_MEMORY, has changed nothing, and leaks nothing. It is linked with --wrap for malloc, realloc, free and
+ * aligned_alloc. */
+#include <malloc.h>
 #include "expect.h"
 
 static long allowed = -1; /* how many more requests are granted; all of them if it is below 0 */
 static long given;        /* how many blocks are not given back */
+static size_t bytes;      /* how many bytes these have */
 
 void *__real_malloc(size_t);
 void *__real_realloc(void *, size_t);
@@ -18,6 +21,7 @@ static bool is_refused(void) {
 
 static void *counted(void *block) {
   if (block) given++;
+  bytes += malloc_usable_size(block);
   return block;
 }
 
@@ -28,11 +32,16 @@ void *__wrap_aligned_alloc(size_t align, size_t size) {
 
 void *__wrap_realloc(void *block, size_t size) {
   if (is_refused()) return NULL;
-  return block ? __real_realloc(block, size) : counted(__real_malloc(size));
+  if (!block) return counted(__real_malloc(size));
+  size_t before = malloc_usable_size(block);
+  void *moved = __real_realloc(block, size);
+  if (moved) bytes += malloc_usable_size(moved) - before;
+  return moved;
 }
 
 void __wrap_free(void *block) {
   if (block) given--;
+  bytes -= malloc_usable_size(block);
   __real_free(block);
 }
 
@@ -55,7 +64,22 @@ static long refuse_each(lfm_status (*make)(void)) {
 static lfm_status make_mutex(void) { return lfm_mutex_new(&mutex, 3, 100); }
 static lfm_status make_condvar(void) { return lfm_condvar_new(&condvar, &mutex); }
 
+/* With this many seats they take no more than ligdrosa.h says. */
+static void take_memory(uint64_t seats) {
+  EXPECT(lfm_mutex_new(&mutex, seats, 100), LFM_DONE);
+  size_t of_mutex = bytes;
+  EXPECT(of_mutex <= 1000 + 400 * seats, true);
+  EXPECT(lfm_condvar_new(&condvar, &mutex), LFM_DONE);
+  EXPECT(bytes - of_mutex <= 1000 + 800 * seats, true);
+  EXPECT(lfm_condvar_close(&condvar), LFM_DONE);
+  EXPECT(lfm_mutex_close(&mutex), LFM_DONE);
+  EXPECT(bytes, 0);
+}
+
 int main(void) {
+  take_memory(1);
+  take_memory(64);
+  take_memory(4095);
   /* 7 for the library's mutex, as scripts/refuse_memory counts, and one each for what its seats share, a list of them, and the
    * bells */
   EXPECT(refuse_each(make_mutex), 10);

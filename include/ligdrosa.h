@@ -34,6 +34,10 @@
 #ifndef LIGDROSA_H
 #define LIGDROSA_H
 
+#if !defined(__linux__) || !defined(__LP64__)
+#error "ligdrosa.h needs Linux with addresses of 64 bits"
+#endif
+
 #include <errno.h>
 #include <linux/futex.h>
 #include <stdbool.h>

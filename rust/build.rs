@@ -2,6 +2,7 @@
 //! they have changed. It sets `tells_order` if the crate is built for ThreadSanitizer.
 use std::{env, path::PathBuf};
 
+/// Tells cargo what to link, and when to do so anew.
 fn main() {
     println!("cargo:rustc-check-cfg=cfg(tells_order)");
     if env::var("CARGO_CFG_SANITIZE").is_ok_and(|of| of.split(',').any(|name| name == "thread")) {
@@ -16,5 +17,11 @@ fn main() {
         println!("cargo:rustc-link-lib=static={archive}");
         let file = out.join(format!("lib{archive}.a"));
         println!("cargo:rerun-if-changed={}", file.display());
+        if !file.exists() {
+            println!(
+                "cargo:warning={} is missing: scripts/build_c makes it",
+                file.display()
+            );
+        }
     }
 }

@@ -20,6 +20,11 @@ extern "C" {
 const FUTEX: c_long = 202;
 #[cfg(target_arch = "aarch64")]
 const FUTEX: c_long = 98;
+#[cfg(not(all(
+    target_os = "linux",
+    any(target_arch = "x86_64", target_arch = "aarch64")
+)))]
+compile_error!("ligdrosa needs Linux on an x86-64 or an aarch64");
 const WAIT_PRIVATE: c_int = 128;
 const WAKE_PRIVATE: c_int = 129;
 

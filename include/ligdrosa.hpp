@@ -76,6 +76,7 @@ public:
   mutex(const mutex &) = delete;
   mutex &operator=(const mutex &) = delete;
   ~mutex() { lfm_mutex_close(&raw); }
+  // The mutex for calls of ligdrosa.h.
   lfm_mutex *native_handle() noexcept { return &raw; }
 };
 
@@ -93,9 +94,13 @@ public:
   ~seat() {
     if (of_seat.is_here()) lfm_seat_give(&raw);
   }
+  // The seat for calls of ligdrosa.h.
   lfm_seat *native_handle() noexcept { return &raw; }
+  // The seat's number, 1 and on.
   uint64_t number() noexcept { return lfm_number(&raw); }
+  // How often it holds.
   uint64_t depth() noexcept { return lfm_depth(&raw); }
+  // How many takes it has left.
   uint64_t left() noexcept { return lfm_left(&raw); }
 };
 
@@ -237,6 +242,7 @@ public:
   // Each thread gives its seat back by itself, at its end or as it takes others.
   ~recursive_mutex() { state->is_gone = true; }
 
+  // The mutex for calls of ligdrosa.h.
   lfm_mutex *native_handle() noexcept { return &state->raw; }
 
   // The calling thread's seat. Throws LFM_NO_SEAT if too many threads have one. While the thread's objects end, it is kept

@@ -38,7 +38,7 @@ impl<const N: usize> Bytes<N> {
         Bytes(UnsafeCell::new([0; N]))
     }
 
-    /// Where the handle lies.
+    /// The address of the handle.
     #[inline]
     fn at(&self) -> *mut c_void {
         self.0.get().cast()
@@ -72,6 +72,7 @@ fn near() -> usize {
 
 /// A mutex of the library without the value, with a bell for each seat.
 pub(crate) struct RawMutex {
+    /// The library's own data.
     handle: Bytes<MUTEX_BYTES>,
     /// The bells of the seats, by their numbers. No seat has the first.
     bells: Vec<Bell>,
@@ -181,6 +182,7 @@ impl WakeUp {
 
 /// A seat of the library without the value.
 pub(crate) struct RawSeat {
+    /// The library's own data, in a box since it must not be moved.
     handle: Box<Bytes<SEAT_BYTES>>,
     mutex: Arc<RawMutex>,
 }
@@ -211,7 +213,7 @@ impl RawSeat {
         })
     }
 
-    /// Where the seat's handle lies.
+    /// The address of the seat's handle.
     #[inline]
     fn at(&self) -> *mut c_void {
         self.handle.at()

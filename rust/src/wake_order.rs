@@ -3,7 +3,7 @@
 //! test program has the library's calls itself, and one thread makes them all, so no answer depends on when a thread runs.
 use crate::seat::RawMutex;
 use crate::seen_calls::status::{NOT_WAITING, SPENT};
-use crate::seen_calls::{where_it_answers, where_it_tells};
+use crate::seen_calls::{while_it_answers, while_it_tells};
 use crate::{mutex, Condvar, Refusal, Seat};
 use std::{
     cell::{Cell, RefCell},
@@ -42,7 +42,7 @@ fn with_rings_at<A>(
         seen.replace(mutex.rings());
         0
     };
-    (where_it_answers(call, answer, act), rings.take())
+    (while_it_answers(call, answer, act), rings.take())
 }
 
 /// The same for the call that gives the list back.
@@ -55,7 +55,7 @@ fn a_wait_rings_after_the_list_and_before_it_sleeps() {
     let (mut first, _second, condvar) = two_seats();
     let mutex = first.raw_mutex().clone();
     let mut guard = first.lock().unwrap();
-    let wait = || where_it_tells("lfm_c_start_wait", granted(2), || condvar.wait(&mut guard));
+    let wait = || while_it_tells("lfm_c_start_wait", granted(2), || condvar.wait(&mut guard));
     let (waited, rings) =
         with_rings_at_the_unlock(&mutex, || with_rings_at("lfm_c_receive", &mutex, wait));
     assert_eq!(rings, [0, 0, 0]);
@@ -73,7 +73,7 @@ fn counted_by_a_wait(status: u64) -> (Result<(), Refusal>, usize, usize) {
         status
     };
     let mut guard = first.lock().unwrap();
-    let waited = where_it_answers("lfm_c_start_wait", start, || condvar.wait(&mut guard));
+    let waited = while_it_answers("lfm_c_start_wait", start, || condvar.wait(&mut guard));
     (waited, at_start.get(), condvar.count.load(Relaxed))
 }
 
@@ -88,7 +88,7 @@ fn a_wake_rings_after_the_list() {
     let (mut first, mut second, condvar) = two_seats();
     let mutex = first.raw_mutex().clone();
     let_wait(&mut first, &condvar, 1);
-    let wake = || where_it_tells("lfm_c_send", granted(1), || condvar.wake_one(&mut second));
+    let wake = || while_it_tells("lfm_c_send", granted(1), || condvar.wake_one(&mut second));
     assert_eq!(
         with_rings_at_the_unlock(&mutex, wake),
         (Ok(1), vec![0, 0, 0])
@@ -103,7 +103,7 @@ fn a_wake_that_grants_twice_rings_for_both() {
     let_wait(&mut first, &condvar, 2);
     let mut numbers = [1, 2].into_iter();
     let send = move || granted(numbers.next().unwrap());
-    let wake = || where_it_answers("lfm_c_send", send, || condvar.wake_all(&mut second));
+    let wake = || while_it_answers("lfm_c_send", send, || condvar.wake_all(&mut second));
     assert_eq!(
         with_rings_at_the_unlock(&mutex, wake),
         (Ok(2), vec![0, 1, 0])
@@ -118,7 +118,7 @@ fn a_wake_that_is_refused_rings_for_those_it_sent() {
     let_wait(&mut first, &condvar, 2);
     let mut answers = [granted(1), NOT_WAITING].into_iter();
     let send = move || answers.next().unwrap();
-    let wake = || where_it_answers("lfm_c_send", send, || condvar.wake_all(&mut second));
+    let wake = || while_it_answers("lfm_c_send", send, || condvar.wake_all(&mut second));
     let refusal = Err(Refusal::Other(NOT_WAITING));
     assert_eq!(
         with_rings_at_the_unlock(&mutex, wake),

@@ -4,7 +4,7 @@ mod seen_calls;
 
 use ligdrosa::{mutex, Condvar, Refusal};
 use seen_calls::status::{NO_MEMORY, NO_SEAT, SPENT, TAKEN};
-use seen_calls::{where_it_tells, HANDLES, MADE, ROOMS};
+use seen_calls::{while_it_tells, HANDLES, MADE, ROOMS};
 use std::{
     ffi::{c_int, c_void},
     sync::atomic::{AtomicUsize, Ordering::SeqCst},
@@ -20,6 +20,7 @@ extern "C" fn sched_getaffinity(_: c_int, _: usize, _: *mut c_void) -> c_int {
     -1
 }
 
+/// Why a mutex is refused, if it is.
 fn refusal_of_mutex() -> Option<Refusal> {
     mutex(1, 1, ()).err()
 }
@@ -43,7 +44,7 @@ fn the_processors_are_counted_once() {
 fn a_library_of_another_version() {
     MADE.take();
     for (call, room) in ROOMS {
-        let refusal = where_it_tells(call, room + 1, refusal_of_mutex);
+        let refusal = while_it_tells(call, room + 1, refusal_of_mutex);
         assert_eq!(refusal, Some(Refusal::OtherVersion));
     }
     assert_eq!(MADE.take(), [""; 0]);
@@ -57,7 +58,7 @@ fn a_library_that_refuses() {
         ("lfm_c_open", TAKEN, Refusal::Other(TAKEN)),
         ("lfm_c_take_seat", NO_SEAT, Refusal::Other(NO_SEAT)),
     ] {
-        assert_eq!(where_it_tells(call, told, refusal_of_mutex), Some(refusal));
+        assert_eq!(while_it_tells(call, told, refusal_of_mutex), Some(refusal));
     }
 }
 
@@ -84,7 +85,7 @@ fn a_condition_variable_without_takes() {
     let condvar = Condvar::new(seat, 1).unwrap();
     condvar.wait(&mut seat.lock().unwrap()).unwrap();
     MADE.take();
-    where_it_tells("lfm_c_ask", SPENT, || {
+    while_it_tells("lfm_c_ask", SPENT, || {
         assert_eq!(condvar.wake_one(seat), Err(Refusal::Spent));
         assert_eq!(condvar.wake_all(seat), Err(Refusal::Spent));
     });

@@ -9,7 +9,7 @@ thread_local! {
     static UNUSUAL: RefCell<Vec<(&'static str, Answer)>> = const { RefCell::new(Vec::new()) };
     /// The calls that were made with a handle.
     pub static MADE: RefCell<Vec<&'static str>> = const { RefCell::new(Vec::new()) };
-    /// Where the handles of these calls lay, each with what it is of.
+    /// The addresses of the handles of these calls, each with what it is of.
     pub static HANDLES: RefCell<Vec<(&'static str, usize)>> = const { RefCell::new(Vec::new()) };
 }
 
@@ -33,6 +33,7 @@ pub const ROOMS: [(&str, u64); 4] = [
     ("lfm_c_seat_align", 64),
 ];
 
+/// What a call usually answers.
 fn usual(call: &str) -> u64 {
     if call == "lfm_c_number" {
         return 1;
@@ -41,6 +42,7 @@ fn usual(call: &str) -> u64 {
     room.map_or(0, |(_, bytes)| *bytes)
 }
 
+/// Notes that a call was made with these handles, and returns its answer.
 fn answer(call: &'static str, handles: &[(&'static str, *mut c_void)]) -> u64 {
     if !handles.is_empty() {
         let places = handles.iter().map(|(of, handle)| (*of, *handle as usize));
@@ -94,8 +96,8 @@ extern "C" fn lfm_c_blank_seat(seat: *mut c_void) {
     answer("lfm_c_blank_seat", &[("seat", seat)]);
 }
 
-/// What the function returns if a call answers otherwise than usual.
-pub fn where_it_answers<A>(
+/// What the function returns while a call answers otherwise than usual.
+pub fn while_it_answers<A>(
     call: &'static str,
     answer: impl FnMut() -> u64 + 'static,
     act: impl FnOnce() -> A,
@@ -106,7 +108,7 @@ pub fn where_it_answers<A>(
     result
 }
 
-/// The same if the call answers this each time.
-pub fn where_it_tells<A>(call: &'static str, told: u64, act: impl FnOnce() -> A) -> A {
-    where_it_answers(call, move || told, act)
+/// The same while the call answers this each time.
+pub fn while_it_tells<A>(call: &'static str, told: u64, act: impl FnOnce() -> A) -> A {
+    while_it_answers(call, move || told, act)
 }

@@ -52,7 +52,7 @@ template <class Lock> static double by_trying(Lock &lock) {
 }
 
 // A try_lock that is refused.
-template <class Lock> static double in_vain(Lock &lock) {
+template <class Lock> static double refused_try(Lock &lock) {
   const int tries = 200000;
   uint64_t begun = 0, ended = 0;
   lock.lock(0);
@@ -195,10 +195,10 @@ static void tell_one_thread(int rounds) {
         {"pthread recursive", [] { return by_trying(recursive); }},
         {"std::mutex", [] { return by_trying(standard); }}});
   tell("try_lock that is refused", rounds,
-       {{"ligdrosa", [] { return in_vain(seated); }},
-        {"pthread normal", [] { return in_vain(normal); }},
-        {"pthread recursive", [] { return in_vain(recursive); }},
-        {"std::mutex", [] { return in_vain(standard); }}});
+       {{"ligdrosa", [] { return refused_try(seated); }},
+        {"pthread normal", [] { return refused_try(normal); }},
+        {"pthread recursive", [] { return refused_try(recursive); }},
+        {"std::mutex", [] { return refused_try(standard); }}});
   tell("held: once more, once less", rounds,
        {{"ligdrosa", [] { return held(seated); }},
         {"pthread recursive", [] { return held(recursive); }},

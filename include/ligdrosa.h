@@ -350,7 +350,8 @@ static inline void lfm_lock_seats(lfm_mutex *mutex) {
   while (__atomic_exchange_n(&mutex->seats_lock, 2, __ATOMIC_ACQUIRE)) lfm_futex(&mutex->seats_lock, FUTEX_WAIT, 2);
 }
 
-/* Lets another thread take a seat or give one back, and wakes one that may sleep until then. */
+/* Lets another thread take a seat or give one back, and wakes one that may sleep until then. If this was the last give, the
+ * mutex may be closed, and its memory free, before the wake, which uses the address alone. */
 static inline void lfm_unlock_seats(lfm_mutex *mutex) {
   if (__atomic_exchange_n(&mutex->seats_lock, 0, __ATOMIC_RELEASE) == 2) lfm_futex(&mutex->seats_lock, FUTEX_WAKE, 1);
 }

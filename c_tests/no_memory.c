@@ -68,9 +68,9 @@ static lfm_status make_condvar(void) { return lfm_condvar_new(&condvar, &mutex);
 static void take_memory(uint64_t seats) {
   EXPECT(lfm_mutex_new(&mutex, seats, 100), LFM_DONE);
   size_t of_mutex = bytes;
-  EXPECT(of_mutex <= 1000 + 400 * seats, true);
+  EXPECT(of_mutex <= 500 + 250 * seats, true);
   EXPECT(lfm_condvar_new(&condvar, &mutex), LFM_DONE);
-  EXPECT(bytes - of_mutex <= 1000 + 800 * seats, true);
+  EXPECT(bytes - of_mutex <= 1000 + 600 * seats, true);
   EXPECT(lfm_condvar_close(&condvar), LFM_DONE);
   EXPECT(lfm_mutex_close(&mutex), LFM_DONE);
   EXPECT(bytes, 0);

@@ -313,8 +313,8 @@ static inline uint32_t lfm_processors(void) {
 /* The mutex */
 
 /* Opens a mutex with this many seats, 1 to 4,095, each of which may take it as often as the budget says, 1 to 2^36.
- * Refused: LFM_BLANK (null), LFM_TAKEN, LFM_OTHER_HEADER, LFM_LIMIT, LFM_NO_MEMORY. It takes at most 400 bytes for each seat and
- * 1,000 more. No other call of a mutex takes memory. */
+ * Refused: LFM_BLANK (null), LFM_TAKEN, LFM_OTHER_HEADER, LFM_LIMIT, LFM_NO_MEMORY. It takes at most 250 bytes for each seat and
+ * 500 more. No other call of a mutex takes memory. */
 static inline lfm_status lfm_mutex_new(lfm_mutex *mutex, uint64_t seats, uint64_t budget) {
   if (!mutex) return LFM_BLANK;
   if (mutex->bells) return LFM_TAKEN;
@@ -463,7 +463,7 @@ static inline void lfm_condvar_free(lfm_condvar *condvar) {
 }
 
 /* Opens a condition variable for the seats of this mutex, which is closed after it. Its own mutex allows each of them 2^36
- * waits and wakes. Refused: LFM_BLANK, LFM_TAKEN, LFM_NO_MEMORY. It takes at most 800 bytes for each seat and 1,000 more. No
+ * waits and wakes. Refused: LFM_BLANK, LFM_TAKEN, LFM_NO_MEMORY. It takes at most 600 bytes for each seat and 1,000 more. No
  * call after it takes memory. */
 static inline lfm_status lfm_condvar_new(lfm_condvar *condvar, lfm_mutex *mutex) {
   if (!condvar || !mutex || !mutex->bells) return LFM_BLANK;

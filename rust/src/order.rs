@@ -1,5 +1,12 @@
 //! What a lock and an unlock order, told to ThreadSanitizer, which doesn't see into the library. `build.rs` sets `tells_order`
 //! if the crate is built for it. Otherwise these functions do nothing.
+//!
+//! So the tests run under it. The one race that it reports is in std's own test harness, which isn't built for it:
+//!
+//! ```text
+//! RUSTFLAGS='-Zsanitizer=thread -Cunsafe-allow-abi-mismatch=sanitizer' \
+//!   cargo +nightly test --test threads --target x86_64-unknown-linux-gnu
+//! ```
 use std::ffi::c_void;
 
 #[cfg(tells_order)]

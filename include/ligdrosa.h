@@ -313,8 +313,8 @@ static inline uint32_t lfm_processors(void) {
 /* The mutex */
 
 /* Opens a mutex with this many seats, 1 to 4,095, each of which may take it as often as the budget says, 1 to 2^36.
- * Refused: LFM_BLANK (null), LFM_TAKEN, LFM_OTHER_HEADER, LFM_LIMIT, LFM_NO_MEMORY. It takes at most 250 bytes for each seat and
- * 500 more. No other call of a mutex takes memory. */
+ * Refused: LFM_BLANK (null), LFM_TAKEN, LFM_OTHER_HEADER, LFM_LIMIT, LFM_NO_MEMORY. It takes at most 250 bytes for each seat
+ * and 500 more. No other call of a mutex takes memory. */
 static inline lfm_status lfm_mutex_new(lfm_mutex *mutex, uint64_t seats, uint64_t budget) {
   if (!mutex) return LFM_BLANK;
   if (mutex->bells) return LFM_TAKEN;

@@ -29,6 +29,8 @@
  *     begins after. But a mutex may be closed while its seats are given back.
  *   - A call that has begun returns: no signal handler jumps out of it, and its thread is not cancelled asynchronously. No
  *     call is a cancellation point.
+ *   - All files of a program are compiled with the same version of this header: a wake of one version may miss a wait of
+ *     another.
  *
  * It needs Linux with addresses of 64 bits, and gcc or clang with C11 or C++11. Link liblfm_c.a and then liblibc_c.a. */
 #ifndef LIGDROSA_H

@@ -152,7 +152,7 @@ typedef struct lfm_mutex {
   unsigned char handle[LFM_MUTEX_BYTES];
   lfm_bell *bells;
   uint64_t seats;
-  uint32_t seats_lock; /* 0; or 1 while a seat is taken or given back, and 2 if another thread may sleep until that is done */
+  uint32_t seats_lock; /* 0; or 1 while a thread has locked the seats, and 2 if another may sleep until they are unlocked */
   uint32_t near;       /* a seat spins only if at most this number are queued: the number of processors, or 0 if there is one */
   unsigned char apart[LFM_LINE];
   uint32_t queued; /* how many seats are queued by lfm_lock */
@@ -339,21 +339,22 @@ static inline lfm_status lfm_mutex_new(lfm_mutex *mutex, uint64_t seats, uint64_
   return LFM_DONE;
 }
 
-/* Locks the seats, if no thread takes one or gives one back. */
+/* Locks the seats, unless another thread has locked them. */
 static inline bool lfm_try_lock_seats(lfm_mutex *mutex) {
   uint32_t found = 0;
   return __atomic_compare_exchange_n(&mutex->seats_lock, &found, 1, false, __ATOMIC_ACQUIRE, __ATOMIC_RELAXED);
 }
 
-/* One thread at a time takes a seat or gives one back. The others sleep until it is done, so that it gets done even if they
- * have a higher priority. */
+/* Locks the seats. One thread at a time takes a seat, gives one back or closes the mutex. Others that take or give one sleep
+ * until it is done, so that it gets done even if they have a higher priority. */
 static inline void lfm_lock_seats(lfm_mutex *mutex) {
   if (lfm_try_lock_seats(mutex)) return;
   while (__atomic_exchange_n(&mutex->seats_lock, 2, __ATOMIC_ACQUIRE)) lfm_futex(&mutex->seats_lock, FUTEX_WAIT, 2);
 }
 
-/* Lets another thread take a seat or give one back, and wakes one that may sleep until then. If this was the last give, the
- * mutex may be closed, and its memory free, before the wake, which uses the address alone. */
+/* Unlocks the seats, and wakes a thread that may sleep until then. If this was the last give, the mutex may be closed, and its
+ * memory free, before the wake, which uses the address alone. A thread that sleeps by futex on new memory at this address may
+ * then be woken too early. As the system may do so as well, its program has to expect it. */
 static inline void lfm_unlock_seats(lfm_mutex *mutex) {
   if (__atomic_exchange_n(&mutex->seats_lock, 0, __ATOMIC_RELEASE) == 2) lfm_futex(&mutex->seats_lock, FUTEX_WAKE, 1);
 }
@@ -375,7 +376,8 @@ static inline lfm_status lfm_seat_take(lfm_mutex *mutex, lfm_seat *seat) {
   return LFM_DONE;
 }
 
-/* Gives the seat back. Refused: LFM_BLANK, LFM_HOLDING, LFM_SEAT_ASLEEP. */
+/* Gives the seat back. It may sleep until another thread has taken a seat, given one back, or tried to close the mutex.
+ * Refused: LFM_BLANK, LFM_HOLDING, LFM_SEAT_ASLEEP. */
 static inline lfm_status lfm_seat_give(lfm_seat *seat) {
   if (!seat || !seat->mutex) return LFM_BLANK;
   lfm_mutex *mutex = seat->mutex;
@@ -447,7 +449,8 @@ typedef struct lfm_condvar {
   uint64_t count; /* how many wait: stored by a holder of the list, and loaded by a wake before it has the list */
 } LFM_ALIGNED lfm_condvar;
 
-/* Stores how many wait. The list is held. */
+/* Stores how many wait. The list is held. A relaxed store and load are enough. A wait stores the count before it gives the
+ * mutex up. If a thread that gains the mutex after that makes a wake, the gain orders the load after the store. */
 static inline void lfm_condvar_count(lfm_condvar *condvar, uint64_t count) {
   __atomic_store_n(&condvar->count, count, __ATOMIC_RELAXED);
 }
@@ -564,7 +567,7 @@ static inline lfm_status lfm_wake(lfm_condvar *condvar, lfm_seat *seat, bool all
 
 /* Wakes the seat that has waited longest, if any: LFM_DONE or LFM_NOBODY. The caller's seat may hold the mutex or not. A
  * thread that gains the mutex after a wait has given it up finds that wait. If nobody waits, a wake is one load: it costs no
- * take and never sleeps, and a seat that sleeps is told so, not refused. Otherwise it costs one take of the condition variable,
+ * take, never sleeps, and answers LFM_NOBODY even if the seat sleeps. Otherwise it costs one take of the condition variable,
  * and may sleep until the list is free.
  * Refused: LFM_BLANK, LFM_FOREIGN, LFM_SEAT_ASLEEP, LFM_SPENT (of the condition variable's own 2^36). */
 static inline lfm_status lfm_wake_one(lfm_condvar *condvar, lfm_seat *seat) { return lfm_wake(condvar, seat, false); }

@@ -25,7 +25,9 @@ pub struct Condvar {
     seats: Vec<UnsafeCell<RawSeat>>,
     /// The numbers of the seats that wait, touched only by a holder of the list's mutex.
     waiting: UnsafeCell<VecDeque<u64>>,
-    /// How many seats wait: stored by a holder of the list, and loaded by a wake before it has the list.
+    /// How many seats wait: stored by a holder of the list, and loaded by a wake before it has the list. A relaxed store and
+    /// load are enough. A wait stores the count before it gives the mutex up. If a thread that gains the mutex after that makes
+    /// a wake, the gain orders the load after the store.
     pub(crate) count: AtomicUsize,
 }
 

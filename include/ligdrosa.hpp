@@ -56,8 +56,8 @@ inline bool has_gained(lfm_status status) {
 // The greatest number of takes that a seat may be allowed.
 inline constexpr uint64_t most_takes = uint64_t(1) << 36;
 
-// The process in which an object was made. A forked child ends the objects of the thread that forked, but makes no call with
-// them: another thread of the parent may have been in a call of the same mutex, and the child doesn't have that thread.
+// The process in which an object was made. A forked child ends the objects of the thread that forked, but gives no seat back
+// with them: it would wait for a thread of the parent that was taking a seat, and the child doesn't have that thread.
 class process {
   pid_t made_in = getpid();
 

@@ -1,7 +1,8 @@
 //! What a lock and an unlock order, told to ThreadSanitizer, which doesn't see into the library. `build.rs` sets `tells_order`
 //! if the crate is built for it. Otherwise these functions do nothing.
 //!
-//! So the tests run under it. The one race that it reports is in std's own test harness, which isn't built for it:
+//! So the tests run under it. The one race that it reports is in std's own test harness, which isn't built for it. For the same
+//! reason it may report the last drop of an `Arc`, which the seats of a mutex share: it doesn't follow std's fence.
 //!
 //! ```text
 //! RUSTFLAGS='-Zsanitizer=thread -Cunsafe-allow-abi-mismatch=sanitizer' \

@@ -1,5 +1,5 @@
-// One thread locks thousands of mutexes. A first lock of one takes about as long however many it has locked before. And the
-// memory of mutexes that have ended is given back while it goes on.
+// One thread locks thousands of mutexes. A first lock of one takes on average about as long however many it has locked before.
+// And the memory of mutexes that have ended is given back while it goes on.
 //
 // The test wraps the calls of the library that open and close a mutex, to count those that are open.
 #define lfm_c_open seen_open

@@ -181,7 +181,8 @@ class recursive_mutex {
   }
 
   // Gives back the seats of mutexes that have ended, once the thread has more than twice as many seats as were left the last
-  // time. So it doesn't take longer to take a seat the more seats the thread has.
+  // time. So on average it doesn't take longer to take a seat the more seats the thread has. The call that gives them back
+  // looks at all of them.
   static void give_back_ended() {
     own_thread &mine = here();
     if (mine.all->size() <= mine.most) return;

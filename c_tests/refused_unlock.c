@@ -1,6 +1,6 @@
 /* A thread writes without the mutex and makes an unlock, which is refused. Another locks and reads. That is a race, and
- * ThreadSanitizer has to report it: a refused unlock orders nothing. The threads go on in turn, by a number whose order
- * ThreadSanitizer does not use. */
+ * ThreadSanitizer has to report it: a refused unlock orders nothing. The threads take turns by a relaxed number, which orders
+ * nothing either. */
 #include "expect.h"
 
 static lfm_mutex mutex;

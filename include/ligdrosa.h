@@ -264,8 +264,8 @@ static inline uint64_t lfm_nanoseconds(void) {
   return (uint64_t)now.tv_sec * 1000000000 + (uint64_t)now.tv_nsec;
 }
 
-/* Looks for this many nanoseconds whether the bell rings again, after it has rung `seen` times. A look loads the bell alone,
- * which no other seat's steps touch, after some pauses. */
+/* Watches the bell for this many nanoseconds, and returns whether it has rung again, after it had rung `seen` times. Each look
+ * comes after some pauses and loads only the bell, which no other seat's steps touch. */
 static inline bool lfm_hears(lfm_bell *bell, uint32_t seen, uint64_t nanoseconds) {
   if (nanoseconds == 0) return false;
   uint64_t begun = lfm_nanoseconds();
@@ -439,7 +439,8 @@ static inline uint64_t lfm_left(lfm_seat *seat) { return seat && seat->mutex ? l
 /* The condition variable */
 
 /* Those that wait, the oldest first, guarded by a mutex of its own. The user's seat with the number n uses the list's seat n,
- * so no two threads use one. `of` is null while the condition variable is not open. If `count` is 0, a wake does no more. */
+ * so no two threads use one. `of` is null while the condition variable is not open. A wake that finds `count` 0 answers at
+ * once. */
 typedef struct lfm_condvar {
   lfm_mutex list;
   lfm_mutex *of;
@@ -455,7 +456,7 @@ static inline void lfm_condvar_count(lfm_condvar *condvar, uint64_t count) {
   __atomic_store_n(&condvar->count, count, __ATOMIC_RELAXED);
 }
 
-/* Gives the memory of a condition variable back, also if it was opened in part. */
+/* Gives the memory of a condition variable back, even if it was opened only in part. */
 static inline void lfm_condvar_free(lfm_condvar *condvar) {
   if (condvar->seats)
     for (uint64_t i = 1; i <= condvar->list.seats; i++) lfm_seat_give(&condvar->seats[i]);
@@ -534,8 +535,8 @@ LFM_NODISCARD static inline lfm_status lfm_wait(lfm_condvar *condvar, lfm_seat *
 
 /* Sends the oldest of those that wait, whose seat then gains the mutex or is queued. The list's mutex is held. `granted` is the
  * number of the seat that the caller rings for once it has given the list back, or 0. A wake grants the mutex again only after
- * the seat of its last grant has gained it and given it up. That seat is rung for at once, so that the caller keeps one number
- * alone. */
+ * the seat of its last grant has gained it and given it up. That seat is rung for at once, so that the caller keeps only one
+ * number. */
 static inline lfm_status lfm_send_oldest(lfm_condvar *condvar, lfm_seat *seat, uint64_t *granted) {
   if (condvar->count == 0) return LFM_NOBODY;
   uint64_t answer = lfm_c_send(seat->handle, condvar->waiting[condvar->first]);

@@ -122,9 +122,9 @@ public:
 
 // A mutex that finds the seat of the calling thread by itself. A thread takes a seat at its first call and gives it back when
 // its objects end, so as many threads may use it at a time as it has seats: more are refused as LFM_NO_SEAT, by an exception. A
-// thread that comes takes the seat that was given back last, and goes on with that seat's takes. So threads that come one after
-// another share the takes of one seat: 2^36 are 19 hours of a lock in each microsecond. Once they are spent, the lock of each
-// thread that comes is refused as LFM_SPENT, though other seats have takes.
+// new thread takes the seat that was given back last, and goes on with that seat's takes. So threads that run one after another
+// share the takes of one seat: 2^36 takes last 19 hours at one lock a microsecond. Once they are spent, each new thread's lock
+// is refused as LFM_SPENT, though other seats have takes.
 //
 // Objects of a thread that end after its seats are given back may lock too, and so may objects that end with the program: a
 // call takes a seat then, and gives it back once it doesn't hold. A forked child gives no seat back.

@@ -134,7 +134,7 @@ impl Condvar {
 
     /// Sends the oldest of those that wait, whose seat then gains the mutex or is queued. `left` is the wake-up that the caller
     /// makes once it has given the list back. A wake grants the mutex again only after the seat of its last grant has gained it
-    /// and given it up. That seat is rung for at once, so that the caller keeps one wake-up alone.
+    /// and given it up. That seat is rung for at once, so that the caller keeps only one wake-up.
     ///
     /// # Safety
     ///

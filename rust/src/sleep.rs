@@ -57,8 +57,8 @@ impl Bell {
         }
     }
 
-    /// Looks for this time whether it rings again, after it has rung `seen` times. A look loads the bell alone, which no other
-    /// seat's steps touch, after some pauses.
+    /// Watches the bell for this time, and returns whether it has rung again, after it had rung `seen` times. Each look comes
+    /// after some pauses and loads only the bell, which no other seat's steps touch.
     pub fn hears(&self, seen: u32, time: Duration) -> bool {
         if time.is_zero() {
             return false;

@@ -393,7 +393,8 @@ static inline lfm_status lfm_seat_give(lfm_seat *seat) {
 /* Ends the mutex and gives its memory back. It never sleeps. Refused: LFM_BLANK, and LFM_NOT_BACK if one of its seats is not
  * given back. A seat that holds or sleeps can't be given back, so a mutex that is held or asked for is refused. A seat is back
  * once the call that gives it has left the mutex. So a thread may call this beside the last give until it is not refused, and
- * then free the memory of the mutex. */
+ * then free the memory of the mutex. Between two calls it should sleep: otherwise it may keep the processor from a thread of
+ * lower priority that gives a seat back. */
 static inline lfm_status lfm_mutex_close(lfm_mutex *mutex) {
   if (!mutex || !mutex->bells) return LFM_BLANK;
   if (!lfm_try_lock_seats(mutex)) return LFM_NOT_BACK;

@@ -1,11 +1,10 @@
-//! A producer and a consumer: one thread puts the numbers 1, 2, 3 and on into a bounded buffer, and another takes them out.
-//! A monitor guards the buffer. A thread that finds it full, or empty, waits on a condition until the other thread wakes it.
+//! A producer and a consumer: one thread puts the numbers 1, 2, 3 and on into a bounded buffer, and another takes them out. A
+//! monitor guards the buffer, which is the object of `lfm_buffer`. A thread that finds it full, or empty, waits on a condition
+//! until the other thread wakes it.
 #![tactic(auto)]
 
-mod buffer;
-
-use crate::buffer::{Buffer, BufferOp, BufferReply};
 use anyhow::bail;
+use lfm_buffer::{Buffer, BufferOp, BufferReply};
 use lfm_model::{Refusal, lawful, replay};
 use lfm_monitor::{CriticalSection, Monitor, Pass};
 use std::ops::ControlFlow;
@@ -14,8 +13,8 @@ use std::sync::Wait;
 /// How many numbers go through the buffer.
 const NUMBERS: u64 = 10_000;
 
-/// How many entries of the journal a thread may write. A number costs it four at most: it enters and tries, and if that fails it
-/// waits, enters again and tries once more.
+/// How many entries of the journal a thread may write. A number costs it four at most: it enters and tries, and if that fails
+/// it waits, enters again and tries once more.
 const ENTRIES: u64 = 40_000;
 
 /// The conditions of the monitor: a thread that found the buffer empty waits on the first, and one that found it full on the
@@ -30,6 +29,7 @@ struct Roles;
 impl<R: Wait> CriticalSection<Buffer, R> for Roles {
     type Answer = ControlFlow<()>;
 
+    /// Puts one number in, or takes one out, and wakes the other thread if that waits for it.
     fn execute(
         &self,
         rt: &R,
@@ -70,6 +70,7 @@ fn taken_in_order(replies: &[BufferReply]) -> Option<u64> {
     Some(last)
 }
 
+/// Runs both threads, and then checks by the journal that no number was lost and none overtook another.
 fn main(rt: HostRuntime) -> anyhow::Result<()> {
     // a monitor with two passes, each of which may write `ENTRIES` entries, and two conditions, round an empty buffer
     let (monitor, passes) = Monitor::new(rt.alloc(), 2, ENTRIES, 2, Buffer::new())?;

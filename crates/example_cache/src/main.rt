@@ -53,6 +53,7 @@ fn look_up(mutex: &Mutex<Cache>, seat: &mut Seat<Cache>, number: u64) -> Result<
     }
 }
 
+/// Runs four threads, and prints the sum of all that they looked up.
 fn main(rt: HostRuntime) -> anyhow::Result<()> {
     let (mutex, seats) = Mutex::new(rt.alloc(), 4, BUDGET, Cache::new())?;
     let total = AtomicU64::new(0);

@@ -65,6 +65,7 @@ impl Object for Channel {
 
     ghost reply = { channel_reply };
 
+    /// Sends, receives or closes. It never waits: a reply tells that there was no room, or nothing.
     fn apply(&mut self, op: &ChannelOp) -> ChannelReply {
         match op {
             ChannelOp::Send(number) => {

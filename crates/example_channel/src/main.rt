@@ -37,6 +37,7 @@ struct Roles;
 impl<R: Wait> CriticalSection<Channel, R> for Roles {
     type Answer = ControlFlow<()>;
 
+    /// A sender sends one number, and closes its end after its last one. The receiver receives one, until all ends are closed.
     fn execute(
         &self,
         rt: &R,
@@ -86,6 +87,7 @@ fn received(replies: &[ChannelReply]) -> (u64, u64) {
     (count, sum)
 }
 
+/// Runs all five threads, and then counts by the journal what was received.
 fn main(rt: HostRuntime) -> anyhow::Result<()> {
     // a monitor with a pass for each thread, each of which may write `ENTRIES` entries, and two conditions, round the channel
     let channel = Channel::new(SENDERS);

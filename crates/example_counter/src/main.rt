@@ -7,8 +7,10 @@ use anyhow::bail;
 use lfm_model::Refusal;
 use lfm_mutex::{Mutex, Seat};
 
+/// How often each thread takes the mutex.
 const ROUNDS: u64 = 1_000;
 
+/// Runs four threads, and prints the value that the mutex is closed with.
 fn main(rt: HostRuntime) -> anyhow::Result<()> {
     // a mutex with four seats, each of which may take it that many times, round a value that begins at 0
     let (mutex, seats) = Mutex::new(rt.alloc(), 4, ROUNDS, 0u64)?;

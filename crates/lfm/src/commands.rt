@@ -2,8 +2,9 @@
 //! into the exit status.
 ghost use Rattle.std.specs.Prelude.{◌≢◌, Err};
 
-use lfm_core::{ReplayFault, replay};
-use lfm_program::{OpenGate, WorkFault, report, report_work, work};
+use lfm_core::{ReplayFault, replay, report};
+use lfm_program::{OpenGate, work};
+use lfm_script::{WorkFault, report_work};
 use lfm_text::{CommandLine, read_command_line, standard_output, tell_usage};
 use std::io::Input;
 use std::rt::Env;

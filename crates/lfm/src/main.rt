@@ -6,6 +6,7 @@ mod commands;
 
 use std::process::ExitCode;
 
+/// Runs what the command line asks for, and exits with its status.
 fn main(rt: HostRuntime) -> ExitCode {
     ExitCode::from(commands::run(&rt))
 }

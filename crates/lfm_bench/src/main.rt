@@ -13,6 +13,7 @@ mod workloads;
 use crate::measure::Plan;
 use std::io;
 
+/// Measures as the arguments say, and prints.
 fn main(rt: HostRuntime) -> io::Result<()> {
     let plan = Plan::from_arguments(&rt)?;
     tables::measure(&rt, plan)

@@ -166,6 +166,7 @@ pub fn measure<R: Threads + Sync + Wait + Clock + CpuClock + AllocGlobal + Print
     measure_all(rt, &mut Bench { peers, plan })
 }
 
+/// Measures and prints the tables, one after the other.
 fn measure_all<R: Threads + Sync + Wait + Clock + CpuClock + AllocGlobal + Print>(
     rt: &R,
     bench: &mut Bench,
@@ -234,6 +235,7 @@ fn measure_rows<R: Threads + Sync + Wait + Clock + CpuClock + AllocGlobal + Prin
     }
 }
 
+/// Prints the rows once for each view, below its head.
 fn print_views<R: Print + AllocGlobal>(
     rt: &R,
     views: &[View],
@@ -252,6 +254,7 @@ fn print_views<R: Print + AllocGlobal>(
     Ok(())
 }
 
+/// Prints for each row whether its calls did what they should.
 fn print_checks<R: Print>(rt: &R, rows: &Vec<Row>) -> io::Result<()> {
     for row in rows {
         row.print_check(rt)?;

@@ -28,6 +28,7 @@ fn told(status: Status, wake_up: Option<WakeUp>) -> u64
     }
 }
 
+/// The status of an answer of `ask`. How the seat came to hold is not told to C.
 fn asked(answer: Result<Asked, Refusal>) -> Status
     ensures { result ≡ asked_of answer }
 {
@@ -39,6 +40,7 @@ fn asked(answer: Result<Asked, Refusal>) -> Status
     }
 }
 
+/// The status of an answer of `try_receive`. None tells that the seat sleeps on.
 fn received(answer: Result<Option<How>, Refusal>) -> Status
     ensures { result ≡ received_of answer }
 {
@@ -49,6 +51,7 @@ fn received(answer: Result<Option<How>, Refusal>) -> Status
     }
 }
 
+/// The status of an answer of `try_lock`.
 fn locked(answer: Result<Locked, Refusal>) -> Status
     ensures { result ≡ locked_of answer }
 {
@@ -59,6 +62,8 @@ fn locked(answer: Result<Locked, Refusal>) -> Status
     }
 }
 
+/// The status of an unlock that was not refused. C has one status for a mutex that was given up beside a call that takes it
+/// over, whether that call has taken it already or not.
 fn released(unlocked: Unlocked) -> Status
     ensures { result ≡ released_of unlocked }
 {
@@ -71,6 +76,7 @@ fn released(unlocked: Unlocked) -> Status
     }
 }
 
+/// The status of an answer of `unlock` or `start_wait`.
 fn unlocked(answer: Result<Unlocked, Refusal>) -> Status
     ensures { result ≡ unlocked_of answer }
 {
@@ -80,6 +86,7 @@ fn unlocked(answer: Result<Unlocked, Refusal>) -> Status
     }
 }
 
+/// The status of an answer of `send_lock`.
 fn sent(answer: Result<(), Refusal>) -> Status
     ensures { result ≡ sent_of answer }
 {
@@ -99,7 +106,9 @@ fn without_target(seat: &Seat<u64>) -> Status
     Status::Refused(Refusal::NoSuchSeat)
 }
 
+/// The calls of the mutex, with its clauses about the seat and the mutex that lie together in a handle.
 impl Seated {
+    /// `ask_without_waking` of the mutex.
     fn ask(&mut self) -> (Result<Asked, Refusal>, Option<WakeUp>)
         ensures same { (self.new.mutex ≡ self.old.mutex) × Beside self.old.seat self.new.seat }
         ensures asks { Asks Follows Fits (limits_of (arc_value self.old.mutex)).budget (sight self.old.seat) (sight self.new.seat) result.0 }
@@ -110,6 +119,7 @@ impl Seated {
         self.mutex.ask_without_waking(&mut self.seat)
     }
 
+    /// `try_receive` of the mutex.
     fn receive(&mut self) -> Result<Option<How>, Refusal>
         ensures same { (self.new.mutex ≡ self.old.mutex) × Beside self.old.seat self.new.seat }
         ensures receives { Receives Follows Fits (sight self.old.seat) (sight self.new.seat) result }
@@ -119,6 +129,7 @@ impl Seated {
         self.mutex.try_receive(&mut self.seat)
     }
 
+    /// `try_lock` of the mutex.
     fn try_lock(&mut self) -> Result<Locked, Refusal>
         ensures same { (self.new.mutex ≡ self.old.mutex) × Beside self.old.seat self.new.seat }
         ensures locks { Locks Follows Fits (limits_of (arc_value self.old.mutex)).budget (sight self.old.seat) (sight self.new.seat) result }
@@ -128,6 +139,7 @@ impl Seated {
         self.mutex.try_lock(&mut self.seat)
     }
 
+    /// `unlock_without_waking` of the mutex.
     fn unlock(&mut self) -> (Result<Unlocked, Refusal>, Option<WakeUp>)
         ensures same { (self.new.mutex ≡ self.old.mutex) × Beside self.old.seat self.new.seat }
         ensures unlocks { Unlocks (sight self.old.seat) (sight self.new.seat) result.0 }
@@ -138,6 +150,7 @@ impl Seated {
         self.mutex.unlock_without_waking(&mut self.seat)
     }
 
+    /// `start_wait_without_waking` of the mutex.
     fn start_wait(&mut self) -> (Result<Unlocked, Refusal>, Option<WakeUp>)
         ensures same { (self.new.mutex ≡ self.old.mutex) × Beside self.old.seat self.new.seat }
         ensures waits { StartsWait (limits_of (arc_value self.old.mutex)).budget (sight self.old.seat) (sight self.new.seat) result.0 }
@@ -148,6 +161,7 @@ impl Seated {
         self.mutex.start_wait_without_waking(&mut self.seat)
     }
 
+    /// `send_lock_without_waking` of the mutex, to the seat with this number.
     fn send(&mut self, target: SeatNo) -> (Result<(), Refusal>, Option<WakeUp>)
         ensures same { (self.new.mutex ≡ self.old.mutex) × Beside self.old.seat self.new.seat }
         ensures sends { Sends (limits_of (arc_value self.old.mutex)).seats (sight self.old.seat) target (sight self.new.seat) result.0 }

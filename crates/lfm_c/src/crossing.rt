@@ -3,6 +3,7 @@ ghost use Rattle.std.specs.Prelude.{◌≡◌};
 
 use crate::handles::{MutexHandle, SeatHandle};
 
+/// The value, which the bound allows to go to another thread. A call of it is proved only if the value's type is `Send`.
 fn sent<T: Send>(value: T) -> T
     ensures { result ≡ value }
 {

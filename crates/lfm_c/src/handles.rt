@@ -1,13 +1,14 @@
 //! What lies in the caller's memory: a handle of a mutex, and a handle of each seat. A blank handle has no mutex, or no seat.
 //!
-//! A mutex has to guard a value. Here it is a number that nothing reads, since what a program in C guards lies in its own memory.
+//! A mutex has to guard a value. Here it is a number that nothing reads, since what a program in C guards lies in its own
+//! memory.
 ghost use Rattle.std.specs.Prelude.{◌≡◌, ◌≤◌, None};
 ghost use Rattle.std.specs.Vec.{vec_capacity};
 ghost use Rattle.std.specs.Arc.{arc_value};
 ghost use Rattle.lfm_mutex.specs.Belongs.{OfMutex, limits_of};
 ghost use Rattle.lfm_model.specs.SeatNumbers.{max_seat_no};
 
-use lfm_mutex::{Mutex, Seat};
+use lfm_mutex::{Holder, Mutex, Seat};
 use std::alloc::Global;
 use std::sync::Arc;
 
@@ -17,6 +18,21 @@ pub struct Seated {
     pub mutex: Arc<Mutex<u64>, Global>,
     pub seat: Seat<u64>,
     pub ghost belongs: { OfMutex seat (arc_value mutex) },
+}
+
+impl Holder<u64> for Seated {
+    ghost seat_of = { λ a. a.seat };
+
+    /// The seat.
+    fn seat(&self) -> &Seat<u64> {
+        &self.seat
+    }
+
+    /// The seat, without its share of the mutex.
+    fn into_seat(self) -> Seat<u64> {
+        let Seated { mutex: _, seat } = self;
+        seat
+    }
 }
 
 /// A seat that the caller has taken, or none.

@@ -1,12 +1,12 @@
-//! A recursive mutex for programs in C. The handle of a mutex, and one for each seat, lie in memory of the caller, who gives each
-//! to one call at a time. A static library may neither sleep nor wake, so no call here does: include/ligdrosa.h sleeps if a call
-//! answers that the seat does, and wakes the seat that a call names.
+//! A recursive mutex for programs in C. The handle of a mutex, and one for each seat, lie in memory of the caller, who gives
+//! each to one call at a time. A static library may neither sleep nor wake, so no call here does: include/ligdrosa.h sleeps if
+//! a call answers that the seat does, and wakes the seat that a call names.
 //!
-//! An export tells what the call of the mutex answered by a status in the low 8 bits. Its clause says what the status means: the
-//! mutex's own clauses of that call's answers, steps and bound hold of it. An `ask`, `unlock`, `start_wait` or `send` may grant
-//! the mutex to at most one other seat. The number of that seat stands above the status, 0 if there is none, and the clause says
-//! that it is the seat of the wake-up which the call leaves. So on this side no wake-up is lost: the caller has to wake the seat
-//! that an answer names.
+//! An export tells what the call of the mutex answered by a status in the low 8 bits. Its clause says what the status means:
+//! the mutex's own clauses of that call's answers, steps and bound hold of it. An `ask`, `unlock`, `start_wait` or `send` may
+//! grant the mutex to at most one other seat. The number of that seat stands above the status, 0 if there is none, and the
+//! clause says that it is the seat of the wake-up which the call leaves. So on this side no wake-up is lost: the caller has to
+//! wake the seat that an answer names.
 #![tactic(auto)]
 
 ghost use Rattle.std.specs.Borrow.{full_share, sem};
@@ -131,9 +131,9 @@ pub unsafe extern "C" fn lfm_c_give_seat(mutex: *mut u8, seat: *mut u8) -> u64
 /// Ends the mutex if each of its seats is back, and gives its memory back.
 ///
 /// Done, or Blank, NotBack, Holding, Asleep, which change nothing. Above one of the last three stands the number of the first
-/// seat, from 1 on, that is not back, holds or sleeps, as `close` of the mutex names it. That `close` is not called here, since
-/// it requires that each seat is one of this mutex. Nothing that runs tells whose seat comes back from C, so here seats are known
-/// by their numbers alone. What the mutex guards, a number that nothing reads, is dropped with it.
+/// seat, from 1 on, that is not back, holds or sleeps, as `missing` of the mutex names it, which goes by the numbers of the
+/// seats alone. `close` of the mutex is not called here, since it requires that each seat is one of this mutex, and nothing
+/// that runs tells whose seat comes back from C. What the mutex guards, a number that nothing reads, is dropped with it.
 #[unsafe(no_mangle)]
 pub unsafe extern "C" fn lfm_c_close(mutex: *mut u8) -> u64
     ghost x: { MutexNow }
@@ -173,8 +173,8 @@ pub unsafe extern "C" fn lfm_c_left(seat: *mut u8) -> u64
     reading::left(&mut *(seat as *mut SeatHandle))
 }
 
-/// `ask` of the seat: Done (it holds), Again (it holds once more), Asleep, or Blank, or why it is refused. Above it is the number of the
-/// seat to be woken, or 0.
+/// `ask` of the seat: Done (it holds), Again (it holds once more), Asleep, or Blank, or why it is refused. Above it is the
+/// number of the seat to be woken, or 0.
 #[unsafe(no_mangle)]
 pub unsafe extern "C" fn lfm_c_ask(seat: *mut u8) -> u64
     ghost x: { SeatNow }
@@ -204,8 +204,8 @@ pub unsafe extern "C" fn lfm_c_try_lock(seat: *mut u8) -> u64
     calls::try_lock(&mut *(seat as *mut SeatHandle))
 }
 
-/// `unlock` of the seat: Still (it holds once less), Done, Posted, Granted, or Blank, or why it is refused. Above it is the number of
-/// the seat to be woken, or 0.
+/// `unlock` of the seat: Still (it holds once less), Done, Posted, Granted, or Blank, or why it is refused. Above it is the
+/// number of the seat to be woken, or 0.
 #[unsafe(no_mangle)]
 pub unsafe extern "C" fn lfm_c_unlock(seat: *mut u8) -> u64
     ghost x: { SeatNow }
@@ -225,9 +225,9 @@ pub unsafe extern "C" fn lfm_c_start_wait(seat: *mut u8) -> u64
     calls::start_wait(&mut *(seat as *mut SeatHandle))
 }
 
-/// `send_lock` of the seat to the seat with this number: Done, or Blank, or why it is refused. Above it is the number of the seat to be
-/// woken, or 0: the seat that was sent, if it was granted the mutex at once, or a third one, to which a posted hand-off was
-/// passed.
+/// `send_lock` of the seat to the seat with this number: Done, or Blank, or why it is refused. Above it is the number of the
+/// seat to be woken, or 0: the seat that was sent, if it was granted the mutex at once, or a third one, to which a posted
+/// hand-off was passed.
 #[unsafe(no_mangle)]
 pub unsafe extern "C" fn lfm_c_send(seat: *mut u8, number: u64) -> u64
     ghost x: { SeatNow }

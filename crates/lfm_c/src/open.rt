@@ -99,6 +99,7 @@ impl Whole {
         self.seats.push_reserved(seated);
     }
 
+    /// Whether all seats of the mutex are back, or not yet taken.
     fn is_whole(&self) -> bool
         ensures { MatchBool result (self.now.count ≤ vec_len self.now.seats) (vec_len self.now.seats < self.now.count) }
     {

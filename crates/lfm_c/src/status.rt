@@ -39,6 +39,7 @@ pub enum Status {
     Refused(Refusal),
 }
 
+/// The number of a refusal: 32 to 39, so that no other status has it.
 fn code_of_refusal(refusal: Refusal) -> u64
     ensures is { result ≡ code_of_refusal refusal }
     ensures low { result < 256 }

@@ -22,7 +22,7 @@ cond_tries v = tries_of v.inner
 abbrev pub cond_sight : CondSeat → Sight Waiters
 cond_sight c = sight c.seat
 
--- the actions of all cond seats that it knows: an early part of the inner mutex's run, after which only others have acted
+-- the actions of all cond seats that it knows: the inner mutex's run up to its own last step, after which only others have acted
 abbrev pub cond_past : CondSeat → List Action
 cond_past c = past_of c.seat
 

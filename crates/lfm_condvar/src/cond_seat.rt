@@ -1,5 +1,5 @@
-//! A seat of a condvar: what one thread uses it with. It has a seat of the inner mutex, which is private to this module. So a call
-//! that borrows a cond seat locks the inner mutex by `hold` alone, whose calls give it back before they return.
+//! A seat of a condvar: what one thread uses it with. It has a seat of the inner mutex, which is private to this module. So a
+//! call that borrows a cond seat locks the inner mutex by `hold` alone, whose calls give it back before they return.
 ghost use Rattle.std.specs.Prelude.{◌≡◌, ◌≤◌, ℕ, [], vec_capacity, vec_len};
 ghost use mathlib.Core.Option.{some};
 ghost use lib.ListN.{get_elem?};
@@ -23,10 +23,12 @@ pub struct CondSeat {
 impl Holder<Waiters> for CondSeat {
     ghost seat_of = { λ c. c.seat };
 
+    /// The seat of the inner mutex.
     fn seat(&self) -> &Seat<Waiters> {
         &self.seat
     }
 
+    /// The seat of the inner mutex, with which that is closed.
     fn into_seat(self) -> Seat<Waiters> {
         self.seat
     }

@@ -1,12 +1,12 @@
 //! How a condvar is made: an inner mutex round an empty list, and a cond seat for each of its seats.
-ghost use Rattle.std.specs.Prelude.{◌≡◌, ◌+◌, ℕ, IfErr, IfOk, true, false, vec_len};
+ghost use Rattle.std.specs.Prelude.{◌≡◌, ◌+◌, ℕ, [], IfErr, IfOk, true, false, vec_len};
 ghost use mathlib.Core.Option.{some};
 ghost use lib.ListN.{get_elem?};
 ghost use Rattle.lfm_model.specs.declared.refusals.NewFault.{NewFault};
 ghost use Rattle.lfm_protocol.specs.Limits.{are_in_limits};
 ghost use Rattle.lfm_mutex.specs.Paces.{usual_pace};
 ghost use Rattle.lfm_mutex.specs.calls.Sight.{new_sight};
-ghost use Rattle.lfm_condvar.specs.Belongs.{OfCondvar, cond_limits, cond_sight};
+ghost use Rattle.lfm_condvar.specs.Belongs.{OfCondvar, cond_limits, cond_past, cond_sight};
 ghost use Rattle.lfm_condvar.specs.Keeping.{IsNew};
 
 use crate::cond_seat::{CondSeat, as_cond_seats};
@@ -28,6 +28,7 @@ impl Condvar {
         ensures limits { IfOk result (λ r. (cond_limits r.0 ≡ record { seats = seats; budget = budget }) × (are_in_limits seats budget ≡ true)) }
         ensures belongs { IfOk result (λ r. (j : ℕ) (s : _) → get_elem? r.1.items j ≡ some s → OfCondvar s r.0) }
         ensures seats { IfOk result (λ r. (vec_len r.1 ≡ seats) × ((v : _) × IsNew v × ((j : ℕ) (s : _) → get_elem? r.1.items j ≡ some s → OfCondvar s r.0 × (cond_sight s ≡ new_sight v seats (j + 1))))) }
+        ensures past { IfOk result (λ r. (j : ℕ) (s : _) → get_elem? r.1.items j ≡ some s → cond_past s ≡ []) }
         ensures pace { IfOk result (λ r. r.0.inner.pace ≡ usual_pace) }
         ensures limit { are_in_limits seats budget ≡ false → IfErr result (λ e. e ≡ NewFault.Limit) × IfOk result (λ _. ⊥) }
         ensures memory { are_in_limits seats budget ≡ true → IfErr result (λ e. e ≡ NewFault.Memory) }

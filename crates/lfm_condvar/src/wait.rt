@@ -101,8 +101,8 @@ impl Condvar {
     /// under the inner mutex, costs the cond seat its take, and changes nothing else.
     ///
     /// A wait costs each seat one take. It takes no memory, sleeps, and wakes the seat that it grants a mutex, if any. If no
-    /// other seat waited when it was put into the list, and at most one holds or wants the user mutex, it looks before it sleeps,
-    /// as often as the pace of the user mutex says. Otherwise it sleeps at once.
+    /// other seat waited when it was put into the list, and at most one holds or wants the user mutex, it looks before it
+    /// sleeps, as often as the pace of the user mutex says. Otherwise it sleeps at once.
     pub fn wait<T: Kept, R: Wait>(
         &self,
         rt: &R,

@@ -27,8 +27,9 @@ fn must_wait<T: Kept, F: Fn(&T) -> bool>(seat: &Seat<T>, condition: &F) -> bool
 
 impl Condvar {
     /// Waits, as `wait` does, for as long as the condition holds of the value that the seat has in hand. It tests that before
-    /// it waits and again after each wait. When it returns, the seat holds as before, and the condition doesn't hold of the value
-    /// that it has in hand. A seat has to be allowed to leave the value that it finds, which is so if the value is a number.
+    /// it waits and again after each wait. When it returns, the seat holds as before, and the condition doesn't hold of the
+    /// value that it has in hand. A seat has to be allowed to leave the value that it finds, which is so if the value is a
+    /// number.
     ///
     /// Refuses as `wait`, in the same order, if the condition holds or the seat has no value in hand. The seat is then as the
     /// waits before left it. A wait costs each seat one take. It takes no memory, and sleeps and wakes as `wait`.

@@ -1,5 +1,5 @@
-//! The list of those that wait, with its tickets. Only `enlist` and `send_oldest` change it, with or without waking: the fields,
-//! and what appends or takes off, are private to this module, of which these calls are children.
+//! The list of those that wait, with its tickets. Only `enlist` and `send_oldest` change it, with or without waking: the
+//! fields, and what appends or takes off, are private to this module, of which these calls are children.
 ghost use Rattle.std.specs.Prelude.{All, ◌≡◌, ℕ, ◌+◌, ◌<◌, ◌≤◌, ◌++◌, [], ◌∷◌, Some, IfOk, MatchBool, MatchOption, length, slice_index, sum, vec_len};
 ghost use Rattle.std.specs.VecDeque.{deque_capacity, deque_len};
 ghost use Rattle.lfm_protocol.specs.Limits.{max_budget, max_seats};
@@ -23,8 +23,8 @@ pub(crate) struct Waiter {
     pub(crate) ticket: u64,
 }
 
-/// Those that wait, the oldest first, and how many tickets each cond seat added. A cond seat's number is its index in the counts;
-/// index 0 stands for nobody. Its fields are this module's own.
+/// Those that wait, the oldest first, and how many tickets each cond seat added. A cond seat's number is its index in the
+/// counts; index 0 stands for nobody. Its fields are this module's own.
 #[derive(Drop)]
 pub struct Waiters {
     list: VecDeque<Waiter>,

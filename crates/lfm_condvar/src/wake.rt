@@ -1,5 +1,5 @@
-//! How waiters are woken: in one hold of the inner mutex the oldest, or all, oldest first, are made lockers of the user mutex. The
-//! thread of a waiter that is granted the user mutex is woken after that hold.
+//! How waiters are woken: in one hold of the inner mutex the oldest, or all, oldest first, are made lockers of the user mutex.
+//! The thread of a waiter that is granted the user mutex is woken after that hold.
 ghost use Rattle.std.specs.Prelude.{◌≤◌};
 ghost use Rattle.lfm_mutex.specs.Belongs.{Beside, OfMutex, limits_of};
 ghost use Rattle.lfm_mutex.specs.calls.RunGoesOn.{RunGoesOnFrom};
@@ -55,8 +55,8 @@ impl Condvar {
     /// Refuses as `wake_one`: Asleep and Spent before anything is changed. NotWaiting leaves that waiter and those behind it
     /// in the list; the earlier ones were sent.
     ///
-    /// It costs the cond seat one take, however many are sent. It takes no memory, may sleep until it has the inner mutex,
-    /// and wakes the seats that it grants a mutex, if any. Of the seats that are granted the user mutex, mostly one, the last is
+    /// It costs the cond seat one take, however many are sent. It takes no memory, may sleep until it has the inner mutex, and
+    /// wakes the seats that it grants a mutex, if any. Of the seats that are granted the user mutex, mostly one, the last is
     /// woken after the inner mutex is given back, and each other one when the next is granted it.
     pub fn wake_all<T: Kept, R: Wait>(
         &self,

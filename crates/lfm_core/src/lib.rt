@@ -11,6 +11,6 @@ pub use lfm_protocol::{
 };
 pub use stepped::State;
 pub use text::{
-    Act, Line, MAX_STEPS, ReplayFault, Schedule, faults, grammar_laws, read_schedule, replay,
-    replay_status, report, run, schedule,
+    Act, Line, MAX_STEPS, ReplayFault, Schedule, faults, grammar_laws, line_number, read_schedule,
+    replay, replay_status, report, run, schedule,
 };

@@ -11,5 +11,5 @@ pub mod trace;
 pub use faults::ReplayFault;
 pub use replaying::replay;
 pub use reporting::{replay_status, report};
-pub use schedule::{Act, Line, MAX_STEPS, Schedule, read_schedule};
+pub use schedule::{Act, Line, MAX_STEPS, Schedule, line_number, read_schedule};
 pub use schedule_runs::run;

@@ -1,11 +1,13 @@
-//! The program `lfm_explain`: it reads a schedule of atomic steps like `lfm replay`, and shows each step that is made. What it
-//! prints is made in `lfm_explanation`; here stand its arguments, messages and statuses alone.
+//! The program `lfm_explain`: it reads a schedule of atomic steps, as `lfm replay` does, and shows each step that is made. With
+//! the word `drive` it drives a running mutex through the schedule instead, and shows the outcome of each line. The crate
+//! `lfm_explanation` makes what it prints; only its arguments, messages and statuses are decided here.
 #![tactic(auto)]
 
 mod commands;
 
 use std::process::ExitCode;
 
+/// Runs what the command line asks for, and exits with its status.
 fn main(rt: HostRuntime) -> ExitCode {
     ExitCode::from(commands::run(&rt))
 }

@@ -3,13 +3,13 @@ use Rattle.std.proofs.Common.{◌≡◌, ℕ, Bool, List, Option, Some, None, Re
 use Rattle.std.specs.Prelude.{IsErrAnd}
 use Rattle.lfm_core.specs.declared.text.faults.ReplayFault.{ReplayFault}
 use Rattle.lfm_core.specs.declared.text.faults.ReplayFault.TheVariants.{Syntax, Limit, Read, Write, Memory}
-use Rattle.lfm_core.specs.declared.text.schedule.Line.{Line}
+use Rattle.lfm_core.specs.declared.text.schedule.Schedule.{Schedule}
 use Rattle.lfm_protocol.specs.Core.{Core}
-use Rattle.lfm_core.specs.text.Grammar.{Plan}
+use Rattle.lfm_core.specs.text.Grammar.{Plan, plan_of}
 use Rattle.lfm_text.specs.Taking.{Takes}
 use Rattle.lfm_core.specs.text.Trace.{none_refused, opening}
 use Rattle.lfm_core.proofs.texts.Replays.{exact}
-use Rattle.lfm_explanation.specs.Verdicts.{AnswersVerdict, Judges}
+use Rattle.lfm_explanation.specs.Verdicts.{AnswersVerdict, Judges, Reads}
 
 -- the fault that `?` makes of a writer's
 pub write_failed : (r verdict : Result Bool ReplayFault) (old new : Option (List ℕ)) → IsErrAnd r (λ y. y ≡ Write) → AnswersVerdict r verdict old new
@@ -17,19 +17,27 @@ write_failed (Ok b) verdict old new e = absurd e
 write_failed (Err y) verdict old new e = subst (λ x. AnswersVerdict (Err x) verdict old new) (sym e) tt
 
 -- the run of a plan from its opening state
-pub run_judged : (b : Bool) (p : Plan) (state : Core) (lines : List Line) → state ≡ opening p → lines ≡ p.lines
-    → b ≡ none_refused state lines → AnswersVerdict (Ok b) (Ok (none_refused (opening p) p.lines)) None None
-run_judged b p state lines opens same verdict =
-    let Verdict : Core → List Line → Type 0 = λ c ls. b ≡ none_refused c ls in
-    ap Ok (sym (subst (Verdict (opening p)) same (subst (λ c. Verdict c lines) opens verdict)))
+pub run_judged : (b : Bool) (p : Plan) (state : Core) → state ≡ opening p → b ≡ none_refused state p.lines
+    → AnswersVerdict (Ok b) (Ok (none_refused (opening p) p.lines)) None None
+run_judged b p state opens verdict = ap Ok (sym (subst (λ c. b ≡ none_refused c p.lines) opens verdict))
 
--- The same of the bytes that were taken, for all the bytes. A replay into a writer whose bytes are not known says just this.
-pub judged : (before after : Option (List ℕ)) (taken : List ℕ) (r : Result Bool ReplayFault) (old new : Option (List ℕ))
-    → Takes before after taken → Judges r taken old new → IfSome before (λ xs. Judges r xs old new)
-judged None after taken r old new takes p = tt
-judged (Some xs) after taken (Ok b) old new takes p = (exact (Some xs) after taken (Ok b) None None takes (tt, p)).1
-judged (Some xs) after taken (Err (Syntax n)) old new takes p = (exact (Some xs) after taken (Err (Syntax n)) None None takes (tt, p)).1
-judged (Some xs) after taken (Err Limit) old new takes p = (exact (Some xs) after taken (Err Limit) None None takes (tt, p)).1
-judged (Some xs) after taken (Err Read) old new takes p = p
-judged (Some xs) after taken (Err Write) old new takes p = tt
-judged (Some xs) after taken (Err Memory) old new takes p = p
+-- What was read of the bytes that were taken was read of all the bytes. A replay into a writer whose bytes are not known says
+-- just this.
+pub read_of_all : (before after : Option (List ℕ)) (taken : List ℕ) (r : Result Schedule ReplayFault) (old new : Option (List ℕ))
+    → Takes before after taken → Reads r taken old new → IfSome before (λ xs. Reads r xs old new)
+read_of_all None after taken r old new takes p = tt
+read_of_all (Some xs) after taken (Ok s) old new takes p = (exact (Some xs) after taken (Ok _) None None takes (tt, p)).1
+read_of_all (Some xs) after taken (Err (Syntax n)) old new takes p = (exact (Some xs) after taken (Err (Syntax n)) None None takes (tt, p)).1
+read_of_all (Some xs) after taken (Err Limit) old new takes p = (exact (Some xs) after taken (Err Limit) None None takes (tt, p)).1
+read_of_all (Some xs) after taken (Err Read) old new takes p = p
+read_of_all (Some xs) after taken (Err Write) old new takes p = tt
+read_of_all (Some xs) after taken (Err Memory) old new takes p = p
+
+-- what the run of a schedule answers that was read, with nothing written before
+pub judged : (before : Option (List ℕ)) (s : Schedule) (r : Result Bool ReplayFault) (old between new : Option (List ℕ))
+    → IfSome before (λ xs. Reads (Ok s) xs old between) → between ≡ old
+    → AnswersVerdict r (Ok (none_refused (opening (plan_of s)) (plan_of s).lines)) between new → IfSome before (λ xs. Judges r xs old new)
+judged None s r old between new reads unwritten answers = tt
+judged (Some xs) s r old between new reads unwritten answers =
+    subst (λ v. AnswersVerdict r v old new) (sym reads)
+    (subst (λ bytes. AnswersVerdict r (Ok (none_refused (opening (plan_of s)) (plan_of s).lines)) bytes new) unwritten answers)

@@ -3,15 +3,17 @@
 //! What it writes are the lines of a replay without the states, so that the words of a running mutex can be compared with
 //! those of the core's state.
 ghost use Rattle.lfm_mutex.specs.Belongs.{Beside, OfMutex};
+ghost use Rattle.lfm_text.specs.Text.{max_lines};
 ghost use Rattle.std.specs.Prelude.{◌≡◌, ◌<◌, ◌⊎◌, All, length};
 
-use lfm_core::text::trace::{write_fault_line, write_outcome};
-use lfm_core::{Act, Line, ReplayFault, Schedule, Turn, Why, read_schedule};
+use crate::reading::{line_number, schedule_from};
+use lfm_core::text::trace::write_outcome;
+use lfm_core::{Act, Line, ReplayFault, Schedule, Turn, Why};
 use lfm_model::NewFault;
 use lfm_mutex::steps::{next, start};
 use lfm_mutex::{Mutex, Seat};
 use lfm_protocol::limits::longest_call;
-use lfm_text::{flush, read_input, write_line_feed, write_number, write_text};
+use lfm_text::{flush, write_line_feed, write_number, write_text};
 use std::alloc::Global;
 use std::io::{Read, Write};
 
@@ -47,7 +49,8 @@ pub fn follow(mutex: &Mutex<u64>, seats: &mut [Seat<u64>], line: &Line) -> Turn
     requires belong { All (λ s. OfMutex s mutex.now) seats.old }
     ensures belong { All (λ s. OfMutex s mutex.now) seats.new }
     ensures all { length seats.new ≡ length seats.old }
-    ensures missing { (line.now.seat ≡ 0) ⊎ (length seats.old < line.now.seat) → (result ≡ Turn.Refused Why.NoSuchSeat) × (seats.new ≡ seats.old) }
+    ensures missing { (line.now.seat ≡ 0) ⊎ (length seats.old < line.now.seat)
+        → (result ≡ Turn.Refused Why.NoSuchSeat) × (seats.new ≡ seats.old) }
 {
     let seat_count = seats.len() as u64;
     if line.seat == 0 || line.seat > seat_count {
@@ -66,12 +69,13 @@ fn drive_lines<W: Write>(
     lines: &[Line],
 ) -> Result<bool, ReplayFault>
     requires belong { All (λ s. OfMutex s mutex.now) seats.old }
+    requires few { length lines.now < max_lines }
 {
     let mut none_refused = true;
     'driving: for (index, line) in lines.iter().enumerate() {
         let turn = follow(mutex, seats, line);
         none_refused &= !turn.is_refused();
-        write_outcome(writer, (index as u64).wrapping_add(2), line, turn)?;
+        write_outcome(writer, line_number(index), line, turn)?;
         write_line_feed(writer)?;
     }
     Ok(none_refused)
@@ -82,7 +86,9 @@ fn drive_schedule<W: Write>(
     alloc: Global,
     schedule: &Schedule,
     writer: &mut W,
-) -> Result<bool, ReplayFault> {
+) -> Result<bool, ReplayFault>
+    requires few { length schedule.now.lines.items < max_lines }
+{
     let (mutex, mut seats) = match Mutex::new(alloc, schedule.seats, schedule.budget, 0u64) {
         Ok(made) => made,
         Err(NewFault::Limit) => return Err(ReplayFault::Limit),
@@ -107,14 +113,6 @@ pub fn drive<R: Read, W: Write>(
     reader: &mut R,
     writer: &mut W,
 ) -> Result<bool, ReplayFault> {
-    let input = read_input(alloc, reader)?;
-    match read_schedule(alloc, &input) {
-        Ok(schedule) => drive_schedule(alloc, &schedule, writer),
-        Err(ReplayFault::Memory) => Err(ReplayFault::Memory),
-        Err(fault) => {
-            write_fault_line(writer, fault)?;
-            flush(writer)?;
-            Err(fault)
-        }
-    }
+    let schedule = schedule_from(alloc, reader, writer)?;
+    drive_schedule(alloc, &schedule, writer)
 }

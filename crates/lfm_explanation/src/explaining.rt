@@ -8,28 +8,28 @@ ghost use Rattle.lfm_text.specs.Text.{max_lines};
 ghost use Rattle.lfm_protocol.specs.Limits.{are_in_limits};
 ghost use Rattle.lfm_explanation.specs.Verdicts.{AnswersVerdict, Judges};
 
-use crate::shown::{begin_shown, step_shown};
-use lfm_core::text::trace::{write_fault_line, write_line, write_opening};
-use lfm_core::{Act, Line, ReplayFault, Schedule, State, Turn, read_schedule};
-use lfm_text::{WriteFault, flush, read_input};
+use crate::reading::{line_number, schedule_from};
+use crate::shown::{LineStart, begin_shown, step_shown};
+use lfm_core::text::trace::{write_line, write_opening};
+use lfm_core::{Act, Line, ReplayFault, Schedule, State, Turn};
+use lfm_text::{WriteFault, flush};
 use lfm_words::Record;
 use std::alloc::Global;
 use std::io::{Read, Write};
 
-/// Seat s makes up to this many steps, each with its line, and stops as its call ends or a step is refused. The last
-/// turn is answered.
+/// The seat of this line makes up to this number of steps, each with its line, and stops as its call ends or a step is refused.
+/// Returns the last turn.
 fn steps_shown<W: Write>(
     writer: &mut W,
-    number: u64,
-    s: u64,
+    start: LineStart,
     most: u64,
     state: &mut State,
 ) -> Result<Turn, WriteFault>
-    ensures core { IfOk result (λ _. state.new ≡ (steps most state.old s).core) }
-    ensures turn { IfOk result (λ turn. turn ≡ (steps most state.old s).turn) }
+    ensures core { IfOk result (λ _. state.new ≡ (steps most state.old start.seat).core) }
+    ensures turn { IfOk result (λ turn. turn ≡ (steps most state.old start.seat).turn) }
 {
     for _ in 0..most {
-        let turn = step_shown(writer, number, s, state)?;
+        let turn = step_shown(writer, start, state)?;
         if !turn.is_open() {
             return Ok(turn);
         }
@@ -37,7 +37,7 @@ fn steps_shown<W: Write>(
     Ok(Turn::Open)
 }
 
-/// Does what a line says, with a line for each begin and step, and answers its last turn.
+/// Does what a line says, with a line for each begin and step. Returns its last turn.
 fn line_shown<W: Write>(
     writer: &mut W,
     number: u64,
@@ -47,17 +47,21 @@ fn line_shown<W: Write>(
     ensures core { IfOk result (λ _. state.new ≡ (line_moved state.old line.now).core) }
     ensures turn { IfOk result (λ turn. turn ≡ (line_moved state.old line.now).turn) }
 {
+    let start = LineStart {
+        number,
+        seat: line.seat,
+    };
     match line.act {
-        Act::Begin(call) => begin_shown(writer, number, line.seat, call, state),
-        Act::Steps(most) => steps_shown(writer, number, line.seat, most, state),
+        Act::Begin(call) => begin_shown(writer, start, call, state),
+        Act::Steps(most) => steps_shown(writer, start, most, state),
         Act::ToEnd => {
             let most = state.longest_call();
-            steps_shown(writer, number, line.seat, most, state)
+            steps_shown(writer, start, most, state)
         }
     }
 }
 
-/// Explains the lines in their order, and answers whether none was refused.
+/// Explains the lines in their order. Returns whether none was refused.
 fn explain_lines<W: Write>(
     writer: &mut W,
     state: &mut State,
@@ -70,7 +74,7 @@ fn explain_lines<W: Write>(
 {
     let mut none_refused = true;
     'running: for (index, line) in lines.iter().enumerate() {
-        let number = index as u64 + 2;
+        let number = line_number(index);
         let turn = line_shown(writer, number, line, state)?;
         none_refused &= !turn.is_refused();
         write_line(writer, number, line, turn, state, records)?;
@@ -78,20 +82,19 @@ fn explain_lines<W: Write>(
     Ok(none_refused)
 }
 
-/// Writes the state at the start, explains the lines, and has the writer pass everything on.
+/// Writes the state at the start, explains the schedule's lines, and flushes the writer. Returns whether no line was refused.
 fn explain_run<W: Write>(
     writer: &mut W,
-    seats: u64,
+    schedule: &Schedule,
     state: &mut State,
-    lines: &[Line],
     records: &mut Vec<Record>,
 ) -> Result<bool, WriteFault>
     requires capacity { length state.old.seats ≤ vec_capacity records.old }
-    requires few { length lines.now < max_lines }
-    ensures verdict { IfOk result (λ b. b ≡ none_refused state.old lines.now) }
+    requires few { length schedule.now.lines.items < max_lines }
+    ensures verdict { IfOk result (λ b. b ≡ none_refused state.old schedule.now.lines.items) }
 {
-    write_opening(writer, seats, state, records)?;
-    let none_refused = explain_lines(writer, state, lines, records)?;
+    write_opening(writer, schedule.seats, state, records)?;
+    let none_refused = explain_lines(writer, state, &schedule.lines, records)?;
     flush(writer)?;
     Ok(none_refused)
 }
@@ -113,32 +116,11 @@ fn explain_schedule<W: Write>(
     let mut records = Vec::with_capacity(alloc, schedule.seats as usize).map_err(
         |_| ReplayFault::Memory,
     )?;
-    let seats = schedule.seats;
-    Ok(explain_run(writer, seats, &mut state, &schedule.lines, &mut records)?)
-}
-
-/// Writes the line of a fault of the input, and has the writer pass it on.
-fn explain_fault<W: Write>(writer: &mut W, fault: ReplayFault) -> Result<(), WriteFault> {
-    write_fault_line(writer, fault)?;
-    flush(writer)
-}
-
-/// Explains an input that was read.
-fn explain_input<W: Write>(alloc: Global, input: &[u8], writer: &mut W) -> Result<bool, ReplayFault>
-    ensures { Judges result input.now (W.contents writer.old) (W.contents writer.new) }
-{
-    match read_schedule(alloc, input) {
-        Ok(schedule) => explain_schedule(alloc, &schedule, writer),
-        Err(ReplayFault::Memory) => Err(ReplayFault::Memory),
-        Err(fault) => {
-            explain_fault(writer, fault)?;
-            Err(fault)
-        }
-    }
+    Ok(explain_run(writer, schedule, &mut state, &mut records)?)
 }
 
 /// Reads a schedule, runs it on a mutex at its start, and writes what `replay` writes, and before each line of that a line
-/// for each begin and step that the schedule's line makes. It answers whether no line was refused.
+/// for each begin and step that the schedule's line makes. Returns whether no line was refused.
 ///
 /// Grammar, limits and faults are those of `replay`, in the same order. All memory is asked for before the first byte is
 /// written, by the same requests as in `replay`. At the end the writer is flushed.
@@ -154,6 +136,6 @@ pub fn explain<R: Read, W: Write>(
     ensures read { IsErrOf result ReplayFault.Read → Keeps (W.contents writer.old) (W.contents writer.new) }
     ensures memory { IsErrOf result ReplayFault.Memory → Keeps (W.contents writer.old) (W.contents writer.new) }
 {
-    let input = read_input(alloc, reader)?;
-    explain_input(alloc, &input, writer)
+    let schedule = schedule_from(alloc, reader, writer)?;
+    explain_schedule(alloc, &schedule, writer)
 }

@@ -1,11 +1,12 @@
 //! How a schedule is shown. Its explanation is what `lfm replay` prints, and before each line of it the atomic steps that the
 //! line makes, each with its word, what was found there and where the responsibility went. The driver shows what a running
-//! mutex makes of the same lines. Arguments, messages and statuses belong to the programs `lfm_explain` and `lfm_drive`.
+//! mutex makes of the same lines. Arguments, messages and statuses belong to the program `lfm_explain`.
 #![tactic(auto)]
 
 mod cases;
 pub mod driving;
 pub mod explaining;
+mod reading;
 mod shown;
 mod step_names;
 mod values;

@@ -12,6 +12,15 @@ use lfm_core::{Call, State, Turn};
 use lfm_text::{WriteFault, write_number, write_text};
 use std::io::Write;
 
+/// What each line of an explanation starts with.
+#[derive(Clone, Copy, Debug, PartialEq, Eq)]
+pub struct LineStart {
+    /// The number of the schedule's line.
+    pub number: u64,
+    /// The seat that this line names.
+    pub seat: u64,
+}
+
 /// The plain data of a seat, to be compared before and after.
 #[derive(Clone, Copy, Debug, PartialEq, Eq)]
 struct Plain {
@@ -21,6 +30,7 @@ struct Plain {
 }
 
 impl Plain {
+    /// The plain data of seat s now.
     fn of(state: &State, s: u64) -> Plain {
         Plain {
             depth: u64::from(state.depth(s)),
@@ -84,62 +94,61 @@ impl Coming {
     }
 }
 
-/// Seat s begins a call, and the line of it is written: what the checks answered, and what was charged.
+/// The seat of this line begins a call, and the line of it is written: what the checks answered, and what was charged.
 pub fn begin_shown<W: Write>(
     writer: &mut W,
-    number: u64,
-    s: u64,
+    start: LineStart,
     call: Call,
     state: &mut State,
 ) -> Result<Turn, WriteFault>
-    ensures core { state.new ≡ (begin state.old s call).core }
-    ensures turn { IfOk result (λ turn. turn ≡ (begin state.old s call).turn) }
+    ensures core { state.new ≡ (begin state.old start.seat call).core }
+    ensures turn { IfOk result (λ turn. turn ≡ (begin state.old start.seat call).turn) }
 {
-    let before = Plain::of(state, s);
-    let turn = state.begin(s, call);
-    let after = Plain::of(state, s);
-    write_begin(writer, number, s, call, &turn)?;
+    let before = Plain::of(state, start.seat);
+    let turn = state.begin(start.seat, call);
+    let after = Plain::of(state, start.seat);
+    write_begin(writer, start, call, &turn)?;
     write_changes(writer, before, after)?;
     Ok(turn)
 }
 
-/// Seat s makes the step at its point, and the line of it is written. Nothing is written if no call of it is open.
+/// The seat of this line makes the step at its point, and the line of it is written. Nothing is written if no call of the seat
+/// is open.
 pub fn step_shown<W: Write>(
     writer: &mut W,
-    number: u64,
-    s: u64,
+    start: LineStart,
     state: &mut State,
 ) -> Result<Turn, WriteFault>
-    ensures core { state.new ≡ (step state.old s).core }
-    ensures turn { IfOk result (λ turn. turn ≡ (step state.old s).turn) }
+    ensures core { state.new ≡ (step state.old start.seat).core }
+    ensures turn { IfOk result (λ turn. turn ≡ (step state.old start.seat).turn) }
 {
-    let before = Plain::of(state, s);
-    let coming = Coming::of(state, s);
-    let turn = state.step(s);
-    let after = Plain::of(state, s);
+    let before = Plain::of(state, start.seat);
+    let coming = Coming::of(state, start.seat);
+    let turn = state.step(start.seat);
+    let after = Plain::of(state, start.seat);
     if let Some(coming) = coming {
-        write_step(writer, number, s, &coming, state)?;
+        write_step(writer, start, &coming, state)?;
         write_changes(writer, before, after)?;
     }
     Ok(turn)
 }
 
-/// Writes the schedule's line and the seat.
-fn write_head<W: Write>(writer: &mut W, number: u64, s: u64) -> Result<(), WriteFault> {
-    write_number(writer, number)?;
+/// Writes the number of the schedule's line and the seat.
+fn write_line_start<W: Write>(writer: &mut W, start: LineStart) -> Result<(), WriteFault> {
+    write_number(writer, start.number)?;
     write_text(writer, b" ")?;
-    write_number(writer, s)?;
+    write_number(writer, start.seat)?;
     write_text(writer, b" ")
 }
 
+/// Writes a call that was begun, and how that turned out: `begins`, its answer, or why it was refused.
 fn write_begin<W: Write>(
     writer: &mut W,
-    number: u64,
-    s: u64,
+    start: LineStart,
     call: Call,
     turn: &Turn,
 ) -> Result<(), WriteFault> {
-    write_head(writer, number, s)?;
+    write_line_start(writer, start)?;
     write_text(writer, call_name(call).as_bytes())?;
     match *turn {
         Turn::Open => write_text(writer, b": begins"),
@@ -157,13 +166,12 @@ fn write_begin<W: Write>(
 /// Writes a step that was made, up to where the responsibility went.
 fn write_step<W: Write>(
     writer: &mut W,
-    number: u64,
-    s: u64,
+    start: LineStart,
     coming: &Coming,
     state: &State,
 ) -> Result<(), WriteFault> {
     let holds = value_of(state, coming.word);
-    write_head(writer, number, s)?;
+    write_line_start(writer, start)?;
     write_text(writer, step_name(coming.point).as_bytes())?;
     write_text(writer, b": ")?;
     write_word(writer, coming.word)?;
@@ -214,6 +222,7 @@ fn write_changes<W: Write>(writer: &mut W, before: Plain, after: Plain) -> Resul
     write_text(writer, b"\n")
 }
 
+/// Writes one number of the seat under this name, before and after. Nothing is written if it has not changed.
 fn write_change<W: Write>(
     writer: &mut W,
     name: &[u8],

@@ -72,6 +72,7 @@ pub fn step_name(point: Point) -> &'static str {
     }
 }
 
+/// The name for the call that pushes: `lock` pushes its own record, `send_lock` another seat's.
 fn of_pusher(pusher: Pusher, locker: &'static str, sender: &'static str) -> &'static str {
     match pusher {
         Pusher::Locker => locker,
@@ -79,6 +80,7 @@ fn of_pusher(pusher: Pusher, locker: &'static str, sender: &'static str) -> &'st
     }
 }
 
+/// The name for the call that releases: `unlock` or `start_wait`.
 fn of_releaser(releaser: Releaser, unlocker: &'static str, waiter: &'static str) -> &'static str {
     match releaser {
         Releaser::Unlocker => unlocker,
@@ -86,6 +88,7 @@ fn of_releaser(releaser: Releaser, unlocker: &'static str, waiter: &'static str)
     }
 }
 
+/// The name of the clear-head with which this carrier collects.
 fn clear_name(carrier: Carrier) -> &'static str {
     match carrier {
         Carrier::Locker => "lock 8 take 1",
@@ -103,6 +106,7 @@ fn clear_name(carrier: Carrier) -> &'static str {
     }
 }
 
+/// The name of a link load with which this carrier collects.
 fn walk_name(carrier: Carrier) -> &'static str {
     match carrier {
         Carrier::Locker => "lock 8 take 2",
@@ -120,6 +124,7 @@ fn walk_name(carrier: Carrier) -> &'static str {
     }
 }
 
+/// The name of the wake store with which this carrier grants.
 fn grant_name(carrier: Carrier) -> &'static str {
     match carrier {
         Carrier::Locker => "lock 10",

@@ -48,6 +48,7 @@ pub fn write_word<W: Write>(writer: &mut W, word: Word) -> Result<(), WriteFault
     }
 }
 
+/// Writes a name and a number behind it.
 fn write_numbered<W: Write>(writer: &mut W, name: &[u8], number: u64) -> Result<(), WriteFault> {
     write_text(writer, name)?;
     write_number(writer, number)
@@ -65,6 +66,7 @@ fn write_link<W: Write>(writer: &mut W, link: Link) -> Result<(), WriteFault> {
     write_text(writer, b")")
 }
 
+/// Writes a wake state, a grant with its stamp, as in `GRANT(1)`.
 fn write_wake<W: Write>(writer: &mut W, wake: Wake) -> Result<(), WriteFault> {
     match wake {
         Wake::Quiet => write_text(writer, b"QUIET"),

@@ -6,7 +6,7 @@ use Rattle.lfm_condvar.proofs.cond_seat.CondSeat.TheSendSync as CondSeatSend
 use Rattle.lfm_model.specs.contracts.journals.Entry as Entry
 use Rattle.lfm_model.specs.declared.objects.Object.{Ghosts}
 use Rattle.lfm_model.proofs.journals.Entry.TheSendSync as EntrySend
-use Rattle.lfm_monitor.specs.contracts.kept.JournaledKept.TheImpl as JournaledKept
+use Rattle.lfm_monitor.specs.contracts.journaled.JournaledKept.TheImpl as JournaledKept
 use Rattle.lfm_monitor.specs.contracts.journaled.Journaled as Journaled
 use Rattle.lfm_monitor.specs.contracts.monitor.Monitor as Monitor
 use Rattle.lfm_monitor.specs.contracts.pass.Pass as Pass

@@ -58,7 +58,8 @@ module _ {O A R : Type 0} {K : _} where
   abbrev pub pass_sight : Pass O A R K → Sight (Journaled O A R K)
   pass_sight p = sight p.seat
 
-  -- the actions of all passes that it knows: an early part of the mutex's run, after which only others have acted
+  -- the actions of all passes that it knows: the mutex's run up to its own last step or load of the owner word, after which only others have
+  -- acted
   abbrev pub pass_past : Pass O A R K → List Action
   pass_past p = past_of p.seat
 

@@ -8,6 +8,7 @@ use std::fmt::{Debug, Formatter, Result, Write};
 /// How many entries each pass may write, and how many conditions there are. The object belongs to the pass that holds it, so it
 /// isn't shown.
 impl<O: Object> Debug for Monitor<O> {
+    /// Writes the share of each pass and the number of conditions.
     fn fmt<W: Write>(&self, f: &mut Formatter<W>) -> Result {
         f.debug_struct("Monitor")
             .field("share", &self.share)
@@ -18,6 +19,7 @@ impl<O: Object> Debug for Monitor<O> {
 
 /// The pass's seat, and what the pass knows of the journal. The object that it may have in hand isn't shown.
 impl<O: Object> Debug for Pass<O> {
+    /// Writes the seat and the two counts of entries.
     fn fmt<W: Write>(&self, f: &mut Formatter<W>) -> Result {
         f.debug_struct("Pass")
             .field("seat", &self.seat)

@@ -1,14 +1,16 @@
-//! `enter`, and `ask`, which is `enter` up to the point at which it would sleep. Each hold that begins is written down. `hold`
-//! enters by a private form of `enter`, which tries before it queues.
+//! How a pass comes to hold: `enter`, which sleeps if it has to, `ask` and `try_receive`, which are its two halves, and
+//! `try_enter`, which does not queue. Each hold that begins is written down. `hold` enters by a private form of `enter`, which
+//! tries before it queues.
 ghost use Rattle.lfm_protocol.specs.declared.answers.Answer.TheVariants as Answered;
 ghost use Rattle.lfm_protocol.specs.declared.answers.Call.{Call};
 ghost use Rattle.lfm_mutex.specs.Belongs.{Beside, OfMutex};
 ghost use Rattle.lfm_mutex.specs.calls.RunGoesOn.{RunGoesOnFrom};
 ghost use Rattle.lfm_mutex.specs.calls.Sight.{LocksWaiting, sight};
+ghost use Rattle.lfm_mutex.specs.calls.Trails.{MakesAtMost};
 ghost use Rattle.lfm_mutex.specs.calls.Woken.{WokenAsGranted};
 ghost use Rattle.lfm_monitor.specs.Belongs.{OfMonitor, PassRunGoesOnFrom, PassWokenAsGranted, cond_seats_of, mine_of, mutex_limits, pass_sight, seen_of, share_of, tries_in};
 ghost use Rattle.lfm_monitor.specs.Journaled.{JournalFits, JournalFollows};
-ghost use Rattle.lfm_monitor.specs.Passes.{AskEnds, EnterEnds};
+ghost use Rattle.lfm_monitor.specs.Passes.{AskEnds, EnterEnds, ReceiveEnds, TryEnds};
 ghost use Rattle.lfm_monitor.specs.Steps.{ByLocking, ByLockingAs, BySteps};
 ghost use Rattle.std.specs.Prelude.{◌≡◌};
 
@@ -16,7 +18,7 @@ use crate::journaled::Journaled;
 use crate::monitor::Monitor;
 use crate::pass::Pass;
 use crate::write::write_took;
-use lfm_model::{Asked, Locked, Object, Refusal};
+use lfm_model::{Asked, How, Locked, Object, Refusal};
 use lfm_mutex::Seat;
 use std::sync::Wait;
 
@@ -30,6 +32,25 @@ pub(crate) enum Locking {
 }
 
 impl<O: Object> Monitor<O> {
+    /// Gains the monitor, or deepens the hold. If another pass holds or asked before, it sleeps until the pass holds. A gain is
+    /// written down as the pass's take.
+    ///
+    /// Refuses, in this order: Asleep, DepthFull, Spent, each as `try_enter`. It takes no memory. It may wake a pass, as
+    /// `ask` may.
+    pub fn enter<R: Wait>(&self, rt: &R, pass: &mut Pass<O>) -> Result<Locked, Refusal>
+        requires belongs { OfMonitor pass.old self.now }
+        ensures belongs { OfMonitor pass.new self.now }
+        ensures number { (pass_sight pass.new).number ≡ (pass_sight pass.old).number }
+        ensures run { PassRunGoesOnFrom pass.old pass.new }
+        ensures woken { PassWokenAsGranted pass.old pass.new }
+        ensures enters { EnterEnds (share_of self.now) (pass_sight pass.old) (pass_sight pass.new) (mine_of pass.old) (mine_of pass.new) result }
+        ensures seen { seen_of pass.new ≡ seen_of pass.old }
+        ensures conditions { cond_seats_of pass.new ≡ cond_seats_of pass.old }
+        ensures steps { ByLocking (mutex_limits self.now) (pass_sight pass.old) (pass_sight pass.new) result }
+    {
+        self.enter_by(rt, pass, Locking::InOrder)
+    }
+
     /// `enter` up to the point at which it would sleep: gains the monitor, deepens the hold, or queues the pass, which then
     /// sleeps until a receive tells it that it holds. While it sleeps, one of its entries is kept for its take.
     ///
@@ -60,23 +81,59 @@ impl<O: Object> Monitor<O> {
         Ok(Asked::Held(how))
     }
 
-    /// Gains the monitor, or deepens the hold. If another pass holds or asked before, it sleeps until the pass holds. A gain is
-    /// written down as the pass's take.
+    /// One receive of a pass that sleeps: how it came to hold, which is written down as its take, or None if it was not granted
+    /// the monitor and sleeps on.
     ///
-    /// Refuses, in this order: Asleep, DepthFull, Spent, each as `try_enter`. It takes no memory. It may wake a pass, as
-    /// `ask` may.
-    pub fn enter<R: Wait>(&self, rt: &R, pass: &mut Pass<O>) -> Result<Locked, Refusal>
+    /// Refuses with NotWaiting if the pass doesn't sleep. It never waits and takes no memory.
+    pub fn try_receive(&self, pass: &mut Pass<O>) -> Result<Option<How>, Refusal>
         requires belongs { OfMonitor pass.old self.now }
         ensures belongs { OfMonitor pass.new self.now }
         ensures number { (pass_sight pass.new).number ≡ (pass_sight pass.old).number }
         ensures run { PassRunGoesOnFrom pass.old pass.new }
         ensures woken { PassWokenAsGranted pass.old pass.new }
-        ensures enters { EnterEnds (share_of self.now) (pass_sight pass.old) (pass_sight pass.new) (mine_of pass.old) (mine_of pass.new) result }
+        ensures enters { ReceiveEnds (pass_sight pass.old) (pass_sight pass.new) (mine_of pass.old) (mine_of pass.new) result }
         ensures seen { seen_of pass.new ≡ seen_of pass.old }
         ensures conditions { cond_seats_of pass.new ≡ cond_seats_of pass.old }
-        ensures steps { ByLocking (mutex_limits self.now) (pass_sight pass.old) (pass_sight pass.new) result }
+        ensures steps { BySteps (mutex_limits self.now) (λ x. Answered.Got x) Call.Receive (pass_sight pass.old) (pass_sight pass.new) result }
     {
-        self.enter_by(rt, pass, Locking::InOrder)
+        let received = self.mutex.try_receive(&mut pass.seat)?;
+        let how = match received {
+            None => return Ok(None),
+            Some(how) => how,
+        };
+        write_took(&mut pass.seat, how);
+        pass.mine += 1;
+        Ok(Some(how))
+    }
+
+    /// Gains the monitor or deepens the hold without queueing. A gain is written down as the pass's take.
+    ///
+    /// Refuses, in this order: Asleep, DepthFull (the pass holds at depth 65,535), Spent (it doesn't hold, and has no take or
+    /// no entry left) and Busy (as `try_lock` of the mutex). It never waits, takes no memory and wakes nobody. Whatever others
+    /// do, it makes at most 6 atomic steps.
+    pub fn try_enter(&self, pass: &mut Pass<O>) -> Result<Locked, Refusal>
+        requires belongs { OfMonitor pass.old self.now }
+        ensures belongs { OfMonitor pass.new self.now }
+        ensures number { (pass_sight pass.new).number ≡ (pass_sight pass.old).number }
+        ensures run { PassRunGoesOnFrom pass.old pass.new }
+        ensures woken { PassWokenAsGranted pass.old pass.new }
+        ensures enters { TryEnds (share_of self.now) (pass_sight pass.old) (pass_sight pass.new) (mine_of pass.old) (mine_of pass.new) result }
+        ensures seen { seen_of pass.new ≡ seen_of pass.old }
+        ensures conditions { cond_seats_of pass.new ≡ cond_seats_of pass.old }
+        ensures steps { BySteps (mutex_limits self.now) (λ x. Answered.Locked x) Call.TryLock (pass_sight pass.old) (pass_sight pass.new) result }
+        ensures bounded { MakesAtMost 6 (pass_sight pass.old) (pass_sight pass.new) }
+    {
+        if pass.lacks_entry(self.share) {
+            return Err(Refusal::Spent);
+        }
+        let locked = self.mutex.try_lock(&mut pass.seat)?;
+        let how = match locked {
+            Locked::Again(depth) => return Ok(Locked::Again(depth)),
+            Locked::Held(how) => how,
+        };
+        write_took(&mut pass.seat, how);
+        pass.mine += 1;
+        Ok(Locked::Held(how))
     }
 
     /// `enter`, with the mutex locked in this way.

@@ -30,8 +30,8 @@ pub trait CriticalSection<O: Object, R: Wait>: Sync {
     /// What the section answers.
     type Answer;
 
-    /// What the section may make of its pass, in the round with this number, and what it then answers. `hold` and `run` tell their
-    /// callers so.
+    /// What the section may make of its pass, in the round with this number, and what it then answers. `hold` and `run` tell
+    /// their callers so.
     ghost makes: { Self → ℕ → {K : _} → Pass O O.Op O.Reply K → Pass O O.Op O.Reply K → Result Self.Answer Refusal → Type 0 } = { λ _ _ _ _ _. Unit {0} };
 
     /// Executes the section once, with the number of the round. The pass stays one of the monitor's.
@@ -66,10 +66,10 @@ impl<O: Object> Monitor<O> {
     /// Enters, executes the section, and leaves, whatever the section answered, which it answers too. Holds that the section
     /// began and did not give up are given up, so that the pass holds no more than before.
     ///
-    /// It enters with the answers and refusals of `enter`. But a pass that doesn't hold tries before it queues, as `lock_barging`
-    /// of the mutex does: at most once for each spin and each nap of the monitor's pace. So it may come before passes that came
-    /// earlier and still try. If no try gains the monitor, it queues, and no pass that queues later is served before it. `enter`
-    /// queues without a try.
+    /// It enters with the answers and refusals of `enter`. But a pass that doesn't hold tries before it queues, as
+    /// `lock_barging` of the mutex does: at most once for each spin and each nap of the monitor's pace. So it may come before
+    /// passes that came earlier and still try. If no try gains the monitor, it queues, and no pass that queues later is served
+    /// before it. `enter` queues without a try.
     ///
     /// Refuses as `enter`, and then the section is not executed and nothing has changed: Asleep, DepthFull, Spent, in this
     /// order. It may nap, and sleeps as `enter` does. It wakes whom `enter` and `leave` wake, and takes no memory.

@@ -1,9 +1,10 @@
-//! What the mutex of a monitor guards: the object with its journal.
+//! What the mutex of a monitor guards: the object with its journal. A mutex may guard it, since it is `Kept`.
 ghost use Rattle.std.specs.Prelude.{◌≡◌, ℕ, ◌*◌, ◌<◌, ◌≤◌, ◌++◌, [], ◌∷◌, Some, None, length, vec_capacity};
 ghost use Rattle.lfm_model.specs.Journals.{after_all, LawfulJournal, LawfulJournal-prop, Within, Within-prop, MayTake, entry, own, queued_from, taker_from};
 ghost use Rattle.lfm_model.specs.declared.journals.What.TheVariants.{Took, Did};
 
 use lfm_model::{Entry, How, Object, SeatNo, What};
+use lfm_mutex::Kept;
 use std::snapshot::Snapshot;
 
 /// An object with its journal, whose whole room is reserved. The journal is lawful, and the object is what its replay from the
@@ -20,6 +21,14 @@ pub struct Journaled<O: Object> {
     pub ghost within: { Within seats journal.items } by { Within-prop seats journal.items },
     pub ghost shares: { (s : ℕ) → length (own s journal.items) ≤ share },
     pub ghost room: { seats * share ≤ vec_capacity journal },
+}
+
+impl<O: Object> Kept for Journaled<O> {
+    ghost use Rattle.lfm_monitor.specs.Journaled.{JournalFits, JournalFollows};
+
+    ghost fits = { JournalFits };
+
+    ghost follows = { JournalFollows };
 }
 
 impl<O: Object> Journaled<O> {

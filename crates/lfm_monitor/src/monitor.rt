@@ -1,5 +1,5 @@
-//! The monitor. Its calls are in `set_pace`, `enter`, `try_enter`, `receive`, `apply`, `apply_until`, `leave`, `hold`, `run`,
-//! `wait`, `wake` and `close`.
+//! The monitor, its pace, and the numbers of its conditions. It is made in `open`. Its calls are in `enter`, `apply`,
+//! `apply_until`, `leave`, `hold`, `run`, `wait`, `wake` and `close`.
 ghost use Rattle.std.specs.Prelude.{◌≡◌};
 ghost use Rattle.lfm_mutex.specs.Belongs.{limits_of};
 ghost use Rattle.lfm_monitor.specs.CondSeats.{AreConditions, ArePaced};
@@ -7,7 +7,7 @@ ghost use Rattle.lfm_monitor.specs.CondSeats.{AreConditions, ArePaced};
 use crate::journaled::Journaled;
 use lfm_condvar::Condvar;
 use lfm_model::Object;
-use lfm_mutex::Mutex;
+use lfm_mutex::{Mutex, Pace};
 use std::snapshot::Snapshot;
 
 /// A guarded object with a journal: at most one pass at a time holds it, and applies ops to it. Its calls are made through a
@@ -45,4 +45,37 @@ pub struct Monitor<O: Object> {
     pub ghost shared: { (limits_of mutex).budget ≡ share },
     pub ghost wide: { AreConditions (limits_of mutex).seats conditions.items },
     pub ghost paced: { ArePaced mutex.pace conditions.items },
+}
+
+impl<O: Object> Monitor<O> {
+    ghost use Rattle.std.specs.Prelude.{◌+◌, ◌<◌, MatchOption};
+    ghost use Rattle.lfm_monitor.specs.Belongs.{OfMonitor, conditions_in, conditions_of};
+    ghost use Rattle.lfm_monitor.specs.CondSeats.{SameButPaces};
+    ghost use Rattle.lfm_monitor.specs.Conditions.{IsMissing};
+
+    /// Sets the pace of the monitor's mutex and of the list of each condition: how often a pass tries before it queues, and how
+    /// long a queued pass looks before it sleeps. For the monitor a pass tries in `hold` and `run` alone, and for a list in
+    /// each wait and wake. A pass that waits to be sent looks before it sleeps if it waits alone, as `wait` says.
+    ///
+    /// The passes of the monitor stay its passes. The pace is set before threads share the monitor.
+    pub fn set_pace(&mut self, pace: Pace)
+        ensures pace { (self.new.mutex.pace ≡ pace) × ArePaced pace (conditions_in self.new) }
+        ensures same { (self.new.mutex.table ≡ self.old.mutex.table) × (self.new.mutex.limits ≡ self.old.mutex.limits) × (self.new.opening ≡ self.old.opening) × (self.new.share ≡ self.old.share) × SameButPaces (conditions_in self.old) (conditions_in self.new) }
+        ensures belongs { (p : _) → OfMonitor p self.old → OfMonitor p self.new }
+    {
+        self.mutex.set_pace(pace);
+        'setting: for condition in self.conditions.iter_mut() {
+            condition.set_pace(pace);
+        }
+    }
+
+    /// The index of the condition with this number, which is one less, or None if there is no such condition.
+    pub(crate) fn place_of(&self, condition: u64) -> Option<usize>
+        ensures { MatchOption result (IsMissing (conditions_of self.now) condition) (λ n. (condition ≡ n + 1) × (n < conditions_of self.now)) }
+    {
+        if condition == 0 || condition > self.conditions.len() as u64 {
+            return None;
+        }
+        Some((condition - 1) as usize)
+    }
 }

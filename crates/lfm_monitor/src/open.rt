@@ -1,28 +1,25 @@
 //! How a monitor is made: a mutex round the object with an empty journal, its conditions, and a pass for each of its seats.
+//! Each pass has one cond seat of each condition: they are dealt out, condition by condition, into a list for each pass.
 ghost use Rattle.lfm_model.specs.declared.refusals.NewFault.{NewFault};
-ghost use Rattle.lfm_monitor.specs.Begun.{InLimits, NewPass};
-ghost use Rattle.lfm_monitor.specs.Belongs.{OfMonitor, conditions_in, conditions_of, mine_of, opening_of, passes_of, seen_of, share_of};
-ghost use Rattle.lfm_monitor.specs.CondSeats.{ArePaced};
+ghost use Rattle.lfm_monitor.specs.Begun.{InLimits, IsEmpty, NewPass, max_entries};
+ghost use Rattle.lfm_monitor.specs.Belongs.{OfMonitor, conditions_in, conditions_of, mine_of, opening_of, pass_past, passes_of, seen_of, share_of};
+ghost use Rattle.lfm_monitor.specs.CondSeats.{AreConditions, AreNewOf, ArePaced};
+ghost use Rattle.lfm_monitor.specs.Dealing.{Dealt};
 ghost use Rattle.lfm_monitor.specs.Passes.{PassKept};
 ghost use Rattle.lfm_mutex.specs.Paces.{usual_pace};
 ghost use Rattle.lfm_mutex.specs.calls.Sight.{sight};
-ghost use Rattle.std.specs.Prelude.{◌≡◌, ◌+◌, ◌↔◌, ℕ, IfErr, IfOk, IsTrue, [], vec_capacity, vec_len};
+ghost use Rattle.lfm_protocol.specs.Limits.{are_in_limits, max_budget};
+ghost use Rattle.std.specs.Prelude.{◌≡◌, ◌+◌, ◌*◌, ◌<◌, ◌≤◌, ◌↔◌, ℕ, IfErr, IfOk, IsTrue, [], true, vec_capacity, vec_len};
 ghost use lib.ListN.{get_elem?};
 ghost use mathlib.Core.Option.{some};
 
-mod conditions;
-mod empty_journal;
-mod lists;
-
 use crate::journaled::Journaled;
 use crate::monitor::Monitor;
-use crate::open::conditions::new_conditions;
-use crate::open::empty_journal::journaled;
 use crate::pass::Pass;
-use lfm_condvar::CondSeat;
+use lfm_condvar::{CondSeat, Condvar};
 use lfm_model::{NewFault, Object};
 use lfm_mutex::{Mutex, Seat};
-use lfm_protocol::MAX_SEATS;
+use lfm_protocol::{MAX_BUDGET, MAX_SEATS};
 use std::alloc::Global;
 use std::snapshot::Snapshot;
 
@@ -41,6 +38,83 @@ fn are_allowed(seats: u64, share: u64, conditions: u64) -> bool
         && 0 < share
         && seats.saturating_mul(share) <= MAX_ENTRIES
         && conditions <= MAX_CONDITIONS
+}
+
+/// `count` empty lists, each with room for `each` items.
+fn rooms<T: Drop>(alloc: Global, count: u64, each: u64) -> Result<Vec<Vec<T>>, NewFault>
+    ensures rooms { IfOk result (λ r. (vec_len r ≡ count) × ((j : ℕ) (l : _) → get_elem? r.items j ≡ some l → (l.items ≡ []) × (vec_capacity l ≡ each))) }
+    ensures memory { IfErr result (λ e. e ≡ NewFault.Memory) }
+{
+    let Ok(mut lists) = Vec::with_capacity(alloc, count as usize) else {
+        return Err(NewFault::Memory);
+    };
+    'rooms: for _ in 0..count {
+        let Ok(list) = Vec::with_capacity(alloc, each as usize) else {
+            return Err(NewFault::Memory);
+        };
+        lists.push_reserved(list);
+    }
+    Ok(lists)
+}
+
+/// Puts each item at the end of the list at its place.
+fn deal<T: Drop>(lists: &mut Vec<Vec<T>>, mut items: Vec<T>)
+    requires count { vec_len items ≡ vec_len lists.old }
+    requires room { (j : ℕ) (l : _) → get_elem? lists.old.items j ≡ some l → vec_len l < vec_capacity l }
+    ensures count { vec_len lists.new ≡ vec_len lists.old }
+    ensures dealt { (j : ℕ) (l : _) → get_elem? lists.new.items j ≡ some l → Dealt lists.old.items items.items j l }
+{
+    'deals: while let Some(item) = items.pop() {
+        lists[items.len()].push_reserved(item);
+    }
+}
+
+/// This number of conditions, each with a cond seat for every pass; and the cond seats of each pass, one of each condition, in
+/// their order.
+fn new_conditions(
+    alloc: Global,
+    passes: u64,
+    count: u64,
+) -> Result<(Vec<Condvar>, Vec<Vec<CondSeat>>), NewFault>
+    requires { are_in_limits passes max_budget ≡ true }
+    ensures conditions { IfOk result (λ r. (vec_len r.0 ≡ count) × AreConditions passes r.0.items) }
+    ensures seats { IfOk result (λ r. (vec_len r.1 ≡ passes) × ((j : ℕ) (l : _) → get_elem? r.1.items j ≡ some l → AreNewOf passes (j + 1) l.items r.0.items)) }
+    ensures paced { IfOk result (λ r. ArePaced usual_pace r.0.items) }
+    ensures memory { IfErr result (λ e. e ≡ NewFault.Memory) }
+{
+    let Ok(mut conditions) = Vec::with_capacity(alloc, count as usize) else {
+        return Err(NewFault::Memory);
+    };
+    let mut cond_seats = rooms(alloc, passes, count)?;
+    'makes: for _ in 0..count {
+        let (condition, seats) = Condvar::new(alloc, passes, MAX_BUDGET)?;
+        conditions.push_reserved(condition);
+        deal(&mut cond_seats, seats);
+    }
+    Ok((conditions, cond_seats))
+}
+
+/// The object with an empty journal, whose whole room is reserved.
+fn journaled<O: Object>(
+    alloc: Global,
+    seats: u64,
+    share: u64,
+    object: O,
+) -> Result<Journaled<O>, NewFault>
+    requires { seats * share ≤ max_entries }
+    ensures empty { IfOk result (λ v. IsEmpty object seats share v) }
+    ensures memory { IfErr result (λ e. e ≡ NewFault.Memory) }
+{
+    let Ok(journal) = Vec::with_capacity(alloc, (seats * share) as usize) else {
+        return Err(NewFault::Memory);
+    };
+    Ok(Journaled {
+        opening: Snapshot::of(&object),
+        object,
+        journal,
+        seats,
+        share,
+    })
 }
 
 /// A pass for each seat, with the cond seats at its place, in order, in the room that is there for them.
@@ -82,6 +156,7 @@ impl<O: Object> Monitor<O> {
         ensures monitor { IfOk result (λ r. (opening_of r.0 ≡ object) × (passes_of r.0 ≡ seats) × (share_of r.0 ≡ entries_per_seat) × (conditions_of r.0 ≡ conditions)) }
         ensures belongs { IfOk result (λ r. (j : ℕ) (p : _) → get_elem? r.1.items j ≡ some p → OfMonitor p r.0) }
         ensures passes { IfOk result (λ r. (vec_len r.1 ≡ seats) × ((j : ℕ) (p : _) → get_elem? r.1.items j ≡ some p → NewPass r.0 (j + 1) p)) }
+        ensures past { IfOk result (λ r. (j : ℕ) (p : _) → get_elem? r.1.items j ≡ some p → pass_past p ≡ []) }
         ensures pace { IfOk result (λ r. (r.0.mutex.pace ≡ usual_pace) × ArePaced usual_pace (conditions_in r.0)) }
         ensures limit { (InLimits seats entries_per_seat conditions → ⊥) → IfErr result (λ e. e ≡ NewFault.Limit) × IfOk result (λ _. ⊥) }
         ensures memory { InLimits seats entries_per_seat conditions → IfErr result (λ e. e ≡ NewFault.Memory) }

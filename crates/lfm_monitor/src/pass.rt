@@ -1,4 +1,4 @@
-//! What one thread uses the monitor with.
+//! What one thread uses the monitor with. A seat of the mutex lies in it, so the mutex can be closed with passes.
 ghost use Rattle.std.specs.Prelude.{◌≡◌, ◌<◌, ◌≤◌, ◌↔◌, IsTrue, Some, false, length};
 ghost use Rattle.lfm_mutex.specs.calls.Sight.{sight};
 ghost use Rattle.lfm_monitor.specs.Passes.{PassKept};
@@ -6,7 +6,7 @@ ghost use Rattle.lfm_monitor.specs.Passes.{PassKept};
 use crate::journaled::Journaled;
 use lfm_condvar::CondSeat;
 use lfm_model::{Object, SeatNo};
-use lfm_mutex::Seat;
+use lfm_mutex::{Holder, Seat};
 
 /// What one thread uses a monitor with. A pass may move between threads, and each call borrows it for its whole length. Dropped
 /// while it holds or sleeps, it keeps what it holds: nobody else gains that.
@@ -24,6 +24,26 @@ pub struct Pass<O: Object> {
     pub(crate) mine: u64,
     pub(crate) cond_seats: Vec<CondSeat>,
     pub ghost kept: { PassKept (sight seat) seen mine },
+}
+
+impl<O: Object> Holder<Journaled<O>> for Pass<O> {
+    ghost seat_of = { λ p. p.seat };
+
+    /// The seat of the mutex.
+    fn seat(&self) -> &Seat<Journaled<O>> {
+        &self.seat
+    }
+
+    /// The seat of the mutex. What the pass knows of the journal, and its cond seats, are dropped.
+    fn into_seat(self) -> Seat<Journaled<O>> {
+        let Pass {
+            seat,
+            seen: _,
+            mine: _,
+            cond_seats: _,
+        } = self;
+        seat
+    }
 }
 
 /// What a pass tells of itself. None of these touches a word of the mutex, takes memory or waits.

@@ -39,8 +39,8 @@ impl<O: Object> Monitor<O> {
     }
 
     /// Starts a thread for each pass. Each makes `rounds` rounds, numbered from 0. In each it executes the section in a hold of
-    /// its own. It stops early if the section breaks off or is refused, or if `hold` is. Each hold is one of `hold`, so a thread
-    /// tries before it queues. `run` sleeps until all threads have ended, and hands the passes back, in their order.
+    /// its own. It stops early if the section breaks off or is refused, or if `hold` is. Each hold is one of `hold`, so a
+    /// thread tries before it queues. `run` sleeps until all threads have ended, and hands the passes back, in their order.
     ///
     /// No round is made before all threads have been started, so sections may wait for one another. If a request for memory is
     /// refused (Memory), or a thread can't be started (Thread), no round is made, and all passes are handed back as they were.

@@ -45,10 +45,10 @@ impl<O: Object> Monitor<O> {
     /// condition brings, and a monitor makes none. That costs the seat of this condition its take, and changes nothing
     /// else.
     ///
-    /// A wait costs the pass one take and one entry, which is kept for it while it sleeps, and its seat of this condition
-    /// one take. It takes no memory, and sleeps. If no other pass waits on the condition when this one is put into its list, and
-    /// at most one other holds or wants the monitor, it looks before it sleeps, as often as the pace says. Otherwise it sleeps at once. A wait wakes the pass that it grants
-    /// the monitor, if any, after it has given the list back.
+    /// A wait costs the pass one take and one entry, which is kept for it while it sleeps, and its seat of this condition one
+    /// take. It takes no memory, and sleeps. If no other pass waits on the condition when this one is put into its list, and at
+    /// most one other holds or wants the monitor, it looks before it sleeps, as often as the pace says. Otherwise it sleeps at
+    /// once. A wait wakes the pass that it grants the monitor, if any, after it has given the list back.
     pub fn wait<R: Wait>(
         &self,
         rt: &R,

@@ -24,13 +24,13 @@ use Rattle.lfm_table.specs.declared.seat_view.Action.{Action}
 use Rattle.lfm_table.specs.declared.seat_view.Action.TheVariants.{LoadsOwner}
 use Rattle.lfm_table.specs.declared.seat_view.View.{View}
 use Rattle.lfm_table.specs.Actions.{HasRun, told, events_of, part_of, begins_and_step}
-use Rattle.lfm_table.proofs.tables.Actions.{led_join, no_part, part_join}
+use Rattle.lfm_table.proofs.tables.Actions.{known_once, led_join, no_part, part_join}
 use Rattle.lfm_table.proofs.tables.RuleKept.{led_on}
 use Rattle.lfm_mutex.proofs.LawsHeld.{core_of}
 use Rattle.lfm_mutex.proofs.RunTrails.{answers_told, entries_of_part, pushes_told, rest_is_nil, steps_of_parts}
 use Rattle.lfm_mutex.proofs.ends.Seats.{joins, joins_keep, owner_keeps, owner_tells, splits, splits_keep, starts, starts_at}
 use Rattle.lfm_mutex.specs.Laws.{IsCore}
-use Rattle.lfm_mutex.specs.TableRuns.{HoldsAfter, OtherStepsKeepTheCore, TablesEndCalls, TablesGoOnAsTheCore, TablesGoThroughReachedStates, TablesRunAsTheAbstractMutex, TablesHaveARun, TablesOpenAtTheStart, TablesOvertakeOnce, TablesServeInPushOrder, TrailsTellThePushes, TrailsTellTheAnswers, answers_noted, late_part, pushes_noted, popped_since, pushed_since, state_after}
+use Rattle.lfm_mutex.specs.TableRuns.{HoldsAfter, OtherStepsKeepTheCore, SeatsKnowUpToTheirLastStep, TablesEndCalls, TablesGoOnAsTheCore, TablesGoThroughReachedStates, TablesRunAsTheAbstractMutex, TablesHaveARun, TablesOpenAtTheStart, TablesOvertakeOnce, TablesServeInPushOrder, TrailsTellThePushes, TrailsTellTheAnswers, answers_noted, late_part, pushes_noted, popped_since, pushed_since, state_after}
 
 -- each moment of a run in the limits is a state that a schedule reaches
 reached_after : (l : Limits) (actions : List Action) → are_in_limits l.seats l.budget ≡ true → IsReached (state_after l actions)
@@ -73,6 +73,10 @@ module _ {T : Type 0} (follows : ℕ → T → T → Type 0) (fits : T → ℕ �
           subst (λ (t : Limits × List Action × Core). HasRun t.0 t.1 t.2 s.views) (λ i. (holds.1 i, holds.2 i, here i)) h.run,
         )),
   )
+
+  pub seats_know_up_to_their_last_step : SeatsKnowUpToTheirLastStep follows fits
+  seats_know_up_to_their_last_step s l early late j v holds at ends none =
+      let k = holds.0.run.known j v at in known_once (j + 1) v.actions early k.later late k.ends ends k.of_others none (sym k.goes_on ∙ holds.2)
 
   pub tables_open_at_the_start : TablesOpenAtTheStart follows fits
   tables_open_at_the_start l x allowed none room suits =

@@ -5,7 +5,8 @@ pub mod DueFalls
 pub mod FirstPoints
 pub mod MadeCalls
 pub mod OneStep
-pub mod QueuePoints
+pub mod PlainCourses
+pub mod PushPoints
 pub mod ReceivePoints
 pub mod RunFacts
 pub mod RunGoesOn

@@ -87,8 +87,8 @@ AreFree ws = (c : Core) × (ws ≡ words c) × IsFree c
 
 module _ {A : Type 0} {T : Type 0} (look : A → Sight T) (past : A → List Action) (l : Limits) (seats : List A) where
   -- Since the opening with these limits some actions of these seats, and of nobody else, have led from the start to a free state. The trail
-  -- of each seat is its part of them. `past` says which actions a seat knew: they are an early part of the run, and the later ones are all of
-  -- others.
+  -- of each seat is its part of them. `past` says which actions a seat knew: they are the run up to its own last step or load of the owner
+  -- word, and the later ones are all of others.
   pub record HaveRun : Type 0 where
     pub actions : List Action
     pub allowed : are_in_limits l.seats l.budget ≡ true

@@ -34,7 +34,7 @@ use Rattle.lfm_table.specs.declared.seat_view.Action.TheVariants.{Makes, LoadsOw
 use Rattle.lfm_table.specs.declared.seat_view.Role.TheVariants.{User}
 use Rattle.lfm_table.specs.declared.seat_view.View.{View}
 use Rattle.lfm_table.specs.declared.seat_view.Seen.{Seen}
-use Rattle.lfm_table.specs.Actions.{HasRun, told, events_of, after_action, part_of, begins_and_step}
+use Rattle.lfm_table.specs.Actions.{EndsWithOwn, HasRun, own_of, told, events_of, after_action, part_of, begins_and_step}
 use Rattle.lfm_table.specs.Rule.{Advanced, Held, ReadsOwner, first_view, joined, split_view, with_joined, with_split}
 use Rattle.lfm_table.specs.Settled.{Became}
 use Rattle.lfm_table.specs.Steps.{Ready}
@@ -103,12 +103,19 @@ module _ {T : Type 0} (follows : ℕ → T → T → Type 0) (fits : T → ℕ �
   abbrev pub HoldsAfter : Limits → List Action → State (Option (Moving T)) (View T) → Type 0
   HoldsAfter l actions s = (h : Held follows fits s) × (h.opened ≡ l) × (h.actions ≡ actions)
 
-  -- Whenever the rule holds there is a run. Words and seats are the state to which it leads, and trails are its parts. What each seat knows of
-  -- it is an early part of it, in which the seat's part is its whole trail.
+  -- Whenever the rule holds there is a run. Words and seats are the state to which it leads, and trails are its parts. Each seat knows the run
+  -- up to its own last step or load of the owner word. In these actions its part is its whole trail.
   abbrev pub TablesHaveARun : Type 0
   TablesHaveARun =
       ((s : State (Option (Moving T)) (View T)) → Held follows fits s → (l : Limits) × (actions : List Action) × HoldsAfter l actions s)
       × ((s : State (Option (Moving T)) (View T)) (l : Limits) (actions : List Action) → HoldsAfter l actions s → IsCore s (state_after l actions) × HasRun l actions (state_after l actions) s.views)
+
+  -- What a seat knows is determined. Take early actions of the run that are none, or of which the last is one that the seat notes, and let the
+  -- late ones be all of others. Then the early ones are exactly those that the seat knows.
+  abbrev pub SeatsKnowUpToTheirLastStep : Type 0
+  SeatsKnowUpToTheirLastStep =
+      (s : State (Option (Moving T)) (View T)) (l : Limits) (early late : List Action) (j : ℕ) (v : View T) → HoldsAfter l (early ++ late) s → get_elem? s.views j ≡ some v
+      → EndsWithOwn (j + 1) early → own_of (j + 1) late ≡ [] → v.actions ≡ early
 
   -- How a run goes on
 

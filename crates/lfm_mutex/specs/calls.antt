@@ -6,6 +6,7 @@ pub mod Trails
 pub mod Straight
 pub mod FailedPushes
 pub mod Due
+pub mod Pushes
 pub mod Sections
 pub mod Barging
 pub mod WakeUps

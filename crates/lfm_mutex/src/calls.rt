@@ -39,6 +39,15 @@ fn either(first: Option<WakeUp>, then: Option<WakeUp>) -> Option<WakeUp>
     }
 }
 
+/// Stores the point at which the slow path takes a call over from its fast path. Out of line: a `Point` has several words, and
+/// to write one costs as much as an atomic step, so a fast path must not.
+#[inline(never)]
+pub(crate) fn stop_at(standing: &mut SeatState, point: Point)
+    ensures { standing.new ≡ record standing.old { point = point } }
+{
+    standing.point = point;
+}
+
 /// Makes the steps of the open call to its end.
 #[inline(never)]
 pub fn finish<T: Kept>(mutex: &Mutex<T>, seat: &mut Seat<T>) -> (Turn, Option<WakeUp>)

@@ -121,8 +121,11 @@ fn take_slot<T: Kept>(closed: ClosedTable<T>) -> Option<MovingBox<T>>
 }
 
 impl<T: Kept> Mutex<T> {
-    /// The first thing that keeps the mutex from being closed.
-    fn missing<P: Holder<T>>(&self, seats: &Vec<P>) -> Option<Missing>
+    /// The first seat, from seat 1 on, that keeps the mutex from being closed with these seats, and how: it is not among them, or one
+    /// with its number holds, or sleeps. None if each of its numbers is there, and none of them holds or sleeps. It compares
+    /// each seat number of the mutex with each seat, takes no memory and never waits. Unlike `close`, it goes by the numbers
+    /// alone: the seats need not be this mutex's.
+    pub fn missing<P: Holder<T>>(&self, seats: &Vec<P>) -> Option<Missing>
         ensures { MatchOption result (AllStand (λ p. sight (P.seat_of p)) seats.now.items (limits_of self.now).seats) (FirstMissing (λ p. sight (P.seat_of p)) seats.now.items (limits_of self.now).seats) }
     {
         for i in 0..self.limits.seats {
@@ -135,10 +138,10 @@ impl<T: Kept> Mutex<T> {
 
     /// Gives the guarded value back, and ends the mutex, if all seats are there and none holds, sleeps or is in a call. The value
     /// is what the last hold of all left, which is that of the seat with the greatest `ended`, or the opening value if no hold
-    /// has ended. The trails of the seats are then their parts of one run of the core, from the start to a free state, and what
-    /// each seat knew of the run is an early part of it. Otherwise it hands back the mutex and the seats, and names the first seat
-    /// that hinders it, and how. It compares each seat number of the mutex with each seat handed in, takes no memory and never
-    /// waits.
+    /// has ended. The trails of the seats are then their parts of one run of the core, from the start to a free state, and each
+    /// seat knew that run up to its own last step or load for `owner`. Otherwise it hands back the mutex and the seats, and
+    /// names the first seat that hinders it, and how. It compares each seat number of the mutex with each seat handed in, takes
+    /// no memory and never waits.
     pub fn close<P: Holder<T>>(self, seats: Vec<P>) -> Result<T, (Mutex<T>, Vec<P>, Missing)>
         requires belongs { (j : ℕ) (s : _) → get_elem? seats.items j ≡ some s → OfMutex (P.seat_of s) self }
         ensures missing { IfErr result (λ e. (e.0 ≡ self) × (e.1 ≡ seats) × FirstMissing (λ p. sight (P.seat_of p)) seats.items (limits_of self).seats e.2) }

@@ -1,7 +1,7 @@
 //! The laws of the running mutex. Each function here does nothing: its contract is the law. Most are facts of the rule that
 //! the table keeps at every moment, whatever threads step on it: `Held` in `specs/Rule.antt` of `lfm_table`. That each atomic
-//! step keeps the rule is asked, and proved, at each of the steps in `table_steps` of `lfm_table`. The last law is of what a
-//! seat knows of its mutex.
+//! step keeps the rule is asked, and proved, where `operate` of `lfm_table` accesses a word. The last law is of what a seat
+//! knows of its mutex.
 ghost use Rattle.lfm_mutex.specs.Laws.{KnowsItsMutex, PostsAreWatched, QuietTablesRest, TablesAreSteady, TakesFindARecord};
 ghost use Rattle.lfm_mutex.specs.TableStates.{RestingTablesAreFree, TablesStand};
 ghost use Rattle.lfm_mutex.specs.TableEvents.{TablesStepAsTheCore};

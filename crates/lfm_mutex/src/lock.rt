@@ -1,15 +1,12 @@
 //! `lock`, and `ask`, which is `lock` up to the point at which it would sleep. Fast path: the mutex is free, the seat holds it
-//! already, or the seat queues (`queue`). It makes its atomic steps one after another, writes only the fields that change, and
+//! already, or the seat queues (`push`). It makes its atomic steps one after another, writes only the fields that change, and
 //! makes no copy of the seat's data. Everything else is the slow path (`calls::finish`).
 ghost use Rattle.std.specs.Prelude.{◌≡◌, ◌+◌, ◌<◌, length};
-ghost use Rattle.lfm_model.specs.declared.answers.How.{How as HowNow};
 ghost use Rattle.lfm_protocol.specs.declared.answers.Answer.TheVariants as Answered;
 ghost use Rattle.lfm_protocol.specs.declared.answers.Call.{Call as CallNow};
 ghost use Rattle.lfm_protocol.specs.declared.answers.Turn.TheVariants.{Ended};
-ghost use Rattle.lfm_protocol.specs.declared.points.Point.TheVariants.{Rest, LockOwnerLoad, EnterOwnerStore, PushLoad};
+ghost use Rattle.lfm_protocol.specs.declared.points.Point.TheVariants.{Rest, LockOwnerLoad};
 ghost use Rattle.lfm_protocol.specs.Limits.{max_depth};
-ghost use Rattle.lfm_protocol.specs.declared.points.Entrant.{Entrant as EntrantNow};
-ghost use Rattle.lfm_protocol.specs.declared.points.Pusher.{Pusher as PusherNow};
 ghost use Rattle.lfm_mutex.specs.Belongs.{Beside, OfMutex, limits_of};
 ghost use Rattle.lfm_mutex.specs.calls.Due.{due};
 ghost use Rattle.lfm_mutex.specs.calls.FailedPushes.{Spends, MakesBesideFailures};
@@ -21,20 +18,21 @@ ghost use Rattle.lfm_mutex.specs.calls.Trails.{MakesCall, LocksBy};
 ghost use Rattle.lfm_mutex.specs.calls.WakeUps.{Wakes};
 ghost use Rattle.lfm_mutex.specs.calls.Woken.{WakesNobody, WokenAsGranted};
 
-use crate::calls::{asleep, finish, run};
+use crate::calls::{asleep, finish, run, stop_at};
 use crate::mutex::Mutex;
-use crate::queue::queue;
+use crate::push::{Pushed, push};
 use crate::seat::Seat;
 use lfm_model::{Asked, How, Locked, Refusal};
 use lfm_protocol::points::{Entrant, Point, Pusher};
 use lfm_protocol::{Answer, Call, MAX_DEPTH, SeatState, Turn, Why};
-use lfm_table::straight_steps::{add_free, add_held, load_held, store_held, subtract_held};
+use lfm_table::operations::{CountAdd, CountSubtract, OwnerLoad, OwnerStore};
+use lfm_table::steps::{gain, keep_held, load_other_owner};
 use lfm_table::{Kept, SeatData, WakeUp};
 use std::sync::Wait;
 
 /// The slow path of an open `lock`, from the seat's point to the end of the call.
 #[inline(always)]
-pub(crate) fn ask_on<T: Kept>(mutex: &Mutex<T>, seat: &mut Seat<T>) -> (Asked, Option<WakeUp>)
+fn ask_on<T: Kept>(mutex: &Mutex<T>, seat: &mut Seat<T>) -> (Asked, Option<WakeUp>)
     requires belongs { seat.old.place.table_id ≡ mutex.now.table.table_id }
     requires locks { errand seat.old.standing.point ≡ locking }
     ensures belongs { seat.new.place.table_id ≡ seat.old.place.table_id }
@@ -51,30 +49,36 @@ pub(crate) fn ask_on<T: Kept>(mutex: &Mutex<T>, seat: &mut Seat<T>) -> (Asked, O
     }
 }
 
-// The points at which the slow path takes over. Each is stored out of line: a `Point` has several words, and to write one costs
-// as much as an atomic step, so the fast path must not.
-
+/// Makes the steps of an open `lock` that found others in the count, to its end: it loads the owner, and pushes the seat's
+/// record. The seat doesn't hold.
 #[inline(never)]
-fn stand_loading(standing: &mut SeatState, takes: u64)
-    ensures { standing.new ≡ record { depth = 0; takes = takes; posts = standing.old.posts; point = LockOwnerLoad } }
+fn queue<T: Kept>(mutex: &Mutex<T>, seat: &mut Seat<T>) -> (Asked, Option<WakeUp>)
+    requires belongs { seat.old.place.table_id ≡ mutex.now.table.table_id }
+    requires stands { seat.old.standing.point ≡ LockOwnerLoad }
+    requires flat { seat.old.standing.depth ≡ 0 }
+    ensures belongs { seat.new.place.table_id ≡ seat.old.place.table_id }
+    ensures woken { WakesNobody seat.old seat.new }
+    ensures same { (seat.new.number ≡ seat.old.number) × (seat.new.limits ≡ seat.old.limits) }
+    ensures made { Course T.follows T.fits seat.old.number seat.old.standing seat.old.moving seat.old.place.me.0 (Ended (Answered.Asked result.0)) seat.new.standing seat.new.moving seat.new.place.me.0 }
+    ensures spends { Spends (due seat.old.limits.seats (length seat.old.place.me.0.popped) seat.old.standing.point) 0 seat.old.place.me.0.trail seat.new.place.me.0.trail }
+    ensures wakes { Wakes seat.old.limits.seats result.1 seat.old.place.me.0.trail seat.new.place.me.0.trail }
 {
-    standing.depth = 0;
-    standing.takes = takes;
-    standing.point = Point::LockOwnerLoad;
-}
-
-#[inline(never)]
-fn stand_entering(standing: &mut SeatState)
-    ensures { standing.new ≡ record standing.old { point = EnterOwnerStore EntrantNow.Locker HowNow.Free } }
-{
-    standing.point = Point::EnterOwnerStore(Entrant::Locker, How::Free);
-}
-
-#[inline(never)]
-fn stand_pushing(standing: &mut SeatState)
-    ensures { standing.new ≡ record standing.old { point = PushLoad PusherNow.Locker } }
-{
-    standing.point = Point::PushLoad(Pusher::Locker);
+    let data = SeatData {
+        number: seat.number,
+        limits: seat.limits,
+        standing: SeatState {
+            depth: 0,
+            takes: seat.standing.takes,
+            posts: seat.standing.posts,
+            point: Point::LockOwnerLoad,
+        },
+    };
+    load_other_owner(&mutex.table, &mut seat.place, &seat.moving, &data);
+    seat.standing.point = Point::PushLoad(Pusher::Locker);
+    match push(mutex, seat, Pusher::Locker) {
+        Pushed::Queued => (Asked::Asleep, None),
+        Pushed::Stopped => ask_on(mutex, seat),
+    }
 }
 
 /// Fast path of `ask`: the seat is awake, doesn't hold, and has a take left.
@@ -109,16 +113,17 @@ pub fn ask_free<T: Kept>(
             point: Point::LockCountAdd,
         },
     };
-    let found = add_free(table, &mut seat.place, &mut seat.moving, &data);
+    let found = gain::<CountAdd, T>(table, &mut seat.place, &mut seat.moving, &data);
     if found != 0 {
-        stand_loading(&mut seat.standing, takes);
+        seat.standing.takes = takes;
+        stop_at(&mut seat.standing, Point::LockOwnerLoad);
         return queue(mutex, seat);
     }
-    // The plain writes stand together, in this gap between two steps: see `straight_steps`.
+    // The plain writes stand together, in this gap between two steps: see `steps` of `lfm_table`.
     seat.standing.depth = 1;
     seat.standing.takes = takes;
     data.standing.point = Point::EnterOwnerStore(Entrant::Locker, How::Free);
-    store_held(table, &mut seat.place, &seat.moving, &data);
+    keep_held::<OwnerStore, T>(table, &mut seat.place, &seat.moving, &data);
     (Asked::Held(How::Free), None)
 }
 
@@ -149,19 +154,22 @@ pub fn ask_again<T: Kept>(mutex: &Mutex<T>, seat: &mut Seat<T>) -> (Asked, Optio
             point: Point::LockCountAdd,
         },
     };
-    let found = add_held(table, &mut seat.place, &seat.moving, &data);
+    let found = keep_held::<CountAdd, T>(table, &mut seat.place, &seat.moving, &data);
     if found == 0 {
-        stand_entering(&mut seat.standing);
+        stop_at(
+            &mut seat.standing,
+            Point::EnterOwnerStore(Entrant::Locker, How::Free),
+        );
         return ask_on(mutex, seat);
     }
     data.standing.point = Point::LockOwnerLoad;
-    let owner = load_held(table, &mut seat.place, &seat.moving, &data);
+    let owner = keep_held::<OwnerLoad, T>(table, &mut seat.place, &seat.moving, &data);
     if owner != number {
-        stand_pushing(&mut seat.standing);
+        stop_at(&mut seat.standing, Point::PushLoad(Pusher::Locker));
         return ask_on(mutex, seat);
     }
     data.standing.point = Point::LockCountSubtract;
-    subtract_held(table, &mut seat.place, &seat.moving, &data);
+    keep_held::<CountSubtract, T>(table, &mut seat.place, &seat.moving, &data);
     seat.standing.depth = depth + 1;
     (Asked::Again(depth + 1), None)
 }

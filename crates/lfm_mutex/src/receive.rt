@@ -21,8 +21,9 @@ use lfm_model::{How, Refusal};
 use lfm_protocol::points::{Entrant, Point, Sleeper};
 use lfm_protocol::{Answer, Call, SeatState, Turn};
 use lfm_table::layout::wake_at;
+use lfm_table::operations::{OwnerStore, WakeStore};
 use lfm_table::parking::park;
-use lfm_table::straight_steps::{load_grant, store_held, store_wake_kept};
+use lfm_table::steps::{gain_by_grant, keep, keep_held};
 use lfm_table::wake_words::{FIRST_GRANT, stamp_in};
 use lfm_table::{Kept, SeatData, WakeUp};
 use std::sync::Wait;
@@ -64,18 +65,18 @@ pub fn receive_asleep<T: Kept>(
             point: Point::ReceiveWakeLoad(sleeper),
         },
     };
-    let found = load_grant(table, &mut seat.place, &mut seat.moving, &data);
+    let found = gain_by_grant(table, &mut seat.place, &mut seat.moving, &data);
     if found < FIRST_GRANT {
         return None;
     }
     let stamp = stamp_in(found);
     data.standing.point = Point::ReceiveWakeStore(stamp);
-    store_wake_kept(table, &mut seat.place, &seat.moving, &data);
+    keep::<WakeStore, T>(table, &mut seat.place, &seat.moving, &data);
     seat.standing.depth = 1;
     seat.standing.point = Point::Rest;
     let how = how_by(stamp);
     data.standing.point = Point::EnterOwnerStore(Entrant::Receiver, how);
-    store_held(table, &mut seat.place, &seat.moving, &data);
+    keep_held::<OwnerStore, T>(table, &mut seat.place, &seat.moving, &data);
     Some(how)
 }
 

@@ -3,6 +3,7 @@
 //! actions of others. An action is a call that a seat begins, a step of a seat, or a load of the owner word by `owner`. How the run
 //! goes on is said in `laws`. Each function here does nothing: its contract is the law.
 ghost use Rattle.lfm_mutex.specs.TableRuns.{
+  SeatsKnowUpToTheirLastStep,
   TablesEndCalls,
   TablesGoThroughReachedStates,
   TablesHaveARun,
@@ -12,15 +13,27 @@ ghost use Rattle.lfm_mutex.specs.TableRuns.{
   TrailsTellTheAnswers,
   TrailsTellThePushes,
 };
+ghost use Rattle.lfm_mutex.specs.calls.RunGoesOn.{SameTrailsKnowTheSame};
 
 use lfm_table::Kept;
 
 /// At every moment some run of the core has led from its start to the words and seats of the table, and each trail is its
-/// seat's part of it. A seat's view keeps an early part of the run, and what follows is of others.
+/// seat's part of it. A seat's view keeps the run up to the seat's own last step or load for `owner`, and what follows is of
+/// others.
 ///
 /// Definition: `TablesHaveARun` in `specs/TableRuns.antt`. Proof: `proofs/TableRuns.antt`.
 pub fn tables_have_a_run<T: Kept>()
     ensures { TablesHaveARun T.follows T.fits }
+{}
+
+/// What a seat knows of its table's run is determined: it is exactly the run up to the seat's own last step or load for
+/// `owner`, and nothing before its first. If its trail has not grown between two views of it, it knows no more than before.
+///
+/// Definitions: `SeatsKnowUpToTheirLastStep` in `specs/TableRuns.antt`, and `SameTrailsKnowTheSame` in
+/// `specs/calls/RunGoesOn.antt`. Proofs: `proofs/TableRuns.antt` and `proofs/runs/RunGoesOn.antt`.
+pub fn seats_know_up_to_their_last_step<T: Kept>()
+    ensures known { SeatsKnowUpToTheirLastStep T.follows T.fits }
+    ensures same { SameTrailsKnowTheSame T }
 {}
 
 /// Each moment of a table's run is a reached state, from which the events since lead to the table. So every law of schedules is

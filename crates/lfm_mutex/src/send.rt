@@ -1,5 +1,5 @@
 //! `send_lock`: a seat that waits is made a locker, on its behalf. Fast path: the target gains a free mutex, or is queued while
-//! no handoff is posted (`queue_target`). Everything else is the slow path (`calls::finish`).
+//! no handoff is posted (`push`). Everything else is the slow path (`calls::finish`).
 ghost use Rattle.std.specs.Prelude.{◌≡◌, ◌+◌, ◌<◌, ◌≤◌, length};
 ghost use Rattle.lfm_protocol.specs.declared.answers.Answer.TheVariants as Answered;
 ghost use Rattle.lfm_protocol.specs.declared.answers.Call.{Call as CallNow};
@@ -16,23 +16,21 @@ ghost use Rattle.lfm_mutex.specs.calls.WakeUps.{Wakes};
 ghost use Rattle.lfm_mutex.specs.calls.Sight.{sight, Sends};
 ghost use Rattle.lfm_mutex.specs.calls.Woken.{WakesNobody, WokenAsGranted};
 
-use crate::calls::{asleep, finish, run};
+use crate::calls::{asleep, finish, run, stop_at};
 use crate::mutex::Mutex;
-use crate::queue_target::queue_target;
+use crate::push::{Pushed, push};
 use crate::seat::Seat;
 use lfm_model::{Refusal, SeatNo};
 use lfm_protocol::points::{Point, Pusher};
 use lfm_protocol::{Answer, Call, SeatState, Turn, Why};
-use lfm_table::straight_steps::{add_free, add_held, exchange_wake_kept, store_grant};
+use lfm_table::operations::{CountAdd, WakeExchange};
+use lfm_table::steps::{gain, grant, keep, keep_held};
 use lfm_table::{Kept, SeatData, WakeUp};
 use lfm_words::Wake;
 
 /// The slow path of an open `send_lock`, from the seat's point to the end of the call.
 #[inline(always)]
-pub(crate) fn send_on<T: Kept>(
-    mutex: &Mutex<T>,
-    seat: &mut Seat<T>,
-) -> (Result<(), Refusal>, Option<WakeUp>)
+fn send_on<T: Kept>(mutex: &Mutex<T>, seat: &mut Seat<T>) -> (Result<(), Refusal>, Option<WakeUp>)
     requires belongs { seat.old.place.table_id ≡ mutex.now.table.table_id }
     requires sends { errand seat.old.standing.point ≡ sending }
     ensures belongs { seat.new.place.table_id ≡ seat.old.place.table_id }
@@ -51,12 +49,27 @@ pub(crate) fn send_on<T: Kept>(
     }
 }
 
-/// The point at which the record of the target is pushed, stored out of line as in `lock`.
+/// Makes the steps of an open send that found others in the count, to its end: it pushes the record of its target.
 #[inline(never)]
-fn stand_pushing(standing: &mut SeatState, target: u64)
-    ensures { standing.new ≡ record standing.old { point = PushLoad (PusherNow.Sender target) } }
+fn queue_target<T: Kept>(
+    mutex: &Mutex<T>,
+    seat: &mut Seat<T>,
+    target: u64,
+) -> (Result<(), Refusal>, Option<WakeUp>)
+    requires belongs { seat.old.place.table_id ≡ mutex.now.table.table_id }
+    requires stands { seat.old.standing.point ≡ PushLoad (PusherNow.Sender target) }
+    ensures belongs { seat.new.place.table_id ≡ seat.old.place.table_id }
+    ensures woken { WakesNobody seat.old seat.new }
+    ensures same { (seat.new.number ≡ seat.old.number) × (seat.new.limits ≡ seat.old.limits) }
+    ensures ends { Ends sending (send_turn result.0) }
+    ensures made { Course T.follows T.fits seat.old.number seat.old.standing seat.old.moving seat.old.place.me.0 (send_turn result.0) seat.new.standing seat.new.moving seat.new.place.me.0 }
+    ensures spends { Spends (due seat.old.limits.seats (length seat.old.place.me.0.popped) seat.old.standing.point) 0 seat.old.place.me.0.trail seat.new.place.me.0.trail }
+    ensures wakes { Wakes seat.old.limits.seats result.1 seat.old.place.me.0.trail seat.new.place.me.0.trail }
 {
-    standing.point = Point::PushLoad(Pusher::Sender(target));
+    match push(mutex, seat, Pusher::Sender(target)) {
+        Pushed::Queued => (Ok(()), None),
+        Pushed::Stopped => send_on(mutex, seat),
+    }
 }
 
 /// Makes the steps of an open send that has claimed its target, to its end, for a seat that doesn't hold.
@@ -88,13 +101,13 @@ fn send_free<T: Kept>(
             point: Point::SendCountAdd(target),
         },
     };
-    let found = add_free(table, &mut seat.place, &mut seat.moving, &data);
+    let found = gain::<CountAdd, T>(table, &mut seat.place, &mut seat.moving, &data);
     if found != 0 {
-        stand_pushing(&mut seat.standing, target);
+        stop_at(&mut seat.standing, Point::PushLoad(Pusher::Sender(target)));
         return queue_target(mutex, seat, target);
     }
     data.standing.point = Point::SendWakeStore(target);
-    let wake_up = store_grant(table, &mut seat.place, &mut seat.moving, &data);
+    let wake_up = grant(table, &mut seat.place, &mut seat.moving, &data);
     seat.standing.point = Point::Rest;
     (Ok(()), wake_up)
 }
@@ -129,12 +142,12 @@ fn send_held<T: Kept>(
             point: Point::SendCountAdd(target),
         },
     };
-    let found = add_held(table, &mut seat.place, &seat.moving, &data);
+    let found = keep_held::<CountAdd, T>(table, &mut seat.place, &seat.moving, &data);
     if found == 0 {
         seat.standing.point = Point::SendWakeStore(target);
         return send_on(mutex, seat);
     }
-    stand_pushing(&mut seat.standing, target);
+    stop_at(&mut seat.standing, Point::PushLoad(Pusher::Sender(target)));
     queue_target(mutex, seat, target)
 }
 
@@ -167,7 +180,7 @@ pub fn send_awake<T: Kept>(
             point: Point::SendWakeExchange(target),
         },
     };
-    let found = exchange_wake_kept(table, &mut seat.place, &seat.moving, &data);
+    let found = keep::<WakeExchange, T>(table, &mut seat.place, &seat.moving, &data);
     let waiting = Wake::Waiting.to_word();
     if found != waiting {
         return (Err(Refusal::NotWaiting), None);

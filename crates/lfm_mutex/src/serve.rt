@@ -17,9 +17,10 @@ use lfm_model::{SeatNo, Unlocked};
 use lfm_protocol::points::{Carrier, Point, Releaser, Sleeper};
 use lfm_protocol::{Answer, SeatState, Turn};
 use lfm_table::moving_box::MovingBox;
+use lfm_table::operations::{ClearHead, WakeStore};
 use lfm_table::seat_memory::oldest_of;
-use lfm_table::straight_steps::{clear_head_held, load_link_held, store_grant, store_wake_kept};
-use lfm_table::{Kept, SeatData, WakeUp};
+use lfm_table::steps::{collect, keep, keep_held};
+use lfm_table::{Kept, SeatData, WakeUp, steps};
 use lfm_words::{Record, unpack_link};
 
 /// The slow path of an open release whose seat has given up the owner word, from the seat's point to the end of the call.
@@ -48,7 +49,7 @@ fn release_on<T: Kept>(
     }
 }
 
-/// The point of a release that found others in the count, stored out of line as in `lock`.
+/// Stores the point at which a release that found others in the count serves the oldest seat. Out of line, as `stop_at`.
 #[inline(never)]
 pub(crate) fn stand_serving<T: Kept>(
     standing: &mut SeatState,
@@ -94,7 +95,7 @@ fn grant<T: Kept>(
             point: Point::GrantWakeStore(Carrier::Releaser(releaser), Record { seat: next, stamp }),
         },
     };
-    let wake_up = store_grant(table, &mut seat.place, &mut seat.moving, &data);
+    let wake_up = steps::grant(table, &mut seat.place, &mut seat.moving, &data);
     match releaser {
         Releaser::Unlocker => {
             seat.standing.point = Point::Rest;
@@ -102,7 +103,7 @@ fn grant<T: Kept>(
         }
         Releaser::Waiter => {
             data.standing.point = Point::WaitWakeStore(Unlocked::Granted(next));
-            store_wake_kept(table, &mut seat.place, &seat.moving, &data);
+            keep::<WakeStore, T>(table, &mut seat.place, &seat.moving, &data);
             seat.standing.point = Point::Asleep(Sleeper::Waiter);
             (Unlocked::Granted(next), wake_up)
         }
@@ -140,14 +141,14 @@ fn serve_pushed<T: Kept>(
             point: Point::TakeClearHead(carrier),
         },
     };
-    let push = clear_head_held(table, &mut seat.place, &seat.moving, &data);
+    let push = keep_held::<ClearHead, T>(table, &mut seat.place, &seat.moving, &data);
     let next = unpack_link(push).next;
     if next == 0 {
         seat.standing.point = Point::ReleaseHandoffStore(releaser);
         return release_on(mutex, seat, releaser);
     }
     data.standing.point = Point::TakeLinkLoad(carrier, next);
-    let word = load_link_held(table, &mut seat.place, &mut seat.moving, &data);
+    let word = collect(table, &mut seat.place, &mut seat.moving, &data);
     let link = unpack_link(word);
     if link.next != 0 {
         seat.standing.point = Point::TakeLinkLoad(carrier, link.next);

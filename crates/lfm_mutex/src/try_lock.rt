@@ -1,12 +1,9 @@
 //! `try_lock`. Fast path: the mutex is free, the seat holds it, or another seat does and no handoff is posted. Everything else is
 //! the slow path (`calls::finish`).
-ghost use Rattle.std.specs.Prelude.{◌≡◌, ◌<◌, None};
-ghost use Rattle.lfm_model.specs.declared.answers.How.{How as HowNow};
+ghost use Rattle.std.specs.Prelude.{◌≡◌, ◌<◌};
 ghost use Rattle.lfm_protocol.specs.declared.answers.Call.{Call as CallNow};
-ghost use Rattle.lfm_protocol.specs.declared.points.Entrant.{Entrant as EntrantNow};
-ghost use Rattle.lfm_protocol.specs.declared.points.Point.TheVariants.{Rest, TryHandoffLoad, EnterOwnerStore};
+ghost use Rattle.lfm_protocol.specs.declared.points.Point.TheVariants.{Rest};
 ghost use Rattle.lfm_protocol.specs.Limits.{max_depth};
-ghost use Rattle.lfm_laws.specs.table.Words.{stepped_by};
 ghost use Rattle.lfm_mutex.specs.Belongs.{Beside, OfMutex, limits_of};
 ghost use Rattle.lfm_mutex.specs.calls.RunGoesOn.{RunGoesOnFrom};
 ghost use Rattle.lfm_mutex.specs.calls.Runs.{errand, trying, Ends};
@@ -16,17 +13,16 @@ ghost use Rattle.lfm_protocol.specs.declared.answers.Answer.TheVariants as Answe
 ghost use Rattle.lfm_mutex.specs.calls.Trails.{MakesAtMost, MakesCall};
 ghost use Rattle.lfm_mutex.specs.calls.Woken.{WakesNobody, WokenAsGranted};
 
-use crate::calls::{asleep, finish, run};
+use crate::calls::{asleep, finish, run, stop_at};
 use crate::mutex::Mutex;
 use crate::seat::Seat;
 use lfm_model::{How, Locked, Refusal};
 use lfm_protocol::points::{Entrant, Point};
 use lfm_protocol::{Answer, Call, MAX_DEPTH, SeatState, Turn, Why};
-use lfm_table::seat_memory::advance;
-use lfm_table::straight_steps::{
-    exchange_free, exchange_held, load_free, load_handoff_kept, load_held, store_held,
-};
+use lfm_table::operations::{CountExchange, HandoffLoad, OwnerLoad, OwnerStore};
+use lfm_table::steps::{gain, keep, keep_held, load_other_owner};
 use lfm_table::{Kept, SeatData, WakeUp};
+use lfm_words::{Handoff, unpack_handoff};
 
 /// The slow path of an open `try_lock`, from the seat's point to the end of the call.
 #[inline(always)]
@@ -48,33 +44,6 @@ fn try_on<T: Kept>(mutex: &Mutex<T>, seat: &mut Seat<T>) -> Result<Locked, Refus
     }
 }
 
-// The points at which the slow path takes over, stored out of line as in `lock`.
-
-#[inline(never)]
-fn stand_exchanging(standing: &mut SeatState, takes: u64, number: u64, found: u64)
-    requires { 0 < takes }
-    ensures { standing.new ≡ (stepped_by (record { depth = 0; takes = takes; posts = standing.old.posts; point = TryHandoffLoad }) number found None).seat }
-{
-    standing.depth = 0;
-    standing.takes = takes;
-    standing.point = Point::TryHandoffLoad;
-    advance(standing, number, found, None);
-}
-
-#[inline(never)]
-fn stand_entering(standing: &mut SeatState)
-    ensures { standing.new ≡ record standing.old { point = EnterOwnerStore EntrantNow.Trier HowNow.Free } }
-{
-    standing.point = Point::EnterOwnerStore(Entrant::Trier, How::Free);
-}
-
-#[inline(never)]
-fn stand_loading(standing: &mut SeatState)
-    ensures { standing.new ≡ record standing.old { point = TryHandoffLoad } }
-{
-    standing.point = Point::TryHandoffLoad;
-}
-
 /// Fast path of `try_lock`: the seat is awake, doesn't hold, and has a take left.
 #[inline(always)]
 pub fn try_free<T: Kept>(
@@ -94,10 +63,9 @@ pub fn try_free<T: Kept>(
 {
     let _budget = budget;
     let table = &mutex.table;
-    let number = seat.number;
     let takes = seat.standing.takes + 1;
     let mut data = SeatData {
-        number,
+        number: seat.number,
         limits: seat.limits,
         standing: SeatState {
             depth: 0,
@@ -106,21 +74,25 @@ pub fn try_free<T: Kept>(
             point: Point::TryCountExchange,
         },
     };
-    let found = exchange_free(table, &mut seat.place, &mut seat.moving, &data);
+    let found = gain::<CountExchange, T>(table, &mut seat.place, &mut seat.moving, &data);
     if found == 0 {
-        // The plain writes stand together, in this gap between two steps: see `straight_steps`.
+        // The plain writes stand together, in this gap between two steps: see `steps` of `lfm_table`.
         seat.standing.depth = 1;
         seat.standing.takes = takes;
         data.standing.point = Point::EnterOwnerStore(Entrant::Trier, How::Free);
-        store_held(table, &mut seat.place, &seat.moving, &data);
+        keep_held::<OwnerStore, T>(table, &mut seat.place, &seat.moving, &data);
         return Ok(Locked::Held(How::Free));
     }
     data.standing.point = Point::TryOwnerLoad;
-    load_free(table, &mut seat.place, &seat.moving, &data);
+    load_other_owner(table, &mut seat.place, &seat.moving, &data);
     data.standing.point = Point::TryHandoffLoad;
-    let handoff = load_handoff_kept(table, &mut seat.place, &seat.moving, &data);
-    if handoff % 65_536 != 0 {
-        stand_exchanging(&mut seat.standing, takes, number, handoff);
+    let handoff = keep::<HandoffLoad, T>(table, &mut seat.place, &seat.moving, &data);
+    if Handoff::is_posted_in(handoff) {
+        seat.standing.takes = takes;
+        stop_at(
+            &mut seat.standing,
+            Point::TryHandoffExchange(unpack_handoff(handoff)),
+        );
         return try_on(mutex, seat);
     }
     Err(Refusal::Busy)
@@ -151,15 +123,18 @@ pub fn try_again<T: Kept>(mutex: &Mutex<T>, seat: &mut Seat<T>) -> Result<Locked
             point: Point::TryCountExchange,
         },
     };
-    let found = exchange_held(table, &mut seat.place, &seat.moving, &data);
+    let found = keep_held::<CountExchange, T>(table, &mut seat.place, &seat.moving, &data);
     if found == 0 {
-        stand_entering(&mut seat.standing);
+        stop_at(
+            &mut seat.standing,
+            Point::EnterOwnerStore(Entrant::Trier, How::Free),
+        );
         return try_on(mutex, seat);
     }
     data.standing.point = Point::TryOwnerLoad;
-    let owner = load_held(table, &mut seat.place, &seat.moving, &data);
+    let owner = keep_held::<OwnerLoad, T>(table, &mut seat.place, &seat.moving, &data);
     if owner != number {
-        stand_loading(&mut seat.standing);
+        stop_at(&mut seat.standing, Point::TryHandoffLoad);
         return try_on(mutex, seat);
     }
     seat.standing.depth = depth + 1;

@@ -21,7 +21,8 @@ use crate::serve::{serve, stand_serving};
 use lfm_model::{Refusal, Unlocked};
 use lfm_protocol::points::{Point, Releaser};
 use lfm_protocol::{Answer, Call, SeatState, Turn, Why};
-use lfm_table::straight_steps::{store_held, subtract_last};
+use lfm_table::operations::OwnerStore;
+use lfm_table::steps::{keep_held, retake};
 use lfm_table::{Kept, SeatData, WakeUp};
 
 /// Fast path of `unlock`: the seat is awake and holds once.
@@ -49,12 +50,12 @@ pub fn unlock_last<T: Kept>(mutex: &Mutex<T>, seat: &mut Seat<T>) -> (Unlocked, 
             point: Point::ReleaseOwnerStore(Releaser::Unlocker),
         },
     };
-    store_held(table, &mut seat.place, &seat.moving, &data);
-    // The plain writes stand together, in this gap between two steps: see `straight_steps`.
+    keep_held::<OwnerStore, T>(table, &mut seat.place, &seat.moving, &data);
+    // The plain writes stand together, in this gap between two steps: see `steps` of `lfm_table`.
     seat.standing.depth = 0;
     data.standing.depth = 0;
     data.standing.point = Point::ReleaseCountSubtract(Releaser::Unlocker);
-    let found = subtract_last(table, &mut seat.place, &mut seat.moving, &data);
+    let found = retake(table, &mut seat.place, &mut seat.moving, &data);
     if found != 1 {
         stand_serving(&mut seat.standing, &seat.moving, Releaser::Unlocker);
         return serve(mutex, seat, Releaser::Unlocker);

@@ -20,7 +20,8 @@ use crate::serve::{serve, stand_serving};
 use lfm_model::{Refusal, Unlocked};
 use lfm_protocol::points::{Point, Releaser, Sleeper};
 use lfm_protocol::{Answer, Call, SeatState, Turn, Why};
-use lfm_table::straight_steps::{store_held, store_wake_kept, subtract_last};
+use lfm_table::operations::{OwnerStore, WakeStore};
+use lfm_table::steps::{keep, keep_held, retake};
 use lfm_table::{Kept, SeatData, WakeUp};
 
 /// Fast path of `start_wait`: the seat is awake, holds once, and has a take left.
@@ -56,19 +57,19 @@ pub fn wait_last<T: Kept>(
             point: Point::ReleaseOwnerStore(Releaser::Waiter),
         },
     };
-    store_held(table, &mut seat.place, &seat.moving, &data);
-    // The plain writes stand together, in this gap between two steps: see `straight_steps`.
+    keep_held::<OwnerStore, T>(table, &mut seat.place, &seat.moving, &data);
+    // The plain writes stand together, in this gap between two steps: see `steps` of `lfm_table`.
     seat.standing.depth = 0;
     seat.standing.takes = takes;
     data.standing.depth = 0;
     data.standing.point = Point::ReleaseCountSubtract(Releaser::Waiter);
-    let found = subtract_last(table, &mut seat.place, &mut seat.moving, &data);
+    let found = retake(table, &mut seat.place, &mut seat.moving, &data);
     if found != 1 {
         stand_serving(&mut seat.standing, &seat.moving, Releaser::Waiter);
         return serve(mutex, seat, Releaser::Waiter);
     }
     data.standing.point = Point::WaitWakeStore(Unlocked::Free);
-    store_wake_kept(table, &mut seat.place, &seat.moving, &data);
+    keep::<WakeStore, T>(table, &mut seat.place, &seat.moving, &data);
     seat.standing.point = Point::Asleep(Sleeper::Waiter);
     (Unlocked::Free, None)
 }

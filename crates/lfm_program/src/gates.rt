@@ -45,9 +45,9 @@ const GIVEN_UP: u64 = 4;
 /// A gate that holds the first commands of workers 1 and 2 until both have arrived.
 ///
 /// It needs no runtime and never sleeps: each of the two looks for the other at most `limit` times. A first command of worker 1
-/// or 2 is answered true if both have arrived. It is answered false if its worker saw only its own mark in all its looks and gave
-/// up, or if the other had given up before. After one answer false no later arrival is answered true, not even that of a worker
-/// that arrives again. All other commands and workers are answered true at once.
+/// or 2 is answered true if both have arrived. It is answered false if its worker saw only its own mark in all its looks and
+/// gave up, or if the other had given up before. After one answer false no later arrival is answered true, not even that of a
+/// worker that arrives again. All other commands and workers are answered true at once.
 #[derive(Drop)]
 pub struct Meet {
     arrived: CachePadded<AtomicU64>,

@@ -1,5 +1,6 @@
 //! The run of a script of workers, each a thread, round one monitor. `lfm_script` has what a script is and what is reported of
-//! it. Its names are re-exported here, and so are those of `lfm_core` for the end of a replay.
+//! it. Of other crates' names, only `Command`, `WorkFault` and the functions that turn the outcome of a run or of a replay into
+//! an exit status are re-exported.
 #![tactic(auto)]
 
 pub mod gates;
@@ -10,12 +11,8 @@ mod workers;
 pub mod working;
 
 pub use gates::{Gate, Meet, OpenGate};
-pub use lfm_core::{replay_status, report};
-pub use lfm_script::{
-    Command, MAX_CONDITIONS, MAX_NUMBER, MAX_WORKERS, Row, Script, ScriptLine, WorkFault,
-    commands_by_worker, faults, read_script, report_laws, report_work, reporting, rows, rows_of,
-    script, status, statuses, work_report, write_fault, write_report,
-};
+pub use lfm_core::replay_status;
+pub use lfm_script::{Command, WorkFault, status};
 pub use performed::{Performed, perform};
 pub use starting_line::StartingLine;
 pub use working::work;

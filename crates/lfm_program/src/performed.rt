@@ -30,10 +30,10 @@ pub enum Performed {
 /// Makes the commands of one worker in order, each after the gate allows it. The gate is asked with the pass's number and the
 /// command's, from 1 in each call. Before and after, the pass neither holds nor sleeps.
 ///
-/// A refusal is that of the call of the monitor that was refused. An `add` is refused as Spent alone: its pass has no entry or no
-/// take left. An `until` is refused as Spent for that or if its seat of the condition has no take left, as NoSuchSeat if there is
-/// no such condition, and as Busy as `wait` of the monitor. A wake is refused as NoSuchSeat, as Spent if its seat of the
-/// condition has no take left, and as NotWaiting as `wake_one` of the monitor.
+/// A refusal is that of the call of the monitor that was refused. An `add` is refused as Spent alone: its pass has no entry or
+/// no take left. An `until` is refused as Spent for that or if its seat of the condition has no take left, as NoSuchSeat if
+/// there is no such condition, and as Busy as `wait` of the monitor. A wake is refused as NoSuchSeat, as Spent if its seat of
+/// the condition has no take left, and as NotWaiting as `wake_one` of the monitor.
 ///
 /// Stuck is answered just before a command at which the gate stops this worker: those before it, and no others, were made.
 ///

@@ -1,4 +1,7 @@
 //! The line at which workers wait until all of them have been started.
+//!
+//! It is made of std's `Mutex` and `Condvar`, which `lfm work` has to use here. `StartLatch` of `lfm_threads` does the same for
+//! `share`, and proves in addition that all threads found the same decision.
 
 use std::sync::{Condvar, Mutex, Wait};
 
@@ -47,6 +50,7 @@ impl StartingLine {
         self.open(rt, Start::CalledOff);
     }
 
+    /// Opens the line with this outcome, and wakes all that sleep here.
     fn open<R: Wait>(&self, rt: &R, start: Start) {
         *self.start.lock(rt) = start;
         self.changed.notify_all();

@@ -89,8 +89,8 @@ impl Entrant {
     }
 }
 
-/// How the mutex was gained by a grant with this stamp.
-pub(crate) fn how_granted(stamp: u64) -> How
+/// How the mutex was gained by a grant with this stamp, which is 0 if the seat had no record in the queue.
+pub fn how_granted(stamp: u64) -> How
     ensures { result ≡ how_granted stamp }
 {
     if stamp == 0 {

@@ -15,6 +15,7 @@ pub mod seats;
 mod stores;
 
 pub use answers::{Answer, Call, Turn, Why};
+pub use carrying::how_granted;
 pub use limits::{Limits, MAX_BUDGET, MAX_DEPTH, MAX_SEATS};
 pub use machine::Machine;
 pub use seats::SeatState;

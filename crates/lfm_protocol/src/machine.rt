@@ -158,6 +158,7 @@ impl Machine {
 /// One atomic step of each kind by seat s: the operation on the word, then the seat's own method. t is the seat whose link
 /// or wake word is touched.
 impl Machine {
+    /// Seat s exchanges a count of 0 for 1. Any other count stays as it is.
     fn count_exchange(&mut self, s: u64) -> Turn
         requires seat { IsSeat self.old.seats s }
         ensures core { self.new ≡ (count_exchange self.old s).core }
@@ -173,6 +174,7 @@ impl Machine {
         turn
     }
 
+    /// Seat s adds 1 to the count.
     fn count_add(&mut self, s: u64) -> Turn
         requires seat { IsSeat self.old.seats s }
         requires counts { self.old.count + 1 < 2 ^ 64 }
@@ -187,6 +189,7 @@ impl Machine {
         turn
     }
 
+    /// Seat s subtracts 1 from the count.
     fn count_subtract(&mut self, s: u64) -> Turn
         requires seat { IsSeat self.old.seats s }
         requires numbers { HasNumbers (seat self.old.seats s) (seat self.old.seats s).point }
@@ -202,6 +205,7 @@ impl Machine {
         turn
     }
 
+    /// Seat s loads the owner word.
     fn owner_load(&mut self, s: u64) -> Turn
         requires seat { IsSeat self.old.seats s }
         requires numbers { HasNumbers (seat self.old.seats s) (seat self.old.seats s).point }
@@ -214,6 +218,7 @@ impl Machine {
         turn
     }
 
+    /// Seat s stores its number or 0 in the owner word. If it enters by the oldest record, that record leaves the pop list.
     fn owner_store(&mut self, s: u64) -> Turn
         requires seat { IsSeat self.old.seats s }
         ensures core { self.new ≡ (owner_store self.old s).core }
@@ -227,6 +232,7 @@ impl Machine {
         turn
     }
 
+    /// Seat s loads the push word.
     fn push_load(&mut self, s: u64) -> Turn
         requires seat { IsSeat self.old.seats s }
         ensures core { self.new ≡ (push_load self.old s).core }
@@ -238,6 +244,7 @@ impl Machine {
         turn
     }
 
+    /// Seat s exchanges the push word that it has seen for one with its record as the head. Any other push word stays.
     fn push_exchange(&mut self, s: u64) -> Turn
         requires seat { IsSeat self.old.seats s }
         requires numbers { HasNumbers (seat self.old.seats s) (seat self.old.seats s).point }
@@ -254,6 +261,7 @@ impl Machine {
         turn
     }
 
+    /// Seat s clears the head of the push word, and leaves the stamp, so that no stamp is given out twice.
     fn clear_head(&mut self, s: u64) -> Turn
         requires seat { IsSeat self.old.seats s }
         ensures core { self.new ≡ (clear_head self.old s).core }
@@ -267,6 +275,7 @@ impl Machine {
         turn
     }
 
+    /// Seat s loads the link word of seat t, and the record of t becomes the oldest of the pop list.
     fn link_load_of(&mut self, s: u64, t: u64) -> Turn
         requires seat { IsSeat self.old.seats s }
         requires touches { IsSeat self.old.seats t }
@@ -283,6 +292,7 @@ impl Machine {
         turn
     }
 
+    /// Seat s stores the link of seat t, whose record it pushes next.
     fn link_store_to(&mut self, s: u64, t: u64) -> Turn
         requires seat { IsSeat self.old.seats s }
         requires numbers { HasNumbers (seat self.old.seats s) (seat self.old.seats s).point }
@@ -297,6 +307,7 @@ impl Machine {
         turn
     }
 
+    /// Seat s loads the handoff word.
     fn handoff_load(&mut self, s: u64) -> Turn
         requires seat { IsSeat self.old.seats s }
         requires numbers { HasNumbers (seat self.old.seats s) (seat self.old.seats s).point }
@@ -309,6 +320,7 @@ impl Machine {
         turn
     }
 
+    /// Seat s posts its next handoff number.
     fn handoff_store(&mut self, s: u64) -> Turn
         requires seat { IsSeat self.old.seats s }
         requires numbers { HasNumbers (seat self.old.seats s) (seat self.old.seats s).point }
@@ -322,6 +334,7 @@ impl Machine {
         turn
     }
 
+    /// Seat s exchanges the handoff number that it expects for none. Any other number stays.
     fn handoff_exchange(&mut self, s: u64) -> Turn
         requires seat { IsSeat self.old.seats s }
         requires numbers { HasNumbers (seat self.old.seats s) (seat self.old.seats s).point }
@@ -338,6 +351,7 @@ impl Machine {
         turn
     }
 
+    /// Seat s loads the wake word of seat t.
     fn wake_load_of(&mut self, s: u64, t: u64) -> Turn
         requires seat { IsSeat self.old.seats s }
         requires touches { IsSeat self.old.seats t }
@@ -350,6 +364,7 @@ impl Machine {
         turn
     }
 
+    /// Seat s stores in the wake word of seat t. If that grants the oldest record, the record leaves the pop list.
     fn wake_store_to(&mut self, s: u64, t: u64) -> Turn
         requires seat { IsSeat self.old.seats s }
         requires touches { IsSeat self.old.seats t }
@@ -364,6 +379,7 @@ impl Machine {
         turn
     }
 
+    /// Seat s claims seat t, if t waits. Any other wake state stays.
     fn wake_exchange_of(&mut self, s: u64, t: u64) -> Turn
         requires seat { IsSeat self.old.seats s }
         requires touches { IsSeat self.old.seats t }

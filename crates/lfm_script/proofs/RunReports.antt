@@ -16,6 +16,7 @@ use Rattle.lfm_script.specs.Adds.{adds, command_adds, all_adds, worker_adds, lin
 use Rattle.lfm_script.specs.Rows.{rows_from, row_of, run_row}
 use Rattle.lfm_script.specs.Report.{script_row, report_text, run_text, script_text, total_of, IsRunOf}
 use Rattle.lfm_script.specs.Runs.{made_adds, made_row, made_total, IsReport, IsRunOfMade}
+use Rattle.lfm_text.specs.Text.{max_lines}
 use Rattle.lfm_script.proofs.AddedSums.{sum-append, both, lines_small, lines_sum, journal_sum, total_is}
 
 -- each worker's entries being its own lines', all of them add up to the script's sum
@@ -27,7 +28,7 @@ sums_agree (suc n) es ls same =
     let last = ap sum (same (suc n) (omega arith) (omega arith)) in
     omega arith
 
-pub total_told : (p : Plan) (journal : List (Entry TotalOp)) → plan_allowed p ≡ true → length p.lines < 65536 → Within p.workers journal → IsRunOf p journal
+pub total_told : (p : Plan) (journal : List (Entry TotalOp)) → plan_allowed p ≡ true → length p.lines < max_lines → Within p.workers journal → IsRunOf p journal
     → total_of journal ≡ sum (lines_adds p.lines)
 total_told p journal is_allowed few within own_lines =
     let lines = (both (header_allowed p.workers p.conditions) (lines_allowed p.workers p.conditions p.lines) is_allowed).1 in
@@ -45,7 +46,7 @@ rows_same f g w (suc n) same =
     let rest = rows_same f g (w + 1) n (λ k p q. same k (omega arith) (omega arith)) in
     ap (λ x. x ∷ rows_from f (w + 1) n) (same w (omega arith) (omega arith)) ∙ ap (λ xs. g w ∷ xs) rest
 
-pub text_told : (p : Plan) (journal : List (Entry TotalOp)) → plan_allowed p ≡ true → length p.lines < 65536 → Within p.workers journal → IsRunOf p journal
+pub text_told : (p : Plan) (journal : List (Entry TotalOp)) → plan_allowed p ≡ true → length p.lines < max_lines → Within p.workers journal → IsRunOf p journal
     → run_text p.workers journal (λ w. None) (total_of journal) true ≡ script_text p
 text_told p journal is_allowed few within own_lines =
     ap (λ rows. report_text rows (total_of journal) true)
@@ -78,7 +79,7 @@ pub record AddsMade (p : Plan) (made : ℕ → ℕ) (journal : List (Entry Total
   pub sum_is : sum (adds journal) ≡ made_total p made
   pub fits : sum (adds journal) < 2 ^ 64
 
-pub adds_made : (p : Plan) (made : ℕ → ℕ) (journal : List (Entry TotalOp)) → plan_allowed p ≡ true → length p.lines < 65536 → Within p.workers journal → IsRunOfMade p made journal
+pub adds_made : (p : Plan) (made : ℕ → ℕ) (journal : List (Entry TotalOp)) → plan_allowed p ≡ true → length p.lines < max_lines → Within p.workers journal → IsRunOfMade p made journal
     → AddsMade p made journal
 adds_made p made journal is_allowed few within own_made =
     let lines = (both (header_allowed p.workers p.conditions) (lines_allowed p.workers p.conditions p.lines) is_allowed).1 in
@@ -91,7 +92,7 @@ adds_made p made journal is_allowed few within own_made =
     record { sum_is = same; fits = omega (arith, same, low, few, below, right) }
 
 -- the total is what the workers' commands add
-pub made_total_told : (p : Plan) (made : ℕ → ℕ) (journal : List (Entry TotalOp)) → plan_allowed p ≡ true → length p.lines < 65536 → Within p.workers journal → IsRunOfMade p made journal
+pub made_total_told : (p : Plan) (made : ℕ → ℕ) (journal : List (Entry TotalOp)) → plan_allowed p ≡ true → length p.lines < max_lines → Within p.workers journal → IsRunOfMade p made journal
     → total_of journal ≡ made_total p made
 made_total_told p made journal is_allowed few within own_made =
     let added = adds_made p made journal is_allowed few within own_made in
@@ -99,7 +100,7 @@ made_total_told p made journal is_allowed few within own_made =
     omega (arith, told, added.sum_is)
 
 -- the text of a run is that of the commands that were made
-pub made_text_told : (p : Plan) (made : ℕ → ℕ) (refused : ℕ → Option Refusal) (journal : List (Entry TotalOp)) → plan_allowed p ≡ true → length p.lines < 65536
+pub made_text_told : (p : Plan) (made : ℕ → ℕ) (refused : ℕ → Option Refusal) (journal : List (Entry TotalOp)) → plan_allowed p ≡ true → length p.lines < max_lines
     → Within p.workers journal → IsRunOfMade p made journal
     → run_text p.workers journal refused (total_of journal) true ≡ report_text (rows_from (made_row p made refused) 1 p.workers) (made_total p made) true
 made_text_told p made refused journal is_allowed few within own_made =

@@ -33,6 +33,7 @@ pub enum WorkFault {
 impl From<InputFault> for WorkFault {
     ghost from_gives = { λ e r. r ≡ input_fault e };
 
+    /// The fault of the same name.
     fn from(fault: InputFault) -> WorkFault {
         match fault {
             InputFault::Read => WorkFault::Read,
@@ -44,6 +45,7 @@ impl From<InputFault> for WorkFault {
 impl From<WriteFault> for WorkFault {
     ghost from_gives = { λ e r. r ≡ output_fault e };
 
+    /// A writer has one fault, whatever it did.
     fn from(_fault: WriteFault) -> WorkFault {
         WorkFault::Write
     }
@@ -52,6 +54,7 @@ impl From<WriteFault> for WorkFault {
 impl From<AllocError> for WorkFault {
     ghost from_gives = { λ e r. r ≡ memory_fault e };
 
+    /// A refused request for memory is one fault, whatever it was for.
     fn from(_fault: AllocError) -> WorkFault {
         WorkFault::Memory
     }

@@ -9,10 +9,10 @@ mod reading;
 pub use commands::commands_by_worker;
 pub use reading::read_script;
 
-/// The most workers of a script.
+/// The most workers of a script: as many as a mutex may have seats.
 pub const MAX_WORKERS: u64 = 4_095;
 
-/// The most conditions of a script.
+/// The most conditions of a script: as many as a monitor may have.
 pub const MAX_CONDITIONS: u64 = 16;
 
 /// The most that one command may add, or wait for.

@@ -24,6 +24,7 @@ fn write_count<W: Write>(writer: &mut W, row: &Row) -> Result<(), WriteFault>
     Ok(())
 }
 
+/// Writes why a worker was refused.
 fn write_refusal<W: Write>(writer: &mut W, refusal: Refusal) -> Result<(), WriteFault>
     ensures { Writes (W.contents writer.old) (W.contents writer.new) (refused_text (Some refusal)) result }
 {
@@ -32,7 +33,7 @@ fn write_refusal<W: Write>(writer: &mut W, refusal: Refusal) -> Result<(), Write
     Ok(())
 }
 
-/// Writes why a worker was refused, and nothing if it was not.
+/// Writes why a worker was refused, and nothing for a worker that was not.
 fn write_refused<W: Write>(writer: &mut W, refused: Option<Refusal>) -> Result<(), WriteFault>
     ensures { Writes (W.contents writer.old) (W.contents writer.new) (refused_text refused) result }
 {
@@ -64,6 +65,7 @@ fn write_rows<W: Write>(writer: &mut W, rows: &[Row]) -> Result<(), WriteFault>
     Ok(())
 }
 
+/// Writes the last line: whether the journal is lawful.
 fn write_lawful<W: Write>(writer: &mut W, lawful: bool) -> Result<(), WriteFault>
     ensures { Writes (W.contents writer.old) (W.contents writer.new) (lawful_text lawful) result }
 {

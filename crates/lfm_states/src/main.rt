@@ -1,5 +1,5 @@
-//! The program `lfm_states`: it finds every state that a mutex of two seats can reach, and measures in all of them what the laws
-//! of `lfm_laws` bound.
+//! The program `lfm_states`: it finds every state that a mutex of two seats can reach, and measures in all of them what the
+//! laws of `lfm_laws` bound.
 //!
 //! It shows what no proof says: which of the bounds are reached, and how near the greatest counts come to the others.
 //! `scripts/search_states` runs it.
@@ -22,6 +22,7 @@ mod weights;
 
 use std::process::ExitCode;
 
+/// Runs what the command line asks for, and exits with its status.
 fn main(rt: HostRuntime) -> ExitCode {
     ExitCode::from(commands::run(&rt))
 }

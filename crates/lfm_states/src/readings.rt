@@ -1,5 +1,5 @@
-//! What a state of two seats holds, as plain data that can be kept and compared: all words, all data of the seats, and the queue.
-//! The links, the points and the queue determine the pop list, so two states with the same reading are the same.
+//! What a state of two seats holds, as plain data that can be kept and compared: all words, all data of the seats, and the
+//! queue. The links, the points and the queue determine the pop list, so two states with the same reading are the same.
 ghost use Rattle.std.specs.Prelude.{◌≡◌};
 ghost use Rattle.lfm_laws.specs.laws.Grants.{grant_weight};
 ghost use Rattle.lfm_laws.specs.laws.Overtaking.{enters_at, releases_at};

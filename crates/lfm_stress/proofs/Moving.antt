@@ -1,13 +1,13 @@
 -- What a closure holds that works with the monitor of a buffer may be used by several threads.
 use Rattle.lfm_monitor.specs.contracts.monitor.Monitor as Monitor
 use Rattle.lfm_monitor.proofs.Moving.{monitor_sync}
-use Rattle.lfm_stress.proofs.buffer.Buffer.TheSendSync as BufferSend
-use Rattle.lfm_stress.proofs.buffer.BufferOp.TheSendSync as BufferOpSend
+use Rattle.lfm_buffer.proofs.Buffer.TheSendSync as BufferSend
+use Rattle.lfm_buffer.proofs.BufferOp.TheSendSync as BufferOpSend
 use Rattle.lfm_stress.proofs.loads.buffer.Delivery.TheSendSync as DeliverySend
-use Rattle.lfm_stress.specs.contracts.buffer.Buffer as Buffer
-use Rattle.lfm_stress.specs.contracts.buffer.BufferObject.TheImpl as BufferObject
-use Rattle.lfm_stress.specs.contracts.buffer.BufferOp as BufferOp
-use Rattle.lfm_stress.specs.contracts.buffer.BufferReply as BufferReply
+use Rattle.lfm_buffer.specs.contracts.Buffer as Buffer
+use Rattle.lfm_buffer.specs.contracts.BufferObject.TheImpl as BufferObject
+use Rattle.lfm_buffer.specs.contracts.BufferOp as BufferOp
+use Rattle.lfm_buffer.specs.contracts.BufferReply as BufferReply
 use Rattle.lfm_stress.specs.contracts.loads.buffer.Delivery as Delivery
 use Rattle.std.specs.Prelude.{ℕ, List, [], ◌∷◌}
 use denote.Param.{param}

@@ -3,5 +3,4 @@ pub mod Parts
 pub mod Totals
 pub mod Tenths
 pub mod Broadcasts
-pub mod Buffers
 pub mod Requests

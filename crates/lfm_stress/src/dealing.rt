@@ -103,7 +103,8 @@ fn dealt(shared: &Shared, threads: u64, seats: Seats, mut parts: Vec<Part>) -> O
     requires seats { (j : ℕ) (s : _) → get_elem? seats.seats.items j ≡ some s → OfMutex s shared.now.mutex }
     requires first { (j : ℕ) (s : _) → get_elem? seats.first.items j ≡ some s → OfCondvar s shared.now.first }
     requires second { (j : ℕ) (s : _) → get_elem? seats.second.items j ≡ some s → OfCondvar s shared.now.second }
-    requires wide { ((cond_limits shared.now.first).seats ≤ (limits_of shared.now.mutex).seats) × ((cond_limits shared.now.second).seats ≤ (limits_of shared.now.mutex).seats) }
+    requires wide { ((cond_limits shared.now.first).seats ≤ (limits_of shared.now.mutex).seats)
+        × ((cond_limits shared.now.second).seats ≤ (limits_of shared.now.mutex).seats) }
     requires empty { parts.items ≡ [] }
     ensures { IfSome result (λ v. All (λ p. OfShared p shared.now) v.items) }
 {

@@ -5,7 +5,6 @@
 #![tactic(auto)]
 
 mod arguments;
-mod buffer;
 mod commands;
 mod dealing;
 mod loads;
@@ -17,6 +16,7 @@ mod sums;
 
 use std::process::ExitCode;
 
+/// Runs what the command line asks for, and exits with its status.
 fn main(rt: HostRuntime) -> ExitCode {
     ExitCode::from(commands::run(&rt))
 }

@@ -1,5 +1,5 @@
-//! What a run does: a load, how its threads lock, by how many threads, and how often. The turns of `buffer` are the items that go
-//! through it.
+//! What a run does: a load, how its threads lock, by how many threads, and how often. The turns of `buffer` are the items that
+//! go through it.
 ghost use Rattle.std.specs.Prelude.{◌≡◌, ◌≤◌, IfOk, IfErr, None, Some};
 ghost use Rattle.lfm_stress.specs.Ranges.{most_threads, least_threads, most_turns, refusal_of, seats_of};
 
@@ -129,7 +129,8 @@ pub enum OutOfRange {
     Turns,
 }
 
-/// What keeps this load from being run with this number of threads and of turns of each, the threads first. None if nothing does.
+/// What keeps this load from being run with this number of threads and of turns of each, the threads first. None if nothing
+/// does.
 pub fn refusal_of(load: Load, threads: u64, turns: u64) -> Option<OutOfRange>
     ensures { result ≡ refusal_of load threads turns }
 {
@@ -157,7 +158,8 @@ impl Plan {
     /// The plan of this load and this locking, with this number of threads and of turns of each. It is refused if one of the
     /// numbers is out of range, the threads first.
     pub fn new(load: Load, locking: Locking, threads: u64, turns: u64) -> Result<Plan, OutOfRange>
-        ensures allowed { IfOk result (λ p. (p.load ≡ load) × (p.locking ≡ locking) × (p.threads ≡ threads) × (p.turns ≡ turns) × (refusal_of load threads turns ≡ None)) }
+        ensures allowed { IfOk result (λ p. (p.load ≡ load) × (p.locking ≡ locking) × (p.threads ≡ threads) × (p.turns ≡ turns)
+            × (refusal_of load threads turns ≡ None)) }
         ensures refused { IfErr result (λ e. refusal_of load threads turns ≡ Some e) }
     {
         match refusal_of(load, threads, turns) {

@@ -16,8 +16,8 @@ use std::thread::{Threads, map_vec};
 use std::time::Clock;
 
 /// Makes a run of this plan, and says after each tenth how far it is. It takes memory, starts threads and joins them all. An
-/// error if the number of processors or the time can't be told, a line is not written, or no memory is found. The number is 0 if
-/// a seat holds at the end, or is not back.
+/// error if the number of processors or the time can't be told, a line is not written, or no memory is found. The number is 0
+/// if a seat holds at the end, or is not back.
 pub fn run<R: Threads + Wait + Sync + Clock + AllocGlobal + Print>(
     rt: &R,
     plan: Plan,

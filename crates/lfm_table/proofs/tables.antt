@@ -1,5 +1,4 @@
 -- One atomic step: what it does to a seat's own data, and that it keeps the rule of the table and what a seat knows.
-pub mod AtWord
 pub mod ByKind
 pub mod CoreFacts
 pub mod Actions

@@ -64,6 +64,20 @@ actor (LoadsOwner s) = s
 abbrev pub own_of : ℕ → List Action → List Action
 own_of t actions = filter (λ (a : Action). nat_eq (actor a) t) actions
 
+-- Seat t notes this action in its trail: the action is a step of the seat, or its load of the owner word.
+abbrev pub IsNotedBy : ℕ → Action → Type 0
+IsNotedBy t (Begins s call) = ⊥
+IsNotedBy t (Makes s) = s ≡ t
+IsNotedBy t (LoadsOwner s) = s ≡ t
+
+-- The last of these actions is one that seat t notes.
+abbrev pub LastIsOwn : ℕ → List Action → Type 0
+LastIsOwn t actions = (before : List Action) × (last : Action) × (actions ≡ before ++ last ∷ []) × IsNotedBy t last
+
+-- There is no action, or the last one is one that seat t notes: neither the start of a call, nor an action of another seat.
+abbrev pub EndsWithOwn : ℕ → List Action → Type 0
+EndsWithOwn t actions = (actions ≡ []) ⊎ LastIsOwn t actions
+
 -- the events among these actions
 abbrev pub events_of : List Action → List Event
 events_of [] = []
@@ -101,11 +115,12 @@ begins_of s (call ∷ calls) = begins_of s calls ++ Begins s call ∷ []
 abbrev pub begins_and_step : ℕ → SeatState → SeatState → List Action
 begins_and_step s x p = begins_of s (calls_to x p) ++ Makes s ∷ []
 
--- What seat t, whose trail this is, knows of a run: some early actions of it. The later ones are all of others, and the trail is the seat's
--- part of the early ones.
+-- What seat t, whose trail this is, knows of a run: the early actions of it, up to the last one that the seat noted. There are none before its
+-- first. The later ones are all of others, and the trail is the seat's part of the early ones.
 pub record KnowsRun (l : Limits) (actions : List Action) (t : ℕ) (early : List Action) (trail : List Seen) : Type 0 where
   pub later : List Action
   pub goes_on : actions ≡ early ++ later
+  pub ends : EndsWithOwn t early
   pub of_others : own_of t later ≡ []
   pub trail_is : trail ≡ part_of (start l) t early
 
@@ -127,11 +142,13 @@ abbrev pub next_part : {T : Type 0} → View T → List Action → List Seen
 next_part v actions = part_of (reached v.limits (events_of v.actions)) v.number actions
 
 -- The run goes on from what the seat knew as its view was v to what it knows as its view is w: the seat's trail has grown by its part of the
--- actions between.
+-- actions between. The last of these is one that the seat notes: its own last step, or its load of the owner word. If it made neither, there
+-- are none.
 pub record RunGoesOn {T : Type 0} (v w : View T) : Type 0 where
   pub number : w.number ≡ v.number
   pub limits_are : w.limits ≡ v.limits
   pub between : List Action
+  pub ends : EndsWithOwn v.number between
   pub actions : w.actions ≡ v.actions ++ between
   pub trail : w.trail ≡ v.trail ++ next_part v between
 

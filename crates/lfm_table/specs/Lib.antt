@@ -1,5 +1,6 @@
 -- The rule of the table and of one seat there: views, what a step asks and tells, and what a seat may become without one.
 pub use Rattle.atomic_table.specs.Table
+pub mod Accesses
 pub mod Actions
 pub mod Grants
 pub mod Props

@@ -1,20 +1,20 @@
-//! The words of a running mutex and the seats at them: what a seat knows, the rule that words and seats keep, one atomic step
-//! of each kind, what a step does in the seat's own memory, how a table begins and ends, and how a thread sleeps on a wake word
-//! and is woken. No call stands here.
+//! The words of a running mutex and the seats at them: what a seat knows, the rule that words and seats keep, the atomic
+//! operation of each kind of step, what a step does in the seat's own memory, how a table begins and ends, and how a thread
+//! sleeps on a wake word and is woken. No call stands here.
 #![tactic(auto)]
 
 pub mod kept;
 pub mod laws;
 pub mod layout;
 pub mod moving_box;
+pub mod operations;
 pub mod parking;
 pub mod rule;
 pub mod seat_data;
 pub mod seat_memory;
 pub mod seat_view;
 pub mod shared_table;
-pub mod straight_steps;
-pub mod table_steps;
+pub mod steps;
 pub mod wake_up;
 pub mod wake_words;
 pub mod woken;

@@ -1,8 +1,11 @@
 //! The wake-up that the store of a grant leaves to be made. It can't be dropped: whoever has it spends it by `wake`, hands it on, or turns
 //! it into the number of its seat.
 ghost use Rattle.std.specs.Prelude.{◌≡◌, None};
-ghost use Rattle.lfm_table.specs.Grants.{owed};
+ghost use Rattle.lfm_model.specs.SeatNumbers.{IsSeatNo};
+ghost use Rattle.lfm_protocol.specs.Points.{target};
+ghost use Rattle.lfm_table.specs.Grants.{granted_at, owed};
 
+use crate::seat_data::SeatData;
 use lfm_model::SeatNo;
 use lfm_words::Wake;
 use std::marker::Model;
@@ -14,7 +17,7 @@ use std::marker::Model;
 /// A path that does none of these does not compile. `parking::wake` adds the seat to those that were woken.
 ///
 /// ```
-/// let (found, wake_up) = store_wake::<T, B>(table, place, seat, hand);
+/// let (number, wake_up) = make_step::<T, B>(kind, table, place, seat, hand);
 /// match wake_up {
 ///     Some(wake_up) => wake(table, seats, wake_up, &mut woken),
 ///     None => {}
@@ -41,6 +44,15 @@ impl WakeUp {
             Wake::Grant(_) => Some(WakeUp { seat }),
             _ => None,
         }
+    }
+
+    /// What the store of a wake word at the seat's point leaves to be made: the wake-up of the target if it is granted.
+    pub(crate) fn owed_by(seat: &SeatData) -> Option<WakeUp>
+        requires { IsSeatNo (target seat.now.standing.point seat.now.number) }
+        ensures { result ≡ granted_at seat.now.standing.point }
+    {
+        let target = SeatNo::known(seat.standing.point.target(seat.number));
+        WakeUp::owed(seat.standing.stored_wake(), target)
     }
 
     /// Takes what a step has handed out that granted nothing.

@@ -9,6 +9,7 @@ pub struct Counted<'a> {
 }
 
 impl Drop for Counted<'_> {
+    /// Counts the drop.
     fn drop(self) {
         self.drops.fetch_add(1, Ordering::SeqCst);
         let Counted { drops: _ } = self;
@@ -30,6 +31,7 @@ impl Object for Counted<'_> {
 
     ghost reply = { λ _ _. 0 };
 
+    /// Changes nothing, and replies 0.
     fn apply(&mut self, op: &TotalOp) -> u64 {
         let _op = *op;
         0

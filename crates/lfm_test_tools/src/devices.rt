@@ -10,6 +10,7 @@ pub struct FailingReader<'a> {
 }
 
 impl Read for FailingReader<'_> {
+    /// Gives the next byte, or none after the last one.
     fn read(&mut self, buf: &mut [u8]) -> io::Result<usize> {
         if self.reads == 0 {
             return Err(io::Error::from(ErrorKind::Interrupted));
@@ -33,6 +34,7 @@ pub struct EndlessReader {
 }
 
 impl Read for EndlessReader {
+    /// Fills the whole buffer.
     fn read(&mut self, buf: &mut [u8]) -> io::Result<usize> {
         buf.fill(self.byte);
         Ok(buf.len())
@@ -47,6 +49,7 @@ pub struct SingleBytes {
 }
 
 impl Read for SingleBytes {
+    /// Gives a line feed, or a zero once all line feeds were given.
     fn read(&mut self, buf: &mut [u8]) -> io::Result<usize> {
         if self.reads == 0 {
             return Err(io::Error::from(ErrorKind::Other));
@@ -77,6 +80,7 @@ pub struct FailingWriter {
 }
 
 impl Write for FailingWriter {
+    /// Takes up to three bytes, or fails if there is no room.
     fn write(&mut self, buf: &[u8]) -> io::Result<usize> {
         let left = self.room.saturating_sub(self.bytes.len());
         let count = buf.len().min(3).min(left);
@@ -90,6 +94,7 @@ impl Write for FailingWriter {
         Ok(count)
     }
 
+    /// Does nothing: all bytes are already kept.
     fn flush(&mut self) -> io::Result<()> {
         Ok(())
     }
@@ -102,11 +107,13 @@ pub struct UnflushedWriter {
 }
 
 impl Write for UnflushedWriter {
+    /// Takes all bytes.
     fn write(&mut self, buf: &[u8]) -> io::Result<usize> {
         self.bytes.extend_from_slice(buf)?;
         Ok(buf.len())
     }
 
+    /// Always fails.
     fn flush(&mut self) -> io::Result<()> {
         Err(io::Error::from(ErrorKind::Other))
     }

@@ -115,7 +115,7 @@ fn fails_flushed<A: Abort>(rt: &A, alloc: Global, input: &[u8], output: &[u8]) {
     sees_bytes(rt, writer.bytes.as_slice(), output);
 }
 
-// No contract can say that a writer was flushed: one that holds its bytes back has them either way.
+/// No contract can say that a writer was flushed: one that holds its bytes back has them either way.
 #[test]
 fn fails_at_the_flush(rt: HostRuntime) {
     fails_flushed(&rt, rt.alloc(), INPUT, OUTPUT);
@@ -159,7 +159,7 @@ fn ends_past_a_limit<A: Abort>(rt: &A, alloc: Global, line_feeds: u64, reads: u6
     sees(rt, "the outcome within it", &ended, &Err(ReplayFault::Read));
 }
 
-// The reader fails at the read after the first byte that is past a limit, so no such read may be made.
+/// The reader fails at the read after the first byte that is past a limit, so no such read may be made.
 #[test]
 fn reads_no_byte_after_the_first_past_a_limit(rt: HostRuntime) {
     // 65,536 lines and one line feed more, the same and a byte of a line more, and a byte too many

@@ -6,6 +6,7 @@ use std::alloc::Global;
 use std::process::Abort;
 use std::test::Fail;
 
+/// The turn that ends an `ask` in a hold of this depth.
 fn again(depth: u32) -> Turn {
     Turn::Ended(Answer::Asked(Asked::Again(depth)))
 }

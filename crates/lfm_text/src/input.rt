@@ -68,11 +68,10 @@ pub fn read_input<R: Read>(alloc: Global, reader: &mut R) -> Result<Vec<u8>, Inp
     let mut line_feeds = 0;
     'reading: while !is_past_limit(&input, line_feeds) {
         let room = next_room(input.len(), line_feeds);
-        let count = match read_once(reader, &mut buffer[..room]) {
-            Ok(0) => return Ok(input),
-            Ok(count) => count,
-            Err(fault) => return Err(fault),
-        };
+        let count = read_once(reader, &mut buffer[..room])?;
+        if count == 0 {
+            return Ok(input);
+        }
         let given = &buffer[..count];
         line_feeds += count_line_feeds(given);
         append_reserved(&mut input, given);

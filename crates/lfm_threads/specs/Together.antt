@@ -2,7 +2,7 @@
 use Rattle.std.specs.Prelude.{◌≡◌, ℕ, List}
 use mathlib.Core.Option.{some}
 use lib.ListN.{get_elem?}
-use Rattle.lfm_threads.specs.declared.starting_line.Start.{Start}
+use Rattle.lfm_threads.specs.declared.start_latch.StartSignal.{StartSignal}
 use Rattle.lfm_threads.specs.declared.arrivals.Arrival.{Arrival}
 use Rattle.lfm_threads.specs.declared.arrivals.Outcome.{Outcome}
 use Rattle.lfm_threads.specs.declared.arrivals.Outcome.TheVariants.{Made, Kept}
@@ -16,12 +16,12 @@ module _ {P X : Type 0} (gives : P → X → Type 0) where
   abbrev pub AllGiven : List P → List X → Type 0
   AllGiven jobs results = (j : ℕ) (x : X) → get_elem? results j ≡ some x → (p : P) × (get_elem? jobs j ≡ some p) × gives p x
 
-  -- what the job came to, by the decision at the starting line
-  abbrev pub Comes : P → Start → Outcome P X → Type 0
-  Comes p Start.Go (Made x) = gives p x
-  Comes p Start.CalledOff (Kept q) = q ≡ p
+  -- what the job came to, by the decision at the start latch
+  abbrev pub Comes : P → StartSignal → Outcome P X → Type 0
+  Comes p StartSignal.Go (Made x) = gives p x
+  Comes p StartSignal.CalledOff (Kept q) = q ≡ p
   Comes p start outcome = ⊥
 
-  -- the same, at the line of this number
+  -- the same, at the latch of this number
   abbrev pub Arrives : ℕ → P → Arrival P X → Type 0
-  Arrives line p a = (a.decision.token.of ≡ line) × Comes p a.decision.start a.outcome
+  Arrives latch p a = (a.decision.token.of ≡ latch) × Comes p a.decision.start a.outcome

@@ -10,9 +10,9 @@ use Rattle.lfm_threads.specs.Together.{Arrives}
 module _ {P X K : Type 0} (g : Task.Ghosts K P X) (task : K) where
   -- the job was given to a thread; or to nobody, and this is what it came to
   abbrev pub HasJob : ℕ → P → Worker P X K → Type 0
-  HasJob line p (Started h) = (h.promise.line.value.start.id ≡ line) × (h.promise.job.value ≡ p) × (h.promise.task.value ≡ task)
-  HasJob line p (Refused a) = Arrives (g.gives task) line p a
+  HasJob latch p (Started h) = (h.promise.latch.value.start.id ≡ latch) × (h.promise.job.value ≡ p) × (h.promise.task.value ≡ task)
+  HasJob latch p (Refused a) = Arrives (g.gives task) latch p a
 
   -- each job has been given to the worker at its place
   abbrev pub AllHaveJobs : ℕ → List P → List (Worker P X K) → Type 0
-  AllHaveJobs line jobs workers = (j : ℕ) (w : Worker P X K) → get_elem? workers j ≡ some w → (p : P) × (get_elem? jobs j ≡ some p) × HasJob line p w
+  AllHaveJobs latch jobs workers = (j : ℕ) (w : Worker P X K) → get_elem? workers j ≡ some w → (p : P) × (get_elem? jobs j ≡ some p) × HasJob latch p w

@@ -1,7 +1,7 @@
-//! What comes of a job at a starting line.
+//! What comes of a job at a start latch.
 ghost use Rattle.lfm_threads.specs.Together.{Arrives};
 
-use crate::starting_line::{Decision, Start, StartingLine};
+use crate::start_latch::{Decision, StartLatch, StartSignal};
 use crate::task::Task;
 use std::sync::Wait;
 
@@ -14,27 +14,27 @@ pub enum Outcome<P, X> {
     Kept(P),
 }
 
-/// What came of a job, with the decision at its starting line.
+/// What came of a job, with the decision at its start latch.
 #[derive(Drop)]
 pub struct Arrival<'a, P, X> {
     pub decision: Decision<'a>,
     pub outcome: Outcome<P, X>,
 }
 
-/// The body of a thread: it waits at the line, and makes its job if it may go.
+/// The body of a thread: it waits at the latch, and makes its job if it may go.
 pub fn arrive<'a, P, X, R: Wait, K: Task<P, X>>(
     rt: &R,
-    line: &'a StartingLine,
+    latch: &'a StartLatch,
     job: P,
     task: &K,
 ) -> Arrival<'a, P, X>
     requires { K.takes task.now job }
-    ensures { Arrives (K.gives task.now) line.now.start.id job result }
+    ensures { Arrives (K.gives task.now) latch.now.start.id job result }
 {
-    let decision = line.wait(rt);
+    let decision = latch.wait(rt);
     let outcome = match decision.start() {
-        Start::Go => Outcome::Made(task.make(job)),
-        Start::CalledOff => Outcome::Kept(job),
+        StartSignal::Go => Outcome::Made(task.make(job)),
+        StartSignal::CalledOff => Outcome::Kept(job),
     };
     Arrival { decision, outcome }
 }

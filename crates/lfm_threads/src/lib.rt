@@ -5,11 +5,11 @@
 mod arrivals;
 mod not_started;
 mod sharing;
-pub mod starting_line;
+pub mod start_latch;
 mod task;
 mod together;
 mod workers;
 
 pub use not_started::{NotStarted, StartFault};
 pub use sharing::share;
-pub use starting_line::{Decision, Start, StartingLine};
+pub use start_latch::{Decision, StartLatch, StartSignal};

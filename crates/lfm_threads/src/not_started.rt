@@ -25,6 +25,7 @@ pub struct NotStarted<P> {
 }
 
 impl<P: Drop> Debug for NotStarted<P> {
+    /// Shows how many jobs there are, since a job may be of any type.
     fn fmt<W: Write>(&self, f: &mut Formatter<W>) -> fmt::Result {
         f.debug_struct("NotStarted")
             .field("jobs", &self.jobs.len())
@@ -34,6 +35,7 @@ impl<P: Drop> Debug for NotStarted<P> {
 }
 
 impl<P: Drop> Display for NotStarted<P> {
+    /// Shows the fault alone.
     fn fmt<W: Write>(&self, f: &mut Formatter<W>) -> fmt::Result {
         Display::fmt(&self.fault, f)
     }

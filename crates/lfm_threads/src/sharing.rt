@@ -21,6 +21,7 @@ impl<'s, S, P, X, F: Fn(&S, P) -> X> Task<P, X> for SharedCall<'s, S, F> {
 
     ghost gives = { λ c p x. GivesResult F.Fn c.f.now c.shared.now p x };
 
+    /// Calls the closure with the shared value and the job.
     fn make(&self, job: P) -> X {
         (self.f)(self.shared, job)
     }

@@ -4,7 +4,7 @@ ghost use Rattle.lfm_threads.specs.Together.{AllGiven, AllTaken, Arrives};
 
 use crate::arrivals::{Arrival, arrive};
 use crate::not_started::{NotStarted, StartFault};
-use crate::starting_line::{Start, StartingLine};
+use crate::start_latch::{StartLatch, StartSignal};
 use crate::task::Task;
 use crate::workers::{Given, Team, Worker};
 use std::snapshot::Snapshot;
@@ -24,8 +24,8 @@ pub fn make_together<
     ensures gives { IfOk result (λ v. AllGiven (K.gives task.now) jobs.items v.items) }
     ensures back { IfErr result (λ e. e.jobs.items ≡ jobs.items) }
 {
-    let line = StartingLine::new();
-    let at_line = &line;
+    let latch = StartLatch::new();
+    let at_latch = &latch;
     thread::scope(
         thread::scope_env(),
         rt,
@@ -50,7 +50,7 @@ pub fn make_together<
             let all_jobs = Snapshot::of(&jobs);
             'starting: for job in jobs {
                 let given = Given {
-                    line: Snapshot::of(at_line),
+                    latch: Snapshot::of(at_latch),
                     job: Snapshot::of(&job),
                     task: Snapshot::of(task),
                 };
@@ -58,20 +58,20 @@ pub fn make_together<
                     given,
                     move || -> Arrival<'_, P, X>
                         requires { K.takes task.now job }
-                        ensures { Arrives (K.gives task.entry.now) at_line.entry.now.start.id job result }
-                    { arrive(rt, at_line, job, task) },
+                        ensures { Arrives (K.gives task.entry.now) at_latch.entry.now.start.id job result }
+                    { arrive(rt, at_latch, job, task) },
                 );
                 let worker = match started {
                     Ok(handle) => Worker::Started(handle),
                     Err(refused) => {
                         // The jobs come back: each thread finds the start called off, and hands its job back.
-                        at_line.decide(rt, Start::CalledOff);
+                        at_latch.decide(rt, StartSignal::CalledOff);
                         Worker::Refused((refused.value)())
                     }
                 };
                 workers.push_reserved(worker);
             }
-            let decision = at_line.decide(rt, Start::Go);
+            let decision = at_latch.decide(rt, StartSignal::Go);
             let start = decision.start();
             let team = Team {
                 decision,
@@ -80,8 +80,8 @@ pub fn make_together<
                 task: Snapshot::of(task),
             };
             match start {
-                Start::Go => Ok(team.results(rt, results)),
-                Start::CalledOff => Err(NotStarted {
+                StartSignal::Go => Ok(team.results(rt, results)),
+                StartSignal::CalledOff => Err(NotStarted {
                     jobs: team.jobs(rt, back),
                     fault: StartFault::Thread,
                 }),

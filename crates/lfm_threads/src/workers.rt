@@ -1,25 +1,25 @@
 //! The threads that were given a job, and what comes of all jobs.
 ghost use Rattle.std.specs.Prelude.{◌≡◌, ◌≤◌, ℕ, List, [], vec_capacity, vec_len};
-ghost use Rattle.lfm_threads.specs.declared.starting_line.Start.{Start as StartNow};
+ghost use Rattle.lfm_threads.specs.declared.start_latch.StartSignal.{StartSignal as StartNow};
 ghost use Rattle.lfm_threads.specs.Together.{AllGiven, Arrives};
 ghost use Rattle.lfm_threads.specs.Workers.{AllHaveJobs, HasJob};
 
 use crate::arrivals::{Arrival, Outcome};
-use crate::starting_line::{Decision, Start, StartingLine};
+use crate::start_latch::{Decision, StartLatch, StartSignal};
 use crate::task::Task;
 use std::snapshot::Snapshot;
 use std::thread::{Promise, PromisedHandle, Threads};
 
-/// What a thread was given. It promises that the outcome of the job follows the decision at the starting line.
+/// What a thread was given. It promises that the outcome of the job follows the decision at the start latch.
 #[derive(Drop)]
 pub struct Given<P, K> {
-    pub line: Snapshot<StartingLine>,
+    pub latch: Snapshot<StartLatch>,
     pub job: Snapshot<P>,
     pub task: Snapshot<K>,
 }
 
 impl<'a, P, X, K: Task<P, X>> Promise<Arrival<'a, P, X>> for Given<P, K> {
-    ghost kept_by = { λ g a. Arrives (K.gives g.task.value) g.line.value.start.id g.job.value a };
+    ghost kept_by = { λ g a. Arrives (K.gives g.task.value) g.latch.value.start.id g.job.value a };
 }
 
 /// To whom a job was given.
@@ -34,7 +34,7 @@ pub enum Worker<'a, P, X, K: Task<P, X>> {
 impl<'a, P: Drop, X: Drop, K: Task<P, X>> Worker<'a, P, X, K> {
     /// What came of the job. It sleeps until its thread, if it has one, has ended.
     pub fn arrival<R: Threads>(self, rt: &R) -> Arrival<'a, P, X>
-        ensures { (task : K) (line : ℕ) (p : P) → HasJob K.Task task line p self.entry → Arrives (K.gives task) line p result }
+        ensures { (task : K) (latch : ℕ) (p : P) → HasJob K.Task task latch p self.entry → Arrives (K.gives task) latch p result }
     {
         match self {
             Worker::Started(handle) => handle.join(rt),
@@ -43,7 +43,7 @@ impl<'a, P: Drop, X: Drop, K: Task<P, X>> Worker<'a, P, X, K> {
     }
 }
 
-/// The workers of one starting line, and what was decided there.
+/// The workers of one start latch, and what was decided there.
 #[derive(Drop)]
 pub struct Team<'a, P, X, K: Task<P, X>> {
     pub decision: Decision<'a>,

@@ -1,17 +1,21 @@
 -- How what a word holds is packed into a number, and what a number holds.
-use Rattle.std.specs.Prelude.{ℕ, Bool, ◌+◌, ◌-◌, ◌*◌, ◌/◌, ◌%◌, ◌^◌, ◌<◌, ◌||◌, nat_eq, nat_lt, if◌then◌else◌}
+use Rattle.std.specs.Prelude.{ℕ, Bool, not, ◌+◌, ◌-◌, ◌*◌, ◌/◌, ◌%◌, ◌^◌, ◌<◌, ◌||◌, nat_eq, nat_le, nat_lt, if◌then◌else◌}
 use Rattle.lfm_words.specs.declared.handoffs.Handoff.{Handoff}
 use Rattle.lfm_words.specs.declared.links.Link.{Link}
 use Rattle.lfm_words.specs.declared.wakes.Wake.{Wake}
 use Rattle.lfm_words.specs.declared.wakes.Wake.TheVariants.{Quiet, Waiting, Claimed, Grant}
 
+-- how many numbers the seat field of a packed word can hold, its lower 16 bits: a seat number is below it
+abbrev pub seat_field_size : ℕ
+seat_field_size = 65536
+
 -- the stamp above the seat
 abbrev pub link_word : Link → ℕ
-link_word l = l.stamp * 65536 + l.next
+link_word l = l.stamp * seat_field_size + l.next
 
 -- the post above the seat
 abbrev pub handoff_word : Handoff → ℕ
-handoff_word h = h.post * 65536 + h.seat
+handoff_word h = h.post * seat_field_size + h.seat
 
 -- the low two bits tell the four states apart
 abbrev pub wake_word : Wake → ℕ
@@ -32,12 +36,26 @@ IsSmallWake _ = Unit {0}
 -- What a word holds
 
 abbrev pub link_of : ℕ → Link
-link_of n = record { stamp = n / 65536; next = n % 65536 }
+link_of n = record { stamp = n / seat_field_size; next = n % seat_field_size }
 
 abbrev pub handoff_of : ℕ → Handoff
-handoff_of n = record { seat = n % 65536; post = n / 65536 }
+handoff_of n = record { seat = n % seat_field_size; post = n / seat_field_size }
 
--- of a word that is one of the coding
+-- a number that no state packs to counts as a grant
 abbrev pub wake_of : ℕ → Wake
 wake_of n =
     if nat_eq n 0 then Quiet else (if nat_eq n 1 then Waiting else (if nat_eq n 2 then Claimed else Grant ((n - 3) / 4)))
+
+-- What is asked of a word without unpacking it
+
+-- a handoff is posted in it
+abbrev pub is_posted_word : ℕ → Bool
+is_posted_word n = not (nat_eq (handoff_of n).seat 0)
+
+-- it holds a grant
+abbrev pub is_grant_word : ℕ → Bool
+is_grant_word n = nat_le 3 n
+
+-- the stamp of the grant that it holds
+abbrev pub grant_stamp : ℕ → ℕ
+grant_stamp n = (n - 3) / 4

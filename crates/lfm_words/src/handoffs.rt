@@ -1,8 +1,8 @@
 //! A handoff number: what the handoff word holds, and how it is packed.
 ghost use Rattle.std.specs.Prelude.{◌≡◌, ◌<◌, ◌^◌};
-ghost use Rattle.lfm_words.specs.Words.{handoff_word, handoff_of};
+ghost use Rattle.lfm_words.specs.Words.{handoff_word, handoff_of, is_posted_word, seat_field_size};
 
-use crate::links::UPPER;
+use crate::links::SEAT_FIELD_SIZE;
 
 /// A handoff number: which seat posted the responsibility, and with which of its posts. A seat numbers its posts from 1, so
 /// no number is used twice.
@@ -17,27 +17,35 @@ pub struct Handoff {
 impl Handoff {
     /// What a word of 0 holds: nothing is posted.
     pub const NONE: Handoff = Handoff { seat: 0, post: 0 };
+
+    /// Whether a handoff is posted in a word, so that it names the seat that posted.
+    #[inline(always)]
+    pub fn is_posted_in(word: u64) -> bool
+        ensures { result ≡ is_posted_word word }
+    {
+        unpack_handoff(word).seat != 0
+    }
 }
 
 /// The word that holds this post in its upper 48 bits and this seat in its lower 16. The seat is below 65,536 and the post
 /// below 2^48.
 pub fn pack_handoff(seat: u64, post: u64) -> u64
-    requires seat { seat < 65536 }
+    requires seat { seat < seat_field_size }
     requires post { post < 2 ^ 48 }
     ensures { result ≡ handoff_word (record { seat = seat; post = post }) }
 {
-    post * UPPER + seat
+    post * SEAT_FIELD_SIZE + seat
 }
 
 /// The handoff number that a word holds. Every word holds one, and no two words the same.
 pub fn unpack_handoff(word: u64) -> Handoff
     ensures holds { result ≡ handoff_of word }
     ensures packs { handoff_word result ≡ word }
-    ensures seat { result.seat < 65536 }
+    ensures seat { result.seat < seat_field_size }
     ensures post { result.post < 2 ^ 48 }
 {
     Handoff {
-        seat: word % UPPER,
-        post: word / UPPER,
+        seat: word % SEAT_FIELD_SIZE,
+        post: word / SEAT_FIELD_SIZE,
     }
 }

@@ -11,4 +11,4 @@ pub mod wakes;
 pub use handoffs::{Handoff, pack_handoff, unpack_handoff};
 pub use links::{Link, pack_link, unpack_link};
 pub use pop_lists::{PopList, Record};
-pub use wakes::Wake;
+pub use wakes::{FIRST_GRANT, Wake};

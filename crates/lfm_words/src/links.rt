@@ -1,9 +1,9 @@
 //! A stamp beside a seat: what the push word and each link word hold, and how it is packed.
 ghost use Rattle.std.specs.Prelude.{◌≡◌, ◌<◌, ◌^◌};
-ghost use Rattle.lfm_words.specs.Words.{link_word, link_of};
+ghost use Rattle.lfm_words.specs.Words.{link_word, link_of, seat_field_size};
 
-/// The weight of the lowest of the upper 48 bits of a packed word: 2^16.
-pub(crate) const UPPER: u64 = 65_536;
+/// How many numbers the seat field of a packed word can hold, its lower 16 bits.
+pub(crate) const SEAT_FIELD_SIZE: u64 = 65_536;
 
 /// A stamp and a seat, as the push word and the link words hold them.
 #[derive(Clone, Copy, Debug, PartialEq, Eq)]
@@ -23,10 +23,10 @@ impl Link {
 /// below 65,536; 0 is no seat.
 pub fn pack_link(stamp: u64, next: u64) -> u64
     requires stamp { stamp < 2 ^ 48 }
-    requires next { next < 65536 }
+    requires next { next < seat_field_size }
     ensures { result ≡ link_word (record { stamp = stamp; next = next }) }
 {
-    stamp * UPPER + next
+    stamp * SEAT_FIELD_SIZE + next
 }
 
 /// The stamp and the seat that a word holds. Every word holds one link, and no two words the same.
@@ -34,10 +34,10 @@ pub fn unpack_link(word: u64) -> Link
     ensures holds { result ≡ link_of word }
     ensures packs { link_word result ≡ word }
     ensures stamp { result.stamp < 2 ^ 48 }
-    ensures next { result.next < 65536 }
+    ensures next { result.next < seat_field_size }
 {
     Link {
-        stamp: word / UPPER,
-        next: word % UPPER,
+        stamp: word / SEAT_FIELD_SIZE,
+        next: word % SEAT_FIELD_SIZE,
     }
 }

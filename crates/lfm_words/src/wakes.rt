@@ -1,6 +1,9 @@
 //! Wake states: what the wake word of a seat holds, and how it is packed.
 ghost use Rattle.std.specs.Prelude.{◌≡◌, IsTrue};
-ghost use Rattle.lfm_words.specs.Words.{wake_word, is_wake_word, IsSmallWake, wake_of};
+ghost use Rattle.lfm_words.specs.Words.{wake_word, is_wake_word, IsSmallWake, wake_of, is_grant_word, grant_stamp};
+
+/// The least word that is a grant.
+pub const FIRST_GRANT: u64 = 3;
 
 /// What the wake word says of its seat.
 #[derive(Clone, Copy, Debug, PartialEq, Eq)]
@@ -25,7 +28,7 @@ impl Wake {
             Wake::Quiet => 0,
             Wake::Waiting => 1,
             Wake::Claimed => 2,
-            Wake::Grant(stamp) => 3 + 4 * stamp,
+            Wake::Grant(stamp) => FIRST_GRANT + 4 * stamp,
         }
     }
 
@@ -33,7 +36,7 @@ impl Wake {
     pub fn is_word(word: u64) -> bool
         ensures { result ≡ is_wake_word word }
     {
-        word < 3 || word % 4 == 3
+        word < FIRST_GRANT || word % 4 == 3
     }
 
     /// The state that a word holds. The word is one for which `is_word` returns true.
@@ -42,11 +45,37 @@ impl Wake {
         ensures holds { result ≡ wake_of word }
         ensures packs { wake_word result ≡ word }
     {
+        Wake::of_any_word(word)
+    }
+
+    /// The state that a word holds, also of a word for which `is_word` returns false: for a step, each word from `FIRST_GRANT`
+    /// on is a grant.
+    pub fn of_any_word(word: u64) -> Wake
+        ensures { result ≡ wake_of word }
+    {
         match word {
             0 => Wake::Quiet,
             1 => Wake::Waiting,
             2 => Wake::Claimed,
-            _ => Wake::Grant((word - 3) / 4),
+            _ => Wake::Grant(Wake::grant_stamp(word)),
         }
+    }
+
+    /// Whether a word is a grant for a seat that looks at it: it is none of quiet, waiting and claimed.
+    #[inline(always)]
+    pub fn is_grant_word(word: u64) -> bool
+        ensures { result ≡ is_grant_word word }
+    {
+        word >= FIRST_GRANT
+    }
+
+    /// The stamp of the grant that a word holds: that of the queued record of its seat, or 0 if it had none. The word is one
+    /// for which `is_grant_word` returns true.
+    #[inline(always)]
+    pub fn grant_stamp(word: u64) -> u64
+        requires { IsTrue (is_grant_word word) }
+        ensures { result ≡ grant_stamp word }
+    {
+        (word - FIRST_GRANT) / 4
     }
 }

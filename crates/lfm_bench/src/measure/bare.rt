@@ -155,6 +155,7 @@ impl<'a> Steps<'a> {
         self.table.peek(WAKE) < GRANT
     }
 
+    /// The lock's part of a hand-off: the other seat queues behind the holder.
     #[inline(always)]
     fn queue(&mut self) -> bool {
         self.add(COUNT);
@@ -167,6 +168,7 @@ impl<'a> Steps<'a> {
         owner != 0 && found == push && handoff == 0
     }
 
+    /// The unlock's part of a hand-off, with its wake-up call.
     #[inline(always)]
     fn serve(&mut self) -> bool {
         self.store(OWNER, 0);
@@ -180,6 +182,7 @@ impl<'a> Steps<'a> {
         count == 2 && head & SEATS == OTHER && link & SEATS == 0
     }
 
+    /// The receive's part of a hand-off.
     #[inline(always)]
     fn receive(&mut self) -> bool {
         let wake = self.load(WAKE);
@@ -199,6 +202,7 @@ impl<'a> Steps<'a> {
         self.store(OWNER, owner);
     }
 
+    /// Loads a word.
     #[inline(always)]
     fn load(&mut self, word: usize) -> u64
         requires { word < 8 }
@@ -206,6 +210,7 @@ impl<'a> Steps<'a> {
         self.table.load::<Anything>(&mut self.seat, word)
     }
 
+    /// Stores into a word.
     #[inline(always)]
     fn store(&mut self, word: usize, value: u64)
         requires { word < 8 }

@@ -61,6 +61,7 @@ impl Gate {
         self.shut.store(true, Ordering::SeqCst);
     }
 
+    /// Whether all threads have passed the gate.
     fn is_passed(&self) -> bool {
         self.ready.load(Ordering::SeqCst) >= self.expected
     }

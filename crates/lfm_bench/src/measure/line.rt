@@ -24,8 +24,8 @@ impl Line {
         self.text.push_str(&cell)
     }
 
-    /// Adds the median of a measure: hundredths as a number with two decimals; a time in nanoseconds, or of a wait in microseconds,
-    /// with one decimal, rounded down. None if nobody was measured.
+    /// Adds the median of a measure: hundredths as a number with two decimals; a time in nanoseconds, or of a wait in
+    /// microseconds, with one decimal, rounded down. None if nobody was measured.
     pub fn add_median(
         &mut self,
         measure: Measure,

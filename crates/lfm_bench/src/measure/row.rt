@@ -1,4 +1,5 @@
-//! A row of a table: a workload with the figures of the peers that are measured by it, and the columns in which they are printed.
+//! A row of a table: a workload with the figures of the peers that are measured by it, and the columns in which they are
+//! printed.
 
 use crate::measure::figures::{Figures, Measure, Quartiles, Sample, hundredths};
 use crate::measure::line::Line;
@@ -160,6 +161,7 @@ impl Row {
         }
     }
 
+    /// The figures of a peer. None if it was not measured.
     fn quartiles(&mut self, peer: Peer, measure: Measure) -> Option<Quartiles> {
         match peer {
             Peer::Ours => self.ours.quartiles(measure),

@@ -95,7 +95,8 @@ impl Waits {
     }
 }
 
-/// The class of a wait of this number of nanoseconds: its first four bits, after 8 classes for each of the bits that follow them.
+/// The class of a wait of this number of nanoseconds: its first four bits, after 8 classes for each of the bits that follow
+/// them.
 fn class_of(nanoseconds: u64) -> usize {
     let following = 60u32.saturating_sub(nanoseconds.leading_zeros());
     let first = nanoseconds.wrapping_shr(following);

@@ -180,7 +180,8 @@ impl<'a> Participant<'a> {
         self.shared.mutex.unlock(&mut self.seat).is_ok()
     }
 
-    /// Waits, while it holds the mutex, until it can do this, and does it. Returns what it gives, or None if a call was refused.
+    /// Waits, while it holds the mutex, until it can do this, and does it. Returns what it gives, or None if a call was
+    /// refused.
     pub fn wait_and_apply<R: Wait>(&mut self, rt: &R, operation: Operation) -> Option<u64> {
         for _ in rt.forever() {
             if let Some(number) = self.apply(operation) {

@@ -64,6 +64,7 @@ pub fn round<R: Wait + CpuClock, C: Call>(
     })
 }
 
+/// Makes the calls of our mutex, timed. Out of line, so that each workload is one loop of its own.
 #[inline(never)]
 fn our_calls<R: Wait + CpuClock, C: Call>(
     rt: &R,
@@ -80,6 +81,7 @@ fn our_calls<R: Wait + CpuClock, C: Call>(
     watch.stop(rt, calls, done)
 }
 
+/// Makes the bare steps of the calls, timed.
 #[inline(never)]
 fn bare_calls<R: CpuClock, C: Call>(rt: &R, steps: &mut Steps, calls: u64) -> io::Result<Sample> {
     let watch = Stopwatch::start(rt)?;
@@ -92,6 +94,7 @@ fn bare_calls<R: CpuClock, C: Call>(rt: &R, steps: &mut Steps, calls: u64) -> io
     watch.stop(rt, calls, done)
 }
 
+/// Makes the calls of std's mutex, timed, while another guard holds it if the start says so.
 fn standard_round<R: Wait + CpuClock, C: StandardCall>(
     rt: &R,
     mutex: &Mutex<u64>,
@@ -109,6 +112,7 @@ fn standard_round<R: Wait + CpuClock, C: StandardCall>(
     }
 }
 
+/// Makes the calls of std's mutex, timed.
 #[inline(never)]
 fn standard_calls<R: Wait + CpuClock, C: StandardCall>(
     rt: &R,

@@ -51,6 +51,7 @@ struct OurThread<'a> {
 }
 
 impl Contender for OurThread<'_> {
+    /// Gains our mutex in this thread's way.
     #[inline(always)]
     fn hold<R: Wait + Clock>(&mut self, rt: &R, holds: &mut Holds) -> bool {
         let begin = holds.waits.begin(rt);
@@ -72,6 +73,7 @@ struct StandardThread<'a> {
 }
 
 impl Contender for StandardThread<'_> {
+    /// Gains std's mutex.
     #[inline(always)]
     fn hold<R: Wait + Clock>(&mut self, rt: &R, holds: &mut Holds) -> bool {
         let begin = holds.waits.begin(rt);

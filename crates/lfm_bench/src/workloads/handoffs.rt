@@ -12,11 +12,13 @@ use std::time::CpuClock;
 struct TwoHandoffs;
 
 impl Call for TwoHandoffs {
+    /// `ask`, `unlock` and `try_receive`, there and back.
     #[inline(always)]
     fn ours<R: Wait>(_rt: &R, users: &mut Users) -> bool {
         pass(&mut users.user, &mut users.other) && pass(&mut users.other, &mut users.user)
     }
 
+    /// The steps of two hand-offs.
     #[inline(always)]
     fn bare(steps: &mut Steps) -> bool {
         steps.handoff() && steps.handoff()

@@ -9,11 +9,13 @@ use std::sync::{Mutex, Wait};
 pub struct Hit;
 
 impl Call for Hit {
+    /// `try_lock` and `unlock`.
     #[inline(always)]
     fn ours<R: Wait>(_rt: &R, users: &mut Users) -> bool {
         users.user.try_lock() && users.user.unlock()
     }
 
+    /// The steps of a try_lock that gains the mutex, and of its unlock.
     #[inline(always)]
     fn bare(steps: &mut Steps) -> bool {
         steps.hit()
@@ -21,6 +23,7 @@ impl Call for Hit {
 }
 
 impl StandardCall for Hit {
+    /// `try_lock`, and the drop of its guard.
     #[inline(always)]
     fn standard<R: Wait>(_rt: &R, mutex: &Mutex<u64>) -> bool {
         match mutex.try_lock() {

@@ -1,6 +1,6 @@
-//! A seat that sleeps looks a number of times whether it was granted the mutex, which it was not. Then it parks, until the thread
-//! of another seat grants it the mutex. A call is one look. What is measured is the processor time of its thread, of which
-//! parking takes almost nothing. std's mutex has no such call.
+//! A seat that sleeps looks a number of times whether it was granted the mutex, which it was not. Then it parks, until the
+//! thread of another seat grants it the mutex. A call is one look. What is measured is the processor time of its thread, of
+//! which parking takes almost nothing. std's mutex has no such call.
 
 use crate::measure::{Gate, Round, Sample, Start, Steps, Stopwatch};
 use crate::peers::ours::{FreeSeats, User, new_mutex};

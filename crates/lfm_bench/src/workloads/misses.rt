@@ -9,11 +9,13 @@ use std::sync::{Mutex, Wait};
 pub struct Miss;
 
 impl Call for Miss {
+    /// `try_lock`, while the other user holds.
     #[inline(always)]
     fn ours<R: Wait>(_rt: &R, users: &mut Users) -> bool {
         users.user.miss()
     }
 
+    /// The steps of a try_lock that fails.
     #[inline(always)]
     fn bare(steps: &mut Steps) -> bool {
         steps.miss()
@@ -21,6 +23,7 @@ impl Call for Miss {
 }
 
 impl StandardCall for Miss {
+    /// `try_lock`, while there is a guard.
     #[inline(always)]
     fn standard<R: Wait>(_rt: &R, mutex: &Mutex<u64>) -> bool {
         mutex.try_lock().is_none()

@@ -9,11 +9,13 @@ use std::sync::{Mutex, Wait};
 pub struct Pair;
 
 impl Call for Pair {
+    /// `lock` and `unlock`.
     #[inline(always)]
     fn ours<R: Wait>(rt: &R, users: &mut Users) -> bool {
         users.user.lock(rt) && users.user.unlock()
     }
 
+    /// The steps of a lock that finds the mutex free, and of its unlock.
     #[inline(always)]
     fn bare(steps: &mut Steps) -> bool {
         steps.pair()
@@ -21,6 +23,7 @@ impl Call for Pair {
 }
 
 impl StandardCall for Pair {
+    /// `lock`, and the drop of its guard.
     #[inline(always)]
     fn standard<R: Wait>(rt: &R, mutex: &Mutex<u64>) -> bool {
         drop(mutex.lock(rt));
@@ -32,11 +35,13 @@ impl StandardCall for Pair {
 pub struct BargingPair;
 
 impl Call for BargingPair {
+    /// `lock_barging` and `unlock`.
     #[inline(always)]
     fn ours<R: Wait>(rt: &R, users: &mut Users) -> bool {
         users.user.lock_by(rt, Locking::Barging) && users.user.unlock()
     }
 
+    /// The steps of a lock that finds the mutex free, and of its unlock.
     #[inline(always)]
     fn bare(steps: &mut Steps) -> bool {
         steps.pair()
@@ -47,11 +52,13 @@ impl Call for BargingPair {
 pub struct Addition;
 
 impl Call for Addition {
+    /// `with`, round an addition.
     #[inline(always)]
     fn ours<R: Wait>(rt: &R, users: &mut Users) -> bool {
         users.user.add_one_within(rt)
     }
 
+    /// The steps of a lock that finds the mutex free, and of its unlock.
     #[inline(always)]
     fn bare(steps: &mut Steps) -> bool {
         steps.pair()
@@ -59,6 +66,7 @@ impl Call for Addition {
 }
 
 impl StandardCall for Addition {
+    /// `lock`, an addition, and the drop of the guard.
     #[inline(always)]
     fn standard<R: Wait>(rt: &R, mutex: &Mutex<u64>) -> bool {
         let mut guard = mutex.lock(rt);

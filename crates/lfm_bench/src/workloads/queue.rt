@@ -1,5 +1,6 @@
-//! As many threads put numbers into a bounded queue as take them out. A mutex guards the queue, with two condvars: a thread that
-//! finds it full waits on the first, and one that finds it empty on the second. Each number that goes in is to come out once.
+//! As many threads put numbers into a bounded queue as take them out. A mutex guards the queue, with two condvars: a thread
+//! that finds it full waits on the first, and one that finds it empty on the second. Each number that goes in is to come out
+//! once.
 ghost use Rattle.std.specs.Prelude.{◌≡◌, true};
 ghost use Rattle.lfm_bench.specs.Deliveries.{CountUp, IsEachOnce};
 
@@ -33,10 +34,12 @@ trait Mover {
 }
 
 impl Mover for Participant<'_> {
+    /// In one hold of our mutex.
     fn put<R: Wait>(&mut self, rt: &R, number: u64) -> bool {
         self.lock_and_apply(rt, Operation::Put(number)).is_some()
     }
 
+    /// In one hold of our mutex.
     fn take<R: Wait>(&mut self, rt: &R) -> Option<u64> {
         self.lock_and_apply(rt, Operation::Take)
     }
@@ -51,6 +54,7 @@ struct StandardQueue {
 }
 
 impl Mover for &StandardQueue {
+    /// Waits on std's condvar while there is no room.
     fn put<R: Wait>(&mut self, rt: &R, number: u64) -> bool {
         let mut queue = self.queue.lock(rt);
         for _ in rt.forever() {
@@ -63,6 +67,7 @@ impl Mover for &StandardQueue {
         true
     }
 
+    /// Waits on std's condvar while nothing is there.
     fn take<R: Wait>(&mut self, rt: &R) -> Option<u64> {
         let mut queue = self.queue.lock(rt);
         for _ in rt.forever() {
@@ -193,8 +198,8 @@ fn work<R: Wait + Clock, M: Mover + Drop>(
     })
 }
 
-/// What came of a round in which these numbers were taken out. A call is a number that is moved. It is exact if all numbers that
-/// went in came out, each once.
+/// What came of a round in which these numbers were taken out. A call is a number that is moved. It is exact if all numbers
+/// that went in came out, each once.
 fn sample(load: Load, nanoseconds: u64, numbers: &mut Vec<u64>) -> Sample
     ensures { result.exact ≡ true → IsEachOnce numbers.old.items }
 {

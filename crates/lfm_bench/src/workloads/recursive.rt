@@ -9,11 +9,13 @@ use std::sync::Wait;
 pub struct Again;
 
 impl Call for Again {
+    /// `lock` and `unlock`, within a hold.
     #[inline(always)]
     fn ours<R: Wait>(rt: &R, users: &mut Users) -> bool {
         users.user.lock_again(rt) && users.user.unlock()
     }
 
+    /// The steps of a holder's lock. Its unlock makes none.
     #[inline(always)]
     fn bare(steps: &mut Steps) -> bool {
         steps.again()

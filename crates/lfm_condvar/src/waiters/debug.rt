@@ -5,6 +5,7 @@ use std::fmt::{Debug, Formatter, Result, Write};
 
 /// Those that wait, the oldest first, and how many tickets were sent and added.
 impl Debug for Waiters {
+    /// Writes the list and the two counts of tickets.
     fn fmt<W: Write>(&self, f: &mut Formatter<W>) -> Result {
         f.debug_struct("Waiters")
             .field("list", &self.list)

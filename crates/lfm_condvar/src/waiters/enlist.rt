@@ -60,7 +60,8 @@ pub fn enlist<T: Kept>(
 }
 
 /// `enlist`, with the same answers and refusals, which hands its caller the wake-up of the seat that it granted the user mutex,
-/// if any. The caller spends it after the list is given back, since a thread that wakes earlier would have to wait for the list.
+/// if any. The caller spends it after the list is given back, since a thread that wakes earlier would have to wait for the
+/// list.
 pub(crate) fn enlist_without_waking<T: Kept>(
     waiters: &mut Waiters,
     by: SeatNo,

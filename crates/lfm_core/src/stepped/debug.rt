@@ -3,8 +3,8 @@
 use crate::stepped::State;
 use std::fmt::{Debug, Formatter, Result, Write};
 
-/// What belongs to no single seat. The readers tell what each seat has.
 impl Debug for State {
+    /// Shows what belongs to no single seat. The readers tell what each seat has.
     fn fmt<W: Write>(&self, f: &mut Formatter<W>) -> Result {
         f.debug_struct("State")
             .field("seats", &self.seats())

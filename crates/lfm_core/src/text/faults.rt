@@ -32,6 +32,7 @@ pub enum ReplayFault {
 impl From<InputFault> for ReplayFault {
     ghost from_gives = { λ e r. r ≡ input_fault e };
 
+    /// The fault of the same name.
     fn from(fault: InputFault) -> ReplayFault {
         match fault {
             InputFault::Read => ReplayFault::Read,
@@ -43,6 +44,7 @@ impl From<InputFault> for ReplayFault {
 impl From<WriteFault> for ReplayFault {
     ghost from_gives = { λ e r. r ≡ output_fault e };
 
+    /// A writer has one fault, whatever it did.
     fn from(_fault: WriteFault) -> ReplayFault {
         ReplayFault::Write
     }

@@ -12,7 +12,7 @@ ghost use Rattle.lfm_core.specs.text.Replay.{Tells, Replays, SomeReplay};
 
 use crate::stepped::State;
 use crate::text::faults::ReplayFault;
-use crate::text::schedule::{Line, Schedule, read_schedule};
+use crate::text::schedule::{Line, Schedule, line_number, read_schedule};
 use crate::text::trace::{write_fault_line, write_line, write_opening};
 use lfm_text::{WriteFault, flush, read_input};
 use lfm_words::Record;
@@ -37,7 +37,7 @@ fn write_lines<W: Write>(
     'running: for (index, line) in lines.iter().enumerate() {
         let turn = state.follow(line);
         none_refused &= !turn.is_refused();
-        write_line(writer, index as u64 + 2, line, turn, state, records)?;
+        write_line(writer, line_number(index), line, turn, state, records)?;
     }
     Ok(none_refused)
 }

@@ -1,6 +1,6 @@
 //! What a schedule is, and how it is read from its bytes. How its lines are run is in `schedule_runs`.
 
-ghost use Rattle.std.specs.Prelude.{◌≡◌, ◌≤◌, ◌<◌, length, All, IfOk, IsErrOf};
+ghost use Rattle.std.specs.Prelude.{◌≡◌, ◌+◌, ◌^◌, ◌≤◌, ◌<◌, length, All, IfOk, IsErrOf};
 ghost use Rattle.lfm_text.specs.Grammar.{lines_from};
 ghost use Rattle.lfm_text.specs.Text.{lines_of, words_of, line_count, max_lines};
 ghost use Rattle.lfm_protocol.specs.Limits.{max_seats, max_budget};
@@ -44,6 +44,14 @@ pub struct Schedule {
 
 /// The most steps that one line may ask for.
 pub const MAX_STEPS: u64 = 999;
+
+/// The number of the line at this place among the lines after the first, in a schedule and in its trace. The first line has
+/// number 1, so the line at place 0 has number 2. No text has so many lines that the number could wrap.
+pub fn line_number(place: usize) -> u64
+    ensures { place + 2 < 2 ^ 64 → result ≡ place + 2 }
+{
+    (place as u64).wrapping_add(2)
+}
 
 /// What a word after the seat says, unless it is a number of steps.
 fn read_plain_act(word: &[u8]) -> Option<Act>
@@ -174,6 +182,7 @@ pub fn read_schedule(alloc: Global, text: &[u8]) -> Result<Schedule, ReplayFault
     ensures budget { IfOk result (λ s. (1 ≤ s.budget) × (s.budget ≤ max_budget)) }
     ensures steps { IfOk result (λ s. All (λ l. HasFewSteps l.act) s.lines.items) }
 {
+    // `read_input` has counted line feeds too, to stop at a limit. But a text may also come from elsewhere.
     let Some(count) = count_lines(text) else {
         return Err(ReplayFault::Limit);
     };
@@ -184,6 +193,7 @@ pub fn read_schedule(alloc: Global, text: &[u8]) -> Result<Schedule, ReplayFault
         return Err(ReplayFault::Syntax(1));
     };
     let lines = read_lines(alloc, rest, count - 1)?;
+    // `State::new` tests them too, since others call it. Here they are a fault of the text, which comes before a state is made.
     if !limits.are_allowed() {
         return Err(ReplayFault::Limit);
     }

@@ -27,6 +27,7 @@ fn write_labelled<W: Write>(writer: &mut W, label: &[u8], number: u64) -> Result
     Ok(())
 }
 
+/// Writes how a seat came to hold: `Free`, or `Queued` and the stamp of its record.
 fn write_how<W: Write>(writer: &mut W, how: How) -> Result<(), WriteFault>
     ensures { Writes (W.contents writer.old) (W.contents writer.new) (how_text how) result }
 {
@@ -36,6 +37,7 @@ fn write_how<W: Write>(writer: &mut W, how: How) -> Result<(), WriteFault>
     }
 }
 
+/// Writes that a seat holds now, and how it came to hold.
 fn write_held<W: Write>(writer: &mut W, how: How) -> Result<(), WriteFault>
     ensures { Writes (W.contents writer.old) (W.contents writer.new) (held_text how) result }
 {
@@ -44,12 +46,14 @@ fn write_held<W: Write>(writer: &mut W, how: How) -> Result<(), WriteFault>
     Ok(())
 }
 
+/// Writes that a seat holds once more, and its depth.
 fn write_again<W: Write>(writer: &mut W, depth: u32) -> Result<(), WriteFault>
     ensures { Writes (W.contents writer.old) (W.contents writer.new) (again_text depth) result }
 {
     write_labelled(writer, b"Again ", u64::from(depth))
 }
 
+/// Writes the answer of a `lock`.
 fn write_asked<W: Write>(writer: &mut W, answer: Asked) -> Result<(), WriteFault>
     ensures { Writes (W.contents writer.old) (W.contents writer.new) (asked_text answer) result }
 {
@@ -60,6 +64,7 @@ fn write_asked<W: Write>(writer: &mut W, answer: Asked) -> Result<(), WriteFault
     }
 }
 
+/// Writes the answer of a `try_lock`.
 fn write_locked<W: Write>(writer: &mut W, answer: Locked) -> Result<(), WriteFault>
     ensures { Writes (W.contents writer.old) (W.contents writer.new) (locked_text answer) result }
 {
@@ -69,6 +74,7 @@ fn write_locked<W: Write>(writer: &mut W, answer: Locked) -> Result<(), WriteFau
     }
 }
 
+/// Writes the answer of an `unlock`, or what a `start_wait` did with the mutex.
 fn write_unlocked<W: Write>(writer: &mut W, answer: Unlocked) -> Result<(), WriteFault>
     ensures { Writes (W.contents writer.old) (W.contents writer.new) (unlocked_text answer) result }
 {
@@ -81,6 +87,7 @@ fn write_unlocked<W: Write>(writer: &mut W, answer: Unlocked) -> Result<(), Writ
     }
 }
 
+/// Writes the answer of a `start_wait`.
 fn write_waiting<W: Write>(writer: &mut W, answer: Unlocked) -> Result<(), WriteFault>
     ensures { Writes (W.contents writer.old) (W.contents writer.new)
         (answer_text (Answer.Waiting answer)) result }
@@ -117,6 +124,7 @@ pub fn write_why<W: Write>(writer: &mut W, why: Why) -> Result<(), WriteFault>
     }
 }
 
+/// Writes of a call that is open whether this line has begun it.
 fn write_open<W: Write>(writer: &mut W, act: Act) -> Result<(), WriteFault>
     ensures { Writes (W.contents writer.old) (W.contents writer.new) (open_text act) result }
 {
@@ -126,6 +134,7 @@ fn write_open<W: Write>(writer: &mut W, act: Act) -> Result<(), WriteFault>
     }
 }
 
+/// Writes the answer with which a call has ended.
 fn write_ended<W: Write>(writer: &mut W, answer: Answer) -> Result<(), WriteFault>
     ensures { Writes (W.contents writer.old) (W.contents writer.new)
         (joined (codes "ends " ∷ answer_text answer ∷ [])) result }
@@ -135,6 +144,7 @@ fn write_ended<W: Write>(writer: &mut W, answer: Answer) -> Result<(), WriteFaul
     Ok(())
 }
 
+/// Writes why a turn was refused.
 fn write_refused<W: Write>(writer: &mut W, why: Why) -> Result<(), WriteFault>
     ensures { Writes (W.contents writer.old) (W.contents writer.new)
         (joined (codes "refused " ∷ why_text why ∷ [])) result }
@@ -144,6 +154,7 @@ fn write_refused<W: Write>(writer: &mut W, why: Why) -> Result<(), WriteFault>
     Ok(())
 }
 
+/// Writes what came of a turn.
 fn write_turn<W: Write>(writer: &mut W, act: Act, turn: Turn) -> Result<(), WriteFault>
     ensures { Writes (W.contents writer.old) (W.contents writer.new) (turn_text act turn) result }
 {
@@ -249,6 +260,7 @@ fn write_queue<W: Write>(writer: &mut W, records: &mut Vec<Record>) -> Result<()
     Ok(())
 }
 
+/// Writes the count, the owner and the handoff of a state.
 fn write_words<W: Write>(writer: &mut W, state: &State) -> Result<(), WriteFault>
     ensures { Writes (W.contents writer.old) (W.contents writer.new) (words_text state.now) result }
 {

@@ -13,6 +13,7 @@ use Rattle.lfm_protocol.specs.Begin as Begin
 use Rattle.lfm_protocol.specs.Core.{Core, put, limits}
 use Rattle.lfm_laws.specs.steady.Ghost.{apart, Ghost}
 use Rattle.lfm_laws.specs.steady.EventOutcome.{Kept}
+use Rattle.lfm_protocol.specs.Limits.{max_depth}
 use Rattle.lfm_protocol.specs.Seats.{seat, wake, is_seat, IsSeat}
 use Rattle.lfm_laws.specs.steady.Steady.{StandsAt, DepthAt, KnowsAt, SeatFits, Fits}
 use Rattle.lfm_protocol.specs.Step.{begin}
@@ -96,7 +97,7 @@ stays c g s is fits = view_moves c g s (seat c.seats s) is fits (record { asks_s
 -- what the first point of a call that comes to hold, or deepens the hold, has to meet
 abbrev EntersBy : Core → Ghost → ℕ → Point → Type 0
 EntersBy c g s p =
-    (depth takes posts : ℕ) (w : Wake) → depth < 65535 → takes ≤ c.budget → posts + 1 ≤ takes → g.pushes s + due_unless_held depth ≤ takes
+    (depth takes posts : ℕ) (w : Wake) → depth < max_depth → takes ≤ c.budget → posts + 1 ≤ takes → g.pushes s + due_unless_held depth ≤ takes
     → BeginFits c g s depth depth takes posts p w
 
 lock_enters : (c : Core) (g : Ghost) (s : ℕ) → EntersBy c g s LockCountAdd
@@ -109,7 +110,7 @@ try_enters c g s depth takes posts w deep within room pushes =
 
 -- the take of an outermost hold is charged
 entry_charged : (c : Core) (g : Ghost) (s : ℕ) (p : Point) → IsSeat c.seats s → (seat c.seats s).point ≡ Rest → Fits c g
-    → ((depth : ℕ) → asks_for_at depth s p ≡ 0) → claims_for_at p ≡ 0 → EntersBy c g s p → (seat c.seats s).depth ≡ 0 → (seat c.seats s).depth < 65535
+    → ((depth : ℕ) → asks_for_at depth s p ≡ 0) → claims_for_at p ≡ 0 → EntersBy c g s p → (seat c.seats s).depth ≡ 0 → (seat c.seats s).depth < max_depth
     → Fits (put c s (Begin.charges (seat c.seats s) c.budget p).seat) g
 entry_charged c g s p is at fits asks sends enters free deep =
     let x = seat c.seats s in

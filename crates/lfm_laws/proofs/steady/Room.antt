@@ -11,6 +11,7 @@ use Rattle.lfm_words.specs.declared.links.Link.{Link}
 use Rattle.lfm_words.specs.declared.pop_lists.Record.{Record}
 use Rattle.lfm_protocol.specs.Core.{Core}
 use Rattle.lfm_laws.specs.steady.Ghost.{Responsibility, nobody, owned, granted, entering, leaving, Standing, asks, queued, Ghost}
+use Rattle.lfm_protocol.specs.Limits.{max_seats, max_budget}
 use Rattle.lfm_protocol.specs.Points.{kind, target, pushed_seat}
 use Rattle.lfm_protocol.specs.Room.{HasNumbers, CountFits, PopFits, HasRoom}
 use Rattle.lfm_protocol.specs.Seats.{seat, IsSeat}
@@ -43,11 +44,11 @@ queued_unit-le (queued stamp) = omega arith
 queued_unit-le _ = omega arith
 
 -- each push was charged
-pub pushed_fits : (c : Core) (g : Ghost) → Fits c g → g.pushed ≤ 4095 * 2 ^ 36
+pub pushed_fits : (c : Core) (g : Ghost) → Fits c g → g.pushed ≤ max_seats * max_budget
 pushed_fits c g fits =
     let most = sum_bound (length c.seats) c.budget g.pushes (λ s. omega (arith, (fits.each s).pushes, (fits.each s).takes)) in
-    let wide : length c.seats * c.budget ≤ length c.seats * 2 ^ 36 = mul-le-mul_left (length c.seats) fits.sizes.budget in
-    let long : length c.seats * 2 ^ 36 ≤ 4095 * 2 ^ 36 = omega (arith, fits.sizes.seats) in
+    let wide : length c.seats * c.budget ≤ length c.seats * max_budget = mul-le-mul_left (length c.seats) fits.sizes.budget in
+    let long : length c.seats * max_budget ≤ max_seats * max_budget = omega (arith, fits.sizes.seats) in
     omega (arith, fits.sums.pushed, most, wide, long)
 
 pub asking_fits : (c : Core) (g : Ghost) → Fits c g → g.asking ≤ length c.seats
@@ -70,7 +71,7 @@ count_room c g fits =
 stamp_room : (c : Core) (g : Ghost) (seen : Link) → Fits c g → seen.stamp ≤ c.push.stamp → seen.stamp + 1 < 2 ^ 64
 stamp_room c g seen fits older = omega (arith, older, fits.words.stamp, pushed_fits c g fits)
 
-posts_room : (posts due takes budget : ℕ) → posts + due ≤ takes → takes ≤ budget → budget ≤ 2 ^ 36 → posts + 1 < 2 ^ 64
+posts_room : (posts due takes budget : ℕ) → posts + due ≤ takes → takes ≤ budget → budget ≤ max_budget → posts + 1 < 2 ^ 64
 posts_room posts due takes budget paid within small = omega (arith, paid, within, small)
 
 -- the seat whose link is loaded next

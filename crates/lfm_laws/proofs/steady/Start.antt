@@ -1,10 +1,10 @@
 -- The state at the start is steady: nobody holds the mutex, and every seat stands apart.
-use Rattle.std.proofs.Common.{◌≡◌, ℕ, zero, suc, ◌^◌, ◌≤◌, true, length, replicate, refl, sym, ◌∙◌, arith, tests}
+use Rattle.std.proofs.Common.{◌≡◌, ℕ, zero, suc, ◌≤◌, true, length, replicate, refl, sym, ◌∙◌, arith, tests}
 use Rattle.std.proofs.lemmas.List.{length-replicate}
 use Rattle.lfm_protocol.specs.declared.limits.Limits.{Limits}
 use Rattle.lfm_words.specs.declared.wakes.Wake.TheVariants.{Quiet}
 use Rattle.lfm_laws.specs.steady.Ghost.{nobody, apart, Ghost}
-use Rattle.lfm_protocol.specs.Limits.{are_in_limits}
+use Rattle.lfm_protocol.specs.Limits.{are_in_limits, max_seats, max_budget}
 use Rattle.lfm_protocol.specs.Seats.{entry, absent, no_link}
 use Rattle.lfm_laws.specs.steady.Steady.{SeatFits, asking_unit, queued_unit, Fits, Steady}
 use Rattle.lfm_protocol.specs.Step.{start}
@@ -53,7 +53,7 @@ fits_at_start limits s =
       watches = λ place here. absurd (cc);
     }
 
-pub start_fits : (limits : Limits) → limits.seats ≤ 4095 → limits.budget ≤ 2 ^ 36 → Fits (start limits) at_start
+pub start_fits : (limits : Limits) → limits.seats ≤ max_seats → limits.budget ≤ max_budget → Fits (start limits) at_start
 start_fits limits few small =
     let seats = length-replicate limits.seats absent in
     record {
@@ -86,13 +86,13 @@ start_fits limits few small =
       };
     }
 
-pub start_steady : (limits : Limits) → limits.seats ≤ 4095 → limits.budget ≤ 2 ^ 36 → Steady (start limits)
+pub start_steady : (limits : Limits) → limits.seats ≤ max_seats → limits.budget ≤ max_budget → Steady (start limits)
 start_steady limits few small = record { ghost_state = at_start; fits = start_fits limits few small }
 
 -- the limits that the test allows are those of a steady state
 
-pub few_seats : (seats budget : ℕ) → are_in_limits seats budget ≡ true → seats ≤ 4095
+pub few_seats : (seats budget : ℕ) → are_in_limits seats budget ≡ true → seats ≤ max_seats
 few_seats seats budget allowed = search (tests, arith, allowed)
 
-pub small_budget : (seats budget : ℕ) → are_in_limits seats budget ≡ true → budget ≤ 2 ^ 36
+pub small_budget : (seats budget : ℕ) → are_in_limits seats budget ≡ true → budget ≤ max_budget
 small_budget seats budget allowed = search (tests, arith, allowed)

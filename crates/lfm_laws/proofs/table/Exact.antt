@@ -4,6 +4,7 @@ use Rattle.std.proofs.lemmas.Bool.{cases_eq, ne_eqb, eq-eqb}
 use Rattle.lfm_protocol.specs.declared.points.Point.{Point}
 use Rattle.lfm_protocol.specs.declared.points.Point.TheVariants.{LockCountAdd, LockCountSubtract, TryHandoffLoad, TryHandoffExchange, TryCountAdd, SendWakeExchange, SendCountAdd, SendPushRecheck, SendWakeStore, PushLoad, LinkStore, PushExchange, PushedHandoffLoad, PushedHandoffExchange, ReleaseCountSubtract, ReleasePushRecheck, ReleaseHandoffExchange, WaitWakeStore, TakeClearHead, TakeLinkLoad, GrantWakeStore, ReceiveWakeLoad, ReceiveWakeStore}
 use Rattle.lfm_words.specs.declared.handoffs.Handoff.{Handoff}
+use Rattle.lfm_words.specs.Words.{seat_field_size}
 use Rattle.lfm_protocol.specs.Core.{Core}
 use Rattle.lfm_laws.specs.steady.Ghost.{Responsibility, nobody, owned, granted, posted, entering, accepting, leaving, serving, Ghost}
 use Rattle.lfm_protocol.specs.Points.{kind, target}
@@ -17,10 +18,10 @@ use Rattle.lfm_laws.proofs.table.Steps.{Exact}
 
 -- The push word
 
-seat_small : (c : Core) (g : Ghost) (t : ℕ) → Fits c g → IsSeat c.seats t → t < 65536
+seat_small : (c : Core) (g : Ghost) (t : ℕ) → Fits c g → IsSeat c.seats t → t < seat_field_size
 seat_small c g t fits is = omega (arith, is.within, fits.sizes.seats)
 
-pub push_narrow : (c : Core) (g : Ghost) → Fits c g → c.push.next < 65536
+pub push_narrow : (c : Core) (g : Ghost) → Fits c g → c.push.next < seat_field_size
 push_narrow c g fits =
     elim (cases_eq (cleared c g) g.pushed) [
       | inl all ↦
@@ -37,10 +38,10 @@ stamp_narrow c g fits = omega (arith, fits.words.stamp, pushed_fits c g fits)
 
 -- The handoff word
 
-unposted_narrow : (h : Handoff) → h ≡ unposted → h.seat < 65536
+unposted_narrow : (h : Handoff) → h ≡ unposted → h.seat < seat_field_size
 unposted_narrow h none = let e : h.seat ≡ 0 = ap (λ h. h.seat) none in omega (arith, e)
 
-handoff_by : (c : Core) (g : Ghost) (place : Responsibility) → Fits c g → HandoffFits c.seats place c.handoff → c.handoff.seat < 65536
+handoff_by : (c : Core) (g : Ghost) (place : Responsibility) → Fits c g → HandoffFits c.seats place c.handoff → c.handoff.seat < seat_field_size
 handoff_by c g posted fits here = seat_small c g c.handoff.seat fits here
 handoff_by c g nobody fits here = unposted_narrow c.handoff here
 handoff_by c g (owned s again) fits here = unposted_narrow c.handoff here
@@ -50,12 +51,12 @@ handoff_by c g (accepting s) fits here = unposted_narrow c.handoff here
 handoff_by c g (leaving s) fits here = unposted_narrow c.handoff here
 handoff_by c g (serving s) fits here = unposted_narrow c.handoff here
 
-pub handoff_narrow : (c : Core) (g : Ghost) → Fits c g → c.handoff.seat < 65536
+pub handoff_narrow : (c : Core) (g : Ghost) → Fits c g → c.handoff.seat < seat_field_size
 handoff_narrow c g fits = handoff_by c g g.place fits fits.words.handoff
 
 -- The link that a carrier loads next
 
-before_small : (c : Core) (g : Ghost) (stamp : ℕ) → Fits c g → g.popped < stamp → stamp ≤ g.pushed → before g.pushed_at g.popped stamp < 65536
+before_small : (c : Core) (g : Ghost) (stamp : ℕ) → Fits c g → g.popped < stamp → stamp ≤ g.pushed → before g.pushed_at g.popped stamp < seat_field_size
 before_small c g stamp fits above within =
     elim (cases_eq stamp (g.popped + 1)) [
       | inl first ↦ let none : before g.pushed_at g.popped stamp ≡ 0 = rw (eq-eqb stamp (g.popped + 1) first) refl in omega (arith, none)
@@ -65,7 +66,7 @@ before_small c g stamp fits above within =
           omega (arith, here, seat_small c g (g.pushed_at (stamp - 1)) fits is)
     ]
 
-walked_narrow : (c : Core) (g : Ghost) (next : ℕ) → Fits c g → 0 < g.walk → next ≡ g.pushed_at (g.popped + g.walk) → (link c.links next).next < 65536
+walked_narrow : (c : Core) (g : Ghost) (next : ℕ) → Fits c g → 0 < g.walk → next ≡ g.pushed_at (g.popped + g.walk) → (link c.links next).next < seat_field_size
 walked_narrow c g next fits some here =
     let stamp : ℕ = g.popped + g.walk in
     let above : g.popped < g.popped + g.walk = omega (arith, some) in

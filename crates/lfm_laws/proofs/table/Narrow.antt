@@ -24,6 +24,7 @@ use Rattle.lfm_model.specs.declared.refusals.Refusal.TheVariants as Refusal
 use Rattle.lfm_words.specs.declared.pop_lists.Record.{Record}
 use Rattle.lfm_words.specs.declared.wakes.Wake.{Wake}
 use Rattle.lfm_words.specs.declared.wakes.Wake.TheVariants.{Waiting, Grant}
+use Rattle.lfm_words.specs.Words.{seat_field_size}
 use Rattle.lfm_protocol.specs.After.{same_link, same_handoff, deepens, busy, loaded, take, serves, once_cleared, found_posted, pushed, granted, releases, carrier_of, receives, claims}
 use Rattle.lfm_protocol.specs.Begin as Begin
 use Rattle.lfm_protocol.specs.Begin.{Stepped, goes_on, ends}
@@ -45,8 +46,8 @@ step_if false m k yes_ no_ = no_
 
 -- What several steps share
 
-lower_half : (n : ℕ) → n % 65536 < 65536
-lower_half n = mod_below n 65536 (omega arith)
+lower_half : (n : ℕ) → n % seat_field_size < seat_field_size
+lower_half n = mod_below n seat_field_size (omega arith)
 
 narrow_serves : (carrier : Carrier) (s : ℕ) (r : Record) → IsNarrow (serves carrier s r)
 narrow_serves Carrier.Locker s r =
@@ -139,7 +140,7 @@ step_at x s n oldest (ReleasePushRecheck releaser) at narrow =
 step_at x s n oldest (ReleaseHandoffExchange releaser) at narrow =
     rw at (step_if (same_handoff (handoff_of n) (record { seat = s; post = x.posts })) (goes_on x (take (Carrier.Reclaimer releaser) s oldest)) (releases x releaser Unlocked.TakenOver) (narrow_take (Carrier.Reclaimer releaser) s oldest) (narrow_releases x releaser Unlocked.TakenOver))
 step_at x s n oldest (WaitWakeStore released) at narrow = rw at tt
-step_at x s n oldest (TakeClearHead carrier) at narrow = rw at (narrow_cleared carrier (n % 65536))
+step_at x s n oldest (TakeClearHead carrier) at narrow = rw at (narrow_cleared carrier (n % seat_field_size))
 step_at x s n oldest (TakeLinkLoad carrier next) at narrow =
     let r = loaded next (link_of n) in
     rw at (point_if (nat_eq (link_of n).next 0) (serves carrier s r) (TakeLinkLoad carrier (link_of n).next) (narrow_serves carrier s r) tt)

@@ -8,22 +8,22 @@ use Rattle.lfm_words.specs.declared.handoffs.Handoff.{Handoff}
 use Rattle.lfm_words.specs.declared.links.Link.{Link}
 use Rattle.lfm_words.specs.declared.wakes.Wake.{Wake}
 use Rattle.lfm_words.specs.declared.wakes.Wake.TheVariants.{Quiet, Waiting, Claimed, Grant}
-use Rattle.lfm_words.specs.Words.{link_word, handoff_word, wake_word}
+use Rattle.lfm_words.specs.Words.{link_word, handoff_word, wake_word, seat_field_size}
 use Rattle.lfm_protocol.specs.After.{same_link, same_handoff}
 use Rattle.lfm_laws.specs.table.Words.{link_of, handoff_of, wake_of}
 
 -- The halves of a word
 
-upper : (a b : ℕ) → b < 65536 → (a * 65536 + b) / 65536 ≡ a
+upper : (a b : ℕ) → b < seat_field_size → (a * seat_field_size + b) / seat_field_size ≡ a
 upper a b small = omega (arith, small)
 
-lower : (a b : ℕ) → b < 65536 → (a * 65536 + b) % 65536 ≡ b
+lower : (a b : ℕ) → b < seat_field_size → (a * seat_field_size + b) % seat_field_size ≡ b
 lower a b small = omega (arith, small)
 
-pub link_packed : (l : Link) → l.next < 65536 → link_of (link_word l) ≡ l
+pub link_packed : (l : Link) → l.next < seat_field_size → link_of (link_word l) ≡ l
 link_packed l small = rw (upper l.stamp l.next small, lower l.stamp l.next small) refl
 
-pub handoff_packed : (h : Handoff) → h.seat < 65536 → handoff_of (handoff_word h) ≡ h
+pub handoff_packed : (h : Handoff) → h.seat < seat_field_size → handoff_of (handoff_word h) ≡ h
 handoff_packed h small = rw (upper h.post h.seat small, lower h.post h.seat small) refl
 
 stamp_packed : (stamp : ℕ) → (3 + 4 * stamp - 3) / 4 ≡ stamp
@@ -41,10 +41,10 @@ wake_packed (Grant stamp) =
 
 -- Exchanges
 
-two_halves : (a b c d : ℕ) → b < 65536 → d < 65536 → a * 65536 + b ≡ c * 65536 + d → (a ≡ c) × (b ≡ d)
+two_halves : (a b c d : ℕ) → b < seat_field_size → d < seat_field_size → a * seat_field_size + b ≡ c * seat_field_size + d → (a ≡ c) × (b ≡ d)
 two_halves a b c d small few same = (omega (arith, same, small, few), omega (arith, same, small, few))
 
-pub same_link_word : (a b : Link) → a.next < 65536 → b.next < 65536 → same_link a b ≡ nat_eq (link_word a) (link_word b)
+pub same_link_word : (a b : Link) → a.next < seat_field_size → b.next < seat_field_size → same_link a b ≡ nat_eq (link_word a) (link_word b)
 same_link_word a b small few =
     elim (cases_eq (link_word a) (link_word b)) [
       | inl e ↦
@@ -59,7 +59,7 @@ same_link_word a b small few =
       ]
     ]
 
-pub same_handoff_word : (a b : Handoff) → a.seat < 65536 → b.seat < 65536 → same_handoff a b ≡ nat_eq (handoff_word a) (handoff_word b)
+pub same_handoff_word : (a b : Handoff) → a.seat < seat_field_size → b.seat < seat_field_size → same_handoff a b ≡ nat_eq (handoff_word a) (handoff_word b)
 same_handoff_word a b small few =
     elim (cases_eq (handoff_word a) (handoff_word b)) [
       | inl e ↦
@@ -82,7 +82,7 @@ added_word n small = omega (arith, small)
 pub subtracted_word : (n : ℕ) → 0 < n → n < 2 ^ 64 → (n + (2 ^ 64 - 1)) % 2 ^ 64 ≡ n - 1
 subtracted_word n some small = omega (arith, some, small)
 
-pub cleared_word : (l : Link) → l.next < 65536 → l.stamp < 2 ^ 48 → bit_and (link_word l) (2 ^ 64 - 2 ^ 16) ≡ link_word (record { stamp = l.stamp; next = 0 })
+pub cleared_word : (l : Link) → l.next < seat_field_size → l.stamp < 2 ^ 48 → bit_and (link_word l) (2 ^ 64 - 2 ^ 16) ≡ link_word (record { stamp = l.stamp; next = 0 })
 cleared_word l small few =
     let whole : link_word l < 2 ^ 64 = omega (arith, small, few) in
-    and_high_mask 64 16 (omega arith) (link_word l) whole ∙ ap (λ a. a * 65536) (upper l.stamp l.next small) ∙ omega arith
+    and_high_mask 64 16 (omega arith) (link_word l) whole ∙ ap (λ a. a * seat_field_size) (upper l.stamp l.next small) ∙ omega arith

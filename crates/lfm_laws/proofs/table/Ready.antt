@@ -5,9 +5,10 @@ use Rattle.lfm_protocol.specs.declared.points.Point.TheVariants.{LinkStore, Push
 use Rattle.lfm_protocol.specs.declared.points.Pusher.{Pusher}
 use Rattle.lfm_words.specs.declared.handoffs.Handoff.{Handoff}
 use Rattle.lfm_words.specs.declared.pop_lists.Record.{Record}
-use Rattle.lfm_words.specs.Words.{IsSmallWake}
+use Rattle.lfm_words.specs.Words.{IsSmallWake, seat_field_size}
 use Rattle.lfm_protocol.specs.Core.{Core}
 use Rattle.lfm_laws.specs.steady.Ghost.{apart, asks, Ghost}
+use Rattle.lfm_protocol.specs.Limits.{max_budget}
 use Rattle.lfm_protocol.specs.Points.{pushed_seat}
 use Rattle.lfm_protocol.specs.Seats.{seat, no_link, unposted, IsSeat}
 use Rattle.lfm_laws.specs.steady.Steady.{ErrandFits, IsOld, Fits}
@@ -32,22 +33,22 @@ small_posts : (c : Core) (g : Ghost) (s : ℕ) → Fits c g → (seat c.seats s)
 small_posts c g s fits =
     let here = fits.each s in omega (arith, here.posts, here.takes, fits.sizes.budget)
 
-old_packs : (c : Core) (g : Ghost) (seen : Handoff) → Fits c g → IsOld c.seats seen → seen.seat < 65536 → PacksHandoff seen
+old_packs : (c : Core) (g : Ghost) (seen : Handoff) → Fits c g → IsOld c.seats seen → seen.seat < seat_field_size → PacksHandoff seen
 old_packs c g seen fits old small =
     record { seat = small; post = let most = small_posts c g seen.seat fits in omega (arith, old.before, most) }
 
-small_seat : (c : Core) (g : Ghost) (t : ℕ) → Fits c g → IsSeat c.seats t → t < 65536
+small_seat : (c : Core) (g : Ghost) (t : ℕ) → Fits c g → IsSeat c.seats t → t < seat_field_size
 small_seat c g t fits is = omega (arith, is.within, fits.sizes.seats)
 
 asks_not_apart : (s : ℕ) → asks s ≢ apart
 asks_not_apart s e = cc
 
-pushed_is_small : (c : Core) (g : Ghost) (s : ℕ) (pusher : Pusher) → IsSeat c.seats s → Fits c g → ErrandFits g s pusher → pushed_seat pusher s < 65536
+pushed_is_small : (c : Core) (g : Ghost) (s : ℕ) (pusher : Pusher) → IsSeat c.seats s → Fits c g → ErrandFits g s pusher → pushed_seat pusher s < seat_field_size
 pushed_is_small c g s Pusher.Locker is fits errand = small_seat c g s fits is
 pushed_is_small c g s (Pusher.Sender t) is fits errand =
     small_seat c g t fits (seat_of_standing c g t fits (λ e. let here = errand.1 in absurd (asks_not_apart s (sym here ∙ e))))
 
-posted_small : (posts due takes budget : ℕ) → posts + due ≤ takes → takes ≤ budget → budget ≤ 2 ^ 36 → posts + 1 < 2 ^ 48
+posted_small : (posts due takes budget : ℕ) → posts + due ≤ takes → takes ≤ budget → budget ≤ max_budget → posts + 1 < 2 ^ 48
 posted_small posts due takes budget paid within small = omega (arith, paid, within, small)
 
 -- Each number, by the point

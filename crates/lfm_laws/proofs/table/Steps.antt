@@ -11,7 +11,7 @@ use Rattle.lfm_words.specs.declared.links.Link.{Link}
 use Rattle.lfm_words.specs.declared.wakes.Wake.{Wake}
 use Rattle.lfm_words.specs.declared.wakes.Wake.TheVariants.{Quiet, Waiting, Claimed, Grant}
 use Rattle.lfm_words.specs.Popped.{oldest}
-use Rattle.lfm_words.specs.Words.{link_word, handoff_word, wake_word}
+use Rattle.lfm_words.specs.Words.{link_word, handoff_word, wake_word, seat_field_size}
 use Rattle.lfm_protocol.specs.After.{same_link, same_handoff, after_push_load, after_push_exchange, after_clear_head, after_link_load, after_handoff_load, after_handoff_exchange, after_wake_load, after_wake_exchange, loaded}
 use Rattle.lfm_protocol.specs.Begin.{Stepped}
 use Rattle.lfm_protocol.specs.Core.{Core}
@@ -33,13 +33,13 @@ found_by c t (Some k) = number_of c (word k t)
 abbrev pub Exact : Core → SeatState → ℕ → ℕ → Option Kind → Type 0
 Exact c x s t (Some Kind.CountAdd) = c.count + 1 < 2 ^ 64
 Exact c x s t (Some Kind.CountSubtract) = (0 < c.count) × (c.count + 1 < 2 ^ 64)
-Exact c x s t (Some Kind.PushLoad) = c.push.next < 65536
-Exact c x s t (Some Kind.PushExchange) = (c.push.next < 65536) × ((expected_push x).next < 65536)
-Exact c x s t (Some Kind.ClearHead) = (c.push.next < 65536) × (c.push.stamp < 2 ^ 48)
-Exact c x s t (Some Kind.LinkLoad) = IsSeat c.seats t × ((link c.links t).next < 65536)
+Exact c x s t (Some Kind.PushLoad) = c.push.next < seat_field_size
+Exact c x s t (Some Kind.PushExchange) = (c.push.next < seat_field_size) × ((expected_push x).next < seat_field_size)
+Exact c x s t (Some Kind.ClearHead) = (c.push.next < seat_field_size) × (c.push.stamp < 2 ^ 48)
+Exact c x s t (Some Kind.LinkLoad) = IsSeat c.seats t × ((link c.links t).next < seat_field_size)
 Exact c x s t (Some Kind.LinkStore) = IsSeat c.seats t
-Exact c x s t (Some Kind.HandoffLoad) = c.handoff.seat < 65536
-Exact c x s t (Some Kind.HandoffExchange) = (c.handoff.seat < 65536) × ((expected_handoff x s).seat < 65536)
+Exact c x s t (Some Kind.HandoffLoad) = c.handoff.seat < seat_field_size
+Exact c x s t (Some Kind.HandoffExchange) = (c.handoff.seat < seat_field_size) × ((expected_handoff x s).seat < seat_field_size)
 Exact c x s t (Some Kind.WakeLoad) = IsSeat c.seats t
 Exact c x s t (Some Kind.WakeStore) = IsSeat c.seats t
 Exact c x s t (Some Kind.WakeExchange) = IsSeat c.seats t

@@ -4,17 +4,17 @@ use Rattle.std.specs.Prelude.{ℕ, ◌^◌, ◌<◌, ◌≤◌}
 use Rattle.lfm_protocol.specs.declared.seats.SeatState.{SeatState}
 use Rattle.lfm_words.specs.declared.handoffs.Handoff.{Handoff}
 use Rattle.lfm_words.specs.declared.links.Link.{Link}
-use Rattle.lfm_words.specs.Words.{IsSmallWake}
+use Rattle.lfm_words.specs.Words.{IsSmallWake, seat_field_size}
 use Rattle.lfm_protocol.specs.Points.{target}
 use Rattle.lfm_protocol.specs.Room.{HasNumbers}
 use Rattle.lfm_protocol.specs.Stores.{stored_link, expected_push, exchanged_push, stored_handoff, expected_handoff, stored_wake}
 
 pub record PacksLink (l : Link) : Type 0 where
   pub stamp : l.stamp < 2 ^ 48
-  pub next : l.next < 65536
+  pub next : l.next < seat_field_size
 
 pub record PacksHandoff (h : Handoff) : Type 0 where
-  pub seat : h.seat < 65536
+  pub seat : h.seat < seat_field_size
   pub post : h.post < 2 ^ 48
 
 -- of seat s, being x, with this number of seats

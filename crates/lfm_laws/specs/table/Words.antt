@@ -1,18 +1,15 @@
 -- The words of a state as one list of numbers, and an atomic step as it is at a table of such words: the number at one place
 -- becomes another, and the seat goes on by the number found.
-use Rattle.std.specs.Prelude.{ℕ, ◌+◌, ◌-◌, ◌/◌, ◌%◌, ◌^◌, ◌<◌, ⊤, Bool, Option, Some, None, List, [], ◌∷◌, ◌++◌, map, drop, bit_and, nat_eq, if◌then◌else◌}
+use Rattle.std.specs.Prelude.{ℕ, ◌+◌, ◌-◌, ◌%◌, ◌^◌, ◌<◌, ⊤, Bool, Option, Some, None, List, [], ◌∷◌, ◌++◌, map, drop, bit_and, nat_eq, if◌then◌else◌}
 use prog.Atomic.{either}
 use Rattle.lfm_protocol.specs.declared.kinds.Kind.{Kind}
 use Rattle.lfm_protocol.specs.declared.kinds.Word.{Word}
 use Rattle.lfm_protocol.specs.declared.points.Point.{Point}
 use Rattle.lfm_protocol.specs.declared.points.Point.TheVariants.{TryHandoffExchange, SendPushRecheck, LinkStore, PushExchange, PushedHandoffExchange}
 use Rattle.lfm_protocol.specs.declared.seats.SeatState.{SeatState}
-use Rattle.lfm_words.specs.declared.handoffs.Handoff.{Handoff}
-use Rattle.lfm_words.specs.declared.links.Link.{Link}
 use Rattle.lfm_words.specs.declared.pop_lists.Record.{Record}
-use Rattle.lfm_words.specs.declared.wakes.Wake.{Wake}
-use Rattle.lfm_words.specs.declared.wakes.Wake.TheVariants.{Quiet, Waiting, Claimed, Grant}
-use Rattle.lfm_words.specs.Words.{link_word, handoff_word, wake_word}
+pub use Rattle.lfm_words.specs.Words.{link_of, handoff_of, wake_of}
+use Rattle.lfm_words.specs.Words.{link_word, handoff_word, wake_word, seat_field_size}
 use Rattle.lfm_protocol.specs.After.{after_count_exchange, after_count_add, after_count_subtract, after_owner_load, after_owner_store, after_push_load, after_push_exchange, after_clear_head, after_link_load, after_link_store, after_handoff_load, after_handoff_store, after_handoff_exchange, after_wake_load, after_wake_store, after_wake_exchange, drops_oldest, idle, loaded}
 use Rattle.lfm_protocol.specs.Begin.{Stepped}
 use Rattle.lfm_protocol.specs.Core.{Core}
@@ -33,24 +30,6 @@ index_of seats Word.Handoff = 2
 index_of seats Word.Push = 3
 index_of seats (Word.Link t) = 3 + t
 index_of seats (Word.Wake t) = 3 + seats + t
-
--- What a number found says
-
-abbrev pub link_of : ℕ → Link
-link_of n = record { stamp = n / 65536; next = n % 65536 }
-
-abbrev pub handoff_of : ℕ → Handoff
-handoff_of n = record { seat = n % 65536; post = n / 65536 }
-
-abbrev pub wake_of : ℕ → Wake
-wake_of n =
-    if nat_eq n 0
-    then Quiet
-    else (if nat_eq n 1
-    then Waiting
-    else (if nat_eq n 2
-    then Claimed
-    else Grant ((n - 3) / 4)))
 
 -- A step by its kind, t being its target. A seat that has no step touches the count and leaves it.
 
@@ -125,11 +104,11 @@ popped_by_step x s n popped = popped_of x (target x.point s) n popped (kind x.po
 
 -- A seat number that was read from a word lies in the word's lower half, so that it packs exactly
 abbrev pub IsNarrow : Point → Type 0
-IsNarrow (LinkStore pusher seen) = seen.next < 65536
-IsNarrow (PushExchange pusher seen) = seen.next < 65536
-IsNarrow (SendPushRecheck t seen) = seen.seat < 65536
-IsNarrow (PushedHandoffExchange pusher seen) = seen.seat < 65536
-IsNarrow (TryHandoffExchange seen) = seen.seat < 65536
+IsNarrow (LinkStore pusher seen) = seen.next < seat_field_size
+IsNarrow (PushExchange pusher seen) = seen.next < seat_field_size
+IsNarrow (SendPushRecheck t seen) = seen.seat < seat_field_size
+IsNarrow (PushedHandoffExchange pusher seen) = seen.seat < seat_field_size
+IsNarrow (TryHandoffExchange seen) = seen.seat < seat_field_size
 IsNarrow _ = ⊤
 
 -- it is so of every seat

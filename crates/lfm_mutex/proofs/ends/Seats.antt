@@ -43,7 +43,7 @@ use Rattle.lfm_table.specs.Rule.{sum_over, retired, retired_at, split_view, with
 use Rattle.lfm_table.specs.Seats.{Seated}
 use Rattle.lfm_table.specs.Settled.{Became}
 use Rattle.lfm_table.proofs.tables.CoreFacts.{owner_told}
-use Rattle.lfm_table.proofs.tables.Actions.{SaysTheSame, SaysNothing, goes_on_by, knows_none, load_by, owner_load_part, run_goes_on, run_stays, stands_first, starts_absent}
+use Rattle.lfm_table.proofs.tables.Actions.{SaysTheSame, SaysNothing, goes_on_by, knows_none, load_by, load_last, owner_load_part, run_goes_on, run_stays, stands_first, starts_absent}
 use Rattle.lfm_table.proofs.tables.Numbered.{numbered_same}
 use Rattle.lfm_table.proofs.tables.SettledKept.{became_same}
 use Rattle.lfm_table.proofs.tables.StepFacts.{became_depth}
@@ -336,12 +336,12 @@ module _ {T : Type 0} (follows : ℕ → T → T → Type 0) (suits : T → ℕ 
     load_part t = owner_load_part h.core (id + 1) t ∙ ap (λ (m : ℕ). if_own (id + 1) t (seen TryOwnerLoad m)) (sym (ap (λ (ws : List ℕ). get_or ws 1 0) h.words_are))
 
     loaded : HasRun h.opened (h.actions ++ LoadsOwner (id + 1) ∷ []) h.core (set s.views id Seen)
-    loaded = run_goes_on h.opened h.actions h.core s.views h.run (LoadsOwner (id + 1) ∷ []) h.core id me.0 Seen (seen TryOwnerLoad Found) at refl refl load_part (load_by (id + 1)) refl sits_here.standing
+    loaded = run_goes_on h.opened h.actions h.core s.views h.run (LoadsOwner (id + 1) ∷ []) h.core id me.0 Seen (seen TryOwnerLoad Found) at refl refl load_part (load_by (id + 1)) (load_last (id + 1) (id + 1) refl) refl sits_here.standing
 
     loaded_by : RunGoesOnBy (LoadsOwner (id + 1) ∷ []) me.0 Seen
     loaded_by =
         let opened : h.opened ≡ me.0.limits = sym (limits_stay h.opened (events_of h.actions) h.run.allowed) ∙ (ap limits (sym h.run.here) ∙ sym sits_here.limits_are) in
-        goes_on_by h.opened h.actions h.core s.views h.run (LoadsOwner (id + 1) ∷ []) h.core id me.0 Seen (seen TryOwnerLoad Found) at refl refl load_part (load_by (id + 1)) refl sits_here.standing sits_here.number opened
+        goes_on_by h.opened h.actions h.core s.views h.run (LoadsOwner (id + 1) ∷ []) h.core id me.0 Seen (seen TryOwnerLoad Found) at refl refl load_part (load_by (id + 1)) (load_last (id + 1) (id + 1) refl) refl sits_here.standing sits_here.number opened
 
     -- the rule goes on holding, and the run has gone on by this load
     pub owner_keeps : (after : Held follows suits (stepped s 1 Found id me.1 Seen keeps)) × (after.opened ≡ h.opened) × (after.actions ≡ h.actions ++ LoadsOwner (id + 1) ∷ [])

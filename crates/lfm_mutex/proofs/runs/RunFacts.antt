@@ -72,7 +72,7 @@ errand_cleared Carrier.Locker head = refl
 errand_cleared (Carrier.Reclaimer u) head = refl
 errand_cleared Carrier.Sender head = refl
 
-errand_found_posted : (pusher : Pusher) (d t : ℕ) → errand (found_posted pusher (record { seat = d; post = t })) ≡ pushes pusher
+pub errand_found_posted : (pusher : Pusher) (d t : ℕ) → errand (found_posted pusher (record { seat = d; post = t })) ≡ pushes pusher
 errand_found_posted Pusher.Locker d t = refl
 errand_found_posted (Pusher.Sender u) d t = refl
 

@@ -1,5 +1,5 @@
 -- The run of a table goes on with each step of a seat, and from call to call.
-use Rattle.std.proofs.Common.{◌≡◌, ℕ, Option, subst, sym}
+use Rattle.std.proofs.Common.{◌≡◌, ℕ, Option, refl, subst, sym}
 use Rattle.lfm_table.specs.Table.{Me}
 use Rattle.lfm_protocol.specs.declared.answers.Turn.{Turn}
 use Rattle.lfm_protocol.specs.declared.limits.Limits.{Limits}
@@ -10,11 +10,12 @@ use Rattle.lfm_table.specs.Actions.{RunGoesOn}
 use Rattle.lfm_table.specs.Steps.{Event}
 use Rattle.lfm_table.specs.Straight.{MadeStep}
 pub use Rattle.lfm_table.proofs.tables.Actions.{run_next, run_same}
-use Rattle.lfm_table.proofs.tables.Actions.{run_by}
+use Rattle.lfm_table.proofs.tables.Actions.{run_by, run_rests, step_last}
+use Rattle.lfm_mutex.specs.calls.RunGoesOn.{SameTrailsKnowTheSame}
 
 -- with one event of the seat
 pub run_stepped : {T : Type 0} {follows : ℕ → T → T → Type 0} {suits : T → ℕ → Type 0} {p p' : SeatState} {a a' : Option (Moving T)} {v w : View T} {turn : Turn} → Event follows suits p a v turn p' a' w → RunGoesOn v w
-run_stepped e = run_by e.did.root.number e.did.root.limits_are e.did.run
+run_stepped {T} {follows} {suits} {p} {p'} {a} {a'} {v} {w} {turn} e = run_by e.did.root.number e.did.root.limits_are (step_last v.number v.number v.standing p refl) e.did.run
 
 -- with a step that is made by itself
 pub run_made : {T : Type 0} {follows : ℕ → T → T → Type 0} {suits : T → ℕ → Type 0} {number words id : ℕ} {l : Limits} {p : SeatState} {n : ℕ} {m m' : Me (Option (Moving T)) (View T)} {a a' : Option (Moving T)} → MadeStep follows suits number words id l p n m a m' a'
@@ -24,3 +25,7 @@ run_made made = run_stepped made.event
 -- where the view is as it was
 pub run_stays_at : {T : Type 0} {v w : View T} → w ≡ v → RunGoesOn v w
 run_stays_at {T} {v} {w} same = subst (λ (z : View T). RunGoesOn v z) (sym same) run_same
+
+-- if the trail has not grown, the seat knows no more than before
+pub same_trails_know_the_same : (T : Type 0) → SameTrailsKnowTheSame T
+same_trails_know_the_same T s t goes same = run_rests s.place.me.0 t.place.me.0 goes same

@@ -1,9 +1,8 @@
 -- The seat's own methods at the points of a send, as equations.
-use Rattle.std.proofs.Common.{◌≡◌, ◌≢◌, ℕ, ◌+◌, ◌<◌, ◌≤◌, ◌%◌, if◌then◌else◌, nat_eq, nat_lt, sym, refl, ap, ◌∙◌, arith, tests, Option}
+use Rattle.std.proofs.Common.{◌≡◌, ◌≢◌, ℕ, ◌+◌, ◌<◌, ◌≤◌, if◌then◌else◌, nat_eq, nat_lt, sym, refl, ap, ◌∙◌, arith, tests, Option}
 use Rattle.std.specs.Prelude.{Bool, true, false}
-use Rattle.std.proofs.lemmas.Bool.{ne_eqb, eq-eqb, false≢true}
+use Rattle.std.proofs.lemmas.Bool.{ne_eqb, false≢true}
 use Rattle.lfm_model.specs.declared.refusals.Refusal.{Refusal}
-use Rattle.lfm_words.specs.declared.links.Link.{Link}
 use Rattle.lfm_words.specs.declared.pop_lists.Record.{Record}
 use Rattle.lfm_words.specs.declared.wakes.Wake.{Wake}
 use Rattle.lfm_words.specs.declared.wakes.Wake.TheVariants.{Quiet, Waiting, Claimed, Grant}
@@ -12,15 +11,14 @@ use Rattle.lfm_protocol.specs.declared.answers.Call.{Call}
 use Rattle.lfm_protocol.specs.declared.answers.Turn.TheVariants.{Ended, Refused}
 use Rattle.lfm_protocol.specs.declared.answers.Why.{Why}
 use Rattle.lfm_protocol.specs.declared.limits.Limits.{Limits}
-use Rattle.lfm_protocol.specs.declared.points.Point.{Point}
-use Rattle.lfm_protocol.specs.declared.points.Point.TheVariants.{LinkStore, PushExchange, PushLoad, PushedHandoffLoad, Rest, SendCountAdd, SendPushRecheck, SendWakeExchange, SendWakeStore}
+use Rattle.lfm_protocol.specs.declared.points.Point.TheVariants.{PushLoad, Rest, SendCountAdd, SendWakeExchange, SendWakeStore}
 use Rattle.lfm_protocol.specs.declared.points.Pusher.{Pusher}
 use Rattle.lfm_protocol.specs.declared.seats.SeatState.{SeatState}
 use Rattle.lfm_protocol.specs.After.{claims}
 use Rattle.lfm_protocol.specs.Begin as Begin
 use Rattle.lfm_protocol.specs.Begin.{Stepped}
 use Rattle.lfm_laws.specs.table.Carried.{carries_value}
-use Rattle.lfm_laws.specs.table.Words.{stepped_by, handoff_of, link_of, wake_of}
+use Rattle.lfm_laws.specs.table.Words.{stepped_by, wake_of}
 use Rattle.lfm_mutex.specs.calls.Runs.{opens}
 use Rattle.lfm_table.proofs.tables.StepFacts.{made_of}
 
@@ -69,33 +67,3 @@ count_idles t ps s n u o e = ap (λ (z : Stepped). carries_value z.seat) (counte
 
 pub granted_target : (d t ps s n u : ℕ) (o : Option Record) → stepped_by (made_of d t ps (SendWakeStore u)) s n o ≡ record { seat = made_of d t ps Rest; turn = Ended Answer.Sent }
 granted_target d t ps s n u o = refl
-
--- The push
-
-pub load_stays : (d t ps s n u : ℕ) (o : Option Record) → carries_value (stepped_by (made_of d t ps (PushLoad (Pusher.Sender u))) s n o).seat ≡ carries_value (made_of d t ps (PushLoad (Pusher.Sender u)))
-load_stays d t ps s n u o = refl
-
-pub link_stays : (d t ps s n u : ℕ) (old : Link) (o : Option Record) → carries_value (stepped_by (made_of d t ps (LinkStore (Pusher.Sender u) old)) s n o).seat ≡ carries_value (made_of d t ps (LinkStore (Pusher.Sender u) old))
-link_stays d t ps s n u old o = refl
-
-stays_if : (b : Bool) (d t ps : ℕ) (p q r : Point) → carries_value (made_of d t ps p) ≡ carries_value (made_of d t ps r) → carries_value (made_of d t ps q) ≡ carries_value (made_of d t ps r) → carries_value (made_of d t ps (if b then p else q)) ≡ carries_value (made_of d t ps r)
-stays_if true d t ps p q r first second = first
-stays_if false d t ps p q r first second = second
-
-pub push_stays : (d t ps s n u : ℕ) (old : Link) (o : Option Record) → carries_value (stepped_by (made_of d t ps (PushExchange (Pusher.Sender u) old)) s n o).seat ≡ carries_value (made_of d t ps (PushExchange (Pusher.Sender u) old))
-push_stays d t ps s n u old o = stays_if _ d t ps (PushedHandoffLoad (Pusher.Sender u)) (LinkStore (Pusher.Sender u) (link_of n)) (PushExchange (Pusher.Sender u) old) refl refl
-
-either_stays : (b : Bool) (x y : Stepped) (c : Bool) → carries_value x.seat ≡ c → carries_value y.seat ≡ c → carries_value (if b then x else y).seat ≡ c
-either_stays true x y c first second = first
-either_stays false x y c first second = second
-
-pub handoff_stays : (d t ps s n u : ℕ) (o : Option Record) → carries_value (stepped_by (made_of d t ps (PushedHandoffLoad (Pusher.Sender u))) s n o).seat ≡ carries_value (made_of d t ps (PushedHandoffLoad (Pusher.Sender u)))
-handoff_stays d t ps s n u o = either_stays (nat_eq (n % 65536) 0) _ _ _ refl refl
-
--- no handoff is posted, so the call ends
-pub sent : (d t ps s n u : ℕ) (o : Option Record) → n % 65536 ≡ 0 → stepped_by (made_of d t ps (PushedHandoffLoad (Pusher.Sender u))) s n o ≡ record { seat = made_of d t ps Rest; turn = Ended Answer.Sent }
-sent d t ps s n u o none = let h = eq-eqb (n % 65536) 0 none in rw h refl
-
--- one is posted, so the seat looks whether a record stands in the push list
-pub rechecks : (d t ps s n u : ℕ) (o : Option Record) → n % 65536 ≢ 0 → stepped_by (made_of d t ps (PushedHandoffLoad (Pusher.Sender u))) s n o ≡ opens (made_of d t ps (SendPushRecheck u (handoff_of n)))
-rechecks d t ps s n u o some = let h = ne_eqb (n % 65536) 0 some in rw h refl

@@ -1,10 +1,11 @@
 -- The seat's own methods at the points of the fast paths, as equations.
 use Rattle.std.proofs.Common.{◌≡◌, ◌≢◌, ℕ, ◌+◌, ◌-◌, ◌<◌, ◌≤◌, ◌%◌, if◌then◌else◌, nat_eq, nat_lt, sym, refl, ap, ◌∙◌, subst, arith, tests, Option}
 use Rattle.std.specs.Prelude.{Bool, true, false}
-use Rattle.std.proofs.lemmas.Bool.{ne_eqb, eq-eqb, false≢true}
+use Rattle.std.proofs.lemmas.Bool.{ne_eqb, eq-eqb, false≢true, not-true, not-false}
 use Rattle.lfm_table.specs.Table.{Me}
 use Rattle.lfm_model.specs.declared.answers.How.{How}
 use Rattle.lfm_words.specs.declared.pop_lists.Record.{Record}
+use Rattle.lfm_words.specs.Words.{is_posted_word}
 use Rattle.lfm_protocol.specs.declared.answers.Call.{Call}
 use Rattle.lfm_protocol.specs.declared.limits.Limits.{Limits}
 use Rattle.lfm_protocol.specs.declared.points.Entrant.{Entrant}
@@ -115,11 +116,11 @@ try_not_owned d t ps s n o e = let h = ne_eqb n s e in rw h refl
 pub try_idles : (t ps s n : ℕ) (o : Option Record) → n ≢ s → carries_value (stepped_by (made_of 0 t ps TryOwnerLoad) s n o).seat ≡ false
 try_idles t ps s n o e = let h = ne_eqb n s e in rw h refl
 
-pub unposted : (d t ps s n : ℕ) (o : Option Record) → n % 65536 ≡ 0 → stepped_by (made_of d t ps TryHandoffLoad) s n o ≡ record { seat = made_of d (t - 1) ps Rest; turn = Refused (Why.By Refusal.Busy) }
-unposted d t ps s n o e = let h = eq-eqb (n % 65536) 0 e in rw h refl
+pub unposted : (d t ps s n : ℕ) (o : Option Record) → is_posted_word n ≡ false → stepped_by (made_of d t ps TryHandoffLoad) s n o ≡ record { seat = made_of d (t - 1) ps Rest; turn = Refused (Why.By Refusal.Busy) }
+unposted d t ps s n o e = let h = not-false (nat_eq (n % 65536) 0) e in rw h refl
 
-pub posted : (d t ps s n : ℕ) (o : Option Record) → n % 65536 ≢ 0 → stepped_by (made_of d t ps TryHandoffLoad) s n o ≡ opens (made_of d t ps (TryHandoffExchange (handoff_of n)))
-posted d t ps s n o e = let h = ne_eqb (n % 65536) 0 e in rw h refl
+pub posted : (d t ps s n : ℕ) (o : Option Record) → is_posted_word n ≡ true → stepped_by (made_of d t ps TryHandoffLoad) s n o ≡ opens (made_of d t ps (TryHandoffExchange (handoff_of n)))
+posted d t ps s n o e = let h = not-true (nat_eq (n % 65536) 0) e in rw h refl
 
 handoff_idles_if : (b : Bool) (t ps : ℕ) (q : Point) → carries q ≡ false → carries_value (if b then busy (made_of 0 t ps TryHandoffLoad) else Begin.goes_on (made_of 0 t ps TryHandoffLoad) q).seat ≡ false
 handoff_idles_if true t ps q e = refl

@@ -21,8 +21,8 @@ use crate::mutex::Mutex;
 use crate::seat::Seat;
 use lfm_protocol::Turn;
 use lfm_protocol::kinds::Kind;
+use lfm_table::operations::make_step;
 use lfm_table::seat_memory::{add_loaded, advance, drop_oldest, gives, oldest_of, prepare, settle};
-use lfm_table::table_steps::make_step;
 use lfm_table::{Kept, SeatData, WakeUp};
 use std::marker::Brand;
 

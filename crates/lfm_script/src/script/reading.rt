@@ -119,6 +119,7 @@ pub fn read_script(alloc: Global, text: &[u8]) -> Result<Script, WorkFault>
     ensures header { IfOk result (λ s. header_allowed s.workers s.conditions ≡ true) }
     ensures lines { IfOk result (λ s. lines_allowed s.workers s.conditions s.lines.items ≡ true) }
 {
+    // `read_input` has counted line feeds too, to stop at a limit. But a text may also come from elsewhere.
     let Some(count) = count_lines(text) else {
         return Err(WorkFault::Limit);
     };

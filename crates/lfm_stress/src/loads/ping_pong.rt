@@ -1,6 +1,6 @@
-//! `ping_pong`: two threads take turns, each with a condvar of its own. In a turn a thread gains the mutex, waits until the other
-//! has had its turn, adds 1 to the number under the mutex, wakes the other, and unlocks. So before turn n of the first the
-//! number is 2 n, and before that of the second 2 n + 1.
+//! `ping_pong`: two threads take turns, each with a condvar of its own. In a turn a thread gains the mutex, waits until the
+//! other has had its turn, adds 1 to the number under the mutex, wakes the other, and unlocks. So before turn n of the first
+//! the number is 2 n, and before that of the second 2 n + 1.
 ghost use Rattle.lfm_stress.specs.Parts.{OfShared};
 
 use crate::parts::{Part, Shared, Side};

@@ -3,7 +3,7 @@
 use Rattle.std.proofs.Common.{◌≡◌, ◌≢◌, ◌⊎◌, ℕ, zero, suc, true, false, nat_eq, replicate, ◌+◌, ◌<◌, ◌≤◌, List, [], ◌∷◌, ◌++◌, length, set, sym, refl, ap, ◌∙◌, subst, ⊎_elim, inl, inr, append_assoc, append-nil, length-set, arith}
 use Rattle.std.proofs.lemmas.Bool.{cases_Bool, eq-eqb, ne_eqb}
 use Rattle.std.proofs.lemmas.List.Elements.{filter-append}
-use Rattle.std.proofs.lemmas.List.{set-get_or}
+use Rattle.std.proofs.lemmas.List.{append_cancel_left, set-get_or}
 use mathlib.Core.Option.{some, some-ne-none}
 use lib.ListN.{get_elem?}
 use Rattle.atomic_table.proofs.Lists.{at_set}
@@ -24,7 +24,7 @@ use Rattle.lfm_table.specs.declared.seat_view.Action.{Action}
 use Rattle.lfm_table.specs.declared.seat_view.Action.TheVariants.{Begins, Makes, LoadsOwner}
 use Rattle.lfm_table.specs.declared.seat_view.Seen.{Seen}
 use Rattle.lfm_table.specs.declared.seat_view.View.{View}
-use Rattle.lfm_table.specs.Actions.{seen, told, noted_as, noted, actor, own_of, events_of, after_action, if_own, noted_of, part_of, begins_of, begins_and_step, KnowsRun, HasRun, next_part, RunGoesOn, RunGoesOnBy}
+use Rattle.lfm_table.specs.Actions.{seen, told, noted_as, noted, actor, own_of, IsNotedBy, LastIsOwn, EndsWithOwn, events_of, after_action, if_own, noted_of, part_of, begins_of, begins_and_step, KnowsRun, HasRun, next_part, RunGoesOn, RunGoesOnBy}
 use Rattle.lfm_table.specs.Settled.{calls_to}
 
 -- Joins
@@ -146,6 +146,81 @@ step_by s t x p other = own_join t (begins_of s (calls_to x p)) (Makes s ∷ [])
 pub load_by : (s t : ℕ) → s ≢ t → own_of t (LoadsOwner s ∷ []) ≡ []
 load_by s t other = rw (ne_eqb s t other) refl
 
+-- The last action
+
+-- the begins and the step of a seat end with the step
+pub step_last : (s t : ℕ) (x p : SeatState) → s ≡ t → LastIsOwn t (begins_and_step s x p)
+step_last s t x p own = (begins_of s (calls_to x p), Makes s, refl, own)
+
+pub load_last : (s t : ℕ) → s ≡ t → LastIsOwn t (LoadsOwner s ∷ [])
+load_last s t own = ([], LoadsOwner s, refl, own)
+
+-- whatever comes before, the last action stays the last
+last_join : (t : ℕ) (xs ys : List Action) → LastIsOwn t ys → LastIsOwn t (xs ++ ys)
+last_join t xs ys u = (xs ++ u.0, u.1, ap (λ (d : List Action). xs ++ d) u.2 ∙ sym (append_assoc xs u.0 (u.1 ∷ [])), u.3)
+
+ends_join : (t : ℕ) (xs ys : List Action) → EndsWithOwn t xs → EndsWithOwn t ys → EndsWithOwn t (xs ++ ys)
+ends_join t xs ys first second = ⊎_elim
+    (λ (none : ys ≡ []). subst (λ (d : List Action). EndsWithOwn t d) (sym (ap (λ (d : List Action). xs ++ d) none ∙ append-nil xs)) first)
+    (λ (u : LastIsOwn t ys). inr (last_join t xs ys u))
+    second
+
+last_tail : (t : ℕ) (x : Action) (xs before : List Action) (last : Action) → x ∷ xs ≡ before ++ last ∷ [] → IsNotedBy t last → EndsWithOwn t xs
+last_tail t x xs [] last e own = let h : x ∷ xs ≡ last ∷ [] = e in let none : xs ≡ [] = cc in inl none
+last_tail t x xs (b ∷ bs) last e own = let h : x ∷ xs ≡ b ∷ (bs ++ last ∷ []) = e in let same : xs ≡ bs ++ last ∷ [] = cc in inr (bs, last, same, own)
+
+ends_tail : (t : ℕ) (x : Action) (xs : List Action) → EndsWithOwn t (x ∷ xs) → EndsWithOwn t xs
+ends_tail t x xs ends = ⊎_elim (λ (none : x ∷ xs ≡ []). absurd (let e = none in cc)) (λ (u : LastIsOwn t (x ∷ xs)). last_tail t x xs u.0 u.1 u.2 u.3) ends
+
+not_nil : {A : Type 0} (xs : List A) (x : A) → xs ++ x ∷ [] ≡ [] → ⊥
+not_nil [] x e = cc
+not_nil (y ∷ ys) x e = cc
+
+noted_by_actor : (t : ℕ) (a : Action) → IsNotedBy t a → nat_eq (actor a) t ≡ true
+noted_by_actor t (Begins s call) own = absurd own
+noted_by_actor t (Makes s) own = eq-eqb s t own
+noted_by_actor t (LoadsOwner s) own = eq-eqb s t own
+
+own_last : (t : ℕ) (before : List Action) (last : Action) → IsNotedBy t last → own_of t (before ++ last ∷ []) ≡ own_of t before ++ last ∷ []
+own_last t before last own = own_join t before (last ∷ []) ∙ ap (λ (l : List Action). own_of t before ++ l) (rw (noted_by_actor t last own) refl)
+
+-- if the last action is the seat's, or there is none, and the seat has done none of them, there is none
+none_own : (t : ℕ) (actions : List Action) → EndsWithOwn t actions → own_of t actions ≡ [] → actions ≡ []
+none_own t actions ends none = ⊎_elim
+    (λ (empty : actions ≡ []). empty)
+    (λ (u : LastIsOwn t actions). absurd (not_nil (own_of t u.0) u.1 (sym (own_last t u.0 u.1 u.3) ∙ (ap (own_of t) (sym u.2) ∙ none))))
+    ends
+
+notes_own : (c : Core) (t : ℕ) (a : Action) → IsNotedBy t a → (x : Seen) × (noted_of c t a ≡ x ∷ [])
+notes_own c t (Begins s call) own = absurd own
+notes_own c t (Makes s) own = (noted c s, rw (eq-eqb s t own) refl)
+notes_own c t (LoadsOwner s) own = (seen TryOwnerLoad c.owner, rw (eq-eqb s t own) refl)
+
+-- the same if the seat notes none of them
+none_noted : (c : Core) (t : ℕ) (actions : List Action) → EndsWithOwn t actions → part_of c t actions ≡ [] → actions ≡ []
+none_noted c t actions ends none = ⊎_elim
+    (λ (empty : actions ≡ []). empty)
+    (λ (u : LastIsOwn t actions).
+    let d = run_of c (events_of u.0) in
+    let x = notes_own d t u.1 u.3 in
+    let noted : part_of c t (u.0 ++ u.1 ∷ []) ≡ part_of c t u.0 ++ x.0 ∷ [] = part_join c t u.0 (u.1 ∷ []) ∙ ap (λ (l : List Seen). part_of c t u.0 ++ l) (append-nil (noted_of d t u.1) ∙ x.1) in
+    absurd (not_nil (part_of c t u.0) x.0 (sym noted ∙ (ap (part_of c t) (sym u.2) ∙ none))))
+    ends
+
+-- if the seat has done none of the later actions, nor any of all, it has done none of the early ones
+none_early : (t : ℕ) (early later : List Action) → own_of t later ≡ [] → own_of t (early ++ later) ≡ [] → own_of t early ≡ []
+none_early t early later none all = sym (append-nil (own_of t early)) ∙ (ap (λ (l : List Action). own_of t early ++ l) (sym none) ∙ (sym (own_join t early later) ∙ all))
+
+-- A run has one early part that ends with an action of the seat and that others alone go on with: what the seat knows is determined.
+pub known_once : (t : ℕ) (xs ys later others : List Action) → EndsWithOwn t xs → EndsWithOwn t ys → own_of t later ≡ [] → own_of t others ≡ [] → xs ++ later ≡ ys ++ others → xs ≡ ys
+known_once t [] ys later others ends ends' none none' e = sym (none_own t ys ends' (none_early t ys others none' (ap (own_of t) (sym e) ∙ none)))
+known_once t (x ∷ xs) [] later others ends ends' none none' e = none_own t (x ∷ xs) ends (none_early t (x ∷ xs) later none (ap (own_of t) e ∙ none'))
+known_once t (x ∷ xs) (y ∷ ys) later others ends ends' none none' e =
+    let h : x ∷ (xs ++ later) ≡ y ∷ (ys ++ others) = e in
+    let first : x ≡ y = cc in
+    let rest : xs ++ later ≡ ys ++ others = cc in
+    (λ i. first i ∷ known_once t xs ys later others (ends_tail t x xs ends) (ends_tail t y ys ends') none none' rest i)
+
 -- The run of a table
 
 own : (s : ℕ) (x : Seen) → if_own s s x ≡ x ∷ []
@@ -172,6 +247,7 @@ pub knows_none : (l : Limits) (actions : List Action) (t : ℕ) (early : List Ac
 knows_none l actions t early trail none no_trail no_actions = record {
   later = actions;
   goes_on = ap (λ (d : List Action). d ++ actions) (sym no_actions);
+  ends = inl no_actions;
   of_others = none;
   trail_is = no_trail ∙ ap (part_of (start l) t) (sym no_actions);
 }
@@ -191,7 +267,7 @@ SaysNothing z = (z.trail ≡ []) × (z.actions ≡ []) × (z.standing ≡ absent
 module _ {T : Type 0} (l : Limits) (actions : List Action) (c : Core) (views : List (View T)) (run : HasRun l actions c views) where
   -- the seat at place id has acted, and notes this of it
   module _ (more : List Action) (d : Core) (id : ℕ) (v w : View T) (x : Seen) (at : get_elem? views id ≡ some v) (leads : d ≡ run_of c (events_of more)) (notes : w.trail ≡ v.trail ++ x ∷ [])
-      (part : (t : ℕ) → part_of c t more ≡ if_own (id + 1) t x) (only : (t : ℕ) → id + 1 ≢ t → own_of t more ≡ []) (knows : w.actions ≡ actions ++ more) (stands : seat d.seats (id + 1) ≡ w.standing) where
+      (part : (t : ℕ) → part_of c t more ≡ if_own (id + 1) t x) (only : (t : ℕ) → id + 1 ≢ t → own_of t more ≡ []) (last : LastIsOwn (id + 1) more) (knows : w.actions ≡ actions ++ more) (stands : seat d.seats (id + 1) ≡ w.standing) where
     parts : (t : ℕ) → part_of (start l) t (actions ++ more) ≡ part_of (start l) t actions ++ if_own (id + 1) t x
     parts t = part_join (start l) t actions more ∙ (ap (λ (b : Core). part_of (start l) t actions ++ part_of b t more) (sym run.here) ∙ ap (λ (q : List Seen). part_of (start l) t actions ++ q) (part t))
 
@@ -211,11 +287,12 @@ module _ {T : Type 0} (l : Limits) (actions : List Action) (c : Core) (views : L
     own_trail : w.trail ≡ part_of (start l) (id + 1) (actions ++ more)
     own_trail = notes ∙ (ap (λ (q : List Seen). q ++ x ∷ []) (run.trails id v at) ∙ sym own_part)
 
-    -- the seat knows the run up to now
+    -- the seat knows the run up to now, which ends with what it did
     own_known : KnowsRun l (actions ++ more) (id + 1) w.actions w.trail
     own_known = record {
       later = [];
       goes_on = sym (append-nil (actions ++ more)) ∙ ap (λ (d : List Action). d ++ []) (sym knows);
+      ends = inr (subst (λ (d : List Action). LastIsOwn (id + 1) d) (sym knows) (last_join (id + 1) actions more last));
       of_others = refl;
       trail_is = own_trail ∙ ap (part_of (start l) (id + 1)) (sym knows);
     }
@@ -227,6 +304,7 @@ module _ {T : Type 0} (l : Limits) (actions : List Action) (c : Core) (views : L
     other_known t early trail other k = record {
       later = k.later ++ more;
       goes_on = ap (λ (d : List Action). d ++ more) k.goes_on ∙ append_assoc early k.later more;
+      ends = k.ends;
       of_others = still t k.later other k.of_others;
       trail_is = k.trail_is;
     }
@@ -296,7 +374,7 @@ module _ {T : Type 0} (l : Limits) (actions : List Action) (c : Core) (views : L
 -- From one view to the next
 
 pub run_same : {T : Type 0} {v : View T} → RunGoesOn v v
-run_same {T} {v} = record { number = refl; limits_are = refl; between = []; actions = sym (append-nil v.actions); trail = sym (append-nil v.trail) }
+run_same {T} {v} = record { number = refl; limits_are = refl; between = []; ends = inl refl; actions = sym (append-nil v.actions); trail = sym (append-nil v.trail) }
 
 pub run_next : {T : Type 0} {u v w : View T} → RunGoesOn u v → RunGoesOn v w → RunGoesOn u w
 run_next {T} {u} {v} {w} g h =
@@ -306,11 +384,20 @@ run_next {T} {u} {v} {w} g h =
       number = h.number ∙ g.number;
       limits_are = h.limits_are ∙ g.limits_are;
       between = g.between ++ h.between;
+      ends = ends_join u.number g.between h.between g.ends (subst (λ (t : ℕ). EndsWithOwn t h.between) g.number h.ends);
       actions = h.actions ∙ (ap (λ (d : List Action). d ++ h.between) g.actions ∙ append_assoc u.actions g.between h.between);
       trail = h.trail ∙ ((λ i. g.trail i ++ part_of (led i) (g.number i) h.between)
           ∙ (append_assoc u.trail (next_part u g.between) (part_of (run_of (reached u.limits (events_of u.actions)) (events_of g.between)) u.number h.between)
           ∙ ap (λ (q : List Seen). u.trail ++ q) (sym (part_join (reached u.limits (events_of u.actions)) u.number g.between h.between))));
     }
 
-pub run_by : {T : Type 0} {own : List Action} {v w : View T} → w.number ≡ v.number → w.limits ≡ v.limits → RunGoesOnBy own v w → RunGoesOn v w
-run_by {T} {own} {v} {w} number limits_are g = record { number = number; limits_are = limits_are; between = g.others ++ own; actions = g.actions; trail = g.trail }
+pub run_by : {T : Type 0} {own : List Action} {v w : View T} → w.number ≡ v.number → w.limits ≡ v.limits → LastIsOwn v.number own → RunGoesOnBy own v w → RunGoesOn v w
+run_by {T} {own} {v} {w} number limits_are last g =
+    record { number = number; limits_are = limits_are; between = g.others ++ own; ends = inr (last_join v.number g.others own last); actions = g.actions; trail = g.trail }
+
+-- a seat whose trail has not grown knows no more than before
+pub run_rests : {T : Type 0} (v w : View T) → RunGoesOn v w → w.trail ≡ v.trail → w.actions ≡ v.actions
+run_rests v w g same =
+    let nothing : next_part v g.between ≡ [] = append_cancel_left v.trail (next_part v g.between) [] (sym g.trail ∙ (same ∙ sym (append-nil v.trail))) in
+    let none : g.between ≡ [] = none_noted (reached v.limits (events_of v.actions)) v.number g.between g.ends nothing in
+    g.actions ∙ (ap (λ (d : List Action). v.actions ++ d) none ∙ append-nil v.actions)

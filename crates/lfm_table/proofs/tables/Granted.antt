@@ -1,14 +1,11 @@
 -- Which steps store a grant.
 use Rattle.std.proofs.Common.{◌≡◌, ◌≢◌, ℕ, sym, refl, Some, None}
-use Rattle.std.specs.Prelude.{false}
-use Rattle.std.proofs.lemmas.Bool.{false≢true}
 use Rattle.lfm_protocol.specs.declared.kinds.Kind.{Kind}
 use Rattle.lfm_protocol.specs.declared.points.Point.{Point}
 use Rattle.lfm_protocol.specs.declared.points.Point.TheVariants.{GrantWakeStore, SendWakeStore}
 use Rattle.lfm_protocol.specs.Points.{kind, target}
 use Rattle.lfm_protocol.specs.Stores.{stored_wake_at}
 use Rattle.lfm_table.specs.Grants.{granted_at, owed}
-use Rattle.lfm_table.specs.Steps.{gives_at}
 
 -- the state that is stored tells the seat that is granted
 pub owed_there : (q : Point) (s : ℕ) → owed (stored_wake_at q) (target q s) ≡ granted_at q
@@ -21,9 +18,3 @@ pub none_beside : (q : Point) (k : Kind) → kind q ≡ Some k → k ≢ Kind.Wa
 none_beside (GrantWakeStore carrier oldest) k is other = let e : Kind.WakeStore ≡ k = cc in absurd (other (sym e))
 none_beside (SendWakeStore t) k is other = let e : Kind.WakeStore ≡ k = cc in absurd (other (sym e))
 none_beside _ k is other = refl
-
--- nor does one that keeps the value
-pub none_kept : (q : Point) → gives_at q ≡ false → granted_at q ≡ None
-none_kept (GrantWakeStore carrier oldest) keeps = absurd (false≢true (sym keeps))
-none_kept (SendWakeStore t) keeps = absurd (false≢true (sym keeps))
-none_kept _ keeps = refl

@@ -46,10 +46,10 @@ use Rattle.lfm_table.specs.declared.rule.Moving.{Moving}
 use Rattle.lfm_table.specs.Reach.{IsOther, Leads, Reached}
 use Rattle.lfm_table.specs.Rule.{seen, retired, retired_at, sum_over, Roots, left_by, Sits, LeadsToValue, Awaits, NoneEnded, LeftIn, AreNumbered, SameRoot, WithSeat, Held, Hands, Knows, CollectsWithin, Advanced}
 use Rattle.lfm_table.specs.Settled.{Became, calls_to}
-use Rattle.lfm_table.specs.Actions.{HasRun, RunGoesOnBy, begins_and_step, events_of, if_own, own_of, part_of, told, told_of}
+use Rattle.lfm_table.specs.Actions.{HasRun, LastIsOwn, RunGoesOnBy, begins_and_step, events_of, if_own, own_of, part_of, told, told_of}
 use Rattle.lfm_table.specs.Steps.{stores, Ready}
 use Rattle.lfm_table.proofs.tables.CoreFacts as core
-use Rattle.lfm_table.proofs.tables.Actions.{goes_on_by, run_goes_on, step_by, step_run, step_part}
+use Rattle.lfm_table.proofs.tables.Actions.{goes_on_by, run_goes_on, step_by, step_last, step_run, step_part}
 use Rattle.lfm_table.proofs.tables.Numbered.{left_own, numbered_same, numbered_next}
 use Rattle.lfm_table.proofs.tables.SettledKept.{settles_of}
 use Rattle.lfm_table.proofs.tables.StepFacts.{release_of, released, shallow_step, no_answer, empty_depth, left_same, left_new, not_release, carrying, list_stays, told_by, told_list, became_depth}
@@ -334,6 +334,9 @@ module _ {T : Type 0} (follows : ℕ → T → T → Type 0) (suits : T → ℕ 
       only_now : (t : ℕ) → id + 1 ≢ t → own_of t actions_now ≡ []
       only_now t other = step_by num t me.0.standing p (λ e. other (sym placed ∙ e))
 
+      last_now : LastIsOwn (id + 1) actions_now
+      last_now = step_last num (id + 1) me.0.standing p placed
+
       leads_now : ts.after ≡ run_of c (events_of actions_now)
       leads_now = ts.is_made ∙ sym (step_run c num me.0.standing p is here leads_here)
 
@@ -341,13 +344,13 @@ module _ {T : Type 0} (follows : ℕ → T → T → Type 0) (suits : T → ℕ 
       stands_now = ap (λ m. seat ts.after.seats m) (sym placed) ∙ mine_after
 
       run_on : (found : Option T) → HasRun h.opened (h.actions ++ actions_now) ts.after (set s.views id (next_view found))
-      run_on found = run_goes_on h.opened h.actions c s.views h.run actions_now ts.after id me.0 (next_view found) (seen p.point (k n)) at leads_now refl part_now only_now refl stands_now
+      run_on found = run_goes_on h.opened h.actions c s.views h.run actions_now ts.after id me.0 (next_view found) (seen p.point (k n)) at leads_now refl part_now only_now last_now refl stands_now
 
       opened_is : h.opened ≡ me.0.limits
       opened_is = sym (limits_stay h.opened (events_of h.actions) h.run.allowed) ∙ (ap limits (sym h.run.here) ∙ sym sits.limits_are)
 
       runs_on : (found : Option T) → RunGoesOnBy actions_now me.0 (next_view found)
-      runs_on found = goes_on_by h.opened h.actions c s.views h.run actions_now ts.after id me.0 (next_view found) (seen p.point (k n)) at leads_now refl part_now only_now refl stands_now placed opened_is
+      runs_on found = goes_on_by h.opened h.actions c s.views h.run actions_now ts.after id me.0 (next_view found) (seen p.point (k n)) at leads_now refl part_now only_now last_now refl stands_now placed opened_is
 
       same_root : (found : Option T) → SameRoot me.0 (next_view found)
       same_root found = record { number = refl; limits_are = refl; opening = refl; made = refl; joined_are = refl }

@@ -23,10 +23,14 @@ use Rattle.lfm_table.specs.Straight.{Fit, MadeStep}
 use Rattle.lfm_table.proofs.tables.SeatKept.{made, can_make, slot_there, own_slot}
 use Rattle.lfm_table.proofs.tables.StepFacts.{keeps_value}
 
--- the kinds of step on the fast paths: none of them adds a record to the pop list
+-- the kinds of step that add no record to the pop list
 abbrev pub is_straight : Kind → Bool
 is_straight Kind.LinkLoad = false
 is_straight _ = true
+
+pub adds_none : (k : Kind) → k ≢ Kind.LinkLoad → is_straight k ≡ true
+adds_none Kind.LinkLoad other = absurd (other refl)
+adds_none _ other = refl
 
 -- of these, the kinds that neither give the value away nor take a record out of the pop list, but for the store of the owner and
 -- the subtraction from the count

@@ -1,5 +1,5 @@
-//! The calls that ask for memory. Each test whose name contains `memory` passes also if a request was refused, and then says so.
-//! A script lets each single request of these tests fail in turn.
+//! The calls that ask for memory. Each test whose name contains `memory` passes also if a request was refused, and then says
+//! so. A script lets each single request of these tests fail in turn.
 use crate::refused_memory::sees_memory;
 use lfm_script::{Command, Script, ScriptLine, WorkFault, commands_by_worker, read_script};
 use std::alloc::Global;

@@ -66,6 +66,7 @@ fn wake_twice<R: Wait>(rt: &R, shared: &Shared, mut place: Place) -> Place
 struct WakesOrWaits;
 
 impl<R: Wait> Part<R> for WakesOrWaits {
+    /// The part of this place, by its seat's number.
     fn take(&self, rt: &R, shared: &Shared, place: Place) -> Place {
         if place.seat.number().get() == 1 {
             wake_twice(rt, shared, place)

@@ -22,6 +22,7 @@ struct Readings {
 }
 
 impl Readings {
+    /// What they tell now.
     fn of(mutex: &Mutex<u64>, seat: &mut Seat<u64>, cond: &CondSeat) -> Readings
         requires { OfMutex seat.old mutex.now }
         ensures { OfMutex seat.new mutex.now }

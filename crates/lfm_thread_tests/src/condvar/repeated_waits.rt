@@ -92,8 +92,8 @@ fn wait_while_finds_its_place_in_the_list(rt: HostRuntime) -> Result<(), Fail> {
 /// How often the second thread adds 1, in a hold of its own each time.
 const ADDS: u64 = 3;
 
-/// Adds 1, tells it on the second condvar, and waits on the first one while the number is less than one more than what the other
-/// thread adds. Notes what it then finds.
+/// Adds 1, tells it on the second condvar, and waits on the first one while the number is less than one more than what the
+/// other thread adds. Notes what it then finds.
 fn wait_for_all<R: Wait>(rt: &R, shared: &Shared, mut place: Place) -> Place
     requires { OfShared place shared.now }
     ensures { OfShared result shared.now }
@@ -127,6 +127,7 @@ fn add_and_wake<R: Wait>(rt: &R, shared: &Shared, mut place: Place) -> Place
 struct WaitsOrAdds;
 
 impl<R: Wait> Part<R> for WaitsOrAdds {
+    /// The part of this place, by its seat's number.
     fn take(&self, rt: &R, shared: &Shared, place: Place) -> Place {
         if place.seat.number().get() == 1 {
             wait_for_all(rt, shared, place)

@@ -64,9 +64,11 @@ fn take_turns<R: Wait>(rt: &R, shared: &Shared, mut place: Place) -> Place
     place
 }
 
+/// Each place takes turns, on the side of its seat's number.
 struct TakesTurns;
 
 impl<R: Wait> Part<R> for TakesTurns {
+    /// All turns of this place.
     fn take(&self, rt: &R, shared: &Shared, place: Place) -> Place {
         take_turns(rt, shared, place)
     }

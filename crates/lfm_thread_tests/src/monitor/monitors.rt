@@ -114,7 +114,7 @@ fn a_journal_is_replayed(rt: HostRuntime) -> Result<(), Fail> {
     Ok(())
 }
 
-// The one entry goes to the take, so the pass may write no op, and not enter again.
+/// The one entry goes to the take, so the pass may write no op, and not enter again.
 #[test]
 fn one_entry(rt: HostRuntime) -> Result<(), Fail> {
     let steps = [

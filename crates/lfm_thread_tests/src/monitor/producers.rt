@@ -1,5 +1,5 @@
-//! Two threads put 4,000 numbers into a slot, and two take them out. A monitor with two conditions guards the slot: a thread that
-//! finds it full, or empty, waits on one of them. Each thread ends when it has moved its share.
+//! Two threads put 4,000 numbers into a slot, and two take them out. A monitor with two conditions guards the slot: a thread
+//! that finds it full, or empty, waits on one of them. Each thread ends when it has moved its share.
 use crate::monitor::slot::{Slot, SlotOp, SlotReply};
 use lfm_model::{Refusal, lawful, replay};
 use lfm_monitor::{CriticalSection, Monitor, Pass};
@@ -13,9 +13,9 @@ const NUMBERS: u64 = 4_000;
 /// How many pairs of numbers each of the four threads puts in, or takes out.
 const PAIRS: u64 = 1_000;
 
-/// How many entries of the journal a thread may write. A pair costs it two, a take and an op, and so does each wait. A wait ends
-/// by a wake, and each condition has one wake for each pair, 2,000 in all. So a thread writes at most 6,000 entries, even if it
-/// gets all the wakes of its condition. The journal has room for 1,048,576.
+/// How many entries of the journal a thread may write. A pair costs it two, a take and an op, and so does each wait. A wait
+/// ends by a wake, and each condition has one wake for each pair, 2,000 in all. So a thread writes at most 6,000 entries, even
+/// if it gets all the wakes of its condition. The journal has room for 1,048,576.
 const ENTRIES: u64 = 6_000;
 
 /// The condition of those that found the slot empty, and of those that found it full.
@@ -40,6 +40,7 @@ struct MovesPairs;
 impl<R: Wait> CriticalSection<Slot, R> for MovesPairs {
     type Answer = ControlFlow<()>;
 
+    /// Moves one pair.
     fn execute(
         &self,
         rt: &R,

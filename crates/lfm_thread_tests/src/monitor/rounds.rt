@@ -21,6 +21,7 @@ struct AddsRounds {
 impl<R: Wait> CriticalSection<Total, R> for AddsRounds {
     type Answer = ControlFlow<()>;
 
+    /// Adds the round's number, and ends the rounds at the last one.
     fn execute(
         &self,
         rt: &R,
@@ -86,7 +87,7 @@ fn section_that_breaks_off_ends_its_rounds(rt: HostRuntime) -> Result<(), Fail> 
     Ok(())
 }
 
-// The entries end at the op of round 2, after its take.
+/// The entries end at the op of round 2, after its take.
 #[test]
 fn refused_section_ends_its_rounds(rt: HostRuntime) -> Result<(), Fail> {
     let (ended, total) = rounded(&rt, rt.alloc(), 5, 100, 100)?;
@@ -94,7 +95,7 @@ fn refused_section_ends_its_rounds(rt: HostRuntime) -> Result<(), Fail> {
     Ok(())
 }
 
-// The entries end before the take of round 2.
+/// The entries end before the take of round 2.
 #[test]
 fn refused_hold_ends_the_rounds(rt: HostRuntime) -> Result<(), Fail> {
     let (ended, total) = rounded(&rt, rt.alloc(), 4, 100, 100)?;

@@ -21,6 +21,7 @@ struct Makes<'a> {
 impl<R: Wait + Abort> CriticalSection<Total, R> for Makes<'_> {
     type Answer = u64;
 
+    /// Makes the steps, each of which checks its answer.
     fn execute(
         &self,
         rt: &R,
@@ -40,6 +41,7 @@ struct AddsToSome;
 impl<R: Wait> CriticalSection<Total, R> for AddsToSome {
     type Answer = u64;
 
+    /// Reads the total, and returns early or adds.
     fn execute(
         &self,
         rt: &R,
@@ -55,8 +57,8 @@ impl<R: Wait> CriticalSection<Total, R> for AddsToSome {
     }
 }
 
-/// Enters this number of times more, and gives none of these holds up. In each it adds 1, if it is to. Answers how often the pass
-/// holds then.
+/// Enters this number of times more, and gives none of these holds up. In each it adds 1, if it is to. Answers how often the
+/// pass holds then.
 #[derive(Clone, Copy)]
 struct Deepens {
     holds: u64,
@@ -66,6 +68,7 @@ struct Deepens {
 impl<R: Wait> CriticalSection<Total, R> for Deepens {
     type Answer = u64;
 
+    /// Enters on, and leaves the holds to be given up.
     fn execute(
         &self,
         rt: &R,
@@ -85,6 +88,7 @@ struct TellsRound;
 impl<R: Wait> CriticalSection<Total, R> for TellsRound {
     type Answer = u64;
 
+    /// Reads nothing of the monitor: only the pass's depth and the round.
     fn execute(
         &self,
         rt: &R,
@@ -106,6 +110,7 @@ struct Nests {
 impl<R: Wait> CriticalSection<Total, R> for Nests {
     type Answer = u64;
 
+    /// Deepens, and holds once more within.
     fn execute(
         &self,
         rt: &R,
@@ -183,7 +188,7 @@ fn holds_that_a_section_keeps_are_given_up(rt: HostRuntime) -> Result<(), Fail> 
     executes(&rt, rt.alloc(), 4, &[], &section, Ok(4), &after)
 }
 
-// The take and two ops use the entries up, so the third op is refused, three holds deeper than the section began.
+/// The take and two ops use the entries up, so the third op is refused, three holds deeper than the section began.
 #[test]
 fn refusal_without_an_entry_gives_all_holds_up(rt: HostRuntime) -> Result<(), Fail> {
     let section = Deepens {
@@ -236,7 +241,7 @@ fn section_may_leave_by_itself(rt: HostRuntime) -> Result<(), Fail> {
     executes(&rt, rt.alloc(), 1, &[], &section, Ok(7), &[Step::Depth(0)])
 }
 
-// What the section gives up beyond its own hold isn't taken back.
+/// What the section gives up beyond its own hold isn't taken back.
 #[test]
 fn section_may_leave_the_hold_of_its_holder(rt: HostRuntime) -> Result<(), Fail> {
     let not_owner = Err(Refusal::NotOwner);
@@ -260,7 +265,7 @@ fn rounds_and_sections_inside_of_sections(rt: HostRuntime) -> Result<(), Fail> {
     executes(&rt, rt.alloc(), 1, &[], &section, Ok(2_009), &after)
 }
 
-// At the greatest depth the inner section can't be executed.
+/// At the greatest depth the inner section can't be executed.
 #[test]
 fn refused_section_inside_of_a_section(rt: HostRuntime) -> Result<(), Fail> {
     let section = Nests { holds: 65_534 };

@@ -31,6 +31,7 @@ impl Object for Slot {
 
     ghost reply = { slot_reply };
 
+    /// Puts a pair in if there is room, or takes one out if one is there.
     fn apply(&mut self, op: &SlotOp) -> SlotReply {
         match op {
             SlotOp::Put(pair) => match self.0 {

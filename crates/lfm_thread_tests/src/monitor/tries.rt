@@ -114,6 +114,7 @@ struct Roles;
 impl<R: Wait> CriticalSection<Total, R> for Roles {
     type Answer = ControlFlow<()>;
 
+    /// One round of the first pass, which is its only one, or of the second.
     fn execute(
         &self,
         rt: &R,

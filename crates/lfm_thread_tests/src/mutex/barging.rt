@@ -31,8 +31,8 @@ struct Holding {
     ended: AtomicBool,
 }
 
-/// Holds the mutex at most this many times, each time for a while, until an unlock finds a seat in the queue. Returns whether one
-/// did. The seat gains the mutex by `try_lock`, so that it never queues itself.
+/// Holds the mutex at most this many times, each time for a while, until an unlock finds a seat in the queue. Returns whether
+/// one did. The seat gains the mutex by `try_lock`, so that it never queues itself.
 fn hold_until_one_queues<R: Wait + Clock>(
     rt: &R,
     mutex: &Mutex<u64>,
@@ -58,8 +58,8 @@ fn hold_until_one_queues<R: Wait + Clock>(
     unreachable!()
 }
 
-/// Locks by `lock_barging` again and again, until the seat comes to hold from the queue or seat 1 has ended. Returns whether the seat
-/// was the first to come from the queue.
+/// Locks by `lock_barging` again and again, until the seat comes to hold from the queue or seat 1 has ended. Returns whether
+/// the seat was the first to come from the queue.
 fn barge_until_queued<R: Wait>(
     rt: &R,
     mutex: &Mutex<u64>,
@@ -112,8 +112,8 @@ fn take_parts<R: Threads + Wait + Clock + Sync>(
     thread::map_vec(rt, seats, &|seat| take_part(rt, mutex, seat, &holding))
 }
 
-/// Seat 1 holds at most this many times, and seat 2 barges at this pace. Returns whether seat 1 found a seat in the queue, and whether
-/// seat 2 came from the queue.
+/// Seat 1 holds at most this many times, and seat 2 barges at this pace. Returns whether seat 1 found a seat in the queue, and
+/// whether seat 2 came from the queue.
 fn barged<R: Threads + Wait + Clock + Sync>(
     rt: &R,
     alloc: Global,
@@ -125,7 +125,7 @@ fn barged<R: Threads + Wait + Clock + Sync>(
     Ok(came)
 }
 
-// The naps outlast the holds on any machine.
+/// The naps outlast the holds on any machine.
 #[test]
 fn seat_that_may_try_does_not_queue(rt: HostRuntime) -> Result<(), Fail> {
     let pace = Pace::new(0, 0).with_barging(12, u32::MAX);

@@ -1,5 +1,5 @@
-//! How a schedule is driven through the core's state and through a running mutex. Each line stands beside the turn that it is to
-//! end with. No test stands here.
+//! How a schedule is driven through the core's state and through a running mutex. Each line stands beside the turn that it is
+//! to end with. No test stands here.
 ghost use Rattle.std.specs.Prelude.{All};
 ghost use Rattle.lfm_core.specs.text.Grammar.{HasFewSteps};
 ghost use Rattle.lfm_mutex.specs.Belongs.{OfMutex};

@@ -36,8 +36,8 @@ fn are_back(seats: &[Seat<u64>]) -> bool {
     are_back
 }
 
-/// Four seats with this budget make this number of rounds, and are handed back in their order. Returns the value that the mutex,
-/// made round 0, is closed with.
+/// Four seats with this budget make this number of rounds, and are handed back in their order. Returns the value that the
+/// mutex, made round 0, is closed with.
 fn rounded<R: Threads + Wait + Sync, M: Round<R>>(
     rt: &R,
     alloc: Global,
@@ -67,6 +67,7 @@ fn rounded<R: Threads + Wait + Sync, M: Round<R>>(
 struct AddsOne;
 
 impl<R: Wait> Round<R> for AddsOne {
+    /// Adds 1 in a section.
     fn make(
         &self,
         rt: &R,
@@ -97,6 +98,7 @@ fn rounds_end_at_a_refusal(rt: HostRuntime) -> Result<(), Fail> {
 struct AddsNumber;
 
 impl<R: Wait> Round<R> for AddsNumber {
+    /// Adds the round's number, or is refused.
     fn make(
         &self,
         rt: &R,
@@ -111,7 +113,7 @@ impl<R: Wait> Round<R> for AddsNumber {
     }
 }
 
-// Rounds 0 to 99 of three seats, and 0 to 9 of seat 2.
+/// Rounds 0 to 99 of three seats, and 0 to 9 of seat 2.
 #[test]
 fn refusal_ends_the_rounds_of_one_seat(rt: HostRuntime) -> Result<(), Fail> {
     let total = rounded(&rt, rt.alloc(), 100, 100, &AddsNumber)?;
@@ -123,6 +125,7 @@ fn refusal_ends_the_rounds_of_one_seat(rt: HostRuntime) -> Result<(), Fail> {
 struct AddsUpTo100;
 
 impl<R: Wait> Round<R> for AddsUpTo100 {
+    /// Adds 1, or returns early from the section.
     fn make(
         &self,
         rt: &R,
@@ -155,6 +158,7 @@ struct TriesToAdd<'a> {
 }
 
 impl<R: Wait> Round<R> for TriesToAdd<'_> {
+    /// Tries, and counts how it ended.
     fn make(
         &self,
         rt: &R,
@@ -196,6 +200,7 @@ struct Meets<'a> {
 }
 
 impl<R: Wait> Round<R> for Meets<'_> {
+    /// Comes to the barrier, without the mutex.
     fn make(
         &self,
         rt: &R,

@@ -39,10 +39,12 @@ fn hold<R: Wait + Clock>(rt: &R, mutex: &Mutex<u64>, seat: &mut Seat<u64>, both:
     let _ = mutex.unlock(seat);
 }
 
+/// The processor time that this thread has used so far. None if it can't be told.
 fn busy_until_now<R: CpuClock>(rt: &R) -> Option<Duration> {
     rt.thread_cpu_time().ok()
 }
 
+/// The time now, by a clock that never goes back.
 fn time_now<R: Clock>(rt: &R) -> Duration {
     rt.monotonic().unwrap_or(Duration::ZERO)
 }

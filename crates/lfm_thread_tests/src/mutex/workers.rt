@@ -44,10 +44,12 @@ struct Worker {
 impl Holder<u64> for Worker {
     ghost seat_of = { λ w. w.seat };
 
+    /// The seat.
     fn seat(&self) -> &Seat<u64> {
         &self.seat
     }
 
+    /// The seat, without what its thread saw.
     fn into_seat(self) -> Seat<u64> {
         self.seat
     }
@@ -172,8 +174,8 @@ fn all_spent(workers: &[Worker]) -> bool {
     true
 }
 
-/// The threads of a run lock, and once more than their budget. Returns whether each was refused as Spent then, and the value that
-/// the mutex is closed with.
+/// The threads of a run lock, and once more than their budget. Returns whether each was refused as Spent then, and the value
+/// that the mutex is closed with.
 fn locked<R: Threads + Wait + Sync>(rt: &R, alloc: Global, run: Run) -> Result<(bool, u64), Fail> {
     let (mutex, seats) = paced(alloc, run.pace, run.threads, run.times).ok_or("a mutex")?;
     let workers = lock_in_threads(rt, &mutex, seats, run)?;
@@ -261,7 +263,7 @@ fn barge_beside_threads_that_lock(rt: HostRuntime) -> Result<(), Fail> {
     sees_locked(&rt, rt.alloc(), run)
 }
 
-// Seat 2 is granted the mutex in some rounds, and naps on the same word in the next.
+/// Seat 2 is granted the mutex in some rounds, and naps on the same word in the next.
 #[test]
 fn nap_after_a_grant(rt: HostRuntime) -> Result<(), Fail> {
     let run = Run {

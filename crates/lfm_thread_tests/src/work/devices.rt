@@ -79,7 +79,7 @@ fn unflushed<R: AllocGlobal + Threads + Wait + Sync>(
     (outcome, writer.bytes)
 }
 
-// No contract can say that a writer was flushed: one that holds its bytes back has them either way.
+/// No contract can say that a writer was flushed: one that holds its bytes back has them either way.
 #[test]
 fn fails_at_the_flush(rt: HostRuntime) {
     for (script, text) in written_texts() {

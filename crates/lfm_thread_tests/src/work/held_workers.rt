@@ -14,6 +14,7 @@ struct ClosedGate;
 impl Gate for ClosedGate {
     ghost stops = { λ _ worker command. (worker ≡ 1) × (command ≡ 1) };
 
+    /// Whether the worker may make the command: not worker 1 its first.
     fn before(&self, worker: u64, command: u64) -> bool {
         match (worker, command) {
             (1, 1) => false,
@@ -31,6 +32,7 @@ struct HoldingGate {
 impl Gate for HoldingGate {
     ghost stops = { λ _ worker command. (worker ≡ 2) × (command ≡ 1) };
 
+    /// Keeps worker 2 for some turns, and notes that worker 1 has come to its second command.
     fn before(&self, worker: u64, command: u64) -> bool {
         match (worker, command) {
             (1, 2) => {
@@ -62,7 +64,7 @@ fn alone_at_the_meeting(rt: HostRuntime) {
     comes_to(&rt, script, &gate, Err(WorkFault::Stuck), b"", 5);
 }
 
-// Worker 1 waits until worker 2 has added 3, so it makes no second command while worker 2 is held.
+/// Worker 1 waits until worker 2 has added 3, so it makes no second command while worker 2 is held.
 #[test]
 fn a_held_gate(rt: HostRuntime) {
     let gate = HoldingGate {

@@ -91,8 +91,8 @@ fn performing(rt: HostRuntime) {
     assert_eq!(rt; adds_until_spent(&rt), Some((done, spent, 0, Total(12))));
 }
 
-// A command whose condition is not there is refused by the call of the monitor that needs it: a wake at once, and a wait
-// after a take and a read. A wait that is over at once asks for no condition.
+/// A command whose condition is not there is refused by the call of the monitor that needs it: a wake at once, and a wait
+/// after a take and a read. A wait that is over at once asks for no condition.
 #[test]
 fn each_command_and_its_refusal(rt: HostRuntime) {
     let not_there = Performed::Refused(Refusal::NoSuchSeat);
@@ -133,7 +133,7 @@ fn in_turn<R: AllocGlobal + Wait>(
     Some((outcomes, mine, depths, total, journal.len()))
 }
 
-// Whichever comes first gives up at the meeting, so the other is stopped too: neither has made a command.
+/// Whichever comes first gives up at the meeting, so the other is stopped too: neither has made a command.
 #[test]
 fn workers_in_turn_are_stuck(rt: HostRuntime) {
     let stuck = (Performed::Stuck, Performed::Stuck);

@@ -1,7 +1,7 @@
 //! The texts of reports and of faults.
 
 use lfm_model::Refusal;
-use lfm_program::{Row, WorkFault, write_fault, write_report};
+use lfm_script::{Row, WorkFault, write_fault, write_report};
 use std::test::Fail;
 
 #[test]

@@ -3,7 +3,7 @@ ghost use Rattle.lfm_model.specs.Journals.{entry};
 ghost use Rattle.std.specs.Prelude.{◌≡◌};
 
 use lfm_model::{Entry, How, Refusal, SeatNo, TotalOp, What};
-use lfm_program::{Row, rows_of};
+use lfm_script::{Row, rows_of};
 use std::test::Fail;
 
 /// An op of this seat.

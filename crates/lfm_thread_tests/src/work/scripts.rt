@@ -61,7 +61,7 @@ fn a_worker_that_waits(rt: HostRuntime) {
     comes_to(&rt, WAITING, &OpenGate, Ok(true), WAITED, 0);
 }
 
-// Neither makes its first command before the other has come to its own: run one after another, they would be stuck.
+/// Neither makes its first command before the other has come to its own: run one after another, they would be stuck.
 #[test]
 fn a_worker_that_waits_after_a_meeting(rt: HostRuntime) {
     let gate = Meet::new(MANY_TURNS);
@@ -136,7 +136,7 @@ fn many_added(alloc: Global) -> Result<String, AllocError> {
     Ok(text)
 }
 
-// Each of 255 workers has 4,112 entries, and an add takes two of them.
+/// Each of 255 workers has 4,112 entries, and an add takes two of them.
 #[test]
 fn a_spent_worker(rt: HostRuntime) -> Result<(), Fail> {
     let script = many_adds(rt.alloc())?;

@@ -43,9 +43,9 @@ fn hold_back<T: Kept>(
     }
 }
 
-/// Sends all that wait, oldest first, up to one that doesn't wait to be sent, and counts them. The wake-up of the last seat that was
-/// granted the user mutex is handed out. Mostly it is the only one: another waiter is granted the mutex only if the mutex
-/// has been given up since, while the list is still held.
+/// Sends all that wait, oldest first, up to one that doesn't wait to be sent, and counts them. The wake-up of the last seat
+/// that was granted the user mutex is handed out. Mostly it is the only one: another waiter is granted the mutex only if the
+/// mutex has been given up since, while the list is still held.
 fn send_all<T: Kept>(
     waiters: &mut Waiters,
     mutex: &Mutex<T>,
@@ -124,8 +124,8 @@ fn send_all_in_hand<T: Kept>(
 }
 
 impl Condvar {
-    /// Sends the oldest in one hold of the inner mutex, for a user seat that is awake. The wake-up of the seat that is granted the
-    /// user mutex is handed out, so that its thread doesn't wake while the list is held.
+    /// Sends the oldest in one hold of the inner mutex, for a user seat that is awake. The wake-up of the seat that is granted
+    /// the user mutex is handed out, so that its thread doesn't wake while the list is held.
     pub(crate) fn send_oldest_in_one_hold<T: Kept, R: Wait>(
         &self,
         rt: &R,
@@ -153,8 +153,8 @@ impl Condvar {
         sent
     }
 
-    /// Sends all that wait in one hold of the inner mutex, oldest first, for a user seat that is awake. The last wake-up is handed
-    /// out.
+    /// Sends all that wait in one hold of the inner mutex, oldest first, for a user seat that is awake. The last wake-up is
+    /// handed out.
     pub(crate) fn send_all_in_one_hold<T: Kept, R: Wait>(
         &self,
         rt: &R,

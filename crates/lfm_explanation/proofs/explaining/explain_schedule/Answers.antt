@@ -10,4 +10,4 @@ returns-in_err-explain_run g c = write_failed _ _ _ _ c.from_residual-in_err-exp
 pub returns : goal.returns
 returns g c =
     let opens : c.in_ok-state.state ≡ opening (plan_of c.args.schedule.now) = search rules in
-    run_judged _ (plan_of c.args.schedule.now) c.in_ok-state.state c.deref.result.now opens c.deref.ensures.value c.in_ok-explain_run.ensures.verdict
+    run_judged _ (plan_of c.args.schedule.now) c.in_ok-state.state opens c.in_ok-explain_run.ensures.verdict

@@ -5,5 +5,5 @@ use Rattle.lfm_explanation.proofs.explaining.steps_shown.Given as goal
 -- the steps that are left lead to what all of them lead to
 abbrev pub invariant-loop : goal.invariant-loop
 invariant-loop g l = record {
-  rest : steps (l.fn.most - l.counter) l.state l.fn.s ≡ steps l.fn.most l.fn.state l.fn.s;
+  rest : steps (l.fn.most - l.counter) l.state l.fn.start.seat ≡ steps l.fn.most l.fn.state l.fn.start.seat;
 }

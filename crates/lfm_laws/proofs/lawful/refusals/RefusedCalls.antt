@@ -17,6 +17,7 @@ use Rattle.lfm_protocol.specs.Begin as Begin
 use Rattle.lfm_protocol.specs.Begin.{Stepped}
 use Rattle.lfm_protocol.specs.Core.{Core, put, limits}
 use Rattle.lfm_laws.specs.laws.Refusals.{CauseToEnter, CauseToUnlock, CauseToWait, CauseToSend, CauseToReceive, CauseToBegin, RefusedBeginsChangeNothing, BeginsAreRefusedForCause}
+use Rattle.lfm_protocol.specs.Limits.{max_depth}
 use Rattle.lfm_protocol.specs.Seats.{entry, with_entry, seat, is_seat}
 use Rattle.lfm_laws.specs.steady.Steady.{DepthAt}
 use Rattle.lfm_laws.proofs.lawful.refusals.Beginnings.{begun_awake, begun_asleep}
@@ -56,7 +57,7 @@ same_refusal a b e = cc
 pub open_refused : (refusal : Refusal) → Open ≡ Refused (By refusal) → ⊥
 open_refused refusal e = cc
 
-enter_refused : (budget : ℕ) (x : SeatState) (p : Point) (refusal : Refusal) → x.point ≡ Rest → x.depth ≤ 65535 → x.takes ≤ budget
+enter_refused : (budget : ℕ) (x : SeatState) (p : Point) (refusal : Refusal) → x.point ≡ Rest → x.depth ≤ max_depth → x.takes ≤ budget
     → (Begin.begin_entry x budget p).turn ≡ Refused (By refusal) → CauseToEnter budget x refusal
 enter_refused budget x p refusal at deep within turn =
     elim (cases_lt 65534 x.depth) [
@@ -113,7 +114,7 @@ send_refused seats t x refusal at turn =
 receive_refused : (x : SeatState) (refusal : Refusal) → x.point ≡ Rest → Refused (By Refusal.NotWaiting) ≡ Refused (By refusal) → CauseToReceive x refusal
 receive_refused x refusal at turn = let e = same_refusal Refusal.NotWaiting refusal turn in rw (sym e) at
 
-awake_refused : (c : Core) (x : SeatState) (call : Call) (refusal : Refusal) → x.point ≡ Rest → x.depth ≤ 65535 → x.takes ≤ c.budget
+awake_refused : (c : Core) (x : SeatState) (call : Call) (refusal : Refusal) → x.point ≡ Rest → x.depth ≤ max_depth → x.takes ≤ c.budget
     → (Begin.begin_awake x (limits c) call).turn ≡ Refused (By refusal) → CauseToBegin c x call refusal
 awake_refused c x Lock refusal at deep within turn = enter_refused c.budget x LockCountAdd refusal at deep within turn
 awake_refused c x TryLock refusal at deep within turn = enter_refused c.budget x TryCountExchange refusal at deep within turn

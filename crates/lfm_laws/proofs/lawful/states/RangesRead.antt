@@ -9,6 +9,7 @@ use Rattle.lfm_laws.specs.steady.Ghost.{Responsibility, owned, Standing, apart, 
 use Rattle.lfm_model.specs.Sums.{sum_to}
 use Rattle.lfm_laws.specs.laws.Ranges.{NumbersStayInRange, StepsHaveRoom}
 use Rattle.lfm_laws.specs.laws.Reading.{unit_of_recursion}
+use Rattle.lfm_protocol.specs.Limits.{max_depth}
 use Rattle.lfm_protocol.specs.Seats.{seat, IsSeat}
 use Rattle.lfm_laws.specs.steady.Steady.{StandsAt, DepthOfPusher, DepthAt, own_unit, again_unit, asking_unit, queued_unit, Fits}
 use Rattle.lfm_laws.specs.steady.Views.{claim_at}
@@ -87,11 +88,11 @@ count_most c g _ fits here = count_plain c g fits (ap again_unit here)
 
 -- The seats
 
-depth_of_pusher : (depth : ℕ) (pusher : Pusher) → DepthOfPusher depth pusher → depth ≤ 65535
+depth_of_pusher : (depth : ℕ) (pusher : Pusher) → DepthOfPusher depth pusher → depth ≤ max_depth
 depth_of_pusher depth Pusher.Locker fits = omega (arith, fits)
 depth_of_pusher depth (Pusher.Sender t) fits = fits
 
-depth_most : (depth : ℕ) (p : Point) → DepthAt depth p → depth ≤ 65535
+depth_most : (depth : ℕ) (p : Point) → DepthAt depth p → depth ≤ max_depth
 depth_most depth Rest fits = fits
 depth_most depth LockCountAdd fits = omega (arith, fits)
 depth_most depth LockOwnerLoad fits = omega (arith, fits)

@@ -9,6 +9,7 @@ use Rattle.lfm_protocol.specs.declared.points.Pusher.TheVariants as Pusher
 use Rattle.lfm_protocol.specs.Core.{Core, put}
 use Rattle.lfm_laws.specs.steady.Ghost.{owned, apart, asks, Ghost}
 use Rattle.lfm_laws.specs.steady.EventOutcome.{Kept}
+use Rattle.lfm_protocol.specs.Limits.{max_depth}
 use Rattle.lfm_protocol.specs.Seats.{seat, wake, IsSeat}
 use Rattle.lfm_laws.specs.steady.Steady.{SeatFits, Fits, own_unit, again_unit}
 use Rattle.lfm_laws.specs.steady.Views.{grant_at}
@@ -212,7 +213,7 @@ at_LockCountAdd c g s is at fits =
 
 -- The subtract of a recursive lock
 
-subtracts_own : (c : Core) (g : Ghost) (s depth takes posts : ℕ) → g.place ≡ owned s true → 0 < depth → depth < 65535
+subtracts_own : (c : Core) (g : Ghost) (s depth takes posts : ℕ) → g.place ≡ owned s true → 0 < depth → depth < max_depth
     → SeatFits c g s (record { depth = depth; takes = takes; posts = posts; point = LockCountSubtract }) (wake c.wakes s)
     → SeatFits c (record g { place = owned s false }) s (record { depth = depth + 1; takes = takes; posts = posts; point = Rest }) (wake c.wakes s)
 subtracts_own c g s depth takes posts place some most here =

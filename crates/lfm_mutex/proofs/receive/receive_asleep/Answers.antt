@@ -26,7 +26,7 @@ returns-then-found-lt-FIRST_GRANT-clause-made g c =
     let p0 = made_of 0 t ps (ReceiveWakeLoad w) in
     let begins = begins_receive s.standing s.limits w c.requires.sleeps c.requires.flat in
     let fit = fit_begun s.number s.place.table_id.words s.place.id s.limits s.place.me s.moving s.standing p0 Call.Receive (record { seated = s.seated; became = s.became; ready = s.ready; rooted = s.rooted }) begins in
-    let f = c.load_grant-found in let q = made_of 0 t ps (Asleep w) in let turn = Ended (Answer.Got None) in
+    let f = c.gain_by_grant-found in let q = made_of 0 t ps (Asleep w) in let turn = Ended (Answer.Got None) in
     let is = not_granted t ps s.number f.result (oldest_in f.new.moving) w (omega (arith, c.if-found-lt-FIRST_GRANT.true)) in
     let first = course_next g.T.Kept.follows g.T.Kept.fits s.number p0 s.moving s.place.me.0 s.place.table_id.words s.place.id s.limits p0 f.result s.place.me s.moving f.new.place.me f.new.moving f.new.place.table_id.words f.new.place.id (record { seat = q; turn = turn }) (course_none g.T.Kept.follows g.T.Kept.fits s.number p0 s.moving s.place.me.0) fit f.ensures.step is (λ e. cc) refl in
     subst (λ (x : SeatState). ComesTo g.T.Kept.follows g.T.Kept.fits c.args.mutex.now.limits Call.Receive (sight_of s.number s.standing s.place.me.0 (value_in s.moving)) (sight_of s.number x f.new.place.me.0 (value_in f.new.moving)) turn)
@@ -39,20 +39,20 @@ returns-clause-made g c =
     let p0 = made_of 0 t ps (ReceiveWakeLoad w) in
     let begins = begins_receive s.standing s.limits w c.requires.sleeps c.requires.flat in
     let fit = fit_begun s.number s.place.table_id.words s.place.id s.limits s.place.me s.moving s.standing p0 Call.Receive (record { seated = s.seated; became = s.became; ready = s.ready; rooted = s.rooted }) begins in
-    let f = c.load_grant-found in let h = c.store_wake_kept in let k = c.store_held in
+    let f = c.gain_by_grant-found in let h = c.keep in let k = c.keep_held in
     let stamp = c.stamp_in-stamp.result in let how = c.how_by-how.result in
     let p1 = made_of 0 t ps (ReceiveWakeStore stamp) in let p2 = made_of 0 t ps (EnterOwnerStore Entrant.Receiver how) in
     let is1 = granted t ps s.number f.result (oldest_in f.new.moving) w (omega (arith, c.if-found-lt-FIRST_GRANT.false)) ∙ ap (λ (x : ℕ). opens (made_of 0 t ps (ReceiveWakeStore x))) (sym c.stamp_in-stamp.ensures) in
-    let is2 = quieted t ps stamp s.number h.ensures.step.0 (oldest_in f.new.moving) ∙ ap (λ (x : How). opens (made_of 0 t ps (EnterOwnerStore Entrant.Receiver x))) (sym c.how_by-how.ensures) in
+    let is2 = quieted t ps stamp s.number h.result (oldest_in f.new.moving) ∙ ap (λ (x : How). opens (made_of 0 t ps (EnterOwnerStore Entrant.Receiver x))) (sym c.how_by-how.ensures) in
     let first = course_next g.T.Kept.follows g.T.Kept.fits s.number p0 s.moving s.place.me.0 s.place.table_id.words s.place.id s.limits p0 f.result s.place.me s.moving f.new.place.me f.new.moving f.new.place.table_id.words f.new.place.id (opens p1) (course_none g.T.Kept.follows g.T.Kept.fits s.number p0 s.moving s.place.me.0) fit f.ensures.step is1 (λ e. cc) refl in
     let fit1 = fit_after g.T.Kept.follows g.T.Kept.fits s.number f.new.place.table_id.words f.new.place.id s.limits p0 f.result s.place.me s.moving f.new.place.me f.new.moving f.ensures.step (opens p1) is1 in
-    let second = course_next g.T.Kept.follows g.T.Kept.fits s.number p0 s.moving s.place.me.0 f.new.place.table_id.words f.new.place.id s.limits p1 h.ensures.step.0 f.new.place.me f.new.moving h.new.place.me f.new.moving h.new.place.table_id.words h.new.place.id (opens p2) first fit1 h.ensures.step.1 is2 (λ e. cc) refl in
-    let fit2 = fit_after g.T.Kept.follows g.T.Kept.fits s.number h.new.place.table_id.words h.new.place.id s.limits p1 h.ensures.step.0 f.new.place.me f.new.moving h.new.place.me f.new.moving h.ensures.step.1 (opens p2) is2 in
-    let third = course_next g.T.Kept.follows g.T.Kept.fits s.number p0 s.moving s.place.me.0 h.new.place.table_id.words h.new.place.id s.limits p2 k.ensures.step.0 h.new.place.me f.new.moving k.new.place.me f.new.moving k.new.place.table_id.words k.new.place.id (stepped_by p2 s.number k.ensures.step.0 (oldest_in f.new.moving)) second fit2 k.ensures.step.1 refl (λ e. cc) refl in
+    let second = course_next g.T.Kept.follows g.T.Kept.fits s.number p0 s.moving s.place.me.0 f.new.place.table_id.words f.new.place.id s.limits p1 h.result f.new.place.me f.new.moving h.new.place.me f.new.moving h.new.place.table_id.words h.new.place.id (opens p2) first fit1 h.ensures.step is2 (λ e. cc) refl in
+    let fit2 = fit_after g.T.Kept.follows g.T.Kept.fits s.number h.new.place.table_id.words h.new.place.id s.limits p1 h.result f.new.place.me f.new.moving h.new.place.me f.new.moving h.ensures.step (opens p2) is2 in
+    let third = course_next g.T.Kept.follows g.T.Kept.fits s.number p0 s.moving s.place.me.0 h.new.place.table_id.words h.new.place.id s.limits p2 k.result h.new.place.me f.new.moving k.new.place.me f.new.moving k.new.place.table_id.words k.new.place.id (stepped_by p2 s.number k.result (oldest_in f.new.moving)) second fit2 k.ensures.step refl (λ e. cc) refl in
     comes g.T.Kept.follows g.T.Kept.fits s.number p0 s.moving s.place.me.0 s.number s.limits c.args.mutex.now.limits Call.Receive s.standing (made_of 1 t ps Rest) (Ended (Answer.Got (Some how))) f.new.moving k.new.place.me.0 c.requires.belongs.1 refl refl begins refl third
 
 pub returns-then-found-lt-FIRST_GRANT-clause-run : goal.returns-then-found-lt-FIRST_GRANT-clause-run
-returns-then-found-lt-FIRST_GRANT-clause-run g c = run_made c.load_grant-found.ensures.step
+returns-then-found-lt-FIRST_GRANT-clause-run g c = run_made c.gain_by_grant-found.ensures.step
 
 pub returns-clause-run : goal.returns-clause-run
-returns-clause-run g c = run_next (run_made c.load_grant-found.ensures.step) (run_next (run_made c.store_wake_kept.ensures.step.1) (run_made c.store_held.ensures.step.1))
+returns-clause-run g c = run_next (run_made c.gain_by_grant-found.ensures.step) (run_next (run_made c.keep.ensures.step) (run_made c.keep_held.ensures.step))

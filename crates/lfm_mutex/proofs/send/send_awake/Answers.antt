@@ -24,7 +24,7 @@ use Rattle.lfm_mutex.proofs.send.send_awake.Goals as goal
 
 pub returns-then-found-waiting-clause-made : goal.returns-then-found-waiting-clause-made
 returns-then-found-waiting-clause-made g c =
-    let s = c.args.seat.now in let d = s.standing.depth in let t = s.standing.takes in let ps = s.standing.posts in let a = s.moving in let u = c.args.target in let f = c.exchange_wake_kept-found in
+    let s = c.args.seat.now in let d = s.standing.depth in let t = s.standing.takes in let ps = s.standing.posts in let a = s.moving in let u = c.args.target in let f = c.keep-found in
     let p0 = made_of d t ps (SendWakeExchange u) in
     let begins = begins_send s.standing s.limits u c.requires.rests c.requires.above c.requires.within in
     let fit = fit_begun s.number s.place.table_id.words s.place.id s.limits s.place.me a s.standing p0 (Call.SendLock u) (record { seated = s.seated; became = s.became; ready = s.ready; rooted = s.rooted }) begins in
@@ -37,7 +37,7 @@ returns-then-found-waiting-clause-made g c =
 
 pub returns-then-found-waiting-clause-bounded : goal.returns-then-found-waiting-clause-bounded
 returns-then-found-waiting-clause-bounded g c =
-    let s = c.args.seat.now in let d = s.standing.depth in let t = s.standing.takes in let ps = s.standing.posts in let a = s.moving in let u = c.args.target in let f = c.exchange_wake_kept-found in
+    let s = c.args.seat.now in let d = s.standing.depth in let t = s.standing.takes in let ps = s.standing.posts in let a = s.moving in let u = c.args.target in let f = c.keep-found in
     let p0 = made_of d t ps (SendWakeExchange u) in
     let begins = begins_send s.standing s.limits u c.requires.rests c.requires.above c.requires.within in
     let fit = fit_begun s.number s.place.table_id.words s.place.id s.limits s.place.me a s.standing p0 (Call.SendLock u) (record { seated = s.seated; became = s.became; ready = s.ready; rooted = s.rooted }) begins in
@@ -45,12 +45,12 @@ returns-then-found-waiting-clause-bounded g c =
     spent 1 (c.args.mutex.now.limits.seats + 9) s.place.me.0.trail f.new.place.me.0.trail (omega arith) (spends_any g.T.Kept.follows g.T.Kept.fits p0 st.seat s.place.me.0 f.new.place.me.0 a a st.turn f.ensures.step.event 0)
 
 pub returns-then-found-waiting-clause-wakes : goal.returns-then-found-waiting-clause-wakes
-returns-then-found-waiting-clause-wakes g c = let s = c.args.seat.now in let f = c.exchange_wake_kept-found in
+returns-then-found-waiting-clause-wakes g c = let s = c.args.seat.now in let f = c.keep-found in
     wakes_none c.args.mutex.now.limits.seats s.place.me.0.trail f.new.place.me.0.trail (grants_none g.T.Kept.follows g.T.Kept.fits _ _ _ _ _ _ _ f.ensures.step.event refl)
 
 pub returns-then-seat-eq0-clause-made : goal.returns-then-seat-eq0-clause-made
 returns-then-seat-eq0-clause-made g c =
-    let s = c.args.seat.now in let d = s.standing.depth in let t = s.standing.takes in let ps = s.standing.posts in let a = s.moving in let u = c.args.target in let f = c.exchange_wake_kept-found in
+    let s = c.args.seat.now in let d = s.standing.depth in let t = s.standing.takes in let ps = s.standing.posts in let a = s.moving in let u = c.args.target in let f = c.keep-found in
     let p0 = made_of d t ps (SendWakeExchange u) in
     let begins = begins_send s.standing s.limits u c.requires.rests c.requires.above c.requires.within in
     let fit = fit_begun s.number s.place.table_id.words s.place.id s.limits s.place.me a s.standing p0 (Call.SendLock u) (record { seated = s.seated; became = s.became; ready = s.ready; rooted = s.rooted }) begins in
@@ -62,7 +62,7 @@ returns-then-seat-eq0-clause-made g c =
 
 pub returns-then-seat-eq0-clause-bounded : goal.returns-then-seat-eq0-clause-bounded
 returns-then-seat-eq0-clause-bounded g c =
-    let s = c.args.seat.now in let d = s.standing.depth in let t = s.standing.takes in let ps = s.standing.posts in let a = s.moving in let u = c.args.target in let f = c.exchange_wake_kept-found in
+    let s = c.args.seat.now in let d = s.standing.depth in let t = s.standing.takes in let ps = s.standing.posts in let a = s.moving in let u = c.args.target in let f = c.keep-found in
     let p0 = made_of d t ps (SendWakeExchange u) in
     let begins = begins_send s.standing s.limits u c.requires.rests c.requires.above c.requires.within in
     let fit = fit_begun s.number s.place.table_id.words s.place.id s.limits s.place.me a s.standing p0 (Call.SendLock u) (record { seated = s.seated; became = s.became; ready = s.ready; rooted = s.rooted }) begins in
@@ -73,13 +73,13 @@ returns-then-seat-eq0-clause-bounded g c =
 
 pub returns-then-seat-eq0-clause-wakes : goal.returns-then-seat-eq0-clause-wakes
 returns-then-seat-eq0-clause-wakes g c =
-    let s = c.args.seat.now in let f = c.exchange_wake_kept-found in let on = c.send_free in
+    let s = c.args.seat.now in let f = c.keep-found in let on = c.send_free in
     subst (λ (n : ℕ). Wakes n on.result.1 s.place.me.0.trail on.new.seat.place.me.0.trail) (ap (λ l. l.seats) c.requires.belongs.1)
     (wakes_after s.limits.seats on.result.1 s.place.me.0.trail f.new.place.me.0.trail on.new.seat.place.me.0.trail (grants_none g.T.Kept.follows g.T.Kept.fits _ _ _ _ _ _ _ f.ensures.step.event refl) on.ensures.wakes)
 
 pub returns-clause-made : goal.returns-clause-made
 returns-clause-made g c =
-    let s = c.args.seat.now in let d = s.standing.depth in let t = s.standing.takes in let ps = s.standing.posts in let a = s.moving in let u = c.args.target in let f = c.exchange_wake_kept-found in
+    let s = c.args.seat.now in let d = s.standing.depth in let t = s.standing.takes in let ps = s.standing.posts in let a = s.moving in let u = c.args.target in let f = c.keep-found in
     let p0 = made_of d t ps (SendWakeExchange u) in
     let begins = begins_send s.standing s.limits u c.requires.rests c.requires.above c.requires.within in
     let fit = fit_begun s.number s.place.table_id.words s.place.id s.limits s.place.me a s.standing p0 (Call.SendLock u) (record { seated = s.seated; became = s.became; ready = s.ready; rooted = s.rooted }) begins in
@@ -91,7 +91,7 @@ returns-clause-made g c =
 
 pub returns-clause-bounded : goal.returns-clause-bounded
 returns-clause-bounded g c =
-    let s = c.args.seat.now in let d = s.standing.depth in let t = s.standing.takes in let ps = s.standing.posts in let a = s.moving in let u = c.args.target in let f = c.exchange_wake_kept-found in
+    let s = c.args.seat.now in let d = s.standing.depth in let t = s.standing.takes in let ps = s.standing.posts in let a = s.moving in let u = c.args.target in let f = c.keep-found in
     let p0 = made_of d t ps (SendWakeExchange u) in
     let begins = begins_send s.standing s.limits u c.requires.rests c.requires.above c.requires.within in
     let fit = fit_begun s.number s.place.table_id.words s.place.id s.limits s.place.me a s.standing p0 (Call.SendLock u) (record { seated = s.seated; became = s.became; ready = s.ready; rooted = s.rooted }) begins in
@@ -102,15 +102,15 @@ returns-clause-bounded g c =
 
 pub returns-clause-wakes : goal.returns-clause-wakes
 returns-clause-wakes g c =
-    let s = c.args.seat.now in let f = c.exchange_wake_kept-found in let on = c.send_held in
+    let s = c.args.seat.now in let f = c.keep-found in let on = c.send_held in
     subst (λ (n : ℕ). Wakes n on.result.1 s.place.me.0.trail on.new.seat.place.me.0.trail) (ap (λ l. l.seats) c.requires.belongs.1)
     (wakes_after s.limits.seats on.result.1 s.place.me.0.trail f.new.place.me.0.trail on.new.seat.place.me.0.trail (grants_none g.T.Kept.follows g.T.Kept.fits _ _ _ _ _ _ _ f.ensures.step.event refl) on.ensures.wakes)
 
 pub returns-then-found-waiting-clause-run : goal.returns-then-found-waiting-clause-run
-returns-then-found-waiting-clause-run g c = run_made c.exchange_wake_kept-found.ensures.step
+returns-then-found-waiting-clause-run g c = run_made c.keep-found.ensures.step
 
 pub returns-then-seat-eq0-clause-run : goal.returns-then-seat-eq0-clause-run
-returns-then-seat-eq0-clause-run g c = run_next (run_made c.exchange_wake_kept-found.ensures.step) c.send_free.ensures.made.ran.run
+returns-then-seat-eq0-clause-run g c = run_next (run_made c.keep-found.ensures.step) c.send_free.ensures.made.ran.run
 
 pub returns-clause-run : goal.returns-clause-run
-returns-clause-run g c = run_next (run_made c.exchange_wake_kept-found.ensures.step) c.send_held.ensures.made.ran.run
+returns-clause-run g c = run_next (run_made c.keep-found.ensures.step) c.send_held.ensures.made.ran.run

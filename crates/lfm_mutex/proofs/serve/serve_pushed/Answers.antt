@@ -18,7 +18,7 @@ use Rattle.lfm_mutex.proofs.serve.serve_pushed.Goals as goal
 pub returns-then-next-eq0-clause-made : goal.returns-then-next-eq0-clause-made
 returns-then-next-eq0-clause-made g c =
     let s = c.args.seat.now in let t = s.standing.takes in let ps = s.standing.posts in let a = s.moving in
-    let h = c.clear_head_held-push in let u = c.unpack_link-next in
+    let h = c.keep_held-push in let u = c.unpack_link-next in
     let p0 = made_of 0 t ps (TakeClearHead (Carrier.Releaser c.args.releaser)) in
     let at : s.standing ≡ p0 = (λ i. record { depth = c.requires.flat i; takes = t; posts = ps; point = c.requires.stands i }) in
     let fit0 = subst (λ (x : SeatState). Fit s.number s.place.table_id.words s.place.id s.limits x s.place.me a) at (record { seated = s.seated; became = s.became; ready = s.ready; rooted = s.rooted }) in
@@ -30,11 +30,11 @@ returns-then-next-eq0-clause-made g c =
 pub returns-then-link-ne0-clause-made : goal.returns-then-link-ne0-clause-made
 returns-then-link-ne0-clause-made g c =
     let s = c.args.seat.now in let t = s.standing.takes in let ps = s.standing.posts in let a = s.moving in
-    let h = c.clear_head_held-push in let u = c.unpack_link-next in
+    let h = c.keep_held-push in let u = c.unpack_link-next in
     let p0 = made_of 0 t ps (TakeClearHead (Carrier.Releaser c.args.releaser)) in
     let at : s.standing ≡ p0 = (λ i. record { depth = c.requires.flat i; takes = t; posts = ps; point = c.requires.stands i }) in
     let fit0 = subst (λ (x : SeatState). Fit s.number s.place.table_id.words s.place.id s.limits x s.place.me a) at (record { seated = s.seated; became = s.became; ready = s.ready; rooted = s.rooted }) in
-    let w = c.load_link_held-word in let v = c.unpack_link-link in
+    let w = c.collect-word in let v = c.unpack_link-link in
     let p1 = made_of 0 t ps (TakeLinkLoad (Carrier.Releaser c.args.releaser) u.result.next) in
     let to1 = cleared_some c.args.releaser 0 t ps s.number h.result (oldest_in a) (λ e. c.if-next-eq0.false (ap (λ (z : Link). z.next) u.ensures.holds ∙ e)) ∙ ap (λ (z : Link). opens (made_of 0 t ps (TakeLinkLoad (Carrier.Releaser c.args.releaser) z.next))) (sym u.ensures.holds) in
     let so0 = course_next g.T.Kept.follows g.T.Kept.fits s.number p0 a s.place.me.0 s.place.table_id.words s.place.id s.limits p0 h.result s.place.me a h.new.place.me a h.new.place.table_id.words h.new.place.id (opens p1) (course_none g.T.Kept.follows g.T.Kept.fits s.number p0 a s.place.me.0) fit0 h.ensures.step to1 (λ e. cc) refl in
@@ -47,11 +47,11 @@ returns-then-link-ne0-clause-made g c =
 pub returns-clause-made : goal.returns-clause-made
 returns-clause-made g c =
     let s = c.args.seat.now in let t = s.standing.takes in let ps = s.standing.posts in let a = s.moving in
-    let h = c.clear_head_held-push in let u = c.unpack_link-next in
+    let h = c.keep_held-push in let u = c.unpack_link-next in
     let p0 = made_of 0 t ps (TakeClearHead (Carrier.Releaser c.args.releaser)) in
     let at : s.standing ≡ p0 = (λ i. record { depth = c.requires.flat i; takes = t; posts = ps; point = c.requires.stands i }) in
     let fit0 = subst (λ (x : SeatState). Fit s.number s.place.table_id.words s.place.id s.limits x s.place.me a) at (record { seated = s.seated; became = s.became; ready = s.ready; rooted = s.rooted }) in
-    let w = c.load_link_held-word in let v = c.unpack_link-link in
+    let w = c.collect-word in let v = c.unpack_link-link in
     let p1 = made_of 0 t ps (TakeLinkLoad (Carrier.Releaser c.args.releaser) u.result.next) in
     let to1 = cleared_some c.args.releaser 0 t ps s.number h.result (oldest_in a) (λ e. c.if-next-eq0.false (ap (λ (z : Link). z.next) u.ensures.holds ∙ e)) ∙ ap (λ (z : Link). opens (made_of 0 t ps (TakeLinkLoad (Carrier.Releaser c.args.releaser) z.next))) (sym u.ensures.holds) in
     let rec : Record = record { seat = u.result.next; stamp = v.result.stamp } in
@@ -64,15 +64,15 @@ returns-clause-made g c =
 
 pub returns-then-next-eq0-clause-wakes : goal.returns-then-next-eq0-clause-wakes
 returns-then-next-eq0-clause-wakes g c =
-    let s = c.args.seat.now in let h = c.clear_head_held-push in let on = c.release_on in
+    let s = c.args.seat.now in let h = c.keep_held-push in let on = c.release_on in
     wakes_after s.limits.seats on.result.1 s.place.me.0.trail h.new.place.me.0.trail on.new.seat.place.me.0.trail (grants_none g.T.Kept.follows g.T.Kept.fits _ _ _ _ _ _ _ h.ensures.step.event refl) on.ensures.wakes
 
 pub returns-then-link-ne0-clause-wakes : goal.returns-then-link-ne0-clause-wakes
 returns-then-link-ne0-clause-wakes g c =
-    let s = c.args.seat.now in let h = c.clear_head_held-push in let w = c.load_link_held-word in let on = c.release_on-then-link-ne0 in
+    let s = c.args.seat.now in let h = c.keep_held-push in let w = c.collect-word in let on = c.release_on-then-link-ne0 in
     wakes_after s.limits.seats on.result.1 s.place.me.0.trail w.new.place.me.0.trail on.new.seat.place.me.0.trail (grants_none g.T.Kept.follows g.T.Kept.fits _ _ _ _ _ _ _ w.ensures.step.event refl ∙ grants_none g.T.Kept.follows g.T.Kept.fits _ _ _ _ _ _ _ h.ensures.step.event refl) on.ensures.wakes
 
 pub returns-clause-wakes : goal.returns-clause-wakes
 returns-clause-wakes g c =
-    let s = c.args.seat.now in let h = c.clear_head_held-push in let w = c.load_link_held-word in let on = c.grant in
+    let s = c.args.seat.now in let h = c.keep_held-push in let w = c.collect-word in let on = c.grant in
     wakes_after s.limits.seats on.result.1 s.place.me.0.trail w.new.place.me.0.trail on.new.seat.place.me.0.trail (grants_none g.T.Kept.follows g.T.Kept.fits _ _ _ _ _ _ _ w.ensures.step.event refl ∙ grants_none g.T.Kept.follows g.T.Kept.fits _ _ _ _ _ _ _ h.ensures.step.event refl) on.ensures.wakes

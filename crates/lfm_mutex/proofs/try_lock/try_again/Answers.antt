@@ -25,11 +25,11 @@ returns-then-found-eq0-clause-made g c =
     let p0 = made_of d t ps TryCountExchange in
     let begins = begins_try_again s.standing s.limits c.requires.rests c.requires.held c.requires.room in
     let fit = fit_begun s.number s.place.table_id.words s.place.id s.limits s.place.me s.moving s.standing p0 Call.TryLock (record { seated = s.seated; became = s.became; ready = s.ready; rooted = s.rooted }) begins in
-    let f = c.exchange_held-found in
+    let f = c.keep_held-found in
     let q = made_of d t ps (EnterOwnerStore Entrant.Trier How.Free) in let r = c.try_on.new.seat in
     let first = course_next g.T.Kept.follows g.T.Kept.fits s.number p0 s.moving s.place.me.0 s.place.table_id.words s.place.id s.limits p0 f.result s.place.me s.moving f.new.place.me s.moving f.new.place.table_id.words f.new.place.id (opens q) (course_none g.T.Kept.follows g.T.Kept.fits s.number p0 s.moving s.place.me.0) fit f.ensures.step (exchanged_none d t ps s.number f.result (oldest_in s.moving) c.if-found-eq0.true) (λ e. cc) refl in
     let last = course_join g.T.Kept.follows g.T.Kept.fits s.number p0 s.moving s.place.me.0 q r.standing s.moving r.moving f.new.place.me.0 r.place.me.0 (try_turn c.try_on.result) first
-    (subst (λ (x : SeatState). Course g.T.Kept.follows g.T.Kept.fits s.number x s.moving f.new.place.me.0 (try_turn c.try_on.result) r.standing r.moving r.place.me.0) c.stand_entering.ensures c.try_on.ensures.made) in
+    (subst (λ (x : SeatState). Course g.T.Kept.follows g.T.Kept.fits s.number x s.moving f.new.place.me.0 (try_turn c.try_on.result) r.standing r.moving r.place.me.0) c.stop_at.ensures c.try_on.ensures.made) in
     comes g.T.Kept.follows g.T.Kept.fits s.number p0 s.moving s.place.me.0 r.number s.limits c.args.mutex.now.limits Call.TryLock s.standing r.standing (try_turn c.try_on.result) r.moving r.place.me.0 c.requires.belongs.1 c.try_on.ensures.same.0 refl begins c.try_on.ensures.ends last
 
 pub returns-clause-made : goal.returns-clause-made
@@ -38,8 +38,8 @@ returns-clause-made g c =
     let p0 = made_of d t ps TryCountExchange in
     let begins = begins_try_again s.standing s.limits c.requires.rests c.requires.held c.requires.room in
     let fit = fit_begun s.number s.place.table_id.words s.place.id s.limits s.place.me s.moving s.standing p0 Call.TryLock (record { seated = s.seated; became = s.became; ready = s.ready; rooted = s.rooted }) begins in
-    let f = c.exchange_held-found in
-    let h = c.load_held-owner in
+    let f = c.keep_held-found in
+    let h = c.keep_held-owner in
     let p1 = made_of d t ps TryOwnerLoad in
     let is1 = exchanged_some d t ps s.number f.result (oldest_in s.moving) c.if-found-eq0.false in
     let is2 = try_owned d t ps s.number h.result (oldest_in s.moving) c.if-owner-number.false in
@@ -51,7 +51,7 @@ returns-clause-made g c =
     (comes g.T.Kept.follows g.T.Kept.fits s.number p0 s.moving s.place.me.0 s.number s.limits c.args.mutex.now.limits Call.TryLock s.standing (made_of (d + 1) t ps Rest) (Ended (Answer.Locked (Locked.Again (d + 1)))) s.moving h.new.place.me.0 c.requires.belongs.1 refl refl begins refl last)
 
 pub returns-then-found-eq0-clause-run : goal.returns-then-found-eq0-clause-run
-returns-then-found-eq0-clause-run g c = run_next (run_made c.exchange_held-found.ensures.step) c.try_on.ensures.made.ran.run
+returns-then-found-eq0-clause-run g c = run_next (run_made c.keep_held-found.ensures.step) c.try_on.ensures.made.ran.run
 
 pub returns-clause-run : goal.returns-clause-run
-returns-clause-run g c = run_next (run_made c.exchange_held-found.ensures.step) (run_made c.load_held-owner.ensures.step)
+returns-clause-run g c = run_next (run_made c.keep_held-found.ensures.step) (run_made c.keep_held-owner.ensures.step)

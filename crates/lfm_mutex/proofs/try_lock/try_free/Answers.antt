@@ -1,4 +1,4 @@
-use Rattle.std.proofs.Common.{◌-◌, ◌≡◌, ℕ, ◌+◌, ◌<◌, refl, sym, ap, subst, ◌∙◌, arith, None}
+use Rattle.std.proofs.Common.{◌-◌, ◌≡◌, ℕ, ◌+◌, ◌<◌, refl, sym, ap, subst, ◌∙◌, arith}
 use Rattle.lfm_model.specs.declared.answers.Locked.{Locked}
 use Rattle.lfm_model.specs.declared.refusals.Refusal.{Refusal}
 use Rattle.lfm_model.specs.declared.answers.How.{How}
@@ -30,24 +30,24 @@ returns-then-found-eq0-clause-made g c =
     let p0 = made_of 0 t ps TryCountExchange in
     let begins = begins_try_free s.standing s.limits c.requires.rests c.requires.flat (subst (λ (b : ℕ). s.standing.takes < b) c.requires.budget c.requires.charged) in
     let fit = fit_begun s.number s.place.table_id.words s.place.id s.limits s.place.me s.moving s.standing p0 Call.TryLock (record { seated = s.seated; became = s.became; ready = s.ready; rooted = s.rooted }) begins in
-    let f = c.exchange_free-found in
-    let h = c.store_held in let q = made_of 0 t ps (EnterOwnerStore Entrant.Trier How.Free) in
+    let f = c.gain-found in
+    let h = c.keep_held in let q = made_of 0 t ps (EnterOwnerStore Entrant.Trier How.Free) in
     let is = exchanged_none 0 t ps s.number f.result (oldest_in f.new.moving) c.if-found-eq0.true in
     let first = course_next g.T.Kept.follows g.T.Kept.fits s.number p0 s.moving s.place.me.0 s.place.table_id.words s.place.id s.limits p0 f.result s.place.me s.moving f.new.place.me f.new.moving f.new.place.table_id.words f.new.place.id (opens q) (course_none g.T.Kept.follows g.T.Kept.fits s.number p0 s.moving s.place.me.0) fit f.ensures.step is (λ e. cc) refl in
     let between = fit_after g.T.Kept.follows g.T.Kept.fits s.number f.new.place.table_id.words f.new.place.id s.limits p0 f.result s.place.me s.moving f.new.place.me f.new.moving f.ensures.step (opens q) is in
-    let last = course_next g.T.Kept.follows g.T.Kept.fits s.number p0 s.moving s.place.me.0 f.new.place.table_id.words f.new.place.id s.limits q h.ensures.step.0 f.new.place.me f.new.moving h.new.place.me f.new.moving h.new.place.table_id.words h.new.place.id (stepped_by q s.number h.ensures.step.0 (oldest_in f.new.moving)) first between h.ensures.step.1 refl (λ e. cc) refl in
+    let last = course_next g.T.Kept.follows g.T.Kept.fits s.number p0 s.moving s.place.me.0 f.new.place.table_id.words f.new.place.id s.limits q h.result f.new.place.me f.new.moving h.new.place.me f.new.moving h.new.place.table_id.words h.new.place.id (stepped_by q s.number h.result (oldest_in f.new.moving)) first between h.ensures.step refl (λ e. cc) refl in
     subst (λ (x : SeatState). ComesTo g.T.Kept.follows g.T.Kept.fits c.args.mutex.now.limits Call.TryLock (sight_of s.number s.standing s.place.me.0 (value_in s.moving)) (sight_of s.number x h.new.place.me.0 (value_in f.new.moving)) (Ended (Answer.Locked (Locked.Held How.Free))))
     (λ i. record { depth = 1; takes = t; posts = ps; point = sym c.requires.rests i })
     (comes g.T.Kept.follows g.T.Kept.fits s.number p0 s.moving s.place.me.0 s.number s.limits c.args.mutex.now.limits Call.TryLock s.standing (made_of 1 t ps Rest) (Ended (Answer.Locked (Locked.Held How.Free))) f.new.moving h.new.place.me.0 c.requires.belongs.1 refl refl begins refl last)
 
-pub returns-then-handoff-ne0-clause-made : goal.returns-then-handoff-ne0-clause-made
-returns-then-handoff-ne0-clause-made g c =
+pub returns-then-is_posted_in-clause-made : goal.returns-then-is_posted_in-clause-made
+returns-then-is_posted_in-clause-made g c =
     let s = c.args.seat.now in let t = s.standing.takes + 1 in let ps = s.standing.posts in
     let p0 = made_of 0 t ps TryCountExchange in
     let begins = begins_try_free s.standing s.limits c.requires.rests c.requires.flat (subst (λ (b : ℕ). s.standing.takes < b) c.requires.budget c.requires.charged) in
     let fit = fit_begun s.number s.place.table_id.words s.place.id s.limits s.place.me s.moving s.standing p0 Call.TryLock (record { seated = s.seated; became = s.became; ready = s.ready; rooted = s.rooted }) begins in
-    let f = c.exchange_free-found in
-    let h = c.load_free in let k = c.load_handoff_kept-handoff in
+    let f = c.gain-found in
+    let h = c.load_other_owner in let k = c.keep-handoff in
     let p1 = made_of 0 t ps TryOwnerLoad in let p2 = made_of 0 t ps TryHandoffLoad in
     let is1 = exchanged_some 0 t ps s.number f.result (oldest_in f.new.moving) c.if-found-eq0.false in
     let is2 = try_not_owned 0 t ps s.number h.result (oldest_in f.new.moving) h.ensures.other in
@@ -56,9 +56,9 @@ returns-then-handoff-ne0-clause-made g c =
     let second = course_next g.T.Kept.follows g.T.Kept.fits s.number p0 s.moving s.place.me.0 f.new.place.table_id.words f.new.place.id s.limits p1 h.result f.new.place.me f.new.moving h.new.place.me f.new.moving h.new.place.table_id.words h.new.place.id (opens p2) first fit1 h.ensures.step is2 (λ e. cc) refl in
     let fit2 = fit_after g.T.Kept.follows g.T.Kept.fits s.number h.new.place.table_id.words h.new.place.id s.limits p1 h.result f.new.place.me f.new.moving h.new.place.me f.new.moving h.ensures.step (opens p2) is2 in
     let q = made_of 0 t ps (TryHandoffExchange (handoff_of k.result)) in let r = c.try_on.new.seat in
-    let is3 = posted 0 t ps s.number k.result (oldest_in f.new.moving) c.if-handoff-ne0.true in
+    let is3 = posted 0 t ps s.number k.result (oldest_in f.new.moving) (sym c.is_posted_in.ensures ∙ c.if-is_posted_in.true) in
     let third = course_next g.T.Kept.follows g.T.Kept.fits s.number p0 s.moving s.place.me.0 h.new.place.table_id.words h.new.place.id s.limits p2 k.result h.new.place.me f.new.moving k.new.place.me f.new.moving k.new.place.table_id.words k.new.place.id (opens q) second fit2 k.ensures.step is3 (λ e. cc) refl in
-    let at : c.stand_exchanging.new.standing ≡ q = c.stand_exchanging.ensures ∙ ap (λ (z : Stepped). z.seat) (posted 0 t ps s.number k.result None c.if-handoff-ne0.true) in
+    let at : c.stop_at.new.standing ≡ q = c.stop_at.ensures ∙ (λ i. record { depth = c.requires.flat i; takes = t; posts = ps; point = TryHandoffExchange (c.unpack_handoff.ensures.holds i) }) in
     let last = course_join g.T.Kept.follows g.T.Kept.fits s.number p0 s.moving s.place.me.0 q r.standing f.new.moving r.moving k.new.place.me.0 r.place.me.0 (try_turn c.try_on.result) third
     (subst (λ (x : SeatState). Course g.T.Kept.follows g.T.Kept.fits s.number x f.new.moving k.new.place.me.0 (try_turn c.try_on.result) r.standing r.moving r.place.me.0) at c.try_on.ensures.made) in
     comes g.T.Kept.follows g.T.Kept.fits s.number p0 s.moving s.place.me.0 r.number s.limits c.args.mutex.now.limits Call.TryLock s.standing r.standing (try_turn c.try_on.result) r.moving r.place.me.0 c.requires.belongs.1 c.try_on.ensures.same.0 refl begins c.try_on.ensures.ends last
@@ -69,8 +69,8 @@ returns-clause-made g c =
     let p0 = made_of 0 t ps TryCountExchange in
     let begins = begins_try_free s.standing s.limits c.requires.rests c.requires.flat (subst (λ (b : ℕ). s.standing.takes < b) c.requires.budget c.requires.charged) in
     let fit = fit_begun s.number s.place.table_id.words s.place.id s.limits s.place.me s.moving s.standing p0 Call.TryLock (record { seated = s.seated; became = s.became; ready = s.ready; rooted = s.rooted }) begins in
-    let f = c.exchange_free-found in
-    let h = c.load_free in let k = c.load_handoff_kept-handoff in
+    let f = c.gain-found in
+    let h = c.load_other_owner in let k = c.keep-handoff in
     let p1 = made_of 0 t ps TryOwnerLoad in let p2 = made_of 0 t ps TryHandoffLoad in
     let is1 = exchanged_some 0 t ps s.number f.result (oldest_in f.new.moving) c.if-found-eq0.false in
     let is2 = try_not_owned 0 t ps s.number h.result (oldest_in f.new.moving) h.ensures.other in
@@ -78,7 +78,7 @@ returns-clause-made g c =
     let fit1 = fit_after g.T.Kept.follows g.T.Kept.fits s.number f.new.place.table_id.words f.new.place.id s.limits p0 f.result s.place.me s.moving f.new.place.me f.new.moving f.ensures.step (opens p1) is1 in
     let second = course_next g.T.Kept.follows g.T.Kept.fits s.number p0 s.moving s.place.me.0 f.new.place.table_id.words f.new.place.id s.limits p1 h.result f.new.place.me f.new.moving h.new.place.me f.new.moving h.new.place.table_id.words h.new.place.id (opens p2) first fit1 h.ensures.step is2 (λ e. cc) refl in
     let fit2 = fit_after g.T.Kept.follows g.T.Kept.fits s.number h.new.place.table_id.words h.new.place.id s.limits p1 h.result f.new.place.me f.new.moving h.new.place.me f.new.moving h.ensures.step (opens p2) is2 in
-    let is3 = unposted 0 t ps s.number k.result (oldest_in f.new.moving) c.if-handoff-ne0.false in
+    let is3 = unposted 0 t ps s.number k.result (oldest_in f.new.moving) (sym c.is_posted_in.ensures ∙ c.if-is_posted_in.false) in
     let back : t - 1 ≡ s.standing.takes = omega arith in
     let q = made_of 0 (t - 1) ps Rest in let turn = Refused (Why.By Refusal.Busy) in
     let third = course_next g.T.Kept.follows g.T.Kept.fits s.number p0 s.moving s.place.me.0 h.new.place.table_id.words h.new.place.id s.limits p2 k.result h.new.place.me f.new.moving k.new.place.me f.new.moving k.new.place.table_id.words k.new.place.id (record { seat = q; turn = turn }) second fit2 k.ensures.step is3 (λ e. cc) refl in
@@ -86,20 +86,20 @@ returns-clause-made g c =
     (λ i. record { depth = sym c.requires.flat i; takes = back i; posts = ps; point = sym c.requires.rests i })
     (comes g.T.Kept.follows g.T.Kept.fits s.number p0 s.moving s.place.me.0 s.number s.limits c.args.mutex.now.limits Call.TryLock s.standing q turn f.new.moving k.new.place.me.0 c.requires.belongs.1 refl refl begins refl third)
 
-pub invariant_of-seat-then-handoff-ne0 : goal.invariant_of-seat-then-handoff-ne0
-invariant_of-seat-then-handoff-ne0 g c =
+pub invariant_of-seat-then-is_posted_in : goal.invariant_of-seat-then-is_posted_in
+invariant_of-seat-then-is_posted_in g c =
     let s = c.args.seat.now in let t = s.standing.takes + 1 in let ps = s.standing.posts in
-    let f = c.exchange_free-found in let k = c.load_handoff_kept-handoff in
+    let f = c.gain-found in let k = c.keep-handoff in
     let q = made_of 0 t ps (TryHandoffExchange (handoff_of k.result)) in
-    let at : c.stand_exchanging.new.standing ≡ q = c.stand_exchanging.ensures ∙ ap (λ (z : Stepped). z.seat) (posted 0 t ps s.number k.result None c.if-handoff-ne0.true) in
-    let fit = subst (λ (x : SeatState). Fit s.number k.new.place.table_id.words k.new.place.id s.limits x k.new.place.me f.new.moving) (ap (λ (z : Stepped). z.seat) (posted 0 t ps s.number k.result (oldest_in f.new.moving) c.if-handoff-ne0.true) ∙ sym at) k.ensures.step.fit in
+    let at : c.stop_at.new.standing ≡ q = c.stop_at.ensures ∙ (λ i. record { depth = c.requires.flat i; takes = t; posts = ps; point = TryHandoffExchange (c.unpack_handoff.ensures.holds i) }) in
+    let fit = subst (λ (x : SeatState). Fit s.number k.new.place.table_id.words k.new.place.id s.limits x k.new.place.me f.new.moving) (ap (λ (z : Stepped). z.seat) (posted 0 t ps s.number k.result (oldest_in f.new.moving) (sym c.is_posted_in.ensures ∙ c.if-is_posted_in.true)) ∙ sym at) k.ensures.step.fit in
     record { seated = fit.seated; became = fit.became; ready = fit.ready; rooted = fit.rooted }
 
 pub returns-then-found-eq0-clause-run : goal.returns-then-found-eq0-clause-run
-returns-then-found-eq0-clause-run g c = run_next (run_made c.exchange_free-found.ensures.step) (run_made c.store_held.ensures.step.1)
+returns-then-found-eq0-clause-run g c = run_next (run_made c.gain-found.ensures.step) (run_made c.keep_held.ensures.step)
 
-pub returns-then-handoff-ne0-clause-run : goal.returns-then-handoff-ne0-clause-run
-returns-then-handoff-ne0-clause-run g c = run_next (run_made c.exchange_free-found.ensures.step) (run_next (run_made c.load_free.ensures.step) (run_next (run_made c.load_handoff_kept-handoff.ensures.step) c.try_on.ensures.made.ran.run))
+pub returns-then-is_posted_in-clause-run : goal.returns-then-is_posted_in-clause-run
+returns-then-is_posted_in-clause-run g c = run_next (run_made c.gain-found.ensures.step) (run_next (run_made c.load_other_owner.ensures.step) (run_next (run_made c.keep-handoff.ensures.step) c.try_on.ensures.made.ran.run))
 
 pub returns-clause-run : goal.returns-clause-run
-returns-clause-run g c = run_next (run_made c.exchange_free-found.ensures.step) (run_next (run_made c.load_free.ensures.step) (run_made c.load_handoff_kept-handoff.ensures.step))
+returns-clause-run g c = run_next (run_made c.gain-found.ensures.step) (run_next (run_made c.load_other_owner.ensures.step) (run_made c.keep-handoff.ensures.step))

@@ -28,8 +28,8 @@ use Rattle.lfm_table.proofs.tables.Actions.{run_next}
 use Rattle.lfm_mutex.proofs.runs.RunGoesOn.{run_made}
 use Rattle.lfm_mutex.proofs.unlock.unlock_last.Goals as goal
 
-pub store_held-requires-clause-leaves : goal.store_held-requires-clause-leaves
-store_held-requires-clause-leaves g c κs within = let s = c.args.seat.now in
+pub keep_held-requires-clause-leaves : goal.keep_held-requires-clause-leaves
+keep_held-requires-clause-leaves g c κs within = let s = c.args.seat.now in
     λ r at. may_leave g.T.Kept.follows g.T.Kept.fits s.number s.standing s.place.me.0 s.moving s.seated.named (let one = c.requires.one in omega (arith, one)) c.requires.leaves
 
 pub returns-then-found-ne1-clause-made : goal.returns-then-found-ne1-clause-made
@@ -38,17 +38,17 @@ returns-then-found-ne1-clause-made g c =
     let p0 = made_of 1 t ps (ReleaseOwnerStore Unlocker) in let p1 = made_of 0 t ps (ReleaseCountSubtract Unlocker) in
     let begins = begins_last s.standing s.limits c.requires.rests c.requires.one in
     let fit = fit_begun s.number s.place.table_id.words s.place.id s.limits s.place.me s.moving s.standing p0 Call.Unlock (record { seated = s.seated; became = s.became; ready = s.ready; rooted = s.rooted }) begins in
-    let h = c.store_held in let f = c.subtract_last-found in
+    let h = c.keep_held in let f = c.retake-found in
     let b = f.new.place in
     let st = stepped_by p1 s.number f.result (oldest_in f.new.moving) in
     let e : Event g.T.Kept.follows g.T.Kept.fits p1 s.moving h.new.place.me.0 st.turn st.seat f.new.moving b.me.0 = f.ensures.step.event in
-    let fit1 : Fit s.number h.new.place.table_id.words h.new.place.id s.limits p1 h.new.place.me s.moving = h.ensures.step.1.fit in
+    let fit1 : Fit s.number h.new.place.table_id.words h.new.place.id s.limits p1 h.new.place.me s.moving = h.ensures.step.fit in
     let r = c.serve.new.seat in let turn = Ended (Answer.Unlocked c.serve.result.0) in
     let q = made_of 0 t ps (take (Carrier.Releaser Unlocker) 0 (oldest_in f.new.moving)) in
     let same : c.stand_serving.new.standing ≡ q = c.stand_serving.ensures in
     let so = course_next g.T.Kept.follows g.T.Kept.fits s.number p1 s.moving h.new.place.me.0 h.new.place.table_id.words h.new.place.id s.limits p1 f.result h.new.place.me s.moving b.me f.new.moving b.table_id.words b.id (opens q)
     (course_none g.T.Kept.follows g.T.Kept.fits s.number p1 s.moving h.new.place.me.0) fit1 f.ensures.step (not_freed Unlocker 0 t ps s.number f.result (oldest_in f.new.moving) c.if-found-ne1.true) (λ e. cc) refl in
-    gives_up g.T.Kept.follows g.T.Kept.fits s.number s.place.table_id.words s.place.id h.new.place.table_id.words h.new.place.id r.number h.ensures.step.0 s.limits p0 p1 s.place.me h.new.place.me s.moving fit Unlocker refl h.ensures.step.1 refl Call.Unlock c.args.mutex.now.limits s.standing r.standing turn r.moving r.place.me.0 refl c.requires.belongs.1 c.serve.ensures.same.0 begins refl
+    gives_up g.T.Kept.follows g.T.Kept.fits s.number s.place.table_id.words s.place.id h.new.place.table_id.words h.new.place.id r.number h.result s.limits p0 p1 s.place.me h.new.place.me s.moving fit Unlocker refl h.ensures.step refl Call.Unlock c.args.mutex.now.limits s.standing r.standing turn r.moving r.place.me.0 refl c.requires.belongs.1 c.serve.ensures.same.0 begins refl
     (course_join g.T.Kept.follows g.T.Kept.fits s.number p1 s.moving h.new.place.me.0 q r.standing f.new.moving r.moving b.me.0 r.place.me.0 turn so
     (subst (λ (x : SeatState). Course g.T.Kept.follows g.T.Kept.fits s.number x f.new.moving b.me.0 turn r.standing r.moving r.place.me.0) same c.serve.ensures.made))
 
@@ -58,28 +58,28 @@ returns-clause-made g c =
     let p0 = made_of 1 t ps (ReleaseOwnerStore Unlocker) in let p1 = made_of 0 t ps (ReleaseCountSubtract Unlocker) in
     let begins = begins_last s.standing s.limits c.requires.rests c.requires.one in
     let fit = fit_begun s.number s.place.table_id.words s.place.id s.limits s.place.me s.moving s.standing p0 Call.Unlock (record { seated = s.seated; became = s.became; ready = s.ready; rooted = s.rooted }) begins in
-    let h = c.store_held in let f = c.subtract_last-found in
+    let h = c.keep_held in let f = c.retake-found in
     let b = f.new.place in
     let st = stepped_by p1 s.number f.result (oldest_in f.new.moving) in
     let e : Event g.T.Kept.follows g.T.Kept.fits p1 s.moving h.new.place.me.0 st.turn st.seat f.new.moving b.me.0 = f.ensures.step.event in
-    let fit1 : Fit s.number h.new.place.table_id.words h.new.place.id s.limits p1 h.new.place.me s.moving = h.ensures.step.1.fit in
+    let fit1 : Fit s.number h.new.place.table_id.words h.new.place.id s.limits p1 h.new.place.me s.moving = h.ensures.step.fit in
     let turn = Ended (Answer.Unlocked Unlocked.Free) in
     let so = course_next g.T.Kept.follows g.T.Kept.fits s.number p1 s.moving h.new.place.me.0 h.new.place.table_id.words h.new.place.id s.limits p1 f.result h.new.place.me s.moving b.me f.new.moving b.table_id.words b.id
     (record { seat = made_of 0 t ps Rest; turn = turn })
     (course_none g.T.Kept.follows g.T.Kept.fits s.number p1 s.moving h.new.place.me.0) fit1 f.ensures.step (freed Unlocker 0 t ps s.number f.result (oldest_in f.new.moving) c.if-found-ne1.false) (λ e. cc) refl in
     subst (λ (x : SeatState). ComesTo g.T.Kept.follows g.T.Kept.fits c.args.mutex.now.limits Call.Unlock (sight_of s.number s.standing s.place.me.0 (value_in s.moving)) (sight_of s.number x b.me.0 (value_in f.new.moving)) turn)
     (λ i. record { depth = 0; takes = t; posts = ps; point = sym c.requires.rests i })
-    (gives_up g.T.Kept.follows g.T.Kept.fits s.number s.place.table_id.words s.place.id h.new.place.table_id.words h.new.place.id s.number h.ensures.step.0 s.limits p0 p1 s.place.me h.new.place.me s.moving fit Unlocker refl h.ensures.step.1 refl Call.Unlock c.args.mutex.now.limits s.standing (made_of 0 t ps Rest) turn f.new.moving b.me.0 refl c.requires.belongs.1 refl begins refl so)
+    (gives_up g.T.Kept.follows g.T.Kept.fits s.number s.place.table_id.words s.place.id h.new.place.table_id.words h.new.place.id s.number h.result s.limits p0 p1 s.place.me h.new.place.me s.moving fit Unlocker refl h.ensures.step refl Call.Unlock c.args.mutex.now.limits s.standing (made_of 0 t ps Rest) turn f.new.moving b.me.0 refl c.requires.belongs.1 refl begins refl so)
 
 pub returns-then-found-ne1-clause-bounded : goal.returns-then-found-ne1-clause-bounded
 returns-then-found-ne1-clause-bounded g c =
     let s = c.args.seat.now in let t = s.standing.takes in let ps = s.standing.posts in
     let p0 = made_of 1 t ps (ReleaseOwnerStore Unlocker) in let p1 = made_of 0 t ps (ReleaseCountSubtract Unlocker) in
-    let h = c.store_held in let f = c.subtract_last-found in let b = f.new.place in let r = c.serve.new.seat in
+    let h = c.keep_held in let f = c.retake-found in let b = f.new.place in let r = c.serve.new.seat in
     let st = stepped_by p1 s.number f.result (oldest_in f.new.moving) in
-    let first = stepped_by p0 s.number h.ensures.step.0 (oldest_in s.moving) in
-    let fit1 : Fit s.number h.new.place.table_id.words h.new.place.id s.limits p1 h.new.place.me s.moving = h.ensures.step.1.fit in
-    let one = trail_grows g.T.Kept.follows g.T.Kept.fits p0 first.seat s.place.me.0 h.new.place.me.0 s.moving s.moving first.turn h.ensures.step.1.event in
+    let first = stepped_by p0 s.number h.result (oldest_in s.moving) in
+    let fit1 : Fit s.number h.new.place.table_id.words h.new.place.id s.limits p1 h.new.place.me s.moving = h.ensures.step.fit in
+    let one = trail_grows g.T.Kept.follows g.T.Kept.fits p0 first.seat s.place.me.0 h.new.place.me.0 s.moving s.moving first.turn h.ensures.step.event in
     let most = bounded_more g.T.Kept.follows g.T.Kept.fits s.limits.seats s.number p1 st.seat h.new.place.me.0 b.me.0 s.moving f.new.moving st.turn (λ e. cc) (ap (λ l. l.seats) fit1.seated.limits_are) fit1.ready f.ensures.step.event in
     let then = subst (λ (x : SeatState). length r.place.me.0.trail ≤ length b.me.0.trail + weight s.limits.seats (length b.me.0.popped) x.point) (c.stand_serving.ensures ∙ ap (λ (z : Stepped). z.seat) (sym (not_freed Unlocker 0 t ps s.number f.result (oldest_in f.new.moving) c.if-found-ne1.true))) c.serve.ensures.bounded in
     let same = ap (λ l. l.seats) c.requires.belongs.1 in
@@ -89,34 +89,34 @@ pub returns-clause-bounded : goal.returns-clause-bounded
 returns-clause-bounded g c =
     let s = c.args.seat.now in let t = s.standing.takes in let ps = s.standing.posts in
     let p0 = made_of 1 t ps (ReleaseOwnerStore Unlocker) in let p1 = made_of 0 t ps (ReleaseCountSubtract Unlocker) in
-    let h = c.store_held in let f = c.subtract_last-found in
-    let first = stepped_by p0 s.number h.ensures.step.0 (oldest_in s.moving) in
+    let h = c.keep_held in let f = c.retake-found in
+    let first = stepped_by p0 s.number h.result (oldest_in s.moving) in
     let st = stepped_by p1 s.number f.result (oldest_in f.new.moving) in
-    let one = trail_grows g.T.Kept.follows g.T.Kept.fits p0 first.seat s.place.me.0 h.new.place.me.0 s.moving s.moving first.turn h.ensures.step.1.event in
+    let one = trail_grows g.T.Kept.follows g.T.Kept.fits p0 first.seat s.place.me.0 h.new.place.me.0 s.moving s.moving first.turn h.ensures.step.event in
     let two = trail_grows g.T.Kept.follows g.T.Kept.fits p1 st.seat h.new.place.me.0 f.new.place.me.0 s.moving f.new.moving st.turn f.ensures.step.event in
     omega (arith, one, two)
 
 pub invariant_of-seat-else-found-ne1 : goal.invariant_of-seat-else-found-ne1
 invariant_of-seat-else-found-ne1 g c =
     let s = c.args.seat.now in let t = s.standing.takes in let ps = s.standing.posts in
-    let f = c.subtract_last-found in let b = f.new.place in
+    let f = c.retake-found in let b = f.new.place in
     let fit = subst (λ (x : SeatState). Fit s.number b.table_id.words b.id s.limits x b.me f.new.moving)
     (ap (λ (z : Stepped). z.seat) (freed Unlocker 0 t ps s.number f.result (oldest_in f.new.moving) c.if-found-ne1.false) ∙ (λ i. record { depth = 0; takes = t; posts = ps; point = sym c.requires.rests i })) f.ensures.step.fit in
     record { seated = fit.seated; became = fit.became; ready = fit.ready; rooted = fit.rooted }
 
 pub returns-then-found-ne1-clause-wakes : goal.returns-then-found-ne1-clause-wakes
 returns-then-found-ne1-clause-wakes g c =
-    let s = c.args.seat.now in let h = c.store_held in let f = c.subtract_last-found in let on = c.serve in
+    let s = c.args.seat.now in let h = c.keep_held in let f = c.retake-found in let on = c.serve in
     subst (λ (n : ℕ). Wakes n on.result.1 s.place.me.0.trail on.new.seat.place.me.0.trail) (ap (λ l. l.seats) c.requires.belongs.1)
-    (wakes_after s.limits.seats on.result.1 s.place.me.0.trail f.new.place.me.0.trail on.new.seat.place.me.0.trail (grants_none g.T.Kept.follows g.T.Kept.fits _ _ _ _ _ _ _ f.ensures.step.event refl ∙ grants_none g.T.Kept.follows g.T.Kept.fits _ _ _ _ _ _ _ h.ensures.step.1.event refl) on.ensures.wakes)
+    (wakes_after s.limits.seats on.result.1 s.place.me.0.trail f.new.place.me.0.trail on.new.seat.place.me.0.trail (grants_none g.T.Kept.follows g.T.Kept.fits _ _ _ _ _ _ _ f.ensures.step.event refl ∙ grants_none g.T.Kept.follows g.T.Kept.fits _ _ _ _ _ _ _ h.ensures.step.event refl) on.ensures.wakes)
 
 pub returns-clause-wakes : goal.returns-clause-wakes
 returns-clause-wakes g c =
-    let s = c.args.seat.now in let h = c.store_held in let f = c.subtract_last-found in
-    wakes_none c.args.mutex.now.limits.seats s.place.me.0.trail f.new.place.me.0.trail (grants_none g.T.Kept.follows g.T.Kept.fits _ _ _ _ _ _ _ f.ensures.step.event refl ∙ grants_none g.T.Kept.follows g.T.Kept.fits _ _ _ _ _ _ _ h.ensures.step.1.event refl)
+    let s = c.args.seat.now in let h = c.keep_held in let f = c.retake-found in
+    wakes_none c.args.mutex.now.limits.seats s.place.me.0.trail f.new.place.me.0.trail (grants_none g.T.Kept.follows g.T.Kept.fits _ _ _ _ _ _ _ f.ensures.step.event refl ∙ grants_none g.T.Kept.follows g.T.Kept.fits _ _ _ _ _ _ _ h.ensures.step.event refl)
 
 pub returns-then-found-ne1-clause-run : goal.returns-then-found-ne1-clause-run
-returns-then-found-ne1-clause-run g c = run_next (run_made c.store_held.ensures.step.1) (run_next (run_made c.subtract_last-found.ensures.step) c.serve.ensures.made.ran.run)
+returns-then-found-ne1-clause-run g c = run_next (run_made c.keep_held.ensures.step) (run_next (run_made c.retake-found.ensures.step) c.serve.ensures.made.ran.run)
 
 pub returns-clause-run : goal.returns-clause-run
-returns-clause-run g c = run_next (run_made c.store_held.ensures.step.1) (run_made c.subtract_last-found.ensures.step)
+returns-clause-run g c = run_next (run_made c.keep_held.ensures.step) (run_made c.retake-found.ensures.step)

@@ -16,12 +16,12 @@ reading-preserved g c =
     let before = c.reading.input.items in
     let given = c.read_once.new.buffer in
     record {
-      taken = taken_more _ _ _ before given _ _ c.in-Ok.count (omega (arith, c.in-Ok.ensures.bound)) c.reading.invariant.taken c.in-Ok.ensures.bytes.0 c.append_reserved.ensures.items;
+      taken = taken_more _ _ _ before given _ _ c.in_ok-count.count (omega (arith, c.in_ok-count.ensures.bound)) c.reading.invariant.taken c.in_ok-count.ensures.bytes.0 c.append_reserved.ensures.items;
       most = grind (arith, common_steps);
-      first = none_after_first before given _ _ c.in-Ok.count (sym (c.reading-test.ensures ∙ ap is_past_limit c.deref.ensures.value)) (omega (arith, c.in-Ok.ensures.bound)) (grind (arith, common_steps)) (grind (arith, common_steps)) (grind (arith, common_steps)) c.append_reserved.ensures.items;
+      first = none_after_first before given _ _ c.in_ok-count.count (sym (c.reading-test.ensures ∙ ap is_past_limit c.deref.ensures.value)) (omega (arith, c.in_ok-count.ensures.bound)) (grind (arith, common_steps)) (grind (arith, common_steps)) (grind (arith, common_steps)) c.append_reserved.ensures.items;
       counted = omega (arith, line_feeds_after before _ _ c.append_reserved.ensures.items);
       room = omega (arith, c.append_reserved.ensures.room);
     }
 
-pub returns-in-Err-clause-ok : goal.returns-in-Err-clause-ok
-returns-in-Err-clause-ok g c = search rules
+pub returns-in_err-count-clause-ok : goal.returns-in_err-count-clause-ok
+returns-in_err-count-clause-ok g c = search rules

@@ -24,5 +24,9 @@ returns-clause-seats c = let m = c.in-Ok-new.ensures.seats in let v = c.in-Ok-em
 pub returns-clause-belongs : goal.returns-clause-belongs
 returns-clause-belongs c = λ j s at. ((returns-clause-seats c).1.2 j s at).0
 
+-- and knows nothing of a run
+pub returns-clause-past : goal.returns-clause-past
+returns-clause-past c = λ j s at. c.in-Ok-new.ensures.past j s.seat (c.as_cond_seats-cond_seats.ensures.wraps j s at)
+
 pub returns-clause-memory : goal.returns-clause-memory
 returns-clause-memory c allowed = tt

@@ -17,15 +17,16 @@ write_line-requires g c =
 
 pub returns-in_err-write_line-clause-text : goal.returns-in_err-write_line-clause-text
 returns-in_err-write_line-clause-text g c =
+    let numbered = c.line_number.ensures (omega (arith, c.running-test.true, c.requires.few)) in
     c.running.invariant.finishes _ _
     (line_failed c.running.index c.running.state _ _ _ _ c.running-test.true c.follow-turn.ensures.core c.follow-turn.ensures.turn _ _ _ _
-    c.in_err-write_line.ensures.text c.from_residual.ensures.1)
+    (rw numbered at c.in_err-write_line.ensures.text) c.from_residual.ensures.1)
 
 pub running-preserved : goal.running-preserved
-running-preserved g c = record {
+running-preserved g c = let numbered = c.line_number.ensures (omega (arith, c.running-test.true, c.requires.few)) in record {
   finishes = λ new r rest. c.running.invariant.finishes new r
       (line_written c.running.index c.running.state _ _ _ _ c.running-test.true c.follow-turn.ensures.core c.follow-turn.ensures.turn _ _ _ _
-      c.in_ok-write_line.ensures.text rest);
+      (rw numbered at c.in_ok-write_line.ensures.text) rest);
   verdict = verdict_next c.running.index c.running.state _ _ _ _ c.running-test.true c.follow-turn.ensures.core c.follow-turn.ensures.turn _ _ c.is_refused.ensures
       ∙ c.running.invariant.verdict;
   capacity =

@@ -1,11 +1,11 @@
-use Rattle.std.proofs.Common.{sym, ap, ◌∙◌, arith, [], ◌∷◌, append-nil}
+use Rattle.std.proofs.Common.{refl, sym, ap, ◌∙◌, arith, [], ◌∷◌, append-nil}
 use Rattle.lfm_protocol.specs.declared.points.Point.TheVariants.{TryOwnerLoad}
 use Rattle.lfm_table.specs.Rule.{seen, value_in}
 use Rattle.lfm_mutex.proofs.runs.WakeUps.{grants_join}
 use Rattle.lfm_mutex.proofs.ends.Seats.{reads_owner, depth_seen}
 use Rattle.lfm_mutex.proofs.runs.Sights.{owner_read_sight, owner_told}
 use Rattle.lfm_mutex.specs.calls.WakeUps.{grants_of}
-use Rattle.lfm_table.proofs.tables.Actions.{run_by}
+use Rattle.lfm_table.proofs.tables.Actions.{load_last, run_by}
 use Rattle.lfm_mutex.proofs.mutex.Mutex.owner.Goals as goal
 
 pub read_owner-found-requires-clause-allowed : goal.read_owner-found-requires-clause-allowed
@@ -23,4 +23,5 @@ returns-clause-woken g c = let s = c.args.seat.now in let told = c.read_owner-fo
     ([], sym (append-nil s.woken.seats), ap (λ m. grants_of m.0.trail) told.0 ∙ grants_join s.place.me.0.trail (seen TryOwnerLoad c.read_owner-found.result ∷ []))
 
 pub returns-clause-run : goal.returns-clause-run
-returns-clause-run g c = let told = c.read_owner-found.ensures.read in run_by (ap (λ m. m.0.number) told.0) (ap (λ m. m.0.limits) told.0) told.4
+returns-clause-run g c = let s = c.args.seat.now in let told = c.read_owner-found.ensures.read in
+    run_by (ap (λ m. m.0.number) told.0) (ap (λ m. m.0.limits) told.0) (load_last s.place.me.0.number s.place.me.0.number refl) told.4

@@ -1,12 +1,12 @@
 use Rattle.std.proofs.Common.{arith}
 use Rattle.lfm_stress.proofs.Moving.{captures, closure_sync}
-use Rattle.lfm_stress.proofs.buffer.Buffer.TheSendSync as BufferSend
-use Rattle.lfm_stress.proofs.buffer.BufferOp.TheSendSync as BufferOpSend
+use Rattle.lfm_buffer.proofs.Buffer.TheSendSync as BufferSend
+use Rattle.lfm_buffer.proofs.BufferOp.TheSendSync as BufferOpSend
 use Rattle.lfm_stress.proofs.loads.buffer.move_all.Goals as goal
-use Rattle.lfm_stress.specs.contracts.buffer.Buffer as Buffer
-use Rattle.lfm_stress.specs.contracts.buffer.BufferObject.TheImpl as BufferObject
-use Rattle.lfm_stress.specs.contracts.buffer.BufferOp as BufferOp
-use Rattle.lfm_stress.specs.contracts.buffer.BufferReply as BufferReply
+use Rattle.lfm_buffer.specs.contracts.Buffer as Buffer
+use Rattle.lfm_buffer.specs.contracts.BufferObject.TheImpl as BufferObject
+use Rattle.lfm_buffer.specs.contracts.BufferOp as BufferOp
+use Rattle.lfm_buffer.specs.contracts.BufferReply as BufferReply
 use Rattle.lfm_monitor.proofs.Moving.{pass_send}
 use Rattle.std.specs.Prelude.{codes}
 use denote.Exit.{no}

@@ -35,13 +35,13 @@ pub starting-preserved : goal.starting-preserved
 starting-preserved g c = let i = c.starting.invariant in let steps = c.in-Some.ensures.steps in
     let more : length c.push_reserved.new.self.items ≡ length c.starting.workers.items + 1 = search rules in
     let fewer : length (into_iter_items c.starting.job-iterator) ≡ length (into_iter_items c.next.new.self) + 1 = search rules in
-    let has : HasJob g.K.Task c.captures.task.now c.captures.at_line.now.start.id c.in-Some.job c.match-started.worker = elim c.match-started.branch [
-      | in-Ok w ↦ subst (HasJob g.K.Task c.captures.task.now c.captures.at_line.now.start.id c.in-Some.job) (sym w.worker-is) (
-        ap (λ p. p.line.value.start.id) w.in-Ok.ensures.ok ∙ ap (λ l. l.start.id) c.of.ensures,
+    let has : HasJob g.K.Task c.captures.task.now c.captures.at_latch.now.start.id c.in-Some.job c.match-started.worker = elim c.match-started.branch [
+      | in-Ok w ↦ subst (HasJob g.K.Task c.captures.task.now c.captures.at_latch.now.start.id c.in-Some.job) (sym w.worker-is) (
+        ap (λ p. p.latch.value.start.id) w.in-Ok.ensures.ok ∙ ap (λ l. l.start.id) c.of.ensures,
         ap (λ p. p.job.value) w.in-Ok.ensures.ok ∙ c.of-in-starting.ensures,
         ap (λ p. p.task.value) w.in-Ok.ensures.ok ∙ c.of-in-starting-2.ensures,
       )
-      | in-Err w ↦ subst (HasJob g.K.Task c.captures.task.now c.captures.at_line.now.start.id c.in-Some.job) (sym w.worker-is)
+      | in-Err w ↦ subst (HasJob g.K.Task c.captures.task.now c.captures.at_latch.now.start.id c.in-Some.job) (sym w.worker-is)
           (subst (λ v. Arrives (g.K.Task.gives v.3.now) v.1.now.start.id v.2 w.spawn_with.result) w.in-Err.ensures.err w.spawn_with.ensures)
     ] in record {
       long = (let a = i.long in let b = steps.1 in omega arith);
@@ -51,10 +51,10 @@ starting-preserved g c = let i = c.starting.invariant in let steps = c.in-Some.e
       given = each_more _ _ _ _ c.push_reserved.ensures.items i.given (c.in-Some.job, first_comes _ _ _ _ _ steps.0 i.rest, has);
     }
 
--- every job has been given, at the starting line of this decision
-given : (g : _) (c : goal.In-None g) (line : ℕ) (task : _) → line ≡ c.captures.at_line.now.start.id → task ≡ c.captures.task.now
-    → AllHaveJobs g.K.Task task line c.of-all_jobs.result.value.items c.starting.workers.items
-given g c line task at is = subst (λ t. AllHaveJobs g.K.Task t line c.of-all_jobs.result.value.items c.starting.workers.items) (sym is)
+-- every job has been given, at the start latch of this decision
+given : (g : _) (c : goal.In-None g) (latch : ℕ) (task : _) → latch ≡ c.captures.at_latch.now.start.id → task ≡ c.captures.task.now
+    → AllHaveJobs g.K.Task task latch c.of-all_jobs.result.value.items c.starting.workers.items
+given g c latch task at is = subst (λ t. AllHaveJobs g.K.Task t latch c.of-all_jobs.result.value.items c.starting.workers.items) (sym is)
     (subst (λ l. AllHaveJobs g.K.Task c.captures.task.now l c.of-all_jobs.result.value.items c.starting.workers.items) (sym at) c.starting.invariant.given)
 
 -- as many as there are jobs

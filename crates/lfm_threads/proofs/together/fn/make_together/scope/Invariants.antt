@@ -12,5 +12,5 @@ invariant-starting g l = record {
   size : length l.workers.items + length (into_iter_items l.job-iterator) ≡ length l.all_jobs.value.items;
   room : length l.all_jobs.value.items ≤ vec_capacity l.workers;
   rest : (i : ℕ) (p : _) → get_elem? (into_iter_items l.job-iterator) i ≡ some p → get_elem? l.all_jobs.value.items (length l.workers.items + i) ≡ some p;
-  given : AllHaveJobs g.K.Task l.task l.at_line.start.id l.all_jobs.value.items l.workers.items;
+  given : AllHaveJobs g.K.Task l.task l.at_latch.start.id l.all_jobs.value.items l.workers.items;
 }

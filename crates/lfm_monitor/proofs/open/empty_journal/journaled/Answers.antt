@@ -1,5 +1,0 @@
-use Rattle.std.proofs.Common.{rules}
-use Rattle.lfm_monitor.proofs.open.empty_journal.journaled.Goals as goal
-
-pub invariant_of-result : goal.invariant_of-result
-invariant_of-result g c = search rules

@@ -1,0 +1,13 @@
+use Rattle.std.proofs.Common.{◌≢◌, refl, sym, ap, ◌∙◌, arith}
+use Rattle.lfm_protocol.specs.declared.kinds.Kind.{Kind}
+use Rattle.lfm_table.proofs.tables.StraightSteps.{drops_by, gives_by, idled}
+use Rattle.lfm_table.proofs.steps.load_other_owner.Goals as goal
+
+pub returns-clause-other : goal.returns-clause-other
+returns-clause-other g c = let f = c.operate in
+    λ z. let deep = (f.ensures.step.owner c.requires.is_next).0 (z ∙ sym c.requires.fit.seated.named) in let flat = c.requires.flat in absurd (omega (arith, deep, flat))
+
+pub returns-clause-step : goal.returns-clause-step
+returns-clause-step g c = let f = c.operate in
+    let other : f.result ≢ c.args.seat.now.number = (λ z. let deep = (f.ensures.step.owner c.requires.is_next).0 (z ∙ sym c.requires.fit.seated.named) in let flat = c.requires.flat in absurd (omega (arith, deep, flat))) in
+    idled g.T.Kept.follows g.T.Kept.fits c.args.seat.now.number c.args.place.now.table_id.words c.args.place.now.id c.args.seat.now.limits c.args.seat.now.standing c.args.place.now.me c.args.moving.now c.requires.fit Kind.OwnerLoad c.requires.is_next refl (drops_by c.args.seat.now.standing.point Kind.OwnerLoad c.requires.is_next refl (λ e. cc)) (gives_by c.args.seat.now.standing.point Kind.OwnerLoad c.requires.is_next refl (λ e. cc)) f.result f.new.place.me f.ensures.step f.new.place.table_id.words f.new.place.id (ap (λ t. t.words) f.ensures.table.0) f.ensures.table.1 c.requires.free (c.requires.idles f.result other)

@@ -1,5 +1,0 @@
-use Rattle.lfm_table.specs.Rule.{value_in}
-use Rattle.lfm_table.proofs.straight_steps.subtract_held.Given as goal
-
-abbrev pub ghosts-subtract_count : goal.ghosts-subtract_count
-ghosts-subtract_count g a = record { standing = a.seat.now.standing; hand = value_in a.hand.now }

@@ -1,6 +1,6 @@
-//! `lock_barging`: `lock` of a seat that tries before it queues. Such a seat makes no claim while it tries: each try that fails
-//! gives its charge back and leaves the seat as it was. From the push on the order of the queue holds, as it does for `lock`.
-//! Linux's mutex spins so before it queues (optimistic spinning), and parking_lot and absl do so too.
+//! `lock_barging`: `lock` of a seat that tries before it queues. A try that fails gives its charge back and leaves the seat as
+//! it was, so a seat that tries has no place in the queue yet. From its push on, the order of the queue holds for it, as for
+//! `lock`. Linux's mutex also spins before it queues (optimistic spinning), and so do the locks of parking_lot and absl.
 ghost use Rattle.std.specs.Prelude.{◌≡◌, ◌+◌, ◌-◌, ◌<◌, MatchBool, None, Some};
 ghost use Rattle.lfm_mutex.specs.Belongs.{Beside, OfMutex, limits_of, tries_of};
 ghost use Rattle.lfm_mutex.specs.calls.Barging.{BargesBy, FailedTry, GainsIf, MayTry, TriesBy, TriesFirst, TryHeld};
@@ -20,13 +20,13 @@ use std::sync::Wait;
 use std::thread::yield_now;
 use std::time::Duration;
 
-/// How long a nap is to last, in microseconds. The system may add some 50.
+/// How long a nap is to last, in microseconds. The system may add about 50.
 const NAP_MICROSECONDS: u64 = 20;
 
-/// Before each look there are twice as many pauses as before the one before it, up to 2 to the power of this.
+/// The pauses before a look double from one look to the next, up to 2 to the power of this.
 const MOST_DOUBLINGS: u32 = 8;
 
-/// If the mutex counts more than its holder and one more seat, others queue already. More spins would only take the cache line of
+/// If more than the holder and one other seat are counted, others queue already. More spins would only take the cache line of
 /// the count away from the holder.
 const HOLDER_AND_ONE_MORE: u64 = 2;
 
@@ -39,9 +39,9 @@ fn may_try<T: Kept>(seat: &Seat<T>) -> bool
 }
 
 impl<T: Kept> Mutex<T> {
-    /// Gains the mutex, or deepens the hold, with the answers and refusals of `lock`. A seat that doesn't hold tries first, at most
-    /// as often as the mutex's pace says. If the pace has spins, it makes a `try_lock` at once. It makes later ones if it looks at
-    /// the count and finds 0. A look is no atomic step of the protocol. Between its looks it pauses, and later naps. If no try gains
+    /// Gains the mutex, or deepens the hold, with the answers and refusals of `lock`. A seat that doesn't hold first makes a
+    /// bounded number of `try_lock`, as the mutex's pace says: one at once, if the pace has spins, and one after each look that
+    /// finds a count of 0. Between looks it pauses, and later naps. A look is no atomic step of the protocol. If no try gains
     /// the mutex, it queues as by `lock`.
     ///
     /// So a thread may come before threads that came earlier and still try. It comes before one that is queued only by accepting
@@ -128,8 +128,9 @@ impl<T: Kept> Mutex<T> {
         }
     }
 
-    /// Looks as often as the pace says, with more pauses before each look than before the one before it, so that the holder keeps
-    /// the cache line of the count for most of the time.
+    /// The spins after the first. Each is some pauses, a look, and a try if the look finds 0. The pauses double from one look
+    /// to the next, so that the holder keeps the cache line of the count for most of the time. The spins end early if others
+    /// queue already.
     #[inline(always)]
     fn spin(&self, seat: &mut Seat<T>) -> Option<How>
         requires belongs { OfMutex seat.old self.now }
@@ -154,9 +155,9 @@ impl<T: Kept> Mutex<T> {
         None
     }
 
-    /// Naps as often as the pace says, and looks before and after each nap. Threads that sleep leave the processors to the holder, and
-    /// a queue that has formed can empty meanwhile. The first nap is a yield if the mutex may just have been handed over. It stops if a crowd
-    /// holds or waits: then a nap would only keep the seat from its place in the queue.
+    /// Naps as often as the pace says, and looks before and after each nap. Threads that sleep leave the processors to the
+    /// holder, and a queue can drain meanwhile. The first nap is a yield if the mutex may just have been handed over. The naps
+    /// end early if many seats hold or wait: then it is better to queue at once.
     #[inline(always)]
     fn nap<R: Wait>(&self, rt: &R, seat: &mut Seat<T>) -> Option<How>
         requires belongs { OfMutex seat.old self.now }
@@ -188,7 +189,8 @@ impl<T: Kept> Mutex<T> {
         None
     }
 
-    /// Whether the mutex may have been handed over to a seat whose thread has not run since: this count is one seat, and none owns.
+    /// Whether the mutex may have been handed over to a seat whose thread has not run since: one seat is counted, and none
+    /// owns.
     fn is_handed_over(&self, count: u64) -> bool {
         count == 1 && self.table.look_at_owner() == 0
     }
@@ -202,16 +204,15 @@ impl<T: Kept> Mutex<T> {
         self.table.look_at_count()
     }
 
-    /// The count after a yield. The system may have put the thread that the mutex was handed to on this processor. A yield lets it run
-    /// at once, and a nap would outlast its section. On a busy processor a yield gives a whole time slice away, so it is made only
-    /// here.
+    /// The count after a yield. The thread that was handed the mutex may be ready on this very processor. A yield lets it run
+    /// at once; a nap would outlast its section. On a busy processor a yield costs a whole time slice, so it is made only here.
     fn count_after_yield(&self) -> u64 {
         yield_now();
         self.table.look_at_count()
     }
 
-    /// One try if the count that was found is 0, and none otherwise. A look costs the holder less than a try that fails. It calls
-    /// the fast path of `try_lock` directly: what that path requires of the seat is known here.
+    /// Makes one try if the count that was found is 0, and none otherwise. A look costs the holder less than a try that fails.
+    /// It calls the fast path of `try_lock` directly: what that path requires of the seat is known here.
     #[inline(always)]
     fn try_if_free(&self, seat: &mut Seat<T>, count: u64) -> Option<How>
         requires belongs { OfMutex seat.old self.now }

@@ -25,7 +25,7 @@ use lfm_protocol::points::Point;
 use lfm_protocol::{Call, SeatState, Turn};
 use lfm_table::{Kept, WakeUp};
 
-/// The wake-up of two sequences of steps, of which at most one has granted.
+/// The wake-up that is owed after two runs of steps, of which at most one has stored a grant.
 fn either(first: Option<WakeUp>, then: Option<WakeUp>) -> Option<WakeUp>
     requires { (t : ℕ) → first ≡ Some t → then ≡ None }
     ensures { result ≡ first_of first then }
@@ -48,7 +48,7 @@ pub(crate) fn stop_at(standing: &mut SeatState, point: Point)
     standing.point = point;
 }
 
-/// Makes the steps of the open call to its end.
+/// Finishes an open call: makes one step after another until the call ends.
 #[inline(never)]
 pub fn finish<T: Kept>(mutex: &Mutex<T>, seat: &mut Seat<T>) -> (Turn, Option<WakeUp>)
     requires belongs { seat.old.place.table_id ≡ mutex.now.table.table_id }
@@ -100,7 +100,7 @@ pub fn run<T: Kept>(mutex: &Mutex<T>, seat: &mut Seat<T>, call: Call) -> (Turn, 
     }
 }
 
-/// Makes a call that releases what is in hand.
+/// Makes a call that releases the mutex.
 #[inline(never)]
 pub fn release<T: Kept>(mutex: &Mutex<T>, seat: &mut Seat<T>, call: Call) -> (Turn, Option<WakeUp>)
     requires belongs { OfMutex seat.old mutex.now }
@@ -121,7 +121,7 @@ pub fn release<T: Kept>(mutex: &Mutex<T>, seat: &mut Seat<T>, call: Call) -> (Tu
     }
 }
 
-/// Makes the steps of an open release to its end. The first of them is the store that ends the hold.
+/// Finishes an open release. Its first step is the store that ends the hold.
 fn finish_release<T: Kept>(mutex: &Mutex<T>, seat: &mut Seat<T>) -> (Turn, Option<WakeUp>)
     requires belongs { seat.old.place.table_id ≡ mutex.now.table.table_id }
     requires gives { (r : Releaser) × (seat.old.standing.point ≡ ReleaseOwnerStore r) }

@@ -70,7 +70,7 @@ fn hinders_at<T: Kept, P: Holder<T>>(seats: &Vec<P>, number: u64) -> Option<Miss
     }
 }
 
-/// Dropping a seat's other fields here keeps the callers' proofs from splitting.
+/// The seat of the table. The other fields are dropped here, since to drop them in a caller would split its proof into cases.
 fn into_place<T: Kept, P: Holder<T>>(holder: P) -> Place<T>
     ensures { result ≡ (P.seat_of holder).place }
 {
@@ -85,7 +85,7 @@ fn into_place<T: Kept, P: Holder<T>>(holder: P) -> Place<T>
     place
 }
 
-/// Where seat 1 lies.
+/// The index of seat 1.
 fn first_place<T: Kept, P: Holder<T>>(seats: &Vec<P>) -> Option<usize>
     ensures { MatchOption result (Lacks (λ p. sight (P.seat_of p)) seats.now.items 1) (λ i. (s : _) × (get_elem? seats.now.items i ≡ some s) × ((P.seat_of s).number ≡ 1)) }
 {
@@ -121,10 +121,10 @@ fn take_slot<T: Kept>(closed: ClosedTable<T>) -> Option<MovingBox<T>>
 }
 
 impl<T: Kept> Mutex<T> {
-    /// The first seat, from seat 1 on, that keeps the mutex from being closed with these seats, and how: it is not among them, or one
-    /// with its number holds, or sleeps. None if each of its numbers is there, and none of them holds or sleeps. It compares
-    /// each seat number of the mutex with each seat, takes no memory and never waits. Unlike `close`, it goes by the numbers
-    /// alone: the seats need not be this mutex's.
+    /// The first seat, from seat 1 on, that keeps the mutex from being closed with these seats, and why: no seat with its
+    /// number is among them, or one holds, or one sleeps. None if there is no such seat. It goes by the numbers alone, so
+    /// unlike in `close` the seats may be another mutex's. It compares each seat number of the mutex with each seat, takes no
+    /// memory and never waits.
     pub fn missing<P: Holder<T>>(&self, seats: &Vec<P>) -> Option<Missing>
         ensures { MatchOption result (AllStand (λ p. sight (P.seat_of p)) seats.now.items (limits_of self.now).seats) (FirstMissing (λ p. sight (P.seat_of p)) seats.now.items (limits_of self.now).seats) }
     {
@@ -136,12 +136,12 @@ impl<T: Kept> Mutex<T> {
         None
     }
 
-    /// Gives the guarded value back, and ends the mutex, if all seats are there and none holds, sleeps or is in a call. The value
-    /// is what the last hold of all left, which is that of the seat with the greatest `ended`, or the opening value if no hold
-    /// has ended. The trails of the seats are then their parts of one run of the core, from the start to a free state, and each
-    /// seat knew that run up to its own last step or load for `owner`. Otherwise it hands back the mutex and the seats, and
-    /// names the first seat that hinders it, and how. It compares each seat number of the mutex with each seat handed in, takes
-    /// no memory and never waits.
+    /// Gives the guarded value back, and ends the mutex, if all seats are there and none holds, sleeps or is in a call. The
+    /// value is what the last hold of all left, which is that of the seat with the greatest `ended`, or the opening value if no
+    /// hold has ended. The trails are then the seats' parts of one run of the core, which begins at the start and ends free.
+    /// Each seat knew that run up to its own last step or load for `owner`. Otherwise it hands back the mutex and the seats,
+    /// and names the first seat that keeps it from closing, and why. It compares each seat number of the mutex with each seat
+    /// handed in, takes no memory and never waits.
     pub fn close<P: Holder<T>>(self, seats: Vec<P>) -> Result<T, (Mutex<T>, Vec<P>, Missing)>
         requires belongs { (j : ℕ) (s : _) → get_elem? seats.items j ≡ some s → OfMutex (P.seat_of s) self }
         ensures missing { IfErr result (λ e. (e.0 ≡ self) × (e.1 ≡ seats) × FirstMissing (λ p. sight (P.seat_of p)) seats.items (limits_of self).seats e.2) }

@@ -1,4 +1,6 @@
-//! The mutex: its words, and how many seats and takes it allows. Each of its calls has a file of its name.
+//! The mutex: its words, its limits and its pace. Its calls are in the files `open` (`new`), `lock` (`lock`, `ask`), `barging`,
+//! `try_lock`, `unlock`, `receive`, `wait` (`start_wait`), `send` (`send_lock`), `wake`, `owner`, `sections` (`with`,
+//! `try_with`), `rounds` (`run`) and `close`.
 ghost use Rattle.std.specs.Prelude.{◌≡◌, ◌+◌, ◌*◌, ◌<◌, ◌≤◌};
 ghost use Rattle.lfm_protocol.specs.Limits.{max_seats};
 
@@ -40,8 +42,8 @@ pub struct Mutex<T: Kept> {
 }
 
 impl<T: Kept> Mutex<T> {
-    /// How many seats hold the mutex or want it, as one look finds: those that queue count, and those that spin or nap don't. It is
-    /// a hint, since it may change at once. A look is no atomic step of the protocol.
+    /// How many seats hold the mutex or want it, by one look at the count word. A queued seat is counted, and one that spins or
+    /// naps is not. The number is a hint, since it may change at once. A look is no atomic step of the protocol.
     pub fn count(&self) -> u64 {
         self.table.look_at_count()
     }
@@ -53,7 +55,7 @@ impl<T: Kept> Mutex<T> {
         self.pace
     }
 
-    /// Sets how a seat waits for this mutex. It is set before threads share the mutex.
+    /// Sets how a seat waits for this mutex, before threads share it.
     pub fn set_pace(&mut self, pace: Pace)
         ensures pace { self.new.pace ≡ pace }
         ensures same { (self.new.table ≡ self.old.table) × (self.new.limits ≡ self.old.limits) }

@@ -26,7 +26,7 @@ use lfm_words::PopList;
 use std::alloc::Global;
 use std::snapshot::Snapshot;
 
-/// Neither a mutex nor its seats can ask how many processors there are.
+/// The pace of a new mutex is for this number of processors, since `new` cannot ask the system.
 const USUAL_PROCESSORS: u64 = 8;
 
 /// A seat that has done nothing.

@@ -11,28 +11,28 @@ use std::time::{Clock, Duration, Instant};
 /// depends on the processor, but even on a fast one it is about two wake-ups by the system.
 pub const LOOKS_BEFORE_SLEEP: u32 = 800;
 
-/// How often a seat spins before it queues. With the pauses this lasted some 8 microseconds on the machine that was measured.
+/// Spins before a seat queues. With their pauses they lasted about 8 microseconds on the machine that was measured.
 const SPINS: u32 = 12;
 
-/// With one processor it tries once. Further spins would keep the holder from its work.
+/// Spins on one processor: the try alone. Further spins would keep the holder from running.
 const SPINS_OF_ONE_PROCESSOR: u32 = 1;
 
-/// How often it then naps.
+/// Naps after the spins.
 const NAPS: u32 = 4;
 
-/// This number of seats is no crowd, however few processors there are.
+/// Up to this number of seats there is no crowd, however few processors there are.
 const FEW: u64 = 8;
 
-/// These pauses before each look leave the cache line of the word to the seat that is to store the grant.
+/// Pauses before each look of a queued seat. They leave the cache line of the word to the seat that is to store the grant.
 const PAUSES_PER_LOOK: u32 = 4;
 
 /// How long a queued seat should look, in nanoseconds: about two wake-ups by the system.
 const LOOK_NANOSECONDS: u64 = 20_000;
 
-/// Looks per timing run.
+/// Looks whose pauses are timed in one run. The load of a look takes a fraction of its pauses.
 const LOOKS_TIMED: u32 = 200;
 
-/// Timing runs. The shortest counts, since an interruption only adds.
+/// Timed runs. The shortest counts, since an interruption only adds to a run.
 const RUNS_TIMED: u32 = 5;
 
 /// The fewest looks that a measurement gives.
@@ -43,17 +43,20 @@ const MOST_LOOKS: u64 = 4_000;
 
 /// How a seat waits for the mutex. It has two parts.
 ///
-/// *Before it queues*, a seat that doesn't hold and locks by `lock_barging` spins and then naps. The first spin is a try to gain
-/// the mutex. Each further one is some pauses and a look at the count, and a try if the mutex is free. A nap is a look, a sleep of
-/// some 20 microseconds if the mutex is not free, and another look, with a try if it is free then. A seat spins no longer if more
-/// than two seats hold or wait. It naps no longer if more than 8 do, and more than twice as many as `near`. If one seat
-/// is counted and none owns, the mutex may have been handed over to a thread that has not run since: then the first nap is a yield,
-/// which lets that thread run on the same processor. `lock` makes neither.
+/// *Before it queues*, a seat that doesn't hold and locks by `lock_barging` spins, and then naps. A look that finds the mutex
+/// free is followed by a try.
+/// - The first spin is a try. Each further one is some pauses and a look at the count. The spins end early if more than two
+///   seats hold or wait.
+/// - A nap is a look, a sleep of about 20 microseconds, and another look. The naps end early if more than 8 seats hold or wait,
+///   and more than twice `near`. If one seat is counted and none owns, the mutex may have been handed over to a thread that has
+///   not run since. The first nap is then a yield, which lets that thread run on the same processor.
 ///
-/// *Once it has queued*, a seat looks at its wake word before it parks. A grant mostly comes within some 20 microseconds, and to
-/// park and be woken costs far more than the looks. But if many seats are ahead, or one processor has to serve both, each look is
-/// lost time: so it looks only if at most `near` seats hold or wait. If the looks last less than two wake-ups, one thread that
-/// parks soon makes all that queue behind it park too.
+/// `lock` queues without spins and naps.
+///
+/// *Once it has queued*, a seat looks at its wake word before it parks. A grant mostly comes within about 20 microseconds, and
+/// to park and be woken costs far more than the looks. But if many seats are ahead, or all threads share one processor, each
+/// look is lost time. So a seat looks only if at most `near` seats hold or wait. If the looks last less than two wake-ups, one
+/// thread that parks soon makes all that queue behind it park too.
 ///
 /// ```
 /// mutex.set_pace(Pace::of_machine(&rt)?);
@@ -80,7 +83,7 @@ impl Pace {
         }
     }
 
-    /// The same pace, with this number of spins and then naps for a seat that locks by `lock_barging`, before it queues.
+    /// The same pace, with this number of spins, and then of naps, before a seat that locks by `lock_barging` queues.
     pub fn with_barging(self, spins: u32, naps: u32) -> Pace
         ensures { result ≡ record self { spins = spins; naps = naps } }
     {
@@ -107,9 +110,9 @@ impl Pace {
         Pace::new(LOOKS_BEFORE_SLEEP, processors).with_barging(SPINS, NAPS)
     }
 
-    /// The pace for the processors that this program may use: that of `for_processors`, but with as many looks as last some 20
-    /// microseconds here, from 100 to 4,000. It makes some looks to see how long they take. It ends with an error if the system
-    /// doesn't tell the processors or the time.
+    /// The pace for the processors that this program may use: that of `for_processors`, but with as many looks as last about 20
+    /// microseconds here, from 100 to 4,000. It times the pauses of some looks. It ends with an error if the system doesn't
+    /// tell the processors or the time.
     pub fn of_machine<R: Threads + Clock>(rt: &R) -> io::Result<Pace>
         ensures looks { IfOk result (λ p. (p.near ≤ 1 → p.looks ≡ 0) × (1 < p.near → (100 ≤ p.looks) × (p.looks ≤ 4_000))) }
         ensures spins { IfOk result (λ p. (p.near ≤ 1 → p.spins ≡ 1) × (1 < p.near → p.spins ≡ 12) × (p.naps ≡ 4)) }
@@ -129,7 +132,7 @@ impl Pace {
         self.looks
     }
 
-    /// How many seats are few: a queued seat looks only if at most this number hold or wait.
+    /// A queued seat looks only if at most this number of seats hold or wait.
     pub fn near(self) -> u64
         ensures { result ≡ self.near }
     {
@@ -150,7 +153,7 @@ impl Pace {
         self.naps
     }
 
-    /// Whether more hold or wait than two for each processor.
+    /// Whether this count is a crowd: more than 8 seats, and more than twice `near`.
     pub(crate) fn is_crowd(self, count: u64) -> bool {
         count > FEW.max(self.near.saturating_mul(2))
     }
@@ -164,13 +167,13 @@ impl Pace {
     }
 }
 
-/// The pauses before a look.
+/// Makes the pauses before a look of a queued seat.
 #[inline(always)]
 pub(crate) fn pause() {
     pause_for(PAUSES_PER_LOOK);
 }
 
-/// This number of pauses.
+/// Makes this number of pauses.
 #[inline(always)]
 pub(crate) fn pause_for(pauses: u32) {
     for _ in 0..pauses {
@@ -178,7 +181,7 @@ pub(crate) fn pause_for(pauses: u32) {
     }
 }
 
-/// The shortest time that the looks took.
+/// The time of the shortest run: how long the pauses of LOOKS_TIMED looks took.
 fn shortest<R: Clock>(rt: &R) -> io::Result<Duration> {
     let mut shortest = Duration::MAX;
     for _ in 0..RUNS_TIMED {
@@ -191,7 +194,7 @@ fn shortest<R: Clock>(rt: &R) -> io::Result<Duration> {
     Ok(shortest)
 }
 
-/// How many looks last as long as a seat should look, if LOOKS_TIMED of them took this time.
+/// How many looks last as long as a queued seat should look, if the pauses of LOOKS_TIMED looks took this time.
 fn looks_lasting(time: Duration) -> u32
     ensures { (100 ≤ result) × (result ≤ 4_000) }
 {

@@ -39,9 +39,9 @@ impl<T: Kept> Mutex<T> {
     /// stops early at the first Err. It joins all threads, and returns all seats, in their order. It sleeps until all threads
     /// have ended.
     ///
-    /// What the closure answered is not kept: `run` returns Ok with all seats also if a thread stopped early. Whoever needs to
-    /// know gives each seat takes enough, or counts the rounds. The closure leaves its seat one of this mutex, which holds as
-    /// often as before, and sleeps only if it slept before.
+    /// What the closure answered is not kept: `run` returns Ok with all seats also if a thread stopped early. A caller that
+    /// needs to know counts the rounds, or gives each seat enough takes. After the closure, its seat is still one of this
+    /// mutex, holds as often as before, and sleeps only if it slept before.
     ///
     /// No call is made before all threads have been started. If a request for memory is refused, or a thread can't be started, no
     /// call is made at all, and all seats are handed back.

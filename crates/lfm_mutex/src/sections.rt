@@ -1,4 +1,4 @@
-//! Sections: a seat comes to hold, a closure changes the value, and the seat gives that hold up.
+//! Sections: a seat comes to hold, a closure changes the value, and the seat gives up that hold.
 ghost use Rattle.std.specs.Prelude.{◌≡◌, ◌+◌, ◌<◌, Some};
 ghost use Rattle.std.specs.Fn.{FnOnceReturnsAtMut};
 ghost use Rattle.lfm_mutex.specs.Belongs.{Beside, OfMutex, limits_of, tries_of};
@@ -14,7 +14,7 @@ use lfm_model::Refusal;
 use lfm_table::Kept;
 use std::sync::Wait;
 
-/// Changes the value that the seat has in hand.
+/// Lets the closure change the value, for a seat that holds.
 #[inline(always)]
 fn change<T: Kept, U, F: FnOnce(&mut T) -> U>(seat: &mut Seat<T>, f: F) -> U
     requires holds { 0 < (sight seat.old).depth }
@@ -31,9 +31,9 @@ fn change<T: Kept, U, F: FnOnce(&mut T) -> U>(seat: &mut Seat<T>, f: F) -> U
 }
 
 impl<T: Kept> Mutex<T> {
-    /// Comes to hold as `lock_barging` does, gives the closure the value, and gives that hold up as `unlock` does, so that the
-    /// seat holds as often as before. Returns what the closure returned. What the closure leaves has to follow what was found and
-    /// to suit the mutex, as `Kept` of its type says; of a u64 or a bool, anything does.
+    /// Comes to hold as `lock_barging` does, lends the value to the closure, and gives up that hold as `unlock` does, so that
+    /// the seat holds as often as before. Returns what the closure returned. The value that the closure leaves has to follow
+    /// the one that was found, and to suit the mutex, as `Kept` of its type says. Any u64 and any bool does.
     ///
     /// Refuses as `lock`: Asleep, DepthFull, Spent, in this order. Then the closure is not called, and nothing has changed. It
     /// sleeps and wakes as these two calls do, and takes no memory.

@@ -43,9 +43,9 @@ pub fn start<T: Kept>(mutex: &Mutex<T>, seat: &mut Seat<T>, call: Call) -> Turn
     begin_call(mutex, seat, call)
 }
 
-/// Makes the one atomic step at the seat's point: one operation on one word, and then the seat's own method of the core for that
-/// kind of step. It answers Open if the call goes on, the answer or refusal that ends the call, or Idle if no call of the seat is
-/// open. At the store that ends a hold, what is in hand has to follow what was found.
+/// Makes the one atomic step at the seat's point: one operation on one word, and then the seat's own method of the core for
+/// that kind of step. It answers Open if the call goes on, the answer or refusal that ends the call, or Idle if no call of the
+/// seat is open. At the store that ends a hold, the value that is left has to follow the one that was found.
 ///
 /// It never waits, and wakes the seat whose grant it stores.
 pub fn next<T: Kept>(mutex: &Mutex<T>, seat: &mut Seat<T>) -> Turn
@@ -77,7 +77,7 @@ pub fn next<T: Kept>(mutex: &Mutex<T>, seat: &mut Seat<T>) -> Turn
     }
 }
 
-/// `start`, with all that the proofs of the calls need of it.
+/// `start`, with the contract on which the proofs of the calls build.
 pub(crate) fn begin_call<T: Kept>(mutex: &Mutex<T>, seat: &mut Seat<T>, call: Call) -> Turn
     requires belongs { seat.old.place.table_id ≡ mutex.now.table.table_id }
     ensures same { (seat.new.place ≡ seat.old.place) × (seat.new.number ≡ seat.old.number) × (seat.new.limits ≡ seat.old.limits) × (seat.new.moving ≡ seat.old.moving) }
@@ -90,8 +90,8 @@ pub(crate) fn begin_call<T: Kept>(mutex: &Mutex<T>, seat: &mut Seat<T>, call: Ca
     seat.standing.begin(limits, call)
 }
 
-/// `next`, with all that the proofs of the calls need of it. It wakes nobody, and hands out the wake-up of the seat that it
-/// granted.
+/// `next`, with the contract on which the proofs of the calls build. It wakes nobody, and hands out the wake-up of the seat
+/// that it granted.
 pub(crate) fn make_next<T: Kept>(mutex: &Mutex<T>, seat: &mut Seat<T>) -> (Turn, Option<WakeUp>)
     requires belongs { seat.old.place.table_id ≡ mutex.now.table.table_id }
     requires leaves { (r : Releaser) → seat.old.standing.point ≡ ReleaseOwnerStore r → MayBeLeft T.follows T.fits seat.old.moving seat.old.place.me.0 }

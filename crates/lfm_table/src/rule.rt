@@ -1,5 +1,5 @@
-//! The rule of the table: what moves with the responsibility, what the table is told once, and what each kind of access
-//! tells the seat that makes it.
+//! The rule of the table: what moves with the responsibility, what the table is given when it opens, and what a seat learns by
+//! each kind of access.
 ghost use Rattle.std.specs.Prelude.{Option, None};
 ghost use Rattle.lfm_protocol.specs.declared.seats.SeatState.{SeatState};
 ghost use Rattle.lfm_protocol.specs.Seats.{absent};
@@ -22,7 +22,7 @@ pub struct Moving<T: Drop> {
     pub value: T,
 }
 
-/// What the table is told once.
+/// What the table is given when it opens.
 #[derive(Drop)]
 pub struct Key<T: Drop> {
     pub limits: Limits,
@@ -38,7 +38,8 @@ impl<T: Kept> TableRule<Option<MovingBox<T>>, View<T>, Key<T>> for MutexRule {
     ghost first = { λ key. first_view key.limits key.opening.value };
 }
 
-/// The seat's plain data as a step begins, and what it has in hand, for the proof alone. A call at `Brand` picks them.
+/// The seat's plain data before a step, and the moving value if the seat has it, for the proof alone. A call that passes
+/// `Brand` lets its proof pick them.
 pub trait Plain<T> {
     ghost standing: { SeatState };
 
@@ -76,7 +77,7 @@ impl<T> Split<View<T>> for SeatSplit {
     ghost right = { split_view };
 }
 
-/// The view of a seat that is joined, for the proof alone. A call at `Brand` picks it.
+/// The view of a seat that is joined, for the proof alone. A call that passes `Brand` lets its proof pick it.
 pub trait JoinedView<T> {
     ghost view: { View T };
 }

@@ -1,5 +1,5 @@
-//! The wake-up that the store of a grant leaves to be made. It can't be dropped: whoever has it spends it by `wake`, hands it on, or turns
-//! it into the number of its seat.
+//! The wake-up that is owed once a grant is stored. It can't be lost: it is spent by `wake`, passed on, or turned into the
+//! number of its seat.
 ghost use Rattle.std.specs.Prelude.{◌≡◌, None};
 ghost use Rattle.lfm_model.specs.SeatNumbers.{IsSeatNo};
 ghost use Rattle.lfm_protocol.specs.Points.{target};
@@ -13,8 +13,8 @@ use std::marker::Model;
 /// That a seat was granted the mutex, and is still to be woken. Only the step that stores a grant makes one. A contract sees
 /// the number of the seat.
 ///
-/// The type has no `Drop`, so a wake-up has to be moved on wherever it is: to `parking::wake`, to a caller, or into a seat's number.
-/// A path that does none of these does not compile. `parking::wake` adds the seat to those that were woken.
+/// The type has no `Drop`, so a path that loses a wake-up does not compile. It has to go to `parking::wake`, to a caller, or
+/// into a seat's number. `parking::wake` adds the seat to those that were woken.
 ///
 /// ```
 /// let (number, wake_up) = make_step::<T, B>(kind, table, place, seat, hand);
@@ -36,7 +36,7 @@ impl Model for WakeUp {
 }
 
 impl WakeUp {
-    /// What the store of this state in the wake word of this seat leaves to be made: a wake-up if it was a grant.
+    /// What is owed after this state is stored in the wake word of this seat: a wake-up if the state is a grant.
     pub(crate) fn owed(stored: Wake, seat: SeatNo) -> Option<WakeUp>
         ensures { result ≡ owed stored seat }
     {
@@ -46,7 +46,7 @@ impl WakeUp {
         }
     }
 
-    /// What the store of a wake word at the seat's point leaves to be made: the wake-up of the target if it is granted.
+    /// What is owed after the store of a wake word at the seat's point: the wake-up of the target if it is granted.
     pub(crate) fn owed_by(seat: &SeatData) -> Option<WakeUp>
         requires { IsSeatNo (target seat.now.standing.point seat.now.number) }
         ensures { result ≡ granted_at seat.now.standing.point }
@@ -55,7 +55,7 @@ impl WakeUp {
         WakeUp::owed(seat.standing.stored_wake(), target)
     }
 
-    /// Takes what a step has handed out that granted nothing.
+    /// For a step that granted nothing: takes the None that it handed out.
     pub fn expect_none(wake_up: Option<WakeUp>)
         requires { wake_up ≡ None }
     {
@@ -65,8 +65,8 @@ impl WakeUp {
         }
     }
 
-    /// The number of the seat that is to be woken. From here on nothing sees to it that the seat is woken: it is for callers
-    /// that wake threads by means of their own.
+    /// The number of the seat that is to be woken. From here on nothing ensures that the seat is woken. It is for callers that
+    /// wake threads by means of their own.
     pub fn into_seat(self) -> SeatNo
         ensures { result ≡ self }
     {

@@ -26,8 +26,8 @@ use lfm_table::seat_memory::{add_loaded, advance, drop_oldest, gives, oldest_of,
 use lfm_table::{Kept, SeatData, WakeUp};
 use std::marker::Brand;
 
-/// Makes the step at the seat's point, which is of this kind, with all that the proofs of the calls need of it, and hands out the
-/// wake-up of the seat that it granted. It is inlined, so with a constant kind nothing of the other kinds is left.
+/// Makes the step at the seat's point, which is of this kind, and hands out the wake-up of the seat that it granted. The proofs
+/// of the calls build on this contract.
 #[inline(always)]
 pub(crate) fn make_of<T: Kept>(
     mutex: &Mutex<T>,
@@ -66,7 +66,7 @@ pub(crate) fn make_of<T: Kept>(
     (turn, wake_up)
 }
 
-/// Makes a step of a kind that stores no wake word, with all that the proofs of the calls need of it.
+/// `make_of` for a kind that stores no wake word, so that there is no wake-up.
 #[inline(always)]
 pub(crate) fn make_waking_none<T: Kept>(mutex: &Mutex<T>, seat: &mut Seat<T>, kind: Kind) -> Turn
     requires belongs { seat.old.place.table_id ≡ mutex.now.table.table_id }

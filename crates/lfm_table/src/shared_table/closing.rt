@@ -31,7 +31,7 @@ impl<T: Drop> Model for ClosedTable<T> {
 }
 
 impl<T: Kept> SharedTable<T> {
-    /// Joins a seat into seat 1. What is loaded for it is ignored.
+    /// Joins a seat into seat 1. The kit's join loads a word, which is not used.
     pub fn join_seat<B: JoinedView<T>>(&self, root: &mut Place<T>, place: Place<T>)
         requires table { (root.old.table_id ≡ self.now.table_id) × (place.table_id ≡ self.now.table_id) × (0 < self.now.table_id.words) }
         requires free { place.me.1 ≡ [] }

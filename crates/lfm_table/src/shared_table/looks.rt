@@ -1,5 +1,5 @@
-//! What a thread may see of a word outside the steps of its calls. A look is a load that tells a proof nothing, and no trail has it.
-//! A read of the owner word is told by the trail of its seat.
+//! What a thread may see of a word outside the steps of its calls. A look is a load of which no proof learns anything, and
+//! which is in no trail. `read_owner` is in its seat's trail.
 ghost use Rattle.std.specs.Prelude.{◌≡◌, ◌<◌};
 ghost use Rattle.atomic_table.specs.Table.{Allows};
 ghost use Rattle.lfm_table.specs.Rule.{Held, ReadsOwner};

@@ -29,7 +29,7 @@ impl<T: Kept> SharedTable<T> {
         }
     }
 
-    /// Splits the next seat off seat 1. What is loaded for it is ignored.
+    /// Splits the next seat off seat 1. The kit's split loads a word, which is not used.
     pub fn split_seat(&self, root: &mut Place<T>) -> Place<T>
         requires table { (root.old.table_id ≡ self.now.table_id) × (0 < self.now.table_id.words) }
         requires allowed { Splits (Held T.follows T.fits) root.old.id root.old.me.0 (with_split root.old.me.0) (split_view root.old.me.0) }

@@ -103,7 +103,7 @@ const IN_BOTH_WAYS: [Column; 8] = [
     Column::Spread(Peer::Standard),
 ];
 
-/// The same of the fairness, of which a ratio says nothing.
+/// What is shown of the fairness. A ratio would say nothing there.
 const FAIRNESS_IN_BOTH_WAYS: [Column; 3] = [
     Column::Median(Peer::InOrder),
     Column::Median(Peer::Barging),

@@ -82,6 +82,7 @@ impl Whole {
     fn next(&mut self) -> Option<Seated>
         ensures { MatchOption result ((self.new ≡ self.old) × (vec_len self.old.seats ≡ 0)) (λ a. (self.old.seats.items ≡ self.new.seats.items ++ a ∷ []) × (self.new.mutex ≡ self.old.mutex) × (self.new.count ≡ self.old.count)) }
     {
+        // Tested first, so that the proof of the pop knows that the list is not empty.
         if self.seats.is_empty() {
             return None;
         }

@@ -13,9 +13,9 @@ use lfm_model::Missing;
 impl Condvar {
     /// Ends the condvar and answers how many tickets were sent, and how many were added, if all its cond seats are there. The
     /// numbers are those of the list that the last hold of all left, which is that of the cond seat with the greatest `ended`,
-    /// or 0 and 0 if none has had the list. The trails of the cond seats are then their parts of one run of the inner mutex,
-    /// from the start to a free state. Otherwise it hands back the condvar and the cond seats, and names the first that isn't
-    /// there. It compares each number of a cond seat with each cond seat handed in, takes no memory and never waits.
+    /// or 0 and 0 if none has had the list. The trails are then the cond seats' parts of one run of the inner mutex, which
+    /// begins at the start and ends free. Otherwise it hands back the condvar and the cond seats, and names the first that
+    /// isn't there. It compares each number of a cond seat with each cond seat handed in, takes no memory and never waits.
     pub fn close(
         self,
         seats: Vec<CondSeat>,

@@ -1,5 +1,5 @@
-//! A seat of a condvar: what one thread uses it with. It has a seat of the inner mutex, which is private to this module. So a
-//! call that borrows a cond seat locks the inner mutex by `hold` alone, whose calls give it back before they return.
+//! A seat of a condvar: what one thread uses it with. It has a seat of the inner mutex, which is private to this module. So
+//! with a borrowed cond seat only the calls of `hold` lock the inner mutex, and they unlock it before they return.
 ghost use Rattle.std.specs.Prelude.{◌≡◌, ◌≤◌, ℕ, [], vec_capacity, vec_len};
 ghost use mathlib.Core.Option.{some};
 ghost use lib.ListN.{get_elem?};

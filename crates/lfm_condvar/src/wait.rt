@@ -17,8 +17,8 @@ use std::sync::Wait;
 
 /// How often a seat looks before it sleeps, by the number of seats that waited ahead of it, and the count of the user mutex. A
 /// seat that waits alone beside one other thread may be sent soon, as when two threads take turns, and its looks then cost less
-/// than a sleep and a wake-up. If several seats wait, or were just sent, most of them wait for long, and looks would take the
-/// processors from the threads that are to go on.
+/// than a sleep and a wake-up. If several seats wait, or were just sent, most of them wait long, and their looks would only
+/// take processor time from the threads that run.
 fn looks_behind(pace: Pace, ahead: usize, counted: u64) -> u32
     ensures alone { ahead ≡ 0 → counted ≤ 1 → result ≡ pace.looks }
     ensures behind { 0 < ahead → result ≡ 0 }
@@ -32,10 +32,10 @@ fn looks_behind(pace: Pace, ahead: usize, counted: u64) -> u32
 }
 
 impl Condvar {
-    /// The first half of `wait`: the user seat is put into the list, gives up its mutex and falls asleep, in one hold of
-    /// the list. When it returns, the list is given back and the user seat sleeps, until a wake of another seat sends it;
-    /// the second half is a `receive_lock` or `try_receive` of the user mutex. It answers the ticket: 1 for the first that
-    /// waited on this condvar, and on.
+    /// The first half of `wait`: the user seat is put into the list, gives up its mutex and falls asleep, in one hold of the
+    /// list. When it returns, the list is given back and the user seat sleeps, until a wake of another seat sends it; the
+    /// second half is a `receive_lock` or `try_receive` of the user mutex. It answers the ticket: 1 for the first that waited
+    /// on this condvar, and so on.
     ///
     /// Refuses as `wait`, in the same order, and costs what `wait` costs. It may sleep until it has the list. It takes no
     /// memory, and wakes the seat that it grants a mutex, if any. A seat that is granted the user mutex is woken after the list
@@ -97,7 +97,7 @@ impl Condvar {
     ///
     /// Refuses, in this order, before anything is changed: Asleep (the user seat sleeps, or a call of it is open), NotOwner,
     /// Nested (it holds above depth 1), Spent (either seat has no take left), NoSuchSeat (its number is above the condvar's
-    /// seats). Then Busy: the user seat still stands in the list, which only a send past this condvar brings. It is seen
+    /// seats). Then Busy: the user seat still stands in the list, which only a send past this condvar can cause. It is seen
     /// under the inner mutex, costs the cond seat its take, and changes nothing else.
     ///
     /// A wait costs each seat one take. It takes no memory, sleeps, and wakes the seat that it grants a mutex, if any. If no

@@ -1,5 +1,5 @@
 //! The list of those that wait, with its tickets. Only `enlist` and `send_oldest` change it, with or without waking: the
-//! fields, and what appends or takes off, are private to this module, of which these calls are children.
+//! fields, and the functions that append and take off, are private to this module, and these calls are in its child modules.
 ghost use Rattle.std.specs.Prelude.{All, ◌≡◌, ℕ, ◌+◌, ◌<◌, ◌≤◌, ◌++◌, [], ◌∷◌, Some, IfOk, MatchBool, MatchOption, length, slice_index, sum, vec_len};
 ghost use Rattle.std.specs.VecDeque.{deque_capacity, deque_len};
 ghost use Rattle.lfm_protocol.specs.Limits.{max_budget, max_seats};
@@ -104,9 +104,9 @@ impl Waiters {
         self.list.front().copied()
     }
 
-    /// Puts a user seat that is not there at the end with the next ticket, and counts it for the cond seat `by`. It takes no
-    /// memory and can't fail: the list has room for every seat (`room`), and each stands in it at most once. No count is above
-    /// the budget, and `added` is their sum, so the tickets never wrap.
+    /// Appends a user seat that is not in the list, with the next ticket, and counts the ticket for the cond seat `by`. It
+    /// takes no memory and can't fail: the list has room for every seat (`room`), and each is in it at most once. Tickets can't
+    /// wrap: `added` is the sum of the counts, and each count is at most the budget.
     fn append(&mut self, by: SeatNo, seat: SeatNo) -> u64
         requires by { (by ≤ self.old.seats) × (slice_index self.old.counts.items by < self.old.budget) }
         requires seat { (0 < seat) × (seat ≤ self.old.seats) × (times seat self.old.list.items ≡ 0) }

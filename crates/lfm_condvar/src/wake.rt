@@ -20,7 +20,7 @@ impl Condvar {
     ///
     /// Refuses, in this order, before anything is changed: Asleep (the user seat sleeps, or a call of it is open) and Spent
     /// (the cond seat has no take left). Then NotWaiting: the oldest doesn't wait to be sent, which only a send past this
-    /// condvar brings. It stays in the list, and that costs the cond seat its take.
+    /// condvar can cause. It stays in the list, and the cond seat is charged its take.
     ///
     /// A wake costs the cond seat one take, and the user seat none. It takes no memory, may sleep until it has the inner
     /// mutex, and wakes the seat that it grants a mutex, if any. A seat that is granted the user mutex is woken after the inner
@@ -56,8 +56,8 @@ impl Condvar {
     /// in the list; the earlier ones were sent.
     ///
     /// It costs the cond seat one take, however many are sent. It takes no memory, may sleep until it has the inner mutex, and
-    /// wakes the seats that it grants a mutex, if any. Of the seats that are granted the user mutex, mostly one, the last is
-    /// woken after the inner mutex is given back, and each other one when the next is granted it.
+    /// wakes the seats that it grants a mutex, if any. Mostly one seat is granted the user mutex. If there are several, the
+    /// last is woken after the inner mutex is given back, and each other one as soon as the next is granted the mutex.
     pub fn wake_all<T: Kept, R: Wait>(
         &self,
         rt: &R,

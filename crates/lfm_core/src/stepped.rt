@@ -78,7 +78,7 @@ impl State {
     }
 }
 
-/// What the invariant says, and what it says in words and points.
+/// The invariant of every state, as facts for the proofs of this crate.
 impl State {
     ghost use Rattle.lfm_laws.specs.steady.Steady.{Steady};
 

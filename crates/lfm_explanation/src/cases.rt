@@ -73,7 +73,7 @@ fn case_of_entry(entrant: Entrant, how: How) -> Case
     }
 }
 
-/// This case, if it comes.
+/// This case if it comes, else None.
 fn only_if(comes: bool, case: Case) -> Option<Case>
     ensures { result ≡ if comes then Some case else None }
 {

@@ -84,7 +84,7 @@ impl Coming {
         )
     }
 
-    /// Whether the responsibility goes somewhere by this case. It stays as a record is queued, and as a further seat asks.
+    /// Whether this case moves the responsibility. It stays if a record is queued, or if a further seat asks.
     fn moves(&self, case: Case) -> bool {
         match case {
             Case::Queue => false,

@@ -32,9 +32,9 @@ pub fn effects_are_of_calls()
     ensures schedules { EffectsAreOfCallsInSchedules }
 {}
 
-/// The effect of an open call on the abstract mutex is of its kind and names its seat: a `lock` or `try_lock` asks for its seat,
-/// or a `try_lock` accepts a post for it, an `unlock` or `start_wait` releases it, a `receive` takes up its grant. A `send_lock`
-/// asks for its target.
+/// The effect of an open call on the abstract mutex is of its kind and names its seat: a `lock` or `try_lock` asks for its
+/// seat, or a `try_lock` accepts a post for it, an `unlock` or `start_wait` releases it, a `receive` takes up its grant. A
+/// `send_lock` asks for its target.
 ///
 /// Definitions: `EffectsAreTheCallers` in `specs/laws/Effects.antt`, and `EffectsAreTheCallersInSchedules` in
 /// `specs/laws/InSchedules.antt`. Proofs: `proofs/lawful/calls/EffectsOwned.antt` and `proofs/lawful/runs/InSchedules.antt`.

@@ -43,6 +43,7 @@ impl Object for Total {
 
     ghost reply = { total_reply };
 
+    /// Adds the number, if the op has one, and replies with the total.
     fn apply(&mut self, op: &TotalOp) -> u64 {
         match op {
             TotalOp::Add(number) => self.0 = self.0.saturating_add(*number),

@@ -1,4 +1,4 @@
-//! `apply`: a pass that holds makes an op of the object, which is written down.
+//! `apply`: a pass that holds makes an op of the object, which is written into the journal.
 ghost use Rattle.lfm_monitor.specs.Belongs.{OfMonitor, PassRunGoesOnFrom, PassWokenAsGranted, cond_seats_of, mine_of, pass_sight, seen_of, share_of};
 ghost use Rattle.lfm_monitor.specs.Passes.{ApplyEnds};
 ghost use Rattle.std.specs.Prelude.{◌≡◌};
@@ -9,7 +9,7 @@ use crate::write::write_did;
 use lfm_model::{Object, Refusal};
 
 impl<O: Object> Monitor<O> {
-    /// Makes an op of the object and writes it down. The reply is the object's own.
+    /// Makes an op of the object and writes it into the journal. The reply is the object's own.
     ///
     /// Refuses, in this order: Asleep, NotOwner (the pass doesn't hold), Spent (it has no entry left). A refusal drops the op.
     /// It never waits and takes no memory.

@@ -10,7 +10,7 @@ use crate::pass::Pass;
 use lfm_model::{Object, Refusal};
 use std::sync::Wait;
 
-/// Whether the closure says true.
+/// Whether `done` accepts the reply.
 fn accepts<T, F: Fn(&T) -> bool>(done: &F, reply: &T) -> bool
     requires { F.IsAlwaysCallable done.now }
     ensures { FnReturnsAt F.Fn done.now reply.now result }
@@ -20,8 +20,8 @@ fn accepts<T, F: Fn(&T) -> bool>(done: &F, reply: &T) -> bool
 
 impl<O: Object> Monitor<O> {
     /// Applies the op, for which the pass holds the monitor at depth 1, again and again until `done` accepts its reply, and
-    /// answers that reply. Before each further try it waits on this condition, so that others can change the object. The last
-    /// that the pass did is this op with this reply, and the pass holds as before.
+    /// answers that reply. Before each further try it waits on this condition, so that others can change the object. The pass's
+    /// last op is then this one, with this reply, and the pass holds as before.
     ///
     /// A try is refused as `apply` is: Asleep, NotOwner, Spent, in this order. If the reply is not accepted, the wait may be
     /// refused, as `wait` is: Nested, Spent, NoSuchSeat, Spent, Busy, in this order. The op has then been made, and the pass

@@ -1,6 +1,5 @@
-//! How a pass comes to hold: `enter`, which sleeps if it has to, `ask` and `try_receive`, which are its two halves, and
-//! `try_enter`, which does not queue. Each hold that begins is written down. `hold` enters by a private form of `enter`, which
-//! tries before it queues.
+//! How a pass comes to hold. `enter` sleeps if it has to; `ask` and `try_receive` are its two halves. `try_enter` never queues.
+//! Each gain is written into the journal. `hold` uses `enter_by`, which may try before it queues.
 ghost use Rattle.lfm_protocol.specs.declared.answers.Answer.TheVariants as Answered;
 ghost use Rattle.lfm_protocol.specs.declared.answers.Call.{Call};
 ghost use Rattle.lfm_mutex.specs.Belongs.{Beside, OfMutex};
@@ -33,7 +32,7 @@ pub(crate) enum Locking {
 
 impl<O: Object> Monitor<O> {
     /// Gains the monitor, or deepens the hold. If another pass holds or asked before, it sleeps until the pass holds. A gain is
-    /// written down as the pass's take.
+    /// written into the journal as the pass's take.
     ///
     /// Refuses, in this order: Asleep, DepthFull, Spent, each as `try_enter`. It takes no memory. It may wake a pass, as
     /// `ask` may.
@@ -81,8 +80,8 @@ impl<O: Object> Monitor<O> {
         Ok(Asked::Held(how))
     }
 
-    /// One receive of a pass that sleeps: how it came to hold, which is written down as its take, or None if it was not granted
-    /// the monitor and sleeps on.
+    /// One receive of a pass that sleeps: how it came to hold, which is written into the journal as its take, or None if it was
+    /// not granted the monitor and sleeps on.
     ///
     /// Refuses with NotWaiting if the pass doesn't sleep. It never waits and takes no memory.
     pub fn try_receive(&self, pass: &mut Pass<O>) -> Result<Option<How>, Refusal>
@@ -106,7 +105,7 @@ impl<O: Object> Monitor<O> {
         Ok(Some(how))
     }
 
-    /// Gains the monitor or deepens the hold without queueing. A gain is written down as the pass's take.
+    /// Gains the monitor or deepens the hold without queueing. A gain is written into the journal as the pass's take.
     ///
     /// Refuses, in this order: Asleep, DepthFull (the pass holds at depth 65,535), Spent (it doesn't hold, and has no take or
     /// no entry left) and Busy (as `try_lock` of the mutex). It never waits, takes no memory and wakes nobody. Whatever others

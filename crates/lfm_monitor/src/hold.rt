@@ -1,4 +1,4 @@
-//! `hold`: a critical section is executed in a hold of its own, which ends whatever the section answered.
+//! `hold`: a critical section is executed in a hold of its own, which ends whatever the section answers.
 ghost use Rattle.lfm_model.specs.declared.refusals.Refusal.{Refusal};
 ghost use Rattle.lfm_monitor.specs.declared.pass.Pass.{Pass};
 ghost use Rattle.lfm_monitor.specs.Belongs.{OfMonitor, mutex_limits, pass_sight};
@@ -30,8 +30,8 @@ pub trait CriticalSection<O: Object, R: Wait>: Sync {
     /// What the section answers.
     type Answer;
 
-    /// What the section may make of its pass, in the round with this number, and what it then answers. `hold` and `run` tell
-    /// their callers so.
+    /// What the section may make of its pass, in the round with this number, and what it then answers. `hold` and `run` promise
+    /// this to their callers.
     ghost makes: { Self → ℕ → {K : _} → Pass O O.Op O.Reply K → Pass O O.Op O.Reply K → Result Self.Answer Refusal → Type 0 } = { λ _ _ _ _ _. Unit {0} };
 
     /// Executes the section once, with the number of the round. The pass stays one of the monitor's.
@@ -63,8 +63,8 @@ impl<O: Object> Monitor<O> {
         }
     }
 
-    /// Enters, executes the section, and leaves, whatever the section answered, which it answers too. Holds that the section
-    /// began and did not give up are given up, so that the pass holds no more than before.
+    /// Enters, executes the section, leaves, and returns what the section answered, also if that is a refusal. Holds that the
+    /// section began and did not give up are given up, so that the pass holds no more than before.
     ///
     /// It enters with the answers and refusals of `enter`. But a pass that doesn't hold tries before it queues, as
     /// `lock_barging` of the mutex does: at most once for each spin and each nap of the monitor's pace. So it may come before

@@ -32,7 +32,7 @@ impl<O: Object> Kept for Journaled<O> {
 }
 
 impl<O: Object> Journaled<O> {
-    /// Writes down that the seat has come to hold in this way.
+    /// Writes the entry that the seat has come to hold in this way.
     pub(crate) fn took(&mut self, seat: SeatNo, how: How)
         requires seat { (0 < seat) × (seat ≤ self.old.seats) }
         requires share { length (own seat self.old.journal.items) < self.old.share }
@@ -46,7 +46,7 @@ impl<O: Object> Journaled<O> {
         });
     }
 
-    /// Makes an op of the seat that took last, writes it down, and returns the object's reply.
+    /// Makes an op of the seat that took last, writes its entry, and returns the object's reply.
     pub(crate) fn did(&mut self, seat: SeatNo, op: O::Op) -> O::Reply
         requires seat { (0 < seat) × (seat ≤ self.old.seats) }
         requires share { length (own seat self.old.journal.items) < self.old.share }

@@ -12,8 +12,8 @@ use crate::pass::Pass;
 use lfm_model::{Object, Refusal, Unlocked};
 
 impl<O: Object> Monitor<O> {
-    /// Gives up one hold, and at depth 1 the monitor, as `unlock` of the mutex. What was in hand is then what the pass has
-    /// seen.
+    /// Gives up one hold, and at depth 1 the monitor, as `unlock` of the mutex. A pass that gives up the monitor has seen the
+    /// journal as it leaves it.
     ///
     /// Refuses, in this order: Asleep, NotOwner. It never waits, takes no memory, and wakes the pass that it grants the
     /// monitor, if any. Whatever others do, it makes at most 7 atomic steps more than the monitor has passes.

@@ -57,7 +57,7 @@ fn rooms<T: Drop>(alloc: Global, count: u64, each: u64) -> Result<Vec<Vec<T>>, N
     Ok(lists)
 }
 
-/// Puts each item at the end of the list at its place.
+/// Appends item i to list i.
 fn deal<T: Drop>(lists: &mut Vec<Vec<T>>, mut items: Vec<T>)
     requires count { vec_len items ≡ vec_len lists.old }
     requires room { (j : ℕ) (l : _) → get_elem? lists.old.items j ≡ some l → vec_len l < vec_capacity l }
@@ -117,7 +117,7 @@ fn journaled<O: Object>(
     })
 }
 
-/// A pass for each seat, with the cond seats at its place, in order, in the room that is there for them.
+/// A pass for each seat, with the cond seats of the same index, in order.
 fn with_seats<O: Object>(
     mut passes: Vec<Pass<O>>,
     seats: Vec<Seat<Journaled<O>>>,

@@ -8,8 +8,9 @@ use lfm_condvar::CondSeat;
 use lfm_model::{Object, SeatNo};
 use lfm_mutex::{Holder, Seat};
 
-/// What one thread uses a monitor with. A pass may move between threads, and each call borrows it for its whole length. Dropped
-/// while it holds or sleeps, it keeps what it holds: nobody else gains that.
+/// What one thread uses a monitor with. A pass may move between threads, and each call borrows it for its whole length. If it
+/// is dropped while it holds, no other pass gains the monitor any more. If it is dropped while it sleeps, no other does once
+/// the monitor is granted to it.
 ///
 /// ```
 /// // the pass holds a monitor round a bounded buffer: it puts a number in as soon as there is room, and wakes one that waits

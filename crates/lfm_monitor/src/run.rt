@@ -16,7 +16,8 @@ use std::sync::Wait;
 use std::thread::Threads;
 
 impl<O: Object> Monitor<O> {
-    /// Executes the section in one hold after another, until it breaks off or is refused, and hands the pass back.
+    /// Executes the section in one hold after another, until the section answers Break or is refused, or `hold` is, and hands
+    /// the pass back.
     fn make_rounds<R: Wait, S: CriticalSection<O, R, Answer = ControlFlow<()>>>(
         &self,
         rt: &R,
@@ -39,8 +40,9 @@ impl<O: Object> Monitor<O> {
     }
 
     /// Starts a thread for each pass. Each makes `rounds` rounds, numbered from 0. In each it executes the section in a hold of
-    /// its own. It stops early if the section breaks off or is refused, or if `hold` is. Each hold is one of `hold`, so a
-    /// thread tries before it queues. `run` sleeps until all threads have ended, and hands the passes back, in their order.
+    /// its own. A thread stops early if its section answers Break or is refused, or if `hold` is refused. Each hold is one of
+    /// `hold`, so a thread tries before it queues. `run` sleeps until all threads have ended, and hands the passes back, in
+    /// their order.
     ///
     /// No round is made before all threads have been started, so sections may wait for one another. If a request for memory is
     /// refused (Memory), or a thread can't be started (Thread), no round is made, and all passes are handed back as they were.

@@ -1,4 +1,4 @@
-//! How a pass waits on a condition: it leaves, sleeps until it is sent, and comes in again, which is written down.
+//! How a pass waits on a condition: it leaves, sleeps until it is sent, and comes in again, which is written into the journal.
 ghost use Rattle.lfm_monitor.specs.Belongs.{OfMonitor, PassRunGoesOnFrom, PassWokenAsGranted, cond_seats_of, conditions_of, mine_of, mutex_limits, pass_sight, passes_of, seen_of, share_of, tries_in};
 ghost use Rattle.lfm_monitor.specs.CondSeats.{CondsWokenAsGranted, condition_limits};
 ghost use Rattle.lfm_monitor.specs.Conditions.{MayWait, WaitEnds, WaitRefused, WaitReturns};
@@ -35,15 +35,14 @@ impl<O: Object> Pass<O> {
 }
 
 impl<O: Object> Monitor<O> {
-    /// Leaves the monitor, which the pass holds at depth 1, and waits on this condition until another pass sends it by a
-    /// wake. What was in hand is then what the pass has seen. It answers how the pass came to hold again, which is
-    /// written down as its take, and its ticket: 1 for the first that waited on this condition, and on.
+    /// Leaves the monitor, which the pass holds at depth 1, and waits on this condition until another pass sends it by a wake.
+    /// The pass has then seen the journal as it leaves it. It answers how the pass came to hold again, which is written into
+    /// the journal as its take, and its ticket: 1 for the first that waited on this condition, and so on.
     ///
-    /// Refuses, in this order, before anything is changed: Asleep, NotOwner, Nested (the pass holds above depth 1), Spent
-    /// (it has no take or no entry left), NoSuchSeat (there is no such condition) and Spent (the pass's seat of this
-    /// condition has no take left). Then Busy: the pass still stands in the condition's list, which only a send past this
-    /// condition brings, and a monitor makes none. That costs the seat of this condition its take, and changes nothing
-    /// else.
+    /// Refuses, in this order, before anything is changed: Asleep, NotOwner, Nested (the pass holds above depth 1), Spent (it
+    /// has no take or no entry left), NoSuchSeat (there is no such condition) and Spent (the pass's seat of this condition has
+    /// no take left). Then Busy: the pass still stands in the condition's list, which only a send past this condition can
+    /// cause, and a monitor makes none. That costs the seat of this condition its take, and changes nothing else.
     ///
     /// A wait costs the pass one take and one entry, which is kept for it while it sleeps, and its seat of this condition one
     /// take. It takes no memory, and sleeps. If no other pass waits on the condition when this one is put into its list, and at

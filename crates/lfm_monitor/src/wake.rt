@@ -15,9 +15,9 @@ impl<O: Object> Monitor<O> {
     /// The caller need not hold the monitor.
     ///
     /// Refuses, in this order, before anything is changed: Asleep, NoSuchSeat (there is no such condition) and Spent (the
-    /// pass's seat of this condition has no take left). Then NotWaiting: the oldest doesn't wait to be sent, which only a
-    /// send past this condition brings, and a monitor makes none. It stays in the list, and that costs the pass's seat of
-    /// this condition its take.
+    /// pass's seat of this condition has no take left). Then NotWaiting: the oldest doesn't wait to be sent, which only a send
+    /// past this condition can cause, and a monitor makes none. It stays in the list, and the pass's seat of this condition is
+    /// charged its take.
     ///
     /// A wake costs the pass's seat of this condition one take, and takes no memory. It may sleep until it has the
     /// condition's list, and wakes the pass that it grants the monitor, if any, after it has given the list back.

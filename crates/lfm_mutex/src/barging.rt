@@ -44,12 +44,12 @@ impl<T: Kept> Mutex<T> {
     /// finds a count of 0. Between looks it pauses, and later naps. A look is no atomic step of the protocol. If no try gains
     /// the mutex, it queues as by `lock`.
     ///
-    /// So a thread may come before threads that came earlier and still try. It comes before one that is queued only by accepting
-    /// a post, as `try_lock` may. What stays bounded is how often a thread tries: at most once for each spin and each nap of the
-    /// pace. After that it queues, and no thread that queues later is served before it.
+    /// So a thread may come before threads that came earlier and still try. It comes before one that is queued only by
+    /// accepting a post, as `try_lock` may. What stays bounded is how often a thread tries: at most once for each spin and each
+    /// nap of the pace. After that it queues, and no thread that queues later is served before it.
     ///
-    /// Refuses, as `lock` and in this order: Asleep, DepthFull, Spent. A gain is charged one take, and a try that fails none. It
-    /// may sleep, wakes as `lock` does, and takes no memory.
+    /// Refuses, as `lock` and in this order: Asleep, DepthFull, Spent. A gain is charged one take, and a try that fails none.
+    /// It may sleep, wakes as `lock` does, and takes no memory.
     ///
     /// ```
     /// mutex.set_pace(Pace::of_machine(&rt)?);
@@ -74,8 +74,8 @@ impl<T: Kept> Mutex<T> {
         }
     }
 
-    /// The fast path: the try of the first spin. It is made without a look, since mostly nobody holds, and a look before it would be
-    /// one more load of a cache line that another processor has.
+    /// The fast path: the try of the first spin. It is made without a look, since mostly nobody holds, and a look before it
+    /// would be one more load of a cache line that another processor has.
     #[inline(always)]
     fn try_first(&self, seat: &mut Seat<T>) -> Option<How>
         requires belongs { OfMutex seat.old self.now }

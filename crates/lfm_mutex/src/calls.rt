@@ -1,5 +1,5 @@
-//! The slow path: a call begins, and makes one step after another until it ends. Each public call has a file of its own. None of
-//! these functions takes memory or wakes a seat: if a step grants another seat the mutex, its wake-up is handed out with the
+//! The slow path: a call begins, and makes one step after another until it ends. Each public call has a file of its own. None
+//! of these functions takes memory or wakes a seat: if a step grants another seat the mutex, its wake-up is handed out with the
 //! turn.
 ghost use Rattle.std.specs.Prelude.{◌≡◌, ◌≢◌, ◌+◌, ◌≤◌, ℕ, length, false, true, Some, None};
 ghost use Rattle.lfm_model.specs.declared.answers.How.{How as HowNow};

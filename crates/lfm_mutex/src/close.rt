@@ -36,12 +36,14 @@ fn hinders<T: Kept>(seat: &Seat<T>) -> Option<Missing>
     None
 }
 
+/// The number of the holder's seat.
 fn number_of<T: Kept, P: Holder<T>>(holder: &P) -> u64
     ensures { result ≡ (sight (P.seat_of holder.now)).number }
 {
     holder.seat().number
 }
 
+/// Why the holder's seat can't be joined.
 fn hinders_one<T: Kept, P: Holder<T>>(holder: &P) -> Option<Missing>
     ensures { MatchOption result (Idle (sight (P.seat_of holder.now))) (λ m. Hinders m (sight (P.seat_of holder.now))) }
 {

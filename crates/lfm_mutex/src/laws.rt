@@ -103,8 +103,8 @@ pub fn other_steps_keep_the_core<T: Kept>()
     ensures { OtherStepsKeepTheCore T.follows T.fits }
 {}
 
-/// A seat is seen with as many seats as its mutex has. So if a contract of a gain or a close speaks of steps of seats of 1 to N, N
-/// is the number of seats of that mutex.
+/// A seat is seen with as many seats as its mutex has. So if a contract of a gain or a close speaks of steps of seats of 1 to
+/// N, N is the number of seats of that mutex.
 ///
 /// Definition: `KnowsItsMutex` in `specs/Laws.antt`. Proof: `proofs/LawsHeld.antt`.
 pub fn seats_know_their_mutex<T: Kept>()

@@ -77,11 +77,11 @@ fn laid_out<T: Kept>(
 
 impl<T: Kept> Mutex<T> {
     /// A mutex round this value, and its seats in order, numbered from 1. `seats` is 1 to 4,095, and `budget`, how many takes
-    /// each seat may make, 1 to 2^36. The value has to suit a mutex that has had no queued take. The pace is the usual one until
-    /// `set_pace`.
+    /// each seat may make, 1 to 2^36. The value has to suit a mutex that has had no queued take. The pace is the usual one
+    /// until `set_pace`.
     ///
-    /// Outside these limits it answers Limit, and asks for no memory. It answers Memory if a request for memory was refused. On a
-    /// fault the value is dropped. No other call of a mutex takes memory.
+    /// Outside these limits it answers Limit, and asks for no memory. It answers Memory if a request for memory was refused. On
+    /// a fault the value is dropped. No other call of a mutex takes memory.
     pub fn new(
         alloc: Global,
         seats: u64,

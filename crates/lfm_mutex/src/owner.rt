@@ -11,9 +11,9 @@ use lfm_model::SeatNo;
 use lfm_table::Kept;
 
 impl<T: Kept> Mutex<T> {
-    /// The seat that the owner word names, by one load, or None if no seat owns the mutex. It is the caller's own number exactly
-    /// if the caller holds the mutex. Another seat's number may be out of date when it is read. It refuses nothing, not even a
-    /// seat that sleeps or is in a call, and never waits.
+    /// The seat that the owner word names, by one load, or None if no seat owns the mutex. It is the caller's own number
+    /// exactly if the caller holds the mutex. Another seat's number may be out of date when it is read. It refuses nothing, not
+    /// even a seat that sleeps or is in a call, and never waits.
     pub fn owner(&self, seat: &mut Seat<T>) -> Option<SeatNo>
         requires belongs { OfMutex seat.old self.now }
         ensures belongs { Beside seat.old seat.new }

@@ -43,7 +43,7 @@ const MOST_LOOKS: u64 = 4_000;
 
 /// How a seat waits for the mutex. It has two parts.
 ///
-/// *Before it queues*, a seat that doesn't hold and locks by `lock_barging` spins, and then naps. A look that finds the mutex
+/// *Before it queues*, a seat that doesn't hold and locks by `lock_barging` spins and then naps. A look that finds the mutex
 /// free is followed by a try.
 /// - The first spin is a try. Each further one is some pauses and a look at the count. The spins end early if more than two
 ///   seats hold or wait.
@@ -83,7 +83,7 @@ impl Pace {
         }
     }
 
-    /// The same pace, with this number of spins, and then of naps, before a seat that locks by `lock_barging` queues.
+    /// The same pace, with this number of spins and then of naps before a seat that locks by `lock_barging` queues.
     pub fn with_barging(self, spins: u32, naps: u32) -> Pace
         ensures { result ≡ record self { spins = spins; naps = naps } }
     {
@@ -95,10 +95,10 @@ impl Pace {
         }
     }
 
-    /// The pace for a machine with this number of processors. With one, a seat spins once and naps 4 times before it queues, and
-    /// then parks at once: further spins and looks would keep the holder from its work. With more, it spins 12 times and naps 4
-    /// times, and once it has queued it looks `LOOKS_BEFORE_SLEEP` times if no more seats hold or wait than there are processors.
-    /// A mutex that is not told otherwise has the pace for eight.
+    /// The pace for a machine with this number of processors. With one, a seat spins once and naps 4 times before it queues,
+    /// and then parks at once: further spins and looks would keep the holder from its work. With more, it spins 12 times and
+    /// naps 4 times, and once it has queued it looks `LOOKS_BEFORE_SLEEP` times if no more seats hold or wait than there are
+    /// processors. A mutex that is not told otherwise has the pace for eight.
     pub fn for_processors(processors: u64) -> Pace
         ensures one { processors ≤ 1 → (result.looks ≡ 0) × (result.near ≡ 0) × (result.spins ≡ 1) }
         ensures more { 1 < processors → (result.looks ≡ 800) × (result.near ≡ processors) × (result.spins ≡ 12) }

@@ -43,8 +43,8 @@ impl<T: Kept> Mutex<T> {
     /// needs to know counts the rounds, or gives each seat enough takes. After the closure, its seat is still one of this
     /// mutex, holds as often as before, and sleeps only if it slept before.
     ///
-    /// No call is made before all threads have been started. If a request for memory is refused, or a thread can't be started, no
-    /// call is made at all, and all seats are handed back.
+    /// No call is made before all threads have been started. If a request for memory is refused, or a thread can't be started,
+    /// no call is made at all, and all seats are handed back.
     ///
     /// ```
     /// let seats = mutex.run(&rt, seats, 1_000, &|_: u64, seat: &mut Seat<u64>| -> Result<(), Refusal>

@@ -1,7 +1,7 @@
 //! The laws of the run of a running mutex. The rule of the table carries a run of the core: the actions of all seats since the
 //! table was opened, in order, of which each seat's trail is its part. It goes on with the actions that each seat knows, by
-//! actions of others. An action is a call that a seat begins, a step of a seat, or a load of the owner word by `owner`. How the run
-//! goes on is said in `laws`. Each function here does nothing: its contract is the law.
+//! actions of others. An action is a call that a seat begins, a step of a seat, or a load of the owner word by `owner`. How the
+//! run goes on is said in `laws`. Each function here does nothing: its contract is the law.
 ghost use Rattle.lfm_mutex.specs.TableRuns.{
   SeatsKnowUpToTheirLastStep,
   TablesEndCalls,

@@ -30,9 +30,9 @@ pub use crate::steps::kinds::{
     store_owner, store_wake, subtract_count,
 };
 
-/// Begins a call: makes the checks in the order of the refusals, charges the take, and sets the first point. It answers what the
-/// core's `begin` answers for these data of the seat: Open if steps follow, the answer if none does, the refusal, or InCall if a
-/// call of the seat is open. It touches no word and never waits.
+/// Begins a call: makes the checks in the order of the refusals, charges the take, and sets the first point. It answers what
+/// the core's `begin` answers for these data of the seat: Open if steps follow, the answer if none does, the refusal, or InCall
+/// if a call of the seat is open. It touches no word and never waits.
 pub fn start<T: Kept>(mutex: &Mutex<T>, seat: &mut Seat<T>, call: Call) -> Turn
     requires belongs { OfMutex seat.old mutex.now }
     ensures belongs { Beside seat.old seat.new }

@@ -8,8 +8,8 @@ use crate::seat::Seat;
 use lfm_table::Kept;
 
 impl<T: Kept> Seat<T> {
-    /// The guarded value, Some exactly if the depth is 1 or more. When the borrow ends, the seat has what was written through it,
-    /// and is otherwise as it was.
+    /// The guarded value, Some exactly if the depth is 1 or more. When the borrow ends, the seat has what was written through
+    /// it, and is otherwise as it was.
     pub fn value_mut(&mut self) -> Option<&mut T>
         ensures* lends { sem 𝓛 (LendsValue T.row self.entry result) }
         ensures value { MatchOption result ((sight self.old).depth ≡ 0) (λ x. (0 < (sight self.old).depth) × ((sight self.old).value ≡ Some x.now)) }

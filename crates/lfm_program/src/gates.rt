@@ -23,6 +23,7 @@ impl Gate for OpenGate {
     // It stops nobody.
     ghost stops = { λ _ _ _. ⊥ };
 
+    /// True for each command of each worker.
     fn before(&self, _worker: u64, _command: u64) -> bool
         ensures { IsTrue result }
     {
@@ -39,7 +40,7 @@ const SECOND: u64 = 2;
 /// The marks of both.
 const BOTH: u64 = 3;
 
-/// One of them came alone and gave up. Marks of later arrivals may join it.
+/// The first to come has given up. Later arrivals may still add their marks.
 const GIVEN_UP: u64 = 4;
 
 /// A gate that holds the first commands of workers 1 and 2 until both have arrived.
@@ -91,6 +92,7 @@ impl Gate for Meet {
     // It stops workers 1 and 2 alone, before their first command.
     ghost stops = { λ _ worker command. (command ≡ 1) × (worker ≡ 1 ⊎ (worker ≡ 2)) };
 
+    /// Holds the first commands of workers 1 and 2 until both have arrived, or one has given up.
     fn before(&self, worker: u64, command: u64) -> bool
         // Later commands are not held, and no other worker is.
         ensures later { (command ≢ 1) → IsTrue result }

@@ -40,7 +40,7 @@ impl StartingLine {
         *start == Start::Go
     }
 
-    /// Lets all go, those that sleep here and those that come later. It wakes those that sleep here.
+    /// Lets all workers start: those that sleep here, which it wakes, and those that come later.
     pub fn let_go<R: Wait>(&self, rt: &R) {
         self.open(rt, Start::Go);
     }

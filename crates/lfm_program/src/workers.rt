@@ -21,11 +21,11 @@ use std::thread::{Promise, PromisedHandle, Threads};
 pub(crate) enum WorkerEnd {
     /// The start was called off, since another worker could not be started. No command was made.
     CalledOff,
-    /// The worker was let go, and its commands ended so.
+    /// The start was not called off, and the worker's commands ended in this way.
     Performed(Performed),
 }
 
-/// What comes back from a worker's thread.
+/// What a worker's thread returns.
 #[derive(Drop)]
 pub(crate) struct Worked {
     /// The worker's pass. It neither holds nor sleeps.

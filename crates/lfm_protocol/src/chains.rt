@@ -9,8 +9,8 @@ use lfm_model::SeatNo;
 use lfm_words::{Link, Record};
 use std::marker::Model;
 
-/// What is left of a walk along the links: it ends at a number that no seat has, and after as many records as there are
-/// seats. A contract sees the records that are left, the next first.
+/// A walk along the links. It ends at a number that no seat has, or after one record for each seat. A contract sees the records
+/// that are left, the next first.
 #[derive(Drop)]
 pub(crate) struct Chain<'a> {
     links: &'a [Link],

@@ -244,7 +244,7 @@ impl Machine {
         turn
     }
 
-    /// Seat s exchanges the push word that it has seen for one with its record as the head. Any other push word stays.
+    /// Seat s exchanges the push word that it has seen for one with the pushed seat as the head. Any other push word stays.
     fn push_exchange(&mut self, s: u64) -> Turn
         requires seat { IsSeat self.old.seats s }
         requires numbers { HasNumbers (seat self.old.seats s) (seat self.old.seats s).point }

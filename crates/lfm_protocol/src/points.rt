@@ -60,8 +60,8 @@ pub enum Sleeper {
     Waiter,
 }
 
-/// Where a seat stands: the atomic step to come. The payload is what the call has to remember. A number behind the name
-/// of a call counts the steps of that call.
+/// Where a seat stands: the atomic step to come. The payload is what the call has to remember. `lock` 4 below is step 4 of
+/// `lock` in `docs/PROTOCOL.md`.
 #[derive(Clone, Copy, Debug, PartialEq, Eq)]
 pub enum Point {
     // Between calls: no step.
@@ -79,9 +79,9 @@ pub enum Point {
     LockCountSubtract,
 
     // A `try_lock` until it enters.
-    /// `try_lock` 1: exchange the count word from 0 to 1.
-    TryCountExchange,
     /// `try_lock` 1: compare-and-exchange of the count word from 0 to 1.
+    TryCountExchange,
+    /// `try_lock` 2: load the owner word, to learn whether this seat holds already.
     TryOwnerLoad,
     /// `try_lock` 4: load the handoff word, to accept a post in place of Busy.
     TryHandoffLoad,

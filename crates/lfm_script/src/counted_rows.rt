@@ -11,7 +11,7 @@ use lfm_model::{Entry, Refusal, TotalOp, What};
 use std::alloc::{AllocError, Global};
 
 impl Row {
-    /// The row also counts what an entry says.
+    /// Adds what an entry says to the row.
     fn count_entry(&mut self, what: &What<TotalOp>)
         requires fits { FitsRow (row_plus self.old (added what.now)) }
         ensures { self.new ≡ row_plus self.old (added what.now) }
@@ -26,7 +26,7 @@ impl Row {
     }
 }
 
-/// Each row, the first of which is worker 1's, also counts what its worker's entries added. Takes no memory.
+/// Adds what each worker's entries say to the worker's row. The first row is worker 1's. Takes no memory.
 fn count_entries(rows: &mut [Row], entries: &[Entry<TotalOp>])
     requires within { Within (length rows.old) entries.now }
     requires fits { (i : ℕ) (d : Row) → i < length rows.old →

@@ -6,8 +6,8 @@ use crate::faults::WorkFault;
 use crate::statuses::status;
 use lfm_text::tell_fault;
 
-/// Prints on standard error what kept the program of this name from its end, if something did, and returns the exit status of
-/// the outcome. A message that can't be written changes no status.
+/// Prints on standard error the fault that ended the program early, if there was one, after the program's name. Returns the
+/// exit status of the outcome. A message that can't be written changes no status.
 pub fn report_work<R: Eprint>(
     rt: &R,
     program: &'static str,

@@ -1,6 +1,6 @@
-//! The greatest counts of a measure with which each node is reached. A greater count at a node leads to nothing smaller than a
-//! smaller one does, so only the greatest is kept. Counts are kept apart by what they are made beside: how often the other seat
-//! has changed the push word, or how many calls were open as the run began.
+//! For each node the greatest count of a measure with which it is reached. A smaller count can't lead to more from there, so it
+//! is dropped. There is one greatest count for each number of changes of the push word by the other seat, or of calls open at
+//! the start of the run.
 ghost use Rattle.std.specs.Prelude.{◌≡◌};
 ghost use Rattle.lfm_states.specs.Counts.{is_below};
 
@@ -8,7 +8,7 @@ use crate::graph::{Edge, Graph};
 use crate::measures::{Effect, Measure};
 use std::alloc::{AllocError, Global};
 
-/// Counts are kept beside 0, 1 and 2 such changes or calls.
+/// Counts are kept for 0, 1 and 2 such changes or calls.
 pub const CLASSES: usize = 3;
 
 /// The most passes over all edges. If counts still change in the last of them, they do not settle.

@@ -42,10 +42,12 @@ pub struct Part {
 impl Holder<u64> for Part {
     ghost seat_of = { λ p. p.seat };
 
+    /// The seat of the mutex.
     fn seat(&self) -> &Seat<u64> {
         &self.seat
     }
 
+    /// The seat of the mutex. The cond seats are dropped.
     fn into_seat(self) -> Seat<u64> {
         self.seat
     }

@@ -3,9 +3,10 @@
 ghost use Rattle.std.specs.Prelude.{◌≡◌, ◌≤◌, IfOk, IfErr, None, Some};
 ghost use Rattle.lfm_stress.specs.Ranges.{most_threads, least_threads, most_turns, refusal_of, seats_of};
 
-/// The fewest threads of a load that takes any number of them, and the most: one seat is left for the thread that wakes.
+/// The fewest threads of a load that takes any number of them.
 pub const LEAST_THREADS: u64 = 1;
 
+/// The most threads of such a load. One seat of the mutex is left for the thread that wakes.
 pub const MOST_THREADS: u64 = 4_094;
 
 /// The threads of `ping_pong`.
@@ -17,7 +18,7 @@ const MOVERS: u64 = 4;
 /// The most turns of a thread.
 pub const MOST_TURNS: u64 = 1_000_000_000;
 
-/// The most items that go through the buffer: for a tenth of them the monitor's journal has room.
+/// The most items that go through the buffer. The journal of a monitor has room for a tenth of them.
 pub const MOST_ITEMS: u64 = 800_000;
 
 /// What the threads do.
@@ -27,7 +28,7 @@ pub enum Load {
     Lock,
     /// Each thread tries and locks in turn. A try that meets another's hold adds nothing.
     Mixed,
-    /// Two threads take turns, of which each waits for the other's on a condvar.
+    /// Two threads take turns. Each waits for the other's turn on a condvar.
     PingPong,
     /// Threads wait on a condvar, and one more wakes them all at once.
     Broadcast,

@@ -28,8 +28,8 @@ fn additions_of(plan: Plan) -> u64
     }
 }
 
-/// How many of them must be made at least. In `mixed` these are those of the turns that lock, and that of the first turn of
-/// all, a try that finds the mutex free.
+/// How many of them must be made at least. In `mixed` these are one for each turn that locks, and one for the very first try,
+/// which finds the mutex free.
 fn least_of(plan: Plan) -> u64
     ensures { result ≡ least_of plan.load plan.threads plan.turns }
 {

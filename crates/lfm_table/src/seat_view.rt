@@ -44,8 +44,8 @@ pub struct View<T> {
     pub standing: SeatState,
     /// Its steps so far.
     pub trail: LinkedList<Seen>,
-    /// An early part of the table's run, by all seats, after which only others have acted. Each step of the seat brings it up to
-    /// that step; before its first it is empty.
+    /// An early part of the table's run, by all seats, after which only others have acted. Each step of the seat brings it up
+    /// to that step; before its first it is empty.
     pub actions: LinkedList<Action>,
     /// The value that the seat left last; the opening value before that.
     pub last: Option<T>,

@@ -1,5 +1,6 @@
-//! The seats that were woken, in order: a list that contracts read and no code does. A proof by hand, in any crate, could lengthen it.
-//! So only `new` and `and`, which no tactic can prove, have one that names it: `scripts/edits --check` looks for others.
+//! The seats that were woken, in order: a list that contracts read and no code does. A proof by hand could lengthen it, in any
+//! crate. Only `new` and `and`, which no tactic can prove, have a proof by hand that names the list: `scripts/edits --check`
+//! looks for others.
 ghost use Rattle.std.specs.Prelude.{◌≡◌, ℕ, List, [], ◌∷◌, ◌++◌};
 ghost use Rattle.std.specs.Borrow.{ftrue};
 

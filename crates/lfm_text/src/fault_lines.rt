@@ -7,7 +7,8 @@ use crate::faults::WriteFault;
 use crate::output::{write_line_feed, write_number, write_text};
 use std::io::Write;
 
-/// Writes the fault line of a text whose line of this number says nothing. A fault if the writer fails, after a prefix of it.
+/// Writes the fault line of a text whose line of this number has a fault of syntax. A fault if the writer fails, after a prefix
+/// of it.
 pub fn write_syntax_line<W: Write>(writer: &mut W, number: u64) -> Result<(), WriteFault>
     ensures { Writes (W.contents writer.old) (W.contents writer.new) (syntax_text number) result }
 {

@@ -1,5 +1,5 @@
-//! Tests that start threads or need several crates, by what they call: threads that are started together, the running mutex,
-//! the condition variable, the monitor, and runs of workers. Only they stand here, and what they are made of.
+//! Tests that start threads, and all tests of the condition variable, the monitor and runs of workers, with or without threads.
+//! Of the tests of the running mutex, `races`, `flags` and `many_seats` start none; others that start none are in `lfm_tests`.
 #![tactic(auto)]
 
 #[cfg(test)]

@@ -15,7 +15,7 @@ pub enum StartFault {
     Thread,
 }
 
-/// All jobs, in their order and as they were given: none of them was begun.
+/// All jobs, in their order and unchanged: none of them was begun.
 #[derive(Drop)]
 pub struct NotStarted<P> {
     /// The jobs.

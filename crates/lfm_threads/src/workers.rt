@@ -22,12 +22,12 @@ impl<'a, P, X, K: Task<P, X>> Promise<Arrival<'a, P, X>> for Given<P, K> {
     ghost kept_by = { λ g a. Arrives (K.gives g.task.value) g.latch.value.start.id g.job.value a };
 }
 
-/// To whom a job was given.
+/// Who was given a job.
 #[derive(Drop)]
 pub enum Worker<'a, P, X, K: Task<P, X>> {
     /// A thread.
     Started(PromisedHandle<Arrival<'a, P, X>, Given<P, K>>),
-    /// Nobody: no thread could be started for it. It came to this.
+    /// Nobody: no thread could be started for the job. This came of it.
     Refused(Arrival<'a, P, X>),
 }
 

@@ -126,8 +126,7 @@ pub fn hundredths(amount: u64, base: u64) -> u64
     per(amount.saturating_mul(100), base)
 }
 
-/// The figures at one quarter, at two and at three of a series that is put in order: half of all figures lie between the
-/// first and the third.
+/// The quartiles of a sorted series: half of all figures lie between the lower and the upper one.
 #[derive(Clone, Copy)]
 pub struct Quartiles {
     /// As many figures stand before this one as stand after the upper one: a quarter of all, rounded down.

@@ -11,7 +11,7 @@ const PARTS: u64 = 8;
 /// How many classes there are: one for each time below 8 nanoseconds, and 8 for each of 61 powers of two.
 const CLASSES: usize = 496;
 
-/// Of this number of waits one may be longer than most are.
+/// The time of most waits leaves out the longest ones, one in this many.
 const MANY: u64 = 1_000;
 
 /// Whether the waits of a workload are timed.
@@ -21,7 +21,7 @@ pub enum Watching {
     Waits,
 }
 
-/// The waits of some threads that are over. Those of a workload whose waits are not timed are none.
+/// The waits of some threads that have ended. Of a workload whose waits are not timed there are none.
 #[derive(Drop)]
 pub struct Waits {
     /// How many there were of each class. Empty if they are not timed.

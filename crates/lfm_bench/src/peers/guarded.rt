@@ -65,13 +65,13 @@ impl Kept for Guarded {
 /// What a thread does that holds the mutex.
 #[derive(Clone, Copy)]
 pub enum Operation {
-    /// It reads the number, once that is at least this.
+    /// Reads the number, once it is at least this.
     ReadFrom(u64),
-    /// It adds 1 to the number, once that is at least this, and reads it then.
+    /// Adds 1 to the number, once it is at least this, and reads it then.
     AddOneTo(u64),
-    /// It puts this number into the queue, once there is room.
+    /// Puts this number into the queue, once there is room.
     Put(u64),
-    /// It takes a number out of the queue, once one is there.
+    /// Takes a number out of the queue, once there is one.
     Take,
 }
 
@@ -84,7 +84,7 @@ impl Guarded {
         }
     }
 
-    /// Does this. Returns the number that was read, put in or taken out, or None if it can't be done yet.
+    /// Makes the operation. Returns the number that was read, put in or taken out, or None if the operation isn't possible yet.
     #[inline(always)]
     pub fn apply(&mut self, operation: Operation) -> Option<u64> {
         match operation {

@@ -180,8 +180,8 @@ impl<'a> Participant<'a> {
         self.shared.mutex.unlock(&mut self.seat).is_ok()
     }
 
-    /// Waits, while it holds the mutex, until it can do this, and does it. Returns what it gives, or None if a call was
-    /// refused.
+    /// Waits, while it holds the mutex, until the operation is possible, and makes it. Returns its number, or None if a call
+    /// was refused.
     pub fn wait_and_apply<R: Wait>(&mut self, rt: &R, operation: Operation) -> Option<u64> {
         for _ in rt.forever() {
             if let Some(number) = self.apply(operation) {
@@ -194,8 +194,8 @@ impl<'a> Participant<'a> {
         None
     }
 
-    /// In one hold of the mutex it waits until it can do this, does it, and wakes one that waits on the other condvar. Returns
-    /// what it gives, or None if a call was refused.
+    /// In one hold of the mutex it waits until the operation is possible, makes it, and wakes one that waits on the other
+    /// condvar. Returns the operation's number, or None if a call was refused.
     pub fn lock_and_apply<R: Wait>(&mut self, rt: &R, operation: Operation) -> Option<u64> {
         if !self.lock(rt) {
             return None;
@@ -257,7 +257,8 @@ impl<'a> Participant<'a> {
         woken.unwrap_or(0)
     }
 
-    /// Does this to what the mutex guards. Returns what it gives, or None if it can't be done yet or the seat doesn't hold.
+    /// Makes the operation on what the mutex guards. Returns its number, or None if it isn't possible yet or the seat doesn't
+    /// hold.
     pub fn apply(&mut self, operation: Operation) -> Option<u64> {
         match self.seat.value_mut() {
             Some(guarded) => guarded.apply(operation),

@@ -89,8 +89,8 @@ struct Calls {
     number: Option<u64>,
 }
 
-/// What the caller and the threads did, of which each says how often it held. It is exact if each held once for each broadcast
-/// and once before, the number is right, and as many were woken.
+/// What the caller and the threads did; `holds` says how often each thread held. It is exact if each held once for each
+/// broadcast and once before, the number is right, and as many were woken.
 fn sample(load: Load, calls: Calls, holds: &[u64]) -> Sample
     ensures number { result.exact ≡ true → calls.number ≡ Some (ended load load.broadcasts) }
     ensures woken { result.exact ≡ true → IfSome calls.woken (λ w. w ≡ load.broadcasts * load.threads % 2 ^ 64) }

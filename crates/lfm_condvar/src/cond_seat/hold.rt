@@ -1,5 +1,5 @@
-//! One hold of the inner mutex: a cond seat locks it, and gives it back with the list that it made. Both are private to this
-//! module, and to its children, which offer whole holds alone.
+//! One hold of the inner mutex: a cond seat locks it, changes the list, and unlocks it. Lock and unlock are private to this
+//! module and its children, which offer only whole holds.
 ghost use Rattle.std.specs.Prelude.{◌≡◌, ◌≤◌, IfErr, IfOk, false};
 ghost use Rattle.lfm_model.specs.declared.refusals.Refusal.TheVariants.{Spent};
 ghost use Rattle.lfm_mutex.specs.Belongs.{Beside, OfMutex, limits_of, tries_of};
@@ -17,7 +17,7 @@ use lfm_model::{Locked, Refusal};
 use lfm_mutex::{Mutex, Seat};
 use std::sync::Wait;
 
-/// Locks the inner mutex: the cond seat tries as often as the pace says, and then queues. It is refused as Spent alone.
+/// Locks the inner mutex by `lock_barging`. Its only refusal is Spent.
 fn lock_list<R: Wait>(
     inner: &Mutex<Waiters>,
     rt: &R,
@@ -42,7 +42,7 @@ fn lock_list<R: Wait>(
     }
 }
 
-/// Gives the inner mutex back.
+/// Unlocks the inner mutex.
 fn leave_list(inner: &Mutex<Waiters>, cond: &mut Seat<Waiters>)
     requires belongs { OfMutex cond.old inner.now }
     requires held { ((sight cond.old).depth ≡ 1) × ((sight cond.old).asleep ≡ false) }

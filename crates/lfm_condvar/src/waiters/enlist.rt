@@ -32,9 +32,9 @@ pub(crate) fn bars_wait<T: Kept>(seat: &Seat<T>) -> Option<Refusal>
     None
 }
 
-/// Puts the user seat, which holds its mutex, at the end of the list with the next ticket, counts the ticket for the cond
-/// seat `by`, and makes `start_wait`: both or, if it refuses, neither. It answers the ticket. The list is lent to it while
-/// the inner mutex is held.
+/// Appends the user seat, which holds its mutex, to the list with the next ticket, counts the ticket for the cond seat `by`,
+/// and makes `start_wait`. If it refuses, it does none of this. It answers the ticket. The list is lent to it while the inner
+/// mutex is held.
 ///
 /// Refuses, in this order: Asleep, NotOwner, Nested and Spent as `start_wait`, NoSuchSeat (the condvar has fewer seats than
 /// the user seat's number) and Busy (the user seat stands in the list). It takes no memory and never waits, and wakes the

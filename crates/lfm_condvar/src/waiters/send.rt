@@ -12,7 +12,7 @@ use crate::waiters::Waiters;
 use lfm_model::{Refusal, SeatNo};
 use lfm_mutex::{Kept, Mutex, Seat, WakeUp};
 
-/// Makes `send_lock` for the seat that has waited longest, and removes it from the list: both or, if it refuses, neither. It
+/// Makes `send_lock` for the seat that has waited longest, and removes it from the list. If it refuses, it does neither. It
 /// answers that seat and its ticket, or None if the list is empty. The list is lent to it while the inner mutex is held.
 ///
 /// Refuses, in this order: Asleep (the caller's seat sleeps, or a call of it is open) and NotWaiting (the oldest doesn't wait

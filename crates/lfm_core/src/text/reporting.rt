@@ -18,8 +18,8 @@ pub fn replay_status(outcome: &Result<bool, ReplayFault>) -> u8
     }
 }
 
-/// Prints on standard error what kept the program of this name from its end, if something did, and returns the exit status of
-/// the outcome. A message that can't be written changes no status.
+/// Prints on standard error the fault that ended the program early, if there was one, after the program's name. Returns the
+/// exit status of the outcome. A message that can't be written changes no status.
 pub fn report<R: Eprint>(rt: &R, program: &'static str, outcome: &Result<bool, ReplayFault>) -> u8
     ensures { result ≡ replay_status outcome.now }
 {

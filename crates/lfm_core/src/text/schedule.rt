@@ -139,8 +139,8 @@ fn read_header(text: &[u8]) -> Option<Limits>
     Some(Limits { seats, budget })
 }
 
-/// What the `count` lines of a text say, of which the first has number 2, or the fault of the first that says nothing.
-/// Makes one request for memory, for all of them, before it reads them.
+/// What the `count` lines of a text say, of which the first has number 2, or the fault of the first that is no line of a
+/// schedule. Makes one request for memory, for all of them, before it reads them.
 fn read_lines(alloc: Global, text: &[u8], count: usize) -> Result<Vec<Line>, ReplayFault>
     requires counted { length (lines_of text.now) ≡ count }
     requires few { count < max_lines }
@@ -166,9 +166,9 @@ fn read_lines(alloc: Global, text: &[u8], count: usize) -> Result<Vec<Line>, Rep
 ///
 /// A text may have several faults. This one is returned:
 /// 1. Limit, if it is longer than 1,048,576 bytes or has more than 65,536 lines;
-/// 2. Syntax, if some line is none of a schedule, with the number of the first such line. The numbers begin at 1, and a text
+/// 2. Syntax, if some line is no line of a schedule, with the number of the first such line. The numbers begin at 1, and a text
 ///    without lines has this fault in line 1;
-/// 3. Limit, if the number of seats or the budget is none that a mutex may have.
+/// 3. Limit, if no mutex may have this number of seats or this budget.
 ///
 /// Makes one request for memory, for the lines after the first, and none if there are no such lines: Memory if it is refused,
 /// before those lines are read. Never Read or Write.

@@ -124,7 +124,7 @@ pub fn write_why<W: Write>(writer: &mut W, why: Why) -> Result<(), WriteFault>
     }
 }
 
-/// Writes of a call that is open whether this line has begun it.
+/// Writes `begins` if this line has begun the open call, or `goes on` if an earlier line has.
 fn write_open<W: Write>(writer: &mut W, act: Act) -> Result<(), WriteFault>
     ensures { Writes (W.contents writer.old) (W.contents writer.new) (open_text act) result }
 {
@@ -351,8 +351,8 @@ pub fn write_line<W: Write>(
     Ok(())
 }
 
-/// Writes the line of a fault of the input: the number of a line that says nothing, or Limit for every other fault. The
-/// callers pass no other than these two.
+/// Writes the line of a fault of the input: the number of the first line that is no line of a schedule, or Limit for every
+/// other fault. The callers pass no other than these two.
 pub fn write_fault_line<W: Write>(writer: &mut W, fault: ReplayFault) -> Result<(), WriteFault>
     ensures { Writes (W.contents writer.old) (W.contents writer.new) (fault_text fault) result }
 {

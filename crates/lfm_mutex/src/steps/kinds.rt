@@ -1,8 +1,8 @@
 //! The atomic step of each kind by itself: one operation on one word, and then the seat's own method of the core for that kind.
 //! Each has the condition that the seat's point is of its kind, and is one event of the core.
 //!
-//! Each answers Open if the call goes on, and else the answer or refusal that ends the call. None of them waits or takes memory,
-//! and `store_wake` alone wakes a seat.
+//! Each answers Open if the call goes on, and else the answer or refusal that ends the call. None of them waits or takes
+//! memory, and `store_wake` alone wakes a seat.
 ghost use Rattle.std.specs.Prelude.{◌≡◌, ◌≢◌, true, false, Some};
 ghost use Rattle.lfm_protocol.specs.declared.kinds.Kind.{Kind as KindNow};
 ghost use Rattle.lfm_protocol.specs.declared.points.Point.TheVariants.{ReleaseOwnerStore};

@@ -76,8 +76,8 @@ fn read_header(text: &[u8]) -> Option<(u64, u64)>
     Some((workers, conditions))
 }
 
-/// What the `count` lines of a text say, of which the first has number 2, or the fault of the first that says nothing.
-/// Makes one request for memory, for all of them, before it reads them.
+/// What the `count` lines of a text say, of which the first has number 2, or the fault of the first that is no line of a
+/// script. Makes one request for memory, for all of them, before it reads them.
 fn read_lines(alloc: Global, text: &[u8], count: usize) -> Result<Vec<ScriptLine>, WorkFault>
     requires counted { length (lines_of text.now) ≡ count }
     requires few { count < max_lines }
@@ -103,7 +103,7 @@ fn read_lines(alloc: Global, text: &[u8], count: usize) -> Result<Vec<ScriptLine
 ///
 /// A text may have several faults. This one is returned:
 /// 1. Limit, if it is longer than 1,048,576 bytes or has more than 65,536 lines;
-/// 2. Syntax, if some line is none of a script, with the number of the first such line. The numbers begin at 1, and a text
+/// 2. Syntax, if some line is no line of a script, with the number of the first such line. The numbers begin at 1, and a text
 ///    without lines has this fault in line 1;
 /// 3. Limit, if the number of workers is outside 1 to 4,095 or that of conditions is above 16, or if a line names a worker or a
 ///    condition that is not there, or has a command add or wait for more than 1,000,000,000.

@@ -192,6 +192,7 @@ struct Move {
 impl<R: Wait> CriticalSection<Buffer, R> for Move {
     type Answer = u64;
 
+    /// Makes the move, and wakes one that waits for what it brought. The number of the round is not used.
     fn execute(
         &self,
         rt: &R,

@@ -11,8 +11,8 @@ use atomic_table::Table;
 use std::alloc::{AllocError, Global};
 
 impl<T: Kept> SharedTable<T> {
-    /// A table of these words and slots, which keep the rule, and its first seat. What lies in the slots is dropped if there is no
-    /// memory.
+    /// A table of these words and slots, which keep the rule, and its first seat. What lies in the slots is dropped if there is
+    /// no memory.
     pub fn new(
         alloc: Global,
         words: &[u64],

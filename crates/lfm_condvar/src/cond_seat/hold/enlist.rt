@@ -36,7 +36,7 @@ fn with_ahead(ticket: Result<u64, Refusal>, ahead: usize) -> Result<Enlisted, Re
     }
 }
 
-/// Lends the list in hand to `enlist_without_waking`, and counts those that wait there.
+/// Lends the list that the cond seat holds to `enlist_without_waking`, and counts those that wait there.
 fn enlist_in_hand<T: Kept>(
     cond: &mut Seat<Waiters>,
     mutex: &Mutex<T>,
@@ -63,8 +63,8 @@ fn enlist_in_hand<T: Kept>(
 }
 
 impl Condvar {
-    /// Enlists the user seat in one hold of the inner mutex. Only Busy is left to refuse it. The wake-up of the seat that is
-    /// granted the user mutex is handed out, so that its thread doesn't wake while the list is held.
+    /// Enlists the user seat in one hold of the inner mutex. Busy is the only refusal that is left. The wake-up of the seat
+    /// that is granted the user mutex is handed out, so that its thread doesn't wake while the list is held.
     pub(crate) fn enlist_in_one_hold<T: Kept, R: Wait>(
         &self,
         rt: &R,

@@ -19,7 +19,7 @@ use lfm_model::{Refusal, SeatNo};
 use lfm_mutex::{Kept, Mutex, Seat, WakeUp};
 use std::sync::Wait;
 
-/// Holds back the later of two wake-ups, if there are two, and spends the earlier one at once: no memory is taken to keep both.
+/// Keeps the later of two wake-ups, if there are two, and spends the earlier one at once, so that no memory is needed for both.
 fn hold_back<T: Kept>(
     mutex: &Mutex<T>,
     seat: &mut Seat<T>,
@@ -77,7 +77,7 @@ fn send_all<T: Kept>(
     }
 }
 
-/// Lends the list in hand to `send_oldest_without_waking`.
+/// Lends the list that the cond seat holds to `send_oldest_without_waking`.
 fn send_oldest_in_hand<T: Kept>(
     cond: &mut Seat<Waiters>,
     mutex: &Mutex<T>,
@@ -100,7 +100,7 @@ fn send_oldest_in_hand<T: Kept>(
     send_oldest_without_waking(waiters, mutex, seat)
 }
 
-/// Lends the list in hand to `send_all`.
+/// Lends the list that the cond seat holds to `send_all`.
 fn send_all_in_hand<T: Kept>(
     cond: &mut Seat<Waiters>,
     mutex: &Mutex<T>,

@@ -1,5 +1,5 @@
 //! The limits of a mutex: how many seats it may have, how many takes each may charge, how deep it may hold, and how many steps
-//! a call may need. Other code takes these numbers from here. Only `lfm_script`, which knows no mutex, and `lfm_stress` repeat
+//! a call may need. Other crates take these numbers from here. Only `lfm_script`, which knows no mutex, and `lfm_stress` repeat
 //! the number of seats.
 ghost use Rattle.std.specs.Prelude.{◌≡◌, ◌+◌, ◌<◌, ◌^◌};
 ghost use Rattle.lfm_protocol.specs.Limits.{are_in_limits};

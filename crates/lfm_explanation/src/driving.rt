@@ -3,12 +3,11 @@
 //! What it writes are the lines of a replay without the states, so that the words of a running mutex can be compared with
 //! those of the core's state.
 ghost use Rattle.lfm_mutex.specs.Belongs.{Beside, OfMutex};
-ghost use Rattle.lfm_text.specs.Text.{max_lines};
 ghost use Rattle.std.specs.Prelude.{◌≡◌, ◌<◌, ◌⊎◌, All, length};
 
-use crate::reading::{line_number, schedule_from};
+use crate::reading::schedule_from;
 use lfm_core::text::trace::write_outcome;
-use lfm_core::{Act, Line, ReplayFault, Schedule, Turn, Why};
+use lfm_core::{Act, Line, ReplayFault, Schedule, Turn, Why, line_number};
 use lfm_model::NewFault;
 use lfm_mutex::steps::{next, start};
 use lfm_mutex::{Mutex, Seat};
@@ -69,7 +68,6 @@ fn drive_lines<W: Write>(
     lines: &[Line],
 ) -> Result<bool, ReplayFault>
     requires belong { All (λ s. OfMutex s mutex.now) seats.old }
-    requires few { length lines.now < max_lines }
 {
     let mut none_refused = true;
     'driving: for (index, line) in lines.iter().enumerate() {
@@ -86,9 +84,7 @@ fn drive_schedule<W: Write>(
     alloc: Global,
     schedule: &Schedule,
     writer: &mut W,
-) -> Result<bool, ReplayFault>
-    requires few { length schedule.now.lines.items < max_lines }
-{
+) -> Result<bool, ReplayFault> {
     let (mutex, mut seats) = match Mutex::new(alloc, schedule.seats, schedule.budget, 0u64) {
         Ok(made) => made,
         Err(NewFault::Limit) => return Err(ReplayFault::Limit),

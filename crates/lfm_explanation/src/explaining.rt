@@ -1,17 +1,16 @@
 //! The explanation of a schedule: the lines of `lfm replay`, and before each the begins and steps that led to it.
-ghost use Rattle.std.specs.Prelude.{◌≡◌, ◌<◌, ◌≤◌, length, vec_capacity, true, Ok, IfOk, IfSome, IsErrOf};
+ghost use Rattle.std.specs.Prelude.{◌≡◌, ◌≤◌, length, vec_capacity, true, Ok, IfOk, IfSome, IsErrOf};
 ghost use Rattle.std.specs.Io.KnownBytes.{Keeps};
 ghost use Rattle.lfm_core.specs.text.Grammar.{plan_of};
 ghost use Rattle.lfm_core.specs.text.Lines.{steps, line_moved};
 ghost use Rattle.lfm_core.specs.text.Trace.{none_refused, opening};
-ghost use Rattle.lfm_text.specs.Text.{max_lines};
 ghost use Rattle.lfm_protocol.specs.Limits.{are_in_limits};
 ghost use Rattle.lfm_explanation.specs.Verdicts.{AnswersVerdict, Judges};
 
-use crate::reading::{line_number, schedule_from};
+use crate::reading::schedule_from;
 use crate::shown::{LineStart, begin_shown, step_shown};
 use lfm_core::text::trace::{write_line, write_opening};
-use lfm_core::{Act, Line, ReplayFault, Schedule, State, Turn};
+use lfm_core::{Act, Line, ReplayFault, Schedule, State, Turn, line_number};
 use lfm_text::{WriteFault, flush};
 use lfm_words::Record;
 use std::alloc::Global;
@@ -69,7 +68,6 @@ fn explain_lines<W: Write>(
     records: &mut Vec<Record>,
 ) -> Result<bool, WriteFault>
     requires capacity { length state.old.seats ≤ vec_capacity records.old }
-    requires few { length lines.now < max_lines }
     ensures verdict { IfOk result (λ b. b ≡ none_refused state.old lines.now) }
 {
     let mut none_refused = true;
@@ -90,7 +88,6 @@ fn explain_run<W: Write>(
     records: &mut Vec<Record>,
 ) -> Result<bool, WriteFault>
     requires capacity { length state.old.seats ≤ vec_capacity records.old }
-    requires few { length schedule.now.lines.items < max_lines }
     ensures verdict { IfOk result (λ b. b ≡ none_refused state.old schedule.now.lines.items) }
 {
     write_opening(writer, schedule.seats, state, records)?;
@@ -106,7 +103,6 @@ fn explain_schedule<W: Write>(
     writer: &mut W,
 ) -> Result<bool, ReplayFault>
     requires limits { are_in_limits schedule.now.seats schedule.now.budget ≡ true }
-    requires few { length schedule.now.lines.items < max_lines }
     ensures { let plan = plan_of schedule.now in
         AnswersVerdict result (Ok (none_refused (opening plan) plan.lines)) (W.contents writer.old) (W.contents writer.new) }
 {

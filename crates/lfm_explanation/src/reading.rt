@@ -1,8 +1,6 @@
-//! What `explain` and `drive` have in common: the schedule that they read, with the line of its fault, and the numbers of its
-//! lines.
-ghost use Rattle.std.specs.Prelude.{◌≡◌, ◌+◌, ◌<◌, length, true, IfOk, IfSome, IsErrOf};
+//! What `explain` and `drive` have in common: the schedule that they read, with the line of its fault.
+ghost use Rattle.std.specs.Prelude.{◌≡◌, true, IfOk, IfSome, IsErrOf};
 ghost use Rattle.std.specs.Io.KnownBytes.{Keeps};
-ghost use Rattle.lfm_text.specs.Text.{max_lines};
 ghost use Rattle.lfm_protocol.specs.Limits.{are_in_limits};
 ghost use Rattle.lfm_explanation.specs.Verdicts.{Reads};
 
@@ -11,14 +9,6 @@ use lfm_core::{ReplayFault, Schedule, read_schedule};
 use lfm_text::{WriteFault, flush, read_input};
 use std::alloc::Global;
 use std::io::{Read, Write};
-
-/// The number of a schedule's line, counted from 1, that has this index among those after the first.
-pub(crate) fn line_number(index: usize) -> u64
-    requires { index < max_lines }
-    ensures { result ≡ index + 2 }
-{
-    index as u64 + 2
-}
 
 /// Writes the line of a fault of the input, and flushes the writer.
 fn write_fault<W: Write>(writer: &mut W, fault: ReplayFault) -> Result<(), WriteFault> {
@@ -35,7 +25,6 @@ fn schedule_in<W: Write>(
     ensures reads { Reads result input.now (W.contents writer.old) (W.contents writer.new) }
     ensures unwritten { IfOk result (λ _. W.contents writer.new ≡ W.contents writer.old) }
     ensures limits { IfOk result (λ s. are_in_limits s.seats s.budget ≡ true) }
-    ensures few { IfOk result (λ s. length s.lines.items < max_lines) }
 {
     match read_schedule(alloc, input) {
         Ok(schedule) => Ok(schedule),
@@ -58,7 +47,6 @@ pub(crate) fn schedule_from<R: Read, W: Write>(
         Reads result input (W.contents writer.old) (W.contents writer.new)) }
     ensures unwritten { IfOk result (λ _. W.contents writer.new ≡ W.contents writer.old) }
     ensures limits { IfOk result (λ s. are_in_limits s.seats s.budget ≡ true) }
-    ensures few { IfOk result (λ s. length s.lines.items < max_lines) }
     ensures read { IsErrOf result ReplayFault.Read → Keeps (W.contents writer.old) (W.contents writer.new) }
     ensures memory { IsErrOf result ReplayFault.Memory → Keeps (W.contents writer.old) (W.contents writer.new) }
 {

@@ -42,10 +42,7 @@ fn opened(alloc: Global, seats: u64, budget: u64) -> Result<Whole, NewFault>
     ensures ok { IfOk result (λ w. Opened seats budget w × (are_in_limits seats budget ≡ true)) }
     ensures fault { IfErr result (λ e. Faults seats budget e) }
 {
-    let (mutex, seats) = match Mutex::new(alloc, seats, budget, 0) {
-        Ok(made) => made,
-        Err(fault) => return Err(fault),
-    };
+    let (mutex, seats) = Mutex::new(alloc, seats, budget, 0)?;
     let Ok(mutex) = Arc::new(alloc, mutex) else {
         return Err(NewFault::Memory);
     };

@@ -43,10 +43,7 @@ impl Condvar {
         let Ok(waiters) = Waiters::empty(alloc, seats, budget) else {
             return Err(NewFault::Memory);
         };
-        let (inner, inner_seats) = match Mutex::new(alloc, seats, budget, waiters) {
-            Ok(made) => made,
-            Err(fault) => return Err(fault),
-        };
+        let (inner, inner_seats) = Mutex::new(alloc, seats, budget, waiters)?;
         let cond_seats = as_cond_seats(inner_seats, cond_seats);
         Ok((Condvar { inner, seats }, cond_seats))
     }

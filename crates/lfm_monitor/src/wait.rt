@@ -71,15 +71,7 @@ impl<O: Object> Monitor<O> {
         };
         let length = pass.journal_len();
         let cond = &mut pass.cond_seats[place];
-        let (how, ticket) = match self.conditions[place].wait(
-            rt,
-            cond,
-            &self.mutex,
-            &mut pass.seat,
-        ) {
-            Ok(waited) => waited,
-            Err(refusal) => return Err(refusal),
-        };
+        let (how, ticket) = self.conditions[place].wait(rt, cond, &self.mutex, &mut pass.seat)?;
         write_took(&mut pass.seat, how);
         pass.seen = length;
         pass.mine += 1;

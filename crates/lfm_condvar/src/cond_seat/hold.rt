@@ -32,10 +32,7 @@ fn lock_list<R: Wait>(
     ensures steps { IfOk result (λ _. LocksList (limits_of inner.now) (tries_of inner.now) (sight cond.old) (sight cond.new)) }
     ensures refused { IfErr result (λ r. (r ≡ Spent) × ((limits_of inner.now).budget ≤ (sight cond.old).takes) × (sight cond.new ≡ sight cond.old)) }
 {
-    let locked = match inner.lock_barging(rt, cond) {
-        Ok(locked) => locked,
-        Err(refusal) => return Err(refusal),
-    };
+    let locked = inner.lock_barging(rt, cond)?;
     match locked {
         Locked::Held(_) => Ok(()),
         Locked::Again(_) => unreachable!(),

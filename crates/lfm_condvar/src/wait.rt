@@ -78,6 +78,8 @@ impl Condvar {
         ensures begins { BeginWaitEnds (limits_of mutex.now) (cond_limits self.now) (cond_tries self.now) (cond_sight cond.old) (cond_sight cond.new) (sight seat.old) (sight seat.new) (ticket_of result) }
         ensures ahead { IfOk result (λ e. (v : _) × ((cond_sight cond.new).found ≡ Some v) × (e.ahead ≡ length v.list.items)) }
     {
+        // `enlist` makes the first and the last of these checks again. Here they come before the lock of the list, which costs
+        // the cond seat a take.
         if let Some(refusal) = bars_wait(seat) {
             return Err(refusal);
         }

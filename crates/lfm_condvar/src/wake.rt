@@ -41,6 +41,7 @@ impl Condvar {
         ensures wakes { WakeOneEnds (limits_of mutex.now).seats (cond_limits self.now) (cond_tries self.now) (cond_sight cond.old) (cond_sight cond.new) (sight seat.old) (sight seat.new) result }
         ensures steps { SendsBy (limits_of mutex.now) (sight seat.old) (sight seat.new) result }
     {
+        // `send_oldest` makes this check again. Here it comes before the lock of the list, which costs the cond seat a take.
         if seat.asleep() {
             return Err(Refusal::Asleep);
         }
@@ -74,6 +75,7 @@ impl Condvar {
         ensures wakes { WakeAllEnds (limits_of mutex.now).seats (cond_limits self.now) (cond_tries self.now) (cond_sight cond.old) (cond_sight cond.new) (sight seat.old) (sight seat.new) result }
         ensures steps { SendsBy (limits_of mutex.now) (sight seat.old) (sight seat.new) result }
     {
+        // `send_oldest` makes this check again. Here it comes before the lock of the list, which costs the cond seat a take.
         if seat.asleep() {
             return Err(Refusal::Asleep);
         }

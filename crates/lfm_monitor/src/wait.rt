@@ -9,25 +9,20 @@ ghost use Rattle.std.specs.Prelude.{◌≡◌, MatchOption};
 use crate::monitor::Monitor;
 use crate::pass::Pass;
 use crate::write::write_took;
+use lfm_condvar::bars_wait;
 use lfm_model::{How, Object, Refusal};
 use std::sync::Wait;
 
 impl<O: Object> Pass<O> {
-    /// Why the pass can't wait on any condition, if it can't.
+    /// Why the pass can't wait on any condition, if it can't: its seat can't, or it has no entry left.
     fn bars_wait(&self, share: u64) -> Option<Refusal>
         requires { budget_of self.now.seat ≡ share }
         ensures { MatchOption result (MayWait share (sight self.now.seat) self.now.mine) (λ r. WaitRefused share (sight self.now.seat) self.now.mine r) }
     {
-        if self.seat.asleep() {
-            return Some(Refusal::Asleep);
+        if let Some(refusal) = bars_wait(&self.seat) {
+            return Some(refusal);
         }
-        if self.seat.depth() == 0 {
-            return Some(Refusal::NotOwner);
-        }
-        if self.seat.depth() > 1 {
-            return Some(Refusal::Nested);
-        }
-        if self.seat.left() == 0 || self.mine >= share {
+        if self.mine >= share {
             return Some(Refusal::Spent);
         }
         None
@@ -63,6 +58,7 @@ impl<O: Object> Monitor<O> {
         ensures waits { WaitEnds (mutex_limits self.now) (condition_limits (passes_of self.now)) (tries_in self.now) (share_of self.now) (conditions_of self.now) condition (cond_seats_of pass.old) (cond_seats_of pass.new) (pass_sight pass.old) (pass_sight pass.new) (mine_of pass.old) result }
         ensures returns { WaitReturns (pass_sight pass.old) (pass_sight pass.new) (seen_of pass.old) (seen_of pass.new) (mine_of pass.old) (mine_of pass.new) result }
     {
+        // The condvar's wait checks the seat again. These refusals come before that of a missing condition.
         if let Some(refusal) = pass.bars_wait(self.share) {
             return Err(refusal);
         }

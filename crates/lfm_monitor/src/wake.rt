@@ -38,6 +38,7 @@ impl<O: Object> Monitor<O> {
         ensures steps { SendsBy (mutex_limits self.now) (pass_sight pass.old) (pass_sight pass.new) result }
         ensures same { (seen_of pass.new ≡ seen_of pass.old) × (mine_of pass.new ≡ mine_of pass.old) }
     {
+        // The condvar's wake makes this check again. Asleep comes before the refusal of a missing condition.
         if pass.seat.asleep() {
             return Err(Refusal::Asleep);
         }
@@ -74,6 +75,7 @@ impl<O: Object> Monitor<O> {
         ensures steps { SendsBy (mutex_limits self.now) (pass_sight pass.old) (pass_sight pass.new) result }
         ensures same { (seen_of pass.new ≡ seen_of pass.old) × (mine_of pass.new ≡ mine_of pass.old) }
     {
+        // The condvar's wake makes this check again. Asleep comes before the refusal of a missing condition.
         if pass.seat.asleep() {
             return Err(Refusal::Asleep);
         }

@@ -12,9 +12,9 @@ use crate::waiters::Waiters;
 use lfm_model::{Refusal, SeatNo};
 use lfm_mutex::{Kept, Mutex, Seat, WakeUp};
 
-/// Why the seat can't make `start_wait`, if it can't. `wait` asks before it locks the list, so that a refusal costs nothing.
-/// `enlist` asks too, since others call it.
-pub(crate) fn bars_wait<T: Kept>(seat: &Seat<T>) -> Option<Refusal>
+/// Why the seat can't make `start_wait`, if it can't: the first of Asleep, NotOwner, Nested and Spent that applies. It changes
+/// nothing, takes no memory and never waits.
+pub fn bars_wait<T: Kept>(seat: &Seat<T>) -> Option<Refusal>
     ensures { MatchOption result (MayWait (budget_of seat.now) (sight seat.now)) (λ r. WaitRefused (budget_of seat.now) (sight seat.now) r) }
 {
     if seat.asleep() {
@@ -78,6 +78,7 @@ pub(crate) fn enlist_without_waking<T: Kept>(
     ensures follows { WaitersFollow by waiters.old waiters.new }
     ensures wakes { Wakes (limits_of mutex.now).seats result.1 (sight seat.old).trail (sight seat.new).trail }
 {
+    // `wait` has made this check, and the next, before it locked the list. Others call `enlist` too.
     if let Some(refusal) = bars_wait(seat) {
         return (Err(refusal), None);
     }

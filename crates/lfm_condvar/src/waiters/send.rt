@@ -55,6 +55,7 @@ pub(crate) fn send_oldest_without_waking<T: Kept>(
     ensures follows { (s : ℕ) → WaitersFollow s waiters.old waiters.new }
     ensures wakes { Wakes (limits_of mutex.now).seats result.1 (sight seat.old).trail (sight seat.new).trail }
 {
+    // `send_lock` makes this check again. It isn't called if nobody waits.
     if seat.asleep() {
         return (Err(Refusal::Asleep), None);
     }

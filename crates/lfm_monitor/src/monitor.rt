@@ -70,7 +70,7 @@ impl<O: Object> Monitor<O> {
     }
 
     /// The index of the condition with this number, which is one less, or None if there is no such condition.
-    pub(crate) fn place_of(&self, condition: u64) -> Option<usize>
+    pub(crate) fn index_of(&self, condition: u64) -> Option<usize>
         ensures { MatchOption result (IsMissing (conditions_of self.now) condition) (λ n. (condition ≡ n + 1) × (n < conditions_of self.now)) }
     {
         if condition == 0 || condition > self.conditions.len() as u64 {

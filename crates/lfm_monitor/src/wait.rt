@@ -62,12 +62,12 @@ impl<O: Object> Monitor<O> {
         if let Some(refusal) = pass.bars_wait(self.share) {
             return Err(refusal);
         }
-        let Some(place) = self.place_of(condition) else {
+        let Some(index) = self.index_of(condition) else {
             return Err(Refusal::NoSuchSeat);
         };
         let length = pass.journal_len();
-        let cond = &mut pass.cond_seats[place];
-        let (how, ticket) = self.conditions[place].wait(rt, cond, &self.mutex, &mut pass.seat)?;
+        let cond = &mut pass.cond_seats[index];
+        let (how, ticket) = self.conditions[index].wait(rt, cond, &self.mutex, &mut pass.seat)?;
         write_took(&mut pass.seat, how);
         pass.seen = length;
         pass.mine += 1;

@@ -42,11 +42,11 @@ impl<O: Object> Monitor<O> {
         if pass.seat.asleep() {
             return Err(Refusal::Asleep);
         }
-        let Some(place) = self.place_of(condition) else {
+        let Some(index) = self.index_of(condition) else {
             return Err(Refusal::NoSuchSeat);
         };
-        let cond = &mut pass.cond_seats[place];
-        self.conditions[place].wake_one(rt, cond, &self.mutex, &mut pass.seat)
+        let cond = &mut pass.cond_seats[index];
+        self.conditions[index].wake_one(rt, cond, &self.mutex, &mut pass.seat)
     }
 
     /// Sends all that wait on this condition, the one that has waited longest first, and answers how many were sent. The
@@ -79,10 +79,10 @@ impl<O: Object> Monitor<O> {
         if pass.seat.asleep() {
             return Err(Refusal::Asleep);
         }
-        let Some(place) = self.place_of(condition) else {
+        let Some(index) = self.index_of(condition) else {
             return Err(Refusal::NoSuchSeat);
         };
-        let cond = &mut pass.cond_seats[place];
-        self.conditions[place].wake_all(rt, cond, &self.mutex, &mut pass.seat)
+        let cond = &mut pass.cond_seats[index];
+        self.conditions[index].wake_all(rt, cond, &self.mutex, &mut pass.seat)
     }
 }

@@ -19,14 +19,14 @@ use Rattle.lfm_mutex.proofs.runs.RunGoesOn.{run_next, run_same}
 use Rattle.lfm_monitor.proofs.monitor.Monitor.wait.Goals as goal
 
 pub wait-requires-clause-belongs : goal.wait-requires-clause-belongs
-wait-requires-clause-belongs g c κs within = let a = at_place c.args.pass.now c.args.self.now c.in-Some-place_of.place _ _ c.requires.belongs c.in-Some-place_of.ensures.1 c.index_mut-cond.ensures.value c.index.ensures in (a.belongs, c.requires.belongs.0)
+wait-requires-clause-belongs g c κs within = let a = at_place c.args.pass.now c.args.self.now c.in-Some-index_of.index _ _ c.requires.belongs c.in-Some-index_of.ensures.1 c.index_mut-cond.ensures.value c.index.ensures in (a.belongs, c.requires.belongs.0)
 
 pub wait-requires-clause-leaves : goal.wait-requires-clause-leaves
 wait-requires-clause-leaves g c κs within = let p = c.args.pass.now in λ one. may_leave (sight p.seat) p.seen p.mine p.kept
 
 pub returns-in_err-how : goal.returns-in_err-how
-returns-in_err-how g c = let p = c.args.pass.now in let m = c.args.self.now in let n = c.in-Some-place_of.place in let x = c.index_mut-cond.result.now in let y = c.wait.new.cond in let v = c.index.result.now in let s = sight p.seat in
-    let t = sight c.wait.new.seat in let e = c.wait.ensures in let a = at_place p m n x v c.requires.belongs c.in-Some-place_of.ensures.1 c.index_mut-cond.ensures.value c.index.ensures in
+returns-in_err-how g c = let p = c.args.pass.now in let m = c.args.self.now in let n = c.in-Some-index_of.index in let x = c.index_mut-cond.result.now in let y = c.wait.new.cond in let v = c.index.result.now in let s = sight p.seat in
+    let t = sight c.wait.new.seat in let e = c.wait.ensures in let a = at_place p m n x v c.requires.belongs c.in-Some-index_of.ensures.1 c.index_mut-cond.ensures.value c.index.ensures in
     let ends = as_told p m n x v (λ (l : Limits) (tries : ℕ). WaitEnds JournalFollows JournalFits (mutex_limits m) l tries (cond_sight x) (cond_sight y) s t (Err c.in_err-how.field-0.0)) a c.in_err-how.ensures.waits in
     let same = wait_refused (mutex_limits m) (condition_limits (passes_of m)) (tries_in m) (cond_sight x) (cond_sight y) s t c.in_err-how.field-0.0 ends in
     let old = some_of s.last p.kept.there in let low = p.kept.seated old.0 old.1 in let o = c.requires.belongs.1 old.0 old.1 in
@@ -41,7 +41,7 @@ returns-in_err-how g c = let p = c.args.pass.now in let m = c.args.self.now in l
       woken = e.woken;
       cond_woken = conds_woken_one (cond_seats_of p) n x y a.seat e.cond_woken;
       waits = refused (mutex_limits m) (condition_limits (passes_of m)) (tries_in m) (share_of m) (conditions_of m) c.args.condition (cond_seats_of p) _ s t p.mine c.in_err-how.field-0.0 m.shared c.in_default.ensures (let b = o.1 in omega arith)
-          (n, x, y, c.in-Some-place_of.ensures.0, a.seat, refl, ends);
+          (n, x, y, c.in-Some-index_of.ensures.0, a.seat, refl, ends);
       returns = (same, refl, refl);
     }
 
@@ -60,9 +60,9 @@ invariant_of-pass-2 g c = let p = c.args.pass.now in let m = c.args.self.now in 
     }
 
 pub returns : goal.returns
-returns g c = let p = c.args.pass.now in let m = c.args.self.now in let k = c.in-Some-place_of.place in let x = c.index_mut-cond.result.now in let y = c.wait.new.cond in let v = c.index.result.now in let s = sight p.seat in
+returns g c = let p = c.args.pass.now in let m = c.args.self.now in let k = c.in-Some-index_of.index in let x = c.index_mut-cond.result.now in let y = c.wait.new.cond in let v = c.index.result.now in let s = sight p.seat in
     let t = sight c.wait.new.seat in let r : How × ℕ = (c.in_ok-how.how, c.in_ok-how.ticket) in let n = c.journal_len-length.result in let e = c.wait.ensures in let w = c.write_took.ensures in
-    let a = at_place p m k x v c.requires.belongs c.in-Some-place_of.ensures.1 c.index_mut-cond.ensures.value c.index.ensures in
+    let a = at_place p m k x v c.requires.belongs c.in-Some-index_of.ensures.1 c.index_mut-cond.ensures.value c.index.ensures in
     let h = waited (mutex_limits m) (cond_limits v) (cond_tries v) (cond_sight x) (cond_sight y) s t r p.seen p.mine n (opening_of m) (passes_of m) (share_of m) p.kept c.requires.belongs.1 c.in_default.ensures.3 c.journal_len-length.ensures c.in_ok-how.ensures.waits in
     let back = returned r s h.0 c.wait.new.seat c.write_took.new.seat p.seen p.mine n (opening_of m) (passes_of m) (share_of m) p.kept c.in_default.ensures.0 c.in_default.ensures.1 c.journal_len-length.ensures h.1 w in
     let ends = as_told p m k x v (λ (l : Limits) (tries : ℕ). WaitEnds JournalFollows JournalFits (mutex_limits m) l tries (cond_sight x) (cond_sight y) s t (Ok r)) a c.in_ok-how.ensures.waits in record {
@@ -71,7 +71,7 @@ returns g c = let p = c.args.pass.now in let m = c.args.self.now in let k = c.in
       run = run_next e.run w.8;
       woken = woken_join p.seat c.wait.new.seat c.write_took.new.seat e.woken (woken_none c.wait.new.seat c.write_took.new.seat w.7 (ap (λ u. grants_of u.trail) w.3));
       cond_woken = conds_woken_one (cond_seats_of p) k x y a.seat e.cond_woken;
-      waits = (c.in_default.ensures, (k, x, y, c.in-Some-place_of.ensures.0, a.seat, refl, (t, ends, (w.0, w.1, w.2, w.3, w.4, w.5))));
+      waits = (c.in_default.ensures, (k, x, y, c.in-Some-index_of.ensures.0, a.seat, refl, (t, ends, (w.0, w.1, w.2, w.3, w.4, w.5))));
       returns = back.waits;
     }
 
@@ -86,8 +86,8 @@ returns-in-Some g c = let p = c.args.pass.now in let m = c.args.self.now in reco
   returns = (refl, refl, refl);
 }
 
-pub returns-in_default-place_of : goal.returns-in_default-place_of
-returns-in_default-place_of g c = record { belongs = c.requires.belongs; number = refl; run = run_same; woken = woken_none c.args.pass.now.seat c.args.pass.now.seat refl refl; cond_woken = conds_woken_none (cond_seats_of c.args.pass.now); waits = (c.in_default.ensures, c.in_default-place_of.ensures, refl, refl); returns = (refl, refl, refl) }
+pub returns-in_default-index_of : goal.returns-in_default-index_of
+returns-in_default-index_of g c = record { belongs = c.requires.belongs; number = refl; run = run_same; woken = woken_none c.args.pass.now.seat c.args.pass.now.seat refl refl; cond_woken = conds_woken_none (cond_seats_of c.args.pass.now); waits = (c.in_default.ensures, c.in_default-index_of.ensures, refl, refl); returns = (refl, refl, refl) }
 
 pub invariant_of-pass : goal.invariant_of-pass
 invariant_of-pass g c = let p = c.args.pass.now in let m = c.args.self.now in let s = sight p.seat in let t = sight c.wait.new.seat in record {

@@ -14,17 +14,17 @@ use Rattle.lfm_mutex.proofs.runs.RunGoesOn.{run_same}
 use Rattle.lfm_monitor.proofs.monitor.Monitor.wake_all.Goals as goal
 
 pub wake_all-requires-clause-belongs : goal.wake_all-requires-clause-belongs
-wake_all-requires-clause-belongs g c κs within = let a = at_place c.args.pass.now c.args.self.now c.in-Some.place _ _ c.requires.belongs c.in-Some.ensures.1 c.index_mut-cond.ensures.value c.index.ensures in (a.belongs, c.requires.belongs.0)
+wake_all-requires-clause-belongs g c κs within = let a = at_place c.args.pass.now c.args.self.now c.in-Some.index _ _ c.requires.belongs c.in-Some.ensures.1 c.index_mut-cond.ensures.value c.index.ensures in (a.belongs, c.requires.belongs.0)
 
 pub wake_all-requires-clause-wide : goal.wake_all-requires-clause-wide
-wake_all-requires-clause-wide g c κs within = let a = at_place c.args.pass.now c.args.self.now c.in-Some.place _ _ c.requires.belongs c.in-Some.ensures.1 c.index_mut-cond.ensures.value c.index.ensures in let e = ap (λ (l : Limits). l.seats) a.limits in omega arith
+wake_all-requires-clause-wide g c κs within = let a = at_place c.args.pass.now c.args.self.now c.in-Some.index _ _ c.requires.belongs c.in-Some.ensures.1 c.index_mut-cond.ensures.value c.index.ensures in let e = ap (λ (l : Limits). l.seats) a.limits in omega arith
 
 pub invariant_of-pass-2 : goal.invariant_of-pass-2
 invariant_of-pass-2 g c = let p = c.args.pass.now in let s = sight p.seat in let t = sight c.wake_all.new.seat in
     record { kept = sent_kept s t p.seen p.mine p.kept (all_sent (limits_of c.args.self.now.mutex).seats (cond_limits c.index.result.now) (cond_tries c.index.result.now) (cond_sight c.index_mut-cond.result.now) (cond_sight c.wake_all.new.cond) s t c.wake_all.result c.wake_all.ensures.wakes) }
 
 pub returns : goal.returns
-returns g c = let p = c.args.pass.now in let m = c.args.self.now in let n = c.in-Some.place in let x = c.index_mut-cond.result.now in let y = c.wake_all.new.cond in let v = c.index.result.now in let s = sight p.seat in
+returns g c = let p = c.args.pass.now in let m = c.args.self.now in let n = c.in-Some.index in let x = c.index_mut-cond.result.now in let y = c.wake_all.new.cond in let v = c.index.result.now in let s = sight p.seat in
     let t = sight c.wake_all.new.seat in let e = c.wake_all.ensures in let a = at_place p m n x v c.requires.belongs c.in-Some.ensures.1 c.index_mut-cond.ensures.value c.index.ensures in
     let sent = all_sent (limits_of m.mutex).seats (cond_limits v) (cond_tries v) (cond_sight x) (cond_sight y) s t c.wake_all.result e.wakes in record {
       belongs = (of_next m.mutex p.seat c.wake_all.new.seat c.requires.belongs.0 e.belongs.1, sent_began (opening_of m) (passes_of m) (share_of m) s t c.requires.belongs.1 sent, still_of_conditions (cond_seats_of p) (conditions_in m) n y v c.requires.belongs.2 a.condition e.belongs.0);

@@ -117,6 +117,7 @@ pub(crate) fn run_workers<R: Threads + Wait + Sync, G: Gate>(
 {
     let line = StartingLine::new();
     let at_line = &line;
+    // The closure repeats the contract, since a scope answers only what its closure ensures. So the function is long.
     thread::scope(
         thread::scope_env(),
         rt,

@@ -26,6 +26,7 @@ pub fn make_together<
 {
     let latch = StartLatch::new();
     let at_latch = &latch;
+    // The closure repeats the contract, since a scope answers only what its closure ensures. So the function is long.
     thread::scope(
         thread::scope_env(),
         rt,

@@ -37,7 +37,7 @@ pub use handoffs::{
     quiescent_states_rest, sleepers_are_reachable, takes_find_a_record, won_posts_have_a_record,
 };
 pub use mutual_exclusion::{
-    count_is_zero_where_free, one_has_the_responsibility, one_seat_owns, places_are_read,
+    count_is_zero_if_free, one_has_the_responsibility, one_seat_owns, places_are_read,
 };
 pub use queue_order::{
     answers_are_the_records, no_seat_overtakes_twice, queue_is_in_push_order,

@@ -3,9 +3,9 @@ ghost use Rattle.lfm_laws.specs.laws.InSchedules.{
   OneSeatOwnsInSchedules,
   OneHasTheResponsibilityInSchedules,
   PlacesAreReadInSchedules,
-  CountIsZeroWhereFreeInSchedules,
+  CountIsZeroIfFreeInSchedules,
 };
-ghost use Rattle.lfm_laws.specs.laws.Laws.{OneSeatOwns, OneHasTheResponsibility, CountIsZeroWhereFree, PlacesAreRead};
+ghost use Rattle.lfm_laws.specs.laws.Laws.{OneSeatOwns, OneHasTheResponsibility, CountIsZeroIfFree, PlacesAreRead};
 
 /// Two seats that both have a depth are the same seat, in every steady state and after every schedule.
 ///
@@ -27,11 +27,11 @@ pub fn one_has_the_responsibility()
 
 /// The count is 0 exactly if the place is free.
 ///
-/// Definitions: `CountIsZeroWhereFree` in `specs/laws/Laws.antt`, and `CountIsZeroWhereFreeInSchedules` in
+/// Definitions: `CountIsZeroIfFree` in `specs/laws/Laws.antt`, and `CountIsZeroIfFreeInSchedules` in
 /// `specs/laws/InSchedules.antt`. Proofs: `proofs/lawful/states/CountLaws.antt` and `proofs/lawful/runs/InSchedules.antt`.
-pub fn count_is_zero_where_free()
-    ensures steady { CountIsZeroWhereFree }
-    ensures schedules { CountIsZeroWhereFreeInSchedules }
+pub fn count_is_zero_if_free()
+    ensures steady { CountIsZeroIfFree }
+    ensures schedules { CountIsZeroIfFreeInSchedules }
 {}
 
 /// The place that a trace prints is that of the abstract mutex which the state stands for.

@@ -58,8 +58,8 @@ abbrev pub PlacesAreReadInSchedules : Type 0
 PlacesAreReadInSchedules = (c : Core) (a : AbstractMutex) → IsReached c → Reads c a → place_of c ≡ printed a.place
 
 -- the count is 0 exactly if nobody has the responsibility
-abbrev pub CountIsZeroWhereFreeInSchedules : Type 0
-CountIsZeroWhereFreeInSchedules =
+abbrev pub CountIsZeroIfFreeInSchedules : Type 0
+CountIsZeroIfFreeInSchedules =
     (c : Core) (a : AbstractMutex) → IsReached c → Reads c a → (c.count ≡ 0 → a.place ≡ free) × (a.place ≡ free → c.count ≡ 0)
 
 -- The abstract mutex

@@ -81,8 +81,8 @@ abbrev pub PlacesAreRead : Type 0
 PlacesAreRead = (c : Core) (a : AbstractMutex) → Steady c → Reads c a → place_of c ≡ printed a.place
 
 -- the count is 0 exactly if nobody has the responsibility
-abbrev pub CountIsZeroWhereFree : Type 0
-CountIsZeroWhereFree = (c : Core) (a : AbstractMutex) → Steady c → Reads c a → (c.count ≡ 0 → a.place ≡ free) × (a.place ≡ free → c.count ≡ 0)
+abbrev pub CountIsZeroIfFree : Type 0
+CountIsZeroIfFree = (c : Core) (a : AbstractMutex) → Steady c → Reads c a → (c.count ≡ 0 → a.place ≡ free) × (a.place ≡ free → c.count ≡ 0)
 
 -- The order of the queue
 

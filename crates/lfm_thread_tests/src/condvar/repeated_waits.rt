@@ -31,7 +31,7 @@ fn need_not_wait() -> [(By, Step); 8] {
 }
 
 #[test]
-fn no_wait_where_the_condition_is_false(rt: HostRuntime) -> Result<(), Fail> {
+fn no_wait_if_the_condition_is_false(rt: HostRuntime) -> Result<(), Fail> {
     on_two_condvars(&rt, rt.alloc(), 1, &need_not_wait()).ok_or("condvars")?;
     Ok(())
 }
@@ -147,7 +147,7 @@ fn found(places: &[Place]) -> u64 {
 }
 
 #[test]
-fn waits_end_where_the_condition_is_false(rt: HostRuntime) -> Result<(), Fail> {
+fn waits_end_if_the_condition_is_false(rt: HostRuntime) -> Result<(), Fail> {
     let (shared, places) = shared_by(rt.alloc(), 2).ok_or("places")?;
     let places = take_parts(&rt, &shared, places, &WaitsOrAdds)?;
     sees(&rt, "the number that was found", &found(&places), &4);

@@ -41,7 +41,7 @@ use Rattle.lfm_laws.proofs.lawful.calls.EffectTargets.{target_at, sends_so}
 use Rattle.lfm_laws.proofs.lawful.calls.WaitsTold.{own_after, other_step}
 use Rattle.lfm_laws.proofs.lawful.runs.AbstractBridge.{events_are_their_cases}
 use Rattle.lfm_laws.proofs.lawful.runs.Reached.{run_keeps}
-use Rattle.lfm_laws.proofs.lawful.states.CountLaws.{count_is_zero_where_free}
+use Rattle.lfm_laws.proofs.lawful.states.CountLaws.{count_is_zero_if_free}
 
 -- Whose call changes the abstract mutex
 
@@ -212,13 +212,13 @@ module _ (d : Core) (s : ℕ) (a b : AbstractMutex) (steady : Steady d) (is : Is
       → (effect : AbstractStep a b) × (case_of effect ≡ Runs.ask) × IsAskOf s x effect
   ask_of_free x goes none here =
       let place = carried_so (step d s).core b s (entering x) after (rw (own_after d s is) here) in
-      (goes.0, goes.1, asks_free a b s x goes.0 goes.1 ((count_is_zero_where_free d a steady before).0 none) place)
+      (goes.0, goes.1, asks_free a b s x goes.0 goes.1 ((count_is_zero_if_free d a steady before).0 none) place)
 
   -- an ask when some seat has it
   ask_of_others : (x : ℕ) → GoesBy (Some Runs.ask) a b → d.count ≢ 0 → asks_for (stepped d s).seat s ≡ x
       → (effect : AbstractStep a b) × (case_of effect ≡ Runs.ask) × IsAskOf s x effect
   ask_of_others x goes some here =
-      let taken : a.place ≢ free = λ e. some ((count_is_zero_where_free d a steady before).1 e) in
+      let taken : a.place ≢ free = λ e. some ((count_is_zero_if_free d a steady before).1 e) in
       (goes.0, goes.1, asks_joining d s x a b before after goes.0 goes.1 taken (rw (own_after d s is) here))
 
   lock_asks : (seat d.seats s).point ≡ LockCountAdd → GoesBy (case_at d s (seat d.seats s) LockCountAdd) a b → 0 < effects_of_case (case_at d s (seat d.seats s) LockCountAdd)

@@ -34,7 +34,7 @@ use Rattle.lfm_laws.specs.steady.Steady.{Steady}
 use Rattle.lfm_laws.proofs.lawful.refusals.BusyTries.{tries_see_a_holder}
 use Rattle.lfm_laws.proofs.lawful.refusals.RefusedSteps.{steps_are_refused_for_cause}
 use Rattle.lfm_laws.proofs.lawful.runs.Reached.{run_keeps}
-use Rattle.lfm_laws.proofs.lawful.states.CountLaws.{count_is_zero_where_free}
+use Rattle.lfm_laws.proofs.lawful.states.CountLaws.{count_is_zero_if_free}
 use Rattle.lfm_laws.proofs.lawful.states.StateLaws.{states_are_lawful}
 use Rattle.lfm_laws.proofs.steady.frames.Entries.{seat-with_same}
 use Rattle.lfm_laws.proofs.steady.frames.Seated.{seat_of_test}
@@ -81,7 +81,7 @@ counted c steady stands =
     let l = states_are_lawful c steady in
     let here = l.lawful.reads.place.only posted (Reading.by_handoff stands refl) in
     elim (cases_eq c.count 0) [
-      | inl none ↦ let free = (count_is_zero_where_free c l.reading steady l.lawful.reads).0 none in let both = here ∙ free in absurd (cc)
+      | inl none ↦ let free = (count_is_zero_if_free c l.reading steady l.lawful.reads).0 none in let both = here ∙ free in absurd (cc)
       | inr some ↦ omega (arith, some)
     ]
 

@@ -3,7 +3,7 @@ use Rattle.lfm_laws.specs.laws.InSchedules.{
   OneSeatOwnsInSchedules,
   OneHasTheResponsibilityInSchedules,
   PlacesAreReadInSchedules,
-  CountIsZeroWhereFreeInSchedules,
+  CountIsZeroIfFreeInSchedules,
   StatesAreLawfulInSchedules,
   EventsAreTheirCasesInSchedules,
   QueueIsInPushOrderInSchedules,
@@ -56,7 +56,7 @@ use Rattle.lfm_laws.proofs.lawful.calls.EffectsOnce.{calls_take_effect_once}
 use Rattle.lfm_laws.proofs.lawful.calls.EffectsOwned.{effects_are_of_calls, effects_are_the_callers}
 use Rattle.lfm_laws.proofs.lawful.runs.AbstractBridge.{events_are_their_cases}
 use Rattle.lfm_laws.proofs.lawful.runs.PushOrder.{queue_is_in_push_order, stamps_are_consecutive}
-use Rattle.lfm_laws.proofs.lawful.states.CountLaws.{places_are_read, count_is_zero_where_free}
+use Rattle.lfm_laws.proofs.lawful.states.CountLaws.{places_are_read, count_is_zero_if_free}
 use Rattle.lfm_laws.proofs.lawful.states.Owning.{one_seat_owns, one_has_the_responsibility}
 use Rattle.lfm_laws.proofs.lawful.states.Sleepers.{sleepers_are_reachable}
 use Rattle.lfm_laws.proofs.lawful.states.StateLaws.{states_are_lawful, handoffs_are_watched, quiescent_states_rest, takes_find_a_record, failed_pushes_see_change}
@@ -74,8 +74,8 @@ one_has_the_responsibility_in_schedules c is = one_has_the_responsibility c (sta
 pub places_are_read_in_schedules : PlacesAreReadInSchedules
 places_are_read_in_schedules c a is = places_are_read c a (states_are_steady c is)
 
-pub count_is_zero_where_free_in_schedules : CountIsZeroWhereFreeInSchedules
-count_is_zero_where_free_in_schedules c a is = count_is_zero_where_free c a (states_are_steady c is)
+pub count_is_zero_if_free_in_schedules : CountIsZeroIfFreeInSchedules
+count_is_zero_if_free_in_schedules c a is = count_is_zero_if_free c a (states_are_steady c is)
 
 -- The abstract mutex
 

@@ -11,6 +11,7 @@ pub mod ReceivePoints
 pub mod RunFacts
 pub mod RunGoesOn
 pub mod Running
+pub mod SameSeats
 pub mod SendEnds
 pub mod SendFacts
 pub mod SendPoints

@@ -11,15 +11,15 @@ limits_of m = m.limits
 
 -- the seat is one of the mutex's
 abbrev pub OfMutex : {T : Type 0} → Seat T → Mutex T → Type 0
-OfMutex s m = (s.place.table_id ≡ m.table.table_id) × (s.limits ≡ m.limits)
+OfMutex s m = (s.table_seat.place.table_id ≡ m.table.table_id) × (s.table_seat.limits ≡ m.limits)
 
 -- both are seats of one mutex
 abbrev pub Beside : {T : Type 0} → Seat T → Seat T → Type 0
-Beside s t = (t.place.table_id ≡ s.place.table_id) × (t.limits ≡ s.limits)
+Beside s t = (t.table_seat.place.table_id ≡ s.table_seat.place.table_id) × (t.table_seat.limits ≡ s.table_seat.limits)
 
 -- how many takes the seat may make
 abbrev pub budget_of : {T : Type 0} → Seat T → ℕ
-budget_of s = s.limits.budget
+budget_of s = s.table_seat.limits.budget
 
 -- the seat's own data, as the core has them
 abbrev pub state_of : {T : Type 0} → Seat T → SeatState

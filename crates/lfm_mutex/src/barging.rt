@@ -33,9 +33,9 @@ const HOLDER_AND_ONE_MORE: u64 = 2;
 /// Whether the seat is awake, doesn't hold and has a take left. A try of such a seat gains the mutex or is refused as Busy.
 #[inline(always)]
 fn may_try<T: Kept>(seat: &Seat<T>) -> bool
-    ensures { MatchBool result (MayTry seat.now.limits.budget (sight seat.now)) (MayTry seat.now.limits.budget (sight seat.now) → ⊥) }
+    ensures { MatchBool result (MayTry seat.now.table_seat.limits.budget (sight seat.now)) (MayTry seat.now.table_seat.limits.budget (sight seat.now) → ⊥) }
 {
-    seat.takes() < seat.limits.budget && seat.depth() == 0 && !seat.asleep()
+    seat.takes() < seat.table_seat.limits.budget && seat.depth() == 0 && !seat.asleep()
 }
 
 impl<T: Kept> Mutex<T> {
@@ -168,7 +168,7 @@ impl<T: Kept> Mutex<T> {
         ensures gains { GainsIf T.follows T.fits (limits_of self.now).budget (sight seat.old) (sight seat.new) result }
         ensures tries { TriesBy (limits_of self.now) self.now.pace.naps (sight seat.old) (sight seat.new) result }
     {
-        let wake = wake_at(seat.limits.seats, seat.number);
+        let wake = wake_at(seat.table_seat.limits.seats, seat.table_seat.number);
         'naps: for made in 0..self.pace.naps {
             let found = self.table.look_at_count();
             if self.pace.is_crowd(found) {
@@ -228,7 +228,7 @@ impl<T: Kept> Mutex<T> {
         if count != 0 {
             return None;
         }
-        let budget = seat.limits.budget;
+        let budget = seat.table_seat.limits.budget;
         match try_free(self, seat, budget) {
             Ok(Locked::Held(how)) => Some(how),
             Ok(Locked::Again(_)) => unreachable!(),

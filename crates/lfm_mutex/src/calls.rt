@@ -51,21 +51,21 @@ pub(crate) fn stop_at(standing: &mut SeatState, point: Point)
 /// Finishes an open call: makes one step after another until the call ends.
 #[inline(never)]
 pub fn finish<T: Kept>(mutex: &Mutex<T>, seat: &mut Seat<T>) -> (Turn, Option<WakeUp>)
-    requires belongs { seat.old.place.table_id ≡ mutex.now.table.table_id }
+    requires belongs { seat.old.table_seat.place.table_id ≡ mutex.now.table.table_id }
     requires open { errand seat.old.standing.point ≢ nothing }
     requires keeps { is_release seat.old.standing.point ≡ false }
-    ensures belongs { seat.new.place.table_id ≡ seat.old.place.table_id }
+    ensures belongs { seat.new.table_seat.place.table_id ≡ seat.old.table_seat.place.table_id }
     ensures woken { WakesNobody seat.old seat.new }
-    ensures same { (seat.new.number ≡ seat.old.number) × (seat.new.limits ≡ seat.old.limits) }
+    ensures same { (seat.new.table_seat.number ≡ seat.old.table_seat.number) × (seat.new.table_seat.limits ≡ seat.old.table_seat.limits) }
     ensures ends { Ends (errand seat.old.standing.point) result.0 }
-    ensures last { last_hold seat.new.place.me.0 ≡ last_hold seat.old.place.me.0 }
-    ensures held { (how : HowNow) → how_held result.0 ≡ Some how → Holds T.follows T.fits seat.old.number (last_hold seat.old.place.me.0) how seat.new.standing seat.new.moving seat.new.place.me.0 }
-    ensures ran { Ran seat.old.number (opens seat.old.standing) seat.old.place.me.0 result.0 seat.new.standing seat.new.place.me.0 }
+    ensures last { last_hold seat.new.table_seat.place.me.0 ≡ last_hold seat.old.table_seat.place.me.0 }
+    ensures held { (how : HowNow) → how_held result.0 ≡ Some how → Holds T.follows T.fits seat.old.table_seat.number (last_hold seat.old.table_seat.place.me.0) how seat.new.standing seat.new.table_seat.moving seat.new.table_seat.place.me.0 }
+    ensures ran { Ran seat.old.table_seat.number (opens seat.old.standing) seat.old.table_seat.place.me.0 result.0 seat.new.standing seat.new.table_seat.place.me.0 }
     ensures concludes { Concludes seat.old.standing result.0 seat.new.standing }
-    ensures stays { Stays seat.old.standing.depth seat.old.place.me.0 (value_in seat.old.moving) seat.new.place.me.0 (value_in seat.new.moving) }
-    ensures bounded { length seat.new.place.me.0.trail ≤ length seat.old.place.me.0.trail + weight seat.old.limits.seats (length seat.old.place.me.0.popped) seat.old.standing.point }
-    ensures spends { Spends (due seat.old.limits.seats (length seat.old.place.me.0.popped) seat.old.standing.point) 0 seat.old.place.me.0.trail seat.new.place.me.0.trail }
-    ensures wakes { Wakes seat.old.limits.seats result.1 seat.old.place.me.0.trail seat.new.place.me.0.trail }
+    ensures stays { Stays seat.old.standing.depth seat.old.table_seat.place.me.0 (value_in seat.old.table_seat.moving) seat.new.table_seat.place.me.0 (value_in seat.new.table_seat.moving) }
+    ensures bounded { length seat.new.table_seat.place.me.0.trail ≤ length seat.old.table_seat.place.me.0.trail + weight seat.old.table_seat.limits.seats (length seat.old.table_seat.place.me.0.popped) seat.old.standing.point }
+    ensures spends { Spends (due seat.old.table_seat.limits.seats (length seat.old.table_seat.place.me.0.popped) seat.old.standing.point) 0 seat.old.table_seat.place.me.0.trail seat.new.table_seat.place.me.0.trail }
+    ensures wakes { Wakes seat.old.table_seat.limits.seats result.1 seat.old.table_seat.place.me.0.trail seat.new.table_seat.place.me.0.trail }
     ensures none { may_grant (errand seat.old.standing.point) ≡ false → result.1 ≡ None }
 {
     let mut owed = None;
@@ -123,18 +123,18 @@ pub fn release<T: Kept>(mutex: &Mutex<T>, seat: &mut Seat<T>, call: Call) -> (Tu
 
 /// Finishes an open release. Its first step is the store that ends the hold.
 fn finish_release<T: Kept>(mutex: &Mutex<T>, seat: &mut Seat<T>) -> (Turn, Option<WakeUp>)
-    requires belongs { seat.old.place.table_id ≡ mutex.now.table.table_id }
+    requires belongs { seat.old.table_seat.place.table_id ≡ mutex.now.table.table_id }
     requires gives { (r : Releaser) × (seat.old.standing.point ≡ ReleaseOwnerStore r) }
-    requires leaves { MayBeLeft T.follows T.fits seat.old.moving seat.old.place.me.0 }
-    ensures belongs { seat.new.place.table_id ≡ seat.old.place.table_id }
+    requires leaves { MayBeLeft T.follows T.fits seat.old.table_seat.moving seat.old.table_seat.place.me.0 }
+    ensures belongs { seat.new.table_seat.place.table_id ≡ seat.old.table_seat.place.table_id }
     ensures woken { WakesNobody seat.old seat.new }
-    ensures same { (seat.new.number ≡ seat.old.number) × (seat.new.limits ≡ seat.old.limits) }
+    ensures same { (seat.new.table_seat.number ≡ seat.old.table_seat.number) × (seat.new.table_seat.limits ≡ seat.old.table_seat.limits) }
     ensures ends { Ends (errand seat.old.standing.point) result.0 }
-    ensures last { last_hold seat.new.place.me.0 ≡ (value_in seat.old.moving, seat.old.place.me.0.found, seat.old.place.me.0.limits, seat.old.place.me.0.holds_ended + 1) }
-    ensures ran { Ran seat.old.number (opens seat.old.standing) seat.old.place.me.0 result.0 seat.new.standing seat.new.place.me.0 }
+    ensures last { last_hold seat.new.table_seat.place.me.0 ≡ (value_in seat.old.table_seat.moving, seat.old.table_seat.place.me.0.found, seat.old.table_seat.place.me.0.limits, seat.old.table_seat.place.me.0.holds_ended + 1) }
+    ensures ran { Ran seat.old.table_seat.number (opens seat.old.standing) seat.old.table_seat.place.me.0 result.0 seat.new.standing seat.new.table_seat.place.me.0 }
     ensures concludes { Concludes (record seat.old.standing { depth = 0 }) result.0 seat.new.standing }
-    ensures bounded { length seat.new.place.me.0.trail ≤ length seat.old.place.me.0.trail + weight seat.old.limits.seats (length seat.old.place.me.0.popped) seat.old.standing.point }
-    ensures wakes { Wakes seat.old.limits.seats result.1 seat.old.place.me.0.trail seat.new.place.me.0.trail }
+    ensures bounded { length seat.new.table_seat.place.me.0.trail ≤ length seat.old.table_seat.place.me.0.trail + weight seat.old.table_seat.limits.seats (length seat.old.table_seat.place.me.0.popped) seat.old.standing.point }
+    ensures wakes { Wakes seat.old.table_seat.limits.seats result.1 seat.old.table_seat.place.me.0.trail seat.new.table_seat.place.me.0.trail }
 {
     match make_waking_none(mutex, seat, Kind::OwnerStore) {
         Turn::Open => finish(mutex, seat),

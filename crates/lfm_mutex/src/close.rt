@@ -16,11 +16,11 @@ use crate::holder::Holder;
 use crate::mutex::Mutex;
 use crate::seat::Seat;
 use lfm_model::{Missing, SeatNo};
-use lfm_table::Kept;
 use lfm_table::moving_box::MovingBox;
 use lfm_table::rule::JoinedView;
 use lfm_table::shared_table::closing::ClosedTable;
-use lfm_table::shared_table::{Place, SharedTable};
+use lfm_table::shared_table::{AtomicSeat, SharedTable};
+use lfm_table::{Kept, TableSeat};
 use std::marker::Brand;
 
 /// Why this seat can't be joined.
@@ -40,7 +40,7 @@ fn hinders<T: Kept>(seat: &Seat<T>) -> Option<Missing>
 fn number_of<T: Kept, P: Holder<T>>(holder: &P) -> u64
     ensures { result ≡ (sight (P.seat_of holder.now)).number }
 {
-    holder.seat().number
+    holder.seat().table_seat.number
 }
 
 /// Why the holder's seat can't be joined.
@@ -73,23 +73,26 @@ fn hinders_at<T: Kept, P: Holder<T>>(seats: &Vec<P>, number: u64) -> Option<Miss
 }
 
 /// The seat of the table. The other fields are dropped here, since to drop them in a caller would split its proof into cases.
-fn into_place<T: Kept, P: Holder<T>>(holder: P) -> Place<T>
-    ensures { result ≡ (P.seat_of holder).place }
+fn into_place<T: Kept, P: Holder<T>>(holder: P) -> AtomicSeat<T>
+    ensures { result ≡ (P.seat_of holder).table_seat.place }
 {
     let Seat {
-        place,
-        number: _,
-        limits: _,
+        table_seat,
         standing: _,
-        moving: _,
         woken: _,
     } = holder.into_seat();
+    let TableSeat {
+        place,
+        moving: _,
+        number: _,
+        limits: _,
+    } = table_seat;
     place
 }
 
 /// The index of seat 1.
 fn first_place<T: Kept, P: Holder<T>>(seats: &Vec<P>) -> Option<usize>
-    ensures { MatchOption result (Lacks (λ p. sight (P.seat_of p)) seats.now.items 1) (λ i. (s : _) × (get_elem? seats.now.items i ≡ some s) × ((P.seat_of s).number ≡ 1)) }
+    ensures { MatchOption result (Lacks (λ p. sight (P.seat_of p)) seats.now.items 1) (λ i. (s : _) × (get_elem? seats.now.items i ≡ some s) × ((P.seat_of s).table_seat.number ≡ 1)) }
 {
     let mut place = 0usize;
     for seat in seats {
@@ -102,7 +105,11 @@ fn first_place<T: Kept, P: Holder<T>>(seats: &Vec<P>) -> Option<usize>
 }
 
 /// Joins a seat that carries nothing.
-fn retire<T: Kept, B: JoinedView<T>>(table: &SharedTable<T>, root: &mut Place<T>, place: Place<T>)
+fn retire<T: Kept, B: JoinedView<T>>(
+    table: &SharedTable<T>,
+    root: &mut AtomicSeat<T>,
+    place: AtomicSeat<T>,
+)
     requires view { B.view ≡ place.me.0 }
     requires table { (root.old.table_id ≡ table.now.table_id) × (place.table_id ≡ table.now.table_id) × (0 < table.now.table_id.words) }
     requires root { (root.old.id ≡ 0) × (root.old.me.0.role ≡ User) }

@@ -22,7 +22,7 @@ impl<T: Drop> Debug for Seat<T> {
     fn fmt<W: Write>(&self, f: &mut Formatter<W>) -> fmt::Result {
         let asleep = !matches!(self.standing.point, Point::Rest);
         f.debug_struct("Seat")
-            .field("number", &self.number)
+            .field("number", &self.table_seat.number)
             .field("depth", &self.standing.depth)
             .field("asleep", &asleep)
             .finish()

@@ -23,24 +23,24 @@ use crate::mutex::Mutex;
 use crate::push::{Pushed, push};
 use crate::seat::Seat;
 use lfm_model::{Asked, How, Locked, Refusal};
-use lfm_protocol::points::{Entrant, Point, Pusher};
+use lfm_protocol::points::{Entrant, Point, Pusher, Sleeper};
 use lfm_protocol::{Answer, Call, MAX_DEPTH, SeatState, Turn, Why};
 use lfm_table::operations::{CountAdd, CountSubtract, OwnerLoad, OwnerStore};
 use lfm_table::steps::{gain, keep_held, load_other_owner};
-use lfm_table::{Kept, SeatData, WakeUp};
+use lfm_table::{Kept, WakeUp};
 use std::sync::Wait;
 
 /// The slow path of an open `lock`, from the seat's point to the end of the call.
 #[inline(always)]
 fn ask_on<T: Kept>(mutex: &Mutex<T>, seat: &mut Seat<T>) -> (Asked, Option<WakeUp>)
-    requires belongs { seat.old.place.table_id ≡ mutex.now.table.table_id }
+    requires belongs { seat.old.table_seat.place.table_id ≡ mutex.now.table.table_id }
     requires locks { errand seat.old.standing.point ≡ locking }
-    ensures belongs { seat.new.place.table_id ≡ seat.old.place.table_id }
+    ensures belongs { seat.new.table_seat.place.table_id ≡ seat.old.table_seat.place.table_id }
     ensures woken { WakesNobody seat.old seat.new }
-    ensures same { (seat.new.number ≡ seat.old.number) × (seat.new.limits ≡ seat.old.limits) }
-    ensures made { Course T.follows T.fits seat.old.number seat.old.standing seat.old.moving seat.old.place.me.0 (Ended (Answered.Asked result.0)) seat.new.standing seat.new.moving seat.new.place.me.0 }
-    ensures spends { Spends (due seat.old.limits.seats (length seat.old.place.me.0.popped) seat.old.standing.point) 0 seat.old.place.me.0.trail seat.new.place.me.0.trail }
-    ensures wakes { Wakes seat.old.limits.seats result.1 seat.old.place.me.0.trail seat.new.place.me.0.trail }
+    ensures same { (seat.new.table_seat.number ≡ seat.old.table_seat.number) × (seat.new.table_seat.limits ≡ seat.old.table_seat.limits) }
+    ensures made { Course T.follows T.fits seat.old.table_seat.number seat.old.standing seat.old.table_seat.moving seat.old.table_seat.place.me.0 (Ended (Answered.Asked result.0)) seat.new.standing seat.new.table_seat.moving seat.new.table_seat.place.me.0 }
+    ensures spends { Spends (due seat.old.table_seat.limits.seats (length seat.old.table_seat.place.me.0.popped) seat.old.standing.point) 0 seat.old.table_seat.place.me.0.trail seat.new.table_seat.place.me.0.trail }
+    ensures wakes { Wakes seat.old.table_seat.limits.seats result.1 seat.old.table_seat.place.me.0.trail seat.new.table_seat.place.me.0.trail }
 {
     let (turn, wake_up) = finish(mutex, seat);
     match turn {
@@ -53,31 +53,33 @@ fn ask_on<T: Kept>(mutex: &Mutex<T>, seat: &mut Seat<T>) -> (Asked, Option<WakeU
 /// record. The seat doesn't hold.
 #[inline(never)]
 fn queue<T: Kept>(mutex: &Mutex<T>, seat: &mut Seat<T>) -> (Asked, Option<WakeUp>)
-    requires belongs { seat.old.place.table_id ≡ mutex.now.table.table_id }
+    requires belongs { seat.old.table_seat.place.table_id ≡ mutex.now.table.table_id }
     requires stands { seat.old.standing.point ≡ LockOwnerLoad }
     requires flat { seat.old.standing.depth ≡ 0 }
-    ensures belongs { seat.new.place.table_id ≡ seat.old.place.table_id }
+    ensures belongs { seat.new.table_seat.place.table_id ≡ seat.old.table_seat.place.table_id }
     ensures woken { WakesNobody seat.old seat.new }
-    ensures same { (seat.new.number ≡ seat.old.number) × (seat.new.limits ≡ seat.old.limits) }
-    ensures made { Course T.follows T.fits seat.old.number seat.old.standing seat.old.moving seat.old.place.me.0 (Ended (Answered.Asked result.0)) seat.new.standing seat.new.moving seat.new.place.me.0 }
-    ensures spends { Spends (due seat.old.limits.seats (length seat.old.place.me.0.popped) seat.old.standing.point) 0 seat.old.place.me.0.trail seat.new.place.me.0.trail }
-    ensures wakes { Wakes seat.old.limits.seats result.1 seat.old.place.me.0.trail seat.new.place.me.0.trail }
+    ensures same { (seat.new.table_seat.number ≡ seat.old.table_seat.number) × (seat.new.table_seat.limits ≡ seat.old.table_seat.limits) }
+    ensures made { Course T.follows T.fits seat.old.table_seat.number seat.old.standing seat.old.table_seat.moving seat.old.table_seat.place.me.0 (Ended (Answered.Asked result.0)) seat.new.standing seat.new.table_seat.moving seat.new.table_seat.place.me.0 }
+    ensures spends { Spends (due seat.old.table_seat.limits.seats (length seat.old.table_seat.place.me.0.popped) seat.old.standing.point) 0 seat.old.table_seat.place.me.0.trail seat.new.table_seat.place.me.0.trail }
+    ensures wakes { Wakes seat.old.table_seat.limits.seats result.1 seat.old.table_seat.place.me.0.trail seat.new.table_seat.place.me.0.trail }
 {
-    let data = SeatData {
-        number: seat.number,
-        limits: seat.limits,
-        standing: SeatState {
-            depth: 0,
-            takes: seat.standing.takes,
-            posts: seat.standing.posts,
-            point: Point::LockOwnerLoad,
-        },
+    let table = &mutex.table;
+    let mut standing = SeatState {
+        depth: 0,
+        point: Point::LockOwnerLoad,
+        ..seat.standing
     };
-    load_other_owner(&mutex.table, &mut seat.place, &seat.moving, &data);
-    seat.standing.point = Point::PushLoad(Pusher::Locker);
-    match push(mutex, seat, Pusher::Locker) {
-        Pushed::Queued => (Asked::Asleep, None),
-        Pushed::Stopped => ask_on(mutex, seat),
+    load_other_owner(table, &mut seat.table_seat, &standing);
+    standing.point = Point::PushLoad(Pusher::Locker);
+    match push(table, &mut seat.table_seat, &standing, Pusher::Locker) {
+        Pushed::Queued => {
+            seat.standing.point = Point::Asleep(Sleeper::Locker);
+            (Asked::Asleep, None)
+        }
+        Pushed::Stopped(point) => {
+            stop_at(&mut seat.standing, point);
+            ask_on(mutex, seat)
+        }
     }
 }
 
@@ -91,7 +93,7 @@ pub fn ask_free<T: Kept>(
     requires belongs { OfMutex seat.old mutex.now }
     requires rests { seat.old.standing.point ≡ Rest }
     requires flat { seat.old.standing.depth ≡ 0 }
-    requires budget { budget ≡ seat.old.limits.budget }
+    requires budget { budget ≡ seat.old.table_seat.limits.budget }
     requires charged { seat.old.standing.takes < budget }
     ensures belongs { Beside seat.old seat.new }
     ensures woken { WakesNobody seat.old seat.new }
@@ -103,27 +105,23 @@ pub fn ask_free<T: Kept>(
     let _budget = budget;
     let table = &mutex.table;
     let takes = seat.standing.takes + 1;
-    let mut data = SeatData {
-        number: seat.number,
-        limits: seat.limits,
-        standing: SeatState {
-            depth: 0,
-            takes,
-            posts: seat.standing.posts,
-            point: Point::LockCountAdd,
-        },
+    let mut standing = SeatState {
+        depth: 0,
+        takes,
+        point: Point::LockCountAdd,
+        ..seat.standing
     };
-    let found = gain::<CountAdd, T>(table, &mut seat.place, &mut seat.moving, &data);
+    let found = gain::<CountAdd, T>(table, &mut seat.table_seat, &standing);
     if found != 0 {
         seat.standing.takes = takes;
-        stop_at(&mut seat.standing, Point::LockOwnerLoad);
+        seat.standing.point = Point::LockOwnerLoad;
         return queue(mutex, seat);
     }
     // The plain writes stand together, in this gap between two steps: see `steps` of `lfm_table`.
     seat.standing.depth = 1;
     seat.standing.takes = takes;
-    data.standing.point = Point::EnterOwnerStore(Entrant::Locker, How::Free);
-    keep_held::<OwnerStore, T>(table, &mut seat.place, &seat.moving, &data);
+    standing.point = Point::EnterOwnerStore(Entrant::Locker, How::Free);
+    keep_held::<OwnerStore, T>(table, &mut seat.table_seat, &standing);
     (Asked::Held(How::Free), None)
 }
 
@@ -142,19 +140,13 @@ pub fn ask_again<T: Kept>(mutex: &Mutex<T>, seat: &mut Seat<T>) -> (Asked, Optio
     ensures wakes { Wakes (limits_of mutex.now).seats result.1 (sight seat.old).trail (sight seat.new).trail }
 {
     let table = &mutex.table;
-    let number = seat.number;
+    let number = seat.table_seat.number;
     let depth = seat.standing.depth;
-    let mut data = SeatData {
-        number,
-        limits: seat.limits,
-        standing: SeatState {
-            depth,
-            takes: seat.standing.takes,
-            posts: seat.standing.posts,
-            point: Point::LockCountAdd,
-        },
+    let mut standing = SeatState {
+        point: Point::LockCountAdd,
+        ..seat.standing
     };
-    let found = keep_held::<CountAdd, T>(table, &mut seat.place, &seat.moving, &data);
+    let found = keep_held::<CountAdd, T>(table, &mut seat.table_seat, &standing);
     if found == 0 {
         stop_at(
             &mut seat.standing,
@@ -162,14 +154,14 @@ pub fn ask_again<T: Kept>(mutex: &Mutex<T>, seat: &mut Seat<T>) -> (Asked, Optio
         );
         return ask_on(mutex, seat);
     }
-    data.standing.point = Point::LockOwnerLoad;
-    let owner = keep_held::<OwnerLoad, T>(table, &mut seat.place, &seat.moving, &data);
+    standing.point = Point::LockOwnerLoad;
+    let owner = keep_held::<OwnerLoad, T>(table, &mut seat.table_seat, &standing);
     if owner != number {
         stop_at(&mut seat.standing, Point::PushLoad(Pusher::Locker));
         return ask_on(mutex, seat);
     }
-    data.standing.point = Point::LockCountSubtract;
-    keep_held::<CountSubtract, T>(table, &mut seat.place, &seat.moving, &data);
+    standing.point = Point::LockCountSubtract;
+    keep_held::<CountSubtract, T>(table, &mut seat.table_seat, &standing);
     seat.standing.depth = depth + 1;
     (Asked::Again(depth + 1), None)
 }
@@ -239,7 +231,7 @@ impl<T: Kept> Mutex<T> {
             return ask_any(self, seat);
         }
         if seat.standing.depth == 0 {
-            let budget = seat.limits.budget;
+            let budget = seat.table_seat.limits.budget;
             if seat.standing.takes < budget {
                 let (asked, wake_up) = ask_free(self, seat, budget);
                 return (Ok(asked), wake_up);

@@ -20,8 +20,8 @@ use lfm_protocol::points::Point;
 use lfm_protocol::{Limits, SeatState};
 use lfm_table::moving_box::MovingBox;
 use lfm_table::rule::Key;
-use lfm_table::shared_table::{Place, SharedTable};
-use lfm_table::{Kept, Woken};
+use lfm_table::shared_table::{AtomicSeat, SharedTable};
+use lfm_table::{Kept, TableSeat, Woken};
 use lfm_words::PopList;
 use std::alloc::Global;
 use std::snapshot::Snapshot;
@@ -46,7 +46,7 @@ fn laid_out<T: Kept>(
     alloc: Global,
     limits: Limits,
     value: T,
-) -> Result<(SharedTable<T>, Place<T>), NewFault>
+) -> Result<(SharedTable<T>, AtomicSeat<T>), NewFault>
     requires allowed { are_in_limits limits.seats limits.budget ≡ true }
     requires fits { T.fits value 0 }
     ensures ok { IfOk result (λ r. (r.0.table_id.words ≡ 4 + 2 * limits.seats) × (r.0.table_id.slots ≡ 1) × (r.1.table_id ≡ r.0.table_id) × (r.1.id ≡ 0) × (r.1.me ≡ (first_view limits value, []))) }
@@ -111,20 +111,24 @@ impl<T: Kept> Mutex<T> {
         for i in 1..seats {
             let place = table.split_seat(&mut root);
             all.push_reserved(Seat {
-                place,
-                number: i + 1,
-                limits,
+                table_seat: TableSeat {
+                    place,
+                    moving: None,
+                    number: i + 1,
+                    limits,
+                },
                 standing: at_rest(),
-                moving: None,
                 woken: Woken::new(),
             });
         }
         let first = Seat {
-            place: root,
-            number: 1,
-            limits,
+            table_seat: TableSeat {
+                place: root,
+                moving: None,
+                number: 1,
+                limits,
+            },
             standing: at_rest(),
-            moving: None,
             woken: Woken::new(),
         };
         let Ok(()) = all.insert(0, first) else {

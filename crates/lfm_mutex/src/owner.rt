@@ -21,7 +21,7 @@ impl<T: Kept> Mutex<T> {
         ensures run { RunGoesOnFrom seat.old seat.new }
         ensures tells { TellsOwner (sight seat.old) (sight seat.new) result }
     {
-        let found = self.table.read_owner(&mut seat.place);
+        let found = self.table.read_owner(&mut seat.table_seat.place);
         SeatNo::new(found)
     }
 }

@@ -1,85 +1,66 @@
 //! The push of a record, by `lock` for its own seat and by `send_lock` for its target. Fast path: the push word is as it was
 //! seen, and no handoff is posted. Everything else is the slow path (`calls::finish`).
-ghost use Rattle.std.specs.Prelude.{◌≡◌};
+ghost use Rattle.std.specs.Prelude.{◌≡◌, ℕ};
+ghost use Rattle.lfm_protocol.specs.declared.points.Point.{Point as PointNow};
 ghost use Rattle.lfm_protocol.specs.declared.points.Point.TheVariants.{PushLoad};
-ghost use Rattle.lfm_protocol.specs.declared.seats.SeatState.{SeatState as SeatStateNow};
-ghost use Rattle.lfm_protocol.specs.After.{pushed};
-ghost use Rattle.lfm_mutex.specs.calls.Pushes.{PlainCourse, push_turn};
+ghost use Rattle.lfm_table.specs.Straight.{IsSame, SeatFits};
+ghost use Rattle.lfm_mutex.specs.calls.Pushes.{PlainCourse, push_end};
 ghost use Rattle.lfm_mutex.specs.calls.Runs.{errand, pushes};
-ghost use Rattle.lfm_mutex.specs.calls.Woken.{WakesNobody};
 ghost use Rattle.lfm_mutex.specs.declared.push.Pushed.{Pushed as PushedNow};
 
-use crate::calls::stop_at;
-use crate::mutex::Mutex;
-use crate::seat::Seat;
 use lfm_protocol::SeatState;
-use lfm_protocol::points::{Point, Pusher, Sleeper};
+use lfm_protocol::points::{Point, Pusher};
+use lfm_table::shared_table::SharedTable;
 use lfm_table::steps::keep;
-use lfm_table::{Kept, SeatData, operations};
+use lfm_table::{Kept, TableSeat, operations};
 use lfm_words::{Handoff, unpack_handoff, unpack_link};
 
 /// How a push has ended.
 pub(crate) enum Pushed {
-    /// The record is queued, no handoff is posted, and the call has ended.
+    /// The record is queued, and no handoff is posted. The call has ended: a locker sleeps, and a sender has sent.
     Queued,
-    /// The slow path goes on from the seat's point.
-    Stopped,
+    /// The slow path goes on from this point.
+    Stopped(Point),
 }
 
-/// The point at which a call rests after its record is queued and it has found no handoff: a locker sleeps, a sender has sent.
-fn point_when_queued(pusher: Pusher) -> Point
-    ensures { (x : SeatStateNow) → (pushed x pusher).seat ≡ record x { point = result } }
-{
-    match pusher {
-        Pusher::Locker => Point::Asleep(Sleeper::Locker),
-        Pusher::Sender(_) => Point::Rest,
-    }
-}
-
-/// Pushes a record and loads the handoff word.
-#[inline(never)]
-pub(crate) fn push<T: Kept>(mutex: &Mutex<T>, seat: &mut Seat<T>, pusher: Pusher) -> Pushed
-    requires belongs { seat.old.place.table_id ≡ mutex.now.table.table_id }
-    requires stands { seat.old.standing.point ≡ PushLoad pusher }
+/// Pushes a record and loads the handoff word. It stores no point: that is left to the caller.
+#[inline(always)]
+pub(crate) fn push<T: Kept>(
+    table: &SharedTable<T>,
+    seat: &mut TableSeat<T>,
+    standing: &SeatState,
+    pusher: Pusher,
+) -> Pushed
+    requires belongs { seat.old.place.table_id ≡ table.now.table_id }
+    requires fit { SeatFits seat.old standing.now }
+    requires stands { standing.now.point ≡ PushLoad pusher }
     ensures belongs { seat.new.place.table_id ≡ seat.old.place.table_id }
-    ensures woken { WakesNobody seat.old seat.new }
-    ensures same { (seat.new.number ≡ seat.old.number) × (seat.new.limits ≡ seat.old.limits) }
-    ensures made { PlainCourse T.follows T.fits seat.old.number seat.old.limits.seats seat.old.standing seat.old.moving seat.old.place.me.0 (push_turn result pusher) seat.new.standing seat.new.moving seat.new.place.me.0 }
-    ensures goes_on { result ≡ PushedNow.Stopped → errand seat.new.standing.point ≡ pushes pusher }
+    ensures same { IsSame seat.old seat.new }
+    ensures fit { SeatFits seat.new (push_end result standing.now pusher).seat }
+    ensures made { PlainCourse T.follows T.fits seat.old.number seat.old.limits.seats standing.now seat.old.moving seat.old.place.me.0 (push_end result standing.now pusher).turn (push_end result standing.now pusher).seat seat.new.moving seat.new.place.me.0 }
+    ensures goes_on { (q : PointNow) → result ≡ PushedNow.Stopped q → errand q ≡ pushes pusher }
 {
-    let table = &mutex.table;
-    let mut data = SeatData {
-        number: seat.number,
-        limits: seat.limits,
-        standing: SeatState {
-            depth: seat.standing.depth,
-            takes: seat.standing.takes,
-            posts: seat.standing.posts,
-            point: Point::PushLoad(pusher),
-        },
+    let mut at = SeatState {
+        point: Point::PushLoad(pusher),
+        ..*standing
     };
-    let word = keep::<operations::PushLoad, T>(table, &mut seat.place, &seat.moving, &data);
+    let word = keep::<operations::PushLoad, T>(table, seat, &at);
     let seen = unpack_link(word);
-    data.standing.point = Point::LinkStore(pusher, seen);
-    keep::<operations::LinkStore, T>(table, &mut seat.place, &seat.moving, &data);
-    data.standing.point = Point::PushExchange(pusher, seen);
-    let found = keep::<operations::PushExchange, T>(table, &mut seat.place, &seat.moving, &data);
+    at.point = Point::LinkStore(pusher, seen);
+    keep::<operations::LinkStore, T>(table, seat, &at);
+    at.point = Point::PushExchange(pusher, seen);
+    let found = keep::<operations::PushExchange, T>(table, seat, &at);
     if found != word {
         // Another seat has changed the push word meanwhile.
-        stop_at(
-            &mut seat.standing,
-            Point::LinkStore(pusher, unpack_link(found)),
-        );
-        return Pushed::Stopped;
+        return Pushed::Stopped(Point::LinkStore(pusher, unpack_link(found)));
     }
-    data.standing.point = Point::PushedHandoffLoad(pusher);
-    let handoff = keep::<operations::HandoffLoad, T>(table, &mut seat.place, &seat.moving, &data);
+    at.point = Point::PushedHandoffLoad(pusher);
+    let handoff = keep::<operations::HandoffLoad, T>(table, seat, &at);
     if Handoff::is_posted_in(handoff) {
         // A seat has released meanwhile, and found no record.
-        stop_at(&mut seat.standing, Point::PushedHandoffLoad(pusher));
-        seat.standing.after_handoff_load(unpack_handoff(handoff));
-        return Pushed::Stopped;
+        let mut met = at;
+        met.after_handoff_load(unpack_handoff(handoff));
+        return Pushed::Stopped(met.point);
     }
-    seat.standing.point = point_when_queued(pusher);
     Pushed::Queued
 }

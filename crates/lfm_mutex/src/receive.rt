@@ -25,7 +25,7 @@ use lfm_table::operations::{OwnerStore, WakeStore};
 use lfm_table::parking::park;
 use lfm_table::steps::{gain_by_grant, keep, keep_held};
 use lfm_table::wake_words::{FIRST_GRANT, stamp_in};
-use lfm_table::{Kept, SeatData, WakeUp};
+use lfm_table::{Kept, WakeUp};
 use std::sync::Wait;
 
 /// How the mutex is gained by a grant of this stamp.
@@ -55,28 +55,23 @@ pub fn receive_asleep<T: Kept>(
     ensures made { ComesTo T.follows T.fits (limits_of mutex.now) CallNow.Receive (sight seat.old) (sight seat.new) (Ended (Answered.Got result)) }
 {
     let table = &mutex.table;
-    let mut data = SeatData {
-        number: seat.number,
-        limits: seat.limits,
-        standing: SeatState {
-            depth: 0,
-            takes: seat.standing.takes,
-            posts: seat.standing.posts,
-            point: Point::ReceiveWakeLoad(sleeper),
-        },
+    let mut standing = SeatState {
+        depth: 0,
+        point: Point::ReceiveWakeLoad(sleeper),
+        ..seat.standing
     };
-    let found = gain_by_grant(table, &mut seat.place, &mut seat.moving, &data);
+    let found = gain_by_grant(table, &mut seat.table_seat, &standing);
     if found < FIRST_GRANT {
         return None;
     }
     let stamp = stamp_in(found);
-    data.standing.point = Point::ReceiveWakeStore(stamp);
-    keep::<WakeStore, T>(table, &mut seat.place, &seat.moving, &data);
+    standing.point = Point::ReceiveWakeStore(stamp);
+    keep::<WakeStore, T>(table, &mut seat.table_seat, &standing);
     seat.standing.depth = 1;
     seat.standing.point = Point::Rest;
     let how = how_by(stamp);
-    data.standing.point = Point::EnterOwnerStore(Entrant::Receiver, how);
-    keep_held::<OwnerStore, T>(table, &mut seat.place, &seat.moving, &data);
+    standing.point = Point::EnterOwnerStore(Entrant::Receiver, how);
+    keep_held::<OwnerStore, T>(table, &mut seat.table_seat, &standing);
     Some(how)
 }
 
@@ -113,7 +108,7 @@ impl<T: Kept> Mutex<T> {
         ensures receives { ReceivesLock T.follows T.fits (sight seat.old) (sight seat.new) result }
         ensures steps { ReceivesBy (limits_of self.now) (sight seat.old) (sight seat.new) result }
     {
-        let wake = wake_at(seat.limits.seats, seat.number);
+        let wake = wake_at(seat.table_seat.limits.seats, seat.table_seat.number);
         let mut left = looks;
         for _ in rt.forever() {
             match self.try_receive(seat) {

@@ -9,11 +9,9 @@ ghost use Rattle.lfm_table.specs.Seats.{Seated, Rooted};
 ghost use Rattle.lfm_table.specs.Settled.{Became};
 
 use lfm_model::SeatNo;
+use lfm_protocol::SeatState;
 use lfm_protocol::points::Point;
-use lfm_protocol::{Limits, SeatState};
-use lfm_table::moving_box::MovingBox;
-use lfm_table::shared_table::Place;
-use lfm_table::{Kept, Woken};
+use lfm_table::{Kept, TableSeat, Woken};
 
 /// What one thread uses the mutex with. A seat may move between threads, and each call borrows it for its whole length. Dropped
 /// while it holds or sleeps, it keeps what it holds: nobody else gains that.
@@ -30,18 +28,16 @@ use lfm_table::{Kept, Woken};
 /// ```
 #[derive(Drop)]
 pub struct Seat<T: Drop> {
-    pub(crate) place: Place<T>,
-    pub(crate) number: u64,
-    pub(crate) limits: Limits,
+    /// What the steps of a call take of it.
+    pub(crate) table_seat: TableSeat<T>,
+    /// Its state between its calls.
     pub(crate) standing: SeatState,
-    /// The pop list and the guarded value: here exactly while the seat carries the responsibility.
-    pub(crate) moving: Option<MovingBox<T>>,
     /// The seats that calls with this one have woken.
     pub(crate) woken: Woken,
-    pub ghost seated: { Seated number limits standing place.me moving },
-    pub ghost became: { Became place.me.0.standing limits standing } by { Became-prop (Coded-set standing-code) place.me.0.standing limits standing },
-    pub ghost ready: { IsReady limits.seats number standing } by { IsReady-prop limits.seats number standing },
-    pub ghost rooted: { Rooted place.table_id.words place.id number limits place.me.0 },
+    pub ghost seated: { Seated table_seat.number table_seat.limits standing table_seat.place.me table_seat.moving },
+    pub ghost became: { Became table_seat.place.me.0.standing table_seat.limits standing } by { Became-prop (Coded-set standing-code) table_seat.place.me.0.standing table_seat.limits standing },
+    pub ghost ready: { IsReady table_seat.limits.seats table_seat.number standing } by { IsReady-prop table_seat.limits.seats table_seat.number standing },
+    pub ghost rooted: { Rooted table_seat.place.table_id.words table_seat.place.id table_seat.number table_seat.limits table_seat.place.me.0 },
 }
 
 /// What a seat tells of itself. None of these touches a word of the mutex, allocates or waits.
@@ -53,7 +49,7 @@ impl<T: Kept> Seat<T> {
     pub fn number(&self) -> SeatNo
         ensures { result ≡ (sight self.now).number }
     {
-        SeatNo::known(self.number)
+        SeatNo::known(self.table_seat.number)
     }
 
     /// How often the seat holds the mutex: 0 to 65,535.
@@ -74,7 +70,7 @@ impl<T: Kept> Seat<T> {
     pub fn left(&self) -> u64
         ensures { result ≡ budget_of self.now - (sight self.now).takes }
     {
-        self.limits.budget.saturating_sub(self.takes())
+        self.table_seat.limits.budget.saturating_sub(self.takes())
     }
 
     /// Whether the seat sleeps, or a call of it is open.
@@ -91,7 +87,7 @@ impl<T: Kept> Seat<T> {
         if self.depth() == 0 {
             return None;
         }
-        match &self.moving {
+        match &self.table_seat.moving {
             Some(moving) => Some(moving.value()),
             None => None,
         }

@@ -25,21 +25,21 @@ use lfm_protocol::points::{Point, Pusher};
 use lfm_protocol::{Answer, Call, SeatState, Turn, Why};
 use lfm_table::operations::{CountAdd, WakeExchange};
 use lfm_table::steps::{gain, grant, keep, keep_held};
-use lfm_table::{Kept, SeatData, WakeUp};
+use lfm_table::{Kept, WakeUp};
 use lfm_words::Wake;
 
 /// The slow path of an open `send_lock`, from the seat's point to the end of the call.
 #[inline(always)]
 fn send_on<T: Kept>(mutex: &Mutex<T>, seat: &mut Seat<T>) -> (Result<(), Refusal>, Option<WakeUp>)
-    requires belongs { seat.old.place.table_id ≡ mutex.now.table.table_id }
+    requires belongs { seat.old.table_seat.place.table_id ≡ mutex.now.table.table_id }
     requires sends { errand seat.old.standing.point ≡ sending }
-    ensures belongs { seat.new.place.table_id ≡ seat.old.place.table_id }
+    ensures belongs { seat.new.table_seat.place.table_id ≡ seat.old.table_seat.place.table_id }
     ensures woken { WakesNobody seat.old seat.new }
-    ensures same { (seat.new.number ≡ seat.old.number) × (seat.new.limits ≡ seat.old.limits) }
+    ensures same { (seat.new.table_seat.number ≡ seat.old.table_seat.number) × (seat.new.table_seat.limits ≡ seat.old.table_seat.limits) }
     ensures ends { Ends sending (send_turn result.0) }
-    ensures made { Course T.follows T.fits seat.old.number seat.old.standing seat.old.moving seat.old.place.me.0 (send_turn result.0) seat.new.standing seat.new.moving seat.new.place.me.0 }
-    ensures spends { Spends (due seat.old.limits.seats (length seat.old.place.me.0.popped) seat.old.standing.point) 0 seat.old.place.me.0.trail seat.new.place.me.0.trail }
-    ensures wakes { Wakes seat.old.limits.seats result.1 seat.old.place.me.0.trail seat.new.place.me.0.trail }
+    ensures made { Course T.follows T.fits seat.old.table_seat.number seat.old.standing seat.old.table_seat.moving seat.old.table_seat.place.me.0 (send_turn result.0) seat.new.standing seat.new.table_seat.moving seat.new.table_seat.place.me.0 }
+    ensures spends { Spends (due seat.old.table_seat.limits.seats (length seat.old.table_seat.place.me.0.popped) seat.old.standing.point) 0 seat.old.table_seat.place.me.0.trail seat.new.table_seat.place.me.0.trail }
+    ensures wakes { Wakes seat.old.table_seat.limits.seats result.1 seat.old.table_seat.place.me.0.trail seat.new.table_seat.place.me.0.trail }
 {
     let (turn, wake_up) = finish(mutex, seat);
     match turn {
@@ -56,19 +56,34 @@ fn queue_target<T: Kept>(
     seat: &mut Seat<T>,
     target: u64,
 ) -> (Result<(), Refusal>, Option<WakeUp>)
-    requires belongs { seat.old.place.table_id ≡ mutex.now.table.table_id }
+    requires belongs { seat.old.table_seat.place.table_id ≡ mutex.now.table.table_id }
     requires stands { seat.old.standing.point ≡ PushLoad (PusherNow.Sender target) }
-    ensures belongs { seat.new.place.table_id ≡ seat.old.place.table_id }
+    ensures belongs { seat.new.table_seat.place.table_id ≡ seat.old.table_seat.place.table_id }
     ensures woken { WakesNobody seat.old seat.new }
-    ensures same { (seat.new.number ≡ seat.old.number) × (seat.new.limits ≡ seat.old.limits) }
+    ensures same { (seat.new.table_seat.number ≡ seat.old.table_seat.number) × (seat.new.table_seat.limits ≡ seat.old.table_seat.limits) }
     ensures ends { Ends sending (send_turn result.0) }
-    ensures made { Course T.follows T.fits seat.old.number seat.old.standing seat.old.moving seat.old.place.me.0 (send_turn result.0) seat.new.standing seat.new.moving seat.new.place.me.0 }
-    ensures spends { Spends (due seat.old.limits.seats (length seat.old.place.me.0.popped) seat.old.standing.point) 0 seat.old.place.me.0.trail seat.new.place.me.0.trail }
-    ensures wakes { Wakes seat.old.limits.seats result.1 seat.old.place.me.0.trail seat.new.place.me.0.trail }
+    ensures made { Course T.follows T.fits seat.old.table_seat.number seat.old.standing seat.old.table_seat.moving seat.old.table_seat.place.me.0 (send_turn result.0) seat.new.standing seat.new.table_seat.moving seat.new.table_seat.place.me.0 }
+    ensures spends { Spends (due seat.old.table_seat.limits.seats (length seat.old.table_seat.place.me.0.popped) seat.old.standing.point) 0 seat.old.table_seat.place.me.0.trail seat.new.table_seat.place.me.0.trail }
+    ensures wakes { Wakes seat.old.table_seat.limits.seats result.1 seat.old.table_seat.place.me.0.trail seat.new.table_seat.place.me.0.trail }
 {
-    match push(mutex, seat, Pusher::Sender(target)) {
-        Pushed::Queued => (Ok(()), None),
-        Pushed::Stopped => send_on(mutex, seat),
+    let standing = SeatState {
+        point: Point::PushLoad(Pusher::Sender(target)),
+        ..seat.standing
+    };
+    match push(
+        &mutex.table,
+        &mut seat.table_seat,
+        &standing,
+        Pusher::Sender(target),
+    ) {
+        Pushed::Queued => {
+            seat.standing.point = Point::Rest;
+            (Ok(()), None)
+        }
+        Pushed::Stopped(point) => {
+            stop_at(&mut seat.standing, point);
+            send_on(mutex, seat)
+        }
     }
 }
 
@@ -79,35 +94,30 @@ fn send_free<T: Kept>(
     seat: &mut Seat<T>,
     target: u64,
 ) -> (Result<(), Refusal>, Option<WakeUp>)
-    requires belongs { seat.old.place.table_id ≡ mutex.now.table.table_id }
+    requires belongs { seat.old.table_seat.place.table_id ≡ mutex.now.table.table_id }
     requires stands { seat.old.standing.point ≡ SendCountAdd target }
     requires flat { seat.old.standing.depth ≡ 0 }
-    ensures belongs { seat.new.place.table_id ≡ seat.old.place.table_id }
+    ensures belongs { seat.new.table_seat.place.table_id ≡ seat.old.table_seat.place.table_id }
     ensures woken { WakesNobody seat.old seat.new }
-    ensures same { (seat.new.number ≡ seat.old.number) × (seat.new.limits ≡ seat.old.limits) }
+    ensures same { (seat.new.table_seat.number ≡ seat.old.table_seat.number) × (seat.new.table_seat.limits ≡ seat.old.table_seat.limits) }
     ensures ends { Ends sending (send_turn result.0) }
-    ensures made { Course T.follows T.fits seat.old.number seat.old.standing seat.old.moving seat.old.place.me.0 (send_turn result.0) seat.new.standing seat.new.moving seat.new.place.me.0 }
-    ensures spends { Spends (due seat.old.limits.seats (length seat.old.place.me.0.popped) seat.old.standing.point) 0 seat.old.place.me.0.trail seat.new.place.me.0.trail }
-    ensures wakes { Wakes seat.old.limits.seats result.1 seat.old.place.me.0.trail seat.new.place.me.0.trail }
+    ensures made { Course T.follows T.fits seat.old.table_seat.number seat.old.standing seat.old.table_seat.moving seat.old.table_seat.place.me.0 (send_turn result.0) seat.new.standing seat.new.table_seat.moving seat.new.table_seat.place.me.0 }
+    ensures spends { Spends (due seat.old.table_seat.limits.seats (length seat.old.table_seat.place.me.0.popped) seat.old.standing.point) 0 seat.old.table_seat.place.me.0.trail seat.new.table_seat.place.me.0.trail }
+    ensures wakes { Wakes seat.old.table_seat.limits.seats result.1 seat.old.table_seat.place.me.0.trail seat.new.table_seat.place.me.0.trail }
 {
     let table = &mutex.table;
-    let mut data = SeatData {
-        number: seat.number,
-        limits: seat.limits,
-        standing: SeatState {
-            depth: 0,
-            takes: seat.standing.takes,
-            posts: seat.standing.posts,
-            point: Point::SendCountAdd(target),
-        },
+    let mut standing = SeatState {
+        depth: 0,
+        point: Point::SendCountAdd(target),
+        ..seat.standing
     };
-    let found = gain::<CountAdd, T>(table, &mut seat.place, &mut seat.moving, &data);
+    let found = gain::<CountAdd, T>(table, &mut seat.table_seat, &standing);
     if found != 0 {
         stop_at(&mut seat.standing, Point::PushLoad(Pusher::Sender(target)));
         return queue_target(mutex, seat, target);
     }
-    data.standing.point = Point::SendWakeStore(target);
-    let wake_up = grant(table, &mut seat.place, &mut seat.moving, &data);
+    standing.point = Point::SendWakeStore(target);
+    let wake_up = grant(table, &mut seat.table_seat, &standing);
     seat.standing.point = Point::Rest;
     (Ok(()), wake_up)
 }
@@ -120,29 +130,23 @@ fn send_held<T: Kept>(
     seat: &mut Seat<T>,
     target: u64,
 ) -> (Result<(), Refusal>, Option<WakeUp>)
-    requires belongs { seat.old.place.table_id ≡ mutex.now.table.table_id }
+    requires belongs { seat.old.table_seat.place.table_id ≡ mutex.now.table.table_id }
     requires stands { seat.old.standing.point ≡ SendCountAdd target }
     requires held { 0 < seat.old.standing.depth }
-    ensures belongs { seat.new.place.table_id ≡ seat.old.place.table_id }
+    ensures belongs { seat.new.table_seat.place.table_id ≡ seat.old.table_seat.place.table_id }
     ensures woken { WakesNobody seat.old seat.new }
-    ensures same { (seat.new.number ≡ seat.old.number) × (seat.new.limits ≡ seat.old.limits) }
+    ensures same { (seat.new.table_seat.number ≡ seat.old.table_seat.number) × (seat.new.table_seat.limits ≡ seat.old.table_seat.limits) }
     ensures ends { Ends sending (send_turn result.0) }
-    ensures made { Course T.follows T.fits seat.old.number seat.old.standing seat.old.moving seat.old.place.me.0 (send_turn result.0) seat.new.standing seat.new.moving seat.new.place.me.0 }
-    ensures spends { Spends (due seat.old.limits.seats (length seat.old.place.me.0.popped) seat.old.standing.point) 0 seat.old.place.me.0.trail seat.new.place.me.0.trail }
-    ensures wakes { Wakes seat.old.limits.seats result.1 seat.old.place.me.0.trail seat.new.place.me.0.trail }
+    ensures made { Course T.follows T.fits seat.old.table_seat.number seat.old.standing seat.old.table_seat.moving seat.old.table_seat.place.me.0 (send_turn result.0) seat.new.standing seat.new.table_seat.moving seat.new.table_seat.place.me.0 }
+    ensures spends { Spends (due seat.old.table_seat.limits.seats (length seat.old.table_seat.place.me.0.popped) seat.old.standing.point) 0 seat.old.table_seat.place.me.0.trail seat.new.table_seat.place.me.0.trail }
+    ensures wakes { Wakes seat.old.table_seat.limits.seats result.1 seat.old.table_seat.place.me.0.trail seat.new.table_seat.place.me.0.trail }
 {
     let table = &mutex.table;
-    let data = SeatData {
-        number: seat.number,
-        limits: seat.limits,
-        standing: SeatState {
-            depth: seat.standing.depth,
-            takes: seat.standing.takes,
-            posts: seat.standing.posts,
-            point: Point::SendCountAdd(target),
-        },
+    let standing = SeatState {
+        point: Point::SendCountAdd(target),
+        ..seat.standing
     };
-    let found = keep_held::<CountAdd, T>(table, &mut seat.place, &seat.moving, &data);
+    let found = keep_held::<CountAdd, T>(table, &mut seat.table_seat, &standing);
     if found == 0 {
         seat.standing.point = Point::SendWakeStore(target);
         return send_on(mutex, seat);
@@ -161,7 +165,7 @@ pub fn send_awake<T: Kept>(
     requires belongs { OfMutex seat.old mutex.now }
     requires rests { seat.old.standing.point ≡ Rest }
     requires above { 0 < target }
-    requires within { target ≤ seat.old.limits.seats }
+    requires within { target ≤ seat.old.table_seat.limits.seats }
     ensures belongs { Beside seat.old seat.new }
     ensures woken { WakesNobody seat.old seat.new }
     ensures run { RunGoesOnFrom seat.old seat.new }
@@ -170,17 +174,11 @@ pub fn send_awake<T: Kept>(
     ensures wakes { Wakes (limits_of mutex.now).seats result.1 (sight seat.old).trail (sight seat.new).trail }
 {
     let table = &mutex.table;
-    let data = SeatData {
-        number: seat.number,
-        limits: seat.limits,
-        standing: SeatState {
-            depth: seat.standing.depth,
-            takes: seat.standing.takes,
-            posts: seat.standing.posts,
-            point: Point::SendWakeExchange(target),
-        },
+    let standing = SeatState {
+        point: Point::SendWakeExchange(target),
+        ..seat.standing
     };
-    let found = keep::<WakeExchange, T>(table, &mut seat.place, &seat.moving, &data);
+    let found = keep::<WakeExchange, T>(table, &mut seat.table_seat, &standing);
     let waiting = Wake::Waiting.to_word();
     if found != waiting {
         return (Err(Refusal::NotWaiting), None);
@@ -259,7 +257,7 @@ impl<T: Kept> Mutex<T> {
             return send_any(self, seat, target);
         }
         let number = target.get();
-        if number <= seat.limits.seats {
+        if number <= seat.table_seat.limits.seats {
             return send_awake(self, seat, number);
         }
         send_any(self, seat, target)

@@ -18,9 +18,9 @@ use lfm_protocol::points::{Carrier, Point, Releaser, Sleeper};
 use lfm_protocol::{Answer, SeatState, Turn};
 use lfm_table::moving_box::MovingBox;
 use lfm_table::operations::{ClearHead, WakeStore};
-use lfm_table::seat_memory::oldest_of;
 use lfm_table::steps::{collect, keep, keep_held};
-use lfm_table::{Kept, SeatData, WakeUp, steps};
+use lfm_table::transition::oldest_of;
+use lfm_table::{Kept, WakeUp, steps};
 use lfm_words::{Record, unpack_link};
 
 /// The slow path of an open release whose seat has given up the owner word, from the seat's point to the end of the call.
@@ -30,15 +30,15 @@ fn release_on<T: Kept>(
     seat: &mut Seat<T>,
     releaser: Releaser,
 ) -> (Unlocked, Option<WakeUp>)
-    requires belongs { seat.old.place.table_id ≡ mutex.now.table.table_id }
+    requires belongs { seat.old.table_seat.place.table_id ≡ mutex.now.table.table_id }
     requires releases { errand seat.old.standing.point ≡ releasing releaser }
     requires keeps { is_release seat.old.standing.point ≡ false }
-    ensures belongs { seat.new.place.table_id ≡ seat.old.place.table_id }
+    ensures belongs { seat.new.table_seat.place.table_id ≡ seat.old.table_seat.place.table_id }
     ensures woken { WakesNobody seat.old seat.new }
-    ensures same { (seat.new.number ≡ seat.old.number) × (seat.new.limits ≡ seat.old.limits) }
-    ensures made { Course T.follows T.fits seat.old.number seat.old.standing seat.old.moving seat.old.place.me.0 (release_turn releaser result.0) seat.new.standing seat.new.moving seat.new.place.me.0 }
-    ensures bounded { length seat.new.place.me.0.trail ≤ length seat.old.place.me.0.trail + weight seat.old.limits.seats (length seat.old.place.me.0.popped) seat.old.standing.point }
-    ensures wakes { Wakes seat.old.limits.seats result.1 seat.old.place.me.0.trail seat.new.place.me.0.trail }
+    ensures same { (seat.new.table_seat.number ≡ seat.old.table_seat.number) × (seat.new.table_seat.limits ≡ seat.old.table_seat.limits) }
+    ensures made { Course T.follows T.fits seat.old.table_seat.number seat.old.standing seat.old.table_seat.moving seat.old.table_seat.place.me.0 (release_turn releaser result.0) seat.new.standing seat.new.table_seat.moving seat.new.table_seat.place.me.0 }
+    ensures bounded { length seat.new.table_seat.place.me.0.trail ≤ length seat.old.table_seat.place.me.0.trail + weight seat.old.table_seat.limits.seats (length seat.old.table_seat.place.me.0.popped) seat.old.standing.point }
+    ensures wakes { Wakes seat.old.table_seat.limits.seats result.1 seat.old.table_seat.place.me.0.trail seat.new.table_seat.place.me.0.trail }
 {
     let _releaser = releaser;
     let (turn, wake_up) = finish(mutex, seat);
@@ -73,37 +73,32 @@ fn grant<T: Kept>(
     releaser: Releaser,
     oldest: Record,
 ) -> (Unlocked, Option<WakeUp>)
-    requires belongs { seat.old.place.table_id ≡ mutex.now.table.table_id }
+    requires belongs { seat.old.table_seat.place.table_id ≡ mutex.now.table.table_id }
     requires stands { seat.old.standing.point ≡ GrantWakeStore (CarrierNow.Releaser releaser) oldest }
     requires flat { seat.old.standing.depth ≡ 0 }
-    ensures belongs { seat.new.place.table_id ≡ seat.old.place.table_id }
+    ensures belongs { seat.new.table_seat.place.table_id ≡ seat.old.table_seat.place.table_id }
     ensures woken { WakesNobody seat.old seat.new }
-    ensures same { (seat.new.number ≡ seat.old.number) × (seat.new.limits ≡ seat.old.limits) }
-    ensures made { Course T.follows T.fits seat.old.number seat.old.standing seat.old.moving seat.old.place.me.0 (release_turn releaser result.0) seat.new.standing seat.new.moving seat.new.place.me.0 }
-    ensures bounded { length seat.new.place.me.0.trail ≤ length seat.old.place.me.0.trail + weight seat.old.limits.seats (length seat.old.place.me.0.popped) seat.old.standing.point }
-    ensures wakes { Wakes seat.old.limits.seats result.1 seat.old.place.me.0.trail seat.new.place.me.0.trail }
+    ensures same { (seat.new.table_seat.number ≡ seat.old.table_seat.number) × (seat.new.table_seat.limits ≡ seat.old.table_seat.limits) }
+    ensures made { Course T.follows T.fits seat.old.table_seat.number seat.old.standing seat.old.table_seat.moving seat.old.table_seat.place.me.0 (release_turn releaser result.0) seat.new.standing seat.new.table_seat.moving seat.new.table_seat.place.me.0 }
+    ensures bounded { length seat.new.table_seat.place.me.0.trail ≤ length seat.old.table_seat.place.me.0.trail + weight seat.old.table_seat.limits.seats (length seat.old.table_seat.place.me.0.popped) seat.old.standing.point }
+    ensures wakes { Wakes seat.old.table_seat.limits.seats result.1 seat.old.table_seat.place.me.0.trail seat.new.table_seat.place.me.0.trail }
 {
     let table = &mutex.table;
     let Record { seat: next, stamp } = oldest;
-    let mut data = SeatData {
-        number: seat.number,
-        limits: seat.limits,
-        standing: SeatState {
-            depth: 0,
-            takes: seat.standing.takes,
-            posts: seat.standing.posts,
-            point: Point::GrantWakeStore(Carrier::Releaser(releaser), Record { seat: next, stamp }),
-        },
+    let mut standing = SeatState {
+        depth: 0,
+        point: Point::GrantWakeStore(Carrier::Releaser(releaser), Record { seat: next, stamp }),
+        ..seat.standing
     };
-    let wake_up = steps::grant(table, &mut seat.place, &mut seat.moving, &data);
+    let wake_up = steps::grant(table, &mut seat.table_seat, &standing);
     match releaser {
         Releaser::Unlocker => {
             seat.standing.point = Point::Rest;
             (Unlocked::Granted(next), wake_up)
         }
         Releaser::Waiter => {
-            data.standing.point = Point::WaitWakeStore(Unlocked::Granted(next));
-            keep::<WakeStore, T>(table, &mut seat.place, &seat.moving, &data);
+            standing.point = Point::WaitWakeStore(Unlocked::Granted(next));
+            keep::<WakeStore, T>(table, &mut seat.table_seat, &standing);
             seat.standing.point = Point::Asleep(Sleeper::Waiter);
             (Unlocked::Granted(next), wake_up)
         }
@@ -119,36 +114,31 @@ fn serve_pushed<T: Kept>(
     seat: &mut Seat<T>,
     releaser: Releaser,
 ) -> (Unlocked, Option<WakeUp>)
-    requires belongs { seat.old.place.table_id ≡ mutex.now.table.table_id }
+    requires belongs { seat.old.table_seat.place.table_id ≡ mutex.now.table.table_id }
     requires stands { seat.old.standing.point ≡ TakeClearHead (CarrierNow.Releaser releaser) }
     requires flat { seat.old.standing.depth ≡ 0 }
-    ensures belongs { seat.new.place.table_id ≡ seat.old.place.table_id }
+    ensures belongs { seat.new.table_seat.place.table_id ≡ seat.old.table_seat.place.table_id }
     ensures woken { WakesNobody seat.old seat.new }
-    ensures same { (seat.new.number ≡ seat.old.number) × (seat.new.limits ≡ seat.old.limits) }
-    ensures made { Course T.follows T.fits seat.old.number seat.old.standing seat.old.moving seat.old.place.me.0 (release_turn releaser result.0) seat.new.standing seat.new.moving seat.new.place.me.0 }
-    ensures bounded { length seat.new.place.me.0.trail ≤ length seat.old.place.me.0.trail + weight seat.old.limits.seats (length seat.old.place.me.0.popped) seat.old.standing.point }
-    ensures wakes { Wakes seat.old.limits.seats result.1 seat.old.place.me.0.trail seat.new.place.me.0.trail }
+    ensures same { (seat.new.table_seat.number ≡ seat.old.table_seat.number) × (seat.new.table_seat.limits ≡ seat.old.table_seat.limits) }
+    ensures made { Course T.follows T.fits seat.old.table_seat.number seat.old.standing seat.old.table_seat.moving seat.old.table_seat.place.me.0 (release_turn releaser result.0) seat.new.standing seat.new.table_seat.moving seat.new.table_seat.place.me.0 }
+    ensures bounded { length seat.new.table_seat.place.me.0.trail ≤ length seat.old.table_seat.place.me.0.trail + weight seat.old.table_seat.limits.seats (length seat.old.table_seat.place.me.0.popped) seat.old.standing.point }
+    ensures wakes { Wakes seat.old.table_seat.limits.seats result.1 seat.old.table_seat.place.me.0.trail seat.new.table_seat.place.me.0.trail }
 {
     let table = &mutex.table;
     let carrier = Carrier::Releaser(releaser);
-    let mut data = SeatData {
-        number: seat.number,
-        limits: seat.limits,
-        standing: SeatState {
-            depth: 0,
-            takes: seat.standing.takes,
-            posts: seat.standing.posts,
-            point: Point::TakeClearHead(carrier),
-        },
+    let mut standing = SeatState {
+        depth: 0,
+        point: Point::TakeClearHead(carrier),
+        ..seat.standing
     };
-    let push = keep_held::<ClearHead, T>(table, &mut seat.place, &seat.moving, &data);
+    let push = keep_held::<ClearHead, T>(table, &mut seat.table_seat, &standing);
     let next = unpack_link(push).next;
     if next == 0 {
         seat.standing.point = Point::ReleaseHandoffStore(releaser);
         return release_on(mutex, seat, releaser);
     }
-    data.standing.point = Point::TakeLinkLoad(carrier, next);
-    let word = collect(table, &mut seat.place, &mut seat.moving, &data);
+    standing.point = Point::TakeLinkLoad(carrier, next);
+    let word = collect(table, &mut seat.table_seat, &standing);
     let link = unpack_link(word);
     if link.next != 0 {
         seat.standing.point = Point::TakeLinkLoad(carrier, link.next);
@@ -167,17 +157,17 @@ pub(crate) fn serve<T: Kept>(
     seat: &mut Seat<T>,
     releaser: Releaser,
 ) -> (Unlocked, Option<WakeUp>)
-    requires belongs { seat.old.place.table_id ≡ mutex.now.table.table_id }
-    requires stands { seat.old.standing.point ≡ take (CarrierNow.Releaser releaser) 0 (oldest_in seat.old.moving) }
+    requires belongs { seat.old.table_seat.place.table_id ≡ mutex.now.table.table_id }
+    requires stands { seat.old.standing.point ≡ take (CarrierNow.Releaser releaser) 0 (oldest_in seat.old.table_seat.moving) }
     requires flat { seat.old.standing.depth ≡ 0 }
-    ensures belongs { seat.new.place.table_id ≡ seat.old.place.table_id }
+    ensures belongs { seat.new.table_seat.place.table_id ≡ seat.old.table_seat.place.table_id }
     ensures woken { WakesNobody seat.old seat.new }
-    ensures same { (seat.new.number ≡ seat.old.number) × (seat.new.limits ≡ seat.old.limits) }
-    ensures made { Course T.follows T.fits seat.old.number seat.old.standing seat.old.moving seat.old.place.me.0 (release_turn releaser result.0) seat.new.standing seat.new.moving seat.new.place.me.0 }
-    ensures bounded { length seat.new.place.me.0.trail ≤ length seat.old.place.me.0.trail + weight seat.old.limits.seats (length seat.old.place.me.0.popped) seat.old.standing.point }
-    ensures wakes { Wakes seat.old.limits.seats result.1 seat.old.place.me.0.trail seat.new.place.me.0.trail }
+    ensures same { (seat.new.table_seat.number ≡ seat.old.table_seat.number) × (seat.new.table_seat.limits ≡ seat.old.table_seat.limits) }
+    ensures made { Course T.follows T.fits seat.old.table_seat.number seat.old.standing seat.old.table_seat.moving seat.old.table_seat.place.me.0 (release_turn releaser result.0) seat.new.standing seat.new.table_seat.moving seat.new.table_seat.place.me.0 }
+    ensures bounded { length seat.new.table_seat.place.me.0.trail ≤ length seat.old.table_seat.place.me.0.trail + weight seat.old.table_seat.limits.seats (length seat.old.table_seat.place.me.0.popped) seat.old.standing.point }
+    ensures wakes { Wakes seat.old.table_seat.limits.seats result.1 seat.old.table_seat.place.me.0.trail seat.new.table_seat.place.me.0.trail }
 {
-    match oldest_of(&seat.moving) {
+    match oldest_of(&seat.table_seat.moving) {
         Some(oldest) => grant(mutex, seat, releaser, oldest),
         None => serve_pushed(mutex, seat, releaser),
     }

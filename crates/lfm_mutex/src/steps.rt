@@ -79,26 +79,26 @@ pub fn next<T: Kept>(mutex: &Mutex<T>, seat: &mut Seat<T>) -> Turn
 
 /// `start`, with the contract on which the proofs of the calls build.
 pub(crate) fn begin_call<T: Kept>(mutex: &Mutex<T>, seat: &mut Seat<T>, call: Call) -> Turn
-    requires belongs { seat.old.place.table_id ≡ mutex.now.table.table_id }
-    ensures same { (seat.new.place ≡ seat.old.place) × (seat.new.number ≡ seat.old.number) × (seat.new.limits ≡ seat.old.limits) × (seat.new.moving ≡ seat.old.moving) }
+    requires belongs { seat.old.table_seat.place.table_id ≡ mutex.now.table.table_id }
+    ensures same { (seat.new.table_seat.place ≡ seat.old.table_seat.place) × (seat.new.table_seat.number ≡ seat.old.table_seat.number) × (seat.new.table_seat.limits ≡ seat.old.table_seat.limits) × (seat.new.table_seat.moving ≡ seat.old.table_seat.moving) }
     ensures woken { WakesNobody seat.old seat.new }
-    ensures seat { seat.new.standing ≡ (begin seat.old.standing seat.old.limits call).seat }
-    ensures turn { result ≡ (begin seat.old.standing seat.old.limits call).turn }
+    ensures seat { seat.new.standing ≡ (begin seat.old.standing seat.old.table_seat.limits call).seat }
+    ensures turn { result ≡ (begin seat.old.standing seat.old.table_seat.limits call).turn }
 {
     let _mutex = mutex;
-    let limits = seat.limits;
+    let limits = seat.table_seat.limits;
     seat.standing.begin(limits, call)
 }
 
 /// `next`, with the contract on which the proofs of the calls build. It wakes nobody, and hands out the wake-up of the seat
 /// that it granted.
 pub(crate) fn make_next<T: Kept>(mutex: &Mutex<T>, seat: &mut Seat<T>) -> (Turn, Option<WakeUp>)
-    requires belongs { seat.old.place.table_id ≡ mutex.now.table.table_id }
-    requires leaves { (r : Releaser) → seat.old.standing.point ≡ ReleaseOwnerStore r → MayBeLeft T.follows T.fits seat.old.moving seat.old.place.me.0 }
-    ensures belongs { seat.new.place.table_id ≡ seat.old.place.table_id }
+    requires belongs { seat.old.table_seat.place.table_id ≡ mutex.now.table.table_id }
+    requires leaves { (r : Releaser) → seat.old.standing.point ≡ ReleaseOwnerStore r → MayBeLeft T.follows T.fits seat.old.table_seat.moving seat.old.table_seat.place.me.0 }
+    ensures belongs { seat.new.table_seat.place.table_id ≡ seat.old.table_seat.place.table_id }
     ensures woken { WakesNobody seat.old seat.new }
-    ensures same { (seat.new.number ≡ seat.old.number) × (seat.new.limits ≡ seat.old.limits) }
-    ensures event { StepLeadsTo (kind seat.old.standing.point) T.follows T.fits seat.old.standing seat.old.moving seat.old.place.me result.0 seat.new.standing seat.new.moving seat.new.place.me }
+    ensures same { (seat.new.table_seat.number ≡ seat.old.table_seat.number) × (seat.new.table_seat.limits ≡ seat.old.table_seat.limits) }
+    ensures event { StepLeadsTo (kind seat.old.standing.point) T.follows T.fits seat.old.standing seat.old.table_seat.moving seat.old.table_seat.place.me result.0 seat.new.standing seat.new.table_seat.moving seat.new.table_seat.place.me }
     ensures wakes { result.1 ≡ granted_at seat.old.standing.point }
 {
     match seat.standing.point.kind() {

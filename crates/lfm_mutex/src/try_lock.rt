@@ -21,19 +21,19 @@ use lfm_protocol::points::{Entrant, Point};
 use lfm_protocol::{Answer, Call, MAX_DEPTH, SeatState, Turn, Why};
 use lfm_table::operations::{CountExchange, HandoffLoad, OwnerLoad, OwnerStore};
 use lfm_table::steps::{gain, keep, keep_held, load_other_owner};
-use lfm_table::{Kept, SeatData, WakeUp};
+use lfm_table::{Kept, WakeUp};
 use lfm_words::{Handoff, unpack_handoff};
 
 /// The slow path of an open `try_lock`, from the seat's point to the end of the call.
 #[inline(always)]
 fn try_on<T: Kept>(mutex: &Mutex<T>, seat: &mut Seat<T>) -> Result<Locked, Refusal>
-    requires belongs { seat.old.place.table_id ≡ mutex.now.table.table_id }
+    requires belongs { seat.old.table_seat.place.table_id ≡ mutex.now.table.table_id }
     requires tries { errand seat.old.standing.point ≡ trying }
-    ensures belongs { seat.new.place.table_id ≡ seat.old.place.table_id }
+    ensures belongs { seat.new.table_seat.place.table_id ≡ seat.old.table_seat.place.table_id }
     ensures woken { WakesNobody seat.old seat.new }
-    ensures same { (seat.new.number ≡ seat.old.number) × (seat.new.limits ≡ seat.old.limits) }
+    ensures same { (seat.new.table_seat.number ≡ seat.old.table_seat.number) × (seat.new.table_seat.limits ≡ seat.old.table_seat.limits) }
     ensures ends { Ends trying (try_turn result) }
-    ensures made { Course T.follows T.fits seat.old.number seat.old.standing seat.old.moving seat.old.place.me.0 (try_turn result) seat.new.standing seat.new.moving seat.new.place.me.0 }
+    ensures made { Course T.follows T.fits seat.old.table_seat.number seat.old.standing seat.old.table_seat.moving seat.old.table_seat.place.me.0 (try_turn result) seat.new.standing seat.new.table_seat.moving seat.new.table_seat.place.me.0 }
 {
     let (turn, wake_up) = finish(mutex, seat);
     WakeUp::expect_none(wake_up);
@@ -54,7 +54,7 @@ pub fn try_free<T: Kept>(
     requires belongs { OfMutex seat.old mutex.now }
     requires rests { seat.old.standing.point ≡ Rest }
     requires flat { seat.old.standing.depth ≡ 0 }
-    requires budget { budget ≡ seat.old.limits.budget }
+    requires budget { budget ≡ seat.old.table_seat.limits.budget }
     requires charged { seat.old.standing.takes < budget }
     ensures belongs { Beside seat.old seat.new }
     ensures woken { WakesNobody seat.old seat.new }
@@ -64,29 +64,25 @@ pub fn try_free<T: Kept>(
     let _budget = budget;
     let table = &mutex.table;
     let takes = seat.standing.takes + 1;
-    let mut data = SeatData {
-        number: seat.number,
-        limits: seat.limits,
-        standing: SeatState {
-            depth: 0,
-            takes,
-            posts: seat.standing.posts,
-            point: Point::TryCountExchange,
-        },
+    let mut standing = SeatState {
+        depth: 0,
+        takes,
+        point: Point::TryCountExchange,
+        ..seat.standing
     };
-    let found = gain::<CountExchange, T>(table, &mut seat.place, &mut seat.moving, &data);
+    let found = gain::<CountExchange, T>(table, &mut seat.table_seat, &standing);
     if found == 0 {
         // The plain writes stand together, in this gap between two steps: see `steps` of `lfm_table`.
         seat.standing.depth = 1;
         seat.standing.takes = takes;
-        data.standing.point = Point::EnterOwnerStore(Entrant::Trier, How::Free);
-        keep_held::<OwnerStore, T>(table, &mut seat.place, &seat.moving, &data);
+        standing.point = Point::EnterOwnerStore(Entrant::Trier, How::Free);
+        keep_held::<OwnerStore, T>(table, &mut seat.table_seat, &standing);
         return Ok(Locked::Held(How::Free));
     }
-    data.standing.point = Point::TryOwnerLoad;
-    load_other_owner(table, &mut seat.place, &seat.moving, &data);
-    data.standing.point = Point::TryHandoffLoad;
-    let handoff = keep::<HandoffLoad, T>(table, &mut seat.place, &seat.moving, &data);
+    standing.point = Point::TryOwnerLoad;
+    load_other_owner(table, &mut seat.table_seat, &standing);
+    standing.point = Point::TryHandoffLoad;
+    let handoff = keep::<HandoffLoad, T>(table, &mut seat.table_seat, &standing);
     if Handoff::is_posted_in(handoff) {
         seat.standing.takes = takes;
         stop_at(
@@ -111,19 +107,13 @@ pub fn try_again<T: Kept>(mutex: &Mutex<T>, seat: &mut Seat<T>) -> Result<Locked
     ensures made { ComesTo T.follows T.fits (limits_of mutex.now) CallNow.TryLock (sight seat.old) (sight seat.new) (try_turn result) }
 {
     let table = &mutex.table;
-    let number = seat.number;
+    let number = seat.table_seat.number;
     let depth = seat.standing.depth;
-    let mut data = SeatData {
-        number,
-        limits: seat.limits,
-        standing: SeatState {
-            depth,
-            takes: seat.standing.takes,
-            posts: seat.standing.posts,
-            point: Point::TryCountExchange,
-        },
+    let mut standing = SeatState {
+        point: Point::TryCountExchange,
+        ..seat.standing
     };
-    let found = keep_held::<CountExchange, T>(table, &mut seat.place, &seat.moving, &data);
+    let found = keep_held::<CountExchange, T>(table, &mut seat.table_seat, &standing);
     if found == 0 {
         stop_at(
             &mut seat.standing,
@@ -131,10 +121,10 @@ pub fn try_again<T: Kept>(mutex: &Mutex<T>, seat: &mut Seat<T>) -> Result<Locked
         );
         return try_on(mutex, seat);
     }
-    data.standing.point = Point::TryOwnerLoad;
-    let owner = keep_held::<OwnerLoad, T>(table, &mut seat.place, &seat.moving, &data);
+    standing.point = Point::TryOwnerLoad;
+    let owner = keep_held::<OwnerLoad, T>(table, &mut seat.table_seat, &standing);
     if owner != number {
-        stop_at(&mut seat.standing, Point::TryHandoffLoad);
+        seat.standing.point = Point::TryHandoffLoad;
         return try_on(mutex, seat);
     }
     seat.standing.depth = depth + 1;
@@ -182,7 +172,7 @@ impl<T: Kept> Mutex<T> {
             return try_lock_any(self, seat);
         }
         if seat.standing.depth == 0 {
-            let budget = seat.limits.budget;
+            let budget = seat.table_seat.limits.budget;
             if seat.standing.takes < budget {
                 return try_free(self, seat, budget);
             }

@@ -23,7 +23,7 @@ use lfm_protocol::points::{Point, Releaser};
 use lfm_protocol::{Answer, Call, SeatState, Turn, Why};
 use lfm_table::operations::OwnerStore;
 use lfm_table::steps::{keep_held, retake};
-use lfm_table::{Kept, SeatData, WakeUp};
+use lfm_table::{Kept, WakeUp};
 
 /// Fast path of `unlock`: the seat is awake and holds once.
 #[inline(always)]
@@ -40,24 +40,23 @@ pub fn unlock_last<T: Kept>(mutex: &Mutex<T>, seat: &mut Seat<T>) -> (Unlocked, 
     ensures wakes { Wakes (limits_of mutex.now).seats result.1 (sight seat.old).trail (sight seat.new).trail }
 {
     let table = &mutex.table;
-    let mut data = SeatData {
-        number: seat.number,
-        limits: seat.limits,
-        standing: SeatState {
-            depth: 1,
-            takes: seat.standing.takes,
-            posts: seat.standing.posts,
-            point: Point::ReleaseOwnerStore(Releaser::Unlocker),
-        },
+    let mut standing = SeatState {
+        depth: 1,
+        point: Point::ReleaseOwnerStore(Releaser::Unlocker),
+        ..seat.standing
     };
-    keep_held::<OwnerStore, T>(table, &mut seat.place, &seat.moving, &data);
+    keep_held::<OwnerStore, T>(table, &mut seat.table_seat, &standing);
     // The plain writes stand together, in this gap between two steps: see `steps` of `lfm_table`.
     seat.standing.depth = 0;
-    data.standing.depth = 0;
-    data.standing.point = Point::ReleaseCountSubtract(Releaser::Unlocker);
-    let found = retake(table, &mut seat.place, &mut seat.moving, &data);
+    standing.depth = 0;
+    standing.point = Point::ReleaseCountSubtract(Releaser::Unlocker);
+    let found = retake(table, &mut seat.table_seat, &standing);
     if found != 1 {
-        stand_serving(&mut seat.standing, &seat.moving, Releaser::Unlocker);
+        stand_serving(
+            &mut seat.standing,
+            &seat.table_seat.moving,
+            Releaser::Unlocker,
+        );
         return serve(mutex, seat, Releaser::Unlocker);
     }
     (Unlocked::Free, None)

@@ -17,9 +17,6 @@ impl<T: Kept> Seat<T> {
         if self.standing.depth == 0 {
             return None;
         }
-        match &mut self.moving {
-            Some(moving) => Some(moving.value_mut()),
-            None => None,
-        }
+        self.table_seat.value_mut()
     }
 }

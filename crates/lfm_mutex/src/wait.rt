@@ -22,7 +22,7 @@ use lfm_protocol::points::{Point, Releaser, Sleeper};
 use lfm_protocol::{Answer, Call, SeatState, Turn, Why};
 use lfm_table::operations::{OwnerStore, WakeStore};
 use lfm_table::steps::{keep, keep_held, retake};
-use lfm_table::{Kept, SeatData, WakeUp};
+use lfm_table::{Kept, WakeUp};
 
 /// Fast path of `start_wait`: the seat is awake, holds once, and has a take left.
 #[inline(always)]
@@ -34,7 +34,7 @@ pub fn wait_last<T: Kept>(
     requires belongs { OfMutex seat.old mutex.now }
     requires rests { seat.old.standing.point ≡ Rest }
     requires one { seat.old.standing.depth ≡ 1 }
-    requires budget { budget ≡ seat.old.limits.budget }
+    requires budget { budget ≡ seat.old.table_seat.limits.budget }
     requires charged { seat.old.standing.takes < budget }
     requires leaves { MayLeave T.follows T.fits (sight seat.old) }
     ensures belongs { Beside seat.old seat.new }
@@ -47,29 +47,29 @@ pub fn wait_last<T: Kept>(
     let _budget = budget;
     let table = &mutex.table;
     let takes = seat.standing.takes + 1;
-    let mut data = SeatData {
-        number: seat.number,
-        limits: seat.limits,
-        standing: SeatState {
-            depth: 1,
-            takes,
-            posts: seat.standing.posts,
-            point: Point::ReleaseOwnerStore(Releaser::Waiter),
-        },
+    let mut standing = SeatState {
+        depth: 1,
+        takes,
+        point: Point::ReleaseOwnerStore(Releaser::Waiter),
+        ..seat.standing
     };
-    keep_held::<OwnerStore, T>(table, &mut seat.place, &seat.moving, &data);
+    keep_held::<OwnerStore, T>(table, &mut seat.table_seat, &standing);
     // The plain writes stand together, in this gap between two steps: see `steps` of `lfm_table`.
     seat.standing.depth = 0;
     seat.standing.takes = takes;
-    data.standing.depth = 0;
-    data.standing.point = Point::ReleaseCountSubtract(Releaser::Waiter);
-    let found = retake(table, &mut seat.place, &mut seat.moving, &data);
+    standing.depth = 0;
+    standing.point = Point::ReleaseCountSubtract(Releaser::Waiter);
+    let found = retake(table, &mut seat.table_seat, &standing);
     if found != 1 {
-        stand_serving(&mut seat.standing, &seat.moving, Releaser::Waiter);
+        stand_serving(
+            &mut seat.standing,
+            &seat.table_seat.moving,
+            Releaser::Waiter,
+        );
         return serve(mutex, seat, Releaser::Waiter);
     }
-    data.standing.point = Point::WaitWakeStore(Unlocked::Free);
-    keep::<WakeStore, T>(table, &mut seat.place, &seat.moving, &data);
+    standing.point = Point::WaitWakeStore(Unlocked::Free);
+    keep::<WakeStore, T>(table, &mut seat.table_seat, &standing);
     seat.standing.point = Point::Asleep(Sleeper::Waiter);
     (Unlocked::Free, None)
 }
@@ -141,7 +141,7 @@ impl<T: Kept> Mutex<T> {
             return wait_any(self, seat);
         }
         if seat.standing.depth == 1 {
-            let budget = seat.limits.budget;
+            let budget = seat.table_seat.limits.budget;
             if seat.standing.takes < budget {
                 let (released, wake_up) = wait_last(self, seat, budget);
                 return (Ok(released), wake_up);

@@ -11,3 +11,4 @@ pub mod Seats
 pub mod Settled
 pub mod Steps
 pub mod Straight
+pub mod ValueMut

@@ -1,5 +1,5 @@
 -- A seat between the steps of a fast path: its plain data are as the steps leave them, wherever they stand.
-use Rattle.std.specs.Prelude.{ℕ, Option}
+use Rattle.std.specs.Prelude.{◌≡◌, ℕ, Option}
 use Rattle.atomic_table.specs.Table.{Me}
 use Rattle.lfm_protocol.specs.declared.limits.Limits.{Limits}
 use Rattle.lfm_protocol.specs.declared.seats.SeatState.{SeatState}
@@ -7,6 +7,7 @@ use Rattle.lfm_laws.specs.table.Ready.{IsReady}
 use Rattle.lfm_laws.specs.table.Words.{stepped_by}
 use Rattle.lfm_table.specs.declared.seat_view.View.{View}
 use Rattle.lfm_table.specs.declared.rule.Moving.{Moving}
+use Rattle.lfm_table.specs.declared.table_seat.TableSeat.{TableSeat}
 use Rattle.lfm_table.specs.Seats.{Seated, Rooted}
 use Rattle.lfm_table.specs.Settled.{Became}
 use Rattle.lfm_table.specs.Steps.{Event, oldest_in}
@@ -22,3 +23,17 @@ pub record Fit {T : Type 0} (number words id : ℕ) (l : Limits) (p : SeatState)
 pub record MadeStep {T : Type 0} (follows : ℕ → T → T → Type 0) (suits : T → ℕ → Type 0) (number words id : ℕ) (l : Limits) (p : SeatState) (n : ℕ) (m : Me (Option (Moving T)) (View T)) (a : Option (Moving T)) (m' : Me (Option (Moving T)) (View T)) (a' : Option (Moving T)) : Type 0 where
   pub fit : Fit number words id l (stepped_by p number n (oldest_in a')).seat m' a'
   pub event : Event follows suits p a m.0 (stepped_by p number n (oldest_in a')).turn (stepped_by p number n (oldest_in a')).seat a' m'.0
+
+-- the same two of a seat at the table
+
+-- the seat, whose plain data are p, is as the steps leave it
+abbrev pub SeatFits : {T : Type 0} → TableSeat T → SeatState → Type 0
+SeatFits s p = Fit s.number s.place.table_id.words s.place.id s.limits p s.place.me s.moving
+
+-- the step of seat s, whose plain data are p, has found n and made it t
+abbrev pub StepMade : {T : Type 0} → (ℕ → T → T → Type 0) → (T → ℕ → Type 0) → TableSeat T → SeatState → ℕ → TableSeat T → Type 0
+StepMade follows suits s p n t = MadeStep follows suits t.number t.place.table_id.words t.place.id t.limits p n s.place.me s.moving t.place.me t.moving
+
+-- the seat is still of this number and these limits
+abbrev pub IsSame : {T : Type 0} → TableSeat T → TableSeat T → Type 0
+IsSame s t = (t.number ≡ s.number) × (t.limits ≡ s.limits)

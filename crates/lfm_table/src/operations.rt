@@ -1,9 +1,9 @@
 //! The atomic operation of each kind of step, at the packed word. An operation says what it does to which word. `operate` does
 //! it, under one contract for all, and answers the number that it found, or that it stored. Nothing here moves the seat on.
 //!
-//! `seat` are the seat's own data before the step, and `hand` is what the seat has in its own memory. The contract speaks of
-//! both, and B tells them to the play of the step. `hand` and parts of `seat` are read by the contract alone. The operations
-//! are inlined, so that of data which a call makes up on the spot nothing is left but what they read.
+//! `standing` is the seat's state before the step, and `seat.moving` is what the seat has in its own memory. The contract speaks of
+//! both, and B tells them to the play of the step. The operations are inlined, so of a state that a call makes up on the spot
+//! nothing is left but what they read.
 ghost use Rattle.std.specs.Prelude.{◌≡◌, ◌≤◌, ℕ, Some};
 ghost use Rattle.lfm_protocol.specs.declared.kinds.Kind.{Kind as KindNow};
 ghost use Rattle.lfm_protocol.specs.Limits.{max_seats};
@@ -14,14 +14,15 @@ ghost use Rattle.lfm_table.specs.Accesses.{becomes, is_store, word_at};
 ghost use Rattle.lfm_table.specs.Grants.{granted_at};
 ghost use Rattle.lfm_table.specs.Rule.{Advanced, value_in};
 ghost use Rattle.lfm_table.specs.Steps.{CanMake, stores};
+ghost use Rattle.lfm_table.specs.Straight.{IsSame};
 
 use crate::kept::Kept;
 use crate::layout::{COUNT, HANDOFF, OWNER, PUSH, link_at, wake_at};
-use crate::moving_box::MovingBox;
 use crate::rule::{Plain, Stepped};
-use crate::seat_data::SeatData;
-use crate::shared_table::{Place, SharedTable};
+use crate::shared_table::SharedTable;
+use crate::table_seat::TableSeat;
 use crate::wake_up::WakeUp;
+use lfm_protocol::SeatState;
 use lfm_protocol::kinds::Kind;
 use lfm_words::{Wake, pack_handoff, pack_link};
 
@@ -56,13 +57,13 @@ pub trait Operation {
     /// The kind.
     ghost kind: { KindNow };
 
-    /// What a seat at a point of this kind does to which word.
-    fn access(seat: &SeatData) -> Access
-        requires is_next { kind_of seat.now.standing.point ≡ Some kind }
-        requires ready { IsReady seat.now.limits.seats seat.now.number seat.now.standing }
-        requires few { seat.now.limits.seats ≤ max_seats }
-        ensures word { word_at result ≡ index_by seat.now.limits.seats (target seat.now.standing.point seat.now.number) (Some kind) }
-        ensures becomes { (n : ℕ) → becomes result n ≡ written_by seat.now.standing seat.now.number n (Some kind) }
+    /// What the seat with this number, of this many seats, does to which word. Its point is of this kind.
+    fn access(standing: &SeatState, number: u64, seats: u64) -> Access
+        requires is_next { kind_of standing.now.point ≡ Some kind }
+        requires ready { IsReady seats number standing.now }
+        requires few { seats ≤ max_seats }
+        ensures word { word_at result ≡ index_by seats (target standing.now.point number) (Some kind) }
+        ensures becomes { (n : ℕ) → becomes result n ≡ written_by standing.now number n (Some kind) }
         ensures stores { is_store result ≡ stores (Some kind) };
 }
 
@@ -73,7 +74,7 @@ impl Operation for CountExchange {
     ghost kind = { KindNow.CountExchange };
 
     #[inline(always)]
-    fn access(_seat: &SeatData) -> Access {
+    fn access(_standing: &SeatState, _number: u64, _seats: u64) -> Access {
         Access::CompareExchange(COUNT, 0, 1)
     }
 }
@@ -85,7 +86,7 @@ impl Operation for CountAdd {
     ghost kind = { KindNow.CountAdd };
 
     #[inline(always)]
-    fn access(_seat: &SeatData) -> Access {
+    fn access(_standing: &SeatState, _number: u64, _seats: u64) -> Access {
         Access::FetchAdd(COUNT, 1)
     }
 }
@@ -97,7 +98,7 @@ impl Operation for CountSubtract {
     ghost kind = { KindNow.CountSubtract };
 
     #[inline(always)]
-    fn access(_seat: &SeatData) -> Access {
+    fn access(_standing: &SeatState, _number: u64, _seats: u64) -> Access {
         Access::FetchSub(COUNT, 1)
     }
 }
@@ -109,7 +110,7 @@ impl Operation for OwnerLoad {
     ghost kind = { KindNow.OwnerLoad };
 
     #[inline(always)]
-    fn access(_seat: &SeatData) -> Access {
+    fn access(_standing: &SeatState, _number: u64, _seats: u64) -> Access {
         Access::Load(OWNER)
     }
 }
@@ -121,8 +122,8 @@ impl Operation for OwnerStore {
     ghost kind = { KindNow.OwnerStore };
 
     #[inline(always)]
-    fn access(seat: &SeatData) -> Access {
-        Access::Store(OWNER, seat.standing.stored_owner(seat.number))
+    fn access(standing: &SeatState, number: u64, _seats: u64) -> Access {
+        Access::Store(OWNER, standing.stored_owner(number))
     }
 }
 
@@ -133,7 +134,7 @@ impl Operation for PushLoad {
     ghost kind = { KindNow.PushLoad };
 
     #[inline(always)]
-    fn access(_seat: &SeatData) -> Access {
+    fn access(_standing: &SeatState, _number: u64, _seats: u64) -> Access {
         Access::Load(PUSH)
     }
 }
@@ -145,9 +146,9 @@ impl Operation for PushExchange {
     ghost kind = { KindNow.PushExchange };
 
     #[inline(always)]
-    fn access(seat: &SeatData) -> Access {
-        let seen = seat.standing.expected_push();
-        let head = seat.standing.exchanged_push(seat.number);
+    fn access(standing: &SeatState, number: u64, _seats: u64) -> Access {
+        let seen = standing.expected_push();
+        let head = standing.exchanged_push(number);
         let expected = pack_link(seen.stamp, seen.next);
         Access::CompareExchange(PUSH, expected, pack_link(head.stamp, head.next))
     }
@@ -160,7 +161,7 @@ impl Operation for ClearHead {
     ghost kind = { KindNow.ClearHead };
 
     #[inline(always)]
-    fn access(_seat: &SeatData) -> Access {
+    fn access(_standing: &SeatState, _number: u64, _seats: u64) -> Access {
         Access::FetchAnd(PUSH, STAMP)
     }
 }
@@ -172,8 +173,8 @@ impl Operation for LinkLoad {
     ghost kind = { KindNow.LinkLoad };
 
     #[inline(always)]
-    fn access(seat: &SeatData) -> Access {
-        Access::Load(link_at(seat.standing.point.target(seat.number)))
+    fn access(standing: &SeatState, number: u64, _seats: u64) -> Access {
+        Access::Load(link_at(standing.point.target(number)))
     }
 }
 
@@ -184,9 +185,9 @@ impl Operation for LinkStore {
     ghost kind = { KindNow.LinkStore };
 
     #[inline(always)]
-    fn access(seat: &SeatData) -> Access {
-        let link = seat.standing.stored_link();
-        let word = link_at(seat.standing.point.target(seat.number));
+    fn access(standing: &SeatState, number: u64, _seats: u64) -> Access {
+        let link = standing.stored_link();
+        let word = link_at(standing.point.target(number));
         Access::Store(word, pack_link(link.stamp, link.next))
     }
 }
@@ -198,7 +199,7 @@ impl Operation for HandoffLoad {
     ghost kind = { KindNow.HandoffLoad };
 
     #[inline(always)]
-    fn access(_seat: &SeatData) -> Access {
+    fn access(_standing: &SeatState, _number: u64, _seats: u64) -> Access {
         Access::Load(HANDOFF)
     }
 }
@@ -210,8 +211,8 @@ impl Operation for HandoffStore {
     ghost kind = { KindNow.HandoffStore };
 
     #[inline(always)]
-    fn access(seat: &SeatData) -> Access {
-        let handoff = seat.standing.stored_handoff(seat.number);
+    fn access(standing: &SeatState, number: u64, _seats: u64) -> Access {
+        let handoff = standing.stored_handoff(number);
         Access::Store(HANDOFF, pack_handoff(handoff.seat, handoff.post))
     }
 }
@@ -223,8 +224,8 @@ impl Operation for HandoffExchange {
     ghost kind = { KindNow.HandoffExchange };
 
     #[inline(always)]
-    fn access(seat: &SeatData) -> Access {
-        let handoff = seat.standing.expected_handoff(seat.number);
+    fn access(standing: &SeatState, number: u64, _seats: u64) -> Access {
+        let handoff = standing.expected_handoff(number);
         let expected = pack_handoff(handoff.seat, handoff.post);
         Access::CompareExchange(HANDOFF, expected, 0)
     }
@@ -237,9 +238,9 @@ impl Operation for WakeLoad {
     ghost kind = { KindNow.WakeLoad };
 
     #[inline(always)]
-    fn access(seat: &SeatData) -> Access {
-        let target = seat.standing.point.target(seat.number);
-        Access::Load(wake_at(seat.limits.seats, target))
+    fn access(standing: &SeatState, number: u64, seats: u64) -> Access {
+        let target = standing.point.target(number);
+        Access::Load(wake_at(seats, target))
     }
 }
 
@@ -250,10 +251,10 @@ impl Operation for WakeStore {
     ghost kind = { KindNow.WakeStore };
 
     #[inline(always)]
-    fn access(seat: &SeatData) -> Access {
-        let target = seat.standing.point.target(seat.number);
-        let word = wake_at(seat.limits.seats, target);
-        Access::Store(word, seat.standing.stored_wake().to_word())
+    fn access(standing: &SeatState, number: u64, seats: u64) -> Access {
+        let target = standing.point.target(number);
+        let word = wake_at(seats, target);
+        Access::Store(word, standing.stored_wake().to_word())
     }
 }
 
@@ -264,9 +265,9 @@ impl Operation for WakeExchange {
     ghost kind = { KindNow.WakeExchange };
 
     #[inline(always)]
-    fn access(seat: &SeatData) -> Access {
-        let target = seat.standing.point.target(seat.number);
-        let word = wake_at(seat.limits.seats, target);
+    fn access(standing: &SeatState, number: u64, seats: u64) -> Access {
+        let target = standing.point.target(number);
+        let word = wake_at(seats, target);
         Access::CompareExchange(word, Wake::Waiting.to_word(), Wake::Claimed.to_word())
     }
 }
@@ -275,29 +276,37 @@ impl Operation for WakeExchange {
 #[inline(always)]
 pub(crate) fn operate<O: Operation, T: Kept, B: Plain<T>>(
     table: &SharedTable<T>,
-    place: &mut Place<T>,
-    seat: &SeatData,
-    hand: &Option<MovingBox<T>>,
+    seat: &mut TableSeat<T>,
+    standing: &SeatState,
 ) -> u64
-    requires plain { (B.standing ≡ seat.now.standing) × (B.hand ≡ value_in hand.now) }
-    requires table { place.old.table_id ≡ table.now.table_id }
-    requires can { CanMake T.follows T.fits seat.now.standing (value_in hand.now) seat.now.number seat.now.limits.seats table.now.table_id.words place.old.me }
-    requires is_next { kind_of seat.now.standing.point ≡ Some O.kind }
-    ensures table { (place.new.table_id ≡ place.old.table_id) × (place.new.id ≡ place.old.id) }
-    ensures step { Advanced T.follows T.fits seat.now.standing (value_in hand.now) place.old.me result place.new.me }
+    requires plain { (B.standing ≡ standing.now) × (B.hand ≡ value_in seat.old.moving) }
+    requires table { seat.old.place.table_id ≡ table.now.table_id }
+    requires can { CanMake T.follows T.fits standing.now (value_in seat.old.moving) seat.old.number seat.old.limits.seats table.now.table_id.words seat.old.place.me }
+    requires is_next { kind_of standing.now.point ≡ Some O.kind }
+    ensures table { (seat.new.place.table_id ≡ seat.old.place.table_id) × (seat.new.place.id ≡ seat.old.place.id) }
+    ensures same { IsSame seat.old seat.new }
+    ensures moving { seat.new.moving ≡ seat.old.moving }
+    ensures step { Advanced T.follows T.fits standing.now (value_in seat.old.moving) seat.old.place.me result seat.new.place.me }
 {
-    let _hand = hand;
-    match O::access(seat) {
-        Access::Load(word) => table.load::<Stepped<B>>(place, word),
+    match O::access(standing, seat.number, seat.limits.seats) {
+        Access::Load(word) => table.load::<Stepped<B>>(&mut seat.place, word),
         Access::Store(word, new) => {
-            table.store::<Stepped<B>>(place, word, new);
+            table.store::<Stepped<B>>(&mut seat.place, word, new);
             new
         }
-        Access::FetchAdd(word, number) => table.fetch_add::<Stepped<B>>(place, word, number),
-        Access::FetchSub(word, number) => table.fetch_sub::<Stepped<B>>(place, word, number),
-        Access::FetchAnd(word, mask) => table.fetch_and::<Stepped<B>>(place, word, mask),
+        Access::FetchAdd(word, number) => table.fetch_add::<Stepped<B>>(
+            &mut seat.place,
+            word,
+            number,
+        ),
+        Access::FetchSub(word, number) => table.fetch_sub::<Stepped<B>>(
+            &mut seat.place,
+            word,
+            number,
+        ),
+        Access::FetchAnd(word, mask) => table.fetch_and::<Stepped<B>>(&mut seat.place, word, mask),
         Access::CompareExchange(word, old, new) => {
-            table.compare_exchange::<Stepped<B>>(place, word, old, new)
+            table.compare_exchange::<Stepped<B>>(&mut seat.place, word, old, new)
         }
     }
 }
@@ -307,34 +316,35 @@ pub(crate) fn operate<O: Operation, T: Kept, B: Plain<T>>(
 fn operate_by_kind<T: Kept, B: Plain<T>>(
     kind: Kind,
     table: &SharedTable<T>,
-    place: &mut Place<T>,
-    seat: &SeatData,
-    hand: &Option<MovingBox<T>>,
+    seat: &mut TableSeat<T>,
+    standing: &SeatState,
 ) -> u64
-    requires plain { (B.standing ≡ seat.now.standing) × (B.hand ≡ value_in hand.now) }
-    requires table { place.old.table_id ≡ table.now.table_id }
-    requires can { CanMake T.follows T.fits seat.now.standing (value_in hand.now) seat.now.number seat.now.limits.seats table.now.table_id.words place.old.me }
-    requires is_next { kind_of seat.now.standing.point ≡ Some kind }
-    ensures table { (place.new.table_id ≡ place.old.table_id) × (place.new.id ≡ place.old.id) }
-    ensures step { Advanced T.follows T.fits seat.now.standing (value_in hand.now) place.old.me result place.new.me }
+    requires plain { (B.standing ≡ standing.now) × (B.hand ≡ value_in seat.old.moving) }
+    requires table { seat.old.place.table_id ≡ table.now.table_id }
+    requires can { CanMake T.follows T.fits standing.now (value_in seat.old.moving) seat.old.number seat.old.limits.seats table.now.table_id.words seat.old.place.me }
+    requires is_next { kind_of standing.now.point ≡ Some kind }
+    ensures table { (seat.new.place.table_id ≡ seat.old.place.table_id) × (seat.new.place.id ≡ seat.old.place.id) }
+    ensures same { IsSame seat.old seat.new }
+    ensures moving { seat.new.moving ≡ seat.old.moving }
+    ensures step { Advanced T.follows T.fits standing.now (value_in seat.old.moving) seat.old.place.me result seat.new.place.me }
 {
     match kind {
-        Kind::CountExchange => operate::<CountExchange, T, B>(table, place, seat, hand),
-        Kind::CountAdd => operate::<CountAdd, T, B>(table, place, seat, hand),
-        Kind::CountSubtract => operate::<CountSubtract, T, B>(table, place, seat, hand),
-        Kind::OwnerLoad => operate::<OwnerLoad, T, B>(table, place, seat, hand),
-        Kind::OwnerStore => operate::<OwnerStore, T, B>(table, place, seat, hand),
-        Kind::PushLoad => operate::<PushLoad, T, B>(table, place, seat, hand),
-        Kind::PushExchange => operate::<PushExchange, T, B>(table, place, seat, hand),
-        Kind::ClearHead => operate::<ClearHead, T, B>(table, place, seat, hand),
-        Kind::LinkLoad => operate::<LinkLoad, T, B>(table, place, seat, hand),
-        Kind::LinkStore => operate::<LinkStore, T, B>(table, place, seat, hand),
-        Kind::HandoffLoad => operate::<HandoffLoad, T, B>(table, place, seat, hand),
-        Kind::HandoffStore => operate::<HandoffStore, T, B>(table, place, seat, hand),
-        Kind::HandoffExchange => operate::<HandoffExchange, T, B>(table, place, seat, hand),
-        Kind::WakeLoad => operate::<WakeLoad, T, B>(table, place, seat, hand),
-        Kind::WakeStore => operate::<WakeStore, T, B>(table, place, seat, hand),
-        Kind::WakeExchange => operate::<WakeExchange, T, B>(table, place, seat, hand),
+        Kind::CountExchange => operate::<CountExchange, T, B>(table, seat, standing),
+        Kind::CountAdd => operate::<CountAdd, T, B>(table, seat, standing),
+        Kind::CountSubtract => operate::<CountSubtract, T, B>(table, seat, standing),
+        Kind::OwnerLoad => operate::<OwnerLoad, T, B>(table, seat, standing),
+        Kind::OwnerStore => operate::<OwnerStore, T, B>(table, seat, standing),
+        Kind::PushLoad => operate::<PushLoad, T, B>(table, seat, standing),
+        Kind::PushExchange => operate::<PushExchange, T, B>(table, seat, standing),
+        Kind::ClearHead => operate::<ClearHead, T, B>(table, seat, standing),
+        Kind::LinkLoad => operate::<LinkLoad, T, B>(table, seat, standing),
+        Kind::LinkStore => operate::<LinkStore, T, B>(table, seat, standing),
+        Kind::HandoffLoad => operate::<HandoffLoad, T, B>(table, seat, standing),
+        Kind::HandoffStore => operate::<HandoffStore, T, B>(table, seat, standing),
+        Kind::HandoffExchange => operate::<HandoffExchange, T, B>(table, seat, standing),
+        Kind::WakeLoad => operate::<WakeLoad, T, B>(table, seat, standing),
+        Kind::WakeStore => operate::<WakeStore, T, B>(table, seat, standing),
+        Kind::WakeExchange => operate::<WakeExchange, T, B>(table, seat, standing),
     }
 }
 
@@ -343,21 +353,23 @@ fn operate_by_kind<T: Kept, B: Plain<T>>(
 pub fn make_step<T: Kept, B: Plain<T>>(
     kind: Kind,
     table: &SharedTable<T>,
-    place: &mut Place<T>,
-    seat: &SeatData,
-    hand: &Option<MovingBox<T>>,
+    seat: &mut TableSeat<T>,
+    standing: &SeatState,
 ) -> (u64, Option<WakeUp>)
-    requires plain { (B.standing ≡ seat.now.standing) × (B.hand ≡ value_in hand.now) }
-    requires table { place.old.table_id ≡ table.now.table_id }
-    requires can { CanMake T.follows T.fits seat.now.standing (value_in hand.now) seat.now.number seat.now.limits.seats table.now.table_id.words place.old.me }
-    requires is_next { kind_of seat.now.standing.point ≡ Some kind }
-    ensures table { (place.new.table_id ≡ place.old.table_id) × (place.new.id ≡ place.old.id) }
-    ensures step { Advanced T.follows T.fits seat.now.standing (value_in hand.now) place.old.me result.0 place.new.me }
-    ensures wakes { result.1 ≡ granted_at seat.now.standing.point }
+    requires plain { (B.standing ≡ standing.now) × (B.hand ≡ value_in seat.old.moving) }
+    requires table { seat.old.place.table_id ≡ table.now.table_id }
+    requires can { CanMake T.follows T.fits standing.now (value_in seat.old.moving) seat.old.number seat.old.limits.seats table.now.table_id.words seat.old.place.me }
+    requires is_next { kind_of standing.now.point ≡ Some kind }
+    ensures table { (seat.new.place.table_id ≡ seat.old.place.table_id) × (seat.new.place.id ≡ seat.old.place.id) }
+    ensures same { IsSame seat.old seat.new }
+    ensures moving { seat.new.moving ≡ seat.old.moving }
+    ensures step { Advanced T.follows T.fits standing.now (value_in seat.old.moving) seat.old.place.me result.0 seat.new.place.me }
+    ensures wakes { result.1 ≡ granted_at standing.now.point }
 {
-    let number = operate_by_kind::<T, B>(kind, table, place, seat, hand);
+    let seat_number = seat.number;
+    let number = operate_by_kind::<T, B>(kind, table, seat, standing);
     match kind {
-        Kind::WakeStore => (number, WakeUp::owed_by(seat)),
+        Kind::WakeStore => (number, WakeUp::owed_by(seat_number, standing)),
         _ => (number, None),
     }
 }

@@ -22,13 +22,13 @@ use std::marker::Model;
 use std::sync::Wait;
 use std::time::Duration;
 
-/// A seat of the table, which has no bytes.
+/// The kit's seat at the table, by which the rule knows what this seat may do. It has no bytes.
 #[derive(Drop)]
-pub struct Place<T: Drop> {
+pub struct AtomicSeat<T: Drop> {
     seat: Seat<Option<MovingBox<T>>, View<T>>,
 }
 
-impl<T: Drop> Model for Place<T> {
+impl<T: Drop> Model for AtomicSeat<T> {
     ghost use Rattle.lfm_table.specs.SeenTable.{SeenPlace};
 
     ghost Value = { SeenPlace T };
@@ -55,7 +55,7 @@ impl<T: Kept> SharedTable<T> {
     #[inline(always)]
     pub(crate) fn load<M: Play<Option<MovingBox<T>>, View<T>>>(
         &self,
-        place: &mut Place<T>,
+        place: &mut AtomicSeat<T>,
         word: usize,
     ) -> u64
         requires table { place.old.table_id ≡ self.now.table_id }
@@ -70,7 +70,7 @@ impl<T: Kept> SharedTable<T> {
     #[inline(always)]
     pub(crate) fn store<M: Play<Option<MovingBox<T>>, View<T>>>(
         &self,
-        place: &mut Place<T>,
+        place: &mut AtomicSeat<T>,
         word: usize,
         new: u64,
     )
@@ -86,7 +86,7 @@ impl<T: Kept> SharedTable<T> {
     #[inline(always)]
     pub(crate) fn fetch_add<M: Play<Option<MovingBox<T>>, View<T>>>(
         &self,
-        place: &mut Place<T>,
+        place: &mut AtomicSeat<T>,
         word: usize,
         k: u64,
     ) -> u64
@@ -102,7 +102,7 @@ impl<T: Kept> SharedTable<T> {
     #[inline(always)]
     pub(crate) fn fetch_sub<M: Play<Option<MovingBox<T>>, View<T>>>(
         &self,
-        place: &mut Place<T>,
+        place: &mut AtomicSeat<T>,
         word: usize,
         k: u64,
     ) -> u64
@@ -118,7 +118,7 @@ impl<T: Kept> SharedTable<T> {
     #[inline(always)]
     pub(crate) fn fetch_and<M: Play<Option<MovingBox<T>>, View<T>>>(
         &self,
-        place: &mut Place<T>,
+        place: &mut AtomicSeat<T>,
         word: usize,
         k: u64,
     ) -> u64
@@ -135,7 +135,7 @@ impl<T: Kept> SharedTable<T> {
     #[inline(always)]
     pub(crate) fn compare_exchange<M: Play<Option<MovingBox<T>>, View<T>>>(
         &self,
-        place: &mut Place<T>,
+        place: &mut AtomicSeat<T>,
         word: usize,
         old: u64,
         new: u64,
@@ -158,7 +158,7 @@ impl<T: Kept> SharedTable<T> {
     #[inline(always)]
     pub(crate) fn exchange(
         &self,
-        place: &mut Place<T>,
+        place: &mut AtomicSeat<T>,
         slot: usize,
         new: Option<MovingBox<T>>,
     ) -> Option<MovingBox<T>>

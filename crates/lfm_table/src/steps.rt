@@ -1,5 +1,5 @@
 //! The atomic steps of the fast paths, each by itself, told by what becomes of the guarded value. A fast path hardly ever stores
-//! a point: it hands each step a `SeatData` that it makes up on the spot, `seat`, with the step's point in it. After inlining,
+//! a point: it hands each step a state that it makes up on the spot, `standing`, with the step's point in it. After inlining,
 //! only what the step reads of it is left. The proof needs the rest.
 //!
 //! An atomic step waits for the plain writes before it. So a fast path makes its writes in one gap between two steps, in which
@@ -14,18 +14,19 @@ ghost use Rattle.lfm_laws.specs.table.Carried.{carries_value};
 ghost use Rattle.lfm_laws.specs.table.Words.{stepped_by};
 ghost use Rattle.lfm_table.specs.Grants.{granted_at};
 ghost use Rattle.lfm_table.specs.Steps.{gives_at, MayBeLeft};
-ghost use Rattle.lfm_table.specs.Straight.{Fit, MadeStep};
+ghost use Rattle.lfm_table.specs.Straight.{IsSame, SeatFits, StepMade};
 
 use crate::kept::Kept;
-use crate::moving_box::MovingBox;
 use crate::operations::{
     CountSubtract, LinkLoad, Operation, OwnerLoad, WakeLoad, WakeStore, operate,
 };
-use crate::seat_data::SeatData;
-use crate::seat_memory::{add_loaded, drop_oldest, put_out, take_out};
-use crate::shared_table::{Place, SharedTable};
+use crate::shared_table::SharedTable;
+use crate::slot::{put_out, take_out};
+use crate::table_seat::TableSeat;
+use crate::transition::{add_loaded, drop_oldest};
 use crate::wake_up::WakeUp;
 use crate::wake_words::FIRST_GRANT;
+use lfm_protocol::SeatState;
 use std::marker::Brand;
 
 /// Makes the step for a seat that carries the value after it exactly if it did before. Nothing but the word changes: no record
@@ -33,87 +34,90 @@ use std::marker::Brand;
 #[inline(always)]
 pub fn keep<O: Operation, T: Kept>(
     table: &SharedTable<T>,
-    place: &mut Place<T>,
-    moving: &Option<MovingBox<T>>,
-    seat: &SeatData,
+    seat: &mut TableSeat<T>,
+    standing: &SeatState,
 ) -> u64
-    requires table { place.old.table_id ≡ table.now.table_id }
-    requires fit { Fit seat.now.number place.old.table_id.words place.old.id seat.now.limits seat.now.standing place.old.me moving.now }
-    requires is_next { kind_of seat.now.standing.point ≡ Some O.kind }
-    requires moves_nothing { (O.kind ≢ KindNow.LinkLoad) × (drops_oldest seat.now.standing ≡ false) × (gives_at seat.now.standing.point ≡ false) }
-    requires leaves { (r : Releaser) → seat.now.standing.point ≡ ReleaseOwnerStore r → MayBeLeft T.follows T.fits moving.now place.old.me.0 }
-    requires stays { (n : ℕ) → carries_value (stepped_by seat.now.standing seat.now.number n None).seat ≡ carries_value seat.now.standing }
-    ensures table { place.new.table_id ≡ place.old.table_id }
-    ensures step { MadeStep T.follows T.fits seat.now.number place.new.table_id.words place.new.id seat.now.limits seat.now.standing result place.old.me moving.now place.new.me moving.now }
+    requires table { seat.old.place.table_id ≡ table.now.table_id }
+    requires fit { SeatFits seat.old standing.now }
+    requires is_next { kind_of standing.now.point ≡ Some O.kind }
+    requires moves_nothing { (O.kind ≢ KindNow.LinkLoad) × (drops_oldest standing.now ≡ false) × (gives_at standing.now.point ≡ false) }
+    requires leaves { (r : Releaser) → standing.now.point ≡ ReleaseOwnerStore r → MayBeLeft T.follows T.fits seat.old.moving seat.old.place.me.0 }
+    requires stays { (n : ℕ) → carries_value (stepped_by standing.now seat.old.number n None).seat ≡ carries_value standing.now }
+    ensures table { seat.new.place.table_id ≡ seat.old.place.table_id }
+    ensures same { IsSame seat.old seat.new }
+    ensures moving { seat.new.moving ≡ seat.old.moving }
+    ensures step { StepMade T.follows T.fits seat.old standing.now result seat.new }
 {
-    operate::<O, T, Brand>(table, place, seat, moving)
+    operate::<O, T, Brand>(table, seat, standing)
 }
 
 /// `keep` for a seat that carries the value: it goes on carrying it.
 #[inline(always)]
 pub fn keep_held<O: Operation, T: Kept>(
     table: &SharedTable<T>,
-    place: &mut Place<T>,
-    moving: &Option<MovingBox<T>>,
-    seat: &SeatData,
+    seat: &mut TableSeat<T>,
+    standing: &SeatState,
 ) -> u64
-    requires table { place.old.table_id ≡ table.now.table_id }
-    requires fit { Fit seat.now.number place.old.table_id.words place.old.id seat.now.limits seat.now.standing place.old.me moving.now }
-    requires is_next { kind_of seat.now.standing.point ≡ Some O.kind }
-    requires moves_nothing { (O.kind ≢ KindNow.LinkLoad) × (drops_oldest seat.now.standing ≡ false) × (gives_at seat.now.standing.point ≡ false) }
-    requires leaves { (r : Releaser) → seat.now.standing.point ≡ ReleaseOwnerStore r → MayBeLeft T.follows T.fits moving.now place.old.me.0 }
-    requires held { carries_value seat.now.standing ≡ true }
-    ensures table { place.new.table_id ≡ place.old.table_id }
-    ensures step { MadeStep T.follows T.fits seat.now.number place.new.table_id.words place.new.id seat.now.limits seat.now.standing result place.old.me moving.now place.new.me moving.now }
+    requires table { seat.old.place.table_id ≡ table.now.table_id }
+    requires fit { SeatFits seat.old standing.now }
+    requires is_next { kind_of standing.now.point ≡ Some O.kind }
+    requires moves_nothing { (O.kind ≢ KindNow.LinkLoad) × (drops_oldest standing.now ≡ false) × (gives_at standing.now.point ≡ false) }
+    requires leaves { (r : Releaser) → standing.now.point ≡ ReleaseOwnerStore r → MayBeLeft T.follows T.fits seat.old.moving seat.old.place.me.0 }
+    requires held { carries_value standing.now ≡ true }
+    ensures table { seat.new.place.table_id ≡ seat.old.place.table_id }
+    ensures same { IsSame seat.old seat.new }
+    ensures moving { seat.new.moving ≡ seat.old.moving }
+    ensures step { StepMade T.follows T.fits seat.old standing.now result seat.new }
 {
-    keep::<O, T>(table, place, moving, seat)
+    keep::<O, T>(table, seat, standing)
 }
 
 /// Loads the owner for a seat that doesn't hold. It finds another, and goes on without the value.
 #[inline(always)]
 pub fn load_other_owner<T: Kept>(
     table: &SharedTable<T>,
-    place: &mut Place<T>,
-    moving: &Option<MovingBox<T>>,
-    seat: &SeatData,
+    seat: &mut TableSeat<T>,
+    standing: &SeatState,
 ) -> u64
-    requires table { place.old.table_id ≡ table.now.table_id }
-    requires fit { Fit seat.now.number place.old.table_id.words place.old.id seat.now.limits seat.now.standing place.old.me moving.now }
-    requires is_next { kind_of seat.now.standing.point ≡ Some KindNow.OwnerLoad }
-    requires flat { seat.now.standing.depth ≡ 0 }
-    requires free { carries_value seat.now.standing ≡ false }
-    requires idles { (n : ℕ) → n ≢ seat.now.number → carries_value (stepped_by seat.now.standing seat.now.number n None).seat ≡ false }
-    ensures other { result ≢ seat.now.number }
-    ensures table { place.new.table_id ≡ place.old.table_id }
-    ensures step { MadeStep T.follows T.fits seat.now.number place.new.table_id.words place.new.id seat.now.limits seat.now.standing result place.old.me moving.now place.new.me moving.now }
+    requires table { seat.old.place.table_id ≡ table.now.table_id }
+    requires fit { SeatFits seat.old standing.now }
+    requires is_next { kind_of standing.now.point ≡ Some KindNow.OwnerLoad }
+    requires flat { standing.now.depth ≡ 0 }
+    requires free { carries_value standing.now ≡ false }
+    requires idles { (n : ℕ) → n ≢ seat.old.number → carries_value (stepped_by standing.now seat.old.number n None).seat ≡ false }
+    ensures other { result ≢ seat.old.number }
+    ensures table { seat.new.place.table_id ≡ seat.old.place.table_id }
+    ensures same { IsSame seat.old seat.new }
+    ensures moving { seat.new.moving ≡ seat.old.moving }
+    ensures step { StepMade T.follows T.fits seat.old standing.now result seat.new }
 {
-    operate::<OwnerLoad, T, Brand>(table, place, seat, moving)
+    operate::<OwnerLoad, T, Brand>(table, seat, standing)
 }
 
 /// Makes the step for a seat that doesn't carry the value. It comes to carry it exactly if it found 0.
 #[inline(always)]
 pub fn gain<O: Operation, T: Kept>(
     table: &SharedTable<T>,
-    place: &mut Place<T>,
-    moving: &mut Option<MovingBox<T>>,
-    seat: &SeatData,
+    seat: &mut TableSeat<T>,
+    standing: &SeatState,
 ) -> u64
-    requires table { place.old.table_id ≡ table.now.table_id }
-    requires fit { Fit seat.now.number place.old.table_id.words place.old.id seat.now.limits seat.now.standing place.old.me moving.old }
-    requires is_next { kind_of seat.now.standing.point ≡ Some O.kind }
-    requires moves_nothing { (O.kind ≢ KindNow.LinkLoad) × (drops_oldest seat.now.standing ≡ false) × (gives_at seat.now.standing.point ≡ false) }
+    requires table { seat.old.place.table_id ≡ table.now.table_id }
+    requires fit { SeatFits seat.old standing.now }
+    requires is_next { kind_of standing.now.point ≡ Some O.kind }
+    requires moves_nothing { (O.kind ≢ KindNow.LinkLoad) × (drops_oldest standing.now ≡ false) × (gives_at standing.now.point ≡ false) }
     requires ends_no_hold { O.kind ≢ KindNow.OwnerStore }
-    requires free { carries_value seat.now.standing ≡ false }
-    requires gains { carries_value (stepped_by seat.now.standing seat.now.number 0 None).seat ≡ true }
-    requires idles { (n : ℕ) → n ≢ 0 → carries_value (stepped_by seat.now.standing seat.now.number n None).seat ≡ false }
-    ensures table { place.new.table_id ≡ place.old.table_id }
-    ensures step { MadeStep T.follows T.fits seat.now.number place.new.table_id.words place.new.id seat.now.limits seat.now.standing result place.old.me moving.old place.new.me moving.new }
+    requires free { carries_value standing.now ≡ false }
+    requires gains { carries_value (stepped_by standing.now seat.old.number 0 None).seat ≡ true }
+    requires idles { (n : ℕ) → n ≢ 0 → carries_value (stepped_by standing.now seat.old.number n None).seat ≡ false }
+    ensures table { seat.new.place.table_id ≡ seat.old.place.table_id }
+    ensures same { IsSame seat.old seat.new }
+    ensures step { StepMade T.follows T.fits seat.old standing.now result seat.new }
 {
-    let found = operate::<O, T, Brand>(table, place, seat, &*moving);
+    let found = operate::<O, T, Brand>(table, seat, standing);
     if found != 0 {
         return found;
     }
-    take_out(table, place, moving);
+    take_out(table, seat);
     0
 }
 
@@ -121,51 +125,47 @@ pub fn gain<O: Operation, T: Kept>(
 #[inline(always)]
 pub fn gain_by_grant<T: Kept>(
     table: &SharedTable<T>,
-    place: &mut Place<T>,
-    moving: &mut Option<MovingBox<T>>,
-    seat: &SeatData,
+    seat: &mut TableSeat<T>,
+    standing: &SeatState,
 ) -> u64
-    requires table { place.old.table_id ≡ table.now.table_id }
-    requires fit { Fit seat.now.number place.old.table_id.words place.old.id seat.now.limits seat.now.standing place.old.me moving.old }
-    requires is_next { kind_of seat.now.standing.point ≡ Some KindNow.WakeLoad }
-    requires free { carries_value seat.now.standing ≡ false }
-    requires gains { (n : ℕ) → 2 < n → carries_value (stepped_by seat.now.standing seat.now.number n None).seat ≡ true }
-    requires idles { (n : ℕ) → n ≤ 2 → carries_value (stepped_by seat.now.standing seat.now.number n None).seat ≡ false }
-    ensures table { place.new.table_id ≡ place.old.table_id }
-    ensures step { MadeStep T.follows T.fits seat.now.number place.new.table_id.words place.new.id seat.now.limits seat.now.standing result place.old.me moving.old place.new.me moving.new }
+    requires table { seat.old.place.table_id ≡ table.now.table_id }
+    requires fit { SeatFits seat.old standing.now }
+    requires is_next { kind_of standing.now.point ≡ Some KindNow.WakeLoad }
+    requires free { carries_value standing.now ≡ false }
+    requires gains { (n : ℕ) → 2 < n → carries_value (stepped_by standing.now seat.old.number n None).seat ≡ true }
+    requires idles { (n : ℕ) → n ≤ 2 → carries_value (stepped_by standing.now seat.old.number n None).seat ≡ false }
+    ensures table { seat.new.place.table_id ≡ seat.old.place.table_id }
+    ensures same { IsSame seat.old seat.new }
+    ensures step { StepMade T.follows T.fits seat.old standing.now result seat.new }
 {
-    let found = operate::<WakeLoad, T, Brand>(table, place, seat, &*moving);
+    let found = operate::<WakeLoad, T, Brand>(table, seat, standing);
     if found < FIRST_GRANT {
         return found;
     }
-    take_out(table, place, moving);
+    take_out(table, seat);
     found
 }
 
 /// Subtracts 1 from the count for a seat that has given up the owner word. The value is in its slot by then: if the count was 1,
 /// the next seat may come in and take it at once. If the count was more, this seat takes the value out again.
 #[inline(always)]
-pub fn retake<T: Kept>(
-    table: &SharedTable<T>,
-    place: &mut Place<T>,
-    moving: &mut Option<MovingBox<T>>,
-    seat: &SeatData,
-) -> u64
-    requires table { place.old.table_id ≡ table.now.table_id }
-    requires fit { Fit seat.now.number place.old.table_id.words place.old.id seat.now.limits seat.now.standing place.old.me moving.old }
-    requires is_next { kind_of seat.now.standing.point ≡ Some KindNow.CountSubtract }
-    requires gives { gives_at seat.now.standing.point ≡ true }
-    requires leaves { carries_value (stepped_by seat.now.standing seat.now.number 1 None).seat ≡ false }
-    requires carries { (n : ℕ) → n ≢ 1 → carries_value (stepped_by seat.now.standing seat.now.number n None).seat ≡ true }
-    ensures table { place.new.table_id ≡ place.old.table_id }
-    ensures step { MadeStep T.follows T.fits seat.now.number place.new.table_id.words place.new.id seat.now.limits seat.now.standing result place.old.me moving.old place.new.me moving.new }
+pub fn retake<T: Kept>(table: &SharedTable<T>, seat: &mut TableSeat<T>, standing: &SeatState) -> u64
+    requires table { seat.old.place.table_id ≡ table.now.table_id }
+    requires fit { SeatFits seat.old standing.now }
+    requires is_next { kind_of standing.now.point ≡ Some KindNow.CountSubtract }
+    requires gives { gives_at standing.now.point ≡ true }
+    requires leaves { carries_value (stepped_by standing.now seat.old.number 1 None).seat ≡ false }
+    requires carries { (n : ℕ) → n ≢ 1 → carries_value (stepped_by standing.now seat.old.number n None).seat ≡ true }
+    ensures table { seat.new.place.table_id ≡ seat.old.place.table_id }
+    ensures same { IsSame seat.old seat.new }
+    ensures step { StepMade T.follows T.fits seat.old standing.now result seat.new }
 {
-    put_out(table, place, moving);
-    let found = operate::<CountSubtract, T, Brand>(table, place, seat, &None);
+    put_out(table, seat);
+    let found = operate::<CountSubtract, T, Brand>(table, seat, standing);
     if found == 1 {
         return 1;
     }
-    take_out(table, place, moving);
+    take_out(table, seat);
     found
 }
 
@@ -173,19 +173,20 @@ pub fn retake<T: Kept>(
 #[inline(always)]
 pub fn collect<T: Kept>(
     table: &SharedTable<T>,
-    place: &mut Place<T>,
-    moving: &mut Option<MovingBox<T>>,
-    seat: &SeatData,
+    seat: &mut TableSeat<T>,
+    standing: &SeatState,
 ) -> u64
-    requires table { place.old.table_id ≡ table.now.table_id }
-    requires fit { Fit seat.now.number place.old.table_id.words place.old.id seat.now.limits seat.now.standing place.old.me moving.old }
-    requires is_next { kind_of seat.now.standing.point ≡ Some KindNow.LinkLoad }
-    requires held { carries_value seat.now.standing ≡ true }
-    ensures table { place.new.table_id ≡ place.old.table_id }
-    ensures step { MadeStep T.follows T.fits seat.now.number place.new.table_id.words place.new.id seat.now.limits seat.now.standing result place.old.me moving.old place.new.me moving.new }
+    requires table { seat.old.place.table_id ≡ table.now.table_id }
+    requires fit { SeatFits seat.old standing.now }
+    requires is_next { kind_of standing.now.point ≡ Some KindNow.LinkLoad }
+    requires held { carries_value standing.now ≡ true }
+    ensures table { seat.new.place.table_id ≡ seat.old.place.table_id }
+    ensures same { IsSame seat.old seat.new }
+    ensures step { StepMade T.follows T.fits seat.old standing.now result seat.new }
 {
-    let found = operate::<LinkLoad, T, Brand>(table, place, seat, &*moving);
-    add_loaded(moving, seat, found);
+    let number = seat.number;
+    let found = operate::<LinkLoad, T, Brand>(table, seat, standing);
+    add_loaded(&mut seat.moving, number, standing, found);
     found
 }
 
@@ -195,21 +196,22 @@ pub fn collect<T: Kept>(
 #[inline(always)]
 pub fn grant<T: Kept>(
     table: &SharedTable<T>,
-    place: &mut Place<T>,
-    moving: &mut Option<MovingBox<T>>,
-    seat: &SeatData,
+    seat: &mut TableSeat<T>,
+    standing: &SeatState,
 ) -> Option<WakeUp>
-    requires table { place.old.table_id ≡ table.now.table_id }
-    requires fit { Fit seat.now.number place.old.table_id.words place.old.id seat.now.limits seat.now.standing place.old.me moving.old }
-    requires is_next { kind_of seat.now.standing.point ≡ Some KindNow.WakeStore }
-    requires gives { gives_at seat.now.standing.point ≡ true }
-    requires leaves { (n : ℕ) → carries_value (stepped_by seat.now.standing seat.now.number n None).seat ≡ false }
-    ensures table { place.new.table_id ≡ place.old.table_id }
-    ensures step { (n : ℕ) × MadeStep T.follows T.fits seat.now.number place.new.table_id.words place.new.id seat.now.limits seat.now.standing n place.old.me moving.old place.new.me moving.new }
-    ensures wakes { result ≡ granted_at seat.now.standing.point }
+    requires table { seat.old.place.table_id ≡ table.now.table_id }
+    requires fit { SeatFits seat.old standing.now }
+    requires is_next { kind_of standing.now.point ≡ Some KindNow.WakeStore }
+    requires gives { gives_at standing.now.point ≡ true }
+    requires leaves { (n : ℕ) → carries_value (stepped_by standing.now seat.old.number n None).seat ≡ false }
+    ensures table { seat.new.place.table_id ≡ seat.old.place.table_id }
+    ensures same { IsSame seat.old seat.new }
+    ensures step { (n : ℕ) × StepMade T.follows T.fits seat.old standing.now n seat.new }
+    ensures wakes { result ≡ granted_at standing.now.point }
 {
-    drop_oldest(moving, &seat.standing);
-    put_out(table, place, moving);
-    operate::<WakeStore, T, Brand>(table, place, seat, &None);
-    WakeUp::owed_by(seat)
+    let number = seat.number;
+    drop_oldest(&mut seat.moving, standing);
+    put_out(table, seat);
+    operate::<WakeStore, T, Brand>(table, seat, standing);
+    WakeUp::owed_by(number, standing)
 }

@@ -5,8 +5,8 @@ ghost use Rattle.lfm_model.specs.SeatNumbers.{IsSeatNo};
 ghost use Rattle.lfm_protocol.specs.Points.{target};
 ghost use Rattle.lfm_table.specs.Grants.{granted_at, owed};
 
-use crate::seat_data::SeatData;
 use lfm_model::SeatNo;
+use lfm_protocol::SeatState;
 use lfm_words::Wake;
 use std::marker::Model;
 
@@ -17,7 +17,7 @@ use std::marker::Model;
 /// into a seat's number. `parking::wake` adds the seat to those that were woken.
 ///
 /// ```
-/// let (number, wake_up) = make_step::<T, B>(kind, table, place, seat, hand);
+/// let (found, wake_up) = make_step::<T, B>(kind, table, seat, standing);
 /// match wake_up {
 ///     Some(wake_up) => wake(table, seats, wake_up, &mut woken),
 ///     None => {}
@@ -47,12 +47,13 @@ impl WakeUp {
     }
 
     /// What is owed after the store of a wake word at the seat's point: the wake-up of the target if it is granted.
-    pub(crate) fn owed_by(seat: &SeatData) -> Option<WakeUp>
-        requires { IsSeatNo (target seat.now.standing.point seat.now.number) }
-        ensures { result ≡ granted_at seat.now.standing.point }
+    #[inline(always)]
+    pub(crate) fn owed_by(number: u64, standing: &SeatState) -> Option<WakeUp>
+        requires { IsSeatNo (target standing.now.point number) }
+        ensures { result ≡ granted_at standing.now.point }
     {
-        let target = SeatNo::known(seat.standing.point.target(seat.number));
-        WakeUp::owed(seat.standing.stored_wake(), target)
+        let target = SeatNo::known(standing.point.target(number));
+        WakeUp::owed(standing.stored_wake(), target)
     }
 
     /// For a step that granted nothing: takes the None that it handed out.

@@ -20,8 +20,6 @@ use Rattle.lfm_table.specs.declared.rule.Moving.{Moving}
 use Rattle.lfm_table.specs.declared.seat_view.View.{View}
 use Rattle.lfm_table.specs.Steps.{oldest_in}
 use Rattle.lfm_table.specs.Straight.{Fit, MadeStep}
-use Rattle.lfm_mutex.specs.declared.push.Pushed.{Pushed}
-use Rattle.lfm_mutex.specs.calls.Pushes.{push_turn}
 use Rattle.lfm_mutex.specs.calls.Runs.{opens}
 use Rattle.lfm_mutex.proofs.runs.PlainCourses.{PlainSteps, plain_none, plain_next}
 use Rattle.lfm_table.proofs.tables.StepFacts.{made_of}
@@ -52,14 +50,17 @@ found_none u d t ps s n o none = let h = not-false (nat_eq (n % 65536) 0) none i
 pub found_one : (u : Pusher) (d t ps s n : ℕ) (o : Option Record) → is_posted_word n ≡ true → stepped_by (made_of d t ps (PushedHandoffLoad u)) s n o ≡ opens (made_of d t ps (found_posted u (handoff_of n)))
 found_one u d t ps s n o some = let h = not-true (nat_eq (n % 65536) 0) some in rw h refl
 
--- the seat's own method has moved it on to there
-pub stops_at_post : {y z : SeatState} {u : Pusher} {h : Handoff} (x : SeatState) (n : ℕ) → y ≡ made_of x.depth x.takes x.posts (PushedHandoffLoad u) → h ≡ handoff_of n → z ≡ (after_handoff_load y h).seat → is_posted_word n ≡ true → z ≡ made_of x.depth x.takes x.posts (found_posted u (handoff_of n))
-stops_at_post {y} {z} {u} {h} x n at holds moved some =
-    moved ∙ ((λ i. (after_handoff_load (at i) (holds i)).seat) ∙ ap (λ (q : Stepped). q.seat) (found_one u x.depth x.takes x.posts 0 n None some))
+-- the seat's own method moves it on to there
+pub stops_at_post : {z : SeatState} {h : Handoff} (u : Pusher) (x : SeatState) (n : ℕ) → h ≡ handoff_of n → z ≡ (after_handoff_load (made_of x.depth x.takes x.posts (PushedHandoffLoad u)) h).seat → is_posted_word n ≡ true → z.point ≡ found_posted u (handoff_of n)
+stops_at_post {z} {h} u x n holds moved some =
+    let is : z ≡ made_of x.depth x.takes x.posts (found_posted u (handoff_of n)) =
+    moved ∙ ((λ i. (after_handoff_load (made_of x.depth x.takes x.posts (PushedHandoffLoad u)) (holds i)).seat) ∙ ap (λ (q : Stepped). q.seat) (found_one u x.depth x.takes x.posts 0 n None some)) in
+    ap (λ (q : SeatState). q.point) is
 
-pub queued_turn : (x : SeatState) (u : Pusher) → (pushed x u).turn ≡ push_turn Pushed.Queued u
-queued_turn x Pusher.Locker = refl
-queued_turn x (Pusher.Sender t) = refl
+-- a push that has queued its record ends alike from wherever its seat is said to stand
+pub queued_end : (x : SeatState) (u : Pusher) → pushed (made_of x.depth x.takes x.posts (PushedHandoffLoad u)) u ≡ pushed x u
+queued_end x Pusher.Locker = refl
+queued_end x (Pusher.Sender t) = refl
 
 -- A push moves no value
 
@@ -74,16 +75,16 @@ handoff_stays (Pusher.Sender u) d t ps s n o = either_stays (nat_eq (n % 65536) 
 -- The course
 
 -- a load of the push word, a store of the link and an exchange of the push word
-pub pushes_by : {T : Type 0} {follows : ℕ → T → T → Type 0} {suits : T → ℕ → Type 0} {s w0 i0 w1 i1 w2 i2 w3 i3 w k n : ℕ} {l : Limits} {a : Option (Moving T)} {m0 m1 m2 m3 : Me (Option (Moving T)) (View T)} (x : SeatState) (u : Pusher) (old : Link) (st : Stepped)
-    → x.point ≡ PushLoad u → Fit s w0 i0 l x m0 a
-    → MadeStep follows suits s w1 i1 l (made_of x.depth x.takes x.posts (PushLoad u)) w m0 a m1 a → old ≡ link_of w
-    → MadeStep follows suits s w2 i2 l (made_of x.depth x.takes x.posts (LinkStore u old)) k m1 a m2 a
-    → MadeStep follows suits s w3 i3 l (made_of x.depth x.takes x.posts (PushExchange u old)) n m2 a m3 a → stepped_by (made_of x.depth x.takes x.posts (PushExchange u old)) s n (oldest_in a) ≡ st
-    → PlainSteps follows suits s l x a m0.0 st.turn st.seat a m3
-pushes_by {T} {follows} {suits} {s} {w0} {i0} {w1} {i1} {w2} {i2} {w3} {i3} {w} {k} {n} {l} {a} {m0} {m1} {m2} {m3} x u old st at fit loaded link stored exchanges is =
+pub pushes_by : {T : Type 0} {follows : ℕ → T → T → Type 0} {suits : T → ℕ → Type 0} {s w0 i0 w1 i1 w2 i2 w3 i3 w k n : ℕ} {l : Limits} {a0 a1 a2 a3 : Option (Moving T)} {m0 m1 m2 m3 : Me (Option (Moving T)) (View T)} (x : SeatState) (u : Pusher) (old : Link) (st : Stepped)
+    → x.point ≡ PushLoad u → Fit s w0 i0 l x m0 a0
+    → MadeStep follows suits s w1 i1 l (made_of x.depth x.takes x.posts (PushLoad u)) w m0 a0 m1 a1 → old ≡ link_of w
+    → MadeStep follows suits s w2 i2 l (made_of x.depth x.takes x.posts (LinkStore u old)) k m1 a1 m2 a2
+    → MadeStep follows suits s w3 i3 l (made_of x.depth x.takes x.posts (PushExchange u old)) n m2 a2 m3 a3 → stepped_by (made_of x.depth x.takes x.posts (PushExchange u old)) s n (oldest_in a3) ≡ st
+    → PlainSteps follows suits s l x a0 m0.0 st.turn st.seat a3 m3
+pushes_by {T} {follows} {suits} {s} {w0} {i0} {w1} {i1} {w2} {i2} {w3} {i3} {w} {k} {n} {l} {a0} {a1} {a2} {a3} {m0} {m1} {m2} {m3} x u old st at fit loaded link stored exchanges is =
     let here : x ≡ made_of x.depth x.takes x.posts (PushLoad u) = (λ i. record { depth = x.depth; takes = x.takes; posts = x.posts; point = at i }) in
-    let so0 = plain_none follows suits (subst (λ (z : SeatState). Fit s w0 i0 l z m0 a) here fit) in
+    let so0 = plain_none follows suits (subst (λ (z : SeatState). Fit s w0 i0 l z m0 a0) here fit) in
     let so1 = plain_next (opens (made_of x.depth x.takes x.posts (LinkStore u old))) so0 loaded (ap (λ (z : Link). opens (made_of x.depth x.takes x.posts (LinkStore u z))) (sym link)) (λ e. cc) refl refl in
     let so2 = plain_next (opens (made_of x.depth x.takes x.posts (PushExchange u old))) so1 stored refl (λ e. cc) refl refl in
     let so3 = plain_next st so2 exchanges is (λ e. cc) refl refl in
-    subst (λ (z : SeatState). PlainSteps follows suits s l z a m0.0 st.turn st.seat a m3) (sym here) so3
+    subst (λ (z : SeatState). PlainSteps follows suits s l z a0 m0.0 st.turn st.seat a3 m3) (sym here) so3

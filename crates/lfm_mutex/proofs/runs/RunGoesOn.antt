@@ -28,4 +28,4 @@ run_stays_at {T} {v} {w} same = subst (λ (z : View T). RunGoesOn v z) (sym same
 
 -- if the trail has not grown, the seat knows no more than before
 pub same_trails_know_the_same : (T : Type 0) → SameTrailsKnowTheSame T
-same_trails_know_the_same T s t goes same = run_rests s.place.me.0 t.place.me.0 goes same
+same_trails_know_the_same T s t goes same = run_rests s.table_seat.place.me.0 t.table_seat.place.me.0 goes same

@@ -1,24 +1,23 @@
 -- How a push has ended, and what its steps come to.
 use Rattle.std.specs.Prelude.{◌≡◌, ℕ, Option, length}
-use Rattle.lfm_model.specs.declared.answers.Asked.{Asked}
-use Rattle.lfm_protocol.specs.declared.answers.Answer.{Answer}
 use Rattle.lfm_protocol.specs.declared.answers.Turn.{Turn}
-use Rattle.lfm_protocol.specs.declared.answers.Turn.TheVariants.{Open, Ended}
 use Rattle.lfm_protocol.specs.declared.points.Pusher.{Pusher}
 use Rattle.lfm_protocol.specs.declared.seats.SeatState.{SeatState}
+use Rattle.lfm_protocol.specs.After.{pushed}
+use Rattle.lfm_protocol.specs.Begin.{Stepped}
 use Rattle.lfm_table.specs.declared.rule.Moving.{Moving}
 use Rattle.lfm_table.specs.declared.seat_view.View.{View}
 use Rattle.lfm_mutex.specs.declared.push.Pushed.{Pushed}
 use Rattle.lfm_mutex.specs.calls.Due.{due}
 use Rattle.lfm_mutex.specs.calls.FailedPushes.{Spends}
+use Rattle.lfm_mutex.specs.calls.Runs.{opens}
 use Rattle.lfm_mutex.specs.calls.Straight.{Course}
 use Rattle.lfm_mutex.specs.calls.WakeUps.{grants_of}
 
--- the turn with which a push leaves its call
-abbrev pub push_turn : Pushed → Pusher → Turn
-push_turn Pushed.Stopped pusher = Open
-push_turn Pushed.Queued Pusher.Locker = Ended (Answer.Asked Asked.Asleep)
-push_turn Pushed.Queued (Pusher.Sender t) = Ended Answer.Sent
+-- what a push leaves of its call, by a seat whose data are p
+abbrev pub push_end : Pushed → SeatState → Pusher → Stepped
+push_end Pushed.Queued p pusher = pushed p pusher
+push_end (Pushed.Stopped q) p pusher = opens (record p { point = q })
 
 -- the course of a seat whose steps granted no seat the mutex, and what they have spent of what was due to its call
 pub record PlainCourse {T : Type 0} (follows : ℕ → T → T → Type 0) (suits : T → ℕ → Type 0) (number seats : ℕ) (p0 : SeatState) (a0 : Option (Moving T)) (v0 : View T) (turn : Turn) (p : SeatState) (a : Option (Moving T)) (v : View T) : Type 0 where

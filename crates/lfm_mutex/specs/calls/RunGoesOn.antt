@@ -7,13 +7,13 @@ use Rattle.lfm_mutex.specs.calls.Sight.{sight}
 
 -- the actions of all seats that the seat knows: the run up to its own last step or load of the owner word, after which only others have acted
 abbrev pub past_of : {T : Type 0} → Seat T → List Action
-past_of s = s.place.me.0.actions
+past_of s = s.table_seat.place.me.0.actions
 
 -- The run goes on from what the seat knew as s to what it knows as t, by the actions between. The seat's trail has grown by its part of these,
 -- and all the other steps among them are what other seats did meanwhile. The last of them is the seat's own last step or load. If it made
 -- none, there are no actions between.
 abbrev pub RunGoesOnFrom : {T : Type 0} → Seat T → Seat T → Type 0
-RunGoesOnFrom s t = RunGoesOn s.place.me.0 t.place.me.0
+RunGoesOnFrom s t = RunGoesOn s.table_seat.place.me.0 t.table_seat.place.me.0
 
 -- if the seat's trail has not grown meanwhile, the seat knows no more than before
 abbrev pub SameTrailsKnowTheSame : Type 0 → Type 0

@@ -22,8 +22,9 @@ use crate::seat::Seat;
 use lfm_protocol::Turn;
 use lfm_protocol::kinds::Kind;
 use lfm_table::operations::make_step;
-use lfm_table::seat_memory::{add_loaded, advance, drop_oldest, gives, oldest_of, prepare, settle};
-use lfm_table::{Kept, SeatData, WakeUp};
+use lfm_table::slot::{gives, prepare, settle};
+use lfm_table::transition::{add_loaded, advance, drop_oldest, oldest_of};
+use lfm_table::{Kept, WakeUp};
 use std::marker::Brand;
 
 /// Makes the step at the seat's point, which is of this kind, and hands out the wake-up of the seat that it granted. The proofs
@@ -34,50 +35,47 @@ pub(crate) fn make_of<T: Kept>(
     seat: &mut Seat<T>,
     kind: Kind,
 ) -> (Turn, Option<WakeUp>)
-    requires belongs { seat.old.place.table_id ≡ mutex.now.table.table_id }
+    requires belongs { seat.old.table_seat.place.table_id ≡ mutex.now.table.table_id }
     requires is_next { kind_of seat.old.standing.point ≡ Some kind }
-    requires leaves { (r : Releaser) → seat.old.standing.point ≡ ReleaseOwnerStore r → MayBeLeft T.follows T.fits seat.old.moving seat.old.place.me.0 }
-    ensures belongs { seat.new.place.table_id ≡ seat.old.place.table_id }
+    requires leaves { (r : Releaser) → seat.old.standing.point ≡ ReleaseOwnerStore r → MayBeLeft T.follows T.fits seat.old.table_seat.moving seat.old.table_seat.place.me.0 }
+    ensures belongs { seat.new.table_seat.place.table_id ≡ seat.old.table_seat.place.table_id }
     ensures woken { WakesNobody seat.old seat.new }
     ensures run { RunGoesOnFrom seat.old seat.new }
-    ensures same { (seat.new.number ≡ seat.old.number) × (seat.new.limits ≡ seat.old.limits) }
-    ensures event { Event T.follows T.fits seat.old.standing seat.old.moving seat.old.place.me.0 result.0 seat.new.standing seat.new.moving seat.new.place.me.0 }
+    ensures same { (seat.new.table_seat.number ≡ seat.old.table_seat.number) × (seat.new.table_seat.limits ≡ seat.old.table_seat.limits) }
+    ensures event { Event T.follows T.fits seat.old.standing seat.old.table_seat.moving seat.old.table_seat.place.me.0 result.0 seat.new.standing seat.new.table_seat.moving seat.new.table_seat.place.me.0 }
     ensures wakes { result.1 ≡ granted_at seat.old.standing.point }
 {
     let table = &mutex.table;
-    let data = SeatData {
-        number: seat.number,
-        limits: seat.limits,
-        standing: seat.standing,
-    };
+    let number = seat.table_seat.number;
+    let standing = seat.standing;
     // What the step may give away leaves this seat's hands before it: once the word is stored, the next owner may come. So the
     // record that the step serves leaves the pop list, and then the value, with that list, goes into its slot.
-    let may_give = gives(seat.standing.point);
-    drop_oldest(&mut seat.moving, &seat.standing);
-    prepare(table, &mut seat.place, &mut seat.moving, may_give);
-    let (found, wake_up) = make_step::<T, Brand>(kind, table, &mut seat.place, &data, &seat.moving);
+    let may_give = gives(standing.point);
+    drop_oldest(&mut seat.table_seat.moving, &standing);
+    prepare(table, &mut seat.table_seat, may_give);
+    let (found, wake_up) = make_step::<T, Brand>(kind, table, &mut seat.table_seat, &standing);
     // What the step has brought is taken in after it: the record of a loaded link, or the value, if the seat carries it now.
     // `settle` tells that by `carries_after` before the seat moves on, since `advance`, the proved transition, needs the oldest
     // record, which lies with the value.
-    add_loaded(&mut seat.moving, &data, found);
-    settle(table, &mut seat.place, &mut seat.moving, &data, found);
-    let oldest = oldest_of(&seat.moving);
-    let turn = advance(&mut seat.standing, seat.number, found, oldest);
+    add_loaded(&mut seat.table_seat.moving, number, &standing, found);
+    settle(table, &mut seat.table_seat, &standing, found);
+    let oldest = oldest_of(&seat.table_seat.moving);
+    let turn = advance(&mut seat.standing, number, found, oldest);
     (turn, wake_up)
 }
 
 /// `make_of` for a kind that stores no wake word, so that there is no wake-up.
 #[inline(always)]
 pub(crate) fn make_waking_none<T: Kept>(mutex: &Mutex<T>, seat: &mut Seat<T>, kind: Kind) -> Turn
-    requires belongs { seat.old.place.table_id ≡ mutex.now.table.table_id }
+    requires belongs { seat.old.table_seat.place.table_id ≡ mutex.now.table.table_id }
     requires is_next { kind_of seat.old.standing.point ≡ Some kind }
     requires other { kind ≢ KindNow.WakeStore }
-    requires leaves { (r : Releaser) → seat.old.standing.point ≡ ReleaseOwnerStore r → MayBeLeft T.follows T.fits seat.old.moving seat.old.place.me.0 }
-    ensures belongs { seat.new.place.table_id ≡ seat.old.place.table_id }
+    requires leaves { (r : Releaser) → seat.old.standing.point ≡ ReleaseOwnerStore r → MayBeLeft T.follows T.fits seat.old.table_seat.moving seat.old.table_seat.place.me.0 }
+    ensures belongs { seat.new.table_seat.place.table_id ≡ seat.old.table_seat.place.table_id }
     ensures woken { WakesNobody seat.old seat.new }
     ensures run { RunGoesOnFrom seat.old seat.new }
-    ensures same { (seat.new.number ≡ seat.old.number) × (seat.new.limits ≡ seat.old.limits) }
-    ensures event { Event T.follows T.fits seat.old.standing seat.old.moving seat.old.place.me.0 result seat.new.standing seat.new.moving seat.new.place.me.0 }
+    ensures same { (seat.new.table_seat.number ≡ seat.old.table_seat.number) × (seat.new.table_seat.limits ≡ seat.old.table_seat.limits) }
+    ensures event { Event T.follows T.fits seat.old.standing seat.old.table_seat.moving seat.old.table_seat.place.me.0 result seat.new.standing seat.new.table_seat.moving seat.new.table_seat.place.me.0 }
 {
     let (turn, wake_up) = make_of(mutex, seat, kind);
     WakeUp::expect_none(wake_up);

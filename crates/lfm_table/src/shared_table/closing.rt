@@ -9,7 +9,7 @@ use crate::kept::Kept;
 use crate::layout::SLOT;
 use crate::moving_box::MovingBox;
 use crate::rule::{JoinedView, SeatJoin};
-use crate::shared_table::{Place, SharedTable};
+use crate::shared_table::{AtomicSeat, SharedTable};
 use atomic_table::Closed;
 use std::alloc::Global;
 use std::marker::Model;
@@ -32,27 +32,27 @@ impl<T: Drop> Model for ClosedTable<T> {
 
 impl<T: Kept> SharedTable<T> {
     /// Joins a seat into seat 1. The kit's join loads a word, which is not used.
-    pub fn join_seat<B: JoinedView<T>>(&self, root: &mut Place<T>, place: Place<T>)
+    pub fn join_seat<B: JoinedView<T>>(&self, root: &mut AtomicSeat<T>, place: AtomicSeat<T>)
         requires table { (root.old.table_id ≡ self.now.table_id) × (place.table_id ≡ self.now.table_id) × (0 < self.now.table_id.words) }
         requires free { place.me.1 ≡ [] }
         requires allowed { Joins (Held T.follows T.fits) root.old.id root.old.me.0 place.id place.me.0 (with_joined root.old.me.0 place.me.0) (joined B.view) }
         ensures table { (root.new.table_id ≡ root.old.table_id) × (root.new.id ≡ root.old.id) }
         ensures joined { root.new.me ≡ (with_joined root.old.me.0 place.me.0, root.old.me.1) }
     {
-        let Place { seat } = place;
+        let AtomicSeat { seat } = place;
         self.table
             .shared
             .join_seat::<SeatJoin<B>>(&mut root.seat, seat);
     }
 
     /// Ends the table. Its last state keeps the rule, and has what seat 1 knows.
-    pub fn close_with(self, root: Place<T>) -> ClosedTable<T>
+    pub fn close_with(self, root: AtomicSeat<T>) -> ClosedTable<T>
         requires table { root.table_id ≡ self.table_id }
         ensures counts { (length result.words ≡ self.table_id.words) × (length result.slots ≡ self.table_id.slots) }
         ensures values { Final (Seen (Held T.follows T.fits) root.id root.me.0) result.words result.slots }
     {
         let SharedTable { table } = self;
-        let Place { seat } = root;
+        let AtomicSeat { seat } = root;
         ClosedTable {
             closed: table.close_with(seat),
         }

@@ -7,7 +7,7 @@ ghost use Rattle.lfm_table.specs.Rule.{Held, ReadsOwner};
 use crate::kept::Kept;
 use crate::layout::{COUNT, OWNER};
 use crate::rule::OwnerRead;
-use crate::shared_table::{Place, SharedTable};
+use crate::shared_table::{AtomicSeat, SharedTable};
 
 impl<T: Kept> SharedTable<T> {
     /// What one look finds at the count.
@@ -36,7 +36,7 @@ impl<T: Kept> SharedTable<T> {
 
     /// What one load finds at the owner word.
     #[inline(always)]
-    pub fn read_owner(&self, place: &mut Place<T>) -> u64
+    pub fn read_owner(&self, place: &mut AtomicSeat<T>) -> u64
         requires table { (place.old.table_id ≡ self.now.table_id) × (1 < self.now.table_id.words) }
         requires allowed { Allows (Held T.follows T.fits) self.now.table_id.slots place.old.id place.old.me 1 (λ n. n) (ReadsOwner place.old.me) }
         ensures table { (place.new.table_id ≡ place.old.table_id) × (place.new.id ≡ place.old.id) }

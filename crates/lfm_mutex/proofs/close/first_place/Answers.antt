@@ -9,9 +9,9 @@ returns-then-number_of-eq1 g c = (c.seat-item.result, ap (get_elem? c.args.seats
 pub loop-seat-preserved : goal.loop-seat-preserved
 loop-seat-preserved g c = (
   ap (λ (n : ℕ). n + 1) c.loop-seat.invariant.0,
-  up_to (λ s. (g.P.Holder.seat_of s).number ≢ 1) c.args.seats.now.items c.loop-seat.seat-index c.seat-item.result (search rules)
+  up_to (λ s. (g.P.Holder.seat_of s).table_seat.number ≢ 1) c.args.seats.now.items c.loop-seat.seat-index c.seat-item.result (search rules)
       (c.seat-item.is ∙ ap (λ z. get_or z c.loop-seat.seat-index c.seat-item.result) c.deref-seat-items.ensures.value) (λ e. c.if-number_of-eq1.false (c.number_of.ensures ∙ e)) c.loop-seat.invariant.1,
 )
 
 pub returns : goal.returns
-returns g c = each_of (λ s. (g.P.Holder.seat_of s).number ≢ 1) c.args.seats.now.items c.loop-seat.seat-index (search rules) c.loop-seat.invariant.1
+returns g c = each_of (λ s. (g.P.Holder.seat_of s).table_seat.number ≢ 1) c.args.seats.now.items c.loop-seat.seat-index (search rules) c.loop-seat.invariant.1

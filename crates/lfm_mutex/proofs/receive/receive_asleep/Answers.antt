@@ -18,38 +18,39 @@ use Rattle.lfm_mutex.proofs.runs.StraightPoints.{fit_begun, fit_after}
 use Rattle.lfm_mutex.proofs.runs.ReceivePoints.{begins_receive, granted, not_granted, quieted}
 use Rattle.lfm_table.proofs.tables.Actions.{run_next}
 use Rattle.lfm_mutex.proofs.runs.RunGoesOn.{run_made}
+use Rattle.lfm_table.proofs.tables.StraightSteps.{told_before, same_then}
 use Rattle.lfm_mutex.proofs.receive.receive_asleep.Goals as goal
 
 pub returns-then-found-lt-FIRST_GRANT-clause-made : goal.returns-then-found-lt-FIRST_GRANT-clause-made
 returns-then-found-lt-FIRST_GRANT-clause-made g c =
     let s = c.args.seat.now in let t = s.standing.takes in let ps = s.standing.posts in let w = c.args.sleeper in
     let p0 = made_of 0 t ps (ReceiveWakeLoad w) in
-    let begins = begins_receive s.standing s.limits w c.requires.sleeps c.requires.flat in
-    let fit = fit_begun s.number s.place.table_id.words s.place.id s.limits s.place.me s.moving s.standing p0 Call.Receive (record { seated = s.seated; became = s.became; ready = s.ready; rooted = s.rooted }) begins in
+    let begins = begins_receive s.standing s.table_seat.limits w c.requires.sleeps c.requires.flat in
+    let fit = fit_begun s.table_seat.number s.table_seat.place.table_id.words s.table_seat.place.id s.table_seat.limits s.table_seat.place.me s.table_seat.moving s.standing p0 Call.Receive (record { seated = s.seated; became = s.became; ready = s.ready; rooted = s.rooted }) begins in
     let f = c.gain_by_grant-found in let q = made_of 0 t ps (Asleep w) in let turn = Ended (Answer.Got None) in
-    let is = not_granted t ps s.number f.result (oldest_in f.new.moving) w (omega (arith, c.if-found-lt-FIRST_GRANT.true)) in
-    let first = course_next g.T.Kept.follows g.T.Kept.fits s.number p0 s.moving s.place.me.0 s.place.table_id.words s.place.id s.limits p0 f.result s.place.me s.moving f.new.place.me f.new.moving f.new.place.table_id.words f.new.place.id (record { seat = q; turn = turn }) (course_none g.T.Kept.follows g.T.Kept.fits s.number p0 s.moving s.place.me.0) fit f.ensures.step is (λ e. cc) refl in
-    subst (λ (x : SeatState). ComesTo g.T.Kept.follows g.T.Kept.fits c.args.mutex.now.limits Call.Receive (sight_of s.number s.standing s.place.me.0 (value_in s.moving)) (sight_of s.number x f.new.place.me.0 (value_in f.new.moving)) turn)
+    let is = not_granted t ps s.table_seat.number f.result (oldest_in f.new.seat.moving) w (omega (arith, c.if-found-lt-FIRST_GRANT.true)) in
+    let first = course_next g.T.Kept.follows g.T.Kept.fits s.table_seat.number p0 s.table_seat.moving s.table_seat.place.me.0 s.table_seat.place.table_id.words s.table_seat.place.id s.table_seat.limits p0 f.result s.table_seat.place.me s.table_seat.moving f.new.seat.place.me f.new.seat.moving f.new.seat.place.table_id.words f.new.seat.place.id (record { seat = q; turn = turn }) (course_none g.T.Kept.follows g.T.Kept.fits s.table_seat.number p0 s.table_seat.moving s.table_seat.place.me.0) fit (told_before f.ensures.same f.ensures.step) is (λ e. cc) refl in
+    subst (λ (x : SeatState). ComesTo g.T.Kept.follows g.T.Kept.fits c.args.mutex.now.limits Call.Receive (sight_of s.table_seat.number s.standing s.table_seat.place.me.0 (value_in s.table_seat.moving)) (sight_of f.new.seat.number x f.new.seat.place.me.0 (value_in f.new.seat.moving)) turn)
     (λ i. record { depth = sym c.requires.flat i; takes = t; posts = ps; point = sym c.requires.sleeps i })
-    (comes g.T.Kept.follows g.T.Kept.fits s.number p0 s.moving s.place.me.0 s.number s.limits c.args.mutex.now.limits Call.Receive s.standing q turn f.new.moving f.new.place.me.0 c.requires.belongs.1 refl refl begins refl first)
+    (comes g.T.Kept.follows g.T.Kept.fits s.table_seat.number p0 s.table_seat.moving s.table_seat.place.me.0 f.new.seat.number s.table_seat.limits c.args.mutex.now.limits Call.Receive s.standing q turn f.new.seat.moving f.new.seat.place.me.0 c.requires.belongs.1 f.ensures.same.0 refl begins refl first)
 
 pub returns-clause-made : goal.returns-clause-made
 returns-clause-made g c =
     let s = c.args.seat.now in let t = s.standing.takes in let ps = s.standing.posts in let w = c.args.sleeper in
     let p0 = made_of 0 t ps (ReceiveWakeLoad w) in
-    let begins = begins_receive s.standing s.limits w c.requires.sleeps c.requires.flat in
-    let fit = fit_begun s.number s.place.table_id.words s.place.id s.limits s.place.me s.moving s.standing p0 Call.Receive (record { seated = s.seated; became = s.became; ready = s.ready; rooted = s.rooted }) begins in
+    let begins = begins_receive s.standing s.table_seat.limits w c.requires.sleeps c.requires.flat in
+    let fit = fit_begun s.table_seat.number s.table_seat.place.table_id.words s.table_seat.place.id s.table_seat.limits s.table_seat.place.me s.table_seat.moving s.standing p0 Call.Receive (record { seated = s.seated; became = s.became; ready = s.ready; rooted = s.rooted }) begins in
     let f = c.gain_by_grant-found in let h = c.keep in let k = c.keep_held in
     let stamp = c.stamp_in-stamp.result in let how = c.how_by-how.result in
     let p1 = made_of 0 t ps (ReceiveWakeStore stamp) in let p2 = made_of 0 t ps (EnterOwnerStore Entrant.Receiver how) in
-    let is1 = granted t ps s.number f.result (oldest_in f.new.moving) w (omega (arith, c.if-found-lt-FIRST_GRANT.false)) ∙ ap (λ (x : ℕ). opens (made_of 0 t ps (ReceiveWakeStore x))) (sym c.stamp_in-stamp.ensures) in
-    let is2 = quieted t ps stamp s.number h.result (oldest_in f.new.moving) ∙ ap (λ (x : How). opens (made_of 0 t ps (EnterOwnerStore Entrant.Receiver x))) (sym c.how_by-how.ensures) in
-    let first = course_next g.T.Kept.follows g.T.Kept.fits s.number p0 s.moving s.place.me.0 s.place.table_id.words s.place.id s.limits p0 f.result s.place.me s.moving f.new.place.me f.new.moving f.new.place.table_id.words f.new.place.id (opens p1) (course_none g.T.Kept.follows g.T.Kept.fits s.number p0 s.moving s.place.me.0) fit f.ensures.step is1 (λ e. cc) refl in
-    let fit1 = fit_after g.T.Kept.follows g.T.Kept.fits s.number f.new.place.table_id.words f.new.place.id s.limits p0 f.result s.place.me s.moving f.new.place.me f.new.moving f.ensures.step (opens p1) is1 in
-    let second = course_next g.T.Kept.follows g.T.Kept.fits s.number p0 s.moving s.place.me.0 f.new.place.table_id.words f.new.place.id s.limits p1 h.result f.new.place.me f.new.moving h.new.place.me f.new.moving h.new.place.table_id.words h.new.place.id (opens p2) first fit1 h.ensures.step is2 (λ e. cc) refl in
-    let fit2 = fit_after g.T.Kept.follows g.T.Kept.fits s.number h.new.place.table_id.words h.new.place.id s.limits p1 h.result f.new.place.me f.new.moving h.new.place.me f.new.moving h.ensures.step (opens p2) is2 in
-    let third = course_next g.T.Kept.follows g.T.Kept.fits s.number p0 s.moving s.place.me.0 h.new.place.table_id.words h.new.place.id s.limits p2 k.result h.new.place.me f.new.moving k.new.place.me f.new.moving k.new.place.table_id.words k.new.place.id (stepped_by p2 s.number k.result (oldest_in f.new.moving)) second fit2 k.ensures.step refl (λ e. cc) refl in
-    comes g.T.Kept.follows g.T.Kept.fits s.number p0 s.moving s.place.me.0 s.number s.limits c.args.mutex.now.limits Call.Receive s.standing (made_of 1 t ps Rest) (Ended (Answer.Got (Some how))) f.new.moving k.new.place.me.0 c.requires.belongs.1 refl refl begins refl third
+    let is1 = granted t ps s.table_seat.number f.result (oldest_in f.new.seat.moving) w (omega (arith, c.if-found-lt-FIRST_GRANT.false)) ∙ ap (λ (x : ℕ). opens (made_of 0 t ps (ReceiveWakeStore x))) (sym c.stamp_in-stamp.ensures) in
+    let is2 = quieted t ps stamp s.table_seat.number h.result (oldest_in h.new.seat.moving) ∙ ap (λ (x : How). opens (made_of 0 t ps (EnterOwnerStore Entrant.Receiver x))) (sym c.how_by-how.ensures) in
+    let first = course_next g.T.Kept.follows g.T.Kept.fits s.table_seat.number p0 s.table_seat.moving s.table_seat.place.me.0 s.table_seat.place.table_id.words s.table_seat.place.id s.table_seat.limits p0 f.result s.table_seat.place.me s.table_seat.moving f.new.seat.place.me f.new.seat.moving f.new.seat.place.table_id.words f.new.seat.place.id (opens p1) (course_none g.T.Kept.follows g.T.Kept.fits s.table_seat.number p0 s.table_seat.moving s.table_seat.place.me.0) fit (told_before f.ensures.same f.ensures.step) is1 (λ e. cc) refl in
+    let fit1 = fit_after g.T.Kept.follows g.T.Kept.fits s.table_seat.number f.new.seat.place.table_id.words f.new.seat.place.id s.table_seat.limits p0 f.result s.table_seat.place.me s.table_seat.moving f.new.seat.place.me f.new.seat.moving (told_before f.ensures.same f.ensures.step) (opens p1) is1 in
+    let second = course_next g.T.Kept.follows g.T.Kept.fits s.table_seat.number p0 s.table_seat.moving s.table_seat.place.me.0 f.new.seat.place.table_id.words f.new.seat.place.id s.table_seat.limits p1 h.result f.new.seat.place.me f.new.seat.moving h.new.seat.place.me h.new.seat.moving h.new.seat.place.table_id.words h.new.seat.place.id (opens p2) first fit1 (told_before (same_then f.ensures.same h.ensures.same) h.ensures.step) is2 (λ e. cc) refl in
+    let fit2 = fit_after g.T.Kept.follows g.T.Kept.fits s.table_seat.number h.new.seat.place.table_id.words h.new.seat.place.id s.table_seat.limits p1 h.result f.new.seat.place.me f.new.seat.moving h.new.seat.place.me h.new.seat.moving (told_before (same_then f.ensures.same h.ensures.same) h.ensures.step) (opens p2) is2 in
+    let third = course_next g.T.Kept.follows g.T.Kept.fits s.table_seat.number p0 s.table_seat.moving s.table_seat.place.me.0 h.new.seat.place.table_id.words h.new.seat.place.id s.table_seat.limits p2 k.result h.new.seat.place.me h.new.seat.moving k.new.seat.place.me k.new.seat.moving k.new.seat.place.table_id.words k.new.seat.place.id (stepped_by p2 s.table_seat.number k.result (oldest_in k.new.seat.moving)) second fit2 (told_before (same_then (same_then f.ensures.same h.ensures.same) k.ensures.same) k.ensures.step) refl (λ e. cc) refl in
+    comes g.T.Kept.follows g.T.Kept.fits s.table_seat.number p0 s.table_seat.moving s.table_seat.place.me.0 k.new.seat.number s.table_seat.limits c.args.mutex.now.limits Call.Receive s.standing (made_of 1 t ps Rest) (Ended (Answer.Got (Some how))) k.new.seat.moving k.new.seat.place.me.0 c.requires.belongs.1 (same_then (same_then f.ensures.same h.ensures.same) k.ensures.same).0 refl begins refl third
 
 pub returns-then-found-lt-FIRST_GRANT-clause-run : goal.returns-then-found-lt-FIRST_GRANT-clause-run
 returns-then-found-lt-FIRST_GRANT-clause-run g c = run_made c.gain_by_grant-found.ensures.step

@@ -1,40 +1,60 @@
-use Rattle.std.proofs.Common.{ℕ, subst, arith, length}
+use Rattle.std.proofs.Common.{◌≡◌, ℕ, sym, subst, arith, length}
 use Rattle.lfm_protocol.specs.declared.limits.Limits.{Limits}
+use Rattle.lfm_protocol.specs.declared.points.Point.{Point}
+use Rattle.lfm_protocol.specs.declared.points.Point.TheVariants.{Rest, PushLoad}
+use Rattle.lfm_protocol.specs.declared.points.Pusher.{Pusher}
+use Rattle.lfm_protocol.specs.declared.answers.Answer.{Answer}
+use Rattle.lfm_protocol.specs.declared.answers.Turn.TheVariants.{Open, Ended}
+use Rattle.lfm_protocol.specs.declared.seats.SeatState.{SeatState}
+use Rattle.lfm_table.specs.Straight.{SeatFits}
+use Rattle.lfm_table.proofs.tables.StepFacts.{made_of}
 use Rattle.lfm_mutex.specs.calls.Due.{due}
 use Rattle.lfm_mutex.specs.calls.FailedPushes.{Spends}
 use Rattle.lfm_mutex.specs.calls.Straight.{Course, send_turn}
-use Rattle.lfm_mutex.specs.calls.WakeUps.{Wakes}
 use Rattle.lfm_mutex.proofs.runs.Courses.{course_join}
 use Rattle.lfm_mutex.proofs.runs.Spending.{spends_join, spends_within}
 use Rattle.lfm_mutex.proofs.runs.WakeUps.{wakes_after, wakes_none}
+use Rattle.lfm_mutex.proofs.runs.SameSeats.{wakes_same}
 use Rattle.lfm_mutex.proofs.send.queue_target.Goals as goal
 
+pub push-requires-clause-fit : goal.push-requires-clause-fit
+push-requires-clause-fit g c κs within = let s = c.args.seat.now in let x = s.standing in
+    subst (λ (z : Point). SeatFits s.table_seat (made_of x.depth x.takes x.posts z)) c.requires.stands (record { seated = s.seated; became = s.became; ready = s.ready; rooted = s.rooted })
+
+-- the seat stands there already
+stands : {u : ℕ} (x : SeatState) → x.point ≡ PushLoad (Pusher.Sender u) → x ≡ record x { point = PushLoad (Pusher.Sender u) }
+stands {u} x at = λ i. record { depth = x.depth; takes = x.takes; posts = x.posts; point = at i }
+
 pub returns-in-Queued-clause-made : goal.returns-in-Queued-clause-made
-returns-in-Queued-clause-made g c = c.in-Queued.ensures.made.course
+returns-in-Queued-clause-made g c = let s = c.args.seat.now in let p = c.push in
+    subst (λ (z : SeatState). Course g.T.Kept.follows g.T.Kept.fits s.table_seat.number z s.table_seat.moving s.table_seat.place.me.0 (Ended Answer.Sent) (record s.standing { point = Rest }) p.new.seat.moving p.new.seat.place.me.0) (sym (stands c.args.seat.now.standing c.requires.stands)) c.in-Queued.ensures.made.course
 
 pub returns-in-Queued-clause-spends : goal.returns-in-Queued-clause-spends
 returns-in-Queued-clause-spends g c =
-    let s = c.args.seat.now in let r = c.push.new.seat in let n = s.limits.seats in
-    let all = due n (length s.place.me.0.popped) s.standing.point in
-    spends_within all all (due n (length r.place.me.0.popped) r.standing.point) 0 s.place.me.0.trail r.place.me.0.trail (omega arith) (omega arith) c.push.ensures.made.spends
+    let s = c.args.seat.now in let p = c.push in let n = s.table_seat.limits.seats in
+    let all = due n (length s.table_seat.place.me.0.popped) (PushLoad (Pusher.Sender c.args.target)) in
+    subst (λ (z : SeatState). Spends (due n (length s.table_seat.place.me.0.popped) z.point) 0 s.table_seat.place.me.0.trail p.new.seat.place.me.0.trail) (sym (stands c.args.seat.now.standing c.requires.stands))
+    (spends_within all all (due n (length p.new.seat.place.me.0.popped) Rest) 0 s.table_seat.place.me.0.trail p.new.seat.place.me.0.trail (omega arith) (omega arith) c.in-Queued.ensures.made.spends)
 
 pub returns-in-Queued-clause-wakes : goal.returns-in-Queued-clause-wakes
-returns-in-Queued-clause-wakes g c = let s = c.args.seat.now in wakes_none s.limits.seats s.place.me.0.trail c.push.new.seat.place.me.0.trail c.push.ensures.made.grants
+returns-in-Queued-clause-wakes g c = let s = c.args.seat.now in wakes_none s.table_seat.limits.seats s.table_seat.place.me.0.trail c.push.new.seat.place.me.0.trail c.push.ensures.made.grants
 
 pub returns-in-Stopped-clause-made : goal.returns-in-Stopped-clause-made
 returns-in-Stopped-clause-made g c =
-    let s = c.args.seat.now in let p = c.push.new.seat in let on = c.send_on in let r = on.new.seat in
-    course_join g.T.Kept.follows g.T.Kept.fits s.number s.standing s.moving s.place.me.0 p.standing r.standing p.moving r.moving p.place.me.0 r.place.me.0 (send_turn on.result.0) c.in-Stopped.ensures.made.course
-    (subst (λ (k : ℕ). Course g.T.Kept.follows g.T.Kept.fits k p.standing p.moving p.place.me.0 (send_turn on.result.0) r.standing r.moving r.place.me.0) c.push.ensures.same.0 on.ensures.made)
+    let s = c.args.seat.now in let p = c.push in let on = c.send_on in let r = on.new.seat in let q = record s.standing { point = c.in-Stopped.point } in
+    let so = subst (λ (z : SeatState). Course g.T.Kept.follows g.T.Kept.fits s.table_seat.number z s.table_seat.moving s.table_seat.place.me.0 Open q p.new.seat.moving p.new.seat.place.me.0) (sym (stands c.args.seat.now.standing c.requires.stands)) c.in-Stopped.ensures.made.course in
+    course_join g.T.Kept.follows g.T.Kept.fits s.table_seat.number s.standing s.table_seat.moving s.table_seat.place.me.0 q r.standing p.new.seat.moving r.table_seat.moving p.new.seat.place.me.0 r.table_seat.place.me.0 (send_turn on.result.0) so
+    (subst (λ (z : ℕ × SeatState). Course g.T.Kept.follows g.T.Kept.fits z.0 z.1 p.new.seat.moving p.new.seat.place.me.0 (send_turn on.result.0) r.standing r.table_seat.moving r.table_seat.place.me.0) (λ i. (p.ensures.same.0 i, c.stop_at.ensures i)) on.ensures.made)
 
 pub returns-in-Stopped-clause-spends : goal.returns-in-Stopped-clause-spends
 returns-in-Stopped-clause-spends g c =
-    let s = c.args.seat.now in let p = c.push.new.seat in let on = c.send_on in let r = on.new.seat in
-    spends_join (due s.limits.seats (length s.place.me.0.popped) s.standing.point) (due s.limits.seats (length p.place.me.0.popped) p.standing.point) 0 s.place.me.0.trail p.place.me.0.trail r.place.me.0.trail c.push.ensures.made.spends
-    (subst (λ (k : Limits). Spends (due k.seats (length p.place.me.0.popped) p.standing.point) 0 p.place.me.0.trail r.place.me.0.trail) c.push.ensures.same.1 on.ensures.spends)
+    let s = c.args.seat.now in let p = c.push in let on = c.send_on in let r = on.new.seat in let n = s.table_seat.limits.seats in
+    subst (λ (z : SeatState). Spends (due n (length s.table_seat.place.me.0.popped) z.point) 0 s.table_seat.place.me.0.trail r.table_seat.place.me.0.trail) (sym (stands c.args.seat.now.standing c.requires.stands))
+    (spends_join (due n (length s.table_seat.place.me.0.popped) (PushLoad (Pusher.Sender c.args.target))) (due n (length p.new.seat.place.me.0.popped) c.in-Stopped.point) 0 s.table_seat.place.me.0.trail p.new.seat.place.me.0.trail r.table_seat.place.me.0.trail c.in-Stopped.ensures.made.spends
+    (subst (λ (z : Limits × SeatState). Spends (due z.0.seats (length p.new.seat.place.me.0.popped) z.1.point) 0 p.new.seat.place.me.0.trail r.table_seat.place.me.0.trail) (λ i. (p.ensures.same.1 i, c.stop_at.ensures i)) on.ensures.spends))
 
 pub returns-in-Stopped-clause-wakes : goal.returns-in-Stopped-clause-wakes
 returns-in-Stopped-clause-wakes g c =
-    let s = c.args.seat.now in let p = c.push.new.seat in let on = c.send_on in let r = on.new.seat in
-    wakes_after s.limits.seats on.result.1 s.place.me.0.trail p.place.me.0.trail r.place.me.0.trail c.push.ensures.made.grants
-    (subst (λ (k : Limits). Wakes k.seats on.result.1 p.place.me.0.trail r.place.me.0.trail) c.push.ensures.same.1 on.ensures.wakes)
+    let s = c.args.seat.now in let p = c.push in let on = c.send_on in let r = on.new.seat in
+    wakes_after s.table_seat.limits.seats on.result.1 s.table_seat.place.me.0.trail p.new.seat.place.me.0.trail r.table_seat.place.me.0.trail c.push.ensures.made.grants
+    (wakes_same on.result.1 p.new.seat.place.me.0.trail r.table_seat.place.me.0.trail p.ensures.same.1 on.ensures.wakes)

@@ -20,91 +20,95 @@ use Rattle.lfm_table.proofs.tables.StepFacts.{made_of}
 use Rattle.lfm_mutex.proofs.runs.WakeUps.{grants_none, wakes_after, wakes_none}
 use Rattle.lfm_table.proofs.tables.Actions.{run_next}
 use Rattle.lfm_mutex.proofs.runs.RunGoesOn.{run_made}
+use Rattle.lfm_protocol.specs.declared.limits.Limits.{Limits}
+use Rattle.lfm_table.proofs.tables.StraightSteps.{told_before}
+use Rattle.lfm_mutex.specs.calls.FailedPushes.{Spends}
+use Rattle.lfm_mutex.proofs.runs.SameSeats.{course_same, wakes_same}
 use Rattle.lfm_mutex.proofs.send.send_awake.Goals as goal
 
 pub returns-then-found-waiting-clause-made : goal.returns-then-found-waiting-clause-made
 returns-then-found-waiting-clause-made g c =
-    let s = c.args.seat.now in let d = s.standing.depth in let t = s.standing.takes in let ps = s.standing.posts in let a = s.moving in let u = c.args.target in let f = c.keep-found in
+    let s = c.args.seat.now in let d = s.standing.depth in let t = s.standing.takes in let ps = s.standing.posts in let a = s.table_seat.moving in let u = c.args.target in let f = c.keep-found in let b = f.new.seat.moving in
     let p0 = made_of d t ps (SendWakeExchange u) in
-    let begins = begins_send s.standing s.limits u c.requires.rests c.requires.above c.requires.within in
-    let fit = fit_begun s.number s.place.table_id.words s.place.id s.limits s.place.me a s.standing p0 (Call.SendLock u) (record { seated = s.seated; became = s.became; ready = s.ready; rooted = s.rooted }) begins in
+    let begins = begins_send s.standing s.table_seat.limits u c.requires.rests c.requires.above c.requires.within in
+    let fit = fit_begun s.table_seat.number s.table_seat.place.table_id.words s.table_seat.place.id s.table_seat.limits s.table_seat.place.me a s.standing p0 (Call.SendLock u) (record { seated = s.seated; became = s.became; ready = s.ready; rooted = s.rooted }) begins in
     let q = made_of d t ps Rest in let turn = Refused (Why.By Refusal.NotWaiting) in
-    let so = course_next g.T.Kept.follows g.T.Kept.fits s.number p0 a s.place.me.0 s.place.table_id.words s.place.id s.limits p0 f.result s.place.me a f.new.place.me a f.new.place.table_id.words f.new.place.id (record { seat = q; turn = turn })
-    (course_none g.T.Kept.follows g.T.Kept.fits s.number p0 a s.place.me.0) fit f.ensures.step (waits_not d t ps s.number f.result u (oldest_in a) (λ e. c.if-found-waiting.true (e ∙ sym c.to_word-waiting.ensures))) (λ e. cc) refl in
-    subst (λ (x : SeatState). ComesTo g.T.Kept.follows g.T.Kept.fits c.args.mutex.now.limits (Call.SendLock u) (sight_of s.number s.standing s.place.me.0 (value_in a)) (sight_of s.number x f.new.place.me.0 (value_in a)) turn)
+    let so = course_next g.T.Kept.follows g.T.Kept.fits s.table_seat.number p0 a s.table_seat.place.me.0 s.table_seat.place.table_id.words s.table_seat.place.id s.table_seat.limits p0 f.result s.table_seat.place.me a f.new.seat.place.me b f.new.seat.place.table_id.words f.new.seat.place.id (record { seat = q; turn = turn })
+    (course_none g.T.Kept.follows g.T.Kept.fits s.table_seat.number p0 a s.table_seat.place.me.0) fit (told_before f.ensures.same f.ensures.step) (waits_not d t ps s.table_seat.number f.result u (oldest_in b) (λ e. c.if-found-waiting.true (e ∙ sym c.to_word-waiting.ensures))) (λ e. cc) refl in
+    subst (λ (x : SeatState). ComesTo g.T.Kept.follows g.T.Kept.fits c.args.mutex.now.limits (Call.SendLock u) (sight_of s.table_seat.number s.standing s.table_seat.place.me.0 (value_in a)) (sight_of f.new.seat.number x f.new.seat.place.me.0 (value_in b)) turn)
     (λ i. record { depth = d; takes = t; posts = ps; point = sym c.requires.rests i })
-    (comes g.T.Kept.follows g.T.Kept.fits s.number p0 a s.place.me.0 s.number s.limits c.args.mutex.now.limits (Call.SendLock u) s.standing q turn a f.new.place.me.0 c.requires.belongs.1 refl refl begins refl so)
+    (comes g.T.Kept.follows g.T.Kept.fits s.table_seat.number p0 a s.table_seat.place.me.0 f.new.seat.number s.table_seat.limits c.args.mutex.now.limits (Call.SendLock u) s.standing q turn b f.new.seat.place.me.0 c.requires.belongs.1 f.ensures.same.0 refl begins refl so)
 
 pub returns-then-found-waiting-clause-bounded : goal.returns-then-found-waiting-clause-bounded
 returns-then-found-waiting-clause-bounded g c =
-    let s = c.args.seat.now in let d = s.standing.depth in let t = s.standing.takes in let ps = s.standing.posts in let a = s.moving in let u = c.args.target in let f = c.keep-found in
+    let s = c.args.seat.now in let d = s.standing.depth in let t = s.standing.takes in let ps = s.standing.posts in let a = s.table_seat.moving in let u = c.args.target in let f = c.keep-found in let b = f.new.seat.moving in
     let p0 = made_of d t ps (SendWakeExchange u) in
-    let begins = begins_send s.standing s.limits u c.requires.rests c.requires.above c.requires.within in
-    let fit = fit_begun s.number s.place.table_id.words s.place.id s.limits s.place.me a s.standing p0 (Call.SendLock u) (record { seated = s.seated; became = s.became; ready = s.ready; rooted = s.rooted }) begins in
-    let st = stepped_by p0 s.number f.result (oldest_in a) in
-    spent 1 (c.args.mutex.now.limits.seats + 9) s.place.me.0.trail f.new.place.me.0.trail (omega arith) (spends_any g.T.Kept.follows g.T.Kept.fits p0 st.seat s.place.me.0 f.new.place.me.0 a a st.turn f.ensures.step.event 0)
+    let begins = begins_send s.standing s.table_seat.limits u c.requires.rests c.requires.above c.requires.within in
+    let fit = fit_begun s.table_seat.number s.table_seat.place.table_id.words s.table_seat.place.id s.table_seat.limits s.table_seat.place.me a s.standing p0 (Call.SendLock u) (record { seated = s.seated; became = s.became; ready = s.ready; rooted = s.rooted }) begins in
+    let st = stepped_by p0 s.table_seat.number f.result (oldest_in b) in
+    spent 1 (c.args.mutex.now.limits.seats + 9) s.table_seat.place.me.0.trail f.new.seat.place.me.0.trail (omega arith) (spends_any g.T.Kept.follows g.T.Kept.fits p0 st.seat s.table_seat.place.me.0 f.new.seat.place.me.0 a b st.turn (told_before f.ensures.same f.ensures.step).event 0)
 
 pub returns-then-found-waiting-clause-wakes : goal.returns-then-found-waiting-clause-wakes
-returns-then-found-waiting-clause-wakes g c = let s = c.args.seat.now in let f = c.keep-found in
-    wakes_none c.args.mutex.now.limits.seats s.place.me.0.trail f.new.place.me.0.trail (grants_none g.T.Kept.follows g.T.Kept.fits _ _ _ _ _ _ _ f.ensures.step.event refl)
+returns-then-found-waiting-clause-wakes g c = let s = c.args.seat.now in let f = c.keep-found in let b = f.new.seat.moving in
+    wakes_none c.args.mutex.now.limits.seats s.table_seat.place.me.0.trail f.new.seat.place.me.0.trail (grants_none g.T.Kept.follows g.T.Kept.fits _ _ _ _ _ _ _ (told_before f.ensures.same f.ensures.step).event refl)
 
 pub returns-then-seat-eq0-clause-made : goal.returns-then-seat-eq0-clause-made
 returns-then-seat-eq0-clause-made g c =
-    let s = c.args.seat.now in let d = s.standing.depth in let t = s.standing.takes in let ps = s.standing.posts in let a = s.moving in let u = c.args.target in let f = c.keep-found in
+    let s = c.args.seat.now in let d = s.standing.depth in let t = s.standing.takes in let ps = s.standing.posts in let a = s.table_seat.moving in let u = c.args.target in let f = c.keep-found in let b = f.new.seat.moving in
     let p0 = made_of d t ps (SendWakeExchange u) in
-    let begins = begins_send s.standing s.limits u c.requires.rests c.requires.above c.requires.within in
-    let fit = fit_begun s.number s.place.table_id.words s.place.id s.limits s.place.me a s.standing p0 (Call.SendLock u) (record { seated = s.seated; became = s.became; ready = s.ready; rooted = s.rooted }) begins in
+    let begins = begins_send s.standing s.table_seat.limits u c.requires.rests c.requires.above c.requires.within in
+    let fit = fit_begun s.table_seat.number s.table_seat.place.table_id.words s.table_seat.place.id s.table_seat.limits s.table_seat.place.me a s.standing p0 (Call.SendLock u) (record { seated = s.seated; became = s.became; ready = s.ready; rooted = s.rooted }) begins in
     let q = made_of d t ps (SendCountAdd u) in let on = c.send_free in let r = on.new.seat in
-    let so = course_next g.T.Kept.follows g.T.Kept.fits s.number p0 a s.place.me.0 s.place.table_id.words s.place.id s.limits p0 f.result s.place.me a f.new.place.me a f.new.place.table_id.words f.new.place.id (opens q)
-    (course_none g.T.Kept.follows g.T.Kept.fits s.number p0 a s.place.me.0) fit f.ensures.step (claims_it d t ps s.number f.result u (oldest_in a) (c.if-found-waiting.false ∙ c.to_word-waiting.ensures)) (λ e. cc) refl in
-    comes g.T.Kept.follows g.T.Kept.fits s.number p0 a s.place.me.0 r.number s.limits c.args.mutex.now.limits (Call.SendLock u) s.standing r.standing (send_turn on.result.0) r.moving r.place.me.0 c.requires.belongs.1 on.ensures.same.0 refl begins on.ensures.ends
-    (course_join g.T.Kept.follows g.T.Kept.fits s.number p0 a s.place.me.0 q r.standing a r.moving f.new.place.me.0 r.place.me.0 (send_turn on.result.0) so on.ensures.made)
+    let so = course_next g.T.Kept.follows g.T.Kept.fits s.table_seat.number p0 a s.table_seat.place.me.0 s.table_seat.place.table_id.words s.table_seat.place.id s.table_seat.limits p0 f.result s.table_seat.place.me a f.new.seat.place.me b f.new.seat.place.table_id.words f.new.seat.place.id (opens q)
+    (course_none g.T.Kept.follows g.T.Kept.fits s.table_seat.number p0 a s.table_seat.place.me.0) fit (told_before f.ensures.same f.ensures.step) (claims_it d t ps s.table_seat.number f.result u (oldest_in b) (c.if-found-waiting.false ∙ c.to_word-waiting.ensures)) (λ e. cc) refl in
+    comes g.T.Kept.follows g.T.Kept.fits s.table_seat.number p0 a s.table_seat.place.me.0 r.table_seat.number s.table_seat.limits c.args.mutex.now.limits (Call.SendLock u) s.standing r.standing (send_turn on.result.0) r.table_seat.moving r.table_seat.place.me.0 c.requires.belongs.1 (on.ensures.same.0 ∙ f.ensures.same.0) refl begins on.ensures.ends
+    (course_join g.T.Kept.follows g.T.Kept.fits s.table_seat.number p0 a s.table_seat.place.me.0 q r.standing b r.table_seat.moving f.new.seat.place.me.0 r.table_seat.place.me.0 (send_turn on.result.0) so (course_same f.ensures.same.0 on.ensures.made))
 
 pub returns-then-seat-eq0-clause-bounded : goal.returns-then-seat-eq0-clause-bounded
 returns-then-seat-eq0-clause-bounded g c =
-    let s = c.args.seat.now in let d = s.standing.depth in let t = s.standing.takes in let ps = s.standing.posts in let a = s.moving in let u = c.args.target in let f = c.keep-found in
+    let s = c.args.seat.now in let d = s.standing.depth in let t = s.standing.takes in let ps = s.standing.posts in let a = s.table_seat.moving in let u = c.args.target in let f = c.keep-found in let b = f.new.seat.moving in
     let p0 = made_of d t ps (SendWakeExchange u) in
-    let begins = begins_send s.standing s.limits u c.requires.rests c.requires.above c.requires.within in
-    let fit = fit_begun s.number s.place.table_id.words s.place.id s.limits s.place.me a s.standing p0 (Call.SendLock u) (record { seated = s.seated; became = s.became; ready = s.ready; rooted = s.rooted }) begins in
-    let on = c.send_free in let r = on.new.seat in let n = s.limits.seats in let same = ap (λ l. l.seats) c.requires.belongs.1 in
-    let st = stepped_by p0 s.number f.result (oldest_in a) in
-    let one = spends_any g.T.Kept.follows g.T.Kept.fits p0 st.seat s.place.me.0 f.new.place.me.0 a a st.turn f.ensures.step.event (n + 8) in
-    spent (n + 8 + 1) (c.args.mutex.now.limits.seats + 9) s.place.me.0.trail r.place.me.0.trail (omega (arith, same)) (spends_join (n + 8 + 1) (n + 8) 0 s.place.me.0.trail f.new.place.me.0.trail r.place.me.0.trail one on.ensures.spends)
+    let begins = begins_send s.standing s.table_seat.limits u c.requires.rests c.requires.above c.requires.within in
+    let fit = fit_begun s.table_seat.number s.table_seat.place.table_id.words s.table_seat.place.id s.table_seat.limits s.table_seat.place.me a s.standing p0 (Call.SendLock u) (record { seated = s.seated; became = s.became; ready = s.ready; rooted = s.rooted }) begins in
+    let on = c.send_free in let r = on.new.seat in let n = s.table_seat.limits.seats in let same = ap (λ l. l.seats) c.requires.belongs.1 in
+    let st = stepped_by p0 s.table_seat.number f.result (oldest_in b) in
+    let one = spends_any g.T.Kept.follows g.T.Kept.fits p0 st.seat s.table_seat.place.me.0 f.new.seat.place.me.0 a b st.turn (told_before f.ensures.same f.ensures.step).event (n + 8) in
+    spent (n + 8 + 1) (c.args.mutex.now.limits.seats + 9) s.table_seat.place.me.0.trail r.table_seat.place.me.0.trail (omega (arith, same)) (spends_join (n + 8 + 1) (n + 8) 0 s.table_seat.place.me.0.trail f.new.seat.place.me.0.trail r.table_seat.place.me.0.trail one (subst (λ (l : Limits). Spends (l.seats + 8) 0 f.new.seat.place.me.0.trail r.table_seat.place.me.0.trail) f.ensures.same.1 on.ensures.spends))
 
 pub returns-then-seat-eq0-clause-wakes : goal.returns-then-seat-eq0-clause-wakes
 returns-then-seat-eq0-clause-wakes g c =
     let s = c.args.seat.now in let f = c.keep-found in let on = c.send_free in
-    subst (λ (n : ℕ). Wakes n on.result.1 s.place.me.0.trail on.new.seat.place.me.0.trail) (ap (λ l. l.seats) c.requires.belongs.1)
-    (wakes_after s.limits.seats on.result.1 s.place.me.0.trail f.new.place.me.0.trail on.new.seat.place.me.0.trail (grants_none g.T.Kept.follows g.T.Kept.fits _ _ _ _ _ _ _ f.ensures.step.event refl) on.ensures.wakes)
+    subst (λ (n : ℕ). Wakes n on.result.1 s.table_seat.place.me.0.trail on.new.seat.table_seat.place.me.0.trail) (ap (λ l. l.seats) c.requires.belongs.1)
+    (wakes_after s.table_seat.limits.seats on.result.1 s.table_seat.place.me.0.trail f.new.seat.place.me.0.trail on.new.seat.table_seat.place.me.0.trail (grants_none g.T.Kept.follows g.T.Kept.fits _ _ _ _ _ _ _ (told_before f.ensures.same f.ensures.step).event refl) (wakes_same on.result.1 f.new.seat.place.me.0.trail on.new.seat.table_seat.place.me.0.trail f.ensures.same.1 on.ensures.wakes))
 
 pub returns-clause-made : goal.returns-clause-made
 returns-clause-made g c =
-    let s = c.args.seat.now in let d = s.standing.depth in let t = s.standing.takes in let ps = s.standing.posts in let a = s.moving in let u = c.args.target in let f = c.keep-found in
+    let s = c.args.seat.now in let d = s.standing.depth in let t = s.standing.takes in let ps = s.standing.posts in let a = s.table_seat.moving in let u = c.args.target in let f = c.keep-found in let b = f.new.seat.moving in
     let p0 = made_of d t ps (SendWakeExchange u) in
-    let begins = begins_send s.standing s.limits u c.requires.rests c.requires.above c.requires.within in
-    let fit = fit_begun s.number s.place.table_id.words s.place.id s.limits s.place.me a s.standing p0 (Call.SendLock u) (record { seated = s.seated; became = s.became; ready = s.ready; rooted = s.rooted }) begins in
+    let begins = begins_send s.standing s.table_seat.limits u c.requires.rests c.requires.above c.requires.within in
+    let fit = fit_begun s.table_seat.number s.table_seat.place.table_id.words s.table_seat.place.id s.table_seat.limits s.table_seat.place.me a s.standing p0 (Call.SendLock u) (record { seated = s.seated; became = s.became; ready = s.ready; rooted = s.rooted }) begins in
     let q = made_of d t ps (SendCountAdd u) in let on = c.send_held in let r = on.new.seat in
-    let so = course_next g.T.Kept.follows g.T.Kept.fits s.number p0 a s.place.me.0 s.place.table_id.words s.place.id s.limits p0 f.result s.place.me a f.new.place.me a f.new.place.table_id.words f.new.place.id (opens q)
-    (course_none g.T.Kept.follows g.T.Kept.fits s.number p0 a s.place.me.0) fit f.ensures.step (claims_it d t ps s.number f.result u (oldest_in a) (c.if-found-waiting.false ∙ c.to_word-waiting.ensures)) (λ e. cc) refl in
-    comes g.T.Kept.follows g.T.Kept.fits s.number p0 a s.place.me.0 r.number s.limits c.args.mutex.now.limits (Call.SendLock u) s.standing r.standing (send_turn on.result.0) r.moving r.place.me.0 c.requires.belongs.1 on.ensures.same.0 refl begins on.ensures.ends
-    (course_join g.T.Kept.follows g.T.Kept.fits s.number p0 a s.place.me.0 q r.standing a r.moving f.new.place.me.0 r.place.me.0 (send_turn on.result.0) so on.ensures.made)
+    let so = course_next g.T.Kept.follows g.T.Kept.fits s.table_seat.number p0 a s.table_seat.place.me.0 s.table_seat.place.table_id.words s.table_seat.place.id s.table_seat.limits p0 f.result s.table_seat.place.me a f.new.seat.place.me b f.new.seat.place.table_id.words f.new.seat.place.id (opens q)
+    (course_none g.T.Kept.follows g.T.Kept.fits s.table_seat.number p0 a s.table_seat.place.me.0) fit (told_before f.ensures.same f.ensures.step) (claims_it d t ps s.table_seat.number f.result u (oldest_in b) (c.if-found-waiting.false ∙ c.to_word-waiting.ensures)) (λ e. cc) refl in
+    comes g.T.Kept.follows g.T.Kept.fits s.table_seat.number p0 a s.table_seat.place.me.0 r.table_seat.number s.table_seat.limits c.args.mutex.now.limits (Call.SendLock u) s.standing r.standing (send_turn on.result.0) r.table_seat.moving r.table_seat.place.me.0 c.requires.belongs.1 (on.ensures.same.0 ∙ f.ensures.same.0) refl begins on.ensures.ends
+    (course_join g.T.Kept.follows g.T.Kept.fits s.table_seat.number p0 a s.table_seat.place.me.0 q r.standing b r.table_seat.moving f.new.seat.place.me.0 r.table_seat.place.me.0 (send_turn on.result.0) so (course_same f.ensures.same.0 on.ensures.made))
 
 pub returns-clause-bounded : goal.returns-clause-bounded
 returns-clause-bounded g c =
-    let s = c.args.seat.now in let d = s.standing.depth in let t = s.standing.takes in let ps = s.standing.posts in let a = s.moving in let u = c.args.target in let f = c.keep-found in
+    let s = c.args.seat.now in let d = s.standing.depth in let t = s.standing.takes in let ps = s.standing.posts in let a = s.table_seat.moving in let u = c.args.target in let f = c.keep-found in let b = f.new.seat.moving in
     let p0 = made_of d t ps (SendWakeExchange u) in
-    let begins = begins_send s.standing s.limits u c.requires.rests c.requires.above c.requires.within in
-    let fit = fit_begun s.number s.place.table_id.words s.place.id s.limits s.place.me a s.standing p0 (Call.SendLock u) (record { seated = s.seated; became = s.became; ready = s.ready; rooted = s.rooted }) begins in
-    let on = c.send_held in let r = on.new.seat in let n = s.limits.seats in let same = ap (λ l. l.seats) c.requires.belongs.1 in
-    let st = stepped_by p0 s.number f.result (oldest_in a) in
-    let one = spends_any g.T.Kept.follows g.T.Kept.fits p0 st.seat s.place.me.0 f.new.place.me.0 a a st.turn f.ensures.step.event (n + 8) in
-    spent (n + 8 + 1) (c.args.mutex.now.limits.seats + 9) s.place.me.0.trail r.place.me.0.trail (omega (arith, same)) (spends_join (n + 8 + 1) (n + 8) 0 s.place.me.0.trail f.new.place.me.0.trail r.place.me.0.trail one on.ensures.spends)
+    let begins = begins_send s.standing s.table_seat.limits u c.requires.rests c.requires.above c.requires.within in
+    let fit = fit_begun s.table_seat.number s.table_seat.place.table_id.words s.table_seat.place.id s.table_seat.limits s.table_seat.place.me a s.standing p0 (Call.SendLock u) (record { seated = s.seated; became = s.became; ready = s.ready; rooted = s.rooted }) begins in
+    let on = c.send_held in let r = on.new.seat in let n = s.table_seat.limits.seats in let same = ap (λ l. l.seats) c.requires.belongs.1 in
+    let st = stepped_by p0 s.table_seat.number f.result (oldest_in b) in
+    let one = spends_any g.T.Kept.follows g.T.Kept.fits p0 st.seat s.table_seat.place.me.0 f.new.seat.place.me.0 a b st.turn (told_before f.ensures.same f.ensures.step).event (n + 8) in
+    spent (n + 8 + 1) (c.args.mutex.now.limits.seats + 9) s.table_seat.place.me.0.trail r.table_seat.place.me.0.trail (omega (arith, same)) (spends_join (n + 8 + 1) (n + 8) 0 s.table_seat.place.me.0.trail f.new.seat.place.me.0.trail r.table_seat.place.me.0.trail one (subst (λ (l : Limits). Spends (l.seats + 8) 0 f.new.seat.place.me.0.trail r.table_seat.place.me.0.trail) f.ensures.same.1 on.ensures.spends))
 
 pub returns-clause-wakes : goal.returns-clause-wakes
 returns-clause-wakes g c =
     let s = c.args.seat.now in let f = c.keep-found in let on = c.send_held in
-    subst (λ (n : ℕ). Wakes n on.result.1 s.place.me.0.trail on.new.seat.place.me.0.trail) (ap (λ l. l.seats) c.requires.belongs.1)
-    (wakes_after s.limits.seats on.result.1 s.place.me.0.trail f.new.place.me.0.trail on.new.seat.place.me.0.trail (grants_none g.T.Kept.follows g.T.Kept.fits _ _ _ _ _ _ _ f.ensures.step.event refl) on.ensures.wakes)
+    subst (λ (n : ℕ). Wakes n on.result.1 s.table_seat.place.me.0.trail on.new.seat.table_seat.place.me.0.trail) (ap (λ l. l.seats) c.requires.belongs.1)
+    (wakes_after s.table_seat.limits.seats on.result.1 s.table_seat.place.me.0.trail f.new.seat.place.me.0.trail on.new.seat.table_seat.place.me.0.trail (grants_none g.T.Kept.follows g.T.Kept.fits _ _ _ _ _ _ _ (told_before f.ensures.same f.ensures.step).event refl) (wakes_same on.result.1 f.new.seat.place.me.0.trail on.new.seat.table_seat.place.me.0.trail f.ensures.same.1 on.ensures.wakes))
 
 pub returns-then-found-waiting-clause-run : goal.returns-then-found-waiting-clause-run
 returns-then-found-waiting-clause-run g c = run_made c.keep-found.ensures.step

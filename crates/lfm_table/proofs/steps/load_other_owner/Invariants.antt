@@ -2,4 +2,4 @@ use Rattle.lfm_table.specs.Rule.{value_in}
 use Rattle.lfm_table.proofs.steps.load_other_owner.Given as goal
 
 abbrev pub ghosts-operate : goal.ghosts-operate
-ghosts-operate g a = record { standing = a.seat.now.standing; hand = value_in a.hand.now }
+ghosts-operate g a = record { standing = a.standing.now; hand = value_in a.seat.now.moving }

@@ -7,8 +7,8 @@ use Rattle.lfm_mutex.proofs.mutex.Mutex.nap.Given as goal
 
 abbrev pub invariant-naps : goal.invariant-naps
 invariant-naps g l = record {
-  belongs : (l.seat.place.table_id ≡ l.self.table.table_id) × (l.seat.limits ≡ l.self.limits);
-  beside : (l.seat.place.table_id ≡ l.fn.seat.place.table_id) × (l.seat.limits ≡ l.fn.seat.limits);
+  belongs : (l.seat.table_seat.place.table_id ≡ l.self.table.table_id) × (l.seat.table_seat.limits ≡ l.self.limits);
+  beside : (l.seat.table_seat.place.table_id ≡ l.fn.seat.table_seat.place.table_id) × (l.seat.table_seat.limits ≡ l.fn.seat.table_seat.limits);
   woken : WakesNobody l.fn.seat l.seat;
   run : RunGoesOnFrom l.fn.seat l.seat;
   tries : TriesBy l.self.limits l.made (sight l.fn.seat) (sight l.seat) None;

@@ -30,7 +30,7 @@ loop-preserved g c = let i = c.loop.invariant in let s = c.try_receive.new.seat 
 pub returns-in-Err-clause-steps : goal.returns-in-Err-clause-steps
 returns-in-Err-clause-steps g c = let i = c.loop.invariant in let s = c.try_receive.new.seat in
     let told = refused_receive g.T.Kept.follows g.T.Kept.fits (sight c.loop.seat) (sight s) c.in-Err.refusal c.in-Err.ensures.receives in
-    let same = first_receive (sight c.args.seat.now) (sight c.loop.seat) c.loop.seat.place.me.0.trail i.first i.seen told.0 in
+    let same = first_receive (sight c.args.seat.now) (sight c.loop.seat) c.loop.seat.table_seat.place.me.0.trail i.first i.seen told.0 in
     subst (λ (z : Sight g.row.T.Denot). (cause : Why) × Makes c.args.self.now.limits Call.Receive z (sight s) (Refused cause)) same c.in-Err.ensures.steps
 
 pub returns-in-Ok-Some-clause-receives : goal.returns-in-Ok-Some-clause-receives

@@ -7,11 +7,11 @@ use Rattle.lfm_mutex.proofs.runs.Woken.{woken_none}
 use Rattle.lfm_mutex.proofs.steps.kinds.store_owner.Goals as goal
 
 pub make_waking_none-requires-clause-leaves : goal.make_waking_none-requires-clause-leaves
-make_waking_none-requires-clause-leaves g c κs within = let s = c.args.seat.now in leaves_at g.T.Kept.follows g.T.Kept.fits s.number s.limits s.standing s.place.me s.moving s.seated c.requires.leaves
+make_waking_none-requires-clause-leaves g c κs within = let s = c.args.seat.now in leaves_at g.T.Kept.follows g.T.Kept.fits s.table_seat.number s.table_seat.limits s.standing s.table_seat.place.me s.table_seat.moving s.seated c.requires.leaves
 
 pub returns-clause-steps : goal.returns-clause-steps
 returns-clause-steps g c = let s = c.args.seat.now in let b = c.make_waking_none.new.seat in
-    steps_on g.T.Kept.follows g.T.Kept.fits (Some Kind.OwnerStore) s.number b.number s.limits s.standing b.standing s.place.me b.place.me s.moving b.moving c.make_waking_none.result s.seated c.make_waking_none.ensures.same.0 c.requires.is_next c.make_waking_none.ensures.event
+    steps_on g.T.Kept.follows g.T.Kept.fits (Some Kind.OwnerStore) s.table_seat.number b.table_seat.number s.table_seat.limits s.standing b.standing s.table_seat.place.me b.table_seat.place.me s.table_seat.moving b.table_seat.moving c.make_waking_none.result s.seated c.make_waking_none.ensures.same.0 c.requires.is_next c.make_waking_none.ensures.event
 
 pub make_waking_none-requires-clause-is_next : goal.make_waking_none-requires-clause-is_next
 make_waking_none-requires-clause-is_next g c κs within = c.requires.is_next

@@ -1,0 +1,153 @@
+//! How the guarded value goes into the slot of the table and comes out of it again. This is the place where a value could get lost:
+//! one seat at a time has it in hand, and between two such seats it lies in the slot.
+//!
+//! A step that may give the value away puts it into the slot before the word is written, since the next owner may come as soon as
+//! the word is. A step that gains the value takes it out only after the word has told so. If a step has put the value out and
+//! hasn't given it away, it takes it out again. `carries_after` decides that.
+ghost use Rattle.std.specs.Prelude.{◌≡◌, ◌∷◌, Option, None, true, false};
+ghost use Rattle.atomic_table.specs.Table.{rest};
+ghost use Rattle.lfm_laws.specs.table.Carried.{carries_value};
+ghost use Rattle.lfm_laws.specs.table.Words.{stepped_by};
+ghost use Rattle.lfm_table.specs.declared.rule.Moving.{Moving};
+ghost use Rattle.lfm_table.specs.Rule.{is_carried};
+ghost use Rattle.lfm_table.specs.Steps.{gives_at, kept_out, put_in, Took};
+ghost use Rattle.lfm_table.specs.Straight.{IsSame};
+
+use crate::kept::Kept;
+use crate::layout::SLOT;
+use crate::moving_box::MovingBox;
+use crate::shared_table::SharedTable;
+use crate::table_seat::TableSeat;
+use crate::wake_words::FIRST_GRANT;
+use lfm_protocol::SeatState;
+use lfm_protocol::points::Point;
+use lfm_words::unpack_handoff;
+
+/// A step at this point may give the value away.
+pub fn gives(point: Point) -> bool
+    ensures { result ≡ gives_at point }
+{
+    matches!(
+        point,
+        Point::ReleaseCountSubtract(_)
+            | Point::ReleaseHandoffStore(_)
+            | Point::GrantWakeStore(_, _)
+            | Point::SendWakeStore(_)
+    )
+}
+
+/// Whether the seat carries the value after its step, which found this number: told before the seat moves on. A seat that carries
+/// goes on carrying unless the step gives the value away (see `gives`). One that doesn't carry gains the value only by what it
+/// found: a count of 0, a grant, a post that it wins, or itself as the owner.
+pub fn carries_after(standing: &SeatState, number: u64, found: u64) -> bool
+    ensures { result ≡ carries_value (stepped_by standing.now number found None).seat }
+{
+    if standing.depth != 0 {
+        return true;
+    }
+    match standing.point {
+        Point::LockCountAdd | Point::TryCountExchange | Point::SendCountAdd(_) => found == 0,
+        Point::ReleaseCountSubtract(_) => found != 1,
+        Point::ReceiveWakeLoad(_) => found >= FIRST_GRANT,
+        Point::TryOwnerLoad => found == number,
+        Point::TryHandoffExchange(_)
+        | Point::PushedHandoffExchange(_, _)
+        | Point::ReleaseHandoffExchange(_) => {
+            unpack_handoff(found) == standing.expected_handoff(number)
+        }
+        Point::ReleaseOwnerStore(_)
+        | Point::LockCountSubtract
+        | Point::TryCountAdd
+        | Point::TakeClearHead(_)
+        | Point::TakeLinkLoad(_, _)
+        | Point::EnterOwnerStore(_, _)
+        | Point::ReceiveWakeStore(_) => true,
+        _ => false,
+    }
+}
+
+/// A function of its own, since an assignment also drops the old value: its callers would be proved once for each case.
+fn put<T: Drop>(moving: &mut Option<MovingBox<T>>, new: Option<MovingBox<T>>)
+    ensures { moving.new ≡ new }
+{
+    *moving = new;
+}
+
+/// Puts this into the slot.
+fn put_back<T: Kept>(table: &SharedTable<T>, seat: &mut TableSeat<T>, moving: Option<MovingBox<T>>)
+    requires table { seat.old.place.table_id ≡ table.now.table_id }
+    requires slot { (x : Option (Moving T)) × (seat.old.place.me.1 ≡ (0, x) ∷ rest seat.old.place.me.1) }
+    ensures table { (seat.new.place.table_id ≡ seat.old.place.table_id) × (seat.new.place.id ≡ seat.old.place.id) }
+    ensures same { IsSame seat.old seat.new }
+    ensures moving { seat.new.moving ≡ seat.old.moving }
+    ensures slot { seat.new.place.me ≡ (seat.old.place.me.0, (0, moving) ∷ rest seat.old.place.me.1) }
+{
+    table.exchange(&mut seat.place, SLOT, moving);
+}
+
+/// Puts the value in hand into the slot.
+#[inline(always)]
+pub fn put_out<T: Kept>(table: &SharedTable<T>, seat: &mut TableSeat<T>)
+    requires table { seat.old.place.table_id ≡ table.now.table_id }
+    requires slot { (x : Option (Moving T)) × (seat.old.place.me.1 ≡ (0, x) ∷ rest seat.old.place.me.1) }
+    ensures table { (seat.new.place.table_id ≡ seat.old.place.table_id) × (seat.new.place.id ≡ seat.old.place.id) }
+    ensures same { IsSame seat.old seat.new }
+    ensures moving { seat.new.moving ≡ None }
+    ensures slot { seat.new.place.me ≡ (seat.old.place.me.0, (0, seat.old.moving) ∷ rest seat.old.place.me.1) }
+{
+    let value = seat.moving.take();
+    put_back(table, seat, value);
+}
+
+/// Takes the value out of the slot, for a seat that has none in hand.
+#[inline(always)]
+pub fn take_out<T: Kept>(table: &SharedTable<T>, seat: &mut TableSeat<T>)
+    requires table { seat.old.place.table_id ≡ table.now.table_id }
+    requires slot { (x : Option (Moving T)) × (seat.old.place.me.1 ≡ (0, x) ∷ rest seat.old.place.me.1) }
+    ensures table { (seat.new.place.table_id ≡ seat.old.place.table_id) × (seat.new.place.id ≡ seat.old.place.id) }
+    ensures same { IsSame seat.old seat.new }
+    ensures took { (seat.old.place.me.1 ≡ (0, seat.new.moving) ∷ rest seat.old.place.me.1) × (seat.new.place.me ≡ (seat.old.place.me.0, (0, None) ∷ rest seat.old.place.me.1)) }
+{
+    let taken = table.exchange(&mut seat.place, SLOT, None);
+    put(&mut seat.moving, taken);
+}
+
+/// Puts the value into the slot if the step may give it away.
+pub fn prepare<T: Kept>(table: &SharedTable<T>, seat: &mut TableSeat<T>, gives: bool)
+    requires table { seat.old.place.table_id ≡ table.now.table_id }
+    requires slot { gives ≡ true → (x : Option (Moving T)) × (seat.old.place.me.1 ≡ (0, x) ∷ rest seat.old.place.me.1) }
+    ensures table { (seat.new.place.table_id ≡ seat.old.place.table_id) × (seat.new.place.id ≡ seat.old.place.id) }
+    ensures same { IsSame seat.old seat.new }
+    ensures moving { seat.new.moving ≡ kept_out gives seat.old.moving }
+    ensures slot { seat.new.place.me ≡ (seat.old.place.me.0, put_in gives seat.old.moving seat.old.place.me.1) }
+{
+    if !gives {
+        return;
+    }
+    let value = seat.moving.take();
+    put_back(table, seat, value);
+}
+
+/// Takes the value out of the slot if the seat carries it after its step and has none in hand. It looks at the hand first, so
+/// only a seat with none in hand has to learn whether it carries.
+pub fn settle<T: Kept>(
+    table: &SharedTable<T>,
+    seat: &mut TableSeat<T>,
+    standing: &SeatState,
+    found: u64,
+)
+    requires table { seat.old.place.table_id ≡ table.now.table_id }
+    requires slot { is_carried seat.old.moving ≡ false → carries_value (stepped_by standing.now seat.old.number found None).seat ≡ true → (x : Option (Moving T)) × (seat.old.place.me.1 ≡ (0, x) ∷ rest seat.old.place.me.1) }
+    ensures table { (seat.new.place.table_id ≡ seat.old.place.table_id) × (seat.new.place.id ≡ seat.old.place.id) }
+    ensures same { IsSame seat.old seat.new }
+    ensures took { Took (is_carried seat.old.moving) (carries_value (stepped_by standing.now seat.old.number found None).seat) seat.old.moving seat.old.place.me seat.new.moving seat.new.place.me }
+{
+    if seat.moving.is_some() {
+        return;
+    }
+    if !carries_after(standing, seat.number, found) {
+        return;
+    }
+    let taken = table.exchange(&mut seat.place, SLOT, None);
+    put(&mut seat.moving, taken);
+}

@@ -1,6 +1,5 @@
-//! `lock`, and `ask`, which is `lock` up to the point at which it would sleep. Fast path: the mutex is free, the seat holds it
-//! already, or the seat queues (`push`). It makes its atomic steps one after another, writes only the fields that change, and
-//! makes no copy of the seat's data. Everything else is the slow path (`calls::finish`).
+//! `ask` locks or queues; `lock` then also sleeps. Fast path: the mutex is free, the seat holds it already, or the seat queues
+//! (`push`). It writes only the fields of the seat that change. Everything else is the slow path (`calls::finish`).
 ghost use Rattle.std.specs.Prelude.{◌≡◌, ◌+◌, ◌<◌, length};
 ghost use Rattle.lfm_protocol.specs.declared.answers.Answer.TheVariants as Answered;
 ghost use Rattle.lfm_protocol.specs.declared.answers.Call.{Call as CallNow};
@@ -49,8 +48,8 @@ fn ask_on<T: Kept>(mutex: &Mutex<T>, seat: &mut Seat<T>) -> (Asked, Option<WakeU
     }
 }
 
-/// Makes the steps of an open `lock` that found others in the count, to its end: it loads the owner, and pushes the seat's
-/// record. The seat doesn't hold.
+/// Finishes an open `lock` that found others in the count: it loads the owner, and pushes the seat's record. The seat doesn't
+/// hold.
 #[inline(never)]
 fn queue<T: Kept>(mutex: &Mutex<T>, seat: &mut Seat<T>) -> (Asked, Option<WakeUp>)
     requires belongs { seat.old.table_seat.place.table_id ≡ mutex.now.table.table_id }
@@ -194,11 +193,11 @@ impl<T: Kept> Mutex<T> {
     /// `lock` up to the point at which it would sleep: gains the mutex, deepens the hold, or queues the seat, which then sleeps
     /// until a receive tells it that it holds. A seat that gains the mutex or queues is charged one take.
     ///
-    /// Refuses, in this order: Asleep (the seat sleeps, or a call of it is open), DepthFull (it holds at depth 65,535), Spent (it
-    /// doesn't hold, and has no take left). It never waits. If it takes over a posted hand-off and a record older than its own is
-    /// queued, it grants the mutex to the seat of that record and wakes it. It makes at most 9 atomic steps more than the mutex
-    /// has seats, and two for each exchange of the push word that fails because another seat has changed the word. As `lock` of
-    /// LFthreads' mutex and of OSv's lfmutex.
+    /// Refuses, in this order: Asleep (the seat sleeps, or a call of it is open), DepthFull (it holds at depth 65,535), Spent
+    /// (it doesn't hold, and has no take left). It never waits. If it takes over a posted hand-off and a record older than its
+    /// own is queued, it grants the mutex to the seat of that record and wakes it. It makes at most 9 atomic steps more than
+    /// the mutex has seats, and two for each exchange of the push word that fails because another seat has changed the word. As
+    /// `lock` of LFthreads' mutex and of OSv's lfmutex.
     #[inline(always)]
     pub fn ask(&self, seat: &mut Seat<T>) -> Result<Asked, Refusal>
         requires belongs { OfMutex seat.old self.now }

@@ -1,5 +1,5 @@
-//! The push of a record, by `lock` for its own seat and by `send_lock` for its target. Fast path: the push word is as it was
-//! seen, and no handoff is posted. Everything else is the slow path (`calls::finish`).
+//! Pushes a record: that of `lock`'s own seat, or that of `send_lock`'s target. Fast path: the push word has not changed since
+//! it was loaded, and no handoff is posted. Everything else is the slow path (`calls::finish`).
 ghost use Rattle.std.specs.Prelude.{◌≡◌, ℕ};
 ghost use Rattle.lfm_protocol.specs.declared.points.Point.{Point as PointNow};
 ghost use Rattle.lfm_protocol.specs.declared.points.Point.TheVariants.{PushLoad};

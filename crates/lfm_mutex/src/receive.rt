@@ -76,8 +76,8 @@ pub fn receive_asleep<T: Kept>(
 }
 
 impl<T: Kept> Mutex<T> {
-    /// Waits until the seat, which sleeps, is granted the mutex, and answers how it came to hold. It makes a receive, then looks
-    /// as often as the pace of the mutex says, and then sleeps until it is woken.
+    /// Waits until the seat, which sleeps, is granted the mutex, and answers how it came to hold. It makes a receive, then
+    /// looks as often as the pace of the mutex says, and then sleeps until it is woken.
     ///
     /// Refuses with NotWaiting if the seat doesn't sleep, or if a call of it is open.
     pub fn receive_lock<R: Wait>(&self, rt: &R, seat: &mut Seat<T>) -> Result<How, Refusal>
@@ -121,8 +121,9 @@ impl<T: Kept> Mutex<T> {
         unreachable!()
     }
 
-    /// Waits for a grant in the wake word: looks while looks are left, and then sleeps while the word is no grant. A look is a
-    /// load and no step of the seat. The pauses between looks leave the cache line of the word to the seat that grants.
+    /// Waits for a grant in the wake word: makes at most this number of looks, and parks if none of them finds a grant. Returns
+    /// how many looks are left. A look is a load and no step of the seat. The pauses between looks leave the cache line of the
+    /// word to the seat that grants.
     fn await_grant<R: Wait>(&self, rt: &R, wake: usize, looks: u32) -> u32
         requires { wake < self.now.table.table_id.words }
     {
@@ -139,8 +140,8 @@ impl<T: Kept> Mutex<T> {
     /// One load of the wake word of a seat that sleeps: how it came to hold, or None if it was not granted the mutex and sleeps
     /// on.
     ///
-    /// Refuses with NotWaiting if the seat doesn't sleep, or if a call of it is open. It never waits, and makes at most 3 atomic
-    /// steps.
+    /// Refuses with NotWaiting if the seat doesn't sleep, or if a call of it is open. It never waits, and makes at most 3
+    /// atomic steps.
     pub fn try_receive(&self, seat: &mut Seat<T>) -> Result<Option<How>, Refusal>
         requires belongs { OfMutex seat.old self.now }
         ensures belongs { Beside seat.old seat.new }

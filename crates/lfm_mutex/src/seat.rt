@@ -13,8 +13,9 @@ use lfm_protocol::SeatState;
 use lfm_protocol::points::Point;
 use lfm_table::{Kept, TableSeat, Woken};
 
-/// What one thread uses the mutex with. A seat may move between threads, and each call borrows it for its whole length. Dropped
-/// while it holds or sleeps, it keeps what it holds: nobody else gains that.
+/// What one thread uses the mutex with. A seat may move between threads, and each call borrows it for its whole length. If it
+/// is dropped while it holds, no other seat gains the mutex any more. If it is dropped while it sleeps, no other does once the
+/// mutex is granted to it.
 ///
 /// These lines are compiled in the crate `example_cache`:
 ///

@@ -1,5 +1,5 @@
-//! `send_lock`: a seat that waits is made a locker, on its behalf. Fast path: the target gains a free mutex, or is queued while
-//! no handoff is posted (`push`). Everything else is the slow path (`calls::finish`).
+//! `send_lock`: locks on behalf of a seat that waits, which then gains the mutex or is queued. Fast path: the target gains a
+//! free mutex, or is queued while no handoff is posted (`push`). Everything else is the slow path (`calls::finish`).
 ghost use Rattle.std.specs.Prelude.{◌≡◌, ◌+◌, ◌<◌, ◌≤◌, length};
 ghost use Rattle.lfm_protocol.specs.declared.answers.Answer.TheVariants as Answered;
 ghost use Rattle.lfm_protocol.specs.declared.answers.Call.{Call as CallNow};
@@ -49,7 +49,7 @@ fn send_on<T: Kept>(mutex: &Mutex<T>, seat: &mut Seat<T>) -> (Result<(), Refusal
     }
 }
 
-/// Makes the steps of an open send that found others in the count, to its end: it pushes the record of its target.
+/// Finishes an open send that found others in the count: it pushes the record of its target.
 #[inline(never)]
 fn queue_target<T: Kept>(
     mutex: &Mutex<T>,
@@ -87,7 +87,7 @@ fn queue_target<T: Kept>(
     }
 }
 
-/// Makes the steps of an open send that has claimed its target, to its end, for a seat that doesn't hold.
+/// Finishes an open send that has claimed its target, for a seat that doesn't hold.
 #[inline(always)]
 fn send_free<T: Kept>(
     mutex: &Mutex<T>,
@@ -216,8 +216,8 @@ fn send_any<T: Kept>(
 }
 
 impl<T: Kept> Mutex<T> {
-    /// Makes a seat that waits since its `start_wait` a locker, on its behalf: it gains the mutex or queues. The caller
-    /// may hold the mutex or not, and is charged nothing.
+    /// Locks on behalf of a seat that has waited since its `start_wait`, the target: that seat gains the mutex or is queued.
+    /// The caller may hold the mutex or not, and is charged nothing.
     ///
     /// Refuses, in this order: Asleep, NoSuchSeat (the target is above the mutex's seats), NotWaiting (the target
     /// doesn't wait, or was sent before). It never waits, and wakes the seat that it grants the mutex, if any. It makes at
@@ -237,8 +237,8 @@ impl<T: Kept> Mutex<T> {
         sent
     }
 
-    /// `send_lock`, with the same answers and refusals, which hands its caller the wake-up of the seat that it granted the mutex,
-    /// if any. The caller has to spend it by `wake`, or to wake that seat's thread by other means.
+    /// `send_lock`, with the same answers and refusals, which hands its caller the wake-up of the seat that it granted the
+    /// mutex, if any. The caller has to spend it by `wake`, or to wake that seat's thread by other means.
     pub fn send_lock_without_waking(
         &self,
         seat: &mut Seat<T>,

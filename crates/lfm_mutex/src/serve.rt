@@ -1,5 +1,5 @@
-//! How a release that found others in the count serves the oldest queued seat, for an `unlock` as for a `start_wait`. Fast path:
-//! the pop list has a record, or the push list has exactly one. Everything else is the slow path (`calls::finish`).
+//! How a release that found others in the count serves the oldest queued seat, for an `unlock` as for a `start_wait`. Fast
+//! path: the pop list has a record, or the push list has exactly one. Everything else is the slow path (`calls::finish`).
 ghost use Rattle.std.specs.Prelude.{◌≡◌, ◌+◌, ◌≤◌, length, false};
 ghost use Rattle.lfm_protocol.specs.declared.points.Carrier.{Carrier as CarrierNow};
 ghost use Rattle.lfm_protocol.specs.declared.points.Point.TheVariants.{GrantWakeStore, TakeClearHead};
@@ -105,9 +105,8 @@ fn grant<T: Kept>(
     }
 }
 
-/// Clears the push list, and serves its record if it has exactly one. Then the record's link names no older one, so it is the
-/// oldest as soon as it is loaded, and the pop list is empty again after the grant. If the push list was empty, a seat is still on
-/// its way, and the release posts. In a longer list the oldest record is the last to be loaded, after one step for each.
+/// Clears the push list. If the list had one record, that is the oldest, and it is served. If it had none, a seat is counted
+/// and not queued yet, and the release posts. If it had more, the oldest is found last, after one load for each: slow path.
 #[inline(always)]
 fn serve_pushed<T: Kept>(
     mutex: &Mutex<T>,
@@ -150,7 +149,7 @@ fn serve_pushed<T: Kept>(
     grant(mutex, seat, releaser, Record { seat: next, stamp })
 }
 
-/// Makes the steps of an open release that found others in the count, to its end.
+/// Finishes an open release that found others in the count.
 #[inline(always)]
 pub(crate) fn serve<T: Kept>(
     mutex: &Mutex<T>,

@@ -1,6 +1,5 @@
-//! `unlock`. Fast path: the seat holds more than once, nobody waits, or the oldest queued seat is served (`serve`). It makes its
-//! atomic steps one after another, writes only the fields that change, and makes no copy of the seat's data. Everything else is
-//! the slow path (`calls::finish`).
+//! `unlock`. Fast path: the seat holds more than once, nobody waits, or the oldest queued seat is served (`serve`). It writes
+//! only the fields of the seat that change. Everything else is the slow path (`calls::finish`).
 ghost use Rattle.std.specs.Prelude.{◌≡◌, ◌+◌, ◌<◌};
 ghost use Rattle.lfm_protocol.specs.declared.answers.Answer.TheVariants as Answered;
 ghost use Rattle.lfm_protocol.specs.declared.answers.Call.{Call as CallNow};
@@ -105,8 +104,8 @@ fn unlock_any<T: Kept>(
 }
 
 impl<T: Kept> Mutex<T> {
-    /// Gives up one hold, and at depth 1 the mutex: to the oldest queued seat, by a post to a locker that is not yet
-    /// queued, or to nobody. What is in hand then has to follow what was found.
+    /// Gives up one hold, and at depth 1 the mutex: to the oldest queued seat, or by a post to a locker that is not queued yet,
+    /// or to nobody. At depth 1 the value that is left has to follow the one that was found.
     ///
     /// Refuses, in this order: Asleep, NotOwner (the seat doesn't hold). It never waits, and wakes the seat that it grants
     /// the mutex, if any. Whatever others do, it makes at most 7 atomic steps more than the mutex has seats. As `unlock`

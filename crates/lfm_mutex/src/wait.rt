@@ -121,8 +121,8 @@ impl<T: Kept> Mutex<T> {
         released
     }
 
-    /// `start_wait`, with the same answers and refusals, which hands its caller the wake-up of the seat that it granted the mutex,
-    /// if any. The caller has to spend it by `wake`, or to wake that seat's thread by other means.
+    /// `start_wait`, with the same answers and refusals, which hands its caller the wake-up of the seat that it granted the
+    /// mutex, if any. The caller has to spend it by `wake`, or to wake that seat's thread by other means.
     pub fn start_wait_without_waking(
         &self,
         seat: &mut Seat<T>,

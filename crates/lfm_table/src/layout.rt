@@ -1,23 +1,31 @@
-//! Where the words of the table stand, and its slot. Nothing else stands here: no step, and nothing of what a word holds.
+//! The indexes of the table's words, and of its slot. The words, in order:
+//! - the *count*: how many seats hold or want the mutex;
+//! - the *owner*: the number of the seat that owns, or 0;
+//! - the *handoff*: the current post, or 0;
+//! - the *push* word: the newest stamp, and the seat that heads the push list;
+//! - a *link* for each seat: its stamp, and the seat that was pushed before it;
+//! - a *wake* word for each seat: what it finds when it sleeps and looks.
+//!
+//! Their codings are in `docs/PROTOCOL.md`, "Words and seats".
 ghost use Rattle.std.specs.Prelude.{◌≡◌, ◌+◌, ◌≤◌};
 ghost use Rattle.lfm_protocol.specs.Limits.{max_seats};
 
-/// The place of the count.
+/// The index of the count.
 pub const COUNT: usize = 0;
 
-/// The place of the owner word.
+/// The index of the owner word.
 pub const OWNER: usize = 1;
 
-/// The place of the handoff word.
+/// The index of the handoff word.
 pub const HANDOFF: usize = 2;
 
-/// The place of the push word. The link words come next, one for each seat, and then the wake words.
+/// The index of the push word. The link words come next, one for each seat, and then the wake words.
 pub const PUSH: usize = 3;
 
-/// The one slot, where the moving value lies while no seat has it in hand.
+/// The one slot, where the moving value lies while no seat carries it.
 pub const SLOT: usize = 0;
 
-/// The place of the link word of this seat, whose number is at most 4,095.
+/// The index of the link word of this seat, whose number is at most 4,095.
 #[inline(always)]
 pub fn link_at(seat: u64) -> usize
     requires { seat ≤ max_seats }
@@ -26,7 +34,7 @@ pub fn link_at(seat: u64) -> usize
     PUSH + seat as usize
 }
 
-/// The place of the wake word of this seat, in a mutex with this number of seats, at most 4,095.
+/// The index of the wake word of this seat, in a mutex with this number of seats, at most 4,095.
 #[inline(always)]
 pub fn wake_at(seats: u64, seat: u64) -> usize
     requires few { seats ≤ max_seats }

@@ -1,9 +1,9 @@
-//! The atomic operation of each kind of step, at the packed word. An operation says what it does to which word. `operate` does
-//! it, under one contract for all, and answers the number that it found, or that it stored. Nothing here moves the seat on.
+//! The sixteen atomic operations on packed words, one for each kind of step. `access` says what an operation does to which
+//! word. `operate` performs it, under one contract for all, and returns the number that it found, or stored. Nothing here moves
+//! the seat on.
 //!
-//! `standing` is the seat's state before the step, and `seat.moving` is what the seat has in its own memory. The contract speaks of
-//! both, and B tells them to the play of the step. The operations are inlined, so of a state that a call makes up on the spot
-//! nothing is left but what they read.
+//! Contracts read all that is passed; an operation reads only what it needs. The operations are inlined, so nothing else is
+//! left of data that a caller builds for one step.
 ghost use Rattle.std.specs.Prelude.{◌≡◌, ◌≤◌, ℕ, Some};
 ghost use Rattle.lfm_protocol.specs.declared.kinds.Kind.{Kind as KindNow};
 ghost use Rattle.lfm_protocol.specs.Limits.{max_seats};
@@ -29,7 +29,7 @@ use lfm_words::{Wake, pack_handoff, pack_link};
 /// All but the head of the push word.
 const STAMP: u64 = 0xffff_ffff_ffff_0000;
 
-/// One atomic access to the word at this place of the table.
+/// One atomic access to the word at this index of the table.
 #[derive(Clone, Copy)]
 pub enum Access {
     /// Loads the word.
@@ -44,15 +44,15 @@ pub enum Access {
     /// Subtracts this number.
     FetchSub(usize, u64),
 
-    /// Clears the bits that this number has not.
+    /// Clears each bit that is 0 in this number.
     FetchAnd(usize, u64),
 
     /// Stores the second number if the word holds the first.
     CompareExchange(usize, u64, u64),
 }
 
-/// The operation of one kind of step. It is told as an access, and `operate` makes the access: the check has no proof yet of a
-/// function of an `impl` that passes on a type which is `Send` by its bound, as `T: Kept` is.
+/// The operation of one kind of step. An implementation only names the access, and `operate` performs it: the check cannot yet
+/// prove a function of an `impl` that passes on a type which is `Send` by a bound, as `T: Kept` is.
 pub trait Operation {
     /// The kind.
     ghost kind: { KindNow };
@@ -139,7 +139,7 @@ impl Operation for PushLoad {
     }
 }
 
-/// Compare-and-exchange of the push word that was seen for the new head.
+/// Compare-and-exchange of the push word, from the one that was seen to the one with the new head.
 pub struct PushExchange;
 
 impl Operation for PushExchange {
@@ -217,7 +217,7 @@ impl Operation for HandoffStore {
     }
 }
 
-/// Compare-and-exchange of the handoff that was seen for none.
+/// Compare-and-exchange of the handoff word, from the handoff that was seen to none.
 pub struct HandoffExchange;
 
 impl Operation for HandoffExchange {
@@ -258,7 +258,7 @@ impl Operation for WakeStore {
     }
 }
 
-/// Compare-and-exchange of WAITING for CLAIMED in the wake word of the target.
+/// Compare-and-exchange of the target's wake word, from WAITING to CLAIMED.
 pub struct WakeExchange;
 
 impl Operation for WakeExchange {
@@ -272,7 +272,7 @@ impl Operation for WakeExchange {
     }
 }
 
-/// Does this operation at the seat's point, and answers the number that it found, or stored.
+/// Performs this operation at the seat's point, and returns the number that it found, or stored.
 #[inline(always)]
 pub(crate) fn operate<O: Operation, T: Kept, B: Plain<T>>(
     table: &SharedTable<T>,
@@ -348,8 +348,8 @@ fn operate_by_kind<T: Kept, B: Plain<T>>(
     }
 }
 
-/// The atomic step at the seat's point, which is of this kind: the number that it found, or stored, and the wake-up of the
-/// seat whose grant it stored.
+/// Makes the atomic step at the seat's point, which is of this kind. Returns the number that it found, or stored, and the
+/// wake-up of the seat whose grant it stored.
 pub fn make_step<T: Kept, B: Plain<T>>(
     kind: Kind,
     table: &SharedTable<T>,

@@ -1,6 +1,6 @@
-//! The words of a mutex as a table, and a seat at it. Their fields are private, so an operation on a word is made by a function of
-//! this crate alone. The functions here are for this crate's own steps. A crate above uses those steps, and the functions of the
-//! files `opening`, `looks` and `closing`.
+//! The words of a mutex as a table, and a seat at it. Their fields are private, so an operation on a word is made by a function
+//! of this crate alone. The functions here are for this crate's own steps. A crate above uses those steps, and the functions of
+//! the files `opening`, `looks` and `closing`.
 ghost use Rattle.std.specs.Prelude.{◌≡◌, ◌+◌, ◌-◌, ◌%◌, ◌^◌, ◌<◌, ◌∷◌, ◌==◌, Option, bit_and};
 ghost use mathlib.Core.Option.{none};
 ghost use prog.Atomic.{either};
@@ -52,6 +52,7 @@ impl<T: Kept> Model for SharedTable<T> {
 
 /// The operations on a word. Each asks, as the kit's table does, that the rule is kept whatever the table is.
 impl<T: Kept> SharedTable<T> {
+    /// Loads the word.
     #[inline(always)]
     pub(crate) fn load<M: Play<Option<MovingBox<T>>, View<T>>>(
         &self,
@@ -67,6 +68,7 @@ impl<T: Kept> SharedTable<T> {
         self.table.shared.load::<M>(&mut place.seat, word)
     }
 
+    /// Stores this number.
     #[inline(always)]
     pub(crate) fn store<M: Play<Option<MovingBox<T>>, View<T>>>(
         &self,
@@ -83,6 +85,7 @@ impl<T: Kept> SharedTable<T> {
         self.table.shared.store::<M>(&mut place.seat, word, new);
     }
 
+    /// Adds this number, and returns the word as it was. The sum wraps.
     #[inline(always)]
     pub(crate) fn fetch_add<M: Play<Option<MovingBox<T>>, View<T>>>(
         &self,
@@ -99,6 +102,7 @@ impl<T: Kept> SharedTable<T> {
         self.table.shared.fetch_add::<M>(&mut place.seat, word, k)
     }
 
+    /// Subtracts this number, and returns the word as it was. The difference wraps.
     #[inline(always)]
     pub(crate) fn fetch_sub<M: Play<Option<MovingBox<T>>, View<T>>>(
         &self,
@@ -115,6 +119,7 @@ impl<T: Kept> SharedTable<T> {
         self.table.shared.fetch_sub::<M>(&mut place.seat, word, k)
     }
 
+    /// Clears each bit that is 0 in this number, and returns the word as it was.
     #[inline(always)]
     pub(crate) fn fetch_and<M: Play<Option<MovingBox<T>>, View<T>>>(
         &self,
@@ -152,7 +157,7 @@ impl<T: Kept> SharedTable<T> {
     }
 }
 
-/// What is no operation on a word: the slot that a seat has, a load that tells nothing, sleep and wake.
+/// What is no step on a word: the slot that a seat has, a load of which no proof learns anything, sleep and wake.
 impl<T: Kept> SharedTable<T> {
     /// A plain read and write of the slot that the seat took last.
     #[inline(always)]
@@ -170,6 +175,7 @@ impl<T: Kept> SharedTable<T> {
         self.table.shared.exchange(&mut place.seat, slot, new)
     }
 
+    /// A load of which no proof learns anything.
     #[inline(always)]
     pub(crate) fn peek(&self, word: usize) -> u64
         requires { word < self.now.table_id.words }

@@ -36,9 +36,9 @@ pub fn gives(point: Point) -> bool
     )
 }
 
-/// Whether the seat carries the value after its step, which found this number: told before the seat moves on. A seat that carries
-/// goes on carrying unless the step gives the value away (see `gives`). One that doesn't carry gains the value only by what it
-/// found: a count of 0, a grant, a post that it wins, or itself as the owner.
+/// Whether the seat carries the value after its step, which found this number. It is asked before the seat moves on. A seat
+/// that carries goes on carrying unless the step gives the value away (see `gives`). One that doesn't carry gains the value
+/// only by what it found: a count of 0, a grant, a post that it wins, or itself as the owner.
 pub fn carries_after(standing: &SeatState, number: u64, found: u64) -> bool
     ensures { result ≡ carries_value (stepped_by standing.now number found None).seat }
 {
@@ -85,7 +85,7 @@ fn put_back<T: Kept>(table: &SharedTable<T>, seat: &mut TableSeat<T>, moving: Op
     table.exchange(&mut seat.place, SLOT, moving);
 }
 
-/// Puts the value in hand into the slot.
+/// Puts the value that the seat carries into the slot.
 #[inline(always)]
 pub fn put_out<T: Kept>(table: &SharedTable<T>, seat: &mut TableSeat<T>)
     requires table { seat.old.place.table_id ≡ table.now.table_id }
@@ -99,7 +99,7 @@ pub fn put_out<T: Kept>(table: &SharedTable<T>, seat: &mut TableSeat<T>)
     put_back(table, seat, value);
 }
 
-/// Takes the value out of the slot, for a seat that has none in hand.
+/// Takes the value out of the slot, for a seat that does not have it.
 #[inline(always)]
 pub fn take_out<T: Kept>(table: &SharedTable<T>, seat: &mut TableSeat<T>)
     requires table { seat.old.place.table_id ≡ table.now.table_id }
@@ -128,8 +128,8 @@ pub fn prepare<T: Kept>(table: &SharedTable<T>, seat: &mut TableSeat<T>, gives: 
     put_back(table, seat, value);
 }
 
-/// Takes the value out of the slot if the seat carries it after its step and has none in hand. It looks at the hand first, so
-/// only a seat with none in hand has to learn whether it carries.
+/// Takes the value out of the slot if the seat carries it after its step and does not have it yet. That is tested first, since
+/// it costs less than `carries_after`.
 pub fn settle<T: Kept>(
     table: &SharedTable<T>,
     seat: &mut TableSeat<T>,

@@ -1,6 +1,6 @@
-//! The atomic steps of the fast paths, each by itself, told by what becomes of the guarded value. A fast path hardly ever stores
-//! a point: it hands each step a state that it makes up on the spot, `standing`, with the step's point in it. After inlining,
-//! only what the step reads of it is left. The proof needs the rest.
+//! The atomic steps of the fast paths, named by what becomes of the guarded value. A fast path hardly ever stores a point. It
+//! builds the seat's state at the step's point and passes it; after inlining, only what the step reads of it is left. The proof
+//! needs the rest.
 //!
 //! An atomic step waits for the plain writes before it. So a fast path makes its writes in one gap between two steps, in which
 //! the value moves anyway.
@@ -94,7 +94,7 @@ pub fn load_other_owner<T: Kept>(
     operate::<OwnerLoad, T, Brand>(table, seat, standing)
 }
 
-/// Makes the step for a seat that doesn't carry the value. It comes to carry it exactly if it found 0.
+/// Makes the step for a seat that doesn't carry the value. It carries the value afterwards exactly if it found 0.
 #[inline(always)]
 pub fn gain<O: Operation, T: Kept>(
     table: &SharedTable<T>,
@@ -121,7 +121,7 @@ pub fn gain<O: Operation, T: Kept>(
     0
 }
 
-/// Loads the seat's own wake word for a seat that sleeps. It comes to carry the value exactly if it found a grant.
+/// Loads the seat's own wake word for a seat that sleeps. It carries the value afterwards exactly if it found a grant.
 #[inline(always)]
 pub fn gain_by_grant<T: Kept>(
     table: &SharedTable<T>,
@@ -146,8 +146,8 @@ pub fn gain_by_grant<T: Kept>(
     found
 }
 
-/// Subtracts 1 from the count for a seat that has given up the owner word. The value is in its slot by then: if the count was 1,
-/// the next seat may come in and take it at once. If the count was more, this seat takes the value out again.
+/// Subtracts 1 from the count for a seat that has given up the owner word. Before this step the value goes into its slot: if
+/// the count was 1, the next seat may come in and take it at once. If the count was more, this seat takes the value out again.
 #[inline(always)]
 pub fn retake<T: Kept>(table: &SharedTable<T>, seat: &mut TableSeat<T>, standing: &SeatState) -> u64
     requires table { seat.old.place.table_id ≡ table.now.table_id }
@@ -190,8 +190,8 @@ pub fn collect<T: Kept>(
     found
 }
 
-/// Stores a grant in the wake word of another seat, for a seat that gives the value away by it, and hands out the wake-up of the
-/// seat that it granted. Once the grant is stored, that seat may take the value and the pop list, which lie in the slot together.
+/// Stores a grant in the wake word of another seat, for a seat that gives the value away by it, and hands out the wake-up of
+/// the granted seat. Once the grant is stored, that seat may take the value and the pop list, which lie in the slot together.
 /// So the record that the grant serves, if there is one, leaves the pop list first, and then both go into the slot.
 #[inline(always)]
 pub fn grant<T: Kept>(

@@ -16,7 +16,7 @@ use lfm_protocol::kinds::Kind;
 use lfm_protocol::{SeatState, Turn, Why};
 use lfm_words::{Record, unpack_handoff, unpack_link};
 
-/// The oldest record of the pop list in hand.
+/// The oldest record of the pop list, if the seat carries the list.
 pub fn oldest_of<T: Drop>(moving: &Option<MovingBox<T>>) -> Option<Record>
     ensures { result ≡ oldest_in moving.now }
 {
@@ -26,7 +26,7 @@ pub fn oldest_of<T: Drop>(moving: &Option<MovingBox<T>>) -> Option<Record>
     }
 }
 
-/// Takes the oldest record out of the pop list, if the step at the seat's point takes it.
+/// Takes the oldest record out of the pop list, if the step at the seat's point serves it.
 pub fn drop_oldest<T: Drop>(moving: &mut Option<MovingBox<T>>, standing: &SeatState)
     ensures { moving.new ≡ dropped standing.now moving.old }
 {
@@ -39,7 +39,7 @@ pub fn drop_oldest<T: Drop>(moving: &mut Option<MovingBox<T>>, standing: &SeatSt
     }
 }
 
-/// Puts the record of a link that was loaded into the pop list.
+/// Adds the record of a loaded link to the pop list.
 pub fn add_loaded<T: Drop>(
     moving: &mut Option<MovingBox<T>>,
     number: u64,

@@ -20,7 +20,7 @@ pub mod ShortCalls
 pub mod SightFacts
 pub mod Sights
 pub mod Spending
-pub mod StraightPoints
+pub mod FastPathPoints
 pub mod TryEnds
 pub mod WakeUps
 pub mod Woken

@@ -3,7 +3,7 @@ pub mod Runs
 pub mod SeatSteps
 pub mod Sight
 pub mod Trails
-pub mod Straight
+pub mod FastPath
 pub mod FailedPushes
 pub mod Due
 pub mod Pushes

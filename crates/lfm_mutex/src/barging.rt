@@ -11,7 +11,7 @@ ghost use Rattle.lfm_mutex.specs.calls.Woken.{WakesNobody, WokenAsGranted};
 use crate::mutex::Mutex;
 use crate::pace::pause_for;
 use crate::seat::Seat;
-use crate::try_lock::try_free;
+use crate::try_lock::try_without_hold;
 use lfm_model::{How, Locked, Refusal};
 use lfm_table::Kept;
 use lfm_table::layout::wake_at;
@@ -229,7 +229,7 @@ impl<T: Kept> Mutex<T> {
             return None;
         }
         let budget = seat.table_seat.limits.budget;
-        match try_free(self, seat, budget) {
+        match try_without_hold(self, seat, budget) {
             Ok(Locked::Held(how)) => Some(how),
             Ok(Locked::Again(_)) => unreachable!(),
             Err(_) => None,

@@ -81,7 +81,11 @@ pub fn finish<T: Kept>(mutex: &Mutex<T>, seat: &mut Seat<T>) -> (Turn, Option<Wa
 
 /// Makes a call that releases nothing.
 #[inline(never)]
-pub fn run<T: Kept>(mutex: &Mutex<T>, seat: &mut Seat<T>, call: Call) -> (Turn, Option<WakeUp>)
+pub fn begin_and_finish<T: Kept>(
+    mutex: &Mutex<T>,
+    seat: &mut Seat<T>,
+    call: Call,
+) -> (Turn, Option<WakeUp>)
     requires belongs { OfMutex seat.old mutex.now }
     requires keeps { is_releasing (errand_of call) ≡ false }
     ensures belongs { Beside seat.old seat.new }
@@ -102,7 +106,11 @@ pub fn run<T: Kept>(mutex: &Mutex<T>, seat: &mut Seat<T>, call: Call) -> (Turn, 
 
 /// Makes a call that releases the mutex.
 #[inline(never)]
-pub fn release<T: Kept>(mutex: &Mutex<T>, seat: &mut Seat<T>, call: Call) -> (Turn, Option<WakeUp>)
+pub fn begin_and_release<T: Kept>(
+    mutex: &Mutex<T>,
+    seat: &mut Seat<T>,
+    call: Call,
+) -> (Turn, Option<WakeUp>)
     requires belongs { OfMutex seat.old mutex.now }
     requires gives { is_releasing (errand_of call) ≡ true }
     requires leaves { MayRelease T.follows T.fits (sight seat.old) }
@@ -116,13 +124,13 @@ pub fn release<T: Kept>(mutex: &Mutex<T>, seat: &mut Seat<T>, call: Call) -> (Tu
     ensures wakes { Wakes mutex.now.limits.seats result.1 (sight seat.old).trail (sight seat.new).trail }
 {
     match begin_call(mutex, seat, call) {
-        Turn::Open => finish_release(mutex, seat),
+        Turn::Open => finish_from_owner_store(mutex, seat),
         told => (told, None),
     }
 }
 
 /// Finishes an open release. Its first step is the store that ends the hold.
-fn finish_release<T: Kept>(mutex: &Mutex<T>, seat: &mut Seat<T>) -> (Turn, Option<WakeUp>)
+fn finish_from_owner_store<T: Kept>(mutex: &Mutex<T>, seat: &mut Seat<T>) -> (Turn, Option<WakeUp>)
     requires belongs { seat.old.table_seat.place.table_id ≡ mutex.now.table.table_id }
     requires gives { (r : Releaser) × (seat.old.standing.point ≡ ReleaseOwnerStore r) }
     requires leaves { MayBeLeft T.follows T.fits seat.old.table_seat.moving seat.old.table_seat.place.me.0 }

@@ -23,8 +23,64 @@ use lfm_table::shared_table::{AtomicSeat, SharedTable};
 use lfm_table::{Kept, TableSeat};
 use std::marker::Brand;
 
+impl<T: Kept> Mutex<T> {
+    /// The first seat, from seat 1 on, that keeps the mutex from being closed with these seats, and why: no seat with its
+    /// number is among them, or one holds, or one sleeps. None if there is no such seat. It goes by the numbers alone, so
+    /// unlike in `close` the seats may be another mutex's. It compares each seat number of the mutex with each seat, takes no
+    /// memory and never waits.
+    pub fn missing<P: Holder<T>>(&self, seats: &Vec<P>) -> Option<Missing>
+        ensures { MatchOption result (AllStand (λ p. sight (P.seat_of p)) seats.now.items (limits_of self.now).seats) (FirstMissing (λ p. sight (P.seat_of p)) seats.now.items (limits_of self.now).seats) }
+    {
+        for i in 0..self.limits.seats {
+            if let Some(missing) = missing_at::<T, P>(seats, i + 1) {
+                return Some(missing);
+            }
+        }
+        None
+    }
+
+    /// Gives the guarded value back, and ends the mutex, if all seats are there and none holds, sleeps or is in a call. The
+    /// value is what the last hold of all left, which is that of the seat with the greatest `ended`, or the opening value if no
+    /// hold has ended. The trails are then the seats' parts of one run of the core, which begins at the start and ends free.
+    /// Each seat knew that run up to its own last step or load for `owner`. Otherwise it hands back the mutex and the seats,
+    /// and names the first seat that keeps it from closing, and why. It compares each seat number of the mutex with each seat
+    /// handed in, takes no memory and never waits.
+    pub fn close<P: Holder<T>>(self, seats: Vec<P>) -> Result<T, (Mutex<T>, Vec<P>, Missing)>
+        requires belongs { (j : ℕ) (s : _) → get_elem? seats.items j ≡ some s → OfMutex (P.seat_of s) self }
+        ensures missing { IfErr result (λ e. (e.0 ≡ self) × (e.1 ≡ seats) × FirstMissing (λ p. sight (P.seat_of p)) seats.items (limits_of self).seats e.2) }
+        ensures all { IfOk result (λ _. AllStand (λ p. sight (P.seat_of p)) seats.items (limits_of self).seats) }
+        ensures sized { IfOk result (λ _. vec_len seats ≡ (limits_of self).seats) }
+        ensures last { IfOk result (λ v. LeftLast (λ p. sight (P.seat_of p)) seats.items v) }
+        ensures latest { IfOk result (λ v. LeftByLastHold (λ p. sight (P.seat_of p)) seats.items v) }
+        ensures reached { IfOk result (λ v. (j : ℕ) (s : _) (l : T) → get_elem? seats.items j ≡ some s → (sight (P.seat_of s)).last ≡ Some l → Reached T.follows (sight (P.seat_of s)).seats (sight (P.seat_of s)).number l v) }
+        ensures run { IfOk result (λ _. HaveRun (λ p. sight (P.seat_of p)) (λ p. past_of (P.seat_of p)) (limits_of self) seats.items) }
+    {
+        if let Some(missing) = self.missing(&seats) {
+            return Err((self, seats, missing));
+        }
+        let Some(at) = index_of_seat_1::<T, P>(&seats) else {
+            unreachable!()
+        };
+        let Mutex {
+            table,
+            limits: _,
+            pace: _,
+        } = self;
+        let mut seats = seats;
+        let mut root = into_place::<T, P>(seats.remove(at));
+        while let Some(seat) = seats.pop() {
+            let place = into_place::<T, P>(seat);
+            retire::<T, Brand>(&table, &mut root, place);
+        }
+        let Some(moving) = take_slot(table.close_with(root)) else {
+            unreachable!()
+        };
+        Ok(moving.into_value())
+    }
+}
+
 /// Why this seat can't be joined.
-fn hinders<T: Kept>(seat: &Seat<T>) -> Option<Missing>
+fn missing_if_seat<T: Kept>(seat: &Seat<T>) -> Option<Missing>
     ensures { MatchOption result (Idle (sight seat.now)) (λ m. Hinders m (sight seat.now)) }
 {
     if seat.depth() != 0 {
@@ -44,14 +100,14 @@ fn number_of<T: Kept, P: Holder<T>>(holder: &P) -> u64
 }
 
 /// Why the holder's seat can't be joined.
-fn hinders_one<T: Kept, P: Holder<T>>(holder: &P) -> Option<Missing>
+fn missing_of<T: Kept, P: Holder<T>>(holder: &P) -> Option<Missing>
     ensures { MatchOption result (Idle (sight (P.seat_of holder.now))) (λ m. Hinders m (sight (P.seat_of holder.now))) }
 {
-    hinders(holder.seat())
+    missing_if_seat(holder.seat())
 }
 
 /// What keeps the seat with this number from being joined.
-fn hinders_at<T: Kept, P: Holder<T>>(seats: &Vec<P>, number: u64) -> Option<Missing>
+fn missing_at<T: Kept, P: Holder<T>>(seats: &Vec<P>, number: u64) -> Option<Missing>
     requires number { IsSeatNo number }
     ensures { MatchOption result (Stands (λ p. sight (P.seat_of p)) seats.now.items number) (λ m. (named m ≡ number) × Hindered (λ p. sight (P.seat_of p)) seats.now.items m) }
 {
@@ -60,7 +116,7 @@ fn hinders_at<T: Kept, P: Holder<T>>(seats: &Vec<P>, number: u64) -> Option<Miss
         if number_of::<T, P>(seat) != number {
             continue;
         }
-        if let Some(missing) = hinders_one::<T, P>(seat) {
+        if let Some(missing) = missing_of::<T, P>(seat) {
             return Some(missing);
         }
         found = true;
@@ -91,7 +147,7 @@ fn into_place<T: Kept, P: Holder<T>>(holder: P) -> AtomicSeat<T>
 }
 
 /// The index of seat 1.
-fn first_place<T: Kept, P: Holder<T>>(seats: &Vec<P>) -> Option<usize>
+fn index_of_seat_1<T: Kept, P: Holder<T>>(seats: &Vec<P>) -> Option<usize>
     ensures { MatchOption result (Lacks (λ p. sight (P.seat_of p)) seats.now.items 1) (λ i. (s : _) × (get_elem? seats.now.items i ≡ some s) × ((P.seat_of s).table_seat.number ≡ 1)) }
 {
     let mut place = 0usize;
@@ -127,60 +183,4 @@ fn take_slot<T: Kept>(closed: ClosedTable<T>) -> Option<MovingBox<T>>
     ensures { get_elem? closed.slots 0 ≡ some result }
 {
     closed.into_slot()
-}
-
-impl<T: Kept> Mutex<T> {
-    /// The first seat, from seat 1 on, that keeps the mutex from being closed with these seats, and why: no seat with its
-    /// number is among them, or one holds, or one sleeps. None if there is no such seat. It goes by the numbers alone, so
-    /// unlike in `close` the seats may be another mutex's. It compares each seat number of the mutex with each seat, takes no
-    /// memory and never waits.
-    pub fn missing<P: Holder<T>>(&self, seats: &Vec<P>) -> Option<Missing>
-        ensures { MatchOption result (AllStand (λ p. sight (P.seat_of p)) seats.now.items (limits_of self.now).seats) (FirstMissing (λ p. sight (P.seat_of p)) seats.now.items (limits_of self.now).seats) }
-    {
-        for i in 0..self.limits.seats {
-            if let Some(missing) = hinders_at::<T, P>(seats, i + 1) {
-                return Some(missing);
-            }
-        }
-        None
-    }
-
-    /// Gives the guarded value back, and ends the mutex, if all seats are there and none holds, sleeps or is in a call. The
-    /// value is what the last hold of all left, which is that of the seat with the greatest `ended`, or the opening value if no
-    /// hold has ended. The trails are then the seats' parts of one run of the core, which begins at the start and ends free.
-    /// Each seat knew that run up to its own last step or load for `owner`. Otherwise it hands back the mutex and the seats,
-    /// and names the first seat that keeps it from closing, and why. It compares each seat number of the mutex with each seat
-    /// handed in, takes no memory and never waits.
-    pub fn close<P: Holder<T>>(self, seats: Vec<P>) -> Result<T, (Mutex<T>, Vec<P>, Missing)>
-        requires belongs { (j : ℕ) (s : _) → get_elem? seats.items j ≡ some s → OfMutex (P.seat_of s) self }
-        ensures missing { IfErr result (λ e. (e.0 ≡ self) × (e.1 ≡ seats) × FirstMissing (λ p. sight (P.seat_of p)) seats.items (limits_of self).seats e.2) }
-        ensures all { IfOk result (λ _. AllStand (λ p. sight (P.seat_of p)) seats.items (limits_of self).seats) }
-        ensures sized { IfOk result (λ _. vec_len seats ≡ (limits_of self).seats) }
-        ensures last { IfOk result (λ v. LeftLast (λ p. sight (P.seat_of p)) seats.items v) }
-        ensures latest { IfOk result (λ v. LeftByLastHold (λ p. sight (P.seat_of p)) seats.items v) }
-        ensures reached { IfOk result (λ v. (j : ℕ) (s : _) (l : T) → get_elem? seats.items j ≡ some s → (sight (P.seat_of s)).last ≡ Some l → Reached T.follows (sight (P.seat_of s)).seats (sight (P.seat_of s)).number l v) }
-        ensures run { IfOk result (λ _. HaveRun (λ p. sight (P.seat_of p)) (λ p. past_of (P.seat_of p)) (limits_of self) seats.items) }
-    {
-        if let Some(missing) = self.missing(&seats) {
-            return Err((self, seats, missing));
-        }
-        let Some(at) = first_place::<T, P>(&seats) else {
-            unreachable!()
-        };
-        let Mutex {
-            table,
-            limits: _,
-            pace: _,
-        } = self;
-        let mut seats = seats;
-        let mut root = into_place::<T, P>(seats.remove(at));
-        while let Some(seat) = seats.pop() {
-            let place = into_place::<T, P>(seat);
-            retire::<T, Brand>(&table, &mut root, place);
-        }
-        let Some(moving) = take_slot(table.close_with(root)) else {
-            unreachable!()
-        };
-        Ok(moving.into_value())
-    }
 }

@@ -12,12 +12,12 @@ ghost use Rattle.lfm_mutex.specs.calls.FailedPushes.{Spends, MakesBesideFailures
 ghost use Rattle.lfm_mutex.specs.calls.RunGoesOn.{RunGoesOnFrom};
 ghost use Rattle.lfm_mutex.specs.calls.Runs.{errand, locking};
 ghost use Rattle.lfm_mutex.specs.calls.Sight.{sight, Asks, LocksWaiting};
-ghost use Rattle.lfm_mutex.specs.calls.Straight.{Course, ComesTo};
+ghost use Rattle.lfm_mutex.specs.calls.FastPath.{Course, ComesTo};
 ghost use Rattle.lfm_mutex.specs.calls.Trails.{MakesCall, LocksBy};
 ghost use Rattle.lfm_mutex.specs.calls.WakeUps.{Wakes};
 ghost use Rattle.lfm_mutex.specs.calls.Woken.{WakesNobody, WokenAsGranted};
 
-use crate::calls::{asleep, finish, run, stop_at};
+use crate::calls::{asleep, begin_and_finish, finish, stop_at};
 use crate::mutex::Mutex;
 use crate::push::{Pushed, push};
 use crate::seat::Seat;
@@ -29,62 +29,87 @@ use lfm_table::steps::{gain, keep_held, load_other_owner};
 use lfm_table::{Kept, WakeUp};
 use std::sync::Wait;
 
-/// The slow path of an open `lock`, from the seat's point to the end of the call.
-#[inline(always)]
-fn ask_on<T: Kept>(mutex: &Mutex<T>, seat: &mut Seat<T>) -> (Asked, Option<WakeUp>)
-    requires belongs { seat.old.table_seat.place.table_id ≡ mutex.now.table.table_id }
-    requires locks { errand seat.old.standing.point ≡ locking }
-    ensures belongs { seat.new.table_seat.place.table_id ≡ seat.old.table_seat.place.table_id }
-    ensures woken { WakesNobody seat.old seat.new }
-    ensures same { (seat.new.table_seat.number ≡ seat.old.table_seat.number) × (seat.new.table_seat.limits ≡ seat.old.table_seat.limits) }
-    ensures made { Course T.follows T.fits seat.old.table_seat.number seat.old.standing seat.old.table_seat.moving seat.old.table_seat.place.me.0 (Ended (Answered.Asked result.0)) seat.new.standing seat.new.table_seat.moving seat.new.table_seat.place.me.0 }
-    ensures spends { Spends (due seat.old.table_seat.limits.seats (length seat.old.table_seat.place.me.0.popped) seat.old.standing.point) 0 seat.old.table_seat.place.me.0.trail seat.new.table_seat.place.me.0.trail }
-    ensures wakes { Wakes seat.old.table_seat.limits.seats result.1 seat.old.table_seat.place.me.0.trail seat.new.table_seat.place.me.0.trail }
-{
-    let (turn, wake_up) = finish(mutex, seat);
-    match turn {
-        Turn::Ended(Answer::Asked(asked)) => (asked, wake_up),
-        _ => unreachable!(),
+impl<T: Kept> Mutex<T> {
+    /// `lock` up to the point at which it would sleep: gains the mutex, deepens the hold, or queues the seat, which then sleeps
+    /// until a receive tells it that it holds. A seat that gains the mutex or queues is charged one take.
+    ///
+    /// Refuses, in this order: Asleep (the seat sleeps, or a call of it is open), DepthFull (it holds at depth 65,535), Spent
+    /// (it doesn't hold, and has no take left). It never waits. If it takes over a posted hand-off and a record older than its
+    /// own is queued, it grants the mutex to the seat of that record and wakes it. It makes at most 9 atomic steps more than
+    /// the mutex has seats, and two for each exchange of the push word that fails because another seat has changed the word. As
+    /// `lock` of LFthreads' mutex and of OSv's lfmutex.
+    #[inline(always)]
+    pub fn ask(&self, seat: &mut Seat<T>) -> Result<Asked, Refusal>
+        requires belongs { OfMutex seat.old self.now }
+        ensures belongs { Beside seat.old seat.new }
+        ensures woken { WokenAsGranted seat.old seat.new }
+        ensures run { RunGoesOnFrom seat.old seat.new }
+        ensures asks { Asks T.follows T.fits (limits_of self.now).budget (sight seat.old) (sight seat.new) result }
+        ensures steps { MakesCall (limits_of self.now) (λ x. Answered.Asked x) CallNow.Lock (sight seat.old) (sight seat.new) result }
+        ensures bounded { MakesBesideFailures ((limits_of self.now).seats + 9) (sight seat.old) (sight seat.new) }
+    {
+        let (asked, wake_up) = self.ask_without_waking(seat);
+        self.wake_seat(wake_up, &mut seat.woken);
+        asked
     }
-}
 
-/// Finishes an open `lock` that found others in the count: it loads the owner, and pushes the seat's record. The seat doesn't
-/// hold.
-#[inline(never)]
-fn queue<T: Kept>(mutex: &Mutex<T>, seat: &mut Seat<T>) -> (Asked, Option<WakeUp>)
-    requires belongs { seat.old.table_seat.place.table_id ≡ mutex.now.table.table_id }
-    requires stands { seat.old.standing.point ≡ LockOwnerLoad }
-    requires flat { seat.old.standing.depth ≡ 0 }
-    ensures belongs { seat.new.table_seat.place.table_id ≡ seat.old.table_seat.place.table_id }
-    ensures woken { WakesNobody seat.old seat.new }
-    ensures same { (seat.new.table_seat.number ≡ seat.old.table_seat.number) × (seat.new.table_seat.limits ≡ seat.old.table_seat.limits) }
-    ensures made { Course T.follows T.fits seat.old.table_seat.number seat.old.standing seat.old.table_seat.moving seat.old.table_seat.place.me.0 (Ended (Answered.Asked result.0)) seat.new.standing seat.new.table_seat.moving seat.new.table_seat.place.me.0 }
-    ensures spends { Spends (due seat.old.table_seat.limits.seats (length seat.old.table_seat.place.me.0.popped) seat.old.standing.point) 0 seat.old.table_seat.place.me.0.trail seat.new.table_seat.place.me.0.trail }
-    ensures wakes { Wakes seat.old.table_seat.limits.seats result.1 seat.old.table_seat.place.me.0.trail seat.new.table_seat.place.me.0.trail }
-{
-    let table = &mutex.table;
-    let mut standing = SeatState {
-        depth: 0,
-        point: Point::LockOwnerLoad,
-        ..seat.standing
-    };
-    load_other_owner(table, &mut seat.table_seat, &standing);
-    standing.point = Point::PushLoad(Pusher::Locker);
-    match push(table, &mut seat.table_seat, &standing, Pusher::Locker) {
-        Pushed::Queued => {
-            seat.standing.point = Point::Asleep(Sleeper::Locker);
-            (Asked::Asleep, None)
+    /// `ask`, with the same answers and refusals, which hands its caller the wake-up of the seat that it granted the mutex, if
+    /// any. The caller has to spend it by `wake`, or to wake that seat's thread by other means.
+    #[inline(always)]
+    pub fn ask_without_waking(&self, seat: &mut Seat<T>) -> (Result<Asked, Refusal>, Option<WakeUp>)
+        requires belongs { OfMutex seat.old self.now }
+        ensures belongs { Beside seat.old seat.new }
+        ensures woken { WakesNobody seat.old seat.new }
+        ensures run { RunGoesOnFrom seat.old seat.new }
+        ensures asks { Asks T.follows T.fits (limits_of self.now).budget (sight seat.old) (sight seat.new) result.0 }
+        ensures steps { MakesCall (limits_of self.now) (λ x. Answered.Asked x) CallNow.Lock (sight seat.old) (sight seat.new) result.0 }
+        ensures bounded { MakesBesideFailures ((limits_of self.now).seats + 9) (sight seat.old) (sight seat.new) }
+        ensures wakes { Wakes (limits_of self.now).seats result.1 (sight seat.old).trail (sight seat.new).trail }
+    {
+        if asleep(&seat.standing) {
+            return ask_slow(self, seat);
         }
-        Pushed::Stopped(point) => {
-            stop_at(&mut seat.standing, point);
-            ask_on(mutex, seat)
+        if seat.standing.depth == 0 {
+            let budget = seat.table_seat.limits.budget;
+            if seat.standing.takes < budget {
+                let (asked, wake_up) = ask_without_hold(self, seat, budget);
+                return (Ok(asked), wake_up);
+            }
+            return ask_slow(self, seat);
+        }
+        if seat.standing.depth < MAX_DEPTH {
+            let (asked, wake_up) = ask_with_hold(self, seat);
+            return (Ok(asked), wake_up);
+        }
+        ask_slow(self, seat)
+    }
+
+    /// Gains the mutex, or deepens the hold: `ask`, and then `receive_lock` if that answered Asleep.
+    ///
+    /// Refuses as `ask`: Asleep, DepthFull, Spent, in this order. It may wake a seat, as `ask` may.
+    #[inline(always)]
+    pub fn lock<R: Wait>(&self, rt: &R, seat: &mut Seat<T>) -> Result<Locked, Refusal>
+        requires belongs { OfMutex seat.old self.now }
+        ensures belongs { Beside seat.old seat.new }
+        ensures woken { WokenAsGranted seat.old seat.new }
+        ensures run { RunGoesOnFrom seat.old seat.new }
+        ensures locks { LocksWaiting T.follows T.fits (limits_of self.now).budget (sight seat.old) (sight seat.new) result }
+        ensures steps { LocksBy (limits_of self.now) (sight seat.old) (sight seat.new) result }
+    {
+        match self.ask(seat)? {
+            Asked::Held(how) => Ok(Locked::Held(how)),
+            Asked::Again(depth) => Ok(Locked::Again(depth)),
+            Asked::Asleep => {
+                let how = self.receive_lock(rt, seat)?;
+                Ok(Locked::Held(how))
+            }
         }
     }
 }
 
 /// Fast path of `ask`: the seat is awake, doesn't hold, and has a take left.
 #[inline(always)]
-pub fn ask_free<T: Kept>(
+pub fn ask_without_hold<T: Kept>(
     mutex: &Mutex<T>,
     seat: &mut Seat<T>,
     budget: u64,
@@ -126,7 +151,7 @@ pub fn ask_free<T: Kept>(
 
 /// Fast path of `ask`: the seat is awake and holds, below the greatest depth.
 #[inline(always)]
-pub fn ask_again<T: Kept>(mutex: &Mutex<T>, seat: &mut Seat<T>) -> (Asked, Option<WakeUp>)
+pub fn ask_with_hold<T: Kept>(mutex: &Mutex<T>, seat: &mut Seat<T>) -> (Asked, Option<WakeUp>)
     requires belongs { OfMutex seat.old mutex.now }
     requires rests { seat.old.standing.point ≡ Rest }
     requires held { 0 < seat.old.standing.depth }
@@ -151,13 +176,13 @@ pub fn ask_again<T: Kept>(mutex: &Mutex<T>, seat: &mut Seat<T>) -> (Asked, Optio
             &mut seat.standing,
             Point::EnterOwnerStore(Entrant::Locker, How::Free),
         );
-        return ask_on(mutex, seat);
+        return finish_ask(mutex, seat);
     }
     standing.point = Point::LockOwnerLoad;
     let owner = keep_held::<OwnerLoad, T>(table, &mut seat.table_seat, &standing);
     if owner != number {
         stop_at(&mut seat.standing, Point::PushLoad(Pusher::Locker));
-        return ask_on(mutex, seat);
+        return finish_ask(mutex, seat);
     }
     standing.point = Point::LockCountSubtract;
     keep_held::<CountSubtract, T>(table, &mut seat.table_seat, &standing);
@@ -165,9 +190,62 @@ pub fn ask_again<T: Kept>(mutex: &Mutex<T>, seat: &mut Seat<T>) -> (Asked, Optio
     (Asked::Again(depth + 1), None)
 }
 
+/// Finishes an open `lock` that found others in the count: it loads the owner, and pushes the seat's record. The seat doesn't
+/// hold.
+#[inline(never)]
+fn queue<T: Kept>(mutex: &Mutex<T>, seat: &mut Seat<T>) -> (Asked, Option<WakeUp>)
+    requires belongs { seat.old.table_seat.place.table_id ≡ mutex.now.table.table_id }
+    requires stands { seat.old.standing.point ≡ LockOwnerLoad }
+    requires flat { seat.old.standing.depth ≡ 0 }
+    ensures belongs { seat.new.table_seat.place.table_id ≡ seat.old.table_seat.place.table_id }
+    ensures woken { WakesNobody seat.old seat.new }
+    ensures same { (seat.new.table_seat.number ≡ seat.old.table_seat.number) × (seat.new.table_seat.limits ≡ seat.old.table_seat.limits) }
+    ensures made { Course T.follows T.fits seat.old.table_seat.number seat.old.standing seat.old.table_seat.moving seat.old.table_seat.place.me.0 (Ended (Answered.Asked result.0)) seat.new.standing seat.new.table_seat.moving seat.new.table_seat.place.me.0 }
+    ensures spends { Spends (due seat.old.table_seat.limits.seats (length seat.old.table_seat.place.me.0.popped) seat.old.standing.point) 0 seat.old.table_seat.place.me.0.trail seat.new.table_seat.place.me.0.trail }
+    ensures wakes { Wakes seat.old.table_seat.limits.seats result.1 seat.old.table_seat.place.me.0.trail seat.new.table_seat.place.me.0.trail }
+{
+    let table = &mutex.table;
+    let mut standing = SeatState {
+        depth: 0,
+        point: Point::LockOwnerLoad,
+        ..seat.standing
+    };
+    load_other_owner(table, &mut seat.table_seat, &standing);
+    standing.point = Point::PushLoad(Pusher::Locker);
+    match push(table, &mut seat.table_seat, &standing, Pusher::Locker) {
+        Pushed::Queued => {
+            seat.standing.point = Point::Asleep(Sleeper::Locker);
+            (Asked::Asleep, None)
+        }
+        Pushed::Stopped(point) => {
+            stop_at(&mut seat.standing, point);
+            finish_ask(mutex, seat)
+        }
+    }
+}
+
+/// The slow path of an open `lock`, from the seat's point to the end of the call.
+#[inline(always)]
+fn finish_ask<T: Kept>(mutex: &Mutex<T>, seat: &mut Seat<T>) -> (Asked, Option<WakeUp>)
+    requires belongs { seat.old.table_seat.place.table_id ≡ mutex.now.table.table_id }
+    requires locks { errand seat.old.standing.point ≡ locking }
+    ensures belongs { seat.new.table_seat.place.table_id ≡ seat.old.table_seat.place.table_id }
+    ensures woken { WakesNobody seat.old seat.new }
+    ensures same { (seat.new.table_seat.number ≡ seat.old.table_seat.number) × (seat.new.table_seat.limits ≡ seat.old.table_seat.limits) }
+    ensures made { Course T.follows T.fits seat.old.table_seat.number seat.old.standing seat.old.table_seat.moving seat.old.table_seat.place.me.0 (Ended (Answered.Asked result.0)) seat.new.standing seat.new.table_seat.moving seat.new.table_seat.place.me.0 }
+    ensures spends { Spends (due seat.old.table_seat.limits.seats (length seat.old.table_seat.place.me.0.popped) seat.old.standing.point) 0 seat.old.table_seat.place.me.0.trail seat.new.table_seat.place.me.0.trail }
+    ensures wakes { Wakes seat.old.table_seat.limits.seats result.1 seat.old.table_seat.place.me.0.trail seat.new.table_seat.place.me.0.trail }
+{
+    let (turn, wake_up) = finish(mutex, seat);
+    match turn {
+        Turn::Ended(Answer::Asked(asked)) => (asked, wake_up),
+        _ => unreachable!(),
+    }
+}
+
 /// The whole of `ask` by the slow path. Only a call that is refused comes here.
 #[inline(always)]
-fn ask_any<T: Kept>(
+fn ask_slow<T: Kept>(
     mutex: &Mutex<T>,
     seat: &mut Seat<T>,
 ) -> (Result<Asked, Refusal>, Option<WakeUp>)
@@ -180,89 +258,11 @@ fn ask_any<T: Kept>(
     ensures bounded { MakesBesideFailures ((limits_of mutex.now).seats + 9) (sight seat.old) (sight seat.new) }
     ensures wakes { Wakes (limits_of mutex.now).seats result.1 (sight seat.old).trail (sight seat.new).trail }
 {
-    let (turn, wake_up) = run(mutex, seat, Call::Lock);
+    let (turn, wake_up) = begin_and_finish(mutex, seat, Call::Lock);
     match turn {
         Turn::Ended(Answer::Asked(asked)) => (Ok(asked), wake_up),
         Turn::Refused(Why::By(refusal)) => (Err(refusal), wake_up),
         Turn::Refused(_) => (Err(Refusal::Asleep), wake_up),
         _ => unreachable!(),
-    }
-}
-
-impl<T: Kept> Mutex<T> {
-    /// `lock` up to the point at which it would sleep: gains the mutex, deepens the hold, or queues the seat, which then sleeps
-    /// until a receive tells it that it holds. A seat that gains the mutex or queues is charged one take.
-    ///
-    /// Refuses, in this order: Asleep (the seat sleeps, or a call of it is open), DepthFull (it holds at depth 65,535), Spent
-    /// (it doesn't hold, and has no take left). It never waits. If it takes over a posted hand-off and a record older than its
-    /// own is queued, it grants the mutex to the seat of that record and wakes it. It makes at most 9 atomic steps more than
-    /// the mutex has seats, and two for each exchange of the push word that fails because another seat has changed the word. As
-    /// `lock` of LFthreads' mutex and of OSv's lfmutex.
-    #[inline(always)]
-    pub fn ask(&self, seat: &mut Seat<T>) -> Result<Asked, Refusal>
-        requires belongs { OfMutex seat.old self.now }
-        ensures belongs { Beside seat.old seat.new }
-        ensures woken { WokenAsGranted seat.old seat.new }
-        ensures run { RunGoesOnFrom seat.old seat.new }
-        ensures asks { Asks T.follows T.fits (limits_of self.now).budget (sight seat.old) (sight seat.new) result }
-        ensures steps { MakesCall (limits_of self.now) (λ x. Answered.Asked x) CallNow.Lock (sight seat.old) (sight seat.new) result }
-        ensures bounded { MakesBesideFailures ((limits_of self.now).seats + 9) (sight seat.old) (sight seat.new) }
-    {
-        let (asked, wake_up) = self.ask_without_waking(seat);
-        self.wake_seat(wake_up, &mut seat.woken);
-        asked
-    }
-
-    /// `ask`, with the same answers and refusals, which hands its caller the wake-up of the seat that it granted the mutex, if
-    /// any. The caller has to spend it by `wake`, or to wake that seat's thread by other means.
-    #[inline(always)]
-    pub fn ask_without_waking(&self, seat: &mut Seat<T>) -> (Result<Asked, Refusal>, Option<WakeUp>)
-        requires belongs { OfMutex seat.old self.now }
-        ensures belongs { Beside seat.old seat.new }
-        ensures woken { WakesNobody seat.old seat.new }
-        ensures run { RunGoesOnFrom seat.old seat.new }
-        ensures asks { Asks T.follows T.fits (limits_of self.now).budget (sight seat.old) (sight seat.new) result.0 }
-        ensures steps { MakesCall (limits_of self.now) (λ x. Answered.Asked x) CallNow.Lock (sight seat.old) (sight seat.new) result.0 }
-        ensures bounded { MakesBesideFailures ((limits_of self.now).seats + 9) (sight seat.old) (sight seat.new) }
-        ensures wakes { Wakes (limits_of self.now).seats result.1 (sight seat.old).trail (sight seat.new).trail }
-    {
-        if asleep(&seat.standing) {
-            return ask_any(self, seat);
-        }
-        if seat.standing.depth == 0 {
-            let budget = seat.table_seat.limits.budget;
-            if seat.standing.takes < budget {
-                let (asked, wake_up) = ask_free(self, seat, budget);
-                return (Ok(asked), wake_up);
-            }
-            return ask_any(self, seat);
-        }
-        if seat.standing.depth < MAX_DEPTH {
-            let (asked, wake_up) = ask_again(self, seat);
-            return (Ok(asked), wake_up);
-        }
-        ask_any(self, seat)
-    }
-
-    /// Gains the mutex, or deepens the hold: `ask`, and then `receive_lock` if that answered Asleep.
-    ///
-    /// Refuses as `ask`: Asleep, DepthFull, Spent, in this order. It may wake a seat, as `ask` may.
-    #[inline(always)]
-    pub fn lock<R: Wait>(&self, rt: &R, seat: &mut Seat<T>) -> Result<Locked, Refusal>
-        requires belongs { OfMutex seat.old self.now }
-        ensures belongs { Beside seat.old seat.new }
-        ensures woken { WokenAsGranted seat.old seat.new }
-        ensures run { RunGoesOnFrom seat.old seat.new }
-        ensures locks { LocksWaiting T.follows T.fits (limits_of self.now).budget (sight seat.old) (sight seat.new) result }
-        ensures steps { LocksBy (limits_of self.now) (sight seat.old) (sight seat.new) result }
-    {
-        match self.ask(seat)? {
-            Asked::Held(how) => Ok(Locked::Held(how)),
-            Asked::Again(depth) => Ok(Locked::Again(depth)),
-            Asked::Asleep => {
-                let how = self.receive_lock(rt, seat)?;
-                Ok(Locked::Held(how))
-            }
-        }
     }
 }

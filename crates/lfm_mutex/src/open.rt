@@ -29,52 +29,6 @@ use std::snapshot::Snapshot;
 /// The pace of a new mutex is for this number of processors, since `new` cannot ask the system.
 const USUAL_PROCESSORS: u64 = 8;
 
-/// A seat that has done nothing.
-fn at_rest() -> SeatState
-    ensures { result ≡ absent }
-{
-    SeatState {
-        depth: 0,
-        takes: 0,
-        posts: 0,
-        point: Point::Rest,
-    }
-}
-
-/// The table of a mutex that nobody holds or wants, and its first seat.
-fn laid_out<T: Kept>(
-    alloc: Global,
-    limits: Limits,
-    value: T,
-) -> Result<(SharedTable<T>, AtomicSeat<T>), NewFault>
-    requires allowed { are_in_limits limits.seats limits.budget ≡ true }
-    requires fits { T.fits value 0 }
-    ensures ok { IfOk result (λ r. (r.0.table_id.words ≡ 4 + 2 * limits.seats) × (r.0.table_id.slots ≡ 1) × (r.1.table_id ≡ r.0.table_id) × (r.1.id ≡ 0) × (r.1.me ≡ (first_view limits value, []))) }
-    ensures err { IfErr result (λ e. e ≡ NewFault.Memory) }
-{
-    let about = Key {
-        limits,
-        opening: Snapshot::of(&value),
-    };
-    let Ok(popped) = PopList::new(alloc, limits.seats) else {
-        return Err(NewFault::Memory);
-    };
-    let Ok(moving) = MovingBox::new(alloc, popped, value) else {
-        return Err(NewFault::Memory);
-    };
-    let mut slots = Vec::new(alloc);
-    let Ok(()) = slots.push(Some(moving)) else {
-        return Err(NewFault::Memory);
-    };
-    let Ok(words) = Vec::from_elem(alloc, 0u64, 4 + 2 * limits.seats as usize) else {
-        return Err(NewFault::Memory);
-    };
-    let Ok(laid) = SharedTable::new(alloc, words.as_slice(), slots, &about) else {
-        return Err(NewFault::Memory);
-    };
-    Ok(laid)
-}
-
 impl<T: Kept> Mutex<T> {
     /// A mutex round this value, and its seats in order, numbered from 1. `seats` is 1 to 4,095, and `budget`, how many takes
     /// each seat may make, 1 to 2^36. The value has to suit a mutex that has had no queued take. The pace is the usual one
@@ -104,7 +58,7 @@ impl<T: Kept> Mutex<T> {
         let Ok(mut all) = Vec::with_capacity(alloc, seats as usize) else {
             return Err(NewFault::Memory);
         };
-        let (table, mut root) = match laid_out(alloc, limits, value) {
+        let (table, mut root) = match new_table(alloc, limits, value) {
             Ok(laid) => laid,
             Err(fault) => return Err(fault),
         };
@@ -141,4 +95,50 @@ impl<T: Kept> Mutex<T> {
         };
         Ok((mutex, all))
     }
+}
+
+/// A seat that has done nothing.
+fn at_rest() -> SeatState
+    ensures { result ≡ absent }
+{
+    SeatState {
+        depth: 0,
+        takes: 0,
+        posts: 0,
+        point: Point::Rest,
+    }
+}
+
+/// The table of a mutex that nobody holds or wants, and its first seat.
+fn new_table<T: Kept>(
+    alloc: Global,
+    limits: Limits,
+    value: T,
+) -> Result<(SharedTable<T>, AtomicSeat<T>), NewFault>
+    requires allowed { are_in_limits limits.seats limits.budget ≡ true }
+    requires fits { T.fits value 0 }
+    ensures ok { IfOk result (λ r. (r.0.table_id.words ≡ 4 + 2 * limits.seats) × (r.0.table_id.slots ≡ 1) × (r.1.table_id ≡ r.0.table_id) × (r.1.id ≡ 0) × (r.1.me ≡ (first_view limits value, []))) }
+    ensures err { IfErr result (λ e. e ≡ NewFault.Memory) }
+{
+    let about = Key {
+        limits,
+        opening: Snapshot::of(&value),
+    };
+    let Ok(popped) = PopList::new(alloc, limits.seats) else {
+        return Err(NewFault::Memory);
+    };
+    let Ok(moving) = MovingBox::new(alloc, popped, value) else {
+        return Err(NewFault::Memory);
+    };
+    let mut slots = Vec::new(alloc);
+    let Ok(()) = slots.push(Some(moving)) else {
+        return Err(NewFault::Memory);
+    };
+    let Ok(words) = Vec::from_elem(alloc, 0u64, 4 + 2 * limits.seats as usize) else {
+        return Err(NewFault::Memory);
+    };
+    let Ok(laid) = SharedTable::new(alloc, words.as_slice(), slots, &about) else {
+        return Err(NewFault::Memory);
+    };
+    Ok(laid)
 }

@@ -3,7 +3,7 @@
 ghost use Rattle.std.specs.Prelude.{◌≡◌, ℕ};
 ghost use Rattle.lfm_protocol.specs.declared.points.Point.{Point as PointNow};
 ghost use Rattle.lfm_protocol.specs.declared.points.Point.TheVariants.{PushLoad};
-ghost use Rattle.lfm_table.specs.Straight.{IsSame, SeatFits};
+ghost use Rattle.lfm_table.specs.FastPath.{IsSame, SeatFits};
 ghost use Rattle.lfm_mutex.specs.calls.Pushes.{PlainCourse, push_end};
 ghost use Rattle.lfm_mutex.specs.calls.Runs.{errand, pushes};
 ghost use Rattle.lfm_mutex.specs.declared.push.Pushed.{Pushed as PushedNow};

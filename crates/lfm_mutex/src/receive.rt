@@ -9,11 +9,11 @@ ghost use Rattle.lfm_protocol.specs.After.{how_granted};
 ghost use Rattle.lfm_mutex.specs.Belongs.{Beside, OfMutex, limits_of};
 ghost use Rattle.lfm_mutex.specs.calls.RunGoesOn.{RunGoesOnFrom};
 ghost use Rattle.lfm_mutex.specs.calls.Sight.{sight, ReceivesLock, Receives};
-ghost use Rattle.lfm_mutex.specs.calls.Straight.{ComesTo};
+ghost use Rattle.lfm_mutex.specs.calls.FastPath.{ComesTo};
 ghost use Rattle.lfm_mutex.specs.calls.Trails.{ReceivesBy, MakesAtMost, MakesCall};
 ghost use Rattle.lfm_mutex.specs.calls.Woken.{WakesNobody, WokenAsGranted};
 
-use crate::calls::run;
+use crate::calls::begin_and_finish;
 use crate::mutex::Mutex;
 use crate::pace::pause;
 use crate::seat::Seat;
@@ -27,53 +27,6 @@ use lfm_table::steps::{gain_by_grant, keep, keep_held};
 use lfm_table::wake_words::{FIRST_GRANT, stamp_in};
 use lfm_table::{Kept, WakeUp};
 use std::sync::Wait;
-
-/// How the mutex is gained by a grant of this stamp.
-fn how_by(stamp: u64) -> How
-    ensures { result ≡ how_granted stamp }
-{
-    if stamp == 0 {
-        How::Free
-    } else {
-        How::Queued(stamp)
-    }
-}
-
-/// `try_receive` of a seat that sleeps.
-#[inline(always)]
-pub fn receive_asleep<T: Kept>(
-    mutex: &Mutex<T>,
-    seat: &mut Seat<T>,
-    sleeper: Sleeper,
-) -> Option<How>
-    requires belongs { OfMutex seat.old mutex.now }
-    requires sleeps { seat.old.standing.point ≡ Asleep sleeper }
-    requires flat { seat.old.standing.depth ≡ 0 }
-    ensures belongs { Beside seat.old seat.new }
-    ensures woken { WakesNobody seat.old seat.new }
-    ensures run { RunGoesOnFrom seat.old seat.new }
-    ensures made { ComesTo T.follows T.fits (limits_of mutex.now) CallNow.Receive (sight seat.old) (sight seat.new) (Ended (Answered.Got result)) }
-{
-    let table = &mutex.table;
-    let mut standing = SeatState {
-        depth: 0,
-        point: Point::ReceiveWakeLoad(sleeper),
-        ..seat.standing
-    };
-    let found = gain_by_grant(table, &mut seat.table_seat, &standing);
-    if found < FIRST_GRANT {
-        return None;
-    }
-    let stamp = stamp_in(found);
-    standing.point = Point::ReceiveWakeStore(stamp);
-    keep::<WakeStore, T>(table, &mut seat.table_seat, &standing);
-    seat.standing.depth = 1;
-    seat.standing.point = Point::Rest;
-    let how = how_by(stamp);
-    standing.point = Point::EnterOwnerStore(Entrant::Receiver, how);
-    keep_held::<OwnerStore, T>(table, &mut seat.table_seat, &standing);
-    Some(how)
-}
 
 impl<T: Kept> Mutex<T> {
     /// Waits until the seat, which sleeps, is granted the mutex, and answers how it came to hold. It makes a receive, then
@@ -156,12 +109,59 @@ impl<T: Kept> Mutex<T> {
                 return Ok(receive_asleep(self, seat, sleeper));
             }
         }
-        let (turn, wake_up) = run(self, seat, Call::Receive);
+        let (turn, wake_up) = begin_and_finish(self, seat, Call::Receive);
         WakeUp::expect_none(wake_up);
         match turn {
             Turn::Ended(Answer::Got(got)) => Ok(got),
             Turn::Refused(_) => Err(Refusal::NotWaiting),
             _ => unreachable!(),
         }
+    }
+}
+
+/// `try_receive` of a seat that sleeps.
+#[inline(always)]
+pub fn receive_asleep<T: Kept>(
+    mutex: &Mutex<T>,
+    seat: &mut Seat<T>,
+    sleeper: Sleeper,
+) -> Option<How>
+    requires belongs { OfMutex seat.old mutex.now }
+    requires sleeps { seat.old.standing.point ≡ Asleep sleeper }
+    requires flat { seat.old.standing.depth ≡ 0 }
+    ensures belongs { Beside seat.old seat.new }
+    ensures woken { WakesNobody seat.old seat.new }
+    ensures run { RunGoesOnFrom seat.old seat.new }
+    ensures made { ComesTo T.follows T.fits (limits_of mutex.now) CallNow.Receive (sight seat.old) (sight seat.new) (Ended (Answered.Got result)) }
+{
+    let table = &mutex.table;
+    let mut standing = SeatState {
+        depth: 0,
+        point: Point::ReceiveWakeLoad(sleeper),
+        ..seat.standing
+    };
+    let found = gain_by_grant(table, &mut seat.table_seat, &standing);
+    if found < FIRST_GRANT {
+        return None;
+    }
+    let stamp = stamp_in(found);
+    standing.point = Point::ReceiveWakeStore(stamp);
+    keep::<WakeStore, T>(table, &mut seat.table_seat, &standing);
+    seat.standing.depth = 1;
+    seat.standing.point = Point::Rest;
+    let how = how_by(stamp);
+    standing.point = Point::EnterOwnerStore(Entrant::Receiver, how);
+    keep_held::<OwnerStore, T>(table, &mut seat.table_seat, &standing);
+    Some(how)
+}
+
+/// How the mutex is gained by a grant of this stamp.
+fn how_by(stamp: u64) -> How
+    ensures { result ≡ how_granted stamp }
+{
+    if stamp == 0 {
+        How::Free
+    } else {
+        How::Queued(stamp)
     }
 }

@@ -13,27 +13,6 @@ use lfm_threads::{NotStarted, share};
 use std::sync::Wait;
 use std::thread::Threads;
 
-/// Makes this number of rounds with the seat, or fewer if one is refused.
-fn make_rounds<T: Kept, F: Fn(u64, &mut Seat<T>) -> Result<(), Refusal>>(
-    mutex: &Mutex<T>,
-    mut seat: Seat<T>,
-    rounds: u64,
-    f: &F,
-) -> Seat<T>
-    requires belongs { OfMutex seat mutex.now }
-    requires callable { MayRound F.Fn f.now rounds mutex.now }
-    requires keeps { KeepsRound F.Fn f.now rounds mutex.now }
-    ensures { HasRounded F.Fn f.now rounds mutex.now seat result }
-{
-    let _mutex = mutex;
-    'rounds: for round in 0..rounds {
-        if f(round, &mut seat).is_err() {
-            return seat;
-        }
-    }
-    seat
-}
-
 impl<T: Kept> Mutex<T> {
     /// Starts a thread for each seat. Each thread calls the closure with its round, from 0 to `rounds - 1`, and its seat, and
     /// stops early at the first Err. It joins all threads, and returns all seats, in their order. It sleeps until all threads
@@ -76,4 +55,25 @@ impl<T: Kept> Mutex<T> {
             { make_rounds(shared, seat, rounds, f) },
         )
     }
+}
+
+/// Makes this number of rounds with the seat, or fewer if one is refused.
+fn make_rounds<T: Kept, F: Fn(u64, &mut Seat<T>) -> Result<(), Refusal>>(
+    mutex: &Mutex<T>,
+    mut seat: Seat<T>,
+    rounds: u64,
+    f: &F,
+) -> Seat<T>
+    requires belongs { OfMutex seat mutex.now }
+    requires callable { MayRound F.Fn f.now rounds mutex.now }
+    requires keeps { KeepsRound F.Fn f.now rounds mutex.now }
+    ensures { HasRounded F.Fn f.now rounds mutex.now seat result }
+{
+    let _mutex = mutex;
+    'rounds: for round in 0..rounds {
+        if f(round, &mut seat).is_err() {
+            return seat;
+        }
+    }
+    seat
 }

@@ -14,22 +14,6 @@ use lfm_model::Refusal;
 use lfm_table::Kept;
 use std::sync::Wait;
 
-/// Lets the closure change the value, for a seat that holds.
-#[inline(always)]
-fn change<T: Kept, U, F: FnOnce(&mut T) -> U>(seat: &mut Seat<T>, f: F) -> U
-    requires holds { 0 < (sight seat.old).depth }
-    requires callable { F.IsAlwaysCallable f }
-    ensures belongs { Beside seat.old seat.new }
-    ensures woken { WakesNobody seat.old seat.new }
-    ensures run { RunGoesOnFrom seat.old seat.new }
-    ensures changes { (v : T) × (w : T) × ((sight seat.old).value ≡ Some v) × FnOnceReturnsAtMut F.FnOnce f v result w × (sight seat.new ≡ with_value (sight seat.old) w) }
-{
-    let Some(value) = seat.value_mut() else {
-        unreachable!()
-    };
-    f(value)
-}
-
 impl<T: Kept> Mutex<T> {
     /// Comes to hold as `lock_barging` does, lends the value to the closure, and gives up that hold as `unlock` does, so that
     /// the seat holds as often as before. Returns what the closure returned. The value that the closure leaves has to follow
@@ -102,4 +86,20 @@ impl<T: Kept> Mutex<T> {
             Err(_) => unreachable!(),
         }
     }
+}
+
+/// Lets the closure change the value, for a seat that holds.
+#[inline(always)]
+fn change<T: Kept, U, F: FnOnce(&mut T) -> U>(seat: &mut Seat<T>, f: F) -> U
+    requires holds { 0 < (sight seat.old).depth }
+    requires callable { F.IsAlwaysCallable f }
+    ensures belongs { Beside seat.old seat.new }
+    ensures woken { WakesNobody seat.old seat.new }
+    ensures run { RunGoesOnFrom seat.old seat.new }
+    ensures changes { (v : T) × (w : T) × ((sight seat.old).value ≡ Some v) × FnOnceReturnsAtMut F.FnOnce f v result w × (sight seat.new ≡ with_value (sight seat.old) w) }
+{
+    let Some(value) = seat.value_mut() else {
+        unreachable!()
+    };
+    f(value)
 }

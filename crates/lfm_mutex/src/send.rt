@@ -10,13 +10,13 @@ ghost use Rattle.lfm_mutex.specs.calls.Due.{due};
 ghost use Rattle.lfm_mutex.specs.calls.FailedPushes.{Spends, MakesBesideFailures};
 ghost use Rattle.lfm_mutex.specs.calls.RunGoesOn.{RunGoesOnFrom};
 ghost use Rattle.lfm_mutex.specs.calls.Runs.{errand, sending, Ends};
-ghost use Rattle.lfm_mutex.specs.calls.Straight.{Course, ComesTo, send_turn};
+ghost use Rattle.lfm_mutex.specs.calls.FastPath.{Course, ComesTo, send_turn};
 ghost use Rattle.lfm_mutex.specs.calls.Trails.{MakesCall};
 ghost use Rattle.lfm_mutex.specs.calls.WakeUps.{Wakes};
 ghost use Rattle.lfm_mutex.specs.calls.Sight.{sight, Sends};
 ghost use Rattle.lfm_mutex.specs.calls.Woken.{WakesNobody, WokenAsGranted};
 
-use crate::calls::{asleep, finish, run, stop_at};
+use crate::calls::{asleep, begin_and_finish, finish, stop_at};
 use crate::mutex::Mutex;
 use crate::push::{Pushed, push};
 use crate::seat::Seat;
@@ -27,193 +27,6 @@ use lfm_table::operations::{CountAdd, WakeExchange};
 use lfm_table::steps::{gain, grant, keep, keep_held};
 use lfm_table::{Kept, WakeUp};
 use lfm_words::Wake;
-
-/// The slow path of an open `send_lock`, from the seat's point to the end of the call.
-#[inline(always)]
-fn send_on<T: Kept>(mutex: &Mutex<T>, seat: &mut Seat<T>) -> (Result<(), Refusal>, Option<WakeUp>)
-    requires belongs { seat.old.table_seat.place.table_id ≡ mutex.now.table.table_id }
-    requires sends { errand seat.old.standing.point ≡ sending }
-    ensures belongs { seat.new.table_seat.place.table_id ≡ seat.old.table_seat.place.table_id }
-    ensures woken { WakesNobody seat.old seat.new }
-    ensures same { (seat.new.table_seat.number ≡ seat.old.table_seat.number) × (seat.new.table_seat.limits ≡ seat.old.table_seat.limits) }
-    ensures ends { Ends sending (send_turn result.0) }
-    ensures made { Course T.follows T.fits seat.old.table_seat.number seat.old.standing seat.old.table_seat.moving seat.old.table_seat.place.me.0 (send_turn result.0) seat.new.standing seat.new.table_seat.moving seat.new.table_seat.place.me.0 }
-    ensures spends { Spends (due seat.old.table_seat.limits.seats (length seat.old.table_seat.place.me.0.popped) seat.old.standing.point) 0 seat.old.table_seat.place.me.0.trail seat.new.table_seat.place.me.0.trail }
-    ensures wakes { Wakes seat.old.table_seat.limits.seats result.1 seat.old.table_seat.place.me.0.trail seat.new.table_seat.place.me.0.trail }
-{
-    let (turn, wake_up) = finish(mutex, seat);
-    match turn {
-        Turn::Ended(Answer::Sent) => (Ok(()), wake_up),
-        Turn::Refused(Why::By(refusal)) => (Err(refusal), wake_up),
-        _ => unreachable!(),
-    }
-}
-
-/// Finishes an open send that found others in the count: it pushes the record of its target.
-#[inline(never)]
-fn queue_target<T: Kept>(
-    mutex: &Mutex<T>,
-    seat: &mut Seat<T>,
-    target: u64,
-) -> (Result<(), Refusal>, Option<WakeUp>)
-    requires belongs { seat.old.table_seat.place.table_id ≡ mutex.now.table.table_id }
-    requires stands { seat.old.standing.point ≡ PushLoad (PusherNow.Sender target) }
-    ensures belongs { seat.new.table_seat.place.table_id ≡ seat.old.table_seat.place.table_id }
-    ensures woken { WakesNobody seat.old seat.new }
-    ensures same { (seat.new.table_seat.number ≡ seat.old.table_seat.number) × (seat.new.table_seat.limits ≡ seat.old.table_seat.limits) }
-    ensures ends { Ends sending (send_turn result.0) }
-    ensures made { Course T.follows T.fits seat.old.table_seat.number seat.old.standing seat.old.table_seat.moving seat.old.table_seat.place.me.0 (send_turn result.0) seat.new.standing seat.new.table_seat.moving seat.new.table_seat.place.me.0 }
-    ensures spends { Spends (due seat.old.table_seat.limits.seats (length seat.old.table_seat.place.me.0.popped) seat.old.standing.point) 0 seat.old.table_seat.place.me.0.trail seat.new.table_seat.place.me.0.trail }
-    ensures wakes { Wakes seat.old.table_seat.limits.seats result.1 seat.old.table_seat.place.me.0.trail seat.new.table_seat.place.me.0.trail }
-{
-    let standing = SeatState {
-        point: Point::PushLoad(Pusher::Sender(target)),
-        ..seat.standing
-    };
-    match push(
-        &mutex.table,
-        &mut seat.table_seat,
-        &standing,
-        Pusher::Sender(target),
-    ) {
-        Pushed::Queued => {
-            seat.standing.point = Point::Rest;
-            (Ok(()), None)
-        }
-        Pushed::Stopped(point) => {
-            stop_at(&mut seat.standing, point);
-            send_on(mutex, seat)
-        }
-    }
-}
-
-/// Finishes an open send that has claimed its target, for a seat that doesn't hold.
-#[inline(always)]
-fn send_free<T: Kept>(
-    mutex: &Mutex<T>,
-    seat: &mut Seat<T>,
-    target: u64,
-) -> (Result<(), Refusal>, Option<WakeUp>)
-    requires belongs { seat.old.table_seat.place.table_id ≡ mutex.now.table.table_id }
-    requires stands { seat.old.standing.point ≡ SendCountAdd target }
-    requires flat { seat.old.standing.depth ≡ 0 }
-    ensures belongs { seat.new.table_seat.place.table_id ≡ seat.old.table_seat.place.table_id }
-    ensures woken { WakesNobody seat.old seat.new }
-    ensures same { (seat.new.table_seat.number ≡ seat.old.table_seat.number) × (seat.new.table_seat.limits ≡ seat.old.table_seat.limits) }
-    ensures ends { Ends sending (send_turn result.0) }
-    ensures made { Course T.follows T.fits seat.old.table_seat.number seat.old.standing seat.old.table_seat.moving seat.old.table_seat.place.me.0 (send_turn result.0) seat.new.standing seat.new.table_seat.moving seat.new.table_seat.place.me.0 }
-    ensures spends { Spends (due seat.old.table_seat.limits.seats (length seat.old.table_seat.place.me.0.popped) seat.old.standing.point) 0 seat.old.table_seat.place.me.0.trail seat.new.table_seat.place.me.0.trail }
-    ensures wakes { Wakes seat.old.table_seat.limits.seats result.1 seat.old.table_seat.place.me.0.trail seat.new.table_seat.place.me.0.trail }
-{
-    let table = &mutex.table;
-    let mut standing = SeatState {
-        depth: 0,
-        point: Point::SendCountAdd(target),
-        ..seat.standing
-    };
-    let found = gain::<CountAdd, T>(table, &mut seat.table_seat, &standing);
-    if found != 0 {
-        stop_at(&mut seat.standing, Point::PushLoad(Pusher::Sender(target)));
-        return queue_target(mutex, seat, target);
-    }
-    standing.point = Point::SendWakeStore(target);
-    let wake_up = grant(table, &mut seat.table_seat, &standing);
-    seat.standing.point = Point::Rest;
-    (Ok(()), wake_up)
-}
-
-/// The same for a seat that holds, so that the count is at least 1. That is a fact of the invariant, not of this contract; the
-/// slow path handles a 0.
-#[inline(always)]
-fn send_held<T: Kept>(
-    mutex: &Mutex<T>,
-    seat: &mut Seat<T>,
-    target: u64,
-) -> (Result<(), Refusal>, Option<WakeUp>)
-    requires belongs { seat.old.table_seat.place.table_id ≡ mutex.now.table.table_id }
-    requires stands { seat.old.standing.point ≡ SendCountAdd target }
-    requires held { 0 < seat.old.standing.depth }
-    ensures belongs { seat.new.table_seat.place.table_id ≡ seat.old.table_seat.place.table_id }
-    ensures woken { WakesNobody seat.old seat.new }
-    ensures same { (seat.new.table_seat.number ≡ seat.old.table_seat.number) × (seat.new.table_seat.limits ≡ seat.old.table_seat.limits) }
-    ensures ends { Ends sending (send_turn result.0) }
-    ensures made { Course T.follows T.fits seat.old.table_seat.number seat.old.standing seat.old.table_seat.moving seat.old.table_seat.place.me.0 (send_turn result.0) seat.new.standing seat.new.table_seat.moving seat.new.table_seat.place.me.0 }
-    ensures spends { Spends (due seat.old.table_seat.limits.seats (length seat.old.table_seat.place.me.0.popped) seat.old.standing.point) 0 seat.old.table_seat.place.me.0.trail seat.new.table_seat.place.me.0.trail }
-    ensures wakes { Wakes seat.old.table_seat.limits.seats result.1 seat.old.table_seat.place.me.0.trail seat.new.table_seat.place.me.0.trail }
-{
-    let table = &mutex.table;
-    let standing = SeatState {
-        point: Point::SendCountAdd(target),
-        ..seat.standing
-    };
-    let found = keep_held::<CountAdd, T>(table, &mut seat.table_seat, &standing);
-    if found == 0 {
-        seat.standing.point = Point::SendWakeStore(target);
-        return send_on(mutex, seat);
-    }
-    stop_at(&mut seat.standing, Point::PushLoad(Pusher::Sender(target)));
-    queue_target(mutex, seat, target)
-}
-
-/// Fast path of `send_lock`: the seat is awake, and the target is a seat of its mutex.
-#[inline(always)]
-pub fn send_awake<T: Kept>(
-    mutex: &Mutex<T>,
-    seat: &mut Seat<T>,
-    target: u64,
-) -> (Result<(), Refusal>, Option<WakeUp>)
-    requires belongs { OfMutex seat.old mutex.now }
-    requires rests { seat.old.standing.point ≡ Rest }
-    requires above { 0 < target }
-    requires within { target ≤ seat.old.table_seat.limits.seats }
-    ensures belongs { Beside seat.old seat.new }
-    ensures woken { WakesNobody seat.old seat.new }
-    ensures run { RunGoesOnFrom seat.old seat.new }
-    ensures made { ComesTo T.follows T.fits (limits_of mutex.now) (CallNow.SendLock target) (sight seat.old) (sight seat.new) (send_turn result.0) }
-    ensures bounded { MakesBesideFailures ((limits_of mutex.now).seats + 9) (sight seat.old) (sight seat.new) }
-    ensures wakes { Wakes (limits_of mutex.now).seats result.1 (sight seat.old).trail (sight seat.new).trail }
-{
-    let table = &mutex.table;
-    let standing = SeatState {
-        point: Point::SendWakeExchange(target),
-        ..seat.standing
-    };
-    let found = keep::<WakeExchange, T>(table, &mut seat.table_seat, &standing);
-    let waiting = Wake::Waiting.to_word();
-    if found != waiting {
-        return (Err(Refusal::NotWaiting), None);
-    }
-    seat.standing.point = Point::SendCountAdd(target);
-    if seat.standing.depth == 0 {
-        return send_free(mutex, seat, target);
-    }
-    send_held(mutex, seat, target)
-}
-
-/// The whole of `send_lock` by the slow path. Only a call that is refused comes here.
-#[inline(always)]
-fn send_any<T: Kept>(
-    mutex: &Mutex<T>,
-    seat: &mut Seat<T>,
-    target: SeatNo,
-) -> (Result<(), Refusal>, Option<WakeUp>)
-    requires belongs { OfMutex seat.old mutex.now }
-    ensures belongs { Beside seat.old seat.new }
-    ensures woken { WakesNobody seat.old seat.new }
-    ensures run { RunGoesOnFrom seat.old seat.new }
-    ensures sends { Sends (limits_of mutex.now).seats (sight seat.old) target (sight seat.new) result.0 }
-    ensures steps { MakesCall (limits_of mutex.now) (λ x. Answered.Sent) (CallNow.SendLock target) (sight seat.old) (sight seat.new) result.0 }
-    ensures bounded { MakesBesideFailures ((limits_of mutex.now).seats + 9) (sight seat.old) (sight seat.new) }
-    ensures wakes { Wakes (limits_of mutex.now).seats result.1 (sight seat.old).trail (sight seat.new).trail }
-{
-    let (turn, wake_up) = run(mutex, seat, Call::SendLock(target.get()));
-    match turn {
-        Turn::Ended(Answer::Sent) => (Ok(()), wake_up),
-        Turn::Refused(Why::By(refusal)) => (Err(refusal), wake_up),
-        Turn::Refused(_) => (Err(Refusal::Asleep), wake_up),
-        _ => unreachable!(),
-    }
-}
 
 impl<T: Kept> Mutex<T> {
     /// Locks on behalf of a seat that has waited since its `start_wait`, the target: that seat gains the mutex or is queued.
@@ -254,12 +67,202 @@ impl<T: Kept> Mutex<T> {
         ensures wakes { Wakes (limits_of self.now).seats result.1 (sight seat.old).trail (sight seat.new).trail }
     {
         if asleep(&seat.standing) {
-            return send_any(self, seat, target);
+            return send_slow(self, seat, target);
         }
         let number = target.get();
         if number <= seat.table_seat.limits.seats {
             return send_awake(self, seat, number);
         }
-        send_any(self, seat, target)
+        send_slow(self, seat, target)
+    }
+}
+
+/// Fast path of `send_lock`: the seat is awake, and the target is a seat of its mutex.
+#[inline(always)]
+pub fn send_awake<T: Kept>(
+    mutex: &Mutex<T>,
+    seat: &mut Seat<T>,
+    target: u64,
+) -> (Result<(), Refusal>, Option<WakeUp>)
+    requires belongs { OfMutex seat.old mutex.now }
+    requires rests { seat.old.standing.point ≡ Rest }
+    requires above { 0 < target }
+    requires within { target ≤ seat.old.table_seat.limits.seats }
+    ensures belongs { Beside seat.old seat.new }
+    ensures woken { WakesNobody seat.old seat.new }
+    ensures run { RunGoesOnFrom seat.old seat.new }
+    ensures made { ComesTo T.follows T.fits (limits_of mutex.now) (CallNow.SendLock target) (sight seat.old) (sight seat.new) (send_turn result.0) }
+    ensures bounded { MakesBesideFailures ((limits_of mutex.now).seats + 9) (sight seat.old) (sight seat.new) }
+    ensures wakes { Wakes (limits_of mutex.now).seats result.1 (sight seat.old).trail (sight seat.new).trail }
+{
+    let table = &mutex.table;
+    let standing = SeatState {
+        point: Point::SendWakeExchange(target),
+        ..seat.standing
+    };
+    let found = keep::<WakeExchange, T>(table, &mut seat.table_seat, &standing);
+    let waiting = Wake::Waiting.to_word();
+    if found != waiting {
+        return (Err(Refusal::NotWaiting), None);
+    }
+    seat.standing.point = Point::SendCountAdd(target);
+    if seat.standing.depth == 0 {
+        return send_without_hold(mutex, seat, target);
+    }
+    send_with_hold(mutex, seat, target)
+}
+
+/// Finishes an open send that has claimed its target, for a seat that doesn't hold.
+#[inline(always)]
+fn send_without_hold<T: Kept>(
+    mutex: &Mutex<T>,
+    seat: &mut Seat<T>,
+    target: u64,
+) -> (Result<(), Refusal>, Option<WakeUp>)
+    requires belongs { seat.old.table_seat.place.table_id ≡ mutex.now.table.table_id }
+    requires stands { seat.old.standing.point ≡ SendCountAdd target }
+    requires flat { seat.old.standing.depth ≡ 0 }
+    ensures belongs { seat.new.table_seat.place.table_id ≡ seat.old.table_seat.place.table_id }
+    ensures woken { WakesNobody seat.old seat.new }
+    ensures same { (seat.new.table_seat.number ≡ seat.old.table_seat.number) × (seat.new.table_seat.limits ≡ seat.old.table_seat.limits) }
+    ensures ends { Ends sending (send_turn result.0) }
+    ensures made { Course T.follows T.fits seat.old.table_seat.number seat.old.standing seat.old.table_seat.moving seat.old.table_seat.place.me.0 (send_turn result.0) seat.new.standing seat.new.table_seat.moving seat.new.table_seat.place.me.0 }
+    ensures spends { Spends (due seat.old.table_seat.limits.seats (length seat.old.table_seat.place.me.0.popped) seat.old.standing.point) 0 seat.old.table_seat.place.me.0.trail seat.new.table_seat.place.me.0.trail }
+    ensures wakes { Wakes seat.old.table_seat.limits.seats result.1 seat.old.table_seat.place.me.0.trail seat.new.table_seat.place.me.0.trail }
+{
+    let table = &mutex.table;
+    let mut standing = SeatState {
+        depth: 0,
+        point: Point::SendCountAdd(target),
+        ..seat.standing
+    };
+    let found = gain::<CountAdd, T>(table, &mut seat.table_seat, &standing);
+    if found != 0 {
+        stop_at(&mut seat.standing, Point::PushLoad(Pusher::Sender(target)));
+        return queue_target(mutex, seat, target);
+    }
+    standing.point = Point::SendWakeStore(target);
+    let wake_up = grant(table, &mut seat.table_seat, &standing);
+    seat.standing.point = Point::Rest;
+    (Ok(()), wake_up)
+}
+
+/// The same for a seat that holds, so that the count is at least 1. That is a fact of the invariant, not of this contract; the
+/// slow path handles a 0.
+#[inline(always)]
+fn send_with_hold<T: Kept>(
+    mutex: &Mutex<T>,
+    seat: &mut Seat<T>,
+    target: u64,
+) -> (Result<(), Refusal>, Option<WakeUp>)
+    requires belongs { seat.old.table_seat.place.table_id ≡ mutex.now.table.table_id }
+    requires stands { seat.old.standing.point ≡ SendCountAdd target }
+    requires held { 0 < seat.old.standing.depth }
+    ensures belongs { seat.new.table_seat.place.table_id ≡ seat.old.table_seat.place.table_id }
+    ensures woken { WakesNobody seat.old seat.new }
+    ensures same { (seat.new.table_seat.number ≡ seat.old.table_seat.number) × (seat.new.table_seat.limits ≡ seat.old.table_seat.limits) }
+    ensures ends { Ends sending (send_turn result.0) }
+    ensures made { Course T.follows T.fits seat.old.table_seat.number seat.old.standing seat.old.table_seat.moving seat.old.table_seat.place.me.0 (send_turn result.0) seat.new.standing seat.new.table_seat.moving seat.new.table_seat.place.me.0 }
+    ensures spends { Spends (due seat.old.table_seat.limits.seats (length seat.old.table_seat.place.me.0.popped) seat.old.standing.point) 0 seat.old.table_seat.place.me.0.trail seat.new.table_seat.place.me.0.trail }
+    ensures wakes { Wakes seat.old.table_seat.limits.seats result.1 seat.old.table_seat.place.me.0.trail seat.new.table_seat.place.me.0.trail }
+{
+    let table = &mutex.table;
+    let standing = SeatState {
+        point: Point::SendCountAdd(target),
+        ..seat.standing
+    };
+    let found = keep_held::<CountAdd, T>(table, &mut seat.table_seat, &standing);
+    if found == 0 {
+        seat.standing.point = Point::SendWakeStore(target);
+        return finish_send(mutex, seat);
+    }
+    stop_at(&mut seat.standing, Point::PushLoad(Pusher::Sender(target)));
+    queue_target(mutex, seat, target)
+}
+
+/// Finishes an open send that found others in the count: it pushes the record of its target.
+#[inline(never)]
+fn queue_target<T: Kept>(
+    mutex: &Mutex<T>,
+    seat: &mut Seat<T>,
+    target: u64,
+) -> (Result<(), Refusal>, Option<WakeUp>)
+    requires belongs { seat.old.table_seat.place.table_id ≡ mutex.now.table.table_id }
+    requires stands { seat.old.standing.point ≡ PushLoad (PusherNow.Sender target) }
+    ensures belongs { seat.new.table_seat.place.table_id ≡ seat.old.table_seat.place.table_id }
+    ensures woken { WakesNobody seat.old seat.new }
+    ensures same { (seat.new.table_seat.number ≡ seat.old.table_seat.number) × (seat.new.table_seat.limits ≡ seat.old.table_seat.limits) }
+    ensures ends { Ends sending (send_turn result.0) }
+    ensures made { Course T.follows T.fits seat.old.table_seat.number seat.old.standing seat.old.table_seat.moving seat.old.table_seat.place.me.0 (send_turn result.0) seat.new.standing seat.new.table_seat.moving seat.new.table_seat.place.me.0 }
+    ensures spends { Spends (due seat.old.table_seat.limits.seats (length seat.old.table_seat.place.me.0.popped) seat.old.standing.point) 0 seat.old.table_seat.place.me.0.trail seat.new.table_seat.place.me.0.trail }
+    ensures wakes { Wakes seat.old.table_seat.limits.seats result.1 seat.old.table_seat.place.me.0.trail seat.new.table_seat.place.me.0.trail }
+{
+    let standing = SeatState {
+        point: Point::PushLoad(Pusher::Sender(target)),
+        ..seat.standing
+    };
+    match push(
+        &mutex.table,
+        &mut seat.table_seat,
+        &standing,
+        Pusher::Sender(target),
+    ) {
+        Pushed::Queued => {
+            seat.standing.point = Point::Rest;
+            (Ok(()), None)
+        }
+        Pushed::Stopped(point) => {
+            stop_at(&mut seat.standing, point);
+            finish_send(mutex, seat)
+        }
+    }
+}
+
+/// The slow path of an open `send_lock`, from the seat's point to the end of the call.
+#[inline(always)]
+fn finish_send<T: Kept>(
+    mutex: &Mutex<T>,
+    seat: &mut Seat<T>,
+) -> (Result<(), Refusal>, Option<WakeUp>)
+    requires belongs { seat.old.table_seat.place.table_id ≡ mutex.now.table.table_id }
+    requires sends { errand seat.old.standing.point ≡ sending }
+    ensures belongs { seat.new.table_seat.place.table_id ≡ seat.old.table_seat.place.table_id }
+    ensures woken { WakesNobody seat.old seat.new }
+    ensures same { (seat.new.table_seat.number ≡ seat.old.table_seat.number) × (seat.new.table_seat.limits ≡ seat.old.table_seat.limits) }
+    ensures ends { Ends sending (send_turn result.0) }
+    ensures made { Course T.follows T.fits seat.old.table_seat.number seat.old.standing seat.old.table_seat.moving seat.old.table_seat.place.me.0 (send_turn result.0) seat.new.standing seat.new.table_seat.moving seat.new.table_seat.place.me.0 }
+    ensures spends { Spends (due seat.old.table_seat.limits.seats (length seat.old.table_seat.place.me.0.popped) seat.old.standing.point) 0 seat.old.table_seat.place.me.0.trail seat.new.table_seat.place.me.0.trail }
+    ensures wakes { Wakes seat.old.table_seat.limits.seats result.1 seat.old.table_seat.place.me.0.trail seat.new.table_seat.place.me.0.trail }
+{
+    let (turn, wake_up) = finish(mutex, seat);
+    match turn {
+        Turn::Ended(Answer::Sent) => (Ok(()), wake_up),
+        Turn::Refused(Why::By(refusal)) => (Err(refusal), wake_up),
+        _ => unreachable!(),
+    }
+}
+
+/// The whole of `send_lock` by the slow path. Only a call that is refused comes here.
+#[inline(always)]
+fn send_slow<T: Kept>(
+    mutex: &Mutex<T>,
+    seat: &mut Seat<T>,
+    target: SeatNo,
+) -> (Result<(), Refusal>, Option<WakeUp>)
+    requires belongs { OfMutex seat.old mutex.now }
+    ensures belongs { Beside seat.old seat.new }
+    ensures woken { WakesNobody seat.old seat.new }
+    ensures run { RunGoesOnFrom seat.old seat.new }
+    ensures sends { Sends (limits_of mutex.now).seats (sight seat.old) target (sight seat.new) result.0 }
+    ensures steps { MakesCall (limits_of mutex.now) (λ x. Answered.Sent) (CallNow.SendLock target) (sight seat.old) (sight seat.new) result.0 }
+    ensures bounded { MakesBesideFailures ((limits_of mutex.now).seats + 9) (sight seat.old) (sight seat.new) }
+    ensures wakes { Wakes (limits_of mutex.now).seats result.1 (sight seat.old).trail (sight seat.new).trail }
+{
+    let (turn, wake_up) = begin_and_finish(mutex, seat, Call::SendLock(target.get()));
+    match turn {
+        Turn::Ended(Answer::Sent) => (Ok(()), wake_up),
+        Turn::Refused(Why::By(refusal)) => (Err(refusal), wake_up),
+        Turn::Refused(_) => (Err(Refusal::Asleep), wake_up),
+        _ => unreachable!(),
     }
 }

@@ -6,7 +6,7 @@ ghost use Rattle.lfm_protocol.specs.declared.points.Point.TheVariants.{GrantWake
 ghost use Rattle.lfm_protocol.specs.After.{take};
 ghost use Rattle.lfm_table.specs.Steps.{oldest_in};
 ghost use Rattle.lfm_mutex.specs.calls.Runs.{errand, is_release, releasing, weight};
-ghost use Rattle.lfm_mutex.specs.calls.Straight.{Course, release_turn};
+ghost use Rattle.lfm_mutex.specs.calls.FastPath.{Course, release_turn};
 ghost use Rattle.lfm_mutex.specs.calls.WakeUps.{Wakes};
 ghost use Rattle.lfm_mutex.specs.calls.Woken.{WakesNobody};
 
@@ -25,7 +25,7 @@ use lfm_words::{Record, unpack_link};
 
 /// The slow path of an open release whose seat has given up the owner word, from the seat's point to the end of the call.
 #[inline(always)]
-fn release_on<T: Kept>(
+fn finish_release<T: Kept>(
     mutex: &Mutex<T>,
     seat: &mut Seat<T>,
     releaser: Releaser,
@@ -51,7 +51,7 @@ fn release_on<T: Kept>(
 
 /// Stores the point at which a release that found others in the count serves the oldest seat. Out of line, as `stop_at`.
 #[inline(never)]
-pub(crate) fn stand_serving<T: Kept>(
+pub(crate) fn stop_at_serving<T: Kept>(
     standing: &mut SeatState,
     moving: &Option<MovingBox<T>>,
     releaser: Releaser,
@@ -134,14 +134,14 @@ fn serve_pushed<T: Kept>(
     let next = unpack_link(push).next;
     if next == 0 {
         seat.standing.point = Point::ReleaseHandoffStore(releaser);
-        return release_on(mutex, seat, releaser);
+        return finish_release(mutex, seat, releaser);
     }
     standing.point = Point::TakeLinkLoad(carrier, next);
     let word = collect(table, &mut seat.table_seat, &standing);
     let link = unpack_link(word);
     if link.next != 0 {
         seat.standing.point = Point::TakeLinkLoad(carrier, link.next);
-        return release_on(mutex, seat, releaser);
+        return finish_release(mutex, seat, releaser);
     }
     let stamp = link.stamp;
     let next = SeatNo::known(next);

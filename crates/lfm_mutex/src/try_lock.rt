@@ -8,12 +8,12 @@ ghost use Rattle.lfm_mutex.specs.Belongs.{Beside, OfMutex, limits_of};
 ghost use Rattle.lfm_mutex.specs.calls.RunGoesOn.{RunGoesOnFrom};
 ghost use Rattle.lfm_mutex.specs.calls.Runs.{errand, trying, Ends};
 ghost use Rattle.lfm_mutex.specs.calls.Sight.{sight, Locks};
-ghost use Rattle.lfm_mutex.specs.calls.Straight.{Course, ComesTo, try_turn};
+ghost use Rattle.lfm_mutex.specs.calls.FastPath.{Course, ComesTo, try_turn};
 ghost use Rattle.lfm_protocol.specs.declared.answers.Answer.TheVariants as Answered;
 ghost use Rattle.lfm_mutex.specs.calls.Trails.{MakesAtMost, MakesCall};
 ghost use Rattle.lfm_mutex.specs.calls.Woken.{WakesNobody, WokenAsGranted};
 
-use crate::calls::{asleep, finish, run, stop_at};
+use crate::calls::{asleep, begin_and_finish, finish, stop_at};
 use crate::mutex::Mutex;
 use crate::seat::Seat;
 use lfm_model::{How, Locked, Refusal};
@@ -24,29 +24,43 @@ use lfm_table::steps::{gain, keep, keep_held, load_other_owner};
 use lfm_table::{Kept, WakeUp};
 use lfm_words::{Handoff, unpack_handoff};
 
-/// The slow path of an open `try_lock`, from the seat's point to the end of the call.
-#[inline(always)]
-fn try_on<T: Kept>(mutex: &Mutex<T>, seat: &mut Seat<T>) -> Result<Locked, Refusal>
-    requires belongs { seat.old.table_seat.place.table_id ≡ mutex.now.table.table_id }
-    requires tries { errand seat.old.standing.point ≡ trying }
-    ensures belongs { seat.new.table_seat.place.table_id ≡ seat.old.table_seat.place.table_id }
-    ensures woken { WakesNobody seat.old seat.new }
-    ensures same { (seat.new.table_seat.number ≡ seat.old.table_seat.number) × (seat.new.table_seat.limits ≡ seat.old.table_seat.limits) }
-    ensures ends { Ends trying (try_turn result) }
-    ensures made { Course T.follows T.fits seat.old.table_seat.number seat.old.standing seat.old.table_seat.moving seat.old.table_seat.place.me.0 (try_turn result) seat.new.standing seat.new.table_seat.moving seat.new.table_seat.place.me.0 }
-{
-    let (turn, wake_up) = finish(mutex, seat);
-    WakeUp::expect_none(wake_up);
-    match turn {
-        Turn::Ended(Answer::Locked(locked)) => Ok(locked),
-        Turn::Refused(Why::By(refusal)) => Err(refusal),
-        _ => unreachable!(),
+impl<T: Kept> Mutex<T> {
+    /// Gains the mutex or deepens the hold without queueing. A gain is charged one take. A post that no one has accepted is
+    /// accepted.
+    ///
+    /// Refuses, in this order: Asleep, DepthFull and Spent as `ask`, and Busy: the count was not 0, another seat was the owner,
+    /// and no post stood there or another call was faster to accept it. Busy gives its charge back. It never waits and wakes
+    /// nobody. Whatever others do, it makes at most 6 atomic steps. As `trylock` of OSv's lfmutex.
+    #[inline(always)]
+    pub fn try_lock(&self, seat: &mut Seat<T>) -> Result<Locked, Refusal>
+        requires belongs { OfMutex seat.old self.now }
+        ensures belongs { Beside seat.old seat.new }
+        ensures woken { WokenAsGranted seat.old seat.new }
+        ensures run { RunGoesOnFrom seat.old seat.new }
+        ensures locks { Locks T.follows T.fits (limits_of self.now).budget (sight seat.old) (sight seat.new) result }
+        ensures steps { MakesCall (limits_of self.now) (λ x. Answered.Locked x) CallNow.TryLock (sight seat.old) (sight seat.new) result }
+        ensures bounded { MakesAtMost 6 (sight seat.old) (sight seat.new) }
+    {
+        if asleep(&seat.standing) {
+            return try_slow(self, seat);
+        }
+        if seat.standing.depth == 0 {
+            let budget = seat.table_seat.limits.budget;
+            if seat.standing.takes < budget {
+                return try_without_hold(self, seat, budget);
+            }
+            return try_slow(self, seat);
+        }
+        if seat.standing.depth < MAX_DEPTH {
+            return try_with_hold(self, seat);
+        }
+        try_slow(self, seat)
     }
 }
 
 /// Fast path of `try_lock`: the seat is awake, doesn't hold, and has a take left.
 #[inline(always)]
-pub fn try_free<T: Kept>(
+pub fn try_without_hold<T: Kept>(
     mutex: &Mutex<T>,
     seat: &mut Seat<T>,
     budget: u64,
@@ -89,14 +103,14 @@ pub fn try_free<T: Kept>(
             &mut seat.standing,
             Point::TryHandoffExchange(unpack_handoff(handoff)),
         );
-        return try_on(mutex, seat);
+        return finish_try(mutex, seat);
     }
     Err(Refusal::Busy)
 }
 
 /// Fast path of `try_lock`: the seat is awake and holds, below the greatest depth.
 #[inline(always)]
-pub fn try_again<T: Kept>(mutex: &Mutex<T>, seat: &mut Seat<T>) -> Result<Locked, Refusal>
+pub fn try_with_hold<T: Kept>(mutex: &Mutex<T>, seat: &mut Seat<T>) -> Result<Locked, Refusal>
     requires belongs { OfMutex seat.old mutex.now }
     requires rests { seat.old.standing.point ≡ Rest }
     requires held { 0 < seat.old.standing.depth }
@@ -119,21 +133,41 @@ pub fn try_again<T: Kept>(mutex: &Mutex<T>, seat: &mut Seat<T>) -> Result<Locked
             &mut seat.standing,
             Point::EnterOwnerStore(Entrant::Trier, How::Free),
         );
-        return try_on(mutex, seat);
+        return finish_try(mutex, seat);
     }
     standing.point = Point::TryOwnerLoad;
     let owner = keep_held::<OwnerLoad, T>(table, &mut seat.table_seat, &standing);
     if owner != number {
         seat.standing.point = Point::TryHandoffLoad;
-        return try_on(mutex, seat);
+        return finish_try(mutex, seat);
     }
     seat.standing.depth = depth + 1;
     Ok(Locked::Again(depth + 1))
 }
 
+/// The slow path of an open `try_lock`, from the seat's point to the end of the call.
+#[inline(always)]
+fn finish_try<T: Kept>(mutex: &Mutex<T>, seat: &mut Seat<T>) -> Result<Locked, Refusal>
+    requires belongs { seat.old.table_seat.place.table_id ≡ mutex.now.table.table_id }
+    requires tries { errand seat.old.standing.point ≡ trying }
+    ensures belongs { seat.new.table_seat.place.table_id ≡ seat.old.table_seat.place.table_id }
+    ensures woken { WakesNobody seat.old seat.new }
+    ensures same { (seat.new.table_seat.number ≡ seat.old.table_seat.number) × (seat.new.table_seat.limits ≡ seat.old.table_seat.limits) }
+    ensures ends { Ends trying (try_turn result) }
+    ensures made { Course T.follows T.fits seat.old.table_seat.number seat.old.standing seat.old.table_seat.moving seat.old.table_seat.place.me.0 (try_turn result) seat.new.standing seat.new.table_seat.moving seat.new.table_seat.place.me.0 }
+{
+    let (turn, wake_up) = finish(mutex, seat);
+    WakeUp::expect_none(wake_up);
+    match turn {
+        Turn::Ended(Answer::Locked(locked)) => Ok(locked),
+        Turn::Refused(Why::By(refusal)) => Err(refusal),
+        _ => unreachable!(),
+    }
+}
+
 /// The whole of `try_lock` by the slow path. Only a call that is refused at its start comes here.
 #[inline(always)]
-fn try_lock_any<T: Kept>(mutex: &Mutex<T>, seat: &mut Seat<T>) -> Result<Locked, Refusal>
+fn try_slow<T: Kept>(mutex: &Mutex<T>, seat: &mut Seat<T>) -> Result<Locked, Refusal>
     requires belongs { OfMutex seat.old mutex.now }
     ensures belongs { Beside seat.old seat.new }
     ensures woken { WakesNobody seat.old seat.new }
@@ -141,46 +175,12 @@ fn try_lock_any<T: Kept>(mutex: &Mutex<T>, seat: &mut Seat<T>) -> Result<Locked,
     ensures locks { Locks T.follows T.fits (limits_of mutex.now).budget (sight seat.old) (sight seat.new) result }
     ensures steps { MakesCall (limits_of mutex.now) (λ x. Answered.Locked x) CallNow.TryLock (sight seat.old) (sight seat.new) result }
 {
-    let (turn, wake_up) = run(mutex, seat, Call::TryLock);
+    let (turn, wake_up) = begin_and_finish(mutex, seat, Call::TryLock);
     WakeUp::expect_none(wake_up);
     match turn {
         Turn::Ended(Answer::Locked(locked)) => Ok(locked),
         Turn::Refused(Why::By(refusal)) => Err(refusal),
         Turn::Refused(_) => Err(Refusal::Asleep),
         _ => unreachable!(),
-    }
-}
-
-impl<T: Kept> Mutex<T> {
-    /// Gains the mutex or deepens the hold without queueing. A gain is charged one take. A post that no one has accepted is
-    /// accepted.
-    ///
-    /// Refuses, in this order: Asleep, DepthFull and Spent as `ask`, and Busy: the count was not 0, another seat was the owner,
-    /// and no post stood there or another call was faster to accept it. Busy gives its charge back. It never waits and wakes
-    /// nobody. Whatever others do, it makes at most 6 atomic steps. As `trylock` of OSv's lfmutex.
-    #[inline(always)]
-    pub fn try_lock(&self, seat: &mut Seat<T>) -> Result<Locked, Refusal>
-        requires belongs { OfMutex seat.old self.now }
-        ensures belongs { Beside seat.old seat.new }
-        ensures woken { WokenAsGranted seat.old seat.new }
-        ensures run { RunGoesOnFrom seat.old seat.new }
-        ensures locks { Locks T.follows T.fits (limits_of self.now).budget (sight seat.old) (sight seat.new) result }
-        ensures steps { MakesCall (limits_of self.now) (λ x. Answered.Locked x) CallNow.TryLock (sight seat.old) (sight seat.new) result }
-        ensures bounded { MakesAtMost 6 (sight seat.old) (sight seat.new) }
-    {
-        if asleep(&seat.standing) {
-            return try_lock_any(self, seat);
-        }
-        if seat.standing.depth == 0 {
-            let budget = seat.table_seat.limits.budget;
-            if seat.standing.takes < budget {
-                return try_free(self, seat, budget);
-            }
-            return try_lock_any(self, seat);
-        }
-        if seat.standing.depth < MAX_DEPTH {
-            return try_again(self, seat);
-        }
-        try_lock_any(self, seat)
     }
 }

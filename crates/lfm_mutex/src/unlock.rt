@@ -8,100 +8,21 @@ ghost use Rattle.lfm_protocol.specs.declared.points.Point.TheVariants.{Rest};
 ghost use Rattle.lfm_mutex.specs.Belongs.{Beside, OfMutex, limits_of};
 ghost use Rattle.lfm_mutex.specs.calls.RunGoesOn.{RunGoesOnFrom};
 ghost use Rattle.lfm_mutex.specs.calls.Sight.{sight, MayLeave, MayRelease, Unlocks};
-ghost use Rattle.lfm_mutex.specs.calls.Straight.{ComesTo};
+ghost use Rattle.lfm_mutex.specs.calls.FastPath.{ComesTo};
 ghost use Rattle.lfm_mutex.specs.calls.Trails.{MakesAtMost, MakesCall};
 ghost use Rattle.lfm_mutex.specs.calls.WakeUps.{Wakes};
 ghost use Rattle.lfm_mutex.specs.calls.Woken.{WakesNobody, WokenAsGranted};
 
-use crate::calls::{asleep, release};
+use crate::calls::{asleep, begin_and_release};
 use crate::mutex::Mutex;
 use crate::seat::Seat;
-use crate::serve::{serve, stand_serving};
+use crate::serve::{serve, stop_at_serving};
 use lfm_model::{Refusal, Unlocked};
 use lfm_protocol::points::{Point, Releaser};
 use lfm_protocol::{Answer, Call, SeatState, Turn, Why};
 use lfm_table::operations::OwnerStore;
 use lfm_table::steps::{keep_held, retake};
 use lfm_table::{Kept, WakeUp};
-
-/// Fast path of `unlock`: the seat is awake and holds once.
-#[inline(always)]
-pub fn unlock_last<T: Kept>(mutex: &Mutex<T>, seat: &mut Seat<T>) -> (Unlocked, Option<WakeUp>)
-    requires belongs { OfMutex seat.old mutex.now }
-    requires rests { seat.old.standing.point ≡ Rest }
-    requires one { seat.old.standing.depth ≡ 1 }
-    requires leaves { MayLeave T.follows T.fits (sight seat.old) }
-    ensures belongs { Beside seat.old seat.new }
-    ensures woken { WakesNobody seat.old seat.new }
-    ensures run { RunGoesOnFrom seat.old seat.new }
-    ensures made { ComesTo T.follows T.fits (limits_of mutex.now) CallNow.Unlock (sight seat.old) (sight seat.new) (Ended (Answered.Unlocked result.0)) }
-    ensures bounded { MakesAtMost ((limits_of mutex.now).seats + 7) (sight seat.old) (sight seat.new) }
-    ensures wakes { Wakes (limits_of mutex.now).seats result.1 (sight seat.old).trail (sight seat.new).trail }
-{
-    let table = &mutex.table;
-    let mut standing = SeatState {
-        depth: 1,
-        point: Point::ReleaseOwnerStore(Releaser::Unlocker),
-        ..seat.standing
-    };
-    keep_held::<OwnerStore, T>(table, &mut seat.table_seat, &standing);
-    // The plain writes stand together, in this gap between two steps: see `steps` of `lfm_table`.
-    seat.standing.depth = 0;
-    standing.depth = 0;
-    standing.point = Point::ReleaseCountSubtract(Releaser::Unlocker);
-    let found = retake(table, &mut seat.table_seat, &standing);
-    if found != 1 {
-        stand_serving(
-            &mut seat.standing,
-            &seat.table_seat.moving,
-            Releaser::Unlocker,
-        );
-        return serve(mutex, seat, Releaser::Unlocker);
-    }
-    (Unlocked::Free, None)
-}
-
-/// Fast path of `unlock`: the seat is awake and holds more than once.
-#[inline(always)]
-pub fn unlock_once<T: Kept>(mutex: &Mutex<T>, seat: &mut Seat<T>) -> Unlocked
-    requires belongs { OfMutex seat.old mutex.now }
-    requires rests { seat.old.standing.point ≡ Rest }
-    requires deep { 1 < seat.old.standing.depth }
-    ensures belongs { Beside seat.old seat.new }
-    ensures woken { WakesNobody seat.old seat.new }
-    ensures run { RunGoesOnFrom seat.old seat.new }
-    ensures made { ComesTo T.follows T.fits (limits_of mutex.now) CallNow.Unlock (sight seat.old) (sight seat.new) (Ended (Answered.Unlocked result)) }
-    ensures bounded { MakesAtMost ((limits_of mutex.now).seats + 7) (sight seat.old) (sight seat.new) }
-{
-    let _mutex = mutex;
-    seat.standing.depth -= 1;
-    Unlocked::Still(seat.standing.depth)
-}
-
-/// The whole of `unlock` by the slow path. Only a call that is refused comes here.
-#[inline(always)]
-fn unlock_any<T: Kept>(
-    mutex: &Mutex<T>,
-    seat: &mut Seat<T>,
-) -> (Result<Unlocked, Refusal>, Option<WakeUp>)
-    requires belongs { OfMutex seat.old mutex.now }
-    requires leaves { MayRelease T.follows T.fits (sight seat.old) }
-    ensures belongs { Beside seat.old seat.new }
-    ensures woken { WakesNobody seat.old seat.new }
-    ensures run { RunGoesOnFrom seat.old seat.new }
-    ensures unlocks { Unlocks (sight seat.old) (sight seat.new) result.0 }
-    ensures steps { MakesCall (limits_of mutex.now) (λ x. Answered.Unlocked x) CallNow.Unlock (sight seat.old) (sight seat.new) result.0 }
-    ensures bounded { MakesAtMost ((limits_of mutex.now).seats + 7) (sight seat.old) (sight seat.new) }
-    ensures wakes { Wakes (limits_of mutex.now).seats result.1 (sight seat.old).trail (sight seat.new).trail }
-{
-    let (turn, wake_up) = release(mutex, seat, Call::Unlock);
-    match turn {
-        Turn::Ended(Answer::Unlocked(unlocked)) => (Ok(unlocked), wake_up),
-        Turn::Refused(Why::By(refusal)) => (Err(refusal), wake_up),
-        Turn::Refused(_) => (Err(Refusal::Asleep), wake_up),
-        _ => unreachable!(),
-    }
-}
 
 impl<T: Kept> Mutex<T> {
     /// Gives up one hold, and at depth 1 the mutex: to the oldest queued seat, or by a post to a locker that is not queued yet,
@@ -144,15 +65,94 @@ impl<T: Kept> Mutex<T> {
         ensures wakes { Wakes (limits_of self.now).seats result.1 (sight seat.old).trail (sight seat.new).trail }
     {
         if asleep(&seat.standing) {
-            return unlock_any(self, seat);
+            return unlock_slow(self, seat);
         }
         if seat.standing.depth == 1 {
-            let (unlocked, wake_up) = unlock_last(self, seat);
+            let (unlocked, wake_up) = unlock_last_hold(self, seat);
             return (Ok(unlocked), wake_up);
         }
         if seat.standing.depth > 1 {
-            return (Ok(unlock_once(self, seat)), None);
+            return (Ok(unlock_inner_hold(self, seat)), None);
         }
-        unlock_any(self, seat)
+        unlock_slow(self, seat)
+    }
+}
+
+/// Fast path of `unlock`: the seat is awake and holds once.
+#[inline(always)]
+pub fn unlock_last_hold<T: Kept>(mutex: &Mutex<T>, seat: &mut Seat<T>) -> (Unlocked, Option<WakeUp>)
+    requires belongs { OfMutex seat.old mutex.now }
+    requires rests { seat.old.standing.point ≡ Rest }
+    requires one { seat.old.standing.depth ≡ 1 }
+    requires leaves { MayLeave T.follows T.fits (sight seat.old) }
+    ensures belongs { Beside seat.old seat.new }
+    ensures woken { WakesNobody seat.old seat.new }
+    ensures run { RunGoesOnFrom seat.old seat.new }
+    ensures made { ComesTo T.follows T.fits (limits_of mutex.now) CallNow.Unlock (sight seat.old) (sight seat.new) (Ended (Answered.Unlocked result.0)) }
+    ensures bounded { MakesAtMost ((limits_of mutex.now).seats + 7) (sight seat.old) (sight seat.new) }
+    ensures wakes { Wakes (limits_of mutex.now).seats result.1 (sight seat.old).trail (sight seat.new).trail }
+{
+    let table = &mutex.table;
+    let mut standing = SeatState {
+        depth: 1,
+        point: Point::ReleaseOwnerStore(Releaser::Unlocker),
+        ..seat.standing
+    };
+    keep_held::<OwnerStore, T>(table, &mut seat.table_seat, &standing);
+    // The plain writes stand together, in this gap between two steps: see `steps` of `lfm_table`.
+    seat.standing.depth = 0;
+    standing.depth = 0;
+    standing.point = Point::ReleaseCountSubtract(Releaser::Unlocker);
+    let found = retake(table, &mut seat.table_seat, &standing);
+    if found != 1 {
+        stop_at_serving(
+            &mut seat.standing,
+            &seat.table_seat.moving,
+            Releaser::Unlocker,
+        );
+        return serve(mutex, seat, Releaser::Unlocker);
+    }
+    (Unlocked::Free, None)
+}
+
+/// Fast path of `unlock`: the seat is awake and holds more than once.
+#[inline(always)]
+pub fn unlock_inner_hold<T: Kept>(mutex: &Mutex<T>, seat: &mut Seat<T>) -> Unlocked
+    requires belongs { OfMutex seat.old mutex.now }
+    requires rests { seat.old.standing.point ≡ Rest }
+    requires deep { 1 < seat.old.standing.depth }
+    ensures belongs { Beside seat.old seat.new }
+    ensures woken { WakesNobody seat.old seat.new }
+    ensures run { RunGoesOnFrom seat.old seat.new }
+    ensures made { ComesTo T.follows T.fits (limits_of mutex.now) CallNow.Unlock (sight seat.old) (sight seat.new) (Ended (Answered.Unlocked result)) }
+    ensures bounded { MakesAtMost ((limits_of mutex.now).seats + 7) (sight seat.old) (sight seat.new) }
+{
+    let _mutex = mutex;
+    seat.standing.depth -= 1;
+    Unlocked::Still(seat.standing.depth)
+}
+
+/// The whole of `unlock` by the slow path. Only a call that is refused comes here.
+#[inline(always)]
+fn unlock_slow<T: Kept>(
+    mutex: &Mutex<T>,
+    seat: &mut Seat<T>,
+) -> (Result<Unlocked, Refusal>, Option<WakeUp>)
+    requires belongs { OfMutex seat.old mutex.now }
+    requires leaves { MayRelease T.follows T.fits (sight seat.old) }
+    ensures belongs { Beside seat.old seat.new }
+    ensures woken { WakesNobody seat.old seat.new }
+    ensures run { RunGoesOnFrom seat.old seat.new }
+    ensures unlocks { Unlocks (sight seat.old) (sight seat.new) result.0 }
+    ensures steps { MakesCall (limits_of mutex.now) (λ x. Answered.Unlocked x) CallNow.Unlock (sight seat.old) (sight seat.new) result.0 }
+    ensures bounded { MakesAtMost ((limits_of mutex.now).seats + 7) (sight seat.old) (sight seat.new) }
+    ensures wakes { Wakes (limits_of mutex.now).seats result.1 (sight seat.old).trail (sight seat.new).trail }
+{
+    let (turn, wake_up) = begin_and_release(mutex, seat, Call::Unlock);
+    match turn {
+        Turn::Ended(Answer::Unlocked(unlocked)) => (Ok(unlocked), wake_up),
+        Turn::Refused(Why::By(refusal)) => (Err(refusal), wake_up),
+        Turn::Refused(_) => (Err(Refusal::Asleep), wake_up),
+        _ => unreachable!(),
     }
 }

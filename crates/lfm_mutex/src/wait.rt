@@ -7,97 +7,22 @@ ghost use Rattle.lfm_protocol.specs.declared.answers.Turn.TheVariants.{Ended};
 ghost use Rattle.lfm_protocol.specs.declared.points.Point.TheVariants.{Rest};
 ghost use Rattle.lfm_mutex.specs.Belongs.{Beside, OfMutex, limits_of};
 ghost use Rattle.lfm_mutex.specs.calls.RunGoesOn.{RunGoesOnFrom};
-ghost use Rattle.lfm_mutex.specs.calls.Straight.{ComesTo};
+ghost use Rattle.lfm_mutex.specs.calls.FastPath.{ComesTo};
 ghost use Rattle.lfm_mutex.specs.calls.Trails.{MakesCall, MakesAtMost};
 ghost use Rattle.lfm_mutex.specs.calls.WakeUps.{Wakes};
 ghost use Rattle.lfm_mutex.specs.calls.Sight.{sight, MayLeave, MayRelease, StartsWait};
 ghost use Rattle.lfm_mutex.specs.calls.Woken.{WakesNobody, WokenAsGranted};
 
-use crate::calls::{asleep, release};
+use crate::calls::{asleep, begin_and_release};
 use crate::mutex::Mutex;
 use crate::seat::Seat;
-use crate::serve::{serve, stand_serving};
+use crate::serve::{serve, stop_at_serving};
 use lfm_model::{Refusal, Unlocked};
 use lfm_protocol::points::{Point, Releaser, Sleeper};
 use lfm_protocol::{Answer, Call, SeatState, Turn, Why};
 use lfm_table::operations::{OwnerStore, WakeStore};
 use lfm_table::steps::{keep, keep_held, retake};
 use lfm_table::{Kept, WakeUp};
-
-/// Fast path of `start_wait`: the seat is awake, holds once, and has a take left.
-#[inline(always)]
-pub fn wait_last<T: Kept>(
-    mutex: &Mutex<T>,
-    seat: &mut Seat<T>,
-    budget: u64,
-) -> (Unlocked, Option<WakeUp>)
-    requires belongs { OfMutex seat.old mutex.now }
-    requires rests { seat.old.standing.point ≡ Rest }
-    requires one { seat.old.standing.depth ≡ 1 }
-    requires budget { budget ≡ seat.old.table_seat.limits.budget }
-    requires charged { seat.old.standing.takes < budget }
-    requires leaves { MayLeave T.follows T.fits (sight seat.old) }
-    ensures belongs { Beside seat.old seat.new }
-    ensures woken { WakesNobody seat.old seat.new }
-    ensures run { RunGoesOnFrom seat.old seat.new }
-    ensures made { ComesTo T.follows T.fits (limits_of mutex.now) CallNow.StartWait (sight seat.old) (sight seat.new) (Ended (Answered.Waiting result.0)) }
-    ensures bounded { MakesAtMost ((limits_of mutex.now).seats + 8) (sight seat.old) (sight seat.new) }
-    ensures wakes { Wakes (limits_of mutex.now).seats result.1 (sight seat.old).trail (sight seat.new).trail }
-{
-    let _budget = budget;
-    let table = &mutex.table;
-    let takes = seat.standing.takes + 1;
-    let mut standing = SeatState {
-        depth: 1,
-        takes,
-        point: Point::ReleaseOwnerStore(Releaser::Waiter),
-        ..seat.standing
-    };
-    keep_held::<OwnerStore, T>(table, &mut seat.table_seat, &standing);
-    // The plain writes stand together, in this gap between two steps: see `steps` of `lfm_table`.
-    seat.standing.depth = 0;
-    seat.standing.takes = takes;
-    standing.depth = 0;
-    standing.point = Point::ReleaseCountSubtract(Releaser::Waiter);
-    let found = retake(table, &mut seat.table_seat, &standing);
-    if found != 1 {
-        stand_serving(
-            &mut seat.standing,
-            &seat.table_seat.moving,
-            Releaser::Waiter,
-        );
-        return serve(mutex, seat, Releaser::Waiter);
-    }
-    standing.point = Point::WaitWakeStore(Unlocked::Free);
-    keep::<WakeStore, T>(table, &mut seat.table_seat, &standing);
-    seat.standing.point = Point::Asleep(Sleeper::Waiter);
-    (Unlocked::Free, None)
-}
-
-/// The whole of `start_wait` by the slow path. Only a call that is refused comes here.
-#[inline(always)]
-fn wait_any<T: Kept>(
-    mutex: &Mutex<T>,
-    seat: &mut Seat<T>,
-) -> (Result<Unlocked, Refusal>, Option<WakeUp>)
-    requires belongs { OfMutex seat.old mutex.now }
-    requires leaves { MayRelease T.follows T.fits (sight seat.old) }
-    ensures belongs { Beside seat.old seat.new }
-    ensures woken { WakesNobody seat.old seat.new }
-    ensures run { RunGoesOnFrom seat.old seat.new }
-    ensures waits { StartsWait (limits_of mutex.now).budget (sight seat.old) (sight seat.new) result.0 }
-    ensures steps { MakesCall (limits_of mutex.now) (λ x. Answered.Waiting x) CallNow.StartWait (sight seat.old) (sight seat.new) result.0 }
-    ensures bounded { MakesAtMost ((limits_of mutex.now).seats + 8) (sight seat.old) (sight seat.new) }
-    ensures wakes { Wakes (limits_of mutex.now).seats result.1 (sight seat.old).trail (sight seat.new).trail }
-{
-    let (turn, wake_up) = release(mutex, seat, Call::StartWait);
-    match turn {
-        Turn::Ended(Answer::Waiting(released)) => (Ok(released), wake_up),
-        Turn::Refused(Why::By(refusal)) => (Err(refusal), wake_up),
-        Turn::Refused(_) => (Err(Refusal::Asleep), wake_up),
-        _ => unreachable!(),
-    }
-}
 
 impl<T: Kept> Mutex<T> {
     /// Gives up the mutex as `unlock` does, and falls asleep until another seat sends this one. It charges the take
@@ -138,15 +63,90 @@ impl<T: Kept> Mutex<T> {
         ensures wakes { Wakes (limits_of self.now).seats result.1 (sight seat.old).trail (sight seat.new).trail }
     {
         if asleep(&seat.standing) {
-            return wait_any(self, seat);
+            return wait_slow(self, seat);
         }
         if seat.standing.depth == 1 {
             let budget = seat.table_seat.limits.budget;
             if seat.standing.takes < budget {
-                let (released, wake_up) = wait_last(self, seat, budget);
+                let (released, wake_up) = wait_last_hold(self, seat, budget);
                 return (Ok(released), wake_up);
             }
         }
-        wait_any(self, seat)
+        wait_slow(self, seat)
+    }
+}
+
+/// Fast path of `start_wait`: the seat is awake, holds once, and has a take left.
+#[inline(always)]
+pub fn wait_last_hold<T: Kept>(
+    mutex: &Mutex<T>,
+    seat: &mut Seat<T>,
+    budget: u64,
+) -> (Unlocked, Option<WakeUp>)
+    requires belongs { OfMutex seat.old mutex.now }
+    requires rests { seat.old.standing.point ≡ Rest }
+    requires one { seat.old.standing.depth ≡ 1 }
+    requires budget { budget ≡ seat.old.table_seat.limits.budget }
+    requires charged { seat.old.standing.takes < budget }
+    requires leaves { MayLeave T.follows T.fits (sight seat.old) }
+    ensures belongs { Beside seat.old seat.new }
+    ensures woken { WakesNobody seat.old seat.new }
+    ensures run { RunGoesOnFrom seat.old seat.new }
+    ensures made { ComesTo T.follows T.fits (limits_of mutex.now) CallNow.StartWait (sight seat.old) (sight seat.new) (Ended (Answered.Waiting result.0)) }
+    ensures bounded { MakesAtMost ((limits_of mutex.now).seats + 8) (sight seat.old) (sight seat.new) }
+    ensures wakes { Wakes (limits_of mutex.now).seats result.1 (sight seat.old).trail (sight seat.new).trail }
+{
+    let _budget = budget;
+    let table = &mutex.table;
+    let takes = seat.standing.takes + 1;
+    let mut standing = SeatState {
+        depth: 1,
+        takes,
+        point: Point::ReleaseOwnerStore(Releaser::Waiter),
+        ..seat.standing
+    };
+    keep_held::<OwnerStore, T>(table, &mut seat.table_seat, &standing);
+    // The plain writes stand together, in this gap between two steps: see `steps` of `lfm_table`.
+    seat.standing.depth = 0;
+    seat.standing.takes = takes;
+    standing.depth = 0;
+    standing.point = Point::ReleaseCountSubtract(Releaser::Waiter);
+    let found = retake(table, &mut seat.table_seat, &standing);
+    if found != 1 {
+        stop_at_serving(
+            &mut seat.standing,
+            &seat.table_seat.moving,
+            Releaser::Waiter,
+        );
+        return serve(mutex, seat, Releaser::Waiter);
+    }
+    standing.point = Point::WaitWakeStore(Unlocked::Free);
+    keep::<WakeStore, T>(table, &mut seat.table_seat, &standing);
+    seat.standing.point = Point::Asleep(Sleeper::Waiter);
+    (Unlocked::Free, None)
+}
+
+/// The whole of `start_wait` by the slow path. Only a call that is refused comes here.
+#[inline(always)]
+fn wait_slow<T: Kept>(
+    mutex: &Mutex<T>,
+    seat: &mut Seat<T>,
+) -> (Result<Unlocked, Refusal>, Option<WakeUp>)
+    requires belongs { OfMutex seat.old mutex.now }
+    requires leaves { MayRelease T.follows T.fits (sight seat.old) }
+    ensures belongs { Beside seat.old seat.new }
+    ensures woken { WakesNobody seat.old seat.new }
+    ensures run { RunGoesOnFrom seat.old seat.new }
+    ensures waits { StartsWait (limits_of mutex.now).budget (sight seat.old) (sight seat.new) result.0 }
+    ensures steps { MakesCall (limits_of mutex.now) (λ x. Answered.Waiting x) CallNow.StartWait (sight seat.old) (sight seat.new) result.0 }
+    ensures bounded { MakesAtMost ((limits_of mutex.now).seats + 8) (sight seat.old) (sight seat.new) }
+    ensures wakes { Wakes (limits_of mutex.now).seats result.1 (sight seat.old).trail (sight seat.new).trail }
+{
+    let (turn, wake_up) = begin_and_release(mutex, seat, Call::StartWait);
+    match turn {
+        Turn::Ended(Answer::Waiting(released)) => (Ok(released), wake_up),
+        Turn::Refused(Why::By(refusal)) => (Err(refusal), wake_up),
+        Turn::Refused(_) => (Err(Refusal::Asleep), wake_up),
+        _ => unreachable!(),
     }
 }

@@ -10,4 +10,4 @@ pub mod ServingSteps
 pub mod SettledKept
 pub mod Started
 pub mod StepFacts
-pub mod StraightSteps
+pub mod FastPathSteps

@@ -10,5 +10,5 @@ pub mod SeenTable
 pub mod Seats
 pub mod Settled
 pub mod Steps
-pub mod Straight
+pub mod FastPath
 pub mod ValueMut

@@ -14,7 +14,7 @@ ghost use Rattle.lfm_table.specs.Accesses.{becomes, is_store, word_at};
 ghost use Rattle.lfm_table.specs.Grants.{granted_at};
 ghost use Rattle.lfm_table.specs.Rule.{Advanced, value_in};
 ghost use Rattle.lfm_table.specs.Steps.{CanMake, stores};
-ghost use Rattle.lfm_table.specs.Straight.{IsSame};
+ghost use Rattle.lfm_table.specs.FastPath.{IsSame};
 
 use crate::kept::Kept;
 use crate::layout::{COUNT, HANDOFF, OWNER, PUSH, link_at, wake_at};

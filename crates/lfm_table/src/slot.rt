@@ -11,7 +11,7 @@ ghost use Rattle.lfm_laws.specs.table.Words.{stepped_by};
 ghost use Rattle.lfm_table.specs.declared.rule.Moving.{Moving};
 ghost use Rattle.lfm_table.specs.Rule.{is_carried};
 ghost use Rattle.lfm_table.specs.Steps.{gives_at, kept_out, put_in, Took};
-ghost use Rattle.lfm_table.specs.Straight.{IsSame};
+ghost use Rattle.lfm_table.specs.FastPath.{IsSame};
 
 use crate::kept::Kept;
 use crate::layout::SLOT;

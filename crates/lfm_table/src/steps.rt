@@ -14,7 +14,7 @@ ghost use Rattle.lfm_laws.specs.table.Carried.{carries_value};
 ghost use Rattle.lfm_laws.specs.table.Words.{stepped_by};
 ghost use Rattle.lfm_table.specs.Grants.{granted_at};
 ghost use Rattle.lfm_table.specs.Steps.{gives_at, MayBeLeft};
-ghost use Rattle.lfm_table.specs.Straight.{IsSame, SeatFits, StepMade};
+ghost use Rattle.lfm_table.specs.FastPath.{IsSame, SeatFits, StepMade};
 
 use crate::kept::Kept;
 use crate::operations::{

@@ -21,11 +21,11 @@ use Rattle.lfm_table.specs.Seats.{Seated}
 use Rattle.lfm_mutex.specs.calls.Sight.{Concludes, sight_of}
 use Rattle.lfm_laws.specs.table.Words.{stepped_by}
 use Rattle.lfm_table.specs.Steps.{Event, oldest_in}
-use Rattle.lfm_table.specs.Straight.{Fit, MadeStep}
-use Rattle.lfm_mutex.specs.calls.Straight.{Course, ComesTo}
+use Rattle.lfm_table.specs.FastPath.{Fit, MadeStep}
+use Rattle.lfm_mutex.specs.calls.FastPath.{Course, ComesTo}
 use Rattle.lfm_mutex.proofs.runs.MadeCalls.{makes}
 use Rattle.lfm_mutex.proofs.runs.Running.{called_at_once, ran_one, last_one, ran_none, ran_more, ran_join, last_more, holds_now}
-use Rattle.lfm_mutex.proofs.runs.StraightPoints.{event_there}
+use Rattle.lfm_mutex.proofs.runs.FastPathPoints.{event_there}
 use Rattle.lfm_mutex.proofs.runs.Sights.{turned_at_once, first_concludes, turned_by_release, concludes_now, concludes_join, stays_now, stays_join, stays_none, begun, turned_by_steps}
 
 none_held : (how : How) → ◌≡◌ {A = Option How} None (Some how) → ⊥

@@ -13,13 +13,13 @@ use Rattle.lfm_table.specs.declared.rule.Moving.{Moving}
 use Rattle.lfm_table.specs.declared.seat_view.View.{View}
 use Rattle.lfm_table.specs.Grants.{granted_at}
 use Rattle.lfm_table.specs.Steps.{oldest_in}
-use Rattle.lfm_table.specs.Straight.{Fit, MadeStep}
+use Rattle.lfm_table.specs.FastPath.{Fit, MadeStep}
 use Rattle.lfm_mutex.specs.calls.Due.{due}
 use Rattle.lfm_mutex.specs.calls.Pushes.{PlainCourse}
 use Rattle.lfm_mutex.specs.calls.Runs.{is_release}
 use Rattle.lfm_mutex.proofs.runs.Courses.{course_none, course_next, course_join}
 use Rattle.lfm_mutex.proofs.runs.Spending.{spends_none, spends_join, spends_more}
-use Rattle.lfm_mutex.proofs.runs.StraightPoints.{fit_after, event_there}
+use Rattle.lfm_mutex.proofs.runs.FastPathPoints.{fit_after, event_there}
 use Rattle.lfm_mutex.proofs.runs.WakeUps.{grants_none}
 
 -- the seat after such a course, with what it keeps

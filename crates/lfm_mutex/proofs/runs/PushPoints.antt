@@ -19,7 +19,7 @@ use Rattle.lfm_table.specs.Table.{Me}
 use Rattle.lfm_table.specs.declared.rule.Moving.{Moving}
 use Rattle.lfm_table.specs.declared.seat_view.View.{View}
 use Rattle.lfm_table.specs.Steps.{oldest_in}
-use Rattle.lfm_table.specs.Straight.{Fit, MadeStep}
+use Rattle.lfm_table.specs.FastPath.{Fit, MadeStep}
 use Rattle.lfm_mutex.specs.calls.Runs.{opens}
 use Rattle.lfm_mutex.proofs.runs.PlainCourses.{PlainSteps, plain_none, plain_next}
 use Rattle.lfm_table.proofs.tables.StepFacts.{made_of}

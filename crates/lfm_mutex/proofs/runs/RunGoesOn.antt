@@ -8,7 +8,7 @@ use Rattle.lfm_table.specs.declared.rule.Moving.{Moving}
 use Rattle.lfm_table.specs.declared.seat_view.View.{View}
 use Rattle.lfm_table.specs.Actions.{RunGoesOn}
 use Rattle.lfm_table.specs.Steps.{Event}
-use Rattle.lfm_table.specs.Straight.{MadeStep}
+use Rattle.lfm_table.specs.FastPath.{MadeStep}
 pub use Rattle.lfm_table.proofs.tables.Actions.{run_next, run_same}
 use Rattle.lfm_table.proofs.tables.Actions.{run_by, run_rests, step_last}
 use Rattle.lfm_mutex.specs.calls.RunGoesOn.{SameTrailsKnowTheSame}

@@ -6,7 +6,7 @@ use Rattle.lfm_protocol.specs.declared.seats.SeatState.{SeatState}
 use Rattle.lfm_table.specs.declared.seat_view.Seen.{Seen}
 use Rattle.lfm_table.specs.declared.seat_view.View.{View}
 use Rattle.lfm_table.specs.declared.rule.Moving.{Moving}
-use Rattle.lfm_mutex.specs.calls.Straight.{Course}
+use Rattle.lfm_mutex.specs.calls.FastPath.{Course}
 use Rattle.lfm_mutex.specs.calls.WakeUps.{Wakes}
 
 pub course_same : {T : Type 0} {follows : ℕ → T → T → Type 0} {suits : T → ℕ → Type 0} {s k : ℕ} {p0 p : SeatState} {a0 a : Option (Moving T)} {v0 v : View T} {turn : Turn} → k ≡ s → Course follows suits k p0 a0 v0 turn p a v → Course follows suits s p0 a0 v0 turn p a v

@@ -18,7 +18,7 @@ use Rattle.lfm_protocol.specs.Place.{carries}
 use Rattle.lfm_laws.specs.table.Carried.{carries_value}
 use Rattle.lfm_laws.specs.table.Words.{stepped_by, link_of}
 use Rattle.lfm_mutex.specs.calls.Runs.{opens, releasing}
-use Rattle.lfm_mutex.specs.calls.Straight.{release_turn}
+use Rattle.lfm_mutex.specs.calls.FastPath.{release_turn}
 use Rattle.lfm_table.proofs.tables.StepFacts.{made_of}
 
 -- the push list was empty, so the release posts

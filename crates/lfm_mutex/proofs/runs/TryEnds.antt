@@ -6,7 +6,7 @@ use Rattle.lfm_protocol.specs.declared.answers.Answer.{Answer}
 use Rattle.lfm_protocol.specs.declared.answers.Call.{Call}
 use Rattle.lfm_protocol.specs.declared.limits.Limits.{Limits}
 use Rattle.lfm_mutex.specs.calls.Sight.{Sight, Locks}
-use Rattle.lfm_mutex.specs.calls.Straight.{ComesTo, try_turn}
+use Rattle.lfm_mutex.specs.calls.FastPath.{ComesTo, try_turn}
 use Rattle.lfm_mutex.specs.calls.Trails.{MakesCall}
 
 module _ {T : Type 0} (follows : ℕ → T → T → Type 0) (suits : T → ℕ → Type 0) (l : Limits) (s t : Sight T) where

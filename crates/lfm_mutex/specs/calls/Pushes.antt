@@ -11,7 +11,7 @@ use Rattle.lfm_mutex.specs.declared.push.Pushed.{Pushed}
 use Rattle.lfm_mutex.specs.calls.Due.{due}
 use Rattle.lfm_mutex.specs.calls.FailedPushes.{Spends}
 use Rattle.lfm_mutex.specs.calls.Runs.{opens}
-use Rattle.lfm_mutex.specs.calls.Straight.{Course}
+use Rattle.lfm_mutex.specs.calls.FastPath.{Course}
 use Rattle.lfm_mutex.specs.calls.WakeUps.{grants_of}
 
 -- what a push leaves of its call, by a seat whose data are p

@@ -15,10 +15,10 @@ use Rattle.lfm_table.specs.declared.rule.Moving.{Moving}
 use Rattle.lfm_table.specs.Rule.{value_in, is_carried, Advanced}
 use Rattle.lfm_table.specs.Seats.{Rooted}
 use Rattle.lfm_table.specs.Steps.{gives_at, CanMake, dropped, kept_out, put_in, with_record, oldest_in}
-use Rattle.lfm_table.specs.Straight.{Fit, MadeStep}
+use Rattle.lfm_table.specs.FastPath.{Fit, MadeStep}
 use Rattle.lfm_table.proofs.tables.SeatKept.{made, can_make, own_slot}
 use Rattle.lfm_table.proofs.tables.StepFacts.{keeps_value}
-use Rattle.lfm_table.proofs.tables.StraightSteps.{drops_same, drops_by, gives_by, leaves_by, took_none}
+use Rattle.lfm_table.proofs.tables.FastPathSteps.{drops_same, drops_by, gives_by, leaves_by, took_none}
 
 carried_with : {T : Type 0} (p : SeatState) (s n : ℕ) (a : Option (Moving T)) → is_carried (with_record p s n a) ≡ is_carried a
 carried_with p s n None = refl

@@ -14,20 +14,20 @@ use Rattle.lfm_table.specs.Table.{Me}
 use Rattle.lfm_table.specs.declared.rule.Moving.{Moving}
 use Rattle.lfm_table.specs.declared.seat_view.View.{View}
 use Rattle.lfm_table.specs.Steps.{oldest_in}
-use Rattle.lfm_table.specs.Straight.{Fit, MadeStep, SeatFits}
+use Rattle.lfm_table.specs.FastPath.{Fit, MadeStep, SeatFits}
 use Rattle.lfm_table.proofs.tables.StepFacts.{made_of}
 use Rattle.lfm_mutex.specs.calls.Due.{due}
 use Rattle.lfm_mutex.specs.calls.Pushes.{PlainCourse}
 use Rattle.lfm_mutex.specs.calls.FailedPushes.{Spends}
 use Rattle.lfm_mutex.specs.calls.Runs.{opens}
-use Rattle.lfm_mutex.specs.calls.Straight.{Course}
+use Rattle.lfm_mutex.specs.calls.FastPath.{Course}
 use Rattle.lfm_mutex.specs.calls.WakeUps.{Wakes}
 use Rattle.lfm_mutex.proofs.runs.Courses.{course_join}
 use Rattle.lfm_mutex.proofs.runs.PlainCourses.{plain_none, plain_next, plain_join}
 use Rattle.lfm_mutex.proofs.runs.Spending.{spends_join, spends_within}
-use Rattle.lfm_mutex.proofs.runs.StraightPoints.{not_owned}
+use Rattle.lfm_mutex.proofs.runs.FastPathPoints.{not_owned}
 use Rattle.lfm_mutex.proofs.runs.WakeUps.{wakes_after, wakes_none}
-use Rattle.lfm_table.proofs.tables.StraightSteps.{told_before, same_then}
+use Rattle.lfm_table.proofs.tables.FastPathSteps.{told_before, same_then}
 use Rattle.lfm_mutex.proofs.runs.SameSeats.{wakes_same}
 use Rattle.lfm_mutex.proofs.lock.queue.Goals as goal
 
@@ -73,7 +73,7 @@ stops {z} {q} x flat is = is ∙ (λ i. record { depth = flat i; takes = x.takes
 
 pub returns-in-Stopped-clause-made : goal.returns-in-Stopped-clause-made
 returns-in-Stopped-clause-made g c =
-    let s = c.args.seat.now in let h = c.load_other_owner in let p = c.push in let on = c.ask_on in let r = on.new.seat in let x = s.standing in
+    let s = c.args.seat.now in let h = c.load_other_owner in let p = c.push in let on = c.finish_ask in let r = on.new.seat in let x = s.standing in
     let so = plain_join (loads_owner x c.requires.stands c.requires.flat (record { seated = s.seated; became = s.became; ready = s.ready; rooted = s.rooted }) (told_before h.ensures.same h.ensures.step) h.ensures.other) (goes_on h.ensures.same c.in-Stopped.ensures.made) in
     let q = made_of 0 x.takes x.posts c.in-Stopped.point in
     course_join g.T.Kept.follows g.T.Kept.fits s.table_seat.number x s.table_seat.moving s.table_seat.place.me.0 q r.standing p.new.seat.moving r.table_seat.moving p.new.seat.place.me.0 r.table_seat.place.me.0 (Ended (Answer.Asked on.result.0)) so.course
@@ -81,14 +81,14 @@ returns-in-Stopped-clause-made g c =
 
 pub returns-in-Stopped-clause-spends : goal.returns-in-Stopped-clause-spends
 returns-in-Stopped-clause-spends g c =
-    let s = c.args.seat.now in let h = c.load_other_owner in let p = c.push in let on = c.ask_on in let r = on.new.seat in let x = s.standing in
+    let s = c.args.seat.now in let h = c.load_other_owner in let p = c.push in let on = c.finish_ask in let r = on.new.seat in let x = s.standing in
     let so = plain_join (loads_owner x c.requires.stands c.requires.flat (record { seated = s.seated; became = s.became; ready = s.ready; rooted = s.rooted }) (told_before h.ensures.same h.ensures.step) h.ensures.other) (goes_on h.ensures.same c.in-Stopped.ensures.made) in
     spends_join (due s.table_seat.limits.seats (length s.table_seat.place.me.0.popped) x.point) (due s.table_seat.limits.seats (length p.new.seat.place.me.0.popped) c.in-Stopped.point) 0 s.table_seat.place.me.0.trail p.new.seat.place.me.0.trail r.table_seat.place.me.0.trail so.spends
     (subst (λ (z : Limits × SeatState). Spends (due z.0.seats (length p.new.seat.place.me.0.popped) z.1.point) 0 p.new.seat.place.me.0.trail r.table_seat.place.me.0.trail) (λ i. ((same_then h.ensures.same p.ensures.same).1 i, stops x c.requires.flat c.stop_at.ensures i)) on.ensures.spends)
 
 pub returns-in-Stopped-clause-wakes : goal.returns-in-Stopped-clause-wakes
 returns-in-Stopped-clause-wakes g c =
-    let s = c.args.seat.now in let h = c.load_other_owner in let p = c.push in let on = c.ask_on in let r = on.new.seat in
+    let s = c.args.seat.now in let h = c.load_other_owner in let p = c.push in let on = c.finish_ask in let r = on.new.seat in
     let so = plain_join (loads_owner s.standing c.requires.stands c.requires.flat (record { seated = s.seated; became = s.became; ready = s.ready; rooted = s.rooted }) (told_before h.ensures.same h.ensures.step) h.ensures.other) (goes_on h.ensures.same c.in-Stopped.ensures.made) in
     wakes_after s.table_seat.limits.seats on.result.1 s.table_seat.place.me.0.trail p.new.seat.place.me.0.trail r.table_seat.place.me.0.trail so.grants
     (wakes_same on.result.1 p.new.seat.place.me.0.trail r.table_seat.place.me.0.trail (same_then h.ensures.same p.ensures.same).1 on.ensures.wakes)

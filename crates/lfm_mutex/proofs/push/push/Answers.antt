@@ -7,9 +7,9 @@ use Rattle.lfm_protocol.specs.After.{found_posted, pushed, same_link}
 use Rattle.lfm_protocol.specs.Begin.{Stepped}
 use Rattle.lfm_laws.specs.table.Words.{stepped_by, handoff_of, link_of}
 use Rattle.lfm_table.specs.Steps.{oldest_in}
-use Rattle.lfm_table.specs.Straight.{SeatFits}
+use Rattle.lfm_table.specs.FastPath.{SeatFits}
 use Rattle.lfm_table.proofs.tables.StepFacts.{made_of}
-use Rattle.lfm_table.proofs.tables.StraightSteps.{told_before, same_then}
+use Rattle.lfm_table.proofs.tables.FastPathSteps.{told_before, same_then}
 use Rattle.lfm_mutex.specs.calls.Pushes.{PlainCourse}
 use Rattle.lfm_mutex.specs.calls.Runs.{opens, errand}
 use Rattle.lfm_mutex.proofs.runs.PlainCourses.{plain_next}

@@ -11,14 +11,14 @@ use Rattle.lfm_table.specs.Rule.{value_in}
 use Rattle.lfm_mutex.specs.calls.Runs.{opens}
 use Rattle.lfm_mutex.specs.calls.Sight.{sight_of}
 use Rattle.lfm_table.specs.Steps.{oldest_in}
-use Rattle.lfm_mutex.specs.calls.Straight.{ComesTo}
+use Rattle.lfm_mutex.specs.calls.FastPath.{ComesTo}
 use Rattle.lfm_mutex.proofs.runs.Courses.{course_none, course_next, comes}
 use Rattle.lfm_table.proofs.tables.StepFacts.{made_of}
-use Rattle.lfm_mutex.proofs.runs.StraightPoints.{fit_begun, fit_after}
+use Rattle.lfm_mutex.proofs.runs.FastPathPoints.{fit_begun, fit_after}
 use Rattle.lfm_mutex.proofs.runs.ReceivePoints.{begins_receive, granted, not_granted, quieted}
 use Rattle.lfm_table.proofs.tables.Actions.{run_next}
 use Rattle.lfm_mutex.proofs.runs.RunGoesOn.{run_made}
-use Rattle.lfm_table.proofs.tables.StraightSteps.{told_before, same_then}
+use Rattle.lfm_table.proofs.tables.FastPathSteps.{told_before, same_then}
 use Rattle.lfm_mutex.proofs.receive.receive_asleep.Goals as goal
 
 pub returns-then-found-lt-FIRST_GRANT-clause-made : goal.returns-then-found-lt-FIRST_GRANT-clause-made

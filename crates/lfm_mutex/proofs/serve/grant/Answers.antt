@@ -11,15 +11,15 @@ use Rattle.lfm_protocol.specs.declared.seats.SeatState.{SeatState}
 use Rattle.lfm_protocol.specs.After.{releases}
 use Rattle.lfm_laws.specs.table.Ready.{IsReady}
 use Rattle.lfm_table.specs.Steps.{oldest_in}
-use Rattle.lfm_table.specs.Straight.{Fit}
+use Rattle.lfm_table.specs.FastPath.{Fit}
 use Rattle.lfm_mutex.specs.calls.Runs.{opens}
-use Rattle.lfm_mutex.specs.calls.Straight.{Course, release_turn}
+use Rattle.lfm_mutex.specs.calls.FastPath.{Course, release_turn}
 use Rattle.lfm_mutex.proofs.runs.Courses.{course_none, course_next}
 use Rattle.lfm_mutex.proofs.runs.ServePoints.{granted_to, waited}
-use Rattle.lfm_mutex.proofs.runs.StraightPoints.{fit_after}
+use Rattle.lfm_mutex.proofs.runs.FastPathPoints.{fit_after}
 use Rattle.lfm_table.proofs.tables.StepFacts.{made_of}
 use Rattle.lfm_mutex.proofs.runs.WakeUps.{grants_none, wakes_one}
-use Rattle.lfm_table.proofs.tables.StraightSteps.{told_before, same_then}
+use Rattle.lfm_table.proofs.tables.FastPathSteps.{told_before, same_then}
 use Rattle.lfm_mutex.proofs.serve.grant.Goals as goal
 
 pub returns-in-Unlocker-clause-made : goal.returns-in-Unlocker-clause-made

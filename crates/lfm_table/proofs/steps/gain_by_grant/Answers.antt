@@ -1,6 +1,6 @@
 use Rattle.std.proofs.Common.{refl, ap, ◌∙◌, arith}
 use Rattle.lfm_protocol.specs.declared.kinds.Kind.{Kind}
-use Rattle.lfm_table.proofs.tables.StraightSteps.{drops_by, gives_by, gained_slot, gained, idled, told_after, same_then}
+use Rattle.lfm_table.proofs.tables.FastPathSteps.{drops_by, gives_by, gained_slot, gained, idled, told_after, same_then}
 use Rattle.lfm_table.proofs.steps.gain_by_grant.Goals as goal
 
 pub returns-then-found-lt-FIRST_GRANT-clause-step : goal.returns-then-found-lt-FIRST_GRANT-clause-step

@@ -1,6 +1,6 @@
 use Rattle.std.proofs.Common.{◌≢◌, refl, sym, ap, ◌∙◌, arith}
 use Rattle.lfm_protocol.specs.declared.kinds.Kind.{Kind}
-use Rattle.lfm_table.proofs.tables.StraightSteps.{drops_by, gives_by, idled, told_after}
+use Rattle.lfm_table.proofs.tables.FastPathSteps.{drops_by, gives_by, idled, told_after}
 use Rattle.lfm_table.proofs.steps.load_other_owner.Goals as goal
 
 pub returns-clause-other : goal.returns-clause-other

@@ -4,7 +4,7 @@ use Rattle.lfm_protocol.specs.declared.limits.Limits.{Limits}
 use Rattle.lfm_table.specs.declared.rule.Moving.{Moving}
 use Rattle.lfm_table.specs.Rule.{value_in, Advanced}
 use Rattle.lfm_table.specs.Steps.{CanMake}
-use Rattle.lfm_table.proofs.tables.StraightSteps.{drops_by, leaves_by, can_give, given_slot, given, taken_back, told_after, same_then}
+use Rattle.lfm_table.proofs.tables.FastPathSteps.{drops_by, leaves_by, can_give, given_slot, given, taken_back, told_after, same_then}
 use Rattle.lfm_table.proofs.steps.retake.Goals as goal
 
 pub operate-found-requires-clause-can : goal.operate-found-requires-clause-can

@@ -25,13 +25,13 @@ use Rattle.lfm_mutex.proofs.ends.Ends.{rest_of, seen_last, last_seen, was_last, 
 use Rattle.lfm_mutex.proofs.mutex.Mutex.close.Goals as goal
 
 pub remove-requires : goal.remove-requires
-remove-requires g c = let f = c.in-Some-first_place.ensures in let r = length_at c.args.seats.items c.in-Some-first_place.at f.0 f.1 in let n : vec_len c.args.seats ≡ length c.args.seats.items = search rules in omega arith
+remove-requires g c = let f = c.in-Some-index_of_seat_1.ensures in let r = length_at c.args.seats.items c.in-Some-index_of_seat_1.at f.0 f.1 in let n : vec_len c.args.seats ≡ length c.args.seats.items = search rules in omega arith
 
 pub unreachable-requires : goal.unreachable-requires
-unreachable-requires g c = let one = c.in_default.ensures 1 (omega arith) (let a = c.args.self.some in omega arith) in c.in_default-first_place.ensures one.0.0 one.0.1 one.0.2 one.0.3
+unreachable-requires g c = let one = c.in_default.ensures 1 (omega arith) (let a = c.args.self.some in omega arith) in c.in_default-index_of_seat_1.ensures one.0.0 one.0.1 one.0.2 one.0.3
 
 pub loop-seat-init : goal.loop-seat-init
-loop-seat-init g c = let f = c.in-Some-first_place.ensures in let xs = c.args.seats.items in let at = c.in-Some-first_place.at in let p = c.remove.result in let s = g.P.Holder.seat_of p in let here = length_at xs at f.0 f.1 in
+loop-seat-init g c = let f = c.in-Some-index_of_seat_1.ensures in let xs = c.args.seats.items in let at = c.in-Some-index_of_seat_1.at in let p = c.remove.result in let s = g.P.Holder.seat_of p in let here = length_at xs at f.0 f.1 in
     let item : get_elem? xs at ≡ some p = item_at xs xs at p here c.remove.ensures.value refl in let same : f.0 ≡ p = some-injective f.0 p (sym f.1 ∙ item) in
     let first : s.table_seat.number ≡ 1 = ap (λ z. (g.P.Holder.seat_of z).table_seat.number) (sym same) ∙ f.2 in let stand = c.in_default.ensures in let lim = c.args.self.some in
     let idle0 : Idle (sight s) = (stand 1 (omega arith) (omega arith)).1 at p item first in let idle : (s.standing.depth ≡ 0) × (s.standing.point ≡ Rest) = (idle0.0, rest_of s.standing.point idle0.1) in let free = free_seat s.table_seat.number s.table_seat.limits s.standing s.table_seat.place.me s.table_seat.moving s.seated s.became idle.0 idle.1 in

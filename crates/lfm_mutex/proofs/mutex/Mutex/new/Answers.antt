@@ -53,7 +53,7 @@ loop-i-preserved g c = let v = c.loop-i.invariant in let cut = c.split_seat-plac
   actions = ap (λ m. m.0.actions) me ∙ v.actions;
   standing = ap (λ m. m.0.standing) me ∙ v.standing;
   room = search rules;
-  fresh = and_last (λ j s. (s.table_seat.place.table_id ≡ c.in-Ok-laid_out.laid.0.table_id) × Fresh c.args.value (j + 2) s.table_seat.number s.table_seat.limits s.standing s.table_seat.place.me s.table_seat.moving l) c.loop-i.all.items c.push_reserved.new.self.items _ c.push_reserved.ensures.items
+  fresh = and_last (λ j s. (s.table_seat.place.table_id ≡ c.in-Ok-new_table.laid.0.table_id) × Fresh c.args.value (j + 2) s.table_seat.number s.table_seat.limits s.standing s.table_seat.place.me s.table_seat.moving l) c.loop-i.all.items c.push_reserved.new.self.items _ c.push_reserved.ensures.items
       (cut.table.2 ∙ v.table, ((let q : c.loop-i.i + 1 ≡ length c.loop-i.all.items + 2 = omega arith in q), refl, c.at_rest.ensures, refl, ap (λ m. m.0.trail) cut.split.1, ap (λ m. m.0.last) cut.split.1 ∙ v.opening, ap (λ m. m.0.last_found) cut.split.1, ap (λ m. m.0.limits) cut.split.1 ∙ v.limits_are, ap (λ m. m.0.ended) cut.split.1, ap (λ m. m.0.actions) cut.split.1)) v.fresh;
 }
 
@@ -80,15 +80,15 @@ invariant_of-first g c = let k = c.loop-i.invariant in let r = c.loop-i.root in 
 pub returns-clause-seats : goal.returns-clause-seats
 returns-clause-seats g c = let v = c.loop-i.invariant in let l : Limits = record { seats = c.args.seats; budget = c.args.budget } in (
   search rules,
-  λ j s e. let f = (and_first (λ j s. (s.table_seat.place.table_id ≡ c.in-Ok-laid_out.laid.0.table_id) × Fresh c.args.value (j + 1) s.table_seat.number s.table_seat.limits s.standing s.table_seat.place.me s.table_seat.moving l) c.loop-i.all.items _ _ c.in-Ok-insert.ensures.items
-      (v.table, (refl, refl, c.at_rest-2.ensures, refl, v.trail, v.last, v.found, v.limits_are, v.ended, v.actions)) (λ j y e. subst (λ (n : ℕ). (y.table_seat.place.table_id ≡ c.in-Ok-laid_out.laid.0.table_id) × Fresh c.args.value n y.table_seat.number y.table_seat.limits y.standing y.table_seat.place.me y.table_seat.moving l) (let q : j + 2 ≡ j + 1 + 1 = omega arith in q) (v.fresh j y e))) j s e in
+  λ j s e. let f = (and_first (λ j s. (s.table_seat.place.table_id ≡ c.in-Ok-new_table.laid.0.table_id) × Fresh c.args.value (j + 1) s.table_seat.number s.table_seat.limits s.standing s.table_seat.place.me s.table_seat.moving l) c.loop-i.all.items _ _ c.in-Ok-insert.ensures.items
+      (v.table, (refl, refl, c.at_rest-2.ensures, refl, v.trail, v.last, v.found, v.limits_are, v.ended, v.actions)) (λ j y e. subst (λ (n : ℕ). (y.table_seat.place.table_id ≡ c.in-Ok-new_table.laid.0.table_id) × Fresh c.args.value n y.table_seat.number y.table_seat.limits y.standing y.table_seat.place.me y.table_seat.moving l) (let q : j + 2 ≡ j + 1 + 1 = omega arith in q) (v.fresh j y e))) j s e in
       ((f.0, f.1.1), fresh_sight c.args.value (j + 1) s.table_seat.number s.table_seat.limits s.standing s.table_seat.place.me s.table_seat.moving l f.1),
 )
 
 pub returns-clause-past : goal.returns-clause-past
 returns-clause-past g c = let v = c.loop-i.invariant in let l : Limits = record { seats = c.args.seats; budget = c.args.budget } in
-    λ j s e. (and_first (λ j s. (s.table_seat.place.table_id ≡ c.in-Ok-laid_out.laid.0.table_id) × Fresh c.args.value (j + 1) s.table_seat.number s.table_seat.limits s.standing s.table_seat.place.me s.table_seat.moving l) c.loop-i.all.items _ _ c.in-Ok-insert.ensures.items
-    (v.table, (refl, refl, c.at_rest-2.ensures, refl, v.trail, v.last, v.found, v.limits_are, v.ended, v.actions)) (λ j y e. subst (λ (n : ℕ). (y.table_seat.place.table_id ≡ c.in-Ok-laid_out.laid.0.table_id) × Fresh c.args.value n y.table_seat.number y.table_seat.limits y.standing y.table_seat.place.me y.table_seat.moving l) (let q : j + 2 ≡ j + 1 + 1 = omega arith in q) (v.fresh j y e)) j s e).1.9
+    λ j s e. (and_first (λ j s. (s.table_seat.place.table_id ≡ c.in-Ok-new_table.laid.0.table_id) × Fresh c.args.value (j + 1) s.table_seat.number s.table_seat.limits s.standing s.table_seat.place.me s.table_seat.moving l) c.loop-i.all.items _ _ c.in-Ok-insert.ensures.items
+    (v.table, (refl, refl, c.at_rest-2.ensures, refl, v.trail, v.last, v.found, v.limits_are, v.ended, v.actions)) (λ j y e. subst (λ (n : ℕ). (y.table_seat.place.table_id ≡ c.in-Ok-new_table.laid.0.table_id) × Fresh c.args.value n y.table_seat.number y.table_seat.limits y.standing y.table_seat.place.me y.table_seat.moving l) (let q : j + 2 ≡ j + 1 + 1 = omega arith in q) (v.fresh j y e)) j s e).1.9
 
 pub loop-i-init : goal.loop-i-init
 loop-i-init g c = search rules

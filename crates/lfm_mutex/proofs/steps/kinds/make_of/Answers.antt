@@ -4,10 +4,10 @@ use Rattle.lfm_protocol.specs.declared.limits.Limits.{Limits}
 use Rattle.lfm_laws.specs.table.Carried.{carries_value}
 use Rattle.lfm_laws.specs.table.Words.{stepped_by}
 use Rattle.lfm_table.specs.Rule.{value_in, is_carried}
-use Rattle.lfm_table.specs.Straight.{Fit, SeatFits}
+use Rattle.lfm_table.specs.FastPath.{Fit, SeatFits}
 use Rattle.lfm_table.specs.Steps.{kept_out, put_in, with_record, CanMake, Took}
 use Rattle.lfm_table.proofs.tables.SeatKept.{can_make, slot_there, made_next}
-use Rattle.lfm_table.proofs.tables.StraightSteps.{same_then}
+use Rattle.lfm_table.proofs.tables.FastPathSteps.{same_then}
 use Rattle.lfm_mutex.proofs.runs.RunGoesOn.{run_stepped}
 use Rattle.lfm_mutex.proofs.steps.kinds.make_of.Goals as goal
 

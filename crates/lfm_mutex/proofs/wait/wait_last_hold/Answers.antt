@@ -1,0 +1,122 @@
+use Rattle.std.proofs.Common.{◌≡◌, ℕ, ◌+◌, ◌<◌, ◌≤◌, length, refl, sym, ap, subst, ◌∙◌, arith}
+use Rattle.lfm_model.specs.declared.answers.Unlocked.{Unlocked}
+use Rattle.lfm_protocol.specs.declared.answers.Answer.{Answer}
+use Rattle.lfm_protocol.specs.declared.answers.Call.{Call}
+use Rattle.lfm_protocol.specs.declared.answers.Turn.TheVariants.{Ended}
+use Rattle.lfm_protocol.specs.declared.points.Point.TheVariants.{Asleep, ReleaseOwnerStore, ReleaseCountSubtract, WaitWakeStore}
+use Rattle.lfm_protocol.specs.declared.points.Carrier.{Carrier}
+use Rattle.lfm_protocol.specs.declared.points.Releaser.TheVariants.{Waiter}
+use Rattle.lfm_protocol.specs.declared.points.Sleeper.{Sleeper}
+use Rattle.lfm_protocol.specs.After.{take}
+use Rattle.lfm_protocol.specs.declared.seats.SeatState.{SeatState}
+use Rattle.lfm_laws.specs.table.Words.{stepped_by}
+use Rattle.lfm_table.specs.Steps.{Event, oldest_in}
+use Rattle.lfm_mutex.specs.calls.Runs.{opens, weight}
+use Rattle.lfm_table.specs.FastPath.{Fit}
+use Rattle.lfm_mutex.specs.calls.FastPath.{Course}
+use Rattle.lfm_mutex.proofs.runs.Courses.{course_none, course_next, course_join, gives_up}
+use Rattle.lfm_mutex.proofs.runs.Running.{trail_grows, bounded_more}
+use Rattle.lfm_mutex.proofs.runs.Sights.{may_leave}
+use Rattle.lfm_mutex.proofs.runs.FastPathPoints.{begins_wait, fit_after, fit_begun}
+use Rattle.lfm_mutex.proofs.runs.ServePoints.{freed, not_freed, waited}
+use Rattle.lfm_table.proofs.tables.StepFacts.{made_of}
+use Rattle.lfm_protocol.specs.Begin.{Stepped}
+use Rattle.lfm_mutex.proofs.runs.WakeUps.{grants_none, wakes_after, wakes_none}
+use Rattle.lfm_mutex.specs.calls.WakeUps.{Wakes}
+use Rattle.lfm_table.proofs.tables.Actions.{run_next}
+use Rattle.lfm_mutex.proofs.runs.RunGoesOn.{run_made}
+use Rattle.lfm_protocol.specs.declared.limits.Limits.{Limits}
+use Rattle.lfm_table.proofs.tables.FastPathSteps.{told_before, same_then}
+use Rattle.lfm_mutex.proofs.runs.SameSeats.{course_same, wakes_same}
+use Rattle.lfm_mutex.proofs.wait.wait_last_hold.Goals as goal
+
+pub keep_held-requires-clause-leaves : goal.keep_held-requires-clause-leaves
+keep_held-requires-clause-leaves g c κs within = let s = c.args.seat.now in
+    λ r at. may_leave g.T.Kept.follows g.T.Kept.fits s.table_seat.number s.standing s.table_seat.place.me.0 s.table_seat.moving s.seated.named (let one = c.requires.one in omega (arith, one)) c.requires.leaves
+
+pub returns-then-found-ne1-clause-made : goal.returns-then-found-ne1-clause-made
+returns-then-found-ne1-clause-made g c =
+    let s = c.args.seat.now in let t = s.standing.takes + 1 in let ps = s.standing.posts in
+    let p0 = made_of 1 t ps (ReleaseOwnerStore Waiter) in let p1 = made_of 0 t ps (ReleaseCountSubtract Waiter) in
+    let begins = begins_wait s.standing s.table_seat.limits c.requires.rests c.requires.one (subst (λ (b : ℕ). s.standing.takes < b) c.requires.budget c.requires.charged) in
+    let fit = fit_begun s.table_seat.number s.table_seat.place.table_id.words s.table_seat.place.id s.table_seat.limits s.table_seat.place.me s.table_seat.moving s.standing p0 Call.StartWait (record { seated = s.seated; became = s.became; ready = s.ready; rooted = s.rooted }) begins in
+    let h = c.keep_held in let f = c.retake-found in
+    let b = f.new.seat.place in
+    let st = stepped_by p1 s.table_seat.number f.result (oldest_in f.new.seat.moving) in
+    let e : Event g.T.Kept.follows g.T.Kept.fits p1 h.new.seat.moving h.new.seat.place.me.0 st.turn st.seat f.new.seat.moving b.me.0 = (told_before (same_then h.ensures.same f.ensures.same) f.ensures.step).event in
+    let fit1 : Fit s.table_seat.number h.new.seat.place.table_id.words h.new.seat.place.id s.table_seat.limits p1 h.new.seat.place.me h.new.seat.moving = (told_before h.ensures.same h.ensures.step).fit in
+    let r = c.serve.new.seat in let turn = Ended (Answer.Waiting c.serve.result.0) in
+    let q = made_of 0 t ps (take (Carrier.Releaser Waiter) 0 (oldest_in f.new.seat.moving)) in
+    let same : c.stop_at_serving.new.standing ≡ q = c.stop_at_serving.ensures in
+    let so = course_next g.T.Kept.follows g.T.Kept.fits s.table_seat.number p1 h.new.seat.moving h.new.seat.place.me.0 h.new.seat.place.table_id.words h.new.seat.place.id s.table_seat.limits p1 f.result h.new.seat.place.me h.new.seat.moving b.me f.new.seat.moving b.table_id.words b.id (opens q)
+    (course_none g.T.Kept.follows g.T.Kept.fits s.table_seat.number p1 h.new.seat.moving h.new.seat.place.me.0) fit1 (told_before (same_then h.ensures.same f.ensures.same) f.ensures.step) (not_freed Waiter 0 t ps s.table_seat.number f.result (oldest_in f.new.seat.moving) c.if-found-ne1.true) (λ e. cc) refl in
+    gives_up g.T.Kept.follows g.T.Kept.fits s.table_seat.number s.table_seat.place.table_id.words s.table_seat.place.id h.new.seat.place.table_id.words h.new.seat.place.id r.table_seat.number h.result s.table_seat.limits p0 p1 s.table_seat.place.me h.new.seat.place.me s.table_seat.moving h.new.seat.moving fit Waiter refl (told_before h.ensures.same h.ensures.step) refl Call.StartWait c.args.mutex.now.limits s.standing r.standing turn r.table_seat.moving r.table_seat.place.me.0 refl c.requires.belongs.1 (c.serve.ensures.same.0 ∙ (same_then h.ensures.same f.ensures.same).0) begins refl
+    (course_join g.T.Kept.follows g.T.Kept.fits s.table_seat.number p1 h.new.seat.moving h.new.seat.place.me.0 q r.standing f.new.seat.moving r.table_seat.moving b.me.0 r.table_seat.place.me.0 turn so
+    (subst (λ (x : SeatState). Course g.T.Kept.follows g.T.Kept.fits s.table_seat.number x f.new.seat.moving b.me.0 turn r.standing r.table_seat.moving r.table_seat.place.me.0) same (course_same (same_then h.ensures.same f.ensures.same).0 c.serve.ensures.made)))
+
+pub returns-clause-made : goal.returns-clause-made
+returns-clause-made g c =
+    let s = c.args.seat.now in let t = s.standing.takes + 1 in let ps = s.standing.posts in
+    let p0 = made_of 1 t ps (ReleaseOwnerStore Waiter) in let p1 = made_of 0 t ps (ReleaseCountSubtract Waiter) in
+    let begins = begins_wait s.standing s.table_seat.limits c.requires.rests c.requires.one (subst (λ (b : ℕ). s.standing.takes < b) c.requires.budget c.requires.charged) in
+    let fit = fit_begun s.table_seat.number s.table_seat.place.table_id.words s.table_seat.place.id s.table_seat.limits s.table_seat.place.me s.table_seat.moving s.standing p0 Call.StartWait (record { seated = s.seated; became = s.became; ready = s.ready; rooted = s.rooted }) begins in
+    let h = c.keep_held in let f = c.retake-found in
+    let b = f.new.seat.place in
+    let st = stepped_by p1 s.table_seat.number f.result (oldest_in f.new.seat.moving) in
+    let e : Event g.T.Kept.follows g.T.Kept.fits p1 h.new.seat.moving h.new.seat.place.me.0 st.turn st.seat f.new.seat.moving b.me.0 = (told_before (same_then h.ensures.same f.ensures.same) f.ensures.step).event in
+    let fit1 : Fit s.table_seat.number h.new.seat.place.table_id.words h.new.seat.place.id s.table_seat.limits p1 h.new.seat.place.me h.new.seat.moving = (told_before h.ensures.same h.ensures.step).fit in
+    let k = c.keep in let p2 = made_of 0 t ps (WaitWakeStore Unlocked.Free) in
+    let turn = Ended (Answer.Waiting Unlocked.Free) in
+    let is = freed Waiter 0 t ps s.table_seat.number f.result (oldest_in f.new.seat.moving) c.if-found-ne1.false in
+    let so1 = course_next g.T.Kept.follows g.T.Kept.fits s.table_seat.number p1 h.new.seat.moving h.new.seat.place.me.0 h.new.seat.place.table_id.words h.new.seat.place.id s.table_seat.limits p1 f.result h.new.seat.place.me h.new.seat.moving b.me f.new.seat.moving b.table_id.words b.id (opens p2)
+    (course_none g.T.Kept.follows g.T.Kept.fits s.table_seat.number p1 h.new.seat.moving h.new.seat.place.me.0) fit1 (told_before (same_then h.ensures.same f.ensures.same) f.ensures.step) is (λ e. cc) refl in
+    let fit2 = fit_after g.T.Kept.follows g.T.Kept.fits s.table_seat.number b.table_id.words b.id s.table_seat.limits p1 f.result h.new.seat.place.me h.new.seat.moving b.me f.new.seat.moving (told_before (same_then h.ensures.same f.ensures.same) f.ensures.step) (opens p2) is in
+    let so2 = course_next g.T.Kept.follows g.T.Kept.fits s.table_seat.number p1 h.new.seat.moving h.new.seat.place.me.0 b.table_id.words b.id s.table_seat.limits p2 k.result b.me f.new.seat.moving k.new.seat.place.me k.new.seat.moving k.new.seat.place.table_id.words k.new.seat.place.id
+    (record { seat = made_of 0 t ps (Asleep Sleeper.Waiter); turn = turn }) so1 fit2 (told_before (same_then (same_then h.ensures.same f.ensures.same) k.ensures.same) k.ensures.step) (waited 0 t ps s.table_seat.number k.result Unlocked.Free (oldest_in k.new.seat.moving)) (λ e. cc) refl in
+    gives_up g.T.Kept.follows g.T.Kept.fits s.table_seat.number s.table_seat.place.table_id.words s.table_seat.place.id h.new.seat.place.table_id.words h.new.seat.place.id k.new.seat.number h.result s.table_seat.limits p0 p1 s.table_seat.place.me h.new.seat.place.me s.table_seat.moving h.new.seat.moving fit Waiter refl (told_before h.ensures.same h.ensures.step) refl Call.StartWait c.args.mutex.now.limits s.standing (made_of 0 t ps (Asleep Sleeper.Waiter)) turn k.new.seat.moving k.new.seat.place.me.0 refl c.requires.belongs.1 (same_then (same_then h.ensures.same f.ensures.same) k.ensures.same).0 begins refl so2
+
+pub returns-then-found-ne1-clause-bounded : goal.returns-then-found-ne1-clause-bounded
+returns-then-found-ne1-clause-bounded g c =
+    let s = c.args.seat.now in let t = s.standing.takes + 1 in let ps = s.standing.posts in
+    let p0 = made_of 1 t ps (ReleaseOwnerStore Waiter) in let p1 = made_of 0 t ps (ReleaseCountSubtract Waiter) in
+    let h = c.keep_held in let f = c.retake-found in let b = f.new.seat.place in let r = c.serve.new.seat in
+    let st = stepped_by p1 s.table_seat.number f.result (oldest_in f.new.seat.moving) in
+    let first = stepped_by p0 s.table_seat.number h.result (oldest_in h.new.seat.moving) in
+    let fit1 : Fit s.table_seat.number h.new.seat.place.table_id.words h.new.seat.place.id s.table_seat.limits p1 h.new.seat.place.me h.new.seat.moving = (told_before h.ensures.same h.ensures.step).fit in
+    let one = trail_grows g.T.Kept.follows g.T.Kept.fits p0 first.seat s.table_seat.place.me.0 h.new.seat.place.me.0 s.table_seat.moving h.new.seat.moving first.turn (told_before h.ensures.same h.ensures.step).event in
+    let most = bounded_more g.T.Kept.follows g.T.Kept.fits s.table_seat.limits.seats s.table_seat.number p1 st.seat h.new.seat.place.me.0 b.me.0 h.new.seat.moving f.new.seat.moving st.turn (λ e. cc) (ap (λ l. l.seats) fit1.seated.limits_are) fit1.ready (told_before (same_then h.ensures.same f.ensures.same) f.ensures.step).event in
+    let there = (c.stop_at_serving.ensures ∙ ap (λ (z : Stepped). z.seat) (sym (not_freed Waiter 0 t ps s.table_seat.number f.result (oldest_in f.new.seat.moving) c.if-found-ne1.true))) in
+    let then = subst (λ (z : SeatState × Limits). length r.table_seat.place.me.0.trail ≤ length b.me.0.trail + weight z.1.seats (length b.me.0.popped) z.0.point) (λ i. (there i, (same_then h.ensures.same f.ensures.same).1 i)) c.serve.ensures.bounded in
+    let same = ap (λ l. l.seats) c.requires.belongs.1 in
+    omega (arith, one, most, then, same)
+
+pub returns-clause-bounded : goal.returns-clause-bounded
+returns-clause-bounded g c =
+    let s = c.args.seat.now in let t = s.standing.takes + 1 in let ps = s.standing.posts in
+    let p0 = made_of 1 t ps (ReleaseOwnerStore Waiter) in let p1 = made_of 0 t ps (ReleaseCountSubtract Waiter) in let p2 = made_of 0 t ps (WaitWakeStore Unlocked.Free) in
+    let h = c.keep_held in let f = c.retake-found in let k = c.keep in
+    let first = stepped_by p0 s.table_seat.number h.result (oldest_in h.new.seat.moving) in
+    let st = stepped_by p1 s.table_seat.number f.result (oldest_in f.new.seat.moving) in
+    let last = stepped_by p2 s.table_seat.number k.result (oldest_in k.new.seat.moving) in
+    let one = trail_grows g.T.Kept.follows g.T.Kept.fits p0 first.seat s.table_seat.place.me.0 h.new.seat.place.me.0 s.table_seat.moving h.new.seat.moving first.turn (told_before h.ensures.same h.ensures.step).event in
+    let two = trail_grows g.T.Kept.follows g.T.Kept.fits p1 st.seat h.new.seat.place.me.0 f.new.seat.place.me.0 h.new.seat.moving f.new.seat.moving st.turn (told_before (same_then h.ensures.same f.ensures.same) f.ensures.step).event in
+    let three = trail_grows g.T.Kept.follows g.T.Kept.fits p2 last.seat f.new.seat.place.me.0 k.new.seat.place.me.0 f.new.seat.moving k.new.seat.moving last.turn (told_before (same_then (same_then h.ensures.same f.ensures.same) k.ensures.same) k.ensures.step).event in
+    omega (arith, one, two, three)
+
+pub returns-then-found-ne1-clause-wakes : goal.returns-then-found-ne1-clause-wakes
+returns-then-found-ne1-clause-wakes g c =
+    let s = c.args.seat.now in let h = c.keep_held in let f = c.retake-found in let on = c.serve in
+    subst (λ (n : ℕ). Wakes n on.result.1 s.table_seat.place.me.0.trail on.new.seat.table_seat.place.me.0.trail) (ap (λ l. l.seats) c.requires.belongs.1)
+    (wakes_after s.table_seat.limits.seats on.result.1 s.table_seat.place.me.0.trail f.new.seat.place.me.0.trail on.new.seat.table_seat.place.me.0.trail (grants_none g.T.Kept.follows g.T.Kept.fits _ _ _ _ _ _ _ f.ensures.step.event refl ∙ grants_none g.T.Kept.follows g.T.Kept.fits _ _ _ _ _ _ _ h.ensures.step.event refl) (wakes_same on.result.1 f.new.seat.place.me.0.trail on.new.seat.table_seat.place.me.0.trail (same_then h.ensures.same f.ensures.same).1 on.ensures.wakes))
+
+pub returns-clause-wakes : goal.returns-clause-wakes
+returns-clause-wakes g c =
+    let s = c.args.seat.now in let h = c.keep_held in let f = c.retake-found in let k = c.keep in
+    wakes_none c.args.mutex.now.limits.seats s.table_seat.place.me.0.trail k.new.seat.place.me.0.trail
+    (grants_none g.T.Kept.follows g.T.Kept.fits _ _ _ _ _ _ _ k.ensures.step.event refl ∙ (grants_none g.T.Kept.follows g.T.Kept.fits _ _ _ _ _ _ _ f.ensures.step.event refl ∙ grants_none g.T.Kept.follows g.T.Kept.fits _ _ _ _ _ _ _ h.ensures.step.event refl))
+
+pub returns-then-found-ne1-clause-run : goal.returns-then-found-ne1-clause-run
+returns-then-found-ne1-clause-run g c = run_next (run_made c.keep_held.ensures.step) (run_next (run_made c.retake-found.ensures.step) c.serve.ensures.made.ran.run)
+
+pub returns-clause-run : goal.returns-clause-run
+returns-clause-run g c = run_next (run_made c.keep_held.ensures.step) (run_next (run_made c.retake-found.ensures.step) (run_made c.keep.ensures.step))

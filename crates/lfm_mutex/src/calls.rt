@@ -39,8 +39,8 @@ fn either(first: Option<WakeUp>, then: Option<WakeUp>) -> Option<WakeUp>
     }
 }
 
-/// Stores the point at which the slow path takes a call over from its fast path. Out of line: a `Point` has several words, and
-/// to write one costs as much as an atomic step, so a fast path must not.
+/// Stores the point at which the slow path takes a call over from its fast path. Out of line: a point that carries data has several
+/// words, and to write them costs as much as an atomic step. A point without data is stored by an assignment instead.
 #[inline(never)]
 pub(crate) fn stop_at(standing: &mut SeatState, point: Point)
     ensures { standing.new ≡ record standing.old { point = point } }

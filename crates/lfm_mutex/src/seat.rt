@@ -29,9 +29,9 @@ use lfm_table::{Kept, TableSeat, Woken};
 /// ```
 #[derive(Drop)]
 pub struct Seat<T: Drop> {
-    /// What the steps of a call take of it.
+    /// What a step needs of the seat beside its state: the place at the table, the value while it is in hand, and the number.
     pub(crate) table_seat: TableSeat<T>,
-    /// Its state between its calls.
+    /// The state of the seat. A fast path writes of it only what a call changes.
     pub(crate) standing: SeatState,
     /// The seats that calls with this one have woken.
     pub(crate) woken: Woken,

@@ -2,7 +2,6 @@
 ghost use Rattle.std.specs.Prelude.{◌≡◌, ◌+◌, ◌*◌, ℕ, [], IfOk, IfErr, vec_len, true, false};
 ghost use mathlib.Core.Option.{some};
 ghost use lib.ListN.{get_elem?};
-ghost use Rattle.lfm_protocol.specs.Seats.{absent};
 ghost use Rattle.lfm_model.specs.declared.refusals.NewFault.{NewFault};
 ghost use Rattle.lfm_protocol.specs.Limits.{are_in_limits};
 ghost use Rattle.lfm_mutex.specs.AllSeats.{SeatsOf};
@@ -16,7 +15,6 @@ use crate::mutex::Mutex;
 use crate::pace::Pace;
 use crate::seat::Seat;
 use lfm_model::NewFault;
-use lfm_protocol::points::Point;
 use lfm_protocol::{Limits, SeatState};
 use lfm_table::moving_box::MovingBox;
 use lfm_table::rule::Key;
@@ -71,7 +69,7 @@ impl<T: Kept> Mutex<T> {
                     number: i + 1,
                     limits,
                 },
-                standing: at_rest(),
+                standing: SeatState::REST,
                 woken: Woken::new(),
             });
         }
@@ -82,7 +80,7 @@ impl<T: Kept> Mutex<T> {
                 number: 1,
                 limits,
             },
-            standing: at_rest(),
+            standing: SeatState::REST,
             woken: Woken::new(),
         };
         let Ok(()) = all.insert(0, first) else {
@@ -94,18 +92,6 @@ impl<T: Kept> Mutex<T> {
             pace: Pace::for_processors(USUAL_PROCESSORS),
         };
         Ok((mutex, all))
-    }
-}
-
-/// A seat that has done nothing.
-fn at_rest() -> SeatState
-    ensures { result ≡ absent }
-{
-    SeatState {
-        depth: 0,
-        takes: 0,
-        posts: 0,
-        point: Point::Rest,
     }
 }
 

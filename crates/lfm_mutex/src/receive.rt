@@ -5,7 +5,6 @@ ghost use Rattle.lfm_protocol.specs.declared.answers.Answer.TheVariants as Answe
 ghost use Rattle.lfm_protocol.specs.declared.answers.Call.{Call as CallNow};
 ghost use Rattle.lfm_protocol.specs.declared.answers.Turn.TheVariants.{Ended};
 ghost use Rattle.lfm_protocol.specs.declared.points.Point.TheVariants.{Asleep};
-ghost use Rattle.lfm_protocol.specs.After.{how_granted};
 ghost use Rattle.lfm_mutex.specs.Belongs.{Beside, OfMutex, limits_of};
 ghost use Rattle.lfm_mutex.specs.calls.RunGoesOn.{RunGoesOnFrom};
 ghost use Rattle.lfm_mutex.specs.calls.Sight.{sight, ReceivesLock, Receives};
@@ -19,7 +18,7 @@ use crate::pace::pause;
 use crate::seat::Seat;
 use lfm_model::{How, Refusal};
 use lfm_protocol::points::{Entrant, Point, Sleeper};
-use lfm_protocol::{Answer, Call, SeatState, Turn};
+use lfm_protocol::{Answer, Call, SeatState, Turn, how_granted};
 use lfm_table::layout::wake_at;
 use lfm_table::operations::{OwnerStore, WakeStore};
 use lfm_table::parking::park;
@@ -149,19 +148,8 @@ pub fn receive_asleep<T: Kept>(
     keep::<WakeStore, T>(table, &mut seat.table_seat, &standing);
     seat.standing.depth = 1;
     seat.standing.point = Point::Rest;
-    let how = how_by(stamp);
+    let how = how_granted(stamp);
     standing.point = Point::EnterOwnerStore(Entrant::Receiver, how);
     keep_held::<OwnerStore, T>(table, &mut seat.table_seat, &standing);
     Some(how)
-}
-
-/// How the mutex is gained by a grant of this stamp.
-fn how_by(stamp: u64) -> How
-    ensures { result ≡ how_granted stamp }
-{
-    if stamp == 0 {
-        How::Free
-    } else {
-        How::Queued(stamp)
-    }
 }

@@ -41,10 +41,10 @@ returns-clause-made g c =
     let begins = begins_receive s.standing s.table_seat.limits w c.requires.sleeps c.requires.flat in
     let fit = fit_begun s.table_seat.number s.table_seat.place.table_id.words s.table_seat.place.id s.table_seat.limits s.table_seat.place.me s.table_seat.moving s.standing p0 Call.Receive (record { seated = s.seated; became = s.became; ready = s.ready; rooted = s.rooted }) begins in
     let f = c.gain_by_grant-found in let h = c.keep in let k = c.keep_held in
-    let stamp = c.stamp_in-stamp.result in let how = c.how_by-how.result in
+    let stamp = c.stamp_in-stamp.result in let how = c.how_granted-how.result in
     let p1 = made_of 0 t ps (ReceiveWakeStore stamp) in let p2 = made_of 0 t ps (EnterOwnerStore Entrant.Receiver how) in
     let is1 = granted t ps s.table_seat.number f.result (oldest_in f.new.seat.moving) w (omega (arith, c.if-found-lt-FIRST_GRANT.false)) ∙ ap (λ (x : ℕ). opens (made_of 0 t ps (ReceiveWakeStore x))) (sym c.stamp_in-stamp.ensures) in
-    let is2 = quieted t ps stamp s.table_seat.number h.result (oldest_in h.new.seat.moving) ∙ ap (λ (x : How). opens (made_of 0 t ps (EnterOwnerStore Entrant.Receiver x))) (sym c.how_by-how.ensures) in
+    let is2 = quieted t ps stamp s.table_seat.number h.result (oldest_in h.new.seat.moving) ∙ ap (λ (x : How). opens (made_of 0 t ps (EnterOwnerStore Entrant.Receiver x))) (sym c.how_granted-how.ensures) in
     let first = course_next g.T.Kept.follows g.T.Kept.fits s.table_seat.number p0 s.table_seat.moving s.table_seat.place.me.0 s.table_seat.place.table_id.words s.table_seat.place.id s.table_seat.limits p0 f.result s.table_seat.place.me s.table_seat.moving f.new.seat.place.me f.new.seat.moving f.new.seat.place.table_id.words f.new.seat.place.id (opens p1) (course_none g.T.Kept.follows g.T.Kept.fits s.table_seat.number p0 s.table_seat.moving s.table_seat.place.me.0) fit (told_before f.ensures.same f.ensures.step) is1 (λ e. cc) refl in
     let fit1 = fit_after g.T.Kept.follows g.T.Kept.fits s.table_seat.number f.new.seat.place.table_id.words f.new.seat.place.id s.table_seat.limits p0 f.result s.table_seat.place.me s.table_seat.moving f.new.seat.place.me f.new.seat.moving (told_before f.ensures.same f.ensures.step) (opens p1) is1 in
     let second = course_next g.T.Kept.follows g.T.Kept.fits s.table_seat.number p0 s.table_seat.moving s.table_seat.place.me.0 f.new.seat.place.table_id.words f.new.seat.place.id s.table_seat.limits p1 h.result f.new.seat.place.me f.new.seat.moving h.new.seat.place.me h.new.seat.moving h.new.seat.place.table_id.words h.new.seat.place.id (opens p2) first fit1 (told_before (same_then f.ensures.same h.ensures.same) h.ensures.step) is2 (λ e. cc) refl in

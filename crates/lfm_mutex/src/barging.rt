@@ -228,8 +228,7 @@ impl<T: Kept> Mutex<T> {
         if count != 0 {
             return None;
         }
-        let budget = seat.table_seat.limits.budget;
-        match try_without_hold(self, seat, budget) {
+        match try_without_hold(self, seat) {
             Ok(Locked::Held(how)) => Some(how),
             Ok(Locked::Again(_)) => unreachable!(),
             Err(_) => None,

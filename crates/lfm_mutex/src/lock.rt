@@ -72,7 +72,7 @@ impl<T: Kept> Mutex<T> {
         if seat.standing.depth == 0 {
             let budget = seat.table_seat.limits.budget;
             if seat.standing.takes < budget {
-                let (asked, wake_up) = ask_without_hold(self, seat, budget);
+                let (asked, wake_up) = ask_without_hold(self, seat);
                 return (Ok(asked), wake_up);
             }
             return ask_slow(self, seat);
@@ -109,16 +109,11 @@ impl<T: Kept> Mutex<T> {
 
 /// Fast path of `ask`: the seat is awake, doesn't hold, and has a take left.
 #[inline(always)]
-pub fn ask_without_hold<T: Kept>(
-    mutex: &Mutex<T>,
-    seat: &mut Seat<T>,
-    budget: u64,
-) -> (Asked, Option<WakeUp>)
+pub fn ask_without_hold<T: Kept>(mutex: &Mutex<T>, seat: &mut Seat<T>) -> (Asked, Option<WakeUp>)
     requires belongs { OfMutex seat.old mutex.now }
     requires rests { seat.old.standing.point ≡ Rest }
     requires flat { seat.old.standing.depth ≡ 0 }
-    requires budget { budget ≡ seat.old.table_seat.limits.budget }
-    requires charged { seat.old.standing.takes < budget }
+    requires charged { seat.old.standing.takes < seat.old.table_seat.limits.budget }
     ensures belongs { Beside seat.old seat.new }
     ensures woken { WakesNobody seat.old seat.new }
     ensures run { RunGoesOnFrom seat.old seat.new }
@@ -126,7 +121,7 @@ pub fn ask_without_hold<T: Kept>(
     ensures bounded { MakesBesideFailures ((limits_of mutex.now).seats + 9) (sight seat.old) (sight seat.new) }
     ensures wakes { Wakes (limits_of mutex.now).seats result.1 (sight seat.old).trail (sight seat.new).trail }
 {
-    let _budget = budget;
+    let _budget = seat.table_seat.limits.budget;
     let table = &mutex.table;
     let takes = seat.standing.takes + 1;
     let mut standing = SeatState {

@@ -47,7 +47,7 @@ impl<T: Kept> Mutex<T> {
         if seat.standing.depth == 0 {
             let budget = seat.table_seat.limits.budget;
             if seat.standing.takes < budget {
-                return try_without_hold(self, seat, budget);
+                return try_without_hold(self, seat);
             }
             return try_slow(self, seat);
         }
@@ -60,22 +60,17 @@ impl<T: Kept> Mutex<T> {
 
 /// Fast path of `try_lock`: the seat is awake, doesn't hold, and has a take left.
 #[inline(always)]
-pub fn try_without_hold<T: Kept>(
-    mutex: &Mutex<T>,
-    seat: &mut Seat<T>,
-    budget: u64,
-) -> Result<Locked, Refusal>
+pub fn try_without_hold<T: Kept>(mutex: &Mutex<T>, seat: &mut Seat<T>) -> Result<Locked, Refusal>
     requires belongs { OfMutex seat.old mutex.now }
     requires rests { seat.old.standing.point ≡ Rest }
     requires flat { seat.old.standing.depth ≡ 0 }
-    requires budget { budget ≡ seat.old.table_seat.limits.budget }
-    requires charged { seat.old.standing.takes < budget }
+    requires charged { seat.old.standing.takes < seat.old.table_seat.limits.budget }
     ensures belongs { Beside seat.old seat.new }
     ensures woken { WakesNobody seat.old seat.new }
     ensures run { RunGoesOnFrom seat.old seat.new }
     ensures made { ComesTo T.follows T.fits (limits_of mutex.now) CallNow.TryLock (sight seat.old) (sight seat.new) (try_turn result) }
 {
-    let _budget = budget;
+    let _budget = seat.table_seat.limits.budget;
     let table = &mutex.table;
     let takes = seat.standing.takes + 1;
     let mut standing = SeatState {

@@ -68,7 +68,7 @@ impl<T: Kept> Mutex<T> {
         if seat.standing.depth == 1 {
             let budget = seat.table_seat.limits.budget;
             if seat.standing.takes < budget {
-                let (released, wake_up) = wait_last_hold(self, seat, budget);
+                let (released, wake_up) = wait_last_hold(self, seat);
                 return (Ok(released), wake_up);
             }
         }
@@ -78,16 +78,11 @@ impl<T: Kept> Mutex<T> {
 
 /// Fast path of `start_wait`: the seat is awake, holds once, and has a take left.
 #[inline(always)]
-pub fn wait_last_hold<T: Kept>(
-    mutex: &Mutex<T>,
-    seat: &mut Seat<T>,
-    budget: u64,
-) -> (Unlocked, Option<WakeUp>)
+pub fn wait_last_hold<T: Kept>(mutex: &Mutex<T>, seat: &mut Seat<T>) -> (Unlocked, Option<WakeUp>)
     requires belongs { OfMutex seat.old mutex.now }
     requires rests { seat.old.standing.point ≡ Rest }
     requires one { seat.old.standing.depth ≡ 1 }
-    requires budget { budget ≡ seat.old.table_seat.limits.budget }
-    requires charged { seat.old.standing.takes < budget }
+    requires charged { seat.old.standing.takes < seat.old.table_seat.limits.budget }
     requires leaves { MayLeave T.follows T.fits (sight seat.old) }
     ensures belongs { Beside seat.old seat.new }
     ensures woken { WakesNobody seat.old seat.new }
@@ -96,7 +91,7 @@ pub fn wait_last_hold<T: Kept>(
     ensures bounded { MakesAtMost ((limits_of mutex.now).seats + 8) (sight seat.old) (sight seat.new) }
     ensures wakes { Wakes (limits_of mutex.now).seats result.1 (sight seat.old).trail (sight seat.new).trail }
 {
-    let _budget = budget;
+    let _budget = seat.table_seat.limits.budget;
     let table = &mutex.table;
     let takes = seat.standing.takes + 1;
     let mut standing = SeatState {

@@ -32,7 +32,7 @@ use Rattle.lfm_mutex.proofs.lock.ask_without_hold.Goals as goal
 pub returns-then-found-ne0-clause-made : goal.returns-then-found-ne0-clause-made
 returns-then-found-ne0-clause-made g c =
     let s = c.args.seat.now in let t = s.standing.takes + 1 in let ps = s.standing.posts in
-    let begins = begins_free s.standing s.table_seat.limits c.requires.rests c.requires.flat (subst (λ (b : ℕ). s.standing.takes < b) c.requires.budget c.requires.charged) in
+    let begins = begins_free s.standing s.table_seat.limits c.requires.rests c.requires.flat c.requires.charged in
     let fit = fit_begun s.table_seat.number s.table_seat.place.table_id.words s.table_seat.place.id s.table_seat.limits s.table_seat.place.me s.table_seat.moving s.standing (made_of 0 t ps LockCountAdd) Call.Lock (record { seated = s.seated; became = s.became; ready = s.ready; rooted = s.rooted }) begins in
     let f = c.gain-found in
     let q = made_of 0 t ps LockOwnerLoad in let r = c.queue.new.seat in
@@ -44,7 +44,7 @@ returns-then-found-ne0-clause-made g c =
 pub returns-clause-made : goal.returns-clause-made
 returns-clause-made g c =
     let s = c.args.seat.now in let t = s.standing.takes + 1 in let ps = s.standing.posts in
-    let begins = begins_free s.standing s.table_seat.limits c.requires.rests c.requires.flat (subst (λ (b : ℕ). s.standing.takes < b) c.requires.budget c.requires.charged) in
+    let begins = begins_free s.standing s.table_seat.limits c.requires.rests c.requires.flat c.requires.charged in
     let fit = fit_begun s.table_seat.number s.table_seat.place.table_id.words s.table_seat.place.id s.table_seat.limits s.table_seat.place.me s.table_seat.moving s.standing (made_of 0 t ps LockCountAdd) Call.Lock (record { seated = s.seated; became = s.became; ready = s.ready; rooted = s.rooted }) begins in
     let f = c.gain-found in
     let h = c.keep_held in let q = made_of 0 t ps (EnterOwnerStore Entrant.Locker How.Free) in

@@ -30,7 +30,7 @@ pub returns-then-found-eq0-clause-made : goal.returns-then-found-eq0-clause-made
 returns-then-found-eq0-clause-made g c =
     let s = c.args.seat.now in let t = s.standing.takes + 1 in let ps = s.standing.posts in
     let p0 = made_of 0 t ps TryCountExchange in
-    let begins = begins_try_free s.standing s.table_seat.limits c.requires.rests c.requires.flat (subst (λ (b : ℕ). s.standing.takes < b) c.requires.budget c.requires.charged) in
+    let begins = begins_try_free s.standing s.table_seat.limits c.requires.rests c.requires.flat c.requires.charged in
     let fit = fit_begun s.table_seat.number s.table_seat.place.table_id.words s.table_seat.place.id s.table_seat.limits s.table_seat.place.me s.table_seat.moving s.standing p0 Call.TryLock (record { seated = s.seated; became = s.became; ready = s.ready; rooted = s.rooted }) begins in
     let f = c.gain-found in
     let h = c.keep_held in let q = made_of 0 t ps (EnterOwnerStore Entrant.Trier How.Free) in
@@ -46,7 +46,7 @@ pub returns-then-is_posted_in-clause-made : goal.returns-then-is_posted_in-claus
 returns-then-is_posted_in-clause-made g c =
     let s = c.args.seat.now in let t = s.standing.takes + 1 in let ps = s.standing.posts in
     let p0 = made_of 0 t ps TryCountExchange in
-    let begins = begins_try_free s.standing s.table_seat.limits c.requires.rests c.requires.flat (subst (λ (b : ℕ). s.standing.takes < b) c.requires.budget c.requires.charged) in
+    let begins = begins_try_free s.standing s.table_seat.limits c.requires.rests c.requires.flat c.requires.charged in
     let fit = fit_begun s.table_seat.number s.table_seat.place.table_id.words s.table_seat.place.id s.table_seat.limits s.table_seat.place.me s.table_seat.moving s.standing p0 Call.TryLock (record { seated = s.seated; became = s.became; ready = s.ready; rooted = s.rooted }) begins in
     let f = c.gain-found in
     let h = c.load_other_owner in let k = c.keep-handoff in
@@ -69,7 +69,7 @@ pub returns-clause-made : goal.returns-clause-made
 returns-clause-made g c =
     let s = c.args.seat.now in let t = s.standing.takes + 1 in let ps = s.standing.posts in
     let p0 = made_of 0 t ps TryCountExchange in
-    let begins = begins_try_free s.standing s.table_seat.limits c.requires.rests c.requires.flat (subst (λ (b : ℕ). s.standing.takes < b) c.requires.budget c.requires.charged) in
+    let begins = begins_try_free s.standing s.table_seat.limits c.requires.rests c.requires.flat c.requires.charged in
     let fit = fit_begun s.table_seat.number s.table_seat.place.table_id.words s.table_seat.place.id s.table_seat.limits s.table_seat.place.me s.table_seat.moving s.standing p0 Call.TryLock (record { seated = s.seated; became = s.became; ready = s.ready; rooted = s.rooted }) begins in
     let f = c.gain-found in
     let h = c.load_other_owner in let k = c.keep-handoff in

@@ -38,7 +38,7 @@ pub returns-then-found-ne1-clause-made : goal.returns-then-found-ne1-clause-made
 returns-then-found-ne1-clause-made g c =
     let s = c.args.seat.now in let t = s.standing.takes + 1 in let ps = s.standing.posts in
     let p0 = made_of 1 t ps (ReleaseOwnerStore Waiter) in let p1 = made_of 0 t ps (ReleaseCountSubtract Waiter) in
-    let begins = begins_wait s.standing s.table_seat.limits c.requires.rests c.requires.one (subst (λ (b : ℕ). s.standing.takes < b) c.requires.budget c.requires.charged) in
+    let begins = begins_wait s.standing s.table_seat.limits c.requires.rests c.requires.one c.requires.charged in
     let fit = fit_begun s.table_seat.number s.table_seat.place.table_id.words s.table_seat.place.id s.table_seat.limits s.table_seat.place.me s.table_seat.moving s.standing p0 Call.StartWait (record { seated = s.seated; became = s.became; ready = s.ready; rooted = s.rooted }) begins in
     let h = c.keep_held in let f = c.retake-found in
     let b = f.new.seat.place in
@@ -58,7 +58,7 @@ pub returns-clause-made : goal.returns-clause-made
 returns-clause-made g c =
     let s = c.args.seat.now in let t = s.standing.takes + 1 in let ps = s.standing.posts in
     let p0 = made_of 1 t ps (ReleaseOwnerStore Waiter) in let p1 = made_of 0 t ps (ReleaseCountSubtract Waiter) in
-    let begins = begins_wait s.standing s.table_seat.limits c.requires.rests c.requires.one (subst (λ (b : ℕ). s.standing.takes < b) c.requires.budget c.requires.charged) in
+    let begins = begins_wait s.standing s.table_seat.limits c.requires.rests c.requires.one c.requires.charged in
     let fit = fit_begun s.table_seat.number s.table_seat.place.table_id.words s.table_seat.place.id s.table_seat.limits s.table_seat.place.me s.table_seat.moving s.standing p0 Call.StartWait (record { seated = s.seated; became = s.became; ready = s.ready; rooted = s.rooted }) begins in
     let h = c.keep_held in let f = c.retake-found in
     let b = f.new.seat.place in

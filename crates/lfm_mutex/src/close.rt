@@ -80,7 +80,7 @@ impl<T: Kept> Mutex<T> {
 }
 
 /// Why this seat can't be joined.
-fn missing_if_seat<T: Kept>(seat: &Seat<T>) -> Option<Missing>
+fn missing_for<T: Kept>(seat: &Seat<T>) -> Option<Missing>
     ensures { MatchOption result (Idle (sight seat.now)) (λ m. Hinders m (sight seat.now)) }
 {
     if seat.depth() != 0 {
@@ -103,10 +103,10 @@ fn number_of<T: Kept, P: Holder<T>>(holder: &P) -> u64
 fn missing_of<T: Kept, P: Holder<T>>(holder: &P) -> Option<Missing>
     ensures { MatchOption result (Idle (sight (P.seat_of holder.now))) (λ m. Hinders m (sight (P.seat_of holder.now))) }
 {
-    missing_if_seat(holder.seat())
+    missing_for(holder.seat())
 }
 
-/// What keeps the seat with this number from being joined.
+/// Why no seat with this number can be joined.
 fn missing_at<T: Kept, P: Holder<T>>(seats: &Vec<P>, number: u64) -> Option<Missing>
     requires number { IsSeatNo number }
     ensures { MatchOption result (Stands (λ p. sight (P.seat_of p)) seats.now.items number) (λ m. (named m ≡ number) × Hindered (λ p. sight (P.seat_of p)) seats.now.items m) }
@@ -150,12 +150,12 @@ fn into_place<T: Kept, P: Holder<T>>(holder: P) -> AtomicSeat<T>
 fn index_of_seat_1<T: Kept, P: Holder<T>>(seats: &Vec<P>) -> Option<usize>
     ensures { MatchOption result (Lacks (λ p. sight (P.seat_of p)) seats.now.items 1) (λ i. (s : _) × (get_elem? seats.now.items i ≡ some s) × ((P.seat_of s).table_seat.number ≡ 1)) }
 {
-    let mut place = 0usize;
+    let mut index = 0usize;
     for seat in seats {
         if number_of::<T, P>(seat) == 1 {
-            return Some(place);
+            return Some(index);
         }
-        place += 1;
+        index += 1;
     }
     None
 }

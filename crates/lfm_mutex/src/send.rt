@@ -138,7 +138,7 @@ fn send_without_hold<T: Kept>(
     };
     let found = gain::<CountAdd, T>(table, &mut seat.table_seat, &standing);
     if found != 0 {
-        stop_at(&mut seat.standing, Point::PushLoad(Pusher::Sender(target)));
+        seat.standing.point = Point::PushLoad(Pusher::Sender(target));
         return queue_target(mutex, seat, target);
     }
     standing.point = Point::SendWakeStore(target);
@@ -176,7 +176,7 @@ fn send_with_hold<T: Kept>(
         seat.standing.point = Point::SendWakeStore(target);
         return finish_send(mutex, seat);
     }
-    stop_at(&mut seat.standing, Point::PushLoad(Pusher::Sender(target)));
+    seat.standing.point = Point::PushLoad(Pusher::Sender(target));
     queue_target(mutex, seat, target)
 }
 

@@ -1,9 +1,9 @@
--- What an access does to the word at its place.
+-- What an access does to the word at its index.
 use Rattle.std.specs.Prelude.{ℕ, ◌+◌, ◌-◌, ◌%◌, ◌^◌, Bool, true, false, bit_and, nat_eq}
 use prog.Atomic.{either}
 use Rattle.lfm_table.specs.declared.operations.Access.{Access}
 
--- the place of the word
+-- the index of the word
 abbrev pub word_at : Access → ℕ
 word_at (Access.Load word) = word
 word_at (Access.Store word new) = word

@@ -24,7 +24,7 @@ pub record MadeStep {T : Type 0} (follows : ℕ → T → T → Type 0) (suits :
   pub fit : Fit number words id l (stepped_by p number n (oldest_in a')).seat m' a'
   pub event : Event follows suits p a m.0 (stepped_by p number n (oldest_in a')).turn (stepped_by p number n (oldest_in a')).seat a' m'.0
 
--- the same two of a seat at the table
+-- both, said of a `TableSeat`
 
 -- the seat, whose plain data are p, is as the steps leave it
 abbrev pub SeatFits : {T : Type 0} → TableSeat T → SeatState → Type 0

@@ -2,6 +2,7 @@
 pub use Rattle.atomic_table.specs.Table
 pub mod Accesses
 pub mod Actions
+pub mod FastPath
 pub mod Grants
 pub mod Props
 pub mod Reach
@@ -10,5 +11,4 @@ pub mod SeenTable
 pub mod Seats
 pub mod Settled
 pub mod Steps
-pub mod FastPath
 pub mod ValueMut

@@ -367,9 +367,9 @@ pub fn make_step<T: Kept, B: Plain<T>>(
     ensures wakes { result.1 ≡ granted_at standing.now.point }
 {
     let seat_number = seat.number;
-    let number = operate_by_kind::<T, B>(kind, table, seat, standing);
+    let found = operate_by_kind::<T, B>(kind, table, seat, standing);
     match kind {
-        Kind::WakeStore => (number, WakeUp::owed_by(seat_number, standing)),
-        _ => (number, None),
+        Kind::WakeStore => (found, WakeUp::owed_by(seat_number, standing)),
+        _ => (found, None),
     }
 }

@@ -38,7 +38,7 @@ impl<T: Kept> TableRule<Option<MovingBox<T>>, View<T>, Key<T>> for MutexRule {
     ghost first = { λ key. first_view key.limits key.opening.value };
 }
 
-/// The seat's plain data before a step, and the moving value if the seat has it, for the proof alone. A call that passes
+/// The seat's plain data before a step, and the guarded value if the seat has it, for the proof alone. A call that passes
 /// `Brand` lets its proof pick them.
 pub trait Plain<T> {
     ghost standing: { SeatState };

@@ -157,7 +157,7 @@ impl<T: Kept> SharedTable<T> {
     }
 }
 
-/// What is no step on a word: the slot that a seat has, a load of which no proof learns anything, sleep and wake.
+/// What is no step on a word: the slot that a seat has, a load from which no proof learns anything, sleep and wake.
 impl<T: Kept> SharedTable<T> {
     /// A plain read and write of the slot that the seat took last.
     #[inline(always)]
@@ -175,7 +175,7 @@ impl<T: Kept> SharedTable<T> {
         self.table.shared.exchange(&mut place.seat, slot, new)
     }
 
-    /// A load of which no proof learns anything.
+    /// A load from which no proof learns anything.
     #[inline(always)]
     pub(crate) fn peek(&self, word: usize) -> u64
         requires { word < self.now.table_id.words }

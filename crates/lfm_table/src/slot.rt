@@ -1,10 +1,10 @@
-//! How the guarded value goes into the slot of the table and comes out of it again. A value could get lost only here: one seat at a
-//! time has it in hand, and between two such seats it lies in the slot.
+//! How the guarded value goes into the slot of the table and comes out of it again. A value could get lost only here: one seat
+//! at a time has it, and between two such seats it lies in the slot.
 //!
-//! A step that may give the value away puts it into the slot before the word is written, since the next owner may take it as soon
-//! as the word is written. A step that gains the value takes it out after it has read the word. A step that has put the value out
-//! and hasn't given it away takes it out again. On the slow path `carries_after` tells whether the seat has the value after its
-//! step; a step of a fast path tells it by the number that it found.
+//! A step that may give the value away puts it into the slot before the word is written, since the next owner may take it as
+//! soon as the word is written. A step that gains the value takes it out after it has read the word. A step that has put the
+//! value out and hasn't given it away takes it out again. On the slow path `carries_after` tells whether the seat has the value
+//! after its step; a step of a fast path tells it by the number that it found.
 ghost use Rattle.std.specs.Prelude.{◌≡◌, ◌∷◌, Option, None, true, false};
 ghost use Rattle.atomic_table.specs.Table.{rest};
 ghost use Rattle.lfm_laws.specs.table.Carried.{carries_value};

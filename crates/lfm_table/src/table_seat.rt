@@ -1,5 +1,5 @@
-//! A seat at the table: what travels together through the steps of a call. A step takes it beside the state that the seat has as
-//! the step begins. A fast path makes that state up on the spot and hardly ever stores it, so it is no part of the seat here.
+//! A seat as a step takes it. Its state is passed beside it: a fast path builds a state for each step and hardly ever stores
+//! it.
 use crate::moving_box::MovingBox;
 use crate::shared_table::AtomicSeat;
 use lfm_protocol::Limits;
@@ -9,7 +9,7 @@ use lfm_protocol::Limits;
 pub struct TableSeat<T: Drop> {
     /// Its place at the words and the slot. It has no bytes.
     pub place: AtomicSeat<T>,
-    /// The pop list and the guarded value: here exactly while the seat carries the responsibility.
+    /// The pop list and the guarded value. Between two steps they are here exactly if the seat carries the responsibility.
     pub moving: Option<MovingBox<T>>,
     /// Its number: 1 to 4,095.
     pub number: u64,

@@ -1,5 +1,5 @@
-//! What a step does in the seat's own memory, the slot apart: which record the pop list in hand loses or gains, and how the seat's
-//! state moves on. The state moves by the methods of the core alone.
+//! What a step does in the seat's own memory, beside the slot: which record the pop list that the seat carries loses or gains,
+//! and how the seat's state moves on. The state moves by the methods of the core alone.
 ghost use Rattle.std.specs.Prelude.{◌≡◌, ◌<◌, Some, length};
 ghost use Rattle.lfm_model.specs.SeatNumbers.{IsSeatNo};
 ghost use Rattle.lfm_protocol.specs.declared.kinds.Kind.{Kind};

@@ -315,7 +315,7 @@ found_all number l (suc n) h = let a = found_all number l n (λ k p q. h k p (om
 pub pigeons : {A : Type 0} (number : A → ℕ) (l : List A) (n : ℕ) → ((k : ℕ) → 0 < k → k ≤ n → (i : ℕ) × (s : A) × (get_elem? l i ≡ some s) × (number s ≡ k)) → n ≤ length l
 pigeons number l n h = let a = found_all number l n h in let b = total_once (λ s. up_to_number n (number s)) l (λ s. once n (number s)) in omega arith
 
--- what missing_if_seat a seat of the list
+-- what missing_for a seat of the list
 pub hindered_at : {A : Type 0} {T : Type 0} (look : A → Sight T) (l : List A) (i : ℕ) (s : A) (k : ℕ) (m : Missing) → get_elem? l i ≡ some s → (look s).number ≡ k → Hinders m (look s) → (named m ≡ k) × Hindered look l m
 hindered_at look l i s k (NotBack n) at e h = absurd h
 hindered_at look l i s k (Holding n) at e h = (sym h.0 ∙ e, (i, s, at, h))

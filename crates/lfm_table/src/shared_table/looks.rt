@@ -1,4 +1,4 @@
-//! What a thread may see of a word outside the steps of its calls. A look is a load of which no proof learns anything, and
+//! What a thread may see of a word outside the steps of its calls. A look is a load from which no proof learns anything, and
 //! which is in no trail. `read_owner` is in its seat's trail.
 ghost use Rattle.std.specs.Prelude.{◌≡◌, ◌<◌};
 ghost use Rattle.atomic_table.specs.Table.{Allows};

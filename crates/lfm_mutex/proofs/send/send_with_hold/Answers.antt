@@ -58,7 +58,7 @@ returns-clause-made g c =
     let so0 = course_next g.T.Kept.follows g.T.Kept.fits s.table_seat.number p0 a s.table_seat.place.me.0 s.table_seat.place.table_id.words s.table_seat.place.id s.table_seat.limits p0 f.result s.table_seat.place.me a f.new.seat.place.me b f.new.seat.place.table_id.words f.new.seat.place.id (opens q) (course_none g.T.Kept.follows g.T.Kept.fits s.table_seat.number p0 a s.table_seat.place.me.0) fit0 (told_before f.ensures.same f.ensures.step) (counted_some s.standing.depth t ps s.table_seat.number f.result u (oldest_in b) c.if-found-eq0.false) (λ e. cc) refl in
     subst (λ (x : SeatState). Course g.T.Kept.follows g.T.Kept.fits s.table_seat.number x a s.table_seat.place.me.0 (send_turn on.result.0) r.standing r.table_seat.moving r.table_seat.place.me.0) (sym at)
     (course_join g.T.Kept.follows g.T.Kept.fits s.table_seat.number p0 a s.table_seat.place.me.0 q r.standing b r.table_seat.moving f.new.seat.place.me.0 r.table_seat.place.me.0 (send_turn on.result.0) so0
-    (subst (λ (x : SeatState). Course g.T.Kept.follows g.T.Kept.fits s.table_seat.number x b f.new.seat.place.me.0 (send_turn on.result.0) r.standing r.table_seat.moving r.table_seat.place.me.0) c.stop_at.ensures (course_same f.ensures.same.0 on.ensures.made)))
+    (course_same f.ensures.same.0 on.ensures.made))
 
 pub returns-clause-spends : goal.returns-clause-spends
 returns-clause-spends g c =
@@ -69,7 +69,7 @@ returns-clause-spends g c =
     let q = made_of s.standing.depth t ps (PushLoad (Pusher.Sender u)) in let on = c.queue_target in let r = on.new.seat in let n = s.table_seat.limits.seats in
     let st = stepped_by p0 s.table_seat.number f.result (oldest_in b) in
     let one = spends_within (n + 7 + 1) (n + 8) (n + 7) (n + 7) s.table_seat.place.me.0.trail f.new.seat.place.me.0.trail (omega arith) (omega arith) (spends_any g.T.Kept.follows g.T.Kept.fits p0 st.seat s.table_seat.place.me.0 f.new.seat.place.me.0 a b st.turn (told_before f.ensures.same f.ensures.step).event (n + 7)) in
-    let rest = subst (λ (z : SeatState × Limits). Spends (due z.1.seats (length f.new.seat.place.me.0.popped) z.0.point) 0 f.new.seat.place.me.0.trail r.table_seat.place.me.0.trail) (λ i. (c.stop_at.ensures i, f.ensures.same.1 i)) on.ensures.spends in
+    let rest = subst (λ (l : Limits). Spends (due l.seats (length f.new.seat.place.me.0.popped) q.point) 0 f.new.seat.place.me.0.trail r.table_seat.place.me.0.trail) f.ensures.same.1 on.ensures.spends in
     subst (λ (z : SeatState). Spends (due n (length s.table_seat.place.me.0.popped) z.point) 0 s.table_seat.place.me.0.trail r.table_seat.place.me.0.trail) (sym at) (spends_join (n + 8) (n + 7) 0 s.table_seat.place.me.0.trail f.new.seat.place.me.0.trail r.table_seat.place.me.0.trail one rest)
 
 pub returns-clause-wakes : goal.returns-clause-wakes

@@ -32,7 +32,7 @@ returns-then-found-ne0-clause-made g c =
     let so0 = course_next g.T.Kept.follows g.T.Kept.fits s.table_seat.number p0 a s.table_seat.place.me.0 s.table_seat.place.table_id.words s.table_seat.place.id s.table_seat.limits p0 f.result s.table_seat.place.me a f.new.seat.place.me b f.new.seat.place.table_id.words f.new.seat.place.id (opens q) (course_none g.T.Kept.follows g.T.Kept.fits s.table_seat.number p0 a s.table_seat.place.me.0) fit0 (told_before f.ensures.same f.ensures.step) (counted_some 0 t ps s.table_seat.number f.result u (oldest_in b) c.if-found-ne0.true) (λ e. cc) refl in
     subst (λ (x : SeatState). Course g.T.Kept.follows g.T.Kept.fits s.table_seat.number x a s.table_seat.place.me.0 (send_turn on.result.0) r.standing r.table_seat.moving r.table_seat.place.me.0) (sym at)
     (course_join g.T.Kept.follows g.T.Kept.fits s.table_seat.number p0 a s.table_seat.place.me.0 q r.standing b r.table_seat.moving f.new.seat.place.me.0 r.table_seat.place.me.0 (send_turn on.result.0) so0
-    (subst (λ (x : SeatState). Course g.T.Kept.follows g.T.Kept.fits s.table_seat.number x b f.new.seat.place.me.0 (send_turn on.result.0) r.standing r.table_seat.moving r.table_seat.place.me.0) (c.stop_at.ensures ∙ (λ i. record { depth = c.requires.flat i; takes = t; posts = ps; point = PushLoad (Pusher.Sender u) })) (course_same f.ensures.same.0 on.ensures.made)))
+    (subst (λ (x : SeatState). Course g.T.Kept.follows g.T.Kept.fits s.table_seat.number x b f.new.seat.place.me.0 (send_turn on.result.0) r.standing r.table_seat.moving r.table_seat.place.me.0) (λ i. record { depth = c.requires.flat i; takes = t; posts = ps; point = PushLoad (Pusher.Sender u) }) (course_same f.ensures.same.0 on.ensures.made)))
 
 pub returns-then-found-ne0-clause-spends : goal.returns-then-found-ne0-clause-spends
 returns-then-found-ne0-clause-spends g c =
@@ -43,7 +43,7 @@ returns-then-found-ne0-clause-spends g c =
     let q = made_of 0 t ps (PushLoad (Pusher.Sender u)) in let on = c.queue_target in let r = on.new.seat in let n = s.table_seat.limits.seats in
     let st = stepped_by p0 s.table_seat.number f.result (oldest_in b) in
     let one = spends_within (n + 7 + 1) (n + 8) (n + 7) (n + 7) s.table_seat.place.me.0.trail f.new.seat.place.me.0.trail (omega arith) (omega arith) (spends_any g.T.Kept.follows g.T.Kept.fits p0 st.seat s.table_seat.place.me.0 f.new.seat.place.me.0 a b st.turn (told_before f.ensures.same f.ensures.step).event (n + 7)) in
-    let there : c.stop_at.new.standing ≡ q = c.stop_at.ensures ∙ (λ i. record { depth = c.requires.flat i; takes = t; posts = ps; point = PushLoad (Pusher.Sender u) }) in
+    let there : record s.standing { point = PushLoad (Pusher.Sender u) } ≡ q = (λ i. record { depth = c.requires.flat i; takes = t; posts = ps; point = PushLoad (Pusher.Sender u) }) in
     let rest = subst (λ (z : SeatState × Limits). Spends (due z.1.seats (length f.new.seat.place.me.0.popped) z.0.point) 0 f.new.seat.place.me.0.trail r.table_seat.place.me.0.trail) (λ i. (there i, f.ensures.same.1 i)) on.ensures.spends in
     subst (λ (z : SeatState). Spends (due n (length s.table_seat.place.me.0.popped) z.point) 0 s.table_seat.place.me.0.trail r.table_seat.place.me.0.trail) (sym at) (spends_join (n + 8) (n + 7) 0 s.table_seat.place.me.0.trail f.new.seat.place.me.0.trail r.table_seat.place.me.0.trail one rest)
 

@@ -1,5 +1,5 @@
 use Rattle.std.proofs.Common.{rules}
-use Rattle.lfm_mutex.proofs.close.missing_if_seat.Goals as goal
+use Rattle.lfm_mutex.proofs.close.missing_for.Goals as goal
 
 pub returns-then-asleep : goal.returns-then-asleep
 returns-then-asleep g c = search rules

@@ -23,8 +23,8 @@ use lfm_table::layout::wake_at;
 use lfm_table::operations::{OwnerStore, WakeStore};
 use lfm_table::parking::park;
 use lfm_table::steps::{gain_by_grant, keep, keep_held};
-use lfm_table::wake_words::{FIRST_GRANT, stamp_in};
 use lfm_table::{Kept, WakeUp};
+use lfm_words::Wake;
 use std::sync::Wait;
 
 impl<T: Kept> Mutex<T> {
@@ -81,7 +81,7 @@ impl<T: Kept> Mutex<T> {
     {
         for made in 0..looks {
             pause();
-            if self.table.look_at_wake(wake) >= FIRST_GRANT {
+            if Wake::is_grant_word(self.table.look_at_wake(wake)) {
                 return looks - made - 1;
             }
         }
@@ -140,10 +140,10 @@ pub fn receive_asleep<T: Kept>(
         ..seat.standing
     };
     let found = gain_by_grant(table, &mut seat.table_seat, &standing);
-    if found < FIRST_GRANT {
+    if !Wake::is_grant_word(found) {
         return None;
     }
-    let stamp = stamp_in(found);
+    let stamp = Wake::grant_stamp(found);
     standing.point = Point::ReceiveWakeStore(stamp);
     keep::<WakeStore, T>(table, &mut seat.table_seat, &standing);
     seat.standing.depth = 1;

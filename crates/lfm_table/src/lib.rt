@@ -19,7 +19,6 @@ pub mod table_seat;
 pub mod transition;
 mod value_mut;
 pub mod wake_up;
-pub mod wake_words;
 pub mod woken;
 
 pub use kept::Kept;

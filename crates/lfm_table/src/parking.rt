@@ -11,8 +11,8 @@ use crate::kept::Kept;
 use crate::layout::wake_at;
 use crate::shared_table::SharedTable;
 use crate::wake_up::WakeUp;
-use crate::wake_words::FIRST_GRANT;
 use crate::woken::Woken;
+use lfm_words::Wake;
 use std::sync::Wait;
 use std::time::Duration;
 
@@ -34,7 +34,7 @@ pub fn park<T: Kept, R: Wait>(rt: &R, table: &SharedTable<T>, word: usize)
     requires inside { word < table.now.table_id.words }
 {
     let seen = table.peek(word);
-    if seen < FIRST_GRANT {
+    if !Wake::is_grant_word(seen) {
         table.park(rt, word, seen as u32);
     }
 }
@@ -45,7 +45,7 @@ pub fn park_for<T: Kept, R: Wait>(rt: &R, table: &SharedTable<T>, word: usize, t
     requires inside { word < table.now.table_id.words }
 {
     let seen = table.peek(word);
-    if seen < FIRST_GRANT {
+    if !Wake::is_grant_word(seen) {
         table.park_timeout(rt, word, seen as u32, time);
     }
 }

@@ -19,10 +19,9 @@ use crate::layout::SLOT;
 use crate::moving_box::MovingBox;
 use crate::shared_table::SharedTable;
 use crate::table_seat::TableSeat;
-use crate::wake_words::FIRST_GRANT;
 use lfm_protocol::SeatState;
 use lfm_protocol::points::Point;
-use lfm_words::unpack_handoff;
+use lfm_words::{Wake, unpack_handoff};
 
 /// A step at this point may give the value away.
 pub fn gives(point: Point) -> bool
@@ -49,7 +48,7 @@ pub fn carries_after(standing: &SeatState, number: u64, found: u64) -> bool
     match standing.point {
         Point::LockCountAdd | Point::TryCountExchange | Point::SendCountAdd(_) => found == 0,
         Point::ReleaseCountSubtract(_) => found != 1,
-        Point::ReceiveWakeLoad(_) => found >= FIRST_GRANT,
+        Point::ReceiveWakeLoad(_) => Wake::is_grant_word(found),
         Point::TryOwnerLoad => found == number,
         Point::TryHandoffExchange(_)
         | Point::PushedHandoffExchange(_, _)

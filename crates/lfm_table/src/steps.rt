@@ -25,8 +25,8 @@ use crate::slot::{put_out, take_out};
 use crate::table_seat::TableSeat;
 use crate::transition::{add_loaded, drop_oldest};
 use crate::wake_up::WakeUp;
-use crate::wake_words::FIRST_GRANT;
 use lfm_protocol::SeatState;
+use lfm_words::Wake;
 use std::marker::Brand;
 
 /// Makes the step for a seat that carries the value after it exactly if it did before. Nothing but the word changes: no record
@@ -139,7 +139,7 @@ pub fn gain_by_grant<T: Kept>(
     ensures step { StepMade T.follows T.fits seat.old standing.now result seat.new }
 {
     let found = operate::<WakeLoad, T, Brand>(table, seat, standing);
-    if found < FIRST_GRANT {
+    if !Wake::is_grant_word(found) {
         return found;
     }
     take_out(table, seat);

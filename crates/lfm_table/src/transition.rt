@@ -10,11 +10,10 @@ ghost use Rattle.lfm_table.specs.declared.rule.Moving.{Moving};
 ghost use Rattle.lfm_table.specs.Steps.{dropped, with_record, oldest_in};
 
 use crate::moving_box::MovingBox;
-use crate::wake_words::state_in;
 use lfm_model::SeatNo;
 use lfm_protocol::kinds::Kind;
 use lfm_protocol::{SeatState, Turn, Why};
-use lfm_words::{Record, unpack_handoff, unpack_link};
+use lfm_words::{Record, Wake, unpack_handoff, unpack_link};
 
 /// The oldest record of the pop list, if the seat carries the list.
 pub fn oldest_of<T: Drop>(moving: &Option<MovingBox<T>>) -> Option<Record>
@@ -83,8 +82,8 @@ pub fn advance(standing: &mut SeatState, number: u64, found: u64, oldest: Option
         Some(Kind::HandoffExchange) => {
             standing.after_handoff_exchange(number, unpack_handoff(found), oldest)
         }
-        Some(Kind::WakeLoad) => standing.after_wake_load(state_in(found)),
+        Some(Kind::WakeLoad) => standing.after_wake_load(Wake::of_any_word(found)),
         Some(Kind::WakeStore) => standing.after_wake_store(),
-        Some(Kind::WakeExchange) => standing.after_wake_exchange(state_in(found)),
+        Some(Kind::WakeExchange) => standing.after_wake_exchange(Wake::of_any_word(found)),
     }
 }

@@ -24,6 +24,7 @@ use lfm_table::{Kept, WakeUp, steps};
 use lfm_words::{Record, unpack_link};
 
 /// The slow path of an open release whose seat has given up the owner word, from the seat's point to the end of the call.
+/// Only the contract uses `releaser`: it says which answer ends the call.
 #[inline(always)]
 fn finish_release<T: Kept>(
     mutex: &Mutex<T>,

@@ -21,7 +21,6 @@ use Rattle.lfm_mutex.specs.calls.Pushes.{PlainCourse}
 use Rattle.lfm_mutex.specs.calls.FailedPushes.{Spends}
 use Rattle.lfm_mutex.specs.calls.Runs.{opens}
 use Rattle.lfm_mutex.specs.calls.FastPath.{Course}
-use Rattle.lfm_mutex.specs.calls.WakeUps.{Wakes}
 use Rattle.lfm_mutex.proofs.runs.Courses.{course_join}
 use Rattle.lfm_mutex.proofs.runs.PlainCourses.{plain_none, plain_next, plain_join}
 use Rattle.lfm_mutex.proofs.runs.Spending.{spends_join, spends_within}

@@ -2,7 +2,6 @@ use Rattle.std.proofs.Common.{◌≡◌, ◌%◌, ◌/◌, None, sym, ap, subst,
 use Rattle.lfm_words.specs.declared.links.Link.{Link}
 use Rattle.lfm_protocol.specs.declared.points.Point.{Point}
 use Rattle.lfm_protocol.specs.declared.points.Point.TheVariants.{LinkStore, PushExchange, PushedHandoffLoad}
-use Rattle.lfm_protocol.specs.declared.seats.SeatState.{SeatState}
 use Rattle.lfm_protocol.specs.After.{found_posted, pushed, same_link}
 use Rattle.lfm_protocol.specs.Begin.{Stepped}
 use Rattle.lfm_laws.specs.table.Words.{stepped_by, handoff_of, link_of}

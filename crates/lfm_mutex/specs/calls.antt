@@ -2,6 +2,7 @@
 pub mod Runs
 pub mod SeatSteps
 pub mod Sight
+pub mod Stops
 pub mod Trails
 pub mod FastPath
 pub mod FailedPushes

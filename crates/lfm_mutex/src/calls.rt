@@ -39,16 +39,6 @@ fn either(first: Option<WakeUp>, then: Option<WakeUp>) -> Option<WakeUp>
     }
 }
 
-/// Stores the point at which the slow path takes a call over from its fast path. It is not inlined: a point with data has
-/// several words, and to write them costs as much as an atomic step. A point without data, and one at which a call usually goes
-/// on, are assigned.
-#[inline(never)]
-pub(crate) fn stop_at(standing: &mut SeatState, point: Point)
-    ensures { standing.new ≡ record standing.old { point = point } }
-{
-    standing.point = point;
-}
-
 /// Finishes an open call: makes one step after another until the call ends.
 #[inline(never)]
 pub fn finish<T: Kept>(mutex: &Mutex<T>, seat: &mut Seat<T>) -> (Turn, Option<WakeUp>)

@@ -24,6 +24,7 @@ mod sections;
 mod send;
 mod serve;
 pub mod steps;
+mod stops;
 mod try_lock;
 mod unlock;
 mod value_mut;

@@ -17,10 +17,11 @@ ghost use Rattle.lfm_mutex.specs.calls.Trails.{MakesCall, LocksBy};
 ghost use Rattle.lfm_mutex.specs.calls.WakeUps.{Wakes};
 ghost use Rattle.lfm_mutex.specs.calls.Woken.{WakesNobody, WokenAsGranted};
 
-use crate::calls::{asleep, begin_and_finish, finish, stop_at};
+use crate::calls::{asleep, begin_and_finish, finish};
 use crate::mutex::Mutex;
 use crate::push::{Pushed, push};
 use crate::seat::Seat;
+use crate::stops::{Stop, stop_at};
 use lfm_model::{Asked, How, Locked, Refusal};
 use lfm_protocol::points::{Entrant, Point, Pusher, Sleeper};
 use lfm_protocol::{Answer, Call, MAX_DEPTH, SeatState, Turn, Why};
@@ -167,16 +168,13 @@ pub fn ask_with_hold<T: Kept>(mutex: &Mutex<T>, seat: &mut Seat<T>) -> (Asked, O
     };
     let found = keep_held::<CountAdd, T>(table, &mut seat.table_seat, &standing);
     if found == 0 {
-        stop_at(
-            &mut seat.standing,
-            Point::EnterOwnerStore(Entrant::Locker, How::Free),
-        );
+        stop_at(&mut seat.standing, Stop::LockEnters);
         return finish_ask(mutex, seat);
     }
     standing.point = Point::LockOwnerLoad;
     let owner = keep_held::<OwnerLoad, T>(table, &mut seat.table_seat, &standing);
     if owner != number {
-        stop_at(&mut seat.standing, Point::PushLoad(Pusher::Locker));
+        stop_at(&mut seat.standing, Stop::LockPushes);
         return finish_ask(mutex, seat);
     }
     standing.point = Point::LockCountSubtract;
@@ -213,7 +211,7 @@ fn queue<T: Kept>(mutex: &Mutex<T>, seat: &mut Seat<T>) -> (Asked, Option<WakeUp
             (Asked::Asleep, None)
         }
         Pushed::Stopped(point) => {
-            stop_at(&mut seat.standing, point);
+            seat.standing.point = point;
             finish_ask(mutex, seat)
         }
     }

@@ -16,7 +16,7 @@ ghost use Rattle.lfm_mutex.specs.calls.WakeUps.{Wakes};
 ghost use Rattle.lfm_mutex.specs.calls.Sight.{sight, Sends};
 ghost use Rattle.lfm_mutex.specs.calls.Woken.{WakesNobody, WokenAsGranted};
 
-use crate::calls::{asleep, begin_and_finish, finish, stop_at};
+use crate::calls::{asleep, begin_and_finish, finish};
 use crate::mutex::Mutex;
 use crate::push::{Pushed, push};
 use crate::seat::Seat;
@@ -212,7 +212,7 @@ fn queue_target<T: Kept>(
             (Ok(()), None)
         }
         Pushed::Stopped(point) => {
-            stop_at(&mut seat.standing, point);
+            seat.standing.point = point;
             finish_send(mutex, seat)
         }
     }

@@ -2,8 +2,9 @@
 //! is the slow path (`calls::finish`).
 ghost use Rattle.std.specs.Prelude.{◌≡◌, ◌<◌};
 ghost use Rattle.lfm_protocol.specs.declared.answers.Call.{Call as CallNow};
-ghost use Rattle.lfm_protocol.specs.declared.points.Point.TheVariants.{Rest};
+ghost use Rattle.lfm_protocol.specs.declared.points.Point.TheVariants.{Rest, TryHandoffExchange};
 ghost use Rattle.lfm_protocol.specs.Limits.{max_depth};
+ghost use Rattle.lfm_laws.specs.table.Words.{handoff_of};
 ghost use Rattle.lfm_mutex.specs.Belongs.{Beside, OfMutex, limits_of};
 ghost use Rattle.lfm_mutex.specs.calls.RunGoesOn.{RunGoesOnFrom};
 ghost use Rattle.lfm_mutex.specs.calls.Runs.{errand, trying, Ends};
@@ -13,9 +14,10 @@ ghost use Rattle.lfm_protocol.specs.declared.answers.Answer.TheVariants as Answe
 ghost use Rattle.lfm_mutex.specs.calls.Trails.{MakesAtMost, MakesCall};
 ghost use Rattle.lfm_mutex.specs.calls.Woken.{WakesNobody, WokenAsGranted};
 
-use crate::calls::{asleep, begin_and_finish, finish, stop_at};
+use crate::calls::{asleep, begin_and_finish, finish};
 use crate::mutex::Mutex;
 use crate::seat::Seat;
+use crate::stops::{Stop, stop_at};
 use lfm_model::{How, Locked, Refusal};
 use lfm_protocol::points::{Entrant, Point};
 use lfm_protocol::{Answer, Call, MAX_DEPTH, SeatState, Turn, Why};
@@ -94,10 +96,7 @@ pub fn try_without_hold<T: Kept>(mutex: &Mutex<T>, seat: &mut Seat<T>) -> Result
     let handoff = keep::<HandoffLoad, T>(table, &mut seat.table_seat, &standing);
     if Handoff::is_posted_in(handoff) {
         seat.standing.takes = takes;
-        stop_at(
-            &mut seat.standing,
-            Point::TryHandoffExchange(unpack_handoff(handoff)),
-        );
+        stop_at_post(&mut seat.standing, handoff);
         return finish_try(mutex, seat);
     }
     Err(Refusal::Busy)
@@ -124,10 +123,7 @@ pub fn try_with_hold<T: Kept>(mutex: &Mutex<T>, seat: &mut Seat<T>) -> Result<Lo
     };
     let found = keep_held::<CountExchange, T>(table, &mut seat.table_seat, &standing);
     if found == 0 {
-        stop_at(
-            &mut seat.standing,
-            Point::EnterOwnerStore(Entrant::Trier, How::Free),
-        );
+        stop_at(&mut seat.standing, Stop::TryEnters);
         return finish_try(mutex, seat);
     }
     standing.point = Point::TryOwnerLoad;
@@ -138,6 +134,14 @@ pub fn try_with_hold<T: Kept>(mutex: &Mutex<T>, seat: &mut Seat<T>) -> Result<Lo
     }
     seat.standing.depth = depth + 1;
     Ok(Locked::Again(depth + 1))
+}
+
+/// Stores the point at which a `try_lock` has found a handoff posted in this word. Out of line, as `stop_at`.
+#[inline(never)]
+fn stop_at_post(standing: &mut SeatState, word: u64)
+    ensures { standing.new ≡ record standing.old { point = TryHandoffExchange (handoff_of word) } }
+{
+    standing.point = Point::TryHandoffExchange(unpack_handoff(word));
 }
 
 /// The slow path of an open `try_lock`, from the seat's point to the end of the call.

@@ -67,8 +67,8 @@ returns-in-Queued-clause-wakes g c =
     wakes_none s.table_seat.limits.seats s.table_seat.place.me.0.trail p.new.seat.place.me.0.trail so.grants
 
 -- the seat stands where the slow path takes over
-stops : {z : SeatState} {q : Point} (x : SeatState) → x.depth ≡ 0 → z ≡ record x { point = q } → z ≡ made_of 0 x.takes x.posts q
-stops {z} {q} x flat is = is ∙ (λ i. record { depth = flat i; takes = x.takes; posts = x.posts; point = q })
+stops : (x : SeatState) (q : Point) → x.depth ≡ 0 → record x { point = q } ≡ made_of 0 x.takes x.posts q
+stops x q flat = λ i. record { depth = flat i; takes = x.takes; posts = x.posts; point = q }
 
 pub returns-in-Stopped-clause-made : goal.returns-in-Stopped-clause-made
 returns-in-Stopped-clause-made g c =
@@ -76,14 +76,14 @@ returns-in-Stopped-clause-made g c =
     let so = plain_join (loads_owner x c.requires.stands c.requires.flat (record { seated = s.seated; became = s.became; ready = s.ready; rooted = s.rooted }) (told_before h.ensures.same h.ensures.step) h.ensures.other) (goes_on h.ensures.same c.in-Stopped.ensures.made) in
     let q = made_of 0 x.takes x.posts c.in-Stopped.point in
     course_join g.T.Kept.follows g.T.Kept.fits s.table_seat.number x s.table_seat.moving s.table_seat.place.me.0 q r.standing p.new.seat.moving r.table_seat.moving p.new.seat.place.me.0 r.table_seat.place.me.0 (Ended (Answer.Asked on.result.0)) so.course
-    (subst (λ (z : ℕ × SeatState). Course g.T.Kept.follows g.T.Kept.fits z.0 z.1 p.new.seat.moving p.new.seat.place.me.0 (Ended (Answer.Asked on.result.0)) r.standing r.table_seat.moving r.table_seat.place.me.0) (λ i. ((same_then h.ensures.same p.ensures.same).0 i, stops x c.requires.flat c.stop_at.ensures i)) on.ensures.made)
+    (subst (λ (z : ℕ × SeatState). Course g.T.Kept.follows g.T.Kept.fits z.0 z.1 p.new.seat.moving p.new.seat.place.me.0 (Ended (Answer.Asked on.result.0)) r.standing r.table_seat.moving r.table_seat.place.me.0) (λ i. ((same_then h.ensures.same p.ensures.same).0 i, stops x c.in-Stopped.point c.requires.flat i)) on.ensures.made)
 
 pub returns-in-Stopped-clause-spends : goal.returns-in-Stopped-clause-spends
 returns-in-Stopped-clause-spends g c =
     let s = c.args.seat.now in let h = c.load_other_owner in let p = c.push in let on = c.finish_ask in let r = on.new.seat in let x = s.standing in
     let so = plain_join (loads_owner x c.requires.stands c.requires.flat (record { seated = s.seated; became = s.became; ready = s.ready; rooted = s.rooted }) (told_before h.ensures.same h.ensures.step) h.ensures.other) (goes_on h.ensures.same c.in-Stopped.ensures.made) in
     spends_join (due s.table_seat.limits.seats (length s.table_seat.place.me.0.popped) x.point) (due s.table_seat.limits.seats (length p.new.seat.place.me.0.popped) c.in-Stopped.point) 0 s.table_seat.place.me.0.trail p.new.seat.place.me.0.trail r.table_seat.place.me.0.trail so.spends
-    (subst (λ (z : Limits × SeatState). Spends (due z.0.seats (length p.new.seat.place.me.0.popped) z.1.point) 0 p.new.seat.place.me.0.trail r.table_seat.place.me.0.trail) (λ i. ((same_then h.ensures.same p.ensures.same).1 i, stops x c.requires.flat c.stop_at.ensures i)) on.ensures.spends)
+    (subst (λ (z : Limits × SeatState). Spends (due z.0.seats (length p.new.seat.place.me.0.popped) z.1.point) 0 p.new.seat.place.me.0.trail r.table_seat.place.me.0.trail) (λ i. ((same_then h.ensures.same p.ensures.same).1 i, stops x c.in-Stopped.point c.requires.flat i)) on.ensures.spends)
 
 pub returns-in-Stopped-clause-wakes : goal.returns-in-Stopped-clause-wakes
 returns-in-Stopped-clause-wakes g c =

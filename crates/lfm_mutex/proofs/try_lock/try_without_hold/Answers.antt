@@ -60,7 +60,7 @@ returns-then-is_posted_in-clause-made g c =
     let q = made_of 0 t ps (TryHandoffExchange (handoff_of k.result)) in let r = c.finish_try.new.seat in
     let is3 = posted 0 t ps s.table_seat.number k.result (oldest_in k.new.seat.moving) (sym c.is_posted_in.ensures ∙ c.if-is_posted_in.true) in
     let third = course_next g.T.Kept.follows g.T.Kept.fits s.table_seat.number p0 s.table_seat.moving s.table_seat.place.me.0 h.new.seat.place.table_id.words h.new.seat.place.id s.table_seat.limits p2 k.result h.new.seat.place.me h.new.seat.moving k.new.seat.place.me k.new.seat.moving k.new.seat.place.table_id.words k.new.seat.place.id (opens q) second fit2 (told_before (same_then (same_then f.ensures.same h.ensures.same) k.ensures.same) k.ensures.step) is3 (λ e. cc) refl in
-    let at : c.stop_at.new.standing ≡ q = c.stop_at.ensures ∙ (λ i. record { depth = c.requires.flat i; takes = t; posts = ps; point = TryHandoffExchange (c.unpack_handoff.ensures.holds i) }) in
+    let at : c.stop_at_post.new.standing ≡ q = c.stop_at_post.ensures ∙ (λ i. record { depth = c.requires.flat i; takes = t; posts = ps; point = TryHandoffExchange (handoff_of k.result) }) in
     let last = course_join g.T.Kept.follows g.T.Kept.fits s.table_seat.number p0 s.table_seat.moving s.table_seat.place.me.0 q r.standing k.new.seat.moving r.table_seat.moving k.new.seat.place.me.0 r.table_seat.place.me.0 (try_turn c.finish_try.result) third
     (subst (λ (x : SeatState). Course g.T.Kept.follows g.T.Kept.fits s.table_seat.number x k.new.seat.moving k.new.seat.place.me.0 (try_turn c.finish_try.result) r.standing r.table_seat.moving r.table_seat.place.me.0) at (course_same (same_then (same_then f.ensures.same h.ensures.same) k.ensures.same).0 c.finish_try.ensures.made)) in
     comes g.T.Kept.follows g.T.Kept.fits s.table_seat.number p0 s.table_seat.moving s.table_seat.place.me.0 r.table_seat.number s.table_seat.limits c.args.mutex.now.limits Call.TryLock s.standing r.standing (try_turn c.finish_try.result) r.table_seat.moving r.table_seat.place.me.0 c.requires.belongs.1 (c.finish_try.ensures.same.0 ∙ (same_then (same_then f.ensures.same h.ensures.same) k.ensures.same).0) refl begins c.finish_try.ensures.ends last
@@ -93,7 +93,7 @@ invariant_of-seat-then-is_posted_in g c =
     let s = c.args.seat.now in let t = s.standing.takes + 1 in let ps = s.standing.posts in
     let k = c.keep-handoff in
     let q = made_of 0 t ps (TryHandoffExchange (handoff_of k.result)) in
-    let at : c.stop_at.new.standing ≡ q = c.stop_at.ensures ∙ (λ i. record { depth = c.requires.flat i; takes = t; posts = ps; point = TryHandoffExchange (c.unpack_handoff.ensures.holds i) }) in
+    let at : c.stop_at_post.new.standing ≡ q = c.stop_at_post.ensures ∙ (λ i. record { depth = c.requires.flat i; takes = t; posts = ps; point = TryHandoffExchange (handoff_of k.result) }) in
     let fit = subst (λ (x : SeatState). SeatFits k.new.seat x) (ap (λ (z : Stepped). z.seat) (posted 0 t ps k.new.seat.number k.result (oldest_in k.new.seat.moving) (sym c.is_posted_in.ensures ∙ c.if-is_posted_in.true)) ∙ sym at) k.ensures.step.fit in
     record { seated = fit.seated; became = fit.became; ready = fit.ready; rooted = fit.rooted }
 

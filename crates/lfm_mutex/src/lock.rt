@@ -21,7 +21,7 @@ use crate::calls::{asleep, begin_and_finish, finish};
 use crate::mutex::Mutex;
 use crate::push::{Pushed, push};
 use crate::seat::Seat;
-use crate::stops::{Stop, stop_at};
+use crate::stops::{Stop, stop_at, stop_at_push};
 use lfm_model::{Asked, How, Locked, Refusal};
 use lfm_protocol::points::{Entrant, Point, Pusher, Sleeper};
 use lfm_protocol::{Answer, Call, MAX_DEPTH, SeatState, Turn, Why};
@@ -210,8 +210,8 @@ fn queue<T: Kept>(mutex: &Mutex<T>, seat: &mut Seat<T>) -> (Asked, Option<WakeUp
             seat.standing.point = Point::Asleep(Sleeper::Locker);
             (Asked::Asleep, None)
         }
-        Pushed::Stopped(point) => {
-            seat.standing.point = point;
+        Pushed::Stopped(stop) => {
+            stop_at_push(&mut seat.standing, Pusher::Locker, stop);
             finish_ask(mutex, seat)
         }
     }

@@ -1,26 +1,24 @@
 //! Pushes a record: that of `lock`'s own seat, or that of `send_lock`'s target. Fast path: the push word has not changed since
 //! it was loaded, and no handoff is posted. Everything else is the slow path (`calls::finish`).
-ghost use Rattle.std.specs.Prelude.{◌≡◌, ℕ};
-ghost use Rattle.lfm_protocol.specs.declared.points.Point.{Point as PointNow};
+ghost use Rattle.std.specs.Prelude.{◌≡◌};
 ghost use Rattle.lfm_protocol.specs.declared.points.Point.TheVariants.{PushLoad};
 ghost use Rattle.lfm_table.specs.FastPath.{IsSame, SeatFits};
 ghost use Rattle.lfm_mutex.specs.calls.Pushes.{PlainCourse, push_end};
-ghost use Rattle.lfm_mutex.specs.calls.Runs.{errand, pushes};
-ghost use Rattle.lfm_mutex.specs.declared.push.Pushed.{Pushed as PushedNow};
 
+use crate::stops::PushStop;
 use lfm_protocol::SeatState;
 use lfm_protocol::points::{Point, Pusher};
 use lfm_table::shared_table::SharedTable;
 use lfm_table::steps::keep;
 use lfm_table::{Kept, TableSeat, operations};
-use lfm_words::{Handoff, unpack_handoff, unpack_link};
+use lfm_words::{Handoff, unpack_link};
 
 /// How a push has ended.
 pub(crate) enum Pushed {
     /// The record is queued, and no handoff is posted. The call has ended: a locker sleeps, and a sender has sent.
     Queued,
-    /// The slow path goes on from this point.
-    Stopped(Point),
+    /// The slow path goes on from the point of this stop (`stop_at_push`).
+    Stopped(PushStop),
 }
 
 /// Pushes a record and loads the handoff word. It stores no point: that is left to the caller.
@@ -38,7 +36,6 @@ pub(crate) fn push<T: Kept>(
     ensures same { IsSame seat.old seat.new }
     ensures fit { SeatFits seat.new (push_end result standing.now pusher).seat }
     ensures made { PlainCourse T.follows T.fits seat.old.number seat.old.limits.seats standing.now seat.old.moving seat.old.place.me.0 (push_end result standing.now pusher).turn (push_end result standing.now pusher).seat seat.new.moving seat.new.place.me.0 }
-    ensures goes_on { (q : PointNow) → result ≡ PushedNow.Stopped q → errand q ≡ pushes pusher }
 {
     let mut at = SeatState {
         point: Point::PushLoad(pusher),
@@ -51,16 +48,12 @@ pub(crate) fn push<T: Kept>(
     at.point = Point::PushExchange(pusher, seen);
     let found = keep::<operations::PushExchange, T>(table, seat, &at);
     if found != word {
-        // Another seat has changed the push word meanwhile.
-        return Pushed::Stopped(Point::LinkStore(pusher, unpack_link(found)));
+        return Pushed::Stopped(PushStop::Changed(found));
     }
     at.point = Point::PushedHandoffLoad(pusher);
     let handoff = keep::<operations::HandoffLoad, T>(table, seat, &at);
     if Handoff::is_posted_in(handoff) {
-        // A seat has released meanwhile, and found no record.
-        let mut met = at;
-        met.after_handoff_load(unpack_handoff(handoff));
-        return Pushed::Stopped(met.point);
+        return Pushed::Stopped(PushStop::Posted(handoff));
     }
     Pushed::Queued
 }

@@ -20,6 +20,7 @@ use crate::calls::{asleep, begin_and_finish, finish};
 use crate::mutex::Mutex;
 use crate::push::{Pushed, push};
 use crate::seat::Seat;
+use crate::stops::stop_at_push;
 use lfm_model::{Refusal, SeatNo};
 use lfm_protocol::points::{Point, Pusher};
 use lfm_protocol::{Answer, Call, SeatState, Turn, Why};
@@ -211,8 +212,8 @@ fn queue_target<T: Kept>(
             seat.standing.point = Point::Rest;
             (Ok(()), None)
         }
-        Pushed::Stopped(point) => {
-            seat.standing.point = point;
+        Pushed::Stopped(stop) => {
+            stop_at_push(&mut seat.standing, Pusher::Sender(target), stop);
             finish_send(mutex, seat)
         }
     }

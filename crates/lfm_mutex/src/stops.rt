@@ -1,14 +1,18 @@
-//! The points at which a fast path stops, where the slow path takes the call over (`calls::finish`). A fast path tells the point by
-//! a `Stop`, which fits into a register, and not as a `Point`. A `Point` has several words, and one that is passed lies in memory
-//! that the compiler clears before the atomic steps of the fast path.
+//! The points at which a fast path stops, where the slow path takes the call over (`calls::finish`). A fast path says where it
+//! stops by a value of one or two words, and a function out of line stores the point. A `Point` has more words. If a fast path
+//! built one, the point would lie in memory, which the compiler clears before the first atomic step, also if the path never
+//! stops.
 ghost use Rattle.std.specs.Prelude.{◌≡◌};
-ghost use Rattle.lfm_mutex.specs.calls.Stops.{stop_point};
+ghost use Rattle.lfm_protocol.specs.declared.points.Point.TheVariants.{TryHandoffExchange};
+ghost use Rattle.lfm_laws.specs.table.Words.{handoff_of};
+ghost use Rattle.lfm_mutex.specs.calls.Stops.{push_stop_point, stop_point};
 
 use lfm_model::How;
 use lfm_protocol::SeatState;
 use lfm_protocol::points::{Entrant, Point, Pusher};
+use lfm_words::{unpack_handoff, unpack_link};
 
-/// Where a fast path stops.
+/// Where a fast path stops that has no word to pass on.
 #[derive(Clone, Copy)]
 pub(crate) enum Stop {
     /// A `lock` found a count of 0 and owns the mutex. Its owner store is next.
@@ -17,6 +21,15 @@ pub(crate) enum Stop {
     LockPushes,
     /// A `try_lock` found a count of 0 and owns the mutex. Its owner store is next.
     TryEnters,
+}
+
+/// Where a push stops, with the word that it found. The word is unpacked out of line too.
+#[derive(Clone, Copy)]
+pub(crate) enum PushStop {
+    /// Another seat has changed the push word to this one. The pusher's link is to be stored anew.
+    Changed(u64),
+    /// The record is queued, and this handoff word has a post. A seat has released meanwhile, and found no record.
+    Posted(u64),
 }
 
 /// Stores the point at which the slow path takes a call over from its fast path. Out of line, since it happens seldom.
@@ -29,4 +42,28 @@ pub(crate) fn stop_at(standing: &mut SeatState, stop: Stop)
         Stop::LockPushes => Point::PushLoad(Pusher::Locker),
         Stop::TryEnters => Point::EnterOwnerStore(Entrant::Trier, How::Free),
     };
+}
+
+/// Stores the point at which the slow path takes over a call whose push has stopped.
+#[inline(never)]
+pub(crate) fn stop_at_push(standing: &mut SeatState, pusher: Pusher, stop: PushStop)
+    ensures { standing.new ≡ record standing.old { point = push_stop_point pusher stop } }
+{
+    standing.point = match (stop, pusher) {
+        (PushStop::Changed(word), _) => Point::LinkStore(pusher, unpack_link(word)),
+        (PushStop::Posted(word), Pusher::Locker) => {
+            Point::PushedHandoffExchange(pusher, unpack_handoff(word))
+        }
+        (PushStop::Posted(word), Pusher::Sender(target)) => {
+            Point::SendPushRecheck(target, unpack_handoff(word))
+        }
+    };
+}
+
+/// Stores the point at which a `try_lock` has found a handoff posted in this word.
+#[inline(never)]
+pub(crate) fn stop_at_post(standing: &mut SeatState, word: u64)
+    ensures { standing.new ≡ record standing.old { point = TryHandoffExchange (handoff_of word) } }
+{
+    standing.point = Point::TryHandoffExchange(unpack_handoff(word));
 }

@@ -2,9 +2,8 @@
 //! is the slow path (`calls::finish`).
 ghost use Rattle.std.specs.Prelude.{◌≡◌, ◌<◌};
 ghost use Rattle.lfm_protocol.specs.declared.answers.Call.{Call as CallNow};
-ghost use Rattle.lfm_protocol.specs.declared.points.Point.TheVariants.{Rest, TryHandoffExchange};
+ghost use Rattle.lfm_protocol.specs.declared.points.Point.TheVariants.{Rest};
 ghost use Rattle.lfm_protocol.specs.Limits.{max_depth};
-ghost use Rattle.lfm_laws.specs.table.Words.{handoff_of};
 ghost use Rattle.lfm_mutex.specs.Belongs.{Beside, OfMutex, limits_of};
 ghost use Rattle.lfm_mutex.specs.calls.RunGoesOn.{RunGoesOnFrom};
 ghost use Rattle.lfm_mutex.specs.calls.Runs.{errand, trying, Ends};
@@ -17,14 +16,14 @@ ghost use Rattle.lfm_mutex.specs.calls.Woken.{WakesNobody, WokenAsGranted};
 use crate::calls::{asleep, begin_and_finish, finish};
 use crate::mutex::Mutex;
 use crate::seat::Seat;
-use crate::stops::{Stop, stop_at};
+use crate::stops::{Stop, stop_at, stop_at_post};
 use lfm_model::{How, Locked, Refusal};
 use lfm_protocol::points::{Entrant, Point};
 use lfm_protocol::{Answer, Call, MAX_DEPTH, SeatState, Turn, Why};
 use lfm_table::operations::{CountExchange, HandoffLoad, OwnerLoad, OwnerStore};
 use lfm_table::steps::{gain, keep, keep_held, load_other_owner};
 use lfm_table::{Kept, WakeUp};
-use lfm_words::{Handoff, unpack_handoff};
+use lfm_words::Handoff;
 
 impl<T: Kept> Mutex<T> {
     /// Gains the mutex or deepens the hold without queueing. A gain is charged one take. A post that no one has accepted is
@@ -134,14 +133,6 @@ pub fn try_with_hold<T: Kept>(mutex: &Mutex<T>, seat: &mut Seat<T>) -> Result<Lo
     }
     seat.standing.depth = depth + 1;
     Ok(Locked::Again(depth + 1))
-}
-
-/// Stores the point at which a `try_lock` has found a handoff posted in this word. Out of line, as `stop_at`.
-#[inline(never)]
-fn stop_at_post(standing: &mut SeatState, word: u64)
-    ensures { standing.new ≡ record standing.old { point = TryHandoffExchange (handoff_of word) } }
-{
-    standing.point = Point::TryHandoffExchange(unpack_handoff(word));
 }
 
 /// The slow path of an open `try_lock`, from the seat's point to the end of the call.

@@ -1,16 +1,16 @@
 -- The points of a push: the seat's own methods there, as equations, and the course of its steps.
-use Rattle.std.proofs.Common.{◌≡◌, ◌≢◌, ℕ, ◌<◌, ◌%◌, if◌then◌else◌, nat_eq, ap, sym, subst, refl, ◌∙◌, Option, None}
+use Rattle.std.proofs.Common.{◌≡◌, ◌≢◌, ℕ, ◌<◌, ◌%◌, if◌then◌else◌, nat_eq, ap, sym, subst, refl, ◌∙◌, arith, Option}
 use Rattle.std.specs.Prelude.{Bool, true, false}
 use Rattle.std.proofs.lemmas.Bool.{ne_eqb, eq-eqb, not-true, not-false}
+use Rattle.std.proofs.lemmas.Nat.{div-add-mod'}
 use Rattle.lfm_words.specs.Words.{link_word, is_posted_word}
-use Rattle.lfm_words.specs.declared.handoffs.Handoff.{Handoff}
 use Rattle.lfm_words.specs.declared.links.Link.{Link}
 use Rattle.lfm_words.specs.declared.pop_lists.Record.{Record}
 use Rattle.lfm_protocol.specs.declared.limits.Limits.{Limits}
 use Rattle.lfm_protocol.specs.declared.points.Point.TheVariants.{LinkStore, PushExchange, PushLoad, PushedHandoffLoad}
 use Rattle.lfm_protocol.specs.declared.points.Pusher.{Pusher}
 use Rattle.lfm_protocol.specs.declared.seats.SeatState.{SeatState}
-use Rattle.lfm_protocol.specs.After.{after_handoff_load, same_link, found_posted, pushed}
+use Rattle.lfm_protocol.specs.After.{same_link, found_posted, pushed}
 use Rattle.lfm_protocol.specs.Begin.{Stepped}
 use Rattle.lfm_laws.specs.table.Carried.{carries_value}
 use Rattle.lfm_laws.specs.table.Words.{stepped_by, handoff_of, link_of}
@@ -33,13 +33,19 @@ exchanged u d t ps s w n o same =
     let next = eq-eqb (link_of n).next (link_of w).next (ap (λ (m : ℕ). (link_of m).next) same) in
     rw (stamp, next) refl
 
+packs : (n : ℕ) → link_word (link_of n) ≡ n
+packs n = div-add-mod' n 65536
+
+next_fits : (n : ℕ) → n % 65536 < 65536
+next_fits n = omega arith
+
 -- different words hold different links
-pub differ : (old new : Link) (w n : ℕ) → link_word old ≡ w → old.next < 65536 → link_word new ≡ n → new.next < 65536 → n ≢ w → same_link new old ≡ false
-differ old new w n is_old small is_new few other = same_link_word new old few small ∙ ne_eqb (link_word new) (link_word old) (λ e. other (sym is_new ∙ (e ∙ is_old)))
+differ : (w n : ℕ) → n ≢ w → same_link (link_of n) (link_of w) ≡ false
+differ w n other = same_link_word (link_of n) (link_of w) (next_fits n) (next_fits w) ∙ ne_eqb (link_word (link_of n)) (link_word (link_of w)) (λ e. other (sym (packs n) ∙ (e ∙ packs w)))
 
 -- another seat has changed the push word
-pub exchanged_not : (u : Pusher) (d t ps s n : ℕ) (old : Link) (o : Option Record) → same_link (link_of n) old ≡ false → stepped_by (made_of d t ps (PushExchange u old)) s n o ≡ opens (made_of d t ps (LinkStore u (link_of n)))
-exchanged_not u d t ps s n old o other = rw other refl
+pub exchanged_not : (u : Pusher) (d t ps s w n : ℕ) (o : Option Record) → n ≢ w → stepped_by (made_of d t ps (PushExchange u (link_of w))) s n o ≡ opens (made_of d t ps (LinkStore u (link_of n)))
+exchanged_not u d t ps s w n o other = let h = differ w n other in rw h refl
 
 -- The load of the handoff word
 
@@ -49,13 +55,6 @@ found_none u d t ps s n o none = let h = not-false (nat_eq (n % 65536) 0) none i
 
 pub found_one : (u : Pusher) (d t ps s n : ℕ) (o : Option Record) → is_posted_word n ≡ true → stepped_by (made_of d t ps (PushedHandoffLoad u)) s n o ≡ opens (made_of d t ps (found_posted u (handoff_of n)))
 found_one u d t ps s n o some = let h = not-true (nat_eq (n % 65536) 0) some in rw h refl
-
--- the seat's own method moves it on to there
-pub stops_at_post : {z : SeatState} {h : Handoff} (u : Pusher) (x : SeatState) (n : ℕ) → h ≡ handoff_of n → z ≡ (after_handoff_load (made_of x.depth x.takes x.posts (PushedHandoffLoad u)) h).seat → is_posted_word n ≡ true → z.point ≡ found_posted u (handoff_of n)
-stops_at_post {z} {h} u x n holds moved some =
-    let is : z ≡ made_of x.depth x.takes x.posts (found_posted u (handoff_of n)) =
-    moved ∙ ((λ i. (after_handoff_load (made_of x.depth x.takes x.posts (PushedHandoffLoad u)) (holds i)).seat) ∙ ap (λ (q : Stepped). q.seat) (found_one u x.depth x.takes x.posts 0 n None some)) in
-    ap (λ (q : SeatState). q.point) is
 
 -- a push that has queued its record ends alike from wherever its seat is said to stand
 pub queued_end : (x : SeatState) (u : Pusher) → pushed (made_of x.depth x.takes x.posts (PushedHandoffLoad u)) u ≡ pushed x u

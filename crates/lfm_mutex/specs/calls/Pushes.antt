@@ -12,12 +12,13 @@ use Rattle.lfm_mutex.specs.calls.Due.{due}
 use Rattle.lfm_mutex.specs.calls.FailedPushes.{Spends}
 use Rattle.lfm_mutex.specs.calls.Runs.{opens}
 use Rattle.lfm_mutex.specs.calls.FastPath.{Course}
+use Rattle.lfm_mutex.specs.calls.Stops.{push_stop_point}
 use Rattle.lfm_mutex.specs.calls.WakeUps.{grants_of}
 
 -- what a push leaves of its call, by a seat whose data are p
 abbrev pub push_end : Pushed → SeatState → Pusher → Stepped
 push_end Pushed.Queued p pusher = pushed p pusher
-push_end (Pushed.Stopped q) p pusher = opens (record p { point = q })
+push_end (Pushed.Stopped stop) p pusher = opens (record p { point = push_stop_point pusher stop })
 
 -- the course of a seat whose steps granted no seat the mutex, and what they have spent of what was due to its call
 pub record PlainCourse {T : Type 0} (follows : ℕ → T → T → Type 0) (suits : T → ℕ → Type 0) (number seats : ℕ) (p0 : SeatState) (a0 : Option (Moving T)) (v0 : View T) (turn : Turn) (p : SeatState) (a : Option (Moving T)) (v : View T) : Type 0 where

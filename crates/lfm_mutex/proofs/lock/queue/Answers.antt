@@ -21,6 +21,7 @@ use Rattle.lfm_mutex.specs.calls.Pushes.{PlainCourse}
 use Rattle.lfm_mutex.specs.calls.FailedPushes.{Spends}
 use Rattle.lfm_mutex.specs.calls.Runs.{opens}
 use Rattle.lfm_mutex.specs.calls.FastPath.{Course}
+use Rattle.lfm_mutex.specs.calls.Stops.{push_stop_point}
 use Rattle.lfm_mutex.proofs.runs.Courses.{course_join}
 use Rattle.lfm_mutex.proofs.runs.PlainCourses.{plain_none, plain_next, plain_join}
 use Rattle.lfm_mutex.proofs.runs.Spending.{spends_join, spends_within}
@@ -74,16 +75,17 @@ pub returns-in-Stopped-clause-made : goal.returns-in-Stopped-clause-made
 returns-in-Stopped-clause-made g c =
     let s = c.args.seat.now in let h = c.load_other_owner in let p = c.push in let on = c.finish_ask in let r = on.new.seat in let x = s.standing in
     let so = plain_join (loads_owner x c.requires.stands c.requires.flat (record { seated = s.seated; became = s.became; ready = s.ready; rooted = s.rooted }) (told_before h.ensures.same h.ensures.step) h.ensures.other) (goes_on h.ensures.same c.in-Stopped.ensures.made) in
-    let q = made_of 0 x.takes x.posts c.in-Stopped.point in
+    let stop = push_stop_point Pusher.Locker c.in-Stopped.stop in let q = made_of 0 x.takes x.posts stop in
     course_join g.T.Kept.follows g.T.Kept.fits s.table_seat.number x s.table_seat.moving s.table_seat.place.me.0 q r.standing p.new.seat.moving r.table_seat.moving p.new.seat.place.me.0 r.table_seat.place.me.0 (Ended (Answer.Asked on.result.0)) so.course
-    (subst (λ (z : ℕ × SeatState). Course g.T.Kept.follows g.T.Kept.fits z.0 z.1 p.new.seat.moving p.new.seat.place.me.0 (Ended (Answer.Asked on.result.0)) r.standing r.table_seat.moving r.table_seat.place.me.0) (λ i. ((same_then h.ensures.same p.ensures.same).0 i, stops x c.in-Stopped.point c.requires.flat i)) on.ensures.made)
+    (subst (λ (z : ℕ × SeatState). Course g.T.Kept.follows g.T.Kept.fits z.0 z.1 p.new.seat.moving p.new.seat.place.me.0 (Ended (Answer.Asked on.result.0)) r.standing r.table_seat.moving r.table_seat.place.me.0) (λ i. ((same_then h.ensures.same p.ensures.same).0 i, (c.stop_at_push.ensures ∙ stops x stop c.requires.flat) i)) on.ensures.made)
 
 pub returns-in-Stopped-clause-spends : goal.returns-in-Stopped-clause-spends
 returns-in-Stopped-clause-spends g c =
     let s = c.args.seat.now in let h = c.load_other_owner in let p = c.push in let on = c.finish_ask in let r = on.new.seat in let x = s.standing in
     let so = plain_join (loads_owner x c.requires.stands c.requires.flat (record { seated = s.seated; became = s.became; ready = s.ready; rooted = s.rooted }) (told_before h.ensures.same h.ensures.step) h.ensures.other) (goes_on h.ensures.same c.in-Stopped.ensures.made) in
-    spends_join (due s.table_seat.limits.seats (length s.table_seat.place.me.0.popped) x.point) (due s.table_seat.limits.seats (length p.new.seat.place.me.0.popped) c.in-Stopped.point) 0 s.table_seat.place.me.0.trail p.new.seat.place.me.0.trail r.table_seat.place.me.0.trail so.spends
-    (subst (λ (z : Limits × SeatState). Spends (due z.0.seats (length p.new.seat.place.me.0.popped) z.1.point) 0 p.new.seat.place.me.0.trail r.table_seat.place.me.0.trail) (λ i. ((same_then h.ensures.same p.ensures.same).1 i, stops x c.in-Stopped.point c.requires.flat i)) on.ensures.spends)
+    let stop = push_stop_point Pusher.Locker c.in-Stopped.stop in
+    spends_join (due s.table_seat.limits.seats (length s.table_seat.place.me.0.popped) x.point) (due s.table_seat.limits.seats (length p.new.seat.place.me.0.popped) stop) 0 s.table_seat.place.me.0.trail p.new.seat.place.me.0.trail r.table_seat.place.me.0.trail so.spends
+    (subst (λ (z : Limits × SeatState). Spends (due z.0.seats (length p.new.seat.place.me.0.popped) z.1.point) 0 p.new.seat.place.me.0.trail r.table_seat.place.me.0.trail) (λ i. ((same_then h.ensures.same p.ensures.same).1 i, (c.stop_at_push.ensures ∙ stops x stop c.requires.flat) i)) on.ensures.spends)
 
 pub returns-in-Stopped-clause-wakes : goal.returns-in-Stopped-clause-wakes
 returns-in-Stopped-clause-wakes g c =

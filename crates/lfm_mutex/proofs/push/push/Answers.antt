@@ -1,8 +1,8 @@
-use Rattle.std.proofs.Common.{◌≡◌, ◌%◌, ◌/◌, None, sym, ap, subst, ◌∙◌, refl}
+use Rattle.std.proofs.Common.{None, sym, ap, subst, ◌∙◌, refl}
 use Rattle.lfm_words.specs.declared.links.Link.{Link}
 use Rattle.lfm_protocol.specs.declared.points.Point.{Point}
 use Rattle.lfm_protocol.specs.declared.points.Point.TheVariants.{LinkStore, PushExchange, PushedHandoffLoad}
-use Rattle.lfm_protocol.specs.After.{found_posted, pushed, same_link}
+use Rattle.lfm_protocol.specs.After.{found_posted, pushed}
 use Rattle.lfm_protocol.specs.Begin.{Stepped}
 use Rattle.lfm_laws.specs.table.Words.{stepped_by, handoff_of, link_of}
 use Rattle.lfm_table.specs.Steps.{oldest_in}
@@ -10,10 +10,9 @@ use Rattle.lfm_table.specs.FastPath.{SeatFits}
 use Rattle.lfm_table.proofs.tables.StepFacts.{made_of}
 use Rattle.lfm_table.proofs.tables.FastPathSteps.{told_before, same_then}
 use Rattle.lfm_mutex.specs.calls.Pushes.{PlainCourse}
-use Rattle.lfm_mutex.specs.calls.Runs.{opens, errand}
+use Rattle.lfm_mutex.specs.calls.Runs.{opens}
 use Rattle.lfm_mutex.proofs.runs.PlainCourses.{plain_next}
-use Rattle.lfm_mutex.proofs.runs.PushPoints.{exchanged, exchanged_not, differ, found_none, found_one, stops_at_post, queued_end, handoff_stays, pushes_by}
-use Rattle.lfm_mutex.proofs.runs.RunFacts.{errand_found_posted}
+use Rattle.lfm_mutex.proofs.runs.PushPoints.{exchanged, exchanged_not, found_none, found_one, queued_end, handoff_stays, pushes_by}
 use Rattle.lfm_mutex.proofs.push.push.Goals as goal
 
 pub keep-handoff-requires-clause-stays : goal.keep-handoff-requires-clause-stays
@@ -27,18 +26,16 @@ keep-word-requires-clause-fit g c κs within = let s = c.args.seat.now in let x 
 pub returns-then-found-word-clause-fit : goal.returns-then-found-word-clause-fit
 returns-then-found-word-clause-fit g c =
     let x = c.args.standing.now in let u = c.args.pusher in
-    let w = c.keep-word in let old = c.unpack_link-seen in let f = c.keep-found in let new = c.unpack_link in
-    let other = ap (λ (z : Link). same_link z old.result) (sym new.ensures.holds) ∙ differ old.result new.result w.result f.result old.ensures.packs old.ensures.next new.ensures.packs new.ensures.next c.if-found-word.true in
+    let w = c.keep-word in let old = c.unpack_link-seen in let f = c.keep-found in
     subst (λ (z : Stepped). SeatFits f.new.seat z.seat)
-    (exchanged_not u x.depth x.takes x.posts f.new.seat.number f.result old.result (oldest_in f.new.seat.moving) other ∙ ap (λ (z : Link). opens (made_of x.depth x.takes x.posts (LinkStore u z))) (sym new.ensures.holds)) f.ensures.step.fit
+    (ap (λ (z : Link). stepped_by (made_of x.depth x.takes x.posts (PushExchange u z)) f.new.seat.number f.result (oldest_in f.new.seat.moving)) old.ensures.holds
+    ∙ exchanged_not u x.depth x.takes x.posts f.new.seat.number w.result f.result (oldest_in f.new.seat.moving) c.if-found-word.true) f.ensures.step.fit
 
 pub returns-then-is_posted_in-clause-fit : goal.returns-then-is_posted_in-clause-fit
 returns-then-is_posted_in-clause-fit g c =
     let x = c.args.standing.now in let u = c.args.pusher in let k = c.keep-handoff in
-    let some = sym c.is_posted_in.ensures ∙ c.if-is_posted_in.true in
     subst (λ (z : Stepped). SeatFits k.new.seat z.seat)
-    (found_one u x.depth x.takes x.posts k.new.seat.number k.result (oldest_in k.new.seat.moving) some
-    ∙ ap (λ (z : Point). opens (made_of x.depth x.takes x.posts z)) (sym (stops_at_post u x k.result c.unpack_handoff.ensures.holds c.after_handoff_load.ensures.seat some))) k.ensures.step.fit
+    (found_one u x.depth x.takes x.posts k.new.seat.number k.result (oldest_in k.new.seat.moving) (sym c.is_posted_in.ensures ∙ c.if-is_posted_in.true)) k.ensures.step.fit
 
 pub returns-clause-fit : goal.returns-clause-fit
 returns-clause-fit g c =
@@ -49,13 +46,11 @@ returns-clause-fit g c =
 pub returns-then-found-word-clause-made : goal.returns-then-found-word-clause-made
 returns-then-found-word-clause-made g c =
     let s = c.args.seat.now in let x = c.args.standing.now in let u = c.args.pusher in
-    let w = c.keep-word in let old = c.unpack_link-seen in let k = c.keep in let f = c.keep-found in let new = c.unpack_link in
+    let w = c.keep-word in let old = c.unpack_link-seen in let k = c.keep in let f = c.keep-found in
     let to2 = same_then w.ensures.same k.ensures.same in let to3 = same_then to2 f.ensures.same in
-    let q = made_of x.depth x.takes x.posts (LinkStore u (link_of f.result)) in
-    let other = ap (λ (z : Link). same_link z old.result) (sym new.ensures.holds) ∙ differ old.result new.result w.result f.result old.ensures.packs old.ensures.next new.ensures.packs new.ensures.next c.if-found-word.true in
-    let so = pushes_by x u old.result (opens q) c.requires.stands c.requires.fit (told_before w.ensures.same w.ensures.step) old.ensures.holds (told_before to2 k.ensures.step) (told_before to3 f.ensures.step)
-    (exchanged_not u x.depth x.takes x.posts s.number f.result old.result (oldest_in f.new.seat.moving) other) in
-    subst (λ (z : Link). PlainCourse g.T.Kept.follows g.T.Kept.fits s.number s.limits.seats x s.moving s.place.me.0 (opens q).turn (made_of x.depth x.takes x.posts (LinkStore u z)) f.new.seat.moving f.new.seat.place.me.0) (sym new.ensures.holds) so.plain
+    let so = pushes_by x u old.result (opens (made_of x.depth x.takes x.posts (LinkStore u (link_of f.result)))) c.requires.stands c.requires.fit (told_before w.ensures.same w.ensures.step) old.ensures.holds (told_before to2 k.ensures.step) (told_before to3 f.ensures.step)
+    (ap (λ (z : Link). stepped_by (made_of x.depth x.takes x.posts (PushExchange u z)) s.number f.result (oldest_in f.new.seat.moving)) old.ensures.holds ∙ exchanged_not u x.depth x.takes x.posts s.number w.result f.result (oldest_in f.new.seat.moving) c.if-found-word.true) in
+    so.plain
 
 pub returns-then-is_posted_in-clause-made : goal.returns-then-is_posted_in-clause-made
 returns-then-is_posted_in-clause-made g c =
@@ -66,14 +61,7 @@ returns-then-is_posted_in-clause-made g c =
     (ap (λ (z : Link). stepped_by (made_of x.depth x.takes x.posts (PushExchange u z)) s.number f.result (oldest_in f.new.seat.moving)) old.ensures.holds ∙ exchanged u x.depth x.takes x.posts s.number w.result f.result (oldest_in f.new.seat.moving) c.if-found-word.false) in
     let some = sym c.is_posted_in.ensures ∙ c.if-is_posted_in.true in
     let so4 = plain_next (opens (made_of x.depth x.takes x.posts (found_posted u (handoff_of k.result)))) so (told_before to4 k.ensures.step) (found_one u x.depth x.takes x.posts s.number k.result (oldest_in k.new.seat.moving) some) (λ e. cc) refl refl in
-    subst (λ (z : Point). PlainCourse g.T.Kept.follows g.T.Kept.fits s.number s.limits.seats x s.moving s.place.me.0 (opens x).turn (made_of x.depth x.takes x.posts z) k.new.seat.moving k.new.seat.place.me.0)
-    (sym (stops_at_post u x k.result c.unpack_handoff.ensures.holds c.after_handoff_load.ensures.seat some)) so4.plain
-
-pub returns-then-is_posted_in-clause-goes_on : goal.returns-then-is_posted_in-clause-goes_on
-returns-then-is_posted_in-clause-goes_on g c = λ q stopped. let k = c.keep-handoff in
-    let some = sym c.is_posted_in.ensures ∙ c.if-is_posted_in.true in
-    let is : q ≡ found_posted c.args.pusher (handoff_of k.result) = (let same : c.after_handoff_load.new.self.point ≡ q = cc in sym same ∙ stops_at_post c.args.pusher c.args.standing.now k.result c.unpack_handoff.ensures.holds c.after_handoff_load.ensures.seat some) in
-    ap errand is ∙ errand_found_posted c.args.pusher (k.result % 65536) (k.result / 65536)
+    so4.plain
 
 pub returns-clause-made : goal.returns-clause-made
 returns-clause-made g c =

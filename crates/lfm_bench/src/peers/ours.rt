@@ -66,14 +66,20 @@ impl<'a> User<'a> {
         matches!(locked, Ok(Locked::Held(_)))
     }
 
+    /// `lock_barging`. Returns whether the mutex was gained, and not held before.
+    #[inline(always)]
+    pub fn lock_barging<R: Wait>(&mut self, rt: &R) -> bool {
+        let locked = self.mutex.lock_barging(rt, &mut self.seat);
+        matches!(locked, Ok(Locked::Held(_)))
+    }
+
     /// Locks in this way. Returns whether the mutex was gained, and not held before.
     #[inline(always)]
     pub fn lock_by<R: Wait>(&mut self, rt: &R, locking: Locking) -> bool {
-        let locked = match locking {
-            Locking::InOrder => self.mutex.lock(rt, &mut self.seat),
-            Locking::Barging => self.mutex.lock_barging(rt, &mut self.seat),
-        };
-        matches!(locked, Ok(Locked::Held(_)))
+        match locking {
+            Locking::InOrder => self.lock(rt),
+            Locking::Barging => self.lock_barging(rt),
+        }
     }
 
     /// `with`, whose closure adds 1 to the value. Returns whether it was not refused.

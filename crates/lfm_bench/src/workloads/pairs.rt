@@ -1,7 +1,7 @@
 //! One thread locks and unlocks a mutex that nobody else uses: in each way, and round an addition to its value.
 
 use crate::measure::Steps;
-use crate::peers::ours::{Locking, Users};
+use crate::peers::ours::Users;
 use crate::workloads::alone::{Call, StandardCall};
 use std::sync::{Mutex, Wait};
 
@@ -38,7 +38,7 @@ impl Call for BargingPair {
     /// `lock_barging` and `unlock`.
     #[inline(always)]
     fn ours<R: Wait>(rt: &R, users: &mut Users) -> bool {
-        users.user.lock_by(rt, Locking::Barging) && users.user.unlock()
+        users.user.lock_barging(rt) && users.user.unlock()
     }
 
     /// The steps of a lock that finds the mutex free, and of its unlock.

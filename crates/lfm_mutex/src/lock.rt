@@ -134,7 +134,7 @@ pub fn ask_without_hold<T: Kept>(mutex: &Mutex<T>, seat: &mut Seat<T>) -> (Asked
     let found = gain::<CountAdd, T>(table, &mut seat.table_seat, &standing);
     if found != 0 {
         seat.standing.takes = takes;
-        seat.standing.point = Point::LockOwnerLoad;
+        stop_at(&mut seat.standing, Stop::LockLoadsOwner);
         return queue(mutex, seat);
     }
     // The plain writes stand together, in this gap between two steps: see `steps` of `lfm_table`.

@@ -67,6 +67,7 @@ impl<T: Kept> Mutex<T> {
         ensures bounded { MakesBesideFailures ((limits_of self.now).seats + 9) (sight seat.old) (sight seat.new) }
         ensures wakes { Wakes (limits_of self.now).seats result.1 (sight seat.old).trail (sight seat.new).trail }
     {
+        // These checks find the calls that are refused. The slow path makes them again, since it says which refusal it is.
         if asleep(&seat.standing) {
             return send_slow(self, seat, target);
         }

@@ -1,7 +1,7 @@
-//! The points at which a fast path stops, where the slow path takes the call over (`calls::finish`). A fast path says where it
-//! stops by a value of one or two words, and a function out of line stores the point. A `Point` has more words. If a fast path
-//! built one, the point would lie in memory, which the compiler clears before the first atomic step, also if the path never
-//! stops.
+//! The points at which the fast path of a `lock` or a `try_lock`, or a push, stops. There the slow path (`calls::finish`) or
+//! `queue` takes the call over. The path says where it stops by a value of one or two words, and a function out of line stores
+//! the point. A `Point` has more words. If the fast path built one itself, it would lie in memory that the compiler clears
+//! before the first atomic step, also if the path does not stop.
 ghost use Rattle.std.specs.Prelude.{◌≡◌};
 ghost use Rattle.lfm_protocol.specs.declared.points.Point.TheVariants.{TryHandoffExchange};
 ghost use Rattle.lfm_laws.specs.table.Words.{handoff_of};
@@ -15,12 +15,16 @@ use lfm_words::{unpack_handoff, unpack_link};
 /// Where a fast path stops that has no word to pass on.
 #[derive(Clone, Copy)]
 pub(crate) enum Stop {
+    /// A `lock` of a seat that doesn't hold found others in the count. The load of the owner is next.
+    LockLoadsOwner,
     /// A `lock` found a count of 0 and owns the mutex. Its owner store is next.
     LockEnters,
     /// A `lock` found others in the count. The push of its record is next.
     LockPushes,
     /// A `try_lock` found a count of 0 and owns the mutex. Its owner store is next.
     TryEnters,
+    /// A `try_lock` found another owner. The load of the handoff word is next.
+    TryLoadsHandoff,
 }
 
 /// Where a push stops, with the word that it found. The word is unpacked out of line too.
@@ -32,19 +36,21 @@ pub(crate) enum PushStop {
     Posted(u64),
 }
 
-/// Stores the point at which the slow path takes a call over from its fast path. Out of line, since it happens seldom.
+/// Stores the point at which a fast path stops. Out of line, since it happens seldom.
 #[inline(never)]
 pub(crate) fn stop_at(standing: &mut SeatState, stop: Stop)
     ensures { standing.new ≡ record standing.old { point = stop_point stop } }
 {
     standing.point = match stop {
+        Stop::LockLoadsOwner => Point::LockOwnerLoad,
         Stop::LockEnters => Point::EnterOwnerStore(Entrant::Locker, How::Free),
         Stop::LockPushes => Point::PushLoad(Pusher::Locker),
         Stop::TryEnters => Point::EnterOwnerStore(Entrant::Trier, How::Free),
+        Stop::TryLoadsHandoff => Point::TryHandoffLoad,
     };
 }
 
-/// Stores the point at which the slow path takes over a call whose push has stopped.
+/// Stores the point at which a push stops. Out of line, as `stop_at`.
 #[inline(never)]
 pub(crate) fn stop_at_push(standing: &mut SeatState, pusher: Pusher, stop: PushStop)
     ensures { standing.new ≡ record standing.old { point = push_stop_point pusher stop } }
@@ -60,7 +66,7 @@ pub(crate) fn stop_at_push(standing: &mut SeatState, pusher: Pusher, stop: PushS
     };
 }
 
-/// Stores the point at which a `try_lock` has found a handoff posted in this word.
+/// Stores the point at which a `try_lock` has found a handoff posted in this word. Out of line, as `stop_at`.
 #[inline(never)]
 pub(crate) fn stop_at_post(standing: &mut SeatState, word: u64)
     ensures { standing.new ≡ record standing.old { point = TryHandoffExchange (handoff_of word) } }

@@ -128,7 +128,7 @@ pub fn try_with_hold<T: Kept>(mutex: &Mutex<T>, seat: &mut Seat<T>) -> Result<Lo
     standing.point = Point::TryOwnerLoad;
     let owner = keep_held::<OwnerLoad, T>(table, &mut seat.table_seat, &standing);
     if owner != number {
-        seat.standing.point = Point::TryHandoffLoad;
+        stop_at(&mut seat.standing, Stop::TryLoadsHandoff);
         return finish_try(mutex, seat);
     }
     seat.standing.depth = depth + 1;

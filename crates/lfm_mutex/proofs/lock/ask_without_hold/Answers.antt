@@ -38,7 +38,7 @@ returns-then-found-ne0-clause-made g c =
     let q = made_of 0 t ps LockOwnerLoad in let r = c.queue.new.seat in
     let first = course_next g.T.Kept.follows g.T.Kept.fits s.table_seat.number (made_of 0 t ps LockCountAdd) s.table_seat.moving s.table_seat.place.me.0 s.table_seat.place.table_id.words s.table_seat.place.id s.table_seat.limits (made_of 0 t ps LockCountAdd) f.result s.table_seat.place.me s.table_seat.moving f.new.seat.place.me f.new.seat.moving f.new.seat.place.table_id.words f.new.seat.place.id (opens q)
     (course_none g.T.Kept.follows g.T.Kept.fits s.table_seat.number (made_of 0 t ps LockCountAdd) s.table_seat.moving s.table_seat.place.me.0) fit (told_before f.ensures.same f.ensures.step) (added_some 0 t ps s.table_seat.number f.result (oldest_in f.new.seat.moving) c.if-found-ne0.true) (λ e. cc) refl in
-    let last = course_join g.T.Kept.follows g.T.Kept.fits s.table_seat.number (made_of 0 t ps LockCountAdd) s.table_seat.moving s.table_seat.place.me.0 q r.standing f.new.seat.moving r.table_seat.moving f.new.seat.place.me.0 r.table_seat.place.me.0 (Ended (Answer.Asked c.queue.result.0)) first (subst (λ (x : SeatState). Course g.T.Kept.follows g.T.Kept.fits s.table_seat.number x f.new.seat.moving f.new.seat.place.me.0 (Ended (Answer.Asked c.queue.result.0)) r.standing r.table_seat.moving r.table_seat.place.me.0) (λ i. record { depth = c.requires.flat i; takes = t; posts = ps; point = LockOwnerLoad }) (course_same f.ensures.same.0 c.queue.ensures.made)) in
+    let last = course_join g.T.Kept.follows g.T.Kept.fits s.table_seat.number (made_of 0 t ps LockCountAdd) s.table_seat.moving s.table_seat.place.me.0 q r.standing f.new.seat.moving r.table_seat.moving f.new.seat.place.me.0 r.table_seat.place.me.0 (Ended (Answer.Asked c.queue.result.0)) first (subst (λ (x : SeatState). Course g.T.Kept.follows g.T.Kept.fits s.table_seat.number x f.new.seat.moving f.new.seat.place.me.0 (Ended (Answer.Asked c.queue.result.0)) r.standing r.table_seat.moving r.table_seat.place.me.0) (c.stop_at.ensures ∙ (λ i. record { depth = c.requires.flat i; takes = t; posts = ps; point = LockOwnerLoad })) (course_same f.ensures.same.0 c.queue.ensures.made)) in
     comes g.T.Kept.follows g.T.Kept.fits s.table_seat.number (made_of 0 t ps LockCountAdd) s.table_seat.moving s.table_seat.place.me.0 r.table_seat.number s.table_seat.limits c.args.mutex.now.limits Call.Lock s.standing r.standing (Ended (Answer.Asked c.queue.result.0)) r.table_seat.moving r.table_seat.place.me.0 c.requires.belongs.1 (c.queue.ensures.same.0 ∙ f.ensures.same.0) refl begins refl last
 
 pub returns-clause-made : goal.returns-clause-made
@@ -65,7 +65,7 @@ returns-then-found-ne0-clause-bounded g c =
     let f = c.gain-found in let r = c.queue.new.seat in
     let st = stepped_by p0 s.table_seat.number f.result (oldest_in f.new.seat.moving) in
     let one = spends_any g.T.Kept.follows g.T.Kept.fits p0 st.seat s.table_seat.place.me.0 f.new.seat.place.me.0 s.table_seat.moving f.new.seat.moving st.turn (told_before f.ensures.same f.ensures.step).event (n + 8) in
-    let then = subst (λ (l : Limits). Spends (due l.seats (length f.new.seat.place.me.0.popped) LockOwnerLoad) 0 f.new.seat.place.me.0.trail r.table_seat.place.me.0.trail) f.ensures.same.1 c.queue.ensures.spends in
+    let then = subst (λ (z : SeatState × Limits). Spends (due z.1.seats (length f.new.seat.place.me.0.popped) z.0.point) 0 f.new.seat.place.me.0.trail r.table_seat.place.me.0.trail) (λ i. (c.stop_at.ensures i, f.ensures.same.1 i)) c.queue.ensures.spends in
     let same = ap (λ l. l.seats) c.requires.belongs.1 in
     spent (n + 8 + 1) (c.args.mutex.now.limits.seats + 9) s.table_seat.place.me.0.trail r.table_seat.place.me.0.trail (omega (arith, same)) (spends_join (n + 8 + 1) (n + 8) 0 s.table_seat.place.me.0.trail f.new.seat.place.me.0.trail r.table_seat.place.me.0.trail one then)
 

@@ -5,6 +5,7 @@ ghost use Rattle.lfm_protocol.specs.declared.answers.Answer.TheVariants as Answe
 ghost use Rattle.lfm_protocol.specs.declared.answers.Call.{Call as CallNow};
 ghost use Rattle.lfm_protocol.specs.declared.points.Point.TheVariants.{Rest, PushLoad, SendCountAdd};
 ghost use Rattle.lfm_protocol.specs.declared.points.Pusher.{Pusher as PusherNow};
+ghost use Rattle.lfm_table.specs.FastPath.{IsSame};
 ghost use Rattle.lfm_mutex.specs.Belongs.{Beside, OfMutex, limits_of};
 ghost use Rattle.lfm_mutex.specs.calls.Due.{due};
 ghost use Rattle.lfm_mutex.specs.calls.FailedPushes.{Spends, MakesBesideFailures};
@@ -67,7 +68,7 @@ impl<T: Kept> Mutex<T> {
         ensures bounded { MakesBesideFailures ((limits_of self.now).seats + 9) (sight seat.old) (sight seat.new) }
         ensures wakes { Wakes (limits_of self.now).seats result.1 (sight seat.old).trail (sight seat.new).trail }
     {
-        // These checks find the calls that are refused. The slow path makes them again, since it says which refusal it is.
+        // These checks find a call that is refused at its start. The slow path makes them again to say which refusal it is.
         if asleep(&seat.standing) {
             return send_slow(self, seat, target);
         }
@@ -126,7 +127,7 @@ fn send_without_hold<T: Kept>(
     requires flat { seat.old.standing.depth ≡ 0 }
     ensures belongs { seat.new.table_seat.place.table_id ≡ seat.old.table_seat.place.table_id }
     ensures woken { WakesNobody seat.old seat.new }
-    ensures same { (seat.new.table_seat.number ≡ seat.old.table_seat.number) × (seat.new.table_seat.limits ≡ seat.old.table_seat.limits) }
+    ensures same { IsSame seat.old.table_seat seat.new.table_seat }
     ensures ends { Ends sending (send_turn result.0) }
     ensures made { Course T.follows T.fits seat.old.table_seat.number seat.old.standing seat.old.table_seat.moving seat.old.table_seat.place.me.0 (send_turn result.0) seat.new.standing seat.new.table_seat.moving seat.new.table_seat.place.me.0 }
     ensures spends { Spends (due seat.old.table_seat.limits.seats (length seat.old.table_seat.place.me.0.popped) seat.old.standing.point) 0 seat.old.table_seat.place.me.0.trail seat.new.table_seat.place.me.0.trail }
@@ -162,7 +163,7 @@ fn send_with_hold<T: Kept>(
     requires held { 0 < seat.old.standing.depth }
     ensures belongs { seat.new.table_seat.place.table_id ≡ seat.old.table_seat.place.table_id }
     ensures woken { WakesNobody seat.old seat.new }
-    ensures same { (seat.new.table_seat.number ≡ seat.old.table_seat.number) × (seat.new.table_seat.limits ≡ seat.old.table_seat.limits) }
+    ensures same { IsSame seat.old.table_seat seat.new.table_seat }
     ensures ends { Ends sending (send_turn result.0) }
     ensures made { Course T.follows T.fits seat.old.table_seat.number seat.old.standing seat.old.table_seat.moving seat.old.table_seat.place.me.0 (send_turn result.0) seat.new.standing seat.new.table_seat.moving seat.new.table_seat.place.me.0 }
     ensures spends { Spends (due seat.old.table_seat.limits.seats (length seat.old.table_seat.place.me.0.popped) seat.old.standing.point) 0 seat.old.table_seat.place.me.0.trail seat.new.table_seat.place.me.0.trail }
@@ -193,7 +194,7 @@ fn queue_target<T: Kept>(
     requires stands { seat.old.standing.point ≡ PushLoad (PusherNow.Sender target) }
     ensures belongs { seat.new.table_seat.place.table_id ≡ seat.old.table_seat.place.table_id }
     ensures woken { WakesNobody seat.old seat.new }
-    ensures same { (seat.new.table_seat.number ≡ seat.old.table_seat.number) × (seat.new.table_seat.limits ≡ seat.old.table_seat.limits) }
+    ensures same { IsSame seat.old.table_seat seat.new.table_seat }
     ensures ends { Ends sending (send_turn result.0) }
     ensures made { Course T.follows T.fits seat.old.table_seat.number seat.old.standing seat.old.table_seat.moving seat.old.table_seat.place.me.0 (send_turn result.0) seat.new.standing seat.new.table_seat.moving seat.new.table_seat.place.me.0 }
     ensures spends { Spends (due seat.old.table_seat.limits.seats (length seat.old.table_seat.place.me.0.popped) seat.old.standing.point) 0 seat.old.table_seat.place.me.0.trail seat.new.table_seat.place.me.0.trail }
@@ -230,7 +231,7 @@ fn finish_send<T: Kept>(
     requires sends { errand seat.old.standing.point ≡ sending }
     ensures belongs { seat.new.table_seat.place.table_id ≡ seat.old.table_seat.place.table_id }
     ensures woken { WakesNobody seat.old seat.new }
-    ensures same { (seat.new.table_seat.number ≡ seat.old.table_seat.number) × (seat.new.table_seat.limits ≡ seat.old.table_seat.limits) }
+    ensures same { IsSame seat.old.table_seat seat.new.table_seat }
     ensures ends { Ends sending (send_turn result.0) }
     ensures made { Course T.follows T.fits seat.old.table_seat.number seat.old.standing seat.old.table_seat.moving seat.old.table_seat.place.me.0 (send_turn result.0) seat.new.standing seat.new.table_seat.moving seat.new.table_seat.place.me.0 }
     ensures spends { Spends (due seat.old.table_seat.limits.seats (length seat.old.table_seat.place.me.0.popped) seat.old.standing.point) 0 seat.old.table_seat.place.me.0.trail seat.new.table_seat.place.me.0.trail }

@@ -4,6 +4,7 @@ ghost use Rattle.std.specs.Prelude.{◌≡◌, ◌+◌, ◌≤◌, length, false
 ghost use Rattle.lfm_protocol.specs.declared.points.Carrier.{Carrier as CarrierNow};
 ghost use Rattle.lfm_protocol.specs.declared.points.Point.TheVariants.{GrantWakeStore, TakeClearHead};
 ghost use Rattle.lfm_protocol.specs.After.{take};
+ghost use Rattle.lfm_table.specs.FastPath.{IsSame};
 ghost use Rattle.lfm_table.specs.Steps.{oldest_in};
 ghost use Rattle.lfm_mutex.specs.calls.Runs.{errand, is_release, releasing, weight};
 ghost use Rattle.lfm_mutex.specs.calls.FastPath.{Course, release_turn};
@@ -36,7 +37,7 @@ fn finish_release<T: Kept>(
     requires keeps { is_release seat.old.standing.point ≡ false }
     ensures belongs { seat.new.table_seat.place.table_id ≡ seat.old.table_seat.place.table_id }
     ensures woken { WakesNobody seat.old seat.new }
-    ensures same { (seat.new.table_seat.number ≡ seat.old.table_seat.number) × (seat.new.table_seat.limits ≡ seat.old.table_seat.limits) }
+    ensures same { IsSame seat.old.table_seat seat.new.table_seat }
     ensures made { Course T.follows T.fits seat.old.table_seat.number seat.old.standing seat.old.table_seat.moving seat.old.table_seat.place.me.0 (release_turn releaser result.0) seat.new.standing seat.new.table_seat.moving seat.new.table_seat.place.me.0 }
     ensures bounded { length seat.new.table_seat.place.me.0.trail ≤ length seat.old.table_seat.place.me.0.trail + weight seat.old.table_seat.limits.seats (length seat.old.table_seat.place.me.0.popped) seat.old.standing.point }
     ensures wakes { Wakes seat.old.table_seat.limits.seats result.1 seat.old.table_seat.place.me.0.trail seat.new.table_seat.place.me.0.trail }
@@ -79,7 +80,7 @@ fn grant<T: Kept>(
     requires flat { seat.old.standing.depth ≡ 0 }
     ensures belongs { seat.new.table_seat.place.table_id ≡ seat.old.table_seat.place.table_id }
     ensures woken { WakesNobody seat.old seat.new }
-    ensures same { (seat.new.table_seat.number ≡ seat.old.table_seat.number) × (seat.new.table_seat.limits ≡ seat.old.table_seat.limits) }
+    ensures same { IsSame seat.old.table_seat seat.new.table_seat }
     ensures made { Course T.follows T.fits seat.old.table_seat.number seat.old.standing seat.old.table_seat.moving seat.old.table_seat.place.me.0 (release_turn releaser result.0) seat.new.standing seat.new.table_seat.moving seat.new.table_seat.place.me.0 }
     ensures bounded { length seat.new.table_seat.place.me.0.trail ≤ length seat.old.table_seat.place.me.0.trail + weight seat.old.table_seat.limits.seats (length seat.old.table_seat.place.me.0.popped) seat.old.standing.point }
     ensures wakes { Wakes seat.old.table_seat.limits.seats result.1 seat.old.table_seat.place.me.0.trail seat.new.table_seat.place.me.0.trail }
@@ -119,7 +120,7 @@ fn serve_pushed<T: Kept>(
     requires flat { seat.old.standing.depth ≡ 0 }
     ensures belongs { seat.new.table_seat.place.table_id ≡ seat.old.table_seat.place.table_id }
     ensures woken { WakesNobody seat.old seat.new }
-    ensures same { (seat.new.table_seat.number ≡ seat.old.table_seat.number) × (seat.new.table_seat.limits ≡ seat.old.table_seat.limits) }
+    ensures same { IsSame seat.old.table_seat seat.new.table_seat }
     ensures made { Course T.follows T.fits seat.old.table_seat.number seat.old.standing seat.old.table_seat.moving seat.old.table_seat.place.me.0 (release_turn releaser result.0) seat.new.standing seat.new.table_seat.moving seat.new.table_seat.place.me.0 }
     ensures bounded { length seat.new.table_seat.place.me.0.trail ≤ length seat.old.table_seat.place.me.0.trail + weight seat.old.table_seat.limits.seats (length seat.old.table_seat.place.me.0.popped) seat.old.standing.point }
     ensures wakes { Wakes seat.old.table_seat.limits.seats result.1 seat.old.table_seat.place.me.0.trail seat.new.table_seat.place.me.0.trail }
@@ -162,7 +163,7 @@ pub(crate) fn serve<T: Kept>(
     requires flat { seat.old.standing.depth ≡ 0 }
     ensures belongs { seat.new.table_seat.place.table_id ≡ seat.old.table_seat.place.table_id }
     ensures woken { WakesNobody seat.old seat.new }
-    ensures same { (seat.new.table_seat.number ≡ seat.old.table_seat.number) × (seat.new.table_seat.limits ≡ seat.old.table_seat.limits) }
+    ensures same { IsSame seat.old.table_seat seat.new.table_seat }
     ensures made { Course T.follows T.fits seat.old.table_seat.number seat.old.standing seat.old.table_seat.moving seat.old.table_seat.place.me.0 (release_turn releaser result.0) seat.new.standing seat.new.table_seat.moving seat.new.table_seat.place.me.0 }
     ensures bounded { length seat.new.table_seat.place.me.0.trail ≤ length seat.old.table_seat.place.me.0.trail + weight seat.old.table_seat.limits.seats (length seat.old.table_seat.place.me.0.popped) seat.old.standing.point }
     ensures wakes { Wakes seat.old.table_seat.limits.seats result.1 seat.old.table_seat.place.me.0.trail seat.new.table_seat.place.me.0.trail }

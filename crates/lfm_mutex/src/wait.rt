@@ -62,7 +62,7 @@ impl<T: Kept> Mutex<T> {
         ensures bounded { MakesAtMost ((limits_of self.now).seats + 8) (sight seat.old) (sight seat.new) }
         ensures wakes { Wakes (limits_of self.now).seats result.1 (sight seat.old).trail (sight seat.new).trail }
     {
-        // These checks find the calls that are refused. The slow path makes them again, since it says which refusal it is.
+        // These checks find a call that is refused at its start. The slow path makes them again to say which refusal it is.
         if asleep(&seat.standing) {
             return wait_slow(self, seat);
         }

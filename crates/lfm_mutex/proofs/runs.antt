@@ -3,6 +3,7 @@ pub mod BusyFacts
 pub mod Courses
 pub mod DueFalls
 pub mod FirstPoints
+pub mod GoesOn
 pub mod MadeCalls
 pub mod OneStep
 pub mod PlainCourses
@@ -12,6 +13,7 @@ pub mod RunFacts
 pub mod RunGoesOn
 pub mod Running
 pub mod SameSeats
+pub mod SendCounts
 pub mod SendEnds
 pub mod SendFacts
 pub mod SendPoints

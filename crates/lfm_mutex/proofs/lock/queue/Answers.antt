@@ -18,17 +18,15 @@ use Rattle.lfm_table.specs.FastPath.{Fit, MadeStep, SeatFits}
 use Rattle.lfm_table.proofs.tables.StepFacts.{made_of}
 use Rattle.lfm_mutex.specs.calls.Due.{due}
 use Rattle.lfm_mutex.specs.calls.Pushes.{PlainCourse}
-use Rattle.lfm_mutex.specs.calls.FailedPushes.{Spends}
 use Rattle.lfm_mutex.specs.calls.Runs.{opens}
 use Rattle.lfm_mutex.specs.calls.FastPath.{Course}
 use Rattle.lfm_mutex.specs.calls.Stops.{push_stop_point}
-use Rattle.lfm_mutex.proofs.runs.Courses.{course_join}
+use Rattle.lfm_mutex.proofs.runs.GoesOn.{rest_course, rest_spends, rest_wakes}
 use Rattle.lfm_mutex.proofs.runs.PlainCourses.{plain_none, plain_next, plain_join}
-use Rattle.lfm_mutex.proofs.runs.Spending.{spends_join, spends_within}
+use Rattle.lfm_mutex.proofs.runs.Spending.{spends_within}
 use Rattle.lfm_mutex.proofs.runs.FastPathPoints.{not_owned}
-use Rattle.lfm_mutex.proofs.runs.WakeUps.{wakes_after, wakes_none}
+use Rattle.lfm_mutex.proofs.runs.WakeUps.{wakes_none}
 use Rattle.lfm_table.proofs.tables.FastPathSteps.{told_before, same_then}
-use Rattle.lfm_mutex.proofs.runs.SameSeats.{wakes_same}
 use Rattle.lfm_mutex.proofs.lock.queue.Goals as goal
 
 -- the load of the owner, which is another seat
@@ -73,23 +71,18 @@ stops x q flat = λ i. record { depth = flat i; takes = x.takes; posts = x.posts
 
 pub returns-in-Stopped-clause-made : goal.returns-in-Stopped-clause-made
 returns-in-Stopped-clause-made g c =
-    let s = c.args.seat.now in let h = c.load_other_owner in let p = c.push in let on = c.finish_ask in let r = on.new.seat in let x = s.standing in
+    let s = c.args.seat.now in let h = c.load_other_owner in let p = c.push in let on = c.finish_ask in let x = s.standing in
     let so = plain_join (loads_owner x c.requires.stands c.requires.flat (record { seated = s.seated; became = s.became; ready = s.ready; rooted = s.rooted }) (told_before h.ensures.same h.ensures.step) h.ensures.other) (goes_on h.ensures.same c.in-Stopped.ensures.made) in
-    let stop = push_stop_point Pusher.Locker c.in-Stopped.stop in let q = made_of 0 x.takes x.posts stop in
-    course_join g.T.Kept.follows g.T.Kept.fits s.table_seat.number x s.table_seat.moving s.table_seat.place.me.0 q r.standing p.new.seat.moving r.table_seat.moving p.new.seat.place.me.0 r.table_seat.place.me.0 (Ended (Answer.Asked on.result.0)) so.course
-    (subst (λ (z : ℕ × SeatState). Course g.T.Kept.follows g.T.Kept.fits z.0 z.1 p.new.seat.moving p.new.seat.place.me.0 (Ended (Answer.Asked on.result.0)) r.standing r.table_seat.moving r.table_seat.place.me.0) (λ i. ((same_then h.ensures.same p.ensures.same).0 i, (c.stop_at_push.ensures ∙ stops x stop c.requires.flat) i)) on.ensures.made)
+    rest_course so (c.stop_at_push.ensures ∙ stops x (push_stop_point Pusher.Locker c.in-Stopped.stop) c.requires.flat) (same_then h.ensures.same p.ensures.same) on.ensures.made
 
 pub returns-in-Stopped-clause-spends : goal.returns-in-Stopped-clause-spends
 returns-in-Stopped-clause-spends g c =
-    let s = c.args.seat.now in let h = c.load_other_owner in let p = c.push in let on = c.finish_ask in let r = on.new.seat in let x = s.standing in
+    let s = c.args.seat.now in let h = c.load_other_owner in let p = c.push in let on = c.finish_ask in let x = s.standing in
     let so = plain_join (loads_owner x c.requires.stands c.requires.flat (record { seated = s.seated; became = s.became; ready = s.ready; rooted = s.rooted }) (told_before h.ensures.same h.ensures.step) h.ensures.other) (goes_on h.ensures.same c.in-Stopped.ensures.made) in
-    let stop = push_stop_point Pusher.Locker c.in-Stopped.stop in
-    spends_join (due s.table_seat.limits.seats (length s.table_seat.place.me.0.popped) x.point) (due s.table_seat.limits.seats (length p.new.seat.place.me.0.popped) stop) 0 s.table_seat.place.me.0.trail p.new.seat.place.me.0.trail r.table_seat.place.me.0.trail so.spends
-    (subst (λ (z : Limits × SeatState). Spends (due z.0.seats (length p.new.seat.place.me.0.popped) z.1.point) 0 p.new.seat.place.me.0.trail r.table_seat.place.me.0.trail) (λ i. ((same_then h.ensures.same p.ensures.same).1 i, (c.stop_at_push.ensures ∙ stops x stop c.requires.flat) i)) on.ensures.spends)
+    rest_spends so (c.stop_at_push.ensures ∙ stops x (push_stop_point Pusher.Locker c.in-Stopped.stop) c.requires.flat) (same_then h.ensures.same p.ensures.same) on.ensures.spends
 
 pub returns-in-Stopped-clause-wakes : goal.returns-in-Stopped-clause-wakes
 returns-in-Stopped-clause-wakes g c =
-    let s = c.args.seat.now in let h = c.load_other_owner in let p = c.push in let on = c.finish_ask in let r = on.new.seat in
-    let so = plain_join (loads_owner s.standing c.requires.stands c.requires.flat (record { seated = s.seated; became = s.became; ready = s.ready; rooted = s.rooted }) (told_before h.ensures.same h.ensures.step) h.ensures.other) (goes_on h.ensures.same c.in-Stopped.ensures.made) in
-    wakes_after s.table_seat.limits.seats on.result.1 s.table_seat.place.me.0.trail p.new.seat.place.me.0.trail r.table_seat.place.me.0.trail so.grants
-    (wakes_same on.result.1 p.new.seat.place.me.0.trail r.table_seat.place.me.0.trail (same_then h.ensures.same p.ensures.same).1 on.ensures.wakes)
+    let s = c.args.seat.now in let h = c.load_other_owner in let p = c.push in let on = c.finish_ask in let x = s.standing in
+    let so = plain_join (loads_owner x c.requires.stands c.requires.flat (record { seated = s.seated; became = s.became; ready = s.ready; rooted = s.rooted }) (told_before h.ensures.same h.ensures.step) h.ensures.other) (goes_on h.ensures.same c.in-Stopped.ensures.made) in
+    rest_wakes so (c.stop_at_push.ensures ∙ stops x (push_stop_point Pusher.Locker c.in-Stopped.stop) c.requires.flat) (same_then h.ensures.same p.ensures.same) on.result.1 on.ensures.wakes

@@ -1,5 +1,4 @@
 use Rattle.std.proofs.Common.{◌≡◌, ℕ, sym, subst, arith, length}
-use Rattle.lfm_protocol.specs.declared.limits.Limits.{Limits}
 use Rattle.lfm_protocol.specs.declared.points.Point.{Point}
 use Rattle.lfm_protocol.specs.declared.points.Point.TheVariants.{Rest, PushLoad}
 use Rattle.lfm_protocol.specs.declared.points.Pusher.{Pusher}
@@ -10,12 +9,12 @@ use Rattle.lfm_table.specs.FastPath.{SeatFits}
 use Rattle.lfm_table.proofs.tables.StepFacts.{made_of}
 use Rattle.lfm_mutex.specs.calls.Due.{due}
 use Rattle.lfm_mutex.specs.calls.FailedPushes.{Spends}
-use Rattle.lfm_mutex.specs.calls.FastPath.{Course, send_turn}
+use Rattle.lfm_mutex.specs.calls.FastPath.{Course}
+use Rattle.lfm_mutex.specs.calls.Pushes.{PlainCourse}
 use Rattle.lfm_mutex.specs.calls.Stops.{push_stop_point}
-use Rattle.lfm_mutex.proofs.runs.Courses.{course_join}
-use Rattle.lfm_mutex.proofs.runs.Spending.{spends_join, spends_within}
-use Rattle.lfm_mutex.proofs.runs.WakeUps.{wakes_after, wakes_none}
-use Rattle.lfm_mutex.proofs.runs.SameSeats.{wakes_same}
+use Rattle.lfm_mutex.proofs.runs.GoesOn.{rest_course, rest_spends, rest_wakes}
+use Rattle.lfm_mutex.proofs.runs.Spending.{spends_within}
+use Rattle.lfm_mutex.proofs.runs.WakeUps.{wakes_none}
 use Rattle.lfm_mutex.proofs.send.queue_target.Goals as goal
 
 pub push-requires-clause-fit : goal.push-requires-clause-fit
@@ -42,20 +41,18 @@ returns-in-Queued-clause-wakes g c = let s = c.args.seat.now in wakes_none s.tab
 
 pub returns-in-Stopped-clause-made : goal.returns-in-Stopped-clause-made
 returns-in-Stopped-clause-made g c =
-    let s = c.args.seat.now in let p = c.push in let on = c.finish_send in let r = on.new.seat in let q = record s.standing { point = push_stop_point (Pusher.Sender c.args.target) c.in-Stopped.stop } in
-    let so = subst (λ (z : SeatState). Course g.T.Kept.follows g.T.Kept.fits s.table_seat.number z s.table_seat.moving s.table_seat.place.me.0 Open q p.new.seat.moving p.new.seat.place.me.0) (sym (stands c.args.seat.now.standing c.requires.stands)) c.in-Stopped.ensures.made.course in
-    course_join g.T.Kept.follows g.T.Kept.fits s.table_seat.number s.standing s.table_seat.moving s.table_seat.place.me.0 q r.standing p.new.seat.moving r.table_seat.moving p.new.seat.place.me.0 r.table_seat.place.me.0 (send_turn on.result.0) so
-    (subst (λ (z : ℕ × SeatState). Course g.T.Kept.follows g.T.Kept.fits z.0 z.1 p.new.seat.moving p.new.seat.place.me.0 (send_turn on.result.0) r.standing r.table_seat.moving r.table_seat.place.me.0) (λ i. (p.ensures.same.0 i, c.stop_at_push.ensures i)) on.ensures.made)
+    let s = c.args.seat.now in let p = c.push in let on = c.finish_send in
+    let so = subst (λ (z : SeatState). PlainCourse g.T.Kept.follows g.T.Kept.fits s.table_seat.number s.table_seat.limits.seats z s.table_seat.moving s.table_seat.place.me.0 Open (record s.standing { point = push_stop_point (Pusher.Sender c.args.target) c.in-Stopped.stop }) p.new.seat.moving p.new.seat.place.me.0) (sym (stands s.standing c.requires.stands)) c.in-Stopped.ensures.made in
+    rest_course so c.stop_at_push.ensures p.ensures.same on.ensures.made
 
 pub returns-in-Stopped-clause-spends : goal.returns-in-Stopped-clause-spends
 returns-in-Stopped-clause-spends g c =
-    let s = c.args.seat.now in let p = c.push in let on = c.finish_send in let r = on.new.seat in let n = s.table_seat.limits.seats in
-    subst (λ (z : SeatState). Spends (due n (length s.table_seat.place.me.0.popped) z.point) 0 s.table_seat.place.me.0.trail r.table_seat.place.me.0.trail) (sym (stands c.args.seat.now.standing c.requires.stands))
-    (spends_join (due n (length s.table_seat.place.me.0.popped) (PushLoad (Pusher.Sender c.args.target))) (due n (length p.new.seat.place.me.0.popped) (push_stop_point (Pusher.Sender c.args.target) c.in-Stopped.stop)) 0 s.table_seat.place.me.0.trail p.new.seat.place.me.0.trail r.table_seat.place.me.0.trail c.in-Stopped.ensures.made.spends
-    (subst (λ (z : Limits × SeatState). Spends (due z.0.seats (length p.new.seat.place.me.0.popped) z.1.point) 0 p.new.seat.place.me.0.trail r.table_seat.place.me.0.trail) (λ i. (p.ensures.same.1 i, c.stop_at_push.ensures i)) on.ensures.spends))
+    let s = c.args.seat.now in let p = c.push in let on = c.finish_send in
+    let so = subst (λ (z : SeatState). PlainCourse g.T.Kept.follows g.T.Kept.fits s.table_seat.number s.table_seat.limits.seats z s.table_seat.moving s.table_seat.place.me.0 Open (record s.standing { point = push_stop_point (Pusher.Sender c.args.target) c.in-Stopped.stop }) p.new.seat.moving p.new.seat.place.me.0) (sym (stands s.standing c.requires.stands)) c.in-Stopped.ensures.made in
+    rest_spends so c.stop_at_push.ensures p.ensures.same on.ensures.spends
 
 pub returns-in-Stopped-clause-wakes : goal.returns-in-Stopped-clause-wakes
 returns-in-Stopped-clause-wakes g c =
-    let s = c.args.seat.now in let p = c.push in let on = c.finish_send in let r = on.new.seat in
-    wakes_after s.table_seat.limits.seats on.result.1 s.table_seat.place.me.0.trail p.new.seat.place.me.0.trail r.table_seat.place.me.0.trail c.push.ensures.made.grants
-    (wakes_same on.result.1 p.new.seat.place.me.0.trail r.table_seat.place.me.0.trail p.ensures.same.1 on.ensures.wakes)
+    let s = c.args.seat.now in let p = c.push in let on = c.finish_send in
+    let so = subst (λ (z : SeatState). PlainCourse g.T.Kept.follows g.T.Kept.fits s.table_seat.number s.table_seat.limits.seats z s.table_seat.moving s.table_seat.place.me.0 Open (record s.standing { point = push_stop_point (Pusher.Sender c.args.target) c.in-Stopped.stop }) p.new.seat.moving p.new.seat.place.me.0) (sym (stands s.standing c.requires.stands)) c.in-Stopped.ensures.made in
+    rest_wakes so c.stop_at_push.ensures p.ensures.same on.result.1 on.ensures.wakes

@@ -1,78 +1,45 @@
-use Rattle.std.proofs.Common.{◌≡◌, ◌+◌, length, refl, sym, subst, arith}
-use Rattle.lfm_protocol.specs.declared.points.Point.TheVariants.{PushLoad, SendCountAdd, SendWakeStore}
+use Rattle.std.proofs.Common.{refl}
+use Rattle.lfm_protocol.specs.declared.points.Point.TheVariants.{PushLoad, SendWakeStore}
 use Rattle.lfm_protocol.specs.declared.points.Pusher.{Pusher}
-use Rattle.lfm_protocol.specs.declared.seats.SeatState.{SeatState}
-use Rattle.lfm_laws.specs.table.Words.{stepped_by}
 use Rattle.lfm_table.specs.Steps.{oldest_in}
-use Rattle.lfm_table.specs.FastPath.{Fit}
-use Rattle.lfm_mutex.specs.calls.Due.{due}
-use Rattle.lfm_mutex.specs.calls.FailedPushes.{Spends}
-use Rattle.lfm_mutex.specs.calls.Runs.{opens}
-use Rattle.lfm_mutex.specs.calls.FastPath.{Course, send_turn}
-use Rattle.lfm_mutex.proofs.runs.Courses.{course_none, course_next, course_join}
-use Rattle.lfm_mutex.proofs.runs.SendPoints.{counted_none, counted_some}
-use Rattle.lfm_mutex.proofs.runs.Spending.{spends_any, spends_join, spends_within}
-use Rattle.lfm_table.proofs.tables.StepFacts.{made_of}
-use Rattle.lfm_mutex.proofs.runs.WakeUps.{grants_none, wakes_after}
-use Rattle.lfm_protocol.specs.declared.limits.Limits.{Limits}
 use Rattle.lfm_table.proofs.tables.FastPathSteps.{told_before}
-use Rattle.lfm_mutex.proofs.runs.SameSeats.{course_same, wakes_same}
+use Rattle.lfm_mutex.proofs.runs.GoesOn.{rest_course, rest_spends, rest_wakes}
+use Rattle.lfm_mutex.proofs.runs.SendCounts.{counts}
+use Rattle.lfm_mutex.proofs.runs.SendPoints.{counted_none, counted_some}
 use Rattle.lfm_mutex.proofs.send.send_with_hold.Goals as goal
 
 pub returns-then-found-eq0-clause-made : goal.returns-then-found-eq0-clause-made
 returns-then-found-eq0-clause-made g c =
-    let s = c.args.seat.now in let t = s.standing.takes in let ps = s.standing.posts in let u = c.args.target in let f = c.keep_held-found in let a = s.table_seat.moving in let b = f.new.seat.moving in
-    let p0 = made_of s.standing.depth t ps (SendCountAdd u) in
-    let at : s.standing ≡ p0 = (λ i. record { depth = s.standing.depth; takes = t; posts = ps; point = c.requires.stands i }) in
-    let fit0 = subst (λ (x : SeatState). Fit s.table_seat.number s.table_seat.place.table_id.words s.table_seat.place.id s.table_seat.limits x s.table_seat.place.me a) at (record { seated = s.seated; became = s.became; ready = s.ready; rooted = s.rooted }) in
-    let q = made_of s.standing.depth t ps (SendWakeStore u) in let on = c.finish_send in let r = on.new.seat in
-    let so0 = course_next g.T.Kept.follows g.T.Kept.fits s.table_seat.number p0 a s.table_seat.place.me.0 s.table_seat.place.table_id.words s.table_seat.place.id s.table_seat.limits p0 f.result s.table_seat.place.me a f.new.seat.place.me b f.new.seat.place.table_id.words f.new.seat.place.id (opens q) (course_none g.T.Kept.follows g.T.Kept.fits s.table_seat.number p0 a s.table_seat.place.me.0) fit0 (told_before f.ensures.same f.ensures.step) (counted_none s.standing.depth t ps s.table_seat.number f.result u (oldest_in b) c.if-found-eq0.true) (λ e. cc) refl in
-    subst (λ (x : SeatState). Course g.T.Kept.follows g.T.Kept.fits s.table_seat.number x a s.table_seat.place.me.0 (send_turn on.result.0) r.standing r.table_seat.moving r.table_seat.place.me.0) (sym at)
-    (course_join g.T.Kept.follows g.T.Kept.fits s.table_seat.number p0 a s.table_seat.place.me.0 q r.standing b r.table_seat.moving f.new.seat.place.me.0 r.table_seat.place.me.0 (send_turn on.result.0) so0
-    (subst (λ (x : SeatState). Course g.T.Kept.follows g.T.Kept.fits s.table_seat.number x b f.new.seat.place.me.0 (send_turn on.result.0) r.standing r.table_seat.moving r.table_seat.place.me.0) refl (course_same f.ensures.same.0 on.ensures.made)))
+    let s = c.args.seat.now in let x = s.standing in let u = c.args.target in let f = c.keep_held-found in
+    let so = counts x x.depth (SendWakeStore u) c.requires.stands refl (record { seated = s.seated; became = s.became; ready = s.ready; rooted = s.rooted }) (told_before f.ensures.same f.ensures.step) (counted_none x.depth x.takes x.posts s.table_seat.number f.result u (oldest_in f.new.seat.moving) c.if-found-eq0.true) in
+    rest_course so.plain refl f.ensures.same c.finish_send.ensures.made
 
 pub returns-then-found-eq0-clause-spends : goal.returns-then-found-eq0-clause-spends
 returns-then-found-eq0-clause-spends g c =
-    let s = c.args.seat.now in let t = s.standing.takes in let ps = s.standing.posts in let u = c.args.target in let f = c.keep_held-found in let a = s.table_seat.moving in let b = f.new.seat.moving in
-    let p0 = made_of s.standing.depth t ps (SendCountAdd u) in
-    let at : s.standing ≡ p0 = (λ i. record { depth = s.standing.depth; takes = t; posts = ps; point = c.requires.stands i }) in
-    let fit0 = subst (λ (x : SeatState). Fit s.table_seat.number s.table_seat.place.table_id.words s.table_seat.place.id s.table_seat.limits x s.table_seat.place.me a) at (record { seated = s.seated; became = s.became; ready = s.ready; rooted = s.rooted }) in
-    let q = made_of s.standing.depth t ps (SendWakeStore u) in let on = c.finish_send in let r = on.new.seat in let n = s.table_seat.limits.seats in
-    let st = stepped_by p0 s.table_seat.number f.result (oldest_in b) in
-    let one = spends_within (n + 7 + 1) (n + 8) (n + 7) (n + 7) s.table_seat.place.me.0.trail f.new.seat.place.me.0.trail (omega arith) (omega arith) (spends_any g.T.Kept.follows g.T.Kept.fits p0 st.seat s.table_seat.place.me.0 f.new.seat.place.me.0 a b st.turn (told_before f.ensures.same f.ensures.step).event (n + 7)) in
-    let rest : Spends 1 0 f.new.seat.place.me.0.trail r.table_seat.place.me.0.trail = on.ensures.spends in
-    subst (λ (z : SeatState). Spends (due n (length s.table_seat.place.me.0.popped) z.point) 0 s.table_seat.place.me.0.trail r.table_seat.place.me.0.trail) (sym at) (spends_join (n + 8) (n + 7) 0 s.table_seat.place.me.0.trail f.new.seat.place.me.0.trail r.table_seat.place.me.0.trail one (spends_within 1 (n + 7) 0 0 f.new.seat.place.me.0.trail r.table_seat.place.me.0.trail (omega arith) (omega arith) rest))
+    let s = c.args.seat.now in let x = s.standing in let u = c.args.target in let f = c.keep_held-found in
+    let so = counts x x.depth (SendWakeStore u) c.requires.stands refl (record { seated = s.seated; became = s.became; ready = s.ready; rooted = s.rooted }) (told_before f.ensures.same f.ensures.step) (counted_none x.depth x.takes x.posts s.table_seat.number f.result u (oldest_in f.new.seat.moving) c.if-found-eq0.true) in
+    rest_spends so.plain refl f.ensures.same c.finish_send.ensures.spends
 
 pub returns-then-found-eq0-clause-wakes : goal.returns-then-found-eq0-clause-wakes
 returns-then-found-eq0-clause-wakes g c =
-    let s = c.args.seat.now in let f = c.keep_held-found in let on = c.finish_send in
-    wakes_after s.table_seat.limits.seats on.result.1 s.table_seat.place.me.0.trail f.new.seat.place.me.0.trail on.new.seat.table_seat.place.me.0.trail (grants_none g.T.Kept.follows g.T.Kept.fits _ _ _ _ _ _ _ (told_before f.ensures.same f.ensures.step).event refl) (wakes_same on.result.1 f.new.seat.place.me.0.trail on.new.seat.table_seat.place.me.0.trail f.ensures.same.1 on.ensures.wakes)
+    let s = c.args.seat.now in let x = s.standing in let u = c.args.target in let f = c.keep_held-found in
+    let so = counts x x.depth (SendWakeStore u) c.requires.stands refl (record { seated = s.seated; became = s.became; ready = s.ready; rooted = s.rooted }) (told_before f.ensures.same f.ensures.step) (counted_none x.depth x.takes x.posts s.table_seat.number f.result u (oldest_in f.new.seat.moving) c.if-found-eq0.true) in
+    rest_wakes so.plain refl f.ensures.same c.finish_send.result.1 c.finish_send.ensures.wakes
 
 pub returns-clause-made : goal.returns-clause-made
 returns-clause-made g c =
-    let s = c.args.seat.now in let t = s.standing.takes in let ps = s.standing.posts in let u = c.args.target in let f = c.keep_held-found in let a = s.table_seat.moving in let b = f.new.seat.moving in
-    let p0 = made_of s.standing.depth t ps (SendCountAdd u) in
-    let at : s.standing ≡ p0 = (λ i. record { depth = s.standing.depth; takes = t; posts = ps; point = c.requires.stands i }) in
-    let fit0 = subst (λ (x : SeatState). Fit s.table_seat.number s.table_seat.place.table_id.words s.table_seat.place.id s.table_seat.limits x s.table_seat.place.me a) at (record { seated = s.seated; became = s.became; ready = s.ready; rooted = s.rooted }) in
-    let q = made_of s.standing.depth t ps (PushLoad (Pusher.Sender u)) in let on = c.queue_target in let r = on.new.seat in
-    let so0 = course_next g.T.Kept.follows g.T.Kept.fits s.table_seat.number p0 a s.table_seat.place.me.0 s.table_seat.place.table_id.words s.table_seat.place.id s.table_seat.limits p0 f.result s.table_seat.place.me a f.new.seat.place.me b f.new.seat.place.table_id.words f.new.seat.place.id (opens q) (course_none g.T.Kept.follows g.T.Kept.fits s.table_seat.number p0 a s.table_seat.place.me.0) fit0 (told_before f.ensures.same f.ensures.step) (counted_some s.standing.depth t ps s.table_seat.number f.result u (oldest_in b) c.if-found-eq0.false) (λ e. cc) refl in
-    subst (λ (x : SeatState). Course g.T.Kept.follows g.T.Kept.fits s.table_seat.number x a s.table_seat.place.me.0 (send_turn on.result.0) r.standing r.table_seat.moving r.table_seat.place.me.0) (sym at)
-    (course_join g.T.Kept.follows g.T.Kept.fits s.table_seat.number p0 a s.table_seat.place.me.0 q r.standing b r.table_seat.moving f.new.seat.place.me.0 r.table_seat.place.me.0 (send_turn on.result.0) so0
-    (course_same f.ensures.same.0 on.ensures.made))
+    let s = c.args.seat.now in let x = s.standing in let u = c.args.target in let f = c.keep_held-found in
+    let so = counts x x.depth (PushLoad (Pusher.Sender u)) c.requires.stands refl (record { seated = s.seated; became = s.became; ready = s.ready; rooted = s.rooted }) (told_before f.ensures.same f.ensures.step) (counted_some x.depth x.takes x.posts s.table_seat.number f.result u (oldest_in f.new.seat.moving) c.if-found-eq0.false) in
+    rest_course so.plain refl f.ensures.same c.queue_target.ensures.made
 
 pub returns-clause-spends : goal.returns-clause-spends
 returns-clause-spends g c =
-    let s = c.args.seat.now in let t = s.standing.takes in let ps = s.standing.posts in let u = c.args.target in let f = c.keep_held-found in let a = s.table_seat.moving in let b = f.new.seat.moving in
-    let p0 = made_of s.standing.depth t ps (SendCountAdd u) in
-    let at : s.standing ≡ p0 = (λ i. record { depth = s.standing.depth; takes = t; posts = ps; point = c.requires.stands i }) in
-    let fit0 = subst (λ (x : SeatState). Fit s.table_seat.number s.table_seat.place.table_id.words s.table_seat.place.id s.table_seat.limits x s.table_seat.place.me a) at (record { seated = s.seated; became = s.became; ready = s.ready; rooted = s.rooted }) in
-    let q = made_of s.standing.depth t ps (PushLoad (Pusher.Sender u)) in let on = c.queue_target in let r = on.new.seat in let n = s.table_seat.limits.seats in
-    let st = stepped_by p0 s.table_seat.number f.result (oldest_in b) in
-    let one = spends_within (n + 7 + 1) (n + 8) (n + 7) (n + 7) s.table_seat.place.me.0.trail f.new.seat.place.me.0.trail (omega arith) (omega arith) (spends_any g.T.Kept.follows g.T.Kept.fits p0 st.seat s.table_seat.place.me.0 f.new.seat.place.me.0 a b st.turn (told_before f.ensures.same f.ensures.step).event (n + 7)) in
-    let rest = subst (λ (l : Limits). Spends (due l.seats (length f.new.seat.place.me.0.popped) q.point) 0 f.new.seat.place.me.0.trail r.table_seat.place.me.0.trail) f.ensures.same.1 on.ensures.spends in
-    subst (λ (z : SeatState). Spends (due n (length s.table_seat.place.me.0.popped) z.point) 0 s.table_seat.place.me.0.trail r.table_seat.place.me.0.trail) (sym at) (spends_join (n + 8) (n + 7) 0 s.table_seat.place.me.0.trail f.new.seat.place.me.0.trail r.table_seat.place.me.0.trail one rest)
+    let s = c.args.seat.now in let x = s.standing in let u = c.args.target in let f = c.keep_held-found in
+    let so = counts x x.depth (PushLoad (Pusher.Sender u)) c.requires.stands refl (record { seated = s.seated; became = s.became; ready = s.ready; rooted = s.rooted }) (told_before f.ensures.same f.ensures.step) (counted_some x.depth x.takes x.posts s.table_seat.number f.result u (oldest_in f.new.seat.moving) c.if-found-eq0.false) in
+    rest_spends so.plain refl f.ensures.same c.queue_target.ensures.spends
 
 pub returns-clause-wakes : goal.returns-clause-wakes
 returns-clause-wakes g c =
-    let s = c.args.seat.now in let f = c.keep_held-found in let on = c.queue_target in
-    wakes_after s.table_seat.limits.seats on.result.1 s.table_seat.place.me.0.trail f.new.seat.place.me.0.trail on.new.seat.table_seat.place.me.0.trail (grants_none g.T.Kept.follows g.T.Kept.fits _ _ _ _ _ _ _ (told_before f.ensures.same f.ensures.step).event refl) (wakes_same on.result.1 f.new.seat.place.me.0.trail on.new.seat.table_seat.place.me.0.trail f.ensures.same.1 on.ensures.wakes)
+    let s = c.args.seat.now in let x = s.standing in let u = c.args.target in let f = c.keep_held-found in
+    let so = counts x x.depth (PushLoad (Pusher.Sender u)) c.requires.stands refl (record { seated = s.seated; became = s.became; ready = s.ready; rooted = s.rooted }) (told_before f.ensures.same f.ensures.step) (counted_some x.depth x.takes x.posts s.table_seat.number f.result u (oldest_in f.new.seat.moving) c.if-found-eq0.false) in
+    rest_wakes so.plain refl f.ensures.same c.queue_target.result.1 c.queue_target.ensures.wakes

@@ -12,7 +12,7 @@ use Rattle.lfm_table.specs.Rule.{Held}
 
 module _ {T : Type 0} (follows : ℕ → T → T → Type 0) (fits : T → ℕ → Type 0) where
   pub core_of : (s : State (Option (Moving T)) (View T)) (h : Held follows fits s) → IsCore s h.core
-  core_of s h = record { words_are = h.words_are; seats_are = λ j v at. (h.each j v at).standing }
+  core_of s h = record { words_are = h.words_are; seats_are = λ j v at. (h.each j v at).state }
 
   pub steady_of : (s : State (Option (Moving T)) (View T)) (h : Held follows fits s) → Steady h.core
   steady_of s h = record { ghost_state = h.ghost_state; fits = h.fits }

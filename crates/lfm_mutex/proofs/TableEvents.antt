@@ -35,5 +35,5 @@ module _ {T : Type 0} (follows : ℕ → T → T → Type 0) (fits : T → ℕ �
       let low = length_at s.views j v at in let few = h.few in
       let is : IsSeat h.core.seats (j + 1) = record { above = omega arith; within = omega (arith, low, few) } in
       let settles : Settles (seat h.core.seats (j + 1)) (limits h.core) p =
-      subst (λ (x : SeatState). Settles x (limits h.core) p) (sym sits.standing) (subst (λ (l : Limits). Settles v.standing l p) sits.limits_are (settles_of v.standing v.limits p became)) in
+      subst (λ (x : SeatState). Settles x (limits h.core) p) (sym sits.state) (subst (λ (l : Limits). Settles v.state l p) sits.limits_are (settles_of v.state v.limits p became)) in
       (found_at h.core (j + 1) p, event_of h.core h.ghost_state (j + 1) p is h.fits h.narrow settles)

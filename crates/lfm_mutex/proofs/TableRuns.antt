@@ -87,9 +87,9 @@ module _ {T : Type 0} (follows : ℕ → T → T → Type 0) (fits : T → ℕ �
       let h = holds.0 in
       let i = index p me.0.limits.seats me.0.number in
       let on = led_on follows fits 1 j me p a i (λ n. written p me.0.number n) (λ n. told p me.0.number n) user became refl (λ n. refl) (λ n. refl) ready s h at in
-      let more = actions ++ begins_and_step me.0.number me.0.standing p in
+      let more = actions ++ begins_and_step me.0.number me.0.state p in
       let after : St = stepped s i (written p me.0.number (slice_index s.words i)) j me.1 on.0 on.1 in
-      let goes : HoldsAfter follows fits l more after = (on.3.0, on.3.2 ∙ holds.1, on.3.3 ∙ ap (λ (d : List Action). d ++ begins_and_step me.0.number me.0.standing p) holds.2) in (
+      let goes : HoldsAfter follows fits l more after = (on.3.0, on.3.2 ∙ holds.1, on.3.3 ∙ ap (λ (d : List Action). d ++ begins_and_step me.0.number me.0.state p) holds.2) in (
         slice_index s.words i,
         on.0,
         on.1,
@@ -98,7 +98,7 @@ module _ {T : Type 0} (follows : ℕ → T → T → Type 0) (fits : T → ℕ �
         goes,
         sym (led after l more goes) ∙ (on.3.1 ∙ ap (λ (c : Core). (made (put c me.0.number p) me.0.number).core) (led s l actions holds)),
         on.4,
-        on.5 ∙ ap (λ (d : List Action). d ++ begins_and_step me.0.number me.0.standing p) holds.2,
+        on.5 ∙ ap (λ (d : List Action). d ++ begins_and_step me.0.number me.0.state p) holds.2,
       )
 
   pub other_steps_keep_the_core : OtherStepsKeepTheCore follows fits

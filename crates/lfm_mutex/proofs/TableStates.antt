@@ -40,12 +40,12 @@ module _ {T : Type 0} (follows : ℕ → T → T → Type 0) (fits : T → ℕ �
         },
       )
 
-  all_rest : (s : St) (h : Held follows fits s) → ((j : ℕ) (v : View T) → get_elem? s.views j ≡ some v → IsResting v.standing) → (t : ℕ) → IsResting (seat h.core.seats t)
+  all_rest : (s : St) (h : Held follows fits s) → ((j : ℕ) (v : View T) → get_elem? s.views j ≡ some v → IsResting v.state) → (t : ℕ) → IsResting (seat h.core.seats t)
   all_rest s h rests zero = subst IsResting (sym (seat_zero h.core.seats)) (refl, refl)
   all_rest s h rests (suc j) =
       let next : suc j ≡ j + 1 = omega arith in
       subst (λ (n : ℕ). IsResting (seat h.core.seats n)) (sym next) (⊎_elim
-      (λ (z : (x : View T) × (get_elem? s.views j ≡ some x)). subst IsResting (sym (h.each j z.0 z.1).standing) (rests j z.0 z.1))
+      (λ (z : (x : View T) × (get_elem? s.views j ≡ some x)). subst IsResting (sym (h.each j z.0 z.1).state) (rests j z.0 z.1))
       (λ far. subst IsResting (sym (h.later j far)) (refl, refl)) (there_or_past s.views j))
 
   pub resting_tables_are_free : RestingTablesAreFree follows fits

@@ -23,7 +23,7 @@ budget_of s = s.table_seat.limits.budget
 
 -- the seat's own data, as the core has them
 abbrev pub state_of : {T : Type 0} → Seat T → SeatState
-state_of s = s.standing
+state_of s = s.state
 
 -- how often a seat tries at most before it queues: at each spin and after each nap of the mutex's pace
 abbrev pub tries_of : {T : Type 0} → Mutex T → ℕ

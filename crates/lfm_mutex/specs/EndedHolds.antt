@@ -28,8 +28,8 @@ pub record HaveEnded {T : Type 0} (s : State (Option (Moving T)) (View T)) (c : 
   pub reads : Reads c a
   pub numbered : AreNumbered s.views n
   pub home : out_with a.place ≡ None → (x : Moving T) × (get_elem? s.homes 0 ≡ some (some (Some x))) × LeftByHold s.views n x.value
-  pub knows : (j : ℕ) (v : View T) → get_elem? s.views j ≡ some v → carries_value v.standing ≡ true → v.holds_ended ≡ n
-  pub carried : (j : ℕ) (v : View T) → get_elem? s.views j ≡ some v → carries_value v.standing ≡ true → v.standing.depth ≡ 0 → (w : T) × (v.found ≡ Some w) × LeftByHold s.views n w
+  pub knows : (j : ℕ) (v : View T) → get_elem? s.views j ≡ some v → carries_value v.state ≡ true → v.holds_ended ≡ n
+  pub carried : (j : ℕ) (v : View T) → get_elem? s.views j ≡ some v → carries_value v.state ≡ true → v.state.depth ≡ 0 → (w : T) × (v.found ≡ Some w) × LeftByHold s.views n w
 
 module _ {T : Type 0} (follows : ℕ → T → T → Type 0) (fits : T → ℕ → Type 0) where
   abbrev pub HoldsAreNumbered : Type 0

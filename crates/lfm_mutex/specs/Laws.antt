@@ -23,7 +23,7 @@ use Rattle.lfm_mutex.specs.calls.Sight.{sight}
 -- the table's words are those of this state of the core, and each seat there has the data that its last step left
 pub record IsCore {T : Type 0} (s : State (Option (Moving T)) (View T)) (c : Core) : Type 0 where
   pub words_are : s.words ≡ words c
-  pub seats_are : (j : ℕ) (v : View T) → get_elem? s.views j ≡ some v → seat c.seats (j + 1) ≡ v.standing
+  pub seats_are : (j : ℕ) (v : View T) → get_elem? s.views j ≡ some v → seat c.seats (j + 1) ≡ v.state
 
 module _ {T : Type 0} (follows : ℕ → T → T → Type 0) (fits : T → ℕ → Type 0) where
   -- at every moment words and seats are a steady state of the core, so every law of steady states holds of them

@@ -28,4 +28,4 @@ module _ {T : Type 0} (follows : ℕ → T → T → Type 0) (fits : T → ℕ �
   abbrev pub TablesStepAsTheCore : Type 0
   TablesStepAsTheCore =
       (s : State (Option (Moving T)) (View T)) (h : Held follows fits s) (j : ℕ) (v : View T) (p : SeatState) → get_elem? s.views j ≡ some v
-      → Became v.standing v.limits p → (n : ℕ) × IsEvent h.core (j + 1) p n
+      → Became v.state v.limits p → (n : ℕ) × IsEvent h.core (j + 1) p n

@@ -131,18 +131,18 @@ module _ {T : Type 0} (follows : ℕ → T → T → Type 0) (fits : T → ℕ �
   abbrev pub TablesGoOnAsTheCore : Type 0
   TablesGoOnAsTheCore =
       (s : State (Option (Moving T)) (View T)) (l : Limits) (actions : List Action) (j : ℕ) (me : Me (Option (Moving T)) (View T)) (p : SeatState) (a : Option T) → HoldsAfter l actions s
-      → get_elem? s.views j ≡ some me.0 → me.0.role ≡ User → Became me.0.standing me.0.limits p → Ready follows fits p a me
+      → get_elem? s.views j ≡ some me.0 → me.0.role ≡ User → Became me.0.state me.0.limits p → Ready follows fits p a me
       → (n : ℕ) × (w : View T) × (act : Act (Option (Moving T))) × (n ≡ slice_index s.words (index p me.0.limits.seats me.0.number)) × Valid s.homes me.1 act
-      × HoldsAfter l (actions ++ begins_and_step me.0.number me.0.standing p) (stepped s (index p me.0.limits.seats me.0.number) (written p me.0.number n) j me.1 w act)
-      × (state_after l (actions ++ begins_and_step me.0.number me.0.standing p) ≡ (made (put (state_after l actions) me.0.number p) me.0.number).core)
-      × Advanced follows fits p a me (told p me.0.number n) (w, carried_after me.1 act) × (w.actions ≡ actions ++ begins_and_step me.0.number me.0.standing p)
+      × HoldsAfter l (actions ++ begins_and_step me.0.number me.0.state p) (stepped s (index p me.0.limits.seats me.0.number) (written p me.0.number n) j me.1 w act)
+      × (state_after l (actions ++ begins_and_step me.0.number me.0.state p) ≡ (made (put (state_after l actions) me.0.number p) me.0.number).core)
+      × Advanced follows fits p a me (told p me.0.number n) (w, carried_after me.1 act) × (w.actions ≡ actions ++ begins_and_step me.0.number me.0.state p)
 
   -- These keep the core: seats are split off and joined again, which is no action, and a seat loads the owner word for `owner`, which is one.
   abbrev pub OtherStepsKeepTheCore : Type 0
   OtherStepsKeepTheCore =
       (l : Limits) (actions : List Action)
       → ((v : View T) → v.role ≡ User → v.made + 2 ≤ v.limits.seats → Splits (HoldsAfter l actions) 0 v (with_split v) (split_view v))
-      × ((v w : View T) (other : ℕ) → v.role ≡ User → w.role ≡ User → w.standing.point ≡ Rest → w.standing.depth ≡ 0 → Joins (HoldsAfter l actions) 0 v other w (with_joined v w) (joined w))
+      × ((v w : View T) (other : ℕ) → v.role ≡ User → w.role ≡ User → w.state.point ≡ Rest → w.state.depth ≡ 0 → Joins (HoldsAfter l actions) 0 v other w (with_joined v w) (joined w))
       × ((s : State (Option (Moving T)) (View T)) (j : ℕ) (me : Me (Option (Moving T)) (View T)) → HoldsAfter l actions s → get_elem? s.views j ≡ some me.0 → me.0.role ≡ User
       → (w : View T) × HoldsAfter l (actions ++ LoadsOwner me.0.number ∷ []) (stepped s 1 (slice_index s.words 1) j me.1 w keeps)
       × (state_after l (actions ++ LoadsOwner me.0.number ∷ []) ≡ state_after l actions) × ReadsOwner me (slice_index s.words 1) (w, me.1))

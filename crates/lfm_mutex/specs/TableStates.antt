@@ -36,4 +36,4 @@ module _ {T : Type 0} (follows : ℕ → T → T → Type 0) (fits : T → ℕ �
   abbrev pub RestingTablesAreFree : Type 0
   RestingTablesAreFree =
       (s : State (Option (Moving T)) (View T)) → Held follows fits s
-      → ((j : ℕ) (v : View T) → get_elem? s.views j ≡ some v → (v.standing.point ≡ Rest) × (v.standing.depth ≡ 0)) → (c : Core) × IsCore s c × IsFree c
+      → ((j : ℕ) (v : View T) → get_elem? s.views j ≡ some v → (v.state.point ≡ Rest) × (v.state.depth ≡ 0)) → (c : Core) × IsCore s c × IsFree c

@@ -44,21 +44,21 @@ fn either(first: Option<WakeUp>, then: Option<WakeUp>) -> Option<WakeUp>
 #[inline(never)]
 pub fn finish<T: Kept>(mutex: &Mutex<T>, seat: &mut Seat<T>) -> (Turn, Option<WakeUp>)
     requires belongs { seat.old.table_seat.place.table_id ≡ mutex.now.table.table_id }
-    requires open { errand seat.old.standing.point ≢ nothing }
-    requires keeps { is_release seat.old.standing.point ≡ false }
+    requires open { errand seat.old.state.point ≢ nothing }
+    requires keeps { is_release seat.old.state.point ≡ false }
     ensures belongs { seat.new.table_seat.place.table_id ≡ seat.old.table_seat.place.table_id }
     ensures woken { WakesNobody seat.old seat.new }
     ensures same { IsSame seat.old.table_seat seat.new.table_seat }
-    ensures ends { Ends (errand seat.old.standing.point) result.0 }
+    ensures ends { Ends (errand seat.old.state.point) result.0 }
     ensures last { last_hold seat.new.table_seat.place.me.0 ≡ last_hold seat.old.table_seat.place.me.0 }
-    ensures held { (how : HowNow) → how_held result.0 ≡ Some how → Holds T.follows T.fits seat.old.table_seat.number (last_hold seat.old.table_seat.place.me.0) how seat.new.standing seat.new.table_seat.moving seat.new.table_seat.place.me.0 }
-    ensures ran { Ran seat.old.table_seat.number (opens seat.old.standing) seat.old.table_seat.place.me.0 result.0 seat.new.standing seat.new.table_seat.place.me.0 }
-    ensures concludes { Concludes seat.old.standing result.0 seat.new.standing }
-    ensures stays { Stays seat.old.standing.depth seat.old.table_seat.place.me.0 (value_in seat.old.table_seat.moving) seat.new.table_seat.place.me.0 (value_in seat.new.table_seat.moving) }
-    ensures bounded { length seat.new.table_seat.place.me.0.trail ≤ length seat.old.table_seat.place.me.0.trail + weight seat.old.table_seat.limits.seats (length seat.old.table_seat.place.me.0.popped) seat.old.standing.point }
-    ensures spends { Spends (due seat.old.table_seat.limits.seats (length seat.old.table_seat.place.me.0.popped) seat.old.standing.point) 0 seat.old.table_seat.place.me.0.trail seat.new.table_seat.place.me.0.trail }
+    ensures held { (how : HowNow) → how_held result.0 ≡ Some how → Holds T.follows T.fits seat.old.table_seat.number (last_hold seat.old.table_seat.place.me.0) how seat.new.state seat.new.table_seat.moving seat.new.table_seat.place.me.0 }
+    ensures ran { Ran seat.old.table_seat.number (opens seat.old.state) seat.old.table_seat.place.me.0 result.0 seat.new.state seat.new.table_seat.place.me.0 }
+    ensures concludes { Concludes seat.old.state result.0 seat.new.state }
+    ensures stays { Stays seat.old.state.depth seat.old.table_seat.place.me.0 (value_in seat.old.table_seat.moving) seat.new.table_seat.place.me.0 (value_in seat.new.table_seat.moving) }
+    ensures bounded { length seat.new.table_seat.place.me.0.trail ≤ length seat.old.table_seat.place.me.0.trail + weight seat.old.table_seat.limits.seats (length seat.old.table_seat.place.me.0.popped) seat.old.state.point }
+    ensures spends { Spends (due seat.old.table_seat.limits.seats (length seat.old.table_seat.place.me.0.popped) seat.old.state.point) 0 seat.old.table_seat.place.me.0.trail seat.new.table_seat.place.me.0.trail }
     ensures wakes { Wakes seat.old.table_seat.limits.seats result.1 seat.old.table_seat.place.me.0.trail seat.new.table_seat.place.me.0.trail }
-    ensures none { may_grant (errand seat.old.standing.point) ≡ false → result.1 ≡ None }
+    ensures none { may_grant (errand seat.old.state.point) ≡ false → result.1 ≡ None }
 {
     let mut owed = None;
     loop {
@@ -124,16 +124,16 @@ pub fn begin_and_release<T: Kept>(
 /// Finishes an open release. Its first step is the store that ends the hold.
 fn finish_from_owner_store<T: Kept>(mutex: &Mutex<T>, seat: &mut Seat<T>) -> (Turn, Option<WakeUp>)
     requires belongs { seat.old.table_seat.place.table_id ≡ mutex.now.table.table_id }
-    requires gives { (r : Releaser) × (seat.old.standing.point ≡ ReleaseOwnerStore r) }
+    requires gives { (r : Releaser) × (seat.old.state.point ≡ ReleaseOwnerStore r) }
     requires leaves { MayBeLeft T.follows T.fits seat.old.table_seat.moving seat.old.table_seat.place.me.0 }
     ensures belongs { seat.new.table_seat.place.table_id ≡ seat.old.table_seat.place.table_id }
     ensures woken { WakesNobody seat.old seat.new }
     ensures same { IsSame seat.old.table_seat seat.new.table_seat }
-    ensures ends { Ends (errand seat.old.standing.point) result.0 }
+    ensures ends { Ends (errand seat.old.state.point) result.0 }
     ensures last { last_hold seat.new.table_seat.place.me.0 ≡ (value_in seat.old.table_seat.moving, seat.old.table_seat.place.me.0.found, seat.old.table_seat.place.me.0.limits, seat.old.table_seat.place.me.0.holds_ended + 1) }
-    ensures ran { Ran seat.old.table_seat.number (opens seat.old.standing) seat.old.table_seat.place.me.0 result.0 seat.new.standing seat.new.table_seat.place.me.0 }
-    ensures concludes { Concludes (record seat.old.standing { depth = 0 }) result.0 seat.new.standing }
-    ensures bounded { length seat.new.table_seat.place.me.0.trail ≤ length seat.old.table_seat.place.me.0.trail + weight seat.old.table_seat.limits.seats (length seat.old.table_seat.place.me.0.popped) seat.old.standing.point }
+    ensures ran { Ran seat.old.table_seat.number (opens seat.old.state) seat.old.table_seat.place.me.0 result.0 seat.new.state seat.new.table_seat.place.me.0 }
+    ensures concludes { Concludes (record seat.old.state { depth = 0 }) result.0 seat.new.state }
+    ensures bounded { length seat.new.table_seat.place.me.0.trail ≤ length seat.old.table_seat.place.me.0.trail + weight seat.old.table_seat.limits.seats (length seat.old.table_seat.place.me.0.popped) seat.old.state.point }
     ensures wakes { Wakes seat.old.table_seat.limits.seats result.1 seat.old.table_seat.place.me.0.trail seat.new.table_seat.place.me.0.trail }
 {
     match make_waking_none(mutex, seat, Kind::OwnerStore) {
@@ -144,10 +144,10 @@ fn finish_from_owner_store<T: Kept>(mutex: &Mutex<T>, seat: &mut Seat<T>) -> (Tu
 
 /// Whether the seat sleeps, or a call of it is open.
 #[inline(always)]
-pub fn asleep(standing: &SeatState) -> bool
-    ensures { result ≡ is_asleep standing.now.point }
+pub fn asleep(state: &SeatState) -> bool
+    ensures { result ≡ is_asleep state.now.point }
 {
-    match standing.point {
+    match state.point {
         Point::Rest => false,
         _ => true,
     }

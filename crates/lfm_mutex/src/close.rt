@@ -134,7 +134,7 @@ fn into_place<T: Kept, P: Holder<T>>(holder: P) -> AtomicSeat<T>
 {
     let Seat {
         table_seat,
-        standing: _,
+        state: _,
         woken: _,
     } = holder.into_seat();
     let TableSeat {
@@ -169,7 +169,7 @@ fn retire<T: Kept, B: JoinedView<T>>(
     requires view { B.view ≡ place.me.0 }
     requires table { (root.old.table_id ≡ table.now.table_id) × (place.table_id ≡ table.now.table_id) × (0 < table.now.table_id.words) }
     requires root { (root.old.id ≡ 0) × (root.old.me.0.role ≡ User) }
-    requires free { (place.me.0.role ≡ User) × (place.me.1 ≡ []) × (place.me.0.standing.point ≡ Rest) × (place.me.0.standing.depth ≡ 0) }
+    requires free { (place.me.0.role ≡ User) × (place.me.1 ≡ []) × (place.me.0.state.point ≡ Rest) × (place.me.0.state.depth ≡ 0) }
     ensures table { (root.new.table_id ≡ root.old.table_id) × (root.new.id ≡ root.old.id) }
     ensures joined { root.new.me ≡ (with_joined root.old.me.0 place.me.0, root.old.me.1) }
 {

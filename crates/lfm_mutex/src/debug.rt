@@ -20,10 +20,10 @@ impl<T: Kept> Debug for Mutex<T> {
 /// The seat's number, how often it holds, and whether it sleeps: `Seat { number: 3, depth: 0, asleep: true }`.
 impl<T: Drop> Debug for Seat<T> {
     fn fmt<W: Write>(&self, f: &mut Formatter<W>) -> fmt::Result {
-        let asleep = !matches!(self.standing.point, Point::Rest);
+        let asleep = !matches!(self.state.point, Point::Rest);
         f.debug_struct("Seat")
             .field("number", &self.table_seat.number)
-            .field("depth", &self.standing.depth)
+            .field("depth", &self.state.depth)
             .field("asleep", &asleep)
             .finish()
     }

@@ -68,18 +68,18 @@ impl<T: Kept> Mutex<T> {
         ensures bounded { MakesBesideFailures ((limits_of self.now).seats + 9) (sight seat.old) (sight seat.new) }
         ensures wakes { Wakes (limits_of self.now).seats result.1 (sight seat.old).trail (sight seat.new).trail }
     {
-        if asleep(&seat.standing) {
+        if asleep(&seat.state) {
             return ask_slow(self, seat);
         }
-        if seat.standing.depth == 0 {
+        if seat.state.depth == 0 {
             let budget = seat.table_seat.limits.budget;
-            if seat.standing.takes < budget {
+            if seat.state.takes < budget {
                 let (asked, wake_up) = ask_without_hold(self, seat);
                 return (Ok(asked), wake_up);
             }
             return ask_slow(self, seat);
         }
-        if seat.standing.depth < MAX_DEPTH {
+        if seat.state.depth < MAX_DEPTH {
             let (asked, wake_up) = ask_with_hold(self, seat);
             return (Ok(asked), wake_up);
         }
@@ -113,9 +113,9 @@ impl<T: Kept> Mutex<T> {
 #[inline(always)]
 pub fn ask_without_hold<T: Kept>(mutex: &Mutex<T>, seat: &mut Seat<T>) -> (Asked, Option<WakeUp>)
     requires belongs { OfMutex seat.old mutex.now }
-    requires rests { seat.old.standing.point ≡ Rest }
-    requires flat { seat.old.standing.depth ≡ 0 }
-    requires charged { seat.old.standing.takes < seat.old.table_seat.limits.budget }
+    requires rests { seat.old.state.point ≡ Rest }
+    requires flat { seat.old.state.depth ≡ 0 }
+    requires charged { seat.old.state.takes < seat.old.table_seat.limits.budget }
     ensures belongs { Beside seat.old seat.new }
     ensures woken { WakesNobody seat.old seat.new }
     ensures run { RunGoesOnFrom seat.old seat.new }
@@ -125,24 +125,24 @@ pub fn ask_without_hold<T: Kept>(mutex: &Mutex<T>, seat: &mut Seat<T>) -> (Asked
 {
     let _budget = seat.table_seat.limits.budget;
     let table = &mutex.table;
-    let takes = seat.standing.takes + 1;
-    let mut standing = SeatState {
+    let takes = seat.state.takes + 1;
+    let mut state = SeatState {
         depth: 0,
         takes,
         point: Point::LockCountAdd,
-        ..seat.standing
+        ..seat.state
     };
-    let found = gain::<CountAdd, T>(table, &mut seat.table_seat, &standing);
+    let found = gain::<CountAdd, T>(table, &mut seat.table_seat, &state);
     if found != 0 {
-        seat.standing.takes = takes;
-        stop_at(&mut seat.standing, Stop::LockLoadsOwner);
+        seat.state.takes = takes;
+        stop_at(&mut seat.state, Stop::LockLoadsOwner);
         return queue(mutex, seat);
     }
     // The plain writes stand together, in this gap between two steps: see `steps` of `lfm_table`.
-    seat.standing.depth = 1;
-    seat.standing.takes = takes;
-    standing.point = Point::EnterOwnerStore(Entrant::Locker, How::Free);
-    keep_held::<OwnerStore, T>(table, &mut seat.table_seat, &standing);
+    seat.state.depth = 1;
+    seat.state.takes = takes;
+    state.point = Point::EnterOwnerStore(Entrant::Locker, How::Free);
+    keep_held::<OwnerStore, T>(table, &mut seat.table_seat, &state);
     (Asked::Held(How::Free), None)
 }
 
@@ -150,9 +150,9 @@ pub fn ask_without_hold<T: Kept>(mutex: &Mutex<T>, seat: &mut Seat<T>) -> (Asked
 #[inline(always)]
 pub fn ask_with_hold<T: Kept>(mutex: &Mutex<T>, seat: &mut Seat<T>) -> (Asked, Option<WakeUp>)
     requires belongs { OfMutex seat.old mutex.now }
-    requires rests { seat.old.standing.point ≡ Rest }
-    requires held { 0 < seat.old.standing.depth }
-    requires room { seat.old.standing.depth < max_depth }
+    requires rests { seat.old.state.point ≡ Rest }
+    requires held { 0 < seat.old.state.depth }
+    requires room { seat.old.state.depth < max_depth }
     ensures belongs { Beside seat.old seat.new }
     ensures woken { WakesNobody seat.old seat.new }
     ensures run { RunGoesOnFrom seat.old seat.new }
@@ -162,25 +162,25 @@ pub fn ask_with_hold<T: Kept>(mutex: &Mutex<T>, seat: &mut Seat<T>) -> (Asked, O
 {
     let table = &mutex.table;
     let number = seat.table_seat.number;
-    let depth = seat.standing.depth;
-    let mut standing = SeatState {
+    let depth = seat.state.depth;
+    let mut state = SeatState {
         point: Point::LockCountAdd,
-        ..seat.standing
+        ..seat.state
     };
-    let found = keep_held::<CountAdd, T>(table, &mut seat.table_seat, &standing);
+    let found = keep_held::<CountAdd, T>(table, &mut seat.table_seat, &state);
     if found == 0 {
-        stop_at(&mut seat.standing, Stop::LockEnters);
+        stop_at(&mut seat.state, Stop::LockEnters);
         return finish_ask(mutex, seat);
     }
-    standing.point = Point::LockOwnerLoad;
-    let owner = keep_held::<OwnerLoad, T>(table, &mut seat.table_seat, &standing);
+    state.point = Point::LockOwnerLoad;
+    let owner = keep_held::<OwnerLoad, T>(table, &mut seat.table_seat, &state);
     if owner != number {
-        stop_at(&mut seat.standing, Stop::LockPushes);
+        stop_at(&mut seat.state, Stop::LockPushes);
         return finish_ask(mutex, seat);
     }
-    standing.point = Point::LockCountSubtract;
-    keep_held::<CountSubtract, T>(table, &mut seat.table_seat, &standing);
-    seat.standing.depth = depth + 1;
+    state.point = Point::LockCountSubtract;
+    keep_held::<CountSubtract, T>(table, &mut seat.table_seat, &state);
+    seat.state.depth = depth + 1;
     (Asked::Again(depth + 1), None)
 }
 
@@ -189,30 +189,30 @@ pub fn ask_with_hold<T: Kept>(mutex: &Mutex<T>, seat: &mut Seat<T>) -> (Asked, O
 #[inline(never)]
 fn queue<T: Kept>(mutex: &Mutex<T>, seat: &mut Seat<T>) -> (Asked, Option<WakeUp>)
     requires belongs { seat.old.table_seat.place.table_id ≡ mutex.now.table.table_id }
-    requires stands { seat.old.standing.point ≡ LockOwnerLoad }
-    requires flat { seat.old.standing.depth ≡ 0 }
+    requires stands { seat.old.state.point ≡ LockOwnerLoad }
+    requires flat { seat.old.state.depth ≡ 0 }
     ensures belongs { seat.new.table_seat.place.table_id ≡ seat.old.table_seat.place.table_id }
     ensures woken { WakesNobody seat.old seat.new }
     ensures same { IsSame seat.old.table_seat seat.new.table_seat }
-    ensures made { Course T.follows T.fits seat.old.table_seat.number seat.old.standing seat.old.table_seat.moving seat.old.table_seat.place.me.0 (Ended (Answered.Asked result.0)) seat.new.standing seat.new.table_seat.moving seat.new.table_seat.place.me.0 }
-    ensures spends { Spends (due seat.old.table_seat.limits.seats (length seat.old.table_seat.place.me.0.popped) seat.old.standing.point) 0 seat.old.table_seat.place.me.0.trail seat.new.table_seat.place.me.0.trail }
+    ensures made { Course T.follows T.fits seat.old.table_seat.number seat.old.state seat.old.table_seat.moving seat.old.table_seat.place.me.0 (Ended (Answered.Asked result.0)) seat.new.state seat.new.table_seat.moving seat.new.table_seat.place.me.0 }
+    ensures spends { Spends (due seat.old.table_seat.limits.seats (length seat.old.table_seat.place.me.0.popped) seat.old.state.point) 0 seat.old.table_seat.place.me.0.trail seat.new.table_seat.place.me.0.trail }
     ensures wakes { Wakes seat.old.table_seat.limits.seats result.1 seat.old.table_seat.place.me.0.trail seat.new.table_seat.place.me.0.trail }
 {
     let table = &mutex.table;
-    let mut standing = SeatState {
+    let mut state = SeatState {
         depth: 0,
         point: Point::LockOwnerLoad,
-        ..seat.standing
+        ..seat.state
     };
-    load_other_owner(table, &mut seat.table_seat, &standing);
-    standing.point = Point::PushLoad(Pusher::Locker);
-    match push(table, &mut seat.table_seat, &standing, Pusher::Locker) {
+    load_other_owner(table, &mut seat.table_seat, &state);
+    state.point = Point::PushLoad(Pusher::Locker);
+    match push(table, &mut seat.table_seat, &state, Pusher::Locker) {
         Pushed::Queued => {
-            seat.standing.point = Point::Asleep(Sleeper::Locker);
+            seat.state.point = Point::Asleep(Sleeper::Locker);
             (Asked::Asleep, None)
         }
         Pushed::Stopped(stop) => {
-            stop_at_push(&mut seat.standing, Pusher::Locker, stop);
+            stop_at_push(&mut seat.state, Pusher::Locker, stop);
             finish_ask(mutex, seat)
         }
     }
@@ -222,12 +222,12 @@ fn queue<T: Kept>(mutex: &Mutex<T>, seat: &mut Seat<T>) -> (Asked, Option<WakeUp
 #[inline(always)]
 fn finish_ask<T: Kept>(mutex: &Mutex<T>, seat: &mut Seat<T>) -> (Asked, Option<WakeUp>)
     requires belongs { seat.old.table_seat.place.table_id ≡ mutex.now.table.table_id }
-    requires locks { errand seat.old.standing.point ≡ locking }
+    requires locks { errand seat.old.state.point ≡ locking }
     ensures belongs { seat.new.table_seat.place.table_id ≡ seat.old.table_seat.place.table_id }
     ensures woken { WakesNobody seat.old seat.new }
     ensures same { IsSame seat.old.table_seat seat.new.table_seat }
-    ensures made { Course T.follows T.fits seat.old.table_seat.number seat.old.standing seat.old.table_seat.moving seat.old.table_seat.place.me.0 (Ended (Answered.Asked result.0)) seat.new.standing seat.new.table_seat.moving seat.new.table_seat.place.me.0 }
-    ensures spends { Spends (due seat.old.table_seat.limits.seats (length seat.old.table_seat.place.me.0.popped) seat.old.standing.point) 0 seat.old.table_seat.place.me.0.trail seat.new.table_seat.place.me.0.trail }
+    ensures made { Course T.follows T.fits seat.old.table_seat.number seat.old.state seat.old.table_seat.moving seat.old.table_seat.place.me.0 (Ended (Answered.Asked result.0)) seat.new.state seat.new.table_seat.moving seat.new.table_seat.place.me.0 }
+    ensures spends { Spends (due seat.old.table_seat.limits.seats (length seat.old.table_seat.place.me.0.popped) seat.old.state.point) 0 seat.old.table_seat.place.me.0.trail seat.new.table_seat.place.me.0.trail }
     ensures wakes { Wakes seat.old.table_seat.limits.seats result.1 seat.old.table_seat.place.me.0.trail seat.new.table_seat.place.me.0.trail }
 {
     let (turn, wake_up) = finish(mutex, seat);

@@ -69,7 +69,7 @@ impl<T: Kept> Mutex<T> {
                     number: i + 1,
                     limits,
                 },
-                standing: SeatState::REST,
+                state: SeatState::REST,
                 woken: Woken::new(),
             });
         }
@@ -80,7 +80,7 @@ impl<T: Kept> Mutex<T> {
                 number: 1,
                 limits,
             },
-            standing: SeatState::REST,
+            state: SeatState::REST,
             woken: Woken::new(),
         };
         let Ok(()) = all.insert(0, first) else {

@@ -26,20 +26,20 @@ pub(crate) enum Pushed {
 pub(crate) fn push<T: Kept>(
     table: &SharedTable<T>,
     seat: &mut TableSeat<T>,
-    standing: &SeatState,
+    state: &SeatState,
     pusher: Pusher,
 ) -> Pushed
     requires belongs { seat.old.place.table_id ≡ table.now.table_id }
-    requires fit { SeatFits seat.old standing.now }
-    requires stands { standing.now.point ≡ PushLoad pusher }
+    requires fit { SeatFits seat.old state.now }
+    requires stands { state.now.point ≡ PushLoad pusher }
     ensures belongs { seat.new.place.table_id ≡ seat.old.place.table_id }
     ensures same { IsSame seat.old seat.new }
-    ensures fit { SeatFits seat.new (push_end result standing.now pusher).seat }
-    ensures made { PlainCourse T.follows T.fits seat.old.number seat.old.limits.seats standing.now seat.old.moving seat.old.place.me.0 (push_end result standing.now pusher).turn (push_end result standing.now pusher).seat seat.new.moving seat.new.place.me.0 }
+    ensures fit { SeatFits seat.new (push_end result state.now pusher).seat }
+    ensures made { PlainCourse T.follows T.fits seat.old.number seat.old.limits.seats state.now seat.old.moving seat.old.place.me.0 (push_end result state.now pusher).turn (push_end result state.now pusher).seat seat.new.moving seat.new.place.me.0 }
 {
     let mut at = SeatState {
         point: Point::PushLoad(pusher),
-        ..*standing
+        ..*state
     };
     let word = keep::<operations::PushLoad, T>(table, seat, &at);
     let seen = unpack_link(word);

@@ -103,8 +103,8 @@ impl<T: Kept> Mutex<T> {
         ensures steps { MakesCall (limits_of self.now) (λ x. Answered.Got x) CallNow.Receive (sight seat.old) (sight seat.new) result }
         ensures bounded { MakesAtMost 3 (sight seat.old) (sight seat.new) }
     {
-        if let Point::Asleep(sleeper) = seat.standing.point {
-            if seat.standing.depth == 0 {
+        if let Point::Asleep(sleeper) = seat.state.point {
+            if seat.state.depth == 0 {
                 return Ok(receive_asleep(self, seat, sleeper));
             }
         }
@@ -126,30 +126,30 @@ pub fn receive_asleep<T: Kept>(
     sleeper: Sleeper,
 ) -> Option<How>
     requires belongs { OfMutex seat.old mutex.now }
-    requires sleeps { seat.old.standing.point ≡ Asleep sleeper }
-    requires flat { seat.old.standing.depth ≡ 0 }
+    requires sleeps { seat.old.state.point ≡ Asleep sleeper }
+    requires flat { seat.old.state.depth ≡ 0 }
     ensures belongs { Beside seat.old seat.new }
     ensures woken { WakesNobody seat.old seat.new }
     ensures run { RunGoesOnFrom seat.old seat.new }
     ensures made { ComesTo T.follows T.fits (limits_of mutex.now) CallNow.Receive (sight seat.old) (sight seat.new) (Ended (Answered.Got result)) }
 {
     let table = &mutex.table;
-    let mut standing = SeatState {
+    let mut state = SeatState {
         depth: 0,
         point: Point::ReceiveWakeLoad(sleeper),
-        ..seat.standing
+        ..seat.state
     };
-    let found = gain_by_grant(table, &mut seat.table_seat, &standing);
+    let found = gain_by_grant(table, &mut seat.table_seat, &state);
     if !Wake::is_grant_word(found) {
         return None;
     }
     let stamp = Wake::grant_stamp(found);
-    standing.point = Point::ReceiveWakeStore(stamp);
-    keep::<WakeStore, T>(table, &mut seat.table_seat, &standing);
-    seat.standing.depth = 1;
-    seat.standing.point = Point::Rest;
+    state.point = Point::ReceiveWakeStore(stamp);
+    keep::<WakeStore, T>(table, &mut seat.table_seat, &state);
+    seat.state.depth = 1;
+    seat.state.point = Point::Rest;
     let how = how_granted(stamp);
-    standing.point = Point::EnterOwnerStore(Entrant::Receiver, how);
-    keep_held::<OwnerStore, T>(table, &mut seat.table_seat, &standing);
+    state.point = Point::EnterOwnerStore(Entrant::Receiver, how);
+    keep_held::<OwnerStore, T>(table, &mut seat.table_seat, &state);
     Some(how)
 }

@@ -32,12 +32,12 @@ pub struct Seat<T: Drop> {
     /// What a step needs of the seat beside its state: the place at the table, the value while it is in hand, and the number.
     pub(crate) table_seat: TableSeat<T>,
     /// The state of the seat. A fast path writes of it only what a call changes.
-    pub(crate) standing: SeatState,
+    pub(crate) state: SeatState,
     /// The seats that calls with this one have woken.
     pub(crate) woken: Woken,
-    pub ghost seated: { Seated table_seat.number table_seat.limits standing table_seat.place.me table_seat.moving },
-    pub ghost became: { Became table_seat.place.me.0.standing table_seat.limits standing } by { Became-prop (Coded-set standing-code) table_seat.place.me.0.standing table_seat.limits standing },
-    pub ghost ready: { IsReady table_seat.limits.seats table_seat.number standing } by { IsReady-prop table_seat.limits.seats table_seat.number standing },
+    pub ghost seated: { Seated table_seat.number table_seat.limits state table_seat.place.me table_seat.moving },
+    pub ghost became: { Became table_seat.place.me.0.state table_seat.limits state } by { Became-prop (Coded-set state-code) table_seat.place.me.0.state table_seat.limits state },
+    pub ghost ready: { IsReady table_seat.limits.seats table_seat.number state } by { IsReady-prop table_seat.limits.seats table_seat.number state },
     pub ghost rooted: { Rooted table_seat.place.table_id.words table_seat.place.id table_seat.number table_seat.limits table_seat.place.me.0 },
 }
 
@@ -57,14 +57,14 @@ impl<T: Kept> Seat<T> {
     pub fn depth(&self) -> u32
         ensures { result ≡ (sight self.now).depth }
     {
-        self.standing.depth
+        self.state.depth
     }
 
     /// How many takes the seat has made.
     pub fn takes(&self) -> u64
         ensures { result ≡ (sight self.now).takes }
     {
-        self.standing.takes
+        self.state.takes
     }
 
     /// How many takes are left: the budget less the takes.
@@ -78,7 +78,7 @@ impl<T: Kept> Seat<T> {
     pub fn asleep(&self) -> bool
         ensures { result ≡ (sight self.now).asleep }
     {
-        !matches!(self.standing.point, Point::Rest)
+        !matches!(self.state.point, Point::Rest)
     }
 
     /// The guarded value, Some exactly if the depth is 1 or more.

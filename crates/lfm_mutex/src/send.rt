@@ -69,7 +69,7 @@ impl<T: Kept> Mutex<T> {
         ensures wakes { Wakes (limits_of self.now).seats result.1 (sight seat.old).trail (sight seat.new).trail }
     {
         // These checks find a call that is refused at its start. The slow path makes them again to say which refusal it is.
-        if asleep(&seat.standing) {
+        if asleep(&seat.state) {
             return send_slow(self, seat, target);
         }
         let number = target.get();
@@ -88,7 +88,7 @@ pub fn send_awake<T: Kept>(
     target: u64,
 ) -> (Result<(), Refusal>, Option<WakeUp>)
     requires belongs { OfMutex seat.old mutex.now }
-    requires rests { seat.old.standing.point ≡ Rest }
+    requires rests { seat.old.state.point ≡ Rest }
     requires above { 0 < target }
     requires within { target ≤ seat.old.table_seat.limits.seats }
     ensures belongs { Beside seat.old seat.new }
@@ -99,17 +99,17 @@ pub fn send_awake<T: Kept>(
     ensures wakes { Wakes (limits_of mutex.now).seats result.1 (sight seat.old).trail (sight seat.new).trail }
 {
     let table = &mutex.table;
-    let standing = SeatState {
+    let state = SeatState {
         point: Point::SendWakeExchange(target),
-        ..seat.standing
+        ..seat.state
     };
-    let found = keep::<WakeExchange, T>(table, &mut seat.table_seat, &standing);
+    let found = keep::<WakeExchange, T>(table, &mut seat.table_seat, &state);
     let waiting = Wake::Waiting.to_word();
     if found != waiting {
         return (Err(Refusal::NotWaiting), None);
     }
-    seat.standing.point = Point::SendCountAdd(target);
-    if seat.standing.depth == 0 {
+    seat.state.point = Point::SendCountAdd(target);
+    if seat.state.depth == 0 {
         return send_without_hold(mutex, seat, target);
     }
     send_with_hold(mutex, seat, target)
@@ -123,30 +123,30 @@ fn send_without_hold<T: Kept>(
     target: u64,
 ) -> (Result<(), Refusal>, Option<WakeUp>)
     requires belongs { seat.old.table_seat.place.table_id ≡ mutex.now.table.table_id }
-    requires stands { seat.old.standing.point ≡ SendCountAdd target }
-    requires flat { seat.old.standing.depth ≡ 0 }
+    requires stands { seat.old.state.point ≡ SendCountAdd target }
+    requires flat { seat.old.state.depth ≡ 0 }
     ensures belongs { seat.new.table_seat.place.table_id ≡ seat.old.table_seat.place.table_id }
     ensures woken { WakesNobody seat.old seat.new }
     ensures same { IsSame seat.old.table_seat seat.new.table_seat }
     ensures ends { Ends sending (send_turn result.0) }
-    ensures made { Course T.follows T.fits seat.old.table_seat.number seat.old.standing seat.old.table_seat.moving seat.old.table_seat.place.me.0 (send_turn result.0) seat.new.standing seat.new.table_seat.moving seat.new.table_seat.place.me.0 }
-    ensures spends { Spends (due seat.old.table_seat.limits.seats (length seat.old.table_seat.place.me.0.popped) seat.old.standing.point) 0 seat.old.table_seat.place.me.0.trail seat.new.table_seat.place.me.0.trail }
+    ensures made { Course T.follows T.fits seat.old.table_seat.number seat.old.state seat.old.table_seat.moving seat.old.table_seat.place.me.0 (send_turn result.0) seat.new.state seat.new.table_seat.moving seat.new.table_seat.place.me.0 }
+    ensures spends { Spends (due seat.old.table_seat.limits.seats (length seat.old.table_seat.place.me.0.popped) seat.old.state.point) 0 seat.old.table_seat.place.me.0.trail seat.new.table_seat.place.me.0.trail }
     ensures wakes { Wakes seat.old.table_seat.limits.seats result.1 seat.old.table_seat.place.me.0.trail seat.new.table_seat.place.me.0.trail }
 {
     let table = &mutex.table;
-    let mut standing = SeatState {
+    let mut state = SeatState {
         depth: 0,
         point: Point::SendCountAdd(target),
-        ..seat.standing
+        ..seat.state
     };
-    let found = gain::<CountAdd, T>(table, &mut seat.table_seat, &standing);
+    let found = gain::<CountAdd, T>(table, &mut seat.table_seat, &state);
     if found != 0 {
-        seat.standing.point = Point::PushLoad(Pusher::Sender(target));
+        seat.state.point = Point::PushLoad(Pusher::Sender(target));
         return queue_target(mutex, seat, target);
     }
-    standing.point = Point::SendWakeStore(target);
-    let wake_up = grant(table, &mut seat.table_seat, &standing);
-    seat.standing.point = Point::Rest;
+    state.point = Point::SendWakeStore(target);
+    let wake_up = grant(table, &mut seat.table_seat, &state);
+    seat.state.point = Point::Rest;
     (Ok(()), wake_up)
 }
 
@@ -159,27 +159,27 @@ fn send_with_hold<T: Kept>(
     target: u64,
 ) -> (Result<(), Refusal>, Option<WakeUp>)
     requires belongs { seat.old.table_seat.place.table_id ≡ mutex.now.table.table_id }
-    requires stands { seat.old.standing.point ≡ SendCountAdd target }
-    requires held { 0 < seat.old.standing.depth }
+    requires stands { seat.old.state.point ≡ SendCountAdd target }
+    requires held { 0 < seat.old.state.depth }
     ensures belongs { seat.new.table_seat.place.table_id ≡ seat.old.table_seat.place.table_id }
     ensures woken { WakesNobody seat.old seat.new }
     ensures same { IsSame seat.old.table_seat seat.new.table_seat }
     ensures ends { Ends sending (send_turn result.0) }
-    ensures made { Course T.follows T.fits seat.old.table_seat.number seat.old.standing seat.old.table_seat.moving seat.old.table_seat.place.me.0 (send_turn result.0) seat.new.standing seat.new.table_seat.moving seat.new.table_seat.place.me.0 }
-    ensures spends { Spends (due seat.old.table_seat.limits.seats (length seat.old.table_seat.place.me.0.popped) seat.old.standing.point) 0 seat.old.table_seat.place.me.0.trail seat.new.table_seat.place.me.0.trail }
+    ensures made { Course T.follows T.fits seat.old.table_seat.number seat.old.state seat.old.table_seat.moving seat.old.table_seat.place.me.0 (send_turn result.0) seat.new.state seat.new.table_seat.moving seat.new.table_seat.place.me.0 }
+    ensures spends { Spends (due seat.old.table_seat.limits.seats (length seat.old.table_seat.place.me.0.popped) seat.old.state.point) 0 seat.old.table_seat.place.me.0.trail seat.new.table_seat.place.me.0.trail }
     ensures wakes { Wakes seat.old.table_seat.limits.seats result.1 seat.old.table_seat.place.me.0.trail seat.new.table_seat.place.me.0.trail }
 {
     let table = &mutex.table;
-    let standing = SeatState {
+    let state = SeatState {
         point: Point::SendCountAdd(target),
-        ..seat.standing
+        ..seat.state
     };
-    let found = keep_held::<CountAdd, T>(table, &mut seat.table_seat, &standing);
+    let found = keep_held::<CountAdd, T>(table, &mut seat.table_seat, &state);
     if found == 0 {
-        seat.standing.point = Point::SendWakeStore(target);
+        seat.state.point = Point::SendWakeStore(target);
         return finish_send(mutex, seat);
     }
-    seat.standing.point = Point::PushLoad(Pusher::Sender(target));
+    seat.state.point = Point::PushLoad(Pusher::Sender(target));
     queue_target(mutex, seat, target)
 }
 
@@ -191,31 +191,31 @@ fn queue_target<T: Kept>(
     target: u64,
 ) -> (Result<(), Refusal>, Option<WakeUp>)
     requires belongs { seat.old.table_seat.place.table_id ≡ mutex.now.table.table_id }
-    requires stands { seat.old.standing.point ≡ PushLoad (PusherNow.Sender target) }
+    requires stands { seat.old.state.point ≡ PushLoad (PusherNow.Sender target) }
     ensures belongs { seat.new.table_seat.place.table_id ≡ seat.old.table_seat.place.table_id }
     ensures woken { WakesNobody seat.old seat.new }
     ensures same { IsSame seat.old.table_seat seat.new.table_seat }
     ensures ends { Ends sending (send_turn result.0) }
-    ensures made { Course T.follows T.fits seat.old.table_seat.number seat.old.standing seat.old.table_seat.moving seat.old.table_seat.place.me.0 (send_turn result.0) seat.new.standing seat.new.table_seat.moving seat.new.table_seat.place.me.0 }
-    ensures spends { Spends (due seat.old.table_seat.limits.seats (length seat.old.table_seat.place.me.0.popped) seat.old.standing.point) 0 seat.old.table_seat.place.me.0.trail seat.new.table_seat.place.me.0.trail }
+    ensures made { Course T.follows T.fits seat.old.table_seat.number seat.old.state seat.old.table_seat.moving seat.old.table_seat.place.me.0 (send_turn result.0) seat.new.state seat.new.table_seat.moving seat.new.table_seat.place.me.0 }
+    ensures spends { Spends (due seat.old.table_seat.limits.seats (length seat.old.table_seat.place.me.0.popped) seat.old.state.point) 0 seat.old.table_seat.place.me.0.trail seat.new.table_seat.place.me.0.trail }
     ensures wakes { Wakes seat.old.table_seat.limits.seats result.1 seat.old.table_seat.place.me.0.trail seat.new.table_seat.place.me.0.trail }
 {
-    let standing = SeatState {
+    let state = SeatState {
         point: Point::PushLoad(Pusher::Sender(target)),
-        ..seat.standing
+        ..seat.state
     };
     match push(
         &mutex.table,
         &mut seat.table_seat,
-        &standing,
+        &state,
         Pusher::Sender(target),
     ) {
         Pushed::Queued => {
-            seat.standing.point = Point::Rest;
+            seat.state.point = Point::Rest;
             (Ok(()), None)
         }
         Pushed::Stopped(stop) => {
-            stop_at_push(&mut seat.standing, Pusher::Sender(target), stop);
+            stop_at_push(&mut seat.state, Pusher::Sender(target), stop);
             finish_send(mutex, seat)
         }
     }
@@ -228,13 +228,13 @@ fn finish_send<T: Kept>(
     seat: &mut Seat<T>,
 ) -> (Result<(), Refusal>, Option<WakeUp>)
     requires belongs { seat.old.table_seat.place.table_id ≡ mutex.now.table.table_id }
-    requires sends { errand seat.old.standing.point ≡ sending }
+    requires sends { errand seat.old.state.point ≡ sending }
     ensures belongs { seat.new.table_seat.place.table_id ≡ seat.old.table_seat.place.table_id }
     ensures woken { WakesNobody seat.old seat.new }
     ensures same { IsSame seat.old.table_seat seat.new.table_seat }
     ensures ends { Ends sending (send_turn result.0) }
-    ensures made { Course T.follows T.fits seat.old.table_seat.number seat.old.standing seat.old.table_seat.moving seat.old.table_seat.place.me.0 (send_turn result.0) seat.new.standing seat.new.table_seat.moving seat.new.table_seat.place.me.0 }
-    ensures spends { Spends (due seat.old.table_seat.limits.seats (length seat.old.table_seat.place.me.0.popped) seat.old.standing.point) 0 seat.old.table_seat.place.me.0.trail seat.new.table_seat.place.me.0.trail }
+    ensures made { Course T.follows T.fits seat.old.table_seat.number seat.old.state seat.old.table_seat.moving seat.old.table_seat.place.me.0 (send_turn result.0) seat.new.state seat.new.table_seat.moving seat.new.table_seat.place.me.0 }
+    ensures spends { Spends (due seat.old.table_seat.limits.seats (length seat.old.table_seat.place.me.0.popped) seat.old.state.point) 0 seat.old.table_seat.place.me.0.trail seat.new.table_seat.place.me.0.trail }
     ensures wakes { Wakes seat.old.table_seat.limits.seats result.1 seat.old.table_seat.place.me.0.trail seat.new.table_seat.place.me.0.trail }
 {
     let (turn, wake_up) = finish(mutex, seat);

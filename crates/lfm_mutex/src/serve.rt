@@ -33,13 +33,13 @@ fn finish_release<T: Kept>(
     releaser: Releaser,
 ) -> (Unlocked, Option<WakeUp>)
     requires belongs { seat.old.table_seat.place.table_id ≡ mutex.now.table.table_id }
-    requires releases { errand seat.old.standing.point ≡ releasing releaser }
-    requires keeps { is_release seat.old.standing.point ≡ false }
+    requires releases { errand seat.old.state.point ≡ releasing releaser }
+    requires keeps { is_release seat.old.state.point ≡ false }
     ensures belongs { seat.new.table_seat.place.table_id ≡ seat.old.table_seat.place.table_id }
     ensures woken { WakesNobody seat.old seat.new }
     ensures same { IsSame seat.old.table_seat seat.new.table_seat }
-    ensures made { Course T.follows T.fits seat.old.table_seat.number seat.old.standing seat.old.table_seat.moving seat.old.table_seat.place.me.0 (release_turn releaser result.0) seat.new.standing seat.new.table_seat.moving seat.new.table_seat.place.me.0 }
-    ensures bounded { length seat.new.table_seat.place.me.0.trail ≤ length seat.old.table_seat.place.me.0.trail + weight seat.old.table_seat.limits.seats (length seat.old.table_seat.place.me.0.popped) seat.old.standing.point }
+    ensures made { Course T.follows T.fits seat.old.table_seat.number seat.old.state seat.old.table_seat.moving seat.old.table_seat.place.me.0 (release_turn releaser result.0) seat.new.state seat.new.table_seat.moving seat.new.table_seat.place.me.0 }
+    ensures bounded { length seat.new.table_seat.place.me.0.trail ≤ length seat.old.table_seat.place.me.0.trail + weight seat.old.table_seat.limits.seats (length seat.old.table_seat.place.me.0.popped) seat.old.state.point }
     ensures wakes { Wakes seat.old.table_seat.limits.seats result.1 seat.old.table_seat.place.me.0.trail seat.new.table_seat.place.me.0.trail }
 {
     let _releaser = releaser;
@@ -54,14 +54,14 @@ fn finish_release<T: Kept>(
 /// Stores the point at which a release that found others in the count serves the oldest seat. Out of line, as `stop_at`.
 #[inline(never)]
 pub(crate) fn stop_at_serving<T: Kept>(
-    standing: &mut SeatState,
+    state: &mut SeatState,
     moving: &Option<MovingBox<T>>,
     releaser: Releaser,
 )
-    ensures { standing.new ≡ record standing.old { point = take (CarrierNow.Releaser releaser) 0 (oldest_in moving.now) } }
+    ensures { state.new ≡ record state.old { point = take (CarrierNow.Releaser releaser) 0 (oldest_in moving.now) } }
 {
     let carrier = Carrier::Releaser(releaser);
-    standing.point = match oldest_of(moving) {
+    state.point = match oldest_of(moving) {
         Some(oldest) => Point::GrantWakeStore(carrier, oldest),
         None => Point::TakeClearHead(carrier),
     };
@@ -76,32 +76,32 @@ fn grant<T: Kept>(
     oldest: Record,
 ) -> (Unlocked, Option<WakeUp>)
     requires belongs { seat.old.table_seat.place.table_id ≡ mutex.now.table.table_id }
-    requires stands { seat.old.standing.point ≡ GrantWakeStore (CarrierNow.Releaser releaser) oldest }
-    requires flat { seat.old.standing.depth ≡ 0 }
+    requires stands { seat.old.state.point ≡ GrantWakeStore (CarrierNow.Releaser releaser) oldest }
+    requires flat { seat.old.state.depth ≡ 0 }
     ensures belongs { seat.new.table_seat.place.table_id ≡ seat.old.table_seat.place.table_id }
     ensures woken { WakesNobody seat.old seat.new }
     ensures same { IsSame seat.old.table_seat seat.new.table_seat }
-    ensures made { Course T.follows T.fits seat.old.table_seat.number seat.old.standing seat.old.table_seat.moving seat.old.table_seat.place.me.0 (release_turn releaser result.0) seat.new.standing seat.new.table_seat.moving seat.new.table_seat.place.me.0 }
-    ensures bounded { length seat.new.table_seat.place.me.0.trail ≤ length seat.old.table_seat.place.me.0.trail + weight seat.old.table_seat.limits.seats (length seat.old.table_seat.place.me.0.popped) seat.old.standing.point }
+    ensures made { Course T.follows T.fits seat.old.table_seat.number seat.old.state seat.old.table_seat.moving seat.old.table_seat.place.me.0 (release_turn releaser result.0) seat.new.state seat.new.table_seat.moving seat.new.table_seat.place.me.0 }
+    ensures bounded { length seat.new.table_seat.place.me.0.trail ≤ length seat.old.table_seat.place.me.0.trail + weight seat.old.table_seat.limits.seats (length seat.old.table_seat.place.me.0.popped) seat.old.state.point }
     ensures wakes { Wakes seat.old.table_seat.limits.seats result.1 seat.old.table_seat.place.me.0.trail seat.new.table_seat.place.me.0.trail }
 {
     let table = &mutex.table;
     let Record { seat: next, stamp } = oldest;
-    let mut standing = SeatState {
+    let mut state = SeatState {
         depth: 0,
         point: Point::GrantWakeStore(Carrier::Releaser(releaser), Record { seat: next, stamp }),
-        ..seat.standing
+        ..seat.state
     };
-    let wake_up = steps::grant(table, &mut seat.table_seat, &standing);
+    let wake_up = steps::grant(table, &mut seat.table_seat, &state);
     match releaser {
         Releaser::Unlocker => {
-            seat.standing.point = Point::Rest;
+            seat.state.point = Point::Rest;
             (Unlocked::Granted(next), wake_up)
         }
         Releaser::Waiter => {
-            standing.point = Point::WaitWakeStore(Unlocked::Granted(next));
-            keep::<WakeStore, T>(table, &mut seat.table_seat, &standing);
-            seat.standing.point = Point::Asleep(Sleeper::Waiter);
+            state.point = Point::WaitWakeStore(Unlocked::Granted(next));
+            keep::<WakeStore, T>(table, &mut seat.table_seat, &state);
+            seat.state.point = Point::Asleep(Sleeper::Waiter);
             (Unlocked::Granted(next), wake_up)
         }
     }
@@ -116,38 +116,38 @@ fn serve_pushed<T: Kept>(
     releaser: Releaser,
 ) -> (Unlocked, Option<WakeUp>)
     requires belongs { seat.old.table_seat.place.table_id ≡ mutex.now.table.table_id }
-    requires stands { seat.old.standing.point ≡ TakeClearHead (CarrierNow.Releaser releaser) }
-    requires flat { seat.old.standing.depth ≡ 0 }
+    requires stands { seat.old.state.point ≡ TakeClearHead (CarrierNow.Releaser releaser) }
+    requires flat { seat.old.state.depth ≡ 0 }
     ensures belongs { seat.new.table_seat.place.table_id ≡ seat.old.table_seat.place.table_id }
     ensures woken { WakesNobody seat.old seat.new }
     ensures same { IsSame seat.old.table_seat seat.new.table_seat }
-    ensures made { Course T.follows T.fits seat.old.table_seat.number seat.old.standing seat.old.table_seat.moving seat.old.table_seat.place.me.0 (release_turn releaser result.0) seat.new.standing seat.new.table_seat.moving seat.new.table_seat.place.me.0 }
-    ensures bounded { length seat.new.table_seat.place.me.0.trail ≤ length seat.old.table_seat.place.me.0.trail + weight seat.old.table_seat.limits.seats (length seat.old.table_seat.place.me.0.popped) seat.old.standing.point }
+    ensures made { Course T.follows T.fits seat.old.table_seat.number seat.old.state seat.old.table_seat.moving seat.old.table_seat.place.me.0 (release_turn releaser result.0) seat.new.state seat.new.table_seat.moving seat.new.table_seat.place.me.0 }
+    ensures bounded { length seat.new.table_seat.place.me.0.trail ≤ length seat.old.table_seat.place.me.0.trail + weight seat.old.table_seat.limits.seats (length seat.old.table_seat.place.me.0.popped) seat.old.state.point }
     ensures wakes { Wakes seat.old.table_seat.limits.seats result.1 seat.old.table_seat.place.me.0.trail seat.new.table_seat.place.me.0.trail }
 {
     let table = &mutex.table;
     let carrier = Carrier::Releaser(releaser);
-    let mut standing = SeatState {
+    let mut state = SeatState {
         depth: 0,
         point: Point::TakeClearHead(carrier),
-        ..seat.standing
+        ..seat.state
     };
-    let push = keep_held::<ClearHead, T>(table, &mut seat.table_seat, &standing);
+    let push = keep_held::<ClearHead, T>(table, &mut seat.table_seat, &state);
     let next = unpack_link(push).next;
     if next == 0 {
-        seat.standing.point = Point::ReleaseHandoffStore(releaser);
+        seat.state.point = Point::ReleaseHandoffStore(releaser);
         return finish_release(mutex, seat, releaser);
     }
-    standing.point = Point::TakeLinkLoad(carrier, next);
-    let word = collect(table, &mut seat.table_seat, &standing);
+    state.point = Point::TakeLinkLoad(carrier, next);
+    let word = collect(table, &mut seat.table_seat, &state);
     let link = unpack_link(word);
     if link.next != 0 {
-        seat.standing.point = Point::TakeLinkLoad(carrier, link.next);
+        seat.state.point = Point::TakeLinkLoad(carrier, link.next);
         return finish_release(mutex, seat, releaser);
     }
     let stamp = link.stamp;
     let next = SeatNo::known(next);
-    seat.standing.point = Point::GrantWakeStore(carrier, Record { seat: next, stamp });
+    seat.state.point = Point::GrantWakeStore(carrier, Record { seat: next, stamp });
     grant(mutex, seat, releaser, Record { seat: next, stamp })
 }
 
@@ -159,13 +159,13 @@ pub(crate) fn serve<T: Kept>(
     releaser: Releaser,
 ) -> (Unlocked, Option<WakeUp>)
     requires belongs { seat.old.table_seat.place.table_id ≡ mutex.now.table.table_id }
-    requires stands { seat.old.standing.point ≡ take (CarrierNow.Releaser releaser) 0 (oldest_in seat.old.table_seat.moving) }
-    requires flat { seat.old.standing.depth ≡ 0 }
+    requires stands { seat.old.state.point ≡ take (CarrierNow.Releaser releaser) 0 (oldest_in seat.old.table_seat.moving) }
+    requires flat { seat.old.state.depth ≡ 0 }
     ensures belongs { seat.new.table_seat.place.table_id ≡ seat.old.table_seat.place.table_id }
     ensures woken { WakesNobody seat.old seat.new }
     ensures same { IsSame seat.old.table_seat seat.new.table_seat }
-    ensures made { Course T.follows T.fits seat.old.table_seat.number seat.old.standing seat.old.table_seat.moving seat.old.table_seat.place.me.0 (release_turn releaser result.0) seat.new.standing seat.new.table_seat.moving seat.new.table_seat.place.me.0 }
-    ensures bounded { length seat.new.table_seat.place.me.0.trail ≤ length seat.old.table_seat.place.me.0.trail + weight seat.old.table_seat.limits.seats (length seat.old.table_seat.place.me.0.popped) seat.old.standing.point }
+    ensures made { Course T.follows T.fits seat.old.table_seat.number seat.old.state seat.old.table_seat.moving seat.old.table_seat.place.me.0 (release_turn releaser result.0) seat.new.state seat.new.table_seat.moving seat.new.table_seat.place.me.0 }
+    ensures bounded { length seat.new.table_seat.place.me.0.trail ≤ length seat.old.table_seat.place.me.0.trail + weight seat.old.table_seat.limits.seats (length seat.old.table_seat.place.me.0.popped) seat.old.state.point }
     ensures wakes { Wakes seat.old.table_seat.limits.seats result.1 seat.old.table_seat.place.me.0.trail seat.new.table_seat.place.me.0.trail }
 {
     match oldest_of(&seat.table_seat.moving) {

@@ -57,7 +57,7 @@ pub fn next<T: Kept>(mutex: &Mutex<T>, seat: &mut Seat<T>) -> Turn
     ensures run { RunGoesOnFrom seat.old seat.new }
     ensures steps { StepsOn T.follows T.fits (kind (state_of seat.old).point) (state_of seat.old) (sight seat.old) result (state_of seat.new) (sight seat.new) }
 {
-    match seat.standing.point.kind() {
+    match seat.state.point.kind() {
         None => Turn::Refused(Why::Idle),
         Some(Kind::CountExchange) => exchange_count(mutex, seat),
         Some(Kind::CountAdd) => add_count(mutex, seat),
@@ -83,26 +83,26 @@ pub(crate) fn begin_call<T: Kept>(mutex: &Mutex<T>, seat: &mut Seat<T>, call: Ca
     requires belongs { seat.old.table_seat.place.table_id ≡ mutex.now.table.table_id }
     ensures same { (seat.new.table_seat.place ≡ seat.old.table_seat.place) × (seat.new.table_seat.number ≡ seat.old.table_seat.number) × (seat.new.table_seat.limits ≡ seat.old.table_seat.limits) × (seat.new.table_seat.moving ≡ seat.old.table_seat.moving) }
     ensures woken { WakesNobody seat.old seat.new }
-    ensures seat { seat.new.standing ≡ (begin seat.old.standing seat.old.table_seat.limits call).seat }
-    ensures turn { result ≡ (begin seat.old.standing seat.old.table_seat.limits call).turn }
+    ensures seat { seat.new.state ≡ (begin seat.old.state seat.old.table_seat.limits call).seat }
+    ensures turn { result ≡ (begin seat.old.state seat.old.table_seat.limits call).turn }
 {
     let _mutex = mutex;
     let limits = seat.table_seat.limits;
-    seat.standing.begin(limits, call)
+    seat.state.begin(limits, call)
 }
 
 /// `next`, with the contract on which the proofs of the calls build. It wakes nobody, and hands out the wake-up of the seat
 /// that it granted.
 pub(crate) fn make_next<T: Kept>(mutex: &Mutex<T>, seat: &mut Seat<T>) -> (Turn, Option<WakeUp>)
     requires belongs { seat.old.table_seat.place.table_id ≡ mutex.now.table.table_id }
-    requires leaves { (r : Releaser) → seat.old.standing.point ≡ ReleaseOwnerStore r → MayBeLeft T.follows T.fits seat.old.table_seat.moving seat.old.table_seat.place.me.0 }
+    requires leaves { (r : Releaser) → seat.old.state.point ≡ ReleaseOwnerStore r → MayBeLeft T.follows T.fits seat.old.table_seat.moving seat.old.table_seat.place.me.0 }
     ensures belongs { seat.new.table_seat.place.table_id ≡ seat.old.table_seat.place.table_id }
     ensures woken { WakesNobody seat.old seat.new }
     ensures same { IsSame seat.old.table_seat seat.new.table_seat }
-    ensures event { StepLeadsTo (kind seat.old.standing.point) T.follows T.fits seat.old.standing seat.old.table_seat.moving seat.old.table_seat.place.me result.0 seat.new.standing seat.new.table_seat.moving seat.new.table_seat.place.me }
-    ensures wakes { result.1 ≡ granted_at seat.old.standing.point }
+    ensures event { StepLeadsTo (kind seat.old.state.point) T.follows T.fits seat.old.state seat.old.table_seat.moving seat.old.table_seat.place.me result.0 seat.new.state seat.new.table_seat.moving seat.new.table_seat.place.me }
+    ensures wakes { result.1 ≡ granted_at seat.old.state.point }
 {
-    match seat.standing.point.kind() {
+    match seat.state.point.kind() {
         None => (Turn::Refused(Why::Idle), None),
         Some(kind) => make_of(mutex, seat, kind),
     }

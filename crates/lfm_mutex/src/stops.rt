@@ -38,10 +38,10 @@ pub(crate) enum PushStop {
 
 /// Stores the point at which a fast path stops. Out of line, since it happens seldom.
 #[inline(never)]
-pub(crate) fn stop_at(standing: &mut SeatState, stop: Stop)
-    ensures { standing.new ≡ record standing.old { point = stop_point stop } }
+pub(crate) fn stop_at(state: &mut SeatState, stop: Stop)
+    ensures { state.new ≡ record state.old { point = stop_point stop } }
 {
-    standing.point = match stop {
+    state.point = match stop {
         Stop::LockLoadsOwner => Point::LockOwnerLoad,
         Stop::LockEnters => Point::EnterOwnerStore(Entrant::Locker, How::Free),
         Stop::LockPushes => Point::PushLoad(Pusher::Locker),
@@ -52,10 +52,10 @@ pub(crate) fn stop_at(standing: &mut SeatState, stop: Stop)
 
 /// Stores the point at which a push stops. Out of line, as `stop_at`.
 #[inline(never)]
-pub(crate) fn stop_at_push(standing: &mut SeatState, pusher: Pusher, stop: PushStop)
-    ensures { standing.new ≡ record standing.old { point = push_stop_point pusher stop } }
+pub(crate) fn stop_at_push(state: &mut SeatState, pusher: Pusher, stop: PushStop)
+    ensures { state.new ≡ record state.old { point = push_stop_point pusher stop } }
 {
-    standing.point = match (stop, pusher) {
+    state.point = match (stop, pusher) {
         (PushStop::Changed(word), _) => Point::LinkStore(pusher, unpack_link(word)),
         (PushStop::Posted(word), Pusher::Locker) => {
             Point::PushedHandoffExchange(pusher, unpack_handoff(word))
@@ -68,8 +68,8 @@ pub(crate) fn stop_at_push(standing: &mut SeatState, pusher: Pusher, stop: PushS
 
 /// Stores the point at which a `try_lock` has found a handoff posted in this word. Out of line, as `stop_at`.
 #[inline(never)]
-pub(crate) fn stop_at_post(standing: &mut SeatState, word: u64)
-    ensures { standing.new ≡ record standing.old { point = TryHandoffExchange (handoff_of word) } }
+pub(crate) fn stop_at_post(state: &mut SeatState, word: u64)
+    ensures { state.new ≡ record state.old { point = TryHandoffExchange (handoff_of word) } }
 {
-    standing.point = Point::TryHandoffExchange(unpack_handoff(word));
+    state.point = Point::TryHandoffExchange(unpack_handoff(word));
 }

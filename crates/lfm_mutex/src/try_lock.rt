@@ -43,17 +43,17 @@ impl<T: Kept> Mutex<T> {
         ensures steps { MakesCall (limits_of self.now) (λ x. Answered.Locked x) CallNow.TryLock (sight seat.old) (sight seat.new) result }
         ensures bounded { MakesAtMost 6 (sight seat.old) (sight seat.new) }
     {
-        if asleep(&seat.standing) {
+        if asleep(&seat.state) {
             return try_slow(self, seat);
         }
-        if seat.standing.depth == 0 {
+        if seat.state.depth == 0 {
             let budget = seat.table_seat.limits.budget;
-            if seat.standing.takes < budget {
+            if seat.state.takes < budget {
                 return try_without_hold(self, seat);
             }
             return try_slow(self, seat);
         }
-        if seat.standing.depth < MAX_DEPTH {
+        if seat.state.depth < MAX_DEPTH {
             return try_with_hold(self, seat);
         }
         try_slow(self, seat)
@@ -64,9 +64,9 @@ impl<T: Kept> Mutex<T> {
 #[inline(always)]
 pub fn try_without_hold<T: Kept>(mutex: &Mutex<T>, seat: &mut Seat<T>) -> Result<Locked, Refusal>
     requires belongs { OfMutex seat.old mutex.now }
-    requires rests { seat.old.standing.point ≡ Rest }
-    requires flat { seat.old.standing.depth ≡ 0 }
-    requires charged { seat.old.standing.takes < seat.old.table_seat.limits.budget }
+    requires rests { seat.old.state.point ≡ Rest }
+    requires flat { seat.old.state.depth ≡ 0 }
+    requires charged { seat.old.state.takes < seat.old.table_seat.limits.budget }
     ensures belongs { Beside seat.old seat.new }
     ensures woken { WakesNobody seat.old seat.new }
     ensures run { RunGoesOnFrom seat.old seat.new }
@@ -74,29 +74,29 @@ pub fn try_without_hold<T: Kept>(mutex: &Mutex<T>, seat: &mut Seat<T>) -> Result
 {
     let _budget = seat.table_seat.limits.budget;
     let table = &mutex.table;
-    let takes = seat.standing.takes + 1;
-    let mut standing = SeatState {
+    let takes = seat.state.takes + 1;
+    let mut state = SeatState {
         depth: 0,
         takes,
         point: Point::TryCountExchange,
-        ..seat.standing
+        ..seat.state
     };
-    let found = gain::<CountExchange, T>(table, &mut seat.table_seat, &standing);
+    let found = gain::<CountExchange, T>(table, &mut seat.table_seat, &state);
     if found == 0 {
         // The plain writes stand together, in this gap between two steps: see `steps` of `lfm_table`.
-        seat.standing.depth = 1;
-        seat.standing.takes = takes;
-        standing.point = Point::EnterOwnerStore(Entrant::Trier, How::Free);
-        keep_held::<OwnerStore, T>(table, &mut seat.table_seat, &standing);
+        seat.state.depth = 1;
+        seat.state.takes = takes;
+        state.point = Point::EnterOwnerStore(Entrant::Trier, How::Free);
+        keep_held::<OwnerStore, T>(table, &mut seat.table_seat, &state);
         return Ok(Locked::Held(How::Free));
     }
-    standing.point = Point::TryOwnerLoad;
-    load_other_owner(table, &mut seat.table_seat, &standing);
-    standing.point = Point::TryHandoffLoad;
-    let handoff = keep::<HandoffLoad, T>(table, &mut seat.table_seat, &standing);
+    state.point = Point::TryOwnerLoad;
+    load_other_owner(table, &mut seat.table_seat, &state);
+    state.point = Point::TryHandoffLoad;
+    let handoff = keep::<HandoffLoad, T>(table, &mut seat.table_seat, &state);
     if Handoff::is_posted_in(handoff) {
-        seat.standing.takes = takes;
-        stop_at_post(&mut seat.standing, handoff);
+        seat.state.takes = takes;
+        stop_at_post(&mut seat.state, handoff);
         return finish_try(mutex, seat);
     }
     Err(Refusal::Busy)
@@ -106,9 +106,9 @@ pub fn try_without_hold<T: Kept>(mutex: &Mutex<T>, seat: &mut Seat<T>) -> Result
 #[inline(always)]
 pub fn try_with_hold<T: Kept>(mutex: &Mutex<T>, seat: &mut Seat<T>) -> Result<Locked, Refusal>
     requires belongs { OfMutex seat.old mutex.now }
-    requires rests { seat.old.standing.point ≡ Rest }
-    requires held { 0 < seat.old.standing.depth }
-    requires room { seat.old.standing.depth < max_depth }
+    requires rests { seat.old.state.point ≡ Rest }
+    requires held { 0 < seat.old.state.depth }
+    requires room { seat.old.state.depth < max_depth }
     ensures belongs { Beside seat.old seat.new }
     ensures woken { WakesNobody seat.old seat.new }
     ensures run { RunGoesOnFrom seat.old seat.new }
@@ -116,23 +116,23 @@ pub fn try_with_hold<T: Kept>(mutex: &Mutex<T>, seat: &mut Seat<T>) -> Result<Lo
 {
     let table = &mutex.table;
     let number = seat.table_seat.number;
-    let depth = seat.standing.depth;
-    let mut standing = SeatState {
+    let depth = seat.state.depth;
+    let mut state = SeatState {
         point: Point::TryCountExchange,
-        ..seat.standing
+        ..seat.state
     };
-    let found = keep_held::<CountExchange, T>(table, &mut seat.table_seat, &standing);
+    let found = keep_held::<CountExchange, T>(table, &mut seat.table_seat, &state);
     if found == 0 {
-        stop_at(&mut seat.standing, Stop::TryEnters);
+        stop_at(&mut seat.state, Stop::TryEnters);
         return finish_try(mutex, seat);
     }
-    standing.point = Point::TryOwnerLoad;
-    let owner = keep_held::<OwnerLoad, T>(table, &mut seat.table_seat, &standing);
+    state.point = Point::TryOwnerLoad;
+    let owner = keep_held::<OwnerLoad, T>(table, &mut seat.table_seat, &state);
     if owner != number {
-        stop_at(&mut seat.standing, Stop::TryLoadsHandoff);
+        stop_at(&mut seat.state, Stop::TryLoadsHandoff);
         return finish_try(mutex, seat);
     }
-    seat.standing.depth = depth + 1;
+    seat.state.depth = depth + 1;
     Ok(Locked::Again(depth + 1))
 }
 
@@ -140,12 +140,12 @@ pub fn try_with_hold<T: Kept>(mutex: &Mutex<T>, seat: &mut Seat<T>) -> Result<Lo
 #[inline(always)]
 fn finish_try<T: Kept>(mutex: &Mutex<T>, seat: &mut Seat<T>) -> Result<Locked, Refusal>
     requires belongs { seat.old.table_seat.place.table_id ≡ mutex.now.table.table_id }
-    requires tries { errand seat.old.standing.point ≡ trying }
+    requires tries { errand seat.old.state.point ≡ trying }
     ensures belongs { seat.new.table_seat.place.table_id ≡ seat.old.table_seat.place.table_id }
     ensures woken { WakesNobody seat.old seat.new }
     ensures same { IsSame seat.old.table_seat seat.new.table_seat }
     ensures ends { Ends trying (try_turn result) }
-    ensures made { Course T.follows T.fits seat.old.table_seat.number seat.old.standing seat.old.table_seat.moving seat.old.table_seat.place.me.0 (try_turn result) seat.new.standing seat.new.table_seat.moving seat.new.table_seat.place.me.0 }
+    ensures made { Course T.follows T.fits seat.old.table_seat.number seat.old.state seat.old.table_seat.moving seat.old.table_seat.place.me.0 (try_turn result) seat.new.state seat.new.table_seat.moving seat.new.table_seat.place.me.0 }
 {
     let (turn, wake_up) = finish(mutex, seat);
     WakeUp::expect_none(wake_up);

@@ -64,14 +64,14 @@ impl<T: Kept> Mutex<T> {
         ensures bounded { MakesAtMost ((limits_of self.now).seats + 7) (sight seat.old) (sight seat.new) }
         ensures wakes { Wakes (limits_of self.now).seats result.1 (sight seat.old).trail (sight seat.new).trail }
     {
-        if asleep(&seat.standing) {
+        if asleep(&seat.state) {
             return unlock_slow(self, seat);
         }
-        if seat.standing.depth == 1 {
+        if seat.state.depth == 1 {
             let (unlocked, wake_up) = unlock_last_hold(self, seat);
             return (Ok(unlocked), wake_up);
         }
-        if seat.standing.depth > 1 {
+        if seat.state.depth > 1 {
             return (Ok(unlock_inner_hold(self, seat)), None);
         }
         unlock_slow(self, seat)
@@ -82,8 +82,8 @@ impl<T: Kept> Mutex<T> {
 #[inline(always)]
 pub fn unlock_last_hold<T: Kept>(mutex: &Mutex<T>, seat: &mut Seat<T>) -> (Unlocked, Option<WakeUp>)
     requires belongs { OfMutex seat.old mutex.now }
-    requires rests { seat.old.standing.point ≡ Rest }
-    requires one { seat.old.standing.depth ≡ 1 }
+    requires rests { seat.old.state.point ≡ Rest }
+    requires one { seat.old.state.depth ≡ 1 }
     requires leaves { MayLeave T.follows T.fits (sight seat.old) }
     ensures belongs { Beside seat.old seat.new }
     ensures woken { WakesNobody seat.old seat.new }
@@ -93,23 +93,19 @@ pub fn unlock_last_hold<T: Kept>(mutex: &Mutex<T>, seat: &mut Seat<T>) -> (Unloc
     ensures wakes { Wakes (limits_of mutex.now).seats result.1 (sight seat.old).trail (sight seat.new).trail }
 {
     let table = &mutex.table;
-    let mut standing = SeatState {
+    let mut state = SeatState {
         depth: 1,
         point: Point::ReleaseOwnerStore(Releaser::Unlocker),
-        ..seat.standing
+        ..seat.state
     };
-    keep_held::<OwnerStore, T>(table, &mut seat.table_seat, &standing);
+    keep_held::<OwnerStore, T>(table, &mut seat.table_seat, &state);
     // The plain writes stand together, in this gap between two steps: see `steps` of `lfm_table`.
-    seat.standing.depth = 0;
-    standing.depth = 0;
-    standing.point = Point::ReleaseCountSubtract(Releaser::Unlocker);
-    let found = retake(table, &mut seat.table_seat, &standing);
+    seat.state.depth = 0;
+    state.depth = 0;
+    state.point = Point::ReleaseCountSubtract(Releaser::Unlocker);
+    let found = retake(table, &mut seat.table_seat, &state);
     if found != 1 {
-        stop_at_serving(
-            &mut seat.standing,
-            &seat.table_seat.moving,
-            Releaser::Unlocker,
-        );
+        stop_at_serving(&mut seat.state, &seat.table_seat.moving, Releaser::Unlocker);
         return serve(mutex, seat, Releaser::Unlocker);
     }
     (Unlocked::Free, None)
@@ -119,8 +115,8 @@ pub fn unlock_last_hold<T: Kept>(mutex: &Mutex<T>, seat: &mut Seat<T>) -> (Unloc
 #[inline(always)]
 pub fn unlock_inner_hold<T: Kept>(mutex: &Mutex<T>, seat: &mut Seat<T>) -> Unlocked
     requires belongs { OfMutex seat.old mutex.now }
-    requires rests { seat.old.standing.point ≡ Rest }
-    requires deep { 1 < seat.old.standing.depth }
+    requires rests { seat.old.state.point ≡ Rest }
+    requires deep { 1 < seat.old.state.depth }
     ensures belongs { Beside seat.old seat.new }
     ensures woken { WakesNobody seat.old seat.new }
     ensures run { RunGoesOnFrom seat.old seat.new }
@@ -128,8 +124,8 @@ pub fn unlock_inner_hold<T: Kept>(mutex: &Mutex<T>, seat: &mut Seat<T>) -> Unloc
     ensures bounded { MakesAtMost ((limits_of mutex.now).seats + 7) (sight seat.old) (sight seat.new) }
 {
     let _mutex = mutex;
-    seat.standing.depth -= 1;
-    Unlocked::Still(seat.standing.depth)
+    seat.state.depth -= 1;
+    Unlocked::Still(seat.state.depth)
 }
 
 /// The whole of `unlock` by the slow path. Only a call that is refused comes here.

@@ -14,7 +14,7 @@ impl<T: Kept> Seat<T> {
         ensures* lends { sem 𝓛 (LendsValue T.row self.entry result) }
         ensures value { MatchOption result ((sight self.old).depth ≡ 0) (λ x. (0 < (sight self.old).depth) × ((sight self.old).value ≡ Some x.now)) }
     {
-        if self.standing.depth == 0 {
+        if self.state.depth == 0 {
             return None;
         }
         self.table_seat.value_mut()

@@ -63,12 +63,12 @@ impl<T: Kept> Mutex<T> {
         ensures wakes { Wakes (limits_of self.now).seats result.1 (sight seat.old).trail (sight seat.new).trail }
     {
         // These checks find a call that is refused at its start. The slow path makes them again to say which refusal it is.
-        if asleep(&seat.standing) {
+        if asleep(&seat.state) {
             return wait_slow(self, seat);
         }
-        if seat.standing.depth == 1 {
+        if seat.state.depth == 1 {
             let budget = seat.table_seat.limits.budget;
-            if seat.standing.takes < budget {
+            if seat.state.takes < budget {
                 let (released, wake_up) = wait_last_hold(self, seat);
                 return (Ok(released), wake_up);
             }
@@ -81,9 +81,9 @@ impl<T: Kept> Mutex<T> {
 #[inline(always)]
 pub fn wait_last_hold<T: Kept>(mutex: &Mutex<T>, seat: &mut Seat<T>) -> (Unlocked, Option<WakeUp>)
     requires belongs { OfMutex seat.old mutex.now }
-    requires rests { seat.old.standing.point ≡ Rest }
-    requires one { seat.old.standing.depth ≡ 1 }
-    requires charged { seat.old.standing.takes < seat.old.table_seat.limits.budget }
+    requires rests { seat.old.state.point ≡ Rest }
+    requires one { seat.old.state.depth ≡ 1 }
+    requires charged { seat.old.state.takes < seat.old.table_seat.limits.budget }
     requires leaves { MayLeave T.follows T.fits (sight seat.old) }
     ensures belongs { Beside seat.old seat.new }
     ensures woken { WakesNobody seat.old seat.new }
@@ -94,31 +94,27 @@ pub fn wait_last_hold<T: Kept>(mutex: &Mutex<T>, seat: &mut Seat<T>) -> (Unlocke
 {
     let _budget = seat.table_seat.limits.budget;
     let table = &mutex.table;
-    let takes = seat.standing.takes + 1;
-    let mut standing = SeatState {
+    let takes = seat.state.takes + 1;
+    let mut state = SeatState {
         depth: 1,
         takes,
         point: Point::ReleaseOwnerStore(Releaser::Waiter),
-        ..seat.standing
+        ..seat.state
     };
-    keep_held::<OwnerStore, T>(table, &mut seat.table_seat, &standing);
+    keep_held::<OwnerStore, T>(table, &mut seat.table_seat, &state);
     // The plain writes stand together, in this gap between two steps: see `steps` of `lfm_table`.
-    seat.standing.depth = 0;
-    seat.standing.takes = takes;
-    standing.depth = 0;
-    standing.point = Point::ReleaseCountSubtract(Releaser::Waiter);
-    let found = retake(table, &mut seat.table_seat, &standing);
+    seat.state.depth = 0;
+    seat.state.takes = takes;
+    state.depth = 0;
+    state.point = Point::ReleaseCountSubtract(Releaser::Waiter);
+    let found = retake(table, &mut seat.table_seat, &state);
     if found != 1 {
-        stop_at_serving(
-            &mut seat.standing,
-            &seat.table_seat.moving,
-            Releaser::Waiter,
-        );
+        stop_at_serving(&mut seat.state, &seat.table_seat.moving, Releaser::Waiter);
         return serve(mutex, seat, Releaser::Waiter);
     }
-    standing.point = Point::WaitWakeStore(Unlocked::Free);
-    keep::<WakeStore, T>(table, &mut seat.table_seat, &standing);
-    seat.standing.point = Point::Asleep(Sleeper::Waiter);
+    state.point = Point::WaitWakeStore(Unlocked::Free);
+    keep::<WakeStore, T>(table, &mut seat.table_seat, &state);
+    seat.state.point = Point::Asleep(Sleeper::Waiter);
     (Unlocked::Free, None)
 }
 

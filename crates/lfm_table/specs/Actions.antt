@@ -132,7 +132,7 @@ pub record HasRun {T : Type 0} (l : Limits) (actions : List Action) (c : Core) (
   pub here : c ≡ reached l (events_of actions)
   pub trails : (j : ℕ) (v : View T) → get_elem? views j ≡ some v → v.trail ≡ part_of (start l) (j + 1) actions
   pub known : (j : ℕ) (v : View T) → get_elem? views j ≡ some v → KnowsRun l actions (j + 1) v.actions v.trail
-  pub stands : (j : ℕ) (v : View T) → get_elem? views j ≡ some v → seat (reached l (events_of v.actions)).seats (j + 1) ≡ v.standing
+  pub stands : (j : ℕ) (v : View T) → get_elem? views j ≡ some v → seat (reached l (events_of v.actions)).seats (j + 1) ≡ v.state
   pub others : (t : ℕ) → (t ≡ 0) ⊎ (length views < t) → own_of t actions ≡ []
 
 -- How the run goes on between two views of one seat

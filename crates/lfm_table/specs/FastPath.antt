@@ -15,7 +15,7 @@ use Rattle.lfm_table.specs.Steps.{Event, oldest_in}
 -- what a seat keeps between its steps, if its plain data are p and it has a in hand
 pub record Fit {T : Type 0} (number words id : ℕ) (l : Limits) (p : SeatState) (m : Me (Option (Moving T)) (View T)) (a : Option (Moving T)) : Type 0 where
   pub seated : Seated number l p m a
-  pub became : Became m.0.standing l p
+  pub became : Became m.0.state l p
   pub ready : IsReady l.seats number p
   pub rooted : Rooted words id number l m.0
 

@@ -46,7 +46,7 @@ first_view l x =
       role = User;
       number = 1;
       limits = l;
-      standing = absent;
+      state = absent;
       trail = [];
       actions = [];
       last = Some x;
@@ -72,7 +72,7 @@ split_view v =
       role = User;
       number = v.made + 2;
       limits = v.limits;
-      standing = absent;
+      state = absent;
       trail = [];
       actions = [];
       last = v.opening;
@@ -104,7 +104,7 @@ no_view =
       role = Retired;
       number = 0;
       limits = record { seats = 0; budget = 0 };
-      standing = absent;
+      state = absent;
       trail = [];
       actions = [];
       last = None;
@@ -203,7 +203,7 @@ CollectsWithin popped seats _ = ⊤
 pub record Sits {T : Type 0} (c : Core) (j : ℕ) (v : View T) : Type 0 where
   pub number : v.number ≡ j + 1
   pub limits_are : v.limits ≡ limits c
-  pub standing : seat c.seats (j + 1) ≡ v.standing
+  pub state : seat c.seats (j + 1) ≡ v.state
 
 module _ {T : Type 0} (follows : ℕ → T → T → Type 0) where
   -- what each of some seats left last leads to this value
@@ -246,8 +246,8 @@ module _ {T : Type 0} (follows : ℕ → T → T → Type 0) (suits : T → ℕ 
     pub holds : v.holds_ended ≡ n
     pub leads : LeadsToValue follows (λ i. i ≢ j) views value
     pub awaits : Awaits follows views value
-    pub shallow : v.standing.depth ≡ 0 → suits value v.answered × ((l : T) → v.last ≡ Some l → Reached follows v.limits.seats (j + 1) l value)
-    pub left : v.standing.depth ≡ 0 → LeftIn views n value
+    pub shallow : v.state.depth ≡ 0 → suits value v.answered × ((l : T) → v.last ≡ Some l → Reached follows v.limits.seats (j + 1) l value)
+    pub left : v.state.depth ≡ 0 → LeftIn views n value
 
   -- words and views are a steady state of the core, to which a run from its start has led, and the value is where the core says
   pub record Held (s : State (Option (Moving T)) (View T)) : Type 0 where
@@ -262,10 +262,10 @@ module _ {T : Type 0} (follows : ℕ → T → T → Type 0) (suits : T → ℕ 
     pub each : (j : ℕ) (v : View T) → get_elem? s.views j ≡ some v → Sits core j v
     pub later : (j : ℕ) → length s.views ≤ j → seat core.seats (j + 1) ≡ absent
     pub home : ((t : ℕ) → carries_value (seat core.seats t) ≡ false) → AtHome core ghost_state holds_ended s.homes s.views
-    pub outside : (j : ℕ) (v : View T) → get_elem? s.views j ≡ some v → carries_value v.standing ≡ true → WithSeat core ghost_state holds_ended s.views j v
+    pub outside : (j : ℕ) (v : View T) → get_elem? s.views j ≡ some v → carries_value v.state ≡ true → WithSeat core ghost_state holds_ended s.views j v
     pub numbered : AreNumbered s.views holds_ended
     pub root : (k : View T) → get_elem? s.views 0 ≡ some k → Roots s.views k
-    pub others : (j : ℕ) (v : View T) → get_elem? s.views j ≡ some v → v.role ≡ Retired → (v.standing.point ≡ Rest) × (v.standing.depth ≡ 0)
+    pub others : (j : ℕ) (v : View T) → get_elem? s.views j ≡ some v → v.role ≡ Retired → (v.state.point ≡ Rest) × (v.state.depth ≡ 0)
     pub opened : Limits
     pub actions : List Action
     pub run : HasRun opened actions core s.views
@@ -292,9 +292,9 @@ module _ {T : Type 0} (follows : ℕ → T → T → Type 0) (suits : T → ℕ 
     pub popped : List Record
     pub role : m'.0.role ≡ m.0.role
     pub root : SameRoot m.0 m'.0
-    pub standing : m'.0.standing ≡ (stepped_by p m.0.number n (oldest popped)).seat
+    pub state : m'.0.state ≡ (stepped_by p m.0.number n (oldest popped)).seat
     pub trail : m'.0.trail ≡ m.0.trail ++ seen p.point n ∷ []
-    pub run : RunGoesOnBy (begins_and_step m.0.number m.0.standing p) m.0 m'.0
+    pub run : RunGoesOnBy (begins_and_step m.0.number m.0.state p) m.0 m'.0
     pub last : m'.0.last ≡ left_by p.point a m.0.last
     pub last_found : m'.0.last_found ≡ left_by p.point m.0.found m.0.last_found
     pub ended : m'.0.ended ≡ left_by p.point (m.0.holds_ended + 1) m.0.ended
@@ -315,5 +315,5 @@ module _ {T : Type 0} (follows : ℕ → T → T → Type 0) (suits : T → ℕ 
 -- a load of the owner word that is no step of a call, which changes nothing but the trail and the actions
 abbrev pub ReadsOwner : {T : Type 0} → Me (Option (Moving T)) (View T) → ℕ → Me (Option (Moving T)) (View T) → Type 0
 ReadsOwner m n m' =
-    (m' ≡ (record m.0 { trail = m.0.trail ++ seen TryOwnerLoad n ∷ []; actions = m'.0.actions }, m.1)) × (0 < m.0.number) × (n ≡ m.0.number → 0 < m.0.standing.depth) × (0 < m.0.standing.depth → n ≡ m.0.number)
+    (m' ≡ (record m.0 { trail = m.0.trail ++ seen TryOwnerLoad n ∷ []; actions = m'.0.actions }, m.1)) × (0 < m.0.number) × (n ≡ m.0.number → 0 < m.0.state.depth) × (0 < m.0.state.depth → n ≡ m.0.number)
     × RunGoesOnBy (LoadsOwner m.0.number ∷ []) m.0 m'.0

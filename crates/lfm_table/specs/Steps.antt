@@ -52,7 +52,7 @@ module _ {T : Type 0} (follows : ℕ → T → T → Type 0) (suits : T → ℕ 
     pub seats_are : me.0.limits.seats ≡ seats
     pub wide : 4 + 2 * seats ≡ words
     pub few : seats ≤ max_seats
-    pub became : Became me.0.standing me.0.limits p
+    pub became : Became me.0.state me.0.limits p
     pub ready : IsReady seats number p
     pub hand : Ready p a me
 

@@ -58,12 +58,12 @@ pub trait Operation {
     ghost kind: { KindNow };
 
     /// What the seat with this number, of this many seats, does to which word. Its point is of this kind.
-    fn access(standing: &SeatState, number: u64, seats: u64) -> Access
-        requires is_next { kind_of standing.now.point ≡ Some kind }
-        requires ready { IsReady seats number standing.now }
+    fn access(state: &SeatState, number: u64, seats: u64) -> Access
+        requires is_next { kind_of state.now.point ≡ Some kind }
+        requires ready { IsReady seats number state.now }
         requires few { seats ≤ max_seats }
-        ensures word { word_at result ≡ index_by seats (target standing.now.point number) (Some kind) }
-        ensures becomes { (n : ℕ) → becomes result n ≡ written_by standing.now number n (Some kind) }
+        ensures word { word_at result ≡ index_by seats (target state.now.point number) (Some kind) }
+        ensures becomes { (n : ℕ) → becomes result n ≡ written_by state.now number n (Some kind) }
         ensures stores { is_store result ≡ stores (Some kind) };
 }
 
@@ -74,7 +74,7 @@ impl Operation for CountExchange {
     ghost kind = { KindNow.CountExchange };
 
     #[inline(always)]
-    fn access(_standing: &SeatState, _number: u64, _seats: u64) -> Access {
+    fn access(_state: &SeatState, _number: u64, _seats: u64) -> Access {
         Access::CompareExchange(COUNT, 0, 1)
     }
 }
@@ -86,7 +86,7 @@ impl Operation for CountAdd {
     ghost kind = { KindNow.CountAdd };
 
     #[inline(always)]
-    fn access(_standing: &SeatState, _number: u64, _seats: u64) -> Access {
+    fn access(_state: &SeatState, _number: u64, _seats: u64) -> Access {
         Access::FetchAdd(COUNT, 1)
     }
 }
@@ -98,7 +98,7 @@ impl Operation for CountSubtract {
     ghost kind = { KindNow.CountSubtract };
 
     #[inline(always)]
-    fn access(_standing: &SeatState, _number: u64, _seats: u64) -> Access {
+    fn access(_state: &SeatState, _number: u64, _seats: u64) -> Access {
         Access::FetchSub(COUNT, 1)
     }
 }
@@ -110,7 +110,7 @@ impl Operation for OwnerLoad {
     ghost kind = { KindNow.OwnerLoad };
 
     #[inline(always)]
-    fn access(_standing: &SeatState, _number: u64, _seats: u64) -> Access {
+    fn access(_state: &SeatState, _number: u64, _seats: u64) -> Access {
         Access::Load(OWNER)
     }
 }
@@ -122,8 +122,8 @@ impl Operation for OwnerStore {
     ghost kind = { KindNow.OwnerStore };
 
     #[inline(always)]
-    fn access(standing: &SeatState, number: u64, _seats: u64) -> Access {
-        Access::Store(OWNER, standing.stored_owner(number))
+    fn access(state: &SeatState, number: u64, _seats: u64) -> Access {
+        Access::Store(OWNER, state.stored_owner(number))
     }
 }
 
@@ -134,7 +134,7 @@ impl Operation for PushLoad {
     ghost kind = { KindNow.PushLoad };
 
     #[inline(always)]
-    fn access(_standing: &SeatState, _number: u64, _seats: u64) -> Access {
+    fn access(_state: &SeatState, _number: u64, _seats: u64) -> Access {
         Access::Load(PUSH)
     }
 }
@@ -146,9 +146,9 @@ impl Operation for PushExchange {
     ghost kind = { KindNow.PushExchange };
 
     #[inline(always)]
-    fn access(standing: &SeatState, number: u64, _seats: u64) -> Access {
-        let seen = standing.expected_push();
-        let head = standing.exchanged_push(number);
+    fn access(state: &SeatState, number: u64, _seats: u64) -> Access {
+        let seen = state.expected_push();
+        let head = state.exchanged_push(number);
         let expected = pack_link(seen.stamp, seen.next);
         Access::CompareExchange(PUSH, expected, pack_link(head.stamp, head.next))
     }
@@ -161,7 +161,7 @@ impl Operation for ClearHead {
     ghost kind = { KindNow.ClearHead };
 
     #[inline(always)]
-    fn access(_standing: &SeatState, _number: u64, _seats: u64) -> Access {
+    fn access(_state: &SeatState, _number: u64, _seats: u64) -> Access {
         Access::FetchAnd(PUSH, STAMP)
     }
 }
@@ -173,8 +173,8 @@ impl Operation for LinkLoad {
     ghost kind = { KindNow.LinkLoad };
 
     #[inline(always)]
-    fn access(standing: &SeatState, number: u64, _seats: u64) -> Access {
-        Access::Load(link_at(standing.point.target(number)))
+    fn access(state: &SeatState, number: u64, _seats: u64) -> Access {
+        Access::Load(link_at(state.point.target(number)))
     }
 }
 
@@ -185,9 +185,9 @@ impl Operation for LinkStore {
     ghost kind = { KindNow.LinkStore };
 
     #[inline(always)]
-    fn access(standing: &SeatState, number: u64, _seats: u64) -> Access {
-        let link = standing.stored_link();
-        let word = link_at(standing.point.target(number));
+    fn access(state: &SeatState, number: u64, _seats: u64) -> Access {
+        let link = state.stored_link();
+        let word = link_at(state.point.target(number));
         Access::Store(word, pack_link(link.stamp, link.next))
     }
 }
@@ -199,7 +199,7 @@ impl Operation for HandoffLoad {
     ghost kind = { KindNow.HandoffLoad };
 
     #[inline(always)]
-    fn access(_standing: &SeatState, _number: u64, _seats: u64) -> Access {
+    fn access(_state: &SeatState, _number: u64, _seats: u64) -> Access {
         Access::Load(HANDOFF)
     }
 }
@@ -211,8 +211,8 @@ impl Operation for HandoffStore {
     ghost kind = { KindNow.HandoffStore };
 
     #[inline(always)]
-    fn access(standing: &SeatState, number: u64, _seats: u64) -> Access {
-        let handoff = standing.stored_handoff(number);
+    fn access(state: &SeatState, number: u64, _seats: u64) -> Access {
+        let handoff = state.stored_handoff(number);
         Access::Store(HANDOFF, pack_handoff(handoff.seat, handoff.post))
     }
 }
@@ -224,8 +224,8 @@ impl Operation for HandoffExchange {
     ghost kind = { KindNow.HandoffExchange };
 
     #[inline(always)]
-    fn access(standing: &SeatState, number: u64, _seats: u64) -> Access {
-        let handoff = standing.expected_handoff(number);
+    fn access(state: &SeatState, number: u64, _seats: u64) -> Access {
+        let handoff = state.expected_handoff(number);
         let expected = pack_handoff(handoff.seat, handoff.post);
         Access::CompareExchange(HANDOFF, expected, 0)
     }
@@ -238,8 +238,8 @@ impl Operation for WakeLoad {
     ghost kind = { KindNow.WakeLoad };
 
     #[inline(always)]
-    fn access(standing: &SeatState, number: u64, seats: u64) -> Access {
-        let target = standing.point.target(number);
+    fn access(state: &SeatState, number: u64, seats: u64) -> Access {
+        let target = state.point.target(number);
         Access::Load(wake_at(seats, target))
     }
 }
@@ -251,10 +251,10 @@ impl Operation for WakeStore {
     ghost kind = { KindNow.WakeStore };
 
     #[inline(always)]
-    fn access(standing: &SeatState, number: u64, seats: u64) -> Access {
-        let target = standing.point.target(number);
+    fn access(state: &SeatState, number: u64, seats: u64) -> Access {
+        let target = state.point.target(number);
         let word = wake_at(seats, target);
-        Access::Store(word, standing.stored_wake().to_word())
+        Access::Store(word, state.stored_wake().to_word())
     }
 }
 
@@ -265,8 +265,8 @@ impl Operation for WakeExchange {
     ghost kind = { KindNow.WakeExchange };
 
     #[inline(always)]
-    fn access(standing: &SeatState, number: u64, seats: u64) -> Access {
-        let target = standing.point.target(number);
+    fn access(state: &SeatState, number: u64, seats: u64) -> Access {
+        let target = state.point.target(number);
         let word = wake_at(seats, target);
         Access::CompareExchange(word, Wake::Waiting.to_word(), Wake::Claimed.to_word())
     }
@@ -277,18 +277,18 @@ impl Operation for WakeExchange {
 pub(crate) fn operate<O: Operation, T: Kept, B: Plain<T>>(
     table: &SharedTable<T>,
     seat: &mut TableSeat<T>,
-    standing: &SeatState,
+    state: &SeatState,
 ) -> u64
-    requires plain { (B.standing ≡ standing.now) × (B.hand ≡ value_in seat.old.moving) }
+    requires plain { (B.state ≡ state.now) × (B.hand ≡ value_in seat.old.moving) }
     requires table { seat.old.place.table_id ≡ table.now.table_id }
-    requires can { CanMake T.follows T.fits standing.now (value_in seat.old.moving) seat.old.number seat.old.limits.seats table.now.table_id.words seat.old.place.me }
-    requires is_next { kind_of standing.now.point ≡ Some O.kind }
+    requires can { CanMake T.follows T.fits state.now (value_in seat.old.moving) seat.old.number seat.old.limits.seats table.now.table_id.words seat.old.place.me }
+    requires is_next { kind_of state.now.point ≡ Some O.kind }
     ensures table { (seat.new.place.table_id ≡ seat.old.place.table_id) × (seat.new.place.id ≡ seat.old.place.id) }
     ensures same { IsSame seat.old seat.new }
     ensures moving { seat.new.moving ≡ seat.old.moving }
-    ensures step { Advanced T.follows T.fits standing.now (value_in seat.old.moving) seat.old.place.me result seat.new.place.me }
+    ensures step { Advanced T.follows T.fits state.now (value_in seat.old.moving) seat.old.place.me result seat.new.place.me }
 {
-    match O::access(standing, seat.number, seat.limits.seats) {
+    match O::access(state, seat.number, seat.limits.seats) {
         Access::Load(word) => table.load::<Stepped<B>>(&mut seat.place, word),
         Access::Store(word, new) => {
             table.store::<Stepped<B>>(&mut seat.place, word, new);
@@ -317,34 +317,34 @@ fn operate_by_kind<T: Kept, B: Plain<T>>(
     kind: Kind,
     table: &SharedTable<T>,
     seat: &mut TableSeat<T>,
-    standing: &SeatState,
+    state: &SeatState,
 ) -> u64
-    requires plain { (B.standing ≡ standing.now) × (B.hand ≡ value_in seat.old.moving) }
+    requires plain { (B.state ≡ state.now) × (B.hand ≡ value_in seat.old.moving) }
     requires table { seat.old.place.table_id ≡ table.now.table_id }
-    requires can { CanMake T.follows T.fits standing.now (value_in seat.old.moving) seat.old.number seat.old.limits.seats table.now.table_id.words seat.old.place.me }
-    requires is_next { kind_of standing.now.point ≡ Some kind }
+    requires can { CanMake T.follows T.fits state.now (value_in seat.old.moving) seat.old.number seat.old.limits.seats table.now.table_id.words seat.old.place.me }
+    requires is_next { kind_of state.now.point ≡ Some kind }
     ensures table { (seat.new.place.table_id ≡ seat.old.place.table_id) × (seat.new.place.id ≡ seat.old.place.id) }
     ensures same { IsSame seat.old seat.new }
     ensures moving { seat.new.moving ≡ seat.old.moving }
-    ensures step { Advanced T.follows T.fits standing.now (value_in seat.old.moving) seat.old.place.me result seat.new.place.me }
+    ensures step { Advanced T.follows T.fits state.now (value_in seat.old.moving) seat.old.place.me result seat.new.place.me }
 {
     match kind {
-        Kind::CountExchange => operate::<CountExchange, T, B>(table, seat, standing),
-        Kind::CountAdd => operate::<CountAdd, T, B>(table, seat, standing),
-        Kind::CountSubtract => operate::<CountSubtract, T, B>(table, seat, standing),
-        Kind::OwnerLoad => operate::<OwnerLoad, T, B>(table, seat, standing),
-        Kind::OwnerStore => operate::<OwnerStore, T, B>(table, seat, standing),
-        Kind::PushLoad => operate::<PushLoad, T, B>(table, seat, standing),
-        Kind::PushExchange => operate::<PushExchange, T, B>(table, seat, standing),
-        Kind::ClearHead => operate::<ClearHead, T, B>(table, seat, standing),
-        Kind::LinkLoad => operate::<LinkLoad, T, B>(table, seat, standing),
-        Kind::LinkStore => operate::<LinkStore, T, B>(table, seat, standing),
-        Kind::HandoffLoad => operate::<HandoffLoad, T, B>(table, seat, standing),
-        Kind::HandoffStore => operate::<HandoffStore, T, B>(table, seat, standing),
-        Kind::HandoffExchange => operate::<HandoffExchange, T, B>(table, seat, standing),
-        Kind::WakeLoad => operate::<WakeLoad, T, B>(table, seat, standing),
-        Kind::WakeStore => operate::<WakeStore, T, B>(table, seat, standing),
-        Kind::WakeExchange => operate::<WakeExchange, T, B>(table, seat, standing),
+        Kind::CountExchange => operate::<CountExchange, T, B>(table, seat, state),
+        Kind::CountAdd => operate::<CountAdd, T, B>(table, seat, state),
+        Kind::CountSubtract => operate::<CountSubtract, T, B>(table, seat, state),
+        Kind::OwnerLoad => operate::<OwnerLoad, T, B>(table, seat, state),
+        Kind::OwnerStore => operate::<OwnerStore, T, B>(table, seat, state),
+        Kind::PushLoad => operate::<PushLoad, T, B>(table, seat, state),
+        Kind::PushExchange => operate::<PushExchange, T, B>(table, seat, state),
+        Kind::ClearHead => operate::<ClearHead, T, B>(table, seat, state),
+        Kind::LinkLoad => operate::<LinkLoad, T, B>(table, seat, state),
+        Kind::LinkStore => operate::<LinkStore, T, B>(table, seat, state),
+        Kind::HandoffLoad => operate::<HandoffLoad, T, B>(table, seat, state),
+        Kind::HandoffStore => operate::<HandoffStore, T, B>(table, seat, state),
+        Kind::HandoffExchange => operate::<HandoffExchange, T, B>(table, seat, state),
+        Kind::WakeLoad => operate::<WakeLoad, T, B>(table, seat, state),
+        Kind::WakeStore => operate::<WakeStore, T, B>(table, seat, state),
+        Kind::WakeExchange => operate::<WakeExchange, T, B>(table, seat, state),
     }
 }
 
@@ -354,22 +354,22 @@ pub fn make_step<T: Kept, B: Plain<T>>(
     kind: Kind,
     table: &SharedTable<T>,
     seat: &mut TableSeat<T>,
-    standing: &SeatState,
+    state: &SeatState,
 ) -> (u64, Option<WakeUp>)
-    requires plain { (B.standing ≡ standing.now) × (B.hand ≡ value_in seat.old.moving) }
+    requires plain { (B.state ≡ state.now) × (B.hand ≡ value_in seat.old.moving) }
     requires table { seat.old.place.table_id ≡ table.now.table_id }
-    requires can { CanMake T.follows T.fits standing.now (value_in seat.old.moving) seat.old.number seat.old.limits.seats table.now.table_id.words seat.old.place.me }
-    requires is_next { kind_of standing.now.point ≡ Some kind }
+    requires can { CanMake T.follows T.fits state.now (value_in seat.old.moving) seat.old.number seat.old.limits.seats table.now.table_id.words seat.old.place.me }
+    requires is_next { kind_of state.now.point ≡ Some kind }
     ensures table { (seat.new.place.table_id ≡ seat.old.place.table_id) × (seat.new.place.id ≡ seat.old.place.id) }
     ensures same { IsSame seat.old seat.new }
     ensures moving { seat.new.moving ≡ seat.old.moving }
-    ensures step { Advanced T.follows T.fits standing.now (value_in seat.old.moving) seat.old.place.me result.0 seat.new.place.me }
-    ensures wakes { result.1 ≡ granted_at standing.now.point }
+    ensures step { Advanced T.follows T.fits state.now (value_in seat.old.moving) seat.old.place.me result.0 seat.new.place.me }
+    ensures wakes { result.1 ≡ granted_at state.now.point }
 {
     let seat_number = seat.number;
-    let found = operate_by_kind::<T, B>(kind, table, seat, standing);
+    let found = operate_by_kind::<T, B>(kind, table, seat, state);
     match kind {
-        Kind::WakeStore => (found, WakeUp::owed_by(seat_number, standing)),
+        Kind::WakeStore => (found, WakeUp::owed_by(seat_number, state)),
         _ => (found, None),
     }
 }

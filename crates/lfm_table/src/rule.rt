@@ -41,13 +41,13 @@ impl<T: Kept> TableRule<Option<MovingBox<T>>, View<T>, Key<T>> for MutexRule {
 /// The seat's plain data before a step, and the guarded value if the seat has it, for the proof alone. A call that passes
 /// `Brand` lets its proof pick them.
 pub trait Plain<T> {
-    ghost standing: { SeatState };
+    ghost state: { SeatState };
 
     ghost hand: { Option T };
 }
 
 impl<T> Plain<T> for Brand {
-    ghost standing = { absent };
+    ghost state = { absent };
 
     ghost hand = { None };
 }
@@ -58,7 +58,7 @@ pub struct Stepped<B> {
 }
 
 impl<T: Kept, B: Plain<T>> Play<Option<MovingBox<T>>, View<T>> for Stepped<B> {
-    ghost then = { λ _. Advanced T.follows T.fits B.standing B.hand };
+    ghost then = { λ _. Advanced T.follows T.fits B.state B.hand };
 }
 
 /// A load of the owner word that is no step of a call.

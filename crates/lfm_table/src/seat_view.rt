@@ -41,7 +41,7 @@ pub struct View<T> {
     pub number: u64,
     pub limits: Limits,
     /// The seat's plain data after its last step.
-    pub standing: SeatState,
+    pub state: SeatState,
     /// Its steps so far.
     pub trail: LinkedList<Seen>,
     /// An early part of the table's run, by all seats, after which only others have acted. Each step of the seat brings it up

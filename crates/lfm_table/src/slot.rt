@@ -39,13 +39,13 @@ pub fn gives(point: Point) -> bool
 /// Whether the seat carries the value after its step, which found this number. It is asked before the seat moves on. A seat
 /// that carries goes on carrying unless the step gives the value away (see `gives`). One that doesn't carry gains the value
 /// only by what it found: a count of 0, a grant, a post that it wins, or itself as the owner.
-pub fn carries_after(standing: &SeatState, number: u64, found: u64) -> bool
-    ensures { result ≡ carries_value (stepped_by standing.now number found None).seat }
+pub fn carries_after(state: &SeatState, number: u64, found: u64) -> bool
+    ensures { result ≡ carries_value (stepped_by state.now number found None).seat }
 {
-    if standing.depth != 0 {
+    if state.depth != 0 {
         return true;
     }
-    match standing.point {
+    match state.point {
         Point::LockCountAdd | Point::TryCountExchange | Point::SendCountAdd(_) => found == 0,
         Point::ReleaseCountSubtract(_) => found != 1,
         Point::ReceiveWakeLoad(_) => Wake::is_grant_word(found),
@@ -53,7 +53,7 @@ pub fn carries_after(standing: &SeatState, number: u64, found: u64) -> bool
         Point::TryHandoffExchange(_)
         | Point::PushedHandoffExchange(_, _)
         | Point::ReleaseHandoffExchange(_) => {
-            unpack_handoff(found) == standing.expected_handoff(number)
+            unpack_handoff(found) == state.expected_handoff(number)
         }
         Point::ReleaseOwnerStore(_)
         | Point::LockCountSubtract
@@ -133,19 +133,19 @@ pub fn prepare<T: Kept>(table: &SharedTable<T>, seat: &mut TableSeat<T>, gives: 
 pub fn settle<T: Kept>(
     table: &SharedTable<T>,
     seat: &mut TableSeat<T>,
-    standing: &SeatState,
+    state: &SeatState,
     found: u64,
 )
     requires table { seat.old.place.table_id ≡ table.now.table_id }
-    requires slot { is_carried seat.old.moving ≡ false → carries_value (stepped_by standing.now seat.old.number found None).seat ≡ true → (x : Option (Moving T)) × (seat.old.place.me.1 ≡ (0, x) ∷ rest seat.old.place.me.1) }
+    requires slot { is_carried seat.old.moving ≡ false → carries_value (stepped_by state.now seat.old.number found None).seat ≡ true → (x : Option (Moving T)) × (seat.old.place.me.1 ≡ (0, x) ∷ rest seat.old.place.me.1) }
     ensures table { (seat.new.place.table_id ≡ seat.old.place.table_id) × (seat.new.place.id ≡ seat.old.place.id) }
     ensures same { IsSame seat.old seat.new }
-    ensures took { Took (is_carried seat.old.moving) (carries_value (stepped_by standing.now seat.old.number found None).seat) seat.old.moving seat.old.place.me seat.new.moving seat.new.place.me }
+    ensures took { Took (is_carried seat.old.moving) (carries_value (stepped_by state.now seat.old.number found None).seat) seat.old.moving seat.old.place.me seat.new.moving seat.new.place.me }
 {
     if seat.moving.is_some() {
         return;
     }
-    if !carries_after(standing, seat.number, found) {
+    if !carries_after(state, seat.number, found) {
         return;
     }
     let taken = table.exchange(&mut seat.place, SLOT, None);

@@ -35,20 +35,20 @@ use std::marker::Brand;
 pub fn keep<O: Operation, T: Kept>(
     table: &SharedTable<T>,
     seat: &mut TableSeat<T>,
-    standing: &SeatState,
+    state: &SeatState,
 ) -> u64
     requires table { seat.old.place.table_id ≡ table.now.table_id }
-    requires fit { SeatFits seat.old standing.now }
-    requires is_next { kind_of standing.now.point ≡ Some O.kind }
-    requires moves_nothing { (O.kind ≢ KindNow.LinkLoad) × (drops_oldest standing.now ≡ false) × (gives_at standing.now.point ≡ false) }
-    requires leaves { (r : Releaser) → standing.now.point ≡ ReleaseOwnerStore r → MayBeLeft T.follows T.fits seat.old.moving seat.old.place.me.0 }
-    requires stays { (n : ℕ) → carries_value (stepped_by standing.now seat.old.number n None).seat ≡ carries_value standing.now }
+    requires fit { SeatFits seat.old state.now }
+    requires is_next { kind_of state.now.point ≡ Some O.kind }
+    requires moves_nothing { (O.kind ≢ KindNow.LinkLoad) × (drops_oldest state.now ≡ false) × (gives_at state.now.point ≡ false) }
+    requires leaves { (r : Releaser) → state.now.point ≡ ReleaseOwnerStore r → MayBeLeft T.follows T.fits seat.old.moving seat.old.place.me.0 }
+    requires stays { (n : ℕ) → carries_value (stepped_by state.now seat.old.number n None).seat ≡ carries_value state.now }
     ensures table { seat.new.place.table_id ≡ seat.old.place.table_id }
     ensures same { IsSame seat.old seat.new }
     ensures moving { seat.new.moving ≡ seat.old.moving }
-    ensures step { StepMade T.follows T.fits seat.old standing.now result seat.new }
+    ensures step { StepMade T.follows T.fits seat.old state.now result seat.new }
 {
-    operate::<O, T, Brand>(table, seat, standing)
+    operate::<O, T, Brand>(table, seat, state)
 }
 
 /// `keep` for a seat that carries the value: it goes on carrying it.
@@ -56,20 +56,20 @@ pub fn keep<O: Operation, T: Kept>(
 pub fn keep_held<O: Operation, T: Kept>(
     table: &SharedTable<T>,
     seat: &mut TableSeat<T>,
-    standing: &SeatState,
+    state: &SeatState,
 ) -> u64
     requires table { seat.old.place.table_id ≡ table.now.table_id }
-    requires fit { SeatFits seat.old standing.now }
-    requires is_next { kind_of standing.now.point ≡ Some O.kind }
-    requires moves_nothing { (O.kind ≢ KindNow.LinkLoad) × (drops_oldest standing.now ≡ false) × (gives_at standing.now.point ≡ false) }
-    requires leaves { (r : Releaser) → standing.now.point ≡ ReleaseOwnerStore r → MayBeLeft T.follows T.fits seat.old.moving seat.old.place.me.0 }
-    requires held { carries_value standing.now ≡ true }
+    requires fit { SeatFits seat.old state.now }
+    requires is_next { kind_of state.now.point ≡ Some O.kind }
+    requires moves_nothing { (O.kind ≢ KindNow.LinkLoad) × (drops_oldest state.now ≡ false) × (gives_at state.now.point ≡ false) }
+    requires leaves { (r : Releaser) → state.now.point ≡ ReleaseOwnerStore r → MayBeLeft T.follows T.fits seat.old.moving seat.old.place.me.0 }
+    requires held { carries_value state.now ≡ true }
     ensures table { seat.new.place.table_id ≡ seat.old.place.table_id }
     ensures same { IsSame seat.old seat.new }
     ensures moving { seat.new.moving ≡ seat.old.moving }
-    ensures step { StepMade T.follows T.fits seat.old standing.now result seat.new }
+    ensures step { StepMade T.follows T.fits seat.old state.now result seat.new }
 {
-    keep::<O, T>(table, seat, standing)
+    keep::<O, T>(table, seat, state)
 }
 
 /// Loads the owner for a seat that doesn't hold. It finds another, and goes on without the value.
@@ -77,21 +77,21 @@ pub fn keep_held<O: Operation, T: Kept>(
 pub fn load_other_owner<T: Kept>(
     table: &SharedTable<T>,
     seat: &mut TableSeat<T>,
-    standing: &SeatState,
+    state: &SeatState,
 ) -> u64
     requires table { seat.old.place.table_id ≡ table.now.table_id }
-    requires fit { SeatFits seat.old standing.now }
-    requires is_next { kind_of standing.now.point ≡ Some KindNow.OwnerLoad }
-    requires flat { standing.now.depth ≡ 0 }
-    requires free { carries_value standing.now ≡ false }
-    requires idles { (n : ℕ) → n ≢ seat.old.number → carries_value (stepped_by standing.now seat.old.number n None).seat ≡ false }
+    requires fit { SeatFits seat.old state.now }
+    requires is_next { kind_of state.now.point ≡ Some KindNow.OwnerLoad }
+    requires flat { state.now.depth ≡ 0 }
+    requires free { carries_value state.now ≡ false }
+    requires idles { (n : ℕ) → n ≢ seat.old.number → carries_value (stepped_by state.now seat.old.number n None).seat ≡ false }
     ensures other { result ≢ seat.old.number }
     ensures table { seat.new.place.table_id ≡ seat.old.place.table_id }
     ensures same { IsSame seat.old seat.new }
     ensures moving { seat.new.moving ≡ seat.old.moving }
-    ensures step { StepMade T.follows T.fits seat.old standing.now result seat.new }
+    ensures step { StepMade T.follows T.fits seat.old state.now result seat.new }
 {
-    operate::<OwnerLoad, T, Brand>(table, seat, standing)
+    operate::<OwnerLoad, T, Brand>(table, seat, state)
 }
 
 /// Makes the step for a seat that doesn't carry the value. It carries the value afterwards exactly if it found 0.
@@ -99,21 +99,21 @@ pub fn load_other_owner<T: Kept>(
 pub fn gain<O: Operation, T: Kept>(
     table: &SharedTable<T>,
     seat: &mut TableSeat<T>,
-    standing: &SeatState,
+    state: &SeatState,
 ) -> u64
     requires table { seat.old.place.table_id ≡ table.now.table_id }
-    requires fit { SeatFits seat.old standing.now }
-    requires is_next { kind_of standing.now.point ≡ Some O.kind }
-    requires moves_nothing { (O.kind ≢ KindNow.LinkLoad) × (drops_oldest standing.now ≡ false) × (gives_at standing.now.point ≡ false) }
+    requires fit { SeatFits seat.old state.now }
+    requires is_next { kind_of state.now.point ≡ Some O.kind }
+    requires moves_nothing { (O.kind ≢ KindNow.LinkLoad) × (drops_oldest state.now ≡ false) × (gives_at state.now.point ≡ false) }
     requires ends_no_hold { O.kind ≢ KindNow.OwnerStore }
-    requires free { carries_value standing.now ≡ false }
-    requires gains { carries_value (stepped_by standing.now seat.old.number 0 None).seat ≡ true }
-    requires idles { (n : ℕ) → n ≢ 0 → carries_value (stepped_by standing.now seat.old.number n None).seat ≡ false }
+    requires free { carries_value state.now ≡ false }
+    requires gains { carries_value (stepped_by state.now seat.old.number 0 None).seat ≡ true }
+    requires idles { (n : ℕ) → n ≢ 0 → carries_value (stepped_by state.now seat.old.number n None).seat ≡ false }
     ensures table { seat.new.place.table_id ≡ seat.old.place.table_id }
     ensures same { IsSame seat.old seat.new }
-    ensures step { StepMade T.follows T.fits seat.old standing.now result seat.new }
+    ensures step { StepMade T.follows T.fits seat.old state.now result seat.new }
 {
-    let found = operate::<O, T, Brand>(table, seat, standing);
+    let found = operate::<O, T, Brand>(table, seat, state);
     if found != 0 {
         return found;
     }
@@ -126,19 +126,19 @@ pub fn gain<O: Operation, T: Kept>(
 pub fn gain_by_grant<T: Kept>(
     table: &SharedTable<T>,
     seat: &mut TableSeat<T>,
-    standing: &SeatState,
+    state: &SeatState,
 ) -> u64
     requires table { seat.old.place.table_id ≡ table.now.table_id }
-    requires fit { SeatFits seat.old standing.now }
-    requires is_next { kind_of standing.now.point ≡ Some KindNow.WakeLoad }
-    requires free { carries_value standing.now ≡ false }
-    requires gains { (n : ℕ) → 2 < n → carries_value (stepped_by standing.now seat.old.number n None).seat ≡ true }
-    requires idles { (n : ℕ) → n ≤ 2 → carries_value (stepped_by standing.now seat.old.number n None).seat ≡ false }
+    requires fit { SeatFits seat.old state.now }
+    requires is_next { kind_of state.now.point ≡ Some KindNow.WakeLoad }
+    requires free { carries_value state.now ≡ false }
+    requires gains { (n : ℕ) → 2 < n → carries_value (stepped_by state.now seat.old.number n None).seat ≡ true }
+    requires idles { (n : ℕ) → n ≤ 2 → carries_value (stepped_by state.now seat.old.number n None).seat ≡ false }
     ensures table { seat.new.place.table_id ≡ seat.old.place.table_id }
     ensures same { IsSame seat.old seat.new }
-    ensures step { StepMade T.follows T.fits seat.old standing.now result seat.new }
+    ensures step { StepMade T.follows T.fits seat.old state.now result seat.new }
 {
-    let found = operate::<WakeLoad, T, Brand>(table, seat, standing);
+    let found = operate::<WakeLoad, T, Brand>(table, seat, state);
     if !Wake::is_grant_word(found) {
         return found;
     }
@@ -149,19 +149,19 @@ pub fn gain_by_grant<T: Kept>(
 /// Subtracts 1 from the count for a seat that has given up the owner word. Before this step the value goes into its slot: if
 /// the count was 1, the next seat may come in and take it at once. If the count was more, this seat takes the value out again.
 #[inline(always)]
-pub fn retake<T: Kept>(table: &SharedTable<T>, seat: &mut TableSeat<T>, standing: &SeatState) -> u64
+pub fn retake<T: Kept>(table: &SharedTable<T>, seat: &mut TableSeat<T>, state: &SeatState) -> u64
     requires table { seat.old.place.table_id ≡ table.now.table_id }
-    requires fit { SeatFits seat.old standing.now }
-    requires is_next { kind_of standing.now.point ≡ Some KindNow.CountSubtract }
-    requires gives { gives_at standing.now.point ≡ true }
-    requires leaves { carries_value (stepped_by standing.now seat.old.number 1 None).seat ≡ false }
-    requires carries { (n : ℕ) → n ≢ 1 → carries_value (stepped_by standing.now seat.old.number n None).seat ≡ true }
+    requires fit { SeatFits seat.old state.now }
+    requires is_next { kind_of state.now.point ≡ Some KindNow.CountSubtract }
+    requires gives { gives_at state.now.point ≡ true }
+    requires leaves { carries_value (stepped_by state.now seat.old.number 1 None).seat ≡ false }
+    requires carries { (n : ℕ) → n ≢ 1 → carries_value (stepped_by state.now seat.old.number n None).seat ≡ true }
     ensures table { seat.new.place.table_id ≡ seat.old.place.table_id }
     ensures same { IsSame seat.old seat.new }
-    ensures step { StepMade T.follows T.fits seat.old standing.now result seat.new }
+    ensures step { StepMade T.follows T.fits seat.old state.now result seat.new }
 {
     put_out(table, seat);
-    let found = operate::<CountSubtract, T, Brand>(table, seat, standing);
+    let found = operate::<CountSubtract, T, Brand>(table, seat, state);
     if found == 1 {
         return 1;
     }
@@ -171,22 +171,18 @@ pub fn retake<T: Kept>(table: &SharedTable<T>, seat: &mut TableSeat<T>, standing
 
 /// Loads a link of a list that was cleared, for a seat that carries the value, and adds its record to the pop list.
 #[inline(always)]
-pub fn collect<T: Kept>(
-    table: &SharedTable<T>,
-    seat: &mut TableSeat<T>,
-    standing: &SeatState,
-) -> u64
+pub fn collect<T: Kept>(table: &SharedTable<T>, seat: &mut TableSeat<T>, state: &SeatState) -> u64
     requires table { seat.old.place.table_id ≡ table.now.table_id }
-    requires fit { SeatFits seat.old standing.now }
-    requires is_next { kind_of standing.now.point ≡ Some KindNow.LinkLoad }
-    requires held { carries_value standing.now ≡ true }
+    requires fit { SeatFits seat.old state.now }
+    requires is_next { kind_of state.now.point ≡ Some KindNow.LinkLoad }
+    requires held { carries_value state.now ≡ true }
     ensures table { seat.new.place.table_id ≡ seat.old.place.table_id }
     ensures same { IsSame seat.old seat.new }
-    ensures step { StepMade T.follows T.fits seat.old standing.now result seat.new }
+    ensures step { StepMade T.follows T.fits seat.old state.now result seat.new }
 {
     let number = seat.number;
-    let found = operate::<LinkLoad, T, Brand>(table, seat, standing);
-    add_loaded(&mut seat.moving, number, standing, found);
+    let found = operate::<LinkLoad, T, Brand>(table, seat, state);
+    add_loaded(&mut seat.moving, number, state, found);
     found
 }
 
@@ -197,21 +193,21 @@ pub fn collect<T: Kept>(
 pub fn grant<T: Kept>(
     table: &SharedTable<T>,
     seat: &mut TableSeat<T>,
-    standing: &SeatState,
+    state: &SeatState,
 ) -> Option<WakeUp>
     requires table { seat.old.place.table_id ≡ table.now.table_id }
-    requires fit { SeatFits seat.old standing.now }
-    requires is_next { kind_of standing.now.point ≡ Some KindNow.WakeStore }
-    requires gives { gives_at standing.now.point ≡ true }
-    requires leaves { (n : ℕ) → carries_value (stepped_by standing.now seat.old.number n None).seat ≡ false }
+    requires fit { SeatFits seat.old state.now }
+    requires is_next { kind_of state.now.point ≡ Some KindNow.WakeStore }
+    requires gives { gives_at state.now.point ≡ true }
+    requires leaves { (n : ℕ) → carries_value (stepped_by state.now seat.old.number n None).seat ≡ false }
     ensures table { seat.new.place.table_id ≡ seat.old.place.table_id }
     ensures same { IsSame seat.old seat.new }
-    ensures step { (n : ℕ) × StepMade T.follows T.fits seat.old standing.now n seat.new }
-    ensures wakes { result ≡ granted_at standing.now.point }
+    ensures step { (n : ℕ) × StepMade T.follows T.fits seat.old state.now n seat.new }
+    ensures wakes { result ≡ granted_at state.now.point }
 {
     let number = seat.number;
-    drop_oldest(&mut seat.moving, standing);
+    drop_oldest(&mut seat.moving, state);
     put_out(table, seat);
-    operate::<WakeStore, T, Brand>(table, seat, standing);
-    WakeUp::owed_by(number, standing)
+    operate::<WakeStore, T, Brand>(table, seat, state);
+    WakeUp::owed_by(number, state)
 }

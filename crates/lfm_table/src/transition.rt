@@ -26,10 +26,10 @@ pub fn oldest_of<T: Drop>(moving: &Option<MovingBox<T>>) -> Option<Record>
 }
 
 /// Takes the oldest record out of the pop list, if the step at the seat's point serves it.
-pub fn drop_oldest<T: Drop>(moving: &mut Option<MovingBox<T>>, standing: &SeatState)
-    ensures { moving.new ≡ dropped standing.now moving.old }
+pub fn drop_oldest<T: Drop>(moving: &mut Option<MovingBox<T>>, state: &SeatState)
+    ensures { moving.new ≡ dropped state.now moving.old }
 {
-    if !standing.drops_oldest() {
+    if !state.drops_oldest() {
         return;
     }
     match moving {
@@ -42,17 +42,17 @@ pub fn drop_oldest<T: Drop>(moving: &mut Option<MovingBox<T>>, standing: &SeatSt
 pub fn add_loaded<T: Drop>(
     moving: &mut Option<MovingBox<T>>,
     number: u64,
-    standing: &SeatState,
+    state: &SeatState,
     found: u64,
 )
-    requires target { IsSeatNo (target standing.now.point number) }
-    requires room { kind standing.now.point ≡ Some Kind.LinkLoad → (x : Moving T) → moving.old ≡ Some x → length x.popped.records < x.popped.room }
-    ensures { moving.new ≡ with_record standing.now number found moving.old }
+    requires target { IsSeatNo (target state.now.point number) }
+    requires room { kind state.now.point ≡ Some Kind.LinkLoad → (x : Moving T) → moving.old ≡ Some x → length x.popped.records < x.popped.room }
+    ensures { moving.new ≡ with_record state.now number found moving.old }
 {
-    if standing.point.kind() != Some(Kind::LinkLoad) {
+    if state.point.kind() != Some(Kind::LinkLoad) {
         return;
     }
-    let target = SeatNo::known(standing.point.target(number));
+    let target = SeatNo::known(state.point.target(number));
     match moving {
         Some(moving) => moving.add_older(target, unpack_link(found).stamp),
         None => {}
@@ -60,30 +60,30 @@ pub fn add_loaded<T: Drop>(
 }
 
 /// Moves the seat on by what its step found: the core's own method of the kind.
-pub fn advance(standing: &mut SeatState, number: u64, found: u64, oldest: Option<Record>) -> Turn
-    requires { HasNumbers standing.old standing.old.point }
-    ensures seat { standing.new ≡ (stepped_by standing.old number found oldest).seat }
-    ensures turn { result ≡ (stepped_by standing.old number found oldest).turn }
+pub fn advance(state: &mut SeatState, number: u64, found: u64, oldest: Option<Record>) -> Turn
+    requires { HasNumbers state.old state.old.point }
+    ensures seat { state.new ≡ (stepped_by state.old number found oldest).seat }
+    ensures turn { result ≡ (stepped_by state.old number found oldest).turn }
 {
-    match standing.point.kind() {
+    match state.point.kind() {
         None => Turn::Refused(Why::Idle),
-        Some(Kind::CountExchange) => standing.after_count_exchange(found),
-        Some(Kind::CountAdd) => standing.after_count_add(found),
-        Some(Kind::CountSubtract) => standing.after_count_subtract(number, found, oldest),
-        Some(Kind::OwnerLoad) => standing.after_owner_load(number, found),
-        Some(Kind::OwnerStore) => standing.after_owner_store(),
-        Some(Kind::PushLoad) => standing.after_push_load(unpack_link(found)),
-        Some(Kind::PushExchange) => standing.after_push_exchange(unpack_link(found)),
-        Some(Kind::ClearHead) => standing.after_clear_head(unpack_link(found)),
-        Some(Kind::LinkLoad) => standing.after_link_load(number, unpack_link(found)),
-        Some(Kind::LinkStore) => standing.after_link_store(),
-        Some(Kind::HandoffLoad) => standing.after_handoff_load(unpack_handoff(found)),
-        Some(Kind::HandoffStore) => standing.after_handoff_store(),
+        Some(Kind::CountExchange) => state.after_count_exchange(found),
+        Some(Kind::CountAdd) => state.after_count_add(found),
+        Some(Kind::CountSubtract) => state.after_count_subtract(number, found, oldest),
+        Some(Kind::OwnerLoad) => state.after_owner_load(number, found),
+        Some(Kind::OwnerStore) => state.after_owner_store(),
+        Some(Kind::PushLoad) => state.after_push_load(unpack_link(found)),
+        Some(Kind::PushExchange) => state.after_push_exchange(unpack_link(found)),
+        Some(Kind::ClearHead) => state.after_clear_head(unpack_link(found)),
+        Some(Kind::LinkLoad) => state.after_link_load(number, unpack_link(found)),
+        Some(Kind::LinkStore) => state.after_link_store(),
+        Some(Kind::HandoffLoad) => state.after_handoff_load(unpack_handoff(found)),
+        Some(Kind::HandoffStore) => state.after_handoff_store(),
         Some(Kind::HandoffExchange) => {
-            standing.after_handoff_exchange(number, unpack_handoff(found), oldest)
+            state.after_handoff_exchange(number, unpack_handoff(found), oldest)
         }
-        Some(Kind::WakeLoad) => standing.after_wake_load(Wake::of_any_word(found)),
-        Some(Kind::WakeStore) => standing.after_wake_store(),
-        Some(Kind::WakeExchange) => standing.after_wake_exchange(Wake::of_any_word(found)),
+        Some(Kind::WakeLoad) => state.after_wake_load(Wake::of_any_word(found)),
+        Some(Kind::WakeStore) => state.after_wake_store(),
+        Some(Kind::WakeExchange) => state.after_wake_exchange(Wake::of_any_word(found)),
     }
 }

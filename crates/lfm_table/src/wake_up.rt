@@ -17,7 +17,7 @@ use std::marker::Model;
 /// into a seat's number. `parking::wake` adds the seat to those that were woken.
 ///
 /// ```
-/// let (found, wake_up) = make_step::<T, B>(kind, table, seat, standing);
+/// let (found, wake_up) = make_step::<T, B>(kind, table, seat, state);
 /// match wake_up {
 ///     Some(wake_up) => wake(table, seats, wake_up, &mut woken),
 ///     None => {}
@@ -48,12 +48,12 @@ impl WakeUp {
 
     /// What is owed after the store of a wake word at the seat's point: the wake-up of the target if it is granted.
     #[inline(always)]
-    pub(crate) fn owed_by(number: u64, standing: &SeatState) -> Option<WakeUp>
-        requires { IsSeatNo (target standing.now.point number) }
-        ensures { result ≡ granted_at standing.now.point }
+    pub(crate) fn owed_by(number: u64, state: &SeatState) -> Option<WakeUp>
+        requires { IsSeatNo (target state.now.point number) }
+        ensures { result ≡ granted_at state.now.point }
     {
-        let target = SeatNo::known(standing.point.target(number));
-        WakeUp::owed(standing.stored_wake(), target)
+        let target = SeatNo::known(state.point.target(number));
+        WakeUp::owed(state.stored_wake(), target)
     }
 
     /// For a step that granted nothing: takes the None that it handed out.

@@ -80,9 +80,9 @@ resting : (x : SeatState) → x.point ≡ Rest → x.depth ≡ 0 → carries_val
 resting x rests flat = rw (rests, flat) refl
 
 -- a seat that may be joined: it carries nothing
-pub free_seat : {T : Type 0} (number : ℕ) (l : Limits) (p : SeatState) (m : Me (Option (Moving T)) (View T)) (a : Option (Moving T)) → Seated number l p m a → Became m.0.standing l p → p.depth ≡ 0 → p.point ≡ Rest
-    → (m.0.role ≡ User) × (m.1 ≡ []) × (m.0.standing.point ≡ Rest) × (m.0.standing.depth ≡ 0)
-free_seat number l p m a s b shallow rests = (s.user, s.hand ∙ ap in_hand (resting p rests shallow), became_rests m.0.standing l p b rests, became_depth m.0.standing l p b shallow)
+pub free_seat : {T : Type 0} (number : ℕ) (l : Limits) (p : SeatState) (m : Me (Option (Moving T)) (View T)) (a : Option (Moving T)) → Seated number l p m a → Became m.0.state l p → p.depth ≡ 0 → p.point ≡ Rest
+    → (m.0.role ≡ User) × (m.1 ≡ []) × (m.0.state.point ≡ Rest) × (m.0.state.depth ≡ 0)
+free_seat number l p m a s b shallow rests = (s.user, s.hand ∙ ap in_hand (resting p rests shallow), became_rests m.0.state l p b rests, became_depth m.0.state l p b shallow)
 
 is_user : (r : Role) → (r ≡ User) ⊎ (r ≡ Retired)
 is_user User = inl refl
@@ -125,13 +125,13 @@ module _ {T : Type 0} (follows : ℕ → T → T → Type 0) (suits : T → ℕ 
       (λ other. absurd (let one' : used z ≡ 1 = ap used_at u in let b = total_two used s.views 0 j v z at e other in omega arith))
 
   -- if all seats are back, all of them rest
-  all_rest : (s : St) (h : Held follows suits s) (v : View T) → get_elem? s.views 0 ≡ some v → v.made ≤ length v.joined → v.standing.point ≡ Rest → v.standing.depth ≡ 0 → (t : ℕ) → IsResting (seat h.core.seats t)
+  all_rest : (s : St) (h : Held follows suits s) (v : View T) → get_elem? s.views 0 ≡ some v → v.made ≤ length v.joined → v.state.point ≡ Rest → v.state.depth ≡ 0 → (t : ℕ) → IsResting (seat h.core.seats t)
   all_rest s h v at back rests flat zero = subst IsResting (sym (seat_zero h.core.seats)) (refl, refl)
   all_rest s h v at back rests flat (suc j) =
       let next : suc j ≡ j + 1 = omega arith in
       subst (λ (n : ℕ). IsResting (seat h.core.seats n)) (sym next) (⊎_elim
-      (λ (z : (x : View T) × (get_elem? s.views j ≡ some x)). subst IsResting (sym (h.each j z.0 z.1).standing) (⊎_elim
-      (λ (u : z.0.role ≡ User). subst (λ (y : View T). IsResting y.standing) (last_user s h v at back j z.0 z.1 u) (rests, flat))
+      (λ (z : (x : View T) × (get_elem? s.views j ≡ some x)). subst IsResting (sym (h.each j z.0 z.1).state) (⊎_elim
+      (λ (u : z.0.role ≡ User). subst (λ (y : View T). IsResting y.state) (last_user s h v at back j z.0 z.1 u) (rests, flat))
       (λ (u : z.0.role ≡ Retired). h.others j z.0 z.1 u) (is_user z.0.role)))
       (λ far. subst IsResting (sym (h.later j far)) (refl, refl)) (there_or_past s.views j))
 
@@ -227,7 +227,7 @@ module _ {T : Type 0} (follows : ℕ → T → T → Type 0) (suits : T → ℕ 
             subst (λ (t : Limits × ℕ × List Action × List Trailed). KnowsRun t.0 h.actions t.1 t.2 t.3) (λ q. (opened q, (sym (h.each a.0 a.1 a.2).number ∙ a.4) q, a.9 q, a.8 q)) (h.run.known a.0 a.1 a.2);
       }
 
-  pub ends : (v : View T) (ws : List ℕ) (xs : List (Option (Moving T))) → v.made ≤ length v.joined → v.standing.point ≡ Rest → v.standing.depth ≡ 0 → Final (Seen (Held follows suits) 0 v) ws xs
+  pub ends : (v : View T) (ws : List ℕ) (xs : List (Option (Moving T))) → v.made ≤ length v.joined → v.state.point ≡ Rest → v.state.depth ≡ 0 → Final (Seen (Held follows suits) 0 v) ws xs
       → (x : Moving T) × (get_elem? xs 0 ≡ some (Some x)) × ReachesAll v x.value × (length v.joined ≤ v.made) × AreFree ws × (x.popped.records ≡ []) × LeftAtEnd v x.value × LatestAtEnd v x.value × EndsRun v
   ends v ws xs back rests flat end = let s = end.0 in let h = end.1.0 in let at = end.1.1 in let all = all_rest s h v at back rests flat in let free = free_core h.core h.ghost_state h.fits all in let x = h.home (λ t. resting (seat h.core.seats t) (all t).0 (all t).1) in let k = h.root v at in
       let each : (j : ℕ) (z : View T) (l : T) → get_elem? s.views j ≡ some z → z.last ≡ Some l → Reached follows v.limits.seats z.number l x.value.value =

@@ -74,11 +74,11 @@ module _ {T : Type 0} (follows : ℕ → T → T → Type 0) (suits : T → ℕ 
     each : (j : ℕ) (v : View T) → get_elem? views j ≡ some v → Sits c j v
     later : (j : ℕ) → length views ≤ j → seat c.seats (j + 1) ≡ absent
     home : ((t : ℕ) → carries_value (seat c.seats t) ≡ false) → AtHome follows suits c g count homes views
-    outside : (j : ℕ) (v : View T) → get_elem? views j ≡ some v → carries_value v.standing ≡ true → WithSeat follows suits c g count views j v
+    outside : (j : ℕ) (v : View T) → get_elem? views j ≡ some v → carries_value v.state ≡ true → WithSeat follows suits c g count views j v
     numbered : AreNumbered views count
 
   -- one view becomes another that says the same
-  module _ (views : List (View T)) (p : Parts views) (i : ℕ) (x y : View T) (at : get_elem? views i ≡ some x) (number : y.number ≡ x.number) (limits_are : y.limits ≡ x.limits) (stands : y.standing ≡ x.standing) (lasts : y.last ≡ x.last) (founds : y.found ≡ x.found)
+  module _ (views : List (View T)) (p : Parts views) (i : ℕ) (x y : View T) (at : get_elem? views i ≡ some x) (number : y.number ≡ x.number) (limits_are : y.limits ≡ x.limits) (stands : y.state ≡ x.state) (lasts : y.last ≡ x.last) (founds : y.found ≡ x.found)
       (lists : y.popped ≡ x.popped) (holds : y.answered ≡ x.answered) (opens : y.opening ≡ x.opening) (ended : y.last_found ≡ x.last_found) (numbers : y.ended ≡ x.ended) (counts : y.holds_ended ≡ x.holds_ended) where
     sized : (z : View T) → y ≡ z → x.limits.seats ≡ z.limits.seats
     sized z e = ap (λ (l : Limits). l.seats) (sym limits_are) ∙ ap (λ (v : View T). v.limits.seats) e
@@ -114,12 +114,12 @@ module _ {T : Type 0} (follows : ℕ → T → T → Type 0) (suits : T → ℕ 
     quiet = record {
       few = let l = length-set views i y in omega (arith, l, p.few);
       each = λ j z e. ⊎_elim
-          (λ (u : (j ≡ i) × (y ≡ z)). let old = p.each i x at in subst (λ (t : ℕ × View T). Sits c t.0 t.1) (λ k. (sym u.0 k, u.1 k)) (record { number = number ∙ old.number; limits_are = limits_are ∙ old.limits_are; standing = old.standing ∙ sym stands }))
+          (λ (u : (j ≡ i) × (y ≡ z)). let old = p.each i x at in subst (λ (t : ℕ × View T). Sits c t.0 t.1) (λ k. (sym u.0 k, u.1 k)) (record { number = number ∙ old.number; limits_are = limits_are ∙ old.limits_are; state = old.state ∙ sym stands }))
           (λ (u : (j ≢ i) × (get_elem? views j ≡ some z)). p.each j z u.1) (at_set views i j y z e);
       later = λ j far. let l = length-set views i y in p.later j (omega (arith, far, l));
       home = λ nobody. let h = p.home nobody in record { value = h.value; here = h.here; records = h.records; room = h.room; leads = leads_same (λ _. ⊤) h.value.value h.leads; awaits = awaits_same h.value.value h.awaits; left = left_same h.value.value h.left; fits = h.fits };
       outside = λ j z e one. ⊎_elim
-          (λ (u : (j ≡ i) × (y ≡ z)). let o = p.outside i x at (ap carries_value (sym stands) ∙ (ap (λ (v : View T). carries_value v.standing) u.1 ∙ one)) in subst (λ (t : ℕ × View T). WithSeat follows suits c g count (set views i y) t.0 t.1) (λ k. (sym u.0 k, u.1 k)) (record {
+          (λ (u : (j ≡ i) × (y ≡ z)). let o = p.outside i x at (ap carries_value (sym stands) ∙ (ap (λ (v : View T). carries_value v.state) u.1 ∙ one)) in subst (λ (t : ℕ × View T). WithSeat follows suits c g count (set views i y) t.0 t.1) (λ k. (sym u.0 k, u.1 k)) (record {
             value = o.value;
             found = founds ∙ o.found;
             popped = lists ∙ o.popped;
@@ -145,7 +145,7 @@ module _ {T : Type 0} (follows : ℕ → T → T → Type 0) (suits : T → ℕ 
     }
 
   -- one more view, of a seat that has not stepped
-  module _ (views : List (View T)) (p : Parts views) (k r : View T) (at : get_elem? views 0 ≡ some k) (room : length views < length c.seats) (number : r.number ≡ length views + 1) (limits_are : r.limits ≡ limits c) (new : r.standing ≡ absent) (lasts : r.last ≡ k.opening) (unheld : r.last_found ≡ None) (unended : r.ended ≡ 0) where
+  module _ (views : List (View T)) (p : Parts views) (k r : View T) (at : get_elem? views 0 ≡ some k) (room : length views < length c.seats) (number : r.number ≡ length views + 1) (limits_are : r.limits ≡ limits c) (new : r.state ≡ absent) (lasts : r.last ≡ k.opening) (unheld : r.last_found ≡ None) (unended : r.ended ≡ 0) where
     leads_end : (which : ℕ → Type 0) (t : T) → LeadsToValue follows which views t → Awaits follows views t → LeadsToValue follows which (views ++ r ∷ []) t
     leads_end which t old still j z l e ok is = ⊎_elim (λ u. old j z l u ok is)
         (λ (u : (j ≡ length views) × (r ≡ z)). let far : length views ≤ j = (let q = u.0 in omega arith) in subst (λ (n : ℕ). Reached follows n (j + 1) l t) (ap (λ (x : Limits). x.seats) ((p.each 0 k at).limits_are ∙ sym limits_are) ∙ ap (λ (v : View T). v.limits.seats) u.1) (still j k l far at (sym lasts ∙ (ap (λ (v : View T). v.last) u.1 ∙ is)))) (at_end views r z j e)
@@ -178,14 +178,14 @@ module _ {T : Type 0} (follows : ℕ → T → T → Type 0) (suits : T → ℕ 
           (λ (u : (j ≡ length views) × (r ≡ z)). ap (λ (v : View T). v.last) (sym u.1) ∙ (lasts ∙ ap (λ (v : View T). v.opening) (some-injective k first (sym at ∙ first_is)))) (at_end views r z j f);
     }
 
-    none_carried : (z : View T) → r ≡ z → carries_value z.standing ≡ true → ⊥
-    none_carried z same one = false≢true (sym (ap carries_value new) ∙ (ap (λ (v : View T). carries_value v.standing) same ∙ one))
+    none_carried : (z : View T) → r ≡ z → carries_value z.state ≡ true → ⊥
+    none_carried z same one = false≢true (sym (ap carries_value new) ∙ (ap (λ (v : View T). carries_value v.state) same ∙ one))
 
     extends : Parts (views ++ r ∷ [])
     extends = record {
       few = let q = length-append views (r ∷ []) in omega (arith, q, room);
       each = λ j z e. ⊎_elim (λ u. p.each j z u)
-          (λ (u : (j ≡ length views) × (r ≡ z)). subst (λ (t : ℕ × View T). Sits c t.0 t.1) (λ i. (sym u.0 i, u.1 i)) (record { number = number; limits_are = limits_are; standing = p.later (length views) (omega arith) ∙ sym new })) (at_end views r z j e);
+          (λ (u : (j ≡ length views) × (r ≡ z)). subst (λ (t : ℕ × View T). Sits c t.0 t.1) (λ i. (sym u.0 i, u.1 i)) (record { number = number; limits_are = limits_are; state = p.later (length views) (omega arith) ∙ sym new })) (at_end views r z j e);
       later = λ j far. let q = length-append views (r ∷ []) in p.later j (omega (arith, far, q));
       home = λ nobody. let h = p.home nobody in record { value = h.value; here = h.here; records = h.records; room = h.room; leads = leads_end (λ _. ⊤) h.value.value h.leads h.awaits; awaits = awaits_end h.value.value h.awaits; left = left_end h.value.value h.left; fits = h.fits };
       outside = λ j z e one. ⊎_elim
@@ -264,7 +264,7 @@ module _ {T : Type 0} (follows : ℕ → T → T → Type 0) (suits : T → ℕ 
         run = run_split h.opened h.actions h.core s.views h.run v at;
       }
 
-  pub joins : (v w : View T) (other : ℕ) → v.role ≡ User → w.role ≡ User → w.standing.point ≡ Rest → w.standing.depth ≡ 0 → Joins (Held follows suits) 0 v other w (with_joined v w) (joined w)
+  pub joins : (v w : View T) (other : ℕ) → v.role ≡ User → w.role ≡ User → w.state.point ≡ Rest → w.state.depth ≡ 0 → Joins (Held follows suits) 0 v other w (with_joined v w) (joined w)
   joins v w other user uses rests flat s h at apart at2 = let k = h.root v at in let b = with_joined v w in let vs = set s.views 0 b in let here = length_at s.views 0 v at in
       let q = quiet follows suits h.core h.ghost_state h.holds_ended s.homes s.views (parts s h) 0 v b at refl refl refl refl refl refl refl refl refl refl refl in
       let q2 = quiet follows suits h.core h.ghost_state h.holds_ended s.homes vs q other w (joined w) at2 refl refl refl refl refl refl refl refl refl refl refl in
@@ -300,7 +300,7 @@ module _ {T : Type 0} (follows : ℕ → T → T → Type 0) (suits : T → ℕ 
               (λ (u : (j ≢ other) × (get_elem? vs j ≡ some z)). ⊎_elim (λ (x : (j ≡ 0) × (b ≡ z)). absurd (not_both z.role (ap (λ (y : View T). y.role) (sym x.1) ∙ user) is))
               (λ (x : (j ≢ 0) × (get_elem? s.views j ≡ some z)). let a = k.gone j z x.1 is in (a.0, at_longer v.joined (joined_of w ∷ []) a.0 (joined_of z) a.1)) (at_set s.views 0 j b z u.1)) (at_set vs other j (joined w) z e);
         };
-        others = λ j z e is. ⊎_elim (λ (u : (j ≡ other) × (joined w ≡ z)). subst (λ (y : View T). (y.standing.point ≡ Rest) × (y.standing.depth ≡ 0)) u.1 (rests, flat))
+        others = λ j z e is. ⊎_elim (λ (u : (j ≡ other) × (joined w ≡ z)). subst (λ (y : View T). (y.state.point ≡ Rest) × (y.state.depth ≡ 0)) u.1 (rests, flat))
             (λ (u : (j ≢ other) × (get_elem? vs j ≡ some z)). ⊎_elim (λ (w : (j ≡ 0) × (b ≡ z)). absurd (not_both z.role (ap (λ (y : View T). y.role) (sym w.1) ∙ user) is))
             (λ (w : (j ≢ 0) × (get_elem? s.views j ≡ some z)). h.others j z w.1 is) (at_set s.views 0 j b z u.1)) (at_set vs other j (joined w) z e);
         opened = h.opened;
@@ -314,7 +314,7 @@ module _ {T : Type 0} (follows : ℕ → T → T → Type 0) (suits : T → ℕ 
   unfolding splits
   splits_keep v user room s h at = (refl, refl)
 
-  pub joins_keep : (v w : View T) (other : ℕ) (user : v.role ≡ User) (uses : w.role ≡ User) (rests : w.standing.point ≡ Rest) (flat : w.standing.depth ≡ 0) (s : State (Option (Moving T)) (View T)) (h : Held follows suits s)
+  pub joins_keep : (v w : View T) (other : ℕ) (user : v.role ≡ User) (uses : w.role ≡ User) (rests : w.state.point ≡ Rest) (flat : w.state.depth ≡ 0) (s : State (Option (Moving T)) (View T)) (h : Held follows suits s)
       (at : get_elem? s.views 0 ≡ some v) (apart : ¬ (other ≡ 0)) (there : get_elem? (set s.views 0 (with_joined v w)) other ≡ some w)
       → ((joins v w other user uses rests flat s h at apart there).opened ≡ h.opened) × ((joins v w other user uses rests flat s h at apart there).actions ≡ h.actions)
   unfolding joins
@@ -336,12 +336,12 @@ module _ {T : Type 0} (follows : ℕ → T → T → Type 0) (suits : T → ℕ 
     load_part t = owner_load_part h.core (id + 1) t ∙ ap (λ (m : ℕ). if_own (id + 1) t (seen TryOwnerLoad m)) (sym (ap (λ (ws : List ℕ). get_or ws 1 0) h.words_are))
 
     loaded : HasRun h.opened (h.actions ++ LoadsOwner (id + 1) ∷ []) h.core (set s.views id Seen)
-    loaded = run_goes_on h.opened h.actions h.core s.views h.run (LoadsOwner (id + 1) ∷ []) h.core id me.0 Seen (seen TryOwnerLoad Found) at refl refl load_part (load_by (id + 1)) (load_last (id + 1) (id + 1) refl) refl sits_here.standing
+    loaded = run_goes_on h.opened h.actions h.core s.views h.run (LoadsOwner (id + 1) ∷ []) h.core id me.0 Seen (seen TryOwnerLoad Found) at refl refl load_part (load_by (id + 1)) (load_last (id + 1) (id + 1) refl) refl sits_here.state
 
     loaded_by : RunGoesOnBy (LoadsOwner (id + 1) ∷ []) me.0 Seen
     loaded_by =
         let opened : h.opened ≡ me.0.limits = sym (limits_stay h.opened (events_of h.actions) h.run.allowed) ∙ (ap limits (sym h.run.here) ∙ sym sits_here.limits_are) in
-        goes_on_by h.opened h.actions h.core s.views h.run (LoadsOwner (id + 1) ∷ []) h.core id me.0 Seen (seen TryOwnerLoad Found) at refl refl load_part (load_by (id + 1)) (load_last (id + 1) (id + 1) refl) refl sits_here.standing sits_here.number opened
+        goes_on_by h.opened h.actions h.core s.views h.run (LoadsOwner (id + 1) ∷ []) h.core id me.0 Seen (seen TryOwnerLoad Found) at refl refl load_part (load_by (id + 1)) (load_last (id + 1) (id + 1) refl) refl sits_here.state sits_here.number opened
 
     -- the rule goes on holding, and the run has gone on by this load
     pub owner_keeps : (after : Held follows suits (stepped s 1 Found id me.1 Seen keeps)) × (after.opened ≡ h.opened) × (after.actions ≡ h.actions ++ LoadsOwner (id + 1) ∷ [])
@@ -381,7 +381,7 @@ module _ {T : Type 0} (follows : ℕ → T → T → Type 0) (suits : T → ℕ 
         let is : IsSeat h.core.seats me.0.number = record { above = omega (arith, sits.number); within = omega (arith, sits.number, few, l) } in
         let told = owner_told h.core h.ghost_state me.0.number is h.fits in
         let found : Found ≡ h.core.owner = ap (λ (ws : List ℕ). get_or ws 1 0) h.words_are in
-        let stands : seat h.core.seats me.0.number ≡ me.0.standing = ap (λ m. seat h.core.seats m) sits.number ∙ sits.standing in (
+        let stands : seat h.core.seats me.0.number ≡ me.0.state = ap (λ m. seat h.core.seats m) sits.number ∙ sits.state in (
           refl,
           omega (arith, sits.number),
           (λ e. subst (λ (x : SeatState). 0 < x.depth) stands (told.0 (sym found ∙ e))),
@@ -432,7 +432,7 @@ starts {T} follows suits l ws x allowed are none_popped room fit =
     let some_seat = some_seats l.seats l.budget allowed in
     let st = start_steady l few (small_budget l.seats l.budget allowed) in
     let long = length-replicate l.seats absent in
-    let none_carries : carries_value k.standing ≡ false = refl in
+    let none_carries : carries_value k.state ≡ false = refl in
     record {
       core = start l;
       ghost_state = st.ghost_state;
@@ -445,7 +445,7 @@ starts {T} follows suits l ws x allowed are none_popped room fit =
       each = λ j v e. let o = one_view k v j e in subst (λ (t : ℕ × View T). Sits (start l) t.0 t.1) (λ i. (sym o.0 i, o.1 i)) (record {
         number = refl;
         limits_are = λ i. record { seats = sym long i; budget = l.budget };
-        standing = starts_absent l.seats 1;
+        state = starts_absent l.seats 1;
       });
       later = λ j far. starts_absent l.seats (j + 1);
       home = λ nobody. record {
@@ -458,7 +458,7 @@ starts {T} follows suits l ws x allowed are none_popped room fit =
         left = (0, k, refl, refl, (λ none j v e. ap (λ (u : View T). u.last_found) (sym (one_view k v j e).1)), refl);
         fits = subst (λ (n : ℕ). suits x.value n) (sym (none_answered (start l) st.ghost_state st.fits refl)) fit;
       };
-      outside = λ j v e one. absurd (false≢true (sym none_carries ∙ (ap (λ (u : View T). carries_value u.standing) (one_view k v j e).1 ∙ one)));
+      outside = λ j v e one. absurd (false≢true (sym none_carries ∙ (ap (λ (u : View T). carries_value u.state) (one_view k v j e).1 ∙ one)));
       numbered = record {
         within = λ j v e. let q = ap (λ (u : View T). u.ended) (one_view k v j e).1 in omega (arith, q);
         greatest = λ some_ended. absurd (omega (arith, some_ended));
@@ -474,7 +474,7 @@ starts {T} follows suits l ws x allowed are none_popped room fit =
         here = refl;
         trails = λ j v e. ap (λ (u : View T). u.trail) (sym (one_view k v j e).1);
         known = λ j v e. let same = sym (one_view k v j e).1 in knows_none l [] (j + 1) v.actions v.trail refl (ap (λ (u : View T). u.trail) same) (ap (λ (u : View T). u.actions) same);
-        stands = λ j v e. let same = sym (one_view k v j e).1 in stands_first l (j + 1) v.actions v.standing (ap (λ (u : View T). u.actions) same) (ap (λ (u : View T). u.standing) same);
+        stands = λ j v e. let same = sym (one_view k v j e).1 in stands_first l (j + 1) v.actions v.state (ap (λ (u : View T). u.actions) same) (ap (λ (u : View T). u.state) same);
         others = λ t out. refl;
       };
     }
@@ -490,7 +490,7 @@ starts_at follows suits l ws x allowed are none_popped room fit = (refl, refl)
 ready_absent : (seats s : ℕ) → 0 < s → s ≤ seats → IsReady seats s absent
 ready_absent seats s above within = record { numbers = tt; above = above; within = within; stored_link = packs_none; expected_push = packs_none; exchanged_push = packs_none; stored_handoff = packs_unposted; expected_handoff = packs_unposted; stored_wake = tt }
 
-module _ {T : Type 0} (words id number : ℕ) (l : Limits) (p : SeatState) (m : Me (Option (Moving T)) (View T)) (is : p ≡ absent) (user : m.0.role ≡ User) (named : m.0.number ≡ number) (limits_are : m.0.limits ≡ l) (hand : m.1 ≡ []) (stands : m.0.standing ≡ absent) where
+module _ {T : Type 0} (words id number : ℕ) (l : Limits) (p : SeatState) (m : Me (Option (Moving T)) (View T)) (is : p ≡ absent) (user : m.0.role ≡ User) (named : m.0.number ≡ number) (limits_are : m.0.limits ≡ l) (hand : m.1 ≡ []) (stands : m.0.state ≡ absent) where
   no_value : (x : Moving T) → ◌≡◌ {A = Option (Moving T)} None (Some x) → ⊥
   no_value x e = absurd (cc)
 
@@ -506,7 +506,7 @@ module _ {T : Type 0} (words id number : ℕ) (l : Limits) (p : SeatState) (m : 
     kept = λ flat x e. absurd (no_value x e);
   }
 
-  pub fresh_became : Became m.0.standing l p
+  pub fresh_became : Became m.0.state l p
   fresh_became = subst (λ (t : SeatState × SeatState). Became t.0 l t.1) (λ i. (sym stands i, sym is i)) (became_same absent l)
 
   pub fresh_ready : 0 < number → number ≤ l.seats → IsReady l.seats number p

@@ -130,10 +130,10 @@ leaves_at follows fits n l p m a was may r at = elim (cases_eq p.depth 0) [
 ]
 
 -- a begin touches neither view nor value
-pub begins_seen : {T : Type 0} (n n' : ℕ) (l : Limits) (p q : SeatState) (v v' : View T) (a a' : Option (Moving T)) → Became v.standing l p → Became v.standing l q → n' ≡ n → v' ≡ v → a' ≡ a
+pub begins_seen : {T : Type 0} (n n' : ℕ) (l : Limits) (p q : SeatState) (v v' : View T) (a a' : Option (Moving T)) → Became v.state l p → Became v.state l q → n' ≡ n → v' ≡ v → a' ≡ a
     → sight_of n' q v' (value_in a') ≡ record (sight_of n p v (value_in a)) { depth = q.depth; takes = q.takes; asleep = is_asleep q.point; in_call = is_in_call q.point }
 begins_seen {T} n n' l p q v v' a a' was is number view value =
-    let before = depth_seen v.standing l p was in let after = depth_seen v.standing l q is in
+    let before = depth_seen v.state l p was in let after = depth_seen v.state l q is in
     let level : Both p.depth q.depth = elim (cases_eq p.depth 0) [
       | inl z ↦ inl (z, elim (cases_eq q.depth 0) [ inl y ↦ y | inr some ↦ absurd (let h = before.1 (after.0 (omega (arith, some))) in omega (arith, h, z)) ])
       | inr some ↦ inr (omega (arith, some), after.1 (before.0 (omega (arith, some))))

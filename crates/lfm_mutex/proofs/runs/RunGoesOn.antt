@@ -15,7 +15,7 @@ use Rattle.lfm_mutex.specs.calls.RunGoesOn.{SameTrailsKnowTheSame}
 
 -- with one event of the seat
 pub run_stepped : {T : Type 0} {follows : ℕ → T → T → Type 0} {suits : T → ℕ → Type 0} {p p' : SeatState} {a a' : Option (Moving T)} {v w : View T} {turn : Turn} → Event follows suits p a v turn p' a' w → RunGoesOn v w
-run_stepped {T} {follows} {suits} {p} {p'} {a} {a'} {v} {w} {turn} e = run_by e.did.root.number e.did.root.limits_are (step_last v.number v.number v.standing p refl) e.did.run
+run_stepped {T} {follows} {suits} {p} {p'} {a} {a'} {v} {w} {turn} e = run_by e.did.root.number e.did.root.limits_are (step_last v.number v.number v.state p refl) e.did.run
 
 -- with a step that is made by itself
 pub run_made : {T : Type 0} {follows : ℕ → T → T → Type 0} {suits : T → ℕ → Type 0} {number words id : ℕ} {l : Limits} {p : SeatState} {n : ℕ} {m m' : Me (Option (Moving T)) (View T)} {a a' : Option (Moving T)} → MadeStep follows suits number words id l p n m a m' a'

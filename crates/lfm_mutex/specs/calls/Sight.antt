@@ -101,7 +101,7 @@ sight_of n p v a =
     }
 
 abbrev pub sight : {T : Type 0} → Seat T → Sight T
-sight s = sight_of s.table_seat.number s.standing s.table_seat.place.me.0 (value_in s.table_seat.moving)
+sight s = sight_of s.table_seat.number s.state s.table_seat.place.me.0 (value_in s.table_seat.moving)
 
 -- a seat as it is made, one of this number of seats
 abbrev pub new_sight : {T : Type 0} → T → ℕ → ℕ → Sight T

@@ -37,31 +37,31 @@ pub(crate) fn make_of<T: Kept>(
     kind: Kind,
 ) -> (Turn, Option<WakeUp>)
     requires belongs { seat.old.table_seat.place.table_id ≡ mutex.now.table.table_id }
-    requires is_next { kind_of seat.old.standing.point ≡ Some kind }
-    requires leaves { (r : Releaser) → seat.old.standing.point ≡ ReleaseOwnerStore r → MayBeLeft T.follows T.fits seat.old.table_seat.moving seat.old.table_seat.place.me.0 }
+    requires is_next { kind_of seat.old.state.point ≡ Some kind }
+    requires leaves { (r : Releaser) → seat.old.state.point ≡ ReleaseOwnerStore r → MayBeLeft T.follows T.fits seat.old.table_seat.moving seat.old.table_seat.place.me.0 }
     ensures belongs { seat.new.table_seat.place.table_id ≡ seat.old.table_seat.place.table_id }
     ensures woken { WakesNobody seat.old seat.new }
     ensures run { RunGoesOnFrom seat.old seat.new }
     ensures same { IsSame seat.old.table_seat seat.new.table_seat }
-    ensures event { Event T.follows T.fits seat.old.standing seat.old.table_seat.moving seat.old.table_seat.place.me.0 result.0 seat.new.standing seat.new.table_seat.moving seat.new.table_seat.place.me.0 }
-    ensures wakes { result.1 ≡ granted_at seat.old.standing.point }
+    ensures event { Event T.follows T.fits seat.old.state seat.old.table_seat.moving seat.old.table_seat.place.me.0 result.0 seat.new.state seat.new.table_seat.moving seat.new.table_seat.place.me.0 }
+    ensures wakes { result.1 ≡ granted_at seat.old.state.point }
 {
     let table = &mutex.table;
     let number = seat.table_seat.number;
-    let standing = seat.standing;
+    let state = seat.state;
     // What the step may give away leaves this seat's hands before it: once the word is stored, the next owner may come. So the
     // record that the step serves leaves the pop list, and then the value, with that list, goes into its slot.
-    let may_give = gives(standing.point);
-    drop_oldest(&mut seat.table_seat.moving, &standing);
+    let may_give = gives(state.point);
+    drop_oldest(&mut seat.table_seat.moving, &state);
     prepare(table, &mut seat.table_seat, may_give);
-    let (found, wake_up) = make_step::<T, Brand>(kind, table, &mut seat.table_seat, &standing);
+    let (found, wake_up) = make_step::<T, Brand>(kind, table, &mut seat.table_seat, &state);
     // What the step has brought is taken in after it: the record of a loaded link, or the value, if the seat carries it now.
     // `settle` tells that by `carries_after` before the seat moves on, since `advance`, the proved transition, needs the oldest
     // record, which lies with the value.
-    add_loaded(&mut seat.table_seat.moving, number, &standing, found);
-    settle(table, &mut seat.table_seat, &standing, found);
+    add_loaded(&mut seat.table_seat.moving, number, &state, found);
+    settle(table, &mut seat.table_seat, &state, found);
     let oldest = oldest_of(&seat.table_seat.moving);
-    let turn = advance(&mut seat.standing, number, found, oldest);
+    let turn = advance(&mut seat.state, number, found, oldest);
     (turn, wake_up)
 }
 
@@ -69,14 +69,14 @@ pub(crate) fn make_of<T: Kept>(
 #[inline(always)]
 pub(crate) fn make_waking_none<T: Kept>(mutex: &Mutex<T>, seat: &mut Seat<T>, kind: Kind) -> Turn
     requires belongs { seat.old.table_seat.place.table_id ≡ mutex.now.table.table_id }
-    requires is_next { kind_of seat.old.standing.point ≡ Some kind }
+    requires is_next { kind_of seat.old.state.point ≡ Some kind }
     requires other { kind ≢ KindNow.WakeStore }
-    requires leaves { (r : Releaser) → seat.old.standing.point ≡ ReleaseOwnerStore r → MayBeLeft T.follows T.fits seat.old.table_seat.moving seat.old.table_seat.place.me.0 }
+    requires leaves { (r : Releaser) → seat.old.state.point ≡ ReleaseOwnerStore r → MayBeLeft T.follows T.fits seat.old.table_seat.moving seat.old.table_seat.place.me.0 }
     ensures belongs { seat.new.table_seat.place.table_id ≡ seat.old.table_seat.place.table_id }
     ensures woken { WakesNobody seat.old seat.new }
     ensures run { RunGoesOnFrom seat.old seat.new }
     ensures same { IsSame seat.old.table_seat seat.new.table_seat }
-    ensures event { Event T.follows T.fits seat.old.standing seat.old.table_seat.moving seat.old.table_seat.place.me.0 result seat.new.standing seat.new.table_seat.moving seat.new.table_seat.place.me.0 }
+    ensures event { Event T.follows T.fits seat.old.state seat.old.table_seat.moving seat.old.table_seat.place.me.0 result seat.new.state seat.new.table_seat.moving seat.new.table_seat.place.me.0 }
 {
     let (turn, wake_up) = make_of(mutex, seat, kind);
     WakeUp::expect_none(wake_up);

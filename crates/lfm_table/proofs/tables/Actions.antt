@@ -258,16 +258,16 @@ stands_first l t early x no_actions stands = (λ i. seat (reached l (events_of (
 
 -- the view z says of the run what v does
 abbrev pub SaysTheSame : {T : Type 0} → View T → View T → Type 0
-SaysTheSame z v = (z.trail ≡ v.trail) × (z.actions ≡ v.actions) × (z.standing ≡ v.standing)
+SaysTheSame z v = (z.trail ≡ v.trail) × (z.actions ≡ v.actions) × (z.state ≡ v.state)
 
 -- it is that of a seat that has done nothing
 abbrev pub SaysNothing : {T : Type 0} → View T → Type 0
-SaysNothing z = (z.trail ≡ []) × (z.actions ≡ []) × (z.standing ≡ absent)
+SaysNothing z = (z.trail ≡ []) × (z.actions ≡ []) × (z.state ≡ absent)
 
 module _ {T : Type 0} (l : Limits) (actions : List Action) (c : Core) (views : List (View T)) (run : HasRun l actions c views) where
   -- the seat at place id has acted, and notes this of it
   module _ (more : List Action) (d : Core) (id : ℕ) (v w : View T) (x : Seen) (at : get_elem? views id ≡ some v) (leads : d ≡ run_of c (events_of more)) (notes : w.trail ≡ v.trail ++ x ∷ [])
-      (part : (t : ℕ) → part_of c t more ≡ if_own (id + 1) t x) (only : (t : ℕ) → id + 1 ≢ t → own_of t more ≡ []) (last : LastIsOwn (id + 1) more) (knows : w.actions ≡ actions ++ more) (stands : seat d.seats (id + 1) ≡ w.standing) where
+      (part : (t : ℕ) → part_of c t more ≡ if_own (id + 1) t x) (only : (t : ℕ) → id + 1 ≢ t → own_of t more ≡ []) (last : LastIsOwn (id + 1) more) (knows : w.actions ≡ actions ++ more) (stands : seat d.seats (id + 1) ≡ w.state) where
     parts : (t : ℕ) → part_of (start l) t (actions ++ more) ≡ part_of (start l) t actions ++ if_own (id + 1) t x
     parts t = part_join (start l) t actions more ∙ (ap (λ (b : Core). part_of (start l) t actions ++ part_of b t more) (sym run.here) ∙ ap (λ (q : List Seen). part_of (start l) t actions ++ q) (part t))
 
@@ -297,7 +297,7 @@ module _ {T : Type 0} (l : Limits) (actions : List Action) (c : Core) (views : L
       trail_is = own_trail ∙ ap (part_of (start l) (id + 1)) (sym knows);
     }
 
-    own_stands : seat (reached l (events_of w.actions)).seats (id + 1) ≡ w.standing
+    own_stands : seat (reached l (events_of w.actions)).seats (id + 1) ≡ w.state
     own_stands = ap (λ (d : List Action). seat (reached l (events_of d)).seats (id + 1)) knows ∙ (ap (λ (b : Core). seat b.seats (id + 1)) (sym leads_on) ∙ stands)
 
     other_known : (t : ℕ) (early : List Action) (trail : List Seen) → id + 1 ≢ t → KnowsRun l actions t early trail → KnowsRun l (actions ++ more) t early trail
@@ -322,7 +322,7 @@ module _ {T : Type 0} (l : Limits) (actions : List Action) (c : Core) (views : L
           (λ (t : (j ≢ id) × (get_elem? views j ≡ some z)). other_known (j + 1) z.actions z.trail (λ e. t.0 (omega (arith, e))) (run.known j z t.1))
           (at_set views id j w z e);
       stands = λ j z e. ⊎_elim
-          (λ (t : (j ≡ id) × (w ≡ z)). subst (λ (u : ℕ × View T). seat (reached l (events_of u.1.actions)).seats (u.0 + 1) ≡ u.1.standing) (λ i. (sym t.0 i, t.1 i)) own_stands)
+          (λ (t : (j ≡ id) × (w ≡ z)). subst (λ (u : ℕ × View T). seat (reached l (events_of u.1.actions)).seats (u.0 + 1) ≡ u.1.state) (λ i. (sym t.0 i, t.1 i)) own_stands)
           (λ (t : (j ≢ id) × (get_elem? views j ≡ some z)). run.stands j z t.1)
           (at_set views id j w z e);
       others = λ t out.
@@ -366,7 +366,7 @@ module _ {T : Type 0} (l : Limits) (actions : List Action) (c : Core) (views : L
         (same j z e);
     stands = λ j z e. ⊎_elim
         (λ (t : (v : View T) × (get_elem? views j ≡ some v) × SaysTheSame z v). ap (λ (d : List Action). seat (reached l (events_of d)).seats (j + 1)) t.2.1 ∙ (run.stands j t.0 t.1 ∙ sym t.2.2))
-        (λ (t : (length views ≤ j) × SaysNothing z). stands_first l (j + 1) z.actions z.standing t.1.1 t.1.2)
+        (λ (t : (length views ≤ j) × SaysNothing z). stands_first l (j + 1) z.actions z.state t.1.1 t.1.2)
         (same j z e);
     others = λ t out. run.others t (⊎_elim (λ (none : t ≡ 0). inl none) (λ (far : length after < t). inr (omega (arith, far, longer))) out);
   }

@@ -142,7 +142,7 @@ module _ {T : Type 0} (follows : ℕ → T → T → Type 0) (suits : T → ℕ 
         (λ (t : (0 ≡ id) × (w ≡ k)). roots_on v k (h.root v (subst (λ (i : ℕ). get_elem? s.views i ≡ some v) (sym t.0) at)) (ap (λ (u : View T). u.role) (sym t.1) ∙ same) (ap (λ (u : View T). u.made) (sym t.1) ∙ root.made) (ap (λ (u : View T). u.joined) (sym t.1) ∙ root.joined_are))
         (λ (t : (0 ≢ id) × (get_elem? s.views 0 ≡ some k)). roots_on k k (h.root k t.1) refl refl refl) (at_set s.views id 0 w k e)
 
-    pub others_on : (j : ℕ) (z : View T) → get_elem? vs j ≡ some z → z.role ≡ Retired → (z.standing.point ≡ Rest) × (z.standing.depth ≡ 0)
+    pub others_on : (j : ℕ) (z : View T) → get_elem? vs j ≡ some z → z.role ≡ Retired → (z.state.point ≡ Rest) × (z.state.depth ≡ 0)
     others_on j z e n = ⊎_elim (λ (t : (j ≡ id) × (w ≡ z)). absurd (not_both z.role (ap (λ (u : View T). u.role) (sym t.1) ∙ same ∙ user) n)) (λ (t : (j ≢ id) × (get_elem? s.views j ≡ some z)). h.others j z t.1 n) (at_set s.views id j w z e)
 
     -- each view is of a table with this state's number of seats
@@ -210,7 +210,7 @@ module _ {T : Type 0} (follows : ℕ → T → T → Type 0) (suits : T → ℕ 
 
   -- One step
 
-  module _ (slots id : ℕ) (me : Mine) (p : SeatState) (a : Option T) (i : ℕ) (f k : ℕ → ℕ) (user : me.0.role ≡ User) (to : Became me.0.standing me.0.limits p)
+  module _ (slots id : ℕ) (me : Mine) (p : SeatState) (a : Option T) (i : ℕ) (f k : ℕ → ℕ) (user : me.0.role ≡ User) (to : Became me.0.state me.0.limits p)
       (word : i ≡ index p me.0.limits.seats me.0.number) (writes : (n : ℕ) → f n ≡ written p me.0.number n) (finds : (n : ℕ) → k n ≡ told p me.0.number n)
       (ready : Ready follows suits p a me) where
     module _ (s : State S (View T)) (h : Ruled s) (at : get_elem? s.views id ≡ some me.0) where
@@ -235,11 +235,11 @@ module _ {T : Type 0} (follows : ℕ → T → T → Type 0) (suits : T → ℕ 
       is : IsSeat c.seats num
       is = record { above = omega (arith, sits.number); within = let l = length_at s.views id me.0 at in omega (arith, sits.number, h.few, l) }
 
-      here : seat c.seats num ≡ me.0.standing
-      here = ap (λ m. seat c.seats m) sits.number ∙ sits.standing
+      here : seat c.seats num ≡ me.0.state
+      here = ap (λ m. seat c.seats m) sits.number ∙ sits.state
 
       settles : Settles (seat c.seats num) (limits c) p
-      settles = subst (λ (t : SeatState × Limits). Settles t.0 t.1 p) (λ j. (sym here j, sits.limits_are j)) (settles_of me.0.standing me.0.limits p to)
+      settles = subst (λ (t : SeatState × Limits). Settles t.0 t.1 p) (λ j. (sym here j, sits.limits_are j)) (settles_of me.0.state me.0.limits p to)
 
       seats_are : me.0.limits.seats ≡ length c.seats
       seats_are = ap (λ l. l.seats) sits.limits_are
@@ -293,7 +293,7 @@ module _ {T : Type 0} (follows : ℕ → T → T → Type 0) (suits : T → ℕ 
       ready_after : IsReady me.0.limits.seats num st.seat
       ready_after = subst (λ (t : ℕ × SeatState). IsReady t.0 num t.1) (λ j. (sym seats_are j, ap (λ (z : Begin.Stepped). z.seat) st_is j)) ts.ready
 
-      carried : carries_value me.0.standing ≡ carries_value p
+      carried : carries_value me.0.state ≡ carries_value p
       carried = ap carries_value (sym here) ∙ core.carried_same c g num p is h.fits settles
 
       -- if the value is out with this seat
@@ -304,7 +304,7 @@ module _ {T : Type 0} (follows : ℕ → T → T → Type 0) (suits : T → ℕ 
       knows carries shallow y e =
           let w = was carries in
           let same : w.value ≡ y = some_same w.value y (sym w.found ∙ e) in
-          let flat = became_depth me.0.standing me.0.limits p to shallow in
+          let flat = became_depth me.0.state me.0.limits p to shallow in
           let k0 = w.shallow flat in (
             subst (λ (z : T). suits z me.0.answered) same k0.0,
             (λ l is_last. subst (λ (z : T × ℕ). Reached follows me.0.limits.seats z.1 l z.0) (λ j. (same j, sym placed j)) (k0.1 l is_last)),
@@ -317,28 +317,28 @@ module _ {T : Type 0} (follows : ℕ → T → T → Type 0) (suits : T → ℕ 
 
       -- the run goes on by the calls that the seat began since its last step, and by the step
       abbrev pub actions_now : List Action
-      actions_now = begins_and_step num me.0.standing p
+      actions_now = begins_and_step num me.0.state p
 
       abbrev next_view : Option T → View T
-      next_view found = record me.0 { standing = st.seat; trail = me.0.trail ++ seen p.point (k n) ∷ []; actions = h.actions ++ actions_now; last = left_by p.point a me.0.last; last_found = left_by p.point me.0.found me.0.last_found; ended = left_by p.point (me.0.holds_ended + 1) me.0.ended; found = found; holds_ended = holds_after; popped = popped_after; answered = ts.ghost_after.answered }
+      next_view found = record me.0 { state = st.seat; trail = me.0.trail ++ seen p.point (k n) ∷ []; actions = h.actions ++ actions_now; last = left_by p.point a me.0.last; last_found = left_by p.point me.0.found me.0.last_found; ended = left_by p.point (me.0.holds_ended + 1) me.0.ended; found = found; holds_ended = holds_after; popped = popped_after; answered = ts.ghost_after.answered }
 
-      leads_here : p ≡ begun me.0.standing (limits c) (calls_to me.0.standing p)
-      leads_here = to.leads ∙ ap (λ (l : Limits). begun me.0.standing l (calls_to me.0.standing p)) sits.limits_are
+      leads_here : p ≡ begun me.0.state (limits c) (calls_to me.0.state p)
+      leads_here = to.leads ∙ ap (λ (l : Limits). begun me.0.state l (calls_to me.0.state p)) sits.limits_are
 
       told_is : told p num (found_at c num p) ≡ k n
       told_is = ap (told p num) n_is ∙ sym (finds n)
 
       part_now : (t : ℕ) → part_of c t actions_now ≡ if_own (id + 1) t (seen p.point (k n))
-      part_now t = step_part c num me.0.standing p is here leads_here t ∙ (λ j. if_own (placed j) t (seen p.point (told_is j)))
+      part_now t = step_part c num me.0.state p is here leads_here t ∙ (λ j. if_own (placed j) t (seen p.point (told_is j)))
 
       only_now : (t : ℕ) → id + 1 ≢ t → own_of t actions_now ≡ []
-      only_now t other = step_by num t me.0.standing p (λ e. other (sym placed ∙ e))
+      only_now t other = step_by num t me.0.state p (λ e. other (sym placed ∙ e))
 
       last_now : LastIsOwn (id + 1) actions_now
-      last_now = step_last num (id + 1) me.0.standing p placed
+      last_now = step_last num (id + 1) me.0.state p placed
 
       leads_now : ts.after ≡ run_of c (events_of actions_now)
-      leads_now = ts.is_made ∙ sym (step_run c num me.0.standing p is here leads_here)
+      leads_now = ts.is_made ∙ sym (step_run c num me.0.state p is here leads_here)
 
       stands_now : seat ts.after.seats (id + 1) ≡ st.seat
       stands_now = ap (λ m. seat ts.after.seats m) (sym placed) ∙ mine_after
@@ -360,12 +360,12 @@ module _ {T : Type 0} (follows : ℕ → T → T → Type 0) (suits : T → ℕ 
           (λ (t : (j ≡ id) × (next_view found ≡ z)). subst (λ (u : ℕ × View T). Sits ts.after u.0 u.1) (λ q. (sym t.0 q, t.1 q)) (record {
             number = placed;
             limits_are = sits.limits_are ∙ sym limits_after;
-            standing = ap (λ m. seat ts.after.seats m) (sym placed) ∙ mine_after;
+            state = ap (λ m. seat ts.after.seats m) (sym placed) ∙ mine_after;
           }))
           (λ (t : (j ≢ id) × (get_elem? s.views j ≡ some z)). let old = h.each j z t.1 in record {
             number = old.number;
             limits_are = old.limits_are ∙ sym limits_after;
-            standing = other_after j t.0 ∙ old.standing;
+            state = other_after j t.0 ∙ old.state;
           })
           (at_set s.views id j (next_view found) z e)
 
@@ -391,7 +391,7 @@ module _ {T : Type 0} (follows : ℕ → T → T → Type 0) (suits : T → ℕ 
         popped = c.popped;
         role = refl;
         root = same_root found;
-        standing = refl;
+        state = refl;
         trail = refl;
         run = runs_on found;
         last = refl;
@@ -426,8 +426,8 @@ module _ {T : Type 0} (follows : ℕ → T → T → Type 0) (suits : T → ℕ 
       MovedBy b b' = MovesValue c.seats ts.after.seats num (move_of b b')
 
       -- a view that carries nothing after the step
-      not_after : (found : Option T) (j : ℕ) (z : View T) → get_elem? (set s.views id (next_view found)) j ≡ some z → carries_value (seat ts.after.seats (j + 1)) ≡ false → carries_value z.standing ≡ true → ⊥
-      not_after found j z e none_after one = false≢true (sym none_after ∙ ap carries_value (sits_on found j z e).standing ∙ one)
+      not_after : (found : Option T) (j : ℕ) (z : View T) → get_elem? (set s.views id (next_view found)) j ≡ some z → carries_value (seat ts.after.seats (j + 1)) ≡ false → carries_value z.state ≡ true → ⊥
+      not_after found j z e none_after one = false≢true (sym none_after ∙ ap carries_value (sits_on found j z e).state ∙ one)
 
       -- a hold is answered with a depth
       same_answers : st.seat.depth ≡ 0 → ts.ghost_after.answered ≡ g.answered
@@ -538,7 +538,7 @@ module _ {T : Type 0} (follows : ℕ → T → T → Type 0) (suits : T → ℕ 
           let flat : st.seat.depth ≡ 0 = empty_depth st.seat after in
           let other : (r : Releaser) → p.point ≢ ReleaseOwnerStore r = (λ r e. false≢true (sym after ∙ (released p num (k n) (oldest c.popped) r e).0)) in
           let shallow : p.depth ≡ 0 = (shallow_step p num (k n) (oldest c.popped) other).0 flat in
-          let known = out.shallow (became_depth me.0.standing me.0.limits p to shallow) in
+          let known = out.shallow (became_depth me.0.state me.0.limits p to shallow) in
           let same : out.value ≡ x.value = some_same out.value x.value (sym out.found ∙ ld.2) in
           let kept : left_by p.point a me.0.last ≡ me.0.last = left_same p.point a me.0.last other in
           let put : put_back s.homes me.1 ≡ set s.homes 0 (some (Some x)) = ap (put_back s.homes) ld.1 in
@@ -567,7 +567,7 @@ module _ {T : Type 0} (follows : ℕ → T → T → Type 0) (suits : T → ℕ 
                       (λ l is_last. subst (λ (y : T). Reached follows me.0.limits.seats (id + 1) l y) same (known.1 l (sym kept ∙ is_last)))
                       (subst (λ (y : T). LeadsToValue follows (λ j. j ≢ id) s.views y) same out.leads);
                   awaits = awaits_on s h id me.0 at user w refl root x.value (subst (λ (y : T). Awaits follows s.views y) same out.awaits);
-                  left = left_kept me.0.found x.value other (subst (λ (y : T). LeftIn s.views h.holds_ended y) same (out.left (became_depth me.0.standing me.0.limits p to shallow)));
+                  left = left_kept me.0.found x.value other (subst (λ (y : T). LeftIn s.views h.holds_ended y) same (out.left (became_depth me.0.state me.0.limits p to shallow)));
                   fits = subst (λ (t : T × ℕ). suits t.0 t.1) (λ q. (same q, (out.answered ∙ sym (same_answers flat)) q)) known.0;
                 };
                 outside = λ j z e one. absurd (not_after me.0.found j z e (did.1 (j + 1)) one);
@@ -596,7 +596,7 @@ module _ {T : Type 0} (follows : ℕ → T → T → Type 0) (suits : T → ℕ 
           let flat : st.seat.depth ≡ 0 = empty_depth st.seat after in
           let kept : left_by p.point a me.0.last ≡ me.0.last = left_same p.point a me.0.last (not_release p.depth p.point (core.depth_at c g num p is h.fits settles) shallow) in
           let list_same : c.popped ≡ ts.after.popped = sym (popped_is ∙ list_stays p num (k n) c.popped before) in
-          let none_here : carries_value w.standing ≡ true → ⊥ = (λ one. false≢true (sym after ∙ one)) in (
+          let none_here : carries_value w.state ≡ true → ⊥ = (λ one. false≢true (sym after ∙ one)) in (
             w,
             keeps,
             tt,
@@ -623,7 +623,7 @@ module _ {T : Type 0} (follows : ℕ → T → T → Type 0) (suits : T → ℕ 
                   fits = subst (λ (m : ℕ). suits x.value.value m) (sym (same_answers flat)) x.fits;
                 };
                 outside = λ j z e one. ⊎_elim
-                    (λ (t : (j ≡ id) × (w ≡ z)). absurd (none_here (ap (λ (u : View T). carries_value u.standing) t.1 ∙ one)))
+                    (λ (t : (j ≡ id) × (w ≡ z)). absurd (none_here (ap (λ (u : View T). carries_value u.state) t.1 ∙ one)))
                     (λ (t : (j ≢ id) × (get_elem? s.views j ≡ some z)). let o = h.outside j z t.1 one in record {
                       value = o.value;
                       found = o.found;
@@ -697,23 +697,23 @@ module _ {T : Type 0} (follows : ℕ → T → T → Type 0) (suits : T → ℕ 
                   leads = leads_off s h id me.0 at user w role root out.value out.leads;
                   awaits = awaits_on s h id me.0 at user w role root out.value out.awaits;
                   shallow = λ deep.
-                      let flat : st.seat.depth ≡ 0 = ap (λ (v : View T). v.standing.depth) (sym w_is) ∙ deep in
-                      let known = out.shallow (became_depth me.0.standing me.0.limits p to ((shallow_step p num (k n) (oldest c.popped) other).0 flat)) in (
+                      let flat : st.seat.depth ≡ 0 = ap (λ (v : View T). v.state.depth) (sym w_is) ∙ deep in
+                      let known = out.shallow (became_depth me.0.state me.0.limits p to ((shallow_step p num (k n) (oldest c.popped) other).0 flat)) in (
                         subst (λ (m : ℕ). suits out.value m) (out.answered ∙ sym (same_answers flat) ∙ sym answered_w) known.0,
                         λ l is_last. subst (λ (m : ℕ). Reached follows m (id + 1) l out.value) (ap (λ (z : Limits). z.seats) (sym root.limits_are)) (known.1 l (sym (last_is ∙ left_same p.point a me.0.last other) ∙ is_last)),
                       );
                   left = λ deep.
-                      let flat : st.seat.depth ≡ 0 = ap (λ (v : View T). v.standing.depth) (sym w_is) ∙ deep in
-                      let was_flat = became_depth me.0.standing me.0.limits p to ((shallow_step p num (k n) (oldest c.popped) other).0 flat) in
+                      let flat : st.seat.depth ≡ 0 = ap (λ (v : View T). v.state.depth) (sym w_is) ∙ deep in
+                      let was_flat = became_depth me.0.state me.0.limits p to ((shallow_step p num (k n) (oldest c.popped) other).0 flat) in
                       subst (λ (z : View T). LeftIn (set s.views id z) holds_after out.value) (sym w_is) (left_kept (left_by p.point a me.0.found) out.value other (out.left was_flat));
                 }
           ]
 
       -- no second seat carries
-      alone : (j : ℕ) (z : View T) → carries_value p ≡ true → get_elem? s.views j ≡ some z → j ≢ id → carries_value z.standing ≡ true → ⊥
+      alone : (j : ℕ) (z : View T) → carries_value p ≡ true → get_elem? s.views j ≡ some z → j ≢ id → carries_value z.state ≡ true → ⊥
       alone j z before e other one =
           let first : carries_value (seat c.seats num) ≡ true = ap carries_value here ∙ carried ∙ before in
-          let second : carries_value (seat c.seats (j + 1)) ≡ true = ap carries_value (h.each j z e).standing ∙ one in
+          let second : carries_value (seat c.seats (j + 1)) ≡ true = ap carries_value (h.each j z e).state ∙ one in
           let same : num ≡ j + 1 = carried_alone c.seats (abstract g).place num (j + 1) (tells_value c g h.fits) first second in
           other (omega (arith, same, placed))
 

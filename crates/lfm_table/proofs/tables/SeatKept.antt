@@ -62,7 +62,7 @@ gives_of x s n o before after true e = refl
 gives_of x s n o before after false e = absurd (true_or_false (carries_value (stepped_by x s n o).seat) (keeps_value x s n o e before) after)
 
 module _ {T : Type 0} (follows : ℕ → T → T → Type 0) (suits : T → ℕ → Type 0) (number words id : ℕ) (l : Limits) (p : SeatState) (m : Me (Option (Moving T)) (View T)) (a : Option (Moving T))
-    (was : Seated number l p m a) (became : Became m.0.standing l p) (ready : IsReady l.seats number p) (rooted : Rooted words id number l m.0) where
+    (was : Seated number l p m a) (became : Became m.0.state l p) (ready : IsReady l.seats number p) (rooted : Rooted words id number l m.0) where
   abbrev S : Type 0
   S = Option (Moving T)
 
@@ -134,7 +134,7 @@ module _ {T : Type 0} (follows : ℕ → T → T → Type 0) (suits : T → ℕ 
     seats_are = ap (λ (l : Limits). l.seats) was.limits_are;
     wide = rooted.wide;
     few = rooted.few;
-    became = subst (λ (k : Limits). Became m.0.standing k p) (sym was.limits_are) became;
+    became = subst (λ (k : Limits). Became m.0.state k p) (sym was.limits_are) became;
     ready = ready;
     hand = can_hand leaves;
   })
@@ -302,7 +302,7 @@ module _ {T : Type 0} (follows : ℕ → T → T → Type 0) (suits : T → ℕ 
 
   pub record Made (turn : Turn) (q : SeatState) (a3 : S) (m2 : Mine) : Type 0 where
     pub seated : Seated number l q m2 a3
-    pub became_now : Became m2.0.standing l q
+    pub became_now : Became m2.0.state l q
     pub ready_now : IsReady l.seats number q
     pub rooted_now : Rooted words id number l m2.0
     pub event : Event follows suits p a m.0 turn q a3 m2.0
@@ -336,8 +336,8 @@ module _ {T : Type 0} (follows : ℕ → T → T → Type 0) (suits : T → ℕ 
       kept = λ deep x e. ap (λ (v : View T). v.found) view_is ∙ facts.3 deep x e;
     }
 
-    standing_is : m2.0.standing ≡ then_st.seat
-    standing_is = ap (λ (v : View T). v.standing) view_is ∙ (did.standing ∙ ap (λ (k : ℕ). (stepped_by p k n (oldest did.popped)).seat) was.named)
+    state_is : m2.0.state ≡ then_st.seat
+    state_is = ap (λ (v : View T). v.state) view_is ∙ (did.state ∙ ap (λ (k : ℕ). (stepped_by p k n (oldest did.popped)).seat) was.named)
 
     event_now : Event follows suits p a m.0 then_st.turn then_st.seat a3 m1.0
     event_now = record {
@@ -355,7 +355,7 @@ module _ {T : Type 0} (follows : ℕ → T → T → Type 0) (suits : T → ℕ 
     made_by : Made turn q a3 m2
     made_by = subst (λ (t : Turn × SeatState). Made t.0 t.1 a3 m2) (λ i. (turn_is i, q_is i)) (record {
       seated = seated_now;
-      became_now = subst (λ (x : SeatState). Became x l then_st.seat) (sym standing_is) (became_same then_st.seat l);
+      became_now = subst (λ (x : SeatState). Became x l then_st.seat) (sym state_is) (became_same then_st.seat l);
       ready_now = subst (λ (t : ℕ × ℕ). IsReady t.0 t.1 (stepped_by p t.1 n (oldest did.popped)).seat) (λ i. (ap (λ (l : Limits). l.seats) was.limits_are i, was.named i)) did.ready;
       rooted_now = record {
         low = rooted.low;

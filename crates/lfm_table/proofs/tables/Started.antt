@@ -16,10 +16,10 @@ use Rattle.lfm_table.specs.Settled.{Became}
 use Rattle.lfm_table.proofs.tables.SettledKept.{became_begin}
 use Rattle.lfm_table.proofs.tables.StepFacts.{begin_keeps}
 
-module _ {T : Type 0} (number words id : ℕ) (l : Limits) (p q : SeatState) (m : Me (Option (Moving T)) (View T)) (a : Option (Moving T)) (was : Seated number l p m a) (became_before : Became m.0.standing l p) (ready_before : IsReady l.seats number p) (rooted : Rooted words id number l m.0) where
+module _ {T : Type 0} (number words id : ℕ) (l : Limits) (p q : SeatState) (m : Me (Option (Moving T)) (View T)) (a : Option (Moving T)) (was : Seated number l p m a) (became_before : Became m.0.state l p) (ready_before : IsReady l.seats number p) (rooted : Rooted words id number l m.0) where
   pub record Begun : Type 0 where
     pub seated : Seated number l q m a
-    pub became : Became m.0.standing l q
+    pub became : Became m.0.state l q
     pub ready : IsReady l.seats number q
 
   pub begun : (call : Call) → q ≡ (Begin.begin p l call).seat → Begun
@@ -37,6 +37,6 @@ module _ {T : Type 0} (number words id : ℕ) (l : Limits) (p q : SeatState) (m 
           room = was.room;
           kept = λ flat. was.kept (kept.1 (ap (λ (x : SeatState). x.depth) (sym is) ∙ flat));
         };
-        became = subst (λ (x : SeatState). Became m.0.standing l x) (sym is) (became_begin m.0.standing l p became_before call);
+        became = subst (λ (x : SeatState). Became m.0.state l x) (sym is) (became_begin m.0.state l p became_before call);
         ready = subst (λ (x : SeatState). IsReady l.seats number x) (sym is) (settles_ready l number p (Begin.begin p l call).seat rooted.low rooted.high ready_before (record { calls = call ∷ []; leads = refl }));
       }

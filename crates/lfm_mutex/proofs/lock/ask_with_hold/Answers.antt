@@ -30,22 +30,22 @@ use Rattle.lfm_mutex.proofs.lock.ask_with_hold.Goals as goal
 
 pub returns-then-found-eq0-clause-made : goal.returns-then-found-eq0-clause-made
 returns-then-found-eq0-clause-made g c =
-    let s = c.args.seat.now in let d = s.standing.depth in let t = s.standing.takes in let ps = s.standing.posts in
+    let s = c.args.seat.now in let d = s.state.depth in let t = s.state.takes in let ps = s.state.posts in
     let p0 = made_of d t ps LockCountAdd in
-    let begins = begins_again s.standing s.table_seat.limits c.requires.rests c.requires.held c.requires.room in
-    let fit = fit_begun s.table_seat.number s.table_seat.place.table_id.words s.table_seat.place.id s.table_seat.limits s.table_seat.place.me s.table_seat.moving s.standing p0 Call.Lock (record { seated = s.seated; became = s.became; ready = s.ready; rooted = s.rooted }) begins in
+    let begins = begins_again s.state s.table_seat.limits c.requires.rests c.requires.held c.requires.room in
+    let fit = fit_begun s.table_seat.number s.table_seat.place.table_id.words s.table_seat.place.id s.table_seat.limits s.table_seat.place.me s.table_seat.moving s.state p0 Call.Lock (record { seated = s.seated; became = s.became; ready = s.ready; rooted = s.rooted }) begins in
     let f = c.keep_held-found in
     let q = made_of d t ps (EnterOwnerStore Entrant.Locker How.Free) in let r = c.finish_ask.new.seat in
     let first = course_next g.T.Kept.follows g.T.Kept.fits s.table_seat.number p0 s.table_seat.moving s.table_seat.place.me.0 s.table_seat.place.table_id.words s.table_seat.place.id s.table_seat.limits p0 f.result s.table_seat.place.me s.table_seat.moving f.new.seat.place.me f.new.seat.moving f.new.seat.place.table_id.words f.new.seat.place.id (opens q) (course_none g.T.Kept.follows g.T.Kept.fits s.table_seat.number p0 s.table_seat.moving s.table_seat.place.me.0) fit (told_before f.ensures.same f.ensures.step) (added_none d t ps s.table_seat.number f.result (oldest_in f.new.seat.moving) c.if-found-eq0.true) (λ e. cc) refl in
-    let last = course_join g.T.Kept.follows g.T.Kept.fits s.table_seat.number p0 s.table_seat.moving s.table_seat.place.me.0 q r.standing f.new.seat.moving r.table_seat.moving f.new.seat.place.me.0 r.table_seat.place.me.0 (Ended (Answer.Asked c.finish_ask.result.0)) first (subst (λ (x : SeatState). Course g.T.Kept.follows g.T.Kept.fits s.table_seat.number x f.new.seat.moving f.new.seat.place.me.0 (Ended (Answer.Asked c.finish_ask.result.0)) r.standing r.table_seat.moving r.table_seat.place.me.0) c.stop_at.ensures (course_same f.ensures.same.0 c.finish_ask.ensures.made)) in
-    comes g.T.Kept.follows g.T.Kept.fits s.table_seat.number p0 s.table_seat.moving s.table_seat.place.me.0 r.table_seat.number s.table_seat.limits c.args.mutex.now.limits Call.Lock s.standing r.standing (Ended (Answer.Asked c.finish_ask.result.0)) r.table_seat.moving r.table_seat.place.me.0 c.requires.belongs.1 (c.finish_ask.ensures.same.0 ∙ f.ensures.same.0) refl begins refl last
+    let last = course_join g.T.Kept.follows g.T.Kept.fits s.table_seat.number p0 s.table_seat.moving s.table_seat.place.me.0 q r.state f.new.seat.moving r.table_seat.moving f.new.seat.place.me.0 r.table_seat.place.me.0 (Ended (Answer.Asked c.finish_ask.result.0)) first (subst (λ (x : SeatState). Course g.T.Kept.follows g.T.Kept.fits s.table_seat.number x f.new.seat.moving f.new.seat.place.me.0 (Ended (Answer.Asked c.finish_ask.result.0)) r.state r.table_seat.moving r.table_seat.place.me.0) c.stop_at.ensures (course_same f.ensures.same.0 c.finish_ask.ensures.made)) in
+    comes g.T.Kept.follows g.T.Kept.fits s.table_seat.number p0 s.table_seat.moving s.table_seat.place.me.0 r.table_seat.number s.table_seat.limits c.args.mutex.now.limits Call.Lock s.state r.state (Ended (Answer.Asked c.finish_ask.result.0)) r.table_seat.moving r.table_seat.place.me.0 c.requires.belongs.1 (c.finish_ask.ensures.same.0 ∙ f.ensures.same.0) refl begins refl last
 
 pub returns-clause-made : goal.returns-clause-made
 returns-clause-made g c =
-    let s = c.args.seat.now in let d = s.standing.depth in let t = s.standing.takes in let ps = s.standing.posts in
+    let s = c.args.seat.now in let d = s.state.depth in let t = s.state.takes in let ps = s.state.posts in
     let p0 = made_of d t ps LockCountAdd in
-    let begins = begins_again s.standing s.table_seat.limits c.requires.rests c.requires.held c.requires.room in
-    let fit = fit_begun s.table_seat.number s.table_seat.place.table_id.words s.table_seat.place.id s.table_seat.limits s.table_seat.place.me s.table_seat.moving s.standing p0 Call.Lock (record { seated = s.seated; became = s.became; ready = s.ready; rooted = s.rooted }) begins in
+    let begins = begins_again s.state s.table_seat.limits c.requires.rests c.requires.held c.requires.room in
+    let fit = fit_begun s.table_seat.number s.table_seat.place.table_id.words s.table_seat.place.id s.table_seat.limits s.table_seat.place.me s.table_seat.moving s.state p0 Call.Lock (record { seated = s.seated; became = s.became; ready = s.ready; rooted = s.rooted }) begins in
     let f = c.keep_held-found in
     let h = c.keep_held-owner in let k = c.keep_held in
     let p1 = made_of d t ps LockOwnerLoad in let p2 = made_of d t ps LockCountSubtract in
@@ -56,13 +56,13 @@ returns-clause-made g c =
     let second = course_next g.T.Kept.follows g.T.Kept.fits s.table_seat.number p0 s.table_seat.moving s.table_seat.place.me.0 f.new.seat.place.table_id.words f.new.seat.place.id s.table_seat.limits p1 h.result f.new.seat.place.me f.new.seat.moving h.new.seat.place.me h.new.seat.moving h.new.seat.place.table_id.words h.new.seat.place.id (opens p2) first fit1 (told_before (same_then f.ensures.same h.ensures.same) h.ensures.step) is2 (λ e. cc) refl in
     let fit2 = fit_after g.T.Kept.follows g.T.Kept.fits s.table_seat.number h.new.seat.place.table_id.words h.new.seat.place.id s.table_seat.limits p1 h.result f.new.seat.place.me f.new.seat.moving h.new.seat.place.me h.new.seat.moving (told_before (same_then f.ensures.same h.ensures.same) h.ensures.step) (opens p2) is2 in
     let last = course_next g.T.Kept.follows g.T.Kept.fits s.table_seat.number p0 s.table_seat.moving s.table_seat.place.me.0 h.new.seat.place.table_id.words h.new.seat.place.id s.table_seat.limits p2 k.result h.new.seat.place.me h.new.seat.moving k.new.seat.place.me k.new.seat.moving k.new.seat.place.table_id.words k.new.seat.place.id (stepped_by p2 s.table_seat.number k.result (oldest_in k.new.seat.moving)) second fit2 (told_before (same_then (same_then f.ensures.same h.ensures.same) k.ensures.same) k.ensures.step) refl (λ e. cc) refl in
-    subst (λ (x : SeatState). ComesTo g.T.Kept.follows g.T.Kept.fits c.args.mutex.now.limits Call.Lock (sight_of s.table_seat.number s.standing s.table_seat.place.me.0 (value_in s.table_seat.moving)) (sight_of k.new.seat.number x k.new.seat.place.me.0 (value_in k.new.seat.moving)) (Ended (Answer.Asked (Asked.Again (d + 1)))))
+    subst (λ (x : SeatState). ComesTo g.T.Kept.follows g.T.Kept.fits c.args.mutex.now.limits Call.Lock (sight_of s.table_seat.number s.state s.table_seat.place.me.0 (value_in s.table_seat.moving)) (sight_of k.new.seat.number x k.new.seat.place.me.0 (value_in k.new.seat.moving)) (Ended (Answer.Asked (Asked.Again (d + 1)))))
     (λ i. record { depth = d + 1; takes = t; posts = ps; point = sym c.requires.rests i })
-    (comes g.T.Kept.follows g.T.Kept.fits s.table_seat.number p0 s.table_seat.moving s.table_seat.place.me.0 k.new.seat.number s.table_seat.limits c.args.mutex.now.limits Call.Lock s.standing (made_of (d + 1) t ps Rest) (Ended (Answer.Asked (Asked.Again (d + 1)))) k.new.seat.moving k.new.seat.place.me.0 c.requires.belongs.1 (same_then (same_then f.ensures.same h.ensures.same) k.ensures.same).0 refl begins refl last)
+    (comes g.T.Kept.follows g.T.Kept.fits s.table_seat.number p0 s.table_seat.moving s.table_seat.place.me.0 k.new.seat.number s.table_seat.limits c.args.mutex.now.limits Call.Lock s.state (made_of (d + 1) t ps Rest) (Ended (Answer.Asked (Asked.Again (d + 1)))) k.new.seat.moving k.new.seat.place.me.0 c.requires.belongs.1 (same_then (same_then f.ensures.same h.ensures.same) k.ensures.same).0 refl begins refl last)
 
 pub returns-then-found-eq0-clause-bounded : goal.returns-then-found-eq0-clause-bounded
 returns-then-found-eq0-clause-bounded g c =
-    let s = c.args.seat.now in let d = s.standing.depth in let t = s.standing.takes in let ps = s.standing.posts in let n = s.table_seat.limits.seats in
+    let s = c.args.seat.now in let d = s.state.depth in let t = s.state.takes in let ps = s.state.posts in let n = s.table_seat.limits.seats in
     let p0 = made_of d t ps LockCountAdd in
     let f = c.keep_held-found in let r = c.finish_ask.new.seat in
     let st = stepped_by p0 s.table_seat.number f.result (oldest_in f.new.seat.moving) in
@@ -72,7 +72,7 @@ returns-then-found-eq0-clause-bounded g c =
 
 pub returns-clause-bounded : goal.returns-clause-bounded
 returns-clause-bounded g c =
-    let s = c.args.seat.now in let d = s.standing.depth in let t = s.standing.takes in let ps = s.standing.posts in
+    let s = c.args.seat.now in let d = s.state.depth in let t = s.state.takes in let ps = s.state.posts in
     let p0 = made_of d t ps LockCountAdd in let p1 = made_of d t ps LockOwnerLoad in let p2 = made_of d t ps LockCountSubtract in
     let f = c.keep_held-found in let h = c.keep_held-owner in let k = c.keep_held in
     let st0 = stepped_by p0 s.table_seat.number f.result (oldest_in f.new.seat.moving) in let st1 = stepped_by p1 s.table_seat.number h.result (oldest_in h.new.seat.moving) in let st2 = stepped_by p2 s.table_seat.number k.result (oldest_in k.new.seat.moving) in

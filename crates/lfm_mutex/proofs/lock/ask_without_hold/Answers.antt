@@ -31,21 +31,21 @@ use Rattle.lfm_mutex.proofs.lock.ask_without_hold.Goals as goal
 
 pub returns-then-found-ne0-clause-made : goal.returns-then-found-ne0-clause-made
 returns-then-found-ne0-clause-made g c =
-    let s = c.args.seat.now in let t = s.standing.takes + 1 in let ps = s.standing.posts in
-    let begins = begins_free s.standing s.table_seat.limits c.requires.rests c.requires.flat c.requires.charged in
-    let fit = fit_begun s.table_seat.number s.table_seat.place.table_id.words s.table_seat.place.id s.table_seat.limits s.table_seat.place.me s.table_seat.moving s.standing (made_of 0 t ps LockCountAdd) Call.Lock (record { seated = s.seated; became = s.became; ready = s.ready; rooted = s.rooted }) begins in
+    let s = c.args.seat.now in let t = s.state.takes + 1 in let ps = s.state.posts in
+    let begins = begins_free s.state s.table_seat.limits c.requires.rests c.requires.flat c.requires.charged in
+    let fit = fit_begun s.table_seat.number s.table_seat.place.table_id.words s.table_seat.place.id s.table_seat.limits s.table_seat.place.me s.table_seat.moving s.state (made_of 0 t ps LockCountAdd) Call.Lock (record { seated = s.seated; became = s.became; ready = s.ready; rooted = s.rooted }) begins in
     let f = c.gain-found in
     let q = made_of 0 t ps LockOwnerLoad in let r = c.queue.new.seat in
     let first = course_next g.T.Kept.follows g.T.Kept.fits s.table_seat.number (made_of 0 t ps LockCountAdd) s.table_seat.moving s.table_seat.place.me.0 s.table_seat.place.table_id.words s.table_seat.place.id s.table_seat.limits (made_of 0 t ps LockCountAdd) f.result s.table_seat.place.me s.table_seat.moving f.new.seat.place.me f.new.seat.moving f.new.seat.place.table_id.words f.new.seat.place.id (opens q)
     (course_none g.T.Kept.follows g.T.Kept.fits s.table_seat.number (made_of 0 t ps LockCountAdd) s.table_seat.moving s.table_seat.place.me.0) fit (told_before f.ensures.same f.ensures.step) (added_some 0 t ps s.table_seat.number f.result (oldest_in f.new.seat.moving) c.if-found-ne0.true) (λ e. cc) refl in
-    let last = course_join g.T.Kept.follows g.T.Kept.fits s.table_seat.number (made_of 0 t ps LockCountAdd) s.table_seat.moving s.table_seat.place.me.0 q r.standing f.new.seat.moving r.table_seat.moving f.new.seat.place.me.0 r.table_seat.place.me.0 (Ended (Answer.Asked c.queue.result.0)) first (subst (λ (x : SeatState). Course g.T.Kept.follows g.T.Kept.fits s.table_seat.number x f.new.seat.moving f.new.seat.place.me.0 (Ended (Answer.Asked c.queue.result.0)) r.standing r.table_seat.moving r.table_seat.place.me.0) (c.stop_at.ensures ∙ (λ i. record { depth = c.requires.flat i; takes = t; posts = ps; point = LockOwnerLoad })) (course_same f.ensures.same.0 c.queue.ensures.made)) in
-    comes g.T.Kept.follows g.T.Kept.fits s.table_seat.number (made_of 0 t ps LockCountAdd) s.table_seat.moving s.table_seat.place.me.0 r.table_seat.number s.table_seat.limits c.args.mutex.now.limits Call.Lock s.standing r.standing (Ended (Answer.Asked c.queue.result.0)) r.table_seat.moving r.table_seat.place.me.0 c.requires.belongs.1 (c.queue.ensures.same.0 ∙ f.ensures.same.0) refl begins refl last
+    let last = course_join g.T.Kept.follows g.T.Kept.fits s.table_seat.number (made_of 0 t ps LockCountAdd) s.table_seat.moving s.table_seat.place.me.0 q r.state f.new.seat.moving r.table_seat.moving f.new.seat.place.me.0 r.table_seat.place.me.0 (Ended (Answer.Asked c.queue.result.0)) first (subst (λ (x : SeatState). Course g.T.Kept.follows g.T.Kept.fits s.table_seat.number x f.new.seat.moving f.new.seat.place.me.0 (Ended (Answer.Asked c.queue.result.0)) r.state r.table_seat.moving r.table_seat.place.me.0) (c.stop_at.ensures ∙ (λ i. record { depth = c.requires.flat i; takes = t; posts = ps; point = LockOwnerLoad })) (course_same f.ensures.same.0 c.queue.ensures.made)) in
+    comes g.T.Kept.follows g.T.Kept.fits s.table_seat.number (made_of 0 t ps LockCountAdd) s.table_seat.moving s.table_seat.place.me.0 r.table_seat.number s.table_seat.limits c.args.mutex.now.limits Call.Lock s.state r.state (Ended (Answer.Asked c.queue.result.0)) r.table_seat.moving r.table_seat.place.me.0 c.requires.belongs.1 (c.queue.ensures.same.0 ∙ f.ensures.same.0) refl begins refl last
 
 pub returns-clause-made : goal.returns-clause-made
 returns-clause-made g c =
-    let s = c.args.seat.now in let t = s.standing.takes + 1 in let ps = s.standing.posts in
-    let begins = begins_free s.standing s.table_seat.limits c.requires.rests c.requires.flat c.requires.charged in
-    let fit = fit_begun s.table_seat.number s.table_seat.place.table_id.words s.table_seat.place.id s.table_seat.limits s.table_seat.place.me s.table_seat.moving s.standing (made_of 0 t ps LockCountAdd) Call.Lock (record { seated = s.seated; became = s.became; ready = s.ready; rooted = s.rooted }) begins in
+    let s = c.args.seat.now in let t = s.state.takes + 1 in let ps = s.state.posts in
+    let begins = begins_free s.state s.table_seat.limits c.requires.rests c.requires.flat c.requires.charged in
+    let fit = fit_begun s.table_seat.number s.table_seat.place.table_id.words s.table_seat.place.id s.table_seat.limits s.table_seat.place.me s.table_seat.moving s.state (made_of 0 t ps LockCountAdd) Call.Lock (record { seated = s.seated; became = s.became; ready = s.ready; rooted = s.rooted }) begins in
     let f = c.gain-found in
     let h = c.keep_held in let q = made_of 0 t ps (EnterOwnerStore Entrant.Locker How.Free) in
     let is = added_none 0 t ps s.table_seat.number f.result (oldest_in f.new.seat.moving) c.if-found-ne0.false in
@@ -54,13 +54,13 @@ returns-clause-made g c =
     let between = fit_after g.T.Kept.follows g.T.Kept.fits s.table_seat.number f.new.seat.place.table_id.words f.new.seat.place.id s.table_seat.limits (made_of 0 t ps LockCountAdd) f.result s.table_seat.place.me s.table_seat.moving f.new.seat.place.me f.new.seat.moving (told_before f.ensures.same f.ensures.step) (opens q) is in
     let last = course_next g.T.Kept.follows g.T.Kept.fits s.table_seat.number (made_of 0 t ps LockCountAdd) s.table_seat.moving s.table_seat.place.me.0 f.new.seat.place.table_id.words f.new.seat.place.id s.table_seat.limits q h.result f.new.seat.place.me f.new.seat.moving h.new.seat.place.me h.new.seat.moving h.new.seat.place.table_id.words h.new.seat.place.id (stepped_by q s.table_seat.number h.result (oldest_in h.new.seat.moving))
     first between (told_before (same_then f.ensures.same h.ensures.same) h.ensures.step) refl (λ e. cc) refl in
-    subst (λ (x : SeatState). ComesTo g.T.Kept.follows g.T.Kept.fits c.args.mutex.now.limits Call.Lock (sight_of s.table_seat.number s.standing s.table_seat.place.me.0 (value_in s.table_seat.moving)) (sight_of h.new.seat.number x h.new.seat.place.me.0 (value_in h.new.seat.moving)) (Ended (Answer.Asked (Asked.Held How.Free))))
+    subst (λ (x : SeatState). ComesTo g.T.Kept.follows g.T.Kept.fits c.args.mutex.now.limits Call.Lock (sight_of s.table_seat.number s.state s.table_seat.place.me.0 (value_in s.table_seat.moving)) (sight_of h.new.seat.number x h.new.seat.place.me.0 (value_in h.new.seat.moving)) (Ended (Answer.Asked (Asked.Held How.Free))))
     (λ i. record { depth = 1; takes = t; posts = ps; point = sym c.requires.rests i })
-    (comes g.T.Kept.follows g.T.Kept.fits s.table_seat.number (made_of 0 t ps LockCountAdd) s.table_seat.moving s.table_seat.place.me.0 h.new.seat.number s.table_seat.limits c.args.mutex.now.limits Call.Lock s.standing (made_of 1 t ps Rest) (Ended (Answer.Asked (Asked.Held How.Free))) h.new.seat.moving h.new.seat.place.me.0 c.requires.belongs.1 (same_then f.ensures.same h.ensures.same).0 refl begins refl last)
+    (comes g.T.Kept.follows g.T.Kept.fits s.table_seat.number (made_of 0 t ps LockCountAdd) s.table_seat.moving s.table_seat.place.me.0 h.new.seat.number s.table_seat.limits c.args.mutex.now.limits Call.Lock s.state (made_of 1 t ps Rest) (Ended (Answer.Asked (Asked.Held How.Free))) h.new.seat.moving h.new.seat.place.me.0 c.requires.belongs.1 (same_then f.ensures.same h.ensures.same).0 refl begins refl last)
 
 pub returns-then-found-ne0-clause-bounded : goal.returns-then-found-ne0-clause-bounded
 returns-then-found-ne0-clause-bounded g c =
-    let s = c.args.seat.now in let t = s.standing.takes + 1 in let ps = s.standing.posts in let n = s.table_seat.limits.seats in
+    let s = c.args.seat.now in let t = s.state.takes + 1 in let ps = s.state.posts in let n = s.table_seat.limits.seats in
     let p0 = made_of 0 t ps LockCountAdd in
     let f = c.gain-found in let r = c.queue.new.seat in
     let st = stepped_by p0 s.table_seat.number f.result (oldest_in f.new.seat.moving) in
@@ -71,7 +71,7 @@ returns-then-found-ne0-clause-bounded g c =
 
 pub returns-clause-bounded : goal.returns-clause-bounded
 returns-clause-bounded g c =
-    let s = c.args.seat.now in let t = s.standing.takes + 1 in let ps = s.standing.posts in
+    let s = c.args.seat.now in let t = s.state.takes + 1 in let ps = s.state.posts in
     let p0 = made_of 0 t ps LockCountAdd in let q = made_of 0 t ps (EnterOwnerStore Entrant.Locker How.Free) in
     let f = c.gain-found in let h = c.keep_held in
     let st = stepped_by p0 s.table_seat.number f.result (oldest_in f.new.seat.moving) in
@@ -82,7 +82,7 @@ returns-clause-bounded g c =
 
 pub invariant_of-seat-2 : goal.invariant_of-seat-2
 invariant_of-seat-2 g c =
-    let s = c.args.seat.now in let t = s.standing.takes + 1 in let ps = s.standing.posts in
+    let s = c.args.seat.now in let t = s.state.takes + 1 in let ps = s.state.posts in
     let f = c.gain-found in let h = c.keep_held in
     let fit = subst (λ (x : SeatState). SeatFits h.new.seat x) (λ i. record { depth = 1; takes = t; posts = ps; point = sym c.requires.rests i }) h.ensures.step.fit in
     record { seated = fit.seated; became = fit.became; ready = fit.ready; rooted = fit.rooted }

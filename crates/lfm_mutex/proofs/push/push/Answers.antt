@@ -16,16 +16,16 @@ use Rattle.lfm_mutex.proofs.runs.PushPoints.{exchanged, exchanged_not, found_non
 use Rattle.lfm_mutex.proofs.push.push.Goals as goal
 
 pub keep-handoff-requires-clause-stays : goal.keep-handoff-requires-clause-stays
-keep-handoff-requires-clause-stays g c κs within = let x = c.args.standing.now in
+keep-handoff-requires-clause-stays g c κs within = let x = c.args.state.now in
     λ n. handoff_stays c.args.pusher x.depth x.takes x.posts c.keep-found.new.seat.number n None
 
 pub keep-word-requires-clause-fit : goal.keep-word-requires-clause-fit
-keep-word-requires-clause-fit g c κs within = let s = c.args.seat.now in let x = c.args.standing.now in
+keep-word-requires-clause-fit g c κs within = let s = c.args.seat.now in let x = c.args.state.now in
     subst (λ (z : Point). SeatFits s (made_of x.depth x.takes x.posts z)) c.requires.stands c.requires.fit
 
 pub returns-then-found-word-clause-fit : goal.returns-then-found-word-clause-fit
 returns-then-found-word-clause-fit g c =
-    let x = c.args.standing.now in let u = c.args.pusher in
+    let x = c.args.state.now in let u = c.args.pusher in
     let w = c.keep-word in let old = c.unpack_link-seen in let f = c.keep-found in
     subst (λ (z : Stepped). SeatFits f.new.seat z.seat)
     (ap (λ (z : Link). stepped_by (made_of x.depth x.takes x.posts (PushExchange u z)) f.new.seat.number f.result (oldest_in f.new.seat.moving)) old.ensures.holds
@@ -33,19 +33,19 @@ returns-then-found-word-clause-fit g c =
 
 pub returns-then-is_posted_in-clause-fit : goal.returns-then-is_posted_in-clause-fit
 returns-then-is_posted_in-clause-fit g c =
-    let x = c.args.standing.now in let u = c.args.pusher in let k = c.keep-handoff in
+    let x = c.args.state.now in let u = c.args.pusher in let k = c.keep-handoff in
     subst (λ (z : Stepped). SeatFits k.new.seat z.seat)
     (found_one u x.depth x.takes x.posts k.new.seat.number k.result (oldest_in k.new.seat.moving) (sym c.is_posted_in.ensures ∙ c.if-is_posted_in.true)) k.ensures.step.fit
 
 pub returns-clause-fit : goal.returns-clause-fit
 returns-clause-fit g c =
-    let x = c.args.standing.now in let u = c.args.pusher in let k = c.keep-handoff in
+    let x = c.args.state.now in let u = c.args.pusher in let k = c.keep-handoff in
     subst (λ (z : Stepped). SeatFits k.new.seat z.seat)
     (found_none u x.depth x.takes x.posts k.new.seat.number k.result (oldest_in k.new.seat.moving) (sym c.is_posted_in.ensures ∙ c.if-is_posted_in.false) ∙ queued_end x u) k.ensures.step.fit
 
 pub returns-then-found-word-clause-made : goal.returns-then-found-word-clause-made
 returns-then-found-word-clause-made g c =
-    let s = c.args.seat.now in let x = c.args.standing.now in let u = c.args.pusher in
+    let s = c.args.seat.now in let x = c.args.state.now in let u = c.args.pusher in
     let w = c.keep-word in let old = c.unpack_link-seen in let k = c.keep in let f = c.keep-found in
     let to2 = same_then w.ensures.same k.ensures.same in let to3 = same_then to2 f.ensures.same in
     let so = pushes_by x u old.result (opens (made_of x.depth x.takes x.posts (LinkStore u (link_of f.result)))) c.requires.stands c.requires.fit (told_before w.ensures.same w.ensures.step) old.ensures.holds (told_before to2 k.ensures.step) (told_before to3 f.ensures.step)
@@ -54,7 +54,7 @@ returns-then-found-word-clause-made g c =
 
 pub returns-then-is_posted_in-clause-made : goal.returns-then-is_posted_in-clause-made
 returns-then-is_posted_in-clause-made g c =
-    let s = c.args.seat.now in let x = c.args.standing.now in let u = c.args.pusher in
+    let s = c.args.seat.now in let x = c.args.state.now in let u = c.args.pusher in
     let w = c.keep-word in let old = c.unpack_link-seen in let l = c.keep in let f = c.keep-found in let k = c.keep-handoff in
     let to2 = same_then w.ensures.same l.ensures.same in let to3 = same_then to2 f.ensures.same in let to4 = same_then to3 k.ensures.same in
     let so = pushes_by x u old.result (opens (made_of x.depth x.takes x.posts (PushedHandoffLoad u))) c.requires.stands c.requires.fit (told_before w.ensures.same w.ensures.step) old.ensures.holds (told_before to2 l.ensures.step) (told_before to3 f.ensures.step)
@@ -65,7 +65,7 @@ returns-then-is_posted_in-clause-made g c =
 
 pub returns-clause-made : goal.returns-clause-made
 returns-clause-made g c =
-    let s = c.args.seat.now in let x = c.args.standing.now in let u = c.args.pusher in
+    let s = c.args.seat.now in let x = c.args.state.now in let u = c.args.pusher in
     let w = c.keep-word in let old = c.unpack_link-seen in let l = c.keep in let f = c.keep-found in let k = c.keep-handoff in
     let to2 = same_then w.ensures.same l.ensures.same in let to3 = same_then to2 f.ensures.same in let to4 = same_then to3 k.ensures.same in
     let at = made_of x.depth x.takes x.posts (PushedHandoffLoad u) in

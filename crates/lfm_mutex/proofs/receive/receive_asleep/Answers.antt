@@ -24,23 +24,23 @@ use Rattle.lfm_mutex.proofs.receive.receive_asleep.Goals as goal
 
 pub returns-then-not-is_grant_word-clause-made : goal.returns-then-not-is_grant_word-clause-made
 returns-then-not-is_grant_word-clause-made g c =
-    let s = c.args.seat.now in let t = s.standing.takes in let ps = s.standing.posts in let w = c.args.sleeper in
+    let s = c.args.seat.now in let t = s.state.takes in let ps = s.state.posts in let w = c.args.sleeper in
     let p0 = made_of 0 t ps (ReceiveWakeLoad w) in
-    let begins = begins_receive s.standing s.table_seat.limits w c.requires.sleeps c.requires.flat in
-    let fit = fit_begun s.table_seat.number s.table_seat.place.table_id.words s.table_seat.place.id s.table_seat.limits s.table_seat.place.me s.table_seat.moving s.standing p0 Call.Receive (record { seated = s.seated; became = s.became; ready = s.ready; rooted = s.rooted }) begins in
+    let begins = begins_receive s.state s.table_seat.limits w c.requires.sleeps c.requires.flat in
+    let fit = fit_begun s.table_seat.number s.table_seat.place.table_id.words s.table_seat.place.id s.table_seat.limits s.table_seat.place.me s.table_seat.moving s.state p0 Call.Receive (record { seated = s.seated; became = s.became; ready = s.ready; rooted = s.rooted }) begins in
     let f = c.gain_by_grant-found in let q = made_of 0 t ps (Asleep w) in let turn = Ended (Answer.Got None) in
     let is = not_granted t ps s.table_seat.number f.result (oldest_in f.new.seat.moving) w (omega (arith, leb-false 3 f.result (sym c.if-not-is_grant_word.ensures))) in
     let first = course_next g.T.Kept.follows g.T.Kept.fits s.table_seat.number p0 s.table_seat.moving s.table_seat.place.me.0 s.table_seat.place.table_id.words s.table_seat.place.id s.table_seat.limits p0 f.result s.table_seat.place.me s.table_seat.moving f.new.seat.place.me f.new.seat.moving f.new.seat.place.table_id.words f.new.seat.place.id (record { seat = q; turn = turn }) (course_none g.T.Kept.follows g.T.Kept.fits s.table_seat.number p0 s.table_seat.moving s.table_seat.place.me.0) fit (told_before f.ensures.same f.ensures.step) is (λ e. cc) refl in
-    subst (λ (x : SeatState). ComesTo g.T.Kept.follows g.T.Kept.fits c.args.mutex.now.limits Call.Receive (sight_of s.table_seat.number s.standing s.table_seat.place.me.0 (value_in s.table_seat.moving)) (sight_of f.new.seat.number x f.new.seat.place.me.0 (value_in f.new.seat.moving)) turn)
+    subst (λ (x : SeatState). ComesTo g.T.Kept.follows g.T.Kept.fits c.args.mutex.now.limits Call.Receive (sight_of s.table_seat.number s.state s.table_seat.place.me.0 (value_in s.table_seat.moving)) (sight_of f.new.seat.number x f.new.seat.place.me.0 (value_in f.new.seat.moving)) turn)
     (λ i. record { depth = sym c.requires.flat i; takes = t; posts = ps; point = sym c.requires.sleeps i })
-    (comes g.T.Kept.follows g.T.Kept.fits s.table_seat.number p0 s.table_seat.moving s.table_seat.place.me.0 f.new.seat.number s.table_seat.limits c.args.mutex.now.limits Call.Receive s.standing q turn f.new.seat.moving f.new.seat.place.me.0 c.requires.belongs.1 f.ensures.same.0 refl begins refl first)
+    (comes g.T.Kept.follows g.T.Kept.fits s.table_seat.number p0 s.table_seat.moving s.table_seat.place.me.0 f.new.seat.number s.table_seat.limits c.args.mutex.now.limits Call.Receive s.state q turn f.new.seat.moving f.new.seat.place.me.0 c.requires.belongs.1 f.ensures.same.0 refl begins refl first)
 
 pub returns-clause-made : goal.returns-clause-made
 returns-clause-made g c =
-    let s = c.args.seat.now in let t = s.standing.takes in let ps = s.standing.posts in let w = c.args.sleeper in
+    let s = c.args.seat.now in let t = s.state.takes in let ps = s.state.posts in let w = c.args.sleeper in
     let p0 = made_of 0 t ps (ReceiveWakeLoad w) in
-    let begins = begins_receive s.standing s.table_seat.limits w c.requires.sleeps c.requires.flat in
-    let fit = fit_begun s.table_seat.number s.table_seat.place.table_id.words s.table_seat.place.id s.table_seat.limits s.table_seat.place.me s.table_seat.moving s.standing p0 Call.Receive (record { seated = s.seated; became = s.became; ready = s.ready; rooted = s.rooted }) begins in
+    let begins = begins_receive s.state s.table_seat.limits w c.requires.sleeps c.requires.flat in
+    let fit = fit_begun s.table_seat.number s.table_seat.place.table_id.words s.table_seat.place.id s.table_seat.limits s.table_seat.place.me s.table_seat.moving s.state p0 Call.Receive (record { seated = s.seated; became = s.became; ready = s.ready; rooted = s.rooted }) begins in
     let f = c.gain_by_grant-found in let h = c.keep in let k = c.keep_held in
     let stamp = c.grant_stamp-stamp.result in let how = c.how_granted-how.result in
     let p1 = made_of 0 t ps (ReceiveWakeStore stamp) in let p2 = made_of 0 t ps (EnterOwnerStore Entrant.Receiver how) in
@@ -51,7 +51,7 @@ returns-clause-made g c =
     let second = course_next g.T.Kept.follows g.T.Kept.fits s.table_seat.number p0 s.table_seat.moving s.table_seat.place.me.0 f.new.seat.place.table_id.words f.new.seat.place.id s.table_seat.limits p1 h.result f.new.seat.place.me f.new.seat.moving h.new.seat.place.me h.new.seat.moving h.new.seat.place.table_id.words h.new.seat.place.id (opens p2) first fit1 (told_before (same_then f.ensures.same h.ensures.same) h.ensures.step) is2 (λ e. cc) refl in
     let fit2 = fit_after g.T.Kept.follows g.T.Kept.fits s.table_seat.number h.new.seat.place.table_id.words h.new.seat.place.id s.table_seat.limits p1 h.result f.new.seat.place.me f.new.seat.moving h.new.seat.place.me h.new.seat.moving (told_before (same_then f.ensures.same h.ensures.same) h.ensures.step) (opens p2) is2 in
     let third = course_next g.T.Kept.follows g.T.Kept.fits s.table_seat.number p0 s.table_seat.moving s.table_seat.place.me.0 h.new.seat.place.table_id.words h.new.seat.place.id s.table_seat.limits p2 k.result h.new.seat.place.me h.new.seat.moving k.new.seat.place.me k.new.seat.moving k.new.seat.place.table_id.words k.new.seat.place.id (stepped_by p2 s.table_seat.number k.result (oldest_in k.new.seat.moving)) second fit2 (told_before (same_then (same_then f.ensures.same h.ensures.same) k.ensures.same) k.ensures.step) refl (λ e. cc) refl in
-    comes g.T.Kept.follows g.T.Kept.fits s.table_seat.number p0 s.table_seat.moving s.table_seat.place.me.0 k.new.seat.number s.table_seat.limits c.args.mutex.now.limits Call.Receive s.standing (made_of 1 t ps Rest) (Ended (Answer.Got (Some how))) k.new.seat.moving k.new.seat.place.me.0 c.requires.belongs.1 (same_then (same_then f.ensures.same h.ensures.same) k.ensures.same).0 refl begins refl third
+    comes g.T.Kept.follows g.T.Kept.fits s.table_seat.number p0 s.table_seat.moving s.table_seat.place.me.0 k.new.seat.number s.table_seat.limits c.args.mutex.now.limits Call.Receive s.state (made_of 1 t ps Rest) (Ended (Answer.Got (Some how))) k.new.seat.moving k.new.seat.place.me.0 c.requires.belongs.1 (same_then (same_then f.ensures.same h.ensures.same) k.ensures.same).0 refl begins refl third
 
 pub returns-then-not-is_grant_word-clause-run : goal.returns-then-not-is_grant_word-clause-run
 returns-then-not-is_grant_word-clause-run g c = run_made c.gain_by_grant-found.ensures.step

@@ -18,7 +18,7 @@ use Rattle.lfm_mutex.proofs.runs.WakeUps.{wakes_none}
 use Rattle.lfm_mutex.proofs.send.queue_target.Goals as goal
 
 pub push-requires-clause-fit : goal.push-requires-clause-fit
-push-requires-clause-fit g c κs within = let s = c.args.seat.now in let x = s.standing in
+push-requires-clause-fit g c κs within = let s = c.args.seat.now in let x = s.state in
     subst (λ (z : Point). SeatFits s.table_seat (made_of x.depth x.takes x.posts z)) c.requires.stands (record { seated = s.seated; became = s.became; ready = s.ready; rooted = s.rooted })
 
 -- the seat stands there already
@@ -27,13 +27,13 @@ stands {u} x at = λ i. record { depth = x.depth; takes = x.takes; posts = x.pos
 
 pub returns-in-Queued-clause-made : goal.returns-in-Queued-clause-made
 returns-in-Queued-clause-made g c = let s = c.args.seat.now in let p = c.push in
-    subst (λ (z : SeatState). Course g.T.Kept.follows g.T.Kept.fits s.table_seat.number z s.table_seat.moving s.table_seat.place.me.0 (Ended Answer.Sent) (record s.standing { point = Rest }) p.new.seat.moving p.new.seat.place.me.0) (sym (stands c.args.seat.now.standing c.requires.stands)) c.in-Queued.ensures.made.course
+    subst (λ (z : SeatState). Course g.T.Kept.follows g.T.Kept.fits s.table_seat.number z s.table_seat.moving s.table_seat.place.me.0 (Ended Answer.Sent) (record s.state { point = Rest }) p.new.seat.moving p.new.seat.place.me.0) (sym (stands c.args.seat.now.state c.requires.stands)) c.in-Queued.ensures.made.course
 
 pub returns-in-Queued-clause-spends : goal.returns-in-Queued-clause-spends
 returns-in-Queued-clause-spends g c =
     let s = c.args.seat.now in let p = c.push in let n = s.table_seat.limits.seats in
     let all = due n (length s.table_seat.place.me.0.popped) (PushLoad (Pusher.Sender c.args.target)) in
-    subst (λ (z : SeatState). Spends (due n (length s.table_seat.place.me.0.popped) z.point) 0 s.table_seat.place.me.0.trail p.new.seat.place.me.0.trail) (sym (stands c.args.seat.now.standing c.requires.stands))
+    subst (λ (z : SeatState). Spends (due n (length s.table_seat.place.me.0.popped) z.point) 0 s.table_seat.place.me.0.trail p.new.seat.place.me.0.trail) (sym (stands c.args.seat.now.state c.requires.stands))
     (spends_within all all (due n (length p.new.seat.place.me.0.popped) Rest) 0 s.table_seat.place.me.0.trail p.new.seat.place.me.0.trail (omega arith) (omega arith) c.in-Queued.ensures.made.spends)
 
 pub returns-in-Queued-clause-wakes : goal.returns-in-Queued-clause-wakes
@@ -42,17 +42,17 @@ returns-in-Queued-clause-wakes g c = let s = c.args.seat.now in wakes_none s.tab
 pub returns-in-Stopped-clause-made : goal.returns-in-Stopped-clause-made
 returns-in-Stopped-clause-made g c =
     let s = c.args.seat.now in let p = c.push in let on = c.finish_send in
-    let so = subst (λ (z : SeatState). PlainCourse g.T.Kept.follows g.T.Kept.fits s.table_seat.number s.table_seat.limits.seats z s.table_seat.moving s.table_seat.place.me.0 Open (record s.standing { point = push_stop_point (Pusher.Sender c.args.target) c.in-Stopped.stop }) p.new.seat.moving p.new.seat.place.me.0) (sym (stands s.standing c.requires.stands)) c.in-Stopped.ensures.made in
+    let so = subst (λ (z : SeatState). PlainCourse g.T.Kept.follows g.T.Kept.fits s.table_seat.number s.table_seat.limits.seats z s.table_seat.moving s.table_seat.place.me.0 Open (record s.state { point = push_stop_point (Pusher.Sender c.args.target) c.in-Stopped.stop }) p.new.seat.moving p.new.seat.place.me.0) (sym (stands s.state c.requires.stands)) c.in-Stopped.ensures.made in
     rest_course so c.stop_at_push.ensures p.ensures.same on.ensures.made
 
 pub returns-in-Stopped-clause-spends : goal.returns-in-Stopped-clause-spends
 returns-in-Stopped-clause-spends g c =
     let s = c.args.seat.now in let p = c.push in let on = c.finish_send in
-    let so = subst (λ (z : SeatState). PlainCourse g.T.Kept.follows g.T.Kept.fits s.table_seat.number s.table_seat.limits.seats z s.table_seat.moving s.table_seat.place.me.0 Open (record s.standing { point = push_stop_point (Pusher.Sender c.args.target) c.in-Stopped.stop }) p.new.seat.moving p.new.seat.place.me.0) (sym (stands s.standing c.requires.stands)) c.in-Stopped.ensures.made in
+    let so = subst (λ (z : SeatState). PlainCourse g.T.Kept.follows g.T.Kept.fits s.table_seat.number s.table_seat.limits.seats z s.table_seat.moving s.table_seat.place.me.0 Open (record s.state { point = push_stop_point (Pusher.Sender c.args.target) c.in-Stopped.stop }) p.new.seat.moving p.new.seat.place.me.0) (sym (stands s.state c.requires.stands)) c.in-Stopped.ensures.made in
     rest_spends so c.stop_at_push.ensures p.ensures.same on.ensures.spends
 
 pub returns-in-Stopped-clause-wakes : goal.returns-in-Stopped-clause-wakes
 returns-in-Stopped-clause-wakes g c =
     let s = c.args.seat.now in let p = c.push in let on = c.finish_send in
-    let so = subst (λ (z : SeatState). PlainCourse g.T.Kept.follows g.T.Kept.fits s.table_seat.number s.table_seat.limits.seats z s.table_seat.moving s.table_seat.place.me.0 Open (record s.standing { point = push_stop_point (Pusher.Sender c.args.target) c.in-Stopped.stop }) p.new.seat.moving p.new.seat.place.me.0) (sym (stands s.standing c.requires.stands)) c.in-Stopped.ensures.made in
+    let so = subst (λ (z : SeatState). PlainCourse g.T.Kept.follows g.T.Kept.fits s.table_seat.number s.table_seat.limits.seats z s.table_seat.moving s.table_seat.place.me.0 Open (record s.state { point = push_stop_point (Pusher.Sender c.args.target) c.in-Stopped.stop }) p.new.seat.moving p.new.seat.place.me.0) (sym (stands s.state c.requires.stands)) c.in-Stopped.ensures.made in
     rest_wakes so c.stop_at_push.ensures p.ensures.same on.result.1 on.ensures.wakes

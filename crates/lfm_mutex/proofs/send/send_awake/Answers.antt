@@ -28,23 +28,23 @@ use Rattle.lfm_mutex.proofs.send.send_awake.Goals as goal
 
 pub returns-then-found-waiting-clause-made : goal.returns-then-found-waiting-clause-made
 returns-then-found-waiting-clause-made g c =
-    let s = c.args.seat.now in let d = s.standing.depth in let t = s.standing.takes in let ps = s.standing.posts in let a = s.table_seat.moving in let u = c.args.target in let f = c.keep-found in let b = f.new.seat.moving in
+    let s = c.args.seat.now in let d = s.state.depth in let t = s.state.takes in let ps = s.state.posts in let a = s.table_seat.moving in let u = c.args.target in let f = c.keep-found in let b = f.new.seat.moving in
     let p0 = made_of d t ps (SendWakeExchange u) in
-    let begins = begins_send s.standing s.table_seat.limits u c.requires.rests c.requires.above c.requires.within in
-    let fit = fit_begun s.table_seat.number s.table_seat.place.table_id.words s.table_seat.place.id s.table_seat.limits s.table_seat.place.me a s.standing p0 (Call.SendLock u) (record { seated = s.seated; became = s.became; ready = s.ready; rooted = s.rooted }) begins in
+    let begins = begins_send s.state s.table_seat.limits u c.requires.rests c.requires.above c.requires.within in
+    let fit = fit_begun s.table_seat.number s.table_seat.place.table_id.words s.table_seat.place.id s.table_seat.limits s.table_seat.place.me a s.state p0 (Call.SendLock u) (record { seated = s.seated; became = s.became; ready = s.ready; rooted = s.rooted }) begins in
     let q = made_of d t ps Rest in let turn = Refused (Why.By Refusal.NotWaiting) in
     let so = course_next g.T.Kept.follows g.T.Kept.fits s.table_seat.number p0 a s.table_seat.place.me.0 s.table_seat.place.table_id.words s.table_seat.place.id s.table_seat.limits p0 f.result s.table_seat.place.me a f.new.seat.place.me b f.new.seat.place.table_id.words f.new.seat.place.id (record { seat = q; turn = turn })
     (course_none g.T.Kept.follows g.T.Kept.fits s.table_seat.number p0 a s.table_seat.place.me.0) fit (told_before f.ensures.same f.ensures.step) (waits_not d t ps s.table_seat.number f.result u (oldest_in b) (λ e. c.if-found-waiting.true (e ∙ sym c.to_word-waiting.ensures))) (λ e. cc) refl in
-    subst (λ (x : SeatState). ComesTo g.T.Kept.follows g.T.Kept.fits c.args.mutex.now.limits (Call.SendLock u) (sight_of s.table_seat.number s.standing s.table_seat.place.me.0 (value_in a)) (sight_of f.new.seat.number x f.new.seat.place.me.0 (value_in b)) turn)
+    subst (λ (x : SeatState). ComesTo g.T.Kept.follows g.T.Kept.fits c.args.mutex.now.limits (Call.SendLock u) (sight_of s.table_seat.number s.state s.table_seat.place.me.0 (value_in a)) (sight_of f.new.seat.number x f.new.seat.place.me.0 (value_in b)) turn)
     (λ i. record { depth = d; takes = t; posts = ps; point = sym c.requires.rests i })
-    (comes g.T.Kept.follows g.T.Kept.fits s.table_seat.number p0 a s.table_seat.place.me.0 f.new.seat.number s.table_seat.limits c.args.mutex.now.limits (Call.SendLock u) s.standing q turn b f.new.seat.place.me.0 c.requires.belongs.1 f.ensures.same.0 refl begins refl so)
+    (comes g.T.Kept.follows g.T.Kept.fits s.table_seat.number p0 a s.table_seat.place.me.0 f.new.seat.number s.table_seat.limits c.args.mutex.now.limits (Call.SendLock u) s.state q turn b f.new.seat.place.me.0 c.requires.belongs.1 f.ensures.same.0 refl begins refl so)
 
 pub returns-then-found-waiting-clause-bounded : goal.returns-then-found-waiting-clause-bounded
 returns-then-found-waiting-clause-bounded g c =
-    let s = c.args.seat.now in let d = s.standing.depth in let t = s.standing.takes in let ps = s.standing.posts in let a = s.table_seat.moving in let u = c.args.target in let f = c.keep-found in let b = f.new.seat.moving in
+    let s = c.args.seat.now in let d = s.state.depth in let t = s.state.takes in let ps = s.state.posts in let a = s.table_seat.moving in let u = c.args.target in let f = c.keep-found in let b = f.new.seat.moving in
     let p0 = made_of d t ps (SendWakeExchange u) in
-    let begins = begins_send s.standing s.table_seat.limits u c.requires.rests c.requires.above c.requires.within in
-    let fit = fit_begun s.table_seat.number s.table_seat.place.table_id.words s.table_seat.place.id s.table_seat.limits s.table_seat.place.me a s.standing p0 (Call.SendLock u) (record { seated = s.seated; became = s.became; ready = s.ready; rooted = s.rooted }) begins in
+    let begins = begins_send s.state s.table_seat.limits u c.requires.rests c.requires.above c.requires.within in
+    let fit = fit_begun s.table_seat.number s.table_seat.place.table_id.words s.table_seat.place.id s.table_seat.limits s.table_seat.place.me a s.state p0 (Call.SendLock u) (record { seated = s.seated; became = s.became; ready = s.ready; rooted = s.rooted }) begins in
     let st = stepped_by p0 s.table_seat.number f.result (oldest_in b) in
     spent 1 (c.args.mutex.now.limits.seats + 9) s.table_seat.place.me.0.trail f.new.seat.place.me.0.trail (omega arith) (spends_any g.T.Kept.follows g.T.Kept.fits p0 st.seat s.table_seat.place.me.0 f.new.seat.place.me.0 a b st.turn (told_before f.ensures.same f.ensures.step).event 0)
 
@@ -54,22 +54,22 @@ returns-then-found-waiting-clause-wakes g c = let s = c.args.seat.now in let f =
 
 pub returns-then-seat-eq0-clause-made : goal.returns-then-seat-eq0-clause-made
 returns-then-seat-eq0-clause-made g c =
-    let s = c.args.seat.now in let d = s.standing.depth in let t = s.standing.takes in let ps = s.standing.posts in let a = s.table_seat.moving in let u = c.args.target in let f = c.keep-found in let b = f.new.seat.moving in
+    let s = c.args.seat.now in let d = s.state.depth in let t = s.state.takes in let ps = s.state.posts in let a = s.table_seat.moving in let u = c.args.target in let f = c.keep-found in let b = f.new.seat.moving in
     let p0 = made_of d t ps (SendWakeExchange u) in
-    let begins = begins_send s.standing s.table_seat.limits u c.requires.rests c.requires.above c.requires.within in
-    let fit = fit_begun s.table_seat.number s.table_seat.place.table_id.words s.table_seat.place.id s.table_seat.limits s.table_seat.place.me a s.standing p0 (Call.SendLock u) (record { seated = s.seated; became = s.became; ready = s.ready; rooted = s.rooted }) begins in
+    let begins = begins_send s.state s.table_seat.limits u c.requires.rests c.requires.above c.requires.within in
+    let fit = fit_begun s.table_seat.number s.table_seat.place.table_id.words s.table_seat.place.id s.table_seat.limits s.table_seat.place.me a s.state p0 (Call.SendLock u) (record { seated = s.seated; became = s.became; ready = s.ready; rooted = s.rooted }) begins in
     let q = made_of d t ps (SendCountAdd u) in let on = c.send_without_hold in let r = on.new.seat in
     let so = course_next g.T.Kept.follows g.T.Kept.fits s.table_seat.number p0 a s.table_seat.place.me.0 s.table_seat.place.table_id.words s.table_seat.place.id s.table_seat.limits p0 f.result s.table_seat.place.me a f.new.seat.place.me b f.new.seat.place.table_id.words f.new.seat.place.id (opens q)
     (course_none g.T.Kept.follows g.T.Kept.fits s.table_seat.number p0 a s.table_seat.place.me.0) fit (told_before f.ensures.same f.ensures.step) (claims_it d t ps s.table_seat.number f.result u (oldest_in b) (c.if-found-waiting.false ∙ c.to_word-waiting.ensures)) (λ e. cc) refl in
-    comes g.T.Kept.follows g.T.Kept.fits s.table_seat.number p0 a s.table_seat.place.me.0 r.table_seat.number s.table_seat.limits c.args.mutex.now.limits (Call.SendLock u) s.standing r.standing (send_turn on.result.0) r.table_seat.moving r.table_seat.place.me.0 c.requires.belongs.1 (on.ensures.same.0 ∙ f.ensures.same.0) refl begins on.ensures.ends
-    (course_join g.T.Kept.follows g.T.Kept.fits s.table_seat.number p0 a s.table_seat.place.me.0 q r.standing b r.table_seat.moving f.new.seat.place.me.0 r.table_seat.place.me.0 (send_turn on.result.0) so (course_same f.ensures.same.0 on.ensures.made))
+    comes g.T.Kept.follows g.T.Kept.fits s.table_seat.number p0 a s.table_seat.place.me.0 r.table_seat.number s.table_seat.limits c.args.mutex.now.limits (Call.SendLock u) s.state r.state (send_turn on.result.0) r.table_seat.moving r.table_seat.place.me.0 c.requires.belongs.1 (on.ensures.same.0 ∙ f.ensures.same.0) refl begins on.ensures.ends
+    (course_join g.T.Kept.follows g.T.Kept.fits s.table_seat.number p0 a s.table_seat.place.me.0 q r.state b r.table_seat.moving f.new.seat.place.me.0 r.table_seat.place.me.0 (send_turn on.result.0) so (course_same f.ensures.same.0 on.ensures.made))
 
 pub returns-then-seat-eq0-clause-bounded : goal.returns-then-seat-eq0-clause-bounded
 returns-then-seat-eq0-clause-bounded g c =
-    let s = c.args.seat.now in let d = s.standing.depth in let t = s.standing.takes in let ps = s.standing.posts in let a = s.table_seat.moving in let u = c.args.target in let f = c.keep-found in let b = f.new.seat.moving in
+    let s = c.args.seat.now in let d = s.state.depth in let t = s.state.takes in let ps = s.state.posts in let a = s.table_seat.moving in let u = c.args.target in let f = c.keep-found in let b = f.new.seat.moving in
     let p0 = made_of d t ps (SendWakeExchange u) in
-    let begins = begins_send s.standing s.table_seat.limits u c.requires.rests c.requires.above c.requires.within in
-    let fit = fit_begun s.table_seat.number s.table_seat.place.table_id.words s.table_seat.place.id s.table_seat.limits s.table_seat.place.me a s.standing p0 (Call.SendLock u) (record { seated = s.seated; became = s.became; ready = s.ready; rooted = s.rooted }) begins in
+    let begins = begins_send s.state s.table_seat.limits u c.requires.rests c.requires.above c.requires.within in
+    let fit = fit_begun s.table_seat.number s.table_seat.place.table_id.words s.table_seat.place.id s.table_seat.limits s.table_seat.place.me a s.state p0 (Call.SendLock u) (record { seated = s.seated; became = s.became; ready = s.ready; rooted = s.rooted }) begins in
     let on = c.send_without_hold in let r = on.new.seat in let n = s.table_seat.limits.seats in let same = ap (λ l. l.seats) c.requires.belongs.1 in
     let st = stepped_by p0 s.table_seat.number f.result (oldest_in b) in
     let one = spends_any g.T.Kept.follows g.T.Kept.fits p0 st.seat s.table_seat.place.me.0 f.new.seat.place.me.0 a b st.turn (told_before f.ensures.same f.ensures.step).event (n + 8) in
@@ -83,22 +83,22 @@ returns-then-seat-eq0-clause-wakes g c =
 
 pub returns-clause-made : goal.returns-clause-made
 returns-clause-made g c =
-    let s = c.args.seat.now in let d = s.standing.depth in let t = s.standing.takes in let ps = s.standing.posts in let a = s.table_seat.moving in let u = c.args.target in let f = c.keep-found in let b = f.new.seat.moving in
+    let s = c.args.seat.now in let d = s.state.depth in let t = s.state.takes in let ps = s.state.posts in let a = s.table_seat.moving in let u = c.args.target in let f = c.keep-found in let b = f.new.seat.moving in
     let p0 = made_of d t ps (SendWakeExchange u) in
-    let begins = begins_send s.standing s.table_seat.limits u c.requires.rests c.requires.above c.requires.within in
-    let fit = fit_begun s.table_seat.number s.table_seat.place.table_id.words s.table_seat.place.id s.table_seat.limits s.table_seat.place.me a s.standing p0 (Call.SendLock u) (record { seated = s.seated; became = s.became; ready = s.ready; rooted = s.rooted }) begins in
+    let begins = begins_send s.state s.table_seat.limits u c.requires.rests c.requires.above c.requires.within in
+    let fit = fit_begun s.table_seat.number s.table_seat.place.table_id.words s.table_seat.place.id s.table_seat.limits s.table_seat.place.me a s.state p0 (Call.SendLock u) (record { seated = s.seated; became = s.became; ready = s.ready; rooted = s.rooted }) begins in
     let q = made_of d t ps (SendCountAdd u) in let on = c.send_with_hold in let r = on.new.seat in
     let so = course_next g.T.Kept.follows g.T.Kept.fits s.table_seat.number p0 a s.table_seat.place.me.0 s.table_seat.place.table_id.words s.table_seat.place.id s.table_seat.limits p0 f.result s.table_seat.place.me a f.new.seat.place.me b f.new.seat.place.table_id.words f.new.seat.place.id (opens q)
     (course_none g.T.Kept.follows g.T.Kept.fits s.table_seat.number p0 a s.table_seat.place.me.0) fit (told_before f.ensures.same f.ensures.step) (claims_it d t ps s.table_seat.number f.result u (oldest_in b) (c.if-found-waiting.false ∙ c.to_word-waiting.ensures)) (λ e. cc) refl in
-    comes g.T.Kept.follows g.T.Kept.fits s.table_seat.number p0 a s.table_seat.place.me.0 r.table_seat.number s.table_seat.limits c.args.mutex.now.limits (Call.SendLock u) s.standing r.standing (send_turn on.result.0) r.table_seat.moving r.table_seat.place.me.0 c.requires.belongs.1 (on.ensures.same.0 ∙ f.ensures.same.0) refl begins on.ensures.ends
-    (course_join g.T.Kept.follows g.T.Kept.fits s.table_seat.number p0 a s.table_seat.place.me.0 q r.standing b r.table_seat.moving f.new.seat.place.me.0 r.table_seat.place.me.0 (send_turn on.result.0) so (course_same f.ensures.same.0 on.ensures.made))
+    comes g.T.Kept.follows g.T.Kept.fits s.table_seat.number p0 a s.table_seat.place.me.0 r.table_seat.number s.table_seat.limits c.args.mutex.now.limits (Call.SendLock u) s.state r.state (send_turn on.result.0) r.table_seat.moving r.table_seat.place.me.0 c.requires.belongs.1 (on.ensures.same.0 ∙ f.ensures.same.0) refl begins on.ensures.ends
+    (course_join g.T.Kept.follows g.T.Kept.fits s.table_seat.number p0 a s.table_seat.place.me.0 q r.state b r.table_seat.moving f.new.seat.place.me.0 r.table_seat.place.me.0 (send_turn on.result.0) so (course_same f.ensures.same.0 on.ensures.made))
 
 pub returns-clause-bounded : goal.returns-clause-bounded
 returns-clause-bounded g c =
-    let s = c.args.seat.now in let d = s.standing.depth in let t = s.standing.takes in let ps = s.standing.posts in let a = s.table_seat.moving in let u = c.args.target in let f = c.keep-found in let b = f.new.seat.moving in
+    let s = c.args.seat.now in let d = s.state.depth in let t = s.state.takes in let ps = s.state.posts in let a = s.table_seat.moving in let u = c.args.target in let f = c.keep-found in let b = f.new.seat.moving in
     let p0 = made_of d t ps (SendWakeExchange u) in
-    let begins = begins_send s.standing s.table_seat.limits u c.requires.rests c.requires.above c.requires.within in
-    let fit = fit_begun s.table_seat.number s.table_seat.place.table_id.words s.table_seat.place.id s.table_seat.limits s.table_seat.place.me a s.standing p0 (Call.SendLock u) (record { seated = s.seated; became = s.became; ready = s.ready; rooted = s.rooted }) begins in
+    let begins = begins_send s.state s.table_seat.limits u c.requires.rests c.requires.above c.requires.within in
+    let fit = fit_begun s.table_seat.number s.table_seat.place.table_id.words s.table_seat.place.id s.table_seat.limits s.table_seat.place.me a s.state p0 (Call.SendLock u) (record { seated = s.seated; became = s.became; ready = s.ready; rooted = s.rooted }) begins in
     let on = c.send_with_hold in let r = on.new.seat in let n = s.table_seat.limits.seats in let same = ap (λ l. l.seats) c.requires.belongs.1 in
     let st = stepped_by p0 s.table_seat.number f.result (oldest_in b) in
     let one = spends_any g.T.Kept.follows g.T.Kept.fits p0 st.seat s.table_seat.place.me.0 f.new.seat.place.me.0 a b st.turn (told_before f.ensures.same f.ensures.step).event (n + 8) in

@@ -24,25 +24,25 @@ stands {u} x flat = λ i. record { depth = flat i; takes = x.takes; posts = x.po
 
 pub returns-then-found-ne0-clause-made : goal.returns-then-found-ne0-clause-made
 returns-then-found-ne0-clause-made g c =
-    let s = c.args.seat.now in let x = s.standing in let u = c.args.target in let f = c.gain-found in
+    let s = c.args.seat.now in let x = s.state in let u = c.args.target in let f = c.gain-found in
     let so = counts x 0 (PushLoad (Pusher.Sender u)) c.requires.stands c.requires.flat (record { seated = s.seated; became = s.became; ready = s.ready; rooted = s.rooted }) (told_before f.ensures.same f.ensures.step) (counted_some 0 x.takes x.posts s.table_seat.number f.result u (oldest_in f.new.seat.moving) c.if-found-ne0.true) in
     rest_course so.plain (stands x c.requires.flat) f.ensures.same c.queue_target.ensures.made
 
 pub returns-then-found-ne0-clause-spends : goal.returns-then-found-ne0-clause-spends
 returns-then-found-ne0-clause-spends g c =
-    let s = c.args.seat.now in let x = s.standing in let u = c.args.target in let f = c.gain-found in
+    let s = c.args.seat.now in let x = s.state in let u = c.args.target in let f = c.gain-found in
     let so = counts x 0 (PushLoad (Pusher.Sender u)) c.requires.stands c.requires.flat (record { seated = s.seated; became = s.became; ready = s.ready; rooted = s.rooted }) (told_before f.ensures.same f.ensures.step) (counted_some 0 x.takes x.posts s.table_seat.number f.result u (oldest_in f.new.seat.moving) c.if-found-ne0.true) in
     rest_spends so.plain (stands x c.requires.flat) f.ensures.same c.queue_target.ensures.spends
 
 pub returns-then-found-ne0-clause-wakes : goal.returns-then-found-ne0-clause-wakes
 returns-then-found-ne0-clause-wakes g c =
-    let s = c.args.seat.now in let x = s.standing in let u = c.args.target in let f = c.gain-found in
+    let s = c.args.seat.now in let x = s.state in let u = c.args.target in let f = c.gain-found in
     let so = counts x 0 (PushLoad (Pusher.Sender u)) c.requires.stands c.requires.flat (record { seated = s.seated; became = s.became; ready = s.ready; rooted = s.rooted }) (told_before f.ensures.same f.ensures.step) (counted_some 0 x.takes x.posts s.table_seat.number f.result u (oldest_in f.new.seat.moving) c.if-found-ne0.true) in
     rest_wakes so.plain (stands x c.requires.flat) f.ensures.same c.queue_target.result.1 c.queue_target.ensures.wakes
 
 pub returns-clause-made : goal.returns-clause-made
 returns-clause-made g c =
-    let s = c.args.seat.now in let x = s.standing in let u = c.args.target in let f = c.gain-found in
+    let s = c.args.seat.now in let x = s.state in let u = c.args.target in let f = c.gain-found in
     let so = counts x 0 (SendWakeStore u) c.requires.stands c.requires.flat (record { seated = s.seated; became = s.became; ready = s.ready; rooted = s.rooted }) (told_before f.ensures.same f.ensures.step) (counted_none 0 x.takes x.posts s.table_seat.number f.result u (oldest_in f.new.seat.moving) c.if-found-ne0.false) in
     let p1 = made_of 0 x.takes x.posts (SendWakeStore u) in let k = c.grant-wake_up in let did = told_before (same_then f.ensures.same k.ensures.same) k.ensures.step.1 in
     let last = course_next g.T.Kept.follows g.T.Kept.fits s.table_seat.number x s.table_seat.moving s.table_seat.place.me.0 so.words so.id s.table_seat.limits p1 k.ensures.step.0 f.new.seat.place.me f.new.seat.moving k.new.seat.place.me k.new.seat.moving k.new.seat.place.table_id.words k.new.seat.place.id
@@ -52,7 +52,7 @@ returns-clause-made g c =
 
 pub returns-clause-spends : goal.returns-clause-spends
 returns-clause-spends g c =
-    let s = c.args.seat.now in let x = s.standing in let u = c.args.target in let f = c.gain-found in
+    let s = c.args.seat.now in let x = s.state in let u = c.args.target in let f = c.gain-found in
     let so = counts x 0 (SendWakeStore u) c.requires.stands c.requires.flat (record { seated = s.seated; became = s.became; ready = s.ready; rooted = s.rooted }) (told_before f.ensures.same f.ensures.step) (counted_none 0 x.takes x.posts s.table_seat.number f.result u (oldest_in f.new.seat.moving) c.if-found-ne0.false) in
     let p1 = made_of 0 x.takes x.posts (SendWakeStore u) in let k = c.grant-wake_up in let did = told_before (same_then f.ensures.same k.ensures.same) k.ensures.step.1 in
     let n = s.table_seat.limits.seats in let st = stepped_by p1 s.table_seat.number k.ensures.step.0 (oldest_in k.new.seat.moving) in
@@ -61,7 +61,7 @@ returns-clause-spends g c =
 
 pub returns-clause-wakes : goal.returns-clause-wakes
 returns-clause-wakes g c =
-    let s = c.args.seat.now in let x = s.standing in let u = c.args.target in let f = c.gain-found in
+    let s = c.args.seat.now in let x = s.state in let u = c.args.target in let f = c.gain-found in
     let so = counts x 0 (SendWakeStore u) c.requires.stands c.requires.flat (record { seated = s.seated; became = s.became; ready = s.ready; rooted = s.rooted }) (told_before f.ensures.same f.ensures.step) (counted_none 0 x.takes x.posts s.table_seat.number f.result u (oldest_in f.new.seat.moving) c.if-found-ne0.false) in
     let p1 = made_of 0 x.takes x.posts (SendWakeStore u) in let k = c.grant-wake_up in let did = told_before (same_then f.ensures.same k.ensures.same) k.ensures.step.1 in
     wakes_after s.table_seat.limits.seats k.result s.table_seat.place.me.0.trail f.new.seat.place.me.0.trail k.new.seat.place.me.0.trail so.plain.grants

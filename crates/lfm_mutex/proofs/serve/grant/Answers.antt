@@ -24,10 +24,10 @@ use Rattle.lfm_mutex.proofs.serve.grant.Goals as goal
 
 pub returns-in-Unlocker-clause-made : goal.returns-in-Unlocker-clause-made
 returns-in-Unlocker-clause-made g c =
-    let s = c.args.seat.now in let t = s.standing.takes in let ps = s.standing.posts in let f = c.grant-wake_up in let u = c.args.releaser in
+    let s = c.args.seat.now in let t = s.state.takes in let ps = s.state.posts in let f = c.grant-wake_up in let u = c.args.releaser in
     let r : Record = record { seat = c.args.oldest.seat; stamp = c.args.oldest.stamp } in
     let p0 = made_of 0 t ps (GrantWakeStore (Carrier.Releaser u) r) in
-    let at : s.standing ≡ p0 = (λ i. record { depth = c.requires.flat i; takes = t; posts = ps; point = c.requires.stands i }) in
+    let at : s.state ≡ p0 = (λ i. record { depth = c.requires.flat i; takes = t; posts = ps; point = c.requires.stands i }) in
     let fit = subst (λ (x : SeatState). Fit s.table_seat.number s.table_seat.place.table_id.words s.table_seat.place.id s.table_seat.limits x s.table_seat.place.me s.table_seat.moving) at (record { seated = s.seated; became = s.became; ready = s.ready; rooted = s.rooted }) in
     let is = granted_to u 0 t ps s.table_seat.number f.ensures.step.0 r (oldest_in f.new.seat.moving) ∙ ap (λ (z : Releaser). releases p0 z (Unlocked.Granted r.seat)) c.in-Unlocker.is in
     let so = course_next g.T.Kept.follows g.T.Kept.fits s.table_seat.number p0 s.table_seat.moving s.table_seat.place.me.0 s.table_seat.place.table_id.words s.table_seat.place.id s.table_seat.limits p0 f.ensures.step.0 s.table_seat.place.me s.table_seat.moving f.new.seat.place.me f.new.seat.moving f.new.seat.place.table_id.words f.new.seat.place.id (record { seat = made_of 0 t ps Rest; turn = Ended (Answer.Unlocked (Unlocked.Granted r.seat)) })
@@ -37,10 +37,10 @@ returns-in-Unlocker-clause-made g c =
 
 pub returns-in-Waiter-clause-made : goal.returns-in-Waiter-clause-made
 returns-in-Waiter-clause-made g c =
-    let s = c.args.seat.now in let t = s.standing.takes in let ps = s.standing.posts in let f = c.grant-wake_up in let u = c.args.releaser in
+    let s = c.args.seat.now in let t = s.state.takes in let ps = s.state.posts in let f = c.grant-wake_up in let u = c.args.releaser in
     let r : Record = record { seat = c.args.oldest.seat; stamp = c.args.oldest.stamp } in
     let p0 = made_of 0 t ps (GrantWakeStore (Carrier.Releaser u) r) in
-    let at : s.standing ≡ p0 = (λ i. record { depth = c.requires.flat i; takes = t; posts = ps; point = c.requires.stands i }) in
+    let at : s.state ≡ p0 = (λ i. record { depth = c.requires.flat i; takes = t; posts = ps; point = c.requires.stands i }) in
     let fit = subst (λ (x : SeatState). Fit s.table_seat.number s.table_seat.place.table_id.words s.table_seat.place.id s.table_seat.limits x s.table_seat.place.me s.table_seat.moving) at (record { seated = s.seated; became = s.became; ready = s.ready; rooted = s.rooted }) in
     let is = granted_to u 0 t ps s.table_seat.number f.ensures.step.0 r (oldest_in f.new.seat.moving) ∙ ap (λ (z : Releaser). releases p0 z (Unlocked.Granted r.seat)) c.in-Waiter.is in
     let k = c.keep in let p1 = made_of 0 t ps (WaitWakeStore (Unlocked.Granted r.seat)) in
@@ -54,17 +54,17 @@ returns-in-Waiter-clause-made g c =
 
 pub returns-in-Unlocker-clause-wakes : goal.returns-in-Unlocker-clause-wakes
 returns-in-Unlocker-clause-wakes g c =
-    let s = c.args.seat.now in let t = s.standing.takes in let ps = s.standing.posts in let f = c.grant-wake_up in let u = c.args.releaser in
+    let s = c.args.seat.now in let t = s.state.takes in let ps = s.state.posts in let f = c.grant-wake_up in let u = c.args.releaser in
     let r : Record = record { seat = c.args.oldest.seat; stamp = c.args.oldest.stamp } in
     let p0 = made_of 0 t ps (GrantWakeStore (Carrier.Releaser u) r) in
-    let at : s.standing ≡ p0 = (λ i. record { depth = c.requires.flat i; takes = t; posts = ps; point = c.requires.stands i }) in
+    let at : s.state ≡ p0 = (λ i. record { depth = c.requires.flat i; takes = t; posts = ps; point = c.requires.stands i }) in
     wakes_one g.T.Kept.follows g.T.Kept.fits _ _ _ _ _ _ _ (told_before f.ensures.same f.ensures.step.1).event s.table_seat.limits.seats s.table_seat.number f.result f.ensures.wakes (subst (λ (x : SeatState). IsReady s.table_seat.limits.seats s.table_seat.number x) at s.ready)
 
 pub returns-in-Waiter-clause-wakes : goal.returns-in-Waiter-clause-wakes
 returns-in-Waiter-clause-wakes g c =
-    let s = c.args.seat.now in let t = s.standing.takes in let ps = s.standing.posts in let f = c.grant-wake_up in let u = c.args.releaser in
+    let s = c.args.seat.now in let t = s.state.takes in let ps = s.state.posts in let f = c.grant-wake_up in let u = c.args.releaser in
     let r : Record = record { seat = c.args.oldest.seat; stamp = c.args.oldest.stamp } in
     let p0 = made_of 0 t ps (GrantWakeStore (Carrier.Releaser u) r) in
-    let at : s.standing ≡ p0 = (λ i. record { depth = c.requires.flat i; takes = t; posts = ps; point = c.requires.stands i }) in
+    let at : s.state ≡ p0 = (λ i. record { depth = c.requires.flat i; takes = t; posts = ps; point = c.requires.stands i }) in
     let one = wakes_one g.T.Kept.follows g.T.Kept.fits _ _ _ _ _ _ _ (told_before f.ensures.same f.ensures.step.1).event s.table_seat.limits.seats s.table_seat.number f.result f.ensures.wakes (subst (λ (x : SeatState). IsReady s.table_seat.limits.seats s.table_seat.number x) at s.ready) in
     record { granted = grants_none g.T.Kept.follows g.T.Kept.fits _ _ _ _ _ _ _ c.keep.ensures.step.event refl ∙ one.granted; above = one.above; inside = one.inside }

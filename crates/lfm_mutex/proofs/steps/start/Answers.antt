@@ -12,9 +12,9 @@ use Rattle.lfm_mutex.proofs.steps.start.Goals as goal
 
 pub returns-clause-begins : goal.returns-clause-begins
 returns-clause-begins g c = let s = c.args.seat.now in let b = c.begin_call.new.seat in let same = c.begin_call.ensures.same in
-    let became : Became s.table_seat.place.me.0.standing s.table_seat.limits b.standing = subst (λ (t : View g.row.T.Denot × Limits). Became t.0.standing t.1 b.standing) (λ i. (ap (λ p. p.me.0) same.0 i, same.2 i)) b.became in
-    subst (λ (l : Limits). Begins l c.args.call s.standing (sight s) c.begin_call.result b.standing (sight b)) c.requires.belongs.1
-    (c.begin_call.ensures.turn, c.begin_call.ensures.seat, begins_seen s.table_seat.number b.table_seat.number s.table_seat.limits s.standing b.standing s.table_seat.place.me.0 b.table_seat.place.me.0 s.table_seat.moving b.table_seat.moving s.became became same.1 (ap (λ p. p.me.0) same.0) same.3)
+    let became : Became s.table_seat.place.me.0.state s.table_seat.limits b.state = subst (λ (t : View g.row.T.Denot × Limits). Became t.0.state t.1 b.state) (λ i. (ap (λ p. p.me.0) same.0 i, same.2 i)) b.became in
+    subst (λ (l : Limits). Begins l c.args.call s.state (sight s) c.begin_call.result b.state (sight b)) c.requires.belongs.1
+    (c.begin_call.ensures.turn, c.begin_call.ensures.seat, begins_seen s.table_seat.number b.table_seat.number s.table_seat.limits s.state b.state s.table_seat.place.me.0 b.table_seat.place.me.0 s.table_seat.moving b.table_seat.moving s.became became same.1 (ap (λ p. p.me.0) same.0) same.3)
 
 pub returns-clause-woken : goal.returns-clause-woken
 returns-clause-woken g c = woken_none c.args.seat.now c.begin_call.new.seat c.begin_call.ensures.woken (ap (λ p. grants_of p.me.0.trail) c.begin_call.ensures.same.0)

@@ -23,23 +23,23 @@ use Rattle.lfm_mutex.proofs.try_lock.try_with_hold.Goals as goal
 
 pub returns-then-found-eq0-clause-made : goal.returns-then-found-eq0-clause-made
 returns-then-found-eq0-clause-made g c =
-    let s = c.args.seat.now in let d = s.standing.depth in let t = s.standing.takes in let ps = s.standing.posts in
+    let s = c.args.seat.now in let d = s.state.depth in let t = s.state.takes in let ps = s.state.posts in
     let p0 = made_of d t ps TryCountExchange in
-    let begins = begins_try_again s.standing s.table_seat.limits c.requires.rests c.requires.held c.requires.room in
-    let fit = fit_begun s.table_seat.number s.table_seat.place.table_id.words s.table_seat.place.id s.table_seat.limits s.table_seat.place.me s.table_seat.moving s.standing p0 Call.TryLock (record { seated = s.seated; became = s.became; ready = s.ready; rooted = s.rooted }) begins in
+    let begins = begins_try_again s.state s.table_seat.limits c.requires.rests c.requires.held c.requires.room in
+    let fit = fit_begun s.table_seat.number s.table_seat.place.table_id.words s.table_seat.place.id s.table_seat.limits s.table_seat.place.me s.table_seat.moving s.state p0 Call.TryLock (record { seated = s.seated; became = s.became; ready = s.ready; rooted = s.rooted }) begins in
     let f = c.keep_held-found in
     let q = made_of d t ps (EnterOwnerStore Entrant.Trier How.Free) in let r = c.finish_try.new.seat in
     let first = course_next g.T.Kept.follows g.T.Kept.fits s.table_seat.number p0 s.table_seat.moving s.table_seat.place.me.0 s.table_seat.place.table_id.words s.table_seat.place.id s.table_seat.limits p0 f.result s.table_seat.place.me s.table_seat.moving f.new.seat.place.me f.new.seat.moving f.new.seat.place.table_id.words f.new.seat.place.id (opens q) (course_none g.T.Kept.follows g.T.Kept.fits s.table_seat.number p0 s.table_seat.moving s.table_seat.place.me.0) fit (told_before f.ensures.same f.ensures.step) (exchanged_none d t ps s.table_seat.number f.result (oldest_in f.new.seat.moving) c.if-found-eq0.true) (λ e. cc) refl in
-    let last = course_join g.T.Kept.follows g.T.Kept.fits s.table_seat.number p0 s.table_seat.moving s.table_seat.place.me.0 q r.standing f.new.seat.moving r.table_seat.moving f.new.seat.place.me.0 r.table_seat.place.me.0 (try_turn c.finish_try.result) first
-    (subst (λ (x : SeatState). Course g.T.Kept.follows g.T.Kept.fits s.table_seat.number x f.new.seat.moving f.new.seat.place.me.0 (try_turn c.finish_try.result) r.standing r.table_seat.moving r.table_seat.place.me.0) c.stop_at.ensures (course_same f.ensures.same.0 c.finish_try.ensures.made)) in
-    comes g.T.Kept.follows g.T.Kept.fits s.table_seat.number p0 s.table_seat.moving s.table_seat.place.me.0 r.table_seat.number s.table_seat.limits c.args.mutex.now.limits Call.TryLock s.standing r.standing (try_turn c.finish_try.result) r.table_seat.moving r.table_seat.place.me.0 c.requires.belongs.1 (c.finish_try.ensures.same.0 ∙ f.ensures.same.0) refl begins c.finish_try.ensures.ends last
+    let last = course_join g.T.Kept.follows g.T.Kept.fits s.table_seat.number p0 s.table_seat.moving s.table_seat.place.me.0 q r.state f.new.seat.moving r.table_seat.moving f.new.seat.place.me.0 r.table_seat.place.me.0 (try_turn c.finish_try.result) first
+    (subst (λ (x : SeatState). Course g.T.Kept.follows g.T.Kept.fits s.table_seat.number x f.new.seat.moving f.new.seat.place.me.0 (try_turn c.finish_try.result) r.state r.table_seat.moving r.table_seat.place.me.0) c.stop_at.ensures (course_same f.ensures.same.0 c.finish_try.ensures.made)) in
+    comes g.T.Kept.follows g.T.Kept.fits s.table_seat.number p0 s.table_seat.moving s.table_seat.place.me.0 r.table_seat.number s.table_seat.limits c.args.mutex.now.limits Call.TryLock s.state r.state (try_turn c.finish_try.result) r.table_seat.moving r.table_seat.place.me.0 c.requires.belongs.1 (c.finish_try.ensures.same.0 ∙ f.ensures.same.0) refl begins c.finish_try.ensures.ends last
 
 pub returns-clause-made : goal.returns-clause-made
 returns-clause-made g c =
-    let s = c.args.seat.now in let d = s.standing.depth in let t = s.standing.takes in let ps = s.standing.posts in
+    let s = c.args.seat.now in let d = s.state.depth in let t = s.state.takes in let ps = s.state.posts in
     let p0 = made_of d t ps TryCountExchange in
-    let begins = begins_try_again s.standing s.table_seat.limits c.requires.rests c.requires.held c.requires.room in
-    let fit = fit_begun s.table_seat.number s.table_seat.place.table_id.words s.table_seat.place.id s.table_seat.limits s.table_seat.place.me s.table_seat.moving s.standing p0 Call.TryLock (record { seated = s.seated; became = s.became; ready = s.ready; rooted = s.rooted }) begins in
+    let begins = begins_try_again s.state s.table_seat.limits c.requires.rests c.requires.held c.requires.room in
+    let fit = fit_begun s.table_seat.number s.table_seat.place.table_id.words s.table_seat.place.id s.table_seat.limits s.table_seat.place.me s.table_seat.moving s.state p0 Call.TryLock (record { seated = s.seated; became = s.became; ready = s.ready; rooted = s.rooted }) begins in
     let f = c.keep_held-found in
     let h = c.keep_held-owner in
     let p1 = made_of d t ps TryOwnerLoad in
@@ -48,9 +48,9 @@ returns-clause-made g c =
     let first = course_next g.T.Kept.follows g.T.Kept.fits s.table_seat.number p0 s.table_seat.moving s.table_seat.place.me.0 s.table_seat.place.table_id.words s.table_seat.place.id s.table_seat.limits p0 f.result s.table_seat.place.me s.table_seat.moving f.new.seat.place.me f.new.seat.moving f.new.seat.place.table_id.words f.new.seat.place.id (opens p1) (course_none g.T.Kept.follows g.T.Kept.fits s.table_seat.number p0 s.table_seat.moving s.table_seat.place.me.0) fit (told_before f.ensures.same f.ensures.step) is1 (λ e. cc) refl in
     let fit1 = fit_after g.T.Kept.follows g.T.Kept.fits s.table_seat.number f.new.seat.place.table_id.words f.new.seat.place.id s.table_seat.limits p0 f.result s.table_seat.place.me s.table_seat.moving f.new.seat.place.me f.new.seat.moving (told_before f.ensures.same f.ensures.step) (opens p1) is1 in
     let last = course_next g.T.Kept.follows g.T.Kept.fits s.table_seat.number p0 s.table_seat.moving s.table_seat.place.me.0 f.new.seat.place.table_id.words f.new.seat.place.id s.table_seat.limits p1 h.result f.new.seat.place.me f.new.seat.moving h.new.seat.place.me h.new.seat.moving h.new.seat.place.table_id.words h.new.seat.place.id (record { seat = made_of (d + 1) t ps Rest; turn = Ended (Answer.Locked (Locked.Again (d + 1))) }) first fit1 (told_before (same_then f.ensures.same h.ensures.same) h.ensures.step) is2 (λ e. cc) refl in
-    subst (λ (x : SeatState). ComesTo g.T.Kept.follows g.T.Kept.fits c.args.mutex.now.limits Call.TryLock (sight_of s.table_seat.number s.standing s.table_seat.place.me.0 (value_in s.table_seat.moving)) (sight_of h.new.seat.number x h.new.seat.place.me.0 (value_in h.new.seat.moving)) (Ended (Answer.Locked (Locked.Again (d + 1)))))
+    subst (λ (x : SeatState). ComesTo g.T.Kept.follows g.T.Kept.fits c.args.mutex.now.limits Call.TryLock (sight_of s.table_seat.number s.state s.table_seat.place.me.0 (value_in s.table_seat.moving)) (sight_of h.new.seat.number x h.new.seat.place.me.0 (value_in h.new.seat.moving)) (Ended (Answer.Locked (Locked.Again (d + 1)))))
     (λ i. record { depth = d + 1; takes = t; posts = ps; point = sym c.requires.rests i })
-    (comes g.T.Kept.follows g.T.Kept.fits s.table_seat.number p0 s.table_seat.moving s.table_seat.place.me.0 h.new.seat.number s.table_seat.limits c.args.mutex.now.limits Call.TryLock s.standing (made_of (d + 1) t ps Rest) (Ended (Answer.Locked (Locked.Again (d + 1)))) h.new.seat.moving h.new.seat.place.me.0 c.requires.belongs.1 (same_then f.ensures.same h.ensures.same).0 refl begins refl last)
+    (comes g.T.Kept.follows g.T.Kept.fits s.table_seat.number p0 s.table_seat.moving s.table_seat.place.me.0 h.new.seat.number s.table_seat.limits c.args.mutex.now.limits Call.TryLock s.state (made_of (d + 1) t ps Rest) (Ended (Answer.Locked (Locked.Again (d + 1)))) h.new.seat.moving h.new.seat.place.me.0 c.requires.belongs.1 (same_then f.ensures.same h.ensures.same).0 refl begins refl last)
 
 pub returns-then-found-eq0-clause-run : goal.returns-then-found-eq0-clause-run
 returns-then-found-eq0-clause-run g c = run_next (run_made c.keep_held-found.ensures.step) c.finish_try.ensures.made.ran.run

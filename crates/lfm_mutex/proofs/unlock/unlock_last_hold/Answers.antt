@@ -33,14 +33,14 @@ use Rattle.lfm_mutex.proofs.unlock.unlock_last_hold.Goals as goal
 
 pub keep_held-requires-clause-leaves : goal.keep_held-requires-clause-leaves
 keep_held-requires-clause-leaves g c κs within = let s = c.args.seat.now in
-    λ r at. may_leave g.T.Kept.follows g.T.Kept.fits s.table_seat.number s.standing s.table_seat.place.me.0 s.table_seat.moving s.seated.named (let one = c.requires.one in omega (arith, one)) c.requires.leaves
+    λ r at. may_leave g.T.Kept.follows g.T.Kept.fits s.table_seat.number s.state s.table_seat.place.me.0 s.table_seat.moving s.seated.named (let one = c.requires.one in omega (arith, one)) c.requires.leaves
 
 pub returns-then-found-ne1-clause-made : goal.returns-then-found-ne1-clause-made
 returns-then-found-ne1-clause-made g c =
-    let s = c.args.seat.now in let t = s.standing.takes in let ps = s.standing.posts in
+    let s = c.args.seat.now in let t = s.state.takes in let ps = s.state.posts in
     let p0 = made_of 1 t ps (ReleaseOwnerStore Unlocker) in let p1 = made_of 0 t ps (ReleaseCountSubtract Unlocker) in
-    let begins = begins_last s.standing s.table_seat.limits c.requires.rests c.requires.one in
-    let fit = fit_begun s.table_seat.number s.table_seat.place.table_id.words s.table_seat.place.id s.table_seat.limits s.table_seat.place.me s.table_seat.moving s.standing p0 Call.Unlock (record { seated = s.seated; became = s.became; ready = s.ready; rooted = s.rooted }) begins in
+    let begins = begins_last s.state s.table_seat.limits c.requires.rests c.requires.one in
+    let fit = fit_begun s.table_seat.number s.table_seat.place.table_id.words s.table_seat.place.id s.table_seat.limits s.table_seat.place.me s.table_seat.moving s.state p0 Call.Unlock (record { seated = s.seated; became = s.became; ready = s.ready; rooted = s.rooted }) begins in
     let h = c.keep_held in let f = c.retake-found in
     let b = f.new.seat.place in
     let st = stepped_by p1 s.table_seat.number f.result (oldest_in f.new.seat.moving) in
@@ -48,19 +48,19 @@ returns-then-found-ne1-clause-made g c =
     let fit1 : Fit s.table_seat.number h.new.seat.place.table_id.words h.new.seat.place.id s.table_seat.limits p1 h.new.seat.place.me h.new.seat.moving = (told_before h.ensures.same h.ensures.step).fit in
     let r = c.serve.new.seat in let turn = Ended (Answer.Unlocked c.serve.result.0) in
     let q = made_of 0 t ps (take (Carrier.Releaser Unlocker) 0 (oldest_in f.new.seat.moving)) in
-    let same : c.stop_at_serving.new.standing ≡ q = c.stop_at_serving.ensures in
+    let same : c.stop_at_serving.new.state ≡ q = c.stop_at_serving.ensures in
     let so = course_next g.T.Kept.follows g.T.Kept.fits s.table_seat.number p1 h.new.seat.moving h.new.seat.place.me.0 h.new.seat.place.table_id.words h.new.seat.place.id s.table_seat.limits p1 f.result h.new.seat.place.me h.new.seat.moving b.me f.new.seat.moving b.table_id.words b.id (opens q)
     (course_none g.T.Kept.follows g.T.Kept.fits s.table_seat.number p1 h.new.seat.moving h.new.seat.place.me.0) fit1 (told_before (same_then h.ensures.same f.ensures.same) f.ensures.step) (not_freed Unlocker 0 t ps s.table_seat.number f.result (oldest_in f.new.seat.moving) c.if-found-ne1.true) (λ e. cc) refl in
-    gives_up g.T.Kept.follows g.T.Kept.fits s.table_seat.number s.table_seat.place.table_id.words s.table_seat.place.id h.new.seat.place.table_id.words h.new.seat.place.id r.table_seat.number h.result s.table_seat.limits p0 p1 s.table_seat.place.me h.new.seat.place.me s.table_seat.moving h.new.seat.moving fit Unlocker refl (told_before h.ensures.same h.ensures.step) refl Call.Unlock c.args.mutex.now.limits s.standing r.standing turn r.table_seat.moving r.table_seat.place.me.0 refl c.requires.belongs.1 (c.serve.ensures.same.0 ∙ (same_then h.ensures.same f.ensures.same).0) begins refl
-    (course_join g.T.Kept.follows g.T.Kept.fits s.table_seat.number p1 h.new.seat.moving h.new.seat.place.me.0 q r.standing f.new.seat.moving r.table_seat.moving b.me.0 r.table_seat.place.me.0 turn so
-    (subst (λ (x : SeatState). Course g.T.Kept.follows g.T.Kept.fits s.table_seat.number x f.new.seat.moving b.me.0 turn r.standing r.table_seat.moving r.table_seat.place.me.0) same (course_same (same_then h.ensures.same f.ensures.same).0 c.serve.ensures.made)))
+    gives_up g.T.Kept.follows g.T.Kept.fits s.table_seat.number s.table_seat.place.table_id.words s.table_seat.place.id h.new.seat.place.table_id.words h.new.seat.place.id r.table_seat.number h.result s.table_seat.limits p0 p1 s.table_seat.place.me h.new.seat.place.me s.table_seat.moving h.new.seat.moving fit Unlocker refl (told_before h.ensures.same h.ensures.step) refl Call.Unlock c.args.mutex.now.limits s.state r.state turn r.table_seat.moving r.table_seat.place.me.0 refl c.requires.belongs.1 (c.serve.ensures.same.0 ∙ (same_then h.ensures.same f.ensures.same).0) begins refl
+    (course_join g.T.Kept.follows g.T.Kept.fits s.table_seat.number p1 h.new.seat.moving h.new.seat.place.me.0 q r.state f.new.seat.moving r.table_seat.moving b.me.0 r.table_seat.place.me.0 turn so
+    (subst (λ (x : SeatState). Course g.T.Kept.follows g.T.Kept.fits s.table_seat.number x f.new.seat.moving b.me.0 turn r.state r.table_seat.moving r.table_seat.place.me.0) same (course_same (same_then h.ensures.same f.ensures.same).0 c.serve.ensures.made)))
 
 pub returns-clause-made : goal.returns-clause-made
 returns-clause-made g c =
-    let s = c.args.seat.now in let t = s.standing.takes in let ps = s.standing.posts in
+    let s = c.args.seat.now in let t = s.state.takes in let ps = s.state.posts in
     let p0 = made_of 1 t ps (ReleaseOwnerStore Unlocker) in let p1 = made_of 0 t ps (ReleaseCountSubtract Unlocker) in
-    let begins = begins_last s.standing s.table_seat.limits c.requires.rests c.requires.one in
-    let fit = fit_begun s.table_seat.number s.table_seat.place.table_id.words s.table_seat.place.id s.table_seat.limits s.table_seat.place.me s.table_seat.moving s.standing p0 Call.Unlock (record { seated = s.seated; became = s.became; ready = s.ready; rooted = s.rooted }) begins in
+    let begins = begins_last s.state s.table_seat.limits c.requires.rests c.requires.one in
+    let fit = fit_begun s.table_seat.number s.table_seat.place.table_id.words s.table_seat.place.id s.table_seat.limits s.table_seat.place.me s.table_seat.moving s.state p0 Call.Unlock (record { seated = s.seated; became = s.became; ready = s.ready; rooted = s.rooted }) begins in
     let h = c.keep_held in let f = c.retake-found in
     let b = f.new.seat.place in
     let st = stepped_by p1 s.table_seat.number f.result (oldest_in f.new.seat.moving) in
@@ -70,13 +70,13 @@ returns-clause-made g c =
     let so = course_next g.T.Kept.follows g.T.Kept.fits s.table_seat.number p1 h.new.seat.moving h.new.seat.place.me.0 h.new.seat.place.table_id.words h.new.seat.place.id s.table_seat.limits p1 f.result h.new.seat.place.me h.new.seat.moving b.me f.new.seat.moving b.table_id.words b.id
     (record { seat = made_of 0 t ps Rest; turn = turn })
     (course_none g.T.Kept.follows g.T.Kept.fits s.table_seat.number p1 h.new.seat.moving h.new.seat.place.me.0) fit1 (told_before (same_then h.ensures.same f.ensures.same) f.ensures.step) (freed Unlocker 0 t ps s.table_seat.number f.result (oldest_in f.new.seat.moving) c.if-found-ne1.false) (λ e. cc) refl in
-    subst (λ (x : SeatState). ComesTo g.T.Kept.follows g.T.Kept.fits c.args.mutex.now.limits Call.Unlock (sight_of s.table_seat.number s.standing s.table_seat.place.me.0 (value_in s.table_seat.moving)) (sight_of f.new.seat.number x b.me.0 (value_in f.new.seat.moving)) turn)
+    subst (λ (x : SeatState). ComesTo g.T.Kept.follows g.T.Kept.fits c.args.mutex.now.limits Call.Unlock (sight_of s.table_seat.number s.state s.table_seat.place.me.0 (value_in s.table_seat.moving)) (sight_of f.new.seat.number x b.me.0 (value_in f.new.seat.moving)) turn)
     (λ i. record { depth = 0; takes = t; posts = ps; point = sym c.requires.rests i })
-    (gives_up g.T.Kept.follows g.T.Kept.fits s.table_seat.number s.table_seat.place.table_id.words s.table_seat.place.id h.new.seat.place.table_id.words h.new.seat.place.id f.new.seat.number h.result s.table_seat.limits p0 p1 s.table_seat.place.me h.new.seat.place.me s.table_seat.moving h.new.seat.moving fit Unlocker refl (told_before h.ensures.same h.ensures.step) refl Call.Unlock c.args.mutex.now.limits s.standing (made_of 0 t ps Rest) turn f.new.seat.moving b.me.0 refl c.requires.belongs.1 (same_then h.ensures.same f.ensures.same).0 begins refl so)
+    (gives_up g.T.Kept.follows g.T.Kept.fits s.table_seat.number s.table_seat.place.table_id.words s.table_seat.place.id h.new.seat.place.table_id.words h.new.seat.place.id f.new.seat.number h.result s.table_seat.limits p0 p1 s.table_seat.place.me h.new.seat.place.me s.table_seat.moving h.new.seat.moving fit Unlocker refl (told_before h.ensures.same h.ensures.step) refl Call.Unlock c.args.mutex.now.limits s.state (made_of 0 t ps Rest) turn f.new.seat.moving b.me.0 refl c.requires.belongs.1 (same_then h.ensures.same f.ensures.same).0 begins refl so)
 
 pub returns-then-found-ne1-clause-bounded : goal.returns-then-found-ne1-clause-bounded
 returns-then-found-ne1-clause-bounded g c =
-    let s = c.args.seat.now in let t = s.standing.takes in let ps = s.standing.posts in
+    let s = c.args.seat.now in let t = s.state.takes in let ps = s.state.posts in
     let p0 = made_of 1 t ps (ReleaseOwnerStore Unlocker) in let p1 = made_of 0 t ps (ReleaseCountSubtract Unlocker) in
     let h = c.keep_held in let f = c.retake-found in let b = f.new.seat.place in let r = c.serve.new.seat in
     let st = stepped_by p1 s.table_seat.number f.result (oldest_in f.new.seat.moving) in
@@ -91,7 +91,7 @@ returns-then-found-ne1-clause-bounded g c =
 
 pub returns-clause-bounded : goal.returns-clause-bounded
 returns-clause-bounded g c =
-    let s = c.args.seat.now in let t = s.standing.takes in let ps = s.standing.posts in
+    let s = c.args.seat.now in let t = s.state.takes in let ps = s.state.posts in
     let p0 = made_of 1 t ps (ReleaseOwnerStore Unlocker) in let p1 = made_of 0 t ps (ReleaseCountSubtract Unlocker) in
     let h = c.keep_held in let f = c.retake-found in
     let first = stepped_by p0 s.table_seat.number h.result (oldest_in h.new.seat.moving) in
@@ -102,7 +102,7 @@ returns-clause-bounded g c =
 
 pub invariant_of-seat-else-found-ne1 : goal.invariant_of-seat-else-found-ne1
 invariant_of-seat-else-found-ne1 g c =
-    let s = c.args.seat.now in let t = s.standing.takes in let ps = s.standing.posts in
+    let s = c.args.seat.now in let t = s.state.takes in let ps = s.state.posts in
     let f = c.retake-found in
     let fit = subst (λ (x : SeatState). SeatFits f.new.seat x)
     (ap (λ (z : Stepped). z.seat) (freed Unlocker 0 t ps f.new.seat.number f.result (oldest_in f.new.seat.moving) c.if-found-ne1.false) ∙ (λ i. record { depth = 0; takes = t; posts = ps; point = sym c.requires.rests i })) f.ensures.step.fit in

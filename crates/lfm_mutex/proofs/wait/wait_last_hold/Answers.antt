@@ -32,14 +32,14 @@ use Rattle.lfm_mutex.proofs.wait.wait_last_hold.Goals as goal
 
 pub keep_held-requires-clause-leaves : goal.keep_held-requires-clause-leaves
 keep_held-requires-clause-leaves g c κs within = let s = c.args.seat.now in
-    λ r at. may_leave g.T.Kept.follows g.T.Kept.fits s.table_seat.number s.standing s.table_seat.place.me.0 s.table_seat.moving s.seated.named (let one = c.requires.one in omega (arith, one)) c.requires.leaves
+    λ r at. may_leave g.T.Kept.follows g.T.Kept.fits s.table_seat.number s.state s.table_seat.place.me.0 s.table_seat.moving s.seated.named (let one = c.requires.one in omega (arith, one)) c.requires.leaves
 
 pub returns-then-found-ne1-clause-made : goal.returns-then-found-ne1-clause-made
 returns-then-found-ne1-clause-made g c =
-    let s = c.args.seat.now in let t = s.standing.takes + 1 in let ps = s.standing.posts in
+    let s = c.args.seat.now in let t = s.state.takes + 1 in let ps = s.state.posts in
     let p0 = made_of 1 t ps (ReleaseOwnerStore Waiter) in let p1 = made_of 0 t ps (ReleaseCountSubtract Waiter) in
-    let begins = begins_wait s.standing s.table_seat.limits c.requires.rests c.requires.one c.requires.charged in
-    let fit = fit_begun s.table_seat.number s.table_seat.place.table_id.words s.table_seat.place.id s.table_seat.limits s.table_seat.place.me s.table_seat.moving s.standing p0 Call.StartWait (record { seated = s.seated; became = s.became; ready = s.ready; rooted = s.rooted }) begins in
+    let begins = begins_wait s.state s.table_seat.limits c.requires.rests c.requires.one c.requires.charged in
+    let fit = fit_begun s.table_seat.number s.table_seat.place.table_id.words s.table_seat.place.id s.table_seat.limits s.table_seat.place.me s.table_seat.moving s.state p0 Call.StartWait (record { seated = s.seated; became = s.became; ready = s.ready; rooted = s.rooted }) begins in
     let h = c.keep_held in let f = c.retake-found in
     let b = f.new.seat.place in
     let st = stepped_by p1 s.table_seat.number f.result (oldest_in f.new.seat.moving) in
@@ -47,19 +47,19 @@ returns-then-found-ne1-clause-made g c =
     let fit1 : Fit s.table_seat.number h.new.seat.place.table_id.words h.new.seat.place.id s.table_seat.limits p1 h.new.seat.place.me h.new.seat.moving = (told_before h.ensures.same h.ensures.step).fit in
     let r = c.serve.new.seat in let turn = Ended (Answer.Waiting c.serve.result.0) in
     let q = made_of 0 t ps (take (Carrier.Releaser Waiter) 0 (oldest_in f.new.seat.moving)) in
-    let same : c.stop_at_serving.new.standing ≡ q = c.stop_at_serving.ensures in
+    let same : c.stop_at_serving.new.state ≡ q = c.stop_at_serving.ensures in
     let so = course_next g.T.Kept.follows g.T.Kept.fits s.table_seat.number p1 h.new.seat.moving h.new.seat.place.me.0 h.new.seat.place.table_id.words h.new.seat.place.id s.table_seat.limits p1 f.result h.new.seat.place.me h.new.seat.moving b.me f.new.seat.moving b.table_id.words b.id (opens q)
     (course_none g.T.Kept.follows g.T.Kept.fits s.table_seat.number p1 h.new.seat.moving h.new.seat.place.me.0) fit1 (told_before (same_then h.ensures.same f.ensures.same) f.ensures.step) (not_freed Waiter 0 t ps s.table_seat.number f.result (oldest_in f.new.seat.moving) c.if-found-ne1.true) (λ e. cc) refl in
-    gives_up g.T.Kept.follows g.T.Kept.fits s.table_seat.number s.table_seat.place.table_id.words s.table_seat.place.id h.new.seat.place.table_id.words h.new.seat.place.id r.table_seat.number h.result s.table_seat.limits p0 p1 s.table_seat.place.me h.new.seat.place.me s.table_seat.moving h.new.seat.moving fit Waiter refl (told_before h.ensures.same h.ensures.step) refl Call.StartWait c.args.mutex.now.limits s.standing r.standing turn r.table_seat.moving r.table_seat.place.me.0 refl c.requires.belongs.1 (c.serve.ensures.same.0 ∙ (same_then h.ensures.same f.ensures.same).0) begins refl
-    (course_join g.T.Kept.follows g.T.Kept.fits s.table_seat.number p1 h.new.seat.moving h.new.seat.place.me.0 q r.standing f.new.seat.moving r.table_seat.moving b.me.0 r.table_seat.place.me.0 turn so
-    (subst (λ (x : SeatState). Course g.T.Kept.follows g.T.Kept.fits s.table_seat.number x f.new.seat.moving b.me.0 turn r.standing r.table_seat.moving r.table_seat.place.me.0) same (course_same (same_then h.ensures.same f.ensures.same).0 c.serve.ensures.made)))
+    gives_up g.T.Kept.follows g.T.Kept.fits s.table_seat.number s.table_seat.place.table_id.words s.table_seat.place.id h.new.seat.place.table_id.words h.new.seat.place.id r.table_seat.number h.result s.table_seat.limits p0 p1 s.table_seat.place.me h.new.seat.place.me s.table_seat.moving h.new.seat.moving fit Waiter refl (told_before h.ensures.same h.ensures.step) refl Call.StartWait c.args.mutex.now.limits s.state r.state turn r.table_seat.moving r.table_seat.place.me.0 refl c.requires.belongs.1 (c.serve.ensures.same.0 ∙ (same_then h.ensures.same f.ensures.same).0) begins refl
+    (course_join g.T.Kept.follows g.T.Kept.fits s.table_seat.number p1 h.new.seat.moving h.new.seat.place.me.0 q r.state f.new.seat.moving r.table_seat.moving b.me.0 r.table_seat.place.me.0 turn so
+    (subst (λ (x : SeatState). Course g.T.Kept.follows g.T.Kept.fits s.table_seat.number x f.new.seat.moving b.me.0 turn r.state r.table_seat.moving r.table_seat.place.me.0) same (course_same (same_then h.ensures.same f.ensures.same).0 c.serve.ensures.made)))
 
 pub returns-clause-made : goal.returns-clause-made
 returns-clause-made g c =
-    let s = c.args.seat.now in let t = s.standing.takes + 1 in let ps = s.standing.posts in
+    let s = c.args.seat.now in let t = s.state.takes + 1 in let ps = s.state.posts in
     let p0 = made_of 1 t ps (ReleaseOwnerStore Waiter) in let p1 = made_of 0 t ps (ReleaseCountSubtract Waiter) in
-    let begins = begins_wait s.standing s.table_seat.limits c.requires.rests c.requires.one c.requires.charged in
-    let fit = fit_begun s.table_seat.number s.table_seat.place.table_id.words s.table_seat.place.id s.table_seat.limits s.table_seat.place.me s.table_seat.moving s.standing p0 Call.StartWait (record { seated = s.seated; became = s.became; ready = s.ready; rooted = s.rooted }) begins in
+    let begins = begins_wait s.state s.table_seat.limits c.requires.rests c.requires.one c.requires.charged in
+    let fit = fit_begun s.table_seat.number s.table_seat.place.table_id.words s.table_seat.place.id s.table_seat.limits s.table_seat.place.me s.table_seat.moving s.state p0 Call.StartWait (record { seated = s.seated; became = s.became; ready = s.ready; rooted = s.rooted }) begins in
     let h = c.keep_held in let f = c.retake-found in
     let b = f.new.seat.place in
     let st = stepped_by p1 s.table_seat.number f.result (oldest_in f.new.seat.moving) in
@@ -73,11 +73,11 @@ returns-clause-made g c =
     let fit2 = fit_after g.T.Kept.follows g.T.Kept.fits s.table_seat.number b.table_id.words b.id s.table_seat.limits p1 f.result h.new.seat.place.me h.new.seat.moving b.me f.new.seat.moving (told_before (same_then h.ensures.same f.ensures.same) f.ensures.step) (opens p2) is in
     let so2 = course_next g.T.Kept.follows g.T.Kept.fits s.table_seat.number p1 h.new.seat.moving h.new.seat.place.me.0 b.table_id.words b.id s.table_seat.limits p2 k.result b.me f.new.seat.moving k.new.seat.place.me k.new.seat.moving k.new.seat.place.table_id.words k.new.seat.place.id
     (record { seat = made_of 0 t ps (Asleep Sleeper.Waiter); turn = turn }) so1 fit2 (told_before (same_then (same_then h.ensures.same f.ensures.same) k.ensures.same) k.ensures.step) (waited 0 t ps s.table_seat.number k.result Unlocked.Free (oldest_in k.new.seat.moving)) (λ e. cc) refl in
-    gives_up g.T.Kept.follows g.T.Kept.fits s.table_seat.number s.table_seat.place.table_id.words s.table_seat.place.id h.new.seat.place.table_id.words h.new.seat.place.id k.new.seat.number h.result s.table_seat.limits p0 p1 s.table_seat.place.me h.new.seat.place.me s.table_seat.moving h.new.seat.moving fit Waiter refl (told_before h.ensures.same h.ensures.step) refl Call.StartWait c.args.mutex.now.limits s.standing (made_of 0 t ps (Asleep Sleeper.Waiter)) turn k.new.seat.moving k.new.seat.place.me.0 refl c.requires.belongs.1 (same_then (same_then h.ensures.same f.ensures.same) k.ensures.same).0 begins refl so2
+    gives_up g.T.Kept.follows g.T.Kept.fits s.table_seat.number s.table_seat.place.table_id.words s.table_seat.place.id h.new.seat.place.table_id.words h.new.seat.place.id k.new.seat.number h.result s.table_seat.limits p0 p1 s.table_seat.place.me h.new.seat.place.me s.table_seat.moving h.new.seat.moving fit Waiter refl (told_before h.ensures.same h.ensures.step) refl Call.StartWait c.args.mutex.now.limits s.state (made_of 0 t ps (Asleep Sleeper.Waiter)) turn k.new.seat.moving k.new.seat.place.me.0 refl c.requires.belongs.1 (same_then (same_then h.ensures.same f.ensures.same) k.ensures.same).0 begins refl so2
 
 pub returns-then-found-ne1-clause-bounded : goal.returns-then-found-ne1-clause-bounded
 returns-then-found-ne1-clause-bounded g c =
-    let s = c.args.seat.now in let t = s.standing.takes + 1 in let ps = s.standing.posts in
+    let s = c.args.seat.now in let t = s.state.takes + 1 in let ps = s.state.posts in
     let p0 = made_of 1 t ps (ReleaseOwnerStore Waiter) in let p1 = made_of 0 t ps (ReleaseCountSubtract Waiter) in
     let h = c.keep_held in let f = c.retake-found in let b = f.new.seat.place in let r = c.serve.new.seat in
     let st = stepped_by p1 s.table_seat.number f.result (oldest_in f.new.seat.moving) in
@@ -92,7 +92,7 @@ returns-then-found-ne1-clause-bounded g c =
 
 pub returns-clause-bounded : goal.returns-clause-bounded
 returns-clause-bounded g c =
-    let s = c.args.seat.now in let t = s.standing.takes + 1 in let ps = s.standing.posts in
+    let s = c.args.seat.now in let t = s.state.takes + 1 in let ps = s.state.posts in
     let p0 = made_of 1 t ps (ReleaseOwnerStore Waiter) in let p1 = made_of 0 t ps (ReleaseCountSubtract Waiter) in let p2 = made_of 0 t ps (WaitWakeStore Unlocked.Free) in
     let h = c.keep_held in let f = c.retake-found in let k = c.keep in
     let first = stepped_by p0 s.table_seat.number h.result (oldest_in h.new.seat.moving) in

@@ -2,4 +2,4 @@ use Rattle.lfm_table.specs.Rule.{value_in}
 use Rattle.lfm_table.proofs.steps.gain.Given as goal
 
 abbrev pub ghosts-operate : goal.ghosts-operate
-ghosts-operate g a = record { standing = a.standing.now; hand = value_in a.seat.now.moving }
+ghosts-operate g a = record { state = a.state.now; hand = value_in a.seat.now.moving }

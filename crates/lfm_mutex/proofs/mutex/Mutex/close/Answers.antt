@@ -34,10 +34,10 @@ pub loop-seat-init : goal.loop-seat-init
 loop-seat-init g c = let f = c.in-Some-index_of_seat_1.ensures in let xs = c.args.seats.items in let at = c.in-Some-index_of_seat_1.at in let p = c.remove.result in let s = g.P.Holder.seat_of p in let here = length_at xs at f.0 f.1 in
     let item : get_elem? xs at ≡ some p = item_at xs xs at p here c.remove.ensures.value refl in let same : f.0 ≡ p = some-injective f.0 p (sym f.1 ∙ item) in
     let first : s.table_seat.number ≡ 1 = ap (λ z. (g.P.Holder.seat_of z).table_seat.number) (sym same) ∙ f.2 in let stand = c.in_default.ensures in let lim = c.args.self.some in
-    let idle0 : Idle (sight s) = (stand 1 (omega arith) (omega arith)).1 at p item first in let idle : (s.standing.depth ≡ 0) × (s.standing.point ≡ Rest) = (idle0.0, rest_of s.standing.point idle0.1) in let free = free_seat s.table_seat.number s.table_seat.limits s.standing s.table_seat.place.me s.table_seat.moving s.seated s.became idle.0 idle.1 in
+    let idle0 : Idle (sight s) = (stand 1 (omega arith) (omega arith)).1 at p item first in let idle : (s.state.depth ≡ 0) × (s.state.point ≡ Rest) = (idle0.0, rest_of s.state.point idle0.1) in let free = free_seat s.table_seat.number s.table_seat.limits s.state s.table_seat.place.me s.table_seat.moving s.seated s.became idle.0 idle.1 in
     let viewed : s.table_seat.number ≡ 1 = first in let e = c.into_place-root.ensures in let belongs = (c.requires.belongs at p item).0 in record {
       table = ap (λ p. p.table_id) e ∙ belongs;
-      root = (ap (λ p. p.id) e ∙ s.rooted.first viewed, ap (λ p. p.me.0.role) e ∙ free.0, ap (λ p. p.me.1) e ∙ free.1, ap (λ p. p.me.0.standing.point) e ∙ free.2, ap (λ p. p.me.0.standing.depth) e ∙ free.3);
+      root = (ap (λ p. p.id) e ∙ s.rooted.first viewed, ap (λ p. p.me.0.role) e ∙ free.0, ap (λ p. p.me.1) e ∙ free.1, ap (λ p. p.me.0.state.point) e ∙ free.2, ap (λ p. p.me.0.state.depth) e ∙ free.3);
       limits = ap (λ p. p.me.0.limits) e ∙ (s.seated.limits_are ∙ (c.requires.belongs at p item).1);
       counts = let m = s.rooted.made viewed in let wide = s.rooted.wide in let b = ap (λ p. p.me.0.made) e in let t = ap (λ t. t.words) belongs in let w = c.args.self.words in let l = c.remove.ensures.len in let n : vec_len c.args.seats ≡ length xs = search rules in
           let pg = pigeons (λ s. (g.P.Holder.seat_of s).table_seat.number) xs c.args.self.limits.seats (λ k p q. (stand k p q).0) in omega arith;
@@ -46,7 +46,7 @@ loop-seat-init g c = let f = c.in-Some-index_of_seat_1.ensures in let xs = c.arg
       seats = λ j z q. let y = g.P.Holder.seat_of z in let old = in_removed xs at j z (ap (λ l. get_elem? l j) (sym c.remove.ensures.items) ∙ q) in (
         (c.requires.belongs old.0 z old.1).0,
         (let h = (let lo = y.rooted.low in let hi = y.rooted.high in let wide = y.rooted.wide in let t = ap (λ t. t.words) (c.requires.belongs old.0 z old.1).0 in let w = c.args.self.words in (stand y.table_seat.number (omega arith) (omega arith)).1 old.0 z old.1 refl) in h.0),
-        (let h = (let lo = y.rooted.low in let hi = y.rooted.high in let wide = y.rooted.wide in let t = ap (λ t. t.words) (c.requires.belongs old.0 z old.1).0 in let w = c.args.self.words in (stand y.table_seat.number (omega arith) (omega arith)).1 old.0 z old.1 refl) in rest_of y.standing.point h.1),
+        (let h = (let lo = y.rooted.low in let hi = y.rooted.high in let wide = y.rooted.wide in let t = ap (λ t. t.words) (c.requires.belongs old.0 z old.1).0 in let w = c.args.self.words in (stand y.table_seat.number (omega arith) (omega arith)).1 old.0 z old.1 refl) in rest_of y.state.point h.1),
       );
       each = λ j z q. ⊎_elim
           (λ (u : j ≡ at). let is : p ≡ z = some-injective p z (sym item ∙ (ap (get_elem? xs) (sym u) ∙ q)) in inr (inr (ap (λ p. p.me.0.last) e ∙ ap (λ z. (g.P.Holder.seat_of z).table_seat.place.me.0.last) is, ap (λ p. p.me.0.number) e ∙ ap (λ z. (g.P.Holder.seat_of z).table_seat.place.me.0.number) is, ap (λ p. p.me.0.last_found) e ∙ ap (λ z. (g.P.Holder.seat_of z).table_seat.place.me.0.last_found) is, ap (λ p. p.me.0.ended) e ∙ ap (λ z. (g.P.Holder.seat_of z).table_seat.place.me.0.ended) is, ap (λ p. p.me.0.trail) e ∙ ap (λ z. (g.P.Holder.seat_of z).table_seat.place.me.0.trail) is, ap (λ p. p.me.0.actions) e ∙ ap (λ z. (g.P.Holder.seat_of z).table_seat.place.me.0.actions) is)))
@@ -61,13 +61,13 @@ retire-requires-clause-table g c κs within = let i = c.loop-seat.invariant in (
 
 pub retire-requires-clause-free : goal.retire-requires-clause-free
 retire-requires-clause-free g c κs within = let i = c.loop-seat.invariant in let s = c.in-Some-pop.seat in let h = i.seats (length c.pop.new.self.items) s (was_last _ _ _ c.in-Some-pop.ensures.items) in
-    let y = g.P.Holder.seat_of s in let f = free_seat y.table_seat.number y.table_seat.limits y.standing y.table_seat.place.me y.table_seat.moving y.seated y.became h.1 h.2 in let e = c.into_place-place.ensures in (ap (λ p. p.me.0.role) e ∙ f.0, ap (λ p. p.me.1) e ∙ f.1, ap (λ p. p.me.0.standing.point) e ∙ f.2, ap (λ p. p.me.0.standing.depth) e ∙ f.3)
+    let y = g.P.Holder.seat_of s in let f = free_seat y.table_seat.number y.table_seat.limits y.state y.table_seat.place.me y.table_seat.moving y.seated y.became h.1 h.2 in let e = c.into_place-place.ensures in (ap (λ p. p.me.0.role) e ∙ f.0, ap (λ p. p.me.1) e ∙ f.1, ap (λ p. p.me.0.state.point) e ∙ f.2, ap (λ p. p.me.0.state.depth) e ∙ f.3)
 
 pub loop-seat-preserved : goal.loop-seat-preserved
 loop-seat-preserved g c = let i = c.loop-seat.invariant in let r = c.retire.ensures in let old = c.loop-seat.root.me.0.joined in let s = c.in-Some-pop.seat in
     let joined : c.retire.new.root.me.0.joined ≡ old ++ joined_of (g.P.Holder.seat_of s).table_seat.place.me.0 ∷ [] = ap (λ m. m.0.joined) r.joined ∙ ap (λ p. old ++ joined_of p.me.0 ∷ []) c.into_place-place.ensures in record {
       table = r.table.0 ∙ i.table;
-      root = (r.table.1 ∙ i.root.0, ap (λ m. m.0.role) r.joined ∙ i.root.1, ap (λ m. m.1) r.joined ∙ i.root.2, ap (λ m. m.0.standing.point) r.joined ∙ i.root.3, ap (λ m. m.0.standing.depth) r.joined ∙ i.root.4);
+      root = (r.table.1 ∙ i.root.0, ap (λ m. m.0.role) r.joined ∙ i.root.1, ap (λ m. m.1) r.joined ∙ i.root.2, ap (λ m. m.0.state.point) r.joined ∙ i.root.3, ap (λ m. m.0.state.depth) r.joined ∙ i.root.4);
       limits = ap (λ m. m.0.limits) r.joined ∙ i.limits;
       counts = let a = ap (λ m. m.0.made) r.joined in let b = ap (λ l. length l) joined in let d = c.in-Some-pop.ensures.len in let n = i.counts in let k = length-append old (joined_of (g.P.Holder.seat_of s).table_seat.place.me.0 ∷ []) in omega arith;
       all = let a = ap (λ m. m.0.made) r.joined in let b = ap (λ l. length l) joined in let d = c.in-Some-pop.ensures.len in let n = i.all in let k = length-append old (joined_of (g.P.Holder.seat_of s).table_seat.place.me.0 ∷ []) in (omega arith, omega arith);
@@ -117,12 +117,12 @@ returns-clause-last g c =
       from.0,
       from.1,
       from.2,
-      last_seen y.standing.depth y.table_seat.place.me.0.last y.table_seat.place.me.0.found idle.0 ∙ (from.3 ∙ ap Some same),
+      last_seen y.state.depth y.table_seat.place.me.0.last y.table_seat.place.me.0.found idle.0 ∙ (from.3 ∙ ap Some same),
       λ none j s at.
-          let none_end = from.4 (sym (last_seen y.standing.depth y.table_seat.place.me.0.last_found y.table_seat.place.me.0.found idle.0) ∙ none) in
+          let none_end = from.4 (sym (last_seen y.state.depth y.table_seat.place.me.0.last_found y.table_seat.place.me.0.found idle.0) ∙ none) in
           let q = g.P.Holder.seat_of s in let belongs = c.requires.belongs j s at in
           let idle2 = (let lo = q.rooted.low in let hi = q.rooted.high in let same = ap (λ x. x.seats) belongs.1 in (c.in_default.ensures q.table_seat.number lo (omega (arith, hi, same))).1 j s at refl) in
-          last_seen q.standing.depth q.table_seat.place.me.0.last_found q.table_seat.place.me.0.found idle2.0 ∙ ⊎_elim
+          last_seen q.state.depth q.table_seat.place.me.0.last_found q.table_seat.place.me.0.found idle2.0 ∙ ⊎_elim
           (λ u. absurd (let r = length_at c.loop-seat.seats.items u.0 s u.1 in let k : vec_len c.loop-seat.seats ≡ length c.loop-seat.seats.items = search rules in omega arith))
           (λ u. ⊎_elim (λ t. none_end.1 t.0 (joined_of (g.P.Holder.seat_of s).table_seat.place.me.0) t.1) (λ t. sym t.2 ∙ none_end.0) u) (i.each j s at),
     )
@@ -141,7 +141,7 @@ returns-clause-latest g c =
     let left : (j : ℕ) (s : _) (w : g.row.T.Denot) → get_elem? c.args.seats.items j ≡ some s → (g.P.Holder.seat_of s).table_seat.place.me.0.last ≡ Some w → (sight (g.P.Holder.seat_of s)).last ≡ Some w =
     (λ j s w at is. let y = g.P.Holder.seat_of s in let b = c.requires.belongs j s at in
     let idle = (let lo = y.rooted.low in let hi = y.rooted.high in let same = ap (λ x. x.seats) b.1 in (c.in_default.ensures y.table_seat.number lo (omega (arith, hi, same))).1 j s at refl) in
-    last_seen y.standing.depth y.table_seat.place.me.0.last y.table_seat.place.me.0.found idle.0 ∙ is) in
+    last_seen y.state.depth y.table_seat.place.me.0.last y.table_seat.place.me.0.found idle.0 ∙ is) in
     let from : (j : ℕ) × (s : _) × (get_elem? c.args.seats.items j ≡ some s) × ((g.P.Holder.seat_of s).table_seat.place.me.0.last ≡ Some e.0.value) × ((g.P.Holder.seat_of s).table_seat.place.me.0.number ≡ latest.seat) × ((g.P.Holder.seat_of s).table_seat.place.me.0.ended ≡ latest.count) =
     ⊎_elim (λ t. (i.own.0, i.own.1, i.own.2, i.own.3 ∙ t.1, i.own.5 ∙ t.0, i.own.6 ∙ t.2)) (λ t. let o = i.only t.0 t.1 t.2 in (o.0, o.1, o.2, o.3 ∙ t.4, o.5 ∙ t.3, o.6 ∙ t.5)) latest.there in
     dite (ℕ_discrete latest.count 0)
@@ -162,7 +162,7 @@ pub returns-clause-reached : goal.returns-clause-reached
 returns-clause-reached g c j s l at seen =
     let y = g.P.Holder.seat_of s in let b = c.requires.belongs j s at in
     let idle = (let lo = y.rooted.low in let hi = y.rooted.high in let same = ap (λ x. x.seats) b.1 in (c.in_default.ensures y.table_seat.number lo (omega (arith, hi, same))).1 j s at refl) in
-    let is : y.table_seat.place.me.0.last ≡ Some l = seen_last y.standing.depth y.table_seat.place.me.0.last y.table_seat.place.me.0.found (Some l) idle.0 seen in
+    let is : y.table_seat.place.me.0.last ≡ Some l = seen_last y.state.depth y.table_seat.place.me.0.last y.table_seat.place.me.0.found (Some l) idle.0 seen in
     let i = c.loop-seat.invariant in let v = c.loop-seat.root.me.0 in let n = c.in_default-pop.ensures.cases in let a = i.counts in let z = n.0 in
     let end : Final (Seen (Held g.T.Kept.follows g.T.Kept.fits) 0 v) c.close_with.result.words c.close_with.result.slots = subst (λ k. Final (Seen (Held g.T.Kept.follows g.T.Kept.fits) k v) c.close_with.result.words c.close_with.result.slots) i.root.0 c.close_with.ensures.values in
     let e = ends g.T.Kept.follows g.T.Kept.fits v c.close_with.result.words c.close_with.result.slots (omega arith) i.root.3 i.root.4 end in

@@ -22,9 +22,9 @@ invariant_of-push_reserved g c = let k = c.loop-i.invariant in let r = c.split_s
     let named : r.me.0.number ≡ c.loop-i.i + 1 = (let e = ap (λ z. z.0.number) me in omega arith) in
     let sized : r.me.0.limits ≡ l = ap (λ z. z.0.limits) me ∙ k.limits_are in
     record {
-      seated = fresh_seated r.table_id.words r.id (c.loop-i.i + 1) l absent r.me refl (ap (λ z. z.0.role) me) named sized (ap (λ z. z.1) me) (ap (λ z. z.0.standing) me);
-      became = fresh_became r.table_id.words r.id (c.loop-i.i + 1) l absent r.me refl (ap (λ z. z.0.role) me) named sized (ap (λ z. z.1) me) (ap (λ z. z.0.standing) me);
-      ready = fresh_ready r.table_id.words r.id (c.loop-i.i + 1) l absent r.me refl (ap (λ z. z.0.role) me) named sized (ap (λ z. z.1) me) (ap (λ z. z.0.standing) me) (omega arith) (omega arith);
+      seated = fresh_seated r.table_id.words r.id (c.loop-i.i + 1) l absent r.me refl (ap (λ z. z.0.role) me) named sized (ap (λ z. z.1) me) (ap (λ z. z.0.state) me);
+      became = fresh_became r.table_id.words r.id (c.loop-i.i + 1) l absent r.me refl (ap (λ z. z.0.role) me) named sized (ap (λ z. z.1) me) (ap (λ z. z.0.state) me);
+      ready = fresh_ready r.table_id.words r.id (c.loop-i.i + 1) l absent r.me refl (ap (λ z. z.0.role) me) named sized (ap (λ z. z.1) me) (ap (λ z. z.0.state) me) (omega arith) (omega arith);
       rooted = record {
         low = omega arith;
         high = omega arith;
@@ -52,9 +52,9 @@ loop-i-preserved g c = let v = c.loop-i.invariant in let cut = c.split_seat-plac
   ended = ap (λ m. m.0.ended) me ∙ v.ended;
   trail = ap (λ m. m.0.trail) me ∙ v.trail;
   actions = ap (λ m. m.0.actions) me ∙ v.actions;
-  standing = ap (λ m. m.0.standing) me ∙ v.standing;
+  state = ap (λ m. m.0.state) me ∙ v.state;
   room = search rules;
-  fresh = and_last (λ j s. (s.table_seat.place.table_id ≡ c.in-Ok-new_table.laid.0.table_id) × Fresh c.args.value (j + 2) s.table_seat.number s.table_seat.limits s.standing s.table_seat.place.me s.table_seat.moving l) c.loop-i.all.items c.push_reserved.new.self.items _ c.push_reserved.ensures.items
+  fresh = and_last (λ j s. (s.table_seat.place.table_id ≡ c.in-Ok-new_table.laid.0.table_id) × Fresh c.args.value (j + 2) s.table_seat.number s.table_seat.limits s.state s.table_seat.place.me s.table_seat.moving l) c.loop-i.all.items c.push_reserved.new.self.items _ c.push_reserved.ensures.items
       (cut.table.2 ∙ v.table, ((let q : c.loop-i.i + 1 ≡ length c.loop-i.all.items + 2 = omega arith in q), refl, refl, refl, ap (λ m. m.0.trail) cut.split.1, ap (λ m. m.0.last) cut.split.1 ∙ v.opening, ap (λ m. m.0.last_found) cut.split.1, ap (λ m. m.0.limits) cut.split.1 ∙ v.limits_are, ap (λ m. m.0.ended) cut.split.1, ap (λ m. m.0.actions) cut.split.1)) v.fresh;
 }
 
@@ -64,9 +64,9 @@ invariant_of-first g c = let k = c.loop-i.invariant in let r = c.loop-i.root in 
     let facts = limit_facts c.args.seats c.args.budget allowed in
     let t = c.loop-i-test.false in let m = k.made in let some = facts.0 in
     record {
-      seated = fresh_seated r.table_id.words r.id 1 l absent r.me refl k.role k.number k.limits_are k.hand k.standing;
-      became = fresh_became r.table_id.words r.id 1 l absent r.me refl k.role k.number k.limits_are k.hand k.standing;
-      ready = fresh_ready r.table_id.words r.id 1 l absent r.me refl k.role k.number k.limits_are k.hand k.standing (omega arith) (omega arith);
+      seated = fresh_seated r.table_id.words r.id 1 l absent r.me refl k.role k.number k.limits_are k.hand k.state;
+      became = fresh_became r.table_id.words r.id 1 l absent r.me refl k.role k.number k.limits_are k.hand k.state;
+      ready = fresh_ready r.table_id.words r.id 1 l absent r.me refl k.role k.number k.limits_are k.hand k.state (omega arith) (omega arith);
       rooted = record {
         low = omega arith;
         high = omega arith;
@@ -81,15 +81,15 @@ invariant_of-first g c = let k = c.loop-i.invariant in let r = c.loop-i.root in 
 pub returns-clause-seats : goal.returns-clause-seats
 returns-clause-seats g c = let v = c.loop-i.invariant in let l : Limits = record { seats = c.args.seats; budget = c.args.budget } in (
   search rules,
-  λ j s e. let f = (and_first (λ j s. (s.table_seat.place.table_id ≡ c.in-Ok-new_table.laid.0.table_id) × Fresh c.args.value (j + 1) s.table_seat.number s.table_seat.limits s.standing s.table_seat.place.me s.table_seat.moving l) c.loop-i.all.items _ _ c.in-Ok-insert.ensures.items
-      (v.table, (refl, refl, refl, refl, v.trail, v.last, v.found, v.limits_are, v.ended, v.actions)) (λ j y e. subst (λ (n : ℕ). (y.table_seat.place.table_id ≡ c.in-Ok-new_table.laid.0.table_id) × Fresh c.args.value n y.table_seat.number y.table_seat.limits y.standing y.table_seat.place.me y.table_seat.moving l) (let q : j + 2 ≡ j + 1 + 1 = omega arith in q) (v.fresh j y e))) j s e in
-      ((f.0, f.1.1), fresh_sight c.args.value (j + 1) s.table_seat.number s.table_seat.limits s.standing s.table_seat.place.me s.table_seat.moving l f.1),
+  λ j s e. let f = (and_first (λ j s. (s.table_seat.place.table_id ≡ c.in-Ok-new_table.laid.0.table_id) × Fresh c.args.value (j + 1) s.table_seat.number s.table_seat.limits s.state s.table_seat.place.me s.table_seat.moving l) c.loop-i.all.items _ _ c.in-Ok-insert.ensures.items
+      (v.table, (refl, refl, refl, refl, v.trail, v.last, v.found, v.limits_are, v.ended, v.actions)) (λ j y e. subst (λ (n : ℕ). (y.table_seat.place.table_id ≡ c.in-Ok-new_table.laid.0.table_id) × Fresh c.args.value n y.table_seat.number y.table_seat.limits y.state y.table_seat.place.me y.table_seat.moving l) (let q : j + 2 ≡ j + 1 + 1 = omega arith in q) (v.fresh j y e))) j s e in
+      ((f.0, f.1.1), fresh_sight c.args.value (j + 1) s.table_seat.number s.table_seat.limits s.state s.table_seat.place.me s.table_seat.moving l f.1),
 )
 
 pub returns-clause-past : goal.returns-clause-past
 returns-clause-past g c = let v = c.loop-i.invariant in let l : Limits = record { seats = c.args.seats; budget = c.args.budget } in
-    λ j s e. (and_first (λ j s. (s.table_seat.place.table_id ≡ c.in-Ok-new_table.laid.0.table_id) × Fresh c.args.value (j + 1) s.table_seat.number s.table_seat.limits s.standing s.table_seat.place.me s.table_seat.moving l) c.loop-i.all.items _ _ c.in-Ok-insert.ensures.items
-    (v.table, (refl, refl, refl, refl, v.trail, v.last, v.found, v.limits_are, v.ended, v.actions)) (λ j y e. subst (λ (n : ℕ). (y.table_seat.place.table_id ≡ c.in-Ok-new_table.laid.0.table_id) × Fresh c.args.value n y.table_seat.number y.table_seat.limits y.standing y.table_seat.place.me y.table_seat.moving l) (let q : j + 2 ≡ j + 1 + 1 = omega arith in q) (v.fresh j y e)) j s e).1.9
+    λ j s e. (and_first (λ j s. (s.table_seat.place.table_id ≡ c.in-Ok-new_table.laid.0.table_id) × Fresh c.args.value (j + 1) s.table_seat.number s.table_seat.limits s.state s.table_seat.place.me s.table_seat.moving l) c.loop-i.all.items _ _ c.in-Ok-insert.ensures.items
+    (v.table, (refl, refl, refl, refl, v.trail, v.last, v.found, v.limits_are, v.ended, v.actions)) (λ j y e. subst (λ (n : ℕ). (y.table_seat.place.table_id ≡ c.in-Ok-new_table.laid.0.table_id) × Fresh c.args.value n y.table_seat.number y.table_seat.limits y.state y.table_seat.place.me y.table_seat.moving l) (let q : j + 2 ≡ j + 1 + 1 = omega arith in q) (v.fresh j y e)) j s e).1.9
 
 pub loop-i-init : goal.loop-i-init
 loop-i-init g c = search rules

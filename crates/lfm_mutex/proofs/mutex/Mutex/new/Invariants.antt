@@ -22,7 +22,7 @@ invariant-loop-i g l = record {
   ended : l.root.me.0.ended ≡ 0;
   trail : l.root.me.0.trail ≡ [];
   actions : l.root.me.0.actions ≡ [];
-  standing : l.root.me.0.standing ≡ absent;
+  state : l.root.me.0.state ≡ absent;
   room : (length l.all.items + 1 ≡ l.i) × (vec_len l.all + 1 ≡ l.i) × (l.seats ≤ vec_capacity l.all);
-  fresh : (j : ℕ) (s : _) → get_elem? l.all.items j ≡ some s → (s.table_seat.place.table_id ≡ l.table.table_id) × Fresh l.fn.value (j + 2) s.table_seat.number s.table_seat.limits s.standing s.table_seat.place.me s.table_seat.moving l.limits;
+  fresh : (j : ℕ) (s : _) → get_elem? l.all.items j ≡ some s → (s.table_seat.place.table_id ≡ l.table.table_id) × Fresh l.fn.value (j + 2) s.table_seat.number s.table_seat.limits s.state s.table_seat.place.me s.table_seat.moving l.limits;
 }

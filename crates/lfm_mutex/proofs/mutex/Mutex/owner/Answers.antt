@@ -13,10 +13,10 @@ read_owner-found-requires-clause-allowed g c κs within = reads_owner g.T.Kept.f
 
 pub returns-clause-tells : goal.returns-clause-tells
 returns-clause-tells g c = let s = c.args.seat.now in let n = c.read_owner-found.result in let told = c.read_owner-found.ensures.read in
-    let deep = depth_seen s.table_seat.place.me.0.standing s.table_seat.limits s.standing s.became in
+    let deep = depth_seen s.table_seat.place.me.0.state s.table_seat.limits s.state s.became in
     let low = s.rooted.low in let high = s.rooted.high in let few = s.rooted.few in
-    let own = owner_told c.new.result n s.table_seat.number s.standing.depth c.new.ensures.valid c.new.ensures.value low (omega (arith, high, few)) (λ is. deep.1 (told.2 (is ∙ sym s.seated.named))) (λ d. told.3 (deep.0 d) ∙ s.seated.named) in
-    (n, owner_read_sight s.table_seat.number n s.standing s.table_seat.place.me.0 c.read_owner-found.new.place.me.0 (value_in s.table_seat.moving) (ap (λ m. m.0) told.0), own.0, own.1, own.2)
+    let own = owner_told c.new.result n s.table_seat.number s.state.depth c.new.ensures.valid c.new.ensures.value low (omega (arith, high, few)) (λ is. deep.1 (told.2 (is ∙ sym s.seated.named))) (λ d. told.3 (deep.0 d) ∙ s.seated.named) in
+    (n, owner_read_sight s.table_seat.number n s.state s.table_seat.place.me.0 c.read_owner-found.new.place.me.0 (value_in s.table_seat.moving) (ap (λ m. m.0) told.0), own.0, own.1, own.2)
 
 pub returns-clause-woken : goal.returns-clause-woken
 returns-clause-woken g c = let s = c.args.seat.now in let told = c.read_owner-found.ensures.read in

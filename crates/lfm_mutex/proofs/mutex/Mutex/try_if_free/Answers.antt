@@ -7,7 +7,7 @@ use Rattle.lfm_mutex.proofs.runs.TryEnds.{try_locks, try_makes}
 use Rattle.lfm_mutex.proofs.mutex.Mutex.try_if_free.Goals as goal
 
 pub try_without_hold-requires-clause-rests : goal.try_without_hold-requires-clause-rests
-try_without_hold-requires-clause-rests g c κs within = awake_rests c.args.seat.now.standing.point c.requires.free.0
+try_without_hold-requires-clause-rests g c κs within = awake_rests c.args.seat.now.state.point c.requires.free.0
 
 pub returns-then-count-ne0-clause-tries : goal.returns-then-count-ne0-clause-tries
 returns-then-count-ne0-clause-tries g c = no_tries c.args.self.now.limits 1 (sight c.args.seat.now)

@@ -8,21 +8,21 @@ use Rattle.lfm_mutex.proofs.steps.kinds.store_wake.Goals as goal
 
 pub make_of-turn-requires-clause-leaves : goal.make_of-turn-requires-clause-leaves
 make_of-turn-requires-clause-leaves g c κs within = let s = c.args.seat.now in
-    leaves_at g.T.Kept.follows g.T.Kept.fits s.table_seat.number s.table_seat.limits s.standing s.table_seat.place.me s.table_seat.moving s.seated (λ ends. absurd (false≢true (sym (keeps_at Kind.WakeStore s.standing.point c.requires.is_next refl) ∙ ends)))
+    leaves_at g.T.Kept.follows g.T.Kept.fits s.table_seat.number s.table_seat.limits s.state s.table_seat.place.me s.table_seat.moving s.seated (λ ends. absurd (false≢true (sym (keeps_at Kind.WakeStore s.state.point c.requires.is_next refl) ∙ ends)))
 
 pub wake_seat-requires : goal.wake_seat-requires
 wake_seat-requires g c = let s = c.args.seat.now in (
   search rules,
-  λ t some. subst (λ (n : ℕ). t ≤ n) (ap (λ l. l.seats) c.requires.belongs.1) (within_of s.standing.point s.table_seat.number t s.table_seat.limits.seats (sym c.make_of-turn.ensures.wakes ∙ some) s.ready.within),
+  λ t some. subst (λ (n : ℕ). t ≤ n) (ap (λ l. l.seats) c.requires.belongs.1) (within_of s.state.point s.table_seat.number t s.table_seat.limits.seats (sym c.make_of-turn.ensures.wakes ∙ some) s.ready.within),
 )
 
 pub returns-clause-steps : goal.returns-clause-steps
 returns-clause-steps g c = let s = c.args.seat.now in let f = c.make_of-turn in let b = f.new.seat in
-    steps_on g.T.Kept.follows g.T.Kept.fits (Some Kind.WakeStore) s.table_seat.number b.table_seat.number s.table_seat.limits s.standing b.standing s.table_seat.place.me b.table_seat.place.me s.table_seat.moving b.table_seat.moving f.result.0 s.seated f.ensures.same.0 c.requires.is_next f.ensures.event
+    steps_on g.T.Kept.follows g.T.Kept.fits (Some Kind.WakeStore) s.table_seat.number b.table_seat.number s.table_seat.limits s.state b.state s.table_seat.place.me b.table_seat.place.me s.table_seat.moving b.table_seat.moving f.result.0 s.seated f.ensures.same.0 c.requires.is_next f.ensures.event
 
 pub returns-clause-woken : goal.returns-clause-woken
 returns-clause-woken g c = let s = c.args.seat.now in let f = c.make_of-turn in let b = f.new.seat in (
   as_list f.result.1,
   c.wake_seat.ensures ∙ ap (λ (l : List ℕ). l ++ as_list f.result.1) f.ensures.woken,
-  (wakes_one g.T.Kept.follows g.T.Kept.fits s.standing b.standing s.table_seat.place.me.0 b.table_seat.place.me.0 s.table_seat.moving b.table_seat.moving f.result.0 f.ensures.event s.table_seat.limits.seats s.table_seat.number f.result.1 f.ensures.wakes s.ready).granted,
+  (wakes_one g.T.Kept.follows g.T.Kept.fits s.state b.state s.table_seat.place.me.0 b.table_seat.place.me.0 s.table_seat.moving b.table_seat.moving f.result.0 f.ensures.event s.table_seat.limits.seats s.table_seat.number f.result.1 f.ensures.wakes s.ready).granted,
 )

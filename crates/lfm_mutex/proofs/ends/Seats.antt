@@ -20,7 +20,7 @@ use Rattle.lfm_protocol.specs.declared.seats.SeatState.{SeatState}
 use Rattle.lfm_laws.specs.table.Carried.{carries_value}
 use Rattle.lfm_protocol.specs.Core.{Core, limits}
 use Rattle.lfm_laws.specs.steady.Ghost.{Ghost}
-use Rattle.lfm_protocol.specs.Limits.{are_in_limits}
+use Rattle.lfm_protocol.specs.Limits.{are_in_limits, max_seats}
 use Rattle.lfm_protocol.specs.Seats.{seat, absent, no_link, IsSeat}
 use Rattle.lfm_laws.specs.steady.Steady.{Fits}
 use Rattle.lfm_protocol.specs.Step.{start}
@@ -220,10 +220,10 @@ module _ {T : Type 0} (follows : ℕ → T → T → Type 0) (suits : T → ℕ 
 
   run_joined : (o : Limits) (actions : List Action) (c : Core) (views : List (View T)) → HasRun o actions c views → (v w : View T) → get_elem? views 0 ≡ some v → (other : ℕ)
       → get_elem? (set views 0 (with_joined v w)) other ≡ some w → HasRun o actions c (set (set views 0 (with_joined v w)) other (joined w))
-  run_joined o actions c views run v w at other at2 =
+  run_joined o actions c views run v w at other there =
       let vs = set views 0 (with_joined v w) in let l = length-set views 0 (with_joined v w) in let n = length-set vs other (joined w) in
       run_stays o actions c views run (set vs other (joined w)) (omega (arith, l, n)) (λ j z e.
-      let a = same_set vs other w (joined w) at2 (refl, refl, refl) j z e in let b = same_set views 0 v (with_joined v w) at (refl, refl, refl) j a.0 a.1 in
+      let a = same_set vs other w (joined w) there (refl, refl, refl) j z e in let b = same_set views 0 v (with_joined v w) at (refl, refl, refl) j a.0 a.1 in
       inl (b.0, b.1, (a.2.0 ∙ b.2.0, a.2.1 ∙ b.2.1, a.2.2 ∙ b.2.2)))
 
   pub splits : (v : View T) → v.role ≡ User → v.made + 2 ≤ v.limits.seats → Splits (Held follows suits) 0 v (with_split v) (split_view v)
@@ -265,11 +265,11 @@ module _ {T : Type 0} (follows : ℕ → T → T → Type 0) (suits : T → ℕ 
       }
 
   pub joins : (v w : View T) (other : ℕ) → v.role ≡ User → w.role ≡ User → w.state.point ≡ Rest → w.state.depth ≡ 0 → Joins (Held follows suits) 0 v other w (with_joined v w) (joined w)
-  joins v w other user uses rests flat s h at apart at2 = let k = h.root v at in let b = with_joined v w in let vs = set s.views 0 b in let here = length_at s.views 0 v at in
+  joins v w other user uses rests flat s h at apart there = let k = h.root v at in let b = with_joined v w in let vs = set s.views 0 b in let here = length_at s.views 0 v at in
       let q = quiet follows suits h.core h.ghost_state h.holds_ended s.homes s.views (parts s h) 0 v b at refl refl refl refl refl refl refl refl refl refl refl in
-      let q2 = quiet follows suits h.core h.ghost_state h.holds_ended s.homes vs q other w (joined w) at2 refl refl refl refl refl refl refl refl refl refl refl in
-      let t = total_set retired s.views 0 v b at in let t2 = total_set retired vs other w (joined w) at2 in let z : retired w ≡ 0 = ap retired_at uses in let vs2 = set vs other (joined w) in
-      let at' : get_elem? vs2 0 ≡ some b = set_else vs other 0 (joined w) (λ e. apart (sym e)) ∙ set_here s.views 0 b here in record {
+      let parts_after = quiet follows suits h.core h.ghost_state h.holds_ended s.homes vs q other w (joined w) there refl refl refl refl refl refl refl refl refl refl refl in
+      let t = total_set retired s.views 0 v b at in let total_after = total_set retired vs other w (joined w) there in let z : retired w ≡ 0 = ap retired_at uses in let views_after = set vs other (joined w) in
+      let at' : get_elem? views_after 0 ≡ some b = set_else vs other 0 (joined w) (λ e. apart (sym e)) ∙ set_here s.views 0 b here in record {
         core = h.core;
         ghost_state = h.ghost_state;
         holds_ended = h.holds_ended;
@@ -277,23 +277,23 @@ module _ {T : Type 0} (follows : ℕ → T → T → Type 0) (suits : T → ℕ 
         narrow = h.narrow;
         words_are = h.words_are;
         deep = h.deep;
-        few = q2.few;
-        each = q2.each;
-        later = q2.later;
-        home = q2.home;
-        outside = q2.outside;
-        numbered = q2.numbered;
-        root = λ k' e'. let same : b ≡ k' = some-injective b k' (sym at' ∙ e') in subst (Roots vs2) same record {
+        few = parts_after.few;
+        each = parts_after.each;
+        later = parts_after.later;
+        home = parts_after.home;
+        outside = parts_after.outside;
+        numbered = parts_after.numbered;
+        root = λ k' e'. let same : b ≡ k' = some-injective b k' (sym at' ∙ e') in subst (Roots views_after) same record {
           user = user;
           made = length-set vs other (joined w) ∙ (length-set s.views 0 b ∙ k.made);
-          back = let e = k.back in let n = length-append v.joined (joined_of w ∷ []) in let m : sum_over retired vs2 ≡ length (v.joined ++ joined_of w ∷ []) = omega arith in m;
+          back = let e = k.back in let n = length-append v.joined (joined_of w ∷ []) in let m : sum_over retired views_after ≡ length (v.joined ++ joined_of w ∷ []) = omega arith in m;
           kept = λ i g is. ⊎_elim
               (λ (u : get_elem? v.joined i ≡ some g). let a = k.kept i g u in
-              let apart0 : 0 ≢ a.0 = (λ z. not_both v.role user (ap (λ (y : View T). y.role) (some-injective v a.1 (sym at ∙ subst (λ (i : ℕ). get_elem? s.views i ≡ some a.1) (sym z) a.2)) ∙ a.3)) in
-              let in1 : get_elem? vs a.0 ≡ some a.1 = set_else s.views 0 a.0 b (λ z. apart0 (sym z)) ∙ a.2 in
-              let apart2 : other ≢ a.0 = (λ z. not_both w.role uses (ap (λ (y : View T). y.role) (some-injective w a.1 (sym at2 ∙ subst (λ (i : ℕ). get_elem? vs i ≡ some a.1) (sym z) in1)) ∙ a.3)) in
-              (a.0, a.1, set_else vs other a.0 (joined w) (λ z. apart2 (sym z)) ∙ in1, a.3, a.4, a.5, a.6, a.7, a.8, a.9))
-              (λ (u : (i ≡ length v.joined) × (joined_of w ≡ g)). (other, joined w, set_here vs other (joined w) (length_at vs other w at2), refl, ap (λ (y : Joined T). y.number) u.1, ap (λ (y : Joined T). y.last) u.1, ap (λ (y : Joined T). y.found) u.1, ap (λ (y : Joined T). y.ended) u.1, ap (λ (y : Joined T). y.trail) u.1, ap (λ (y : Joined T). y.actions) u.1))
+              let not_first : 0 ≢ a.0 = (λ z. not_both v.role user (ap (λ (y : View T). y.role) (some-injective v a.1 (sym at ∙ subst (λ (i : ℕ). get_elem? s.views i ≡ some a.1) (sym z) a.2)) ∙ a.3)) in
+              let found_at : get_elem? vs a.0 ≡ some a.1 = set_else s.views 0 a.0 b (λ z. not_first (sym z)) ∙ a.2 in
+              let not_other : other ≢ a.0 = (λ z. not_both w.role uses (ap (λ (y : View T). y.role) (some-injective w a.1 (sym there ∙ subst (λ (i : ℕ). get_elem? vs i ≡ some a.1) (sym z) found_at)) ∙ a.3)) in
+              (a.0, a.1, set_else vs other a.0 (joined w) (λ z. not_other (sym z)) ∙ found_at, a.3, a.4, a.5, a.6, a.7, a.8, a.9))
+              (λ (u : (i ≡ length v.joined) × (joined_of w ≡ g)). (other, joined w, set_here vs other (joined w) (length_at vs other w there), refl, ap (λ (y : Joined T). y.number) u.1, ap (λ (y : Joined T). y.last) u.1, ap (λ (y : Joined T). y.found) u.1, ap (λ (y : Joined T). y.ended) u.1, ap (λ (y : Joined T). y.trail) u.1, ap (λ (y : Joined T). y.actions) u.1))
               (at_end v.joined (joined_of w) g i is);
           gone = λ j z e is. ⊎_elim
               (λ (u : (j ≡ other) × (joined w ≡ z)). (length v.joined, at_last v.joined (joined_of w) (length v.joined) refl ∙ ap (λ (y : View T). some (joined_of y)) u.1))
@@ -305,7 +305,7 @@ module _ {T : Type 0} (follows : ℕ → T → T → Type 0) (suits : T → ℕ 
             (λ (w : (j ≢ 0) × (get_elem? s.views j ≡ some z)). h.others j z w.1 is) (at_set s.views 0 j b z u.1)) (at_set vs other j (joined w) z e);
         opened = h.opened;
         actions = h.actions;
-        run = run_joined h.opened h.actions h.core s.views h.run v w at other at2;
+        run = run_joined h.opened h.actions h.core s.views h.run v w at other there;
       }
 
   -- both keep the run
@@ -528,7 +528,7 @@ in_front P xs x p ps (suc j) y e = subst (λ (n : ℕ). P n y) (let q : j + 1 �
 pub and_first : {A : Type 0} (P : ℕ → A → Type 0) (xs ys : List A) (x : A) → ys ≡ insert xs 0 x → P 0 x → ((j : ℕ) (y : A) → get_elem? xs j ≡ some y → P (j + 1) y) → (j : ℕ) (y : A) → get_elem? ys j ≡ some y → P j y
 and_first P xs ys x is p ps j y e = in_front P xs x p ps j y (ap (λ z. get_elem? z j) (sym (is ∙ insert_first xs x)) ∙ e)
 
-pub limit_facts : (seats budget : ℕ) → are_in_limits seats budget ≡ true → (0 < seats) × (seats ≤ 4095)
+pub limit_facts : (seats budget : ℕ) → are_in_limits seats budget ≡ true → (0 < seats) × (seats ≤ max_seats)
 limit_facts seats budget allowed = (some_seats seats budget allowed, few_seats seats budget allowed)
 
 -- the depth of a seat, and that of its view

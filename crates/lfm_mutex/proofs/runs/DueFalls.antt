@@ -1,6 +1,6 @@
 -- Each step lowers what is due to its call by one, and a failed push raises it by two: so what a call makes is what was due to it,
 -- and two for each failure.
-use Rattle.std.proofs.Common.{◌≡◌, ◌≢◌, ◌⊎◌, ℕ, ◌+◌, ◌-◌, ◌*◌, ◌/◌, ◌%◌, ◌<◌, ◌≤◌, Bool, true, false, Option, Some, None, nat_eq, refl, arith, inl, inr, if◌then◌else◌}
+use Rattle.std.proofs.Common.{◌≡◌, ◌≢◌, ◌⊎◌, ℕ, ◌+◌, ◌-◌, ◌*◌, ◌<◌, ◌≤◌, Bool, true, false, Option, Some, None, nat_eq, refl, arith, inl, inr, if◌then◌else◌}
 use Rattle.lfm_words.specs.declared.links.Link.{Link}
 use Rattle.lfm_words.specs.declared.pop_lists.Record.{Record}
 use Rattle.lfm_words.specs.declared.wakes.Wake.{Wake}
@@ -60,7 +60,7 @@ due_if : (n k w : ℕ) (b : Bool) (p q : Point) → due n k p < w → due n k q 
 due_if n k w true p q first second = first
 due_if n k w false p q first second = second
 
-below_claims : (n k : ℕ) (x : SeatState) (t : ℕ) (w : Wake) → Below n k (n + 9) (claims x t w)
+below_claims : (n k : ℕ) (x : SeatState) (t : ℕ) (w : Wake) → Below n k (due n k (SendWakeExchange t)) (claims x t w)
 below_claims n k x t Waiting = omega arith
 below_claims n k x t _ = omega arith
 
@@ -99,7 +99,7 @@ due_at d t ps s m o n k k' (PushLoad pusher) some room within grows less = omega
 due_at d t ps s m o n k k' (LinkStore pusher old) some room within grows less = omega arith
 due_at d t ps s m o n k k' (PushExchange pusher old) some room within grows less = due_exchanged n k' (same_link (link_of m) old) pusher (link_of m)
 due_at d t ps s m o n k k' (PushedHandoffLoad pusher) some room within grows less =
-    let h = below_if n k' (n + 4) (nat_eq (handoff_of m).seat 0) (pushed (made_of d t ps (PushedHandoffLoad pusher)) pusher) (goes_on (made_of d t ps (PushedHandoffLoad pusher)) (found_posted pusher (handoff_of m))) (let h = below_pushed n k' (made_of d t ps (PushedHandoffLoad pusher)) pusher in omega (arith, h)) (due_found_posted n k' pusher (m % 65536) (m / 65536)) in
+    let h = below_if n k' (n + 4) (nat_eq (handoff_of m).seat 0) (pushed (made_of d t ps (PushedHandoffLoad pusher)) pusher) (goes_on (made_of d t ps (PushedHandoffLoad pusher)) (found_posted pusher (handoff_of m))) (let h = below_pushed n k' (made_of d t ps (PushedHandoffLoad pusher)) pusher in omega (arith, h)) (due_found_posted n k' pusher (handoff_of m).seat (handoff_of m).post) in
     omega (arith, h)
 due_at d t ps s m o n k k' (PushedHandoffExchange Pusher.Locker old) some room within grows less =
     let h = below_if n k' (n + 3) (same_handoff (handoff_of m) old) (goes_on (made_of d t ps (PushedHandoffExchange Pusher.Locker old)) (take Carrier.Locker s o)) (pushed (made_of d t ps (PushedHandoffExchange Pusher.Locker old)) Pusher.Locker) (due_take n k' s o) (omega arith) in omega (arith, h)

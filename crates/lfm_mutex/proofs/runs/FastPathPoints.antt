@@ -1,5 +1,5 @@
 -- The seat's own methods at the points of the fast paths, as equations.
-use Rattle.std.proofs.Common.{◌≡◌, ◌≢◌, ℕ, ◌+◌, ◌-◌, ◌<◌, ◌≤◌, ◌%◌, if◌then◌else◌, nat_eq, nat_lt, sym, refl, ap, ◌∙◌, subst, arith, tests, Option}
+use Rattle.std.proofs.Common.{◌≡◌, ◌≢◌, ℕ, ◌+◌, ◌-◌, ◌<◌, ◌≤◌, if◌then◌else◌, nat_eq, nat_lt, sym, refl, ap, ◌∙◌, subst, arith, tests, Option}
 use Rattle.std.specs.Prelude.{Bool, true, false}
 use Rattle.std.proofs.lemmas.Bool.{ne_eqb, eq-eqb, false≢true, not-true, not-false}
 use Rattle.lfm_table.specs.Table.{Me}
@@ -23,6 +23,7 @@ use Rattle.lfm_protocol.specs.After.{busy}
 use Rattle.lfm_protocol.specs.Place.{carries}
 use Rattle.lfm_laws.specs.table.Carried.{carries_value}
 use Rattle.lfm_protocol.specs.declared.seats.SeatState.{SeatState}
+use Rattle.lfm_protocol.specs.Limits.{max_depth}
 use Rattle.lfm_protocol.specs.Begin as Begin
 use Rattle.lfm_protocol.specs.Begin.{Stepped}
 use Rattle.lfm_laws.specs.table.Words.{stepped_by, handoff_of}
@@ -53,9 +54,9 @@ begins_free p l rests flat charged =
 above : (m n : ℕ) → n ≤ m → nat_lt m n ≡ false
 above m n e = search (tests, arith, e)
 
-pub begins_again : (p : SeatState) (l : Limits) → p.point ≡ Rest → 0 < p.depth → p.depth < 65535 → Begin.begin p l Call.Lock ≡ opens (made_of p.depth p.takes p.posts LockCountAdd)
+pub begins_again : (p : SeatState) (l : Limits) → p.point ≡ Rest → 0 < p.depth → p.depth < max_depth → Begin.begin p l Call.Lock ≡ opens (made_of p.depth p.takes p.posts LockCountAdd)
 begins_again p l rests held room =
-    let h = above 65534 p.depth (omega (arith, room)) in
+    let h = above (max_depth - 1) p.depth (omega (arith, room)) in
     let k = ne_eqb p.depth 0 (λ e. omega (arith, e, held)) in
     let e : Begin.begin (made_of p.depth p.takes p.posts Rest) l Call.Lock ≡ opens (made_of p.depth p.takes p.posts LockCountAdd) = rw h (rw k refl) in
     ap (λ (x : SeatState). Begin.begin x l Call.Lock) (λ i. record { depth = p.depth; takes = p.takes; posts = p.posts; point = rests i }) ∙ e
@@ -66,9 +67,9 @@ begins_try_free p l rests flat charged =
     let e : Begin.begin (made_of 0 p.takes p.posts Rest) l Call.TryLock ≡ opens (made_of 0 (p.takes + 1) p.posts TryCountExchange) = rw h refl in
     ap (λ (x : SeatState). Begin.begin x l Call.TryLock) (λ i. record { depth = flat i; takes = p.takes; posts = p.posts; point = rests i }) ∙ e
 
-pub begins_try_again : (p : SeatState) (l : Limits) → p.point ≡ Rest → 0 < p.depth → p.depth < 65535 → Begin.begin p l Call.TryLock ≡ opens (made_of p.depth p.takes p.posts TryCountExchange)
+pub begins_try_again : (p : SeatState) (l : Limits) → p.point ≡ Rest → 0 < p.depth → p.depth < max_depth → Begin.begin p l Call.TryLock ≡ opens (made_of p.depth p.takes p.posts TryCountExchange)
 begins_try_again p l rests held room =
-    let h = above 65534 p.depth (omega (arith, room)) in
+    let h = above (max_depth - 1) p.depth (omega (arith, room)) in
     let k = ne_eqb p.depth 0 (λ e. omega (arith, e, held)) in
     let e : Begin.begin (made_of p.depth p.takes p.posts Rest) l Call.TryLock ≡ opens (made_of p.depth p.takes p.posts TryCountExchange) = rw h (rw k refl) in
     ap (λ (x : SeatState). Begin.begin x l Call.TryLock) (λ i. record { depth = p.depth; takes = p.takes; posts = p.posts; point = rests i }) ∙ e
@@ -117,17 +118,17 @@ pub try_idles : (t ps s n : ℕ) (o : Option Record) → n ≢ s → carries_val
 try_idles t ps s n o e = let h = ne_eqb n s e in rw h refl
 
 pub unposted : (d t ps s n : ℕ) (o : Option Record) → is_posted_word n ≡ false → stepped_by (made_of d t ps TryHandoffLoad) s n o ≡ record { seat = made_of d (t - 1) ps Rest; turn = Refused (Why.By Refusal.Busy) }
-unposted d t ps s n o e = let h = not-false (nat_eq (n % 65536) 0) e in rw h refl
+unposted d t ps s n o e = let h = not-false (nat_eq (handoff_of n).seat 0) e in rw h refl
 
 pub posted : (d t ps s n : ℕ) (o : Option Record) → is_posted_word n ≡ true → stepped_by (made_of d t ps TryHandoffLoad) s n o ≡ opens (made_of d t ps (TryHandoffExchange (handoff_of n)))
-posted d t ps s n o e = let h = not-true (nat_eq (n % 65536) 0) e in rw h refl
+posted d t ps s n o e = let h = not-true (nat_eq (handoff_of n).seat 0) e in rw h refl
 
 handoff_idles_if : (b : Bool) (t ps : ℕ) (q : Point) → carries q ≡ false → carries_value (if b then busy (made_of 0 t ps TryHandoffLoad) else Begin.goes_on (made_of 0 t ps TryHandoffLoad) q).seat ≡ false
 handoff_idles_if true t ps q e = refl
 handoff_idles_if false t ps q e = e
 
 pub handoff_idles : (t ps s n : ℕ) (o : Option Record) → carries_value (stepped_by (made_of 0 t ps TryHandoffLoad) s n o).seat ≡ false
-handoff_idles t ps s n o = handoff_idles_if (nat_eq (n % 65536) 0) t ps (TryHandoffExchange (handoff_of n)) refl
+handoff_idles t ps s n o = handoff_idles_if (nat_eq (handoff_of n).seat 0) t ps (TryHandoffExchange (handoff_of n)) refl
 
 pub added_none : (d t ps s n : ℕ) (o : Option Record) → n ≡ 0 → stepped_by (made_of d t ps LockCountAdd) s n o ≡ opens (made_of d t ps (EnterOwnerStore Entrant.Locker How.Free))
 added_none d t ps s n o e = rw e refl

@@ -1,5 +1,5 @@
 -- The points at which a call begins and to which no step leads: the exchange of a send and the store that ends a hold.
-use Rattle.std.proofs.Common.{◌≡◌, ℕ, ◌/◌, ◌%◌, Bool, true, false, Option, Some, None, nat_eq, refl, sym, if◌then◌else◌}
+use Rattle.std.proofs.Common.{◌≡◌, ℕ, Bool, true, false, Option, Some, None, nat_eq, refl, sym, if◌then◌else◌}
 use Rattle.std.proofs.lemmas.Bool.{false≢true}
 use Rattle.lfm_model.specs.declared.answers.Unlocked.{Unlocked}
 use Rattle.lfm_words.specs.declared.pop_lists.Record.{Record}
@@ -90,7 +90,7 @@ first_at d t ps s n o (SendCountAdd u) = first_if (nat_eq n 0) _ _ refl refl
 first_at d t ps s n o (SendPushRecheck u old) = first_step_if (nat_eq (link_of n).next 0) _ (goes_on (made_of d t ps (SendPushRecheck u old)) (PushedHandoffExchange (Pusher.Sender u) old)) refl refl
 first_at d t ps s n o (PushExchange pusher old) = first_if (same_link (link_of n) old) _ _ refl refl
 first_at d t ps s n o (PushedHandoffLoad pusher) =
-    first_step_if (nat_eq (handoff_of n).seat 0) (pushed (made_of d t ps (PushedHandoffLoad pusher)) pusher) _ (first_pushed (made_of d t ps (PushedHandoffLoad pusher)) pusher) (first_found_posted pusher (n % 65536) (n / 65536))
+    first_step_if (nat_eq (handoff_of n).seat 0) (pushed (made_of d t ps (PushedHandoffLoad pusher)) pusher) _ (first_pushed (made_of d t ps (PushedHandoffLoad pusher)) pusher) (first_found_posted pusher (handoff_of n).seat (handoff_of n).post)
 first_at d t ps s n o (PushedHandoffExchange pusher old) =
     first_step_if (same_handoff (handoff_of n) old) (goes_on (made_of d t ps (PushedHandoffExchange pusher old)) (take (carrier_of pusher) s o)) _ (first_take (carrier_of pusher) s o) (first_pushed (made_of d t ps (PushedHandoffExchange pusher old)) pusher)
 first_at d t ps s n o (ReleaseCountSubtract r) =

@@ -1,5 +1,5 @@
 -- A call goes on as the same call to its end, each of its steps makes a number fall, and it holds by its last step.
-use Rattle.std.proofs.Common.{◌≡◌, ◌≢◌, ◌⊎◌, ℕ, ◌+◌, ◌-◌, ◌*◌, ◌/◌, ◌%◌, ◌^◌, ◌<◌, ◌≤◌, Bool, true, false, Option, Some, None, nat_eq, refl, sym, ap, subst, ◌∙◌, arith, inl, inr, if◌then◌else◌}
+use Rattle.std.proofs.Common.{◌≡◌, ◌≢◌, ◌⊎◌, ℕ, ◌+◌, ◌-◌, ◌*◌, ◌^◌, ◌<◌, ◌≤◌, Bool, true, false, Option, Some, None, nat_eq, refl, sym, ap, subst, ◌∙◌, arith, inl, inr, if◌then◌else◌}
 use Rattle.std.proofs.lemmas.Bool.{cases_eq, ne_eqb, eq-eqb, false≢true}
 use Rattle.lfm_model.specs.declared.answers.How.{How}
 use Rattle.lfm_model.specs.declared.answers.Unlocked.{Unlocked}
@@ -107,7 +107,7 @@ turns_at d t ps s n o (PushLoad pusher) some = refl
 turns_at d t ps s n o (LinkStore pusher old) some = refl
 turns_at d t ps s n o (PushExchange pusher old) some = errand_if (pushes pusher) (same_link (link_of n) old) _ _ refl refl
 turns_at d t ps s n o (PushedHandoffLoad pusher) some =
-    turns_if (pushes pusher) (nat_eq (handoff_of n).seat 0) (pushed (made_of d t ps (PushedHandoffLoad pusher)) pusher) _ (turns_pushed (made_of d t ps (PushedHandoffLoad pusher)) pusher) (errand_found_posted pusher (n % 65536) (n / 65536))
+    turns_if (pushes pusher) (nat_eq (handoff_of n).seat 0) (pushed (made_of d t ps (PushedHandoffLoad pusher)) pusher) _ (turns_pushed (made_of d t ps (PushedHandoffLoad pusher)) pusher) (errand_found_posted pusher (handoff_of n).seat (handoff_of n).post)
 turns_at d t ps s n o (PushedHandoffExchange pusher old) some =
     turns_if (pushes pusher) (same_handoff (handoff_of n) old) (goes_on (made_of d t ps (PushedHandoffExchange pusher old)) (take (carrier_of pusher) s o)) _
     (errand_take (carrier_of pusher) s o ∙ errand_carrier pusher) (turns_pushed (made_of d t ps (PushedHandoffExchange pusher old)) pusher)
@@ -202,7 +202,7 @@ falls_receives : (n k : ℕ) (x : SeatState) (sleeper : Sleeper) (w : Wake) → 
 falls_receives n k x sleeper (Grant stamp) = omega arith
 falls_receives n k x sleeper _ = omega arith
 
-falls_claims : (n k : ℕ) (x : SeatState) (t : ℕ) (w : Wake) → Falls n k (n + 2 ^ 51 + 13) (claims x t w)
+falls_claims : (n k : ℕ) (x : SeatState) (t : ℕ) (w : Wake) → Falls n k (weight n k (SendWakeExchange t)) (claims x t w)
 falls_claims n k x t Waiting = omega arith
 falls_claims n k x t _ = omega arith
 
@@ -263,7 +263,7 @@ falls_at d t ps s m o n k k' (LinkStore pusher old) some room within grows sees 
 falls_at d t ps s m o n k k' (PushExchange pusher old) some room within grows sees =
     weight_if n k' (n + 2 * left old + 8) (same_link (link_of m) old) _ _ (omega arith) (λ e. let is = sees pusher old refl in let h = left_falls (link_of m) old e is.0 is.1 in omega (arith, h))
 falls_at d t ps s m o n k k' (PushedHandoffLoad pusher) some room within grows sees =
-    falls_if n k' (n + 7) (nat_eq (handoff_of m).seat 0) (pushed (made_of d t ps (PushedHandoffLoad pusher)) pusher) _ (let h = falls_pushed n k' (made_of d t ps (PushedHandoffLoad pusher)) pusher in omega (arith, h)) (λ e. weight_found_posted n k' pusher (m % 65536) (m / 65536))
+    falls_if n k' (n + 7) (nat_eq (handoff_of m).seat 0) (pushed (made_of d t ps (PushedHandoffLoad pusher)) pusher) _ (let h = falls_pushed n k' (made_of d t ps (PushedHandoffLoad pusher)) pusher in omega (arith, h)) (λ e. weight_found_posted n k' pusher (handoff_of m).seat (handoff_of m).post)
 falls_at d t ps s m o n k k' (PushedHandoffExchange pusher old) some room within grows sees =
     falls_if n k' (n + 5) (same_handoff (handoff_of m) old) (goes_on (made_of d t ps (PushedHandoffExchange pusher old)) (take (carrier_of pusher) s o)) _
     (weight_take n k' (n + 5) (carrier_of pusher) s o (carrier_clears n pusher) (carrier_grants n pusher)) (λ e. let h = falls_pushed n k' (made_of d t ps (PushedHandoffExchange pusher old)) pusher in omega (arith, h))

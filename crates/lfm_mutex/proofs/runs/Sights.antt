@@ -3,6 +3,7 @@ use Rattle.std.proofs.Common.{◌≡◌, ◌≢◌, ◌⊎◌, ℕ, zero, suc, �
 use Rattle.std.specs.Prelude.{◌↔◌, IsSome, IfSome}
 use Rattle.std.proofs.lemmas.Bool.{cases_eq, ne_eqb, false≢true}
 use Rattle.lfm_table.specs.Table.{Me}
+use Rattle.lfm_model.specs.SeatNumbers.{max_seat_no, IsSeatNo}
 use Rattle.lfm_model.specs.declared.answers.Asked.{Asked}
 use Rattle.lfm_model.specs.declared.answers.How.{How}
 use Rattle.lfm_model.specs.declared.answers.Locked.{Locked}
@@ -22,6 +23,7 @@ use Rattle.lfm_protocol.specs.declared.points.Releaser.{Releaser}
 use Rattle.lfm_protocol.specs.declared.points.Releaser.TheVariants.{Unlocker, Waiter}
 use Rattle.lfm_protocol.specs.declared.points.Sleeper.{Sleeper}
 use Rattle.lfm_protocol.specs.declared.seats.SeatState.{SeatState}
+use Rattle.lfm_protocol.specs.Limits.{max_depth}
 use Rattle.lfm_protocol.specs.Begin as Begin
 use Rattle.lfm_protocol.specs.Begin.{Stepped, goes_on, refuses, charges}
 use Rattle.lfm_laws.specs.table.Carried.{carries_value}
@@ -196,7 +198,7 @@ module _ {T : Type 0} (n n' : ℕ) (p p' : SeatState) (v v' : View T) (a a' : Op
 
 abbrev pub BegunEntry : ℕ → SeatState → SeatState → Type 0
 BegunEntry budget p q =
-    (p.point ≡ Rest) × (p.depth < 65535) × (q.depth ≡ p.depth) × (((p.depth ≡ 0) × (p.takes < budget) × (q.takes ≡ p.takes + 1)) ⊎ ((0 < p.depth) × (q.takes ≡ p.takes)))
+    (p.point ≡ Rest) × (p.depth < max_depth) × (q.depth ≡ p.depth) × (((p.depth ≡ 0) × (p.takes < budget) × (q.takes ≡ p.takes + 1)) ⊎ ((0 < p.depth) × (q.takes ≡ p.takes)))
 
 -- a call that is open after its begin
 abbrev pub Begun : Limits → Call → SeatState → SeatState → Type 0
@@ -221,7 +223,7 @@ module _ {T : Type 0} (follows : ℕ → T → T → Type 0) (fits : T → ℕ �
 
   starts_lock : (d t ps : ℕ) → Starts Call.Lock (made_of d t ps Rest) (Begin.begin_entry (made_of d t ps Rest) l.budget LockCountAdd)
   starts_lock d t ps = let x = made_of d t ps Rest in
-      starts_if Call.Lock x (nat_lt 65534 d) (refuses x Refusal.DepthFull) (if nat_eq d 0 then charges x l.budget LockCountAdd else goes_on x LockCountAdd) (λ e. ((refl, search (tests, arith, e)), refl))
+      starts_if Call.Lock x (nat_lt (max_depth - 1) d) (refuses x Refusal.DepthFull) (if nat_eq d 0 then charges x l.budget LockCountAdd else goes_on x LockCountAdd) (λ e. ((refl, search (tests, arith, e)), refl))
       (λ e. starts_if Call.Lock x (nat_eq d 0) (charges x l.budget LockCountAdd) (goes_on x LockCountAdd)
       (λ f. starts_if Call.Lock x (nat_lt t l.budget) (record { seat = record x { point = LockCountAdd; takes = t + 1 }; turn = Open }) (refuses x Refusal.Spent)
       (λ h. ((refl, search (tests, arith, e), refl, inl (search (tests, arith, f), search (tests, arith, h), refl)), refl))
@@ -230,7 +232,7 @@ module _ {T : Type 0} (follows : ℕ → T → T → Type 0) (fits : T → ℕ �
 
   starts_try : (d t ps : ℕ) → Starts Call.TryLock (made_of d t ps Rest) (Begin.begin_entry (made_of d t ps Rest) l.budget TryCountExchange)
   starts_try d t ps = let x = made_of d t ps Rest in
-      starts_if Call.TryLock x (nat_lt 65534 d) (refuses x Refusal.DepthFull) (if nat_eq d 0 then charges x l.budget TryCountExchange else goes_on x TryCountExchange) (λ e. ((refl, search (tests, arith, e)), refl))
+      starts_if Call.TryLock x (nat_lt (max_depth - 1) d) (refuses x Refusal.DepthFull) (if nat_eq d 0 then charges x l.budget TryCountExchange else goes_on x TryCountExchange) (λ e. ((refl, search (tests, arith, e)), refl))
       (λ e. starts_if Call.TryLock x (nat_eq d 0) (charges x l.budget TryCountExchange) (goes_on x TryCountExchange)
       (λ f. starts_if Call.TryLock x (nat_lt t l.budget) (record { seat = record x { point = TryCountExchange; takes = t + 1 }; turn = Open }) (refuses x Refusal.Spent)
       (λ h. ((refl, search (tests, arith, e), refl, inl (search (tests, arith, f), search (tests, arith, h), refl)), refl))
@@ -558,7 +560,7 @@ owner_read_sight {T} n k p v w a is =
 some_number : (k n : ℕ) → Some k ≡ Some n → k ≡ n
 some_number k n e = cc
 
-pub owner_told : (r : Option ℕ) (n number d : ℕ) → IsSome r ↔ ((0 < n) × (n ≤ 65535)) → IfSome r (λ s. s ≡ n) → 0 < number → number ≤ 65535 → (n ≡ number → 0 < d) → (0 < d → n ≡ number)
+pub owner_told : (r : Option ℕ) (n number d : ℕ) → IsSome r ↔ IsSeatNo n → IfSome r (λ s. s ≡ n) → 0 < number → number ≤ max_seat_no → (n ≡ number → 0 < d) → (0 < d → n ≡ number)
     → Names r n × (r ≡ Some number → 0 < d) × (0 < d → r ≡ Some number)
 owner_told None n number d valid value low high mine only =
     (λ h. false≢true (valid.1 h), λ e. absurd (cc), λ deep. let is = only deep in absurd (false≢true (valid.1 (omega (arith, is, low), omega (arith, is, high)))))

@@ -2,13 +2,14 @@ use Rattle.std.proofs.Common.{arith, ap, sym, subst, ◌≡◌, ◌≤◌, ◌+�
 use Rattle.std.proofs.Math.Nat.{mul-le-mul}
 use Rattle.std.proofs.lemmas.List.Sums.{sum_by-set}
 use Rattle.std.proofs.lemmas.List.Elements.{All-set}
+use Rattle.lfm_protocol.specs.Limits.{max_seats}
 use Rattle.lfm_condvar.specs.Lists.{waiter, GoOnFrom, times, Among}
 use Rattle.lfm_condvar.proofs.ListFacts.{go_on_more, among_more, has_room, once_more, sum_within, get_or_any}
 use Rattle.lfm_condvar.proofs.waiters.Waiters.append.Goals as goal
 
 pub overflow_add-ticket : goal.overflow_add-ticket
 overflow_add-ticket c = let s = c.args.self.now in let m = sum_within s.budget s.counts.items s.within in let l = s.counts.ok in let n = s.counted in let lim = s.limits in
-    let a : length s.counts.items ≤ 4096 = omega arith in let p = mul-le-mul a lim.1 in omega arith
+    let a : length s.counts.items ≤ max_seats + 1 = omega arith in let p = mul-le-mul a lim.1 in omega arith
 
 pub push_back_reserved-requires : goal.push_back_reserved-requires
 push_back_reserved-requires c = let s = c.args.self.now in let r = c.requires.seat in let room = has_room s.seats c.args.seat s.list.items s.among s.once r.2 r.0 r.1 in let len = s.list.ok in let cap = s.room in omega arith

@@ -2,6 +2,7 @@
 
 pub mod faults;
 pub mod grammar_laws;
+mod reading;
 mod replaying;
 mod reporting;
 pub mod schedule;
@@ -9,7 +10,8 @@ mod schedule_runs;
 pub mod trace;
 
 pub use faults::ReplayFault;
-pub use replaying::replay;
+pub use reading::schedule_from;
+pub use replaying::{replay, start_run};
 pub use reporting::{replay_status, report};
 pub use schedule::{Act, Line, MAX_STEPS, Schedule, line_number, read_schedule};
 pub use schedule_runs::run;

@@ -2,14 +2,13 @@
 use Rattle.std.proofs.Common.{◌≡◌, ℕ, Bool, List, Option, Some, None, Result, Ok, Err, IfSome, sym, ap, subst}
 use Rattle.std.specs.Prelude.{IsErrAnd}
 use Rattle.lfm_core.specs.declared.text.faults.ReplayFault.{ReplayFault}
-use Rattle.lfm_core.specs.declared.text.faults.ReplayFault.TheVariants.{Syntax, Limit, Read, Write, Memory}
+use Rattle.lfm_core.specs.declared.text.faults.ReplayFault.TheVariants.{Write}
 use Rattle.lfm_core.specs.declared.text.schedule.Schedule.{Schedule}
 use Rattle.lfm_protocol.specs.Core.{Core}
 use Rattle.lfm_core.specs.text.Grammar.{Plan, plan_of}
-use Rattle.lfm_text.specs.Taking.{Takes}
-use Rattle.lfm_core.specs.text.Trace.{none_refused, opening}
-use Rattle.lfm_core.proofs.texts.Replays.{exact}
-use Rattle.lfm_explanation.specs.Verdicts.{AnswersVerdict, Judges, Reads}
+use Rattle.lfm_core.specs.text.Replay.{Reads}
+use Rattle.lfm_core.specs.text.Trace.{answer_of, none_refused, opening}
+use Rattle.lfm_explanation.specs.Verdicts.{AnswersVerdict, Judges}
 
 -- the fault that `?` makes of a writer's
 pub write_failed : (r verdict : Result Bool ReplayFault) (old new : Option (List ℕ)) → IsErrAnd r (λ y. y ≡ Write) → AnswersVerdict r verdict old new
@@ -21,23 +20,11 @@ pub run_judged : (b : Bool) (p : Plan) (state : Core) → state ≡ opening p �
     → AnswersVerdict (Ok b) (Ok (none_refused (opening p) p.lines)) None None
 run_judged b p state opens verdict = ap Ok (sym (subst (λ c. b ≡ none_refused c p.lines) opens verdict))
 
--- What was read of the bytes that were taken was read of all the bytes. A replay into a writer whose bytes are not known says
--- just this.
-pub read_of_all : (before after : Option (List ℕ)) (taken : List ℕ) (r : Result Schedule ReplayFault) (old new : Option (List ℕ))
-    → Takes before after taken → Reads r taken old new → IfSome before (λ xs. Reads r xs old new)
-read_of_all None after taken r old new takes p = tt
-read_of_all (Some xs) after taken (Ok s) old new takes p = (exact (Some xs) after taken (Ok _) None None takes (tt, p)).1
-read_of_all (Some xs) after taken (Err (Syntax n)) old new takes p = (exact (Some xs) after taken (Err (Syntax n)) None None takes (tt, p)).1
-read_of_all (Some xs) after taken (Err Limit) old new takes p = (exact (Some xs) after taken (Err Limit) None None takes (tt, p)).1
-read_of_all (Some xs) after taken (Err Read) old new takes p = p
-read_of_all (Some xs) after taken (Err Write) old new takes p = tt
-read_of_all (Some xs) after taken (Err Memory) old new takes p = p
-
 -- what the run of a schedule answers that was read, with nothing written before
 pub judged : (before : Option (List ℕ)) (s : Schedule) (r : Result Bool ReplayFault) (old between new : Option (List ℕ))
     → IfSome before (λ xs. Reads (Ok s) xs old between) → between ≡ old
     → AnswersVerdict r (Ok (none_refused (opening (plan_of s)) (plan_of s).lines)) between new → IfSome before (λ xs. Judges r xs old new)
 judged None s r old between new reads unwritten answers = tt
 judged (Some xs) s r old between new reads unwritten answers =
-    subst (λ v. AnswersVerdict r v old new) (sym reads)
+    subst (λ said. AnswersVerdict r (answer_of said) old new) (sym reads)
     (subst (λ bytes. AnswersVerdict r (Ok (none_refused (opening (plan_of s)) (plan_of s).lines)) bytes new) unwritten answers)

@@ -3,9 +3,7 @@ use Rattle.std.specs.Prelude.{ℕ, Bool, ◌≡◌, ⊤, List, Option, Result, O
 use Rattle.std.specs.Io.KnownBytes.{Keeps}
 use Rattle.lfm_core.specs.declared.text.faults.ReplayFault.{ReplayFault}
 use Rattle.lfm_core.specs.declared.text.faults.ReplayFault.TheVariants.{Syntax, Limit, Read, Write, Memory}
-use Rattle.lfm_core.specs.declared.text.schedule.Schedule.{Schedule}
-use Rattle.lfm_core.specs.text.Grammar.{plan_of}
-use Rattle.lfm_core.specs.text.Trace.{none_refused, opening, verdict_of}
+use Rattle.lfm_core.specs.text.Trace.{verdict_of}
 
 -- The verdict is answered, or the writer failed. After `Read` and `Memory` nothing was written.
 abbrev pub AnswersVerdict : Result Bool ReplayFault → Result Bool ReplayFault → Option (List ℕ) → Option (List ℕ) → Type 0
@@ -19,8 +17,3 @@ AnswersVerdict (Err Memory) verdict old new = Keeps old new
 -- the verdict of a replay of the input
 abbrev pub Judges : Result Bool ReplayFault → List ℕ → Option (List ℕ) → Option (List ℕ) → Type 0
 Judges result input old new = AnswersVerdict result (verdict_of input) old new
-
--- A schedule was read whose replay answers the verdict on the input, or the fault is one that an explanation of the input answers.
-abbrev pub Reads : Result Schedule ReplayFault → List ℕ → Option (List ℕ) → Option (List ℕ) → Type 0
-Reads (Ok schedule) input old new = let plan = plan_of schedule in verdict_of input ≡ Ok (none_refused (opening plan) plan.lines)
-Reads (Err fault) input old new = Judges (Err fault) input old new

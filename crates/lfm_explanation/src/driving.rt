@@ -5,8 +5,8 @@
 ghost use Rattle.lfm_mutex.specs.Belongs.{Beside, OfMutex};
 ghost use Rattle.std.specs.Prelude.{◌≡◌, ◌<◌, ◌⊎◌, All, length};
 
-use crate::reading::schedule_from;
-use lfm_core::text::trace::write_outcome;
+use lfm_core::text::schedule_from;
+use lfm_core::text::trace::{Outcome, write_outcome};
 use lfm_core::{Act, Line, ReplayFault, Schedule, Turn, Why, line_number};
 use lfm_model::NewFault;
 use lfm_mutex::steps::{next, start};
@@ -73,7 +73,12 @@ fn drive_lines<W: Write>(
     'driving: for (index, line) in lines.iter().enumerate() {
         let turn = follow(mutex, seats, line);
         none_refused &= !turn.is_refused();
-        write_outcome(writer, line_number(index), line, turn)?;
+        let outcome = Outcome {
+            number: line_number(index),
+            line: *line,
+            turn,
+        };
+        write_outcome(writer, outcome)?;
         write_line_feed(writer)?;
     }
     Ok(none_refused)

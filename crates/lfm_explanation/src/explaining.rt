@@ -7,9 +7,9 @@ ghost use Rattle.lfm_core.specs.text.Trace.{none_refused, opening};
 ghost use Rattle.lfm_protocol.specs.Limits.{are_in_limits};
 ghost use Rattle.lfm_explanation.specs.Verdicts.{AnswersVerdict, Judges};
 
-use crate::reading::schedule_from;
 use crate::shown::{LineStart, begin_shown, step_shown};
-use lfm_core::text::trace::{write_line, write_opening};
+use lfm_core::text::trace::{Outcome, write_line, write_opening};
+use lfm_core::text::{schedule_from, start_run};
 use lfm_core::{Act, Line, ReplayFault, Schedule, State, Turn, line_number};
 use lfm_text::{WriteFault, flush};
 use lfm_words::Record;
@@ -75,7 +75,12 @@ fn explain_lines<W: Write>(
         let number = line_number(index);
         let turn = line_shown(writer, number, line, state)?;
         none_refused &= !turn.is_refused();
-        write_line(writer, number, line, turn, state, records)?;
+        let outcome = Outcome {
+            number,
+            line: *line,
+            turn,
+        };
+        write_line(writer, outcome, state, records)?;
     }
     Ok(none_refused)
 }
@@ -106,12 +111,7 @@ fn explain_schedule<W: Write>(
     ensures { let plan = plan_of schedule.now in
         AnswersVerdict result (Ok (none_refused (opening plan) plan.lines)) (W.contents writer.old) (W.contents writer.new) }
 {
-    let mut state = State::new(alloc, schedule.seats, schedule.budget).map_err(
-        |_| ReplayFault::Memory,
-    )?;
-    let mut records = Vec::with_capacity(alloc, schedule.seats as usize).map_err(
-        |_| ReplayFault::Memory,
-    )?;
+    let (mut state, mut records) = start_run(alloc, schedule)?;
     Ok(explain_run(writer, schedule, &mut state, &mut records)?)
 }
 

@@ -6,7 +6,6 @@
 mod cases;
 pub mod driving;
 pub mod explaining;
-mod reading;
 mod shown;
 mod step_names;
 mod values;

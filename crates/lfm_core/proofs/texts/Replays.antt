@@ -6,12 +6,13 @@ use Rattle.lfm_core.specs.declared.text.faults.ReplayFault.{ReplayFault}
 use Rattle.lfm_core.specs.declared.text.faults.ReplayFault.TheVariants.{Syntax, Limit, Read, Write, Memory}
 use Rattle.lfm_text.specs.declared.faults.WriteFault.{WriteFault}
 use Rattle.lfm_core.specs.declared.text.schedule.Line.{Line}
+use Rattle.lfm_core.specs.declared.text.schedule.Schedule.{Schedule}
 use Rattle.lfm_protocol.specs.Core.{Core}
-use Rattle.lfm_core.specs.text.Grammar.{Plan, plan_in}
-use Rattle.lfm_core.specs.text.Replay.{Tells, Replays, SomeReplay}
+use Rattle.lfm_core.specs.text.Grammar.{Plan, plan_in, plan_of}
+use Rattle.lfm_core.specs.text.Replay.{Reads, ReadsTaken, SomeReading, Tells, Replays, SomeReplay}
 use Rattle.lfm_text.specs.Taking.{Takes}
 use Rattle.lfm_text.specs.Text.{is_past_limit}
-use Rattle.lfm_core.specs.text.Trace.{opening_text, lines_text, none_refused, opening, plan_text}
+use Rattle.lfm_core.specs.text.Trace.{answer_of, opening_text, lines_text, none_refused, opening, plan_text, text_of}
 use Rattle.lfm_text.specs.Writing.{AppendsPrefix, Writes}
 use Rattle.lfm_text.proofs.LineCount.{is_past_limit-append}
 
@@ -56,7 +57,7 @@ same_plan xs (Some ys) taken takes =
     ]
 
 -- what was answered of an input that was taken, if no read failed
-pub some : (r : Result Bool ReplayFault) (input : List ℕ) (before after old new : Option (List ℕ)) → r ≢ Err Read
+some : (r : Result Bool ReplayFault) (input : List ℕ) (before after old new : Option (List ℕ)) → r ≢ Err Read
     → Takes before after input → Replays r input old new → SomeReplay r before after old new
 some (Ok b) input before after old new no_read takes p = record { input = input; takes = takes; replays = p }
 some (Err (Syntax n)) input before after old new no_read takes p = record { input = input; takes = takes; replays = p }
@@ -65,9 +66,39 @@ some (Err Read) input before after old new no_read takes p = absurd (no_read ref
 some (Err Write) input before after old new no_read takes p = record { input = input; takes = takes; replays = p }
 some (Err Memory) input before after old new no_read takes p = p
 
--- the same of the bytes that were taken, for all the bytes
-pub exact : (before after : Option (List ℕ)) (taken : List ℕ) (r : Result Bool ReplayFault) (old new : Option (List ℕ))
-    → Takes before after taken → Replays r taken old new → IfSome before (λ xs. Replays r xs old new)
-exact None after taken r old new takes p = tt
-exact (Some xs) after taken r old new takes p =
+-- the same of what was read of it
+pub some_reading : (r : Result Schedule ReplayFault) (input : List ℕ) (before after old new : Option (List ℕ)) → r ≢ Err Read
+    → Takes before after input → Reads r input old new → SomeReading r before after old new
+some_reading (Ok s) input before after old new no_read takes p = record { input = input; takes = takes; says = p }
+some_reading (Err (Syntax n)) input before after old new no_read takes p = record { input = input; takes = takes; replays = p }
+some_reading (Err Limit) input before after old new no_read takes p = record { input = input; takes = takes; replays = p }
+some_reading (Err Read) input before after old new no_read takes p = absurd (no_read refl)
+some_reading (Err Write) input before after old new no_read takes p = record { input = input; takes = takes; replays = p }
+some_reading (Err Memory) input before after old new no_read takes p = p
+
+-- what was read of the bytes that were taken was read of all the bytes
+pub exact_reading : (before after : Option (List ℕ)) (taken : List ℕ) (r : Result Schedule ReplayFault) (old new : Option (List ℕ))
+    → Takes before after taken → Reads r taken old new → IfSome before (λ xs. Reads r xs old new)
+exact_reading None after taken r old new takes p = tt
+exact_reading (Some xs) after taken (Ok s) old new takes p = same_plan xs after taken takes ∙ p
+exact_reading (Some xs) after taken (Err fault) old new takes p =
     let same : plan_in xs ≡ plan_in taken = same_plan xs after taken takes in rw same p
+
+-- the run of the schedule that an input says is the replay of the input
+replayed : (s : Schedule) (r : Result Bool ReplayFault) (input : List ℕ) (old between new : Option (List ℕ)) → plan_in input ≡ Ok (plan_of s) → between ≡ old
+    → Tells r (plan_text (plan_of s)) (Ok (none_refused (opening (plan_of s)) (plan_of s).lines)) between new → Replays r input old new
+replayed s r input old between new says unwritten p =
+    subst (λ said. Tells r (text_of said) (answer_of said) old new) (sym says)
+    (subst (λ bytes. Tells r (plan_text (plan_of s)) (Ok (none_refused (opening (plan_of s)) (plan_of s).lines)) bytes new) unwritten p)
+
+-- the replay of the input that was taken
+pub some_replayed : (s : Schedule) (r : Result Bool ReplayFault) (before after old between new : Option (List ℕ)) → r ≢ Err Read → ReadsTaken s before after → between ≡ old
+    → Tells r (plan_text (plan_of s)) (Ok (none_refused (opening (plan_of s)) (plan_of s).lines)) between new → SomeReplay r before after old new
+some_replayed s r before after old between new no_read taken unwritten p =
+    some r taken.input before after old new no_read taken.takes (replayed s r taken.input old between new taken.says unwritten p)
+
+-- the replay of the input that is known
+pub exact_replayed : (s : Schedule) (r : Result Bool ReplayFault) (before old between new : Option (List ℕ)) → IfSome before (λ xs. Reads (Ok s) xs old between) → between ≡ old
+    → Tells r (plan_text (plan_of s)) (Ok (none_refused (opening (plan_of s)) (plan_of s).lines)) between new → IfSome before (λ xs. Replays r xs old new)
+exact_replayed s r None old between new says unwritten p = tt
+exact_replayed s r (Some xs) old between new says unwritten p = replayed s r xs old between new says unwritten p

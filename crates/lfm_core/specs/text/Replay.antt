@@ -4,6 +4,8 @@ use Rattle.std.specs.Io.KnownBytes.{Appends, Keeps}
 use Rattle.lfm_core.specs.declared.text.faults.ReplayFault.{ReplayFault}
 use Rattle.lfm_core.specs.declared.text.faults.ReplayFault.TheVariants.{Syntax, Limit, Read, Write, Memory}
 use Rattle.lfm_text.specs.Taking.{Takes, TakesWithin}
+use Rattle.lfm_core.specs.declared.text.schedule.Schedule.{Schedule}
+use Rattle.lfm_core.specs.text.Grammar.{plan_in, plan_of}
 use Rattle.lfm_core.specs.text.Trace.{trace_of, verdict_of}
 use Rattle.lfm_text.specs.Writing.{AppendsPrefix}
 
@@ -36,3 +38,19 @@ SomeReplay (Err Limit) before after old new = ReplaysTaken (Err Limit) before af
 SomeReplay (Err Write) before after old new = ReplaysTaken (Err Write) before after old new
 SomeReplay (Err Read) before after old new = TakesWithin before after × Keeps old new
 SomeReplay (Err Memory) before after old new = Keeps old new
+
+-- what the input says was read, or its fault was answered as by a replay
+abbrev pub Reads : Result Schedule ReplayFault → List ℕ → Option (List ℕ) → Option (List ℕ) → Type 0
+Reads (Ok schedule) input old new = plan_in input ≡ Ok (plan_of schedule)
+Reads (Err fault) input old new = Replays (Err fault) input old new
+
+-- an input was taken that says this
+pub record ReadsTaken (schedule : Schedule) (before after : Option (List ℕ)) : Type 0 where
+  pub input : List ℕ
+  pub takes : Takes before after input
+  pub says : plan_in input ≡ Ok (plan_of schedule)
+
+-- An input was taken of which this is the schedule, or which was answered as by a replay.
+abbrev pub SomeReading : Result Schedule ReplayFault → Option (List ℕ) → Option (List ℕ) → Option (List ℕ) → Option (List ℕ) → Type 0
+SomeReading (Ok schedule) before after old new = ReadsTaken schedule before after
+SomeReading (Err fault) before after old new = SomeReplay (Err fault) before after old new

@@ -1,20 +1,21 @@
 //! The replay of a reader's schedule into a writer.
 
-ghost use Rattle.std.specs.Prelude.{All, ◌≡◌, ◌≢◌, ◌++◌, ◌+◌, ◌<◌, ◌≤◌, length, vec_capacity, true, Err, Ok, IfOk, IfSome, IsErrOf};
+ghost use Rattle.std.specs.Prelude.{All, ◌≡◌, ◌≢◌, ◌++◌, ◌+◌, ◌<◌, ◌≤◌, length, vec_capacity, true, Err, Ok, IfErr, IfOk, IfSome, IsErrOf};
 ghost use Rattle.std.specs.Io.KnownBytes.{Keeps};
 ghost use Rattle.lfm_core.specs.text.Grammar.{HasFewSteps, plan_of};
 ghost use Rattle.lfm_protocol.specs.Limits.{are_in_limits};
 ghost use Rattle.lfm_text.specs.Text.{max_lines};
-ghost use Rattle.lfm_core.specs.text.Trace.{none_refused, opening_text, lines_text, plan_text, opening, fault_text};
+ghost use Rattle.lfm_core.specs.text.Trace.{none_refused, opening_text, lines_text, plan_text, opening};
 ghost use Rattle.lfm_protocol.specs.Turns.{is_refused};
 ghost use Rattle.lfm_text.specs.Writing.{Writes};
 ghost use Rattle.lfm_core.specs.text.Replay.{Tells, Replays, SomeReplay};
 
 use crate::stepped::State;
 use crate::text::faults::ReplayFault;
-use crate::text::schedule::{Line, Schedule, line_number, read_schedule};
-use crate::text::trace::{write_fault_line, write_line, write_opening};
-use lfm_text::{WriteFault, flush, read_input};
+use crate::text::reading::schedule_from;
+use crate::text::schedule::{Line, Schedule, line_number};
+use crate::text::trace::{Outcome, write_line, write_opening};
+use lfm_text::{WriteFault, flush};
 use lfm_words::Record;
 use std::alloc::Global;
 use std::io::{Read, Write};
@@ -37,7 +38,12 @@ fn write_lines<W: Write>(
     'running: for (index, line) in lines.iter().enumerate() {
         let turn = state.follow(line);
         none_refused &= !turn.is_refused();
-        write_line(writer, line_number(index), line, turn, state, records)?;
+        let outcome = Outcome {
+            number: line_number(index),
+            line: *line,
+            turn,
+        };
+        write_line(writer, outcome, state, records)?;
     }
     Ok(none_refused)
 }
@@ -46,22 +52,38 @@ fn write_lines<W: Write>(
 /// line was refused.
 fn write_run<W: Write>(
     writer: &mut W,
-    seats: u64,
+    schedule: &Schedule,
     state: &mut State,
-    lines: &[Line],
     records: &mut Vec<Record>,
 ) -> Result<bool, WriteFault>
     requires capacity { length state.old.seats ≤ vec_capacity records.old }
-    requires few { length lines.now < max_lines }
-    requires steps { All (λ l. HasFewSteps l.act) lines.now }
-    ensures text { Writes (W.contents writer.old) (W.contents writer.new)
-        (opening_text seats state.old ++ lines_text 2 state.old lines.now) result }
-    ensures verdict { IfOk result (λ b. b ≡ none_refused state.old lines.now) }
+    requires few { length schedule.now.lines.items < max_lines }
+    requires steps { All (λ l. HasFewSteps l.act) schedule.now.lines.items }
+    ensures text { let plan = plan_of schedule.now in Writes (W.contents writer.old) (W.contents writer.new)
+        (opening_text plan.seats state.old ++ lines_text 2 state.old plan.lines) result }
+    ensures verdict { IfOk result (λ b. b ≡ none_refused state.old schedule.now.lines.items) }
 {
-    write_opening(writer, seats, state, records)?;
-    let none_refused = write_lines(writer, state, lines, records)?;
+    write_opening(writer, schedule.seats, state, records)?;
+    let none_refused = write_lines(writer, state, &schedule.lines, records)?;
     flush(writer)?;
     Ok(none_refused)
+}
+
+/// The state that a schedule starts from, and room for its queue: a record of each seat. Makes 5 requests for memory, 4 for the
+/// state and one for the queue. Memory if one was refused, and no other fault.
+pub fn start_run(alloc: Global, schedule: &Schedule) -> Result<(State, Vec<Record>), ReplayFault>
+    requires limits { are_in_limits schedule.now.seats schedule.now.budget ≡ true }
+    ensures starts { IfOk result (λ r. r.0 ≡ opening (plan_of schedule.now)) }
+    ensures capacity { IfOk result (λ r. length r.0.seats ≤ vec_capacity r.1) }
+    ensures memory { IfErr result (λ e. e ≡ ReplayFault.Memory) }
+{
+    let state = State::new(alloc, schedule.seats, schedule.budget).map_err(
+        |_| ReplayFault::Memory,
+    )?;
+    let records = Vec::with_capacity(alloc, schedule.seats as usize).map_err(
+        |_| ReplayFault::Memory,
+    )?;
+    Ok((state, records))
 }
 
 /// Runs a schedule from a new state. Every request for memory precedes the first write.
@@ -78,38 +100,8 @@ fn replay_schedule<W: Write>(
         (W.contents writer.old) (W.contents writer.new) }
     ensures no_read { result ≢ Err ReplayFault.Read }
 {
-    let mut state = State::new(alloc, schedule.seats, schedule.budget).map_err(
-        |_| ReplayFault::Memory,
-    )?;
-    let mut records = Vec::with_capacity(alloc, schedule.seats as usize).map_err(
-        |_| ReplayFault::Memory,
-    )?;
-    let seats = schedule.seats;
-    Ok(write_run(writer, seats, &mut state, &schedule.lines, &mut records)?)
-}
-
-/// Writes the line of an input's fault, and flushes the writer.
-fn write_fault<W: Write>(writer: &mut W, fault: ReplayFault) -> Result<(), WriteFault>
-    ensures { Writes (W.contents writer.old) (W.contents writer.new) (fault_text fault) result }
-{
-    write_fault_line(writer, fault)?;
-    flush(writer)?;
-    Ok(())
-}
-
-/// Replays bytes already read.
-fn replay_input<W: Write>(alloc: Global, input: &[u8], writer: &mut W) -> Result<bool, ReplayFault>
-    ensures told { Replays result input.now (W.contents writer.old) (W.contents writer.new) }
-    ensures no_read { result ≢ Err ReplayFault.Read }
-{
-    match read_schedule(alloc, input) {
-        Ok(schedule) => replay_schedule(alloc, &schedule, writer),
-        Err(ReplayFault::Memory) => Err(ReplayFault::Memory),
-        Err(fault) => {
-            write_fault(writer, fault)?;
-            Err(fault)
-        }
-    }
+    let (mut state, mut records) = start_run(alloc, schedule)?;
+    Ok(write_run(writer, schedule, &mut state, &mut records)?)
 }
 
 /// Replays the schedule that a reader gives: runs its lines from a new state, and writes a trace with one line for each.
@@ -139,6 +131,6 @@ pub fn replay<R: Read, W: Write>(
     ensures read { IsErrOf result ReplayFault.Read → Keeps (W.contents writer.old) (W.contents writer.new) }
     ensures memory { IsErrOf result ReplayFault.Memory → Keeps (W.contents writer.old) (W.contents writer.new) }
 {
-    let input = read_input(alloc, reader)?;
-    replay_input(alloc, &input, writer)
+    let schedule = schedule_from(alloc, reader, writer)?;
+    replay_schedule(alloc, &schedule, writer)
 }

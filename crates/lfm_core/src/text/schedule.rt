@@ -45,12 +45,12 @@ pub struct Schedule {
 /// The most steps that one line may ask for.
 pub const MAX_STEPS: u64 = 999;
 
-/// The number of the line at this place among the lines after the first, in a schedule and in its trace. The first line has
-/// number 1, so the line at place 0 has number 2. No text has so many lines that the number could wrap.
-pub fn line_number(place: usize) -> u64
-    ensures { place + 2 < 2 ^ 64 → result ≡ place + 2 }
+/// The number of the line with this index among the lines after the first, in a schedule and in its trace. The first line has
+/// number 1, so the line with index 0 has number 2. A text has too few lines for the number to wrap.
+pub fn line_number(index: usize) -> u64
+    ensures { index + 2 < 2 ^ 64 → result ≡ index + 2 }
 {
-    (place as u64).wrapping_add(2)
+    (index as u64).wrapping_add(2)
 }
 
 /// What a word after the seat says, unless it is a number of steps.

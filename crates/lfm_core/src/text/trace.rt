@@ -312,16 +312,23 @@ pub fn write_opening<W: Write>(
     Ok(())
 }
 
-/// Writes what came of the line with this number, but not the state after it.
-pub fn write_outcome<W: Write>(
-    writer: &mut W,
-    number: u64,
-    line: &Line,
-    turn: Turn,
-) -> Result<(), WriteFault>
+/// A line of a schedule that was run.
+#[derive(Clone, Copy, Debug, PartialEq, Eq)]
+pub struct Outcome {
+    /// The number of the line.
+    pub number: u64,
+    /// What its seat was to do.
+    pub line: Line,
+    /// The last turn that it made.
+    pub turn: Turn,
+}
+
+/// Writes what came of a line, but not the state after it.
+pub fn write_outcome<W: Write>(writer: &mut W, outcome: Outcome) -> Result<(), WriteFault>
     ensures { Writes (W.contents writer.old) (W.contents writer.new)
-        (outcome_text number line.now turn) result }
+        (outcome_text outcome.number outcome.line outcome.turn) result }
 {
+    let Outcome { number, line, turn } = outcome;
     write_number(writer, number)?;
     write_text(writer, b" ")?;
     write_number(writer, line.seat)?;
@@ -330,21 +337,19 @@ pub fn write_outcome<W: Write>(
     Ok(())
 }
 
-/// Writes what came of the line with this number, and the state after it.
+/// Writes what came of a line, and the state after it.
 pub fn write_line<W: Write>(
     writer: &mut W,
-    number: u64,
-    line: &Line,
-    turn: Turn,
+    outcome: Outcome,
     state: &State,
     records: &mut Vec<Record>,
 ) -> Result<(), WriteFault>
     requires { length state.now.seats ≤ vec_capacity records.old }
     ensures text { Writes (W.contents writer.old) (W.contents writer.new)
-        (line_text number line.now turn state.now) result }
+        (line_text outcome.number outcome.line outcome.turn state.now) result }
     ensures capacity { vec_capacity records.new ≡ vec_capacity records.old }
 {
-    write_outcome(writer, number, line, turn)?;
+    write_outcome(writer, outcome)?;
     write_text(writer, b" | ")?;
     write_state(writer, state, records)?;
     write_line_feed(writer)?;

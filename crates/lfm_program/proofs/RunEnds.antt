@@ -39,6 +39,7 @@ use Rattle.lfm_script.specs.Rows.{rows_from, run_row}
 use Rattle.lfm_program.specs.ScriptRuns.{Divides, HasStopped, MadeReady}
 use Rattle.lfm_program.specs.Workers.{StopsIn}
 use Rattle.lfm_script.specs.Runs.{IsReport, max_journal}
+use Rattle.lfm_text.specs.Text.{max_lines}
 use Rattle.lfm_script.proofs.RunReports.{made_text_told}
 use Rattle.lfm_program.proofs.JournalEnds.{Chosen, at_place, choose, total_is_sum, within_counted}
 use Rattle.lfm_program.proofs.Refusals.{may_meet}
@@ -209,7 +210,7 @@ and_true true b x e f = f ∙ e
 and_true false b x e f = e
 
 -- the report of a run that ended
-pub reported : (p : Plan) (rs : List (Option Refusal)) (es : List (Entry TotalOp)) (rows : List Row) (t o : Total) (lawful succeeded : Bool) → plan_allowed p ≡ true → length p.lines < 65536
+pub reported : (p : Plan) (rs : List (Option Refusal)) (es : List (Entry TotalOp)) (rows : List Row) (t o : Total) (lawful succeeded : Bool) → plan_allowed p ≡ true → length p.lines < max_lines
     → Within p.workers es → LawfulJournal es → ((w : ℕ) → 0 < w → w ≤ p.workers → length (own w es) ≤ max_journal / p.workers) → Ran p rs es → length rs ≡ p.workers → rows ≡ rows_from (run_row es (refusal_at rs)) 1 p.workers → t ≡ after_all total_after o es → o ≡ record { 0 = 0 } → lawful ≡ true
     → succeeded ≡ are_none rs → IsReport p (report_text rows t.0 lawful) succeeded
 reported p rs es rows t o lawful succeeded is_allowed few within obeys shares ran many rows_are total_is opening_is lawful_is succeeded_is = record {

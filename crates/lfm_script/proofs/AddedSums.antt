@@ -99,19 +99,19 @@ lines_sum n c (l ∷ ls) e =
     (λ s. own_commands (l.worker == s) l.command (commands_of s ls)) in
     omega arith
 
-small : (k : ℕ) → not (nat_lt max_number k) ≡ true → k ≤ 1000000000
+small : (k : ℕ) → not (nat_lt max_number k) ≡ true → k ≤ max_number
 small k e = grind (arith, tests)
 
 sum_one : (k : ℕ) → sum (k ∷ []) ≡ k
 sum_one k = omega arith
 
-small_command : (c : ℕ) (m : Command) → command_allowed c m ≡ true → sum (command_adds m) ≤ 1000000000
+small_command : (c : ℕ) (m : Command) → command_allowed c m ≡ true → sum (command_adds m) ≤ max_number
 small_command c (AddNumber k) e = let s = small k e in let one = sum_one k in omega arith
 small_command c (Until d k) e = omega arith
 small_command c (One d) e = omega arith
 small_command c (All d) e = omega arith
 
-pub lines_small : (n c : ℕ) (ls : List ScriptLine) → lines_allowed n c ls ≡ true → sum (lines_adds ls) ≤ length ls * 1000000000
+pub lines_small : (n c : ℕ) (ls : List ScriptLine) → lines_allowed n c ls ≡ true → sum (lines_adds ls) ≤ length ls * max_number
 lines_small n c [] e = omega arith
 lines_small n c (l ∷ ls) e =
     let is = allowed n c l ls e in

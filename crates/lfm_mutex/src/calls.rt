@@ -5,7 +5,7 @@ ghost use Rattle.std.specs.Prelude.{◌≡◌, ◌≢◌, ◌+◌, ◌≤◌, �
 ghost use Rattle.lfm_model.specs.declared.answers.How.{How as HowNow};
 ghost use Rattle.lfm_protocol.specs.declared.points.Point.TheVariants.{ReleaseOwnerStore};
 ghost use Rattle.lfm_protocol.specs.declared.points.Releaser.{Releaser};
-ghost use Rattle.lfm_table.specs.FastPath.{IsSame};
+ghost use Rattle.lfm_table.specs.FastPath.{KeepsNumberAndLimits};
 ghost use Rattle.lfm_table.specs.Rule.{value_in, last_hold};
 ghost use Rattle.lfm_mutex.specs.calls.Due.{due};
 ghost use Rattle.lfm_mutex.specs.calls.FailedPushes.{Spends, MakesBesideFailures};
@@ -48,7 +48,7 @@ pub fn finish<T: Kept>(mutex: &Mutex<T>, seat: &mut Seat<T>) -> (Turn, Option<Wa
     requires keeps { is_release seat.old.state.point ≡ false }
     ensures belongs { seat.new.table_seat.place.table_id ≡ seat.old.table_seat.place.table_id }
     ensures woken { WakesNobody seat.old seat.new }
-    ensures same { IsSame seat.old.table_seat seat.new.table_seat }
+    ensures same { KeepsNumberAndLimits seat.old.table_seat seat.new.table_seat }
     ensures ends { Ends (errand seat.old.state.point) result.0 }
     ensures last { last_hold seat.new.table_seat.place.me.0 ≡ last_hold seat.old.table_seat.place.me.0 }
     ensures held { (how : HowNow) → how_held result.0 ≡ Some how → Holds T.follows T.fits seat.old.table_seat.number (last_hold seat.old.table_seat.place.me.0) how seat.new.state seat.new.table_seat.moving seat.new.table_seat.place.me.0 }
@@ -128,7 +128,7 @@ fn finish_from_owner_store<T: Kept>(mutex: &Mutex<T>, seat: &mut Seat<T>) -> (Tu
     requires leaves { MayBeLeft T.follows T.fits seat.old.table_seat.moving seat.old.table_seat.place.me.0 }
     ensures belongs { seat.new.table_seat.place.table_id ≡ seat.old.table_seat.place.table_id }
     ensures woken { WakesNobody seat.old seat.new }
-    ensures same { IsSame seat.old.table_seat seat.new.table_seat }
+    ensures same { KeepsNumberAndLimits seat.old.table_seat seat.new.table_seat }
     ensures ends { Ends (errand seat.old.state.point) result.0 }
     ensures last { last_hold seat.new.table_seat.place.me.0 ≡ (value_in seat.old.table_seat.moving, seat.old.table_seat.place.me.0.found, seat.old.table_seat.place.me.0.limits, seat.old.table_seat.place.me.0.holds_ended + 1) }
     ensures ran { Ran seat.old.table_seat.number (opens seat.old.state) seat.old.table_seat.place.me.0 result.0 seat.new.state seat.new.table_seat.place.me.0 }

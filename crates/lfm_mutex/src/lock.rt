@@ -6,7 +6,7 @@ ghost use Rattle.lfm_protocol.specs.declared.answers.Call.{Call as CallNow};
 ghost use Rattle.lfm_protocol.specs.declared.answers.Turn.TheVariants.{Ended};
 ghost use Rattle.lfm_protocol.specs.declared.points.Point.TheVariants.{Rest, LockOwnerLoad};
 ghost use Rattle.lfm_protocol.specs.Limits.{max_depth};
-ghost use Rattle.lfm_table.specs.FastPath.{IsSame};
+ghost use Rattle.lfm_table.specs.FastPath.{KeepsNumberAndLimits};
 ghost use Rattle.lfm_mutex.specs.Belongs.{Beside, OfMutex, limits_of};
 ghost use Rattle.lfm_mutex.specs.calls.Due.{due};
 ghost use Rattle.lfm_mutex.specs.calls.FailedPushes.{Spends, MakesBesideFailures};
@@ -193,7 +193,7 @@ fn queue<T: Kept>(mutex: &Mutex<T>, seat: &mut Seat<T>) -> (Asked, Option<WakeUp
     requires flat { seat.old.state.depth ≡ 0 }
     ensures belongs { seat.new.table_seat.place.table_id ≡ seat.old.table_seat.place.table_id }
     ensures woken { WakesNobody seat.old seat.new }
-    ensures same { IsSame seat.old.table_seat seat.new.table_seat }
+    ensures same { KeepsNumberAndLimits seat.old.table_seat seat.new.table_seat }
     ensures made { Course T.follows T.fits seat.old.table_seat.number seat.old.state seat.old.table_seat.moving seat.old.table_seat.place.me.0 (Ended (Answered.Asked result.0)) seat.new.state seat.new.table_seat.moving seat.new.table_seat.place.me.0 }
     ensures spends { Spends (due seat.old.table_seat.limits.seats (length seat.old.table_seat.place.me.0.popped) seat.old.state.point) 0 seat.old.table_seat.place.me.0.trail seat.new.table_seat.place.me.0.trail }
     ensures wakes { Wakes seat.old.table_seat.limits.seats result.1 seat.old.table_seat.place.me.0.trail seat.new.table_seat.place.me.0.trail }
@@ -225,7 +225,7 @@ fn finish_ask<T: Kept>(mutex: &Mutex<T>, seat: &mut Seat<T>) -> (Asked, Option<W
     requires locks { errand seat.old.state.point ≡ locking }
     ensures belongs { seat.new.table_seat.place.table_id ≡ seat.old.table_seat.place.table_id }
     ensures woken { WakesNobody seat.old seat.new }
-    ensures same { IsSame seat.old.table_seat seat.new.table_seat }
+    ensures same { KeepsNumberAndLimits seat.old.table_seat seat.new.table_seat }
     ensures made { Course T.follows T.fits seat.old.table_seat.number seat.old.state seat.old.table_seat.moving seat.old.table_seat.place.me.0 (Ended (Answered.Asked result.0)) seat.new.state seat.new.table_seat.moving seat.new.table_seat.place.me.0 }
     ensures spends { Spends (due seat.old.table_seat.limits.seats (length seat.old.table_seat.place.me.0.popped) seat.old.state.point) 0 seat.old.table_seat.place.me.0.trail seat.new.table_seat.place.me.0.trail }
     ensures wakes { Wakes seat.old.table_seat.limits.seats result.1 seat.old.table_seat.place.me.0.trail seat.new.table_seat.place.me.0.trail }

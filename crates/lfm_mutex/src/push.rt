@@ -2,7 +2,7 @@
 //! it was loaded, and no handoff is posted. Everything else is the slow path (`calls::finish`).
 ghost use Rattle.std.specs.Prelude.{◌≡◌};
 ghost use Rattle.lfm_protocol.specs.declared.points.Point.TheVariants.{PushLoad};
-ghost use Rattle.lfm_table.specs.FastPath.{IsSame, SeatFits};
+ghost use Rattle.lfm_table.specs.FastPath.{KeepsNumberAndLimits, SeatFits};
 ghost use Rattle.lfm_mutex.specs.calls.Pushes.{PlainCourse, push_end};
 
 use crate::stops::PushStop;
@@ -33,7 +33,7 @@ pub(crate) fn push<T: Kept>(
     requires fit { SeatFits seat.old state.now }
     requires stands { state.now.point ≡ PushLoad pusher }
     ensures belongs { seat.new.place.table_id ≡ seat.old.place.table_id }
-    ensures same { IsSame seat.old seat.new }
+    ensures same { KeepsNumberAndLimits seat.old seat.new }
     ensures fit { SeatFits seat.new (push_end result state.now pusher).seat }
     ensures made { PlainCourse T.follows T.fits seat.old.number seat.old.limits.seats state.now seat.old.moving seat.old.place.me.0 (push_end result state.now pusher).turn (push_end result state.now pusher).seat seat.new.moving seat.new.place.me.0 }
 {

@@ -5,7 +5,7 @@ ghost use Rattle.lfm_protocol.specs.declared.answers.Answer.TheVariants as Answe
 ghost use Rattle.lfm_protocol.specs.declared.answers.Call.{Call as CallNow};
 ghost use Rattle.lfm_protocol.specs.declared.points.Point.TheVariants.{Rest, PushLoad, SendCountAdd};
 ghost use Rattle.lfm_protocol.specs.declared.points.Pusher.{Pusher as PusherNow};
-ghost use Rattle.lfm_table.specs.FastPath.{IsSame};
+ghost use Rattle.lfm_table.specs.FastPath.{KeepsNumberAndLimits};
 ghost use Rattle.lfm_mutex.specs.Belongs.{Beside, OfMutex, limits_of};
 ghost use Rattle.lfm_mutex.specs.calls.Due.{due};
 ghost use Rattle.lfm_mutex.specs.calls.FailedPushes.{Spends, MakesBesideFailures};
@@ -127,7 +127,7 @@ fn send_without_hold<T: Kept>(
     requires flat { seat.old.state.depth ≡ 0 }
     ensures belongs { seat.new.table_seat.place.table_id ≡ seat.old.table_seat.place.table_id }
     ensures woken { WakesNobody seat.old seat.new }
-    ensures same { IsSame seat.old.table_seat seat.new.table_seat }
+    ensures same { KeepsNumberAndLimits seat.old.table_seat seat.new.table_seat }
     ensures ends { Ends sending (send_turn result.0) }
     ensures made { Course T.follows T.fits seat.old.table_seat.number seat.old.state seat.old.table_seat.moving seat.old.table_seat.place.me.0 (send_turn result.0) seat.new.state seat.new.table_seat.moving seat.new.table_seat.place.me.0 }
     ensures spends { Spends (due seat.old.table_seat.limits.seats (length seat.old.table_seat.place.me.0.popped) seat.old.state.point) 0 seat.old.table_seat.place.me.0.trail seat.new.table_seat.place.me.0.trail }
@@ -163,7 +163,7 @@ fn send_with_hold<T: Kept>(
     requires held { 0 < seat.old.state.depth }
     ensures belongs { seat.new.table_seat.place.table_id ≡ seat.old.table_seat.place.table_id }
     ensures woken { WakesNobody seat.old seat.new }
-    ensures same { IsSame seat.old.table_seat seat.new.table_seat }
+    ensures same { KeepsNumberAndLimits seat.old.table_seat seat.new.table_seat }
     ensures ends { Ends sending (send_turn result.0) }
     ensures made { Course T.follows T.fits seat.old.table_seat.number seat.old.state seat.old.table_seat.moving seat.old.table_seat.place.me.0 (send_turn result.0) seat.new.state seat.new.table_seat.moving seat.new.table_seat.place.me.0 }
     ensures spends { Spends (due seat.old.table_seat.limits.seats (length seat.old.table_seat.place.me.0.popped) seat.old.state.point) 0 seat.old.table_seat.place.me.0.trail seat.new.table_seat.place.me.0.trail }
@@ -194,7 +194,7 @@ fn queue_target<T: Kept>(
     requires stands { seat.old.state.point ≡ PushLoad (PusherNow.Sender target) }
     ensures belongs { seat.new.table_seat.place.table_id ≡ seat.old.table_seat.place.table_id }
     ensures woken { WakesNobody seat.old seat.new }
-    ensures same { IsSame seat.old.table_seat seat.new.table_seat }
+    ensures same { KeepsNumberAndLimits seat.old.table_seat seat.new.table_seat }
     ensures ends { Ends sending (send_turn result.0) }
     ensures made { Course T.follows T.fits seat.old.table_seat.number seat.old.state seat.old.table_seat.moving seat.old.table_seat.place.me.0 (send_turn result.0) seat.new.state seat.new.table_seat.moving seat.new.table_seat.place.me.0 }
     ensures spends { Spends (due seat.old.table_seat.limits.seats (length seat.old.table_seat.place.me.0.popped) seat.old.state.point) 0 seat.old.table_seat.place.me.0.trail seat.new.table_seat.place.me.0.trail }
@@ -231,7 +231,7 @@ fn finish_send<T: Kept>(
     requires sends { errand seat.old.state.point ≡ sending }
     ensures belongs { seat.new.table_seat.place.table_id ≡ seat.old.table_seat.place.table_id }
     ensures woken { WakesNobody seat.old seat.new }
-    ensures same { IsSame seat.old.table_seat seat.new.table_seat }
+    ensures same { KeepsNumberAndLimits seat.old.table_seat seat.new.table_seat }
     ensures ends { Ends sending (send_turn result.0) }
     ensures made { Course T.follows T.fits seat.old.table_seat.number seat.old.state seat.old.table_seat.moving seat.old.table_seat.place.me.0 (send_turn result.0) seat.new.state seat.new.table_seat.moving seat.new.table_seat.place.me.0 }
     ensures spends { Spends (due seat.old.table_seat.limits.seats (length seat.old.table_seat.place.me.0.popped) seat.old.state.point) 0 seat.old.table_seat.place.me.0.trail seat.new.table_seat.place.me.0.trail }

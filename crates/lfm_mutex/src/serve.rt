@@ -4,7 +4,7 @@ ghost use Rattle.std.specs.Prelude.{◌≡◌, ◌+◌, ◌≤◌, length, false
 ghost use Rattle.lfm_protocol.specs.declared.points.Carrier.{Carrier as CarrierNow};
 ghost use Rattle.lfm_protocol.specs.declared.points.Point.TheVariants.{GrantWakeStore, TakeClearHead};
 ghost use Rattle.lfm_protocol.specs.After.{take};
-ghost use Rattle.lfm_table.specs.FastPath.{IsSame};
+ghost use Rattle.lfm_table.specs.FastPath.{KeepsNumberAndLimits};
 ghost use Rattle.lfm_table.specs.Steps.{oldest_in};
 ghost use Rattle.lfm_mutex.specs.calls.Runs.{errand, is_release, releasing, weight};
 ghost use Rattle.lfm_mutex.specs.calls.FastPath.{Course, release_turn};
@@ -37,7 +37,7 @@ fn finish_release<T: Kept>(
     requires keeps { is_release seat.old.state.point ≡ false }
     ensures belongs { seat.new.table_seat.place.table_id ≡ seat.old.table_seat.place.table_id }
     ensures woken { WakesNobody seat.old seat.new }
-    ensures same { IsSame seat.old.table_seat seat.new.table_seat }
+    ensures same { KeepsNumberAndLimits seat.old.table_seat seat.new.table_seat }
     ensures made { Course T.follows T.fits seat.old.table_seat.number seat.old.state seat.old.table_seat.moving seat.old.table_seat.place.me.0 (release_turn releaser result.0) seat.new.state seat.new.table_seat.moving seat.new.table_seat.place.me.0 }
     ensures bounded { length seat.new.table_seat.place.me.0.trail ≤ length seat.old.table_seat.place.me.0.trail + weight seat.old.table_seat.limits.seats (length seat.old.table_seat.place.me.0.popped) seat.old.state.point }
     ensures wakes { Wakes seat.old.table_seat.limits.seats result.1 seat.old.table_seat.place.me.0.trail seat.new.table_seat.place.me.0.trail }
@@ -80,7 +80,7 @@ fn grant<T: Kept>(
     requires flat { seat.old.state.depth ≡ 0 }
     ensures belongs { seat.new.table_seat.place.table_id ≡ seat.old.table_seat.place.table_id }
     ensures woken { WakesNobody seat.old seat.new }
-    ensures same { IsSame seat.old.table_seat seat.new.table_seat }
+    ensures same { KeepsNumberAndLimits seat.old.table_seat seat.new.table_seat }
     ensures made { Course T.follows T.fits seat.old.table_seat.number seat.old.state seat.old.table_seat.moving seat.old.table_seat.place.me.0 (release_turn releaser result.0) seat.new.state seat.new.table_seat.moving seat.new.table_seat.place.me.0 }
     ensures bounded { length seat.new.table_seat.place.me.0.trail ≤ length seat.old.table_seat.place.me.0.trail + weight seat.old.table_seat.limits.seats (length seat.old.table_seat.place.me.0.popped) seat.old.state.point }
     ensures wakes { Wakes seat.old.table_seat.limits.seats result.1 seat.old.table_seat.place.me.0.trail seat.new.table_seat.place.me.0.trail }
@@ -120,7 +120,7 @@ fn serve_pushed<T: Kept>(
     requires flat { seat.old.state.depth ≡ 0 }
     ensures belongs { seat.new.table_seat.place.table_id ≡ seat.old.table_seat.place.table_id }
     ensures woken { WakesNobody seat.old seat.new }
-    ensures same { IsSame seat.old.table_seat seat.new.table_seat }
+    ensures same { KeepsNumberAndLimits seat.old.table_seat seat.new.table_seat }
     ensures made { Course T.follows T.fits seat.old.table_seat.number seat.old.state seat.old.table_seat.moving seat.old.table_seat.place.me.0 (release_turn releaser result.0) seat.new.state seat.new.table_seat.moving seat.new.table_seat.place.me.0 }
     ensures bounded { length seat.new.table_seat.place.me.0.trail ≤ length seat.old.table_seat.place.me.0.trail + weight seat.old.table_seat.limits.seats (length seat.old.table_seat.place.me.0.popped) seat.old.state.point }
     ensures wakes { Wakes seat.old.table_seat.limits.seats result.1 seat.old.table_seat.place.me.0.trail seat.new.table_seat.place.me.0.trail }
@@ -163,7 +163,7 @@ pub(crate) fn serve<T: Kept>(
     requires flat { seat.old.state.depth ≡ 0 }
     ensures belongs { seat.new.table_seat.place.table_id ≡ seat.old.table_seat.place.table_id }
     ensures woken { WakesNobody seat.old seat.new }
-    ensures same { IsSame seat.old.table_seat seat.new.table_seat }
+    ensures same { KeepsNumberAndLimits seat.old.table_seat seat.new.table_seat }
     ensures made { Course T.follows T.fits seat.old.table_seat.number seat.old.state seat.old.table_seat.moving seat.old.table_seat.place.me.0 (release_turn releaser result.0) seat.new.state seat.new.table_seat.moving seat.new.table_seat.place.me.0 }
     ensures bounded { length seat.new.table_seat.place.me.0.trail ≤ length seat.old.table_seat.place.me.0.trail + weight seat.old.table_seat.limits.seats (length seat.old.table_seat.place.me.0.popped) seat.old.state.point }
     ensures wakes { Wakes seat.old.table_seat.limits.seats result.1 seat.old.table_seat.place.me.0.trail seat.new.table_seat.place.me.0.trail }

@@ -10,7 +10,7 @@ ghost use Rattle.lfm_mutex.specs.calls.RunGoesOn.{RunGoesOnFrom};
 ghost use Rattle.lfm_mutex.specs.calls.Runs.{is_release};
 ghost use Rattle.lfm_mutex.specs.calls.SeatSteps.{Begins, StepsOn};
 ghost use Rattle.lfm_mutex.specs.calls.Sight.{sight, MayLeave};
-ghost use Rattle.lfm_table.specs.FastPath.{IsSame};
+ghost use Rattle.lfm_table.specs.FastPath.{KeepsNumberAndLimits};
 ghost use Rattle.lfm_table.specs.Grants.{granted_at};
 ghost use Rattle.lfm_table.specs.Steps.{MayBeLeft, StepLeadsTo};
 ghost use Rattle.lfm_mutex.specs.calls.Woken.{WakesNobody, WokenAsGranted};
@@ -98,7 +98,7 @@ pub(crate) fn make_next<T: Kept>(mutex: &Mutex<T>, seat: &mut Seat<T>) -> (Turn,
     requires leaves { (r : Releaser) → seat.old.state.point ≡ ReleaseOwnerStore r → MayBeLeft T.follows T.fits seat.old.table_seat.moving seat.old.table_seat.place.me.0 }
     ensures belongs { seat.new.table_seat.place.table_id ≡ seat.old.table_seat.place.table_id }
     ensures woken { WakesNobody seat.old seat.new }
-    ensures same { IsSame seat.old.table_seat seat.new.table_seat }
+    ensures same { KeepsNumberAndLimits seat.old.table_seat seat.new.table_seat }
     ensures event { StepLeadsTo (kind seat.old.state.point) T.follows T.fits seat.old.state seat.old.table_seat.moving seat.old.table_seat.place.me result.0 seat.new.state seat.new.table_seat.moving seat.new.table_seat.place.me }
     ensures wakes { result.1 ≡ granted_at seat.old.state.point }
 {

@@ -24,7 +24,7 @@ pub record MadeStep {T : Type 0} (follows : ℕ → T → T → Type 0) (suits :
   pub fit : Fit number words id l (stepped_by p number n (oldest_in a')).seat m' a'
   pub event : Event follows suits p a m.0 (stepped_by p number n (oldest_in a')).turn (stepped_by p number n (oldest_in a')).seat a' m'.0
 
--- both, said of a `TableSeat`
+-- `Fit` and `MadeStep`, for a `TableSeat`
 
 -- the seat, whose plain data are p, is as the steps leave it
 abbrev pub SeatFits : {T : Type 0} → TableSeat T → SeatState → Type 0
@@ -35,5 +35,5 @@ abbrev pub StepMade : {T : Type 0} → (ℕ → T → T → Type 0) → (T → �
 StepMade follows suits s p n t = MadeStep follows suits t.number t.place.table_id.words t.place.id t.limits p n s.place.me s.moving t.place.me t.moving
 
 -- the seat is still of this number and these limits
-abbrev pub IsSame : {T : Type 0} → TableSeat T → TableSeat T → Type 0
-IsSame s t = (t.number ≡ s.number) × (t.limits ≡ s.limits)
+abbrev pub KeepsNumberAndLimits : {T : Type 0} → TableSeat T → TableSeat T → Type 0
+KeepsNumberAndLimits s t = (t.number ≡ s.number) × (t.limits ≡ s.limits)

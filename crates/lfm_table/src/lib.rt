@@ -1,7 +1,7 @@
 //! The words of a running mutex and the seats at them: what a seat knows, the rule that words and seats keep, the atomic
 //! operation of each kind of step, the steps as the fast paths make them (`steps`), what a step does with the slot (`slot`) and
 //! in the seat's own memory (`transition`), how a table begins and ends, and how a thread sleeps on a wake word and is woken.
-//! No call stands here.
+//! The calls are in `lfm_mutex`.
 #![tactic(auto)]
 
 pub mod kept;

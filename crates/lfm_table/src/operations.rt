@@ -14,7 +14,7 @@ ghost use Rattle.lfm_table.specs.Accesses.{becomes, is_store, word_at};
 ghost use Rattle.lfm_table.specs.Grants.{granted_at};
 ghost use Rattle.lfm_table.specs.Rule.{Advanced, value_in};
 ghost use Rattle.lfm_table.specs.Steps.{CanMake, stores};
-ghost use Rattle.lfm_table.specs.FastPath.{IsSame};
+ghost use Rattle.lfm_table.specs.FastPath.{KeepsNumberAndLimits};
 
 use crate::kept::Kept;
 use crate::layout::{COUNT, HANDOFF, OWNER, PUSH, link_at, wake_at};
@@ -284,7 +284,7 @@ pub(crate) fn operate<O: Operation, T: Kept, B: Plain<T>>(
     requires can { CanMake T.follows T.fits state.now (value_in seat.old.moving) seat.old.number seat.old.limits.seats table.now.table_id.words seat.old.place.me }
     requires is_next { kind_of state.now.point ≡ Some O.kind }
     ensures table { (seat.new.place.table_id ≡ seat.old.place.table_id) × (seat.new.place.id ≡ seat.old.place.id) }
-    ensures same { IsSame seat.old seat.new }
+    ensures same { KeepsNumberAndLimits seat.old seat.new }
     ensures moving { seat.new.moving ≡ seat.old.moving }
     ensures step { Advanced T.follows T.fits state.now (value_in seat.old.moving) seat.old.place.me result seat.new.place.me }
 {
@@ -324,7 +324,7 @@ fn operate_by_kind<T: Kept, B: Plain<T>>(
     requires can { CanMake T.follows T.fits state.now (value_in seat.old.moving) seat.old.number seat.old.limits.seats table.now.table_id.words seat.old.place.me }
     requires is_next { kind_of state.now.point ≡ Some kind }
     ensures table { (seat.new.place.table_id ≡ seat.old.place.table_id) × (seat.new.place.id ≡ seat.old.place.id) }
-    ensures same { IsSame seat.old seat.new }
+    ensures same { KeepsNumberAndLimits seat.old seat.new }
     ensures moving { seat.new.moving ≡ seat.old.moving }
     ensures step { Advanced T.follows T.fits state.now (value_in seat.old.moving) seat.old.place.me result seat.new.place.me }
 {
@@ -361,7 +361,7 @@ pub fn make_step<T: Kept, B: Plain<T>>(
     requires can { CanMake T.follows T.fits state.now (value_in seat.old.moving) seat.old.number seat.old.limits.seats table.now.table_id.words seat.old.place.me }
     requires is_next { kind_of state.now.point ≡ Some kind }
     ensures table { (seat.new.place.table_id ≡ seat.old.place.table_id) × (seat.new.place.id ≡ seat.old.place.id) }
-    ensures same { IsSame seat.old seat.new }
+    ensures same { KeepsNumberAndLimits seat.old seat.new }
     ensures moving { seat.new.moving ≡ seat.old.moving }
     ensures step { Advanced T.follows T.fits state.now (value_in seat.old.moving) seat.old.place.me result.0 seat.new.place.me }
     ensures wakes { result.1 ≡ granted_at state.now.point }

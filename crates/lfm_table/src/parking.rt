@@ -3,7 +3,7 @@
 //! No grant is missed. A thread parks only after it has loaded a word that is no grant, and it sleeps only while the low 32
 //! bits of the word are the ones that it loaded. In these bits a grant differs from every other state, so one that is stored
 //! before the thread sleeps keeps it awake. One that is stored later leaves a wake-up, which can't be dropped and ends in
-//! `wake`. It is not proved that the system then wakes the thread.
+//! `wake`. It is not proved that `wake` asks the system for it, nor that the system then wakes the thread.
 ghost use Rattle.std.specs.Prelude.{◌≡◌, ◌+◌, ◌*◌, ◌<◌, ◌≤◌, [], ◌∷◌, ◌++◌};
 ghost use Rattle.lfm_protocol.specs.Limits.{max_seats};
 

@@ -1,6 +1,6 @@
 //! The words of a mutex as a table, and a seat at it. Their fields are private, so an operation on a word is made by a function
-//! of this crate alone. The functions here are for this crate's own steps. A crate above uses those steps, and the functions of
-//! the files `opening`, `looks` and `closing`.
+//! of this crate alone. The functions here are for this crate's own steps. A crate above makes its steps by `operations` and
+//! `steps`, moves the value by `slot`, and uses the functions of the files `opening`, `looks` and `closing`.
 ghost use Rattle.std.specs.Prelude.{◌≡◌, ◌+◌, ◌-◌, ◌%◌, ◌^◌, ◌<◌, ◌∷◌, ◌==◌, Option, bit_and};
 ghost use mathlib.Core.Option.{none};
 ghost use prog.Atomic.{either};

@@ -12,7 +12,7 @@ ghost use Rattle.lfm_laws.specs.table.Words.{stepped_by};
 ghost use Rattle.lfm_table.specs.declared.rule.Moving.{Moving};
 ghost use Rattle.lfm_table.specs.Rule.{is_carried};
 ghost use Rattle.lfm_table.specs.Steps.{gives_at, kept_out, put_in, Took};
-ghost use Rattle.lfm_table.specs.FastPath.{IsSame};
+ghost use Rattle.lfm_table.specs.FastPath.{KeepsNumberAndLimits};
 
 use crate::kept::Kept;
 use crate::layout::SLOT;
@@ -66,19 +66,20 @@ pub fn carries_after(state: &SeatState, number: u64, found: u64) -> bool
     }
 }
 
-/// A function of its own, since an assignment also drops the old value: its callers would be proved once for each case.
+/// Replaces what the seat has in hand. This is a function of its own, since an assignment also drops the old value, and its callers
+/// would be proved once for each case.
 fn put<T: Drop>(moving: &mut Option<MovingBox<T>>, new: Option<MovingBox<T>>)
     ensures { moving.new ≡ new }
 {
     *moving = new;
 }
 
-/// Puts this into the slot.
+/// Puts this value, if any, into the slot.
 fn put_back<T: Kept>(table: &SharedTable<T>, seat: &mut TableSeat<T>, moving: Option<MovingBox<T>>)
     requires table { seat.old.place.table_id ≡ table.now.table_id }
     requires slot { (x : Option (Moving T)) × (seat.old.place.me.1 ≡ (0, x) ∷ rest seat.old.place.me.1) }
     ensures table { (seat.new.place.table_id ≡ seat.old.place.table_id) × (seat.new.place.id ≡ seat.old.place.id) }
-    ensures same { IsSame seat.old seat.new }
+    ensures same { KeepsNumberAndLimits seat.old seat.new }
     ensures moving { seat.new.moving ≡ seat.old.moving }
     ensures slot { seat.new.place.me ≡ (seat.old.place.me.0, (0, moving) ∷ rest seat.old.place.me.1) }
 {
@@ -87,11 +88,11 @@ fn put_back<T: Kept>(table: &SharedTable<T>, seat: &mut TableSeat<T>, moving: Op
 
 /// Puts the value that the seat carries into the slot.
 #[inline(always)]
-pub fn put_out<T: Kept>(table: &SharedTable<T>, seat: &mut TableSeat<T>)
+pub(crate) fn put_out<T: Kept>(table: &SharedTable<T>, seat: &mut TableSeat<T>)
     requires table { seat.old.place.table_id ≡ table.now.table_id }
     requires slot { (x : Option (Moving T)) × (seat.old.place.me.1 ≡ (0, x) ∷ rest seat.old.place.me.1) }
     ensures table { (seat.new.place.table_id ≡ seat.old.place.table_id) × (seat.new.place.id ≡ seat.old.place.id) }
-    ensures same { IsSame seat.old seat.new }
+    ensures same { KeepsNumberAndLimits seat.old seat.new }
     ensures moving { seat.new.moving ≡ None }
     ensures slot { seat.new.place.me ≡ (seat.old.place.me.0, (0, seat.old.moving) ∷ rest seat.old.place.me.1) }
 {
@@ -101,11 +102,11 @@ pub fn put_out<T: Kept>(table: &SharedTable<T>, seat: &mut TableSeat<T>)
 
 /// Takes the value out of the slot, for a seat that does not have it.
 #[inline(always)]
-pub fn take_out<T: Kept>(table: &SharedTable<T>, seat: &mut TableSeat<T>)
+pub(crate) fn take_out<T: Kept>(table: &SharedTable<T>, seat: &mut TableSeat<T>)
     requires table { seat.old.place.table_id ≡ table.now.table_id }
     requires slot { (x : Option (Moving T)) × (seat.old.place.me.1 ≡ (0, x) ∷ rest seat.old.place.me.1) }
     ensures table { (seat.new.place.table_id ≡ seat.old.place.table_id) × (seat.new.place.id ≡ seat.old.place.id) }
-    ensures same { IsSame seat.old seat.new }
+    ensures same { KeepsNumberAndLimits seat.old seat.new }
     ensures took { (seat.old.place.me.1 ≡ (0, seat.new.moving) ∷ rest seat.old.place.me.1) × (seat.new.place.me ≡ (seat.old.place.me.0, (0, None) ∷ rest seat.old.place.me.1)) }
 {
     let taken = table.exchange(&mut seat.place, SLOT, None);
@@ -117,7 +118,7 @@ pub fn prepare<T: Kept>(table: &SharedTable<T>, seat: &mut TableSeat<T>, gives: 
     requires table { seat.old.place.table_id ≡ table.now.table_id }
     requires slot { gives ≡ true → (x : Option (Moving T)) × (seat.old.place.me.1 ≡ (0, x) ∷ rest seat.old.place.me.1) }
     ensures table { (seat.new.place.table_id ≡ seat.old.place.table_id) × (seat.new.place.id ≡ seat.old.place.id) }
-    ensures same { IsSame seat.old seat.new }
+    ensures same { KeepsNumberAndLimits seat.old seat.new }
     ensures moving { seat.new.moving ≡ kept_out gives seat.old.moving }
     ensures slot { seat.new.place.me ≡ (seat.old.place.me.0, put_in gives seat.old.moving seat.old.place.me.1) }
 {
@@ -139,7 +140,7 @@ pub fn settle<T: Kept>(
     requires table { seat.old.place.table_id ≡ table.now.table_id }
     requires slot { is_carried seat.old.moving ≡ false → carries_value (stepped_by state.now seat.old.number found None).seat ≡ true → (x : Option (Moving T)) × (seat.old.place.me.1 ≡ (0, x) ∷ rest seat.old.place.me.1) }
     ensures table { (seat.new.place.table_id ≡ seat.old.place.table_id) × (seat.new.place.id ≡ seat.old.place.id) }
-    ensures same { IsSame seat.old seat.new }
+    ensures same { KeepsNumberAndLimits seat.old seat.new }
     ensures took { Took (is_carried seat.old.moving) (carries_value (stepped_by state.now seat.old.number found None).seat) seat.old.moving seat.old.place.me seat.new.moving seat.new.place.me }
 {
     if seat.moving.is_some() {

@@ -14,7 +14,7 @@ ghost use Rattle.lfm_laws.specs.table.Carried.{carries_value};
 ghost use Rattle.lfm_laws.specs.table.Words.{stepped_by};
 ghost use Rattle.lfm_table.specs.Grants.{granted_at};
 ghost use Rattle.lfm_table.specs.Steps.{gives_at, MayBeLeft};
-ghost use Rattle.lfm_table.specs.FastPath.{IsSame, SeatFits, StepMade};
+ghost use Rattle.lfm_table.specs.FastPath.{KeepsNumberAndLimits, SeatFits, StepMade};
 
 use crate::kept::Kept;
 use crate::operations::{
@@ -44,7 +44,7 @@ pub fn keep<O: Operation, T: Kept>(
     requires leaves { (r : Releaser) → state.now.point ≡ ReleaseOwnerStore r → MayBeLeft T.follows T.fits seat.old.moving seat.old.place.me.0 }
     requires stays { (n : ℕ) → carries_value (stepped_by state.now seat.old.number n None).seat ≡ carries_value state.now }
     ensures table { seat.new.place.table_id ≡ seat.old.place.table_id }
-    ensures same { IsSame seat.old seat.new }
+    ensures same { KeepsNumberAndLimits seat.old seat.new }
     ensures moving { seat.new.moving ≡ seat.old.moving }
     ensures step { StepMade T.follows T.fits seat.old state.now result seat.new }
 {
@@ -65,7 +65,7 @@ pub fn keep_held<O: Operation, T: Kept>(
     requires leaves { (r : Releaser) → state.now.point ≡ ReleaseOwnerStore r → MayBeLeft T.follows T.fits seat.old.moving seat.old.place.me.0 }
     requires held { carries_value state.now ≡ true }
     ensures table { seat.new.place.table_id ≡ seat.old.place.table_id }
-    ensures same { IsSame seat.old seat.new }
+    ensures same { KeepsNumberAndLimits seat.old seat.new }
     ensures moving { seat.new.moving ≡ seat.old.moving }
     ensures step { StepMade T.follows T.fits seat.old state.now result seat.new }
 {
@@ -87,7 +87,7 @@ pub fn load_other_owner<T: Kept>(
     requires idles { (n : ℕ) → n ≢ seat.old.number → carries_value (stepped_by state.now seat.old.number n None).seat ≡ false }
     ensures other { result ≢ seat.old.number }
     ensures table { seat.new.place.table_id ≡ seat.old.place.table_id }
-    ensures same { IsSame seat.old seat.new }
+    ensures same { KeepsNumberAndLimits seat.old seat.new }
     ensures moving { seat.new.moving ≡ seat.old.moving }
     ensures step { StepMade T.follows T.fits seat.old state.now result seat.new }
 {
@@ -110,7 +110,7 @@ pub fn gain<O: Operation, T: Kept>(
     requires gains { carries_value (stepped_by state.now seat.old.number 0 None).seat ≡ true }
     requires idles { (n : ℕ) → n ≢ 0 → carries_value (stepped_by state.now seat.old.number n None).seat ≡ false }
     ensures table { seat.new.place.table_id ≡ seat.old.place.table_id }
-    ensures same { IsSame seat.old seat.new }
+    ensures same { KeepsNumberAndLimits seat.old seat.new }
     ensures step { StepMade T.follows T.fits seat.old state.now result seat.new }
 {
     let found = operate::<O, T, Brand>(table, seat, state);
@@ -135,7 +135,7 @@ pub fn gain_by_grant<T: Kept>(
     requires gains { (n : ℕ) → 2 < n → carries_value (stepped_by state.now seat.old.number n None).seat ≡ true }
     requires idles { (n : ℕ) → n ≤ 2 → carries_value (stepped_by state.now seat.old.number n None).seat ≡ false }
     ensures table { seat.new.place.table_id ≡ seat.old.place.table_id }
-    ensures same { IsSame seat.old seat.new }
+    ensures same { KeepsNumberAndLimits seat.old seat.new }
     ensures step { StepMade T.follows T.fits seat.old state.now result seat.new }
 {
     let found = operate::<WakeLoad, T, Brand>(table, seat, state);
@@ -157,7 +157,7 @@ pub fn retake<T: Kept>(table: &SharedTable<T>, seat: &mut TableSeat<T>, state: &
     requires leaves { carries_value (stepped_by state.now seat.old.number 1 None).seat ≡ false }
     requires carries { (n : ℕ) → n ≢ 1 → carries_value (stepped_by state.now seat.old.number n None).seat ≡ true }
     ensures table { seat.new.place.table_id ≡ seat.old.place.table_id }
-    ensures same { IsSame seat.old seat.new }
+    ensures same { KeepsNumberAndLimits seat.old seat.new }
     ensures step { StepMade T.follows T.fits seat.old state.now result seat.new }
 {
     put_out(table, seat);
@@ -177,7 +177,7 @@ pub fn collect<T: Kept>(table: &SharedTable<T>, seat: &mut TableSeat<T>, state: 
     requires is_next { kind_of state.now.point ≡ Some KindNow.LinkLoad }
     requires held { carries_value state.now ≡ true }
     ensures table { seat.new.place.table_id ≡ seat.old.place.table_id }
-    ensures same { IsSame seat.old seat.new }
+    ensures same { KeepsNumberAndLimits seat.old seat.new }
     ensures step { StepMade T.follows T.fits seat.old state.now result seat.new }
 {
     let number = seat.number;
@@ -201,7 +201,7 @@ pub fn grant<T: Kept>(
     requires gives { gives_at state.now.point ≡ true }
     requires leaves { (n : ℕ) → carries_value (stepped_by state.now seat.old.number n None).seat ≡ false }
     ensures table { seat.new.place.table_id ≡ seat.old.place.table_id }
-    ensures same { IsSame seat.old seat.new }
+    ensures same { KeepsNumberAndLimits seat.old seat.new }
     ensures step { (n : ℕ) × StepMade T.follows T.fits seat.old state.now n seat.new }
     ensures wakes { result ≡ granted_at state.now.point }
 {

@@ -13,7 +13,7 @@ ghost use Rattle.lfm_mutex.specs.calls.RunGoesOn.{RunGoesOnFrom};
 ghost use Rattle.lfm_mutex.specs.calls.Runs.{is_release};
 ghost use Rattle.lfm_mutex.specs.calls.SeatSteps.{StepsOn, stores_owner};
 ghost use Rattle.lfm_mutex.specs.calls.Sight.{sight, MayLeave};
-ghost use Rattle.lfm_table.specs.FastPath.{IsSame};
+ghost use Rattle.lfm_table.specs.FastPath.{KeepsNumberAndLimits};
 ghost use Rattle.lfm_table.specs.Grants.{granted_at};
 ghost use Rattle.lfm_table.specs.Steps.{MayBeLeft, Event};
 ghost use Rattle.lfm_mutex.specs.calls.Woken.{WakesNobody, WokenAsGranted};
@@ -42,7 +42,7 @@ pub(crate) fn make_of<T: Kept>(
     ensures belongs { seat.new.table_seat.place.table_id ≡ seat.old.table_seat.place.table_id }
     ensures woken { WakesNobody seat.old seat.new }
     ensures run { RunGoesOnFrom seat.old seat.new }
-    ensures same { IsSame seat.old.table_seat seat.new.table_seat }
+    ensures same { KeepsNumberAndLimits seat.old.table_seat seat.new.table_seat }
     ensures event { Event T.follows T.fits seat.old.state seat.old.table_seat.moving seat.old.table_seat.place.me.0 result.0 seat.new.state seat.new.table_seat.moving seat.new.table_seat.place.me.0 }
     ensures wakes { result.1 ≡ granted_at seat.old.state.point }
 {
@@ -75,7 +75,7 @@ pub(crate) fn make_waking_none<T: Kept>(mutex: &Mutex<T>, seat: &mut Seat<T>, ki
     ensures belongs { seat.new.table_seat.place.table_id ≡ seat.old.table_seat.place.table_id }
     ensures woken { WakesNobody seat.old seat.new }
     ensures run { RunGoesOnFrom seat.old seat.new }
-    ensures same { IsSame seat.old.table_seat seat.new.table_seat }
+    ensures same { KeepsNumberAndLimits seat.old.table_seat seat.new.table_seat }
     ensures event { Event T.follows T.fits seat.old.state seat.old.table_seat.moving seat.old.table_seat.place.me.0 result seat.new.state seat.new.table_seat.moving seat.new.table_seat.place.me.0 }
 {
     let (turn, wake_up) = make_of(mutex, seat, kind);

@@ -1,9 +1,8 @@
 -- What each export does to the handles that it is given, and what its answer tells. A handle is x before and y after.
 use lib.ListN.{get_elem?}
 use mathlib.Core.Option.{some}
-use Rattle.std.specs.Prelude.{◌≡◌, ◌⊎◌, ⊤, ℕ, ◌+◌, ◌-◌, ◌<◌, ◌≤◌, All, List, [], ◌∷◌, ◌++◌, map, reverse, true, false, Option, Some, None, Result, vec_len}
+use Rattle.std.specs.Prelude.{◌≡◌, ◌⊎◌, ℕ, ◌+◌, ◌-◌, ◌<◌, ◌≤◌, All, List, [], ◌∷◌, ◌++◌, map, reverse, true, false, Option, Some, None, Result, vec_len}
 use Rattle.std.specs.Arc.{arc_value}
-use Rattle.lfm_model.specs.SeatNumbers.{IsSeatNo}
 use Rattle.lfm_model.specs.declared.answers.Asked.{Asked}
 use Rattle.lfm_model.specs.declared.answers.How.{How}
 use Rattle.lfm_model.specs.declared.answers.Locked.{Locked}
@@ -29,7 +28,7 @@ use Rattle.lfm_c.specs.declared.handles.SeatHandle.{SeatHandle}
 use Rattle.lfm_c.specs.declared.handles.Seated.{Seated}
 use Rattle.lfm_c.specs.declared.handles.Whole.{Whole}
 use Rattle.lfm_c.specs.declared.status.Status.{Status}
-use Rattle.lfm_c.specs.Status.{asked, code, code_of_refusal, faulted, hindered, locked, received, refused_target, sent, told, unlocked, Names}
+use Rattle.lfm_c.specs.Status.{asked, code, code_of_refusal, faulted, hindered, locked, received, told, unlocked, Names}
 
 -- the number that a mutex of this library guards may change in any way
 abbrev pub Follows : ℕ → ℕ → ℕ → Type 0
@@ -65,19 +64,6 @@ abbrev pub TellsUnlock : SeatHandle → SeatHandle → ℕ → Type 0
 TellsUnlock x y n =
     OfSeated (WakesOf (λ l s t status. (r : Result Unlocked Refusal) × Sight.Unlocks s t r × MakesCall l (λ a. Answer.Unlocked a) Call.Unlock s t r × MakesAtMost (l.seats + 7) s t × (status ≡ unlocked r))) x.seated y.seated n
 
-abbrev pub TellsWait : SeatHandle → SeatHandle → ℕ → Type 0
-TellsWait x y n =
-    OfSeated (WakesOf (λ l s t status. (r : Result Unlocked Refusal) × Sight.StartsWait l.budget s t r × MakesCall l (λ a. Answer.Waiting a) Call.StartWait s t r × MakesAtMost (l.seats + 8) s t × (status ≡ unlocked r))) x.seated y.seated n
-
-abbrev pub SendsTo : ℕ → Limits → Sight ℕ → Sight ℕ → Status → Type 0
-SendsTo target l s t status =
-    (r : Result ⊤ Refusal) × Sight.Sends l.seats s target t r × MakesCall l (λ a. Answer.Sent) (Call.SendLock target) s t r × MakesBesideFailures (l.seats + 9) s t × (status ≡ sent r)
-
--- a number that no seat can have is refused before the mutex is called
-abbrev pub TellsSend : SeatHandle → ℕ → SeatHandle → ℕ → Type 0
-TellsSend x target y n =
-    OfSeated (λ l s t k. WakesOf (SendsTo target) l s t k ⊎ ((IsSeatNo target → ⊥) × (t ≡ s) × (k ≡ code_of_refusal (refused_target s.asleep)))) x.seated y.seated n
-
 -- a reader of a seat, which leaves the handle as it is, and answers 0 of a blank one
 abbrev pub ReadsSeated : (Seated → ℕ) → Option Seated → ℕ → Type 0
 ReadsSeated f None n = n ≡ 0
@@ -91,6 +77,14 @@ TellsDepth x y n = (y ≡ x) × ReadsSeated (λ a. (sight a.seat).depth) x.seate
 
 abbrev pub TellsLeft : SeatHandle → SeatHandle → ℕ → Type 0
 TellsLeft x y n = (y ≡ x) × ReadsSeated (λ a. (limits_of (arc_value a.mutex)).budget - (sight a.seat).takes) x.seated n
+
+-- a look at the count, of which nothing is promised but that it leaves the handle as it is, and finds 0 of a blank one
+abbrev pub Looks : Option Seated → ℕ → Type 0
+Looks None n = n ≡ 0
+Looks (Some a) n = Unit {0}
+
+abbrev pub TellsCount : SeatHandle → SeatHandle → ℕ → Type 0
+TellsCount x y n = (y ≡ x) × Looks x.seated n
 
 -- the seats of a new mutex, in order from seat 1 on
 abbrev pub AreNew : ℕ → Mutex ℕ → List (Seat ℕ) → Type 0

@@ -1,5 +1,5 @@
 -- The numbers by which exports tell C what a call answered.
-use Rattle.std.specs.Prelude.{ℕ, ◌+◌, ◌*◌, ◌<◌, ◌≤◌, Bool, true, false, Result, Ok, Err, Option, Some, None, ⊤}
+use Rattle.std.specs.Prelude.{ℕ, ◌+◌, ◌*◌, ◌<◌, ◌≤◌, Result, Ok, Err, Option, Some, None}
 use Rattle.lfm_model.specs.declared.answers.Asked.{Asked}
 use Rattle.lfm_model.specs.declared.answers.How.{How}
 use Rattle.lfm_model.specs.declared.answers.Locked.{Locked}
@@ -66,7 +66,7 @@ locked (Ok (Locked.Held how)) = Status.Done
 locked (Ok (Locked.Again depth)) = Status.Again
 locked (Err r) = Status.Refused r
 
--- how `unlock` or `start_wait` gave the mutex up
+-- how `unlock` gave the mutex up
 abbrev pub released : Unlocked → Status
 released (Unlocked.Still depth) = Status.Still
 released Unlocked.Free = Status.Done
@@ -74,20 +74,10 @@ released (Unlocked.Granted seat) = Status.Granted
 released Unlocked.Posted = Status.Posted
 released Unlocked.TakenOver = Status.Posted
 
--- what `unlock` or `start_wait` answered
+-- what `unlock` answered
 abbrev pub unlocked : Result Unlocked Refusal → Status
 unlocked (Ok u) = released u
 unlocked (Err r) = Status.Refused r
-
--- what `send_lock` answered
-abbrev pub sent : Result ⊤ Refusal → Status
-sent (Ok u) = Status.Done
-sent (Err r) = Status.Refused r
-
--- why a send to a number that no seat can have is refused, by whether the sender sleeps
-abbrev pub refused_target : Bool → Refusal
-refused_target true = Asleep
-refused_target false = NoSuchSeat
 
 -- what keeps a mutex from being ended, and above the low 8 bits the seat that does
 abbrev pub hindered : Missing → ℕ

@@ -6,16 +6,16 @@ ghost use Rattle.lfm_protocol.specs.declared.answers.Answer.TheVariants as Answe
 ghost use Rattle.lfm_protocol.specs.declared.answers.Call.{Call};
 ghost use Rattle.lfm_mutex.specs.Belongs.{Beside, limits_of};
 ghost use Rattle.lfm_mutex.specs.calls.FailedPushes.{MakesBesideFailures};
-ghost use Rattle.lfm_mutex.specs.calls.Sight.{sight, Asks, Locks, Receives, Sends, StartsWait, Unlocks};
+ghost use Rattle.lfm_mutex.specs.calls.Sight.{sight, Asks, Locks, Receives, Unlocks};
 ghost use Rattle.lfm_mutex.specs.calls.Trails.{MakesAtMost, MakesCall};
 ghost use Rattle.lfm_mutex.specs.calls.WakeUps.{Wakes};
-ghost use Rattle.lfm_c.specs.Handles.{Follows, Fits, TellsAsk, TellsReceive, TellsTry, TellsUnlock, TellsWait, TellsSend};
-ghost use Rattle.lfm_c.specs.Status.{asked as asked_of, received as received_of, locked as locked_of, released as released_of, unlocked as unlocked_of, sent as sent_of, told as told_of, refused_target, Names};
+ghost use Rattle.lfm_c.specs.Handles.{Follows, Fits, TellsAsk, TellsReceive, TellsTry, TellsUnlock};
+ghost use Rattle.lfm_c.specs.Status.{asked as asked_of, received as received_of, locked as locked_of, released as released_of, unlocked as unlocked_of, told as told_of, Names};
 
 use crate::handles::{SeatHandle, Seated};
 use crate::status::Status;
-use lfm_model::{Asked, How, Locked, Refusal, SeatNo, Unlocked};
-use lfm_mutex::{Seat, WakeUp};
+use lfm_model::{Asked, How, Locked, Refusal, Unlocked};
+use lfm_mutex::WakeUp;
 
 /// The status, and above it the seat of the wake-up, which the caller has to make from here on.
 fn told(status: Status, wake_up: Option<WakeUp>) -> u64
@@ -76,7 +76,7 @@ fn released(unlocked: Unlocked) -> Status
     }
 }
 
-/// The status of an answer of `unlock` or `start_wait`.
+/// The status of an answer of `unlock`.
 fn unlocked(answer: Result<Unlocked, Refusal>) -> Status
     ensures { result ≡ unlocked_of answer }
 {
@@ -84,26 +84,6 @@ fn unlocked(answer: Result<Unlocked, Refusal>) -> Status
         Ok(unlocked) => released(unlocked),
         Err(refusal) => Status::Refused(refusal),
     }
-}
-
-/// The status of an answer of `send_lock`.
-fn sent(answer: Result<(), Refusal>) -> Status
-    ensures { result ≡ sent_of answer }
-{
-    match answer {
-        Ok(()) => Status::Done,
-        Err(refusal) => Status::Refused(refusal),
-    }
-}
-
-/// Why a send of this seat to a number that no seat can have is refused.
-fn without_target(seat: &Seat<u64>) -> Status
-    ensures { result ≡ Status.Refused (refused_target (sight seat.now).asleep) }
-{
-    if seat.asleep() {
-        return Status::Refused(Refusal::Asleep);
-    }
-    Status::Refused(Refusal::NoSuchSeat)
 }
 
 /// The calls of the mutex, with its clauses about the seat and the mutex that lie together in a handle.
@@ -149,28 +129,6 @@ impl Seated {
     {
         self.mutex.unlock_without_waking(&mut self.seat)
     }
-
-    /// `start_wait_without_waking` of the mutex.
-    fn start_wait(&mut self) -> (Result<Unlocked, Refusal>, Option<WakeUp>)
-        ensures same { (self.new.mutex ≡ self.old.mutex) × Beside self.old.seat self.new.seat }
-        ensures waits { StartsWait (limits_of (arc_value self.old.mutex)).budget (sight self.old.seat) (sight self.new.seat) result.0 }
-        ensures steps { MakesCall (limits_of (arc_value self.old.mutex)) (λ a. Answered.Waiting a) Call.StartWait (sight self.old.seat) (sight self.new.seat) result.0 }
-        ensures bounded { MakesAtMost ((limits_of (arc_value self.old.mutex)).seats + 8) (sight self.old.seat) (sight self.new.seat) }
-        ensures wakes { Wakes (limits_of (arc_value self.old.mutex)).seats result.1 (sight self.old.seat).trail (sight self.new.seat).trail }
-    {
-        self.mutex.start_wait_without_waking(&mut self.seat)
-    }
-
-    /// `send_lock_without_waking` of the mutex, to the seat with this number.
-    fn send(&mut self, target: SeatNo) -> (Result<(), Refusal>, Option<WakeUp>)
-        ensures same { (self.new.mutex ≡ self.old.mutex) × Beside self.old.seat self.new.seat }
-        ensures sends { Sends (limits_of (arc_value self.old.mutex)).seats (sight self.old.seat) target (sight self.new.seat) result.0 }
-        ensures steps { MakesCall (limits_of (arc_value self.old.mutex)) (λ a. Answered.Sent) (Call.SendLock target) (sight self.old.seat) (sight self.new.seat) result.0 }
-        ensures bounded { MakesBesideFailures ((limits_of (arc_value self.old.mutex)).seats + 9) (sight self.old.seat) (sight self.new.seat) }
-        ensures wakes { Wakes (limits_of (arc_value self.old.mutex)).seats result.1 (sight self.old.seat).trail (sight self.new.seat).trail }
-    {
-        self.mutex.send_lock_without_waking(&mut self.seat, target)
-    }
 }
 
 /// `ask` of the seat.
@@ -213,29 +171,4 @@ pub fn unlock(handle: &mut SeatHandle) -> u64
     };
     let (answer, wake_up) = seated.unlock();
     told(unlocked(answer), wake_up)
-}
-
-/// `start_wait` of the seat.
-pub fn start_wait(handle: &mut SeatHandle) -> u64
-    ensures told { TellsWait handle.old handle.new result }
-{
-    let Some(seated) = &mut handle.seated else {
-        return Status::Blank.code();
-    };
-    let (answer, wake_up) = seated.start_wait();
-    told(unlocked(answer), wake_up)
-}
-
-/// `send_lock` of the seat to the seat with this number.
-pub fn send(handle: &mut SeatHandle, number: u64) -> u64
-    ensures told { TellsSend handle.old number handle.new result }
-{
-    let Some(seated) = &mut handle.seated else {
-        return Status::Blank.code();
-    };
-    let Some(target) = SeatNo::new(number) else {
-        return without_target(&seated.seat).code();
-    };
-    let (answer, wake_up) = seated.send(target);
-    told(sent(answer), wake_up)
 }

@@ -1,12 +1,12 @@
 //! A recursive mutex for programs in C. The handle of a mutex, and one for each seat, lie in memory of the caller, who gives
-//! each to one call at a time. A static library may neither sleep nor wake, so no call here does: include/ligdrosa.h sleeps if
-//! a call answers that the seat does, and wakes the seat that a call names.
+//! each to one call at a time. A static library may neither sleep nor wake, so no call here does: c/ligdrosa.c sleeps if a call
+//! answers that the seat does, and wakes the seat that a call names.
 //!
 //! An export tells what the call of the mutex answered by a status in the low 8 bits. Its clause says what the status means:
-//! the mutex's own clauses of that call's answers, steps and bound hold of it. An `ask`, `unlock`, `start_wait` or `send` may
-//! grant the mutex to at most one other seat. The number of that seat stands above the status, 0 if there is none, and the
-//! clause says that it is the seat of the wake-up which the call leaves. So on this side no wake-up is lost: the caller has to
-//! wake the seat that an answer names.
+//! the mutex's own clauses of that call's answers, steps and bound hold of it. An `ask` or `unlock` may grant the mutex to at
+//! most one other seat. The number of that seat stands above the status, 0 if there is none, and the clause says that it is the
+//! seat of the wake-up which the call leaves. So on this side no wake-up is lost: the caller has to wake the seat that an answer
+//! names.
 #![tactic(auto)]
 
 ghost use Rattle.std.specs.Borrow.{full_share, sem};
@@ -20,7 +20,7 @@ ghost use Rattle.lfm_c.specs.declared.handles.MutexHandle.{MutexHandle as MutexN
 ghost use Rattle.lfm_c.specs.declared.handles.SeatHandle.{SeatHandle as SeatNow};
 ghost use Rattle.lfm_c.specs.contracts.handles.MutexHandle.{the_row as mutex_row};
 ghost use Rattle.lfm_c.specs.contracts.handles.SeatHandle.{the_row as seat_row};
-ghost use Rattle.lfm_c.specs.Handles.{TellsAsk, TellsClose, TellsDepth, TellsGive, TellsLeft, TellsNumber, TellsOpen, TellsReceive, TellsSend, TellsTake, TellsTry, TellsUnlock, TellsWait};
+ghost use Rattle.lfm_c.specs.Handles.{TellsAsk, TellsClose, TellsCount, TellsDepth, TellsGive, TellsLeft, TellsNumber, TellsOpen, TellsReceive, TellsTake, TellsTry, TellsUnlock};
 ghost use Rattle.lfm_c.specs.Leaves.{leaves};
 
 mod calls;
@@ -173,6 +173,16 @@ pub unsafe extern "C" fn lfm_c_left(seat: *mut u8) -> u64
     reading::left(&mut *(seat as *mut SeatHandle))
 }
 
+/// How many seats hold the mutex or want it, by one look, and 0 if the handle is blank. A seat looks before it tries.
+#[unsafe(no_mangle)]
+pub unsafe extern "C" fn lfm_c_count(seat: *mut u8) -> u64
+    ghost x: { SeatNow }
+    requires* { sem 𝓛 (lies_at seat_row full_share seat x) }
+    ensures* { sem 𝓛 (leaves (λ (y : SeatNow). lies_at seat_row full_share seat y) (λ y. TellsCount x y result)) }
+{
+    reading::count(&mut *(seat as *mut SeatHandle))
+}
+
 /// `ask` of the seat: Done (it holds), Again (it holds once more), Asleep, or Blank, or why it is refused. Above it is the
 /// number of the seat to be woken, or 0.
 #[unsafe(no_mangle)]
@@ -213,26 +223,4 @@ pub unsafe extern "C" fn lfm_c_unlock(seat: *mut u8) -> u64
     ensures* { sem 𝓛 (leaves (λ (y : SeatNow). lies_at seat_row full_share seat y) (λ y. TellsUnlock x y result)) }
 {
     calls::unlock(&mut *(seat as *mut SeatHandle))
-}
-
-/// `start_wait` of the seat, which then sleeps until it is sent: as `unlock`, and never Still.
-#[unsafe(no_mangle)]
-pub unsafe extern "C" fn lfm_c_start_wait(seat: *mut u8) -> u64
-    ghost x: { SeatNow }
-    requires* { sem 𝓛 (lies_at seat_row full_share seat x) }
-    ensures* { sem 𝓛 (leaves (λ (y : SeatNow). lies_at seat_row full_share seat y) (λ y. TellsWait x y result)) }
-{
-    calls::start_wait(&mut *(seat as *mut SeatHandle))
-}
-
-/// `send_lock` of the seat to the seat with this number: Done, or Blank, or why it is refused. Above it is the number of the
-/// seat to be woken, or 0: the seat that was sent, if it was granted the mutex at once, or a third one, to which a posted
-/// hand-off was passed.
-#[unsafe(no_mangle)]
-pub unsafe extern "C" fn lfm_c_send(seat: *mut u8, number: u64) -> u64
-    ghost x: { SeatNow }
-    requires* { sem 𝓛 (lies_at seat_row full_share seat x) }
-    ensures* { sem 𝓛 (leaves (λ (y : SeatNow). lies_at seat_row full_share seat y) (λ y. TellsSend x number y result)) }
-{
-    calls::send(&mut *(seat as *mut SeatHandle), number)
 }

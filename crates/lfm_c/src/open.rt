@@ -98,7 +98,7 @@ impl Whole {
     }
 
     /// Whether all seats of the mutex are back, or not yet taken.
-    fn is_whole(&self) -> bool
+    pub(crate) fn is_whole(&self) -> bool
         ensures { MatchBool result (self.now.count ≤ vec_len self.now.seats) (vec_len self.now.seats < self.now.count) }
     {
         self.seats.len() as u64 >= self.count

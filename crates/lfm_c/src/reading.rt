@@ -1,5 +1,5 @@
 //! What is read of a seat. Each call leaves the handle as it is.
-ghost use Rattle.lfm_c.specs.Handles.{TellsNumber, TellsDepth, TellsLeft};
+ghost use Rattle.lfm_c.specs.Handles.{TellsCount, TellsNumber, TellsDepth, TellsLeft};
 
 use crate::handles::SeatHandle;
 
@@ -31,4 +31,15 @@ pub fn left(handle: &mut SeatHandle) -> u64
         Some(seated) => seated.seat.left(),
         None => 0,
     }
+}
+
+/// How many seats hold the mutex or want it, by one look, and 0 if the handle is blank. The look promises nothing: the number may
+/// have changed when it is answered.
+pub fn count(handle: &mut SeatHandle) -> u64
+    ensures told { TellsCount handle.old handle.new result }
+{
+    let Some(seated) = &handle.seated else {
+        return 0;
+    };
+    seated.mutex.count()
 }

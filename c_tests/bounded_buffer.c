@@ -1,4 +1,5 @@
-/* Producers and consumers at a buffer of 4 places, with two condition variables: each number comes out once. */
+/* Producers and consumers at a buffer of 4 places, with two condition variables: each number comes out once. First each has a
+ * seat in hand, then seats find themselves. */
 #include "expect.h"
 
 enum { PRODUCERS = 2, CONSUMERS = 2, EACH = 10000, PLACES = 4 };
@@ -6,14 +7,14 @@ static lfm_mutex mutex;
 static lfm_condvar not_empty, not_full;
 static lfm_seat seats[PRODUCERS + CONSUMERS];
 static uint64_t buffer[PLACES], first, count, taken;
-static bool is_out[PRODUCERS * EACH];
+static bool is_out[PRODUCERS * EACH], finds_itself;
 
 static void put(lfm_seat *seat, uint64_t number) {
   EXPECT(lfm_lock(seat), LFM_DONE);
   while (count == PLACES) EXPECT(lfm_wait(&not_full, seat), LFM_DONE);
   buffer[(first + count) % PLACES] = number;
   count++;
-  EXPECT(lfm_is_refused(lfm_wake_one(&not_empty, seat)), false);
+  EXPECT(lfm_is_refused(lfm_wake_one(&not_empty)), false);
   EXPECT(lfm_is_refused(lfm_unlock(seat)), false);
 }
 
@@ -28,34 +29,41 @@ static bool take(lfm_seat *seat) {
     first = (first + 1) % PLACES;
     count--;
     taken++;
-    EXPECT(lfm_is_refused(lfm_wake_one(&not_full, seat)), false);
+    EXPECT(lfm_is_refused(lfm_wake_one(&not_full)), false);
   }
   /* after the last number the other consumers end: all that wait are woken */
-  if (taken == (uint64_t)PRODUCERS * EACH) EXPECT(lfm_is_refused(lfm_wake_all(&not_empty, seat)), false);
+  if (taken == (uint64_t)PRODUCERS * EACH) EXPECT(lfm_is_refused(lfm_wake_all(&not_empty)), false);
   EXPECT(lfm_is_refused(lfm_unlock(seat)), false);
   return there;
 }
 
 static void work(unsigned thread) {
-  lfm_seat *seat = &seats[thread];
-  EXPECT(lfm_seat_take(&mutex, seat), LFM_DONE);
+  lfm_status cause;
+  lfm_seat *seat = finds_itself ? lfm_seat_here(&mutex, &cause) : &seats[thread];
+  if (!finds_itself) EXPECT(lfm_seat_take(&mutex, seat), LFM_DONE);
   if (thread < PRODUCERS) {
     for (uint64_t i = 0; i < EACH; i++) put(seat, thread * EACH + i);
   } else {
     while (take(seat)) {
     }
   }
-  EXPECT(lfm_seat_give(seat), LFM_DONE);
+  if (!finds_itself) EXPECT(lfm_seat_give(seat), LFM_DONE);
 }
 
-int main(void) {
-  EXPECT(lfm_mutex_new(&mutex, PRODUCERS + CONSUMERS, (uint64_t)1 << 36), LFM_DONE);
-  EXPECT(lfm_condvar_new(&not_empty, &mutex), LFM_DONE);
-  EXPECT(lfm_condvar_new(&not_full, &mutex), LFM_DONE);
+static void run(void) {
+  taken = 0;
+  memset(is_out, 0, sizeof is_out);
+  EXPECT(lfm_mutex_new(&mutex, PRODUCERS + CONSUMERS, LFM_MOST_TAKES), LFM_DONE);
   in_threads(PRODUCERS + CONSUMERS, work);
   EXPECT(taken, (uint64_t)PRODUCERS * EACH);
   EXPECT(lfm_condvar_close(&not_full), LFM_DONE);
   EXPECT(lfm_condvar_close(&not_empty), LFM_DONE);
   EXPECT(lfm_mutex_close(&mutex), LFM_DONE);
+}
+
+int main(void) {
+  run();
+  finds_itself = true;
+  run();
   return 0;
 }

@@ -5,6 +5,7 @@
 #include <pthread.h>
 #include <stdio.h>
 #include <stdlib.h>
+#include <string.h>
 #include "ligdrosa.h"
 
 static inline void wanted(const char *file, int line, const char *what, uint64_t found, uint64_t wanted) {

@@ -1,6 +1,5 @@
-/* How much memory a mutex and a condition variable take. And each request for memory is refused in turn: the call answers
- * LFM_NO_MEMORY, has changed nothing, and leaks nothing. It is linked with --wrap for malloc, realloc, free and
- * aligned_alloc. */
+/* How much memory a mutex takes. And each request for memory is refused in turn: the call answers LFM_NO_MEMORY, has changed
+ * nothing, and leaks nothing. It is linked with --wrap for malloc, calloc, realloc, free and aligned_alloc. */
 #include <malloc.h>
 #include "expect.h"
 
@@ -9,6 +8,7 @@ static long given;        /* how many blocks are not given back */
 static size_t bytes;      /* how many bytes these have */
 
 void *__real_malloc(size_t);
+void *__real_calloc(size_t, size_t);
 void *__real_realloc(void *, size_t);
 void *__real_aligned_alloc(size_t, size_t);
 void __real_free(void *);
@@ -26,6 +26,7 @@ static void *counted(void *block) {
 }
 
 void *__wrap_malloc(size_t size) { return is_refused() ? NULL : counted(__real_malloc(size)); }
+void *__wrap_calloc(size_t count, size_t size) { return is_refused() ? NULL : counted(__real_calloc(count, size)); }
 void *__wrap_aligned_alloc(size_t align, size_t size) {
   return is_refused() ? NULL : counted(__real_aligned_alloc(align, size));
 }
@@ -45,8 +46,10 @@ void __wrap_free(void *block) {
   __real_free(block);
 }
 
-static lfm_mutex mutex;
-static lfm_condvar condvar;
+/* of a mutex: 7 of the library's mutex, as scripts/refuse_memory counts, and one each for what its seats share, a list of them,
+ * and what ligdrosa.c keeps */
+enum { REQUESTS = 10 };
+static lfm_mutex mutex, *called;
 static lfm_seat seat;
 
 static long refuse_each(lfm_status (*make)(void)) {
@@ -62,39 +65,73 @@ static long refuse_each(lfm_status (*make)(void)) {
 }
 
 static lfm_status make_mutex(void) { return lfm_mutex_new(&mutex, 3, 100); }
-static lfm_status make_condvar(void) { return lfm_condvar_new(&condvar, &mutex); }
+static lfm_status lock_here(void) { return lfm_lock_here(called); }
 
-/* With this many seats they take no more than ligdrosa.h says. */
+/* With this many seats it takes no more than ligdrosa.h says. */
 static void take_memory(uint64_t seats) {
   EXPECT(lfm_mutex_new(&mutex, seats, 100), LFM_DONE);
-  size_t of_mutex = bytes;
-  EXPECT(of_mutex <= 500 + 250 * seats, true);
-  EXPECT(lfm_condvar_new(&condvar, &mutex), LFM_DONE);
-  EXPECT(bytes - of_mutex <= 1000 + 600 * seats, true);
-  EXPECT(lfm_condvar_close(&condvar), LFM_DONE);
+  EXPECT(bytes <= 700 + 153 * seats, true);
   EXPECT(lfm_mutex_close(&mutex), LFM_DONE);
   EXPECT(bytes, 0);
+}
+
+static void seats_in_hand(void) {
+  EXPECT(refuse_each(make_mutex), REQUESTS);
+  allowed = 0; /* no other call with a seat in hand asks for memory, but for an exchange */
+  EXPECT(lfm_seat_take(&mutex, &seat), LFM_DONE);
+  EXPECT(lfm_lock(&seat), LFM_DONE);
+  EXPECT(lfm_lock(&seat), LFM_AGAIN);
+  EXPECT(lfm_unlock(&seat), LFM_STILL);
+  EXPECT(lfm_unlock(&seat), LFM_DONE);
+  for (int i = 1; i < 100; i++) {
+    EXPECT(lfm_lock(&seat), LFM_DONE);
+    EXPECT(lfm_unlock(&seat), LFM_DONE);
+  }
+  EXPECT(lfm_lock(&seat), LFM_SPENT);
+  allowed = -1;
+  EXPECT(lfm_lock(&seat), LFM_DONE);
+  EXPECT(lfm_unlock(&seat), LFM_DONE);
+  EXPECT(lfm_seat_give(&seat), LFM_DONE);
+  EXPECT(lfm_mutex_close(&mutex), LFM_DONE);
+  EXPECT(given, 0);
+}
+
+/* The first call of a thread takes memory for the mutex, for the thread's table, and for the seat. */
+static void own_seats(void) {
+  enum { MANY = 40 };
+  static lfm_mutex all[MANY];
+  const lfm_mutex new_one = LFM_MUTEX_INIT_WITH(3);
+  allowed = 0;
+  for (int i = 0; i < MANY; i++) {
+    all[i] = new_one;
+    called = &all[i];
+    EXPECT(lfm_lock_here(called), LFM_NO_MEMORY);
+    EXPECT(called->core == NULL, true);
+    allowed = REQUESTS; /* the mutex is opened, and stays so if more is refused */
+    EXPECT(lfm_lock_here(called), LFM_NO_MEMORY);
+    bool grows = i == 0 || i == 3 || i == 7 || i == 15 || i == 31;
+    allowed = 1;
+    if (grows) EXPECT(lfm_lock_here(called), LFM_NO_MEMORY); /* the table has grown, and stays so */
+    allowed = 0;
+    EXPECT(refuse_each(lock_here), 1);
+    allowed = 0;
+    EXPECT(lfm_lock_here(called), LFM_AGAIN);
+    EXPECT(lfm_unlock_here(called), LFM_STILL);
+    EXPECT(lfm_depth_here(&all[i / 2]), 1); /* the table has kept what it had */
+  }
+  for (int i = 0; i < MANY; i++) {
+    EXPECT(lfm_unlock_here(&all[i]), LFM_DONE);
+    EXPECT(lfm_mutex_close(&all[i]), LFM_DONE);
+  }
+  EXPECT(given, 1); /* the table */
+  allowed = -1;
 }
 
 int main(void) {
   take_memory(1);
   take_memory(64);
   take_memory(4095);
-  /* 7 for the library's mutex, as scripts/refuse_memory counts, and one each for what its seats share, a list of them, and the
-   * bells */
-  EXPECT(refuse_each(make_mutex), 10);
-  allowed = 0; /* no other call asks for memory */
-  EXPECT(lfm_seat_take(&mutex, &seat), LFM_DONE);
-  EXPECT(lfm_lock(&seat), LFM_DONE);
-  EXPECT(lfm_lock(&seat), LFM_AGAIN);
-  EXPECT(lfm_unlock(&seat), LFM_STILL);
-  EXPECT(lfm_unlock(&seat), LFM_DONE);
-  EXPECT(lfm_condvar_new(&condvar, &mutex), LFM_NO_MEMORY);
-  allowed = -1;
-  EXPECT(refuse_each(make_condvar), 10 + 2); /* its own mutex, the seats of that, and the ring */
-  EXPECT(lfm_condvar_close(&condvar), LFM_DONE);
-  EXPECT(lfm_seat_give(&seat), LFM_DONE);
-  EXPECT(lfm_mutex_close(&mutex), LFM_DONE);
-  EXPECT(given, 0);
+  seats_in_hand();
+  own_seats();
   return 0;
 }

@@ -1,12 +1,14 @@
-/* Threads lock, lock again and try at random, and sleep at their first look: soak SECONDS THREADS. The totals are exact, and
- * the test fails if the threads make no progress.
+/* Threads lock, lock again and try at random, some in order, and sleep at their first look: soak SECONDS THREADS. The totals
+ * are exact, and the test fails if the threads make no progress.
  *
  * A seat's ask may grant the mutex to another seat, which sleeps, and only the answer of that ask tells that it is to be woken.
- * That is rare, so the test wraps the asks of the header: it prints how many seats they named, and how many of these slept. */
+ * That is rare, so the test has the C file of the library in it and wraps its asks: it prints how many seats they named, and
+ * how many of these slept. */
 #define LFM_LOOK_NANOSECONDS 0
 #define lfm_c_ask seen_ask
-#include "expect.h"
+#include "../c/ligdrosa.c"
 #undef lfm_c_ask
+#include "expect.h"
 uint64_t lfm_c_ask(void *seat);
 
 enum { MOST = 64, OUTSIDE = 300 };
@@ -20,9 +22,9 @@ uint64_t seen_ask(void *seat) {
   uint64_t answer = lfm_c_ask(seat);
   uint64_t number = answer >> 8;
   if (number != 0) {
-    EXPECT(number <= mutex.seats, true);
+    EXPECT(number <= mutex.core->seats, true);
     __atomic_fetch_add(&named, 1, __ATOMIC_RELAXED);
-    if (__atomic_load_n(&mutex.bells[number].sleeps, __ATOMIC_SEQ_CST)) __atomic_fetch_add(&named_asleep, 1, __ATOMIC_RELAXED);
+    if (bell_of(mutex.core->bells[number]) == LISTENED) __atomic_fetch_add(&named_asleep, 1, __ATOMIC_RELAXED);
   }
   return answer;
 }
@@ -38,7 +40,7 @@ static void work(unsigned thread) {
   uint64_t x = 88172645463325252u + thread * 7919;
   while (!__atomic_load_n(&over, __ATOMIC_RELAXED)) {
     uint64_t chance = next(&x);
-    lfm_status status = chance % 8 == 0 ? lfm_try_lock(seat) : lfm_lock(seat);
+    lfm_status status = chance % 8 == 0 ? lfm_try_lock(seat) : chance % 8 < 5 ? lfm_lock_in_order(seat) : lfm_lock(seat);
     if (status == LFM_BUSY) continue;
     EXPECT(status, LFM_DONE);
     uint64_t step = chance % 16 < 3 ? 2 : 1;

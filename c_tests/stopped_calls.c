@@ -11,8 +11,9 @@
 #define _GNU_SOURCE
 #define LFM_LOOK_NANOSECONDS 0
 #define lfm_c_ask stopped_ask
-#include "expect.h"
+#include "../c/ligdrosa.c"
 #undef lfm_c_ask
+#include "expect.h"
 #include <signal.h>
 #include <ucontext.h>
 #include <x86intrin.h>
@@ -31,7 +32,7 @@ typedef struct caller {
 
 static lfm_mutex mutex;
 static lfm_seat seats[3];
-static __thread caller *own;
+static __thread caller *self;
 static unsigned total, named, named_asleep; /* the seats that asks have named, and those that slept */
 static unsigned posted;                     /* how often the first seat's unlock told that it posted */
 static unsigned runs[3];                    /* the stops of this run */
@@ -50,36 +51,35 @@ static bool is_atomic(const unsigned char *code) {
 static void before_instruction(int number, siginfo_t *info, void *context) {
   (void)number, (void)info;
   if (!is_atomic((const unsigned char *)((ucontext_t *)context)->uc_mcontext.gregs[REG_RIP])) return;
-  set(&own->begun, own->begun + 1);
-  while (own->begun > seen(&own->allowed)) sched_yield();
+  set(&self->begun, self->begun + 1);
+  while (self->begun > seen(&self->allowed)) sched_yield();
 }
 
 uint64_t stopped_ask(void *handle) {
-  if (own) __writeeflags(__readeflags() | TRAP_FLAG);
+  if (self) __writeeflags(__readeflags() | TRAP_FLAG);
   uint64_t answer = lfm_c_ask(handle);
-  if (own) __writeeflags(__readeflags() & ~(uint64_t)TRAP_FLAG);
+  if (self) __writeeflags(__readeflags() & ~(uint64_t)TRAP_FLAG);
   uint64_t number = answer >> 8;
   if (number != 0) {
     __atomic_fetch_add(&named, 1, __ATOMIC_SEQ_CST);
-    if (__atomic_load_n(&mutex.bells[number].sleeps, __ATOMIC_SEQ_CST)) __atomic_fetch_add(&named_asleep, 1, __ATOMIC_SEQ_CST);
+    if (bell_of(mutex.core->bells[number]) == LISTENED) __atomic_fetch_add(&named_asleep, 1, __ATOMIC_SEQ_CST);
   }
   return answer;
 }
 
 static void *call(void *at) {
-  own = (caller *)at;
-  EXPECT(lfm_lock(own->seat), LFM_DONE);
+  self = (caller *)at;
+  EXPECT(lfm_lock_in_order(self->seat), LFM_DONE);
   total++;
-  EXPECT(lfm_is_refused(lfm_unlock(own->seat)), false);
-  set(&own->is_done, 1);
+  EXPECT(lfm_is_refused(lfm_unlock(self->seat)), false);
+  set(&self->is_done, 1);
   return NULL;
 }
 
 /* Allows the thread this many operations, and waits until it has been stopped, sleeps or is done. */
 static void allow(caller *c, int operations) {
   set(&c->allowed, operations);
-  uint32_t *sleeps = &c->seat->bell->sleeps;
-  while (seen(&c->begun) <= operations && !seen(&c->is_done) && !__atomic_load_n(sleeps, __ATOMIC_SEQ_CST)) sched_yield();
+  while (seen(&c->begun) <= operations && !seen(&c->is_done) && bell_of(&c->seat->bell) != LISTENED) sched_yield();
 }
 
 static void begin(caller *c, lfm_seat *seat, int operations) {

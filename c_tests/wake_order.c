@@ -1,206 +1,156 @@
-/* In which order a wait and a wake ring and give the list of the condition variable back. They ring last, so that the thread
- * that they wake finds the list free. And that a wake finds a wait counted as soon as its seat has given the mutex up.
+/* In which order a wait and a wake do what they do. A wait is listed before it gives the mutex up, and then the list is free. A
+ * wake rings after it has left the list, so that the thread that it wakes finds it free. If its caller holds the mutex, it
+ * rings when the mutex is given up, but for waits with a time limit. Wakes go in the order of the waits, also if some waits end
+ * by time between.
  *
- * One thread makes the calls of all seats, so no answer depends on when a thread runs. The test wraps the calls of the library:
- * it makes the calls that another thread would make before a receive or a send. */
-#define lfm_c_ask seen_ask
-#define lfm_c_receive seen_receive
+ * The test has the C file of the library in it, and wraps its unlocks and its calls of the system. */
+#ifndef _GNU_SOURCE
+#define _GNU_SOURCE
+#endif
+#define syscall seen_syscall
 #define lfm_c_unlock seen_unlock
-#define lfm_c_start_wait seen_start_wait
-#define lfm_c_send seen_send
-#include "expect.h"
-#undef lfm_c_ask
-#undef lfm_c_receive
+#include "../c/ligdrosa.c"
+#undef syscall
 #undef lfm_c_unlock
-#undef lfm_c_start_wait
-#undef lfm_c_send
-uint64_t lfm_c_ask(void *seat);
-uint64_t lfm_c_receive(void *seat);
+#include "expect.h"
+#include <stdarg.h>
+long syscall(long number, ...);
 uint64_t lfm_c_unlock(void *seat);
-uint64_t lfm_c_start_wait(void *seat);
-uint64_t lfm_c_send(void *seat, uint64_t number);
 
-enum { SEATS = 3 };
-static lfm_mutex mutex;
+enum { WAITERS = 5, SECOND = 1000000000 };
+static lfm_mutex mutex = LFM_MUTEX_INIT;
 static lfm_condvar condvar;
-static lfm_seat seats[SEATS + 1];            /* by their numbers */
-static uint32_t rung_before_list[SEATS + 1]; /* how often each bell had rung when the list was last taken */
-static uint32_t rung_under_list[SEATS + 1];  /* how often each bell rang while the list was last held */
-static void (*before_receive)(void), (*before_send)(void); /* calls of other seats before the next receive or send */
-static uint64_t counted_at_start; /* how many waits were counted when the last wait was about to give the mutex up */
-
-static bool is_of_list(void *handle) {
-  for (int i = 1; i <= SEATS; i++)
-    if (handle == condvar.seats[i].handle) return true;
-  return false;
-}
-
-/* Makes these calls, and forgets them first: they may make a receive or a send themselves. */
-static void make_once(void (**calls)(void)) {
-  void (*now)(void) = *calls;
-  *calls = NULL;
-  if (now) now();
-}
-
-uint64_t seen_ask(void *handle) {
-  uint64_t answer = lfm_c_ask(handle);
-  if (is_of_list(handle))
-    for (int i = 1; i <= SEATS; i++) rung_before_list[i] = mutex.bells[i].rings;
-  return answer;
-}
+static unsigned listed_at_unlock, free_at_unlock, free_at_wake; /* how often it was so when such a call was made */
+static unsigned wakes, unlocks_of_waits, turn;
+static _Thread_local bool waits, wakes_others;
+static unsigned returned[WAITERS], count_returned;
 
 uint64_t seen_unlock(void *handle) {
-  if (is_of_list(handle))
-    for (int i = 1; i <= SEATS; i++) rung_under_list[i] = mutex.bells[i].rings - rung_before_list[i];
+  if (waits) {
+    __atomic_fetch_add(&unlocks_of_waits, 1, __ATOMIC_SEQ_CST);
+    if (__atomic_load_n(&condvar.oldest, __ATOMIC_SEQ_CST)) __atomic_fetch_add(&listed_at_unlock, 1, __ATOMIC_SEQ_CST);
+    if (!__atomic_load_n(&condvar.guard, __ATOMIC_SEQ_CST)) __atomic_fetch_add(&free_at_unlock, 1, __ATOMIC_SEQ_CST);
+    waits = false;
+  }
   return lfm_c_unlock(handle);
 }
 
-uint64_t seen_start_wait(void *handle) {
-  counted_at_start = condvar.count;
-  return lfm_c_start_wait(handle);
-}
-
-uint64_t seen_receive(void *handle) {
-  make_once(&before_receive);
-  return lfm_c_receive(handle);
-}
-
-uint64_t seen_send(void *handle, uint64_t number) {
-  make_once(&before_send);
-  return lfm_c_send(handle, number);
-}
-
-static void open_all(void) {
-  EXPECT(lfm_mutex_new(&mutex, SEATS, 100), LFM_DONE);
-  EXPECT(lfm_condvar_new(&condvar, &mutex), LFM_DONE);
-  for (int i = 1; i <= SEATS; i++) EXPECT(lfm_seat_take(&mutex, &seats[i]), LFM_DONE);
-}
-
-static void close_all(void) {
-  for (int i = 1; i <= SEATS; i++) EXPECT(lfm_seat_give(&seats[i]), LFM_DONE);
-  EXPECT(lfm_condvar_close(&condvar), LFM_DONE);
-  EXPECT(lfm_mutex_close(&mutex), LFM_DONE);
-}
-
-/* Expects how often the bells of the seats 1 to 3 have rung since the mutex was opened. */
-static void expect_rung(uint32_t first, uint32_t second, uint32_t third) {
-  EXPECT(mutex.bells[1].rings, first);
-  EXPECT(mutex.bells[2].rings, second);
-  EXPECT(mutex.bells[3].rings, third);
-}
-
-static void expect_rung_under_list(uint32_t first, uint32_t second, uint32_t third) {
-  EXPECT(rung_under_list[1], first);
-  EXPECT(rung_under_list[2], second);
-  EXPECT(rung_under_list[3], third);
-}
-
-/* Lets the seats from 1 to `count` wait, up to the moment at which their threads would sleep. */
-static void let_wait(uint64_t count) {
-  for (uint64_t i = 1; i <= count; i++) {
-    EXPECT(lfm_lock(&seats[i]), LFM_DONE);
-    EXPECT(lfm_c_start_wait(seats[i].handle), LFM_DONE);
-    condvar.waiting[i - 1] = i;
+long seen_syscall(long number, ...) {
+  va_list list;
+  va_start(list, number);
+  void *word = va_arg(list, void *);
+  long operation = va_arg(list, int), value = va_arg(list, uint32_t);
+  void *time = va_arg(list, void *);
+  va_end(list);
+  if (number != SYS_futex) return syscall(number, word, operation, value);
+  if (operation == FUTEX_PRIVATE_WAKE && wakes_others) {
+    wakes++;
+    if (!__atomic_load_n(&condvar.guard, __ATOMIC_SEQ_CST)) free_at_wake++;
   }
-  condvar.first = 0;
-  condvar.count = count;
+  return syscall(SYS_futex, word, operation, value, time, NULL, ~0u);
 }
 
-/* The seat receives its grant, and gives the mutex up. */
-static void pass_on(lfm_seat *seat, lfm_status status) {
-  EXPECT(lfm_c_receive(seat->handle), LFM_DONE);
-  EXPECT(lfm_c_unlock(seat->handle) & 255, status);
+static void set(unsigned *word, unsigned value) { __atomic_store_n(word, value, __ATOMIC_SEQ_CST); }
+static void wait_for(unsigned *word, unsigned value) {
+  while (__atomic_load_n(word, __ATOMIC_SEQ_CST) != value) nap_for(NAP);
 }
 
-/* The second seat was queued when the first began to wait. */
-static void go_on_and_wake(void) {
-  expect_rung_under_list(0, 0, 0);
-  expect_rung(0, 1, 0);
-  EXPECT(lfm_c_receive(seats[2].handle), LFM_DONE);
-  EXPECT(lfm_wake_one(&condvar, &seats[2]), LFM_DONE);
-  EXPECT(lfm_unlock(&seats[2]), LFM_GRANTED);
+/* The threads wait one after another. Those with the numbers 1 and 3 wait for a short time only. */
+static void wait_in_turn(unsigned thread) {
+  wait_for(&turn, thread);
+  EXPECT(lfm_lock_here(&mutex), LFM_DONE);
+  set(&turn, thread + 1); /* the next can list its wait only after this one has given the mutex up */
+  waits = true;
+  if (thread % 2)
+    EXPECT(lfm_wait_for_here(&condvar, &mutex, SECOND / 50), LFM_TIMED_OUT);
+  else
+    EXPECT(lfm_wait_here(&condvar, &mutex), LFM_DONE);
+  returned[count_returned] = thread;
+  set(&count_returned, count_returned + 1);
+  EXPECT(lfm_is_refused(lfm_unlock_here(&mutex)), false);
 }
 
-static void a_wait(void) {
-  open_all();
-  EXPECT(lfm_lock(&seats[1]), LFM_DONE);
-  EXPECT(lfm_c_ask(seats[2].handle), LFM_ASLEEP);
-  before_receive = go_on_and_wake;
-  EXPECT(lfm_wait(&condvar, &seats[1]), LFM_DONE);
-  EXPECT(before_receive == NULL, true);
-  EXPECT(counted_at_start, 1);
-  expect_rung(1, 1, 0);
-  EXPECT(lfm_unlock(&seats[1]), LFM_DONE);
-  close_all();
+static void wake_in_turn(void) {
+  wait_for(&turn, WAITERS);
+  wait_for(&count_returned, WAITERS / 2); /* those whose time is over */
+  wakes_others = true;
+  for (unsigned i = WAITERS / 2; i < WAITERS; i++) {
+    EXPECT(lfm_wake_one(&condvar), LFM_DONE);
+    wait_for(&count_returned, i + 1);
+  }
+  EXPECT(lfm_wake_one(&condvar), LFM_NOBODY);
+  EXPECT(lfm_wake_all(&condvar), LFM_NOBODY);
 }
 
-static void a_wait_that_is_refused(void) {
-  open_all();
-  EXPECT(lfm_wait(&condvar, &seats[1]), LFM_NOT_OWNER);
-  EXPECT(counted_at_start, 1);
-  EXPECT(condvar.count, 0);
-  close_all();
+/* Lets a thread wait, and sleep, and wakes it in the hold. */
+static lfm_mutex in_hand;
+static lfm_seat seat;
+static bool is_timed;
+
+static void *wait_once(void *at) {
+  lfm_mutex *of = (lfm_mutex *)at;
+  EXPECT(lfm_lock_here(of), LFM_DONE);
+  set(&turn, 1);
+  EXPECT(is_timed ? lfm_wait_for_here(&condvar, of, UINT64_MAX) : lfm_wait_here(&condvar, of), LFM_DONE);
+  EXPECT(lfm_is_refused(lfm_unlock_here(of)), false);
+  return NULL;
 }
 
-static void a_wake_of_one(void) {
-  open_all();
-  let_wait(1);
-  EXPECT(lfm_wake_one(&condvar, &seats[3]), LFM_DONE);
-  expect_rung_under_list(0, 0, 0);
-  expect_rung(1, 0, 0);
-  pass_on(&seats[1], LFM_DONE);
-  close_all();
+static void hold(lfm_mutex *of) { EXPECT(of == &mutex ? lfm_lock_here(of) : lfm_lock(&seat), LFM_DONE); }
+static lfm_status give_up(lfm_mutex *of) { return of == &mutex ? lfm_unlock_here(of) : lfm_unlock(&seat); }
+static lfm_status wake_it(lfm_mutex *of) { return of == &mutex ? lfm_wake_one(&condvar) : lfm_wake_one_by(&condvar, &seat); }
+
+/* How many rings woke it before the mutex was given up. */
+static unsigned rings_in_the_hold(lfm_mutex *of, bool timed) {
+  pthread_t thread;
+  is_timed = timed;
+  set(&turn, 0);
+  EXPECT(pthread_create(&thread, NULL, wait_once, of), 0);
+  wait_for(&turn, 1);
+  hold(of); /* it has been listed */
+  while (bell_of(&condvar.oldest->bell) != LISTENED) nap_for(NAP);
+  EXPECT(of == &mutex ? lfm_lock_here(of) : lfm_lock(&seat), LFM_AGAIN);
+  unsigned before = wakes;
+  EXPECT(wake_it(of), LFM_DONE);
+  EXPECT(give_up(of), LFM_STILL);
+  unsigned rung = wakes - before;
+  EXPECT(lfm_is_refused(give_up(of)), false);
+  EXPECT(wakes - before >= 1, true);
+  EXPECT(pthread_join(thread, NULL), 0);
+  return rung;
 }
 
-static void a_wake_of_all(void) {
-  open_all();
-  let_wait(2);
-  EXPECT(lfm_wake_all(&condvar, &seats[3]), LFM_DONE);
-  expect_rung_under_list(0, 0, 0);
-  expect_rung(1, 0, 0);
-  pass_on(&seats[1], LFM_GRANTED);
-  pass_on(&seats[2], LFM_DONE);
-  close_all();
+static void wakes_in_the_hold(void) {
+  wakes_others = true;
+  EXPECT(lfm_mutex_new(&in_hand, 4, 100), LFM_DONE);
+  EXPECT(lfm_seat_take(&in_hand, &seat), LFM_DONE);
+  for (int i = 0; i < 5; i++) {
+    EXPECT(rings_in_the_hold(&mutex, false), 0);
+    EXPECT(rings_in_the_hold(&in_hand, false), 0);
+    EXPECT(rings_in_the_hold(&mutex, true), 1);
+    EXPECT(rings_in_the_hold(&in_hand, true), 1);
+  }
+  EXPECT(lfm_seat_give(&seat), LFM_DONE);
+  EXPECT(lfm_mutex_close(&in_hand), LFM_DONE);
 }
 
-/* Before the second send of a wake the first seat, which was just sent, gains the mutex and gives it up. So both sends grant
- * it. */
-static void first_is_through(void) { pass_on(&seats[1], LFM_DONE); }
-static void after_the_first_send(void) { before_send = first_is_through; }
-
-static void a_wake_that_grants_twice(void) {
-  open_all();
-  let_wait(2);
-  before_send = after_the_first_send;
-  EXPECT(lfm_wake_all(&condvar, &seats[3]), LFM_DONE);
-  EXPECT(before_send == NULL, true);
-  expect_rung_under_list(1, 0, 0);
-  expect_rung(1, 1, 0);
-  pass_on(&seats[2], LFM_DONE);
-  close_all();
-}
-
-/* The first send grants the mutex, and the second is refused, since its seat doesn't wait. */
-static void a_wake_that_is_refused(void) {
-  open_all();
-  let_wait(1);
-  condvar.waiting[1] = 2;
-  condvar.count = 2;
-  EXPECT(lfm_wake_all(&condvar, &seats[3]), LFM_NOT_WAITING);
-  EXPECT(condvar.count, 1);
-  condvar.count = 0;
-  expect_rung_under_list(0, 0, 0);
-  expect_rung(1, 0, 0);
-  pass_on(&seats[1], LFM_DONE);
-  close_all();
+static void work(unsigned thread) {
+  if (thread == WAITERS)
+    wake_in_turn();
+  else
+    wait_in_turn(thread);
 }
 
 int main(void) {
-  a_wait();
-  a_wait_that_is_refused();
-  a_wake_of_one();
-  a_wake_of_all();
-  a_wake_that_grants_twice();
-  a_wake_that_is_refused();
+  in_threads(WAITERS + 1, work);
+  EXPECT(unlocks_of_waits, WAITERS);
+  EXPECT(listed_at_unlock, WAITERS);
+  EXPECT(free_at_unlock, WAITERS);
+  EXPECT(wakes != 0, true); /* each waits long enough to sleep, but for chance */
+  EXPECT(free_at_wake, wakes);
+  for (unsigned i = 0; i < WAITERS / 2; i++) EXPECT(returned[i] % 2, 1);
+  for (unsigned i = WAITERS / 2; i < WAITERS; i++) EXPECT(returned[i], 2 * (i - WAITERS / 2));
+  wakes_in_the_hold();
+  EXPECT(lfm_condvar_close(&condvar), LFM_DONE);
   return 0;
 }

@@ -1,38 +1,47 @@
-/* Ligdrosa for C: a recursive mutex that is granted in the order of its queue, and a condition variable.
+/* Ligdrosa for C: a recursive mutex and a condition variable, for Linux. C++ and Rust call the same functions.
  *
- * The calls of the mutex are those of a static library, liblfm_c.a, whose code is proved. It neither sleeps nor wakes. This
- * header adds what isn't proved: how a thread sleeps until its seat is granted the mutex, how it is woken, how seats are taken
- * and given back, and the list of those that wait at a condition variable. No call's own contract says that no two seats hold
- * at once: that follows from the rule that each step of the library keeps (docs/LAWS.md, tables_are_steady and one_seat_owns).
+ *     static lfm_mutex mutex = LFM_MUTEX_INIT;
+ *     static lfm_condvar filled;                     zero, and so ready for any mutex
  *
- *     static lfm_mutex mutex;
- *     static _Thread_local lfm_seat seat;            one for each thread (thread_local in C++), given back before it ends
+ *     if (lfm_is_refused(lfm_lock_here(&mutex))) abort();
+ *     while (count == 0)
+ *       if (lfm_is_refused(lfm_wait_here(&filled, &mutex))) abort();
+ *     ...                                            no other thread holds
+ *     lfm_unlock_here(&mutex);
  *
- *     lfm_mutex_new(&mutex, 4, 1000000);             4 seats, each of which takes the mutex at most a million times
- *     lfm_seat_take(&mutex, &seat);
- *     if (!lfm_is_refused(lfm_lock(&seat))) {
- *         ...                                        no other seat holds
- *         lfm_unlock(&seat);
- *     }
- *     lfm_seat_give(&seat);
- *     lfm_mutex_close(&mutex);
+ * Most programs need only the calls whose names end in `here`, and lfm_wake_one and lfm_wake_all. A status is tested by
+ * lfm_is_refused, and not against 0: each one below LFM_BLANK is a success, as LFM_AGAIN of a thread that held before.
+ *
+ * What is proved: the calls of crates/lfm_c, which lock and unlock but neither sleep nor wake. Each is the mutex's own call:
+ * its answers, its refusals, its steps and their bound, and whom it grants the mutex. That no two seats hold at once follows
+ * from the rule that each step keeps (docs/LAWS.md, tables_are_steady and one_seat_owns). What is only tested: c/ligdrosa.c. It
+ * puts threads to sleep and wakes them, tries before it queues, finds seats, opens and ends mutexes, and has the condition
+ * variables. It argues beside its code why no wake-up is lost, and why nothing is touched after its end.
+ *
+ * A thread calls a mutex through a seat. Calls whose names end in `here` find the calling thread's seat by themselves. The
+ * others are given a seat (lfm_seat_take), for programs that want no thread-local memory. Then only lfm_mutex_new takes memory,
+ * and a lock that exchanges a spent seat.
  *
  * Each call answers a status. Null, a mutex that is not open and a seat that is not taken are answered by LFM_BLANK. A call
- * that is refused has changed nothing, unless it says so. Only calls that open or close change errno. What a program promises,
- * and nothing checks:
+ * that is refused has changed nothing, unless it says so. Only these may change errno: calls that open or close a mutex, or
+ * give a seat back, the first call of a thread for a mutex, and calls by destructors of thread-specific data, which may give
+ * seats back. What a program promises, and nothing checks:
  *
- *   - An lfm_mutex, lfm_seat or lfm_condvar is zero before its first call (static, calloc, `= {0}`), is not moved while it is
- *     in use, and is touched by these calls alone.
- *   - A seat is in one call at a time. It goes from one thread to another by a lock, a thread's start or join, or the like.
- *   - All calls of a mutex come from one process: none from a forked child, and none from a signal handler.
- *   - While a mutex or condition variable is opened or closed, no other call of it is made: each has returned before, or
- *     begins after. But a mutex may be closed while its seats are given back.
- *   - A call that has begun returns: no signal handler jumps out of it, and its thread is not cancelled asynchronously. No
- *     call is a cancellation point.
- *   - All files of a program are compiled with the same version of this header: a wake of one version may miss a wait of
- *     another.
+ *   - An lfm_mutex is zero or LFM_MUTEX_INIT, and an lfm_seat and lfm_condvar zero, before their first call. They are touched
+ *     by these calls alone. A mutex and a condition variable are moved only between calls, and a seat not while it is taken.
+ *     All three are of one process: they don't lie in memory that processes share.
+ *   - A seat is in one call at a time. It goes from one thread to another by a lock, a thread's start or join, or the like. If
+ *     a program is compiled with -DLFM_CHECKED, two threads in one seat end it with a text.
+ *   - No call comes from a signal handler. From a forked child come calls of a mutex only after lfm_after_fork, but its seats
+ *     may be given back and it may be closed: then the child only forgets it. If other threads of the parent may have waited at
+ *     a condition variable or been in a call of it, the child sets it to zero before it calls it: it has none of these threads.
+ *     A child has another pid than the process that opened the mutex. It may have the same in a new namespace of pids, or if
+ *     that process has ended and its pid has come again: then the child is not known as one.
+ *   - While a mutex is opened by lfm_mutex_new or closed, no other call of it begins. See lfm_mutex_close.
+ *   - A call that has begun returns: no signal handler jumps out of it, and its thread is not cancelled asynchronously. No call
+ *     is a cancellation point.
  *
- * It needs Linux with addresses of 64 bits, and gcc or clang with C11 or C++11. Link liblfm_c.a and then liblibc_c.a. */
+ * It needs Linux with addresses of 64 bits, and gcc or clang with C11 or C++11. Link libligdrosa.a or libligdrosa.so. */
 #ifndef LIGDROSA_H
 #define LIGDROSA_H
 
@@ -40,50 +49,51 @@
 #error "ligdrosa.h needs Linux with addresses of 64 bits"
 #endif
 
-#include <errno.h>
-#include <linux/futex.h>
 #include <stdbool.h>
 #include <stddef.h>
 #include <stdint.h>
-#include <stdlib.h>
-#include <string.h>
-#include <sys/syscall.h>
 #include <time.h>
-#include <unistd.h>
 
 #ifdef __cplusplus
 extern "C" {
 #endif
 
+/* The version of this header, and as one number. lfm_version tells that of the library. */
+#define LFM_VERSION_MAJOR 0
+#define LFM_VERSION_MINOR 1
+#define LFM_VERSION_PATCH 0
+#define LFM_VERSION (LFM_VERSION_MAJOR * 10000 + LFM_VERSION_MINOR * 100 + LFM_VERSION_PATCH)
+
 /* What a call tells. Below LFM_BLANK the call was made, from there on it was refused. */
 typedef enum lfm_status {
   /* scripts/write_c_sides writes the numbers from here */
-  LFM_DONE = 0,     /* made: the seat holds the mutex, or gave it up and nobody else asked */
-  LFM_AGAIN = 1,    /* the seat held before, and holds once more */
-  LFM_STILL = 2,    /* the seat holds once less, and still holds */
-  LFM_ASLEEP = 3,   /* the seat sleeps until it is granted the mutex; no call of this header answers it */
-  LFM_POSTED = 4,   /* the mutex was given up to a seat that had begun to ask */
-  LFM_GRANTED = 5,  /* the mutex was given up to the oldest queued seat */
-  LFM_NOBODY = 6,   /* nobody waited, so nobody was woken */
+  LFM_DONE = 0,      /* made: the seat holds the mutex, or gave it up and nobody else asked */
+  LFM_AGAIN = 1,     /* the seat held before, and holds once more */
+  LFM_STILL = 2,     /* the seat holds once less, and still holds */
+  LFM_ASLEEP = 3,    /* the seat sleeps until it is granted the mutex; no call of this header answers it */
+  LFM_POSTED = 4,    /* the mutex was given up to a seat that had begun to ask */
+  LFM_GRANTED = 5,   /* the mutex was given up to the oldest queued seat */
+  LFM_NOBODY = 6,    /* nobody waited, so nobody was woken */
+  LFM_TIMED_OUT = 7, /* the wait ended since its time was over; the seat holds the mutex */
 
-  LFM_BLANK = 16,        /* null, a mutex or condition variable that is not open, or a seat that is not taken */
-  LFM_TAKEN = 17,        /* the mutex or condition variable is open, or the seat taken, already */
-  LFM_LIMIT = 18,        /* not 1 to 4,095 seats, or not 1 to 2^36 takes for each */
+  LFM_BLANK = 16,        /* null, a mutex that is not open, or a seat that is not taken */
+  LFM_TAKEN = 17,        /* the mutex is open, or the seat taken, already */
+  LFM_LIMIT = 18,        /* a number is outside its limits */
   LFM_NO_MEMORY = 19,    /* memory was refused */
   LFM_NO_SEAT = 20,      /* all seats are taken */
   LFM_NOT_BACK = 21,     /* some seats are not given back */
-  LFM_HOLDING = 22,      /* the seat holds the mutex */
+  LFM_HOLDING = 22,      /* the seat holds the mutex, or for a close: some seat holds it or asks for it */
   LFM_FOREIGN = 23,      /* the seat is of another mutex */
   LFM_OTHER_HEADER = 24, /* the library is of another version than this header */
-  LFM_WAITED_FOR = 25,   /* a seat waits at the condition variable */
+  LFM_WAITED_FOR = 25,   /* a thread waits at the condition variable */
 
   LFM_SEAT_ASLEEP = 32,  /* the seat sleeps: it is in a call of another thread */
   LFM_NOT_OWNER = 33,    /* the seat doesn't hold the mutex */
   LFM_NESTED = 34,       /* the seat holds more than once, and a wait gives up one hold alone */
   LFM_DEPTH_FULL = 35,   /* the seat holds 65,535 times already */
-  LFM_SPENT = 36,        /* the seat has no take left */
-  LFM_NO_SUCH_SEAT = 37, /* no seat has this number */
-  LFM_NOT_WAITING = 38,  /* the seat doesn't sleep, or doesn't wait to be sent */
+  LFM_SPENT = 36,        /* the seat has no take left, and no seat that has some is free, or memory for it was refused */
+  LFM_NO_SUCH_SEAT = 37, /* no seat has this number; no call of this header answers it */
+  LFM_NOT_WAITING = 38,  /* the seat doesn't sleep; no call of this header answers it */
   LFM_BUSY = 39          /* at some moment of the call another seat held the mutex, asked for it or was giving it up */
   /* to here */
 } lfm_status;
@@ -91,491 +101,212 @@ typedef enum lfm_status {
 /* Whether the call was refused. */
 static inline bool lfm_is_refused(lfm_status status) { return status >= LFM_BLANK; }
 
-/* The compiler warns if the status of such a call is not used. A program that goes on after a refused lock would not hold the
- * mutex. */
-#define LFM_NODISCARD __attribute__((warn_unused_result))
+#define LFM_API __attribute__((visibility("default"), nothrow))
+/* The compiler warns if the status of such a call is not used. A program that goes on after a refused lock would not hold. */
+#define LFM_NODISCARD __attribute__((warn_unused_result)) LFM_API
 
-/* The library's own calls. Programs use those below. A handle is memory of the size and alignment that the library tells, and
- * a call makes it blank before any other is given it. A call answers a status in the low 8 bits. Above it an ask, unlock,
- * start_wait or send tells the number of the seat that it granted the mutex and that is to be woken, or 0, and a close that is
- * refused tells the first seat that hinders it. A seat's number, depth and takes left are plain numbers, and 0 of a blank
- * handle. */
-/* scripts/write_c_sides writes the exports from here */
-size_t lfm_c_mutex_size(void);
-size_t lfm_c_mutex_align(void);
-size_t lfm_c_seat_size(void);
-size_t lfm_c_seat_align(void);
-void lfm_c_blank_mutex(void *mutex);
-void lfm_c_blank_seat(void *seat);
-uint64_t lfm_c_open(void *mutex, uint64_t seats, uint64_t budget);
-uint64_t lfm_c_take_seat(void *mutex, void *seat);
-uint64_t lfm_c_give_seat(void *mutex, void *seat);
-uint64_t lfm_c_close(void *mutex);
-uint64_t lfm_c_number(void *seat);
-uint64_t lfm_c_depth(void *seat);
-uint64_t lfm_c_left(void *seat);
-uint64_t lfm_c_ask(void *seat);
-uint64_t lfm_c_receive(void *seat);
-uint64_t lfm_c_try_lock(void *seat);
-uint64_t lfm_c_unlock(void *seat);
-uint64_t lfm_c_start_wait(void *seat);
-uint64_t lfm_c_send(void *seat, uint64_t number);
-/* to here */
-
-enum { LFM_LINE = 64, LFM_ALIGNMENT = 16, LFM_MUTEX_BYTES = 128, LFM_SEAT_BYTES = 256 };
-enum {
-  LFM_MONOTONIC = 1, /* CLOCK_MONOTONIC of Linux */
-  LFM_PAUSES_PER_LOOK = 4,
-  LFM_LOOKS_PER_TIME = 16 /* between two readings of the clock */
-};
-
-/* What programs make is aligned as memory of malloc is. Each ends with a line that nothing uses, so that no two of them share a
- * cache line wherever they lie. */
-#define LFM_ALIGNED __attribute__((aligned(16)))
-
-/* For how many nanoseconds a queued seat spins, looking whether it is granted the mutex, before its thread sleeps: about as
- * long as two wake-ups by the system. If it is shorter, one thread that sleeps soon makes all that queue behind it sleep too.
- * 0 means: sleep at once. With one processor a seat never spins, nor if more seats are queued than the program has
- * processors. */
-#ifndef LFM_LOOK_NANOSECONDS
-#define LFM_LOOK_NANOSECONDS 20000
+/* For clang's -Wthread-safety. Calls with a seat are not told: clang can't see of which mutex a seat is. Of the calls that try,
+ * it sees in `if (!lfm_try_lock_here(&mutex))` that the mutex is held, but clang 14 not in a test by lfm_is_refused or by `==`.
+ * That form takes LFM_AGAIN for a failure, so it is for a thread that doesn't hold yet. */
+#if defined(__clang__) && !defined(LFM_NO_THREAD_SAFETY)
+#define LFM_TELLS_CLANG(what) __attribute__((what))
+#else
+#define LFM_TELLS_CLANG(what)
 #endif
+#define LFM_CAPABILITY LFM_TELLS_CLANG(capability("mutex"))
+#define LFM_GAINS(mutex) LFM_TELLS_CLANG(acquire_capability(mutex))
+#define LFM_TRIES(mutex) LFM_TELLS_CLANG(try_acquire_capability(0, mutex))
+#define LFM_GIVES_UP(mutex) LFM_TELLS_CLANG(release_capability(mutex))
+#define LFM_NEEDS(mutex) LFM_TELLS_CLANG(requires_capability(mutex))
 
-/* How often a seat was told that it is granted the mutex, and whether its thread sleeps. Each has a cache line of its own. */
-typedef struct lfm_bell {
-  uint32_t rings;
-  uint32_t sleeps;
-} __attribute__((aligned(64))) lfm_bell;
+/* The clocks that a call with a time limit takes: CLOCK_REALTIME and CLOCK_MONOTONIC of Linux. */
+enum { LFM_REALTIME = 0, LFM_MONOTONIC = 1 };
 
-/* A mutex. `bells` has one bell for each seat, by its number, and is null while the mutex is not open. */
-typedef struct lfm_mutex {
-  unsigned char handle[LFM_MUTEX_BYTES];
-  lfm_bell *bells;
-  uint64_t seats;
-  uint32_t seats_lock; /* 0; or 1 while a thread has locked the seats, and 2 if another may sleep until they are unlocked */
-  uint32_t near;       /* a seat spins only if at most this number are queued: the number of processors, or 0 if there is one */
-  unsigned char apart[LFM_LINE];
-  uint32_t queued; /* how many seats are queued by lfm_lock */
-  unsigned char apart_from_others[LFM_LINE];
-} LFM_ALIGNED lfm_mutex;
+enum { LFM_MOST_SEATS = 4095, LFM_USUAL_SEATS = 64, LFM_SEAT_BYTES = 136 };
+/* The greatest number of takes that a seat may be allowed. */
+#define LFM_MOST_TAKES ((uint64_t)1 << 36)
 
-/* What one thread uses a mutex with. `mutex` is null while the seat is not taken. */
+struct lfm_core;
+struct lfm_waiter;
+
+/* A mutex, of 16 bytes. While `core` is null it is not open, but LFM_MUTEX_INIT is opened by its first call. */
+typedef struct LFM_CAPABILITY lfm_mutex {
+  struct lfm_core *core;
+  uint32_t seats;
+  uint32_t version;
+} lfm_mutex;
+
+/* A mutex that is opened by its first lock or seat, with this many seats, each of which has LFM_MOST_TAKES takes. If memory is
+ * refused, that call is refused. A static one need never be closed. */
+#define LFM_MUTEX_INIT_WITH(seats) {NULL, (seats), LFM_VERSION}
+#define LFM_MUTEX_INIT LFM_MUTEX_INIT_WITH(LFM_USUAL_SEATS)
+
+/* What one thread uses a mutex with, of 256 bytes. It is aligned as memory of malloc is, and ends with bytes that nothing uses,
+ * so that no two of them share a cache line wherever they lie. `core` is null while the seat is not taken. */
 typedef struct lfm_seat {
+  struct lfm_core *core;
+  struct lfm_waiter *unrung;
+  uint32_t flags;
+  uint32_t is_in_call;
   unsigned char handle[LFM_SEAT_BYTES];
-  lfm_mutex *mutex;
-  lfm_bell *bell;
-  unsigned char apart[LFM_LINE];
-} LFM_ALIGNED lfm_seat;
+  struct lfm_waiter *last_unrung;
+  uint64_t left;
+  uint32_t bell;
+  uint32_t looks;
+  uint32_t waits;
+  uint32_t unused[17];
+} __attribute__((aligned(16))) lfm_seat;
 
-/* ThreadSanitizer doesn't see into the library, so it is told what a lock and an unlock order. */
-#if defined(__SANITIZE_THREAD__)
-#define LFM_TELLS_ORDER 1
-#elif defined(__has_feature)
-#if __has_feature(thread_sanitizer)
-#define LFM_TELLS_ORDER 1
-#endif
-#endif
-#ifdef LFM_TELLS_ORDER
-void __tsan_acquire(void *);
-void __tsan_release(void *);
-#endif
+/* A condition variable, of 32 bytes: those that wait, the oldest first. */
+typedef struct lfm_condvar {
+  struct lfm_waiter *oldest;
+  struct lfm_waiter *newest;
+  uint32_t guard;
+  uint32_t inside; /* how many waits with a time limit may still touch it */
+  uint64_t unused;
+} lfm_condvar;
 
-/* Tells ThreadSanitizer of a call that may have gained the mutex, after it, and returns the call's status. */
-static inline lfm_status lfm_gained(lfm_seat *seat, lfm_status status) {
-#ifdef LFM_TELLS_ORDER
-  if (!lfm_is_refused(status)) __tsan_acquire(seat->mutex);
-#endif
-  (void)seat;
-  return status;
-}
+/* Of the library: LFM_VERSION as it was compiled. */
+LFM_API int lfm_version(void);
+/* What the status means, in some words. */
+LFM_API const char *lfm_status_text(lfm_status status);
 
-/* Tells ThreadSanitizer of a call that may give the mutex up, before it. If the seat doesn't hold, the call is refused and
- * orders nothing. If it holds more than once, the call doesn't give the mutex up. */
-static inline void lfm_giving_up(lfm_seat *seat) {
-#ifdef LFM_TELLS_ORDER
-  if (lfm_c_depth(seat->handle) == 1) __tsan_release(seat->mutex);
-#endif
-  (void)seat;
-}
+/* Mutexes */
 
-/* How threads sleep and wake.
- *
- * Each grant is rung for. One call grants the mutex to at most one seat, and its answer names that seat, which is proved. So
- * the thread that made the call rings that seat's bell before it sleeps itself. A wait and a wake give the list of the
- * condition variable back before they ring, and that never sleeps. The woken thread may need the list at once, and would sleep
- * again if the list were still held.
- *
- * No ring is missed. A seat's thread reads how often the bell has rung, makes a receive, and looks or sleeps only while the
- * bell has rung no more than that. A grant is stored before its ring. If the ring comes before the reading, the receive finds
- * the grant. Otherwise a look finds another number of rings. The last look comes after `sleeps` is set. So a ring that it
- * doesn't find will find `sleeps` set, and wakes the thread. If the thread is not asleep by then, the system compares the
- * number of rings and doesn't put it to sleep.
- *
- * A ring comes from a call of another seat, and a mutex is closed only after all seats are back. So the bell outlives the
- * ring. */
-
-#ifndef __cplusplus
-/* strict C11 leaves these undeclared; otherwise they are declared a second time */
-#pragma GCC diagnostic push
-#pragma GCC diagnostic ignored "-Wredundant-decls"
-long syscall(long number, ...);
-int clock_gettime(int clock, struct timespec *now);
-#pragma GCC diagnostic pop
-#endif
-
-/* A call of futex that leaves errno as it was. */
-static inline void lfm_futex(uint32_t *word, int operation, uint32_t value) {
-  int before = errno;
-  syscall(SYS_futex, word, operation | FUTEX_PRIVATE_FLAG, value, NULL, NULL, 0);
-  errno = before;
-}
-
-/* Rings the bell of the seat with this number, and wakes its thread if that sleeps. */
-static inline void lfm_ring(lfm_mutex *mutex, uint64_t number) {
-  lfm_bell *bell = &mutex->bells[number];
-  __atomic_fetch_add(&bell->rings, 1, __ATOMIC_SEQ_CST);
-  if (__atomic_load_n(&bell->sleeps, __ATOMIC_SEQ_CST)) lfm_futex(&bell->rings, FUTEX_WAKE, 1);
-}
-
-/* The status that an answer tells. */
-static inline lfm_status lfm_status_of(uint64_t answer) { return (lfm_status)(answer & 255); }
-/* The number of the seat that an answer names above its status, or 0. */
-static inline uint64_t lfm_named(uint64_t answer) { return answer >> 8; }
-
-/* Rings for the seat that an answer names, and returns the status. */
-static inline lfm_status lfm_told(lfm_mutex *mutex, uint64_t answer) {
-  if (__builtin_expect(answer > 255, 0)) lfm_ring(mutex, lfm_named(answer));
-  return lfm_status_of(answer);
-}
-
-/* Tells the processor that its thread waits in a loop. */
-static inline void lfm_pause(void) {
-#if defined(__x86_64__) || defined(__i386__)
-  __builtin_ia32_pause();
-#elif defined(__aarch64__)
-  __asm__ volatile("yield");
-#endif
-}
-
-/* The time on a clock that is never set. */
-static inline uint64_t lfm_nanoseconds(void) {
-  struct timespec now;
-  clock_gettime(LFM_MONOTONIC, &now);
-  return (uint64_t)now.tv_sec * 1000000000 + (uint64_t)now.tv_nsec;
-}
-
-/* Watches the bell for this many nanoseconds, and returns whether it has rung again, after it had rung `seen` times. Each look
- * comes after some pauses and loads only the bell, which no other seat's steps touch. */
-static inline bool lfm_hears(lfm_bell *bell, uint32_t seen, uint64_t nanoseconds) {
-  if (nanoseconds == 0) return false;
-  uint64_t begun = lfm_nanoseconds();
-  do {
-    for (int look = 0; look < LFM_LOOKS_PER_TIME; look++) {
-      for (int pause = 0; pause < LFM_PAUSES_PER_LOOK; pause++) lfm_pause();
-      if (__atomic_load_n(&bell->rings, __ATOMIC_SEQ_CST) != seen) return true;
-    }
-  } while (lfm_nanoseconds() - begun < nanoseconds);
-  return false;
-}
-
-/* Sleeps until the seat, which is asleep, is granted the mutex, after it has looked for this many nanoseconds. */
-static inline lfm_status lfm_receive(lfm_seat *seat, uint64_t nanoseconds) {
-  lfm_bell *bell = seat->bell;
-  for (;;) {
-    uint32_t seen = __atomic_load_n(&bell->rings, __ATOMIC_SEQ_CST);
-    lfm_status status = (lfm_status)lfm_c_receive(seat->handle);
-    if (status != LFM_ASLEEP) return status;
-    if (lfm_hears(bell, seen, nanoseconds)) continue;
-    nanoseconds = 0;
-    __atomic_store_n(&bell->sleeps, 1, __ATOMIC_SEQ_CST);
-    if (__atomic_load_n(&bell->rings, __ATOMIC_SEQ_CST) == seen) lfm_futex(&bell->rings, FUTEX_WAIT, seen);
-    __atomic_store_n(&bell->sleeps, 0, __ATOMIC_SEQ_CST);
-  }
-}
-
-/* The same for a seat whose grant may come soon: it spins first, unless more than `near` seats are queued. Then it would only
- * keep a processor from them. */
-static inline lfm_status lfm_receive_soon(lfm_seat *seat) {
-  uint32_t *queued = &seat->mutex->queued;
-  bool is_near = __atomic_add_fetch(queued, 1, __ATOMIC_RELAXED) <= seat->mutex->near;
-  lfm_status status = lfm_receive(seat, is_near ? LFM_LOOK_NANOSECONDS : 0);
-  __atomic_sub_fetch(queued, 1, __ATOMIC_RELAXED);
-  return status;
-}
-
-/* How many processors the calling thread may use; 8 if the system doesn't tell. */
-static inline uint32_t lfm_processors(void) {
-  unsigned long mask[128];
-  uint32_t count = 0;
-  long bytes = syscall(SYS_sched_getaffinity, 0, sizeof mask, mask);
-  for (long i = 0; i < bytes / (long)sizeof mask[0]; i++) count += (uint32_t)__builtin_popcountl(mask[i]);
-  return count ? count : 8;
-}
-
-/* The mutex */
-
-/* Opens a mutex with this many seats, 1 to 4,095, each of which may take it as often as the budget says, 1 to 2^36.
- * Refused: LFM_BLANK (null), LFM_TAKEN, LFM_OTHER_HEADER, LFM_LIMIT, LFM_NO_MEMORY. It takes at most 250 bytes for each seat
- * and 500 more. No other call of a mutex takes memory. */
+/* Opens a mutex with this many seats, 1 to 4,095, each of which may take it as often as the budget says, 1 to LFM_MOST_TAKES.
+ * `version` is LFM_VERSION. It takes at most 153 bytes for each seat and 700 more.
+ * Refused: LFM_BLANK (null), LFM_TAKEN, LFM_OTHER_HEADER, LFM_LIMIT, LFM_NO_MEMORY. */
+LFM_API lfm_status lfm_mutex_open(lfm_mutex *mutex, uint64_t seats, uint64_t budget, int version);
+/* The same for programs that have this header. */
 static inline lfm_status lfm_mutex_new(lfm_mutex *mutex, uint64_t seats, uint64_t budget) {
-  if (!mutex) return LFM_BLANK;
-  if (mutex->bells) return LFM_TAKEN;
-  if (lfm_c_mutex_size() > LFM_MUTEX_BYTES || lfm_c_mutex_align() > LFM_ALIGNMENT) return LFM_OTHER_HEADER;
-  if (lfm_c_seat_size() > LFM_SEAT_BYTES || lfm_c_seat_align() > LFM_ALIGNMENT) return LFM_OTHER_HEADER;
-  lfm_c_blank_mutex(mutex->handle);
-  lfm_status status = (lfm_status)lfm_c_open(mutex->handle, seats, budget);
-  if (status != LFM_DONE) return status;
-  size_t bytes = (seats + 1) * sizeof(lfm_bell);
-  mutex->bells = (lfm_bell *)aligned_alloc(LFM_LINE, bytes);
-  if (!mutex->bells) {
-    lfm_c_close(mutex->handle);
-    return LFM_NO_MEMORY;
-  }
-  memset(mutex->bells, 0, bytes);
-  mutex->seats = seats;
-  mutex->near = lfm_processors();
-  if (mutex->near == 1) mutex->near = 0;
-  mutex->queued = 0;
-  return LFM_DONE;
+  return lfm_mutex_open(mutex, seats, budget, LFM_VERSION);
 }
 
-/* Locks the seats, unless another thread has locked them. */
-static inline bool lfm_try_lock_seats(lfm_mutex *mutex) {
-  uint32_t found = 0;
-  return __atomic_compare_exchange_n(&mutex->seats_lock, &found, 1, false, __ATOMIC_ACQUIRE, __ATOMIC_RELAXED);
-}
+/* Ends the mutex, which is zero then, also if it was LFM_MUTEX_INIT: a later call doesn't open it anew, and is refused as
+ * LFM_BLANK. A thread may close it as soon as it has gained it last and given it up, though calls of others that gave it up
+ * before have not returned yet, and then give back the memory of the lfm_mutex. It may also be closed beside the last
+ * lfm_seat_give, and then the memory of that lfm_seat may go too. The memory of the library itself goes back when no thread has
+ * a seat: threads that found their seats by themselves give them back as they take others, or when they end. It may sleep until
+ * a seat is taken or given back.
+ * Refused: LFM_BLANK, LFM_NOT_BACK if a seat of lfm_seat_take is not given back, LFM_HOLDING. The last is not seen if all
+ * seats are taken and the calling thread has none. */
+LFM_API lfm_status lfm_mutex_close(lfm_mutex *mutex);
 
-/* Locks the seats. One thread at a time takes a seat, gives one back or closes the mutex. Others that take or give one sleep
- * until it is done, so that it gets done even if they have a higher priority. */
-static inline void lfm_lock_seats(lfm_mutex *mutex) {
-  if (lfm_try_lock_seats(mutex)) return;
-  while (__atomic_exchange_n(&mutex->seats_lock, 2, __ATOMIC_ACQUIRE)) lfm_futex(&mutex->seats_lock, FUTEX_WAIT, 2);
-}
+/* How many takes the seats of the mutex had left, each when it was last taken or given back: an upper bound, and exact while
+ * all are back. A mutex is spent only if all its seats are: a seat that has no take left is exchanged for another by itself. */
+LFM_API uint64_t lfm_takes_left(lfm_mutex *mutex);
 
-/* Unlocks the seats, and wakes a thread that may sleep until then. If this was the last give, the mutex may be closed, and its
- * memory free, before the wake, which uses the address alone. A thread that sleeps by futex on new memory at this address may
- * then be woken too early. As the system may do so as well, its program has to expect it. */
-static inline void lfm_unlock_seats(lfm_mutex *mutex) {
-  if (__atomic_exchange_n(&mutex->seats_lock, 0, __ATOMIC_RELEASE) == 2) lfm_futex(&mutex->seats_lock, FUTEX_WAKE, 1);
-}
+/* In a forked child, makes a mutex new that the thread which forked held, or that nobody held: that thread holds it as often as
+ * before. `seat` is that thread's seat, or null if it finds its seat by itself. Other seats of it are forgotten: an lfm_seat is
+ * set to zero before it is taken anew. In the process that opened the mutex it changes nothing.
+ * Refused: LFM_BLANK, LFM_FOREIGN, LFM_NO_MEMORY, and LFM_BUSY if another thread held the mutex, asked for it or was giving it
+ * up when the parent forked, or if the thread has no seat by which it could see that, and none is free. */
+LFM_API lfm_status lfm_after_fork(lfm_mutex *mutex, lfm_seat *seat);
 
-/* Takes a seat of the mutex: the one that was given back last, or else the next that was never taken. A seat that was given
- * back keeps its number and the takes that it has made. If it has no take left, its locks are refused as LFM_SPENT until the
- * mutex is closed and opened anew. Other threads may take and give back seats at the same time: each may sleep until the other
- * is done. Refused: LFM_BLANK, LFM_TAKEN, LFM_NO_SEAT. */
-static inline lfm_status lfm_seat_take(lfm_mutex *mutex, lfm_seat *seat) {
-  if (!mutex || !seat || !mutex->bells) return LFM_BLANK;
-  if (seat->mutex) return LFM_TAKEN;
-  lfm_c_blank_seat(seat->handle);
-  lfm_lock_seats(mutex);
-  lfm_status status = (lfm_status)lfm_c_take_seat(mutex->handle, seat->handle);
-  lfm_unlock_seats(mutex);
-  if (status != LFM_DONE) return status;
-  seat->mutex = mutex;
-  seat->bell = &mutex->bells[lfm_c_number(seat->handle)];
-  return LFM_DONE;
-}
+/* Seats in hand */
 
-/* Gives the seat back. It may sleep until another thread has taken a seat, given one back, or tried to close the mutex.
- * Refused: LFM_BLANK, LFM_HOLDING, LFM_SEAT_ASLEEP. */
-static inline lfm_status lfm_seat_give(lfm_seat *seat) {
-  if (!seat || !seat->mutex) return LFM_BLANK;
-  lfm_mutex *mutex = seat->mutex;
-  lfm_lock_seats(mutex);
-  lfm_status status = (lfm_status)lfm_c_give_seat(mutex->handle, seat->handle);
-  lfm_unlock_seats(mutex);
-  if (status != LFM_DONE) return status;
-  seat->mutex = NULL;
-  seat->bell = NULL;
-  return LFM_DONE;
-}
+/* Takes a seat of the mutex: the one that was given back last, or else the next that was never taken. Other threads may take
+ * and give back seats at the same time: each may sleep until the other is done. Refused: LFM_BLANK, LFM_TAKEN, LFM_NO_SEAT,
+ * and as lfm_mutex_open if it opens the mutex. */
+LFM_API lfm_status lfm_seat_take(lfm_mutex *mutex, lfm_seat *seat);
+LFM_API lfm_status lfm_seat_take_checked(lfm_mutex *mutex, lfm_seat *seat);
+#ifdef LFM_CHECKED
+#define lfm_seat_take lfm_seat_take_checked
+#endif
 
-/* Ends the mutex and gives its memory back. It never sleeps. Refused: LFM_BLANK, and LFM_NOT_BACK if one of its seats is not
- * given back. A seat that holds or sleeps can't be given back, so a mutex that is held or asked for is refused. A seat is back
- * once the call that gives it has left the mutex. So a thread may call this beside the last give until it is not refused, and
- * then free the memory of the mutex. Between two calls it should sleep: otherwise it may keep the processor from a thread of
- * lower priority that gives a seat back. */
-static inline lfm_status lfm_mutex_close(lfm_mutex *mutex) {
-  if (!mutex || !mutex->bells) return LFM_BLANK;
-  if (!lfm_try_lock_seats(mutex)) return LFM_NOT_BACK;
-  lfm_status status = lfm_status_of(lfm_c_close(mutex->handle));
-  lfm_unlock_seats(mutex);
-  if (status != LFM_DONE) return status;
-  free(mutex->bells);
-  mutex->bells = NULL;
-  return LFM_DONE;
-}
+/* Gives the seat back. It may sleep until another thread has taken or given one. Refused: LFM_BLANK, LFM_HOLDING,
+ * LFM_SEAT_ASLEEP. */
+LFM_API lfm_status lfm_seat_give(lfm_seat *seat);
 
-/* Gains the mutex, for one take, or deepens the hold: LFM_DONE or LFM_AGAIN. It sleeps until then.
+/* The seat's number, 1 and on, or 0 of a seat that is not taken. An exchange of a spent seat changes it. */
+LFM_API uint64_t lfm_number(lfm_seat *seat);
+/* How often the seat holds. */
+LFM_API uint64_t lfm_depth(lfm_seat *seat);
+/* How many takes the seat has left, or 0 of a seat that is not taken. */
+LFM_API uint64_t lfm_left(lfm_seat *seat);
+
+/* Locks */
+
+/* Gains the mutex, for one take, or deepens the hold: LFM_DONE or LFM_AGAIN. It sleeps until then. It first tries a bounded
+ * number of times, between pauses and naps, and so may come before threads that came earlier. Then it queues, and from there
+ * on no thread that queues later is served before it.
  * Refused: LFM_BLANK, LFM_SEAT_ASLEEP, LFM_DEPTH_FULL, LFM_SPENT. */
-LFM_NODISCARD static inline lfm_status lfm_lock(lfm_seat *seat) {
-  if (!seat || !seat->mutex) return LFM_BLANK;
-  lfm_status status = lfm_told(seat->mutex, lfm_c_ask(seat->handle));
-  if (__builtin_expect(status == LFM_ASLEEP, 0)) status = lfm_receive_soon(seat);
-  return lfm_gained(seat, status);
-}
+LFM_NODISCARD lfm_status lfm_lock(lfm_seat *seat);
+
+/* The same, but queues at once. */
+LFM_NODISCARD lfm_status lfm_lock_in_order(lfm_seat *seat);
 
 /* Gains the mutex or deepens the hold, and never sleeps: LFM_DONE or LFM_AGAIN. It may come before seats that are queued.
  * Refused: LFM_BLANK, LFM_SEAT_ASLEEP, LFM_DEPTH_FULL, LFM_SPENT, and LFM_BUSY, which gives the take back. */
-LFM_NODISCARD static inline lfm_status lfm_try_lock(lfm_seat *seat) {
-  if (!seat || !seat->mutex) return LFM_BLANK;
-  return lfm_gained(seat, (lfm_status)lfm_c_try_lock(seat->handle));
-}
+LFM_NODISCARD lfm_status lfm_try_lock(lfm_seat *seat);
+
+/* The same, but tries until this many nanoseconds have passed, or until this time on this clock. It never queues: while others
+ * hold, it sleeps and tries anew at least every millisecond. It gains the mutex only if it looks at a moment when nobody holds
+ * or waits. While other threads queue, an unlock hands the mutex to the next of them. So the call may fail however long its
+ * time is, and however short they hold. A thread that must have the mutex calls lfm_lock.
+ * Refused besides: LFM_LIMIT (no such clock, or not 0 to 999,999,999 nanoseconds in `time`). LFM_BUSY tells that the time is
+ * over. */
+LFM_NODISCARD lfm_status lfm_try_lock_for(lfm_seat *seat, uint64_t nanoseconds);
+LFM_NODISCARD lfm_status lfm_try_lock_until(lfm_seat *seat, int clock, const struct timespec *time);
 
 /* Gives one hold up: LFM_STILL if the seat still holds, else LFM_DONE, LFM_POSTED or LFM_GRANTED. It never sleeps.
  * Refused: LFM_BLANK, LFM_SEAT_ASLEEP, LFM_NOT_OWNER. */
-static inline lfm_status lfm_unlock(lfm_seat *seat) {
-  if (!seat || !seat->mutex) return LFM_BLANK;
-  lfm_giving_up(seat);
-  return lfm_told(seat->mutex, lfm_c_unlock(seat->handle));
-}
+LFM_API lfm_status lfm_unlock(lfm_seat *seat);
 
-/* The seat's number, 1 and on, or 0 of a seat that is not taken. */
-static inline uint64_t lfm_number(lfm_seat *seat) { return seat && seat->mutex ? lfm_c_number(seat->handle) : 0; }
-/* How often the seat holds. */
-static inline uint64_t lfm_depth(lfm_seat *seat) { return seat && seat->mutex ? lfm_c_depth(seat->handle) : 0; }
-/* How many takes the seat has left, or 0 of a seat that is not taken. */
-static inline uint64_t lfm_left(lfm_seat *seat) { return seat && seat->mutex ? lfm_c_left(seat->handle) : 0; }
+/* Seats that find themselves */
 
-/* The condition variable */
+/* The calling thread's seat of the mutex, or null if it is refused, with the cause. `cause` is not null, and it is to be read
+ * only then. A thread takes a seat by its first call of a mutex, which takes some 250 bytes, and gives it back when it ends,
+ * unless it holds then, or the system had no thread-specific key left. So as many threads may use a mutex at a time as it has
+ * seats. Destructors of thread-specific data may call too. Only a seat that this call takes in the last round of them, the
+ * fourth in glibc, is not given back. To find a seat takes about as long however many mutexes there are. */
+LFM_API lfm_seat *lfm_seat_here(lfm_mutex *mutex, lfm_status *cause);
 
-/* Those that wait, the oldest first, guarded by a mutex of its own. The user's seat with the number n uses the list's seat n,
- * so no two threads use one. `of` is null while the condition variable is not open. A wake that finds `count` 0 answers at
- * once. */
-typedef struct lfm_condvar {
-  lfm_mutex list;
-  lfm_mutex *of;
-  lfm_seat *seats;   /* the list's seats, by their numbers */
-  uint64_t *waiting; /* a ring of the numbers of those that wait, with room for all */
-  uint64_t first;
-  uint64_t count; /* how many wait: stored by a holder of the list, and loaded by a wake before it has the list */
-} LFM_ALIGNED lfm_condvar;
+/* The calls above with that seat. Refused besides: LFM_NO_SEAT, LFM_NO_MEMORY, and as lfm_mutex_open if it opens the mutex. */
+LFM_NODISCARD lfm_status lfm_lock_here(lfm_mutex *mutex) LFM_GAINS(*mutex);
+LFM_NODISCARD lfm_status lfm_lock_in_order_here(lfm_mutex *mutex) LFM_GAINS(*mutex);
+LFM_NODISCARD lfm_status lfm_try_lock_here(lfm_mutex *mutex) LFM_TRIES(*mutex);
+LFM_NODISCARD lfm_status lfm_try_lock_for_here(lfm_mutex *mutex, uint64_t nanoseconds) LFM_TRIES(*mutex);
+LFM_NODISCARD lfm_status lfm_try_lock_until_here(lfm_mutex *mutex, int clock, const struct timespec *time) LFM_TRIES(*mutex);
+/* These take no seat: a thread that has none doesn't hold. */
+LFM_API lfm_status lfm_unlock_here(lfm_mutex *mutex) LFM_GIVES_UP(*mutex);
+LFM_API uint64_t lfm_depth_here(lfm_mutex *mutex);
 
-/* Stores how many wait. The list is held. A relaxed store and load are enough. A wait stores the count before it gives the
- * mutex up. If a thread that gains the mutex after that makes a wake, the gain orders the load after the store. */
-static inline void lfm_condvar_count(lfm_condvar *condvar, uint64_t count) {
-  __atomic_store_n(&condvar->count, count, __ATOMIC_RELAXED);
-}
-
-/* Gives the memory of a condition variable back, even if it was opened only in part. */
-static inline void lfm_condvar_free(lfm_condvar *condvar) {
-  if (condvar->seats)
-    for (uint64_t i = 1; i <= condvar->list.seats; i++) lfm_seat_give(&condvar->seats[i]);
-  lfm_mutex_close(&condvar->list);
-  free(condvar->seats);
-  free(condvar->waiting);
-  condvar->seats = NULL;
-  condvar->waiting = NULL;
-  condvar->of = NULL;
-}
-
-/* Opens a condition variable for the seats of this mutex, which is closed after it. Its own mutex allows each of them 2^36
- * waits and wakes. Refused: LFM_BLANK, LFM_TAKEN, LFM_NO_MEMORY. It takes at most 600 bytes for each seat and 1,000 more. No
- * call after it takes memory. */
-static inline lfm_status lfm_condvar_new(lfm_condvar *condvar, lfm_mutex *mutex) {
-  if (!condvar || !mutex || !mutex->bells) return LFM_BLANK;
-  if (condvar->of) return LFM_TAKEN;
-  uint64_t seats = mutex->seats;
-  lfm_status status = lfm_mutex_new(&condvar->list, seats, (uint64_t)1 << 36);
-  if (status != LFM_DONE) return status;
-  condvar->seats = (lfm_seat *)malloc((seats + 1) * sizeof(lfm_seat));
-  condvar->waiting = (uint64_t *)malloc(seats * sizeof(uint64_t));
-  if (condvar->seats) memset(condvar->seats, 0, (seats + 1) * sizeof(lfm_seat));
-  if (!condvar->seats || !condvar->waiting) {
-    lfm_condvar_free(condvar);
-    return LFM_NO_MEMORY;
-  }
-  for (uint64_t i = 1; i <= seats; i++) lfm_seat_take(&condvar->list, &condvar->seats[i]);
-  condvar->first = 0;
-  condvar->count = 0;
-  condvar->of = mutex;
-  return LFM_DONE;
-}
-
-/* Gives the memory back. Refused: LFM_BLANK, LFM_WAITED_FOR. */
-static inline lfm_status lfm_condvar_close(lfm_condvar *condvar) {
-  if (!condvar || !condvar->of) return LFM_BLANK;
-  if (condvar->count != 0) return LFM_WAITED_FOR;
-  lfm_condvar_free(condvar);
-  return LFM_DONE;
-}
-
-/* Why a wait or a wake by this seat is refused whatever state the seat is in, or LFM_DONE. */
-static inline lfm_status lfm_condvar_refuses(lfm_condvar *condvar, lfm_seat *seat) {
-  if (!condvar || !condvar->of || !seat || !seat->mutex) return LFM_BLANK;
-  /* a mutex that was closed and opened anew in between may have more seats */
-  bool is_known = seat->mutex == condvar->of && lfm_c_number(seat->handle) <= condvar->list.seats;
-  return is_known ? LFM_DONE : LFM_FOREIGN;
-}
+/* Conditions */
 
 /* Gives the mutex up, which the seat holds once, waits until a wake, and gains the mutex again, for one take: LFM_DONE. It
- * returns only after a call of lfm_wake_one or lfm_wake_all, but another seat may hold the mutex in between: wait in a loop
- * that tests what is waited for. If the seat's own state refuses the wait, that still costs one of the condition variable's
- * 2^36 takes, and may have slept.
- * Refused: LFM_BLANK, LFM_FOREIGN, LFM_SEAT_ASLEEP, LFM_NOT_OWNER, LFM_NESTED, LFM_SPENT. */
-LFM_NODISCARD static inline lfm_status lfm_wait(lfm_condvar *condvar, lfm_seat *seat) {
-  lfm_status status = lfm_condvar_refuses(condvar, seat);
-  if (status != LFM_DONE) return status;
-  lfm_seat *by = &condvar->seats[lfm_c_number(seat->handle)];
-  status = lfm_lock(by);
-  if (lfm_is_refused(status)) return status;
-  /* The wait is counted while its seat still holds the mutex, so whoever gains the mutex next finds it counted. */
-  uint64_t before = condvar->count;
-  lfm_condvar_count(condvar, before + 1);
-  lfm_giving_up(seat);
-  uint64_t answer = lfm_c_start_wait(seat->handle);
-  if (lfm_is_refused(lfm_status_of(answer)))
-    lfm_condvar_count(condvar, before);
-  else
-    condvar->waiting[(condvar->first + before) % condvar->list.seats] = lfm_c_number(seat->handle);
-  lfm_unlock(by);
-  status = lfm_told(seat->mutex, answer); /* after the list is given back */
-  if (lfm_is_refused(status)) return status;
-  return lfm_gained(seat, lfm_receive(seat, 0));
-}
+ * returns only after a wake, but another seat may hold the mutex in between: wait in a loop that tests what is waited for. If a
+ * wake wakes one thread, that locks as by lfm_lock, and if it wakes more, they lock in order.
+ * Refused: LFM_BLANK, LFM_SEAT_ASLEEP, LFM_NOT_OWNER, LFM_NESTED, LFM_SPENT. */
+LFM_NODISCARD lfm_status lfm_wait(lfm_condvar *condvar, lfm_seat *seat);
 
-/* Sends the oldest of those that wait, whose seat then gains the mutex or is queued. The list's mutex is held. `granted` is the
- * number of the seat that the caller rings for once it has given the list back, or 0. A wake grants the mutex again only after
- * the seat of its last grant has gained it and given it up. That seat is rung for at once, so that the caller keeps only one
- * number. */
-static inline lfm_status lfm_send_oldest(lfm_condvar *condvar, lfm_seat *seat, uint64_t *granted) {
-  if (condvar->count == 0) return LFM_NOBODY;
-  uint64_t answer = lfm_c_send(seat->handle, condvar->waiting[condvar->first]);
-  lfm_status status = lfm_status_of(answer);
-  if (lfm_is_refused(status)) return status;
-  condvar->first = (condvar->first + 1) % condvar->list.seats;
-  lfm_condvar_count(condvar, condvar->count - 1);
-  if (lfm_named(answer) == 0) return LFM_DONE;
-  if (*granted != 0) lfm_ring(seat->mutex, *granted);
-  *granted = lfm_named(answer);
-  return LFM_DONE;
-}
+/* The same, but waits for at most this many nanoseconds, or until this time on this clock: LFM_DONE after a wake, or
+ * LFM_TIMED_OUT. Refused besides: LFM_LIMIT, as lfm_try_lock_until. */
+LFM_NODISCARD lfm_status lfm_wait_for(lfm_condvar *condvar, lfm_seat *seat, uint64_t nanoseconds);
+LFM_NODISCARD lfm_status lfm_wait_until(lfm_condvar *condvar, lfm_seat *seat, int clock, const struct timespec *time);
 
-/* Wakes the oldest of those that wait, or all. */
-static inline lfm_status lfm_wake(lfm_condvar *condvar, lfm_seat *seat, bool all) {
-  lfm_status status = lfm_condvar_refuses(condvar, seat);
-  if (status != LFM_DONE) return status;
-  if (__atomic_load_n(&condvar->count, __ATOMIC_RELAXED) == 0) return LFM_NOBODY;
-  lfm_seat *by = &condvar->seats[lfm_c_number(seat->handle)];
-  status = lfm_lock(by);
-  if (lfm_is_refused(status)) return status;
-  uint64_t granted = 0;
-  status = lfm_send_oldest(condvar, seat, &granted);
-  while (all && status == LFM_DONE && condvar->count != 0) status = lfm_send_oldest(condvar, seat, &granted);
-  lfm_unlock(by);
-  if (granted != 0) lfm_ring(seat->mutex, granted);
-  return status;
-}
+/* The same with the calling thread's seat. A thread that has none doesn't hold: LFM_NOT_OWNER. */
+LFM_NODISCARD lfm_status lfm_wait_here(lfm_condvar *condvar, lfm_mutex *mutex) LFM_NEEDS(*mutex);
+LFM_NODISCARD lfm_status lfm_wait_for_here(lfm_condvar *condvar, lfm_mutex *mutex, uint64_t nanoseconds) LFM_NEEDS(*mutex);
+LFM_NODISCARD lfm_status lfm_wait_until_here(lfm_condvar *condvar, lfm_mutex *mutex, int clock, const struct timespec *time)
+    LFM_NEEDS(*mutex);
 
-/* Wakes the seat that has waited longest, if any: LFM_DONE or LFM_NOBODY. The caller's seat may hold the mutex or not. A
- * thread that gains the mutex after a wait has given it up finds that wait. If nobody waits, a wake is one load: it costs no
- * take, never sleeps, and answers LFM_NOBODY even if the seat sleeps. Otherwise it costs one take of the condition variable,
- * and may sleep until the list is free.
- * Refused: LFM_BLANK, LFM_FOREIGN, LFM_SEAT_ASLEEP, LFM_SPENT (of the condition variable's own 2^36). */
-static inline lfm_status lfm_wake_one(lfm_condvar *condvar, lfm_seat *seat) { return lfm_wake(condvar, seat, false); }
+/* Wakes the thread that has waited longest, or all that wait: LFM_DONE or LFM_NOBODY. The caller may hold the mutex or not, and
+ * needs no seat. A thread that gains the mutex after a wait has given it up finds that wait. If nobody waits, a wake is one
+ * load. Otherwise it may sleep until another call has left the list. Wakes go in the order of the waits, and none wakes two.
+ * Refused: LFM_BLANK (null). */
+LFM_API lfm_status lfm_wake_one(lfm_condvar *condvar);
+LFM_API lfm_status lfm_wake_all(lfm_condvar *condvar);
+/* The same by a thread with a seat in hand. If that seat holds, threads of its mutex are woken when it gives the mutex up, as
+ * they are if the holder's seat finds itself. So they don't find it held. */
+LFM_API lfm_status lfm_wake_one_by(lfm_condvar *condvar, lfm_seat *seat);
+LFM_API lfm_status lfm_wake_all_by(lfm_condvar *condvar, lfm_seat *seat);
 
-/* Wakes all that wait now: LFM_DONE or LFM_NOBODY. Refused as lfm_wake_one. */
-static inline lfm_status lfm_wake_all(lfm_condvar *condvar, lfm_seat *seat) { return lfm_wake(condvar, seat, true); }
+/* Ends a condition variable. All threads that waited have been woken, or their time is over, but they may still return: it
+ * sleeps until waits with a time limit have left it. If none had one, the memory may also be given back without a close. In
+ * both cases a program promises that no call of it is under way but those waits and the wakes that woke them: another wake
+ * might still look at it. Refused: LFM_BLANK (null), LFM_WAITED_FOR. */
+LFM_API lfm_status lfm_condvar_close(lfm_condvar *condvar);
 
 #ifdef __cplusplus
 }

@@ -1,0 +1,1249 @@
+/* Ligdrosa for C: all of include/ligdrosa.h that isn't proved. The calls named lfm_c_ are those of crates/lfm_c, and are
+ * proved. */
+#ifndef _GNU_SOURCE
+#define _GNU_SOURCE
+#endif
+#define LFM_NO_THREAD_SAFETY /* clang can't see how these calls gain a mutex */
+#include "ligdrosa.h"
+#undef lfm_seat_take
+
+#include <errno.h>
+#include <link.h>
+#include <pthread.h>
+#include <stdio.h>
+#include <stdlib.h>
+#include <string.h>
+#include <sys/auxv.h>
+#include <sys/syscall.h>
+#include <unistd.h>
+
+_Static_assert(sizeof(lfm_mutex) == 16 && sizeof(lfm_seat) == 256 && sizeof(lfm_condvar) == 32,
+               "the header tells these sizes, and rust/src/library.rs has them too");
+
+/* The calls of the library. A handle is memory of the size and alignment that the library tells, and a call makes it blank
+ * before any other is given it. A call answers a status in the low 8 bits. Above it an ask or unlock tells the number of the
+ * seat that it granted the mutex and that is to be woken, or 0, and a close that is refused tells the first seat that hinders
+ * it. A seat's number, depth, takes left and count are plain numbers, and 0 of a blank handle. */
+/* scripts/write_c_sides writes the exports from here */
+size_t lfm_c_mutex_size(void);
+size_t lfm_c_mutex_align(void);
+size_t lfm_c_seat_size(void);
+size_t lfm_c_seat_align(void);
+void lfm_c_blank_mutex(void *mutex);
+void lfm_c_blank_seat(void *seat);
+uint64_t lfm_c_open(void *mutex, uint64_t seats, uint64_t budget);
+uint64_t lfm_c_take_seat(void *mutex, void *seat);
+uint64_t lfm_c_give_seat(void *mutex, void *seat);
+uint64_t lfm_c_close(void *mutex);
+uint64_t lfm_c_number(void *seat);
+uint64_t lfm_c_depth(void *seat);
+uint64_t lfm_c_left(void *seat);
+uint64_t lfm_c_count(void *seat);
+uint64_t lfm_c_ask(void *seat);
+uint64_t lfm_c_receive(void *seat);
+uint64_t lfm_c_try_lock(void *seat);
+uint64_t lfm_c_unlock(void *seat);
+/* to here */
+
+#define UNLIKELY(condition) __builtin_expect(!!(condition), 0)
+/* A path that is seldom taken, out of line. */
+#define SELDOM __attribute__((noinline, cold)) static
+/* What a lock or unlock without company does, in line. */
+#define MOSTLY static inline __attribute__((always_inline))
+
+/* Sleeping and waking
+ *
+ * A bell is a word that one thread waits for and another rings once. It is SILENT, LISTENED for by a thread that sleeps, or
+ * RUNG.
+ *
+ * No ring is missed. A ring is one exchange, and a thread sleeps only after it has changed SILENT into LISTENED. If the ring
+ * comes before that change, the change fails. If it comes after it, the ring finds LISTENED and wakes the thread. If the
+ * thread is not asleep by then, the system compares the word and doesn't put it to sleep.
+ *
+ * A bell may be gone as soon as it is RUNG: its thread goes on and may give its memory back. The ring's exchange is the last
+ * that touches it. The wake after it uses the address alone. If other memory lies there, a thread that sleeps there by futex
+ * may be woken too early. As the system may do so as well, its program has to expect it. */
+
+enum { SILENT, LISTENED, RUNG };
+enum { FUTEX_PRIVATE_WAIT = 128, FUTEX_PRIVATE_WAKE = 129, FUTEX_PRIVATE_WAIT_UNTIL = 137, FUTEX_BY_REALTIME = 256 };
+enum { NANOSECONDS = 1000000000 };
+
+/* For how many nanoseconds a queued seat spins, looking whether it is granted the mutex, before its thread sleeps: about as
+ * long as two wake-ups by the system. If it is shorter, one thread that sleeps soon makes all that queue behind it sleep too.
+ * With one processor a seat never spins, nor if more seats are queued than the program has processors. */
+#ifndef LFM_LOOK_NANOSECONDS
+#define LFM_LOOK_NANOSECONDS 20000
+#endif
+enum { PAUSES_PER_LOOK = 4, LOOKS_PER_TIME = 16 /* between two readings of the clock */ };
+
+/* When a call gives up. */
+struct limit {
+  int clock;
+  struct timespec time;
+};
+
+/* A call of futex that leaves errno as it was: whether its time was over. It is no cancellation point. */
+static bool futex(uint32_t *word, int operation, uint32_t value, const struct timespec *time) {
+  int before = errno;
+  bool is_over = syscall(SYS_futex, word, operation, value, time, NULL, ~0u) == -1 && errno == ETIMEDOUT;
+  errno = before;
+  return is_over;
+}
+
+/* Sleeps while the word has this value, at most until the time is over if there is one. Whether it is over. */
+static bool sleep_while(uint32_t *word, uint32_t value, const struct limit *limit) {
+  if (!limit) return futex(word, FUTEX_PRIVATE_WAIT, value, NULL);
+  int clock = limit->clock == LFM_REALTIME ? FUTEX_BY_REALTIME : 0;
+  return futex(word, FUTEX_PRIVATE_WAIT_UNTIL | clock, value, &limit->time);
+}
+
+static void wake_sleeper(uint32_t *word) { futex(word, FUTEX_PRIVATE_WAKE, 1, NULL); }
+
+/* Sleeps for this many nanoseconds, less than a second, or less if a signal comes. */
+static void nap_for(uint64_t nanoseconds) {
+  uint32_t nothing = 0;
+  struct timespec time = {0, (long)nanoseconds};
+  futex(&nothing, FUTEX_PRIVATE_WAIT, 0, &time);
+}
+
+/* Tells the processor this many times that its thread waits in a loop. */
+static void pause_for(int pauses) {
+  for (int i = 0; i < pauses; i++) {
+#if defined(__x86_64__)
+    __builtin_ia32_pause();
+#elif defined(__aarch64__)
+    __asm__ volatile("yield");
+#else
+    __asm__ volatile("" ::: "memory");
+#endif
+  }
+}
+
+static struct timespec time_of(int clock) {
+  struct timespec now;
+  clock_gettime(clock, &now);
+  return now;
+}
+
+/* The time on a clock that is never set. */
+static uint64_t nanoseconds(void) {
+  struct timespec now = time_of(CLOCK_MONOTONIC);
+  return (uint64_t)now.tv_sec * NANOSECONDS + (uint64_t)now.tv_nsec;
+}
+
+/* How many nanoseconds are left until the time is over, or a second if it is more. */
+static uint64_t left_of(const struct limit *limit) {
+  struct timespec now = time_of(limit->clock);
+  if (limit->time.tv_sec > now.tv_sec + 1) return NANOSECONDS;
+  if (limit->time.tv_sec < now.tv_sec) return 0;
+  int64_t left = (limit->time.tv_sec - now.tv_sec) * NANOSECONDS + limit->time.tv_nsec - now.tv_nsec;
+  return left < 0 ? 0 : left < NANOSECONDS ? (uint64_t)left : NANOSECONDS;
+}
+
+/* The limit that lies this far ahead. 2^64 nanoseconds are less than 600 years, so the sum is no greater than a time_t. */
+static struct limit limit_after(uint64_t ahead) {
+  struct limit limit = {CLOCK_MONOTONIC, time_of(CLOCK_MONOTONIC)};
+  limit.time.tv_sec += (time_t)(ahead / NANOSECONDS);
+  limit.time.tv_nsec += (long)(ahead % NANOSECONDS);
+  if (limit.time.tv_nsec >= NANOSECONDS) {
+    limit.time.tv_sec++;
+    limit.time.tv_nsec -= NANOSECONDS;
+  }
+  return limit;
+}
+
+/* The limit that a caller gives, or LFM_LIMIT or LFM_BLANK. The system refuses times before 0, which are over. */
+static lfm_status limit_at(int clock, const struct timespec *time, struct limit *limit) {
+  if (!time) return LFM_BLANK;
+  bool is_clock = clock == LFM_REALTIME || clock == LFM_MONOTONIC;
+  if (!is_clock || time->tv_nsec < 0 || time->tv_nsec >= NANOSECONDS) return LFM_LIMIT;
+  limit->clock = clock;
+  limit->time = *time;
+  if (time->tv_sec < 0) limit->time.tv_sec = 0;
+  return LFM_DONE;
+}
+
+static uint32_t bell_of(uint32_t *bell) { return __atomic_load_n(bell, __ATOMIC_ACQUIRE); }
+
+static void ring(uint32_t *bell) {
+  if (__atomic_exchange_n(bell, RUNG, __ATOMIC_ACQ_REL) == LISTENED) wake_sleeper(bell);
+}
+
+/* Looks at the bell for this many nanoseconds, and returns whether it has rung. */
+static bool hears(uint32_t *bell, uint64_t look) {
+  if (look == 0) return false;
+  uint64_t begun = nanoseconds();
+  do {
+    for (int i = 0; i < LOOKS_PER_TIME; i++) {
+      pause_for(PAUSES_PER_LOOK);
+      if (bell_of(bell) == RUNG) return true;
+    }
+  } while (nanoseconds() - begun < look);
+  return false;
+}
+
+/* Waits until the bell rings, at most until the time is over if there is one, and returns whether it has rung. It looks first,
+ * for this many nanoseconds. */
+static bool await(uint32_t *bell, uint64_t look, const struct limit *limit) {
+  if (hears(bell, look)) return true;
+  uint32_t found = SILENT;
+  __atomic_compare_exchange_n(bell, &found, LISTENED, false, __ATOMIC_ACQ_REL, __ATOMIC_ACQUIRE);
+  while (bell_of(bell) == LISTENED)
+    if (sleep_while(bell, LISTENED, limit)) return false;
+  return true;
+}
+
+/* A guard is a small lock for a few steps: 0, 1 while it is held, and 2 if a thread may sleep until it is given back. So those
+ * steps get done even if a thread of a higher priority waits for them. The exchange that gives it back is the last that touches
+ * it, as with a bell. */
+SELDOM void enter_slowly(uint32_t *guard) {
+  for (int looks = 0; looks < 64; looks++) {
+    uint32_t found = 0;
+    pause_for(PAUSES_PER_LOOK);
+    if (__atomic_load_n(guard, __ATOMIC_RELAXED) != 0) continue;
+    if (__atomic_compare_exchange_n(guard, &found, 1, false, __ATOMIC_ACQUIRE, __ATOMIC_RELAXED)) return;
+  }
+  while (__atomic_exchange_n(guard, 2, __ATOMIC_ACQUIRE)) sleep_while(guard, 2, NULL);
+}
+
+static void enter(uint32_t *guard) {
+  uint32_t found = 0;
+  if (!__atomic_compare_exchange_n(guard, &found, 1, false, __ATOMIC_ACQUIRE, __ATOMIC_RELAXED)) enter_slowly(guard);
+}
+
+static void leave(uint32_t *guard) {
+  if (__atomic_exchange_n(guard, 0, __ATOMIC_RELEASE) == 2) wake_sleeper(guard);
+}
+
+/* How many processors the calling thread may use; 8 if the system doesn't tell. It is asked once. */
+static uint32_t processors(void) {
+  static uint32_t known;
+  uint32_t count = __atomic_load_n(&known, __ATOMIC_RELAXED);
+  if (count) return count;
+  unsigned long mask[128];
+  long bytes = syscall(SYS_sched_getaffinity, 0, sizeof mask, mask);
+  for (long i = 0; i < bytes / (long)sizeof mask[0]; i++) count += (uint32_t)__builtin_popcountl(mask[i]);
+  if (count == 0) count = 8;
+  __atomic_store_n(&known, count, __ATOMIC_RELAXED);
+  return count;
+}
+
+/* Tools
+ *
+ * Tools that see threads are told what a lock and an unlock order: ThreadSanitizer, and Helgrind and DRD of valgrind if its
+ * headers were found. An unlock orders something only if it gives the mutex up. From valgrind's tools the library hides its own
+ * memory, since they don't know atomic operations. */
+
+#if defined(__has_include)
+#if __has_include(<valgrind/helgrind.h>) && __has_include(<valgrind/drd.h>)
+#include <valgrind/helgrind.h>
+static void tell_helgrind_before(void *of) { ANNOTATE_HAPPENS_BEFORE(of); }
+static void tell_helgrind_after(void *of) { ANNOTATE_HAPPENS_AFTER(of); }
+#include <valgrind/drd.h>
+#define IS_IN_VALGRIND RUNNING_ON_VALGRIND
+SELDOM void hide_in_valgrind(void *at, size_t bytes) {
+  VALGRIND_HG_DISABLE_CHECKING(at, bytes);
+  ANNOTATE_BENIGN_RACE_SIZED(at, bytes, "of ligdrosa");
+}
+#endif
+#endif
+#ifndef IS_IN_VALGRIND
+#define IS_IN_VALGRIND 0
+#define ANNOTATE_HAPPENS_AFTER(of) ((void)(of))
+#define ANNOTATE_HAPPENS_BEFORE(of) ((void)(of))
+static void tell_helgrind_before(void *of) { (void)of; }
+static void tell_helgrind_after(void *of) { (void)of; }
+static void hide_in_valgrind(void *at, size_t bytes) { (void)at, (void)bytes; }
+#endif
+void __tsan_acquire(void *of) __attribute__((weak));
+void __tsan_release(void *of) __attribute__((weak));
+
+static void hide(void *at, size_t bytes) {
+  if (IS_IN_VALGRIND) hide_in_valgrind(at, bytes);
+}
+
+/* What the kit's functions call for memory in place of malloc. */
+void *lfm_allocate(size_t bytes);
+void *lfm_allocate(size_t bytes) {
+  void *block = malloc(bytes);
+  hide(block, bytes);
+  return block;
+}
+
+/* Mutexes and seats
+ *
+ * An lfm_mutex refers to its core, and so does each seat that is taken. The core is freed with the last reference.
+ *
+ * Nothing is touched after its end. Whoever gains a mutex last may close it, and give back the memory of the lfm_mutex, while
+ * the unlock of the thread before it has not returned. That unlock touches the core alone, to find whose bell it rings, and its
+ * own seat keeps the core. The bell lies in a seat of another thread, which waits for the ring: no seat goes on by a grant
+ * before it is rung for. A give touches the core until it drops its own reference. So a close, which drops that of the
+ * lfm_mutex, may come before its end. */
+
+enum { MUTEX_BYTES = 64, ALIGNMENT = 16, LINE = 64 };
+
+/* A seat without takes that was exchanged for another. It is kept until the mutex ends. */
+struct spent_seat {
+  struct spent_seat *next;
+  unsigned char handle[LFM_SEAT_BYTES] __attribute__((aligned(ALIGNMENT)));
+};
+
+struct lfm_core {
+  unsigned char handle[MUTEX_BYTES];
+  uint64_t budget;
+  uint64_t left;     /* how many takes the seats had left, each when it was last taken or given back */
+  struct spent_seat *spent;
+  uint32_t seats;
+  uint32_t most;     /* the greatest number of a seat that was ever taken */
+  uint32_t references;
+  uint32_t in_hand;  /* how many seats of lfm_seat_take are not given back */
+  uint32_t guard;    /* of the handle, `left`, `in_hand` and `spent` */
+  uint32_t queued;   /* how many seats are queued by locks */
+  uint32_t near;     /* a seat spins only if at most this number are queued: the number of processors, or 0 if there is one */
+  uint32_t is_ended; /* the lfm_mutex is closed */
+  pid_t process;     /* in which it was opened */
+  uint32_t *bells[] __attribute__((aligned(LINE))); /* of the seats that are taken, by their numbers */
+} __attribute__((aligned(LINE)));
+
+static uint32_t count_up(uint32_t *count) { return __atomic_add_fetch(count, 1, __ATOMIC_RELAXED); }
+static uint32_t count_down(uint32_t *count) { return __atomic_sub_fetch(count, 1, __ATOMIC_ACQ_REL); }
+
+static lfm_status status_of(uint64_t answer) { return (lfm_status)(answer & 255); }
+
+/* Memory on cache lines of its own, all 0, or null. */
+static void *new_lines(size_t bytes) {
+  bytes = (bytes + LINE - 1) & ~(size_t)(LINE - 1);
+  void *lines = aligned_alloc(LINE, bytes);
+  if (lines) memset(lines, 0, bytes);
+  hide(lines, bytes);
+  return lines;
+}
+
+static bool is_known_library(void) {
+  return lfm_c_mutex_size() <= MUTEX_BYTES && lfm_c_seat_size() <= LFM_SEAT_BYTES && lfm_c_mutex_align() <= ALIGNMENT &&
+         lfm_c_seat_align() <= ALIGNMENT;
+}
+
+/* A new core, with one reference, or null and the cause. */
+static struct lfm_core *new_core(uint64_t seats, uint64_t budget, lfm_status *cause) {
+  bool is_known = is_known_library();
+  *cause = is_known ? LFM_LIMIT : LFM_OTHER_HEADER;
+  if (!is_known || seats == 0 || seats > LFM_MOST_SEATS) return NULL;
+  struct lfm_core *core = (struct lfm_core *)new_lines(sizeof *core + (seats + 1) * sizeof core->bells[0]);
+  *cause = LFM_NO_MEMORY;
+  if (!core) return NULL;
+  lfm_c_blank_mutex(core->handle);
+  *cause = status_of(lfm_c_open(core->handle, seats, budget));
+  if (*cause != LFM_DONE) {
+    free(core);
+    return NULL;
+  }
+  core->seats = (uint32_t)seats;
+  core->budget = budget;
+  core->left = seats * budget;
+  core->references = 1;
+  core->near = processors() == 1 ? 0 : processors();
+  core->process = getpid();
+  return core;
+}
+
+/* Puts the seats back as they lay in the new mutex, with seat 1 on top: such a mutex the library closes in one walk, and
+ * another in time that grows with the square of the seats. Only those that were ever taken may lie elsewhere, and all on
+ * top. */
+static void sort_seats(struct lfm_core *core) {
+  struct spent_seat *seats = (struct spent_seat *)calloc((size_t)core->most + 1, sizeof *seats);
+  if (!seats) return;
+  for (uint32_t i = 1; i <= core->most; i++) {
+    lfm_c_blank_seat(seats[i].handle);
+    lfm_c_take_seat(core->handle, seats[i].handle);
+    seats[lfm_c_number(seats[i].handle)].next = &seats[i];
+  }
+  for (uint32_t number = core->most; number > 0; number--) lfm_c_give_seat(core->handle, seats[number].next->handle);
+  free(seats);
+}
+
+/* Gives up a reference. With the last, all seats are back but those that were exchanged. ThreadSanitizer is told that the last
+ * comes after all others: it sees the memory being freed. */
+static void drop(struct lfm_core *core) {
+  if (__tsan_release) __tsan_release(&core->references);
+  if (count_down(&core->references) != 0) return;
+  if (__tsan_acquire) __tsan_acquire(&core->references);
+  for (struct spent_seat *seat = core->spent, *next; seat; seat = next) {
+    next = seat->next;
+    lfm_c_give_seat(core->handle, seat->handle);
+    free(seat);
+  }
+  if (core->most > 1) sort_seats(core);
+  lfm_c_close(core->handle);
+  free(core);
+}
+
+/* Whether the core is of this process, and not of one that forked it: by the pid alone. In a new namespace of pids a child may
+ * have the same, and so may one whose parent has ended. The header excludes both. A count of forks by a handler of
+ * pthread_atfork would not be better: a child by clone or _Fork calls no handlers, and one that was registered earlier may call
+ * lfm_after_fork before the count. */
+static bool is_of_process(const struct lfm_core *core) { return core->process == getpid(); }
+
+/* The core of a mutex, which is opened if it was only initialized; or null and the cause. Of threads that open it at the same
+ * time one is first, and the others drop what they have made. */
+static struct lfm_core *core_of(lfm_mutex *mutex, lfm_status *cause) {
+  *cause = LFM_BLANK;
+  if (!mutex) return NULL;
+  hide(mutex, sizeof *mutex);
+  struct lfm_core *found = __atomic_load_n(&mutex->core, __ATOMIC_ACQUIRE);
+  if (found || mutex->version == 0) return found;
+  *cause = LFM_OTHER_HEADER;
+  if (mutex->version / 100 != LFM_VERSION / 100) return NULL;
+  struct lfm_core *core = new_core(mutex->seats, LFM_MOST_TAKES, cause);
+  if (!core) return NULL;
+  if (__atomic_compare_exchange_n(&mutex->core, &found, core, false, __ATOMIC_ACQ_REL, __ATOMIC_ACQUIRE)) return core;
+  drop(core);
+  return found;
+}
+
+lfm_status lfm_mutex_open(lfm_mutex *mutex, uint64_t seats, uint64_t budget, int version) {
+  if (!mutex) return LFM_BLANK;
+  if (mutex->core) return LFM_TAKEN;
+  if (version / 100 != LFM_VERSION / 100) return LFM_OTHER_HEADER;
+  lfm_status cause;
+  struct lfm_core *core = new_core(seats, budget, &cause);
+  if (!core) return cause;
+  mutex->seats = (uint32_t)seats;
+  mutex->version = LFM_VERSION;
+  __atomic_store_n(&mutex->core, core, __ATOMIC_RELEASE);
+  return LFM_DONE;
+}
+
+/* What is done at each call of a seat besides: IS_CHECKED tests that it is in no other call, IS_WATCHED tells tools, and
+ * IS_LATE gives the seat back after the call, since its thread ends. */
+enum { IS_CHECKED = 1, IS_WATCHED = 2, IS_LATE = 4 };
+
+static uint32_t watched(void) { return __tsan_acquire || IS_IN_VALGRIND ? IS_WATCHED : 0; }
+
+SELDOM void tell_gained(struct lfm_core *core) {
+  if (__tsan_acquire) __tsan_acquire(core);
+  tell_helgrind_after(core);
+  ANNOTATE_HAPPENS_AFTER(core);
+}
+
+SELDOM void tell_giving_up(lfm_seat *seat) {
+  if (lfm_c_depth(seat->handle) != 1) return;
+  if (__tsan_release) __tsan_release(seat->core);
+  tell_helgrind_before(seat->core);
+  ANNOTATE_HAPPENS_BEFORE(seat->core);
+}
+
+SELDOM void begin_checked_call(lfm_seat *seat) {
+  if (!(seat->flags & IS_CHECKED) || !__atomic_exchange_n(&seat->is_in_call, 1, __ATOMIC_SEQ_CST)) return;
+  fputs("ligdrosa: two threads are in calls of one seat at the same time\n", stderr);
+  abort();
+}
+
+/* Begins a call of a seat, which is taken. */
+MOSTLY void begin_call(lfm_seat *seat) {
+  if (UNLIKELY(seat->flags)) begin_checked_call(seat);
+}
+
+/* Ends it, and returns its status. */
+MOSTLY lfm_status end_call(lfm_seat *seat, lfm_status status) {
+  if (UNLIKELY(seat->flags)) __atomic_store_n(&seat->is_in_call, 0, __ATOMIC_SEQ_CST);
+  return status;
+}
+
+MOSTLY bool is_taken(const lfm_seat *seat) { return seat && seat->core; }
+
+/* Takes a seat for this handle. The guard is held. */
+static lfm_status take_handle(struct lfm_core *core, void *handle) {
+  lfm_status status = status_of(lfm_c_take_seat(core->handle, handle));
+  if (lfm_c_number(handle) > core->most) core->most = (uint32_t)lfm_c_number(handle);
+  return status;
+}
+
+/* Takes a seat of the core, which has another reference then. The seat waits for grants at a bell of its own. `in_hand` is 1
+ * for a seat of lfm_seat_take, and 0 for one that finds itself. */
+static lfm_status take(struct lfm_core *core, lfm_seat *seat, uint32_t flags, uint32_t in_hand) {
+  hide(seat, offsetof(lfm_seat, unused));
+  lfm_c_blank_seat(seat->handle);
+  enter(&core->guard);
+  lfm_status status = take_handle(core, seat->handle);
+  if (status == LFM_DONE) core->in_hand += in_hand;
+  leave(&core->guard);
+  if (status != LFM_DONE) return status;
+  seat->core = core;
+  seat->unrung = NULL;
+  seat->flags = flags | watched();
+  seat->is_in_call = 0;
+  seat->left = lfm_c_left(seat->handle);
+  seat->bell = SILENT;
+  seat->looks = seat->waits = 0;
+  core->bells[lfm_c_number(seat->handle)] = &seat->bell;
+  count_up(&core->references);
+  return LFM_DONE;
+}
+
+/* Gives the seat back. A forked child only forgets it: it might wait for a thread of the parent that the child doesn't have. */
+static lfm_status give(lfm_seat *seat, uint32_t in_hand) {
+  struct lfm_core *core = seat->core;
+  if (!is_of_process(core)) {
+    seat->core = NULL;
+    return LFM_DONE;
+  }
+  uint64_t made = seat->left - lfm_c_left(seat->handle);
+  enter(&core->guard);
+  lfm_status status = status_of(lfm_c_give_seat(core->handle, seat->handle));
+  if (status == LFM_DONE) {
+    core->left -= made;
+    core->in_hand -= in_hand;
+    seat->core = NULL;
+    seat->is_in_call = 0;
+  }
+  leave(&core->guard);
+  if (status == LFM_DONE) drop(core);
+  return status;
+}
+
+static lfm_status take_in_hand(lfm_mutex *mutex, lfm_seat *seat, uint32_t flags) {
+  lfm_status cause;
+  if (!seat) return LFM_BLANK;
+  struct lfm_core *core = core_of(mutex, &cause);
+  if (!core) return cause;
+  return seat->core ? LFM_TAKEN : take(core, seat, flags, 1);
+}
+
+lfm_status lfm_seat_take(lfm_mutex *mutex, lfm_seat *seat) { return take_in_hand(mutex, seat, 0); }
+lfm_status lfm_seat_take_checked(lfm_mutex *mutex, lfm_seat *seat) { return take_in_hand(mutex, seat, IS_CHECKED); }
+
+uint64_t lfm_number(lfm_seat *seat) { return is_taken(seat) ? lfm_c_number(seat->handle) : 0; }
+uint64_t lfm_depth(lfm_seat *seat) { return is_taken(seat) ? lfm_c_depth(seat->handle) : 0; }
+uint64_t lfm_left(lfm_seat *seat) { return is_taken(seat) ? lfm_c_left(seat->handle) : 0; }
+
+uint64_t lfm_takes_left(lfm_mutex *mutex) {
+  struct lfm_core *core = mutex ? __atomic_load_n(&mutex->core, __ATOMIC_ACQUIRE) : NULL;
+  if (!core) return mutex && mutex->version ? mutex->seats * LFM_MOST_TAKES : 0;
+  enter(&core->guard);
+  uint64_t left = core->left;
+  leave(&core->guard);
+  return left;
+}
+
+/* A seat without takes is exchanged for another. The library keeps seats that were given back in a pile, and a taken seat has
+ * its place in memory. So the spent one is given back, the other on top of it, and both are taken: the other into the first's
+ * place. */
+
+/* A seat that has takes, if one is free: the node that keeps it. Seats without takes that are found on the way are put
+ * aside. */
+SELDOM struct spent_seat *reserve(struct lfm_core *core) {
+  for (;;) {
+    int before = errno;
+    struct spent_seat *found = (struct spent_seat *)malloc(sizeof *found);
+    errno = before;
+    if (!found) return NULL;
+    lfm_c_blank_seat(found->handle);
+    enter(&core->guard);
+    bool is_there = take_handle(core, found->handle) == LFM_DONE;
+    bool is_spent = is_there && lfm_c_left(found->handle) == 0;
+    if (is_spent) {
+      found->next = core->spent;
+      core->spent = found;
+    }
+    leave(&core->guard);
+    if (is_spent) continue;
+    if (is_there) return found;
+    free(found);
+    return NULL;
+  }
+}
+
+/* Exchanges the seat, which neither holds nor sleeps, for the reserved one. */
+SELDOM void exchange(lfm_seat *seat, struct spent_seat *reserved) {
+  struct lfm_core *core = seat->core;
+  enter(&core->guard);
+  core->left -= seat->left - lfm_c_left(seat->handle);
+  lfm_c_give_seat(core->handle, seat->handle);
+  lfm_c_give_seat(core->handle, reserved->handle);
+  lfm_c_take_seat(core->handle, seat->handle);
+  lfm_c_take_seat(core->handle, reserved->handle);
+  reserved->next = core->spent;
+  core->spent = reserved;
+  leave(&core->guard);
+  core->bells[lfm_c_number(seat->handle)] = &seat->bell;
+  seat->left = lfm_c_left(seat->handle);
+}
+
+/* Whether a seat that was refused as spent was exchanged for one that isn't. */
+SELDOM bool is_renewed(lfm_seat *seat) {
+  struct spent_seat *reserved = reserve(seat->core);
+  if (reserved) exchange(seat, reserved);
+  return reserved;
+}
+
+/* Locks
+ *
+ * One call of the library grants the mutex to at most one seat, and its answer names that seat, which is proved. The thread
+ * that made the call rings that seat's bell before it sleeps itself. So each grant is rung for, once.
+ *
+ * The place of a seat's bell in `bells`, and the SILENT in the bell, are plain words, which the seat's thread writes before its
+ * ask. Another thread reads them only to ring, after it found that ask in the library's words. Those are atomic, and so they
+ * order the two. ThreadSanitizer doesn't see them: if it watches this file, it reports a race at `told` and one at `ring`, and
+ * neither is one. */
+
+/* Rings for the seat that an answer names, and returns the status. */
+MOSTLY lfm_status told(struct lfm_core *core, uint64_t answer) {
+  if (UNLIKELY(answer > 255)) ring(core->bells[answer >> 8]);
+  return status_of(answer);
+}
+
+/* Sleeps until the seat, which is queued, is granted the mutex. It spins first, unless more than `near` seats are queued. Then
+ * it would only keep a processor from them. */
+SELDOM lfm_status receive(lfm_seat *seat) {
+  struct lfm_core *core = seat->core;
+  bool is_near = count_up(&core->queued) <= core->near;
+  await(&seat->bell, is_near ? LFM_LOOK_NANOSECONDS : 0, NULL);
+  seat->bell = SILENT;
+  count_down(&core->queued);
+  return status_of(lfm_c_receive(seat->handle));
+}
+
+/* Locks in order. */
+static lfm_status queue(lfm_seat *seat) {
+  lfm_status status = told(seat->core, lfm_c_ask(seat->handle));
+  if (UNLIKELY(status == LFM_SPENT) && is_renewed(seat)) status = told(seat->core, lfm_c_ask(seat->handle));
+  return status == LFM_ASLEEP ? receive(seat) : status;
+}
+
+static lfm_status try_once(lfm_seat *seat) {
+  lfm_status status = status_of(lfm_c_try_lock(seat->handle));
+  return status == LFM_SPENT && is_renewed(seat) ? status_of(lfm_c_try_lock(seat->handle)) : status;
+}
+
+/* A try if a look finds that nobody holds or wants the mutex, or LFM_BUSY. A look costs the holder less than a try. */
+static lfm_status try_if_free(lfm_seat *seat, uint64_t count) {
+  return count == 0 ? status_of(lfm_c_try_lock(seat->handle)) : LFM_BUSY;
+}
+
+enum { SPINS = 11, MOST_DOUBLINGS = 8, HOLDER_AND_ONE_MORE = 2, NAPS = 4, NAP = 20000, LONGEST_NAP = 1000000, FEW = 8 };
+
+/* Spins for some 8 microseconds. The pauses double from one look to the next, so that the holder keeps the cache line of the
+ * count for most of the time. If more than the holder and one other seat are counted, others queue already. */
+static lfm_status spin(lfm_seat *seat) {
+  lfm_status status = LFM_BUSY;
+  for (int i = 0; seat->core->near && status == LFM_BUSY && i < SPINS; i++) {
+    pause_for(1 << (i < MOST_DOUBLINGS ? i : MOST_DOUBLINGS));
+    uint64_t count = lfm_c_count(seat->handle);
+    status = try_if_free(seat, count);
+    if (count > HOLDER_AND_ONE_MORE) break;
+  }
+  return status;
+}
+
+/* Naps a few times, and looks before and after each nap. Threads that sleep leave the processors to the holder, and a queue can
+ * drain meanwhile. If many seats hold or wait, it is better to queue at once. */
+static lfm_status nap(lfm_seat *seat) {
+  uint64_t crowd = seat->core->near > FEW / 2 ? 2 * seat->core->near : FEW;
+  lfm_status status = LFM_BUSY;
+  for (int i = 0; status == LFM_BUSY && i < NAPS; i++) {
+    uint64_t count = lfm_c_count(seat->handle);
+    if (count > crowd) break;
+    if (count) nap_for(NAP);
+    status = try_if_free(seat, count ? lfm_c_count(seat->handle) : 0);
+  }
+  return status;
+}
+
+/* Locks after a try with this status. If the mutex was busy, it spins, naps, and queues at last. */
+SELDOM lfm_status lock_slowly(lfm_seat *seat, lfm_status status) {
+  if (status == LFM_SPENT) status = try_once(seat);
+  if (status == LFM_BUSY) status = spin(seat);
+  if (status == LFM_BUSY) status = nap(seat);
+  return status == LFM_BUSY ? queue(seat) : status;
+}
+
+MOSTLY lfm_status gained(lfm_seat *seat, lfm_status status) {
+  if (UNLIKELY(seat->flags & IS_WATCHED) && !lfm_is_refused(status)) tell_gained(seat->core);
+  return status;
+}
+
+MOSTLY lfm_status lock(lfm_seat *seat) {
+  lfm_status status = status_of(lfm_c_try_lock(seat->handle));
+  if (UNLIKELY(lfm_is_refused(status))) status = lock_slowly(seat, status);
+  return gained(seat, status);
+}
+
+/* Locks until the time is over, and never queues, so it can give up. */
+static lfm_status lock_until(lfm_seat *seat, const struct limit *limit) {
+  lfm_status status = try_once(seat);
+  if (status == LFM_BUSY) status = spin(seat);
+  uint64_t left, longest = NAP;
+  while (status == LFM_BUSY && (left = left_of(limit)) != 0) {
+    nap_for(left < longest ? left : longest);
+    status = try_if_free(seat, lfm_c_count(seat->handle));
+    longest = 2 * longest < LONGEST_NAP ? 2 * longest : LONGEST_NAP;
+  }
+  return gained(seat, status);
+}
+
+static void ring_unrung(lfm_seat *seat);
+
+MOSTLY lfm_status unlock(lfm_seat *seat) {
+  if (UNLIKELY(seat->flags & IS_WATCHED)) tell_giving_up(seat);
+  lfm_status status = told(seat->core, lfm_c_unlock(seat->handle));
+  if (UNLIKELY(seat->unrung) && status != LFM_STILL) ring_unrung(seat);
+  return status;
+}
+
+/* Makes a call with a seat in hand. */
+#define CALL(seat, call) (is_taken(seat) ? (begin_call(seat), end_call(seat, call)) : LFM_BLANK)
+
+lfm_status lfm_lock(lfm_seat *seat) { return CALL(seat, lock(seat)); }
+lfm_status lfm_lock_in_order(lfm_seat *seat) { return CALL(seat, gained(seat, queue(seat))); }
+lfm_status lfm_try_lock(lfm_seat *seat) { return CALL(seat, gained(seat, try_once(seat))); }
+lfm_status lfm_unlock(lfm_seat *seat) { return CALL(seat, unlock(seat)); }
+
+/* A seat that was given back is touched no more: its memory may be gone by then, with that of the mutex. */
+lfm_status lfm_seat_give(lfm_seat *seat) {
+  if (!is_taken(seat)) return LFM_BLANK;
+  begin_call(seat);
+  lfm_status status = give(seat, 1);
+  return status == LFM_DONE ? status : end_call(seat, status);
+}
+
+lfm_status lfm_try_lock_for(lfm_seat *seat, uint64_t nanoseconds) {
+  struct limit limit = limit_after(nanoseconds);
+  return CALL(seat, lock_until(seat, &limit));
+}
+
+lfm_status lfm_try_lock_until(lfm_seat *seat, int clock, const struct timespec *time) {
+  struct limit limit;
+  lfm_status status = limit_at(clock, time, &limit);
+  return status == LFM_DONE ? CALL(seat, lock_until(seat, &limit)) : status;
+}
+
+/* Seats that find themselves
+ *
+ * Each thread has a table of its seats, by the addresses of their cores: by open addressing, at most half full. A seat keeps
+ * its core, so no other gets that address meanwhile. */
+
+struct own_seat {
+  struct lfm_core *core; /* null if the place is empty */
+  lfm_seat *seat;
+};
+
+static struct own_seat no_seats[1];
+
+static _Thread_local struct {
+  struct own_seat *places;
+  size_t last;    /* the number of places, which is a power of 2, less 1 */
+  size_t count;   /* how many are not empty */
+  size_t swept;   /* where the next search for ended mutexes begins */
+  bool is_ending; /* the thread's seats were given back, as it ends */
+} own = {no_seats, 0, 0, 0, false};
+
+/* The key whose destructor gives a thread's seats back, which comes after the destructors of a thread's C++ objects. It is made
+ * before a program's constructors run, and is there until after its destructors. If the system had none left then, it is tried
+ * again whenever a thread takes a seat. The word is NO_KEY, IS_DROPPED or one more than the key. */
+enum { NO_KEY = 0 };
+#define IS_DROPPED UINT32_MAX
+static uint32_t end_key;
+_Static_assert(sizeof(pthread_key_t) <= sizeof end_key, "the word has room for a key, which is a small number");
+
+MOSTLY size_t home_of(const struct lfm_core *core) {
+  uint64_t mixed = ((uintptr_t)core / LINE) * UINT64_C(0x9E3779B97F4A7C15);
+  return (size_t)(mixed >> 32) & own.last;
+}
+
+MOSTLY lfm_seat *find(const struct lfm_core *core) {
+  size_t at = home_of(core);
+  while (own.places[at].core != core) {
+    if (!own.places[at].core) return NULL;
+    at = (at + 1) & own.last;
+  }
+  return own.places[at].seat;
+}
+
+/* Puts a seat into the table, which has an empty place. */
+static void put(struct lfm_core *core, lfm_seat *seat) {
+  size_t at = home_of(core);
+  while (own.places[at].core) at = (at + 1) & own.last;
+  own.places[at].core = core;
+  own.places[at].seat = seat;
+  own.count++;
+}
+
+/* Empties a place, and moves those after it that can't be found past an empty one. */
+static void empty(size_t hole) {
+  for (size_t at = (hole + 1) & own.last; own.places[at].core; at = (at + 1) & own.last) {
+    size_t from_home = (at - home_of(own.places[at].core)) & own.last;
+    if (from_home < ((at - hole) & own.last)) continue;
+    own.places[hole] = own.places[at];
+    hole = at;
+  }
+  own.places[hole].core = NULL;
+  own.count--;
+}
+
+/* Gives back the seat at this place, unless it holds, and empties the place. */
+static bool give_back(size_t at) {
+  lfm_seat *seat = own.places[at].seat;
+  if (is_of_process(seat->core)) ring_unrung(seat); /* a forked child doesn't have the threads that wait */
+  if (give(seat, 0) != LFM_DONE) return false;
+  free(seat);
+  empty(at);
+  return true;
+}
+
+/* Gives back each seat of the thread that doesn't hold, as it ends, and the table if it is empty then. */
+SELDOM void give_back_all(void) {
+  for (size_t at = 0; at <= own.last;) {
+    if (own.places[at].core && give_back(at)) continue;
+    if (own.places[at].core) own.places[at].seat->flags |= IS_LATE;
+    at++;
+  }
+  if (own.count || own.places == no_seats) return;
+  free(own.places);
+  own.places = no_seats;
+  own.last = own.swept = 0;
+}
+
+static void end_thread(void *at) {
+  (void)at;
+  own.is_ending = true;
+  give_back_all();
+}
+
+/* Makes the key if there is none. Of threads that make it at the same time one is first, and the others drop theirs. */
+__attribute__((constructor(101))) static void make_end_key(void) {
+  uint32_t found = NO_KEY;
+  pthread_key_t key;
+  if (__atomic_load_n(&end_key, __ATOMIC_ACQUIRE) != NO_KEY || pthread_key_create(&key, end_thread) != 0) return;
+  if (!__atomic_compare_exchange_n(&end_key, &found, key + 1, false, __ATOMIC_ACQ_REL, __ATOMIC_ACQUIRE))
+    pthread_key_delete(key);
+}
+
+/* Where this module begins and its dynamic section, as the linker defines them. */
+extern const ElfW(Ehdr) __ehdr_start __attribute__((weak, visibility("hidden")));
+extern ElfW(Dyn) _DYNAMIC[] __attribute__((weak, visibility("hidden")));
+
+/* Whether this code is part of the program, or of a shared object that stays loaded (-z nodelete). */
+static bool is_never_unloaded(void) {
+  if (!&__ehdr_start || getauxval(AT_PHDR) == (uintptr_t)&__ehdr_start + __ehdr_start.e_phoff) return true;
+  for (const ElfW(Dyn) *entry = _DYNAMIC; entry && entry->d_tag != DT_NULL; entry++)
+    if (entry->d_tag == DT_FLAGS_1 && (entry->d_un.d_val & DF_1_NODELETE)) return true;
+  return false;
+}
+
+/* If a shared object that has this code is unloaded, no thread that ends later calls it. A program that ends keeps the key:
+ * threads that go on meanwhile still give their seats back. */
+__attribute__((destructor(101))) static void drop_end_key(void) {
+  if (is_never_unloaded()) return;
+  uint32_t found = __atomic_exchange_n(&end_key, IS_DROPPED, __ATOMIC_ACQ_REL);
+  if (found != NO_KEY) pthread_key_delete(found - 1);
+}
+
+/* Has the calling thread's seats given back when it ends: whether there is memory. If it ends already, the system makes one
+ * more round of destructors, or a call gives them back (IS_LATE). If there is no key, no seat is given back by itself. While
+ * a shared object is unloaded, the key may be gone at any moment: then the system refuses for another cause. */
+static bool is_told_of_end(void) {
+  make_end_key();
+  uint32_t found = __atomic_load_n(&end_key, __ATOMIC_ACQUIRE);
+  return found == NO_KEY || found == IS_DROPPED || pthread_setspecific(found - 1, &own) != ENOMEM;
+}
+
+/* Gives back seats of mutexes that were ended, at a few of the next places. So a thread that takes seats soon has given back
+ * all such, and no call gives back many. */
+static void sweep(void) {
+  for (int i = 0; i < 16 && own.count; i++) {
+    size_t at = own.swept = (own.swept + 1) & own.last;
+    while (own.places[at].core && __atomic_load_n(&own.places[at].core->is_ended, __ATOMIC_ACQUIRE) && give_back(at)) {
+    }
+  }
+}
+
+/* Makes room for one more seat: whether there is memory. A table that is half full is copied into one of twice the size. So one
+ * call may take long if the thread has many seats, but that is seldom: over all calls it is a few steps for each. */
+static bool has_room(void) {
+  sweep();
+  if (2 * (own.count + 1) <= own.last) return true;
+  size_t count = own.places == no_seats ? 8 : 2 * (own.last + 1);
+  struct own_seat *before = own.places, *places = (struct own_seat *)calloc(count, sizeof *places);
+  if (!places) return false;
+  size_t last = own.last;
+  own.places = places;
+  own.last = count - 1;
+  own.count = 0;
+  for (size_t at = 0; at <= last; at++)
+    if (before[at].core) put(before[at].core, before[at].seat);
+  if (before != no_seats) free(before);
+  return true;
+}
+
+/* Takes a seat for the calling thread, which has none. */
+SELDOM lfm_seat *take_own(lfm_mutex *mutex, lfm_status *cause) {
+  struct lfm_core *core = core_of(mutex, cause);
+  if (!core) return NULL;
+  *cause = LFM_NO_MEMORY;
+  if (!has_room() || !is_told_of_end()) return NULL;
+  lfm_seat *seat = (lfm_seat *)new_lines(offsetof(lfm_seat, unused));
+  if (!seat) return NULL;
+  *cause = take(core, seat, own.is_ending ? IS_LATE : 0, 0);
+  if (*cause != LFM_DONE) {
+    free(seat);
+    return NULL;
+  }
+  put(core, seat);
+  return seat;
+}
+
+/* The calling thread's seat, or null if it has none. */
+MOSTLY lfm_seat *find_of(lfm_mutex *mutex) {
+  struct lfm_core *core = mutex ? __atomic_load_n(&mutex->core, __ATOMIC_ACQUIRE) : NULL;
+  return core ? find(core) : NULL;
+}
+
+lfm_seat *lfm_seat_here(lfm_mutex *mutex, lfm_status *cause) {
+  lfm_seat *seat = find_of(mutex);
+  return UNLIKELY(!seat) ? take_own(mutex, cause) : seat;
+}
+
+/* Ends a call with the thread's own seat. */
+MOSTLY lfm_status end_here(lfm_seat *seat, lfm_status status) {
+  if (UNLIKELY(seat->flags & IS_LATE)) give_back_all();
+  return status;
+}
+
+/* Makes a call with the calling thread's seat. */
+#define CALL_HERE(mutex, call)                     \
+  lfm_status cause;                                \
+  lfm_seat *seat = lfm_seat_here(mutex, &cause);   \
+  return seat ? end_here(seat, call) : cause
+
+lfm_status lfm_lock_here(lfm_mutex *mutex) { CALL_HERE(mutex, lock(seat)); }
+lfm_status lfm_lock_in_order_here(lfm_mutex *mutex) { CALL_HERE(mutex, gained(seat, queue(seat))); }
+lfm_status lfm_try_lock_here(lfm_mutex *mutex) { CALL_HERE(mutex, gained(seat, try_once(seat))); }
+
+lfm_status lfm_try_lock_for_here(lfm_mutex *mutex, uint64_t nanoseconds) {
+  CALL_HERE(mutex, lfm_try_lock_for(seat, nanoseconds));
+}
+
+lfm_status lfm_try_lock_until_here(lfm_mutex *mutex, int clock, const struct timespec *time) {
+  CALL_HERE(mutex, lfm_try_lock_until(seat, clock, time));
+}
+
+/* The status of a call of the holder alone, by a thread that has no seat. */
+static lfm_status without_seat(const lfm_mutex *mutex) { return mutex && mutex->version ? LFM_NOT_OWNER : LFM_BLANK; }
+
+lfm_status lfm_unlock_here(lfm_mutex *mutex) {
+  lfm_seat *seat = find_of(mutex);
+  return seat ? end_here(seat, unlock(seat)) : without_seat(mutex);
+}
+
+uint64_t lfm_depth_here(lfm_mutex *mutex) { return lfm_depth(find_of(mutex)); }
+
+/* Ends */
+
+/* Whether a seat holds the mutex or asks for it, seen by the calling thread's seat, or by one that it takes for the look. If
+ * there is none, it is not seen. */
+static bool is_in_use(struct lfm_core *core) {
+  lfm_seat *seat = find(core), looks;
+  if (seat) return lfm_c_count(seat->handle) != 0;
+  if (take(core, &looks, 0, 0) != LFM_DONE) return false;
+  bool is_used = lfm_c_count(looks.handle) != 0;
+  give(&looks, 0);
+  return is_used;
+}
+
+lfm_status lfm_mutex_close(lfm_mutex *mutex) {
+  if (!mutex || mutex->version == 0) return LFM_BLANK;
+  struct lfm_core *core = mutex->core;
+  if (core && is_of_process(core)) {
+    enter(&core->guard);
+    uint32_t in_hand = core->in_hand;
+    leave(&core->guard);
+    if (in_hand) return LFM_NOT_BACK;
+    if (is_in_use(core)) return LFM_HOLDING;
+    __atomic_store_n(&core->is_ended, 1, __ATOMIC_RELEASE);
+    for (size_t at = home_of(core); own.places[at].core; at = (at + 1) & own.last) {
+      if (own.places[at].core != core) continue;
+      give_back(at);
+      break;
+    }
+    drop(core);
+  }
+  memset(mutex, 0, sizeof *mutex);
+  return LFM_DONE;
+}
+
+/* Makes a new core for this process, with a seat of the calling thread if it has one, at the place of the old seat and as deep.
+ * The old core is only forgotten: a thread that the child doesn't have may have been changing it. */
+static lfm_status make_new(lfm_mutex *mutex, lfm_seat *seat, bool is_in_hand) {
+  lfm_status cause;
+  struct lfm_core *before = mutex->core, *core = new_core(before->seats, before->budget, &cause);
+  if (!core) return cause;
+  if (seat) {
+    uint64_t depth = lfm_c_depth(seat->handle);
+    seat->core = NULL;
+    take(core, seat, seat->flags, is_in_hand);
+    for (uint64_t i = 0; i < depth; i++) lfm_c_try_lock(seat->handle);
+  }
+  for (size_t at = 0; at <= own.last; at++)
+    if (own.places[at].core == before) {
+      empty(at);
+      if (!is_in_hand) put(core, seat);
+      break;
+    }
+  mutex->core = core;
+  return LFM_DONE;
+}
+
+lfm_status lfm_after_fork(lfm_mutex *mutex, lfm_seat *seat) {
+  if (!mutex || mutex->version == 0 || (seat && !seat->core)) return LFM_BLANK;
+  struct lfm_core *core = mutex->core;
+  if (seat && seat->core != core) return LFM_FOREIGN;
+  if (!core || is_of_process(core)) return LFM_DONE;
+  lfm_seat *found = seat ? seat : find(core), looks;
+  if (!found && core->guard == 0) {
+    lfm_c_blank_seat(looks.handle);
+    if (lfm_c_take_seat(core->handle, looks.handle) == LFM_DONE) found = &looks;
+  }
+  if (!found || (lfm_c_depth(found->handle) == 0 && lfm_c_count(found->handle) != 0)) return LFM_BUSY;
+  return make_new(mutex, found == &looks ? NULL : found, seat != NULL);
+}
+
+/* Conditions
+ *
+ * A wait is a waiter on its thread's stack, in the list of its condition variable, and sleeps at a bell of its own.
+ *
+ * No wake is lost. A wait is listed before it gives the mutex up. So a thread that gains the mutex after it finds it in the
+ * list, and if it makes a wake, the gain orders its first look at the list after that. A wake takes waiters out of the list
+ * under the guard, the oldest first, and rings once for each that it has taken out. So each wake that finds one wakes exactly
+ * one, and no waiter is woken twice. If the time of a wait is over, it takes its waiter out itself, under the guard. If a wake
+ * was first, the waiter is not listed any more: then it counts as woken, and waits for its ring.
+ *
+ * A thread that would be woken while the caller holds its mutex could only sleep again, or take the caller's processor. So if
+ * the caller's own seat holds it, the ring is put off until that seat gives the mutex up: no waiter could go on before. This is
+ * not done for a wait with a time limit, for which a close may wait.
+ *
+ * Nothing is touched after its end. A wake reads a waiter's neighbour before it rings for it, and gives the guard back before
+ * the first ring. A waiter without a time limit touches its condition variable no more once it is listed and has left the
+ * guard, and no wake takes it out before, since that takes the guard. One that has a limit may still take the guard when others
+ * have woken it. So it is counted in `inside` until it has left, and a close waits for that. */
+
+struct lfm_waiter {
+  struct lfm_waiter *older;
+  struct lfm_waiter *newer;
+  struct lfm_core *core; /* of the mutex that it gains again */
+  uint32_t bell;
+  bool is_listed;
+  bool is_timed;
+  bool is_one_of_many; /* it was woken with others */
+};
+
+enum { IS_CLOSING = 1 << 30 };
+
+/* The guard is held for these two. The first look of a wake may come at the same time. */
+
+static void list(lfm_condvar *condvar, struct lfm_waiter *waiter) {
+  waiter->older = condvar->newest;
+  waiter->newer = NULL;
+  waiter->is_listed = true;
+  condvar->newest = waiter;
+  if (waiter->older)
+    waiter->older->newer = waiter;
+  else
+    __atomic_store_n(&condvar->oldest, waiter, __ATOMIC_RELAXED);
+}
+
+static void unlist(lfm_condvar *condvar, struct lfm_waiter *waiter) {
+  waiter->is_listed = false;
+  if (waiter->newer)
+    waiter->newer->older = waiter->older;
+  else
+    condvar->newest = waiter->older;
+  if (waiter->older)
+    waiter->older->newer = waiter->newer;
+  else
+    __atomic_store_n(&condvar->oldest, waiter->newer, __ATOMIC_RELAXED);
+}
+
+/* Waits for the waiter's ring, and returns whether it came before the time was over. */
+static bool is_woken(lfm_condvar *condvar, struct lfm_waiter *waiter, const struct limit *limit) {
+  if (await(&waiter->bell, 0, limit)) return true;
+  enter(&condvar->guard);
+  bool is_listed = waiter->is_listed;
+  if (is_listed) unlist(condvar, waiter);
+  leave(&condvar->guard);
+  return !is_listed && await(&waiter->bell, 0, NULL);
+}
+
+/* For how many nanoseconds a waiter looks before its thread sleeps. Between two threads that take turns a ring soon comes, but
+ * on busy processors a look keeps the other from its work. So a seat looks if it has lately heard rings, and else at some of
+ * its waits, to learn of them. If others wait too, it doesn't look. */
+enum { LOOKS_AFTER_A_RING = 16, WAITS_PER_TRIAL = 32, WAIT_LOOK = 5000 };
+
+static bool hears_soon(lfm_seat *seat, uint32_t *bell) {
+  bool is_trial = ++seat->waits % WAITS_PER_TRIAL == 0;
+  if (seat->core->near == 0 || (seat->looks == 0 && !is_trial)) return false;
+  bool is_heard = hears(bell, WAIT_LOOK);
+  seat->looks = is_heard ? LOOKS_AFTER_A_RING : seat->looks / 2;
+  return is_heard;
+}
+
+/* Why a wait of this seat is refused, or LFM_DONE. An unlock of a seat that doesn't hold is refused and says why. If the seat
+ * has no take left for the gain after the wait, it is to be exchanged for the reserved one. */
+static lfm_status refuses_wait(lfm_seat *seat, struct spent_seat **reserved) {
+  uint64_t depth = lfm_c_depth(seat->handle);
+  if (depth == 0) return status_of(lfm_c_unlock(seat->handle));
+  if (depth > 1) return LFM_NESTED;
+  if (UNLIKELY(lfm_c_left(seat->handle) == 0) && !(*reserved = reserve(seat->core))) return LFM_SPENT;
+  return LFM_DONE;
+}
+
+static lfm_status wait_until(lfm_condvar *condvar, lfm_seat *seat, const struct limit *limit) {
+  struct spent_seat *reserved = NULL;
+  lfm_status status = refuses_wait(seat, &reserved);
+  if (status != LFM_DONE) return status;
+  struct lfm_waiter waiter = {NULL, NULL, seat->core, SILENT, true, limit != NULL, false};
+  hide(condvar, sizeof *condvar);
+  hide(&waiter, sizeof waiter);
+  enter(&condvar->guard);
+  list(condvar, &waiter);
+  bool is_alone = !waiter.older;
+  if (limit) count_up(&condvar->inside);
+  leave(&condvar->guard);
+  unlock(seat);
+  if (UNLIKELY(reserved)) exchange(seat, reserved);
+  bool is_done = (is_alone && hears_soon(seat, &waiter.bell)) || is_woken(condvar, &waiter, limit);
+  if (limit && count_down(&condvar->inside) == IS_CLOSING) wake_sleeper(&condvar->inside);
+  /* Of threads that are woken together each would nap while another holds. In order they go on one after another. */
+  status = is_done && waiter.is_one_of_many ? gained(seat, queue(seat)) : lock(seat);
+  return is_done || lfm_is_refused(status) ? status : LFM_TIMED_OUT;
+}
+
+/* Makes a wait, which is given a condition variable. */
+#define WAIT(condvar, call) ((condvar) ? (call) : LFM_BLANK)
+
+lfm_status lfm_wait(lfm_condvar *condvar, lfm_seat *seat) { return WAIT(condvar, CALL(seat, wait_until(condvar, seat, NULL))); }
+
+lfm_status lfm_wait_for(lfm_condvar *condvar, lfm_seat *seat, uint64_t nanoseconds) {
+  struct limit limit = limit_after(nanoseconds);
+  return WAIT(condvar, CALL(seat, wait_until(condvar, seat, &limit)));
+}
+
+lfm_status lfm_wait_until(lfm_condvar *condvar, lfm_seat *seat, int clock, const struct timespec *time) {
+  struct limit limit;
+  lfm_status status = limit_at(clock, time, &limit);
+  return status == LFM_DONE ? WAIT(condvar, CALL(seat, wait_until(condvar, seat, &limit))) : status;
+}
+
+/* Makes a wait with the calling thread's seat. */
+#define WAIT_HERE(mutex, call)      \
+  lfm_seat *seat = find_of(mutex);  \
+  return seat ? end_here(seat, call) : without_seat(mutex)
+
+lfm_status lfm_wait_here(lfm_condvar *condvar, lfm_mutex *mutex) { WAIT_HERE(mutex, lfm_wait(condvar, seat)); }
+
+lfm_status lfm_wait_for_here(lfm_condvar *condvar, lfm_mutex *mutex, uint64_t nanoseconds) {
+  WAIT_HERE(mutex, lfm_wait_for(condvar, seat, nanoseconds));
+}
+
+lfm_status lfm_wait_until_here(lfm_condvar *condvar, lfm_mutex *mutex, int clock, const struct timespec *time) {
+  WAIT_HERE(mutex, lfm_wait_until(condvar, seat, clock, time));
+}
+
+/* Rings for the waiters whose rings were put off until the seat gives the mutex up. */
+static void ring_unrung(lfm_seat *seat) {
+  struct lfm_waiter *waiter = seat->unrung, *next;
+  for (seat->unrung = NULL; waiter; waiter = next) {
+    next = waiter->newer;
+    ring(&waiter->bell);
+  }
+}
+
+/* Rings for a waiter that was taken out of its list, or puts it off. The caller's seat is this one, or else finds itself. */
+static void ring_for(struct lfm_waiter *waiter, lfm_seat *seat) {
+  if (!seat || seat->core != waiter->core) seat = find(waiter->core);
+  if (waiter->is_timed || !seat || lfm_c_depth(seat->handle) == 0) {
+    ring(&waiter->bell);
+    return;
+  }
+  waiter->newer = NULL;
+  if (seat->unrung)
+    seat->last_unrung->newer = waiter;
+  else
+    seat->unrung = waiter;
+  seat->last_unrung = waiter;
+}
+
+/* Takes the oldest waiter out of the list, or all, and rings for them. */
+static lfm_status wake(lfm_condvar *condvar, lfm_seat *seat, bool all) {
+  if (!condvar) return LFM_BLANK;
+  if (!__atomic_load_n(&condvar->oldest, __ATOMIC_RELAXED)) return LFM_NOBODY;
+  enter(&condvar->guard);
+  struct lfm_waiter *first = condvar->oldest, *last = NULL;
+  while (condvar->oldest && (all || !last)) {
+    last = condvar->oldest;
+    unlist(condvar, last);
+  }
+  leave(&condvar->guard);
+  for (struct lfm_waiter *waiter = first, *next; waiter; waiter = next) {
+    next = waiter == last ? NULL : waiter->newer;
+    waiter->is_one_of_many = first != last;
+    ring_for(waiter, seat);
+  }
+  return first ? LFM_DONE : LFM_NOBODY;
+}
+
+lfm_status lfm_wake_one(lfm_condvar *condvar) { return wake(condvar, NULL, false); }
+lfm_status lfm_wake_all(lfm_condvar *condvar) { return wake(condvar, NULL, true); }
+lfm_status lfm_wake_one_by(lfm_condvar *condvar, lfm_seat *seat) { return CALL(seat, wake(condvar, seat, false)); }
+lfm_status lfm_wake_all_by(lfm_condvar *condvar, lfm_seat *seat) { return CALL(seat, wake(condvar, seat, true)); }
+
+lfm_status lfm_condvar_close(lfm_condvar *condvar) {
+  if (!condvar) return LFM_BLANK;
+  enter(&condvar->guard);
+  bool is_waited_for = condvar->oldest;
+  leave(&condvar->guard);
+  if (is_waited_for) return LFM_WAITED_FOR;
+  uint32_t inside = __atomic_or_fetch(&condvar->inside, IS_CLOSING, __ATOMIC_ACQUIRE);
+  while (inside != IS_CLOSING) {
+    sleep_while(&condvar->inside, inside, NULL);
+    inside = __atomic_load_n(&condvar->inside, __ATOMIC_ACQUIRE);
+  }
+  memset(condvar, 0, sizeof *condvar);
+  return LFM_DONE;
+}
+
+/* Texts */
+
+int lfm_version(void) { return LFM_VERSION; }
+
+const char *lfm_status_text(lfm_status status) {
+  switch (status) {
+    case LFM_DONE: return "done";
+    case LFM_AGAIN: return "the seat holds the mutex once more";
+    case LFM_STILL: return "the seat still holds the mutex";
+    case LFM_ASLEEP: return "the seat sleeps";
+    case LFM_POSTED: return "the mutex was given up to a seat that had begun to ask";
+    case LFM_GRANTED: return "the mutex was given up to the oldest queued seat";
+    case LFM_NOBODY: return "nobody waited";
+    case LFM_TIMED_OUT: return "the time of the wait was over";
+    case LFM_BLANK: return "null, a mutex that is neither open nor LFM_MUTEX_INIT, or a seat that is not taken";
+    case LFM_TAKEN: return "the mutex is open, or the seat taken, already";
+    case LFM_LIMIT: return "a number is outside its limits";
+    case LFM_NO_MEMORY: return "memory was refused";
+    case LFM_NO_SEAT: return "all seats of the mutex are taken, and a thread keeps its seat until it ends";
+    case LFM_NOT_BACK: return "some seats are not given back";
+    case LFM_HOLDING: return "the mutex is held";
+    case LFM_FOREIGN: return "the seat is of another mutex";
+    case LFM_OTHER_HEADER: return "the library is of another version than the header";
+    case LFM_WAITED_FOR: return "a thread waits at the condition variable";
+    case LFM_SEAT_ASLEEP: return "the seat sleeps in a call of another thread";
+    case LFM_NOT_OWNER: return "the seat doesn't hold the mutex";
+    case LFM_NESTED: return "the seat holds the mutex more than once";
+    case LFM_DEPTH_FULL: return "the seat holds the mutex 65,535 times already";
+    case LFM_SPENT: return "the seat has no take left, and no other is free, or memory for it was refused";
+    case LFM_NO_SUCH_SEAT: return "no seat has this number";
+    case LFM_NOT_WAITING: return "the seat doesn't sleep";
+    case LFM_BUSY: return "the mutex is busy";
+  }
+  return "no status of ligdrosa";
+}

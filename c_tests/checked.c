@@ -1,0 +1,50 @@
+/* Two threads make calls of one seat at the same time. Compiled with -DLFM_CHECKED, the program is ended with a text. */
+#define _GNU_SOURCE
+#define LFM_CHECKED
+#include <signal.h>
+#include <sys/wait.h>
+#include <unistd.h>
+#include "expect.h"
+
+static lfm_mutex mutex;
+static lfm_seat holder, seat;
+
+static void *lock_it(void *at) {
+  if (lfm_is_refused(lfm_lock(&seat))) abort();
+  return at;
+}
+
+/* One thread sleeps in a lock of the seat, and another calls with it. */
+static void call_beside(void) {
+  pthread_t thread;
+  EXPECT(pthread_create(&thread, NULL, lock_it, NULL), 0);
+  while (!__atomic_load_n(&seat.is_in_call, __ATOMIC_SEQ_CST)) sched_yield();
+  if (lfm_is_refused(lfm_try_lock(&seat))) _exit(1);
+  _exit(2);
+}
+
+int main(void) {
+  char text[256] = {0};
+  int status, ends[2];
+  EXPECT(lfm_mutex_new(&mutex, 2, 100), LFM_DONE);
+  EXPECT(lfm_seat_take(&mutex, &holder), LFM_DONE);
+  EXPECT(lfm_seat_take(&mutex, &seat), LFM_DONE);
+  EXPECT(lfm_lock(&seat), LFM_DONE);
+  EXPECT(lfm_lock(&seat), LFM_AGAIN);
+  EXPECT(lfm_unlock(&seat), LFM_STILL);
+  EXPECT(lfm_unlock(&seat), LFM_DONE);
+  EXPECT(lfm_lock(&holder), LFM_DONE);
+  EXPECT(pipe(ends), 0);
+  pid_t child = fork();
+  EXPECT(child >= 0, true);
+  if (child == 0) {
+    EXPECT(dup2(ends[1], 2), 2);
+    signal(SIGABRT, SIG_DFL);
+    call_beside();
+  }
+  EXPECT(waitpid(child, &status, 0), child);
+  EXPECT(WIFSIGNALED(status) && WTERMSIG(status) == SIGABRT, true);
+  EXPECT(read(ends[0], text, sizeof text - 1) > 0, true);
+  EXPECT(strncmp(text, "ligdrosa: two threads", 21), 0);
+  return 0;
+}

@@ -1,0 +1,154 @@
+/* Forked children. One gives its seats back and closes its mutexes while threads of the parent take and give seats: it doesn't
+ * hang. One makes a mutex new that its thread held in the fork, as pthread_atfork has it, or that nobody held. One whose
+ * parent's other thread held it is told so. */
+#define _GNU_SOURCE
+#include <signal.h>
+#include <sys/wait.h>
+#include <unistd.h>
+#include "expect.h"
+
+enum { CHILDREN = 60, THREADS = 3, LIMIT = 60 };
+static lfm_mutex mutex = LFM_MUTEX_INIT, in_hand, free_one = LFM_MUTEX_INIT, never_called = LFM_MUTEX_INIT;
+static lfm_mutex of_others = LFM_MUTEX_INIT_WITH(1);
+static lfm_condvar condvar;
+static lfm_seat seat, spare;
+static int over, step;
+
+static void lock(lfm_mutex *of) { EXPECT(lfm_lock_here(of), LFM_DONE); }
+static void unlock(lfm_mutex *of) { EXPECT(lfm_is_refused(lfm_unlock_here(of)), false); }
+
+/* The status with which the child ended, in which this was called. A child that hangs is ended by its alarm. */
+static int in_child(void (*act)(void)) {
+  int status;
+  pid_t child = fork();
+  EXPECT(child >= 0, true);
+  if (child == 0) {
+    alarm(LIMIT);
+    act();
+    _exit(0);
+  }
+  EXPECT(waitpid(child, &status, 0), child);
+  return status;
+}
+
+static void *lock_once(void *at) {
+  static lfm_seat seats[THREADS + 1];
+  lfm_seat *own = &seats[*(int *)at];
+  EXPECT(lfm_seat_take(&in_hand, own), LFM_DONE);
+  EXPECT(lfm_lock(own), LFM_DONE);
+  EXPECT(lfm_is_refused(lfm_unlock(own)), false);
+  EXPECT(lfm_seat_give(own), LFM_DONE);
+  lock(&mutex);
+  unlock(&mutex);
+  return at;
+}
+
+/* Threads that take seats and give them back, and contend. */
+static void *come_and_go(void *at) {
+  while (!__atomic_load_n(&over, __ATOMIC_SEQ_CST)) {
+    pthread_t thread;
+    EXPECT(pthread_create(&thread, NULL, lock_once, at), 0);
+    EXPECT(pthread_join(thread, NULL), 0);
+  }
+  return NULL;
+}
+
+static void forget(void) {
+  EXPECT(lfm_seat_give(&seat), LFM_DONE);
+  EXPECT(lfm_mutex_close(&in_hand), LFM_DONE);
+  EXPECT(lfm_mutex_close(&free_one), LFM_DONE);
+  pthread_exit(NULL); /* ends the thread, and with it the process */
+}
+
+static void *wake_all(void *at) {
+  lock(&mutex);
+  EXPECT(lfm_wake_all(&condvar), LFM_DONE);
+  unlock(&mutex);
+  return at;
+}
+
+/* The parent's thread held both. */
+static void use_again(void) {
+  EXPECT(lfm_after_fork(&mutex, &spare), LFM_BLANK);
+  EXPECT(lfm_after_fork(&mutex, &seat), LFM_FOREIGN);
+  EXPECT(lfm_after_fork(&mutex, NULL), LFM_DONE);
+  EXPECT(lfm_after_fork(&in_hand, &seat), LFM_DONE);
+  EXPECT(lfm_after_fork(&in_hand, &seat), LFM_DONE); /* a second time changes nothing */
+  EXPECT(lfm_after_fork(&free_one, NULL), LFM_DONE);
+  EXPECT(lfm_after_fork(&never_called, NULL), LFM_DONE);
+  EXPECT(lfm_after_fork(&of_others, NULL), LFM_DONE);
+  lock(&of_others);
+  unlock(&of_others);
+  EXPECT(lfm_depth(&seat), 2);
+  EXPECT(lfm_unlock(&seat), LFM_STILL);
+  EXPECT(lfm_unlock(&seat), LFM_DONE);
+  EXPECT(lfm_depth_here(&mutex), 1);
+  pthread_t thread;
+  EXPECT(pthread_create(&thread, NULL, wake_all, NULL), 0);
+  EXPECT(lfm_wait_here(&condvar, &mutex), LFM_DONE);
+  EXPECT(pthread_join(thread, NULL), 0);
+  unlock(&mutex);
+  lock(&free_one);
+  unlock(&free_one);
+  int number = THREADS;
+  lock_once(&number);
+  EXPECT(lfm_seat_give(&seat), LFM_DONE);
+  EXPECT(lfm_mutex_close(&in_hand), LFM_DONE);
+  EXPECT(lfm_mutex_close(&mutex), LFM_DONE);
+}
+
+/* Another thread of the parent holds one mutex, and has the only seat of another. */
+static void is_told(void) {
+  EXPECT(lfm_after_fork(&free_one, NULL), LFM_BUSY);
+  EXPECT(lfm_after_fork(&of_others, NULL), LFM_BUSY);
+}
+
+static void *use_once(void *at) {
+  lock(&of_others);
+  unlock(&of_others);
+  return at;
+}
+
+static void *hold(void *at) {
+  lock(&free_one);
+  use_once(at);
+  __atomic_store_n(&step, 1, __ATOMIC_SEQ_CST);
+  while (__atomic_load_n(&step, __ATOMIC_SEQ_CST) != 2) sched_yield();
+  unlock(&free_one);
+  return at;
+}
+
+int main(void) {
+  pthread_t threads[THREADS], holder;
+  int numbers[THREADS];
+  EXPECT(lfm_mutex_new(&in_hand, 8, LFM_MOST_TAKES), LFM_DONE);
+  EXPECT(lfm_seat_take(&in_hand, &seat), LFM_DONE);
+  lock(&free_one);
+  unlock(&free_one);
+  EXPECT(pthread_create(&holder, NULL, use_once, NULL), 0);
+  EXPECT(pthread_join(holder, NULL), 0);
+  for (int i = 0; i < THREADS; i++) {
+    numbers[i] = i;
+    EXPECT(pthread_create(&threads[i], NULL, come_and_go, &numbers[i]), 0);
+  }
+  for (int i = 0; i < CHILDREN; i++) {
+    EXPECT(in_child(forget), 0);
+    lock(&mutex);
+    EXPECT(lfm_lock(&seat), LFM_DONE);
+    EXPECT(lfm_lock(&seat), LFM_AGAIN);
+    EXPECT(in_child(use_again), 0);
+    EXPECT(lfm_unlock(&seat), LFM_STILL);
+    EXPECT(lfm_is_refused(lfm_unlock(&seat)), false);
+    unlock(&mutex);
+  }
+  __atomic_store_n(&over, 1, __ATOMIC_SEQ_CST);
+  for (int i = 0; i < THREADS; i++) EXPECT(pthread_join(threads[i], NULL), 0);
+  EXPECT(pthread_create(&holder, NULL, hold, NULL), 0);
+  while (__atomic_load_n(&step, __ATOMIC_SEQ_CST) != 1) sched_yield();
+  EXPECT(in_child(is_told), 0);
+  __atomic_store_n(&step, 2, __ATOMIC_SEQ_CST);
+  EXPECT(pthread_join(holder, NULL), 0);
+  EXPECT(lfm_seat_give(&seat), LFM_DONE);
+  EXPECT(lfm_mutex_close(&in_hand), LFM_DONE);
+  return 0;
+}

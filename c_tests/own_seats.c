@@ -1,0 +1,187 @@
+/* Seats that find themselves. Threads come and go, more than there are seats. Mutexes are opened by their first calls, nested,
+ * and many: a call takes about as long among 10,000 as among 10. A mutex is destroyed by the thread that gains it last, at
+ * once. The library's own memory goes back as threads take other seats, and when they end. Destructors of thread-specific data
+ * lock too. */
+#define _GNU_SOURCE
+#include <malloc.h>
+#include "expect.h"
+
+enum { MANY = 10000, FEW = 10, LOCKS = 20000, THREADS = 8, COMERS = 2000, ROUNDS = 20000, ENDED = 200 };
+static lfm_mutex mutex = LFM_MUTEX_INIT_WITH(THREADS), inner = LFM_MUTEX_INIT_WITH(THREADS);
+static uint64_t total, nested_total;
+
+static void lock(lfm_mutex *of) { EXPECT(lfm_lock_here(of), LFM_DONE); }
+static void unlock(lfm_mutex *of) { EXPECT(lfm_is_refused(lfm_unlock_here(of)), false); }
+
+/* All threads call both for the first time at once, and each mutex in the other's hold. */
+static void nest(unsigned thread) {
+  (void)thread;
+  for (int i = 0; i < LOCKS; i++) {
+    lock(&mutex);
+    lock(&inner);
+    EXPECT(lfm_lock_here(&mutex), LFM_AGAIN);
+    EXPECT(lfm_depth_here(&mutex), 2);
+    nested_total++;
+    EXPECT(lfm_unlock_here(&mutex), LFM_STILL);
+    unlock(&inner);
+    unlock(&mutex);
+  }
+}
+
+static void *count_once(void *at) {
+  lock(&mutex);
+  total++;
+  unlock(&mutex);
+  return at;
+}
+
+/* Of 8 seats as many threads use one at a time, and give it back as they end. */
+static void come_and_go(void) {
+  pthread_t threads[THREADS];
+  for (int i = 0; i < COMERS; i++) {
+    for (int j = 0; j < THREADS; j++) EXPECT(pthread_create(&threads[j], NULL, count_once, NULL), 0);
+    for (int j = 0; j < THREADS; j++) EXPECT(pthread_join(threads[j], NULL), 0);
+  }
+  EXPECT(total, COMERS * THREADS);
+}
+
+/* The processor time of a lock and an unlock among this many mutexes, in nanoseconds, the least of some tries. */
+static double among(lfm_mutex *all, unsigned count) {
+  double least = 1e9;
+  for (int attempt = 0; attempt < 5; attempt++) {
+    struct timespec begun, ended;
+    clock_gettime(CLOCK_THREAD_CPUTIME_ID, &begun);
+    for (unsigned i = 0; i < LOCKS; i++) {
+      lfm_mutex *of = &all[i * 7919 % count];
+      lock(of);
+      unlock(of);
+    }
+    clock_gettime(CLOCK_THREAD_CPUTIME_ID, &ended);
+    double time = (double)(ended.tv_sec - begun.tv_sec) * 1e9 + (double)(ended.tv_nsec - begun.tv_nsec);
+    if (time / LOCKS < least) least = time / LOCKS;
+  }
+  return least;
+}
+
+static void many_mutexes(void) {
+  lfm_mutex *all = (lfm_mutex *)calloc(MANY, sizeof *all);
+  const lfm_mutex new_one = LFM_MUTEX_INIT_WITH(2);
+  EXPECT(all == NULL, false);
+  for (int i = 0; i < MANY; i++) all[i] = new_one;
+  double few = among(all, FEW), many = among(all, MANY);
+  printf("a lock and an unlock among %d mutexes %.0f ns, among %d %.0f ns\n", FEW, few, MANY, many);
+  EXPECT(many < 100 * few, true); /* a search through all would take some 1,000 times as long */
+  for (int i = 0; i < MANY; i++) EXPECT(lfm_mutex_close(&all[i]), LFM_DONE);
+  free(all);
+}
+
+/* Two threads share a mutex, which the last to gain it destroys while the other's unlock may not have returned. */
+typedef struct shared {
+  lfm_mutex mutex;
+  int users;
+} shared;
+static shared *passed;
+
+static void leave_shared(shared *at) {
+  lock(&at->mutex);
+  bool is_last = --at->users == 0;
+  unlock(&at->mutex);
+  if (!is_last) return;
+  EXPECT(lfm_mutex_close(&at->mutex), LFM_DONE);
+  free(at);
+}
+
+static void pass_shared(unsigned thread) {
+  for (int i = 0; i < ROUNDS; i++) {
+    shared *at;
+    if (thread == 0) {
+      at = (shared *)calloc(1, sizeof *at);
+      const lfm_mutex new_one = LFM_MUTEX_INIT_WITH(2);
+      at->mutex = new_one;
+      at->users = 2;
+      __atomic_store_n(&passed, at, __ATOMIC_SEQ_CST);
+    } else {
+      while (!(at = __atomic_load_n(&passed, __ATOMIC_SEQ_CST))) sched_yield();
+      __atomic_store_n(&passed, NULL, __ATOMIC_SEQ_CST);
+    }
+    leave_shared(at);
+    while (thread == 0 && __atomic_load_n(&passed, __ATOMIC_SEQ_CST)) sched_yield();
+  }
+}
+
+/* A thread that lives on gives seats of ended mutexes back as it takes others. */
+static lfm_mutex *ended;
+static int step;
+
+static void wait_for_step(int wanted) {
+  while (__atomic_load_n(&step, __ATOMIC_SEQ_CST) < wanted) sched_yield();
+}
+
+static void live_on(unsigned thread) {
+  for (int i = 0; i < ENDED; i++) {
+    if (thread == 0) {
+      wait_for_step(2 * i);
+      lock(&ended[i]);
+      unlock(&ended[i]);
+      __atomic_store_n(&step, 2 * i + 1, __ATOMIC_SEQ_CST);
+    } else {
+      wait_for_step(2 * i + 1);
+      EXPECT(lfm_mutex_close(&ended[i]), LFM_DONE);
+      __atomic_store_n(&step, 2 * i + 2, __ATOMIC_SEQ_CST);
+    }
+  }
+}
+
+static long bytes_in_use(void) {
+  struct mallinfo2 all = mallinfo2();
+  return (long)(all.uordblks + all.hblkhd);
+}
+
+static void memory_of_ended(void) {
+  ended = (lfm_mutex *)calloc(ENDED, sizeof *ended);
+  long before = bytes_in_use();
+  for (int i = 0; i < ENDED; i++) EXPECT(lfm_mutex_new(&ended[i], 4095, 100), LFM_DONE);
+  long opened = bytes_in_use();
+  in_threads(2, live_on);
+  EXPECT(bytes_in_use() - before <= (opened - before) / 20, true);
+  free(ended);
+}
+
+/* A destructor of thread-specific data locks again and again, also after the thread's seats were given back. */
+static pthread_key_t key;
+static unsigned locked_late;
+static void lock_late(void *at) {
+  count_once(NULL);
+  EXPECT(lfm_depth_here(&mutex), 0);
+  locked_late++;
+  if (locked_late % 3) EXPECT(pthread_setspecific(key, at), 0);
+}
+
+static void *end_late(void *at) {
+  EXPECT(pthread_setspecific(key, &key), 0);
+  count_once(NULL);
+  return at;
+}
+
+static void ends(void) {
+  pthread_t thread;
+  EXPECT(pthread_key_create(&key, lock_late), 0);
+  for (int i = 0; i < 4 * THREADS; i++) {
+    EXPECT(pthread_create(&thread, NULL, end_late, NULL), 0);
+    EXPECT(pthread_join(thread, NULL), 0);
+  }
+  EXPECT(locked_late, 3 * 4 * THREADS);
+}
+
+int main(void) {
+  in_threads(THREADS, nest);
+  EXPECT(nested_total, (uint64_t)THREADS * LOCKS);
+  come_and_go();
+  ends();
+  many_mutexes();
+  in_threads(2, pass_shared);
+  memory_of_ended();
+  EXPECT(lfm_mutex_close(&inner), LFM_DONE);
+  EXPECT(lfm_mutex_close(&mutex), LFM_DONE);
+  return 0;
+}

@@ -1,71 +1,89 @@
-// What ends early or late: a condition variable that ends while a wait of it is about to return, and objects that lock when
+// What ends early or late: a condition variable that ends while waits of it are about to return, and objects that lock when
 // they end, after the seats of their thread were given back.
 //
-// The test wraps the calls of the library, so that threads meet at points at which they seldom would: a thread that begins to
-// wait holds the list until another has asked for it, and when it has given the list to that one, it goes on only once the
-// condition variable has ended.
-#define lfm_c_ask seen_ask
-#define lfm_c_start_wait seen_start_wait
-#define lfm_c_unlock seen_unlock
-#include "ligdrosa.hpp"
-#undef lfm_c_ask
-#undef lfm_c_start_wait
-#undef lfm_c_unlock
+// The test wraps the system's calls, to stop a thread whose wait is over until another has woken it.
+#include <errno.h>
+#include <stdarg.h>
+#include <sys/syscall.h>
+
+#include <atomic>
 #include <thread>
+#include <vector>
 
 #include "expect.hpp"
+#include "ligdrosa.hpp"
 
-enum stage { AT_ONCE, WAITS, ASKED, GIVEN, ENDED };
+enum stage { AT_ONCE, IS_OVER, GOES_ON };
 static std::atomic<stage> now{AT_ONCE};
-
-// If the test is at the first stage, goes on to the next and waits for the one after it.
-static void meet(stage at) {
-  stage next = stage(at + 1);
-  if (!now.compare_exchange_strong(at, next)) return;
-  while (now == next) std::this_thread::yield();
-}
+static thread_local bool stops; // when its wait is over
 
 extern "C" {
-uint64_t lfm_c_ask(void *seat);
-uint64_t lfm_c_start_wait(void *seat);
-uint64_t lfm_c_unlock(void *seat);
+long __real_syscall(long number, ...);
+long __wrap_syscall(long number, ...);
 
-uint64_t seen_ask(void *seat) {
-  uint64_t answer = lfm_c_ask(seat);
-  if ((answer & 255) == LFM_ASLEEP) meet(WAITS);
-  return answer;
-}
-
-uint64_t seen_start_wait(void *seat) {
-  uint64_t answer = lfm_c_start_wait(seat);
-  meet(AT_ONCE);
-  return answer;
-}
-
-uint64_t seen_unlock(void *seat) {
-  uint64_t answer = lfm_c_unlock(seat);
-  if (answer > 255) meet(ASKED);
+// All calls of the library have at most six arguments.
+long __wrap_syscall(long number, ...) {
+  long of[6];
+  va_list all;
+  va_start(all, number);
+  for (long &argument : of) argument = va_arg(all, long);
+  va_end(all);
+  const long answer = __real_syscall(number, of[0], of[1], of[2], of[3], of[4], of[5]);
+  if (stops && number == SYS_futex && answer == -1 && errno == ETIMEDOUT) {
+    now = IS_OVER;
+    while (now != GOES_ON) std::this_thread::yield();
+    errno = ETIMEDOUT;
+  }
   return answer;
 }
 }
 
+// The waiters need the mutex to return, and the thread that ends the condition variable holds it.
 static void a_condition_variable_that_ends_early() {
-  lfm::recursive_mutex mutex(2);
-  auto filled = std::make_unique<lfm::condition_variable>(mutex);
+  const int WAITERS = 3;
+  lfm::recursive_mutex mutex;
+  std::unique_ptr<lfm::condition_variable> filled(new lfm::condition_variable());
+  lfm::condition_variable all_wait;
+  int waiting = 0;
   bool is_over = false;
-  std::thread waiter([&] {
+  std::vector<std::thread> waiters;
+  for (int i = 0; i < WAITERS; i++)
+    waiters.emplace_back([&] {
+      std::unique_lock<lfm::recursive_mutex> lock(mutex);
+      if (++waiting == WAITERS) all_wait.notify_one();
+      filled->wait(lock);
+      EXPECT(is_over, true);
+    });
+  {
     std::unique_lock<lfm::recursive_mutex> lock(mutex);
-    filled->wait(lock, [&] { return is_over; });
+    all_wait.wait(lock, [&] { return waiting == WAITERS; });
+    is_over = true;
+    filled->notify_all();
+    filled.reset();
+  }
+  for (std::thread &waiter : waiters) waiter.join();
+}
+
+// The time of the wait is over, but it is woken before it has left the list. The end of the condition variable waits for that.
+static void a_condition_variable_with_times_that_ends_early() {
+  lfm::recursive_mutex mutex;
+  std::unique_ptr<lfm::condition_variable> filled(new lfm::condition_variable());
+  std::thread waiter([&] {
+    stops = true;
+    std::unique_lock<lfm::recursive_mutex> lock(mutex);
+    EXPECT(filled->wait_for(lock, std::chrono::milliseconds(1)) == std::cv_status::no_timeout, true);
+    stops = false;
   });
-  while (now != WAITS) std::this_thread::yield();
-  mutex.lock();
-  is_over = true;
+  while (now != IS_OVER) std::this_thread::yield();
   filled->notify_one();
-  mutex.unlock();
-  EXPECT(now.load(), GIVEN);
+  std::thread lets_it_go([] {
+    std::this_thread::sleep_for(std::chrono::milliseconds(50));
+    now = GOES_ON;
+  });
   filled.reset();
-  now = ENDED;
+  EXPECT(now.load(), GOES_ON);
   waiter.join();
+  lets_it_go.join();
 }
 
 // One seat for the first thread, and one for another at a time.
@@ -80,23 +98,28 @@ struct locks_at_its_end {
   }
 };
 
-// It ends with the program, when the seats of the first thread were given back.
+// It ends with the program, when the first thread's objects have ended.
 static locks_at_its_end at_exit;
 
-// Objects that are made before a thread takes its seat end after that is given back. Each of many threads finds a seat.
+// Objects that are made before a thread takes its seat, and those that keep data for a thread in pthread's way, end late. Each
+// of many threads finds a seat.
 static void objects_that_end_late() {
   const int THREADS = 10;
+  pthread_key_t key;
+  EXPECT(pthread_key_create(&key, [](void *at) { delete static_cast<locks_at_its_end *>(at); }), 0);
   for (int i = 0; i < THREADS; i++)
-    std::thread([] {
+    std::thread([&] {
       thread_local locks_at_its_end early;
       early.is_there = true;
+      EXPECT(pthread_setspecific(key, new locks_at_its_end()), 0);
       std::lock_guard<lfm::recursive_mutex> lock(of_the_program);
     }).join();
+  EXPECT(pthread_key_delete(key), 0);
   std::lock_guard<lfm::recursive_mutex> lock(of_the_program);
-  EXPECT(ended, THREADS);
+  EXPECT(ended, 2 * THREADS);
 }
 
-// A hold that ends after the thread's other seats were given back.
+// A hold that ends late.
 static void a_hold_that_ends_late() {
   for (int i = 0; i < 10; i++)
     std::thread([] {
@@ -109,6 +132,7 @@ static void a_hold_that_ends_late() {
 
 int main() {
   a_condition_variable_that_ends_early();
+  a_condition_variable_with_times_that_ends_early();
   objects_that_end_late();
   a_hold_that_ends_late();
   return 0;

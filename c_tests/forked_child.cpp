@@ -1,26 +1,27 @@
-// A child that is forked while another thread takes a seat ends at once. Its one thread has seats of the same mutexes. If it
-// gave them back as its objects end, it would wait for the other thread, which the child doesn't have.
+// A child that is forked while other threads take seats ends at once. Its one thread has seats of the same mutexes, and ends
+// mutexes. If it gave them back, or closed them, it would wait for the other threads, which the child doesn't have.
 //
 // The test wraps the take of the library: once the first thread has its seats, a take stops until the child has ended.
-#define lfm_c_take_seat seen_take_seat
-#include "ligdrosa.hpp"
-#undef lfm_c_take_seat
 #include <signal.h>
 #include <sys/wait.h>
+#include <unistd.h>
 
+#include <atomic>
 #include <chrono>
 #include <thread>
 
 #include "expect.hpp"
+#include "ligdrosa.hpp"
 
 static std::atomic<bool> stops{false};
 static std::atomic<int> stopped{0};
 
 extern "C" {
-uint64_t lfm_c_take_seat(void *mutex, void *seat);
+uint64_t __real_lfm_c_take_seat(void *mutex, void *seat);
+uint64_t __wrap_lfm_c_take_seat(void *mutex, void *seat);
 
-uint64_t seen_take_seat(void *mutex, void *seat) {
-  uint64_t answer = lfm_c_take_seat(mutex, seat);
+uint64_t __wrap_lfm_c_take_seat(void *mutex, void *seat) {
+  const uint64_t answer = __real_lfm_c_take_seat(mutex, seat);
   if (!stops) return answer;
   stopped++;
   while (stops) std::this_thread::yield();
@@ -41,28 +42,29 @@ static int end_of(pid_t child) {
 }
 
 static lfm::recursive_mutex found(2);
+static std::unique_ptr<lfm::recursive_mutex> ends_with_the_program(new lfm::recursive_mutex(2));
 static lfm::mutex in_hand(2);
 static thread_local lfm::seat own(in_hand);
 
-static void lock_both() {
-  std::lock_guard<lfm::recursive_mutex> first(found);
+static void lock_all() {
+  std::lock_guard<lfm::recursive_mutex> first(found), second(*ends_with_the_program);
   lfm::seat_lock seat(own);
-  std::lock_guard<lfm::seat_lock> second(seat);
+  std::lock_guard<lfm::seat_lock> third(seat);
 }
 
 int main() {
-  lock_both();
+  lock_all();
   stops = true;
-  std::thread takes_one([] { std::lock_guard<lfm::recursive_mutex> lock(found); });
-  std::thread takes_other([] { EXPECT(own.depth(), 0u); });
-  while (stopped != 2) std::this_thread::yield();
-  pid_t child = fork();
+  std::thread threads[] = {std::thread([] { std::lock_guard<lfm::recursive_mutex> lock(found); }),
+                           std::thread([] { std::lock_guard<lfm::recursive_mutex> lock(*ends_with_the_program); }),
+                           std::thread([] { EXPECT(own.depth(), 0u); })};
+  while (stopped != 3) std::this_thread::yield();
+  const pid_t child = fork();
   if (child == 0) std::exit(0);
-  int status = end_of(child);
+  const int status = end_of(child);
   stops = false;
-  takes_one.join();
-  takes_other.join();
+  for (std::thread &thread : threads) thread.join();
   EXPECT(status, 0);
-  lock_both();
+  lock_all();
   return 0;
 }

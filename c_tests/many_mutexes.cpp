@@ -1,37 +1,37 @@
-// One thread locks thousands of mutexes. A first lock of one takes on average about as long however many it has locked before.
-// And the memory of mutexes that have ended is given back while it goes on.
+// One thread locks thousands of mutexes. A first lock of one takes about as long among 4,000 that live as among 100, and so do
+// later locks. And the memory of mutexes that another thread ended is given back while the thread goes on.
 //
 // The test wraps the calls of the library that open and close a mutex, to count those that are open.
-#define lfm_c_open seen_open
-#define lfm_c_close seen_close
-#include "ligdrosa.hpp"
-#undef lfm_c_open
-#undef lfm_c_close
 #include <time.h>
 
 #include <algorithm>
+#include <atomic>
+#include <thread>
 #include <vector>
 
 #include "expect.hpp"
+#include "ligdrosa.hpp"
 
-static size_t opened, most_open;
+static std::atomic<size_t> open_mutexes{0};
 
 extern "C" {
-uint64_t lfm_c_open(void *mutex, uint64_t seats, uint64_t budget);
-uint64_t lfm_c_close(void *mutex);
+uint64_t __real_lfm_c_open(void *mutex, uint64_t seats, uint64_t budget);
+uint64_t __real_lfm_c_close(void *mutex);
+uint64_t __wrap_lfm_c_open(void *mutex, uint64_t seats, uint64_t budget);
+uint64_t __wrap_lfm_c_close(void *mutex);
 
-uint64_t seen_open(void *mutex, uint64_t seats, uint64_t budget) {
-  most_open = std::max(most_open, ++opened);
-  return lfm_c_open(mutex, seats, budget);
+uint64_t __wrap_lfm_c_open(void *mutex, uint64_t seats, uint64_t budget) {
+  open_mutexes++;
+  return __real_lfm_c_open(mutex, seats, budget);
 }
 
-uint64_t seen_close(void *mutex) {
-  opened--;
-  return lfm_c_close(mutex);
+uint64_t __wrap_lfm_c_close(void *mutex) {
+  open_mutexes--;
+  return __real_lfm_c_close(mutex);
 }
 }
 
-using mutexes = std::vector<std::unique_ptr<lfm::recursive_mutex>>;
+static const size_t FEW = 100, MANY = 4000;
 
 static void lock_and_unlock(lfm::recursive_mutex &mutex) {
   mutex.lock();
@@ -45,41 +45,50 @@ static double run_time() {
   return double(time.tv_sec) * 1e9 + double(time.tv_nsec);
 }
 
-// How long the first locks of these take.
-static double first_locks(const mutexes &all, size_t begin, size_t end) {
-  double begun = run_time();
-  for (size_t i = begin; i < end; i++) lock_and_unlock(*all[i]);
-  return run_time() - begun;
+// How long a lock and an unlock of FEW mutexes from this one on take, each, the shortest of some times.
+static double locks(std::vector<lfm::recursive_mutex> &all, size_t begin, int times) {
+  double least = 1e30;
+  for (int i = 0; i < times; i++) {
+    const double begun = run_time();
+    for (size_t k = begin; k < begin + FEW; k++) lock_and_unlock(all[k]);
+    least = std::min(least, (run_time() - begun) / double(FEW));
+  }
+  return least;
 }
 
 static void mutexes_that_live() {
-  const size_t SOME = 1000, ALL = 8000;
-  mutexes all;
-  for (size_t i = 0; i < ALL; i++) all.push_back(std::make_unique<lfm::recursive_mutex>(1));
-  double first = first_locks(all, 0, SOME);
-  first_locks(all, SOME, ALL - SOME);
-  double last = first_locks(all, ALL - SOME, ALL);
-  EXPECT(last < 10 * first, true);
+  std::vector<lfm::recursive_mutex> all(MANY);
+  for (lfm::recursive_mutex &mutex : all) std::thread([&] { lock_and_unlock(mutex); }).join(); // opens it
+  std::vector<double> first;
+  double later_among_few = 0;
+  for (size_t i = 0; i < MANY; i += FEW) {
+    first.push_back(locks(all, i, 1));
+    if (i == 0) later_among_few = locks(all, i, 20);
+  }
+  EXPECT(*std::min_element(first.end() - 5, first.end()) < 5 * *std::min_element(first.begin(), first.begin() + 5), true);
+  EXPECT(locks(all, MANY - FEW, 20) < 10 * later_among_few, true);
 }
 
+// Another thread ends each mutex that this one has locked.
 static void mutexes_that_end() {
-  const size_t ALL = 1000;
-  const size_t before = opened;
-  most_open = 0;
-  for (size_t i = 0; i < ALL; i++) {
-    lfm::recursive_mutex mutex(1);
-    lock_and_unlock(mutex);
+  const size_t before = open_mutexes;
+  size_t most = 0;
+  for (size_t i = 0; i < MANY; i++) {
+    lfm::recursive_mutex *mutex = new lfm::recursive_mutex(2);
+    lock_and_unlock(*mutex);
+    if (i % 2 == 0)
+      std::thread([=] { delete mutex; }).join();
+    else
+      delete mutex;
+    most = std::max(most, open_mutexes.load());
   }
-  EXPECT(most_open <= 2 * before + 3, true);
+  EXPECT(most <= 2 * before + 100, true);
 }
 
 int main() {
   mutexes_that_end();
-  mutexes living;
-  for (int i = 0; i < 10; i++) {
-    living.push_back(std::make_unique<lfm::recursive_mutex>(1));
-    lock_and_unlock(*living.back());
-  }
+  std::vector<lfm::recursive_mutex> living(10);
+  for (lfm::recursive_mutex &mutex : living) lock_and_unlock(mutex);
   mutexes_that_end();
   mutexes_that_live();
   return 0;

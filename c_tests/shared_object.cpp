@@ -37,6 +37,8 @@ int main() {
   EXPECT(is_free(of_shared_object), false);
   EXPECT(is_free(of_program), true);
   of_shared_object.unlock();
+  EXPECT(lfm::is_static(&of_shared_object), true);
+  EXPECT(lfm::is_static(&of_program), false);
   return 0;
 }
 

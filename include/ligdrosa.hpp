@@ -1,69 +1,265 @@
-// Ligdrosa for C++17, over ligdrosa.h, which says what a program promises.
+// Ligdrosa for C++11 to C++23, over ligdrosa.h, which says what a program promises.
 //
-// lfm::recursive_mutex is used as std::recursive_mutex, and lfm::condition_variable as std::condition_variable, without waits
-// that are timed:
+// lfm::recursive_mutex is used as std::recursive_timed_mutex, and lfm::condition_variable as std::condition_variable:
 //
-//     lfm::recursive_mutex mutex(8);             // 8 seats, one for each living thread that has locked it
-//     lfm::condition_variable filled(mutex);
+//     lfm::recursive_mutex mutex;
+//     lfm::condition_variable filled;
 //
-//     std::unique_lock lock(mutex);
+//     std::unique_lock<lfm::recursive_mutex> lock(mutex);
 //     filled.wait(lock, [&] { return !queue.empty(); });
 //
-// Unlike std::recursive_mutex, it is not used before its constructor or after its destructor. So the constructor of a global
-// doesn't lock a global mutex of another file, and a thread that goes on after main doesn't lock one for the first time.
+// A call that is refused throws lfm::refused. In a program without exceptions it ends the program with a text. So all files
+// of a program are compiled with exceptions, or all without: the linker keeps one form of these calls.
 //
-// If a thread is to have its seat in hand, lfm::mutex gives lfm::seat, and lfm::seat_lock is the seat as a Lockable. The
-// locks of the standard library take both, and so does std::condition_variable_any.
+// If a thread is to have its seat in hand, lfm::mutex gives lfm::seat, and lfm::seat_lock is the seat as a Lockable. The locks
+// of the standard library take both, and so does std::condition_variable_any.
 #pragma once
 
-#include <atomic>
-#include <iterator>
-#include <map>
+#include <dlfcn.h>
+
+#include <chrono>
+#include <condition_variable>
+#include <cstdio>
+#include <cstdlib>
 #include <memory>
 #include <mutex>
-#include <stdexcept>
 #include <string>
-#include <utility>
+#include <system_error>
+#include <type_traits>
 
 #include "ligdrosa.h"
 
+#if __cplusplus >= 201703L
+#define LFM_MUST_USE [[nodiscard]]
+#else
+#define LFM_MUST_USE
+#endif
+// For clang's -Wthread-safety, which doesn't follow the bodies of these calls.
+#define LFM_UNSEEN LFM_TELLS_CLANG(no_thread_safety_analysis)
+#define LFM_CALL(what) LFM_TELLS_CLANG(what) LFM_UNSEEN
+
 namespace lfm {
 
-// A call was refused.
-class refused : public std::runtime_error {
-  lfm_status told;
-
+// The statuses as errors of the standard library.
+class status_category : public std::error_category {
 public:
-  explicit refused(lfm_status status)
-      : std::runtime_error("ligdrosa refuses a call: " + std::to_string(status)), told(status) {}
-  // Why.
-  lfm_status status() const noexcept { return told; }
+  const char *name() const noexcept override { return "ligdrosa"; }
+  std::string message(int status) const override { return lfm_status_text(static_cast<lfm_status>(status)); }
+  std::error_condition default_error_condition(int status) const noexcept override {
+    switch (status) {
+      case LFM_NO_MEMORY: return std::errc::not_enough_memory;
+      case LFM_NO_SEAT: case LFM_DEPTH_FULL: case LFM_SPENT: return std::errc::resource_unavailable_try_again;
+      case LFM_NOT_OWNER: return std::errc::operation_not_permitted;
+      case LFM_BUSY: return std::errc::device_or_resource_busy;
+      default: return std::errc::invalid_argument;
+    }
+  }
 };
+
+// It never ends, for threads that go on after main.
+inline const std::error_category &category() {
+  static const status_category &it = *new status_category();
+  return it;
+}
+
+// A call was refused.
+class refused : public std::system_error {
+public:
+  explicit refused(lfm_status status) : std::system_error(status, category(), "ligdrosa refuses a call") {}
+  // Why.
+  lfm_status status() const noexcept { return static_cast<lfm_status>(code().value()); }
+};
+
+// Throws why a call was refused, or ends the program.
+[[noreturn]] inline void refuse(lfm_status status) {
+#ifdef __cpp_exceptions
+  throw refused(status);
+#else
+  std::fprintf(stderr, "ligdrosa refuses a call: %s\n", lfm_status_text(status));
+  std::abort();
+#endif
+}
 
 // The status, or an exception if the call was refused.
 inline lfm_status made(lfm_status status) {
-  if (lfm_is_refused(status)) throw refused(status);
+  if (lfm_is_refused(status)) refuse(status);
   return status;
 }
 
 // Whether a try has gained the mutex, or an exception if it was refused for another cause than LFM_BUSY.
-inline bool has_gained(lfm_status status) {
-  if (status == LFM_BUSY) return false;
-  made(status);
-  return true;
-}
+inline bool has_gained(lfm_status status) { return status != LFM_BUSY && !lfm_is_refused(made(status)); }
 
 // The greatest number of takes that a seat may be allowed.
-inline constexpr uint64_t most_takes = uint64_t(1) << 36;
+constexpr uint64_t most_takes = uint64_t{1} << 36;
 
-// The process in which an object was made. A forked child ends the objects of the thread that forked, but gives no seat back
-// with them: it would wait for a thread of the parent that was taking a seat, and the child doesn't have that thread.
-class process {
-  pid_t made_in = getpid();
+// Whether memory has static storage: it lies in the program or in a shared object. Before glibc 2.34 it wants -ldl.
+inline bool is_static(void *memory) noexcept {
+#ifdef DLFO_STRUCT_HAS_EH_DBASE // the C library has a search that takes no lock
+  dl_find_object found;
+  return _dl_find_object(memory, &found) == 0;
+#else
+  Dl_info found;
+  return dladdr(memory, &found) != 0;
+#endif
+}
+
+// The number of a clock in ligdrosa.h, or -1 if it is not one of the system.
+template <class Clock> constexpr int number_of() {
+  return std::is_same<Clock, std::chrono::steady_clock>::value   ? LFM_MONOTONIC
+         : std::is_same<Clock, std::chrono::system_clock>::value ? LFM_REALTIME : -1;
+}
+
+// How many nanoseconds a span has, at least. It is 0 if the span is not above 0, and at most 285 years.
+template <class Rep, class Period> uint64_t nanoseconds_of(const std::chrono::duration<Rep, Period> &span) {
+  using namespace std::chrono;
+  const double length = duration<double>(span).count();
+  if (!(length > 0)) return 0;
+  if (length > 9e9) return 9000000000000000000;
+  const seconds whole = duration_cast<seconds>(span);
+  return static_cast<uint64_t>((nanoseconds(whole) + duration_cast<nanoseconds>(span - whole)).count()) + 1;
+}
+
+template <class Clock, class Duration> timespec timespec_of(const std::chrono::time_point<Clock, Duration> &time) {
+  const uint64_t since_epoch = nanoseconds_of(time.time_since_epoch());
+  return {static_cast<time_t>(since_epoch / 1000000000), static_cast<long>(since_epoch % 1000000000)};
+}
+
+// A mutex that finds the seat of the calling thread by itself. A thread takes a seat at its first call and gives it back when
+// it ends, so as many threads may use it at a time as it has seats: more are refused as LFM_NO_SEAT.
+//
+// One of static storage is there before the program runs, and its destructor does nothing. So constructors and destructors of
+// globals may lock it, and so may threads that go on after main. Any other may end as soon as the calling thread has gained
+// it last and given it up. If it is held then, its memory is leaked. So is that of one that is made in static memory by the
+// program itself, as by a static std::optional, when it ends.
+class LFM_CAPABILITY recursive_mutex {
+  lfm_mutex raw;
+
+  // Throws LFM_LIMIT, which doesn't compile if the initializer has to be constant.
+  static constexpr uint32_t checked(uint64_t seats) {
+    return seats - 1 < LFM_MOST_SEATS ? static_cast<uint32_t>(seats) : (refuse(LFM_LIMIT), 0);
+  }
 
 public:
-  // Whether it is the process that the caller runs in.
-  bool is_here() const noexcept { return getpid() == made_in; }
+  constexpr recursive_mutex() noexcept : recursive_mutex(LFM_USUAL_SEATS) {}
+  // It is opened by its first lock. Throws LFM_LIMIT unless there are 1 to 4,095 seats.
+  explicit constexpr recursive_mutex(uint64_t most_threads) : raw{nullptr, checked(most_threads), LFM_VERSION} {}
+  // It is opened at once. Throws as lfm_mutex_new refuses.
+  recursive_mutex(uint64_t most_threads, uint64_t budget) : raw() { made(lfm_mutex_new(&raw, most_threads, budget)); }
+  recursive_mutex(const recursive_mutex &) = delete;
+  recursive_mutex &operator=(const recursive_mutex &) = delete;
+  ~recursive_mutex() {
+    if (raw.core && !is_static(this)) lfm_mutex_close(&raw);
+  }
+
+  // The mutex for calls of ligdrosa.h.
+  lfm_mutex *native_handle() noexcept { return &raw; }
+  // The calling thread's seat. Throws as lfm_seat_here refuses.
+  lfm_seat *own() {
+    lfm_status cause = LFM_DONE;
+    lfm_seat *seat = lfm_seat_here(&raw, &cause);
+    return seat ? seat : (refuse(cause), nullptr);
+  }
+  // How often the calling thread holds.
+  uint64_t depth() noexcept { return lfm_depth_here(&raw); }
+  // Throws as lfm_lock_here refuses.
+  void lock() LFM_CALL(acquire_capability()) { made(lfm_lock_here(&raw)); }
+  // The same, but queues at once.
+  void lock_in_order() LFM_CALL(acquire_capability()) { made(lfm_lock_in_order_here(&raw)); }
+  // False if at some moment of the call another thread held the mutex, asked for it or was giving it up. Otherwise throws as
+  // lfm_try_lock_here refuses.
+  LFM_MUST_USE bool try_lock() LFM_CALL(try_acquire_capability(true)) { return has_gained(lfm_try_lock_here(&raw)); }
+  // The same, but tries until the time is over. It gains the mutex only if it looks at a moment when nobody holds or
+  // waits: while other threads queue, it may be false however long the time is. A thread that must have the mutex calls lock.
+  template <class Rep, class Period>
+  LFM_MUST_USE bool try_lock_for(const std::chrono::duration<Rep, Period> &span) LFM_CALL(try_acquire_capability(true)) {
+    return has_gained(lfm_try_lock_for_here(&raw, nanoseconds_of(span)));
+  }
+  template <class Clock, class Duration>
+  LFM_MUST_USE bool try_lock_until(const std::chrono::time_point<Clock, Duration> &time)
+      LFM_CALL(try_acquire_capability(true)) {
+    const timespec at = timespec_of(time);
+    const int clock = number_of<Clock>();
+    if (clock >= 0) return has_gained(lfm_try_lock_until_here(&raw, clock, &at));
+    while (!try_lock_for(time - Clock::now()))
+      if (time <= Clock::now()) return false;
+    return true;
+  }
+  // Throws as lfm_unlock_here refuses.
+  void unlock() LFM_CALL(release_capability()) { made(lfm_unlock_here(&raw)); }
+};
+
+using recursive_timed_mutex = recursive_mutex;
+
+// Holds a mutex as long as it lives, as std::lock_guard does, and clang's -Wthread-safety understands it.
+class LFM_TELLS_CLANG(scoped_lockable) guard {
+  recursive_mutex &of;
+
+public:
+  explicit guard(recursive_mutex &mutex) LFM_CALL(acquire_capability(mutex)) : of(mutex) { of.lock(); }
+  guard(const guard &) = delete;
+  ~guard() LFM_CALL(release_capability()) { of.unlock(); }
+};
+
+// A condition variable for any mutex. A wait returns only after a notify or when its time is over, but another thread may hold
+// the mutex in between: wait in a loop that tests what is waited for. Only a wait until a time on a clock of the program's own
+// may return early. It may end once all that wait are notified, though they have not returned, and no other notify is under
+// way. In static memory its destructor does nothing: no other is made there before they have returned.
+class condition_variable {
+  using unique_lock = std::unique_lock<recursive_mutex>;
+  lfm_condvar raw{};
+
+  static lfm_mutex *mutex_of(const unique_lock &lock) { return lock.mutex()->native_handle(); }
+  static std::cv_status told(lfm_status status) {
+    return made(status) == LFM_TIMED_OUT ? std::cv_status::timeout : std::cv_status::no_timeout;
+  }
+
+public:
+  constexpr condition_variable() noexcept = default;
+  condition_variable(const condition_variable &) = delete;
+  condition_variable &operator=(const condition_variable &) = delete;
+  ~condition_variable() {
+    if (!is_static(this)) lfm_condvar_close(&raw);
+  }
+  // The condition variable for calls of ligdrosa.h.
+  lfm_condvar *native_handle() noexcept { return &raw; }
+
+  // Throws as lfm_wait_here refuses: LFM_NOT_OWNER, and LFM_NESTED if the lock is not the thread's only hold.
+  void wait(unique_lock &lock) LFM_UNSEEN { made(lfm_wait_here(&raw, mutex_of(lock))); }
+  // Waits until the predicate is true.
+  template <class Predicate> void wait(unique_lock &lock, Predicate predicate) {
+    while (!predicate()) wait(lock);
+  }
+
+  // Waits for at most this long, or until this time. Throws as wait does.
+  template <class Rep, class Period>
+  std::cv_status wait_for(unique_lock &lock, const std::chrono::duration<Rep, Period> &span) LFM_UNSEEN {
+    return told(lfm_wait_for_here(&raw, mutex_of(lock), nanoseconds_of(span)));
+  }
+  template <class Clock, class Duration>
+  std::cv_status wait_until(unique_lock &lock, const std::chrono::time_point<Clock, Duration> &time) LFM_UNSEEN {
+    const timespec at = timespec_of(time);
+    const int clock = number_of<Clock>();
+    if (clock >= 0) return told(lfm_wait_until_here(&raw, mutex_of(lock), clock, &at));
+    wait_for(lock, time - Clock::now()); // not in a loop: a notify may come between two waits
+    return Clock::now() < time ? std::cv_status::no_timeout : std::cv_status::timeout;
+  }
+
+  // Waits until the predicate is true or the time is over, and returns the predicate.
+  template <class Rep, class Period, class Predicate>
+  bool wait_for(unique_lock &lock, const std::chrono::duration<Rep, Period> &span, Predicate predicate) {
+    const std::chrono::nanoseconds most(static_cast<int64_t>(nanoseconds_of(span)));
+    return wait_until(lock, std::chrono::steady_clock::now() + most, predicate);
+  }
+  template <class Clock, class Duration, class Predicate>
+  bool wait_until(unique_lock &lock, const std::chrono::time_point<Clock, Duration> &time, Predicate predicate) {
+    while (!predicate())
+      if (wait_until(lock, time) == std::cv_status::timeout) return predicate();
+    return true;
+  }
+
+  // Wakes the thread that has waited longest, or all that wait.
+  void notify_one() noexcept { lfm_wake_one(&raw); }
+  void notify_all() noexcept { lfm_wake_all(&raw); }
 };
 
 // A mutex whose seats are taken in hand, and all end before it.
@@ -81,27 +277,25 @@ public:
 };
 
 // A seat of a mutex, for one thread at a time. It ends while it doesn't hold: one that holds is not given back, and nobody else
-// gains the mutex any more. In a forked child it ends without being given back.
+// gains the mutex any more. One that was moved from is no seat: its calls are refused as LFM_BLANK.
 class seat {
-  lfm_seat raw{};
-  process of_seat;
+  struct gives_back {
+    void operator()(lfm_seat *seat) const noexcept {
+      lfm_seat_give(seat);
+      if (lfm_number(seat) == 0) delete seat;
+    }
+  };
+  std::unique_ptr<lfm_seat, gives_back> raw{new lfm_seat()};
 
 public:
   // Throws as lfm_seat_take refuses.
-  explicit seat(mutex &of) { made(lfm_seat_take(of.native_handle(), &raw)); }
-  seat(const seat &) = delete;
-  seat &operator=(const seat &) = delete;
-  ~seat() {
-    if (of_seat.is_here()) lfm_seat_give(&raw);
-  }
-  // The seat for calls of ligdrosa.h.
-  lfm_seat *native_handle() noexcept { return &raw; }
-  // The seat's number, 1 and on.
-  uint64_t number() noexcept { return lfm_number(&raw); }
-  // How often it holds.
-  uint64_t depth() noexcept { return lfm_depth(&raw); }
-  // How many takes it has left.
-  uint64_t left() noexcept { return lfm_left(&raw); }
+  explicit seat(mutex &of) { made(lfm_seat_take(of.native_handle(), raw.get())); }
+  // The seat for calls of ligdrosa.h. It stays where it is when the object is moved.
+  lfm_seat *native_handle() noexcept { return raw.get(); }
+  // The seat's number, 1 and on; how often it holds; and how many takes it has left.
+  uint64_t number() noexcept { return lfm_number(raw.get()); }
+  uint64_t depth() noexcept { return lfm_depth(raw.get()); }
+  uint64_t left() noexcept { return lfm_left(raw.get()); }
 };
 
 // A seat as a Lockable.
@@ -109,208 +303,17 @@ class seat_lock {
   lfm_seat *of;
 
 public:
-  explicit seat_lock(seat &s) noexcept : of(s.native_handle()) {}
-  explicit seat_lock(lfm_seat &s) noexcept : of(&s) {}
+  explicit seat_lock(seat &taken) noexcept : of(taken.native_handle()) {}
+  explicit seat_lock(lfm_seat &taken) noexcept : of(&taken) {}
   // Throws as lfm_lock refuses.
   void lock() { made(lfm_lock(of)); }
+  // The same, but queues at once.
+  void lock_in_order() { made(lfm_lock_in_order(of)); }
   // False if at some moment of the call another seat held the mutex, asked for it or was giving it up. Otherwise throws as
   // lfm_try_lock refuses.
-  [[nodiscard]] bool try_lock() { return has_gained(lfm_try_lock(of)); }
+  LFM_MUST_USE bool try_lock() { return has_gained(lfm_try_lock(of)); }
   // Throws as lfm_unlock refuses.
   void unlock() { made(lfm_unlock(of)); }
-};
-
-// A mutex that finds the seat of the calling thread by itself. A thread takes a seat at its first call and gives it back when
-// its objects end, so as many threads may use it at a time as it has seats: more are refused as LFM_NO_SEAT, by an exception. A
-// new thread takes the seat that was given back last, and goes on with that seat's takes. So threads that run one after another
-// share the takes of one seat: 2^36 takes last 19 hours at one lock a microsecond. Once they are spent, each new thread's lock
-// is refused as LFM_SPENT, though other seats have takes.
-//
-// Objects of a thread that end after its seats are given back may lock too, and so may objects that end with the program: a
-// call takes a seat then, and gives it back once it doesn't hold. A forked child gives no seat back.
-//
-// A shared object that hides its symbols finds seats by itself: a thread has another seat there than elsewhere, so what it
-// locks in one place it can't lock once more, or unlock, in the other.
-class recursive_mutex {
-  friend class condition_variable;
-
-  // The mutex, which is closed once the recursive_mutex and the seats of all threads have ended.
-  struct shared {
-    lfm_mutex raw{};
-    std::atomic<bool> is_gone{false}; // the recursive_mutex has ended
-    ~shared() { lfm_mutex_close(&raw); }
-  };
-
-  // A thread's seat of one mutex.
-  struct own_seat {
-    std::shared_ptr<shared> of;
-    std::unique_ptr<lfm_seat> raw;
-    own_seat(std::shared_ptr<shared> mutex) : of(std::move(mutex)), raw(new lfm_seat()) {
-      made(lfm_seat_take(&of->raw, raw.get()));
-    }
-    own_seat(own_seat &&) = default;
-    ~own_seat() {
-      // If it holds, the mutex has ended before the hold: both are leaked.
-      if (raw && lfm_is_refused(lfm_seat_give(raw.get()))) raw.release();
-    }
-  };
-
-  // The seats of a thread, by the addresses of their mutexes. A seat keeps its mutex, so no other gets that address meanwhile.
-  using own_seats = std::map<const shared *, own_seat>;
-
-  // What a thread has. It has no destructor, so that it is there for objects of the thread that end late.
-  struct own_thread {
-    const shared *last; // the mutex that the thread called last, or null
-    lfm_seat *seat;     // the seat of that mutex
-    own_seats *all;     // null if it has none
-    size_t most;        // how many seats it may have before those of ended mutexes are given back
-    bool is_ending;     // the seats of the thread were given back, as its objects end
-  };
-
-  // What the calling thread has.
-  static own_thread &here() {
-    thread_local own_thread it{};
-    return it;
-  }
-
-  // Gives back the thread's seats for which the test holds.
-  template <class Test> static void give_back(Test is_over) {
-    own_seats &all = *here().all;
-    here().last = nullptr;
-    for (auto at = all.begin(); at != all.end();) at = is_over(at->second) ? all.erase(at) : std::next(at);
-  }
-
-  // Gives back the seats of mutexes that have ended, once the thread has more than twice as many seats as were left the last
-  // time. So on average it doesn't take longer to take a seat the more seats the thread has. The call that gives them back
-  // looks at all of them.
-  static void give_back_ended() {
-    own_thread &mine = here();
-    if (mine.all->size() <= mine.most) return;
-    give_back([](const own_seat &seat) { return seat.of->is_gone.load(); });
-    mine.most = 2 * mine.all->size();
-  }
-
-  // Gives back each seat of the thread that doesn't hold, when its objects end, and from there on after each call. One that
-  // holds is kept, for an object that gives the hold up later.
-  static void leave() {
-    give_back([](const own_seat &seat) { return lfm_depth(seat.raw.get()) == 0; });
-    if (!here().all->empty()) return;
-    delete here().all;
-    here().all = nullptr;
-  }
-
-  // Ends with the objects of a thread that has taken a seat, and gives its seats back.
-  struct at_end {
-    process of_thread;
-    ~at_end() {
-      if (!of_thread.is_here()) return; // the child's copies of the thread's seats are never given back
-      here().is_ending = true;
-      leave();
-    }
-  };
-
-  std::shared_ptr<shared> state = std::make_shared<shared>();
-
-  // Takes a seat for the calling thread, which has none.
-  own_seat &take() {
-    if (!here().all) here().all = new own_seats();
-    thread_local at_end ends;
-    give_back_ended();
-    return here().all->emplace(state.get(), own_seat(state)).first->second;
-  }
-
-  // The calling thread's seat, if it is not that of the mutex that the thread called last.
-  __attribute__((noinline)) own_seat &find() {
-    if (!here().all) return take();
-    auto at = here().all->find(state.get());
-    return at == here().all->end() ? take() : at->second;
-  }
-
-  // Makes a call with the calling thread's seat.
-  template <class Call> lfm_status by_own(Call call) {
-    lfm_status status = call(own());
-    if (here().is_ending) leave();
-    return status;
-  }
-
-public:
-  // Throws as lfm_mutex_new refuses.
-  explicit recursive_mutex(uint64_t most_threads = 64, uint64_t budget = most_takes) {
-    made(lfm_mutex_new(&state->raw, most_threads, budget));
-  }
-  recursive_mutex(const recursive_mutex &) = delete;
-  recursive_mutex &operator=(const recursive_mutex &) = delete;
-  // Each thread gives its seat back by itself, at its end or as it takes others.
-  ~recursive_mutex() { state->is_gone = true; }
-
-  // The mutex for calls of ligdrosa.h.
-  lfm_mutex *native_handle() noexcept { return &state->raw; }
-
-  // The calling thread's seat. Throws LFM_NO_SEAT if too many threads have one. While the thread's objects end, it is kept
-  // until the next call of a recursive_mutex.
-  lfm_seat *own() {
-    own_thread &mine = here();
-    if (mine.last == state.get()) return mine.seat;
-    mine.seat = find().raw.get();
-    mine.last = state.get();
-    return mine.seat;
-  }
-
-  // Throws as lfm_lock refuses, and LFM_NO_SEAT.
-  void lock() {
-    made(by_own([](lfm_seat *seat) { return lfm_lock(seat); }));
-  }
-  // False if at some moment of the call another seat held the mutex, asked for it or was giving it up. Otherwise throws as
-  // lfm_try_lock refuses, and LFM_NO_SEAT.
-  [[nodiscard]] bool try_lock() {
-    return has_gained(by_own([](lfm_seat *seat) { return lfm_try_lock(seat); }));
-  }
-  // Throws as lfm_unlock refuses, and LFM_NO_SEAT.
-  void unlock() {
-    made(by_own([](lfm_seat *seat) { return lfm_unlock(seat); }));
-  }
-};
-
-// A condition variable of one mutex. A wait returns only after a notify, but another thread may hold the mutex in between: wait
-// in a loop that tests what is waited for.
-class condition_variable {
-  // The condition variable, which is closed once the last wait has returned. The object may end earlier, as
-  // std::condition_variable may: once all that wait are notified. A thread that goes on may be so quick that another's wait
-  // still gives the list back.
-  struct shared {
-    lfm_condvar raw{};
-    ~shared() { lfm_condvar_close(&raw); }
-  };
-
-  std::shared_ptr<shared> state = std::make_shared<shared>();
-  recursive_mutex *of;
-
-public:
-  // Throws as lfm_condvar_new refuses.
-  explicit condition_variable(recursive_mutex &mutex) : of(&mutex) {
-    made(lfm_condvar_new(&state->raw, mutex.native_handle()));
-  }
-  condition_variable(const condition_variable &) = delete;
-  condition_variable &operator=(const condition_variable &) = delete;
-
-  // Throws as lfm_wait refuses: LFM_FOREIGN if the lock is of another mutex, LFM_NESTED if it is not the thread's only hold.
-  void wait(std::unique_lock<recursive_mutex> &lock) {
-    std::shared_ptr<shared> kept = state;
-    made(lock.mutex()->by_own([&](lfm_seat *seat) { return lfm_wait(&kept->raw, seat); }));
-  }
-  // Waits until the predicate is true.
-  template <class Predicate> void wait(std::unique_lock<recursive_mutex> &lock, Predicate predicate) {
-    while (!predicate()) wait(lock);
-  }
-  // Wakes the thread that has waited longest. The calling thread needs a seat, as for a lock. Throws as lfm_wake_one refuses,
-  // and LFM_NO_SEAT.
-  void notify_one() {
-    made(of->by_own([&](lfm_seat *seat) { return lfm_wake_one(&state->raw, seat); }));
-  }
-  // Wakes all threads that wait. Throws as notify_one does.
-  void notify_all() {
-    made(of->by_own([&](lfm_seat *seat) { return lfm_wake_all(&state->raw, seat); }));
-  }
 };
 
 } // namespace lfm

@@ -1,0 +1,91 @@
+// Whoever gains a mutex last ends it at once, though the unlock of the thread before it may not have returned. And the memory
+// of such mutexes goes back, once the threads that used them take other seats or end.
+//
+// The test wraps the calls of the library that open and close a mutex, to count those that are open.
+#include <atomic>
+#include <thread>
+#include <vector>
+
+#include "expect.hpp"
+#include "ligdrosa.hpp"
+
+static std::atomic<long> open_mutexes{0};
+
+extern "C" {
+uint64_t __real_lfm_c_open(void *mutex, uint64_t seats, uint64_t budget);
+uint64_t __real_lfm_c_close(void *mutex);
+uint64_t __wrap_lfm_c_open(void *mutex, uint64_t seats, uint64_t budget);
+uint64_t __wrap_lfm_c_close(void *mutex);
+
+uint64_t __wrap_lfm_c_open(void *mutex, uint64_t seats, uint64_t budget) {
+  open_mutexes++;
+  return __real_lfm_c_open(mutex, seats, budget);
+}
+
+uint64_t __wrap_lfm_c_close(void *mutex) {
+  open_mutexes--;
+  return __real_lfm_c_close(mutex);
+}
+}
+
+// An object that its users end together: the last that gives it up.
+struct shared {
+  lfm::recursive_mutex mutex{4};
+  lfm::condition_variable is_left{};
+  int users;
+  explicit shared(int count) : users(count) {}
+};
+
+static void give_up(shared *object) {
+  bool is_last;
+  {
+    std::lock_guard<lfm::recursive_mutex> lock(object->mutex);
+    is_last = --object->users == 0;
+    object->is_left.notify_all();
+  }
+  if (is_last) delete object;
+}
+
+// The owner ends the object as soon as all others have left it.
+static void wait_and_end(shared *object) {
+  {
+    std::unique_lock<lfm::recursive_mutex> lock(object->mutex);
+    object->is_left.wait(lock, [&] { return object->users == 1; });
+  }
+  delete object;
+}
+
+static const int THREADS = 3, ROUNDS = 10000;
+static std::atomic<shared *> objects[ROUNDS];
+
+// In each round the threads meet at the object of that round. `is_owner` is whether the first waits for the others.
+static void meet(bool is_owner) {
+  std::atomic<long> most_open{0};
+  std::atomic<int> arrived{0};
+  for (auto &object : objects) object = nullptr;
+  auto work = [&](int number) {
+    for (int i = 0; i < ROUNDS; i++) {
+      if (number == 0) objects[i] = new shared(THREADS);
+      arrived++;
+      for (int looks = 0; arrived < (i + 1) * THREADS; looks++)
+        if (looks > 100) std::this_thread::yield();
+      shared *object = objects[i];
+      if (is_owner && number == 0)
+        wait_and_end(object);
+      else
+        give_up(object);
+      if (number == 0 && open_mutexes > most_open) most_open = open_mutexes.load();
+    }
+  };
+  std::vector<std::thread> threads;
+  for (int number = 0; number < THREADS; number++) threads.emplace_back(work, number);
+  for (std::thread &thread : threads) thread.join();
+  EXPECT(open_mutexes.load(), 0);
+  EXPECT(most_open < 100, true);
+}
+
+int main() {
+  meet(false);
+  meet(true);
+  return 0;
+}

@@ -1,27 +1,46 @@
-//! Links the archives that scripts/build_c puts into out/, or into the folder that LIGDROSA_OUT names, and links them anew if
-//! they have changed. It sets `tells_order` if the crate is built for ThreadSanitizer.
-use std::{env, path::PathBuf};
+//! Links libligdrosa.a, and links it anew if it has changed. It lies in the folder that LIGDROSA_OUT names, or in out/, where
+//! scripts/build_c makes it, or where pkg-config finds the library.
+use std::{
+    env,
+    path::{Path, PathBuf},
+    process::{exit, Command},
+};
+
+/// Whether the library lies in this folder.
+fn has_library(folder: &Path) -> bool {
+    folder.join("libligdrosa.a").exists()
+}
+
+/// The folder of an installed library.
+fn installed() -> Option<PathBuf> {
+    let mut asks = Command::new("pkg-config");
+    let told = asks.args(["--variable=libdir", "ligdrosa"]).output().ok()?;
+    let folder = PathBuf::from(String::from_utf8(told.stdout).ok()?.trim());
+    has_library(&folder).then_some(folder)
+}
 
 /// Tells cargo what to link, and when to do so anew.
 fn main() {
-    println!("cargo:rustc-check-cfg=cfg(tells_order)");
-    if env::var("CARGO_CFG_SANITIZE").is_ok_and(|of| of.split(',').any(|name| name == "thread")) {
-        println!("cargo:rustc-cfg=tells_order");
+    let here = env::current_dir().unwrap_or_default();
+    let built = here.join(env::var_os("LIGDROSA_OUT").unwrap_or("../out".into()));
+    for variable in ["LIGDROSA_OUT", "PKG_CONFIG_PATH", "PKG_CONFIG_LIBDIR"] {
+        println!("cargo:rerun-if-env-changed={variable}");
     }
-    println!("cargo:rerun-if-env-changed=LIGDROSA_OUT");
-    let beside =
-        PathBuf::from(env::var_os("CARGO_MANIFEST_DIR").unwrap_or_default()).join("../out");
-    let out = env::var_os("LIGDROSA_OUT").map_or(beside, PathBuf::from);
-    println!("cargo:rustc-link-search=native={}", out.display());
-    for archive in ["lfm_c", "libc_c"] {
-        println!("cargo:rustc-link-lib=static={archive}");
-        let file = out.join(format!("lib{archive}.a"));
-        println!("cargo:rerun-if-changed={}", file.display());
-        if !file.exists() {
-            println!(
-                "cargo:warning={} is missing: scripts/build_c makes it",
-                file.display()
-            );
-        }
+    let found = Some(built.clone()).filter(|built| has_library(built));
+    let Some(folder) = found.or_else(installed) else {
+        let built = built.display();
+        eprintln!("{built} has no libligdrosa.a, and pkg-config finds none.");
+        eprintln!("scripts/build_c makes it in out/, and scripts/install_c installs it.");
+        eprintln!("LIGDROSA_OUT may name its folder, or PKG_CONFIG_PATH that of ligdrosa.pc.");
+        exit(1);
+    };
+    if env::var_os("LIGDROSA_OUT").is_some() && folder != built {
+        println!(
+            "cargo:warning=LIGDROSA_OUT has no libligdrosa.a, so that of pkg-config is linked"
+        );
     }
+    // not of one that is not there: cargo would compile all anew each time
+    println!("cargo:rerun-if-changed={}/libligdrosa.a", folder.display());
+    println!("cargo:rustc-link-search=native={}", folder.display());
+    println!("cargo:rustc-link-lib=static=ligdrosa");
 }

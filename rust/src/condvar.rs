@@ -1,196 +1,136 @@
-//! A condition variable: those that wait, the oldest first, guarded by a mutex of its own. A wait and a wake ring only after
-//! they have given the list back: the thread that is woken may need the list at once, and would sleep again if it were still
-//! held.
-use crate::library::Refusal;
-use crate::seat::{raw_seats, Guard, RawMutex, RawSeat, Seat, WakeUp};
+//! A condition variable.
+use crate::{library::*, Guard};
 use std::{
-    cell::UnsafeCell,
-    collections::VecDeque,
-    mem,
-    sync::{
-        atomic::{AtomicUsize, Ordering::Relaxed},
-        Arc,
-    },
-    time::Duration,
+    fmt,
+    time::{Duration, Instant},
 };
 
-/// The greatest number of takes that a seat may be allowed.
-const MOST_TAKES: u64 = 1 << 36;
+/// A condition variable, for any mutex. It may be a static.
+///
+/// ```
+/// use ligdrosa::{Condvar, Mutex};
+///
+/// static NUMBERS: Mutex<Vec<u64>> = Mutex::new(Vec::new());
+/// static FILLED: Condvar = Condvar::new();
+///
+/// fn put(number: u64) -> Result<(), ligdrosa::Refusal> {
+///     NUMBERS.lock()?.push(number);
+///     FILLED.notify_one();
+///     Ok(())
+/// }
+///
+/// fn take() -> Result<Option<u64>, ligdrosa::Refusal> {
+///     let mut numbers = NUMBERS.lock()?;
+///     FILLED.wait_while(&mut numbers, |numbers| numbers.is_empty())?;
+///     Ok(numbers.pop())
+/// }
+/// # put(7).unwrap();
+/// # assert_eq!(take(), Ok(Some(7)));
+/// ```
+///
+/// There is no wake without a call of `notify_one` or `notify_all`, but another thread may hold the mutex in between: wait in a
+/// loop that tests what is waited for, as `wait_while` does.
+#[derive(Default)]
+pub struct Condvar(RawCondvar);
 
-/// A condition variable of one mutex. There is no wake without a call of `wake_one` or `wake_all`.
-pub struct Condvar {
-    /// The mutex whose seats wait at it.
-    of: Arc<RawMutex>,
-    /// The list's seats. The user's seat n uses the list's seat n, so no two calls use one.
-    seats: Vec<UnsafeCell<RawSeat>>,
-    /// The numbers of the seats that wait, touched only by a holder of the list's mutex.
-    waiting: UnsafeCell<VecDeque<u64>>,
-    /// How many seats wait: stored by a holder of the list, and loaded by a wake before it has the list. A relaxed store and
-    /// load are enough. A wait stores the count before it gives the mutex up. If a thread that gains the mutex after that makes
-    /// a wake, the gain orders the load after the store.
-    pub(crate) count: AtomicUsize,
-}
+/// Whether a wait ended since its time was over.
+#[derive(Clone, Copy, Debug, PartialEq, Eq, Hash)]
+pub struct WaitTimeoutResult(bool);
 
-// SAFETY: any thread may use it. Each of the list's seats is used by the call that has the user's seat of that number, and the
-// list by the holder of its mutex.
-unsafe impl Send for Condvar {}
-// SAFETY: as for `Send`.
-unsafe impl Sync for Condvar {}
-
-/// What a program may name, but not call.
-mod sealed {
-    /// What `seat` is called with. It has no name outside of this crate, so no program can call it by its bound: that could put
-    /// another seat in the place of one that holds, and reach a value that it doesn't hold.
-    ///
-    /// ```compile_fail,E0061
-    /// fn seat_of<T, C: ligdrosa::Caller<T>>(by: &mut C) -> &mut ligdrosa::Seat<T> {
-    ///     by.seat()
-    /// }
-    /// ```
-    pub struct Inside;
-
-    /// Gives the seat that wakes.
-    pub trait Sealed<T> {
-        /// The seat itself, or that of a guard.
-        fn seat(&mut self, _: Inside) -> &mut super::Seat<T>;
-    }
-}
-
-/// Who may wake: a seat, or the guard by which it holds the mutex.
-pub trait Caller<T>: sealed::Sealed<T> {}
-
-impl<T> sealed::Sealed<T> for Seat<T> {
-    fn seat(&mut self, _: sealed::Inside) -> &mut Seat<T> {
-        self
-    }
-}
-
-impl<T> sealed::Sealed<T> for Guard<'_, T> {
-    fn seat(&mut self, _: sealed::Inside) -> &mut Seat<T> {
+impl WaitTimeoutResult {
+    /// Whether the time was over.
+    pub fn timed_out(self) -> bool {
         self.0
     }
 }
 
-impl<T> Caller<T> for Seat<T> {}
-impl<T> Caller<T> for Guard<'_, T> {}
-
 impl Condvar {
-    /// A condition variable of the mutex that has this seat, for its seats 1 to `seats`. Refused: `Limit`, `Memory`.
-    pub fn new<T>(seat: &Seat<T>, seats: usize) -> Result<Condvar, Refusal> {
-        Ok(Condvar {
-            of: seat.raw_mutex().clone(),
-            seats: raw_seats(seats, MOST_TAKES)?
-                .into_iter()
-                .map(UnsafeCell::new)
-                .collect(),
-            waiting: UnsafeCell::new(VecDeque::with_capacity(seats)),
-            count: AtomicUsize::new(0),
-        })
+    /// A condition variable at which nobody waits.
+    pub const fn new() -> Condvar {
+        Condvar(RawCondvar::new())
     }
 
-    /// The list's seat that goes with the user's, which its caller has to itself.
-    #[allow(clippy::mut_from_ref)]
-    fn list_seat<T>(&self, seat: &mut Seat<T>) -> Result<&mut RawSeat, Refusal> {
-        if !seat.is_of(&self.of) {
-            return Err(Refusal::Foreign);
-        }
-        let at = seat.number() as usize - 1;
-        let list_seat = self.seats.get(at).ok_or(Refusal::Foreign)?;
-        // SAFETY: the list's seat of this number is used by the call that has the user's seat of it alone.
-        Ok(unsafe { &mut *list_seat.get() })
-    }
-
-    /// The list.
-    ///
-    /// # Safety
-    ///
-    /// The caller holds the list's mutex, and has no other reference to the list.
-    #[allow(clippy::mut_from_ref)]
-    unsafe fn list(&self) -> &mut VecDeque<u64> {
-        &mut *self.waiting.get()
-    }
-
-    /// Gives the mutex up, waits until a wake, and gains the mutex again, for one take. Refused: `Foreign`, `Nested` if the
+    /// Gives the mutex up, waits until a wake, and gains the mutex again as `lock`, for one take. Refused: `Nested` if the
     /// seat holds more than once, `Spent`.
-    pub fn wait<T>(&self, guard: &mut Guard<'_, T>) -> Result<(), Refusal> {
-        let seat = &mut *guard.0;
-        let by = self.list_seat(seat)?;
-        by.lock()?;
-        // SAFETY: `by` holds the list's mutex.
-        let list = unsafe { self.list() };
-        // The wait is counted while its seat still holds the mutex, so whoever gains the mutex next finds it counted.
-        self.count.store(list.len() + 1, Relaxed);
-        let started = seat.raw.start_wait();
-        if started.is_ok() {
-            list.push_back(seat.number());
-        }
-        self.count.store(list.len(), Relaxed);
-        by.unlock();
-        // After the list is given back.
-        seat.raw.wake(started?);
-        let status = seat.raw.receive(Duration::ZERO);
-        seat.raw.gained(status).map(|_| ())
+    pub fn wait<T: ?Sized, By: Lock>(&self, guard: &mut Guard<'_, T, By>) -> Result<(), Refusal> {
+        made(guard.by.wait(&self.0)).map(|_| ())
     }
 
-    /// Sends the oldest of those that wait, whose seat then gains the mutex or is queued. `left` is the wake-up that the caller
-    /// makes once it has given the list back. A wake grants the mutex again only after the seat of its last grant has gained it
-    /// and given it up. That seat is rung for at once, so that the caller keeps only one wake-up.
-    ///
-    /// # Safety
-    ///
-    /// As for `list`.
-    unsafe fn send_oldest<T>(
+    /// Waits until the function says that there is nothing to wait for. Refused: as `wait`.
+    pub fn wait_while<T: ?Sized, By: Lock>(
         &self,
-        seat: &mut Seat<T>,
-        left: &mut WakeUp,
-    ) -> Result<bool, Refusal> {
-        let list = self.list();
-        let Some(&number) = list.front() else {
-            return Ok(false);
-        };
-        let wake_up = seat.raw.send(number)?;
-        list.pop_front();
-        self.count.store(list.len(), Relaxed);
-        if wake_up.is_some() {
-            seat.raw.wake(mem::replace(left, wake_up));
+        guard: &mut Guard<'_, T, By>,
+        mut waits: impl FnMut(&mut T) -> bool,
+    ) -> Result<(), Refusal> {
+        while waits(guard) {
+            self.wait(guard)?;
         }
-        Ok(true)
+        Ok(())
     }
 
-    /// Wakes the oldest of those that wait, this many at most.
-    fn wake<T>(&self, seat: &mut Seat<T>, most: usize) -> Result<usize, Refusal> {
-        let by = self.list_seat(seat)?;
-        if self.count.load(Relaxed) == 0 {
-            return Ok(0);
-        }
-        by.lock()?;
-        let mut woken = 0;
-        let mut refused = None;
-        let mut left = WakeUp::default();
-        while woken < most {
-            // SAFETY: `by` holds the list's mutex.
-            match unsafe { self.send_oldest(seat, &mut left) } {
-                Ok(true) => woken += 1,
-                Ok(false) => break,
-                Err(refusal) => {
-                    refused = Some(refusal);
-                    break;
-                }
+    /// Waits as `wait`, until the time is over at most. Then it gains the mutex again all the same, however long that takes.
+    pub fn wait_timeout<T: ?Sized, By: Lock>(
+        &self,
+        guard: &mut Guard<'_, T, By>,
+        time: Duration,
+    ) -> Result<WaitTimeoutResult, Refusal> {
+        let status = made(guard.by.wait_for(&self.0, nanoseconds(time)))?;
+        Ok(WaitTimeoutResult(status == TIMED_OUT))
+    }
+
+    /// Waits as `wait_while`, until the time is over at most. It has timed out if there is still something to wait for.
+    pub fn wait_timeout_while<T: ?Sized, By: Lock>(
+        &self,
+        guard: &mut Guard<'_, T, By>,
+        time: Duration,
+        mut waits: impl FnMut(&mut T) -> bool,
+    ) -> Result<WaitTimeoutResult, Refusal> {
+        let begun = Instant::now();
+        while waits(guard) {
+            let left = time.saturating_sub(begun.elapsed());
+            if self.wait_timeout(guard, left)?.timed_out() {
+                return Ok(WaitTimeoutResult(waits(guard)));
             }
         }
-        by.unlock();
-        seat.raw.wake(left);
-        refused.map_or(Ok(woken), Err)
+        Ok(WaitTimeoutResult(false))
     }
 
-    /// Wakes the seat that has waited longest, and answers how many were woken: 0 or 1. A thread that gains the mutex after a
-    /// wait has given it up finds that wait. If nobody waits, a wake is one load. Refused: `Foreign`, `Spent`.
-    pub fn wake_one<T>(&self, by: &mut impl Caller<T>) -> Result<usize, Refusal> {
-        self.wake(by.seat(sealed::Inside), 1)
+    /// Wakes the thread that has waited longest, and returns whether one waited. The caller may hold the mutex or not. A thread
+    /// that gains the mutex after a wait has given it up finds that wait. If nobody waits, a wake is one load.
+    #[inline]
+    pub fn notify_one(&self) -> bool {
+        lfm_wake_one(&self.0) == DONE
     }
 
-    /// Wakes all that wait now, and answers how many. Refused: `Foreign`, `Spent`.
-    pub fn wake_all<T>(&self, by: &mut impl Caller<T>) -> Result<usize, Refusal> {
-        self.wake(by.seat(sealed::Inside), usize::MAX)
+    /// Wakes all threads that wait now, and returns whether any did.
+    #[inline]
+    pub fn notify_all(&self) -> bool {
+        lfm_wake_all(&self.0) == DONE
+    }
+
+    /// The same as `notify_one`, by a holder. The thread is woken when the holder gives the mutex up, so it doesn't find the
+    /// mutex held. `notify_one` does so too if the caller holds by a [`Mutex`](crate::Mutex), but it can't know of a
+    /// [`Seat`](crate::Seat) in hand.
+    pub fn notify_one_by<T: ?Sized, By: Lock>(&self, holder: &mut Guard<'_, T, By>) -> bool {
+        let status = match holder.by.in_hand() {
+            Some(seat) => lfm_wake_one_by(&self.0, seat),
+            None => lfm_wake_one(&self.0),
+        };
+        status == DONE
+    }
+
+    /// The same as `notify_all` by a holder.
+    pub fn notify_all_by<T: ?Sized, By: Lock>(&self, holder: &mut Guard<'_, T, By>) -> bool {
+        let status = match holder.by.in_hand() {
+            Some(seat) => lfm_wake_all_by(&self.0, seat),
+            None => lfm_wake_all(&self.0),
+        };
+        status == DONE
+    }
+}
+
+impl fmt::Debug for Condvar {
+    fn fmt(&self, f: &mut fmt::Formatter<'_>) -> fmt::Result {
+        f.debug_struct("Condvar").finish_non_exhaustive()
     }
 }

@@ -1,8 +1,9 @@
-//! A recursive mutex round a value, and a condition variable, over Ligdrosa's static library, whose code is proved. What isn't
-//! proved is this crate: it puts threads to sleep and wakes them, as include/ligdrosa.h does for C.
+//! A recursive mutex round a value, and a condition variable, over Ligdrosa's library for C. What that library proves, and what
+//! it only tests, include/ligdrosa.h says. This crate adds guards.
 //!
-//! `scripts/build_c` makes the library, for Linux. A mutex is used through its seats. A [`Seat`] is `Send` and not `Sync`, and
-//! a [`Guard`] borrows it, so the borrow checker sees that a seat is in one call at a time.
+//! `scripts/build_c` makes the library, for Linux. It is linked from the folder that `LIGDROSA_OUT` names, or from `out/`
+//! beside this crate, or from where pkg-config finds it. A [`Mutex`] is shared by reference, and finds the calling thread's
+//! seat by itself. Or each thread has a [`Seat`] in hand:
 //!
 //! ```
 //! let seats = ligdrosa::mutex(2, 1_000, 0u64)?;
@@ -13,19 +14,18 @@
 //! });
 //! # Ok::<(), ligdrosa::Refusal>(())
 //! ```
+//!
+//! A forked child may drop what it has of its parent's mutexes, but for guards. It makes no other call of them.
+
+#[cfg(not(all(target_os = "linux", target_pointer_width = "64")))]
+compile_error!("ligdrosa needs Linux with addresses of 64 bits");
 
 mod condvar;
 mod library;
-mod order;
+mod mutex;
 mod seat;
-mod sleep;
 
-#[cfg(test)]
-#[path = "../tests/seen_calls/mod.rs"]
-mod seen_calls;
-#[cfg(test)]
-mod wake_order;
-
-pub use condvar::{Caller, Condvar};
+pub use condvar::{Condvar, WaitTimeoutResult};
 pub use library::Refusal;
-pub use seat::{mutex, Guard, Seat};
+pub use mutex::{Guard, Mutex, MutexGuard};
+pub use seat::{mutex, Seat};

@@ -1,119 +1,202 @@
-//! The calls of the library, and what they tell.
-use std::{ffi::c_void, fmt};
-
-extern "C" {
-    // scripts/write_c_sides writes the exports from here
-    pub fn lfm_c_mutex_size() -> usize;
-    pub fn lfm_c_mutex_align() -> usize;
-    pub fn lfm_c_seat_size() -> usize;
-    pub fn lfm_c_seat_align() -> usize;
-    pub fn lfm_c_blank_mutex(mutex: *mut c_void);
-    pub fn lfm_c_blank_seat(seat: *mut c_void);
-    pub fn lfm_c_open(mutex: *mut c_void, seats: u64, budget: u64) -> u64;
-    pub fn lfm_c_take_seat(mutex: *mut c_void, seat: *mut c_void) -> u64;
-    pub fn lfm_c_give_seat(mutex: *mut c_void, seat: *mut c_void) -> u64;
-    pub fn lfm_c_close(mutex: *mut c_void) -> u64;
-    pub fn lfm_c_number(seat: *mut c_void) -> u64;
-    pub fn lfm_c_depth(seat: *mut c_void) -> u64;
-    pub fn lfm_c_left(seat: *mut c_void) -> u64;
-    pub fn lfm_c_ask(seat: *mut c_void) -> u64;
-    pub fn lfm_c_receive(seat: *mut c_void) -> u64;
-    pub fn lfm_c_try_lock(seat: *mut c_void) -> u64;
-    pub fn lfm_c_unlock(seat: *mut c_void) -> u64;
-    pub fn lfm_c_start_wait(seat: *mut c_void) -> u64;
-    pub fn lfm_c_send(seat: *mut c_void, number: u64) -> u64;
-    // to here
-}
+//! The calls of include/ligdrosa.h, and what they tell.
+use std::{
+    cell::UnsafeCell,
+    ffi::{c_char, c_int, CStr},
+    fmt, ptr,
+    sync::atomic::{AtomicPtr, AtomicU32, AtomicU64},
+    time::Duration,
+};
 
 // scripts/write_c_sides writes the numbers from here
-/// The seat sleeps.
-pub const ASLEEP: u64 = 3;
-/// The first of the numbers that tell why a call was refused.
-const BLANK: u64 = 16;
-const LIMIT: u64 = 18;
-const NO_MEMORY: u64 = 19;
-const NESTED: u64 = 34;
-const DEPTH_FULL: u64 = 35;
-const SPENT: u64 = 36;
-const BUSY: u64 = 39;
-// to here
+/// The version of the header.
+pub const VERSION: u32 = 100;
+/// How many seats a mutex has if nothing else is said.
+pub const USUAL_SEATS: u32 = 64;
+pub const DONE: u32 = 0;
+pub const AGAIN: u32 = 1;
+pub const TIMED_OUT: u32 = 7;
+/// The first of the statuses that tell why a call was refused.
+const BLANK: u32 = 16;
 
 /// Why a call was refused. A refused call has changed nothing.
-#[derive(Clone, Copy, Debug, PartialEq, Eq)]
+#[derive(Clone, Copy, Debug, PartialEq, Eq, Hash)]
+#[non_exhaustive]
 pub enum Refusal {
     /// Not 1 to 4,095 seats, or not 1 to 2^36 takes for each.
-    Limit,
+    Limit = 18,
     /// Memory was refused to the library. If it is refused to this crate, the program ends, as elsewhere in Rust.
-    Memory,
-    /// The seat is of another mutex, or its number is above the seats that the condition variable was made for.
-    Foreign,
+    NoMemory = 19,
+    /// All seats of the mutex are taken.
+    NoSeat = 20,
+    /// The calling thread holds the mutex already, by another guard.
+    Holding = 22,
     /// The library is of another version than this crate.
-    OtherVersion,
+    OtherHeader = 24,
     /// The seat holds more than once, and a wait gives up one hold alone.
-    Nested,
+    Nested = 34,
     /// The seat holds 65,535 times already.
-    DepthFull,
-    /// The seat has no take left.
-    Spent,
-    /// At some moment of the call another seat held the mutex, asked for it, or was giving it up.
-    Busy,
+    DepthFull = 35,
+    /// The seat has no take left, and no seat that has some is free, or memory for it was refused.
+    Spent = 36,
+    /// At some moment of the call another seat held the mutex, asked for it or was giving it up. A call with a time limit was
+    /// busy until its time was over.
+    Busy = 39,
     /// A status that no call of this crate is refused by.
-    Other(u64),
+    Other = 255,
 }
+// to here
 
 impl Refusal {
+    /// Those that have a status.
+    const ALL: [Refusal; 9] = {
+        use Refusal::*;
+        [
+            Limit,
+            NoMemory,
+            NoSeat,
+            Holding,
+            OtherHeader,
+            Nested,
+            DepthFull,
+            Spent,
+            Busy,
+        ]
+    };
+
     /// The refusal that a status tells.
     #[cold]
     #[inline(never)]
-    fn of(status: u64) -> Refusal {
-        match status {
-            LIMIT => Refusal::Limit,
-            NO_MEMORY => Refusal::Memory,
-            NESTED => Refusal::Nested,
-            DEPTH_FULL => Refusal::DepthFull,
-            SPENT => Refusal::Spent,
-            BUSY => Refusal::Busy,
-            other => Refusal::Other(other),
-        }
+    fn of(status: u32) -> Refusal {
+        let mut all = Refusal::ALL.into_iter();
+        all.find(|refusal| *refusal as u32 == status)
+            .unwrap_or(Refusal::Other)
     }
 }
 
 impl fmt::Display for Refusal {
     fn fmt(&self, f: &mut fmt::Formatter<'_>) -> fmt::Result {
-        match self {
-            Refusal::Limit => f.write_str("a number is outside its limits"),
-            Refusal::Memory => f.write_str("out of memory"),
-            Refusal::Foreign => f.write_str("the seat is of another mutex"),
-            Refusal::OtherVersion => f.write_str("the library is of another version"),
-            Refusal::Nested => f.write_str("the seat holds the mutex more than once"),
-            Refusal::DepthFull => f.write_str("the seat holds the mutex as often as it may"),
-            Refusal::Spent => f.write_str("the seat has no take left"),
-            Refusal::Busy => f.write_str("the mutex is busy"),
-            Refusal::Other(status) => write!(f, "the library answered {status}"),
-        }
+        // SAFETY: the library has a text for each number. It ends with a zero, and is never changed.
+        let text = unsafe { CStr::from_ptr(lfm_status_text(*self as u32)) };
+        f.pad(&text.to_string_lossy())
     }
 }
 
 impl std::error::Error for Refusal {}
 
-/// The status that an answer tells.
-#[inline]
-pub fn status_of(answer: u64) -> u64 {
-    answer & 255
-}
-
-/// The number that an answer tells above its status: that of the seat that the call granted the mutex, or 0.
-#[inline]
-pub fn named(answer: u64) -> u64 {
-    answer >> 8
-}
-
 /// The status of a call that was made, or why it was refused.
 #[inline]
-pub fn made(status: u64) -> Result<u64, Refusal> {
+pub fn made(status: u32) -> Result<u32, Refusal> {
     if status < BLANK {
         Ok(status)
     } else {
         Err(Refusal::of(status))
     }
+}
+
+/// An lfm_mutex. The library refers to its core alone, so it may be moved between calls.
+#[repr(C)]
+pub struct RawMutex {
+    core: AtomicPtr<u8>,
+    seats: AtomicU32,
+    version: AtomicU32,
+}
+
+impl RawMutex {
+    /// As LFM_MUTEX_INIT_WITH.
+    pub const fn with_seats(seats: u32) -> RawMutex {
+        RawMutex {
+            core: AtomicPtr::new(ptr::null_mut()),
+            seats: AtomicU32::new(seats),
+            version: AtomicU32::new(VERSION),
+        }
+    }
+}
+
+/// An lfm_seat. It isn't `Sync`, and a guard that threads share makes no call by it, so it is in one call at a time.
+#[derive(Default)]
+#[repr(C, align(16))]
+pub struct RawSeat(UnsafeCell<[[u64; 16]; 2]>);
+
+/// An lfm_condvar. Only waits refer to it, so it may be moved while there are none.
+#[derive(Default)]
+#[repr(C)]
+pub struct RawCondvar([AtomicU64; 4]);
+
+impl RawCondvar {
+    /// One at which nobody waits.
+    pub const fn new() -> RawCondvar {
+        RawCondvar([const { AtomicU64::new(0) }; 4])
+    }
+}
+
+// SAFETY: so the header declares them. Those that aren't `safe` ask for more than that their references are right: a mutex is
+// opened and closed while no other call of it is made, and a seat that was taken is not moved until it is given back.
+unsafe extern "C" {
+    safe fn lfm_status_text(status: u32) -> *const c_char;
+    pub fn lfm_mutex_open(mutex: &RawMutex, seats: u64, budget: u64, version: c_int) -> u32;
+    pub fn lfm_mutex_close(mutex: &RawMutex) -> u32;
+    pub safe fn lfm_takes_left(mutex: &RawMutex) -> u64;
+    pub fn lfm_seat_take(mutex: &RawMutex, seat: &RawSeat) -> u32;
+    pub safe fn lfm_seat_give(seat: &RawSeat) -> u32;
+    pub safe fn lfm_number(seat: &RawSeat) -> u64;
+    pub safe fn lfm_left(seat: &RawSeat) -> u64;
+    pub safe fn lfm_wake_one(condvar: &RawCondvar) -> u32;
+    pub safe fn lfm_wake_all(condvar: &RawCondvar) -> u32;
+    pub safe fn lfm_wake_one_by(condvar: &RawCondvar, seat: &RawSeat) -> u32;
+    pub safe fn lfm_wake_all_by(condvar: &RawCondvar, seat: &RawSeat) -> u32;
+}
+
+/// As many nanoseconds, or as many as the library can be told: more than 500 years.
+pub fn nanoseconds(time: Duration) -> u64 {
+    u64::try_from(time.as_nanos()).unwrap_or(u64::MAX)
+}
+
+/// Declares calls that the library has in two forms: by a seat in hand, and by the seat that the calling thread has of a mutex.
+/// Each is a method of both. What stands in brackets C passes before the seat or mutex.
+macro_rules! calls {
+    ($(fn $name:ident $([$first:ident: $of:ty])? (self $(, $last:ident: $kind:ty)?) -> $told:ty
+        = $in_hand:ident, $here:ident;)*) => {
+        // SAFETY: so the header declares them.
+        unsafe extern "C" {
+            $(safe fn $in_hand($($first: $of,)? seat: &RawSeat $(, $last: $kind)?) -> $told;
+            safe fn $here($($first: $of,)? mutex: &RawMutex $(, $last: $kind)?) -> $told;)*
+        }
+
+        /// What a guard locks by: a seat in hand, or a mutex for the seat that the calling thread has of it.
+        pub trait Lock {
+            /// The seat in hand.
+            fn in_hand(&self) -> Option<&RawSeat> {
+                None
+            }
+            $(fn $name(&self $(, $first: $of)? $(, $last: $kind)?) -> $told;)*
+        }
+
+        impl Lock for RawSeat {
+            fn in_hand(&self) -> Option<&RawSeat> {
+                Some(self)
+            }
+            $(#[inline]
+            fn $name(&self $(, $first: $of)? $(, $last: $kind)?) -> $told {
+                $in_hand($($first,)? self $(, $last)?)
+            })*
+        }
+
+        impl Lock for RawMutex {
+            $(#[inline]
+            fn $name(&self $(, $first: $of)? $(, $last: $kind)?) -> $told {
+                $here($($first,)? self $(, $last)?)
+            })*
+        }
+    };
+}
+
+calls! {
+    fn lock(self) -> u32 = lfm_lock, lfm_lock_here;
+    fn lock_in_order(self) -> u32 = lfm_lock_in_order, lfm_lock_in_order_here;
+    fn try_lock(self) -> u32 = lfm_try_lock, lfm_try_lock_here;
+    fn try_lock_for(self, nanoseconds: u64) -> u32 = lfm_try_lock_for, lfm_try_lock_for_here;
+    fn unlock(self) -> u32 = lfm_unlock, lfm_unlock_here;
+    fn depth(self) -> u64 = lfm_depth, lfm_depth_here;
+    fn wait[condvar: &RawCondvar](self) -> u32 = lfm_wait, lfm_wait_here;
+    fn wait_for[condvar: &RawCondvar](self, nanoseconds: u64) -> u32 = lfm_wait_for, lfm_wait_for_here;
 }

@@ -1,123 +1,266 @@
-//! How this crate uses the library's calls, and one of the system. The test program defines those calls itself: it sees which
-//! are made, and gives answers that a library seldom gives. Each test has a thread of its own.
-mod seen_calls;
-
-use ligdrosa::{mutex, Condvar, Refusal};
-use seen_calls::status::{NO_MEMORY, NO_SEAT, SPENT, TAKEN};
-use seen_calls::{while_it_tells, HANDLES, MADE, ROOMS};
+//! How this crate uses the library's calls. The test program defines them itself, and so links no library: it sees which calls
+//! are made, and gives answers that the library seldom gives. Each test has a thread of its own.
+use ligdrosa::{mutex, Condvar, Mutex, Refusal, Seat};
 use std::{
-    ffi::{c_int, c_void},
-    sync::atomic::{AtomicUsize, Ordering::SeqCst},
+    cell::{Cell, RefCell},
+    mem,
+    sync::Arc,
+    time::{Duration, Instant},
 };
 
-/// How often the program has asked the system for its processors.
-static ASKED_FOR_PROCESSORS: AtomicUsize = AtomicUsize::new(0);
-
-/// The call by which std asks for them first. It fails, and std asks in another way.
-#[no_mangle]
-extern "C" fn sched_getaffinity(_: c_int, _: usize, _: *mut c_void) -> c_int {
-    ASKED_FOR_PROCESSORS.fetch_add(1, SeqCst);
-    -1
+thread_local! {
+    /// The call that answers otherwise than with 0, and its answer.
+    static UNUSUAL: Cell<(&'static str, u64)> = const { Cell::new(("", 0)) };
+    /// The calls that were made, each with its arguments.
+    static MADE: RefCell<Vec<(&'static str, Vec<usize>)>> = const { RefCell::new(Vec::new()) };
 }
 
-/// Why a mutex is refused, if it is.
-fn refusal_of_mutex() -> Option<Refusal> {
-    mutex(1, 1, ()).err()
-}
+// scripts/write_c_sides writes the numbers from here
+const AGAIN: u64 = 1;
+const POSTED: u64 = 4;
+const NOBODY: u64 = 6;
+const TIMED_OUT: u64 = 7;
+const TAKEN: u64 = 17;
+const LIMIT: u64 = 18;
+const NO_MEMORY: u64 = 19;
+const NO_SEAT: u64 = 20;
+const HOLDING: u64 = 22;
+const OTHER_HEADER: u64 = 24;
+const NESTED: u64 = 34;
+const DEPTH_FULL: u64 = 35;
+const SPENT: u64 = 36;
+const BUSY: u64 = 39;
+// to here
 
-/// To count the processors, std also reads files, which takes longer than all else when a mutex is opened. Each thread of the
-/// other tests may count once beside this one, so the second mutex is opened some times.
-#[test]
-fn the_processors_are_counted_once() {
-    let asked_for_a_mutex = || {
-        let before = ASKED_FOR_PROCESSORS.load(SeqCst);
-        assert_eq!(refusal_of_mutex(), None);
-        ASKED_FOR_PROCESSORS.load(SeqCst) - before
+/// Defines these calls. What they are given is put into words of 64 bits, as the processor passes it.
+macro_rules! calls {
+    ($($name:ident($($argument:ident)*))*) => {
+        $(#[no_mangle]
+        extern "C" fn $name($($argument: usize),*) -> u64 {
+            MADE.with_borrow_mut(|made| made.push((stringify!($name), vec![$($argument),*])));
+            let (call, answer) = UNUSUAL.get();
+            if call == stringify!($name) { answer } else { 0 }
+        })*
     };
-    asked_for_a_mutex();
-    assert_ne!(ASKED_FOR_PROCESSORS.load(SeqCst), 0);
-    assert!((0..100).any(|_| asked_for_a_mutex() == 0));
 }
 
-/// It is refused before there is a handle, for which there may be too little room.
-#[test]
-fn a_library_of_another_version() {
+calls! {
+    lfm_mutex_open(mutex seats budget version)
+    lfm_mutex_close(mutex)
+    lfm_takes_left(mutex)
+    lfm_seat_take(mutex seat)
+    lfm_seat_give(seat)
+    lfm_number(seat)
+    lfm_left(seat)
+    lfm_depth(seat)
+    lfm_lock(seat)
+    lfm_lock_in_order(seat)
+    lfm_try_lock(seat)
+    lfm_try_lock_for(seat nanoseconds)
+    lfm_unlock(seat)
+    lfm_wait(condvar seat)
+    lfm_wait_for(condvar seat nanoseconds)
+    lfm_depth_here(mutex)
+    lfm_lock_here(mutex)
+    lfm_lock_in_order_here(mutex)
+    lfm_try_lock_here(mutex)
+    lfm_try_lock_for_here(mutex nanoseconds)
+    lfm_unlock_here(mutex)
+    lfm_wait_here(condvar mutex)
+    lfm_wait_for_here(condvar mutex nanoseconds)
+    lfm_wake_one(condvar)
+    lfm_wake_all(condvar)
+    lfm_wake_one_by(condvar seat)
+    lfm_wake_all_by(condvar seat)
+}
+
+#[no_mangle]
+extern "C" fn lfm_status_text(status: u32) -> *const u8 {
+    let text: &[u8] = if status == 39 { b"busy\0" } else { b"other\0" };
+    text.as_ptr()
+}
+
+/// What the function returns while this call answers this.
+fn while_it_answers<A>(call: &'static str, answer: u64, act: impl FnOnce() -> A) -> A {
+    UNUSUAL.set((call, answer));
+    let result = act();
+    UNUSUAL.set(("", 0));
+    result
+}
+
+/// The names of the calls that the function makes.
+fn made_by(act: impl FnOnce()) -> Vec<&'static str> {
     MADE.take();
-    for (call, room) in ROOMS {
-        let refusal = while_it_tells(call, room + 1, refusal_of_mutex);
-        assert_eq!(refusal, Some(Refusal::OtherVersion));
-    }
-    assert_eq!(MADE.take(), [""; 0]);
-    assert_eq!(refusal_of_mutex(), None);
+    act();
+    MADE.take().into_iter().map(|(name, _)| name).collect()
+}
+
+/// The last argument of the last call of this name.
+fn last_of(call: &str) -> Option<usize> {
+    let made = MADE.take();
+    let (_, arguments) = made.into_iter().rfind(|(name, _)| *name == call)?;
+    arguments.last().copied()
 }
 
 #[test]
 fn a_library_that_refuses() {
-    for (call, told, refusal) in [
-        ("lfm_c_open", NO_MEMORY, Refusal::Memory),
-        ("lfm_c_open", TAKEN, Refusal::Other(TAKEN)),
-        ("lfm_c_take_seat", NO_SEAT, Refusal::Other(NO_SEAT)),
+    for (call, status, refusal) in [
+        ("lfm_mutex_open", LIMIT, Refusal::Limit),
+        ("lfm_mutex_open", NO_MEMORY, Refusal::NoMemory),
+        ("lfm_mutex_open", OTHER_HEADER, Refusal::OtherHeader),
+        ("lfm_mutex_open", TAKEN, Refusal::Other),
+        ("lfm_seat_take", NO_SEAT, Refusal::NoSeat),
     ] {
-        assert_eq!(while_it_tells(call, told, refusal_of_mutex), Some(refusal));
+        let new = || mutex(1, 1, ()).err();
+        assert_eq!(while_it_answers(call, status, new), Some(refusal));
     }
 }
 
-/// It asks for no mutex, so it costs no take and doesn't sleep.
 #[test]
-fn a_wake_with_nobody_waiting() {
-    let mut seats = mutex(1, 1, ()).unwrap();
-    let seat = &mut seats[0];
-    let condvar = Condvar::new(seat, 1).unwrap();
-    MADE.take();
-    assert_eq!(
-        (condvar.wake_one(seat), condvar.wake_all(seat)),
-        (Ok(0), Ok(0))
-    );
-    assert!(!MADE.take().contains(&"lfm_c_ask"));
+fn a_call_that_is_refused_gives_no_guard() {
+    let mutex = Mutex::new(());
+    for (status, refusal) in [
+        (NO_SEAT, Refusal::NoSeat),
+        (DEPTH_FULL, Refusal::DepthFull),
+        (SPENT, Refusal::Spent),
+        (BUSY, Refusal::Busy),
+    ] {
+        let locks = || while_it_answers("lfm_lock_here", status, || mutex.lock().err());
+        let made = made_by(|| assert_eq!(locks(), Some(refusal)));
+        assert_eq!(made, ["lfm_lock_here"]);
+    }
+    let text = |refusal: Refusal| refusal.to_string();
+    assert_eq!([Refusal::Busy, Refusal::Spent].map(text), ["busy", "other"]);
 }
 
-/// A condition variable's own mutex has 2^36 takes, which are too many to spend here. The wait ends at once, since a receive
-/// usually answers that the seat holds, and stays listed.
+/// A thread that held before gets no second guard by the mutex.
 #[test]
-fn a_condition_variable_without_takes() {
+fn a_second_lock_is_given_up() {
+    let mutex = Mutex::new(());
+    type Lock = fn(&Mutex<()>) -> Option<Refusal>;
+    let calls: [(&str, Lock); 4] = [
+        ("lfm_lock_here", |mutex| mutex.lock().err()),
+        ("lfm_lock_in_order_here", |mutex| {
+            mutex.lock_in_order().err()
+        }),
+        ("lfm_try_lock_here", |mutex| mutex.try_lock().err()),
+        ("lfm_try_lock_for_here", |mutex| {
+            mutex.try_lock_until(Instant::now()).err()
+        }),
+    ];
+    for (call, lock) in calls {
+        let made = made_by(|| {
+            let refusal = while_it_answers(call, AGAIN, || lock(&mutex));
+            assert_eq!(refusal, Some(Refusal::Holding));
+        });
+        assert_eq!(made, [call, "lfm_unlock_here"]);
+        assert_eq!(
+            made_by(|| assert_eq!(lock(&mutex), None)),
+            [call, "lfm_unlock_here"]
+        );
+    }
+}
+
+#[test]
+fn each_call_of_a_seat() {
+    type Lock = fn(&mut Seat<()>);
+    let mut seat = mutex(1, 1, ()).unwrap().remove(0);
+    let calls: [(&str, Lock); 4] = [
+        ("lfm_lock", |seat| drop(seat.lock())),
+        ("lfm_lock_in_order", |seat| drop(seat.lock_in_order())),
+        ("lfm_try_lock", |seat| drop(seat.try_lock())),
+        ("lfm_try_lock_for", |seat| {
+            drop(seat.try_lock_for(Duration::ZERO))
+        }),
+    ];
+    for (call, lock) in calls {
+        assert_eq!(made_by(|| lock(&mut seat)), [call, "lfm_unlock"]);
+    }
+}
+
+/// The library may rely on it that a seat does not move, from the call that takes it to the one that gives it back.
+#[test]
+fn seats_lie_still() {
     let mut seats = mutex(1, 1, ()).unwrap();
-    let seat = &mut seats[0];
-    let condvar = Condvar::new(seat, 1).unwrap();
-    condvar.wait(&mut seat.lock().unwrap()).unwrap();
-    MADE.take();
-    while_it_tells("lfm_c_ask", SPENT, || {
-        assert_eq!(condvar.wake_one(seat), Err(Refusal::Spent));
-        assert_eq!(condvar.wake_all(seat), Err(Refusal::Spent));
+    let place = last_of("lfm_seat_take");
+    let mut moved = Box::new(seats.pop().unwrap());
+    drop(while_it_answers("lfm_unlock", POSTED, || {
+        moved.lock().unwrap()
+    }));
+    assert_eq!(last_of("lfm_unlock"), place);
+    let calls = made_by(|| drop(moved));
+    assert_eq!(calls, ["lfm_seat_give", "lfm_mutex_close"]);
+}
+
+/// A mutex ends with the last that refers to it, also if a seat holds and is not given back.
+#[test]
+fn a_mutex_is_closed_once() {
+    let mutex = Arc::new(Mutex::new(()));
+    let mut seat = mutex.seat().unwrap();
+    drop(mutex);
+    mem::forget(seat.lock());
+    let calls = made_by(|| while_it_answers("lfm_seat_give", HOLDING, || drop(seat)));
+    assert_eq!(calls, ["lfm_seat_give", "lfm_mutex_close"]);
+}
+
+#[test]
+fn times_in_nanoseconds() {
+    let mutex = Mutex::new(());
+    for (time, nanoseconds) in [
+        (Duration::ZERO, 0),
+        (Duration::from_millis(1_500), 1_500_000_000),
+        (Duration::MAX, usize::MAX),
+    ] {
+        drop(mutex.try_lock_for(time));
+        assert_eq!(last_of("lfm_try_lock_for_here"), Some(nanoseconds));
+        let mut guard = mutex.lock().unwrap();
+        Condvar::new().wait_timeout(&mut guard, time).unwrap();
+        assert_eq!(last_of("lfm_wait_for_here"), Some(nanoseconds));
+    }
+    drop(mutex.try_lock_until(Instant::now() - Duration::from_secs(1)));
+    assert_eq!(last_of("lfm_try_lock_for_here"), Some(0));
+}
+
+#[test]
+fn what_waits_and_wakes_tell() {
+    let (mutex, condvar) = (Mutex::new(()), Condvar::new());
+    let mut guard = mutex.lock().unwrap();
+    let mut times_out = |status| {
+        let waits = || condvar.wait_timeout(&mut guard, Duration::ZERO);
+        while_it_answers("lfm_wait_for_here", status, waits).map(|result| result.timed_out())
+    };
+    assert_eq!(
+        [0, AGAIN, TIMED_OUT].map(&mut times_out),
+        [Ok(false), Ok(false), Ok(true)]
+    );
+    assert_eq!(times_out(NESTED), Err(Refusal::Nested));
+    for (status, anybody) in [(0, true), (NOBODY, false)] {
+        assert_eq!(
+            while_it_answers("lfm_wake_one", status, || condvar.notify_one()),
+            anybody
+        );
+        assert_eq!(
+            while_it_answers("lfm_wake_all", status, || condvar.notify_all()),
+            anybody
+        );
+    }
+}
+
+/// The library finds the seat of a thread that holds by a mutex, but not one in hand.
+#[test]
+fn wakes_by_a_holder() {
+    let (mutex, condvar) = (Arc::new(Mutex::new(())), Condvar::new());
+    let mut seat = mutex.seat().unwrap();
+    let place = last_of("lfm_seat_take");
+    let mut guard = seat.lock().unwrap();
+    assert!(condvar.notify_one_by(&mut guard) && condvar.notify_all_by(&mut guard));
+    assert_eq!(last_of("lfm_wake_one_by"), place);
+    let nobody = || condvar.notify_all_by(&mut guard);
+    assert!(!while_it_answers("lfm_wake_all_by", NOBODY, nobody));
+    assert_eq!(last_of("lfm_wake_all_by"), place);
+    let mut guard = mutex.lock().unwrap();
+    let made = made_by(|| {
+        assert!(condvar.notify_one_by(&mut guard) && condvar.notify_all_by(&mut guard));
     });
-    assert!(!MADE.take().contains(&"lfm_c_unlock"));
-}
-
-/// The library may rely on it that a handle does not move, from the call that opens it or makes it blank to the last one.
-#[test]
-fn handles_lie_still() {
-    MADE.take();
-    HANDLES.take();
-    let mut seats = mutex(1, 1, ()).unwrap();
-    let mut seat = seats.pop().unwrap();
-    drop(seat.lock().unwrap());
-    let moved = Box::new(seat);
-    drop(moved);
-    assert_eq!(
-        MADE.take(),
-        [
-            "lfm_c_blank_mutex",
-            "lfm_c_open",
-            "lfm_c_blank_seat",
-            "lfm_c_take_seat",
-            "lfm_c_ask",
-            "lfm_c_unlock",
-            "lfm_c_give_seat",
-            "lfm_c_close"
-        ]
-    );
-    let mut handles = HANDLES.take();
-    handles.sort_unstable();
-    handles.dedup();
-    let kinds: Vec<_> = handles.into_iter().map(|(of, _)| of).collect();
-    assert_eq!(kinds, ["mutex", "seat"]);
+    assert_eq!(made, ["lfm_wake_one", "lfm_wake_all"]);
 }

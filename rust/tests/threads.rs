@@ -1,32 +1,65 @@
-//! Threads count together, and pass numbers through a buffer, each once. What is refused, and what a guard and a panic do.
-use ligdrosa::{mutex, Condvar, Refusal, Seat};
+//! Threads count together, and pass numbers through a buffer, each once. What is refused, and what a guard, a time limit and a
+//! panic do.
+//!
+//! The library tells ThreadSanitizer what locks order. So under it only races of std are reported, which isn't built for it: in
+//! the test harness, and where threads end or an `Arc` is dropped last.
+//!
+//! ```text
+//! RUSTFLAGS='-Zsanitizer=thread -Cunsafe-allow-abi-mismatch=sanitizer' \
+//!   cargo +nightly test --test threads --target x86_64-unknown-linux-gnu
+//! ```
+use ligdrosa::{mutex, Condvar, Guard, Mutex, Refusal, Seat};
 use std::{
     collections::VecDeque,
+    fmt::Debug,
     mem,
     panic::{catch_unwind, AssertUnwindSafe},
-    sync::Arc,
+    sync::{mpsc, Arc},
     thread,
+    time::{Duration, Instant},
 };
+
+const A_WHILE: Duration = Duration::from_millis(20);
+const LONG: Duration = Duration::from_secs(20);
 
 #[test]
 fn threads_count_together() {
     for threads in [2, 4, 8] {
         let seats = mutex(threads, 100_000, 0u64).unwrap();
+        let mutex = seats[0].mutex().clone();
         let count = |mut seat: Seat<u64>| {
-            thread::spawn(move || {
-                for _ in 0..20_000 {
-                    *seat.lock().unwrap() += 1;
-                }
-                seat
-            })
+            thread::spawn(move || (0..20_000).for_each(|_| *seat.lock().unwrap() += 1))
         };
         let threads_running: Vec<_> = seats.into_iter().map(count).collect();
-        let mut seats: Vec<_> = threads_running
-            .into_iter()
-            .map(|t| t.join().unwrap())
-            .collect();
-        assert_eq!(*seats[0].lock().unwrap(), 20_000 * threads as u64);
+        threads_running.into_iter().for_each(|t| t.join().unwrap());
+        let mutex = Arc::into_inner(mutex).unwrap();
+        assert_eq!(mutex.into_inner(), 20_000 * threads as u64);
     }
+}
+
+/// Three times as many threads as there are seats, but no more at a time.
+#[test]
+fn threads_count_by_a_static() {
+    static COUNT: Mutex<u64> = Mutex::with_seats(8, 0);
+    for _ in 0..3 {
+        let count = |in_order| {
+            thread::spawn(move || {
+                for _ in 0..10_000 {
+                    let guard = if in_order {
+                        COUNT.lock_in_order()
+                    } else {
+                        COUNT.lock()
+                    };
+                    *guard.unwrap() += 1;
+                }
+            })
+        };
+        let threads: Vec<_> = (0..8).map(|number| count(number % 2 == 0)).collect();
+        threads.into_iter().for_each(|t| t.join().unwrap());
+    }
+    thread::spawn(|| assert_eq!(*COUNT.lock().unwrap(), 240_000))
+        .join()
+        .unwrap();
 }
 
 #[test]
@@ -46,6 +79,25 @@ fn a_hold_is_deepened() {
     drop(guard);
     assert_eq!(*second.try_lock().unwrap(), 8);
     assert_eq!((first.left(), second.left()), (2, 2));
+}
+
+#[test]
+fn a_thread_has_one_guard_of_a_mutex() {
+    let mutex = Mutex::new(7u64);
+    let mut guard = mutex.lock().unwrap();
+    assert_eq!(mutex.lock().err(), Some(Refusal::Holding));
+    let mut deeper = guard.again().unwrap();
+    *deeper += 1;
+    assert_eq!(mutex.try_lock().err(), Some(Refusal::Holding));
+    assert_eq!(deeper.depth(), 2);
+    drop(deeper);
+    assert_eq!(guard.depth(), 1);
+    thread::scope(|scope| {
+        let other = scope.spawn(|| mutex.try_lock().err());
+        assert_eq!(other.join().unwrap(), Some(Refusal::Busy));
+    });
+    drop(guard);
+    assert_eq!(*mutex.lock().unwrap(), 8);
 }
 
 #[test]
@@ -74,6 +126,56 @@ fn a_forgotten_guard_holds_on() {
     assert_eq!(first.lock().err(), Some(Refusal::DepthFull));
     drop(first);
     assert_eq!(second.try_lock().err(), Some(Refusal::Busy));
+    let mutex = Mutex::new(());
+    mem::forget(mutex.lock().unwrap());
+    assert_eq!(mutex.lock().err(), Some(Refusal::Holding));
+    // SAFETY: the guard was forgotten.
+    unsafe { mutex.force_unlock() };
+    assert_eq!(mutex.lock().err(), None);
+}
+
+#[test]
+fn the_value_without_a_lock() {
+    let mut mutex = Box::new(Mutex::from(String::from("a")));
+    mutex.get_mut().push('b');
+    mutex.lock().unwrap().push('c');
+    let mut moved = *mutex;
+    moved.get_mut().push('d');
+    moved.lock().unwrap().push('e');
+    assert_eq!(moved.into_inner(), "abcde");
+}
+
+#[test]
+fn what_is_shown() {
+    let mutex = Arc::new(Mutex::new(7));
+    assert_eq!(format!("{mutex:?}"), "Mutex { data: 7, .. }");
+    let mut seat = mutex.seat().unwrap();
+    let number = seat.number();
+    assert_eq!(
+        format!("{seat:?}"),
+        format!("Seat {{ number: {number}, left: {}, .. }}", 1u64 << 36)
+    );
+    let guard = seat.lock().unwrap();
+    assert_eq!(
+        format!("{guard:?} {guard} {mutex:?}"),
+        "7 7 Mutex { data: <locked>, .. }"
+    );
+    assert_eq!(
+        format!("{:?} {}", Condvar::new(), Refusal::Busy),
+        "Condvar { .. } the mutex is busy"
+    );
+}
+
+#[test]
+fn what_threads_may_share() {
+    fn are_sent<T: Send>() {}
+    fn are_shared<T: Sync + Debug>() {}
+    are_sent::<Seat<u64>>();
+    are_sent::<Guard<u64>>();
+    are_shared::<Guard<u64>>();
+    are_shared::<ligdrosa::MutexGuard<u64>>();
+    are_shared::<Mutex<u64>>();
+    are_shared::<Condvar>();
 }
 
 #[test]
@@ -82,87 +184,172 @@ fn refusals() {
     assert_eq!(mutex(4096, 1, ()).err(), Some(Refusal::Limit));
     assert_eq!(mutex(1, 0, ()).err(), Some(Refusal::Limit));
     assert_eq!(mutex(1, (1 << 36) + 1, ()).err(), Some(Refusal::Limit));
+    for seats in [0, 4096, u32::MAX] {
+        assert_eq!(
+            Mutex::with_seats(seats, ()).lock().err(),
+            Some(Refusal::Limit)
+        );
+    }
     let mut seats = mutex(1, 1, ()).unwrap();
+    assert_eq!(seats[0].mutex().seat().err(), Some(Refusal::NoSeat));
+    assert_eq!(seats[0].mutex().lock().err(), Some(Refusal::NoSeat));
     drop(seats[0].lock().unwrap());
     assert_eq!(seats[0].lock().err(), Some(Refusal::Spent));
     assert_eq!(seats[0].try_lock().err(), Some(Refusal::Spent));
-    assert_eq!(Condvar::new(&seats[0], 0).err(), Some(Refusal::Limit));
-    let condvar = Condvar::new(&seats[0], 1).unwrap();
-    assert_eq!(condvar.wake_one(&mut seats[0]), Ok(0));
-    let mut others = mutex(1, 5, ()).unwrap();
-    assert_eq!(condvar.wake_all(&mut others[0]), Err(Refusal::Foreign));
-    assert_eq!(
-        condvar.wait(&mut others[0].lock().unwrap()),
-        Err(Refusal::Foreign)
-    );
-    let condvar = Condvar::new(&others[0], 1).unwrap();
-    let mut guard = others[0].lock().unwrap();
+    let mut seats = mutex(1, 1, ()).unwrap();
+    let mut guard = seats[0].lock().unwrap();
+    let condvar = Condvar::new();
+    assert_eq!(condvar.wait(&mut guard), Err(Refusal::Spent));
     assert_eq!(
         condvar.wait(&mut guard.again().unwrap()),
         Err(Refusal::Nested)
     );
+    assert_eq!(guard.depth(), 1);
+    assert!(!condvar.notify_one() && !condvar.notify_all());
+}
+
+/// Holds the mutex in another thread until the function returns.
+fn while_another_holds<T: Send>(mutex: &Mutex<T>, act: impl FnOnce()) {
+    thread::scope(|scope| {
+        let (says, holds) = mpsc::channel();
+        let (ends, over) = mpsc::channel::<()>();
+        scope.spawn(move || {
+            let _guard = mutex.lock().unwrap();
+            says.send(()).unwrap();
+            over.recv().unwrap_err();
+        });
+        holds.recv().unwrap();
+        act();
+        drop(ends);
+    });
 }
 
 #[test]
-fn refusals_of_waits_and_wakes() {
-    let mut seats = mutex(2, 1, ()).unwrap();
-    let of_the_first = Condvar::new(&seats[0], 1).unwrap();
-    assert_eq!(of_the_first.wake_one(&mut seats[1]), Err(Refusal::Foreign));
-    let mut guard = seats[0].lock().unwrap();
-    assert_eq!(of_the_first.wait(&mut guard), Err(Refusal::Spent));
-    assert_eq!(guard.depth(), 1);
+fn locks_with_a_time_limit() {
+    let mutex = Arc::new(Mutex::new(()));
+    let mut seat = mutex.seat().unwrap();
+    while_another_holds(&mutex, || {
+        let begun = Instant::now();
+        assert_eq!(mutex.try_lock_for(A_WHILE).err(), Some(Refusal::Busy));
+        assert_eq!(seat.try_lock_for(A_WHILE).err(), Some(Refusal::Busy));
+        assert!(begun.elapsed() >= 2 * A_WHILE);
+        let end = Instant::now() + A_WHILE;
+        assert_eq!(mutex.try_lock_until(end).err(), Some(Refusal::Busy));
+        assert_eq!(seat.try_lock_until(end).err(), Some(Refusal::Busy));
+        assert!(Instant::now() >= end);
+    });
+    let begun = Instant::now();
+    drop(mutex.try_lock_for(LONG).unwrap());
+    drop(seat.try_lock_until(begun + LONG).unwrap());
+    thread::scope(|scope| {
+        let guard = mutex.lock().unwrap();
+        let waits = scope.spawn(|| drop(seat.try_lock_for(LONG).unwrap()));
+        thread::sleep(A_WHILE);
+        drop(guard);
+        waits.join().unwrap();
+    });
+    assert!(begun.elapsed() < LONG);
 }
 
+#[test]
+fn waits_with_a_time_limit() {
+    let (mutex, condvar) = (Mutex::new(0), Condvar::new());
+    let begun = Instant::now();
+    let times_out = |time, least| {
+        let mut guard = mutex.lock().unwrap();
+        let result = condvar.wait_timeout_while(&mut guard, time, |value| *value < least);
+        result.unwrap().timed_out()
+    };
+    assert!(times_out(A_WHILE, 1));
+    let result = condvar.wait_timeout(&mut mutex.lock().unwrap(), A_WHILE);
+    assert!(result.unwrap().timed_out());
+    assert!(begun.elapsed() >= 2 * A_WHILE);
+    assert!(!times_out(LONG, 0));
+    thread::scope(|scope| {
+        scope.spawn(|| {
+            for _ in 0..3 {
+                thread::sleep(A_WHILE);
+                *mutex.lock().unwrap() += 1;
+                condvar.notify_all();
+            }
+        });
+        assert!(!times_out(LONG, 3));
+    });
+    assert!(begun.elapsed() < LONG);
+    assert_eq!(mutex.into_inner(), 3);
+}
+
+#[test]
+fn wakes_go_in_the_order_of_the_waits() {
+    static WOKEN: Mutex<Vec<u32>> = Mutex::new(Vec::new());
+    static WAITING: Mutex<u32> = Mutex::new(0);
+    static FILLED: Condvar = Condvar::new();
+    let wait = |number| {
+        thread::spawn(move || {
+            let mut waiting = WAITING.lock().unwrap();
+            *waiting += 1;
+            FILLED.wait(&mut waiting).unwrap();
+            WOKEN.lock().unwrap().push(number);
+        })
+    };
+    let mut threads = Vec::new();
+    for number in 1..=4 {
+        threads.push(wait(number));
+        while *WAITING.lock().unwrap() < number {
+            thread::yield_now();
+        }
+    }
+    for thread in threads {
+        assert!(FILLED.notify_one());
+        thread.join().unwrap();
+    }
+    assert!(!FILLED.notify_one());
+    assert_eq!(*WOKEN.lock().unwrap(), [1, 2, 3, 4]);
+}
+
+#[derive(Default)]
 struct Buffer {
     numbers: VecDeque<u64>,
-    left: u64,
+    is_over: bool,
+}
+
+static NOT_EMPTY: Condvar = Condvar::new();
+static NOT_FULL: Condvar = Condvar::new();
+
+/// Takes numbers out of the buffer until it is over.
+fn consume(mut seat: Seat<Buffer>) -> Vec<u64> {
+    let mut numbers = Vec::new();
+    loop {
+        let mut guard = seat.lock().unwrap();
+        let waits = |buffer: &mut Buffer| buffer.numbers.is_empty() && !buffer.is_over;
+        NOT_EMPTY.wait_while(&mut guard, waits).unwrap();
+        let Some(number) = guard.numbers.pop_front() else {
+            return numbers;
+        };
+        numbers.push(number);
+        NOT_FULL.notify_one_by(&mut guard);
+    }
 }
 
 #[test]
 fn numbers_pass_a_bounded_buffer() {
-    const ALL: u64 = 20_000;
-    let buffer = Buffer {
-        numbers: VecDeque::new(),
-        left: ALL,
+    let buffer = Arc::new(Mutex::new(Buffer::default()));
+    let consumer = |_| {
+        let seat = buffer.seat().unwrap();
+        thread::spawn(|| consume(seat))
     };
-    let mut seats = mutex(3, 1 << 36, buffer).unwrap();
-    let not_empty = Arc::new(Condvar::new(&seats[0], 3).unwrap());
-    let not_full = Arc::new(Condvar::new(&seats[0], 3).unwrap());
-    let consume = |mut seat: Seat<Buffer>| {
-        let (not_empty, not_full) = (not_empty.clone(), not_full.clone());
-        thread::spawn(move || {
-            let mut numbers = Vec::new();
-            loop {
-                let mut guard = seat.lock().unwrap();
-                while guard.numbers.is_empty() && guard.left != 0 {
-                    not_empty.wait(&mut guard).unwrap();
-                }
-                let Some(number) = guard.numbers.pop_front() else {
-                    return numbers;
-                };
-                numbers.push(number);
-                guard.left -= 1;
-                if guard.left == 0 {
-                    not_empty.wake_all(&mut guard).unwrap();
-                }
-                not_full.wake_one(&mut guard).unwrap();
-            }
-        })
-    };
-    let consumers = [consume(seats.pop().unwrap()), consume(seats.pop().unwrap())];
-    let mut seat = seats.pop().unwrap();
-    for number in 1..=ALL {
-        let mut guard = seat.lock().unwrap();
-        while guard.numbers.len() == 4 {
-            not_full.wait(&mut guard).unwrap();
-        }
+    let consumers = [0, 1].map(consumer);
+    for number in 0..20_000 {
+        let mut guard = buffer.lock().unwrap();
+        let waits = |buffer: &mut Buffer| buffer.numbers.len() == 4;
+        NOT_FULL.wait_while(&mut guard, waits).unwrap();
         guard.numbers.push_back(number);
-        not_empty.wake_one(&mut guard).unwrap();
+        NOT_EMPTY.notify_one();
     }
-    let mut numbers: Vec<u64> = consumers
-        .into_iter()
-        .flat_map(|c| c.join().unwrap())
-        .collect();
+    buffer.lock().unwrap().is_over = true;
+    NOT_EMPTY.notify_all();
+    let consumed = consumers.map(|consumer| consumer.join().unwrap());
+    let mut numbers = consumed.concat();
     numbers.sort_unstable();
-    assert!(numbers.into_iter().eq(1..=ALL));
+    assert!(numbers.into_iter().eq(0..20_000));
 }

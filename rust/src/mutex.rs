@@ -1,0 +1,248 @@
+//! A mutex round a value, and the guards by which it is held.
+use crate::library::*;
+use std::{
+    cell::UnsafeCell,
+    fmt,
+    ops::{Deref, DerefMut},
+    time::{Duration, Instant},
+};
+
+/// A mutex round a value, shared by reference. It may be a static:
+///
+/// ```
+/// use ligdrosa::Mutex;
+///
+/// static COUNT: Mutex<u64> = Mutex::new(0);
+///
+/// fn count() -> Result<u64, ligdrosa::Refusal> {
+///     let mut count = COUNT.lock()?;
+///     *count += 1;
+///     Ok(*count)
+/// }
+/// # assert_eq!(count(), Ok(1));
+/// ```
+///
+/// Its first lock opens it, which takes memory. Each thread takes a seat of it by its first call, which takes memory too, and
+/// gives the seat back when it ends, unless it holds then. So as many threads may use it at a time as it has seats: one more is
+/// refused as [`NoSeat`](Refusal::NoSeat).
+///
+/// A thread that holds locks once more by its guard, with [`Guard::again`]: the guard of the deeper hold borrows the first. Any
+/// other [`lock`](Mutex::lock) or try by that thread is refused as [`Holding`](Refusal::Holding). A guard gives `&mut T`, so a
+/// second one that doesn't borrow the first would give another `&mut T` of the same value.
+pub struct Mutex<T: ?Sized> {
+    pub(crate) raw: Closing,
+    pub(crate) value: UnsafeCell<T>,
+}
+
+/// The library's mutex, which is closed at its end. If it is held then, since a guard was forgotten, the library keeps its
+/// memory.
+pub(crate) struct Closing(pub RawMutex);
+
+impl Drop for Closing {
+    fn drop(&mut self) {
+        // SAFETY: nobody else refers to it, so there is no other call.
+        unsafe { lfm_mutex_close(&self.0) };
+    }
+}
+
+// SAFETY: the value is reached by the seat that holds the mutex, and one does so at a time, or by whoever owns the mutex alone.
+unsafe impl<T: ?Sized + Send> Sync for Mutex<T> {}
+
+/// A guard of a [`Mutex`]. It stays with its thread:
+///
+/// ```compile_fail,E0277
+/// let mutex = ligdrosa::Mutex::new(0);
+/// let guard = mutex.lock().unwrap();
+/// std::thread::scope(|scope| drop(scope.spawn(|| drop(guard))));
+/// ```
+pub type MutexGuard<'a, T> = Guard<'a, T, RawMutex>;
+
+impl<T> Mutex<T> {
+    /// A mutex with 64 seats, each of which may take it 2^36 times.
+    pub const fn new(value: T) -> Mutex<T> {
+        Mutex::with_seats(USUAL_SEATS, value)
+    }
+
+    /// The same with this many seats, 1 to 4,095. Otherwise its calls are refused as [`Limit`](Refusal::Limit).
+    pub const fn with_seats(seats: u32, value: T) -> Mutex<T> {
+        Mutex {
+            raw: Closing(RawMutex::with_seats(seats)),
+            value: UnsafeCell::new(value),
+        }
+    }
+
+    /// The value.
+    pub fn into_inner(self) -> T {
+        self.value.into_inner()
+    }
+}
+
+impl<T: ?Sized> Mutex<T> {
+    /// The value, without a lock: nobody else refers to the mutex.
+    pub fn get_mut(&mut self) -> &mut T {
+        self.value.get_mut()
+    }
+
+    /// How many takes the seats had left, each when it was last taken or given back: an upper bound.
+    pub fn takes_left(&self) -> u64 {
+        lfm_takes_left(&self.raw.0)
+    }
+
+    /// A guard of the calling thread, if it didn't hold before the call that has this status.
+    #[inline]
+    fn guard(&self, status: u32) -> Result<MutexGuard<'_, T>, Refusal> {
+        if status == AGAIN {
+            self.raw.0.unlock();
+            return Err(Refusal::Holding);
+        }
+        Guard::of(status, &self.raw.0, &self.value)
+    }
+
+    /// Gains the mutex, for one take. It first tries a bounded number of times, between pauses and naps, and so may come before
+    /// threads that came earlier. Then it queues and sleeps, and from there on no thread that queues later is served before it.
+    /// Refused: `Holding`, or `DepthFull` if the thread holds 65,535 times, and `Spent`. The first call of a thread is also
+    /// refused as `NoSeat`, `NoMemory`, `Limit`, `OtherHeader`.
+    #[inline]
+    pub fn lock(&self) -> Result<MutexGuard<'_, T>, Refusal> {
+        self.guard(self.raw.0.lock())
+    }
+
+    /// The same, but queues at once.
+    #[inline]
+    pub fn lock_in_order(&self) -> Result<MutexGuard<'_, T>, Refusal> {
+        self.guard(self.raw.0.lock_in_order())
+    }
+
+    /// Gains the mutex without a sleep, perhaps before seats that are queued. Refused: as `lock`, and `Busy`.
+    #[inline]
+    pub fn try_lock(&self) -> Result<MutexGuard<'_, T>, Refusal> {
+        self.guard(self.raw.0.try_lock())
+    }
+
+    /// The same, but tries until the time is over. It never queues: while others hold, it sleeps and tries anew at least every
+    /// millisecond. It gains the mutex only if it looks at a moment when nobody holds or waits: while other threads queue, it
+    /// may fail however long the time is. A thread that must have the mutex calls [`lock`](Mutex::lock).
+    pub fn try_lock_for(&self, time: Duration) -> Result<MutexGuard<'_, T>, Refusal> {
+        self.guard(self.raw.0.try_lock_for(nanoseconds(time)))
+    }
+
+    /// The same until this moment.
+    pub fn try_lock_until(&self, end: Instant) -> Result<MutexGuard<'_, T>, Refusal> {
+        self.try_lock_for(end.saturating_duration_since(Instant::now()))
+    }
+
+    /// Gives up a hold of the calling thread whose guard was forgotten.
+    ///
+    /// # Safety
+    ///
+    /// There is such a hold, and nobody uses a reference to the value that was got by its guard.
+    #[inline]
+    pub unsafe fn force_unlock(&self) {
+        self.raw.0.unlock();
+    }
+}
+
+impl<T: Default> Default for Mutex<T> {
+    fn default() -> Mutex<T> {
+        Mutex::new(T::default())
+    }
+}
+
+impl<T> From<T> for Mutex<T> {
+    fn from(value: T) -> Mutex<T> {
+        Mutex::new(value)
+    }
+}
+
+/// Shows the value, if a try gains the mutex.
+impl<T: ?Sized + fmt::Debug> fmt::Debug for Mutex<T> {
+    fn fmt(&self, f: &mut fmt::Formatter<'_>) -> fmt::Result {
+        let mut shown = f.debug_struct("Mutex");
+        match self.try_lock() {
+            Ok(guard) => shown.field("data", &&*guard),
+            Err(_) => shown.field("data", &format_args!("<locked>")),
+        };
+        shown.finish_non_exhaustive()
+    }
+}
+
+/// While it lives, its seat holds the mutex. Dropped, it gives one hold up, even if a panic drops it: the next seat finds the
+/// value as the panic left it, and nothing tells of that. The compiler warns of one that is dropped at once:
+///
+/// ```compile_fail
+/// #![deny(unused_must_use)]
+/// let mutex = ligdrosa::Mutex::new(0);
+/// mutex.lock().unwrap();
+/// ```
+///
+/// `By` is left out for a guard of a [`Seat`](crate::Seat). For one of a [`Mutex`] there is [`MutexGuard`].
+#[must_use = "a guard that is dropped at once gives its hold up"]
+pub struct Guard<'a, T: ?Sized, By: Lock = RawSeat> {
+    pub(crate) by: &'a By,
+    value: &'a UnsafeCell<T>,
+}
+
+// SAFETY: a shared guard gives `&T` alone, and makes no call.
+unsafe impl<T: ?Sized + Sync, By: Lock> Sync for Guard<'_, T, By> {}
+// SAFETY: another thread may go on with a seat in hand, and reach the value by it.
+unsafe impl<T: ?Sized + Send> Send for Guard<'_, T, RawSeat> {}
+
+impl<'a, T: ?Sized, By: Lock> Guard<'a, T, By> {
+    /// The guard that a call with this status gains.
+    #[inline]
+    pub(crate) fn of(
+        status: u32,
+        by: &'a By,
+        value: &'a UnsafeCell<T>,
+    ) -> Result<Guard<'a, T, By>, Refusal> {
+        made(status).map(|_| Guard { by, value })
+    }
+
+    /// Deepens the hold, and costs no take. Refused: `DepthFull`.
+    #[inline]
+    pub fn again(&mut self) -> Result<Guard<'_, T, By>, Refusal> {
+        Guard::of(self.by.lock(), self.by, self.value)
+    }
+
+    /// How often the seat holds.
+    pub fn depth(&mut self) -> u64 {
+        self.by.depth()
+    }
+}
+
+impl<T: ?Sized, By: Lock> Drop for Guard<'_, T, By> {
+    #[inline]
+    fn drop(&mut self) {
+        self.by.unlock();
+    }
+}
+
+impl<T: ?Sized, By: Lock> Deref for Guard<'_, T, By> {
+    type Target = T;
+
+    #[inline]
+    fn deref(&self) -> &T {
+        // SAFETY: the seat holds the mutex while the guard lives, so no other reaches the value.
+        unsafe { &*self.value.get() }
+    }
+}
+
+impl<T: ?Sized, By: Lock> DerefMut for Guard<'_, T, By> {
+    #[inline]
+    fn deref_mut(&mut self) -> &mut T {
+        // SAFETY: as for `deref`. A guard of a deeper hold borrows this one.
+        unsafe { &mut *self.value.get() }
+    }
+}
+
+impl<T: ?Sized + fmt::Debug, By: Lock> fmt::Debug for Guard<'_, T, By> {
+    fn fmt(&self, f: &mut fmt::Formatter<'_>) -> fmt::Result {
+        (**self).fmt(f)
+    }
+}
+
+impl<T: ?Sized + fmt::Display, By: Lock> fmt::Display for Guard<'_, T, By> {
+    fn fmt(&self, f: &mut fmt::Formatter<'_>) -> fmt::Result {
+        (**self).fmt(f)
+    }
+}

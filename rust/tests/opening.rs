@@ -1,0 +1,40 @@
+//! How long it takes to make a mutex: programs make many. To count the processors std reads files, which takes longer than all
+//! else, so this crate doesn't ask it. The test program defines the call by which std opens files: it counts them, and fails.
+use ligdrosa::{mutex, Condvar};
+use std::{
+    cell::Cell,
+    ffi::{c_char, c_int},
+    fs::File,
+    time::{Duration, Instant},
+};
+
+thread_local! {
+    /// How many files the thread has tried to open.
+    static OPENED: Cell<u32> = const { Cell::new(0) };
+}
+
+#[no_mangle]
+extern "C" fn open64(_: *const c_char, _: c_int, _: c_int) -> c_int {
+    OPENED.set(OPENED.get() + 1);
+    -1
+}
+
+#[test]
+fn a_thousand_mutexes() {
+    const EACH: u32 = 50;
+    let opened = || {
+        let begun = Instant::now();
+        for _ in 0..EACH {
+            let _mutex = (mutex(8, 1, ()).unwrap(), Condvar::new());
+        }
+        begun.elapsed() / EACH
+    };
+    let time = (0..20).map(|_| opened()).min().unwrap();
+    assert_eq!(OPENED.get(), 0);
+    assert!(
+        time < Duration::from_micros(20),
+        "{time:?} for a mutex of 8 seats"
+    );
+    assert!(File::open("/").is_err());
+    assert_eq!(OPENED.get(), 1, "std opens files by another call");
+}

@@ -1,80 +1,124 @@
-// Times Ligdrosa's mutex and condition variable beside those of pthread (mutexes normal and recursive) and of the standard
-// library, all in one process and in turn, so that other load on the machine meets all alike: bench [ROUNDS]. A line has the
-// median of the rounds, the least and the greatest: nanoseconds for a lock and an unlock, for a round trip or for a broadcast,
-// and in the rows of fairness how many times as often the thread that gained the mutex most did so as the one that did so
-// least.
+// Times Ligdrosa's mutex and condition variable from C and C++, beside pthread's recursive mutex and std::recursive_mutex, all
+// in one process and in turn, so that other load on the machine meets all alike: bench [ROUNDS [MILLISECONDS]]. A line is
+//
+//     ROW|LOCK|MEDIAN|LEAST|GREATEST
+//
+// of the rounds: nanoseconds for a lock and an unlock, a round trip, a broadcast or a number through a queue. Rows that end in
+// `most over fewest` say how many times as often the thread that gained the mutex most did so as the one that did so least.
+// rust/examples/bench.rs has the same rows. The last rows are what a mutex costs by its number of seats: nanoseconds to open
+// and to close it, and bytes.
+#include <malloc.h>
+#include <time.h>
+
 #include <algorithm>
+#include <atomic>
 #include <barrier>
 #include <chrono>
 #include <cstdio>
 #include <functional>
+#include <memory>
+#include <numeric>
+#include <random>
 #include <string>
 #include <thread>
+#include <type_traits>
+#include <vector>
 
 #include "bench_locks.hpp"
 
-static Seated seated;
-static Standard<lfm::recursive_mutex> found_by_thread;
-static Posix normal(PTHREAD_MUTEX_NORMAL), recursive(PTHREAD_MUTEX_RECURSIVE);
-static Standard<std::mutex> standard;
-static Standard<std::recursive_mutex> standard_recursive;
+static InHand in_hand;
+static Found found;
+static Posix posix;
+static Standard<lfm::recursive_mutex, lfm::condition_variable> ours;
+static Standard<std::recursive_mutex, std::condition_variable_any> standard;
 static uint64_t total;
+static int rounds = 11, milliseconds = 50;
 
 static uint64_t now() {
   auto time = std::chrono::steady_clock::now().time_since_epoch();
   return uint64_t(std::chrono::duration_cast<std::chrono::nanoseconds>(time).count());
 }
 
-static void turn(int count) {
-  for (int i = 0; i < count; i++) __asm__ volatile("" ::: "memory");
+// The processor time of the calling thread, which nobody else adds to.
+static uint64_t own_time() {
+  struct timespec time;
+  clock_gettime(CLOCK_THREAD_CPUTIME_ID, &time);
+  return uint64_t(time.tv_sec) * 1000000000 + uint64_t(time.tv_nsec);
+}
+
+// Turns of a loop, which take time and nothing else. They take as long wherever they are called.
+[[gnu::noinline]] static void turn(uint64_t count) {
+  for (uint64_t i = 0; i < count; i++) __asm__ volatile("" ::: "memory");
+}
+
+// How many turns take this many nanoseconds, by the quickest of many tries.
+static uint64_t turns_of(double nanoseconds) {
+  const uint64_t turns = 20000;
+  uint64_t least = UINT64_MAX;
+  for (int i = 0; i < 2000; i++) {
+    uint64_t begun = now();
+    turn(turns);
+    least = std::min(least, now() - begun);
+  }
+  return uint64_t(nanoseconds * double(turns) / double(least));
 }
 
 template <class Lock> static double alone(Lock &lock) {
-  const int pairs = 200000;
-  uint64_t begun = now();
+  const int pairs = 100000;
+  uint64_t begun = own_time();
   for (int i = 0; i < pairs; i++) {
     lock.lock(0);
     total++;
     lock.unlock(0);
   }
-  return double(now() - begun) / pairs;
+  return double(own_time() - begun) / pairs;
 }
 
-template <class Lock> static double by_trying(Lock &lock) {
-  const int pairs = 200000;
-  uint64_t begun = now();
-  for (int i = 0; i < pairs; i++) {
-    if (!lock.try_lock(0)) std::abort();
-    total++;
-    lock.unlock(0);
-  }
-  return double(now() - begun) / pairs;
-}
-
-// A try_lock that is refused.
-template <class Lock> static double refused_try(Lock &lock) {
-  const int tries = 200000;
-  uint64_t begun = 0, ended = 0;
-  lock.lock(0);
-  std::thread([&] {
-    begun = now();
-    for (int i = 0; i < tries; i++)
-      if (lock.try_lock(1)) std::abort();
-    ended = now();
-  }).join();
-  lock.unlock(0);
-  return double(ended - begun) / tries;
-}
-
-template <class Lock> static double held(Lock &lock) {
+// The thread holds already, and does so all the while.
+template <class Lock> static double deeper(Lock &lock) {
   lock.lock(0);
   double nanoseconds = alone(lock);
   lock.unlock(0);
   return nanoseconds;
 }
 
-// Runs the function in this many threads, which begin together, and returns the nanoseconds that they took.
-static double in_threads(int threads, const std::function<void(int)> &work) {
+// Another thread holds.
+template <class Lock> static double refused_try(Lock &lock) {
+  const int tries = 100000;
+  double nanoseconds = 0;
+  lock.lock(0);
+  std::thread([&] {
+    uint64_t begun = own_time();
+    for (int i = 0; i < tries; i++)
+      if (lock.try_lock(1)) std::abort();
+    nanoseconds = double(own_time() - begun);
+  }).join();
+  lock.unlock(0);
+  return nanoseconds / tries;
+}
+
+// One thread, and this many mutexes in a random order.
+template <class Lock> static double among(size_t count) {
+  const int pairs = 50000;
+  std::unique_ptr<typename Lock::OfOneThread[]> locks(new typename Lock::OfOneThread[count]);
+  std::vector<size_t> order(count);
+  std::iota(order.begin(), order.end(), size_t(0));
+  std::shuffle(order.begin(), order.end(), std::mt19937(1));
+  uint64_t begun = 0;
+  // the first time round opens them
+  for (int i = -int(count); i < pairs; i++) {
+    if (i == 0) begun = own_time();
+    auto &lock = locks[order[(size_t(i) + count) % count]];
+    lock.lock(0);
+    total++;
+    lock.unlock(0);
+  }
+  return double(own_time() - begun) / pairs;
+}
+
+// Runs the function in this many threads, which begin together, and returns the nanoseconds until all have ended. `beside` is
+// done by the calling thread meanwhile.
+static double in_threads(int threads, const std::function<void(int)> &work, const std::function<void()> &beside = [] {}) {
   std::barrier start(threads + 1);
   std::vector<std::thread> all;
   for (int thread = 0; thread < threads; thread++)
@@ -84,55 +128,53 @@ static double in_threads(int threads, const std::function<void(int)> &work) {
     });
   uint64_t begun = now();
   start.arrive_and_wait();
+  beside();
   for (auto &thread : all) thread.join();
   return double(now() - begun);
 }
 
-// This many threads, which hold for `inside` turns of a loop and stay outside for `outside` turns.
-template <class Lock> static double together(Lock &lock, int threads, int inside, int outside) {
-  const int pairs = 40000 / threads;
-  total = 0;
-  double nanoseconds = in_threads(threads, [&](int thread) {
-    for (int i = 0; i < pairs; i++) {
-      lock.lock(thread);
-      total++;
-      turn(inside);
-      lock.unlock(thread);
-      turn(outside);
-    }
-  });
-  if (total != uint64_t(pairs) * uint64_t(threads)) std::abort();
-  return nanoseconds / (double(pairs) * threads);
-}
+struct Shares {
+  double nanoseconds, most_over_fewest;
+};
 
-// This many threads with short sections for 50 milliseconds: how many times as often the quickest gained the mutex as the
-// slowest.
-template <class Lock> static double fairness(Lock &lock, int threads) {
+// This many threads, which hold for `inside` turns and stay outside for `outside` turns, until the time is over.
+template <class Lock> static Shares together(Lock &lock, int threads, uint64_t inside, uint64_t outside) {
   std::vector<uint64_t> gained(size_t(threads), 0);
-  in_threads(threads, [&](int thread) {
-    uint64_t count = 0, end = now() + 50000000;
-    while (now() < end) {
-      lock.lock(thread);
-      count++;
-      lock.unlock(thread);
-    }
-    gained[size_t(thread)] = count;
-  });
+  std::atomic<bool> is_over{false};
+  total = 0;
+  double nanoseconds = in_threads(
+      threads,
+      [&](int thread) {
+        uint64_t count = 0;
+        for (; !is_over.load(std::memory_order_relaxed); count++) {
+          lock.lock(thread);
+          total++;
+          if (inside) turn(inside);
+          lock.unlock(thread);
+          if (outside) turn(outside);
+        }
+        gained[size_t(thread)] = count;
+      },
+      [&] {
+        std::this_thread::sleep_for(std::chrono::milliseconds(milliseconds));
+        is_over.store(true, std::memory_order_relaxed);
+      });
+  if (total != std::accumulate(gained.begin(), gained.end(), uint64_t(0))) std::abort();
   auto ends = std::minmax_element(gained.begin(), gained.end());
-  return double(*ends.second) / double(std::max<uint64_t>(*ends.first, 1));
+  return {nanoseconds / double(total), double(*ends.second) / double(std::max<uint64_t>(*ends.first, 1))};
 }
 
 // Two threads wake one another in turn: a round trip.
-template <class Lock, class Condition> static double ping_pong(Lock &lock) {
-  const int trips = 2000;
-  Condition conditions[2]{Condition(lock), Condition(lock)};
+template <class Lock> static double ping_pong(Lock &lock) {
+  const int trips = 1000;
+  typename Lock::Condition conditions[2];
   int whose = 0;
   double nanoseconds = in_threads(2, [&](int thread) {
     for (int i = 0; i < trips; i++) {
       lock.lock(thread);
-      while (whose != thread) conditions[thread].wait(thread);
+      while (whose != thread) conditions[thread].wait(lock, thread);
       whose = 1 - thread;
-      conditions[1 - thread].wake_one(thread);
+      conditions[1 - thread].wake_one(lock, thread);
       lock.unlock(thread);
     }
   });
@@ -140,112 +182,165 @@ template <class Lock, class Condition> static double ping_pong(Lock &lock) {
 }
 
 // One thread wakes this many that wait, again and again: the time from the wake until each of them has held the mutex.
-template <class Lock, class Condition> static double broadcast(Lock &lock, int waiters) {
-  const int times = 100;
-  Condition go(lock), all_wait(lock);
+template <class Lock> static double broadcast(Lock &lock, int waiters) {
+  const int times = 50;
+  typename Lock::Condition go, all_wait;
   int generation = 0, waiting = 0;
   uint64_t begun = 0;
   in_threads(waiters + 1, [&](int thread) {
     lock.lock(thread);
     for (int i = 0; i < times; i++) {
       if (thread != waiters) {
-        if (++waiting == waiters) all_wait.wake_one(thread);
-        while (generation <= i) go.wait(thread);
+        if (++waiting == waiters) all_wait.wake_one(lock, thread);
+        while (generation <= i) go.wait(lock, thread);
         continue;
       }
-      while (waiting != waiters) all_wait.wait(thread);
+      while (waiting != waiters) all_wait.wait(lock, thread);
       if (i == 0) begun = now(); // all wait for the first time
       waiting = 0;
       generation++;
-      go.wake_all(thread);
+      go.wake_all(lock, thread);
     }
     lock.unlock(thread);
   });
   return double(now() - begun) / times;
 }
 
-struct Row {
-  std::string name;
-  std::function<double()> time;
-};
+// As many threads put numbers into a queue of 16 places as take them out.
+template <class Lock> static double queue(Lock &lock, int pairs_of_threads) {
+  const uint64_t places = 16, numbers = 4000 / uint64_t(pairs_of_threads);
+  typename Lock::Condition not_full, not_empty;
+  uint64_t slots[places], put = 0, taken = 0;
+  std::atomic<uint64_t> sum{0};
+  double nanoseconds = in_threads(2 * pairs_of_threads, [&](int thread) {
+    for (uint64_t number = 1, own = 0; number <= numbers; number++) {
+      lock.lock(thread);
+      if (thread % 2 == 0) {
+        while (put - taken == places) not_full.wait(lock, thread);
+        slots[put++ % places] = number;
+        not_empty.wake_one(lock, thread);
+      } else {
+        while (put == taken) not_empty.wait(lock, thread);
+        own += slots[taken++ % places];
+        not_full.wake_one(lock, thread);
+      }
+      lock.unlock(thread);
+      if (number == numbers) sum += own;
+    }
+  });
+  uint64_t moved = numbers * uint64_t(pairs_of_threads);
+  if (sum != moved * (numbers + 1) / 2) std::abort();
+  return nanoseconds / double(moved);
+}
 
-static void tell(const std::string &what, int rounds, const std::vector<Row> &rows) {
-  std::vector<std::vector<double>> times(rows.size());
-  for (int i = 0; i < rounds; i++)
-    for (size_t k = 0; k < rows.size(); k++) times[k].push_back(rows[k].time());
-  for (size_t k = 0; k < rows.size(); k++) {
-    std::sort(times[k].begin(), times[k].end());
-    double median = times[k][size_t(rounds) / 2], least = times[k].front(), greatest = times[k].back();
-    std::printf("%-34s %-28s %9.1f  (%.1f to %.1f)\n", what.c_str(), rows[k].name.c_str(), median, least, greatest);
-  }
+using Figures = std::vector<double>;
+
+static void print(const std::string &row, const char *lock, Figures figures) {
+  std::sort(figures.begin(), figures.end());
+  std::printf("%s|%s|%.1f|%.1f|%.1f\n", row.c_str(), lock, figures[figures.size() / 2], figures.front(), figures.back());
   std::fflush(stdout);
 }
 
-static void tell_one_thread(int rounds) {
-  tell("alone: lock, unlock", rounds,
-       {{"ligdrosa", [] { return alone(seated); }},
-        {"lfm::recursive_mutex", [] { return alone(found_by_thread); }},
-        {"pthread normal", [] { return alone(normal); }},
-        {"pthread recursive", [] { return alone(recursive); }},
-        {"std::mutex", [] { return alone(standard); }},
-        {"std::recursive_mutex", [] { return alone(standard_recursive); }}});
-  tell("alone: try_lock, unlock", rounds,
-       {{"ligdrosa", [] { return by_trying(seated); }},
-        {"pthread normal", [] { return by_trying(normal); }},
-        {"pthread recursive", [] { return by_trying(recursive); }},
-        {"std::mutex", [] { return by_trying(standard); }}});
-  tell("try_lock that is refused", rounds,
-       {{"ligdrosa", [] { return refused_try(seated); }},
-        {"pthread normal", [] { return refused_try(normal); }},
-        {"pthread recursive", [] { return refused_try(recursive); }},
-        {"std::mutex", [] { return refused_try(standard); }}});
-  tell("held: once more, once less", rounds,
-       {{"ligdrosa", [] { return held(seated); }},
-        {"pthread recursive", [] { return held(recursive); }},
-        {"std::recursive_mutex", [] { return held(standard_recursive); }}});
+// Measures all locks in turn. One measurement gives a figure for each of these rows.
+template <class Measure> static void tell(const std::vector<std::string> &rows, Measure measure) {
+  struct Column {
+    const char *lock;
+    std::vector<Figures> of_rounds;
+  };
+  Column columns[]{{"C in hand", {}}, {"C here", {}}, {"pthread recursive", {}}, {"C++", {}}, {"std::recursive_mutex", {}}};
+  for (int i = 0; i < rounds; i++) {
+    columns[0].of_rounds.push_back(measure(in_hand));
+    columns[1].of_rounds.push_back(measure(found));
+    columns[2].of_rounds.push_back(measure(posix));
+    columns[3].of_rounds.push_back(measure(ours));
+    columns[4].of_rounds.push_back(measure(standard));
+  }
+  for (size_t row = 0; row < rows.size(); row++)
+    for (const Column &column : columns) {
+      Figures figures;
+      for (const Figures &of_round : column.of_rounds) figures.push_back(of_round[row]);
+      print(rows[row], column.lock, figures);
+    }
 }
 
-static void tell_threads(int rounds) {
+static void tell_one_thread() {
+  tell({"alone: lock, unlock"}, [](auto &lock) { return Figures{alone(lock)}; });
+  tell({"alone: once more, once less"}, [](auto &lock) { return Figures{deeper(lock)}; });
+  tell({"try_lock that is refused"}, [](auto &lock) { return Figures{refused_try(lock)}; });
+  for (size_t count : {64, 4096})
+    tell({"one among " + std::to_string(count)},
+         [=](auto &lock) { return Figures{among<std::decay_t<decltype(lock)>>(count)}; });
+}
+
+static void tell_threads() {
   struct Load {
     const char *name;
-    int inside, outside;
+    uint64_t inside, outside;
   };
-  for (int threads : {2, 4, 8}) {
-    std::string many = std::to_string(threads) + " threads, ";
-    for (Load load : {Load{"short", 0, 0}, Load{"long", 1000, 0}, Load{"thinking", 0, 1000}})
-      tell(many + load.name, rounds,
-           {{"ligdrosa", [=] { return together(seated, threads, load.inside, load.outside); }},
-            {"pthread normal", [=] { return together(normal, threads, load.inside, load.outside); }},
-            {"pthread recursive", [=] { return together(recursive, threads, load.inside, load.outside); }},
-            {"std::mutex", [=] { return together(standard, threads, load.inside, load.outside); }}});
-    tell(many + "fairness", rounds,
-         {{"ligdrosa", [=] { return fairness(seated, threads); }},
-          {"pthread normal", [=] { return fairness(normal, threads); }},
-          {"pthread recursive", [=] { return fairness(recursive, threads); }},
-          {"std::mutex", [=] { return fairness(standard, threads); }}});
+  for (Load load : {Load{"short", 0, 0}, Load{"long", turns_of(500), 0}, Load{"thinking", 0, turns_of(1000)}})
+    for (int threads : {2, 4, 8}) {
+      std::string row = std::to_string(threads) + " threads, " + load.name;
+      tell({row, row + ", most over fewest"}, [=](auto &lock) {
+        Shares shares = together(lock, threads, load.inside, load.outside);
+        return Figures{shares.nanoseconds, shares.most_over_fewest};
+      });
+    }
+}
+
+static void tell_conditions() {
+  tell({"ping-pong, a round trip"}, [](auto &lock) { return Figures{ping_pong(lock)}; });
+  for (int waiters : {4, 32})
+    tell({"broadcast to " + std::to_string(waiters)}, [=](auto &lock) { return Figures{broadcast(lock, waiters)}; });
+  for (int pairs : {1, 4})
+    tell({"queue, " + std::to_string(pairs) + " to " + std::to_string(pairs)},
+         [=](auto &lock) { return Figures{queue(lock, pairs)}; });
+}
+
+// What was given by malloc and the like.
+static size_t bytes_given() {
+  struct mallinfo2 given = mallinfo2();
+  return given.uordblks + given.hblkhd;
+}
+
+// Of each of some mutexes: the time to open it, its bytes, its bytes if all its seats are taken, and the time to close it.
+static Figures costs(uint64_t seats) {
+  const size_t count = seats < 100 ? 100 : 10;
+  std::vector<lfm_mutex> mutexes(count);
+  std::vector<lfm_seat> taken(seats);
+  size_t before = bytes_given();
+  uint64_t begun = own_time();
+  for (lfm_mutex &mutex : mutexes) made(lfm_mutex_new(&mutex, seats, LFM_MOST_TAKES));
+  double opening = double(own_time() - begun), bytes = double(bytes_given() - before) / double(count) + sizeof(lfm_mutex);
+  before = bytes_given();
+  for (lfm_seat &seat : taken) made(lfm_seat_take(&mutexes[0], &seat));
+  double more = double(bytes_given() - before) + double(seats * sizeof(lfm_seat));
+  for (lfm_seat &seat : taken) made(lfm_seat_give(&seat));
+  begun = own_time();
+  for (lfm_mutex &mutex : mutexes) made(lfm_mutex_close(&mutex));
+  return {opening / double(count), double(own_time() - begun) / double(count), bytes, bytes + more};
+}
+
+static void tell_costs() {
+  for (uint64_t seats : {1, 8, 64, 4095}) {
+    const char *const names[] = {"open", "close", "bytes", "bytes with all taken"};
+    std::vector<Figures> of_rounds;
+    for (int i = 0; i < rounds; i++) of_rounds.push_back(costs(seats));
+    for (size_t row = 0; row < 4; row++) {
+      Figures figures;
+      for (const Figures &of_round : of_rounds) figures.push_back(of_round[row]);
+      print(std::to_string(seats) + " seats: " + names[row], "C in hand", figures);
+    }
   }
 }
 
-static void tell_conditions(int rounds) {
-  tell("ping-pong, a round trip", rounds,
-       {{"ligdrosa", [] { return ping_pong<Seated, SeatedCondition>(seated); }},
-        {"pthread normal", [] { return ping_pong<Posix, PosixCondition>(normal); }},
-        {"pthread recursive", [] { return ping_pong<Posix, PosixCondition>(recursive); }},
-        {"std::mutex", [] { return ping_pong<Standard<std::mutex>, StandardCondition>(standard); }}});
-  for (int waiters : {4, 32})
-    tell("broadcast to " + std::to_string(waiters), rounds,
-         {{"ligdrosa", [=] { return broadcast<Seated, SeatedCondition>(seated, waiters); }},
-          {"pthread normal", [=] { return broadcast<Posix, PosixCondition>(normal, waiters); }},
-          {"pthread recursive", [=] { return broadcast<Posix, PosixCondition>(recursive, waiters); }},
-          {"std::mutex", [=] { return broadcast<Standard<std::mutex>, StandardCondition>(standard, waiters); }}});
-}
-
 int main(int argc, char **argv) {
-  int rounds = argc > 1 ? std::atoi(argv[1]) : 11;
+  if (argc > 1) rounds = std::atoi(argv[1]);
+  if (argc > 2) milliseconds = std::atoi(argv[2]);
   // a second thread has run, so that the C library makes real atomic steps
   std::thread([] {}).join();
-  tell_one_thread(rounds);
-  tell_threads(rounds);
-  tell_conditions(rounds);
+  tell_one_thread();
+  tell_threads();
+  tell_conditions();
+  tell_costs();
   return 0;
 }

@@ -1,77 +1,108 @@
-// The mutexes and condition variables that are measured, in one form: a thread says its number, 0 and on, with each call. What
-// is measured of them stands in bench.cpp.
+// The mutexes that bench.cpp measures, in one form. A thread says its number, 0 and on, with each call. Each mutex has its kind of
+// condition variable, and its form for one thread alone.
 #pragma once
 #include <pthread.h>
 
 #include <condition_variable>
+#include <cstdlib>
 #include <mutex>
-#include <vector>
 
 #include "ligdrosa.hpp"
 
-// How many threads may use them.
-static const int MOST = 33;
+inline void made(lfm_status status) {
+  if (lfm_is_refused(status)) std::abort();
+}
 
-struct Seated {
-  lfm::mutex mutex{MOST};
-  std::vector<std::unique_ptr<lfm::seat>> seats;
-  Seated() {
-    for (int i = 0; i < MOST; i++) seats.push_back(std::make_unique<lfm::seat>(mutex));
+// ligdrosa.h, with seats in hand.
+template <int SEATS> struct InHandOf {
+  lfm_mutex mutex{};
+  lfm_seat seats[SEATS]{};
+  InHandOf() {
+    made(lfm_mutex_new(&mutex, SEATS, LFM_MOST_TAKES));
+    for (lfm_seat &seat : seats) made(lfm_seat_take(&mutex, &seat));
   }
-  lfm_seat *seat(int thread) { return seats[size_t(thread)]->native_handle(); }
-  void lock(int thread) { lfm::made(lfm_lock(seat(thread))); }
-  bool try_lock(int thread) { return !lfm_is_refused(lfm_try_lock(seat(thread))); }
-  void unlock(int thread) { lfm_unlock(seat(thread)); }
+  InHandOf(const InHandOf &) = delete;
+  ~InHandOf() {
+    for (lfm_seat &seat : seats) lfm_seat_give(&seat);
+    lfm_mutex_close(&mutex);
+  }
+  void lock(int thread) { made(lfm_lock(&seats[thread])); }
+  bool try_lock(int thread) { return !lfm_is_refused(lfm_try_lock(&seats[thread])); }
+  void unlock(int thread) { lfm_unlock(&seats[thread]); }
+
+  struct Condition {
+    lfm_condvar raw{};
+    ~Condition() { lfm_condvar_close(&raw); }
+    void wait(InHandOf &lock, int thread) { made(lfm_wait(&raw, &lock.seats[thread])); }
+    void wake_one(InHandOf &lock, int thread) { lfm_wake_one_by(&raw, &lock.seats[thread]); }
+    void wake_all(InHandOf &lock, int thread) { lfm_wake_all_by(&raw, &lock.seats[thread]); }
+  };
+  using OfOneThread = InHandOf<1>;
+};
+// Its threads are at most this many.
+using InHand = InHandOf<33>;
+
+// ligdrosa.h, with seats that find themselves.
+struct Found {
+  lfm_mutex mutex = LFM_MUTEX_INIT;
+  Found() = default;
+  Found(const Found &) = delete;
+  ~Found() { lfm_mutex_close(&mutex); }
+  void lock(int) { made(lfm_lock_here(&mutex)); }
+  bool try_lock(int) { return !lfm_is_refused(lfm_try_lock_here(&mutex)); }
+  void unlock(int) { lfm_unlock_here(&mutex); }
+
+  struct Condition {
+    lfm_condvar raw{};
+    ~Condition() { lfm_condvar_close(&raw); }
+    void wait(Found &lock, int) { made(lfm_wait_here(&raw, &lock.mutex)); }
+    void wake_one(Found &, int) { lfm_wake_one(&raw); }
+    void wake_all(Found &, int) { lfm_wake_all(&raw); }
+  };
+  using OfOneThread = Found;
 };
 
-struct SeatedCondition {
-  lfm_condvar raw{};
-  Seated *of;
-  explicit SeatedCondition(Seated &lock) : of(&lock) { lfm::made(lfm_condvar_new(&raw, lock.mutex.native_handle())); }
-  ~SeatedCondition() { lfm_condvar_close(&raw); }
-  void wait(int thread) { lfm::made(lfm_wait(&raw, of->seat(thread))); }
-  void wake_one(int thread) { lfm_wake_one(&raw, of->seat(thread)); }
-  void wake_all(int thread) { lfm_wake_all(&raw, of->seat(thread)); }
-};
-
+// pthread's, recursive.
 struct Posix {
   pthread_mutex_t mutex;
-  explicit Posix(int kind) {
+  Posix() {
     pthread_mutexattr_t attributes;
     pthread_mutexattr_init(&attributes);
-    pthread_mutexattr_settype(&attributes, kind);
+    pthread_mutexattr_settype(&attributes, PTHREAD_MUTEX_RECURSIVE);
     pthread_mutex_init(&mutex, &attributes);
   }
+  Posix(const Posix &) = delete;
+  ~Posix() { pthread_mutex_destroy(&mutex); }
   void lock(int) { pthread_mutex_lock(&mutex); }
   bool try_lock(int) { return pthread_mutex_trylock(&mutex) == 0; }
   void unlock(int) { pthread_mutex_unlock(&mutex); }
+
+  struct Condition {
+    pthread_cond_t raw = PTHREAD_COND_INITIALIZER;
+    ~Condition() { pthread_cond_destroy(&raw); }
+    void wait(Posix &lock, int) { pthread_cond_wait(&raw, &lock.mutex); }
+    void wake_one(Posix &, int) { pthread_cond_signal(&raw); }
+    void wake_all(Posix &, int) { pthread_cond_broadcast(&raw); }
+  };
+  using OfOneThread = Posix;
 };
 
-struct PosixCondition {
-  pthread_cond_t raw = PTHREAD_COND_INITIALIZER;
-  Posix *of;
-  explicit PosixCondition(Posix &lock) : of(&lock) {}
-  void wait(int) { pthread_cond_wait(&raw, &of->mutex); }
-  void wake_one(int) { pthread_cond_signal(&raw); }
-  void wake_all(int) { pthread_cond_broadcast(&raw); }
-};
-
-template <class Mutex> struct Standard {
+// A mutex and a condition variable of C++.
+template <class Mutex, class Waits> struct Standard {
   Mutex mutex;
   void lock(int) { mutex.lock(); }
   bool try_lock(int) { return mutex.try_lock(); }
   void unlock(int) { mutex.unlock(); }
-};
 
-struct StandardCondition {
-  std::condition_variable raw;
-  std::mutex *of;
-  explicit StandardCondition(Standard<std::mutex> &lock) : of(&lock.mutex) {}
-  void wait(int) {
-    std::unique_lock<std::mutex> held(*of, std::adopt_lock);
-    raw.wait(held);
-    held.release();
-  }
-  void wake_one(int) { raw.notify_one(); }
-  void wake_all(int) { raw.notify_all(); }
+  struct Condition {
+    Waits raw;
+    void wait(Standard &lock, int) {
+      std::unique_lock<Mutex> held(lock.mutex, std::adopt_lock);
+      raw.wait(held);
+      held.release();
+    }
+    void wake_one(Standard &, int) { raw.notify_one(); }
+    void wake_all(Standard &, int) { raw.notify_all(); }
+  };
+  using OfOneThread = Standard;
 };

@@ -1,331 +1,524 @@
-//! Times this crate's mutex and condition variable beside the standard library's, in turn: bench [ROUNDS]. A line has the
-//! median of the rounds, the least and the greatest: nanoseconds for a lock and an unlock, for a round trip or for a broadcast,
-//! and in the rows of fairness how many times as often the thread that gained the mutex most did so as the one that did so
-//! least.
-use ligdrosa::{mutex, Condvar, Seat};
+//! Times this crate's mutex and condition variable beside the standard library's, in turn: bench [ROUNDS [MILLISECONDS]]. A
+//! line is ROW|LOCK|MEDIAN|LEAST|GREATEST of the rounds. c_tests/bench.cpp has the same rows of C and C++, and scripts/bench_c
+//! makes a table of both.
+use ligdrosa::{mutex, Condvar, Guard, Mutex, MutexGuard, Seat};
 use std::{
     env,
     hint::black_box,
-    sync::{Arc, Barrier, Condvar as StdCondvar, Mutex as StdMutex},
+    ops::DerefMut,
+    sync::{
+        atomic::{AtomicBool, Ordering::Relaxed},
+        Arc, Barrier,
+    },
     thread,
     time::{Duration, Instant},
 };
+#[cfg(parking_lot)]
+use std::{mem::ManuallyDrop, ops::Deref};
 
-/// What the mutexes guard.
+const PLACES: usize = 16;
+
+/// What the mutexes guard. It is boxed, so that it is elsewhere than the mutex, as in C and C++.
 #[derive(Default)]
 struct State {
     total: u64,
     whose: usize,
     generation: u32,
     waiting: usize,
+    slots: [u64; PLACES],
+    put: usize,
+    taken: usize,
 }
 
-/// Whom a section wakes, at which of the two condition variables.
-enum Wake {
-    Nobody,
-    One(usize),
-    All(usize),
+/// A mutex and its condition variables.
+trait Kind {
+    /// What one thread locks the mutex by.
+    type Own: Send;
+    type Held<'a>: DerefMut<Target = Box<State>>;
+    type Condition: Default + Sync;
+    const NAME: &'static str;
+
+    fn owns(count: usize) -> Vec<Self::Own>;
+    fn lock(own: &mut Self::Own) -> Self::Held<'_>;
+    fn is_refused(own: &mut Self::Own) -> bool;
+    fn wait<'a>(condition: &Self::Condition, held: Self::Held<'a>) -> Self::Held<'a>;
+    fn wake_one(condition: &Self::Condition, held: &mut Self::Held<'_>);
+    fn wake_all(condition: &Self::Condition, held: &mut Self::Held<'_>);
 }
 
-/// What one thread uses a mutex and two condition variables with.
-trait Party: Send {
-    fn count(&mut self, inside: u32);
-    fn try_count(&mut self) -> bool;
-    /// In one section: `enter`, a wait at the condition variable `at` while `waits`, and `leave`.
-    fn meet(
-        &mut self,
-        enter: impl FnOnce(&mut State) -> Wake,
-        at: usize,
-        waits: impl Fn(&State) -> bool,
-        leave: impl FnOnce(&mut State) -> Wake,
-    );
-}
+/// This crate's, with seats in hand.
+struct InHand;
 
-struct Own {
-    seat: Seat<State>,
-    conditions: Arc<[Condvar; 2]>,
-}
+impl Kind for InHand {
+    type Own = Seat<Box<State>>;
+    type Held<'a> = Guard<'a, Box<State>>;
+    type Condition = Condvar;
+    const NAME: &'static str = "Rust in hand";
 
-impl Own {
-    fn parties(count: usize) -> Vec<Own> {
-        let seats = mutex(count, 1 << 36, State::default()).expect("a mutex");
-        let condvar = || Condvar::new(&seats[0], count).expect("a condition variable");
-        let conditions = Arc::new([condvar(), condvar()]);
-        let party = |seat| Own {
-            seat,
-            conditions: conditions.clone(),
-        };
-        seats.into_iter().map(party).collect()
+    fn owns(count: usize) -> Vec<Self::Own> {
+        mutex(count, 1 << 36, Box::default()).expect("a mutex")
+    }
+    fn lock(own: &mut Self::Own) -> Self::Held<'_> {
+        own.lock().expect("a hold")
+    }
+    fn is_refused(own: &mut Self::Own) -> bool {
+        own.try_lock().is_err()
+    }
+    fn wait<'a>(condition: &Condvar, mut held: Self::Held<'a>) -> Self::Held<'a> {
+        condition.wait(&mut held).expect("a wait");
+        held
+    }
+    fn wake_one(condition: &Condvar, held: &mut Self::Held<'_>) {
+        condition.notify_one_by(held);
+    }
+    fn wake_all(condition: &Condvar, held: &mut Self::Held<'_>) {
+        condition.notify_all_by(held);
     }
 }
 
-impl Party for Own {
-    fn count(&mut self, inside: u32) {
-        let mut held = self.seat.lock().expect("a hold");
-        held.total += 1;
-        spend(inside);
-    }
+/// This crate's, with seats that find themselves.
+struct Here;
 
-    fn try_count(&mut self) -> bool {
-        self.seat.try_lock().map(|mut held| held.total += 1).is_ok()
-    }
+impl Kind for Here {
+    type Own = Arc<Mutex<Box<State>>>;
+    type Held<'a> = MutexGuard<'a, Box<State>>;
+    type Condition = Condvar;
+    const NAME: &'static str = "Rust";
 
-    fn meet(
-        &mut self,
-        enter: impl FnOnce(&mut State) -> Wake,
-        at: usize,
-        waits: impl Fn(&State) -> bool,
-        leave: impl FnOnce(&mut State) -> Wake,
-    ) {
-        let conditions = &self.conditions;
-        let mut held = self.seat.lock().expect("a hold");
-        let wakes = |wake, held: &mut ligdrosa::Guard<State>| match wake {
-            Wake::Nobody => Ok(0),
-            Wake::One(at) => conditions[at].wake_one(held),
-            Wake::All(at) => conditions[at].wake_all(held),
-        };
-        let wake = enter(&mut held);
-        wakes(wake, &mut held).expect("a wake");
-        while waits(&held) {
-            conditions[at].wait(&mut held).expect("a wait");
+    fn owns(count: usize) -> Vec<Self::Own> {
+        vec![Arc::default(); count]
+    }
+    fn lock(own: &mut Self::Own) -> Self::Held<'_> {
+        own.lock().expect("a hold")
+    }
+    fn is_refused(own: &mut Self::Own) -> bool {
+        own.try_lock().is_err()
+    }
+    fn wait<'a>(condition: &Condvar, mut held: Self::Held<'a>) -> Self::Held<'a> {
+        condition.wait(&mut held).expect("a wait");
+        held
+    }
+    fn wake_one(condition: &Condvar, _: &mut Self::Held<'_>) {
+        condition.notify_one();
+    }
+    fn wake_all(condition: &Condvar, _: &mut Self::Held<'_>) {
+        condition.notify_all();
+    }
+}
+
+/// The standard library's.
+struct Std;
+
+impl Kind for Std {
+    type Own = Arc<std::sync::Mutex<Box<State>>>;
+    type Held<'a> = std::sync::MutexGuard<'a, Box<State>>;
+    type Condition = std::sync::Condvar;
+    const NAME: &'static str = "std::sync::Mutex";
+
+    fn owns(count: usize) -> Vec<Self::Own> {
+        vec![Arc::default(); count]
+    }
+    fn lock(own: &mut Self::Own) -> Self::Held<'_> {
+        own.lock().expect("a hold")
+    }
+    fn is_refused(own: &mut Self::Own) -> bool {
+        own.try_lock().is_err()
+    }
+    fn wait<'a>(condition: &Self::Condition, held: Self::Held<'a>) -> Self::Held<'a> {
+        condition.wait(held).expect("a wait")
+    }
+    fn wake_one(condition: &Self::Condition, _: &mut Self::Held<'_>) {
+        condition.notify_one();
+    }
+    fn wake_all(condition: &Self::Condition, _: &mut Self::Held<'_>) {
+        condition.notify_all();
+    }
+}
+
+/// That of the crate parking_lot, whose unlock hands the mutex on if it is `FAIR`. scripts/bench_c adds it if it finds the
+/// crate.
+#[cfg(parking_lot)]
+struct ParkingLot<const FAIR: bool>;
+
+/// Its guard, which ends with either unlock.
+#[cfg(parking_lot)]
+struct ParkingLotGuard<'a, const FAIR: bool>(ManuallyDrop<parking_lot::MutexGuard<'a, Box<State>>>);
+
+#[cfg(parking_lot)]
+impl<const FAIR: bool> Deref for ParkingLotGuard<'_, FAIR> {
+    type Target = Box<State>;
+    fn deref(&self) -> &Box<State> {
+        &self.0
+    }
+}
+
+#[cfg(parking_lot)]
+impl<const FAIR: bool> DerefMut for ParkingLotGuard<'_, FAIR> {
+    fn deref_mut(&mut self) -> &mut Box<State> {
+        &mut self.0
+    }
+}
+
+#[cfg(parking_lot)]
+impl<const FAIR: bool> Drop for ParkingLotGuard<'_, FAIR> {
+    fn drop(&mut self) {
+        // SAFETY: the guard is not used after it was dropped.
+        let guard = unsafe { ManuallyDrop::take(&mut self.0) };
+        if FAIR {
+            parking_lot::MutexGuard::unlock_fair(guard);
         }
-        let wake = leave(&mut held);
-        wakes(wake, &mut held).expect("a wake");
     }
 }
 
-struct Std {
-    mutex: Arc<StdMutex<State>>,
-    conditions: Arc<[StdCondvar; 2]>,
-}
+#[cfg(parking_lot)]
+impl<const FAIR: bool> Kind for ParkingLot<FAIR> {
+    type Own = Arc<parking_lot::Mutex<Box<State>>>;
+    type Held<'a> = ParkingLotGuard<'a, FAIR>;
+    type Condition = parking_lot::Condvar;
+    const NAME: &'static str = if FAIR {
+        "parking_lot, fair"
+    } else {
+        "parking_lot"
+    };
 
-impl Std {
-    fn parties(count: usize) -> Vec<Std> {
-        let mutex = Arc::new(StdMutex::default());
-        let conditions = Arc::new([StdCondvar::new(), StdCondvar::new()]);
-        let party = |_| Std {
-            mutex: mutex.clone(),
-            conditions: conditions.clone(),
-        };
-        (0..count).map(party).collect()
+    fn owns(count: usize) -> Vec<Self::Own> {
+        vec![Arc::default(); count]
     }
-
-    fn wakes(&self, wake: Wake) {
-        match wake {
-            Wake::Nobody => {}
-            Wake::One(at) => self.conditions[at].notify_one(),
-            Wake::All(at) => self.conditions[at].notify_all(),
-        }
+    fn lock(own: &mut Self::Own) -> Self::Held<'_> {
+        ParkingLotGuard(ManuallyDrop::new(own.lock()))
     }
-}
-
-impl Party for Std {
-    fn count(&mut self, inside: u32) {
-        let mut held = self.mutex.lock().expect("a hold");
-        held.total += 1;
-        spend(inside);
+    fn is_refused(own: &mut Self::Own) -> bool {
+        own.try_lock().is_none()
     }
-
-    fn try_count(&mut self) -> bool {
-        self.mutex
-            .try_lock()
-            .map(|mut held| held.total += 1)
-            .is_ok()
+    fn wait<'a>(condition: &Self::Condition, mut held: Self::Held<'a>) -> Self::Held<'a> {
+        condition.wait(&mut held.0);
+        held
     }
-
-    fn meet(
-        &mut self,
-        enter: impl FnOnce(&mut State) -> Wake,
-        at: usize,
-        waits: impl Fn(&State) -> bool,
-        leave: impl FnOnce(&mut State) -> Wake,
-    ) {
-        let mut held = self.mutex.lock().expect("a hold");
-        self.wakes(enter(&mut held));
-        while waits(&held) {
-            held = self.conditions[at].wait(held).expect("a wait");
-        }
-        self.wakes(leave(&mut held));
+    fn wake_one(condition: &Self::Condition, _: &mut Self::Held<'_>) {
+        condition.notify_one();
+    }
+    fn wake_all(condition: &Self::Condition, _: &mut Self::Held<'_>) {
+        condition.notify_all();
     }
 }
 
-fn spend(turns: u32) {
-    for turn in 0..turns {
+/// Turns of a loop, which take time and nothing else. They take as long wherever they are called.
+#[inline(never)]
+fn turn(count: u64) {
+    for turn in 0..count {
         black_box(turn);
     }
 }
 
-/// Runs the function for each party in a thread of its own, all at once, and gives the nanoseconds that they took, and what
-/// they answered.
-fn in_threads<P: Party, A: Send>(
-    parties: Vec<P>,
-    work: impl Fn(usize, P) -> A + Sync,
-) -> (f64, Vec<A>) {
-    let start = Barrier::new(parties.len() + 1);
-    thread::scope(|scope| {
-        let (work, start) = (&work, &start);
-        let begin = |(number, party)| {
-            scope.spawn(move || {
-                start.wait();
-                work(number, party)
-            })
-        };
-        let threads: Vec<_> = parties.into_iter().enumerate().map(begin).collect();
+/// How many turns take this many nanoseconds, by the quickest of many tries.
+fn turns_of(nanoseconds: u64) -> u64 {
+    const TURNS: u64 = 20_000;
+    let took = |_| {
         let begun = Instant::now();
-        start.wait();
-        let answers = threads
-            .into_iter()
-            .map(|thread| thread.join().expect("an answer"))
-            .collect();
-        (begun.elapsed().as_nanos() as f64, answers)
+        turn(TURNS);
+        begun.elapsed().as_nanos() as u64
+    };
+    nanoseconds * TURNS / (0..2_000).map(took).min().unwrap_or(1).max(1)
+}
+
+/// The processor time of the calling thread, in nanoseconds, which nobody else adds to.
+fn own_time() -> u64 {
+    const CLOCK_THREAD_CPUTIME_ID: i32 = 3;
+    extern "C" {
+        fn clock_gettime(clock: i32, time: *mut [i64; 2]) -> i32;
+    }
+    let mut time = [0; 2];
+    // SAFETY: a timespec of Linux with addresses of 64 bits is two such numbers.
+    unsafe { clock_gettime(CLOCK_THREAD_CPUTIME_ID, &mut time) };
+    let [seconds, nanoseconds] = time.map(|part| part as u64);
+    seconds * 1_000_000_000 + nanoseconds
+}
+
+/// What the function takes of the calling thread's processor time, for each of this many.
+fn own_time_of(count: usize, work: impl FnOnce()) -> [f64; 1] {
+    let begun = own_time();
+    work();
+    [(own_time() - begun) as f64 / count as f64]
+}
+
+/// The nanoseconds for each of this many.
+fn each(begun: Instant, count: usize) -> f64 {
+    begun.elapsed().as_nanos() as f64 / count as f64
+}
+
+fn alone<K: Kind>() -> [f64; 1] {
+    const PAIRS: usize = 100_000;
+    let mut own = K::owns(1).remove(0);
+    own_time_of(PAIRS, || {
+        for _ in 0..PAIRS {
+            K::lock(&mut own).total += 1;
+        }
     })
 }
 
-fn alone<P: Party>(mut parties: Vec<P>, does: impl Fn(&mut P)) -> f64 {
-    const PAIRS: u32 = 200_000;
-    let begun = Instant::now();
-    (0..PAIRS).for_each(|_| does(&mut parties[0]));
-    begun.elapsed().as_nanos() as f64 / f64::from(PAIRS)
+/// Another thread holds.
+fn refused_try<K: Kind>() -> [f64; 1] {
+    const TRIES: usize = 100_000;
+    let mut owns = K::owns(2);
+    let mut other = owns.remove(1);
+    let _held = K::lock(&mut owns[0]);
+    let tries = move || {
+        own_time_of(TRIES, || {
+            for _ in 0..TRIES {
+                assert!(K::is_refused(&mut other));
+            }
+        })
+    };
+    thread::scope(|scope| scope.spawn(tries).join().expect("an answer"))
 }
 
-fn together<P: Party>(parties: Vec<P>, inside: u32, outside: u32) -> f64 {
-    const PAIRS: usize = 40_000;
-    let each = PAIRS / parties.len();
-    let (nanoseconds, _) = in_threads(parties, |_, mut party| {
-        for _ in 0..each {
-            party.count(inside);
-            spend(outside);
-        }
-    });
-    nanoseconds / PAIRS as f64
+/// One thread, and this many mutexes in a random order.
+fn among<K: Kind>(count: usize) -> [f64; 1] {
+    const PAIRS: usize = 50_000;
+    let mut owns: Vec<_> = (0..count).flat_map(|_| K::owns(1)).collect();
+    let mut order: Vec<_> = (0..count).collect();
+    let mut random = 1u64;
+    for at in (1..count).rev() {
+        random = random
+            .wrapping_mul(6_364_136_223_846_793_005)
+            .wrapping_add(1);
+        order.swap(at, (random >> 33) as usize % (at + 1));
+    }
+    // the first time round opens them
+    let mut lock = |at: usize| drop(K::lock(&mut owns[order[at % count]]));
+    (0..count).for_each(&mut lock);
+    own_time_of(PAIRS, || (0..PAIRS).for_each(lock))
 }
 
-fn fairness<P: Party>(parties: Vec<P>) -> f64 {
-    let (_, gained) = in_threads(parties, |_, mut party| {
+/// Runs the function in this many threads, which begin together, and gives the nanoseconds until all have ended, and what they
+/// answered. `beside` is done by the calling thread meanwhile.
+fn in_threads<K: Kind, A: Send>(
+    threads: usize,
+    work: impl Fn(usize, K::Own) -> A + Sync,
+    beside: impl FnOnce(),
+) -> (f64, Vec<A>) {
+    let start = Barrier::new(threads + 1);
+    let (work, start) = (&work, &start);
+    thread::scope(|scope| {
+        let begin = |(number, own)| {
+            scope.spawn(move || {
+                start.wait();
+                work(number, own)
+            })
+        };
+        let owns = K::owns(threads).into_iter().enumerate();
+        let threads: Vec<_> = owns.map(begin).collect();
         let begun = Instant::now();
+        start.wait();
+        beside();
+        let answers = threads
+            .into_iter()
+            .map(|thread| thread.join().expect("an answer"));
+        let answers = answers.collect();
+        (each(begun, 1), answers)
+    })
+}
+
+/// This many threads, which hold for `inside` turns and stay outside for `outside` turns, until the time is over: the
+/// nanoseconds for an acquisition, and the most of a thread over the fewest.
+fn together<K: Kind>(threads: usize, (inside, outside): (u64, u64), time: Duration) -> [f64; 2] {
+    let is_over = AtomicBool::new(false);
+    let work = |_, mut own| {
         let mut gained = 0u64;
-        while begun.elapsed() < Duration::from_millis(50) {
-            party.count(0);
+        while !is_over.load(Relaxed) {
+            let mut held = K::lock(&mut own);
+            held.total += 1;
+            if inside > 0 {
+                turn(inside);
+            }
+            drop(held);
+            if outside > 0 {
+                turn(outside);
+            }
             gained += 1;
         }
-        gained as f64
+        let total = K::lock(&mut own).total;
+        (gained, total)
+    };
+    let (nanoseconds, shares) = in_threads::<K, _>(threads, work, || {
+        thread::sleep(time);
+        is_over.store(true, Relaxed);
     });
-    let most = gained.iter().copied().fold(0.0, f64::max);
-    most / gained.iter().copied().fold(f64::MAX, f64::min).max(1.0)
+    let gained = || shares.iter().map(|(gained, _)| *gained);
+    let sum: u64 = gained().sum();
+    assert_eq!(shares.iter().map(|(_, total)| *total).max(), Some(sum));
+    let most_over_fewest =
+        gained().max().unwrap_or(0) as f64 / gained().min().unwrap_or(0).max(1) as f64;
+    [nanoseconds / sum as f64, most_over_fewest]
 }
 
-fn ping_pong<P: Party>(parties: Vec<P>) -> f64 {
-    const TRIPS: u32 = 2_000;
-    let (nanoseconds, _) = in_threads(parties, |own, mut party| {
+/// Two threads wake one another in turn: a round trip.
+fn ping_pong<K: Kind>() -> [f64; 1] {
+    const TRIPS: u32 = 1_000;
+    let conditions: [K::Condition; 2] = Default::default();
+    let work = |number: usize, mut own| {
         for _ in 0..TRIPS {
-            let pass_on = |state: &mut State| {
-                state.whose = 1 - own;
-                Wake::One(1 - own)
-            };
-            party.meet(|_| Wake::Nobody, own, |state| state.whose != own, pass_on);
+            let mut held = K::lock(&mut own);
+            while held.whose != number {
+                held = K::wait(&conditions[number], held);
+            }
+            held.whose = 1 - number;
+            K::wake_one(&conditions[1 - number], &mut held);
         }
-    });
-    nanoseconds / f64::from(TRIPS)
+    };
+    [in_threads::<K, _>(2, work, || ()).0 / f64::from(TRIPS)]
 }
 
-/// The last party wakes the others, again and again: from the wake until each of them has held the mutex.
-fn broadcast<P: Party>(parties: Vec<P>) -> f64 {
-    const TIMES: u32 = 100;
-    let waiters = parties.len() - 1;
-    let (_, begun) = in_threads(parties, |number, mut party| {
+/// The last thread wakes the others, which wait in one hold, again and again: the time from the wake until each of them has
+/// held the mutex.
+fn broadcast<K: Kind>(waiters: usize) -> [f64; 1] {
+    const TIMES: usize = 50;
+    let (go, all_wait) = (K::Condition::default(), K::Condition::default());
+    let work = |number, mut own| {
         let mut begun = None;
+        let mut held = K::lock(&mut own);
         for time in 0..TIMES {
-            if number < waiters {
-                let arrive = |state: &mut State| {
-                    state.waiting += 1;
-                    if state.waiting == waiters {
-                        Wake::One(1)
-                    } else {
-                        Wake::Nobody
-                    }
-                };
-                party.meet(
-                    arrive,
-                    0,
-                    |state| state.generation <= time,
-                    |_| Wake::Nobody,
-                );
+            if number == waiters {
+                while held.waiting != waiters {
+                    held = K::wait(&all_wait, held);
+                }
+                begun.get_or_insert_with(Instant::now);
+                held.waiting = 0;
+                held.generation += 1;
+                K::wake_all(&go, &mut held);
                 continue;
             }
-            let wake = |state: &mut State| {
-                begun.get_or_insert_with(Instant::now);
-                state.waiting = 0;
-                state.generation += 1;
-                Wake::All(0)
-            };
-            party.meet(|_| Wake::Nobody, 1, |state| state.waiting != waiters, wake);
+            held.waiting += 1;
+            if held.waiting == waiters {
+                K::wake_one(&all_wait, &mut held);
+            }
+            while held.generation as usize <= time {
+                held = K::wait(&go, held);
+            }
         }
         begun
-    });
+    };
+    let (_, begun) = in_threads::<K, _>(waiters + 1, work, || ());
     let begun = begun.into_iter().flatten().next().expect("a wake");
-    begun.elapsed().as_nanos() as f64 / f64::from(TIMES)
+    [each(begun, TIMES)]
 }
 
-fn tell(what: &str, rounds: usize, ours: impl Fn() -> f64, theirs: impl Fn() -> f64) {
-    let (own, other) = (0..rounds).map(|_| (ours(), theirs())).unzip();
-    for (name, mut times) in [("ligdrosa", own), ("std::sync::Mutex", other)] as [(_, Vec<f64>); 2]
-    {
-        times.sort_by(f64::total_cmp);
-        println!(
-            "{what:34} {name:28} {:9.1}  ({:.1} to {:.1})",
-            times[rounds / 2],
-            times[0],
-            times[rounds - 1]
-        );
+/// As many threads put numbers into a queue of 16 places as take them out.
+fn queue<K: Kind>(pairs_of_threads: usize) -> [f64; 1] {
+    let numbers = 4_000 / pairs_of_threads;
+    let (not_full, not_empty) = (K::Condition::default(), K::Condition::default());
+    let work = |number: usize, mut own| {
+        let mut sum = 0;
+        for put in 1..=numbers as u64 {
+            let mut held = K::lock(&mut own);
+            if number % 2 == 0 {
+                while held.put - held.taken == PLACES {
+                    held = K::wait(&not_full, held);
+                }
+                let at = held.put % PLACES;
+                held.slots[at] = put;
+                held.put += 1;
+                K::wake_one(&not_empty, &mut held);
+            } else {
+                while held.put == held.taken {
+                    held = K::wait(&not_empty, held);
+                }
+                sum += held.slots[held.taken % PLACES];
+                held.taken += 1;
+                K::wake_one(&not_full, &mut held);
+            }
+        }
+        sum
+    };
+    let (nanoseconds, sums) = in_threads::<K, _>(2 * pairs_of_threads, work, || ());
+    let moved = numbers * pairs_of_threads;
+    assert_eq!(
+        sums.into_iter().sum::<u64>() as usize,
+        moved * (numbers + 1) / 2
+    );
+    [nanoseconds / moved as f64]
+}
+
+/// What measures one lock, with its name.
+type Measure<'a, const ROWS: usize> = (&'static str, &'a dyn Fn() -> [f64; ROWS]);
+
+/// Measures all locks in turn, and prints a line for each of the rows and each lock.
+fn tell<const ROWS: usize>(rounds: usize, rows: [&str; ROWS], locks: &[Measure<ROWS>]) {
+    let mut figures = vec![[(); ROWS].map(|()| Vec::new()); locks.len()];
+    for _ in 0..rounds {
+        for (figures, (_, measure)) in figures.iter_mut().zip(locks) {
+            for (of_row, figure) in figures.iter_mut().zip(measure()) {
+                of_row.push(figure);
+            }
+        }
     }
+    for (row, what) in rows.iter().enumerate() {
+        for (figures, (lock, _)) in figures.iter_mut().zip(locks) {
+            let of_row = &mut figures[row];
+            of_row.sort_by(f64::total_cmp);
+            let (median, least, greatest) = (of_row[rounds / 2], of_row[0], of_row[rounds - 1]);
+            println!("{what}|{lock}|{median:.1}|{least:.1}|{greatest:.1}");
+        }
+    }
+}
+
+/// Measures this function of each kind.
+macro_rules! tell {
+    ($rounds:expr, $rows:expr, $measure:ident($($argument:expr),*)) => {
+        tell($rounds, $rows, &[
+            (InHand::NAME, &|| $measure::<InHand>($($argument),*)),
+            (Here::NAME, &|| $measure::<Here>($($argument),*)),
+            (Std::NAME, &|| $measure::<Std>($($argument),*)),
+            #[cfg(parking_lot)]
+            (ParkingLot::<false>::NAME, &|| $measure::<ParkingLot<false>>($($argument),*)),
+            #[cfg(parking_lot)]
+            (ParkingLot::<true>::NAME, &|| $measure::<ParkingLot<true>>($($argument),*)),
+        ])
+    };
 }
 
 fn main() {
-    let rounds = env::args()
-        .nth(1)
-        .and_then(|word| word.parse().ok())
-        .unwrap_or(11);
-    tell(
-        "alone: lock, unlock",
-        rounds,
-        || alone(Own::parties(1), |party| party.count(0)),
-        || alone(Std::parties(1), |party| party.count(0)),
-    );
-    tell(
-        "alone: try_lock, unlock",
-        rounds,
-        || alone(Own::parties(1), |party| assert!(party.try_count())),
-        || alone(Std::parties(1), |party| assert!(party.try_count())),
-    );
-    for threads in [2, 4, 8] {
-        for (name, inside, outside) in [("short", 0, 0), ("long", 1_000, 0), ("thinking", 0, 1_000)]
-        {
-            tell(
-                &format!("{threads} threads, {name}"),
+    let number = |at, usual| {
+        env::args()
+            .nth(at)
+            .and_then(|word| word.parse().ok())
+            .unwrap_or(usual)
+    };
+    let rounds = number(1, 11) as usize;
+    let time = Duration::from_millis(number(2, 50));
+    tell!(rounds, ["alone: lock, unlock"], alone());
+    tell!(rounds, ["try_lock that is refused"], refused_try());
+    for count in [64, 4096] {
+        tell!(rounds, [&format!("one among {count}")], among(count));
+    }
+    let loads = [
+        ("short", (0, 0)),
+        ("long", (turns_of(500), 0)),
+        ("thinking", (0, turns_of(1_000))),
+    ];
+    for (load, turns) in loads {
+        for threads in [2, 4, 8] {
+            let row = format!("{threads} threads, {load}");
+            tell!(
                 rounds,
-                || together(Own::parties(threads), inside, outside),
-                || together(Std::parties(threads), inside, outside),
+                [&row, &format!("{row}, most over fewest")],
+                together(threads, turns, time)
             );
         }
-        tell(
-            &format!("{threads} threads, fairness"),
+    }
+    tell!(rounds, ["ping-pong, a round trip"], ping_pong());
+    for waiters in [4, 32] {
+        tell!(
             rounds,
-            || fairness(Own::parties(threads)),
-            || fairness(Std::parties(threads)),
+            [&format!("broadcast to {waiters}")],
+            broadcast(waiters)
         );
     }
-    tell(
-        "ping-pong, a round trip",
-        rounds,
-        || ping_pong(Own::parties(2)),
-        || ping_pong(Std::parties(2)),
-    );
-    for waiters in [4, 32] {
-        tell(
-            &format!("broadcast to {waiters}"),
+    for pairs in [1, 4] {
+        tell!(
             rounds,
-            || broadcast(Own::parties(waiters + 1)),
-            || broadcast(Std::parties(waiters + 1)),
+            [&format!("queue, {pairs} to {pairs}")],
+            queue(pairs)
         );
     }
 }

@@ -1,0 +1,119 @@
+# Makes the tables of scripts/bench_c of its programs' lines, ROW|LOCK|MEDIAN|LEAST|GREATEST: a column for each lock, with the
+# medians, and after each lock of ours its ratio to the other lock of its language. If `is_page` is set, it makes the table of a
+# page, which has the ratios alone, and one line for rows that differ in their numbers.
+
+# A lock, and the lock beside which it is measured, if it is ours.
+function column(lock, heading, other) {
+  locks[++count] = lock
+  headings[lock] = heading
+  beside[lock] = other
+}
+
+BEGIN {
+  column("C in hand", "C, in hand", "pthread recursive")
+  column("C here", "C, here", "pthread recursive")
+  column("pthread recursive", "pthread")
+  column("C++", "C++", "std::recursive_mutex")
+  column("std::recursive_mutex", "std")
+  column("Rust in hand", "Rust, in hand", "std::sync::Mutex")
+  column("Rust", "Rust", "std::sync::Mutex")
+  column("std::sync::Mutex", "std")
+  column("parking_lot", "parking")
+  column("parking_lot, fair", "fair")
+}
+
+# Of a row of costs the name is `SEATS seats: WHAT`.
+/ seats: / {
+  split($1, part, " seats: ")
+  if (!((part[1], "open") in cost)) seats[++kinds] = part[1]
+  cost[part[1], part[2]] = $3
+  next
+}
+
+{
+  if (!($1 in known)) rows[++many] = $1
+  known[$1]
+  found[$2]
+  median[$1, $2] = $3
+}
+
+function figure(value) {
+  return value == "" ? "" : sprintf(value < 100 ? "%.1f" : "%.0f", value)
+}
+
+function ratio(value, other) {
+  if (value == "" || !(other > 0)) return ""
+  value /= other
+  return sprintf(value < 10 ? "%.2f" : value < 100 ? "%.1f" : "%.0f", value)
+}
+
+# The table of the rows whose names end in this, or if it is empty, of the others, with ratios.
+function table(what, end,    at, row, name, line, lock) {
+  line = sprintf("%-25s", what)
+  for (at = 1; at <= count; at++)
+    if (locks[at] in found) line = line sprintf("  %*s", beside[locks[at]] ? 13 : 7, headings[locks[at]])
+  print line
+  for (row = 1; row <= many; row++) {
+    name = rows[row]
+    if (sub(/, most over fewest$/, "", name) != (end != "")) continue
+    line = sprintf("%-25s", name)
+    for (at = 1; at <= count; at++) {
+      lock = locks[at]
+      if (!(lock in found)) continue
+      line = line sprintf("  %7s", figure(median[rows[row], lock]))
+      if (beside[lock]) line = line sprintf(" %5s", end ? "" : ratio(median[rows[row], lock], median[rows[row], beside[lock]]))
+    }
+    sub(/ +$/, "", line)
+    print line
+  }
+}
+
+# The name of a line that has this row too.
+function joined(name, row) {
+  if (match(row, /^[0-9]+/)) return substr(name, 1, length(name) - length(row) + RLENGTH) "; " row
+  match(row, /[0-9].*/)
+  return name "; " substr(row, RSTART)
+}
+
+# The table of a page.
+function page(    at, row, kind, lock, line, lines, order, names, cells) {
+  for (row = 1; row <= many; row++) {
+    kind = rows[row]
+    if (kind ~ /, most over fewest$/) continue
+    gsub(/[0-9]+/, "", kind)
+    if (names[kind] == "") order[++lines] = kind
+    names[kind] = names[kind] == "" ? rows[row] : joined(names[kind], rows[row])
+    for (at = 1; at <= count; at++) {
+      lock = locks[at]
+      line = ratio(median[rows[row], lock], median[rows[row], beside[lock]])
+      cells[kind, lock] = cells[kind, lock] (cells[kind, lock] == "" ? "" : "; ") line
+    }
+  }
+  for (row = 0; row <= lines; row++) {
+    line = row ? "| " names[order[row]] : "|"
+    for (at = 1; at <= count; at++)
+      if (locks[at] in found && beside[locks[at]]) line = line " | " (row ? cells[order[row], locks[at]] : headings[locks[at]])
+    print line " |"
+    if (row == 0) print rule(line)
+  }
+}
+
+# The line below the headings of a table.
+function rule(line) {
+  gsub(/[^|]+/, "---", line)
+  return line "|"
+}
+
+END {
+  if (is_page) {
+    page()
+    exit
+  }
+  table("nanoseconds; ratio", "")
+  print ""
+  table("most over fewest", "most over fewest")
+  printf "\n%-25s  %13s  %13s  %13s  %13s\n", "seats of a mutex in C", "open, ns", "close, ns", "bytes", "bytes, taken"
+  for (row = 1; row <= kinds; row++)
+    printf "%-25s  %13.0f  %13.0f  %13.0f  %13.0f\n", seats[row], cost[seats[row], "open"], cost[seats[row], "close"],
+      cost[seats[row], "bytes"], cost[seats[row], "bytes with all taken"]
+}

@@ -1,7 +1,7 @@
 # Turns what `lfm_explain` prints into a picture: see scripts/draw. `title` is what stands above it, and `schedule` the
 # file whose lines stand at its left. It needs scripts/picture.awk.
 
-# ---- reading: one row for each begin, step and answer
+# ---- reading: one row for each start of a call, step and answer
 
 function add_row(seat, kind, name, detail) {
   rows++
@@ -214,20 +214,21 @@ function label_end(row,    text) {
   return x_of(row_seat[row]) + 20 + length(text) * 7
 }
 
-# An arrow runs beside labels. To the right it leaves its row behind the label, goes down at the left of the lane that it leads
-# to, and ends at the mark there. To the left it leaves the mark, goes down at the left of its own lane, and ends behind the
-# label of the row that it leads to. In one lane it goes round at the left.
+# An arrow runs beside labels, and ends at the mark that it leads to, from the left. To the right it leaves its row behind the
+# label, and goes down at the left of the lane that it leads to. To the left it leaves the mark, goes down at the left of its own
+# lane, passes between two rows to the left of the other lane, and goes down there. In one lane it goes round at the left.
 function draw_arrow(kind, from_seat, from, to_seat, to,    y1, y2, way, aside) {
   y1 = y_of(from)
   y2 = y_of(to)
   aside = kind == "post" ? 18 : 24
-  if (from_seat == to_seat) way = "M" x_of(to_seat) - 6 " " y1 "H" x_of(to_seat) - aside "V" y2 "H" x_of(to_seat) - 8
-  else if (from_seat < to_seat) way = "M" label_end(from) " " y1 "H" x_of(to_seat) - aside "V" y2 "H" x_of(to_seat) - 8
-  else way = "M" x_of(from_seat) - 6 " " y1 "H" x_of(from_seat) - aside "V" y2 "H" label_end(to)
+  if (from_seat < to_seat) way = "M" label_end(from) " " y1
+  else way = "M" x_of(from_seat) - 6 " " y1
+  if (from_seat > to_seat) way = way "H" x_of(from_seat) - aside "V" y2 - pitch / 2
+  way = way "H" x_of(to_seat) - aside "V" y2 "H" x_of(to_seat) - 8
   printf "<path d=\"%s\" class=\"arrow %s\" marker-end=\"url(#%shead)\"/>\n", way, kind, kind
 }
 
-# a begin is hollow, a step is filled, a refusal is a cross, and an answer has no mark
+# the start of a call is hollow, a step is filled, a refusal is a cross, and an answer has no mark
 function draw_mark(kind, x, y) {
   if (kind == "step") printf "<circle cx=\"%d\" cy=\"%d\" r=\"3.5\" class=\"mark\"/>\n", x, y
   if (kind == "begin") printf "<circle cx=\"%d\" cy=\"%d\" r=\"4\" class=\"hollow\"/>\n", x, y
@@ -300,14 +301,14 @@ function legend(y, draws) {
   legend_x = gutter + 20
   legend_y = y
   drawing = draws
-  if (has["begin"]) mark_entry("begin", "begin")
+  if (has["begin"]) mark_entry("start of a call", "begin")
   if (has["step"]) mark_entry("step", "step")
   if (has["refused"]) mark_entry("refused", "refused")
   if (has["owner"]) bar_entry("owns", "own")
   if (has["carried"]) bar_entry("carries", "stripe")
   if (has["asleep"]) bar_entry("sleeps", "asleep")
-  if (has["post"]) arrow_entry("post to take", "post")
-  if (has["grant"]) arrow_entry("grant to take-up", "grant")
+  if (has["post"]) arrow_entry("post to the step that takes it", "post")
+  if (has["grant"]) arrow_entry("grant to the step that loads it", "grant")
 }
 
 END {

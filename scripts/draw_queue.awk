@@ -97,6 +97,8 @@ BEGIN {
   if ($1 != line) steps = 0
   line = $1
   steps++
+  step_name[line "." steps] = substr($0, 1, colon - 1)
+  sub(/^[0-9]+ [0-9]+ /, "", step_name[line "." steps])
   see_step(substr($0, colon + 2), $2)
   keep(line "." steps)
 }
@@ -155,7 +157,7 @@ function draw_pop_list(i, y,    parts, many, items, j) {
 # draws one moment from y on, and answers where the next begins
 function draw_panel(i, y,    parts, moment) {
   split(wanted[i], parts, ".")
-  moment = parts[2] ? "in line " parts[1] ", " schedule_line[parts[1]] ", after step " parts[2] : "after line " parts[1] ", " schedule_line[parts[1]]
+  moment = parts[2] ? "in line " parts[1] ", " schedule_line[parts[1]] ", after " step_name[parts[1] "." parts[2]] : "after line " parts[1] ", " schedule_line[parts[1]]
   label(16, y, "ink bold", "", escape(caption[i]))
   label(width - 16, y, "soft", "end", escape(moment))
   printf "<path d=\"M16 %dH%d\" class=\"rule\"/>\n", y + 8, width - 16

@@ -14,16 +14,16 @@ pub fn states_are_lawful()
     ensures schedules { StatesAreLawfulInSchedules }
 {}
 
-/// From the start on, the readings of a run are a run of the abstract mutex which begins free. So the laws of the abstract
-/// mutex hold of every schedule.
+/// The readings of a run from the start form a run of the abstract mutex that begins free. So the laws of the abstract mutex
+/// hold for every schedule.
 ///
 /// Definition: `RunsAreAbstractRuns` in `specs/laws/Laws.antt`. Proof: `proofs/lawful/runs/AbstractBridge.antt`.
 pub fn runs_are_abstract_runs()
     ensures { RunsAreAbstractRuns }
 {}
 
-/// Each step does to the reading the case that is named for it, or nothing if none is named. Starting a call does nothing to
-/// it.
+/// Each step changes the reading by the case that is named for it, or not at all if none is named. The start of a call does not
+/// change the reading.
 ///
 /// Definitions: `EventsAreTheirCases` in `specs/laws/Laws.antt`, and `EventsAreTheirCasesInSchedules` in
 /// `specs/laws/InSchedules.antt`. Proofs: `proofs/lawful/runs/AbstractBridge.antt` and

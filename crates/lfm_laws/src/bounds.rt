@@ -17,7 +17,7 @@ ghost use Rattle.lfm_laws.specs.laws.InSchedules.{
 ghost use Rattle.lfm_laws.specs.laws.Laws.{UnlocksAreBounded, StartWaitsAreBounded, CallsEndAlone, PushesAloneFailOnce, TriesAloneHold};
 ghost use Rattle.lfm_laws.specs.laws.Progress.{CallsEndBesideOthers, CallsChangeThePushWordTwice, CallsShareTheirSteps, SomeCallEnds, NoStateIsStuck};
 
-/// An `unlock` is over after N + 7 steps at most, N being the number of seats.
+/// An `unlock` makes at most N + 7 steps, whatever the other seats do in between; N is the number of seats.
 ///
 /// Definitions: `UnlocksAreBounded` in `specs/laws/Laws.antt`, and `UnlocksAreBoundedInSchedules` in
 /// `specs/laws/InSchedules.antt`. Proofs: `proofs/lawful/bounds/ReleaseBounds.antt` and
@@ -27,7 +27,7 @@ pub fn unlocks_are_bounded()
     ensures schedules { UnlocksAreBoundedInSchedules }
 {}
 
-/// A `start_wait` is over after N + 8 steps at most, N being the number of seats.
+/// A `start_wait` makes at most N + 8 steps, whatever the other seats do in between; N is the number of seats.
 ///
 /// Definitions: `StartWaitsAreBounded` in `specs/laws/Laws.antt`, and `StartWaitsAreBoundedInSchedules` in
 /// `specs/laws/InSchedules.antt`. Proofs: `proofs/lawful/bounds/ReleaseBounds.antt` and
@@ -49,8 +49,8 @@ pub fn tries_and_receives_are_bounded()
     ensures schedules { TriesAndReceivesAreBoundedInSchedules }
 {}
 
-/// An open call whose seat alone makes steps ends within N + 16 of them, N being the number of seats. So `*` makes at most
-/// N + 16 steps. By `calls_end_beside_others` it is N + 9.
+/// If only its seat makes steps, an open call ends within N + 16 of them, N being the number of seats. So `*` makes no more
+/// than that. `calls_end_beside_others` gives the smaller bound N + 9.
 ///
 /// Definitions: `CallsEndAlone` in `specs/laws/Laws.antt`, and `CallsEndAloneInSchedules` in `specs/laws/InSchedules.antt`.
 /// Proofs: `proofs/lawful/bounds/CallsEnd.antt` and `proofs/lawful/runs/InSchedules.antt`.
@@ -59,7 +59,7 @@ pub fn calls_end_alone()
     ensures schedules { CallsEndAloneInSchedules }
 {}
 
-/// Alone, the exchange after a failed push exchange succeeds.
+/// If only its seat makes steps, the push exchange after a failed one succeeds.
 ///
 /// Definitions: `PushesAloneFailOnce` in `specs/laws/Laws.antt`, and `PushesAloneFailOnceInSchedules` in
 /// `specs/laws/InSchedules.antt`. Proofs: `proofs/lawful/bounds/PushesAlone.antt` and
@@ -69,8 +69,8 @@ pub fn pushes_alone_fail_once()
     ensures schedules { PushesAloneFailOnceInSchedules }
 {}
 
-/// Alone, a `try_lock` of a seat that rests, without a hold and with a take left, ends `Held Free`: within two steps if the
-/// count is 0, within six if a post stands.
+/// If only its seat makes steps, a `try_lock` of a seat that rests, holds nothing and has a take left ends with `Held Free`:
+/// within two steps if the count is 0, within six if the mutex is posted.
 ///
 /// Definitions: `TriesAloneHold` in `specs/laws/Laws.antt`, and `TriesAloneHoldInSchedules` in
 /// `specs/laws/InSchedules.antt`. Proofs: `proofs/lawful/bounds/TriesAlone.antt` and `proofs/lawful/runs/InSchedules.antt`.
@@ -79,8 +79,8 @@ pub fn tries_alone_hold()
     ensures schedules { TriesAloneHoldInSchedules }
 {}
 
-/// An open call among N seats makes at most N + 9 steps, and two more for each time that another seat changes the push word
-/// meanwhile.
+/// With N seats, an open call makes at most N + 9 steps, plus two for each time that another seat changes the push word before
+/// the call ends.
 ///
 /// Definitions: `CallsEndBesideOthers` in `specs/laws/Progress.antt`, and `CallsEndBesideOthersInSchedules` in
 /// `specs/laws/InSchedules.antt`. Proofs: `proofs/lawful/bounds/Beside.antt` and `proofs/lawful/runs/InSchedules.antt`.
@@ -98,8 +98,8 @@ pub fn calls_change_the_push_word_twice()
     ensures schedules { CallsChangeThePushWordTwiceInSchedules }
 {}
 
-/// In any run among N seats, the calls that were open before it and those that open in it make together at most 5N + 5
-/// steps for each of them.
+/// In any run of N seats, the calls that were open before it and those that open in it together make at most 5N + 5 steps per
+/// call.
 ///
 /// Definitions: `CallsShareTheirSteps` in `specs/laws/Progress.antt`, and `CallsShareTheirStepsInSchedules` in
 /// `specs/laws/InSchedules.antt`. Proofs: `proofs/lawful/bounds/LockFree.antt` and `proofs/lawful/runs/InSchedules.antt`.
@@ -117,8 +117,8 @@ pub fn some_call_ends()
     ensures schedules { SomeCallEndsInSchedules }
 {}
 
-/// From each state of N seats, some steps, at most 5N + 5 times as many as calls are open, lead to a state without an open
-/// call. Nothing is posted then, and if the count is above 0 a seat owns, or a sleeping seat has its grant.
+/// From each state of N seats with k open calls, some sequence of at most (5N + 5)k steps leads to a state without an open
+/// call. Nothing is posted there, and if the count is above 0, a seat owns the mutex or a sleeping seat has its grant.
 ///
 /// Definitions: `NoStateIsStuck` in `specs/laws/Progress.antt`, and `NoStateIsStuckInSchedules` in
 /// `specs/laws/InSchedules.antt`. Proofs: `proofs/lawful/bounds/Resting.antt` and `proofs/lawful/runs/InSchedules.antt`.

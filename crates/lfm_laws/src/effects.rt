@@ -1,12 +1,12 @@
-//! Linearization points: each call has one event of its own seat that counts as its effect. Queueing, posting and serving are
-//! not counted. These laws hold of every steady state, so of every state that a schedule reaches. The last is of schedules
-//! alone.
+//! Linearization points: each call has one event of its own seat that counts as its effect. Queueing, posting and serving do
+//! not count. The last law is about schedules. The others hold for every steady state, and so for every state that a schedule
+//! reaches.
 ghost use Rattle.lfm_laws.specs.laws.Effects.{CallsTakeEffectOnce, ChangesAreOfOpenCalls, EffectsAreOfCalls, EffectsAreTheCallers, OpenCallsHaveBegun};
 ghost use Rattle.lfm_laws.specs.laws.InSchedules.{CallsTakeEffectOnceInSchedules, EffectsAreOfCallsInSchedules, EffectsAreTheCallersInSchedules};
 
-/// A call has one effect from its start to its end, whatever the others do in between: its seat or the target of its send asks,
-/// its seat accepts a post, takes up its grant or releases, or its depth changes and is above 0 before and after. A call that
-/// is refused has none, nor has a `receive` that finds no grant. A call that is open has had one at most.
+/// A call has exactly one effect between its start and its end, whatever the other seats do in between: its seat or the target
+/// of its send asks, its seat accepts a post, takes up its grant or releases, or its depth changes and is above 0 before and
+/// after. A refused call has no effect, and neither has a `receive` that finds no grant. An open call has had at most one.
 ///
 /// Definitions: `CallsTakeEffectOnce` in `specs/laws/Effects.antt`, and `CallsTakeEffectOnceInSchedules` in
 /// `specs/laws/InSchedules.antt`. Proofs: `proofs/lawful/calls/EffectsOnce.antt` and `proofs/lawful/runs/InSchedules.antt`.
@@ -32,9 +32,9 @@ pub fn effects_are_of_calls()
     ensures schedules { EffectsAreOfCallsInSchedules }
 {}
 
-/// The effect of an open call on the abstract mutex is of its kind and names its seat: a `lock` or `try_lock` asks for its
-/// seat, or a `try_lock` accepts a post for it, an `unlock` or `start_wait` releases it, a `receive` takes up its grant. A
-/// `send_lock` asks for its target.
+/// The effect of an open call on the abstract mutex fits the call and names its seat: a `lock` asks for its seat, a `try_lock`
+/// asks or accepts a post for it, an `unlock` or `start_wait` releases, and a `receive` takes up its grant. A `send_lock` asks
+/// for its target.
 ///
 /// Definitions: `EffectsAreTheCallers` in `specs/laws/Effects.antt`, and `EffectsAreTheCallersInSchedules` in
 /// `specs/laws/InSchedules.antt`. Proofs: `proofs/lawful/calls/EffectsOwned.antt` and `proofs/lawful/runs/InSchedules.antt`.
@@ -43,8 +43,8 @@ pub fn effects_are_the_callers()
     ensures schedules { EffectsAreTheCallersInSchedules }
 {}
 
-/// A seat that is in a call after a schedule has begun it in that schedule, and the call has been open since. So the laws
-/// above, which follow a call from its start, are about every open call.
+/// If a seat is in a call after a schedule, that call began in the schedule and has been open since. So the laws above, which
+/// follow a call from its start, cover every open call.
 ///
 /// Definition: `OpenCallsHaveBegun` in `specs/laws/Effects.antt`. Proof: `proofs/lawful/calls/OpenCalls.antt`.
 pub fn open_calls_have_begun()

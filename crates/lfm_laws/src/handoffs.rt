@@ -1,5 +1,5 @@
-//! No lost wake-up: posts that are watched, where a seat that sleeps stands, and takes that find a record. These laws speak of
-//! words and steps. That the park of a thread ends once its grant is stored is only tested.
+//! No lost wake-up: every post is watched, every sleeping seat is reachable, and a call that has won a post finds a record.
+//! These laws are about words and steps. That the park of a thread ends once its grant is stored is only tested.
 ghost use Rattle.lfm_laws.specs.laws.Grants.{CallsGrantOnce};
 ghost use Rattle.lfm_laws.specs.laws.InSchedules.{
   HandoffsAreWatchedInSchedules,
@@ -13,7 +13,8 @@ ghost use Rattle.lfm_laws.specs.laws.InSchedules.{
 };
 ghost use Rattle.lfm_laws.specs.laws.Laws.{HandoffsAreWatched, QuiescentStatesRest, SleepersAreReachable, TakesFindARecord, WonPostsHaveARecord, FailedPushesSeeChange, CallsPostOnce};
 
-/// While a post stands, some open call has yet to load it, or has made or seen it and not yet tried for it.
+/// While the mutex is posted, some open call has yet to load the post, or has made or loaded it and has yet to try its
+/// exchange.
 ///
 /// Definitions: `HandoffsAreWatched` in `specs/laws/Laws.antt`, and `HandoffsAreWatchedInSchedules` in
 /// `specs/laws/InSchedules.antt`. Proofs: `proofs/lawful/states/StateLaws.antt` and `proofs/lawful/runs/InSchedules.antt`.
@@ -22,7 +23,7 @@ pub fn handoffs_are_watched()
     ensures schedules { HandoffsAreWatchedInSchedules }
 {}
 
-/// Without an open call nothing is posted. If the count is above 0 then, a seat owns, or a sleeping seat has its grant.
+/// If no call is open, nothing is posted. If then the count is above 0, a seat owns the mutex or a sleeping seat has its grant.
 ///
 /// Definitions: `QuiescentStatesRest` in `specs/laws/Laws.antt`, and `QuiescentStatesRestInSchedules` in
 /// `specs/laws/InSchedules.antt`. Proofs: `proofs/lawful/states/StateLaws.antt` and `proofs/lawful/runs/InSchedules.antt`.
@@ -31,8 +32,8 @@ pub fn quiescent_states_rest()
     ensures schedules { QuiescentStatesRestInSchedules }
 {}
 
-/// A seat that sleeps, with no call open, is queued, or has its grant, or is WAITING for a send, or is on its way by a send
-/// that has claimed it.
+/// A seat that sleeps with no call open is queued, has its grant, is WAITING for a send, or is between the claim of a send and
+/// its grant.
 ///
 /// Definitions: `SleepersAreReachable` in `specs/laws/Laws.antt`, and `SleepersAreReachableInSchedules` in
 /// `specs/laws/InSchedules.antt`. Proofs: `proofs/lawful/states/Sleepers.antt` and `proofs/lawful/runs/InSchedules.antt`.
@@ -60,7 +61,7 @@ pub fn won_posts_have_a_record()
     ensures schedules { WonPostsHaveARecordInSchedules }
 {}
 
-/// A push exchange fails only if the stamp has risen since, or the head was cleared.
+/// A push exchange fails only if, since its seat loaded the push word, the stamp has risen or the push list was cleared.
 ///
 /// Definitions: `FailedPushesSeeChange` in `specs/laws/Laws.antt`, and `FailedPushesSeeChangeInSchedules` in
 /// `specs/laws/InSchedules.antt`. Proofs: `proofs/lawful/states/StateLaws.antt` and `proofs/lawful/runs/InSchedules.antt`.
@@ -69,7 +70,7 @@ pub fn failed_pushes_see_change()
     ensures schedules { FailedPushesSeeChangeInSchedules }
 {}
 
-/// No call posts twice, whatever the others do in between.
+/// No call posts twice, whatever the other seats do in between.
 ///
 /// Definitions: `CallsPostOnce` in `specs/laws/Laws.antt`, and `CallsPostOnceInSchedules` in `specs/laws/InSchedules.antt`.
 /// Proofs: `proofs/lawful/bounds/PostsOnce.antt` and `proofs/lawful/runs/InSchedules.antt`.
@@ -78,7 +79,7 @@ pub fn calls_post_once()
     ensures schedules { CallsPostOnceInSchedules }
 {}
 
-/// A call grants the mutex to one seat at most: none stores two grants, however the other seats interleave with it.
+/// A call stores at most one grant, whatever the other seats do in between.
 ///
 /// Definitions: `CallsGrantOnce` in `specs/laws/Grants.antt`, and `CallsGrantOnceInSchedules` in
 /// `specs/laws/InSchedules.antt`. Proofs: `proofs/lawful/bounds/GrantsOnce.antt` and `proofs/lawful/runs/InSchedules.antt`.

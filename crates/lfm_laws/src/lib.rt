@@ -1,8 +1,8 @@
 //! What is true of the mutex in every interleaving: the invariant, the laws of states, runs and calls, and their proofs. Each
 //! function here does nothing: its contract is the law, and its comment names the definition of the law and the file that
-//! proves it. The laws speak of every list of calls that begin and of single atomic steps, by any seats in any order, for every
-//! number of seats and every budget in their limits. They are laws of the same definitions that `begin` and `step` of a machine
-//! are proved to be.
+//! proves it. The laws hold for every list of starts of calls and single atomic steps, by any seats in any order, for every
+//! number of seats and every budget within their limits. They are about the same definitions that `begin` and `step` of a
+//! machine are proved to compute.
 #![tactic(auto)]
 
 pub mod abstract_mutex;

@@ -7,7 +7,7 @@ ghost use Rattle.lfm_laws.specs.laws.InSchedules.{
 };
 ghost use Rattle.lfm_laws.specs.laws.Laws.{OneSeatOwns, OneHasTheResponsibility, CountIsZeroIfFree, PlacesAreRead};
 
-/// Two seats that both have a depth are the same seat, in every steady state and after every schedule.
+/// At most one seat has a depth above 0, in every steady state and after every schedule.
 ///
 /// Definitions: `OneSeatOwns` in `specs/laws/Laws.antt`, and `OneSeatOwnsInSchedules` in `specs/laws/InSchedules.antt`.
 /// Proofs: `proofs/lawful/states/Owning.antt` and `proofs/lawful/runs/InSchedules.antt`.
@@ -16,7 +16,7 @@ pub fn one_seat_owns()
     ensures schedules { OneSeatOwnsInSchedules }
 {}
 
-/// With a count above 0, words, depths and points show one place of the responsibility, and no second one.
+/// If the count is above 0, the words, depths and points show exactly one place of the responsibility.
 ///
 /// Definitions: `OneHasTheResponsibility` in `specs/laws/Laws.antt`, and `OneHasTheResponsibilityInSchedules` in
 /// `specs/laws/InSchedules.antt`. Proofs: `proofs/lawful/states/Owning.antt` and `proofs/lawful/runs/InSchedules.antt`.
@@ -34,7 +34,7 @@ pub fn count_is_zero_if_free()
     ensures schedules { CountIsZeroIfFreeInSchedules }
 {}
 
-/// The place that a trace prints is that of the abstract mutex which the state stands for.
+/// The place that a trace prints is the place of the abstract mutex that the state stands for.
 ///
 /// Definitions: `PlacesAreRead` in `specs/laws/Laws.antt`, and `PlacesAreReadInSchedules` in `specs/laws/InSchedules.antt`.
 /// Proofs: `proofs/lawful/states/CountLaws.antt` and `proofs/lawful/runs/InSchedules.antt`.

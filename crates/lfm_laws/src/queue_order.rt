@@ -11,8 +11,8 @@ ghost use Rattle.lfm_laws.specs.laws.Laws.{QueueIsInPushOrder, StampsAreConsecut
 ghost use Rattle.lfm_laws.specs.laws.Overtaking.{QueuedSeatsAreOvertakenOnce, QueuedSeatsWaitForFewReleases, NoSeatOvertakesTwice};
 ghost use Rattle.lfm_laws.specs.laws.Service.{QueuedSeatsAreServedSoon};
 
-/// Take any run. The queue before it and then the records pushed in it are, in one order, the records that left and then
-/// the queue after it.
+/// In any run, the queue before it followed by the records that it pushes equals the records that leave in it followed by the
+/// queue after it, in the same order.
 ///
 /// Definitions: `QueueIsInPushOrder` in `specs/laws/Laws.antt`, and `QueueIsInPushOrderInSchedules` in
 /// `specs/laws/InSchedules.antt`. Proofs: `proofs/lawful/runs/PushOrder.antt` and `proofs/lawful/runs/InSchedules.antt`.
@@ -21,8 +21,8 @@ pub fn queue_is_in_push_order()
     ensures schedules { QueueIsInPushOrderInSchedules }
 {}
 
-/// Each successful push of a run has the stamp after the one before, and the first the stamp after that of the push word,
-/// which is 0 at the start.
+/// The stamps of a run's successful pushes are consecutive, and the first is one more than the stamp of the push word before
+/// the run. At the start that stamp is 0.
 ///
 /// Definitions: `StampsAreConsecutive` in `specs/laws/Laws.antt`, and `StampsAreConsecutiveInSchedules` in
 /// `specs/laws/InSchedules.antt`. Proofs: `proofs/lawful/runs/PushOrder.antt` and `proofs/lawful/runs/InSchedules.antt`.
@@ -31,15 +31,15 @@ pub fn stamps_are_consecutive()
     ensures schedules { StampsAreConsecutiveInSchedules }
 {}
 
-/// The answers `Held Queued` of a run from the start are the records that left the queue, in that order. Only the last of
-/// them may have no answer yet.
+/// In a run from the start, the answers `Held Queued` are the records that left the queue, in that order. Only the last of them
+/// may have no answer yet.
 ///
 /// Definition: `AnswersAreTheRecords` in `specs/laws/Laws.antt`. Proof: `proofs/lawful/runs/PushOrder.antt`.
 pub fn answers_are_the_records()
     ensures { AnswersAreTheRecords }
 {}
 
-/// As long as a queued record has not left, seats come to own at most as often as records leave the queue, and once more.
+/// While a queued record has not left the queue, seats become the owner at most once more than records leave it.
 ///
 /// Definitions: `QueuedSeatsAreOvertakenOnce` in `specs/laws/Overtaking.antt`, and `QueuedSeatsAreOvertakenOnceInSchedules`
 /// in `specs/laws/InSchedules.antt`. Proofs: `proofs/lawful/bounds/Overtaken.antt` and
@@ -49,8 +49,8 @@ pub fn queued_seats_are_overtaken_once()
     ensures schedules { QueuedSeatsAreOvertakenOnceInSchedules }
 {}
 
-/// As long as a queued record has not left, seats stop owning at most as often as records leave the queue, and once more.
-/// So behind k records a queued seat waits for k + 1 releases at most.
+/// While a queued record has not left the queue, owners release at most once more than records leave it. So a queued seat with
+/// k records before it waits for at most k + 1 releases.
 ///
 /// Definitions: `QueuedSeatsWaitForFewReleases` in `specs/laws/Overtaking.antt`, and
 /// `QueuedSeatsWaitForFewReleasesInSchedules` in `specs/laws/InSchedules.antt`. Proofs:
@@ -60,7 +60,7 @@ pub fn queued_seats_wait_for_few_releases()
     ensures schedules { QueuedSeatsWaitForFewReleasesInSchedules }
 {}
 
-/// As long as a queued record has not left, no seat comes to own twice.
+/// While a queued record has not left the queue, no seat becomes the owner twice.
 ///
 /// Definitions: `NoSeatOvertakesTwice` in `specs/laws/Overtaking.antt`, and `NoSeatOvertakesTwiceInSchedules` in
 /// `specs/laws/InSchedules.antt`. Proofs: `proofs/lawful/bounds/Overtakers.antt` and `proofs/lawful/runs/InSchedules.antt`.
@@ -69,9 +69,9 @@ pub fn no_seat_overtakes_twice()
     ensures schedules { NoSeatOvertakesTwiceInSchedules }
 {}
 
-/// Take a stretch of a run in which the only calls that begin are unlocks, and receives of seats that have their grant. As
-/// long as a queued record with k before it has not left, calls make at most (5N + 5)(o + 2k + 2) steps, N being the number
-/// of seats and o the number of calls that were open.
+/// Let the only calls that begin in a run be unlocks, and receives of seats that have their grant. While a queued record with k
+/// records before it has not left the queue, calls make at most (5N + 5)(o + 2k + 2) steps in that run, N being the number of
+/// seats and o the number of calls that were open before it.
 ///
 /// Definitions: `QueuedSeatsAreServedSoon` in `specs/laws/Service.antt`, and `QueuedSeatsAreServedSoonInSchedules` in
 /// `specs/laws/InSchedules.antt`. Proofs: `proofs/lawful/bounds/Served.antt` and `proofs/lawful/runs/InSchedules.antt`.

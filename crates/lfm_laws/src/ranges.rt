@@ -1,22 +1,22 @@
 //! The ranges of all numbers: nothing wraps.
 ghost use Rattle.lfm_laws.specs.laws.Ranges.{NumbersStayInRange, StepsHaveRoom, LimitsStay};
 
-/// Among N seats of budget B the stamp is at most N · B, and the count at most N + 1. A seat's depth is at most 65,535, its
-/// takes at most B, its posts at most its takes.
+/// With N seats of budget B, the stamp is at most N · B and the count at most N + 1. A seat's depth is at most 65,535, its
+/// takes at most B, and its posts at most its takes.
 ///
 /// Definition: `NumbersStayInRange` in `specs/laws/Ranges.antt`. Proof: `proofs/lawful/states/RangesRead.antt`.
 pub fn numbers_stay_in_range()
     ensures { NumbersStayInRange }
 {}
 
-/// The next step of each seat wraps no number, and touches only seats that are there.
+/// The next step of each seat wraps no number, and touches only seats that exist.
 ///
 /// Definition: `StepsHaveRoom` in `specs/laws/Ranges.antt`. Proof: `proofs/lawful/states/RangesRead.antt`.
 pub fn steps_have_room()
     ensures { StepsHaveRoom }
 {}
 
-/// After each run from the start, the number of seats and the budget are those of the start.
+/// A run from the start changes neither the number of seats nor the budget.
 ///
 /// Definition: `LimitsStay` in `specs/laws/Ranges.antt`. Proof: `proofs/lawful/runs/LimitsKept.antt`.
 pub fn limits_stay()

@@ -1,19 +1,19 @@
-//! Refusals: a call or step is refused exactly if there is a cause for it, and a call that is refused as it starts changes
+//! Refusals: a call or step is refused exactly if there is a cause for it, and a call that is refused at its start changes
 //! nothing.
 ghost use Rattle.lfm_laws.specs.laws.BusyMoments.{BusyWasBusy};
 ghost use Rattle.lfm_laws.specs.laws.InSchedules.{BusyWasBusyInSchedules};
 ghost use Rattle.lfm_laws.specs.laws.OutsideSteps.{AnsweredOutside, RunsStayWithoutOutsideSteps, StepsOutsideOfCallsChangeNothing};
 ghost use Rattle.lfm_laws.specs.laws.Refusals.{RefusedBeginsChangeNothing, BeginsAreRefusedForCause, StepsAreRefusedForCause, TurnsAreRefusedForCause, TriesSeeAHolder};
 
-/// A call refused as it starts leaves the whole state as it was.
+/// A call that is refused at its start leaves the whole state unchanged.
 ///
 /// Definition: `RefusedBeginsChangeNothing` in `specs/laws/Refusals.antt`. Proof: `proofs/lawful/refusals/RefusedCalls.antt`.
 pub fn refused_begins_change_nothing()
     ensures { RefusedBeginsChangeNothing }
 {}
 
-/// A step of a seat that has no call open, or of a number that no seat has, leaves the whole state as it was: each word,
-/// record and seat. Only such a step is refused as Idle or NoSuchSeat. So a run comes to the same state without it.
+/// A step of a seat that has no call open, or of a number that no seat has, leaves each word, record and seat unchanged. Only
+/// such a step is refused as Idle or NoSuchSeat. So a run leads to the same state without it.
 ///
 /// Definitions: `StepsOutsideOfCallsChangeNothing`, `AnsweredOutside` and `RunsStayWithoutOutsideSteps` in
 /// `specs/laws/OutsideSteps.antt`. Proof: `proofs/lawful/refusals/OutsideSteps.antt`.
@@ -31,25 +31,26 @@ pub fn begins_are_refused_for_cause()
     ensures { BeginsAreRefusedForCause }
 {}
 
-/// The mutex refuses a step of a call exactly if it has one of two causes. Busy: a `try_lock` loads no post, or finds the one
-/// that it loaded gone. NotWaiting: the target of a send does not wait. Then the call is over, and only its seat has changed;
-/// Busy has given the take back.
+/// The mutex refuses a step of a call exactly if it has one of two causes. Busy: a `try_lock` loads no post, or finds that the
+/// post that it loaded is gone. NotWaiting: the target of a send does not wait. The call then ends, and only its seat changes;
+/// Busy gives the take back.
 ///
 /// Definition: `StepsAreRefusedForCause` in `specs/laws/Refusals.antt`. Proof: `proofs/lawful/refusals/RefusedSteps.antt`.
 pub fn steps_are_refused_for_cause()
     ensures { StepsAreRefusedForCause }
 {}
 
-/// A call or step is refused exactly if there is a cause for it. NoSuchSeat: no such seat. InCall, of a call: another of the
-/// seat is open. Idle, of a step: none is. Any other refusal is one of the call itself.
+/// A call or step is refused exactly if there is a cause for it. NoSuchSeat: no seat has the number. InCall, for a call: the
+/// seat has another call open. Idle, for a step: the seat has no call open. Any other refusal is one of the call itself.
 ///
 /// Definition: `TurnsAreRefusedForCause` in `specs/laws/Refusals.antt`. Proof: `proofs/lawful/refusals/RefusedTurns.antt`.
 pub fn turns_are_refused_for_cause()
     ensures { TurnsAreRefusedForCause }
 {}
 
-/// A `try_lock` comes to its handoff load only by steps of its own. They saw a count above 0, and then, without a hold of
-/// its own, an owner word that is not its seat. It comes to its exchange only by having seen that very post.
+/// A `try_lock` reaches its handoff load only by its own steps: they found a count above 0, and then, while its seat held
+/// nothing, an owner word that is not its seat. It reaches its exchange only after it has loaded the post that the exchange
+/// expects.
 ///
 /// Definition: `TriesSeeAHolder` in `specs/laws/Refusals.antt`. Proof: `proofs/lawful/refusals/BusyTries.antt`.
 pub fn tries_see_a_holder()

@@ -1,5 +1,5 @@
-//! The invariant: every reached state is steady, each turn keeps a state so, and an atomic step touches one word, one seat and,
-//! at three kinds of step, the pop list. The proofs of a mutex on shared words rest on these.
+//! The invariant: every reached state is steady, each turn keeps a steady state steady, and an atomic step touches only one
+//! word, one seat and, at three kinds of step, the pop list. The proofs of a mutex on shared words use these laws.
 ghost use Rattle.lfm_laws.specs.laws.Steadiness.{
   StatesAreSteady,
   StepsKeepSteady,
@@ -18,8 +18,9 @@ pub fn states_are_steady()
     ensures { StatesAreSteady }
 {}
 
-/// Let any ghost fit a state. After an event a ghost fits again. Between the two lies the case of the event, and the records of
-/// pushes, of records that left and of answers grow by what the event says.
+/// If some ghost fits a state, a ghost fits the state after any event too. The case of the event leads from one ghost's
+/// abstract mutex to the other's, and the ghost's lists of pushes, of records that left and of answers grow by those of the
+/// event.
 ///
 /// Definition: `StepsKeepSteady` in `specs/laws/Steadiness.antt`. Proof: `proofs/lawful/runs/KeptSteady.antt`, which goes by
 /// point in `proofs/steady/StepsKept.antt`.
@@ -27,9 +28,9 @@ pub fn steps_keep_steady()
     ensures { StepsKeepSteady }
 {}
 
-/// A step changes only the word that the table of kinds names for its point, none if it is a load; only the seat that makes
-/// it; and the pop list only if it is a link load, an owner store or a wake store. What it answers, and what its seat
-/// becomes, depend on that word, that seat and the oldest record of the pop list alone.
+/// A step changes only the word that the table of kinds names for its point, and no word if it is a load. It changes only the
+/// seat that makes it, and the pop list only if it is a link load, an owner store or a wake store. Its answer, and what its
+/// seat becomes, depend only on that word, that seat and the oldest record of the pop list.
 ///
 /// Definitions: `StepsTouchOneWordAndOneSeat` and `StepsSeeOneWordAndOneSeat` in `specs/laws/Steadiness.antt`. Proof:
 /// `proofs/lawful/touched/OneSeat.antt`, which goes by word in `proofs/lawful/touched/OneWord.antt`.
@@ -38,16 +39,16 @@ pub fn steps_touch_one_word_and_one_seat()
     ensures sees { StepsSeeOneWordAndOneSeat }
 {}
 
-/// Starting a call changes only its seat.
+/// The start of a call changes only its seat.
 ///
 /// Definition: `BeginsTouchOneSeat` in `specs/laws/Steadiness.antt`. Proof: `proofs/lawful/touched/OneSeat.antt`.
 pub fn begins_touch_one_seat()
     ensures { BeginsTouchOneSeat }
 {}
 
-/// A step at a list of packed numbers changes the one number of its place, the seat and the pop list as the step of the core
-/// does, and a ghost fits again. One of its premises, that seat numbers which were read are below 65,536, holds of every
-/// reached state.
+/// A step on a list of packed numbers changes the one number at its place, the seat and the pop list as the step of the core
+/// does, and a ghost fits the state after it. One of its premises, that each seat number read from a word is below 65,536,
+/// holds for every reached state.
 ///
 /// Definitions: `StepsAtATable` and `ReachedAreNarrow` in `specs/laws/Steadiness.antt`, with `TableStep` in
 /// `specs/table/Carried.antt`. Proofs: `proofs/table/TableSteps.antt` and `proofs/lawful/runs/KeptSteady.antt`.

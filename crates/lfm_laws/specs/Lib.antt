@@ -1,4 +1,4 @@
--- The invariant, what the laws say, and the step at a table of packed words.
+-- The invariant, the statements of the laws, and the step on a table of packed words.
 pub mod steady
 pub mod laws
 pub mod table

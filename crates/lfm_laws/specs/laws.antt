@@ -1,4 +1,4 @@
--- What the laws say: of one state, of steps and of runs.
+-- The statements of the laws: about one state, about steps and about runs.
 pub mod Events
 pub mod Errands
 pub mod Schedules

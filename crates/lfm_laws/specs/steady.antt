@@ -1,4 +1,4 @@
--- The invariant: numbers changed at one place, the ghost, what one seat sees of it, the facts, and what a step leads to.
+-- The invariant: functions that change at one number, the ghost, each seat's part of it, the facts, and the outcome of a step.
 pub mod Numbered
 pub mod Ghost
 pub mod Views

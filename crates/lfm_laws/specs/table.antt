@@ -1,4 +1,4 @@
--- The step at a table of packed words.
+-- The step on a table of packed words.
 pub mod Words
 pub mod Settles
 pub mod Ready

@@ -1,4 +1,4 @@
--- The abstract case of each event, and how one reading follows from another by it.
+-- The abstract case of each event, and what it means that one reading follows from another by a case.
 use Rattle.std.specs.Prelude.{◌≡◌, ⊤, Option, Some, None, List, [], ◌∷◌}
 use Rattle.lfm_model.specs.Abstract.{AbstractMutex, AbstractStep}
 use Rattle.lfm_model.specs.AbstractRuns.{Case, IsSame, case_of}
@@ -7,17 +7,17 @@ use Rattle.lfm_laws.specs.laws.Events.{case_of_step}
 use Rattle.lfm_laws.specs.laws.Reading.{Reads}
 use Rattle.lfm_laws.specs.laws.Schedules.{Event, begins, makes, happens}
 
--- one abstract state follows from another by the step of this name, or is the same if there is none
+-- the second abstract state follows from the first by a step of this case, or is the same if there is no case
 abbrev pub GoesBy : Option Case → AbstractMutex → AbstractMutex → Type 0
 GoesBy None a b = IsSame a b
 GoesBy (Some case) a b = (step : AbstractStep a b) × (case_of step ≡ case)
 
--- a call that begins changes nothing of the abstract mutex, and a step what its kind names
+-- the start of a call has no case, and a step has the case that its kind names
 abbrev pub case_of_event : Core → Event → Option Case
 case_of_event c (begins s call) = None
 case_of_event c (makes s) = case_of_step c s
 
--- these abstract states are the readings of a run after its first state, one for each event
+-- these abstract states are the readings after each event of a run, in order
 abbrev pub ReadsRun : Core → List Event → List AbstractMutex → Type 0
 ReadsRun c [] [] = ⊤
 ReadsRun c [] (a ∷ later) = ⊥

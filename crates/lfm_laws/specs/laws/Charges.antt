@@ -1,4 +1,4 @@
--- What the takes of a seat count: a take is charged by a call that opens, and given back by a step that is refused Busy.
+-- What the takes of a seat count: a call charges a take when it opens, and a step that is refused as Busy gives it back.
 use Rattle.std.specs.Prelude.{◌≡◌, ℕ, ◌+◌, List, [], ◌∷◌, nat_eq, if◌then◌else◌}
 use Rattle.lfm_model.specs.declared.refusals.Refusal.TheVariants.{Busy}
 use Rattle.lfm_protocol.specs.declared.answers.Call.{Call}
@@ -12,14 +12,14 @@ use Rattle.lfm_protocol.specs.Turns.{is_open}
 use Rattle.lfm_laws.specs.laws.Schedules.{Event, begins, makes, happens, run_of}
 use Rattle.lfm_laws.specs.steady.Steady.{Steady}
 
--- what a call costs a seat of this depth when it opens: a take for a new hold, and one for the hold that ends a wait
+-- what a call charges a seat of this depth when it opens: one take for a new hold, or for the hold after a wait
 abbrev pub charge_of : Call → ℕ → ℕ
 charge_of Lock depth = if nat_eq depth 0 then 1 else 0
 charge_of TryLock depth = if nat_eq depth 0 then 1 else 0
 charge_of StartWait depth = 1
 charge_of _ depth = 0
 
--- what a step that ends so gives back
+-- what a step with this turn gives back
 abbrev pub refund_of : Turn → ℕ
 refund_of (Refused (By Busy)) = 1
 refund_of _ = 0
@@ -29,12 +29,12 @@ abbrev pub charged : Core → Event → ℕ → ℕ
 charged c (begins t call) s = if nat_eq t s then (if is_open (happens c (begins t call)).turn then charge_of call (seat c.seats s).depth else 0) else 0
 charged c (makes t) s = 0
 
--- how many it gives back to seat s
+-- how many takes an event gives back to seat s
 abbrev pub given_back : Core → Event → ℕ → ℕ
 given_back c (begins t call) s = 0
 given_back c (makes t) s = if nat_eq t s then refund_of (happens c (makes t)).turn else 0
 
--- the same of the events of a run
+-- the sums of these over a run
 abbrev pub charges_of_run : Core → ℕ → List Event → ℕ
 charges_of_run c s [] = 0
 charges_of_run c s (e ∷ later) = charged c e s + charges_of_run (happens c e).core s later
@@ -43,13 +43,13 @@ abbrev pub refunds_of_run : Core → ℕ → List Event → ℕ
 refunds_of_run c s [] = 0
 refunds_of_run c s (e ∷ later) = given_back c e s + refunds_of_run (happens c e).core s later
 
--- no event changes the takes of any seat but by what it charges and gives back
+-- an event changes the takes of a seat only by what it charges and gives back
 abbrev pub TakesChangeByCharges : Type 0
 TakesChangeByCharges =
     (c : Core) (e : Event) (s : ℕ) → Steady c
     → (seat (happens c e).core.seats s).takes + given_back c e s ≡ (seat c.seats s).takes + charged c e s
 
--- so the takes count the charges of a run that were not given back
+-- over a run, the takes grow by the charges that were not given back
 abbrev pub TakesCountCharges : Type 0
 TakesCountCharges =
     (c : Core) (events : List Event) (s : ℕ) → Steady c

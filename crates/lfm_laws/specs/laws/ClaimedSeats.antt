@@ -1,5 +1,5 @@
--- What becomes of a seat that a send has claimed, if the send finds the count above 0 as it adds the seat: the send pushes the
--- record of the seat, and so the seat comes last in the queue. Each law here is a clause of a public function of `lfm_laws`.
+-- What happens to a seat that a send has claimed, if the send then finds the count above 0: the send pushes the seat's record,
+-- which is then the last of the queue. Each law here is a clause of a public function of `lfm_laws`.
 use Rattle.std.specs.Prelude.{◌≡◌, ◌⊎◌, ℕ, ◌<◌, ◌++◌, List, [], ◌∷◌, nat_eq, if◌then◌else◌}
 use Rattle.lfm_protocol.specs.declared.answers.Answer.{Answer}
 use Rattle.lfm_protocol.specs.declared.answers.Turn.TheVariants.{Ended}
@@ -14,7 +14,7 @@ use Rattle.lfm_laws.specs.laws.Releases.{StaysInCall}
 use Rattle.lfm_laws.specs.laws.Schedules.{Event, begins, makes, happens, run_of, is_call}
 use Rattle.lfm_laws.specs.steady.Steady.{Steady}
 
--- seat s has claimed seat t by a send, and its next step, which adds the seat, finds the count above 0
+-- seat s has claimed seat t by a send, and its next step, which adds seat t to the count, finds the count above 0
 pub record IsToCount (c : Core) (s t : ℕ) : Type 0 where
   pub some : 0 < t
   pub claims : claims_for (seat c.seats s) ≡ t
@@ -43,23 +43,23 @@ pub record HasPushed (c : Core) (s t : ℕ) (events : List Event) : Type 0 where
   pub stamp : ℕ
   pub only : pushes_of_call c s events ≡ record { seat = t; stamp = stamp } ∷ []
 
--- the send is to push the seat, or has pushed it once, whatever the others do in between
+-- after the count add the send is still to push seat t, or has pushed it once, whatever the others do in between
 abbrev pub ClaimedSeatsArePushed : Type 0
 ClaimedSeatsArePushed =
     (c : Core) (s t : ℕ) (events : List Event) → IsToCount c s t → IsToPush (step c s).core s t events ⊎ HasPushed (step c s).core s t events
 
--- How the seat comes into the queue
+-- How the seat is queued
 
--- the record of seat t has come last in the queue, with the stamp of the push word
+-- the record of seat t has been added at the end of the queue, with the stamp of the push word
 abbrev pub ComesLast : Core → Core → ℕ → Type 0
 ComesLast c d t = queue_of d ≡ queue_of c ++ record { seat = t; stamp = d.push.stamp } ∷ []
 
--- one of these events is a step of seat s by which it does so
+-- one of these events is a step of seat s that adds the record of seat t at the end of the queue
 abbrev pub HasQueued : Core → ℕ → ℕ → List Event → Type 0
 HasQueued c s t [] = ⊥
 HasQueued c s t (e ∷ later) = ((e ≡ makes s) × ComesLast c (happens c e).core t) ⊎ HasQueued (happens c e).core s t later
 
--- when the send ends, it has brought the seat into the queue so
+-- before the send ends, it has added the record of seat t at the end of the queue
 abbrev pub ClaimedSeatsAreQueued : Type 0
 ClaimedSeatsAreQueued =
     (c : Core) (s t : ℕ) (events : List Event) (answer : Answer) → Steady c → IsToCount c s t → StaysInCall (step c s).core s events

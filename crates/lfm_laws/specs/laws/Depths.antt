@@ -1,5 +1,5 @@
--- What the depth of a seat counts: its holds. Each answer says how deep its seat holds before and after; while a call is open
--- the depth stays, but for the store that gives up the owner word.
+-- The depth of a seat counts its holds. Each answer determines the depth before and after it. While a call is open the depth
+-- stays the same, except at the store that empties the owner word.
 use Rattle.std.specs.Prelude.{◌≡◌, ◌≢◌, ◌⊎◌, ℕ, ◌+◌, ◌<◌, Some, None}
 use Rattle.lfm_model.specs.declared.answers.Asked.TheVariants as Asked
 use Rattle.lfm_model.specs.declared.answers.Locked.TheVariants as Locked
@@ -13,17 +13,17 @@ use Rattle.lfm_protocol.specs.Seats.{seat}
 use Rattle.lfm_laws.specs.laws.Schedules.{Event, begins, makes, happens}
 use Rattle.lfm_laws.specs.steady.Steady.{Steady}
 
--- What the depths before and after an answer are
+-- The depths before and after an answer
 
 -- a new hold
 abbrev pub Holds : ℕ → ℕ → Type 0
 Holds before after = (before ≡ 0) × (after ≡ 1)
 
--- one hold more, and this is the number of holds now
+-- one hold more, and the answered number is that of the holds now
 abbrev pub HoldsAgain : ℕ → ℕ → ℕ → Type 0
 HoldsAgain before after told = (0 < before) × (after ≡ before + 1) × (told ≡ after)
 
--- one hold less of several, and this is the number of holds left
+-- one hold less of several, and the answered number is that of the holds left
 abbrev pub HoldsStill : ℕ → ℕ → ℕ → Type 0
 HoldsStill before after told = (before ≡ after + 1) × (0 < after) × (told ≡ after)
 
@@ -44,16 +44,16 @@ AnswersDepth before after (Got None) = HoldsNothing before after
 AnswersDepth before after (Got (Some how)) = Holds before after
 AnswersDepth before after Sent = after ≡ before
 
--- What the depth of the acting seat is after an event
+-- The depth of the acting seat after an event
 
--- seat s owned the mutex once, and its number is no longer in the owner word
+-- seat s owned with depth 1, and now its number is no longer in the owner word
 pub record GivesUp (c d : Core) (s : ℕ) : Type 0 where
   pub owned : c.owner ≡ s
   pub empty : d.owner ≡ 0
   pub before : (seat c.seats s).depth ≡ 1
   pub after : (seat d.seats s).depth ≡ 0
 
--- the owner word and the depth of seat s are what they were
+-- the owner word and the depth of seat s are unchanged
 pub record KeepsHold (c d : Core) (s : ℕ) : Type 0 where
   pub owner : d.owner ≡ c.owner
   pub depth : (seat d.seats s).depth ≡ (seat c.seats s).depth
@@ -68,7 +68,7 @@ abbrev pub seat_of : Event → ℕ
 seat_of (begins s call) = s
 seat_of (makes s) = s
 
--- an event leaves the depth of every other seat, and that of its own is what its turn says
+-- an event leaves the depth of every other seat unchanged, and changes that of the acting seat as its turn says
 abbrev pub DepthCountsHolds : Type 0
 DepthCountsHolds =
     (c : Core) (e : Event) → Steady c

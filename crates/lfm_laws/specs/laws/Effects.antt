@@ -1,6 +1,6 @@
--- The effect of a call: the one event of its seat by which it acts on the abstract mutex. It is the linearization point of the
--- call. What the abstract mutex does with a seat that asks, and with a mutex that is released, comes after it, by whichever call
--- carries the responsibility.
+-- The effect of a call: the one event of its seat by which it acts on the abstract mutex. It is the call's linearization point.
+-- What the abstract mutex then does with a seat that asks, or with a released mutex, comes later, in whichever call carries the
+-- responsibility.
 use Rattle.std.specs.Prelude.{◌≡◌, ◌⊎◌, ℕ, true, ◌+◌, ◌<◌, ◌≤◌, ◌++◌, Option, Some, None, List, [], ◌∷◌, nat_eq, if◌then◌else◌}
 use Rattle.lfm_model.specs.Abstract.{AbstractMutex, AbstractStep}
 use Rattle.lfm_model.specs.Abstract as Abstract
@@ -33,7 +33,7 @@ effects_of_case (Some take_up) = 1
 effects_of_case (Some release) = 1
 effects_of_case _ = 0
 
--- a seat holds before and after, and not as deep
+-- a seat holds before and after, and its depth has changed
 abbrev pub effects_of_depth : ℕ → ℕ → ℕ
 effects_of_depth before after =
     if nat_eq before 0 then 0 else (if nat_eq after 0 then 0 else (if nat_eq after before then 0 else 1))
@@ -45,27 +45,26 @@ effects_of c s e =
     then effects_of_case (case_of_event c e) + effects_of_depth (seat c.seats s).depth (seat (happens c e).core.seats s).depth
     else 0
 
--- the same of the events of a run
+-- the sum of these over a run
 abbrev pub effects_in : Core → ℕ → List Event → ℕ
 effects_in c s [] = 0
 effects_in c s (e ∷ later) = effects_of c s e + effects_in (happens c e).core s later
 
 -- How many effects a call has had
 
--- with this answer: one, but for a receive that has found no grant
+-- with this answer: one, except for a receive that has found no grant
 abbrev pub AnswersEffects : Answer → ℕ → Type 0
 AnswersEffects (Got None) n = n ≡ 0
 AnswersEffects _ n = n ≡ 1
 
--- with this turn: an open call one at most, a refused one none
+-- with this turn: at most one for an open call, none for a refused call
 abbrev pub TurnsEffects : Turn → ℕ → Type 0
 TurnsEffects Open n = n ≤ 1
 TurnsEffects (Ended answer) n = AnswersEffects answer n
 TurnsEffects (Refused why) n = n ≡ 0
 
--- since its start a call has had as many effects as its turns say: at once if it ends or is refused at once, and otherwise
--- before and after each step of its seat, whatever the others do in between. So a call has its one effect from its start to its
--- end
+-- a call has had as many effects since its start as its turn says: at the start, and before and after each later step of its
+-- seat, whatever the others do in between. So a call has its one effect between its start and its end
 abbrev pub CallsTakeEffectOnce : Type 0
 CallsTakeEffectOnce =
     (c : Core) (s : ℕ) (call : Call) (events : List Event) → Steady c
@@ -74,7 +73,7 @@ CallsTakeEffectOnce =
     → (effects_in c s (begins s call ∷ events) ≤ 1)
     × TurnsEffects (step (run_of (begin c s call).core events) s).turn (effects_in c s (begins s call ∷ (events ++ makes s ∷ []))))
 
--- Whose effect a step of the abstract mutex is
+-- The call whose effect a step of the abstract mutex is
 
 -- a call of seat s asks for seat x
 abbrev pub IsAskOf : {a b : AbstractMutex} → ℕ → ℕ → AbstractStep a b → Type 0
@@ -114,16 +113,17 @@ IsOfOpenCall c e s = (e ≡ makes s) × (is_call (seat c.seats s).point ≡ true
 abbrev pub IsOfEndedCall : Core → Event → ℕ → Type 0
 IsOfEndedCall c e s = (call : Call) × (answer : Answer) × (e ≡ begins s call) × ((begin c s call).turn ≡ Ended answer)
 
--- an event that has a case is a step of one seat, whose call is open
+-- an event that has a case is a step of a seat whose call is open
 abbrev pub ChangesAreOfOpenCalls : Type 0
 ChangesAreOfOpenCalls = (c : Core) (e : Event) (case : Case) → case_of_event c e ≡ Some case → (s : ℕ) × IsOfOpenCall c e s
 
--- each effect is of a call: of the open call of its seat, or of one that ends at once
+-- each effect is part of the open call of its seat, or of a call that ends at once
 abbrev pub EffectsAreOfCalls : Type 0
 EffectsAreOfCalls =
     (c : Core) (s : ℕ) (e : Event) → Steady c → 0 < effects_of c s e → IsOfOpenCall c e s ⊎ IsOfEndedCall c e s
 
--- and if it changes the abstract mutex, the step between the readings is the effect of that call and names its seat or target
+-- if an effect changes the abstract mutex, the step between the readings is the effect of that call and names its seat or
+-- target
 abbrev pub EffectsAreTheCallers : Type 0
 EffectsAreTheCallers =
     (c : Core) (s : ℕ) (call : Call) (events : List Event) (a b : AbstractMutex) → Steady c
@@ -146,7 +146,7 @@ pub record HasBegun (c : Core) (s : ℕ) (events : List Event) : Type 0 where
   pub opens : (begin (run_of c earlier) s call).turn ≡ Open
   pub stays : StaysInCall (begin (run_of c earlier) s call).core s since
 
--- a seat that is in a call after a schedule has begun it in that schedule, so its effects are counted from its start
+-- if a seat is in a call after a schedule, the call began in that schedule, so its effects are counted from its start
 abbrev pub OpenCallsHaveBegun : Type 0
 OpenCallsHaveBegun =
     (limits : Limits) (events : List Event) (s : ℕ) → is_call (seat (reached limits events).seats s).point ≡ true

@@ -10,7 +10,7 @@ use Rattle.lfm_protocol.specs.Step.{begin, step}
 use Rattle.lfm_laws.specs.laws.Releases.{StaysInCall}
 use Rattle.lfm_laws.specs.laws.Schedules.{Event, run_of}
 
--- this is an answer of the call
+-- the answer belongs to the call
 abbrev pub IsAnswerOf : Call → Answer → Type 0
 IsAnswerOf Lock (Asked asked) = ⊤
 IsAnswerOf TryLock (Locked locked) = ⊤
@@ -20,7 +20,7 @@ IsAnswerOf (SendLock t) Sent = ⊤
 IsAnswerOf Receive (Got how) = ⊤
 IsAnswerOf _ _ = ⊥
 
--- a call ends with an answer of its own: at once, or with a step of its seat, whatever the others do in between
+-- a call ends with an answer of its own kind: at once, or with a step of its seat, whatever the others do in between
 abbrev pub CallsEndInTheirKind : Type 0
 CallsEndInTheirKind =
     (c : Core) (s : ℕ) (call : Call) (answer : Answer)

@@ -1,5 +1,5 @@
--- How a seat comes to hold: by its own queued record, by the grant that its receive has loaded, without either, or once more
--- because the owner word had its number.
+-- How a seat comes to hold: by its own queued record, by the grant that its receive has loaded, by neither, or once more
+-- because its number is in the owner word.
 use Rattle.std.specs.Prelude.{◌≡◌, ◌≢◌, ◌⊎◌, ⊤, ℕ, false, ◌<◌, ◌++◌, Option, Some, None, List, [], ◌∷◌, nat_eq, if◌then◌else◌}
 use Rattle.lfm_model.specs.declared.answers.Asked.TheVariants as Asked
 use Rattle.lfm_model.specs.declared.answers.How.{How}
@@ -23,8 +23,8 @@ use Rattle.lfm_laws.specs.steady.Steady.{Steady}
 
 -- Held by a queued record, or without one
 
--- what the step of seat s from one state to the next did to the queue, that its turn answers so: a lock that holds by a queued
--- record took its own; a lock or try_lock that holds without one took none
+-- what a step of seat s with this turn did to the queue: a lock that holds by a queued record took its own record; a lock or
+-- try_lock that holds without one took none
 abbrev pub HeldBy : Core → Core → ℕ → Turn → Type 0
 HeldBy c d s (Ended (Answer.Asked (Asked.Held (Queued x)))) = queue_of c ≡ record { seat = s; stamp = x } ∷ queue_of d
 HeldBy c d s (Ended (Answer.Asked (Asked.Held Free))) = queue_of d ≡ queue_of c
@@ -41,7 +41,7 @@ abbrev pub IsGrant : How → ℕ → Type 0
 IsGrant Free stamp = stamp ≡ 0
 IsGrant (Queued x) stamp = (stamp ≡ x) × (0 < x)
 
--- in this state the wake word of seat s holds the grant
+-- the wake word of seat s holds the grant
 pub record FindsGrant (c : Core) (s : ℕ) (how : How) : Type 0 where
   pub stamp : ℕ
   pub word : wake c.wakes s ≡ Grant stamp
@@ -52,7 +52,7 @@ abbrev pub HasLoaded : Core → ℕ → List Event → How → Type 0
 HasLoaded c s [] how = ⊥
 HasLoaded c s (e ∷ later) how = ((e ≡ makes s) × FindsGrant c s how) ⊎ HasLoaded (happens c e).core s later how
 
--- a receive that ends so has loaded its grant, or finds none with its last step
+-- a receive that ends with this answer has loaded that grant, or found none with its last step
 abbrev pub LoadedBy : Core → ℕ → List Event → Option How → Type 0
 LoadedBy c s events (Some how) = HasLoaded c s events how
 LoadedBy c s events None = (stamp : ℕ) → wake (run_of c events).wakes s ≢ Grant stamp
@@ -76,8 +76,8 @@ kinds_of_call c s [] = []
 kinds_of_call c s (e ∷ later) =
     if is_call (seat c.seats s).point then kinds_of_event c s e ++ kinds_of_call (happens c e).core s later else []
 
--- a lock or try_lock of a seat that holds makes exactly these steps until it ends, whatever the others do in between: it never
--- holds once more without a load of the owner word
+-- a lock or try_lock of a seat that holds makes exactly these steps, whatever the others do in between: it never holds once
+-- more without a load of the owner word
 abbrev pub RecursiveCallsLoadTheOwner : Type 0
 RecursiveCallsLoadTheOwner =
     (c : Core) (s : ℕ) (events : List Event) → Steady c → 0 < (seat c.seats s).depth

@@ -1,5 +1,5 @@
--- What an atomic step does to the abstract mutex, by the seat's point and what the step finds: its case, the record that it
--- pushes, the record that leaves the queue with it, and the queued record by which it answers that the seat holds.
+-- What an atomic step does to the abstract mutex, by the seat's point and by what the step finds: its case, the record that it
+-- pushes, the record that it removes from the queue, and the queued record by which it answers that the seat holds.
 use Rattle.std.specs.Prelude.{ℕ, ◌+◌, Option, Some, None, List, [], ◌∷◌, nat_eq, if◌then◌else◌}
 use Rattle.lfm_model.specs.AbstractRuns.{Case, ask, queue, serve, post, take, accept, take_up, enter, release, leave}
 use Rattle.lfm_model.specs.declared.answers.Asked.{Asked}
@@ -20,7 +20,7 @@ use Rattle.lfm_protocol.specs.Core.{Core}
 use Rattle.lfm_protocol.specs.Points.{pushed_seat}
 use Rattle.lfm_protocol.specs.Seats.{seat, wake}
 
--- a locker that holds already is only counted again
+-- a locker that already holds adds one to the count and does not ask
 abbrev pub asks_at : ℕ → ℕ → Option Case
 asks_at count depth = if nat_eq count 0 then Some ask else (if nat_eq depth 0 then Some ask else None)
 
@@ -53,7 +53,7 @@ case_at c s x (GrantWakeStore carrier oldest) = Some serve
 case_at c s x (SendWakeStore t) = Some enter
 case_at c s x _ = None
 
--- the case of the step that seat s makes next, none if the abstract mutex stays as it is
+-- the case of the step that seat s makes next, none if the abstract mutex is unchanged
 abbrev pub case_of_step : Core → ℕ → Option Case
 case_of_step c s = case_at c s (seat c.seats s) (seat c.seats s).point
 
@@ -70,7 +70,8 @@ abbrev pub popped_to_enter : ℕ → Entrant → How → List Record
 popped_to_enter s Entrant.Locker (How.Queued stamp) = record { seat = s; stamp = stamp } ∷ []
 popped_to_enter s _ how = []
 
--- the record that leaves the queue with a step at this point: by the store that grants it, or by its own seat's owner store
+-- the record that a step at this point removes from the queue: by the store that grants it, or by the owner store of its own
+-- seat
 abbrev pub popped_at_point : ℕ → Point → List Record
 popped_at_point s (EnterOwnerStore entrant how) = popped_to_enter s entrant how
 popped_at_point s (GrantWakeStore carrier oldest) = oldest ∷ []
@@ -102,7 +103,7 @@ answered s (Answer.Locked locked) = answered_locked s locked
 answered s (Answer.Got got) = answered_got s got
 answered s _ = []
 
--- the queued record by which a turn answers seat s that it holds
+-- the queued record by which seat s holds, if this turn answers a hold
 abbrev pub answered_by : ℕ → Turn → List Record
 answered_by s (Ended answer) = answered s answer
 answered_by s _ = []

@@ -1,4 +1,4 @@
--- How many grants a call stores. A grant is what wakes a seat that sleeps.
+-- How many grants a call stores. A sleeping seat is woken by its grant.
 use Rattle.std.specs.Prelude.{ℕ, ◌≤◌, List}
 use Rattle.lfm_protocol.specs.declared.points.Point.{Point}
 use Rattle.lfm_protocol.specs.declared.points.Point.TheVariants.{GrantWakeStore, SendWakeStore}
@@ -6,7 +6,8 @@ use Rattle.lfm_protocol.specs.Core.{Core}
 use Rattle.lfm_laws.specs.laws.Schedules.{Event, weight_of_call}
 use Rattle.lfm_laws.specs.steady.Steady.{Steady}
 
--- the two wake stores that write a grant: to the seat of the oldest record, and by a send that found the count at 0 to its target
+-- two wake stores write a grant: one for the seat of the oldest record, and one for the target of a send that found the count
+-- at 0
 abbrev pub grant_weight : Point → ℕ
 grant_weight (GrantWakeStore carrier oldest) = 1
 grant_weight (SendWakeStore t) = 1

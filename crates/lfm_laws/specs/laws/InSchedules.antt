@@ -1,5 +1,5 @@
--- The headline laws for schedules: each speaks of every state that some schedule reaches, and of all that calls and single
--- steps make of it. They are the laws of steady states with that premise in the place of the invariant.
+-- The main laws, stated for schedules: for every state that some schedule reaches, and for all calls and single steps from
+-- there. They are the laws of steady states with this premise instead of the invariant.
 use Rattle.std.specs.Prelude.{◌≡◌, ◌⊎◌, ℕ, true, false, ◌+◌, ◌*◌, ◌<◌, ◌≤◌, ◌++◌, Some, List, [], ◌∷◌, length, slice_index_or}
 use Rattle.lfm_model.specs.Abstract.{AbstractMutex, AbstractPlace, AbstractStep, free}
 use Rattle.lfm_model.specs.AbstractRuns.{take, case_of}
@@ -48,16 +48,16 @@ abbrev pub OneSeatOwnsInSchedules : Type 0
 OneSeatOwnsInSchedules =
     (c : Core) (s t : ℕ) → IsReached c → 0 < (seat c.seats s).depth → 0 < (seat c.seats t).depth → s ≡ t
 
--- with a count above 0 exactly one owner, grant, posted handoff or call has the responsibility
+-- if the count is above 0, exactly one owner, grant, posted handoff or call has the responsibility
 abbrev pub OneHasTheResponsibilityInSchedules : Type 0
 OneHasTheResponsibilityInSchedules =
     (c : Core) → IsReached c → 0 < c.count → (p : AbstractPlace) × Claims c p × ((q : AbstractPlace) → Claims c q → q ≡ p)
 
--- the place that is printed is that of the reading
+-- the printed place is that of the reading
 abbrev pub PlacesAreReadInSchedules : Type 0
 PlacesAreReadInSchedules = (c : Core) (a : AbstractMutex) → IsReached c → Reads c a → place_of c ≡ printed a.place
 
--- the count is 0 exactly if nobody has the responsibility
+-- the count is 0 exactly if no seat or call has the responsibility
 abbrev pub CountIsZeroIfFreeInSchedules : Type 0
 CountIsZeroIfFreeInSchedules =
     (c : Core) (a : AbstractMutex) → IsReached c → Reads c a → (c.count ≡ 0 → a.place ≡ free) × (a.place ≡ free → c.count ≡ 0)
@@ -67,45 +67,44 @@ CountIsZeroIfFreeInSchedules =
 abbrev pub StatesAreLawfulInSchedules : Type 0
 StatesAreLawfulInSchedules = (c : Core) → IsReached c → Lawful c
 
--- step by step, the readings before and after an event go by its case
+-- the readings before and after an event differ by its case
 abbrev pub EventsAreTheirCasesInSchedules : Type 0
 EventsAreTheirCasesInSchedules =
     (c : Core) (e : Event) (a b : AbstractMutex) → IsReached c → Reads c a → Reads (happens c e).core b → GoesBy (case_of_event c e) a b
 
 -- The order of the queue
 
--- what was queued and then what is pushed is what leaves and then what is queued, in one order
+-- the queue before and then the pushed records equal the records that left and then the queue after, in the same order
 abbrev pub QueueIsInPushOrderInSchedules : Type 0
 QueueIsInPushOrderInSchedules =
     (c : Core) (events : List Event) → IsReached c
     → queue_of c ++ push_record c events ≡ popped_record c events ++ queue_of (run_of c events)
 
--- the stamps of the pushes follow the push word's
+-- the stamps of the pushes are consecutive, starting after that of the push word
 abbrev pub StampsAreConsecutiveInSchedules : Type 0
 StampsAreConsecutiveInSchedules =
     (c : Core) (events : List Event) → IsReached c
     → (k : ℕ) (d : Record) → k < length (push_record c events) → (slice_index_or (push_record c events) k d).stamp ≡ c.push.stamp + (k + 1)
 
--- while a record that was queued has not left the queue, seats come to own at most as often as records leave it, and once more
+-- while a queued record has not left the queue, seats become the owner at most once more than records leave it
 abbrev pub QueuedSeatsAreOvertakenOnceInSchedules : Type 0
 QueuedSeatsAreOvertakenOnceInSchedules =
     (c : Core) (events : List Event) (k : ℕ) → IsReached c → k < length (queue_of c) → length (popped_record c events) ≤ k
     → entries_of_run c events ≤ length (popped_record c events) + 1
 
--- and they stop owning at most as often as records leave it, and once more
+-- while a queued record has not left the queue, owners release at most once more than records leave it
 abbrev pub QueuedSeatsWaitForFewReleasesInSchedules : Type 0
 QueuedSeatsWaitForFewReleasesInSchedules =
     (c : Core) (events : List Event) (k : ℕ) → IsReached c → k < length (queue_of c) → length (popped_record c events) ≤ k
     → releases_of_run c events ≤ length (popped_record c events) + 1
 
--- and no seat comes to own twice
+-- while a queued record has not left the queue, no seat becomes the owner twice
 abbrev pub NoSeatOvertakesTwiceInSchedules : Type 0
 NoSeatOvertakesTwiceInSchedules =
     (c : Core) (t : ℕ) (events : List Event) (k : ℕ) → IsReached c → k < length (queue_of c) → length (popped_record c events) ≤ k
     → entries_of_seat c t events ≤ 1
 
--- if no other calls begin than those that serve, at most this many steps of calls are made as long as a queued record with k
--- before it has not left
+-- if only calls that serve begin, calls make at most this many steps while a queued record with k before it has not left
 abbrev pub QueuedSeatsAreServedSoonInSchedules : Type 0
 QueuedSeatsAreServedSoonInSchedules =
     (c : Core) (events : List Event) (k : ℕ) → IsReached c → k < length (queue_of c) → OnlyServes c events
@@ -117,28 +116,29 @@ QueuedSeatsAreServedSoonInSchedules =
 abbrev pub HandoffsAreWatchedInSchedules : Type 0
 HandoffsAreWatchedInSchedules = (c : Core) → IsReached c → Watched c
 
--- without an open call nothing is posted, and if the count is above 0 a seat owns or a grant waits
+-- if no call is open, nothing is posted, and if the count is above 0 a seat owns or a sleeping seat has its grant
 abbrev pub QuiescentStatesRestInSchedules : Type 0
 QuiescentStatesRestInSchedules =
     (c : Core) → IsReached c → IsQuiet c → (c.handoff ≡ unposted) × (0 < c.count → IsHeld c ⊎ IsGranted c)
 
--- a seat that sleeps, with no call open, is queued, granted, WAITING for a send, or on the way by one
+-- a seat that sleeps with no call open is queued, has its grant, is WAITING for a send, or is between a send's claim and its
+-- grant
 abbrev pub SleepersAreReachableInSchedules : Type 0
 SleepersAreReachableInSchedules =
     (c : Core) (t : ℕ) (since : Sleeper) → IsReached c → (seat c.seats t).point ≡ Asleep since
     → IsQueued c t ⊎ (((stamp : ℕ) × (wake c.wakes t ≡ Grant stamp)) ⊎ ((wake c.wakes t ≡ Waiting) ⊎ IsSent c t))
 
--- after a successful handoff exchange, the push list that the take clears has a record
+-- after a successful handoff exchange, the push list that the clear-head clears has a record
 abbrev pub TakesFindARecordInSchedules : Type 0
 TakesFindARecordInSchedules =
     (c : Core) (s : ℕ) (carrier : Carrier) → IsReached c → (seat c.seats s).point ≡ TakeClearHead carrier → has_won carrier ≡ true
     → (0 < c.push.next) × (c.popped ≡ [])
 
--- at the exchange that takes a posted handoff, the push list has a record and the pop list none
+-- at the exchange that takes a posted handoff, the push list has a record and the pop list has none
 abbrev pub WonPostsHaveARecordInSchedules : Type 0
 WonPostsHaveARecordInSchedules = (c : Core) (s : ℕ) → IsReached c → case_of_step c s ≡ Some take → (0 < c.push.next) × (c.popped ≡ [])
 
--- a push exchange that fails has seen a higher stamp, or the same with the head emptied
+-- a push exchange that fails finds a higher stamp, or the same stamp with the head cleared
 abbrev pub FailedPushesSeeChangeInSchedules : Type 0
 FailedPushesSeeChangeInSchedules =
     (c : Core) (s : ℕ) (pusher : Pusher) (seen : Link) → IsReached c → (seat c.seats s).point ≡ PushExchange pusher seen
@@ -154,7 +154,7 @@ CallsGrantOnceInSchedules = (c : Core) (s : ℕ) (events : List Event) → IsRea
 
 -- Linearization points
 
--- a call has as many effects as its turns say: one between its start and its end, whatever the others do in between
+-- a call has had as many effects as its turn says: one between its start and its end, whatever the others do in between
 abbrev pub CallsTakeEffectOnceInSchedules : Type 0
 CallsTakeEffectOnceInSchedules =
     (c : Core) (s : ℕ) (call : Call) (events : List Event) → IsReached c
@@ -163,12 +163,13 @@ CallsTakeEffectOnceInSchedules =
     → (effects_in c s (begins s call ∷ events) ≤ 1)
     × TurnsEffects (step (run_of (begin c s call).core events) s).turn (effects_in c s (begins s call ∷ (events ++ makes s ∷ []))))
 
--- each effect is of the open call of its seat, or of a call that ends at once
+-- each effect is part of the open call of its seat, or of a call that ends at once
 abbrev pub EffectsAreOfCallsInSchedules : Type 0
 EffectsAreOfCallsInSchedules =
     (c : Core) (s : ℕ) (e : Event) → IsReached c → 0 < effects_of c s e → IsOfOpenCall c e s ⊎ IsOfEndedCall c e s
 
--- and if it changes the abstract mutex, the step between the readings is the effect of that call and names its seat or target
+-- if an effect changes the abstract mutex, the step between the readings is the effect of that call and names its seat or
+-- target
 abbrev pub EffectsAreTheCallersInSchedules : Type 0
 EffectsAreTheCallersInSchedules =
     (c : Core) (s : ℕ) (call : Call) (events : List Event) (a b : AbstractMutex) → IsReached c
@@ -181,13 +182,13 @@ EffectsAreTheCallersInSchedules =
 
 -- Bounds
 
--- an unlock among N seats makes at most N + 7 steps, whatever the others do in between
+-- with N seats, an unlock makes at most N + 7 steps, whatever the others do in between
 abbrev pub UnlocksAreBoundedInSchedules : Type 0
 UnlocksAreBoundedInSchedules =
     (c : Core) (s : ℕ) (events : List Event) → IsReached c → is_call (seat c.seats s).point ≡ false
     → steps_of_call (begin c s Unlock).core s events ≤ length c.seats + 7
 
--- a start_wait at most N + 8
+-- a start_wait makes at most N + 8
 abbrev pub StartWaitsAreBoundedInSchedules : Type 0
 StartWaitsAreBoundedInSchedules =
     (c : Core) (s : ℕ) (events : List Event) → IsReached c → is_call (seat c.seats s).point ≡ false
@@ -199,19 +200,19 @@ TriesAndReceivesAreBoundedInSchedules =
     (c : Core) (s : ℕ) (events : List Event) → IsReached c → is_call (seat c.seats s).point ≡ false
     → (steps_of_call (begin c s TryLock).core s events ≤ 6) × (steps_of_call (begin c s Receive).core s events ≤ 3)
 
--- an open call whose seat alone makes steps ends within as many as `*` makes
+-- if only its seat makes steps, an open call ends within the number of steps that `*` allows
 abbrev pub CallsEndAloneInSchedules : Type 0
 CallsEndAloneInSchedules =
     (c : Core) (s : ℕ) → IsReached c → is_call (seat c.seats s).point ≡ true → is_open (steps (longest_call c) c s).turn ≡ false
 
--- alone, after a failed push exchange the next one succeeds
+-- if only its seat makes steps, the push exchange after a failed one succeeds
 abbrev pub PushesAloneFailOnceInSchedules : Type 0
 PushesAloneFailOnceInSchedules =
     (c : Core) (s : ℕ) (pusher : Pusher) (seen : Link) → IsReached c → (seat c.seats s).point ≡ PushExchange pusher seen
     → same_link c.push seen ≡ false → (seat (run_of c (makes s ∷ makes s ∷ makes s ∷ [])).seats s).point ≡ PushedHandoffLoad pusher
 
--- if its seat alone makes steps, a try_lock of a seat that rests, does not hold and has a take left holds when the count is 0
--- or a handoff is posted
+-- if only its seat makes steps, a try_lock of a seat that rests, does not hold and has a take left holds if the count is 0 or a
+-- handoff is posted
 abbrev pub TriesAloneHoldInSchedules : Type 0
 TriesAloneHoldInSchedules =
     (c : Core) (s : ℕ) → IsReached c → IsSeat c.seats s → (seat c.seats s).point ≡ Rest → (seat c.seats s).depth ≡ 0
@@ -221,35 +222,35 @@ TriesAloneHoldInSchedules =
 
 -- Lock freedom
 
--- an open call makes at most N + 9 steps, and two more for each time that another seat changes the push word meanwhile
+-- an open call makes at most N + 9 steps, plus two for each time that another seat changes the push word meanwhile
 abbrev pub CallsEndBesideOthersInSchedules : Type 0
 CallsEndBesideOthersInSchedules =
     (c : Core) (s : ℕ) (events : List Event) → IsReached c
     → steps_of_call c s events ≤ length c.seats + 9 + 2 * changes_beside c s events
 
--- and changes it at most twice itself
+-- an open call changes the push word at most twice itself
 abbrev pub CallsChangeThePushWordTwiceInSchedules : Type 0
 CallsChangeThePushWordTwiceInSchedules = (c : Core) (s : ℕ) (events : List Event) → IsReached c → changes_of_call c s events ≤ 2
 
--- all calls of a run make together at most 5N + 5 steps for each of them
+-- all calls of a run together make at most 5N + 5 steps per call
 abbrev pub CallsShareTheirStepsInSchedules : Type 0
 CallsShareTheirStepsInSchedules =
     (c : Core) (events : List Event) → IsReached c
     → steps_of_run c events ≤ (5 * length c.seats + 5) * (open_calls c + opened_in_run c events)
 
--- so among any 5N(N + 1) + 1 steps of calls some call ends
+-- so among any 5N(N + 1) + 1 steps of calls, some call ends
 abbrev pub SomeCallEndsInSchedules : Type 0
 SomeCallEndsInSchedules =
     (c : Core) (events : List Event) → IsReached c
     → steps_of_run c events ≤ (5 * length c.seats + 5) * (length c.seats + ended_in_run c events)
 
--- from each state some steps lead to one without an open call
+-- from each state some sequence of steps leads to a state without an open call
 abbrev pub NoStateIsStuckInSchedules : Type 0
 NoStateIsStuckInSchedules = (c : Core) → IsReached c → ComesToRest c
 
 -- Refusals
 
--- between the start of a try_lock and the step that answers Busy, the mutex was neither free nor posted
+-- at some moment between the start of a try_lock and the step that answers Busy, the mutex was neither free nor posted
 abbrev pub BusyWasBusyInSchedules : Type 0
 BusyWasBusyInSchedules =
     (c : Core) (s : ℕ) (events : List Event) → IsReached c → (begin c s TryLock).turn ≡ Open
@@ -258,7 +259,7 @@ BusyWasBusyInSchedules =
 
 -- Sends
 
--- a send that has claimed a seat, and finds the count above 0, has brought the seat into the queue when it ends
+-- a send that has claimed a seat and finds the count above 0 has queued the seat by the time it ends
 abbrev pub ClaimedSeatsAreQueuedInSchedules : Type 0
 ClaimedSeatsAreQueuedInSchedules =
     (c : Core) (s t : ℕ) (events : List Event) (answer : Answer) → IsReached c → IsToCount c s t → StaysInCall (step c s).core s events

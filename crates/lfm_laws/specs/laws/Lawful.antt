@@ -1,4 +1,4 @@
--- What holds of every steady state, said of its words and points.
+-- What holds for every steady state, stated about its words and points.
 use Rattle.std.specs.Prelude.{◌≡◌, ◌≢◌, ◌⊎◌, ⊤, ℕ, ◌+◌, ◌<◌, ◌≤◌, List, length, AllPairs, slice_index_or}
 use Rattle.lfm_model.specs.Abstract.{AbstractMutex, AbstractPlace, owner}
 use Rattle.lfm_protocol.specs.declared.points.Point.{Point}
@@ -20,12 +20,12 @@ abbrev pub owning_seat : AbstractPlace → ℕ
 owning_seat (owner s) = s
 owning_seat _ = 0
 
--- the stamps of a list of records go up by 1 and end at this one
+-- the stamps of a list of records are consecutive, and the last is this one
 abbrev pub EndsAt : ℕ → List Record → Type 0
 EndsAt last records =
     (k : ℕ) (d : Record) → k < length records → (slice_index_or records k d).stamp + length records ≡ last + (k + 1)
 
--- each number that a seat has read was posted by the seat that it names
+-- each handoff number that a seat has read was posted by the seat that it names
 abbrev pub WasPosted : List SeatState → Handoff → Type 0
 WasPosted seats seen = seen.post ≤ (seat seats seen.seat).posts
 
@@ -35,14 +35,14 @@ ReadBefore seats (PushedHandoffExchange pusher seen) = WasPosted seats seen
 ReadBefore seats (TryHandoffExchange seen) = WasPosted seats seen
 ReadBefore seats _ = ⊤
 
--- a seat at this point sleeps since a start_wait
+-- a seat at this point has slept since a start_wait
 abbrev pub SleepsAsWaiter : Point → Type 0
 SleepsAsWaiter (Asleep Sleeper.Waiter) = ⊤
 SleepsAsWaiter (ReceiveWakeLoad Sleeper.Waiter) = ⊤
 SleepsAsWaiter _ = ⊥
 
--- a seat at this point has loaded the grant in its wake word, or will load it before it begins any other call: it sleeps, receives,
--- or is a locker that has pushed its record
+-- a seat at this point has loaded the grant in its wake word, or will load it before it begins any other call: it sleeps,
+-- receives, or is a locker that has pushed its record
 abbrev pub LoadsItsGrant : Point → Type 0
 LoadsItsGrant (Asleep sleeper) = ⊤
 LoadsItsGrant (ReceiveWakeLoad sleeper) = ⊤
@@ -56,7 +56,7 @@ pub record IsBroughtIn (c : Core) (t : ℕ) : Type 0 where
   pub sender : ℕ
   pub here : (seat c.seats sender).point ≡ SendWakeStore t
 
--- seat t stands between a send's claim and its grant: claimed, asking, queued or about to be granted
+-- seat t is between a send's claim and its grant: claimed, asking, queued or about to be granted
 abbrev pub IsSent : Core → ℕ → Type 0
 IsSent c t = IsClaimedFor c t ⊎ (Asks c t ⊎ (IsQueued c t ⊎ IsBroughtIn c t))
 
@@ -75,7 +75,7 @@ pub record IsLawful (c : Core) (a : AbstractMutex) : Type 0 where
   pub claimed_words : (t : ℕ) → wake c.wakes t ≡ Claimed → SleepsAsWaiter (seat c.seats t).point × IsSent c t
   pub granted_words : (t stamp : ℕ) → wake c.wakes t ≡ Grant stamp → LoadsItsGrant (seat c.seats t).point
 
--- a state has a reading, and is lawful as that
+-- a state has a reading, and all of the above holds for the two
 pub record Lawful (c : Core) : Type 0 where
   pub reading : AbstractMutex
   pub lawful : IsLawful c reading

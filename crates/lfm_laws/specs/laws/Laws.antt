@@ -1,5 +1,5 @@
--- The laws of every steady state, and of all that calls and single steps make of it. A state that a schedule reaches is steady,
--- for every number of seats and budget in their limits. Each law is a clause of a public function of `lfm_laws`.
+-- The laws of every steady state, and of all calls and single steps from there. Every state that a schedule reaches is steady,
+-- for every number of seats and every budget within their limits. Each law is a clause of a public function of `lfm_laws`.
 use Rattle.std.specs.Prelude.{◌≡◌, ◌⊎◌, ℕ, Bool, true, false, ◌+◌, ◌<◌, ◌≤◌, ◌++◌, Some, List, [], ◌∷◌, length, slice_index_or}
 use Rattle.lfm_model.specs.Abstract.{AbstractMutex, AbstractPlace, all_free, free, owner, passed, posted, carried}
 use Rattle.lfm_model.specs.AbstractRuns.{IsRun, take}
@@ -47,7 +47,7 @@ pub record IsReached (c : Core) : Type 0 where
 abbrev pub OneSeatOwns : Type 0
 OneSeatOwns = (c : Core) (s t : ℕ) → Steady c → 0 < (seat c.seats s).depth → 0 < (seat c.seats t).depth → s ≡ t
 
--- with a count above 0 exactly one owner, grant, posted handoff or call has the responsibility
+-- if the count is above 0, exactly one owner, grant, posted handoff or call has the responsibility
 abbrev pub OneHasTheResponsibility : Type 0
 OneHasTheResponsibility =
     (c : Core) → Steady c → 0 < c.count → (p : AbstractPlace) × Claims c p × ((q : AbstractPlace) → Claims c q → q ≡ p)
@@ -57,18 +57,18 @@ OneHasTheResponsibility =
 abbrev pub StatesAreLawful : Type 0
 StatesAreLawful = (c : Core) → Steady c → Lawful c
 
--- the readings of a run are a run of the abstract mutex, which starts with nobody holding, asking or waiting
+-- the readings of a run are a run of the abstract mutex that starts with no seat holding, asking or waiting
 abbrev pub RunsAreAbstractRuns : Type 0
 RunsAreAbstractRuns =
     (limits : Limits) (events : List Event) → are_in_limits limits.seats limits.budget ≡ true
     → Reads (start limits) all_free × ((later : List AbstractMutex) × ReadsRun (start limits) events later × IsRun (all_free ∷ later))
 
--- step by step, the readings before and after an event go by its case, which is that of `case_of_step` if it is a step
+-- the readings before and after an event differ by its case, which is that of `case_of_step` if the event is a step
 abbrev pub EventsAreTheirCases : Type 0
 EventsAreTheirCases =
     (c : Core) (e : Event) (a b : AbstractMutex) → Steady c → Reads c a → Reads (happens c e).core b → GoesBy (case_of_event c e) a b
 
--- the place that is printed
+-- the place as it is printed
 abbrev pub printed : AbstractPlace → Place
 printed free = Place.Free
 printed (owner s) = Place.Owner s
@@ -80,7 +80,7 @@ printed (carried s how) = Place.Carried s
 abbrev pub PlacesAreRead : Type 0
 PlacesAreRead = (c : Core) (a : AbstractMutex) → Steady c → Reads c a → place_of c ≡ printed a.place
 
--- the count is 0 exactly if nobody has the responsibility
+-- the count is 0 exactly if no seat or call has the responsibility
 abbrev pub CountIsZeroIfFree : Type 0
 CountIsZeroIfFree = (c : Core) (a : AbstractMutex) → Steady c → Reads c a → (c.count ≡ 0 → a.place ≡ free) × (a.place ≡ free → c.count ≡ 0)
 
@@ -91,13 +91,13 @@ QueueIsInPushOrder =
     (c : Core) (events : List Event) → Steady c
     → queue_of c ++ push_record c events ≡ popped_record c events ++ queue_of (run_of c events)
 
--- the stamps of the pushes follow the push word's; at the start this is 0
+-- the stamps of the pushes are consecutive, starting after that of the push word, which is 0 at the start
 abbrev pub StampsAreConsecutive : Type 0
 StampsAreConsecutive =
     (c : Core) (events : List Event) → Steady c
     → (k : ℕ) (d : Record) → k < length (push_record c events) → (slice_index_or (push_record c events) k d).stamp ≡ c.push.stamp + (k + 1)
 
--- the answers Held(Queued) are the popped records, or these without the last
+-- the answers Held(Queued) are the popped records, or all of these except the last
 abbrev pub AnswersAreTheRecords : Type 0
 AnswersAreTheRecords =
     (limits : Limits) (events : List Event) → are_in_limits limits.seats limits.budget ≡ true
@@ -113,12 +113,12 @@ HandoffsAreWatched = (c : Core) → Steady c → Watched c
 abbrev pub IsQuiet : Core → Type 0
 IsQuiet c = (s : ℕ) → is_call (seat c.seats s).point ≡ false
 
--- somebody holds
+-- some seat holds
 pub record IsHeld (c : Core) : Type 0 where
   pub owner : ℕ
   pub depth : 0 < (seat c.seats owner).depth
 
--- a grant waits to be loaded by a seat that sleeps
+-- a sleeping seat has a grant that it has not loaded
 pub record IsGranted (c : Core) : Type 0 where
   pub sleeper : ℕ
   pub since : Sleeper
@@ -126,12 +126,13 @@ pub record IsGranted (c : Core) : Type 0 where
   pub word : wake c.wakes sleeper ≡ Grant stamp
   pub sleeps : (seat c.seats sleeper).point ≡ Asleep since
 
--- without an open call nothing is posted, and if the count is above 0 a seat owns or a grant waits
+-- if no call is open, nothing is posted, and if the count is above 0 a seat owns or a sleeping seat has its grant
 abbrev pub QuiescentStatesRest : Type 0
 QuiescentStatesRest =
     (c : Core) → Steady c → IsQuiet c → (c.handoff ≡ unposted) × (0 < c.count → IsHeld c ⊎ IsGranted c)
 
--- a seat that sleeps, with no call open, is queued, granted, WAITING for a send, or on the way by one
+-- a seat that sleeps with no call open is queued, has its grant, is WAITING for a send, or is between a send's claim and its
+-- grant
 abbrev pub SleepersAreReachable : Type 0
 SleepersAreReachable =
     (c : Core) (t : ℕ) (since : Sleeper) → Steady c → (seat c.seats t).point ≡ Asleep since
@@ -144,17 +145,18 @@ has_won (Carrier.Releaser releaser) = false
 has_won (Carrier.Reclaimer releaser) = true
 has_won Carrier.Sender = true
 
--- after a successful handoff exchange, in lock, unlock or send_lock, the push list that the take clears has a record
+-- after a successful handoff exchange, in lock, unlock or send_lock, the push list that the clear-head clears has a record
 abbrev pub TakesFindARecord : Type 0
 TakesFindARecord =
     (c : Core) (s : ℕ) (carrier : Carrier) → Steady c → (seat c.seats s).point ≡ TakeClearHead carrier → has_won carrier ≡ true
     → (0 < c.push.next) × (c.popped ≡ [])
 
--- at the exchange that takes a posted handoff, in lock, unlock and send_lock, the push list has a record and the pop list none
+-- at the exchange that takes a posted handoff, in lock, unlock and send_lock, the push list has a record and the pop list has
+-- none
 abbrev pub WonPostsHaveARecord : Type 0
 WonPostsHaveARecord = (c : Core) (s : ℕ) → Steady c → case_of_step c s ≡ Some take → (0 < c.push.next) × (c.popped ≡ [])
 
--- a push exchange that fails has seen a higher stamp, or the same with the head emptied
+-- a push exchange that fails finds a higher stamp, or the same stamp with the head cleared
 abbrev pub FailedPushesSeeChange : Type 0
 FailedPushesSeeChange =
     (c : Core) (s : ℕ) (pusher : Pusher) (seen : Link) → Steady c → (seat c.seats s).point ≡ PushExchange pusher seen
@@ -170,13 +172,13 @@ post_weight _ = 0
 abbrev pub CallsPostOnce : Type 0
 CallsPostOnce = (c : Core) (s : ℕ) (events : List Event) → Steady c → weight_of_call post_weight c s events ≤ 1
 
--- an unlock among N seats makes at most N + 7 steps, whatever the others do in between
+-- with N seats, an unlock makes at most N + 7 steps, whatever the others do in between
 abbrev pub UnlocksAreBounded : Type 0
 UnlocksAreBounded =
     (c : Core) (s : ℕ) (events : List Event) → Steady c → is_call (seat c.seats s).point ≡ false
     → steps_of_call (begin c s Unlock).core s events ≤ length c.seats + 7
 
--- a start_wait at most N + 8
+-- a start_wait makes at most N + 8
 abbrev pub StartWaitsAreBounded : Type 0
 StartWaitsAreBounded =
     (c : Core) (s : ℕ) (events : List Event) → Steady c → is_call (seat c.seats s).point ≡ false
@@ -184,12 +186,12 @@ StartWaitsAreBounded =
 
 -- Termination
 
--- an open call whose seat alone makes steps ends within as many as `*` makes
+-- if only its seat makes steps, an open call ends within the number of steps that `*` allows
 abbrev pub CallsEndAlone : Type 0
 CallsEndAlone =
     (c : Core) (s : ℕ) → Steady c → is_call (seat c.seats s).point ≡ true → is_open (steps (longest_call c) c s).turn ≡ false
 
--- alone, a push fails at most once: after a failed exchange the next one succeeds
+-- if only its seat makes steps, a push fails at most once: the exchange after a failed one succeeds
 abbrev pub PushesAloneFailOnce : Type 0
 PushesAloneFailOnce =
     (c : Core) (s : ℕ) (pusher : Pusher) (seen : Link) → Steady c → (seat c.seats s).point ≡ PushExchange pusher seen
@@ -197,8 +199,8 @@ PushesAloneFailOnce =
 
 -- Availability
 
--- if its seat alone makes steps, a try_lock of a seat that rests, does not hold and has a take left holds when the count is 0
--- or a handoff is posted
+-- if only its seat makes steps, a try_lock of a seat that rests, does not hold and has a take left holds if the count is 0 or a
+-- handoff is posted
 abbrev pub TriesAloneHold : Type 0
 TriesAloneHold =
     (c : Core) (s : ℕ) → Steady c → IsSeat c.seats s → (seat c.seats s).point ≡ Rest → (seat c.seats s).depth ≡ 0 → (seat c.seats s).takes < c.budget

@@ -12,16 +12,16 @@ use Rattle.lfm_laws.specs.laws.Schedules.{Event, makes, run_of, is_call}
 abbrev pub IsOutside : Core → ℕ → Type 0
 IsOutside c s = (is_seat c.seats s ≡ false) ⊎ (is_call (seat c.seats s).point ≡ false)
 
--- then a step of it leaves the whole state as it was: each word, each record and each seat
+-- an outside step leaves the whole state unchanged: each word, each record and each seat
 abbrev pub StepsOutsideOfCallsChangeNothing : Type 0
 StepsOutsideOfCallsChangeNothing = (c : Core) (s : ℕ) → IsOutside c s → (step c s).core ≡ c
 
--- each step that is refused as NoSuchSeat or Idle is one of these
+-- each step that is refused as NoSuchSeat or Idle is an outside step
 abbrev pub AnsweredOutside : Type 0
 AnsweredOutside =
     (c : Core) (s : ℕ) → ((step c s).turn ≡ Refused NoSuchSeat) ⊎ ((step c s).turn ≡ Refused Idle) → IsOutside c s × ((step c s).core ≡ c)
 
--- and a run comes to the same state without them
+-- a run leads to the same state without its outside steps
 abbrev pub RunsStayWithoutOutsideSteps : Type 0
 RunsStayWithoutOutsideSteps =
     (c : Core) (before later : List Event) (s : ℕ) → IsOutside (run_of c before) s

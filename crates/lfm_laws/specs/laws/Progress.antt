@@ -1,5 +1,5 @@
--- Lock freedom: how many steps an open call makes beside others, and how many all calls of a run make together. A call makes a
--- step again only if its push exchange has failed, and so only if another seat has changed the push word.
+-- Lock freedom: how many steps an open call makes while others interleave, and how many all calls of a run make together. A
+-- call repeats a step only if its push exchange has failed, and so only if another seat has changed the push word.
 use Rattle.std.specs.Prelude.{◌≡◌, ◌⊎◌, ℕ, ◌+◌, ◌*◌, ◌<◌, ◌≤◌, List, [], ◌∷◌, length, nat_eq, if◌then◌else◌}
 use Rattle.lfm_words.specs.declared.links.Link.{Link}
 use Rattle.lfm_protocol.specs.After.{same_link}
@@ -13,7 +13,7 @@ use Rattle.lfm_laws.specs.steady.Steady.{Steady}
 
 -- One call
 
--- the push word is another: a record was pushed, or a push list that had records was cleared
+-- the push word has changed: a record was pushed, or a push list with records was cleared
 abbrev pub changed_push : Link → Link → ℕ
 changed_push before after = if same_link after before then 0 else 1
 
@@ -22,13 +22,13 @@ abbrev pub changed_beside : Core → ℕ → Event → ℕ
 changed_beside c s (begins t call) = 0
 changed_beside c s (makes t) = if nat_eq t s then 0 else changed_push c.push (step c t).core.push
 
--- how often other seats change it until the open call of seat s ends
+-- how often other seats change the push word until the open call of seat s ends
 abbrev pub changes_beside : Core → ℕ → List Event → ℕ
 changes_beside c s [] = 0
 changes_beside c s (e ∷ later) =
     if is_call (seat c.seats s).point then changed_beside c s e + changes_beside (happens c e).core s later else 0
 
--- how often the open call of seat s changes it
+-- how often the open call of seat s changes the push word
 abbrev pub changed_own : Core → ℕ → Event → ℕ
 changed_own c s (begins t call) = 0
 changed_own c s (makes t) = if nat_eq t s then changed_push c.push (step c t).core.push else 0
@@ -38,13 +38,13 @@ changes_of_call c s [] = 0
 changes_of_call c s (e ∷ later) =
     if is_call (seat c.seats s).point then changed_own c s e + changes_of_call (happens c e).core s later else 0
 
--- an open call makes at most N + 9 steps, and two more for each time that another seat changes the push word meanwhile
+-- an open call makes at most N + 9 steps, plus two for each time that another seat changes the push word meanwhile
 abbrev pub CallsEndBesideOthers : Type 0
 CallsEndBesideOthers =
     (c : Core) (s : ℕ) (events : List Event) → Steady c
     → steps_of_call c s events ≤ length c.seats + 9 + 2 * changes_beside c s events
 
--- and changes it at most twice itself
+-- an open call changes the push word at most twice itself
 abbrev pub CallsChangeThePushWordTwice : Type 0
 CallsChangeThePushWordTwice = (c : Core) (s : ℕ) (events : List Event) → Steady c → changes_of_call c s events ≤ 2
 
@@ -62,7 +62,7 @@ abbrev pub stepped_in : Core → Event → ℕ
 stepped_in c (begins s call) = 0
 stepped_in c (makes s) = open_unit c s
 
--- whether a call of seat s is open in the second state and none in the first
+-- whether seat s has a call open in the second state and none in the first
 abbrev pub opened_at : Core → Core → ℕ → ℕ
 opened_at c d s = if is_call (seat c.seats s).point then 0 else open_unit d s
 
@@ -71,12 +71,12 @@ abbrev pub opened_in : Core → Event → ℕ
 opened_in c (begins s call) = opened_at c (begin c s call).core s
 opened_in c (makes s) = 0
 
--- whether it is a step with which a call is over, by an answer or a refusal
+-- whether an event is a step that ends a call, by an answer or a refusal
 abbrev pub ended_in : Core → Event → ℕ
 ended_in c (begins s call) = 0
 ended_in c (makes s) = opened_at (step c s).core c s
 
--- the same of the events of a run
+-- the sums of these over a run
 abbrev pub steps_of_run : Core → List Event → ℕ
 steps_of_run c [] = 0
 steps_of_run c (e ∷ later) = stepped_in c e + steps_of_run (happens c e).core later
@@ -89,14 +89,13 @@ abbrev pub ended_in_run : Core → List Event → ℕ
 ended_in_run c [] = 0
 ended_in_run c (e ∷ later) = ended_in c e + ended_in_run (happens c e).core later
 
--- all calls of a run among N seats, those that were open before it and those that open in it, make together at most 5N + 5
--- steps for each of them
+-- with N seats, the calls that were open before a run and those that open in it together make at most 5N + 5 steps per call
 abbrev pub CallsShareTheirSteps : Type 0
 CallsShareTheirSteps =
     (c : Core) (events : List Event) → Steady c
     → steps_of_run c events ≤ (5 * length c.seats + 5) * (open_calls c + opened_in_run c events)
 
--- so among any 5N(N + 1) + 1 steps of calls some call ends
+-- so among any 5N(N + 1) + 1 steps of calls, some call ends
 abbrev pub SomeCallEnds : Type 0
 SomeCallEnds =
     (c : Core) (events : List Event) → Steady c
@@ -109,8 +108,8 @@ abbrev pub all_make : List ℕ → List Event
 all_make [] = []
 all_make (s ∷ later) = makes s ∷ all_make later
 
--- some steps, at most 5N + 5 times as many as calls are open, lead to a state without an open call. Nothing is
--- posted then, and if the count is above 0 a seat owns or a grant waits for a seat that sleeps
+-- some sequence of steps, at most 5N + 5 per open call, leads to a state without an open call. Nothing is posted there, and if
+-- the count is above 0 a seat owns or a sleeping seat has its grant
 pub record ComesToRest (c : Core) : Type 0 where
   pub seats : List ℕ
   pub few : length seats ≤ (5 * length c.seats + 5) * open_calls c

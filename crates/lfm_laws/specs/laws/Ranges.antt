@@ -1,4 +1,4 @@
--- The ranges in which the numbers of every steady state lie, so that no step wraps any.
+-- The ranges of the numbers in every steady state. They imply that no step wraps a number.
 use Rattle.std.specs.Prelude.{◌≡◌, ℕ, true, ◌+◌, ◌*◌, ◌≤◌, List, length}
 use Rattle.lfm_protocol.specs.declared.limits.Limits.{Limits}
 use Rattle.lfm_protocol.specs.Core.{Core, limits}
@@ -8,8 +8,8 @@ use Rattle.lfm_laws.specs.laws.Schedules.{Event, reached}
 use Rattle.lfm_laws.specs.steady.Steady.{Steady}
 use Rattle.lfm_protocol.specs.Seats.{seat, IsSeat}
 
--- among N seats of budget B the stamp is at most N * B and the count at most N + 1; each seat holds at most 65,535 times, has
--- charged at most B takes, and has posted at most as often as it has charged one
+-- with N seats of budget B, the stamp is at most N * B and the count at most N + 1; each seat has at most 65,535 holds, has
+-- charged at most B takes, and has posted at most as often as it has charged a take
 pub record IsInRange (c : Core) : Type 0 where
   pub stamp : c.push.stamp ≤ length c.seats * c.budget
   pub count : c.count ≤ length c.seats + 1
@@ -20,7 +20,7 @@ pub record IsInRange (c : Core) : Type 0 where
 abbrev pub NumbersStayInRange : Type 0
 NumbersStayInRange = (c : Core) → Steady c → IsInRange c
 
--- the next step of each seat wraps no number, and the seats that it touches are there
+-- the next step of each seat wraps no number, and the seats that it touches exist
 abbrev pub StepsHaveRoom : Type 0
 StepsHaveRoom = (c : Core) (s : ℕ) → Steady c → IsSeat c.seats s → HasRoom c s
 

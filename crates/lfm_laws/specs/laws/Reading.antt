@@ -1,4 +1,4 @@
--- What a state says to be the abstract mutex: its claims, the seats that ask, and the seats of the queue.
+-- The abstract mutex that a state stands for: its claims, the seats that ask, and the seats of the queue.
 use Rattle.std.specs.Prelude.{◌≡◌, ◌≢◌, ℕ, true, false, ◌+◌, ◌<◌, Option, Some, None, List, map, length, if◌then◌else◌}
 use Rattle.lfm_model.specs.Abstract.{AbstractMutex, AbstractPlace, Carrying, free, owner, passed, posted, carried, entering, leaving, serving}
 use Rattle.lfm_model.specs.declared.answers.How.{How}
@@ -20,7 +20,7 @@ carrying_to_enter s Entrant.Locker (How.Queued stamp) = serving
 carrying_to_enter s Entrant.Trier how = entering s
 carrying_to_enter s Entrant.Receiver how = entering s
 
--- what a call of seat s at this point does with the responsibility, if it has gained it and not given it away
+-- what a call of seat s at this point does with the responsibility, if it has gained the responsibility and not passed it on
 abbrev pub carrying_at : ℕ → Point → Option Carrying
 carrying_at s TryCountAdd = Some (entering s)
 carrying_at s (SendWakeStore t) = Some (entering t)
@@ -33,15 +33,15 @@ carrying_at s (TakeLinkLoad carrier next) = Some serving
 carrying_at s (GrantWakeStore carrier oldest) = Some serving
 carrying_at s _ = None
 
--- a state claims that the responsibility lies here: a seat has a depth, a handoff is posted, a wake word holds a grant that its
--- seat has not loaded, or a call carries
+-- a state claims that the responsibility is at this place: a seat has a depth, a handoff is posted, a wake word holds a grant
+-- that its seat has not loaded, or a call carries
 pub data Claims (c : Core) (p : AbstractPlace) : Type 0 where
   by_owner : (s : ℕ) → 0 < (seat c.seats s).depth → p ≡ owner s → Claims c p
   by_handoff : 0 < c.handoff.seat → p ≡ posted → Claims c p
   by_grant : (t stamp : ℕ) → wake c.wakes t ≡ Grant stamp → has_loaded (seat c.seats t).point ≡ false → p ≡ passed t → Claims c p
   by_call : (s : ℕ) (how : Carrying) → carrying_at s (seat c.seats s).point ≡ Some how → p ≡ carried s how → Claims c p
 
--- the one claim of a state is its place, and if there is none, the place is free
+-- all claims of a state name this place; if there is no claim, the place is free
 pub record ReadsPlace (c : Core) (p : AbstractPlace) : Type 0 where
   pub only : (q : AbstractPlace) → Claims c q → q ≡ p
   pub some : p ≢ free → Claims c p
@@ -59,7 +59,7 @@ pub record Reads (c : Core) (a : AbstractMutex) : Type 0 where
 
 -- The count equation
 
--- a call enters with a unit of the count; one that has accepted a handoff is counted by its next step
+-- a call that enters has one unit of the count, except one that has accepted a handoff: its next step adds the unit
 abbrev pub unit_of_entering : Point → ℕ
 unit_of_entering TryCountAdd = 0
 unit_of_entering _ = 1
@@ -69,7 +69,7 @@ unit_of_carrying p (entering x) = unit_of_entering p
 unit_of_carrying p leaving = 1
 unit_of_carrying p serving = 0
 
--- the unit of the count that the place has
+-- the unit of the count that belongs to the place
 abbrev pub own_count : Core → AbstractPlace → ℕ
 own_count c free = 0
 own_count c (owner s) = 1
@@ -87,7 +87,7 @@ abbrev pub again_count : Core → AbstractPlace → ℕ
 again_count c (owner s) = unit_of_recursion (seat c.seats s).point
 again_count c _ = 0
 
--- how many of the seats ask
+-- how many seats ask
 abbrev pub asking_count : Core → AbstractMutex → ℕ
 asking_count c a = sum_to (λ x. if a.asking x then 1 else 0) (length c.seats)
 

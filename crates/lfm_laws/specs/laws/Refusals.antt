@@ -1,5 +1,5 @@
--- Why a turn is refused: the cause of each refusal, by the state before the turn. The causes of one turn exclude each other, so
--- they also tell the order in which they are looked at. Each law here is the contract of a public function of `lfm_laws`.
+-- Why a turn is refused: the cause of each refusal, by the state before the turn. The causes for one turn exclude each other,
+-- so they also give the order in which they are checked. Each law here is the contract of a public function of `lfm_laws`.
 use Rattle.std.specs.Prelude.{◌≡◌, ◌≢◌, ◌⊎◌, ⊤, ℕ, true, false, ◌-◌, ◌<◌, List}
 use Rattle.lfm_model.specs.declared.refusals.Refusal.{Refusal}
 use Rattle.lfm_protocol.specs.declared.answers.Call.{Call}
@@ -20,27 +20,27 @@ use Rattle.lfm_laws.specs.steady.Steady.{Steady}
 use Rattle.lfm_protocol.specs.Seats.{seat, wake, is_seat, IsSeat}
 use Rattle.lfm_protocol.specs.Step.{begin, step}
 
--- Calls that begin
+-- Starts of calls
 
 -- the seat sleeps
 pub record Sleeps (p : Point) : Type 0 where
   pub sleeper : Sleeper
   pub here : p ≡ Point.Asleep sleeper
 
--- a lock or a try_lock: asleep, as deep as may be, or a new hold with no take left
+-- a lock or a try_lock: the seat is asleep, has the greatest depth, or asks for a new hold with no take left
 abbrev pub CauseToEnter : ℕ → SeatState → Refusal → Type 0
 CauseToEnter budget x Refusal.Asleep = Sleeps x.point
 CauseToEnter budget x Refusal.DepthFull = (x.point ≡ Rest) × (x.depth ≡ max_depth)
 CauseToEnter budget x Refusal.Spent = (x.point ≡ Rest) × (x.depth ≡ 0) × (x.takes ≡ budget)
 CauseToEnter budget x _ = ⊥
 
--- an unlock: asleep, or without a hold
+-- an unlock: the seat is asleep or has no hold
 abbrev pub CauseToUnlock : SeatState → Refusal → Type 0
 CauseToUnlock x Refusal.Asleep = Sleeps x.point
 CauseToUnlock x Refusal.NotOwner = (x.point ≡ Rest) × (x.depth ≡ 0)
 CauseToUnlock x _ = ⊥
 
--- a start_wait: asleep, without a hold, with more than one, or with one and no take left
+-- a start_wait: the seat is asleep, has no hold, has more than one, or has one and no take left
 abbrev pub CauseToWait : ℕ → SeatState → Refusal → Type 0
 CauseToWait budget x Refusal.Asleep = Sleeps x.point
 CauseToWait budget x Refusal.NotOwner = (x.point ≡ Rest) × (x.depth ≡ 0)
@@ -48,18 +48,18 @@ CauseToWait budget x Refusal.Nested = (x.point ≡ Rest) × (1 < x.depth)
 CauseToWait budget x Refusal.Spent = (x.point ≡ Rest) × (x.depth ≡ 1) × (x.takes ≡ budget)
 CauseToWait budget x _ = ⊥
 
--- a send_lock: asleep, or to a number that no seat has
+-- a send_lock: the seat is asleep, or no seat has the target's number
 abbrev pub CauseToSend : List SeatState → ℕ → SeatState → Refusal → Type 0
 CauseToSend seats t x Refusal.Asleep = Sleeps x.point
 CauseToSend seats t x Refusal.NoSuchSeat = (x.point ≡ Rest) × (is_seat seats t ≡ false)
 CauseToSend seats t x _ = ⊥
 
--- a receive: awake
+-- a receive: the seat is awake
 abbrev pub CauseToReceive : SeatState → Refusal → Type 0
 CauseToReceive x Refusal.NotWaiting = x.point ≡ Rest
 CauseToReceive x _ = ⊥
 
--- the mutex has this cause to refuse the call to a seat that is x
+-- the mutex has this cause to refuse the call of a seat with state x
 abbrev pub CauseToBegin : Core → SeatState → Call → Refusal → Type 0
 CauseToBegin c x Lock refusal = CauseToEnter c.budget x refusal
 CauseToBegin c x TryLock refusal = CauseToEnter c.budget x refusal
@@ -68,7 +68,7 @@ CauseToBegin c x StartWait refusal = CauseToWait c.budget x refusal
 CauseToBegin c x (SendLock t) refusal = CauseToSend c.seats t x refusal
 CauseToBegin c x Receive refusal = CauseToReceive x refusal
 
--- a call that is refused as it starts changes nothing, for whatever cause
+-- a call that is refused at its start changes nothing, whatever the cause
 abbrev pub RefusedBeginsChangeNothing : Type 0
 RefusedBeginsChangeNothing = (c : Core) (s : ℕ) (call : Call) (why : Why) → (begin c s call).turn ≡ Refused why → (begin c s call).core ≡ c
 
@@ -81,15 +81,15 @@ BeginsAreRefusedForCause =
 
 -- Steps
 
--- the mutex has this cause to refuse the step at this point: a try_lock has found nothing posted, or has lost what it found;
--- the target of a send does not wait
+-- the mutex has this cause to refuse the step at this point: a try_lock finds nothing posted, or finds that the post it loaded
+-- is gone; the target of a send does not wait
 abbrev pub CauseOfStep : Core → Point → Refusal → Type 0
 CauseOfStep c TryHandoffLoad Refusal.Busy = c.handoff.seat ≡ 0
 CauseOfStep c (TryHandoffExchange seen) Refusal.Busy = same_handoff c.handoff seen ≡ false
 CauseOfStep c (SendWakeExchange t) Refusal.NotWaiting = wake c.wakes t ≢ Waiting
 CauseOfStep c _ _ = ⊥
 
--- the seat once its call has ended by this refusal: a try_lock that finds the mutex busy has its charge back
+-- the seat after its call has ended with this refusal: a try_lock that is refused as Busy gets its charge back
 abbrev pub ended_by : Refusal → SeatState → SeatState
 ended_by Refusal.Busy x = record x { point = Rest; takes = x.takes - 1 }
 ended_by _ x = record x { point = Rest }
@@ -99,7 +99,7 @@ abbrev pub WasCharged : Refusal → SeatState → Type 0
 WasCharged Refusal.Busy x = 0 < x.takes
 WasCharged _ x = ⊤
 
--- the mutex refuses a step exactly if it has the cause; then the call has ended, and nothing but its seat has changed
+-- the mutex refuses a step exactly if it has the cause; the call has then ended, and only its seat has changed
 abbrev pub StepsAreRefusedForCause : Type 0
 StepsAreRefusedForCause =
     (c : Core) (s : ℕ) (refusal : Refusal) → Steady c
@@ -111,8 +111,8 @@ StepsAreRefusedForCause =
 
 -- Turns
 
--- the cause to refuse an event: no seat has the number, a call is open when one would begin, none is open when a step would be
--- made, or the mutex has its cause
+-- the cause to refuse an event: no seat has the number, a call is already open when another would begin, no call is open when a
+-- step would be made, or the mutex has its cause
 abbrev pub CauseToRefuse : Core → Event → Why → Type 0
 CauseToRefuse c (begins s call) Why.NoSuchSeat = is_seat c.seats s ≡ false
 CauseToRefuse c (begins s call) Why.InCall = is_call (seat c.seats s).point ≡ true
@@ -131,15 +131,15 @@ TurnsAreRefusedForCause =
 
 -- Busy
 
--- how an event brings seat s to a point from which Busy may follow: by its own step at the point before, which saw a count
--- above 0; or then an owner that is not s, which has no hold; or then the posted handoff that it will expect
+-- how an event brings seat s to a point from which Busy may follow: by its own step at the point before. That step found a
+-- count above 0; or an owner other than s, while s had no hold; or the posted handoff that the exchange will expect
 abbrev pub TriesBy : Core → ℕ → Event → Point → Type 0
 TriesBy c s e TryOwnerLoad = (e ≡ makes s) × ((seat c.seats s).point ≡ TryCountExchange) × (0 < c.count)
 TriesBy c s e TryHandoffLoad = (e ≡ makes s) × ((seat c.seats s).point ≡ TryOwnerLoad) × (c.owner ≢ s) × ((seat c.seats s).depth ≡ 0)
 TriesBy c s e (TryHandoffExchange seen) = (e ≡ makes s) × ((seat c.seats s).point ≡ TryHandoffLoad) × (c.handoff ≡ seen) × (0 < seen.seat)
 TriesBy c s e _ = ⊤
 
--- an event leaves a seat as it is, or brings it to such a point only so
+-- an event leaves a seat unchanged, or brings it to such a point only in that way
 abbrev pub TriesSeeAHolder : Type 0
 TriesSeeAHolder =
     (c : Core) (e : Event) (s : ℕ) → Steady c

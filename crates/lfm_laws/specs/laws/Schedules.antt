@@ -1,4 +1,4 @@
--- Schedules as the laws have them: every list of calls that begin and single steps, in any order and by any seats.
+-- Schedules in the laws: all lists of starts of calls and single steps, in any order and by any seats.
 use Rattle.std.specs.Prelude.{ℕ, zero, suc, ◌++◌, Bool, true, false, ◌+◌, nat_eq, List, [], ◌∷◌, if◌then◌else◌}
 use Rattle.lfm_protocol.specs.declared.answers.Call.{Call}
 use Rattle.lfm_protocol.specs.declared.answers.Turn.TheVariants.{Open}
@@ -30,7 +30,7 @@ run_of c (e ∷ later) = run_of (happens c e).core later
 abbrev pub reached : Limits → List Event → Core
 reached limits events = run_of (start limits) events
 
--- up to this number of steps of seat s, which stop when its call ends or a step is refused
+-- at most this number of steps of seat s, ending early if its call ends or a step is refused
 abbrev pub steps : ℕ → Core → ℕ → Moved
 steps zero c s = record { core = c; turn = Open }
 steps (suc most) c s = if is_open (step c s).turn then steps most (step c s).core s else step c s
@@ -72,12 +72,12 @@ is_call Rest = false
 is_call (Asleep sleeper) = false
 is_call _ = true
 
--- what a step of seat s weighs, by its point, if the event is one
+-- the weight of the event if it is a step of seat s, by the seat's point
 abbrev pub weight_of : (Point → ℕ) → Core → ℕ → Event → ℕ
 weight_of weight c s (begins t call) = 0
 weight_of weight c s (makes t) = if nat_eq t s then weight (seat c.seats s).point else 0
 
--- the sum of these over the steps of the open call of seat s, until it ends
+-- the sum of these weights over the steps of the open call of seat s, until it ends
 abbrev pub weight_of_call : (Point → ℕ) → Core → ℕ → List Event → ℕ
 weight_of_call weight c s [] = 0
 weight_of_call weight c s (e ∷ later) =

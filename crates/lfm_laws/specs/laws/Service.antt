@@ -1,4 +1,4 @@
--- How soon a queued seat is served if no other calls begin than those that serve it.
+-- How soon a queued seat is served if only calls that serve it begin.
 use Rattle.std.specs.Prelude.{◌≡◌, ⊤, ℕ, ◌+◌, ◌*◌, ◌<◌, ◌≤◌, List, [], ◌∷◌, length}
 use Rattle.lfm_protocol.specs.declared.answers.Call.TheVariants.{Unlock, Receive}
 use Rattle.lfm_words.specs.declared.wakes.Wake.TheVariants.{Grant}
@@ -16,13 +16,13 @@ Serves c (begins s Unlock) = ⊤
 Serves c (begins s Receive) = (stamp : ℕ) × (wake c.wakes s ≡ Grant stamp)
 Serves c (begins s call) = ⊥
 
--- all events of a run are such events
+-- all events of a run serve
 abbrev pub OnlyServes : Core → List Event → Type 0
 OnlyServes c [] = ⊤
 OnlyServes c (e ∷ later) = Serves c e × OnlyServes (happens c e).core later
 
--- then at most this many steps of calls are made as long as a queued record with k before it has not left the queue: 5N + 5 for
--- each call that is open, for each unlock and receive by which a record before it is served, and for two more
+-- if all events serve, calls make at most this many steps while a queued record with k before it has not left the queue: 5N + 5
+-- for each open call, for each unlock and receive that serve a record before it, and for two more
 abbrev pub QueuedSeatsAreServedSoon : Type 0
 QueuedSeatsAreServedSoon =
     (c : Core) (events : List Event) (k : ℕ) → Steady c → k < length (queue_of c) → OnlyServes c events → length (popped_record c events) ≤ k

@@ -1,6 +1,6 @@
--- What the proofs of a running mutex rest on: every reached state is steady, and each turn keeps a state so, by the one
--- abstract case of its step; a step touches one word, one seat and the pop list, and goes by these; and so it is at a table of
--- packed words.
+-- What the proofs of a running mutex use: every reached state is steady, and each turn keeps a state steady, by the one
+-- abstract case of its step; a step touches and depends on one word, one seat and the pop list; and the same holds on a table
+-- of packed words.
 use Rattle.std.specs.Prelude.{◌≡◌, ℕ, length, slice_index}
 use Rattle.lfm_protocol.specs.declared.answers.Call.{Call}
 use Rattle.lfm_protocol.specs.declared.seats.SeatState.{SeatState}
@@ -23,8 +23,8 @@ use Rattle.lfm_laws.specs.table.Words.{words, index, AreNarrow}
 abbrev pub StatesAreSteady : Type 0
 StatesAreSteady = (c : Core) → IsReached c → Steady c
 
--- if any ghost fits a state, the start of a call and a step lead to a state that a ghost fits again, and between both ghosts
--- lies the one abstract case of the event
+-- if some ghost fits a state, the start of a call and a step lead to a state that a ghost fits, and the one abstract case of
+-- the event leads from the first ghost to the second
 abbrev pub StepsKeepSteady : Type 0
 StepsKeepSteady =
     (c : Core) (g : Ghost) (e : Event) → Fits c g
@@ -38,20 +38,20 @@ StepsTouchOneWordAndOneSeat = (c : Core) (s : ℕ) → StepTouches c (step c s).
 abbrev pub BeginsTouchOneSeat : Type 0
 BeginsTouchOneSeat = (c : Core) (s : ℕ) (call : Call) → BeginTouches c (begin c s call).core s
 
--- if these look the same, the step answers the same and leads its seat to the same point
+-- if these are the same in two states, the step answers the same and leads its seat to the same state
 abbrev pub StepsSeeOneWordAndOneSeat : Type 0
 StepsSeeOneWordAndOneSeat =
     (c d : Core) (s : ℕ) → IsSeat c.seats s → IsSeat d.seats s → LooksSame c d s
     → ((step d s).turn ≡ (step c s).turn) × (seat (step d s).core.seats s ≡ seat (step c s).core.seats s)
 
--- at a table of packed words
+-- on a table of packed words
 
--- a seat that has become p finds the number at the place of its word
+-- a seat that has become p reads the number at the index of its word
 abbrev pub StepsAtATable : Type 0
 StepsAtATable =
     (c : Core) (g : Ghost) (s : ℕ) (p : SeatState) → IsSeat c.seats s → Fits c g → AreNarrow c.seats → Settles (seat c.seats s) (limits c) p
     → TableStep c g s p (slice_index (words c) (index p (length c.seats) s))
 
--- the premise of the step at a table holds of every state that a schedule reaches
+-- the premise of the step on a table holds for every state that a schedule reaches
 abbrev pub ReachedAreNarrow : Type 0
 ReachedAreNarrow = (c : Core) → IsReached c → AreNarrow c.seats

@@ -1,5 +1,6 @@
--- What a turn touches: a step the word that the table of kinds names, the seat that makes it and, at three kinds, the pop list;
--- a call that begins its seat alone. And what a step goes by: that word, its seat, and the oldest record of the pop list.
+-- What a turn touches. A step touches the word that the table of kinds names, the seat that makes it and, at three kinds, the
+-- pop list. The start of a call touches its seat only. What a step depends on: that word, its seat, and the oldest record of
+-- the pop list.
 use Rattle.std.specs.Prelude.{◌≡◌, ◌≢◌, ℕ, Bool, true, false, Option, Some, None, length}
 use Rattle.lfm_protocol.specs.declared.kinds.Kind.{Kind}
 use Rattle.lfm_protocol.specs.declared.kinds.Word.{Word}
@@ -17,7 +18,7 @@ SameWord c d Word.Push = d.push ≡ c.push
 SameWord c d (Word.Link t) = link d.links t ≡ link c.links t
 SameWord c d (Word.Wake t) = wake d.wakes t ≡ wake c.wakes t
 
--- the kind of the step that seat s makes next, none if no call of it is open
+-- the kind of the step that seat s makes next, none if it has no call open
 abbrev pub kind_of : Core → ℕ → Option Kind
 kind_of c s = kind (seat c.seats s).point
 
@@ -39,14 +40,14 @@ only_loads (Some Kind.HandoffLoad) = true
 only_loads (Some Kind.WakeLoad) = true
 only_loads (Some _) = false
 
--- a step of this kind may change the pop list: it loads the next record, or stores the word by which the oldest leaves
+-- a step of this kind may change the pop list: it loads the next record, or makes the store with which the oldest record leaves
 abbrev pub may_pop : Option Kind → Bool
 may_pop (Some Kind.LinkLoad) = true
 may_pop (Some Kind.OwnerStore) = true
 may_pop (Some Kind.WakeStore) = true
 may_pop _ = false
 
--- what stays from c to d when seat s makes its next step
+-- what is unchanged from c to d when seat s makes its next step
 pub record StepTouches (c d : Core) (s : ℕ) : Type 0 where
   pub budget : d.budget ≡ c.budget
   pub seats : length d.seats ≡ length c.seats
@@ -55,7 +56,7 @@ pub record StepTouches (c d : Core) (s : ℕ) : Type 0 where
   pub loaded_words : only_loads (kind_of c s) ≡ true → (w : Word) → SameWord c d w
   pub popped : may_pop (kind_of c s) ≡ false → d.popped ≡ c.popped
 
--- what stays from c to d when seat s begins a call
+-- what is unchanged from c to d when seat s begins a call
 pub record BeginTouches (c d : Core) (s : ℕ) : Type 0 where
   pub budget : d.budget ≡ c.budget
   pub seats : length d.seats ≡ length c.seats

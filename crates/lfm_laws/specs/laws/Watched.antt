@@ -1,4 +1,4 @@
--- Which call has yet to load a posted handoff, or has made or seen it and not yet tried to take it.
+-- Which call has yet to load a posted handoff, or has made or loaded it and has yet to try to take it.
 use Rattle.std.specs.Prelude.{◌≡◌, ℕ, ◌<◌, Any, ⊤}
 use Rattle.lfm_protocol.specs.declared.points.Point.{Point}
 use Rattle.lfm_protocol.specs.declared.points.Point.TheVariants.{LockOwnerLoad, SendPushRecheck, PushLoad, LinkStore, PushExchange, PushedHandoffLoad, PushedHandoffExchange, ReleasePushRecheck, ReleaseHandoffExchange}
@@ -13,9 +13,10 @@ abbrev pub IsQueued : Core → ℕ → Type 0
 IsQueued c t = Any (λ r. r.seat ≡ t) (queue_of c)
 
 -- the call of seat s, at this point, is one of:
--- a lock or send whose seat asks or waits, and that has not loaded the handoff after its push;
--- a lock that has loaded this handoff and not yet tried to take it, or a send that has and sees that the push list isn't empty;
--- the call that posted it, before its recheck while the push list isn't empty, or past a recheck that found records
+-- a lock or send whose seat asks or waits, and that has not loaded the handoff since its push;
+-- a lock that has loaded this handoff and has yet to try to take it; or a send that has, while the push list isn't empty or
+-- after it has found records there;
+-- the call that posted it, before its recheck while the push list isn't empty, or after a recheck that found records
 abbrev pub Watches : Core → ℕ → SeatState → Point → Type 0
 Watches c s x LockOwnerLoad = x.depth ≡ 0
 Watches c s x (PushLoad pusher) = ⊤

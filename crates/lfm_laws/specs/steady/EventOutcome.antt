@@ -1,5 +1,5 @@
--- What a step of a steady state leads to: the ghost after it, which fits again; the abstract case between both; and how the
--- records of pushes, pops and answers grow.
+-- The outcome of a step from a steady state: the ghost after it, which fits the state after it; the abstract case between the
+-- two ghosts; and how the lists of pushes, pops and answers grow.
 use Rattle.std.specs.Prelude.{◌≡◌, ℕ, ◌-◌, ◌++◌, Option, List, map}
 use Rattle.lfm_model.specs.Abstract.{AbstractMutex, AbstractPlace, AbstractStep, free, owner, passed, carried}
 use Rattle.lfm_model.specs.Abstract as Abstract
@@ -38,7 +38,7 @@ abstract g =
       waiting = map (λ r. r.seat) (queue_of_ghost g);
     }
 
--- the records of a run's pushes, pops and answers go on by these
+-- the lists of pushes, pops and answers grow by these records
 pub record GoesOn (g h : Ghost) (pushes pops answers : List Record) : Type 0 where
   pub pushed : records h.pushed_at 0 h.pushed ≡ records g.pushed_at 0 g.pushed ++ pushes
   pub popped : records h.pushed_at 0 h.popped ≡ records g.pushed_at 0 g.popped ++ pops

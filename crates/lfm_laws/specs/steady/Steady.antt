@@ -1,5 +1,5 @@
--- What every state keeps, whatever calls begin and whatever steps are made: some ghost fits it. One bundle of facts for each
--- seat, some facts of the words and the queue, and three sums. No fact speaks of two arbitrary seats.
+-- The invariant, which every start of a call and every step keeps: some ghost fits the state. It has one set of facts for each
+-- seat, some facts of the words and the queue, and three sums. No fact is about two arbitrary seats.
 use Rattle.std.specs.Prelude.{◌≡◌, ◌≢◌, ◌⊎◌, ⊤, ℕ, Bool, true, false, ◌+◌, ◌-◌, ◌<◌, ◌≤◌, List, [], ◌∷◌, length, nat_eq, if◌then◌else◌}
 use Rattle.lfm_model.specs.declared.answers.How.{How}
 use Rattle.lfm_protocol.specs.declared.points.Carrier.{Carrier}
@@ -24,7 +24,7 @@ use Rattle.lfm_laws.specs.steady.Views.{claim, held_by, grant_at, is_entered, as
 
 -- Words and numbers that a seat has seen
 
--- the push word has gone on from the one that was seen, or is the same, or has lost its head
+-- the push word has a later stamp than the one that was seen, or is the same, or its list was cleared
 pub record IsSeen (push seen : Link) : Type 0 where
   pub older : seen.stamp ≤ push.stamp
   pub same : seen.stamp ≡ push.stamp → (push.next ≡ seen.next) ⊎ (push.next ≡ 0)
@@ -34,11 +34,11 @@ pub record IsOld (seats : List SeatState) (seen : Handoff) : Type 0 where
   pub above : 0 < seen.seat
   pub before : seen.post ≤ (seat seats seen.seat).posts
 
--- somebody is queued
+-- some seat is queued
 abbrev pub HasQueue : Ghost → Type 0
 HasQueue g = g.popped < g.pushed
 
--- while this number stands posted, somebody is queued
+-- while this handoff is posted, some seat is queued
 abbrev pub HeadStays : Core → Ghost → Handoff → Type 0
 HeadStays c g seen = c.handoff ≡ seen → 0 < seen.seat → HasQueue g
 
@@ -60,7 +60,7 @@ abbrev pub PushedFits : Core → Ghost → Handoff → Pusher → Type 0
 PushedFits c g seen Pusher.Locker = ⊤
 PushedFits c g seen (Pusher.Sender t) = HeadStays c g seen
 
--- a carrier that cleared a list for a record that it knows of
+-- a reclaimer or a sender knows that some seat is queued
 abbrev pub KnowsRecord : Ghost → Carrier → Type 0
 KnowsRecord g Carrier.Locker = ⊤
 KnowsRecord g (Carrier.Releaser releaser) = ⊤
@@ -119,7 +119,7 @@ DepthAt depth (PushedHandoffLoad pusher) = DepthOfPusher depth pusher
 DepthAt depth (ReleaseOwnerStore releaser) = depth ≡ 1
 DepthAt depth _ = depth ≡ 0
 
--- how a seat at this point stands to the queue
+-- the standing that a seat at this point has
 abbrev pub StandsAsPusher : ℕ → Standing → Pusher → Type 0
 StandsAsPusher s standing Pusher.Locker = standing ≡ asks s
 StandsAsPusher s standing (Pusher.Sender t) = standing ≡ apart
@@ -161,7 +161,7 @@ awaits_grant (PushedHandoffLoad Pusher.Locker) = true
 awaits_grant (PushedHandoffExchange Pusher.Locker seen) = true
 awaits_grant _ = false
 
--- a seat at this point sleeps since a start_wait
+-- a seat at this point has slept since a start_wait
 abbrev pub sleeps_as_waiter : Point → Bool
 sleeps_as_waiter (Asleep Sleeper.Waiter) = true
 sleeps_as_waiter (ReceiveWakeLoad Sleeper.Waiter) = true
@@ -174,7 +174,7 @@ abbrev pub WatchesAsPusher : Ghost → Pusher → Type 0
 WatchesAsPusher g Pusher.Locker = ⊤
 WatchesAsPusher g (Pusher.Sender t) = is_queued (g.standing t) ≡ true
 
--- the call of seat s has yet to load the handoff, or has made or seen it and not yet tried to take it
+-- the call of seat s has yet to load the handoff, or has made or loaded it and has yet to try to take it
 abbrev pub WatchesAt : Core → Ghost → ℕ → SeatState → Point → Type 0
 WatchesAt c g s x LockOwnerLoad = x.depth ≡ 0
 WatchesAt c g s x (PushLoad pusher) = ⊤
@@ -187,9 +187,9 @@ WatchesAt c g s x (ReleasePushRecheck releaser) = (c.handoff ≡ record { seat =
 WatchesAt c g s x (ReleaseHandoffExchange releaser) = c.handoff ≡ record { seat = s; post = x.posts }
 WatchesAt c g s x _ = ⊥
 
--- The facts of one seat, whose view is x and whose wake word is w
+-- The facts of one seat with state x and wake word w
 
--- its record stands where its standing says
+-- its record is at the stamp that its standing gives
 pub record QueuedFits (g : Ghost) (s stamp : ℕ) : Type 0 where
   pub above : g.popped < stamp
   pub within : stamp ≤ g.pushed
@@ -210,7 +210,7 @@ pub record SeatFits (c : Core) (g : Ghost) (s : ℕ) (x : SeatState) (w : Wake) 
   pub pushes : g.pushes s + due_pushes x w (g.standing s) ≤ x.takes
   pub watches : g.place ≡ posted → g.watcher ≡ s → WatchesAt c g s x x.point
 
--- the call that has counted a seat, or claimed it, is at that errand
+-- the call that has counted or claimed a seat is still on that errand
 pub record AgentFits (seats : List SeatState) (standing : Standing) (s : ℕ) : Type 0 where
   pub asked : (agent : ℕ) → standing ≡ asks agent → asks_for (seat seats agent) agent ≡ s
   pub sent : (agent : ℕ) → standing ≡ claimed agent → claims_for (seat seats agent) ≡ s
@@ -229,7 +229,7 @@ HandoffFits seats _ handoff = handoff ≡ unposted
 abbrev pub newest : ℕ → ℕ → (ℕ → ℕ) → ℕ
 newest up_to pushed pushed_at = if nat_eq up_to pushed then 0 else pushed_at pushed
 
--- the unit of the count that the place has
+-- the unit of the count that belongs to the place
 abbrev pub own_unit : Responsibility → ℕ
 own_unit (owned s again) = 1
 own_unit (granted s stamp) = 1
@@ -242,7 +242,7 @@ abbrev pub again_unit : Responsibility → ℕ
 again_unit (owned s again) = if again then 1 else 0
 again_unit _ = 0
 
--- how much asks and is queued, at each place of the responsibility
+-- how many seats ask and are queued, at each place of the responsibility
 abbrev pub WorkFits : Responsibility → ℕ → ℕ → ℕ → Type 0
 WorkFits nobody asking pushed popped = (asking ≡ 0) × (pushed ≡ popped)
 WorkFits posted asking pushed popped = popped < asking + pushed
@@ -250,13 +250,13 @@ WorkFits (serving s) asking pushed popped = popped < asking + pushed
 WorkFits (accepting s) asking pushed popped = popped < asking + pushed
 WorkFits _ asking pushed popped = ⊤
 
--- only a serving call walks, and while a handoff is posted the pop list is empty
+-- only a serving call collects records, and while a handoff is posted the pop list is empty
 abbrev pub CarriedFits : Responsibility → ℕ → List Record → Type 0
 CarriedFits (serving s) walk popped = ⊤
 CarriedFits posted walk popped = (walk ≡ 0) × (popped ≡ [])
 CarriedFits _ walk popped = walk ≡ 0
 
--- a grant that is not free is that of the record popped last
+-- a grant that is not free has the stamp of the record popped last
 abbrev pub GrantFits : ℕ → (ℕ → ℕ) → ℕ → ℕ → Type 0
 GrantFits popped pushed_at s stamp = 0 < stamp → (stamp ≡ popped) × (pushed_at stamp ≡ s)
 
@@ -265,17 +265,18 @@ LastFits popped pushed_at (granted s stamp) = GrantFits popped pushed_at s stamp
 LastFits popped pushed_at (entering s into stamp) = GrantFits popped pushed_at into stamp
 LastFits popped pushed_at _ = ⊤
 
--- a record was popped whose seat does not yet hold
+-- 1 if a record was popped and its seat does not hold yet
 abbrev pub unanswered : Responsibility → ℕ
 unanswered (granted s stamp) = if nat_eq stamp 0 then 0 else 1
 unanswered (entering s into stamp) = if nat_eq stamp 0 then 0 else 1
 unanswered _ = 0
 
--- the seat of the record before this one in a part of the queue that begins above a stamp, 0 if this is its first
+-- the seat of the record before this one, in a part of the queue that begins after the stamp `first`; 0 if this record is the
+-- first there
 abbrev pub before : (ℕ → ℕ) → ℕ → ℕ → ℕ
 before pushed_at first stamp = if nat_eq stamp (first + 1) then 0 else pushed_at (stamp - 1)
 
--- the stamp up to which the records are popped, to be walked or in the pop list; those above it hang on the push word
+-- the stamp up to which records are popped, being collected, or in the pop list; those with later stamps are in the push list
 abbrev pub cleared : Core → Ghost → ℕ
 cleared c g = g.popped + g.walk + length c.popped
 
@@ -311,7 +312,7 @@ pub record SumsFit (seats : ℕ) (g : Ghost) : Type 0 where
   pub queued : g.pushed ≡ g.popped + sum_to (λ s. queued_unit (g.standing s)) seats
   pub pushed : g.pushed ≡ sum_to g.pushes seats
 
--- how many seats there are, and that each has its words
+-- how many seats there are; each has its words
 pub record SizesFit (c : Core) : Type 0 where
   pub links : length c.links ≡ length c.seats
   pub wakes : length c.wakes ≡ length c.seats

@@ -1,4 +1,4 @@
--- What one seat's depth and point say of the responsibility, of its errand for another seat, of its wake word and of the
+-- What one seat's depth and point show: its part of the responsibility, its errand for another seat, its wake word, and the
 -- posts and pushes that its charged takes still allow.
 use Rattle.std.specs.Prelude.{ℕ, Bool, true, false, ◌+◌, ◌&&◌, ◌||◌, Option, Some, None, nat_eq, if◌then◌else◌}
 use Rattle.lfm_model.specs.declared.answers.How.{How}
@@ -27,14 +27,14 @@ stamp_of (How.Queued stamp) = stamp
 abbrev pub by_depth : ℕ → ℕ → Bool → Responsibility
 by_depth depth s again = if nat_eq depth 0 then nobody else owned s again
 
--- by which call seat s comes to hold, and how: it took its own record, or the responsibility was its own to enter with
+-- the responsibility with which seat s comes to hold: it serves if it took its own record, and else it enters
 abbrev pub claim_to_enter : ℕ → Entrant → How → Responsibility
 claim_to_enter s Entrant.Locker How.Free = entering s s 0
 claim_to_enter s Entrant.Locker (How.Queued stamp) = serving s
 claim_to_enter s Entrant.Trier how = entering s s 0
 claim_to_enter s Entrant.Receiver how = entering s s (stamp_of how)
 
--- before its handoff load is made, a sender may still own the mutex, and a locker can't
+-- before its handoff load, a sender may still own the mutex, and a locker does not
 abbrev pub claim_of_pusher : ℕ → ℕ → Pusher → Responsibility
 claim_of_pusher depth s Pusher.Locker = nobody
 claim_of_pusher depth s (Pusher.Sender t) = by_depth depth s false
@@ -92,7 +92,7 @@ abbrev pub grant_at : Responsibility → ℕ → Option ℕ
 grant_at (granted t stamp) s = if nat_eq t s then Some stamp else None
 grant_at _ s = None
 
--- a call brings seat s in
+-- a call is bringing seat s in
 abbrev pub is_entered : Responsibility → ℕ → Bool
 is_entered (entering t into stamp) s = nat_eq into s
 is_entered _ s = false
@@ -121,7 +121,7 @@ is_awaiting place standing s = is_queued standing || is_some (grant_at place s)
 
 -- Wake words
 
--- the wake word of a sleeper by start_wait: WAITING until a send claims it
+-- the wake word of a seat that sleeps since its start_wait: WAITING until a send claims it
 abbrev pub wake_of_waiter : Responsibility → Standing → ℕ → Wake
 wake_of_waiter place standing s = if is_apart standing && (if is_entered place s then false else true) then Waiting else Claimed
 
@@ -141,7 +141,7 @@ expected_wake place standing s p = wake_by (grant_at place s) place standing s p
 
 -- Posts and pushes that charged takes still allow
 
--- a release that goes on to wait has the take of its wait
+-- a release within a start_wait also has the take of its wait
 abbrev pub waits_on : Releaser → ℕ
 waits_on Unlocker = 0
 waits_on Waiter = 1
@@ -192,7 +192,7 @@ due_posts x = due_posts_at x.depth x.point
 abbrev pub due_unless_held : ℕ → ℕ
 due_unless_held depth = if nat_eq depth 0 then 1 else 0
 
--- a waiter's take is that of the push by the send that wakes it
+-- a waiter's take pays for the push by the send that wakes it
 abbrev pub due_to_waiter : Wake → Standing → ℕ
 due_to_waiter Waiting standing = 1
 due_to_waiter Claimed standing = if is_queued standing then 0 else 1

@@ -1,4 +1,4 @@
--- The moving value goes with the responsibility: where it is out, with which seat, and what a step does with it.
+-- The moving value goes with the responsibility: which seat has it, and what a step does with it.
 use Rattle.std.specs.Prelude.{◌≡◌, ℕ, Bool, true, false, ◌+◌, Option, Some, None, List, length, set, nat_eq, if◌then◌else◌}
 use Rattle.lfm_model.specs.Abstract.{AbstractPlace, free, owner, passed, posted, carried}
 use Rattle.lfm_protocol.specs.declared.seats.SeatState.{SeatState}
@@ -16,11 +16,11 @@ use Rattle.lfm_protocol.specs.Step.{made}
 use Rattle.lfm_laws.specs.steady.Steady.{Fits}
 use Rattle.lfm_laws.specs.table.Words.{words, index, written, stepped_by, popped_by_step, AreNarrow}
 
--- the moving value is out with a seat that holds, or whose call carries the responsibility
+-- the seat has the moving value: it holds, or its call carries the responsibility
 abbrev pub carries_value : SeatState → Bool
 carries_value x = if nat_eq x.depth 0 then carries x.point else true
 
--- the seat with which the value is out, none if it is at home: nobody has the responsibility, or it is granted or posted
+-- the seat that has the value; none if the value is in the table's slot, because the mutex is free, granted or posted
 abbrev pub out_with : AbstractPlace → Option ℕ
 out_with free = None
 out_with (owner s) = Some s
@@ -28,7 +28,7 @@ out_with (passed s) = None
 out_with posted = None
 out_with (carried s how) = Some s
 
--- a seat carries the value exactly if it is out with that seat
+-- a seat has the value exactly if the place says so
 pub record TellsValue (seats : List SeatState) (place : AbstractPlace) : Type 0 where
   pub out : (s : ℕ) → carries_value (seat seats s) ≡ true → out_with place ≡ Some s
   pub carried : (s : ℕ) → out_with place ≡ Some s → carries_value (seat seats s) ≡ true
@@ -39,14 +39,14 @@ pub data Move : Type 0 where
   giving : Move
   staying : Move
 
--- by whether its seat carries the value before it and after it
+-- by whether its seat has the value before it and after it
 abbrev pub move_of : Bool → Bool → Move
 move_of false false = staying
 move_of false true = gaining
 move_of true false = giving
 move_of true true = staying
 
--- a seat gains the value from its home, gives it back home, or leaves every seat as it is with it
+-- a seat gains the value from the slot, gives it back to the slot, or leaves every seat's part in it unchanged
 abbrev pub MovesValue : List SeatState → List SeatState → ℕ → Move → Type 0
 MovesValue before after s gaining =
     ((t : ℕ) → carries_value (seat before t) ≡ false) × (carries_value (seat after s) ≡ true)
@@ -54,13 +54,13 @@ MovesValue before after s giving =
     (carries_value (seat before s) ≡ true) × ((t : ℕ) → carries_value (seat after t) ≡ false)
 MovesValue before after s staying = (t : ℕ) → carries_value (seat after t) ≡ carries_value (seat before t)
 
--- what the step of a seat with these data, which finds this number, does with the value
+-- what the step of a seat with state p, which finds this number, does with the value
 abbrev pub move : SeatState → Stepped → Move
 move p stepped = move_of (carries_value p) (carries_value stepped.seat)
 
--- Seat s, having become p without a step, makes its next step in the state c, which the ghost g fits, and finds the number n. The
--- state after it is the one that the core's step makes. The words, the seats and the pop list become what p and n say, the abstract
--- mutex goes by the case of the step, the seat is ready for the step after, and the value goes by its move.
+-- Seat s, which has become p without a step, makes its next step in state c, which ghost g fits, and finds the number n. The
+-- state after it is the one that the core's step makes. The words, the seats and the pop list become what p and n determine.
+-- The abstract mutex changes by the case of the step, the seat is ready for its next step, and the value moves as `move` says.
 pub record TableStep (c : Core) (g : Ghost) (s : ℕ) (p : SeatState) (n : ℕ) : Type 0 where
   pub after : Core
   pub is_made : after ≡ (made (put c s p) s).core

@@ -1,5 +1,5 @@
--- What a seat knows by itself of its next step: its numbers fit, the words that it touches are there, and what it writes and
--- expects packs exactly. A running seat has no more than this.
+-- What a seat knows about its next step without any other state: its numbers fit, the words that it touches exist, and what it
+-- writes and expects packs exactly. A running seat knows no more than this.
 use Rattle.std.specs.Prelude.{ℕ, ◌^◌, ◌<◌, ◌≤◌}
 use Rattle.lfm_protocol.specs.declared.seats.SeatState.{SeatState}
 use Rattle.lfm_words.specs.declared.handoffs.Handoff.{Handoff}
@@ -17,7 +17,7 @@ pub record PacksHandoff (h : Handoff) : Type 0 where
   pub seat : h.seat < seat_field_size
   pub post : h.post < 2 ^ 48
 
--- of seat s, being x, with this number of seats
+-- for seat s with state x and this number of seats
 pub record IsReady (seats s : ℕ) (x : SeatState) : Type 0 where
   pub numbers : HasNumbers x x.point
   pub above : 0 < target x.point s

@@ -1,5 +1,5 @@
--- The words of a state as one list of numbers, and an atomic step as it is at a table of such words: the number at one place
--- becomes another, and the seat goes on by the number found.
+-- The words of a state as one list of numbers, and an atomic step on a table of such words: it changes the number at one index,
+-- and the seat goes on by the number found.
 use Rattle.std.specs.Prelude.{ℕ, ◌+◌, ◌-◌, ◌%◌, ◌^◌, ◌<◌, ⊤, Bool, Option, Some, None, List, [], ◌∷◌, ◌++◌, map, drop, bit_and, nat_eq, if◌then◌else◌}
 use prog.Atomic.{either}
 use Rattle.lfm_protocol.specs.declared.kinds.Kind.{Kind}
@@ -17,12 +17,12 @@ use Rattle.lfm_protocol.specs.Points.{kind, target, word}
 use Rattle.lfm_protocol.specs.Seats.{seat}
 use Rattle.lfm_protocol.specs.Stores.{stored_owner, stored_link, expected_push, exchanged_push, stored_handoff, expected_handoff, stored_wake}
 
--- count, owner, handoff and push; then the link of each seat, and then the wake word of each
+-- count, owner, handoff and push; then the link of each seat, and then the wake word of each seat
 abbrev pub words : Core → List ℕ
 words c =
     (c.count ∷ c.owner ∷ handoff_word c.handoff ∷ link_word c.push ∷ []) ++ (map link_word c.links ++ map wake_word c.wakes)
 
--- the place of a word in that list, with this number of seats
+-- the index of a word in that list, with this number of seats
 abbrev pub index_of : ℕ → Word → ℕ
 index_of seats Word.Count = 0
 index_of seats Word.Owner = 1
@@ -31,13 +31,13 @@ index_of seats Word.Push = 3
 index_of seats (Word.Link t) = 3 + t
 index_of seats (Word.Wake t) = 3 + seats + t
 
--- A step by its kind, t being its target. A seat that has no step touches the count and leaves it.
+-- A step by its kind; t is its target. A seat that has no step touches the count and leaves it unchanged.
 
 abbrev pub index_by : ℕ → ℕ → Option Kind → ℕ
 index_by seats t None = 0
 index_by seats t (Some k) = index_of seats (word k t)
 
--- what the step makes of the number found
+-- what the step writes in place of the number found
 abbrev pub written_by : SeatState → ℕ → ℕ → Option Kind → ℕ
 written_by x s n None = n
 written_by x s n (Some Kind.CountExchange) = either (nat_eq n 0) 1 n
@@ -87,9 +87,9 @@ popped_of x t n popped (Some Kind.LinkLoad) = loaded t (link_of n) ∷ popped
 popped_of x t n popped (Some Kind.WakeStore) = popped_if (drops_oldest x) popped
 popped_of x t n popped _ = popped
 
--- The step that seat s, being x, makes next
+-- The step that seat s with state x makes next
 
--- the place of its word, with this number of seats
+-- the index of its word, with this number of seats
 abbrev pub index : SeatState → ℕ → ℕ → ℕ
 index x seats s = index_by seats (target x.point s) (kind x.point)
 
@@ -111,6 +111,6 @@ IsNarrow (PushedHandoffExchange pusher seen) = seen.seat < seat_field_size
 IsNarrow (TryHandoffExchange seen) = seen.seat < seat_field_size
 IsNarrow _ = ⊤
 
--- it is so of every seat
+-- every seat's point is narrow
 abbrev pub AreNarrow : List SeatState → Type 0
 AreNarrow seats = (s : ℕ) → IsNarrow (seat seats s).point

@@ -1,4 +1,4 @@
--- The invariant is kept, the laws are read off it, and a step at packed words is the same step.
+-- Proofs: every turn keeps the invariant, the laws follow from it, and a step on packed words is the same step.
 pub mod steady
 pub mod lawful
 pub mod table

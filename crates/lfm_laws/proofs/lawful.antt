@@ -1,4 +1,4 @@
--- What a steady state says on its words and points alone, and the laws of every schedule.
+-- What a steady state implies about its words and points alone, and the laws of every schedule.
 pub mod read
 pub mod states
 pub mod runs

@@ -1,5 +1,5 @@
--- The lemmas by which every start of a call and every step keeps a state steady: the frames first, then a file or two for each
--- family of points, and last their sum over all points.
+-- The lemmas that every start of a call and every step keeps a state steady: first the frames, then a file or two for each
+-- family of points, and last the theorem over all points.
 pub mod frames
 pub mod queue
 pub mod handoff

@@ -1,6 +1,6 @@
--- The lemmas by which an atomic step is one write of a number in the list of words: packing, reads and writes of the list, their
--- sum over all kinds, and why every number packs exactly; then what a seat may become without a step, what it knows of its next
--- one, and what a step does with the moving value.
+-- The lemmas that an atomic step is one write of a number in the list of words: packing, reads and writes of the list, the
+-- theorem over all kinds, and that every number packs exactly. Then: what a seat may become without a step, what it knows about
+-- its next step, and what a step does with the moving value.
 pub mod Answered
 pub mod Exact
 pub mod Made

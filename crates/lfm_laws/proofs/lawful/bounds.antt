@@ -1,4 +1,4 @@
--- What a call does at most, beside others and alone.
+-- Bounds on what a call does, while others interleave and alone.
 pub mod AheadRecords
 pub mod Beside
 pub mod Branches

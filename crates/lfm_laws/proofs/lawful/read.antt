@@ -1,4 +1,4 @@
--- What words and points alone spell is what the ghost says: queue, claims, place, count and watcher.
+-- The words and points alone show what the ghost records: queue, claims, place, count and watcher.
 pub mod AskingRead
 pub mod Chains
 pub mod ClaimsRead

@@ -1,3 +1,3 @@
--- What a turn touches, and what a step goes by.
+-- What a turn touches, and what a step depends on.
 pub mod OneWord
 pub mod OneSeat

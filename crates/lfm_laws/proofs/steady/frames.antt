@@ -1,4 +1,4 @@
--- What a step leaves alone: lists after a write, sums over the seats, the other seats, and the abstract mutex of a ghost.
+-- What a step does not change: lists after a write, sums over the seats, the other seats, and the abstract mutex of a ghost.
 pub mod Abstracts
 pub mod Entries
 pub mod Frames

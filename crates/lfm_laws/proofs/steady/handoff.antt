@@ -1,4 +1,4 @@
--- The posted handoff: posting, winning it, and the seats that read something new by it.
+-- The posted handoff: posting it, taking it, and the seats that then read something new.
 pub mod Handing
 pub mod Handoffs
 pub mod Posting

@@ -1,4 +1,4 @@
--- The queue: clearing, walking, serving its first record, and putting one at its end.
+-- The queue: clearing and collecting, serving its first record, and pushing one at its end.
 pub mod Carrying
 pub mod ClearedQueue
 pub mod Linking

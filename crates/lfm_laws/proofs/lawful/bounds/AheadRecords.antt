@@ -1,4 +1,4 @@
--- The records before one that stays queued: whether a seat has one of them, and how they become fewer with each event.
+-- The records before one that stays queued: whether seat t has one of them, and how an event makes them fewer.
 use Rattle.std.proofs.Common.{◌≡◌, ◌≢◌, ℕ, zero, suc, ◌+◌, ◌-◌, ◌≤◌, ◌<◌, List, [], ◌∷◌, ◌++◌, length, get_or, nat_eq, refl, sym, ap, ◌∙◌, inl, inr, arith, if◌then◌else◌}
 use Rattle.std.proofs.lemmas.Bool.{cases_Bool, eq-eqb, ne_eqb}
 use Rattle.std.proofs.lemmas.List.{get_or_append_left}
@@ -26,7 +26,7 @@ ahead-le f k (suc n) t =
       | inr other ↦ rw other (ahead-le f (k + 1) n t)
     ]
 
--- functions that agree on these stamps
+-- it is the same for functions that agree on these stamps
 ahead_agrees : (f f' : ℕ → ℕ) (k n t : ℕ) → ((x : ℕ) → k < x → x ≤ k + n → f' x ≡ f x) → ahead f' k n t ≡ ahead f k n t
 ahead_agrees f f' k zero t same = refl
 ahead_agrees f f' k (suc n) t same =
@@ -34,19 +34,19 @@ ahead_agrees f f' k (suc n) t same =
     let rest = ahead_agrees f f' (k + 1) n t (λ x above within. same x (omega (arith, above)) (omega (arith, within))) in
     rw (first, rest) refl
 
--- no such stamp
+-- it is 0 if no such stamp was pushed for t
 pub ahead_none : (f : ℕ → ℕ) (k n t : ℕ) → ((x : ℕ) → k < x → x ≤ k + n → f x ≢ t) → ahead f k n t ≡ 0
 ahead_none f k zero t none = refl
 ahead_none f k (suc n) t none =
     let rest = ahead_none f (k + 1) n t (λ x above within. none x (omega (arith, above)) (omega (arith, within))) in
     rw (ne_eqb (f (k + 1)) t (none (k + 1) (omega arith) (omega arith))) rest
 
--- the first of them
+-- it is 1 if the first of these stamps was pushed for t
 pub ahead_first : (f : ℕ → ℕ) (k n t : ℕ) → f (k + 1) ≡ t → 0 < n → ahead f k n t ≡ 1
 ahead_first f k zero t here some = absurd (omega (arith, some))
 ahead_first f k (suc n) t here some = rw (eq-eqb (f (k + 1)) t here) refl
 
--- without the first
+-- the stamps without the first give no more
 ahead_later : (f : ℕ → ℕ) (k n t : ℕ) → ahead f (k + 1) n t ≤ ahead f k (suc n) t
 ahead_later f k n t =
     elim (cases_Bool (nat_eq (f (k + 1)) t)) [
@@ -54,12 +54,12 @@ ahead_later f k n t =
       | inr other ↦ rw other (omega arith)
     ]
 
--- What a run leaves of the records
+-- What a run leaves unchanged of the records
 
 abbrev nothing : Record
 nothing = record { seat = 0; stamp = 0 }
 
--- what was pushed stays
+-- what was pushed stays recorded
 pushed_stays : (g h : Ghost) (pushes pops answers : List Record) → GoesOn g h pushes pops answers → (x : ℕ) → 0 < x → x ≤ g.pushed → h.pushed_at x ≡ g.pushed_at x
 pushed_stays g h pushes pops answers on x above within =
     let most = pushed_by_history g h pushes pops answers on in
@@ -85,7 +85,7 @@ first_popped g h pushes answers r on some =
     let seat_is : h.pushed_at (g.popped + 1) ≡ r.seat = ap (λ (y : ℕ). h.pushed_at y) (sym here) ∙ ap (λ (r : Record). r.seat) same in
     sym stays ∙ seat_is
 
--- the records before the one that stays are fewer by those that have left
+-- by the records that have left, fewer records are before the one that stays
 ahead_drops : (f : ℕ → ℕ) (k m n t : ℕ) → ahead f (k + m) n t ≤ ahead f k (m + n) t
 ahead_drops f k zero n t = let here : k + 0 ≡ k = omega arith in let all : 0 + n ≡ n = omega arith in rw (here, all) (omega arith)
 ahead_drops f k (suc m) n t =

@@ -1,5 +1,5 @@
--- How many steps an open call makes beside others: what is due to it falls with each own step, and rises by two at most when
--- another seat changes the push word.
+-- How many steps an open call makes while others interleave: the steps that are due fall by one with each own step, and rise by
+-- at most two when another seat changes the push word.
 use Rattle.std.proofs.Common.{◌≡◌, ℕ, true, false, ◌+◌, ◌*◌, ◌≤◌, List, [], ◌∷◌, length, nat_eq, refl, sym, ◌∙◌, inl, inr, arith, if◌then◌else◌}
 use Rattle.std.proofs.lemmas.Bool.{cases_Bool, cases_eq, eq-eqb, ne_eqb, false≢true}
 use Rattle.lfm_protocol.specs.declared.answers.Call.{Call}
@@ -21,7 +21,7 @@ use Rattle.lfm_laws.proofs.lawful.runs.Reached.{made_keeps, begin_keeps}
 use Rattle.lfm_laws.proofs.steady.frames.Seated.{seat_of_test, test_of_seat}
 use Rattle.lfm_laws.proofs.steady.queue.Pushers.{same_link_true}
 
--- what is due to seat s
+-- the steps that are due to seat s
 abbrev pub due : Core → ℕ → ℕ
 due c s = due_at c.push (length c.seats) (room_left c) (seat c.seats s).point
 
@@ -31,7 +31,7 @@ changes_left c s = changes_at (seat c.seats s).point
 pub due-le : (c : Core) (s : ℕ) → due c s ≤ length c.seats + 9
 due-le c s = due_at-le c.push (length c.seats) (room_left c) (seat c.seats s).point (omega arith)
 
--- Another push word
+-- A changed push word
 
 two_more : (push after : Link) (seats room : ℕ) (p : Point) → due_at after seats room p ≤ due_at push seats room p + 2
 two_more push after seats room (LinkStore pusher seen) = let most = again_unless-le (same_link after seen) in omega (arith, most)
@@ -45,7 +45,7 @@ due_after push after seats room p =
       | inr other ↦ let most = two_more push after seats room p in rw other (omega (arith, most))
     ]
 
--- only a walk reads the room of the pop list
+-- the room of the pop list counts only while a carrier collects
 unread : (push : Link) (seats room room' : ℕ) (p : Point) → is_walking p ≡ false → due_at push seats room p ≡ due_at push seats room' p
 unread push seats room room' (TakeLinkLoad carrier next) stands = absurd (false≢true (sym stands))
 unread push seats room room' _ stands = refl
@@ -72,7 +72,7 @@ begun_push c t call =
       | inr none ↦ rw none refl
     ]
 
--- an event over which seat s has spent this number of steps and changes, beside this number of changes by others
+-- an event after which seat s has made this number of steps and of own changes, while others made this number of changes
 pub record Spent (c d : Core) (s steps own beside : ℕ) : Type 0 where
   pub steady : Steady d
   pub due : steps + due d s ≤ due c s + 2 * beside
@@ -112,7 +112,7 @@ spent_made c t s steady inside is =
           (step_leaves c steady.ghost_state t s steady.fits (λ e. other (sym e))) refl)
     ]
 
--- a number that no seat has makes no step, and so it isn't that of an open call
+-- a number that no seat has makes no step, so it is not the seat of an open call
 spent_refused : (c : Core) (t s : ℕ) → Steady c → is_call (seat c.seats s).point ≡ true → is_seat c.seats t ≡ false
     → Spent c c s (weight_of (λ p. 1) c s (makes t)) (if nat_eq t s then changed_push c.push c.push else 0) (if nat_eq t s then 0 else changed_push c.push c.push)
 spent_refused c t s steady inside none =

@@ -1,4 +1,4 @@
--- A fact about points, of a step or of the start of a call that branches: it holds if it holds on each branch.
+-- A fact about points after a step or a start of a call with branches: it holds if it holds for each branch.
 use Rattle.std.proofs.Common.{ℕ, Bool, true, false, if◌then◌else◌, inl, inr}
 use Rattle.std.proofs.lemmas.Bool.{cases_Bool}
 use Rattle.lfm_model.specs.declared.answers.Unlocked.{Unlocked}
@@ -46,7 +46,7 @@ module _ (P : Point → Type 0) where
   of_received x sleeper (Grant stamp) goes sleeps = goes stamp
   of_received x sleeper _ goes sleeps = sleeps
 
-  -- a seat that begins a call has the point after it, and a number that no seat has the one before
+  -- after the start of a call a seat has the new point; a number that no seat has keeps the old one
   pub of_begin : (c : Core) (s : ℕ) (call : Call) → P (seat c.seats s).point → P (Begin.begin (seat c.seats s) (limits c) call).seat.point
       → P (seat (begin c s call).core.seats s).point
   of_begin c s call before after =

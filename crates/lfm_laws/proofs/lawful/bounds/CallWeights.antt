@@ -1,4 +1,4 @@
--- What the steps of a call weigh together, if a measure of the seat's point falls by as much with each of its own steps: no
+-- If a measure of the seat's point falls at each own step by at least the step's weight, the steps of a call together weigh no
 -- more than that measure, whatever the others do in between.
 use Rattle.std.proofs.Common.{◌≡◌, ℕ, Bool, true, false, ◌+◌, ◌-◌, ◌≤◌, List, [], ◌∷◌, length, refl, sym, ◌∙◌, inl, inr, arith}
 use Rattle.std.proofs.lemmas.Bool.{cases_Bool, cases_eq, eq-eqb, ne_eqb, false≢true}
@@ -15,7 +15,7 @@ use Rattle.lfm_laws.proofs.lawful.bounds.Leaving.{stepped, own_made, size_made, 
 use Rattle.lfm_laws.proofs.lawful.runs.Reached.{made_keeps, begin_keeps}
 use Rattle.lfm_laws.proofs.steady.frames.Seated.{seat_of_test, test_of_seat}
 
--- a carrier at this point walks the queue
+-- a carrier at this point collects records
 abbrev pub is_walking : Point → Bool
 is_walking (TakeLinkLoad carrier next) = true
 is_walking _ = false
@@ -24,16 +24,16 @@ pub walking_serves : (depth s : ℕ) (p : Point) → is_walking p ≡ true → c
 walking_serves depth s (TakeLinkLoad carrier next) walks = refl
 walking_serves depth s _ walks = absurd (false≢true walks)
 
--- the records that the pop list has still room for
+-- how many more records the pop list has room for
 abbrev pub room_left : Core → ℕ
 room_left c = length c.seats - length c.popped
 
--- what a call at the point of seat s still weighs at most, by the number of seats, the room of the pop list and the point
+-- an upper bound on what the call of seat s still weighs, by the number of seats, the room of the pop list and the point
 abbrev pub measure : (ℕ → ℕ → Point → ℕ) → Core → ℕ → ℕ
 measure most c s = most (length c.seats) (room_left c) (seat c.seats s).point
 
--- `most` bounds the weight of what a call has still to do at each of these points: only a walk reads the room of the pop list,
--- and each own step leads to one of these points again and lowers the measure by its weight
+-- `most` bounds the weight of what a call has yet to do at each of these points: the room of the pop list counts only while a
+-- carrier collects, and each own step leads to one of these points again and lowers the measure by its weight
 pub record Falls (weight : Point → ℕ) (most : ℕ → ℕ → Point → ℕ) (among : Point → Bool) : Type 0 where
   pub unread : (seats room room' : ℕ) (p : Point) → is_walking p ≡ false → most seats room p ≡ most seats room' p
   pub lower : (c : Core) (g : Ghost) (s : ℕ) → Fits c g → is_call (seat c.seats s).point ≡ true → among (seat c.seats s).point ≡ true
@@ -41,7 +41,7 @@ pub record Falls (weight : Point → ℕ) (most : ℕ → ℕ → Point → ℕ)
       × (weight (seat c.seats s).point + most (length c.seats) (length c.seats - length (made c s).core.popped) (stepped c s).seat.point ≤ measure most c s)
 
 module _ (weight : Point → ℕ) (most : ℕ → ℕ → Point → ℕ) (among : Point → Bool) (falls : Falls weight most among) where
-  -- an event after which the measure has fallen by this much, at a point of the call again
+  -- an event after which the measure has fallen by this much, and the point is again one of the call
   record Goes (c d : Core) (s spent : ℕ) : Type 0 where
     pub steady : Steady d
     pub within : among (seat d.seats s).point ≡ true
@@ -85,7 +85,7 @@ module _ (weight : Point → ℕ) (most : ℕ → ℕ → Point → ℕ) (among 
             (goes_left c (made c t).core s (record { ghost_state = kept.to; fits = kept.fits }) within (step_leaves c steady.ghost_state t s steady.fits (λ e. other (sym e))))
       ]
 
-  -- a number that no seat has makes no step, and so it isn't that of an open call
+  -- a number that no seat has makes no step, so it is not the seat of an open call
   goes_refused : (c : Core) (t s : ℕ) → Steady c → is_call (seat c.seats s).point ≡ true → among (seat c.seats s).point ≡ true → is_seat c.seats t ≡ false
       → Goes c c s (weight_of weight c s (makes t))
   goes_refused c t s steady inside within none =

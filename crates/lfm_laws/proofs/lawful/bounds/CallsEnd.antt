@@ -1,5 +1,5 @@
--- A call whose seat alone makes steps ends: each step ends it or leaves it fewer steps to make, and at the start these are
--- fewer than the longest call has.
+-- If only its seat makes steps, a call ends: each step ends it or leaves fewer steps, and at the start there are fewer than in
+-- the longest call.
 use Rattle.std.proofs.Common.{◌≡◌, ℕ, zero, suc, true, false, ◌+◌, ◌-◌, ◌<◌, Option, Some, None, length, nat_eq, if◌then◌else◌, inl, inr, arith}
 use Rattle.std.proofs.lemmas.Bool.{cases_Bool, false≢true}
 use Rattle.lfm_protocol.specs.declared.kinds.Kind.{Kind}
@@ -25,7 +25,7 @@ use Rattle.lfm_laws.proofs.lawful.bounds.StepsLeft.{left, left-le}
 use Rattle.lfm_laws.proofs.steady.frames.Seated.{seat_of_test}
 use Rattle.lfm_laws.proofs.lawful.bounds.CallWeights.{room_left}
 
--- a turn after which the call of seat s goes on leaves it fewer steps than this
+-- if the call of seat s goes on after this turn, it has fewer steps left than this
 abbrev Falls : ℕ → ℕ → Moved → Type 0
 Falls s most m = is_open m.turn ≡ true → left m.core s < most
 
@@ -92,7 +92,7 @@ steady_step c s steady =
       | inr none ↦ rw none steady
     ]
 
--- more steps than a seat has left are not all made
+-- a seat does not make more steps than it has left
 pub ends_within : (most : ℕ) (c : Core) (s : ℕ) → Steady c → left c s < most → is_open (steps most c s).turn ≡ false
 ends_within zero c s steady few = absurd (omega arith)
 ends_within (suc most) c s steady few =

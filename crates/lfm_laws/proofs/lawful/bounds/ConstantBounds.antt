@@ -1,5 +1,5 @@
--- A try_lock makes at most 6 steps and a receive at most 3: each own step leaves fewer, and nothing that another seat does
--- leaves more.
+-- A try_lock makes at most 6 steps and a receive at most 3: each own step leaves fewer, and no step of another seat leaves
+-- more.
 use Rattle.std.proofs.Common.{◌≡◌, ℕ, Bool, true, false, ◌+◌, ◌≤◌, List, [], ◌∷◌, nat_eq, nat_lt, refl, sym, arith}
 use Rattle.std.proofs.lemmas.Bool.{false≢true}
 use Rattle.lfm_protocol.specs.declared.answers.Call.{Call}
@@ -22,7 +22,7 @@ use Rattle.lfm_laws.proofs.lawful.bounds.CallWeights.{Falls, weight_le}
 use Rattle.lfm_laws.proofs.lawful.bounds.Leaving.{stepped}
 use Rattle.lfm_laws.proofs.lawful.runs.Reached.{run_keeps}
 
--- how many more steps a try_lock or a receive at this point makes at most
+-- an upper bound on the steps that a try_lock or a receive still makes at this point
 abbrev pub try_steps_left : Point → ℕ
 try_steps_left TryCountExchange = 6
 try_steps_left TryOwnerLoad = 5

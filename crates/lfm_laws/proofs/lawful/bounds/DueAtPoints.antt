@@ -1,5 +1,5 @@
--- What an open call has still to do at most beside others, at each point: how many steps if the push word stays as it is, and how
--- often it can still change the push word.
+-- Upper bounds, at each point, on what an open call has yet to do while others interleave: its steps while the push word stays
+-- the same, and its own changes of the push word.
 use Rattle.std.proofs.Common.{◌≡◌, ℕ, Bool, true, false, ◌+◌, ◌≤◌, refl, sym, arith, inl, inr, if◌then◌else◌}
 use Rattle.std.proofs.lemmas.Bool.{cases_Bool, false≢true}
 use Rattle.lfm_protocol.specs.declared.points.Carrier.{Carrier}
@@ -19,11 +19,11 @@ use Rattle.lfm_laws.proofs.lawful.bounds.StepsFall.{same_link_self}
 
 -- Steps
 
--- a push exchange that has seen another word fails, and its link is stored once more
+-- a push exchange that expects another word fails, and its link is stored once more
 abbrev pub again_unless : Bool → ℕ
 again_unless same = if same then 0 else 2
 
--- a locker walks its own record as well, and has no wait before it
+-- a locker collects its own record too, and has no later wake store of a start_wait
 abbrev pub due_to_walk : ℕ → Carrier → ℕ
 due_to_walk room Carrier.Locker = room + 1
 due_to_walk room carrier = room + wait_of carrier
@@ -39,7 +39,7 @@ abbrev pub due_to_exchange : ℕ → Pusher → ℕ
 due_to_exchange seats Pusher.Locker = seats + 3
 due_to_exchange seats (Pusher.Sender t) = seats + 2
 
--- how many steps a call at this point makes at most, with this number of seats, and room for this number of records in the pop
+-- an upper bound on the steps of a call at this point, with this number of seats and room for this number of records in the pop
 -- list
 abbrev pub due_at : Link → ℕ → ℕ → Point → ℕ
 due_at push seats room Rest = 0
@@ -74,7 +74,7 @@ due_at push seats room (EnterOwnerStore entrant how) = 1
 due_at push seats room (ReceiveWakeLoad sleeper) = 3
 due_at push seats room (ReceiveWakeStore stamp) = 2
 
--- Changes of the push word: a push, and the clearing of a list that has records
+-- Changes of the push word: a push, and the clearing of a list with records
 
 abbrev pub changes_at : Point → ℕ
 changes_at LockCountAdd = 2
@@ -95,7 +95,7 @@ changes_at (ReleaseHandoffExchange releaser) = 1
 changes_at (TakeClearHead carrier) = 1
 changes_at _ = 0
 
--- The most of both
+-- Upper bounds of both
 
 waits_on-le : (releaser : Releaser) → waits_on releaser ≤ 1
 waits_on-le Unlocker = omega arith

@@ -1,5 +1,5 @@
--- How many calls are still to begin before a queued record is served, if no others begin than unlocks and receives of seats
--- that have their grant: no step raises that by more than two for each record that leaves.
+-- How many calls have yet to begin before a queued record is served, if only unlocks and receives of granted seats begin: no
+-- step raises this number by more than two for each record that leaves.
 use Rattle.std.proofs.Common.{◌≡◌, ℕ, false, ◌+◌, ◌*◌, ◌≤◌, Option, Some, None, length, nat_eq, refl, sym, ap, ◌∙◌, inl, inr, arith, if◌then◌else◌}
 use Rattle.std.proofs.lemmas.Bool.{cases_Bool, cases_eq, eq-eqb, false≢true}
 use Rattle.lfm_model.specs.Abstract.{AbstractPlace, AbstractStep, free, owner, passed, carried, brought_in}
@@ -30,19 +30,19 @@ use Rattle.lfm_laws.proofs.lawful.bounds.NextPosts.{post_weight-le, next_stays, 
 use Rattle.lfm_laws.proofs.lawful.bounds.PlainCases.{not_empty, gives, gives_by, plain_case}
 use Rattle.lfm_laws.proofs.steady.frames.Frames.{place_of_claim}
 
--- The calls that are still to begin
+-- The calls that have yet to begin
 
--- the unlock of an owner that has not begun it
+-- 1 if the owner has yet to begin its unlock
 abbrev pub unlocks_due : Point → ℕ
 unlocks_due (ReleaseOwnerStore releaser) = 0
 unlocks_due _ = 1
 
--- the receive of a granted seat that has not begun it
+-- 1 if the granted seat has yet to begin its receive
 abbrev pub receives_due : Point → ℕ
 receives_due (ReceiveWakeLoad sleeper) = 0
 receives_due _ = 1
 
--- a seat that is about to come in owns then; a seat that is sent is granted first
+-- a seat that is about to enter then owns; the target of a send is granted first
 abbrev pub entry_due : ℕ → ℕ → ℕ
 entry_due into s = if nat_eq into s then 1 else 2
 
@@ -83,7 +83,7 @@ due_at-le c _ = omega arith
 
 -- Steps
 
--- what stays of the seats that own, are granted or serve
+-- the seats that own, are granted or serve stay the same
 record Stays (c d : Core) (g : Ghost) : Type 0 where
   pub owns : (s : ℕ) → abstract_place g.place ≡ owner s → unlocks_due (seat d.seats s).point ≤ unlocks_due (seat c.seats s).point
   pub granted : (s : ℕ) → abstract_place g.place ≡ passed s → receives_due (seat d.seats s).point ≤ receives_due (seat c.seats s).point
@@ -150,7 +150,7 @@ stays_beside c g u fits some is unlock receive =
       serves = λ s place. next_stays c g u s fits some is;
     }
 
--- a receive that finds no grant is not that of the granted seat
+-- a receive that finds no grant is not by the granted seat
 
 passed_place : (p : Responsibility) (u : ℕ) → abstract_place p ≡ passed u → (stamp : ℕ) × (p ≡ Places.granted u stamp)
 passed_place (Places.granted t stamp) u e = (stamp, cc)
@@ -204,7 +204,7 @@ taken_up c d g h (Abstract.enter s x moves) e = absurd (cc)
 taken_up c d g h (Abstract.release s moves) e = absurd (cc)
 taken_up c d g h (Abstract.leave s to goes moves) e = absurd (cc)
 
--- and a post
+-- a post
 posted_due : (d : Core) (g h : Ghost) → (step : AbstractStep (abstract g) (abstract h)) → case_of step ≡ Runs.post → due d h ≡ 1
 posted_due d g h (Abstract.post s somebody moves) e = rw moves.after refl
 posted_due d g h (Abstract.take_up x moves) e = absurd (cc)
@@ -224,7 +224,7 @@ received c g h u sleeper (Grant stamp) found at fits some is goes = taken_up c (
 received c g h u sleeper w found at fits some is goes =
     rw goes.place (same_place c (made c u).core g (abstract_place g.place) refl (stays_asleep c g u sleeper at fits some is (rw found refl)))
 
--- a seat that comes in is an owner that has not begun its unlock
+-- a seat that enters is an owner that has yet to begin its unlock
 entered_due : (c : Core) (h : Ghost) (u : ℕ) (entrant : Entrant) (how : How) → (seat c.seats u).point ≡ EnterOwnerStore entrant how → IsSeat c.seats u → Fits (made c u).core h
     → due (made c u).core h ≡ 1
 entered_due c h u entrant how at is fits =

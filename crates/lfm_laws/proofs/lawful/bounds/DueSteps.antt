@@ -1,5 +1,5 @@
--- Each own step of an open call lowers what it has still to do: the steps by one, and the changes of the push word by one if it
--- changes it.
+-- Each own step of an open call lowers what it has yet to do: its steps by one, and its changes of the push word by one if it
+-- makes one.
 use Rattle.std.proofs.Common.{◌≡◌, ℕ, Bool, true, false, ◌+◌, ◌-◌, ◌≤◌, ◌<◌, Option, Some, None, ◌∷◌, length, nat_eq, refl, sym, arith, inl, inr, if◌then◌else◌}
 use Rattle.std.proofs.lemmas.Bool.{cases_Bool, cases_eq, eq-eqb, ne_eqb, false≢true}
 use Rattle.lfm_model.specs.declared.answers.How.{How}
@@ -43,13 +43,13 @@ use Rattle.lfm_laws.proofs.lawful.bounds.StepsFall.{same_link_self}
 use Rattle.lfm_laws.proofs.steady.Room.{steady_has_room}
 use Rattle.lfm_laws.proofs.lawful.bounds.DueAtPoints.{again_unless, due_to_walk, due_to_clear, due_to_exchange, due_at, changes_at, changed_push-le, changed_push_same}
 
--- Where a step that leaves the push word as it is leads
+-- The point after a step that leaves the push word unchanged
 
 -- a point at which at most this number of steps and changes are due
 abbrev pub Within : Link → ℕ → ℕ → ℕ → ℕ → Point → Type 0
 Within push seats room steps changes q = (due_at push seats room q ≤ steps) × (changes_at q ≤ changes)
 
--- the own step from p to q, over which the push word goes from one to the other
+-- the own step from p to q, which takes the push word from the first to the second
 abbrev pub Spends : Link → Link → ℕ → ℕ → ℕ → Point → Point → Type 0
 Spends push after seats room room' p q =
     (1 + due_at after seats room' q ≤ due_at push seats room p) × (changes_at q + changed_push push after ≤ changes_at p)
@@ -130,12 +130,12 @@ exchange_due : (seats : ℕ) (pusher : Pusher) → 1 + due_to_clear seats (carri
 exchange_due seats Pusher.Locker = omega arith
 exchange_due seats (Pusher.Sender t) = omega arith
 
--- Where a step that may change it leads
+-- The point after a step that may change the push word
 
 link_store_due : (push : Link) (seats room : ℕ) (pusher : Pusher) → Within push seats room (seats + 6) 2 (LinkStore pusher push)
 link_store_due push seats room pusher = rw (same_link_self push) (omega arith, omega arith)
 
--- an exchange that fails leaves the push word, whose link is then stored
+-- an exchange that fails leaves the push word unchanged, and the link is then stored for that word
 exchange_spends : (push other : Link) (seats room room' : ℕ) (pusher : Pusher) (seen : Link) (same : Bool) → same_link push seen ≡ same
     → Spends push (if same then other else push) seats room room' (PushExchange pusher seen) (if same then PushedHandoffLoad pusher else LinkStore pusher push)
 exchange_spends push other seats room room' pusher seen true found =
@@ -146,7 +146,7 @@ exchange_spends push other seats room room' pusher seen false found =
     let steps = due.0 in
     rw found (omega (arith, steps), omega (arith, none))
 
--- a releaser that clears no record leaves the push word
+-- a clear-head that finds no record leaves the push word unchanged
 changed_by_clear : (push : Link) → push.next ≡ 0 → changed_push push (record { stamp = push.stamp; next = 0 }) ≡ 0
 changed_by_clear push none = rw (eq-eqb push.stamp push.stamp refl, eq-eqb 0 push.next (sym none)) refl
 
@@ -165,9 +165,9 @@ clear_spends push seats room room' (Carrier.Reclaimer releaser) few =
 clear_spends push seats room room' Carrier.Sender few =
     let one = changed_push-le push (record { stamp = push.stamp; next = 0 }) in (omega (arith, few), omega (arith, one))
 
--- The walk
+-- Collecting
 
--- a link load leaves the pop list with room for one record fewer
+-- after a link load the pop list has room for one record fewer
 walk_spends : (push : Link) (seats room room' : ℕ) (carrier : Carrier) (s : ℕ) (next at : ℕ) (r : Record) → 1 + room' ≡ room
     → 2 + wait_of carrier ≤ due_to_walk room carrier → 1 + due_to_walk room' carrier ≤ due_to_walk room carrier
     → Spends push push seats room room' (TakeLinkLoad carrier at) (if nat_eq next 0 then serves carrier s r else TakeLinkLoad carrier next)
@@ -185,7 +185,7 @@ claims_push : (c : Core) (t : ℕ) (w : Wake) → (claims_word c t w).push ≡ c
 claims_push c t Wake.Waiting = refl
 claims_push c t _ = refl
 
--- every step but that of a walk, whatever room the pop list has before it
+-- every step except a link load, whatever the room of the pop list before it
 at_point : (c : Core) (s room before : ℕ) (p : Point) → (seat c.seats s).point ≡ p → is_call p ≡ true → is_walking p ≡ false → room ≤ length c.seats
     → Spends c.push (made c s).core.push (length c.seats) before room p (stepped c s).seat.point
 at_point c s room before Rest at inside stands few = absurd (false≢true inside)
@@ -312,7 +312,7 @@ at_point c s room before (ReceiveWakeStore stamp) at inside stands few =
     rw (at, at)
     (spends c.push (length c.seats) before room 1 0 (ReceiveWakeStore stamp) (EnterOwnerStore Entrant.Receiver (how_granted stamp)) (omega arith, omega arith) (omega arith) (omega arith))
 
--- the room that a walk needs: a carrier other than a locker stands apart from the queue, so the pop list has at most two
+-- the room that collecting needs: a carrier other than a locker is apart from the queue, so the pop list has at most two
 -- records fewer than there are seats
 serve_fits : (c : Core) (g : Ghost) (s : ℕ) (carrier : Carrier) → Fits c g → IsSeat c.seats s → StandsAsCarrier (g.standing s) carrier → 0 < g.walk
     → 1 ≤ room_left c → 2 + wait_of carrier ≤ due_to_walk (room_left c) carrier

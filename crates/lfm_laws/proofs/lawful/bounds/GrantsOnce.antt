@@ -1,4 +1,4 @@
--- A call grants at most once: past its grant no point leads to another.
+-- A call grants at most once: after its grant no point leads to another.
 use Rattle.std.proofs.Common.{◌≡◌, ℕ, true, ◌+◌, ◌≤◌, nat_eq, refl, arith}
 use Rattle.std.proofs.lemmas.Bool.{false≢true}
 use Rattle.lfm_protocol.specs.declared.points.Point.{Point}

@@ -7,7 +7,7 @@ use Rattle.lfm_laws.specs.steady.Numbered.{records}
 use Rattle.lfm_laws.specs.steady.EventOutcome.{GoesOn}
 use Rattle.lfm_laws.proofs.lawful.read.RecordsRead.{length-records}
 
--- how many more records have left and were pushed
+-- the count of records that have left grows by those that leave, and the count of pushed records does not fall
 pub popped_by_history : (g h : Ghost) (pushes pops answers : List Record) → GoesOn g h pushes pops answers → h.popped ≡ g.popped + length pops
 popped_by_history g h pushes pops answers on =
     let before = length-records g.pushed_at 0 g.popped in

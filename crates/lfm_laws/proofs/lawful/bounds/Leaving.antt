@@ -1,5 +1,5 @@
--- What an event leaves: the number of seats, the views of all other seats, and the pop list while another seat serves; and the
--- view that the acting seat has after it.
+-- What an event leaves unchanged: the number of seats, the state of all other seats, and the pop list while another seat
+-- serves; and the state of the acting seat after it.
 use Rattle.std.proofs.Common.{◌≡◌, ◌≢◌, ℕ, Bool, true, false, Option, Some, None, List, length, refl, sym, ap, ◌∙◌, inl, inr}
 use Rattle.std.proofs.lemmas.Bool.{cases_Bool, cases_eq, ne_eqb, false≢true}
 use Rattle.lfm_model.specs.declared.answers.How.{How}
@@ -32,7 +32,7 @@ use Rattle.lfm_laws.proofs.steady.queue.Carrying.{nobody_serves}
 
 -- The acting seat
 
--- how a step of this kind moves seat s on, t being its target
+-- what a step of this kind makes of seat s, with target t
 abbrev pub stepped_by : Core → ℕ → ℕ → Option Kind → Stepped
 stepped_by c s t None = idle (seat c.seats s)
 stepped_by c s t (Some Kind.CountExchange) = after_count_exchange (seat c.seats s) c.count
@@ -52,11 +52,11 @@ stepped_by c s t (Some Kind.WakeLoad) = after_wake_load (seat c.seats s) (wake c
 stepped_by c s t (Some Kind.WakeStore) = after_wake_store (seat c.seats s)
 stepped_by c s t (Some Kind.WakeExchange) = after_wake_exchange (seat c.seats s) (wake c.wakes t)
 
--- how the step at its point moves seat s on
+-- what the step at its point makes of seat s
 abbrev pub stepped : Core → ℕ → Stepped
 stepped c s = stepped_by c s (target (seat c.seats s).point s) (kind (seat c.seats s).point)
 
--- the seats after a step, which of a kind that there is changes one entry
+-- the seats after a step: a step that has a kind changes one entry
 data SeatsAfter (c : Core) (s : ℕ) (x : SeatState) (seats : List SeatState) : Type 0 where
   same : seats ≡ c.seats → x ≡ seat c.seats s → SeatsAfter c s x seats
   moved : seats ≡ with_entry c.seats s x → SeatsAfter c s x seats
@@ -117,7 +117,7 @@ popped_by c s t (Some Kind.WakeStore) loads drops = rw drops refl
 popped_by c s t (Some Kind.WakeExchange) loads drops = popped_claimed c t (wake c.wakes t)
 popped_by c s t _ loads drops = refl
 
--- only a seat that serves makes one of these
+-- only a seat that serves makes such a step
 
 loads_by_server : (depth s : ℕ) (p : Point) → claim_at depth s p ≢ serving s → loads_link (kind p) ≡ false
 loads_by_server depth s (TakeLinkLoad carrier next) idles = absurd (idles refl)
@@ -134,7 +134,7 @@ drops_by_server depth s (GrantWakeStore carrier granted) idles = absurd (idles r
 drops_by_server depth s (EnterOwnerStore entrant how) idles = drops_by_entrant s entrant how idles
 drops_by_server depth s _ idles = refl
 
--- a step of a seat leaves the pop list to another seat that serves
+-- while another seat serves, a step leaves the pop list unchanged
 pub popped_made : (c : Core) (g : Ghost) (s u : ℕ) → Fits c g → claim_at (seat c.seats u).depth u (seat c.seats u).point ≡ serving u → u ≢ s
     → (made c s).core.popped ≡ c.popped
 popped_made c g s u fits serves other =
@@ -145,7 +145,7 @@ popped_made c g s u fits serves other =
     popped_by c s (target (seat c.seats s).point s) (kind (seat c.seats s).point) (loads_by_server _ s (seat c.seats s).point idles)
     (drops_by_server _ s (seat c.seats s).point idles)
 
--- Beginnings
+-- Starts of calls
 
 -- a seat whose call is open begins no other
 begins_nothing : (x : SeatState) (limits : Limits) (call : Call) (p : Point) → is_call p ≡ true → (Begin.begin_at x limits call p).seat ≡ x
@@ -178,9 +178,9 @@ begun_popped c t call =
       | inr none ↦ rw none refl
     ]
 
--- What is left to a seat
+-- What stays the same for a seat
 
--- seat s sees the same number of seats and its own view as before, and, if it serves, the same pop list
+-- the number of seats and the state of seat s stay the same, and, if s serves, the pop list does too
 pub record KeepsSeat (c d : Core) (s : ℕ) : Type 0 where
   pub view : seat d.seats s ≡ seat c.seats s
   pub size : length d.seats ≡ length c.seats
@@ -189,7 +189,7 @@ pub record KeepsSeat (c d : Core) (s : ℕ) : Type 0 where
 pub leaves_all : (c : Core) (s : ℕ) → KeepsSeat c c s
 leaves_all c s = record { view = refl; size = refl; popped = λ e. refl }
 
--- a call that begins leaves this to each seat whose call is open
+-- so it is for each seat with an open call when a call begins
 pub begin_leaves : (c : Core) (t s : ℕ) (call : Call) → is_call (seat c.seats s).point ≡ true → KeepsSeat c (begin c t call).core s
 begin_leaves c t s call inside =
     record {
@@ -201,7 +201,7 @@ begin_leaves c t s call inside =
       popped = λ e. begun_popped c t call;
     }
 
--- and a step to every other seat
+-- so it is for every other seat when a seat makes a step
 pub step_leaves : (c : Core) (g : Ghost) (t s : ℕ) → Fits c g → s ≢ t → KeepsSeat c (made c t).core s
 step_leaves c g t s fits other =
     record {

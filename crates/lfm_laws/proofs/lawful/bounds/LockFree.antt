@@ -1,5 +1,6 @@
--- All calls of a run together: what is due to all of them falls with each step of a call. A change of the push word costs each
--- other call two steps at most, and each call makes two changes at most, so what is due to a call bears what its changes cost.
+-- All calls of a run together: the steps due to all of them fall with each step of a call. A change of the push word costs each
+-- other call at most two steps, and each call makes at most two changes, so each call is charged in advance for what its own
+-- changes cost the others.
 use Rattle.std.proofs.Common.{◌≡◌, ◌≢◌, ℕ, zero, suc, true, false, ◌+◌, ◌-◌, ◌*◌, ◌≤◌, ◌<◌, List, [], ◌∷◌, length, refl, sym, ◌∙◌, inl, inr, arith}
 use Rattle.std.proofs.lemmas.Bool.{cases_Bool, cases_eq, false≢true}
 use Rattle.std.proofs.Math.Nat.{mul-le-mul_left, mul-add}
@@ -25,8 +26,7 @@ use Rattle.lfm_laws.proofs.steady.frames.Sums.{sum_update, sum_bound}
 use Rattle.lfm_laws.proofs.steady.frames.SameSeats.{seats-step, seats-begin}
 use Rattle.lfm_laws.proofs.lawful.bounds.SumBounds.{sum_spreads, sum_scales}
 
--- What is owed to all calls: the steps that are due, and what the changes that are left cost the other calls, at a cost of k
--- each
+-- What all calls are owed: the steps that are due, and what the changes that are left cost the other calls, at k per change
 
 abbrev pub owed : ℕ → Core → ℕ → ℕ
 owed k c s = due c s + k * changes_left c s
@@ -34,7 +34,7 @@ owed k c s = due c s + k * changes_left c s
 abbrev pub all_owed : ℕ → Core → ℕ
 all_owed k c = sum_to (owed k c) (length c.seats)
 
--- nothing is owed to a seat without an open call
+-- a seat without an open call is owed nothing
 owed_closed : (k : ℕ) (c : Core) (s : ℕ) → is_call (seat c.seats s).point ≡ false → owed k c s ≡ 0
 owed_closed k c s closed =
     let none = none_due c.push (length c.seats) (room_left c) (seat c.seats s).point closed in
@@ -76,7 +76,7 @@ owed_own k c g s fits is inside =
     let both = mul-add k (changes_at (stepped c s).seat.point) (changed_push c.push (made c s).core.push) in
     rw (own_made c s is, size_made c s) (omega (arith, steps, changes, both))
 
--- what one change costs all others is borne by the call that makes it
+-- the call that makes a change pays for what the change costs all others
 borne : (seats k n sum sum' f f' : ℕ) → 2 * seats ≤ k + 2 → n ≤ 1 → sum' + f + 2 * n ≤ sum + f' + seats * (2 * n) → f' + 1 + k * n ≤ f → 1 + sum' ≤ sum
 borne seats k zero sum sum' f f' enough one spread own = omega (arith, spread, own)
 borne seats k (suc zero) sum sum' f f' enough one spread own = omega (arith, spread, own, enough)
@@ -107,18 +107,18 @@ step_pays k c g s fits enough =
           rw (none, closed) (omega arith)
     ]
 
--- the start of a call changes what is owed to its own seat alone
+-- the start of a call changes only what its own seat is owed
 owed_begun : (k : ℕ) (c : Core) (t s : ℕ) (call : Call) → s ≢ t → owed k (begin c t call).core s ≡ owed k c s
 owed_begun k c t s call other =
     rw (begun_other c t s call other, begun_push c t call, begun_popped c t call, seats-begin c t call) refl
 
--- a call that was open goes on
+-- if a call is open already, its seat is owed the same
 owed_open : (k : ℕ) (c : Core) (t : ℕ) (call : Call) → is_call (seat c.seats t).point ≡ true → owed k (begin c t call).core t ≡ owed k c t
 owed_open k c t call inside =
     let leaves = begin_leaves c t t call inside in
     rw (leaves.view, begun_push c t call, begun_popped c t call, seats-begin c t call) refl
 
--- and what is owed to its own seat rises by a share if a call opens
+-- if a call opens, what its seat is owed rises by at most a share
 owed_opened : (k share : ℕ) (c : Core) (t : ℕ) (call : Call) → length c.seats + 9 + k * 2 ≤ share
     → owed k (begin c t call).core t ≤ owed k c t + share * opened_at c (begin c t call).core t
 owed_opened k share c t call most =
@@ -186,7 +186,7 @@ none_made c (e ∷ later) none =
     let rest = none_made (happens c e).core later (size_event c e ∙ none) in
     omega (arith, one, rest)
 
--- what a change costs, and what is owed to a call at most
+-- what a change costs, and an upper bound on what a call is owed
 pub record Shares (c : Core) : Type 0 where
   pub change : ℕ
   pub enough : 2 * length c.seats ≤ change + 2
@@ -214,7 +214,8 @@ unit-le c s =
 open-le : (c : Core) → open_calls c ≤ length c.seats
 open-le c = let most = sum_bound (length c.seats) 1 (open_unit c) (unit-le c) in omega (arith, most)
 
--- a seat has an open call after an event of it, or the event ended it, exactly if it had one before, or the event opened it
+-- for the acting seat: an open call before the event plus one that the event opens is an open call after it plus one that it
+-- ends
 unit_begun : (c : Core) (t : ℕ) (call : Call) → open_unit (begin c t call).core t ≡ open_unit c t + opened_at c (begin c t call).core t
 unit_begun c t call =
     elim (cases_Bool (is_call (seat c.seats t).point)) [
@@ -263,7 +264,7 @@ open_event : (c : Core) (e : Event) → open_calls (happens c e).core + ended_in
 open_event c (begins t call) = let one = open_begun c t call in omega (arith, one)
 open_event c (makes s) = let one = open_stepped c s in omega (arith, one)
 
--- each call is open before a run or opens in it, and ends in it or is one of those that are open after it
+-- each call that is open before a run or opens in it either ends in it or is open after it
 ended-le : (c : Core) (events : List Event) → open_calls c + opened_in_run c events ≤ length c.seats + ended_in_run c events
 ended-le c [] = let few = open-le c in omega (arith, few)
 ended-le c (e ∷ later) =

@@ -37,7 +37,7 @@ post_weight-le _ = omega arith
 
 -- What leads to no post
 
--- a post is among those that a call can still make
+-- a post counts among the posts that a call can still make
 post-le-left : (p : Point) → post_weight p ≤ posts_left p
 post-le-left (TakeClearHead carrier) = omega arith
 post-le-left _ = omega arith
@@ -79,7 +79,7 @@ clears_some c g s (TakeClearHead carrier) at fits some =
     head_some c g fits knows.0 knows.1 some
 clears_some c g s _ at fits some = tt
 
--- no step brings a seat before a post
+-- no step leads a seat to a post
 pub next_stays : (c : Core) (g : Ghost) (t s : ℕ) → Fits c g → HasQueue g → IsSeat c.seats t
     → post_weight (seat (made c t).core.seats s).point ≤ post_weight (seat c.seats s).point
 next_stays c g t s fits some is =
@@ -90,9 +90,9 @@ next_stays c g t s fits some is =
       | inr other ↦ rw (other_made c t s other) (omega arith)
     ]
 
--- What is before no post
+-- Seats that are not about to post
 
--- a seat that leaves is before no post
+-- a seat that leaves is not about to post
 pub leaving_place : (p : Responsibility) (s : ℕ) → abstract_place p ≡ carried s Abstract.leaving → p ≡ leaving s
 leaving_place (leaving t) s e = cc
 leaving_place nobody s e = absurd (cc)
@@ -112,7 +112,7 @@ leaving_next c g s fits e =
     let place = leaving_place g.place s e in
     leaving_at (seat c.seats s).depth s (seat c.seats s).point ((fits.each s).claims ∙ rw (place, eq-eqb s s refl) refl)
 
--- a call that begins is at no such point, and one that serves is open
+-- the start of a call leads to no such point, and a seat that serves has an open call
 serving_calls : (depth s : ℕ) (p : Point) → claim_at depth s p ≡ serving s → is_call p ≡ true
 serving_calls depth s Rest e =
     elim (cases_eq depth 0) [

@@ -1,6 +1,6 @@
--- While a record stays queued, seats come to own by the records before it, and once more at most: by what was on its way to a
--- seat already, or by a post for which no record was seen. A release finds the record, so no other post comes. And a seat that
--- stops owning has come to own, or did so before.
+-- While a record stays queued, a seat becomes the owner by a record before it, and at most once more: by what was already on
+-- its way to a seat, or by a post for which no record was seen. A release finds the record, so no later post is made. A seat
+-- that stops owning has become the owner in the run or before it.
 use Rattle.std.proofs.Common.{◌≡◌, ℕ, false, ◌+◌, ◌-◌, ◌≤◌, ◌<◌, Option, Some, None, List, [], ◌∷◌, length, refl, sym, ap, ◌∙◌, inl, inr, arith}
 use Rattle.std.proofs.lemmas.Bool.{cases_Bool, false≢true}
 use Rattle.std.proofs.lemmas.List.{length-append}
@@ -38,7 +38,7 @@ use Rattle.lfm_laws.proofs.lawful.bounds.NextPosts.{post_weight-le, next_stays, 
 use Rattle.lfm_laws.proofs.lawful.bounds.PlainCases.{not_empty, gives, gives_by, plain_case}
 use Rattle.lfm_laws.proofs.lawful.bounds.HistoryCounts.{popped_by_history, pushed_by_history}
 
--- What can still come in beside the records
+-- What can still bring in a seat, besides the records
 
 abbrev spare_at : ℕ → Core → AbstractPlace → ℕ
 spare_at o c free = 1
@@ -99,7 +99,7 @@ by_case : (o : ℕ) (c : Core) (g h : Ghost) (t : ℕ) (k : Option Case) → Fit
 by_case o c g h t None fits some is small goes other = rw goes.place (same_place o c (made c t).core g.place (λ s e. next_stays c g t s fits some is))
 by_case o c g h t (Some case) fits some is small goes other = by_step o c g h t fits some is small goes.0 (ap gives goes.1 ∙ other)
 
--- a seat that comes in owns, and nothing more can come in
+-- a seat that enters owns, and nothing else can bring in a seat
 owner_place : (c : Core) (h : Ghost) (t : ℕ) (entrant : Entrant) (how : How) → (seat c.seats t).point ≡ EnterOwnerStore entrant how → IsSeat c.seats t → Fits (made c t).core h
     → spare 0 (made c t).core h ≡ 0
 owner_place c h t entrant how at is fits =
@@ -109,7 +109,7 @@ owner_place c h t entrant how at is fits =
     let place = place_of_claim h.place (owned t false) t (λ e. cc) owns in
     rw place refl
 
--- it was on its way already, or takes its own record
+-- the seat was on its way already, or takes its own record
 
 placed : (o : ℕ) (c : Core) (g : Ghost) (t into stamp : ℕ) → entering t into stamp ≡ held_by g.place t → 1 ≤ spare o c g
 placed o c g t into stamp claims = let place = place_of_claim g.place (entering t into stamp) t (λ e. cc) claims in rw place (omega arith)
@@ -135,13 +135,13 @@ record Passes (o : ℕ) (c d : Core) (g : Ghost) (weighs pops : ℕ) : Type 0 wh
   pub pushed : g.pushed ≤ to.pushed
   pub spends : weighs + spare o d to ≤ spare o c g + pops
 
--- what each step weighs is borne by what can still come in, or by the record that leaves with it
+-- the weight of each step is covered by what can still bring in a seat, or by the record that leaves with the step
 abbrev Spends : ℕ → (Point → ℕ) → Type 0
 Spends o weight =
     (c : Core) (g h : Ghost) (t : ℕ) (p : Point) → (seat c.seats t).point ≡ p → Fits c g → HasQueue g → IsSeat c.seats t → Fits (made c t).core h
     → GoesBy (case_at c t (seat c.seats t) p) (abstract g) (abstract h) → weight p + spare o (made c t).core h ≤ spare o c g + length (popped_at_point t p)
 
--- a seat that comes in uses up what could come in, as an owner doesn't count
+-- a seat that enters uses up what could bring it in, as an owner does not count
 entries_spend : Spends 0 enters_at
 entries_spend c g h t (EnterOwnerStore entrant how) at fits some is after goes =
     let none = owner_place c h t entrant how at is after in
@@ -234,7 +234,7 @@ weight_of_run-le o weight spends rests c g (e ∷ later) fits some =
     let rest = weight_of_run-le o weight spends rests (happens c e).core one.to later one.fits (omega (arith, some, split, popped, pushed)) in
     omega (arith, rest, less, split)
 
--- as long as record k of the queue has not left it
+-- while record k of the queue has not left it
 while_queued : (o : ℕ) (weight : Point → ℕ) → Spends o weight → weight Rest ≡ 0 → o ≤ 1 → (c : Core) (events : List Event) (k : ℕ) → Steady c
     → k < length (queue_of c) → length (popped_record c events) ≤ k → weight_of_run weight c events ≤ length (popped_record c events) + 1
 while_queued o weight spends rests small c events k steady within few =

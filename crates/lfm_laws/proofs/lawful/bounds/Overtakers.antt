@@ -1,5 +1,5 @@
--- While a record stays queued, no seat comes to own twice: a seat comes in by the record that it has before that one, or by what
--- is on its way to it, or by a post; and once it has come in it has none of these again.
+-- While a record stays queued, no seat becomes the owner twice. A seat enters by its record before that one, by what is already
+-- on its way to it, or by a post; after it has entered it has none of these again.
 use Rattle.std.proofs.Common.{◌≡◌, ℕ, zero, suc, false, ◌+◌, ◌-◌, ◌≤◌, ◌<◌, Option, Some, None, List, [], ◌∷◌, length, nat_eq, refl, sym, ap, ◌∙◌, inl, inr, arith, if◌then◌else◌}
 use Rattle.std.proofs.lemmas.Bool.{cases_Bool, cases_eq, eq-eqb, ne_eqb, false≢true}
 use Rattle.std.proofs.lemmas.List.{length-append}
@@ -36,7 +36,7 @@ use Rattle.lfm_laws.proofs.steady.frames.Frames.{place_of_claim}
 use Rattle.lfm_laws.proofs.steady.frames.Seated.{seat_of_test}
 use Rattle.lfm_laws.proofs.lawful.bounds.AheadRecords.{ahead, ahead-le, ahead_none, ahead_first, first_popped, ahead_goes}
 
--- What can still bring seat t in beside the records before the one that stays
+-- What can still bring in seat t, besides the records before the one that stays
 
 abbrev is_same : ℕ → ℕ → ℕ
 is_same s t = if nat_eq s t then 1 else 0
@@ -115,14 +115,14 @@ by_case : (t : ℕ) (c : Core) (g h : Ghost) (u : ℕ) (k : Option Case) → Fit
 by_case t c g h u None fits some is goes other = rw goes.place (same_place t c (made c u).core g.place (λ s e. next_stays c g u s fits some is))
 by_case t c g h u (Some case) fits some is goes other = by_step t c g h u fits some is goes.0 (ap gives goes.1 ∙ other)
 
--- the first record is that of the seat that is served
+-- the first record is that of the seat that the step serves
 first_waits : (g h : Ghost) (w : ℕ) → HasQueue g → (abstract g).waiting ≡ w ∷ (abstract h).waiting → g.pushed_at (g.popped + 1) ≡ w
 first_waits g h w some all =
     let one : g.pushed - g.popped ≡ suc (g.pushed - g.popped - 1) = omega (arith, some) in
     let all = rw one at all in
     cc
 
--- a grant is to the seat of the first record
+-- a grant goes to the seat of the first record
 grant_to : (t : ℕ) (c : Core) (g h : Ghost) (u n : ℕ) → HasQueue g → 0 < n → (step : AbstractStep (abstract g) (abstract h)) → case_of step ≡ Runs.serve
     → spare t (made c u).core h ≤ ahead g.pushed_at g.popped n t
 grant_to t c g h u n some more (Abstract.serve s w serves) e =
@@ -146,7 +146,7 @@ grant_to t c g h u n some more (Abstract.enter s x moves) e = absurd (cc)
 grant_to t c g h u n some more (Abstract.release s moves) e = absurd (cc)
 grant_to t c g h u n some more (Abstract.leave s to goes moves) e = absurd (cc)
 
--- What can bring seat t in at all
+-- What can bring in seat t at all
 
 -- 1 if the first is above 0, and otherwise the second
 abbrev either : ℕ → ℕ → ℕ
@@ -176,13 +176,13 @@ brings t c g n = either (ahead g.pushed_at g.popped n t) (spare t c g)
 brings-le : (t : ℕ) (c : Core) (g : Ghost) (n : ℕ) → brings t c g n ≤ 1
 brings-le t c g n = either-le (ahead g.pushed_at g.popped n t) (spare t c g) (spare_to-le t c (abstract_place g.place))
 
--- a step after which what can bring seat t in beside the records was there before, or was one of the records
+-- after the step, what can bring in seat t besides the records could do so before, or was one of the records
 goes_down : (t : ℕ) (c d : Core) (g h : Ghost) (pushes pops answers : List Record) (n : ℕ) → GoesOn g h pushes pops answers → g.popped + (length pops + n) < g.pushed
     → spare t d h ≤ brings t c g (length pops + n) → brings t d h n ≤ brings t c g (length pops + n)
 goes_down t c d g h pushes pops answers n on within less =
     either_falls _ _ _ _ (ahead_goes g h pushes pops answers n t on within) (spare_to-le t d (abstract_place h.place)) less
 
--- A seat that comes in
+-- A seat that enters
 
 view_entered : (c : Core) (h : Ghost) (u : ℕ) (entrant : Entrant) (how : How) → (seat c.seats u).point ≡ EnterOwnerStore entrant how → IsSeat c.seats u → Fits (made c u).core h
     → (h.place ≡ owned u false) × (h.standing u ≡ apart)
@@ -192,7 +192,7 @@ view_entered c h u entrant how at is fits =
     let stands : h.standing u ≡ apart = rw view at (fits.each u).stands in
     (place_of_claim h.place (owned u false) u (λ e. cc) owns, stands)
 
--- it has no record then
+-- it then has no record
 none_ahead : (d : Core) (h : Ghost) (t n : ℕ) → Fits d h → h.standing t ≡ apart → h.popped + n ≤ h.pushed → ahead h.pushed_at h.popped n t ≡ 0
 none_ahead d h t n fits stands within =
     ahead_none h.pushed_at h.popped n t (λ x above below here.
@@ -201,7 +201,7 @@ none_ahead d h t n fits stands within =
     let both = sym stands ∙ same in
     cc)
 
--- and nothing else can bring it in
+-- and nothing else can then bring it in
 none_brings : (t : ℕ) (d : Core) (h : Ghost) (n : ℕ) → Fits d h → h.place ≡ owned t false → h.standing t ≡ apart → h.popped + n ≤ h.pushed → brings t d h n ≡ 0
 none_brings t d h n fits place stands within = rw (none_ahead d h t n fits stands within, place) refl
 
@@ -212,7 +212,7 @@ placed t c g n stamp claims =
     let least = second-le (ahead g.pushed_at g.popped n t) (spare t c g) (omega (arith, one)) in
     omega (arith, one, least)
 
--- before it, it was on its way or had the first record
+-- before that step it was on its way or had the first record
 some_brings : (t : ℕ) (c : Core) (g h : Ghost) (pushes answers : List Record) (n : ℕ) (entrant : Entrant) (how : How) → claim_to_enter t entrant how ≡ held_by g.place t
     → HasQueue g → GoesOn g h pushes (popped_at_point t (EnterOwnerStore entrant how)) answers → 1 ≤ brings t c g (length (popped_at_point t (EnterOwnerStore entrant how)) + n)
 some_brings t c g h pushes answers n Entrant.Locker How.Free claims some on = placed t c g _ 0 claims
@@ -277,7 +277,7 @@ spends_at t c g h u p pushes answers n at fits some is after goes on within =
       | inr other ↦ rw other (omega (arith, less))
     ]
 
--- an event of this weight, before which this number of records leave until the end of the run, and after it n
+-- an event of this weight; from it on, this number of records leave until the end of the run, and n after it
 record Passes (t : ℕ) (c d : Core) (g : Ghost) (weighs pops n : ℕ) : Type 0 where
   pub to : Ghost
   pub fits : Fits d to

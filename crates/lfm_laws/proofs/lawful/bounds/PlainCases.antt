@@ -1,4 +1,4 @@
--- The steps that neither serve a record nor post: those at all points but three, at which a seat comes in, grants or posts.
+-- The steps that neither serve a record nor post: those at all points except three, at which a seat enters, grants or posts.
 use Rattle.std.proofs.Common.{◌≡◌, ℕ, suc, Bool, true, false, ◌-◌, Option, Some, None, [], nat_eq, refl, arith, if◌then◌else◌}
 use Rattle.std.proofs.lemmas.Bool.{false≢true}
 use Rattle.lfm_model.specs.AbstractRuns.{Case, case_of}
@@ -17,7 +17,7 @@ use Rattle.lfm_laws.specs.steady.Ghost.{Ghost}
 use Rattle.lfm_laws.specs.steady.EventOutcome.{abstract}
 use Rattle.lfm_laws.specs.steady.Steady.{HasQueue}
 
--- somebody is queued
+-- some seat is queued
 pub not_empty : (g : Ghost) → HasQueue g → (abstract g).waiting ≡ [] → ⊥
 not_empty g some none =
     let one : g.pushed - g.popped ≡ suc (g.pushed - g.popped - 1) = omega (arith, some) in
@@ -34,7 +34,7 @@ abbrev pub gives_by : Option Case → Bool
 gives_by None = false
 gives_by (Some case) = gives case
 
--- at all points but three no step comes in, serves or posts
+-- at all points except three, no step enters, serves or posts
 
 abbrev pub is_plain : Point → Bool
 is_plain (EnterOwnerStore entrant how) = false

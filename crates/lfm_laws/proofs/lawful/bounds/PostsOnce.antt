@@ -1,4 +1,4 @@
--- A call posts at most once: only a release can come to its post, and past it no point leads there again.
+-- A call posts at most once: only a release reaches a post, and after it no point leads to another.
 use Rattle.std.proofs.Common.{◌≡◌, ℕ, Bool, true, false, ◌+◌, ◌≤◌, Option, Some, None, refl, arith, nat_eq, if◌then◌else◌}
 use Rattle.lfm_model.specs.declared.answers.Unlocked.{Unlocked}
 use Rattle.lfm_protocol.specs.declared.points.Carrier.{Carrier}
@@ -40,7 +40,7 @@ posts_left-le (TakeClearHead (Carrier.Reclaimer releaser)) = omega arith
 posts_left-le (TakeClearHead Carrier.Sender) = omega arith
 posts_left-le _ = omega arith
 
--- What leads to no post
+-- Points that lead to no post
 
 of_points : (b : Bool) (p q : Point) → posts_left p ≡ 0 → posts_left q ≡ 0 → posts_left (if b then p else q) ≡ 0
 of_points true p q first second = first

@@ -1,4 +1,5 @@
--- A push exchange that fails goes on with the word that it found: alone, the seat stores its link for it and succeeds.
+-- A push exchange that fails goes on with the word that it found: if only its seat makes steps, the seat stores its link for
+-- that word and the next exchange succeeds.
 use Rattle.std.proofs.Common.{◌≡◌, ℕ, true, false, ◌+◌, refl, sym, ap, ◌∙◌, arith}
 use Rattle.lfm_protocol.specs.declared.points.Point.{Point}
 use Rattle.lfm_protocol.specs.declared.points.Point.TheVariants.{LinkStore, PushExchange, PushedHandoffLoad}

@@ -1,4 +1,4 @@
--- An unlock among N seats makes at most N + 7 steps, and a start_wait one more, whatever the others do in between.
+-- With N seats, an unlock makes at most N + 7 steps, and a start_wait one more, whatever the others do in between.
 use Rattle.std.proofs.Common.{◌≡◌, ℕ, false, ◌+◌, ◌≤◌, List, length, nat_eq, nat_lt, refl, sym, inl, inr, arith}
 use Rattle.std.proofs.lemmas.Bool.{cases_Bool, false≢true}
 use Rattle.lfm_protocol.specs.declared.answers.Call.{Call}
@@ -22,7 +22,7 @@ use Rattle.lfm_laws.proofs.lawful.bounds.ReleaseFalls.{among_release, steps_left
 use Rattle.lfm_laws.proofs.steady.frames.Seated.{seat_of_test}
 use Rattle.lfm_laws.proofs.steady.frames.SameSeats.{seats-begin}
 
--- If no call is open, none of these steps are left
+-- If no call is open, no steps are left
 
 at_rest : (seats room steps : ℕ) (p : Point) → is_call p ≡ false → Within seats room steps p
 at_rest seats room steps Rest closed = (refl, omega arith)
@@ -53,7 +53,7 @@ wait_begun seats room x l Rest closed here = wait_awake seats room x l.budget he
 wait_begun seats room x l (Asleep sleeper) closed here = here
 wait_begun seats room x l _ closed here = here
 
--- a seat that begins a call has the view after it, and a number that no seat has the one before
+-- after the start of a call a seat has the new state; a number that no seat has keeps the old one
 begun : (c : Core) (s seats room steps : ℕ) (call : Call) → Within seats room steps (seat c.seats s).point
     → Within seats room steps (Begin.begin (seat c.seats s) (limits c) call).seat.point → Within seats room steps (seat (begin c s call).core.seats s).point
 begun c s seats room steps call before after =

@@ -1,5 +1,5 @@
--- Each step of a release lowers a measure of its point, which is how many more it makes at most: a walk has no more records
--- than there are seats other than the releaser's own, which stands apart from the queue.
+-- Each step of a release lowers a measure of its point, an upper bound on the steps that are left: the releaser is apart from
+-- the queue, so it collects at most one record of each other seat.
 use Rattle.std.proofs.Common.{◌≡◌, ℕ, Bool, true, false, ◌+◌, ◌-◌, ◌≤◌, ◌<◌, Option, Some, None, ◌∷◌, length, nat_eq, refl, sym, arith, inl, inr, if◌then◌else◌}
 use Rattle.std.proofs.lemmas.Bool.{cases_Bool, false≢true}
 use Rattle.lfm_model.specs.declared.answers.Unlocked.{Unlocked}
@@ -48,7 +48,7 @@ among_release (TakeLinkLoad carrier next) = is_releasing carrier
 among_release (GrantWakeStore carrier r) = is_releasing carrier
 among_release _ = false
 
--- the step of a start_wait past its release
+-- the step of a start_wait after its release
 abbrev pub wait_of : Carrier → ℕ
 wait_of (Carrier.Releaser releaser) = waits_on releaser
 wait_of (Carrier.Reclaimer releaser) = waits_on releaser
@@ -59,7 +59,7 @@ steps_from_clear seats (Carrier.Releaser releaser) = seats + 5 + waits_on releas
 steps_from_clear seats (Carrier.Reclaimer releaser) = seats + 1 + waits_on releaser
 steps_from_clear seats _ = 0
 
--- how many steps a release at this point makes at most, with this much room in the pop list
+-- an upper bound on the steps of a release at this point, with this much room in the pop list
 abbrev pub steps_left : ℕ → ℕ → Point → ℕ
 steps_left seats room (ReleaseOwnerStore releaser) = seats + 7 + waits_on releaser
 steps_left seats room (ReleaseCountSubtract releaser) = seats + 6 + waits_on releaser
@@ -76,7 +76,7 @@ steps_left_unread : (seats room room' : ℕ) (p : Point) → is_walking p ≡ fa
 steps_left_unread seats room room' (TakeLinkLoad carrier next) walks = absurd (false≢true (sym walks))
 steps_left_unread seats room room' _ walks = refl
 
--- Where a step leads
+-- The point after a step
 
 -- a point of a release with at most this number of steps left
 abbrev pub Within : ℕ → ℕ → ℕ → Point → Type 0
@@ -137,14 +137,14 @@ clears seats Carrier.Sender releasing = absurd (false≢true releasing)
 
 -- Every step lowers the measure
 
--- a step leads to a point of the release with fewer steps left than these
+-- a step leads to a point of the release with fewer steps left than this
 abbrev pub Lowers : ℕ → ℕ → ℕ → Point → Type 0
 Lowers seats room steps p = (among_release p ≡ true) × (1 + steps_left seats room p ≤ steps)
 
 lowers : (seats room less steps : ℕ) (p : Point) → Within seats room less p → less + 1 ≤ steps → Lowers seats room steps p
 lowers seats room less steps p within most = (within.0, let few = within.1 in omega (arith, few, most))
 
--- every step but that of a walk, whatever room the pop list has before it
+-- every step except a link load, whatever the room of the pop list before it
 at_point : (c : Core) (s room before : ℕ) (p : Point) → (seat c.seats s).point ≡ p → among_release p ≡ true → is_call p ≡ true → is_walking p ≡ false
     → room ≤ length c.seats → Lowers (length c.seats) room (steps_left (length c.seats) before p) (stepped c s).seat.point
 at_point c s room before (ReleaseOwnerStore releaser) at among inside walks few = rw (at, at) (refl, omega arith)
@@ -183,9 +183,9 @@ at_point c s room before Rest at among inside walks few = absurd (false≢true i
 at_point c s room before (Asleep sleeper) at among inside walks few = absurd (false≢true inside)
 at_point c s room before _ at among inside walks few = absurd (false≢true among)
 
--- The walk
+-- Collecting
 
--- a releaser that walks stands apart from the queue, so the pop list has at most two records fewer than there are seats
+-- a releaser that collects is apart from the queue, so the pop list has at most two records fewer than there are seats
 pub walk_room : (c : Core) (g : Ghost) (s : ℕ) → Fits c g → IsSeat c.seats s → g.standing s ≡ apart → 0 < g.walk → length c.popped + 2 ≤ length c.seats
 walk_room c g s fits is stands some =
     let none : queued_unit (g.standing s) + 1 ≤ 1 = rw stands (omega arith) in
@@ -198,7 +198,7 @@ stands_apart standing (Carrier.Releaser releaser) releasing stands = stands
 stands_apart standing (Carrier.Reclaimer releaser) releasing stands = stands
 stands_apart standing Carrier.Sender releasing stands = stands
 
--- past a link load the pop list has room for one record fewer
+-- after a link load the pop list has room for one record fewer
 of_walked : (seats room : ℕ) (carrier : Carrier) (s next : ℕ) (r : Record) → is_releasing carrier ≡ true → 1 ≤ room
     → Within seats room (room + wait_of carrier) (if nat_eq next 0 then serves carrier s r else TakeLinkLoad carrier next)
 of_walked seats room carrier s next r releasing some =

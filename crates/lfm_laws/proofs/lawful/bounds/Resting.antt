@@ -1,4 +1,4 @@
--- No state is stuck: some of the open calls' own steps lead to a state in which no call is open.
+-- No state is stuck: some steps of the open calls lead to a state in which no call is open.
 use Rattle.std.proofs.Common.{◌≡◌, ℕ, zero, suc, ◌+◌, ◌*◌, ◌≤◌, ◌<◌, List, [], ◌∷◌, length, refl, inl, inr, arith}
 use Rattle.std.proofs.lemmas.Bool.{cases_Bool, cases_eq}
 use Rattle.lfm_protocol.specs.Core.{Core}
@@ -15,7 +15,7 @@ use Rattle.lfm_laws.proofs.steady.frames.Seated.{seat_of_test}
 use Rattle.lfm_laws.proofs.steady.frames.Sums.{sum_member, sum_witness}
 use Rattle.lfm_laws.proofs.steady.frames.SameSeats.{seats-step}
 
--- if no call is counted as open, none is
+-- if the number of open calls is 0, no call is open
 quiet_of_none : (c : Core) → open_calls c ≡ 0 → IsQuiet c
 quiet_of_none c none s =
     elim (cases_Bool (is_call (seat c.seats s).point)) [

@@ -1,5 +1,5 @@
--- If no other calls begin than unlocks, and receives of seats that have their grant, few calls begin while a record stays
--- queued: two for each record before it, and two more. So few steps are made.
+-- If only unlocks and receives of granted seats begin, few calls begin while a record stays queued: two for each record before
+-- it, and two more. So few steps are made.
 use Rattle.std.proofs.Common.{◌≡◌, ℕ, true, false, ◌+◌, ◌-◌, ◌*◌, ◌≤◌, ◌<◌, List, [], ◌∷◌, length, refl, sym, ap, ◌∙◌, inl, inr, arith}
 use Rattle.std.proofs.lemmas.Bool.{cases_Bool, cases_eq, ne_eqb}
 use Rattle.std.proofs.lemmas.List.{length-append}
@@ -53,7 +53,7 @@ same_points c d Abstract.posted same = refl
 abbrev BeginSpends : Core → Ghost → ℕ → Call → Type 0
 BeginSpends c g u call = opened_at c (begin c u call).core u + due (begin c u call).core g ≤ due c g
 
--- a start of a call that leaves its seat at its point opens nothing
+-- the start of a call that leaves its seat at its point opens nothing
 quiet_begin : (c : Core) (g : Ghost) (u : ℕ) (call : Call) → (seat (begin c u call).core.seats u).point ≡ (seat c.seats u).point → BeginSpends c g u call
 quiet_begin c g u call same =
     let points : (s : ℕ) → (seat (begin c u call).core.seats s).point ≡ (seat c.seats s).point =

@@ -1,4 +1,4 @@
--- What each kind of step does to a seat, at each point: it ends the seat's call, or leaves it fewer steps to make.
+-- What each kind of step does to a seat at each point: it ends the seat's call, or leaves it fewer steps.
 use Rattle.std.proofs.Common.{◌≡◌, ℕ, suc, Bool, true, false, ◌+◌, ◌-◌, ◌≤◌, ◌<◌, Option, Some, None, nat_eq, if◌then◌else◌, refl, arith}
 use Rattle.std.proofs.lemmas.Bool.{false≢true, eq-eqb}
 use Rattle.lfm_protocol.specs.declared.points.Carrier.{Carrier}
@@ -23,7 +23,7 @@ use Rattle.lfm_protocol.specs.Turns.{is_open}
 use Rattle.lfm_laws.proofs.lawful.bounds.StepsLeft.{again_unless, left_of_carrier, left_at}
 use Rattle.lfm_laws.proofs.lawful.bounds.CallWeights.{room_left}
 
--- a step after which the seat's call goes on leaves it fewer steps than this
+-- if the seat's call goes on after the step, it has fewer steps left than this
 abbrev pub Lower : Link → ℕ → ℕ → Stepped → Type 0
 Lower push room most m = is_open m.turn ≡ true → left_at push room m.seat.point < most
 
@@ -68,7 +68,7 @@ take-le : (push : Link) (room : ℕ) (carrier : Carrier) (s : ℕ) (first : Opti
 take-le push room carrier s None = omega arith
 take-le push room carrier s (Some r) = omega (arith, serves-le push room carrier s r, some_left room carrier)
 
--- The kinds: at each point, what the step leaves is less than the point has
+-- By kinds: at each point, the step leaves fewer steps than the point had
 
 pub count_exchange_lower : (push : Link) (room : ℕ) (x : SeatState) (found : ℕ) (p : Point) → Lower push room (left_at push room p) (after_count_exchange_at x found p)
 count_exchange_lower push room x found TryCountExchange goes = either_point push room 6 (nat_eq found 0) _ _ (omega arith) (omega arith)
@@ -97,7 +97,7 @@ pub owner_store_lower : (c : Core) (x : SeatState) (p : Point) → Lower c.push 
 owner_store_lower c x (ReleaseOwnerStore releaser) goes = omega arith
 owner_store_lower c x _ goes = absurd (false≢true goes)
 
--- a link that was stored for the word as it is seen now
+-- a link is the same as itself, so one stored for the present push word fits it
 pub same_link_self : (l : Link) → same_link l l ≡ true
 same_link_self l = rw (eq-eqb l.stamp l.stamp refl, eq-eqb l.next l.next refl) refl
 
@@ -112,7 +112,7 @@ push_load_lower push room x (ReleasePushRecheck releaser) goes =
     either push room (room + 5) (nat_eq push.next 0) _ _ (releases_lower push room (room + 5) x releaser Unlocked.Posted (omega arith)) (λ some. omega arith) goes
 push_load_lower push room x _ goes = absurd (false≢true goes)
 
--- an exchange that fails leaves the push word, whose link is then stored
+-- an exchange that fails leaves the push word unchanged, and the link is then stored for that word
 exchange_lower : (push other : Link) (room : ℕ) (pusher : Pusher) (seen : Link) (same : Bool) → same_link push seen ≡ same
     → left_at (if same then other else push) room (if same then PushedHandoffLoad pusher else LinkStore pusher push) < room + 7 + again_unless same
 exchange_lower push other room pusher seen true found = omega arith
@@ -131,7 +131,7 @@ pub clear_head_lower : (push after : Link) (room : ℕ) (x : SeatState) (p : Poi
 clear_head_lower push after room x (TakeClearHead carrier) goes = cleared_lower after room carrier push.next
 clear_head_lower push after room x _ goes = absurd (false≢true goes)
 
--- a record joins the pop list
+-- a record is added to the pop list
 pub link_load_lower : (push : Link) (seats popped : ℕ) (x : SeatState) (s : ℕ) (found : Link) (p : Point) → popped < seats
     → Lower push (seats - suc popped) (left_at push (seats - popped) p) (after_link_load_at x s found p)
 link_load_lower push seats popped x s found (TakeLinkLoad carrier next) within goes =
@@ -182,7 +182,7 @@ pub wake_load_lower : (push : Link) (room : ℕ) (x : SeatState) (found : Wake) 
 wake_load_lower push room x found (ReceiveWakeLoad sleeper) goes = receives_lower push room x sleeper found goes
 wake_load_lower push room x found _ goes = absurd (false≢true goes)
 
--- whatever leaves the pop list
+-- whatever the step removes from the pop list
 pub wake_store_lower : (push : Link) (room room_after : ℕ) (x : SeatState) (p : Point) → Lower push room_after (left_at push room p) (after_wake_store_at x p)
 wake_store_lower push room room_after x (GrantWakeStore carrier r) goes = granted_lower push room_after x carrier r goes
 wake_store_lower push room room_after x (ReceiveWakeStore stamp) goes = omega arith

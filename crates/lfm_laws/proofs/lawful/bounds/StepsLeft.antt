@@ -1,5 +1,5 @@
--- How many steps an open call makes at most while its seat alone makes steps, by the seat's point, by the push word and by how
--- many records the pop list still has room for.
+-- An upper bound on the steps of an open call while only its seat makes steps, by the seat's point, the push word and the
+-- number of records for which the pop list still has room.
 use Rattle.std.proofs.Common.{ℕ, Bool, true, false, ◌+◌, ◌≤◌, length, if◌then◌else◌, arith}
 use Rattle.lfm_protocol.specs.declared.points.Carrier.{Carrier}
 use Rattle.lfm_protocol.specs.declared.points.Point.{Point}
@@ -10,7 +10,7 @@ use Rattle.lfm_protocol.specs.Core.{Core}
 use Rattle.lfm_protocol.specs.Seats.{seat}
 use Rattle.lfm_laws.proofs.lawful.bounds.CallWeights.{room_left}
 
--- a push exchange that has seen another word fails, and its link is stored once more
+-- a push exchange that expects another word fails, and its link is stored once more
 abbrev pub again_unless : Bool → ℕ
 again_unless same = if same then 0 else 2
 
@@ -69,6 +69,6 @@ left_at-le push room (PushExchange pusher seen) = omega (arith, again_unless-le 
 left_at-le push room (TakeClearHead carrier) = omega (arith, left_of_carrier-le room carrier)
 left_at-le push room _ = omega arith
 
--- the longest call clears and walks the records of all seats
+-- the longest call clears and collects the records of all seats
 pub left-le : (c : Core) (s : ℕ) → left c s ≤ length c.seats + 11
 left-le c s = omega (arith, left_at-le c.push (room_left c) (seat c.seats s).point)

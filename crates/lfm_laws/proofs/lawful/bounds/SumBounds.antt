@@ -1,10 +1,10 @@
--- How much a sum of values by seat rises at most, if its values rise by at most this much.
+-- Bounds on how much a sum over the seats rises, by how much its values rise.
 use Rattle.std.proofs.Common.{◌≢◌, ℕ, zero, suc, ◌+◌, ◌*◌, ◌≤◌, ◌<◌, sym, inl, inr, arith, suc-mul}
 use Rattle.std.proofs.lemmas.Bool.{cases_eq}
 use Rattle.std.proofs.Math.Nat.{mul-add}
 use Rattle.lfm_model.specs.Sums.{sum_to}
 
--- values that rise by at most this much
+-- each value rises by at most this much
 pub sum_more : (n a : ℕ) (f f' : ℕ → ℕ) → ((j : ℕ) → j ≤ n → f' j ≤ f j + a) → sum_to f' n ≤ sum_to f n + n * a
 sum_more zero a f f' most = omega arith
 sum_more (suc n) a f f' most =
@@ -12,7 +12,7 @@ sum_more (suc n) a f f' most =
     let last = most (suc n) (omega arith) in
     omega (arith, below, last, suc-mul n a)
 
--- the same of all values but one
+-- each value except one rises by at most this much
 pub sum_spreads : (n i a : ℕ) (f f' : ℕ → ℕ) → 0 < i → i ≤ n → ((j : ℕ) → j ≢ i → f' j ≤ f j + a) → sum_to f' n + f i + a ≤ sum_to f n + f' i + n * a
 sum_spreads zero i a f f' above within most = absurd (omega arith)
 sum_spreads (suc n) i a f f' above within most =
@@ -26,7 +26,7 @@ sum_spreads (suc n) i a f f' above within most =
           omega (arith, below, here, suc-mul n a)
     ]
 
--- values of which each is at most k times another
+-- each value is at most k times the other
 pub sum_scales : (n k : ℕ) (f g : ℕ → ℕ) → ((j : ℕ) → f j ≤ k * g j) → sum_to f n ≤ k * sum_to g n
 sum_scales zero k f g most = omega arith
 sum_scales (suc n) k f g most =

@@ -1,4 +1,4 @@
--- A try_lock of a free mutex holds after its two steps, and one that finds a posted handoff after its six.
+-- A try_lock of a free mutex holds after two steps, and a try_lock that finds a posted handoff holds after six.
 use Rattle.std.proofs.Common.{◌≡◌, ℕ, true, false, ◌+◌, ◌<◌, nat_eq, refl, ap, arith}
 use Rattle.std.proofs.lemmas.Bool.{lt-ltb, eq-eqb, ne_eqb}
 use Rattle.lfm_model.specs.declared.answers.How.TheVariants as How

@@ -1,5 +1,5 @@
--- Which call each point belongs to, and that the step at it stays in its call, ends it with an answer of the call, or is refused;
--- and from which points a release can end: one walk over the points.
+-- The call to which each point belongs; each step stays in its call, ends it with an answer of that call, or is refused; and
+-- the points at which a release can end. By cases on the point.
 use Rattle.std.proofs.Common.{◌≡◌, ℕ, Bool, true, false, ◌+◌, nat_eq, refl, sym, if◌then◌else◌}
 use Rattle.std.proofs.lemmas.Bool.{false≢true}
 use Rattle.std.specs.Prelude.{Option, Some, None}
@@ -34,7 +34,7 @@ use Rattle.lfm_laws.specs.laws.Releases.{release_ended}
 use Rattle.lfm_laws.specs.laws.Schedules.{is_call}
 use Rattle.lfm_laws.proofs.lawful.bounds.Leaving.{stepped}
 
--- The call of a point; a send stands for those to every target
+-- The call of a point; one send represents the sends to all targets
 
 abbrev pub call_of_pusher : Pusher → Call
 call_of_pusher Pusher.Locker = Lock
@@ -55,7 +55,7 @@ call_of_entrant Entrant.Locker = Lock
 call_of_entrant Entrant.Trier = TryLock
 call_of_entrant Entrant.Receiver = Receive
 
--- outside of a call it says nothing
+-- at a point outside of a call the value has no meaning
 abbrev pub call_at : Point → Call
 call_at Rest = Lock
 call_at (Asleep sleeper) = Lock
@@ -96,7 +96,7 @@ StaysOrEnds call Open p = call_at p ≡ call
 StaysOrEnds call (Ended answer) p = IsAnswerOf call answer × (is_call p ≡ false)
 StaysOrEnds call (Refused why) p = is_call p ≡ false
 
--- the answers that a point keeps for the last step of its call: that of a start_wait, and that of a call that comes to hold
+-- the answer that a point keeps for the last step of its call: of a start_wait, and of a call that comes to hold
 abbrev pub kept_answer : Answer → Option Answer
 kept_answer (Answer.Waiting answer) = Some (Answer.Waiting answer)
 kept_answer (Answer.Asked (Asked.Held how)) = Some (Answer.Asked (Asked.Held how))
@@ -113,7 +113,7 @@ kept_at (WaitWakeStore answer) = Some (Answer.Waiting answer)
 kept_at (EnterOwnerStore entrant how) = Some (held entrant how)
 kept_at _ = None
 
--- the step stays in this call or ends it, answers what its point keeps, and ends no release unless it may
+-- the step stays in this call or ends it, answers what its point keeps, and ends no release unless `may_end` allows it
 pub record StaysInCall (call : Call) (keeps : Option Answer) (may_end : Bool) (m : Stepped) : Type 0 where
   pub follows : StaysOrEnds call m.turn m.seat.point
   pub told : kept_told m.turn ≡ keeps
@@ -138,7 +138,7 @@ goes x call may_end p next = record { follows = next.here; silent = λ e. next.s
 either : (x : SeatState) (call : Call) (may_end b : Bool) (p q : Point) → IsNext call p → IsNext call q → StaysInCall call None may_end (goes_on x (if b then p else q))
 either x call may_end b p q first second = goes x call may_end _ (next_if call b p q first second)
 
--- Points that come next
+-- Next points
 
 next_found_posted : (pusher : Pusher) (found : Handoff) → IsNext (call_of_pusher pusher) (found_posted pusher found)
 next_found_posted Pusher.Locker found = record { here = refl; silent = refl }
@@ -207,7 +207,7 @@ claims_target x t _ = record { follows = refl; silent = λ e. refl; told = refl 
 again : (x : SeatState) → StaysInCall TryLock None false (record { seat = deepens x; turn = Ended (Answer.Locked (Locked.Again (x.depth + 1))) })
 again x = record { follows = (tt, refl); silent = λ e. refl; told = refl }
 
--- The walk
+-- All points
 
 -- a release may end with the step at this point
 abbrev pub may_end_at : Point → Bool

@@ -1,4 +1,4 @@
--- A call stays the call that began, whatever the others do, and ends with an answer of its own.
+-- An open call stays the call that began, whatever the others do, and ends with an answer of its own kind.
 use Rattle.std.proofs.Common.{◌≡◌, ℕ, Bool, true, false, ◌+◌, ◌-◌, ◌&&◌, List, [], ◌∷◌, nat_eq, nat_lt, refl, sym, ap, ◌∙◌, inl, inr, if◌then◌else◌}
 use Rattle.std.proofs.lemmas.Bool.{cases_Bool, cases_eq, false≢true}
 use Rattle.std.specs.Prelude.{⊤}
@@ -61,7 +61,7 @@ pub first_inside : (c : Core) (s : ℕ) (events : List Event) → StaysInCall c 
 first_inside c s [] stays = stays
 first_inside c s (e ∷ later) stays = stays.0
 
--- and so after all events through which it stays open
+-- it is the same after all events through which it stays open
 pub run_stays : (c : Core) (s : ℕ) (events : List Event) → StaysInCall c s events
     → (call_at (seat (run_of c events).seats s).point ≡ call_at (seat c.seats s).point) × (is_call (seat (run_of c events).seats s).point ≡ true)
 run_stays c s [] stays = (refl, stays)
@@ -76,9 +76,9 @@ step_ends c s answer inside turn =
     let told : (stepped c s).turn ≡ Ended answer = sym (turn_made c s) ∙ rw test at turn in
     ends_so _ (stepped c s).turn (stepped c s).seat.point answer told (step_follows c s (seat c.seats s).point refl inside).follows
 
--- Calls that begin
+-- Starts of calls
 
--- sends to every target are one call
+-- one send represents the sends to all targets
 abbrev pub kind_of : Call → Call
 kind_of (SendLock t) = SendLock 0
 kind_of call = call
@@ -141,7 +141,7 @@ begun x bounds call Rest = awake x bounds call
 begun x bounds call (Asleep sleeper) = asleep x sleeper call
 begun x bounds call _ = record { so = tt }
 
--- what the turn of a call that begins says of it
+-- what the turn at the start of a call means for the call
 pub begin_says : (c : Core) (s : ℕ) (call : Call) → BeginsOrEnds call (begin c s call).turn (seat (begin c s call).core.seats s).point
 begin_says c s call =
     let m = Begin.begin (seat c.seats s) (limits c) call in

@@ -1,5 +1,5 @@
--- A send that has claimed a seat and finds the count above 0 pushes the seat's record, once: until then no step of it does
--- anything else, and past the push none leads to another.
+-- A send that has claimed a seat and finds the count above 0 pushes the seat's record once: before the push its steps only lead
+-- there, and after the push no step leads to another push.
 use Rattle.std.proofs.Common.{◌≡◌, ◌≢◌, ◌⊎◌, ⊎_elim, ℕ, Bool, true, false, ◌+◌, ◌<◌, List, [], ◌∷◌, ◌++◌, nat_eq, refl, sym, ap, ◌∙◌, inl, inr, arith}
 use Rattle.std.proofs.lemmas.Bool.{cases_Bool, cases_eq, eq-eqb, ne_eqb, false≢true}
 use Rattle.std.specs.Prelude.{Option, Some, None}
@@ -30,7 +30,7 @@ use Rattle.lfm_laws.proofs.steady.frames.Seated.{test_of_seat}
 
 -- The points of a send from its push on
 
--- a send at this point is to push seat t
+-- a send at this point has yet to push seat t
 data PushesAt (t : ℕ) (p : Point) : Type 0 where
   loads : p ≡ PushLoad (Pusher.Sender t) → PushesAt t p
   stores : (seen : Link) → p ≡ LinkStore (Pusher.Sender t) seen → PushesAt t p
@@ -60,7 +60,7 @@ is_past_push _ = false
 abbrev IsPastPush : Point → Type 0
 IsPastPush p = is_past_push p ≡ true
 
--- Past the push
+-- After the push
 
 past_take : (s : ℕ) (first : Option Record) → IsPastPush (take Carrier.Sender s first)
 past_take s None = refl
@@ -109,7 +109,7 @@ none_more c s (makes t ∷ later) past =
 
 -- The push
 
--- the next step of seat s leaves it to push seat t, or pushes the seat
+-- after the next step, seat s still has to push seat t, or that step pushes t
 data NextStep (c : Core) (s t : ℕ) : Type 0 where
   keeps : PushesAt t (stepped c s).seat.point → pushed_by c s ≡ [] → NextStep c s t
   pushes : (seen : Link) → (seat c.seats s).point ≡ PushExchange (Pusher.Sender t) seen → same_link c.push seen ≡ true → NextStep c s t
@@ -131,7 +131,7 @@ past_after : (c : Core) (s t : ℕ) (seen : Link) → (seat c.seats s).point ≡
     → IsPastPush (stepped c s).seat.point
 past_after c s t seen at same = rw (at, at, same) refl
 
--- its step ends no call
+-- such a step ends no call
 open_step : (c : Core) (s t : ℕ) → PushesAt t (seat c.seats s).point → (stepped c s).turn ≡ Open
 open_step c s t (loads at) = rw (at, at) refl
 open_step c s t (stores seen at) = rw (at, at) refl

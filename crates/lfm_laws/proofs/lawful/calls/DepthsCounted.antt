@@ -1,4 +1,4 @@
--- The depth of a seat counts its holds: it is what the turns of the seat say, and no other seat changes it.
+-- The depth of a seat counts its holds: it changes as the turns of the seat say, and no other seat changes it.
 use Rattle.std.proofs.Common.{◌≡◌, ◌≢◌, ℕ, Bool, true, false, refl, sym, ap, ◌∙◌, inl, inr}
 use Rattle.std.proofs.lemmas.Bool.{cases_Bool, false≢true}
 use Rattle.std.specs.Prelude.{Option, Some}
@@ -27,7 +27,7 @@ use Rattle.lfm_laws.proofs.steady.frames.Entries.{seat-with_same, seat-with_othe
 use Rattle.lfm_laws.proofs.steady.frames.Frames.{place_of_claim}
 use Rattle.lfm_laws.proofs.steady.frames.Seated.{seat_of_test}
 
--- What a turn says, with the owner word
+-- The depth by turn, with the owner word
 
 abbrev has_ended : Turn → Bool
 has_ended (Ended answer) = true
@@ -39,7 +39,7 @@ turned c d s Open owner says = inr (record { owner = owner refl; depth = says })
 turned c d s (Ended answer) owner says = says
 turned c d s (Refused why) owner says = record { owner = owner refl; depth = says }
 
--- The owner word changes with its stores alone
+-- Only its stores change the owner word
 
 abbrev stores_owner : Option Kind → Bool
 stores_owner (Some Kind.OwnerStore) = true
@@ -94,7 +94,7 @@ step_other c t s other =
       | inr none ↦ rw none refl
     ]
 
--- Calls that begin
+-- Starts of calls
 
 begin_turns : (c : Core) (s : ℕ) (call : Call) → TurnsDepth c (begin c s call).core s (begin c s call).turn
 begin_turns c s call =

@@ -1,4 +1,4 @@
--- How many effects the open call of a seat has had at each point, and what a step adds to them: one walk over the points.
+-- How many effects the open call of a seat has had at each point, and what a step adds to them. By cases on the point.
 use Rattle.std.proofs.Common.{◌≡◌, ◌≢◌, ℕ, Bool, true, false, ◌+◌, ◌-◌, ◌&&◌, ◌≤◌, nat_eq, nat_lt, refl, sym, ◌∙◌, inl, inr, arith, if◌then◌else◌}
 use Rattle.std.proofs.lemmas.Bool.{cases_eq, eq-eqb, ne_eqb, false≢true}
 use Rattle.std.specs.Prelude.{Option, Some, None}
@@ -42,7 +42,7 @@ use Rattle.lfm_laws.proofs.lawful.bounds.Leaving.{stepped, seat_of_call}
 use Rattle.lfm_laws.proofs.lawful.calls.RecursiveCalls.{owner_of_claim}
 use Rattle.lfm_laws.proofs.steady.frames.Quiet.{owner_of-held}
 
--- The effects of a call until now
+-- The effects of a call so far
 
 -- how many effects the open call of a seat of this depth has had before the step at this point
 abbrev pub effects_before : ℕ → Point → ℕ
@@ -77,24 +77,24 @@ effects_before-le depth (ReleaseOwnerStore releaser) = omega arith
 effects_before-le depth (ReceiveWakeLoad sleeper) = omega arith
 effects_before-le depth _ = omega arith
 
--- the effect of a call that has one hold more, or one less, of several: its turn tells it
+-- 1 for a turn that answers one hold more, or one hold less of several
 abbrev pub effects_told : Turn → ℕ
 effects_told (Ended (Answer.Asked (Asked.Again n))) = 1
 effects_told (Ended (Answer.Locked (Locked.Again n))) = 1
 effects_told (Ended (Answer.Unlocked (Unlocked.Still n))) = 1
 effects_told _ = 0
 
--- an open call has had as many effects as its point says, and one that is over as many as its turn says
+-- an open call has had as many effects as its point gives, and one that has ended as many as its turn gives
 abbrev pub LeadsToEffects : Turn → SeatState → ℕ → Type 0
 LeadsToEffects Open x n = n ≡ effects_before x.depth x.point
 LeadsToEffects (Ended answer) x n = TurnsEffects (Ended answer) n
 LeadsToEffects (Refused why) x n = TurnsEffects (Refused why) n
 
--- so it is after a step of this case, of a call that has had this number of effects before
+-- the number of effects is right after a step of this case, if the call had this number of effects before
 pub record HasEffects (before : ℕ) (case : Option Case) (m : Stepped) : Type 0 where
   pub leads : LeadsToEffects m.turn m.seat (before + effects_of_case case + effects_told m.turn)
 
--- Steps that branch
+-- Steps with branches
 
 turns_if : (before : ℕ) (case : Option Case) (b : Bool) (m n : Stepped) → HasEffects before case m → HasEffects before case n → HasEffects before case (if b then m else n)
 turns_if before case true m n first second = first
@@ -115,13 +115,13 @@ cases_points_if : (before : ℕ) (x : SeatState) (b : Bool) (k l : Option Case) 
 cases_points_if before x true k l p q first second = first
 cases_points_if before x false k l p q first second = second
 
--- Calls that have had their effect
+-- Calls after their effect
 
--- a case that is no effect
+-- the case is no effect
 abbrev IsNoEffect : Option Case → Type 0
 IsNoEffect case = effects_of_case case ≡ 0
 
--- a point past the effect
+-- a point after the effect
 abbrev IsPastEffect : ℕ → Point → Type 0
 IsPastEffect depth p = effects_before depth p ≡ 1
 
@@ -175,7 +175,7 @@ past_cleared depth (Carrier.Releaser releaser) head =
 past_cleared depth (Carrier.Reclaimer releaser) head = refl
 past_cleared depth Carrier.Sender head = refl
 
--- Calls that have yet to have it
+-- Calls before their effect
 
 asks_if : (x : SeatState) (b : Bool) → b ≡ nat_eq x.depth 0 → HasEffects 0 (if b then Some Runs.ask else None) (goes_on x LockOwnerLoad)
 asks_if x true deep = record { leads = rw (sym deep) refl }
@@ -189,7 +189,7 @@ loads_grant : (x : SeatState) (sleeper : Sleeper) (w : Wake) → HasEffects 0 (t
 loads_grant x sleeper (Wake.Grant stamp) = record { leads = refl }
 loads_grant x sleeper _ = record { leads = refl }
 
--- when it loads the owner word, a lock has asked exactly if its seat does not hold, and exactly then it does not find its
+-- when it loads the owner word, a lock has already asked exactly if its seat does not hold, and then the load does not find its
 -- number
 loads_owner : (c : Core) (g : Ghost) (s : ℕ) → Fits c g → (seat c.seats s).point ≡ LockOwnerLoad
     → HasEffects (effects_before (seat c.seats s).depth LockOwnerLoad) None (stepped c s)
@@ -206,7 +206,7 @@ loads_owner c g s fits at =
           rw (at, at, eq-eqb c.owner s own, ne_eqb (seat c.seats s).depth 0 some) (record { leads = refl })
     ]
 
--- The walk
+-- All points
 
 pub step_effects : (c : Core) (g : Ghost) (s : ℕ) (p : Point) → Fits c g → (seat c.seats s).point ≡ p → is_call p ≡ true
     → HasEffects (effects_before (seat c.seats s).depth p) (case_at c s (seat c.seats s) p) (stepped c s)
@@ -275,9 +275,9 @@ step_effects c g s (EnterOwnerStore entrant how) fits at inside = rw (at, at) (p
 step_effects c g s (ReceiveWakeLoad sleeper) fits at inside = rw (at, at) (loads_grant (seat c.seats s) sleeper (wake c.wakes s))
 step_effects c g s (ReceiveWakeStore stamp) fits at inside = rw (at, at) (record { leads = refl })
 
--- Calls that begin
+-- Starts of calls
 
--- a call that opens has had no effect yet, and one that is over as many as its turn says
+-- a call that opens has had no effect yet, and one that ends at once as many as its turn gives
 refused : (x : SeatState) (refusal : Refusal) → HasEffects 0 None (refuses x refusal)
 refused x refusal = record { leads = refl }
 

@@ -1,4 +1,4 @@
--- The target of a send until it is counted: it is the one with which the send began, whatever the others do in between.
+-- The target of a send stays the one with which the send began until it is counted, whatever the others do in between.
 use Rattle.std.proofs.Common.{◌≡◌, ℕ, Bool, true, false, ◌+◌, ◌&&◌, List, [], ◌∷◌, nat_eq, nat_lt, refl, sym, ap, ◌∙◌, inl, inr}
 use Rattle.std.proofs.lemmas.Bool.{cases_Bool, cases_eq, false≢true}
 use Rattle.std.specs.Prelude.{Option, Some, None}
@@ -41,7 +41,7 @@ target_at _ = None
 
 -- Steps
 
--- no target is at this point
+-- the point has no target
 abbrev HasNoTarget : Point → Type 0
 HasNoTarget p = target_at p ≡ None
 
@@ -117,7 +117,7 @@ claims_same : (x : SeatState) (u t : ℕ) (w : Wake) → target_at (claims x u w
 claims_same x u t Wake.Waiting e = e
 claims_same x u t _ e = absurd (none_some t e)
 
--- a step keeps the target or leads to none
+-- a step keeps the target or leads to a point without one
 step_target : (c : Core) (s t : ℕ) (p : Point) → (seat c.seats s).point ≡ p → is_call p ≡ true → target_at (stepped c s).seat.point ≡ Some t → target_at p ≡ Some t
 step_target c s t (SendWakeExchange u) at inside e = claims_same (seat c.seats s) u t (wake c.wakes u) (rw (at, at) at e)
 step_target c s t p at inside e = absurd (none_some t (sym (no_target c s p at inside refl) ∙ e))
@@ -142,7 +142,7 @@ run_target : (c : Core) (s t : ℕ) (events : List Event) → StaysInCall c s ev
 run_target c s t [] stays e = e
 run_target c s t (first ∷ later) stays e = event_target c first s t stays.0 (run_target (happens c first).core s t later stays.1 e)
 
--- The beginning
+-- The start
 
 opens_send : (x : SeatState) (bounds : Limits) (u : ℕ) (p : Point) → (Begin.begin_at x bounds (SendLock u) p).turn ≡ Open
     → (Begin.begin_at x bounds (SendLock u) p).seat.point ≡ SendWakeExchange u
@@ -184,7 +184,7 @@ begun_for c s u t call sends opens e =
     let to : u ≡ t = cc in
     sends ∙ ap SendLock to
 
--- a call that is at a send to this target has begun as that
+-- a call that is at a send to this target began as a send to it
 pub sends_so : (c : Core) (s t : ℕ) (call : Call) (events : List Event) → (begin c s call).turn ≡ Open → StaysInCall (begin c s call).core s events
     → target_of (run_of (begin c s call).core events) s ≡ Some t → call ≡ SendLock t
 sends_so c s t call events opens stays e =

@@ -1,4 +1,4 @@
--- A call has at most one effect, and when it is over as many as its turn says.
+-- An open call has had at most one effect, and a call that has ended as many as its turn says.
 use Rattle.std.proofs.Common.{◌≡◌, ◌≢◌, ℕ, true, ◌+◌, ◌++◌, List, [], ◌∷◌, nat_eq, refl, sym, ap, inl, inr, arith}
 use Rattle.std.proofs.lemmas.Bool.{cases_Bool, cases_eq, eq-eqb, ne_eqb}
 use Rattle.std.specs.Prelude.{Some, None}
@@ -29,7 +29,7 @@ use Rattle.lfm_laws.proofs.lawful.runs.Reached.{run_keeps}
 use Rattle.lfm_laws.proofs.steady.frames.Entries.{seat-with_same}
 use Rattle.lfm_laws.proofs.steady.frames.Seated.{seat_of_test}
 
--- A change of the depth is an effect exactly if the turn tells one
+-- A change of the depth is an effect exactly if the turn answers it
 
 none_before : (before after : ℕ) → before ≡ 0 → effects_of_depth before after ≡ 0
 none_before before after none = rw (eq-eqb before 0 none) refl
@@ -112,7 +112,7 @@ own_leads c s steady inside =
     let one = own_step_effects c s steady in let told = ap effects_told turn in omega (arith, one, told) in
     rw (sum, turn, own_after c s is) leads
 
--- and what a call that begins leads to
+-- what the start of a call leads to
 begin_leads : (c : Core) (s : ℕ) (call : Call) → Steady c → LeadsToEffects (begin c s call).turn (seat (begin c s call).core.seats s) (effects_of c s (begins s call))
 begin_leads c s call steady =
     let m = Begin.begin (seat c.seats s) (limits c) call in
@@ -176,7 +176,7 @@ begun c s call steady =
     let sum : effects_in c s (begins s call ∷ []) ≡ effects_of c s (begins s call) = omega arith in
     rw sum first
 
--- what a call has had that has begun and is still open after these events
+-- the effects of a call that has begun and is still open after these events
 until : (c : Core) (s : ℕ) (call : Call) (events : List Event) → Steady c → (begin c s call).turn ≡ Open → StaysInCall (begin c s call).core s events
     → effects_in c s (begins s call ∷ events) ≡ had (run_of (begin c s call).core events) s
 until c s call events steady opens stays =

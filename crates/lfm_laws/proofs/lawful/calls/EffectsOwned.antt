@@ -1,4 +1,5 @@
--- Each effect is of a call of the seat that makes it, and the step of the abstract mutex names that seat or the target of its send.
+-- Each effect is part of a call of the seat that makes it, and the step of the abstract mutex names that seat or the target of
+-- its send.
 use Rattle.std.proofs.Common.{◌≡◌, ◌≢◌, ◌⊎◌, ℕ, Bool, true, false, ◌+◌, ◌<◌, ◌∷◌, refl, sym, ap, ◌∙◌, inl, inr, arith, if◌then◌else◌}
 use Rattle.std.proofs.lemmas.Bool.{cases_Bool, cases_eq, eq-eqb, ne_eqb, false≢true}
 use Rattle.std.specs.Prelude.{Option, Some, None}
@@ -43,7 +44,7 @@ use Rattle.lfm_laws.proofs.lawful.runs.AbstractBridge.{events_are_their_cases}
 use Rattle.lfm_laws.proofs.lawful.runs.Reached.{run_keeps}
 use Rattle.lfm_laws.proofs.lawful.states.CountLaws.{count_is_zero_if_free}
 
--- Whose call changes the abstract mutex
+-- The call that changes the abstract mutex
 
 some_case : (case : Case) → None ≡ Some case → ⊥
 some_case case e = cc
@@ -57,7 +58,7 @@ pub changes_are_of_open_calls : ChangesAreOfOpenCalls
 changes_are_of_open_calls c (begins s call) case e = absurd (some_case case e)
 changes_are_of_open_calls c (makes s) case e = (s, (refl, changes_in_call c s (seat c.seats s) (seat c.seats s).point case e))
 
--- Whose call an effect is of
+-- The call of an effect
 
 -- a seat without an open call makes no step
 idles : (c : Core) (s : ℕ) (p : Point) → (seat c.seats s).point ≡ p → is_call p ≡ false → effects_of_case (case_at c s (seat c.seats s) p) + effects_told (step c s).turn ≡ 0
@@ -104,7 +105,7 @@ own_event c s (makes t) steady some =
 pub effects_are_of_calls : EffectsAreOfCalls
 effects_are_of_calls c s e steady some = own_event c s e steady some
 
--- What the readings say of the step between them
+-- What the readings before and after determine of the step between them
 
 carried_so : (d : Core) (b : AbstractMutex) (s : ℕ) (how : Carrying) → Reads d b → carrying_at s (seat d.seats s).point ≡ Some how → b.place ≡ carried s how
 carried_so d b s how reads here = sym (reads.place.only (carried s how) (by_call s how here refl))
@@ -137,7 +138,7 @@ releases : (a b : AbstractMutex) (s : ℕ) (effect : AbstractStep a b) → case_
 releases a b s (Abstract.release x moves) named after = same_leaver x s (sym moves.after ∙ after)
 releases a b s _ named after = absurd (cc)
 
--- the seat that joins those that ask is the one that the acting seat asks for
+-- the seat that starts to ask is the one for which the acting seat asks
 joins_so : (d : Core) (s x y : ℕ) (a b : AbstractMutex) → Reads d a → Reads (step d s).core b → HasNothing a y → Joins a b y
     → asks_for (seat (step d s).core.seats s) s ≡ x → y ≡ x
 joins_so d s x y a b before after nothing joins here =
@@ -204,17 +205,17 @@ no_effect c s x (PushedHandoffExchange pusher seen) other = neither (same_handof
 no_effect c s x (ReleaseHandoffExchange releaser) other = neither (same_handoff c.handoff (record { seat = s; post = x.posts })) _ _ refl refl
 no_effect c s x _ other = refl
 
--- The walk
+-- All points
 
 module _ (d : Core) (s : ℕ) (a b : AbstractMutex) (steady : Steady d) (is : IsSeat d.seats s) (before : Reads d a) (after : Reads (step d s).core b) where
-  -- an ask when nobody has the mutex
+  -- an ask while the mutex is free
   ask_of_free : (x : ℕ) → GoesBy (Some Runs.ask) a b → d.count ≡ 0 → carrying_at s (stepped d s).seat.point ≡ Some (entering x)
       → (effect : AbstractStep a b) × (case_of effect ≡ Runs.ask) × IsAskOf s x effect
   ask_of_free x goes none here =
       let place = carried_so (step d s).core b s (entering x) after (rw (own_after d s is) here) in
       (goes.0, goes.1, asks_free a b s x goes.0 goes.1 ((count_is_zero_if_free d a steady before).0 none) place)
 
-  -- an ask when some seat has it
+  -- an ask while the mutex is not free
   ask_of_others : (x : ℕ) → GoesBy (Some Runs.ask) a b → d.count ≢ 0 → asks_for (stepped d s).seat s ≡ x
       → (effect : AbstractStep a b) × (case_of effect ≡ Runs.ask) × IsAskOf s x effect
   ask_of_others x goes some here =

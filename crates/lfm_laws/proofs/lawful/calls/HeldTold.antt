@@ -27,7 +27,7 @@ use Rattle.lfm_laws.proofs.lawful.refusals.PlainSteps.{turn_made}
 some_none : (a : Answer) → Some a ≡ None → ⊥
 some_none a e = cc
 
--- a turn that keeps no answer tells of no new hold
+-- a turn for which no answer was kept answers no new hold
 unheld : (c d : Core) (s : ℕ) (turn : Turn) → kept_told turn ≡ None → HeldBy c d s turn
 unheld c d s (Ended (Answer.Asked (Asked.Held How.Free))) none = absurd (some_none _ none)
 unheld c d s (Ended (Answer.Asked (Asked.Held (How.Queued stamp)))) none = absurd (some_none _ none)

@@ -1,4 +1,4 @@
--- A seat that is in a call after a schedule has begun it in that schedule.
+-- If a seat is in a call after a schedule, the call began in that schedule.
 use Rattle.std.proofs.Common.{◌≡◌, ◌⊎◌, ℕ, Bool, true, false, ◌+◌, ◌-◌, ◌&&◌, List, [], ◌∷◌, nat_eq, nat_lt, refl, sym, ap, ◌∙◌, inl, inr, if◌then◌else◌}
 use Rattle.std.proofs.lemmas.Bool.{cases_Bool, cases_eq, false≢true}
 use Rattle.std.specs.Prelude.{Option, Some, None}
@@ -31,7 +31,7 @@ use Rattle.lfm_laws.proofs.steady.Start.{same_entry}
 use Rattle.lfm_laws.proofs.steady.frames.Entries.{seat-with_same}
 use Rattle.lfm_laws.proofs.steady.frames.Seated.{seat_of_test}
 
--- A start of a call after which a seat is in a call has opened it
+-- If a seat is in a call after a start of a call, that start has opened it
 
 record OpensInside (m : Stepped) : Type 0 where
   so : is_call m.seat.point ≡ true → m.turn ≡ Open
@@ -156,7 +156,7 @@ shifted c s e later begun =
       stays = begun.stays;
     }
 
--- a seat that is in a call after some events has been so from the first on, or has begun it
+-- a seat that is in a call after some events was in it before the first, or began it in them
 open_since : (c : Core) (s : ℕ) (events : List Event) → is_call (seat (run_of c events).seats s).point ≡ true → StaysInCall c s events ⊎ HasBegun c s events
 open_since c s [] inside = inl inside
 open_since c s (e ∷ later) inside =

@@ -1,4 +1,4 @@
--- What one step does to the queue: the record that it pushes follows it, and the record that it pops was the oldest.
+-- What one step does to the queue: a pushed record is added at its end, and a popped record was the oldest.
 use Rattle.std.proofs.Common.{◌≡◌, ℕ, List, [], ◌∷◌, ◌++◌, length, sym, ap, ◌∙◌, arith}
 use Rattle.std.proofs.lemmas.List.{append-nil, length-append}
 use Rattle.lfm_words.specs.declared.pop_lists.Record.{Record}
@@ -24,7 +24,7 @@ stays before after pushes pops goes none unserved = sym (rw (none, unserved) at 
 pub serves : (before after pushes pops : List Record) (r : Record) → Goes before after pushes pops → pushes ≡ [] → pops ≡ r ∷ [] → before ≡ r ∷ after
 serves before after pushes pops r goes none served = sym (append-nil before) ∙ rw (none, served) at goes
 
--- a step that pops nothing takes no record out of the queue
+-- a step that pops nothing removes no record from the queue
 pub unserved : (before after pushes pops : List Record) (r : Record) → Goes before after pushes pops → pops ≡ [] → before ≡ r ∷ after → ⊥
 unserved before after pushes pops r goes none served =
     let long : length (before ++ (pushes ++ [])) ≡ length after = ap length (rw none at goes) in

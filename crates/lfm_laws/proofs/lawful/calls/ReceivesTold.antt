@@ -83,7 +83,7 @@ receives_at (ReceiveWakeLoad sleeper) inside e = loads sleeper refl
 receives_at (ReceiveWakeStore stamp) inside e = stores stamp refl
 receives_at _ inside e = absurd (cc)
 
--- how a seat at this point will hold, once its receive has loaded a grant
+-- the way in which a seat at this point will hold, if its receive has loaded a grant
 abbrev granted_at : Point → Option How
 granted_at (ReceiveWakeStore stamp) = Some (how_granted stamp)
 granted_at (EnterOwnerStore entrant how) = Some how
@@ -97,7 +97,7 @@ some_none how e = cc
 
 -- A step of the receive
 
--- it loads a grant, keeps it, or ends
+-- the step loads a grant, keeps it, or ends the receive
 data ReceivesAs (c : Core) (s : ℕ) (how : How) : Type 0 where
   keeps : granted c s ≡ Some how → ReceivesAs c s how
   finds : FindsGrant c s how → ReceivesAs c s how
@@ -153,7 +153,7 @@ run_receives c s (f ∷ later) how stays here e =
       | inr loaded ↦ inr (inr loaded)
     ]
 
--- The beginning and the end
+-- The start and the end
 
 receive_opens : (x : SeatState) (bounds : Limits) (p : Point) → (Begin.begin_at x bounds Receive p).turn ≡ Open → granted_at (Begin.begin_at x bounds Receive p).seat.point ≡ None
 receive_opens x bounds Rest opens = absurd (not_open (By Refusal.NotWaiting) opens)

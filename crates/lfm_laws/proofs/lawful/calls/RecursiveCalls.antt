@@ -1,4 +1,5 @@
--- A lock or try_lock of a seat that holds makes exactly the steps that load the owner word, whatever the others do in between.
+-- A lock or try_lock of a seat that holds makes exactly the listed steps, including the load of the owner word, whatever the
+-- others do in between.
 use Rattle.std.proofs.Common.{◌≡◌, ◌≢◌, ℕ, Bool, true, false, List, [], ◌∷◌, refl, sym, ap, ◌∙◌, inl, inr, arith}
 use Rattle.std.proofs.lemmas.Bool.{cases_Bool, cases_eq, cases_lt, eq-eqb, ne_eqb, lt-ltb, le-ltb, false≢true}
 use Rattle.std.specs.Prelude.{Option, Some}
@@ -38,12 +39,12 @@ use Rattle.lfm_laws.proofs.steady.grant.Entering.{nobody_of_none}
 abbrev EndsBy : Core → ℕ → List Event → Type 0
 EndsBy c s events = is_call (seat (run_of c events).seats s).point ≡ false
 
--- from each state in which seat s is x its next step leads to the rest of its steps
+-- from each state in which seat s is x, its next step leads to a state of s whose steps are the rest
 abbrev LeadsTo : ℕ → SeatState → List (Option Kind) → Type 0
 LeadsTo s x rest =
     (d : Core) (later : List Event) → Steady d → seat d.seats s ≡ x → EndsBy (step d s).core s later → kinds_of_call (step d s).core s later ≡ rest
 
--- until then the others leave it as it is
+-- until its next step, the others leave seat s unchanged
 steps_of : (s : ℕ) (x : SeatState) (rest : List (Option Kind)) → is_call x.point ≡ true → LeadsTo s x rest
     → (c : Core) (events : List Event) → Steady c → seat c.seats s ≡ x → EndsBy c s events → kinds_of_call c s events ≡ kind x.point ∷ rest
 steps_of s x rest inside leads c [] steady view ends = absurd (false≢true (sym ends ∙ ap (λ y. is_call y.point) view ∙ inside))
@@ -73,11 +74,11 @@ ended c s (e ∷ later) outside = rw outside refl
 counted : (c : Core) (g : Ghost) (s : ℕ) (again : Bool) → Fits c g → owned s again ≡ held_by g.place s → c.count ≢ 0
 counted c g s again fits claims none = let f : owned s again ≡ nobody = rw (nobody_of_none c g fits none) at claims in cc
 
--- and the owner word is its number
+-- while a seat owns, the owner word has its number
 pub owner_of_claim : (c : Core) (g : Ghost) (s : ℕ) (again : Bool) → Fits c g → owned s again ≡ held_by g.place s → c.owner ≡ s
 owner_of_claim c g s again fits claims = let place = place_of_claim g.place (owned s again) s (λ e. cc) claims in fits.words.owner ∙ rw place refl
 
--- a view whose point is this
+-- the same state of a seat with this point
 abbrev at_point : SeatState → Point → SeatState
 at_point x p = record x { point = p }
 
@@ -140,7 +141,7 @@ tries s x held d later steady view ends =
     steps_of s (at_point x TryOwnerLoad) [] refl (tries_again s x held) (step d s).core later (run_keeps d (makes s ∷ []) steady)
     (after ∙ ap (λ y. at_point y TryOwnerLoad) view) ends
 
--- The beginning
+-- The start
 
 entry_opens : (x : SeatState) (budget : ℕ) (p : Point) → x.depth ≢ 0 → (begin_entry x budget p).turn ≡ Open → (begin_entry x budget p).seat ≡ at_point x p
 entry_opens x budget p held opens =
@@ -161,7 +162,7 @@ try_opens x bounds Rest held opens = entry_opens x bounds.budget TryCountExchang
 try_opens x bounds (Asleep sleeper) held opens = absurd (not_open (By Refusal.Asleep) opens)
 try_opens x bounds _ held opens = absurd (not_open Why.InCall opens)
 
--- a call that opens leads its seat to this view
+-- a call that opens gives its seat this state
 begins_as : (c : Core) (s : ℕ) (call : Call) (y : SeatState)
     → ((Begin.begin (seat c.seats s) (limits c) call).turn ≡ Open → (Begin.begin (seat c.seats s) (limits c) call).seat ≡ y)
     → (begin c s call).turn ≡ Open → seat (begin c s call).core.seats s ≡ y

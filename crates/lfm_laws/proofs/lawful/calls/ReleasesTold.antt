@@ -1,5 +1,5 @@
--- A release ends with the answer that says what its last step did, and the turn of the step that takes a record out of the
--- queue says which record it is.
+-- The answer of a release says what its last step did, and the turn of a step that removes a record from the queue identifies
+-- the record.
 use Rattle.std.proofs.Common.{◌≡◌, ℕ, true, false, ◌<◌, List, [], ◌∷◌, length, refl, sym, ap, ◌∙◌, inl, inr, arith}
 use Rattle.std.proofs.lemmas.Bool.{cases_Bool, cases_eq, eq-eqb, ne_eqb}
 use Rattle.std.specs.Prelude.{Option, Some, None}
@@ -38,7 +38,7 @@ use Rattle.lfm_laws.proofs.steady.frames.Frames.{wake-with_same}
 use Rattle.lfm_laws.proofs.steady.frames.Seated.{seat_of_test, seat_of_queued}
 use Rattle.lfm_laws.proofs.steady.handoff.Handoffs.{same_handoff_false}
 
--- the answer with which a release has ended by this
+-- the answer of a release that ends with this
 abbrev ended : Stepped → Option Unlocked
 ended m = release_ended m.turn m.seat.point
 
@@ -60,7 +60,7 @@ goes_silent x p answer silent e = let f : None ≡ Some answer = sym silent ∙ 
 
 -- The grant
 
--- the oldest record of the queue is that of a seat
+-- the oldest record of the queue belongs to a seat
 oldest_seat : (c : Core) (g : Ghost) (r : Record) (rest : List Record) → Fits c g → queue_of c ≡ r ∷ rest → IsSeat c.seats r.seat
 oldest_seat c g r rest fits queue =
     let some : 0 < length (queue_of c) = rw queue (omega arith) in
@@ -127,7 +127,7 @@ loses c g s releaser answer at fits e =
           })
     ]
 
--- only a release that grants ends with its grant
+-- a grant is the answer only of a release that made it
 grants_by : (c : Core) (s : ℕ) (carrier : Carrier) (r : Record) (answer : Unlocked) (x : SeatState) → Grants c (step c s).core r.seat → ended (granted x carrier r) ≡ Some answer
     → Released c (step c s).core s answer
 grants_by c s Carrier.Locker r answer x grants e = absurd (cc)
@@ -172,7 +172,7 @@ tells_granted x (Carrier.Reclaimer Unlocker) s given r same away = rw same refl
 tells_granted x (Carrier.Reclaimer Waiter) s given r same away = rw same refl
 tells_granted x Carrier.Sender s given r same away = tt
 
--- what the step took out of the queue is the record that left it
+-- the record that the step removes from the queue is the record that left
 taken : (c : Core) (g : Ghost) (s : ℕ) (given r : Record) → Fits c g → pushed_by c s ≡ [] → popped_by c s ≡ given ∷ [] → queue_of c ≡ r ∷ queue_of (step c s).core → given ≡ r
 taken c g s given r fits none served left =
     let queue = serves _ _ (pushed_by c s) (popped_by c s) given (queue_made c g s fits) none served in

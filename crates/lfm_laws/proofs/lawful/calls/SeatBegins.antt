@@ -1,4 +1,4 @@
--- What a call that begins does to the takes and the depth of its seat.
+-- What the start of a call does to the takes and the depth of its seat.
 use Rattle.std.proofs.Common.{◌≡◌, ℕ, Bool, true, false, ◌+◌, ◌&&◌, nat_eq, nat_lt, refl, inl, inr, arith, if◌then◌else◌}
 use Rattle.std.proofs.lemmas.Bool.{cases_eq, eq-eqb, ne_eqb}
 use Rattle.lfm_model.specs.declared.refusals.Refusal.{Refusal}
@@ -17,7 +17,7 @@ use Rattle.lfm_protocol.specs.Turns.{is_open}
 use Rattle.lfm_laws.specs.laws.Charges.{charge_of}
 use Rattle.lfm_laws.proofs.lawful.calls.SeatSteps.{SaysDepth}
 
--- the seat has charged this if its call has opened, and has the depth that its turn says
+-- the seat has charged this if its call opens, and has the depth that its turn gives
 pub record Begun (x : SeatState) (charge : ℕ) (m : Stepped) : Type 0 where
   pub takes : m.seat.takes ≡ x.takes + (if is_open m.turn then charge else 0)
   pub depth : SaysDepth x.depth m.seat.depth m.turn

@@ -1,4 +1,4 @@
--- What the step at each point does to the takes and the depth of its own seat: one walk over the points.
+-- What the step at each point does to the takes and the depth of its own seat. By cases on the point.
 use Rattle.std.proofs.Common.{◌≡◌, ℕ, Bool, true, false, ◌+◌, ◌<◌, nat_eq, refl, sym, ap, ◌∙◌, inl, inr, arith, if◌then◌else◌}
 use Rattle.std.proofs.lemmas.Bool.{cases_eq, eq-eqb, ne_eqb, false≢true}
 use Rattle.std.specs.Prelude.{Option, None}
@@ -33,13 +33,13 @@ use Rattle.lfm_laws.proofs.lawful.bounds.Leaving.{stepped_by, stepped}
 use Rattle.lfm_laws.proofs.steady.frames.Quiet.{owner_of-held}
 use Rattle.lfm_laws.proofs.steady.frames.Seated.{seat_of_point}
 
--- what a turn says of the depth before and after it, but for the owner store of a release
+-- the depth before and after, by the turn, except at the owner store of a release
 abbrev pub SaysDepth : ℕ → ℕ → Turn → Type 0
 SaysDepth before after Open = after ≡ before
 SaysDepth before after (Ended answer) = AnswersDepth before after answer
 SaysDepth before after (Refused why) = after ≡ before
 
--- the seat has its takes but for what is given back, and the depth that its turn says
+-- the seat has its takes less what is given back, and the depth that its turn gives
 pub record Counts (takes depth : ℕ) (m : Stepped) : Type 0 where
   pub paid : m.seat.takes + refund_of m.turn ≡ takes
   pub deep : SaysDepth depth m.seat.depth m.turn
@@ -127,7 +127,7 @@ tries_again c g s fits at =
       | inr other ↦ rw (at, at, ne_eqb c.owner s other) (goes (seat c.seats s) TryHandoffLoad)
     ]
 
--- The walk
+-- All points
 
 -- the point at which a release stores 0 in the owner word
 abbrev pub gives_up_at : Point → Bool

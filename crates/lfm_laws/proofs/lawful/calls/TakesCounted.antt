@@ -1,4 +1,4 @@
--- The takes of a seat change by what calls charge it and Busy gives back.
+-- The takes of a seat change by what its calls charge and what Busy gives back.
 use Rattle.std.proofs.Common.{◌≡◌, ℕ, ◌+◌, [], ◌∷◌, refl, sym, inl, inr, arith}
 use Rattle.std.proofs.lemmas.Bool.{cases_Bool, cases_eq, eq-eqb, ne_eqb}
 use Rattle.lfm_protocol.specs.declared.answers.Call.{Call}
@@ -22,7 +22,7 @@ use Rattle.lfm_laws.proofs.steady.frames.Seated.{seat_of_test}
 abbrev Changes : Core → Event → ℕ → Type 0
 Changes c e s = (seat (happens c e).core.seats s).takes + given_back c e s ≡ (seat c.seats s).takes + charged c e s
 
--- A call that begins
+-- The start of a call
 
 begin_changes : (c : Core) (t s : ℕ) (call : Call) → Changes c (begins t call) s
 begin_changes c t s call =

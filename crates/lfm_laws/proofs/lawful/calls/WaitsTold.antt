@@ -1,4 +1,5 @@
--- A start_wait answers what its own release did: it keeps that answer from the step that released to the store that ends it.
+-- A start_wait answers what its own release did: it keeps the answer from the step that ends the release to the wake store that
+-- ends the call.
 use Rattle.std.proofs.Common.{◌≡◌, ◌≢◌, ◌⊎◌, ℕ, true, List, [], ◌∷◌, refl, sym, ap, ◌∙◌, inl, inr}
 use Rattle.std.proofs.lemmas.Bool.{cases_Bool, cases_eq, cases_lt, eq-eqb, ne_eqb, lt-ltb, le-ltb, false≢true}
 use Rattle.std.specs.Prelude.{Option, Some, None}
@@ -104,7 +105,7 @@ run_keeps_wait c s [] answer at stays = at
 run_keeps_wait c s (e ∷ later) answer at stays =
     run_keeps_wait (happens c e).core s later answer (event_keeps c e s answer at (first_inside (happens c e).core s later stays.1)) stays.1
 
--- a seat comes to that point by its own step, which releases so
+-- a seat reaches that point by its own step, which ends the release with this answer
 comes_by : (c : Core) (e : Event) (s : ℕ) (answer : Unlocked) → Steady c → is_call (seat c.seats s).point ≡ true → kept c s ≡ None
     → (seat (happens c e).core.seats s).point ≡ WaitWakeStore answer → (e ≡ makes s) × Released c (happens c e).core s answer
 comes_by c (begins t call) s answer steady inside none at =
@@ -142,7 +143,7 @@ waits_told c s (e ∷ later) answer steady stays none at =
           inl (comes_by c e s answer steady stays.0 none (here ∙ ap WaitWakeStore same))
     ]
 
--- The beginning and the end
+-- The start and the end
 
 opens_release : (x : SeatState) (bounds : Limits) (p : Point) → (Begin.begin_at x bounds StartWait p).turn ≡ Open → (Begin.begin_at x bounds StartWait p).seat.point ≡ ReleaseOwnerStore Waiter
 opens_release x bounds Rest opens =

@@ -1,4 +1,4 @@
--- Each start of a call keeps a state steady, with the ghost as it is, and so does a step that is refused.
+-- Each start of a call keeps a state steady with the same ghost, and so does a step that is refused.
 use Rattle.std.proofs.Common.{◌≡◌, ◌≢◌, ℕ, true, false, ◌+◌, ◌-◌, ◌<◌, ◌≤◌, length, refl, sym, ◌∙◌, inl, inr, arith}
 use Rattle.std.proofs.lemmas.Bool.{cases_eq, cases_lt, cases_Bool, ne_eqb, eq-eqb, lt-ltb, le-ltb}
 use Rattle.lfm_protocol.specs.declared.answers.Call.{Call}
@@ -43,9 +43,9 @@ at_Asleep c g s sleeper is at fits =
       history = history_stays g g refl refl refl refl;
     })
 
--- A seat that leaves its rest
+-- A resting seat that begins a call
 
--- what the point and the depth at which it goes on have to meet
+-- what the new point and depth must satisfy
 pub record BeginFits (c : Core) (g : Ghost) (s depth depth' takes' posts : ℕ) (p : Point) (w : Wake) : Type 0 where
   pub claims : claim_at depth' s p ≡ by_depth depth s false
   pub woken : wake_at g.place (g.standing s) s p ≡ Quiet
@@ -88,13 +88,13 @@ leaves_rest c g s depth' takes' p is at fits asks sends leaves =
     (record { asks_same = rw at asks; claims_same = rw at sends; posts_same = refl })
     (leaves_own c g s x.depth depth' x.takes takes' x.posts p (wake c.wakes s) (rw at at (fits.each s)) leaves)
 
--- a call that is refused writes its seat back
+-- a refused call writes its seat back unchanged
 stays : (c : Core) (g : Ghost) (s : ℕ) → IsSeat c.seats s → Fits c g → Fits (put c s (seat c.seats s)) g
 stays c g s is fits = view_moves c g s (seat c.seats s) is fits (record { asks_same = refl; claims_same = refl; posts_same = refl }) (fits.each s)
 
 -- Calls of a seat at rest
 
--- what the first point of a call that comes to hold, or deepens the hold, has to meet
+-- what the first point must satisfy in a call that may come to hold or deepen the hold
 abbrev EntersBy : Core → Ghost → ℕ → Point → Type 0
 EntersBy c g s p =
     (depth takes posts : ℕ) (w : Wake) → depth < max_depth → takes ≤ c.budget → posts + 1 ≤ takes → g.pushes s + due_unless_held depth ≤ takes
@@ -108,7 +108,7 @@ try_enters : (c : Core) (g : Ghost) (s : ℕ) → EntersBy c g s TryCountExchang
 try_enters c g s depth takes posts w deep within room pushes =
     record { claims = refl; woken = refl; stands = λ e. e; deep = deep; knows = tt; within = within; post_room = room; push_room = pushes }
 
--- the take of an outermost hold is charged
+-- a take is charged for an outermost hold
 entry_charged : (c : Core) (g : Ghost) (s : ℕ) (p : Point) → IsSeat c.seats s → (seat c.seats s).point ≡ Rest → Fits c g
     → ((depth : ℕ) → asks_for_at depth s p ≡ 0) → claims_for_at p ≡ 0 → EntersBy c g s p → (seat c.seats s).depth ≡ 0 → (seat c.seats s).depth < max_depth
     → Fits (put c s (Begin.charges (seat c.seats s) c.budget p).seat) g
@@ -140,7 +140,7 @@ begin_entry_keeps c g s p is at fits asks sends enters =
       ])
     ]
 
--- the depth is lowered
+-- an unlock that lowers the depth
 unlock_lowers : (c : Core) (g : Ghost) (s : ℕ) → IsSeat c.seats s → (seat c.seats s).point ≡ Rest → Fits c g → (seat c.seats s).depth ≢ 0 → (seat c.seats s).depth ≢ 1
     → Fits (put c s (record (seat c.seats s) { depth = (seat c.seats s).depth - 1 })) g
 unlock_lowers c g s is at fits held deeper =
@@ -184,7 +184,7 @@ begin_unlock_keeps c g s is at fits =
       ])
     ]
 
--- the release of a wait is charged
+-- a take is charged for a wait
 wait_charged : (c : Core) (g : Ghost) (s : ℕ) → IsSeat c.seats s → (seat c.seats s).point ≡ Rest → Fits c g → (seat c.seats s).depth ≡ 1
     → Fits (put c s (Begin.charges (seat c.seats s) c.budget (ReleaseOwnerStore Waiter)).seat) g
 wait_charged c g s is at fits one =
@@ -296,7 +296,7 @@ begin_at_keeps c g s call Rest is at fits = begin_awake_keeps c g s call is at f
 begin_at_keeps c g s call (Asleep sleeper) is at fits = begin_asleep_keeps c g s sleeper call is at fits
 begin_at_keeps c g s call _ is at fits = stays c g s is fits
 
--- each start of a call keeps a state, refused or not
+-- each start of a call keeps a state steady, refused or not
 pub begin_keeps : (c : Core) (g : Ghost) (s : ℕ) (call : Call) → Fits c g → Fits (begin c s call).core g
 begin_keeps c g s call fits =
     elim (cases_Bool (is_seat c.seats s)) [

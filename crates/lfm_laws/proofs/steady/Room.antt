@@ -1,4 +1,4 @@
--- In a steady state each seat's next step has room: its numbers fit their words, and the seats that it touches are there.
+-- In a steady state each seat's next step has room: its numbers fit their words, and the seats that it touches exist.
 use Rattle.std.proofs.Common.{◌≡◌, ℕ, true, false, ◌+◌, ◌*◌, ◌^◌, ◌≤◌, ◌<◌, List, [], ◌∷◌, length, refl, sym, ap, arith}
 use Rattle.std.proofs.lemmas.Bool.{false≢true, eq-eqb, ne_eqb}
 use Rattle.std.proofs.Math.Nat.{mul-le-mul_left}
@@ -43,7 +43,7 @@ pub queued_unit-le : (standing : Standing) → queued_unit standing ≤ 1
 queued_unit-le (queued stamp) = omega arith
 queued_unit-le _ = omega arith
 
--- each push was charged
+-- each push was charged, so pushes are bounded
 pub pushed_fits : (c : Core) (g : Ghost) → Fits c g → g.pushed ≤ max_seats * max_budget
 pushed_fits c g fits =
     let most = sum_bound (length c.seats) c.budget g.pushes (λ s. omega (arith, (fits.each s).pushes, (fits.each s).takes)) in
@@ -56,7 +56,7 @@ asking_fits c g fits =
     let most = sum_bound (length c.seats) 1 (λ s. asking_unit (g.standing s)) (λ s. asking_unit-le (g.standing s)) in
     omega (arith, fits.sums.asking, most)
 
--- no more are queued than there are seats
+-- at most as many records are queued as there are seats
 pub queue_fits : (c : Core) (g : Ghost) → Fits c g → g.pushed ≤ g.popped + length c.seats
 queue_fits c g fits =
     let most = sum_bound (length c.seats) 1 (λ s. queued_unit (g.standing s)) (λ s. queued_unit-le (g.standing s)) in
@@ -138,7 +138,7 @@ abbrev first_or : Record → List Record → Record
 first_or r [] = r
 first_or r (x ∷ rest) = x
 
--- the pop list's first record is one of the queue
+-- the first record of the pop list is one of the queue
 first_seat : (c : Core) (g : Ghost) (oldest : Record) (rest : List Record) → Fits c g → c.popped ≡ oldest ∷ rest → IsSeat c.seats oldest.seat
 first_seat c g oldest rest fits first =
     let one : length c.popped ≡ length (oldest ∷ rest) = ap length first in
@@ -147,7 +147,7 @@ first_seat c g oldest rest fits first =
     let seat_is = ap (λ r. r.seat) same in
     rw seat_is (seat_of_stamp c g (g.popped + g.walk + 1) fits (omega arith) (omega (arith, one, fits.words.parts)))
 
--- the target of a send that brings it in sleeps
+-- the target of a send that brings it in is asleep, so it is a seat
 entered_seat : (c : Core) (g : Ghost) (s t : ℕ) → (seat c.seats s).point ≡ SendWakeStore t → Fits c g → IsSeat c.seats t
 entered_seat c g s t at fits =
     let claim = rw at at (fits.each s).claims in

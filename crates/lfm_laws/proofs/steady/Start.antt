@@ -1,4 +1,4 @@
--- The state at the start is steady: nobody holds the mutex, and every seat stands apart.
+-- The state at the start is steady: no seat holds the mutex, and every seat is apart from the queue.
 use Rattle.std.proofs.Common.{◌≡◌, ℕ, zero, suc, ◌≤◌, true, length, replicate, refl, sym, ◌∙◌, arith, tests}
 use Rattle.std.proofs.lemmas.List.{length-replicate}
 use Rattle.lfm_protocol.specs.declared.limits.Limits.{Limits}
@@ -18,7 +18,7 @@ same_entry d zero (suc s) = refl
 same_entry d (suc n) (suc zero) = refl
 same_entry d (suc n) (suc (suc s)) = same_entry d n (suc s)
 
--- nothing was pushed, popped or answered
+-- the ghost of the start: nothing was pushed, popped or answered
 abbrev pub at_start : Ghost
 at_start =
     record {

@@ -1,4 +1,4 @@
--- The step that a seat makes next keeps a state steady, at whatever point the seat is.
+-- The step that a seat makes next keeps a state steady, by cases on the seat's point.
 use Rattle.std.proofs.Common.{◌≡◌, ℕ, refl}
 use Rattle.lfm_model.specs.declared.answers.How.{How}
 use Rattle.lfm_protocol.specs.declared.points.Entrant.{Entrant}

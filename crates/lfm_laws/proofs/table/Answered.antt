@@ -1,5 +1,5 @@
--- How many seats came to hold by a queued record, as a seat sees it that comes to hold: one fewer than the stamp of its own
--- grant or record, and all that were popped if it holds without one.
+-- How many seats have come to hold by a queued record, from the view of a seat that comes to hold: one fewer than the stamp of
+-- its own grant or record, or as many as were popped if it holds without a record.
 use Rattle.std.proofs.Common.{◌≡◌, ◌≢◌, ℕ, zero, suc, ◌+◌, ◌<◌, List, length, refl, sym, ap, ◌∙◌, arith}
 use Rattle.std.proofs.lemmas.Bool.{ne_eqb}
 use Rattle.std.proofs.lemmas.List.{length-append}
@@ -20,7 +20,7 @@ use Rattle.lfm_laws.proofs.steady.frames.Frames.{place_of_claim}
 use Rattle.lfm_laws.proofs.steady.queue.Popping.{first_of}
 use Rattle.lfm_laws.proofs.steady.grant.Wakings.{place_of_grant, grant_of_load}
 
--- The number goes on by the record of each answer
+-- The number grows by the record of each answer
 
 length-records : (f : ℕ → ℕ) (k n : ℕ) → length (records f k n) ≡ n
 length-records f k zero = refl
@@ -34,7 +34,7 @@ answered_grows g h pushes pops answers goes =
 
 -- By the place
 
--- a stamp that is not 0 is that of the record popped last, whose seat does not yet hold
+-- a stamp other than 0 is that of the record popped last, whose seat does not hold yet
 by_stamp : (stamp answered popped : ℕ) → 0 < stamp → answered + unanswered (granted 0 stamp) ≡ popped → stamp ≡ popped → answered + 1 ≡ stamp
 by_stamp stamp answered popped some answers last =
     let one : unanswered (granted 0 stamp) ≡ 1 = rw (ne_eqb stamp 0 (omega (arith, some))) refl in
@@ -70,7 +70,7 @@ received c g s stamp fits at =
 no_try : (stamp : ℕ) → How.Queued stamp ≢ How.Free
 no_try stamp e = cc
 
--- a seat that comes to hold by a queued record is the next to answer
+-- a seat that comes to hold by a queued record answers next
 pub answered_at_hold : (c : Core) (g : Ghost) (s : ℕ) (entrant : Entrant) (stamp : ℕ) → Fits c g
     → (seat c.seats s).point ≡ EnterOwnerStore entrant (How.Queued stamp) → g.answered + 1 ≡ stamp
 answered_at_hold c g s Entrant.Locker stamp fits at = taken_own c g s stamp fits at
@@ -82,7 +82,7 @@ free_claim s Entrant.Locker = refl
 free_claim s Entrant.Trier = refl
 free_claim s Entrant.Receiver = refl
 
--- a seat that comes to hold without one holds after all that were popped
+-- a seat that comes to hold without a queued record holds after the seats of all popped records
 pub answered_at_free_hold : (c : Core) (g : Ghost) (s : ℕ) (entrant : Entrant) → Fits c g
     → (seat c.seats s).point ≡ EnterOwnerStore entrant How.Free → g.answered ≡ g.popped
 answered_at_free_hold c g s entrant fits at =

@@ -1,4 +1,5 @@
--- In a steady state whose seats have read seat numbers of the lower half, the next step of each seat packs exactly.
+-- In a steady state in which every seat number that a seat has read fits the lower half of a word, the next step of each seat
+-- packs exactly.
 use Rattle.std.proofs.Common.{◌≡◌, ℕ, ◌+◌, ◌-◌, ◌^◌, ◌<◌, ◌≤◌, refl, ap, ◌∙◌, inl, inr, arith}
 use Rattle.std.proofs.lemmas.Bool.{cases_eq, ne_eqb, eq-eqb}
 use Rattle.lfm_protocol.specs.declared.points.Point.{Point}

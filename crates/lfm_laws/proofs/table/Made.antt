@@ -1,4 +1,4 @@
--- What the step that a seat makes next does to the words, the seats, the pop list and the turn, by the number that it finds.
+-- What the next step of a seat does to the words, the seats, the pop list and the turn, by the number that it finds.
 use Rattle.std.proofs.Common.{◌≡◌, ℕ, Option, Some, None, length, set, refl, sym, ap, ◌∙◌}
 use Rattle.std.specs.Prelude.{slice_index}
 use Rattle.lfm_protocol.specs.declared.kinds.Kind.{Kind}
@@ -83,7 +83,7 @@ budget_step_of c s t (Some Kind.WakeExchange) = budget-claims_word c t (wake c.w
 pub budget_of_step : (c : Core) (s : ℕ) → (made c s).core.budget ≡ c.budget
 budget_of_step c s = budget_step_of c s (target (seat c.seats s).point s) (kind (seat c.seats s).point)
 
--- The seats go on with numbers of the lower half
+-- After the step the seat numbers that seats have read still fit the lower half of a word
 pub narrow_of_step : (c : Core) (g : Ghost) (s : ℕ) → IsSeat c.seats s → Fits c g → AreNarrow c.seats → AreNarrow (made c s).core.seats
 narrow_of_step c g s is fits narrow =
     let x = seat c.seats s in

@@ -1,4 +1,4 @@
--- Every start of a call and every step leaves the seat numbers that a seat has read in the lower half of their word.
+-- After every start of a call and every step, the seat numbers that a seat has read fit the lower half of their word.
 use Rattle.std.proofs.Common.{◌≡◌, ℕ, true, false, nat_eq, nat_lt, ◌&&◌, ◌+◌, ◌-◌, ◌%◌, ◌<◌, Bool, Option, Some, None, List, refl, inl, inr, arith, if◌then◌else◌}
 use Rattle.std.proofs.lemmas.Bool.{cases_eq}
 use Rattle.lfm_protocol.specs.declared.answers.Answer.{Answer}
@@ -95,7 +95,7 @@ narrow_claims x t _ = tt
 
 -- Steps
 
--- the seat's hold is deeper by a lock that was tried
+-- a try_lock has deepened the seat's hold
 abbrev again : SeatState → Stepped
 again x = record { seat = deepens x; turn = Ended (Answer.Locked (Locked.Again (x.depth + 1))) }
 
@@ -149,11 +149,11 @@ step_at x s n oldest (EnterOwnerStore entrant how) at narrow = rw at tt
 step_at x s n oldest (ReceiveWakeLoad sleeper) at narrow = rw at (narrow_receives x sleeper (wake_of n))
 step_at x s n oldest (ReceiveWakeStore stamp) at narrow = rw at tt
 
--- whatever number is found
+-- a step of any kind, whatever number it finds
 pub narrow_step : (x : SeatState) (s n : ℕ) (oldest : Option Record) → IsNarrow x.point → IsNarrow (stepped_by x s n oldest).seat.point
 narrow_step x s n oldest narrow = step_at x s n oldest x.point refl narrow
 
--- Begins
+-- Starts of calls
 
 abbrev charged : SeatState → Point → Stepped
 charged x p =

@@ -1,5 +1,5 @@
--- Packing is exact: what is packed into a word in range is what its number says, and a table's compare-and-exchange of packed
--- words succeeds exactly if the seat finds what it expects.
+-- Packing is exact: a number packed from fields in range unpacks to the same fields, and a table's compare-and-exchange of
+-- packed words succeeds exactly if the seat finds what it expects.
 use Rattle.std.proofs.Common.{◌≡◌, ℕ, ◌+◌, ◌-◌, ◌*◌, ◌/◌, ◌%◌, ◌^◌, ◌<◌, nat_eq, refl, ap, ◌∙◌, inl, inr, arith}
 use Rattle.std.specs.Prelude.{bit_and}
 use Rattle.std.proofs.lemmas.Bool.{cases_eq, ne_eqb, eq-eqb}

@@ -1,4 +1,4 @@
--- What stands at the place of a word in the list of words, and what a write of one word makes of the list.
+-- The number at the index of a word in the list of words, and the list after a write of one word.
 use Rattle.std.proofs.Common.{◌≡◌, ℕ, zero, suc, ◌+◌, ◌-◌, ◌<◌, ◌≤◌, ◌∷◌, ◌++◌, length, set, get_or, map, refl, sym, ap, ◌∙◌, arith}
 use Rattle.std.specs.Prelude.{⊤, List, slice_index}
 use Rattle.std.proofs.lemmas.List.{map-set, set-append_left, set-append_right, get_or_append_left, get_or-append_right, get_or-map, length-map}
@@ -13,7 +13,7 @@ use Rattle.lfm_protocol.specs.Seats.{entry, with_entry, link, wake, no_link, IsS
 use Rattle.lfm_laws.specs.steady.Steady.{SizesFit}
 use Rattle.lfm_laws.specs.table.Words.{words, index_of}
 
--- what a word holds, as a number
+-- the content of a word, as a number
 abbrev pub number_of : Core → Word → ℕ
 number_of c Word.Count = c.count
 number_of c Word.Owner = c.owner
@@ -22,7 +22,7 @@ number_of c Word.Push = link_word c.push
 number_of c (Word.Link t) = link_word (link c.links t)
 number_of c (Word.Wake t) = wake_word (wake c.wakes t)
 
--- the seat of the word is there
+-- the seat of the word exists
 abbrev pub HasWord : List SeatState → Word → Type 0
 HasWord seats (Word.Link t) = IsSeat seats t
 HasWord seats (Word.Wake t) = IsSeat seats t
@@ -48,7 +48,7 @@ read_wake c seats (suc n) size above within =
     in
     rw at ((rw here at past) ∙ get_or-map wake_word c.wakes n Quiet 0 (omega (arith, within)))
 
--- the number at the place of a word
+-- the number at the index of a word
 pub read_word : (c : Core) (w : Word) → SizesFit c → HasWord c.seats w → slice_index (words c) (index_of (length c.seats) w) ≡ number_of c w
 read_word c Word.Count sizes has = refl
 read_word c Word.Owner sizes has = refl

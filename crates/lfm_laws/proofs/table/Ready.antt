@@ -1,4 +1,4 @@
--- In a steady state every seat is ready for its next step, and stays so if it becomes another without a step.
+-- In a steady state every seat is ready for its next step, and stays so if it begins calls without a step.
 use Rattle.std.proofs.Common.{◌≡◌, ◌≢◌, ℕ, ◌+◌, ◌^◌, ◌<◌, ◌≤◌, List, ◌∷◌, length, refl, sym, ◌∙◌, arith}
 use Rattle.lfm_protocol.specs.declared.points.Point.{Point}
 use Rattle.lfm_protocol.specs.declared.points.Point.TheVariants.{LinkStore, PushExchange, PushedHandoffExchange, TryHandoffExchange, ReleaseHandoffStore, ReleaseHandoffExchange, GrantWakeStore, SendWakeStore}

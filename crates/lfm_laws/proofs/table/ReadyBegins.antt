@@ -1,4 +1,4 @@
--- A seat that is ready for its next step stays so as calls begin: it needs no more than its own data for that.
+-- A seat that is ready for its next step stays ready when calls begin: this depends only on its own data.
 use Rattle.std.proofs.Common.{◌≡◌, ℕ, true, false, ◌+◌, ◌-◌, ◌<◌, ◌≤◌, ◌&&◌, ltb, nat_lt, nat_eq, Bool, List, [], ◌∷◌, refl, arith, if◌then◌else◌}
 use Rattle.std.proofs.lemmas.Bool.{and_parts, ltb-true}
 use Rattle.lfm_protocol.specs.declared.answers.Answer.TheVariants as Answer
@@ -64,7 +64,7 @@ lowered x =
       turn = Ended (Answer.Unlocked (Unlocked.Still (x.depth - 1)));
     }
 
--- Calls of a seat x of number s
+-- Calls of seat s with state x
 
 module _ (l : Limits) (s : ℕ) (x : SeatState) (above : 0 < s) (within : s ≤ l.seats) (ready : IsReady l.seats s x) where
   at_lock : (takes : ℕ) → IsReady l.seats s (record x { point = LockCountAdd; takes = takes })

@@ -1,4 +1,4 @@
--- A state is kept if a seat has become another without a step, so the start of a call and its first step may be told as one.
+-- A state stays steady if a seat changes without a step, so the start of a call and its first step can be treated as one.
 use Rattle.std.proofs.Common.{◌≡◌, ℕ, zero, suc, true, ◌+◌, List, [], ◌∷◌, length, refl, ap, arith}
 use Rattle.std.proofs.lemmas.Bool.{lt-ltb}
 use Rattle.std.proofs.lemmas.List.{set-set}
@@ -17,12 +17,12 @@ use Rattle.lfm_laws.specs.table.Settles.{begun, Settles}
 use Rattle.lfm_laws.specs.table.Words.{IsNarrow}
 use Rattle.lfm_laws.proofs.table.Narrow.{narrow_begin}
 
--- The chain
+-- The list of starts
 
 pub settles_same : (x : SeatState) (l : Limits) → Settles x l x
 settles_same x l = record { calls = []; leads = refl }
 
--- and then one more call begins
+-- one more call begins
 pub settles_begin : (x : SeatState) (l : Limits) (p : SeatState) (call : Call) → Settles x l p → Settles x l (Begin.begin p l call).seat
 settles_begin x l p call settles =
     record { calls = call ∷ settles.calls; leads = ap (λ p. (Begin.begin p l call).seat) settles.leads }
@@ -44,7 +44,7 @@ is_seat-with seats s t x is =
 pub limits-put : (c : Core) (s : ℕ) (x : SeatState) → limits (put c s x) ≡ limits c
 limits-put c s x = ap (λ n. record { seats = n; budget = c.budget }) (length-with_entry c.seats s x)
 
--- A start of a call, on a state whose seat is x
+-- A start of a call in a state whose seat is x
 
 begin_from : (c : Core) (g : Ghost) (s : ℕ) (x : SeatState) (call : Call) → IsSeat c.seats s → Fits (put c s x) g
     → Fits (put c s (Begin.begin x (limits c) call).seat) g

@@ -1,5 +1,5 @@
--- A seat at rest that holds nothing may be read as one that has spent its budget: so are those that are not yet there, or are
--- there no more.
+-- A resting seat that holds nothing can be read as one that has spent its budget. So can seats that do not exist yet, or no
+-- longer exist.
 use Rattle.std.proofs.Common.{◌≡◌, ℕ, ◌<◌, ◌≤◌, length, refl, sym, ap, ◌∙◌, inl, inr, arith}
 use Rattle.lfm_protocol.specs.declared.points.Point.TheVariants.{Rest}
 use Rattle.lfm_protocol.specs.declared.seats.SeatState.{SeatState}
@@ -37,7 +37,7 @@ spent_own c d g s takes posts w none budget place here =
       watches = λ posts watcher. let f : nobody ≡ posted = sym place ∙ posts in absurd (cc);
     }
 
--- its errands are none, as they were
+-- such a seat has no errands, before or after
 spent_asks : (c : Core) (s : ℕ) → IsSeat c.seats s → (seat c.seats s).point ≡ Rest → (t : ℕ)
     → asks_for (seat (with_entry c.seats s (spent c.budget)) t) t ≡ asks_for (seat c.seats t) t
 spent_asks c s is at t =

@@ -1,4 +1,4 @@
--- A step of any kind is one write of a number, and the seat goes on by the number found.
+-- A step of any kind is one write of a number, and the seat's next state depends on the number found.
 use Rattle.std.proofs.Common.{◌≡◌, ℕ, zero, suc, true, false, ◌+◌, ◌*◌, ◌^◌, ◌<◌, Bool, Option, Some, None, List, ◌∷◌, length, set, nat_eq, refl, sym, ap, ◌∙◌, arith, if◌then◌else◌}
 use Rattle.std.specs.Prelude.{⊤, slice_index}
 use prog.Atomic.{either}
@@ -24,12 +24,12 @@ use Rattle.lfm_laws.specs.table.Words.{words, index_by, written_by, stepped_of, 
 use Rattle.lfm_laws.proofs.table.Packing.{link_packed, handoff_packed, wake_packed, same_link_word, same_handoff_word, added_word, subtracted_word, cleared_word}
 use Rattle.lfm_laws.proofs.table.Reads.{number_of, HasWord, read_word, words-put_link, words-put_wake}
 
--- what a step of this kind finds, t being its target
+-- what a step of this kind finds, with target t
 abbrev pub found_by : Core → ℕ → Option Kind → ℕ
 found_by c t None = c.count
 found_by c t (Some k) = number_of c (word k t)
 
--- the words that a step of this kind touches are there, and what it reads and compares packs exactly
+-- the words that a step of this kind touches exist, and what it reads and compares packs exactly
 abbrev pub Exact : Core → SeatState → ℕ → ℕ → Option Kind → Type 0
 Exact c x s t (Some Kind.CountAdd) = c.count + 1 < 2 ^ 64
 Exact c x s t (Some Kind.CountSubtract) = (0 < c.count) × (c.count + 1 < 2 ^ 64)
@@ -72,7 +72,7 @@ found_here c x s t (Some k) sizes exact = read_word c (word k t) sizes (has_word
 
 -- The words
 
--- a word that is written as it was
+-- a word is written back unchanged
 same_words : (c : Core) (i n : ℕ) → slice_index (words c) i ≡ n → words c ≡ set (words c) i n
 same_words c i n here = sym (ap (λ m. set (words c) i m) (sym here) ∙ set-get_or (words c) i 0)
 
@@ -130,7 +130,7 @@ words_step_of c s t (Some Kind.WakeExchange) sizes exact =
 
 -- The seat
 
--- a seat is written back as it is
+-- a seat is written back unchanged
 same_seat : (seats : List SeatState) (s : ℕ) → seats ≡ with_entry seats s (seat seats s)
 unfolding entry with_entry
 same_seat seats zero = refl
@@ -140,7 +140,7 @@ seats-claims_word : (c : Core) (t : ℕ) (w : Wake) → (claims_word c t w).seat
 seats-claims_word c t Waiting = refl
 seats-claims_word c t _ = refl
 
--- a list of seats with the seat that a method gives, of an unpacked number
+-- the list of seats after a method of seat s, applied to an unpacked number
 abbrev with_method : {A : Type 0} → Core → ℕ → (A → Stepped) → A → List SeatState
 with_method c s method a = with_entry c.seats s (method a).seat
 

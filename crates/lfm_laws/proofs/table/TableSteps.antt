@@ -1,5 +1,5 @@
--- The public law of a step at a table: a seat that has become p without a step, and then makes the step at its point, does to the
--- words, the seats, the pop list, the abstract mutex and the moving value what p and the number that it finds say.
+-- The public law of a step on a table: if a seat has become p without a step and then makes the step at its point, then p and
+-- the number that it finds determine the words, the seats, the pop list, the abstract mutex and the moving value.
 use Rattle.std.proofs.Common.{◌≡◌, ℕ, List, length, set, refl, sym, ap, ◌∙◌}
 use Rattle.std.specs.Prelude.{slice_index}
 use Rattle.lfm_protocol.specs.declared.answers.Turn.{Turn}
@@ -26,17 +26,17 @@ use Rattle.lfm_laws.proofs.table.Ready.{ready_of_fits}
 use Rattle.lfm_laws.proofs.table.Settled.{settles_keeps, settles_narrow, is_seat-with, with_entry-twice}
 use Rattle.lfm_laws.proofs.table.Values.{carried_as_held, tells_value, moves_by}
 
--- the number at the place of the word that a seat of these data touches
+-- the number at the index of the word that a seat with this state touches
 abbrev pub found_at : Core → ℕ → SeatState → ℕ
 found_at c s p = slice_index (words c) (index p (length c.seats) s)
 
--- a function of a seat and of the number of seats has one value for the seat that was put, and for what it was put as
+-- a function of a seat and of the number of seats has the same value for the seat in the changed state and for p
 put_as : {A : Type 0} (c : Core) (s : ℕ) (p : SeatState) (f : SeatState → ℕ → A) → IsSeat c.seats s
     → f (seat (with_entry c.seats s p) s) (length (with_entry c.seats s p)) ≡ f p (length c.seats)
 put_as c s p f is =
     ap (λ x. f x (length (with_entry c.seats s p))) (seat-with_same c.seats s p is) ∙ ap (λ n. f p n) (length-with_entry c.seats s p)
 
--- The step of the state whose seat was put as p
+-- The step from the state in which the seat is p
 
 pub put_words : (c : Core) (g : Ghost) (s : ℕ) (p : SeatState) → IsSeat c.seats s → Fits (put c s p) g → AreNarrow (put c s p).seats
     → words (made (put c s p) s).core ≡ set (words c) (index p (length c.seats) s) (written p s (found_at c s p))
@@ -67,7 +67,7 @@ history_by : (g h : Ghost) (pushes pops : List Record) (s : ℕ) (t u : Turn) �
     → GoesOn g h pushes pops (answered_by s u)
 history_by g h pushes pops s t u same goes = rw (← same) goes
 
--- what a seat carries stays if it becomes another without a step
+-- whether a seat has the value stays the same if it changes without a step
 carried_put : (c : Core) (g : Ghost) (s : ℕ) (p : SeatState) → IsSeat c.seats s → Fits c g → Fits (put c s p) g
     → carries_value (seat c.seats s) ≡ carries_value p
 carried_put c g s p is before fits =

@@ -1,4 +1,5 @@
--- A seat that carries the moving value neither before its step nor after it does not read the pop list: so it need not have it.
+-- A seat that has the moving value neither before nor after its step does not read the pop list, so it does not need to have
+-- it.
 use Rattle.std.proofs.Common.{◌≡◌, ℕ, true, false, Bool, Option, Some, None, nat_eq, refl, sym, ◌∙◌, if◌then◌else◌}
 use Rattle.std.proofs.lemmas.Bool.{false≢true}
 use Rattle.lfm_protocol.specs.declared.points.Carrier.{Carrier}
@@ -30,11 +31,11 @@ carries_by : (b : Bool) (p : Point) → carries p ≡ true → (if b then carrie
 carries_by true p e = e
 carries_by false p e = refl
 
--- a seat at a point that carries
+-- a seat at a point that carries has the value
 carries_at : (depth : ℕ) (p : Point) → carries p ≡ true → (if nat_eq depth 0 then carries p else true) ≡ true
 carries_at depth p e = carries_by (nat_eq depth 0) p e
 
--- what is gained with the list is left out
+-- a branch that gains the pop list is not the one taken
 not_taken : (b : Bool) (x : SeatState) (p q : Point) (fails : Stepped) → carries p ≡ true → carries_value (if b then goes_on x p else fails).seat ≡ false
     → (if b then goes_on x p else fails) ≡ (if b then goes_on x q else fails)
 not_taken true x p q fails taken none = absurd (false≢true (sym none ∙ carries_at x.depth p taken))

@@ -1,4 +1,4 @@
--- In a steady state the moving value is out with the one seat that carries it, or at home, and what a step does with it.
+-- In a steady state the moving value is with the one seat that carries it or in its slot; and what a step does with it.
 use Rattle.std.proofs.Common.{◌≡◌, ◌≢◌, ℕ, true, false, Bool, Option, Some, None, List, nat_eq, refl, sym, ap, ◌∙◌, inl, inr, arith, if◌then◌else◌}
 use Rattle.std.proofs.lemmas.Bool.{cases_eq, ne_eqb, eq-eqb, false≢true}
 use Rattle.lfm_protocol.specs.declared.points.Entrant.{Entrant}
@@ -24,7 +24,7 @@ abbrev pub is_claim : Responsibility → Bool
 is_claim nobody = false
 is_claim _ = true
 
--- the value is out with a seat of this depth at this point
+-- a seat of this depth at this point has the value
 abbrev carries_at : ℕ → Point → Bool
 carries_at depth p = if nat_eq depth 0 then carries p else true
 
@@ -114,7 +114,7 @@ held_of_out (accepting t) s e = held_here t s (accepting t) refl (some_same t s 
 held_of_out (leaving t) s e = held_here t s (leaving t) refl (some_same t s e)
 held_of_out (serving t) s e = held_here t s (serving t) refl (some_same t s e)
 
--- a seat carries the value exactly if the place gives it the responsibility
+-- a seat has the value exactly if the place gives it the responsibility
 pub carried_as_held : (c : Core) (g : Ghost) (s : ℕ) → Fits c g → carries_value (seat c.seats s) ≡ is_claim (held_by g.place s)
 carried_as_held c g s fits =
     let x = seat c.seats s in
@@ -128,7 +128,7 @@ tells_value c g fits =
       carried = λ s e. carried_as_held c g s fits ∙ held_of_out g.place s e;
     }
 
--- at most one seat carries it
+-- at most one seat has it
 pub carried_alone : (seats : List SeatState) (place : AbstractPlace) (s t : ℕ) → TellsValue seats place
     → carries_value (seat seats s) ≡ true → carries_value (seat seats t) ≡ true → s ≡ t
 carried_alone seats place s t tells here there = some_same s t (sym (tells.out s here) ∙ tells.out t there)
@@ -141,21 +141,21 @@ false_of : (b : Bool) → b ≢ true → b ≡ false
 false_of true e = absurd (e refl)
 false_of false e = refl
 
--- if it is at home, no seat carries it
+-- if it is in its slot, no seat has it
 pub carried_by_none : (seats : List SeatState) (place : AbstractPlace) → TellsValue seats place → out_with place ≡ None
     → (s : ℕ) → carries_value (seat seats s) ≡ false
 carried_by_none seats place tells home s =
     false_of (carries_value (seat seats s)) (λ e. let f : None ≡ Some s = sym home ∙ tells.out s e in absurd (cc))
 
--- and if no seat does, it is at home
+-- if no seat has it, it is in its slot
 pub home_of_none : (seats : List SeatState) (place : AbstractPlace) → TellsValue seats place → ((s : ℕ) → carries_value (seat seats s) ≡ false)
     → out_with place ≡ None
 home_of_none seats place tells none =
     none_or_some (out_with place) (λ s e. false≢true (sym (none s) ∙ tells.carried s e))
 
--- Its move by a step of seat s, after which it is y
+-- Its move by a step of seat s, which then has state y
 
--- if a seat carries it, no other does
+-- if one seat has it, no other seat does
 others_none : (seats : List SeatState) (place : AbstractPlace) (s t : ℕ) → TellsValue seats place → carries_value (seat seats s) ≡ true → t ≢ s
     → carries_value (seat seats t) ≡ false
 others_none seats place s t tells here other =

@@ -189,8 +189,8 @@ loads_grant : (x : SeatState) (sleeper : Sleeper) (w : Wake) → HasEffects 0 (t
 loads_grant x sleeper (Wake.Grant stamp) = record { leads = refl }
 loads_grant x sleeper _ = record { leads = refl }
 
--- when it loads the owner word, a lock has already asked exactly if its seat does not hold, and then the load does not find its
--- number
+-- when it loads the owner word, a lock has already asked exactly if its seat does not hold; exactly in that case the load does
+-- not find its number
 loads_owner : (c : Core) (g : Ghost) (s : ℕ) → Fits c g → (seat c.seats s).point ≡ LockOwnerLoad
     → HasEffects (effects_before (seat c.seats s).depth LockOwnerLoad) None (stepped c s)
 loads_owner c g s fits at =

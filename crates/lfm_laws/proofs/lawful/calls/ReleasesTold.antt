@@ -127,7 +127,7 @@ loses c g s releaser answer at fits e =
           })
     ]
 
--- a grant is the answer only of a release that made it
+-- among the carriers that grant, only a releaser ends a release, and it answers that grant
 grants_by : (c : Core) (s : ℕ) (carrier : Carrier) (r : Record) (answer : Unlocked) (x : SeatState) → Grants c (step c s).core r.seat → ended (granted x carrier r) ≡ Some answer
     → Released c (step c s).core s answer
 grants_by c s Carrier.Locker r answer x grants e = absurd (cc)

@@ -1,4 +1,4 @@
--- A state has a call that asks for a seat exactly if the seat stands asking.
+-- A state has a call that asks for a seat exactly if the seat's standing is asking.
 use Rattle.std.proofs.Common.{◌≡◌, ℕ, zero, suc, true, ◌<◌, refl, sym, ap, arith}
 use Rattle.std.proofs.lemmas.Bool.{false≢true, ne_eqb}
 use Rattle.lfm_protocol.specs.declared.points.Point.{Point}

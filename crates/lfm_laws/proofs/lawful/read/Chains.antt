@@ -1,5 +1,5 @@
--- The records that hang on a seat: if the link of each record of a part of the queue leads to the record before it, the chain
--- from the newest one on is that part, newest first.
+-- The records linked from a seat: if in a part of the queue the link of each record leads to the record before it, then the
+-- chain from the newest record is that part, newest first.
 use Rattle.std.proofs.Common.{◌≡◌, ℕ, zero, suc, true, ◌+◌, ◌-◌, ◌<◌, ◌≤◌, List, [], ◌∷◌, length, reverse, refl, ap, ◌∙◌, arith}
 use Rattle.std.proofs.lemmas.Bool.{and_from, lt-ltb, eq-eqb, ne_eqb}
 use Rattle.std.proofs.lemmas.List.{reverse-append}
@@ -10,25 +10,25 @@ use Rattle.lfm_protocol.specs.Seats.{link}
 use Rattle.lfm_laws.specs.steady.Steady.{before, newest}
 use Rattle.lfm_laws.proofs.steady.frames.Histories.{records_snoc}
 
--- the record with this stamp is that of a seat, whose link leads to the record before it in a part that begins above `first`
+-- the record with this stamp belongs to a seat, whose link leads to the record before it in a part that begins after `first`
 pub record Leads (links : List Link) (pushed_at : ℕ → ℕ) (first stamp : ℕ) : Type 0 where
   pub above : 0 < pushed_at stamp
   pub within : pushed_at stamp ≤ length links
   pub link_is : link links (pushed_at stamp) ≡ record { stamp = stamp; next = before pushed_at first stamp }
 
--- nothing hangs on 0
+-- the chain from 0 is empty
 chain_none : (most : ℕ) (links : List Link) → chain_of most links 0 ≡ []
 chain_none zero links = refl
 chain_none (suc most) links = refl
 
--- what hangs on a seat is its own record, and what hangs on the seat that its link names
+-- the chain from a seat is its own record and then the chain from the seat that its link names
 chain_one : (most : ℕ) (links : List Link) (t : ℕ) (l : Link) → 0 < t → t ≤ length links → link links t ≡ l
     → chain_of (suc most) links t ≡ record { seat = t; stamp = l.stamp } ∷ chain_of most links l.next
 chain_one most links t l above within here =
     let linked : is_linked links t ≡ true = and_from _ _ (lt-ltb 0 t above) (lt-ltb t (length links + 1) (omega (arith, within))) in
     rw (linked, here) refl
 
--- the newest of n + 1 records, and the one before it
+-- for n + 1 records, the newest one and the one before it
 newest_more : (first n : ℕ) (pushed_at : ℕ → ℕ) → newest first (first + suc n) pushed_at ≡ pushed_at (first + suc n)
 newest_more first n pushed_at = rw (ne_eqb first (first + suc n) (λ e. absurd (omega (arith, e)))) refl
 
@@ -39,7 +39,7 @@ before_newest first (suc n) pushed_at =
     let less : first + suc (suc n) - 1 ≡ first + suc n = omega arith in
     rw (ne_eqb (first + suc (suc n)) (first + 1) (λ e. absurd (omega (arith, e))), ne_eqb first (first + suc n) (λ e. absurd (omega (arith, e))), less) refl
 
--- one more record in front of the reversed ones
+-- the reversed records with one more record in front
 reverse_more : (pushed_at : ℕ → ℕ) (first n : ℕ) → reverse (records pushed_at first (suc n)) ≡ record { seat = pushed_at (first + suc n); stamp = first + suc n } ∷ reverse (records pushed_at first n)
 reverse_more pushed_at first n =
     let more : suc n ≡ n + 1 = omega arith in

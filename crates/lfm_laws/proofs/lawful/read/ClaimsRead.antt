@@ -1,4 +1,4 @@
--- Each claim of a state is the abstract place of its ghost, and each place but free is claimed.
+-- Each claim of a state is the abstract place of its ghost, and each place except free is claimed.
 use Rattle.std.proofs.Common.{◌≡◌, ◌≢◌, ℕ, zero, suc, Bool, true, false, cond, eqb, ◌<◌, Option, Some, None, List, refl, sym, ap, ◌∙◌, inl, inr, arith}
 use Rattle.std.proofs.lemmas.Bool.{cases_eq, cond-true, false≢true, eq-eqb, ne_eqb}
 use Rattle.lfm_model.specs.Abstract.{AbstractPlace, Carrying, free, owner, passed, carried}
@@ -76,7 +76,7 @@ claim_deep depth s _ e fits = absurd (false≢true e)
 
 -- Calls
 
--- the place is carried by seat s if it carries, and otherwise this one
+-- the place is carried by seat s if the point carries, and otherwise it is the given one
 abbrev carried_or : ℕ → Option Carrying → AbstractPlace → AbstractPlace
 carried_or s None p = p
 carried_or s (Some how) p = carried s how
@@ -99,7 +99,7 @@ claim_carries depth s _ = refl
 call_carries : (depth s : ℕ) (p : Point) (how : Carrying) → carrying_at s p ≡ Some how → abstract_place (claim_at depth s p) ≡ carried s how
 call_carries depth s p how carries = claim_carries depth s p ∙ ap (λ o. carried_or s o (abstract_place (claim_at depth s p))) carries
 
--- what a place carries
+-- what the carrier at a place does
 abbrev carrying_of : AbstractPlace → Option Carrying
 carrying_of (carried s how) = Some how
 carrying_of _ = None
@@ -136,7 +136,7 @@ waiter_ungranted : (unentered : Bool) (stamp : ℕ) → cond unentered Waiting C
 waiter_ungranted true stamp e = cc
 waiter_ungranted false stamp e = cc
 
--- a seat that has not loaded its grant reads one only if it is granted
+-- the wake word of a seat that has not loaded a grant holds one only if the seat is granted
 wake_ungranted : (place : Responsibility) (standing : Standing) (t stamp : ℕ) (p : Point) → has_loaded p ≡ false → wake_at place standing t p ≢ Grant stamp
 wake_ungranted place standing t stamp (ReceiveWakeStore other) unloaded e = false≢true (sym unloaded)
 wake_ungranted place standing t stamp (Asleep Sleeper.Waiter) unloaded e = waiter_ungranted _ stamp e
@@ -168,7 +168,7 @@ place_of_handoff seats _ n fits above = let none : n.seat ≡ 0 = ap (λ h. h.se
 
 -- The one place
 
--- the place is what a seat claims, unless it claims nothing
+-- the place is what a seat claims, if it claims anything
 place_claimed : (c : Core) (g : Ghost) (s : ℕ) (p : AbstractPlace) → Fits c g → abstract_place (claim_at (seat c.seats s).depth s (seat c.seats s).point) ≡ p → p ≢ free → abstract_place g.place ≡ p
 place_claimed c g s p fits claims some =
     let place = place_of_claim g.place _ s (λ none. some (sym claims ∙ ap abstract_place none)) (fits.each s).claims in
@@ -193,7 +193,7 @@ claims_place c g fits q (by_call s how carries here) =
 pub held_self : (s : ℕ) (p : Responsibility) → cond (eqb s s) p nobody ≡ p
 held_self s p = cond-true (eqb s s) p nobody (eq-eqb s s refl)
 
--- the seat that the place lies with claims it
+-- the seat at which the place is claims it
 pub self_claims : (c : Core) (g : Ghost) (s : ℕ) (place : Responsibility) → Fits c g → g.place ≡ place → held_by place s ≡ place
     → claim_at (seat c.seats s).depth s (seat c.seats s).point ≡ place
 self_claims c g s place fits here held = (fits.each s).claims ∙ ap (λ p. held_by p s) here ∙ held

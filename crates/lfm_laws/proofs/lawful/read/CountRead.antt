@@ -1,4 +1,4 @@
--- The count word is the sum of the seats that ask, of the queue and of the units that the place has.
+-- The count word is the sum of the seats that ask, the length of the queue, and the units that belong to the place.
 use Rattle.std.proofs.Common.{◌≡◌, ℕ, zero, suc, Bool, true, false, cond, ◌+◌, ◌-◌, ◌<◌, ◌≤◌, length, refl, ap, ◌∙◌, arith}
 use Rattle.std.proofs.lemmas.Bool.{ne_eqb}
 use Rattle.std.proofs.lemmas.List.{length-map}
@@ -21,7 +21,7 @@ use Rattle.lfm_laws.proofs.lawful.read.RecordsRead.{length-records}
 
 -- the units of a place, by the point of its seat
 
--- the unit that a call which enters has, 2 if none does
+-- the unit of a call that enters, 2 if no call enters
 abbrev entering_unit : Responsibility → ℕ
 entering_unit (entering s into stamp) = 1
 entering_unit (accepting s) = 0
@@ -31,7 +31,7 @@ owner_enters : (depth s : ℕ) (again : Bool) → 1 < entering_unit (by_depth de
 owner_enters zero s again = omega arith
 owner_enters (suc depth) s again = rw (ne_eqb (suc depth) 0 (omega arith)) (omega arith)
 
--- an entering call whose unit is not yet counted stands at one point
+-- an entering call without its unit of the count is at one point
 entering_at : (depth s : ℕ) (p : Point) → entering_unit (claim_at depth s p) ≤ 1 → unit_of_entering p ≡ entering_unit (claim_at depth s p)
 entering_at depth s Rest enters = absurd (omega (arith, enters, owner_enters depth s false))
 entering_at depth s LockCountAdd enters = absurd (omega (arith, enters, owner_enters depth s false))
@@ -57,12 +57,12 @@ entering_at depth s (SendWakeStore t) enters = refl
 entering_at depth s (ReceiveWakeStore stamp) enters = refl
 entering_at depth s _ enters = absurd (omega (arith, enters))
 
--- the unit of a recursive lock that an owner has, 2 if none owns
+-- the unit of an owner's recursive lock, 2 if no seat owns
 abbrev recursion_unit : Responsibility → ℕ
 recursion_unit (owned s again) = cond again 1 0
 recursion_unit _ = 2
 
--- an owner at any point but two is in no recursive lock
+-- an owner at any point except two is in no recursive lock
 plain_owner : (depth s : ℕ) → recursion_unit (by_depth depth s false) ≤ 1 → 0 ≡ recursion_unit (by_depth depth s false)
 plain_owner zero s owns = absurd (omega (arith, owns))
 plain_owner (suc depth) s owns = rw (ne_eqb (suc depth) 0 (omega arith)) refl
@@ -118,7 +118,7 @@ again_read c g (owned s again) fits here =
     recursion_at (seat c.seats s).depth s (seat c.seats s).point (omega (arith, unit, recursion_unit-le s again)) ∙ unit
 again_read c g _ fits here = refl
 
--- as many wait as were pushed and not popped
+-- as many seats wait as records were pushed and not popped
 waiting_read : (g : Ghost) → length (abstract g).waiting ≡ g.pushed - g.popped
 waiting_read g = length-map (queue_of_ghost g) (λ (r : Record). r.seat) ∙ length-records g.pushed_at g.popped (g.pushed - g.popped)
 
@@ -126,7 +126,7 @@ pub counted_read : (c : Core) (g : Ghost) → Fits c g → IsCounted c (abstract
 counted_read c g fits =
     omega (arith, fits.words.count, fits.words.parts, fits.sums.asking, waiting_read g, own_read c g g.place fits refl, again_read c g g.place fits refl)
 
--- the count is 0 exactly if nobody has the responsibility
+-- the count is 0 exactly if no seat or call has the responsibility
 
 zero_free : (place : Responsibility) (count asking pushed popped : ℕ) → count + popped ≡ asking + pushed + own_unit place + again_unit place → WorkFits place asking pushed popped
     → popped ≤ pushed → count ≡ 0 → abstract_place place ≡ free

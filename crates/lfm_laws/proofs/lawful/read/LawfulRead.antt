@@ -1,4 +1,4 @@
--- A state that a ghost fits is lawful, as the ghost's abstract mutex.
+-- A state that a ghost fits is lawful, with the ghost's abstract mutex as its reading.
 use Rattle.std.proofs.Common.{◌≡◌, ◌≢◌, ◌⊎◌, ℕ, zero, suc, ◌<◌, Bool, true, false, Option, Some, None, List, refl, sym, ap, ◌∙◌, inl, inr, arith}
 use Rattle.std.proofs.lemmas.Bool.{cases_Bool, eqb-true, eq-eqb, ne_eqb}
 use Rattle.lfm_model.specs.declared.answers.How.{How}
@@ -24,7 +24,7 @@ use Rattle.lfm_laws.proofs.steady.frames.Seated.{seat_of_standing}
 use Rattle.lfm_laws.proofs.lawful.read.WatchedRead.{watched_read}
 use Rattle.lfm_laws.proofs.lawful.read.CountRead.{counted_read}
 
--- each number that was read was posted
+-- each handoff number that was read was posted
 numbers_known : (c : Core) (g : Ghost) (s posts : ℕ) (p : Point) → KnowsAt c g s posts p → ReadBefore c.seats p
 numbers_known c g s posts (SendPushRecheck t seen) knows = knows.before
 numbers_known c g s posts (PushedHandoffExchange pusher seen) knows = knows.0.before
@@ -33,7 +33,7 @@ numbers_known c g s posts _ knows = tt
 
 -- Wake words
 
--- no grant, WAITING and CLAIMED are those of a sleeper by start_wait
+-- a word that is WAITING or CLAIMED is no grant, so its seat sleeps since a start_wait
 ungranted : (grant : Option ℕ) (place : Responsibility) (standing : Standing) (s : ℕ) (p : Point) (w : Wake)
     → (w ≡ Waiting) ⊎ (w ≡ Claimed) → w ≡ wake_by grant place standing s p → w ≡ wake_at place standing s p
 ungranted (Some stamp) place standing s p w (inl is) e = cc
@@ -54,7 +54,7 @@ sleeps_of c g t fits is =
     waiter_of g.place (g.standing t) t p (wake c.wakes t) is
     (ungranted (grant_at g.place t) g.place (g.standing t) t p (wake c.wakes t) is (fits.each t).woken)
 
--- a depth brings nobody in
+-- a seat that owns by its depth brings in no seat
 depth_enters : (depth s t z stamp : ℕ) (again : Bool) → by_depth depth s again ≢ entering z t stamp
 depth_enters zero s t z stamp again e = cc
 depth_enters (suc n) s t z stamp again e = let owns : owned s again ≡ entering z t stamp = rw (ne_eqb (suc n) 0 (λ none. omega arith)) at e in cc
@@ -63,14 +63,14 @@ pusher_enters : (depth s t z stamp : ℕ) (pusher : Pusher) → claim_of_pusher 
 pusher_enters depth s t z stamp Pusher.Locker e = cc
 pusher_enters depth s t z stamp (Pusher.Sender u) e = depth_enters depth s t z stamp false e
 
--- by its own owner store a seat brings in itself
+-- with its own owner store a seat brings in itself
 entrant_enters : (s t z stamp : ℕ) (entrant : Entrant) (how : How) → claim_to_enter s entrant how ≡ entering z t stamp → s ≡ t
 entrant_enters s t z stamp Entrant.Locker How.Free e = cc
 entrant_enters s t z stamp Entrant.Locker (How.Queued x) e = cc
 entrant_enters s t z stamp Entrant.Trier how e = cc
 entrant_enters s t z stamp Entrant.Receiver how e = cc
 
--- a seat that brings in another is at the store of its grant
+-- a seat that brings in another is at the wake store of its grant
 enters_another : (depth s t z stamp : ℕ) (p : Point) → s ≢ t → claim_at depth s p ≡ entering z t stamp → p ≡ SendWakeStore t
 enters_another depth s t z stamp (SendWakeStore u) other e = let same : u ≡ t = cc in rw same
 enters_another depth s t z stamp (EnterOwnerStore entrant how) other e = absurd (other (entrant_enters s t z stamp entrant how e))
@@ -88,18 +88,18 @@ enters_another depth s t z stamp (PushExchange pusher seen) other e = absurd (pu
 enters_another depth s t z stamp (PushedHandoffLoad pusher) other e = absurd (pusher_enters depth s t z stamp pusher e)
 enters_another depth s t z stamp _ other e = absurd (cc)
 
--- a sleeper brings nobody in
+-- a sleeping seat brings in no seat
 sleeper_claims : (depth s : ℕ) (p : Point) → SleepsAsWaiter p → claim_at depth s p ≡ nobody
 sleeper_claims depth s (Asleep Sleeper.Waiter) sleeps = refl
 sleeper_claims depth s (ReceiveWakeLoad Sleeper.Waiter) sleeps = refl
 sleeper_claims depth s _ sleeps = absurd sleeps
 
--- the place at which a seat is brought in
+-- if a seat is being brought in, the place is entering
 entering_of : (p : Responsibility) (t : ℕ) → is_entered p t ≡ true → (z : ℕ) × (stamp : ℕ) × (p ≡ entering z t stamp)
 entering_of (entering z into stamp) t entered = let same : into ≡ t = eqb-true into t entered in (z, stamp, rw same)
 entering_of _ t entered = absurd (cc)
 
--- a sleeper that is being brought in has its sender
+-- a sleeping waiter that is being brought in has a sender that does so
 brought_in_by : (c : Core) (g : Ghost) (t z stamp : ℕ) → Fits c g → SleepsAsWaiter (seat c.seats t).point → g.place ≡ entering z t stamp → IsBroughtIn c t
 brought_in_by c g t z stamp fits sleeps place =
     let claims : claim (seat c.seats z) z ≡ entering z t stamp = (fits.each z).claims ∙ rw (place, eq-eqb z z refl) refl in
@@ -112,7 +112,7 @@ brought_in_by c g t z stamp fits sleeps place =
 brought_in : (c : Core) (g : Ghost) (t : ℕ) → Fits c g → SleepsAsWaiter (seat c.seats t).point → is_entered g.place t ≡ true → IsBroughtIn c t
 brought_in c g t fits sleeps entered = let by = entering_of g.place t entered in brought_in_by c g t by.0 by.1 fits sleeps by.2
 
--- CLAIMED is not the word of a waiter that stands apart and that nobody brings in
+-- if the word of a waiter that is apart is CLAIMED, a call is bringing the waiter in
 entered_if_apart : (p : Responsibility) (t : ℕ) → wake_of_waiter p apart t ≡ Claimed → is_entered p t ≡ true
 entered_if_apart p t e =
     elim (cases_Bool (is_entered p t)) [
@@ -120,7 +120,7 @@ entered_if_apart p t e =
       | inr away ↦ let word : wake_of_waiter p apart t ≡ Waiting = rw away in absurd (cc)
     ]
 
--- a seat whose wake word is CLAIMED stands between a send's claim and its grant
+-- a seat whose wake word is CLAIMED is between a send's claim and its grant
 sent_of : (c : Core) (g : Ghost) (t : ℕ) (standing : Standing) → Fits c g → g.standing t ≡ standing → SleepsAsWaiter (seat c.seats t).point
     → wake_of_waiter g.place standing t ≡ Claimed → IsSent c t
 sent_of c g t apart fits stands sleeps word = inr (inr (inr (brought_in c g t fits sleeps (entered_if_apart g.place t word))))
@@ -132,7 +132,7 @@ sent_of c g t (asks z) fits stands sleeps word =
     inr (inl (record { agent = z; some = is.above; counts = (fits.agents t).asked z stands }))
 sent_of c g t (queued stamp) fits stands sleeps word = inr (inr (inl (waits_told c g fits t (rw stands))))
 
--- a grant that is loaded is that of a receive, and one that isn't is that of a seat that will load it
+-- the grant in a wake word either was loaded by a receive, or is that of a seat that will load it
 wake_granted : (place : Responsibility) (standing : Standing) (s stamp : ℕ) (p : Point) → wake_at place standing s p ≡ Grant stamp → LoadsItsGrant p
 wake_granted place standing s stamp (ReceiveWakeStore x) e = tt
 wake_granted place standing s stamp (Asleep sleeper) e = tt

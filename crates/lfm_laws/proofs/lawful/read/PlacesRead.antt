@@ -1,4 +1,4 @@
--- The place that a state tells from its words and points is that of its ghost.
+-- The place that a state shows by its words and points is that of its ghost.
 use Rattle.std.proofs.Common.{◌≡◌, ◌≢◌, ℕ, suc, Bool, true, false, ◌+◌, ◌-◌, ◌<◌, Some, None, List, length, get_or, position, refl, sym, ap, ◌∙◌, inl, inr, arith}
 use Rattle.std.proofs.lemmas.Bool.{cases_Bool, false≢true, eq-eqb, ne_eqb, lt-ltb, le-ltb, false_from_ne_true}
 use Rattle.std.proofs.lemmas.List.Sums.{position_or_len_is}
@@ -25,7 +25,7 @@ use Rattle.lfm_laws.proofs.lawful.read.ClaimsRead.{carried_some, claims_place, p
 use Rattle.lfm_laws.proofs.steady.frames.Seated.{seat_of_point}
 use Rattle.lfm_laws.proofs.steady.frames.Entries.{seat_or_absent}
 
--- The first place of a list that passes
+-- The first index of a list that passes a test
 
 position_at : {X : Type 0} (p : X → Bool) (xs : List X) (i : ℕ) (d : X) → i < length xs → ((k : ℕ) → k < i → p (get_or xs k d) ≡ false) → p (get_or xs i d) ≡ true
     → position p xs ≡ Some i
@@ -55,7 +55,7 @@ has_grant w = is_passed w.0 w.1.point
 abbrev calls : SeatState → Bool
 calls x = carries x.point
 
--- the same of the seat with this number
+-- the same for the seat with this number
 abbrev is_granted : Core → ℕ → Bool
 is_granted c s = is_passed (wake c.wakes s) (seat c.seats s).point
 
@@ -127,7 +127,7 @@ call_shows c s how (by_handoff above here) = cc
 call_shows c s how (by_grant t stamp word unloaded here) = cc
 call_shows c s how (by_call t how' calling here) = let same : s ≡ t = ap seat_in here in rw same (call_shown t (seat c.seats t).point how' calling)
 
--- and no other seat shows it
+-- no other seat shows that place
 
 granted_place : (c : Core) (g : Ghost) (s : ℕ) → Fits c g → is_granted c s ≡ true → passed s ≡ abstract_place g.place
 granted_place c g s fits holds = claims_place c g fits (passed s) (grant_told c s (wake c.wakes s) (seat c.seats s).point refl refl holds)
@@ -186,7 +186,7 @@ calling_at c g s how fits is here =
     let calling = calling_place c g (k + 1) fits holds in below s k is.above lower (ap seat_in (calling.1 ∙ here))))
     (ap calls (seat_read c.seats (s - 1)) ∙ ap (λ t. calls (seat c.seats t)) number ∙ shows)
 
--- The place that is told
+-- The place that is shown
 
 untold : (c : Core) → c.owner ≡ 0 → c.handoff ≡ unposted → place_of c ≡ passed_place c (position has_grant (zip c.wakes c.seats))
 untold c none unposted = rw (none, unposted) refl

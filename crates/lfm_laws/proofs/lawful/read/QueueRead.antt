@@ -1,4 +1,4 @@
--- The queue that the words spell is the ghost's: the chains of links, the pop list, and the seats that wait.
+-- The queue in the words is the ghost's: the chains of links, the pop list, and the seats that wait.
 use Rattle.std.proofs.Common.{◌≡◌, ◌≢◌, ℕ, ◌+◌, ◌-◌, ◌<◌, ◌≤◌, true, ◌++◌, length, reverse, refl, sym, ap, ◌∙◌, arith}
 use Rattle.std.proofs.lemmas.Bool.{false≢true}
 use Rattle.std.proofs.lemmas.List.{reverse-reverse}
@@ -23,14 +23,14 @@ use Rattle.lfm_laws.proofs.steady.queue.Popping.{queued_injective}
 
 -- The parts of the queue
 
--- a record that is still to be walked leads to the one before it
+-- a record that is still to be collected leads to the one before it
 walked_leads : (c : Core) (g : Ghost) → Fits c g → (stamp : ℕ) → g.popped < stamp → stamp ≤ g.popped + g.walk → Leads c.links g.pushed_at g.popped stamp
 walked_leads c g fits stamp above within =
     let is = seat_of_stamp c g stamp fits above (omega (arith, within, fits.words.parts)) in
     let here = fits.stamps stamp above (omega (arith, within, fits.words.parts)) in
     record { above = is.above; within = omega (arith, is.within, fits.sizes.links); link_is = here.walked within }
 
--- so does one that hangs on the push word
+-- a record in the push list leads to the one before it
 fresh_leads : (c : Core) (g : Ghost) → Fits c g → (stamp : ℕ) → cleared c g < stamp → stamp ≤ g.pushed → Leads c.links g.pushed_at (cleared c g) stamp
 fresh_leads c g fits stamp above within =
     let is = seat_of_stamp c g stamp fits (omega (arith, above)) within in
@@ -49,7 +49,7 @@ fresh_chain c g fits =
     (rw all at (chain_leads (length c.links) (g.pushed - cleared c g) c.links g.pushed_at (cleared c g) (omega (arith, fits.words.parts, queue_fits c g fits, fits.sizes.links))
     (λ stamp above within. fresh_leads c g fits stamp above (omega (arith, all, within)))))
 
--- three parts that follow one another
+-- three consecutive parts make the whole
 joined : (pushed_at : ℕ → ℕ) (popped walk kept pushed : ℕ) → popped + walk + kept ≤ pushed
     → records pushed_at popped walk ++ (records pushed_at (popped + walk) kept ++ records pushed_at (popped + walk + kept) (pushed - (popped + walk + kept)))
     ≡ records pushed_at popped (pushed - popped)
@@ -71,16 +71,16 @@ queue_read c g fits =
 
 -- The seats that wait
 
--- how long the queue is
+-- the length of the queue
 queue_length : (c : Core) (g : Ghost) → Fits c g → length (queue_of c) ≡ g.pushed - g.popped
 queue_length c g fits = ap length (queue_read c g fits) ∙ length-records g.pushed_at g.popped (g.pushed - g.popped)
 
--- the record at a place of it
+-- the record at an index of the queue
 queue_at : (c : Core) (g : Ghost) → Fits c g → (k : ℕ) (d : Record) → k < g.pushed - g.popped
     → slice_index_or (queue_of c) k d ≡ record { seat = g.pushed_at (g.popped + k + 1); stamp = g.popped + k + 1 }
 queue_at c g fits k d within = ap (λ rs. slice_index_or rs k d) (queue_read c g fits) ∙ get_or-records g.pushed_at g.popped (g.pushed - g.popped) k d within
 
--- the seat of a stamp in the queue stands with it
+-- the seat of a stamp in the queue is queued with that stamp
 stands_queued : (c : Core) (g : Ghost) → Fits c g → (k : ℕ) → k < g.pushed - g.popped → g.standing (g.pushed_at (g.popped + k + 1)) ≡ queued (g.popped + k + 1)
 stands_queued c g fits k within = (fits.stamps (g.popped + k + 1) (omega arith) (omega (arith, within))).stands
 
@@ -126,7 +126,7 @@ queue_ends c g fits k d within =
     let stamp = ap (λ r. r.stamp) (queue_at c g fits k d (omega (arith, within, long))) in
     omega (arith, stamp, long, within, fits.words.stamp)
 
--- no more records are queued than there are seats
+-- at most as many records are queued as there are seats
 pub queue_few : (c : Core) → Steady c → length (queue_of c) ≤ length c.seats
 queue_few c steady =
     omega (arith, queue_length c steady.ghost_state steady.fits, queue_fits c steady.ghost_state steady.fits)

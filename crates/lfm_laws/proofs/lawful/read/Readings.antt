@@ -28,7 +28,7 @@ free_or (passed s) = inr (λ e. cc)
 free_or posted = inr (λ e. cc)
 free_or (carried s how) = inr (λ e. cc)
 
--- a state claims one place, or none and is free
+-- a state claims one place, or claims none and is free
 one_place : (c : Core) (p q : AbstractPlace) → ReadsPlace c p → ReadsPlace c q → q ≡ p
 one_place c p q first second =
     elim (free_or q) [

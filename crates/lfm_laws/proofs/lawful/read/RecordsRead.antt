@@ -1,4 +1,4 @@
--- What is read of the records whose stamps follow a number: how many they are, and the one at each place.
+-- The records whose stamps follow a number: how many there are, and the one at each index.
 use Rattle.std.proofs.Common.{◌≡◌, ℕ, zero, suc, ◌+◌, ◌<◌, length, get_or, refl, ap, arith}
 use Rattle.lfm_words.specs.declared.pop_lists.Record.{Record}
 use Rattle.lfm_laws.specs.steady.Numbered.{records}

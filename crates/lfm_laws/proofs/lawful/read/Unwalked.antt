@@ -1,4 +1,4 @@
--- The seat whose link a carrier loads next is the newest of the records that are still to be walked, and 0 if there are none.
+-- The seat whose link a carrier loads next is that of the newest record still to be collected, and 0 if there is none.
 use Rattle.std.proofs.Common.{◌≡◌, ◌≢◌, ℕ, zero, suc, Bool, false, true, ◌+◌, List, [], ◌∷◌, get_or, refl, sym, ◌∙◌, inl, inr, arith}
 use Rattle.std.proofs.lemmas.Bool.{cases_eq, eq-eqb, ne_eqb}
 use Rattle.lfm_model.specs.declared.answers.How.{How}
@@ -18,12 +18,12 @@ use Rattle.lfm_laws.proofs.steady.frames.Frames.{held_by-other}
 use Rattle.lfm_laws.proofs.steady.frames.Seated.{seat_of_stamp}
 use Rattle.lfm_laws.proofs.steady.queue.Carrying.{nobody_serves}
 
--- no seat walks
+-- no seat is collecting
 unwalked_none : (seats : List SeatState) → ((n : ℕ) → unwalked_at (get_or seats n absent).point ≡ 0) → unwalked seats ≡ 0
 unwalked_none [] idle = refl
 unwalked_none (x ∷ seats) idle = rw (eq-eqb (unwalked_at x.point) 0 (idle 0)) (unwalked_none seats (λ n. idle (suc n)))
 
--- one seat walks
+-- one seat is collecting
 unwalked_one : (seats : List SeatState) (n next : ℕ) → next ≢ 0 → unwalked_at (get_or seats n absent).point ≡ next
     → ((m : ℕ) → m ≢ n → unwalked_at (get_or seats m absent).point ≡ 0) → unwalked seats ≡ next
 unwalked_one [] n next some here idle = absurd (some (sym here))
@@ -32,7 +32,7 @@ unwalked_one (x ∷ seats) zero next some here idle =
 unwalked_one (x ∷ seats) (suc n) next some here idle =
     rw (eq-eqb (unwalked_at x.point) 0 (idle 0 (λ e. absurd (omega (arith, e))))) (unwalked_one seats n next some here (λ m other. idle (suc m) (λ e. other (omega (arith, e)))))
 
--- the same of the seats by their numbers
+-- no seat is collecting, stated by the seats' numbers
 unwalked_idle : (seats : List SeatState) → ((s : ℕ) → unwalked_at (seat seats s).point ≡ 0) → unwalked seats ≡ 0
 unfolding entry
 unwalked_idle seats idle = unwalked_none seats (λ n. idle (suc n))
@@ -43,7 +43,7 @@ unfolding entry
 unwalked_by seats zero next some here idle = absurd (some (sym here))
 unwalked_by seats (suc n) next some here idle = unwalked_one seats n next some here (λ m other. idle (suc m) (λ e. other (omega (arith, e))))
 
--- a seat that walks serves
+-- only a seat that serves collects
 serves_not : (depth s : ℕ) (p : Point) → claim_at depth s p ≢ serving s → unwalked_at p ≡ 0
 serves_not depth s (TakeLinkLoad carrier next) other = absurd (other refl)
 serves_not depth s _ other = refl
@@ -62,14 +62,14 @@ pusher_serves : (depth s : ℕ) (pusher : Pusher) → claim_of_pusher depth s pu
 pusher_serves depth s Pusher.Locker e = cc
 pusher_serves depth s (Pusher.Sender t) e = by_depth_serves depth s s false e
 
--- a call that enters as it serves has nothing to walk
+-- a call that enters while it serves has nothing to collect
 enters_walked : (c : Core) (g : Ghost) (s : ℕ) (entrant : Entrant) (how : How) → claim_to_enter s entrant how ≡ serving s → EntersFits c g s entrant how → g.walk ≡ 0
 enters_walked c g s Entrant.Locker How.Free e knows = absurd (cc)
 enters_walked c g s Entrant.Locker (How.Queued stamp) e knows = knows.0
 enters_walked c g s Entrant.Trier how e knows = absurd (cc)
 enters_walked c g s Entrant.Receiver how e knows = absurd (cc)
 
--- a seat that serves while something is to be walked walks it
+-- a seat that serves while records are still to be collected collects them
 serves_walks : (c : Core) (g : Ghost) (s depth posts : ℕ) (p : Point) → claim_at depth s p ≡ serving s → KnowsAt c g s posts p → g.walk ≢ 0
     → unwalked_at p ≡ g.pushed_at (g.popped + g.walk)
 serves_walks c g s depth posts Rest e knows some = absurd (by_depth_serves depth s s false e)
@@ -104,13 +104,13 @@ serves_walks c g s depth posts (EnterOwnerStore entrant how) e knows some = absu
 serves_walks c g s depth posts (ReceiveWakeLoad sleeper) e knows some = absurd (cc)
 serves_walks c g s depth posts (ReceiveWakeStore stamp) e knows some = absurd (cc)
 
--- while something is to be walked, a seat serves
+-- while records are still to be collected, a seat serves
 served : (place : Responsibility) (walk : ℕ) (popped : List Record) → CarriedFits place walk popped → walk ≢ 0 → (s : ℕ) × (place ≡ serving s)
 served (serving s) walk popped carried some = (s, refl)
 served posted walk popped carried some = absurd (some carried.0)
 served _ walk popped carried some = absurd (some carried)
 
--- a seat that walks has something to walk
+-- if no records are still to be collected, no seat collects
 walks_some : (c : Core) (g : Ghost) (s posts : ℕ) (p : Point) → KnowsAt c g s posts p → g.walk ≡ 0 → unwalked_at p ≡ 0
 walks_some c g s posts (TakeLinkLoad carrier next) knows none = absurd (omega (arith, none, knows.0))
 walks_some c g s posts _ knows none = refl

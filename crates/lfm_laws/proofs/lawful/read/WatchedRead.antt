@@ -1,4 +1,4 @@
--- A posted handoff is watched: the ghost's watcher stands at one of the points from which it will be seen.
+-- A posted handoff is watched: the ghost's watcher is at one of the points that watch it.
 use Rattle.std.proofs.Common.{◌≡◌, ◌≢◌, ℕ, ◌<◌, List, [], length, refl, sym, ap, ◌∙◌, arith}
 use Rattle.std.proofs.Math.Bool.{or-false}
 use Rattle.lfm_protocol.specs.declared.points.Point.{Point}
@@ -19,7 +19,7 @@ use Rattle.lfm_laws.proofs.steady.queue.Serving.{queue_of_queued}
 use Rattle.lfm_laws.proofs.steady.handoff.Handoffs.{posted_of}
 use Rattle.lfm_laws.proofs.steady.queue.Pushers.{newest_is}
 
--- if nothing is being cleared or popped, the push word leads to the queue
+-- if nothing is being collected and the pop list is empty, the push word leads to the queue
 pub head_some : (c : Core) (g : Ghost) → Fits c g → g.walk ≡ 0 → c.popped ≡ [] → HasQueue g → 0 < c.push.next
 head_some c g fits walked empty some =
     let none : length c.popped ≡ 0 = ap length empty in
@@ -31,7 +31,7 @@ head_some c g fits walked empty some =
 pub carried_posted : (p : Responsibility) (walk : ℕ) (popped : List Record) → p ≡ posted → CarriedFits p walk popped → (walk ≡ 0) × (popped ≡ [])
 carried_posted p walk popped place fits = rw place at fits
 
--- while a handoff is posted, some seat's record hangs on the push word
+-- while a handoff is posted and some seat is queued, the push list has a record
 pub head_posted : (c : Core) (g : Ghost) → Fits c g → g.place ≡ posted → HasQueue g → 0 < c.push.next
 head_posted c g fits place some =
     let carried = carried_posted g.place g.walk c.popped place fits.words.carried in

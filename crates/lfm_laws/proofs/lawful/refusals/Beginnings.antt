@@ -1,5 +1,5 @@
--- What each call of a seat outside of a call has in common: a refused one leaves the seat as it is, none leads on the way to
--- Busy, and only the mutex refuses one.
+-- The starts of calls by a seat without an open call: a refused call leaves the seat unchanged, no start leads to a point from
+-- which Busy may follow, and only the mutex refuses one.
 use Rattle.std.proofs.Common.{◌≡◌, ℕ, Bool, true, false, ◌+◌, ◌-◌, ◌&&◌, nat_eq, nat_lt, refl, if◌then◌else◌}
 use Rattle.std.specs.Prelude.{⊤}
 use Rattle.lfm_model.specs.declared.answers.Unlocked.TheVariants.{Still}
@@ -20,7 +20,7 @@ use Rattle.lfm_protocol.specs.declared.seats.SeatState.{SeatState}
 use Rattle.lfm_protocol.specs.Begin.{Stepped, goes_on, refuses, charges, begin_entry, begin_awake, begin_asleep}
 use Rattle.lfm_laws.proofs.lawful.refusals.PlainSteps.{tries}
 
--- if the turn is refused, then by the mutex
+-- if the turn is refused, the mutex refuses it
 abbrev pub IsByMutex : Turn → Type 0
 IsByMutex (Refused Why.NoSuchSeat) = ⊥
 IsByMutex (Refused Why.InCall) = ⊥

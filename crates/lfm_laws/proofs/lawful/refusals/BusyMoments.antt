@@ -1,5 +1,5 @@
--- Busy is linearizable. At its count exchange a try_lock finds somebody counted, so the mutex is busy there or a post stands; and
--- as long as a post stands, only its exchange takes it away, which leaves the mutex busy.
+-- Busy is linearizable. At its count exchange a try_lock finds the count above 0, so the mutex is busy there or is posted.
+-- While it is posted, only an exchange takes the post, and that leaves the mutex busy.
 use Rattle.std.proofs.Common.{nat_eq, nat_lt, ◌≡◌, ◌≢◌, ◌⊎◌, ⊎_elim, ℕ, Bool, true, false, ◌<◌, List, [], ◌∷◌, Option, Some, if◌then◌else◌, refl, sym, ap, ◌∙◌, inl, inr, arith}
 use Rattle.std.proofs.lemmas.Bool.{cases_Bool, cases_eq}
 use Rattle.std.specs.Prelude.{⊤}
@@ -40,9 +40,9 @@ use Rattle.lfm_laws.proofs.steady.frames.Entries.{seat-with_same}
 use Rattle.lfm_laws.proofs.steady.frames.Seated.{seat_of_test}
 use Rattle.lfm_laws.proofs.steady.handoff.Handoffs.{same_handoff_false}
 
--- A post that stands
+-- While the mutex is posted
 
--- the handoff word stays as it is, or an exchange empties it and leaves the count
+-- the handoff word stays the same, or an exchange empties it and leaves the count unchanged
 abbrev KeepsOrEmpties : Core → Core → Type 0
 KeepsOrEmpties c d = (d.handoff ≡ c.handoff) ⊎ ((d.handoff ≡ unposted) × (d.count ≡ c.count))
 
@@ -54,7 +54,7 @@ claimed_handoff : (c : Core) (t : ℕ) (w : Wake) → (claims_word c t w).handof
 claimed_handoff c t Waiting = refl
 claimed_handoff c t _ = refl
 
--- every kind of step but the handoff store does so
+-- every kind of step except the handoff store
 of_kind : (c : Core) (s t : ℕ) (k : Option Kind) → k ≢ Some HandoffStore → KeepsOrEmpties c (step_of c s t k).core
 of_kind c s t (Some HandoffStore) other = absurd (other refl)
 of_kind c s t (Some HandoffExchange) other =
@@ -66,7 +66,7 @@ stores_carry : (s : ℕ) (p : Point) → kind p ≡ Some HandoffStore → carryi
 stores_carry s (ReleaseHandoffStore releaser) e = refl
 stores_carry s _ e = absurd (let a = e in cc)
 
--- a seat that stores a post has the responsibility, and so none stands yet
+-- a seat that stores a post has the responsibility, so nothing is posted yet
 stores_none : (c : Core) (s : ℕ) → Steady c → 0 < c.handoff.seat → kind (seat c.seats s).point ≢ Some HandoffStore
 stores_none c s steady stands e =
     let l = states_are_lawful c steady in
@@ -75,7 +75,7 @@ stores_none c s steady stands e =
     let both : posted ≡ carried s serving = first ∙ sym second in
     absurd (cc)
 
--- somebody is counted
+-- while the mutex is posted, the count is above 0
 counted : (c : Core) → Steady c → 0 < c.handoff.seat → 0 < c.count
 counted c steady stands =
     let l = states_are_lawful c steady in
@@ -97,7 +97,7 @@ of_event c (makes s) steady stands =
       | inr none ↦ rw none (inl refl)
     ]
 
--- it stays, or goes and leaves the mutex busy
+-- the post stays, or is taken and the mutex is busy
 stays_or_busy : (c : Core) (e : Event) → Steady c → 0 < c.handoff.seat → ((happens c e).core.handoff ≡ c.handoff) ⊎ IsBusy (happens c e).core
 stays_or_busy c e steady stands =
     ⊎_elim (λ same. inl same)
@@ -105,7 +105,7 @@ stays_or_busy c e steady stands =
     let some = counted c steady stands in let same = gone.1 in inr (omega (arith, some, same), ap (λ (h : Handoff). h.seat) gone.0))
     (of_event c e steady stands)
 
--- What a try_lock knows at its points as long as the mutex was never busy: the post that it could have taken still stands
+-- What a try_lock knows at its points if the mutex was never busy: the post that it could have taken is still there
 
 abbrev Knows : Core → Point → Type 0
 Knows c TryOwnerLoad = 0 < c.handoff.seat
@@ -127,7 +127,7 @@ known_after c e (TryHandoffExchange seen) steady knows =
     ⊎_elim (λ same. inr (same ∙ knows.0, knows.1)) (λ busy. inl busy) (stays_or_busy c e steady stands)
 known_after c e _ steady knows = inr tt
 
--- a step by which the try_lock comes to its next point
+-- a step that leads the try_lock to its next point
 known_next : (c : Core) (e : Event) (s : ℕ) (p : Point) → Steady c → Knows c (seat c.seats s).point → TriesBy c s e p
     → IsBusy c ⊎ (IsBusy (happens c e).core ⊎ Knows (happens c e).core p)
 known_next c e s TryOwnerLoad steady knows by =
@@ -145,7 +145,7 @@ known c e s steady knows =
     ⊎_elim (λ same. inr (rw same (known_after c e (seat c.seats s).point steady knows)))
     (λ by. known_next c e s (seat (happens c e).core.seats s).point steady knows by) (tries_see_a_holder c e s steady)
 
--- while that post stands no step is refused as Busy
+-- while that post is there, no step is refused as Busy
 not_refused : (c : Core) (p : Point) → Knows c p → CauseOfStep c p Busy → ⊥
 not_refused c TryHandoffLoad stands none = omega (arith, stands, none)
 not_refused c (TryHandoffExchange seen) knows differ = same_handoff_false c.handoff seen differ knows.0
@@ -167,7 +167,7 @@ was_busy c s (e ∷ later) steady knows refused =
     (λ still. was_busy (happens c e).core s later (run_keeps c (e ∷ []) steady) still refused) next))
     (known c e s steady knows)
 
--- The start: a try_lock that opens stands before its count exchange
+-- The start: a try_lock that opens is at its count exchange
 
 abbrev Starts : Stepped → Type 0
 Starts x = x.turn ≡ Open → x.seat.point ≡ TryCountExchange

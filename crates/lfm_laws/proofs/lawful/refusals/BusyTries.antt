@@ -1,4 +1,5 @@
--- A try_lock comes to each point from which Busy may follow only by its own step before, and by what that step saw.
+-- A try_lock reaches each point from which Busy may follow only by its own step at the point before, and by what that step
+-- found.
 use Rattle.std.proofs.Common.{◌≡◌, ◌≢◌, ◌⊎◌, ℕ, false, refl, ap, ◌∙◌, inl, inr, arith}
 use Rattle.std.proofs.lemmas.Bool.{cases_Bool, cases_eq, eq-eqb, ne_eqb}
 use Rattle.lfm_protocol.specs.declared.answers.Call.{Call}
@@ -36,9 +37,9 @@ untried_by c s e _ untried = tt
 tries_at : (c : Core) (s : ℕ) (e : Event) (p q : Point) → p ≡ q → TriesBy c s e q → TriesBy c s e p
 tries_at c s e p q same there = rw same there
 
--- A call that begins comes to none of these points
+-- The start of a call leads to none of these points
 
--- it leaves its seat as it is, or at another point
+-- it leaves its seat unchanged, or at another point
 begin_tries : (c : Core) (s : ℕ) (e : Event) (x : SeatState) (bounds : Limits) (call : Call) (p : Point) → x.point ≡ p
     → ((Begin.begin_at x bounds call p).seat ≡ x) ⊎ TriesBy c s e (Begin.begin_at x bounds call p).seat.point
 begin_tries c s e x bounds call Rest at = inr (untried_by c s e _ ((begun_awake x bounds call).untried (ap tries at)))
@@ -47,7 +48,7 @@ begin_tries c s e x bounds call _ at = inl refl
 
 -- A step of the seat itself
 
--- a try_lock that does not find itself the owner has no hold
+-- a try_lock whose owner load does not find its number has no hold
 unowned : (c : Core) (g : Ghost) (s : ℕ) → (seat c.seats s).point ≡ TryOwnerLoad → Fits c g → c.owner ≢ s → (seat c.seats s).depth ≡ 0
 unowned c g s at fits other =
     elim (cases_eq (seat c.seats s).depth 0) [

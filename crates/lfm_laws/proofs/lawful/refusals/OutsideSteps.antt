@@ -1,4 +1,4 @@
--- A step outside of a call changes nothing: its point has no kind, or there is no seat to make it.
+-- A step outside of a call changes nothing: its point has no kind, or no seat has the number.
 use Rattle.std.proofs.Common.{◌≡◌, ◌⊎◌, ℕ, [], ◌∷◌, Option, None, refl, ap, inl, inr}
 use Rattle.std.proofs.lemmas.Bool.{cases_Bool}
 use Rattle.lfm_protocol.specs.declared.answers.Turn.TheVariants.{Refused}

@@ -1,4 +1,4 @@
--- Steps that are never refused and bring no seat on the way to Busy: one walk over the points.
+-- Steps that are never refused and lead to no point from which Busy may follow. By cases on the point.
 use Rattle.std.proofs.Common.{◌≡◌, ◌≢◌, ℕ, Bool, true, false, refl, if◌then◌else◌}
 use Rattle.lfm_model.specs.declared.answers.Unlocked.{Unlocked}
 use Rattle.lfm_protocol.specs.declared.answers.Turn.TheVariants.{Refused}
@@ -28,7 +28,7 @@ use Rattle.lfm_protocol.specs.Seats.{seat, link, wake}
 use Rattle.lfm_protocol.specs.Step.{step_of, made}
 use Rattle.lfm_laws.proofs.lawful.bounds.Leaving.{stepped_by, stepped}
 
--- Points from which a step can be refused as Busy, and the one before them
+-- The points from which a step can be refused as Busy, and the one before them
 
 abbrev pub tries : Point → Bool
 tries TryOwnerLoad = true
@@ -36,7 +36,7 @@ tries TryHandoffLoad = true
 tries (TryHandoffExchange seen) = true
 tries _ = false
 
--- a step that is not refused and comes to none of these
+-- the step is not refused and leads to none of these points
 pub record IsPlain (m : Stepped) : Type 0 where
   pub untried : tries m.seat.point ≡ false
   pub made_so : (why : Why) → m.turn ≢ Refused why
@@ -98,7 +98,7 @@ untried_cleared (Carrier.Releaser releaser) head =
 untried_cleared (Carrier.Reclaimer releaser) head = refl
 untried_cleared Carrier.Sender head = refl
 
--- the points whose steps are always so
+-- the points whose steps are all of this kind
 abbrev pub is_plain : Point → Bool
 is_plain Rest = false
 is_plain (Asleep sleeper) = false
@@ -166,7 +166,7 @@ plain_at c s (EnterOwnerStore entrant how) at plain = rw (at, at) (record { untr
 plain_at c s (ReceiveWakeLoad sleeper) at plain = rw (at, at) (plain_receives (seat c.seats s) sleeper (wake c.wakes s))
 plain_at c s (ReceiveWakeStore stamp) at plain = rw (at, at) (plain_goes (seat c.seats s) (EnterOwnerStore Entrant.Receiver (how_granted stamp)) refl)
 
--- a step ends as it moves its seat on
+-- the turn of a step is the one of its seat
 turn_by : (c : Core) (s t : ℕ) (k : Option Kind) → (step_of c s t k).turn ≡ (stepped_by c s t k).turn
 turn_by c s t None = refl
 turn_by c s t (Some Kind.CountExchange) = refl

@@ -137,14 +137,14 @@ asleep_refused c x sleeper StartWait refusal at turn =
 asleep_refused c x sleeper (SendLock t) refusal at turn =
     let e = same_refusal Refusal.Asleep refusal turn in rw (sym e) (record { sleeper = sleeper; here = at })
 
--- depths are bounded while a seat rests
+-- while a seat rests its depth is bounded, so a refusal has its cause
 begin_refused : (c : Core) (x : SeatState) (call : Call) (refusal : Refusal) (p : Point) → x.point ≡ p → DepthAt x.depth p → x.takes ≤ c.budget
     → (Begin.begin_at x (limits c) call p).turn ≡ Refused (By refusal) → CauseToBegin c x call refusal
 begin_refused c x call refusal Rest at deep within turn = awake_refused c x call refusal at deep within turn
 begin_refused c x call refusal (Point.Asleep sleeper) at deep within turn = asleep_refused c x sleeper call refusal at turn
 begin_refused c x call refusal _ at deep within turn = absurd (cc)
 
--- And if there is the cause, the call is refused
+-- If there is the cause, the call is refused
 
 lock_refuses : (x : SeatState) (bounds : Limits) (refusal : Refusal) → CauseToEnter bounds.budget x refusal
     → (Begin.begin_at x bounds Lock x.point).turn ≡ Refused (By refusal)

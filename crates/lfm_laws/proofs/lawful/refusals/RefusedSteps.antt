@@ -1,4 +1,4 @@
--- A step is refused only for its cause; then its call has ended, and nothing but its seat has changed.
+-- A step is refused only for its cause; its call has then ended, and only its seat has changed.
 use Rattle.std.proofs.Common.{◌≡◌, ◌≢◌, ℕ, refl, sym, ◌∙◌, inl, inr, arith}
 use Rattle.std.proofs.lemmas.Bool.{cases_Bool, cases_eq, eq-eqb, ne_eqb}
 use Rattle.lfm_model.specs.declared.refusals.Refusal.{Refusal}
@@ -82,7 +82,7 @@ made_refused c g s refusal (TryHandoffExchange seen) at fits turn = exchange_ref
 made_refused c g s refusal (SendWakeExchange t) at fits turn = send_refused c s t refusal (wake c.wakes t) at refl turn
 made_refused c g s refusal _ at fits turn = absurd ((plain_at c s _ at refl).made_so (By refusal) (sym (turn_made c s) ∙ turn))
 
--- And if there is the cause, the step is refused
+-- If there is the cause, the step is refused
 
 send_refuses : (c : Core) (s t : ℕ) (w : Wake) → (seat c.seats s).point ≡ SendWakeExchange t → wake c.wakes t ≡ w → w ≢ Wake.Waiting
     → (made c s).turn ≡ Refused (By Refusal.NotWaiting)

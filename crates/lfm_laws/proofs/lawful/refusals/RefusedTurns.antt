@@ -1,5 +1,5 @@
--- Every event is refused only for its cause: beside the mutex's own, a number that no seat has, a call inside a call, and a
--- step outside of one.
+-- Every event is refused only for its cause: the mutex's own, a number that no seat has, a call while another is open, or a
+-- step outside of a call.
 use Rattle.std.proofs.Common.{◌≡◌, ℕ, true, false, Option, None, refl, sym, ◌∙◌, inl, inr}
 use Rattle.std.proofs.lemmas.Bool.{cases_Bool, cases_eq, eq-eqb, ne_eqb, false≢true}
 use Rattle.lfm_protocol.specs.declared.answers.Call.{Call}
@@ -31,7 +31,7 @@ use Rattle.lfm_laws.proofs.lawful.refusals.PlainSteps.{plain_at, turn_made}
 use Rattle.lfm_laws.proofs.lawful.refusals.RefusedCalls.{begins_are_refused_for_cause}
 use Rattle.lfm_laws.proofs.lawful.refusals.RefusedSteps.{steps_are_refused_for_cause}
 
--- Calls outside of a call are refused by the mutex alone
+-- Only the mutex refuses the call of a seat that has none open
 
 -- why a call that a seat begins at this point may be refused
 abbrev WhyAtBegin : Point → Why → Type 0

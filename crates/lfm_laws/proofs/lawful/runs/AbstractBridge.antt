@@ -1,4 +1,5 @@
--- The readings of a run are a run of the abstract mutex, and each event goes by its case: that of its step by `case_of_step`.
+-- The readings of a run are a run of the abstract mutex, and each event changes the reading by its case; for a step that is its
+-- `case_of_step`.
 use Rattle.std.proofs.Common.{Option, Some, None, List, [], ◌∷◌}
 use Rattle.lfm_model.specs.Abstract.{AbstractMutex}
 use Rattle.lfm_model.specs.AbstractRuns.{Case, StepsOrStays, stepped, stayed, IsRunFrom}

@@ -1,4 +1,4 @@
--- The headline laws in every state that a schedule reaches: such a state is steady, and each law holds of every steady state.
+-- The main laws in every state that a schedule reaches: such a state is steady, and each law holds for every steady state.
 use Rattle.lfm_laws.specs.laws.InSchedules.{
   OneSeatOwnsInSchedules,
   OneHasTheResponsibilityInSchedules,

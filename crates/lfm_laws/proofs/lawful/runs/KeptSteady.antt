@@ -1,4 +1,4 @@
--- The states of schedules are steady and narrow, each event keeps them so, and a step at a table is one of them.
+-- The states of schedules are steady and narrow, each event keeps them so, and so does a step on a table.
 use Rattle.std.proofs.Common.{List, [], ◌∷◌, inl, inr}
 use Rattle.std.proofs.lemmas.Bool.{cases_Bool}
 use Rattle.lfm_protocol.specs.Begin as Begin

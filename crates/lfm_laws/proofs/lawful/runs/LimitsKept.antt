@@ -21,7 +21,7 @@ budget-step_of c s t None = refl
 budget-step_of c s t (Some Kind.WakeExchange) = budget-claims_word c t (wake c.wakes t)
 budget-step_of c s t (Some _) = refl
 
--- a turn that is made under a test, and refused otherwise
+-- the two outcomes of a test: the turn is made, or it is refused
 budget_of_two : (c : Core) (b : Bool) (x y : Moved) → x.core.budget ≡ c.budget → y.core.budget ≡ c.budget
     → (if b then x else y).core.budget ≡ c.budget
 budget_of_two c true x y p q = p

@@ -1,4 +1,4 @@
--- The order of a run: records leave the queue as they were pushed, stamps go up by 1, and answers follow the pops.
+-- The order of a run: records leave the queue in the order of their pushes, stamps rise by 1, and answers follow the pops.
 use Rattle.std.proofs.Common.{◌≡◌, ◌⊎◌, ℕ, zero, suc, Bool, true, false, cond, eqb, ◌+◌, ◌-◌, ◌<◌, ◌≤◌, List, [], ◌∷◌, ◌++◌, length, get_or, refl, sym, ap, ◌∙◌, append_assoc, inl, inr, arith}
 use Rattle.std.proofs.lemmas.List.{append_cancel_left, get_or-append-add, length-append}
 use Rattle.lfm_words.specs.declared.pop_lists.Record.{Record}
@@ -24,7 +24,7 @@ stamp_of_record f last zero i d within = absurd (omega arith)
 stamp_of_record f last (suc n) zero d within = omega arith
 stamp_of_record f last (suc n) (suc i) d within = omega (arith, stamp_of_record f (last + 1) n i d (omega arith))
 
--- the records that were pushed are those that have left the queue and those that stand in it
+-- the pushed records are those that have left the queue followed by those in it
 popped_and_queued : (g : Ghost) → g.popped ≤ g.pushed → records g.pushed_at 0 g.pushed ≡ records g.pushed_at 0 g.popped ++ queue_of_ghost g
 popped_and_queued g most =
     let parts : g.popped + (g.pushed - g.popped) ≡ g.pushed = omega arith in
@@ -33,7 +33,7 @@ popped_and_queued g most =
 
 -- The queue
 
--- both sides stand behind the records that were popped before
+-- both sides follow the records that were popped before
 in_order : (g h : Ghost) (pushes pops answers : List Record) → GoesOn g h pushes pops answers → g.popped ≤ g.pushed → h.popped ≤ h.pushed
     → queue_of_ghost g ++ pushes ≡ pops ++ queue_of_ghost h
 in_order g h pushes pops answers on most within =
@@ -84,7 +84,7 @@ zero_or_one : (b : Bool) → (cond {A = ℕ} b 0 1 ≡ 0) ⊎ (cond {A = ℕ} b 
 zero_or_one true = inl refl
 zero_or_one false = inr refl
 
--- at most one record was popped whose seat does not yet hold
+-- at most one popped record has a seat that does not hold yet
 one_unanswered : (place : Responsibility) → (unanswered place ≡ 0) ⊎ (unanswered place ≡ 1)
 one_unanswered nobody = inl refl
 one_unanswered (owned s again) = inl refl

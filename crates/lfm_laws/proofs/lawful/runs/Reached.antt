@@ -1,4 +1,4 @@
--- Every state that a schedule reaches is steady, and each event goes from one ghost to the next.
+-- Every state that a schedule reaches is steady, and each event leads from one ghost to the next.
 use Rattle.std.proofs.Common.{◌≡◌, ℕ, false, List, [], ◌∷◌, refl, sym, inl, inr}
 use Rattle.std.proofs.lemmas.Bool.{cases_Bool}
 use Rattle.lfm_protocol.specs.declared.seats.SeatState.{SeatState}
@@ -18,15 +18,15 @@ use Rattle.lfm_laws.proofs.steady.Start.{start_steady, few_seats, small_budget}
 use Rattle.lfm_laws.proofs.steady.frames.Seated.{seat_of_test}
 pub use Rattle.lfm_laws.proofs.steady.StepsKept.{made_keeps}
 
--- a number of which the test of a step says that no seat has it
+-- a number for which the test of a step finds no seat
 pub absent_tested : (seats : List SeatState) (s : ℕ) → is_seat seats s ≡ false → seat seats s ≡ absent
 absent_tested seats s none = sym (entry_absent absent seats s none)
 
--- what an event of a steady state leads to, in the form of a step's outcome
+-- the outcome of an event in a steady state, in the form of a step's outcome
 abbrev pub Goes : Core → Ghost → Event → Type 0
 Goes c g e = EventOutcome g (happens c e).core (case_of_event c e) (pushed_in c e) (popped_in c e) (answered_in c e)
 
--- a call that begins changes nothing of the ghost, and a step of a number that no seat has nothing at all
+-- the start of a call leaves the ghost unchanged, and a step of a number that no seat has leaves everything unchanged
 pub event_goes : (c : Core) (g : Ghost) (e : Event) → Fits c g → Goes c g e
 event_goes c g (begins s call) fits =
     record {

@@ -1,4 +1,4 @@
--- What the events of a run lead to, one after another: a ghost that fits the last state, and the records of the whole run.
+-- The outcome of all events of a run: a ghost that fits the last state, and the records of the whole run.
 use Rattle.std.proofs.Common.{◌≡◌, List, [], ◌∷◌, ◌++◌, ap, ◌∙◌, append_assoc, refl}
 use Rattle.lfm_words.specs.declared.pop_lists.Record.{Record}
 use Rattle.lfm_protocol.specs.Core.{Core}
@@ -14,11 +14,11 @@ pub record RunGoes (c : Core) (g : Ghost) (events : List Event) : Type 0 where
   pub fits : Fits (run_of c events) to
   pub history : GoesOn g to (push_record c events) (popped_record c events) (answer_record c events)
 
--- what goes on by one list and then by another goes on by both
+-- what grows by one list and then by another grows by both
 one_by_one : (first mid last early late : List Record) → mid ≡ first ++ early → last ≡ mid ++ late → last ≡ first ++ (early ++ late)
 one_by_one first mid last early late e f = f ∙ ap (λ l. l ++ late) e ∙ append_assoc first early late
 
--- the records of two stretches of a run are those of both together
+-- the records of two consecutive parts of a run are together those of both
 pub history_after : (g h k : Ghost) (pushes pops answers pushes' pops' answers' : List Record) → GoesOn g h pushes pops answers → GoesOn h k pushes' pops' answers'
     → GoesOn g k (pushes ++ pushes') (pops ++ pops') (answers ++ answers')
 history_after g h k pushes pops answers pushes' pops' answers' first second =

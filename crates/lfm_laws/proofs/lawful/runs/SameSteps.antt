@@ -1,4 +1,4 @@
--- A step between two abstract states is one between two states that are the same as these, and has the same name.
+-- A step between two abstract states is also a step, of the same case, between two states that are the same as these.
 use Rattle.std.proofs.Common.{◌≡◌, ℕ, not, eqb, ◌||◌, ◌&&◌, Option, Some, None, [], ◌∷◌, ◌++◌, sym, ap, ◌∙◌, inl, inr}
 use Rattle.std.specs.List.{list_any}
 use Rattle.lfm_model.specs.Abstract.{AbstractMutex, AbstractPlace, AbstractStep, HasNothing, HasNobody, HasSomebody, Moves, Joins, Queues, Serves, GoesFrom, names}

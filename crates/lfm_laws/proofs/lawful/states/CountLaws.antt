@@ -1,5 +1,5 @@
--- The laws of the count and the place: the count is 0 exactly if nobody has the responsibility, and the place that a state
--- shows is the one that it reads as.
+-- The laws of the count and the place: the count is 0 exactly if the place is free, and the place that a state shows is that of
+-- its reading.
 use Rattle.std.proofs.Common.{◌≡◌, sym, ap, ◌∙◌}
 use Rattle.lfm_model.specs.Abstract.{AbstractMutex}
 use Rattle.lfm_protocol.specs.Core.{Core}

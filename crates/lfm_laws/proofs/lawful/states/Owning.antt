@@ -1,4 +1,5 @@
--- Mutual exclusion, from the one reading of a lawful state: every claim is its place, and if the count is above 0 there is one.
+-- Mutual exclusion, from the one reading of a lawful state: every claim is its place, and there is a claim if the count is
+-- above 0.
 use Rattle.std.proofs.Common.{◌≢◌, refl, sym, ap, ◌∙◌, arith}
 use Rattle.lfm_model.specs.Abstract.{free, owner}
 use Rattle.lfm_laws.specs.laws.Lawful.{owning_seat}

@@ -28,7 +28,7 @@ stamp_most c g fits =
 
 -- The count
 
--- how often a seat that stands so is counted for itself
+-- how often a seat with this standing is counted for itself
 abbrev work_unit : Standing → ℕ
 work_unit standing = asking_unit standing + queued_unit standing
 
@@ -41,13 +41,13 @@ work_of : (c : Core) (g : Ghost) → Fits c g → g.asking + g.pushed ≡ g.popp
 work_of c g fits =
     omega (arith, fits.sums.asking, fits.sums.queued, sum_add (length c.seats) (λ s. asking_unit (g.standing s)) (λ s. queued_unit (g.standing s)))
 
--- each seat is counted once
+-- each seat is counted at most once
 work_most : (c : Core) (g : Ghost) → Fits c g → g.asking + g.pushed ≤ g.popped + length c.seats
 work_most c g fits =
     let most = sum_bound (length c.seats) 1 (λ s. work_unit (g.standing s)) (λ s. work_unit-le (g.standing s)) in
     omega (arith, work_of c g fits, most)
 
--- and one that stands apart isn't
+-- a seat that is apart is not counted
 work_beside : (c : Core) (g : Ghost) (s : ℕ) → Fits c g → IsSeat c.seats s → g.standing s ≡ apart → g.asking + g.pushed + 1 ≤ g.popped + length c.seats
 work_beside c g s fits is away =
     let none : work_unit (g.standing s) ≡ 0 = ap work_unit away in
@@ -56,7 +56,7 @@ work_beside c g s fits is away =
     in
     omega (arith, work_of c g fits, most)
 
--- the owner's recursive lock between its add and its subtract stands apart, and is a call of a seat
+-- the owner's recursive lock between its add and its subtract is the call of a seat that is apart
 again_apart : (depth s : ℕ) (place : Responsibility) (standing : Standing) (p : Point) → unit_of_recursion p ≡ 1 → claim_at depth s p ≡ owned s true
     → StandsAt place depth s standing p → standing ≡ apart
 again_apart zero s place standing LockOwnerLoad unit claims stands = absurd (cc)

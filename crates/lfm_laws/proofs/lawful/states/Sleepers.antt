@@ -1,4 +1,4 @@
--- A seat that sleeps is queued, granted, WAITING for a send, or on the way by one.
+-- A seat that sleeps is queued, has its grant, is WAITING for a send, or is between a send's claim and its grant.
 use Rattle.std.proofs.Common.{◌≡◌, ◌⊎◌, ℕ, true, false, ◌&&◌, ◌||◌, if◌then◌else◌, Option, Some, None, refl, sym, ◌∙◌, inl, inr}
 use Rattle.std.proofs.lemmas.Bool.{cases_Bool}
 use Rattle.std.proofs.Math.Bool.{or-false}
@@ -16,11 +16,11 @@ use Rattle.lfm_laws.specs.laws.Watched.{IsQueued}
 use Rattle.lfm_laws.proofs.lawful.read.LawfulRead.{lawful_read}
 use Rattle.lfm_laws.proofs.lawful.read.QueueRead.{waits_told}
 
--- where a sleeper finds its grant
+-- the ways in which a sleeping seat can get its grant
 abbrev IsReachable : Core → ℕ → Type 0
 IsReachable c t = IsQueued c t ⊎ (((stamp : ℕ) × (wake c.wakes t ≡ Grant stamp)) ⊎ ((wake c.wakes t ≡ Waiting) ⊎ IsSent c t))
 
--- a sleeping locker is queued or granted
+-- a sleeping locker is queued or has its grant
 locker_reached : (c : Core) (g : Ghost) (t : ℕ) (grant : Option ℕ) → Fits c g → (is_queued (g.standing t) || is_some grant) ≡ true
     → wake c.wakes t ≡ wake_by grant g.place (g.standing t) t (Asleep Sleeper.Locker) → IsReachable c t
 locker_reached c g t (Some stamp) fits awaits word = inr (inl (stamp, word))
@@ -34,7 +34,7 @@ waiter_word place standing t =
       | inr claimed ↦ inr (rw claimed refl)
     ]
 
--- a sleeping waiter is granted, waits for a send, or is on the way by one
+-- a sleeping waiter has its grant, waits for a send, or is between a send's claim and its grant
 waiter_reached : (c : Core) (g : Ghost) (t : ℕ) (grant : Option ℕ) → Fits c g
     → wake c.wakes t ≡ wake_by grant g.place (g.standing t) t (Asleep Sleeper.Waiter) → IsReachable c t
 waiter_reached c g t (Some stamp) fits word = inr (inl (stamp, word))

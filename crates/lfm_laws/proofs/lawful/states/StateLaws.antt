@@ -32,7 +32,7 @@ states_are_lawful c is = steady_is_lawful c is
 pub handoffs_are_watched : HandoffsAreWatched
 handoffs_are_watched c is = let steady = is in watched_read c steady.ghost_state steady.fits
 
--- Without an open call
+-- If no call is open
 
 quiet_watch : (c : Core) (s : ℕ) (x : SeatState) (p : Point) → is_call p ≡ false → Watches c s x p → ⊥
 quiet_watch c s x Rest quiet watches = watches
@@ -48,7 +48,7 @@ quiet_posts c g fits quiet =
           absurd (quiet_watch c watcher.who (seat c.seats watcher.who) (seat c.seats watcher.who).point (quiet watcher.who) watcher.watches)
     ]
 
--- the responsibility lies with a call that is open
+-- an open call has the responsibility
 abbrev is_carried : Responsibility → Bool
 is_carried (entering s into stamp) = true
 is_carried (accepting s) = true
@@ -60,13 +60,13 @@ depth_uncarried : (depth s : ℕ) → is_carried (by_depth depth s false) ≡ fa
 depth_uncarried zero s = refl
 depth_uncarried (suc n) s = rw (ne_eqb (suc n) 0 (λ none. omega arith)) refl
 
--- a seat without an open call carries nothing
+-- a seat without an open call does not carry
 quiet_uncarried : (depth s : ℕ) (p : Point) → is_call p ≡ false → is_carried (claim_at depth s p) ≡ false
 quiet_uncarried depth s Rest quiet = depth_uncarried depth s
 quiet_uncarried depth s (Asleep sleeper) quiet = refl
 quiet_uncarried depth s _ quiet = absurd (cc)
 
--- and owns only by its depth
+-- a seat without an open call owns only by its depth
 depth_owns : (depth s : ℕ) (again : Bool) → by_depth depth s false ≡ owned s again → 0 < depth
 depth_owns zero s again e = absurd (cc)
 depth_owns (suc n) s again e = omega arith
@@ -76,7 +76,7 @@ quiet_owns depth s again Rest quiet e = depth_owns depth s again e
 quiet_owns depth s again (Asleep sleeper) quiet e = absurd (cc)
 quiet_owns depth s again _ quiet e = absurd (cc)
 
--- so no place is a call's
+-- so no call has the responsibility
 not_carried : (c : Core) (g : Ghost) (s : ℕ) (p : Responsibility) → Fits c g → IsQuiet c → g.place ≡ p → held_by p s ≡ p → is_carried p ≡ true → ⊥
 not_carried c g s p fits quiet place own carried =
     let claims : claim (seat c.seats s) s ≡ p = (fits.each s).claims ∙ rw place own in
@@ -84,7 +84,7 @@ not_carried c g s p fits quiet place own carried =
     let none : is_carried p ≡ false = rw claims at none in
     false≢true (sym none ∙ carried)
 
--- without an open call, a seat that is to load a grant sleeps
+-- if its seat has no open call, a seat that will load a grant sleeps
 quiet_sleeps : (p : Point) → is_call p ≡ false → LoadsItsGrant p → (since : Sleeper) × (p ≡ Asleep since)
 quiet_sleeps (Asleep since) quiet loads = (since, refl)
 quiet_sleeps Rest quiet loads = absurd loads

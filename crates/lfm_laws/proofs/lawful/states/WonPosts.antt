@@ -1,4 +1,4 @@
--- At the exchange that takes a posted handoff somebody's record hangs on the push word, and the pop list is empty.
+-- At the exchange that takes a posted handoff, the push list has a record and the pop list is empty.
 use Rattle.std.proofs.Common.{◌≡◌, ℕ, Bool, true, false, ◌<◌, Option, Some, [], nat_eq, if◌then◌else◌, refl, sym, ap, ◌∙◌, inl, inr, arith}
 use Rattle.std.proofs.lemmas.Bool.{cases_Bool, false≢true}
 use Rattle.std.proofs.Math.Bool.{or-false}
@@ -25,7 +25,7 @@ use Rattle.lfm_laws.proofs.steady.handoff.Handoffs.{posted_of, same_handoff_true
 use Rattle.lfm_laws.proofs.steady.frames.Seated.{seat_of_point}
 use Rattle.lfm_laws.proofs.steady.queue.Serving.{queue_of_queued}
 
--- what the exchange finds, while somebody is queued
+-- what the exchange finds if some seat is queued
 abbrev Finds : Core → Type 0
 Finds c = (0 < c.push.next) × (c.popped ≡ [])
 
@@ -33,14 +33,14 @@ finds_record : (c : Core) (g : Ghost) → Fits c g → g.place ≡ posted → Ha
 finds_record c g fits place some =
     (head_posted c g fits place some, (carried_posted g.place g.walk c.popped place fits.words.carried).1)
 
--- a locker that has pushed is queued itself; a sender knows that somebody is
+-- a locker that has pushed is queued itself; a sender knows that some seat is queued
 pusher_queue : (c : Core) (g : Ghost) (s : ℕ) (pusher : Pusher) (seen : Handoff) → Fits c g → g.place ≡ posted → c.handoff ≡ seen → 0 < seen.seat
     → AwaitsAsPusher g.place s (g.standing s) pusher → PushedFits c g seen pusher → HasQueue g
 pusher_queue c g s Pusher.Locker seen fits place same above awaits knows =
     let awaits = rw place at awaits in queue_of_queued c g s fits (sym (or-false (is_queued (g.standing s))) ∙ awaits)
 pusher_queue c g s (Pusher.Sender t) seen fits place same above awaits knows = knows same above
 
--- a posted handoff that is this one
+-- if the handoff word is the post that was seen, the place is posted
 place_of_won : (c : Core) (g : Ghost) (seen : Handoff) → Fits c g → c.handoff ≡ seen → 0 < seen.seat → g.place ≡ posted
 place_of_won c g seen fits same above = posted_of c.seats g.place c.handoff (omega (arith, ap (λ h. h.seat) same, above)) fits.words.handoff
 
@@ -62,7 +62,7 @@ poster_wins c g s releaser fits at won =
     let place = place_of_won c g (record { seat = s; post = (seat c.seats s).posts }) fits same is.above in
     finds_record c g fits place (knows same is.above)
 
--- only these two kinds of exchange take a post over
+-- only these two kinds of exchange take over a post
 
 abbrev is_take : Option Case → Bool
 is_take (Some take) = true

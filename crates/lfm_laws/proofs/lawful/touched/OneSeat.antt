@@ -1,4 +1,4 @@
--- A turn changes no seat but its own, and a step goes by its seat, its word and the oldest record of the pop list.
+-- A turn changes no seat except its own, and a step depends only on its seat, its word and the oldest record of the pop list.
 use Rattle.std.proofs.Common.{◌≡◌, ℕ, Option, Some, None, refl, sym, ap, ◌∙◌, inl, inr}
 use Rattle.std.proofs.lemmas.Bool.{cases_Bool}
 use Rattle.lfm_protocol.specs.declared.kinds.Kind.{Kind}
@@ -51,7 +51,7 @@ steps_touch_one_word_and_one_seat c s =
       | inr none ↦ rw none (nothing_touched c s)
     ]
 
--- What a call that begins touches
+-- What the start of a call touches
 
 pub begins_touch_one_seat : BeginsTouchOneSeat
 begins_touch_one_seat c s call =
@@ -75,7 +75,7 @@ begins_touch_one_seat c s call =
           })
     ]
 
--- What a step goes by
+-- What a step depends on
 
 goes_by : (c d : Core) (s t : ℕ) (k : Option Kind) → seat d.seats s ≡ seat c.seats s → ((w : Word) → word_by t k ≡ Some w → SameWord c d w)
     → oldest d.popped ≡ oldest c.popped → stepped_by d s t k ≡ stepped_by c s t k

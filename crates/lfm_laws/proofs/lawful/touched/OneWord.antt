@@ -1,4 +1,4 @@
--- A step changes no word but the one that the table of kinds names, and a load none at all.
+-- A step changes no word except the one that the table of kinds names, and a load changes none.
 use Rattle.std.proofs.Common.{◌≡◌, ◌≢◌, ℕ, true, false, Option, Some, None, List, refl, sym, ap}
 use Rattle.std.proofs.lemmas.Bool.{false≢true}
 use Rattle.lfm_protocol.specs.declared.kinds.Kind.{Kind}
@@ -13,7 +13,7 @@ use Rattle.lfm_protocol.specs.Step.{claims_word, step_of}
 use Rattle.lfm_laws.specs.laws.Touched.{SameWord, word_by, only_loads, may_pop}
 use Rattle.lfm_laws.proofs.steady.frames.Entries.{entry-with_other}
 
--- the seats and the pop list are no words
+-- the seats and the pop list are not words
 pub same_words : (c : Core) (popped : List Record) (seats : List SeatState) (w : Word) → SameWord c (record c { popped = popped; seats = seats }) w
 same_words c popped seats Word.Count = refl
 same_words c popped seats Word.Owner = refl
@@ -52,7 +52,7 @@ claims_wake : (c : Core) (t u : ℕ) (w : Wake) → u ≢ t → wake (claims_wor
 claims_wake c t u Waiting other = entry-with_other Wake.Quiet c.wakes t u Claimed other
 claims_wake c t u _ other = refl
 
--- Each word, if the step is of a kind that touches another one
+-- Each word is unchanged if the step is of a kind that touches another word
 
 count_stays : (c : Core) (s t : ℕ) (k : Option Kind) → word_by t k ≢ Some Word.Count → (step_of c s t k).core.count ≡ c.count
 count_stays c s t (Some Kind.CountExchange) other = absurd (other refl)
@@ -105,7 +105,7 @@ other_word c s t k Word.Push other = push_stays c s t k other
 other_word c s t k (Word.Link u) other = link_stays c s t u k other
 other_word c s t k (Word.Wake u) other = wake_stays c s t u k other
 
--- a load
+-- a load changes no word
 pub loaded_word : (c : Core) (s t : ℕ) (k : Option Kind) (w : Word) → only_loads k ≡ true → SameWord c (step_of c s t k).core w
 loaded_word c s t None w loads = let m = step_of c s t None in same_words c m.core.popped m.core.seats w
 loaded_word c s t (Some Kind.OwnerLoad) w loads = let m = step_of c s t (Some Kind.OwnerLoad) in same_words c m.core.popped m.core.seats w
@@ -115,7 +115,7 @@ loaded_word c s t (Some Kind.HandoffLoad) w loads = let m = step_of c s t (Some 
 loaded_word c s t (Some Kind.WakeLoad) w loads = let m = step_of c s t (Some Kind.WakeLoad) in same_words c m.core.popped m.core.seats w
 loaded_word c s t (Some _) w loads = absurd (false≢true loads)
 
--- the pop list
+-- the pop list is unchanged if the kind may not pop
 pub popped_stays : (c : Core) (s t : ℕ) (k : Option Kind) → may_pop k ≡ false → (step_of c s t k).core.popped ≡ c.popped
 popped_stays c s t None keeps = refl
 popped_stays c s t (Some Kind.LinkLoad) keeps = absurd (false≢true (sym keeps))

@@ -1,4 +1,4 @@
--- What the abstract mutex of a ghost is, and the parts of its steps.
+-- The abstract mutex of a ghost, and the parts of its steps.
 use Rattle.std.proofs.Common.{◌≡◌, ◌≢◌, ◌⊎◌, ℕ, zero, suc, Bool, true, false, cond, eqb, ◌+◌, ◌-◌, ◌<◌, ◌≤◌, None, Some, [], ◌∷◌, ◌++◌, map, length, refl, sym, ap, ◌∙◌, inl, inr, arith}
 use Rattle.std.proofs.lemmas.Bool.{cases_eq, cases_lt, ne_eqb, eq-eqb, cond-true, false_from_ne_true, or_from}
 use Rattle.std.proofs.lemmas.List.{map-append}
@@ -23,7 +23,7 @@ pub stays_same : (g h : Ghost) → abstract_place h.place ≡ abstract_place g.p
 stays_same g h place asking queue =
     record { place = place; asking = asking; waiting = ap (map (λ (r : Record). r.seat)) queue }
 
--- the queue goes on by the seat that is pushed
+-- a push adds its seat at the end of the queue
 pub queue_pushes : (g h : Ghost) (u : ℕ) → g.popped ≤ g.pushed → h.pushed_at ≡ changed g.pushed_at (g.pushed + 1) u → h.pushed ≡ g.pushed + 1 → h.popped ≡ g.popped
     → (abstract h).waiting ≡ (abstract g).waiting ++ u ∷ []
 queue_pushes g h u most at pushed popped =
@@ -37,7 +37,7 @@ queue_pushes g h u most at pushed popped =
     records_snoc f g.popped n ∙ rw (last, before, newest) in
     rw (at, pushed, popped, more) (ap (map (λ (r : Record). r.seat)) all ∙ map-append (λ (r : Record). r.seat) (records g.pushed_at g.popped n) (record { seat = u; stamp = g.pushed + 1 } ∷ []))
 
--- its first seat leaves it
+-- a pop removes the first seat
 pub queue_pops : (g h : Ghost) → g.popped < g.pushed → h.pushed_at ≡ g.pushed_at → h.pushed ≡ g.pushed → h.popped ≡ g.popped + 1
     → (abstract g).waiting ≡ g.pushed_at (g.popped + 1) ∷ (abstract h).waiting
 queue_pops g h some at pushed popped =
@@ -62,14 +62,14 @@ is_among_none f k (suc n) x none =
     rw (ne_eqb (f (k + 1)) x (none (k + 1) (omega arith) (omega arith)))
     (is_among_none f (k + 1) n x (λ stamp above within. none stamp (omega arith) (omega arith)))
 
--- a seat stands queued, or with no stamp
+-- a standing is queued with some stamp, or not queued
 pub queued_or : (standing : Standing) → ((stamp : ℕ) × (standing ≡ queued stamp)) ⊎ (is_queued standing ≡ false)
 queued_or apart = inr refl
 queued_or (claimed agent) = inr refl
 queued_or (asks agent) = inr refl
 queued_or (queued stamp) = inl (stamp, refl)
 
--- a seat waits in the abstract mutex exactly if it stands queued
+-- a seat waits in the abstract mutex exactly if its standing is queued
 pub waits_of : (c : Core) (g : Ghost) → Fits c g → (x : ℕ) → waits (abstract g) x ≡ is_queued (g.standing x)
 waits_of c g fits x =
     let parts : g.popped ≤ g.pushed = omega (arith, fits.words.parts) in
@@ -85,7 +85,7 @@ waits_of c g fits x =
           cc))
     ]
 
--- a number above 0 of units is one unit
+-- a unit above 0 is one
 is_one : (b : Bool) → 0 < cond b 1 0 → b ≡ true
 is_one true some = refl
 is_one false some = absurd (omega arith)
@@ -94,7 +94,7 @@ is_zero : (b : Bool) → cond b 1 0 ≤ 0 → b ≡ false
 is_zero true none = absurd (omega arith)
 is_zero false none = refl
 
--- somebody asks or is queued
+-- some seat asks or is queued
 pub somebody : (c : Core) (g : Ghost) → Fits c g → g.popped < g.asking + g.pushed → HasSomebody (abstract g)
 somebody c g fits work =
     elim (cases_lt g.popped g.pushed) [
@@ -108,7 +108,7 @@ somebody c g fits work =
           (one.0, inl (is_one (is_asking (g.standing one.0)) one.3))
     ]
 
--- a number that no seat has stands apart
+-- a number that no seat has is apart
 pub absent_stands_apart : (c : Core) (g : Ghost) → Fits c g → (x : ℕ) → seat c.seats x ≡ absent → g.standing x ≡ apart
 absent_stands_apart c g fits x none = (rw none at (fits.each x)).stands
 

@@ -1,4 +1,4 @@
--- Reads of a list of entries by number: after one of them was written, and of a number that no entry has.
+-- Reads of a list of entries by number: after a write of one entry, and at a number that has no entry.
 use Rattle.std.proofs.Common.{◌≡◌, ◌≢◌, ◌⊎◌, ℕ, zero, suc, ◌<◌, ◌≤◌, List, length, refl, inl, inr, arith}
 use Rattle.std.proofs.lemmas.Bool.{cases_lt}
 use Rattle.std.proofs.lemmas.List.{get_or-set_same, get_or-set_other, length-set, get_or_past}
@@ -33,7 +33,7 @@ unfolding entry
 entry_past d xs zero past = refl
 entry_past d xs (suc n) past = get_or_past xs n d (omega arith)
 
--- a number is that of a seat, or reads as absent
+-- a number either is that of a seat or reads as absent
 pub seat_or_absent : (seats : List SeatState) (s : ℕ) → IsSeat seats s ⊎ (seat seats s ≡ absent)
 unfolding entry
 seat_or_absent seats zero = inr refl

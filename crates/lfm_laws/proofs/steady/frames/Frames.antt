@@ -1,5 +1,5 @@
--- What a step of one seat leaves to the others, and the steps that change no more than the acting seat, its own wake word,
--- the count and owner words and the place.
+-- What a step of one seat leaves unchanged for the others. Then the steps that change only the acting seat, its own wake word,
+-- the count and owner words, and the place.
 use Rattle.std.proofs.Common.{◌≡◌, ◌≢◌, ℕ, true, false, cond, eqb, ◌+◌, ◌≤◌, ◌<◌, Option, Some, None, List, refl, sym, ◌∙◌, inl, inr, arith, length, ap}
 use Rattle.std.proofs.lemmas.Bool.{cases_eq, ne_eqb, eq-eqb, cond-true, cond-false}
 use Rattle.std.specs.Prelude.{⊤}
@@ -23,14 +23,15 @@ use Rattle.lfm_laws.specs.steady.Steady.{IsSeen, IsOld, HasQueue, HeadStays, Que
 use Rattle.lfm_laws.specs.steady.Views.{held_by, grant_at, is_entered, asks_for, claims_for, is_queued, wake_at, wake_by, expected_wake, claim_to_enter, claim_at}
 use Rattle.lfm_laws.proofs.steady.frames.Entries.{entry-with_same, entry-with_other, seat-with_same, seat-with_other, length-with_entry}
 
--- what the carrier reads of the queue
+-- what the carrier reads of the queue stays the same
 pub record SeesCarried (c d : Core) (g h : Ghost) : Type 0 where
   pub walk : h.walk ≡ g.walk
   pub popped : d.popped ≡ c.popped
   pub next : h.pushed_at (h.popped + h.walk) ≡ g.pushed_at (g.popped + g.walk)
   pub queue : HasQueue g → HasQueue h
 
--- between the states c with g and d with h, all that seat t of view x reads of the others stays, or goes on as it may
+-- between the states c with ghost g and d with ghost h, all that seat t with state x reads of the others stays the same, or
+-- changes only as it may
 pub record Sees (c d : Core) (g h : Ghost) (t : ℕ) (x : SeatState) : Type 0 where
   pub held : held_by h.place t ≡ held_by g.place t
   pub grant : grant_at h.place t ≡ grant_at g.place t
@@ -50,7 +51,7 @@ pub record Sees (c d : Core) (g h : Ghost) (t : ℕ) (x : SeatState) : Type 0 wh
   pub pushes : h.pushes t ≡ g.pushes t
   pub watches : (g.place ≡ posted → g.watcher ≡ t → WatchesAt c g t x x.point) → h.place ≡ posted → h.watcher ≡ t → WatchesAt d h t x x.point
 
--- Its facts, one by one
+-- Its facts, each by its own lemma
 
 wake_at_seen : (p q : Responsibility) (standing : Standing) (t : ℕ) (at : Point) → is_entered q t ≡ is_entered p t → wake_at q standing t at ≡ wake_at p standing t at
 wake_at_seen p q standing t (Asleep Sleeper.Waiter) entered = rw entered
@@ -85,7 +86,7 @@ errand_seen : (c d : Core) (g h : Ghost) (t : ℕ) (x : SeatState) (pusher : Pus
 errand_seen c d g h t x Pusher.Locker sees fits = tt
 errand_seen c d g h t x (Pusher.Sender u) sees fits = (fits.0, sees.errand u fits.1)
 
--- the link that a pusher has stored is that of a seat which asks through it
+-- the link that a pusher has stored is that of a seat that asks through this pusher
 link_seen : (c d : Core) (g h : Ghost) (t : ℕ) (x : SeatState) (pusher : Pusher) (l : Link) → Sees c d g h t x → StandsAsPusher t (g.standing t) pusher
     → ErrandFits g t pusher → link c.links (pushed_seat pusher t) ≡ l → link d.links (pushed_seat pusher t) ≡ l
 link_seen c d g h t x Pusher.Locker l sees stands fits same = sees.errand_link t stands ∙ same
@@ -143,7 +144,7 @@ KnowsAt_seen c d g h t depth posts x (GrantWakeStore taker oldest) sees most cla
 KnowsAt_seen c d g h t depth posts x (EnterOwnerStore entrant how) sees most claims stands knows = enters_seen c d g h t depth x entrant how sees claims knows
 KnowsAt_seen c d g h t depth posts x _ sees most claims stands knows = knows
 
--- a seat that sees nothing new fits as it did
+-- a seat for which nothing new is seen still fits
 pub SeatFits_seen : (c d : Core) (g h : Ghost) (t : ℕ) (x : SeatState) (w : Wake) → x.posts ≤ (seat c.seats t).posts → Sees c d g h t x → SeatFits c g t x w → SeatFits d h t x w
 SeatFits_seen c d g h t x w posts sees fits =
     record {
@@ -162,7 +163,8 @@ SeatFits_seen c d g h t x w posts sees fits =
       watches = sees.watches fits.watches;
     }
 
--- every seat fits once s does, and each other sees nothing new: words of the core e, the seats of the core c but for s
+-- every seat fits if s does and each other seat sees nothing new; the words are those of the core e, and the other seats those
+-- of the core c
 pub each_after : (c e : Core) (g h : Ghost) (s : ℕ) (y : SeatState) → IsSeat c.seats s → e.seats ≡ c.seats → Fits c g → (seat c.seats s).posts ≤ y.posts
     → ((t : ℕ) → t ≢ s → wake e.wakes t ≡ wake c.wakes t) → ((t : ℕ) → t ≢ s → Sees c (put e s y) g h t (seat c.seats t))
     → SeatFits (put e s y) h s y (wake e.wakes s) → (t : ℕ) → SeatFits (put e s y) h t (seat (put e s y).seats t) (wake (put e s y).wakes t)
@@ -175,13 +177,13 @@ each_after c e g h s y is same fits posts woken sees own t =
           (rw same at (SeatFits_seen c (put e s y) g h t (seat c.seats t) (wake c.wakes t) (omega arith) (sees t other) (fits.each t)))
     ]
 
--- the errands and posts of seat s with the view y are those that it had
+-- seat s with the new state y has the same errands and posts as before
 pub record Errands (c : Core) (s : ℕ) (y : SeatState) : Type 0 where
   pub asks_same : asks_for y s ≡ asks_for (seat c.seats s) s
   pub claims_same : claims_for y ≡ claims_for (seat c.seats s)
   pub posts_same : y.posts ≡ (seat c.seats s).posts
 
--- then every seat has the errands that it had
+-- then every seat has the same errands as before
 pub asks_after : (c : Core) (s : ℕ) (y : SeatState) → IsSeat c.seats s → Errands c s y → (t : ℕ) → asks_for (seat (with_entry c.seats s y) t) t ≡ asks_for (seat c.seats t) t
 asks_after c s y is errands t =
     elim (cases_eq t s) [
@@ -204,7 +206,7 @@ agents_after c standing s y is errands agents t =
       sent = λ agent claiming. claims_after c s y is errands agent ∙ (agents t).sent agent claiming;
     }
 
--- Numbers that are a seat's, or were posted by it, stay so when seat s moves on
+-- Seat numbers stay seat numbers, and posted handoff numbers stay posted, when seat s moves on
 
 pub IsSeat_after : (c : Core) (s u : ℕ) (y : SeatState) → IsSeat c.seats u → IsSeat (with_entry c.seats s y) u
 IsSeat_after c s u y is = record { above = is.above; within = omega (arith, is.within, length-with_entry c.seats s y) }
@@ -227,7 +229,7 @@ pub HandoffFits_after : (c : Core) (s : ℕ) (y : SeatState) (p : Responsibility
 HandoffFits_after c s y posted n fits = IsSeat_after c s n.seat y fits
 HandoffFits_after c s y _ n fits = fits
 
--- The watcher sees a posted handoff as it did
+-- The watcher sees a posted handoff as before
 
 watches_as_seen : (g h : Ghost) (pusher : Pusher) → ((u : ℕ) → is_queued (g.standing u) ≡ true → is_queued (h.standing u) ≡ true)
     → WatchesAsPusher g pusher → WatchesAsPusher h pusher
@@ -243,12 +245,12 @@ WatchesAt_seen c d g h t x (ReleasePushRecheck releaser) same queue still watche
 WatchesAt_seen c d g h t x (ReleaseHandoffExchange releaser) same queue still watches = same ∙ watches
 WatchesAt_seen c d g h t x _ same queue still watches = watches
 
--- Seat s moves on, with the count, the owner and the wake words
+-- Seat s moves on, while the count, the owner and the wake words may change
 
 abbrev pub moved : Core → ℕ → SeatState → ℕ → ℕ → List Wake → Core
 moved c s y count owner wakes = record c { count = count; owner = owner; wakes = wakes; seats = with_entry c.seats s y }
 
--- a seat sees nothing of it
+-- another seat sees nothing of the move
 pub sees_moved : (c : Core) (g : Ghost) (s : ℕ) (y : SeatState) (count owner : ℕ) (wakes : List Wake) (t : ℕ) (x : SeatState) → IsSeat c.seats s
     → (seat c.seats s).posts ≤ y.posts → Sees c (moved c s y count owner wakes) g g t x
 sees_moved c g s y count owner wakes t x is more =
@@ -272,13 +274,13 @@ sees_moved c g s y count owner wakes t x is more =
       watches = λ watches place here. WatchesAt_seen c (moved c s y count owner wakes) g g t x x.point refl (λ queue. queue) (λ u waiting. waiting) (watches place here);
     }
 
--- and the facts of each seat stay
+-- the facts of each seat stay
 pub fits_moved : (c : Core) (g : Ghost) (s : ℕ) (y : SeatState) (count owner : ℕ) (wakes : List Wake) (t : ℕ) (x : SeatState) (w : Wake) → IsSeat c.seats s
     → (seat c.seats s).posts ≤ y.posts → x.posts ≤ (seat c.seats t).posts → SeatFits c g t x w → SeatFits (moved c s y count owner wakes) g t x w
 fits_moved c g s y count owner wakes t x w is more posts fits =
     SeatFits_seen c (moved c s y count owner wakes) g g t x w posts (sees_moved c g s y count owner wakes t x is more) fits
 
--- as many words and seats as before
+-- there are as many words and seats as before
 pub sizes_after : (c d : Core) (s : ℕ) (y : SeatState) → d.seats ≡ with_entry c.seats s y → length d.links ≡ length c.links → length d.wakes ≡ length c.wakes
     → d.budget ≡ c.budget → SizesFit c → SizesFit d
 sizes_after c d s y seats links wakes budget sizes =
@@ -290,7 +292,7 @@ sizes_after c d s y seats links wakes budget sizes =
       budget = omega (arith, sizes.budget, budget);
     }
 
--- what is left to show of such a move
+-- what remains to be shown for such a move
 pub moves_on : (c : Core) (g : Ghost) (s : ℕ) (y : SeatState) (count owner : ℕ) (wakes : List Wake) (place : Responsibility) (answered : ℕ) → IsSeat c.seats s → Fits c g
     → Errands c s y → length wakes ≡ length c.wakes → ((t : ℕ) → t ≢ s → wake wakes t ≡ wake c.wakes t)
     → ((t : ℕ) → t ≢ s → Sees c (moved c s y count owner wakes) g (record g { place = place; answered = answered }) t (seat c.seats t))
@@ -311,7 +313,7 @@ moves_on c g s y count owner wakes place answered is fits errands sized woken se
       sizes = sizes_after c _ s y refl refl sized refl fits.sizes;
     }
 
--- the words fit as they did, if the count, the owner and the place stay
+-- the words fit as before if the count, the owner and the place stay the same
 pub words_stay : (c : Core) (g : Ghost) (s : ℕ) (y : SeatState) (wakes : List Wake) → WordsFit c g → WordsFit (moved c s y c.count c.owner wakes) g
 words_stay c g s y wakes words =
     record {
@@ -331,7 +333,7 @@ words_stay c g s y wakes words =
 pub wake-with_same : (c : Core) (s : ℕ) (w : Wake) → IsSeat c.seats s → SizesFit c → wake (with_entry c.wakes s w) s ≡ w
 wake-with_same c s w is sizes = entry-with_same Quiet c.wakes s w is.above (omega (arith, is.within, sizes.wakes))
 
--- seat s moves on with its errands; its own facts are asked for in the state before, with its new view
+-- seat s moves on with the same errands; its own facts are premises, in the state before and with its new state
 pub view_moves : (c : Core) (g : Ghost) (s : ℕ) (y : SeatState) → IsSeat c.seats s → Fits c g → Errands c s y
     → SeatFits c g s y (wake c.wakes s) → Fits (put c s y) g
 view_moves c g s y is fits errands own =
@@ -339,7 +341,7 @@ view_moves c g s y is fits errands own =
     moves_on c g s y c.count c.owner c.wakes g.place g.answered is fits errands refl (λ t other. refl)
     (λ t other. sees_moved c g s y c.count c.owner c.wakes t (seat c.seats t) is more) (words_stay c g s y c.wakes fits.words) own
 
--- the same with a write of its own wake word
+-- the same, together with a write of its own wake word
 pub wake_moves : (c : Core) (g : Ghost) (s : ℕ) (y : SeatState) (w : Wake) → IsSeat c.seats s → Fits c g → Errands c s y
     → SeatFits c g s y w → Fits (put (put_wake c s w) s y) g
 wake_moves c g s y w is fits errands own =
@@ -349,7 +351,7 @@ wake_moves c g s y w is fits errands own =
     (λ t other. sees_moved c g s y c.count c.owner wakes t (seat c.seats t) is more) (words_stay c g s y wakes fits.words)
     (rw (wake-with_same c s w is fits.sizes) own)
 
--- the place is nobody's, or lies with seat s and with no other seat
+-- the place is `nobody`, or is with seat s and with no other seat
 abbrev pub IsOf : ℕ → Responsibility → Type 0
 IsOf s nobody = ⊤
 IsOf s (owned t again) = t ≡ s
@@ -360,7 +362,7 @@ IsOf s (accepting t) = t ≡ s
 IsOf s (leaving t) = t ≡ s
 IsOf s (serving t) = t ≡ s
 
--- When the claim of a seat, or the place, tells the other
+-- The claim of a seat determines the place, and the place the claims
 
 holder_of : (t s : ℕ) (p q : Responsibility) → q ≢ nobody → q ≡ cond (eqb t s) p nobody → p ≡ q
 holder_of t s p q some e =
@@ -369,7 +371,7 @@ holder_of t s p q some e =
       | inr other ↦ absurd (some (e ∙ cond-false (eqb t s) p nobody (ne_eqb t s other)))
     ]
 
--- a claim tells the place
+-- a claim determines the place
 pub place_of_claim : (p q : Responsibility) (s : ℕ) → q ≢ nobody → q ≡ held_by p s → p ≡ q
 place_of_claim nobody q s some e = absurd (some e)
 place_of_claim (owned t again) q s some e = holder_of t s _ q some e
@@ -380,7 +382,7 @@ place_of_claim (accepting t) q s some e = holder_of t s _ q some e
 place_of_claim (leaving t) q s some e = holder_of t s _ q some e
 place_of_claim (serving t) q s some e = holder_of t s _ q some e
 
--- a place that lies with seat s gives no other seat anything
+-- a place with seat s gives other seats no claim
 pub held_by-other : (p : Responsibility) (s t : ℕ) → IsOf s p → t ≢ s → held_by p t ≡ nobody
 held_by-other nobody s t by other = refl
 held_by-other (owned u again) s t by other = rw (ne_eqb u t (omega arith))
@@ -400,7 +402,7 @@ pub is_entered-other : (p : Responsibility) (s t : ℕ) → IsOf s p → t ≢ s
 is_entered-other (entering u into stamp) s t by other = ne_eqb into t (omega (arith, by.1))
 is_entered-other _ s t by other = refl
 
--- the place moves between those of seat s, with the count and the owner
+-- the place moves between those of seat s, together with the count and the owner
 pub record Moves (c : Core) (g : Ghost) (s : ℕ) (y : SeatState) (count owner : ℕ) (place : Responsibility) (answered : ℕ) : Type 0 where
   pub errands : Errands c s y
   pub before : IsOf s g.place
@@ -413,7 +415,7 @@ pub record Moves (c : Core) (g : Ghost) (s : ℕ) (y : SeatState) (count owner :
   pub answers : answered + unanswered place ≡ g.popped
   pub own : SeatFits c (record g { place = place; answered = answered }) s y (wake c.wakes s)
 
--- another seat sees nothing of it
+-- another seat sees nothing of the move of the place
 pub sees_place_moved : (c : Core) (g : Ghost) (s : ℕ) (y : SeatState) (count owner : ℕ) (place : Responsibility) (answered t : ℕ) (x : SeatState) → IsSeat c.seats s
     → (seat c.seats s).posts ≤ y.posts → IsOf s g.place → IsOf s place → t ≢ s
     → Sees c (moved c s y count owner c.wakes) g (record g { place = place; answered = answered }) t x
@@ -438,7 +440,7 @@ sees_place_moved c g s y count owner place answered t x is more before after oth
       watches = λ watches stands. absurd (rw stands at after);
     }
 
--- nothing is posted while the place lies with a seat or with nobody
+-- nothing is posted while the place is `nobody` or is with a seat
 pub HandoffFits_unposted : (seats : List SeatState) (p : Responsibility) (s : ℕ) (n : Handoff) → IsOf s p → HandoffFits seats p n → n ≡ unposted
 HandoffFits_unposted seats posted s n by fits = absurd by
 HandoffFits_unposted seats _ s n by fits = fits

@@ -1,4 +1,4 @@
--- How the records of the pushes, the pops and the answers go on with a step.
+-- How a step extends the lists of pushes, pops and answers.
 use Rattle.std.proofs.Common.{◌≡◌, ℕ, zero, suc, ◌+◌, ◌<◌, ◌≤◌, [], ◌∷◌, ◌++◌, refl, sym, ◌∙◌, arith}
 use Rattle.std.proofs.lemmas.List.{append-nil}
 use Rattle.lfm_words.specs.declared.pop_lists.Record.{Record}
@@ -29,7 +29,7 @@ records_append f k (suc m) n =
     let last : k + suc m ≡ k + 1 + m = omega arith in
     rw (more, last, records_append f (k + 1) m n)
 
--- the records up to one more stamp, of functions that agree up to the last
+-- the records up to one more stamp, for functions that agree up to the last stamp
 records_grow : (f f' : ℕ → ℕ) (n : ℕ) → ((x : ℕ) → x ≤ n → f' x ≡ f x) → records f' 0 (n + 1) ≡ records f 0 n ++ record { seat = f' (n + 1); stamp = n + 1 } ∷ []
 records_grow f f' n same =
     let none : 0 + n + 1 ≡ n + 1 = omega arith in

@@ -33,7 +33,7 @@ seats-step_of c s t (Some Kind.WakeStore) = length-with_entry c.seats s _
 seats-step_of c s t (Some Kind.WakeExchange) =
     length-with_entry (claims_word c t (wake c.wakes t)).seats s _ ∙ ap length (seats-claims_word c t (wake c.wakes t))
 
--- a turn that is made under a test, and refused otherwise
+-- the two outcomes of a test: the turn is made, or it is refused
 pub seats_of_two : (c : Core) (b : Bool) (x y : Moved) → length x.core.seats ≡ length c.seats → length y.core.seats ≡ length c.seats
     → length (if b then x else y).core.seats ≡ length c.seats
 seats_of_two c true x y p q = p

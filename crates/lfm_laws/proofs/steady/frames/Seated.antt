@@ -1,5 +1,5 @@
--- Which numbers are those of seats: each that does not stand apart from the queue, each whose point isn't Rest, and each that
--- the test of a number passes.
+-- Numbers that are those of seats: each that is not apart from the queue, each whose point isn't Rest, and each that passes the
+-- test of a number.
 use Rattle.std.proofs.Common.{◌≡◌, ◌≢◌, ℕ, true, ◌+◌, ◌<◌, ◌≤◌, List, length, sym, ap, ◌∙◌, inl, inr, arith, tests}
 use Rattle.std.proofs.lemmas.Bool.{and_from, lt-ltb}
 use Rattle.lfm_protocol.specs.declared.points.Point.TheVariants.{Rest}
@@ -30,11 +30,11 @@ seat_of_point seats s moved =
       | inr none ↦ absurd (moved (ap (λ x. x.point) none))
     ]
 
--- the record with a stamp of the queue is that of a seat
+-- the record with a stamp in the queue belongs to a seat
 pub seat_of_stamp : (c : Core) (g : Ghost) (stamp : ℕ) → Fits c g → g.popped < stamp → stamp ≤ g.pushed → IsSeat c.seats (g.pushed_at stamp)
 seat_of_stamp c g stamp fits above within = seat_of_queued c g (g.pushed_at stamp) stamp fits (fits.stamps stamp above within).stands
 
--- the test of a number says exactly whether a seat has it
+-- the test of a number passes exactly if a seat has it
 pub seat_of_test : (seats : List SeatState) (s : ℕ) → is_seat seats s ≡ true → IsSeat seats s
 seat_of_test seats s is =
     record { above = search (tests, arith, is); within = search (tests, arith, is) }

@@ -10,7 +10,7 @@ changed_same f i x = cond-true (eqb i i) x (f i) (eq-eqb i i refl)
 pub changed_other : {A : Type 0} (f : ℕ → A) (i j : ℕ) (x : A) → j ≢ i → changed f i x j ≡ f j
 changed_other f i j x other = cond-false (eqb j i) x (f j) (ne_eqb j i other)
 
--- functions that agree have one sum
+-- functions that agree have the same sum
 pub sum_agrees : (n : ℕ) (f f' : ℕ → ℕ) → ((i : ℕ) → f' i ≡ f i) → sum_to f' n ≡ sum_to f n
 sum_agrees zero f f' same = refl
 sum_agrees (suc n) f f' same = omega (arith, sum_agrees n f f' same, same (suc n))
@@ -32,7 +32,7 @@ sum_update (suc n) i f f' above within same =
       | inr other ↦ let below = sum_update n i f f' above (omega arith) same in let last = same (suc n) (omega arith) in omega arith
     ]
 
--- each value is within the sum
+-- each value is at most the sum
 pub sum_member : (n i : ℕ) (f : ℕ → ℕ) → 0 < i → i ≤ n → f i ≤ sum_to f n
 sum_member zero i f above within = absurd (omega arith)
 sum_member (suc n) i f above within =
@@ -41,12 +41,12 @@ sum_member (suc n) i f above within =
       | inr other ↦ let below = sum_member n i f above (omega arith) in omega arith
     ]
 
--- values of at most b each
+-- n values of at most b each sum to at most n * b
 pub sum_bound : (n b : ℕ) (f : ℕ → ℕ) → ((i : ℕ) → f i ≤ b) → sum_to f n ≤ n * b
 sum_bound zero b f most = omega arith
 sum_bound (suc n) b f most = let below = sum_bound n b f most in let last = most (suc n) in omega (arith, suc-mul n b)
 
--- the same if one of them is less
+-- the same, less one, if one of them is less than b
 pub sum_bound_less : (n b i : ℕ) (f : ℕ → ℕ) → 0 < i → i ≤ n → ((j : ℕ) → f j ≤ b) → f i + 1 ≤ b → sum_to f n + 1 ≤ n * b
 sum_bound_less zero b i f above within most less = absurd (omega arith)
 sum_bound_less (suc n) b i f above within most less =
@@ -68,7 +68,7 @@ pub sum_add : (n : ℕ) (f f' : ℕ → ℕ) → sum_to (λ i. f i + f' i) n ≡
 sum_add zero f f' = refl
 sum_add (suc n) f f' = omega (arith, sum_add n f f')
 
--- a sum of nothing
+-- a sum of zeros is 0
 pub sum_none : (n : ℕ) (f : ℕ → ℕ) → ((i : ℕ) → f i ≡ 0) → sum_to f n ≡ 0
 sum_none zero f none = refl
 sum_none (suc n) f none = omega (arith, sum_none n f none, none (suc n))

@@ -1,4 +1,4 @@
--- A seat that sleeps since its start_wait fits however it stands, and a seat that a send has claimed sleeps so.
+-- A seat that sleeps since its start_wait fits with any standing, and a seat that a send has claimed sleeps in this way.
 use Rattle.std.proofs.Common.{◌≡◌, ℕ, true, false, None, refl, ◌+◌, ◌≤◌, sym, ◌∙◌}
 use Rattle.lfm_protocol.specs.declared.points.Point.{Point}
 use Rattle.lfm_protocol.specs.declared.points.Point.TheVariants.{Asleep, ReceiveWakeLoad}
@@ -12,7 +12,7 @@ use Rattle.lfm_laws.specs.steady.Views.{claim_at, held_by, grant_at, is_entered,
 use Rattle.lfm_laws.proofs.steady.grant.Wakings.{none_from, false_from, claimed_sleeps_at}
 use Rattle.std.proofs.lemmas.Bool.{false≢true}
 
--- What a seat that sleeps since a start_wait reads
+-- What a seat reads that sleeps since a start_wait
 
 woken_asleep : (place : Responsibility) (standing : Standing) (u : ℕ) (p : Point) → sleeps_as_waiter p ≡ true → wake_at place standing u p ≡ wake_of_waiter place standing u
 woken_asleep place standing u (Asleep Sleeper.Waiter) sleeps = refl
@@ -34,13 +34,13 @@ pub pays_asleep : (c : Core) (g : Ghost) (u : ℕ) (x : SeatState) (w : Wake) �
     → g.pushes u + due_to_waiter w (g.standing u) ≤ x.takes
 pays_asleep c g u x w sleeps fits = rw (due_asleep x.depth w (g.standing u) x.point sleeps) at fits.pushes
 
--- it may stand anyhow
+-- it may have any standing
 stands_asleep : (place : Responsibility) (depth u : ℕ) (standing : Standing) (p : Point) → sleeps_as_waiter p ≡ true → StandsAt place depth u standing p
 stands_asleep place depth u standing (Asleep Sleeper.Waiter) sleeps = tt
 stands_asleep place depth u standing (ReceiveWakeLoad Sleeper.Waiter) sleeps = tt
 stands_asleep place depth u standing _ sleeps = absurd (cc sleeps)
 
--- a sleeping waiter knows of nothing and watches nothing
+-- a sleeping waiter needs to know nothing and watches nothing
 knows_asleep : (c : Core) (g : Ghost) (u posts : ℕ) (p : Point) → sleeps_as_waiter p ≡ true → KnowsAt c g u posts p
 knows_asleep c g u posts (Asleep Sleeper.Waiter) sleeps = tt
 knows_asleep c g u posts (ReceiveWakeLoad Sleeper.Waiter) sleeps = tt
@@ -51,14 +51,14 @@ watches_asleep c g u x (Asleep Sleeper.Waiter) sleeps watches = watches
 watches_asleep c g u x (ReceiveWakeLoad Sleeper.Waiter) sleeps watches = watches
 watches_asleep c g u x _ sleeps watches = absurd (cc sleeps)
 
--- and has no part of the responsibility
+-- a sleeping waiter has no part of the responsibility
 pub claim_asleep : (depth u : ℕ) (p : Point) → sleeps_as_waiter p ≡ true → claim_at depth u p ≡ nobody
 claim_asleep depth u (Asleep Sleeper.Waiter) sleeps = refl
 claim_asleep depth u (ReceiveWakeLoad Sleeper.Waiter) sleeps = refl
 claim_asleep depth u _ sleeps = absurd (cc sleeps)
 
--- so it fits if it stands anew, as long as nothing is granted to it: its wake word, its record in the queue and what it pays
--- are premises
+-- so it fits with a new standing if nothing is granted to it; its wake word, its record in the queue and what it pays are
+-- premises
 pub sleeper_fits : (c d : Core) (g h : Ghost) (u : ℕ) (x : SeatState) (w v : Wake) → sleeps_as_waiter x.point ≡ true → SeatFits c g u x w
     → d.handoff ≡ c.handoff → d.budget ≡ c.budget → held_by h.place u ≡ held_by g.place u → grant_at h.place u ≡ None
     → v ≡ wake_of_waiter h.place (h.standing u) u → (is_entered h.place u ≡ true → held_by h.place u ≡ nobody → h.standing u ≡ apart)
@@ -84,11 +84,11 @@ sleeper_fits c d g h u x w v sleeps fits handoff budget held none woken entered 
 pub not_apart : (s : ℕ) (standing : Standing) → standing ≡ claimed s → standing ≡ apart → ⊥
 not_apart s standing e f = cc
 
--- nothing is granted to a seat at a point at which it doesn't wait for a grant
+-- nothing is granted to a seat at a point at which it does not await a grant
 pub ungranted_at : (c : Core) (g : Ghost) (s : ℕ) (x : SeatState) (w : Wake) → awaits_grant x.point ≡ false → SeatFits c g s x w → grant_at g.place s ≡ None
 ungranted_at c g s x w awake fits = none_from (grant_at g.place s) (λ some. absurd (cc (fits.granted some).0))
 
--- and no other call brings it in
+-- no other call brings in a seat that is not a sleeping waiter
 pub unentered_at : (c : Core) (g : Ghost) (s : ℕ) (x : SeatState) (w : Wake) → sleeps_as_waiter x.point ≡ false → held_by g.place s ≡ nobody → SeatFits c g s x w
     → is_entered g.place s ≡ false
 unentered_at c g s x w awake held fits = false_from (is_entered g.place s) (λ into. absurd (cc (fits.entered into held).0))

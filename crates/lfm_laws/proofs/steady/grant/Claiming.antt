@@ -1,5 +1,5 @@
--- The two steps by which a send changes how its target stands: it claims a seat that waits, and, if the count was 0, it brings
--- in the seat that it has claimed.
+-- The two steps of a send that change the standing of its target: it claims a seat that waits, and, if the count was 0, it
+-- brings in the claimed seat.
 use Rattle.std.proofs.Common.{◌≡◌, ◌≢◌, ℕ, true, false, ◌+◌, ◌≤◌, List, refl, sym, ap, ◌∙◌, arith}
 use Rattle.std.proofs.lemmas.Bool.{eq-eqb, ne_eqb}
 use Rattle.lfm_protocol.specs.declared.seats.SeatState.{SeatState}
@@ -21,11 +21,11 @@ use Rattle.lfm_laws.proofs.steady.grant.Claimed.{sleeper_fits, wake_asleep, pays
 
 -- The claim
 
--- seat s has claimed seat u
+-- the ghost after seat s has claimed seat u
 abbrev pub claiming : Ghost → ℕ → ℕ → Ghost
 claiming g s u = record g { standing = changed g.standing u (claimed s) }
 
--- seat s goes on with the view y and the errand to count seat u, whose wake word it found WAITING
+-- seat s goes on with state y and the errand to count seat u, whose wake word it found WAITING
 pub record Claims (c : Core) (g : Ghost) (s u : ℕ) (y : SeatState) : Type 0 where
   pub known : IsSeat c.seats u
   pub other : u ≢ s
@@ -36,7 +36,7 @@ pub record Claims (c : Core) (g : Ghost) (s u : ℕ) (y : SeatState) : Type 0 wh
   pub posts_same : y.posts ≡ (seat c.seats s).posts
   pub own : SeatFits c (claiming g s u) s y (wake c.wakes s)
 
--- the seat that is claimed
+-- the claimed seat fits
 claimed_fits : (c : Core) (g : Ghost) (s u : ℕ) (x : SeatState) → IsWaiting g.place (g.standing u) u x.point → SeatFits c g u x Waiting
     → SeatFits c (claiming g s u) u x Claimed
 claimed_fits c g s u x waits here =
@@ -45,7 +45,7 @@ claimed_fits c g s u x waits here =
     sleeper_fits c c g (claiming g s u) u x Waiting Claimed waits.sleeps here refl refl refl waits.ungranted (rw now refl)
     (λ into none. let f = sym into ∙ waits.unentered in absurd (cc)) (λ stamp e. let f = sym now ∙ e in absurd (cc)) (rw now due) here.watches
 
--- a queued seat stays queued if a seat stands anew that was not
+-- a queued seat stays queued if a seat that was not queued changes its standing
 queued_on : (g : Ghost) (u : ℕ) (standing : Standing) → is_queued (g.standing u) ≡ false → (t : ℕ) → is_queued (g.standing t) ≡ true
     → is_queued (changed g.standing u standing t) ≡ true
 queued_on g u standing unqueued t is =
@@ -95,14 +95,14 @@ words_claim c g s u y wakes words =
       listed = words.listed;
     }
 
--- a seat that is at no send has claimed nobody
+-- a seat that is at no send has claimed no seat
 unsent : (c : Core) (g : Ghost) (s : ℕ) → Fits c g → claims_for (seat c.seats s) ≡ 0 → (t : ℕ) → g.standing t ≢ claimed s
 unsent c g s fits idle t stands =
     let none : t ≡ 0 = sym ((fits.agents t).sent s stands) ∙ idle in
     let f = sym stands ∙ ap g.standing none ∙ zero_apart c g fits in
     cc
 
--- the send of seat s has claimed seat u
+-- the state stays steady when the send of seat s claims seat u
 pub claim_moves : (c : Core) (g : Ghost) (s u : ℕ) (y : SeatState) → IsSeat c.seats s → Fits c g → Claims c g s u y
     → Fits (put (put_wake c u Claimed) s y) (claiming g s u)
 claim_moves c g s u y is fits claims =
@@ -125,13 +125,13 @@ claim_moves c g s u y is fits claims =
       sizes = sizes_after c _ s y refl refl (length-with_entry c.wakes u Claimed) refl fits.sizes;
     }
 
--- The count of a claimed seat if the count was 0
+-- The count add for a claimed seat if the count was 0
 
--- seat s brings seat u in
+-- the ghost after seat s has begun to bring in seat u
 abbrev pub bringing : Ghost → ℕ → ℕ → Ghost
 bringing g s u = record g { place = entering s u 0; standing = changed g.standing u apart }
 
--- seat s goes on with the view y and brings in the seat u that it has claimed
+-- seat s goes on with state y and brings in seat u, which it has claimed
 pub record Brings (c : Core) (g : Ghost) (s u : ℕ) (y : SeatState) : Type 0 where
   pub free : c.count ≡ 0
   pub other : u ≢ s
@@ -150,14 +150,14 @@ nobody_from (accepting s) asking pushed popped none few work = absurd (omega ari
 nobody_from (leaving s) asking pushed popped none few work = absurd (omega arith)
 nobody_from (serving s) asking pushed popped none few work = absurd (omega arith)
 
--- a count of 0 tells that nobody holds the mutex or waits for it
+-- if the count is 0, no seat holds the mutex or waits for it
 pub free_place : (c : Core) (g : Ghost) → WordsFit c g → c.count ≡ 0 → g.place ≡ nobody
 free_place c g words free =
     let none : own_unit g.place ≡ 0 = omega (arith, words.count, words.parts, free) in
     let few : g.asking + g.pushed ≤ g.popped = omega (arith, words.count, free) in
     nobody_from g.place g.asking g.pushed g.popped none few words.work
 
--- the seat that is brought in
+-- the seat that is brought in fits
 brought_fits : (c : Core) (g : Ghost) (s u : ℕ) (x : SeatState) (w : Wake) → g.place ≡ nobody → g.standing u ≡ claimed s → u ≢ s → sleeps_as_waiter x.point ≡ true
     → SeatFits c g u x w → SeatFits c (bringing g s u) u x w
 brought_fits c g s u x w place stands other sleeps here =
@@ -209,7 +209,7 @@ words_bringing c g s u y words free place =
       listed = words.listed;
     }
 
--- the send of seat s brings seat u in
+-- the state stays steady when the send of seat s brings in seat u
 pub bring_moves : (c : Core) (g : Ghost) (s u : ℕ) (y : SeatState) → IsSeat c.seats s → Fits c g → Brings c g s u y
     → Fits (put (record c { count = c.count + 1 }) s y) (bringing g s u)
 bring_moves c g s u y is fits brings =

@@ -1,4 +1,4 @@
--- A seat comes to the owner store of a call that found the mutex free, and owns it then.
+-- A seat reaches the owner store of a call that found the mutex free, and then owns the mutex.
 use Rattle.std.proofs.Common.{◌≡◌, ℕ, ◌+◌, ◌<◌, ◌≤◌, Some, None, [], refl, sym, ◌∙◌, arith}
 use Rattle.std.proofs.lemmas.Bool.{eq-eqb}
 use Rattle.lfm_model.specs.declared.answers.How.{How}
@@ -17,7 +17,7 @@ use Rattle.lfm_laws.specs.steady.Views.{claim_to_enter, held_by, grant_at, wake_
 use Rattle.lfm_laws.proofs.steady.frames.Frames.{place_moves}
 use Rattle.lfm_laws.proofs.steady.frames.Histories.{history_stays}
 
--- The count is 0 exactly if the responsibility lies with nobody
+-- The count is 0 exactly if the place is `nobody`
 
 place_of_none : (p : Responsibility) (count asking pushed popped : ℕ) → popped ≤ pushed → count + popped ≡ asking + pushed + own_unit p + again_unit p
     → WorkFits p asking pushed popped → count ≡ 0 → p ≡ nobody
@@ -57,7 +57,7 @@ apart_not_queued standing stamp e f = cc
 entering_held : (s : ℕ) → held_by (entering s s 0) s ≡ nobody → ⊥
 entering_held s = rw (eq-eqb s s refl) (λ e. cc)
 
--- what seat s keeps on its way to enter
+-- what seat s keeps until it enters
 pub record Enters (c : Core) (g : Ghost) (s takes posts : ℕ) : Type 0 where
   pub quiet : wake c.wakes s ≡ Quiet
   pub stands : g.standing s ≡ apart
@@ -85,7 +85,7 @@ entering_own c g s takes posts entrant enters =
       watches = λ place here. absurd (cc place);
     }
 
--- What a seat at the point p keeps that may enter by its next step
+-- What a seat keeps at a point p from which it may enter with its next step
 pub record MayEnter (s : ℕ) (p : Point) : Type 0 where
   pub quiet : (place : Responsibility) (standing : Standing) → wake_at place standing s p ≡ Quiet
   pub stands : (place : Responsibility) (standing : Standing) → StandsAt place 0 s standing p → standing ≡ apart
@@ -105,7 +105,7 @@ enters_of c g s takes posts p may none here =
       pushed = omega (arith, here.pushes);
     }
 
--- nobody has the responsibility, and seat s gains it
+-- the place is `nobody`, and seat s gains the responsibility
 pub enters_free : (c : Core) (g : Ghost) (s takes posts : ℕ) (p : Point) (entrant : Entrant) → IsSeat c.seats s
     → seat c.seats s ≡ record { depth = 0; takes = takes; posts = posts; point = p } → MayEnter s p → Fits c g → c.count ≡ 0
     → Fits (put (record c { count = 1 }) s (record { depth = 0; takes = takes; posts = posts; point = EnterOwnerStore entrant How.Free }))

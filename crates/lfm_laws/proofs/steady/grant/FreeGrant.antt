@@ -1,4 +1,4 @@
--- The free grant of a send: the seat that it brings in is granted, and nothing of the queue changes.
+-- The free grant of a send: the seat that it brings in is granted, and the queue is unchanged.
 use Rattle.std.proofs.Common.{◌≡◌, ◌≢◌, ℕ, true, false, ◌≤◌, None, List, length, refl, sym, ◌∙◌, inl, inr, arith}
 use Rattle.std.proofs.lemmas.Bool.{cases_eq, cases_lt, eq-eqb, ne_eqb, false≢true}
 use Rattle.lfm_protocol.specs.declared.points.Point.{Point}
@@ -33,15 +33,15 @@ awaiting_seat c u awaits =
 
 -- The grant
 
--- the wake words once seat t has a free grant
+-- the wake words after the free grant of seat t
 abbrev pub free_wakes : Core → ℕ → List Wake
 free_wakes c t = with_entry c.wakes t (Grant 0)
 
--- the ghost then
+-- the ghost after it
 abbrev pub freed_to : Ghost → ℕ → Ghost
 freed_to g t = record g { place = granted t 0 }
 
--- the target of a send that enters has no part of the responsibility but that it is brought in
+-- the target of a send that brings it in has no other part of the responsibility
 entered_waits : (g : Ghost) (s t : ℕ) → g.place ≡ entering s t 0 → t ≢ s → (held_by g.place t ≡ nobody) × (is_entered g.place t ≡ true)
 entered_waits g s t place other =
     (rw (place, ne_eqb s t (λ e. other (sym e))) refl, rw (place, eq-eqb t t refl) refl)
@@ -88,7 +88,7 @@ sees_freed c g s t y wakes is fits more place v other away x =
       watches = λ watch placed at. (let clash : granted t 0 ≡ posted = placed in absurd (cc));
     }
 
--- a send of seat s has given its target t a free grant, and s stands at such a point
+-- the state stays steady when a send of seat s has given its target t a free grant and s is at such a point
 pub free_fits : (c : Core) (g : Ghost) (s t : ℕ) (p : Point) → IsSeat c.seats s → Fits c g → Errands c s (record (seat c.seats s) { point = p })
     → g.place ≡ entering s t 0 → t ≢ s → Rests g s t 0 (seat c.seats s) (wake c.wakes s) p
     → Fits (put (handed c c.owner c.popped (free_wakes c t)) s (record (seat c.seats s) { point = p })) (freed_to g t)

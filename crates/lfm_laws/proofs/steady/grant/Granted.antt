@@ -1,4 +1,4 @@
--- The seat that is granted: where it can stand when the grant comes, and its facts once its wake word holds the grant.
+-- The seat that is granted: the points at which it can be when it is granted, and its facts when its wake word holds the grant.
 use Rattle.std.proofs.Common.{◌≡◌, ℕ, Bool, true, false, ◌≤◌, List, Some, nat_eq, refl, sym, ◌∙◌, arith, if◌then◌else◌}
 use Rattle.std.proofs.lemmas.Bool.{eq-eqb, false≢true}
 use Rattle.lfm_protocol.specs.declared.points.Point.{Point}
@@ -17,7 +17,7 @@ use Rattle.lfm_laws.specs.steady.Steady.{KnowsAt, StandsAt, awaits_grant, sleeps
 use Rattle.lfm_laws.specs.steady.Views.{claim_at, claim_to_enter, held_by, grant_at, is_awaiting, expected_wake, due_pushes_at}
 use Rattle.lfm_laws.proofs.steady.handoff.Handing.{handed}
 
--- Where the granted seat is
+-- The point of the granted seat
 
 not_queued_if : (b : Bool) (stamp s : ℕ) → queued stamp ≡ (if b then asks s else apart) → ⊥
 not_queued_if true stamp s e = cc
@@ -50,13 +50,13 @@ awaits_queued place depth s stamp (GrantWakeStore carrier oldest) none stands = 
 awaits_queued place depth s stamp (EnterOwnerStore entrant how) none stands = absurd (enters_by_claim s entrant how none)
 awaits_queued place depth s stamp _ none stands = absurd (cc)
 
--- so does one that sleeps since a start_wait
+-- a seat that sleeps since a start_wait awaits a grant
 pub awaits_waiter : (p : Point) → sleeps_as_waiter p ≡ true → awaits_grant p ≡ true
 awaits_waiter (Asleep sleeper) sleeps = refl
 awaits_waiter (ReceiveWakeLoad sleeper) sleeps = refl
 awaits_waiter _ sleeps = absurd (false≢true sleeps)
 
--- What it then has
+-- Its facts after the grant
 
 grant_of : (u stamp : ℕ) → grant_at (granted u stamp) u ≡ Some stamp
 grant_of u stamp = rw (eq-eqb u u refl) refl
@@ -96,7 +96,7 @@ due_granted depth stamp wake before after (PushedHandoffLoad pusher) awaits = om
 due_granted depth stamp wake before after (PushedHandoffExchange pusher seen) awaits = omega arith
 due_granted depth stamp wake before after _ awaits = absurd (false≢true awaits)
 
--- a seat that awaits its grant, and has no part of the responsibility, fits once it is granted and stands apart
+-- a seat that awaits its grant, and has no part of the responsibility, fits when it is granted and apart
 pub granted_seat : (c : Core) (g h : Ghost) (u stamp owner : ℕ) (popped : List Record) (wakes : List Wake) (x : SeatState) (w : Wake) → SeatFits c g u x w
     → held_by g.place u ≡ nobody → awaits_grant x.point ≡ true → h.place ≡ granted u stamp → h.standing u ≡ apart → h.pushes u ≡ g.pushes u
     → SeatFits (handed c owner popped wakes) h u x (Grant stamp)

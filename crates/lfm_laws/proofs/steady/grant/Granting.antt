@@ -1,4 +1,4 @@
--- The stores that give a grant: of the first record of the queue by a call that serves, and the free grant of a send.
+-- The stores of a grant: for the first record of the queue by a call that serves, and the free grant of a send.
 use Rattle.std.proofs.Common.{◌≡◌, ◌≢◌, ℕ, ◌+◌, ◌≤◌, None, List, ◌∷◌, refl, sym, ap, ◌∙◌, arith}
 use Rattle.std.proofs.lemmas.Bool.{ne_eqb, false≢true}
 use Rattle.lfm_protocol.specs.declared.points.Point.{Point}
@@ -20,7 +20,7 @@ use Rattle.lfm_laws.proofs.steady.frames.Sums.{changed_same, changed_other}
 
 -- The granter
 
--- a point at which a seat stands that has given a grant: it claims nothing there, and what it knew is enough for it
+-- the point of a seat after it has stored a grant: it has no claim there, and what it knew suffices
 pub record Rests (g : Ghost) (s u stamp : ℕ) (x : SeatState) (w : Wake) (p : Point) : Type 0 where
   pub claims : claim_at x.depth s p ≡ nobody
   pub woken : w ≡ wake_at (granted u stamp) (g.standing s) s p
@@ -33,7 +33,7 @@ pub record Rests (g : Ghost) (s u stamp : ℕ) (x : SeatState) (w : Wake) (p : P
 pub grant_of_other : (u s stamp : ℕ) → u ≢ s → grant_at (granted u stamp) s ≡ None
 grant_of_other u s stamp other = rw (ne_eqb u s other) refl
 
--- a seat that gave a grant to another fits at such a point
+-- a seat that has granted another fits at such a point
 pub granter : (c : Core) (g h : Ghost) (s u stamp owner : ℕ) (popped : List Record) (wakes : List Wake) (x : SeatState) (w : Wake) (p : Point) → SeatFits c g s x w → u ≢ s
     → h.place ≡ granted u stamp → h.standing s ≡ g.standing s → h.pushes s ≡ g.pushes s → ((k : ℕ) → QueuedFits g s k → QueuedFits h s k)
     → Rests g s u stamp x w p → SeatFits (handed c owner popped wakes) h s (record x { point = p }) w
@@ -57,11 +57,11 @@ granter c g h s u stamp owner popped wakes x w p fits other place stands pushes 
 
 -- The grant of the first record
 
--- the wake words once the seat of this record is granted
+-- the wake words after the grant of this record's seat
 abbrev pub granted_wakes : Core → Record → List Wake
 granted_wakes c r = with_entry c.wakes r.seat (Grant r.stamp)
 
--- the ghost then
+-- the ghost after it
 abbrev pub granted_to : Ghost → Record → Ghost
 granted_to g r = popped_to g r.seat (granted r.seat r.stamp) g.answered
 
@@ -71,7 +71,7 @@ unanswered_granted u stamp some = rw (ne_eqb stamp 0 some) refl
 last_granted : (popped : ℕ) (pushed_at : ℕ → ℕ) (r : Record) → r.stamp ≡ popped → pushed_at popped ≡ r.seat → GrantFits popped pushed_at r.seat r.stamp
 last_granted popped pushed_at r stamp here some = (stamp, ap pushed_at stamp ∙ here)
 
--- the seat of the first record, which is granted
+-- the seat of the first record fits after its grant
 first_granted : (c : Core) (g : Ghost) (s : ℕ) (r : Record) (rest : List Record) → Fits c g → g.place ≡ serving s → IsFirst c g r rest → r.seat ≢ s
     → SeatFits (handed c c.owner rest (granted_wakes c r)) (granted_to g r) r.seat (seat c.seats r.seat) (Grant r.stamp)
 first_granted c g s r rest fits serves first other =
@@ -82,7 +82,7 @@ first_granted c g s r rest fits serves first other =
     let awaits = awaits_queued g.place x.depth r.seat (g.popped + 1) x.point (there.claims ∙ none) stands in
     granted_seat c g (granted_to g r) r.seat r.stamp c.owner rest (granted_wakes c r) x (wake c.wakes r.seat) there none awaits refl (changed_same g.standing r.seat apart) refl
 
--- a call of seat s that serves has granted the first record, and stands at such a point
+-- the state stays steady when a call of seat s that serves has granted the first record and s is at such a point
 pub grant_fits : (c : Core) (g : Ghost) (s : ℕ) (r : Record) (rest : List Record) (p : Point) → IsSeat c.seats s → Fits c g
     → Errands c s (record (seat c.seats s) { point = p }) → g.place ≡ serving s → g.walk ≡ 0 → c.popped ≡ r ∷ rest → IsFirst c g r rest → IsSeat c.seats r.seat → r.seat ≢ s
     → Rests g s r.seat r.stamp (seat c.seats s) (wake c.wakes s) p

@@ -1,4 +1,4 @@
--- A seat joins the seats that ask: counted by its own lock, or, if the count was not 0, by the send that has claimed it.
+-- A seat starts to ask: it is counted by its own lock, or, if the count was not 0, by the send that has claimed it.
 use Rattle.std.proofs.Common.{◌≡◌, ◌≢◌, ℕ, true, false, ◌||◌, nat_eq, ◌+◌, ◌<◌, ◌≤◌, Some, None, length, inl, inr, refl, sym, ap, ◌∙◌, arith}
 use Rattle.std.proofs.lemmas.Bool.{cases_eq, eq-eqb, ne_eqb}
 use Rattle.std.proofs.Math.Bool.{or-false}
@@ -23,11 +23,11 @@ use Rattle.lfm_laws.proofs.steady.frames.Seated.{seat_of_standing, seat_of_askin
 use Rattle.lfm_laws.proofs.steady.handoff.Handing.{each_after_two}
 use Rattle.lfm_words.specs.declared.wakes.Wake.TheVariants.{Claimed}
 
--- seat s has counted seat u
+-- the ghost after seat s has counted seat u
 abbrev pub joined : Ghost → ℕ → ℕ → Ghost
 joined g s u = record g { standing = changed g.standing u (asks s); asking = g.asking + 1 }
 
--- seat s goes on with the view y and the errand to push seat u
+-- seat s goes on with state y and the errand to push seat u
 pub record Joins (c : Core) (g : Ghost) (s u : ℕ) (y : SeatState) : Type 0 where
   pub some : 0 < c.count
   pub idle : asks_for (seat c.seats s) s ≡ 0
@@ -36,12 +36,12 @@ pub record Joins (c : Core) (g : Ghost) (s u : ℕ) (y : SeatState) : Type 0 whe
   pub posts_same : y.posts ≡ (seat c.seats s).posts
   pub own : SeatFits c (joined g s u) s y (wake c.wakes s)
 
--- The seat that joins
+-- The seat that starts to ask
 
 asks_not_queued : (s stamp : ℕ) → asks s ≡ queued stamp → ⊥
 asks_not_queued s stamp e = cc
 
--- a claimed seat fits as it did once it is counted
+-- a claimed seat still fits when it is counted
 claimed_joins : (c : Core) (g : Ghost) (s u : ℕ) (x : SeatState) (w : Wake) → g.standing u ≡ claimed s → SeatFits c g u x w → SeatFits c (joined g s u) u x w
 claimed_joins c g s u x w stands fits =
     let now : (joined g s u).standing u ≡ asks s = changed_same g.standing u (asks s) in
@@ -110,7 +110,7 @@ words_join c g s u y fits some =
       listed = fits.words.listed;
     }
 
--- a queued seat still stands queued
+-- a queued seat stays queued
 still_queued : (g : Ghost) (s u t : ℕ) → Unasked g s u → is_queued (g.standing t) ≡ true → is_queued ((joined g s u).standing t) ≡ true
 still_queued g s u t unasked waits =
     elim (cases_eq t u) [
@@ -136,7 +136,7 @@ stamps_join c g s u y stamp unasked fits =
       walked = fits.walked;
     }
 
--- another seat sees nothing of it
+-- another seat sees nothing of the count
 sees_join : (c : Core) (g : Ghost) (s u t : ℕ) (y x : SeatState) → IsSeat c.seats s → (seat c.seats s).posts ≤ y.posts → Unasked g s u → t ≢ s → t ≢ u
     → Sees c (moved c s y (c.count + 1) c.owner c.wakes) g (joined g s u) t x
 sees_join c g s u t y x is more unasked away other =
@@ -218,14 +218,14 @@ claims_seat s t standing e f = cc
 unasked_claimed : (g : Ghost) (s u : ℕ) → g.standing u ≡ claimed s → Unasked g s u
 unasked_claimed g s u stands = record { asking = rw stands refl; queued = rw stands refl; claims = λ t e. claims_seat s t (g.standing u) stands e }
 
--- its own call counts seat s
+-- the state stays steady when its own call counts seat s
 pub joins_itself : (c : Core) (g : Ghost) (s : ℕ) (y : SeatState) → IsSeat c.seats s → Fits c g → g.standing s ≡ apart
     → claims_for (seat c.seats s) ≡ 0 → Joins c g s s y → Fits (put (record c { count = c.count + 1 }) s y) (joined g s s)
 joins_itself c g s y is fits stands claims joins =
     fits_join c g s s y is is fits (record { asking = rw stands refl; queued = rw stands refl; claims = λ t e. absurd (not_apart t (g.standing s) e stands) }) joins
     (λ t e differs. sym e ∙ claims) (λ differs. absurd (differs refl))
 
--- the send of seat s counts the seat u that it has claimed
+-- the state stays steady when the send of seat s counts seat u, which it has claimed
 pub joins_another : (c : Core) (g : Ghost) (s u : ℕ) (y : SeatState) → IsSeat c.seats s → Fits c g → u ≢ s → g.standing u ≡ claimed s
     → Joins c g s u y → Fits (put (record c { count = c.count + 1 }) s y) (joined g s u)
 joins_another c g s u y is fits other stands joins =
@@ -259,7 +259,7 @@ asks_by_joining c g s u fits some asking waits held grant entered = (
   refl,
 )
 
--- the abstract case of the first: seat s is at the count add of a lock, holding nothing
+-- if seat s is at the count add of a lock and holds nothing, the abstract case is ask
 pub joining_itself_asks : (c : Core) (g : Ghost) (s : ℕ) → Fits c g → 0 < c.count → (seat c.seats s).point ≡ LockCountAdd → (seat c.seats s).depth ≡ 0
     → GoesBy (Some ask) (abstract g) (abstract (joined g s s))
 joining_itself_asks c g s fits some at depth =
@@ -269,7 +269,7 @@ joining_itself_asks c g s fits some at depth =
     asks_by_joining c g s s fits some (rw stands refl) (rw stands refl) held
     (ungranted_at c g s (seat c.seats s) (wake c.wakes s) (rw at refl) here) (unentered_at c g s (seat c.seats s) (wake c.wakes s) (rw at refl) held here)
 
--- the abstract case of the second
+-- the abstract case is ask for a counted target too
 pub joining_another_asks : (c : Core) (g : Ghost) (s u : ℕ) → Fits c g → 0 < c.count → g.standing u ≡ claimed s
     → GoesBy (Some ask) (abstract g) (abstract (joined g s u))
 joining_another_asks c g s u fits some stands =

@@ -1,4 +1,4 @@
--- What stays when one seat moves on with its posts and one seat stands anew.
+-- What stays the same when one seat moves on with the same posts and one seat changes its standing.
 use Rattle.std.proofs.Common.{◌≡◌, ◌≢◌, ℕ, false, ◌+◌, ◌<◌, ◌≤◌, List, length, sym, ap, ◌∙◌, inl, inr}
 use Rattle.std.proofs.lemmas.Bool.{cases_eq}
 use Rattle.lfm_protocol.specs.declared.seats.SeatState.{SeatState}
@@ -15,7 +15,7 @@ use Rattle.lfm_laws.proofs.steady.frames.Sums.{changed_same, changed_other, sum_
 pub zero_apart : (c : Core) (g : Ghost) → Fits c g → g.standing 0 ≡ apart
 zero_apart c g fits = rw (seat_zero c.seats) at (fits.each 0).stands
 
--- The errands once one seat stands anew and seat s has moved on
+-- The errands after seat u changes its standing and seat s moves on
 pub agents_anew : (c : Core) (g : Ghost) (s u : ℕ) (y : SeatState) (standing : Standing) → IsSeat c.seats s → Fits c g
     → asks_for y s ≡ asks_for (seat c.seats s) s → ((t : ℕ) → t ≢ u → g.standing t ≡ claimed s → claims_for y ≡ t)
     → AgentFits (with_entry c.seats s y) standing u → (t : ℕ) → AgentFits (with_entry c.seats s y) (changed g.standing u standing t) t
@@ -34,7 +34,7 @@ agents_anew c g s u y standing is fits asks_same sends there t =
       })
     ]
 
--- what is the same for the standing that changes stays for all
+-- a function that agrees on the old and the new standing of u agrees on all standings
 pub standing_anew : {A : Type 0} (f : Standing → A) (standings : ℕ → Standing) (u : ℕ) (standing : Standing) → f standing ≡ f (standings u)
     → (t : ℕ) → f (changed standings u standing t) ≡ f (standings t)
 standing_anew f standings u standing same t =

@@ -1,4 +1,4 @@
--- What the wake word of a seat tells of its grant and of its sleep, and which seats sleep since a start_wait.
+-- What the wake word of a seat implies about its grant and its sleep, and which seats sleep since a start_wait.
 use Rattle.std.proofs.Common.{◌≡◌, ◌≢◌, ℕ, Bool, true, false, ◌&&◌, cond, eqb, Option, Some, None, refl, inl, inr}
 use Rattle.std.proofs.lemmas.Bool.{cases_eq, eq-eqb, ne_eqb}
 use Rattle.lfm_protocol.specs.declared.points.Point.{Point}
@@ -28,7 +28,7 @@ some_if t s k stamp e =
       | inr other ↦ let f = rw (ne_eqb t s other) at e in cc
     ]
 
--- a grant tells the place
+-- a grant determines the place
 pub place_of_grant : (p : Responsibility) (s stamp : ℕ) → grant_at p s ≡ Some stamp → p ≡ granted s stamp
 place_of_grant (granted t k) s stamp e = let h = some_if t s k stamp e in rw (h.0, h.1)
 place_of_grant _ s stamp e = cc
@@ -37,7 +37,7 @@ no_grant_by : (waits : Bool) (stamp : ℕ) → Grant stamp ≢ cond waits Waitin
 no_grant_by true stamp e = cc
 no_grant_by false stamp e = cc
 
--- a sleeper finds a grant only if it was granted it
+-- a sleeping seat finds a grant only if it was granted
 granted_by : (o : Option ℕ) (place : Responsibility) (standing : Standing) (s stamp : ℕ) (sleeper : Sleeper)
     → Grant stamp ≡ wake_by o place standing s (ReceiveWakeLoad sleeper) → o ≡ Some stamp
 granted_by (Some k) place standing s stamp sleeper e = cc
@@ -54,12 +54,12 @@ load_by (Some k) place standing s sleeper = refl
 load_by None place standing s Sleeper.Locker = refl
 load_by None place standing s Sleeper.Waiter = refl
 
--- a wake word stays what it is while its seat goes to load it
+-- a wake word stays the same while its seat goes to load it
 pub wake_to_load : (place : Responsibility) (standing : Standing) (s : ℕ) (sleeper : Sleeper)
     → expected_wake place standing s (ReceiveWakeLoad sleeper) ≡ expected_wake place standing s (Asleep sleeper)
 wake_to_load place standing s sleeper = load_by (grant_at place s) place standing s sleeper
 
--- a seat whose wake word is WAITING sleeps since a start_wait, and nobody has claimed it
+-- a seat whose wake word is WAITING sleeps since a start_wait, and no send has claimed it
 pub record IsWaiting (place : Responsibility) (standing : Standing) (s : ℕ) (p : Point) : Type 0 where
   pub sleeps : sleeps_as_waiter p ≡ true
   pub ungranted : grant_at place s ≡ None
@@ -83,7 +83,7 @@ waiting_of place standing s p e =
     let f = apart_by standing (is_entered place s) h.2 in
     record { sleeps = h.0; ungranted = h.1; stands = f.0; unentered = f.1 }
 
--- A seat that neither stands apart nor is queued, and doesn't ask by its own call
+-- A seat that is neither apart nor queued, and does not ask by its own call
 
 no_owner_load : (asked : Bool) (s : ℕ) (standing : Standing) → standing ≢ apart → standing ≢ asks s → standing ≡ cond asked (asks s) apart → ⊥
 no_owner_load true s standing away own stands = own stands
@@ -106,7 +106,7 @@ no_entrant : (standing : Standing) (entrant : Entrant) (how : How) → standing 
 no_entrant standing Entrant.Locker (How.Queued stamp) away unqueued stands = let f = rw unqueued at stands in cc
 no_entrant standing _ how away unqueued stands = away stands
 
--- sleeps since a start_wait
+-- such a seat sleeps since a start_wait
 sleeps_at : (place : Responsibility) (depth s : ℕ) (standing : Standing) (p : Point) → grant_at place s ≡ None → standing ≢ apart → standing ≢ asks s
     → is_queued standing ≡ false → StandsAt place depth s standing p → sleeps_as_waiter p ≡ true
 sleeps_at place depth s standing (Asleep Sleeper.Waiter) none away own unqueued stands = refl
@@ -125,10 +125,10 @@ sleeps_at place depth s standing (GrantWakeStore carrier oldest) none away own u
 sleeps_at place depth s standing (EnterOwnerStore entrant how) none away own unqueued stands = absurd (no_entrant standing entrant how away unqueued stands)
 sleeps_at place depth s standing _ none away own unqueued stands = absurd (away stands)
 
--- so a seat does that a send has claimed
+-- a seat that a send has claimed sleeps since a start_wait
 pub claimed_sleeps_at : (place : Responsibility) (depth s z : ℕ) (p : Point) → grant_at place s ≡ None → StandsAt place depth s (claimed z) p → sleeps_as_waiter p ≡ true
 claimed_sleeps_at place depth s z p none stands = sleeps_at place depth s (claimed z) p none (λ e. cc) (λ e. cc) refl stands
 
--- and one that asks by another seat's send
+-- a seat that asks by another seat's send sleeps since a start_wait
 pub asked_sleeps_at : (place : Responsibility) (depth s z : ℕ) (p : Point) → s ≢ z → grant_at place s ≡ None → StandsAt place depth s (asks z) p → sleeps_as_waiter p ≡ true
 asked_sleeps_at place depth s z p other none stands = sleeps_at place depth s (asks z) p none (λ e. cc) (λ e. other cc) refl stands

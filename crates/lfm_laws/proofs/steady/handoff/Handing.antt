@@ -1,4 +1,4 @@
--- Steps by which seat s moves on and one other seat u reads something new: what every seat reads then.
+-- Steps by which seat s moves on and one other seat u reads something new: what every seat then reads.
 use Rattle.std.proofs.Common.{◌≡◌, ◌≢◌, ℕ, ◌≤◌, List, ◌∙◌, inl, inr, arith}
 use Rattle.std.proofs.lemmas.Bool.{cases_eq}
 use Rattle.lfm_protocol.specs.declared.seats.SeatState.{SeatState}
@@ -11,12 +11,12 @@ use Rattle.lfm_laws.specs.steady.Steady.{SeatFits, Fits}
 use Rattle.lfm_laws.proofs.steady.frames.Entries.{seat-with_same, seat-with_other}
 use Rattle.lfm_laws.proofs.steady.frames.Frames.{Sees, SeatFits_seen, moved, fits_moved}
 
--- the state once the owner word, the pop list and the wake words are these
+-- the state with this owner word, this pop list and these wake words
 abbrev pub handed : Core → ℕ → List Record → List Wake → Core
 handed c owner popped wakes = record c { owner = owner; popped = popped; wakes = wakes }
 
--- every seat fits once s and u do, and each other reads nothing new; the facts of s and u are asked for in the state b before
--- the view of s is written, and before the count, the owner and the wake words are
+-- every seat fits if s and u do and each other seat reads nothing new; the facts of s and u are premises in the state b, before
+-- the new state of s, the count, the owner and the wake words are written
 pub each_after_two : (c b : Core) (g h : Ghost) (s u : ℕ) (y : SeatState) (count owner : ℕ) (wakes : List Wake) → IsSeat c.seats s → b.seats ≡ c.seats → Fits c g
     → y.posts ≡ (seat c.seats s).posts → ((t : ℕ) → t ≢ s → t ≢ u → wake wakes t ≡ wake c.wakes t)
     → ((t : ℕ) → t ≢ s → t ≢ u → Sees c (moved b s y count owner wakes) g h t (seat c.seats t))

@@ -1,4 +1,4 @@
--- A post: the handoff word gets the poster's next number, the place becomes posted, and some seat is its watcher.
+-- A post: the handoff word gets the poster's next number, the place becomes posted, and some seat becomes the watcher.
 use Rattle.std.proofs.Common.{◌≡◌, ◌≢◌, ℕ, ◌+◌, ◌<◌, ◌≤◌, List, [], refl, sym, ap, subst, ◌∙◌, eqb, length, ◌⊎◌, inl, inr, arith}
 use Rattle.std.proofs.lemmas.Bool.{cases_eq, ne_eqb, cond-false}
 use Rattle.lfm_words.specs.declared.handoffs.Handoff.{Handoff}
@@ -17,7 +17,7 @@ use Rattle.lfm_laws.proofs.steady.frames.Sums.{sum_witness}
 
 -- The watcher
 
--- a seat that has counted a seat and is to push it will see the handoff
+-- a seat that has counted a seat and has yet to push it will load the handoff
 watches_asking : (d : Core) (h : Ghost) (t : ℕ) (x : SeatState) (p : Point) → 0 < asks_for_at x.depth t p → WatchesAt d h t x p
 watches_asking d h t x LockOwnerLoad some =
     elim (cases_eq x.depth 0) [
@@ -41,13 +41,13 @@ asker_of c g fits i above (agent, stands) = let whose : asks_for (seat c.seats a
 asker_at : (c : Core) (g : Ghost) → Fits c g → (i : ℕ) × (0 < i) × (i ≤ length c.seats) × (0 < asking_unit (g.standing i)) → (w : ℕ) × (0 < asks_for (seat c.seats w) w)
 asker_at c g fits (i, above, within, some) = asker_of c g fits i above (agent_of (g.standing i) some)
 
--- if some seat asks, some seat is to push it
+-- if some seat asks, some seat has yet to push it
 pub asker : (c : Core) (g : Ghost) → Fits c g → 0 < g.asking → (w : ℕ) × (0 < asks_for (seat c.seats w) w)
 asker c g fits some = asker_at c g fits (sum_witness (length c.seats) (λ s. asking_unit (g.standing s)) (omega (arith, fits.sums.asking)))
 
 -- The post
 
--- no seat has read a number that was not yet posted
+-- no seat has read a number that has not been posted yet
 not_before : (seats : List SeatState) (s post : ℕ) (n : Handoff) → (seat seats s).posts < post → n.post ≤ (seat seats n.seat).posts → record { seat = s; post = post } ≡ n → ⊥
 not_before seats s post n next older same =
     let whose : s ≡ n.seat = ap (λ k. k.seat) same in
@@ -55,7 +55,7 @@ not_before seats s post n next older same =
     let posts : n.post ≤ (seat seats s).posts = subst (λ (t : ℕ). n.post ≤ (seat seats t).posts) (sym whose) older in
     omega arith
 
--- what the step owes: the view y of seat s, and a watcher that is s itself or is to push a seat
+-- what the step must show: the new state y of seat s fits, and the watcher is s itself or a seat that has yet to push one
 pub record Posts (c : Core) (g : Ghost) (s : ℕ) (y : SeatState) (watcher : ℕ) : Type 0 where
   pub asks_same : asks_for y s ≡ asks_for (seat c.seats s) s
   pub claims_same : claims_for y ≡ claims_for (seat c.seats s)

@@ -1,4 +1,4 @@
--- A release that has no more to pass on: its call ends, or goes on to wait.
+-- A release that has nothing more to pass on: its call ends, or goes on to wait.
 use Rattle.std.proofs.Common.{◌≡◌, ℕ, [], refl, sym, ◌∙◌, arith}
 use Rattle.lfm_model.specs.declared.answers.Unlocked.{Unlocked}
 use Rattle.lfm_protocol.specs.declared.points.Point.{Point}
@@ -18,11 +18,11 @@ use Rattle.lfm_laws.specs.steady.Views.{grant_at, asks_for, claims_for}
 use Rattle.lfm_laws.proofs.steady.frames.Frames.{Errands}
 use Rattle.lfm_laws.proofs.steady.frames.Quiet.{wake_by_same}
 
--- the view of a release that posted, or that has given the mutex back, once its call ends or goes on to wait
+-- the state of a seat whose release has posted or given the mutex back, when its call ends or goes on to wait
 abbrev pub released : ℕ → ℕ → Point → Releaser → Unlocked → SeatState
 released takes posts p releaser answer = (releases (record { depth = 0; takes = takes; posts = posts; point = p }) releaser answer).seat
 
--- a seat fits there that fits at the recheck after a post, and that watches no handoff
+-- a seat fits in that state if it fits at the recheck after a post and watches no handoff
 pub released_own : (c : Core) (h : Ghost) (s takes posts : ℕ) (w : Wake) (p : Point) (releaser : Releaser) (answer : Unlocked)
     → SeatFits c h s (record { depth = 0; takes = takes; posts = posts; point = ReleasePushRecheck releaser }) w → (h.place ≡ posted → h.watcher ≡ s → ⊥)
     → SeatFits c h s (released takes posts p releaser answer) w

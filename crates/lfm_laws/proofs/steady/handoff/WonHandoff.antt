@@ -1,4 +1,4 @@
--- A won handoff exchange: the handoff word is emptied, and the posted responsibility lies with the seat that took it.
+-- A won handoff exchange: the handoff word becomes empty, and the seat that won has the responsibility.
 use Rattle.std.proofs.Common.{◌≡◌, ◌≢◌, ℕ, false, ◌+◌, None, List, refl, sym, ap, ◌∙◌, arith}
 use Rattle.lfm_protocol.specs.declared.seats.SeatState.{SeatState}
 use Rattle.lfm_protocol.specs.Core.{Core, put}
@@ -16,7 +16,7 @@ IsWonBy s (serving t) = t ≡ s
 IsWonBy s (accepting t) = t ≡ s
 IsWonBy s _ = ⊥
 
--- the facts of the words at such a place
+-- the words at such a place
 record Won (c : Core) (g : Ghost) (s : ℕ) (place : Responsibility) : Type 0 where
   by : IsOf s place
   unpost : (seats : List SeatState) → HandoffFits seats place unposted
@@ -41,7 +41,7 @@ won c g s posted by work carried = absurd by
 won c g s (entering t into stamp) by work carried = absurd by
 won c g s (leaving t) by work carried = absurd by
 
--- what the step owes: the view y of seat s fits the new place and word
+-- what the step must show: the new state y of seat s fits the new place and word
 pub record Wins (c : Core) (g : Ghost) (s : ℕ) (y : SeatState) (place : Responsibility) : Type 0 where
   pub errands : Errands c s y
   pub before : g.place ≡ posted

@@ -1,4 +1,4 @@
--- The owner store of a call that comes to hold: of a lock that found the mutex free, of a try_lock, and of a receive.
+-- The owner store of a call that comes to hold: a lock that found the mutex free, a try_lock, or a receive.
 use Rattle.std.proofs.Common.{◌≡◌, ℕ, false, ◌+◌, Some, [], refl, sym, ap, ◌∙◌, arith}
 use Rattle.std.proofs.lemmas.Bool.{eq-eqb, ne_eqb}
 use Rattle.lfm_model.specs.declared.answers.How.{How}
@@ -16,7 +16,7 @@ use Rattle.lfm_laws.proofs.steady.grant.Entering.{Enters, MayEnter, enters_of, a
 use Rattle.lfm_laws.proofs.steady.frames.Frames.{place_moves, place_of_claim}
 use Rattle.lfm_laws.proofs.steady.frames.Histories.{history_stays, history_answers}
 
--- a seat at the owner store may be about to enter
+-- a seat may enter from the owner store if it is apart there
 may_enter : (s : ℕ) (entrant : Entrant) (how : How) → ((standing : Standing) → StandsAsEntrant standing entrant how → standing ≡ apart) → MayEnter s (EnterOwnerStore entrant how)
 may_enter s entrant how stands =
     record {
@@ -27,7 +27,7 @@ may_enter s entrant how stands =
       claims_none = refl;
     }
 
--- the seat that holds
+-- the seat fits as an owner
 holds_own : (c : Core) (g : Ghost) (s takes posts answered : ℕ) → Enters c g s takes posts
     → SeatFits c (record g { place = owned s false; answered = answered }) s (record { depth = 1; takes = takes; posts = posts; point = Rest }) (wake c.wakes s)
 holds_own c g s takes posts answered enters =
@@ -47,7 +47,7 @@ holds_own c g s takes posts answered enters =
       watches = λ e f. absurd (cc e);
     }
 
--- seat s stores its number, having entered by this stamp
+-- seat s stores its number, having entered with this stamp
 holds : (c : Core) (g : Ghost) (s takes posts stamp answered : ℕ) (p : Point) → IsSeat c.seats s
     → seat c.seats s ≡ record { depth = 0; takes = takes; posts = posts; point = p } → MayEnter s p → g.place ≡ entering s s stamp → answered ≡ g.popped → Fits c g
     → Fits (put (record c { owner = s }) s (record { depth = 1; takes = takes; posts = posts; point = Rest })) (record g { place = owned s false; answered = answered })
@@ -107,7 +107,7 @@ at_EnterOwnerStore_Locker c g s is at fits =
     let x = seat c.seats s in
     locker_stores c g s x.takes x.posts is (at_store c g s Entrant.Locker How.Free at fits) fits
 
--- a try_lock never waited
+-- a try_lock has not waited
 
 trier_stores : (c : Core) (g : Ghost) (s takes posts : ℕ) → IsSeat c.seats s
     → seat c.seats s ≡ record { depth = 0; takes = takes; posts = posts; point = EnterOwnerStore Entrant.Trier How.Free } → Fits c g → Kept c g s
@@ -122,7 +122,7 @@ at_EnterOwnerStore_Trier c g s how is at fits =
     let free : how ≡ How.Free = rw at at (fits.each s).knows in
     trier_stores c g s x.takes x.posts is (at_store c g s Entrant.Trier How.Free (at ∙ ap (EnterOwnerStore Entrant.Trier) free) fits) fits
 
--- a receive was granted the record popped last, or a free mutex
+-- a receive got the grant of the record popped last, or a free grant
 
 receiver_stores_free : (c : Core) (g : Ghost) (s takes posts : ℕ) → IsSeat c.seats s
     → seat c.seats s ≡ record { depth = 0; takes = takes; posts = posts; point = EnterOwnerStore Entrant.Receiver How.Free } → Fits c g → Kept c g s

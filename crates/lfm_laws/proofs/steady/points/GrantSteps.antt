@@ -65,7 +65,7 @@ gives_to_other g s stamp r (Carrier.Releaser releaser) first gives stands = λ e
 gives_to_other g s stamp r (Carrier.Reclaimer releaser) first gives stands = λ e. let clash : queued stamp ≡ apart = sym first ∙ ap g.standing e ∙ stands in cc
 gives_to_other g s stamp r Carrier.Sender first gives stands = λ e. let clash : queued stamp ≡ apart = sym first ∙ ap g.standing e ∙ stands in cc
 
--- a seat without depth that did nothing but grant rests so
+-- a seat without depth that has done nothing except grant may rest
 rests_idle : (g : Ghost) (s u stamp : ℕ) (x : SeatState) (w : Wake) → x.depth ≡ 0 → w ≡ Quiet → g.standing s ≡ apart → x.posts ≤ x.takes → g.pushes s ≤ x.takes
     → Rests g s u stamp x w Rest
 rests_idle g s u stamp x w depth quiet stands posts pushes =
@@ -103,7 +103,7 @@ errands_after c s (Carrier.Reclaimer Unlocker) r at = record { asks_same = rw at
 errands_after c s (Carrier.Reclaimer Waiter) r at = record { asks_same = rw at refl; claims_same = rw at refl; posts_same = refl }
 errands_after c s Carrier.Sender r at = record { asks_same = rw at refl; claims_same = rw at refl; posts_same = refl }
 
--- the abstract mutex serves the first seat of the list, which is another than the carrier
+-- the abstract mutex serves the first seat of the list, which is not the carrier
 serves_other : (c : Core) (g : Ghost) (s : ℕ) (r : Record) (rest : List Record) → g.place ≡ serving s → IsFirst c g r rest → r.seat ≢ s → GoesBy (Some serve) (abstract g) (abstract (granted_to g r))
 serves_other c g s r rest serves first other = (
   Abstract.serve s r.seat (record {
@@ -115,7 +115,7 @@ serves_other c g s r rest serves first other = (
   refl,
 )
 
--- seat s, which carries the responsibility, has granted the oldest record
+-- the state stays steady when seat s, which carries the responsibility, grants the oldest record
 grants : (c : Core) (g : Ghost) (s : ℕ) (carrier : Carrier) (r : Record) (rest : List Record) → IsSeat c.seats s → (seat c.seats s).point ≡ GrantWakeStore carrier r → Fits c g
     → g.place ≡ serving s → g.walk ≡ 0 → c.popped ≡ r ∷ rest → GivesAway s r carrier → Kept c g s
 grants c g s carrier r rest is at fits serves walked popped gives =

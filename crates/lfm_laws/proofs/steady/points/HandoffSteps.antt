@@ -1,5 +1,5 @@
--- The handoff exchanges: the call that wins one carries the responsibility on, and the one that loses it sleeps, ends or goes
--- on to wait.
+-- The handoff exchanges: the call that wins one carries the responsibility; the call that loses one sleeps, ends or goes on to
+-- wait.
 use Rattle.std.proofs.Common.{◌≡◌, ℕ, Bool, true, false, ◌-◌, ◌<◌, ◌||◌, Some, refl, ap, ◌∙◌, inl, inr, arith}
 use Rattle.std.proofs.lemmas.Bool.{cases_Bool}
 use Rattle.lfm_model.specs.Abstract.{AbstractMutex, Moves, carried}
@@ -40,7 +40,7 @@ or_none : (b : Bool) → (b || false) ≡ true → b ≡ true
 or_none true e = refl
 or_none false e = e
 
--- a pusher that takes the responsibility over stands and owes as its carrier
+-- a pusher that takes over has the standing and the due posts of a carrier
 stands_to_carry : (s : ℕ) (standing : Standing) (pusher : Pusher) → AwaitsAsPusher posted s standing pusher → StandsAsCarrier standing (carrier_of pusher)
 stands_to_carry s standing Pusher.Locker stands = or_none (is_queued standing) stands
 stands_to_carry s standing (Pusher.Sender t) stands = stands
@@ -57,7 +57,7 @@ pushes_to_carry : (pusher : Pusher) → due_pushes_of_carrier (carrier_of pusher
 pushes_to_carry Pusher.Locker = refl
 pushes_to_carry (Pusher.Sender t) = refl
 
--- the pusher takes the responsibility over; while it stood posted the pop list was empty
+-- the pusher takes over; while the mutex was posted the pop list was empty
 pusher_takes : (c : Core) (g : Ghost) (s : ℕ) (pusher : Pusher) (seen : Handoff) (takes posts : ℕ) → IsSeat c.seats s
     → seat c.seats s ≡ record { depth = 0; takes = takes; posts = posts; point = PushedHandoffExchange pusher seen } → same_handoff c.handoff seen ≡ true → Fits c g → Kept c g s
 pusher_takes c g s pusher seen takes posts is at won fits =
@@ -163,9 +163,9 @@ at_PushedHandoffExchange c g s pusher seen is at fits =
       | inr lost ↦ pusher_loses c g s pusher seen _ _ is written lost fits
     ]
 
--- Try locks
+-- try_lock
 
--- the call accepts the responsibility and is still to be counted
+-- the call accepts the responsibility and has yet to be counted
 try_accepts : (c : Core) (g : Ghost) (s : ℕ) (seen : Handoff) (takes posts : ℕ) → IsSeat c.seats s
     → seat c.seats s ≡ record { depth = 0; takes = takes; posts = posts; point = TryHandoffExchange seen } → same_handoff c.handoff seen ≡ true → Fits c g → Kept c g s
 try_accepts c g s seen takes posts is at won fits =
@@ -239,7 +239,7 @@ at_TryHandoffExchange c g s seen is at fits =
 
 -- Releases
 
--- the poster takes its own post back, somebody being queued by now
+-- the poster takes its own post back, because some seat is queued by now
 poster_takes : (c : Core) (g : Ghost) (s : ℕ) (releaser : Releaser) (takes posts : ℕ) → IsSeat c.seats s
     → seat c.seats s ≡ record { depth = 0; takes = takes; posts = posts; point = ReleaseHandoffExchange releaser } → same_handoff c.handoff (record { seat = s; post = posts }) ≡ true → Fits c g
     → Kept c g s

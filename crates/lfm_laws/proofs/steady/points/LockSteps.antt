@@ -46,7 +46,7 @@ owner_found c g s d takes posts is at fits =
       watches = λ e f. absurd (omega (arith, here.watches e f));
     })
 
--- it is another, or nobody
+-- the owner is another seat or none
 owner_missed : (c : Core) (g : Ghost) (s takes posts : ℕ) → IsSeat c.seats s
     → seat c.seats s ≡ record { depth = 0; takes = takes; posts = posts; point = LockOwnerLoad } → Fits c g
     → Fits (put c s (record { depth = 0; takes = takes; posts = posts; point = PushLoad Pusher.Locker })) g
@@ -140,7 +140,7 @@ count_deepens c g s d takes posts is at place fits =
       own = deepens_own c g s d takes posts place here;
     })
 
--- seat s holds nothing, and somebody has the responsibility
+-- seat s holds nothing, and the mutex is not free
 joins_own : (c : Core) (g : Ghost) (s takes posts : ℕ) → g.standing s ≡ apart
     → SeatFits c g s (record { depth = 0; takes = takes; posts = posts; point = LockCountAdd }) (wake c.wakes s)
     → SeatFits c (joined g s s) s (record { depth = 0; takes = takes; posts = posts; point = LockOwnerLoad }) (wake c.wakes s)

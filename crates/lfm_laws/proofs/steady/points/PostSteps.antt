@@ -1,4 +1,4 @@
--- The steps of a release that posts the responsibility and then rechecks whether somebody was pushed.
+-- The steps of a release that posts the responsibility and then rechecks whether a seat was pushed.
 use Rattle.std.proofs.Common.{◌≡◌, ◌≢◌, ℕ, ◌+◌, ◌<◌, Some, refl, sym, ap, subst, ◌∙◌, eqb, length, ◌⊎◌, inl, inr, arith}
 use Rattle.std.proofs.lemmas.Bool.{cases_eq, cases_lt, eq-eqb, ne_eqb, cond-false}
 use Rattle.lfm_model.specs.Abstract.{AbstractMutex, HasSomebody, Moves, carried}
@@ -29,7 +29,7 @@ use Rattle.lfm_laws.proofs.steady.frames.Quiet.{wake_by_same}
 posts_by : (a b : AbstractMutex) (s : ℕ) → HasSomebody a → Moves a b (carried s Abstract.serving) Abstract.posted → GoesBy (Some Case.post) a b
 posts_by a b s some moves = (Abstract.post s some moves, refl)
 
--- the poster itself is to push nobody
+-- the poster itself has no seat to push
 queued_for : (c : Core) (g : Ghost) (s watcher : ℕ) → asks_for (seat c.seats s) s ≡ 0 → watcher ≡ s → (HasQueue g × (watcher ≡ s)) ⊎ (0 < asks_for (seat c.seats watcher) watcher) → HasQueue g
 queued_for c g s watcher none who watched =
     elim watched [
@@ -37,8 +37,8 @@ queued_for c g s watcher none who watched =
       | inr asking ↦ let some = subst (λ (w : ℕ). 0 < asks_for (seat c.seats w) w) who asking in absurd (omega arith)
     ]
 
--- Watched from its first moment: if somebody is queued, by the poster, which is yet to recheck; otherwise by a seat that asks,
--- or that is to push one
+-- The post is watched from its first moment: if some seat is queued, by the poster, which has yet to recheck; otherwise by a
+-- seat that has yet to push one
 handoff_stored : (c : Core) (g : Ghost) (s watcher : ℕ) (releaser : Releaser) (takes posts : ℕ) → IsSeat c.seats s
     → seat c.seats s ≡ record { depth = 0; takes = takes; posts = posts; point = ReleaseHandoffStore releaser }
     → (HasQueue g × (watcher ≡ s)) ⊎ (0 < asks_for (seat c.seats watcher) watcher) → Fits c g → Kept c g s
@@ -102,7 +102,7 @@ nobody_queued : (c : Core) (g : Ghost) (stamp : ℕ) → Fits c g → g.standing
 unfolding entry
 nobody_queued c g stamp fits stands = let here : g.standing 0 ≡ apart = (fits.each 0).stands in cc
 
--- while a handoff is posted all that is queued hangs on the push word
+-- while a handoff is posted, the whole queue is in the push list
 head_of_queue : (c : Core) (g : Ghost) → Fits c g → g.place ≡ posted → HasQueue g → c.push.next ≢ 0
 head_of_queue c g fits at some zero =
     let carried = rw at at fits.words.carried in
@@ -112,7 +112,7 @@ head_of_queue c g fits at some zero =
     let stands : g.standing (g.pushed_at g.pushed) ≡ queued g.pushed = (fits.stamps g.pushed some (omega arith)).stands in
     nobody_queued c g g.pushed fits (rw newest at stands)
 
--- nobody was pushed: the watcher is another seat
+-- no seat was pushed: the watcher is another seat
 recheck_finds_none : (c : Core) (g : Ghost) (s : ℕ) (releaser : Releaser) (takes posts : ℕ) → IsSeat c.seats s
     → seat c.seats s ≡ record { depth = 0; takes = takes; posts = posts; point = ReleasePushRecheck releaser } → c.push.next ≡ 0 → Fits c g → Kept c g s
 recheck_finds_none c g s releaser takes posts is at empty fits =
@@ -128,7 +128,7 @@ recheck_finds_none c g s releaser takes posts is at empty fits =
       history = released_history g g s x releaser Posted (history_stays g g refl refl refl refl);
     })
 
--- somebody was pushed, so the post is to be taken back
+-- some seat was pushed, so the post is to be taken back
 recheck_finds_some : (c : Core) (g : Ghost) (s : ℕ) (releaser : Releaser) (takes posts : ℕ) → IsSeat c.seats s
     → seat c.seats s ≡ record { depth = 0; takes = takes; posts = posts; point = ReleasePushRecheck releaser } → c.push.next ≢ 0 → Fits c g → Kept c g s
 recheck_finds_some c g s releaser takes posts is at some fits =

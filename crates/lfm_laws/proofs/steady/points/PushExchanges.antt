@@ -1,5 +1,5 @@
--- The push exchange: if it finds the push word as it was seen, it queues the seat, and otherwise it goes back to its link store
--- with what it found.
+-- The push exchange: if the push word is the expected one, it queues the seat; otherwise the pusher goes back to its link store
+-- with the word that it found.
 use Rattle.std.proofs.Common.{◌≡◌, ℕ, not, ◌+◌, ◌≤◌, ◌<◌, ◌&&◌, Some, [], ◌∷◌, length, refl, sym, ap, ◌∙◌, arith, inl, inr, nat_eq}
 use Rattle.std.proofs.lemmas.Bool.{cases_eq, cases_Bool, eq-eqb, ne_eqb}
 use Rattle.lfm_model.specs.Abstract as Abstract
@@ -30,7 +30,7 @@ use Rattle.lfm_laws.proofs.steady.frames.Sums.{sum_member}
 use Rattle.lfm_laws.proofs.steady.frames.Seated.{seat_of_standing}
 use Rattle.lfm_laws.proofs.steady.frames.Quiet.{wake_by_same, moves_quietly}
 
--- what seat s, which goes on with the view y, needs to push seat u
+-- what seat s, which goes on with state y, needs to push seat u
 pub record Pushes (c : Core) (g : Ghost) (s u : ℕ) (seen : Link) (y : SeatState) : Type 0 where
   pub found : c.push ≡ seen
   pub asked : g.standing u ≡ asks s
@@ -106,7 +106,7 @@ push_kept c g s u seen y is fits step =
       history = rw stamp (history_pushes g (with_pushed g u) u refl refl refl refl (omega (arith, words.parts)) (omega (arith, words.answers, words.parts)));
     }
 
--- the exchange failed: what it found is seen
+-- the exchange failed: the word that it found is now the seen one
 own_goes_back : (c : Core) (g : Ghost) (s : ℕ) (x : SeatState) (w : Wake) (pusher : Pusher) (seen : Link)
     → SeatFits c g s (record x { point = PushExchange pusher seen }) w → SeatFits c g s (record x { point = LinkStore pusher c.push }) w
 own_goes_back c g s x w pusher seen fits =
@@ -126,7 +126,7 @@ own_goes_back c g s x w pusher seen fits =
       watches = fits.watches;
     }
 
--- the seat that a pusher pushes, its call being at the exchange that found the push word as it was seen
+-- the seat that a pusher pushes with an exchange that found the expected push word
 own_exchange : (c : Core) (g : Ghost) (s : ℕ) (x : SeatState) (w : Wake) (pusher : Pusher) (seen : Link) → g.popped ≤ g.pushed
     → SeatFits c g s (record x { point = PushExchange pusher seen }) w
     → SeatFits (exchanged c seen (pushed_seat pusher s)) (with_pushed g (pushed_seat pusher s)) s (record x { point = PushedHandoffLoad pusher }) w

@@ -1,4 +1,4 @@
--- The steps of a pusher that change no word: it loads the push word, and once it has pushed, the handoff word.
+-- The loads of a pusher: of the push word, and after its push, of the handoff word.
 use Rattle.std.proofs.Common.{◌≡◌, ◌≢◌, ℕ, true, false, refl, ◌∙◌, arith, inl, inr}
 use Rattle.std.proofs.lemmas.Bool.{cases_eq, eq-eqb, ne_eqb}
 use Rattle.lfm_protocol.specs.declared.points.Point.TheVariants.{Rest, Asleep, PushLoad, LinkStore, PushedHandoffLoad, PushedHandoffExchange, SendPushRecheck}
@@ -19,7 +19,7 @@ use Rattle.lfm_laws.proofs.steady.frames.Quiet.{wake_by_same, moves_quietly}
 
 -- The load of the push word
 
--- a pusher keeps what it knows, and has seen the push word
+-- a pusher keeps what it knows, and now also knows the push word
 own_push_load : (c : Core) (g : Ghost) (s : ℕ) (x : SeatState) (w : Wake) (pusher : Pusher)
     → SeatFits c g s (record x { point = PushLoad pusher }) w → SeatFits c g s (record x { point = LinkStore pusher c.push }) w
 own_push_load c g s x w pusher fits =
@@ -69,7 +69,7 @@ own_sleeps c g s x w away fits =
       watches = λ is watcher. absurd (away is);
     }
 
--- and a sender ends
+-- nothing is posted: a sender ends
 own_ends : (c : Core) (g : Ghost) (s t : ℕ) (x : SeatState) (w : Wake) → g.place ≢ posted
     → SeatFits c g s (record x { point = PushedHandoffLoad (Pusher.Sender t) }) w → SeatFits c g s (record x { point = Rest }) w
 own_ends c g s t x w away fits =
@@ -89,7 +89,7 @@ own_ends c g s t x w away fits =
       watches = λ is watcher. absurd (away is);
     }
 
--- a number is posted: a locker tries to take it
+-- the mutex is posted: a locker tries to take the post
 own_finds : (c : Core) (g : Ghost) (s : ℕ) (x : SeatState) (w : Wake) → IsOld c.seats c.handoff
     → SeatFits c g s (record x { point = PushedHandoffLoad Pusher.Locker }) w
     → SeatFits c g s (record x { point = PushedHandoffExchange Pusher.Locker c.handoff }) w
@@ -110,7 +110,7 @@ own_finds c g s x w old fits =
       watches = λ is watcher. refl;
     }
 
--- and a sender, which then owns nothing, rechecks whether somebody is queued
+-- the mutex is posted: a sender, which then owns nothing, rechecks whether some seat is queued
 own_rechecks : (c : Core) (g : Ghost) (s t : ℕ) (x : SeatState) (w : Wake) → IsOld c.seats c.handoff → g.place ≡ posted
     → SeatFits c g s (record x { point = PushedHandoffLoad (Pusher.Sender t) }) w
     → SeatFits c g s (record x { point = SendPushRecheck t c.handoff }) w
@@ -163,7 +163,7 @@ at_PushedHandoffLoad c g s (Pusher.Sender t) is at fits =
 
 -- A sender's recheck
 
--- nobody is queued: it ends
+-- no seat is queued: the sender ends
 own_rechecked : (c : Core) (g : Ghost) (s t : ℕ) (seen : Handoff) (x : SeatState) (w : Wake) → (g.place ≡ posted → is_queued (g.standing t) ≢ true)
     → SeatFits c g s (record x { point = SendPushRecheck t seen }) w → SeatFits c g s (record x { point = Rest }) w
 own_rechecked c g s t seen x w none fits =
@@ -183,7 +183,7 @@ own_rechecked c g s t seen x w none fits =
       watches = λ is watcher. absurd (none is (fits.watches is watcher).1);
     }
 
--- somebody is: it tries to take the handoff
+-- some seat is queued: the sender tries to take the handoff
 own_tries : (c : Core) (g : Ghost) (s t : ℕ) (seen : Handoff) (x : SeatState) (w : Wake) → HasQueue g
     → SeatFits c g s (record x { point = SendPushRecheck t seen }) w
     → SeatFits c g s (record x { point = PushedHandoffExchange (Pusher.Sender t) seen }) w

@@ -56,9 +56,9 @@ at_WaitWakeStore c g s released is at fits =
       history = history_stays g g refl refl refl refl;
     })
 
--- The store that wipes the grant
+-- The store that empties the wake word of its grant
 
--- how a grant was gained tells its stamp again
+-- the way in which a grant was gained gives back its stamp
 stamp_of_granted : (stamp : ℕ) → stamp_of (how_granted stamp) ≡ stamp
 stamp_of_granted stamp =
     elim (cases_eq stamp 0) [

@@ -1,4 +1,4 @@
--- The steps by which a release gives its hold back keep a state steady.
+-- The steps by which a release gives up its hold keep a state steady.
 use Rattle.std.proofs.Common.{◌≡◌, ◌≢◌, ℕ, Some, false, ◌+◌, ◌-◌, ◌<◌, ◌≤◌, ◌⊎◌, inl, inr, List, [], ◌∷◌, refl, ap, arith}
 use Rattle.std.proofs.lemmas.Bool.{eq-eqb, ne_eqb, cases_eq}
 use Rattle.lfm_model.specs.Abstract.{AbstractMutex, AbstractPlace, GoesFrom, Moves, release, leave, free, carried}
@@ -22,7 +22,7 @@ use Rattle.lfm_laws.proofs.steady.handoff.Handoffs.{seat_at, held_own, listed_sa
 use Rattle.lfm_laws.proofs.steady.frames.Histories.{history_stays}
 use Rattle.lfm_laws.proofs.steady.handoff.Released.{released, released_own, released_errands, released_history}
 
--- the owner gives the word back
+-- the owner empties the owner word
 owner_stored : (c : Core) (g : Ghost) (s : ℕ) (releaser : Releaser) (takes posts : ℕ) → IsSeat c.seats s
     → seat c.seats s ≡ record { depth = 1; takes = takes; posts = posts; point = ReleaseOwnerStore releaser } → Fits c g → Kept c g s
 owner_stored c g s releaser takes posts is at fits =
@@ -68,11 +68,11 @@ at_ReleaseOwnerStore c g s releaser is at fits =
     let here = rw at at (fits.each s) in
     owner_stored c g s releaser _ _ is (seat_at (seat c.seats s) 1 _ here.depth at) fits
 
--- a seat that has released gives back and goes on as the others let it
+-- a seat that has released leaves, and goes on as the other seats require
 leaves_by : (a b : AbstractMutex) (s : ℕ) (to : AbstractPlace) → GoesFrom a s to → Moves a b (carried s Abstract.leaving) to → GoesBy (Some Case.leave) a b
 leaves_by a b s to goes moves = (leave s to goes moves, refl)
 
--- the last one leaves
+-- no other seat is counted
 left : (c : Core) (g : Ghost) (s : ℕ) (releaser : Releaser) (takes posts : ℕ) → IsSeat c.seats s
     → seat c.seats s ≡ record { depth = 0; takes = takes; posts = posts; point = ReleaseCountSubtract releaser } → c.count ≡ 1 → Fits c g → Kept c g s
 left c g s releaser takes posts is at one fits =
@@ -163,7 +163,7 @@ leaves_to_clear c g s releaser takes posts is at more none fits =
       history = history_stays g h refl refl refl refl;
     })
 
--- the same with a record in the pop list, which is to be granted
+-- the same with a record in the pop list, which is granted next
 leaves_to_grant : (c : Core) (g : Ghost) (s : ℕ) (releaser : Releaser) (takes posts : ℕ) (r : Record) (rest : List Record) → IsSeat c.seats s
     → seat c.seats s ≡ record { depth = 0; takes = takes; posts = posts; point = ReleaseCountSubtract releaser } → c.count ≢ 1 → c.popped ≡ r ∷ rest → Fits c g → Kept c g s
 leaves_to_grant c g s releaser takes posts r rest is at more some fits =

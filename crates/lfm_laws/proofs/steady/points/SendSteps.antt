@@ -77,7 +77,7 @@ claiming_own c g s t depth takes posts w other here =
       watches = here.watches;
     }
 
--- a seat at the wake exchange of its send does not wait itself
+-- a seat at the wake exchange of its own send does not wait
 awake : (c : Core) (g : Ghost) (s t depth takes posts : ℕ) (w : Wake)
     → SeatFits c g s (record { depth = depth; takes = takes; posts = posts; point = SendWakeExchange t }) w → w ≢ Waiting
 awake c g s t depth takes posts w here e =
@@ -174,7 +174,7 @@ brings_target c g s t is at free fits =
       history = history_stays g _ refl refl refl refl;
     })
 
--- the count was more
+-- the count was above 0
 joining_own : (c : Core) (g : Ghost) (s t depth takes posts : ℕ) (w : Wake)
     → SeatFits c g s (record { depth = depth; takes = takes; posts = posts; point = SendCountAdd t }) w
     → SeatFits c (joined g s t) s (record { depth = depth; takes = takes; posts = posts; point = PushLoad (Pusher.Sender t) }) w

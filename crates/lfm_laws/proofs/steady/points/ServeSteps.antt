@@ -25,11 +25,11 @@ use Rattle.lfm_laws.proofs.steady.frames.Sums.{changed_same}
 
 -- A locker that took its own record
 
--- the ghost once seat s owns by its own record
+-- the ghost after seat s has become the owner by its own record
 abbrev served_to : Ghost → ℕ → Ghost
 served_to g s = popped_to g s (owned s false) (g.answered + 1)
 
--- the view of a seat that owns
+-- the state of a seat that owns
 abbrev owning : SeatState → SeatState
 owning x = record x { point = Rest; depth = 1 }
 
@@ -84,7 +84,7 @@ serves_fit c g s stamp rest is at fits serves walked popped =
       second = λ far. absurd (far refl);
     })
 
--- seat s has taken its own record, and owns
+-- the state stays steady when seat s has taken its own record and owns
 owns_queued : (c : Core) (g : Ghost) (s stamp : ℕ) (rest : List Record) → IsSeat c.seats s → (seat c.seats s).point ≡ EnterOwnerStore Entrant.Locker (How.Queued stamp) → Fits c g
     → g.place ≡ serving s → g.walk ≡ 0 → c.popped ≡ record { seat = s; stamp = stamp } ∷ rest → Kept c g s
 owns_queued c g s stamp rest is at fits serves walked popped =

@@ -1,4 +1,4 @@
--- The steps of a try_lock but for its handoff exchange and its owner store.
+-- The steps of a try_lock except its handoff exchange and its owner store.
 use Rattle.std.proofs.Common.{◌≡◌, ◌≢◌, ◌⊎◌, inl, inr, ℕ, zero, suc, true, false, nat_eq, ◌+◌, ◌-◌, ◌<◌, refl, sym, ap, ◌∙◌, arith}
 use Rattle.std.proofs.lemmas.Bool.{cases_eq, eq-eqb, ne_eqb}
 use Rattle.std.proofs.Math.Dec.{eqb-suc-zero}
@@ -93,7 +93,7 @@ try_deepens c g s d takes posts is at fits =
       watches = here.watches;
     })
 
--- it is another, or nobody
+-- the owner is another seat or none
 try_goes_on : (c : Core) (g : Ghost) (s takes posts : ℕ) → IsSeat c.seats s
     → seat c.seats s ≡ record { depth = 0; takes = takes; posts = posts; point = TryOwnerLoad } → Fits c g
     → Fits (put c s (record { depth = 0; takes = takes; posts = posts; point = TryHandoffLoad })) g
@@ -135,7 +135,7 @@ at_TryOwnerLoad c g s is at fits =
 
 -- The handoff load
 
--- nothing is posted, and the charge is given back
+-- nothing is posted: the charge is given back
 gives_back : (c : Core) (g : Ghost) (s takes posts : ℕ) → IsSeat c.seats s
     → seat c.seats s ≡ record { depth = 0; takes = takes; posts = posts; point = TryHandoffLoad } → Fits c g
     → Fits (put c s (record { depth = 0; takes = takes - 1; posts = posts; point = Rest })) g
@@ -158,7 +158,7 @@ gives_back c g s takes posts is at fits =
       watches = here.watches;
     })
 
--- a number is posted
+-- the mutex is posted
 sees_post : (c : Core) (g : Ghost) (s takes posts : ℕ) → IsSeat c.seats s
     → seat c.seats s ≡ record { depth = 0; takes = takes; posts = posts; point = TryHandoffLoad } → 0 < c.handoff.seat → Fits c g
     → Fits (put c s (record { depth = 0; takes = takes; posts = posts; point = TryHandoffExchange c.handoff })) g
@@ -197,7 +197,7 @@ at_TryHandoffLoad c g s is at fits =
     let depth : x.depth ≡ 0 = rw at at (fits.each s).depth in
     try_handoff_load_at c g s x.takes x.posts is (λ i. record { depth = depth i; takes = x.takes; posts = x.posts; point = at i }) fits (cases_eq c.handoff.seat 0)
 
--- The count add of a try_lock that has taken a posted handoff over
+-- The count add of a try_lock that has accepted a posted handoff
 
 may_enter_accepting : (s : ℕ) → MayEnter s TryCountAdd
 may_enter_accepting s =

@@ -1,5 +1,5 @@
--- A carrier clears the push list, or walks one record of the cleared list: the queue's parts move between the push word, the
--- links and the pop list, and no other seat sees anything of it.
+-- A carrier clears the push list, or collects one record of the cleared list: records move between the push list, the cleared
+-- list and the pop list, and no other seat sees anything of it.
 use Rattle.std.proofs.Common.{◌≡◌, ◌≢◌, ◌⊎◌, ℕ, ◌+◌, ◌≤◌, ◌<◌, List, length, refl, sym, ◌∙◌, inl, inr, arith}
 use Rattle.lfm_protocol.specs.declared.seats.SeatState.{SeatState}
 use Rattle.lfm_words.specs.declared.links.Link.{Link}
@@ -17,11 +17,11 @@ use Rattle.lfm_laws.proofs.steady.frames.Frames.{Sees, SeatFits_seen, Errands, e
 abbrev pub carried_core : Core → ℕ → List Record → Core
 carried_core c head popped = record c { push = record { stamp = c.push.stamp; next = head }; popped = popped }
 
--- the ghost with this number of records to walk
+-- the ghost with this number of records still to be collected
 abbrev pub walking : Ghost → ℕ → Ghost
 walking g walk = record g { walk = walk }
 
--- seat s serves, and goes on with the view y, the parts of the queue being these
+-- seat s serves and goes on with state y; the parts of the queue are then these
 pub record Carries (c : Core) (g : Ghost) (s : ℕ) (y : SeatState) (head walk : ℕ) (popped : List Record) : Type 0 where
   pub errands : Errands c s y
   pub serves : g.place ≡ serving s
@@ -32,7 +32,7 @@ pub record Carries (c : Core) (g : Ghost) (s : ℕ) (y : SeatState) (head walk :
   pub stamps : (stamp : ℕ) → g.popped < stamp → stamp ≤ g.pushed → StampFits (carried_core c head popped) (walking g walk) stamp
   pub own : SeatFits (carried_core c head popped) (walking g walk) s y (wake c.wakes s)
 
--- the head that was seen stays, or goes
+-- the head that was seen stays or is cleared
 seen_after : (stamp next head : ℕ) → (head ≡ next) ⊎ (head ≡ 0) → (l : Link) → IsSeen (record { stamp = stamp; next = next }) l → IsSeen (record { stamp = stamp; next = head }) l
 seen_after stamp next head here l seen =
     record {
@@ -74,7 +74,7 @@ carries_unseen c g s y head walk popped t x is posts serves here other =
       watches = λ before e. absurd (serving_unposted s (sym serves ∙ e));
     }
 
--- what is asked of seat s in the state with its old view holds in that with its new one
+-- the facts of seat s with state y hold after y is written if they hold before the write
 carries_own : (e : Core) (h : Ghost) (s : ℕ) (y : SeatState) (w : Wake) → IsSeat e.seats s → y.posts ≡ (seat e.seats s).posts → h.place ≡ serving s
     → SeatFits e h s y w → SeatFits (put e s y) h s y w
 carries_own e h s y w is posts serves own =

@@ -1,4 +1,4 @@
--- A carrier clears the head of the push list: the records that hung on it are now those to walk.
+-- A carrier clears the head of the push list: the records of that list are now still to be collected.
 use Rattle.std.proofs.Common.{◌≡◌, ℕ, ◌+◌, ◌-◌, ◌≤◌, ◌<◌, [], length, refl, sym, ◌∙◌, inl, inr, arith}
 use Rattle.std.proofs.lemmas.Bool.{cases_eq, eq-eqb, ne_eqb}
 use Rattle.lfm_protocol.specs.declared.points.Carrier.{Carrier}
@@ -15,7 +15,7 @@ use Rattle.lfm_laws.proofs.steady.queue.Serving.{goes_own, queue_of_queued}
 use Rattle.lfm_laws.proofs.steady.queue.Pushers.{head_has_queue, newest_is}
 use Rattle.lfm_laws.proofs.steady.frames.Quiet.{walk_kept}
 
--- nothing is to be walked and the pop list is empty before the clear
+-- before the clear-head nothing is to be collected and the pop list is empty
 cleared_so_far : (c : Core) (g : Ghost) → g.walk ≡ 0 → c.popped ≡ [] → cleared c g ≡ g.popped
 cleared_so_far c g walked empty = let short : length c.popped ≡ 0 = rw empty refl in omega (arith, walked, short)
 
@@ -25,7 +25,7 @@ newest_of_queue c g fits walked empty some =
     let so_far = cleared_so_far c g walked empty in
     newest_is c g fits (λ e. absurd (omega (arith, so_far, e, some)))
 
--- the records of the queue were fresh, and are now to be walked
+-- the records of the queue were in the push list, and are now to be collected
 cleared_stamps : (c : Core) (g : Ghost) → Fits c g → g.walk ≡ 0 → c.popped ≡ [] → (stamp : ℕ) → g.popped < stamp → stamp ≤ g.pushed
     → StampFits (carried_core c 0 c.popped) (walking g (g.pushed - g.popped)) stamp
 cleared_stamps c g fits walked empty stamp above within =
@@ -68,7 +68,7 @@ clears c g s carrier is at fits some =
       });
     })
 
--- a releaser that finds no head posts the responsibility: the words stay as they were
+-- a releaser that finds no head will post the responsibility: the words are unchanged
 finds_none : (c : Core) (g : Ghost) (s : ℕ) (releaser : Releaser) → IsSeat c.seats s → (seat c.seats s).point ≡ TakeClearHead (Carrier.Releaser releaser) → Fits c g → c.push.next ≡ 0
     → Fits (put (carried_core c 0 c.popped) s (record (seat c.seats s) { point = ReleaseHandoffStore releaser })) (walking g g.walk)
 finds_none c g s releaser is at fits none =
@@ -95,7 +95,7 @@ finds_none c g s releaser is at fits none =
       });
     })
 
--- the kinds of carriers
+-- By cases on the carrier
 
 clears_as_locker : (c : Core) (g : Ghost) (s : ℕ) → IsSeat c.seats s → (seat c.seats s).point ≡ TakeClearHead Carrier.Locker → Fits c g → Kept c g s
 clears_as_locker c g s is at fits =

@@ -1,5 +1,5 @@
--- A pusher stores into the link of the seat that it is to push, which is that of no record in the queue since the seat still
--- asks: what the others see stays as it is.
+-- A pusher stores into the link of the seat that it will push. That seat still asks, so its link belongs to no record in the
+-- queue, and the others see no change.
 use Rattle.std.proofs.Common.{◌≡◌, ◌≢◌, ℕ, ◌+◌, ◌≤◌, ◌<◌, length, refl, sym, ap, ◌∙◌, arith}
 use Rattle.lfm_protocol.specs.declared.points.Point.TheVariants.{LinkStore, PushExchange}
 use Rattle.lfm_protocol.specs.declared.points.Pusher.{Pusher}
@@ -21,7 +21,7 @@ use Rattle.lfm_laws.proofs.steady.queue.Pushers.{fits_at}
 use Rattle.lfm_laws.proofs.steady.frames.Seated.{seat_of_standing}
 use Rattle.lfm_laws.proofs.steady.frames.Quiet.{wake_by_same}
 
--- the seat that a pusher is to push asks by it
+-- the seat that a pusher will push asks through it
 pub pushed_asks : (g : Ghost) (s : ℕ) (pusher : Pusher) → StandsAsPusher s (g.standing s) pusher → ErrandFits g s pusher
     → g.standing (pushed_seat pusher s) ≡ asks s
 pushed_asks g s Pusher.Locker stands errand = stands
@@ -29,7 +29,7 @@ pushed_asks g s (Pusher.Sender t) stands errand = errand.1
 
 -- The store
 
--- the other seats keep what they see
+-- the other seats see no change
 sees_link : (c : Core) (g : Ghost) (s u t : ℕ) (y x : SeatState) (l : Link) → IsSeat c.seats s → (seat c.seats s).posts ≤ y.posts
     → g.standing u ≡ asks s → t ≢ s → Sees c (put (put_link c u l) s y) g g t x
 sees_link c g s u t y x l is posts asked other =
@@ -53,7 +53,7 @@ sees_link c g s u t y x l is posts asked other =
       watches = λ was at watcher. WatchesAt_seen c (put (put_link c u l) s y) g g t x x.point refl (λ some. some) (λ v e. e) (was at watcher);
     }
 
--- the queue's records have other links
+-- the store is not into the link of a queued record
 stamp_with_link : (c : Core) (g : Ghost) (s u stamp : ℕ) (y : SeatState) (l : Link) → g.standing u ≡ asks s
     → StampFits c g stamp → StampFits (put (put_link c u l) s y) g stamp
 stamp_with_link c g s u stamp y l asked fits =
@@ -64,7 +64,7 @@ stamp_with_link c g s u stamp y l asked fits =
       walked = λ within. same ∙ fits.walked within;
     }
 
--- seat s stores into the link of u, which asks by it
+-- the state stays steady when seat s stores into the link of u, which asks through s
 pub link_stores : (c : Core) (g : Ghost) (s u : ℕ) (y : SeatState) (l : Link) → IsSeat c.seats s → Fits c g → Errands c s y → g.standing u ≡ asks s
     → SeatFits (put_link c u l) g s y (wake c.wakes s) → Fits (put (put_link c u l) s y) g
 link_stores c g s u y l is fits errands asked own =
@@ -93,7 +93,7 @@ link_stores c g s u y l is fits errands asked own =
       sizes = sizes_after c _ s y refl (length-with_entry c.links u l) refl refl fits.sizes;
     }
 
--- what the pusher knows has its link at the end
+-- after the store, what the pusher knows includes its link
 own_link_store : (c : Core) (g : Ghost) (s : ℕ) (x : SeatState) (w : Wake) (pusher : Pusher) (seen : Link) → 0 < pushed_seat pusher s
     → pushed_seat pusher s ≤ length c.links → SeatFits c g s (record x { point = LinkStore pusher seen }) w
     → SeatFits (put_link c (pushed_seat pusher s) (record { stamp = seen.stamp + 1; next = seen.next })) g s (record x { point = PushExchange pusher seen }) w

@@ -1,4 +1,4 @@
--- A serving seat's store takes the first record out of the queue: what the words, the queue, the errands and the sums are then.
+-- A serving seat's store removes the first record from the queue: the words, the queue, the errands and the sums after it.
 use Rattle.std.proofs.Common.{◌≡◌, ◌≢◌, ℕ, false, ◌+◌, ◌<◌, ◌≤◌, None, List, ◌∷◌, length, refl, sym, ap, ◌∙◌, inl, inr, arith, if◌then◌else◌}
 use Rattle.std.proofs.lemmas.Bool.{cases_eq}
 use Rattle.lfm_protocol.specs.declared.seats.SeatState.{SeatState}
@@ -55,18 +55,18 @@ first_of c g r rest fits walked popped =
 pub first_record_is : (g : Ghost) (r : Record) → r.stamp ≡ g.popped + 1 → g.pushed_at (g.popped + 1) ≡ r.seat → r ≡ record { seat = g.pushed_at (g.popped + 1); stamp = g.popped + 1 }
 first_record_is g r stamp here = λ i. record { seat = sym here i; stamp = stamp i }
 
--- What stays of the rest of the queue
+-- What is unchanged of the rest of the queue
 
 pub queued_injective : (m n : ℕ) → queued m ≡ queued n → m ≡ n
 queued_injective m n e = cc
 
--- the ghost once the record of seat u has left the queue, with the responsibility here, and this number of seats having
--- answered
+-- the ghost after the record of seat u has left the queue, with this place of the responsibility and this number of seats that
+-- have answered
 abbrev pub popped_to : Ghost → ℕ → Responsibility → ℕ → Ghost
 popped_to g u place answered =
     record g { place = place; standing = changed g.standing u apart; popped = g.popped + 1; answered = answered }
 
--- a record above the first is another seat's
+-- a later record than the first belongs to another seat
 later_seat : (g : Ghost) (u stamp : ℕ) → g.standing u ≡ queued (g.popped + 1) → g.popped + 1 < stamp → g.standing (g.pushed_at stamp) ≡ queued stamp → g.pushed_at stamp ≢ u
 later_seat g u stamp first above stands e =
     let same : stamp ≡ g.popped + 1 = queued_injective stamp (g.popped + 1) (sym stands ∙ ap g.standing e ∙ first) in
@@ -95,7 +95,7 @@ agents_apart c g u agents t =
       | inr other ↦ rw (changed_other g.standing u t apart other) (agents t)
     ]
 
--- a queued seat did not ask
+-- a queued seat does not ask, so the asking seats are the same
 pub asking_stays : (g : Ghost) (u stamp : ℕ) → g.standing u ≡ queued stamp → (t : ℕ) → is_asking (changed g.standing u apart t) ≡ is_asking (g.standing t)
 asking_stays g u stamp stands t =
     elim (cases_eq t u) [
@@ -121,7 +121,7 @@ sums_popped n g u place answered above within stands sums =
       pushed = sums.pushed;
     }
 
--- another standing than queued stays
+-- a standing other than queued stays the same
 stays_queued : (g : Ghost) (u stamp t : ℕ) (x : Standing) → g.standing u ≡ queued stamp → queued stamp ≢ x → g.standing t ≡ x → changed g.standing u apart t ≡ x
 stays_queued g u stamp t x stands differ at =
     let other : t ≢ u = λ e. differ (sym stands ∙ ap g.standing (sym e) ∙ at) in
@@ -135,8 +135,8 @@ listed_popped g u place answered t stamp first away was =
 
 -- The whole state
 
--- The first record of the queue leaves it by a store of seat s, which serves: the words, what the place says, and the facts of
--- s and of the record's seat after it
+-- The first record of the queue leaves it by a store of seat s, which serves: the words, the facts of the new place, and the
+-- facts of s and of the record's seat after the store
 pub record Pops (c : Core) (g : Ghost) (s : ℕ) (y : SeatState) (r : Record) (owner : ℕ) (rest : List Record) (wakes : List Wake) (place : Responsibility) (answered : ℕ) : Type 0 where
   pub errands : Errands c s y
   pub serves : g.place ≡ serving s
@@ -179,7 +179,7 @@ words_popped c g s y r owner rest wakes place answered fits pops first =
       listed = first.later ∙ ap (λ k. records g.pushed_at k (length rest)) (sym start);
     }
 
--- a seat that is neither s nor the record's reads nothing new
+-- a seat that is neither s nor that of the record reads nothing new
 sees_popped : (c : Core) (g : Ghost) (s : ℕ) (y : SeatState) (r : Record) (owner : ℕ) (rest : List Record) (wakes : List Wake) (place : Responsibility) (answered : ℕ)
     → IsSeat c.seats s → Fits c g → Pops c g s y r owner rest wakes place answered → IsFirst c g r rest → (t : ℕ) → t ≢ s → t ≢ r.seat → (x : SeatState)
     → Sees c (put (handed c owner rest wakes) s y) g (popped_to g r.seat place answered) t x

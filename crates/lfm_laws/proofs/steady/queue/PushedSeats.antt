@@ -1,5 +1,5 @@
--- The two seats that a push changes: the pushed one, which sleeps since its start_wait if another seat pushes it, and the one
--- that pushes.
+-- The two seats that a push changes: the one that pushes, and the pushed one, which sleeps since its start_wait if another seat
+-- pushes it.
 use Rattle.std.proofs.Common.{◌≡◌, ◌≢◌, ℕ, ◌+◌, ◌≤◌, refl, sym, ◌∙◌, arith}
 use Rattle.lfm_protocol.specs.declared.points.Point.TheVariants.{PushExchange, PushedHandoffLoad}
 use Rattle.lfm_protocol.specs.declared.points.Pusher.{Pusher}
@@ -17,7 +17,7 @@ use Rattle.lfm_laws.proofs.steady.frames.Quiet.{wake_by_same}
 use Rattle.lfm_laws.proofs.steady.grant.Wakings.{none_from, asked_sleeps_at}
 use Rattle.lfm_laws.proofs.steady.grant.Claimed.{sleeper_fits, wake_asleep, pays_asleep}
 
--- its standing after the push tells its record
+-- its standing after the push gives its record
 listed_pushed : (g : Ghost) (u stamp : ℕ) → g.popped ≤ g.pushed → queued (g.pushed + 1) ≡ queued stamp → QueuedFits (with_pushed g u) u stamp
 listed_pushed g u stamp most e =
     let same : g.pushed + 1 ≡ stamp = cc in

@@ -1,4 +1,4 @@
--- What a pusher and the seat that it pushes know, and what the words tell of a queue and of a posted handoff.
+-- What a pusher and the seat that it pushes know, and what the words imply about the queue and a posted handoff.
 use Rattle.std.proofs.Common.{◌≡◌, ◌≢◌, ℕ, Bool, true, ◌<◌, length, refl, sym, ap, subst, ◌∙◌, arith, inl, inr, nat_eq}
 use Rattle.std.proofs.lemmas.Bool.{cases_eq, eq-eqb, ne_eqb, eqb-true, and_parts}
 use Rattle.lfm_protocol.specs.declared.points.Point.{Point}
@@ -14,12 +14,12 @@ use Rattle.lfm_laws.specs.steady.Views.{by_depth, is_queued}
 use Rattle.lfm_laws.proofs.steady.frames.Abstracts.{stamp_of_queued}
 use Rattle.lfm_laws.proofs.steady.frames.Seated.{seat_of_queued}
 
--- the facts of a seat, its point being known
+-- the facts of a seat at a known point
 pub fits_at : (c : Core) (g : Ghost) (s : ℕ) (x : SeatState) (w : Wake) (p : Point) → x.point ≡ p → SeatFits c g s x w
     → SeatFits c g s (record x { point = p }) w
 fits_at c g s x w p at fits = subst (λ q. SeatFits c g s (record x { point = q }) w) at fits
 
--- the push word has not gone on from itself
+-- the push word counts as seen by itself
 pub sees_itself : (l : Link) → IsSeen l l
 sees_itself l = record { older = omega arith; same = λ e. inl refl }
 
@@ -43,7 +43,7 @@ not_posted c place fits none is =
     let at : IsSeat c.seats c.handoff.seat = rw is at fits in
     absurd (omega (arith, at.above))
 
--- the number that stands posted is that of its seat's last post
+-- the posted number is that of its seat's last post
 pub stands_old : (c : Core) (g : Ghost) → Fits c g → c.handoff.seat ≢ 0 → IsOld c.seats c.handoff
 stands_old c g fits some =
     let above : 0 < c.handoff.seat = omega arith in
@@ -51,7 +51,7 @@ stands_old c g fits some =
 
 -- The head of the push word
 
--- a head is that of a record in the queue
+-- if the push list has a head, some seat is queued
 pub head_has_queue : (c : Core) (g : Ghost) → Fits c g → c.push.next ≢ 0 → HasQueue g
 head_has_queue c g fits some =
     elim (cases_eq (cleared c g) g.pushed) [
@@ -59,11 +59,11 @@ head_has_queue c g fits some =
       | inr differ ↦ omega (arith, fits.words.parts)
     ]
 
--- above the cleared records there is a head
+-- if not all records are cleared, the push list has a head
 pub newest_is : (c : Core) (g : Ghost) → Fits c g → cleared c g ≢ g.pushed → c.push.next ≡ g.pushed_at g.pushed
 newest_is c g fits differ = fits.words.head ∙ rw (ne_eqb (cleared c g) g.pushed differ)
 
--- so while a handoff is posted, with no head nobody is queued
+-- so while a handoff is posted and the push list is empty, no seat is queued
 pub none_queued : (c : Core) (g : Ghost) (t : ℕ) → Fits c g → c.push.next ≡ 0 → g.place ≡ posted → is_queued (g.standing t) ≢ true
 none_queued c g t fits none is waits =
     let carried = rw is at fits.words.carried in

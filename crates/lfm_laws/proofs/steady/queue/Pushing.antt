@@ -1,4 +1,4 @@
--- A pusher puts the record of a seat that asks at the end of the queue: how the words, the queue and the sums go on, and what
+-- A pusher adds the record of a seat that asks at the end of the queue: the words, the queue and the sums after it, and what
 -- the other seats see.
 use Rattle.std.proofs.Common.{◌≡◌, ◌≢◌, ℕ, true, ◌+◌, ◌-◌, ◌≤◌, ◌<◌, length, refl, sym, ap, ◌∙◌, arith, inl, inr, nat_eq, if◌then◌else◌}
 use Rattle.std.proofs.lemmas.Bool.{cases_eq, eq-eqb, ne_eqb}
@@ -15,7 +15,7 @@ use Rattle.lfm_laws.proofs.steady.frames.Frames.{Sees, IsSeat_after, IsOld_after
 use Rattle.lfm_laws.proofs.steady.frames.Histories.{records_agree}
 use Rattle.lfm_laws.proofs.steady.frames.Sums.{changed_same, changed_other, sum_update}
 
--- the ghost once seat u is pushed with the next stamp
+-- the ghost after seat u is pushed with the next stamp
 abbrev pub with_pushed : Ghost → ℕ → Ghost
 with_pushed g u =
     record g {
@@ -26,7 +26,7 @@ with_pushed g u =
       pushes = changed g.pushes u (g.pushes u + 1);
     }
 
--- the core once the exchange that saw this link word has pushed seat u
+-- the core after the exchange that expected this link word has pushed seat u
 abbrev pub exchanged : Core → Link → ℕ → Core
 exchanged c seen u = record c { push = record { stamp = seen.stamp + 1; next = u } }
 
@@ -77,7 +77,7 @@ next_of_head f first pushed u =
           rw (ne_eqb first pushed differ, ne_eqb (pushed + 1) (first + 1) (λ e. differ (omega arith)), back, changed_other f (pushed + 1) pushed u (λ e. absurd (omega (arith, e))))
     ]
 
--- an older record is before another as it was
+-- the record before an older one stays the same
 before_pushed : (f : ℕ → ℕ) (first stamp x u : ℕ) → stamp < x → before (changed f x u) first stamp ≡ before f first stamp
 before_pushed f first stamp x u less =
     ap (λ n. if nat_eq stamp (first + 1) then 0 else n) (changed_other f x (stamp - 1) u (λ e. absurd (omega (arith, e))))
@@ -137,11 +137,11 @@ sums_pushed seats s u g above within asked sums =
 
 -- The other seats
 
--- a push is seen by its higher stamp alone
+-- a push is seen only by its higher stamp
 seen_on : (push seen l : Link) (u : ℕ) → push.stamp ≡ seen.stamp → IsSeen push l → IsSeen (record { stamp = seen.stamp + 1; next = u }) l
 seen_on push seen l u same known = record { older = omega (arith, known.older); same = λ e. absurd (omega (arith, known.older)) }
 
--- a seat stays queued when another is queued
+-- a seat stays queued when another is pushed
 stays_queued : (f : ℕ → Standing) (u v : ℕ) (new : Standing) → is_queued new ≡ true → is_queued (f v) ≡ true → is_queued (changed f u new v) ≡ true
 stays_queued f u v new is was =
     elim (cases_eq v u) [
@@ -182,7 +182,7 @@ sees_push c g s u t seen y x is posts found words asked other differ =
       watches = λ was at watcher. WatchesAt_seen c (put (exchanged c seen u) s y) g (with_pushed g u) t x x.point refl (λ some. omega arith) (λ v. stays_queued g.standing u v (queued n) refl) (was at watcher);
     }
 
--- the pushed seat has no call for it any more, and the calls for the others are as they were
+-- no call has the errand to push the pushed seat any more, and the errands for the other seats stay
 pub agents_pushed : (c : Core) (g : Ghost) (s u : ℕ) (y : SeatState) → IsSeat c.seats s → asks_for (seat c.seats s) s ≡ u → claims_for y ≡ claims_for (seat c.seats s)
     → ((t : ℕ) → AgentFits c.seats (g.standing t) t) → (t : ℕ) → AgentFits (with_entry c.seats s y) ((with_pushed g u).standing t) t
 agents_pushed c g s u y is errand claims agents t =

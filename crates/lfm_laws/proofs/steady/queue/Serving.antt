@@ -1,4 +1,4 @@
--- A seat that serves: what its next point has to tell while it clears and walks the queue, and that somebody is queued.
+-- A seat that serves: what its next point must satisfy while it clears and collects, and that some seat is queued.
 use Rattle.std.proofs.Common.{◌≡◌, ℕ, true, ◌+◌, ◌≤◌, List, sym, ◌∙◌, arith}
 use Rattle.std.proofs.lemmas.Bool.{false≢true}
 use Rattle.lfm_protocol.specs.declared.points.Point.{Point}
@@ -13,7 +13,7 @@ use Rattle.lfm_laws.specs.steady.Views.{claim_at, wake_at, is_queued, due_posts_
 use Rattle.lfm_laws.proofs.steady.frames.Abstracts.{stamp_of_queued}
 use Rattle.lfm_laws.proofs.steady.queue.Carrying.{carried_core, walking, serving_unposted}
 
--- what seat s of view x, which serves, has to tell at its next point
+-- what seat s with state x, which serves, must satisfy at its next point
 pub record Goes (c : Core) (g : Ghost) (s : ℕ) (x : SeatState) (w : Wake) (p : Point) : Type 0 where
   pub claims : claim_at x.depth s p ≡ serving s
   pub woken : wake_at (serving s) (g.standing s) s p ≡ Quiet
@@ -23,7 +23,7 @@ pub record Goes (c : Core) (g : Ghost) (s : ℕ) (x : SeatState) (w : Wake) (p :
   pub posts : x.posts + due_posts_at x.depth p ≤ x.takes
   pub pushes : g.pushes s + due_pushes_at x.depth w (g.standing s) p ≤ x.takes
 
--- it fits there
+-- seat s fits there
 pub goes_own : (c : Core) (g : Ghost) (s : ℕ) (x : SeatState) (w : Wake) (p : Point) (head walk : ℕ) (popped : List Record)
     → g.place ≡ serving s → claim_at x.depth s x.point ≡ serving s → w ≡ Quiet → SeatFits c g s x w
     → Goes (carried_core c head popped) (walking g walk) s x w p
@@ -45,7 +45,7 @@ goes_own c g s x w p head walk popped place claim quiet fits goes =
       watches = rw place (λ e. absurd (serving_unposted s e));
     }
 
--- a queued seat is in the queue
+-- if a seat's standing is queued, the queue is not empty
 pub queue_of_queued : (c : Core) (g : Ghost) (s : ℕ) → Fits c g → is_queued (g.standing s) ≡ true → HasQueue g
 queue_of_queued c g s fits e =
     let there = stamp_of_queued (g.standing s) e in

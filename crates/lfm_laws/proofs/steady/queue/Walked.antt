@@ -1,4 +1,5 @@
--- Where a carrier that has walked a record goes on: to the link of the next one, or to serve the queue's first record.
+-- The next point of a carrier that has collected a record: it loads the link of the next one, or serves the first record of the
+-- queue.
 use Rattle.std.proofs.Common.{◌≡◌, ◌≢◌, ℕ, ◌+◌, ◌-◌, ◌≤◌, ◌∷◌, refl, sym, ap, ◌∙◌, inl, inr, arith}
 use Rattle.std.proofs.lemmas.Bool.{cases_eq, eq-eqb, ne_eqb}
 use Rattle.lfm_protocol.specs.declared.points.Carrier.{Carrier}
@@ -17,19 +18,19 @@ use Rattle.lfm_laws.proofs.steady.frames.Seated.{seat_of_stamp}
 use Rattle.lfm_laws.proofs.steady.queue.Walking.{Finds, finds, walked_record, walked_on, walks}
 use Rattle.lfm_laws.proofs.steady.frames.Quiet.{walk_kept}
 
--- a grant has no more posts to come than the take before it
+-- at a grant at most as many posts are due as while the carrier collects
 granter_posts : (carrier : Carrier) → due_posts_of_granter carrier ≤ due_posts_of_carrier carrier
 granter_posts Carrier.Locker = omega arith
 granter_posts (Carrier.Releaser releaser) = omega arith
 granter_posts (Carrier.Reclaimer releaser) = omega arith
 granter_posts Carrier.Sender = omega arith
 
--- the last record of the list has no next one
+-- the last record of the cleared list has no next one
 ends_there : (c : Core) (g : Ghost) (t : ℕ) → Finds c g t → g.walk ≡ 1 → (link c.links t).next ≡ 0
 ends_there c g t found last =
     ap (λ l. l.next) found.link_is ∙ rw (eq-eqb (g.popped + g.walk) (g.popped + 1) (omega (arith, last))) refl
 
--- any other leads on to the record pushed before it
+-- any other record leads to the record pushed before it
 leads_on : (c : Core) (g : Ghost) (t : ℕ) → Finds c g t → g.walk ≢ 1 → (link c.links t).next ≡ g.pushed_at (g.popped + (g.walk - 1))
 leads_on c g t found more =
     let some = found.some in
@@ -57,7 +58,7 @@ walks_on c g s t carrier is at fits found more =
       pushes = rw at at here.pushes;
     })
 
--- the carrier gives the oldest record away
+-- the carrier goes on to grant the oldest record
 gives : (c : Core) (g : Ghost) (s t : ℕ) (carrier : Carrier) → IsSeat c.seats s → (seat c.seats s).point ≡ TakeLinkLoad carrier t → Fits c g → Finds c g t → g.walk ≡ 1
     → GivesAway s (walked_record c t) carrier
     → Fits (put (walked_on c t) s (record (seat c.seats s) { point = GrantWakeStore carrier (walked_record c t) })) (walking g (g.walk - 1))
@@ -89,7 +90,7 @@ takes_own c g s t is at fits found last own =
       pushes = rw at at here.pushes;
     })
 
--- by what the link tells, and at its end by the carrier
+-- By cases on the link, and at the end of the list on the carrier
 
 leads : (c : Core) (g : Ghost) (s t : ℕ) (carrier : Carrier) → IsSeat c.seats s → (seat c.seats s).point ≡ TakeLinkLoad carrier t → Fits c g → Finds c g t → g.walk ≢ 1 → Kept c g s
 leads c g s t carrier is at fits found more =

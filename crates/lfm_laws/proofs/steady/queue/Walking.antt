@@ -1,4 +1,4 @@
--- A carrier loads the link of the newest record that is still to be walked: that record joins the front of the pop list.
+-- A carrier loads the link of the newest record that is still to be collected; the record becomes the first of the pop list.
 use Rattle.std.proofs.Common.{◌≡◌, ℕ, ◌+◌, ◌-◌, ◌≤◌, ◌<◌, List, ◌∷◌, length, refl, ap, inl, arith}
 use Rattle.lfm_protocol.specs.declared.points.Carrier.{Carrier}
 use Rattle.lfm_protocol.specs.declared.points.Point.{Point}
@@ -14,14 +14,14 @@ use Rattle.lfm_laws.proofs.steady.queue.Carrying.{carried_core, walking, carries
 use Rattle.lfm_laws.proofs.steady.frames.Frames.{Errands, place_of_claim}
 use Rattle.lfm_laws.proofs.steady.queue.Serving.{Goes, goes_own}
 
--- the record of seat t, whose link is loaded, and the state once it has joined the pop list
+-- the record of seat t, whose link is loaded, and the state after it is added to the pop list
 abbrev pub walked_record : Core → ℕ → Record
 walked_record c t = loaded t (link c.links t)
 
 abbrev pub walked_on : Core → ℕ → Core
 walked_on c t = carried_core c c.push.next (walked_record c t ∷ c.popped)
 
--- what the carrier finds: the newest record to be walked
+-- what the carrier finds: the newest record to be collected
 pub record Finds (c : Core) (g : Ghost) (t : ℕ) : Type 0 where
   pub some : 0 < g.walk
   pub seat_is : t ≡ g.pushed_at (g.popped + g.walk)
@@ -58,7 +58,7 @@ walked_stamps c g r fits some stamp above within =
       walked = λ upto. old.walked (omega (arith, upto));
     }
 
--- the carrier goes on to a point at which it may serve with one record less to walk
+-- the carrier goes on to a point at which it may serve with one record fewer to collect
 pub walks : (c : Core) (g : Ghost) (s t : ℕ) (carrier : Carrier) (p : Point) → IsSeat c.seats s → (seat c.seats s).point ≡ TakeLinkLoad carrier t → Fits c g → Finds c g t
     → Errands c s (record (seat c.seats s) { point = p })
     → Goes (walked_on c t) (walking g (g.walk - 1)) s (seat c.seats s) (wake c.wakes s) p

@@ -23,8 +23,9 @@ pub fn takes_count_charges()
     ensures { TakesCountCharges }
 {}
 
-/// A step that answers a new hold raises the depth from 0 to 1. Again adds one to the depth and Still subtracts one, and both
-/// answer the new depth. A release sets the depth to 0 with the store that empties the owner word. Nothing else changes it.
+/// A step that answers a new hold raises the depth from 0 to 1. With Again the depth rises by one, with Still it falls by one,
+/// and both answer the new depth. A release sets the depth to 0 with the store that empties the owner word. Nothing else
+/// changes it.
 ///
 /// Definition: `DepthCountsHolds` in `specs/laws/Depths.antt`. Proof: `proofs/lawful/calls/DepthsCounted.antt`.
 pub fn depth_counts_holds()

@@ -32,9 +32,9 @@ pub fn effects_are_of_calls()
     ensures schedules { EffectsAreOfCallsInSchedules }
 {}
 
-/// The effect of an open call on the abstract mutex fits the call and names its seat: a `lock` asks for its seat, a `try_lock`
-/// asks or accepts a post for it, an `unlock` or `start_wait` releases, and a `receive` takes up its grant. A `send_lock` asks
-/// for its target.
+/// The effect of an open call on the abstract mutex matches the call and names its seat: a `lock` asks for its seat, a
+/// `try_lock` asks or accepts a post for it, an `unlock` or `start_wait` releases, and a `receive` takes up its grant. A
+/// `send_lock` asks for its target.
 ///
 /// Definitions: `EffectsAreTheCallers` in `specs/laws/Effects.antt`, and `EffectsAreTheCallersInSchedules` in
 /// `specs/laws/InSchedules.antt`. Proofs: `proofs/lawful/calls/EffectsOwned.antt` and `proofs/lawful/runs/InSchedules.antt`.

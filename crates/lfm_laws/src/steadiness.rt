@@ -22,8 +22,8 @@ pub fn states_are_steady()
 /// abstract mutex to the other's, and the ghost's lists of pushes, of records that left and of answers grow by those of the
 /// event.
 ///
-/// Definition: `StepsKeepSteady` in `specs/laws/Steadiness.antt`. Proof: `proofs/lawful/runs/KeptSteady.antt`, which goes by
-/// point in `proofs/steady/StepsKept.antt`.
+/// Definition: `StepsKeepSteady` in `specs/laws/Steadiness.antt`. Proof: `proofs/lawful/runs/KeptSteady.antt`, with the case of
+/// each point in `proofs/steady/StepsKept.antt`.
 pub fn steps_keep_steady()
     ensures { StepsKeepSteady }
 {}
@@ -33,7 +33,7 @@ pub fn steps_keep_steady()
 /// seat becomes, depend only on that word, that seat and the oldest record of the pop list.
 ///
 /// Definitions: `StepsTouchOneWordAndOneSeat` and `StepsSeeOneWordAndOneSeat` in `specs/laws/Steadiness.antt`. Proof:
-/// `proofs/lawful/touched/OneSeat.antt`, which goes by word in `proofs/lawful/touched/OneWord.antt`.
+/// `proofs/lawful/touched/OneSeat.antt`, with the case of each word in `proofs/lawful/touched/OneWord.antt`.
 pub fn steps_touch_one_word_and_one_seat()
     ensures touches { StepsTouchOneWordAndOneSeat }
     ensures sees { StepsSeeOneWordAndOneSeat }

@@ -1,5 +1,5 @@
--- How many seats have come to hold by a queued record, from the view of a seat that comes to hold: one fewer than the stamp of
--- its own grant or record, or as many as were popped if it holds without a record.
+-- How many seats have come to hold by a queued record, as a seat that comes to hold can tell: one fewer than the stamp of its
+-- own grant or record, or as many as were popped if it holds without a record.
 use Rattle.std.proofs.Common.{◌≡◌, ◌≢◌, ℕ, zero, suc, ◌+◌, ◌<◌, List, length, refl, sym, ap, ◌∙◌, arith}
 use Rattle.std.proofs.lemmas.Bool.{ne_eqb}
 use Rattle.std.proofs.lemmas.List.{length-append}

@@ -1,4 +1,4 @@
--- The word of each step has its own index in the list of words.
+-- The index of each step's word is within the list of words.
 use Rattle.std.proofs.Common.{ℕ, ◌+◌, ◌*◌, ◌<◌, ◌≤◌, Option, Some, None, arith}
 use Rattle.lfm_protocol.specs.declared.kinds.Kind.{Kind}
 use Rattle.lfm_protocol.specs.declared.seats.SeatState.{SeatState}

@@ -33,7 +33,7 @@ pushes_of_call c s [] = []
 pushes_of_call c s (e ∷ later) =
     if is_call (seat c.seats s).point then pushes_of_event c s e ++ pushes_of_call (happens c e).core s later else []
 
--- the call of seat s has pushed nothing in these events, and after them it is to push seat t
+-- the call of seat s has pushed nothing in these events, and after them it has yet to push seat t
 pub record IsToPush (c : Core) (s t : ℕ) (events : List Event) : Type 0 where
   pub nothing : pushes_of_call c s events ≡ []
   pub asks : asks_for (seat (run_of c events).seats s) s ≡ t

@@ -1,4 +1,5 @@
--- The seat that a call has counted and has yet to push, and the seat that a send has claimed and has yet to count.
+-- The errands of a call: the seat that it has counted and has yet to push, and the seat that a send has claimed and has yet to
+-- count.
 use Rattle.std.specs.Prelude.{◌≡◌, ℕ, ◌<◌, nat_eq, if◌then◌else◌}
 use Rattle.lfm_protocol.specs.declared.points.Point.{Point}
 use Rattle.lfm_protocol.specs.declared.points.Point.TheVariants.{LockOwnerLoad, SendCountAdd, PushLoad, LinkStore, PushExchange}

@@ -42,7 +42,7 @@ HasQueue g = g.popped < g.pushed
 abbrev pub HeadStays : Core → Ghost → Handoff → Type 0
 HeadStays c g seen = c.handoff ≡ seen → 0 < seen.seat → HasQueue g
 
--- the carrier has cleared no list, or walked it to its end
+-- no cleared record is left to collect
 abbrev pub HasWalked : Ghost → Type 0
 HasWalked g = g.walk ≡ 0
 

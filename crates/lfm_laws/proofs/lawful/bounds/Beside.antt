@@ -21,7 +21,7 @@ use Rattle.lfm_laws.proofs.lawful.runs.Reached.{made_keeps, begin_keeps}
 use Rattle.lfm_laws.proofs.steady.frames.Seated.{seat_of_test, test_of_seat}
 use Rattle.lfm_laws.proofs.steady.queue.Pushers.{same_link_true}
 
--- the steps that are due to seat s
+-- an upper bound on the steps that seat s has yet to make while the push word stays the same
 abbrev pub due : Core → ℕ → ℕ
 due c s = due_at c.push (length c.seats) (room_left c) (seat c.seats s).point
 

@@ -189,7 +189,7 @@ pub record KeepsSeat (c d : Core) (s : ℕ) : Type 0 where
 pub leaves_all : (c : Core) (s : ℕ) → KeepsSeat c c s
 leaves_all c s = record { view = refl; size = refl; popped = λ e. refl }
 
--- so it is for each seat with an open call when a call begins
+-- the start of a call keeps all of this for each seat whose call is open
 pub begin_leaves : (c : Core) (t s : ℕ) (call : Call) → is_call (seat c.seats s).point ≡ true → KeepsSeat c (begin c t call).core s
 begin_leaves c t s call inside =
     record {
@@ -201,7 +201,7 @@ begin_leaves c t s call inside =
       popped = λ e. begun_popped c t call;
     }
 
--- so it is for every other seat when a seat makes a step
+-- a step keeps all of this for every other seat
 pub step_leaves : (c : Core) (g : Ghost) (t s : ℕ) → Fits c g → s ≢ t → KeepsSeat c (made c t).core s
 step_leaves c g t s fits other =
     record {

@@ -26,7 +26,8 @@ use Rattle.lfm_laws.proofs.steady.frames.Sums.{sum_update, sum_bound}
 use Rattle.lfm_laws.proofs.steady.frames.SameSeats.{seats-step, seats-begin}
 use Rattle.lfm_laws.proofs.lawful.bounds.SumBounds.{sum_spreads, sum_scales}
 
--- What all calls are owed: the steps that are due, and what the changes that are left cost the other calls, at k per change
+-- What is owed, the potential of this argument: for each call the steps that are due, plus k for each change of the push word
+-- that it has left
 
 abbrev pub owed : ℕ → Core → ℕ → ℕ
 owed k c s = due c s + k * changes_left c s

@@ -128,7 +128,7 @@ recheck_finds_none c g s releaser takes posts is at empty fits =
       history = released_history g g s x releaser Posted (history_stays g g refl refl refl refl);
     })
 
--- some seat was pushed, so the post is to be taken back
+-- some seat was pushed, so the poster goes on to take its post back
 recheck_finds_some : (c : Core) (g : Ghost) (s : ℕ) (releaser : Releaser) (takes posts : ℕ) → IsSeat c.seats s
     → seat c.seats s ≡ record { depth = 0; takes = takes; posts = posts; point = ReleasePushRecheck releaser } → c.push.next ≢ 0 → Fits c g → Kept c g s
 recheck_finds_some c g s releaser takes posts is at some fits =

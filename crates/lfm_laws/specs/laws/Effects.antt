@@ -136,8 +136,8 @@ EffectsAreTheCallers =
 
 -- The start of an open call
 
--- one of these events is the start of a call of seat s that has been open since
--- earlier, since: the events before and after the start
+-- one of these events is the start of a call of seat s that has been open since; `earlier` and `since` are the events before
+-- and after it
 pub record HasBegun (c : Core) (s : ℕ) (events : List Event) : Type 0 where
   pub call : Call
   pub earlier : List Event

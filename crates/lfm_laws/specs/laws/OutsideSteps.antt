@@ -1,5 +1,5 @@
--- Steps outside of calls: of a number that no seat has, or of a seat that has no call open. Each law here is a clause of a public
--- function of `lfm_laws`.
+-- Steps outside of calls: of a number that no seat has, or of a seat that has no call open. Each law here is a clause of a
+-- public function of `lfm_laws`.
 use Rattle.std.specs.Prelude.{◌≡◌, ◌⊎◌, ℕ, false, ◌++◌, List, ◌∷◌}
 use Rattle.lfm_protocol.specs.declared.answers.Turn.TheVariants.{Refused}
 use Rattle.lfm_protocol.specs.declared.answers.Why.TheVariants.{NoSuchSeat, Idle}

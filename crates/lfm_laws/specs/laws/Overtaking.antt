@@ -42,8 +42,8 @@ QueuedSeatsAreOvertakenOnce =
     (c : Core) (events : List Event) (k : ℕ) → Steady c → k < length (queue_of c) → length (popped_record c events) ≤ k
     → entries_of_run c events ≤ length (popped_record c events) + 1
 
--- while a queued record has not left the queue, owners release at most once more than records leave it: so at most k + 1
--- releases precede the leaving of a record with k before it
+-- while a queued record has not left the queue, owners release at most once more than records leave it: so before a record with
+-- k before it leaves, owners release at most k + 1 times
 abbrev pub QueuedSeatsWaitForFewReleases : Type 0
 QueuedSeatsWaitForFewReleases =
     (c : Core) (events : List Event) (k : ℕ) → Steady c → k < length (queue_of c) → length (popped_record c events) ≤ k

@@ -1,4 +1,4 @@
--- A lock that holds by a queued record took its own record from the queue, and a lock or try_lock that holds without one took none.
+-- A lock that holds by a queued record took its own record from the queue; a lock or try_lock that holds without one took none.
 use Rattle.std.proofs.Common.{◌≡◌, ℕ, refl, inl, inr}
 use Rattle.std.proofs.lemmas.Bool.{cases_Bool}
 use Rattle.std.specs.Prelude.{Some, None}

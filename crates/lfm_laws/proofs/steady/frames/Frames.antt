@@ -144,7 +144,7 @@ KnowsAt_seen c d g h t depth posts x (GrantWakeStore taker oldest) sees most cla
 KnowsAt_seen c d g h t depth posts x (EnterOwnerStore entrant how) sees most claims stands knows = enters_seen c d g h t depth x entrant how sees claims knows
 KnowsAt_seen c d g h t depth posts x _ sees most claims stands knows = knows
 
--- a seat for which nothing new is seen still fits
+-- a seat that sees nothing new still fits
 pub SeatFits_seen : (c d : Core) (g h : Ghost) (t : ℕ) (x : SeatState) (w : Wake) → x.posts ≤ (seat c.seats t).posts → Sees c d g h t x → SeatFits c g t x w → SeatFits d h t x w
 SeatFits_seen c d g h t x w posts sees fits =
     record {

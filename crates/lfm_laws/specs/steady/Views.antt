@@ -121,7 +121,7 @@ is_awaiting place standing s = is_queued standing || is_some (grant_at place s)
 
 -- Wake words
 
--- the wake word of a seat that sleeps since its start_wait: WAITING until a send claims it
+-- the wake word of a seat that has slept since its start_wait: WAITING until a send claims it
 abbrev pub wake_of_waiter : Responsibility → Standing → ℕ → Wake
 wake_of_waiter place standing s = if is_apart standing && (if is_entered place s then false else true) then Waiting else Claimed
 

@@ -33,7 +33,7 @@ numbers_known c g s posts _ knows = tt
 
 -- Wake words
 
--- a word that is WAITING or CLAIMED is no grant, so its seat sleeps since a start_wait
+-- a word that is WAITING or CLAIMED is no grant, so its seat has slept since a start_wait
 ungranted : (grant : Option ℕ) (place : Responsibility) (standing : Standing) (s : ℕ) (p : Point) (w : Wake)
     → (w ≡ Waiting) ⊎ (w ≡ Claimed) → w ≡ wake_by grant place standing s p → w ≡ wake_at place standing s p
 ungranted (Some stamp) place standing s p w (inl is) e = cc

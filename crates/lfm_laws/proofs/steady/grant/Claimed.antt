@@ -1,4 +1,4 @@
--- A seat that sleeps since its start_wait fits with any standing, and a seat that a send has claimed sleeps in this way.
+-- A seat that has slept since its start_wait fits with any standing, and a seat that a send has claimed sleeps in this way.
 use Rattle.std.proofs.Common.{◌≡◌, ℕ, true, false, None, refl, ◌+◌, ◌≤◌, sym, ◌∙◌}
 use Rattle.lfm_protocol.specs.declared.points.Point.{Point}
 use Rattle.lfm_protocol.specs.declared.points.Point.TheVariants.{Asleep, ReceiveWakeLoad}
@@ -12,7 +12,7 @@ use Rattle.lfm_laws.specs.steady.Views.{claim_at, held_by, grant_at, is_entered,
 use Rattle.lfm_laws.proofs.steady.grant.Wakings.{none_from, false_from, claimed_sleeps_at}
 use Rattle.std.proofs.lemmas.Bool.{false≢true}
 
--- What a seat reads that sleeps since a start_wait
+-- What a seat reads that has slept since a start_wait
 
 woken_asleep : (place : Responsibility) (standing : Standing) (u : ℕ) (p : Point) → sleeps_as_waiter p ≡ true → wake_at place standing u p ≡ wake_of_waiter place standing u
 woken_asleep place standing u (Asleep Sleeper.Waiter) sleeps = refl

@@ -50,7 +50,7 @@ awaits_queued place depth s stamp (GrantWakeStore carrier oldest) none stands = 
 awaits_queued place depth s stamp (EnterOwnerStore entrant how) none stands = absurd (enters_by_claim s entrant how none)
 awaits_queued place depth s stamp _ none stands = absurd (cc)
 
--- a seat that sleeps since a start_wait awaits a grant
+-- a seat that has slept since a start_wait awaits a grant
 pub awaits_waiter : (p : Point) → sleeps_as_waiter p ≡ true → awaits_grant p ≡ true
 awaits_waiter (Asleep sleeper) sleeps = refl
 awaits_waiter (ReceiveWakeLoad sleeper) sleeps = refl

@@ -1,4 +1,4 @@
--- What the wake word of a seat implies about its grant and its sleep, and which seats sleep since a start_wait.
+-- What the wake word of a seat implies about its grant and its sleep, and which seats have slept since a start_wait.
 use Rattle.std.proofs.Common.{◌≡◌, ◌≢◌, ℕ, Bool, true, false, ◌&&◌, cond, eqb, Option, Some, None, refl, inl, inr}
 use Rattle.std.proofs.lemmas.Bool.{cases_eq, eq-eqb, ne_eqb}
 use Rattle.lfm_protocol.specs.declared.points.Point.{Point}
@@ -59,7 +59,7 @@ pub wake_to_load : (place : Responsibility) (standing : Standing) (s : ℕ) (sle
     → expected_wake place standing s (ReceiveWakeLoad sleeper) ≡ expected_wake place standing s (Asleep sleeper)
 wake_to_load place standing s sleeper = load_by (grant_at place s) place standing s sleeper
 
--- a seat whose wake word is WAITING sleeps since a start_wait, and no send has claimed it
+-- a seat whose wake word is WAITING has slept since a start_wait, and no send has claimed it
 pub record IsWaiting (place : Responsibility) (standing : Standing) (s : ℕ) (p : Point) : Type 0 where
   pub sleeps : sleeps_as_waiter p ≡ true
   pub ungranted : grant_at place s ≡ None
@@ -106,7 +106,7 @@ no_entrant : (standing : Standing) (entrant : Entrant) (how : How) → standing 
 no_entrant standing Entrant.Locker (How.Queued stamp) away unqueued stands = let f = rw unqueued at stands in cc
 no_entrant standing _ how away unqueued stands = away stands
 
--- such a seat sleeps since a start_wait
+-- such a seat has slept since a start_wait
 sleeps_at : (place : Responsibility) (depth s : ℕ) (standing : Standing) (p : Point) → grant_at place s ≡ None → standing ≢ apart → standing ≢ asks s
     → is_queued standing ≡ false → StandsAt place depth s standing p → sleeps_as_waiter p ≡ true
 sleeps_at place depth s standing (Asleep Sleeper.Waiter) none away own unqueued stands = refl
@@ -125,10 +125,10 @@ sleeps_at place depth s standing (GrantWakeStore carrier oldest) none away own u
 sleeps_at place depth s standing (EnterOwnerStore entrant how) none away own unqueued stands = absurd (no_entrant standing entrant how away unqueued stands)
 sleeps_at place depth s standing _ none away own unqueued stands = absurd (away stands)
 
--- a seat that a send has claimed sleeps since a start_wait
+-- a seat that a send has claimed has slept since a start_wait
 pub claimed_sleeps_at : (place : Responsibility) (depth s z : ℕ) (p : Point) → grant_at place s ≡ None → StandsAt place depth s (claimed z) p → sleeps_as_waiter p ≡ true
 claimed_sleeps_at place depth s z p none stands = sleeps_at place depth s (claimed z) p none (λ e. cc) (λ e. cc) refl stands
 
--- a seat that asks by another seat's send sleeps since a start_wait
+-- a seat that asks by another seat's send has slept since a start_wait
 pub asked_sleeps_at : (place : Responsibility) (depth s z : ℕ) (p : Point) → s ≢ z → grant_at place s ≡ None → StandsAt place depth s (asks z) p → sleeps_as_waiter p ≡ true
 asked_sleeps_at place depth s z p other none stands = sleeps_at place depth s (asks z) p none (λ e. cc) (λ e. other cc) refl stands

@@ -1,5 +1,5 @@
--- The two seats that a push changes: the one that pushes, and the pushed one, which sleeps since its start_wait if another seat
--- pushes it.
+-- The two seats that a push changes: the one that pushes, and the pushed one, which has slept since its start_wait if another
+-- seat pushes it.
 use Rattle.std.proofs.Common.{◌≡◌, ◌≢◌, ℕ, ◌+◌, ◌≤◌, refl, sym, ◌∙◌, arith}
 use Rattle.lfm_protocol.specs.declared.points.Point.TheVariants.{PushExchange, PushedHandoffLoad}
 use Rattle.lfm_protocol.specs.declared.points.Pusher.{Pusher}
@@ -23,7 +23,7 @@ listed_pushed g u stamp most e =
     let same : g.pushed + 1 ≡ stamp = cc in
     record { above = omega arith; within = omega arith; here = rw (← same) (changed_same g.pushed_at (g.pushed + 1) u) }
 
--- the seat that another pushes sleeps since a start_wait, and fits
+-- the seat that another pushes has slept since a start_wait, and fits
 pub pushed_fits : (c : Core) (g : Ghost) (s u : ℕ) (seen : Link) (y x : SeatState) (w : Wake) → u ≢ s → g.popped ≤ g.pushed → g.standing u ≡ asks s
     → SeatFits c g u x w → SeatFits (put (exchanged c seen u) s y) (with_pushed g u) u x w
 pushed_fits c g s u seen y x w other most asked fits =

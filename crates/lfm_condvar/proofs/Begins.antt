@@ -1,4 +1,4 @@
--- Cond seats as they are made.
+-- What holds of cond seats when they are made.
 use Rattle.std.proofs.Common.{◌≡◌, ℕ, zero, suc, ◌+◌, ◌<◌, List, [], ◌∷◌, Some, is_some, refl, sym, ◌∙◌, ap, subst, arith, ◌++◌, ◌⊎◌, ⊎_elim, inl, inr, length, get_or}
 use Rattle.std.proofs.lemmas.List.Sums.{get_or-le-sum_by}
 use mathlib.Core.Option.{some, some-ne-none, some-injective}
@@ -21,7 +21,7 @@ at_end [] x y (suc j) e = absurd (some-ne-none y (sym e))
 at_end (z ∷ xs) x y zero e = inl e
 at_end (z ∷ xs) x y (suc j) e = ⊎_elim (λ u. inl u) (λ u. inr (ap suc u.0, u.1)) (at_end xs x y j e)
 
--- what holds of each item and of one that is put behind them holds of all
+-- A property of each item of a list and of one appended item holds of all items. By cases on the index
 pub and_last : {A : Type 0} (P : ℕ → A → Type 0) (xs ys : List A) (x : A) → ys ≡ xs ++ x ∷ [] → P (length xs) x → ((j : ℕ) (y : A) → get_elem? xs j ≡ some y → P j y) → (j : ℕ) (y : A) → get_elem? ys j ≡ some y → P j y
 and_last {A} P xs ys x is p old j y e = ⊎_elim (λ u. old j y u) (λ u. subst (λ (t : ℕ × A). P t.0 t.1) (λ i. (sym u.0 i, u.1 i)) p) (at_end xs x y j (ap (λ z. get_elem? z j) (sym is) ∙ e))
 

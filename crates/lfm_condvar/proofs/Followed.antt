@@ -1,4 +1,4 @@
--- What others make of the list between two holds of a cond seat.
+-- How others change the list between two holds of a cond seat.
 use Rattle.std.proofs.Common.{ℕ, List, [], ◌∷◌, refl, sym, ◌∙◌, subst, arith}
 use Rattle.lfm_mutex.specs.Reach.{Leads, Reached}
 use Rattle.lfm_condvar.specs.declared.waiters.Waiters.{Waiters}

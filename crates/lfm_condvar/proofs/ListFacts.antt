@@ -1,4 +1,4 @@
--- One more that waits, and how many there may be.
+-- Room for one more waiter, and how many waiters there may be.
 use Rattle.std.proofs.Common.{◌≡◌, ℕ, zero, suc, ◌+◌, ◌*◌, ◌<◌, ◌≤◌, List, [], ◌∷◌, ◌++◌, length, refl, sym, ◌∙◌, ap, arith, get_or}
 use Rattle.std.specs.Prelude.{All, sum}
 use Rattle.std.proofs.lemmas.List.Sums.{sum_by-le}
@@ -25,7 +25,7 @@ times_total : (n : ℕ) (ws : List Waiter) → Among n ws → length ws ≡ sum_
 times_total n [] a = sym (sum_none n)
 times_total n (w ∷ ws) a = let rest = times_total n ws a.1.1 in let one = one_within w.seat n a.0 a.1.0 in let parts = sum_add (one_at w.seat) (λ s. times s ws) n in omega arith
 
--- one more has room
+-- There is room for one more: each seat is listed at most once, and this one not at all
 pub has_room : (n s : ℕ) (ws : List Waiter) → Among n ws → ((k : ℕ) → times k ws ≤ 1) → times s ws ≡ 0 → 0 < s → s ≤ n → length ws < n
 has_room n s ws a once none p q = let t = times_total n ws a in let b = sum_below (λ k. times k ws) 1 n s once p q (omega arith) in omega arith
 
@@ -34,7 +34,7 @@ once_more ws w once none k = let m = times_more k ws w in dite (ℕ_discrete w.s
     (λ e. let x = one_most w.seat k in let z : times k ws ≡ 0 = ap (λ j. times j ws) (sym e) ∙ none in omega arith)
     (λ ne. let x = one_other w.seat k ne in let o = once k in omega arith)
 
--- what numbers of at most b each add up to
+-- The sum of numbers of at most b each is at most b times their number
 pub sum_within : (b : ℕ) (xs : List ℕ) → All (λ x. x ≤ b) xs → sum xs ≤ length xs * b
 sum_within b xs h = sum_by-le (λ x. x) b xs h
 

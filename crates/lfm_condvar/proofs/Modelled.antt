@@ -1,4 +1,4 @@
--- The list of a running condvar goes as that of the model.
+-- The list of a running condvar changes as that of the model.
 use Rattle.std.proofs.Common.{◌≡◌, ◌==◌, ℕ, suc, ◌+◌, ◌<◌, ◌≤◌, Bool, true, false, List, [], ◌∷◌, ◌++◌, map, length, drop, Some, None, Ok, Err, refl, sym, ap, subst, ◌∙◌, arith, if◌then◌else◌}
 use Rattle.lfm_model.specs.declared.refusals.Refusal.TheVariants.{Asleep, NotOwner, Nested, DepthFull, Spent, NoSuchSeat, NotWaiting, Busy}
 use Rattle.lfm_model.proofs.Sums.{one_same}
@@ -35,7 +35,7 @@ nobody_more : (xs : List Waiter) → xs ++ [] ≡ xs
 nobody_more [] = refl
 nobody_more (x ∷ xs) = ap (λ (l : List Waiter). x ∷ l) (nobody_more xs)
 
--- Who is listed
+-- Which seats are listed
 
 not_here : (b : Bool) (n : ℕ) (c : Bool) → (if b then 1 else 0) + n ≡ 0 → (n ≡ 0 → c ≡ false) → (if b then true else c) ≡ false
 not_here true n c h behind = absurd (omega arith)
@@ -53,7 +53,7 @@ listed : (s : ℕ) (xs : List Listed) → 0 < times s xs → is_listed s (map as
 listed s [] some = absurd (omega arith)
 listed s (x ∷ xs) some = here (x.seat == s) (times s xs) (is_listed s (map as_waiter xs)) some (listed s xs)
 
--- a seat that was put there once more stood there at no place
+-- a seat that was appended to a list in which each is listed once was not listed before
 was_new : (by s : ℕ) (v w : Waiters) → Appended by s v w → times s v.list.items ≡ 0
 was_new by s v w a = let once = subst (λ (l : List Listed). times s l ≤ 1) a.list (w.once s) in let more = times_more s v.list.items (waiter s w.added) in let own = one_same s s refl in omega arith
 
@@ -83,7 +83,7 @@ module _ {T : Type 0} where
 
 -- Sent
 
--- the model removes as many as the list lost
+-- The model removes as many waiters as the list lost. By induction on them
 removes : (gone : List Waiter) (x y : Condvar) → x.waiters ≡ gone ++ y.waiters → y.sent ≡ x.sent + length gone → y.added ≡ x.added → y.holder ≡ x.holder → y ≡ removed_times (length gone) x
 removes [] x y list sent added holder = let s : y.sent ≡ x.sent = omega arith in let l = sym list in λ i. record { sent = s i; added = added i; waiters = l i; holder = holder i }
 removes (g ∷ gone) x y list sent added holder = removes gone (removed x) y (ap (λ (l : List Waiter). drop 1 l) list) (omega arith) added holder

@@ -1,4 +1,4 @@
--- The inner mutex is locked, the list changed, and given back.
+-- One hold: the inner mutex is locked, the list is changed, and the mutex is unlocked.
 use Rattle.std.proofs.Common.{◌≡◌, ℕ, ◌+◌, ◌≤◌, Option, Some, None, is_some, true, refl, sym, ◌∙◌, ap, subst, arith, slice_index}
 use Rattle.lfm_model.specs.declared.answers.How.{How}
 use Rattle.lfm_protocol.specs.declared.limits.Limits.{Limits}
@@ -43,7 +43,7 @@ got how limits s t kept made g = let f = g.8 in let l = some_of s.last kept.ther
   },
 )
 
--- the list in hand was written
+-- the cond seat wrote the list that it holds
 pub rewritten : (limits : Limits) (s t u : Sight Waiters) (v w : Waiters) → InHand limits s t v v → u ≡ record t { value = Some w } → InHand limits s u v w
 rewritten limits s t u v w h e = record {
   value = ap (λ z. z.value) e;
@@ -65,7 +65,7 @@ rewritten limits s t u v w h e = record {
 pub may_leave : (limits : Limits) (s t : Sight Waiters) (v w : Waiters) → InHand limits s t v w → WaitersFollow t.number v w → MayLeave WaitersFollow WaitersFit t
 may_leave limits s t v w h f x is = (tt, λ l was. subst (λ (y : Waiters). WaitersFollow t.number l y) (one_some t.value w x h.value is) (subst (λ (y : Waiters). WaitersFollow t.number y w) (one_some t.last v l h.last was) f))
 
--- what is known once the inner mutex was given back
+-- what is known after the inner mutex was unlocked
 pub record Done (limits : Limits) (s u : Sight Waiters) (v w : Waiters) : Type 0 where
   pub held : HeldOnce limits.budget s u v w
   pub kept : CondKept u
@@ -88,20 +88,20 @@ done limits s t u v w h se bu few l tk aw = let last = l.5 w h.value in let name
   made = λ x is. subst (λ (y : Waiters). (y.seats ≡ limits.seats) × (y.budget ≡ limits.budget)) (one_some u.last w x last is) (se ∙ h.seats, bu ∙ h.budget);
 }
 
--- the inner mutex was locked, the list in hand changed, and the mutex given back
+-- The whole hold: the inner mutex was locked, the list was changed, and the mutex was unlocked
 pub one_hold : (limits : Limits) (s t u z : Sight Waiters) (x v w : Waiters) → InHand limits s t x x → Rewrites t u v w → LeavesOff u z → z.takes ≡ u.takes → z.asleep ≡ u.asleep → Done limits s z v w
 one_hold limits s t u z x v w h r l tk aw = let same : x ≡ v = one_some t.value x v h.value r.0 in
     let k = subst (λ (y : Waiters). InHand limits s t y y) same h in
     let named = k.number in let few : slice_index w.counts.items s.number ≤ slice_index v.counts.items s.number + 1 = subst (λ (i : ℕ). slice_index w.counts.items i ≤ slice_index v.counts.items i + 1) named r.3 in
     done limits s u z v w (rewritten limits s t u v w k r.1) r.2.0 r.2.1 few l tk aw
 
--- what was made of the list may be left
+-- the changed list may be left in the mutex
 pub may_leave_it : (limits : Limits) (s t u : Sight Waiters) (x v w : Waiters) → InHand limits s t x x → Rewrites t u v w → MayLeave WaitersFollow WaitersFit u
 may_leave_it limits s t u x v w h r = let same : x ≡ v = one_some t.value x v h.value r.0 in
     let k = subst (λ (y : Waiters). InHand limits s t y y) same h in let m = rewritten limits s t u v w k r.1 in
     may_leave limits s u v w m (subst (λ (i : ℕ). WaitersFollow i v w) (sym (ap (λ (y : Sight Waiters). y.number) r.1)) r.2)
 
--- it took the steps of one lock and one unlock
+-- the hold took the steps of one lock and one unlock
 pub held_by : (own : Limits) (tries : ℕ) (s t u z : Sight Waiters) (v w : Waiters) → LocksList own tries s t → Rewrites t u v w → LeavesList own u z → StepsOfOneHold own tries s z
 held_by own tries s t u z v w l r k = record {
   locked = t;
@@ -111,6 +111,6 @@ held_by own tries s t u z v w l r k = record {
   leaves = k;
 }
 
--- who locks the list, changes it and gives it back wakes those whom the lock and the unlock granted it
+-- A cond seat that locks the list, changes it and unlocks it wakes the seats that the lock and the unlock granted it
 pub woken_in_hold : (c l h d : Seat Waiters) (v w : Waiters) → WokenAsGranted c l → WakesNobody l h → Rewrites (sight l) (sight h) v w → WokenAsGranted h d → WokenAsGranted c d
 woken_in_hold c l h d v w locks nobody r leaves = woken_join c h d (woken_join c l h locks (woken_none l h nobody (ap (λ (s : Sight Waiters). grants_of s.trail) r.1))) leaves

@@ -8,18 +8,18 @@ use Rattle.lfm_condvar.specs.declared.waiters.Waiters.{Waiters}
 use Rattle.lfm_condvar.specs.Repeated.{FoundMayBeLeft, NeedNotWait, WouldWait}
 use Rattle.lfm_condvar.specs.Waits.{BeginWaitEnds, WaitEnds}
 
--- what `?` hands on of a refusal
+-- a property of each refusal holds of the refusal that `?` passes on
 pub handed_on : {X : Type 0} (P : Result X Refusal → Type 0) (q : Result X Refusal) (r : Refusal) → IsErrAnd q (λ y. y ≡ r) → P (Err r) → P q
 handed_on P (Ok x) r e h = absurd e
 handed_on P (Err y) r e h = subst (λ (x : Refusal). P (Err x)) (sym e) h
 
--- what an answer that is true tells
+-- if the answer is true, the property of that case holds
 pub if_true : (b : Bool) (P Q : Type 0) → b ≡ true → MatchBool b P Q → P
 if_true true P Q e h = h
 if_true false P Q e h = absurd cc
 
 module _ {T : Type 0} (says : T → Bool → Type 0) where
-  -- what a look at the value in hand tells
+  -- what the test of the condition shows about the value that the seat holds
   pub looked : (s : Sight T) (v : T) (b : Bool) → s.value ≡ Some v → says v b → MatchBool b (WouldWait says s) (NeedNotWait says s)
   looked s v true is said = λ w at. let same : Some v ≡ Some w = sym is ∙ at in let e : v ≡ w = cc in subst (λ u. says u true) e said
   looked s v false is said = (v, is, said)
@@ -37,10 +37,10 @@ module _ {T : Type 0} (user own : Limits) (tries : ℕ) where
   stays Refusal.NotWaiting c d s t h = h.2
 
 module _ {T : Type 0} (follows : ℕ → T → T → Type 0) (fits : T → ℕ → Type 0) (user own : Limits) (tries : ℕ) where
-  -- a wait ends at the depth at which it began
+  -- after a wait the depth is as it was before
   pub as_deep : (r : How × ℕ) (c d : Sight Waiters) (s t : Sight T) → WaitEnds follows fits user own tries c d s t (Ok r) → t.depth ≡ s.depth
   as_deep r c d s t h = let asleep = h.1.3.2.1 in h.2.0.4 ∙ sym asleep.1.1
 
-  -- after a wait the seat may leave what it found
+  -- after a wait the seat may leave the value as it found it
   pub may_again : (r : How × ℕ) (c d : Sight Waiters) (s t : Sight T) → FoundMayBeLeft follows fits → WaitEnds follows fits user own tries c d s t (Ok r) → MayRelease follows fits t
   may_again r c d s t keeps h = λ _. let woken = h.2.0 in keeps r.0 h.0 t woken.7 woken.3

@@ -1,4 +1,4 @@
--- What holds once waiters were sent, or one of them was not waiting.
+-- What holds after waiters were sent, or one of them was not waiting.
 use Rattle.std.proofs.Common.{◌≡◌, ℕ, ◌+◌, ◌≤◌, List, [], ◌∷◌, ◌++◌, false, Option, None, Result, Ok, Err, refl, sym, ap, ◌∙◌, subst, arith, length, slice_index, append_assoc, length-append}
 use Rattle.std.specs.Prelude.{⊤, map}
 use Rattle.lfm_model.specs.declared.refusals.Refusal.{Refusal}
@@ -33,7 +33,7 @@ follows_none s v = (refl, refl, omega arith, omega arith, λ k ne. refl)
 pub follows_more : (s : ℕ) (u v w : Waiters) → WaitersFollow s u v → WaitersFollow s v w → WaitersFollow s u w
 follows_more s u v w a b = let p = a.2 in let q = a.3 in let x = b.2 in let y = b.3 in (b.0 ∙ a.0, b.1 ∙ a.1, omega arith, omega arith, λ k ne. b.4 k ne ∙ a.4 k ne)
 
--- a change that counts nothing for anybody keeps every count
+-- a change that counts no ticket for any cond seat keeps every count
 pub same_count : (v w : Waiters) (k : ℕ) → ((s : ℕ) → WaitersFollow s v w) → slice_index w.counts.items k ≤ slice_index v.counts.items k + 1
 same_count v w k f = let same = (f (k + 1)).4 k (λ q. omega arith) in omega arith
 
@@ -86,7 +86,7 @@ module _ {T : Type 0} where
 
   -- Steps
 
-  -- some sends, and some more after them
+  -- some sends, and then some more
   pub in_turn : (user : Limits) (xs ys : List (ℕ × Sight T)) (s m t : Sight T) → SendsInTurn user s xs m → SendsInTurn user m ys t → SendsInTurn user s (xs ++ ys) t
   in_turn user [] ys s m t a b = subst (λ (z : Sight T). SendsInTurn user z ys t) a b
   in_turn user (x ∷ xs) ys s m t a b = (a.0, a.1, in_turn user xs ys x.1 m t a.2 b)
@@ -103,7 +103,7 @@ module _ {T : Type 0} where
   refused_by A user x s t NoSuchSeat a b = a.1
   refused_by A user x s t Busy a b = a.1
 
-  -- some sends, and one that was refused as NotWaiting
+  -- some sends, and then one that was refused as NotWaiting
   pub some_by : (A B : Type 0) (n : ℕ) (user : Limits) (xs : List (ℕ × Sight T)) (s m t : Sight T) (v w : Waiters) (r : Refusal) → m.asleep ≡ false → SendsOldest n m t v w (Err r) → SendsInTurn user s xs m
       → SendsBy {A = A} user m t (Err r) → SendsBy {A = B} user s t (Err r)
   some_by A B n user xs s m t v w NotWaiting aw o a b = (xs ++ b.0, b.1, b.2, b.3, in_turn user xs b.0 s m b.1 a b.4, b.5)
@@ -115,7 +115,7 @@ module _ {T : Type 0} where
   some_by A B n user xs s m t v w NoSuchSeat aw o a b = absurd o
   some_by A B n user xs s m t v w Busy aw o a b = absurd o
 
-  -- a wake whose hold of the inner mutex came
+  -- a wake that held the inner mutex
   pub one_ends : (n : ℕ) (own : Limits) (tries : ℕ) (c d : Sight Waiters) (s t : Sight T) (v w : Waiters) (r : Result (Option (ℕ × ℕ)) Refusal) → s.asleep ≡ false → HeldOnce own.budget c d v w → StepsOfOneHold own tries c d → SendsOldest n s t v w r → WakeOneEnds n own tries c d s t r
   one_ends n own tries c d s t v w (Ok p) aw h k o = (v, w, h, o, k)
   one_ends n own tries c d s t v w (Err Asleep) aw h k o = let no = sym aw ∙ o.0 in cc

@@ -1,4 +1,4 @@
--- What belongs to a condvar, and how its seats are seen. Contracts name a condvar and its seats by these words alone.
+-- What belongs to a condvar, and the sights of its seats. Contracts refer to a condvar and its seats only by these definitions.
 use Rattle.std.specs.Prelude.{◌≡◌, ℕ, List}
 use Rattle.lfm_protocol.specs.declared.limits.Limits.{Limits}
 use Rattle.lfm_mutex.specs.Belongs.{OfMutex, limits_of, tries_of}
@@ -14,15 +14,16 @@ use Rattle.lfm_condvar.specs.Holds.{MadeFor}
 abbrev pub cond_limits : Condvar → Limits
 cond_limits v = limits_of v.inner
 
--- how often a cond seat tries at most before it queues for the list
+-- the greatest number of tries that a cond seat makes before it queues for the list
 abbrev pub cond_tries : Condvar → ℕ
 cond_tries v = tries_of v.inner
 
--- how a cond seat is seen
+-- the sight of a cond seat
 abbrev pub cond_sight : CondSeat → Sight Waiters
 cond_sight c = sight c.seat
 
--- the actions of all cond seats that it knows: the inner mutex's run up to its own last step, after which only others have acted
+-- the actions of all cond seats that it knows: the run of the inner mutex up to its own last step, after which only others have
+-- acted
 abbrev pub cond_past : CondSeat → List Action
 cond_past c = past_of c.seat
 
@@ -30,10 +31,10 @@ cond_past c = past_of c.seat
 abbrev pub CondWokenAsGranted : CondSeat → CondSeat → Type 0
 CondWokenAsGranted c d = WokenAsGranted c.seat d.seat
 
--- the cond seat is one of the condvar's
+-- the cond seat belongs to the condvar
 abbrev pub OfCondvar : CondSeat → Condvar → Type 0
 OfCondvar c v = OfMutex c.seat v.inner × MadeFor (limits_of v.inner) (sight c.seat)
 
--- both are one condvar
+-- both are the same condvar
 abbrev pub SameCondvar : Condvar → Condvar → Type 0
 SameCondvar u v = (v.inner ≡ u.inner) × (v.seats ≡ u.seats)

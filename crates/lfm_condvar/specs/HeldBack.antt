@@ -3,18 +3,19 @@ use Rattle.std.specs.Prelude.{◌≡◌, ℕ, ◌≤◌, List, [], ◌++◌, Opt
 use Rattle.lfm_mutex.specs.calls.Trails.{Seen}
 use Rattle.lfm_mutex.specs.calls.WakeUps.{as_list, grants_of}
 
--- of two, the one that is spent when the second is held back
+-- of two wake-ups, the one that is made when the second is held back
 abbrev pub earlier_of : Option ℕ → Option ℕ → Option ℕ
 earlier_of held None = None
 earlier_of held (Some t) = held
 
--- the second of two, if it is there
+-- the second of two wake-ups, if there is a second
 abbrev pub later_of : Option ℕ → Option ℕ → Option ℕ
 later_of held None = held
 later_of held (Some t) = Some t
 
--- The steps from one trail to the other granted the user mutex to these seats in turn: those that were woken meanwhile, which the list
--- `had` has become `has` by, and the last one, whose wake-up is held back. If no wake-up is held back, no seat was granted it
+-- The steps from one trail to the other granted the user mutex to these seats in turn. The last wake-up is held back. The
+-- others were made: `had` lists the seats woken before these steps and `has` those woken after them. No wake-up is held back
+-- only if no seat was granted the mutex
 pub record HoldsLastBack (seats : ℕ) (wake_up : Option ℕ) (before after : List Seen) (had has : List ℕ) : Type 0 where
   pub woken : List ℕ
   pub told : has ≡ had ++ woken

@@ -1,4 +1,4 @@
--- What a cond seat knows of the list, and what a hold of the inner mutex makes of it.
+-- What a cond seat knows of the list, and how a hold of the inner mutex changes it.
 use Rattle.std.specs.Prelude.{◌≡◌, ℕ, ◌+◌, ◌<◌, ◌≤◌, Ok, Some, is_some, true, false, slice_index}
 use Rattle.lfm_model.specs.declared.answers.How.{How}
 use Rattle.lfm_model.specs.declared.answers.Locked.{Locked}
@@ -13,13 +13,13 @@ use Rattle.lfm_mutex.specs.calls.Trails.{Makes, MakesAtMost}
 use Rattle.lfm_condvar.specs.declared.waiters.Waiters.{Waiters}
 use Rattle.lfm_condvar.specs.Keeping.{WaitersFollow, Since}
 
--- the cond seat is one of those that the list counts for, and has added no more tickets than it has made takes
+-- the list has a count for the cond seat, and the cond seat has added no more tickets than it has made takes
 pub record CountsKnown (s : Sight Waiters) (l : Waiters) : Type 0 where
   pub low : 0 < s.number
   pub high : s.number ≤ l.seats
   pub few : slice_index l.counts.items s.number ≤ s.takes
 
--- what is true of each cond seat between its calls: it doesn't hold, is awake, and knows the list that it left last
+-- what is true of each cond seat between its calls: it doesn't hold, it is awake, and it knows the list that it left last
 pub record CondKept (s : Sight Waiters) : Type 0 where
   pub out : s.depth ≡ 0
   pub awake : s.asleep ≡ false
@@ -30,9 +30,9 @@ pub record CondKept (s : Sight Waiters) : Type 0 where
 abbrev pub MadeFor : Limits → Sight Waiters → Type 0
 MadeFor limits s = (l : Waiters) → s.last ≡ Some l → (l.seats ≡ limits.seats) × (l.budget ≡ limits.budget)
 
--- One hold of the inner mutex, for one take: the cond seat that was seen as s found the list v and left the list w. It is seen as t
--- after it, and still tells what it found. Since the list that it left before, neither sent nor added has fallen, and nobody else
--- counted tickets for it
+-- One hold of the inner mutex, which costs one take: the cond seat, with the sight s before and t after, found the list v and
+-- left the list w. Its sight t still has the list that it found. Since it last left a list, neither sent nor added has fallen,
+-- and no other cond seat has counted tickets for it
 pub record HeldOnce (budget : ℕ) (s t : Sight Waiters) (v w : Waiters) : Type 0 where
   pub finds : (l : Waiters) → s.last ≡ Some l → Since s.number l v
   pub leaves : t.last ≡ Some w
@@ -41,16 +41,16 @@ pub record HeldOnce (budget : ℕ) (s t : Sight Waiters) (v w : Waiters) : Type 
   pub number : t.number ≡ s.number
   pub found : t.found ≡ Some v
 
--- The cond seat locks the inner mutex, by the steps of lock_barging alone, with at most `tries` tries
+-- The cond seat locks the inner mutex by the steps of lock_barging alone, with at most `tries` tries
 abbrev pub LocksList : Limits → ℕ → Sight Waiters → Sight Waiters → Type 0
 LocksList own tries s t = (how : How) × BargesBy own tries s t (Ok (Locked.Held how))
 
--- and gives it back, by the steps of unlock alone
+-- and unlocks it by the steps of unlock alone
 abbrev pub LeavesList : Limits → Sight Waiters → Sight Waiters → Type 0
 LeavesList own s t = (u : Unlocked) × Makes own Call.Unlock s t (Ended (Answer.Unlocked u)) × MakesAtMost (own.seats + 7) s t
 
--- The steps of the cond seat in one hold: it locks the inner mutex once, with at most `tries` tries, and gives it back once. In
--- between it changes the list in hand, and nothing else of it is other than it was
+-- The steps of the cond seat in one hold: it locks the inner mutex once, with at most `tries` tries, and unlocks it once. In
+-- between it changes the list that it holds, and nothing else in its sight
 pub record StepsOfOneHold (own : Limits) (tries : ℕ) (s t : Sight Waiters) : Type 0 where
   pub locked : Sight Waiters
   pub changed : Sight Waiters
@@ -58,7 +58,8 @@ pub record StepsOfOneHold (own : Limits) (tries : ℕ) (s t : Sight Waiters) : T
   pub changes : changed ≡ record locked { value = changed.value }
   pub leaves : LeavesList own changed t
 
--- The cond seat that was seen as s when it locked the inner mutex is seen as t: it found the list v, and has w in hand
+-- The cond seat had the sight s when it locked the inner mutex, and has the sight t: it found the list v and now holds the list
+-- w
 pub record InHand (limits : Limits) (s t : Sight Waiters) (v w : Waiters) : Type 0 where
   pub value : t.value ≡ Some w
   pub last : t.last ≡ Some v
@@ -75,6 +76,6 @@ pub record InHand (limits : Limits) (s t : Sight Waiters) (v w : Waiters) : Type
   pub takes : t.takes ≡ s.takes + 1
   pub spare : s.takes < limits.budget
 
--- what a cond seat that holds may have made of the list that it found: no more than one ticket was counted for it
+-- how a cond seat that holds may have changed the list that it found: at most one ticket was counted for it
 abbrev pub Rewrites : Sight Waiters → Sight Waiters → Waiters → Waiters → Type 0
 Rewrites s t v w = (s.value ≡ Some v) × (t ≡ record s { value = Some w }) × WaitersFollow s.number v w × (slice_index w.counts.items s.number ≤ slice_index v.counts.items s.number + 1)

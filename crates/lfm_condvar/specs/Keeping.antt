@@ -1,16 +1,16 @@
--- What is made of the list, by a call and by other cond seats.
+-- How the list is changed, by a call and by other cond seats.
 use Rattle.std.specs.Prelude.{◌≡◌, ◌≢◌, ℕ, ◌+◌, ◌≤◌, List, [], ◌∷◌, ◌++◌, length, slice_index, slice_set}
 use Rattle.lfm_condvar.specs.declared.waiters.Waiter.{Waiter}
 use Rattle.lfm_condvar.specs.declared.waiters.Waiters.{Waiters}
 use Rattle.lfm_condvar.specs.Lists.{waiter}
 
--- What the cond seat s may make of the list: its seats and its budget stay, neither sent nor added falls, and no ticket is
--- counted for another cond seat
+-- How the cond seat s may change the list: the number of seats and the budget stay, neither sent nor added falls, and no ticket
+-- is counted for another cond seat
 abbrev pub WaitersFollow : ℕ → Waiters → Waiters → Type 0
 WaitersFollow s v w = (w.seats ≡ v.seats) × (w.budget ≡ v.budget) × (v.sent ≤ w.sent) × (v.added ≤ w.added)
     × ((k : ℕ) → k ≢ s → slice_index w.counts.items k ≡ slice_index v.counts.items k)
 
--- what others than the cond seat s may have made of the list v by the time that it is w
+-- how other cond seats than s may have changed the list v when it is w
 pub record Since (s : ℕ) (v w : Waiters) : Type 0 where
   pub seats : w.seats ≡ v.seats
   pub budget : w.budget ≡ v.budget
@@ -18,7 +18,7 @@ pub record Since (s : ℕ) (v w : Waiters) : Type 0 where
   pub added : v.added ≤ w.added
   pub own : slice_index w.counts.items s ≡ slice_index v.counts.items s
 
--- the user seat was put at the end with the next ticket, which was counted for the cond seat `by`
+-- the user seat was appended with the next ticket, which was counted for the cond seat `by`
 pub record Appended (by user : ℕ) (v w : Waiters) : Type 0 where
   pub list : w.list.items ≡ v.list.items ++ waiter user w.added ∷ []
   pub added : w.added ≡ v.added + 1
@@ -27,7 +27,7 @@ pub record Appended (by user : ℕ) (v w : Waiters) : Type 0 where
   pub seats : w.seats ≡ v.seats
   pub budget : w.budget ≡ v.budget
 
--- these were taken out, oldest first
+-- these were removed, oldest first
 pub record Taken (gone : List Waiter) (v w : Waiters) : Type 0 where
   pub list : v.list.items ≡ gone ++ w.list.items
   pub sent : w.sent ≡ v.sent + length gone
@@ -36,6 +36,6 @@ pub record Taken (gone : List Waiter) (v w : Waiters) : Type 0 where
   pub seats : w.seats ≡ v.seats
   pub budget : w.budget ≡ v.budget
 
--- a list in which nobody waits or has waited
+-- a list in which no seat waits or has waited
 abbrev pub IsNew : Waiters → Type 0
 IsNew v = (v.list.items ≡ []) × (v.sent ≡ 0) × (v.added ≡ 0)

@@ -1,9 +1,9 @@
--- The list of those that wait: tickets in order, seats of the condvar, each once.
+-- The list of those that wait: the tickets are in order, the seats are the condvar's, and each is listed once.
 use Rattle.std.specs.Prelude.{◌≡◌, ℕ, ◌+◌, ◌<◌, ◌≤◌, List, [], ◌∷◌, ◌==◌, if◌then◌else◌}
 use Rattle.std.specs.Coded.{×_prop, Unit-prop, le_prop, Coded-set, coded_ℕ}
 use Rattle.lfm_condvar.specs.declared.waiters.Waiter.{Waiter}
 
--- the tickets go on from there, one after another
+-- the tickets follow this one, one after another
 abbrev pub GoOnFrom : ℕ → List Waiter → Type 0
 GoOnFrom k [] = Unit {0}
 GoOnFrom k (w ∷ ws) = (w.ticket ≡ k + 1) × GoOnFrom (k + 1) ws
@@ -12,7 +12,7 @@ pub GoOn-prop : (k : ℕ) (ws : List Waiter) → IsProp (GoOnFrom k ws)
 GoOn-prop k [] = Unit-prop
 GoOn-prop k (w ∷ ws) = ×_prop (Coded-set coded_ℕ w.ticket (k + 1)) (GoOn-prop (k + 1) ws)
 
--- how often the seat stands in the list
+-- how often the seat is in the list
 abbrev pub times : ℕ → List Waiter → ℕ
 times s [] = 0
 times s (w ∷ ws) = (if w.seat == s then 1 else 0) + times s ws

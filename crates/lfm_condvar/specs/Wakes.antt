@@ -1,4 +1,5 @@
--- How `send_oldest`, `wake_one` and `wake_all` end. A user seat is seen as s before and as t after, and its mutex has n seats.
+-- How `send_oldest`, `wake_one` and `wake_all` end. The user seat has the sight s before and t after, and its mutex has n
+-- seats.
 use Rattle.std.specs.Prelude.{◌≡◌, ℕ, ◌≤◌, List, [], ◌∷◌, ◌++◌, true, false, Option, Some, None, Result, Ok, Err, length, map}
 use Rattle.lfm_model.specs.declared.refusals.Refusal.{Refusal}
 use Rattle.lfm_protocol.specs.declared.answers.Answer.{Answer}
@@ -15,11 +16,11 @@ use Rattle.lfm_condvar.specs.Keeping.{Taken}
 use Rattle.lfm_condvar.specs.Lists.{waiter}
 
 module _ {T : Type 0} where
-  -- the oldest of the list was not waiting to be sent
+  -- the oldest in the list was not waiting to be sent
   abbrev pub OldestNotWaiting : ℕ → Sight T → Sight T → Waiters → Type 0
   OldestNotWaiting n s t v = (x : Waiter) × (rest : List Waiter) × (v.list.items ≡ x ∷ rest) × Sends n s x.seat t (Err Refusal.NotWaiting)
 
-  -- how send_oldest ends, by which the list v became w
+  -- how send_oldest ends, when it changes the list v to w
   abbrev pub SendsOldest : ℕ → Sight T → Sight T → Waiters → Waiters → Result (Option (ℕ × ℕ)) Refusal → Type 0
   SendsOldest n s t v w (Ok None) = (s.asleep ≡ false) × (v.list.items ≡ []) × (w ≡ v) × (t ≡ s)
   SendsOldest n s t v w (Ok (Some p)) = Taken (waiter p.0 p.1 ∷ []) v w × (p.1 ≡ w.sent) × Sends n s p.0 t (Ok tt)
@@ -27,32 +28,33 @@ module _ {T : Type 0} where
   SendsOldest n s t v w (Err Refusal.NotWaiting) = (w ≡ v) × OldestNotWaiting n s t v
   SendsOldest n s t v w (Err r) = ⊥
 
-  -- the seat has sent the seats of these, in order, and done nothing else
+  -- the seat has sent these waiters, in order, and done nothing else
   abbrev pub SentEach : List Waiter → Sight T → Sight T → Type 0
   SentEach gone s t = t ≡ record s { trail = t.trail; sends = s.sends ++ map (λ (x : Waiter). x.seat) gone }
 
-  -- how it ends to send all that wait, by which the list v became w
+  -- how a send of all that wait ends, when it changes the list v to w
   abbrev pub SendsAll : ℕ → Sight T → Sight T → Waiters → Waiters → Result ℕ Refusal → Type 0
   SendsAll n s t v w (Ok k) = (k ≡ length v.list.items) × (w.list.items ≡ []) × Taken v.list.items v w × SentEach v.list.items s t × (s.asleep ≡ false)
   SendsAll n s t v w (Err Refusal.NotWaiting) = (gone : List Waiter) × (m : Sight T) × Taken gone v w × SentEach gone s m × OldestNotWaiting n m t w
   SendsAll n s t v w (Err r) = ⊥
 
-  -- One send_lock after another, for these seats in order. With each stands how the sender was seen after it
+  -- One send_lock after another, for these seats in order. Each seat is paired with the sender's sight after its send
   abbrev pub SendsInTurn : Limits → Sight T → List (ℕ × Sight T) → Sight T → Type 0
   SendsInTurn user s [] t = t ≡ s
   SendsInTurn user s (x ∷ xs) t = Sends user.seats s x.0 x.1 (Ok tt) × Makes user (Call.SendLock x.0) s x.1 (Ended Answer.Sent) × SendsInTurn user x.1 xs t
 
-  -- The steps of a call that sends, and ends so: those of some sends, and if the last was refused as NotWaiting, those of that one
+  -- The steps of a call that sends, with this result: those of some sends, and of the one refused as NotWaiting, if it is
+  -- refused so
   abbrev pub SendsBy : {A : Type 0} → Limits → Sight T → Sight T → Result A Refusal → Type 0
   SendsBy user s t (Ok a) = (sent : List (ℕ × Sight T)) × SendsInTurn user s sent t
   SendsBy user s t (Err Refusal.NotWaiting) =
       (sent : List (ℕ × Sight T)) × (m : Sight T) × (x : ℕ) × (cause : Why) × SendsInTurn user s sent m × Makes user (Call.SendLock x) m t (Refused cause)
   SendsBy user s t (Err r) = t ≡ s
 
-  -- How the wakes end, with a cond seat that is seen as c before and as d after, of a condvar with the limits `own`. The
-  -- cond seat makes at most `tries` tries before it queues for the list
+  -- How the wakes end. The cond seat has the sight c before and d after, its condvar has the limits `own`, and it makes at most
+  -- `tries` tries before it queues for the list
 
-  -- before the inner mutex was locked
+  -- refused before the inner mutex was locked
   abbrev pub WakeRefused : Limits → Sight Waiters → Sight Waiters → Sight T → Sight T → Refusal → Type 0
   WakeRefused own c d s t Refusal.Asleep = (s.asleep ≡ true) × (d ≡ c) × (t ≡ s)
   WakeRefused own c d s t Refusal.Spent = (s.asleep ≡ false) × (own.budget ≤ c.takes) × (d ≡ c) × (t ≡ s)

@@ -1,4 +1,4 @@
-//! How a condvar is closed: with its inner mutex.
+//! How a condvar is closed. It is closed together with its inner mutex.
 ghost use Rattle.std.specs.Prelude.{◌≡◌, ℕ, IfErr, IfOk, Some};
 ghost use mathlib.Core.Option.{some};
 ghost use lib.ListN.{get_elem?};
@@ -11,11 +11,12 @@ use crate::condvar::Condvar;
 use lfm_model::Missing;
 
 impl Condvar {
-    /// Ends the condvar and answers how many tickets were sent, and how many were added, if all its cond seats are there. The
-    /// numbers are those of the list that the last hold of all left, which is that of the cond seat with the greatest `ended`,
-    /// or 0 and 0 if none has had the list. The trails are then the cond seats' parts of one run of the inner mutex, which
-    /// begins at the start and ends free. Otherwise it hands back the condvar and the cond seats, and names the first that
-    /// isn't there. It compares each number of a cond seat with each cond seat handed in, takes no memory and never waits.
+    /// Closes the condvar if all its cond seats are handed in, and returns how many tickets were sent and how many were added.
+    /// These numbers are those of the list as the last hold left it. That is the list that the cond seat with the greatest
+    /// `ended` left, or 0 and 0 if no cond seat has held the list. The trails are then the cond seats' parts of one run of the
+    /// inner mutex, from its start to a free mutex. If a cond seat is missing, it hands back the condvar and the cond seats,
+    /// and names the first that is missing. It compares each number of a cond seat with each cond seat handed in, allocates no
+    /// memory and never waits.
     pub fn close(
         self,
         seats: Vec<CondSeat>,

@@ -1,5 +1,5 @@
-//! A seat of a condvar: what one thread uses it with. It has a seat of the inner mutex, which is private to this module. So
-//! with a borrowed cond seat only the calls of `hold` lock the inner mutex, and they unlock it before they return.
+//! The cond seat: what one thread uses a condvar with. It has a seat of the inner mutex, which is private to this module. So a
+//! borrowed cond seat can lock the inner mutex only through the calls of `hold`, and these unlock it before they return.
 ghost use Rattle.std.specs.Prelude.{◌≡◌, ◌≤◌, ℕ, [], vec_capacity, vec_len};
 ghost use mathlib.Core.Option.{some};
 ghost use lib.ListN.{get_elem?};
@@ -12,8 +12,8 @@ use crate::waiters::Waiters;
 pub(crate) use hold::Enlisted;
 use lfm_mutex::{Holder, Seat};
 
-/// A cond seat: what one thread uses a condvar with. It may move between threads, and each call borrows it for its whole
-/// length. Between calls it holds nothing.
+/// A cond seat: what one thread uses a condvar with. It may move between threads. Each call borrows it until the call returns.
+/// Between calls it holds nothing.
 #[derive(Drop)]
 pub struct CondSeat {
     seat: Seat<Waiters>,
@@ -28,13 +28,13 @@ impl Holder<Waiters> for CondSeat {
         &self.seat
     }
 
-    /// The seat of the inner mutex, with which that is closed.
+    /// The seat of the inner mutex, which `close` needs to close that mutex.
     fn into_seat(self) -> Seat<Waiters> {
         self.seat
     }
 }
 
-/// Each seat of an inner mutex as a cond seat.
+/// Makes each seat of an inner mutex a cond seat.
 pub(crate) fn as_cond_seats(
     seats: Vec<Seat<Waiters>>,
     mut cond_seats: Vec<CondSeat>,

@@ -1,13 +1,13 @@
-//! The condvar: its inner mutex round the list. Its calls are in `open`, `wait`, `wait_while`, `wake` and `close`.
+//! The condvar: its inner mutex around the list. Its calls are in `open`, `wait`, `wait_while`, `wake` and `close`.
 ghost use Rattle.std.specs.Prelude.{◌≡◌};
 ghost use Rattle.lfm_mutex.specs.Belongs.{limits_of};
 
 use crate::waiters::Waiters;
 use lfm_mutex::{Mutex, Pace};
 
-/// A condition variable: user seats that wait, and are sent in the order in which they came. It is used with one user mutex;
-/// the caller has to name the same one in every call. A call with the seat of another condvar or mutex breaks the
-/// condition that every call has.
+/// A condition variable: user seats wait on it, and are sent in the order in which they started to wait. It is used with one
+/// user mutex, and the caller has to pass the same one to every call. A call with the seat of another condvar or mutex violates
+/// the precondition that every call has.
 ///
 /// Both of these calls are compiled in the crate `lfm_thread_tests`:
 ///
@@ -31,9 +31,9 @@ pub struct Condvar {
 }
 
 impl Condvar {
-    /// Sets how often a seat that waits for the condvar's list tries before it queues, and how long it looks before it sleeps.
-    /// A seat that waits to be sent looks by the pace of the user mutex, as `wait` says. It is set before threads share the
-    /// condvar.
+    /// Sets how often a seat that waits for the condvar's list tries before it queues, and how often it polls for its grant
+    /// before it sleeps. A seat that waits to be sent polls by the pace of the user mutex, as `wait` says. The pace is set
+    /// before threads share the condvar.
     pub fn set_pace(&mut self, pace: Pace)
         ensures pace { self.new.inner.pace ≡ pace }
         ensures same { (self.new.inner.table ≡ self.old.inner.table) × (self.new.inner.limits ≡ self.old.inner.limits) × (self.new.seats ≡ self.old.seats) }

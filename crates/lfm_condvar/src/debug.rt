@@ -5,7 +5,7 @@ use crate::condvar::Condvar;
 use lfm_mutex::Holder;
 use std::fmt::{Debug, Formatter, Result, Write};
 
-/// How many seats it has. Its list belongs to the seat that holds it, so it isn't shown.
+/// Shows how many seats it has. Its list belongs to the seat that holds it, so it isn't shown.
 impl Debug for Condvar {
     /// Writes the number of seats.
     fn fmt<W: Write>(&self, f: &mut Formatter<W>) -> Result {
@@ -15,7 +15,7 @@ impl Debug for Condvar {
     }
 }
 
-/// Its number, and how many waits and wakes it may still make.
+/// Shows its number, and how many waits and wakes it may still make.
 impl Debug for CondSeat {
     /// Writes the number and the takes that are left.
     fn fmt<W: Write>(&self, f: &mut Formatter<W>) -> Result {

@@ -1,4 +1,4 @@
-//! The list is what the inner mutex guards. What is true of it at every hold is its type's invariant.
+//! The list is the value that the inner mutex guards. The invariant of its type is true at every hold.
 ghost use Rattle.lfm_condvar.specs.Keeping.{WaitersFollow};
 
 use crate::waiters::Waiters;

@@ -1,5 +1,5 @@
-//! The laws of condition variables over the core of the user mutex. They stand in `lfm_condvar_laws`, and are passed on. The
-//! law here is of the list of a running condvar.
+//! The laws of condition variables over the core of the user mutex. They are stated in `lfm_condvar_laws` and re-exported here.
+//! The law in this file is about the list of a running condvar.
 ghost use Rattle.lfm_condvar.specs.Modelled.{ListsGoAsTheModel};
 
 pub use lfm_condvar_laws::claims::{
@@ -16,9 +16,9 @@ pub use lfm_condvar_laws::waits::{
 pub use lfm_condvar_laws::{claims, lists, user_mutex, waits};
 use lfm_mutex::Kept;
 
-/// The list of a running condvar goes as that of the model. `enlist` puts an unlisted seat at its end, with the model's ticket,
-/// and refuses only a listed one as Busy. A send sends and removes the oldest. A send of all sends and removes one after
-/// another, until the list is empty, or until it is refused, with a seat left.
+/// The list of a running condvar changes as that of the model does. `enlist` puts an unlisted seat at its end, with the model's
+/// ticket, and refuses only a listed one as Busy. A send of one sends and removes the oldest. A send of all sends and removes
+/// one after another, until the list is empty, or until a send is refused while a seat is left.
 ///
 /// Definition: `ListsGoAsTheModel` in `specs/Modelled.antt`. Proof: `proofs/Modelled.antt`.
 pub fn lists_go_as_the_model<T: Kept>()

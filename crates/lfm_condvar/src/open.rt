@@ -1,4 +1,4 @@
-//! How a condvar is made: an inner mutex round an empty list, and a cond seat for each of its seats.
+//! How a condvar is made: an inner mutex around an empty list, and a cond seat for each of its seats.
 ghost use Rattle.std.specs.Prelude.{◌≡◌, ◌+◌, ℕ, [], IfErr, IfOk, true, false, vec_len};
 ghost use mathlib.Core.Option.{some};
 ghost use lib.ListN.{get_elem?};
@@ -18,12 +18,12 @@ use lfm_protocol::Limits;
 use std::alloc::Global;
 
 impl Condvar {
-    /// A condvar on which nobody waits, and its cond seats in order, numbered from 1. `seats` is 1 to 4,095, and `budget`,
-    /// how many waits and wakes each cond seat may make, 1 to 2^36. A user seat may wait on it if its number is at most
-    /// `seats`.
+    /// Makes a condvar on which no seat waits, and returns it with its cond seats in order, numbered from 1. `seats` is 1 to
+    /// 4,095. `budget`, how many waits and wakes each cond seat may make, is 1 to 2^36. A user seat may wait on the condvar if
+    /// its number is at most `seats`.
     ///
-    /// Outside these limits it answers Limit, and asks for no memory. It answers Memory if a request for memory was refused. No
-    /// other call of a condvar takes memory.
+    /// Outside these limits it returns Limit, and allocates nothing. It returns Memory if an allocation failed. No other call
+    /// of a condvar allocates memory.
     pub fn new(alloc: Global, seats: u64, budget: u64) -> Result<(Condvar, Vec<CondSeat>), NewFault>
         ensures limits { IfOk result (λ r. (cond_limits r.0 ≡ record { seats = seats; budget = budget }) × (are_in_limits seats budget ≡ true)) }
         ensures belongs { IfOk result (λ r. (j : ℕ) (s : _) → get_elem? r.1.items j ≡ some s → OfCondvar s r.0) }

@@ -1,5 +1,5 @@
-//! How a seat waits: it is enlisted in one hold of the inner mutex, and sleeps until it is sent. If it waits alone,
-//! beside at most one other thread, it looks for a while before it sleeps.
+//! How a seat waits: it is enlisted in one hold of the inner mutex, and sleeps until it is sent. If no other seat waits, and at
+//! most one seat holds or wants the user mutex, it polls for a while before it sleeps.
 ghost use Rattle.std.specs.Prelude.{◌≡◌, ◌<◌, ◌≤◌, Some, IfOk, length};
 ghost use Rattle.lfm_mutex.specs.Belongs.{Beside, OfMutex, limits_of};
 ghost use Rattle.lfm_mutex.specs.calls.RunGoesOn.{RunGoesOnFrom};
@@ -15,9 +15,9 @@ use lfm_model::{How, Refusal};
 use lfm_mutex::{Holder, Kept, Mutex, Pace, Seat};
 use std::sync::Wait;
 
-/// How often a seat looks before it sleeps, by the number of seats that waited ahead of it, and the count of the user mutex. A
-/// seat that waits alone beside one other thread may be sent soon, as when two threads take turns, and its looks then cost less
-/// than a sleep and a wake-up. If several seats wait, or were just sent, most of them wait long, and their looks would only
+/// How often a seat polls before it sleeps, by the number of seats that waited ahead of it and the count of the user mutex. A
+/// seat that waits alone, with one other thread at work, may be sent soon, as when two threads take turns. Its polls then cost
+/// less than a sleep and a wake-up. If several seats wait, or were just sent, most of them wait long. Their polls would only
 /// take processor time from the threads that run.
 fn looks_behind(pace: Pace, ahead: usize, counted: u64) -> u32
     ensures alone { ahead ≡ 0 → counted ≤ 1 → result ≡ pace.looks }
@@ -32,14 +32,14 @@ fn looks_behind(pace: Pace, ahead: usize, counted: u64) -> u32
 }
 
 impl Condvar {
-    /// The first half of `wait`: the user seat is put into the list, gives up its mutex and falls asleep, in one hold of the
-    /// list. When it returns, the list is given back and the user seat sleeps, until a wake of another seat sends it; the
-    /// second half is a `receive_lock` or `try_receive` of the user mutex. It answers the ticket: 1 for the first that waited
-    /// on this condvar, and so on.
+    /// The first half of `wait`: in one hold of the list, the user seat is added to the list, gives up its mutex and falls
+    /// asleep. When it returns, the list is released and the user seat sleeps until a wake of another seat sends it. The second
+    /// half is a `receive_lock` or `try_receive` of the user mutex. It returns the ticket: 1 for the first that waited on this
+    /// condvar, and so on.
     ///
-    /// Refuses as `wait`, in the same order, and costs what `wait` costs. It may sleep until it has the list. It takes no
+    /// Refuses as `wait`, in the same order, and costs what `wait` costs. It may sleep until it has the list. It allocates no
     /// memory, and wakes the seat that it grants a mutex, if any. A seat that is granted the user mutex is woken after the list
-    /// is given back.
+    /// is released.
     pub fn begin_wait<T: Kept, R: Wait>(
         &self,
         rt: &R,
@@ -61,7 +61,7 @@ impl Condvar {
         }
     }
 
-    /// `begin_wait`, which also answers how many waited ahead of the seat in the list that the cond seat found.
+    /// `begin_wait`, which also returns how many seats waited ahead of this one in the list that the cond seat found.
     fn begin_wait_counted<T: Kept, R: Wait>(
         &self,
         rt: &R,
@@ -78,8 +78,8 @@ impl Condvar {
         ensures begins { BeginWaitEnds (limits_of mutex.now) (cond_limits self.now) (cond_tries self.now) (cond_sight cond.old) (cond_sight cond.new) (sight seat.old) (sight seat.new) (ticket_of result) }
         ensures ahead { IfOk result (λ e. (v : _) × ((cond_sight cond.new).found ≡ Some v) × (e.ahead ≡ length v.list.items)) }
     {
-        // `enlist` makes the first and the last of these checks again. Here they come before the lock of the list, which costs
-        // the cond seat a take.
+        // `enlist` repeats the first and the last of these checks. They are made here too, before the list is locked, since
+        // that lock costs the cond seat a take.
         if let Some(refusal) = bars_wait(seat) {
             return Err(refusal);
         }
@@ -95,16 +95,16 @@ impl Condvar {
     }
 
     /// Gives up the user mutex, which the seat holds at depth 1, and waits until another seat sends this one by a wake. It
-    /// answers how the seat came to hold the user mutex again, and its ticket. It is `begin_wait` and then `receive_lock`.
+    /// returns how the seat came to hold the user mutex again, and its ticket. It is `begin_wait` and then `receive_lock`.
     ///
     /// Refuses, in this order, before anything is changed: Asleep (the user seat sleeps, or a call of it is open), NotOwner,
     /// Nested (it holds above depth 1), Spent (either seat has no take left), NoSuchSeat (its number is above the condvar's
-    /// seats). Then Busy: the user seat still stands in the list, which only a send past this condvar can cause. It is seen
-    /// under the inner mutex, costs the cond seat its take, and changes nothing else.
+    /// seats). Then Busy: the user seat is still in the list, which only a send that bypasses this condvar can cause. Busy is
+    /// found under the inner mutex, costs the cond seat its take, and changes nothing else.
     ///
-    /// A wait costs each seat one take. It takes no memory, sleeps, and wakes the seat that it grants a mutex, if any. If no
-    /// other seat waited when it was put into the list, and at most one holds or wants the user mutex, it looks before it
-    /// sleeps, as often as the pace of the user mutex says. Otherwise it sleeps at once.
+    /// A wait costs each seat one take. It allocates no memory, sleeps, and wakes the seat that it grants a mutex, if any. If
+    /// no other seat waited when this one was added to the list, and at most one seat holds or wants the user mutex, it polls
+    /// before it sleeps, as often as the pace of the user mutex says. Otherwise it sleeps at once.
     pub fn wait<T: Kept, R: Wait>(
         &self,
         rt: &R,

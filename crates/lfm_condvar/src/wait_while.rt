@@ -1,4 +1,4 @@
-//! `wait_while`: a seat that holds waits again and again, while a condition on the guarded value holds.
+//! `wait_while`: a seat that holds waits again and again while a condition on the guarded value holds.
 ghost use Rattle.std.specs.Prelude.{◌≡◌, MatchBool};
 ghost use Rattle.std.specs.Fn.{FnReturnsAt};
 ghost use Rattle.lfm_mutex.specs.Belongs.{Beside, OfMutex, limits_of};
@@ -14,7 +14,7 @@ use lfm_model::Refusal;
 use lfm_mutex::{Kept, Mutex, Seat};
 use std::sync::Wait;
 
-/// Whether the condition holds of the guarded value, or the seat doesn't hold.
+/// Whether the condition is true of the guarded value, or the seat doesn't hold.
 fn must_wait<T: Kept, F: Fn(&T) -> bool>(seat: &Seat<T>, condition: &F) -> bool
     requires { F.IsAlwaysCallable condition.now }
     ensures { MatchBool result (WouldWait (λ v b. FnReturnsAt F.Fn condition.now v b) (sight seat.now)) (NeedNotWait (λ v b. FnReturnsAt F.Fn condition.now v b) (sight seat.now)) }
@@ -26,12 +26,12 @@ fn must_wait<T: Kept, F: Fn(&T) -> bool>(seat: &Seat<T>, condition: &F) -> bool
 }
 
 impl Condvar {
-    /// Waits, as `wait` does, for as long as the condition holds of the guarded value. It tests this before it waits, and again
-    /// after each wait. When it returns, the seat holds as before, and the condition doesn't hold of the value. A seat has to
-    /// be allowed to leave the value just as it found it, which is so if the value is a number.
+    /// Waits, as `wait` does, for as long as the condition is true of the guarded value. It tests this before it waits, and
+    /// again after each wait. When it returns, the seat holds as before, and the condition is false. The seat must be allowed
+    /// to leave the value as it found it, which is always so if the value is a number.
     ///
-    /// Refuses as `wait`, in the same order, if the condition holds or the seat doesn't hold. The seat is then as the waits
-    /// before left it. A wait costs each seat one take. It takes no memory, and sleeps and wakes as `wait`.
+    /// Refuses as `wait`, in the same order, if the condition is true or the seat doesn't hold. The seat is then as the
+    /// previous waits left it. A wait costs each seat one take. It allocates no memory, and sleeps and wakes as `wait`.
     pub fn wait_while<T: Kept, R: Wait, F: Fn(&T) -> bool>(
         &self,
         rt: &R,

@@ -1,5 +1,5 @@
-//! The list of those that wait, with its tickets. Only `enlist` and `send_oldest` change it, with or without waking: the
-//! fields, and the functions that append and take off, are private to this module, and these calls are in its child modules.
+//! The list of those that wait, with its tickets. Only `enlist` and `send_oldest`, and their forms without waking, change it.
+//! The fields, and the functions that append and remove, are private to this module, and these calls are in its child modules.
 ghost use Rattle.std.specs.Prelude.{All, ◌≡◌, ℕ, ◌+◌, ◌<◌, ◌≤◌, ◌++◌, [], ◌∷◌, Some, IfOk, MatchBool, MatchOption, length, slice_index, sum, vec_len};
 ghost use Rattle.std.specs.VecDeque.{deque_capacity, deque_len};
 ghost use Rattle.lfm_protocol.specs.Limits.{max_budget, max_seats};
@@ -24,7 +24,7 @@ pub(crate) struct Waiter {
 }
 
 /// Those that wait, the oldest first, and how many tickets each cond seat added. A cond seat's number is its index in the
-/// counts; index 0 stands for nobody. Its fields are this module's own.
+/// counts; index 0 is unused. The fields are private to this module.
 #[derive(Drop)]
 pub struct Waiters {
     list: VecDeque<Waiter>,
@@ -47,7 +47,7 @@ pub struct Waiters {
 impl Waiters {
     ghost use Rattle.lfm_condvar.specs.Keeping.{Appended, WaitersFollow, IsNew, Taken};
 
-    /// A list of nobody, with room for each of the seats. It asks for memory twice.
+    /// An empty list, with room for each of the seats. It allocates twice.
     pub(crate) fn empty(alloc: Global, seats: u64, budget: u64) -> Result<Waiters, AllocError>
         requires { (seats ≤ max_seats) × (budget ≤ max_budget) }
         ensures { IfOk result (λ v. IsNew v × (v.seats ≡ seats) × (v.budget ≡ budget)) }
@@ -85,7 +85,7 @@ impl Waiters {
         self.list.len()
     }
 
-    /// Whether the user seat stands in the list.
+    /// Whether the user seat is in the list.
     pub(crate) fn has(&self, seat: SeatNo) -> bool
         ensures { MatchBool result (0 < times seat self.now.list.items) (times seat self.now.list.items ≡ 0) }
     {
@@ -105,8 +105,8 @@ impl Waiters {
     }
 
     /// Appends a user seat that is not in the list, with the next ticket, and counts the ticket for the cond seat `by`. It
-    /// takes no memory and can't fail: the list has room for every seat (`room`), and each is in it at most once. Tickets can't
-    /// wrap: `added` is the sum of the counts, and each count is at most the budget.
+    /// allocates no memory and can't fail: the list has room for every seat (`room`), and each is in it at most once. Tickets
+    /// can't wrap: `added` is the sum of the counts, and each count is at most the budget.
     fn append(&mut self, by: SeatNo, seat: SeatNo) -> u64
         requires by { (by ≤ self.old.seats) × (slice_index self.old.counts.items by < self.old.budget) }
         requires seat { (0 < seat) × (seat ≤ self.old.seats) × (times seat self.old.list.items ≡ 0) }
@@ -122,7 +122,7 @@ impl Waiters {
         ticket
     }
 
-    /// Takes the oldest out.
+    /// Removes the oldest.
     fn take_oldest(&mut self) -> Option<Waiter>
         ensures taken { MatchOption result (self.old.list.items ≡ []) (λ w. Taken (w ∷ []) self.old self.new × (w.ticket ≡ self.old.sent + 1)) }
         ensures follows { (s : ℕ) → WaitersFollow s self.old self.new }

@@ -1,5 +1,5 @@
-//! How waiters are woken: in one hold of the inner mutex the oldest, or all, oldest first, are made lockers of the user mutex.
-//! The thread of a waiter that is granted the user mutex is woken after that hold.
+//! How waiters are woken: in one hold of the inner mutex, the oldest, or all from the oldest to the newest, are made lockers of
+//! the user mutex. The thread of a waiter that is granted the user mutex is woken after that hold.
 ghost use Rattle.std.specs.Prelude.{◌≤◌};
 ghost use Rattle.lfm_mutex.specs.Belongs.{Beside, OfMutex, limits_of};
 ghost use Rattle.lfm_mutex.specs.calls.RunGoesOn.{RunGoesOnFrom};
@@ -15,16 +15,16 @@ use lfm_mutex::{Kept, Mutex, Seat};
 use std::sync::Wait;
 
 impl Condvar {
-    /// Sends the seat that has waited longest, by `send_lock` of the user mutex, and answers it with its ticket, or None if
-    /// nobody waits. The caller need not hold the user mutex.
+    /// Sends the seat that has waited longest, by `send_lock` of the user mutex, and returns it with its ticket, or None if no
+    /// seat waits. The caller need not hold the user mutex.
     ///
     /// Refuses, in this order, before anything is changed: Asleep (the user seat sleeps, or a call of it is open) and Spent
-    /// (the cond seat has no take left). Then NotWaiting: the oldest doesn't wait to be sent, which only a send past this
-    /// condvar can cause. It stays in the list, and the cond seat is charged its take.
+    /// (the cond seat has no take left). Then NotWaiting: the oldest doesn't wait to be sent, which only a send that bypasses
+    /// this condvar can cause. It stays in the list, and the cond seat is charged its take.
     ///
-    /// A wake costs the cond seat one take, and the user seat none. It takes no memory, may sleep until it has the inner
+    /// A wake costs the cond seat one take, and the user seat none. It allocates no memory, may sleep until it has the inner
     /// mutex, and wakes the seat that it grants a mutex, if any. A seat that is granted the user mutex is woken after the inner
-    /// mutex is given back.
+    /// mutex is released.
     pub fn wake_one<T: Kept, R: Wait>(
         &self,
         rt: &R,
@@ -41,7 +41,8 @@ impl Condvar {
         ensures wakes { WakeOneEnds (limits_of mutex.now).seats (cond_limits self.now) (cond_tries self.now) (cond_sight cond.old) (cond_sight cond.new) (sight seat.old) (sight seat.new) result }
         ensures steps { SendsBy (limits_of mutex.now) (sight seat.old) (sight seat.new) result }
     {
-        // `send_oldest` makes this check again. Here it comes before the lock of the list, which costs the cond seat a take.
+        // `send_oldest` repeats this check. It is made here too, before the list is locked, since that lock costs the cond seat
+        // a take.
         if seat.asleep() {
             return Err(Refusal::Asleep);
         }
@@ -50,15 +51,15 @@ impl Condvar {
         sent
     }
 
-    /// Sends all that wait, oldest first, each by `send_lock` of the user mutex, and answers how many were sent. The caller
+    /// Sends all that wait, oldest first, each by `send_lock` of the user mutex, and returns how many were sent. The caller
     /// need not hold the user mutex.
     ///
-    /// Refuses as `wake_one`: Asleep and Spent before anything is changed. NotWaiting leaves that waiter and those behind it
-    /// in the list; the earlier ones were sent.
+    /// Refuses as `wake_one`: Asleep and Spent before anything is changed. NotWaiting leaves that waiter and those behind it in
+    /// the list; the earlier ones were sent.
     ///
-    /// It costs the cond seat one take, however many are sent. It takes no memory, may sleep until it has the inner mutex, and
-    /// wakes the seats that it grants a mutex, if any. Mostly one seat is granted the user mutex. If there are several, the
-    /// last is woken after the inner mutex is given back, and each other one as soon as the next is granted the mutex.
+    /// It costs the cond seat one take, however many are sent. It allocates no memory, may sleep until it has the inner mutex,
+    /// and wakes the seats that it grants a mutex, if any. Usually one seat is granted the user mutex. If several are, the last
+    /// is woken after the inner mutex is released, and each other one as soon as the next is granted the mutex.
     pub fn wake_all<T: Kept, R: Wait>(
         &self,
         rt: &R,
@@ -75,7 +76,8 @@ impl Condvar {
         ensures wakes { WakeAllEnds (limits_of mutex.now).seats (cond_limits self.now) (cond_tries self.now) (cond_sight cond.old) (cond_sight cond.new) (sight seat.old) (sight seat.new) result }
         ensures steps { SendsBy (limits_of mutex.now) (sight seat.old) (sight seat.new) result }
     {
-        // `send_oldest` makes this check again. Here it comes before the lock of the list, which costs the cond seat a take.
+        // `send_oldest` repeats this check. It is made here too, before the list is locked, since that lock costs the cond seat
+        // a take.
         if seat.asleep() {
             return Err(Refusal::Asleep);
         }

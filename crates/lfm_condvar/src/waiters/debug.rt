@@ -3,7 +3,7 @@
 use crate::waiters::Waiters;
 use std::fmt::{Debug, Formatter, Result, Write};
 
-/// Those that wait, the oldest first, and how many tickets were sent and added.
+/// Shows those that wait, the oldest first, and how many tickets were sent and added.
 impl Debug for Waiters {
     /// Writes the list and the two counts of tickets.
     fn fmt<W: Write>(&self, f: &mut Formatter<W>) -> Result {

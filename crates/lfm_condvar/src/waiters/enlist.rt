@@ -1,4 +1,4 @@
-//! How a user seat gets into the list: it is appended and falls asleep, or neither.
+//! How a user seat gets into the list: either it is appended and falls asleep, or nothing happens.
 ghost use Rattle.std.specs.Prelude.{◌≡◌, ◌<◌, ◌≤◌, MatchOption, slice_index};
 ghost use Rattle.lfm_mutex.specs.Belongs.{Beside, OfMutex, budget_of, limits_of};
 ghost use Rattle.lfm_mutex.specs.calls.RunGoesOn.{RunGoesOnFrom};
@@ -13,7 +13,7 @@ use lfm_model::{Refusal, SeatNo};
 use lfm_mutex::{Kept, Mutex, Seat, WakeUp};
 
 /// Why the seat can't make `start_wait`, if it can't: the first of Asleep, NotOwner, Nested and Spent that applies. It changes
-/// nothing, takes no memory and never waits.
+/// nothing, allocates no memory and never waits.
 pub fn bars_wait<T: Kept>(seat: &Seat<T>) -> Option<Refusal>
     ensures { MatchOption result (MayWait (budget_of seat.now) (sight seat.now)) (λ r. WaitRefused (budget_of seat.now) (sight seat.now) r) }
 {
@@ -33,11 +33,11 @@ pub fn bars_wait<T: Kept>(seat: &Seat<T>) -> Option<Refusal>
 }
 
 /// Appends the user seat, which holds its mutex, to the list with the next ticket, counts the ticket for the cond seat `by`,
-/// and makes `start_wait`. If it refuses, it does none of this. It answers the ticket. The list is lent to it while the inner
-/// mutex is held.
+/// and makes `start_wait`. If it refuses, it does none of this. It returns the ticket. The caller holds the inner mutex and
+/// lends the list for this call.
 ///
-/// Refuses, in this order: Asleep, NotOwner, Nested and Spent as `start_wait`, NoSuchSeat (the condvar has fewer seats than
-/// the user seat's number) and Busy (the user seat stands in the list). It takes no memory and never waits, and wakes the
+/// Refuses, in this order: Asleep, NotOwner, Nested and Spent as `start_wait`, NoSuchSeat (the condvar has fewer seats than the
+/// user seat's number) and Busy (the user seat is already in the list). It allocates no memory and never waits, and wakes the
 /// seat that it grants the user mutex, if any.
 pub fn enlist<T: Kept>(
     waiters: &mut Waiters,
@@ -59,8 +59,8 @@ pub fn enlist<T: Kept>(
     ticket
 }
 
-/// `enlist`, with the same answers and refusals, which hands its caller the wake-up of the seat that it granted the user mutex,
-/// if any. The caller spends it after the list is given back, since a thread that wakes earlier would have to wait for the
+/// `enlist`, with the same answers and refusals, which returns the wake-up of the seat that it granted the user mutex, if any.
+/// The caller makes the wake-up after it has released the list, since a thread that wakes earlier would have to wait for the
 /// list.
 pub(crate) fn enlist_without_waking<T: Kept>(
     waiters: &mut Waiters,
@@ -78,7 +78,7 @@ pub(crate) fn enlist_without_waking<T: Kept>(
     ensures follows { WaitersFollow by waiters.old waiters.new }
     ensures wakes { Wakes (limits_of mutex.now).seats result.1 (sight seat.old).trail (sight seat.new).trail }
 {
-    // `wait` has made this check, and the next, before it locked the list. Others call `enlist` too.
+    // `wait` has made this check and the next before it locked the list. They are made here for the other callers of `enlist`.
     if let Some(refusal) = bars_wait(seat) {
         return (Err(refusal), None);
     }

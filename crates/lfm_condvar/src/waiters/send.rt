@@ -1,4 +1,4 @@
-//! How a user seat leaves the list: it is sent and removed, or neither.
+//! How a user seat leaves the list: either it is sent and removed, or nothing happens.
 ghost use Rattle.std.specs.Prelude.{◌≡◌, ◌≤◌, ℕ};
 ghost use Rattle.lfm_mutex.specs.Belongs.{Beside, OfMutex, limits_of};
 ghost use Rattle.lfm_mutex.specs.calls.RunGoesOn.{RunGoesOnFrom};
@@ -13,11 +13,12 @@ use lfm_model::{Refusal, SeatNo};
 use lfm_mutex::{Kept, Mutex, Seat, WakeUp};
 
 /// Makes `send_lock` for the seat that has waited longest, and removes it from the list. If it refuses, it does neither. It
-/// answers that seat and its ticket, or None if the list is empty. The list is lent to it while the inner mutex is held.
+/// returns that seat and its ticket, or None if the list is empty. The caller holds the inner mutex and lends the list for this
+/// call.
 ///
 /// Refuses, in this order: Asleep (the caller's seat sleeps, or a call of it is open) and NotWaiting (the oldest doesn't wait
-/// to be sent; that was one step). It takes no memory and never waits, and wakes the seat that it grants the user mutex, if
-/// any.
+/// to be sent; this takes one step). It allocates no memory and never waits, and wakes the seat that it grants the user mutex,
+/// if any.
 pub fn send_oldest<T: Kept>(
     waiters: &mut Waiters,
     mutex: &Mutex<T>,
@@ -37,8 +38,8 @@ pub fn send_oldest<T: Kept>(
     sent
 }
 
-/// `send_oldest`, with the same answers and refusals, which hands its caller the wake-up of the seat that it granted the user
-/// mutex, if any. The caller spends it after the list is given back, since a thread that wakes earlier would have to wait for
+/// `send_oldest`, with the same answers and refusals, which returns the wake-up of the seat that it granted the user mutex, if
+/// any. The caller makes the wake-up after it has released the list, since a thread that wakes earlier would have to wait for
 /// the list.
 pub(crate) fn send_oldest_without_waking<T: Kept>(
     waiters: &mut Waiters,
@@ -55,7 +56,7 @@ pub(crate) fn send_oldest_without_waking<T: Kept>(
     ensures follows { (s : ℕ) → WaitersFollow s waiters.old waiters.new }
     ensures wakes { Wakes (limits_of mutex.now).seats result.1 (sight seat.old).trail (sight seat.new).trail }
 {
-    // `send_lock` makes this check again. It isn't called if nobody waits.
+    // `send_lock` makes this check too, but isn't called if no seat waits.
     if seat.asleep() {
         return (Err(Refusal::Asleep), None);
     }

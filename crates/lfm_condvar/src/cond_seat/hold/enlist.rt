@@ -1,4 +1,4 @@
-//! How a user seat is put into the list in one hold of the inner mutex.
+//! How a user seat is added to the list in one hold of the inner mutex.
 ghost use Rattle.std.specs.Prelude.{◌≡◌, ◌<◌, ◌≤◌, Some, IfErr, IfOk, length, slice_index};
 ghost use Rattle.lfm_model.specs.declared.refusals.Refusal.TheVariants.{Busy};
 ghost use Rattle.lfm_mutex.specs.Belongs.{Beside, OfMutex, limits_of};
@@ -18,14 +18,14 @@ use lfm_model::Refusal;
 use lfm_mutex::{Kept, Mutex, Seat, WakeUp};
 use std::sync::Wait;
 
-/// A user seat that was put into the list: its ticket, and how many seats waited ahead of it then.
+/// A user seat that was added to the list: its ticket, and how many seats waited ahead of it at that time.
 #[derive(Clone, Copy)]
 pub(crate) struct Enlisted {
     pub(crate) ticket: u64,
     pub(crate) ahead: usize,
 }
 
-/// A seat that was put into the list with this ticket and this number of seats ahead of it, or why it was refused.
+/// A seat that was added to the list with this ticket and this number of seats ahead of it, or why it was refused.
 fn with_ahead(ticket: Result<u64, Refusal>, ahead: usize) -> Result<Enlisted, Refusal>
     ensures ticket { ticket_of result ≡ ticket }
     ensures ahead { IfOk result (λ e. e.ahead ≡ ahead) }
@@ -36,7 +36,7 @@ fn with_ahead(ticket: Result<u64, Refusal>, ahead: usize) -> Result<Enlisted, Re
     }
 }
 
-/// Lends the list that the cond seat holds to `enlist_without_waking`, and counts those that wait there.
+/// Passes the list that the cond seat holds to `enlist_without_waking`, and counts the seats that wait there.
 fn enlist_in_hand<T: Kept>(
     cond: &mut Seat<Waiters>,
     mutex: &Mutex<T>,
@@ -63,8 +63,9 @@ fn enlist_in_hand<T: Kept>(
 }
 
 impl Condvar {
-    /// Enlists the user seat in one hold of the inner mutex. Busy is the only refusal that is left. The wake-up of the seat
-    /// that is granted the user mutex is handed out, so that its thread doesn't wake while the list is held.
+    /// Enlists the user seat in one hold of the inner mutex. The caller has made the other checks, so the only refusal left is
+    /// Busy. The wake-up of the seat that is granted the user mutex is returned, so that its thread isn't woken while the list
+    /// is held.
     pub(crate) fn enlist_in_one_hold<T: Kept, R: Wait>(
         &self,
         rt: &R,

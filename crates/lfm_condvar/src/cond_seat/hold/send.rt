@@ -19,7 +19,7 @@ use lfm_model::{Refusal, SeatNo};
 use lfm_mutex::{Kept, Mutex, Seat, WakeUp};
 use std::sync::Wait;
 
-/// Keeps the later of two wake-ups, if there are two, and spends the earlier one at once, so that no memory is needed for both.
+/// Keeps the later of two wake-ups, if there are two, and makes the earlier one at once. So no memory is needed for both.
 fn hold_back<T: Kept>(
     mutex: &Mutex<T>,
     seat: &mut Seat<T>,
@@ -43,9 +43,9 @@ fn hold_back<T: Kept>(
     }
 }
 
-/// Sends all that wait, oldest first, up to one that doesn't wait to be sent, and counts them. The wake-up of the last seat
-/// that was granted the user mutex is handed out. Mostly it is the only one: another waiter is granted the mutex only if the
-/// mutex has been given up since, while the list is still held.
+/// Sends all that wait, oldest first, and counts them. It stops at one that doesn't wait to be sent. It returns the wake-up of
+/// the last seat that was granted the user mutex. Usually this is the only one: another waiter is granted the mutex only if the
+/// mutex has been released since, while the list is still held.
 fn send_all<T: Kept>(
     waiters: &mut Waiters,
     mutex: &Mutex<T>,
@@ -77,7 +77,7 @@ fn send_all<T: Kept>(
     }
 }
 
-/// Lends the list that the cond seat holds to `send_oldest_without_waking`.
+/// Passes the list that the cond seat holds to `send_oldest_without_waking`.
 fn send_oldest_in_hand<T: Kept>(
     cond: &mut Seat<Waiters>,
     mutex: &Mutex<T>,
@@ -100,7 +100,7 @@ fn send_oldest_in_hand<T: Kept>(
     send_oldest_without_waking(waiters, mutex, seat)
 }
 
-/// Lends the list that the cond seat holds to `send_all`.
+/// Passes the list that the cond seat holds to `send_all`.
 fn send_all_in_hand<T: Kept>(
     cond: &mut Seat<Waiters>,
     mutex: &Mutex<T>,
@@ -124,8 +124,8 @@ fn send_all_in_hand<T: Kept>(
 }
 
 impl Condvar {
-    /// Sends the oldest in one hold of the inner mutex, for a user seat that is awake. The wake-up of the seat that is granted
-    /// the user mutex is handed out, so that its thread doesn't wake while the list is held.
+    /// Sends the oldest waiter in one hold of the inner mutex, for a user seat that is awake. The wake-up of the seat that is
+    /// granted the user mutex is returned, so that its thread isn't woken while the list is held.
     pub(crate) fn send_oldest_in_one_hold<T: Kept, R: Wait>(
         &self,
         rt: &R,
@@ -154,7 +154,7 @@ impl Condvar {
     }
 
     /// Sends all that wait in one hold of the inner mutex, oldest first, for a user seat that is awake. The last wake-up is
-    /// handed out.
+    /// returned.
     pub(crate) fn send_all_in_one_hold<T: Kept, R: Wait>(
         &self,
         rt: &R,

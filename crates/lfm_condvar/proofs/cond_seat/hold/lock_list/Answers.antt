@@ -16,7 +16,7 @@ returns-clause-held g c = got c.in-Held.field-0 (limits_of c.args.inner.now) (si
 pub returns-clause-steps : goal.returns-clause-steps
 returns-clause-steps g c = (c.in-Held.field-0, rw c.in-Held.is at c.in_ok-locked.ensures.steps)
 
--- a cond seat is awake and doesn't hold, so its lock is refused as Spent alone
+-- a cond seat is awake and doesn't hold, so its lock can only be refused as Spent
 spent_alone : (budget : ℕ) (s t : Sight Waiters) (r : Refusal) → CondKept s → LocksWaiting WaitersFollow WaitersFit budget s t (Err r) → (r ≡ Spent) × (budget ≤ s.takes) × (t ≡ s)
 spent_alone budget s t Spent kept e = (refl, e.0.2, e.1)
 spent_alone budget s t Asleep kept e = let no = sym kept.awake ∙ e.0 in cc
@@ -27,7 +27,7 @@ spent_alone budget s t NoSuchSeat kept e = absurd e.0
 spent_alone budget s t NotWaiting kept e = absurd e.0
 spent_alone budget s t Busy kept e = absurd e.0
 
--- what `?` answers is that refusal
+-- the refusal that `?` passes on is Spent
 spent_answered : (budget : ℕ) (s t : Sight Waiters) (r : Refusal) (answer : Result (Unit {0}) Refusal) → IsErrAnd answer (λ x. x ≡ r) → CondKept s → LocksWaiting WaitersFollow WaitersFit budget s t (Err r)
     → IfErr answer (λ x. (x ≡ Spent) × (budget ≤ s.takes) × (t ≡ s))
 spent_answered budget s t r (Ok _) is kept e = absurd is

@@ -20,7 +20,7 @@ pub returns-clause-steps : goal.returns-clause-steps
 returns-clause-steps g c = let a = c.args in let e = c.enlist_in_hand-enlisted.ensures.enlists in
     held_by (cond_limits a.self.now) (cond_tries a.self.now) (cond_sight a.cond.now) (sight c.lock_list.new.cond) (sight c.enlist_in_hand-enlisted.new.cond) (sight c.leave_list.new.cond) e.0 e.1 c.in-Ok.ensures.steps e.2 c.leave_list.ensures.steps
 
--- a seat that could make start_wait, and has a number of the condvar's, is refused as Busy alone
+-- a seat that could make start_wait, and whose number is within the condvar's seats, can only be refused as Busy
 only_busy : {T : Type 0} (user : Limits) (by : ℕ) (s t : Sight T) (v w : Waiters) (r : Result ℕ Refusal) → MayWait user.budget s → s.number ≤ v.seats → Enlists user by s t v w r → IfErr r (λ x. x ≡ Busy)
 only_busy user by s t v w (Ok k) may known e = tt
 only_busy user by s t v w (Err Busy) may known e = refl

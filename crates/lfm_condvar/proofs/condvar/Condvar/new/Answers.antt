@@ -20,11 +20,11 @@ returns-clause-seats c = let m = c.in_ok-inner.ensures.seats in let v = c.in-Ok-
   ),
 )
 
--- each new cond seat is this condvar's
+-- each new cond seat belongs to this condvar
 pub returns-clause-belongs : goal.returns-clause-belongs
 returns-clause-belongs c = λ j s at. ((returns-clause-seats c).1.2 j s at).0
 
--- and knows nothing of a run
+-- each new cond seat knows nothing of a run
 pub returns-clause-past : goal.returns-clause-past
 returns-clause-past c = λ j s at. c.in_ok-inner.ensures.past j s.seat (c.as_cond_seats-cond_seats.ensures.wraps j s at)
 

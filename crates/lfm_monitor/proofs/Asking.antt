@@ -1,4 +1,4 @@
--- A call that is to hold, or to tell whether its pass holds, and was refused, or that deepened the hold.
+-- A call that would acquire the monitor, or a receive, that was refused, and a call that deepened the hold.
 use Rattle.std.proofs.Common.{◌≡◌, ℕ, ◌≤◌, Bool, true, false, IsErrAnd, Option, Result, Ok, Err, ⊎_elim, inr, refl, sym, ◌∙◌, subst, arith}
 use Rattle.lfm_model.specs.declared.answers.Asked.{Asked}
 use Rattle.lfm_model.specs.declared.answers.How.{How}

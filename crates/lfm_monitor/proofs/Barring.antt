@@ -8,7 +8,7 @@ use Rattle.lfm_monitor.specs.declared.journaled.Journaled.{Journaled}
 use Rattle.lfm_monitor.specs.Conditions.{WaitEnds, WaitRefused}
 
 module _ {O A R : Type 0} {K : _} where
-  -- what bars the pass's seat bars the pass
+  -- a refusal of the pass's seat is a refusal of the pass
   pub seat_barred : (share : ℕ) (s : Sight (Journaled O A R K)) (mine : ℕ) (r : Refusal) → SeatWaitRefused share s r → WaitRefused share s mine r
   seat_barred share s mine Refusal.Asleep h = h
   seat_barred share s mine Refusal.NotOwner h = h

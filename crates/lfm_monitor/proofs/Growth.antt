@@ -59,7 +59,7 @@ module _ {A : Type 0} where
   goes_more s js ks ls op g e = let new = drop (length js) ks in
       goes s js ls (new ++ entry s (Did op) ∷ []) (e ∙ (ap (λ x. x ++ entry s (Did op) ∷ []) (sym g.0) ∙ append_assoc js new (entry s (Did op) ∷ []))) (hold_more s new op g.1)
 
-  -- the journal js goes on as ks, by entries of others than s alone
+  -- the journal ks is js followed by entries of others than s alone
   pub record Others (s : ℕ) (js ks : List (Entry A)) : Type 0 where
     pub between : List (Entry A)
     pub grown : ks ≡ js ++ between
@@ -75,7 +75,7 @@ module _ {A : Type 0} where
     none_own = own-append s new o.between ∙ (ap (λ x. x ++ own s o.between) none ∙ o.none_own);
   }
 
-  -- what the others add is not one's own
+  -- The entries that others add don't change the list of own entries
   pub own_kept : (s : ℕ) (js ks : List (Entry A)) → Others s js ks → own s ks ≡ own s js
   own_kept s js ks o = ap (own s) o.grown ∙ (own-append s js o.between ∙ (ap (λ x. own s js ++ x) o.none_own ∙ append-nil (own s js)))
 
@@ -88,6 +88,6 @@ module _ {O A R : Type 0} {K : _} where
   led n s (p ∷ ps) v w h = let on = led n s ps p.1 w h.2 in let f = h.1 in let js = v.journal.items in let new = drop (length js) p.1.journal.items in
       (same_monitor v p.1 w f.0 on.0, others_on s js p.1.journal.items w.journal.items new (sym f.1.0) (hold_of_others p.0 s new f.1.1 h.0.0) on.1)
 
-  -- what a seat finds is what it left last, and then entries of others alone
+  -- what a seat finds is what it last left, followed by entries of others alone
   pub found : (n s : ℕ) (v w : Journaled O A R K) → Reached JournalFollows n s v w → SameOpening v w × Others s v.journal.items w.journal.items
   found n s v w r = led n s r.0 v w r.1

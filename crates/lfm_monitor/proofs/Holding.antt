@@ -13,7 +13,7 @@ use Rattle.lfm_monitor.specs.Passes.{LeaveEnds, journal_of}
 use Rattle.lfm_monitor.specs.Sections.{GivesUp, HoldEnds, Holds}
 
 module _ {O A R : Type 0} {K : _} where
-  -- what a leave that is not refused makes of a pass
+  -- how a leave that is not refused changes a pass
   pub record LeavesOne (s t : Sight (Journaled O A R K)) (seen seen' : ℕ) : Type 0 where
     pub depth : s.depth ≡ t.depth + 1
     pub number : t.number ≡ s.number
@@ -72,7 +72,7 @@ module _ {O A R : Type 0} {K : _} where
   }
 
 module _ {O A R U : Type 0} {K : _} (m : Monitor O A R K) (makes : Pass O A R K → Pass O A R K → Result U Refusal → Type 0) where
-  -- a section that was executed, whatever it answered
+  -- a section was executed, so `hold` ends with its result, whatever it is
   pub held : (p q : Pass O A R K) (r : Result U Refusal) → Holds m makes p q r → HoldEnds m makes p q r
   held p q (Ok x) h = h
   held p q (Err r) h = inl h

@@ -1,4 +1,4 @@
--- What a pass knows, call by call.
+-- What a pass knows after each call.
 use Rattle.std.proofs.Common.{◌≡◌, ◌⊎◌, ⊎_elim, ℕ, ◌+◌, ◌<◌, ◌≤◌, true, false, List, [], ◌∷◌, ◌++◌, length, Option, Some, None, refl, sym, ◌∙◌, ap, subst, arith, is_some, Ok, Err}
 use Rattle.lfm_model.specs.declared.answers.How.{How}
 use Rattle.lfm_model.specs.declared.answers.How.TheVariants.{Free as FreeTake, Queued as QueuedTake}
@@ -33,7 +33,7 @@ one_some o x y e f = let q : Some x ≡ Some y = sym e ∙ f in cc
 pub room_left : (share mine : ℕ) → (share ≤ mine → false ≡ true) → mine < share
 room_left share mine h = let no : share ≤ mine → ⊥ = (λ q. let e = h q in cc) in omega arith
 
--- a seat that is as it was has changed at most its trail
+-- a seat that has not changed differs at most in its trail
 pub same_trail : {T : Type 0} (s t : Sight T) → t ≡ s → t ≡ record s { trail = t.trail }
 same_trail s t e = e ∙ ap (λ (u : Sight _). record s { trail = u.trail }) (sym e)
 
@@ -45,7 +45,7 @@ given_up Unlocked.Posted h = tt
 given_up Unlocked.TakenOver h = tt
 
 module _ {O A R : Type 0} {K : _} where
-  -- a refusal of try_lock leaves the seat as it was but for its trail
+  -- A refusal of try_lock leaves the seat as it was, except for its trail. By cases on the refusal
   pub try_refused : (r : Refusal) (budget : ℕ) (s t : Sight (Journaled O A R K)) → Locks JournalFollows JournalFits budget s t (Err r) → t ≡ record s { trail = t.trail }
   try_refused Refusal.Busy budget s t h = h.3
   try_refused Refusal.Asleep budget s t h = same_trail s t h.1
@@ -56,7 +56,7 @@ module _ {O A R : Type 0} {K : _} where
   try_refused Refusal.NoSuchSeat budget s t h = absurd h.0
   try_refused Refusal.NotWaiting budget s t h = absurd h.0
 
-  -- a pass that held nothing has come to hold
+  -- a pass that did not hold has come to hold
   pub record Comes (how : How) (s t : Sight (Journaled O A R K)) : Type 0 where
     pub start : s.depth ≡ 0
     pub number : t.number ≡ s.number
@@ -79,7 +79,7 @@ module _ {O A R : Type 0} {K : _} where
   stamp_after FreeTake w k h = h
   stamp_after (QueuedTake x) w k h = let e = h.1 in let f = h.3 in let g = h.2 in omega arith
 
-  -- what was found, by a pass that held nothing
+  -- what a pass that did not hold found when it came to hold
   pub record Found (s t : Sight (Journaled O A R K)) (mine : ℕ) (v : Journaled O A R K) : Type 0 where
     pub last : t.last ≡ Some v
     pub before : Journaled O A R K
@@ -148,7 +148,7 @@ module _ {O A R : Type 0} {K : _} where
       let e : length (own n v.journal.items) ≡ length (own s.number v.journal.items) = ap (λ k. length (own k v.journal.items)) named in
       let b = a.2 in let d = o.2 in ((omega arith, omega arith, omega arith), may_write how s t v locks is)
 
-  -- a pass after it has come to hold and has written it down
+  -- a pass after it has come to hold and has written its take
   pub record Came (how : How) (s u : Sight (Journaled O A R K)) (seen mine : ℕ) (opening : O) (seats share : ℕ) : Type 0 where
     pub kept : PassKept u seen (mine + 1)
     pub still : Began opening seats share u
@@ -164,7 +164,7 @@ module _ {O A R : Type 0} {K : _} where
         comes = (locks.start, locks.deep, locks.number, locks.awake, locks.sends, refl, enters how s t mine v w (kept.free locks.start) f g);
       }
 
-  -- the same by what was written into the seat's journal
+  -- the same, from the entry that was written into the journal of the seat
   pub arrived : (how : How) (s : Sight (Journaled O A R K)) (t u : Seat (Journaled O A R K)) (seen mine : ℕ) (opening : O) (seats share : ℕ) → PassKept s seen mine → Began opening seats share s
       → Comes how s (sight t) → Writes (Took how) t u → Came how s (sight u) seen mine opening seats share
   arrived how s t u seen mine opening seats share kept of comes w =
@@ -218,7 +218,7 @@ module _ {O A R : Type 0} {K : _} where
   pub left_length : (s : Sight (Journaled O A R K)) (seen mine n : ℕ) → PassKept s seen mine → 0 < s.depth → ((v : Journaled O A R K) → s.value ≡ Some v → n ≡ length v.journal.items) → n ≡ length (journal_of s)
   left_length s seen mine n kept deep long = let v = some_of s.value (kept.held deep) in long v.0 v.1 ∙ sym (ap (λ o. length (journal_at (found_or o s.last))) v.1)
 
-  -- what leave says, once the monitor was given up
+  -- the facts that leave states after the monitor was given up
   leave_facts : (s t : Sight (Journaled O A R K)) (seen mine n : ℕ) → PassKept s seen mine → LeavesOff s t → t.takes ≡ s.takes → t.asleep ≡ false → ((v : Journaled O A R K) → s.value ≡ Some v → n ≡ length v.journal.items)
       → (s.asleep ≡ false) × (s.depth ≡ 1) × (t.depth ≡ 0) × (t.number ≡ s.number) × (t.takes ≡ s.takes) × (t.asleep ≡ false) × (t.sends ≡ s.sends) × (journal_of t ≡ journal_of s) × (n ≡ length (journal_of s))
   leave_facts s t seen mine n kept u takes awake long = (u.0, u.1, u.3, u.2, takes, awake, u.6, left_journal s t seen mine kept u, left_length s seen mine n kept (let d = u.1 in omega arith) long)
@@ -254,7 +254,7 @@ module _ {O A R : Type 0} {K : _} where
     sleeps = λ z. record { out = out; quiet = refl; room = λ l at. let e = (of l at).2 in omega arith };
   }
 
-  -- a pass of which the trail alone has changed
+  -- a pass of which only the trail has changed
   pub looked : (s t : Sight (Journaled O A R K)) (seen mine : ℕ) → PassKept s seen mine → t ≡ record s { trail = t.trail } → PassKept t seen mine
   looked s t seen mine kept is = subst (λ (u : Sight (Journaled O A R K)). PassKept u seen mine) (sym is) record {
     there = kept.there;

@@ -1,4 +1,4 @@
--- A pass may move to another thread, and the monitor may be used by several, if the object and its ops may move.
+-- A pass may move to another thread, and several threads may use the monitor, if the object and its ops may move.
 use Rattle.lfm_condvar.specs.contracts.condvar.Condvar as Condvar
 use Rattle.lfm_condvar.specs.contracts.cond_seat.CondSeat as CondSeat
 use Rattle.lfm_condvar.proofs.condvar.Condvar.TheSendSync as CondvarSend
@@ -74,11 +74,11 @@ module _ (O A R : RattleType) (g : Ghosts O.Denot A.Denot R.Denot) where
         ),
       ))
 
-  -- what a closure holds that works with the monitor in some thread: where it runs, and the monitor
+  -- the captures of a closure that works with the monitor in some thread: the runtime and the monitor
   abbrev pub captures : NamedLft → NamedLft → RattleType → List RattleType
   captures runs lent T = (Field.shr_ref_field runs (param 0 T) tt).row ∷ (Field.shr_ref_field lent (Monitor.the_row O A R g) tt).row ∷ []
 
-  -- such a closure, of this name, may be used by several threads
+  -- such a closure, with this name, may be shared by several threads
   pub closure_sync : (name : List ℕ) (runs lent : NamedLft) (T : RattleType) → Send.IsSync (param 0 T) → Send.IsSend O → Send.IsSend A → Send.IsSync (Tuple.TupleAt name (captures runs lent T))
   closure_sync name runs lent T y so sa = let C = Tuple.type_at name (captures runs lent T) in Send.recorded_sync (Struct.Struct (Declared.shape C)) C.D C.to C.to_one
       (Send.struct_sync (Declared.shape C) (

@@ -1,4 +1,4 @@
--- The cond seats of a pass as they are made, one for each condition that is made.
+-- The cond seats of a pass as they are made, one for each new condition.
 use Rattle.std.proofs.Common.{◌≡◌, ℕ, ◌+◌, List, [], ◌∷◌, ◌++◌, length, sym, ◌∙◌, ap, subst, arith}
 use Rattle.std.proofs.lemmas.List.{length_push}
 use mathlib.Core.Option.{some, some-injective}
@@ -9,7 +9,7 @@ use Rattle.lfm_condvar.specs.Belongs.{OfCondvar}
 use Rattle.lfm_monitor.specs.CondSeats.{IsNewSeat, AreNewOf}
 use Rattle.lfm_monitor.proofs.Places.{each_more, in_range, stands_last, stood_before}
 
--- a cond seat more, of a condition more
+-- one more cond seat, for one more condition
 pub one_new : (passes number : ℕ) (seats seats' : List CondSeat) (conditions conditions' : List Condvar) (c : CondSeat) (v : Condvar) → seats' ≡ seats ++ c ∷ [] → conditions' ≡ conditions ++ v ∷ []
     → AreNewOf passes number seats conditions → OfCondvar c v → IsNewSeat passes number c → AreNewOf passes number seats' conditions'
 one_new passes number seats seats' conditions conditions' c v grown more old of new = let long = old.0.long in (

@@ -1,4 +1,4 @@
--- The pace of each condition is set. The conditions stay the same ones, and so do those to whom a pass belongs.
+-- The pace of each condition is set. The conditions stay the same, and the passes and cond seats still belong to them.
 use Rattle.std.proofs.Common.{◌≡◌, ◌≢◌, ⊎_elim, ℕ, ◌+◌, ◌<◌, ◌≤◌, List, length, set, refl, sym, ◌∙◌, ap, subst, arith, Vec}
 use Rattle.std.proofs.lemmas.List.{length-set, with_items_is}
 use Rattle.std.specs.Global.{Global}
@@ -21,14 +21,14 @@ use Rattle.lfm_monitor.specs.CondSeats.{AreConditions, ArePaced, OfConditions, S
 use Rattle.lfm_monitor.specs.Passes.{Began}
 use Rattle.lfm_monitor.proofs.Places.{in_range, stands_or_was}
 
--- the conditions before the first of them is set
+-- no condition has been set yet
 pub none_set : (us vs : List Condvar) → vs ≡ us → SameButPaces us vs
 none_set us vs is = record {
   long = ap length is;
   each = λ i v at. (v, ap (λ l. get_elem? l i) (sym is) ∙ at, record { table = refl; limits = refl; seats = refl });
 }
 
--- one condition more is set
+-- one more condition was set
 pub one_set : (us vs : List Condvar) (n : ℕ) (v w : Condvar) → SameButPaces us vs → get_elem? vs n ≡ some v → SameButPace v w → SameButPaces us (set vs n w)
 one_set us vs n v w old stood same = record {
   long = length-set vs n w ∙ old.long;
@@ -49,7 +49,7 @@ one_paced pace vs n w before is i v low at = ⊎_elim
     (λ q. before i v (let other : i ≢ n = q.0 in omega arith) q.1)
     (stands_or_was vs n w i v at)
 
--- all of them are set, and stand in the list again
+-- all conditions were set, and are in the list again
 pub all_set : (v : Vec Condvar Global) (xs : List Condvar) → SameButPaces v.items xs → SameButPaces v.items (with_items v xs).items
 all_set v xs same = subst (SameButPaces v.items) (sym (with_items_is v xs (same.long ∙ sym v.ok.0))) same
 
@@ -58,11 +58,11 @@ pub all_paced : (pace : Pace) (v : Vec Condvar Global) (xs : List Condvar) (n : 
 all_paced pace v xs n same end before = subst (ArePaced pace) (sym (with_items_is v xs (same.long ∙ sym v.ok.0)))
     (λ i u at. before i u (let low = in_range xs i u at in omega arith) at)
 
--- they are as wide as before
+-- their limits are as before
 pub still_conditions : (seats : ℕ) (us vs : List Condvar) → SameButPaces us vs → AreConditions seats us → AreConditions seats vs
 still_conditions seats us vs same wide i v at = let e = same.each i v at in e.2.limits ∙ wide i e.0 e.1
 
--- the cond seats of a condition stay its cond seats
+-- the cond seats of a condition still belong to it
 still_of_condvar : (c : CondSeat) (u v : Condvar) → SameButPace u v → OfCondvar c u → OfCondvar c v
 still_of_condvar c u v same of = (
   (of.0.0 ∙ ap (λ t. t.table_id) (sym same.table), of.0.1 ∙ sym same.limits),
@@ -76,7 +76,7 @@ still_of_these cs us vs same of = record {
 }
 
 module _ {O A R : Type 0} {K : _} where
-  -- the passes of the monitor stay its passes
+  -- the passes of the monitor still belong to it
   pub still_of_monitor : (p : Pass O A R K) (m : Monitor O A R K) (mutex : Mutex (Journaled O A R K)) (conditions : List Condvar) → mutex.table ≡ m.mutex.table → mutex.limits ≡ m.mutex.limits → SameButPaces (conditions_in m) conditions
       → OfMonitor p m → OfMutex p.seat mutex × Began (opening_of m) (limits_of mutex).seats (share_of m) (sight p.seat) × OfConditions (cond_seats_of p) conditions
   still_of_monitor p m mutex conditions table limits same of = (

@@ -1,10 +1,10 @@
--- Items by their place in a list.
+-- Items by their index in a list.
 use Rattle.std.proofs.Common.{◌≡◌, ◌≢◌, ◌⊎◌, ⊎_elim, inl, inr, ℕ, zero, suc, ◌<◌, List, [], ◌∷◌, ◌++◌, length, get_or, set, refl, sym, ◌∙◌, ap, subst, arith}
 use Rattle.std.specs.List.{zip}
 use mathlib.Core.Option.{some, some-injective, some-ne-none}
 use lib.ListN.{get_elem?}
 
--- what holds of each item, and of one more, holds of each of both
+-- A property of each item of a list and of one appended item holds of all items. By cases on the index
 pub each_more : {A : Type 0} (P : ℕ → A → Type 0) (xs ys : List A) (x : A) → ys ≡ xs ++ x ∷ [] → ((j : ℕ) (y : A) → get_elem? xs j ≡ some y → P j y) → P (length xs) x
     → (j : ℕ) (y : A) → get_elem? ys j ≡ some y → P j y
 each_more P xs ys x is h last j y e = each P xs x h last j y (ap (λ l. get_elem? l j) (sym is) ∙ e) where
@@ -20,7 +20,7 @@ in_range [] j y e = absurd (some-ne-none y (sym e))
 in_range (x ∷ xs) zero y e = omega arith
 in_range (x ∷ xs) (suc j) y e = let h = in_range xs j y e in omega arith
 
--- an item that is read at a place stands there
+-- an item that is read at an index is in the list at that index
 pub stands : {A : Type 0} (xs : List A) (i : ℕ) (x : A) → i < length xs → x ≡ get_or xs i x → get_elem? xs i ≡ some x
 stands [] i x h e = absurd (omega arith)
 stands (y ∷ xs) zero x h e = ap some (sym e)
@@ -36,7 +36,7 @@ stands_before [] ys j y e = absurd (some-ne-none y (sym e))
 stands_before (x ∷ xs) ys zero y e = e
 stands_before (x ∷ xs) ys (suc j) y e = stands_before xs ys j y e
 
--- what stands at a place is what was put there, or else what stood there before
+-- after an item was set at an index, the item at any index is that item or the one that was there before
 pub stands_or_was : {A : Type 0} (xs : List A) (i : ℕ) (x : A) (j : ℕ) (y : A) → get_elem? (set xs i x) j ≡ some y → ((j ≡ i) × (y ≡ x)) ⊎ ((j ≢ i) × (get_elem? xs j ≡ some y))
 stands_or_was [] i x j y e = absurd (some-ne-none y (sym e))
 stands_or_was (z ∷ xs) zero x zero y e = inl (refl, sym (some-injective x y e))
@@ -49,7 +49,7 @@ stood_before [] ys j y h e = absurd (omega arith)
 stood_before (x ∷ xs) ys zero y h e = e
 stood_before (x ∷ xs) ys (suc j) y h e = stood_before xs ys j y (omega arith) e
 
--- a pair of two lists has an item of each, from the same place
+-- a pair in the zip of two lists has the items of both at the same index
 pub stand_both : {A B : Type 0} (xs : List A) (ys : List B) (i : ℕ) (x : A) (y : B) → i < length (zip xs ys) → (x, y) ≡ get_or (zip xs ys) i (x, y) → (get_elem? xs i ≡ some x) × (get_elem? ys i ≡ some y)
 stand_both [] ys i x y h e = absurd (omega arith)
 stand_both (z ∷ xs) [] i x y h e = absurd (omega arith)

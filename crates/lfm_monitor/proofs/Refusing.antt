@@ -31,7 +31,7 @@ module _ {O A R : Type 0} {K : _} where
   no_steps l Refusal.NotWaiting s t h = h.1
   no_steps l Refusal.Busy s t h = absurd h.0
 
-  -- what `?` hands on of a refusal
+  -- how leave ends with the refusal that `?` passes on
   pub leave_refused : (q : Result Unlocked Refusal) (r : Refusal) (s t : Sight (Journaled O A R K)) (n : ℕ) → Unlocks s t (Err r) → IsErrAnd q (λ y. y ≡ r) → LeaveEnds s t n n q
   leave_refused (Ok u) r s t n h e = absurd e
   leave_refused (Err y) r s t n h e = subst (λ (x : Refusal). LeaveEnds s t n n (Err x)) (sym e) (refused_ends r s t n h)

@@ -1,4 +1,4 @@
--- A pass that waits: it leaves, sleeps, and comes in again.
+-- A pass that waits: it leaves, sleeps, and acquires the monitor again.
 use Rattle.std.proofs.Common.{◌≡◌, ⊎_elim, inr, ℕ, ◌+◌, ◌<◌, ◌≤◌, false, List, [], ◌∷◌, ◌++◌, length, Some, Ok, Err, refl, sym, ◌∙◌, ap, arith}
 use Rattle.lfm_model.specs.declared.answers.How.{How}
 use Rattle.lfm_model.specs.declared.answers.Unlocked.{Unlocked}
@@ -19,7 +19,7 @@ use Rattle.lfm_monitor.specs.Writes.{Writes}
 use Rattle.lfm_monitor.proofs.Knowing.{Comes, arrived, left_it, left_journal, left_length, left_of, woken}
 
 module _ {O A R : Type 0} {K : _} where
-  -- a pass that has fallen asleep on a condition, and has come to hold: it is seen as m while it sleeps, and as t once it holds
+  -- a pass that has fallen asleep on a condition and has come to hold again: it has the sight m while it sleeps, and t after it
   pub record SleepsAndComes (how : How) (s m t : Sight (Journaled O A R K)) (n mine : ℕ) (opening : O) (seats share : ℕ) : Type 0 where
     pub kept : PassKept m n mine
     pub of : Began opening seats share m
@@ -33,7 +33,7 @@ module _ {O A R : Type 0} {K : _} where
   slept u budget s m seen mine n opening seats share kept of room w long = left_it s m seen mine n kept w.1
       (λ z. record { out = w.1.3; quiet = w.5; room = λ l at. let e = (left_of opening seats share s m seen mine kept of w.1 l at).2 in omega arith }) long
 
-  -- what the condvar's wait tells of it
+  -- what the condvar's wait states about the pass
   pub waited : (user own : Limits) (tries : ℕ) (c d : Sight Waiters) (s t : Sight (Journaled O A R K)) (r : How × ℕ) (seen mine n : ℕ) (opening : O) (seats share : ℕ) → PassKept s seen mine → Began opening seats share s → mine < share
       → ((v : Journaled O A R K) → s.value ≡ Some v → n ≡ length v.journal.items) → CondWaitEnds JournalFollows JournalFits user own tries c d s t (Ok r)
       → (m : Sight (Journaled O A R K)) × SleepsAndComes r.0 s m t n mine opening seats share
@@ -56,7 +56,7 @@ module _ {O A R : Type 0} {K : _} where
     e.2 ∙ (ap (λ js. (js ++ e.0) ++ entry m.number (Took how) ∷ []) journal ∙ ap (λ (k : ℕ). (journal_of s ++ e.0) ++ entry k (Took how) ∷ []) number),
   )
 
-  -- the pass once its take was written
+  -- the pass after its take was written
   pub record Returned (r : How × ℕ) (s u : Sight (Journaled O A R K)) (seen n mine : ℕ) (opening : O) (seats share : ℕ) : Type 0 where
     pub kept : PassKept u n (mine + 1)
     pub of : Began opening seats share u

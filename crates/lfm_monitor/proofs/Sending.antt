@@ -45,7 +45,7 @@ module _ {T : Type 0} where
   sent_all n s t v w (Err Refusal.NotWaiting) h = sent_on s h.1 t (only s h.1 h.1.trail (s.sends ++ map (λ (x : Waiter). x.seat) h.0) h.3) (not_waiting n h.1 t w h.4)
   sent_all n s t v w (Err Refusal.Busy) h = absurd h
 
-  -- what a wake changes of the user seat
+  -- what a wake changes in the user seat
   pub one_sent : (n : ℕ) (own : Limits) (tries : ℕ) (c d : Sight Waiters) (s t : Sight T) (r : Result (Option (ℕ × ℕ)) Refusal) → CondWakeOneEnds n own tries c d s t r → OnlySends s t
   one_sent n own tries c d s t (Ok x) h = sent_oldest n s t h.0 h.1 (Ok x) h.3
   one_sent n own tries c d s t (Err Refusal.Asleep) h = only s t s.trail s.sends h.2
@@ -69,7 +69,7 @@ module _ {T : Type 0} where
   all_sent n own tries c d s t (Err Refusal.Busy) h = absurd h.3
 
 module _ {O A R : Type 0} {K : _} where
-  -- a pass that has sent others knows what it knew
+  -- a pass that has sent others still knows what it knew
   pub sent_kept : (s t : Sight (Journaled O A R K)) (seen mine : ℕ) → PassKept s seen mine → OnlySends s t → PassKept t seen mine
   sent_kept s t seen mine kept is = subst (λ (u : Sight (Journaled O A R K)). PassKept u seen mine) (sym is) record {
     there = kept.there;
@@ -84,7 +84,7 @@ module _ {O A R : Type 0} {K : _} where
   pub sent_began : (opening : O) (seats share : ℕ) (s t : Sight (Journaled O A R K)) → Began opening seats share s → OnlySends s t → Began opening seats share t
   sent_began opening seats share s t of is = subst (λ (u : Sight (Journaled O A R K)). Began opening seats share u) (sym is) of
 
-  -- how a wake of the monitor ends that was made on the condvar of its condition
+  -- how a wake of the monitor ends, from how the wake of the condition's condvar ended
   pub wakes_one : (n : ℕ) (own : Limits) (tries count condition : ℕ) (cs ds : List CondSeat) (s t : Sight (Journaled O A R K)) (r : Result (Option (ℕ × ℕ)) Refusal) → s.asleep ≡ false
       → OnCondition condition cs ds (λ c d. CondWakeOneEnds n own tries c d s t r) → WakeOneEnds n own tries count condition cs ds s t r
   wakes_one n own tries count condition cs ds s t (Ok x) awake h = h

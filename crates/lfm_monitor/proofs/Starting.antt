@@ -1,4 +1,4 @@
--- Seats and passes as they begin.
+-- Seats and passes as they are made.
 use Rattle.std.proofs.Common.{◌≡◌, ℕ, ◌<◌, ◌≤◌, [], length, Some, refl, sym, ◌∙◌, ap, subst, arith}
 use Rattle.lfm_model.specs.Journals.{own}
 use Rattle.lfm_mutex.specs.declared.mutex.Mutex.{Mutex}
@@ -11,7 +11,7 @@ use Rattle.lfm_monitor.specs.Passes.{PassKept, Began}
 use Rattle.lfm_monitor.proofs.Knowing.{one_some}
 
 module _ {O A R : Type 0} {K : _} where
-  -- a seat of a new mutex round an object with an empty journal
+  -- a seat of a new mutex around an object with an empty journal
   pub record NewSeat (object : O) (seats share number : ℕ) (m : Mutex (Journaled O A R K)) (s : Seat (Journaled O A R K)) : Type 0 where
     pub of : OfMutex s m
     pub empty : Journaled O A R K

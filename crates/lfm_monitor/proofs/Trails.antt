@@ -1,4 +1,4 @@
--- The steps of a monitor's calls are those of the mutex's: what is written into the journal afterwards is no step.
+-- The steps of a monitor's calls are those of the mutex's calls: what is written into the journal afterwards is no step.
 use Rattle.std.proofs.Common.{◌≡◌, ℕ, ⊎_elim, inl, inr, Option, sym, subst, Ok}
 use Rattle.lfm_model.specs.declared.answers.How.{How}
 use Rattle.lfm_model.specs.declared.answers.Locked.{Locked}
@@ -12,7 +12,7 @@ use Rattle.lfm_monitor.specs.declared.enter.Locking.{Locking}
 use Rattle.lfm_monitor.specs.Steps.{ByLockingAs}
 
 module _ {T : Type 0} (l : Limits) where
-  -- a seat whose value alone was changed since
+  -- A seat made the steps of a call. It still has made them after its value alone was changed
   pub rewritten : (call : Call) (s t u : Sight T) (turn : Turn) (v : Option T) → u ≡ record t { value = v } → Makes l call s t turn → Makes l call s u turn
   rewritten call s t u turn v is m = subst (λ (z : Sight T). Makes l call s z turn) (sym is)
       (m.0, m.1, m.2, record { depth = m.3.depth; takes = m.3.takes; asleep = m.3.asleep; in_call = m.3.in_call }, m.4)
@@ -21,7 +21,7 @@ module _ {T : Type 0} (l : Limits) where
   in_order_rewritten how s t u v is locks = ⊎_elim (λ m. inl (rewritten Call.Lock s t u _ v is m))
       (λ m. inr (m.0, m.1, (m.2.0, m.2.1, m.2.2, rewritten Call.Receive m.2.1 t u _ v is m.2.3))) locks
 
-  -- a try held, or the mutex was locked in order after the tries that failed
+  -- either a try held, or the mutex was locked in order after the failed tries
   barging_rewritten : (n : ℕ) (how : How) (s t u : Sight T) (v : Option T) → u ≡ record t { value = v } → BargesBy l n s t (Ok (Locked.Held how)) → BargesBy l n s u (Ok (Locked.Held how))
   barging_rewritten n how s t u v is barges = ⊎_elim (λ m. inl (m.0, m.1, m.2, m.3, rewritten Call.TryLock m.1 t u _ v is m.4))
       (λ m. inr (m.0, m.1, in_order_rewritten how m.0 t u v is m.2)) barges

@@ -1,4 +1,4 @@
--- The cond seat of one condition is used, and those of the others stay as they are.
+-- The cond seat of one condition is used, and those of the other conditions don't change.
 use Rattle.std.proofs.Common.{◌≡◌, ⊎_elim, ℕ, zero, suc, ◌+◌, ◌<◌, List, [], ◌∷◌, length, get_or, slice_set, refl, sym, ◌∙◌, ap, subst, arith}
 use Rattle.std.proofs.lemmas.List.{length-set}
 use mathlib.Core.Option.{some, some-injective}
@@ -15,7 +15,7 @@ use Rattle.lfm_monitor.specs.CondSeats.{CondsWokenAsGranted, OfConditions, condi
 use Rattle.lfm_mutex.proofs.runs.Woken.{woken_join, woken_none}
 use Rattle.lfm_monitor.proofs.Places.{in_range, stands, stands_or_was}
 
--- a cond seat of this condition stands in the place of the other
+-- another cond seat of the same condition is put at its index
 pub still_of_conditions : (cs : List CondSeat) (vs : List Condvar) (n : ℕ) (d : CondSeat) (v : Condvar) → OfConditions cs vs → get_elem? vs n ≡ some v → OfCondvar d v → OfConditions (slice_set cs n d) vs
 still_of_conditions cs vs n d v of at belongs = record {
   long = length-set cs n d ∙ of.long;
@@ -25,7 +25,7 @@ still_of_conditions cs vs n d v of at belongs = record {
       (stands_or_was cs n d i c ac);
 }
 
--- Cond seats wake those that they granted the list
+-- Cond seats wake the seats that they granted the list
 
 same_woken : (c d : CondSeat) → c ≡ d → CondWokenAsGranted c d
 same_woken c d e = subst (CondWokenAsGranted c) e (woken_none c.seat c.seat refl refl)
@@ -33,7 +33,7 @@ same_woken c d e = subst (CondWokenAsGranted c) e (woken_none c.seat c.seat refl
 pub conds_woken_none : (cs : List CondSeat) → CondsWokenAsGranted cs cs
 conds_woken_none cs = record { long = refl; each = λ i c d ac ad. same_woken c d (some-injective c d (sym ac ∙ ad)) }
 
--- one of them was used
+-- one of the cond seats was used
 pub conds_woken_one : (cs : List CondSeat) (n : ℕ) (c d : CondSeat) → get_elem? cs n ≡ some c → CondWokenAsGranted c d → CondsWokenAsGranted cs (slice_set cs n d)
 conds_woken_one cs n c d at woken = record {
   long = length-set cs n d;
@@ -73,6 +73,6 @@ module _ {O A R : Type 0} {K : _} where
     tries = ap (λ (pace : Pace). pace.spins + pace.naps) (m.paced n v b);
   }
 
-  -- what holds by the limits and the tries of the condvar holds by those that the monitor tells
+  -- a property of the limits and the tries of the condvar holds of those that the monitor states
   pub as_told : (p : Pass O A R K) (m : Monitor O A R K) (n : ℕ) (c : CondSeat) (v : Condvar) (says : Limits → ℕ → Type 0) → AtPlace p m n c v → says (cond_limits v) (cond_tries v) → says (condition_limits (passes_of m)) (tries_in m)
   as_told p m n c v says a h = subst (λ (l : Limits). says l (tries_in m)) a.limits (subst (λ (k : ℕ). says (cond_limits v) k) a.tries h)

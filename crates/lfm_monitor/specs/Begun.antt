@@ -1,4 +1,4 @@
--- A monitor and a pass as they begin.
+-- What is true of a monitor and a pass when they are made.
 use Rattle.std.specs.Prelude.{◌≡◌, ℕ, ◌*◌, ◌<◌, ◌≤◌, []}
 use Rattle.lfm_protocol.specs.Limits.{max_seats}
 use Rattle.lfm_mutex.specs.calls.Sight.{new_sight}
@@ -8,11 +8,11 @@ use Rattle.lfm_monitor.specs.declared.pass.Pass.{Pass}
 use Rattle.lfm_monitor.specs.Belongs.{OfMonitor, cond_seats_of, mine_of, pass_sight, passes_of, seen_of}
 use Rattle.lfm_monitor.specs.CondSeats.{AreNewSeats}
 
--- the most entries of a journal
+-- the greatest number of entries of a journal
 abbrev pub max_entries : ℕ
 max_entries = 1048576
 
--- the most conditions of a monitor
+-- the greatest number of conditions of a monitor
 abbrev pub max_conditions : ℕ
 max_conditions = 16
 
@@ -28,7 +28,7 @@ module _ {O A R : Type 0} {K : _} where
     pub seats_are : v.seats ≡ seats
     pub share_is : v.share ≡ share
 
-  -- the pass with this number has done nothing and seen nothing, and nobody has waited on the conditions
+  -- the pass with this number has done nothing and seen nothing, and no pass has waited on the conditions
   pub record NewPass (m : Monitor O A R K) (number : ℕ) (p : Pass O A R K) : Type 0 where
     pub belongs : OfMonitor p m
     pub empty : Journaled O A R K

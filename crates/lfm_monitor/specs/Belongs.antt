@@ -1,4 +1,4 @@
--- What belongs to a monitor. Contracts name a monitor and its passes by these words alone.
+-- What belongs to a monitor. Contracts refer to a monitor and its passes only by these definitions.
 use Rattle.std.specs.Prelude.{◌≡◌, ℕ, List, length}
 use Rattle.lfm_protocol.specs.declared.limits.Limits.{Limits}
 use Rattle.lfm_mutex.specs.Belongs.{OfMutex, limits_of, tries_of}
@@ -14,15 +14,16 @@ use Rattle.lfm_monitor.specs.CondSeats.{OfConditions}
 use Rattle.lfm_monitor.specs.Passes.{Began}
 
 module _ {O A R : Type 0} {K : _} where
-  -- the object that the monitor began with
+  -- the object that the monitor was made with
   abbrev pub opening_of : Monitor O A R K → O
   opening_of m = m.opening.value
 
-  -- how many seats its mutex has, and how many takes each may make
+  -- how many seats its mutex has, and how many takes each of them may make
   abbrev pub mutex_limits : Monitor O A R K → Limits
   mutex_limits m = limits_of m.mutex
 
-  -- how often a pass tries at most before it queues, for the monitor in a call that tries at all, and for the list of a condition
+  -- the greatest number of tries that a pass makes before it queues, for the monitor in a call that tries at all, and for the
+  -- list of a condition
   abbrev pub tries_in : Monitor O A R K → ℕ
   tries_in m = tries_of m.mutex
 
@@ -46,20 +47,20 @@ module _ {O A R : Type 0} {K : _} where
   abbrev pub cond_seats_of : Pass O A R K → List CondSeat
   cond_seats_of p = p.cond_seats.items
 
-  -- the pass is one of the monitor's
+  -- the pass belongs to the monitor
   abbrev pub OfMonitor : Pass O A R K → Monitor O A R K → Type 0
   OfMonitor p m = OfMutex p.seat m.mutex × Began (opening_of m) (passes_of m) (share_of m) (sight p.seat) × OfConditions (cond_seats_of p) (conditions_in m)
 
-  -- this is the same monitor
+  -- both are the same monitor
   abbrev pub SameMonitor : Monitor O A R K → Monitor O A R K → Type 0
   SameMonitor m n = (m.mutex ≡ n.mutex) × (m.opening ≡ n.opening) × (m.share ≡ n.share) × (m.conditions ≡ n.conditions)
 
-  -- the pass's seat as the mutex shows it
+  -- the sight of the pass's seat
   abbrev pub pass_sight : Pass O A R K → Sight (Journaled O A R K)
   pass_sight p = sight p.seat
 
-  -- the actions of all passes that it knows: the mutex's run up to its own last step or load of the owner word, after which only others have
-  -- acted
+  -- the actions of all passes that it knows: the run of the mutex up to the pass's own last step or load of the owner word,
+  -- after which only others have acted
   abbrev pub pass_past : Pass O A R K → List Action
   pass_past p = past_of p.seat
 
@@ -67,11 +68,11 @@ module _ {O A R : Type 0} {K : _} where
   abbrev pub PassWokenAsGranted : Pass O A R K → Pass O A R K → Type 0
   PassWokenAsGranted p q = WokenAsGranted p.seat q.seat
 
-  -- the run of the monitor's mutex goes on from what the pass knew to what it knows
+  -- the run of the monitor's mutex continues from what the pass knew to what it knows now
   abbrev pub PassRunGoesOnFrom : Pass O A R K → Pass O A R K → Type 0
   PassRunGoesOnFrom p q = RunGoesOnFrom p.seat q.seat
 
-  -- the journal's length when the pass left last
+  -- the journal's length when the pass last left
   abbrev pub seen_of : Pass O A R K → ℕ
   seen_of p = p.seen
 

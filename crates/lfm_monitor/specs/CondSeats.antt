@@ -12,7 +12,8 @@ use Rattle.lfm_condvar.specs.declared.waiters.Waiters.{Waiters}
 use Rattle.lfm_condvar.specs.Belongs.{CondWokenAsGranted, OfCondvar, cond_limits, cond_sight}
 use Rattle.lfm_condvar.specs.Keeping.{IsNew}
 
--- what a condition of a monitor with this number of passes allows: a seat for each, and as many waits and wakes as can be
+-- the limits of a condition of a monitor with this number of passes: a seat for each, and the greatest budget of waits and
+-- wakes
 abbrev pub condition_limits : ℕ → Limits
 condition_limits seats = record { seats = seats; budget = max_budget }
 
@@ -24,18 +25,18 @@ AreConditions seats conditions = (i : ℕ) (v : Condvar) → get_elem? condition
 abbrev pub ArePaced : Pace → List Condvar → Type 0
 ArePaced pace conditions = (i : ℕ) (v : Condvar) → get_elem? conditions i ≡ some v → v.inner.pace ≡ pace
 
--- both are one condvar, whose pace may be another
+-- both are the same condvar, with possibly different paces
 pub record SameButPace (u v : Condvar) : Type 0 where
   pub table : v.inner.table ≡ u.inner.table
   pub limits : v.inner.limits ≡ u.inner.limits
   pub seats : v.seats ≡ u.seats
 
--- both are one list of conditions, whose paces may be others
+-- both are the same list of conditions, with possibly different paces
 pub record SameButPaces (us vs : List Condvar) : Type 0 where
   pub long : length vs ≡ length us
   pub each : (i : ℕ) (v : Condvar) → get_elem? vs i ≡ some v → (u : Condvar) × (get_elem? us i ≡ some u) × SameButPace u v
 
--- there is a cond seat for each condition, at the same place
+-- there is a cond seat for each condition, at the same index
 pub record OfConditions (seats : List CondSeat) (conditions : List Condvar) : Type 0 where
   pub long : length seats ≡ length conditions
   pub each : (i : ℕ) (c : CondSeat) (v : Condvar) → get_elem? seats i ≡ some c → get_elem? conditions i ≡ some v → OfCondvar c v
@@ -45,11 +46,11 @@ pub record CondsWokenAsGranted (cs ds : List CondSeat) : Type 0 where
   pub long : length ds ≡ length cs
   pub each : (i : ℕ) (c d : CondSeat) → get_elem? cs i ≡ some c → get_elem? ds i ≡ some d → CondWokenAsGranted c d
 
--- the cond seat with this number, one of `passes`, has done nothing, and nobody has waited on its condition
+-- the cond seat with this number, one of `passes`, has done nothing, and no pass has waited on its condition
 abbrev pub IsNewSeat : ℕ → ℕ → CondSeat → Type 0
 IsNewSeat passes number c = (nobody : Waiters) × IsNew nobody × (cond_sight c ≡ new_sight nobody passes number)
 
--- all these cond seats are so
+-- all these cond seats are new
 abbrev pub AreNewSeats : ℕ → ℕ → List CondSeat → Type 0
 AreNewSeats passes number seats = (i : ℕ) (c : CondSeat) → get_elem? seats i ≡ some c → IsNewSeat passes number c
 

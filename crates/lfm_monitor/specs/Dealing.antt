@@ -1,10 +1,10 @@
--- Items that are put at the end of lists.
+-- Items that are appended to lists.
 use Rattle.std.specs.Prelude.{◌≡◌, ℕ, List, [], ◌∷◌, ◌++◌, vec_capacity}
 use Rattle.std.specs.Global.{Vec}
 use mathlib.Core.Option.{some}
 use lib.ListN.{get_elem?}
 
--- the list l is the one that stood at the place j, with the item of that place at its end
+-- the list l is the one that was at index j, with the item of that index appended
 pub record Dealt {A : Type 0} (lists : List (Vec A)) (items : List A) (j : ℕ) (l : Vec A) : Type 0 where
   pub old : Vec A
   pub item : A

@@ -1,4 +1,4 @@
--- What a pass knows of the journal, and how its calls end, by its seat as the mutex shows it.
+-- What a pass knows of the journal, and how its calls end, by the sight of its seat.
 use Rattle.std.specs.Prelude.{◌≡◌, ℕ, ◌+◌, ◌<◌, ◌≤◌, List, [], ◌∷◌, ◌++◌, length, Option, Some, None, is_some, true, false, Result, Ok, Err, ◌⊎◌}
 use Rattle.lfm_model.specs.declared.answers.Asked.{Asked}
 use Rattle.lfm_model.specs.declared.answers.How.{How}
@@ -19,7 +19,7 @@ module _ {O A R : Type 0} {K : _} where
   found_or (Some v) last = Some v
   found_or None last = last
 
-  -- the journaled object in hand, or else the one that was left last
+  -- the journaled object that the seat holds, or if it holds none, the one that it last left
   abbrev pub known_to : Sight (Journaled O A R K) → Option (Journaled O A R K)
   known_to s = found_or s.value s.last
 
@@ -27,27 +27,27 @@ module _ {O A R : Type 0} {K : _} where
   journal_at (Some v) = v.journal.items
   journal_at None = []
 
-  -- the journal that the pass has in hand, or else the one that it left last, which is its seen
+  -- the journal that the pass holds, or if it holds none, the one that it last left
   abbrev pub journal_of : Sight (Journaled O A R K) → List (Entry A)
   journal_of s = journal_at (known_to s)
 
-  -- the pass is one of a monitor that began with this object, and has this number of seats and this number of entries for each
+  -- the pass belongs to a monitor that was made with this object, this number of seats and this number of entries for each
   abbrev pub Began : O → ℕ → ℕ → Sight (Journaled O A R K) → Type 0
   Began opening seats share s = (l : Journaled O A R K) → s.last ≡ Some l → (l.opening.value ≡ opening) × (l.seats ≡ seats) × (l.share ≡ share)
 
-  -- what a pass that doesn't hold knows of what it left
+  -- what a pass that doesn't hold knows of the value that it last left
   pub record Left (number seen mine : ℕ) (l : Journaled O A R K) : Type 0 where
     pub mine_is : mine ≡ length (own number l.journal.items)
     pub seen_is : seen ≡ length l.journal.items
 
-  -- what a pass that holds knows of what it has in hand
+  -- what a pass that holds knows of the value that it holds
   pub record InHand (s : Sight (Journaled O A R K)) (seen mine : ℕ) (v : Journaled O A R K) : Type 0 where
     pub mine_is : mine ≡ length (own s.number v.journal.items)
     pub taker : taker_from None v.journal.items ≡ Some s.number
     pub fit : JournalFits v s.queued
     pub follow : (l : Journaled O A R K) → s.last ≡ Some l → JournalFollows s.number l v
 
-  -- while the pass sleeps, it has an entry for its take
+  -- a pass that sleeps has an entry left for its take
   pub record Sleeps (s : Sight (Journaled O A R K)) (mine : ℕ) : Type 0 where
     pub out : s.depth ≡ 0
     pub quiet : s.in_call ≡ false
@@ -62,19 +62,19 @@ module _ {O A R : Type 0} {K : _} where
     pub holds : (v : Journaled O A R K) → s.value ≡ Some v → InHand s seen mine v
     pub sleeps : s.asleep ≡ true → Sleeps s mine
 
-  -- the pass has come to hold: it finds what it left last, followed by entries of others alone, and adds its own take
+  -- the pass has come to hold: it finds what it last left, followed by entries of others alone, and adds its own take
   abbrev pub Enters : How → Sight (Journaled O A R K) → Sight (Journaled O A R K) → Type 0
   Enters how s t = (between : List (Entry A)) × (own s.number between ≡ []) × (journal_of t ≡ (journal_of s ++ between) ++ entry s.number (Took how) ∷ [])
 
-  -- the journal js is the one that the pass has in hand or left last, followed by entries of others alone
+  -- the journal js is the one that the pass holds or last left, followed by entries of others alone
   abbrev pub GoesOnTo : Sight (Journaled O A R K) → List (Entry A) → Type 0
   GoesOnTo s js = (between : List (Entry A)) × (own s.number between ≡ []) × (js ≡ journal_of s ++ between)
 
-  -- it holds at depth 1 now, and one more entry is its own
+  -- the pass now holds at depth 1, and has one more entry of its own
   abbrev pub ComesIn : How → Sight (Journaled O A R K) → Sight (Journaled O A R K) → ℕ → ℕ → Type 0
   ComesIn how s t mine mine' = (s.depth ≡ 0) × (t.depth ≡ 1) × (t.number ≡ s.number) × (t.asleep ≡ false) × (t.sends ≡ s.sends) × (mine' ≡ mine + 1) × Enters how s t
 
-  -- why a call is refused that is to hold
+  -- why a call that would acquire the monitor is refused
   abbrev pub EnterRefused : ℕ → Sight (Journaled O A R K) → ℕ → Refusal → Type 0
   EnterRefused share s mine Refusal.Asleep = s.asleep ≡ true
   EnterRefused share s mine Refusal.DepthFull = (s.asleep ≡ false) × (max_depth ≤ s.depth)
@@ -111,7 +111,7 @@ module _ {O A R : Type 0} {K : _} where
   ReceiveEnds s t mine mine' (Err Refusal.NotWaiting) = (s.asleep ≡ false) × (t ≡ s) × (mine' ≡ mine)
   ReceiveEnds s t mine mine' (Err r) = ⊥
 
-  -- how leave ends: what was in hand is the pass's seen
+  -- how leave ends: a pass that gives up the monitor has seen the journal that it held
   abbrev pub LeaveEnds : Sight (Journaled O A R K) → Sight (Journaled O A R K) → ℕ → ℕ → Result Unlocked Refusal → Type 0
   LeaveEnds s t seen seen' (Ok (Unlocked.Still d)) = (s.asleep ≡ false) × (0 < d) × (s.depth ≡ d + 1) × (t ≡ record s { depth = d }) × (seen' ≡ seen)
   LeaveEnds s t seen seen' (Ok u) =
@@ -122,13 +122,13 @@ module _ {O A R : Type 0} {K : _} where
   LeaveEnds s t seen seen' (Err _) = ⊥
 
 module _ {O A R : Type 0} {K : _} (after : O → A → O) where
-  -- what the pass has in hand is legal: the journal is lawful, the object is its replay, and the stamps are those of all queued
-  -- takes so far
+  -- the value that the pass holds is legal: the journal is lawful, the object is its replay, and the stamps are those of all
+  -- queued takes so far
   abbrev pub IsLegal : O → Sight (Journaled O A R K) → Type 0
   IsLegal opening s = (v : Journaled O A R K) → s.value ≡ Some v → (v.object ≡ after_all after opening v.journal.items) × LawfulJournal v.journal.items × (stamps v.journal.items ≡ one_to s.queued)
 
 module _ {O A R : Type 0} {K : _} (after : O → A → O) (reply : O → A → R) where
-  -- an op was made: the object replied and changed as it does by itself, and the entry was added
+  -- an op was applied: the reply and the new object are those of the object's own functions, and the entry was added
   abbrev pub Applies : A → Sight (Journaled O A R K) → Sight (Journaled O A R K) → R → Type 0
   Applies op s t r =
       (v w : Journaled O A R K) × (s.value ≡ Some v) × (t ≡ record s { value = Some w }) × (r ≡ reply v.object op) × (w.object ≡ after v.object op)

@@ -1,4 +1,4 @@
--- Rounds: in each the pass executes a critical section in a hold of its own.
+-- Rounds: in each round the pass executes a critical section in its own hold.
 use Rattle.std.specs.Prelude.{◌≡◌, ◌⊎◌, ℕ, zero, suc, ◌<◌, ⊤, Result, Ok, Err}
 use Rattle.std.specs.declared.ops.ControlFlow.{ControlFlow}
 use Rattle.std.specs.declared.ops.ControlFlow.TheVariants.{Continue, Break}
@@ -7,15 +7,14 @@ use Rattle.lfm_monitor.specs.declared.monitor.Monitor.{Monitor}
 use Rattle.lfm_monitor.specs.declared.pass.Pass.{Pass}
 use Rattle.lfm_monitor.specs.Sections.{HoldEnds}
 
--- a round that ends so is followed by no further one: the section broke off, or something was refused
+-- after a round with this result there is no further one: the section returned Break, or something was refused
 abbrev pub EndsRounds : Result (ControlFlow ⊤ ⊤) Refusal → Type 0
 EndsRounds (Ok (Continue x)) = ⊥
 EndsRounds (Ok (Break x)) = ⊤
 EndsRounds (Err r) = ⊤
 
 module _ {O A R : Type 0} {K : _} (m : Monitor O A R K) (makes : ℕ → Pass O A R K → Pass O A R K → Result (ControlFlow ⊤ ⊤) Refusal → Type 0) where
-  -- this number of rounds, numbered from 0, led the pass from one to the other, and after each of them there was to be a further
-  -- one
+  -- the pass was p before this number of rounds, numbered from 0, and q after them, and each of them returned Continue
   abbrev pub AllGoOn : ℕ → Pass O A R K → Pass O A R K → Type 0
   AllGoOn zero p q = q ≡ p
   AllGoOn (suc n) p q = (l : Pass O A R K) × AllGoOn n p l × HoldEnds m (makes n) l q (Ok (Continue tt))

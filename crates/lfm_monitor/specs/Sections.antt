@@ -1,4 +1,5 @@
--- Critical sections: a pass enters, a section is executed, and the pass gives up what it holds more than before.
+-- Critical sections: a pass enters, a section is executed, and the pass gives up the holds that it has beyond those it had
+-- before.
 use Rattle.std.specs.Prelude.{◌≡◌, ◌⊎◌, ℕ, ◌<◌, ◌≤◌, min, Result, Ok, Err}
 use Rattle.lfm_model.specs.declared.answers.Locked.{Locked}
 use Rattle.lfm_model.specs.declared.refusals.Refusal.{Refusal}
@@ -9,12 +10,12 @@ use Rattle.lfm_monitor.specs.Passes.{EnterEnds, EnterRefused, journal_of}
 use Rattle.lfm_monitor.specs.Steps.{ByBarging, ByUnlocks}
 
 module _ {O A R : Type 0} {K : _} where
-  -- nothing that a pass tells of itself is other than it was
+  -- nothing that can be read from a pass has changed
   abbrev pub SamePass : Pass O A R K → Pass O A R K → Type 0
   SamePass p q = (pass_sight q ≡ pass_sight p) × (mine_of q ≡ mine_of p) × (seen_of q ≡ seen_of p) × (cond_seats_of q ≡ cond_seats_of p)
 
-  -- The pass has given up some of its holds, or none, and has woken exactly those that it granted the monitor. The journal that it
-  -- has in hand, or left, is the one that it had in hand, and nothing else of it is other than it was
+  -- The pass has given up some of its holds, or none, and has woken exactly those that it granted the monitor. The journal that
+  -- it holds, or last left, is the one that it held, and nothing else of it has changed
   pub record GivesUp (p q : Pass O A R K) : Type 0 where
     pub no_more : (pass_sight q).depth ≤ (pass_sight p).depth
     pub number : (pass_sight q).number ≡ (pass_sight p).number
@@ -33,8 +34,8 @@ module _ {O A R : Type 0} {K : _} where
   GivesUpTo depth p q = GivesUp p q × ((pass_sight q).depth ≡ min (pass_sight p).depth depth)
 
 module _ {O A R U : Type 0} {K : _} (m : Monitor O A R K) (makes : Pass O A R K → Pass O A R K → Result U Refusal → Type 0) where
-  -- The pass entered as `enter` does, by the steps of a lock that tries before it queues. From there the section made of it what it may
-  -- make, and answered r. Then the pass gave up its holds down to the depth that it began with, by the steps of `leave` alone
+  -- The pass entered as `enter` does, by the steps of a lock that tries before it queues. Then the section changed the pass as
+  -- it may, and returned r. Then the pass gave up its holds down to the depth that it had before, by the steps of `leave` alone
   pub record Holds (p q : Pass O A R K) (r : Result U Refusal) : Type 0 where
     pub entered : Pass O A R K
     pub executed : Pass O A R K
@@ -49,7 +50,7 @@ module _ {O A R U : Type 0} {K : _} (m : Monitor O A R K) (makes : Pass O A R K 
     pub leaves : GivesUpTo (pass_sight p).depth executed q
     pub left : (n : ℕ) × ByUnlocks (mutex_limits m) n (pass_sight executed) (pass_sight q)
 
-  -- how `hold` ends: with what the section answered, or refused as `enter` is, with nothing changed
+  -- how `hold` ends: with what the section returned, or refused as `enter` is, with nothing changed
   abbrev pub HoldEnds : Pass O A R K → Pass O A R K → Result U Refusal → Type 0
   HoldEnds p q (Ok x) = Holds p q (Ok x)
   HoldEnds p q (Err r) = Holds p q (Err r) ⊎ (EnterRefused (share_of m) (pass_sight p) (mine_of p) r × SamePass p q × PassWokenAsGranted p q × PassRunGoesOnFrom p q)

@@ -1,4 +1,4 @@
--- Ops that are made again and again until their reply is what was looked for, with a wait on a condition before each further try.
+-- Ops that are applied again and again until the reply is accepted, with a wait on a condition before each further try.
 use Rattle.std.specs.Prelude.{◌≡◌, ◌⊎◌, ℕ, zero, suc, Bool, true, false, Result, Ok, Err}
 use Rattle.lfm_model.specs.declared.answers.How.{How}
 use Rattle.lfm_model.specs.declared.refusals.Refusal.{Refusal}
@@ -17,17 +17,17 @@ module _ {O A R : Type 0} {K : _} where
       × WaitReturns (pass_sight p) (pass_sight q) (seen_of p) (seen_of q) (mine_of p) (mine_of q) r
 
 module _ {O A R : Type 0} {K : _} (after : O → A → O) (reply : O → A → R) (m : Monitor O A R K) where
-  -- how the pass's op ended
+  -- how one op of the pass ended
   abbrev pub Tries : A → Pass O A R K → Pass O A R K → Result R Refusal → Type 0
   Tries op p q r =
       ApplyEnds after reply (share_of m) op (pass_sight p) (pass_sight q) (mine_of p) (mine_of q) r × (seen_of q ≡ seen_of p) × (cond_seats_of q ≡ cond_seats_of p)
 
-  -- the last that the pass did is this op, with this reply
+  -- the last call of the pass applied this op, with this reply
   abbrev pub AppliedLast : A → Pass O A R K → R → Type 0
   AppliedLast op q r = (p : Pass O A R K) × OfMonitor p m × Tries op p q (Ok r)
 
   module _ (condition : ℕ) (op : A) (says : R → Bool → Type 0) where
-    -- a failed try: the pass made the op, its reply was not what was looked for, and the pass waited on the condition
+    -- a failed try: the pass applied the op, its reply was not accepted, and the pass waited on the condition
     pub record InVain (p q : Pass O A R K) : Type 0 where
       pub tried : Pass O A R K
       pub replied : R
@@ -36,12 +36,12 @@ module _ {O A R : Type 0} {K : _} (after : O → A → O) (reply : O → A → R
       pub other : says replied false
       pub waits : Waits m condition tried q (Ok waited)
 
-    -- this number of failed tries led the pass from one to the other
+    -- the pass was p before this number of failed tries, and q after them
     abbrev pub AllInVain : ℕ → Pass O A R K → Pass O A R K → Type 0
     AllInVain zero p q = q ≡ p
     AllInVain (suc n) p q = (m : Pass O A R K) × AllInVain n p m × InVain m q
 
-    -- how the last try ended: with the reply that was looked for, or refused, or failed and its wait was refused
+    -- how the last try ended: with an accepted reply, or refused, or with a reply that was not accepted and a refused wait
     abbrev pub LastEnds : Pass O A R K → Pass O A R K → Result R Refusal → Type 0
     LastEnds p q (Ok r) = Tries op p q (Ok r) × says r true
     LastEnds p q (Err r) = Tries op p q (Err r) ⊎ ((tried : Pass O A R K) × (replied : R) × Tries op p tried (Ok replied) × says replied false × Waits m condition tried q (Err r))

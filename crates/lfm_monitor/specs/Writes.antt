@@ -1,4 +1,4 @@
--- What is written into the journal that a seat has in hand.
+-- What is written into the journal that a seat holds.
 use Rattle.std.specs.Prelude.{◌≡◌, ℕ, ◌<◌, ◌≤◌, [], ◌∷◌, ◌++◌, length, Some}
 use Rattle.lfm_model.specs.declared.journals.What.{What}
 use Rattle.lfm_model.specs.Journals.{own, entry}
@@ -15,7 +15,7 @@ module _ {O A R : Type 0} {K : _} where
   abbrev pub MayWrite : ℕ → Journaled O A R K → Type 0
   MayWrite number v = (0 < number) × (number ≤ v.seats) × (length (own number v.journal.items) < v.share)
 
-  -- this entry was written, and nothing else of the seat is other than it was
+  -- this entry was written, and nothing else of the seat has changed
   abbrev pub Writes : What A → Seat (Journaled O A R K) → Seat (Journaled O A R K) → Type 0
   Writes what s t =
       (v w : Journaled O A R K) × ((sight s).value ≡ Some v) × (sight t ≡ record (sight s) { value = Some w }) × (w.journal.items ≡ v.journal.items ++ entry (sight s).number what ∷ [])

@@ -1,4 +1,4 @@
-//! `apply`: a pass that holds makes an op of the object, which is written into the journal.
+//! `apply`: a pass that holds applies an op to the object, and the op is written into the journal.
 ghost use Rattle.lfm_monitor.specs.Belongs.{OfMonitor, PassRunGoesOnFrom, PassWokenAsGranted, cond_seats_of, mine_of, pass_sight, seen_of, share_of};
 ghost use Rattle.lfm_monitor.specs.Passes.{ApplyEnds};
 ghost use Rattle.std.specs.Prelude.{◌≡◌};
@@ -9,10 +9,10 @@ use crate::write::write_did;
 use lfm_model::{Object, Refusal};
 
 impl<O: Object> Monitor<O> {
-    /// Makes an op of the object and writes it into the journal. The reply is the object's own.
+    /// Applies an op to the object and writes it into the journal. Returns the object's reply.
     ///
     /// Refuses, in this order: Asleep, NotOwner (the pass doesn't hold), Spent (it has no entry left). A refusal drops the op.
-    /// It never waits and takes no memory.
+    /// It never waits and allocates no memory.
     pub fn apply(&self, pass: &mut Pass<O>, op: O::Op) -> Result<O::Reply, Refusal>
         requires belongs { OfMonitor pass.old self.now }
         ensures belongs { OfMonitor pass.new self.now }

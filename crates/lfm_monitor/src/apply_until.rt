@@ -1,4 +1,4 @@
-//! `apply_until`: a pass that holds makes an op again and again, and waits on a condition in between.
+//! `apply_until`: a pass that holds applies an op again and again, and waits on a condition in between.
 ghost use Rattle.std.specs.Prelude.{◌≡◌, IfOk, true};
 ghost use Rattle.std.specs.Fn.{FnReturnsAt};
 ghost use Rattle.lfm_monitor.specs.Belongs.{OfMonitor, PassRunGoesOnFrom, PassWokenAsGranted, cond_seats_of, pass_sight};
@@ -19,15 +19,16 @@ fn accepts<T, F: Fn(&T) -> bool>(done: &F, reply: &T) -> bool
 }
 
 impl<O: Object> Monitor<O> {
-    /// Applies the op, for which the pass holds the monitor at depth 1, again and again until `done` accepts its reply, and
-    /// answers that reply. Before each further try it waits on this condition, so that others can change the object. The pass's
-    /// last op is then this one, with this reply, and the pass holds as before.
+    /// Applies the op again and again until `done` accepts its reply, and returns that reply. The pass holds the monitor at
+    /// depth 1. Before each further try it waits on this condition, so that others can change the object. The pass's last op is
+    /// then this one, with this reply, and the pass holds as before.
     ///
     /// A try is refused as `apply` is: Asleep, NotOwner, Spent, in this order. If the reply is not accepted, the wait may be
-    /// refused, as `wait` is: Nested, Spent, NoSuchSeat, Spent, Busy, in this order. The op has then been made, and the pass
+    /// refused, as `wait` is: Nested, Spent, NoSuchSeat, Spent, Busy, in this order. The op has then been applied, and the pass
     /// still holds.
     ///
-    /// A try costs the pass one entry, and a wait one take and one entry. It takes no memory, and sleeps and wakes as `wait`.
+    /// A try costs the pass one entry, and a wait one take and one entry. It allocates no memory, and sleeps and wakes as
+    /// `wait`.
     pub fn apply_until<R: Wait, F: Fn(&O::Reply) -> bool>(
         &self,
         rt: &R,

@@ -13,13 +13,13 @@ use crate::pass::Pass;
 use lfm_model::{Entry, Missing, Object};
 
 impl<O: Object> Monitor<O> {
-    /// Gives the object and the journal back, and ends the monitor, if all passes are there, none holds and none sleeps. The
+    /// Closes the monitor and returns the object and the journal, if all passes are handed in, none holds and none sleeps. The
     /// journal is lawful, its replay from the opening object gives the object, and it has the entries that the passes wrote,
-    /// each once. It begins with what a pass left last, whichever pass it is, and goes on with entries of others. The trails
-    /// are the passes' parts of one run of the mutex, which begins at the start and ends free.
+    /// each once. For each pass, it starts with the journal that the pass last left, and continues with entries of others only.
+    /// The trails are the passes' parts of one run of the mutex, from its start to a free mutex.
     ///
-    /// Otherwise it hands back the monitor and the passes, and names the first pass that keeps it from closing, and why. It
-    /// takes no memory and never waits.
+    /// Otherwise it hands back the monitor and the passes, and names the first pass that prevents the close, and why. It
+    /// allocates no memory and never waits.
     pub fn close(
         self,
         passes: Vec<Pass<O>>,

@@ -5,8 +5,8 @@ use crate::pass::Pass;
 use lfm_model::Object;
 use std::fmt::{Debug, Formatter, Result, Write};
 
-/// How many entries each pass may write, and how many conditions there are. The object belongs to the pass that holds it, so it
-/// isn't shown.
+/// Shows how many entries each pass may write, and how many conditions there are. The object belongs to the pass that holds it,
+/// so it isn't shown.
 impl<O: Object> Debug for Monitor<O> {
     /// Writes the share of each pass and the number of conditions.
     fn fmt<W: Write>(&self, f: &mut Formatter<W>) -> Result {
@@ -17,7 +17,7 @@ impl<O: Object> Debug for Monitor<O> {
     }
 }
 
-/// The pass's seat, and what the pass knows of the journal. The object that it may have in hand isn't shown.
+/// Shows the pass's seat, and what the pass knows of the journal. The object that it may hold isn't shown.
 impl<O: Object> Debug for Pass<O> {
     /// Writes the seat and the two counts of entries.
     fn fmt<W: Write>(&self, f: &mut Formatter<W>) -> Result {

@@ -1,5 +1,5 @@
 //! How a pass comes to hold. `enter` sleeps if it has to; `ask` and `try_receive` are its two halves. `try_enter` never queues.
-//! Each gain is written into the journal. `hold` uses `enter_by`, which may try before it queues.
+//! Each acquisition is written into the journal. `hold` uses `enter_by`, which may try before it queues.
 ghost use Rattle.lfm_protocol.specs.declared.answers.Answer.TheVariants as Answered;
 ghost use Rattle.lfm_protocol.specs.declared.answers.Call.{Call};
 ghost use Rattle.lfm_mutex.specs.Belongs.{Beside, OfMutex};
@@ -21,20 +21,20 @@ use lfm_model::{Asked, How, Locked, Object, Refusal};
 use lfm_mutex::Seat;
 use std::sync::Wait;
 
-/// How a pass that is to hold locks the mutex of the monitor.
+/// How a pass locks the mutex of the monitor.
 #[derive(Clone, Copy)]
 pub(crate) enum Locking {
     /// By `lock`: it queues at once if another pass holds.
     InOrder,
-    /// By `lock_barging`: it tries for as long as the pace says before it queues.
+    /// By `lock_barging`: it first tries, for as long as the pace says, and then queues.
     Barging,
 }
 
 impl<O: Object> Monitor<O> {
-    /// Gains the monitor, or deepens the hold. If another pass holds or asked before, it sleeps until the pass holds. A gain is
-    /// written into the journal as the pass's take.
+    /// Acquires the monitor, or deepens the hold. If another pass holds or asked before, it sleeps until this pass holds. An
+    /// acquisition is written into the journal as the pass's take.
     ///
-    /// Refuses, in this order: Asleep, DepthFull, Spent, each as `try_enter`. It takes no memory. It may wake a pass, as
+    /// Refuses, in this order: Asleep, DepthFull, Spent, each as `try_enter`. It allocates no memory. It may wake a pass, as
     /// `ask` may.
     pub fn enter<R: Wait>(&self, rt: &R, pass: &mut Pass<O>) -> Result<Locked, Refusal>
         requires belongs { OfMonitor pass.old self.now }
@@ -50,10 +50,10 @@ impl<O: Object> Monitor<O> {
         self.enter_by(rt, pass, Locking::InOrder)
     }
 
-    /// `enter` up to the point at which it would sleep: gains the monitor, deepens the hold, or queues the pass, which then
-    /// sleeps until a receive tells it that it holds. While it sleeps, one of its entries is kept for its take.
+    /// The part of `enter` before it would sleep: it acquires the monitor, deepens the hold, or queues the pass. A queued pass
+    /// sleeps until a receive finds that it holds. While it sleeps, one of its entries is reserved for its take.
     ///
-    /// Refuses, in this order: Asleep, DepthFull, Spent, each as `try_enter`. It never waits and takes no memory. It may
+    /// Refuses, in this order: Asleep, DepthFull, Spent, each as `try_enter`. It never waits and allocates no memory. It may
     /// wake a pass, as `ask` of the mutex may wake a seat.
     pub fn ask(&self, pass: &mut Pass<O>) -> Result<Asked, Refusal>
         requires belongs { OfMonitor pass.old self.now }
@@ -80,10 +80,10 @@ impl<O: Object> Monitor<O> {
         Ok(Asked::Held(how))
     }
 
-    /// One receive of a pass that sleeps: how it came to hold, which is written into the journal as its take, or None if it was
-    /// not granted the monitor and sleeps on.
+    /// One receive of a pass that sleeps. It returns how the pass came to hold, which is written into the journal as its take,
+    /// or None if the pass was not granted the monitor and still sleeps.
     ///
-    /// Refuses with NotWaiting if the pass doesn't sleep. It never waits and takes no memory.
+    /// Refuses with NotWaiting if the pass doesn't sleep. It never waits and allocates no memory.
     pub fn try_receive(&self, pass: &mut Pass<O>) -> Result<Option<How>, Refusal>
         requires belongs { OfMonitor pass.old self.now }
         ensures belongs { OfMonitor pass.new self.now }
@@ -105,11 +105,12 @@ impl<O: Object> Monitor<O> {
         Ok(Some(how))
     }
 
-    /// Gains the monitor or deepens the hold without queueing. A gain is written into the journal as the pass's take.
+    /// Acquires the monitor or deepens the hold without queueing. An acquisition is written into the journal as the pass's
+    /// take.
     ///
     /// Refuses, in this order: Asleep, DepthFull (the pass holds at depth 65,535), Spent (it doesn't hold, and has no take or
-    /// no entry left) and Busy (as `try_lock` of the mutex). It never waits, takes no memory and wakes nobody. Whatever others
-    /// do, it makes at most 6 atomic steps.
+    /// no entry left) and Busy (as `try_lock` of the mutex). It never waits, allocates no memory and wakes no pass. It makes at
+    /// most 6 atomic steps, whatever other passes do.
     pub fn try_enter(&self, pass: &mut Pass<O>) -> Result<Locked, Refusal>
         requires belongs { OfMonitor pass.old self.now }
         ensures belongs { OfMonitor pass.new self.now }
@@ -135,7 +136,7 @@ impl<O: Object> Monitor<O> {
         Ok(Locked::Held(how))
     }
 
-    /// `enter`, with the mutex locked in this way.
+    /// `enter`, which locks the mutex in the given way.
     #[inline(always)]
     pub(crate) fn enter_by<R: Wait>(
         &self,
@@ -166,7 +167,7 @@ impl<O: Object> Monitor<O> {
         Ok(Locked::Held(how))
     }
 
-    /// Locks the mutex in this way.
+    /// Locks the mutex in the given way.
     #[inline(always)]
     fn lock_by<R: Wait>(
         &self,

@@ -1,4 +1,4 @@
-//! `hold`: a critical section is executed in a hold of its own, which ends whatever the section answers.
+//! `hold`: a critical section is executed in its own hold, which ends whatever the section returns.
 ghost use Rattle.lfm_model.specs.declared.refusals.Refusal.{Refusal};
 ghost use Rattle.lfm_monitor.specs.declared.pass.Pass.{Pass};
 ghost use Rattle.lfm_monitor.specs.Belongs.{OfMonitor, mutex_limits, pass_sight};
@@ -27,14 +27,14 @@ use std::sync::Wait;
 /// }
 /// ```
 pub trait CriticalSection<O: Object, R: Wait>: Sync {
-    /// What the section answers.
+    /// What the section returns.
     type Answer;
 
-    /// What the section may make of its pass, in the round with this number, and what it then answers. `hold` and `run` promise
+    /// How the section may change its pass in the round with this number, and what it then returns. `hold` and `run` guarantee
     /// this to their callers.
     ghost makes: { Self → ℕ → {K : _} → Pass O O.Op O.Reply K → Pass O O.Op O.Reply K → Result Self.Answer Refusal → Type 0 } = { λ _ _ _ _ _. Unit {0} };
 
-    /// Executes the section once, with the number of the round. The pass stays one of the monitor's.
+    /// Executes the section once, with the number of the round. The pass must still belong to the monitor afterwards.
     fn execute(
         &self,
         rt: &R,
@@ -63,16 +63,16 @@ impl<O: Object> Monitor<O> {
         }
     }
 
-    /// Enters, executes the section, leaves, and returns what the section answered, also if that is a refusal. Holds that the
+    /// Enters, executes the section, leaves, and returns what the section returned, also if that is a refusal. Holds that the
     /// section began and did not give up are given up, so that the pass holds no more than before.
     ///
-    /// It enters with the answers and refusals of `enter`. But a pass that doesn't hold tries before it queues, as
-    /// `lock_barging` of the mutex does: at most once for each spin and each nap of the monitor's pace. So it may come before
-    /// passes that came earlier and still try. If no try gains the monitor, it queues, and no pass that queues later is served
-    /// before it. `enter` queues without a try.
+    /// It enters with the results and refusals of `enter`. But a pass that doesn't hold tries before it queues, as
+    /// `lock_barging` of the mutex does: at most once for each spin and each nap of the monitor's pace. So it may acquire the
+    /// monitor before passes that came earlier and still try. If no try succeeds, it queues, and no pass that queues later is
+    /// served before it. `enter` queues without a try.
     ///
-    /// Refuses as `enter`, and then the section is not executed and nothing has changed: Asleep, DepthFull, Spent, in this
-    /// order. It may nap, and sleeps as `enter` does. It wakes whom `enter` and `leave` wake, and takes no memory.
+    /// Refuses as `enter`: Asleep, DepthFull, Spent, in this order. The section is then not executed and nothing has changed.
+    /// It may nap, and sleeps as `enter` does. It wakes the passes that `enter` and `leave` wake, and allocates no memory.
     pub fn hold<R: Wait, S: CriticalSection<O, R>>(
         &self,
         rt: &R,

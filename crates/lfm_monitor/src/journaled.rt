@@ -1,4 +1,4 @@
-//! What the mutex of a monitor guards: the object with its journal. A mutex may guard it, since it is `Kept`.
+//! What the mutex of a monitor guards: the object with its journal. A mutex may guard it because it is `Kept`.
 ghost use Rattle.std.specs.Prelude.{◌≡◌, ℕ, ◌*◌, ◌<◌, ◌≤◌, ◌++◌, [], ◌∷◌, Some, None, length, vec_capacity};
 ghost use Rattle.lfm_model.specs.Journals.{after_all, LawfulJournal, LawfulJournal-prop, Within, Within-prop, MayTake, entry, own, queued_from, taker_from};
 ghost use Rattle.lfm_model.specs.declared.journals.What.TheVariants.{Took, Did};
@@ -7,8 +7,8 @@ use lfm_model::{Entry, How, Object, SeatNo, What};
 use lfm_mutex::Kept;
 use std::snapshot::Snapshot;
 
-/// An object with its journal, whose whole room is reserved. The journal is lawful, and the object is what its replay from the
-/// opening object gives. Each entry is by one of `seats` seats, and no seat has more than `share` of them.
+/// An object with its journal, whose memory is reserved in full. The journal is lawful, and its replay from the opening object
+/// gives the object. Each entry is by one of `seats` seats, and no seat has more than `share` of them.
 #[derive(Drop)]
 pub struct Journaled<O: Object> {
     pub(crate) object: O,
@@ -32,7 +32,7 @@ impl<O: Object> Kept for Journaled<O> {
 }
 
 impl<O: Object> Journaled<O> {
-    /// Writes the entry that the seat has come to hold in this way.
+    /// Writes the entry that the seat has come to hold, and how.
     pub(crate) fn took(&mut self, seat: SeatNo, how: How)
         requires seat { (0 < seat) × (seat ≤ self.old.seats) }
         requires share { length (own seat self.old.journal.items) < self.old.share }
@@ -46,7 +46,7 @@ impl<O: Object> Journaled<O> {
         });
     }
 
-    /// Makes an op of the seat that took last, writes its entry, and returns the object's reply.
+    /// Applies an op of the seat that took last, writes its entry, and returns the object's reply.
     pub(crate) fn did(&mut self, seat: SeatNo, op: O::Op) -> O::Reply
         requires seat { (0 < seat) × (seat ≤ self.old.seats) }
         requires share { length (own seat self.old.journal.items) < self.old.share }

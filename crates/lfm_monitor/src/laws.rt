@@ -6,8 +6,8 @@ use crate::monitor::Monitor;
 use crate::pass::Pass;
 use lfm_model::Object;
 
-/// Whatever a pass has in hand is legal: the journal is lawful, its replay from the opening object gives the object, and its
-/// stamps are 1, 2, 3 and on, one for each queued take of the mutex so far.
+/// The value that a pass holds is always legal: the journal is lawful, its replay from the opening object gives the object, and
+/// its stamps are 1, 2, 3 and so on, one for each queued take of the mutex so far.
 pub fn holds_are_legal<O: Object>(monitor: &Monitor<O>, pass: &Pass<O>)
     requires belongs { OfMonitor pass.now monitor.now }
     ensures { IsLegal O.after (opening_of monitor.now) (pass_sight pass.now) }

@@ -13,10 +13,11 @@ use lfm_model::{Object, Refusal, Unlocked};
 
 impl<O: Object> Monitor<O> {
     /// Gives up one hold, and at depth 1 the monitor, as `unlock` of the mutex. A pass that gives up the monitor has seen the
-    /// journal as it leaves it.
+    /// whole journal as it leaves it.
     ///
-    /// Refuses, in this order: Asleep, NotOwner. It never waits, takes no memory, and wakes the pass that it grants the
-    /// monitor, if any. Whatever others do, it makes at most 7 atomic steps more than the monitor has passes.
+    /// Refuses, in this order: Asleep, NotOwner. It never waits, allocates no memory, and wakes the pass that it grants the
+    /// monitor, if any. The number of its atomic steps is at most 7 more than the number of the monitor's passes, whatever
+    /// other passes do.
     pub fn leave(&self, pass: &mut Pass<O>) -> Result<Unlocked, Refusal>
         requires belongs { OfMonitor pass.old self.now }
         ensures belongs { OfMonitor pass.new self.now }

@@ -1,5 +1,5 @@
-//! A guarded object with a journal of what its holders did, over the mutex. A call is made through the monitor and one of its
-//! passes. At every hold the journal is lawful, and its replay from the opening object is the object.
+//! A guarded object with a journal of what its holders did, built on the mutex. A call is made through the monitor and one of
+//! its passes. At every hold the journal is lawful, and its replay from the opening object is the object.
 #![tactic(auto)]
 
 mod apply;

@@ -11,8 +11,8 @@ use lfm_mutex::{Mutex, Pace};
 use std::snapshot::Snapshot;
 
 /// A guarded object with a journal: at most one pass at a time holds it, and applies ops to it. Its calls are made through a
-/// shared reference and one of its passes. A call with the pass of another monitor breaks the condition that every call has.
-/// It has up to 16 conditions, numbered from 1, on which passes wait and are woken.
+/// shared reference and one of its passes. A call with the pass of another monitor violates the precondition that every call
+/// has. It has up to 16 conditions, numbered from 1, on which passes wait and are woken.
 ///
 /// These lines are compiled in the crate `example_bounded_buffer`:
 ///
@@ -27,7 +27,7 @@ use std::snapshot::Snapshot;
 /// };
 /// ```
 ///
-/// Without threads of the monitor's own:
+/// Without `run`, in the caller's own thread:
 ///
 /// ```
 /// // one pass, which may write 10 entries, and no condition, round a sum that begins at 0
@@ -54,10 +54,11 @@ impl<O: Object> Monitor<O> {
     ghost use Rattle.lfm_monitor.specs.Conditions.{IsMissing};
 
     /// Sets the pace of the monitor's mutex and of the list of each condition: how often a pass tries before it queues, and how
-    /// long a queued pass looks before it sleeps. For the monitor a pass tries in `hold` and `run` alone, and for a list in
-    /// each wait and wake. A pass that waits to be sent looks before it sleeps if it waits alone, as `wait` says.
+    /// often a queued pass polls for its grant before it sleeps. For the monitor, a pass tries only in `hold` and `run`. For a
+    /// list, it tries in each wait and wake. A pass that waits to be sent polls before it sleeps only if it waits alone, as
+    /// `wait` says.
     ///
-    /// The passes of the monitor stay its passes. The pace is set before threads share the monitor.
+    /// The passes of the monitor still belong to it. The pace is set before threads share the monitor.
     pub fn set_pace(&mut self, pace: Pace)
         ensures pace { (self.new.mutex.pace ≡ pace) × ArePaced pace (conditions_in self.new) }
         ensures same { (self.new.mutex.table ≡ self.old.mutex.table) × (self.new.mutex.limits ≡ self.old.mutex.limits) × (self.new.opening ≡ self.old.opening) × (self.new.share ≡ self.old.share) × SameButPaces (conditions_in self.old) (conditions_in self.new) }

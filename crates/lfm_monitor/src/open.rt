@@ -1,5 +1,6 @@
-//! How a monitor is made: a mutex round the object with an empty journal, its conditions, and a pass for each of its seats.
-//! Each pass has one cond seat of each condition: they are dealt out, condition by condition, into a list for each pass.
+//! How a monitor is made: a mutex around the object with an empty journal, its conditions, and a pass for each of its seats.
+//! Each pass has one cond seat of each condition. The cond seats are distributed, condition by condition, into one list for
+//! each pass.
 ghost use Rattle.lfm_model.specs.declared.refusals.NewFault.{NewFault};
 ghost use Rattle.lfm_monitor.specs.Begun.{InLimits, IsEmpty, NewPass, max_entries};
 ghost use Rattle.lfm_monitor.specs.Belongs.{OfMonitor, conditions_in, conditions_of, mine_of, opening_of, pass_past, passes_of, seen_of, share_of};
@@ -23,10 +24,10 @@ use lfm_protocol::{MAX_BUDGET, MAX_SEATS};
 use std::alloc::Global;
 use std::snapshot::Snapshot;
 
-/// The most entries that the journal of a monitor may have room for.
+/// The greatest number of entries that the journal of a monitor may have room for.
 pub const MAX_ENTRIES: u64 = 1_048_576;
 
-/// The most conditions of a monitor.
+/// The greatest number of conditions of a monitor.
 pub const MAX_CONDITIONS: u64 = 16;
 
 /// Whether a monitor may have these numbers of passes, of entries for each pass, and of conditions.
@@ -40,7 +41,7 @@ fn are_allowed(seats: u64, share: u64, conditions: u64) -> bool
         && conditions <= MAX_CONDITIONS
 }
 
-/// `count` empty lists, each with room for `each` items.
+/// Makes `count` empty lists, each with room for `each` items.
 fn rooms<T: Drop>(alloc: Global, count: u64, each: u64) -> Result<Vec<Vec<T>>, NewFault>
     ensures rooms { IfOk result (λ r. (vec_len r ≡ count) × ((j : ℕ) (l : _) → get_elem? r.items j ≡ some l → (l.items ≡ []) × (vec_capacity l ≡ each))) }
     ensures memory { IfErr result (λ e. e ≡ NewFault.Memory) }
@@ -69,8 +70,8 @@ fn deal<T: Drop>(lists: &mut Vec<Vec<T>>, mut items: Vec<T>)
     }
 }
 
-/// This number of conditions, each with a cond seat for every pass; and the cond seats of each pass, one of each condition, in
-/// their order.
+/// Makes this number of conditions, each with a cond seat for every pass. Returns them, and the cond seats of each pass, one of
+/// each condition, in their order.
 fn new_conditions(
     alloc: Global,
     passes: u64,
@@ -94,7 +95,7 @@ fn new_conditions(
     Ok((conditions, cond_seats))
 }
 
-/// The object with an empty journal, whose whole room is reserved.
+/// The object with an empty journal, whose memory is reserved in full.
 fn journaled<O: Object>(
     alloc: Global,
     seats: u64,
@@ -140,12 +141,13 @@ fn with_seats<O: Object>(
 }
 
 impl<O: Object> Monitor<O> {
-    /// A monitor round this object, and its passes in order, numbered from 1. `seats` is 1 to 4,095. Each pass may write
-    /// `entries_per_seat` entries, 1 or more, and take the monitor as often; all together may write at most 1,048,576. There
-    /// are `conditions` conditions, 0 to 16, on which passes may wait. The journal's whole room is reserved here.
+    /// Makes a monitor around this object, and returns it with its passes in order, numbered from 1. `seats` is 1 to 4,095.
+    /// Each pass may write `entries_per_seat` entries, 1 or more, and take the monitor that many times. All passes together may
+    /// write at most 1,048,576 entries. There are `conditions` conditions, 0 to 16, on which passes may wait. The journal's
+    /// memory is reserved here in full.
     ///
-    /// Outside these limits it answers Limit, and asks for no memory. It answers Memory if a request for memory was refused.
-    /// On a fault the object is dropped. No other call of a monitor takes memory.
+    /// Outside these limits it returns Limit, and allocates nothing. It returns Memory if an allocation failed. On a fault the
+    /// object is dropped. No other call of a monitor allocates memory.
     pub fn new(
         alloc: Global,
         seats: u64,

@@ -1,4 +1,4 @@
-//! What one thread uses the monitor with. A seat of the mutex lies in it, so the mutex can be closed with passes.
+//! The pass: what one thread uses the monitor with. It contains a seat of the mutex, so the mutex can be closed with passes.
 ghost use Rattle.std.specs.Prelude.{◌≡◌, ◌<◌, ◌≤◌, ◌↔◌, IsTrue, Some, false, length};
 ghost use Rattle.lfm_mutex.specs.calls.Sight.{sight};
 ghost use Rattle.lfm_monitor.specs.Passes.{PassKept};
@@ -8,9 +8,9 @@ use lfm_condvar::CondSeat;
 use lfm_model::{Object, SeatNo};
 use lfm_mutex::{Holder, Seat};
 
-/// What one thread uses a monitor with. A pass may move between threads, and each call borrows it for its whole length. If it
-/// is dropped while it holds, no other pass gains the monitor any more. If it is dropped while it sleeps, no other does once
-/// the monitor is granted to it.
+/// What one thread uses a monitor with. A pass may move between threads, and each call borrows it until the call returns. If it
+/// is dropped while it holds, no other pass can ever acquire the monitor again. If it is dropped while it sleeps, no other pass
+/// can after the monitor is granted to it.
 ///
 /// ```
 /// // the pass holds a monitor round a bounded buffer: it puts a number in as soon as there is room, and wakes one that waits
@@ -47,7 +47,7 @@ impl<O: Object> Holder<Journaled<O>> for Pass<O> {
     }
 }
 
-/// What a pass tells of itself. None of these touches a word of the mutex, takes memory or waits.
+/// What can be read from a pass. None of these calls accesses a word of the mutex, allocates memory or waits.
 impl<O: Object> Pass<O> {
     /// The pass's number: 1 to 4,095.
     pub fn number(&self) -> SeatNo
@@ -63,7 +63,7 @@ impl<O: Object> Pass<O> {
         self.seat.depth()
     }
 
-    /// How long the journal was when the pass left last; 0 before it left for the first time.
+    /// How long the journal was when the pass last left; 0 before it left for the first time.
     pub fn seen_len(&self) -> u64
         ensures { result ≡ self.now.seen }
     {
@@ -77,7 +77,7 @@ impl<O: Object> Pass<O> {
         self.mine
     }
 
-    /// The length of the journal in hand.
+    /// The length of the journal that the pass holds.
     pub(crate) fn journal_len(&self) -> u64
         ensures { (v : _) → (sight self.now.seat).value ≡ Some v → result ≡ length v.journal.items }
     {
@@ -87,7 +87,7 @@ impl<O: Object> Pass<O> {
         }
     }
 
-    /// Whether a call that will come to hold finds no entry left for its take.
+    /// Whether a call that would acquire the monitor finds no entry left for its take.
     pub(crate) fn lacks_entry(&self, share: u64) -> bool
         ensures { IsTrue result ↔ (((sight self.now.seat).asleep ≡ false) × ((sight self.now.seat).depth ≡ 0) × (share ≤ self.now.mine)) }
     {

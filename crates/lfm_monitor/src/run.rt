@@ -16,8 +16,8 @@ use std::sync::Wait;
 use std::thread::Threads;
 
 impl<O: Object> Monitor<O> {
-    /// Executes the section in one hold after another, until the section answers Break or is refused, or `hold` is, and hands
-    /// the pass back.
+    /// Executes the section in one hold after another, until the section returns Break or is refused, or `hold` is refused, and
+    /// returns the pass.
     fn make_rounds<R: Wait, S: CriticalSection<O, R, Answer = ControlFlow<()>>>(
         &self,
         rt: &R,
@@ -39,13 +39,13 @@ impl<O: Object> Monitor<O> {
         pass
     }
 
-    /// Starts a thread for each pass. Each makes `rounds` rounds, numbered from 0. In each it executes the section in a hold of
-    /// its own. A thread stops early if its section answers Break or is refused, or if `hold` is refused. Each hold is one of
-    /// `hold`, so a thread tries before it queues. `run` sleeps until all threads have ended, and hands the passes back, in
+    /// Starts a thread for each pass. Each thread makes `rounds` rounds, numbered from 0. In each round it executes the section
+    /// in its own hold. A thread stops early if its section returns Break or is refused, or if `hold` is refused. Each round
+    /// uses `hold`, so a thread tries before it queues. `run` sleeps until all threads have ended, and returns the passes in
     /// their order.
     ///
-    /// No round is made before all threads have been started, so sections may wait for one another. If a request for memory is
-    /// refused (Memory), or a thread can't be started (Thread), no round is made, and all passes are handed back as they were.
+    /// No round is made before all threads have been started, so sections may wait for one another. If an allocation fails
+    /// (Memory), or a thread can't be started (Thread), no round is made, and all passes are returned as they were.
     pub fn run<R: Threads + Wait + Sync, S: CriticalSection<O, R, Answer = ControlFlow<()>>>(
         &self,
         rt: &R,

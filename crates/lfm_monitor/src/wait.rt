@@ -1,4 +1,5 @@
-//! How a pass waits on a condition: it leaves, sleeps until it is sent, and comes in again, which is written into the journal.
+//! How a pass waits on a condition: it leaves, sleeps until it is sent, and acquires the monitor again, which is written into
+//! the journal.
 ghost use Rattle.lfm_monitor.specs.Belongs.{OfMonitor, PassRunGoesOnFrom, PassWokenAsGranted, cond_seats_of, conditions_of, mine_of, mutex_limits, pass_sight, passes_of, seen_of, share_of, tries_in};
 ghost use Rattle.lfm_monitor.specs.CondSeats.{CondsWokenAsGranted, condition_limits};
 ghost use Rattle.lfm_monitor.specs.Conditions.{MayWait, WaitEnds, WaitRefused, WaitReturns};
@@ -14,7 +15,7 @@ use lfm_model::{How, Object, Refusal};
 use std::sync::Wait;
 
 impl<O: Object> Pass<O> {
-    /// Why the pass can't wait on any condition, if it can't: its seat can't, or it has no entry left.
+    /// Why the pass can't wait on any condition, if it can't: the refusal of its seat, or Spent if it has no entry left.
     fn bars_wait(&self, share: u64) -> Option<Refusal>
         requires { budget_of self.now.seat ≡ share }
         ensures { MatchOption result (MayWait share (sight self.now.seat) self.now.mine) (λ r. WaitRefused share (sight self.now.seat) self.now.mine r) }
@@ -31,18 +32,18 @@ impl<O: Object> Pass<O> {
 
 impl<O: Object> Monitor<O> {
     /// Leaves the monitor, which the pass holds at depth 1, and waits on this condition until another pass sends it by a wake.
-    /// The pass has then seen the journal as it leaves it. It answers how the pass came to hold again, which is written into
-    /// the journal as its take, and its ticket: 1 for the first that waited on this condition, and so on.
+    /// The pass has then seen the whole journal as it leaves it. It returns how the pass came to hold again, which is written
+    /// into the journal as its take, and its ticket: 1 for the first that waited on this condition, and so on.
     ///
     /// Refuses, in this order, before anything is changed: Asleep, NotOwner, Nested (the pass holds above depth 1), Spent (it
     /// has no take or no entry left), NoSuchSeat (there is no such condition) and Spent (the pass's seat of this condition has
-    /// no take left). Then Busy: the pass still stands in the condition's list, which only a send past this condition can
+    /// no take left). Then Busy: the pass is still in the condition's list, which only a send that bypasses this condition can
     /// cause, and a monitor makes none. That costs the seat of this condition its take, and changes nothing else.
     ///
-    /// A wait costs the pass one take and one entry, which is kept for it while it sleeps, and its seat of this condition one
-    /// take. It takes no memory, and sleeps. If no other pass waits on the condition when this one is put into its list, and at
-    /// most one other holds or wants the monitor, it looks before it sleeps, as often as the pace says. Otherwise it sleeps at
-    /// once. A wait wakes the pass that it grants the monitor, if any, after it has given the list back.
+    /// A wait costs the pass one take and one entry, which is reserved for it while it sleeps, and its seat of this condition
+    /// one take. It allocates no memory, and sleeps. If no other pass waits on the condition when this one is added to its
+    /// list, and at most one other holds or wants the monitor, it polls before it sleeps, as often as the pace says. Otherwise
+    /// it sleeps at once. A wait wakes the pass that it grants the monitor, if any, after it has released the list.
     pub fn wait<R: Wait>(
         &self,
         rt: &R,
@@ -58,7 +59,8 @@ impl<O: Object> Monitor<O> {
         ensures waits { WaitEnds (mutex_limits self.now) (condition_limits (passes_of self.now)) (tries_in self.now) (share_of self.now) (conditions_of self.now) condition (cond_seats_of pass.old) (cond_seats_of pass.new) (pass_sight pass.old) (pass_sight pass.new) (mine_of pass.old) result }
         ensures returns { WaitReturns (pass_sight pass.old) (pass_sight pass.new) (seen_of pass.old) (seen_of pass.new) (mine_of pass.old) (mine_of pass.new) result }
     {
-        // The condvar's wait checks the seat again. These refusals come before that of a missing condition.
+        // The condvar's wait checks the seat too. It is checked here because these refusals come before that of a missing
+        // condition.
         if let Some(refusal) = pass.bars_wait(self.share) {
             return Err(refusal);
         }

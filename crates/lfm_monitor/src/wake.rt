@@ -11,16 +11,16 @@ use lfm_model::{Object, Refusal, SeatNo};
 use std::sync::Wait;
 
 impl<O: Object> Monitor<O> {
-    /// Sends the pass that has waited longest on this condition, and answers it with its ticket, or None if nobody waits.
-    /// The caller need not hold the monitor.
+    /// Sends the pass that has waited longest on this condition, and returns it with its ticket, or None if no pass waits. The
+    /// caller need not hold the monitor.
     ///
     /// Refuses, in this order, before anything is changed: Asleep, NoSuchSeat (there is no such condition) and Spent (the
     /// pass's seat of this condition has no take left). Then NotWaiting: the oldest doesn't wait to be sent, which only a send
-    /// past this condition can cause, and a monitor makes none. It stays in the list, and the pass's seat of this condition is
-    /// charged its take.
+    /// that bypasses this condition can cause, and a monitor makes none. It stays in the list, and the pass's seat of this
+    /// condition is charged its take.
     ///
-    /// A wake costs the pass's seat of this condition one take, and takes no memory. It may sleep until it has the
-    /// condition's list, and wakes the pass that it grants the monitor, if any, after it has given the list back.
+    /// A wake costs the pass's seat of this condition one take, and allocates no memory. It may sleep until it has the
+    /// condition's list, and wakes the pass that it grants the monitor, if any, after it has released the list.
     pub fn wake_one<R: Wait>(
         &self,
         rt: &R,
@@ -38,7 +38,8 @@ impl<O: Object> Monitor<O> {
         ensures steps { SendsBy (mutex_limits self.now) (pass_sight pass.old) (pass_sight pass.new) result }
         ensures same { (seen_of pass.new ≡ seen_of pass.old) × (mine_of pass.new ≡ mine_of pass.old) }
     {
-        // The condvar's wake makes this check again. Asleep comes before the refusal of a missing condition.
+        // The condvar's wake makes this check too. It is made here because Asleep comes before the refusal of a missing
+        // condition.
         if pass.seat.asleep() {
             return Err(Refusal::Asleep);
         }
@@ -49,15 +50,15 @@ impl<O: Object> Monitor<O> {
         self.conditions[index].wake_one(rt, cond, &self.mutex, &mut pass.seat)
     }
 
-    /// Sends all that wait on this condition, the one that has waited longest first, and answers how many were sent. The
-    /// caller need not hold the monitor.
+    /// Sends all that wait on this condition, the one that has waited longest first, and returns how many were sent. The caller
+    /// need not hold the monitor.
     ///
-    /// Refuses as `wake_one`: Asleep, NoSuchSeat and Spent before anything is changed. NotWaiting leaves that pass and
-    /// those behind it in the list; the earlier ones were sent.
+    /// Refuses as `wake_one`: Asleep, NoSuchSeat and Spent before anything is changed. NotWaiting leaves that pass and those
+    /// behind it in the list; the earlier ones were sent.
     ///
-    /// It costs the pass's seat of this condition one take, however many are sent, and takes no memory. It may sleep
-    /// until it has the condition's list, and wakes the passes that it grants the monitor, if any. The last of these is woken
-    /// after the list is given back.
+    /// It costs the pass's seat of this condition one take, however many are sent, and allocates no memory. It may sleep until
+    /// it has the condition's list, and wakes the passes that it grants the monitor, if any. The last of these is woken after
+    /// the list is released.
     pub fn wake_all<R: Wait>(
         &self,
         rt: &R,
@@ -75,7 +76,8 @@ impl<O: Object> Monitor<O> {
         ensures steps { SendsBy (mutex_limits self.now) (pass_sight pass.old) (pass_sight pass.new) result }
         ensures same { (seen_of pass.new ≡ seen_of pass.old) × (mine_of pass.new ≡ mine_of pass.old) }
     {
-        // The condvar's wake makes this check again. Asleep comes before the refusal of a missing condition.
+        // The condvar's wake makes this check too. It is made here because Asleep comes before the refusal of a missing
+        // condition.
         if pass.seat.asleep() {
             return Err(Refusal::Asleep);
         }

@@ -1,4 +1,4 @@
-//! Entries are written into the journal that a seat has in hand.
+//! How entries are written into the journal that a seat holds.
 ghost use Rattle.std.specs.Prelude.{◌≡◌, ◌<◌, Some, None};
 ghost use Rattle.lfm_model.specs.Journals.{MayTake, queued_from, taker_from};
 ghost use Rattle.lfm_model.specs.declared.journals.What.TheVariants.{Took, Did};
@@ -9,7 +9,7 @@ use crate::journaled::Journaled;
 use lfm_model::{How, Object};
 use lfm_mutex::Seat;
 
-/// Writes the entry that the seat has come to hold.
+/// Writes the entry that the seat has come to hold, and how.
 pub fn write_took<O: Object>(seat: &mut Seat<Journaled<O>>, how: How)
     requires holds { 0 < (sight seat.old).depth }
     requires may { (v : _) → (sight seat.old).value ≡ Some v → MayWrite (sight seat.old).number v × MayTake (queued_from 0 v.journal.items) how }
@@ -22,7 +22,7 @@ pub fn write_took<O: Object>(seat: &mut Seat<Journaled<O>>, how: How)
     journaled.took(number, how);
 }
 
-/// Makes an op of the seat and writes its entry.
+/// Applies an op of the seat and writes its entry.
 pub fn write_did<O: Object>(seat: &mut Seat<Journaled<O>>, op: O::Op) -> O::Reply
     requires holds { 0 < (sight seat.old).depth }
     requires may { (v : _) → (sight seat.old).value ≡ Some v → MayWrite (sight seat.old).number v × (taker_from None v.journal.items ≡ Some (sight seat.old).number) }

@@ -4,7 +4,7 @@ use Rattle.lfm_monitor.specs.Sections.{GivesUp}
 use Rattle.lfm_monitor.specs.Steps.{ByUnlocks}
 use Rattle.lfm_monitor.proofs.monitor.Monitor.leave_down_to.Given as goal
 
--- no hold was given up that is not above the depth
+-- only holds above the depth were given up
 abbrev pub invariant-holds : goal.invariant-holds
 invariant-holds g l = record {
   belongs : OfMonitor l.pass l.self;

@@ -2,7 +2,7 @@ use Rattle.std.proofs.Common.{◌≡◌, ◌+◌, suc, Ok, Err, inl, inr, subst,
 use Rattle.lfm_monitor.specs.Rounds.{AllGoOn, EndsRounds}
 use Rattle.lfm_monitor.proofs.monitor.Monitor.make_rounds.Goals as goal
 
--- one more round went on
+-- one more round returned Continue
 pub rounds-preserved : goal.rounds-preserved
 rounds-preserved g c = let i = c.rounds.invariant in let e = c.in-Ok-Continue.ensures in let went_on = rw c.in-Ok-Continue.field-0-is at e.holds in
     let one : suc c.rounds.round ≡ c.rounds.round + 1 = omega arith in record {

@@ -2,7 +2,7 @@ use Rattle.lfm_monitor.specs.Belongs.{OfMonitor}
 use Rattle.lfm_monitor.specs.Rounds.{AllGoOn}
 use Rattle.lfm_monitor.proofs.monitor.Monitor.make_rounds.Given as goal
 
--- each round so far went on
+-- each round so far returned Continue
 abbrev pub invariant-rounds : goal.invariant-rounds
 invariant-rounds g l = record {
   belongs : OfMonitor l.pass l.self;

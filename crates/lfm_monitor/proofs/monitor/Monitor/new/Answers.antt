@@ -34,11 +34,11 @@ returns-clause-passes g c = let e = c.in-Ok-new.ensures in let w = c.with_seats.
       },
 )
 
--- each new pass is this monitor's
+-- each new pass belongs to this monitor
 pub returns-clause-belongs : goal.returns-clause-belongs
 returns-clause-belongs g c = λ j p at. ((returns-clause-passes g c).1 j p at).belongs
 
--- and knows nothing of a run
+-- each new pass knows nothing of a run
 pub returns-clause-past : goal.returns-clause-past
 returns-clause-past g c = λ j p at. c.in-Ok-new.ensures.past j p.seat (c.with_seats.ensures.passes j p at).0
 

@@ -18,7 +18,7 @@ share-requires-send-P g c κs within = Send.param_send 1 _ (Send.arg_send _ no _
 pub share-requires-send-X : goal.share-requires-send-X
 share-requires-send-X g c κs within = Send.param_send 2 _ (Send.arg_send _ no _ (pass_send _ _ _ g.O.Object c.type_bounds.send-O c.type_bounds.send-O-Op))
 
--- each thread handed its pass back
+-- each thread returned its pass
 pub returns-clause-belongs : goal.returns-clause-belongs
 returns-clause-belongs g c = λ j q at. let x = c.in_ok-passes.ensures.gives j q at in subst (λ (m : Monitor _ _ _ _). OfMonitor q m) x.2.shows x.2.met.0
 

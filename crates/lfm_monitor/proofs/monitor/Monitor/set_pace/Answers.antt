@@ -23,7 +23,7 @@ pub invariant_of-self-clause-wide : goal.invariant_of-self-clause-wide
 invariant_of-self-clause-wide g c = let limits = c.set_pace.ensures.same.1 in let all = all_set c.args.self.now.conditions c.setting.condition-items c.setting.invariant.same in
     still_conditions c.set_pace.new.self.limits.seats (conditions_in c.args.self.now) _ all (subst (λ l. AreConditions l.seats (conditions_in c.args.self.now)) (sym limits) c.args.self.now.wide)
 
--- all conditions have the pace that the mutex has
+-- all conditions have the pace of the mutex
 pub invariant_of-self-clause-paced : goal.invariant_of-self-clause-paced
 invariant_of-self-clause-paced g c = let i = c.setting.invariant in let all = all_paced c.args.pace c.args.self.now.conditions c.setting.condition-items c.setting.condition-index i.same (let t = c.setting-test.false in let l = c.setting.auto.condition-items in omega arith) i.paced in
     λ j v at. all j v at ∙ sym c.set_pace.ensures.pace
